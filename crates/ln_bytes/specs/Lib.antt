@@ -1,0 +1,5 @@
+pub mod Fault
+pub mod Bigsize
+pub mod Reading
+pub mod Tlv
+pub use Rattle.byteorder.specs.Endian
