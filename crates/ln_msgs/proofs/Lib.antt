@@ -1,0 +1,3 @@
+pub mod Windows
+pub mod Serving
+pub mod Progress

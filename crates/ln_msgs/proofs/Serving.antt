@@ -1,0 +1,70 @@
+-- How the frames that were served add up.
+use Rattle.std.proofs.Common.{◌≡◌, ◌≢◌, ℕ, ◌+◌, ◌-◌, ◌^◌, ◌<◌, List, length, drop, [], ◌∷◌, ◌++◌, Option, Some, None, Result, Ok, Err, refl, sym, ap, subst, ◌∙◌, arith, append_assoc, append-nil, add-zero, length-append}
+use Rattle.std.proofs.lemmas.List.{drop_at}
+use Rattle.std.specs.List.{flat_map}
+use Rattle.std.proofs.lemmas.List.Concat.{flat_map-cons, flat_map-append}
+use Rattle.ln_bytes.specs.Reading.{◌>>=◌}
+use Rattle.ln_bytes.specs.declared.fault.Fault.{Fault}
+use Rattle.ln_msgs.specs.Message.{Heard, message_at}
+use Rattle.ln_msgs.specs.Frame.{frame, HasFrame, Hears, IsFaulty}
+use Rattle.ln_msgs.specs.Answer.{owed, owed_at, paid, reply, replies, one_if_owed, pongs, told}
+use Rattle.ln_msgs.specs.Outgoing.{Waiting}
+use Rattle.ln_msgs.specs.Served.{Serves}
+
+-- a message that asks for this was heard
+pub heard_from : (message : List ℕ) (o : Option ℕ) → owed_at message ≡ Ok o → (h : Heard) × (message_at message ≡ Ok h) × (owed h ≡ o)
+unfolding owed_at
+heard_from message o e = asks (message_at message) refl e
+  where
+    asks : (r : Result Heard Fault) → message_at message ≡ r → (r >>= λ h. Ok (owed h)) ≡ Ok o → (h : Heard) × (message_at message ≡ Ok h) × (owed h ≡ o)
+    asks (Ok h) is e = (h, is, cc)
+    asks (Err f) is e = absurd cc
+
+-- a message whose question can't be read is faulty
+pub faulty_from : (message : List ℕ) (f : Fault) → owed_at message ≡ Err f → message_at message ≡ Err f
+unfolding owed_at
+faulty_from message f e = asks (message_at message) refl e
+  where
+    asks : (r : Result Heard Fault) → message_at message ≡ r → (r >>= λ h. Ok (owed h)) ≡ Err f → message_at message ≡ Err f
+    asks (Ok h) is e = absurd cc
+    asks (Err g) is e = is ∙ cc
+
+-- one more whole frame
+pub hears_more : (hs : List Heard) (front message : List ℕ) (h : Heard) → Hears hs front → length message < 65536 → message_at message ≡ Ok h → Hears (hs ++ h ∷ []) (front ++ frame message)
+hears_more [] front message h hears fits is =
+    (message, [], record { fits = fits; bytes_are = ap (λ l. l ++ frame message) hears ∙ sym (append-nil (frame message)) }, is, refl)
+hears_more (g ∷ gs) front message h hears fits is =
+    let first = hears.0 in
+    let rest = hears.1 in
+    (first, rest ++ frame message, record { fits = hears.2.fits; bytes_are = ap (λ l. l ++ frame message) hears.2.bytes_are ∙ append_assoc (frame first) rest (frame message) }, hears.3, hears_more gs rest message h hears.4 fits is)
+
+pub pongs-append : (hs gs : List Heard) → pongs (hs ++ gs) ≡ pongs hs + pongs gs
+pongs-append [] gs = omega arith
+pongs-append (h ∷ hs) gs = let more = pongs-append hs gs in omega arith
+
+-- nothing was served yet
+pub serves_none : (bytes : List ℕ) (w : Waiting) → w.pongs < 2 ^ 64 → Serves bytes bytes w w
+serves_none bytes w fits = record { heard = []; front = []; hears = refl; bytes_are = refl; waiting = sym (append-nil w.bytes); counted = omega arith }
+
+-- one more frame was served
+pub serves_more : (bytes rest message after : List ℕ) (old mid new : Waiting) (o : Option ℕ) → Serves bytes rest old mid → HasFrame rest message after → owed_at message ≡ Ok o
+    → new.bytes ≡ mid.bytes ++ paid o → new.pongs ≡ told (mid.pongs + one_if_owed o) → Serves bytes after old new
+serves_more bytes rest message after old mid new o served whole is waits counts =
+    let from = heard_from message o is in
+    let h = from.0 in
+    let last : replies (h ∷ []) ≡ paid o = append-nil (reply h) ∙ ap paid from.2 in
+    let one : pongs (h ∷ []) ≡ one_if_owed o = add-zero (one_if_owed (owed h)) ∙ ap one_if_owed from.2 in
+    record {
+      heard = served.heard ++ h ∷ [];
+      front = served.front ++ frame message;
+      hears = hears_more served.heard served.front message h served.hears whole.fits from.1;
+      bytes_are = served.bytes_are ∙ ap (λ l. served.front ++ l) whole.bytes_are ∙ sym (append_assoc served.front (frame message) after);
+      waiting = waits ∙ ap (λ l. l ++ paid o) served.waiting ∙ append_assoc old.bytes (replies served.heard) (paid o) ∙ ap (λ l. old.bytes ++ l) (ap (λ l. replies served.heard ++ l) (sym last) ∙ sym (flat_map-append reply served.heard (h ∷ [])));
+      counted = omega (arith, served.counted, counts, one, pongs-append served.heard (h ∷ []));
+    }
+
+-- what is left is the end of the bytes
+pub left_is : (bytes rest : List ℕ) (old new : Waiting) → Serves bytes rest old new → drop (length bytes - length rest) bytes ≡ rest
+left_is bytes rest old new served =
+    let len : length bytes - length rest ≡ length served.front = omega (arith, ap length served.bytes_are, length-append served.front rest) in
+    ap (λ n. drop n bytes) len ∙ ap (drop (length served.front)) served.bytes_are ∙ drop_at served.front rest (length served.front) refl

@@ -1,0 +1,10 @@
+pub mod Field
+pub mod Message
+pub mod Frame
+pub mod Answer
+pub mod Counted
+pub mod CountedView
+pub mod Outgoing
+pub mod Written
+pub mod Answered
+pub mod Served
