@@ -2,10 +2,15 @@
 //! numbered faults by which they are refused.
 #![tactic(auto)]
 
+mod bigsize;
 mod bytes;
 mod fault;
 mod record;
 
+pub use bigsize::{bigsize_len, one_spelling, read_bigsize, write_bigsize};
 pub use bytes::Bytes;
 pub use fault::Fault;
 pub use record::Record;
+
+#[cfg(test)]
+mod tests;
