@@ -165,6 +165,14 @@ pub is_stream : (known bytes : List ℕ) (r : Result (Vec Record) Fault) → IfO
 is_stream known bytes (Ok v) found fault = stream_again known v.items bytes found
 is_stream known bytes (Err e) found fault = λ other. stream_faulty known bytes e (fault other)
 
+rises : (known : List ℕ) (before : Option ℕ) (rs : List Record) → MayStand known before rs → RiseFrom before rs
+rises known before [] m = tt
+rises known before (r ∷ rs) m = (m.0, rises known (Some r.typ) rs m.2)
+
+pub is_rising : (known bytes : List ℕ) (r : Result (Vec Record) Fault) → IfOk r (λ v. Spells known v.items bytes) → IfOk r (λ v. AreRising v.items)
+is_rising known bytes (Ok v) found = rises known None v.items found.stand
+is_rising known bytes (Err e) found = tt
+
 -- ---- what is written
 
 stands_all : (known : List ℕ) (before : Option ℕ) (rs : List Record) → RiseFrom before rs → AreKnown known rs → MayStand known before rs

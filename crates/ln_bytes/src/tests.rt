@@ -77,3 +77,196 @@ fn fault_texts(rt: HostRuntime) -> Result<(), Fail> {
     assert_eq!(rt; text.as_str(), "refused 1, refused 60");
     Ok(())
 }
+
+/// The even types that BOLT 1, Appendix B, knows in its first namespace, and in its second one.
+const FIRST: [u64; 2] = [2, 254];
+
+const SECOND: [u64; 1] = [0];
+
+/// BOLT 1, Appendix B: streams that fail in any namespace.
+const BAD_STREAMS: [(&[u8], Fault); 12] = [
+    (&[0xfd], Fault::Truncated),
+    (&[0xfd, 0x01], Fault::Truncated),
+    (&[0xfd, 0x00, 0x01, 0x00], Fault::NotMinimal),
+    (&[0xfd, 0x01, 0x01], Fault::Truncated),
+    (&[0x0f, 0xfd], Fault::Truncated),
+    (&[0x0f, 0xfd, 0x26], Fault::Truncated),
+    (&[0x0f, 0xfd, 0x26, 0x02], Fault::TlvLength),
+    (&[0x0f, 0xfd, 0x00, 0x01, 0x00], Fault::NotMinimal),
+    (&[0x12, 0x00], Fault::TlvUnknownEven),
+    (&[0xfd, 0x01, 0x02, 0x00], Fault::TlvUnknownEven),
+    (&[0xfe, 0x01, 0x00, 0x00, 0x02, 0x00], Fault::TlvUnknownEven),
+    (
+        &[0xff, 0x01, 0x00, 0x00, 0x00, 0x00, 0x00, 0x00, 0x02, 0x00],
+        Fault::TlvUnknownEven,
+    ),
+];
+
+#[test]
+fn bad_streams(rt: HostRuntime) {
+    for (bytes, fault) in BAD_STREAMS {
+        for known_even in [FIRST.as_slice(), SECOND.as_slice(), &[]] {
+            let answer = read_tlvs(rt.alloc(), bytes, known_even).err();
+            assert_eq!(rt; answer, Some(fault), "at {bytes:?}");
+        }
+    }
+}
+
+/// BOLT 1, Appendix B: streams that fail in the first namespace, by their order or an even type.
+const BAD_IN_FIRST: [(&[u8], Fault); 5] = [
+    (&[0x00, 0x00], Fault::TlvUnknownEven),
+    (
+        &[
+            0x02, 0x08, 0x00, 0x00, 0x00, 0x00, 0x00, 0x00, 0x02, 0x26, 0x01, 0x01, 0x2a,
+        ],
+        Fault::TlvOrder,
+    ),
+    (
+        &[
+            0x02, 0x08, 0x00, 0x00, 0x00, 0x00, 0x00, 0x00, 0x02, 0x31, 0x02, 0x08, 0x00, 0x00,
+            0x00, 0x00, 0x00, 0x00, 0x04, 0x51,
+        ],
+        Fault::TlvOrder,
+    ),
+    (&[0x1f, 0x00, 0x0f, 0x01, 0x2a], Fault::TlvOrder),
+    (&[0x1f, 0x00, 0x1f, 0x01, 0x2a], Fault::TlvOrder),
+];
+
+#[test]
+fn bad_in_one_namespace(rt: HostRuntime) {
+    for (bytes, fault) in BAD_IN_FIRST {
+        let answer = read_tlvs(rt.alloc(), bytes, &FIRST).err();
+        assert_eq!(rt; answer, Some(fault), "at {bytes:?}");
+    }
+    // The same appendix, in the second namespace: the greatest type, and then 0.
+    let bytes = [
+        0xff, 0xff, 0xff, 0xff, 0xff, 0xff, 0xff, 0xff, 0xff, 0x00, 0x00, 0x00,
+    ];
+    let answer = read_tlvs(rt.alloc(), &bytes, &SECOND).err();
+    assert_eq!(rt; answer, Some(Fault::TlvOrder));
+}
+
+/// The appendix's value that is cut short: its length is 513.
+#[test]
+fn value_cut_short(rt: HostRuntime) {
+    let mut bytes = [0; 516];
+    bytes[0] = 0x0f;
+    bytes[1] = 0xfd;
+    bytes[2] = 0x02;
+    bytes[3] = 0x01;
+    let answer = read_tlvs(rt.alloc(), &bytes, &FIRST).err();
+    assert_eq!(rt; answer, Some(Fault::TlvLength));
+}
+
+/// Of the faults of one record the first is told, and lengths aren't cut to fewer bits.
+const FIRST_FAULTS: [(&[u8], Fault); 7] = [
+    // a type not above the one before, and then no length
+    (&[0x01, 0x00, 0x01], Fault::TlvOrder),
+    // an unknown even type, and no length
+    (&[0x0a], Fault::Truncated),
+    // an unknown even type whose value passes the end
+    (&[0x0a, 0x05, 0x13], Fault::TlvLength),
+    (&[0x0a, 0x00], Fault::TlvUnknownEven),
+    // an unknown even type not above the one before
+    (&[0x0b, 0x00, 0x0a, 0x00], Fault::TlvOrder),
+    // lengths of 2^63 and of 2^64 - 1
+    (
+        &[
+            0x01, 0xff, 0x80, 0x00, 0x00, 0x00, 0x00, 0x00, 0x00, 0x00, 0x2a,
+        ],
+        Fault::TlvLength,
+    ),
+    (
+        &[0x01, 0xff, 0xff, 0xff, 0xff, 0xff, 0xff, 0xff, 0xff, 0xff],
+        Fault::TlvLength,
+    ),
+];
+
+#[test]
+fn first_faults(rt: HostRuntime) {
+    for (bytes, fault) in FIRST_FAULTS {
+        let answer = read_tlvs(rt.alloc(), bytes, &[2, 4, 6, 8]).err();
+        assert_eq!(rt; answer, Some(fault), "at {bytes:?}");
+    }
+}
+
+/// BOLT 1, Appendix B: streams of one record that are read, with its type and the value's length.
+const GOOD_STREAMS: [(&[u8], u64, usize); 17] = [
+    // passed over in either namespace
+    (&[0x21, 0x00], 33, 0),
+    (&[0xfd, 0x02, 0x01, 0x00], 513, 0),
+    (&[0xfd, 0x00, 0xfd, 0x00], 253, 0),
+    (&[0xfd, 0x00, 0xff, 0x00], 255, 0),
+    (&[0xfe, 0x02, 0x00, 0x00, 0x01, 0x00], 33554433, 0),
+    (
+        &[0xff, 0x02, 0x00, 0x00, 0x00, 0x00, 0x00, 0x00, 0x01, 0x00],
+        144115188075855873,
+        0,
+    ),
+    // known in the first one
+    (&[0x01, 0x00], 1, 0),
+    (&[0x01, 0x01, 0x01], 1, 1),
+    (&[0x01, 0x02, 0x01, 0x00], 1, 2),
+    (&[0x01, 0x03, 0x01, 0x00, 0x00], 1, 3),
+    (&[0x01, 0x04, 0x01, 0x00, 0x00, 0x00], 1, 4),
+    (&[0x01, 0x05, 0x01, 0x00, 0x00, 0x00, 0x00], 1, 5),
+    (&[0x01, 0x06, 0x01, 0x00, 0x00, 0x00, 0x00, 0x00], 1, 6),
+    (
+        &[0x01, 0x07, 0x01, 0x00, 0x00, 0x00, 0x00, 0x00, 0x00],
+        1,
+        7,
+    ),
+    (
+        &[0x01, 0x08, 0x01, 0x00, 0x00, 0x00, 0x00, 0x00, 0x00, 0x00],
+        1,
+        8,
+    ),
+    (
+        &[0x02, 0x08, 0x00, 0x00, 0x00, 0x00, 0x00, 0x00, 0x02, 0x26],
+        2,
+        8,
+    ),
+    (&[0xfd, 0x00, 0xfe, 0x02, 0x02, 0x26], 254, 2),
+];
+
+#[test]
+fn good_streams_both_ways(rt: HostRuntime) -> Result<(), Fail> {
+    for (bytes, typ, len) in GOOD_STREAMS {
+        let records = read_tlvs(rt.alloc(), bytes, &FIRST)?;
+        assert_eq!(rt; records.len(), 1, "at {bytes:?}");
+        for record in &records {
+            assert_eq!(rt; record.typ, typ, "at {bytes:?}");
+            assert_eq!(rt;
+                Some(record.value.as_slice()),
+                bytes.get(bytes.len() - len..)
+            );
+        }
+        let written = write_tlvs(rt.alloc(), &records)?;
+        assert_eq!(rt; written.as_slice(), bytes);
+    }
+    Ok(())
+}
+
+/// No bytes are no records, and no records are no bytes.
+#[test]
+fn empty_stream(rt: HostRuntime) -> Result<(), Fail> {
+    let records = read_tlvs(rt.alloc(), &[], &[])?;
+    assert_eq!(rt; records.len(), 0);
+    let written = write_tlvs(rt.alloc(), &records)?;
+    assert_eq!(rt; written.len(), 0);
+    Ok(())
+}
+
+/// Several records, of which nobody knows the odd ones: all are kept, in order.
+#[test]
+fn several_records(rt: HostRuntime) -> Result<(), Fail> {
+    let bytes = [
+        0x02, 0x02, 0x13, 0x88, 0x04, 0x02, 0x01, 0x90, 0x21, 0x00, 0xfd, 0x02, 0x01, 0x01, 0x2a,
+    ];
+    let records = read_tlvs(rt.alloc(), &bytes, &[2, 4])?;
+    let types: Vec<u64> = records.iter().map(|r| r.typ).collect(rt.alloc())?;
+    assert_eq!(rt; types.as_slice(), [2, 4, 33, 513].as_slice());
+    let written = write_tlvs(rt.alloc(), &records)?;
+    assert_eq!(rt; written.as_slice(), bytes.as_slice());
+    Ok(())
+}

@@ -26,6 +26,8 @@ use std::alloc::Global;
 pub fn read_tlvs(alloc: Global, bytes: &[u8], known_even: &[u64]) -> Result<Vec<Record>, Fault>
     // What is read is spelled so, all of the bytes.
     ensures found { IfOk result (λ v. Spells known_even.now v.items bytes.now) }
+    // So the records can be written again.
+    ensures rising { IfOk result (λ v. AreRising v.items) }
     // What is spelled so is read.
     ensures only { (rs : List Record) → Spells known_even.now rs bytes.now → Gives (λ v. v.items) result (Ok rs) }
     // What is refused has that fault, and no record before it has one.

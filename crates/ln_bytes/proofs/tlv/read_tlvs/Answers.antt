@@ -1,7 +1,10 @@
 use Rattle.std.proofs.Common.{subst}
 use Rattle.ln_bytes.specs.Reading.{Gives}
-use Rattle.ln_bytes.proofs.Streams.{stream_again, stream_faulty, is_stream}
+use Rattle.ln_bytes.proofs.Streams.{stream_again, stream_faulty, is_stream, is_rising}
 use Rattle.ln_bytes.proofs.tlv.read_tlvs.Goals as goal
+
+pub returns-clause-rising : goal.returns-clause-rising
+returns-clause-rising c = is_rising c.args.known_even.now c.args.bytes.now c.all_records.result c.all_records.ensures.found
 
 pub returns-clause-only : goal.returns-clause-only
 returns-clause-only c = λ rs spells.
