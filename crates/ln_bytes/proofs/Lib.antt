@@ -1,0 +1,4 @@
+pub mod Reading
+pub mod Numbers
+pub mod Records
+pub mod Streams

@@ -1,6 +1,6 @@
 -- TLV streams (BOLT 1, "Type-Length-Value Format"): records one after the other, up to the end.
-use Rattle.std.specs.Prelude.{◌≡◌, ◌≢◌, ℕ, zero, suc, ◌%◌, List, [], ◌∷◌, ◌++◌, length, take, drop, Option, Some, None, Result, Ok, Err, Bool, true, not, ◌||◌, ◌==◌, nat_lt, IsTrue, if◌then◌else◌}
-use Rattle.std.specs.List.{flat_map, list_any}
+use Rattle.std.specs.Prelude.{◌≡◌, ◌≢◌, ℕ, zero, suc, ◌%◌, ◌^◌, ◌<◌, List, [], ◌∷◌, ◌++◌, length, take, drop, Option, Some, None, Result, Ok, Err, Bool, true, not, ◌||◌, ◌==◌, nat_lt, IsTrue, if◌then◌else◌}
+use Rattle.std.specs.List.{flat_map, list_any, AllByRecursion}
 use Rattle.ln_bytes.specs.declared.fault.Fault.{Fault}
 use Rattle.ln_bytes.specs.declared.fault.Fault.TheVariants.{Truncated, TlvOrder, TlvUnknownEven, TlvLength}
 use Rattle.ln_bytes.specs.declared.record.Record.{Record}
@@ -10,6 +10,14 @@ use Rattle.ln_bytes.specs.Reading.{◌>>=◌}
 -- a record: its type, the length of its value, and the value
 abbrev pub record_bytes : Record → List ℕ
 record_bytes r = bigsize r.typ ++ bigsize (length r.value) ++ r.value
+
+-- the type and the length fit into a BigSize
+pub record Fits (r : Record) : Type 0 where
+  pub typ : r.typ < 2 ^ 64
+  pub len : length r.value < 2 ^ 64
+
+abbrev pub AreFit : List Record → Type 0
+AreFit rs = AllByRecursion Fits rs
 
 -- the records one after the other
 abbrev pub stream_bytes : List Record → List ℕ
@@ -32,6 +40,10 @@ RiseFrom before (r ∷ rs) = IsTrue (may_follow before r.typ) × RiseFrom (Some 
 abbrev pub AreRising : List Record → Type 0
 AreRising rs = RiseFrom None rs
 
+-- each even type is known
+abbrev pub AreKnown : List ℕ → List Record → Type 0
+AreKnown known_even rs = AllByRecursion (λ r. IsTrue (may_stand known_even r.typ)) rs
+
 -- ---- what a stream spells
 
 -- the types rise strictly, and each even one is known
@@ -43,6 +55,7 @@ MayStand known_even before (r ∷ rs) =
 -- the bytes are these records and nothing else
 pub record Spells (known_even : List ℕ) (rs : List Record) (bytes : List ℕ) : Type 0 where
   pub stand : MayStand known_even None rs
+  pub fit : AreFit rs
   pub bytes_are : bytes ≡ stream_bytes rs
 
 -- ---- the first fault
@@ -52,8 +65,8 @@ unfoldable pub value_at : List ℕ → ℕ → List ℕ → Result (Record × Li
 value_at known_even typ bytes = do
   len ← bigsize_at bytes
   if nat_lt (length (drop len.1 bytes)) len.0 then Err TlvLength
-    else (if may_stand known_even typ then Ok (record { typ = typ; value = take len.0 (drop len.1 bytes) }, drop len.0 (drop len.1 bytes))
-    else Err TlvUnknownEven)
+      else (if may_stand known_even typ then Ok (record { typ = typ; value = take len.0 (drop len.1 bytes) }, drop len.0 (drop len.1 bytes))
+      else Err TlvUnknownEven)
 
 -- The record at the front of the bytes, behind one of the type before, and what follows it; or its
 -- first fault.
@@ -72,6 +85,7 @@ pub record HasFault (known_even : List ℕ) (bytes : List ℕ) (f : Fault) : Typ
   pub good : List Record
   pub bad : List ℕ
   pub stand : MayStand known_even None good
+  pub fit : AreFit good
   pub bytes_are : bytes ≡ stream_bytes good ++ bad
   pub some_left : bad ≢ []
   pub fault : record_at known_even (last_type None good) bad ≡ Err f

@@ -2,10 +2,17 @@
 //! numbered faults by which they are refused.
 #![tactic(auto)]
 
+mod bigsize;
 mod bytes;
 mod fault;
 mod record;
+mod tlv;
 
+pub use bigsize::{bigsize_len, one_spelling, read_bigsize, write_bigsize};
 pub use bytes::Bytes;
 pub use fault::Fault;
 pub use record::Record;
+pub use tlv::{one_stream, read_tlvs, write_tlvs};
+
+#[cfg(test)]
+mod tests;

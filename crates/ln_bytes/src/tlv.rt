@@ -1,0 +1,162 @@
+//! TLV streams (BOLT 1, "Type-Length-Value Format"): records one after the other, up to the end.
+
+ghost use Rattle.std.specs.Prelude.{◌≡◌, ◌≢◌, ℕ, List, ◌++◌, IfOk, IfErr, OnOk, Ok, Err};
+ghost use Rattle.ln_bytes.specs.Bigsize.{bigsize};
+ghost use Rattle.ln_bytes.specs.Reading.{Gives};
+ghost use Rattle.ln_bytes.specs.Tlv.{record_bytes, stream_bytes, may_follow, may_stand, AreRising, AreKnown, AreFit, Fits, Spells, HasFault, value_at, record_at, stream_at};
+ghost use Rattle.ln_bytes.specs.declared.fault.Fault.{Fault};
+ghost use Rattle.ln_bytes.specs.declared.record.Record.{Record};
+
+use crate::bigsize::{read_bigsize, write_bigsize};
+use crate::bytes::Bytes;
+use crate::fault::Fault;
+use crate::record::Record;
+use std::alloc::Global;
+
+/// Reads a whole TLV stream: every record up to the end of the bytes, also those of odd types that
+/// nobody knows. Takes memory for the list and for each value, once.
+///
+/// A record is a BigSize type, a BigSize length and that many bytes; types rise strictly; an even
+/// type has to be in `known_even` (BOLT 1, "Type-Length-Value Format").
+///
+/// Errors, the first of the first record that has one: 1 (`Truncated`) and 2 (`NotMinimal`) where the
+/// type can't be read; 3 (`TlvOrder`) where it isn't above the one before; 1 and 2 where the length
+/// can't be read; 5 (`TlvLength`) where the value passes the end; 4 (`TlvUnknownEven`) where the type
+/// is even and not in `known_even`. 60 (`Memory`) where there is no memory.
+pub fn read_tlvs(alloc: Global, bytes: &[u8], known_even: &[u64]) -> Result<Vec<Record>, Fault>
+    // What is read is spelled so, all of the bytes.
+    ensures found { IfOk result (λ v. Spells known_even.now v.items bytes.now) }
+    // So the records can be written again.
+    ensures rising { IfOk result (λ v. AreRising v.items) }
+    // What is spelled so is read.
+    ensures only { (rs : List Record) → Spells known_even.now rs bytes.now → Gives (λ v. v.items) result (Ok rs) }
+    // What is refused has that fault, and no record before it has one.
+    ensures fault { IfErr result (λ e. e ≢ Fault.Memory → HasFault known_even.now bytes.now e) }
+    // What has a fault is refused by it.
+    ensures faulty { (f : Fault) → HasFault known_even.now bytes.now f → Gives (λ v. v.items) result (Err f) }
+    // Which answer it is.
+    ensures exact { Gives (λ v. v.items) result (stream_at known_even.now bytes.now) }
+{
+    all_records(alloc, known_even, bytes)
+}
+
+fn all_records(alloc: Global, known_even: &[u64], bytes: &[u8]) -> Result<Vec<Record>, Fault>
+    ensures found { IfOk result (λ v. Spells known_even.now v.items bytes.now) }
+    ensures fault { IfErr result (λ e. e ≢ Fault.Memory → HasFault known_even.now bytes.now e) }
+{
+    let mut records: Vec<Record> = Vec::new(alloc);
+    let mut before = None;
+    let mut rest = bytes;
+    while !rest.is_empty() {
+        let (record, after) = front_record(alloc, known_even, before, rest)?;
+        before = Some(record.typ);
+        records.push(record)?;
+        rest = after;
+    }
+    Ok(records)
+}
+
+// The record at the front, behind one of the type before, and what follows it.
+#[tactic(auto, unfolding(crate::specs::Tlv::record_at))]
+fn front_record<'a>(
+    alloc: Global,
+    known_even: &[u64],
+    before: Option<u64>,
+    bytes: &'a [u8],
+) -> Result<(Record, &'a [u8]), Fault>
+    ensures { Gives (λ x. (x.0, x.1.now)) result (record_at known_even.now before bytes.now) }
+{
+    let (typ, taken) = read_bigsize(bytes)?;
+    if !follows(before, typ) {
+        return Err(Fault::TlvOrder);
+    }
+    front_value(alloc, known_even, typ, &bytes[taken..])
+}
+
+// The length and the value behind a type, and what follows them.
+#[tactic(auto, unfolding(crate::specs::Tlv::value_at))]
+fn front_value<'a>(
+    alloc: Global,
+    known_even: &[u64],
+    typ: u64,
+    bytes: &'a [u8],
+) -> Result<(Record, &'a [u8]), Fault>
+    ensures { Gives (λ x. (x.0, x.1.now)) result (value_at known_even.now typ bytes.now) }
+{
+    let (len, taken) = read_bigsize(bytes)?;
+    let rest = &bytes[taken..];
+    if (rest.len() as u64) < len {
+        return Err(Fault::TlvLength);
+    }
+    if !stands(known_even, typ) {
+        return Err(Fault::TlvUnknownEven);
+    }
+    let (value, rest) = rest.split_at(len as usize);
+    let value = Bytes::new(Vec::from_slice(alloc, value)?);
+    Ok((Record { typ, value }, rest))
+}
+
+fn follows(before: Option<u64>, typ: u64) -> bool
+    ensures { result ≡ may_follow before typ }
+{
+    match before {
+        None => true,
+        Some(before) => before < typ,
+    }
+}
+
+fn stands(known_even: &[u64], typ: u64) -> bool
+    ensures { result ≡ may_stand known_even.now typ }
+{
+    typ % 2 == 1 || known_even.contains(&typ)
+}
+
+/// Writes the records one after the other, as one TLV stream. Takes memory for the bytes.
+///
+/// A record is a BigSize type, a BigSize length and the value (BOLT 1, "Type-Length-Value Format").
+/// The caller sees to it that the types rise strictly; no records are no bytes.
+///
+/// Errors: 60 (`Memory`) where there is no memory.
+pub fn write_tlvs(alloc: Global, records: &[Record]) -> Result<Vec<u8>, Fault>
+    requires { AreRising records.now }
+    // What is written is the records' bytes, one record after the other.
+    ensures ok { IfOk result (λ v. v.items ≡ stream_bytes records.now) }
+    // So it is read again as these records by who knows their even types.
+    ensures spells { (known_even : List ℕ) → AreKnown known_even records.now → IfOk result (λ v. Spells known_even records.now v.items) }
+    ensures err { IfErr result (λ e. e ≡ Fault.Memory) }
+{
+    let mut out = Vec::new(alloc);
+    for record in records {
+        put_record(&mut out, record)?;
+    }
+    Ok(out)
+}
+
+fn put_record(out: &mut Vec<u8>, record: &Record) -> Result<(), Fault>
+    ensures ok { OnOk result (out.new.items ≡ out.old.items ++ record_bytes «record».now) }
+    ensures fits { OnOk result (Fits «record».now) }
+    ensures err { IfErr result (λ e. e ≡ Fault.Memory) }
+{
+    put_number(out, record.typ)?;
+    put_number(out, record.value.len() as u64)?;
+    out.extend_from_slice(record.value.as_slice())?;
+    Ok(())
+}
+
+fn put_number(out: &mut Vec<u8>, number: u64) -> Result<(), Fault>
+    ensures ok { OnOk result (out.new.items ≡ out.old.items ++ bigsize number) }
+    ensures err { IfErr result (λ e. e ≡ Fault.Memory) }
+{
+    let mut spelling = [0; 9];
+    let len = write_bigsize(number, &mut spelling);
+    out.extend_from_slice(&spelling[..len])?;
+    Ok(())
+}
+
+/// A law: as a whole input, the bytes of a stream are told in one way. No two lists of records have the
+/// same bytes; bytes that spell records have no fault; and bytes have at most one first fault.
+pub fn one_stream()
+    ensures records { (rs ss : List Record) → AreFit rs → AreFit ss → stream_bytes rs ≡ stream_bytes ss → rs ≡ ss }
+    ensures outcome { (known_even bytes : List ℕ) (rs : List Record) (f : Fault) → Spells known_even rs bytes → HasFault known_even bytes f → ⊥ }
+    ensures fault { (known_even bytes : List ℕ) (f g : Fault) → HasFault known_even bytes f → HasFault known_even bytes g → f ≡ g }
+{}
