@@ -1,3 +1,4 @@
 pub mod Windows
 pub mod Serving
 pub mod Progress
+pub mod Faults

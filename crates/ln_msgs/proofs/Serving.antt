@@ -5,6 +5,8 @@ use Rattle.std.specs.List.{flat_map}
 use Rattle.std.proofs.lemmas.List.Concat.{flat_map-cons, flat_map-append}
 use Rattle.ln_bytes.specs.Reading.{◌>>=◌}
 use Rattle.ln_bytes.specs.declared.fault.Fault.{Fault}
+use Rattle.ln_bytes.specs.declared.fault.Fault.TheVariants.{Memory, Io}
+use Rattle.ln_msgs.proofs.Faults.{no_failed_call}
 use Rattle.ln_msgs.specs.Message.{Heard, message_at}
 use Rattle.ln_msgs.specs.Frame.{frame, HasFrame, Hears, IsFaulty}
 use Rattle.ln_msgs.specs.Answer.{owed, owed_at, paid, reply, replies, one_if_owed, pongs, told}
@@ -28,6 +30,12 @@ faulty_from message f e = asks (message_at message) refl e
     asks : (r : Result Heard Fault) → message_at message ≡ r → (r >>= λ h. Ok (owed h)) ≡ Err f → message_at message ≡ Err f
     asks (Ok h) is e = absurd cc
     asks (Err g) is e = is ∙ cc
+
+-- no call fails while a message is read
+pub no_call_failed : (message : List ℕ) (f : Fault) → (f ≢ Memory → owed_at message ≡ Err f) → f ≢ Io
+no_call_failed message f is e =
+    let ours : f ≢ Memory = λ m. absurd cc in
+    no_failed_call message (faulty_from message f (is ours) ∙ ap Err e)
 
 -- one more whole frame
 pub hears_more : (hs : List Heard) (front message : List ℕ) (h : Heard) → Hears hs front → length message < 65536 → message_at message ≡ Ok h → Hears (hs ++ h ∷ []) (front ++ frame message)

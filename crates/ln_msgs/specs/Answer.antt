@@ -4,7 +4,7 @@ use Rattle.ln_bytes.specs.Reading.{◌>>=◌}
 use Rattle.ln_bytes.specs.declared.fault.Fault.{Fault}
 use Rattle.std.specs.List.{flat_map}
 use Rattle.ln_msgs.specs.Field.{Value, Num, Str}
-use Rattle.ln_msgs.specs.Message.{Wire, wire_bytes, message_at, Heard, Known, Ignored}
+use Rattle.ln_msgs.specs.Message.{Form, Wire, wire_bytes, formed_at, message_at, Heard, Known, Ignored}
 use Rattle.ln_msgs.specs.Frame.{frame}
 
 -- how many bytes of pong a ping's fields ask for: from 65,532 on, no pong is owed
@@ -17,6 +17,10 @@ asked (Str bytes ∷ vs) = None
 abbrev pub owed : Heard → Option ℕ
 owed (Known w) = if w.typ == 18 then asked w.values else None
 owed (Ignored typ) = None
+
+-- what the bytes behind a known type ask for, or their first fault
+abbrev pub asked_at : Form → ℕ → List ℕ → Result (Option ℕ) Fault
+asked_at form typ payload = formed_at form typ payload >>= λ heard. Ok (owed heard)
 
 -- what a message's bytes ask for, or their first fault
 unfoldable pub owed_at : List ℕ → Result (Option ℕ) Fault

