@@ -1,0 +1,2 @@
+pub mod Refusal
+pub use Rattle.ln_bytes.specs.Fault
