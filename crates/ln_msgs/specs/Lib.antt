@@ -2,9 +2,10 @@ pub mod Field
 pub mod Message
 pub mod Frame
 pub mod Answer
+pub mod Answered
+pub mod Served
 pub mod Counted
 pub mod CountedView
 pub mod Outgoing
 pub mod Written
-pub mod Answered
-pub mod Served
+pub mod Refusal
