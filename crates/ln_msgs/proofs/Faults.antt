@@ -5,8 +5,8 @@ use Rattle.ln_bytes.specs.Bigsize.{bigsize_at, long_at}
 use Rattle.ln_bytes.specs.Reading.{◌>>=◌}
 use Rattle.ln_bytes.specs.Tlv.{value_at, record_at, records_at, stream_at}
 use Rattle.ln_bytes.specs.declared.fault.Fault.{Fault}
-use Rattle.ln_bytes.specs.declared.fault.Fault.TheVariants.{Truncated, NotMinimal, TlvOrder, TlvUnknownEven, TlvLength, UnknownEvenType, TooLong, Io}
-use Rattle.ln_msgs.specs.Field.{Kind, Number, Sized, number_at, string_at, field_at, fields_at}
+use Rattle.ln_bytes.specs.declared.fault.Fault.TheVariants.{Truncated, NotMinimal, TlvOrder, TlvUnknownEven, TlvLength, UnknownEvenType, TooLong, FieldLength, Io}
+use Rattle.ln_msgs.specs.Field.{Kind, Number, Fixed, Sized, bytes_at, number_at, string_at, field_at, fields_at}
 use Rattle.ln_msgs.specs.Message.{Form, form_of, Heard, formed_at, payload_at, may_be_ignored, message_at}
 
 -- a reading that refuses by 1 to 8 alone
@@ -55,12 +55,16 @@ stream_tells known_even bytes = records_tell (length bytes) known_even None byte
 number_tells : (size : ℕ) (bytes : List ℕ) → Tells (number_at size bytes)
 number_tells size bytes = either _ _ _ (refuses Truncated (omega arith)) (given _)
 
+bytes_tell : (size : ℕ) (bytes : List ℕ) → Tells (bytes_at size bytes)
+bytes_tell size bytes = either _ _ _ (refuses Truncated (omega arith)) (given _)
+
 string_tells : (bytes : List ℕ) → Tells (string_at bytes)
 unfolding string_at
-string_tells bytes = steps _ _ (number_tells 2 bytes) (λ len. either _ _ _ (refuses Truncated (omega arith)) (given _))
+string_tells bytes = steps _ _ (number_tells 2 bytes) (λ len. bytes_tell len.0 len.1)
 
 field_tells : (k : Kind) (bytes : List ℕ) → Tells (field_at k bytes)
 field_tells (Number size) bytes = steps _ _ (number_tells size bytes) (λ n. given _)
+field_tells (Fixed size) bytes = steps _ _ (bytes_tell size bytes) (λ s. given _)
 field_tells Sized bytes = steps _ _ (string_tells bytes) (λ s. given _)
 
 fields_tell : (ks : List Kind) (bytes : List ℕ) → Tells (fields_at ks bytes)
@@ -69,7 +73,7 @@ fields_tell (k ∷ ks) bytes = steps _ _ (field_tells k bytes) (λ first. steps 
 
 formed_tells : (form : Form) (typ : ℕ) (bytes : List ℕ) → Tells (formed_at form typ bytes)
 unfolding formed_at
-formed_tells form typ bytes = steps _ _ (fields_tell form.fields bytes) (λ values. steps _ _ (stream_tells form.known_even values.1) (λ records. given _))
+formed_tells form typ bytes = steps _ _ (fields_tell form.fields bytes) (λ values. steps _ _ (stream_tells form.known_even values.1) (λ records. either _ _ _ (given _) (refuses FieldLength (omega arith))))
 
 payload_tells : (form : Option Form) (typ : ℕ) (bytes : List ℕ) → Tells (payload_at form typ bytes)
 payload_tells (Some form) typ bytes = formed_tells form typ bytes

@@ -2,3 +2,5 @@ pub mod Windows
 pub mod Serving
 pub mod Progress
 pub mod Faults
+pub mod OneHearing
+pub mod Grammar

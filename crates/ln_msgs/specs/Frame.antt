@@ -32,3 +32,7 @@ pub record IsFaulty (bytes : List ℕ) (f : Fault) : Type 0 where
 -- the bytes end inside a frame
 abbrev pub IsCut : List ℕ → Type 0
 IsCut bytes = (bytes ≢ []) × HasNoFrame bytes
+
+-- no further message is heard: the bytes are at their end, or cut, or faulty
+abbrev pub EndsHearing : List ℕ → Type 0
+EndsHearing bytes = (message rest : List ℕ) (h : Heard) → HasFrame bytes message rest → message_at message ≢ Ok h

@@ -9,3 +9,4 @@ pub mod CountedView
 pub mod Outgoing
 pub mod Written
 pub mod Refusal
+pub mod Typed

@@ -1,28 +1,31 @@
 -- Messages (BOLT 1, "Lightning Message Format"): a type in two bytes, the fields that the type has, and a
 -- TLV stream up to the end.
-use Rattle.std.specs.Prelude.{ℕ, ◌%◌, ◌+◌, List, [], ◌∷◌, ◌++◌, length, Option, Some, None, Result, Ok, Err, Bool, ◌==◌, ◌||◌, ◌&&◌, nat_lt, nat_le, if◌then◌else◌}
+use Rattle.std.specs.List.{list_all}
+use Rattle.std.specs.Prelude.{◌≡◌, ◌<◌, ℕ, ◌%◌, IsTrue, not, List, [], ◌∷◌, ◌++◌, length, Option, Some, None, Result, Ok, Err, Bool, ◌==◌, ◌||◌, ◌&&◌, nat_lt, nat_le, if◌then◌else◌}
 use Rattle.ln_bytes.specs.Endian.{big_bytes}
 use Rattle.ln_bytes.specs.Reading.{◌>>=◌}
-use Rattle.ln_bytes.specs.Tlv.{stream_at, stream_bytes}
+use Rattle.ln_bytes.specs.Tlv.{stream_at, stream_bytes, MayStand, AreFit}
 use Rattle.ln_bytes.specs.declared.fault.Fault.{Fault}
-use Rattle.ln_bytes.specs.declared.fault.Fault.TheVariants.{TooLong, UnknownEvenType}
+use Rattle.ln_bytes.specs.declared.fault.Fault.TheVariants.{TooLong, UnknownEvenType, FieldLength}
 use Rattle.ln_bytes.specs.declared.record.Record.{Record}
-use Rattle.ln_msgs.specs.Field.{Kind, Number, Sized, Value, fields_at, fields_bytes, number_at}
+use Rattle.ln_msgs.specs.Field.{Kind, Number, Sized, Value, AreOf, fields_at, fields_bytes, number_at}
 
 -- ---- the table of messages
 
--- what a type of message has: its fields in order, and the even types of record that it may carry
+-- what a type of message has: its fields in order, the even types of record that it may carry, and the
+-- types of record whose value has one length, with that length
 pub record Form : Type 0 where
   pub fields : List Kind
   pub known_even : List ℕ
+  pub lengths : List (ℕ × ℕ)
 
 -- ping: num_pong_bytes, ignored
 abbrev pub ping_form : Form
-ping_form = record { fields = Number 2 ∷ Sized ∷ []; known_even = [] }
+ping_form = record { fields = Number 2 ∷ Sized ∷ []; known_even = []; lengths = [] }
 
 -- pong: ignored
 abbrev pub pong_form : Form
-pong_form = record { fields = Sized ∷ []; known_even = [] }
+pong_form = record { fields = Sized ∷ []; known_even = []; lengths = [] }
 
 -- the form of a type, where it is known
 abbrev pub form_of : ℕ → Option Form
@@ -32,6 +35,14 @@ form_of typ = if typ == 18 then Some ping_form else (if typ == 19 then Some pong
 -- channels
 abbrev pub may_be_ignored : ℕ → Bool
 may_be_ignored typ = (typ % 2 == 1) || (nat_le 256 typ && nat_le typ 265)
+
+-- a record of this type has a value of this length
+abbrev pub has_length : ℕ × ℕ → Record → Bool
+has_length asked r = not (r.typ == asked.0) || (length r.value == asked.1)
+
+-- each record has the length that its type asks for
+abbrev pub have_lengths : List (ℕ × ℕ) → List Record → Bool
+have_lengths lengths rs = list_all (λ asked. list_all (has_length asked) rs) lengths
 
 -- ---- what a message's bytes are
 
@@ -48,6 +59,14 @@ formed_bytes (Some form) w = big_bytes 2 w.typ ++ fields_bytes form.fields w.val
 abbrev pub wire_bytes : Wire → List ℕ
 wire_bytes w = formed_bytes (form_of w.typ) w
 
+-- the fields are those of the form, and the records may stand behind them
+pub record IsFormed (form : Form) (w : Wire) : Type 0 where
+  pub typ : w.typ < 65536
+  pub values : AreOf form.fields w.values
+  pub stand : MayStand form.known_even None w.records
+  pub fit : AreFit w.records
+  pub lengths : IsTrue (have_lengths form.lengths w.records)
+
 -- ---- how a message is read
 
 -- a message as it is heard: of a known type, or ignored
@@ -55,11 +74,17 @@ pub data Heard : Type 0 where
   Known : (w : Wire) → Heard
   Ignored : (typ : ℕ) → Heard
 
+-- The bytes say this. A message of a known type has one spelling; an ignored one is spelled by all
+-- messages of its type.
+abbrev pub Says : Heard → List ℕ → Type 0
+Says (Known w) bytes = (form : Form) × (form_of w.typ ≡ Some form) × IsFormed form w × (bytes ≡ formed_bytes (Some form) w)
+Says (Ignored typ) bytes = (form_of typ ≡ None) × IsTrue (may_be_ignored typ) × (typ < 65536) × (payload : List ℕ) × (bytes ≡ big_bytes 2 typ ++ payload)
+
 unfoldable pub formed_at : Form → ℕ → List ℕ → Result Heard Fault
 formed_at form typ bytes = do
   values ← fields_at form.fields bytes
   records ← stream_at form.known_even values.1
-  Ok (Known (record { typ = typ; values = values.0; records = records }))
+  if have_lengths form.lengths records then Ok (Known (record { typ = typ; values = values.0; records = records })) else Err FieldLength
 
 abbrev pub payload_at : Option Form → ℕ → List ℕ → Result Heard Fault
 payload_at (Some form) typ bytes = formed_at form typ bytes

@@ -1,7 +1,8 @@
 //! Frames: two bytes of length, and a message of that many bytes.
 
-ghost use Rattle.std.specs.Prelude.{◌<◌, length, IfNone, IfSome, MatchOption};
-ghost use Rattle.ln_msgs.specs.Frame.{HasFrame, HasNoFrame};
+ghost use Rattle.std.specs.Prelude.{◌≡◌, ◌<◌, ℕ, List, ◌++◌, length, IfNone, IfSome, MatchOption};
+ghost use Rattle.ln_msgs.specs.Frame.{HasFrame, HasNoFrame, Hears, EndsHearing};
+ghost use Rattle.ln_msgs.specs.Message.{Heard};
 
 use byteorder::{BigEndian, ByteOrder};
 
@@ -21,4 +22,11 @@ pub(crate) fn next_frame(bytes: &[u8]) -> Option<(&[u8], &[u8])>
         return None;
     }
     Some(rest.split_at(len))
+}
+
+/// The bytes of a stream determine its messages: up to where no further message is heard (at the end,
+/// inside a frame, or at a message that has a fault) they are heard in one way alone.
+pub fn one_hearing()
+    ensures { (hs gs : List Heard) (xs ys more rest : List ℕ) → Hears hs xs → Hears gs ys → EndsHearing more → EndsHearing rest → xs ++ more ≡ ys ++ rest → (hs ≡ gs) × (more ≡ rest) }
+{
 }

@@ -1,0 +1,50 @@
+//! `lnlink`: channel links of a payment channel node, on the command line.
+#![tactic(auto)]
+
+mod choice;
+mod failure;
+
+use choice::{Choice, choose};
+use failure::Failure;
+use ln_msgs::{Counted, Refusal, answer_pings};
+use std::env::Env;
+use std::process::ExitCode;
+use std::{env, io};
+
+fn main(rt: HostRuntime) -> ExitCode {
+    match run(&rt) {
+        Ok(()) => ExitCode::SUCCESS,
+        Err(failure) => {
+            let _ = eprintln!(rt; "{failure}");
+            ExitCode::from(failure.status())
+        }
+    }
+}
+
+/// Runs what the command line asks for.
+fn run<R: Env + Input + Print + AllocGlobal>(rt: &R) -> Result<(), Failure> {
+    match choose(rt.alloc(), words(rt)?.as_slice())? {
+        Choice::Answer => {
+            let mut reader = Counted::new(rt.reader());
+            let mut writer = Counted::new(io::writer(rt));
+            answer_pings(rt.alloc(), &mut reader, &mut writer).map_err(Refusal::from)?;
+        }
+    }
+    Ok(())
+}
+
+/// The words behind the program's name. Words that aren't text are no command.
+fn words<R: Env + AllocGlobal>(rt: &R) -> Result<Vec<String>, Failure> {
+    let all = match env::args(rt) {
+        Ok(all) => all,
+        Err(error) if error.kind() == io::ErrorKind::OutOfMemory => {
+            return Err(Failure::Refused(Refusal::Memory));
+        }
+        Err(_) => return Err(Failure::Usage),
+    };
+    let mut words = Vec::new(rt.alloc());
+    for word in all.skip(1) {
+        words.push(word)?;
+    }
+    Ok(words)
+}
