@@ -48,3 +48,6 @@ fn words<R: Env + AllocGlobal>(rt: &R) -> Result<Vec<String>, Failure> {
     }
     Ok(words)
 }
+
+#[cfg(test)]
+mod tests;
