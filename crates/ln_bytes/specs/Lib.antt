@@ -2,4 +2,5 @@ pub mod Fault
 pub mod Bigsize
 pub mod Reading
 pub mod Tlv
+pub mod Truncated
 pub use Rattle.byteorder.specs.Endian

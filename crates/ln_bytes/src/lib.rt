@@ -7,12 +7,14 @@ mod bytes;
 mod fault;
 mod record;
 mod tlv;
+mod truncated;
 
 pub use bigsize::{bigsize_len, one_spelling, read_bigsize, write_bigsize};
 pub use bytes::Bytes;
 pub use fault::Fault;
 pub use record::Record;
 pub use tlv::{one_stream, read_tlvs, write_tlvs};
+pub use truncated::{one_truncated, read_tu32, read_tu64, write_tu64};
 
 #[cfg(test)]
 mod tests;

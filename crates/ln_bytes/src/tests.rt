@@ -255,3 +255,72 @@ fn byte_string(rt: HostRuntime) -> Result<(), Fail> {
     assert_eq!(rt; bytes.into_vec().as_slice(), [1, 2, 3].as_slice());
     Ok(())
 }
+
+/// BOLT 1, Appendix B: the values of the first namespace's `tu64`.
+const TRUNCATED: [(u64, &[u8]); 9] = [
+    (0, &[]),
+    (1, &[0x01]),
+    (256, &[0x01, 0x00]),
+    (65536, &[0x01, 0x00, 0x00]),
+    (16777216, &[0x01, 0x00, 0x00, 0x00]),
+    (4294967296, &[0x01, 0x00, 0x00, 0x00, 0x00]),
+    (1099511627776, &[0x01, 0x00, 0x00, 0x00, 0x00, 0x00]),
+    (281474976710656, &[0x01, 0x00, 0x00, 0x00, 0x00, 0x00, 0x00]),
+    (
+        72057594037927936,
+        &[0x01, 0x00, 0x00, 0x00, 0x00, 0x00, 0x00, 0x00],
+    ),
+];
+
+#[test]
+fn truncated_both_ways(rt: HostRuntime) {
+    for (number, bytes) in TRUNCATED {
+        assert_eq!(rt; read_tu64(bytes), Ok(number), "at {bytes:?}");
+        let mut out = [0xaa; 8];
+        let len = write_tu64(number, &mut out);
+        assert_eq!(rt; Some(bytes), out.get(..len));
+        let fits = read_tu32(bytes).map(u64::from);
+        let want = if bytes.len() > 4 {
+            Err(Fault::FieldLength)
+        } else {
+            Ok(number)
+        };
+        assert_eq!(rt; fits, want, "at {bytes:?}");
+    }
+}
+
+/// The same appendix: encodings that aren't minimal, and one that is too long.
+const BAD_TRUNCATED: [(&[u8], Fault); 9] = [
+    (
+        &[0xff, 0xff, 0xff, 0xff, 0xff, 0xff, 0xff, 0xff, 0xff],
+        Fault::FieldLength,
+    ),
+    (&[0x00], Fault::NotMinimal),
+    (&[0x00, 0x01], Fault::NotMinimal),
+    (&[0x00, 0x01, 0x00], Fault::NotMinimal),
+    (&[0x00, 0x01, 0x00, 0x00], Fault::NotMinimal),
+    (&[0x00, 0x01, 0x00, 0x00, 0x00], Fault::NotMinimal),
+    (&[0x00, 0x01, 0x00, 0x00, 0x00, 0x00], Fault::NotMinimal),
+    (
+        &[0x00, 0x01, 0x00, 0x00, 0x00, 0x00, 0x00],
+        Fault::NotMinimal,
+    ),
+    (
+        &[0x00, 0x01, 0x00, 0x00, 0x00, 0x00, 0x00, 0x00],
+        Fault::NotMinimal,
+    ),
+];
+
+#[test]
+fn bad_truncated(rt: HostRuntime) {
+    for (bytes, fault) in BAD_TRUNCATED {
+        assert_eq!(rt; read_tu64(bytes), Err(fault), "at {bytes:?}");
+        // The length is told before the leading zero.
+        let want = if bytes.len() > 4 {
+            Fault::FieldLength
+        } else {
+            fault
+        };
+        assert_eq!(rt; read_tu32(bytes), Err(want), "at {bytes:?}");
+    }
+}
