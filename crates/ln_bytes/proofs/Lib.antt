@@ -3,3 +3,4 @@ pub mod Numbers
 pub mod Records
 pub mod Streams
 pub mod Zeros
+pub mod ShortIds

@@ -6,6 +6,7 @@ mod bigsize;
 mod bytes;
 mod fault;
 mod record;
+mod short_id;
 mod tlv;
 mod truncated;
 
@@ -13,6 +14,7 @@ pub use bigsize::{bigsize_len, one_spelling, read_bigsize, write_bigsize};
 pub use bytes::Bytes;
 pub use fault::Fault;
 pub use record::Record;
+pub use short_id::ShortId;
 pub use tlv::{one_stream, read_tlvs, write_tlvs};
 pub use truncated::{one_truncated, read_tu32, read_tu64, write_tu64};
 

@@ -324,3 +324,71 @@ fn bad_truncated(rt: HostRuntime) {
         assert_eq!(rt; read_tu32(bytes), Err(want), "at {bytes:?}");
     }
 }
+
+/// Short ids as text and bytes: our own, the value of BOLT 1, Appendix B, the example of BOLT 7,
+/// "Definition of `short_channel_id`", and the greatest.
+const SHORT_IDS: [(&str, [u8; 8]); 4] = [
+    ("1x2x3", [0x00, 0x00, 0x01, 0x00, 0x00, 0x02, 0x00, 0x03]),
+    ("0x0x550", [0x00, 0x00, 0x00, 0x00, 0x00, 0x00, 0x02, 0x26]),
+    (
+        "539268x845x1",
+        [0x08, 0x3a, 0x84, 0x00, 0x03, 0x4d, 0x00, 0x01],
+    ),
+    (
+        "16777215x16777215x65535",
+        [0xff, 0xff, 0xff, 0xff, 0xff, 0xff, 0xff, 0xff],
+    ),
+];
+
+#[test]
+fn short_ids_both_ways(rt: HostRuntime) -> Result<(), Fail> {
+    for (text, bytes) in SHORT_IDS {
+        let id = ShortId::from_bytes(&bytes);
+        assert_eq!(rt; ShortId::parse(text), Some(id));
+        assert_eq!(rt; id.to_bytes(), bytes);
+        let written = format!(in rt.alloc(); "{id}")?;
+        assert_eq!(rt; written.as_str(), text);
+    }
+    Ok(())
+}
+
+#[test]
+fn short_id_parts(rt: HostRuntime) {
+    let id = ShortId::from_bytes(&[0x00, 0x00, 0x01, 0x00, 0x00, 0x02, 0x00, 0x03]);
+    assert_eq!(rt; id.block, 1);
+    assert_eq!(rt; id.tx, 2);
+    assert_eq!(rt; id.output, 3);
+}
+
+#[test]
+fn bad_short_ids(rt: HostRuntime) {
+    for text in [
+        "",
+        "x",
+        "xx",
+        "1x2",
+        "1x2x",
+        "x2x3",
+        "1xx3",
+        "1x2x3x",
+        "1x2x3x4",
+        "01x2x3",
+        "1x02x3",
+        "1x2x03",
+        "00x2x3",
+        "+1x2x3",
+        "1x-2x3",
+        " 1x2x3",
+        "1x2x3 ",
+        "1X2X3",
+        "1:2:3",
+        "0x1x2x3",
+        "ax2x3",
+        "16777216x2x3",
+        "1x16777216x3",
+        "1x2x65536",
+        "4294967297x2x3",
+    ] {
+        assert_eq!(rt; ShortId::parse(text), None, "at {text:?}");
+    }
+}
