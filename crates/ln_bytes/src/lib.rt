@@ -1,5 +1,5 @@
-//! Bytes of the Lightning protocol: BigSize numbers and TLV record streams (BOLT 1), with the
-//! numbered faults by which they are refused.
+//! Bytes of the Lightning protocol: BigSize and truncated numbers and TLV record streams (BOLT 1),
+//! with the numbered faults by which they are refused, and short channel ids (BOLT 7).
 #![tactic(auto)]
 
 mod bigsize;
