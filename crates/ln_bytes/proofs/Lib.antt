@@ -2,3 +2,5 @@ pub mod Reading
 pub mod Numbers
 pub mod Records
 pub mod Streams
+pub mod Zeros
+pub mod ShortIds

@@ -1,5 +1,5 @@
 -- Records one after the other: what a reader has so far, and what the whole stream is.
-use Rattle.std.proofs.Common.{◌≡◌, ◌≢◌, ℕ, zero, suc, ◌+◌, ◌<◌, ◌≤◌, true, List, [], ◌∷◌, ◌++◌, length, take, drop, Option, Some, None, Result, Ok, Err, refl, sym, ◌∙◌, ap, subst, arith, append_assoc}
+use Rattle.std.proofs.Common.{◌≡◌, ◌≢◌, ℕ, zero, suc, ◌+◌, ◌<◌, ◌≤◌, true, List, [], ◌∷◌, ◌++◌, length, take, drop, Option, Some, None, Result, Ok, Err, refl, sym, ◌∙◌, ap, subst, arith, append_assoc, ◌⊎◌, inl, inr}
 use Rattle.std.specs.Prelude.{IfOk, IfErr}
 use Rattle.std.specs.Global.{Vec}
 use Rattle.std.proofs.lemmas.List.{append-nil, length-append, take_at, drop_at, take_all}
@@ -10,7 +10,7 @@ use Rattle.ln_bytes.specs.Bigsize.{bigsize}
 use Rattle.ln_bytes.specs.declared.fault.Fault.TheVariants.{Memory}
 use Rattle.ln_bytes.specs.Reading.{◌>>=◌, Gives}
 use Rattle.ln_bytes.specs.Tlv.{record_bytes, stream_bytes, may_follow, may_stand, last_type, RiseFrom, AreRising, AreKnown, Fits, AreFit, MayStand, Spells, HasFault, record_at, records_at, stream_at}
-use Rattle.ln_bytes.proofs.Reading.{IsBytes}
+use Rattle.ln_bytes.proofs.Reading.{IsBytes, bind_ok, bind_err, ok_is}
 use Rattle.ln_bytes.proofs.Numbers.{one_way}
 use Rattle.ln_bytes.proofs.Records.{IsFront, record_takes, record_again, record_nonempty}
 
@@ -24,6 +24,12 @@ none_left b c h e l = omega arith
 
 one_less : (a b c turns : ℕ) → 0 < b → a ≡ b + c → a ≤ suc turns → c ≤ turns
 one_less a b c turns h e l = omega arith
+
+at_most : (a b turns : ℕ) → a < b → b ≤ suc turns → a ≤ turns
+at_most a b turns h l = omega arith
+
+at_most_itself : (a : ℕ) → a ≤ a
+at_most_itself a = omega arith
 
 longer : (a b c : ℕ) → 0 < b → a ≡ b + c → 0 < a
 longer a b c h e = omega arith
@@ -94,6 +100,15 @@ faults known bytes good before rest f so some e =
 
 -- ---- what the whole stream is
 
+abbrev answer : Result (List Record) Fault → Result (List Record) Fault
+answer r = r
+
+never_err : (rs : List Record) (f : Fault) → answer (Ok rs) ≡ Err f → ⊥
+never_err rs f e = cc
+
+cons_nonempty : (b : ℕ) (bytes : List ℕ) → b ∷ bytes ≢ []
+cons_nonempty b bytes e = cc
+
 step : (turns : ℕ) (known : List ℕ) (before : Option ℕ) (bytes : List ℕ) → 0 < length bytes → records_at (suc turns) known before bytes ≡ (record_at known before bytes >>= λ first. records_at turns known (Some first.0.typ) first.1 >>= λ others. Ok (first.0 ∷ others))
 unfolding records_at
 step turns known before [] h = absurd (omega arith)
@@ -160,6 +175,54 @@ stream_faulty known bytes f h =
     let p = past (length bytes) known None h.good h.bad h.stand h.fit (omega (arith, ap length h.bytes_are)) in
     ap (λ (x : List ℕ). records_at (length bytes) known None x) h.bytes_are ∙ p.is ∙ ap (behind h.good) (faulty_at p.left known (last_type None h.good) h.bad f h.some_left p.enough h.fault)
 
+-- what is read as records behind others is spelled so
+finished : (turns : ℕ) (known bytes : List ℕ) (good : List Record) (before : Option ℕ) (rest : List ℕ) (rs : List Record) → IsSoFar known bytes good before rest → records_at turns known before rest ≡ Ok rs → Spells known (good ++ rs) bytes
+unfolding records_at
+finished turns known bytes good before [] rs so e =
+    let whole : good ≡ good ++ rs = sym (append-nil good) ∙ ap (λ (x : List Record). good ++ x) (ok_is {A = List Record} [] rs (sym (nothing_left turns known before) ∙ e)) in
+    subst (λ (x : List Record). Spells known x bytes) whole (ends known bytes good before so)
+finished zero known bytes good before (b ∷ rest) rs so e = absurd cc
+finished (suc turns) known bytes good before (b ∷ rest) rs so e =
+    let first = bind_ok (record_at known before (b ∷ rest)) (λ first. records_at turns known (Some first.0.typ) first.1 >>= λ others. Ok (first.0 ∷ others)) rs e in
+    let others = bind_ok (records_at turns known (Some first.0.0.typ) first.0.1) (λ others. Ok (first.0.0 ∷ others)) rs first.2 in
+    let more = goes_on known bytes good before (b ∷ rest) first.0.0 first.0.1 so first.1 in
+    let all = finished turns known bytes (good ++ first.0.0 ∷ []) (Some first.0.0.typ) first.0.1 others.0 more others.1 in
+    let whole : (good ++ first.0.0 ∷ []) ++ others.0 ≡ good ++ rs = append_assoc good (first.0.0 ∷ []) others.0 ∙ ap (λ (x : List Record). good ++ x) (ok_is (first.0.0 ∷ others.0) rs others.2) in
+    subst (λ (x : List Record). Spells known x bytes) whole all
+
+-- what finds a fault behind some records has that fault
+broken : (turns : ℕ) (known bytes : List ℕ) (good : List Record) (before : Option ℕ) (rest : List ℕ) (f : Fault) → IsSoFar known bytes good before rest → length rest ≤ turns → records_at turns known before rest ≡ Err f → HasFault known bytes f
+unfolding records_at
+broken turns known bytes good before [] f so l e = absurd (never_err [] f (sym (nothing_left turns known before) ∙ e))
+broken zero known bytes good before (b ∷ rest) f so l e = absurd (omega arith)
+broken (suc turns) known bytes good before (b ∷ rest) f so l e =
+    elim (bind_err (record_at known before (b ∷ rest)) (λ first. records_at turns known (Some first.0.typ) first.1 >>= λ others. Ok (first.0 ∷ others)) f e) [
+      | inl here ↦ faults known bytes good before (b ∷ rest) f so (cons_nonempty b rest) here
+      | inr first ↦
+          let more = goes_on known bytes good before (b ∷ rest) first.0.0 first.0.1 so first.1 in
+          let less : length first.0.1 < length (b ∷ rest) = gets_shorter known before (b ∷ rest) first.0.0 first.0.1 so.rest_fits first.1 in
+          elim (bind_err (records_at turns known (Some first.0.0.typ) first.0.1) (λ others. Ok (first.0.0 ∷ others)) f first.2) [
+            | inl there ↦ broken turns known bytes (good ++ first.0.0 ∷ []) (Some first.0.0.typ) first.0.1 f more (at_most _ _ _ less l) there
+            | inr others ↦ absurd (never_err (first.0.0 ∷ others.0) f others.2)
+          ]
+    ]
+
+pub stream_found : (known : List ℕ) (rs : List Record) (bytes : List ℕ) → IsBytes bytes → stream_at known bytes ≡ Ok rs → Spells known rs bytes
+unfolding stream_at
+stream_found known rs bytes fits e = finished (length bytes) known bytes [] None bytes rs (begins known bytes fits) e
+
+pub stream_broken : (known bytes : List ℕ) (f : Fault) → IsBytes bytes → stream_at known bytes ≡ Err f → HasFault known bytes f
+unfolding stream_at
+stream_broken known bytes f fits e = broken (length bytes) known bytes [] None bytes f (begins known bytes fits) (at_most_itself (length bytes)) e
+
+by_answer : (known bytes : List ℕ) (r : Result (List Record) Fault) → IsBytes bytes → stream_at known bytes ≡ r → ((rs : List Record) × Spells known rs bytes) ⊎ ((f : Fault) × HasFault known bytes f)
+by_answer known bytes (Ok rs) fits e = inl (rs, stream_found known rs bytes fits e)
+by_answer known bytes (Err f) fits e = inr (f, stream_broken known bytes f fits e)
+
+-- bytes spell records, or they have a fault
+pub some_outcome : (known bytes : List ℕ) → IsBytes bytes → ((rs : List Record) × Spells known rs bytes) ⊎ ((f : Fault) × HasFault known bytes f)
+some_outcome known bytes fits = by_answer known bytes (stream_at known bytes) fits refl
+
 -- what a reader answers that finds a spelling or a fault
 pub is_stream : (known bytes : List ℕ) (r : Result (Vec Record) Fault) → IfOk r (λ v. Spells known v.items bytes) → IfErr r (λ e. e ≢ Memory → HasFault known bytes e) → Gives (λ v. v.items) r (stream_at known bytes)
 is_stream known bytes (Ok v) found fault = stream_again known v.items bytes found
@@ -215,9 +278,6 @@ same_records (r ∷ rs) (s ∷ ss) fr fs e =
     let q : rs ≡ ss = same_records rs ss fr.1 fs.1 p.1 in
     let same : r ≡ s = p.0 in
     cc
-
-abbrev answer : Result (List Record) Fault → Result (List Record) Fault
-answer r = r
 
 -- bytes that spell records have no fault
 pub one_outcome : (known bytes : List ℕ) (rs : List Record) (f : Fault) → Spells known rs bytes → HasFault known bytes f → ⊥

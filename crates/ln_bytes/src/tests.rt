@@ -255,3 +255,146 @@ fn byte_string(rt: HostRuntime) -> Result<(), Fail> {
     assert_eq!(rt; bytes.into_vec().as_slice(), [1, 2, 3].as_slice());
     Ok(())
 }
+
+/// BOLT 1, Appendix B: the values of the first namespace's `tu64`.
+const TRUNCATED: [(u64, &[u8]); 9] = [
+    (0, &[]),
+    (1, &[0x01]),
+    (256, &[0x01, 0x00]),
+    (65536, &[0x01, 0x00, 0x00]),
+    (16777216, &[0x01, 0x00, 0x00, 0x00]),
+    (4294967296, &[0x01, 0x00, 0x00, 0x00, 0x00]),
+    (1099511627776, &[0x01, 0x00, 0x00, 0x00, 0x00, 0x00]),
+    (281474976710656, &[0x01, 0x00, 0x00, 0x00, 0x00, 0x00, 0x00]),
+    (
+        72057594037927936,
+        &[0x01, 0x00, 0x00, 0x00, 0x00, 0x00, 0x00, 0x00],
+    ),
+];
+
+#[test]
+fn truncated_both_ways(rt: HostRuntime) {
+    for (number, bytes) in TRUNCATED {
+        assert_eq!(rt; read_tu64(bytes), Ok(number), "at {bytes:?}");
+        let mut out = [0xaa; 8];
+        let len = write_tu64(number, &mut out);
+        assert_eq!(rt; Some(bytes), out.get(..len));
+        let fits = read_tu32(bytes).map(u64::from);
+        let want = if bytes.len() > 4 {
+            Err(Fault::FieldLength)
+        } else {
+            Ok(number)
+        };
+        assert_eq!(rt; fits, want, "at {bytes:?}");
+    }
+}
+
+/// The same appendix: encodings that aren't minimal, and one that is too long.
+const BAD_TRUNCATED: [(&[u8], Fault); 9] = [
+    (
+        &[0xff, 0xff, 0xff, 0xff, 0xff, 0xff, 0xff, 0xff, 0xff],
+        Fault::FieldLength,
+    ),
+    (&[0x00], Fault::NotMinimal),
+    (&[0x00, 0x01], Fault::NotMinimal),
+    (&[0x00, 0x01, 0x00], Fault::NotMinimal),
+    (&[0x00, 0x01, 0x00, 0x00], Fault::NotMinimal),
+    (&[0x00, 0x01, 0x00, 0x00, 0x00], Fault::NotMinimal),
+    (&[0x00, 0x01, 0x00, 0x00, 0x00, 0x00], Fault::NotMinimal),
+    (
+        &[0x00, 0x01, 0x00, 0x00, 0x00, 0x00, 0x00],
+        Fault::NotMinimal,
+    ),
+    (
+        &[0x00, 0x01, 0x00, 0x00, 0x00, 0x00, 0x00, 0x00],
+        Fault::NotMinimal,
+    ),
+];
+
+#[test]
+fn bad_truncated(rt: HostRuntime) {
+    for (bytes, fault) in BAD_TRUNCATED {
+        assert_eq!(rt; read_tu64(bytes), Err(fault), "at {bytes:?}");
+        // The length is told before the leading zero.
+        let want = if bytes.len() > 4 {
+            Fault::FieldLength
+        } else {
+            fault
+        };
+        assert_eq!(rt; read_tu32(bytes), Err(want), "at {bytes:?}");
+    }
+}
+
+/// Short ids as text and bytes: our own, the value of BOLT 1, Appendix B, the example of BOLT 7,
+/// "Definition of `short_channel_id`", and the greatest.
+const SHORT_IDS: [(&str, [u8; 8]); 4] = [
+    ("1x2x3", [0x00, 0x00, 0x01, 0x00, 0x00, 0x02, 0x00, 0x03]),
+    ("0x0x550", [0x00, 0x00, 0x00, 0x00, 0x00, 0x00, 0x02, 0x26]),
+    (
+        "539268x845x1",
+        [0x08, 0x3a, 0x84, 0x00, 0x03, 0x4d, 0x00, 0x01],
+    ),
+    (
+        "16777215x16777215x65535",
+        [0xff, 0xff, 0xff, 0xff, 0xff, 0xff, 0xff, 0xff],
+    ),
+];
+
+#[test]
+fn short_ids_both_ways(rt: HostRuntime) {
+    for (text, bytes) in SHORT_IDS {
+        let id = ShortId::from_bytes(&bytes);
+        assert_eq!(rt; ShortId::parse(text), Some(id));
+        assert_eq!(rt; id.to_bytes(), bytes);
+    }
+}
+
+#[test]
+fn short_ids_printed(rt: HostRuntime) -> Result<(), Fail> {
+    let [own, value, example, greatest] = SHORT_IDS.map(|(_, bytes)| ShortId::from_bytes(&bytes));
+    let text = format!(in rt.alloc(); "{own} {value} {example} {greatest}")?;
+    let want = "1x2x3 0x0x550 539268x845x1 16777215x16777215x65535";
+    assert_eq!(rt; text.as_str(), want);
+    Ok(())
+}
+
+#[test]
+fn short_id_parts(rt: HostRuntime) {
+    let id = ShortId::from_bytes(&[0x00, 0x00, 0x01, 0x00, 0x00, 0x02, 0x00, 0x03]);
+    assert_eq!(rt; id.block, 1);
+    assert_eq!(rt; id.tx, 2);
+    assert_eq!(rt; id.output, 3);
+}
+
+#[test]
+fn bad_short_ids(rt: HostRuntime) {
+    for text in [
+        "",
+        "x",
+        "xx",
+        "1x2",
+        "1x2x",
+        "x2x3",
+        "1xx3",
+        "1x2x3x",
+        "1x2x3x4",
+        "01x2x3",
+        "1x02x3",
+        "1x2x03",
+        "00x2x3",
+        "+1x2x3",
+        "1x-2x3",
+        " 1x2x3",
+        "1x2x3 ",
+        "1X2X3",
+        "1:2:3",
+        "0x1x2x3",
+        "ax2x3",
+        "16777216x2x3",
+        "1x16777216x3",
+        "1x2x65536",
+        "4294967297x2x3",
+    ] {
+        assert_eq!(rt; ShortId::parse(text), None, "at {text:?}");
+    }
+}

@@ -1,6 +1,6 @@
 //! TLV streams (BOLT 1, "Type-Length-Value Format"): records one after the other, up to the end.
 
-ghost use Rattle.std.specs.Prelude.{◌≡◌, ◌≢◌, ℕ, List, ◌++◌, IfOk, IfErr, OnOk, Ok, Err};
+ghost use Rattle.std.specs.Prelude.{◌≡◌, ◌≢◌, ◌<◌, ◌⊎◌, ℕ, List, ◌++◌, slice_index, IfOk, IfErr, OnOk, Ok, Err};
 ghost use Rattle.ln_bytes.specs.Bigsize.{bigsize};
 ghost use Rattle.ln_bytes.specs.Reading.{Gives};
 ghost use Rattle.ln_bytes.specs.Tlv.{record_bytes, stream_bytes, may_follow, may_stand, AreRising, AreKnown, AreFit, Fits, Spells, HasFault, value_at, record_at, stream_at};
@@ -153,9 +153,10 @@ fn put_number(out: &mut Vec<u8>, number: u64) -> Result<(), Fault>
     Ok(())
 }
 
-/// A law: as a whole input, the bytes of a stream are told in one way. No two lists of records have the
-/// same bytes; bytes that spell records have no fault; and bytes have at most one first fault.
+/// A law: as a whole input, bytes are told in exactly one way. They spell records or have a fault, and
+/// not both; no two lists of records have the same bytes; and there is one first fault at most.
 pub fn one_stream()
+    ensures some { (known_even bytes : List ℕ) → ((i : ℕ) → slice_index bytes i < 256) → ((rs : List Record) × Spells known_even rs bytes) ⊎ ((f : Fault) × HasFault known_even bytes f) }
     ensures records { (rs ss : List Record) → AreFit rs → AreFit ss → stream_bytes rs ≡ stream_bytes ss → rs ≡ ss }
     ensures outcome { (known_even bytes : List ℕ) (rs : List Record) (f : Fault) → Spells known_even rs bytes → HasFault known_even bytes f → ⊥ }
     ensures fault { (known_even bytes : List ℕ) (f g : Fault) → HasFault known_even bytes f → HasFault known_even bytes g → f ≡ g }

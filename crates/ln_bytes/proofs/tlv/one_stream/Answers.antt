@@ -1,5 +1,8 @@
-use Rattle.ln_bytes.proofs.Streams.{same_records, one_outcome, one_fault}
+use Rattle.ln_bytes.proofs.Streams.{some_outcome, same_records, one_outcome, one_fault}
 use Rattle.ln_bytes.proofs.tlv.one_stream.Goals as goal
+
+pub returns-clause-some : goal.returns-clause-some
+returns-clause-some c = some_outcome
 
 pub returns-clause-records : goal.returns-clause-records
 returns-clause-records c = same_records
