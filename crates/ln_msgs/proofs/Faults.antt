@@ -6,8 +6,9 @@ use Rattle.ln_bytes.specs.Reading.{◌>>=◌}
 use Rattle.ln_bytes.specs.Tlv.{value_at, record_at, records_at, stream_at}
 use Rattle.ln_bytes.specs.declared.fault.Fault.{Fault}
 use Rattle.ln_bytes.specs.declared.fault.Fault.TheVariants.{Truncated, NotMinimal, TlvOrder, TlvUnknownEven, TlvLength, UnknownEvenType, TooLong, FieldLength, Io}
-use Rattle.ln_msgs.specs.Field.{Kind, Number, Fixed, Sized, bytes_at, number_at, string_at, field_at, fields_at}
-use Rattle.ln_msgs.specs.Message.{Form, form_of, Heard, formed_at, payload_at, may_be_ignored, message_at}
+use Rattle.ln_msgs.specs.Field.{Kind, Number, Fixed, Sized, Listed, bytes_at, number_at, string_at, items_at, list_at, field_at, fields_at}
+use Rattle.ln_msgs.specs.Table.{Form, form_of}
+use Rattle.ln_msgs.specs.Message.{Heard, formed_at, payload_at, may_be_ignored, message_at}
 
 -- a reading that refuses by 1 to 8 alone
 pub record Tells {A : Type 0} (r : Result A Fault) : Type 0 where
@@ -62,10 +63,20 @@ string_tells : (bytes : List ℕ) → Tells (string_at bytes)
 unfolding string_at
 string_tells bytes = steps _ _ (number_tells 2 bytes) (λ len. bytes_tell len.0 len.1)
 
+items_tell : (size count : ℕ) (bytes : List ℕ) → Tells (items_at size count bytes)
+unfolding items_at
+items_tell size zero bytes = given _
+items_tell size (suc count) bytes = steps _ _ (bytes_tell size bytes) (λ first. steps _ _ (items_tell size count first.1) (λ others. given _))
+
+list_tells : (size : ℕ) (bytes : List ℕ) → Tells (list_at size bytes)
+unfolding list_at
+list_tells size bytes = steps _ _ (number_tells 2 bytes) (λ count. items_tell size count.0 count.1)
+
 field_tells : (k : Kind) (bytes : List ℕ) → Tells (field_at k bytes)
 field_tells (Number size) bytes = steps _ _ (number_tells size bytes) (λ n. given _)
 field_tells (Fixed size) bytes = steps _ _ (bytes_tell size bytes) (λ s. given _)
 field_tells Sized bytes = steps _ _ (string_tells bytes) (λ s. given _)
+field_tells (Listed size) bytes = steps _ _ (list_tells size bytes) (λ l. given _)
 
 fields_tell : (ks : List Kind) (bytes : List ℕ) → Tells (fields_at ks bytes)
 fields_tell [] bytes = given _

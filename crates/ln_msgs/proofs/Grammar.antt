@@ -16,8 +16,10 @@ use Rattle.ln_bytes.proofs.Reading.{IsBytes, IsBytes-drop, bind_ok, guard_ok, ok
 use Rattle.ln_bytes.proofs.Numbers.{bytes_back}
 use Rattle.ln_bytes.proofs.Records.{record_takes}
 use Rattle.ln_bytes.proofs.Streams.{stream_again}
-use Rattle.ln_msgs.specs.Field.{Kind, Number, Fixed, Sized, Value, Num, Str, IsOf, AreOf, value_bytes, fields_bytes, bytes_at, number_at, string_at, field_at, fields_at}
-use Rattle.ln_msgs.specs.Message.{Form, form_of, Wire, IsFormed, formed_bytes, have_lengths, Heard, Known, Ignored, Says, formed_at, payload_at, may_be_ignored, message_at}
+use Rattle.ln_msgs.specs.Field.{Kind, Number, Fixed, Sized, Listed, Value, Num, Str, Many, IsOf, AreOf, value_bytes, fields_bytes, bytes_at, number_at, string_at, items_at, list_at, field_at, fields_at}
+use Rattle.std.specs.List.{AllByRecursion, concat}
+use Rattle.ln_msgs.specs.Table.{Form, form_of}
+use Rattle.ln_msgs.specs.Message.{Wire, IsFormed, formed_bytes, have_lengths, Heard, Known, Ignored, Says, formed_at, payload_at, may_be_ignored, message_at}
 
 -- ---- records
 
@@ -65,6 +67,27 @@ string_takes bytes x fits e =
     let both = Takes-then bytes (big_bytes 2 a.0.0) a.0.1 x.0 x.1 first.0 second.0 in
     (subst (λ (n : ℕ). Takes bytes (big_bytes 2 n ++ x.0) x.1) (sym second.1) both, omega (arith, second.1, first.1))
 
+items_take : (size count : ℕ) (bytes : List ℕ) (x : List (List ℕ) × List ℕ) → IsBytes bytes → items_at size count bytes ≡ Ok x → Takes bytes (concat x.0) x.1 × (length x.0 ≡ count) × AllByRecursion (λ item. length item ≡ size) x.0
+unfolding items_at
+items_take size zero bytes x fits e =
+    subst (λ (y : List (List ℕ) × List ℕ). Takes bytes (concat y.0) y.1 × (length y.0 ≡ 0) × AllByRecursion (λ item. length item ≡ size) y.0) (ok_is ([], bytes) x e) (record { parts = refl; rest_fits = fits }, refl, tt)
+items_take size (suc count) bytes x fits e =
+    let a = bind_ok (bytes_at size bytes) (λ first. items_at size count first.1 >>= λ others. Ok (first.0 ∷ others.0, others.1)) x e in
+    let b = bind_ok (items_at size count a.0.1) (λ others. Ok (a.0.0 ∷ others.0, others.1)) x a.2 in
+    let first = bytes_take size bytes a.0 fits a.1 in
+    let second = items_take size count a.0.1 b.0 first.0.rest_fits b.1 in
+    subst (λ (y : List (List ℕ) × List ℕ). Takes bytes (concat y.0) y.1 × (length y.0 ≡ suc count) × AllByRecursion (λ item. length item ≡ size) y.0) (ok_is (a.0.0 ∷ b.0.0, b.0.1) x b.2)
+    (Takes-then bytes a.0.0 a.0.1 (concat b.0.0) b.0.1 first.0 second.0, ap suc second.1, (first.1, second.2))
+
+list_takes : (size : ℕ) (bytes : List ℕ) (x : List (List ℕ) × List ℕ) → IsBytes bytes → list_at size bytes ≡ Ok x → Takes bytes (big_bytes 2 (length x.0) ++ concat x.0) x.1 × (length x.0 < 65536) × AllByRecursion (λ item. length item ≡ size) x.0
+unfolding list_at
+list_takes size bytes x fits e =
+    let a = bind_ok (number_at 2 bytes) (λ count. items_at size count.0 count.1) x e in
+    let first = number_takes 2 bytes a.0 fits a.1 in
+    let second = items_take size a.0.0 a.0.1 x first.0.rest_fits a.2 in
+    let both = Takes-then bytes (big_bytes 2 a.0.0) a.0.1 (concat x.0) x.1 first.0 second.0 in
+    (subst (λ (n : ℕ). Takes bytes (big_bytes 2 n ++ concat x.0) x.1) (sym second.1) both, omega (arith, second.1, first.1), second.2)
+
 field_takes : (k : Kind) (bytes : List ℕ) (x : Value × List ℕ) → IsBytes bytes → field_at k bytes ≡ Ok x → Takes bytes (value_bytes k x.0) x.1 × IsOf k x.0
 field_takes (Number size) bytes x fits e =
     let a = bind_ok (number_at size bytes) (λ n. Ok (Num n.0, n.1)) x e in
@@ -75,6 +98,10 @@ field_takes (Fixed size) bytes x fits e =
 field_takes Sized bytes x fits e =
     let a = bind_ok (string_at bytes) (λ s. Ok (Str s.0, s.1)) x e in
     subst (λ (y : Value × List ℕ). Takes bytes (value_bytes Sized y.0) y.1 × IsOf Sized y.0) (ok_is (Str a.0.0, a.0.1) x a.2) (string_takes bytes a.0 fits a.1)
+field_takes (Listed size) bytes x fits e =
+    let a = bind_ok (list_at size bytes) (λ l. Ok (Many l.0, l.1)) x e in
+    let taken = list_takes size bytes a.0 fits a.1 in
+    subst (λ (y : Value × List ℕ). Takes bytes (value_bytes (Listed size) y.0) y.1 × IsOf (Listed size) y.0) (ok_is (Many a.0.0, a.0.1) x a.2) (taken.0, (taken.1, taken.2))
 
 fields_take : (ks : List Kind) (bytes : List ℕ) (x : List Value × List ℕ) → IsBytes bytes → fields_at ks bytes ≡ Ok x → Takes bytes (fields_bytes ks x.0) x.1 × AreOf ks x.0
 fields_take [] bytes x fits e =
@@ -106,9 +133,30 @@ string_again bytes rest below =
     ap (λ (l : List ℕ). number_at 2 l >>= λ len. bytes_at len.0 len.1) (append_assoc (big_bytes 2 (length bytes)) bytes rest)
     ∙ ap (λ (r : Result (ℕ × List ℕ) Fault). r >>= λ len. bytes_at len.0 len.1) (number_again 2 (length bytes) (bytes ++ rest) (omega arith)) ∙ bytes_again bytes rest
 
+items_again : (size : ℕ) (items : List (List ℕ)) (rest : List ℕ) → AllByRecursion (λ item. length item ≡ size) items → items_at size (length items) (concat items ++ rest) ≡ Ok (items, rest)
+unfolding items_at
+items_again size [] rest is = refl
+items_again size (item ∷ items) rest is =
+    let whole : bytes_at size (item ++ (concat items ++ rest)) ≡ Ok (item, concat items ++ rest) = subst (λ (n : ℕ). bytes_at n (item ++ (concat items ++ rest)) ≡ Ok (item, concat items ++ rest)) is.0 (bytes_again item (concat items ++ rest)) in
+    ap (items_at size (suc (length items))) (append_assoc item (concat items) rest)
+    ∙ ap (λ (r : Result (List ℕ × List ℕ) Fault). r >>= λ first. items_at size (length items) first.1 >>= λ others. Ok (first.0 ∷ others.0, others.1)) whole
+    ∙ ap (λ (r : Result (List (List ℕ) × List ℕ) Fault). r >>= λ others. Ok (item ∷ others.0, others.1)) (items_again size items rest is.1)
+
+list_again : (size : ℕ) (items : List (List ℕ)) (rest : List ℕ) → length items < 65536 → AllByRecursion (λ item. length item ≡ size) items → list_at size ((big_bytes 2 (length items) ++ concat items) ++ rest) ≡ Ok (items, rest)
+unfolding list_at
+list_again size items rest below is =
+    ap (λ (l : List ℕ). number_at 2 l >>= λ count. items_at size count.0 count.1) (append_assoc (big_bytes 2 (length items)) (concat items) rest)
+    ∙ ap (λ (r : Result (ℕ × List ℕ) Fault). r >>= λ count. items_at size count.0 count.1) (number_again 2 (length items) (concat items ++ rest) (omega arith)) ∙ items_again size items rest is
+
 field_again : (k : Kind) (v : Value) (rest : List ℕ) → IsOf k v → field_at k (value_bytes k v ++ rest) ≡ Ok (v, rest)
 field_again (Number size) (Num n) rest is = ap (λ (r : Result (ℕ × List ℕ) Fault). r >>= λ n. Ok (Num n.0, n.1)) (number_again size n rest is)
 field_again (Number size) (Str bytes) rest is = absurd is
+field_again (Number size) (Many items) rest is = absurd is
+field_again (Fixed size) (Many items) rest is = absurd is
+field_again Sized (Many items) rest is = absurd is
+field_again (Listed size) (Num n) rest is = absurd is
+field_again (Listed size) (Str bytes) rest is = absurd is
+field_again (Listed size) (Many items) rest is = ap (λ (r : Result (List (List ℕ) × List ℕ) Fault). r >>= λ l. Ok (Many l.0, l.1)) (list_again size items rest is.0 is.1)
 field_again (Fixed size) (Num n) rest is = absurd is
 field_again (Fixed size) (Str bytes) rest is =
     let whole : bytes_at size (bytes ++ rest) ≡ Ok (bytes, rest) = subst (λ (n : ℕ). bytes_at n (bytes ++ rest) ≡ Ok (bytes, rest)) is (bytes_again bytes rest) in
@@ -127,7 +175,7 @@ fields_again (k ∷ ks) (v ∷ vs) rest is =
 
 -- ---- messages
 
-ends : {A : Type 0} (b : Bool) (d : Fault) (r : Result A Fault) (y : A) → cond b r (Err d) ≡ Ok y → (b ≡ true) × (r ≡ Ok y)
+pub ends : {A : Type 0} (b : Bool) (d : Fault) (r : Result A Fault) (y : A) → cond b r (Err d) ≡ Ok y → (b ≡ true) × (r ≡ Ok y)
 ends true d r y e = (refl, e)
 ends false d r y e = absurd cc
 

@@ -4,3 +4,4 @@ pub mod Progress
 pub mod Faults
 pub mod OneHearing
 pub mod Grammar
+pub mod Items

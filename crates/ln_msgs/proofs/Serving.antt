@@ -1,5 +1,5 @@
 -- How the frames that were served add up.
-use Rattle.std.proofs.Common.{◌≡◌, ◌≢◌, ℕ, ◌+◌, ◌-◌, ◌^◌, ◌<◌, List, length, drop, [], ◌∷◌, ◌++◌, Option, Some, None, Result, Ok, Err, refl, sym, ap, subst, ◌∙◌, arith, append_assoc, append-nil, add-zero, length-append}
+use Rattle.std.proofs.Common.{◌≡◌, ◌≢◌, ℕ, ◌+◌, ◌-◌, ◌^◌, ◌<◌, List, length, drop, [], ◌∷◌, ◌++◌, Option, Some, None, Bool, true, false, cond, ◌==◌, Result, Ok, Err, refl, sym, ap, subst, ◌∙◌, arith, append_assoc, append-nil, add-zero, length-append}
 use Rattle.std.proofs.lemmas.List.{drop_at}
 use Rattle.std.specs.List.{flat_map}
 use Rattle.std.proofs.lemmas.List.Concat.{flat_map-cons, flat_map-append}
@@ -7,9 +7,16 @@ use Rattle.ln_bytes.specs.Reading.{◌>>=◌}
 use Rattle.ln_bytes.specs.declared.fault.Fault.{Fault}
 use Rattle.ln_bytes.specs.declared.fault.Fault.TheVariants.{Memory, Io}
 use Rattle.ln_msgs.proofs.Faults.{no_failed_call}
-use Rattle.ln_msgs.specs.Message.{Heard, message_at}
+use Rattle.std.proofs.lemmas.Bool.Decides.{nat_tests}
+use Rattle.ln_bytes.specs.Tlv.{stream_at}
+use Rattle.ln_bytes.specs.declared.fault.Fault.TheVariants.{FieldLength, UnknownEvenType}
+use Rattle.ln_bytes.proofs.Reading.{bind_ok, ok_is}
+use Rattle.ln_msgs.specs.Field.{fields_at}
+use Rattle.ln_msgs.specs.Table.{Form}
+use Rattle.ln_msgs.specs.Message.{Heard, Known, Ignored, formed_at, payload_at, have_lengths, may_be_ignored, message_at}
+use Rattle.ln_msgs.proofs.Grammar.{ends}
 use Rattle.ln_msgs.specs.Frame.{frame, HasFrame, Hears, IsFaulty}
-use Rattle.ln_msgs.specs.Answer.{owed, owed_at, paid, reply, replies, one_if_owed, pongs, told}
+use Rattle.ln_msgs.specs.Answer.{owed, asked, owed_at, paid, reply, replies, one_if_owed, pongs, told}
 use Rattle.ln_msgs.specs.Outgoing.{Waiting}
 use Rattle.ln_msgs.specs.Served.{Serves}
 
@@ -36,6 +43,30 @@ pub no_call_failed : (message : List ℕ) (f : Fault) → (f ≢ Memory → owed
 no_call_failed message f is e =
     let ours : f ≢ Memory = λ m. absurd cc in
     no_failed_call message (faulty_from message f (is ours) ∙ ap Err e)
+
+no_pong : (b : Bool) (o : Option ℕ) → b ≡ false → cond b o None ≡ None
+no_pong true o e = absurd cc
+no_pong false o e = refl
+
+formed_asks : (form : Form) (typ : ℕ) (bytes : List ℕ) (h : Heard) → typ ≢ 18 → formed_at form typ bytes ≡ Ok h → owed h ≡ None
+unfolding formed_at
+formed_asks form typ bytes h other e =
+    let a = bind_ok (fields_at form.fields bytes) (λ values. stream_at form.known_even values.1 >>= λ records. cond (have_lengths form.lengths records) (Ok (Known (record { typ = typ; values = values.0; records = records }))) (Err FieldLength)) h e in
+    let b = bind_ok (stream_at form.known_even a.0.1) (λ records. cond (have_lengths form.lengths records) (Ok (Known (record { typ = typ; values = a.0.0; records = records }))) (Err FieldLength)) h a.2 in
+    let made : Heard = Known (record { typ = typ; values = a.0.0; records = b.0 }) in
+    let c = ends (have_lengths form.lengths b.0) FieldLength (Ok made) h b.2 in
+    subst (λ (x : Heard). owed x ≡ None) (ok_is made h c.1) (no_pong (typ == 18) (asked a.0.0) (grind (arith, nat_tests)))
+
+-- a message of another type than ping asks for nothing
+asks_none : (form : Option Form) (typ : ℕ) (bytes : List ℕ) (h : Heard) → typ ≢ 18 → payload_at form typ bytes ≡ Ok h → owed h ≡ None
+asks_none (Some form) typ bytes h other e = formed_asks form typ bytes h other e
+asks_none None typ bytes h other e =
+    let c = ends (may_be_ignored typ) UnknownEvenType (Ok (Ignored typ)) h e in
+    subst (λ (x : Heard). owed x ≡ None) (ok_is (Ignored typ) h c.1) refl
+
+pub asks_nothing : (form : Option Form) (typ : ℕ) (bytes : List ℕ) (h : Heard) → typ ≢ 18 → payload_at form typ bytes ≡ Ok h → (payload_at form typ bytes >>= λ heard. Ok (owed heard)) ≡ Ok None
+asks_nothing form typ bytes h other e =
+    ap (λ (r : Result Heard Fault). r >>= λ heard. Ok (owed heard)) e ∙ ap (λ (o : Option ℕ). Ok o) (asks_none form typ bytes h other e)
 
 -- one more whole frame
 pub hears_more : (hs : List Heard) (front message : List ℕ) (h : Heard) → Hears hs front → length message < 65536 → message_at message ≡ Ok h → Hears (hs ++ h ∷ []) (front ++ frame message)

@@ -3,8 +3,9 @@ use Rattle.std.specs.Prelude.{ℕ, ◌+◌, ◌-◌, ◌^◌, min, List, [], ◌
 use Rattle.ln_bytes.specs.Reading.{◌>>=◌}
 use Rattle.ln_bytes.specs.declared.fault.Fault.{Fault}
 use Rattle.std.specs.List.{flat_map}
-use Rattle.ln_msgs.specs.Field.{Value, Num, Str}
-use Rattle.ln_msgs.specs.Message.{Form, Wire, wire_bytes, formed_at, message_at, Heard, Known, Ignored}
+use Rattle.ln_msgs.specs.Field.{Value, Num, Str, Many}
+use Rattle.ln_msgs.specs.Table.{Form, form_of}
+use Rattle.ln_msgs.specs.Message.{Wire, wire_bytes, formed_at, payload_at, message_at, Heard, Known, Ignored}
 use Rattle.ln_msgs.specs.Frame.{frame}
 
 -- how many bytes of pong a ping's fields ask for: from 65,532 on, no pong is owed
@@ -12,6 +13,7 @@ abbrev pub asked : List Value → Option ℕ
 asked [] = None
 asked (Num n ∷ vs) = if nat_lt n 65532 then Some n else None
 asked (Str bytes ∷ vs) = None
+asked (Many items ∷ vs) = None
 
 -- the same for any message
 abbrev pub owed : Heard → Option ℕ
@@ -21,6 +23,9 @@ owed (Ignored typ) = None
 -- what the bytes behind a known type ask for, or their first fault
 abbrev pub asked_at : Form → ℕ → List ℕ → Result (Option ℕ) Fault
 asked_at form typ payload = formed_at form typ payload >>= λ heard. Ok (owed heard)
+
+abbrev pub other_asked_at : ℕ → List ℕ → Result (Option ℕ) Fault
+other_asked_at typ payload = payload_at (form_of typ) typ payload >>= λ heard. Ok (owed heard)
 
 -- what a message's bytes ask for, or their first fault
 unfoldable pub owed_at : List ℕ → Result (Option ℕ) Fault

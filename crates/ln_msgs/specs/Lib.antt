@@ -1,4 +1,5 @@
 pub mod Field
+pub mod Table
 pub mod Message
 pub mod Frame
 pub mod Answer

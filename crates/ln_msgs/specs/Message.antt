@@ -8,28 +8,8 @@ use Rattle.ln_bytes.specs.Tlv.{stream_at, stream_bytes, MayStand, AreFit}
 use Rattle.ln_bytes.specs.declared.fault.Fault.{Fault}
 use Rattle.ln_bytes.specs.declared.fault.Fault.TheVariants.{TooLong, UnknownEvenType, FieldLength}
 use Rattle.ln_bytes.specs.declared.record.Record.{Record}
-use Rattle.ln_msgs.specs.Field.{Kind, Number, Sized, Value, AreOf, fields_at, fields_bytes, number_at}
-
--- ---- the table of messages
-
--- what a type of message has: its fields in order, the even types of record that it may carry, and the
--- types of record whose value has one length, with that length
-pub record Form : Type 0 where
-  pub fields : List Kind
-  pub known_even : List ℕ
-  pub lengths : List (ℕ × ℕ)
-
--- ping: num_pong_bytes, ignored
-abbrev pub ping_form : Form
-ping_form = record { fields = Number 2 ∷ Sized ∷ []; known_even = []; lengths = [] }
-
--- pong: ignored
-abbrev pub pong_form : Form
-pong_form = record { fields = Sized ∷ []; known_even = []; lengths = [] }
-
--- the form of a type, where it is known
-abbrev pub form_of : ℕ → Option Form
-form_of typ = if typ == 18 then Some ping_form else (if typ == 19 then Some pong_form else None)
+use Rattle.ln_msgs.specs.Field.{Value, AreOf, fields_at, fields_bytes, number_at}
+use Rattle.ln_msgs.specs.Table.{Form, form_of}
 
 -- an odd type that isn't known may be passed over; so are the types 256 to 265, which tell of other
 -- channels

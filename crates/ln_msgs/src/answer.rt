@@ -2,14 +2,15 @@
 
 ghost use Rattle.std.specs.Prelude.{◌≡◌, ◌≢◌, ◌^◌, ◌<◌, ◌≤◌, ◌⊎◌, length, drop, IfOk, IfSome, IfErr, IsErrOf};
 ghost use Rattle.ln_bytes.specs.Reading.{Gives};
-ghost use Rattle.ln_msgs.specs.Answer.{owed_at, asked_at};
-ghost use Rattle.ln_msgs.specs.Message.{ping_form, pong_form};
+ghost use Rattle.ln_msgs.specs.Answer.{owed_at, asked_at, other_asked_at};
+ghost use Rattle.ln_msgs.specs.Table.{ping_form, pong_form};
 ghost use Rattle.ln_msgs.specs.Served.{Serves, StopsAt};
 ghost use Rattle.ln_msgs.specs.Answered.{AnswersAll, AnswersUpTo, AnswersSome};
 ghost use Rattle.ln_msgs.specs.Counted.{HasRisen};
 ghost use Rattle.ln_msgs.specs.CountedView.{inner_of, failures_of};
 
 use crate::counted::Counted;
+use crate::decoding::read_payload;
 use crate::field::{sized_at, u16_at};
 use crate::frame::next_frame;
 use crate::outgoing::Outgoing;
@@ -117,10 +118,18 @@ fn pong_owed(alloc: Global, message: &[u8]) -> Result<Option<u16>, Fault>
     match typ {
         18 => ping_asks(alloc, payload),
         19 => pong_asks(alloc, payload),
-        256..=265 => Ok(None),
-        _ if typ % 2 == 1 => Ok(None),
-        _ => Err(Fault::UnknownEvenType),
+        _ => other_asks(alloc, typ, payload),
     }
+}
+
+/// A message of another type asks for nothing.
+fn other_asks(alloc: Global, typ: u16, payload: &[u8]) -> Result<Option<u16>, Fault>
+    requires { typ ≢ 18 }
+    ensures gives { Gives (λ o. o) result (other_asked_at typ payload.now) }
+    ensures small { IfOk result (λ o. IfSome o (λ n. n < 65532)) }
+{
+    let _message = read_payload(alloc, typ, payload)?;
+    Ok(None)
 }
 
 #[tactic(auto, unfolding(crate::specs::Message::formed_at))]

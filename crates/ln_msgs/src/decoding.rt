@@ -2,13 +2,18 @@
 
 ghost use Rattle.std.specs.Prelude.{◌≡◌, ◌≢◌, ◌<◌, length, IfOk, IfErr, Ok};
 ghost use Rattle.ln_bytes.specs.Reading.{Gives};
-ghost use Rattle.ln_msgs.specs.Message.{Heard, Known, Says, ping_form, pong_form, formed_at, payload_at, form_of, message_at};
-ghost use Rattle.ln_msgs.specs.Typed.{ping_wire, pong_wire, wire, heard};
+ghost use Rattle.ln_msgs.specs.Table.{form_of};
+ghost use Rattle.ln_msgs.specs.Message.{Heard, Says, payload_at, message_at};
+ghost use Rattle.ln_msgs.specs.Typed.{heard};
 
-use crate::field::{sized_at, u16_at};
-use crate::message::{Incoming, Message, Ping, Pong};
-use crate::records::Records;
-use ln_bytes::{Bytes, Fault, read_tlvs};
+use crate::field::u16_at;
+use crate::closing::{read_closing_signed, read_shutdown};
+use crate::commitments::{read_channel_reestablish, read_commitment_signed, read_revoke_and_ack};
+use crate::opening::{read_accept_channel, read_channel_ready, read_funding_created, read_funding_signed, read_open_channel};
+use crate::setup::{read_error, read_init, read_ping, read_pong, read_warning};
+use crate::updates::{read_update_add_htlc, read_update_fail_htlc, read_update_fail_malformed_htlc, read_update_fee, read_update_fulfill_htlc};
+use crate::message::{Incoming, Message};
+use ln_bytes::Fault;
 use std::alloc::Global;
 
 /// What the bytes of a message say (BOLT 1, "Lightning Message Format"): a type in two bytes, the highest
@@ -41,36 +46,37 @@ fn read_message(alloc: Global, bytes: &[u8]) -> Result<Incoming, Fault>
         return Err(Fault::TooLong);
     }
     let (typ, payload) = u16_at(bytes)?;
-    match typ {
-        18 => Ok(Incoming::Known(Message::Ping(ping(alloc, payload)?))),
-        19 => Ok(Incoming::Known(Message::Pong(pong(alloc, payload)?))),
-        256..=265 => Ok(Incoming::Ignored(typ)),
-        _ if typ % 2 == 1 => Ok(Incoming::Ignored(typ)),
-        _ => Err(Fault::UnknownEvenType),
-    }
+    read_payload(alloc, typ, payload)
 }
 
-#[tactic(auto, unfolding(crate::specs::Message::formed_at))]
-fn ping(alloc: Global, payload: &[u8]) -> Result<Ping, Fault>
-    ensures { Gives (λ m. Known (ping_wire m)) result (formed_at ping_form 18 payload.now) }
+/// What the bytes behind a type say.
+pub(crate) fn read_payload(alloc: Global, typ: u16, payload: &[u8]) -> Result<Incoming, Fault>
+    ensures { Gives heard result (payload_at (form_of typ) typ payload.now) }
 {
-    let (num_pong_bytes, rest) = u16_at(payload)?;
-    let (ignored, rest) = sized_at(rest)?;
-    let ignored = Bytes::new(Vec::from_slice(alloc, ignored)?);
-    let records = Records::new(read_tlvs(alloc, rest, &[])?);
-    Ok(Ping {
-        num_pong_bytes,
-        ignored,
-        records,
-    })
-}
-
-#[tactic(auto, unfolding(crate::specs::Message::formed_at))]
-fn pong(alloc: Global, payload: &[u8]) -> Result<Pong, Fault>
-    ensures { Gives (λ m. Known (pong_wire m)) result (formed_at pong_form 19 payload.now) }
-{
-    let (ignored, rest) = sized_at(payload)?;
-    let ignored = Bytes::new(Vec::from_slice(alloc, ignored)?);
-    let records = Records::new(read_tlvs(alloc, rest, &[])?);
-    Ok(Pong { ignored, records })
+    let message = match typ {
+        1 => Message::Warning(read_warning(alloc, payload)?),
+        16 => Message::Init(read_init(alloc, payload)?),
+        17 => Message::Error(read_error(alloc, payload)?),
+        18 => Message::Ping(read_ping(alloc, payload)?),
+        19 => Message::Pong(read_pong(alloc, payload)?),
+        32 => Message::OpenChannel(read_open_channel(alloc, payload)?),
+        33 => Message::AcceptChannel(read_accept_channel(alloc, payload)?),
+        34 => Message::FundingCreated(read_funding_created(alloc, payload)?),
+        35 => Message::FundingSigned(read_funding_signed(alloc, payload)?),
+        36 => Message::ChannelReady(read_channel_ready(alloc, payload)?),
+        38 => Message::Shutdown(read_shutdown(alloc, payload)?),
+        39 => Message::ClosingSigned(read_closing_signed(alloc, payload)?),
+        128 => Message::UpdateAddHtlc(read_update_add_htlc(alloc, payload)?),
+        130 => Message::UpdateFulfillHtlc(read_update_fulfill_htlc(alloc, payload)?),
+        131 => Message::UpdateFailHtlc(read_update_fail_htlc(alloc, payload)?),
+        132 => Message::CommitmentSigned(read_commitment_signed(alloc, payload)?),
+        133 => Message::RevokeAndAck(read_revoke_and_ack(alloc, payload)?),
+        134 => Message::UpdateFee(read_update_fee(alloc, payload)?),
+        135 => Message::UpdateFailMalformedHtlc(read_update_fail_malformed_htlc(alloc, payload)?),
+        136 => Message::ChannelReestablish(read_channel_reestablish(alloc, payload)?),
+        256..=265 => return Ok(Incoming::Ignored(typ)),
+        _ if typ % 2 == 1 => return Ok(Incoming::Ignored(typ)),
+        _ => return Err(Fault::UnknownEvenType),
+    };
+    Ok(Incoming::Known(message))
 }

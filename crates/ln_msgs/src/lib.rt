@@ -3,21 +3,33 @@
 #![tactic(auto)]
 
 mod answer;
+mod closing;
+mod commitments;
 mod counted;
 mod decoding;
 mod field;
 mod frame;
 mod message;
+mod opening;
 mod outgoing;
 mod records;
 mod refusal;
+mod setup;
+mod signatures;
+mod updates;
 mod window;
 
 pub use answer::answer_pings;
 pub use counted::Counted;
 pub use decoding::decode;
 pub use frame::one_hearing;
-pub use message::{Incoming, Message, Ping, Pong};
+pub use closing::{ClosingSigned, Shutdown};
+pub use commitments::{ChannelReestablish, CommitmentSigned, RevokeAndAck};
+pub use message::{Incoming, Message};
+pub use opening::{AcceptChannel, ChannelReady, FundingCreated, FundingSigned, OpenChannel};
+pub use setup::{Error, Init, Ping, Pong, Warning};
+pub use signatures::Signatures;
+pub use updates::{UpdateAddHtlc, UpdateFailHtlc, UpdateFailMalformedHtlc, UpdateFee, UpdateFulfillHtlc};
 pub use records::Records;
 pub use refusal::Refusal;
 

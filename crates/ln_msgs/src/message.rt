@@ -1,36 +1,55 @@
 //! Messages, a variant for each type that is known.
 
-use crate::records::Records;
-use ln_bytes::Bytes;
+use crate::setup::{Warning, Init, Error, Ping, Pong};
+use crate::opening::{OpenChannel, AcceptChannel, FundingCreated, FundingSigned, ChannelReady};
+use crate::closing::{Shutdown, ClosingSigned};
+use crate::updates::{UpdateAddHtlc, UpdateFulfillHtlc, UpdateFailHtlc, UpdateFailMalformedHtlc, UpdateFee};
+use crate::commitments::{CommitmentSigned, RevokeAndAck, ChannelReestablish};
 
 /// A message of a known type (BOLT 1, "Lightning Message Format"). Behind its fields each carries the records
 /// of its TLV stream, also those of odd types that nobody knows.
 #[derive(Debug, Drop)]
 pub enum Message {
+    /// Type 1.
+    Warning(Warning),
+    /// Type 16.
+    Init(Init),
+    /// Type 17.
+    Error(Error),
     /// Type 18.
     Ping(Ping),
     /// Type 19.
     Pong(Pong),
-}
-
-/// Asks for a pong, to see that the connection stands (BOLT 1, "The `ping` and `pong` Messages").
-#[derive(Debug, Drop)]
-pub struct Ping {
-    /// How many bytes the pong is to carry; from 65,532 on no pong is wanted.
-    pub num_pong_bytes: u16,
-    /// Bytes that mean nothing.
-    pub ignored: Bytes,
-    /// The records behind the fields.
-    pub records: Records,
-}
-
-/// Answers a ping.
-#[derive(Debug, Drop)]
-pub struct Pong {
-    /// Bytes that mean nothing, as many as the ping asked for.
-    pub ignored: Bytes,
-    /// The records behind the fields.
-    pub records: Records,
+    /// Type 32.
+    OpenChannel(OpenChannel),
+    /// Type 33.
+    AcceptChannel(AcceptChannel),
+    /// Type 34.
+    FundingCreated(FundingCreated),
+    /// Type 35.
+    FundingSigned(FundingSigned),
+    /// Type 36.
+    ChannelReady(ChannelReady),
+    /// Type 38.
+    Shutdown(Shutdown),
+    /// Type 39.
+    ClosingSigned(ClosingSigned),
+    /// Type 128.
+    UpdateAddHtlc(UpdateAddHtlc),
+    /// Type 130.
+    UpdateFulfillHtlc(UpdateFulfillHtlc),
+    /// Type 131.
+    UpdateFailHtlc(UpdateFailHtlc),
+    /// Type 132.
+    CommitmentSigned(CommitmentSigned),
+    /// Type 133.
+    RevokeAndAck(RevokeAndAck),
+    /// Type 134.
+    UpdateFee(UpdateFee),
+    /// Type 135.
+    UpdateFailMalformedHtlc(UpdateFailMalformedHtlc),
+    /// Type 136.
+    ChannelReestablish(ChannelReestablish),
 }
 
 /// What a message's bytes are.

@@ -1,6 +1,12 @@
 //! The records behind the fields of a message.
 
-use ln_bytes::Record;
+ghost use Rattle.std.specs.Prelude.{◌≡◌};
+ghost use Rattle.std.specs.List.{list_all};
+ghost use Rattle.ln_bytes.specs.Reading.{Gives};
+ghost use Rattle.ln_bytes.specs.Tlv.{stream_at};
+ghost use Rattle.ln_msgs.specs.Message.{has_length};
+
+use ln_bytes::{Fault, Record, read_tlvs};
 use std::alloc::Global;
 use std::marker::Model;
 
@@ -53,4 +59,18 @@ impl Records {
     {
         self.items.as_slice()
     }
+}
+
+/// The records of a TLV stream that goes to the end of the bytes; the faults are those of `read_tlvs`.
+pub(crate) fn records_at(alloc: Global, bytes: &[u8], known_even: &[u64]) -> Result<Records, Fault>
+    ensures { Gives (λ r. r) result (stream_at known_even.now bytes.now) }
+{
+    Ok(Records::new(read_tlvs(alloc, bytes, known_even)?))
+}
+
+/// Whether each record of this type has a value of this length.
+pub(crate) fn have_length(records: &[Record], typ: u64, len: usize) -> bool
+    ensures { result ≡ list_all (has_length (typ, len)) records.now }
+{
+    records.iter().all(|record| record.typ != typ || record.value.len() == len)
 }

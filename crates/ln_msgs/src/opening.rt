@@ -1,0 +1,260 @@
+//! Messages that open a channel.
+
+use crate::field::{array_at, u16_at, u32_at, u64_at, u8_at};
+use crate::records::{Records, have_length, records_at};
+use ln_bytes::{Fault};
+use std::alloc::Global;
+
+/// Asks the other side to open a channel that the sender funds (BOLT 2, "The `open_channel` Message").
+#[derive(Debug, Drop)]
+pub struct OpenChannel {
+    /// The chain, by the hash of its first block.
+    pub chain_hash: [u8; 32],
+    /// The id of the channel until its funding is known.
+    pub temporary_id: [u8; 32],
+    /// What the sender puts in, in satoshis.
+    pub funding_satoshis: u64,
+    /// What of that is the receiver's at once, in msat.
+    pub push_msat: u64,
+    /// Below this the sender has no output of its own, in satoshis.
+    pub dust_limit_satoshis: u64,
+    /// The sum of all HTLCs offered to the sender at most, in msat.
+    pub max_htlc_value_in_flight_msat: u64,
+    /// What the receiver keeps of its own, in satoshis.
+    pub channel_reserve_satoshis: u64,
+    /// The least HTLC that the sender takes, in msat.
+    pub htlc_minimum_msat: u64,
+    /// Satoshis for 1000 units of weight.
+    pub feerate_per_kw: u32,
+    /// Blocks that the receiver's own outputs wait.
+    pub to_self_delay: u16,
+    /// How many HTLCs may be offered to the sender at once.
+    pub max_accepted_htlcs: u16,
+    /// A point.
+    pub funding_pubkey: [u8; 33],
+    /// A point.
+    pub revocation_basepoint: [u8; 33],
+    /// A point.
+    pub payment_basepoint: [u8; 33],
+    /// A point.
+    pub delayed_payment_basepoint: [u8; 33],
+    /// A point.
+    pub htlc_basepoint: [u8; 33],
+    /// The point of commitment 0.
+    pub first_per_commitment_point: [u8; 33],
+    /// Flags; bit 0 announces the channel.
+    pub channel_flags: u8,
+    /// The records behind the fields.
+    pub records: Records,
+}
+
+/// Agrees to open a channel (BOLT 2, "The `accept_channel` Message").
+#[derive(Debug, Drop)]
+pub struct AcceptChannel {
+    /// The id of the channel until its funding is known.
+    pub temporary_id: [u8; 32],
+    /// Below this the sender has no output of its own, in satoshis.
+    pub dust_limit_satoshis: u64,
+    /// The sum of all HTLCs offered to the sender at most, in msat.
+    pub max_htlc_value_in_flight_msat: u64,
+    /// What the receiver keeps of its own, in satoshis.
+    pub channel_reserve_satoshis: u64,
+    /// The least HTLC that the sender takes, in msat.
+    pub htlc_minimum_msat: u64,
+    /// Blocks before the channel is ready.
+    pub minimum_depth: u32,
+    /// Blocks that the receiver's own outputs wait.
+    pub to_self_delay: u16,
+    /// How many HTLCs may be offered to the sender at once.
+    pub max_accepted_htlcs: u16,
+    /// A point.
+    pub funding_pubkey: [u8; 33],
+    /// A point.
+    pub revocation_basepoint: [u8; 33],
+    /// A point.
+    pub payment_basepoint: [u8; 33],
+    /// A point.
+    pub delayed_payment_basepoint: [u8; 33],
+    /// A point.
+    pub htlc_basepoint: [u8; 33],
+    /// The point of commitment 0.
+    pub first_per_commitment_point: [u8; 33],
+    /// The records behind the fields.
+    pub records: Records,
+}
+
+/// Names the funding output, and signs the fundee's first commitment (BOLT 2, "The `funding_created`
+/// Message").
+#[derive(Debug, Drop)]
+pub struct FundingCreated {
+    /// The id of the channel until its funding is known.
+    pub temporary_id: [u8; 32],
+    /// The funding transaction's id.
+    pub funding_txid: [u8; 32],
+    /// Its output that funds the channel.
+    pub output_index: u16,
+    /// A signature, 64 bytes.
+    pub signature: [u8; 64],
+    /// The records behind the fields.
+    pub records: Records,
+}
+
+/// Signs the funder's first commitment (BOLT 2, "The `funding_signed` Message").
+#[derive(Debug, Drop)]
+pub struct FundingSigned {
+    /// The channel.
+    pub channel_id: [u8; 32],
+    /// A signature, 64 bytes.
+    pub signature: [u8; 64],
+    /// The records behind the fields.
+    pub records: Records,
+}
+
+/// Tells that the funding is deep enough for use (BOLT 2, "The `channel_ready` Message").
+#[derive(Debug, Drop)]
+pub struct ChannelReady {
+    /// The channel.
+    pub channel_id: [u8; 32],
+    /// The point of commitment 1.
+    pub second_point: [u8; 33],
+    /// The records behind the fields.
+    pub records: Records,
+}
+
+ghost use Rattle.ln_bytes.specs.Reading.{Gives};
+ghost use Rattle.ln_msgs.specs.Table.{open_form, accept_form, funding_created_form, funding_signed_form, channel_ready_form};
+ghost use Rattle.ln_msgs.specs.Message.{Known, formed_at};
+ghost use Rattle.ln_msgs.specs.Typed.{open_wire, accept_wire, funding_created_wire, funding_signed_wire, channel_ready_wire};
+
+#[tactic(auto, unfolding(crate::specs::Message::formed_at))]
+pub(crate) fn read_open_channel(alloc: Global, payload: &[u8]) -> Result<OpenChannel, Fault>
+    ensures { Gives (λ m. Known (open_wire m)) result (formed_at open_form 32 payload.now) }
+{
+    let (chain_hash, rest) = array_at(payload)?;
+    let (temporary_id, rest) = array_at(rest)?;
+    let (funding_satoshis, rest) = u64_at(rest)?;
+    let (push_msat, rest) = u64_at(rest)?;
+    let (dust_limit_satoshis, rest) = u64_at(rest)?;
+    let (max_htlc_value_in_flight_msat, rest) = u64_at(rest)?;
+    let (channel_reserve_satoshis, rest) = u64_at(rest)?;
+    let (htlc_minimum_msat, rest) = u64_at(rest)?;
+    let (feerate_per_kw, rest) = u32_at(rest)?;
+    let (to_self_delay, rest) = u16_at(rest)?;
+    let (max_accepted_htlcs, rest) = u16_at(rest)?;
+    let (funding_pubkey, rest) = array_at(rest)?;
+    let (revocation_basepoint, rest) = array_at(rest)?;
+    let (payment_basepoint, rest) = array_at(rest)?;
+    let (delayed_payment_basepoint, rest) = array_at(rest)?;
+    let (htlc_basepoint, rest) = array_at(rest)?;
+    let (first_per_commitment_point, rest) = array_at(rest)?;
+    let (channel_flags, rest) = u8_at(rest)?;
+    let records = records_at(alloc, rest, &[0])?;
+    Ok(OpenChannel {
+        chain_hash,
+        temporary_id,
+        funding_satoshis,
+        push_msat,
+        dust_limit_satoshis,
+        max_htlc_value_in_flight_msat,
+        channel_reserve_satoshis,
+        htlc_minimum_msat,
+        feerate_per_kw,
+        to_self_delay,
+        max_accepted_htlcs,
+        funding_pubkey,
+        revocation_basepoint,
+        payment_basepoint,
+        delayed_payment_basepoint,
+        htlc_basepoint,
+        first_per_commitment_point,
+        channel_flags,
+        records,
+    })
+}
+
+#[tactic(auto, unfolding(crate::specs::Message::formed_at))]
+pub(crate) fn read_accept_channel(alloc: Global, payload: &[u8]) -> Result<AcceptChannel, Fault>
+    ensures { Gives (λ m. Known (accept_wire m)) result (formed_at accept_form 33 payload.now) }
+{
+    let (temporary_id, rest) = array_at(payload)?;
+    let (dust_limit_satoshis, rest) = u64_at(rest)?;
+    let (max_htlc_value_in_flight_msat, rest) = u64_at(rest)?;
+    let (channel_reserve_satoshis, rest) = u64_at(rest)?;
+    let (htlc_minimum_msat, rest) = u64_at(rest)?;
+    let (minimum_depth, rest) = u32_at(rest)?;
+    let (to_self_delay, rest) = u16_at(rest)?;
+    let (max_accepted_htlcs, rest) = u16_at(rest)?;
+    let (funding_pubkey, rest) = array_at(rest)?;
+    let (revocation_basepoint, rest) = array_at(rest)?;
+    let (payment_basepoint, rest) = array_at(rest)?;
+    let (delayed_payment_basepoint, rest) = array_at(rest)?;
+    let (htlc_basepoint, rest) = array_at(rest)?;
+    let (first_per_commitment_point, rest) = array_at(rest)?;
+    let records = records_at(alloc, rest, &[0])?;
+    Ok(AcceptChannel {
+        temporary_id,
+        dust_limit_satoshis,
+        max_htlc_value_in_flight_msat,
+        channel_reserve_satoshis,
+        htlc_minimum_msat,
+        minimum_depth,
+        to_self_delay,
+        max_accepted_htlcs,
+        funding_pubkey,
+        revocation_basepoint,
+        payment_basepoint,
+        delayed_payment_basepoint,
+        htlc_basepoint,
+        first_per_commitment_point,
+        records,
+    })
+}
+
+#[tactic(auto, unfolding(crate::specs::Message::formed_at))]
+pub(crate) fn read_funding_created(alloc: Global, payload: &[u8]) -> Result<FundingCreated, Fault>
+    ensures { Gives (λ m. Known (funding_created_wire m)) result (formed_at funding_created_form 34 payload.now) }
+{
+    let (temporary_id, rest) = array_at(payload)?;
+    let (funding_txid, rest) = array_at(rest)?;
+    let (output_index, rest) = u16_at(rest)?;
+    let (signature, rest) = array_at(rest)?;
+    let records = records_at(alloc, rest, &[])?;
+    Ok(FundingCreated {
+        temporary_id,
+        funding_txid,
+        output_index,
+        signature,
+        records,
+    })
+}
+
+#[tactic(auto, unfolding(crate::specs::Message::formed_at))]
+pub(crate) fn read_funding_signed(alloc: Global, payload: &[u8]) -> Result<FundingSigned, Fault>
+    ensures { Gives (λ m. Known (funding_signed_wire m)) result (formed_at funding_signed_form 35 payload.now) }
+{
+    let (channel_id, rest) = array_at(payload)?;
+    let (signature, rest) = array_at(rest)?;
+    let records = records_at(alloc, rest, &[])?;
+    Ok(FundingSigned {
+        channel_id,
+        signature,
+        records,
+    })
+}
+
+#[tactic(auto, unfolding(crate::specs::Message::formed_at))]
+pub(crate) fn read_channel_ready(alloc: Global, payload: &[u8]) -> Result<ChannelReady, Fault>
+    ensures { Gives (λ m. Known (channel_ready_wire m)) result (formed_at channel_ready_form 36 payload.now) }
+{
+    let (channel_id, rest) = array_at(payload)?;
+    let (second_point, rest) = array_at(rest)?;
+    let records = records_at(alloc, rest, &[])?;
+    if !have_length(records.as_slice(), 1, 8) {
+        return Err(Fault::FieldLength);
+    }
+    Ok(ChannelReady {
+        channel_id,
+        second_point,
+        records,
+    })
+}
