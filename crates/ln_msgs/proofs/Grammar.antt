@@ -189,9 +189,12 @@ formed_takes form typ bytes h fits below is e =
     let first = fields_take form.fields bytes a.0 fits a.1 in
     let second = stream_takes form.known_even a.0.1 b.0 first.0.rest_fits b.1 in
     let parts : bytes ≡ fields_bytes form.fields a.0.0 ++ stream_bytes b.0 = first.0.parts ∙ ap (λ l. fields_bytes form.fields a.0.0 ++ l) second.bytes_are in
-    subst (λ (x : Heard). Says x (big_bytes 2 typ ++ bytes)) (ok_is made h c.1)
-    (form, is, record { typ = below; values = first.1; stand = second.stand; fit = second.fit; lengths = c.0 },
-      ap (λ l. big_bytes 2 typ ++ l) parts ∙ sym (append_assoc (big_bytes 2 typ) (fields_bytes form.fields a.0.0) (stream_bytes b.0)))
+    subst (λ (x : Heard). Says x (big_bytes 2 typ ++ bytes)) (ok_is made h c.1) (
+      form,
+      is,
+      record { typ = below; values = first.1; stand = second.stand; fit = second.fit; lengths = c.0 },
+      ap (λ l. big_bytes 2 typ ++ l) parts ∙ sym (append_assoc (big_bytes 2 typ) (fields_bytes form.fields a.0.0) (stream_bytes b.0)),
+    )
 
 payload_takes : (form : Option Form) (typ : ℕ) (bytes : List ℕ) (h : Heard) → IsBytes bytes → typ < 65536 → form_of typ ≡ form → payload_at form typ bytes ≡ Ok h → Says h (big_bytes 2 typ ++ bytes)
 payload_takes (Some form) typ bytes h fits below is e = formed_takes form typ bytes h fits below is e

@@ -14,7 +14,6 @@ pub record Form : Type 0 where
 abbrev pub plain : List Kind → Form
 plain fields = record { fields = fields; known_even = []; lengths = [] }
 
-
 -- 1 warning: channel_id, bytes
 abbrev pub warning_form : Form
 warning_form = plain (Fixed 32 ∷ Sized ∷ [])

@@ -3,7 +3,7 @@
 use crate::field::{array_at, signatures_at, u64_at};
 use crate::records::{Records, records_at};
 use crate::signatures::Signatures;
-use ln_bytes::{Fault};
+use ln_bytes::Fault;
 use std::alloc::Global;
 
 /// Signs the other side's next commitment (BOLT 2, "Committing Updates So Far: `commitment_signed`").
@@ -56,7 +56,10 @@ ghost use Rattle.ln_msgs.specs.Message.{Known, formed_at};
 ghost use Rattle.ln_msgs.specs.Typed.{commitment_signed_wire, revoke_and_ack_wire, channel_reestablish_wire};
 
 #[tactic(auto, unfolding(crate::specs::Message::formed_at))]
-pub(crate) fn read_commitment_signed(alloc: Global, payload: &[u8]) -> Result<CommitmentSigned, Fault>
+pub(crate) fn read_commitment_signed(
+    alloc: Global,
+    payload: &[u8],
+) -> Result<CommitmentSigned, Fault>
     ensures { Gives (λ m. Known (commitment_signed_wire m)) result (formed_at commitment_signed_form 132 payload.now) }
 {
     let (channel_id, rest) = array_at(payload)?;
@@ -88,7 +91,10 @@ pub(crate) fn read_revoke_and_ack(alloc: Global, payload: &[u8]) -> Result<Revok
 }
 
 #[tactic(auto, unfolding(crate::specs::Message::formed_at))]
-pub(crate) fn read_channel_reestablish(alloc: Global, payload: &[u8]) -> Result<ChannelReestablish, Fault>
+pub(crate) fn read_channel_reestablish(
+    alloc: Global,
+    payload: &[u8],
+) -> Result<ChannelReestablish, Fault>
     ensures { Gives (λ m. Known (channel_reestablish_wire m)) result (formed_at channel_reestablish_form 136 payload.now) }
 {
     let (channel_id, rest) = array_at(payload)?;

@@ -6,13 +6,19 @@ ghost use Rattle.ln_msgs.specs.Table.{form_of};
 ghost use Rattle.ln_msgs.specs.Message.{Heard, Says, payload_at, message_at};
 ghost use Rattle.ln_msgs.specs.Typed.{heard};
 
-use crate::field::u16_at;
 use crate::closing::{read_closing_signed, read_shutdown};
 use crate::commitments::{read_channel_reestablish, read_commitment_signed, read_revoke_and_ack};
-use crate::opening::{read_accept_channel, read_channel_ready, read_funding_created, read_funding_signed, read_open_channel};
-use crate::setup::{read_error, read_init, read_ping, read_pong, read_warning};
-use crate::updates::{read_update_add_htlc, read_update_fail_htlc, read_update_fail_malformed_htlc, read_update_fee, read_update_fulfill_htlc};
+use crate::field::u16_at;
 use crate::message::{Incoming, Message};
+use crate::opening::{
+    read_accept_channel, read_channel_ready, read_funding_created, read_funding_signed,
+    read_open_channel,
+};
+use crate::setup::{read_error, read_init, read_ping, read_pong, read_warning};
+use crate::updates::{
+    read_update_add_htlc, read_update_fail_htlc, read_update_fail_malformed_htlc, read_update_fee,
+    read_update_fulfill_htlc,
+};
 use ln_bytes::Fault;
 use std::alloc::Global;
 

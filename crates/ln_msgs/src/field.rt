@@ -93,7 +93,11 @@ pub(crate) fn signatures_at(alloc: Global, bytes: &[u8]) -> Result<(Signatures, 
     Ok((Signatures::new(items), rest))
 }
 
-fn signature_items_at(alloc: Global, count: u16, bytes: &[u8]) -> Result<(Vec<[u8; 64]>, &[u8]), Fault>
+fn signature_items_at(
+    alloc: Global,
+    count: u16,
+    bytes: &[u8],
+) -> Result<(Vec<[u8; 64]>, &[u8]), Fault>
     ensures { Gives (λ x. (x.0.items, x.1.now)) result (items_at 64 count bytes.now) }
 {
     let mut items = Vec::new(alloc);

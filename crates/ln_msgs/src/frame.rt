@@ -28,5 +28,4 @@ pub(crate) fn next_frame(bytes: &[u8]) -> Option<(&[u8], &[u8])>
 /// inside a frame, or at a message that has a fault) they are heard in one way alone.
 pub fn one_hearing()
     ensures { (hs gs : List Heard) (xs ys more rest : List ℕ) → Hears hs xs → Hears gs ys → EndsHearing more → EndsHearing rest → xs ++ more ≡ ys ++ rest → (hs ≡ gs) × (more ≡ rest) }
-{
-}
+{}

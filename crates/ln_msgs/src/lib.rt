@@ -20,18 +20,20 @@ mod updates;
 mod window;
 
 pub use answer::answer_pings;
+pub use closing::{ClosingSigned, Shutdown};
+pub use commitments::{ChannelReestablish, CommitmentSigned, RevokeAndAck};
 pub use counted::Counted;
 pub use decoding::decode;
 pub use frame::one_hearing;
-pub use closing::{ClosingSigned, Shutdown};
-pub use commitments::{ChannelReestablish, CommitmentSigned, RevokeAndAck};
 pub use message::{Incoming, Message};
 pub use opening::{AcceptChannel, ChannelReady, FundingCreated, FundingSigned, OpenChannel};
-pub use setup::{Error, Init, Ping, Pong, Warning};
-pub use signatures::Signatures;
-pub use updates::{UpdateAddHtlc, UpdateFailHtlc, UpdateFailMalformedHtlc, UpdateFee, UpdateFulfillHtlc};
 pub use records::Records;
 pub use refusal::Refusal;
+pub use setup::{Error, Init, Ping, Pong, Warning};
+pub use signatures::Signatures;
+pub use updates::{
+    UpdateAddHtlc, UpdateFailHtlc, UpdateFailMalformedHtlc, UpdateFee, UpdateFulfillHtlc,
+};
 
 #[cfg(test)]
 mod tests;

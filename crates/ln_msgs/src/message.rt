@@ -1,10 +1,12 @@
 //! Messages, a variant for each type that is known.
 
-use crate::setup::{Warning, Init, Error, Ping, Pong};
-use crate::opening::{OpenChannel, AcceptChannel, FundingCreated, FundingSigned, ChannelReady};
-use crate::closing::{Shutdown, ClosingSigned};
-use crate::updates::{UpdateAddHtlc, UpdateFulfillHtlc, UpdateFailHtlc, UpdateFailMalformedHtlc, UpdateFee};
-use crate::commitments::{CommitmentSigned, RevokeAndAck, ChannelReestablish};
+use crate::closing::{ClosingSigned, Shutdown};
+use crate::commitments::{ChannelReestablish, CommitmentSigned, RevokeAndAck};
+use crate::opening::{AcceptChannel, ChannelReady, FundingCreated, FundingSigned, OpenChannel};
+use crate::setup::{Error, Init, Ping, Pong, Warning};
+use crate::updates::{
+    UpdateAddHtlc, UpdateFailHtlc, UpdateFailMalformedHtlc, UpdateFee, UpdateFulfillHtlc,
+};
 
 /// A message of a known type (BOLT 1, "Lightning Message Format"). Behind its fields each carries the records
 /// of its TLV stream, also those of odd types that nobody knows.

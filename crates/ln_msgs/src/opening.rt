@@ -1,8 +1,8 @@
 //! Messages that open a channel.
 
-use crate::field::{array_at, u16_at, u32_at, u64_at, u8_at};
+use crate::field::{array_at, u8_at, u16_at, u32_at, u64_at};
 use crate::records::{Records, have_length, records_at};
-use ln_bytes::{Fault};
+use ln_bytes::Fault;
 use std::alloc::Global;
 
 /// Asks the other side to open a channel that the sender funds (BOLT 2, "The `open_channel` Message").

@@ -72,5 +72,7 @@ pub(crate) fn records_at(alloc: Global, bytes: &[u8], known_even: &[u64]) -> Res
 pub(crate) fn have_length(records: &[Record], typ: u64, len: usize) -> bool
     ensures { result ≡ list_all (has_length (typ, len)) records.now }
 {
-    records.iter().all(|record| record.typ != typ || record.value.len() == len)
+    records
+        .iter()
+        .all(|record| record.typ != typ || record.value.len() == len)
 }

@@ -126,8 +126,5 @@ pub(crate) fn read_pong(alloc: Global, payload: &[u8]) -> Result<Pong, Fault>
 {
     let (ignored, rest) = bytes_at(alloc, payload)?;
     let records = records_at(alloc, rest, &[])?;
-    Ok(Pong {
-        ignored,
-        records,
-    })
+    Ok(Pong { ignored, records })
 }

@@ -1,13 +1,14 @@
 use super::*;
 use ln_bytes::Fault;
-use std::io;
 use std::alloc::Global;
 use std::cell::Cell;
+use std::io;
 use std::io::{ErrorKind, Read, Write};
 use std::test::*;
 
 // A ping that asks for two bytes, in its frame, and the pong that answers it.
 const PING: [u8; 8] = [0, 6, 0, 18, 0, 2, 0, 0];
+
 const PONG: [u8; 8] = [0, 6, 0, 19, 0, 2, 0, 0];
 
 // A reader that gives at most so many bytes a call, and fails from a call on.
@@ -77,7 +78,13 @@ struct Outcome {
 }
 
 // Answers the input, read and written in pieces of at most `most` bytes, with so many calls until one fails.
-fn answered(alloc: Global, input: &[u8], most: usize, reads: u64, writes: u64) -> Result<Outcome, Fail> {
+fn answered(
+    alloc: Global,
+    input: &[u8],
+    most: usize,
+    reads: u64,
+    writes: u64,
+) -> Result<Outcome, Fail> {
     let mut reader = Counted::new(Slow {
         bytes: Vec::from_slice(alloc, input)?,
         at: 0,
@@ -112,9 +119,17 @@ fn rows(alloc: Global) -> Result<Vec<(Vec<u8>, Vec<u8>, Result<u64, Fault>)>, Fa
         (ping, pong, Ok(1)),
         // from 65,532 on no pong is owed
         (&[0, 6, 0, 18, 0xff, 0xfc, 0, 0], &[], Ok(0)),
-        (&[0, 6, 0, 18, 0xff, 0xfb, 0, 0], long_pong.as_slice(), Ok(1)),
+        (
+            &[0, 6, 0, 18, 0xff, 0xfb, 0, 0],
+            long_pong.as_slice(),
+            Ok(1),
+        ),
         // a ping that carries three bytes of its own, and a record
-        (&[0, 12, 0, 18, 0, 0, 0, 3, 7, 7, 7, 1, 1, 9], &[0, 4, 0, 19, 0, 0], Ok(1)),
+        (
+            &[0, 12, 0, 18, 0, 0, 0, 3, 7, 7, 7, 1, 1, 9],
+            &[0, 4, 0, 19, 0, 0],
+            Ok(1),
+        ),
         // nothing
         (&[], &[], Ok(0)),
         // an end inside a frame: in the length, in the message
@@ -130,12 +145,28 @@ fn rows(alloc: Global) -> Result<Vec<(Vec<u8>, Vec<u8>, Result<u64, Fault>)>, Fa
         (&[0, 5, 0, 18, 0, 2, 0], &[], Err(Fault::Truncated)),
         (&[0, 6, 0, 18, 0, 2, 0, 1], &[], Err(Fault::Truncated)),
         // faults of the records behind a ping
-        (&[0, 8, 0, 18, 0, 2, 0, 0, 2, 0], &[], Err(Fault::TlvUnknownEven)),
-        (&[0, 10, 0, 18, 0, 2, 0, 0, 1, 0, 1, 0], &[], Err(Fault::TlvOrder)),
+        (
+            &[0, 8, 0, 18, 0, 2, 0, 0, 2, 0],
+            &[],
+            Err(Fault::TlvUnknownEven),
+        ),
+        (
+            &[0, 10, 0, 18, 0, 2, 0, 0, 1, 0, 1, 0],
+            &[],
+            Err(Fault::TlvOrder),
+        ),
         (&[0, 8, 0, 18, 0, 2, 0, 0, 1, 1], &[], Err(Fault::TlvLength)),
-        (&[0, 9, 0, 18, 0, 2, 0, 0, 0xfd, 0, 1], &[], Err(Fault::NotMinimal)),
+        (
+            &[0, 9, 0, 18, 0, 2, 0, 0, 0xfd, 0, 1],
+            &[],
+            Err(Fault::NotMinimal),
+        ),
     ] {
-        rows.push((Vec::from_slice(alloc, input)?, Vec::from_slice(alloc, output)?, answer))?;
+        rows.push((
+            Vec::from_slice(alloc, input)?,
+            Vec::from_slice(alloc, output)?,
+            answer,
+        ))?;
     }
     Ok(rows)
 }
@@ -154,7 +185,11 @@ fn pongs_for_pings(rt: HostRuntime) -> Result<(), Fail> {
         for most in [1, 3, usize::MAX] {
             let outcome = answered(rt.alloc(), &row.0, most, NEVER, NEVER)?;
             assert_eq!(rt; outcome.answer, row.2);
-            assert!(rt; outcome.written.as_slice() == row.1.as_slice(), "for {:?}", row.0);
+            assert!(rt;
+                outcome.written.as_slice() == row.1.as_slice(),
+                "for {:?}",
+                row.0
+            );
             assert_eq!(rt; outcome.flushed, outcome.written.len());
             assert_eq!(rt; outcome.failures, 0);
         }
@@ -173,7 +208,11 @@ fn pongs_before_a_fault(rt: HostRuntime) -> Result<(), Fail> {
         output.extend_from_slice(&row.1)?;
         let outcome = answered(rt.alloc(), &input, usize::MAX, NEVER, NEVER)?;
         assert_eq!(rt; outcome.answer, row.2.map(|pongs| pongs.saturating_add(1)));
-        assert!(rt; outcome.written.as_slice() == output.as_slice(), "for {:?}", row.0);
+        assert!(rt;
+            outcome.written.as_slice() == output.as_slice(),
+            "for {:?}",
+            row.0
+        );
     }
     Ok(())
 }
@@ -251,7 +290,7 @@ impl Read for Peer<'_> {
         if self.asked == 3 || buffer.len() < 8 {
             return Ok(0);
         }
-        self.asked += 1;
+        self.asked = self.asked.saturating_add(1);
         buffer[..8].copy_from_slice(&PING);
         Ok(8)
     }

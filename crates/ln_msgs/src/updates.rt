@@ -104,7 +104,10 @@ pub(crate) fn read_update_add_htlc(alloc: Global, payload: &[u8]) -> Result<Upda
 }
 
 #[tactic(auto, unfolding(crate::specs::Message::formed_at))]
-pub(crate) fn read_update_fulfill_htlc(alloc: Global, payload: &[u8]) -> Result<UpdateFulfillHtlc, Fault>
+pub(crate) fn read_update_fulfill_htlc(
+    alloc: Global,
+    payload: &[u8],
+) -> Result<UpdateFulfillHtlc, Fault>
     ensures { Gives (λ m. Known (fulfill_wire m)) result (formed_at fulfill_form 130 payload.now) }
 {
     let (channel_id, rest) = array_at(payload)?;
@@ -136,7 +139,10 @@ pub(crate) fn read_update_fail_htlc(alloc: Global, payload: &[u8]) -> Result<Upd
 }
 
 #[tactic(auto, unfolding(crate::specs::Message::formed_at))]
-pub(crate) fn read_update_fail_malformed_htlc(alloc: Global, payload: &[u8]) -> Result<UpdateFailMalformedHtlc, Fault>
+pub(crate) fn read_update_fail_malformed_htlc(
+    alloc: Global,
+    payload: &[u8],
+) -> Result<UpdateFailMalformedHtlc, Fault>
     ensures { Gives (λ m. Known (malformed_wire m)) result (formed_at malformed_form 135 payload.now) }
 {
     let (channel_id, rest) = array_at(payload)?;

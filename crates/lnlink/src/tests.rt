@@ -37,7 +37,11 @@ fn lines_and_statuses(rt: HostRuntime) -> Result<(), Fail> {
         (Failure::Usage, "usage", 2),
         (Failure::Refused(Refusal::Truncated), "refused 1", 1),
         (Failure::Refused(Refusal::Io), "refused 63", 1),
-        (Failure::Refused(Refusal::BadScript { line: 2 }), "refused 64 line 2", 1),
+        (
+            Failure::Refused(Refusal::BadScript { line: 2 }),
+            "refused 64 line 2",
+            1,
+        ),
     ] {
         let text = format!(in rt.alloc(); "{failure}")?;
         assert_eq!(rt; text.as_str(), line);
