@@ -1,8 +1,9 @@
 -- Records one after the other: what a reader has so far, and what the whole stream is.
-use Rattle.std.proofs.Common.{◌≡◌, ◌≢◌, ℕ, zero, suc, ◌+◌, ◌<◌, ◌≤◌, true, List, [], ◌∷◌, ◌++◌, length, take, drop, Option, Some, None, Result, Ok, Err, refl, sym, ◌∙◌, ap, subst, arith, append_assoc, ◌⊎◌, inl, inr}
+use Rattle.std.proofs.Common.{◌≡◌, ◌≢◌, ℕ, zero, suc, ◌+◌, ◌<◌, ◌≤◌, true, List, [], ◌∷◌, ◌++◌, length, get_or, take, drop, Option, Some, None, Result, Ok, Err, refl, sym, ◌∙◌, ap, subst, arith, append_assoc, ◌⊎◌, inl, inr}
 use Rattle.std.specs.Prelude.{IfOk, IfErr}
 use Rattle.std.specs.Global.{Vec}
-use Rattle.std.proofs.lemmas.List.{append-nil, length-append, take_at, drop_at, take_all}
+use Rattle.std.proofs.lemmas.List.{append-nil, length-append, take_at, drop_at, take-append-drop}
+use Rattle.std.proofs.Math.Seq.{drop-cons}
 use Rattle.std.proofs.lemmas.List.Concat.{flat_map-append}
 use Rattle.ln_bytes.specs.declared.fault.Fault.{Fault}
 use Rattle.ln_bytes.specs.declared.record.Record.{Record}
@@ -242,10 +243,8 @@ stands_all : (known : List ℕ) (before : Option ℕ) (rs : List Record) → Ris
 stands_all known before [] rise all = tt
 stands_all known before (r ∷ rs) rise all = (rise.0, all.0, stands_all known (Some r.typ) rs rise.1 all.1)
 
-pub is_written : (known : List ℕ) (rs : List Record) (bytes : List ℕ) (i : ℕ) → length rs ≤ i → AreRising rs → AreKnown known rs → AreFit (take i rs) → bytes ≡ stream_bytes (take i rs) → Spells known rs bytes
-is_written known rs bytes i l rise all fit e =
-    let whole : take i rs ≡ rs = take_all i rs l in
-    record { stand = stands_all known None rs rise all; fit = subst AreFit whole fit; bytes_are = e ∙ ap stream_bytes whole }
+pub is_written : (known : List ℕ) (rs : List Record) (bytes : List ℕ) → AreRising rs → AreKnown known rs → AreFit rs → bytes ≡ stream_bytes rs → Spells known rs bytes
+is_written known rs bytes rise all fit e = record { stand = stands_all known None rs rise all; fit = fit; bytes_are = e }
 
 -- ---- one stream, one list of records, one outcome
 
@@ -290,3 +289,12 @@ pub one_fault : (known bytes : List ℕ) (f g : Fault) → HasFault known bytes 
 one_fault known bytes f g h k =
     let both : answer (Err f) ≡ Err g = sym (stream_faulty known bytes f h) ∙ stream_faulty known bytes g k in
     cc
+
+-- the first records and the next one are no longer than all
+pub counted_more : (rs : List Record) (i : ℕ) (r : Record) → i < length rs → r ≡ get_or rs i r → length (stream_bytes (take i rs)) + length (record_bytes r) ≤ length (stream_bytes rs)
+counted_more rs i r below is =
+    let rest = drop (suc i) rs in
+    let at : drop i rs ≡ r ∷ rest = drop-cons rs i r below ∙ ap (λ x. x ∷ rest) (sym is) in
+    let whole : rs ≡ take i rs ++ (r ∷ rest) = sym (take-append-drop i rs) ∙ ap (λ l. take i rs ++ l) at in
+    let parts : stream_bytes rs ≡ stream_bytes (take i rs) ++ stream_bytes (r ∷ rest) = ap stream_bytes whole ∙ flat_map-append record_bytes (take i rs) (r ∷ rest) in
+    omega (arith, ap length parts, length-append (stream_bytes (take i rs)) (stream_bytes (r ∷ rest)), length-append (record_bytes r) (stream_bytes rest))

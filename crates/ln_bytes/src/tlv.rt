@@ -1,13 +1,13 @@
 //! TLV streams (BOLT 1, "Type-Length-Value Format"): records one after the other, up to the end.
 
-ghost use Rattle.std.specs.Prelude.{◌≡◌, ◌≢◌, ◌<◌, ◌⊎◌, ℕ, List, ◌++◌, slice_index, IfOk, IfErr, OnOk, Ok, Err};
+ghost use Rattle.std.specs.Prelude.{◌≡◌, ◌≢◌, ◌<◌, ◌≤◌, ◌⊎◌, ℕ, List, ◌++◌, length, slice_index, IfSome, IfNone, IfOk, IfErr, OnOk, Ok, Err};
 ghost use Rattle.ln_bytes.specs.Bigsize.{bigsize};
 ghost use Rattle.ln_bytes.specs.Reading.{Gives};
 ghost use Rattle.ln_bytes.specs.Tlv.{record_bytes, stream_bytes, may_follow, may_stand, AreRising, AreKnown, AreFit, Fits, Spells, HasFault, value_at, record_at, stream_at};
 ghost use Rattle.ln_bytes.specs.declared.fault.Fault.{Fault};
 ghost use Rattle.ln_bytes.specs.declared.record.Record.{Record};
 
-use crate::bigsize::{read_bigsize, write_bigsize};
+use crate::bigsize::{bigsize_len, read_bigsize, write_bigsize};
 use crate::bytes::Bytes;
 use crate::fault::Fault;
 use crate::record::Record;
@@ -126,10 +126,45 @@ pub fn write_tlvs(alloc: Global, records: &[Record]) -> Result<Vec<u8>, Fault>
     ensures err { IfErr result (λ e. e ≡ Fault.Memory) }
 {
     let mut out = Vec::new(alloc);
-    for record in records {
-        put_record(&mut out, record)?;
-    }
+    append_tlvs(&mut out, records)?;
     Ok(out)
+}
+
+/// Writes the records at the end of bytes, as `write_tlvs` writes them. Takes memory for the bytes.
+///
+/// Errors: 60 (`Memory`) where there is no memory; what was written by then is no promise.
+pub fn append_tlvs(out: &mut Vec<u8>, records: &[Record]) -> Result<(), Fault>
+    ensures ok { OnOk result (out.new.items ≡ out.old.items ++ stream_bytes records.now) }
+    ensures fit { OnOk result (AreFit records.now) }
+    ensures err { IfErr result (λ e. e ≡ Fault.Memory) }
+{
+    for record in records {
+        put_record(out, record)?;
+    }
+    Ok(())
+}
+
+/// How many bytes the records are, or none where they are more than `most`. Takes no memory.
+pub fn tlvs_len(records: &[Record], most: usize) -> Option<usize>
+    ensures more { IfNone result (most < length (stream_bytes records.now)) }
+    ensures len { IfSome result (λ n. (n ≡ length (stream_bytes records.now)) × (n ≤ most)) }
+{
+    let mut left = most;
+    for record in records {
+        let len = record_len(record);
+        if left < len {
+            return None;
+        }
+        left -= len;
+    }
+    Some(most - left)
+}
+
+fn record_len(record: &Record) -> usize
+    ensures { result ≡ length (record_bytes «record».now) }
+{
+    let len = record.value.len();
+    bigsize_len(record.typ) + bigsize_len(len as u64) + len
 }
 
 fn put_record(out: &mut Vec<u8>, record: &Record) -> Result<(), Fault>

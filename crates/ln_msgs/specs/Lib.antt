@@ -11,3 +11,4 @@ pub mod Outgoing
 pub mod Written
 pub mod Refusal
 pub mod Typed
+pub mod Items

@@ -1,6 +1,7 @@
 //! Messages that close a channel.
 
 use crate::field::{array_at, bytes_at, u64_at};
+use crate::item::{Field, Item};
 use crate::records::{Records, have_length, records_at};
 use ln_bytes::{Bytes, Fault};
 use std::alloc::Global;
@@ -30,6 +31,7 @@ pub struct ClosingSigned {
 }
 
 ghost use Rattle.ln_bytes.specs.Reading.{Gives};
+ghost use Rattle.ln_msgs.specs.Items.{AreFieldsOf};
 ghost use Rattle.ln_msgs.specs.Table.{shutdown_form, closing_signed_form};
 ghost use Rattle.ln_msgs.specs.Message.{Known, formed_at};
 ghost use Rattle.ln_msgs.specs.Typed.{shutdown_wire, closing_signed_wire};
@@ -65,4 +67,44 @@ pub(crate) fn read_closing_signed(alloc: Global, payload: &[u8]) -> Result<Closi
         signature,
         records,
     })
+}
+
+impl Shutdown {
+    /// The fields in their order.
+    pub(crate) fn fields(&self) -> [Field<'_>; 2]
+        ensures { AreFieldsOf shutdown_form (shutdown_wire self.now) result }
+    {
+        [
+            Field {
+                name: "channel_id",
+                value: Item::Fixed(&self.channel_id),
+            },
+            Field {
+                name: "script",
+                value: Item::Sized(self.script.as_slice()),
+            },
+        ]
+    }
+}
+
+impl ClosingSigned {
+    /// The fields in their order.
+    pub(crate) fn fields(&self) -> [Field<'_>; 3]
+        ensures { AreFieldsOf closing_signed_form (closing_signed_wire self.now) result }
+    {
+        [
+            Field {
+                name: "channel_id",
+                value: Item::Fixed(&self.channel_id),
+            },
+            Field {
+                name: "fee_satoshis",
+                value: Item::U64(self.fee_satoshis),
+            },
+            Field {
+                name: "signature",
+                value: Item::Fixed(&self.signature),
+            },
+        ]
+    }
 }

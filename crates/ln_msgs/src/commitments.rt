@@ -1,6 +1,7 @@
 //! Messages that commit to updates, revoke, and take a channel up again.
 
 use crate::field::{array_at, signatures_at, u64_at};
+use crate::item::{Field, Item};
 use crate::records::{Records, records_at};
 use crate::signatures::Signatures;
 use ln_bytes::Fault;
@@ -51,6 +52,7 @@ pub struct ChannelReestablish {
 }
 
 ghost use Rattle.ln_bytes.specs.Reading.{Gives};
+ghost use Rattle.ln_msgs.specs.Items.{AreFieldsOf};
 ghost use Rattle.ln_msgs.specs.Table.{commitment_signed_form, revoke_and_ack_form, channel_reestablish_form};
 ghost use Rattle.ln_msgs.specs.Message.{Known, formed_at};
 ghost use Rattle.ln_msgs.specs.Typed.{commitment_signed_wire, revoke_and_ack_wire, channel_reestablish_wire};
@@ -111,4 +113,78 @@ pub(crate) fn read_channel_reestablish(
         current_point,
         records,
     })
+}
+
+impl CommitmentSigned {
+    /// The fields in their order.
+    pub(crate) fn fields(&self) -> [Field<'_>; 3]
+        ensures { AreFieldsOf commitment_signed_form (commitment_signed_wire self.now) result }
+    {
+        [
+            Field {
+                name: "channel_id",
+                value: Item::Fixed(&self.channel_id),
+            },
+            Field {
+                name: "signature",
+                value: Item::Fixed(&self.signature),
+            },
+            Field {
+                name: "htlc_signatures",
+                value: Item::Listed(self.htlc_signatures.as_slice()),
+            },
+        ]
+    }
+}
+
+impl RevokeAndAck {
+    /// The fields in their order.
+    pub(crate) fn fields(&self) -> [Field<'_>; 3]
+        ensures { AreFieldsOf revoke_and_ack_form (revoke_and_ack_wire self.now) result }
+    {
+        [
+            Field {
+                name: "channel_id",
+                value: Item::Fixed(&self.channel_id),
+            },
+            Field {
+                name: "secret",
+                value: Item::Fixed(&self.secret),
+            },
+            Field {
+                name: "next_point",
+                value: Item::Fixed(&self.next_point),
+            },
+        ]
+    }
+}
+
+impl ChannelReestablish {
+    /// The fields in their order.
+    pub(crate) fn fields(&self) -> [Field<'_>; 5]
+        ensures { AreFieldsOf channel_reestablish_form (channel_reestablish_wire self.now) result }
+    {
+        [
+            Field {
+                name: "channel_id",
+                value: Item::Fixed(&self.channel_id),
+            },
+            Field {
+                name: "next_commitment_number",
+                value: Item::U64(self.next_commitment_number),
+            },
+            Field {
+                name: "next_revocation_number",
+                value: Item::U64(self.next_revocation_number),
+            },
+            Field {
+                name: "last_secret",
+                value: Item::Fixed(&self.last_secret),
+            },
+            Field {
+                name: "current_point",
+                value: Item::Fixed(&self.current_point),
+            },
+        ]
+    }
 }

@@ -1,6 +1,7 @@
 //! Messages that open a channel.
 
 use crate::field::{array_at, u8_at, u16_at, u32_at, u64_at};
+use crate::item::{Field, Item};
 use crate::records::{Records, have_length, records_at};
 use ln_bytes::Fault;
 use std::alloc::Global;
@@ -122,6 +123,7 @@ pub struct ChannelReady {
 }
 
 ghost use Rattle.ln_bytes.specs.Reading.{Gives};
+ghost use Rattle.ln_msgs.specs.Items.{AreFieldsOf};
 ghost use Rattle.ln_msgs.specs.Table.{open_form, accept_form, funding_created_form, funding_signed_form, channel_ready_form};
 ghost use Rattle.ln_msgs.specs.Message.{Known, formed_at};
 ghost use Rattle.ln_msgs.specs.Typed.{open_wire, accept_wire, funding_created_wire, funding_signed_wire, channel_ready_wire};
@@ -257,4 +259,214 @@ pub(crate) fn read_channel_ready(alloc: Global, payload: &[u8]) -> Result<Channe
         second_point,
         records,
     })
+}
+
+impl OpenChannel {
+    /// The fields in their order.
+    pub(crate) fn fields(&self) -> [Field<'_>; 18]
+        ensures { AreFieldsOf open_form (open_wire self.now) result }
+    {
+        [
+            Field {
+                name: "chain_hash",
+                value: Item::Fixed(&self.chain_hash),
+            },
+            Field {
+                name: "temporary_id",
+                value: Item::Fixed(&self.temporary_id),
+            },
+            Field {
+                name: "funding_satoshis",
+                value: Item::U64(self.funding_satoshis),
+            },
+            Field {
+                name: "push_msat",
+                value: Item::U64(self.push_msat),
+            },
+            Field {
+                name: "dust_limit_satoshis",
+                value: Item::U64(self.dust_limit_satoshis),
+            },
+            Field {
+                name: "max_htlc_value_in_flight_msat",
+                value: Item::U64(self.max_htlc_value_in_flight_msat),
+            },
+            Field {
+                name: "channel_reserve_satoshis",
+                value: Item::U64(self.channel_reserve_satoshis),
+            },
+            Field {
+                name: "htlc_minimum_msat",
+                value: Item::U64(self.htlc_minimum_msat),
+            },
+            Field {
+                name: "feerate_per_kw",
+                value: Item::U32(self.feerate_per_kw),
+            },
+            Field {
+                name: "to_self_delay",
+                value: Item::U16(self.to_self_delay),
+            },
+            Field {
+                name: "max_accepted_htlcs",
+                value: Item::U16(self.max_accepted_htlcs),
+            },
+            Field {
+                name: "funding_pubkey",
+                value: Item::Fixed(&self.funding_pubkey),
+            },
+            Field {
+                name: "revocation_basepoint",
+                value: Item::Fixed(&self.revocation_basepoint),
+            },
+            Field {
+                name: "payment_basepoint",
+                value: Item::Fixed(&self.payment_basepoint),
+            },
+            Field {
+                name: "delayed_payment_basepoint",
+                value: Item::Fixed(&self.delayed_payment_basepoint),
+            },
+            Field {
+                name: "htlc_basepoint",
+                value: Item::Fixed(&self.htlc_basepoint),
+            },
+            Field {
+                name: "first_per_commitment_point",
+                value: Item::Fixed(&self.first_per_commitment_point),
+            },
+            Field {
+                name: "channel_flags",
+                value: Item::U8(self.channel_flags),
+            },
+        ]
+    }
+}
+
+impl AcceptChannel {
+    /// The fields in their order.
+    pub(crate) fn fields(&self) -> [Field<'_>; 14]
+        ensures { AreFieldsOf accept_form (accept_wire self.now) result }
+    {
+        [
+            Field {
+                name: "temporary_id",
+                value: Item::Fixed(&self.temporary_id),
+            },
+            Field {
+                name: "dust_limit_satoshis",
+                value: Item::U64(self.dust_limit_satoshis),
+            },
+            Field {
+                name: "max_htlc_value_in_flight_msat",
+                value: Item::U64(self.max_htlc_value_in_flight_msat),
+            },
+            Field {
+                name: "channel_reserve_satoshis",
+                value: Item::U64(self.channel_reserve_satoshis),
+            },
+            Field {
+                name: "htlc_minimum_msat",
+                value: Item::U64(self.htlc_minimum_msat),
+            },
+            Field {
+                name: "minimum_depth",
+                value: Item::U32(self.minimum_depth),
+            },
+            Field {
+                name: "to_self_delay",
+                value: Item::U16(self.to_self_delay),
+            },
+            Field {
+                name: "max_accepted_htlcs",
+                value: Item::U16(self.max_accepted_htlcs),
+            },
+            Field {
+                name: "funding_pubkey",
+                value: Item::Fixed(&self.funding_pubkey),
+            },
+            Field {
+                name: "revocation_basepoint",
+                value: Item::Fixed(&self.revocation_basepoint),
+            },
+            Field {
+                name: "payment_basepoint",
+                value: Item::Fixed(&self.payment_basepoint),
+            },
+            Field {
+                name: "delayed_payment_basepoint",
+                value: Item::Fixed(&self.delayed_payment_basepoint),
+            },
+            Field {
+                name: "htlc_basepoint",
+                value: Item::Fixed(&self.htlc_basepoint),
+            },
+            Field {
+                name: "first_per_commitment_point",
+                value: Item::Fixed(&self.first_per_commitment_point),
+            },
+        ]
+    }
+}
+
+impl FundingCreated {
+    /// The fields in their order.
+    pub(crate) fn fields(&self) -> [Field<'_>; 4]
+        ensures { AreFieldsOf funding_created_form (funding_created_wire self.now) result }
+    {
+        [
+            Field {
+                name: "temporary_id",
+                value: Item::Fixed(&self.temporary_id),
+            },
+            Field {
+                name: "funding_txid",
+                value: Item::Fixed(&self.funding_txid),
+            },
+            Field {
+                name: "output_index",
+                value: Item::U16(self.output_index),
+            },
+            Field {
+                name: "signature",
+                value: Item::Fixed(&self.signature),
+            },
+        ]
+    }
+}
+
+impl FundingSigned {
+    /// The fields in their order.
+    pub(crate) fn fields(&self) -> [Field<'_>; 2]
+        ensures { AreFieldsOf funding_signed_form (funding_signed_wire self.now) result }
+    {
+        [
+            Field {
+                name: "channel_id",
+                value: Item::Fixed(&self.channel_id),
+            },
+            Field {
+                name: "signature",
+                value: Item::Fixed(&self.signature),
+            },
+        ]
+    }
+}
+
+impl ChannelReady {
+    /// The fields in their order.
+    pub(crate) fn fields(&self) -> [Field<'_>; 2]
+        ensures { AreFieldsOf channel_ready_form (channel_ready_wire self.now) result }
+    {
+        [
+            Field {
+                name: "channel_id",
+                value: Item::Fixed(&self.channel_id),
+            },
+            Field {
+                name: "second_point",
+                value: Item::Fixed(&self.second_point),
+            },
+        ]
+    }
 }

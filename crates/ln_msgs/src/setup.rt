@@ -1,6 +1,7 @@
 //! Messages of a connection: init, errors, pings.
 
 use crate::field::{array_at, bytes_at, u16_at};
+use crate::item::{Field, Item};
 use crate::records::{Records, records_at};
 use ln_bytes::{Bytes, Fault};
 use std::alloc::Global;
@@ -60,6 +61,7 @@ pub struct Pong {
 }
 
 ghost use Rattle.ln_bytes.specs.Reading.{Gives};
+ghost use Rattle.ln_msgs.specs.Items.{AreFieldsOf};
 ghost use Rattle.ln_msgs.specs.Table.{warning_form, init_form, error_form, ping_form, pong_form};
 ghost use Rattle.ln_msgs.specs.Message.{Known, formed_at};
 ghost use Rattle.ln_msgs.specs.Typed.{warning_wire, init_wire, error_wire, ping_wire, pong_wire};
@@ -127,4 +129,90 @@ pub(crate) fn read_pong(alloc: Global, payload: &[u8]) -> Result<Pong, Fault>
     let (ignored, rest) = bytes_at(alloc, payload)?;
     let records = records_at(alloc, rest, &[])?;
     Ok(Pong { ignored, records })
+}
+
+impl Warning {
+    /// The fields in their order.
+    pub(crate) fn fields(&self) -> [Field<'_>; 2]
+        ensures { AreFieldsOf warning_form (warning_wire self.now) result }
+    {
+        [
+            Field {
+                name: "channel_id",
+                value: Item::Fixed(&self.channel_id),
+            },
+            Field {
+                name: "data",
+                value: Item::Sized(self.bytes.as_slice()),
+            },
+        ]
+    }
+}
+
+impl Init {
+    /// The fields in their order.
+    pub(crate) fn fields(&self) -> [Field<'_>; 2]
+        ensures { AreFieldsOf init_form (init_wire self.now) result }
+    {
+        [
+            Field {
+                name: "global_features",
+                value: Item::Sized(self.global_features.as_slice()),
+            },
+            Field {
+                name: "features",
+                value: Item::Sized(self.features.as_slice()),
+            },
+        ]
+    }
+}
+
+impl Error {
+    /// The fields in their order.
+    pub(crate) fn fields(&self) -> [Field<'_>; 2]
+        ensures { AreFieldsOf error_form (error_wire self.now) result }
+    {
+        [
+            Field {
+                name: "channel_id",
+                value: Item::Fixed(&self.channel_id),
+            },
+            Field {
+                name: "data",
+                value: Item::Sized(self.bytes.as_slice()),
+            },
+        ]
+    }
+}
+
+impl Ping {
+    /// The fields in their order.
+    pub(crate) fn fields(&self) -> [Field<'_>; 2]
+        ensures { AreFieldsOf ping_form (ping_wire self.now) result }
+    {
+        [
+            Field {
+                name: "num_pong_bytes",
+                value: Item::U16(self.num_pong_bytes),
+            },
+            Field {
+                name: "ignored",
+                value: Item::Sized(self.ignored.as_slice()),
+            },
+        ]
+    }
+}
+
+impl Pong {
+    /// The fields in their order.
+    pub(crate) fn fields(&self) -> [Field<'_>; 1]
+        ensures { AreFieldsOf pong_form (pong_wire self.now) result }
+    {
+        [
+            Field {
+                name: "ignored",
+                value: Item::Sized(self.ignored.as_slice()),
+            },
+        ]
+    }
 }

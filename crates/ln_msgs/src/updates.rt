@@ -1,6 +1,7 @@
 //! Messages that update a channel: HTLCs and fees.
 
 use crate::field::{array_at, bytes_at, u16_at, u32_at, u64_at};
+use crate::item::{Field, Item};
 use crate::records::{Records, records_at};
 use ln_bytes::{Bytes, Fault};
 use std::alloc::Global;
@@ -77,6 +78,7 @@ pub struct UpdateFee {
 }
 
 ghost use Rattle.ln_bytes.specs.Reading.{Gives};
+ghost use Rattle.ln_msgs.specs.Items.{AreFieldsOf};
 ghost use Rattle.ln_msgs.specs.Table.{add_form, fulfill_form, fail_form, malformed_form, fee_form};
 ghost use Rattle.ln_msgs.specs.Message.{Known, formed_at};
 ghost use Rattle.ln_msgs.specs.Typed.{add_wire, fulfill_wire, fail_wire, malformed_wire, fee_wire};
@@ -171,4 +173,126 @@ pub(crate) fn read_update_fee(alloc: Global, payload: &[u8]) -> Result<UpdateFee
         feerate_per_kw,
         records,
     })
+}
+
+impl UpdateAddHtlc {
+    /// The fields in their order.
+    pub(crate) fn fields(&self) -> [Field<'_>; 6]
+        ensures { AreFieldsOf add_form (add_wire self.now) result }
+    {
+        [
+            Field {
+                name: "channel_id",
+                value: Item::Fixed(&self.channel_id),
+            },
+            Field {
+                name: "id",
+                value: Item::U64(self.id),
+            },
+            Field {
+                name: "amount_msat",
+                value: Item::U64(self.amount_msat),
+            },
+            Field {
+                name: "payment_hash",
+                value: Item::Fixed(&self.payment_hash),
+            },
+            Field {
+                name: "cltv_expiry",
+                value: Item::U32(self.cltv_expiry),
+            },
+            Field {
+                name: "onion",
+                value: Item::Fixed(&self.onion),
+            },
+        ]
+    }
+}
+
+impl UpdateFulfillHtlc {
+    /// The fields in their order.
+    pub(crate) fn fields(&self) -> [Field<'_>; 3]
+        ensures { AreFieldsOf fulfill_form (fulfill_wire self.now) result }
+    {
+        [
+            Field {
+                name: "channel_id",
+                value: Item::Fixed(&self.channel_id),
+            },
+            Field {
+                name: "id",
+                value: Item::U64(self.id),
+            },
+            Field {
+                name: "preimage",
+                value: Item::Fixed(&self.preimage),
+            },
+        ]
+    }
+}
+
+impl UpdateFailHtlc {
+    /// The fields in their order.
+    pub(crate) fn fields(&self) -> [Field<'_>; 3]
+        ensures { AreFieldsOf fail_form (fail_wire self.now) result }
+    {
+        [
+            Field {
+                name: "channel_id",
+                value: Item::Fixed(&self.channel_id),
+            },
+            Field {
+                name: "id",
+                value: Item::U64(self.id),
+            },
+            Field {
+                name: "reason",
+                value: Item::Sized(self.reason.as_slice()),
+            },
+        ]
+    }
+}
+
+impl UpdateFailMalformedHtlc {
+    /// The fields in their order.
+    pub(crate) fn fields(&self) -> [Field<'_>; 4]
+        ensures { AreFieldsOf malformed_form (malformed_wire self.now) result }
+    {
+        [
+            Field {
+                name: "channel_id",
+                value: Item::Fixed(&self.channel_id),
+            },
+            Field {
+                name: "id",
+                value: Item::U64(self.id),
+            },
+            Field {
+                name: "sha256_of_onion",
+                value: Item::Fixed(&self.sha256_of_onion),
+            },
+            Field {
+                name: "failure_code",
+                value: Item::U16(self.failure_code),
+            },
+        ]
+    }
+}
+
+impl UpdateFee {
+    /// The fields in their order.
+    pub(crate) fn fields(&self) -> [Field<'_>; 2]
+        ensures { AreFieldsOf fee_form (fee_wire self.now) result }
+    {
+        [
+            Field {
+                name: "channel_id",
+                value: Item::Fixed(&self.channel_id),
+            },
+            Field {
+                name: "feerate_per_kw",
+                value: Item::U32(self.feerate_per_kw),
+            },
+        ]
+    }
 }

@@ -1,8 +1,8 @@
-use Rattle.std.proofs.Common.{arith}
+use Rattle.std.proofs.Common.{◌++◌, ap, ◌∙◌}
+use Rattle.ln_bytes.specs.Tlv.{stream_bytes}
 use Rattle.ln_bytes.proofs.Streams.{is_written}
 use Rattle.ln_bytes.proofs.tlv.write_tlvs.Goals as goal
 
 pub returns-clause-spells : goal.returns-clause-spells
 returns-clause-spells c = λ known_even all.
-    let i = c.loop-record.record-index in
-    is_written known_even c.args.records.now c.loop-record.out.items i (omega arith) c.requires all c.loop-record.invariant.1 c.loop-record.invariant.0
+    is_written known_even c.args.records.now c.append_tlvs.new.out.items c.requires all c.in_ok-append_tlvs.ensures.fit (c.in_ok-append_tlvs.ensures.ok ∙ ap (λ l. l ++ stream_bytes c.args.records.now) c.new-out.ensures.items)

@@ -1,7 +1,0 @@
-use Rattle.std.proofs.Common.{◌≡◌, take}
-use Rattle.ln_bytes.specs.Tlv.{stream_bytes, AreFit}
-use Rattle.ln_bytes.proofs.tlv.write_tlvs.Given as goal
-
-abbrev pub invariant-loop-record : goal.invariant-loop-record
-invariant-loop-record l =
-    (l.out.items ≡ stream_bytes (take l.record-index l.records)) × AreFit (take l.record-index l.records)

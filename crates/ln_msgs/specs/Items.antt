@@ -1,0 +1,40 @@
+-- The fields of a message as the program hands them out: their kinds, values and bytes.
+use Rattle.std.specs.Prelude.{◌≡◌, ℕ, List, [], ◌∷◌, ◌++◌, length, map}
+use Rattle.std.specs.List.{flat_map}
+use Rattle.ln_msgs.specs.declared.item.Field.{Field}
+use Rattle.ln_msgs.specs.declared.item.Item.{Item}
+use Rattle.ln_msgs.specs.declared.item.Item.TheVariants as items
+use Rattle.ln_msgs.specs.Field.{Kind, Number, Value, Num, Str, Many, value_bytes}
+use Rattle.ln_msgs.specs.Field as kinds
+use Rattle.ln_msgs.specs.Table.{Form}
+use Rattle.ln_msgs.specs.Message.{Wire}
+
+abbrev pub kind_of : Item → Kind
+kind_of (items.U8 n) = Number 1
+kind_of (items.U16 n) = Number 2
+kind_of (items.U32 n) = Number 4
+kind_of (items.U64 n) = Number 8
+kind_of (items.Fixed bytes) = kinds.Fixed (length bytes.now)
+kind_of (items.Sized bytes) = kinds.Sized
+kind_of (items.Listed list) = kinds.Listed 64
+
+abbrev pub value_of : Item → Value
+value_of (items.U8 n) = Num n
+value_of (items.U16 n) = Num n
+value_of (items.U32 n) = Num n
+value_of (items.U64 n) = Num n
+value_of (items.Fixed bytes) = Str bytes.now
+value_of (items.Sized bytes) = Str bytes.now
+value_of (items.Listed list) = Many list.now
+
+abbrev pub item_bytes : Item → List ℕ
+item_bytes i = value_bytes (kind_of i) (value_of i)
+
+-- the fields one after the other
+abbrev pub items_bytes : List Field → List ℕ
+items_bytes fs = flat_map (λ f. item_bytes f.value) fs
+
+-- these are the fields of the message, by its form
+pub record AreFieldsOf (form : Form) (w : Wire) (fs : List Field) : Type 0 where
+  pub kinds : map (λ f. kind_of f.value) fs ≡ form.fields
+  pub values : map (λ f. value_of f.value) fs ≡ w.values
