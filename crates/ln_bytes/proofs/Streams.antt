@@ -239,7 +239,7 @@ is_rising known bytes (Err e) found = tt
 
 -- ---- what is written
 
-stands_all : (known : List ℕ) (before : Option ℕ) (rs : List Record) → RiseFrom before rs → AreKnown known rs → MayStand known before rs
+pub stands_all : (known : List ℕ) (before : Option ℕ) (rs : List Record) → RiseFrom before rs → AreKnown known rs → MayStand known before rs
 stands_all known before [] rise all = tt
 stands_all known before (r ∷ rs) rise all = (rise.0, all.0, stands_all known (Some r.typ) rs rise.1 all.1)
 

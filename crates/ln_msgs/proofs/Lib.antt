@@ -5,3 +5,5 @@ pub mod Faults
 pub mod OneHearing
 pub mod Grammar
 pub mod Items
+pub mod Sums
+pub mod Writing

@@ -1,10 +1,10 @@
 -- The fields of a message as the program hands them out: their kinds, values and bytes.
 use Rattle.std.specs.Prelude.{◌≡◌, ℕ, List, [], ◌∷◌, ◌++◌, length, map}
-use Rattle.std.specs.List.{flat_map}
+use Rattle.std.specs.List.{flat_map, AllByRecursion}
 use Rattle.ln_msgs.specs.declared.item.Field.{Field}
 use Rattle.ln_msgs.specs.declared.item.Item.{Item}
 use Rattle.ln_msgs.specs.declared.item.Item.TheVariants as items
-use Rattle.ln_msgs.specs.Field.{Kind, Number, Value, Num, Str, Many, value_bytes}
+use Rattle.ln_msgs.specs.Field.{Kind, Number, Value, Num, Str, Many, IsOf, value_bytes}
 use Rattle.ln_msgs.specs.Field as kinds
 use Rattle.ln_msgs.specs.Table.{Form}
 use Rattle.ln_msgs.specs.Message.{Wire}
@@ -38,3 +38,10 @@ items_bytes fs = flat_map (λ f. item_bytes f.value) fs
 pub record AreFieldsOf (form : Form) (w : Wire) (fs : List Field) : Type 0 where
   pub kinds : map (λ f. kind_of f.value) fs ≡ form.fields
   pub values : map (λ f. value_of f.value) fs ≡ w.values
+
+-- each value is one of its kind
+abbrev pub IsProper : Field → Type 0
+IsProper f = IsOf (kind_of f.value) (value_of f.value)
+
+abbrev pub AreProper : List Field → Type 0
+AreProper fs = AllByRecursion IsProper fs

@@ -12,3 +12,4 @@ pub mod Written
 pub mod Refusal
 pub mod Typed
 pub mod Items
+pub mod Writing

@@ -7,6 +7,7 @@ mod closing;
 mod commitments;
 mod counted;
 mod decoding;
+mod encoding;
 mod field;
 mod frame;
 mod item;

@@ -1,0 +1,78 @@
+-- What is written for a message is spelled by the grammar.
+use Rattle.std.proofs.Common.{◌≡◌, ℕ, ◌+◌, ◌<◌, ◌≤◌, ◌⊎◌, ◌↔◌, List, [], ◌∷◌, ◌++◌, length, get_or, take, map, Option, Some, None, Result, Ok, Err, refl, sym, ap, subst, ◌∙◌, arith, inl, inr}
+use Rattle.std.specs.Prelude.{IfOk, IfErr, IsErrOf}
+use Rattle.std.specs.Global.{Vec}
+use Rattle.std.proofs.lemmas.Bool.{cases_lt}
+use Rattle.ln_bytes.specs.Endian.{big_bytes}
+use Rattle.ln_bytes.specs.Tlv.{stream_bytes, AreFit, MayStand}
+use Rattle.ln_bytes.specs.declared.fault.Fault.{Fault}
+use Rattle.ln_bytes.specs.declared.fault.Fault.TheVariants.{TooLong, Memory}
+use Rattle.ln_bytes.specs.declared.record.Record.{Record}
+use Rattle.ln_bytes.proofs.Streams.{stands_all}
+use Rattle.ln_msgs.specs.declared.item.Field.{Field}
+use Rattle.ln_msgs.specs.Field.{AreOf, fields_bytes}
+use Rattle.ln_msgs.specs.Items.{kind_of, value_of, item_bytes, items_bytes, AreFieldsOf, AreProper}
+use Rattle.ln_msgs.specs.Table.{Form, form_of}
+use Rattle.ln_msgs.specs.Message.{Wire, wire_bytes, formed_bytes, Known, Says}
+use Rattle.ln_msgs.specs.Writing.{MayFollow, MayFollowForm, CanBeWritten, AreOfForm, IsWritten, parts_bytes}
+use Rattle.ln_msgs.proofs.Sums.{flat_fits}
+
+pub item_below : (fs : List Field) (i : ℕ) (d : Field) → i < length fs → length (items_bytes fs) < 65536 → length (item_bytes (get_or fs i d).value) < 65536
+item_below fs i d below short = let more = flat_fits (λ f. item_bytes f.value) fs i d below in omega (arith, more)
+
+-- kinds and values apart give the same bytes
+same_fields : (fs : List Field) → fields_bytes (map (λ f. kind_of f.value) fs) (map (λ f. value_of f.value) fs) ≡ items_bytes fs
+same_fields [] = refl
+same_fields (f ∷ fs) = ap (λ l. item_bytes f.value ++ l) (same_fields fs)
+
+pub fields_are : (form : Form) (w : Wire) (fs : List Field) → AreFieldsOf form w fs → items_bytes fs ≡ fields_bytes form.fields w.values
+fields_are form w fs are = sym (same_fields fs) ∙ ap (λ ks. fields_bytes ks (map (λ f. value_of f.value) fs)) are.kinds ∙ ap (λ vs. fields_bytes form.fields vs) are.values
+
+are_of : (fs : List Field) → AreProper fs → AreOf (map (λ f. kind_of f.value) fs) (map (λ f. value_of f.value) fs)
+are_of [] all = tt
+are_of (f ∷ fs) all = (all.0, are_of fs all.1)
+
+fields_are_of : (form : Form) (w : Wire) (fs : List Field) → AreFieldsOf form w fs → AreProper fs → AreOf form.fields w.values
+fields_are_of form w fs are all =
+    subst (λ ks. AreOf ks w.values) are.kinds (subst (AreOf (map (λ f. kind_of f.value) fs)) are.values (are_of fs all))
+
+parts_are : (form : Form) (w : Wire) (typ : ℕ) (fs : List Field) (rs : List Record) → AreFieldsOf form w fs → form_of w.typ ≡ Some form → w.typ ≡ typ → w.records ≡ rs → parts_bytes typ fs rs ≡ wire_bytes w
+parts_are form w typ fs rs are is typ_is records_are =
+    ap (λ n. big_bytes 2 n ++ items_bytes fs ++ stream_bytes rs) (sym typ_is) ∙ ap (λ l. big_bytes 2 w.typ ++ l ++ stream_bytes rs) (fields_are form w fs are)
+    ∙ ap (λ l. big_bytes 2 w.typ ++ fields_bytes form.fields w.values ++ stream_bytes l) (sym records_are) ∙ ap (λ f. formed_bytes f w) (sym is)
+
+short_enough : (r : Result (Vec ℕ) Fault) (bytes : List ℕ) → r ≡ Err Memory → (65535 < length bytes → r ≡ Err TooLong) → length bytes < 65536
+short_enough r bytes memory long =
+    elim (cases_lt (length bytes) 65536) [
+      | inl below ↦ below
+      | inr above ↦ absurd (memory_is_not_long (sym memory ∙ long (omega arith)))
+    ]
+  where
+    memory_is_not_long : ◌≡◌ {A = Result (Vec ℕ) Fault} (Err Memory) (Err TooLong) → ⊥
+    memory_is_not_long e = cc
+
+pub is_written_as : (r : Result (Vec ℕ) Fault) (form : Form) (w : Wire) (typ : ℕ) (fs : List Field) (rs : List Record) → typ < 65536 → AreFieldsOf form w fs → form_of w.typ ≡ Some form → w.typ ≡ typ → w.records ≡ rs
+    → IfOk r (λ v. (v.items ≡ parts_bytes typ fs rs) × (length v.items < 65536) × AreFit rs × AreProper fs) → IsErrOf r TooLong ↔ (65535 < length (parts_bytes typ fs rs)) → IfErr r (λ e. (e ≡ TooLong) ⊎ (e ≡ Memory)) → IsWritten r w
+is_written_as (Ok v) form w typ fs rs below are is typ_is records_are ok long err =
+    let parts = parts_are form w typ fs rs are is typ_is records_are in
+    let proper : AreOfForm (Some form) w = (omega (arith, typ_is), fields_are_of form w fs are ok.3) in
+    record { is = (ok.0 ∙ parts, ok.1, subst AreFit (sym records_are) ok.2, subst (λ f. AreOfForm f w) (sym is) proper) }
+is_written_as (Err f) form w typ fs rs below are is typ_is records_are ok long err =
+    let parts = parts_are form w typ fs rs are is typ_is records_are in
+    elim err [
+      | inl e ↦ record { is = inl (e, subst (λ l. 65535 < length l) parts (long.0 (ap Err e))) }
+      | inr e ↦ record { is = inr (e, short_enough (Err f) (wire_bytes w) (ap Err e) (λ more. long.1 (subst (λ l. 65535 < length l) (sym parts) more))) }
+    ]
+
+-- the records of a message that can be written may stand behind its fields
+stand : (form : Form) (w : Wire) → MayFollow form w.records → MayStand form.known_even None w.records
+stand form w may = stands_all form.known_even None w.records may.rising may.known
+
+says_some : (form : Option Form) (w : Wire) (bytes : List ℕ) → form_of w.typ ≡ form → MayFollowForm form w.records → AreOfForm form w → AreFit w.records → bytes ≡ wire_bytes w → Says (Known w) bytes
+says_some None w bytes is may are fit e = absurd may
+says_some (Some form) w bytes is may are fit e =
+    (form, is, record { typ = are.0; values = are.1; stand = stand form w may; fit = fit; lengths = may.lengths }, e ∙ ap (λ f. formed_bytes f w) is)
+
+pub says_it : (r : Result (Vec ℕ) Fault) (w : Wire) → CanBeWritten w → IsWritten r w → IfOk r (λ v. Says (Known w) v.items)
+says_it (Ok v) w can written = says_some (form_of w.typ) w v.items refl can written.is.3 written.is.2 written.is.0
+says_it (Err f) w can written = tt
