@@ -1,8 +1,8 @@
 -- Records one after the other: what a reader has so far, and what the whole stream is.
-use Rattle.std.proofs.Common.{◌≡◌, ◌≢◌, ℕ, zero, suc, ◌+◌, ◌<◌, ◌≤◌, true, List, [], ◌∷◌, ◌++◌, length, get_or, take, drop, Option, Some, None, Result, Ok, Err, refl, sym, ◌∙◌, ap, subst, arith, append_assoc, ◌⊎◌, inl, inr}
+use Rattle.std.proofs.Common.{◌≡◌, ◌≢◌, ℕ, zero, suc, ◌+◌, ◌<◌, ◌≤◌, Bool, true, false, List, [], ◌∷◌, ◌++◌, length, get_or, take, drop, Option, Some, None, Result, Ok, Err, refl, sym, ◌∙◌, ap, subst, arith, append_assoc, ◌⊎◌, inl, inr}
 use Rattle.std.specs.Prelude.{IfOk, IfErr}
 use Rattle.std.specs.Global.{Vec}
-use Rattle.std.proofs.lemmas.List.{append-nil, length-append, take_at, drop_at, take-append-drop}
+use Rattle.std.proofs.lemmas.List.{append-nil, length-append, take_more, take_at, drop_at, take-append-drop}
 use Rattle.std.proofs.Math.Seq.{drop-cons}
 use Rattle.std.proofs.lemmas.List.Concat.{flat_map-append}
 use Rattle.ln_bytes.specs.declared.fault.Fault.{Fault}
@@ -37,7 +37,7 @@ longer a b c h e = omega arith
 
 -- ---- one more record at the end
 
-MayStand-push : (known : List ℕ) (before : Option ℕ) (good : List Record) (r : Record) → MayStand known before good → may_follow (last_type before good) r.typ ≡ true → may_stand known r.typ ≡ true → MayStand known before (good ++ r ∷ [])
+pub MayStand-push : (known : List ℕ) (before : Option ℕ) (good : List Record) (r : Record) → MayStand known before good → may_follow (last_type before good) r.typ ≡ true → may_stand known r.typ ≡ true → MayStand known before (good ++ r ∷ [])
 MayStand-push known before [] r m f s = (f, s, tt)
 MayStand-push known before (g ∷ gs) r m f s = (m.0, m.1, MayStand-push known (Some g.typ) gs r m.2 f s)
 
@@ -298,3 +298,33 @@ counted_more rs i r below is =
     let whole : rs ≡ take i rs ++ (r ∷ rest) = sym (take-append-drop i rs) ∙ ap (λ l. take i rs ++ l) at in
     let parts : stream_bytes rs ≡ stream_bytes (take i rs) ++ stream_bytes (r ∷ rest) = ap stream_bytes whole ∙ flat_map-append record_bytes (take i rs) (r ∷ rest) in
     omega (arith, ap length parts, length-append (stream_bytes (take i rs)) (stream_bytes (r ∷ rest)), length-append (record_bytes r) (stream_bytes rest))
+
+stands_next : (known : List ℕ) (before : Option ℕ) (xs : List Record) (r : Record) (ys : List Record) → MayStand known before (xs ++ r ∷ ys) → (may_follow (last_type before xs) r.typ ≡ true) × (may_stand known r.typ ≡ true)
+stands_next known before [] r ys m = (m.0, m.1)
+stands_next known before (x ∷ xs) r ys m = stands_next known (Some x.typ) xs r ys m.2
+
+-- each record of a stream follows those before it
+pub stands_at : (known : List ℕ) (rs : List Record) (i : ℕ) (r : Record) → i < length rs → r ≡ get_or rs i r → MayStand known None rs → (may_follow (last_type None (take i rs)) r.typ ≡ true) × (may_stand known r.typ ≡ true)
+stands_at known rs i r below is m =
+    let rest = drop (suc i) rs in
+    let at : drop i rs ≡ r ∷ rest = drop-cons rs i r below ∙ ap (λ x. x ∷ rest) (sym is) in
+    let whole : rs ≡ take i rs ++ (r ∷ rest) = sym (take-append-drop i rs) ∙ ap (λ l. take i rs ++ l) at in
+    stands_next known None (take i rs) r rest (subst (MayStand known None) whole m)
+
+-- one more record
+pub stands_more : (known : List ℕ) (rs : List Record) (i : ℕ) (r : Record) → i < length rs → r ≡ get_or rs i r → MayStand known None (take i rs) → may_follow (last_type None (take i rs)) r.typ ≡ true → may_stand known r.typ ≡ true
+    → MayStand known None (take (i + 1) rs) × (Some r.typ ≡ last_type None (take (i + 1) rs))
+stands_more known rs i r below is m follows stands =
+    let more : take (i + 1) rs ≡ take i rs ++ r ∷ [] = take_more rs i r below ∙ ap (λ x. take i rs ++ x ∷ []) (sym is) in
+    (subst (MayStand known None) (sym more) (MayStand-push known None (take i rs) r m follows stands), sym (ap (last_type None) more ∙ last_type-push None (take i rs) r))
+
+not_both : (b : Bool) → b ≡ true → b ≡ false → ⊥
+not_both b t f = absurd (true_is_not_false (sym t ∙ f))
+  where
+    true_is_not_false : true ≡ false → ⊥
+    true_is_not_false e = cc
+
+pub refutes : (known : List ℕ) (rs : List Record) (i : ℕ) (r : Record) → i < length rs → r ≡ get_or rs i r → (may_follow (last_type None (take i rs)) r.typ ≡ false) ⊎ (may_stand known r.typ ≡ false) → MayStand known None rs → ⊥
+refutes known rs i r below is wrong m =
+    let at = stands_at known rs i r below is m in
+    elim wrong [ inl f ↦ not_both _ at.0 f | inr s ↦ not_both _ at.1 s ]

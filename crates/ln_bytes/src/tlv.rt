@@ -1,9 +1,9 @@
 //! TLV streams (BOLT 1, "Type-Length-Value Format"): records one after the other, up to the end.
 
-ghost use Rattle.std.specs.Prelude.{◌≡◌, ◌≢◌, ◌<◌, ◌≤◌, ◌⊎◌, ℕ, List, ◌++◌, length, slice_index, IfSome, IfNone, IfOk, IfErr, OnOk, Ok, Err};
+ghost use Rattle.std.specs.Prelude.{◌≡◌, ◌≢◌, ◌<◌, ◌≤◌, ◌⊎◌, ℕ, List, ◌++◌, length, slice_index, None, IfSome, IfNone, IsTrue, ◌↔◌, IfOk, IfErr, OnOk, Ok, Err};
 ghost use Rattle.ln_bytes.specs.Bigsize.{bigsize};
 ghost use Rattle.ln_bytes.specs.Reading.{Gives};
-ghost use Rattle.ln_bytes.specs.Tlv.{record_bytes, stream_bytes, may_follow, may_stand, AreRising, AreKnown, AreFit, Fits, Spells, HasFault, value_at, record_at, stream_at};
+ghost use Rattle.ln_bytes.specs.Tlv.{record_bytes, stream_bytes, may_follow, may_stand, AreRising, AreKnown, AreFit, MayStand, Fits, Spells, HasFault, value_at, record_at, stream_at};
 ghost use Rattle.ln_bytes.specs.declared.fault.Fault.{Fault};
 ghost use Rattle.ln_bytes.specs.declared.record.Record.{Record};
 
@@ -142,6 +142,24 @@ pub fn append_tlvs(out: &mut Vec<u8>, records: &[Record]) -> Result<(), Fault>
         put_record(out, record)?;
     }
     Ok(())
+}
+
+/// Whether the records may stand in one stream, for who knows these even types: the types rise strictly, and each
+/// even one is known. Takes no memory.
+pub fn tlvs_stand(records: &[Record], known_even: &[u64]) -> bool
+    ensures { IsTrue result ↔ MayStand known_even.now None records.now }
+{
+    let mut before = None;
+    for record in records {
+        if !follows(before, record.typ) {
+            return false;
+        }
+        if !stands(known_even, record.typ) {
+            return false;
+        }
+        before = Some(record.typ);
+    }
+    true
 }
 
 /// How many bytes the records are, or none where they are more than `most`. Takes no memory.

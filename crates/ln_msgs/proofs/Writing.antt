@@ -4,17 +4,16 @@ use Rattle.std.specs.Prelude.{IfOk, IfErr, IsErrOf}
 use Rattle.std.specs.Global.{Vec}
 use Rattle.std.proofs.lemmas.Bool.{cases_lt}
 use Rattle.ln_bytes.specs.Endian.{big_bytes}
-use Rattle.ln_bytes.specs.Tlv.{stream_bytes, AreFit, MayStand}
+use Rattle.ln_bytes.specs.Tlv.{stream_bytes, AreFit}
 use Rattle.ln_bytes.specs.declared.fault.Fault.{Fault}
 use Rattle.ln_bytes.specs.declared.fault.Fault.TheVariants.{TooLong, Memory}
 use Rattle.ln_bytes.specs.declared.record.Record.{Record}
-use Rattle.ln_bytes.proofs.Streams.{stands_all}
 use Rattle.ln_msgs.specs.declared.item.Field.{Field}
 use Rattle.ln_msgs.specs.Field.{AreOf, fields_bytes}
 use Rattle.ln_msgs.specs.Items.{kind_of, value_of, item_bytes, items_bytes, AreFieldsOf, AreProper}
 use Rattle.ln_msgs.specs.Table.{Form, form_of}
 use Rattle.ln_msgs.specs.Message.{Wire, wire_bytes, formed_bytes, Known, Says}
-use Rattle.ln_msgs.specs.Writing.{MayFollow, MayFollowForm, CanBeWritten, AreOfForm, IsWritten, parts_bytes}
+use Rattle.ln_msgs.specs.Writing.{MayFollowForm, CanBeWritten, AreOfForm, IsWritten, parts_bytes}
 use Rattle.ln_msgs.proofs.Sums.{flat_fits}
 
 pub item_below : (fs : List Field) (i : ℕ) (d : Field) → i < length fs → length (items_bytes fs) < 65536 → length (item_bytes (get_or fs i d).value) < 65536
@@ -64,14 +63,10 @@ is_written_as (Err f) form w typ fs rs below are is typ_is records_are ok long e
       | inr e ↦ record { is = inr (e, short_enough (Err f) (wire_bytes w) (ap Err e) (λ more. long.1 (subst (λ l. 65535 < length l) (sym parts) more))) }
     ]
 
--- the records of a message that can be written may stand behind its fields
-stand : (form : Form) (w : Wire) → MayFollow form w.records → MayStand form.known_even None w.records
-stand form w may = stands_all form.known_even None w.records may.rising may.known
-
 says_some : (form : Option Form) (w : Wire) (bytes : List ℕ) → form_of w.typ ≡ form → MayFollowForm form w.records → AreOfForm form w → AreFit w.records → bytes ≡ wire_bytes w → Says (Known w) bytes
 says_some None w bytes is may are fit e = absurd may
 says_some (Some form) w bytes is may are fit e =
-    (form, is, record { typ = are.0; values = are.1; stand = stand form w may; fit = fit; lengths = may.lengths }, e ∙ ap (λ f. formed_bytes f w) is)
+    (form, is, record { typ = are.0; values = are.1; stand = may.stand; fit = fit; lengths = may.lengths }, e ∙ ap (λ f. formed_bytes f w) is)
 
 pub says_it : (r : Result (Vec ℕ) Fault) (w : Wire) → CanBeWritten w → IsWritten r w → IfOk r (λ v. Says (Known w) v.items)
 says_it (Ok v) w can written = says_some (form_of w.typ) w v.items refl can written.is.3 written.is.2 written.is.0

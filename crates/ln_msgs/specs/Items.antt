@@ -1,12 +1,12 @@
 -- The fields of a message as the program hands them out: their kinds, values and bytes.
-use Rattle.std.specs.Prelude.{◌≡◌, ℕ, List, [], ◌∷◌, ◌++◌, length, map}
+use Rattle.std.specs.Prelude.{◌≡◌, ℕ, List, [], ◌∷◌, ◌++◌, length, map, Option, Some, None}
 use Rattle.std.specs.List.{flat_map, AllByRecursion}
 use Rattle.ln_msgs.specs.declared.item.Field.{Field}
 use Rattle.ln_msgs.specs.declared.item.Item.{Item}
 use Rattle.ln_msgs.specs.declared.item.Item.TheVariants as items
 use Rattle.ln_msgs.specs.Field.{Kind, Number, Value, Num, Str, Many, IsOf, value_bytes}
 use Rattle.ln_msgs.specs.Field as kinds
-use Rattle.ln_msgs.specs.Table.{Form}
+use Rattle.ln_msgs.specs.Table.{Form, form_of}
 use Rattle.ln_msgs.specs.Message.{Wire}
 
 abbrev pub kind_of : Item → Kind
@@ -45,3 +45,11 @@ IsProper f = IsOf (kind_of f.value) (value_of f.value)
 
 abbrev pub AreProper : List Field → Type 0
 AreProper fs = AllByRecursion IsProper fs
+
+-- these are the fields of the message, by the form of its type
+abbrev pub IsShownByForm : Option Form → Wire → List Field → Type 0
+IsShownByForm None w fs = ⊥
+IsShownByForm (Some form) w fs = AreFieldsOf form w fs
+
+abbrev pub IsShownAs : Wire → List Field → Type 0
+IsShownAs w fs = IsShownByForm (form_of w.typ) w fs

@@ -4,7 +4,7 @@ use Rattle.std.specs.Global.{Vec}
 use Rattle.ln_bytes.specs.declared.fault.Fault.{Fault}
 use Rattle.ln_bytes.specs.declared.fault.Fault.TheVariants.{TooLong, Memory}
 use Rattle.ln_bytes.specs.Endian.{big_bytes}
-use Rattle.ln_bytes.specs.Tlv.{AreRising, AreKnown, AreFit, stream_bytes}
+use Rattle.ln_bytes.specs.Tlv.{MayStand, AreFit, stream_bytes}
 use Rattle.ln_bytes.specs.declared.record.Record.{Record}
 use Rattle.ln_msgs.specs.declared.item.Field.{Field}
 use Rattle.ln_msgs.specs.Field.{AreOf}
@@ -12,10 +12,10 @@ use Rattle.ln_msgs.specs.Items.{items_bytes}
 use Rattle.ln_msgs.specs.Table.{Form, form_of}
 use Rattle.ln_msgs.specs.Message.{Wire, wire_bytes, have_lengths}
 
--- the records may stand behind the fields of this form
+-- The records may stand behind the fields of this form: their types rise strictly, each even one is known,
+-- and each that has a fixed length has it.
 pub record MayFollow (form : Form) (rs : List Record) : Type 0 where
-  pub rising : AreRising rs
-  pub known : AreKnown form.known_even rs
+  pub stand : MayStand form.known_even None rs
   pub lengths : IsTrue (have_lengths form.lengths rs)
 
 abbrev pub MayFollowForm : Option Form → List Record → Type 0
