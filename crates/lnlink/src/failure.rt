@@ -10,6 +10,9 @@ pub enum Failure {
     /// The words aren't a command. Exit status 2.
     #[error("usage")]
     Usage,
+    /// The text isn't hexadecimal. Exit status 2.
+    #[error("not hex")]
+    NotHex,
     /// The run was refused. Exit status 1.
     #[error("{0}")]
     Refused(Refusal),
@@ -25,6 +28,7 @@ impl Failure {
     {
         match self {
             Failure::Usage => 2,
+            Failure::NotHex => 2,
             Failure::Refused(_) => 1,
         }
     }

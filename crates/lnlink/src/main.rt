@@ -3,11 +3,14 @@
 
 mod choice;
 mod failure;
+mod text;
 
 use choice::{Choice, choose};
 use failure::Failure;
+use text::decode_text;
 use ln_msgs::{Counted, Refusal, answer_pings};
 use std::env::Env;
+use std::io::Write;
 use std::process::ExitCode;
 use std::{env, io};
 
@@ -29,8 +32,21 @@ fn run<R: Env + Input + Print + AllocGlobal>(rt: &R) -> Result<(), Failure> {
             let mut writer = Counted::new(io::writer(rt));
             answer_pings(rt.alloc(), &mut reader, &mut writer).map_err(Refusal::from)?;
         }
+        Choice::Decode(hex) => {
+            let text = decode_text(rt.alloc(), hex.as_str())?;
+            let mut writer = Counted::new(io::writer(rt));
+            print_all(&mut writer, text.as_str())?;
+        }
     }
     Ok(())
+}
+
+/// Writes a text.
+fn print_all<W: Write>(writer: &mut Counted<W>, text: &str) -> Result<(), Failure> {
+    match writer.write_all(text.as_bytes()) {
+        Ok(()) => Ok(()),
+        Err(_) => Err(Failure::Refused(Refusal::Io)),
+    }
 }
 
 /// The words behind the program's name. Words that aren't text are no command.
