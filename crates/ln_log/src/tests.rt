@@ -1,0 +1,1 @@
+//! The worked limits of an add.
