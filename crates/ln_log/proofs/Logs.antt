@@ -148,6 +148,14 @@ exactly l w =
       (λ m. passed (same_counts l.acknowledged l.signed) (same_counts l.signed next) (ac m.revoked) (λ e. m.new (ap (covered l) (equal_counts l.signed next e) ∙ all_own l))),
     )
 
+-- where nothing keeps a side from signing, its counts are these
+pub sign_allowed : (l : Log) → sign_fault l ≡ None → (l.acknowledged.own ≡ l.signed.own) × (l.acknowledged.peer ≡ l.signed.peer) × (l.signed.own ≡ length l.own → l.signed.peer ≡ l.current.peer → ⊥)
+sign_allowed l e =
+    let next = (signed_all l).signed in
+    let p = passes (same_counts l.acknowledged l.signed) (same_counts l.signed next) e in
+    let same = equal_counts l.acknowledged l.signed p.0 in
+    (ap (λ (c : Counts). c.own) same, ap (λ (c : Counts). c.peer) same, λ a b. let is : same_counts l.signed next ≡ true = same_when l.signed next a b in let differ = p.1 in cc)
+
 -- ---- what a log answers
 
 -- a test that must be false for there to be no refusal

@@ -1,5 +1,5 @@
 -- What two sides agreed on as they opened a channel (BOLT 2, "Channel Establishment v1").
-use Rattle.std.specs.Prelude.{ℕ, ◌*◌, ◌-◌, ◌≤◌}
+use Rattle.std.specs.Prelude.{ℕ, ◌*◌, ◌-◌, ◌≤◌, nat_le, Bool, ◌&&◌}
 use Rattle.ln_log.specs.declared.opening.Role.{Role}
 use Rattle.ln_log.specs.declared.opening.Role.TheVariants.{Funder, Fundee}
 use Rattle.ln_log.specs.declared.opening.Limits.{Limits}
@@ -26,3 +26,7 @@ pub record IsFit (o : Opening) : Type 0 where
   pub push : o.push ≤ 1000 * o.satoshis
   pub funder_accepts : o.funder.accepted ≤ 483
   pub fundee_accepts : o.fundee.accepted ≤ 483
+
+-- the same, as a test
+abbrev pub is_fit : Opening → Bool
+is_fit o = nat_le 1 o.satoshis && nat_le o.satoshis 2100000000000000 && nat_le o.push (1000 * o.satoshis) && nat_le o.funder.accepted 483 && nat_le o.fundee.accepted 483

@@ -9,7 +9,7 @@ mod standing;
 mod update;
 mod view;
 
-pub use log::{Pair, Side, UpdateLog, sign_exactly};
+pub use log::{Counts, Pair, Side, UpdateLog, sign_exactly};
 pub use opening::{Limits, Opening, Role};
 pub use plain::{conservation, live_count, outcome_of, plain_view};
 pub use standing::{Standing, add_refusal};

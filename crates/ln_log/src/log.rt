@@ -33,11 +33,13 @@ pub enum Pair {
     ToAccept,
 }
 
-// How many updates of either side a commitment covers.
+/// How many updates of either side a commitment covers.
 #[derive(Clone, Copy, Debug, PartialEq, Eq)]
-struct Counts {
-    own: usize,
-    peer: usize,
+pub struct Counts {
+    /// Of this side's.
+    pub own: usize,
+    /// Of the other side's.
+    pub peer: usize,
 }
 
 /// The updates of both sides as one side has them, and how many of them its last signature, its own
@@ -245,8 +247,30 @@ impl UpdateLog {
         self.acknowledged = self.signed;
     }
 
-    // How many updates of either side a pair covers.
-    fn counts(&self, pair: Pair) -> Counts
+    /// The updates that this side has proposed.
+    pub fn own_updates(&self) -> &[Update]
+        ensures { result.now ≡ self.now.own }
+    {
+        self.own.as_slice()
+    }
+
+    /// The updates that this side has taken of the peer's.
+    pub fn peer_updates(&self) -> &[Update]
+        ensures { result.now ≡ self.now.got }
+    {
+        self.got.as_slice()
+    }
+
+    /// How many updates of either side the last own signature covers.
+    pub fn covered(&self) -> Counts
+        ensures own { result.own ≡ self.now.signed.own }
+        ensures peer { result.peer ≡ self.now.signed.peer }
+    {
+        self.signed
+    }
+
+    /// How many updates of either side a pair covers.
+    pub fn counts(&self, pair: Pair) -> Counts
         ensures own { result.own ≡ (counts_of pair self.now).own }
         ensures peer { result.peer ≡ (counts_of pair self.now).peer }
         ensures own_within { result.own ≤ length self.now.own }

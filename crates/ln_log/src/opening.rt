@@ -55,13 +55,14 @@ pub struct Opening {
 
 impl Opening {
     ghost use Rattle.std.specs.Prelude.{◌≡◌, ◌↔◌, IsTrue};
-    ghost use Rattle.ln_log.specs.Opening.{IsFit, limits_of, first_balance};
+    ghost use Rattle.ln_log.specs.Opening.{IsFit, is_fit, limits_of, first_balance};
 
     /// Whether a channel may open so: `funding_satoshis` is 1 to 2,100,000,000,000,000, `push_msat` is
     /// at most 1000 times that, and neither side accepts more than 483 HTLCs (BOLT 2, "Requirements" of
     /// `open_channel`).
     pub fn is_fit(&self) -> bool
-        ensures { IsTrue result ↔ IsFit self.now }
+        ensures fit { IsTrue result ↔ IsFit self.now }
+        ensures test { result ≡ is_fit self.now }
     {
         self.satoshis >= 1
             && self.satoshis <= 2_100_000_000_000_000

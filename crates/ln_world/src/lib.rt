@@ -1,0 +1,19 @@
+//! Two sides of a channel and the messages between them, moved step by step.
+#![tactic(auto)]
+
+mod channel;
+mod endpoint;
+mod line;
+mod message;
+mod step;
+mod world;
+
+pub use channel::Channel;
+pub use endpoint::{Answer, Endpoint};
+pub use line::Line;
+pub use message::Message;
+pub use step::{Act, Command, End, Node, Offer, Ready, Step};
+pub use world::{World, headline};
+
+#[cfg(test)]
+mod tests;
