@@ -5,6 +5,7 @@ mod channel;
 mod endpoint;
 mod line;
 mod message;
+mod report;
 mod step;
 mod world;
 

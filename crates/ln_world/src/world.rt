@@ -7,8 +7,8 @@ ghost use Rattle.ln_log.specs.Machine.{IsRun};
 
 use crate::channel::Channel;
 use crate::line::Line;
+use crate::report::report;
 use crate::step::{End, Ready, Step};
-use ln_log::{Pair, Side};
 use ln_msgs::Refusal;
 use std::alloc::Global;
 use std::marker::Model;
@@ -30,7 +30,7 @@ impl Model for World {
 }
 
 impl World {
-    ghost use Rattle.std.specs.Prelude.{◌≡◌, IfOk, OnOk, None};
+    ghost use Rattle.std.specs.Prelude.{◌≡◌, IfOk, OnOk, None, option_copied};
     ghost use Rattle.std.specs.Result.{IsOkUnless};
     ghost use Rattle.ln_log.specs.Machine.{IsRun};
     ghost use Rattle.ln_world.specs.World.{happens, run, machine_of, moves, Promises};
@@ -77,6 +77,21 @@ impl World {
                 Some(channel) => channel.act(end, act, &mut self.lines),
             },
         }
+    }
+
+    /// The channel, where there is one.
+    pub fn channel(&self) -> Option<&Channel>
+        ensures { option_copied result ≡ self.now }
+    {
+        self.channel.as_ref()
+    }
+
+    /// What the steps did, line by line, and then how each end of the channel stands. 60 where there was
+    /// no memory; nothing has changed then.
+    pub fn report(&self, alloc: Global) -> Result<String, Refusal>
+        ensures { IsOkUnless result Refusal.Memory }
+    {
+        report(alloc, &self.lines, self.channel.as_ref())
     }
 
     fn open(&mut self, alloc: Global, ready: &Ready) -> Result<(), Refusal>
