@@ -1,20 +1,28 @@
 -- Over all lists of steps.
+use Rattle.ln_log.specs.Machine.{MaySign, Covered, party}
+use Rattle.std.proofs.Common.{◌↔◌, length, append-nil, ap, ◌≤◌}
+use Rattle.ln_world.specs.World.{end_of}
+use Rattle.ln_log.specs.Machine.{IsSettled}
+use Rattle.ln_world.proofs.Flow.{Flows}
 use Rattle.std.proofs.Common.{◌≡◌, List, [], ◌∷◌, ◌++◌, Option, Some, None, Bool, true, false, cond, not, ◌&&◌, refl, sym, ◌∙◌, subst, arith}
 use Rattle.ln_log.specs.declared.opening.Role.{Role}
 use Rattle.ln_log.specs.declared.opening.Role.TheVariants.{Funder, Fundee}
 use Rattle.ln_log.specs.declared.opening.Opening.{Opening}
 use Rattle.ln_log.specs.Opening.{IsFit, is_fit}
 use Rattle.ln_log.specs.Machine.{Machine, Move, Open, IsRun, after}
-use Rattle.ln_log.specs.Log.{party_of, IsWithin, opened, none}
+use Rattle.ln_log.specs.Log.{Log, party_of, IsWithin, opened, none, sign_fault}
 use Rattle.ln_world.specs.declared.channel.Channel.{Channel}
 use Rattle.ln_world.specs.declared.step.Ready.{Ready}
 use Rattle.ln_world.specs.declared.step.Act.{Act}
 use Rattle.ln_world.specs.declared.step.Step.{Step}
 use Rattle.ln_world.specs.declared.step.Step.TheVariants as step
 use Rattle.ln_world.specs.Ends.{EndState, Both, acts, fresh_end}
-use Rattle.ln_world.specs.World.{side_of, acts_at, may_open, opened_by, same_node, happens, run, machine_of_channel, machine_of, act_moves, moves_at, moves_of, moves, Promises}
+use Rattle.ln_world.specs.World.{side_of, acts_at, may_open, opened_by, same_node, happens, run, machine_of_channel, machine_of, act_moves, moves_at, moves_of, moves, Promises, SignsExactly, TakesFront, NoneRefused, HoldsAll, Agrees}
 use Rattle.ln_world.proofs.Flow.{Kept, Phase, follows_from}
-use Rattle.ln_world.proofs.Steps.{place, acts_kept, acts_same, acts_run}
+use Rattle.ln_world.proofs.Steps.{place, acts_kept, acts_same, acts_run, front_fits}
+use Rattle.ln_world.proofs.Flight.{ups, sigs}
+use Rattle.ln_log.proofs.Logs.{exactly}
+use Rattle.std.proofs.lemmas.List.{length-take-le, take_all}
 use Rattle.ln_log.proofs.Fits.{fit_is}
 
 pub record ChannelKept (c : Channel) : Type 0 where
@@ -128,3 +136,66 @@ machine_runs ss = runs_on ss None tt
 
 pub held_begins : (ss : List Step) → Promises (machine_of (run ss None))
 held_begins ss = promised (run ss None) (kept_on ss None tt)
+
+-- ---- the other laws
+
+signs_side : (x : Role) (c : Channel) → ChannelKept c → (sign_fault (end_of x c).log ≡ None) ↔ MaySign (party x (machine_of_channel c))
+signs_side Funder c k = exactly c.funder.log k.kept.there.within
+signs_side Fundee c k = exactly c.fundee.log k.kept.back.within
+
+front_side : (x : Role) (c : Channel) → ChannelKept c → TakesFront (end_of x c).log (end_of x c).inbox
+front_side Funder c k = front_fits c.funder c.fundee c.funder.inbox k.kept.back
+front_side Fundee c k = front_fits c.fundee c.funder c.fundee.inbox k.kept.there
+
+signs_at : (c : Option Channel) → AreKept c → SignsExactly c
+signs_at None k = tt
+signs_at (Some c) k = λ x. signs_side x c k
+
+none_refused : (c : Option Channel) → AreKept c → NoneRefused c
+none_refused None k = tt
+none_refused (Some c) k = λ x. front_side x c k
+
+pub signs_law : (ss : List Step) → SignsExactly (run ss None)
+signs_law ss = signs_at (run ss None) (kept_on ss None tt)
+
+pub refused_law : (ss : List Step) → NoneRefused (run ss None)
+refused_law ss = none_refused (run ss None) (kept_on ss None tt)
+
+-- at rest, by the counts
+settled_counts : (l : Log) → IsWithin l → IsSettled (party_of l) → (l.signed.own ≡ length l.own) × (l.signed.peer ≡ l.current.peer) × (l.acknowledged.own ≡ l.signed.own) × (l.acknowledged.peer ≡ l.signed.peer)
+settled_counts l w s =
+    let so : l.signed.own ≡ length l.own = sym (length-take-le l.signed.own l.own w.own_signed) ∙ ap (λ (v : Covered). length v.own) s.covered in
+    let lp : l.signed.peer ≤ length l.got = omega (arith, w.peer_signed, w.peer_current) in
+    let sp : l.signed.peer ≡ l.current.peer = sym (length-take-le l.signed.peer l.got lp) ∙ ap (λ (v : Covered). length v.peer) s.covered ∙ length-take-le l.current.peer l.got w.peer_current in
+    let lo : l.acknowledged.own ≤ length l.own = omega (arith, w.own_acknowledged, w.own_signed) in
+    let la : l.acknowledged.peer ≤ length l.got = omega (arith, w.peer_acknowledged, w.peer_signed, w.peer_current) in
+    let ao : l.acknowledged.own ≡ l.signed.own = sym (length-take-le l.acknowledged.own l.own lo) ∙ ap (λ (v : Covered). length v.own) s.revoked ∙ length-take-le l.signed.own l.own w.own_signed in
+    let pa : l.acknowledged.peer ≡ l.signed.peer = sym (length-take-le l.acknowledged.peer l.got la) ∙ ap (λ (v : Covered). length v.peer) s.revoked ∙ length-take-le l.signed.peer l.got lp in
+    (so, sp, ao, pa)
+
+-- y has taken all of x's updates, and x all of y's
+holds_all : (x y : EndState) → Flows x y → Flows y x → x.inbox ≡ [] → y.inbox ≡ [] → IsSettled (party_of x.log) → IsSettled (party_of y.log) → HoldsAll (party_of x.log) (party_of y.log)
+holds_all x y f g ex ey sx sy =
+    let cx = settled_counts x.log f.within sx in
+    let cy = settled_counts y.log g.within sy in
+    let none_there : sigs y.inbox ≡ 0 = ap sigs ey in
+    let none_back : sigs x.inbox ≡ 0 = ap sigs ex in
+    let got : x.log.got ≡ y.log.own = sym (append-nil x.log.got) ∙ ap (λ ms. x.log.got ++ ups ms) (sym ex) ∙ g.lists in
+    let theirs : y.log.got ≡ x.log.own = sym (append-nil y.log.got) ∙ ap (λ ms. y.log.got ++ ups ms) (sym ey) ∙ f.lists in
+    -- y accepted all of x's, and signed for them
+    let all_own : y.log.current.peer ≡ x.log.signed.own = f.phase.after_own none_there in
+    let own : x.log.current.own ≡ y.log.signed.peer = g.phase.after_peer none_back in
+    let peer : x.log.current.peer ≡ y.log.signed.own = g.phase.after_own none_back in
+    let a : length x.log.own ≤ x.log.current.own = omega (arith, own, all_own, cx.0, cy.1) in
+    let b : length x.log.got ≤ x.log.acknowledged.peer = omega (arith, peer, cx.3, cx.1, cy.0, ap length got) in
+    record {
+      own = take_all x.log.current.own x.log.own a;
+      peer = take_all x.log.acknowledged.peer x.log.got b ∙ got;
+    }
+
+agrees : (c : Option Channel) → AreKept c → Agrees c
+agrees None k = tt
+agrees (Some c) k = λ r. (holds_all c.funder c.fundee k.kept.there k.kept.back r.to_funder r.to_fundee r.funder r.fundee, holds_all c.fundee c.funder k.kept.back k.kept.there r.to_fundee r.to_funder r.fundee r.funder)
+
+pub agreement_law : (ss : List Step) → Agrees (run ss None)
+agreement_law ss = agrees (run ss None) (kept_on ss None tt)

@@ -1,4 +1,5 @@
 -- What an end does keeps the flows, and is the moves of the machine that the table says.
+use Rattle.ln_world.specs.World.{TakesFront}
 use Rattle.std.proofs.Common.{◌≡◌, ℕ, ◌+◌, ◌≤◌, List, [], ◌∷◌, ◌++◌, length, take, Option, Some, None, false, cond, refl, sym, ap, ◌∙◌, subst, arith, option_map, is_none}
 use Rattle.std.proofs.lemmas.List.{take-append-le, take_all}
 use Rattle.ln_msgs.specs.declared.refusal.Refusal.{Refusal}
@@ -39,6 +40,12 @@ comes x y u ms g =
     ∙ ap (λ r. taken_fault y.log.opening r x.log.got (take x.log.acknowledged.own x.log.own) u) g.roles
     ∙ taken_same y.log.opening y.log.role x.log.got (take x.log.acknowledged.own x.log.own) [] u
     ∙ g.fits.0
+
+pub front_fits : (x y : EndState) (ms : List Message) → Flows y (record x { inbox = ms }) → TakesFront x.log ms
+front_fits x y [] g = tt
+front_fits x y (message.Update u ∷ ms) g = comes x y u ms g
+front_fits x y (message.Sign n ∷ ms) g = tt
+front_fits x y (message.Revoke n ∷ ms) g = tt
 
 delivered : (x y : EndState) (ms : List Message) → Kept (record { x = record x { inbox = ms }; y = y }) → Kept (delivers ms (record { x = record x { inbox = ms }; y = y }))
 delivered x y [] k = k

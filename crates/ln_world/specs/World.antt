@@ -1,13 +1,16 @@
 -- A world of one channel, and which steps of the abstract machine its steps are.
+use Rattle.std.specs.Prelude.{take}
+use Rattle.std.specs.Prelude.{◌↔◌}
+use Rattle.ln_log.specs.Log.{Log}
 use Rattle.std.specs.Prelude.{◌≡◌, List, [], ◌∷◌, ◌++◌, Bool, not, ◌&&◌, ◌==◌, Option, Some, None, is_none, if◌then◌else◌}
 use Rattle.ln_log.specs.declared.opening.Role.{Role}
 use Rattle.ln_log.specs.declared.opening.Role.TheVariants.{Funder, Fundee}
 use Rattle.ln_log.specs.declared.update.Update.{Update}
 use Rattle.ln_log.specs.declared.opening.Opening.{Opening}
-use Rattle.ln_log.specs.Opening.{is_fit}
-use Rattle.ln_log.specs.Limits.{update_fault}
+use Rattle.ln_log.specs.Opening.{is_fit, other_role}
+use Rattle.ln_log.specs.Limits.{update_fault, taken_fault}
 use Rattle.ln_log.specs.Log.{party_of, sign_fault}
-use Rattle.ln_log.specs.Machine.{Machine, Party, Move, Open, Propose, Sign, Accept, Learn, Headline}
+use Rattle.ln_log.specs.Machine.{Machine, Party, party, held, MaySign, IsSettled, Move, Open, Propose, Sign, Accept, Learn, Headline}
 use Rattle.ln_world.specs.declared.message.Message.{Message}
 use Rattle.ln_world.specs.declared.message.Message.TheVariants as message
 use Rattle.ln_world.specs.declared.step.Node.{Node}
@@ -114,6 +117,35 @@ abbrev pub Promises : Option Machine → Type 0
 Promises None = Unit {0}
 Promises (Some m) = Headline m
 
--- nothing is in flight and nothing is left to sign or to acknowledge
-abbrev pub no_messages : Channel → Type 0
-no_messages c = (c.funder.inbox ≡ []) × (c.fundee.inbox ≡ [])
+-- a side is kept from signing exactly where the machine may not sign there
+abbrev pub SignsExactly : Option Channel → Type 0
+SignsExactly None = Unit {0}
+SignsExactly (Some c) = (x : Role) → (sign_fault (end_of x c).log ≡ None) ↔ MaySign (party x (machine_of_channel c))
+
+-- an update in front of an end is within its limits
+abbrev pub TakesFront : Log → List Message → Type 0
+TakesFront l [] = Unit {0}
+TakesFront l (message.Update u ∷ ms) = taken_fault l.opening (other_role l.role) l.got (take l.acknowledged.own l.own) u ≡ None
+TakesFront l (message.Sign n ∷ ms) = Unit {0}
+TakesFront l (message.Revoke n ∷ ms) = Unit {0}
+
+-- no message that is delivered is refused
+abbrev pub NoneRefused : Option Channel → Type 0
+NoneRefused None = Unit {0}
+NoneRefused (Some c) = (x : Role) → TakesFront (end_of x c).log (end_of x c).inbox
+
+-- at rest: nothing is in flight, and nothing is left to sign or to acknowledge
+pub record IsAtRest (c : Channel) : Type 0 where
+  pub to_funder : c.funder.inbox ≡ []
+  pub to_fundee : c.fundee.inbox ≡ []
+  pub funder : IsSettled (party_of c.funder.log)
+  pub fundee : IsSettled (party_of c.fundee.log)
+
+-- both sides then hold every update of either
+pub record HoldsAll (x y : Party) : Type 0 where
+  pub own : (held x).own ≡ x.own
+  pub peer : (held x).peer ≡ y.own
+
+abbrev pub Agrees : Option Channel → Type 0
+Agrees None = Unit {0}
+Agrees (Some c) = IsAtRest c → HoldsAll (party_of c.funder.log) (party_of c.fundee.log) × HoldsAll (party_of c.fundee.log) (party_of c.funder.log)

@@ -14,7 +14,7 @@ pub use endpoint::{Answer, Endpoint};
 pub use line::Line;
 pub use message::Message;
 pub use step::{Act, Command, End, Node, Offer, Ready, Step};
-pub use world::{World, headline};
+pub use world::{World, agreement, headline, never_refused, signs_exactly};
 
 #[cfg(test)]
 mod tests;

@@ -32,7 +32,10 @@ fn write_end(
         Role::Funder => (view.funder, view.fundee),
         Role::Fundee => (view.fundee, view.funder),
     };
-    write!(text, "{end} signed {signed} committed {committed} peer {peer}")?;
+    write!(
+        text,
+        "{end} signed {signed} committed {committed} peer {peer}"
+    )?;
     writeln!(text, " balance {own}/{other} live {live} ready")?;
     Ok(())
 }

@@ -74,7 +74,12 @@ fn an_add_is_committed_on_both_sides(rt: HostRuntime) -> Result<(), Fail> {
         deliver('A'),
         deliver('B'),
     ];
-    gives(&rt, rt.alloc(), &steps, "0 open\nA0 sends channel_ready\nB0 sends channel_ready\nA0 sends add 0\nA0 sends sign 1\nB0 sends revoke 0\nB0 sends sign 1\nA0 sends revoke 0\nA0 event 0 added own 0\nB0 event 0 added peer 0\nA0 signed 1 committed 1 peer 0 balance 999995000/0 live 1 ready\nB0 signed 0 committed 0 peer 1 balance 0/999995000 live 1 ready\n")
+    gives(
+        &rt,
+        rt.alloc(),
+        &steps,
+        "0 open\nA0 sends channel_ready\nB0 sends channel_ready\nA0 sends add 0\nA0 sends sign 1\nB0 sends revoke 0\nB0 sends sign 1\nA0 sends revoke 0\nA0 event 0 added own 0\nB0 event 0 added peer 0\nA0 signed 1 committed 1 peer 0 balance 999995000/0 live 1 ready\nB0 signed 0 committed 0 peer 1 balance 0/999995000 live 1 ready\n",
+    )
 }
 
 #[test]
@@ -87,13 +92,23 @@ fn limits_of_an_add(rt: HostRuntime) -> Result<(), Fail> {
         add('A', 1_000_000, 400),
         add('A', 1, 400),
     ];
-    gives(&rt, rt.alloc(), &steps, "0 open\nA0 sends channel_ready\nB0 sends channel_ready\nA0 refused 44 26\nA0 refused 44 23\nA0 refused 44 27\nA0 sends add 0\nA0 refused 44 26\nA0 signed 0 committed 0 peer 0 balance 1000000/0 live 0 ready\nB0 signed 0 committed 0 peer 0 balance 0/1000000 live 0 ready\n")
+    gives(
+        &rt,
+        rt.alloc(),
+        &steps,
+        "0 open\nA0 sends channel_ready\nB0 sends channel_ready\nA0 refused 44 26\nA0 refused 44 23\nA0 refused 44 27\nA0 sends add 0\nA0 refused 44 26\nA0 signed 0 committed 0 peer 0 balance 1000000/0 live 0 ready\nB0 signed 0 committed 0 peer 0 balance 0/1000000 live 0 ready\n",
+    )
 }
 
 #[test]
 fn nothing_to_sign(rt: HostRuntime) -> Result<(), Fail> {
     let steps = [ready(1_000_000, 0), sign('A')];
-    gives(&rt, rt.alloc(), &steps, "0 open\nA0 sends channel_ready\nB0 sends channel_ready\nA0 refused 42\nA0 signed 0 committed 0 peer 0 balance 1000000000/0 live 0 ready\nB0 signed 0 committed 0 peer 0 balance 0/1000000000 live 0 ready\n")
+    gives(
+        &rt,
+        rt.alloc(),
+        &steps,
+        "0 open\nA0 sends channel_ready\nB0 sends channel_ready\nA0 refused 42\nA0 signed 0 committed 0 peer 0 balance 1000000000/0 live 0 ready\nB0 signed 0 committed 0 peer 0 balance 0/1000000000 live 0 ready\n",
+    )
 }
 
 #[test]
@@ -105,7 +120,12 @@ fn a_signature_is_outstanding(rt: HostRuntime) -> Result<(), Fail> {
         add('A', 5000, 400),
         sign('A'),
     ];
-    gives(&rt, rt.alloc(), &steps, "0 open\nA0 sends channel_ready\nB0 sends channel_ready\nA0 sends add 0\nA0 sends sign 1\nA0 sends add 1\nA0 refused 41\nA0 signed 1 committed 0 peer 0 balance 1000000000/0 live 0 ready\nB0 signed 0 committed 0 peer 0 balance 0/1000000000 live 0 ready\n")
+    gives(
+        &rt,
+        rt.alloc(),
+        &steps,
+        "0 open\nA0 sends channel_ready\nB0 sends channel_ready\nA0 sends add 0\nA0 sends sign 1\nA0 sends add 1\nA0 refused 41\nA0 signed 1 committed 0 peer 0 balance 1000000000/0 live 0 ready\nB0 signed 0 committed 0 peer 0 balance 0/1000000000 live 0 ready\n",
+    )
 }
 
 #[test]
@@ -119,5 +139,10 @@ fn what_cannot_be_done_is_idle(rt: HostRuntime) -> Result<(), Fail> {
         deliver('A'),
         sign('C'),
     ];
-    gives(&rt, rt.alloc(), &steps, "idle\nidle\nidle\n0 open\nA0 sends channel_ready\nB0 sends channel_ready\nidle\nidle\nidle\nA0 signed 0 committed 0 peer 0 balance 1000000/0 live 0 ready\nB0 signed 0 committed 0 peer 0 balance 0/1000000 live 0 ready\n")
+    gives(
+        &rt,
+        rt.alloc(),
+        &steps,
+        "idle\nidle\nidle\n0 open\nA0 sends channel_ready\nB0 sends channel_ready\nidle\nidle\nidle\nA0 signed 0 committed 0 peer 0 balance 1000000/0 live 0 ready\nB0 signed 0 committed 0 peer 0 balance 0/1000000 live 0 ready\n",
+    )
 }

@@ -2,7 +2,7 @@
 
 ghost use Rattle.std.specs.Prelude.{◌≡◌, List, Option, None};
 ghost use Rattle.ln_world.specs.declared.step.Step.{Step};
-ghost use Rattle.ln_world.specs.World.{run, machine_of, moves, Promises};
+ghost use Rattle.ln_world.specs.World.{run, machine_of, moves, Promises, SignsExactly, NoneRefused, Agrees};
 ghost use Rattle.ln_log.specs.Machine.{IsRun};
 
 use crate::channel::Channel;
@@ -129,4 +129,20 @@ impl World {
 pub fn headline()
     ensures machine { (steps : List Step) → IsRun (moves steps None) None (machine_of (run steps None)) }
     ensures held { (steps : List Step) → Promises (machine_of (run steps None)) }
+{}
+
+/// Over every list of steps: a side is kept from signing exactly where the machine may not sign there.
+pub fn signs_exactly()
+    ensures { (steps : List Step) → SignsExactly (run steps None) }
+{}
+
+/// Over every list of steps: no message that is delivered is refused.
+pub fn never_refused()
+    ensures { (steps : List Step) → NoneRefused (run steps None) }
+{}
+
+/// Over every list of steps: where nothing is in flight and nothing is left to sign or to acknowledge,
+/// both sides hold every update of either.
+pub fn agreement()
+    ensures { (steps : List Step) → Agrees (run steps None) }
 {}
