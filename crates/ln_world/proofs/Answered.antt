@@ -6,6 +6,8 @@ use Rattle.ln_log.specs.declared.update.Update.{Update}
 use Rattle.ln_log.specs.Opening.{other_role}
 use Rattle.ln_log.specs.Limits.{proposal_fault, taken_fault, Answers}
 use Rattle.ln_log.specs.Log.{Log, proposed, received}
+use Rattle.ln_world.specs.declared.answer.Answer.TheVariants.{Done, Refused}
+use Rattle.ln_world.specs.Ends.{answer_by}
 use Rattle.ln_world.specs.declared.message.Message.TheVariants as message
 use Rattle.ln_world.specs.declared.step.Offer.{Offer}
 use Rattle.ln_world.specs.Ends.{EndState, Both, sends, add_of, offer_fault, offers, takes}
@@ -47,3 +49,19 @@ pub untaken_by : (x y : EndState) (u : Update) (l : Log) (e : Refusal) → Answe
 untaken_by x y u l e h differ el =
     ap (λ m. record { x = record x { log = m }; y = y }) el
     ∙ ap (λ b. cond b (record { x = record x { log = received u x.log }; y = y }) (record { x = x; y = y })) (sym (some_of _ e h differ))
+
+-- what is answered
+
+pub done_by : (f : Option Refusal) → Answers {A = Unit {0}} f (Ok tt) → Done ≡ answer_by f
+done_by None h = refl
+done_by (Some r) h = absurd h
+
+pub refused_answer : (f : Option Refusal) (e : Refusal) → Answers {A = Unit {0}} f (Err e) → (e ≡ refusal.Memory → ⊥) → Refused e ≡ answer_by f
+refused_answer None e h differ = absurd (differ h)
+refused_answer (Some r) e h differ = ap Refused h
+
+pub offer_done : (l : Log) (o : Offer) (u : Update) → u ≡ add_of o l → Answers {A = Unit {0}} (proposal_fault l.opening l.role l.own (take l.current.peer l.got) u) (Ok tt) → Done ≡ answer_by (offer_fault o l)
+offer_done l o u eu h = done_by _ h ∙ ap (λ v. answer_by (proposal_fault l.opening l.role l.own (take l.current.peer l.got) v)) eu
+
+pub offer_refused : (l : Log) (o : Offer) (u : Update) (e : Refusal) → u ≡ add_of o l → Answers {A = Unit {0}} (proposal_fault l.opening l.role l.own (take l.current.peer l.got) u) (Err e) → (e ≡ refusal.Memory → ⊥) → Refused e ≡ answer_by (offer_fault o l)
+offer_refused l o u e eu h differ = refused_answer _ e h differ ∙ ap (λ v. answer_by (proposal_fault l.opening l.role l.own (take l.current.peer l.got) v)) eu

@@ -1,6 +1,6 @@
 -- Both ends of a channel, and what is in flight between them (BOLT 2, "Normal Operation"). What an end
 -- does is told from that end, as x, with y at the other.
-use Rattle.std.specs.Prelude.{ℕ, ◌+◌, List, [], ◌∷◌, ◌++◌, take, Option, is_none, if◌then◌else◌}
+use Rattle.std.specs.Prelude.{ℕ, ◌+◌, List, [], ◌∷◌, ◌++◌, take, Option, is_none, if◌then◌else◌, Some, None}
 use Rattle.ln_msgs.specs.declared.refusal.Refusal.{Refusal}
 use Rattle.ln_log.specs.declared.opening.Role.{Role}
 use Rattle.ln_log.specs.declared.opening.Opening.{Opening}
@@ -10,6 +10,8 @@ use Rattle.ln_log.specs.Opening.{other_role}
 use Rattle.ln_log.specs.Updates.{next_id}
 use Rattle.ln_log.specs.Limits.{proposal_fault, taken_fault}
 use Rattle.ln_log.specs.Log.{Log, opened, proposed, received, signed_all, accepted_all, acknowledged_all, sign_fault}
+use Rattle.ln_world.specs.declared.answer.Answer.{Answer}
+use Rattle.ln_world.specs.declared.answer.Answer.TheVariants.{Done, Idle, Refused}
 use Rattle.ln_world.specs.declared.message.Message.{Message}
 use Rattle.ln_world.specs.declared.message.Message.TheVariants as message
 use Rattle.ln_world.specs.declared.step.Offer.{Offer}
@@ -80,3 +82,21 @@ abbrev pub acts : Act → Both → Both
 acts act.Deliver b = delivers b.x.inbox b
 acts (act.Send (command.Add o)) b = offers o b
 acts (act.Send command.Sign) b = signs_all b
+
+-- ---- what became of it
+
+abbrev pub answer_by : Option Refusal → Answer
+answer_by None = Done
+answer_by (Some r) = Refused r
+
+abbrev pub taken_answer : Log → List Message → Answer
+taken_answer l [] = Idle
+taken_answer l (message.Update u ∷ ms) = answer_by (taken_fault l.opening (other_role l.role) l.got (take l.acknowledged.own l.own) u)
+taken_answer l (message.Sign n ∷ ms) = Done
+taken_answer l (message.Revoke n ∷ ms) = Done
+
+-- it is refused exactly where something forbids it, and nothing else changes then
+abbrev pub answer_to : Act → EndState → Answer
+answer_to act.Deliver x = taken_answer x.log x.inbox
+answer_to (act.Send (command.Add o)) x = answer_by (offer_fault o x.log)
+answer_to (act.Send command.Sign) x = answer_by (sign_fault x.log)

@@ -5,7 +5,8 @@ ghost use Rattle.std.specs.Result.{IsOkUnless};
 ghost use Rattle.ln_log.specs.Opening.{IsFit};
 ghost use Rattle.ln_world.specs.Ends.{acts};
 
-use crate::endpoint::{Answer, Endpoint, act};
+use crate::answer::Answer;
+use crate::endpoint::{Endpoint, act};
 use crate::line::Line;
 use crate::step::{Act, End, Node, Ready};
 use ln_log::{Pair, Role, Side, Update};

@@ -1,9 +1,12 @@
 //! One end of a channel, and what is in flight to it.
 
-ghost use Rattle.std.specs.Prelude.{◌≡◌, OnOk};
+ghost use Rattle.std.specs.Prelude.{◌≡◌, OnOk, IfOk, take};
+ghost use Rattle.ln_log.specs.Opening.{other_role};
+ghost use Rattle.ln_log.specs.Limits.{taken_fault};
 ghost use Rattle.std.specs.Result.{IsOkUnless};
-ghost use Rattle.ln_world.specs.Ends.{EndState, Both, sends, offers, signs_all, takes, delivers, acts};
+ghost use Rattle.ln_world.specs.Ends.{EndState, Both, sends, offers, signs_all, takes, delivers, acts, answer_by, answer_to};
 
+use crate::answer::Answer;
 use crate::message::Message;
 use crate::step::{Act, Command, Offer};
 use ln_log::{Add, Opening, Role, Update, UpdateLog};
@@ -68,17 +71,6 @@ impl Endpoint {
     }
 }
 
-/// What became of an act.
-#[derive(Clone, Copy, Debug, PartialEq, Eq)]
-pub enum Answer {
-    /// It was done.
-    Done,
-    /// There was nothing to do it with.
-    Idle,
-    /// It was refused, and nothing has changed.
-    Refused(Refusal),
-}
-
 fn send(x: &mut Endpoint, y: &mut Endpoint, message: Message) -> Result<(), Refusal>
     ensures ok { OnOk result (record { x = x.new; y = y.new } ≡ sends message (record { x = x.old; y = y.old })) }
     ensures memory { IsOkUnless result Refusal.Memory }
@@ -90,6 +82,7 @@ fn send(x: &mut Endpoint, y: &mut Endpoint, message: Message) -> Result<(), Refu
 
 fn offer(x: &mut Endpoint, y: &mut Endpoint, offer: &Offer) -> Result<Answer, Refusal>
     ensures ok { OnOk result (record { x = x.new; y = y.new } ≡ offers offer.now (record { x = x.old; y = y.old })) }
+    ensures answer { IfOk result (λ a. a ≡ answer_to (Act.Send (Command.Add offer.now)) x.old) }
     ensures memory { IsOkUnless result Refusal.Memory }
 {
     let update = Update::Add(Add {
@@ -113,6 +106,7 @@ fn offer(x: &mut Endpoint, y: &mut Endpoint, offer: &Offer) -> Result<Answer, Re
 
 fn sign(x: &mut Endpoint, y: &mut Endpoint) -> Result<Answer, Refusal>
     ensures ok { OnOk result (record { x = x.new; y = y.new } ≡ signs_all (record { x = x.old; y = y.old })) }
+    ensures answer { IfOk result (λ a. a ≡ answer_to (Act.Send Command.Sign) x.old) }
     ensures memory { IsOkUnless result Refusal.Memory }
 {
     match x.log.sign_refusal() {
@@ -129,6 +123,7 @@ fn sign(x: &mut Endpoint, y: &mut Endpoint) -> Result<Answer, Refusal>
 
 fn take_update(x: &mut Endpoint, y: &Endpoint, update: Update) -> Result<Answer, Refusal>
     ensures ok { OnOk result (record { x = x.new; y = y.now } ≡ takes (Message.Update update) (record { x = x.old; y = y.now })) }
+    ensures answer { IfOk result (λ a. a ≡ answer_by (taken_fault x.old.log.opening (other_role x.old.log.role) x.old.log.got (take x.old.log.acknowledged.own x.old.log.own) update)) }
     ensures memory { IsOkUnless result Refusal.Memory }
 {
     match x.log.receive(update) {
@@ -142,6 +137,7 @@ fn take_update(x: &mut Endpoint, y: &Endpoint, update: Update) -> Result<Answer,
 
 fn take_signature(x: &mut Endpoint, y: &mut Endpoint, number: u64) -> Result<Answer, Refusal>
     ensures ok { OnOk result (record { x = x.new; y = y.new } ≡ takes (Message.Sign number) (record { x = x.old; y = y.old })) }
+    ensures answer { IfOk result (λ a. a ≡ Answer.Done) }
     ensures memory { IsOkUnless result Refusal.Memory }
 {
     x.log.accepted();
@@ -154,6 +150,7 @@ fn take_signature(x: &mut Endpoint, y: &mut Endpoint, number: u64) -> Result<Ans
 
 fn deliver(x: &mut Endpoint, y: &mut Endpoint) -> Result<Answer, Refusal>
     ensures ok { OnOk result (record { x = x.new; y = y.new } ≡ delivers x.old.inbox (record { x = x.old; y = y.old })) }
+    ensures answer { IfOk result (λ a. a ≡ answer_to Act.Deliver x.old) }
     ensures memory { IsOkUnless result Refusal.Memory }
 {
     match x.inbox.pop_front() {
@@ -167,9 +164,11 @@ fn deliver(x: &mut Endpoint, y: &mut Endpoint) -> Result<Answer, Refusal>
     }
 }
 
-/// What the end x does, with y at the other end. Err is for want of memory alone (60).
+/// What the end x does, with y at the other end, and what became of it. Err is for want of memory alone
+/// (60).
 pub fn act(x: &mut Endpoint, y: &mut Endpoint, act: &Act) -> Result<Answer, Refusal>
     ensures ok { OnOk result (record { x = x.new; y = y.new } ≡ acts act.now (record { x = x.old; y = y.old })) }
+    ensures answer { IfOk result (λ a. a ≡ answer_to act.now x.old) }
     ensures memory { IsOkUnless result Refusal.Memory }
 {
     match act {

@@ -1,6 +1,7 @@
 //! Two sides of a channel and the messages between them, moved step by step.
 #![tactic(auto)]
 
+mod answer;
 mod channel;
 mod endpoint;
 mod line;
@@ -9,8 +10,9 @@ mod report;
 mod step;
 mod world;
 
+pub use answer::Answer;
 pub use channel::Channel;
-pub use endpoint::{Answer, Endpoint};
+pub use endpoint::{Endpoint, act};
 pub use line::Line;
 pub use message::Message;
 pub use step::{Act, Command, End, Node, Offer, Ready, Step};

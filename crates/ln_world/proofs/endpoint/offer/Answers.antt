@@ -1,7 +1,9 @@
 use Rattle.std.proofs.Common.{◌≡◌, ap, subst}
 use Rattle.ln_log.specs.declared.update.Update.TheVariants as update
 use Rattle.ln_world.specs.Ends.{EndState, offers}
-use Rattle.ln_world.proofs.Answered.{offered_by, refused_by}
+use Rattle.ln_world.specs.declared.answer.Answer.TheVariants.{Done, Refused}
+use Rattle.ln_world.specs.Ends.{answer_by, offer_fault}
+use Rattle.ln_world.proofs.Answered.{offered_by, refused_by, offer_done, offer_refused}
 use Rattle.ln_world.proofs.endpoint.offer.Goals as goal
 use Rattle.ln_world.proofs.endpoint.offer.Goals.{in-Memory, in_default}
 
@@ -16,4 +18,17 @@ returns-after-refusal-clause-ok c =
     elim c.match-refusal.branch [
       | in-Memory w ↦ rw w.result-is tt
       | in_default w ↦ rw w.result-is (subst P c.x.view_is (refused_by _ c.args.y.now c.args.offer.now _ c.propose.new.self c.in-Err.refusal (ap (λ n. update.Add (record { id = n; amount = c.args.offer.now.amount; hash = c.args.offer.now.hash; expiry = c.args.offer.now.expiry; onion = c.args.offer.now.onion })) c.next_id.ensures) c.in-Err.ensures.answer w.in_default.not-Memory c.in-Err.ensures.err))
+    ]
+
+pub returns-in_ok-send-in-Ok-clause-answer : goal.returns-in_ok-send-in-Ok-clause-answer
+returns-in_ok-send-in-Ok-clause-answer c =
+    let P : EndState → Type 0 = λ x. Done ≡ answer_by (offer_fault c.args.offer.now x.log) in
+    subst P c.x.view_is (offer_done c.x.inside.log c.args.offer.now _ (ap (λ n. update.Add (record { id = n; amount = c.args.offer.now.amount; hash = c.args.offer.now.hash; expiry = c.args.offer.now.expiry; onion = c.args.offer.now.onion })) c.next_id.ensures) c.in-Ok.ensures.answer)
+
+pub returns-after-refusal-clause-answer : goal.returns-after-refusal-clause-answer
+returns-after-refusal-clause-answer c =
+    let P : EndState → Type 0 = λ x. Refused c.in-Err.refusal ≡ answer_by (offer_fault c.args.offer.now x.log) in
+    elim c.match-refusal.branch [
+      | in-Memory w ↦ rw w.result-is tt
+      | in_default w ↦ rw w.result-is (subst P c.x.view_is (offer_refused c.x.inside.log c.args.offer.now _ c.in-Err.refusal (ap (λ n. update.Add (record { id = n; amount = c.args.offer.now.amount; hash = c.args.offer.now.hash; expiry = c.args.offer.now.expiry; onion = c.args.offer.now.onion })) c.next_id.ensures) c.in-Err.ensures.answer w.in_default.not-Memory))
     ]
