@@ -1,5 +1,5 @@
 -- The test of an opening.
-use Rattle.std.proofs.Common.{◌≡◌, ℕ, ◌≤◌, ◌*◌, Bool, true, false, ◌&&◌, nat_le, refl, arith}
+use Rattle.std.proofs.Common.{◌≡◌, ◌*◌, Bool, true, false, ◌&&◌, nat_le, refl}
 use Rattle.std.proofs.lemmas.Bool.{leb-true}
 use Rattle.ln_log.specs.declared.opening.Opening.{Opening}
 use Rattle.ln_log.specs.Opening.{IsFit, is_fit}

@@ -25,12 +25,12 @@ use Rattle.ln_log.specs.Machine.{Covered, MaySign, to_sign}
 use Rattle.ln_log.specs.Log.{Counts, Log, covered, party_of, IsWithin, IsKept, proposed, received, signed_all, acknowledged_all, same_counts, sign_fault, counts_of, view_for}
 use Rattle.ln_log.proofs.Adds.{standing_same, standing-push, total_same, total-push, balance_is, total-take-le}
 
-pub kept_accepted : (l : Log) (s p : Standing) (n : ℕ) → n ≡ length l.got → IsKept l s p → IsKept (record l { current = record { own = l.acknowledged.own; peer = n } }) s p
-kept_accepted l s p n e k =
+pub kept_accepted : (l : Log) (s p : Standing) (m n : ℕ) → m ≡ l.acknowledged.own → n ≡ length l.got → IsKept l s p → IsKept (record l { current = record { own = m; peer = n } }) s p
+kept_accepted l s p m n d e k =
     let w = k.within in
     record {
       fit = k.fit;
-      within = record { own_current = omega arith; own_acknowledged = w.own_acknowledged; own_signed = w.own_signed; peer_acknowledged = w.peer_acknowledged; peer_signed = omega (arith, e, w.peer_signed, w.peer_current); peer_current = omega (arith, e) };
+      within = record { own_current = omega (arith, d); own_acknowledged = w.own_acknowledged; own_signed = w.own_signed; peer_acknowledged = w.peer_acknowledged; peer_signed = omega (arith, e, w.peer_signed, w.peer_current); peer_current = omega (arith, e) };
       own_stands = k.own_stands ∙ standing_same (first_balance l.opening l.role) l.own (take l.current.peer l.got) (take n l.got);
       peer_stands = k.peer_stands;
       own_paid = k.own_paid;

@@ -223,10 +223,7 @@ impl UpdateLog {
     pub fn signed(&mut self)
         ensures { self.new ≡ signed_all self.old }
     {
-        self.signed = Counts {
-            own: self.own.len(),
-            peer: self.current.peer,
-        };
+        self.signed = self.counts(Pair::ToSign);
     }
 
     /// The peer's signature was taken: this side's commitment covers what was taken of the peer's, and
@@ -234,10 +231,7 @@ impl UpdateLog {
     pub fn accepted(&mut self)
         ensures { self.new ≡ accepted_all self.old }
     {
-        self.current = Counts {
-            own: self.acknowledged.own,
-            peer: self.got.len(),
-        };
+        self.current = self.counts(Pair::ToAccept);
     }
 
     /// The peer's revocation was taken: the peer's commitment is the one that was signed last.
@@ -262,11 +256,11 @@ impl UpdateLog {
     }
 
     /// How many updates of either side the last own signature covers.
-    pub fn covered(&self) -> Counts
-        ensures own { result.own ≡ self.now.signed.own }
-        ensures peer { result.peer ≡ self.now.signed.peer }
+    pub fn covered(&self) -> &Counts
+        ensures own { result.now.own ≡ self.now.signed.own }
+        ensures peer { result.now.peer ≡ self.now.signed.peer }
     {
-        self.signed
+        &self.signed
     }
 
     /// How many updates of either side a pair covers.
