@@ -42,7 +42,9 @@ fn number_of(digits: &[u8]) -> Option<u64> {
         if *digit < b'0' || *digit > b'9' {
             return None;
         }
-        number = number.checked_mul(10)?.checked_add(u64::from(*digit - b'0'))?;
+        number = number
+            .checked_mul(10)?
+            .checked_add(u64::from(*digit - b'0'))?;
     }
     Some(number)
 }
@@ -52,7 +54,11 @@ fn number_within(digits: &[u8], greatest: u64) -> Option<u64>
     ensures { IfSome result (λ n. n ≤ greatest) }
 {
     let number = number_of(digits)?;
-    if number <= greatest { Some(number) } else { None }
+    if number <= greatest {
+        Some(number)
+    } else {
+        None
+    }
 }
 
 fn channel_of(digits: &[u8]) -> Option<u8> {
