@@ -7,10 +7,9 @@ use Rattle.ln_log.specs.Opening.{other_role}
 use Rattle.ln_log.specs.Limits.{proposal_fault, taken_fault, Answers}
 use Rattle.ln_log.specs.Log.{Log, proposed, received}
 use Rattle.ln_world.specs.declared.answer.Answer.TheVariants.{Done, Refused}
-use Rattle.ln_world.specs.Ends.{answer_by}
+use Rattle.ln_world.specs.Ends.{answer_by, EndState, Both, sends, add_of, offer_fault, offers, takes}
 use Rattle.ln_world.specs.declared.message.Message.TheVariants as message
 use Rattle.ln_world.specs.declared.step.Offer.{Offer}
-use Rattle.ln_world.specs.Ends.{EndState, Both, sends, add_of, offer_fault, offers, takes}
 
 -- no refusal, where the log took it
 none_of : (f : Option Refusal) → Answers {A = Unit {0}} f (Ok tt) → f ≡ None

@@ -1,15 +1,12 @@
 -- Over all lists of steps.
-use Rattle.ln_log.specs.Machine.{MaySign, Covered, party}
-use Rattle.std.proofs.Common.{◌↔◌, length, append-nil, ap, ◌≤◌}
-use Rattle.ln_world.specs.World.{end_of}
-use Rattle.ln_log.specs.Machine.{IsSettled}
-use Rattle.ln_world.proofs.Flow.{Flows}
-use Rattle.std.proofs.Common.{◌≡◌, List, [], ◌∷◌, ◌++◌, Option, Some, None, Bool, true, false, cond, not, ◌&&◌, refl, sym, ◌∙◌, subst, arith}
+use Rattle.ln_log.specs.Machine.{MaySign, Covered, party, IsSettled, Machine, Move, Open, IsRun, after}
+use Rattle.std.proofs.Common.{◌↔◌, length, append-nil, ap, ◌≤◌, ◌≡◌, List, [], ◌∷◌, ◌++◌, Option, Some, None, Bool, true, false, cond, not, ◌&&◌, refl, sym, ◌∙◌, subst, arith}
+use Rattle.ln_world.specs.World.{end_of, side_of, acts_at, may_open, opened_by, same_node, happens, run, machine_of_channel, machine_of, act_moves, moves_at, moves_of, moves, Promises, SignsExactly, TakesFront, NoneRefused, HoldsAll, Agrees}
+use Rattle.ln_world.proofs.Flow.{Flows, Kept, Phase, follows_from}
 use Rattle.ln_log.specs.declared.opening.Role.{Role}
 use Rattle.ln_log.specs.declared.opening.Role.TheVariants.{Funder, Fundee}
 use Rattle.ln_log.specs.declared.opening.Opening.{Opening}
 use Rattle.ln_log.specs.Opening.{IsFit, is_fit}
-use Rattle.ln_log.specs.Machine.{Machine, Move, Open, IsRun, after}
 use Rattle.ln_log.specs.Log.{Log, party_of, IsWithin, opened, none, sign_fault}
 use Rattle.ln_world.specs.declared.channel.Channel.{Channel}
 use Rattle.ln_world.specs.declared.step.Ready.{Ready}
@@ -17,8 +14,6 @@ use Rattle.ln_world.specs.declared.step.Act.{Act}
 use Rattle.ln_world.specs.declared.step.Step.{Step}
 use Rattle.ln_world.specs.declared.step.Step.TheVariants as step
 use Rattle.ln_world.specs.Ends.{EndState, Both, acts, fresh_end}
-use Rattle.ln_world.specs.World.{side_of, acts_at, may_open, opened_by, same_node, happens, run, machine_of_channel, machine_of, act_moves, moves_at, moves_of, moves, Promises, SignsExactly, TakesFront, NoneRefused, HoldsAll, Agrees}
-use Rattle.ln_world.proofs.Flow.{Kept, Phase, follows_from}
 use Rattle.ln_world.proofs.Steps.{place, acts_kept, acts_same, acts_run, front_fits}
 use Rattle.ln_world.proofs.Flight.{ups, sigs}
 use Rattle.ln_log.proofs.Logs.{exactly}

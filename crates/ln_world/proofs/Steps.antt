@@ -1,5 +1,5 @@
 -- What an end does keeps the flows, and is the moves of the machine that the table says.
-use Rattle.ln_world.specs.World.{TakesFront}
+use Rattle.ln_world.specs.World.{TakesFront, taken_moves, act_moves}
 use Rattle.std.proofs.Common.{◌≡◌, ℕ, ◌+◌, ◌≤◌, List, [], ◌∷◌, ◌++◌, length, take, Option, Some, None, false, cond, refl, sym, ap, ◌∙◌, subst, arith, option_map, is_none}
 use Rattle.std.proofs.lemmas.List.{take-append-le, take_all}
 use Rattle.ln_msgs.specs.declared.refusal.Refusal.{Refusal}
@@ -20,7 +20,6 @@ use Rattle.ln_world.specs.declared.step.Command.TheVariants as command
 use Rattle.ln_world.specs.declared.step.Act.{Act}
 use Rattle.ln_world.specs.declared.step.Act.TheVariants as act
 use Rattle.ln_world.specs.Ends.{EndState, Both, sends, add_of, offer_fault, delivers, acts}
-use Rattle.ln_world.specs.World.{taken_moves, act_moves}
 use Rattle.ln_world.proofs.Flight.{ups, sigs, revs, taken_same}
 use Rattle.ln_world.proofs.Flow.{Flows, Kept, offered, signed, took_update, took_signature, took_revocation}
 

@@ -1,8 +1,7 @@
 use Rattle.std.proofs.Common.{◌≡◌, ap, subst}
 use Rattle.ln_log.specs.declared.update.Update.TheVariants as update
-use Rattle.ln_world.specs.Ends.{EndState, offers}
+use Rattle.ln_world.specs.Ends.{EndState, offers, answer_by, offer_fault}
 use Rattle.ln_world.specs.declared.answer.Answer.TheVariants.{Done, Refused}
-use Rattle.ln_world.specs.Ends.{answer_by, offer_fault}
 use Rattle.ln_world.proofs.Answered.{offered_by, refused_by, offer_done, offer_refused}
 use Rattle.ln_world.proofs.endpoint.offer.Goals as goal
 use Rattle.ln_world.proofs.endpoint.offer.Goals.{in-Memory, in_default}

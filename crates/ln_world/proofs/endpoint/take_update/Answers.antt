@@ -1,11 +1,9 @@
-use Rattle.std.proofs.Common.{◌≡◌, subst}
+use Rattle.std.proofs.Common.{◌≡◌, subst, take}
 use Rattle.ln_world.specs.declared.message.Message.TheVariants as message
-use Rattle.ln_world.specs.Ends.{EndState, takes}
-use Rattle.std.proofs.Common.{take}
+use Rattle.ln_world.specs.Ends.{EndState, takes, answer_by}
 use Rattle.ln_log.specs.Opening.{other_role}
 use Rattle.ln_log.specs.Limits.{taken_fault}
 use Rattle.ln_world.specs.declared.answer.Answer.TheVariants.{Done, Refused}
-use Rattle.ln_world.specs.Ends.{answer_by}
 use Rattle.ln_world.proofs.Answered.{taken_by, untaken_by, done_by, refused_answer}
 use Rattle.ln_world.proofs.endpoint.take_update.Goals as goal
 use Rattle.ln_world.proofs.endpoint.take_update.Goals.{in-Ok, in-Err+in-Memory, in-Err+in_default}
