@@ -52,8 +52,8 @@ unfoldable pub value_at : List ℕ → ℕ → List ℕ → Result (Record × Li
 value_at known_even typ bytes = do
   len ← bigsize_at bytes
   if nat_lt (length (drop len.1 bytes)) len.0 then Err TlvLength
-    else (if may_stand known_even typ then Ok (record { typ = typ; value = take len.0 (drop len.1 bytes) }, drop len.0 (drop len.1 bytes))
-    else Err TlvUnknownEven)
+      else (if may_stand known_even typ then Ok (record { typ = typ; value = take len.0 (drop len.1 bytes) }, drop len.0 (drop len.1 bytes))
+      else Err TlvUnknownEven)
 
 -- The record at the front of the bytes, behind one of the type before, and what follows it; or its
 -- first fault.
