@@ -16,9 +16,11 @@ pub enum Choice {
     Answer,
     /// Print the message that this text spells in hexadecimal.
     Decode(String),
+    /// Run the script on standard input.
+    Simulate,
 }
 
-/// The command that the words behind the program's name are: `answer`, or `decode` and a text. Takes memory.
+/// The command that the words behind the program's name are: `answer`, `decode` and a text, or `sim`. Takes memory.
 ///
 /// Other words, none at all and a call for help are usage; 60 where there is no memory for the parse.
 pub fn choose(alloc: Global, words: &[String]) -> Result<Choice, Failure>
@@ -33,7 +35,8 @@ pub fn choose(alloc: Global, words: &[String]) -> Result<Choice, Failure>
         .subcommand_required(true)
         .disable_help_subcommand(true)
         .subcommand(Command::new(alloc, "answer"))?
-        .subcommand(Command::new(alloc, "decode").arg(hex)?)?;
+        .subcommand(Command::new(alloc, "decode").arg(hex)?)?
+        .subcommand(Command::new(alloc, "sim"))?;
     let matches = match command.try_get_matches_from(words) {
         Ok(matches) => matches,
         Err(error) => {
@@ -45,6 +48,7 @@ pub fn choose(alloc: Global, words: &[String]) -> Result<Choice, Failure>
     };
     match matches.subcommand() {
         Some(("answer", _)) => Ok(Choice::Answer),
+        Some(("sim", _)) => Ok(Choice::Simulate),
         Some(("decode", inner)) => match inner.get_str("hex") {
             Some(text) => Ok(Choice::Decode(String::from_str(alloc, text)?)),
             None => Err(Failure::Usage),

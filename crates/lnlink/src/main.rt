@@ -3,14 +3,18 @@
 
 mod choice;
 mod failure;
+mod print;
+mod script;
 mod text;
 
 use choice::{Choice, choose};
 use failure::Failure;
+use print::print_all;
+use script::{script_text, simulate};
 use text::decode_text;
 use ln_msgs::{Counted, Refusal, answer_pings};
 use std::env::Env;
-use std::io::Write;
+use std::io::{ErrorKind, Read};
 use std::process::ExitCode;
 use std::{env, io};
 
@@ -37,14 +41,23 @@ fn run<R: Env + Input + Print + AllocGlobal>(rt: &R) -> Result<(), Failure> {
             let mut writer = Counted::new(io::writer(rt));
             print_all(&mut writer, text.as_str())?;
         }
+        Choice::Simulate => {
+            let bytes = read_all(rt)?;
+            let mut writer = Counted::new(io::writer(rt));
+            simulate(rt.alloc(), script_text(&bytes)?, &mut writer)?;
+        }
     }
     Ok(())
 }
 
-/// Writes a text.
-fn print_all<W: Write>(writer: &mut Counted<W>, text: &str) -> Result<(), Failure> {
-    match writer.write_all(text.as_bytes()) {
-        Ok(()) => Ok(()),
+/// All of standard input.
+fn read_all<R: Input + AllocGlobal>(rt: &R) -> Result<Vec<u8>, Failure> {
+    let mut bytes = Vec::new(rt.alloc());
+    match rt.reader().read_to_end(&mut bytes) {
+        Ok(_) => Ok(bytes),
+        Err(error) if error.kind() == ErrorKind::OutOfMemory => {
+            Err(Failure::Refused(Refusal::Memory))
+        }
         Err(_) => Err(Failure::Refused(Refusal::Io)),
     }
 }
@@ -53,7 +66,7 @@ fn print_all<W: Write>(writer: &mut Counted<W>, text: &str) -> Result<(), Failur
 fn words<R: Env + AllocGlobal>(rt: &R) -> Result<Vec<String>, Failure> {
     let all = match env::args(rt) {
         Ok(all) => all,
-        Err(error) if error.kind() == io::ErrorKind::OutOfMemory => {
+        Err(error) if error.kind() == ErrorKind::OutOfMemory => {
             return Err(Failure::Refused(Refusal::Memory));
         }
         Err(_) => return Err(Failure::Usage),

@@ -1,0 +1,4 @@
+pub mod Sums
+pub mod Adds
+pub mod Logs
+pub mod Fits

@@ -1,0 +1,5 @@
+use Rattle.ln_log.proofs.Logs.{exactly}
+use Rattle.ln_log.proofs.log.sign_exactly.Goals as goal
+
+pub returns : goal.returns
+returns c = exactly

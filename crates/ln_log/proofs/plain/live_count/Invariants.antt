@@ -1,0 +1,9 @@
+use Rattle.std.proofs.Common.{◌≡◌, ◌+◌, ◌≤◌, drop, length}
+use Rattle.ln_log.specs.View.{live_adds}
+use Rattle.ln_log.proofs.plain.live_count.Given as goal
+
+abbrev pub invariant-loop-update : goal.invariant-loop-update
+invariant-loop-update l = record {
+  counted : l.count + length (live_adds (drop l.update-index l.adds) l.removals) ≡ length (live_adds l.adds l.removals);
+  few : l.count ≤ l.update-index;
+}

@@ -1,0 +1,146 @@
+-- A channel as an abstract machine (BOLT 2, "Normal Operation"): whole lists of updates, with no
+-- messages, no numbers and no connection.
+use Rattle.std.specs.Prelude.{◌≡◌, ◌≢◌, ℕ, List, [], ◌∷◌, ◌++◌, Bool, false, Option, Some, None}
+use Rattle.ln_log.specs.declared.opening.Role.{Role}
+use Rattle.ln_log.specs.declared.opening.Role.TheVariants.{Funder, Fundee}
+use Rattle.ln_log.specs.declared.opening.Opening.{Opening}
+use Rattle.ln_log.specs.declared.update.Update.{Update}
+use Rattle.ln_log.specs.Opening.{IsFit, other_role}
+use Rattle.ln_log.specs.Limits.{update_fault, HasNextId}
+use Rattle.ln_log.specs.Lists.{Begins}
+
+-- the updates of both sides that a commitment covers, told by one side
+pub record Covered : Type 0 where
+  pub own : List Update
+  pub peer : List Update
+
+-- the same, told by the other side
+abbrev pub turned : Covered → Covered
+turned c = record { own = c.peer; peer = c.own }
+
+abbrev pub nothing : Covered
+nothing = record { own = []; peer = [] }
+
+-- one side of a channel
+pub record Party : Type 0 where
+  pub own : List Update  -- the updates that it has proposed
+  pub signed : Covered  -- what its last signature covers, in the peer's commitment
+  pub current : Covered  -- what its own commitment covers
+  pub acknowledged : Covered  -- what the peer's commitment covers, up to which the peer has revoked
+  pub shut : Bool  -- it has sent shutdown (BOLT 2, "Closing Initiation")
+  pub closed : Option ℕ  -- it has closed at this fee (BOLT 2, "Closing Negotiation")
+
+abbrev pub fresh : Party
+fresh = record { own = []; signed = nothing; current = nothing; acknowledged = nothing; shut = false; closed = None }
+
+pub record Machine : Type 0 where
+  pub opening : Opening
+  pub funder : Party
+  pub fundee : Party
+
+abbrev pub party : Role → Machine → Party
+party Funder m = m.funder
+party Fundee m = m.fundee
+
+abbrev pub with_party : Role → Party → Machine → Machine
+with_party Funder p m = record { opening = m.opening; funder = p; fundee = m.fundee }
+with_party Fundee p m = record { opening = m.opening; funder = m.funder; fundee = p }
+
+-- ---- its steps
+
+-- BOLT 2, "Adding an HTLC" and the sections behind it: a side proposes an update
+abbrev pub proposes : Update → Party → Party
+proposes u p = record p { own = p.own ++ u ∷ [] }
+
+-- what a signature made now covers: all own updates, and those of the peer that stand in the signer's
+-- own commitment
+abbrev pub to_sign : Party → Covered
+to_sign p = record { own = p.own; peer = p.current.peer }
+
+-- BOLT 2, "Committing Updates So Far": a side signs
+abbrev pub signs : Party → Party
+signs p = record p { signed = to_sign p }
+
+-- the peer of a side that signed takes the signature, and revokes its commitment before
+abbrev pub accepts : Party → Party → Party
+accepts signer p = record p { current = turned signer.signed }
+
+-- BOLT 2, "Completing the Transition to the Updated State": a side takes the peer's revocation
+abbrev pub learns : Party → Party → Party
+learns revoker p = record p { acknowledged = turned revoker.current }
+
+pub data Move : Type 0 where
+  Open : (o : Opening) → Move
+  Propose : (x : Role) (u : Update) → Move
+  Sign : (x : Role) → Move
+  Accept : (x : Role) → Move
+  Learn : (x : Role) → Move
+
+abbrev pub moved : Move → Machine → Machine
+moved (Open o) m = m
+moved (Propose x u) m = with_party x (proposes u (party x m)) m
+moved (Sign x) m = with_party x (signs (party x m)) m
+moved (Accept x) m = with_party x (accepts (party (other_role x) m) (party x m)) m
+moved (Learn x) m = with_party x (learns (party (other_role x) m) (party x m)) m
+
+-- there is no channel before one is opened
+abbrev pub after : Move → Option Machine → Option Machine
+after (Open o) None = Some (record { opening = o; funder = fresh; fundee = fresh })
+after (Propose x u) None = None
+after (Sign x) None = None
+after (Accept x) None = None
+after (Learn x) None = None
+after move (Some m) = Some (moved move m)
+
+-- ---- when it may step
+
+-- an update has the next id, and meets the limits on the view of what a signature would cover; no add
+-- follows a shutdown
+pub record MayPropose (o : Opening) (x : Role) (u : Update) (p : Party) : Type 0 where
+  pub open_still : p.shut ≡ false
+  pub next : HasNextId p.own u
+  pub within : update_fault o x p.own p.current.peer u ≡ None
+
+-- no signature is unrevoked, and something new would be covered
+pub record MaySign (p : Party) : Type 0 where
+  pub revoked : p.acknowledged ≡ p.signed
+  pub new : p.signed ≢ to_sign p
+
+abbrev pub MayMove : Move → Option Machine → Type 0
+MayMove (Open o) None = IsFit o
+MayMove (Open o) (Some m) = ⊥
+MayMove (Propose x u) None = ⊥
+MayMove (Propose x u) (Some m) = MayPropose m.opening x u (party x m)
+MayMove (Sign x) None = ⊥
+MayMove (Sign x) (Some m) = MaySign (party x m)
+MayMove (Accept x) None = ⊥
+MayMove (Accept x) (Some m) = Unit {0}
+MayMove (Learn x) None = ⊥
+MayMove (Learn x) (Some m) = Unit {0}
+
+-- these moves, each of which may be made, lead from one state to the other
+abbrev pub IsRun : List Move → Option Machine → Option Machine → Type 0
+IsRun [] old new = new ≡ old
+IsRun (move ∷ moves) old new = MayMove move old × IsRun moves (after move old) new
+
+-- ---- what it promises
+
+-- a side holds as irrevocably committed its own updates that stand in its own commitment, and the peer's
+-- that stand in the peer's commitment which was acknowledged to it
+abbrev pub held : Party → Covered
+held p = record { own = p.current.own; peer = p.acknowledged.peer }
+
+-- what y holds begins what x has covered by a signature, and what y holds of x's updates begins x's list
+pub record Follows (x y : Party) : Type 0 where
+  pub of_x : Begins (held y).peer x.signed.own
+  pub of_y : Begins (held y).own x.signed.peer
+  pub in_order : Begins (held y).peer x.own
+
+-- each way round
+abbrev pub Headline : Machine → Type 0
+Headline m = Follows m.funder m.fundee × Follows m.fundee m.funder
+
+-- nothing is left to sign or to acknowledge (nothing is in flight, which a machine can't tell)
+pub record IsSettled (p : Party) : Type 0 where
+  pub revoked : p.acknowledged ≡ p.signed
+  pub covered : p.signed ≡ to_sign p

@@ -1,0 +1,5 @@
+pub mod Flight
+pub mod Flow
+pub mod Steps
+pub mod Runs
+pub mod Answered

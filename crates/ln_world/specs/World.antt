@@ -1,0 +1,148 @@
+-- A world of one channel, and which steps of the abstract machine its steps are.
+use Rattle.std.specs.Prelude.{take, ◌↔◌, ◌≡◌, List, [], ◌∷◌, ◌++◌, Bool, not, ◌&&◌, ◌==◌, Option, Some, None, is_none, if◌then◌else◌}
+use Rattle.ln_log.specs.Log.{Log, party_of, sign_fault}
+use Rattle.ln_log.specs.declared.opening.Role.{Role}
+use Rattle.ln_log.specs.declared.opening.Role.TheVariants.{Funder, Fundee}
+use Rattle.ln_log.specs.declared.update.Update.{Update}
+use Rattle.ln_log.specs.declared.opening.Opening.{Opening}
+use Rattle.ln_log.specs.Opening.{is_fit, other_role}
+use Rattle.ln_log.specs.Limits.{update_fault, taken_fault}
+use Rattle.ln_log.specs.Machine.{Machine, Party, party, held, MaySign, IsSettled, Move, Open, Propose, Sign, Accept, Learn, Headline}
+use Rattle.ln_world.specs.declared.message.Message.{Message}
+use Rattle.ln_world.specs.declared.message.Message.TheVariants as message
+use Rattle.ln_world.specs.declared.step.Node.{Node}
+use Rattle.ln_world.specs.declared.step.End.{End}
+use Rattle.ln_world.specs.declared.step.Ready.{Ready}
+use Rattle.ln_world.specs.declared.step.Command.TheVariants as command
+use Rattle.ln_world.specs.declared.step.Act.{Act}
+use Rattle.ln_world.specs.declared.step.Act.TheVariants as act
+use Rattle.ln_world.specs.declared.step.Step.{Step}
+use Rattle.ln_world.specs.declared.step.Step.TheVariants as step
+use Rattle.ln_world.specs.declared.channel.Channel.{Channel}
+use Rattle.ln_world.specs.Ends.{EndState, Both, fresh_end, add_of, acts}
+
+-- ---- its steps
+
+abbrev pub same_node : Node → Node → Bool
+same_node m n = m.letter == n.letter
+
+-- which side of the channel an end is
+abbrev pub side_of : Channel → End → Option Role
+side_of c e =
+    if not (e.channel == c.number) then None
+    else (if same_node e.node c.funder_node then Some Funder
+    else (if same_node e.node c.fundee_node then Some Fundee else None))
+
+abbrev pub end_of : Role → Channel → EndState
+end_of Funder c = c.funder
+end_of Fundee c = c.fundee
+
+-- what a side does, to both ends
+abbrev pub by_side : Role → (Both → Both) → Channel → Channel
+by_side Funder f c =
+    let b = f (record { x = c.funder; y = c.fundee }) in
+    record { number = c.number; funder_node = c.funder_node; fundee_node = c.fundee_node; funder = b.x; fundee = b.y }
+by_side Fundee f c =
+    let b = f (record { x = c.fundee; y = c.funder }) in
+    record { number = c.number; funder_node = c.funder_node; fundee_node = c.fundee_node; funder = b.y; fundee = b.x }
+
+abbrev pub acts_at : Option Role → Act → Channel → Channel
+acts_at None a c = c
+acts_at (Some x) a c = by_side x (acts a) c
+
+-- a channel may be opened between two nodes that differ
+abbrev pub may_open : Ready → Bool
+may_open r = not (same_node r.funder r.fundee) && is_fit r.opening
+
+abbrev pub opened_by : Ready → Channel
+opened_by r = record { number = r.channel; funder_node = r.funder; fundee_node = r.fundee; funder = fresh_end r.opening Funder; fundee = fresh_end r.opening Fundee }
+
+abbrev pub happens : Step → Option Channel → Option Channel
+happens (step.Ready r) None = if may_open r then Some (opened_by r) else None
+happens (step.Ready r) (Some c) = Some c
+happens (step.Do e a) None = None
+happens (step.Do e a) (Some c) = Some (acts_at (side_of c e) a c)
+
+abbrev pub run : List Step → Option Channel → Option Channel
+run [] c = c
+run (s ∷ ss) c = run ss (happens s c)
+
+-- ---- the machine that a world stands for
+
+abbrev pub machine_of_channel : Channel → Machine
+machine_of_channel c = record { opening = c.funder.log.opening; funder = party_of c.funder.log; fundee = party_of c.fundee.log }
+
+abbrev pub machine_of : Option Channel → Option Machine
+machine_of None = None
+machine_of (Some c) = Some (machine_of_channel c)
+
+-- an update is proposed exactly where no shutdown was sent and its limits are met, by the machine's lists
+abbrev pub offer_moves : Role → Opening → Update → Party → List Move
+offer_moves x o u p = if not p.shut && is_none (update_fault o x p.own p.current.peer u) then Propose x u ∷ [] else []
+
+-- a signature that is taken is accepted, a revocation learned; an update that is taken is no move
+abbrev pub taken_moves : Role → List Message → List Move
+taken_moves x [] = []
+taken_moves x (message.Update u ∷ ms) = []
+taken_moves x (message.Sign n ∷ ms) = Accept x ∷ []
+taken_moves x (message.Revoke n ∷ ms) = Learn x ∷ []
+
+abbrev pub act_moves : Role → Opening → Act → EndState → List Move
+act_moves x o act.Deliver e = taken_moves x e.inbox
+act_moves x o (act.Send (command.Add new)) e = offer_moves x o (add_of new e.log) (party_of e.log)
+act_moves x o (act.Send command.Sign) e = if is_none (sign_fault e.log) then Sign x ∷ [] else []
+
+abbrev pub moves_at : Option Role → Act → Channel → List Move
+moves_at None a c = []
+moves_at (Some x) a c = act_moves x c.funder.log.opening a (end_of x c)
+
+-- the table: which moves of the machine a step of the world is
+abbrev pub moves_of : Step → Option Channel → List Move
+moves_of (step.Ready r) None = if may_open r then Open r.opening ∷ [] else []
+moves_of (step.Ready r) (Some c) = []
+moves_of (step.Do e a) None = []
+moves_of (step.Do e a) (Some c) = moves_at (side_of c e) a c
+
+-- over a list of steps
+abbrev pub moves : List Step → Option Channel → List Move
+moves [] c = []
+moves (s ∷ ss) c = moves_of s c ++ moves ss (happens s c)
+
+-- ---- what a world promises
+
+abbrev pub Promises : Option Machine → Type 0
+Promises None = Unit {0}
+Promises (Some m) = Headline m
+
+-- a side is kept from signing exactly where the machine may not sign there
+abbrev pub SignsExactly : Option Channel → Type 0
+SignsExactly None = Unit {0}
+SignsExactly (Some c) = (x : Role) → (sign_fault (end_of x c).log ≡ None) ↔ MaySign (party x (machine_of_channel c))
+
+-- an update in front of an end is within its limits
+abbrev pub TakesFront : Log → List Message → Type 0
+TakesFront l [] = Unit {0}
+TakesFront l (message.Update u ∷ ms) = taken_fault l.opening (other_role l.role) l.got (take l.acknowledged.own l.own) u ≡ None
+TakesFront l (message.Sign n ∷ ms) = Unit {0}
+TakesFront l (message.Revoke n ∷ ms) = Unit {0}
+
+-- no message that is delivered is refused
+abbrev pub NoneRefused : Option Channel → Type 0
+NoneRefused None = Unit {0}
+NoneRefused (Some c) = (x : Role) → TakesFront (end_of x c).log (end_of x c).inbox
+
+-- at rest: nothing is in flight, and nothing is left to sign or to acknowledge
+pub record IsAtRest (c : Channel) : Type 0 where
+  pub to_funder : c.funder.inbox ≡ []
+  pub to_fundee : c.fundee.inbox ≡ []
+  pub funder : IsSettled (party_of c.funder.log)
+  pub fundee : IsSettled (party_of c.fundee.log)
+
+-- both sides then hold every update of either
+pub record HoldsAll (x y : Party) : Type 0 where
+  pub own : (held x).own ≡ x.own
+  pub peer : (held x).peer ≡ y.own
+
+abbrev pub Agrees : Option Channel → Type 0
+Agrees None = Unit {0}
+Agrees (Some c) = IsAtRest c → HoldsAll (party_of c.funder.log) (party_of c.fundee.log) × HoldsAll (party_of c.fundee.log) (party_of c.funder.log)
