@@ -11,3 +11,5 @@ pub mod Outgoing
 pub mod Written
 pub mod Refusal
 pub mod Typed
+pub mod Channel
+pub mod Features

@@ -3,10 +3,12 @@
 #![tactic(auto)]
 
 mod answer;
+mod channel;
 mod closing;
 mod commitments;
 mod counted;
 mod decoding;
+mod features;
 mod field;
 mod frame;
 mod message;
@@ -20,10 +22,12 @@ mod updates;
 mod window;
 
 pub use answer::answer_pings;
+pub use channel::channel_id;
 pub use closing::{ClosingSigned, Shutdown};
 pub use commitments::{ChannelReestablish, CommitmentSigned, RevokeAndAck};
 pub use counted::Counted;
 pub use decoding::decode;
+pub use features::check_init;
 pub use frame::one_hearing;
 pub use message::{Incoming, Message};
 pub use opening::{AcceptChannel, ChannelReady, FundingCreated, FundingSigned, OpenChannel};
