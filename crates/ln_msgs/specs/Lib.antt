@@ -13,3 +13,4 @@ pub mod Refusal
 pub mod Typed
 pub mod Channel
 pub mod Features
+pub mod Reply

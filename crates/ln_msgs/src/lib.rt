@@ -16,6 +16,7 @@ mod opening;
 mod outgoing;
 mod records;
 mod refusal;
+mod reply;
 mod setup;
 mod signatures;
 mod updates;
