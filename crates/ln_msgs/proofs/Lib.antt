@@ -5,3 +5,4 @@ pub mod Faults
 pub mod OneHearing
 pub mod Grammar
 pub mod Items
+pub mod Framing

@@ -14,3 +14,4 @@ pub mod Typed
 pub mod Channel
 pub mod Features
 pub mod Reply
+pub mod Framer
