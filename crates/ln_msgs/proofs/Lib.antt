@@ -7,3 +7,4 @@ pub mod Grammar
 pub mod Items
 pub mod Sums
 pub mod Writing
+pub mod Framing

@@ -13,3 +13,7 @@ pub mod Refusal
 pub mod Typed
 pub mod Items
 pub mod Writing
+pub mod Channel
+pub mod Features
+pub mod Reply
+pub mod Framer

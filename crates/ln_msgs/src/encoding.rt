@@ -62,19 +62,34 @@ fn encode_parts(alloc: Global, message: &Message) -> Result<Vec<u8>, Fault>
         Message::CommitmentSigned(m) => encoded(alloc, 132, &m.fields(), m.records.as_slice()),
         Message::RevokeAndAck(m) => encoded(alloc, 133, &m.fields(), m.records.as_slice()),
         Message::UpdateFee(m) => encoded(alloc, 134, &m.fields(), m.records.as_slice()),
-        Message::UpdateFailMalformedHtlc(m) => encoded(alloc, 135, &m.fields(), m.records.as_slice()),
+        Message::UpdateFailMalformedHtlc(m) => encoded(
+            alloc,
+            135,
+            &m.fields(),
+            m.records.as_slice(),
+        ),
         Message::ChannelReestablish(m) => encoded(alloc, 136, &m.fields(), m.records.as_slice()),
     }
 }
 
 /// The type, the fields and the records one after the other.
-fn encoded(alloc: Global, typ: u16, fields: &[Field<'_>], records: &[Record]) -> Result<Vec<u8>, Fault>
+fn encoded(
+    alloc: Global,
+    typ: u16,
+    fields: &[Field<'_>],
+    records: &[Record],
+) -> Result<Vec<u8>, Fault>
     ensures { (form : Form) (w : Wire) → AreFieldsOf form w fields.now → form_of w.typ ≡ Some form → w.typ ≡ typ → w.records ≡ records.now → IsWritten result w }
 {
     put_parts(alloc, typ, fields, records)
 }
 
-fn put_parts(alloc: Global, typ: u16, fields: &[Field<'_>], records: &[Record]) -> Result<Vec<u8>, Fault>
+fn put_parts(
+    alloc: Global,
+    typ: u16,
+    fields: &[Field<'_>],
+    records: &[Record],
+) -> Result<Vec<u8>, Fault>
     ensures ok { IfOk result (λ v. (v.items ≡ parts_bytes typ fields.now records.now) × (length v.items < 65536) × AreFit records.now × AreProper fields.now) }
     ensures long { IsErrOf result Fault.TooLong ↔ (65535 < length (parts_bytes typ fields.now records.now)) }
     ensures err { IfErr result (λ e. (e ≡ Fault.TooLong) ⊎ (e ≡ Fault.Memory)) }

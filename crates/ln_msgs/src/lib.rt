@@ -3,33 +3,40 @@
 #![tactic(auto)]
 
 mod answer;
+mod channel;
 mod closing;
 mod commitments;
 mod counted;
 mod decoding;
 mod encoding;
+mod features;
 mod field;
 mod fitting;
 mod frame;
+mod framer;
 mod item;
 mod message;
 mod opening;
 mod outgoing;
 mod records;
 mod refusal;
+mod reply;
 mod setup;
 mod signatures;
 mod updates;
 mod window;
 
 pub use answer::answer_pings;
+pub use channel::channel_id;
 pub use closing::{ClosingSigned, Shutdown};
 pub use commitments::{ChannelReestablish, CommitmentSigned, RevokeAndAck};
 pub use counted::Counted;
 pub use decoding::decode;
 pub use encoding::encode;
+pub use features::check_init;
 pub use fitting::fits;
 pub use frame::one_hearing;
+pub use framer::{Framer, any_pieces};
 pub use item::{Field, Item};
 pub use message::{Incoming, Message};
 pub use opening::{AcceptChannel, ChannelReady, FundingCreated, FundingSigned, OpenChannel};

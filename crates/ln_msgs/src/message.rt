@@ -1,15 +1,15 @@
 //! Messages, a variant for each type that is known.
 
-use crate::item::Field;
-use crate::records::Records;
-use std::alloc::{AllocError, Global};
 use crate::closing::{ClosingSigned, Shutdown};
 use crate::commitments::{ChannelReestablish, CommitmentSigned, RevokeAndAck};
+use crate::item::Field;
 use crate::opening::{AcceptChannel, ChannelReady, FundingCreated, FundingSigned, OpenChannel};
+use crate::records::Records;
 use crate::setup::{Error, Init, Ping, Pong, Warning};
 use crate::updates::{
     UpdateAddHtlc, UpdateFailHtlc, UpdateFailMalformedHtlc, UpdateFee, UpdateFulfillHtlc,
 };
+use std::alloc::{AllocError, Global};
 
 /// A message of a known type (BOLT 1, "Lightning Message Format"). Behind its fields each carries the records
 /// of its TLV stream, also those of odd types that nobody knows.

@@ -208,11 +208,9 @@ impl Pong {
     pub(crate) fn fields(&self) -> [Field<'_>; 1]
         ensures { AreFieldsOf pong_form (pong_wire self.now) result }
     {
-        [
-            Field {
-                name: "ignored",
-                value: Item::Sized(self.ignored.as_slice()),
-            },
-        ]
+        [Field {
+            name: "ignored",
+            value: Item::Sized(self.ignored.as_slice()),
+        }]
     }
 }

@@ -9,14 +9,14 @@ mod text;
 
 use choice::{Choice, choose};
 use failure::Failure;
+use ln_msgs::{Counted, Refusal, answer_pings};
 use print::print_all;
 use script::{script_text, simulate};
-use text::decode_text;
-use ln_msgs::{Counted, Refusal, answer_pings};
 use std::env::Env;
 use std::io::{ErrorKind, Read};
 use std::process::ExitCode;
 use std::{env, io};
+use text::decode_text;
 
 fn main(rt: HostRuntime) -> ExitCode {
     match run(&rt) {

@@ -179,7 +179,11 @@ pub fn simulated(alloc: Global, text: &str) -> Result<String, Refusal>
 ///
 /// Errors: 64 with the line's number for a script that isn't one, 60 where there is no memory (then nothing was
 /// written); 63 where a write fails.
-pub fn simulate<W: Write>(alloc: Global, text: &str, writer: &mut Counted<W>) -> Result<(), Failure> {
+pub fn simulate<W: Write>(
+    alloc: Global,
+    text: &str,
+    writer: &mut Counted<W>,
+) -> Result<(), Failure> {
     let report = simulated(alloc, text)?;
     print_all(writer, report.as_str())
 }
