@@ -49,4 +49,6 @@ pub use updates::{
 };
 
 #[cfg(test)]
+mod message_tests;
+#[cfg(test)]
 mod tests;

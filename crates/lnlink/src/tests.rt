@@ -1,6 +1,8 @@
 use crate::choice::{Choice, choose};
 use crate::failure::Failure;
-use ln_msgs::Refusal;
+use crate::script::{script_text, simulate};
+use crate::text::decode_text;
+use ln_msgs::{Counted, Refusal};
 use std::alloc::Global;
 use std::test::*;
 
@@ -16,6 +18,10 @@ fn chosen(alloc: Global, line: &str) -> Result<Result<Choice, Failure>, Fail> {
 fn words(rt: HostRuntime) -> Result<(), Fail> {
     for (line, want) in [
         ("answer", Ok(Choice::Answer)),
+        ("sim", Ok(Choice::Simulate)),
+        ("decode", Err(Failure::Usage)),
+        ("decode 00 11", Err(Failure::Usage)),
+        ("sim more", Err(Failure::Usage)),
         ("", Err(Failure::Usage)),
         ("answers", Err(Failure::Usage)),
         ("answer more", Err(Failure::Usage)),
@@ -32,9 +38,83 @@ fn words(rt: HostRuntime) -> Result<(), Fail> {
 }
 
 #[test]
+fn texts_to_decode(rt: HostRuntime) -> Result<(), Fail> {
+    for text in ["0015", "zz", "-"] {
+        let line = format!(in rt.alloc(); "decode {text}")?;
+        match chosen(rt.alloc(), line.as_str())?? {
+            Choice::Decode(hex) => assert_eq!(rt; hex.as_str(), text),
+            _ => return Err("decode".into()),
+        }
+    }
+    Ok(())
+}
+
+// Sixty-four zeros: 32 zero bytes.
+const ZEROS: &str = "0000000000000000000000000000000000000000000000000000000000000000";
+
+#[test]
+fn messages_as_text(rt: HostRuntime) -> Result<(), Fail> {
+    for (head, tail, text) in [
+        ("001200020000", "", "type 18 ping\nnum_pong_bytes 2\nignored -\n"),
+        ("0015", "", "type 21 ignored\n"),
+        ("0100", "", "type 256 ignored\n"),
+        ("0010000000000301FF", "", "type 16 init\nglobal_features -\nfeatures -\ntlv 3 ff\n"),
+        ("0010000000000300", "", "type 16 init\nglobal_features -\nfeatures -\ntlv 3 -\n"),
+    ] {
+        let hex = format!(in rt.alloc(); "{head}{tail}")?;
+        let shown = decode_text(rt.alloc(), hex.as_str())?;
+        assert_eq!(rt; shown.as_str(), text);
+    }
+    for (head, tail, first, rest) in [
+        ("0001", "00026869", "type 1 warning", "data 6869"),
+        ("0086", "000000fd", "type 134 update_fee", "feerate_per_kw 253"),
+    ] {
+        let hex = format!(in rt.alloc(); "{head}{ZEROS}{tail}")?;
+        let shown = decode_text(rt.alloc(), hex.as_str())?;
+        let want = format!(in rt.alloc(); "{first}\nchannel_id {ZEROS}\n{rest}\n")?;
+        assert_eq!(rt; shown.as_str(), want.as_str());
+    }
+    let hex = format!(in rt.alloc(); "0084{ZEROS}{ZEROS}{ZEROS}0001{ZEROS}{ZEROS}")?;
+    let shown = decode_text(rt.alloc(), hex.as_str())?;
+    let want = format!(in rt.alloc(); "type 132 commitment_signed\nchannel_id {ZEROS}\nsignature {ZEROS}{ZEROS}\ncount 1\nhtlc_signature {ZEROS}{ZEROS}\n")?;
+    assert_eq!(rt; shown.as_str(), want.as_str());
+    Ok(())
+}
+
+#[test]
+fn messages_that_are_none(rt: HostRuntime) -> Result<(), Fail> {
+    let ready = format!(in rt.alloc(); "0024{ZEROS}{ZEROS}000101ff")?;
+    for (hex, want) in [
+        ("zz", Failure::NotHex),
+        ("001", Failure::NotHex),
+        ("0x15", Failure::NotHex),
+        ("", Failure::Refused(Refusal::Truncated)),
+        ("12", Failure::Refused(Refusal::Truncated)),
+        ("0064", Failure::Refused(Refusal::UnknownEvenType)),
+        ("0010000000000200", Failure::Refused(Refusal::TlvUnknownEven)),
+        (ready.as_str(), Failure::Refused(Refusal::FieldLength)),
+    ] {
+        assert_eq!(rt; decode_text(rt.alloc(), hex).err(), Some(want), "at {hex}");
+    }
+    Ok(())
+}
+
+#[test]
+fn scripts(rt: HostRuntime) -> Result<(), Fail> {
+    let mut writer = Counted::new(Vec::new(rt.alloc()));
+    simulate(rt.alloc(), "sign A0\n", &mut writer)?;
+    assert!(rt; writer.get_ref().as_slice() == b"idle\n".as_slice());
+    assert_eq!(rt; script_text(&[0xff]).err(), Some(Failure::Refused(Refusal::BadScript { line: 0 })));
+    assert_eq!(rt; simulate(rt.alloc(), "sign\n", &mut writer), Err(Failure::Refused(Refusal::BadScript { line: 1 })));
+    assert!(rt; writer.get_ref().as_slice() == b"idle\n".as_slice());
+    Ok(())
+}
+
+#[test]
 fn lines_and_statuses(rt: HostRuntime) -> Result<(), Fail> {
     for (failure, line, status) in [
         (Failure::Usage, "usage", 2),
+        (Failure::NotHex, "not hex", 2),
         (Failure::Refused(Refusal::Truncated), "refused 1", 1),
         (Failure::Refused(Refusal::Io), "refused 63", 1),
         (
