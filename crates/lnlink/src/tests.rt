@@ -55,11 +55,23 @@ const ZEROS: &str = "00000000000000000000000000000000000000000000000000000000000
 #[test]
 fn messages_as_text(rt: HostRuntime) -> Result<(), Fail> {
     for (head, tail, text) in [
-        ("001200020000", "", "type 18 ping\nnum_pong_bytes 2\nignored -\n"),
+        (
+            "001200020000",
+            "",
+            "type 18 ping\nnum_pong_bytes 2\nignored -\n",
+        ),
         ("0015", "", "type 21 ignored\n"),
         ("0100", "", "type 256 ignored\n"),
-        ("0010000000000301FF", "", "type 16 init\nglobal_features -\nfeatures -\ntlv 3 ff\n"),
-        ("0010000000000300", "", "type 16 init\nglobal_features -\nfeatures -\ntlv 3 -\n"),
+        (
+            "0010000000000301FF",
+            "",
+            "type 16 init\nglobal_features -\nfeatures -\ntlv 3 ff\n",
+        ),
+        (
+            "0010000000000300",
+            "",
+            "type 16 init\nglobal_features -\nfeatures -\ntlv 3 -\n",
+        ),
     ] {
         let hex = format!(in rt.alloc(); "{head}{tail}")?;
         let shown = decode_text(rt.alloc(), hex.as_str())?;
@@ -67,7 +79,12 @@ fn messages_as_text(rt: HostRuntime) -> Result<(), Fail> {
     }
     for (head, tail, first, rest) in [
         ("0001", "00026869", "type 1 warning", "data 6869"),
-        ("0086", "000000fd", "type 134 update_fee", "feerate_per_kw 253"),
+        (
+            "0086",
+            "000000fd",
+            "type 134 update_fee",
+            "feerate_per_kw 253",
+        ),
     ] {
         let hex = format!(in rt.alloc(); "{head}{ZEROS}{tail}")?;
         let shown = decode_text(rt.alloc(), hex.as_str())?;
@@ -76,7 +93,9 @@ fn messages_as_text(rt: HostRuntime) -> Result<(), Fail> {
     }
     let hex = format!(in rt.alloc(); "0084{ZEROS}{ZEROS}{ZEROS}0001{ZEROS}{ZEROS}")?;
     let shown = decode_text(rt.alloc(), hex.as_str())?;
-    let want = format!(in rt.alloc(); "type 132 commitment_signed\nchannel_id {ZEROS}\nsignature {ZEROS}{ZEROS}\ncount 1\nhtlc_signature {ZEROS}{ZEROS}\n")?;
+    let want = format!(in rt.alloc();
+        "type 132 commitment_signed\nchannel_id {ZEROS}\nsignature {ZEROS}{ZEROS}\ncount 1\nhtlc_signature {ZEROS}{ZEROS}\n"
+    )?;
     assert_eq!(rt; shown.as_str(), want.as_str());
     Ok(())
 }
@@ -91,7 +110,10 @@ fn messages_that_are_none(rt: HostRuntime) -> Result<(), Fail> {
         ("", Failure::Refused(Refusal::Truncated)),
         ("12", Failure::Refused(Refusal::Truncated)),
         ("0064", Failure::Refused(Refusal::UnknownEvenType)),
-        ("0010000000000200", Failure::Refused(Refusal::TlvUnknownEven)),
+        (
+            "0010000000000200",
+            Failure::Refused(Refusal::TlvUnknownEven),
+        ),
         (ready.as_str(), Failure::Refused(Refusal::FieldLength)),
     ] {
         assert_eq!(rt; decode_text(rt.alloc(), hex).err(), Some(want), "at {hex}");
@@ -104,8 +126,14 @@ fn scripts(rt: HostRuntime) -> Result<(), Fail> {
     let mut writer = Counted::new(Vec::new(rt.alloc()));
     simulate(rt.alloc(), "sign A0\n", &mut writer)?;
     assert!(rt; writer.get_ref().as_slice() == b"idle\n".as_slice());
-    assert_eq!(rt; script_text(&[0xff]).err(), Some(Failure::Refused(Refusal::BadScript { line: 0 })));
-    assert_eq!(rt; simulate(rt.alloc(), "sign\n", &mut writer), Err(Failure::Refused(Refusal::BadScript { line: 1 })));
+    assert_eq!(rt;
+        script_text(&[0xff]).err(),
+        Some(Failure::Refused(Refusal::BadScript { line: 0 }))
+    );
+    assert_eq!(rt;
+        simulate(rt.alloc(), "sign\n", &mut writer),
+        Err(Failure::Refused(Refusal::BadScript { line: 1 }))
+    );
     assert!(rt; writer.get_ref().as_slice() == b"idle\n".as_slice());
     Ok(())
 }

@@ -68,14 +68,16 @@ fn put_field(alloc: Global, out: &mut String, field: &Field<'_>) -> Result<(), A
         Item::U32(number) => put_number(alloc, out, name, u64::from(number)),
         Item::U64(number) => put_number(alloc, out, name, number),
         Item::Fixed(bytes) | Item::Sized(bytes) => put_bytes(alloc, out, name, bytes),
-        Item::Listed(list) => {
-            put_number(alloc, out, "count", list.len() as u64)?;
-            for signature in list {
-                put_bytes(alloc, out, "htlc_signature", signature)?;
-            }
-            Ok(())
-        }
+        Item::Listed(list) => put_signatures(alloc, out, list),
     }
+}
+
+fn put_signatures(alloc: Global, out: &mut String, list: &[[u8; 64]]) -> Result<(), AllocError> {
+    put_number(alloc, out, "count", list.len() as u64)?;
+    for signature in list {
+        put_bytes(alloc, out, "htlc_signature", signature)?;
+    }
+    Ok(())
 }
 
 fn put_number(alloc: Global, out: &mut String, name: &str, number: u64) -> Result<(), AllocError> {
