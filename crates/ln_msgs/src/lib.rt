@@ -43,4 +43,6 @@ pub use updates::{
 };
 
 #[cfg(test)]
+mod frame_tests;
+#[cfg(test)]
 mod tests;
