@@ -48,6 +48,7 @@ pub use updates::{
     UpdateAddHtlc, UpdateFailHtlc, UpdateFailMalformedHtlc, UpdateFee, UpdateFulfillHtlc,
 };
 
+mod frame_tests;
 #[cfg(test)]
 mod message_tests;
 #[cfg(test)]
