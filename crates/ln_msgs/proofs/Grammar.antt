@@ -238,3 +238,9 @@ message_again bytes (Ignored typ) short says =
 pub is_found : (r : Result Incoming Fault) (bytes : List ℕ) → IsBytes bytes → Gives heard r (message_at bytes) → IfOk r (λ m. (length bytes < 65536) × Says (heard m) bytes)
 is_found (Ok m) bytes fits gives = message_takes bytes (heard m) fits gives
 is_found (Err e) bytes fits gives = tt
+
+pub one_said : (g h : Heard) (bytes : List ℕ) → length bytes < 65536 → Says g bytes → Says h bytes → g ≡ h
+one_said g h bytes short p q = ok_is g h (sym (message_again bytes g short p) ∙ message_again bytes h short q)
+
+pub no_fault_said : (h : Heard) (f : Fault) (bytes : List ℕ) → length bytes < 65536 → Says h bytes → message_at bytes ≡ Err f → ⊥
+no_fault_said h f bytes short p e = let both = sym (message_again bytes h short p) ∙ e in absurd cc

@@ -1,6 +1,7 @@
 //! The reader of one message.
 
-ghost use Rattle.std.specs.Prelude.{◌≡◌, ◌≢◌, ◌<◌, length, IfOk, IfErr, Ok};
+ghost use Rattle.std.specs.Prelude.{◌≡◌, ◌≢◌, ◌<◌, ℕ, List, length, IfOk, Ok, Err};
+ghost use Rattle.ln_bytes.specs.declared.fault.Fault.{Fault};
 ghost use Rattle.ln_bytes.specs.Reading.{Gives};
 ghost use Rattle.ln_msgs.specs.Table.{form_of};
 ghost use Rattle.ln_msgs.specs.Message.{Heard, Says, payload_at, message_at};
@@ -86,3 +87,9 @@ pub(crate) fn read_payload(alloc: Global, typ: u16, payload: &[u8]) -> Result<In
     };
     Ok(Incoming::Known(message))
 }
+
+/// A law: as a whole input, the bytes of a message say one thing at most, and what says something has no fault.
+pub fn one_message()
+    ensures said { (g h : Heard) (bytes : List ℕ) → length bytes < 65536 → Says g bytes → Says h bytes → g ≡ h }
+    ensures outcome { (h : Heard) (f : Fault) (bytes : List ℕ) → length bytes < 65536 → Says h bytes → message_at bytes ≢ Err f }
+{}

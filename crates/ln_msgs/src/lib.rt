@@ -31,7 +31,7 @@ pub use channel::channel_id;
 pub use closing::{ClosingSigned, Shutdown};
 pub use commitments::{ChannelReestablish, CommitmentSigned, RevokeAndAck};
 pub use counted::Counted;
-pub use decoding::decode;
+pub use decoding::{decode, one_message};
 pub use encoding::encode;
 pub use features::check_init;
 pub use fitting::fits;
@@ -51,5 +51,7 @@ pub use updates::{
 mod frame_tests;
 #[cfg(test)]
 mod message_tests;
+#[cfg(test)]
+mod small_tests;
 #[cfg(test)]
 mod tests;
