@@ -72,11 +72,14 @@ fn small_feed(rt: HostRuntime) -> Result<(), Fault> {
 #[test]
 fn small_reply(rt: HostRuntime) -> Result<(), Refusal> {
     match Refusal::OutOfPlace.reply(rt.alloc(), &[7; 32])? {
-        Some(Message::Error(error)) => {
-            assert_eq!(rt; error.channel_id, [7; 32]);
-            assert_eq!(rt; error.bytes.as_slice(), b"refused 21".as_slice());
-        }
-        _ => assert!(rt; false),
+        Some(message) => match message {
+            Message::Error(error) => {
+                assert_eq!(rt; error.channel_id, [7; 32]);
+                assert_eq!(rt; error.bytes.as_slice(), b"refused 21".as_slice());
+            }
+            _other => assert!(rt; false),
+        },
+        None => assert!(rt; false),
     }
     Ok(())
 }
