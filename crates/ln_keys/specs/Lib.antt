@@ -1,0 +1,2 @@
+pub mod Role
+pub mod Hash

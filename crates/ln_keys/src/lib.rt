@@ -1,0 +1,11 @@
+//! What a commitment is worth, and the services that a channel end is handed: keys that sign it and
+//! onions that travel with its HTLCs.
+#![tactic(auto)]
+
+mod hash;
+mod role;
+mod view;
+
+pub use hash::sha256_32;
+pub use role::Role;
+pub use view::{Htlc, Htlcs, View};
