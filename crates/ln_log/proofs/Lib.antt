@@ -1,4 +1,8 @@
+pub mod Outcomes
+pub mod Tallies
 pub mod Sums
-pub mod Adds
-pub mod Logs
+pub mod Standings
+pub mod Kept
+pub mod Grows
+pub mod Signs
 pub mod Fits

@@ -3,6 +3,7 @@ pub mod Opening
 pub mod Updates
 pub mod View
 pub mod Limits
+pub mod Standing
 pub mod Machine
 pub mod Log
 pub use Rattle.ln_msgs.specs.Refusal

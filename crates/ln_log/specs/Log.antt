@@ -1,20 +1,26 @@
 -- What one side keeps: both lists, and of each how many updates each commitment covers.
-use Rattle.std.specs.Prelude.{◌≡◌, ℕ, ◌+◌, ◌≤◌, List, [], ◌∷◌, ◌++◌, length, take, Bool, false, ◌&&◌, ◌==◌, Option, Some, None, if◌then◌else◌}
+use Rattle.std.specs.Prelude.{◌≡◌, ℕ, ◌+◌, ◌≤◌, List, [], ◌∷◌, ◌++◌, length, take, Bool, true, false, ◌&&◌, ◌==◌, nat_lt, not, Option, Some, None, is_none, option_map, if◌then◌else◌}
 use Rattle.ln_msgs.specs.declared.refusal.Refusal.{Refusal}
 use Rattle.ln_msgs.specs.declared.refusal.Refusal.TheVariants as refusal
-use Rattle.ln_log.specs.declared.opening.Role.{Role}
-use Rattle.ln_log.specs.declared.opening.Role.TheVariants.{Funder, Fundee}
+use Rattle.ln_keys.specs.declared.role.Role.{Role}
+use Rattle.ln_keys.specs.declared.role.Role.TheVariants.{Funder, Fundee}
 use Rattle.ln_log.specs.declared.opening.Opening.{Opening}
 use Rattle.ln_log.specs.declared.log.Pair.{Pair}
 use Rattle.ln_log.specs.declared.log.Pair.TheVariants as pair
 use Rattle.ln_log.specs.declared.log.Side.TheVariants as side
 use Rattle.ln_log.specs.declared.standing.Standing.{Standing}
+use Rattle.ln_log.specs.declared.update.Removal.{Removal}
 use Rattle.ln_log.specs.declared.update.Update.{Update}
-use Rattle.ln_log.specs.declared.view.View.{View}
-use Rattle.ln_log.specs.Opening.{IsFit, other_role, first_balance}
-use Rattle.ln_log.specs.Updates.{total, is_any}
-use Rattle.ln_log.specs.View.{live_adds, view_of}
-use Rattle.ln_log.specs.Limits.{standing_of}
+use Rattle.ln_log.specs.declared.update.Update.TheVariants as update
+use Rattle.ln_keys.specs.declared.view.View.{View}
+use Rattle.ln_keys.specs.Role.{other_role}
+use Rattle.ln_log.specs.Opening.{IsFit, first_balance}
+use Rattle.ln_msgs.specs.Refusal.{refusal_number}
+use Rattle.ln_log.specs.declared.update.Add.{Add}
+use Rattle.ln_log.specs.declared.outcome.Outcome.TheVariants.{Live}
+use Rattle.ln_log.specs.Updates.{offered, removed, all_sent, add_with, outcome, is_live, is_some}
+use Rattle.ln_log.specs.View.{live_adds, view_of, Pays}
+use Rattle.ln_log.specs.Limits.{standing_of, update_fault, id_fault, is_spent, first_fault}
 use Rattle.ln_log.specs.Machine.{Covered, Party}
 
 -- how many updates of either side
@@ -41,13 +47,16 @@ opened o x = record { opening = o; role = x; own = []; got = []; signed = none; 
 abbrev pub covered : Log → Counts → Covered
 covered l c = record { own = take c.own l.own; peer = take c.peer l.got }
 
--- the party of the machine that a log stands for
+abbrev pub sent_pair : Covered → Covered
+sent_pair c = record { own = all_sent c.own; peer = all_sent c.peer }
+
+-- the party of the machine that a log stands for, by the updates as they are sent
 abbrev pub party_of : Log → Party
 party_of l = record {
-  own = l.own;
-  signed = covered l l.signed;
-  current = covered l l.current;
-  acknowledged = covered l l.acknowledged;
+  own = all_sent l.own;
+  signed = sent_pair (covered l l.signed);
+  current = sent_pair (covered l l.current);
+  acknowledged = sent_pair (covered l l.acknowledged);
   shut = false;
   closed = None;
 }
@@ -82,8 +91,14 @@ accepted_all l = record l { current = record { own = l.acknowledged.own; peer = 
 abbrev pub acknowledged_all : Log → Log
 acknowledged_all l = record l { acknowledged = l.signed }
 
+-- the updates that no signature covers are gone
+abbrev pub dropped : Log → Log
+dropped l = record l { own = take l.signed.own l.own; got = take l.current.peer l.got }
+
 abbrev pub same_counts : Counts → Counts → Bool
 same_counts c d = (c.own == d.own) && (c.peer == d.peer)
+
+-- ---- what keeps a side from it
 
 -- what keeps a side from signing
 abbrev pub sign_fault : Log → Option Refusal
@@ -91,6 +106,43 @@ sign_fault l =
     if same_counts l.acknowledged l.signed
     then (if same_counts l.signed (signed_all l).signed then Some refusal.NothingToSign else None)
     else Some refusal.SignatureOutstanding
+
+-- the peer would refuse it
+abbrev pub peer_limit : Refusal → Refusal
+peer_limit r = refusal.PeerLimit (refusal_number r)
+
+-- no HTLC of this id was ever offered (28), it is removed already, or it isn't held as irrevocably
+-- committed
+abbrev pub removal_fault : Log → Option Removal → Option Refusal
+removal_fault l None = None
+removal_fault l (Some r) =
+    if is_none (add_with r.id l.got) then Some (refusal.PeerLimit 28)
+    else (if not (is_live (outcome r.id l.own)) then Some refusal.AlreadyRemoved
+    else (if is_none (add_with r.id (take l.acknowledged.peer l.got)) then Some refusal.NotCommitted
+    else None))
+
+-- update_fail_htlc has 44 bytes beside the reason, and a message has 65,535 at most (7)
+abbrev pub length_fault : Update → Option Refusal
+length_fault (update.Add a) = None
+length_fault (update.Fulfil f) = None
+length_fault (update.Fail f) = if nat_lt 65491 (length f.reason) then Some (refusal.PeerLimit 7) else None
+length_fault (update.Malformed m) = None
+length_fault (update.Fee f) = None
+
+-- by command
+abbrev pub proposal_fault : Log → Update → Option Refusal
+proposal_fault l u =
+    first_fault (if is_spent l.own then Some refusal.NumbersSpent else None)
+    (first_fault (removal_fault l (removed u))
+    (first_fault (option_map peer_limit (update_fault l.opening l.role l.own (take l.current.peer l.got) (take l.acknowledged.peer l.got) u))
+    (length_fault u)))
+
+-- from the peer
+abbrev pub taken_fault : Log → Update → Option Refusal
+taken_fault l u =
+    first_fault (if is_spent l.got then Some refusal.OutOfPlace else None)
+    (first_fault (id_fault l.got u)
+    (update_fault l.opening (other_role l.role) l.got (take l.acknowledged.own l.own) (take l.current.own l.own) u))
 
 -- ---- views
 
@@ -109,13 +161,53 @@ abbrev pub view_for : Opening → Role → Covered → View
 view_for o Funder c = view_of o c.own c.peer
 view_for o Fundee c = view_of o c.peer c.own
 
--- ---- what is kept beside the lists
+-- ---- what is kept
 
--- how both sides stand is what their lists say, and neither offered more than it had
-pub record IsKept (l : Log) (own peer : Standing) : Type 0 where
+-- what is kept stands for these lists and counts: today it has them whole
+abbrev pub StandsFor : Log → Log → Type 0
+StandsFor kept l = kept ≡ l
+
+abbrev pub number_after : ℕ → Option Add → ℕ
+number_after n None = n
+number_after n (Some a) = n + 1
+
+abbrev pub HasId : ℕ → Option Add → Type 0
+HasId n None = Unit {0}
+HasId n (Some a) = a.id ≡ n
+
+-- the HTLCs that a list offers have the ids n, n + 1 and so on
+abbrev pub AreNumbered : ℕ → List Update → Type 0
+AreNumbered n [] = Unit {0}
+AreNumbered n (u ∷ us) = HasId n (offered u) × AreNumbered (number_after n (offered u)) us
+
+abbrev pub RemovesLive : List Update → List Update → Option Removal → Type 0
+RemovesLive adds before None = Unit {0}
+RemovesLive adds before (Some r) = (is_some (add_with r.id adds) ≡ true) × (outcome r.id before ≡ Live)
+
+-- behind some updates, each of these that removes an HTLC removes one that was offered and that none
+-- before it removes
+abbrev pub AreRemovals : List Update → List Update → List Update → Type 0
+AreRemovals adds before [] = Unit {0}
+AreRemovals adds before (u ∷ us) = RemovesLive adds before (removed u) × AreRemovals adds (before ++ u ∷ []) us
+
+abbrev pub BothPay : Opening → Role → Covered → Type 0
+BothPay o role c = Pays (first_balance o role) c.own c.peer × Pays (first_balance o (other_role role)) c.peer c.own
+
+-- how each side stands is what the lists say: by all that it proposed, and by what of it the last
+-- signature covers; and in each commitment both sides have paid from what they had
+pub record IsKept (l : Log) (own own_signed peer peer_current : Standing) : Type 0 where
   pub fit : IsFit l.opening
   pub within : IsWithin l
+  pub own_ids : AreNumbered 0 l.own
+  pub peer_ids : AreNumbered 0 l.got
+  pub own_removals : AreRemovals (take l.acknowledged.peer l.got) [] l.own
+  pub peer_removals : AreRemovals (take l.current.own l.own) [] l.got
   pub own_stands : own ≡ standing_of (first_balance l.opening l.role) l.own (take l.current.peer l.got)
+  pub own_signed_stands : own_signed ≡ standing_of (first_balance l.opening l.role) (take l.signed.own l.own) (take l.current.peer l.got)
   pub peer_stands : peer ≡ standing_of (first_balance l.opening (other_role l.role)) l.got (take l.acknowledged.own l.own)
-  pub own_paid : total is_any l.own l.got ≤ first_balance l.opening l.role
-  pub peer_paid : total is_any l.got l.own ≤ first_balance l.opening (other_role l.role)
+  pub peer_current_stands : peer_current ≡ standing_of (first_balance l.opening (other_role l.role)) (take l.current.peer l.got) (take l.acknowledged.own l.own)
+  pub own_pays : Pays (first_balance l.opening l.role) l.own (take l.current.peer l.got)
+  pub peer_pays : Pays (first_balance l.opening (other_role l.role)) l.got (take l.acknowledged.own l.own)
+  pub signed_pays : BothPay l.opening l.role (covered l l.signed)
+  pub acknowledged_pays : BothPay l.opening l.role (covered l l.acknowledged)
+  pub current_pays : BothPay l.opening l.role (covered l l.current)

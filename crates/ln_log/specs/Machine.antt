@@ -1,11 +1,14 @@
 -- A channel as an abstract machine (BOLT 2, "Normal Operation"): whole lists of updates, with no
--- messages, no numbers and no connection.
+-- messages, no numbers and no connection. Its updates are as they are sent: where an add came from is
+-- no part of them.
 use Rattle.std.specs.Prelude.{◌≡◌, ◌≢◌, ℕ, List, [], ◌∷◌, ◌++◌, Bool, false, Option, Some, None}
-use Rattle.ln_log.specs.declared.opening.Role.{Role}
-use Rattle.ln_log.specs.declared.opening.Role.TheVariants.{Funder, Fundee}
+use Rattle.ln_keys.specs.declared.role.Role.{Role}
+use Rattle.ln_keys.specs.declared.role.Role.TheVariants.{Funder, Fundee}
 use Rattle.ln_log.specs.declared.opening.Opening.{Opening}
 use Rattle.ln_log.specs.declared.update.Update.{Update}
-use Rattle.ln_log.specs.Opening.{IsFit, other_role}
+use Rattle.ln_log.specs.declared.update.Update.TheVariants as update
+use Rattle.ln_keys.specs.Role.{other_role}
+use Rattle.ln_log.specs.Opening.{IsFit}
 use Rattle.ln_log.specs.Limits.{update_fault, HasNextId}
 use Rattle.ln_log.specs.Lists.{Begins}
 
@@ -69,12 +72,17 @@ accepts signer p = record p { current = turned signer.signed }
 abbrev pub learns : Party → Party → Party
 learns revoker p = record p { acknowledged = turned revoker.current }
 
+-- BOLT 2, "Message Retransmission": a lost connection costs a side its updates that no signature covers
+abbrev pub drops : Party → Party
+drops p = record p { own = p.signed.own }
+
 pub data Move : Type 0 where
   Open : (o : Opening) → Move
   Propose : (x : Role) (u : Update) → Move
   Sign : (x : Role) → Move
   Accept : (x : Role) → Move
   Learn : (x : Role) → Move
+  Drop : (x : Role) → Move
 
 abbrev pub moved : Move → Machine → Machine
 moved (Open o) m = m
@@ -82,6 +90,7 @@ moved (Propose x u) m = with_party x (proposes u (party x m)) m
 moved (Sign x) m = with_party x (signs (party x m)) m
 moved (Accept x) m = with_party x (accepts (party (other_role x) m) (party x m)) m
 moved (Learn x) m = with_party x (learns (party (other_role x) m) (party x m)) m
+moved (Drop x) m = with_party x (drops (party x m)) m
 
 -- there is no channel before one is opened
 abbrev pub after : Move → Option Machine → Option Machine
@@ -90,16 +99,25 @@ after (Propose x u) None = None
 after (Sign x) None = None
 after (Accept x) None = None
 after (Learn x) None = None
+after (Drop x) None = None
 after move (Some m) = Some (moved move m)
 
 -- ---- when it may step
 
--- an update has the next id, and meets the limits on the view of what a signature would cover; no add
--- follows a shutdown
+-- no add and no fee follows a shutdown; what was added may still be removed
+abbrev pub MayFollow : Bool → Update → Type 0
+MayFollow shut (update.Add a) = shut ≡ false
+MayFollow shut (update.Fulfil f) = Unit {0}
+MayFollow shut (update.Fail f) = Unit {0}
+MayFollow shut (update.Malformed m) = Unit {0}
+MayFollow shut (update.Fee f) = shut ≡ false
+
+-- an add has the next id, and meets the limits on the view of what a signature would cover; a removal
+-- names an HTLC that its side holds as irrevocably committed and hasn't removed; a fee is the funder's
 pub record MayPropose (o : Opening) (x : Role) (u : Update) (p : Party) : Type 0 where
-  pub open_still : p.shut ≡ false
+  pub open_still : MayFollow p.shut u
   pub next : HasNextId p.own u
-  pub within : update_fault o x p.own p.current.peer u ≡ None
+  pub within : update_fault o x p.own p.current.peer p.acknowledged.peer u ≡ None
 
 -- no signature is unrevoked, and something new would be covered
 pub record MaySign (p : Party) : Type 0 where
@@ -117,6 +135,8 @@ MayMove (Accept x) None = ⊥
 MayMove (Accept x) (Some m) = Unit {0}
 MayMove (Learn x) None = ⊥
 MayMove (Learn x) (Some m) = Unit {0}
+MayMove (Drop x) None = ⊥
+MayMove (Drop x) (Some m) = Unit {0}
 
 -- these moves, each of which may be made, lead from one state to the other
 abbrev pub IsRun : List Move → Option Machine → Option Machine → Type 0

@@ -1,13 +1,9 @@
 -- What two sides agreed on as they opened a channel (BOLT 2, "Channel Establishment v1").
 use Rattle.std.specs.Prelude.{ℕ, ◌*◌, ◌-◌, ◌≤◌, nat_le, Bool, ◌&&◌}
-use Rattle.ln_log.specs.declared.opening.Role.{Role}
-use Rattle.ln_log.specs.declared.opening.Role.TheVariants.{Funder, Fundee}
+use Rattle.ln_keys.specs.declared.role.Role.{Role}
+use Rattle.ln_keys.specs.declared.role.Role.TheVariants.{Funder, Fundee}
 use Rattle.ln_log.specs.declared.opening.Limits.{Limits}
 use Rattle.ln_log.specs.declared.opening.Opening.{Opening}
-
-abbrev pub other_role : Role → Role
-other_role Funder = Fundee
-other_role Fundee = Funder
 
 -- the limits that the HTLCs of a side have to meet are those that the other side sent
 abbrev pub limits_of : Opening → Role → Limits

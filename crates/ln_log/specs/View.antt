@@ -1,26 +1,30 @@
 -- What two lists of updates are worth: the outputs of the commitment that covers them (BOLT 2, "Normal
 -- Operation"; BOLT 3, "Commitment Transaction Outputs").
-use Rattle.std.specs.Prelude.{◌≡◌, ℕ, ◌+◌, ◌-◌, ◌*◌, ◌≤◌, List, [], ◌∷◌, ◌++◌, map, sum_by, if◌then◌else◌}
-use Rattle.ln_log.specs.declared.opening.Role.{Role}
-use Rattle.ln_log.specs.declared.opening.Role.TheVariants.{Funder, Fundee}
+use Rattle.std.specs.Prelude.{◌≡◌, ℕ, ◌+◌, ◌-◌, ◌*◌, ◌≤◌, List, [], ◌∷◌, ◌++◌, map, sum_by, Option, Some, None, if◌then◌else◌}
+use Rattle.std.specs.List.{cons_option}
+use Rattle.ln_keys.specs.declared.role.Role.{Role}
+use Rattle.ln_keys.specs.declared.role.Role.TheVariants.{Funder, Fundee}
+use Rattle.ln_keys.specs.declared.view.Htlc.{Htlc}
+use Rattle.ln_keys.specs.declared.view.View.{View}
 use Rattle.ln_log.specs.declared.opening.Opening.{Opening}
 use Rattle.ln_log.specs.declared.update.Add.{Add}
 use Rattle.ln_log.specs.declared.update.Update.{Update}
-use Rattle.ln_log.specs.declared.update.Update.TheVariants as update
-use Rattle.ln_log.specs.declared.view.Htlc.{Htlc}
-use Rattle.ln_log.specs.declared.view.View.{View}
 use Rattle.ln_log.specs.Opening.{first_balance}
-use Rattle.ln_log.specs.Updates.{outcome, is_live, is_fulfilled, is_failed, is_any, total, last_feerate}
+use Rattle.ln_log.specs.Updates.{offered, outcome, is_live, is_fulfilled, is_failed, is_any, total, last_feerate}
 
 -- the balance of the side that offered own: what it had, less what it offered, with what came back and
 -- what it got by fulfilling
 abbrev pub balance : ℕ → List Update → List Update → ℕ
 balance first own peer = first + total is_failed own peer + total is_fulfilled peer own - total is_any own peer
 
+abbrev pub live_of : Option Add → List Update → Option Add
+live_of None removals = None
+live_of (Some a) removals = if is_live (outcome a.id removals) then Some a else None
+
 -- the HTLCs of one side that the other hasn't removed, by id
 abbrev pub live_adds : List Update → List Update → List Add
 live_adds [] removals = []
-live_adds (update.Add a ∷ us) removals = if is_live (outcome a.id removals) then a ∷ live_adds us removals else live_adds us removals
+live_adds (u ∷ us) removals = cons_option (live_of (offered u) removals) (live_adds us removals)
 
 abbrev pub htlc_of : Role → Add → Htlc
 htlc_of owner a = record { owner = owner; id = a.id; amount = a.amount; hash = a.hash; expiry = a.expiry }
@@ -34,10 +38,14 @@ view_of o funder fundee = record {
   htlcs = map (htlc_of Funder) (live_adds funder fundee) ++ map (htlc_of Fundee) (live_adds fundee funder);
 }
 
+-- the side that offered own hasn't spent more than it had
+abbrev pub Pays : ℕ → List Update → List Update → Type 0
+Pays first own peer = total is_any own peer ≤ first + total is_failed own peer + total is_fulfilled peer own
+
 -- no side has spent more than it had
 pub record IsFunded (o : Opening) (funder fundee : List Update) : Type 0 where
-  pub funder_paid : total is_any funder fundee ≤ first_balance o Funder + total is_failed funder fundee + total is_fulfilled fundee funder
-  pub fundee_paid : total is_any fundee funder ≤ first_balance o Fundee + total is_failed fundee funder + total is_fulfilled funder fundee
+  pub funder_pays : Pays (first_balance o Funder) funder fundee
+  pub fundee_pays : Pays (first_balance o Fundee) fundee funder
 
 abbrev pub htlc_amount : Htlc → ℕ
 htlc_amount h = h.amount

@@ -4,17 +4,18 @@
 
 mod log;
 mod opening;
+mod outcome;
 mod plain;
 mod standing;
 mod update;
-mod view;
 
+pub use ln_keys::{Htlc, Htlcs, Role, View};
 pub use log::{Counts, Pair, Side, UpdateLog, sign_exactly};
-pub use opening::{Limits, Opening, Role};
-pub use plain::{conservation, live_count, outcome_of, plain_view};
-pub use standing::{Standing, add_refusal};
-pub use update::{Add, Update};
-pub use view::{Htlc, Htlcs, Outcome, View};
+pub use opening::{Limits, Opening};
+pub use outcome::Outcome;
+pub use plain::{conservation, find_add, last_feerate, live_count, outcome_of, plain_view};
+pub use standing::{Standing, add_refusal, update_refusal};
+pub use update::{Add, ChannelId, Fail, Fee, Fulfil, Malformed, Removal, Update, removal_of};
 
 #[cfg(test)]
 mod tests;

@@ -1,17 +1,27 @@
 //! The updates of a channel as one side has them.
 
-ghost use Rattle.std.specs.Prelude.{◌≡◌, ℕ, ◌↔◌, List, length, Option, None};
-ghost use Rattle.ln_log.specs.Log.{Log, IsWithin, sign_fault, party_of};
+ghost use Rattle.std.specs.Prelude.{◌≡◌, ℕ, ◌↔◌, List, length, Option, Some, None, if◌then◌else◌};
+ghost use Rattle.ln_log.specs.declared.update.Update.{Update};
+ghost use Rattle.ln_log.specs.Updates.{next_id};
+ghost use Rattle.ln_log.specs.Limits.{id_fault};
+ghost use Rattle.ln_log.specs.Log.{Log, IsWithin, sign_fault, length_fault, party_of};
 ghost use Rattle.ln_log.specs.Machine.{MaySign};
 
-use crate::opening::{Opening, Role};
-use crate::plain::{live_count, plain_view};
-use crate::standing::{Standing, add_refusal};
-use crate::update::{Add, Update};
-use crate::view::View;
+use crate::opening::Opening;
+use crate::outcome::Outcome;
+use crate::plain::{find_add, live_count, outcome_of, plain_view};
+use crate::standing::{Standing, update_refusal};
+use crate::update::{Update, removal_of};
+use ln_keys::{Role, View};
 use ln_msgs::Refusal;
 use std::alloc::Global;
 use std::marker::Model;
+
+/// A side proposes no more updates than these.
+const MOST_UPDATES: u64 = 1 << 62;
+
+/// `update_fail_htlc` has 44 bytes beside the reason, and a message 65,535 at most.
+const LONGEST_REASON: usize = 65_491;
 
 /// Whose.
 #[derive(Clone, Copy, Debug, PartialEq, Eq)]
@@ -53,9 +63,12 @@ pub struct UpdateLog {
     signed: Counts,
     acknowledged: Counts,
     current: Counts,
-    // how this side stands by what it would sign, and the peer by what it would accept
+    // how this side stands by what it would sign, and what is left of that once the connection is lost
     own_standing: Standing,
+    own_signed: Standing,
+    // the same for the peer, by what this side would accept
     peer_standing: Standing,
+    peer_current: Standing,
 }
 
 impl Model for UpdateLog {
@@ -83,24 +96,37 @@ impl Model for UpdateLog {
           acknowledged = record { own = l.acknowledged.own; peer = l.acknowledged.peer };
           current = record { own = l.current.own; peer = l.current.peer };
         })
-        l.own_standing l.peer_standing };
+        l.own_standing l.own_signed l.peer_standing l.peer_current };
 }
 
 impl UpdateLog {
     ghost use Rattle.std.specs.Prelude.{◌≡◌, ◌≤◌, length, take, IfOk, OnOk, OnErr, IsTrue};
     ghost use Rattle.std.specs.Result.{IsOkUnless};
-    ghost use Rattle.ln_log.specs.Opening.{IsFit, other_role};
-    ghost use Rattle.ln_log.specs.Updates.{next_id};
-    ghost use Rattle.ln_log.specs.View.{live_adds, AddsUp};
-    ghost use Rattle.ln_log.specs.Limits.{proposal_fault, taken_fault, HasNextId, Answers};
-    ghost use Rattle.ln_log.specs.Log.{opened, proposed, received, signed_all, accepted_all, acknowledged_all, sign_fault, covered, counts_of, live_in, view_for};
+    ghost use Rattle.ln_keys.specs.Role.{other_role};
+    ghost use Rattle.ln_log.specs.Opening.{IsFit};
+    ghost use Rattle.ln_log.specs.Updates.{next_id, removed};
+    ghost use Rattle.ln_log.specs.View.{AddsUp};
+    ghost use Rattle.ln_log.specs.Limits.{HasNextId, Answers};
+    ghost use Rattle.ln_log.specs.Log.{StandsFor, opened, proposed, received, signed_all, accepted_all, acknowledged_all, dropped, sign_fault, removal_fault, proposal_fault, taken_fault, covered, counts_of, live_in, view_for};
 
     /// A channel end before any update. Takes no memory.
     pub fn new(alloc: Global, role: Role, opening: Opening) -> UpdateLog
         requires { IsFit opening }
-        ensures { result ≡ opened opening role }
+        ensures { StandsFor result (opened opening role) }
     {
         let none = Counts { own: 0, peer: 0 };
+        let own = Standing {
+            next_id: 0,
+            live: 0,
+            in_flight: 0,
+            balance: opening.first_balance(role),
+        };
+        let peer = Standing {
+            next_id: 0,
+            live: 0,
+            in_flight: 0,
+            balance: opening.first_balance(role.other()),
+        };
         UpdateLog {
             opening,
             role,
@@ -109,107 +135,145 @@ impl UpdateLog {
             signed: none,
             acknowledged: none,
             current: none,
-            own_standing: Standing {
-                live: 0,
-                in_flight: 0,
-                balance: opening.first_balance(role),
-            },
-            peer_standing: Standing {
-                live: 0,
-                in_flight: 0,
-                balance: opening.first_balance(role.other()),
-            },
+            own_standing: own,
+            own_signed: own,
+            peer_standing: peer,
+            peer_current: peer,
         }
     }
 
     /// The id of the next HTLC that this side offers.
     pub fn next_id(&self) -> u64
-        ensures { result ≡ next_id self.now.own }
+        ensures { (l : Log) → StandsFor self.now l → result ≡ next_id l.own }
     {
-        self.own.len() as u64
+        self.own_standing.next_id
     }
 
-    // The id of the next HTLC that the peer offers.
-    fn next_peer_id(&self) -> u64
-        ensures { result ≡ next_id self.now.got }
-    {
-        self.got.len() as u64
-    }
-
-    /// Proposes an update (BOLT 2, "Adding an HTLC").
+    /// Proposes an update (BOLT 2, "Adding an HTLC", "Removing an HTLC", "Updating Fees").
     ///
-    /// 44 with the number by which the peer would refuse it (23, 27, 24, 25 or 26, in this order), 60
-    /// where there was no memory; then nothing has changed.
+    /// 46 where this side has proposed 2^62 updates. For a removal 44 with 28 where the peer never offered
+    /// the HTLC, 49 where it is removed already, 48 where it isn't held as irrevocably committed; 44 with
+    /// the number by which the peer would refuse the update (23, 27, 24, 25, 26 for an add, in this order;
+    /// 29 for a preimage that isn't the payment hash's; 21 for a malformed one without the BADONION bit;
+    /// 30 for a fee of the fundee's); 44 with 7 for a reason of more than 65,491 bytes. 60 where there was
+    /// no memory. At each of these nothing has changed.
     pub fn propose(&mut self, update: Update) -> Result<(), Refusal>
-        requires { HasNextId self.old.own update }
-        ensures answer { Answers (proposal_fault self.old.opening self.old.role self.old.own (take self.old.current.peer self.old.got) update) result }
-        ensures ok { OnOk result (self.new ≡ proposed update self.old) }
+        requires { (l : Log) → StandsFor self.old l → HasNextId l.own update }
+        ensures answer { (l : Log) → StandsFor self.old l → Answers (proposal_fault l update) result }
+        ensures ok { (l : Log) → StandsFor self.old l → OnOk result (StandsFor self.new (proposed update l)) }
         ensures err { OnErr result (self.new ≡ self.old) }
     {
-        match update {
-            Update::Add(add) => self.propose_add(add),
-        }
-    }
-
-    fn propose_add(&mut self, add: Add) -> Result<(), Refusal>
-        requires { add.id ≡ next_id self.old.own }
-        ensures answer { Answers (proposal_fault self.old.opening self.old.role self.old.own (take self.old.current.peer self.old.got) (Update.Add add)) result }
-        ensures ok { OnOk result (self.new ≡ proposed (Update.Add add) self.old) }
-        ensures err { OnErr result (self.new ≡ self.old) }
-    {
-        let limits = self.opening.limits_of(self.role);
-        match add_refusal(&limits, &self.own_standing, &add) {
-            Some(refusal) => Err(Refusal::PeerLimit(refusal.number())),
-            None => {
-                self.own.push(Update::Add(add))?;
-                self.own_standing = self.own_standing.with(&add);
-                Ok(())
-            }
-        }
-    }
-
-    /// Takes an update of the peer (BOLT 2, "Adding an HTLC").
-    ///
-    /// 22 where its id isn't the next one, then 23, 27, 24, 25 or 26 in this order, 60 where there was
-    /// no memory; then nothing has changed.
-    pub fn receive(&mut self, update: Update) -> Result<(), Refusal>
-        ensures answer { Answers (taken_fault self.old.opening (other_role self.old.role) self.old.got (take self.old.acknowledged.own self.old.own) update) result }
-        ensures ok { OnOk result (self.new ≡ received update self.old) }
-        ensures err { OnErr result (self.new ≡ self.old) }
-    {
-        match update {
-            Update::Add(add) => self.receive_add(add),
-        }
-    }
-
-    fn receive_add(&mut self, add: Add) -> Result<(), Refusal>
-        ensures answer { Answers (taken_fault self.old.opening (other_role self.old.role) self.old.got (take self.old.acknowledged.own self.old.own) (Update.Add add)) result }
-        ensures ok { OnOk result (self.new ≡ received (Update.Add add) self.old) }
-        ensures err { OnErr result (self.new ≡ self.old) }
-    {
-        if add.id != self.next_peer_id() {
-            return Err(Refusal::BadId);
-        }
-        let limits = self.opening.limits_of(self.role.other());
-        match add_refusal(&limits, &self.peer_standing, &add) {
+        match self.proposal_refusal(&update) {
             Some(refusal) => Err(refusal),
             None => {
-                self.got.push(Update::Add(add))?;
-                self.peer_standing = self.peer_standing.with(&add);
+                let seen = &self.got[..self.current.peer];
+                let standing = self.own_standing.with_own(&update, seen);
+                self.own.push(update)?;
+                self.own_standing = standing;
                 Ok(())
             }
         }
+    }
+
+    // What keeps this side from removing an HTLC of the peer's.
+    fn removal_refusal(&self, update: &Update) -> Option<Refusal>
+        ensures { result ≡ removal_fault self.now (removed update.now) }
+    {
+        match removal_of(update) {
+            None => None,
+            Some(removal) => {
+                if find_add(removal.id, self.got.as_slice()).is_none() {
+                    return Some(Refusal::PeerLimit(28));
+                }
+                if outcome_of(removal.id, self.own.as_slice()) != Outcome::Live {
+                    return Some(Refusal::AlreadyRemoved);
+                }
+                if find_add(removal.id, &self.got[..self.acknowledged.peer]).is_none() {
+                    return Some(Refusal::NotCommitted);
+                }
+                None
+            }
+        }
+    }
+
+    // What keeps this side from proposing an update.
+    fn proposal_refusal(&self, update: &Update) -> Option<Refusal>
+        ensures { result ≡ proposal_fault self.now update.now }
+    {
+        if self.own.len() as u64 >= MOST_UPDATES {
+            return Some(Refusal::NumbersSpent);
+        }
+        match self.removal_refusal(update) {
+            Some(refusal) => return Some(refusal),
+            None => {}
+        }
+        let limits = self.opening.limits_of(self.role);
+        let held = &self.got[..self.acknowledged.peer];
+        match update_refusal(
+            &limits,
+            &self.own_standing,
+            self.role,
+            self.own.as_slice(),
+            held,
+            update,
+        ) {
+            Some(refusal) => Some(Refusal::PeerLimit(refusal.number())),
+            None => length_refusal(update),
+        }
+    }
+
+    /// Takes an update of the peer (BOLT 2, "Adding an HTLC", "Removing an HTLC", "Updating Fees").
+    ///
+    /// 21 where the peer has proposed 2^62 updates. For an add 22 where its id isn't the next one, then
+    /// 23, 27, 24, 25 or 26 in this order; for a removal 28 where it names no HTLC that the peer holds as
+    /// irrevocably committed and hasn't removed, then 29 for a wrong preimage, 21 for a malformed one
+    /// without the BADONION bit; for a fee of the fundee's 30. 60 where there was no memory. At each of
+    /// these nothing has changed.
+    pub fn receive(&mut self, update: Update) -> Result<(), Refusal>
+        ensures answer { (l : Log) → StandsFor self.old l → Answers (taken_fault l update) result }
+        ensures ok { (l : Log) → StandsFor self.old l → OnOk result (StandsFor self.new (received update l)) }
+        ensures err { OnErr result (self.new ≡ self.old) }
+    {
+        match self.taken_refusal(&update) {
+            Some(refusal) => Err(refusal),
+            None => {
+                let seen = &self.own[..self.acknowledged.own];
+                let standing = self.peer_standing.with_own(&update, seen);
+                self.got.push(update)?;
+                self.peer_standing = standing;
+                Ok(())
+            }
+        }
+    }
+
+    // What is wrong with an update of the peer.
+    fn taken_refusal(&self, update: &Update) -> Option<Refusal>
+        ensures { result ≡ taken_fault self.now update.now }
+    {
+        if self.got.len() as u64 >= MOST_UPDATES {
+            return Some(Refusal::OutOfPlace);
+        }
+        if !has_id(update, self.peer_standing.next_id) {
+            return Some(Refusal::BadId);
+        }
+        let limits = self.opening.limits_of(self.role.other());
+        let held = &self.own[..self.current.own];
+        update_refusal(
+            &limits,
+            &self.peer_standing,
+            self.role.other(),
+            self.got.as_slice(),
+            held,
+            update,
+        )
     }
 
     /// What keeps this side from signing: 41 where its last signature isn't revoked for yet, 42 where a
     /// signature would cover nothing new (BOLT 2, "Committing Updates So Far").
     pub fn sign_refusal(&self) -> Option<Refusal>
-        ensures { result ≡ sign_fault self.now }
+        ensures { (l : Log) → StandsFor self.now l → result ≡ sign_fault l }
     {
-        let next = Counts {
-            own: self.own.len(),
-            peer: self.current.peer,
-        };
+        let next = self.counts(Pair::ToSign);
         if self.acknowledged != self.signed {
             Some(Refusal::SignatureOutstanding)
         } else if self.signed == next {
@@ -220,55 +284,81 @@ impl UpdateLog {
     }
 
     /// This side has signed: all own updates, and those of the peer that stand in its own commitment.
+    /// Takes no memory.
     pub fn signed(&mut self)
-        ensures { self.new ≡ signed_all self.old }
+        ensures { (l : Log) → StandsFor self.old l → StandsFor self.new (signed_all l) }
     {
-        self.signed = self.counts(Pair::ToSign);
+        let next = self.counts(Pair::ToSign);
+        self.signed = next;
+        self.own_signed = self.own_standing;
     }
 
     /// The peer's signature was taken: this side's commitment covers what was taken of the peer's, and
-    /// the own updates that the peer has acknowledged.
+    /// the own updates that the peer has acknowledged. Takes no memory.
     pub fn accepted(&mut self)
-        ensures { self.new ≡ accepted_all self.old }
+        ensures { (l : Log) → StandsFor self.old l → StandsFor self.new (accepted_all l) }
     {
-        self.current = self.counts(Pair::ToAccept);
+        let next = self.counts(Pair::ToAccept);
+        let updates = &self.got[self.current.peer..];
+        let htlcs = &self.own[..self.current.own];
+        self.own_standing = self.own_standing.with_all(updates, htlcs);
+        self.own_signed = self.own_signed.with_all(updates, htlcs);
+        self.peer_current = self.peer_standing;
+        self.current = next;
     }
 
-    /// The peer's revocation was taken: the peer's commitment is the one that was signed last.
+    /// The peer's revocation was taken: the peer's commitment is the one that was signed last. Takes no
+    /// memory.
     pub fn acknowledged(&mut self)
-        ensures { self.new ≡ acknowledged_all self.old }
+        ensures { (l : Log) → StandsFor self.old l → StandsFor self.new (acknowledged_all l) }
     {
+        let updates = &self.own[self.acknowledged.own..self.signed.own];
+        let htlcs = &self.got[..self.acknowledged.peer];
+        self.peer_standing = self.peer_standing.with_all(updates, htlcs);
+        self.peer_current = self.peer_current.with_all(updates, htlcs);
         self.acknowledged = self.signed;
+    }
+
+    /// The connection is lost: received updates that no signature taken covers are gone, and own ones that
+    /// no own signature covers; their ids are used again (BOLT 2, "Message Retransmission"). Takes no
+    /// memory.
+    pub fn drop_unsigned(&mut self)
+        ensures { (l : Log) → StandsFor self.old l → StandsFor self.new (dropped l) }
+    {
+        self.own.truncate(self.signed.own);
+        self.got.truncate(self.current.peer);
+        self.own_standing = self.own_signed;
+        self.peer_standing = self.peer_current;
     }
 
     /// The updates that this side has proposed.
     pub fn own_updates(&self) -> &[Update]
-        ensures { result.now ≡ self.now.own }
+        ensures { (l : Log) → StandsFor self.now l → result.now ≡ l.own }
     {
         self.own.as_slice()
     }
 
     /// The updates that this side has taken of the peer's.
     pub fn peer_updates(&self) -> &[Update]
-        ensures { result.now ≡ self.now.got }
+        ensures { (l : Log) → StandsFor self.now l → result.now ≡ l.got }
     {
         self.got.as_slice()
     }
 
     /// How many updates of either side the last own signature covers.
     pub fn covered(&self) -> &Counts
-        ensures own { result.now.own ≡ self.now.signed.own }
-        ensures peer { result.now.peer ≡ self.now.signed.peer }
+        ensures own { (l : Log) → StandsFor self.now l → result.now.own ≡ l.signed.own }
+        ensures peer { (l : Log) → StandsFor self.now l → result.now.peer ≡ l.signed.peer }
     {
         &self.signed
     }
 
     /// How many updates of either side a pair covers.
     pub fn counts(&self, pair: Pair) -> Counts
-        ensures own { result.own ≡ (counts_of pair self.now).own }
-        ensures peer { result.peer ≡ (counts_of pair self.now).peer }
-        ensures own_within { result.own ≤ length self.now.own }
-        ensures peer_within { result.peer ≤ length self.now.got }
+        ensures own { (l : Log) → StandsFor self.now l → result.own ≡ (counts_of pair l).own }
+        ensures peer { (l : Log) → StandsFor self.now l → result.peer ≡ (counts_of pair l).peer }
+        ensures own_within { (l : Log) → StandsFor self.now l → result.own ≤ length l.own }
+        ensures peer_within { (l : Log) → StandsFor self.now l → result.peer ≤ length l.got }
     {
         match pair {
             Pair::Current(Side::Own) => self.current,
@@ -287,8 +377,8 @@ impl UpdateLog {
     /// What a commitment is worth. It always adds up to 1000 * funding_satoshis. 60 where there was no
     /// memory for its HTLCs.
     pub fn view(&self, alloc: Global, pair: Pair) -> Result<View, Refusal>
-        ensures view { IfOk result (λ v. v ≡ view_for self.now.opening self.now.role (covered self.now (counts_of pair self.now))) }
-        ensures adds_up { IfOk result (λ v. AddsUp self.now.opening v) }
+        ensures view { (l : Log) → StandsFor self.now l → IfOk result (λ v. v ≡ view_for l.opening l.role (covered l (counts_of pair l))) }
+        ensures adds_up { (l : Log) → StandsFor self.now l → IfOk result (λ v. AddsUp l.opening v) }
         ensures memory { IsOkUnless result Refusal.Memory }
     {
         let counts = self.counts(pair);
@@ -302,12 +392,44 @@ impl UpdateLog {
 
     /// How many HTLCs, of both sides together, are live in a side's commitment.
     pub fn live_htlcs(&self, side: Side) -> usize
-        ensures { result ≡ live_in (covered self.now (counts_of (Pair.Current side) self.now)) }
+        ensures { (l : Log) → StandsFor self.now l → result ≡ live_in (covered l (counts_of (Pair.Current side) l)) }
     {
         let counts = self.counts(Pair::Current(side));
         let own = &self.own[..counts.own];
         let peer = &self.got[..counts.peer];
         live_count(own, peer) + live_count(peer, own)
+    }
+}
+
+// Whether an update offers no HTLC, or one of this id.
+fn has_id(update: &Update, id: u64) -> bool
+    ensures { (own : List Update) → id ≡ next_id own → id_fault own update.now ≡ (if result then None else Some Refusal.BadId) }
+{
+    match update {
+        Update::Add(add) => add.id == id,
+        Update::Fulfil(_) => true,
+        Update::Fail(_) => true,
+        Update::Malformed(_) => true,
+        Update::Fee(_) => true,
+    }
+}
+
+// A message has 65,535 bytes at most.
+fn length_refusal(update: &Update) -> Option<Refusal>
+    ensures { result ≡ length_fault update.now }
+{
+    match update {
+        Update::Fail(fail) => {
+            if fail.reason.len() > LONGEST_REASON {
+                Some(Refusal::PeerLimit(7))
+            } else {
+                None
+            }
+        }
+        Update::Add(_) => None,
+        Update::Fulfil(_) => None,
+        Update::Malformed(_) => None,
+        Update::Fee(_) => None,
     }
 }
 

@@ -1,28 +1,6 @@
 //! What two sides agreed on as they opened a channel.
 
-/// Which side of a channel.
-#[derive(Clone, Copy, Debug, PartialEq, Eq)]
-pub enum Role {
-    /// The side that opened the channel and paid for it.
-    Funder,
-    /// The other side.
-    Fundee,
-}
-
-impl Role {
-    ghost use Rattle.std.specs.Prelude.{◌≡◌};
-    ghost use Rattle.ln_log.specs.Opening.{other_role};
-
-    /// The other side.
-    pub fn other(self) -> Role
-        ensures { result ≡ other_role self }
-    {
-        match self {
-            Role::Funder => Role::Fundee,
-            Role::Fundee => Role::Funder,
-        }
-    }
-}
+use ln_keys::Role;
 
 /// What a side asks of the HTLCs that it is offered (BOLT 2, "The `open_channel` Message" and "The
 /// `accept_channel` Message").

@@ -1,25 +1,106 @@
 //! Plain, slow programs for the definitions, and the law that a view adds up.
 
-ghost use Rattle.std.specs.Prelude.{◌≡◌, ◌≤◌, ◌+◌, ◌++◌, ℕ, List, length, map, IfOk, OnOk, Result};
+ghost use Rattle.std.specs.Prelude.{◌≡◌, ◌≤◌, ◌+◌, ◌*◌, ◌^◌, ◌++◌, ℕ, Bool, if◌then◌else◌, List, length, map, IfOk, OnOk, Result, option_copied};
 ghost use Rattle.std.specs.Result.{IsOkUnless};
 ghost use Rattle.ln_log.specs.declared.opening.Opening.{Opening};
 ghost use Rattle.ln_log.specs.declared.update.Update.{Update};
+ghost use Rattle.ln_log.specs.declared.outcome.Outcome.{Outcome};
 ghost use Rattle.ln_log.specs.Opening.{IsFit};
-ghost use Rattle.ln_log.specs.Updates.{outcome, total, is_any, is_failed, is_fulfilled};
-ghost use Rattle.ln_log.specs.View.{live_adds, htlc_of, view_of, IsFunded, AddsUp};
+ghost use Rattle.ln_log.specs.Updates.{offered, add_with, outcome, last_feerate, share, total, is_any, is_failed, is_fulfilled};
+ghost use Rattle.ln_log.specs.View.{live_of, live_adds, htlc_of, view_of, IsFunded, AddsUp};
 
-use crate::opening::{Opening, Role};
-use crate::update::Update;
-use crate::view::{Htlc, Htlcs, Outcome, View};
+use crate::opening::Opening;
+use crate::outcome::Outcome;
+use crate::update::{Add, Update, removal_of};
+use ln_keys::{Htlc, Htlcs, Role, View};
 use ln_msgs::Refusal;
 use std::alloc::Global;
 
-/// What the other side's updates make of the HTLC of an id (BOLT 2, "Removing an HTLC").
+/// The HTLC of an id among those that a side has offered.
+pub fn find_add(id: u64, updates: &[Update]) -> Option<&Add>
+    ensures { option_copied result ≡ add_with id updates.now }
+{
+    for update in updates {
+        match add_of(update) {
+            None => {}
+            Some(add) => {
+                if add.id == id {
+                    return Some(add);
+                }
+            }
+        }
+    }
+    None
+}
+
+/// What the other side's updates make of the HTLC of an id: what the first of them that removes it makes
+/// (BOLT 2, "Removing an HTLC").
 pub fn outcome_of(id: u64, removals: &[Update]) -> Outcome
     ensures { result ≡ outcome id removals.now }
 {
-    // an add removes nothing
+    for update in removals {
+        match removal_of(update) {
+            None => {}
+            Some(removal) => {
+                if removal.id == id {
+                    return removal.outcome;
+                }
+            }
+        }
+    }
     Outcome::Live
+}
+
+/// The last feerate that the funder proposed, else that of the opening (BOLT 2, "Updating Fees").
+pub fn last_feerate(opening: u32, funder: &[Update]) -> u32
+    ensures { result ≡ last_feerate opening funder.now }
+{
+    let mut rate = opening;
+    for update in funder {
+        rate = match update {
+            Update::Add(_) => rate,
+            Update::Fulfil(_) => rate,
+            Update::Fail(_) => rate,
+            Update::Malformed(_) => rate,
+            Update::Fee(fee) => fee.feerate,
+        };
+    }
+    rate
+}
+
+// The HTLC that an update offers.
+fn add_of(update: &Update) -> Option<&Add>
+    ensures { option_copied result ≡ offered update.now }
+{
+    match update {
+        Update::Add(add) => Some(add),
+        Update::Fulfil(_) => None,
+        Update::Fail(_) => None,
+        Update::Malformed(_) => None,
+        Update::Fee(_) => None,
+    }
+}
+
+// What an update offers, and what the other side makes of it; nothing where it offers no HTLC.
+#[derive(Clone, Copy)]
+struct Share {
+    outcome: Outcome,
+    amount: u64,
+}
+
+fn share_of(update: &Update, removals: &[Update]) -> Share
+    ensures { (test : Outcome → Bool) → share test removals.now update.now ≡ (if test result.outcome then result.amount else 0) }
+{
+    match add_of(update) {
+        None => Share {
+            outcome: Outcome::Live,
+            amount: 0,
+        },
+        Some(add) => Share {
+            outcome: outcome_of(add.id, removals),
+            amount: add.amount,
+        },
+    }
 }
 
 // The amounts of all that a side offered, of what came back to it, and of what the other side fulfilled.
@@ -34,6 +115,7 @@ fn sums_of(adds: &[Update], removals: &[Update]) -> Sums
     ensures offered { result.offered ≡ total is_any adds.now removals.now }
     ensures failed { result.failed ≡ total is_failed adds.now removals.now }
     ensures fulfilled { result.fulfilled ≡ total is_fulfilled adds.now removals.now }
+    ensures small { result.offered ≤ 2 ^ 64 * length adds.now }
 {
     let mut sums = Sums {
         offered: 0,
@@ -41,16 +123,30 @@ fn sums_of(adds: &[Update], removals: &[Update]) -> Sums
         fulfilled: 0,
     };
     for update in adds {
-        let Update::Add(add) = update;
-        let amount = u128::from(add.amount);
+        let share = share_of(update, removals);
+        let amount = u128::from(share.amount);
         sums.offered += amount;
-        match outcome_of(add.id, removals) {
+        match share.outcome {
             Outcome::Live => {}
             Outcome::Failed => sums.failed += amount,
             Outcome::Fulfilled => sums.fulfilled += amount,
         }
     }
     sums
+}
+
+// The HTLC that an update offers, where the other side hasn't removed it.
+fn live_add<'a>(update: &'a Update, removals: &[Update]) -> Option<&'a Add>
+    ensures { option_copied result ≡ live_of (offered update.now) removals.now }
+{
+    match add_of(update) {
+        None => None,
+        Some(add) => match outcome_of(add.id, removals) {
+            Outcome::Live => Some(add),
+            Outcome::Failed => None,
+            Outcome::Fulfilled => None,
+        },
+    }
 }
 
 fn push_live(
@@ -63,17 +159,15 @@ fn push_live(
     ensures memory { IsOkUnless result Refusal.Memory }
 {
     for update in adds {
-        let Update::Add(add) = update;
-        match outcome_of(add.id, removals) {
-            Outcome::Live => htlcs.push(Htlc {
+        match live_add(update, removals) {
+            None => {}
+            Some(add) => htlcs.push(Htlc {
                 owner,
                 id: add.id,
                 amount: add.amount,
                 hash: add.hash,
                 expiry: add.expiry,
             })?,
-            Outcome::Failed => {}
-            Outcome::Fulfilled => {}
         }
     }
     Ok(())
@@ -86,11 +180,9 @@ pub fn live_count(adds: &[Update], removals: &[Update]) -> usize
 {
     let mut count = 0usize;
     for update in adds {
-        let Update::Add(add) = update;
-        match outcome_of(add.id, removals) {
-            Outcome::Live => count += 1,
-            Outcome::Failed => {}
-            Outcome::Fulfilled => {}
+        match live_add(update, removals) {
+            None => {}
+            Some(_) => count += 1,
         }
     }
     count
@@ -120,7 +212,7 @@ pub fn plain_view(
     Ok(View {
         funder: (had + out.failed + back.fulfilled - out.offered) as u64,
         fundee: (got + back.failed + out.fulfilled - back.offered) as u64,
-        feerate: opening.feerate,
+        feerate: last_feerate(opening.feerate, funder),
         htlcs: Htlcs::new(htlcs),
     })
 }

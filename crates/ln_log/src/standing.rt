@@ -1,15 +1,20 @@
-//! How a side stands, and the limits that a further HTLC has to meet.
+//! How a side stands, and what keeps it from proposing a further update.
 
-ghost use Rattle.std.specs.Prelude.{◌≡◌};
-ghost use Rattle.ln_log.specs.Limits.{add_fault};
+ghost use Rattle.std.specs.Prelude.{◌≡◌, option_copied};
+ghost use Rattle.ln_log.specs.Limits.{add_fault, fulfil_fault, fail_fault, malformed_fault, fault_at, removable};
 
 use crate::opening::Limits;
-use crate::update::Add;
+use crate::outcome::Outcome;
+use crate::plain::{find_add, outcome_of};
+use crate::update::{Add, Fulfil, Malformed, Update, removal_of};
+use ln_keys::{Role, sha256_32};
 use ln_msgs::Refusal;
 
-/// How one side stands in a commitment: its live HTLCs, and what it has left.
+/// How one side stands in a commitment: what it has offered, and what it has left.
 #[derive(Clone, Copy, Debug, PartialEq, Eq)]
 pub struct Standing {
+    /// The id of the next HTLC that it offers.
+    pub next_id: u64,
     /// How many of the HTLCs that it offered are live.
     pub live: u64,
     /// Their sum, in millisatoshi.
@@ -20,21 +25,73 @@ pub struct Standing {
 
 impl Standing {
     ghost use Rattle.std.specs.Prelude.{◌≡◌, ◌+◌, ◌-◌, ◌≤◌, ◌<◌, ◌^◌};
+    ghost use Rattle.ln_log.specs.Standing.{with_own, with_peer, OwnFits, PeerFits, AllFit, with_all};
 
-    /// How it stands once it has offered a further HTLC.
-    pub fn with(&self, add: &Add) -> Standing
-        requires few { self.now.live < 2 ^ 16 }
-        requires fits { self.now.in_flight + add.now.amount < 2 ^ 64 }
-        requires paid { add.now.amount ≤ self.now.balance }
-        ensures live { result.live ≡ self.now.live + 1 }
-        ensures in_flight { result.in_flight ≡ self.now.in_flight + add.now.amount }
-        ensures balance { result.balance ≡ self.now.balance - add.now.amount }
+    /// How it stands once it has proposed a further update, where its commitment covers these updates of
+    /// the other side's.
+    pub fn with_own(&self, update: &Update, seen: &[Update]) -> Standing
+        requires { OwnFits self.now seen.now update.now }
+        ensures { result ≡ with_own self.now seen.now update.now }
     {
-        Standing {
-            live: self.live + 1,
-            in_flight: self.in_flight + add.amount,
-            balance: self.balance - add.amount,
+        match update {
+            Update::Add(add) => Standing {
+                next_id: self.next_id + 1,
+                live: self.live + 1,
+                in_flight: self.in_flight + add.amount,
+                balance: self.balance - add.amount,
+            },
+            Update::Fulfil(fulfil) => match find_add(fulfil.id, seen) {
+                Some(add) => Standing {
+                    next_id: self.next_id,
+                    live: self.live,
+                    in_flight: self.in_flight,
+                    balance: self.balance + add.amount,
+                },
+                None => *self,
+            },
+            Update::Fail(_) => *self,
+            Update::Malformed(_) => *self,
+            Update::Fee(_) => *self,
         }
+    }
+
+    // How it stands once its commitment covers a further update of the other side's.
+    fn with_peer(&self, update: &Update, own: &[Update]) -> Standing
+        requires { PeerFits self.now own.now update.now }
+        ensures { result ≡ with_peer self.now own.now update.now }
+    {
+        match removal_of(update) {
+            None => *self,
+            Some(removal) => match find_add(removal.id, own) {
+                None => *self,
+                Some(add) => {
+                    let back = match removal.outcome {
+                        Outcome::Failed => add.amount,
+                        Outcome::Live => 0,
+                        Outcome::Fulfilled => 0,
+                    };
+                    Standing {
+                        next_id: self.next_id,
+                        live: self.live - 1,
+                        in_flight: self.in_flight - add.amount,
+                        balance: self.balance + back,
+                    }
+                }
+            },
+        }
+    }
+
+    /// How it stands once its commitment covers further updates of the other side's, each of which that
+    /// removes an HTLC removes one of these own ones.
+    pub fn with_all(&self, updates: &[Update], own: &[Update]) -> Standing
+        requires { AllFit self.now own.now updates.now }
+        ensures { result ≡ with_all self.now own.now updates.now }
+    {
+        let mut standing = *self;
+        for update in updates {
+            standing = standing.with_peer(update, own);
+        }
+        standing
     }
 }
 
@@ -60,4 +117,83 @@ pub fn add_refusal(limits: &Limits, standing: &Standing, add: &Add) -> Option<Re
         return Some(Refusal::CannotAfford);
     }
     None
+}
+
+// The HTLC of an id that a side may remove: it holds it, and hasn't removed it.
+fn removable<'a>(id: u64, own: &[Update], held: &'a [Update]) -> Option<&'a Add>
+    ensures { option_copied result ≡ removable id own.now held.now }
+{
+    match outcome_of(id, own) {
+        Outcome::Live => find_add(id, held),
+        Outcome::Fulfilled => None,
+        Outcome::Failed => None,
+    }
+}
+
+fn fulfil_refusal(fulfil: &Fulfil, htlc: Option<&Add>) -> Option<Refusal>
+    ensures { result ≡ fulfil_fault fulfil.now.preimage (option_copied htlc.entry) }
+{
+    match htlc {
+        None => Some(Refusal::NoSuchHtlc),
+        Some(add) => {
+            if sha256_32(fulfil.preimage.as_slice()) == add.hash {
+                None
+            } else {
+                Some(Refusal::PreimageWrong)
+            }
+        }
+    }
+}
+
+fn fail_refusal(htlc: Option<&Add>) -> Option<Refusal>
+    ensures { result ≡ fail_fault (option_copied htlc.entry) }
+{
+    match htlc {
+        None => Some(Refusal::NoSuchHtlc),
+        Some(_) => None,
+    }
+}
+
+fn malformed_refusal(malformed: &Malformed, htlc: Option<&Add>) -> Option<Refusal>
+    ensures { result ≡ malformed_fault malformed.now.failure_code (option_copied htlc.entry) }
+{
+    match htlc {
+        None => Some(Refusal::NoSuchHtlc),
+        Some(_) => {
+            if malformed.failure_code >= 0x8000 {
+                None
+            } else {
+                Some(Refusal::OutOfPlace)
+            }
+        }
+    }
+}
+
+/// What the peer of a side would refuse its update by, where the side stands so behind its own updates and
+/// holds these of the peer's as irrevocably committed: for an add the first limit that it would break; for
+/// a removal 28 where it names no HTLC that is held and not removed, 29 for a preimage that isn't the
+/// payment hash's, 21 for a malformed one without the BADONION bit; for a fee of the fundee's 30.
+pub fn update_refusal(
+    limits: &Limits,
+    standing: &Standing,
+    side: Role,
+    own: &[Update],
+    held: &[Update],
+    update: &Update,
+) -> Option<Refusal>
+    ensures { result ≡ fault_at limits.now standing.now side own.now held.now update.now }
+{
+    match update {
+        Update::Add(add) => add_refusal(limits, standing, add),
+        Update::Fulfil(fulfil) => fulfil_refusal(fulfil, removable(fulfil.id, own, held)),
+        Update::Fail(fail) => fail_refusal(removable(fail.id, own, held)),
+        Update::Malformed(malformed) => malformed_refusal(
+            malformed,
+            removable(malformed.id, own, held),
+        ),
+        Update::Fee(_) => match side {
+            Role::Funder => None,
+            Role::Fundee => Some(Refusal::NotFunder),
+        },
+    }
 }

@@ -3,7 +3,7 @@ use Rattle.std.proofs.Common.{◌≡◌, take, Option, Some, None, Ok, Err, fals
 use Rattle.ln_msgs.specs.declared.refusal.Refusal.{Refusal}
 use Rattle.ln_msgs.specs.declared.refusal.Refusal.TheVariants as refusal
 use Rattle.ln_log.specs.declared.update.Update.{Update}
-use Rattle.ln_log.specs.Opening.{other_role}
+use Rattle.ln_keys.specs.Role.{other_role}
 use Rattle.ln_log.specs.Limits.{proposal_fault, taken_fault, Answers}
 use Rattle.ln_log.specs.Log.{Log, proposed, received}
 use Rattle.ln_world.specs.declared.answer.Answer.TheVariants.{Done, Refused}

@@ -2,7 +2,7 @@
 use Rattle.std.proofs.Common.{◌≡◌, ◌⊎◌, inl, inr, ℕ, zero, suc, ◌+◌, ◌≤◌, List, [], ◌∷◌, ◌++◌, length, take, drop, None, refl, sym, ap, ◌∙◌, subst, arith, append_assoc, append-nil, length-append}
 use Rattle.std.proofs.lemmas.List.{take-append-le, take-append-drop, take-take}
 use Rattle.ln_log.specs.declared.update.Update.{Update}
-use Rattle.ln_log.specs.Opening.{other_role}
+use Rattle.ln_keys.specs.Role.{other_role}
 use Rattle.ln_log.specs.Limits.{update_fault, taken_fault, HasNextId}
 use Rattle.ln_log.specs.Lists.{Begins}
 use Rattle.ln_log.specs.Machine.{Follows}

@@ -3,8 +3,8 @@ use Rattle.ln_log.specs.Machine.{MaySign, Covered, party, IsSettled, Machine, Mo
 use Rattle.std.proofs.Common.{◌↔◌, length, append-nil, ap, ◌≤◌, ◌≡◌, List, [], ◌∷◌, ◌++◌, Option, Some, None, Bool, true, false, cond, not, ◌&&◌, refl, sym, ◌∙◌, subst, arith}
 use Rattle.ln_world.specs.World.{end_of, side_of, acts_at, may_open, opened_by, same_node, happens, run, machine_of_channel, machine_of, act_moves, moves_at, moves_of, moves, Promises, SignsExactly, TakesFront, NoneRefused, HoldsAll, Agrees}
 use Rattle.ln_world.proofs.Flow.{Flows, Kept, Phase, follows_from}
-use Rattle.ln_log.specs.declared.opening.Role.{Role}
-use Rattle.ln_log.specs.declared.opening.Role.TheVariants.{Funder, Fundee}
+use Rattle.ln_keys.specs.declared.role.Role.{Role}
+use Rattle.ln_keys.specs.declared.role.Role.TheVariants.{Funder, Fundee}
 use Rattle.ln_log.specs.declared.opening.Opening.{Opening}
 use Rattle.ln_log.specs.Opening.{IsFit, is_fit}
 use Rattle.ln_log.specs.Log.{Log, party_of, IsWithin, opened, none, sign_fault}

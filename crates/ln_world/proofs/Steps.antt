@@ -5,11 +5,11 @@ use Rattle.std.proofs.lemmas.List.{take-append-le, take_all}
 use Rattle.ln_msgs.specs.declared.refusal.Refusal.{Refusal}
 use Rattle.ln_msgs.specs.declared.refusal.Refusal.TheVariants as refusal
 use Rattle.ln_msgs.specs.Refusal.{refusal_number}
-use Rattle.ln_log.specs.declared.opening.Role.{Role}
-use Rattle.ln_log.specs.declared.opening.Role.TheVariants.{Funder, Fundee}
+use Rattle.ln_keys.specs.declared.role.Role.{Role}
+use Rattle.ln_keys.specs.declared.role.Role.TheVariants.{Funder, Fundee}
 use Rattle.ln_log.specs.declared.opening.Opening.{Opening}
 use Rattle.ln_log.specs.declared.update.Update.{Update}
-use Rattle.ln_log.specs.Opening.{other_role}
+use Rattle.ln_keys.specs.Role.{other_role}
 use Rattle.ln_log.specs.Limits.{update_fault, taken_fault}
 use Rattle.ln_log.specs.Machine.{Party, Machine, Move, Propose, Sign, Accept, Learn, MayPropose, MaySign, IsRun, proposes, signs, accepts, learns}
 use Rattle.ln_log.specs.Log.{Log, party_of, IsWithin, proposed, received, signed_all, accepted_all, acknowledged_all, sign_fault}

@@ -2,11 +2,11 @@
 -- does is told from that end, as x, with y at the other.
 use Rattle.std.specs.Prelude.{ℕ, ◌+◌, List, [], ◌∷◌, ◌++◌, take, Option, is_none, if◌then◌else◌, Some, None}
 use Rattle.ln_msgs.specs.declared.refusal.Refusal.{Refusal}
-use Rattle.ln_log.specs.declared.opening.Role.{Role}
+use Rattle.ln_keys.specs.declared.role.Role.{Role}
 use Rattle.ln_log.specs.declared.opening.Opening.{Opening}
 use Rattle.ln_log.specs.declared.update.Update.{Update}
 use Rattle.ln_log.specs.declared.update.Update.TheVariants as update
-use Rattle.ln_log.specs.Opening.{other_role}
+use Rattle.ln_keys.specs.Role.{other_role}
 use Rattle.ln_log.specs.Updates.{next_id}
 use Rattle.ln_log.specs.Limits.{proposal_fault, taken_fault}
 use Rattle.ln_log.specs.Log.{Log, opened, proposed, received, signed_all, accepted_all, acknowledged_all, sign_fault}

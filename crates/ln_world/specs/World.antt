@@ -1,11 +1,12 @@
 -- A world of one channel, and which steps of the abstract machine its steps are.
 use Rattle.std.specs.Prelude.{take, ◌↔◌, ◌≡◌, List, [], ◌∷◌, ◌++◌, Bool, not, ◌&&◌, ◌==◌, Option, Some, None, is_none, if◌then◌else◌}
 use Rattle.ln_log.specs.Log.{Log, party_of, sign_fault}
-use Rattle.ln_log.specs.declared.opening.Role.{Role}
-use Rattle.ln_log.specs.declared.opening.Role.TheVariants.{Funder, Fundee}
+use Rattle.ln_keys.specs.declared.role.Role.{Role}
+use Rattle.ln_keys.specs.declared.role.Role.TheVariants.{Funder, Fundee}
 use Rattle.ln_log.specs.declared.update.Update.{Update}
 use Rattle.ln_log.specs.declared.opening.Opening.{Opening}
-use Rattle.ln_log.specs.Opening.{is_fit, other_role}
+use Rattle.ln_keys.specs.Role.{other_role}
+use Rattle.ln_log.specs.Opening.{is_fit}
 use Rattle.ln_log.specs.Limits.{update_fault, taken_fault}
 use Rattle.ln_log.specs.Machine.{Machine, Party, party, held, MaySign, IsSettled, Move, Open, Propose, Sign, Accept, Learn, Headline}
 use Rattle.ln_world.specs.declared.message.Message.{Message}

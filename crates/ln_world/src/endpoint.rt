@@ -1,7 +1,7 @@
 //! One end of a channel, and what is in flight to it.
 
 ghost use Rattle.std.specs.Prelude.{◌≡◌, OnOk, IfOk, take};
-ghost use Rattle.ln_log.specs.Opening.{other_role};
+ghost use Rattle.ln_keys.specs.Role.{other_role};
 ghost use Rattle.ln_log.specs.Limits.{taken_fault};
 ghost use Rattle.std.specs.Result.{IsOkUnless};
 ghost use Rattle.ln_world.specs.Ends.{EndState, Both, sends, offers, signs_all, takes, delivers, acts, answer_by, answer_to};

@@ -1,7 +1,7 @@
 use Rattle.std.proofs.Common.{◌≡◌, subst, take}
 use Rattle.ln_world.specs.declared.message.Message.TheVariants as message
 use Rattle.ln_world.specs.Ends.{EndState, takes, answer_by}
-use Rattle.ln_log.specs.Opening.{other_role}
+use Rattle.ln_keys.specs.Role.{other_role}
 use Rattle.ln_log.specs.Limits.{taken_fault}
 use Rattle.ln_world.specs.declared.answer.Answer.TheVariants.{Done, Refused}
 use Rattle.ln_world.proofs.Answered.{taken_by, untaken_by, done_by, refused_answer}
