@@ -1,2 +1,3 @@
 pub mod Role
 pub mod Hash
+pub mod Partners

@@ -3,9 +3,13 @@
 #![tactic(auto)]
 
 mod hash;
+mod keys;
+mod partners;
 mod role;
 mod view;
 
 pub use hash::sha256_32;
+pub use keys::{ChannelKeys, Signed};
+pub use partners::{partner_accepts, partner_accepts_close, partner_secret_fits};
 pub use role::Role;
 pub use view::{Htlc, Htlcs, View};
