@@ -1,3 +1,4 @@
 pub mod Role
 pub mod Hash
 pub mod Partners
+pub mod Toy

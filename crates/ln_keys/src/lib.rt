@@ -6,10 +6,15 @@ mod hash;
 mod keys;
 mod partners;
 mod role;
+mod toy_keys;
 mod view;
 
 pub use hash::sha256_32;
 pub use keys::{ChannelKeys, Signed};
 pub use partners::{partner_accepts, partner_accepts_close, partner_secret_fits};
 pub use role::Role;
+pub use toy_keys::ToyKeys;
 pub use view::{Htlc, Htlcs, View};
+
+#[cfg(test)]
+mod tests;
