@@ -1,0 +1,99 @@
+//! The keys of a channel end.
+
+ghost use Rattle.std.specs.Prelude.{◌≡◌, ℕ, Bool, List, IfOk, IfErr};
+
+use crate::view::View;
+use ln_msgs::{Refusal, Signatures};
+use std::alloc::Global;
+
+/// The signatures of a commitment: over the commitment, and one for each of its HTLCs.
+#[derive(Debug, Drop)]
+pub struct Signed {
+    pub sig: [u8; 64],
+    pub htlcs: Signatures,
+}
+
+/// The keys of one channel end: what it tells of its own commitments, what it signs of the peer's, and
+/// how it tests what the peer tells and signs.
+///
+/// Every answer is a function of the value and of the arguments. Numbers of commitments are at most
+/// 2^48; a point has 33 bytes, a secret 32, a signature 64.
+pub trait ChannelKeys {
+    ghost use Rattle.ln_keys.specs.declared.view.View.{View};
+
+    /// The per commitment secret of this number.
+    ghost secret_of: { Self → ℕ → List ℕ };
+
+    /// The per commitment point of this number.
+    ghost point_of: { Self → ℕ → List ℕ };
+
+    /// The signature over the peer's commitment of this number, at the peer's point, worth this view.
+    ghost signature: { Self → ℕ → List ℕ → View → List ℕ };
+
+    /// The signatures over the HTLCs of the peer's commitment.
+    ghost htlc_signatures: { Self → ℕ → List ℕ → View → List (List ℕ) };
+
+    /// Whether the peer's signatures over the own commitment are right.
+    ghost accepts: { Self → ℕ → List ℕ → View → List ℕ → List (List ℕ) → Bool };
+
+    /// Whether a secret belongs to a point.
+    ghost fits: { Self → List ℕ → List ℕ → Bool };
+
+    /// The signature over the closing transaction that pays this fee.
+    ghost close_signature: { Self → ℕ → List ℕ };
+
+    /// Whether the peer's signature over that transaction is right.
+    ghost accepts_close: { Self → ℕ → List ℕ → Bool };
+
+    /// The per commitment secret of the own commitment of this number (BOLT 3, "Per-commitment Secret
+    /// Requirements"). Takes no memory.
+    fn secret(&self, number: u64) -> [u8; 32]
+        ensures { result ≡ secret_of self.now number };
+
+    /// The per commitment point of the own commitment of this number (BOLT 3, "Per-commitment Secret
+    /// Requirements"). Takes no memory.
+    fn point(&self, number: u64) -> [u8; 33]
+        ensures { result ≡ point_of self.now number };
+
+    /// Signs the peer's commitment of this number, made at the peer's point and worth this view (BOLT
+    /// 2, "Committing Updates So Far: commitment_signed").
+    ///
+    /// Error: 60 (`Memory`) alone, where there is no memory for the signatures over the HTLCs.
+    fn sign(
+        &self,
+        alloc: Global,
+        number: u64,
+        peer_point: &[u8; 33],
+        view: &View,
+    ) -> Result<Signed, Refusal>
+        ensures commitment { IfOk result (λ s. s.sig ≡ signature self.now number peer_point.now view.now) }
+        ensures htlcs { IfOk result (λ s. s.htlcs ≡ htlc_signatures self.now number peer_point.now view.now) }
+        ensures memory { IfErr result (λ e. e ≡ Refusal.Memory) };
+
+    /// Whether these are the peer's signatures over the own commitment of this number, made at the own
+    /// point and worth this view, and over each of its HTLCs. Takes no memory.
+    fn verify(
+        &self,
+        number: u64,
+        own_point: &[u8; 33],
+        view: &View,
+        sig: &[u8; 64],
+        htlcs: &[[u8; 64]],
+    ) -> bool
+        ensures { result ≡ accepts self.now number own_point.now view.now sig.now htlcs.now };
+
+    /// Whether the secret is the one of the point (BOLT 2, "Completing the Transition to the Updated
+    /// State: revoke_and_ack"). Takes no memory.
+    fn secret_fits(&self, secret: &[u8; 32], point: &[u8; 33]) -> bool
+        ensures { result ≡ fits self.now secret.now point.now };
+
+    /// Signs the closing transaction that pays this fee, in satoshi (BOLT 2, "Closing Negotiation:
+    /// closing_signed"). Takes no memory.
+    fn sign_close(&self, fee: u64) -> [u8; 64]
+        ensures { result ≡ close_signature self.now fee };
+
+    /// Whether this is the peer's signature over the closing transaction that pays this fee, in satoshi.
+    /// Takes no memory.
+    fn verify_close(&self, fee: u64, sig: &[u8; 64]) -> bool
+        ensures { result ≡ accepts_close self.now fee sig.now };
+}
