@@ -1,0 +1,16 @@
+use Rattle.std.proofs.Common.{refl, sym, ap, ◌∙◌, subst}
+use Rattle.ln_log.specs.Log.{Log, proposed}
+use Rattle.ln_log.specs.Limits.{HasNextId}
+use Rattle.ln_dance.specs.Dance.{Dancer, with_log}
+use Rattle.ln_dance.proofs.Kept.{map_ok, either_way, kept_by}
+use Rattle.ln_dance.proofs.dance.Dance.propose.Goals as goal
+
+pub propose-requires : goal.propose-requires
+propose-requires c = λ l e. subst (λ (x : Log). HasNextId x.own c.args.update) e (c.requires _ (sym c.self.view_is))
+
+pub invariant_of-self : goal.invariant_of-self
+invariant_of-self c = either_way c.propose.result (c.propose.ensures.ok _ refl) c.propose.ensures.err (λ e. kept_by _ _ _ c.self.invariant e refl refl) (λ e. kept_by _ _ _ c.self.invariant e refl refl)
+
+pub returns-clause-ok : goal.returns-clause-ok
+returns-clause-ok c = λ d e.
+    map_ok c.propose.result (λ h. ap (λ (x : Log). record { channel = c.self.inside.channel; log = x; numbers = c.self.inside.numbers; peer = c.self.inside.peer }) h ∙ ap (λ (x : Dancer). with_log (proposed c.args.update x.log) x) (c.self.view_is ∙ e)) (c.propose.ensures.ok _ refl)

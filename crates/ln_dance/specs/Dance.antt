@@ -1,0 +1,119 @@
+-- What one side of the dance keeps, and what each call makes of it (BOLT 2, "Normal Operation").
+use Rattle.std.specs.Prelude.{◌≡◌, ◌⊎◌, ℕ, ◌+◌, ◌<◌, ◌^◌, List, [], Bool, true, not, ◌==◌, Option, Some, None, Result, Ok, Err, if◌then◌else◌}
+use Rattle.ln_bytes.specs.declared.record.Record.{Record}
+use Rattle.ln_msgs.specs.declared.commitments.CommitmentSigned.{CommitmentSigned}
+use Rattle.ln_msgs.specs.declared.commitments.RevokeAndAck.{RevokeAndAck}
+use Rattle.ln_msgs.specs.declared.refusal.Refusal.{Refusal}
+use Rattle.ln_msgs.specs.declared.refusal.Refusal.TheVariants as refusal
+use Rattle.ln_keys.specs.declared.view.View.{View}
+use Rattle.ln_log.specs.declared.log.Pair.{Pair}
+use Rattle.ln_log.specs.declared.log.Pair.TheVariants as pair
+use Rattle.ln_log.specs.Limits.{first_fault}
+use Rattle.ln_log.specs.Log as log
+use Rattle.ln_log.specs.Log.{Log, covered, counts_of, view_for, same_counts, signed_all, accepted_all, acknowledged_all, dropped}
+use Rattle.ln_dance.specs.declared.dance.Numbers.{Numbers}
+use Rattle.ln_dance.specs.declared.dance.Peer.{Peer}
+
+pub record Dancer : Type 0 where
+  pub channel : List ℕ  -- the channel's id
+  pub log : Log
+  pub numbers : Numbers
+  pub peer : Peer
+
+-- what is kept stands for these lists, numbers and points: today it has them whole
+abbrev pub StandsFor : Dancer → Dancer → Type 0
+StandsFor kept d = kept ≡ d
+
+-- what a commitment of this pair of lists is worth
+abbrev pub view_at : Pair → Dancer → View
+view_at p d = view_for d.log.opening d.log.role (covered d.log (counts_of p d.log))
+
+-- a signature of this side is unrevoked
+abbrev pub owes : Dancer → Bool
+owes d = not (d.numbers.signed == d.numbers.revoked)
+
+-- numbers are below 2^48 (BOLT 3, "Per-commitment Secret Requirements")
+abbrev pub is_last : ℕ → Bool
+is_last n = n == 281474976710655
+
+-- ---- signing
+
+abbrev pub sign_fault : Dancer → Option Refusal
+sign_fault d = first_fault (log.sign_fault d.log) (if is_last d.numbers.signed then Some refusal.NumbersSpent else None)
+
+abbrev pub signs : Dancer → Dancer
+signs d = record d { log = signed_all d.log; numbers = record { commitment = d.numbers.commitment; signed = d.numbers.signed + 1; revoked = d.numbers.revoked } }
+
+-- the signature is over the peer's next commitment, at its point
+abbrev pub signed_message : {K : Type 0} → (K → ℕ → List ℕ → View → List ℕ) → (K → ℕ → List ℕ → View → List (List ℕ)) → K → Dancer → CommitmentSigned
+signed_message signature htlc_signatures keys d = record {
+  channel_id = d.channel;
+  signature = signature keys (d.numbers.signed + 1) d.peer.next_point (view_at pair.ToSign d);
+  htlc_signatures = htlc_signatures keys (d.numbers.signed + 1) d.peer.next_point (view_at pair.ToSign d);
+  records = [];
+}
+
+-- ---- accepting
+
+-- the peer's signature is checked over the own next commitment, at its own point
+abbrev pub accept_fault : {K : Type 0} → (K → ℕ → List ℕ) → (K → ℕ → List ℕ → View → List ℕ → List (List ℕ) → Bool) → K → CommitmentSigned → Dancer → Option Refusal
+accept_fault point_of accepts keys m d =
+    if is_last d.numbers.commitment then Some refusal.OutOfPlace
+    else (if accepts keys (d.numbers.commitment + 1) (point_of keys (d.numbers.commitment + 1)) (view_at pair.ToAccept d) m.signature m.htlc_signatures then None
+    else Some refusal.SignatureWrong)
+
+abbrev pub accepts_next : Dancer → Dancer
+accepts_next d = record d { log = accepted_all d.log; numbers = record { commitment = d.numbers.commitment + 1; signed = d.numbers.signed; revoked = d.numbers.revoked } }
+
+-- it is answered by the secret of the commitment before, and the point of the one behind
+abbrev pub revoked_message : {K : Type 0} → (K → ℕ → List ℕ) → (K → ℕ → List ℕ) → K → Dancer → RevokeAndAck
+revoked_message secret_of point_of keys d = record {
+  channel_id = d.channel;
+  secret = secret_of keys d.numbers.commitment;
+  next_point = point_of keys (d.numbers.commitment + 2);
+  records = [];
+}
+
+-- ---- learning
+
+-- the secret must fit the peer's point of the commitment that is revoked
+abbrev pub learn_fault : {K : Type 0} → (K → List ℕ → List ℕ → Bool) → K → RevokeAndAck → Dancer → Option Refusal
+learn_fault fits keys m d =
+    if owes d then (if fits keys m.secret d.peer.point then None else Some refusal.SecretWrong)
+    else Some refusal.NothingToRevoke
+
+abbrev pub learns : RevokeAndAck → Dancer → Dancer
+learns m d = record d {
+  log = acknowledged_all d.log;
+  numbers = record { commitment = d.numbers.commitment; signed = d.numbers.signed; revoked = d.numbers.revoked + 1 };
+  peer = record { point = d.peer.next_point; next_point = m.next_point; secret = Some m.secret };
+}
+
+-- ---- the rest
+
+abbrev pub with_log : Log → Dancer → Dancer
+with_log l d = record d { log = l }
+
+-- BOLT 2, "The `channel_ready` Message": the peer's point of commitment 1
+abbrev pub with_next_point : List ℕ → Dancer → Dancer
+with_next_point p d = record d { peer = record { point = d.peer.point; next_point = p; secret = d.peer.secret } }
+
+-- ---- answers
+
+-- refused exactly by the fault that there is, but for want of memory
+abbrev pub AnswersWithin : {A : Type 0} → Option Refusal → Result A Refusal → Type 0
+AnswersWithin fault (Ok x) = fault ≡ None
+AnswersWithin fault (Err e) = (e ≡ refusal.Memory) ⊎ (fault ≡ Some e)
+
+-- where nothing takes memory
+abbrev pub answer_of : Option Refusal → Result (Unit {0}) Refusal
+answer_of None = Ok tt
+answer_of (Some r) = Err r
+
+-- ---- what is kept
+
+-- numbers are in their range; the signature of a side is unrevoked exactly where its last two pairs differ
+pub record IsKept (d : Dancer) : Type 0 where
+  pub commitment : d.numbers.commitment < 2 ^ 48
+  pub signed : d.numbers.signed < 2 ^ 48
+  pub outstanding : d.numbers.signed ≡ d.numbers.revoked + (if same_counts d.log.acknowledged d.log.signed then 0 else 1)

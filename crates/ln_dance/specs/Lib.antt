@@ -1,0 +1,5 @@
+pub mod Dance
+pub mod Facing
+pub use Rattle.ln_log.specs.Log
+pub use Rattle.ln_log.specs.Limits
+pub use Rattle.ln_keys.specs.Partners

@@ -1,0 +1,248 @@
+//! One side of the dance.
+
+use ln_keys::{ChannelKeys, Signed};
+use ln_log::{Pair, Update, UpdateLog};
+use ln_msgs::{CommitmentSigned, Records, Refusal, RevokeAndAck};
+use std::alloc::Global;
+use std::marker::Model;
+
+/// The last number that a commitment can have.
+const LAST_NUMBER: u64 = 281_474_976_710_655;
+
+/// The numbers of commitments, each below 2^48; commitment 0 is the opening state.
+#[derive(Clone, Copy, Debug, PartialEq, Eq)]
+pub struct Numbers {
+    /// Of the own current commitment.
+    pub commitment: u64,
+    /// Of the peer's commitment that this side signed last.
+    pub signed: u64,
+    /// How many revocations were taken of the peer: `signed`, or one less.
+    pub revoked: u64,
+}
+
+/// What the peer has told of its commitments.
+#[derive(Clone, Copy, Debug, PartialEq, Eq)]
+pub struct Peer {
+    /// The point of its commitment with the number `revoked`.
+    pub point: [u8; 33],
+    /// The point of the one after; zeros until it is told.
+    pub next_point: [u8; 33],
+    /// The last secret that it told.
+    pub secret: Option<[u8; 32]>,
+}
+
+/// One side of the dance: the updates of both sides, the numbers of commitments, and what the peer has
+/// told.
+#[derive(Debug, Drop)]
+pub struct Dance {
+    channel: [u8; 32],
+    log: UpdateLog,
+    numbers: Numbers,
+    peer: Peer,
+}
+
+impl Model for Dance {
+    ghost use Rattle.ln_dance.specs.Dance.{Dancer, IsKept};
+
+    ghost Value = { Dancer };
+
+    ghost view = { λ d. record { channel = d.channel; log = d.log; numbers = d.numbers; peer = d.peer } };
+
+    ghost invariant = { λ d. IsKept (record { channel = d.channel; log = d.log; numbers = d.numbers; peer = d.peer }) };
+}
+
+impl Dance {
+    ghost use Rattle.std.specs.Prelude.{◌≡◌, ◌+◌, ◌<◌, ◌^◌, IsTrue, IfOk, OnOk, OnErr};
+    ghost use Rattle.ln_log.specs.Log.{Log, proposed, received, dropped, proposal_fault, taken_fault};
+    ghost use Rattle.ln_log.specs.Limits.{HasNextId, Answers};
+    ghost use Rattle.ln_dance.specs.Dance.{Dancer, StandsFor, IsKept, owes, sign_fault, signs, signed_message, accept_fault, accepts_next, revoked_message, learn_fault, learns, with_log, with_next_point, AnswersWithin, answer_of};
+
+    /// A side with these updates, numbers and points: all numbers 0 for a channel that was just opened.
+    /// Takes no memory.
+    pub fn new(channel: [u8; 32], log: UpdateLog, numbers: Numbers, peer: Peer) -> Dance
+        requires { IsKept (record { channel = channel; log = log; numbers = numbers; peer = peer }) }
+        ensures { StandsFor result (record { channel = channel; log = log; numbers = numbers; peer = peer }) }
+    {
+        Dance {
+            channel,
+            log,
+            numbers,
+            peer,
+        }
+    }
+
+    /// The updates of both sides.
+    pub fn log(&self) -> &UpdateLog
+        ensures { (d : Dancer) → StandsFor self.now d → result.now ≡ d.log }
+    {
+        &self.log
+    }
+
+    /// The numbers of commitments.
+    pub fn numbers(&self) -> Numbers
+        ensures { (d : Dancer) → StandsFor self.now d → result ≡ d.numbers }
+    {
+        self.numbers
+    }
+
+    /// What the peer has told of its commitments.
+    pub fn peer(&self) -> Peer
+        ensures { (d : Dancer) → StandsFor self.now d → result ≡ d.peer }
+    {
+        self.peer
+    }
+
+    /// Proposes an update: `UpdateLog::propose`.
+    pub fn propose(&mut self, update: Update) -> Result<(), Refusal>
+        requires { (d : Dancer) → StandsFor self.old d → HasNextId d.log.own update }
+        ensures answer { (d : Dancer) → StandsFor self.old d → Answers (proposal_fault d.log update) result }
+        ensures ok { (d : Dancer) → StandsFor self.old d → OnOk result (StandsFor self.new (with_log (proposed update d.log) d)) }
+        ensures err { OnErr result (self.new ≡ self.old) }
+    {
+        self.log.propose(update)
+    }
+
+    /// Takes an update of the peer: `UpdateLog::receive`.
+    pub fn receive(&mut self, update: Update) -> Result<(), Refusal>
+        ensures answer { (d : Dancer) → StandsFor self.old d → Answers (taken_fault d.log update) result }
+        ensures ok { (d : Dancer) → StandsFor self.old d → OnOk result (StandsFor self.new (with_log (received update d.log) d)) }
+        ensures err { OnErr result (self.new ≡ self.old) }
+    {
+        self.log.receive(update)
+    }
+
+    /// The connection is lost: `UpdateLog::drop_unsigned`. Takes no memory.
+    pub fn drop_unsigned(&mut self)
+        ensures { (d : Dancer) → StandsFor self.old d → StandsFor self.new (with_log (dropped d.log) d) }
+    {
+        self.log.drop_unsigned();
+    }
+
+    /// The peer has told the point of its next commitment (BOLT 2, "The `channel_ready` Message").
+    pub fn take_point(&mut self, point: [u8; 33])
+        ensures { (d : Dancer) → StandsFor self.old d → StandsFor self.new (with_next_point point d) }
+    {
+        self.peer.next_point = point;
+    }
+
+    /// Whether a signature of this side is unrevoked.
+    pub fn owes(&self) -> bool
+        ensures { (d : Dancer) → StandsFor self.now d → result ≡ owes d }
+    {
+        self.numbers.signed != self.numbers.revoked
+    }
+
+    // What keeps this side from signing.
+    fn sign_refusal(&self) -> Option<Refusal>
+        ensures { result ≡ sign_fault self.now }
+    {
+        match self.log.sign_refusal() {
+            Some(refusal) => Some(refusal),
+            None => {
+                if self.numbers.signed == LAST_NUMBER {
+                    Some(Refusal::NumbersSpent)
+                } else {
+                    None
+                }
+            }
+        }
+    }
+
+    /// Signs the peer's next commitment (BOLT 2, "Committing Updates So Far"): all own updates, and those of
+    /// the peer that stand in the own current commitment.
+    ///
+    /// 41 where a signature is unrevoked, 42 where nothing would be new, 46 where the last commitment has the
+    /// number 2^48 - 1, 60 where there was no memory; then nothing has changed.
+    pub fn sign<K: ChannelKeys>(
+        &mut self,
+        alloc: Global,
+        keys: &K,
+    ) -> Result<CommitmentSigned, Refusal>
+        ensures answer { (d : Dancer) → StandsFor self.old d → Answers (sign_fault d) result }
+        ensures message { (d : Dancer) → StandsFor self.old d → IfOk result (λ m. m ≡ signed_message K.signature K.htlc_signatures keys.now d) }
+        ensures ok { (d : Dancer) → StandsFor self.old d → OnOk result (StandsFor self.new (signs d)) }
+        ensures numbered { (d : Dancer) → StandsFor self.old d → OnOk result (d.numbers.signed + 1 < 2 ^ 48) }
+        ensures owes { (d : Dancer) → StandsFor self.old d → OnOk result (IsTrue (owes (signs d))) }
+        ensures err { OnErr result (self.new ≡ self.old) }
+    {
+        match self.sign_refusal() {
+            Some(refusal) => return Err(refusal),
+            None => {}
+        }
+        let view = self.log.view(alloc, Pair::ToSign)?;
+        let number = self.numbers.signed + 1;
+        let point = self.peer.next_point;
+        let Signed { sig, htlcs } = keys.sign(alloc, number, &point, &view)?;
+        self.log.signed();
+        self.numbers.signed = number;
+        Ok(CommitmentSigned {
+            channel_id: self.channel,
+            signature: sig,
+            htlc_signatures: htlcs,
+            records: Records::empty(alloc),
+        })
+    }
+
+    /// Takes a signature of the peer over the own next commitment, and gives the revocation of the one
+    /// before (BOLT 2, "Completing the Transition to the Updated State"). A signature that covers nothing
+    /// new is taken too.
+    ///
+    /// 21 where the own commitment has the number 2^48 - 1, 31 for a wrong signature, 60 where there was no
+    /// memory; then nothing has changed.
+    pub fn accept<K: ChannelKeys>(
+        &mut self,
+        alloc: Global,
+        keys: &K,
+        message: &CommitmentSigned,
+    ) -> Result<RevokeAndAck, Refusal>
+        ensures answer { (d : Dancer) → StandsFor self.old d → AnswersWithin (accept_fault K.point_of K.accepts keys.now message.now d) result }
+        ensures message { (d : Dancer) → StandsFor self.old d → IfOk result (λ m. m ≡ revoked_message K.secret_of K.point_of keys.now d) }
+        ensures ok { (d : Dancer) → StandsFor self.old d → OnOk result (StandsFor self.new (accepts_next d)) }
+        ensures err { OnErr result (self.new ≡ self.old) }
+    {
+        let last = self.numbers.commitment;
+        if last == LAST_NUMBER {
+            return Err(Refusal::OutOfPlace);
+        }
+        let view = self.log.view(alloc, Pair::ToAccept)?;
+        let point = keys.point(last + 1);
+        let signatures = message.htlc_signatures.as_slice();
+        if !keys.verify(last + 1, &point, &view, &message.signature, signatures) {
+            return Err(Refusal::SignatureWrong);
+        }
+        self.log.accepted();
+        self.numbers.commitment = last + 1;
+        Ok(RevokeAndAck {
+            channel_id: self.channel,
+            secret: keys.secret(last),
+            next_point: keys.point(last + 2),
+            records: Records::empty(alloc),
+        })
+    }
+
+    /// Takes a revocation of the peer: its commitment is the one that this side signed last (BOLT 2,
+    /// "Completing the Transition to the Updated State"). Takes no memory.
+    ///
+    /// 33 where no signature is unrevoked, 32 for a secret that doesn't fit the point of the commitment that
+    /// is revoked; then nothing has changed.
+    pub fn learn<K: ChannelKeys>(&mut self, keys: &K, message: &RevokeAndAck) -> Result<(), Refusal>
+        ensures answer { (d : Dancer) → StandsFor self.old d → result ≡ answer_of (learn_fault K.fits keys.now message.now d) }
+        ensures ok { (d : Dancer) → StandsFor self.old d → OnOk result (StandsFor self.new (learns message.now d)) }
+        ensures err { OnErr result (self.new ≡ self.old) }
+    {
+        if !self.owes() {
+            return Err(Refusal::NothingToRevoke);
+        }
+        if !keys.secret_fits(&message.secret, &self.peer.point) {
+            return Err(Refusal::SecretWrong);
+        }
+        self.log.acknowledged();
+        self.numbers.revoked += 1;
+        self.peer = Peer {
+            point: self.peer.next_point,
+            next_point: message.next_point,
+            secret: Some(message.secret),
+        };
+        Ok(())
+    }
+}

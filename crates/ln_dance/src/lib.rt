@@ -1,0 +1,13 @@
+//! The dance of signatures and revocations: each side signs the other's next commitment, and revokes its
+//! own last one as it takes a signature (BOLT 2, "Committing Updates So Far" and "Completing the
+//! Transition to the Updated State").
+#![tactic(auto)]
+
+mod dance;
+mod partners;
+
+pub use dance::{Dance, Numbers, Peer};
+pub use partners::dance_once;
+
+#[cfg(test)]
+mod tests;
