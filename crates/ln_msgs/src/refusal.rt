@@ -164,10 +164,15 @@ impl Refusal {
 }
 
 impl Display for Refusal {
+    ghost use Rattle.std.specs.Prelude.{Some};
+    ghost use Rattle.ln_msgs.specs.RefusalText.{refusal_text};
+
+    ghost output = { λ r. Some (refusal_text r) };
+
     fn fmt<W: fmt::Write>(&self, f: &mut Formatter<W>) -> fmt::Result {
         match self {
-            Refusal::PeerLimit(number) => write!(f, "refused 44 {number}"),
-            Refusal::BadScript { line } => write!(f, "refused 64 line {line}"),
+            Refusal::PeerLimit(number) => write!(f, "refused {} {number}", self.number()),
+            Refusal::BadScript { line } => write!(f, "refused {} line {line}", self.number()),
             _ => write!(f, "refused {}", self.number()),
         }
     }
