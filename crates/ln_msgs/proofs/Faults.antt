@@ -1,5 +1,5 @@
 -- Which faults the bytes of a message can have: 1 to 8, and so neither want of memory nor a failed call.
-use Rattle.std.proofs.Common.{◌≡◌, ◌≢◌, ℕ, zero, suc, ◌≤◌, List, [], ◌∷◌, length, Option, Some, None, Result, Ok, Err, Bool, true, false, cond, refl, sym, subst, arith}
+use Rattle.std.proofs.Common.{◌≡◌, ◌≢◌, ℕ, zero, suc, ◌≤◌, List, [], ◌∷◌, length, Option, Some, None, Result, Ok, Err, Bool, true, false, cond, refl, subst, arith}
 use Rattle.ln_bytes.specs.Fault.{fault_number}
 use Rattle.ln_bytes.specs.Bigsize.{bigsize_at, long_at}
 use Rattle.ln_bytes.specs.Reading.{◌>>=◌}
@@ -8,7 +8,7 @@ use Rattle.ln_bytes.specs.declared.fault.Fault.{Fault}
 use Rattle.ln_bytes.specs.declared.fault.Fault.TheVariants.{Truncated, NotMinimal, TlvOrder, TlvUnknownEven, TlvLength, UnknownEvenType, TooLong, FieldLength, Io}
 use Rattle.ln_msgs.specs.Field.{Kind, Number, Fixed, Sized, Listed, bytes_at, number_at, string_at, items_at, list_at, field_at, fields_at}
 use Rattle.ln_msgs.specs.Table.{Form, form_of}
-use Rattle.ln_msgs.specs.Message.{Heard, formed_at, payload_at, may_be_ignored, message_at}
+use Rattle.ln_msgs.specs.Message.{formed_at, payload_at, message_at}
 
 -- a reading that refuses by 1 to 8 alone
 pub record Tells {A : Type 0} (r : Result A Fault) : Type 0 where

@@ -1,12 +1,11 @@
 -- How what a framer hears of each piece adds up to what it hears of the whole stream.
-use Rattle.std.proofs.Common.{◌≡◌, ◌≢◌, ℕ, ◌<◌, ◌≤◌, List, [], ◌∷◌, ◌++◌, length, Option, Some, None, Bool, true, false, cond, ◌==◌, Result, Ok, Err, MatchOption, ◌⊎◌, inl, inr, refl, sym, ap, subst, ◌∙◌, arith, append_assoc, append-nil}
+use Rattle.std.proofs.Common.{◌≡◌, ℕ, ◌≤◌, List, [], ◌∷◌, ◌++◌, Option, Some, None, Bool, false, cond, ◌==◌, Ok, Err, MatchOption, inl, inr, refl, sym, ap, subst, ◌∙◌, arith, append_assoc, append-nil}
 use Rattle.std.proofs.lemmas.Bool.Decides.{nat_tests}
 use Rattle.ln_bytes.specs.Fault.{fault_number}
 use Rattle.ln_bytes.specs.declared.fault.Fault.{Fault}
-use Rattle.ln_bytes.specs.declared.fault.Fault.TheVariants.{Memory}
 use Rattle.ln_msgs.specs.Message.{Heard, message_at}
 use Rattle.ln_msgs.specs.Frame.{frame, HasFrame, HasNoFrame, Hears, IsFaulty, EndsHearing}
-use Rattle.ln_msgs.specs.Framer.{Fed, unfed, HearsSoFar, HasHeard, Answers, Finds, Refuses, Call, Answered, Refused, Runs, came, answered}
+use Rattle.ln_msgs.specs.Framer.{Fed, unfed, HearsSoFar, HasHeard, Refuses, Call, Answered, Refused, Runs, came, answered}
 use Rattle.ln_msgs.proofs.Faults.{message_tells}
 use Rattle.ln_msgs.proofs.Serving.{hears_more}
 use Rattle.ln_msgs.proofs.OneHearing.{same_frame, one_hearing_is}

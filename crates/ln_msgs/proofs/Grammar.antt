@@ -1,14 +1,14 @@
 -- The two directions of the grammar of messages: what is read is spelled so, and what is spelled so is read.
-use Rattle.std.proofs.Common.{◌≡◌, ℕ, zero, suc, ◌+◌, ◌^◌, ◌<◌, ◌≤◌, Bool, true, false, cond, List, [], ◌∷◌, ◌++◌, length, take, drop, Option, Some, None, Result, Ok, Err, nat_lt, ◌==◌, refl, sym, ap, subst, ◌∙◌, append_assoc, append-nil, arith, inl, inr}
+use Rattle.std.proofs.Common.{◌≡◌, ℕ, zero, suc, ◌^◌, ◌<◌, ◌≤◌, Bool, true, false, cond, List, [], ◌∷◌, ◌++◌, length, take, drop, Option, Some, None, Result, Ok, Err, nat_lt, refl, sym, ap, subst, ◌∙◌, append_assoc, arith}
 use Rattle.std.proofs.lemmas.Bool.{ltb-false, le-ltb}
-use Rattle.std.proofs.lemmas.List.{take_at, drop_at, take-append-drop, length-append, length-take, length-drop}
+use Rattle.std.proofs.lemmas.List.{take_at, drop_at, take-append-drop, length-append, length-take}
 use Rattle.byteorder.specs.Endian.{big_bytes, big_number}
-use Rattle.byteorder.specs.Numbers.{big_from-lt, big_number-reads_back, length-bytes_high_first, big_from-append}
+use Rattle.byteorder.specs.Numbers.{big_from-lt, big_number-reads_back, length-bytes_high_first}
 use Rattle.std.specs.Prelude.{IfOk}
 use Rattle.ln_bytes.specs.Reading.{◌>>=◌, Gives}
 use Rattle.ln_msgs.specs.declared.message.Incoming.{Incoming}
 use Rattle.ln_msgs.specs.Typed.{heard}
-use Rattle.ln_bytes.specs.Tlv.{record_bytes, stream_bytes, MayStand, AreFit, Fits, Spells, record_at, records_at, stream_at, may_follow, may_stand}
+use Rattle.ln_bytes.specs.Tlv.{record_bytes, stream_bytes, MayStand, AreFit, Spells, record_at, records_at, stream_at}
 use Rattle.ln_bytes.specs.declared.fault.Fault.{Fault}
 use Rattle.ln_bytes.specs.declared.fault.Fault.TheVariants.{Truncated, FieldLength, UnknownEvenType, TooLong}
 use Rattle.ln_bytes.specs.declared.record.Record.{Record}
@@ -19,7 +19,7 @@ use Rattle.ln_bytes.proofs.Streams.{stream_again}
 use Rattle.ln_msgs.specs.Field.{Kind, Number, Fixed, Sized, Listed, Value, Num, Str, Many, IsOf, AreOf, value_bytes, fields_bytes, bytes_at, number_at, string_at, items_at, list_at, field_at, fields_at}
 use Rattle.std.specs.List.{AllByRecursion, concat}
 use Rattle.ln_msgs.specs.Table.{Form, form_of}
-use Rattle.ln_msgs.specs.Message.{Wire, IsFormed, formed_bytes, have_lengths, Heard, Known, Ignored, Says, formed_at, payload_at, may_be_ignored, message_at}
+use Rattle.ln_msgs.specs.Message.{Wire, IsFormed, have_lengths, Heard, Known, Ignored, Says, formed_at, payload_at, may_be_ignored, message_at}
 
 -- ---- records
 

@@ -1,12 +1,12 @@
 -- What the answerer knows between its turns, and what follows from it at each end.
-use Rattle.std.proofs.Common.{◌≡◌, ◌≢◌, ℕ, ◌+◌, ◌-◌, ◌^◌, ◌<◌, List, [], ◌∷◌, ◌++◌, length, drop, Option, Some, None, Result, Ok, Err, IfErr, refl, sym, ap, subst, ◌∙◌, arith, append_assoc, append-nil, length-append, inl, inr, false, ◌==◌}
+use Rattle.std.proofs.Common.{◌≡◌, ◌≢◌, ℕ, List, [], ◌∷◌, ◌++◌, length, drop, Option, Some, None, Result, Ok, Err, IfErr, refl, sym, ap, subst, ◌∙◌, arith, append_assoc, append-nil, inl, inr, false, ◌==◌}
 use Rattle.std.specs.Io.KnownBytes.{Keeps, Consumes, Appends, IsAtEnd, prepend_known}
-use Rattle.std.proofs.KnownBytes.{Consumes-nil, Consumes-kept, Appends-nil, Appends-trans, Keeps-refl, prepend_known-nil}
+use Rattle.std.proofs.KnownBytes.{Consumes-nil, Consumes-kept, Appends-nil, Appends-trans, prepend_known-nil}
 use Rattle.std.proofs.lemmas.List.Concat.{flat_map-append}
 use Rattle.ln_bytes.specs.declared.fault.Fault.{Fault}
 use Rattle.ln_bytes.specs.declared.fault.Fault.TheVariants.{Truncated}
 use Rattle.ln_msgs.specs.Message.{Heard}
-use Rattle.ln_msgs.specs.Frame.{frame, Hears, HasFrame, HasNoFrame, IsFaulty, IsCut}
+use Rattle.ln_msgs.specs.Frame.{frame, Hears, HasNoFrame, IsFaulty}
 use Rattle.ln_msgs.specs.Answer.{reply, replies, pongs, told}
 use Rattle.ln_msgs.specs.Answered.{AnswersAll, AnswersUpTo, AnswersSome}
 use Rattle.ln_msgs.specs.Outgoing.{Waiting}

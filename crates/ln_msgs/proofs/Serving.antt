@@ -1,8 +1,7 @@
 -- How the frames that were served add up.
 use Rattle.std.proofs.Common.{◌≡◌, ◌≢◌, ℕ, ◌+◌, ◌-◌, ◌^◌, ◌<◌, List, length, drop, [], ◌∷◌, ◌++◌, Option, Some, None, Bool, true, false, cond, ◌==◌, Result, Ok, Err, refl, sym, ap, subst, ◌∙◌, arith, append_assoc, append-nil, add-zero, length-append}
 use Rattle.std.proofs.lemmas.List.{drop_at}
-use Rattle.std.specs.List.{flat_map}
-use Rattle.std.proofs.lemmas.List.Concat.{flat_map-cons, flat_map-append}
+use Rattle.std.proofs.lemmas.List.Concat.{flat_map-append}
 use Rattle.ln_bytes.specs.Reading.{◌>>=◌}
 use Rattle.ln_bytes.specs.declared.fault.Fault.{Fault}
 use Rattle.ln_bytes.specs.declared.fault.Fault.TheVariants.{Memory, Io}
@@ -15,7 +14,7 @@ use Rattle.ln_msgs.specs.Field.{fields_at}
 use Rattle.ln_msgs.specs.Table.{Form}
 use Rattle.ln_msgs.specs.Message.{Heard, Known, Ignored, formed_at, payload_at, have_lengths, may_be_ignored, message_at}
 use Rattle.ln_msgs.proofs.Grammar.{ends}
-use Rattle.ln_msgs.specs.Frame.{frame, HasFrame, Hears, IsFaulty}
+use Rattle.ln_msgs.specs.Frame.{frame, HasFrame, Hears}
 use Rattle.ln_msgs.specs.Answer.{owed, asked, owed_at, paid, reply, replies, one_if_owed, pongs, told}
 use Rattle.ln_msgs.specs.Outgoing.{Waiting}
 use Rattle.ln_msgs.specs.Served.{Serves}

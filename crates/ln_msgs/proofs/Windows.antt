@@ -1,7 +1,7 @@
 -- The bytes of a window after its start moves on, or after a read past its end.
 use Rattle.std.proofs.Common.{◌≡◌, ℕ, ◌+◌, ◌-◌, ◌≤◌, List, ◌++◌, length, take, drop, slice_range, Option, Some, None, sym, ap, ◌∙◌, arith, refl, append_assoc}
 use Rattle.std.specs.Io.KnownBytes.{Keeps, Consumes, prepend_known}
-use Rattle.std.proofs.lemmas.List.{length-append, length-take, append-nil, take_at, drop_at, take-append-le, drop-append-le, drop-take, drop-drop, length-take-le, length-drop}
+use Rattle.std.proofs.lemmas.List.{append-nil, take_at, drop_at, take-append-le, drop-append-le, drop-take, drop-drop, length-take-le, length-drop}
 use borrow.Rule.Slice.PartMut.{put_mid, post_of}
 use lib.Seq.{take-add}
 

@@ -1,5 +1,5 @@
 -- The fields of a message as the program hands them out: their kinds, values and bytes.
-use Rattle.std.specs.Prelude.{◌≡◌, ℕ, List, [], ◌∷◌, ◌++◌, length, map, Option, Some, None}
+use Rattle.std.specs.Prelude.{◌≡◌, ℕ, List, length, map, Option, Some, None}
 use Rattle.std.specs.List.{flat_map, AllByRecursion}
 use Rattle.ln_msgs.specs.declared.item.Field.{Field}
 use Rattle.ln_msgs.specs.declared.item.Item.{Item}

@@ -10,6 +10,7 @@ pub mod CountedView
 pub mod Outgoing
 pub mod Written
 pub mod Refusal
+pub mod RefusalText
 pub mod Typed
 pub mod Items
 pub mod Writing
@@ -17,3 +18,4 @@ pub mod Channel
 pub mod Features
 pub mod Reply
 pub mod Framer
+pub mod Names

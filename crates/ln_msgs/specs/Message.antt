@@ -1,7 +1,7 @@
 -- Messages (BOLT 1, "Lightning Message Format"): a type in two bytes, the fields that the type has, and a
 -- TLV stream up to the end.
 use Rattle.std.specs.List.{list_all}
-use Rattle.std.specs.Prelude.{◌≡◌, ◌<◌, ℕ, ◌%◌, IsTrue, not, List, [], ◌∷◌, ◌++◌, length, Option, Some, None, Result, Ok, Err, Bool, ◌==◌, ◌||◌, ◌&&◌, nat_lt, nat_le, if◌then◌else◌}
+use Rattle.std.specs.Prelude.{◌≡◌, ◌<◌, ℕ, ◌%◌, IsTrue, not, List, [], ◌++◌, length, Option, Some, None, Result, Ok, Err, Bool, ◌==◌, ◌||◌, ◌&&◌, nat_lt, nat_le, if◌then◌else◌}
 use Rattle.ln_bytes.specs.Endian.{big_bytes}
 use Rattle.ln_bytes.specs.Reading.{◌>>=◌}
 use Rattle.ln_bytes.specs.Tlv.{stream_at, stream_bytes, MayStand, AreFit}

@@ -128,7 +128,8 @@ fn other_asks(alloc: Global, typ: u16, payload: &[u8]) -> Result<Option<u16>, Fa
     ensures gives { Gives (λ o. o) result (other_asked_at typ payload.now) }
     ensures small { IfOk result (λ o. IfSome o (λ n. n < 65532)) }
 {
-    let _message = read_payload(alloc, typ, payload)?;
+    let message = read_payload(alloc, typ, payload)?;
+    drop(message);
     Ok(None)
 }
 

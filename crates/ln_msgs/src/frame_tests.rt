@@ -1,4 +1,5 @@
 use super::*;
+use crate::seen::{error, ping, warning};
 use ln_bytes::{Bytes, Fault};
 use std::alloc::Global;
 use std::test::*;
@@ -28,6 +29,16 @@ fn init(alloc: Global, global_features: &[u8], features: &[u8]) -> Result<Init, 
     })
 }
 
+fn checked(
+    alloc: Global,
+    global_features: &[u8],
+    features: &[u8],
+    known: &[u16],
+) -> Result<Result<(), Fault>, Fail> {
+    let init = init(alloc, global_features, features)?;
+    Ok(check_init(&init, known))
+}
+
 #[test]
 fn features(rt: HostRuntime) -> Result<(), Fail> {
     let unknown = Err(Fault::UnknownFeature);
@@ -46,55 +57,102 @@ fn features(rt: HostRuntime) -> Result<(), Fail> {
         (&[0x40], &[0x01, 0x00], &[6], unknown),
         (&[0x40], &[0x01, 0x00], &[65535, 8, 3, 6, 6], Ok(())),
     ] {
-        let init = init(rt.alloc(), global_features, features)?;
-        assert_eq!(rt; check_init(&init, known), answer);
+        assert_eq!(rt;
+            checked(rt.alloc(), global_features, features, known)?,
+            answer
+        );
     }
     Ok(())
 }
 
 #[test]
 fn far_features(rt: HostRuntime) -> Result<(), Fail> {
+    let unknown = Err(Fault::UnknownFeature);
+    let mut features = vec![in rt.alloc(); 0; 8193]?;
     // bit 65534 is the last even one that a list can have
-    let mut features = vec![in rt.alloc(); 0; 8192]?;
-    features[0] = 0x40;
-    let last = init(rt.alloc(), &[], &features)?;
-    assert_eq!(rt; check_init(&last, &[65534]), Ok(()));
-    assert_eq!(rt; check_init(&last, &[65532]), Err(Fault::UnknownFeature));
+    features[1] = 0x40;
+    let last = &features[1..];
+    assert_eq!(rt; checked(rt.alloc(), &[], last, &[65534])?, Ok(()));
+    assert_eq!(rt; checked(rt.alloc(), &[], last, &[65532])?, unknown);
 
     // bit 65536, and bit 65537
-    let mut features = vec![in rt.alloc(); 0; 8193]?;
+    features[1] = 0;
     features[0] = 0x01;
-    let far = init(rt.alloc(), &features, &[])?;
-    assert_eq!(rt; check_init(&far, &[0, 65534]), Err(Fault::UnknownFeature));
+    assert_eq!(rt; checked(rt.alloc(), &features, &[], &[0, 65534])?, unknown);
     features[0] = 0x02;
-    let odd = init(rt.alloc(), &features, &[])?;
-    assert_eq!(rt; check_init(&odd, &[]), Ok(()));
+    assert_eq!(rt; checked(rt.alloc(), &[], &features, &[])?, Ok(()));
     Ok(())
+}
+
+// Whether it is an error of this channel, with this text and no records.
+fn is_error(message: &Message, id: &[u8; 32], text: &str) -> bool {
+    match error(message) {
+        Some(error) => {
+            error.channel_id == *id
+                && error.bytes.as_slice() == text.as_bytes()
+                && error.records.as_slice().is_empty()
+        }
+        None => false,
+    }
+}
+
+// The same of a warning.
+fn is_warning(message: &Message, id: &[u8; 32], text: &str) -> bool {
+    match warning(message) {
+        Some(warning) => {
+            warning.channel_id == *id
+                && warning.bytes.as_slice() == text.as_bytes()
+                && warning.records.as_slice().is_empty()
+        }
+        None => false,
+    }
+}
+
+// Whether the peer is told of the refusal by an error with this text.
+fn is_told_by_error(alloc: Global, refusal: Refusal, text: &str) -> Result<bool, Fail> {
+    let id = [7; 32];
+    let reply = refusal.reply(alloc, &id)?;
+    let is_so = match &reply {
+        Some(message) => is_error(message, &id, text),
+        None => false,
+    };
+    drop(reply);
+    Ok(is_so)
+}
+
+fn is_told_by_warning(alloc: Global, refusal: Refusal, text: &str) -> Result<bool, Fail> {
+    let id = [7; 32];
+    let reply = refusal.reply(alloc, &id)?;
+    let is_so = match &reply {
+        Some(message) => is_warning(message, &id, text),
+        None => false,
+    };
+    drop(reply);
+    Ok(is_so)
+}
+
+fn is_silent(alloc: Global, refusal: Refusal) -> Result<bool, Fail> {
+    let reply = refusal.reply(alloc, &[7; 32])?;
+    let is_so = reply.is_none();
+    drop(reply);
+    Ok(is_so)
 }
 
 #[test]
 fn replies(rt: HostRuntime) -> Result<(), Fail> {
-    let id = [7; 32];
     for (refusal, text) in [
         (Refusal::UnknownChannel, "refused 20"),
         (Refusal::NotFunder, "refused 30"),
         (Refusal::AddAfterShutdown, "refused 35"),
     ] {
-        let reply = refusal.reply(rt.alloc(), &id)?;
-        let Some(Message::Error(error)) = reply else {
-            return Err("no error".into());
-        };
-        assert_eq!(rt; error.channel_id, id);
-        assert_eq!(rt; error.bytes.as_slice(), text.as_bytes());
-        assert!(rt; error.records.as_slice().is_empty());
+        assert!(rt; is_told_by_error(rt.alloc(), refusal, text)?, "{text}");
     }
-    let reply = Refusal::FeeOutside.reply(rt.alloc(), &id)?;
-    let Some(Message::Warning(warning)) = reply else {
-        return Err("no warning".into());
-    };
-    assert_eq!(rt; warning.channel_id, id);
-    assert_eq!(rt; warning.bytes.as_slice(), "refused 36".as_bytes());
-    assert!(rt; warning.records.as_slice().is_empty());
+    assert!(rt; is_told_by_warning(rt.alloc(), Refusal::FeeOutside, "refused 36")?);
+    Ok(())
+}
+
+#[test]
+fn no_replies(rt: HostRuntime) -> Result<(), Fail> {
     for refusal in [
         Refusal::Truncated,
         Refusal::UnknownFeature,
@@ -104,7 +162,7 @@ fn replies(rt: HostRuntime) -> Result<(), Fail> {
         Refusal::Memory,
         Refusal::Version,
     ] {
-        assert!(rt; refusal.reply(rt.alloc(), &id)?.is_none());
+        assert!(rt; is_silent(rt.alloc(), refusal)?, "{refusal}");
     }
     Ok(())
 }
@@ -133,15 +191,22 @@ fn feed(
     Ok(())
 }
 
+// The types of the messages of the stream, which comes in three pieces.
+fn types_of_pieces(alloc: Global, pieces: [&[u8]; 3]) -> Result<Vec<u16>, Fail> {
+    let mut framer = Framer::new(alloc);
+    let mut types = Vec::new(alloc);
+    for piece in pieces {
+        feed(&mut framer, alloc, piece, &mut types)?;
+    }
+    Ok(types)
+}
+
 #[test]
 fn a_stream_cut_anywhere(rt: HostRuntime) -> Result<(), Fail> {
     for first in 0..19 {
         for second in first..19 {
-            let mut framer = Framer::new(rt.alloc());
-            let mut types = Vec::new(rt.alloc());
-            feed(&mut framer, rt.alloc(), &STREAM[..first], &mut types)?;
-            feed(&mut framer, rt.alloc(), &STREAM[first..second], &mut types)?;
-            feed(&mut framer, rt.alloc(), &STREAM[second..], &mut types)?;
+            let pieces = [&STREAM[..first], &STREAM[first..second], &STREAM[second..]];
+            let types = types_of_pieces(rt.alloc(), pieces)?;
             assert_eq!(rt; types.as_slice(), [18, 21, 19].as_slice());
         }
     }
@@ -172,8 +237,9 @@ fn what_a_message_carries(rt: HostRuntime) -> Result<(), Fail> {
     let mut framer = Framer::new(rt.alloc());
     assert!(rt; framer.feed(rt.alloc(), &[0, 9, 0, 18, 1])?.is_empty());
     let messages = framer.feed(rt.alloc(), &[2, 0, 3, 7, 8, 9, 0])?;
-    let [Incoming::Known(Message::Ping(ping))] = messages.as_slice() else {
-        return Err("not one ping".into());
+    assert_eq!(rt; messages.len(), 1);
+    let Some(ping) = ping(&messages[0]) else {
+        return Err("not a ping".into());
     };
     assert_eq!(rt; ping.num_pong_bytes, 0x0102);
     assert_eq!(rt; ping.ignored.as_slice(), [7, 8, 9].as_slice());

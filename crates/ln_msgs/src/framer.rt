@@ -16,12 +16,15 @@ use std::marker::Model;
 /// Takes the bytes of a connection in pieces, and answers the messages whose frames are whole.
 ///
 /// A frame is two bytes of length, the highest first, and a message of that many bytes. Between calls a framer
-/// holds the bytes of at most one frame that isn't whole yet.
+/// holds the bytes of at most one frame that isn't whole yet, 65,536 at most, whatever came before.
 #[derive(Drop)]
 pub struct Framer {
     held: Vec<u8>,
     fault: Option<Fault>,
 }
+
+/// The most bytes that a frame has which isn't whole.
+const MOST_HELD: usize = 65_536;
 
 impl Model for Framer {
     ghost use Rattle.ln_msgs.specs.Framer.{Fed};
@@ -61,6 +64,11 @@ impl Framer {
     /// messages stand before a frame that can't be read, this call answers them and the next call the fault. A
     /// framer that found a fault answers it at each call from then on, and looks at no further byte.
     ///
+    /// Takes memory for the bytes held and the piece together, and for the messages. A call that hears a message or
+    /// is refused memory cuts its buffer to 65,536 bytes, or leaves it where the allocator can't; one that finds a
+    /// fault gives it back. So a long piece leaves no long buffer, and pieces that are no message yet leave one of
+    /// less than twice that length.
+    ///
     /// Errors: 1 to 6 and 8, the first fault of a message (`decode`). 60 where there is no memory: then nothing has
     /// changed, and the same bytes may be fed again.
     pub fn feed(&mut self, alloc: Global, piece: &[u8]) -> Result<Vec<Incoming>, Fault>
@@ -76,6 +84,7 @@ impl Framer {
             Ok(hearing) => self.keep(hearing),
             Err(fault) => {
                 self.held.truncate(before);
+                self.held.shrink_to(MOST_HELD);
                 Err(fault)
             }
         }
@@ -98,6 +107,7 @@ impl Framer {
             return Ok(messages);
         };
         self.held.clear();
+        self.held.shrink_to_fit();
         self.fault = Some(fault);
         if messages.is_empty() {
             return Err(fault);
@@ -106,7 +116,7 @@ impl Framer {
     }
 }
 
-/// Drops so many bytes from the front.
+/// Drops so many bytes from the front, and the room for more than a frame.
 fn drop_front(bytes: &mut Vec<u8>, count: usize)
     requires { count ≤ vec_len bytes.old }
     ensures { bytes.new.items ≡ drop count bytes.old.items }
@@ -117,6 +127,7 @@ fn drop_front(bytes: &mut Vec<u8>, count: usize)
     let left = bytes.len() - count;
     bytes.as_mut_slice().copy_within(count.., 0);
     bytes.truncate(left);
+    bytes.shrink_to(MOST_HELD);
 }
 
 /// Hears the whole frames at the front of the bytes, up to the first fault. The only error is 60.

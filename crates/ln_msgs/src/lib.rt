@@ -48,9 +48,12 @@ pub use updates::{
     UpdateAddHtlc, UpdateFailHtlc, UpdateFailMalformedHtlc, UpdateFee, UpdateFulfillHtlc,
 };
 
+#[cfg(test)]
 mod frame_tests;
 #[cfg(test)]
 mod message_tests;
+#[cfg(test)]
+mod seen;
 #[cfg(test)]
 mod small_tests;
 #[cfg(test)]

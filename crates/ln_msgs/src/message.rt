@@ -70,6 +70,7 @@ impl Message {
     ghost use Rattle.std.specs.Prelude.{◌≡◌, IfOk};
     ghost use Rattle.ln_msgs.specs.Typed.{wire};
     ghost use Rattle.ln_msgs.specs.Items.{IsShownAs};
+    ghost use Rattle.ln_msgs.specs.Names.{name_of};
 
     /// The type (BOLT 1, "Lightning Message Format"). Takes no memory.
     pub fn typ(&self) -> u16
@@ -100,7 +101,9 @@ impl Message {
     }
 
     /// The name of the type in the standard. Takes no memory.
-    pub fn name(&self) -> &'static str {
+    pub fn name(&self) -> &'static str
+        ensures { result.now ≡ name_of (wire self.now).typ }
+    {
         match self {
             Message::Warning(_) => "warning",
             Message::Init(_) => "init",

@@ -1,7 +1,10 @@
 //! Messages against their bytes.
+//!
+//! A helper drops a message by `drop`, since a message that goes out of scope makes a long proof.
 
 use super::*;
-use ln_bytes::Fault;
+use crate::seen::{commitment_signed, ignored, known, update_add_htlc};
+use ln_bytes::{Bytes, Fault};
 use std::alloc::Global;
 use std::test::*;
 
@@ -36,37 +39,69 @@ fn zeros(alloc: Global, typ: u16, len: usize) -> Result<Vec<u8>, Fail> {
     Ok(bytes)
 }
 
-// Fields that are cut short anywhere are fault 1, and whole ones are read and written again.
+fn fault(alloc: Global, bytes: &[u8]) -> Option<Fault> {
+    let decoded = decode(alloc, bytes);
+    let fault = match &decoded {
+        Ok(_) => None,
+        Err(fault) => Some(*fault),
+    };
+    drop(decoded);
+    fault
+}
+
+fn is_ignored(alloc: Global, bytes: &[u8], typ: u16) -> bool {
+    let decoded = decode(alloc, bytes);
+    let is_so = match &decoded {
+        Ok(incoming) => ignored(incoming) == Some(typ),
+        Err(_) => false,
+    };
+    drop(decoded);
+    is_so
+}
+
+// Whether it is a message of this type that is written as these bytes.
+fn is_written(alloc: Global, incoming: &Incoming, bytes: &[u8], typ: u16) -> Result<bool, Fail> {
+    let Some(message) = known(incoming) else {
+        return Ok(false);
+    };
+    if message.typ() != typ || !fits(message) {
+        return Ok(false);
+    }
+    let again = encode(alloc, message)?;
+    Ok(again.as_slice() == bytes)
+}
+
+// Whether the bytes are a message of this type, and are what is written for it.
+fn is_written_again(alloc: Global, bytes: &[u8], typ: u16) -> Result<bool, Fail> {
+    let incoming = decode(alloc, bytes)?;
+    let is_so = is_written(alloc, &incoming, bytes, typ);
+    drop(incoming);
+    is_so
+}
+
+// Fields that are cut short anywhere are fault 1.
 #[test]
-fn fields_of_each_type(rt: HostRuntime) -> Result<(), Fail> {
+fn fields_cut_short(rt: HostRuntime) -> Result<(), Fail> {
     for (typ, len) in FIELDS {
         for short in 0..len {
             let bytes = zeros(rt.alloc(), typ, short)?;
             assert!(rt;
-                matches!(decode(rt.alloc(), &bytes), Err(Fault::Truncated)),
+                fault(rt.alloc(), &bytes) == Some(Fault::Truncated),
                 "type {typ} at {short}"
             );
-        }
-        let bytes = zeros(rt.alloc(), typ, len)?;
-        match decode(rt.alloc(), &bytes)? {
-            Incoming::Known(message) => {
-                assert_eq!(rt; message.typ(), typ);
-                assert!(rt; fits(&message));
-                let again = encode(rt.alloc(), &message)?;
-                assert!(rt; again.as_slice() == bytes.as_slice(), "type {typ}");
-            }
-            Incoming::Ignored(_) => return Err("a known type is ignored".into()),
         }
     }
     Ok(())
 }
 
-fn fault(alloc: Global, bytes: &[u8]) -> Option<Fault> {
-    decode(alloc, bytes).err()
-}
-
-fn is_ignored(alloc: Global, bytes: &[u8], typ: u16) -> bool {
-    matches!(decode(alloc, bytes), Ok(Incoming::Ignored(ignored)) if ignored == typ)
+// Whole fields are read and written again.
+#[test]
+fn whole_fields(rt: HostRuntime) -> Result<(), Fail> {
+    for (typ, len) in FIELDS {
+        let bytes = zeros(rt.alloc(), typ, len)?;
+        assert!(rt; is_written_again(rt.alloc(), &bytes, typ)?, "type {typ}");
+    }
+    Ok(())
 }
 
 #[test]
@@ -140,52 +175,79 @@ fn records_behind_the_fields(rt: HostRuntime) -> Result<(), Fail> {
 }
 
 #[test]
-fn too_long(rt: HostRuntime) -> Result<(), Fail> {
+fn too_long_to_read(rt: HostRuntime) -> Result<(), Fail> {
     let long = zeros(rt.alloc(), 21, 65_533)?;
     assert!(rt; is_ignored(rt.alloc(), &long, 21));
     let longer = zeros(rt.alloc(), 100, 65_534)?;
     assert_eq!(rt; fault(rt.alloc(), &longer), Some(Fault::TooLong));
-    for (len, want) in [
-        (65_531, None),
-        (65_532, Some(Fault::TooLong)),
-        (70_000, Some(Fault::TooLong)),
-    ] {
-        let mut ignored = Vec::new(rt.alloc());
-        ignored.resize(len, 7)?;
-        let pong = Message::Pong(Pong {
-            ignored: ln_bytes::Bytes::new(ignored),
-            records: Records::empty(rt.alloc()),
-        });
-        assert_eq!(rt; encode(rt.alloc(), &pong).err(), want, "at {len}");
-    }
     Ok(())
 }
 
-// Values by hand: two signatures, and every kind of number.
+// Whether a pong that carries so many bytes of its own is too long to be written.
+fn is_too_long(alloc: Global, len: usize) -> Result<bool, Fail> {
+    let mut ignored = Vec::new(alloc);
+    ignored.resize(len, 7)?;
+    let pong = Message::Pong(Pong {
+        ignored: Bytes::new(ignored),
+        records: Records::empty(alloc),
+    });
+    let written = encode(alloc, &pong);
+    drop(pong);
+    match &written {
+        Ok(_) => Ok(false),
+        Err(fault) => Ok(*fault == Fault::TooLong),
+    }
+}
+
 #[test]
-fn values(rt: HostRuntime) -> Result<(), Fail> {
+fn too_long_to_write(rt: HostRuntime) -> Result<(), Fail> {
+    assert!(rt; !is_too_long(rt.alloc(), 65_531)?);
+    assert!(rt; is_too_long(rt.alloc(), 65_532)?);
+    assert!(rt; is_too_long(rt.alloc(), 70_000)?);
+    Ok(())
+}
+
+// Whether the bytes are a commitment_signed with these signatures for HTLCs.
+fn has_signatures(alloc: Global, bytes: &[u8], want: &[[u8; 64]]) -> Result<bool, Fail> {
+    let incoming = decode(alloc, bytes)?;
+    let are_so = match commitment_signed(&incoming) {
+        Some(signed) => signed.htlc_signatures.as_slice() == want,
+        None => false,
+    };
+    drop(incoming);
+    Ok(are_so)
+}
+
+// Two signatures by hand.
+#[test]
+fn signatures(rt: HostRuntime) -> Result<(), Fail> {
     let mut bytes = zeros(rt.alloc(), 132, 96)?;
     bytes.extend_from_slice(&[0, 2])?;
     bytes.resize(164, 1)?;
     bytes.resize(228, 2)?;
-    match decode(rt.alloc(), &bytes)? {
-        Incoming::Known(Message::CommitmentSigned(signed)) => {
-            assert!(rt; signed.htlc_signatures.as_slice() == [[1; 64], [2; 64]].as_slice());
-        }
-        _ => return Err("commitment_signed".into()),
-    }
-    let mut add = zeros(rt.alloc(), 128, 1450)?;
-    assert_eq!(rt; add.len(), 1452);
-    add[41] = 9;
-    add[48] = 1;
-    add[82] = 1;
-    match decode(rt.alloc(), &add)? {
-        Incoming::Known(Message::UpdateAddHtlc(added)) => {
-            assert_eq!(rt; added.id, 9);
-            assert_eq!(rt; added.amount_msat, 256);
-            assert_eq!(rt; added.cltv_expiry, 1 << 24);
-        }
-        _ => return Err("update_add_htlc".into()),
-    }
+    assert!(rt; has_signatures(rt.alloc(), &bytes, &[[1; 64], [2; 64]])?);
+    Ok(())
+}
+
+// The id, the amount and the expiry of an update_add_htlc.
+fn numbers_of(alloc: Global, bytes: &[u8]) -> Result<Option<(u64, u64, u32)>, Fail> {
+    let incoming = decode(alloc, bytes)?;
+    let numbers = match update_add_htlc(&incoming) {
+        Some(added) => Some((added.id, added.amount_msat, added.cltv_expiry)),
+        None => None,
+    };
+    drop(incoming);
+    Ok(numbers)
+}
+
+// Numbers by hand.
+#[test]
+fn numbers(rt: HostRuntime) -> Result<(), Fail> {
+    let mut bytes = zeros(rt.alloc(), 128, 1450)?;
+    assert_eq!(rt; bytes.len(), 1452);
+    bytes[41] = 9;
+    bytes[48] = 1;
+    bytes[82] = 1;
+    assert!(rt; numbers_of(rt.alloc(), &bytes)? == Some((9, 256, 1 << 24)));
     Ok(())
 }

@@ -2,6 +2,8 @@
 
 use ln_bytes::Fault;
 use std::alloc::{AllocError, AllocFailed};
+use std::fmt;
+use std::fmt::{Display, Formatter};
 use thiserror::Error;
 
 /// Why a call was refused.
@@ -12,139 +14,94 @@ use thiserror::Error;
 #[derive(Clone, Copy, Debug, PartialEq, Eq, Error)]
 pub enum Refusal {
     /// 1: the bytes end inside a value.
-    #[error("refused 1")]
     Truncated,
     /// 2: a number is written in a longer form than it needs.
-    #[error("refused 2")]
     NotMinimal,
     /// 3: a record's type isn't above the one before it.
-    #[error("refused 3")]
     TlvOrder,
     /// 4: a record has an even type that isn't known.
-    #[error("refused 4")]
     TlvUnknownEven,
     /// 5: a record's value passes the end of the stream.
-    #[error("refused 5")]
     TlvLength,
     /// 6: a message has an even type that isn't known.
-    #[error("refused 6")]
     UnknownEvenType,
     /// 7: a message has more than 65,535 bytes.
-    #[error("refused 7")]
     TooLong,
     /// 8: a value with a fixed form has another length.
-    #[error("refused 8")]
     FieldLength,
     /// 9: a peer asks for an even feature that isn't known.
-    #[error("refused 9")]
     UnknownFeature,
     /// 20: a message names a channel that there isn't.
-    #[error("refused 20")]
     UnknownChannel,
     /// 21: a message that may not come in this state.
-    #[error("refused 21")]
     OutOfPlace,
     /// 22: an added HTLC hasn't the next id of its sender.
-    #[error("refused 22")]
     BadId,
     /// 23: an added HTLC's amount is 0 or below `htlc_minimum_msat`.
-    #[error("refused 23")]
     AmountBelowMinimum,
     /// 24: an added HTLC would pass `max_accepted_htlcs`.
-    #[error("refused 24")]
     TooManyHtlcs,
     /// 25: an added HTLC would pass `max_htlc_value_in_flight_msat`.
-    #[error("refused 25")]
     InFlightOver,
     /// 26: an added HTLC would leave its sender less than `channel_reserve_satoshis`.
-    #[error("refused 26")]
     CannotAfford,
     /// 27: an added HTLC's `cltv_expiry` is 500,000,000 or more.
-    #[error("refused 27")]
     ExpiryRange,
     /// 28: a removal names an HTLC that can't be removed.
-    #[error("refused 28")]
     NoSuchHtlc,
     /// 29: a preimage hasn't the payment hash.
-    #[error("refused 29")]
     PreimageWrong,
     /// 30: `update_fee` by the side that doesn't pay the fee.
-    #[error("refused 30")]
     NotFunder,
     /// 31: a signature doesn't fit.
-    #[error("refused 31")]
     SignatureWrong,
     /// 32: a per commitment secret doesn't fit.
-    #[error("refused 32")]
     SecretWrong,
     /// 33: a revocation that answers no signature.
-    #[error("refused 33")]
     NothingToRevoke,
     /// 34: `channel_reestablish` with a number that can't be served.
-    #[error("refused 34")]
     ReestablishNumber,
     /// 35: an HTLC is added behind its sender's shutdown.
-    #[error("refused 35")]
     AddAfterShutdown,
     /// 36: a closing fee that can't be agreed to.
-    #[error("refused 36")]
     FeeOutside,
     /// 37: the peer sent `error`.
-    #[error("refused 37")]
     PeerError,
     /// 40: the channel isn't ready for this command.
-    #[error("refused 40")]
     NotReady,
     /// 41: the last signature isn't revoked for yet.
-    #[error("refused 41")]
     SignatureOutstanding,
     /// 42: a signature would cover nothing new.
-    #[error("refused 42")]
     NothingToSign,
     /// 43: a shutdown has passed.
-    #[error("refused 43")]
     Shut,
     /// 44: the peer would refuse; carries the number by which it would (7, 21 or 23 to 30).
-    #[error("refused 44 {0}")]
     PeerLimit(u16),
     /// 45: the peer hasn't acknowledged every own update.
-    #[error("refused 45")]
     UpdatesPending,
     /// 46: there is no further number.
-    #[error("refused 46")]
     NumbersSpent,
     /// 47: there is no connection.
-    #[error("refused 47")]
     Disconnected,
     /// 48: the HTLC to be removed isn't irrevocably committed yet.
-    #[error("refused 48")]
     NotCommitted,
     /// 49: the HTLC to be removed was removed.
-    #[error("refused 49")]
     AlreadyRemoved,
     /// 60: there was no memory.
-    #[error("refused 60")]
     Memory,
     /// 61: the store failed.
-    #[error("refused 61")]
     Store,
     /// 62: the channel end has halted, and answers again once it is loaded from its record.
-    #[error("refused 62")]
     Halted,
     /// 63: a read or a write failed.
-    #[error("refused 63")]
     Io,
     /// 64: a line of a script isn't one; carries its number, counted from 1, or 0 for the whole text.
-    #[error("refused 64 line {line}")]
     BadScript { line: u64 },
     /// 65: what was waited for didn't come.
-    #[error("refused 65")]
     GaveUp,
     /// 70: a record's bytes are damaged.
-    #[error("refused 70")]
     Damaged,
     /// 71: a record has an unknown version.
-    #[error("refused 71")]
     Version,
 }
 
@@ -202,6 +159,21 @@ impl Refusal {
             Refusal::GaveUp => 65,
             Refusal::Damaged => 70,
             Refusal::Version => 71,
+        }
+    }
+}
+
+impl Display for Refusal {
+    ghost use Rattle.std.specs.Prelude.{Some};
+    ghost use Rattle.ln_msgs.specs.RefusalText.{refusal_text};
+
+    ghost output = { λ r. Some (refusal_text r) };
+
+    fn fmt<W: fmt::Write>(&self, f: &mut Formatter<W>) -> fmt::Result {
+        match self {
+            Refusal::PeerLimit(number) => write!(f, "refused {} {number}", self.number()),
+            Refusal::BadScript { line } => write!(f, "refused {} line {line}", self.number()),
+            _ => write!(f, "refused {}", self.number()),
         }
     }
 }

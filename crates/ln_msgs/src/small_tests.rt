@@ -1,8 +1,9 @@
 //! Each call once, with few allocations, so that each of them can be made to fail in turn.
 
 use super::*;
+use crate::seen::{commitment_signed, error, known};
 use ln_bytes::Fault;
-use std::alloc::AllocError;
+use std::alloc::{AllocError, Global};
 use std::test::*;
 
 // commitment_signed with one signature and one record.
@@ -31,31 +32,45 @@ fn small_answer(rt: HostRuntime) -> Result<(), AllocError> {
     Ok(())
 }
 
+// How many signatures for HTLCs a commitment_signed has, and how many records.
+fn counts(incoming: &Incoming) -> Option<(usize, usize)> {
+    let signed = commitment_signed(incoming)?;
+    Some((
+        signed.htlc_signatures.len(),
+        signed.records.as_slice().len(),
+    ))
+}
+
 #[test]
 fn small_decode(rt: HostRuntime) -> Result<(), Fault> {
-    match decode(rt.alloc(), &signed())? {
-        Incoming::Known(message) => match message {
-            Message::CommitmentSigned(signed) => {
-                assert_eq!(rt; signed.htlc_signatures.len(), 1);
-                assert_eq!(rt; signed.records.as_slice().len(), 1);
-            }
-            _other => assert!(rt; false),
-        },
-        Incoming::Ignored(_) => assert!(rt; false),
-    }
+    let incoming = decode(rt.alloc(), &signed())?;
+    let counts = counts(&incoming);
+    drop(incoming);
+    assert!(rt; counts == Some((1, 1)));
     Ok(())
+}
+
+// Whether the message is written as these bytes, and how many fields it has.
+fn written(alloc: Global, incoming: &Incoming, bytes: &[u8]) -> Result<(bool, usize), Fault> {
+    match known(incoming) {
+        Some(message) => {
+            if !fits(message) {
+                return Ok((false, 0));
+            }
+            let again = encode(alloc, message)?;
+            let count = message.fields(alloc)?.len();
+            Ok((again.as_slice() == bytes, count))
+        }
+        None => Ok((false, 0)),
+    }
 }
 
 #[test]
 fn small_encode(rt: HostRuntime) -> Result<(), Fault> {
-    match decode(rt.alloc(), &signed())? {
-        Incoming::Known(message) => {
-            let bytes = encode(rt.alloc(), &message)?;
-            assert_eq!(rt; bytes.as_slice(), signed().as_slice());
-            assert_eq!(rt; message.fields(rt.alloc())?.len(), 3);
-        }
-        Incoming::Ignored(_) => assert!(rt; false),
-    }
+    let incoming = decode(rt.alloc(), &signed())?;
+    let written = written(rt.alloc(), &incoming, &signed());
+    drop(incoming);
+    assert!(rt; written? == (true, 3));
     Ok(())
 }
 
@@ -69,17 +84,37 @@ fn small_feed(rt: HostRuntime) -> Result<(), Fault> {
     Ok(())
 }
 
+// Whether it is an error of the channel whose id is 32 bytes 7, with this text.
+fn is_error(reply: &Option<Message>, text: &[u8]) -> bool {
+    match reply {
+        Some(message) => match error(message) {
+            Some(error) => error.channel_id == [7; 32] && error.bytes.as_slice() == text,
+            None => false,
+        },
+        None => false,
+    }
+}
+
 #[test]
 fn small_reply(rt: HostRuntime) -> Result<(), Refusal> {
-    match Refusal::OutOfPlace.reply(rt.alloc(), &[7; 32])? {
-        Some(message) => match message {
-            Message::Error(error) => {
-                assert_eq!(rt; error.channel_id, [7; 32]);
-                assert_eq!(rt; error.bytes.as_slice(), b"refused 21".as_slice());
-            }
-            _other => assert!(rt; false),
-        },
-        None => assert!(rt; false),
+    let reply = Refusal::OutOfPlace.reply(rt.alloc(), &[7; 32])?;
+    let is_so = is_error(&reply, b"refused 21");
+    drop(reply);
+    assert!(rt; is_so);
+    Ok(())
+}
+
+#[test]
+fn small_texts(rt: HostRuntime) -> Result<(), AllocError> {
+    for (refusal, text) in [
+        (Refusal::Truncated, "refused 1"),
+        (Refusal::UnknownChannel, "refused 20"),
+        (Refusal::PeerLimit(21), "refused 44 21"),
+        (Refusal::BadScript { line: 7 }, "refused 64 line 7"),
+        (Refusal::Version, "refused 71"),
+    ] {
+        let told = format!(in rt.alloc(); "{refusal}")?;
+        assert_eq!(rt; told.as_str(), text);
     }
     Ok(())
 }

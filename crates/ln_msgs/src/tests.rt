@@ -109,7 +109,9 @@ fn answered(
 }
 
 // What stands on the wire, what has to be written for it, and what is answered.
-fn rows(alloc: Global) -> Result<Vec<(Vec<u8>, Vec<u8>, Result<u64, Fault>)>, Fail> {
+type Row = (Vec<u8>, Vec<u8>, Result<u64, Fault>);
+
+fn rows(alloc: Global) -> Result<Vec<Row>, Fail> {
     let ping = PING.as_slice();
     let pong = PONG.as_slice();
     let mut rows = Vec::new(alloc);
@@ -178,23 +180,36 @@ fn long_pong(alloc: Global) -> Result<Vec<u8>, Fail> {
     Ok(bytes)
 }
 
+// Whether the row's input is answered so, all that is written is flushed, and no call fails.
+fn is_answered(alloc: Global, row: &Row, most: usize) -> Result<bool, Fail> {
+    let outcome = answered(alloc, &row.0, most, NEVER, NEVER)?;
+    Ok(
+        outcome.answer == row.2
+            && outcome.written.as_slice() == row.1.as_slice()
+            && outcome.flushed == outcome.written.len()
+            && outcome.failures == 0,
+    )
+}
+
 #[test]
 fn pongs_for_pings(rt: HostRuntime) -> Result<(), Fail> {
     let rows = rows(rt.alloc())?;
     for row in &rows {
         for most in [1, 3, usize::MAX] {
-            let outcome = answered(rt.alloc(), &row.0, most, NEVER, NEVER)?;
-            assert_eq!(rt; outcome.answer, row.2);
-            assert!(rt;
-                outcome.written.as_slice() == row.1.as_slice(),
-                "for {:?}",
-                row.0
-            );
-            assert_eq!(rt; outcome.flushed, outcome.written.len());
-            assert_eq!(rt; outcome.failures, 0);
+            assert!(rt; is_answered(rt.alloc(), row, most)?, "for {:?}", row.0);
         }
     }
     Ok(())
+}
+
+// The row behind a ping that is answered.
+fn behind_a_ping(alloc: Global, row: &Row) -> Result<Row, Fail> {
+    let mut input = Vec::from_slice(alloc, &PING)?;
+    input.extend_from_slice(&row.0)?;
+    let mut output = Vec::from_slice(alloc, &PONG)?;
+    output.extend_from_slice(&row.1)?;
+    let answer = row.2.map(|pongs| pongs.saturating_add(1));
+    Ok((input, output, answer))
 }
 
 // What is owed before a fault is written all the same.
@@ -202,14 +217,9 @@ fn pongs_for_pings(rt: HostRuntime) -> Result<(), Fail> {
 fn pongs_before_a_fault(rt: HostRuntime) -> Result<(), Fail> {
     let rows = rows(rt.alloc())?;
     for row in &rows {
-        let mut input = Vec::from_slice(rt.alloc(), &PING)?;
-        input.extend_from_slice(&row.0)?;
-        let mut output = Vec::from_slice(rt.alloc(), &PONG)?;
-        output.extend_from_slice(&row.1)?;
-        let outcome = answered(rt.alloc(), &input, usize::MAX, NEVER, NEVER)?;
-        assert_eq!(rt; outcome.answer, row.2.map(|pongs| pongs.saturating_add(1)));
+        let behind = behind_a_ping(rt.alloc(), row)?;
         assert!(rt;
-            outcome.written.as_slice() == output.as_slice(),
+            is_answered(rt.alloc(), &behind, usize::MAX)?,
             "for {:?}",
             row.0
         );
@@ -247,28 +257,36 @@ fn failing_calls(rt: HostRuntime) -> Result<(), Fail> {
     Ok(())
 }
 
+// A long pong and ten thousand short ones are asked for, and a message as long as one can be comes.
+fn ask_for_many(input: &mut Vec<u8>, output: &mut Vec<u8>, long: &[u8]) -> Result<(), Fail> {
+    input.extend_from_slice(&[0, 6, 0, 18, 0xff, 0xfb, 0, 0])?;
+    output.extend_from_slice(long)?;
+    for _ in 0..10_000 {
+        input.extend_from_slice(&PING)?;
+        output.extend_from_slice(&PONG)?;
+    }
+    input.extend_from_slice(&[0xff, 0xff, 0, 19, 0xff, 0xfb])?;
+    let len = input.len();
+    input.resize(len.saturating_add(65_531), 0)?;
+    Ok(())
+}
+
 // A stream that is longer than all that is held at once, with pongs that are longer than what may wait.
+fn long_row(alloc: Global) -> Result<Row, Fail> {
+    let long = long_pong(alloc)?;
+    let mut input = Vec::new(alloc);
+    let mut output = Vec::new(alloc);
+    for _ in 0..5 {
+        ask_for_many(&mut input, &mut output, &long)?;
+    }
+    Ok((input, output, Ok(50_005)))
+}
+
 #[test]
 fn long_streams(rt: HostRuntime) -> Result<(), Fail> {
-    let long = long_pong(rt.alloc())?;
-    let mut input = Vec::new(rt.alloc());
-    let mut output = Vec::new(rt.alloc());
-    for _ in 0..5 {
-        input.extend_from_slice(&[0, 6, 0, 18, 0xff, 0xfb, 0, 0])?;
-        output.extend_from_slice(&long)?;
-        for _ in 0..10_000 {
-            input.extend_from_slice(&PING)?;
-            output.extend_from_slice(&PONG)?;
-        }
-        // a pong as long as a message can be
-        input.extend_from_slice(&[0xff, 0xff, 0, 19, 0xff, 0xfb])?;
-        let len = input.len();
-        input.resize(len.saturating_add(65_531), 0)?;
-    }
+    let row = long_row(rt.alloc())?;
     for most in [7, 70_000, usize::MAX] {
-        let outcome = answered(rt.alloc(), &input, most, NEVER, NEVER)?;
-        assert_eq!(rt; outcome.answer, Ok(50_005));
-        assert!(rt; outcome.written.as_slice() == output.as_slice());
+        assert!(rt; is_answered(rt.alloc(), &row, most)?, "in pieces of {most}");
     }
     Ok(())
 }

@@ -1,12 +1,10 @@
-use Rattle.std.proofs.Common.{Ok, ◌≡◌, ◌≢◌, [], length, drop, ap, sym, subst, ◌∙◌, arith, rules}
-use Rattle.std.specs.Io.KnownBytes.{prepend_known}
-use Rattle.ln_msgs.specs.CountedView.{inner_of, failures_of}
+use Rattle.std.proofs.Common.{Ok, ◌≡◌, ◌≢◌, [], ap, sym, subst, ◌∙◌, arith}
 use Rattle.ln_bytes.specs.declared.fault.Fault.TheVariants.{Io}
 use Rattle.std.proofs.lemmas.Bool.{eqb-true}
 use Rattle.std.proofs.lemmas.List.{nil_from_length}
 use Rattle.ln_msgs.specs.Frame.{HasNoFrame}
 use Rattle.ln_msgs.specs.Served.{StopsAt}
-use Rattle.ln_msgs.proofs.Progress.{Progress, begins, turned, stops, sent_all, filled, anyhow, nothing_done, some_sent, some, up_to_faulty, up_to_cut, not_empty, all_answered}
+use Rattle.ln_msgs.proofs.Progress.{begins, turned, stops, sent_all, filled, anyhow, nothing_done, some_sent, some, up_to_faulty, up_to_cut, not_empty, all_answered}
 use Rattle.ln_msgs.proofs.answer.answer_pings.Goals as goal
 use Rattle.ln_msgs.proofs.answer.answer_pings.Goals.{in-Full, in-NoFrame+in_ok-fill-in-NoFrame+else-not-branch}
 

@@ -1,4 +1,4 @@
-use Rattle.std.proofs.Common.{Ok, Some, None, ap, sym, ◌∙◌, arith, append-nil, subst, rules}
+use Rattle.std.proofs.Common.{Ok, Some, None, ap, sym, ◌∙◌, arith, append-nil, subst}
 use Rattle.ln_msgs.specs.Frame.{IsFaulty}
 use Rattle.ln_msgs.proofs.Serving.{serves_none, serves_more, faulty_from, no_call_failed, left_is}
 use Rattle.ln_msgs.proofs.answer.serve.Goals as goal

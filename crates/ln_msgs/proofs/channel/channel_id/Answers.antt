@@ -1,4 +1,4 @@
-use Rattle.std.proofs.Common.{◌≡◌, ◌≢◌, ℕ, zero, suc, ◌+◌, List, [], ◌∷◌, ◌++◌, ◌/◌, ◌%◌, get_or, get_or-set_other, bit_xor, length, take, slice_set, refl, ap, ◌∙◌, arith, rules}
+use Rattle.std.proofs.Common.{◌≡◌, ℕ, zero, suc, ◌+◌, List, [], ◌∷◌, ◌++◌, ◌/◌, ◌%◌, get_or, get_or-set_other, bit_xor, length, take, slice_set, refl, ap, ◌∙◌, arith}
 use Rattle.ln_msgs.proofs.channel.channel_id.Goals as goal
 
 -- a write of the last two elements

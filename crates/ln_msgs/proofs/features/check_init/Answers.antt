@@ -1,5 +1,5 @@
-use Rattle.std.proofs.Common.{◌≡◌, ℕ, ◌%◌, List, false, IsTrue, refl, subst, inl, inr}
-use Rattle.ln_msgs.specs.Features.{HasFeature, AsksFor, is_listed, HasUnknown}
+use Rattle.std.proofs.Common.{◌≡◌, ℕ, ◌%◌, List, IsTrue, refl, subst, inl, inr}
+use Rattle.ln_msgs.specs.Features.{HasFeature, is_listed, HasUnknown}
 use Rattle.ln_msgs.specs.declared.setup.Init.{Init}
 use Rattle.ln_msgs.proofs.features.check_init.Goals as goal
 use Rattle.ln_msgs.proofs.features.check_init.Goals.{else-global_known-via-then-global_known+else-features_known, else-global_known-via-else-global_known}

@@ -1,6 +1,5 @@
-use Rattle.std.proofs.Common.{◌≡◌, ℕ, ◌+◌, ◌-◌, ◌*◌, ◌/◌, ◌%◌, ◌<◌, ◌≤◌, List, length, get_or, reverse, Bool, true, false, IsTrue, refl, sym, ap, subst, ◌∙◌, arith, rules, below_more}
-use Rattle.std.proofs.lemmas.List.{get_or-reverse, length-reverse, get_or_past}
-use Rattle.std.proofs.lemmas.Nat.Bits.{bit_at-zero}
+use Rattle.std.proofs.Common.{◌≡◌, ℕ, ◌+◌, ◌-◌, ◌*◌, ◌/◌, ◌%◌, ◌<◌, List, length, get_or, reverse, IsTrue, sym, ap, subst, ◌∙◌, arith, below_more}
+use Rattle.std.proofs.lemmas.List.{get_or-reverse}
 use Rattle.std.specs.Int.{bit_at}
 use Rattle.ln_msgs.specs.Features.{HasFeature, is_listed}
 use Rattle.ln_msgs.proofs.features.knows_all.Goals as goal

@@ -1,4 +1,3 @@
-use Rattle.std.proofs.Common.{◌++◌, ◌∷◌, []}
 use Rattle.std.proofs.lemmas.Result.{err_from_is_err_and}
 use Rattle.ln_msgs.specs.Field.{items_at}
 use Rattle.ln_msgs.proofs.Items.{goes_on, ends, is_done}

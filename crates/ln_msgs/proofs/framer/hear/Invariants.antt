@@ -1,5 +1,5 @@
 -- The frames so far say the messages so far, and the rest is left.
-use Rattle.std.proofs.Common.{◌≡◌, List, ◌++◌, length, map}
+use Rattle.std.proofs.Common.{length, map}
 use Rattle.ln_msgs.specs.Typed.{heard}
 use Rattle.ln_msgs.specs.Framer.{HearsSoFar}
 use Rattle.ln_msgs.proofs.framer.hear.Given as goal
