@@ -1,2 +1,3 @@
 pub mod Joined
 pub mod Packets
+pub mod Opening

@@ -37,8 +37,11 @@ filled_more done next fits =
     let more = length next in
     let zeros : List ℕ = replicate (1300 - length done) 0 in
     let left : 1300 - here - more ≡ 1300 - length (done ++ next) = omega (arith, length-append done next) in
-    ap (λ f. f ++ next ++ drop (here + more) (done ++ zeros)) (take_at done zeros here refl)
-    ∙ ap (λ d. done ++ next ++ d) (sym (drop-drop more here (done ++ zeros)) ∙ ap (drop more) (drop_at done zeros here refl) ∙ drop-replicate more (1300 - here) 0 ∙ ap (λ k. replicate k 0) left)
+    let front : take here (done ++ zeros) ≡ done = take_at done zeros here refl in
+    let behind : drop here (done ++ zeros) ≡ zeros = drop_at done zeros here refl in
+    let apart : drop more (drop here (done ++ zeros)) ≡ drop (here + more) (done ++ zeros) = drop-drop more here (done ++ zeros) in
+    let fewer : drop more zeros ≡ replicate (1300 - here - more) 0 = drop-replicate more (1300 - here) 0 in
+    rw (front, sym apart, behind, fewer, left) refl
 
 pub placed : (done next room new : List ℕ) (at end : ℕ) → at ≡ length done → room ≡ filled done → end ≡ at + length next → end ≤ 1300 → new ≡ take at room ++ next ++ drop end room → new ≡ filled (done ++ next)
 placed done next room new at end ea er ee fits en =

@@ -76,3 +76,11 @@ unless None hop = hop
 abbrev pub toy_opened : List ℕ → List ℕ → Result Opened OpenFault
 toy_opened onion hash =
     unless (packet_fault onion hash) (hop_behind (bigsize_at (onion_payloads onion)) (onion_payloads onion) hash)
+
+-- ---- what was made is opened
+
+-- The onion that goes on with these payloads: none where no payload is left, or the next one is empty, as its
+-- length is then the zero that ends an onion.
+abbrev pub passed_on : List (List ℕ) → List ℕ → Option (List ℕ)
+passed_on [] hash = None
+passed_on (payload ∷ payloads) hash = if (length payload == 0) then None else toy_made (payload ∷ payloads) hash

@@ -99,6 +99,36 @@ fn makes_an_onion(rt: HostRuntime) -> Result<(), Fail> {
 }
 
 #[test]
+fn opens_what_it_made(rt: HostRuntime) -> Result<(), Fail> {
+    ToyOnion::opened_again();
+    let payloads = [
+        bytes_of(rt.alloc(), &[1, 2, 3])?,
+        bytes_of(rt.alloc(), &[4, 5])?,
+        bytes_of(rt.alloc(), &[])?,
+    ];
+    let Some(onion) = ToyOnion::make(&payloads, &HASH) else {
+        return Err("it fits".into());
+    };
+    let Ok(first) = ToyOnion.open(rt.alloc(), &onion, &HASH) else {
+        return Err("the first hop opens it".into());
+    };
+    let Opened { payload, next } = first;
+    assert_eq!(rt; payload.as_slice(), [1, 2, 3].as_slice());
+    let Some(next) = next else {
+        return Err("there is a next hop".into());
+    };
+    let mut passed = [0; 1366];
+    assert_eq!(rt; next.len(), 1366);
+    passed.copy_from_slice(next.as_slice());
+    let Ok(second) = ToyOnion.open(rt.alloc(), &passed, &HASH) else {
+        return Err("the second hop opens it".into());
+    };
+    assert_eq!(rt; second.payload.as_slice(), [4, 5].as_slice());
+    assert!(rt; second.next.is_none());
+    Ok(())
+}
+
+#[test]
 fn makes_an_onion_that_is_full(rt: HostRuntime) -> Result<(), Fail> {
     let mut full = [9; 1300];
     full[..3].copy_from_slice(&[0xfd, 5, 17]);

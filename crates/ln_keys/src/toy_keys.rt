@@ -1,6 +1,6 @@
 //! Keys for tests. They are not secure: who knows a tag signs for it.
 
-ghost use Rattle.std.specs.Prelude.{◌≡◌, ◌++◌, ◌∷◌, ℕ, List, length, replicate, Ok, IfOk, IfErr};
+ghost use Rattle.std.specs.Prelude.{◌≡◌, ◌++◌, ℕ, List, replicate, Ok, IfOk, IfErr};
 ghost use Rattle.std.specs.List.{list_all, flat_map};
 ghost use Rattle.ln_keys.specs.Partners.{ArePartners};
 ghost use Rattle.ln_keys.specs.Toy.{toy_secret, toy_point, toy_signature, toy_htlc_signatures, toy_close_signature, toy_accepts, toy_fits, toy_accepts_close, htlc_bytes, view_head, view_bytes, owner_byte, are_all, are_same, AreCrossed};

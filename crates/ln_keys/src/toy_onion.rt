@@ -1,10 +1,10 @@
 //! Onions for tests. They are not secure: each payload stands open in its place.
 
-ghost use Rattle.std.specs.Prelude.{◌≡◌, ◌+◌, ◌-◌, ◌≤◌, ◌<◌, ◌++◌, ◌∷◌, ◌⊎◌, ℕ, List, length, take, drop, replicate, Ok, Err, None, Some, IfOk, IfErr, IfSome, IfNone, MatchOption};
+ghost use Rattle.std.specs.Prelude.{◌≡◌, ◌+◌, ◌-◌, ◌≤◌, ◌<◌, ◌++◌, ◌∷◌, ◌⊎◌, ℕ, List, length, take, drop, Ok, Err, None, Some, IfOk, IfErr, IfSome, IfNone};
 ghost use Rattle.ln_bytes.specs.Bigsize.{bigsize_at};
 ghost use Rattle.ln_keys.specs.Onion.{onion_key, onion_payloads, onion_hmac};
 ghost use Rattle.ln_keys.specs.Toy.{are_same};
-ghost use Rattle.ln_keys.specs.ToyOnion.{toy_key, toy_hmac, filled, toy_packet, with_length, toy_made, next_packet, hop_of, hop_behind, packet_fault, toy_opened};
+ghost use Rattle.ln_keys.specs.ToyOnion.{toy_key, toy_hmac, filled, with_length, toy_made, passed_on, next_packet, hop_of, hop_behind, packet_fault, toy_opened};
 
 use crate::onion::{Onion, OpenFault, Opened};
 use ln_bytes::{Bytes, read_bigsize, write_bigsize};
@@ -217,4 +217,10 @@ impl ToyOnion {
         }
         Some(packed(&room, hash))
     }
+
+    /// A law: an onion that was made is opened again, under the same payment hash. The first hop finds the
+    /// first payload, and passes on the onion that would be made of the others.
+    pub fn opened_again()
+        ensures { (payload : List ℕ) (payloads : List (List ℕ)) (hash onion : List ℕ) → 0 < length payload → toy_made (payload ∷ payloads) hash ≡ Some onion → toy_opened onion hash ≡ Ok (record { payload = payload; next = passed_on payloads hash }) }
+    {}
 }
