@@ -1,16 +1,19 @@
 -- What every step keeps, for one direction at a time: x signs, and y receives.
 use Rattle.std.proofs.Common.{◌≡◌, ◌⊎◌, inl, inr, ℕ, zero, suc, ◌+◌, ◌≤◌, List, [], ◌∷◌, ◌++◌, length, take, drop, None, refl, sym, ap, ◌∙◌, subst, arith, append_assoc, append-nil, length-append}
-use Rattle.std.proofs.lemmas.List.{take-append-le, take-append-drop, take-take}
+use Rattle.std.proofs.lemmas.List.{take-append-le, take-append-drop, take-take, map-append}
+use Rattle.ln_log.specs.declared.update.Add.{Add}
 use Rattle.ln_log.specs.declared.update.Update.{Update}
+use Rattle.ln_log.specs.declared.update.Update.TheVariants as update
 use Rattle.ln_keys.specs.Role.{other_role}
-use Rattle.ln_log.specs.Limits.{update_fault, taken_fault, HasNextId}
+use Rattle.ln_log.specs.Updates.{as_sent, all_sent, next_id}
 use Rattle.ln_log.specs.Lists.{Begins}
 use Rattle.ln_log.specs.Machine.{Follows}
-use Rattle.ln_log.specs.Log.{Counts, Log, party_of, IsWithin, proposed, received, signed_all, accepted_all, acknowledged_all}
+use Rattle.ln_log.specs.Log.{Counts, Log, party_of, IsWithin, proposal_fault, proposed, received, signed_all, accepted_all, acknowledged_all}
 use Rattle.ln_world.specs.declared.message.Message.{Message}
 use Rattle.ln_world.specs.declared.message.Message.TheVariants as message
 use Rattle.ln_world.specs.Ends.{EndState, Both, sends}
-use Rattle.ln_world.proofs.Flight.{ups, sigs, revs, Arrives, last_ack, AllFit, ups-append, sigs-append, revs-append, arrives-push, arrives_unsigned, arrives_unrevoked, last_unrevoked, last_revoked, fits-push, fits-sign, fits-revoke, taken_same, taken_none}
+use Rattle.ln_world.proofs.Adds.{AreAdds, adds-push, adds-front, adds-take}
+use Rattle.ln_world.proofs.Flight.{ups, sigs, revs, Arrives, last_ack, AllFit, add_taken, allowed, ups-append, sigs-append, revs-append, arrives-push, arrives_unsigned, arrives_unrevoked, last_unrevoked, last_revoked, fits-push, fits-sign, fits-revoke, taken_same, taken_none}
 
 -- how far a signature of x is: with s of its signatures on the way to y, and r of y's revocations on the
 -- way back; current is that of y
@@ -29,6 +32,7 @@ pub record Flows (x y : EndState) : Type 0 where
   pub roles : other_role y.log.role ≡ x.log.role
   pub within : IsWithin x.log
   pub lists : y.log.got ++ ups y.inbox ≡ x.log.own
+  pub adds : AreAdds x.log.own
   pub arrives : Arrives x.log.signed (length y.log.got) y.log.acknowledged.own y.log.signed.own y.inbox
   pub fits : AllFit x.log.opening x.log.role y.log.got y.inbox
   pub phase : Phase (sigs y.inbox) (revs x.inbox) x.log.acknowledged x.log.signed y.log.current
@@ -36,6 +40,10 @@ pub record Flows (x y : EndState) : Type 0 where
 pub record Kept (b : Both) : Type 0 where
   pub there : Flows b.x b.y
   pub back : Flows b.y b.x
+
+-- what y took of x's are adds too
+pub got_adds : (x y : EndState) → Flows x y → AreAdds y.log.got
+got_adds x y f = adds-front y.log.got (ups y.inbox) (subst AreAdds (sym f.lists) f.adds)
 
 -- ---- the counts stay within the lists
 
@@ -56,22 +64,26 @@ within_acknowledged l w = record { own_current = omega (arith, w.own_current, w.
 
 -- ---- x proposes
 
-pub offered : (b : Both) (u : Update) → Kept b → HasNextId b.x.log.own u → update_fault b.x.log.opening b.x.log.role b.x.log.own (take b.x.log.current.peer b.x.log.got) u ≡ None
-    → Kept (sends (message.Update u) (record { x = record b.x { log = proposed u b.x.log }; y = b.y }))
-offered b u k next none =
+pub offered : (b : Both) (a : Add) → Kept b → a.origin ≡ None → a.id ≡ next_id b.x.log.own → proposal_fault b.x.log (update.Add a) ≡ None
+    → Kept (sends (message.Add a) (record { x = record b.x { log = proposed (update.Add a) b.x.log }; y = b.y }))
+offered b a k plain next none =
     let f = k.there in
     let g = k.back in
-    let s : sigs b.y.inbox ≡ sigs (b.y.inbox ++ message.Update u ∷ []) = omega (arith, sigs-append b.y.inbox (message.Update u ∷ [])) in
-    let r : revs b.y.inbox ≡ revs (b.y.inbox ++ message.Update u ∷ []) = omega (arith, revs-append b.y.inbox (message.Update u ∷ [])) in
-    let taken : taken_fault b.x.log.opening b.x.log.role b.x.log.own [] u ≡ None = taken_same b.x.log.opening b.x.log.role b.x.log.own [] (take b.x.log.current.peer b.x.log.got) u ∙ taken_none b.x.log.opening b.x.log.role b.x.log.own (take b.x.log.current.peer b.x.log.got) u next none in
+    let u = update.Add a in
+    let may = allowed b.x.log a none in
+    let seen : AreAdds (take b.x.log.current.peer b.x.log.got) = adds-take b.x.log.current.peer b.x.log.got (got_adds b.y b.x g) in
+    let s : sigs b.y.inbox ≡ sigs (b.y.inbox ++ message.Add a ∷ []) = omega (arith, sigs-append b.y.inbox (message.Add a ∷ [])) in
+    let r : revs b.y.inbox ≡ revs (b.y.inbox ++ message.Add a ∷ []) = omega (arith, revs-append b.y.inbox (message.Add a ∷ [])) in
+    let taken : add_taken b.x.log.opening b.x.log.role b.x.log.own [] a ≡ None = taken_same b.x.log.opening b.x.log.role b.x.log.own [] (take b.x.log.current.peer b.x.log.got) a f.adds tt seen ∙ taken_none b.x.log.opening b.x.log.role b.x.log.own (take b.x.log.current.peer b.x.log.got) a next may.0 may.1 in
     record {
       there = record {
         same = f.same;
         roles = f.roles;
         within = within_proposed b.x.log u f.within;
-        lists = ap (λ us. b.y.log.got ++ us) (ups-append b.y.inbox (message.Update u ∷ [])) ∙ sym (append_assoc b.y.log.got (ups b.y.inbox) (u ∷ [])) ∙ ap (λ us. us ++ u ∷ []) f.lists;
-        arrives = arrives-push b.x.log.signed (length b.y.log.got) b.y.log.acknowledged.own b.y.log.signed.own b.y.inbox (message.Update u) f.arrives tt;
-        fits = fits-push b.x.log.opening b.x.log.role b.y.log.got b.y.inbox u f.fits (subst (λ us. taken_fault b.x.log.opening b.x.log.role us [] u ≡ None) (sym f.lists) taken);
+        lists = ap (λ us. b.y.log.got ++ us) (ups-append b.y.inbox (message.Add a ∷ [])) ∙ sym (append_assoc b.y.log.got (ups b.y.inbox) (u ∷ [])) ∙ ap (λ us. us ++ u ∷ []) f.lists;
+        adds = adds-push b.x.log.own u f.adds plain;
+        arrives = arrives-push b.x.log.signed (length b.y.log.got) b.y.log.acknowledged.own b.y.log.signed.own b.y.inbox (message.Add a) f.arrives tt;
+        fits = fits-push b.x.log.opening b.x.log.role b.y.log.got b.y.inbox a f.fits (subst (λ us. add_taken b.x.log.opening b.x.log.role us [] a ≡ None) (sym f.lists) taken);
         phase = subst (λ n. Phase n (revs b.x.inbox) b.x.log.acknowledged b.x.log.signed b.y.log.current) s f.phase;
       };
       back = record {
@@ -79,6 +91,7 @@ offered b u k next none =
         roles = g.roles;
         within = g.within;
         lists = g.lists;
+        adds = g.adds;
         arrives = g.arrives;
         fits = g.fits;
         phase = subst (λ n. Phase (sigs b.x.inbox) n b.y.log.acknowledged b.y.log.signed b.x.log.current) r g.phase;
@@ -120,6 +133,7 @@ signed b n k h own peer new =
         roles = f.roles;
         within = within_signed b.x.log f.within;
         lists = ap (λ us. b.y.log.got ++ us) (ups-append b.y.inbox (message.Sign n ∷ []) ∙ append-nil (ups b.y.inbox)) ∙ f.lists;
+        adds = f.adds;
         arrives = arrives-push (signed_all b.x.log).signed (length b.y.log.got) b.y.log.acknowledged.own b.y.log.signed.own b.y.inbox (message.Sign n) (arrives_unsigned (signed_all b.x.log).signed (length b.y.log.got) b.y.log.acknowledged.own b.y.log.signed.own b.y.inbox unsigned) (all, last, tt);
         fits = fits-sign b.x.log.opening b.x.log.role b.y.log.got b.y.inbox n f.fits;
         phase = record {
@@ -138,6 +152,7 @@ signed b n k h own peer new =
         roles = g.roles;
         within = g.within;
         lists = g.lists;
+        adds = g.adds;
         arrives = arrives_unrevoked b.y.log.signed (length b.x.log.got) b.x.log.acknowledged.own b.x.log.signed.own (length b.x.log.own) b.x.inbox unrevoked g.arrives;
         fits = g.fits;
         phase = subst (λ m. Phase (sigs b.x.inbox) m b.y.log.acknowledged b.y.log.signed b.x.log.current) r g.phase;
@@ -146,17 +161,19 @@ signed b n k h own peer new =
 
 -- ---- x takes what is in front
 
-pub took_update : (x y : EndState) (u : Update) (ms : List Message) → Kept (record { x = record x { inbox = message.Update u ∷ ms }; y = y }) → Kept (record { x = record x { inbox = ms; log = received u x.log }; y = y })
-took_update x y u ms k =
+pub took_add : (x y : EndState) (a : Add) (ms : List Message) → Kept (record { x = record x { inbox = message.Add a ∷ ms }; y = y }) → Kept (record { x = record x { inbox = ms; log = received (update.Add a) x.log }; y = y })
+took_add x y a ms k =
     let f = k.there in
     let g = k.back in
+    let u = update.Add a in
     record {
-      there = record { same = f.same; roles = f.roles; within = within_received x.log u f.within; lists = f.lists; arrives = f.arrives; fits = f.fits; phase = f.phase };
+      there = record { same = f.same; roles = f.roles; within = within_received x.log u f.within; lists = f.lists; adds = f.adds; arrives = f.arrives; fits = f.fits; phase = f.phase };
       back = record {
         same = g.same;
         roles = g.roles;
         within = g.within;
         lists = append_assoc x.log.got (u ∷ []) (ups ms) ∙ g.lists;
+        adds = g.adds;
         arrives = subst (λ n. Arrives y.log.signed n x.log.acknowledged.own x.log.signed.own ms) (sym (length-append x.log.got (u ∷ []))) g.arrives;
         fits = g.fits.1;
         phase = g.phase;
@@ -179,6 +196,7 @@ took_signature x y k m n ms h =
         roles = f.roles;
         within = within_accepted x.log f.within;
         lists = ap (λ us. y.log.got ++ us) (ups-append y.inbox (message.Revoke m ∷ []) ∙ append-nil (ups y.inbox)) ∙ f.lists;
+        adds = f.adds;
         arrives = arrives-push x.log.signed (length y.log.got) y.log.acknowledged.own y.log.signed.own y.inbox (message.Revoke m) f.arrives tt;
         fits = fits-revoke x.log.opening x.log.role y.log.got y.inbox m f.fits;
         phase = subst (λ c. Phase c (revs ms) x.log.acknowledged x.log.signed y.log.current) s f.phase;
@@ -188,6 +206,7 @@ took_signature x y k m n ms h =
         roles = g.roles;
         within = g.within;
         lists = g.lists;
+        adds = g.adds;
         arrives = g.arrives.2;
         fits = g.fits;
         phase = record {
@@ -216,6 +235,7 @@ took_revocation x y k ms h =
         roles = f.roles;
         within = within_acknowledged x.log f.within;
         lists = f.lists;
+        adds = f.adds;
         arrives = f.arrives;
         fits = f.fits;
         phase = record {
@@ -229,7 +249,7 @@ took_revocation x y k ms h =
           after_peer = p.after_peer;
         };
       };
-      back = record { same = g.same; roles = g.roles; within = g.within; lists = g.lists; arrives = g.arrives; fits = g.fits; phase = g.phase };
+      back = record { same = g.same; roles = g.roles; within = g.within; lists = g.lists; adds = g.adds; arrives = g.arrives; fits = g.fits; phase = g.phase };
     }
 
 -- ---- what follows: held begins covered
@@ -251,6 +271,9 @@ below : (s r a b c : ℕ) → s + r ≤ 1 → (s ≡ 1 → c ≡ a) → (s ≡ 0
 below s r a b c one before after le =
     elim (zero_or s) [ inl g ↦ omega (arith, after g) | inr g ↦ (let is : s ≡ 1 = omega arith in omega (arith, le, before is)) ]
 
+sent_begins : (p q : List Update) → Begins p q → Begins (all_sent p) (all_sent q)
+sent_begins p q b = (all_sent b.0, sym (map-append as_sent p b.0) ∙ ap all_sent b.1)
+
 pub follows_from : (x y : EndState) → Flows x y → Flows y x → Follows (party_of x.log) (party_of y.log)
 follows_from x y f g =
     let p = f.phase in
@@ -258,7 +281,7 @@ follows_from x y f g =
     let peer : y.log.current.own ≤ x.log.signed.peer = below (sigs y.inbox) (revs x.inbox) x.log.acknowledged.peer x.log.signed.peer y.log.current.own p.one p.before_peer p.after_peer f.within.peer_acknowledged in
     let w = g.within in
     record {
-      of_x = begins_sent y.log.acknowledged.peer x.log.signed.own y.log.got (ups y.inbox) x.log.own f.lists (omega (arith, w.peer_acknowledged, w.peer_signed, w.peer_current)) (omega (arith, w.peer_acknowledged, w.peer_signed, own));
-      of_y = begins_taken y.log.current.own x.log.signed.peer x.log.got (ups x.inbox) y.log.own g.lists (omega (arith, peer, f.within.peer_signed, f.within.peer_current)) peer;
-      in_order = begins_all y.log.acknowledged.peer y.log.got (ups y.inbox) x.log.own f.lists;
+      of_x = sent_begins (take y.log.acknowledged.peer y.log.got) (take x.log.signed.own x.log.own) (begins_sent y.log.acknowledged.peer x.log.signed.own y.log.got (ups y.inbox) x.log.own f.lists (omega (arith, w.peer_acknowledged, w.peer_signed, w.peer_current)) (omega (arith, w.peer_acknowledged, w.peer_signed, own)));
+      of_y = sent_begins (take y.log.current.own y.log.own) (take x.log.signed.peer x.log.got) (begins_taken y.log.current.own x.log.signed.peer x.log.got (ups x.inbox) y.log.own g.lists (omega (arith, peer, f.within.peer_signed, f.within.peer_current)) peer);
+      in_order = sent_begins (take y.log.acknowledged.peer y.log.got) x.log.own (begins_all y.log.acknowledged.peer y.log.got (ups y.inbox) x.log.own f.lists);
     }

@@ -1,3 +1,4 @@
+pub mod Adds
 pub mod Flight
 pub mod Flow
 pub mod Steps

@@ -1,12 +1,14 @@
 -- Over all lists of steps.
 use Rattle.ln_log.specs.Machine.{MaySign, Covered, party, IsSettled, Machine, Move, Open, IsRun, after}
-use Rattle.std.proofs.Common.{◌↔◌, length, append-nil, ap, ◌≤◌, ◌≡◌, List, [], ◌∷◌, ◌++◌, Option, Some, None, Bool, true, false, cond, not, ◌&&◌, refl, sym, ◌∙◌, subst, arith}
+use Rattle.std.proofs.Common.{◌↔◌, ℕ, length, take, append-nil, ap, ◌≤◌, ◌≡◌, List, [], ◌∷◌, ◌++◌, Option, Some, None, Bool, true, false, cond, not, ◌&&◌, refl, sym, ◌∙◌, subst, arith}
 use Rattle.ln_world.specs.World.{end_of, side_of, acts_at, may_open, opened_by, same_node, happens, run, machine_of_channel, machine_of, act_moves, moves_at, moves_of, moves, Promises, SignsExactly, TakesFront, NoneRefused, HoldsAll, Agrees}
 use Rattle.ln_world.proofs.Flow.{Flows, Kept, Phase, follows_from}
 use Rattle.ln_keys.specs.declared.role.Role.{Role}
 use Rattle.ln_keys.specs.declared.role.Role.TheVariants.{Funder, Fundee}
 use Rattle.ln_log.specs.declared.opening.Opening.{Opening}
+use Rattle.ln_log.specs.declared.update.Update.{Update}
 use Rattle.ln_log.specs.Opening.{IsFit, is_fit}
+use Rattle.ln_log.specs.Updates.{as_sent, all_sent}
 use Rattle.ln_log.specs.Log.{Log, party_of, IsWithin, opened, none, sign_fault}
 use Rattle.ln_world.specs.declared.channel.Channel.{Channel}
 use Rattle.ln_world.specs.declared.step.Ready.{Ready}
@@ -16,8 +18,8 @@ use Rattle.ln_world.specs.declared.step.Step.TheVariants as step
 use Rattle.ln_world.specs.Ends.{EndState, Both, acts, fresh_end}
 use Rattle.ln_world.proofs.Steps.{place, acts_kept, acts_same, acts_run, front_fits}
 use Rattle.ln_world.proofs.Flight.{ups, sigs}
-use Rattle.ln_log.proofs.Logs.{exactly}
-use Rattle.std.proofs.lemmas.List.{length-take-le, take_all}
+use Rattle.ln_log.proofs.Signs.{exactly}
+use Rattle.std.proofs.lemmas.List.{length-map, length-take-le, take_all}
 use Rattle.ln_log.proofs.Fits.{fit_is}
 
 pub record ChannelKept (c : Channel) : Type 0 where
@@ -47,7 +49,7 @@ acts_at_run (Some Funder) a c k =
     let b : Both = record { x = c.funder; y = c.fundee } in
     let d = acts a b in
     let o = c.funder.log.opening in
-    let T : Role → Opening → Type 0 = λ r p. IsRun (act_moves r o a c.funder) (Some (place r o (party_of c.funder.log) (party_of c.fundee.log))) (Some (place r p (party_of d.x.log) (party_of d.y.log))) in
+    let T : Role → Opening → Type 0 = λ r p. IsRun (act_moves r a c.funder) (Some (place r o (party_of c.funder.log) (party_of c.fundee.log))) (Some (place r p (party_of d.x.log) (party_of d.y.log))) in
     let P : Role → Type 0 = λ r. T r o in
     let h : T c.funder.log.role o = acts_run a b k.kept in
     let i : T Funder o = subst P k.funder_role h in
@@ -55,7 +57,7 @@ acts_at_run (Some Funder) a c k =
 acts_at_run (Some Fundee) a c k =
     let b : Both = record { x = c.fundee; y = c.funder } in
     let d = acts a b in
-    let T : Role → Opening → Opening → Type 0 = λ r o p. IsRun (act_moves r o a c.fundee) (Some (place r o (party_of c.fundee.log) (party_of c.funder.log))) (Some (place r p (party_of d.x.log) (party_of d.y.log))) in
+    let T : Role → Opening → Opening → Type 0 = λ r o p. IsRun (act_moves r a c.fundee) (Some (place r o (party_of c.fundee.log) (party_of c.funder.log))) (Some (place r p (party_of d.x.log) (party_of d.y.log))) in
     let P : Role → Type 0 = λ r. T r c.fundee.log.opening c.fundee.log.opening in
     let Q : Opening → Type 0 = λ o. T Fundee o o in
     let h : T c.fundee.log.role c.fundee.log.opening c.fundee.log.opening = acts_run a b (swapped c.funder c.fundee k.kept) in
@@ -73,8 +75,8 @@ fresh_phase = record { one = omega arith; idle_own = λ e. refl; idle_peer = λ 
 
 fresh_flows : (o : Opening) → Kept (record { x = fresh_end o Funder; y = fresh_end o Fundee })
 fresh_flows o = record {
-  there = record { same = refl; roles = refl; within = fresh_within o Funder; lists = refl; arrives = tt; fits = tt; phase = fresh_phase };
-  back = record { same = refl; roles = refl; within = fresh_within o Fundee; lists = refl; arrives = tt; fits = tt; phase = fresh_phase };
+  there = record { same = refl; roles = refl; within = fresh_within o Funder; lists = refl; adds = tt; arrives = tt; fits = tt; phase = fresh_phase };
+  back = record { same = refl; roles = refl; within = fresh_within o Fundee; lists = refl; adds = tt; arrives = tt; fits = tt; phase = fresh_phase };
 }
 
 opened_kept : (r : Ready) → ChannelKept (opened_by r)
@@ -139,8 +141,8 @@ signs_side Funder c k = exactly c.funder.log k.kept.there.within
 signs_side Fundee c k = exactly c.fundee.log k.kept.back.within
 
 front_side : (x : Role) (c : Channel) → ChannelKept c → TakesFront (end_of x c).log (end_of x c).inbox
-front_side Funder c k = front_fits c.funder c.fundee c.funder.inbox k.kept.back
-front_side Fundee c k = front_fits c.fundee c.funder c.fundee.inbox k.kept.there
+front_side Funder c k = front_fits c.funder c.fundee c.funder.inbox k.kept
+front_side Fundee c k = front_fits c.fundee c.funder c.fundee.inbox (swapped c.funder c.fundee k.kept)
 
 signs_at : (c : Option Channel) → AreKept c → SignsExactly c
 signs_at None k = tt
@@ -156,16 +158,19 @@ signs_law ss = signs_at (run ss None) (kept_on ss None tt)
 pub refused_law : (ss : List Step) → NoneRefused (run ss None)
 refused_law ss = none_refused (run ss None) (kept_on ss None tt)
 
+sent_length : (n : ℕ) (us : List Update) → n ≤ length us → length (all_sent (take n us)) ≡ n
+sent_length n us le = length-map (take n us) as_sent ∙ length-take-le n us le
+
 -- at rest, by the counts
 settled_counts : (l : Log) → IsWithin l → IsSettled (party_of l) → (l.signed.own ≡ length l.own) × (l.signed.peer ≡ l.current.peer) × (l.acknowledged.own ≡ l.signed.own) × (l.acknowledged.peer ≡ l.signed.peer)
 settled_counts l w s =
-    let so : l.signed.own ≡ length l.own = sym (length-take-le l.signed.own l.own w.own_signed) ∙ ap (λ (v : Covered). length v.own) s.covered in
+    let so : l.signed.own ≡ length l.own = sym (sent_length l.signed.own l.own w.own_signed) ∙ ap (λ (v : Covered). length v.own) s.covered ∙ length-map l.own as_sent in
     let lp : l.signed.peer ≤ length l.got = omega (arith, w.peer_signed, w.peer_current) in
-    let sp : l.signed.peer ≡ l.current.peer = sym (length-take-le l.signed.peer l.got lp) ∙ ap (λ (v : Covered). length v.peer) s.covered ∙ length-take-le l.current.peer l.got w.peer_current in
+    let sp : l.signed.peer ≡ l.current.peer = sym (sent_length l.signed.peer l.got lp) ∙ ap (λ (v : Covered). length v.peer) s.covered ∙ sent_length l.current.peer l.got w.peer_current in
     let lo : l.acknowledged.own ≤ length l.own = omega (arith, w.own_acknowledged, w.own_signed) in
     let la : l.acknowledged.peer ≤ length l.got = omega (arith, w.peer_acknowledged, w.peer_signed, w.peer_current) in
-    let ao : l.acknowledged.own ≡ l.signed.own = sym (length-take-le l.acknowledged.own l.own lo) ∙ ap (λ (v : Covered). length v.own) s.revoked ∙ length-take-le l.signed.own l.own w.own_signed in
-    let pa : l.acknowledged.peer ≡ l.signed.peer = sym (length-take-le l.acknowledged.peer l.got la) ∙ ap (λ (v : Covered). length v.peer) s.revoked ∙ length-take-le l.signed.peer l.got lp in
+    let ao : l.acknowledged.own ≡ l.signed.own = sym (sent_length l.acknowledged.own l.own lo) ∙ ap (λ (v : Covered). length v.own) s.revoked ∙ sent_length l.signed.own l.own w.own_signed in
+    let pa : l.acknowledged.peer ≡ l.signed.peer = sym (sent_length l.acknowledged.peer l.got la) ∙ ap (λ (v : Covered). length v.peer) s.revoked ∙ sent_length l.signed.peer l.got lp in
     (so, sp, ao, pa)
 
 -- y has taken all of x's updates, and x all of y's
@@ -184,8 +189,8 @@ holds_all x y f g ex ey sx sy =
     let a : length x.log.own ≤ x.log.current.own = omega (arith, own, all_own, cx.0, cy.1) in
     let b : length x.log.got ≤ x.log.acknowledged.peer = omega (arith, peer, cx.3, cx.1, cy.0, ap length got) in
     record {
-      own = take_all x.log.current.own x.log.own a;
-      peer = take_all x.log.acknowledged.peer x.log.got b ∙ got;
+      own = ap all_sent (take_all x.log.current.own x.log.own a);
+      peer = ap all_sent (take_all x.log.acknowledged.peer x.log.got b ∙ got);
     }
 
 agrees : (c : Option Channel) → AreKept c → Agrees c

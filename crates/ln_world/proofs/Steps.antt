@@ -1,62 +1,62 @@
 -- What an end does keeps the flows, and is the moves of the machine that the table says.
 use Rattle.ln_world.specs.World.{TakesFront, taken_moves, act_moves}
-use Rattle.std.proofs.Common.{◌≡◌, ℕ, ◌+◌, ◌≤◌, List, [], ◌∷◌, ◌++◌, length, take, Option, Some, None, false, cond, refl, sym, ap, ◌∙◌, subst, arith, option_map, is_none}
-use Rattle.std.proofs.lemmas.List.{take-append-le, take_all}
+use Rattle.std.proofs.Common.{◌≡◌, ℕ, ◌+◌, ◌≤◌, List, [], ◌∷◌, ◌++◌, length, take, Option, Some, None, false, cond, refl, sym, ap, ◌∙◌, subst, arith, is_none}
+use Rattle.std.proofs.lemmas.List.{take-append-le, take_all, map-append}
 use Rattle.ln_msgs.specs.declared.refusal.Refusal.{Refusal}
-use Rattle.ln_msgs.specs.declared.refusal.Refusal.TheVariants as refusal
-use Rattle.ln_msgs.specs.Refusal.{refusal_number}
 use Rattle.ln_keys.specs.declared.role.Role.{Role}
 use Rattle.ln_keys.specs.declared.role.Role.TheVariants.{Funder, Fundee}
 use Rattle.ln_log.specs.declared.opening.Opening.{Opening}
+use Rattle.ln_log.specs.declared.update.Add.{Add}
 use Rattle.ln_log.specs.declared.update.Update.{Update}
+use Rattle.ln_log.specs.declared.update.Update.TheVariants as update
 use Rattle.ln_keys.specs.Role.{other_role}
-use Rattle.ln_log.specs.Limits.{update_fault, taken_fault}
+use Rattle.ln_log.specs.Updates.{next_id, as_sent, all_sent}
+use Rattle.ln_log.specs.Limits.{update_fault}
 use Rattle.ln_log.specs.Machine.{Party, Machine, Move, Propose, Sign, Accept, Learn, MayPropose, MaySign, IsRun, proposes, signs, accepts, learns}
-use Rattle.ln_log.specs.Log.{Log, party_of, IsWithin, proposed, received, signed_all, accepted_all, acknowledged_all, sign_fault}
-use Rattle.ln_log.proofs.Logs.{sign_allowed, exactly}
+use Rattle.ln_log.specs.Log.{Log, party_of, IsWithin, proposed, received, signed_all, accepted_all, acknowledged_all, sign_fault, taken_fault}
+use Rattle.ln_log.proofs.Signs.{sign_allowed, exactly}
 use Rattle.ln_world.specs.declared.message.Message.{Message}
 use Rattle.ln_world.specs.declared.message.Message.TheVariants as message
 use Rattle.ln_world.specs.declared.step.Command.TheVariants as command
 use Rattle.ln_world.specs.declared.step.Act.{Act}
 use Rattle.ln_world.specs.declared.step.Act.TheVariants as act
 use Rattle.ln_world.specs.Ends.{EndState, Both, sends, add_of, offer_fault, delivers, acts}
-use Rattle.ln_world.proofs.Flight.{ups, sigs, revs, taken_same}
-use Rattle.ln_world.proofs.Flow.{Flows, Kept, offered, signed, took_update, took_signature, took_revocation}
+use Rattle.ln_world.proofs.Adds.{AreAdds, adds-take, sent_same}
+use Rattle.ln_world.proofs.Flight.{ups, sigs, revs, add_taken, allowed, taken_same}
+use Rattle.ln_world.proofs.Flow.{Kept, got_adds, offered, signed, took_add, took_signature, took_revocation}
 
 -- what is done only where nothing forbids it
 gated : (P : Both → Type 0) (o : Option Refusal) (new old : Both) → (o ≡ None → P new) → P old → P (cond (is_none o) new old)
 gated P None new old h k = h refl
 gated P (Some r) new old h k = k
 
-unmapped : (o : Option Refusal) → option_map (λ r. refusal.PeerLimit (refusal_number r)) o ≡ None → o ≡ None
-unmapped None e = refl
-unmapped (Some r) e = absurd (cc)
-
--- an update in flight is within the limits as it comes
-comes : (x y : EndState) (u : Update) (ms : List Message) → Flows y (record x { inbox = message.Update u ∷ ms }) → taken_fault x.log.opening (other_role x.log.role) x.log.got (take x.log.acknowledged.own x.log.own) u ≡ None
-comes x y u ms g =
-    ap (λ o. taken_fault o (other_role x.log.role) x.log.got (take x.log.acknowledged.own x.log.own) u) g.same
-    ∙ ap (λ r. taken_fault y.log.opening r x.log.got (take x.log.acknowledged.own x.log.own) u) g.roles
-    ∙ taken_same y.log.opening y.log.role x.log.got (take x.log.acknowledged.own x.log.own) [] u
+-- an add in flight is within the limits as it comes
+comes : (x y : EndState) (a : Add) (ms : List Message) → Kept (record { x = record x { inbox = message.Add a ∷ ms }; y = y }) → taken_fault x.log (update.Add a) ≡ None
+comes x y a ms k =
+    let g = k.back in
+    let seen : AreAdds (take x.log.acknowledged.own x.log.own) = adds-take x.log.acknowledged.own x.log.own k.there.adds in
+    ap (λ o. add_taken o (other_role x.log.role) x.log.got (take x.log.acknowledged.own x.log.own) a) g.same
+    ∙ ap (λ r. add_taken y.log.opening r x.log.got (take x.log.acknowledged.own x.log.own) a) g.roles
+    ∙ taken_same y.log.opening y.log.role x.log.got (take x.log.acknowledged.own x.log.own) [] a (got_adds y (record x { inbox = message.Add a ∷ ms }) g) seen tt
     ∙ g.fits.0
 
-pub front_fits : (x y : EndState) (ms : List Message) → Flows y (record x { inbox = ms }) → TakesFront x.log ms
-front_fits x y [] g = tt
-front_fits x y (message.Update u ∷ ms) g = comes x y u ms g
-front_fits x y (message.Sign n ∷ ms) g = tt
-front_fits x y (message.Revoke n ∷ ms) g = tt
+pub front_fits : (x y : EndState) (ms : List Message) → Kept (record { x = record x { inbox = ms }; y = y }) → TakesFront x.log ms
+front_fits x y [] k = tt
+front_fits x y (message.Add a ∷ ms) k = comes x y a ms k
+front_fits x y (message.Sign n ∷ ms) k = tt
+front_fits x y (message.Revoke n ∷ ms) k = tt
 
 delivered : (x y : EndState) (ms : List Message) → Kept (record { x = record x { inbox = ms }; y = y }) → Kept (delivers ms (record { x = record x { inbox = ms }; y = y }))
 delivered x y [] k = k
-delivered x y (message.Update u ∷ ms) k =
-    subst (λ o. Kept (cond (is_none o) (record { x = record x { inbox = ms; log = received u x.log }; y = y }) (record { x = record x { inbox = ms }; y = y }))) (sym (comes x y u ms k.back)) (took_update x y u ms k)
+delivered x y (message.Add a ∷ ms) k =
+    subst (λ o. Kept (cond (is_none o) (record { x = record x { inbox = ms; log = received (update.Add a) x.log }; y = y }) (record { x = record x { inbox = ms }; y = y }))) (sym (comes x y a ms k)) (took_add x y a ms k)
 delivered x y (message.Sign n ∷ ms) k = took_signature x y n x.revocations (x.revocations + 1) ms k
 delivered x y (message.Revoke n ∷ ms) k = took_revocation x y n ms k
 
 pub acts_kept : (a : Act) (b : Both) → Kept b → Kept (acts a b)
 acts_kept act.Deliver b k = delivered b.x b.y b.x.inbox k
 acts_kept (act.Send (command.Add o)) b k =
-    gated Kept (offer_fault o b.x.log) (sends (message.Update (add_of o b.x.log)) (record { x = record b.x { log = proposed (add_of o b.x.log) b.x.log }; y = b.y })) b (λ e. offered b (add_of o b.x.log) k refl (unmapped _ e)) k
+    gated Kept (offer_fault o b.x.log) (sends (message.Add (add_of o b.x.log)) (record { x = record b.x { log = proposed (update.Add (add_of o b.x.log)) b.x.log }; y = b.y })) b (λ e. offered b (add_of o b.x.log) k refl refl e) k
 acts_kept (act.Send command.Sign) b k =
     gated Kept (sign_fault b.x.log) (sends (message.Sign (b.x.signatures + 1)) (record { x = record b.x { log = signed_all b.x.log; signatures = b.x.signatures + 1 }; y = b.y })) b
     (λ e. let s = sign_allowed b.x.log e in signed b (b.x.signatures + 1) (b.x.signatures + 1) k s.0 s.1 s.2) k
@@ -74,8 +74,8 @@ itself b = record { x_role = refl; x_opening = refl; y_role = refl; y_opening = 
 
 same_delivered : (x y : EndState) (ms : List Message) → Same (record { x = x; y = y }) (delivers ms (record { x = x; y = y }))
 same_delivered x y [] = itself (record { x = x; y = y })
-same_delivered x y (message.Update u ∷ ms) =
-    gated (Same (record { x = x; y = y })) (taken_fault x.log.opening (other_role x.log.role) x.log.got (take x.log.acknowledged.own x.log.own) u) (record { x = record x { inbox = ms; log = received u x.log }; y = y }) (record { x = record x { inbox = ms }; y = y })
+same_delivered x y (message.Add a ∷ ms) =
+    gated (Same (record { x = x; y = y })) (taken_fault x.log (update.Add a)) (record { x = record x { inbox = ms; log = received (update.Add a) x.log }; y = y }) (record { x = record x { inbox = ms }; y = y })
     (λ e. record { x_role = refl; x_opening = refl; y_role = refl; y_opening = refl }) (record { x_role = refl; x_opening = refl; y_role = refl; y_opening = refl })
 same_delivered x y (message.Sign n ∷ ms) = record { x_role = refl; x_opening = refl; y_role = refl; y_opening = refl }
 same_delivered x y (message.Revoke n ∷ ms) = record { x_role = refl; x_opening = refl; y_role = refl; y_opening = refl }
@@ -83,49 +83,57 @@ same_delivered x y (message.Revoke n ∷ ms) = record { x_role = refl; x_opening
 pub acts_same : (a : Act) (b : Both) → Same b (acts a b)
 acts_same act.Deliver b = same_delivered b.x b.y b.x.inbox
 acts_same (act.Send (command.Add o)) b =
-    gated (Same b) (offer_fault o b.x.log) (sends (message.Update (add_of o b.x.log)) (record { x = record b.x { log = proposed (add_of o b.x.log) b.x.log }; y = b.y })) b (λ e. record { x_role = refl; x_opening = refl; y_role = refl; y_opening = refl }) (itself b)
+    gated (Same b) (offer_fault o b.x.log) (sends (message.Add (add_of o b.x.log)) (record { x = record b.x { log = proposed (update.Add (add_of o b.x.log)) b.x.log }; y = b.y })) b (λ e. record { x_role = refl; x_opening = refl; y_role = refl; y_opening = refl }) (itself b)
 acts_same (act.Send command.Sign) b =
     gated (Same b) (sign_fault b.x.log) (sends (message.Sign (b.x.signatures + 1)) (record { x = record b.x { log = signed_all b.x.log; signatures = b.x.signatures + 1 }; y = b.y })) b (λ e. record { x_role = refl; x_opening = refl; y_role = refl; y_opening = refl }) (itself b)
 
 -- ---- the party that a log stands for
 
--- a party by the lists that its counts cut out
+-- a party by the lists that its counts cut out, each as it is sent
 abbrev made : List Update → List Update → List Update → List Update → List Update → List Update → List Update → Party
-made own s t c d a e = record { own = own; signed = record { own = s; peer = t }; current = record { own = c; peer = d }; acknowledged = record { own = a; peer = e }; shut = false; closed = None }
+made own s t c d a e = record {
+  own = own;
+  signed = record { own = all_sent s; peer = all_sent t };
+  current = record { own = all_sent c; peer = all_sent d };
+  acknowledged = record { own = all_sent a; peer = all_sent e };
+  shut = false;
+  closed = None;
+}
 
-party_proposed : (l : Log) (u : Update) → IsWithin l → party_of (proposed u l) ≡ proposes u (party_of l)
+party_proposed : (l : Log) (u : Update) → IsWithin l → party_of (proposed u l) ≡ proposes (as_sent u) (party_of l)
 party_proposed l u w =
     let s = take-append-le l.signed.own l.own (u ∷ []) w.own_signed in
     let c = take-append-le l.current.own l.own (u ∷ []) (omega (arith, w.own_current, w.own_acknowledged, w.own_signed)) in
     let a = take-append-le l.acknowledged.own l.own (u ∷ []) (omega (arith, w.own_acknowledged, w.own_signed)) in
-    ap (λ us. made (l.own ++ u ∷ []) us (take l.signed.peer l.got) (take l.current.own (l.own ++ u ∷ [])) (take l.current.peer l.got) (take l.acknowledged.own (l.own ++ u ∷ [])) (take l.acknowledged.peer l.got)) s
-    ∙ ap (λ us. made (l.own ++ u ∷ []) (take l.signed.own l.own) (take l.signed.peer l.got) us (take l.current.peer l.got) (take l.acknowledged.own (l.own ++ u ∷ [])) (take l.acknowledged.peer l.got)) c
-    ∙ ap (λ us. made (l.own ++ u ∷ []) (take l.signed.own l.own) (take l.signed.peer l.got) (take l.current.own l.own) (take l.current.peer l.got) us (take l.acknowledged.peer l.got)) a
+    ap (λ us. made (all_sent (l.own ++ u ∷ [])) us (take l.signed.peer l.got) (take l.current.own (l.own ++ u ∷ [])) (take l.current.peer l.got) (take l.acknowledged.own (l.own ++ u ∷ [])) (take l.acknowledged.peer l.got)) s
+    ∙ ap (λ us. made (all_sent (l.own ++ u ∷ [])) (take l.signed.own l.own) (take l.signed.peer l.got) us (take l.current.peer l.got) (take l.acknowledged.own (l.own ++ u ∷ [])) (take l.acknowledged.peer l.got)) c
+    ∙ ap (λ us. made (all_sent (l.own ++ u ∷ [])) (take l.signed.own l.own) (take l.signed.peer l.got) (take l.current.own l.own) (take l.current.peer l.got) us (take l.acknowledged.peer l.got)) a
+    ∙ ap (λ us. made us (take l.signed.own l.own) (take l.signed.peer l.got) (take l.current.own l.own) (take l.current.peer l.got) (take l.acknowledged.own l.own) (take l.acknowledged.peer l.got)) (map-append as_sent l.own (u ∷ []))
 
 party_received : (l : Log) (u : Update) → IsWithin l → party_of (received u l) ≡ party_of l
 party_received l u w =
     let s = take-append-le l.signed.peer l.got (u ∷ []) (omega (arith, w.peer_signed, w.peer_current)) in
     let c = take-append-le l.current.peer l.got (u ∷ []) w.peer_current in
     let a = take-append-le l.acknowledged.peer l.got (u ∷ []) (omega (arith, w.peer_acknowledged, w.peer_signed, w.peer_current)) in
-    ap (λ us. made l.own (take l.signed.own l.own) us (take l.current.own l.own) (take l.current.peer (l.got ++ u ∷ [])) (take l.acknowledged.own l.own) (take l.acknowledged.peer (l.got ++ u ∷ []))) s
-    ∙ ap (λ us. made l.own (take l.signed.own l.own) (take l.signed.peer l.got) (take l.current.own l.own) us (take l.acknowledged.own l.own) (take l.acknowledged.peer (l.got ++ u ∷ []))) c
-    ∙ ap (λ us. made l.own (take l.signed.own l.own) (take l.signed.peer l.got) (take l.current.own l.own) (take l.current.peer l.got) (take l.acknowledged.own l.own) us) a
+    ap (λ us. made (all_sent l.own) (take l.signed.own l.own) us (take l.current.own l.own) (take l.current.peer (l.got ++ u ∷ [])) (take l.acknowledged.own l.own) (take l.acknowledged.peer (l.got ++ u ∷ []))) s
+    ∙ ap (λ us. made (all_sent l.own) (take l.signed.own l.own) (take l.signed.peer l.got) (take l.current.own l.own) us (take l.acknowledged.own l.own) (take l.acknowledged.peer (l.got ++ u ∷ []))) c
+    ∙ ap (λ us. made (all_sent l.own) (take l.signed.own l.own) (take l.signed.peer l.got) (take l.current.own l.own) (take l.current.peer l.got) (take l.acknowledged.own l.own) us) a
 
 party_signed : (l : Log) → party_of (signed_all l) ≡ signs (party_of l)
 party_signed l =
-    ap (λ us. made l.own us (take l.current.peer l.got) (take l.current.own l.own) (take l.current.peer l.got) (take l.acknowledged.own l.own) (take l.acknowledged.peer l.got)) (take_all (length l.own) l.own (omega arith))
+    ap (λ us. made (all_sent l.own) us (take l.current.peer l.got) (take l.current.own l.own) (take l.current.peer l.got) (take l.acknowledged.own l.own) (take l.acknowledged.peer l.got)) (take_all (length l.own) l.own (omega arith))
 
 -- with what the signer covered
 party_accepted : (l m : Log) → take l.acknowledged.own l.own ≡ take m.signed.peer m.got → take (length l.got) l.got ≡ take m.signed.own m.own → party_of (accepted_all l) ≡ accepts (party_of m) (party_of l)
 party_accepted l m own peer =
-    ap (λ us. made l.own (take l.signed.own l.own) (take l.signed.peer l.got) us (take (length l.got) l.got) (take l.acknowledged.own l.own) (take l.acknowledged.peer l.got)) own
-    ∙ ap (λ us. made l.own (take l.signed.own l.own) (take l.signed.peer l.got) (take m.signed.peer m.got) us (take l.acknowledged.own l.own) (take l.acknowledged.peer l.got)) peer
+    ap (λ us. made (all_sent l.own) (take l.signed.own l.own) (take l.signed.peer l.got) us (take (length l.got) l.got) (take l.acknowledged.own l.own) (take l.acknowledged.peer l.got)) own
+    ∙ ap (λ us. made (all_sent l.own) (take l.signed.own l.own) (take l.signed.peer l.got) (take m.signed.peer m.got) us (take l.acknowledged.own l.own) (take l.acknowledged.peer l.got)) peer
 
 -- with what the revoker accepted
 party_acknowledged : (l m : Log) → take l.signed.own l.own ≡ take m.current.peer m.got → take l.signed.peer l.got ≡ take m.current.own m.own → party_of (acknowledged_all l) ≡ learns (party_of m) (party_of l)
 party_acknowledged l m own peer =
-    ap (λ us. made l.own (take l.signed.own l.own) (take l.signed.peer l.got) (take l.current.own l.own) (take l.current.peer l.got) us (take l.signed.peer l.got)) own
-    ∙ ap (λ us. made l.own (take l.signed.own l.own) (take l.signed.peer l.got) (take l.current.own l.own) (take l.current.peer l.got) (take m.current.peer m.got) us) peer
+    ap (λ us. made (all_sent l.own) (take l.signed.own l.own) (take l.signed.peer l.got) (take l.current.own l.own) (take l.current.peer l.got) us (take l.signed.peer l.got)) own
+    ∙ ap (λ us. made (all_sent l.own) (take l.signed.own l.own) (take l.signed.peer l.got) (take l.current.own l.own) (take l.current.peer l.got) (take m.current.peer m.got) us) peer
 
 -- ---- a machine with a party at a side, and another at the other
 
@@ -154,11 +162,6 @@ abbrev machine_at : Role → Opening → Both → Machine
 machine_at r o b = place r o (party_of b.x.log) (party_of b.y.log)
 
 -- a move is made exactly where the step is taken
-run_offer : (o : Option Refusal) (move : Move) (n : Both → Machine) (new old : Both) → (o ≡ None → IsRun (move ∷ []) (Some (n old)) (Some (n new)))
-    → IsRun (cond (is_none o) (move ∷ []) []) (Some (n old)) (Some (n (cond (is_none (option_map (λ r. refusal.PeerLimit (refusal_number r)) o)) new old)))
-run_offer None move n new old h = h refl
-run_offer (Some r) move n new old h = refl
-
 run_gated : (o : Option Refusal) (move : Move) (n : Both → Machine) (new old : Both) → (o ≡ None → IsRun (move ∷ []) (Some (n old)) (Some (n new))) → IsRun (cond (is_none o) (move ∷ []) []) (Some (n old)) (Some (n (cond (is_none o) new old)))
 run_gated None move n new old h = h refl
 run_gated (Some r) move n new old h = refl
@@ -191,21 +194,35 @@ learn_lists x y k ms h =
 delivered_runs : (r : Role) (o : Opening) (x y : EndState) (ms : List Message) → Kept (record { x = record x { inbox = ms }; y = y })
     → IsRun (taken_moves r ms) (Some (machine_at r o (record { x = x; y = y }))) (Some (machine_at r o (delivers ms (record { x = record x { inbox = ms }; y = y }))))
 delivered_runs r o x y [] k = refl
-delivered_runs r o x y (message.Update u ∷ ms) k =
-    subst (λ c. Some (machine_at r o (cond (is_none c) (record { x = record x { inbox = ms; log = received u x.log }; y = y }) (record { x = record x { inbox = ms }; y = y }))) ≡ Some (machine_at r o (record { x = x; y = y })))
-    (sym (comes x y u ms k.back)) (ap (λ p. Some (place r o p (party_of y.log))) (party_received x.log u k.there.within))
+delivered_runs r o x y (message.Add a ∷ ms) k =
+    subst (λ c. Some (machine_at r o (cond (is_none c) (record { x = record x { inbox = ms; log = received (update.Add a) x.log }; y = y }) (record { x = record x { inbox = ms }; y = y }))) ≡ Some (machine_at r o (record { x = x; y = y })))
+    (sym (comes x y a ms k)) (ap (λ p. Some (place r o p (party_of y.log))) (party_received x.log (update.Add a) k.there.within))
 delivered_runs r o x y (message.Sign n ∷ ms) k =
     let l = accept_lists x y n ms k in run_accept r o (party_of x.log) (party_of y.log) (party_of (accepted_all x.log)) (party_accepted x.log y.log l.0 l.1)
 delivered_runs r o x y (message.Revoke n ∷ ms) k =
     let l = learn_lists x y n ms k in run_learn r o (party_of x.log) (party_of y.log) (party_of (acknowledged_all x.log)) (party_acknowledged x.log y.log l.0 l.1)
 
-pub acts_run : (a : Act) (b : Both) → Kept b → IsRun (act_moves b.x.log.role b.x.log.opening a b.x) (Some (machine_at b.x.log.role b.x.log.opening b)) (Some (machine_at b.x.log.role b.x.log.opening (acts a b)))
+-- the limits by the lists as they are sent
+within_sent : (l : Log) (a : Add) → AreAdds l.own → AreAdds l.got → update_fault l.opening l.role l.own (take l.current.peer l.got) [] (update.Add a) ≡ None
+    → update_fault l.opening l.role (all_sent l.own) (all_sent (take l.current.peer l.got)) (all_sent (take l.acknowledged.peer l.got)) (update.Add a) ≡ None
+within_sent l a own got e =
+    ap (λ us. update_fault l.opening l.role us (all_sent (take l.current.peer l.got)) [] (update.Add a)) (sent_same l.own own)
+    ∙ ap (λ us. update_fault l.opening l.role l.own us [] (update.Add a)) (sent_same (take l.current.peer l.got) (adds-take l.current.peer l.got got))
+    ∙ e
+
+next_sent : (l : Log) → AreAdds l.own → next_id l.own ≡ next_id (all_sent l.own)
+next_sent l own = ap next_id (sym (sent_same l.own own))
+
+pub acts_run : (a : Act) (b : Both) → Kept b → IsRun (act_moves b.x.log.role a b.x) (Some (machine_at b.x.log.role b.x.log.opening b)) (Some (machine_at b.x.log.role b.x.log.opening (acts a b)))
 acts_run act.Deliver b k = delivered_runs b.x.log.role b.x.log.opening b.x b.y b.x.inbox k
 acts_run (act.Send (command.Add o)) b k =
     let l = b.x.log in
-    let u = add_of o l in
-    run_offer (update_fault l.opening l.role l.own (take l.current.peer l.got) u) (Propose l.role u) (machine_at l.role l.opening) (sends (message.Update u) (record { x = record b.x { log = proposed u l }; y = b.y })) b
-    (λ e. run_propose l.role l.opening (party_of l) (party_of b.y.log) (party_of (proposed u l)) u (record { open_still = refl; next = refl; within = e }) (party_proposed l u k.there.within))
+    let a = add_of o l in
+    let u = update.Add a in
+    let own = k.there.adds in
+    let got : AreAdds l.got = got_adds b.y b.x k.back in
+    run_gated (offer_fault o l) (Propose l.role u) (machine_at l.role l.opening) (sends (message.Add a) (record { x = record b.x { log = proposed u l }; y = b.y })) b
+    (λ e. let may = allowed l a e in run_propose l.role l.opening (party_of l) (party_of b.y.log) (party_of (proposed u l)) u (record { open_still = refl; next = next_sent l own; within = within_sent l a own got may.1 }) (party_proposed l u k.there.within))
 acts_run (act.Send command.Sign) b k =
     let l = b.x.log in
     run_gated (sign_fault l) (Sign l.role) (machine_at l.role l.opening) (sends (message.Sign (b.x.signatures + 1)) (record { x = record b.x { log = signed_all l; signatures = b.x.signatures + 1 }; y = b.y })) b

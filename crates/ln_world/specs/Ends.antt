@@ -1,15 +1,13 @@
 -- Both ends of a channel, and what is in flight between them (BOLT 2, "Normal Operation"). What an end
 -- does is told from that end, as x, with y at the other.
-use Rattle.std.specs.Prelude.{ℕ, ◌+◌, List, [], ◌∷◌, ◌++◌, take, Option, is_none, if◌then◌else◌, Some, None}
+use Rattle.std.specs.Prelude.{ℕ, ◌+◌, List, [], ◌∷◌, ◌++◌, Option, is_none, if◌then◌else◌, Some, None}
 use Rattle.ln_msgs.specs.declared.refusal.Refusal.{Refusal}
 use Rattle.ln_keys.specs.declared.role.Role.{Role}
 use Rattle.ln_log.specs.declared.opening.Opening.{Opening}
-use Rattle.ln_log.specs.declared.update.Update.{Update}
+use Rattle.ln_log.specs.declared.update.Add.{Add}
 use Rattle.ln_log.specs.declared.update.Update.TheVariants as update
-use Rattle.ln_keys.specs.Role.{other_role}
 use Rattle.ln_log.specs.Updates.{next_id}
-use Rattle.ln_log.specs.Limits.{proposal_fault, taken_fault}
-use Rattle.ln_log.specs.Log.{Log, opened, proposed, received, signed_all, accepted_all, acknowledged_all, sign_fault}
+use Rattle.ln_log.specs.Log.{Log, opened, proposed, received, signed_all, accepted_all, acknowledged_all, sign_fault, proposal_fault, taken_fault}
 use Rattle.ln_world.specs.declared.answer.Answer.{Answer}
 use Rattle.ln_world.specs.declared.answer.Answer.TheVariants.{Done, Idle, Refused}
 use Rattle.ln_world.specs.declared.message.Message.{Message}
@@ -42,18 +40,18 @@ sends m b = record {
 
 -- ---- commands
 
--- the add with the next id
-abbrev pub add_of : Offer → Log → Update
-add_of o l = update.Add (record { id = next_id l.own; amount = o.amount; hash = o.hash; expiry = o.expiry; onion = o.onion })
+-- the add with the next id, which forwards nothing
+abbrev pub add_of : Offer → Log → Add
+add_of o l = record { id = next_id l.own; amount = o.amount; hash = o.hash; expiry = o.expiry; onion = o.onion; origin = None }
 
 -- what keeps x from offering it
 abbrev pub offer_fault : Offer → Log → Option Refusal
-offer_fault o l = proposal_fault l.opening l.role l.own (take l.current.peer l.got) (add_of o l)
+offer_fault o l = proposal_fault l (update.Add (add_of o l))
 
 abbrev pub offers : Offer → Both → Both
 offers o b =
     if is_none (offer_fault o b.x.log)
-    then sends (message.Update (add_of o b.x.log)) (record { x = record b.x { log = proposed (add_of o b.x.log) b.x.log }; y = b.y })
+    then sends (message.Add (add_of o b.x.log)) (record { x = record b.x { log = proposed (update.Add (add_of o b.x.log)) b.x.log }; y = b.y })
     else b
 
 abbrev pub signs_all : Both → Both
@@ -64,12 +62,12 @@ signs_all b =
 
 -- ---- what x takes
 
--- an update joins what it took; a signature moves its own commitment, and its earlier one is revoked in
+-- an add joins what it took; a signature moves its own commitment, and its earlier one is revoked in
 -- the same step; a revocation moves what the peer has acknowledged
 abbrev pub takes : Message → Both → Both
-takes (message.Update u) b =
-    if is_none (taken_fault b.x.log.opening (other_role b.x.log.role) b.x.log.got (take b.x.log.acknowledged.own b.x.log.own) u)
-    then record { x = record b.x { log = received u b.x.log }; y = b.y }
+takes (message.Add a) b =
+    if is_none (taken_fault b.x.log (update.Add a))
+    then record { x = record b.x { log = received (update.Add a) b.x.log }; y = b.y }
     else b
 takes (message.Sign n) b = sends (message.Revoke b.x.revocations) (record { x = record b.x { log = accepted_all b.x.log; revocations = b.x.revocations + 1 }; y = b.y })
 takes (message.Revoke n) b = record { x = record b.x { log = acknowledged_all b.x.log }; y = b.y }
@@ -91,7 +89,7 @@ answer_by (Some r) = Refused r
 
 abbrev pub taken_answer : Log → List Message → Answer
 taken_answer l [] = Idle
-taken_answer l (message.Update u ∷ ms) = answer_by (taken_fault l.opening (other_role l.role) l.got (take l.acknowledged.own l.own) u)
+taken_answer l (message.Add a ∷ ms) = answer_by (taken_fault l (update.Add a))
 taken_answer l (message.Sign n ∷ ms) = Done
 taken_answer l (message.Revoke n ∷ ms) = Done
 

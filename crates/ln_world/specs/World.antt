@@ -1,18 +1,17 @@
 -- A world of one channel, and which steps of the abstract machine its steps are.
-use Rattle.std.specs.Prelude.{take, ◌↔◌, ◌≡◌, List, [], ◌∷◌, ◌++◌, Bool, not, ◌&&◌, ◌==◌, Option, Some, None, is_none, if◌then◌else◌}
-use Rattle.ln_log.specs.Log.{Log, party_of, sign_fault}
+use Rattle.std.specs.Prelude.{◌↔◌, ◌≡◌, List, [], ◌∷◌, ◌++◌, Bool, not, ◌&&◌, ◌==◌, Option, Some, None, is_none, if◌then◌else◌}
+use Rattle.ln_log.specs.Log.{Log, party_of, sign_fault, taken_fault}
 use Rattle.ln_keys.specs.declared.role.Role.{Role}
 use Rattle.ln_keys.specs.declared.role.Role.TheVariants.{Funder, Fundee}
-use Rattle.ln_log.specs.declared.update.Update.{Update}
-use Rattle.ln_log.specs.declared.opening.Opening.{Opening}
-use Rattle.ln_keys.specs.Role.{other_role}
+use Rattle.ln_log.specs.declared.update.Update.TheVariants as update
 use Rattle.ln_log.specs.Opening.{is_fit}
-use Rattle.ln_log.specs.Limits.{update_fault, taken_fault}
+use Rattle.ln_log.specs.Updates.{as_sent}
 use Rattle.ln_log.specs.Machine.{Machine, Party, party, held, MaySign, IsSettled, Move, Open, Propose, Sign, Accept, Learn, Headline}
 use Rattle.ln_world.specs.declared.message.Message.{Message}
 use Rattle.ln_world.specs.declared.message.Message.TheVariants as message
 use Rattle.ln_world.specs.declared.step.Node.{Node}
 use Rattle.ln_world.specs.declared.step.End.{End}
+use Rattle.ln_world.specs.declared.step.Offer.{Offer}
 use Rattle.ln_world.specs.declared.step.Ready.{Ready}
 use Rattle.ln_world.specs.declared.step.Command.TheVariants as command
 use Rattle.ln_world.specs.declared.step.Act.{Act}
@@ -20,7 +19,7 @@ use Rattle.ln_world.specs.declared.step.Act.TheVariants as act
 use Rattle.ln_world.specs.declared.step.Step.{Step}
 use Rattle.ln_world.specs.declared.step.Step.TheVariants as step
 use Rattle.ln_world.specs.declared.channel.Channel.{Channel}
-use Rattle.ln_world.specs.Ends.{EndState, Both, fresh_end, add_of, acts}
+use Rattle.ln_world.specs.Ends.{EndState, Both, fresh_end, add_of, offer_fault, acts}
 
 -- ---- its steps
 
@@ -77,25 +76,25 @@ abbrev pub machine_of : Option Channel → Option Machine
 machine_of None = None
 machine_of (Some c) = Some (machine_of_channel c)
 
--- an update is proposed exactly where no shutdown was sent and its limits are met, by the machine's lists
-abbrev pub offer_moves : Role → Opening → Update → Party → List Move
-offer_moves x o u p = if not p.shut && is_none (update_fault o x p.own p.current.peer u) then Propose x u ∷ [] else []
+-- an add is proposed, as it is sent, exactly where nothing forbids it
+abbrev pub offer_moves : Role → Offer → Log → List Move
+offer_moves x o l = if is_none (offer_fault o l) then Propose x (as_sent (update.Add (add_of o l))) ∷ [] else []
 
--- a signature that is taken is accepted, a revocation learned; an update that is taken is no move
+-- a signature that is taken is accepted, a revocation learned; an add that is taken is no move
 abbrev pub taken_moves : Role → List Message → List Move
 taken_moves x [] = []
-taken_moves x (message.Update u ∷ ms) = []
+taken_moves x (message.Add a ∷ ms) = []
 taken_moves x (message.Sign n ∷ ms) = Accept x ∷ []
 taken_moves x (message.Revoke n ∷ ms) = Learn x ∷ []
 
-abbrev pub act_moves : Role → Opening → Act → EndState → List Move
-act_moves x o act.Deliver e = taken_moves x e.inbox
-act_moves x o (act.Send (command.Add new)) e = offer_moves x o (add_of new e.log) (party_of e.log)
-act_moves x o (act.Send command.Sign) e = if is_none (sign_fault e.log) then Sign x ∷ [] else []
+abbrev pub act_moves : Role → Act → EndState → List Move
+act_moves x act.Deliver e = taken_moves x e.inbox
+act_moves x (act.Send (command.Add o)) e = offer_moves x o e.log
+act_moves x (act.Send command.Sign) e = if is_none (sign_fault e.log) then Sign x ∷ [] else []
 
 abbrev pub moves_at : Option Role → Act → Channel → List Move
 moves_at None a c = []
-moves_at (Some x) a c = act_moves x c.funder.log.opening a (end_of x c)
+moves_at (Some x) a c = act_moves x a (end_of x c)
 
 -- the table: which moves of the machine a step of the world is
 abbrev pub moves_of : Step → Option Channel → List Move
@@ -120,10 +119,10 @@ abbrev pub SignsExactly : Option Channel → Type 0
 SignsExactly None = Unit {0}
 SignsExactly (Some c) = (x : Role) → (sign_fault (end_of x c).log ≡ None) ↔ MaySign (party x (machine_of_channel c))
 
--- an update in front of an end is within its limits
+-- an add in front of an end is within its limits
 abbrev pub TakesFront : Log → List Message → Type 0
 TakesFront l [] = Unit {0}
-TakesFront l (message.Update u ∷ ms) = taken_fault l.opening (other_role l.role) l.got (take l.acknowledged.own l.own) u ≡ None
+TakesFront l (message.Add a ∷ ms) = taken_fault l (update.Add a) ≡ None
 TakesFront l (message.Sign n ∷ ms) = Unit {0}
 TakesFront l (message.Revoke n ∷ ms) = Unit {0}
 

@@ -48,29 +48,49 @@ fn report_sends(end: End, since: Mark, x: &Endpoint, lines: &mut Vec<Line>) -> R
     Ok(())
 }
 
+// An HTLC that an update offers is an event. Nothing else is proposed here.
+fn report_event(
+    end: End,
+    number: usize,
+    own: bool,
+    update: &Update,
+    lines: &mut Vec<Line>,
+) -> Result<(), Refusal>
+    ensures { IsOkUnless result Refusal.Memory }
+{
+    match update {
+        Update::Add(add) => lines.push(Line::Added(end, number, own, add.id))?,
+        Update::Fulfil(_) => {}
+        Update::Fail(_) => {}
+        Update::Malformed(_) => {}
+        Update::Fee(_) => {}
+    }
+    Ok(())
+}
+
 fn report_events(end: End, since: Mark, x: &Endpoint, lines: &mut Vec<Line>) -> Result<(), Refusal>
     ensures { IsOkUnless result Refusal.Memory }
 {
     let now = mark_of(x);
     let mut number = since.own.saturating_add(since.peer);
-    for Update::Add(add) in x
+    for update in x
         .log()
         .own_updates()
         .iter()
         .skip(since.own)
         .take(now.own.saturating_sub(since.own))
     {
-        lines.push(Line::Added(end, number, true, add.id))?;
+        report_event(end, number, true, update, lines)?;
         number = number.saturating_add(1);
     }
-    for Update::Add(add) in x
+    for update in x
         .log()
         .peer_updates()
         .iter()
         .skip(since.peer)
         .take(now.peer.saturating_sub(since.peer))
     {
-        lines.push(Line::Added(end, number, false, add.id))?;
+        report_event(end, number, false, update, lines)?;
         number = number.saturating_add(1);
     }
     Ok(())

@@ -1,8 +1,7 @@
 //! One end of a channel, and what is in flight to it.
 
-ghost use Rattle.std.specs.Prelude.{◌≡◌, OnOk, IfOk, take};
-ghost use Rattle.ln_keys.specs.Role.{other_role};
-ghost use Rattle.ln_log.specs.Limits.{taken_fault};
+ghost use Rattle.std.specs.Prelude.{◌≡◌, OnOk, IfOk};
+ghost use Rattle.ln_log.specs.Log.{taken_fault};
 ghost use Rattle.std.specs.Result.{IsOkUnless};
 ghost use Rattle.ln_world.specs.Ends.{EndState, Both, sends, offers, signs_all, takes, delivers, acts, answer_by, answer_to};
 
@@ -85,16 +84,17 @@ fn offer(x: &mut Endpoint, y: &mut Endpoint, offer: &Offer) -> Result<Answer, Re
     ensures answer { IfOk result (λ a. a ≡ answer_to (Act.Send (Command.Add offer.now)) x.old) }
     ensures memory { IsOkUnless result Refusal.Memory }
 {
-    let update = Update::Add(Add {
+    let add = Add {
         id: x.log.next_id(),
         amount: offer.amount,
         hash: offer.hash,
         expiry: offer.expiry,
         onion: offer.onion,
-    });
-    match x.log.propose(update) {
+        origin: None,
+    };
+    match x.log.propose(Update::Add(add)) {
         Ok(()) => {
-            send(x, y, Message::Update(update))?;
+            send(x, y, Message::Add(add))?;
             Ok(Answer::Done)
         }
         Err(refusal) => match refusal {
@@ -121,12 +121,12 @@ fn sign(x: &mut Endpoint, y: &mut Endpoint) -> Result<Answer, Refusal>
     }
 }
 
-fn take_update(x: &mut Endpoint, y: &Endpoint, update: Update) -> Result<Answer, Refusal>
-    ensures ok { OnOk result (record { x = x.new; y = y.now } ≡ takes (Message.Update update) (record { x = x.old; y = y.now })) }
-    ensures answer { IfOk result (λ a. a ≡ answer_by (taken_fault x.old.log.opening (other_role x.old.log.role) x.old.log.got (take x.old.log.acknowledged.own x.old.log.own) update)) }
+fn take_add(x: &mut Endpoint, y: &Endpoint, add: Add) -> Result<Answer, Refusal>
+    ensures ok { OnOk result (record { x = x.new; y = y.now } ≡ takes (Message.Add add) (record { x = x.old; y = y.now })) }
+    ensures answer { IfOk result (λ a. a ≡ answer_by (taken_fault x.old.log (Update.Add add))) }
     ensures memory { IsOkUnless result Refusal.Memory }
 {
-    match x.log.receive(update) {
+    match x.log.receive(Update::Add(add)) {
         Ok(()) => Ok(Answer::Done),
         Err(refusal) => match refusal {
             Refusal::Memory => Err(Refusal::Memory),
@@ -155,7 +155,7 @@ fn deliver(x: &mut Endpoint, y: &mut Endpoint) -> Result<Answer, Refusal>
 {
     match x.inbox.pop_front() {
         None => Ok(Answer::Idle),
-        Some(Message::Update(update)) => take_update(x, y, update),
+        Some(Message::Add(add)) => take_add(x, y, add),
         Some(Message::Sign(number)) => take_signature(x, y, number),
         Some(Message::Revoke(_)) => {
             x.log.acknowledged();
