@@ -21,7 +21,7 @@ use Rattle.ln_log.specs.Log.{Log, view_for}
 use Rattle.ln_dance.specs.Dance.{Dancer, view_at, owes, is_last, sign_fault, signs, signed_message, accept_fault, revoked_message, learn_fault, AnswersWithin, answer_of}
 use Rattle.ln_dance.specs.Facing.{AreFacing}
 use Rattle.ln_dance.proofs.Kept.{not_last_of}
-use Rattle.ln_dance.proofs.Sent.{view_same}
+use Rattle.ln_log.proofs.Sent.{view_same}
 
 views : (o : Opening) (r : Role) (a b c d : List Update) → all_sent a ≡ all_sent d → all_sent b ≡ all_sent c → view_for o r (record { own = a; peer = b }) ≡ view_for o (other_role r) (record { own = c; peer = d })
 views o Funder a b c d ea eb = view_same o a b d c ea eb

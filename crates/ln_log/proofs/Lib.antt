@@ -6,3 +6,5 @@ pub mod Kept
 pub mod Grows
 pub mod Signs
 pub mod Fits
+pub mod Sent
+pub mod Moves

@@ -2,6 +2,7 @@
 //! what a commitment is worth (BOLT 2, "Normal Operation").
 #![tactic(auto)]
 
+mod laws;
 mod log;
 mod opening;
 mod outcome;
@@ -9,8 +10,9 @@ mod plain;
 mod standing;
 mod update;
 
+pub use laws::{moves_exactly, propose_exactly, sign_exactly};
 pub use ln_keys::{Htlc, Htlcs, Role, View};
-pub use log::{Counts, Pair, Side, UpdateLog, sign_exactly};
+pub use log::{Counts, Pair, Side, UpdateLog};
 pub use opening::{Limits, Opening};
 pub use outcome::Outcome;
 pub use plain::{conservation, find_add, last_feerate, live_count, outcome_of, plain_view};

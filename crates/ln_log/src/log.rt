@@ -432,9 +432,3 @@ fn length_refusal(update: &Update) -> Option<Refusal>
         Update::Fee(_) => None,
     }
 }
-
-/// A side is kept from signing exactly where its last signature isn't revoked for, or nothing would be
-/// new, said of the lists that the counts stand for.
-pub fn sign_exactly()
-    ensures { (l : Log) → IsWithin l → ((sign_fault l ≡ None) ↔ MaySign (party_of l)) }
-{}

@@ -1,5 +1,5 @@
 use Rattle.ln_log.proofs.Signs.{exactly, fundee_funded}
-use Rattle.ln_log.proofs.log.sign_exactly.Goals as goal
+use Rattle.ln_log.proofs.laws.sign_exactly.Goals as goal
 
 pub returns : goal.returns
 returns c = exactly
