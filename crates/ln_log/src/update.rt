@@ -65,8 +65,6 @@ pub struct Fee {
 }
 
 /// A change that a side proposes to both commitments (BOLT 2, "Normal Operation").
-///
-/// Two updates are equal where the fields that are sent are: all but the origin of an add.
 #[derive(Debug, Drop)]
 pub enum Update {
     /// An HTLC is offered.
