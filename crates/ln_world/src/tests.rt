@@ -1,7 +1,8 @@
 //! The worked rows, with their exact text.
 
-use crate::{Act, Command, End, Node, Offer, Ready, Step, World};
-use ln_log::{Limits, Opening};
+use crate::{Act, Answer, Command, End, Endpoint, Message, Node, Offer, Ready, Step, World, act};
+use ln_log::{Limits, Opening, Role};
+use ln_msgs::Refusal;
 use std::alloc::Global;
 use std::process::Abort;
 use std::test::Fail;
@@ -13,37 +14,42 @@ fn end(letter: char) -> End {
     }
 }
 
-fn ready(satoshis: u64, push: u64) -> Step {
+fn opening(satoshis: u64, push: u64) -> Opening {
     let limits = Limits {
         minimum: 1,
         accepted: 30,
         in_flight: 1_000_000_000_000,
         reserve: 0,
     };
+    Opening {
+        satoshis,
+        push,
+        feerate: 253,
+        funder: limits,
+        fundee: limits,
+    }
+}
+
+fn ready(satoshis: u64, push: u64) -> Step {
     Step::Ready(Ready {
         channel: 0,
         funder: Node { letter: 'A' },
         fundee: Node { letter: 'B' },
-        opening: Opening {
-            satoshis,
-            push,
-            feerate: 253,
-            funder: limits,
-            fundee: limits,
-        },
+        opening: opening(satoshis, push),
     })
 }
 
+fn offer(amount: u64, expiry: u32) -> Act {
+    Act::Send(Command::Add(Offer {
+        amount,
+        hash: [7; 32],
+        expiry,
+        onion: [0; 1366],
+    }))
+}
+
 fn add(letter: char, amount: u64, expiry: u32) -> Step {
-    Step::Do(
-        end(letter),
-        Act::Send(Command::Add(Offer {
-            amount,
-            hash: [7; 32],
-            expiry,
-            onion: [0; 1366],
-        })),
-    )
+    Step::Do(end(letter), offer(amount, expiry))
 }
 
 fn sign(letter: char) -> Step {
@@ -145,4 +151,66 @@ fn what_cannot_be_done_is_idle(rt: HostRuntime) -> Result<(), Fail> {
         &steps,
         "idle\nidle\nidle\n0 open\nA0 sends channel_ready\nB0 sends channel_ready\nidle\nidle\nidle\nA0 signed 0 committed 0 peer 0 balance 1000000/0 live 0 ready\nB0 signed 0 committed 0 peer 0 balance 0/1000000 live 0 ready\n",
     )
+}
+
+// Each call once, with few allocations, so that each of them can be made to fail in turn.
+
+#[test]
+fn small_run(rt: HostRuntime) -> Result<(), Refusal> {
+    let steps = [ready(1000, 0), add('A', 5000, 400)];
+    let world = World::run(rt.alloc(), &steps)?;
+    match world.channel() {
+        Some(channel) => {
+            assert_eq!(rt; channel.funder.log().own_updates().len(), 1);
+            assert_eq!(rt; channel.funder.said().len(), 1);
+            assert_eq!(rt; channel.fundee.said().len(), 0);
+        }
+        None => assert!(rt; false),
+    }
+    Ok(())
+}
+
+#[test]
+fn small_step(rt: HostRuntime) -> Result<(), Refusal> {
+    let mut world = World::new(rt.alloc());
+    for step in [
+        ready(1000, 0),
+        add('A', 5000, 400),
+        sign('A'),
+        deliver('B'),
+        deliver('B'),
+    ] {
+        world.step(rt.alloc(), &step)?;
+    }
+    match world.channel() {
+        Some(channel) => {
+            assert_eq!(rt; channel.fundee.log().peer_updates().len(), 1);
+            assert_eq!(rt; channel.fundee.said(), [Message::Revoke(0)].as_slice());
+        }
+        None => assert!(rt; false),
+    }
+    Ok(())
+}
+
+#[test]
+fn small_act(rt: HostRuntime) -> Result<(), Refusal> {
+    if opening(1000, 0).is_fit() {
+        let mut x = Endpoint::new(rt.alloc(), Role::Funder, opening(1000, 0));
+        let mut y = Endpoint::new(rt.alloc(), Role::Fundee, opening(1000, 0));
+        assert_eq!(rt; act(&mut x, &mut y, &offer(5000, 400))?, Answer::Done);
+        assert_eq!(rt; act(&mut y, &mut x, &Act::Deliver)?, Answer::Done);
+        assert_eq!(rt; y.log().peer_updates().len(), 1);
+    }
+    Ok(())
+}
+
+#[test]
+fn small_report(rt: HostRuntime) -> Result<(), Refusal> {
+    let world = World::run(rt.alloc(), &[ready(1000, 0)])?;
+    let text = world.report(rt.alloc())?;
+    assert_eq!(rt;
+        text.as_str(),
+        "0 open\nA0 sends channel_ready\nB0 sends channel_ready\nA0 signed 0 committed 0 peer 0 balance 1000000/0 live 0 ready\nB0 signed 0 committed 0 peer 0 balance 0/1000000 live 0 ready\n"
+    );
+    Ok(())
 }
