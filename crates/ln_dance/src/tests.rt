@@ -1,11 +1,13 @@
 //! Two sides on small inputs, over toy keys.
 
+ghost use Rattle.std.specs.Prelude.{◌<◌, ◌^◌};
+
 use crate::{Dance, Numbers, Peer, dance_once};
-use ln_keys::{ChannelKeys, Role, ToyKeys};
-use ln_log::{Add, Counts, Fulfil, Limits, Opening, Pair, Side, Update, UpdateLog};
+use ln_keys::{ChannelKeys, Role, ToyKeys, View};
+use ln_log::{Add, Fulfil, Limits, Opening, Pair, Side, Update, UpdateLog};
 use ln_msgs::{CommitmentSigned, Records, Refusal, RevokeAndAck, Signatures};
 use std::alloc::Global;
-use std::test::Fail;
+use std::test::*;
 
 // What is expected below in long constants was computed by a separate Python program over hashlib.
 
@@ -154,21 +156,39 @@ fn offered(offerer: &mut Dance, taker: &mut Dance) -> Result<(), Refusal> {
     taker.receive(an_add(0, 5000))
 }
 
-// Signs, accepts and learns, call by call.
+// What a revocation tells: the secret, and the point.
+type Told = ([u8; 32], [u8; 33]);
+
+// Signs, accepts and learns, call by call, and gives what was told.
 fn in_turn(
     alloc: Global,
     signer: &mut Dance,
     signer_keys: &ToyKeys,
     taker: &mut Dance,
     taker_keys: &ToyKeys,
-) -> Result<(), Refusal> {
+) -> Result<Told, Refusal> {
     let signature = signer.sign(alloc, signer_keys)?;
     let revocation = taker.accept(alloc, taker_keys, &signature)?;
-    signer.learn(signer_keys, &revocation)
+    signer.learn(signer_keys, &revocation)?;
+    let secret = revocation.secret;
+    let point = revocation.next_point;
+    Ok((secret, point))
+}
+
+fn to_fundee(alloc: Global, a: &mut Dance, b: &mut Dance) -> Result<Told, Refusal> {
+    in_turn(alloc, a, &FUNDER, b, &FUNDEE)
+}
+
+fn to_funder(alloc: Global, a: &mut Dance, b: &mut Dance) -> Result<Told, Refusal> {
+    in_turn(alloc, b, &FUNDEE, a, &FUNDER)
+}
+
+fn sign(alloc: Global, dance: &mut Dance, keys: &ToyKeys) -> Result<CommitmentSigned, Refusal> {
+    dance.sign(alloc, keys)
 }
 
 fn sign_answer(alloc: Global, dance: &mut Dance, keys: &ToyKeys) -> Option<Refusal> {
-    match dance.sign(alloc, keys) {
+    match sign(alloc, dance, keys) {
         Ok(message) => {
             drop(message);
             None
@@ -177,13 +197,22 @@ fn sign_answer(alloc: Global, dance: &mut Dance, keys: &ToyKeys) -> Option<Refus
     }
 }
 
+fn accept(
+    alloc: Global,
+    dance: &mut Dance,
+    keys: &ToyKeys,
+    message: &CommitmentSigned,
+) -> Result<RevokeAndAck, Refusal> {
+    dance.accept(alloc, keys, message)
+}
+
 fn accept_answer(
     alloc: Global,
     dance: &mut Dance,
     keys: &ToyKeys,
     message: &CommitmentSigned,
 ) -> Option<Refusal> {
-    match dance.accept(alloc, keys, message) {
+    match accept(alloc, dance, keys, message) {
         Ok(revocation) => {
             drop(revocation);
             None
@@ -192,32 +221,35 @@ fn accept_answer(
     }
 }
 
-fn zero_signature(alloc: Global) -> CommitmentSigned {
-    CommitmentSigned {
-        channel_id: CHANNEL,
-        signature: [0; 64],
-        htlc_signatures: Signatures::empty(alloc),
-        records: Records::empty(alloc),
-    }
-}
-
-// The signature over the commitment, with none over its HTLCs.
-fn too_few(alloc: Global, message: &CommitmentSigned) -> CommitmentSigned {
-    CommitmentSigned {
-        channel_id: message.channel_id,
-        signature: message.signature,
-        htlc_signatures: Signatures::empty(alloc),
-        records: Records::empty(alloc),
-    }
-}
-
-fn zero_secret(alloc: Global) -> RevokeAndAck {
-    RevokeAndAck {
+// Learns a revocation with a secret of zeros.
+fn learns_zeros(alloc: Global, dance: &mut Dance, keys: &ToyKeys) -> Result<(), Refusal> {
+    let message = RevokeAndAck {
         channel_id: CHANNEL,
         secret: [0; 32],
         next_point: [0; 33],
         records: Records::empty(alloc),
+    };
+    dance.learn(keys, &message)
+}
+
+// A message with this signature over the commitment, and none over its HTLCs.
+fn bare(alloc: Global, signature: [u8; 64]) -> CommitmentSigned {
+    CommitmentSigned {
+        channel_id: CHANNEL,
+        signature,
+        htlc_signatures: Signatures::empty(alloc),
+        records: Records::empty(alloc),
     }
+}
+
+fn accepts_bare(
+    alloc: Global,
+    dance: &mut Dance,
+    keys: &ToyKeys,
+    signature: [u8; 64],
+) -> Option<Refusal> {
+    let message = bare(alloc, signature);
+    accept_answer(alloc, dance, keys, &message)
 }
 
 fn doubled(half: &[u8; 32]) -> [u8; 64] {
@@ -227,36 +259,94 @@ fn doubled(half: &[u8; 32]) -> [u8; 64] {
     both
 }
 
-// What keys sign of the commitment of this number, called directly on the log's view.
-fn signs_so(
+// Whether keys sign the commitment of this number so, called directly on a view.
+fn is_signature(
     alloc: Global,
-    dance: &Dance,
+    view: &View,
     keys: &ToyKeys,
     number: u64,
+    point: &[u8; 33],
     message: &CommitmentSigned,
 ) -> Result<bool, Refusal> {
-    let view = dance.log().view(alloc, Pair::Current(Side::Peer))?;
-    let signed = keys.sign(alloc, number, &dance.peer().point, &view)?;
+    let signed = keys.sign(alloc, number, point, view)?;
     Ok(
         signed.sig == message.signature
             && signed.htlcs.as_slice() == message.htlc_signatures.as_slice(),
     )
 }
 
+// What the side would sign now.
+fn to_sign(alloc: Global, dance: &Dance) -> Result<View, Refusal> {
+    dance.log().view(alloc, Pair::ToSign)
+}
+
+// The funder signs the fundee's commitment 1: the channel, the signature, and whether the keys sign the
+// log's view so.
+fn signs_first(alloc: Global, dance: &mut Dance) -> Result<([u8; 32], [u8; 64], bool), Refusal> {
+    let view = to_sign(alloc, dance)?;
+    let message = sign(alloc, dance, &FUNDER)?;
+    let right = is_signature(alloc, &view, &FUNDER, 1, &FUNDEE_POINT_1, &message)?;
+    let channel = message.channel_id;
+    let signature = message.signature;
+    Ok((channel, signature, right))
+}
+
+fn htlcs_of(view: &View) -> (u64, u64, usize) {
+    (view.funder, view.fundee, view.htlcs.len())
+}
+
 // What a side's own commitment is worth: the funder, the fundee, and how many HTLCs.
 fn worth(alloc: Global, dance: &Dance) -> Result<(u64, u64, usize), Refusal> {
     let view = dance.log().view(alloc, Pair::Current(Side::Own))?;
-    Ok((view.funder, view.fundee, view.htlcs.len()))
+    Ok(htlcs_of(&view))
+}
+
+fn counts(dance: &Dance) -> Numbers {
+    dance.numbers()
+}
+
+fn learned(dance: &Dance) -> Peer {
+    dance.peer()
+}
+
+fn owes(dance: &Dance) -> bool {
+    dance.owes()
+}
+
+// How many updates of either side the own commitment covers.
+fn own_covers(dance: &Dance) -> (usize, usize) {
+    let counts = dance.log().counts(Pair::Current(Side::Own));
+    (counts.own, counts.peer)
+}
+
+// How many the peer's acknowledged commitment covers.
+fn peer_covers(dance: &Dance) -> (usize, usize) {
+    let counts = dance.log().counts(Pair::Current(Side::Peer));
+    (counts.own, counts.peer)
+}
+
+// How many the last own signature covers.
+fn signed_covers(dance: &Dance) -> (usize, usize) {
+    let counts = *dance.log().covered();
+    (counts.own, counts.peer)
+}
+
+// How many updates there are of either side.
+fn updates(dance: &Dance) -> (usize, usize) {
+    (
+        dance.log().own_updates().len(),
+        dance.log().peer_updates().len(),
+    )
 }
 
 #[test]
 fn begins_as_it_is_told(rt: HostRuntime) {
     let dance = funder(rt.alloc());
-    assert_eq!(rt; dance.numbers(), numbers(0, 0, 0));
-    assert_eq!(rt; dance.peer().next_point, FUNDEE_POINT_1);
-    assert_eq!(rt; dance.peer().secret, None);
-    assert!(rt; !dance.owes());
-    assert_eq!(rt; dance.log().own_updates().len(), 0);
+    assert_eq!(rt; counts(&dance), numbers(0, 0, 0));
+    assert_eq!(rt; learned(&dance).next_point, FUNDEE_POINT_1);
+    assert_eq!(rt; learned(&dance).secret, None);
+    assert!(rt; !owes(&dance));
+    assert_eq!(rt; updates(&dance), (0, 0));
 }
 
 #[test]
@@ -266,277 +356,290 @@ fn nothing_new_is_not_signed(rt: HostRuntime) {
         sign_answer(rt.alloc(), &mut dance, &FUNDER),
         Some(Refusal::NothingToSign)
     );
-    assert_eq!(rt; dance.numbers(), numbers(0, 0, 0));
-    assert!(rt; !dance.owes());
+    assert_eq!(rt; counts(&dance), numbers(0, 0, 0));
+    assert!(rt; !owes(&dance));
 }
 
 #[test]
 fn a_signature_is_over_the_next_commitment(rt: HostRuntime) -> Result<(), Refusal> {
-    let alloc = rt.alloc();
-    let mut dance = funder(alloc);
+    let mut dance = funder(rt.alloc());
     add(&mut dance, 5000)?;
-    let message = dance.sign(alloc, &FUNDER)?;
-    assert_eq!(rt; message.channel_id, CHANNEL);
-    assert_eq!(rt; message.signature, doubled(&FUNDER_DIGEST));
     assert_eq!(rt;
-        message.htlc_signatures.as_slice(),
-        [doubled(&FUNDER_DIGEST)].as_slice()
+        signs_first(rt.alloc(), &mut dance)?,
+        (CHANNEL, doubled(&FUNDER_DIGEST), true)
     );
-    drop(message);
-    assert!(rt; dance.owes());
-    assert_eq!(rt; dance.numbers(), numbers(0, 1, 0));
-    assert_eq!(rt; *dance.log().covered(), Counts { own: 1, peer: 0 });
+    assert!(rt; owes(&dance));
+    assert_eq!(rt; counts(&dance), numbers(0, 1, 0));
+    assert_eq!(rt; signed_covers(&dance), (1, 0));
     Ok(())
 }
 
 #[test]
 fn no_second_signature_before_a_revocation(rt: HostRuntime) -> Result<(), Refusal> {
-    let alloc = rt.alloc();
-    let mut dance = funder(alloc);
+    let mut dance = funder(rt.alloc());
     add(&mut dance, 5000)?;
-    assert_eq!(rt; sign_answer(alloc, &mut dance, &FUNDER), None);
+    assert_eq!(rt; sign_answer(rt.alloc(), &mut dance, &FUNDER), None);
     add(&mut dance, 1000)?;
     assert_eq!(rt;
-        sign_answer(alloc, &mut dance, &FUNDER),
+        sign_answer(rt.alloc(), &mut dance, &FUNDER),
         Some(Refusal::SignatureOutstanding)
     );
-    assert_eq!(rt; dance.numbers(), numbers(0, 1, 0));
-    assert_eq!(rt; *dance.log().covered(), Counts { own: 1, peer: 0 });
+    assert_eq!(rt; counts(&dance), numbers(0, 1, 0));
+    assert_eq!(rt; signed_covers(&dance), (1, 0));
     Ok(())
 }
 
 #[test]
 fn a_signature_is_answered_by_a_revocation(rt: HostRuntime) -> Result<(), Refusal> {
-    let alloc = rt.alloc();
-    let mut a = funder(alloc);
-    let mut b = fundee(alloc);
+    let mut a = funder(rt.alloc());
+    let mut b = fundee(rt.alloc());
     offered(&mut a, &mut b)?;
-    let signature = a.sign(alloc, &FUNDER)?;
-    let revocation = b.accept(alloc, &FUNDEE, &signature)?;
-    assert_eq!(rt; revocation.channel_id, CHANNEL);
-    assert_eq!(rt; revocation.secret, FUNDEE_SECRET);
-    assert_eq!(rt; revocation.next_point, FUNDEE_POINT_2);
-    assert_eq!(rt; b.numbers(), numbers(1, 0, 0));
-    a.learn(&FUNDER, &revocation)?;
-    assert!(rt; !a.owes());
-    assert_eq!(rt; a.numbers(), numbers(0, 1, 1));
-    assert_eq!(rt; a.peer().point, FUNDEE_POINT_1);
-    assert_eq!(rt; a.peer().next_point, FUNDEE_POINT_2);
-    assert_eq!(rt; a.peer().secret, Some(FUNDEE_SECRET));
-    assert!(rt; signs_so(alloc, &a, &FUNDER, 1, &signature)?);
+    assert_eq!(rt;
+        to_fundee(rt.alloc(), &mut a, &mut b)?,
+        (FUNDEE_SECRET, FUNDEE_POINT_2)
+    );
+    assert_eq!(rt; counts(&b), numbers(1, 0, 0));
+    assert!(rt; !owes(&a));
+    assert_eq!(rt; counts(&a), numbers(0, 1, 1));
+    assert_eq!(rt; learned(&a).point, FUNDEE_POINT_1);
+    assert_eq!(rt; learned(&a).next_point, FUNDEE_POINT_2);
+    assert_eq!(rt; learned(&a).secret, Some(FUNDEE_SECRET));
+    Ok(())
+}
+
+// The fundee's first signature, behind the funder's.
+fn signs_back(alloc: Global, a: &mut Dance, b: &mut Dance) -> Result<[u8; 64], Refusal> {
+    to_fundee(alloc, a, b)?;
+    let message = sign(alloc, b, &FUNDEE)?;
+    let signature = message.signature;
+    Ok(signature)
+}
+
+#[test]
+fn the_other_side_signs_at_the_funders_point(rt: HostRuntime) -> Result<(), Refusal> {
+    let mut a = funder(rt.alloc());
+    let mut b = fundee(rt.alloc());
+    offered(&mut a, &mut b)?;
+    assert_eq!(rt;
+        signs_back(rt.alloc(), &mut a, &mut b)?,
+        doubled(&FUNDEE_DIGEST)
+    );
+    assert!(rt; owes(&b));
     Ok(())
 }
 
 #[test]
 fn the_other_way_round(rt: HostRuntime) -> Result<(), Refusal> {
-    let alloc = rt.alloc();
-    let mut a = funder(alloc);
-    let mut b = fundee(alloc);
+    let mut a = funder(rt.alloc());
+    let mut b = fundee(rt.alloc());
     offered(&mut a, &mut b)?;
-    in_turn(alloc, &mut a, &FUNDER, &mut b, &FUNDEE)?;
-    let signature = b.sign(alloc, &FUNDEE)?;
-    assert_eq!(rt; signature.signature, doubled(&FUNDEE_DIGEST));
-    let revocation = a.accept(alloc, &FUNDER, &signature)?;
-    assert_eq!(rt; revocation.secret, FUNDER_SECRET);
-    assert_eq!(rt; revocation.next_point, FUNDER_POINT_2);
-    b.learn(&FUNDEE, &revocation)?;
-    assert_eq!(rt; b.numbers(), numbers(1, 1, 1));
-    assert_eq!(rt; b.peer().secret, Some(FUNDER_SECRET));
-    assert_eq!(rt; a.numbers(), numbers(1, 1, 1));
+    to_fundee(rt.alloc(), &mut a, &mut b)?;
+    assert_eq!(rt;
+        to_funder(rt.alloc(), &mut a, &mut b)?,
+        (FUNDER_SECRET, FUNDER_POINT_2)
+    );
+    assert_eq!(rt; counts(&b), numbers(1, 1, 1));
+    assert_eq!(rt; learned(&b).secret, Some(FUNDER_SECRET));
+    assert_eq!(rt; counts(&a), numbers(1, 1, 1));
     Ok(())
+}
+
+// The fundee fulfils, and the funder takes it.
+fn fulfilled(a: &mut Dance, b: &mut Dance) -> Result<(), Refusal> {
+    fulfil(b, 0)?;
+    a.receive(Update::Fulfil(Fulfil {
+        id: 0,
+        preimage: [0; 32],
+    }))
+}
+
+// Both dance until the HTLC stands in both commitments: what the funder's and the fundee's are worth after
+// the first dance, and the funder's after the second.
+fn committed(
+    alloc: Global,
+    a: &mut Dance,
+    b: &mut Dance,
+) -> Result<[(u64, u64, usize); 3], Refusal> {
+    offered(a, b)?;
+    to_fundee(alloc, a, b)?;
+    let first = worth(alloc, a)?;
+    let second = worth(alloc, b)?;
+    to_funder(alloc, a, b)?;
+    let third = worth(alloc, a)?;
+    Ok([first, second, third])
 }
 
 #[test]
 fn an_offer_is_fulfilled(rt: HostRuntime) -> Result<(), Refusal> {
-    let alloc = rt.alloc();
-    let mut a = funder(alloc);
-    let mut b = fundee(alloc);
-    offered(&mut a, &mut b)?;
-    in_turn(alloc, &mut a, &FUNDER, &mut b, &FUNDEE)?;
-    assert_eq!(rt; worth(alloc, &a)?, (16_000, 4000, 0));
-    assert_eq!(rt; worth(alloc, &b)?, (11_000, 4000, 1));
-    in_turn(alloc, &mut b, &FUNDEE, &mut a, &FUNDER)?;
-    assert_eq!(rt; worth(alloc, &a)?, (11_000, 4000, 1));
-    fulfil(&mut b, 0)?;
-    a.receive(Update::Fulfil(Fulfil {
-        id: 0,
-        preimage: [0; 32],
-    }))?;
-    in_turn(alloc, &mut b, &FUNDEE, &mut a, &FUNDER)?;
-    in_turn(alloc, &mut a, &FUNDER, &mut b, &FUNDEE)?;
-    assert_eq!(rt; worth(alloc, &a)?, (11_000, 9000, 0));
-    assert_eq!(rt; worth(alloc, &b)?, (11_000, 9000, 0));
-    assert_eq!(rt; a.numbers(), numbers(2, 2, 2));
-    assert_eq!(rt; b.numbers(), numbers(2, 2, 2));
+    let mut a = funder(rt.alloc());
+    let mut b = fundee(rt.alloc());
+    let held = committed(rt.alloc(), &mut a, &mut b)?;
+    assert_eq!(rt;
+        held,
+        [(16_000, 4000, 0), (11_000, 4000, 1), (11_000, 4000, 1)]
+    );
+    fulfilled(&mut a, &mut b)?;
+    to_funder(rt.alloc(), &mut a, &mut b)?;
+    to_fundee(rt.alloc(), &mut a, &mut b)?;
+    assert_eq!(rt; worth(rt.alloc(), &a)?, (11_000, 9000, 0));
+    assert_eq!(rt; worth(rt.alloc(), &b)?, (11_000, 9000, 0));
+    assert_eq!(rt; counts(&a), numbers(2, 2, 2));
+    assert_eq!(rt; counts(&b), numbers(2, 2, 2));
     Ok(())
 }
 
 #[test]
 fn a_wrong_signature_is_refused(rt: HostRuntime) -> Result<(), Refusal> {
-    let alloc = rt.alloc();
-    let mut b = fundee(alloc);
+    let mut b = fundee(rt.alloc());
     b.receive(an_add(0, 5000))?;
-    let zeros = zero_signature(alloc);
     assert_eq!(rt;
-        accept_answer(alloc, &mut b, &FUNDEE, &zeros),
+        accepts_bare(rt.alloc(), &mut b, &FUNDEE, [0; 64]),
         Some(Refusal::SignatureWrong)
     );
-    assert_eq!(rt; b.numbers(), numbers(0, 0, 0));
-    assert_eq!(rt;
-        b.log().counts(Pair::Current(Side::Own)),
-        Counts { own: 0, peer: 0 }
-    );
-    assert_eq!(rt; b.log().peer_updates().len(), 1);
+    assert_eq!(rt; counts(&b), numbers(0, 0, 0));
+    assert_eq!(rt; own_covers(&b), (0, 0));
+    assert_eq!(rt; updates(&b), (0, 1));
     Ok(())
 }
 
 #[test]
 fn one_signature_too_few_is_refused(rt: HostRuntime) -> Result<(), Refusal> {
-    let alloc = rt.alloc();
-    let mut a = funder(alloc);
-    let mut b = fundee(alloc);
+    let mut a = funder(rt.alloc());
+    let mut b = fundee(rt.alloc());
     offered(&mut a, &mut b)?;
-    let right = a.sign(alloc, &FUNDER)?;
-    let fewer = too_few(alloc, &right);
+    let right = doubled(&FUNDER_DIGEST);
     assert_eq!(rt;
-        accept_answer(alloc, &mut b, &FUNDEE, &fewer),
+        accepts_bare(rt.alloc(), &mut b, &FUNDEE, right),
         Some(Refusal::SignatureWrong)
     );
-    assert_eq!(rt; b.numbers(), numbers(0, 0, 0));
+    assert_eq!(rt; counts(&b), numbers(0, 0, 0));
+    assert_eq!(rt; own_covers(&b), (0, 0));
     assert_eq!(rt;
-        b.log().counts(Pair::Current(Side::Own)),
-        Counts { own: 0, peer: 0 }
+        to_fundee(rt.alloc(), &mut a, &mut b)?,
+        (FUNDEE_SECRET, FUNDEE_POINT_2)
     );
-    assert_eq!(rt; accept_answer(alloc, &mut b, &FUNDEE, &right), None);
     Ok(())
 }
 
 #[test]
 fn nothing_is_revoked_without_a_signature(rt: HostRuntime) {
     let mut dance = funder(rt.alloc());
-    let zeros = zero_secret(rt.alloc());
-    assert_eq!(rt; dance.learn(&FUNDER, &zeros), Err(Refusal::NothingToRevoke));
-    assert_eq!(rt; dance.numbers(), numbers(0, 0, 0));
-    assert_eq!(rt; dance.peer(), told(&FUNDEE));
+    assert_eq!(rt;
+        learns_zeros(rt.alloc(), &mut dance, &FUNDER),
+        Err(Refusal::NothingToRevoke)
+    );
+    assert_eq!(rt; counts(&dance), numbers(0, 0, 0));
+    assert_eq!(rt; learned(&dance), told(&FUNDEE));
 }
 
 #[test]
 fn a_wrong_secret_is_refused(rt: HostRuntime) -> Result<(), Refusal> {
-    let alloc = rt.alloc();
-    let mut dance = funder(alloc);
+    let mut dance = funder(rt.alloc());
     add(&mut dance, 5000)?;
-    assert_eq!(rt; sign_answer(alloc, &mut dance, &FUNDER), None);
-    let zeros = zero_secret(alloc);
-    assert_eq!(rt; dance.learn(&FUNDER, &zeros), Err(Refusal::SecretWrong));
-    assert!(rt; dance.owes());
-    assert_eq!(rt; dance.numbers(), numbers(0, 1, 0));
-    assert_eq!(rt; dance.peer(), told(&FUNDEE));
+    assert_eq!(rt; sign_answer(rt.alloc(), &mut dance, &FUNDER), None);
     assert_eq!(rt;
-        dance.log().counts(Pair::Current(Side::Peer)),
-        Counts { own: 0, peer: 0 }
+        learns_zeros(rt.alloc(), &mut dance, &FUNDER),
+        Err(Refusal::SecretWrong)
     );
+    assert!(rt; owes(&dance));
+    assert_eq!(rt; counts(&dance), numbers(0, 1, 0));
+    assert_eq!(rt; learned(&dance), told(&FUNDEE));
+    assert_eq!(rt; peer_covers(&dance), (0, 0));
     Ok(())
-}
-
-// A signature of the funder over the fundee's commitment 1 as it was opened.
-fn empty_signature(alloc: Global) -> Result<CommitmentSigned, Refusal> {
-    let log = UpdateLog::new(alloc, Role::Funder, OPENING);
-    let view = log.view(alloc, Pair::ToSign)?;
-    let signed = FUNDER.sign(alloc, 1, &FUNDEE.point(1), &view)?;
-    Ok(CommitmentSigned {
-        channel_id: CHANNEL,
-        signature: signed.sig,
-        htlc_signatures: Signatures::empty(alloc),
-        records: Records::empty(alloc),
-    })
 }
 
 #[test]
 fn a_signature_over_nothing_new_is_taken(rt: HostRuntime) -> Result<(), Refusal> {
-    let alloc = rt.alloc();
-    let mut b = fundee(alloc);
-    let message = empty_signature(alloc)?;
-    assert_eq!(rt; message.signature, doubled(&EMPTY_DIGEST));
-    assert_eq!(rt; accept_answer(alloc, &mut b, &FUNDEE, &message), None);
-    assert_eq!(rt; b.numbers(), numbers(1, 0, 0));
-    assert_eq!(rt; worth(alloc, &b)?, (16_000, 4000, 0));
+    let mut b = fundee(rt.alloc());
+    let right = doubled(&EMPTY_DIGEST);
+    assert_eq!(rt; accepts_bare(rt.alloc(), &mut b, &FUNDEE, right), None);
+    assert_eq!(rt; counts(&b), numbers(1, 0, 0));
+    assert_eq!(rt; worth(rt.alloc(), &b)?, (16_000, 4000, 0));
     Ok(())
 }
 
-#[test]
-fn the_last_number_is_not_passed_by_a_signature(rt: HostRuntime) -> Result<(), Refusal> {
-    let alloc = rt.alloc();
+// The funder behind this many signatures, all of them revoked for.
+fn funder_at(alloc: Global, number: u64) -> Dance
+    requires { number < 2 ^ 48 }
+{
     let log = UpdateLog::new(alloc, Role::Funder, OPENING);
-    let mut dance = Dance::new(CHANNEL, log, numbers(0, LAST, LAST), told(&FUNDEE));
+    Dance::new(CHANNEL, log, numbers(0, number, number), told(&FUNDEE))
+}
+
+// The fundee at this number.
+fn fundee_at(alloc: Global, number: u64) -> Dance
+    requires { number < 2 ^ 48 }
+{
+    let log = UpdateLog::new(alloc, Role::Fundee, OPENING);
+    Dance::new(CHANNEL, log, numbers(number, 0, 0), told(&FUNDER))
+}
+
+#[test]
+fn no_signature_passes_the_last_number(rt: HostRuntime) -> Result<(), Refusal> {
+    let mut dance = funder_at(rt.alloc(), LAST);
     assert_eq!(rt;
-        sign_answer(alloc, &mut dance, &FUNDER),
+        sign_answer(rt.alloc(), &mut dance, &FUNDER),
         Some(Refusal::NothingToSign)
     );
     add(&mut dance, 5000)?;
     assert_eq!(rt;
-        sign_answer(alloc, &mut dance, &FUNDER),
+        sign_answer(rt.alloc(), &mut dance, &FUNDER),
         Some(Refusal::NumbersSpent)
     );
-    assert_eq!(rt; dance.numbers(), numbers(0, LAST, LAST));
-    assert!(rt; !dance.owes());
+    assert_eq!(rt; counts(&dance), numbers(0, LAST, LAST));
+    assert!(rt; !owes(&dance));
     Ok(())
 }
 
 #[test]
 fn the_last_number_is_signed(rt: HostRuntime) -> Result<(), Refusal> {
-    let alloc = rt.alloc();
-    let log = UpdateLog::new(alloc, Role::Funder, OPENING);
-    let mut dance = Dance::new(CHANNEL, log, numbers(0, LAST - 1, LAST - 1), told(&FUNDEE));
+    let mut dance = funder_at(rt.alloc(), LAST - 1);
     add(&mut dance, 5000)?;
-    assert_eq!(rt; sign_answer(alloc, &mut dance, &FUNDER), None);
-    assert_eq!(rt; dance.numbers(), numbers(0, LAST, LAST - 1));
+    assert_eq!(rt; sign_answer(rt.alloc(), &mut dance, &FUNDER), None);
+    assert_eq!(rt; counts(&dance), numbers(0, LAST, LAST - 1));
     Ok(())
 }
 
 #[test]
-fn the_last_number_is_not_passed_by_accepting(rt: HostRuntime) {
-    let alloc = rt.alloc();
-    let log = UpdateLog::new(alloc, Role::Fundee, OPENING);
-    let mut dance = Dance::new(CHANNEL, log, numbers(LAST, 0, 0), told(&FUNDER));
-    let zeros = zero_signature(alloc);
+fn nothing_is_accepted_at_the_last_number(rt: HostRuntime) {
+    let mut dance = fundee_at(rt.alloc(), LAST);
     assert_eq!(rt;
-        accept_answer(alloc, &mut dance, &FUNDEE, &zeros),
+        accepts_bare(rt.alloc(), &mut dance, &FUNDEE, [0; 64]),
         Some(Refusal::OutOfPlace)
     );
-    assert_eq!(rt; dance.numbers(), numbers(LAST, 0, 0));
+    assert_eq!(rt; counts(&dance), numbers(LAST, 0, 0));
 }
 
 #[test]
 fn a_point_is_taken(rt: HostRuntime) {
-    let log = UpdateLog::new(rt.alloc(), Role::Funder, OPENING);
-    let first = Peer {
-        point: [5; 33],
-        next_point: [0; 33],
-        secret: None,
-    };
-    let mut dance = Dance::new(CHANNEL, log, numbers(0, 0, 0), first);
-    dance.take_point(FUNDEE_POINT_1);
-    assert_eq!(rt; dance.peer().point, [5; 33]);
-    assert_eq!(rt; dance.peer().next_point, FUNDEE_POINT_1);
-    assert_eq!(rt; dance.peer().secret, None);
+    let mut dance = funder(rt.alloc());
+    dance.take_point([5; 33]);
+    assert_eq!(rt; learned(&dance).point, FUNDEE.point(0));
+    assert_eq!(rt; learned(&dance).next_point, [5; 33]);
+    assert_eq!(rt; learned(&dance).secret, None);
+}
+
+fn lost(dance: &mut Dance) {
+    dance.drop_unsigned();
 }
 
 #[test]
 fn unsigned_updates_are_gone_with_the_connection(rt: HostRuntime) -> Result<(), Refusal> {
-    let alloc = rt.alloc();
-    let mut dance = funder(alloc);
+    let mut dance = funder(rt.alloc());
     add(&mut dance, 5000)?;
     dance.receive(an_add(0, 1000))?;
-    dance.drop_unsigned();
-    assert_eq!(rt; dance.log().own_updates().len(), 0);
-    assert_eq!(rt; dance.log().peer_updates().len(), 0);
-    assert_eq!(rt; dance.log().next_id(), 0);
+    lost(&mut dance);
+    assert_eq!(rt; updates(&dance), (0, 0));
     add(&mut dance, 5000)?;
-    assert_eq!(rt; sign_answer(alloc, &mut dance, &FUNDER), None);
-    dance.drop_unsigned();
-    assert_eq!(rt; dance.log().own_updates().len(), 1);
-    assert!(rt; dance.owes());
+    assert_eq!(rt; sign_answer(rt.alloc(), &mut dance, &FUNDER), None);
+    lost(&mut dance);
+    assert_eq!(rt; updates(&dance), (1, 0));
+    assert!(rt; owes(&dance));
     Ok(())
+}
+
+fn takes(dance: &mut Dance, id: u64, amount: u64) -> Result<(), Refusal> {
+    dance.receive(an_add(id, amount))
 }
 
 #[test]
@@ -544,55 +647,64 @@ fn refusals_of_the_log_are_passed_on(rt: HostRuntime) {
     let mut dance = funder(rt.alloc());
     assert_eq!(rt; add(&mut dance, 9), Err(Refusal::PeerLimit(23)));
     assert_eq!(rt; fulfil(&mut dance, 0), Err(Refusal::PeerLimit(28)));
-    assert_eq!(rt; dance.receive(an_add(1, 1000)), Err(Refusal::BadId));
-    assert_eq!(rt;
-        dance.receive(an_add(0, 9)),
-        Err(Refusal::AmountBelowMinimum)
-    );
-    assert_eq!(rt; dance.log().own_updates().len(), 0);
-    assert_eq!(rt; dance.log().peer_updates().len(), 0);
+    assert_eq!(rt; takes(&mut dance, 1, 1000), Err(Refusal::BadId));
+    assert_eq!(rt; takes(&mut dance, 0, 9), Err(Refusal::AmountBelowMinimum));
+    assert_eq!(rt; updates(&dance), (0, 0));
 }
 
 // Two partners dance once: the funder with an HTLC that the fundee has taken.
-fn funder_dances(alloc: Global, a: &mut Dance, b: &mut Dance) -> Result<(), Refusal> {
-    *a = funder(alloc);
-    *b = fundee(alloc);
-    offered(a, b)?;
+fn partners_dance(alloc: Global) -> Result<(Dance, Dance), Refusal> {
+    let mut a = funder(alloc);
+    let mut b = fundee(alloc);
+    offered(&mut a, &mut b)?;
     ToyKeys::crossed(FUNDER, FUNDEE);
-    dance_once(alloc, a, &FUNDER, b, &FUNDEE)
+    dance_once(alloc, &mut a, &FUNDER, &mut b, &FUNDEE)?;
+    Ok((a, b))
+}
+
+// The same, call by call.
+fn partners_in_turn(alloc: Global) -> Result<(Dance, Dance), Refusal> {
+    let mut a = funder(alloc);
+    let mut b = fundee(alloc);
+    offered(&mut a, &mut b)?;
+    to_fundee(alloc, &mut a, &mut b)?;
+    Ok((a, b))
+}
+
+fn are_alike(alloc: Global, x: &Dance, y: &Dance) -> Result<bool, Refusal> {
+    let left = worth(alloc, x)?;
+    let right = worth(alloc, y)?;
+    Ok(
+        left == right
+            && counts(x) == counts(y)
+            && learned(x) == learned(y)
+            && signed_covers(x) == signed_covers(y)
+            && own_covers(x) == own_covers(y)
+            && peer_covers(x) == peer_covers(y),
+    )
 }
 
 #[test]
-fn partners_dance(rt: HostRuntime) -> Result<(), Refusal> {
-    let alloc = rt.alloc();
+fn partners_dance_as_call_by_call(rt: HostRuntime) -> Result<(), Refusal> {
+    let (a, b) = partners_dance(rt.alloc())?;
+    let (c, d) = partners_in_turn(rt.alloc())?;
+    assert_eq!(rt; counts(&a), numbers(0, 1, 1));
+    assert!(rt; are_alike(rt.alloc(), &a, &c)?);
+    assert!(rt; are_alike(rt.alloc(), &b, &d)?);
+    Ok(())
+}
+
+// Two partners dance with nothing new.
+fn partners_rest(alloc: Global) -> Result<(), Refusal> {
     let mut a = funder(alloc);
     let mut b = fundee(alloc);
-    funder_dances(alloc, &mut a, &mut b)?;
-    let mut c = funder(alloc);
-    let mut d = fundee(alloc);
-    offered(&mut c, &mut d)?;
-    in_turn(alloc, &mut c, &FUNDER, &mut d, &FUNDEE)?;
-    assert_eq!(rt; a.numbers(), c.numbers());
-    assert_eq!(rt; b.numbers(), d.numbers());
-    assert_eq!(rt; a.peer(), c.peer());
-    assert_eq!(rt; b.peer(), d.peer());
-    assert_eq!(rt; worth(alloc, &a)?, worth(alloc, &c)?);
-    assert_eq!(rt; worth(alloc, &b)?, worth(alloc, &d)?);
-    assert_eq!(rt; *a.log().covered(), *c.log().covered());
-    Ok(())
+    ToyKeys::crossed(FUNDER, FUNDEE);
+    dance_once(alloc, &mut a, &FUNDER, &mut b, &FUNDEE)
 }
 
 #[test]
 fn partners_with_nothing_new(rt: HostRuntime) {
-    let mut a = funder(rt.alloc());
-    let mut b = fundee(rt.alloc());
-    ToyKeys::crossed(FUNDER, FUNDEE);
-    assert_eq!(rt;
-        dance_once(rt.alloc(), &mut a, &FUNDER, &mut b, &FUNDEE),
-        Err(Refusal::NothingToSign)
-    );
-    assert_eq!(rt; a.numbers(), numbers(0, 0, 0));
-    assert_eq!(rt; b.numbers(), numbers(0, 0, 0));
+    assert_eq!(rt; partners_rest(rt.alloc()), Err(Refusal::NothingToSign));
 }
 
 // Where there was no memory a signer is as before.
@@ -602,15 +714,21 @@ fn small_sign(rt: HostRuntime) -> Result<(), Refusal> {
     add(&mut dance, 5000)?;
     match sign_answer(rt.alloc(), &mut dance, &FUNDER) {
         None => {
-            assert_eq!(rt; dance.numbers(), numbers(0, 1, 0));
+            assert_eq!(rt; counts(&dance), numbers(0, 1, 0));
             Ok(())
         }
         Some(refusal) => {
-            assert_eq!(rt; dance.numbers(), numbers(0, 0, 0));
-            assert_eq!(rt; *dance.log().covered(), Counts { own: 0, peer: 0 });
+            assert_eq!(rt; counts(&dance), numbers(0, 0, 0));
+            assert_eq!(rt; signed_covers(&dance), (0, 0));
             Err(refusal)
         }
     }
+}
+
+// The funder's signature, and what the fundee answers.
+fn answers(alloc: Global, a: &mut Dance, b: &mut Dance) -> Result<Option<Refusal>, Refusal> {
+    let message = sign(alloc, a, &FUNDER)?;
+    Ok(accept_answer(alloc, b, &FUNDEE, &message))
 }
 
 // Where there was no memory a taker is as before.
@@ -619,18 +737,14 @@ fn small_accept(rt: HostRuntime) -> Result<(), Refusal> {
     let mut a = funder(rt.alloc());
     let mut b = fundee(rt.alloc());
     offered(&mut a, &mut b)?;
-    let signature = a.sign(rt.alloc(), &FUNDER)?;
-    match accept_answer(rt.alloc(), &mut b, &FUNDEE, &signature) {
+    match answers(rt.alloc(), &mut a, &mut b)? {
         None => {
-            assert_eq!(rt; b.numbers(), numbers(1, 0, 0));
+            assert_eq!(rt; counts(&b), numbers(1, 0, 0));
             Ok(())
         }
         Some(refusal) => {
-            assert_eq!(rt; b.numbers(), numbers(0, 0, 0));
-            assert_eq!(rt;
-                b.log().counts(Pair::Current(Side::Own)),
-                Counts { own: 0, peer: 0 }
-            );
+            assert_eq!(rt; counts(&b), numbers(0, 0, 0));
+            assert_eq!(rt; own_covers(&b), (0, 0));
             Err(refusal)
         }
     }
@@ -638,13 +752,11 @@ fn small_accept(rt: HostRuntime) -> Result<(), Refusal> {
 
 // To learn takes no memory.
 #[test]
-fn small_learn(rt: HostRuntime) -> Result<(), Refusal> {
+fn small_dance(rt: HostRuntime) -> Result<(), Refusal> {
     let mut a = funder(rt.alloc());
     let mut b = fundee(rt.alloc());
     offered(&mut a, &mut b)?;
-    let signature = a.sign(rt.alloc(), &FUNDER)?;
-    let revocation = b.accept(rt.alloc(), &FUNDEE, &signature)?;
-    assert_eq!(rt; a.learn(&FUNDER, &revocation), Ok(()));
-    assert!(rt; !a.owes());
+    to_fundee(rt.alloc(), &mut a, &mut b)?;
+    assert!(rt; !owes(&a));
     Ok(())
 }
