@@ -1,6 +1,7 @@
 //! Two sides on small inputs, over toy keys.
 
-ghost use Rattle.std.specs.Prelude.{◌<◌, ◌^◌};
+ghost use Rattle.std.specs.Prelude.{◌≡◌, ◌<◌, ◌^◌};
+ghost use Rattle.ln_log.specs.Log.{opened};
 
 use crate::{Dance, Numbers, Peer, dance_once};
 use ln_keys::{ChannelKeys, Role, ToyKeys, View};
@@ -109,7 +110,10 @@ fn numbers(commitment: u64, signed: u64, revoked: u64) -> Numbers {
 }
 
 // What the side with these keys has told at first.
-fn told(keys: &ToyKeys) -> Peer {
+fn told(keys: &ToyKeys) -> Peer
+    ensures point { result.point ≡ ⟦<ToyKeys as ChannelKeys>⟧.point_of keys.now 0 }
+    ensures next_point { result.next_point ≡ ⟦<ToyKeys as ChannelKeys>⟧.point_of keys.now 1 }
+{
     Peer {
         point: keys.point(0),
         next_point: keys.point(1),
@@ -117,15 +121,34 @@ fn told(keys: &ToyKeys) -> Peer {
     }
 }
 
-fn funder(alloc: Global) -> Dance {
+fn funder(alloc: Global) -> Dance
+    ensures log { result.log ≡ opened OPENING Role.Funder }
+    ensures numbers { result.numbers ≡ record { commitment = 0; signed = 0; revoked = 0 } }
+    ensures point { result.peer.point ≡ ⟦<ToyKeys as ChannelKeys>⟧.point_of FUNDEE 0 }
+    ensures next_point { result.peer.next_point ≡ ⟦<ToyKeys as ChannelKeys>⟧.point_of FUNDEE 1 }
+{
     let log = UpdateLog::new(alloc, Role::Funder, OPENING);
     Dance::new(CHANNEL, log, numbers(0, 0, 0), told(&FUNDEE))
 }
 
-fn fundee(alloc: Global) -> Dance {
+fn fundee(alloc: Global) -> Dance
+    ensures log { result.log ≡ opened OPENING Role.Fundee }
+    ensures numbers { result.numbers ≡ record { commitment = 0; signed = 0; revoked = 0 } }
+    ensures point { result.peer.point ≡ ⟦<ToyKeys as ChannelKeys>⟧.point_of FUNDER 0 }
+    ensures next_point { result.peer.next_point ≡ ⟦<ToyKeys as ChannelKeys>⟧.point_of FUNDER 1 }
+{
     let log = UpdateLog::new(alloc, Role::Fundee, OPENING);
     Dance::new(CHANNEL, log, numbers(0, 0, 0), told(&FUNDER))
 }
+
+const FIRST_ADD: Add = Add {
+    id: 0,
+    amount: 5000,
+    hash: HASH_OF_ZEROS,
+    expiry: 400,
+    onion: [0; 1366],
+    origin: None,
+};
 
 fn an_add(id: u64, amount: u64) -> Update {
     Update::Add(Add {
@@ -470,7 +493,7 @@ fn committed(
 }
 
 #[test]
-fn an_offer_is_fulfilled(rt: HostRuntime) -> Result<(), Refusal> {
+fn an_offer_stands_in_both_commitments(rt: HostRuntime) -> Result<(), Refusal> {
     let mut a = funder(rt.alloc());
     let mut b = fundee(rt.alloc());
     let held = committed(rt.alloc(), &mut a, &mut b)?;
@@ -478,11 +501,31 @@ fn an_offer_is_fulfilled(rt: HostRuntime) -> Result<(), Refusal> {
         held,
         [(16_000, 4000, 0), (11_000, 4000, 1), (11_000, 4000, 1)]
     );
-    fulfilled(&mut a, &mut b)?;
-    to_funder(rt.alloc(), &mut a, &mut b)?;
-    to_fundee(rt.alloc(), &mut a, &mut b)?;
-    assert_eq!(rt; worth(rt.alloc(), &a)?, (11_000, 9000, 0));
-    assert_eq!(rt; worth(rt.alloc(), &b)?, (11_000, 9000, 0));
+    Ok(())
+}
+
+// Behind both dances with the HTLC, those with its removal.
+fn settled(alloc: Global, a: &mut Dance, b: &mut Dance) -> Result<(), Refusal> {
+    committed(alloc, a, b)?;
+    fulfilled(a, b)?;
+    to_funder(alloc, a, b)?;
+    to_fundee(alloc, a, b)?;
+    Ok(())
+}
+
+fn both_worth(alloc: Global, a: &Dance, b: &Dance) -> Result<[(u64, u64, usize); 2], Refusal> {
+    let first = worth(alloc, a)?;
+    let second = worth(alloc, b)?;
+    Ok([first, second])
+}
+
+#[test]
+fn an_offer_is_fulfilled(rt: HostRuntime) -> Result<(), Refusal> {
+    let mut a = funder(rt.alloc());
+    let mut b = fundee(rt.alloc());
+    settled(rt.alloc(), &mut a, &mut b)?;
+    let held = both_worth(rt.alloc(), &a, &b)?;
+    assert_eq!(rt; held, [(11_000, 9000, 0), (11_000, 9000, 0)]);
     assert_eq!(rt; counts(&a), numbers(2, 2, 2));
     assert_eq!(rt; counts(&b), numbers(2, 2, 2));
     Ok(())
@@ -652,45 +695,47 @@ fn refusals_of_the_log_are_passed_on(rt: HostRuntime) {
     assert_eq!(rt; updates(&dance), (0, 0));
 }
 
+// What can be seen of a side.
+type Seen = (Numbers, Peer, (u64, u64, usize));
+
+fn seen(alloc: Global, dance: &Dance) -> Result<Seen, Refusal> {
+    let worth = worth(alloc, dance)?;
+    Ok((counts(dance), learned(dance), worth))
+}
+
+fn both_seen(alloc: Global, a: &Dance, b: &Dance) -> Result<[Seen; 2], Refusal> {
+    let first = seen(alloc, a)?;
+    let second = seen(alloc, b)?;
+    Ok([first, second])
+}
+
 // Two partners dance once: the funder with an HTLC that the fundee has taken.
-fn partners_dance(alloc: Global) -> Result<(Dance, Dance), Refusal> {
+fn partners_dance(alloc: Global) -> Result<[Seen; 2], Refusal> {
     let mut a = funder(alloc);
     let mut b = fundee(alloc);
-    offered(&mut a, &mut b)?;
+    a.propose(Update::Add(FIRST_ADD))?;
+    b.receive(Update::Add(FIRST_ADD))?;
     ToyKeys::crossed(FUNDER, FUNDEE);
     dance_once(alloc, &mut a, &FUNDER, &mut b, &FUNDEE)?;
-    Ok((a, b))
+    both_seen(alloc, &a, &b)
 }
 
 // The same, call by call.
-fn partners_in_turn(alloc: Global) -> Result<(Dance, Dance), Refusal> {
+fn partners_in_turn(alloc: Global) -> Result<[Seen; 2], Refusal> {
     let mut a = funder(alloc);
     let mut b = fundee(alloc);
     offered(&mut a, &mut b)?;
     to_fundee(alloc, &mut a, &mut b)?;
-    Ok((a, b))
-}
-
-fn are_alike(alloc: Global, x: &Dance, y: &Dance) -> Result<bool, Refusal> {
-    let left = worth(alloc, x)?;
-    let right = worth(alloc, y)?;
-    Ok(
-        left == right
-            && counts(x) == counts(y)
-            && learned(x) == learned(y)
-            && signed_covers(x) == signed_covers(y)
-            && own_covers(x) == own_covers(y)
-            && peer_covers(x) == peer_covers(y),
-    )
+    both_seen(alloc, &a, &b)
 }
 
 #[test]
 fn partners_dance_as_call_by_call(rt: HostRuntime) -> Result<(), Refusal> {
-    let (a, b) = partners_dance(rt.alloc())?;
-    let (c, d) = partners_in_turn(rt.alloc())?;
-    assert_eq!(rt; counts(&a), numbers(0, 1, 1));
-    assert!(rt; are_alike(rt.alloc(), &a, &c)?);
-    assert!(rt; are_alike(rt.alloc(), &b, &d)?);
+    let once = partners_dance(rt.alloc())?;
+    let calls = partners_in_turn(rt.alloc())?;
+    assert_eq!(rt; once[0].0, numbers(0, 1, 1));
+    assert_eq!(rt; once[1].0, numbers(1, 0, 0));
+    assert_eq!(rt; once, calls);
     Ok(())
 }
 
