@@ -1,4 +1,4 @@
-use Rattle.ln_log.proofs.Signs.{exactly, fundee_funded}
+use Rattle.ln_log.proofs.Signs.{exactly}
 use Rattle.ln_log.proofs.log.sign_exactly.Goals as goal
 
 pub returns : goal.returns
