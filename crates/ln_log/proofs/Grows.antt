@@ -1,5 +1,5 @@
 -- A log with a further update.
-use Rattle.std.proofs.Common.{◌≡◌, ℕ, ◌+◌, ◌-◌, ◌*◌, ◌≤◌, ◌<◌, ◌^◌, List, [], ◌∷◌, ◌++◌, length, take, drop, refl, sym, ap, ◌∙◌, subst, arith, Bool, true, false, cond, not, eqb, Option, Some, None, Result, Ok, Err, length-append, nat_le, option_map}
+use Rattle.std.proofs.Common.{◌≡◌, ℕ, ◌+◌, ◌≤◌, ◌<◌, ◌^◌, List, [], ◌∷◌, length, take, refl, sym, ap, ◌∙◌, subst, arith, Bool, true, false, cond, eqb, Option, Some, None, Result, Ok, Err, length-append, nat_le, option_map}
 use Rattle.std.proofs.lemmas.List.{take-append-le}
 use Rattle.std.proofs.lemmas.Bool.{leb-false, lt-leb, eqb-true}
 use Rattle.std.specs.Result.{IsErrAnd}
@@ -17,14 +17,13 @@ use Rattle.ln_log.specs.declared.update.Update.TheVariants as update
 use Rattle.ln_log.specs.declared.outcome.Outcome.TheVariants.{Live}
 use Rattle.ln_log.specs.Opening.{IsFit, limits_of, first_balance}
 use Rattle.ln_log.specs.Updates.{offered, removed, next_id, outcome}
-use Rattle.ln_log.specs.View.{Pays, IsFunded}
+use Rattle.ln_log.specs.View.{Pays}
 use Rattle.ln_log.specs.Limits.{standing_of, fault_at, update_fault, HasNextId, id_fault, is_spent, first_fault, Answers}
 use Rattle.ln_log.specs.Standing.{with_own, OwnFits}
-use Rattle.ln_log.specs.Machine.{Covered}
-use Rattle.ln_log.specs.Log.{Log, IsKept, HasId, AreNumbered, AreRemovals, BothPay, covered, counts_of, peer_limit, removal_fault, length_fault, proposal_fault, taken_fault, proposed, received}
+use Rattle.ln_log.specs.Log.{Log, IsKept, HasId, AreRemovals, peer_limit, removal_fault, length_fault, proposal_fault, taken_fault, proposed, received}
 use Rattle.ln_log.proofs.Outcomes.{above, next-front, numbered-take, numbered-push, removals-push, removals-take, untouched}
-use Rattle.ln_log.proofs.Sums.{pays_all, pays_longer}
-use Rattle.ln_log.proofs.Kept.{small, small_back, found_in, found_all, both_same, Growing, Grown, grown}
+use Rattle.ln_log.proofs.Sums.{pays_all}
+use Rattle.ln_log.proofs.Kept.{small, small_back, found_in, both_same, Growing, Grown, grown}
 
 -- ---- what an answer of no fault says
 

@@ -1,6 +1,6 @@
 -- What each call of a log keeps.
-use Rattle.std.proofs.Common.{◌≡◌, ℕ, ◌+◌, ◌-◌, ◌*◌, ◌≤◌, ◌<◌, ◌^◌, List, [], ◌∷◌, ◌++◌, length, take, drop, refl, sym, ap, ◌∙◌, subst, arith, Bool, true, false, cond, Option, Some, None, length-append, ◌||◌, ◌==◌, nat_lt}
-use Rattle.std.proofs.lemmas.List.{take-append-drop, take-append-le, take-take, take_all, take_rest, drop-take, length-take-le}
+use Rattle.std.proofs.Common.{◌≡◌, ℕ, ◌+◌, ◌-◌, ◌*◌, ◌≤◌, ◌<◌, ◌^◌, List, [], ◌∷◌, ◌++◌, length, take, drop, refl, sym, ap, ◌∙◌, subst, arith, Bool, true, false, cond, Option, Some, None, ◌||◌, ◌==◌, nat_lt}
+use Rattle.std.proofs.lemmas.List.{take-append-drop, take-take, take_all, take_rest, drop-take, length-take-le}
 use Rattle.std.proofs.lemmas.Bool.{ltb-false}
 use Rattle.ln_keys.specs.declared.role.Role.{Role}
 use Rattle.ln_keys.specs.Role.{other_role}
@@ -18,10 +18,10 @@ use Rattle.ln_log.specs.Updates.{offered, removed, is_some, next_id, add_with, o
 use Rattle.ln_log.specs.View.{balance, Pays}
 use Rattle.ln_log.specs.Limits.{standing_of, add_fault, fault_at, removable, fulfil_fault, fail_fault, malformed_fault}
 use Rattle.ln_log.specs.Standing.{with_own, with_all, paid_by, PaidFits, OwnFits, AllFit}
-use Rattle.ln_log.specs.Log.{Log, Counts, covered, IsWithin, IsKept, BothPay, number_after, HasId, AreNumbered, RemovesLive, AreRemovals, proposed, received, signed_all, accepted_all, acknowledged_all, dropped}
-use Rattle.ln_log.proofs.Outcomes.{add_with-more, next-take, next-cons, above, numbered-take, numbered-drop, numbered-push, removals-push, removals-take, removals-drop, removals-more, untouched}
+use Rattle.ln_log.specs.Log.{Log, IsKept, BothPay, number_after, HasId, AreNumbered, RemovesLive, AreRemovals, acknowledged_all, dropped}
+use Rattle.ln_log.proofs.Outcomes.{add_with-more, next-take, next-cons, above, numbered-take, numbered-drop, removals-take, removals-drop, removals-more, untouched}
 use Rattle.ln_log.proofs.Sums.{sums, first_sum, longer, pays_longer, pays_all, pays_more}
-use Rattle.ln_log.proofs.Standings.{MayAdd, Covers, own_moves, own_pays, all_step}
+use Rattle.ln_log.proofs.Standings.{MayAdd, own_moves, own_pays, all_step}
 
 -- the standing of a side that offered own, moved by all that is taken behind m updates of the other side's
 pub record Settling (f g : ℕ) (own adds held got : List Update) (m : ℕ) : Type 0 where

@@ -1,6 +1,5 @@
 -- What one more update does to the outcomes of HTLCs, and to what they amount to.
-use Rattle.std.proofs.Common.{◌≡◌, ℕ, ◌+◌, ◌≤◌, ◌<◌, List, [], ◌∷◌, ◌++◌, length, take, drop, zero, suc, refl, sym, ap, ◌∙◌, subst, arith, Bool, true, false, cond, Option, Some, None, eqb, append_assoc, append-nil, inl, inr}
-use Rattle.std.proofs.lemmas.Bool.{eqb-true, eq-eqb}
+use Rattle.std.proofs.Common.{◌≡◌, ℕ, ◌+◌, ◌≤◌, ◌<◌, List, [], ◌∷◌, ◌++◌, take, drop, zero, suc, refl, sym, ap, ◌∙◌, subst, arith, Bool, true, false, cond, Option, Some, None, eqb, append_assoc, append-nil, inl, inr}
 use Rattle.std.proofs.lemmas.Bool.Decides.{eqb_tells}
 use Rattle.std.proofs.lemmas.List.{take-take}
 use Rattle.std.proofs.lemmas.List.Sums.{sum_by-cons, sum_by_push, sum_by-take-le}
@@ -10,8 +9,7 @@ use Rattle.ln_log.specs.declared.update.Update.{Update}
 use Rattle.ln_log.specs.declared.update.Update.TheVariants as update
 use Rattle.ln_log.specs.declared.outcome.Outcome.{Outcome}
 use Rattle.ln_log.specs.declared.outcome.Outcome.TheVariants.{Live, Fulfilled, Failed}
-use Rattle.ln_log.specs.Updates.{offered, removed, is_some, is_add, next_id, found_or, add_with, outcome_by, outcome, is_live, is_fulfilled, is_failed, is_any, share_of, share, total}
-use Rattle.ln_log.specs.View.{live_of, live_adds}
+use Rattle.ln_log.specs.Updates.{offered, removed, is_some, is_add, next_id, found_or, add_with, outcome_by, outcome, is_live}
 use Rattle.ln_log.specs.Log.{number_after, HasId, AreNumbered, RemovesLive, AreRemovals}
 
 -- ---- outcomes

@@ -1,5 +1,5 @@
 -- Signing, by counts and by lists; and the views of a log.
-use Rattle.std.proofs.Common.{◌≡◌, ◌≢◌, ℕ, ◌+◌, ◌≤◌, List, length, take, map, refl, sym, ap, ◌∙◌, subst, arith, Bool, true, false, cond, Option, Some, None, ◌&&◌, ◌==◌, ◌↔◌}
+use Rattle.std.proofs.Common.{◌≡◌, ℕ, ◌≤◌, List, length, take, refl, sym, ap, ◌∙◌, subst, arith, Bool, true, false, cond, Some, None, ◌&&◌, ◌==◌, ◌↔◌}
 use Rattle.std.proofs.lemmas.List.{length-map, length-take-le, take_all}
 use Rattle.std.proofs.lemmas.Bool.{eqb-true, eq-eqb}
 use Rattle.ln_msgs.specs.declared.refusal.Refusal.TheVariants as refusal

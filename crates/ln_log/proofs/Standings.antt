@@ -1,5 +1,5 @@
 -- A standing moves as the lists do.
-use Rattle.std.proofs.Common.{◌≡◌, ℕ, ◌+◌, ◌-◌, ◌*◌, ◌≤◌, ◌<◌, ◌^◌, List, [], ◌∷◌, ◌++◌, length, refl, sym, ap, ◌∙◌, subst, arith, Bool, true, false, cond, Option, Some, None, append_assoc, append-nil}
+use Rattle.std.proofs.Common.{◌≡◌, ℕ, ◌+◌, ◌≤◌, ◌<◌, ◌^◌, List, [], ◌∷◌, ◌++◌, refl, sym, ap, ◌∙◌, subst, arith, Bool, true, false, cond, Option, Some, None, append_assoc, append-nil}
 use Rattle.ln_log.specs.declared.standing.Standing.{Standing}
 use Rattle.ln_log.specs.declared.update.Add.{Add}
 use Rattle.ln_log.specs.declared.update.Removal.{Removal}
@@ -7,14 +7,14 @@ use Rattle.ln_log.specs.declared.update.Update.{Update}
 use Rattle.ln_log.specs.declared.update.Update.TheVariants as update
 use Rattle.ln_log.specs.declared.outcome.Outcome.{Outcome}
 use Rattle.ln_log.specs.declared.outcome.Outcome.TheVariants.{Live, Fulfilled, Failed}
-use Rattle.ln_log.specs.Updates.{offered, removed, is_some, next_id, add_with, outcome, is_live, is_fulfilled, is_failed, is_any, total}
-use Rattle.ln_log.specs.View.{live_adds, balance, Pays}
+use Rattle.ln_log.specs.Updates.{offered, removed, is_some, next_id, add_with, outcome, is_live, is_fulfilled, is_failed, is_any}
+use Rattle.ln_log.specs.View.{balance, Pays}
 use Rattle.ln_log.specs.Limits.{standing_of}
-use Rattle.ln_log.specs.Standing.{with_add, paid_by, with_own, without, with_removal, with_peer, with_all, PaidFits, AddFits, OwnFits, WithoutFits, FoundFits, RemovalFits, PeerFits, AllFit}
+use Rattle.ln_log.specs.Standing.{with_add, paid_by, with_own, without, with_peer, with_all, WithoutFits, FoundFits, PeerFits, AllFit}
 use Rattle.ln_log.specs.Log.{number_after, HasId, AreNumbered, RemovesLive, AreRemovals}
-use Rattle.ln_log.proofs.Outcomes.{next-push, outcome-none}
+use Rattle.ln_log.proofs.Outcomes.{next-push}
 use Rattle.ln_log.proofs.Tallies.{amount, one, weight, tally, total_is, live_is, tally-push, tally-none, tally-hit}
-use Rattle.ln_log.proofs.Sums.{balance_more, pays_more, any_same}
+use Rattle.ln_log.proofs.Sums.{balance_more, pays_more}
 
 pub standing_is : (s t : Standing) → s.next_id ≡ t.next_id → s.live ≡ t.live → s.in_flight ≡ t.in_flight → s.balance ≡ t.balance → s ≡ t
 standing_is s t en el ef eb =

@@ -1,5 +1,5 @@
 -- What HTLCs weigh together by their outcomes, and how one more update changes it.
-use Rattle.std.proofs.Common.{◌≡◌, ℕ, ◌+◌, ◌≤◌, ◌<◌, List, [], ◌∷◌, ◌++◌, length, refl, sym, ap, ◌∙◌, subst, arith, Bool, true, false, cond, Option, Some, None, eqb, inl, inr}
+use Rattle.std.proofs.Common.{◌≡◌, ℕ, ◌+◌, List, [], ◌∷◌, ◌++◌, length, refl, sym, ap, ◌∙◌, arith, Bool, true, false, cond, Option, Some, None, eqb, inl, inr}
 use Rattle.std.proofs.lemmas.Bool.{eq-eqb}
 use Rattle.std.proofs.lemmas.Bool.Decides.{eqb_tells}
 use Rattle.std.proofs.lemmas.List.Sums.{sum_by-cons}
@@ -9,10 +9,10 @@ use Rattle.ln_log.specs.declared.update.Removal.{Removal}
 use Rattle.ln_log.specs.declared.update.Update.{Update}
 use Rattle.ln_log.specs.declared.outcome.Outcome.{Outcome}
 use Rattle.ln_log.specs.declared.outcome.Outcome.TheVariants.{Live, Fulfilled, Failed}
-use Rattle.ln_log.specs.Updates.{offered, removed, is_some, found_or, add_with, outcome, is_live, is_fulfilled, is_failed, is_any, share_of, share, total}
+use Rattle.ln_log.specs.Updates.{offered, removed, found_or, add_with, outcome, is_live, share_of, share, total}
 use Rattle.ln_log.specs.View.{live_of, live_adds}
 use Rattle.ln_log.specs.Log.{number_after, HasId, AreNumbered}
-use Rattle.ln_log.proofs.Outcomes.{outcome-append, outcome-none, outcome-other, outcome-hit, below}
+use Rattle.ln_log.proofs.Outcomes.{outcome-none, outcome-other, outcome-hit, below}
 
 abbrev pub amount : Add → ℕ
 amount a = a.amount

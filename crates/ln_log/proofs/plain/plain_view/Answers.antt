@@ -1,7 +1,5 @@
-use Rattle.std.proofs.Common.{◌≡◌, ◌≤◌, ◌+◌, ◌*◌, ◌^◌, arith, sym, ap, ◌∙◌, map, ◌++◌, subst, length}
+use Rattle.std.proofs.Common.{arith, sym, ap, ◌∙◌, map, ◌++◌, subst}
 use Rattle.ln_log.specs.View.{htlc_of, live_adds, AddsUp}
-use Rattle.ln_log.specs.declared.update.Update.{Update}
-use Rattle.ln_log.specs.Updates.{total, is_any, is_failed, is_fulfilled}
 use Rattle.ln_keys.specs.declared.role.Role.TheVariants.{Funder, Fundee}
 use Rattle.ln_log.proofs.Sums.{adds_up, total_splits}
 use Rattle.ln_log.proofs.Signs.{view_is}

@@ -1,4 +1,4 @@
-use Rattle.std.proofs.Common.{◌≡◌, IfOk, subst, sym, ◌∙◌, refl}
+use Rattle.std.proofs.Common.{◌≡◌, IfOk, subst, sym, ◌∙◌}
 use Rattle.ln_keys.specs.declared.view.View.{View}
 use Rattle.ln_log.proofs.Signs.{cut_length, funder_view, fundee_view, funder_funded, fundee_funded}
 use Rattle.ln_log.proofs.log.UpdateLog.view.Goals as goal
