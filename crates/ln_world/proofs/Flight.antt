@@ -163,6 +163,12 @@ allowed l a e =
     let q = first_none (option_map peer_limit limits) None p.1 in
     (unless (is_spent l.own) refusal.NumbersSpent p.0, unmapped limits q.0)
 
+-- and where it has, and the add is, nothing does
+pub unhindered : (l : Log) (a : Add) → is_spent l.own ≡ false → update_fault l.opening l.role l.own (take l.current.peer l.got) [] (update.Add a) ≡ None → proposal_fault l (update.Add a) ≡ None
+unhindered l a room e =
+    let limits = update_fault l.opening l.role l.own (take l.current.peer l.got) [] (update.Add a) in
+    ap (λ b. first_fault (cond b (Some refusal.NumbersSpent) None) (first_fault (option_map peer_limit limits) None)) room ∙ ap (λ f. first_fault (option_map peer_limit f) None) e
+
 pub taken_none : (o : Opening) (r : Role) (own peer : List Update) (a : Add) → a.id ≡ next_id own → is_spent own ≡ false → update_fault o r own peer [] (update.Add a) ≡ None → add_taken o r own peer a ≡ None
 taken_none o r own peer a next room e =
     let limits = update_fault o r own peer [] (update.Add a) in

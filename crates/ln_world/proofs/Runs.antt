@@ -1,22 +1,24 @@
 -- Over all lists of steps.
 use Rattle.ln_log.specs.Machine.{MaySign, Covered, party, IsSettled, Machine, Move, Open, IsRun, after}
 use Rattle.std.proofs.Common.{◌↔◌, ℕ, length, take, append-nil, ap, ◌≤◌, ◌≡◌, List, [], ◌∷◌, ◌++◌, Option, Some, None, Bool, true, false, cond, not, ◌&&◌, refl, sym, ◌∙◌, subst, arith}
-use Rattle.ln_world.specs.World.{end_of, side_of, acts_at, may_open, opened_by, same_node, happens, run, machine_of_channel, machine_of, act_moves, moves_at, moves_of, moves, Promises, SignsExactly, TakesFront, NoneRefused, HoldsAll, Agrees}
-use Rattle.ln_world.proofs.Flow.{Flows, Kept, Phase, follows_from}
+use Rattle.ln_world.specs.World.{end_of, side_of, acts_at, may_open, opened_by, same_node, happens, run, machine_of_channel, machine_of, act_moves, moves_at, moves_of, moves, Promises, SignsExactly, MayOffer, OffersExactly, TakesFront, NoneRefused, HoldsAll, Agrees}
+use Rattle.ln_world.proofs.Flow.{Flows, Kept, got_adds, Phase, follows_from}
 use Rattle.ln_keys.specs.declared.role.Role.{Role}
 use Rattle.ln_keys.specs.declared.role.Role.TheVariants.{Funder, Fundee}
 use Rattle.ln_log.specs.declared.opening.Opening.{Opening}
 use Rattle.ln_log.specs.declared.update.Update.{Update}
+use Rattle.ln_log.specs.declared.update.Update.TheVariants as update
 use Rattle.ln_log.specs.Opening.{IsFit, is_fit}
 use Rattle.ln_log.specs.Updates.{as_sent, all_sent}
 use Rattle.ln_log.specs.Log.{Log, party_of, IsWithin, opened, none, sign_fault}
 use Rattle.ln_world.specs.declared.channel.Channel.{Channel}
 use Rattle.ln_world.specs.declared.step.Ready.{Ready}
 use Rattle.ln_world.specs.declared.step.Act.{Act}
+use Rattle.ln_world.specs.declared.step.Offer.{Offer}
 use Rattle.ln_world.specs.declared.step.Step.{Step}
 use Rattle.ln_world.specs.declared.step.Step.TheVariants as step
-use Rattle.ln_world.specs.Ends.{EndState, Both, acts, fresh_end}
-use Rattle.ln_world.proofs.Steps.{place, acts_kept, acts_same, acts_run, front_fits}
+use Rattle.ln_world.specs.Ends.{EndState, Both, acts, fresh_end, add_of, offer_fault}
+use Rattle.ln_world.proofs.Steps.{place, acts_kept, acts_same, acts_run, front_fits, offer_exactly}
 use Rattle.ln_world.proofs.Flight.{ups, sigs}
 use Rattle.ln_log.proofs.Signs.{exactly}
 use Rattle.std.proofs.lemmas.List.{length-map, length-take-le, take_all}
@@ -140,6 +142,18 @@ signs_side : (x : Role) (c : Channel) → ChannelKept c → (sign_fault (end_of 
 signs_side Funder c k = exactly c.funder.log k.kept.there.within
 signs_side Fundee c k = exactly c.fundee.log k.kept.back.within
 
+offers_side : (x : Role) (o : Offer) (c : Channel) → ChannelKept c → (offer_fault o (end_of x c).log ≡ None) ↔ MayOffer c.funder.log.opening x (update.Add (add_of o (end_of x c).log)) (party x (machine_of_channel c))
+offers_side Funder o c k =
+    let l = c.funder.log in
+    let T : Role → Type 0 = λ r. (offer_fault o l ≡ None) ↔ MayOffer l.opening r (update.Add (add_of o l)) (party_of l) in
+    subst T k.funder_role (offer_exactly l o k.kept.there.adds (got_adds c.fundee c.funder k.kept.back))
+offers_side Fundee o c k =
+    let l = c.fundee.log in
+    let T : Opening → Role → Type 0 = λ p r. (offer_fault o l ≡ None) ↔ MayOffer p r (update.Add (add_of o l)) (party_of l) in
+    let Q : Opening → Type 0 = λ p. T p Fundee in
+    let h : T l.opening l.role = offer_exactly l o k.kept.back.adds (got_adds c.funder c.fundee k.kept.there) in
+    subst Q k.kept.there.same (subst (T l.opening) k.fundee_role h)
+
 front_side : (x : Role) (c : Channel) → ChannelKept c → TakesFront (end_of x c).log (end_of x c).inbox
 front_side Funder c k = front_fits c.funder c.fundee c.funder.inbox k.kept
 front_side Fundee c k = front_fits c.fundee c.funder c.fundee.inbox (swapped c.funder c.fundee k.kept)
@@ -148,12 +162,19 @@ signs_at : (c : Option Channel) → AreKept c → SignsExactly c
 signs_at None k = tt
 signs_at (Some c) k = λ x. signs_side x c k
 
+offers_at : (c : Option Channel) → AreKept c → OffersExactly c
+offers_at None k = tt
+offers_at (Some c) k = λ x o. offers_side x o c k
+
 none_refused : (c : Option Channel) → AreKept c → NoneRefused c
 none_refused None k = tt
 none_refused (Some c) k = λ x. front_side x c k
 
 pub signs_law : (ss : List Step) → SignsExactly (run ss None)
 signs_law ss = signs_at (run ss None) (kept_on ss None tt)
+
+pub offers_law : (ss : List Step) → OffersExactly (run ss None)
+offers_law ss = offers_at (run ss None) (kept_on ss None tt)
 
 pub refused_law : (ss : List Step) → NoneRefused (run ss None)
 refused_law ss = none_refused (run ss None) (kept_on ss None tt)

@@ -1,6 +1,6 @@
 -- What an end does keeps the flows, and is the moves of the machine that the table says.
-use Rattle.ln_world.specs.World.{TakesFront, taken_moves, act_moves}
-use Rattle.std.proofs.Common.{◌≡◌, ℕ, ◌+◌, ◌≤◌, List, [], ◌∷◌, ◌++◌, length, take, Option, Some, None, false, cond, refl, sym, ap, ◌∙◌, subst, arith, is_none}
+use Rattle.ln_world.specs.World.{MayOffer, TakesFront, taken_moves, act_moves}
+use Rattle.std.proofs.Common.{◌≡◌, ◌↔◌, ℕ, ◌+◌, ◌≤◌, List, [], ◌∷◌, ◌++◌, length, take, Option, Some, None, false, cond, refl, sym, ap, ◌∙◌, subst, arith, is_none}
 use Rattle.std.proofs.lemmas.List.{take-append-le, take_all, map-append}
 use Rattle.ln_msgs.specs.declared.refusal.Refusal.{Refusal}
 use Rattle.ln_keys.specs.declared.role.Role.{Role}
@@ -11,18 +11,19 @@ use Rattle.ln_log.specs.declared.update.Update.{Update}
 use Rattle.ln_log.specs.declared.update.Update.TheVariants as update
 use Rattle.ln_keys.specs.Role.{other_role}
 use Rattle.ln_log.specs.Updates.{next_id, as_sent, all_sent}
-use Rattle.ln_log.specs.Limits.{update_fault}
+use Rattle.ln_log.specs.Limits.{update_fault, is_spent}
 use Rattle.ln_log.specs.Machine.{Party, Machine, Move, Propose, Sign, Accept, Learn, MayPropose, MaySign, IsRun, proposes, signs, accepts, learns}
 use Rattle.ln_log.specs.Log.{Log, party_of, IsWithin, proposed, received, signed_all, accepted_all, acknowledged_all, sign_fault, taken_fault}
 use Rattle.ln_log.proofs.Signs.{sign_allowed, exactly}
 use Rattle.ln_world.specs.declared.message.Message.{Message}
 use Rattle.ln_world.specs.declared.message.Message.TheVariants as message
 use Rattle.ln_world.specs.declared.step.Command.TheVariants as command
+use Rattle.ln_world.specs.declared.step.Offer.{Offer}
 use Rattle.ln_world.specs.declared.step.Act.{Act}
 use Rattle.ln_world.specs.declared.step.Act.TheVariants as act
 use Rattle.ln_world.specs.Ends.{EndState, Both, sends, add_of, offer_fault, delivers, acts}
 use Rattle.ln_world.proofs.Adds.{AreAdds, adds-take, sent_same}
-use Rattle.ln_world.proofs.Flight.{ups, sigs, revs, add_taken, allowed, taken_same}
+use Rattle.ln_world.proofs.Flight.{ups, sigs, revs, add_taken, allowed, unhindered, taken_same}
 use Rattle.ln_world.proofs.Flow.{Kept, got_adds, offered, signed, took_add, took_signature, took_revocation}
 
 -- what is done only where nothing forbids it
@@ -203,15 +204,21 @@ delivered_runs r o x y (message.Revoke n ∷ ms) k =
     let l = learn_lists x y n ms k in run_learn r o (party_of x.log) (party_of y.log) (party_of (acknowledged_all x.log)) (party_acknowledged x.log y.log l.0 l.1)
 
 -- the limits by the lists as they are sent
-within_sent : (l : Log) (a : Add) → AreAdds l.own → AreAdds l.got → update_fault l.opening l.role l.own (take l.current.peer l.got) [] (update.Add a) ≡ None
-    → update_fault l.opening l.role (all_sent l.own) (all_sent (take l.current.peer l.got)) (all_sent (take l.acknowledged.peer l.got)) (update.Add a) ≡ None
-within_sent l a own got e =
+sent_fault : (l : Log) (a : Add) → AreAdds l.own → AreAdds l.got
+    → update_fault l.opening l.role (all_sent l.own) (all_sent (take l.current.peer l.got)) (all_sent (take l.acknowledged.peer l.got)) (update.Add a) ≡ update_fault l.opening l.role l.own (take l.current.peer l.got) [] (update.Add a)
+sent_fault l a own got =
     ap (λ us. update_fault l.opening l.role us (all_sent (take l.current.peer l.got)) [] (update.Add a)) (sent_same l.own own)
     ∙ ap (λ us. update_fault l.opening l.role l.own us [] (update.Add a)) (sent_same (take l.current.peer l.got) (adds-take l.current.peer l.got got))
-    ∙ e
 
 next_sent : (l : Log) → AreAdds l.own → next_id l.own ≡ next_id (all_sent l.own)
 next_sent l own = ap next_id (sym (sent_same l.own own))
+
+pub offer_exactly : (l : Log) (o : Offer) → AreAdds l.own → AreAdds l.got → (offer_fault o l ≡ None) ↔ MayOffer l.opening l.role (update.Add (add_of o l)) (party_of l)
+offer_exactly l o own got =
+    let a = add_of o l in (
+      (λ e. let may = allowed l a e in (record { open_still = refl; next = next_sent l own; within = sent_fault l a own got ∙ may.1 }, ap is_spent (sent_same l.own own) ∙ may.0)),
+      (λ m. unhindered l a (ap is_spent (sym (sent_same l.own own)) ∙ m.1) (sym (sent_fault l a own got) ∙ m.0.within)),
+    )
 
 pub acts_run : (a : Act) (b : Both) → Kept b → IsRun (act_moves b.x.log.role a b.x) (Some (machine_at b.x.log.role b.x.log.opening b)) (Some (machine_at b.x.log.role b.x.log.opening (acts a b)))
 acts_run act.Deliver b k = delivered_runs b.x.log.role b.x.log.opening b.x b.y b.x.inbox k
@@ -222,7 +229,7 @@ acts_run (act.Send (command.Add o)) b k =
     let own = k.there.adds in
     let got : AreAdds l.got = got_adds b.y b.x k.back in
     run_gated (offer_fault o l) (Propose l.role u) (machine_at l.role l.opening) (sends (message.Add a) (record { x = record b.x { log = proposed u l }; y = b.y })) b
-    (λ e. let may = allowed l a e in run_propose l.role l.opening (party_of l) (party_of b.y.log) (party_of (proposed u l)) u (record { open_still = refl; next = next_sent l own; within = within_sent l a own got may.1 }) (party_proposed l u k.there.within))
+    (λ e. run_propose l.role l.opening (party_of l) (party_of b.y.log) (party_of (proposed u l)) u ((offer_exactly l o own got).0 e).0 (party_proposed l u k.there.within))
 acts_run (act.Send command.Sign) b k =
     let l = b.x.log in
     run_gated (sign_fault l) (Sign l.role) (machine_at l.role l.opening) (sends (message.Sign (b.x.signatures + 1)) (record { x = record b.x { log = signed_all l; signatures = b.x.signatures + 1 }; y = b.y })) b

@@ -1,12 +1,15 @@
 -- A world of one channel, and which steps of the abstract machine its steps are.
-use Rattle.std.specs.Prelude.{◌↔◌, ◌≡◌, List, [], ◌∷◌, ◌++◌, Bool, not, ◌&&◌, ◌==◌, Option, Some, None, is_none, if◌then◌else◌}
+use Rattle.std.specs.Prelude.{◌↔◌, ◌≡◌, List, [], ◌∷◌, ◌++◌, Bool, false, not, ◌&&◌, ◌==◌, Option, Some, None, is_none, if◌then◌else◌}
 use Rattle.ln_log.specs.Log.{Log, party_of, sign_fault, taken_fault}
 use Rattle.ln_keys.specs.declared.role.Role.{Role}
 use Rattle.ln_keys.specs.declared.role.Role.TheVariants.{Funder, Fundee}
 use Rattle.ln_log.specs.declared.update.Update.TheVariants as update
+use Rattle.ln_log.specs.declared.opening.Opening.{Opening}
+use Rattle.ln_log.specs.declared.update.Update.{Update}
 use Rattle.ln_log.specs.Opening.{is_fit}
+use Rattle.ln_log.specs.Limits.{is_spent}
 use Rattle.ln_log.specs.Updates.{as_sent}
-use Rattle.ln_log.specs.Machine.{Machine, Party, party, held, MaySign, IsSettled, Move, Open, Propose, Sign, Accept, Learn, Headline}
+use Rattle.ln_log.specs.Machine.{Machine, Party, party, held, MayPropose, MaySign, IsSettled, Move, Open, Propose, Sign, Accept, Learn, Headline}
 use Rattle.ln_world.specs.declared.message.Message.{Message}
 use Rattle.ln_world.specs.declared.message.Message.TheVariants as message
 use Rattle.ln_world.specs.declared.step.Node.{Node}
@@ -118,6 +121,15 @@ Promises (Some m) = Headline m
 abbrev pub SignsExactly : Option Channel → Type 0
 SignsExactly None = Unit {0}
 SignsExactly (Some c) = (x : Role) → (sign_fault (end_of x c).log ≡ None) ↔ MaySign (party x (machine_of_channel c))
+
+-- the machine may propose it there, and the side has proposed fewer than 2^62 updates
+abbrev pub MayOffer : Opening → Role → Update → Party → Type 0
+MayOffer o x u p = MayPropose o x u p × (is_spent p.own ≡ false)
+
+-- a side is kept from offering an HTLC exactly where it may not
+abbrev pub OffersExactly : Option Channel → Type 0
+OffersExactly None = Unit {0}
+OffersExactly (Some c) = (x : Role) (o : Offer) → (offer_fault o (end_of x c).log ≡ None) ↔ MayOffer c.funder.log.opening x (as_sent (update.Add (add_of o (end_of x c).log))) (party x (machine_of_channel c))
 
 -- an add in front of an end is within its limits
 abbrev pub TakesFront : Log → List Message → Type 0

@@ -2,7 +2,7 @@
 
 ghost use Rattle.std.specs.Prelude.{◌≡◌, List, Option, None};
 ghost use Rattle.ln_world.specs.declared.step.Step.{Step};
-ghost use Rattle.ln_world.specs.World.{run, machine_of, moves, Promises, SignsExactly, NoneRefused, Agrees};
+ghost use Rattle.ln_world.specs.World.{run, machine_of, moves, Promises, SignsExactly, OffersExactly, NoneRefused, Agrees};
 ghost use Rattle.ln_log.specs.Machine.{IsRun};
 
 use crate::channel::Channel;
@@ -134,6 +134,12 @@ pub fn headline()
 /// Over every list of steps: a side is kept from signing exactly where the machine may not sign there.
 pub fn signs_exactly()
     ensures { (steps : List Step) → SignsExactly (run steps None) }
+{}
+
+/// Over every list of steps: a side is kept from offering an HTLC exactly where the machine may not
+/// propose it there, or where the side has proposed 2^62 updates.
+pub fn offers_exactly()
+    ensures { (steps : List Step) → OffersExactly (run steps None) }
 {}
 
 /// Over every list of steps: no message that is delivered is refused.
