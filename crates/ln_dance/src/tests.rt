@@ -101,7 +101,9 @@ const CHANNEL: [u8; 32] = [9; 32];
 // The last number that a commitment can have.
 const LAST: u64 = 281_474_976_710_655;
 
-fn numbers(commitment: u64, signed: u64, revoked: u64) -> Numbers {
+fn numbers(commitment: u64, signed: u64, revoked: u64) -> Numbers
+    ensures { result ≡ record { commitment = commitment; signed = signed; revoked = revoked } }
+{
     Numbers {
         commitment,
         signed,
@@ -163,7 +165,11 @@ fn an_add(id: u64, amount: u64) -> Update {
 
 fn add(dance: &mut Dance, amount: u64) -> Result<(), Refusal> {
     let id = dance.log().next_id();
-    dance.propose(an_add(id, amount))
+    dance.propose(Update::Add(Add {
+        id,
+        amount,
+        ..FIRST_ADD
+    }))
 }
 
 fn fulfil(dance: &mut Dance, id: u64) -> Result<(), Refusal> {
