@@ -194,9 +194,11 @@ fn small_step(rt: HostRuntime) -> Result<(), Refusal> {
 
 #[test]
 fn small_act(rt: HostRuntime) -> Result<(), Refusal> {
-    if opening(1000, 0).is_fit() {
-        let mut x = Endpoint::new(rt.alloc(), Role::Funder, opening(1000, 0));
-        let mut y = Endpoint::new(rt.alloc(), Role::Fundee, opening(1000, 0));
+    let opening = opening(1000, 0);
+    assert!(rt; opening.is_fit());
+    if opening.is_fit() {
+        let mut x = Endpoint::new(rt.alloc(), Role::Funder, opening);
+        let mut y = Endpoint::new(rt.alloc(), Role::Fundee, opening);
         assert_eq!(rt; act(&mut x, &mut y, &offer(5000, 400))?, Answer::Done);
         assert_eq!(rt; act(&mut y, &mut x, &Act::Deliver)?, Answer::Done);
         assert_eq!(rt; y.log().peer_updates().len(), 1);
