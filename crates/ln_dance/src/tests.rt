@@ -701,6 +701,50 @@ fn refusals_of_the_log_are_passed_on(rt: HostRuntime) {
     assert_eq!(rt; updates(&dance), (0, 0));
 }
 
+// What can be seen of a side.
+type Seen = (Numbers, Peer, (u64, u64, usize));
+
+fn seen(alloc: Global, dance: &Dance) -> Result<Seen, Refusal> {
+    let worth = worth(alloc, dance)?;
+    Ok((counts(dance), learned(dance), worth))
+}
+
+fn both_seen(alloc: Global, a: &Dance, b: &Dance) -> Result<[Seen; 2], Refusal> {
+    let first = seen(alloc, a)?;
+    let second = seen(alloc, b)?;
+    Ok([first, second])
+}
+
+// Two partners dance once: the funder with an HTLC that the fundee has taken.
+fn partners_dance(alloc: Global) -> Result<[Seen; 2], Refusal> {
+    let mut a = funder(alloc);
+    let mut b = fundee(alloc);
+    a.propose(Update::Add(FIRST_ADD))?;
+    b.receive(Update::Add(FIRST_ADD))?;
+    ToyKeys::crossed(FUNDER, FUNDEE);
+    dance_once(alloc, &mut a, &FUNDER, &mut b, &FUNDEE)?;
+    both_seen(alloc, &a, &b)
+}
+
+// The same, call by call.
+fn partners_in_turn(alloc: Global) -> Result<[Seen; 2], Refusal> {
+    let mut a = funder(alloc);
+    let mut b = fundee(alloc);
+    offered(&mut a, &mut b)?;
+    to_fundee(alloc, &mut a, &mut b)?;
+    both_seen(alloc, &a, &b)
+}
+
+#[test]
+fn partners_dance_as_call_by_call(rt: HostRuntime) -> Result<(), Refusal> {
+    let once = partners_dance(rt.alloc())?;
+    let calls = partners_in_turn(rt.alloc())?;
+    assert_eq!(rt; once[0].0, numbers(0, 1, 1));
+    assert_eq!(rt; once[1].0, numbers(1, 0, 0));
+    assert_eq!(rt; once, calls);
+    Ok(())
+}
+
 // Two partners dance with nothing new.
 fn partners_rest(alloc: Global) -> Result<(), Refusal> {
     let mut a = funder(alloc);
