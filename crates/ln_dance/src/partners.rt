@@ -1,7 +1,7 @@
 //! The law of partners, for the whole dance: what one signs the other accepts, and the first learns the
 //! revocation.
 
-ghost use Rattle.std.specs.Prelude.{◌≡◌, OnOk};
+ghost use Rattle.std.specs.Prelude.{◌≡◌, ◌⊎◌, OnOk, OnErr};
 ghost use Rattle.ln_keys.specs.Partners.{ArePartners};
 ghost use Rattle.ln_log.specs.Limits.{Answers};
 ghost use Rattle.ln_dance.specs.Dance.{StandsFor, sign_fault, signs, accepts_next, revoked_message, learns};
@@ -16,7 +16,8 @@ use std::alloc::Global;
 /// sent.
 ///
 /// It is refused exactly as the signature is (41, 42, 46), or for want of memory (60): no partner's
-/// signature is wrong (31), nor its secret (32), nor is its revocation out of place (33).
+/// signature is wrong (31), nor its secret (32), nor is its revocation out of place (33). Where memory
+/// runs out, the taker is as it was, and the signer may have signed.
 pub fn dance_once<K: ChannelKeys>(
     alloc: Global,
     signer: &mut Dance,
@@ -29,6 +30,8 @@ pub fn dance_once<K: ChannelKeys>(
     ensures answer { Answers (sign_fault signer.old) result }
     ensures signer { OnOk result (StandsFor signer.new (learns (revoked_message K.secret_of K.point_of taker_keys.now taker.old) (signs signer.old))) }
     ensures taker { OnOk result (StandsFor taker.new (accepts_next taker.old)) }
+    ensures signer_err { OnErr result ((signer.new ≡ signer.old) ⊎ StandsFor signer.new (signs signer.old)) }
+    ensures taker_err { OnErr result (taker.new ≡ taker.old) }
 {
     let signature = signer.sign(alloc, signer_keys)?;
     let revocation = taker.accept(alloc, taker_keys, &signature)?;
