@@ -1,4 +1,6 @@
 pub mod Outcomes
+pub mod Tables
+pub mod Live
 pub mod Tallies
 pub mod Sums
 pub mod Standings

@@ -1,5 +1,5 @@
 -- What a log does, as moves of the channel's machine.
-use Rattle.std.proofs.Common.{◌≡◌, ℕ, ◌≤◌, List, [], ◌∷◌, ◌++◌, length, take, drop, map, refl, sym, ap, ◌∙◌, arith, Bool, true, false, cond, not, Option, Some, None, is_none, option_map, ◌↔◌}
+use Rattle.std.proofs.Common.{◌≡◌, ℕ, ◌≤◌, List, [], ◌∷◌, length, take, drop, refl, sym, ap, ◌∙◌, arith, Bool, true, false, cond, not, Option, Some, None, is_none, option_map}
 use Rattle.std.proofs.lemmas.List.{take-append-le, take-append-drop, take-take, take_all, map-append}
 use Rattle.ln_msgs.specs.declared.refusal.Refusal.{Refusal}
 use Rattle.ln_msgs.specs.declared.refusal.Refusal.TheVariants as refusal
@@ -7,9 +7,8 @@ use Rattle.ln_log.specs.declared.update.Add.{Add}
 use Rattle.ln_log.specs.declared.update.Removal.{Removal}
 use Rattle.ln_log.specs.declared.update.Update.{Update}
 use Rattle.ln_log.specs.declared.update.Update.TheVariants as update
-use Rattle.ln_log.specs.declared.outcome.Outcome.TheVariants.{Live}
 use Rattle.ln_log.specs.Opening.{limits_of, first_balance}
-use Rattle.ln_log.specs.Updates.{removed, as_sent, all_sent, is_some, next_id, add_with, outcome, is_live}
+use Rattle.ln_log.specs.Updates.{removed, as_sent, all_sent, is_some, add_with, outcome, is_live}
 use Rattle.ln_log.specs.Limits.{standing_of, update_fault, HasNextId, is_spent, first_fault}
 use Rattle.ln_log.specs.Machine.{Party, MayFollow, MayPropose, proposes, signs, accepts, learns, drops}
 use Rattle.ln_log.specs.Log.{Log, IsWithin, RemovesLive, party_of, proposed, received, signed_all, accepted_all, acknowledged_all, dropped, peer_limit, removal_fault, proposal_fault, length_fault}

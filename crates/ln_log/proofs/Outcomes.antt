@@ -14,12 +14,12 @@ use Rattle.ln_log.specs.Log.{number_after, HasId, AreNumbered, RemovesLive, AreR
 
 -- ---- outcomes
 
-abbrev IsDone : Option Removal → Type 0
+abbrev pub IsDone : Option Removal → Type 0
 IsDone None = Unit {0}
 IsDone (Some r) = is_live r.outcome ≡ false
 
 -- what removes an HTLC doesn't leave it live
-done : (u : Update) → IsDone (removed u)
+pub done : (u : Update) → IsDone (removed u)
 done (update.Add a) = tt
 done (update.Fulfil f) = refl
 done (update.Fail f) = refl

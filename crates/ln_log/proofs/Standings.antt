@@ -23,7 +23,7 @@ standing_is s t en el ef eb =
     ∙ ap (λ n. record { next_id = t.next_id; live = t.live; in_flight = n; balance = s.balance }) ef
     ∙ ap (λ n. record { next_id = t.next_id; live = t.live; in_flight = t.in_flight; balance = n }) eb
 
-found_some : (o : Option Add) → is_some o ≡ true → (a : Add) × (o ≡ Some a)
+pub found_some : (o : Option Add) → is_some o ≡ true → (a : Add) × (o ≡ Some a)
 found_some None e = absurd (cc)
 found_some (Some a) e = (a, refl)
 

@@ -7,6 +7,7 @@ mod log;
 mod opening;
 mod outcome;
 mod plain;
+mod removals;
 mod standing;
 mod update;
 
@@ -15,7 +16,8 @@ pub use ln_keys::{Htlc, Htlcs, Role, View};
 pub use log::{Counts, Pair, Side, UpdateLog};
 pub use opening::{Limits, Opening};
 pub use outcome::Outcome;
-pub use plain::{conservation, find_add, last_feerate, live_count, outcome_of, plain_view};
+pub use plain::{conservation, find_add, last_feerate, live_count, plain_view};
+pub use removals::outcome_of;
 pub use standing::{Standing, add_refusal, update_refusal};
 pub use update::{Add, ChannelId, Fail, Fee, Fulfil, Malformed, Removal, Update, removal_of};
 

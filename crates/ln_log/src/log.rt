@@ -9,7 +9,8 @@ ghost use Rattle.ln_log.specs.Machine.{MaySign};
 
 use crate::opening::Opening;
 use crate::outcome::Outcome;
-use crate::plain::{find_add, live_count, outcome_of, plain_view};
+use crate::plain::{count_adds, find_add, plain_view};
+use crate::removals::{count_removals, outcome_of};
 use crate::standing::{Standing, update_refusal};
 use crate::update::{Update, removal_of};
 use ln_keys::{Role, View};
@@ -397,7 +398,9 @@ impl UpdateLog {
         let counts = self.counts(Pair::Current(side));
         let own = &self.own[..counts.own];
         let peer = &self.got[..counts.peer];
-        live_count(own, peer) + live_count(peer, own)
+        let offered = count_adds(own) + count_adds(peer);
+        let removed = count_removals(own) + count_removals(peer);
+        offered - removed
     }
 }
 

@@ -6,12 +6,13 @@ ghost use Rattle.ln_log.specs.declared.opening.Opening.{Opening};
 ghost use Rattle.ln_log.specs.declared.update.Update.{Update};
 ghost use Rattle.ln_log.specs.declared.outcome.Outcome.{Outcome};
 ghost use Rattle.ln_log.specs.Opening.{IsFit};
-ghost use Rattle.ln_log.specs.Updates.{offered, add_with, outcome, last_feerate, share, total, is_any, is_failed, is_fulfilled};
+ghost use Rattle.ln_log.specs.Updates.{offered, next_id, add_with, outcome, last_feerate, is_some, share, total, is_any, is_failed, is_fulfilled};
 ghost use Rattle.ln_log.specs.View.{live_of, live_adds, htlc_of, view_of, IsFunded, AddsUp};
 
 use crate::opening::Opening;
 use crate::outcome::Outcome;
-use crate::update::{Add, Update, removal_of};
+use crate::removals::{Outcomes, outcome_of};
+use crate::update::{Add, Update};
 use ln_keys::{Htlc, Htlcs, Role, View};
 use ln_msgs::Refusal;
 use std::alloc::Global;
@@ -31,24 +32,6 @@ pub fn find_add(id: u64, updates: &[Update]) -> Option<&Add>
         }
     }
     None
-}
-
-/// What the other side's updates make of the HTLC of an id: what the first of them that removes it makes
-/// (BOLT 2, "Removing an HTLC").
-pub fn outcome_of(id: u64, removals: &[Update]) -> Outcome
-    ensures { result ≡ outcome id removals.now }
-{
-    for update in removals {
-        match removal_of(update) {
-            None => {}
-            Some(removal) => {
-                if removal.id == id {
-                    return removal.outcome;
-                }
-            }
-        }
-    }
-    Outcome::Live
 }
 
 /// The last feerate that the funder proposed, else that of the opening (BOLT 2, "Updating Fees").
@@ -81,6 +64,20 @@ fn add_of(update: &Update) -> Option<&Add>
     }
 }
 
+/// How many HTLCs these updates offer.
+pub fn count_adds(updates: &[Update]) -> usize
+    ensures count { result ≡ next_id updates.now }
+    ensures few { result ≤ length updates.now }
+{
+    let mut count = 0usize;
+    for update in updates {
+        if add_of(update).is_some() {
+            count += 1;
+        }
+    }
+    count
+}
+
 // What an update offers, and what the other side makes of it; nothing where it offers no HTLC.
 #[derive(Clone, Copy)]
 struct Share {
@@ -88,8 +85,8 @@ struct Share {
     amount: u64,
 }
 
-fn share_of(update: &Update, removals: &[Update]) -> Share
-    ensures { (test : Outcome → Bool) → share test removals.now update.now ≡ (if test result.outcome then result.amount else 0) }
+fn share_of(update: &Update, outcomes: &Outcomes) -> Share
+    ensures { (test : Outcome → Bool) → share test outcomes.now update.now ≡ (if test result.outcome then result.amount else 0) }
 {
     match add_of(update) {
         None => Share {
@@ -97,7 +94,7 @@ fn share_of(update: &Update, removals: &[Update]) -> Share
             amount: 0,
         },
         Some(add) => Share {
-            outcome: outcome_of(add.id, removals),
+            outcome: outcomes.outcome(add.id),
             amount: add.amount,
         },
     }
@@ -111,10 +108,10 @@ struct Sums {
     fulfilled: u128,
 }
 
-fn sums_of(adds: &[Update], removals: &[Update]) -> Sums
-    ensures offered { result.offered ≡ total is_any adds.now removals.now }
-    ensures failed { result.failed ≡ total is_failed adds.now removals.now }
-    ensures fulfilled { result.fulfilled ≡ total is_fulfilled adds.now removals.now }
+fn sums_of(adds: &[Update], outcomes: &Outcomes) -> Sums
+    ensures offered { result.offered ≡ total is_any adds.now outcomes.now }
+    ensures failed { result.failed ≡ total is_failed adds.now outcomes.now }
+    ensures fulfilled { result.fulfilled ≡ total is_fulfilled adds.now outcomes.now }
     ensures small { result.offered ≤ 2 ^ 64 * length adds.now }
 {
     let mut sums = Sums {
@@ -123,7 +120,7 @@ fn sums_of(adds: &[Update], removals: &[Update]) -> Sums
         fulfilled: 0,
     };
     for update in adds {
-        let share = share_of(update, removals);
+        let share = share_of(update, outcomes);
         let amount = u128::from(share.amount);
         sums.offered += amount;
         match share.outcome {
@@ -136,12 +133,12 @@ fn sums_of(adds: &[Update], removals: &[Update]) -> Sums
 }
 
 // The HTLC that an update offers, where the other side hasn't removed it.
-fn live_add<'a>(update: &'a Update, removals: &[Update]) -> Option<&'a Add>
-    ensures { option_copied result ≡ live_of (offered update.now) removals.now }
+fn live_add<'a>(update: &'a Update, outcomes: &Outcomes) -> Option<&'a Add>
+    ensures { option_copied result ≡ live_of (offered update.now) outcomes.now }
 {
     match add_of(update) {
         None => None,
-        Some(add) => match outcome_of(add.id, removals) {
+        Some(add) => match outcomes.outcome(add.id) {
             Outcome::Live => Some(add),
             Outcome::Failed => None,
             Outcome::Fulfilled => None,
@@ -153,13 +150,13 @@ fn push_live(
     htlcs: &mut Vec<Htlc>,
     owner: Role,
     adds: &[Update],
-    removals: &[Update],
+    outcomes: &Outcomes,
 ) -> Result<(), Refusal>
-    ensures ok { OnOk result (htlcs.new.items ≡ htlcs.old.items ++ map (htlc_of owner) (live_adds adds.now removals.now)) }
+    ensures ok { OnOk result (htlcs.new.items ≡ htlcs.old.items ++ map (htlc_of owner) (live_adds adds.now outcomes.now)) }
     ensures memory { IsOkUnless result Refusal.Memory }
 {
     for update in adds {
-        match live_add(update, removals) {
+        match live_add(update, outcomes) {
             None => {}
             Some(add) => htlcs.push(Htlc {
                 owner,
@@ -173,6 +170,16 @@ fn push_live(
     Ok(())
 }
 
+// Whether an update offers an HTLC that the other side hasn't removed.
+fn is_live(update: &Update, removals: &[Update]) -> bool
+    ensures { result ≡ is_some (live_of (offered update.now) removals.now) }
+{
+    match add_of(update) {
+        None => false,
+        Some(add) => outcome_of(add.id, removals) == Outcome::Live,
+    }
+}
+
 /// How many HTLCs of one side the other hasn't removed.
 pub fn live_count(adds: &[Update], removals: &[Update]) -> usize
     ensures count { result ≡ length (live_adds adds.now removals.now) }
@@ -180,9 +187,8 @@ pub fn live_count(adds: &[Update], removals: &[Update]) -> usize
 {
     let mut count = 0usize;
     for update in adds {
-        match live_add(update, removals) {
-            None => {}
-            Some(_) => count += 1,
+        if is_live(update, removals) {
+            count += 1;
         }
     }
     count
@@ -202,11 +208,13 @@ pub fn plain_view(
     ensures adds_up { IfOk result (λ v. AddsUp opening.now v) }
     ensures memory { IsOkUnless result Refusal.Memory }
 {
+    let of_funder = Outcomes::new(alloc, funder.len(), fundee)?;
+    let of_fundee = Outcomes::new(alloc, fundee.len(), funder)?;
     let mut htlcs = Vec::new(alloc);
-    push_live(&mut htlcs, Role::Funder, funder, fundee)?;
-    push_live(&mut htlcs, Role::Fundee, fundee, funder)?;
-    let out = sums_of(funder, fundee);
-    let back = sums_of(fundee, funder);
+    push_live(&mut htlcs, Role::Funder, funder, &of_funder)?;
+    push_live(&mut htlcs, Role::Fundee, fundee, &of_fundee)?;
+    let out = sums_of(funder, &of_funder);
+    let back = sums_of(fundee, &of_fundee);
     let had = u128::from(opening.first_balance(Role::Funder));
     let got = u128::from(opening.first_balance(Role::Fundee));
     Ok(View {

@@ -1,5 +1,6 @@
 //! A log, its limits and its views on small inputs.
 
+use crate::removals::Outcomes;
 use crate::testing::*;
 use crate::{
     Add, Counts, Htlc, Limits, Opening, Outcome, Pair, Removal, Role, Side, Standing, Update,
@@ -372,6 +373,26 @@ fn the_plain_programs(rt: HostRuntime) -> Result<(), Refusal> {
     assert!(rt;
         last_feerate(253, funder.as_slice()) == 280 && last_feerate(253, fundee.as_slice()) == 253
     );
+    Ok(())
+}
+
+#[test]
+fn a_table_tells_what_the_list_does(rt: HostRuntime) -> Result<(), Refusal> {
+    let removals = updates(
+        rt.alloc(),
+        [
+            What::Fulfil(1, 0),
+            What::Malformed(1, 0xc005),
+            What::Fail(3, 4),
+            What::Fulfil(900, 0),
+        ],
+    )?;
+    for count in [0, 2, 4] {
+        let outcomes = Outcomes::new(rt.alloc(), count, removals.as_slice())?;
+        for id in [0, 1, 2, 3, 900, 901] {
+            assert_eq!(rt; outcomes.outcome(id), outcome_of(id, removals.as_slice()));
+        }
+    }
     Ok(())
 }
 

@@ -1,5 +1,5 @@
-use Rattle.std.proofs.Common.{arith, sym}
-use Rattle.std.proofs.lemmas.List.{length-take}
+use Rattle.std.proofs.Common.{arith, refl, sym, ◌∙◌}
+use Rattle.ln_log.proofs.Live.{live_by}
 use Rattle.ln_log.proofs.Signs.{cut_length}
 use Rattle.ln_log.proofs.log.UpdateLog.live_htlcs.Goals as goal
 
@@ -9,5 +9,24 @@ slice_bounds-own-end c = cut_length _ _ _ (c.counts-counts.ensures.own_within _ 
 pub slice_bounds-peer-end : goal.slice_bounds-peer-end
 slice_bounds-peer-end c = cut_length _ _ _ (c.counts-counts.ensures.peer_within _ (sym c.self.view_is)) c.deref-2.ensures.value
 
-pub overflow_add-result : goal.overflow_add-result
-overflow_add-result c = omega (arith, length-take c.counts-counts.result.own c.deref.result.now, length-take c.counts-counts.result.peer c.deref-2.result.now)
+pub overflow_sub-result : goal.overflow_sub-result
+overflow_sub-result c =
+    omega (
+      arith,
+      c.count_adds.ensures.count,
+      c.count_adds-2.ensures.count,
+      c.count_removals.ensures.count,
+      c.count_removals-2.ensures.count,
+      live_by _ _ _ _ _ _ c.args.side _ _ _ _ c.self.invariant refl (c.counts-counts.ensures.own _ (sym c.self.view_is)) (c.counts-counts.ensures.peer _ (sym c.self.view_is)) c.deref.ensures.value c.deref-2.ensures.value,
+    )
+
+pub returns : goal.returns
+returns c = λ l e.
+    omega (
+      arith,
+      c.count_adds.ensures.count,
+      c.count_adds-2.ensures.count,
+      c.count_removals.ensures.count,
+      c.count_removals-2.ensures.count,
+      live_by _ l _ _ _ _ c.args.side _ _ _ _ c.self.invariant (c.self.view_is ∙ e) (c.counts-counts.ensures.own l e) (c.counts-counts.ensures.peer l e) c.deref.ensures.value c.deref-2.ensures.value,
+    )

@@ -1,6 +1,6 @@
 use Rattle.std.proofs.Common.{◌≡◌, drop}
 use Rattle.ln_log.specs.Updates.{outcome}
-use Rattle.ln_log.proofs.plain.outcome_of.Given as goal
+use Rattle.ln_log.proofs.removals.outcome_of.Given as goal
 
 -- none of those before removes it
 abbrev pub invariant-loop-update : goal.invariant-loop-update

@@ -1,0 +1,113 @@
+//! What one side's updates make of the other side's HTLCs.
+
+ghost use Rattle.std.specs.Prelude.{◌≡◌, ◌≤◌, ◌++◌, List, [], ◌∷◌, length};
+ghost use Rattle.ln_log.specs.declared.update.Update.{Update};
+ghost use Rattle.ln_log.specs.Updates.{outcome};
+ghost use Rattle.ln_log.specs.Outcomes.{removals_in, Tells};
+
+use crate::outcome::Outcome;
+use crate::update::{Update, removal_of};
+use ln_msgs::Refusal;
+use std::alloc::Global;
+use std::marker::Model;
+
+/// What the other side's updates make of the HTLC of an id: what the first of them that removes it makes
+/// (BOLT 2, "Removing an HTLC").
+pub fn outcome_of(id: u64, removals: &[Update]) -> Outcome
+    ensures { result ≡ outcome id removals.now }
+{
+    for update in removals {
+        match removal_of(update) {
+            None => {}
+            Some(removal) => {
+                if removal.id == id {
+                    return removal.outcome;
+                }
+            }
+        }
+    }
+    Outcome::Live
+}
+
+/// How many HTLCs these updates remove.
+pub fn count_removals(updates: &[Update]) -> usize
+    ensures count { result ≡ removals_in updates.now }
+    ensures few { result ≤ length updates.now }
+{
+    let mut count = 0usize;
+    for update in updates {
+        if removal_of(update).is_some() {
+            count += 1;
+        }
+    }
+    count
+}
+
+// Notes what one more update makes of the HTLCs of a table.
+fn note_removal(by_id: &mut Vec<Outcome>, update: &Update)
+    ensures { (before : List Update) → Tells by_id.old.items before → Tells by_id.new.items (before ++ update.now ∷ []) }
+{
+    match removal_of(update) {
+        None => {}
+        Some(removal) => {
+            if removal.id < by_id.len() as u64 {
+                let place = removal.id as usize;
+                match by_id[place] {
+                    Outcome::Live => by_id[place] = removal.outcome,
+                    Outcome::Fulfilled => {}
+                    Outcome::Failed => {}
+                }
+            }
+        }
+    }
+}
+
+/// A side's updates, and what they make of the other side's HTLCs: of those with the first ids it stands
+/// in a table, so that to ask for each of them takes one pass over the updates.
+#[derive(Drop)]
+pub struct Outcomes<'a> {
+    removals: &'a [Update],
+    by_id: Vec<Outcome>,
+}
+
+impl<'a> Model for Outcomes<'a> {
+    ghost use Rattle.std.specs.Prelude.{List};
+    ghost use Rattle.ln_log.specs.declared.update.Update.{Update};
+    ghost use Rattle.ln_log.specs.Outcomes.{Tells};
+
+    ghost Value = { List Update };
+
+    ghost view = { λ o. o.removals.now };
+
+    ghost invariant = { λ o. Tells o.by_id.items o.removals.now };
+}
+
+impl<'a> Outcomes<'a> {
+    ghost use Rattle.std.specs.Prelude.{◌≡◌, IfOk};
+    ghost use Rattle.std.specs.Result.{IsOkUnless};
+    ghost use Rattle.ln_log.specs.Updates.{outcome};
+
+    /// What these updates make of the HTLCs with the first `count` ids. 60 where there was no memory.
+    pub fn new(alloc: Global, count: usize, removals: &'a [Update]) -> Result<Outcomes<'a>, Refusal>
+        ensures ok { IfOk result (λ o. o ≡ removals.now) }
+        ensures memory { IsOkUnless result Refusal.Memory }
+    {
+        let mut by_id = Vec::new(alloc);
+        by_id.resize(count, Outcome::Live)?;
+        for update in removals {
+            note_removal(&mut by_id, update);
+        }
+        Ok(Outcomes { removals, by_id })
+    }
+
+    /// What becomes of the HTLC of an id.
+    pub fn outcome(&self, id: u64) -> Outcome
+        ensures { result ≡ outcome id self.now }
+    {
+        if id < self.by_id.len() as u64 {
+            self.by_id[id as usize]
+        } else {
+            outcome_of(id, self.removals)
+        }
+    }
+}
