@@ -1,7 +1,7 @@
 -- What an end does keeps the flows, and is the moves of the machine that the table says.
 use Rattle.ln_world.specs.World.{MayOffer, TakesFront, taken_moves, act_moves}
 use Rattle.std.proofs.Common.{◌≡◌, ◌↔◌, ℕ, ◌+◌, ◌≤◌, List, [], ◌∷◌, ◌++◌, length, take, Option, Some, None, false, cond, refl, sym, ap, ◌∙◌, subst, arith, is_none}
-use Rattle.std.proofs.lemmas.List.{take-append-le, take_all, map-append}
+use Rattle.std.proofs.lemmas.List.{take-append-le, take_all}
 use Rattle.ln_msgs.specs.declared.refusal.Refusal.{Refusal}
 use Rattle.ln_keys.specs.declared.role.Role.{Role}
 use Rattle.ln_keys.specs.declared.role.Role.TheVariants.{Funder, Fundee}
@@ -10,10 +10,11 @@ use Rattle.ln_log.specs.declared.update.Add.{Add}
 use Rattle.ln_log.specs.declared.update.Update.{Update}
 use Rattle.ln_log.specs.declared.update.Update.TheVariants as update
 use Rattle.ln_keys.specs.Role.{other_role}
-use Rattle.ln_log.specs.Updates.{next_id, as_sent, all_sent}
+use Rattle.ln_log.specs.Updates.{next_id, all_sent}
 use Rattle.ln_log.specs.Limits.{update_fault, is_spent}
 use Rattle.ln_log.specs.Machine.{Party, Machine, Move, Propose, Sign, Accept, Learn, MayPropose, MaySign, IsRun, proposes, signs, accepts, learns}
 use Rattle.ln_log.specs.Log.{Log, party_of, IsWithin, proposed, received, signed_all, accepted_all, acknowledged_all, sign_fault, taken_fault}
+use Rattle.ln_log.proofs.Moves.{party_proposed, party_received, party_signed, party_accepted, party_acknowledged}
 use Rattle.ln_log.proofs.Signs.{sign_allowed, exactly}
 use Rattle.ln_world.specs.declared.message.Message.{Message}
 use Rattle.ln_world.specs.declared.message.Message.TheVariants as message
@@ -88,54 +89,6 @@ acts_same (act.Send (command.Add o)) b =
 acts_same (act.Send command.Sign) b =
     gated (Same b) (sign_fault b.x.log) (sends (message.Sign (b.x.signatures + 1)) (record { x = record b.x { log = signed_all b.x.log; signatures = b.x.signatures + 1 }; y = b.y })) b (λ e. record { x_role = refl; x_opening = refl; y_role = refl; y_opening = refl }) (itself b)
 
--- ---- the party that a log stands for
-
--- a party by the lists that its counts cut out, each as it is sent
-abbrev made : List Update → List Update → List Update → List Update → List Update → List Update → List Update → Party
-made own s t c d a e = record {
-  own = own;
-  signed = record { own = all_sent s; peer = all_sent t };
-  current = record { own = all_sent c; peer = all_sent d };
-  acknowledged = record { own = all_sent a; peer = all_sent e };
-  shut = false;
-  closed = None;
-}
-
-party_proposed : (l : Log) (u : Update) → IsWithin l → party_of (proposed u l) ≡ proposes (as_sent u) (party_of l)
-party_proposed l u w =
-    let s = take-append-le l.signed.own l.own (u ∷ []) w.own_signed in
-    let c = take-append-le l.current.own l.own (u ∷ []) (omega (arith, w.own_current, w.own_acknowledged, w.own_signed)) in
-    let a = take-append-le l.acknowledged.own l.own (u ∷ []) (omega (arith, w.own_acknowledged, w.own_signed)) in
-    ap (λ us. made (all_sent (l.own ++ u ∷ [])) us (take l.signed.peer l.got) (take l.current.own (l.own ++ u ∷ [])) (take l.current.peer l.got) (take l.acknowledged.own (l.own ++ u ∷ [])) (take l.acknowledged.peer l.got)) s
-    ∙ ap (λ us. made (all_sent (l.own ++ u ∷ [])) (take l.signed.own l.own) (take l.signed.peer l.got) us (take l.current.peer l.got) (take l.acknowledged.own (l.own ++ u ∷ [])) (take l.acknowledged.peer l.got)) c
-    ∙ ap (λ us. made (all_sent (l.own ++ u ∷ [])) (take l.signed.own l.own) (take l.signed.peer l.got) (take l.current.own l.own) (take l.current.peer l.got) us (take l.acknowledged.peer l.got)) a
-    ∙ ap (λ us. made us (take l.signed.own l.own) (take l.signed.peer l.got) (take l.current.own l.own) (take l.current.peer l.got) (take l.acknowledged.own l.own) (take l.acknowledged.peer l.got)) (map-append as_sent l.own (u ∷ []))
-
-party_received : (l : Log) (u : Update) → IsWithin l → party_of (received u l) ≡ party_of l
-party_received l u w =
-    let s = take-append-le l.signed.peer l.got (u ∷ []) (omega (arith, w.peer_signed, w.peer_current)) in
-    let c = take-append-le l.current.peer l.got (u ∷ []) w.peer_current in
-    let a = take-append-le l.acknowledged.peer l.got (u ∷ []) (omega (arith, w.peer_acknowledged, w.peer_signed, w.peer_current)) in
-    ap (λ us. made (all_sent l.own) (take l.signed.own l.own) us (take l.current.own l.own) (take l.current.peer (l.got ++ u ∷ [])) (take l.acknowledged.own l.own) (take l.acknowledged.peer (l.got ++ u ∷ []))) s
-    ∙ ap (λ us. made (all_sent l.own) (take l.signed.own l.own) (take l.signed.peer l.got) (take l.current.own l.own) us (take l.acknowledged.own l.own) (take l.acknowledged.peer (l.got ++ u ∷ []))) c
-    ∙ ap (λ us. made (all_sent l.own) (take l.signed.own l.own) (take l.signed.peer l.got) (take l.current.own l.own) (take l.current.peer l.got) (take l.acknowledged.own l.own) us) a
-
-party_signed : (l : Log) → party_of (signed_all l) ≡ signs (party_of l)
-party_signed l =
-    ap (λ us. made (all_sent l.own) us (take l.current.peer l.got) (take l.current.own l.own) (take l.current.peer l.got) (take l.acknowledged.own l.own) (take l.acknowledged.peer l.got)) (take_all (length l.own) l.own (omega arith))
-
--- with what the signer covered
-party_accepted : (l m : Log) → take l.acknowledged.own l.own ≡ take m.signed.peer m.got → take (length l.got) l.got ≡ take m.signed.own m.own → party_of (accepted_all l) ≡ accepts (party_of m) (party_of l)
-party_accepted l m own peer =
-    ap (λ us. made (all_sent l.own) (take l.signed.own l.own) (take l.signed.peer l.got) us (take (length l.got) l.got) (take l.acknowledged.own l.own) (take l.acknowledged.peer l.got)) own
-    ∙ ap (λ us. made (all_sent l.own) (take l.signed.own l.own) (take l.signed.peer l.got) (take m.signed.peer m.got) us (take l.acknowledged.own l.own) (take l.acknowledged.peer l.got)) peer
-
--- with what the revoker accepted
-party_acknowledged : (l m : Log) → take l.signed.own l.own ≡ take m.current.peer m.got → take l.signed.peer l.got ≡ take m.current.own m.own → party_of (acknowledged_all l) ≡ learns (party_of m) (party_of l)
-party_acknowledged l m own peer =
-    ap (λ us. made (all_sent l.own) (take l.signed.own l.own) (take l.signed.peer l.got) (take l.current.own l.own) (take l.current.peer l.got) us (take l.signed.peer l.got)) own
-    ∙ ap (λ us. made (all_sent l.own) (take l.signed.own l.own) (take l.signed.peer l.got) (take l.current.own l.own) (take l.current.peer l.got) (take m.current.peer m.got) us) peer
-
 -- ---- a machine with a party at a side, and another at the other
 
 abbrev pub place : Role → Opening → Party → Party → Machine
@@ -199,9 +152,9 @@ delivered_runs r o x y (message.Add a ∷ ms) k =
     subst (λ c. Some (machine_at r o (cond (is_none c) (record { x = record x { inbox = ms; log = received (update.Add a) x.log }; y = y }) (record { x = record x { inbox = ms }; y = y }))) ≡ Some (machine_at r o (record { x = x; y = y })))
     (sym (comes x y a ms k)) (ap (λ p. Some (place r o p (party_of y.log))) (party_received x.log (update.Add a) k.there.within))
 delivered_runs r o x y (message.Sign n ∷ ms) k =
-    let l = accept_lists x y n ms k in run_accept r o (party_of x.log) (party_of y.log) (party_of (accepted_all x.log)) (party_accepted x.log y.log l.0 l.1)
+    let l = accept_lists x y n ms k in run_accept r o (party_of x.log) (party_of y.log) (party_of (accepted_all x.log)) (party_accepted x.log y.log (ap all_sent l.0) (ap all_sent (sym (take_all (length x.log.got) x.log.got (omega arith)) ∙ l.1)))
 delivered_runs r o x y (message.Revoke n ∷ ms) k =
-    let l = learn_lists x y n ms k in run_learn r o (party_of x.log) (party_of y.log) (party_of (acknowledged_all x.log)) (party_acknowledged x.log y.log l.0 l.1)
+    let l = learn_lists x y n ms k in run_learn r o (party_of x.log) (party_of y.log) (party_of (acknowledged_all x.log)) (party_acknowledged x.log y.log (ap all_sent l.0) (ap all_sent l.1))
 
 -- the limits by the lists as they are sent
 sent_fault : (l : Log) (a : Add) → AreAdds l.own → AreAdds l.got
