@@ -6,8 +6,8 @@ ghost use Rattle.ln_close.specs.declared.closing.Fees.{Fees};
 ghost use Rattle.ln_close.specs.declared.closing.Closing.{Closing};
 ghost use Rattle.ln_close.specs.Closing.{opened, shuts, peer_shuts, started, answer_to, after, AreOrdered, Agrees};
 
-/// A side never sends a fee outside its own range, and a channel is closed only at a fee that both sides
-/// have sent: it is so at first, and each call keeps it.
+/// A side whose first fee lies within its own range sends none outside it, and a channel is closed only at
+/// a fee that both sides have sent: it is so at first, and each call keeps it.
 pub fn closes_by_agreement()
     ensures opened { (role : Role) (fees : Fees) → Agrees (opened role fees) }
     ensures shut { (c : Closing) → Agrees c → Agrees (shuts c) }
