@@ -1,0 +1,3 @@
+pub mod Payload
+pub mod Failure
+pub mod Checks
