@@ -109,69 +109,51 @@ fn answered(
 }
 
 // What stands on the wire, what has to be written for it, and what is answered.
-type Row = (Vec<u8>, Vec<u8>, Result<u64, Fault>);
+type Row = (&'static [u8], &'static [u8], Result<u64, Fault>);
 
-fn rows(alloc: Global) -> Result<Vec<Row>, Fail> {
-    let ping = PING.as_slice();
-    let pong = PONG.as_slice();
-    let mut rows = Vec::new(alloc);
-    let long_pong = long_pong(alloc)?;
-    for (input, output, answer) in [
-        // one ping
-        (ping, pong, Ok(1)),
-        // from 65,532 on no pong is owed
-        (&[0, 6, 0, 18, 0xff, 0xfc, 0, 0], &[], Ok(0)),
-        (
-            &[0, 6, 0, 18, 0xff, 0xfb, 0, 0],
-            long_pong.as_slice(),
-            Ok(1),
-        ),
-        // a ping that carries three bytes of its own, and a record
-        (
-            &[0, 12, 0, 18, 0, 0, 0, 3, 7, 7, 7, 1, 1, 9],
-            &[0, 4, 0, 19, 0, 0],
-            Ok(1),
-        ),
-        // nothing
-        (&[], &[], Ok(0)),
-        // an end inside a frame: in the length, in the message
-        (&[0], &[], Err(Fault::Truncated)),
-        (&[0, 6, 0, 18, 0, 2], &[], Err(Fault::Truncated)),
-        // messages that are read past: a pong, an odd type, the types 256 and 264
-        (&[0, 6, 0, 19, 0, 2, 0, 0], &[], Ok(0)),
-        (&[0, 2, 0, 21, 0, 2, 1, 0, 0, 2, 1, 8], &[], Ok(0)),
-        // an even type that isn't known; a message without a type; a ping that is cut short
-        (&[0, 2, 0, 100], &[], Err(Fault::UnknownEvenType)),
-        (&[0, 1, 0], &[], Err(Fault::Truncated)),
-        (&[0, 0], &[], Err(Fault::Truncated)),
-        (&[0, 5, 0, 18, 0, 2, 0], &[], Err(Fault::Truncated)),
-        (&[0, 6, 0, 18, 0, 2, 0, 1], &[], Err(Fault::Truncated)),
-        // faults of the records behind a ping
-        (
-            &[0, 8, 0, 18, 0, 2, 0, 0, 2, 0],
-            &[],
-            Err(Fault::TlvUnknownEven),
-        ),
-        (
-            &[0, 10, 0, 18, 0, 2, 0, 0, 1, 0, 1, 0],
-            &[],
-            Err(Fault::TlvOrder),
-        ),
-        (&[0, 8, 0, 18, 0, 2, 0, 0, 1, 1], &[], Err(Fault::TlvLength)),
-        (
-            &[0, 9, 0, 18, 0, 2, 0, 0, 0xfd, 0, 1],
-            &[],
-            Err(Fault::NotMinimal),
-        ),
-    ] {
-        rows.push((
-            Vec::from_slice(alloc, input)?,
-            Vec::from_slice(alloc, output)?,
-            answer,
-        ))?;
-    }
-    Ok(rows)
-}
+const ROWS: [Row; 17] = [
+    // one ping
+    (&PING, &PONG, Ok(1)),
+    // from 65,532 on no pong is owed
+    (&[0, 6, 0, 18, 0xff, 0xfc, 0, 0], &[], Ok(0)),
+    // a ping that carries three bytes of its own, and a record
+    (
+        &[0, 12, 0, 18, 0, 0, 0, 3, 7, 7, 7, 1, 1, 9],
+        &[0, 4, 0, 19, 0, 0],
+        Ok(1),
+    ),
+    // nothing
+    (&[], &[], Ok(0)),
+    // an end inside a frame: in the length, in the message
+    (&[0], &[], Err(Fault::Truncated)),
+    (&[0, 6, 0, 18, 0, 2], &[], Err(Fault::Truncated)),
+    // messages that are read past: a pong, an odd type, the types 256 and 264
+    (&[0, 6, 0, 19, 0, 2, 0, 0], &[], Ok(0)),
+    (&[0, 2, 0, 21, 0, 2, 1, 0, 0, 2, 1, 8], &[], Ok(0)),
+    // an even type that isn't known; a message without a type; a ping that is cut short
+    (&[0, 2, 0, 100], &[], Err(Fault::UnknownEvenType)),
+    (&[0, 1, 0], &[], Err(Fault::Truncated)),
+    (&[0, 0], &[], Err(Fault::Truncated)),
+    (&[0, 5, 0, 18, 0, 2, 0], &[], Err(Fault::Truncated)),
+    (&[0, 6, 0, 18, 0, 2, 0, 1], &[], Err(Fault::Truncated)),
+    // faults of the records behind a ping
+    (
+        &[0, 8, 0, 18, 0, 2, 0, 0, 2, 0],
+        &[],
+        Err(Fault::TlvUnknownEven),
+    ),
+    (
+        &[0, 10, 0, 18, 0, 2, 0, 0, 1, 0, 1, 0],
+        &[],
+        Err(Fault::TlvOrder),
+    ),
+    (&[0, 8, 0, 18, 0, 2, 0, 0, 1, 1], &[], Err(Fault::TlvLength)),
+    (
+        &[0, 9, 0, 18, 0, 2, 0, 0, 0xfd, 0, 1],
+        &[],
+        Err(Fault::NotMinimal),
+    ),
+];
 
 // `ffff0013fffb` and 65,531 zero bytes.
 fn long_pong(alloc: Global) -> Result<Vec<u8>, Fail> {
@@ -180,12 +162,18 @@ fn long_pong(alloc: Global) -> Result<Vec<u8>, Fail> {
     Ok(bytes)
 }
 
-// Whether the row's input is answered so, all that is written is flushed, and no call fails.
-fn is_answered(alloc: Global, row: &Row, most: usize) -> Result<bool, Fail> {
-    let outcome = answered(alloc, &row.0, most, NEVER, NEVER)?;
+// Whether the input is answered so, all that is written is flushed, and no call fails.
+fn is_answered(
+    alloc: Global,
+    input: &[u8],
+    output: &[u8],
+    answer: Result<u64, Fault>,
+    most: usize,
+) -> Result<bool, Fail> {
+    let outcome = answered(alloc, input, most, NEVER, NEVER)?;
     Ok(
-        outcome.answer == row.2
-            && outcome.written.as_slice() == row.1.as_slice()
+        outcome.answer == answer
+            && outcome.written.as_slice() == output
             && outcome.flushed == outcome.written.len()
             && outcome.failures == 0,
     )
@@ -193,67 +181,88 @@ fn is_answered(alloc: Global, row: &Row, most: usize) -> Result<bool, Fail> {
 
 #[test]
 fn pongs_for_pings(rt: HostRuntime) -> Result<(), Fail> {
-    let rows = rows(rt.alloc())?;
-    for row in &rows {
+    for (input, output, answer) in ROWS {
         for most in [1, 3, usize::MAX] {
-            assert!(rt; is_answered(rt.alloc(), row, most)?, "for {:?}", row.0);
+            assert!(rt;
+                is_answered(rt.alloc(), input, output, answer, most)?,
+                "for {input:?}"
+            );
         }
     }
     Ok(())
 }
 
-// The row behind a ping that is answered.
-fn behind_a_ping(alloc: Global, row: &Row) -> Result<Row, Fail> {
-    let mut input = Vec::from_slice(alloc, &PING)?;
-    input.extend_from_slice(&row.0)?;
-    let mut output = Vec::from_slice(alloc, &PONG)?;
-    output.extend_from_slice(&row.1)?;
-    let answer = row.2.map(|pongs| pongs.saturating_add(1));
-    Ok((input, output, answer))
+// The longest pong that is owed.
+#[test]
+fn a_pong_as_long_as_can_be(rt: HostRuntime) -> Result<(), Fail> {
+    let ping = [0, 6, 0, 18, 0xff, 0xfb, 0, 0];
+    let pong = long_pong(rt.alloc())?;
+    for most in [1, 3, usize::MAX] {
+        assert!(rt; is_answered(rt.alloc(), &ping, &pong, Ok(1), most)?);
+    }
+    Ok(())
+}
+
+// The bytes behind others.
+fn behind(alloc: Global, front: &[u8], bytes: &[u8]) -> Result<Vec<u8>, Fail> {
+    let mut all = Vec::from_slice(alloc, front)?;
+    all.extend_from_slice(bytes)?;
+    Ok(all)
 }
 
 // What is owed before a fault is written all the same.
 #[test]
 fn pongs_before_a_fault(rt: HostRuntime) -> Result<(), Fail> {
-    let rows = rows(rt.alloc())?;
-    for row in &rows {
-        let behind = behind_a_ping(rt.alloc(), row)?;
+    for (input, output, answer) in ROWS {
+        let stream = behind(rt.alloc(), &PING, input)?;
+        let pongs = behind(rt.alloc(), &PONG, output)?;
+        let answer = answer.map(|count| count.saturating_add(1));
         assert!(rt;
-            is_answered(rt.alloc(), &behind, usize::MAX)?,
-            "for {:?}",
-            row.0
+            is_answered(rt.alloc(), &stream, &pongs, answer, usize::MAX)?,
+            "for {input:?}"
         );
     }
     Ok(())
 }
 
-// Each call in turn fails, of the reader and of the writer: 63, and a beginning of the right pongs.
-#[test]
-fn failing_calls(rt: HostRuntime) -> Result<(), Fail> {
-    let mut input = Vec::new(rt.alloc());
-    let mut output = Vec::new(rt.alloc());
+// Three of one frame.
+fn three(alloc: Global, one: &[u8; 8]) -> Result<Vec<u8>, Fail> {
+    let mut all = Vec::new(alloc);
     for _ in 0..3 {
-        input.extend_from_slice(&PING)?;
-        output.extend_from_slice(&PONG)?;
+        all.extend_from_slice(one)?;
     }
-    assert_eq!(rt; output.len(), 24);
+    Ok(all)
+}
+
+// Each call of the reader in turn fails: 63, and the pongs of the pings that were read whole.
+#[test]
+fn failing_reads(rt: HostRuntime) -> Result<(), Fail> {
+    let pings = three(rt.alloc(), &PING)?;
+    let pongs = three(rt.alloc(), &PONG)?;
+    assert_eq!(rt; pongs.len(), 24);
     for calls in 0..25u8 {
-        let read = answered(rt.alloc(), &input, 1, u64::from(calls), NEVER)?;
+        let read = answered(rt.alloc(), &pings, 1, u64::from(calls), NEVER)?;
         let whole = usize::from(calls / 8);
         assert_eq!(rt; read.answer, Err(Fault::Io));
         assert_eq!(rt; read.failures, 1);
-        assert!(rt; read.written.as_slice() == &output[..whole * 8]);
+        assert!(rt; read.written.as_slice() == &pongs[..whole * 8]);
     }
-    let read = answered(rt.alloc(), &input, 1, 25, NEVER)?;
-    assert_eq!(rt; read.answer, Ok(3));
+    assert_eq!(rt; answered(rt.alloc(), &pings, 1, 25, NEVER)?.answer, Ok(3));
+    Ok(())
+}
+
+// The same of the writer: 63, and a beginning of the right pongs.
+#[test]
+fn failing_writes(rt: HostRuntime) -> Result<(), Fail> {
+    let pings = three(rt.alloc(), &PING)?;
+    let pongs = three(rt.alloc(), &PONG)?;
     for calls in 0..27 {
-        let write = answered(rt.alloc(), &input, 1, NEVER, calls)?;
+        let write = answered(rt.alloc(), &pings, 1, NEVER, calls)?;
         assert_eq!(rt; write.answer, Err(Fault::Io));
         assert_eq!(rt; write.failures, 1);
-        assert!(rt; output.starts_with(&write.written));
+        assert!(rt; pongs.starts_with(&write.written));
     }
-    let write = answered(rt.alloc(), &input, 1, NEVER, 27)?;
-    assert_eq!(rt; write.answer, Ok(3));
+    assert_eq!(rt; answered(rt.alloc(), &pings, 1, NEVER, 27)?.answer, Ok(3));
     Ok(())
 }
 
@@ -272,21 +281,19 @@ fn ask_for_many(input: &mut Vec<u8>, output: &mut Vec<u8>, long: &[u8]) -> Resul
 }
 
 // A stream that is longer than all that is held at once, with pongs that are longer than what may wait.
-fn long_row(alloc: Global) -> Result<Row, Fail> {
-    let long = long_pong(alloc)?;
-    let mut input = Vec::new(alloc);
-    let mut output = Vec::new(alloc);
+#[test]
+fn long_streams(rt: HostRuntime) -> Result<(), Fail> {
+    let long = long_pong(rt.alloc())?;
+    let mut input = Vec::new(rt.alloc());
+    let mut output = Vec::new(rt.alloc());
     for _ in 0..5 {
         ask_for_many(&mut input, &mut output, &long)?;
     }
-    Ok((input, output, Ok(50_005)))
-}
-
-#[test]
-fn long_streams(rt: HostRuntime) -> Result<(), Fail> {
-    let row = long_row(rt.alloc())?;
     for most in [7, 70_000, usize::MAX] {
-        assert!(rt; is_answered(rt.alloc(), &row, most)?, "in pieces of {most}");
+        assert!(rt;
+            is_answered(rt.alloc(), &input, &output, Ok(50_005), most)?,
+            "in pieces of {most}"
+        );
     }
     Ok(())
 }
