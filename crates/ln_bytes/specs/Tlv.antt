@@ -23,6 +23,14 @@ AreFit rs = AllByRecursion Fits rs
 abbrev pub stream_bytes : List Record → List ℕ
 stream_bytes rs = flat_map record_bytes rs
 
+abbrev pub found_or : ℕ → Record → Option (List ℕ) → Option (List ℕ)
+found_or typ r rest = if r.typ == typ then Some r.value else rest
+
+-- the value of the record of this type
+abbrev pub value_of : ℕ → List Record → Option (List ℕ)
+value_of typ [] = None
+value_of typ (r ∷ rs) = found_or typ r (value_of typ rs)
+
 -- a type may follow the one before it, where there is one
 abbrev pub may_follow : Option ℕ → ℕ → Bool
 may_follow None t = true

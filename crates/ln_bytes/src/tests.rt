@@ -398,3 +398,12 @@ fn bad_short_ids(rt: HostRuntime) {
         assert_eq!(rt; ShortId::parse(text), None, "at {text:?}");
     }
 }
+
+#[test]
+fn values_by_type(rt: HostRuntime) -> Result<(), Fail> {
+    let records = read_tlvs(rt.alloc(), &[1, 1, 9, 3, 2, 7, 8], &[])?;
+    assert_eq!(rt; value_of(&records, 1), Some([9].as_slice()));
+    assert_eq!(rt; value_of(&records, 3), Some([7, 8].as_slice()));
+    assert_eq!(rt; value_of(&records, 2), None);
+    Ok(())
+}

@@ -1,9 +1,9 @@
 //! TLV streams (BOLT 1, "Type-Length-Value Format"): records one after the other, up to the end.
 
-ghost use Rattle.std.specs.Prelude.{◌≡◌, ◌≢◌, ◌<◌, ◌≤◌, ◌⊎◌, ℕ, List, ◌++◌, length, slice_index, None, IfSome, IfNone, IsTrue, ◌↔◌, IfOk, IfErr, OnOk, Ok, Err};
+ghost use Rattle.std.specs.Prelude.{◌≡◌, ◌≢◌, ◌<◌, ◌≤◌, ◌⊎◌, ℕ, List, ◌++◌, length, slice_index, None, IfSome, IfNone, IsTrue, ◌↔◌, IfOk, IfErr, OnOk, Ok, Err, option_map};
 ghost use Rattle.ln_bytes.specs.Bigsize.{bigsize};
 ghost use Rattle.ln_bytes.specs.Reading.{Gives};
-ghost use Rattle.ln_bytes.specs.Tlv.{record_bytes, stream_bytes, may_follow, may_stand, AreRising, AreKnown, AreFit, MayStand, Fits, Spells, HasFault, value_at, record_at, stream_at};
+ghost use Rattle.ln_bytes.specs.Tlv.{value_of, record_bytes, stream_bytes, may_follow, may_stand, AreRising, AreKnown, AreFit, MayStand, Fits, Spells, HasFault, value_at, record_at, stream_at};
 ghost use Rattle.ln_bytes.specs.declared.fault.Fault.{Fault};
 ghost use Rattle.ln_bytes.specs.declared.record.Record.{Record};
 
@@ -160,6 +160,18 @@ pub fn tlvs_stand(records: &[Record], known_even: &[u64]) -> bool
         before = Some(record.typ);
     }
     true
+}
+
+/// The value of the record of this type, the first where there are several. Takes no memory.
+pub fn value_of(records: &[Record], typ: u64) -> Option<&[u8]>
+    ensures { option_map (λ v. v.now) result ≡ value_of typ records.now }
+{
+    for record in records {
+        if record.typ == typ {
+            return Some(record.value.as_slice());
+        }
+    }
+    None
 }
 
 /// How many bytes the records are, or none where they are more than `most`. Takes no memory.

@@ -6,11 +6,12 @@ use Rattle.std.proofs.Math.Seq.{take-append_seam, drop-append_seam}
 use Rattle.ln_bytes.specs.Truncated.{truncated}
 use Rattle.ln_bytes.specs.declared.fault.Fault.{Fault}
 use Rattle.ln_bytes.specs.declared.record.Record.{Record}
+use Rattle.ln_bytes.specs.Tlv.{value_of}
 use Rattle.ln_bytes.proofs.Zeros.{is_again}
 use Rattle.ln_bytes.proofs.Reading.{ok_is}
 use Rattle.ln_bytes.proofs.Streams.{stream_again}
 use Rattle.ln_forward.specs.declared.payload.Payment.{Payment}
-use Rattle.ln_forward.specs.Payload.{Hop, HasHop, SpellsHop, known, payload_at, SpellsNumber, SpellsId, SpellsPayment, value_of, number_in, short_id_in, payment_in, hop_in}
+use Rattle.ln_forward.specs.Payload.{Hop, HasHop, SpellsHop, known, payload_at, SpellsNumber, SpellsId, SpellsPayment, number_in, short_id_in, payment_in, hop_in}
 
 amount_again : (n : Option ℕ) (value : Option (List ℕ)) → SpellsNumber 64 n value → number_in 8 value ≡ Ok n
 amount_again None value k = rw k.0 refl

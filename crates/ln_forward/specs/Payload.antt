@@ -2,7 +2,7 @@
 use Rattle.std.specs.Prelude.{◌≡◌, ℕ, ◌<◌, ◌^◌, List, [], ◌∷◌, ◌++◌, length, take, drop, Option, Some, None, option_map, IfSome, Result, Ok, Err, ◌==◌, nat_lt, if◌then◌else◌}
 use Rattle.ln_bytes.specs.Reading.{◌>>=◌}
 use Rattle.ln_bytes.specs.ShortId.{short_id_bytes}
-use Rattle.ln_bytes.specs.Tlv.{Spells, stream_at}
+use Rattle.ln_bytes.specs.Tlv.{Spells, stream_at, value_of}
 use Rattle.ln_bytes.specs.Truncated.{truncated, truncated_at}
 use Rattle.ln_bytes.specs.declared.fault.Fault.{Fault}
 use Rattle.ln_bytes.specs.declared.fault.Fault.TheVariants.{FieldLength}
@@ -27,14 +27,6 @@ hop_of p = record { amount = p.amount; expiry = p.expiry; next = option_map id_b
 -- amt_to_forward, outgoing_cltv_value, short_channel_id and payment_data
 abbrev pub known : List ℕ
 known = 2 ∷ 4 ∷ 6 ∷ 8 ∷ []
-
-abbrev pub found_or : ℕ → Record → Option (List ℕ) → Option (List ℕ)
-found_or typ r rest = if r.typ == typ then Some r.value else rest
-
--- the value of the record of this type
-abbrev pub value_of : ℕ → List Record → Option (List ℕ)
-value_of typ [] = None
-value_of typ (r ∷ rs) = found_or typ r (value_of typ rs)
 
 -- ---- what a payload's bytes are
 

@@ -3,9 +3,9 @@
 ghost use Rattle.std.specs.Prelude.{◌≡◌, ◌≢◌, ℕ, List, IfOk, Ok, Err, option_map};
 ghost use Rattle.ln_bytes.specs.Reading.{Gives};
 ghost use Rattle.ln_bytes.specs.declared.fault.Fault.{Fault};
-ghost use Rattle.ln_forward.specs.Payload.{Hop, HasHop, SpellsHop, SpellsNumber, SpellsId, SpellsPayment, id_bytes, hop_of, hop_in, payload_at, value_of, number_in, short_id_in, payment_in};
+ghost use Rattle.ln_forward.specs.Payload.{Hop, HasHop, SpellsHop, SpellsNumber, SpellsId, SpellsPayment, id_bytes, hop_of, hop_in, payload_at, number_in, short_id_in, payment_in};
 
-use ln_bytes::{Fault, Record, ShortId, read_tlvs, read_tu32, read_tu64};
+use ln_bytes::{Fault, Record, ShortId, read_tlvs, read_tu32, read_tu64, value_of};
 use std::alloc::Global;
 
 /// What proves to the final node that the sender was told of the payment (BOLT 4, "Basic Multi-Part Payments").
@@ -61,18 +61,6 @@ fn payload_in(records: &[Record]) -> Result<Payload, Fault>
         next,
         payment,
     })
-}
-
-// The value of the record of this type.
-fn value_of(records: &[Record], typ: u64) -> Option<&[u8]>
-    ensures { option_map (λ v. v.now) result ≡ value_of typ records.now }
-{
-    for record in records {
-        if record.typ == typ {
-            return Some(record.value.as_slice());
-        }
-    }
-    None
 }
 
 fn amount_in(value: Option<&[u8]>) -> Result<Option<u64>, Fault>
