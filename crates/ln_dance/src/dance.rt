@@ -71,6 +71,13 @@ impl Dance {
         }
     }
 
+    /// The channel's id.
+    pub fn channel(&self) -> [u8; 32]
+        ensures { (d : Dancer) → StandsFor self.now d → result ≡ d.channel }
+    {
+        self.channel
+    }
+
     /// The updates of both sides.
     pub fn log(&self) -> &UpdateLog
         ensures { (d : Dancer) → StandsFor self.now d → result.now ≡ d.log }

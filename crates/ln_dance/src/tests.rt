@@ -13,6 +13,7 @@ use std::test::*;
 #[test]
 fn begins_as_it_is_told(rt: HostRuntime) {
     let dance = funder(rt.alloc());
+    assert_eq!(rt; dance.channel(), CHANNEL);
     assert_eq!(rt; counts(&dance), numbers(0, 0, 0));
     assert_eq!(rt; learned(&dance).next_point, FUNDEE_POINT_1);
     assert_eq!(rt; learned(&dance).secret, None);

@@ -7,6 +7,7 @@ use Rattle.ln_keys.specs.declared.role.Role.TheVariants.{Funder, Fundee}
 use Rattle.ln_log.specs.declared.opening.Opening.{Opening}
 use Rattle.ln_log.specs.declared.log.Pair.{Pair}
 use Rattle.ln_log.specs.declared.log.Pair.TheVariants as pair
+use Rattle.ln_log.specs.declared.log.Side.{Side}
 use Rattle.ln_log.specs.declared.log.Side.TheVariants as side
 use Rattle.ln_log.specs.declared.standing.Standing.{Standing}
 use Rattle.ln_log.specs.declared.update.Removal.{Removal}
@@ -145,6 +146,11 @@ taken_fault l u =
     (update_fault l.opening (other_role l.role) l.got (take l.acknowledged.own l.own) (take l.current.own l.own) u))
 
 -- ---- views
+
+-- the updates of a side
+abbrev pub updates_of : Side → Log → List Update
+updates_of side.Own l = l.own
+updates_of side.Peer l = l.got
 
 -- how many updates of either side a pair covers
 abbrev pub counts_of : Pair → Log → Counts

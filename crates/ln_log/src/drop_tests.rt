@@ -1,7 +1,7 @@
 //! What a lost connection costs.
 
 use crate::testing::*;
-use crate::{Pair, Role, UpdateLog};
+use crate::{Pair, Role, Side, UpdateLog};
 use ln_msgs::Refusal;
 
 const START: Row = Row(16_000, 4000, 253, 0);
@@ -161,5 +161,28 @@ fn the_lists_are_cut(rt: HostRuntime) -> Result<(), Refusal> {
     log.drop_unsigned();
     assert_eq!(rt; log.counts(Pair::ToSign).own, log.own_updates().len());
     assert_eq!(rt; log.peer_updates().len(), 0);
+    Ok(())
+}
+
+// What is held of either side, from its first update on.
+fn held(log: &UpdateLog) -> (usize, usize) {
+    (log.own_since(0).len(), log.peer_since(0).len())
+}
+
+#[test]
+fn what_is_held(rt: HostRuntime) -> Result<(), Refusal> {
+    let mut log = UpdateLog::new(rt.alloc(), Role::Funder, OPENING);
+    assert!(rt; !log.is_spent(Side::Own));
+    assert!(rt; !log.is_spent(Side::Peer));
+    propose(&mut log, rt.alloc(), What::Add(0, 5000, 400))?;
+    receive(&mut log, rt.alloc(), What::Add(0, 2000, 400))?;
+    log.signed();
+    log.acknowledged();
+    assert_eq!(rt; held(&log), (0, 0));
+    log.accepted();
+    assert_eq!(rt; held(&log), (1, 0));
+    log.signed();
+    log.acknowledged();
+    assert_eq!(rt; held(&log), (1, 1));
     Ok(())
 }

@@ -101,14 +101,14 @@ impl Model for UpdateLog {
 }
 
 impl UpdateLog {
-    ghost use Rattle.std.specs.Prelude.{◌≡◌, ◌≤◌, length, take, IfOk, OnOk, OnErr, IsTrue};
+    ghost use Rattle.std.specs.Prelude.{◌≡◌, ◌≤◌, ◌+◌, ◌-◌, ◌<◌, ◌^◌, length, take, drop, IfOk, OnOk, OnErr, IsTrue};
     ghost use Rattle.std.specs.Result.{IsOkUnless};
     ghost use Rattle.ln_keys.specs.Role.{other_role};
     ghost use Rattle.ln_log.specs.Opening.{IsFit};
     ghost use Rattle.ln_log.specs.Updates.{next_id, removed};
     ghost use Rattle.ln_log.specs.View.{AddsUp};
-    ghost use Rattle.ln_log.specs.Limits.{HasNextId, Answers};
-    ghost use Rattle.ln_log.specs.Log.{StandsFor, opened, proposed, received, signed_all, accepted_all, acknowledged_all, dropped, sign_fault, removal_fault, proposal_fault, taken_fault, covered, counts_of, live_in, view_for};
+    ghost use Rattle.ln_log.specs.Limits.{HasNextId, Answers, is_spent};
+    ghost use Rattle.ln_log.specs.Log.{StandsFor, IsWithin, updates_of, opened, proposed, received, signed_all, accepted_all, acknowledged_all, dropped, sign_fault, removal_fault, proposal_fault, taken_fault, covered, counts_of, live_in, view_for};
 
     /// A channel end before any update. Takes no memory.
     pub fn new(alloc: Global, role: Role, opening: Opening) -> UpdateLog
@@ -346,6 +346,37 @@ impl UpdateLog {
         self.got.as_slice()
     }
 
+    /// Whether a side may propose no further update: it has 2^62 of them.
+    pub fn is_spent(&self, side: Side) -> bool
+        ensures { (l : Log) → StandsFor self.now l → result ≡ is_spent (updates_of side l) }
+    {
+        let len = match side {
+            Side::Own => self.own.len(),
+            Side::Peer => self.got.len(),
+        };
+        len as u64 >= MOST_UPDATES
+    }
+
+    /// The own updates that the own commitment covers, from this one on.
+    pub fn own_since(&self, before: usize) -> &[Update]
+        requires { (l : Log) → StandsFor self.now l → before ≤ l.current.own }
+        ensures is { (l : Log) → StandsFor self.now l → result.now ≡ take (l.current.own - before) (drop before l.own) }
+        ensures many { (l : Log) → StandsFor self.now l → before + length result.now ≡ l.current.own }
+        ensures small { (l : Log) → StandsFor self.now l → l.current.own + l.acknowledged.peer + 1 < 2 ^ 64 }
+    {
+        &self.own[before..self.current.own]
+    }
+
+    /// The updates of the peer that its acknowledged commitment covers, from this one on.
+    pub fn peer_since(&self, before: usize) -> &[Update]
+        requires { (l : Log) → StandsFor self.now l → before ≤ l.acknowledged.peer }
+        ensures is { (l : Log) → StandsFor self.now l → result.now ≡ take (l.acknowledged.peer - before) (drop before l.got) }
+        ensures many { (l : Log) → StandsFor self.now l → before + length result.now ≡ l.acknowledged.peer }
+        ensures small { (l : Log) → StandsFor self.now l → l.current.own + l.acknowledged.peer + 1 < 2 ^ 64 }
+    {
+        &self.got[before..self.acknowledged.peer]
+    }
+
     /// How many updates of either side the last own signature covers.
     pub fn covered(&self) -> &Counts
         ensures own { (l : Log) → StandsFor self.now l → result.now.own ≡ l.signed.own }
@@ -360,6 +391,8 @@ impl UpdateLog {
         ensures peer { (l : Log) → StandsFor self.now l → result.peer ≡ (counts_of pair l).peer }
         ensures own_within { (l : Log) → StandsFor self.now l → result.own ≤ length l.own }
         ensures peer_within { (l : Log) → StandsFor self.now l → result.peer ≤ length l.got }
+        ensures ordered { (l : Log) → StandsFor self.now l → IsWithin l }
+        ensures small { (l : Log) → StandsFor self.now l → length l.own + length l.got + 1 < 2 ^ 64 }
     {
         match pair {
             Pair::Current(Side::Own) => self.current,
