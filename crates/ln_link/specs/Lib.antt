@@ -1,0 +1,5 @@
+pub mod Outputs
+pub mod Channel
+pub use Rattle.ln_hooks.specs.Event
+pub use Rattle.ln_dance.specs.Dance
+pub use Rattle.ln_close.specs.Closing

@@ -1,0 +1,285 @@
+//! What each command makes of an end.
+
+use crate::channel::Channel;
+use crate::events::send;
+use crate::output::Output;
+use ln_bytes::{Bytes, ShortId};
+use ln_keys::ChannelKeys;
+use ln_log::{Add, Fail, Fee, Fulfil, Malformed, Side, Update};
+use ln_msgs::{
+    ChannelReady, CommitmentSigned, Message, Records, Refusal, Shutdown, UpdateAddHtlc,
+    UpdateFailHtlc, UpdateFailMalformedHtlc, UpdateFee, UpdateFulfillHtlc,
+};
+use std::alloc::Global;
+
+impl Channel {
+    ghost use Rattle.std.specs.Prelude.{◌≡◌, ◌≤◌, ◌+◌, ◌<◌, ◌^◌, length, true, ◌∷◌, [], Some, None, Ok, ◌++◌, OnOk, IfOk, IfErr, OnErr};
+    ghost use Rattle.ln_dance.specs.Dance.{AnswersWithin, answer_of, revoked_message, learn_fault, sign_fault, signed_message};
+    ghost use Rattle.ln_log.specs.declared.update.Update.TheVariants as update;
+    ghost use Rattle.ln_log.specs.Updates.{next_id};
+    ghost use Rattle.ln_log.specs.Limits.{HasNextId};
+    ghost use Rattle.ln_log.specs.Log.{taken_fault, proposal_fault};
+    ghost use Rattle.ln_close.specs.declared.closing.Answer.{Answer};
+    ghost use Rattle.ln_link.specs.Outputs.{numbered};
+    ghost use Rattle.ln_msgs.specs.declared.message.Message.TheVariants as message;
+    ghost use Rattle.ln_link.specs.declared.output.Output.TheVariants as output;
+    ghost use Rattle.ln_link.specs.Channel.{End, opened_end, is_ready, all_acknowledged, is_settled, has_begun, fee_range, closing_message, due_fee, fee_sent, begins, accepts, own_events, peer_events, told, tells, shutdown_message, shutdown_sent, answers_shutdown, revokes, confirm_fault, confirmed, ready_message, sign_command_fault, signs_next, sign_outputs, shut_fault, shuts_down, shut_outputs, shut_either, closed_fault, own_fault, propose_fault, proposes, update_message, closing_fault, closing_answer, answer_outputs, answers_fee, closed_at, takes_ready, late_fault, early_fault, update_taken_fault, takes, shutdown_fault, shutdown_outputs, after_shutdown, signature_fault, signature_outputs, after_signature, revocation_outputs, after_revocation};
+
+    /// The funding is deep enough: sends `channel_ready` (BOLT 2, "The `channel_ready` Message"). 40 where it was sent,
+    /// or the channel is closed.
+    pub fn confirm<K: ChannelKeys>(
+        &mut self,
+        alloc: Global,
+        keys: &K,
+        short_id: ShortId,
+    ) -> Result<Vec<Output>, Refusal>
+        ensures answer { AnswersWithin (confirm_fault self.old) result }
+        ensures outputs { IfOk result (λ v. v.items ≡ output.Send (message.ChannelReady (ready_message K.point_of keys.now self.old)) ∷ []) }
+        ensures state { OnOk result (self.new ≡ confirmed short_id self.old) }
+    {
+        if self.short_id.is_some() || self.closing.closed.is_some() {
+            return Err(Refusal::NotReady);
+        }
+        let mut outputs = Vec::new(alloc);
+        let ready = self.ready_message(alloc, keys);
+        send(&mut outputs, Message::ChannelReady(ready))?;
+        self.short_id = Some(short_id);
+        Ok(outputs)
+    }
+
+    fn ready_message<K: ChannelKeys>(&self, alloc: Global, keys: &K) -> ChannelReady
+        ensures { result ≡ ready_message K.point_of keys.now self.now }
+    {
+        ChannelReady {
+            channel_id: self.dance.channel(),
+            second_point: keys.point(1),
+            records: Records::empty(alloc),
+        }
+    }
+
+    // Signs the peer's next commitment.
+    fn sign_next<K: ChannelKeys>(
+        &mut self,
+        alloc: Global,
+        keys: &K,
+    ) -> Result<CommitmentSigned, Refusal>
+        ensures answer { AnswersWithin (sign_fault self.old.dance) result }
+        ensures message { IfOk result (λ m. m ≡ signed_message K.signature K.htlc_signatures keys.now self.old.dance) }
+        ensures state { OnOk result (self.new ≡ signs_next self.old) }
+    {
+        self.dance.sign(alloc, keys)
+    }
+
+    /// Signs the peer's next commitment (BOLT 2, "Committing Updates So Far: `commitment_signed`").
+    pub fn sign<K: ChannelKeys>(&mut self, alloc: Global, keys: &K) -> Result<Vec<Output>, Refusal>
+        ensures answer { AnswersWithin (sign_command_fault self.old) result }
+        ensures outputs { IfOk result (λ v. v.items ≡ sign_outputs K.signature K.htlc_signatures keys.now self.old) }
+        ensures state { OnOk result (self.new ≡ signs_next self.old) }
+    {
+        if !self.is_ready() {
+            return Err(Refusal::NotReady);
+        }
+        let message = self.sign_next(alloc, keys)?;
+        let mut outputs = Vec::new(alloc);
+        send(&mut outputs, Message::CommitmentSigned(message))?;
+        outputs.push(Output::Signed(self.own_len() as u64))?;
+        Ok(outputs)
+    }
+
+    // How many own updates there are.
+    fn own_len(&self) -> usize
+        ensures { result ≡ length self.now.dance.log.own }
+    {
+        self.dance.log().own_updates().len()
+    }
+
+    /// Sends shutdown with this script (BOLT 2, "Closing Initiation: `shutdown`"): 43 where it was sent, 45 where own
+    /// updates are pending.
+    pub fn shut<K: ChannelKeys>(
+        &mut self,
+        alloc: Global,
+        keys: &K,
+        script: Bytes,
+    ) -> Result<Vec<Output>, Refusal>
+        ensures answer { AnswersWithin (shut_fault self.old) result }
+        ensures outputs { IfOk result (λ v. v.items ≡ shut_outputs K.close_signature keys.now script self.old) }
+        ensures state { OnOk result (self.new ≡ begins (shuts_down script self.old)) }
+    {
+        self.closing.may_shut(!self.all_acknowledged())?;
+        self.script = script;
+        self.closing.shut();
+        let mut outputs = Vec::new(alloc);
+        let message = self.shutdown_message(alloc)?;
+        send(&mut outputs, Message::Shutdown(message))?;
+        self.begin(alloc, keys, &mut outputs)?;
+        Ok(outputs)
+    }
+
+    // Whether neither side has shut down.
+    fn shut_either(&self) -> Option<Refusal>
+        ensures { result ≡ shut_either self.now }
+    {
+        if self.closing.shut || self.closing.peer_shut {
+            Some(Refusal::Shut)
+        } else {
+            None
+        }
+    }
+
+    fn closed_refusal(&self, update: &Update) -> Option<Refusal>
+        ensures { result ≡ closed_fault self.now update.now }
+    {
+        match update {
+            Update::Add(_) => self.shut_either(),
+            Update::Fulfil(_) => None,
+            Update::Fail(_) => None,
+            Update::Malformed(_) => None,
+            Update::Fee(_) => self.shut_either(),
+        }
+    }
+
+    // What keeps this side from an update that the log doesn't know of.
+    fn own_refusal(&self, update: &Update) -> Option<Refusal>
+        ensures { result ≡ own_fault self.now update.now }
+    {
+        if !self.is_ready() {
+            return Some(Refusal::NotReady);
+        }
+        if self.dance.log().is_spent(Side::Own) {
+            return Some(Refusal::NumbersSpent);
+        }
+        self.closed_refusal(update)
+    }
+
+    // Proposes an update to the log.
+    fn propose_next(&mut self, update: Update) -> Result<(), Refusal>
+        requires { HasNextId self.old.dance.log.own update }
+        ensures answer { AnswersWithin (proposal_fault self.old.dance.log update) result }
+        ensures state { OnOk result (self.new ≡ proposes update self.old) }
+        ensures err { OnErr result (self.new ≡ self.old) }
+    {
+        self.dance.propose(update)
+    }
+
+    // Proposes an update, which has the next id where it is an add.
+    fn propose(&mut self, update: Update) -> Result<(), Refusal>
+        requires { HasNextId self.old.dance.log.own update }
+        ensures answer { AnswersWithin (propose_fault self.old update) result }
+        ensures state { OnOk result (self.new ≡ proposes update self.old) }
+    {
+        match self.own_refusal(&update) {
+            Some(refusal) => Err(refusal),
+            None => self.propose_next(update),
+        }
+    }
+
+    /// Offers an HTLC with the next id (BOLT 2, "Adding an HTLC: `update_add_htlc`").
+    pub fn offer(&mut self, alloc: Global, add: Add) -> Result<Vec<Output>, Refusal>
+        requires { add.id ≡ next_id self.old.dance.log.own }
+        ensures answer { AnswersWithin (propose_fault self.old (update.Add add)) result }
+        ensures outputs { IfOk result (λ v. v.items ≡ output.Send (update_message self.old.dance.channel (update.Add add)) ∷ []) }
+        ensures state { OnOk result (self.new ≡ proposes (update.Add add) self.old) }
+    {
+        self.propose(Update::Add(add))?;
+        let mut outputs = Vec::new(alloc);
+        let channel_id = self.dance.channel();
+        let payment_hash = add.hash;
+        let onion = add.onion;
+        let message = UpdateAddHtlc {
+            channel_id,
+            id: add.id,
+            amount_msat: add.amount,
+            payment_hash,
+            cltv_expiry: add.expiry,
+            onion,
+            records: Records::empty(alloc),
+        };
+        send(&mut outputs, Message::UpdateAddHtlc(message))?;
+        Ok(outputs)
+    }
+
+    /// Fulfils an HTLC of the peer's (BOLT 2, "Removing an HTLC: `update_fulfill_htlc`").
+    pub fn fulfil(&mut self, alloc: Global, fulfil: Fulfil) -> Result<Vec<Output>, Refusal>
+        ensures answer { AnswersWithin (propose_fault self.old (update.Fulfil fulfil)) result }
+        ensures outputs { IfOk result (λ v. v.items ≡ output.Send (update_message self.old.dance.channel (update.Fulfil fulfil)) ∷ []) }
+        ensures state { OnOk result (self.new ≡ proposes (update.Fulfil fulfil) self.old) }
+    {
+        self.propose(Update::Fulfil(fulfil))?;
+        let mut outputs = Vec::new(alloc);
+        let channel_id = self.dance.channel();
+        let preimage = fulfil.preimage;
+        let message = UpdateFulfillHtlc {
+            channel_id,
+            id: fulfil.id,
+            preimage,
+            records: Records::empty(alloc),
+        };
+        send(&mut outputs, Message::UpdateFulfillHtlc(message))?;
+        Ok(outputs)
+    }
+
+    /// Fails an HTLC of the peer's (BOLT 2, "Removing an HTLC: `update_fail_htlc`").
+    pub fn fail(&mut self, alloc: Global, fail: Fail) -> Result<Vec<Output>, Refusal>
+        ensures answer { AnswersWithin (propose_fault self.old (update.Fail fail)) result }
+        ensures outputs { IfOk result (λ v. v.items ≡ output.Send (update_message self.old.dance.channel (update.Fail fail)) ∷ []) }
+        ensures state { OnOk result (self.new ≡ proposes (update.Fail fail) self.old) }
+    {
+        let id = fail.id;
+        let reason = Vec::from_slice(alloc, fail.reason.as_slice());
+        self.propose(Update::Fail(fail))?;
+        let mut outputs = Vec::new(alloc);
+        let channel_id = self.dance.channel();
+        let message = UpdateFailHtlc {
+            channel_id,
+            id,
+            reason: Bytes::new(reason?),
+            records: Records::empty(alloc),
+        };
+        send(&mut outputs, Message::UpdateFailHtlc(message))?;
+        Ok(outputs)
+    }
+
+    /// Fails an HTLC of the peer's whose onion can't be read (BOLT 2, "Removing an HTLC:
+    /// `update_fail_malformed_htlc`").
+    pub fn fail_malformed(
+        &mut self,
+        alloc: Global,
+        malformed: Malformed,
+    ) -> Result<Vec<Output>, Refusal>
+        ensures answer { AnswersWithin (propose_fault self.old (update.Malformed malformed)) result }
+        ensures outputs { IfOk result (λ v. v.items ≡ output.Send (update_message self.old.dance.channel (update.Malformed malformed)) ∷ []) }
+        ensures state { OnOk result (self.new ≡ proposes (update.Malformed malformed) self.old) }
+    {
+        self.propose(Update::Malformed(malformed))?;
+        let mut outputs = Vec::new(alloc);
+        let channel_id = self.dance.channel();
+        let sha256_of_onion = malformed.sha256_of_onion;
+        let message = UpdateFailMalformedHtlc {
+            channel_id,
+            id: malformed.id,
+            sha256_of_onion,
+            failure_code: malformed.failure_code,
+            records: Records::empty(alloc),
+        };
+        send(&mut outputs, Message::UpdateFailMalformedHtlc(message))?;
+        Ok(outputs)
+    }
+
+    /// Changes the feerate (BOLT 2, "Updating Fees: `update_fee`").
+    pub fn change_fee(&mut self, alloc: Global, fee: Fee) -> Result<Vec<Output>, Refusal>
+        ensures answer { AnswersWithin (propose_fault self.old (update.Fee fee)) result }
+        ensures outputs { IfOk result (λ v. v.items ≡ output.Send (update_message self.old.dance.channel (update.Fee fee)) ∷ []) }
+        ensures state { OnOk result (self.new ≡ proposes (update.Fee fee) self.old) }
+    {
+        self.propose(Update::Fee(fee))?;
+        let mut outputs = Vec::new(alloc);
+        let channel_id = self.dance.channel();
+        let message = UpdateFee {
+            channel_id,
+            feerate_per_kw: fee.feerate,
+            records: Records::empty(alloc),
+        };
+        send(&mut outputs, Message::UpdateFee(message))?;
+        Ok(outputs)
+    }
+}
