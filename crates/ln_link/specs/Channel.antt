@@ -1,5 +1,5 @@
 -- What one end of an open channel keeps, and what each message makes of it (BOLT 2).
-use Rattle.std.specs.Prelude.{◌≤◌, ◌-◌, ℕ, ◌+◌, List, [], ◌∷◌, ◌++◌, length, take, drop, Bool, true, false, not, ◌&&◌, ◌==◌, Option, Some, None, is_some, Result, Ok, Err, nat_eq, ◌||◌, if◌then◌else◌}
+use Rattle.std.specs.Prelude.{◌≡◌, ◌≢◌, ◌≤◌, ◌-◌, ℕ, ◌+◌, List, [], ◌∷◌, ◌++◌, length, take, drop, Bool, true, false, not, ◌&&◌, ◌==◌, Option, Some, None, is_some, Result, Ok, Err, nat_eq, ◌||◌, if◌then◌else◌}
 use Rattle.ln_bytes.specs.Endian.{big_bytes, big_number}
 use Rattle.ln_bytes.specs.Tlv.{value_of}
 use Rattle.ln_bytes.specs.declared.record.Record.{Record}
@@ -314,6 +314,11 @@ answer_outputs close_signature keys e (answer.Propose fee) = fee_sent close_sign
 
 abbrev pub answers_fee : ClosingSigned → Answer → End → End
 answers_fee m a e = record e { closing = after m.fee_satoshis a e.closing }
+
+-- a refusal, but for want of memory, changes nothing
+abbrev pub ChangesNothing : {A : Type 0} → Result A Refusal → End → End → Type 0
+ChangesNothing (Ok x) old new = Unit {0}
+ChangesNothing (Err r) old new = r ≢ refusal.Memory → new ≡ old
 
 -- ---- what is kept
 

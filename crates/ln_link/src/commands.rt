@@ -23,7 +23,7 @@ impl Channel {
     ghost use Rattle.ln_link.specs.Outputs.{numbered};
     ghost use Rattle.ln_msgs.specs.declared.message.Message.TheVariants as message;
     ghost use Rattle.ln_link.specs.declared.output.Output.TheVariants as output;
-    ghost use Rattle.ln_link.specs.Channel.{End, opened_end, is_ready, all_acknowledged, is_settled, has_begun, fee_range, closing_message, due_fee, fee_sent, begins, accepts, own_events, peer_events, told, tells, shutdown_message, shutdown_sent, answers_shutdown, revokes, confirm_fault, confirmed, ready_message, sign_command_fault, signs_next, sign_outputs, shut_fault, shuts_down, shut_outputs, shut_either, closed_fault, own_fault, propose_fault, proposes, update_message, closing_fault, closing_answer, answer_outputs, answers_fee, closed_at, takes_ready, late_fault, early_fault, update_taken_fault, takes, shutdown_fault, shutdown_outputs, after_shutdown, signature_fault, signature_outputs, after_signature, revocation_outputs, after_revocation};
+    ghost use Rattle.ln_link.specs.Channel.{ChangesNothing, End, opened_end, is_ready, all_acknowledged, is_settled, has_begun, fee_range, closing_message, due_fee, fee_sent, begins, accepts, own_events, peer_events, told, tells, shutdown_message, shutdown_sent, answers_shutdown, revokes, confirm_fault, confirmed, ready_message, sign_command_fault, signs_next, sign_outputs, shut_fault, shuts_down, shut_outputs, shut_either, closed_fault, own_fault, propose_fault, proposes, update_message, closing_fault, closing_answer, answer_outputs, answers_fee, closed_at, takes_ready, late_fault, early_fault, update_taken_fault, takes, shutdown_fault, shutdown_outputs, after_shutdown, signature_fault, signature_outputs, after_signature, revocation_outputs, after_revocation};
 
     /// The funding is deep enough: sends `channel_ready` (BOLT 2, "The `channel_ready` Message"). 40 where it was sent,
     /// or the channel is closed.
@@ -36,6 +36,7 @@ impl Channel {
         ensures answer { AnswersWithin (confirm_fault self.old) result }
         ensures outputs { IfOk result (λ v. v.items ≡ output.Send (message.ChannelReady (ready_message K.point_of keys.now self.old)) ∷ []) }
         ensures state { OnOk result (self.new ≡ confirmed short_id self.old) }
+        ensures refused { ChangesNothing result self.old self.new }
     {
         if self.short_id.is_some() || self.closing.closed.is_some() {
             return Err(Refusal::NotReady);
@@ -66,6 +67,7 @@ impl Channel {
         ensures answer { AnswersWithin (sign_fault self.old.dance) result }
         ensures message { IfOk result (λ m. m ≡ signed_message K.signature K.htlc_signatures keys.now self.old.dance) }
         ensures state { OnOk result (self.new ≡ signs_next self.old) }
+        ensures err { OnErr result (self.new ≡ self.old) }
     {
         self.dance.sign(alloc, keys)
     }
@@ -75,6 +77,7 @@ impl Channel {
         ensures answer { AnswersWithin (sign_command_fault self.old) result }
         ensures outputs { IfOk result (λ v. v.items ≡ sign_outputs K.signature K.htlc_signatures keys.now self.old) }
         ensures state { OnOk result (self.new ≡ signs_next self.old) }
+        ensures refused { ChangesNothing result self.old self.new }
     {
         if !self.is_ready() {
             return Err(Refusal::NotReady);
@@ -104,6 +107,7 @@ impl Channel {
         ensures answer { AnswersWithin (shut_fault self.old) result }
         ensures outputs { IfOk result (λ v. v.items ≡ shut_outputs K.close_signature keys.now script self.old) }
         ensures state { OnOk result (self.new ≡ begins (shuts_down script self.old)) }
+        ensures refused { ChangesNothing result self.old self.new }
     {
         self.closing.may_shut(!self.all_acknowledged())?;
         self.script = script;
@@ -166,6 +170,7 @@ impl Channel {
         requires { HasNextId self.old.dance.log.own update }
         ensures answer { AnswersWithin (propose_fault self.old update) result }
         ensures state { OnOk result (self.new ≡ proposes update self.old) }
+        ensures err { OnErr result (self.new ≡ self.old) }
     {
         match self.own_refusal(&update) {
             Some(refusal) => Err(refusal),
@@ -179,6 +184,7 @@ impl Channel {
         ensures answer { AnswersWithin (propose_fault self.old (update.Add add)) result }
         ensures outputs { IfOk result (λ v. v.items ≡ output.Send (update_message self.old.dance.channel (update.Add add)) ∷ []) }
         ensures state { OnOk result (self.new ≡ proposes (update.Add add) self.old) }
+        ensures refused { ChangesNothing result self.old self.new }
     {
         self.propose(Update::Add(add))?;
         let mut outputs = Vec::new(alloc);
@@ -203,6 +209,7 @@ impl Channel {
         ensures answer { AnswersWithin (propose_fault self.old (update.Fulfil fulfil)) result }
         ensures outputs { IfOk result (λ v. v.items ≡ output.Send (update_message self.old.dance.channel (update.Fulfil fulfil)) ∷ []) }
         ensures state { OnOk result (self.new ≡ proposes (update.Fulfil fulfil) self.old) }
+        ensures refused { ChangesNothing result self.old self.new }
     {
         self.propose(Update::Fulfil(fulfil))?;
         let mut outputs = Vec::new(alloc);
@@ -223,6 +230,7 @@ impl Channel {
         ensures answer { AnswersWithin (propose_fault self.old (update.Fail fail)) result }
         ensures outputs { IfOk result (λ v. v.items ≡ output.Send (update_message self.old.dance.channel (update.Fail fail)) ∷ []) }
         ensures state { OnOk result (self.new ≡ proposes (update.Fail fail) self.old) }
+        ensures refused { ChangesNothing result self.old self.new }
     {
         let id = fail.id;
         let reason = Vec::from_slice(alloc, fail.reason.as_slice());
@@ -249,6 +257,7 @@ impl Channel {
         ensures answer { AnswersWithin (propose_fault self.old (update.Malformed malformed)) result }
         ensures outputs { IfOk result (λ v. v.items ≡ output.Send (update_message self.old.dance.channel (update.Malformed malformed)) ∷ []) }
         ensures state { OnOk result (self.new ≡ proposes (update.Malformed malformed) self.old) }
+        ensures refused { ChangesNothing result self.old self.new }
     {
         self.propose(Update::Malformed(malformed))?;
         let mut outputs = Vec::new(alloc);
@@ -270,6 +279,7 @@ impl Channel {
         ensures answer { AnswersWithin (propose_fault self.old (update.Fee fee)) result }
         ensures outputs { IfOk result (λ v. v.items ≡ output.Send (update_message self.old.dance.channel (update.Fee fee)) ∷ []) }
         ensures state { OnOk result (self.new ≡ proposes (update.Fee fee) self.old) }
+        ensures refused { ChangesNothing result self.old self.new }
     {
         self.propose(Update::Fee(fee))?;
         let mut outputs = Vec::new(alloc);

@@ -28,7 +28,7 @@ impl Channel {
     ghost use Rattle.ln_link.specs.Outputs.{numbered};
     ghost use Rattle.ln_msgs.specs.declared.message.Message.TheVariants as message;
     ghost use Rattle.ln_link.specs.declared.output.Output.TheVariants as output;
-    ghost use Rattle.ln_link.specs.Channel.{End, opened_end, is_ready, all_acknowledged, is_settled, has_begun, fee_range, closing_message, due_fee, fee_sent, begins, accepts, own_events, peer_events, told, tells, shutdown_message, shutdown_sent, answers_shutdown, revokes, confirm_fault, confirmed, ready_message, sign_command_fault, signs_next, sign_outputs, shut_fault, shuts_down, shut_outputs, shut_either, closed_fault, own_fault, propose_fault, proposes, update_message, closing_fault, closing_answer, answer_outputs, answers_fee, closed_at, takes_ready, late_fault, early_fault, update_taken_fault, takes, shutdown_fault, shutdown_outputs, after_shutdown, signature_fault, signature_outputs, after_signature, revocation_outputs, after_revocation};
+    ghost use Rattle.ln_link.specs.Channel.{ChangesNothing, End, opened_end, is_ready, all_acknowledged, is_settled, has_begun, fee_range, closing_message, due_fee, fee_sent, begins, accepts, own_events, peer_events, told, tells, shutdown_message, shutdown_sent, answers_shutdown, revokes, confirm_fault, confirmed, ready_message, sign_command_fault, signs_next, sign_outputs, shut_fault, shuts_down, shut_outputs, shut_either, closed_fault, own_fault, propose_fault, proposes, update_message, closing_fault, closing_answer, answer_outputs, answers_fee, closed_at, takes_ready, late_fault, early_fault, update_taken_fault, takes, shutdown_fault, shutdown_outputs, after_shutdown, signature_fault, signature_outputs, after_signature, revocation_outputs, after_revocation};
 
     // Accepts a signature of the peer, and gives the revocation.
     fn accept<K: ChannelKeys>(
@@ -42,6 +42,7 @@ impl Channel {
         ensures state { OnOk result (self.new ≡ accepts self.old) }
         ensures few { OnOk result (self.new.events ≤ self.old.dance.log.current.own + self.new.dance.log.acknowledged.peer + 1) }
         ensures grows { OnOk result (self.old.dance.log.current.own ≤ self.new.dance.log.current.own) }
+        ensures err { OnErr result (self.new ≡ self.old) }
     {
         if !self.is_ready() {
             return Err(Refusal::OutOfPlace);
@@ -61,6 +62,7 @@ impl Channel {
         ensures answer { AnswersWithin (signature_fault K.point_of K.accepts keys.now message.now self.old) result }
         ensures outputs { IfOk result (λ v. v.items ≡ signature_outputs K.secret_of K.point_of K.close_signature keys.now self.old) }
         ensures state { OnOk result (self.new ≡ after_signature self.old) }
+        ensures refused { ChangesNothing result self.old self.new }
     {
         let before = self.own_held();
         let revocation = self.accept(alloc, keys, message)?;
@@ -78,6 +80,7 @@ impl Channel {
         ensures state { OnOk result (self.new ≡ revokes message.now self.old) }
         ensures few { OnOk result (self.new.events ≤ self.new.dance.log.current.own + self.old.dance.log.acknowledged.peer + 1) }
         ensures grows { OnOk result (self.old.dance.log.acknowledged.peer ≤ self.new.dance.log.acknowledged.peer) }
+        ensures err { OnErr result (self.new ≡ self.old) }
     {
         let _ = self.peer_held();
         self.dance.learn(keys, message)
@@ -94,6 +97,7 @@ impl Channel {
         ensures answer { AnswersWithin (learn_fault K.fits keys.now message.now self.old.dance) result }
         ensures outputs { IfOk result (λ v. v.items ≡ revocation_outputs K.close_signature keys.now message.now self.old) }
         ensures state { OnOk result (self.new ≡ after_revocation message.now self.old) }
+        ensures refused { ChangesNothing result self.old self.new }
     {
         let before = self.peer_held();
         self.learn(keys, message)?;
@@ -184,6 +188,7 @@ impl Channel {
         ensures answer { AnswersWithin (shutdown_fault message.now self.old.peer_script) result }
         ensures outputs { IfOk result (λ v. v.items ≡ shutdown_outputs K.close_signature keys.now message.now self.old self.old.peer_script) }
         ensures state { OnOk result (self.new ≡ after_shutdown message.now self.old self.old.peer_script) }
+        ensures refused { ChangesNothing result self.old self.new }
     {
         match &self.peer_script {
             Some(script) => {
@@ -226,6 +231,7 @@ impl Channel {
         ensures answer { AnswersWithin (closing_fault K.accepts_close keys.now message.now self.old) result }
         ensures outputs { (a : Answer) → closing_answer message.now self.old ≡ Ok a → IfOk result (λ v. v.items ≡ answer_outputs K.close_signature keys.now self.old a) }
         ensures state { (a : Answer) → closing_answer message.now self.old ≡ Ok a → OnOk result (self.new ≡ answers_fee message.now a self.old) }
+        ensures refused { ChangesNothing result self.old self.new }
     {
         if !self.has_begun() {
             return Err(Refusal::OutOfPlace);
