@@ -1,5 +1,5 @@
 -- What one side signs its partner accepts, and what that one revokes the first learns.
-use Rattle.std.proofs.Common.{◌≡◌, ℕ, ◌+◌, ◌<◌, ◌≤◌, ◌^◌, List, [], ◌∷◌, ◌++◌, length, take, refl, sym, ap, ◌∙◌, subst, arith, Bool, true, false, cond, Option, Some, None, Result, Ok, Err, inl, inr}
+use Rattle.std.proofs.Common.{◌≡◌, ℕ, ◌+◌, ◌<◌, ◌^◌, List, [], ◌∷◌, ◌++◌, length, take, refl, sym, ap, ◌∙◌, subst, arith, Bool, true, false, cond, Option, Some, None, Result, Ok, Err, inl, inr}
 use Rattle.std.proofs.lemmas.List.{take_all}
 use Rattle.std.specs.Result.{IsErrAnd}
 use Rattle.ln_msgs.specs.declared.commitments.CommitmentSigned.{CommitmentSigned}
@@ -10,13 +10,12 @@ use Rattle.ln_keys.specs.declared.role.Role.{Role}
 use Rattle.ln_keys.specs.declared.role.Role.TheVariants.{Funder, Fundee}
 use Rattle.ln_keys.specs.declared.view.View.{View}
 use Rattle.ln_keys.specs.Role.{other_role}
-use Rattle.ln_keys.specs.Partners.{IsTakenBy, ArePartners}
+use Rattle.ln_keys.specs.Partners.{ArePartners}
 use Rattle.ln_log.specs.declared.log.Pair.TheVariants as pair
 use Rattle.ln_log.specs.declared.opening.Opening.{Opening}
 use Rattle.ln_log.specs.declared.update.Update.{Update}
 use Rattle.ln_log.specs.Updates.{all_sent}
 use Rattle.ln_log.specs.Limits.{Answers}
-use Rattle.ln_log.specs.Machine.{Covered}
 use Rattle.ln_log.specs.Log.{Log, opened, proposed, received, view_for}
 use Rattle.ln_dance.specs.Dance.{Dancer, view_at, owes, is_last, sign_fault, signs, signed_message, accept_fault, revoked_message, learn_fault, with_log, AnswersWithin, answer_of}
 use Rattle.ln_dance.specs.Facing.{AreFacing}

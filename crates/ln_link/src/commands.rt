@@ -13,17 +13,15 @@ use ln_msgs::{
 use std::alloc::Global;
 
 impl Channel {
-    ghost use Rattle.std.specs.Prelude.{◌≡◌, ◌≤◌, ◌+◌, ◌<◌, ◌^◌, length, true, ◌∷◌, [], Some, None, Ok, ◌++◌, OnOk, IfOk, IfErr, OnErr};
-    ghost use Rattle.ln_dance.specs.Dance.{AnswersWithin, answer_of, revoked_message, learn_fault, sign_fault, signed_message};
+    ghost use Rattle.std.specs.Prelude.{◌≡◌, length, ◌∷◌, [], OnOk, IfOk, OnErr};
+    ghost use Rattle.ln_dance.specs.Dance.{AnswersWithin, sign_fault, signed_message};
     ghost use Rattle.ln_log.specs.declared.update.Update.TheVariants as update;
     ghost use Rattle.ln_log.specs.Updates.{next_id};
     ghost use Rattle.ln_log.specs.Limits.{HasNextId};
-    ghost use Rattle.ln_log.specs.Log.{taken_fault, proposal_fault};
-    ghost use Rattle.ln_close.specs.declared.closing.Answer.{Answer};
-    ghost use Rattle.ln_link.specs.Outputs.{numbered};
+    ghost use Rattle.ln_log.specs.Log.{proposal_fault};
     ghost use Rattle.ln_msgs.specs.declared.message.Message.TheVariants as message;
     ghost use Rattle.ln_link.specs.declared.output.Output.TheVariants as output;
-    ghost use Rattle.ln_link.specs.Channel.{ChangesNothing, End, opened_end, is_ready, all_acknowledged, is_settled, has_begun, fee_range, closing_message, due_fee, fee_sent, begins, accepts, own_events, peer_events, told, tells, shutdown_message, shutdown_sent, answers_shutdown, revokes, confirm_fault, confirmed, ready_message, sign_command_fault, signs_next, sign_outputs, shut_fault, shuts_down, shut_outputs, shut_either, closed_fault, own_fault, propose_fault, proposes, update_message, closing_fault, closing_answer, answer_outputs, answers_fee, closed_at, takes_ready, late_fault, early_fault, update_taken_fault, takes, shutdown_fault, shutdown_outputs, after_shutdown, signature_fault, signature_outputs, after_signature, revocation_outputs, after_revocation};
+    ghost use Rattle.ln_link.specs.Channel.{ChangesNothing, begins, confirm_fault, confirmed, ready_message, sign_command_fault, signs_next, sign_outputs, shut_fault, shuts_down, shut_outputs, shut_either, closed_fault, own_fault, propose_fault, proposes, update_message};
 
     /// The funding is deep enough: sends `channel_ready` (BOLT 2, "The `channel_ready` Message"). 40 where it was sent,
     /// or the channel is closed.

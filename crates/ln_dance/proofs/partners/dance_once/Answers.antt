@@ -1,6 +1,6 @@
-use Rattle.std.proofs.Common.{◌≡◌, refl, ap, ◌∙◌}
+use Rattle.std.proofs.Common.{refl, ap, ◌∙◌}
 use Rattle.ln_msgs.specs.declared.commitments.RevokeAndAck.{RevokeAndAck}
-use Rattle.ln_dance.specs.Dance.{Dancer, learns, signs}
+use Rattle.ln_dance.specs.Dance.{learns, signs}
 use Rattle.ln_dance.proofs.Kept.{map_ok}
 use Rattle.ln_dance.proofs.Faces.{accepted, learned, no_fault, only_memory, well_learned}
 use Rattle.ln_dance.proofs.partners.dance_once.Goals as goal

@@ -1,5 +1,4 @@
-use Rattle.std.proofs.Common.{refl, sym, ap, ◌∙◌}
-use Rattle.ln_dance.specs.Dance.{Dancer, owes}
+use Rattle.std.proofs.Common.{refl, sym}
 use Rattle.ln_dance.proofs.Kept.{kept_learned}
 use Rattle.ln_dance.proofs.dance.Dance.learn.Goals as goal
 
