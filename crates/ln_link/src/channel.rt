@@ -5,16 +5,12 @@ ghost use Rattle.std.specs.Prelude.{◌≡◌};
 use crate::events::{put_events, send};
 use crate::output::Output;
 use byteorder::{BigEndian, ByteOrder};
-use ln_bytes::{Bytes, Record, ShortId, value_of};
-use ln_close::{Answer, Closing};
+use ln_bytes::{Bytes, Record, ShortId};
+use ln_close::Closing;
 use ln_dance::Dance;
-use ln_hooks::ChannelEvent;
 use ln_keys::ChannelKeys;
-use ln_log::{Add, Fail, Fee, Fulfil, Malformed, Pair, Side, Update};
-use ln_msgs::{
-    ChannelReady, ClosingSigned, CommitmentSigned, Message, Records, Refusal, RevokeAndAck,
-    Shutdown, UpdateAddHtlc, UpdateFailHtlc, UpdateFailMalformedHtlc, UpdateFee, UpdateFulfillHtlc,
-};
+use ln_log::{Pair, Side};
+use ln_msgs::{ClosingSigned, Message, Records, Refusal, Shutdown};
 use std::alloc::Global;
 use std::marker::Model;
 
@@ -42,9 +38,7 @@ impl Model for Channel {
 
 impl Channel {
     ghost use Rattle.std.specs.Prelude.{◌≡◌, ◌≤◌, ◌+◌, ◌∷◌, [], Some, ◌++◌, OnOk, IfOk, IfErr};
-    ghost use Rattle.ln_log.specs.declared.update.Update.TheVariants as update;
     ghost use Rattle.ln_link.specs.Outputs.{numbered};
-    ghost use Rattle.ln_msgs.specs.declared.message.Message.TheVariants as message;
     ghost use Rattle.ln_link.specs.declared.output.Output.TheVariants as output;
     ghost use Rattle.ln_link.specs.Channel.{End, opened_end, is_ready, all_acknowledged, is_settled, has_begun, fee_range, closing_message, due_fee, fee_sent, begins, own_events, peer_events, tells, shutdown_message, shutdown_sent, answers_shutdown};
 
