@@ -71,6 +71,9 @@ impl Channel {
     }
 
     /// Signs the peer's next commitment (BOLT 2, "Committing Updates So Far: `commitment_signed`").
+    ///
+    /// Errors: 40 before both sides have confirmed; 41 where a signature is unrevoked, 42 where nothing would be new, 46
+    /// behind the last number; 60.
     pub fn sign<K: ChannelKeys>(&mut self, alloc: Global, keys: &K) -> Result<Vec<Output>, Refusal>
         ensures answer { AnswersWithin (sign_command_fault self.old) result }
         ensures outputs { IfOk result (λ v. v.items ≡ sign_outputs K.signature K.htlc_signatures keys.now self.old) }
@@ -177,6 +180,9 @@ impl Channel {
     }
 
     /// Offers an HTLC with the next id (BOLT 2, "Adding an HTLC: `update_add_htlc`").
+    ///
+    /// Errors: 40 before both sides have confirmed; 46 where this side has 2^62 updates; 43 where either side has shut
+    /// down; 44 with the number by which the peer would refuse it, 23 to 27; 60.
     pub fn offer(&mut self, alloc: Global, add: Add) -> Result<Vec<Output>, Refusal>
         requires { add.id ≡ next_id self.old.dance.log.own }
         ensures answer { AnswersWithin (propose_fault self.old (update.Add add)) result }
@@ -203,6 +209,9 @@ impl Channel {
     }
 
     /// Fulfils an HTLC of the peer's (BOLT 2, "Removing an HTLC: `update_fulfill_htlc`").
+    ///
+    /// Errors: 40 and 46 as for an offer; 44 with 28 where there is no such HTLC, 49 where it is removed, 48 where it isn't
+    /// held as irrevocably committed; 44 with 29 for a wrong preimage; 60.
     pub fn fulfil(&mut self, alloc: Global, fulfil: Fulfil) -> Result<Vec<Output>, Refusal>
         ensures answer { AnswersWithin (propose_fault self.old (update.Fulfil fulfil)) result }
         ensures outputs { IfOk result (λ v. v.items ≡ output.Send (update_message self.old.dance.channel (update.Fulfil fulfil)) ∷ []) }
@@ -224,6 +233,8 @@ impl Channel {
     }
 
     /// Fails an HTLC of the peer's (BOLT 2, "Removing an HTLC: `update_fail_htlc`").
+    ///
+    /// Errors: as for a fulfilment, but 44 with 7 for a reason of more than 65,491 bytes in place of 44 with 29.
     pub fn fail(&mut self, alloc: Global, fail: Fail) -> Result<Vec<Output>, Refusal>
         ensures answer { AnswersWithin (propose_fault self.old (update.Fail fail)) result }
         ensures outputs { IfOk result (λ v. v.items ≡ output.Send (update_message self.old.dance.channel (update.Fail fail)) ∷ []) }
@@ -247,6 +258,8 @@ impl Channel {
 
     /// Fails an HTLC of the peer's whose onion can't be read (BOLT 2, "Removing an HTLC:
     /// `update_fail_malformed_htlc`").
+    ///
+    /// Errors: as for a fulfilment, but 44 with 21 for a code without the BADONION bit, 0x8000, in place of 44 with 29.
     pub fn fail_malformed(
         &mut self,
         alloc: Global,
@@ -272,7 +285,9 @@ impl Channel {
         Ok(outputs)
     }
 
-    /// Changes the feerate (BOLT 2, "Updating Fees: `update_fee`").
+    /// Changes the feerate, in satoshi per 1000 weight (BOLT 2, "Updating Fees: `update_fee`").
+    ///
+    /// Errors: 40, 46 and 43 as for an offer; 44 with 30 at the fundee; 60.
     pub fn change_fee(&mut self, alloc: Global, fee: Fee) -> Result<Vec<Output>, Refusal>
         ensures answer { AnswersWithin (propose_fault self.old (update.Fee fee)) result }
         ensures outputs { IfOk result (λ v. v.items ≡ output.Send (update_message self.old.dance.channel (update.Fee fee)) ∷ []) }

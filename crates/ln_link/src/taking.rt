@@ -49,6 +49,8 @@ impl Channel {
 
     /// Takes a signature of the peer (BOLT 2, "Completing the Transition to the Updated State"): it is answered by
     /// the revocation, and what is newly held is told.
+    ///
+    /// Errors: 21 before both sides have confirmed, or behind the last number; 31 for a wrong signature; 60.
     pub fn take_signature<K: ChannelKeys>(
         &mut self,
         alloc: Global,
@@ -84,6 +86,8 @@ impl Channel {
 
     /// Takes a revocation of the peer (BOLT 2, "Completing the Transition to the Updated State: `revoke_and_ack`"): a
     /// shutdown that was to be answered may be now, and what is newly held is told.
+    ///
+    /// Errors: 33 where no signature is unrevoked, 32 for a wrong secret, 60.
     pub fn take_revocation<K: ChannelKeys>(
         &mut self,
         alloc: Global,
@@ -162,6 +166,9 @@ impl Channel {
     }
 
     /// Takes an update of the peer (BOLT 2, "Normal Operation").
+    ///
+    /// Errors: 21 before both sides have confirmed, where the peer has 2^62 updates, or for a fee once closing has
+    /// begun; 35 for an add behind the peer's shutdown; else those of `UpdateLog::receive`.
     pub fn take_update(&mut self, update: Update) -> Result<(), Refusal>
         ensures answer { AnswersWithin (update_taken_fault self.old update) result }
         ensures state { OnOk result (self.new ≡ takes update self.old) }
