@@ -1,15 +1,18 @@
 -- What one side of the dance keeps, and what each call makes of it (BOLT 2, "Normal Operation").
-use Rattle.std.specs.Prelude.{◌≡◌, ◌⊎◌, ℕ, ◌+◌, ◌<◌, ◌^◌, List, [], Bool, not, ◌==◌, Option, Some, None, Result, Ok, Err, if◌then◌else◌}
+use Rattle.std.specs.Prelude.{◌≡◌, ◌⊎◌, ℕ, ◌+◌, ◌<◌, ◌≤◌, ◌^◌, List, [], Bool, true, not, ◌==◌, Option, Some, None, Result, Ok, Err, if◌then◌else◌}
 use Rattle.ln_msgs.specs.declared.commitments.CommitmentSigned.{CommitmentSigned}
 use Rattle.ln_msgs.specs.declared.commitments.RevokeAndAck.{RevokeAndAck}
 use Rattle.ln_msgs.specs.declared.refusal.Refusal.{Refusal}
 use Rattle.ln_msgs.specs.declared.refusal.Refusal.TheVariants as refusal
 use Rattle.ln_keys.specs.declared.view.View.{View}
+use Rattle.ln_keys.specs.Signer.{Signer}
 use Rattle.ln_log.specs.declared.log.Pair.{Pair}
 use Rattle.ln_log.specs.declared.log.Pair.TheVariants as pair
 use Rattle.ln_log.specs.Limits.{first_fault}
 use Rattle.ln_log.specs.Log as log
 use Rattle.ln_log.specs.Log.{Log, covered, counts_of, view_for, same_counts, signed_all, accepted_all, acknowledged_all, dropped}
+use Rattle.ln_dance.specs.declared.dance.Later.{Later}
+use Rattle.ln_dance.specs.declared.dance.Later.TheVariants.{Signature, Revocation}
 use Rattle.ln_dance.specs.declared.dance.Numbers.{Numbers}
 use Rattle.ln_dance.specs.declared.dance.Peer.{Peer}
 
@@ -18,6 +21,7 @@ pub record Dancer : Type 0 where
   pub log : Log
   pub numbers : Numbers
   pub peer : Peer
+  pub later : Later  -- which of its last signature and its last revocation it sent later
 
 -- what is kept stands for these lists, numbers and points: today it has them whole
 abbrev pub StandsFor : Dancer → Dancer → Type 0
@@ -38,47 +42,61 @@ is_last n = n == 281474976710655
 -- ---- signing
 
 abbrev pub sign_fault : Dancer → Option Refusal
-sign_fault d = first_fault (log.sign_fault d.log) (if is_last d.numbers.signed then Some refusal.NumbersSpent else None)
+sign_fault d =
+    if owes d then Some refusal.SignatureOutstanding
+    else first_fault (log.sign_fault d.log) (if is_last d.numbers.signed then Some refusal.NumbersSpent else None)
 
 abbrev pub signs : Dancer → Dancer
-signs d = record d { log = signed_all d.log; numbers = record { commitment = d.numbers.commitment; signed = d.numbers.signed + 1; revoked = d.numbers.revoked } }
+signs d = record d {
+  log = signed_all d.log;
+  numbers = record { commitment = d.numbers.commitment; signed = d.numbers.signed + 1; revoked = d.numbers.revoked };
+  later = Signature;
+}
 
 -- the signature is over the peer's next commitment, at its point
-abbrev pub signed_message : {K : Type 0} → (K → ℕ → List ℕ → View → List ℕ) → (K → ℕ → List ℕ → View → List (List ℕ)) → K → Dancer → CommitmentSigned
-signed_message signature htlc_signatures keys d = record {
+abbrev pub signed_message : Signer → Dancer → CommitmentSigned
+signed_message keys d = record {
   channel_id = d.channel;
-  signature = signature keys (d.numbers.signed + 1) d.peer.next_point (view_at pair.ToSign d);
-  htlc_signatures = htlc_signatures keys (d.numbers.signed + 1) d.peer.next_point (view_at pair.ToSign d);
+  signature = keys.signature (d.numbers.signed + 1) d.peer.next_point (view_at pair.ToSign d);
+  htlc_signatures = keys.htlc_signatures (d.numbers.signed + 1) d.peer.next_point (view_at pair.ToSign d);
   records = [];
 }
 
 -- ---- accepting
 
 -- the peer's signature is checked over the own next commitment, at its own point
-abbrev pub accept_fault : {K : Type 0} → (K → ℕ → List ℕ) → (K → ℕ → List ℕ → View → List ℕ → List (List ℕ) → Bool) → K → CommitmentSigned → Dancer → Option Refusal
-accept_fault point_of accepts keys m d =
+abbrev pub is_right : Signer → CommitmentSigned → Dancer → Bool
+is_right keys m d =
+    let next = d.numbers.commitment + 1 in
+    keys.accepts next (keys.point_of next) (view_at pair.ToAccept d) m.signature m.htlc_signatures
+
+abbrev pub accept_fault : Signer → CommitmentSigned → Dancer → Option Refusal
+accept_fault keys m d =
     if is_last d.numbers.commitment then Some refusal.OutOfPlace
-    else (if accepts keys (d.numbers.commitment + 1) (point_of keys (d.numbers.commitment + 1)) (view_at pair.ToAccept d) m.signature m.htlc_signatures then None
-    else Some refusal.SignatureWrong)
+    else (if is_right keys m d then None else Some refusal.SignatureWrong)
 
 abbrev pub accepts_next : Dancer → Dancer
-accepts_next d = record d { log = accepted_all d.log; numbers = record { commitment = d.numbers.commitment + 1; signed = d.numbers.signed; revoked = d.numbers.revoked } }
+accepts_next d = record d {
+  log = accepted_all d.log;
+  numbers = record { commitment = d.numbers.commitment + 1; signed = d.numbers.signed; revoked = d.numbers.revoked };
+  later = Revocation;
+}
 
 -- it is answered by the secret of the commitment before, and the point of the one behind
-abbrev pub revoked_message : {K : Type 0} → (K → ℕ → List ℕ) → (K → ℕ → List ℕ) → K → Dancer → RevokeAndAck
-revoked_message secret_of point_of keys d = record {
+abbrev pub revoked_message : Signer → Dancer → RevokeAndAck
+revoked_message keys d = record {
   channel_id = d.channel;
-  secret = secret_of keys d.numbers.commitment;
-  next_point = point_of keys (d.numbers.commitment + 2);
+  secret = keys.secret_of d.numbers.commitment;
+  next_point = keys.point_of (d.numbers.commitment + 2);
   records = [];
 }
 
 -- ---- learning
 
 -- the secret must fit the peer's point of the commitment that is revoked
-abbrev pub learn_fault : {K : Type 0} → (K → List ℕ → List ℕ → Bool) → K → RevokeAndAck → Dancer → Option Refusal
-learn_fault fits keys m d =
-    if owes d then (if fits keys m.secret d.peer.point then None else Some refusal.SecretWrong)
+abbrev pub learn_fault : Signer → RevokeAndAck → Dancer → Option Refusal
+learn_fault keys m d =
+    if owes d then (if keys.fits m.secret d.peer.point then None else Some refusal.SecretWrong)
     else Some refusal.NothingToRevoke
 
 abbrev pub learns : RevokeAndAck → Dancer → Dancer
@@ -111,8 +129,11 @@ answer_of (Some r) = Err r
 
 -- ---- what is kept
 
--- numbers are in their range; the signature of a side is unrevoked exactly where its last two pairs differ
-pub record IsKept (d : Dancer) : Type 0 where
-  pub commitment : d.numbers.commitment < 2 ^ 48
-  pub signed : d.numbers.signed < 2 ^ 48
-  pub outstanding : d.numbers.signed ≡ d.numbers.revoked + (if same_counts d.log.acknowledged d.log.signed then 0 else 1)
+-- numbers are below 2^48; at most one signature is unrevoked, and where none is, the peer's acknowledged
+-- commitment covers what the last signature does
+pub record AreInStep (n : Numbers) (l : Log) : Type 0 where
+  pub commitment : n.commitment < 2 ^ 48
+  pub signed : n.signed < 2 ^ 48
+  pub revoked : n.revoked ≤ n.signed
+  pub one_unrevoked : n.signed ≤ n.revoked + 1
+  pub acknowledged : n.signed ≡ n.revoked → same_counts l.acknowledged l.signed ≡ true

@@ -1,5 +1,6 @@
 pub mod Dance
-pub mod Facing
+pub mod Exchange
 pub use Rattle.ln_log.specs.Log
 pub use Rattle.ln_log.specs.Limits
+pub use Rattle.ln_keys.specs.Signer
 pub use Rattle.ln_keys.specs.Partners

@@ -1,7 +1,7 @@
 //! One side of the dance.
 
 use ln_keys::{ChannelKeys, Signed};
-use ln_log::{Pair, Update, UpdateLog};
+use ln_log::{Pair, Side, Update, UpdateLog};
 use ln_msgs::{CommitmentSigned, Records, Refusal, RevokeAndAck};
 use std::alloc::Global;
 use std::marker::Model;
@@ -31,43 +31,78 @@ pub struct Peer {
     pub secret: Option<[u8; 32]>,
 }
 
-/// One side of the dance: the updates of both sides, the numbers of commitments, and what the peer has
-/// told.
+/// Which of a side's last signature and its last revocation it sent later.
+#[derive(Clone, Copy, Debug, PartialEq, Eq)]
+pub enum Later {
+    /// The signature; also before either was sent.
+    Signature,
+    /// The revocation.
+    Revocation,
+}
+
+/// One side of the dance: the updates of both sides, the numbers of commitments, what the peer has
+/// told, and in which order it sent its last signature and its last revocation.
 #[derive(Debug, Drop)]
 pub struct Dance {
     channel: [u8; 32],
     log: UpdateLog,
     numbers: Numbers,
     peer: Peer,
+    later: Later,
 }
 
 impl Model for Dance {
-    ghost use Rattle.ln_dance.specs.Dance.{Dancer, IsKept};
+    ghost use Rattle.ln_dance.specs.Dance.{Dancer, AreInStep};
 
     ghost Value = { Dancer };
 
-    ghost view = { λ d. record { channel = d.channel; log = d.log; numbers = d.numbers; peer = d.peer } };
+    ghost view = { λ d. record { channel = d.channel; log = d.log; numbers = d.numbers; peer = d.peer; later = d.later } };
 
-    ghost invariant = { λ d. IsKept (record { channel = d.channel; log = d.log; numbers = d.numbers; peer = d.peer }) };
+    ghost invariant = { λ d. AreInStep d.numbers d.log };
 }
 
 impl Dance {
-    ghost use Rattle.std.specs.Prelude.{◌≡◌, ◌+◌, ◌<◌, ◌^◌, IsTrue, IfOk, OnOk, OnErr};
+    ghost use Rattle.std.specs.Prelude.{◌≡◌, ◌↔◌, ◌+◌, ◌<◌, ◌^◌, IsTrue, IsErrOf, IfOk, OnOk, OnErr};
+    ghost use Rattle.ln_log.specs.Log as log;
     ghost use Rattle.ln_log.specs.Log.{Log, proposed, received, dropped, proposal_fault, taken_fault};
     ghost use Rattle.ln_log.specs.Limits.{HasNextId, Answers};
-    ghost use Rattle.ln_dance.specs.Dance.{Dancer, StandsFor, IsKept, owes, sign_fault, signs, signed_message, accept_fault, accepts_next, revoked_message, learn_fault, learns, with_log, with_next_point, AnswersWithin, answer_of};
+    ghost use Rattle.ln_dance.specs.Dance.{Dancer, StandsFor, AreInStep, is_last, owes, sign_fault, signs, signed_message, accept_fault, accepts_next, revoked_message, learn_fault, learns, with_log, with_next_point, AnswersWithin, answer_of};
 
-    /// A side with these updates, numbers and points: all numbers 0 for a channel that was just opened.
-    /// Takes no memory.
-    pub fn new(channel: [u8; 32], log: UpdateLog, numbers: Numbers, peer: Peer) -> Dance
-        requires { IsKept (record { channel = channel; log = log; numbers = numbers; peer = peer }) }
-        ensures { StandsFor result (record { channel = channel; log = log; numbers = numbers; peer = peer }) }
+    /// Whether a side may have these numbers beside these updates: each number is below 2^48, at most one
+    /// signature is unrevoked, and where none is, the peer's acknowledged commitment covers what the last
+    /// signature does. Takes no memory.
+    pub fn are_in_step(numbers: &Numbers, updates: &UpdateLog) -> bool
+        ensures { (l : Log) → log.StandsFor updates.now l → (IsTrue result ↔ AreInStep numbers.now l) }
+    {
+        let covered = updates.counts(Pair::Signed);
+        let acknowledged = updates.counts(Pair::Current(Side::Peer));
+        if numbers.commitment > LAST_NUMBER || numbers.signed > LAST_NUMBER {
+            return false;
+        }
+        if numbers.signed == numbers.revoked {
+            return covered == acknowledged;
+        }
+        numbers.revoked < numbers.signed && numbers.signed - numbers.revoked == 1
+    }
+
+    /// A side with these updates, numbers and points, which sent the last signature and the last revocation in
+    /// this order: all numbers 0 for a channel that was just opened. Takes no memory.
+    pub fn new(
+        channel: [u8; 32],
+        updates: UpdateLog,
+        numbers: Numbers,
+        peer: Peer,
+        later: Later,
+    ) -> Dance
+        requires { (l : Log) → log.StandsFor updates l → AreInStep numbers l }
+        ensures { (l : Log) → log.StandsFor updates l → StandsFor result (record { channel = channel; log = l; numbers = numbers; peer = peer; later = later }) }
     {
         Dance {
             channel,
-            log,
+            log: updates,
             numbers,
             peer,
+            later,
         }
     }
 
@@ -80,7 +115,7 @@ impl Dance {
 
     /// The updates of both sides.
     pub fn log(&self) -> &UpdateLog
-        ensures { (d : Dancer) → StandsFor self.now d → result.now ≡ d.log }
+        ensures { (d : Dancer) → StandsFor self.now d → log.StandsFor result.now d.log }
     {
         &self.log
     }
@@ -97,6 +132,13 @@ impl Dance {
         ensures { (d : Dancer) → StandsFor self.now d → result ≡ d.peer }
     {
         self.peer
+    }
+
+    /// Which of its last signature and its last revocation this side sent later.
+    pub fn later(&self) -> Later
+        ensures { (d : Dancer) → StandsFor self.now d → result ≡ d.later }
+    {
+        self.later
     }
 
     /// Proposes an update: `UpdateLog::propose`.
@@ -143,6 +185,9 @@ impl Dance {
     fn sign_refusal(&self) -> Option<Refusal>
         ensures { result ≡ sign_fault self.now }
     {
+        if self.owes() {
+            return Some(Refusal::SignatureOutstanding);
+        }
         match self.log.sign_refusal() {
             Some(refusal) => Some(refusal),
             None => {
@@ -166,7 +211,7 @@ impl Dance {
         keys: &K,
     ) -> Result<CommitmentSigned, Refusal>
         ensures answer { (d : Dancer) → StandsFor self.old d → Answers (sign_fault d) result }
-        ensures message { (d : Dancer) → StandsFor self.old d → IfOk result (λ m. m ≡ signed_message K.signature K.htlc_signatures keys.now d) }
+        ensures message { (d : Dancer) → StandsFor self.old d → IfOk result (λ m. m ≡ signed_message (K.signer keys.now) d) }
         ensures ok { (d : Dancer) → StandsFor self.old d → OnOk result (StandsFor self.new (signs d)) }
         ensures numbered { (d : Dancer) → StandsFor self.old d → OnOk result (d.numbers.signed + 1 < 2 ^ 48) }
         ensures owes { (d : Dancer) → StandsFor self.old d → OnOk result (IsTrue (owes (signs d))) }
@@ -182,6 +227,7 @@ impl Dance {
         let Signed { sig, htlcs } = keys.sign(alloc, number, &point, &view)?;
         self.log.signed();
         self.numbers.signed = number;
+        self.later = Later::Signature;
         Ok(CommitmentSigned {
             channel_id: self.channel,
             signature: sig,
@@ -202,8 +248,9 @@ impl Dance {
         keys: &K,
         message: &CommitmentSigned,
     ) -> Result<RevokeAndAck, Refusal>
-        ensures answer { (d : Dancer) → StandsFor self.old d → AnswersWithin (accept_fault K.point_of K.accepts keys.now message.now d) result }
-        ensures message { (d : Dancer) → StandsFor self.old d → IfOk result (λ m. m ≡ revoked_message K.secret_of K.point_of keys.now d) }
+        ensures answer { (d : Dancer) → StandsFor self.old d → AnswersWithin (accept_fault (K.signer keys.now) message.now d) result }
+        ensures out_of_place { (d : Dancer) → StandsFor self.old d → (IsErrOf result Refusal.OutOfPlace ↔ IsTrue (is_last d.numbers.commitment)) }
+        ensures message { (d : Dancer) → StandsFor self.old d → IfOk result (λ m. m ≡ revoked_message (K.signer keys.now) d) }
         ensures ok { (d : Dancer) → StandsFor self.old d → OnOk result (StandsFor self.new (accepts_next d)) }
         ensures err { OnErr result (self.new ≡ self.old) }
     {
@@ -219,6 +266,7 @@ impl Dance {
         }
         self.log.accepted();
         self.numbers.commitment = last + 1;
+        self.later = Later::Revocation;
         Ok(RevokeAndAck {
             channel_id: self.channel,
             secret: keys.secret(last),
@@ -233,7 +281,7 @@ impl Dance {
     /// 33 where no signature is unrevoked, 32 for a secret that doesn't fit the point of the commitment that
     /// is revoked; then nothing has changed.
     pub fn learn<K: ChannelKeys>(&mut self, keys: &K, message: &RevokeAndAck) -> Result<(), Refusal>
-        ensures answer { (d : Dancer) → StandsFor self.old d → result ≡ answer_of (learn_fault K.fits keys.now message.now d) }
+        ensures answer { (d : Dancer) → StandsFor self.old d → result ≡ answer_of (learn_fault (K.signer keys.now) message.now d) }
         ensures ok { (d : Dancer) → StandsFor self.old d → OnOk result (StandsFor self.new (learns message.now d)) }
         ensures err { OnErr result (self.new ≡ self.old) }
     {

@@ -4,10 +4,10 @@
 #![tactic(auto)]
 
 mod dance;
-mod partners;
+mod laws;
 
-pub use dance::{Dance, Numbers, Peer};
-pub use partners::dance_once;
+pub use dance::{Dance, Later, Numbers, Peer};
+pub use laws::{revocation_is_learned, signature_is_accepted};
 
 #[cfg(test)]
 mod small_tests;

@@ -1,5 +1,6 @@
 pub mod Role
 pub mod Hash
+pub mod Signer
 pub mod Partners
 pub mod Toy
 pub mod Onion

@@ -10,6 +10,7 @@ use Rattle.ln_keys.specs.declared.role.Role.TheVariants.{Funder, Fundee}
 use Rattle.ln_keys.specs.declared.view.Htlc.{Htlc}
 use Rattle.ln_keys.specs.declared.view.View.{View}
 use Rattle.ln_keys.specs.declared.toy_keys.ToyKeys.{ToyKeys}
+use Rattle.ln_keys.specs.Signer.{Signer}
 
 -- ---- the bytes of a view
 
@@ -73,6 +74,20 @@ toy_fits secret point = are_same (toy_point secret) point
 
 abbrev pub toy_accepts_close : List ℕ → ℕ → List ℕ → Bool
 toy_accepts_close tag fee sig = are_same (toy_close_signature tag fee) sig
+
+-- ---- all of them
+
+abbrev pub toy_signer : ToyKeys → Signer
+toy_signer k = record {
+  secret_of = λ n. toy_secret k.seed n;
+  point_of = λ n. toy_point (toy_secret k.seed n);
+  signature = λ n point v. toy_signature k.tag n point v;
+  htlc_signatures = λ n point v. toy_htlc_signatures k.tag n point v;
+  accepts = λ n point v sig htlcs. toy_accepts k.peer_tag n point v sig htlcs;
+  fits = λ secret point. toy_fits secret point;
+  close_signature = λ fee. toy_close_signature k.tag fee;
+  accepts_close = λ fee sig. toy_accepts_close k.peer_tag fee sig;
+}
 
 -- ---- partners
 

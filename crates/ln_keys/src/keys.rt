@@ -1,6 +1,6 @@
 //! The keys of a channel end.
 
-ghost use Rattle.std.specs.Prelude.{◌≡◌, ℕ, Bool, List, IfOk, IfErr};
+ghost use Rattle.std.specs.Prelude.{◌≡◌, IfOk, IfErr};
 
 use crate::view::View;
 use ln_msgs::{Refusal, Signatures};
@@ -19,41 +19,20 @@ pub struct Signed {
 /// Every answer is a function of the value and of the arguments. Numbers of commitments are at most
 /// 2^48; a point has 33 bytes, a secret 32, a signature 64.
 pub trait ChannelKeys {
-    ghost use Rattle.ln_keys.specs.declared.view.View.{View};
+    ghost use Rattle.ln_keys.specs.Signer.{Signer};
 
-    /// The per commitment secret of this number.
-    ghost secret_of: { Self → ℕ → List ℕ };
-
-    /// The per commitment point of this number.
-    ghost point_of: { Self → ℕ → List ℕ };
-
-    /// The signature over the peer's commitment of this number, at the peer's point, worth this view.
-    ghost signature: { Self → ℕ → List ℕ → View → List ℕ };
-
-    /// The signatures over the HTLCs of the peer's commitment.
-    ghost htlc_signatures: { Self → ℕ → List ℕ → View → List (List ℕ) };
-
-    /// Whether the peer's signatures over the own commitment are right.
-    ghost accepts: { Self → ℕ → List ℕ → View → List ℕ → List (List ℕ) → Bool };
-
-    /// Whether a secret belongs to a point.
-    ghost fits: { Self → List ℕ → List ℕ → Bool };
-
-    /// The signature over the closing transaction that pays this fee.
-    ghost close_signature: { Self → ℕ → List ℕ };
-
-    /// Whether the peer's signature over that transaction is right.
-    ghost accepts_close: { Self → ℕ → List ℕ → Bool };
+    /// What it answers, as functions of the arguments.
+    ghost signer: { Self → Signer };
 
     /// The per commitment secret of the own commitment of this number (BOLT 3, "Per-commitment Secret
     /// Requirements"). Takes no memory.
     fn secret(&self, number: u64) -> [u8; 32]
-        ensures { result ≡ secret_of self.now number };
+        ensures { result ≡ (signer self.now).secret_of number };
 
     /// The per commitment point of the own commitment of this number (BOLT 3, "Per-commitment Secret
     /// Requirements"). Takes no memory.
     fn point(&self, number: u64) -> [u8; 33]
-        ensures { result ≡ point_of self.now number };
+        ensures { result ≡ (signer self.now).point_of number };
 
     /// Signs the peer's commitment of this number, made at the peer's point and worth this view (BOLT
     /// 2, "Committing Updates So Far: commitment_signed").
@@ -66,8 +45,8 @@ pub trait ChannelKeys {
         peer_point: &[u8; 33],
         view: &View,
     ) -> Result<Signed, Refusal>
-        ensures commitment { IfOk result (λ s. s.sig ≡ signature self.now number peer_point.now view.now) }
-        ensures htlcs { IfOk result (λ s. s.htlcs ≡ htlc_signatures self.now number peer_point.now view.now) }
+        ensures commitment { IfOk result (λ s. s.sig ≡ (signer self.now).signature number peer_point.now view.now) }
+        ensures htlcs { IfOk result (λ s. s.htlcs ≡ (signer self.now).htlc_signatures number peer_point.now view.now) }
         ensures memory { IfErr result (λ e. e ≡ Refusal.Memory) };
 
     /// Whether these are the peer's signatures over the own commitment of this number, made at the own
@@ -80,20 +59,20 @@ pub trait ChannelKeys {
         sig: &[u8; 64],
         htlcs: &[[u8; 64]],
     ) -> bool
-        ensures { result ≡ accepts self.now number own_point.now view.now sig.now htlcs.now };
+        ensures { result ≡ (signer self.now).accepts number own_point.now view.now sig.now htlcs.now };
 
     /// Whether the secret is the one of the point (BOLT 2, "Completing the Transition to the Updated
     /// State: revoke_and_ack"). Takes no memory.
     fn secret_fits(&self, secret: &[u8; 32], point: &[u8; 33]) -> bool
-        ensures { result ≡ fits self.now secret.now point.now };
+        ensures { result ≡ (signer self.now).fits secret.now point.now };
 
     /// Signs the closing transaction that pays this fee, in satoshi (BOLT 2, "Closing Negotiation:
     /// closing_signed"). Takes no memory.
     fn sign_close(&self, fee: u64) -> [u8; 64]
-        ensures { result ≡ close_signature self.now fee };
+        ensures { result ≡ (signer self.now).close_signature fee };
 
     /// Whether this is the peer's signature over the closing transaction that pays this fee, in satoshi.
     /// Takes no memory.
     fn verify_close(&self, fee: u64, sig: &[u8; 64]) -> bool
-        ensures { result ≡ accepts_close self.now fee sig.now };
+        ensures { result ≡ (signer self.now).accepts_close fee sig.now };
 }

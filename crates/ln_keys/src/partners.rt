@@ -22,7 +22,7 @@ pub fn partner_accepts<K: ChannelKeys>(
     view: &View,
 ) -> Result<bool, Refusal>
     requires numbered { number ≤ 2 ^ 48 }
-    requires partners { ArePartners K.secret_of K.point_of K.signature K.htlc_signatures K.accepts K.fits K.close_signature K.accepts_close signer.now taker.now }
+    requires partners { ArePartners (K.signer signer.now) (K.signer taker.now) }
     ensures accepted { IfOk result (λ b. b ≡ true) }
     ensures memory { IfErr result (λ e. e ≡ Refusal.Memory) }
 {
@@ -33,7 +33,7 @@ pub fn partner_accepts<K: ChannelKeys>(
 /// Signs a closing transaction with one partner's keys and tests the signature with the other's, which
 /// always accepts it. Takes no memory.
 pub fn partner_accepts_close<K: ChannelKeys>(signer: &K, taker: &K, fee: u64) -> bool
-    requires { ArePartners K.secret_of K.point_of K.signature K.htlc_signatures K.accepts K.fits K.close_signature K.accepts_close signer.now taker.now }
+    requires { ArePartners (K.signer signer.now) (K.signer taker.now) }
     ensures { result ≡ true }
 {
     let sig = signer.sign_close(fee);
@@ -44,7 +44,7 @@ pub fn partner_accepts_close<K: ChannelKeys>(signer: &K, taker: &K, fee: u64) ->
 /// itself: it always fits. Takes no memory.
 pub fn partner_secret_fits<K: ChannelKeys>(teller: &K, taker: &K, number: u64) -> bool
     requires numbered { number ≤ 2 ^ 48 }
-    requires partners { ArePartners K.secret_of K.point_of K.signature K.htlc_signatures K.accepts K.fits K.close_signature K.accepts_close teller.now taker.now }
+    requires partners { ArePartners (K.signer teller.now) (K.signer taker.now) }
     ensures { result ≡ true }
 {
     let secret = teller.secret(number);

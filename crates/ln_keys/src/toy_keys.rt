@@ -3,7 +3,7 @@
 ghost use Rattle.std.specs.Prelude.{◌≡◌, ◌++◌, ℕ, List, replicate, Ok, IfOk, IfErr};
 ghost use Rattle.std.specs.List.{list_all, flat_map};
 ghost use Rattle.ln_keys.specs.Partners.{ArePartners};
-ghost use Rattle.ln_keys.specs.Toy.{toy_secret, toy_point, toy_signature, toy_htlc_signatures, toy_close_signature, toy_accepts, toy_fits, toy_accepts_close, htlc_bytes, view_head, view_bytes, owner_byte, are_all, are_same, AreCrossed};
+ghost use Rattle.ln_keys.specs.Toy.{toy_secret, toy_point, toy_signature, toy_htlc_signatures, toy_close_signature, toy_accepts, toy_fits, toy_accepts_close, toy_signer, htlc_bytes, view_head, view_bytes, owner_byte, are_all, are_same, AreCrossed};
 
 use crate::keys::{ChannelKeys, Signed};
 use crate::role::Role;
@@ -153,21 +153,7 @@ fn each_is(sig: &[u8; 64], list: &[[u8; 64]]) -> bool
 }
 
 impl ChannelKeys for ToyKeys {
-    ghost secret_of = { λ k n. toy_secret k.seed n };
-
-    ghost point_of = { λ k n. toy_point (toy_secret k.seed n) };
-
-    ghost signature = { λ k n p v. toy_signature k.tag n p v };
-
-    ghost htlc_signatures = { λ k n p v. toy_htlc_signatures k.tag n p v };
-
-    ghost accepts = { λ k n p v s hs. toy_accepts k.peer_tag n p v s hs };
-
-    ghost fits = { λ k s p. toy_fits s p };
-
-    ghost close_signature = { λ k fee. toy_close_signature k.tag fee };
-
-    ghost accepts_close = { λ k fee s. toy_accepts_close k.peer_tag fee s };
+    ghost signer = { λ k. toy_signer k };
 
     fn secret(&self, number: u64) -> [u8; 32] {
         seeded(&self.seed, number)
@@ -218,6 +204,6 @@ impl ToyKeys {
     /// A law: two values whose tags cross are partners.
     pub fn crossed(a: ToyKeys, b: ToyKeys)
         requires { AreCrossed a b }
-        ensures { ArePartners ⟦<ToyKeys as ChannelKeys>⟧.secret_of ⟦<ToyKeys as ChannelKeys>⟧.point_of ⟦<ToyKeys as ChannelKeys>⟧.signature ⟦<ToyKeys as ChannelKeys>⟧.htlc_signatures ⟦<ToyKeys as ChannelKeys>⟧.accepts ⟦<ToyKeys as ChannelKeys>⟧.fits ⟦<ToyKeys as ChannelKeys>⟧.close_signature ⟦<ToyKeys as ChannelKeys>⟧.accepts_close a b }
+        ensures { ArePartners (toy_signer a) (toy_signer b) }
     {}
 }

@@ -12,9 +12,9 @@ use Rattle.ln_msgs.specs.declared.commitments.CommitmentSigned.{CommitmentSigned
 use Rattle.ln_msgs.specs.declared.commitments.RevokeAndAck.{RevokeAndAck}
 use Rattle.ln_msgs.specs.declared.refusal.Refusal.{Refusal}
 use Rattle.ln_msgs.specs.declared.refusal.Refusal.TheVariants as refusal
-use Rattle.ln_keys.specs.declared.view.View.{View}
+use Rattle.ln_keys.specs.Signer.{Signer}
 use Rattle.ln_log.specs.declared.update.Update.{Update}
-use Rattle.ln_log.specs.Log.{Log, covered, live_in, received, taken_fault, proposed, proposal_fault}
+use Rattle.ln_log.specs.Log.{Log, covered, between, live_in, received, taken_fault, proposed, proposal_fault}
 use Rattle.ln_dance.specs.Dance.{Dancer, accept_fault, accepts_next, revoked_message, learns, sign_fault, signs, signed_message, with_log, with_next_point}
 use Rattle.ln_close.specs.declared.closing.Closing.{Closing}
 use Rattle.ln_close.specs.declared.closing.Answer.{Answer}
@@ -65,11 +65,11 @@ has_begun e = e.closing.shut && (e.closing.peer_shut && is_settled e.dance.log)
 abbrev pub fee_range : Closing → Record
 fee_range c = record { typ = 1; value = big_bytes 8 c.fees.least ++ big_bytes 8 c.fees.greatest }
 
-abbrev pub closing_message : {K : Type 0} → (K → ℕ → List ℕ) → K → End → ℕ → ClosingSigned
-closing_message close_signature keys e fee = record {
+abbrev pub closing_message : Signer → End → ℕ → ClosingSigned
+closing_message keys e fee = record {
   channel_id = e.dance.channel;
   fee_satoshis = fee;
-  signature = close_signature keys fee;
+  signature = keys.close_signature fee;
   records = fee_range e.closing ∷ [];
 }
 
@@ -77,18 +77,14 @@ closing_message close_signature keys e fee = record {
 abbrev pub due_fee : End → Option ℕ
 due_fee e = if has_begun e then first_fee e.closing else None
 
-abbrev pub fee_sent : {K : Type 0} → (K → ℕ → List ℕ) → K → End → Option ℕ → List Output
-fee_sent close_signature keys e None = []
-fee_sent close_signature keys e (Some fee) = output.Send (message.ClosingSigned (closing_message close_signature keys e fee)) ∷ []
+abbrev pub fee_sent : Signer → End → Option ℕ → List Output
+fee_sent keys e None = []
+fee_sent keys e (Some fee) = output.Send (message.ClosingSigned (closing_message keys e fee)) ∷ []
 
 abbrev pub begins : End → End
 begins e = if has_begun e then record e { closing = started e.closing } else e
 
 -- ---- what an end tells
-
--- what lies between two counts
-abbrev pub between : ℕ → ℕ → List Update → List Update
-between before after us = take (after - before) (drop before us)
 
 -- the events of own updates that are held, from this one on
 abbrev pub own_events : ℕ → End → List ChannelEvent
@@ -125,8 +121,8 @@ answers_shutdown e = if owes_shutdown e then record e { closing = shuts e.closin
 
 -- ---- a signature of the peer (BOLT 2, "Committing Updates So Far: commitment_signed")
 
-abbrev pub signature_fault : {K : Type 0} → (K → ℕ → List ℕ) → (K → ℕ → List ℕ → View → List ℕ → List (List ℕ) → Bool) → K → CommitmentSigned → End → Option Refusal
-signature_fault point_of accepts keys m e = if is_ready e then accept_fault point_of accepts keys m e.dance else Some refusal.OutOfPlace
+abbrev pub signature_fault : Signer → CommitmentSigned → End → Option Refusal
+signature_fault keys m e = if is_ready e then accept_fault keys m e.dance else Some refusal.OutOfPlace
 
 abbrev pub accepts : End → End
 accepts e = with_dance (accepts_next e.dance) e
@@ -135,10 +131,10 @@ accepts e = with_dance (accepts_next e.dance) e
 abbrev pub signed_by_peer : End → End
 signed_by_peer e = begins (accepts e)
 
-abbrev pub signature_outputs : {K : Type 0} → (K → ℕ → List ℕ) → (K → ℕ → List ℕ) → (K → ℕ → List ℕ) → K → End → List Output
-signature_outputs secret_of point_of close_signature keys e =
-    output.Send (message.RevokeAndAck (revoked_message secret_of point_of keys e.dance))
-    ∷ (fee_sent close_signature keys (accepts e) (due_fee (accepts e))
+abbrev pub signature_outputs : Signer → End → List Output
+signature_outputs keys e =
+    output.Send (message.RevokeAndAck (revoked_message keys e.dance))
+    ∷ (fee_sent keys (accepts e) (due_fee (accepts e))
     ++ told (own_events e.dance.log.current.own (accepts e)) (signed_by_peer e))
 
 abbrev pub after_signature : End → End
@@ -153,10 +149,10 @@ revokes m e = with_dance (learns m e.dance) e
 abbrev pub revoked_by_peer : RevokeAndAck → End → End
 revoked_by_peer m e = begins (answers_shutdown (revokes m e))
 
-abbrev pub revocation_outputs : {K : Type 0} → (K → ℕ → List ℕ) → K → RevokeAndAck → End → List Output
-revocation_outputs close_signature keys m e =
+abbrev pub revocation_outputs : Signer → RevokeAndAck → End → List Output
+revocation_outputs keys m e =
     shutdown_sent (revokes m e)
-    ++ (fee_sent close_signature keys (answers_shutdown (revokes m e)) (due_fee (answers_shutdown (revokes m e)))
+    ++ (fee_sent keys (answers_shutdown (revokes m e)) (due_fee (answers_shutdown (revokes m e)))
     ++ told (peer_events e.dance.log.acknowledged.peer (revokes m e)) (revoked_by_peer m e))
 
 abbrev pub after_revocation : RevokeAndAck → End → End
@@ -174,8 +170,8 @@ confirm_fault e = if is_some e.short_id || is_some e.closing.closed then Some re
 abbrev pub confirmed : ShortId → End → End
 confirmed id e = record e { short_id = Some id }
 
-abbrev pub ready_message : {K : Type 0} → (K → ℕ → List ℕ) → K → End → ChannelReady
-ready_message point_of keys e = record { channel_id = e.dance.channel; second_point = point_of keys 1; records = [] }
+abbrev pub ready_message : Signer → End → ChannelReady
+ready_message keys e = record { channel_id = e.dance.channel; second_point = keys.point_of 1; records = [] }
 
 -- ---- updates of the peer
 
@@ -214,11 +210,11 @@ abbrev pub after_shutdown : Shutdown → End → Option (List ℕ) → End
 after_shutdown m e None = begins (answers_shutdown (peer_shuts_down m e))
 after_shutdown m e (Some script) = e
 
-abbrev pub shutdown_outputs : {K : Type 0} → (K → ℕ → List ℕ) → K → Shutdown → End → Option (List ℕ) → List Output
-shutdown_outputs close_signature keys m e None =
+abbrev pub shutdown_outputs : Signer → Shutdown → End → Option (List ℕ) → List Output
+shutdown_outputs keys m e None =
     shutdown_sent (peer_shuts_down m e)
-    ++ fee_sent close_signature keys (answers_shutdown (peer_shuts_down m e)) (due_fee (answers_shutdown (peer_shuts_down m e)))
-shutdown_outputs close_signature keys m e (Some script) = []
+    ++ fee_sent keys (answers_shutdown (peer_shuts_down m e)) (due_fee (answers_shutdown (peer_shuts_down m e)))
+shutdown_outputs keys m e (Some script) = []
 
 -- ---- the own signature
 
@@ -228,9 +224,9 @@ sign_command_fault e = if is_ready e then sign_fault e.dance else Some refusal.N
 abbrev pub signs_next : End → End
 signs_next e = with_dance (signs e.dance) e
 
-abbrev pub sign_outputs : {K : Type 0} → (K → ℕ → List ℕ → View → List ℕ) → (K → ℕ → List ℕ → View → List (List ℕ)) → K → End → List Output
-sign_outputs signature htlc_signatures keys e =
-    output.Send (message.CommitmentSigned (signed_message signature htlc_signatures keys e.dance)) ∷ output.Signed (length e.dance.log.own) ∷ []
+abbrev pub sign_outputs : Signer → End → List Output
+sign_outputs keys e =
+    output.Send (message.CommitmentSigned (signed_message keys e.dance)) ∷ output.Signed (length e.dance.log.own) ∷ []
 
 -- ---- the own shutdown
 
@@ -240,10 +236,10 @@ shut_fault e = if e.closing.shut then Some refusal.Shut else (if all_acknowledge
 abbrev pub shuts_down : List ℕ → End → End
 shuts_down script e = record e { script = script; closing = shuts e.closing }
 
-abbrev pub shut_outputs : {K : Type 0} → (K → ℕ → List ℕ) → K → List ℕ → End → List Output
-shut_outputs close_signature keys script e =
+abbrev pub shut_outputs : Signer → List ℕ → End → List Output
+shut_outputs keys script e =
     output.Send (message.Shutdown (shutdown_message (shuts_down script e)))
-    ∷ fee_sent close_signature keys (shuts_down script e) (due_fee (shuts_down script e))
+    ∷ fee_sent keys (shuts_down script e) (due_fee (shuts_down script e))
 
 -- ---- own updates
 
@@ -296,21 +292,21 @@ abbrev pub fault_of : {A : Type 0} → Result A Refusal → Option Refusal
 fault_of (Ok x) = None
 fault_of (Err r) = Some r
 
-abbrev pub closing_fault : {K : Type 0} → (K → ℕ → List ℕ → Bool) → K → ClosingSigned → End → Option Refusal
-closing_fault accepts_close keys m e =
+abbrev pub closing_fault : Signer → ClosingSigned → End → Option Refusal
+closing_fault keys m e =
     if not (has_begun e) then Some refusal.OutOfPlace
-    else (if accepts_close keys m.fee_satoshis m.signature then fault_of (closing_answer m e)
+    else (if keys.accepts_close m.fee_satoshis m.signature then fault_of (closing_answer m e)
     else Some refusal.SignatureWrong)
 
 -- what an answer sends, and the close that it comes to, which is the last event
 abbrev pub closed_at : End → ℕ → List Output
 closed_at e fee = output.Event e.events (event.Closed fee) ∷ output.Closed fee ∷ []
 
-abbrev pub answer_outputs : {K : Type 0} → (K → ℕ → List ℕ) → K → End → Answer → List Output
-answer_outputs close_signature keys e answer.Nothing = []
-answer_outputs close_signature keys e (answer.Close fee) = closed_at e fee
-answer_outputs close_signature keys e (answer.EchoAndClose fee) = fee_sent close_signature keys e (Some fee) ++ closed_at e fee
-answer_outputs close_signature keys e (answer.Propose fee) = fee_sent close_signature keys e (Some fee)
+abbrev pub answer_outputs : Signer → End → Answer → List Output
+answer_outputs keys e answer.Nothing = []
+answer_outputs keys e (answer.Close fee) = closed_at e fee
+answer_outputs keys e (answer.EchoAndClose fee) = fee_sent keys e (Some fee) ++ closed_at e fee
+answer_outputs keys e (answer.Propose fee) = fee_sent keys e (Some fee)
 
 abbrev pub answers_fee : ClosingSigned → Answer → End → End
 answers_fee m a e = record e { closing = after m.fee_satoshis a e.closing }

@@ -9,7 +9,7 @@ use ln_bytes::{Bytes, Record, ShortId};
 use ln_close::Closing;
 use ln_dance::Dance;
 use ln_keys::ChannelKeys;
-use ln_log::{Pair, Side};
+use ln_log::{Pair, Side, Update};
 use ln_msgs::{ClosingSigned, Message, Records, Refusal, Shutdown};
 use std::alloc::Global;
 use std::marker::Model;
@@ -37,7 +37,8 @@ impl Model for Channel {
 }
 
 impl Channel {
-    ghost use Rattle.std.specs.Prelude.{◌≡◌, ◌≤◌, ◌+◌, ◌∷◌, [], Some, ◌++◌, OnOk, IfOk, IfErr};
+    ghost use Rattle.std.specs.Prelude.{◌≡◌, ◌≤◌, ◌<◌, ◌+◌, ◌^◌, ◌∷◌, [], Some, ◌++◌, length, OnOk, IfOk, IfErr};
+    ghost use Rattle.ln_log.specs.Log.{between};
     ghost use Rattle.ln_link.specs.Outputs.{numbered};
     ghost use Rattle.ln_link.specs.declared.output.Output.TheVariants as output;
     ghost use Rattle.ln_link.specs.Channel.{End, opened_end, is_ready, all_acknowledged, is_settled, has_begun, fee_range, closing_message, due_fee, fee_sent, begins, own_events, peer_events, tells, shutdown_message, shutdown_sent, answers_shutdown};
@@ -91,8 +92,8 @@ impl Channel {
         let log = self.dance.log();
         let own = log.counts(Pair::Current(Side::Own));
         let peer = log.counts(Pair::Current(Side::Peer));
-        let own_len = log.own_updates().len();
-        let peer_len = log.peer_updates().len();
+        let own_len = log.len(Side::Own);
+        let peer_len = log.len(Side::Peer);
         peer.own == own_len
             && own.own == own_len
             && own.peer == peer_len
@@ -107,7 +108,7 @@ impl Channel {
         keys: &K,
         outputs: &mut Vec<Output>,
     ) -> Result<(), Refusal>
-        ensures outputs { OnOk result (outputs.new.items ≡ outputs.old.items ++ fee_sent K.close_signature keys.now self.old (due_fee self.old)) }
+        ensures outputs { OnOk result (outputs.new.items ≡ outputs.old.items ++ fee_sent (K.signer keys.now) self.old (due_fee self.old)) }
         ensures state { OnOk result (self.new ≡ begins self.old) }
         ensures err { IfErr result (λ r. r ≡ Refusal.Memory) }
     {
@@ -127,7 +128,7 @@ impl Channel {
         fee: u64,
         outputs: &mut Vec<Output>,
     ) -> Result<(), Refusal>
-        ensures outputs { OnOk result (outputs.new.items ≡ outputs.old.items ++ fee_sent K.close_signature keys.now self.now (Some fee)) }
+        ensures outputs { OnOk result (outputs.new.items ≡ outputs.old.items ++ fee_sent (K.signer keys.now) self.now (Some fee)) }
         ensures err { IfErr result (λ r. r ≡ Refusal.Memory) }
     {
         let message = self.closing_message(alloc, keys, fee)?;
@@ -140,7 +141,7 @@ impl Channel {
         keys: &K,
         fee: u64,
     ) -> Result<ClosingSigned, Refusal>
-        ensures ok { IfOk result (λ m. m ≡ closing_message K.close_signature keys.now self.now fee) }
+        ensures ok { IfOk result (λ m. m ≡ closing_message (K.signer keys.now) self.now fee) }
         ensures err { IfErr result (λ r. r ≡ Refusal.Memory) }
     {
         let range = self.fee_range(alloc)?;
@@ -168,20 +169,54 @@ impl Channel {
         Ok(records)
     }
 
+    // The own updates that are held, from this one on.
+    fn own_told(&self, before: usize) -> &[Update]
+        requires start { before ≤ self.now.dance.log.current.own }
+        requires kept { self.now.dance.log.first.own ≤ before }
+        ensures updates { result.now ≡ between before self.now.dance.log.current.own self.now.dance.log.own }
+        ensures count { before + length result.now ≡ self.now.dance.log.current.own }
+        ensures small { self.now.dance.log.current.own + self.now.dance.log.acknowledged.peer + 1 < 2 ^ 64 }
+    {
+        self.dance.log().between(Side::Own, before, self.own_held())
+    }
+
+    // The peer's updates that are held, from this one on.
+    fn peer_told(&self, before: usize) -> &[Update]
+        requires start { before ≤ self.now.dance.log.acknowledged.peer }
+        requires kept { self.now.dance.log.first.peer ≤ before }
+        ensures updates { result.now ≡ between before self.now.dance.log.acknowledged.peer self.now.dance.log.got }
+        ensures count { before + length result.now ≡ self.now.dance.log.acknowledged.peer }
+        ensures small { self.now.dance.log.current.own + self.now.dance.log.acknowledged.peer + 1 < 2 ^ 64 }
+    {
+        self.dance
+            .log()
+            .between(Side::Peer, before, self.peer_held())
+    }
+
     // How many own updates this side holds as irrevocably committed.
     pub(crate) fn own_held(&self) -> usize
         ensures is { result ≡ self.now.dance.log.current.own }
         ensures ordered { self.now.dance.log.current.own ≤ self.now.dance.log.acknowledged.own }
+        ensures first { self.now.dance.log.first.own ≤ self.now.dance.log.current.own }
+        ensures within { self.now.dance.log.current.own ≤ length self.now.dance.log.own }
+        ensures small { self.now.dance.log.current.own + self.now.dance.log.acknowledged.peer + 1 < 2 ^ 64 }
     {
-        self.dance.log().counts(Pair::Current(Side::Own)).own
+        let log = self.dance.log();
+        let _ = log.first(Side::Own);
+        log.counts(Pair::Current(Side::Own)).own
     }
 
     // How many of the peer's updates it does.
     pub(crate) fn peer_held(&self) -> usize
         ensures is { result ≡ self.now.dance.log.acknowledged.peer }
         ensures ordered { self.now.dance.log.acknowledged.peer ≤ self.now.dance.log.signed.peer }
+        ensures first { self.now.dance.log.first.peer ≤ self.now.dance.log.acknowledged.peer }
+        ensures within { self.now.dance.log.acknowledged.peer ≤ length self.now.dance.log.got }
+        ensures small { self.now.dance.log.current.own + self.now.dance.log.acknowledged.peer + 1 < 2 ^ 64 }
     {
-        self.dance.log().counts(Pair::Current(Side::Peer)).peer
+        let log = self.dance.log();
+        let _ = log.first(Side::Peer);
+        log.counts(Pair::Current(Side::Peer)).peer
     }
 
     // How many updates this side holds as irrevocably committed.
@@ -204,12 +239,13 @@ impl Channel {
         outputs: &mut Vec<Output>,
     ) -> Result<(), Refusal>
         requires start { before ≤ self.old.dance.log.current.own }
+        requires kept { self.old.dance.log.first.own ≤ before }
         requires few { self.old.events ≤ before + self.old.dance.log.acknowledged.peer + 1 }
         ensures outputs { OnOk result (outputs.new.items ≡ outputs.old.items ++ numbered self.old.events (own_events before self.old)) }
         ensures state { OnOk result (self.new ≡ tells (own_events before self.old) self.old) }
         ensures err { IfErr result (λ r. r ≡ Refusal.Memory) }
     {
-        let updates = self.dance.log().own_since(before);
+        let updates = self.own_told(before);
         let next = put_events(alloc, outputs, self.events, true, updates)?;
         self.events = next;
         Ok(())
@@ -223,12 +259,13 @@ impl Channel {
         outputs: &mut Vec<Output>,
     ) -> Result<(), Refusal>
         requires start { before ≤ self.old.dance.log.acknowledged.peer }
+        requires kept { self.old.dance.log.first.peer ≤ before }
         requires few { self.old.events ≤ self.old.dance.log.current.own + before + 1 }
         ensures outputs { OnOk result (outputs.new.items ≡ outputs.old.items ++ numbered self.old.events (peer_events before self.old)) }
         ensures state { OnOk result (self.new ≡ tells (peer_events before self.old) self.old) }
         ensures err { IfErr result (λ r. r ≡ Refusal.Memory) }
     {
-        let updates = self.dance.log().peer_since(before);
+        let updates = self.peer_told(before);
         let next = put_events(alloc, outputs, self.events, false, updates)?;
         self.events = next;
         Ok(())
@@ -239,7 +276,7 @@ impl Channel {
         ensures { result ≡ all_acknowledged self.now.dance.log }
     {
         let log = self.dance.log();
-        log.counts(Pair::Current(Side::Peer)).own == log.own_updates().len()
+        log.counts(Pair::Current(Side::Peer)).own == log.len(Side::Own)
     }
 
     // Answers the peer's shutdown, where it is owed and may be.

@@ -32,7 +32,7 @@ impl Channel {
         short_id: ShortId,
     ) -> Result<Vec<Output>, Refusal>
         ensures answer { AnswersWithin (confirm_fault self.old) result }
-        ensures outputs { IfOk result (λ v. v.items ≡ output.Send (message.ChannelReady (ready_message K.point_of keys.now self.old)) ∷ []) }
+        ensures outputs { IfOk result (λ v. v.items ≡ output.Send (message.ChannelReady (ready_message (K.signer keys.now) self.old)) ∷ []) }
         ensures state { OnOk result (self.new ≡ confirmed short_id self.old) }
         ensures refused { ChangesNothing result self.old self.new }
     {
@@ -47,7 +47,7 @@ impl Channel {
     }
 
     fn ready_message<K: ChannelKeys>(&self, alloc: Global, keys: &K) -> ChannelReady
-        ensures { result ≡ ready_message K.point_of keys.now self.now }
+        ensures { result ≡ ready_message (K.signer keys.now) self.now }
     {
         ChannelReady {
             channel_id: self.dance.channel(),
@@ -63,7 +63,7 @@ impl Channel {
         keys: &K,
     ) -> Result<CommitmentSigned, Refusal>
         ensures answer { AnswersWithin (sign_fault self.old.dance) result }
-        ensures message { IfOk result (λ m. m ≡ signed_message K.signature K.htlc_signatures keys.now self.old.dance) }
+        ensures message { IfOk result (λ m. m ≡ signed_message (K.signer keys.now) self.old.dance) }
         ensures state { OnOk result (self.new ≡ signs_next self.old) }
         ensures err { OnErr result (self.new ≡ self.old) }
     {
@@ -76,7 +76,7 @@ impl Channel {
     /// behind the last number; 60.
     pub fn sign<K: ChannelKeys>(&mut self, alloc: Global, keys: &K) -> Result<Vec<Output>, Refusal>
         ensures answer { AnswersWithin (sign_command_fault self.old) result }
-        ensures outputs { IfOk result (λ v. v.items ≡ sign_outputs K.signature K.htlc_signatures keys.now self.old) }
+        ensures outputs { IfOk result (λ v. v.items ≡ sign_outputs (K.signer keys.now) self.old) }
         ensures state { OnOk result (self.new ≡ signs_next self.old) }
         ensures refused { ChangesNothing result self.old self.new }
     {
@@ -94,7 +94,7 @@ impl Channel {
     fn own_len(&self) -> usize
         ensures { result ≡ length self.now.dance.log.own }
     {
-        self.dance.log().own_updates().len()
+        self.dance.log().len(Side::Own)
     }
 
     /// Sends shutdown with this script (BOLT 2, "Closing Initiation: `shutdown`"): 43 where it was sent, 45 where own
@@ -106,7 +106,7 @@ impl Channel {
         script: Bytes,
     ) -> Result<Vec<Output>, Refusal>
         ensures answer { AnswersWithin (shut_fault self.old) result }
-        ensures outputs { IfOk result (λ v. v.items ≡ shut_outputs K.close_signature keys.now script self.old) }
+        ensures outputs { IfOk result (λ v. v.items ≡ shut_outputs (K.signer keys.now) script self.old) }
         ensures state { OnOk result (self.new ≡ begins (shuts_down script self.old)) }
         ensures refused { ChangesNothing result self.old self.new }
     {

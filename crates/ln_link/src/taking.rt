@@ -33,11 +33,12 @@ impl Channel {
         keys: &K,
         message: &CommitmentSigned,
     ) -> Result<RevokeAndAck, Refusal>
-        ensures answer { AnswersWithin (signature_fault K.point_of K.accepts keys.now message.now self.old) result }
-        ensures message { IfOk result (λ m. m ≡ revoked_message K.secret_of K.point_of keys.now self.old.dance) }
+        ensures answer { AnswersWithin (signature_fault (K.signer keys.now) message.now self.old) result }
+        ensures message { IfOk result (λ m. m ≡ revoked_message (K.signer keys.now) self.old.dance) }
         ensures state { OnOk result (self.new ≡ accepts self.old) }
         ensures few { OnOk result (self.new.events ≤ self.old.dance.log.current.own + self.new.dance.log.acknowledged.peer + 1) }
         ensures grows { OnOk result (self.old.dance.log.current.own ≤ self.new.dance.log.current.own) }
+        ensures kept { OnOk result (self.new.dance.log.first.own ≤ self.old.dance.log.current.own) }
         ensures err { OnErr result (self.new ≡ self.old) }
     {
         if !self.is_ready() {
@@ -57,8 +58,8 @@ impl Channel {
         keys: &K,
         message: &CommitmentSigned,
     ) -> Result<Vec<Output>, Refusal>
-        ensures answer { AnswersWithin (signature_fault K.point_of K.accepts keys.now message.now self.old) result }
-        ensures outputs { IfOk result (λ v. v.items ≡ signature_outputs K.secret_of K.point_of K.close_signature keys.now self.old) }
+        ensures answer { AnswersWithin (signature_fault (K.signer keys.now) message.now self.old) result }
+        ensures outputs { IfOk result (λ v. v.items ≡ signature_outputs (K.signer keys.now) self.old) }
         ensures state { OnOk result (self.new ≡ after_signature self.old) }
         ensures refused { ChangesNothing result self.old self.new }
     {
@@ -74,10 +75,11 @@ impl Channel {
 
     // Learns a revocation of the peer.
     fn learn<K: ChannelKeys>(&mut self, keys: &K, message: &RevokeAndAck) -> Result<(), Refusal>
-        ensures answer { result ≡ answer_of (learn_fault K.fits keys.now message.now self.old.dance) }
+        ensures answer { result ≡ answer_of (learn_fault (K.signer keys.now) message.now self.old.dance) }
         ensures state { OnOk result (self.new ≡ revokes message.now self.old) }
         ensures few { OnOk result (self.new.events ≤ self.new.dance.log.current.own + self.old.dance.log.acknowledged.peer + 1) }
         ensures grows { OnOk result (self.old.dance.log.acknowledged.peer ≤ self.new.dance.log.acknowledged.peer) }
+        ensures kept { OnOk result (self.new.dance.log.first.peer ≤ self.old.dance.log.acknowledged.peer) }
         ensures err { OnErr result (self.new ≡ self.old) }
     {
         let _ = self.peer_held();
@@ -94,8 +96,8 @@ impl Channel {
         keys: &K,
         message: &RevokeAndAck,
     ) -> Result<Vec<Output>, Refusal>
-        ensures answer { AnswersWithin (learn_fault K.fits keys.now message.now self.old.dance) result }
-        ensures outputs { IfOk result (λ v. v.items ≡ revocation_outputs K.close_signature keys.now message.now self.old) }
+        ensures answer { AnswersWithin (learn_fault (K.signer keys.now) message.now self.old.dance) result }
+        ensures outputs { IfOk result (λ v. v.items ≡ revocation_outputs (K.signer keys.now) message.now self.old) }
         ensures state { OnOk result (self.new ≡ after_revocation message.now self.old) }
         ensures refused { ChangesNothing result self.old self.new }
     {
@@ -189,7 +191,7 @@ impl Channel {
         message: &Shutdown,
     ) -> Result<Vec<Output>, Refusal>
         ensures answer { AnswersWithin (shutdown_fault message.now self.old.peer_script) result }
-        ensures outputs { IfOk result (λ v. v.items ≡ shutdown_outputs K.close_signature keys.now message.now self.old self.old.peer_script) }
+        ensures outputs { IfOk result (λ v. v.items ≡ shutdown_outputs (K.signer keys.now) message.now self.old self.old.peer_script) }
         ensures state { OnOk result (self.new ≡ after_shutdown message.now self.old self.old.peer_script) }
         ensures refused { ChangesNothing result self.old self.new }
     {
@@ -210,7 +212,7 @@ impl Channel {
         keys: &K,
         message: &Shutdown,
     ) -> Result<Vec<Output>, Refusal>
-        ensures outputs { IfOk result (λ v. v.items ≡ shutdown_outputs K.close_signature keys.now message.now self.old None) }
+        ensures outputs { IfOk result (λ v. v.items ≡ shutdown_outputs (K.signer keys.now) message.now self.old None) }
         ensures state { OnOk result (self.new ≡ after_shutdown message.now self.old None) }
         ensures err { IfErr result (λ r. r ≡ Refusal.Memory) }
     {
@@ -231,8 +233,8 @@ impl Channel {
         keys: &K,
         message: &ClosingSigned,
     ) -> Result<Vec<Output>, Refusal>
-        ensures answer { AnswersWithin (closing_fault K.accepts_close keys.now message.now self.old) result }
-        ensures outputs { (a : Answer) → closing_answer message.now self.old ≡ Ok a → IfOk result (λ v. v.items ≡ answer_outputs K.close_signature keys.now self.old a) }
+        ensures answer { AnswersWithin (closing_fault (K.signer keys.now) message.now self.old) result }
+        ensures outputs { (a : Answer) → closing_answer message.now self.old ≡ Ok a → IfOk result (λ v. v.items ≡ answer_outputs (K.signer keys.now) self.old a) }
         ensures state { (a : Answer) → closing_answer message.now self.old ≡ Ok a → OnOk result (self.new ≡ answers_fee message.now a self.old) }
         ensures refused { ChangesNothing result self.old self.new }
     {

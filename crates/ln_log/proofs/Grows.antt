@@ -1,5 +1,5 @@
 -- A log with a further update.
-use Rattle.std.proofs.Common.{◌≡◌, ℕ, ◌+◌, ◌≤◌, ◌<◌, ◌^◌, List, [], ◌∷◌, length, take, refl, sym, ap, ◌∙◌, subst, arith, Bool, true, false, cond, eqb, Option, Some, None, Result, Ok, Err, length-append, nat_le, option_map}
+use Rattle.std.proofs.Common.{◌≡◌, ℕ, ◌+◌, ◌*◌, ◌≤◌, ◌<◌, ◌^◌, List, [], ◌∷◌, length, take, refl, sym, ap, ◌∙◌, subst, arith, Bool, true, false, cond, eqb, Option, Some, None, Result, Ok, Err, length-append, nat_le, option_map}
 use Rattle.std.proofs.lemmas.List.{take-append-le}
 use Rattle.std.proofs.lemmas.Bool.{leb-false, lt-leb, eqb-true}
 use Rattle.std.specs.Result.{IsErrAnd}
@@ -22,8 +22,8 @@ use Rattle.ln_log.specs.Limits.{standing_of, fault_at, update_fault, HasNextId, 
 use Rattle.ln_log.specs.Standing.{with_own, OwnFits}
 use Rattle.ln_log.specs.Log.{Log, IsKept, HasId, AreRemovals, peer_limit, removal_fault, length_fault, proposal_fault, taken_fault, proposed, received}
 use Rattle.ln_log.proofs.Outcomes.{above, next-front, numbered-take, numbered-push, removals-push, removals-take, untouched}
-use Rattle.ln_log.proofs.Sums.{pays_all}
-use Rattle.ln_log.proofs.Kept.{small, small_back, found_in, both_same, Growing, Grown, grown}
+use Rattle.ln_log.proofs.Sums.{pays_all, first_sum}
+use Rattle.ln_log.proofs.Kept.{small, small_back, found_in, both_same, Growing, Grown, grown, seen_removes, within-push, has_amount}
 
 -- ---- what an answer of no fault says
 
@@ -101,8 +101,8 @@ due_live l s t p q k n =
 
 due_live_back : (l : Log) (s t p q : Standing) → IsKept l s t p q → (n : ℕ) → outcome (next_id l.got) (take n l.own) ≡ Live
 due_live_back l s t p q k n =
-    untouched (next_id l.got) (take l.acknowledged.peer l.got) [] (take n l.own) (removals-take (take l.acknowledged.peer l.got) [] l.own n k.own_removals)
-    (above 0 (next_id l.got) (take l.acknowledged.peer l.got) (numbered-take 0 l.acknowledged.peer l.got k.peer_ids) (front_counts l.acknowledged.peer l.got))
+    untouched (next_id l.got) (take l.signed.peer l.got) [] (take n l.own) (removals-take (take l.signed.peer l.got) [] l.own n k.own_removals)
+    (above 0 (next_id l.got) (take l.signed.peer l.got) (numbered-take 0 l.signed.peer l.got k.peer_ids) (front_counts l.signed.peer l.got))
 
 pub growing : (l : Log) (s t p q : Standing) → IsKept l s t p q → length l.own < 2 ^ 62
     → Growing (limits_of l.opening l.role) (first_balance l.opening l.role) (first_balance l.opening (other_role l.role)) l.own (take l.current.peer l.got) (take l.acknowledged.peer l.got)
@@ -155,6 +155,9 @@ got_call l s t p q u vs k none e =
     let g = grown_got l s t p q u k (may_take l u none) in
     subst (λ x. OwnFits x vs u) (sym k.peer_stands) (subst (λ x. OwnFits (standing_of (first_balance l.opening (other_role l.role)) l.got (take l.acknowledged.own l.own)) x u) (sym e) g.fits)
 
+first_sum_back : (o : Opening) (r : Role) → IsFit o → first_balance o (other_role r) + first_balance o r ≡ 1000 * o.satoshis
+first_sum_back o r fit = omega (arith, first_sum o r fit)
+
 pub kept_proposed : (l : Log) (s t p q a : Standing) (u : Update) (vs : List Update) → IsKept l s t p q → proposal_fault l u ≡ None → HasNextId l.own u → vs ≡ take l.current.peer l.got → a ≡ with_own s vs u → IsKept (proposed u l) a t p q
 kept_proposed l s t p q a u vs k none next ev ea =
     let w = k.within in
@@ -171,8 +174,11 @@ kept_proposed l s t p q a u vs k none next ev ea =
       within = record { own_current = w.own_current; own_acknowledged = w.own_acknowledged; own_signed = omega (arith, w.own_signed, more); peer_acknowledged = w.peer_acknowledged; peer_signed = w.peer_signed; peer_current = w.peer_current };
       own_ids = numbered-push 0 l.own u k.own_ids (subst (λ n. HasId n (offered u)) (omega arith) (has_id l.own u next));
       peer_ids = k.peer_ids;
-      own_removals = removals-push (take l.acknowledged.peer l.got) [] l.own u k.own_removals g.removes;
+      own_removals = removals-push (take l.signed.peer l.got) [] l.own u k.own_removals (seen_removes (take l.acknowledged.peer l.got) (take l.signed.peer l.got) l.own (removed u) (found_in l.acknowledged.peer l.signed.peer l.got w.peer_acknowledged) g.removes);
+      acknowledged_removals = subst (λ us. AreRemovals (take l.acknowledged.peer l.got) [] us) (sym acked) k.acknowledged_removals;
       peer_removals = subst (λ adds. AreRemovals adds [] l.got) (sym current) k.peer_removals;
+      own_amounts = within-push (1000 * l.opening.satoshis) l.own u k.own_amounts (has_amount _ _ (offered u) (first_sum l.opening l.role k.fit) g.amount);
+      peer_amounts = k.peer_amounts;
       own_stands = ea ∙ ap (λ x. with_own x vs u) k.own_stands ∙ ap (λ x. with_own (standing_of f l.own (take l.current.peer l.got)) x u) ev ∙ g.stands;
       own_signed_stands = k.own_signed_stands ∙ ap (λ x. standing_of f x (take l.current.peer l.got)) (sym signed);
       peer_stands = k.peer_stands ∙ ap (standing_of h l.got) (sym acked);
@@ -201,8 +207,11 @@ kept_received l s t p q b u vs k none ev eb =
       within = record { own_current = w.own_current; own_acknowledged = w.own_acknowledged; own_signed = w.own_signed; peer_acknowledged = w.peer_acknowledged; peer_signed = w.peer_signed; peer_current = omega (arith, w.peer_current, more) };
       own_ids = k.own_ids;
       peer_ids = numbered-push 0 l.got u k.peer_ids (subst (λ n. HasId n (offered u)) (omega arith) (id_taken l.got u m.id));
-      own_removals = subst (λ adds. AreRemovals adds [] l.own) (sym acked) k.own_removals;
+      own_removals = subst (λ adds. AreRemovals adds [] l.own) (sym signed) k.own_removals;
+      acknowledged_removals = subst (λ adds. AreRemovals adds [] (take l.acknowledged.own l.own)) (sym acked) k.acknowledged_removals;
       peer_removals = removals-push (take l.current.own l.own) [] l.got u k.peer_removals g.removes;
+      own_amounts = k.own_amounts;
+      peer_amounts = within-push (1000 * l.opening.satoshis) l.got u k.peer_amounts (has_amount _ _ (offered u) (first_sum_back l.opening l.role k.fit) g.amount);
       own_stands = k.own_stands ∙ ap (standing_of f l.own) (sym current);
       own_signed_stands = k.own_signed_stands ∙ ap (standing_of f (take l.signed.own l.own)) (sym current);
       peer_stands = eb ∙ ap (λ x. with_own x vs u) k.peer_stands ∙ ap (λ x. with_own (standing_of h l.got (take l.acknowledged.own l.own)) x u) ev ∙ g.stands;

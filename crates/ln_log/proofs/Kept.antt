@@ -1,5 +1,6 @@
 -- What each call of a log keeps.
-use Rattle.std.proofs.Common.{◌≡◌, ℕ, ◌+◌, ◌-◌, ◌*◌, ◌≤◌, ◌<◌, ◌^◌, List, [], ◌∷◌, ◌++◌, length, take, drop, refl, sym, ap, ◌∙◌, subst, arith, Bool, true, false, cond, Option, Some, None, ◌||◌, ◌==◌, nat_lt}
+use Rattle.std.specs.List.{slice_get}
+use Rattle.std.proofs.Common.{◌≡◌, ℕ, zero, suc, IfSome, ◌+◌, ◌-◌, ◌*◌, ◌≤◌, ◌<◌, ◌^◌, List, [], ◌∷◌, ◌++◌, length, take, drop, refl, sym, ap, ◌∙◌, subst, arith, Bool, true, false, cond, Option, Some, None, ◌||◌, ◌==◌, nat_lt}
 use Rattle.std.proofs.lemmas.List.{take-append-drop, take-take, take_all, take_rest, drop-take, length-take-le}
 use Rattle.std.proofs.lemmas.Bool.{ltb-false}
 use Rattle.ln_keys.specs.declared.role.Role.{Role}
@@ -18,7 +19,7 @@ use Rattle.ln_log.specs.Updates.{offered, removed, is_some, next_id, add_with, o
 use Rattle.ln_log.specs.View.{balance, Pays}
 use Rattle.ln_log.specs.Limits.{standing_of, add_fault, fault_at, removable, fulfil_fault, fail_fault, malformed_fault}
 use Rattle.ln_log.specs.Standing.{with_own, with_all, paid_by, PaidFits, OwnFits, AllFit}
-use Rattle.ln_log.specs.Log.{Log, IsKept, BothPay, number_after, HasId, AreNumbered, RemovesLive, AreRemovals, acknowledged_all, dropped}
+use Rattle.ln_log.specs.Log.{Log, IsKept, BothPay, HasAmount, AreWithin, number_after, HasId, AreNumbered, RemovesLive, AreRemovals, accepted_all, acknowledged_all, dropped}
 use Rattle.ln_log.proofs.Outcomes.{add_with-more, next-take, next-cons, above, numbered-take, numbered-drop, removals-take, removals-drop, removals-more, untouched}
 use Rattle.ln_log.proofs.Sums.{sums, first_sum, longer, pays_longer, pays_all, pays_more}
 use Rattle.ln_log.proofs.Standings.{MayAdd, own_moves, own_pays, all_step}
@@ -56,17 +57,41 @@ found_all m us i e = ap (add_with i) (sym (take-append-drop m us)) ∙ add_with-
 pub small : (l : Log) → IsFit l.opening → first_balance l.opening l.role + first_balance l.opening (other_role l.role) < 2 ^ 64
 small l fit = omega (arith, first_sum l.opening l.role fit, fit.funds)
 
+-- ---- amounts
+
+pub within-take : (most : ℕ) (us : List Update) (k : ℕ) → AreWithin most us → AreWithin most (take k us)
+within-take most us zero h = tt
+within-take most [] (suc k) h = tt
+within-take most (u ∷ us) (suc k) h = (h.0, within-take most us k h.1)
+
+pub within-push : (most : ℕ) (us : List Update) (u : Update) → AreWithin most us → HasAmount most (offered u) → AreWithin most (us ++ u ∷ [])
+within-push most [] u h a = (a, tt)
+within-push most (v ∷ us) u h a = (h.0, within-push most us u h.1 a)
+
+amount_in : (most : ℕ) (us : List Update) (n : ℕ) → AreWithin most us → IfSome (slice_get us n) (λ u. HasAmount most (offered u))
+amount_in most [] n h = tt
+amount_in most (u ∷ us) zero h = h.0
+amount_in most (u ∷ us) (suc n) h = amount_in most us n h.1
+
+pub amount_found : (l m : Log) (us vs : List Update) (n : ℕ) (o : Option Update) → l ≡ m → o ≡ slice_get vs n → vs ≡ us → AreWithin (1000 * l.opening.satoshis) us → IfSome o (λ u. HasAmount (1000 * m.opening.satoshis) (offered u))
+amount_found l m us vs n o el eo ev h =
+    subst (λ (x : Log). IfSome o (λ u. HasAmount (1000 * x.opening.satoshis) (offered u))) el
+    (subst (λ x. IfSome x (λ u. HasAmount (1000 * l.opening.satoshis) (offered u))) (sym (eo ∙ ap (λ w. slice_get w n) ev)) (amount_in (1000 * l.opening.satoshis) us n h))
+
+pub has_amount : (most most' : ℕ) (o : Option Add) → most ≡ most' → HasAmount most o → HasAmount most' o
+has_amount most most' o e h = subst (λ m. HasAmount m o) e h
+
 -- ---- a signature of the peer is taken
 
-pub accepting : (l : Log) (s t p q : Standing) → IsKept l s t p q → Settling (first_balance l.opening l.role) (first_balance l.opening (other_role l.role)) l.own (take l.current.own l.own) (take l.acknowledged.peer l.got) l.got l.current.peer
+pub accepting : (l : Log) (s t p q : Standing) → IsKept l s t p q → Settling (first_balance l.opening l.role) (first_balance l.opening (other_role l.role)) l.own (take l.current.own l.own) (take l.signed.peer l.got) l.got l.current.peer
 accepting l s t p q k =
     let w = k.within in
     record {
       ids = k.own_ids;
       found = found_all l.current.own l.own;
       got_ids = k.peer_ids;
-      held_ids = numbered-take 0 l.acknowledged.peer l.got k.peer_ids;
-      held_before = next-take l.acknowledged.peer l.current.peer l.got (omega (arith, w.peer_acknowledged, w.peer_signed));
+      held_ids = numbered-take 0 l.signed.peer l.got k.peer_ids;
+      held_before = next-take l.signed.peer l.current.peer l.got w.peer_signed;
       own_removals = k.own_removals;
       got_removals = k.peer_removals;
       pays = k.own_pays;
@@ -74,16 +99,16 @@ accepting l s t p q k =
       small = small l k.fit;
     }
 
-pub accepting_signed : (l : Log) (s t p q : Standing) → IsKept l s t p q → Settling (first_balance l.opening l.role) (first_balance l.opening (other_role l.role)) (take l.signed.own l.own) (take l.current.own l.own) (take l.acknowledged.peer l.got) l.got l.current.peer
+pub accepting_signed : (l : Log) (s t p q : Standing) → IsKept l s t p q → Settling (first_balance l.opening l.role) (first_balance l.opening (other_role l.role)) (take l.signed.own l.own) (take l.current.own l.own) (take l.signed.peer l.got) l.got l.current.peer
 accepting_signed l s t p q k =
     let w = k.within in
     record {
       ids = numbered-take 0 l.signed.own l.own k.own_ids;
       found = found_in l.current.own l.signed.own l.own (omega (arith, w.own_current, w.own_acknowledged));
       got_ids = k.peer_ids;
-      held_ids = numbered-take 0 l.acknowledged.peer l.got k.peer_ids;
-      held_before = next-take l.acknowledged.peer l.current.peer l.got (omega (arith, w.peer_acknowledged, w.peer_signed));
-      own_removals = removals-take (take l.acknowledged.peer l.got) [] l.own l.signed.own k.own_removals;
+      held_ids = numbered-take 0 l.signed.peer l.got k.peer_ids;
+      held_before = next-take l.signed.peer l.current.peer l.got w.peer_signed;
+      own_removals = removals-take (take l.signed.peer l.got) [] l.own l.signed.own k.own_removals;
       got_removals = k.peer_removals;
       pays = pays_longer (first_balance l.opening l.role) (take l.signed.own l.own) l.got l.signed.peer l.current.peer w.peer_signed k.signed_pays.0;
       back = pays_longer (first_balance l.opening (other_role l.role)) l.got l.own l.acknowledged.own l.signed.own w.own_acknowledged k.peer_pays;
@@ -95,25 +120,25 @@ accepting_signed l s t p q k =
 pub small_back : (l : Log) → IsFit l.opening → first_balance l.opening (other_role l.role) + first_balance l.opening l.role < 2 ^ 64
 small_back l fit = omega (arith, small l fit)
 
-pub learning : (l : Log) (s t p q : Standing) → IsKept l s t p q → Settling (first_balance l.opening (other_role l.role)) (first_balance l.opening l.role) l.got (take l.acknowledged.peer l.got) (take l.current.own l.own) (take l.signed.own l.own) l.acknowledged.own
+pub learning : (l : Log) (s t p q : Standing) → IsKept l s t p q → Settling (first_balance l.opening (other_role l.role)) (first_balance l.opening l.role) l.got (take l.signed.peer l.got) (take l.current.own l.own) (take l.signed.own l.own) l.acknowledged.own
 learning l s t p q k =
     let w = k.within in
     let f = first_balance l.opening l.role in
     let front : take l.acknowledged.own (take l.signed.own l.own) ≡ take l.acknowledged.own l.own = take-take l.acknowledged.own l.signed.own l.own w.own_acknowledged in
     record {
       ids = k.peer_ids;
-      found = found_all l.acknowledged.peer l.got;
+      found = found_all l.signed.peer l.got;
       got_ids = numbered-take 0 l.signed.own l.own k.own_ids;
       held_ids = numbered-take 0 l.current.own l.own k.own_ids;
       held_before = subst (λ us. next_id (take l.current.own l.own) ≤ next_id us) (sym front) (next-take l.current.own l.acknowledged.own l.own w.own_current);
       own_removals = k.peer_removals;
-      got_removals = removals-take (take l.acknowledged.peer l.got) [] l.own l.signed.own k.own_removals;
+      got_removals = removals-take (take l.signed.peer l.got) [] l.own l.signed.own k.own_removals;
       pays = subst (Pays (first_balance l.opening (other_role l.role)) l.got) (sym front) k.peer_pays;
       back = pays_all f (take l.signed.own l.own) l.got l.signed.peer k.signed_pays.0;
       small = small_back l k.fit;
     }
 
-pub learning_current : (l : Log) (s t p q : Standing) → IsKept l s t p q → Settling (first_balance l.opening (other_role l.role)) (first_balance l.opening l.role) (take l.current.peer l.got) (take l.acknowledged.peer l.got) (take l.current.own l.own) (take l.signed.own l.own) l.acknowledged.own
+pub learning_current : (l : Log) (s t p q : Standing) → IsKept l s t p q → Settling (first_balance l.opening (other_role l.role)) (first_balance l.opening l.role) (take l.current.peer l.got) (take l.signed.peer l.got) (take l.current.own l.own) (take l.signed.own l.own) l.acknowledged.own
 learning_current l s t p q k =
     let w = k.within in
     let f = first_balance l.opening l.role in
@@ -121,12 +146,12 @@ learning_current l s t p q k =
     let front : take l.acknowledged.own (take l.signed.own l.own) ≡ take l.acknowledged.own l.own = take-take l.acknowledged.own l.signed.own l.own w.own_acknowledged in
     record {
       ids = numbered-take 0 l.current.peer l.got k.peer_ids;
-      found = found_in l.acknowledged.peer l.current.peer l.got (omega (arith, w.peer_acknowledged, w.peer_signed));
+      found = found_in l.signed.peer l.current.peer l.got w.peer_signed;
       got_ids = numbered-take 0 l.signed.own l.own k.own_ids;
       held_ids = numbered-take 0 l.current.own l.own k.own_ids;
       held_before = subst (λ us. next_id (take l.current.own l.own) ≤ next_id us) (sym front) (next-take l.current.own l.acknowledged.own l.own w.own_current);
       own_removals = removals-take (take l.current.own l.own) [] l.got l.current.peer k.peer_removals;
-      got_removals = removals-take (take l.acknowledged.peer l.got) [] l.own l.signed.own k.own_removals;
+      got_removals = removals-take (take l.signed.peer l.got) [] l.own l.signed.own k.own_removals;
       pays = subst (Pays g (take l.current.peer l.got)) (sym front) (pays_longer g (take l.current.peer l.got) l.own l.current.own l.acknowledged.own w.own_current k.current_pays.1);
       back = pays_longer f (take l.signed.own l.own) l.got l.signed.peer l.current.peer w.peer_signed k.signed_pays.0;
       small = small_back l k.fit;
@@ -173,15 +198,18 @@ kept_accepted l s t p q a b m n us vs k em en eu ev ea eb =
     let g = first_balance l.opening (other_role l.role) in
     let whole : take n l.got ≡ l.got = all_taken l.got n en in
     let front : take m l.own ≡ take l.acknowledged.own l.own = ap (λ i. take i l.own) em in
-    let own_is : a ≡ standing_of f l.own l.got = moved_to f g l.own (take l.current.own l.own) (take l.acknowledged.peer l.got) l.got l.current.peer s a us vs (accepting l s t p q k) (record { stands = k.own_stands; updates = eu; htlcs = ev; new_is = ea }) in
-    let signed_is : b ≡ standing_of f (take l.signed.own l.own) l.got = moved_to f g (take l.signed.own l.own) (take l.current.own l.own) (take l.acknowledged.peer l.got) l.got l.current.peer t b us vs (accepting_signed l s t p q k) (record { stands = k.own_signed_stands; updates = eu; htlcs = ev; new_is = eb }) in
+    let own_is : a ≡ standing_of f l.own l.got = moved_to f g l.own (take l.current.own l.own) (take l.signed.peer l.got) l.got l.current.peer s a us vs (accepting l s t p q k) (record { stands = k.own_stands; updates = eu; htlcs = ev; new_is = ea }) in
+    let signed_is : b ≡ standing_of f (take l.signed.own l.own) l.got = moved_to f g (take l.signed.own l.own) (take l.current.own l.own) (take l.signed.peer l.got) l.got l.current.peer t b us vs (accepting_signed l s t p q k) (record { stands = k.own_signed_stands; updates = eu; htlcs = ev; new_is = eb }) in
     record {
       fit = k.fit;
       within = record { own_current = omega (arith, em); own_acknowledged = w.own_acknowledged; own_signed = w.own_signed; peer_acknowledged = w.peer_acknowledged; peer_signed = omega (arith, en, w.peer_signed, w.peer_current); peer_current = omega (arith, en) };
       own_ids = k.own_ids;
       peer_ids = k.peer_ids;
       own_removals = k.own_removals;
+      acknowledged_removals = k.acknowledged_removals;
       peer_removals = subst (λ adds. AreRemovals adds [] l.got) (sym (front ∙ longer l.current.own l.acknowledged.own l.own w.own_current)) (removals-more (take l.current.own l.own) (drop l.current.own (take l.acknowledged.own l.own)) [] l.got k.peer_removals);
+      own_amounts = k.own_amounts;
+      peer_amounts = k.peer_amounts;
       own_stands = own_is ∙ ap (standing_of f l.own) (sym whole);
       own_signed_stands = signed_is ∙ ap (standing_of f (take l.signed.own l.own)) (sym whole);
       peer_stands = k.peer_stands;
@@ -196,8 +224,14 @@ kept_accepted l s t p q a b m n us vs k em en eu ev ea eb =
       );
     }
 
+pub accepted_is : (k l : Log) (m n : ℕ) → k ≡ l → m ≡ l.acknowledged.own → n ≡ length l.got → record k { current = record { own = m; peer = n } } ≡ accepted_all l
+accepted_is k l m n e em en =
+    ap (λ (x : Log). record x { current = record { own = m; peer = n } }) e
+    ∙ ap (λ a. record l { current = record { own = a; peer = n } }) em
+    ∙ ap (λ b. record l { current = record { own = l.acknowledged.own; peer = b } }) en
+
 pub kept_acknowledged : (l : Log) (s t p q a b : Standing) (us vs : List Update) → IsKept l s t p q
-    → us ≡ drop l.acknowledged.own (take l.signed.own l.own) → vs ≡ take l.acknowledged.peer l.got → a ≡ with_all p vs us → b ≡ with_all q vs us
+    → us ≡ drop l.acknowledged.own (take l.signed.own l.own) → vs ≡ take l.signed.peer l.got → a ≡ with_all p vs us → b ≡ with_all q vs us
     → IsKept (acknowledged_all l) s t a b
 kept_acknowledged l s t p q a b us vs k eu ev ea eb =
     let w = k.within in
@@ -205,16 +239,19 @@ kept_acknowledged l s t p q a b us vs k eu ev ea eb =
     let g = first_balance l.opening (other_role l.role) in
     let front : take l.acknowledged.own (take l.signed.own l.own) ≡ take l.acknowledged.own l.own = take-take l.acknowledged.own l.signed.own l.own w.own_acknowledged in
     let peer_is : a ≡ standing_of g l.got (take l.signed.own l.own)
-    = moved_to g f l.got (take l.acknowledged.peer l.got) (take l.current.own l.own) (take l.signed.own l.own) l.acknowledged.own p a us vs (learning l s t p q k) (record { stands = k.peer_stands ∙ ap (standing_of g l.got) (sym front); updates = eu; htlcs = ev; new_is = ea }) in
+    = moved_to g f l.got (take l.signed.peer l.got) (take l.current.own l.own) (take l.signed.own l.own) l.acknowledged.own p a us vs (learning l s t p q k) (record { stands = k.peer_stands ∙ ap (standing_of g l.got) (sym front); updates = eu; htlcs = ev; new_is = ea }) in
     let current_is : b ≡ standing_of g (take l.current.peer l.got) (take l.signed.own l.own)
-    = moved_to g f (take l.current.peer l.got) (take l.acknowledged.peer l.got) (take l.current.own l.own) (take l.signed.own l.own) l.acknowledged.own q b us vs (learning_current l s t p q k) (record { stands = k.peer_current_stands ∙ ap (standing_of g (take l.current.peer l.got)) (sym front); updates = eu; htlcs = ev; new_is = eb }) in
+    = moved_to g f (take l.current.peer l.got) (take l.signed.peer l.got) (take l.current.own l.own) (take l.signed.own l.own) l.acknowledged.own q b us vs (learning_current l s t p q k) (record { stands = k.peer_current_stands ∙ ap (standing_of g (take l.current.peer l.got)) (sym front); updates = eu; htlcs = ev; new_is = eb }) in
     record {
       fit = k.fit;
       within = record { own_current = omega (arith, w.own_current, w.own_acknowledged); own_acknowledged = omega arith; own_signed = w.own_signed; peer_acknowledged = omega arith; peer_signed = w.peer_signed; peer_current = w.peer_current };
       own_ids = k.own_ids;
       peer_ids = k.peer_ids;
-      own_removals = subst (λ adds. AreRemovals adds [] l.own) (sym (longer l.acknowledged.peer l.signed.peer l.got w.peer_acknowledged)) (removals-more (take l.acknowledged.peer l.got) (drop l.acknowledged.peer (take l.signed.peer l.got)) [] l.own k.own_removals);
+      own_removals = k.own_removals;
+      acknowledged_removals = removals-take (take l.signed.peer l.got) [] l.own l.signed.own k.own_removals;
       peer_removals = k.peer_removals;
+      own_amounts = k.own_amounts;
+      peer_amounts = k.peer_amounts;
       own_stands = k.own_stands;
       own_signed_stands = k.own_signed_stands;
       peer_stands = peer_is;
@@ -238,8 +275,11 @@ kept_signed l s t p q m n k em en =
       within = record { own_current = w.own_current; own_acknowledged = omega (arith, em, w.own_acknowledged, w.own_signed); own_signed = omega (arith, em); peer_acknowledged = omega (arith, en, w.peer_acknowledged, w.peer_signed); peer_signed = omega (arith, en); peer_current = w.peer_current };
       own_ids = k.own_ids;
       peer_ids = k.peer_ids;
-      own_removals = k.own_removals;
+      own_removals = subst (λ adds. AreRemovals adds [] l.own) (sym (seen ∙ longer l.signed.peer l.current.peer l.got w.peer_signed)) (removals-more (take l.signed.peer l.got) (drop l.signed.peer (take l.current.peer l.got)) [] l.own k.own_removals);
+      acknowledged_removals = k.acknowledged_removals;
       peer_removals = k.peer_removals;
+      own_amounts = k.own_amounts;
+      peer_amounts = k.peer_amounts;
       own_stands = k.own_stands;
       own_signed_stands = k.own_stands ∙ ap (λ x. standing_of f x (take l.current.peer l.got)) (sym whole);
       peer_stands = k.peer_stands;
@@ -276,8 +316,11 @@ kept_dropped l s t p q k =
       within = record { own_current = w.own_current; own_acknowledged = w.own_acknowledged; own_signed = omega (arith, length-take-le l.signed.own l.own w.own_signed); peer_acknowledged = w.peer_acknowledged; peer_signed = w.peer_signed; peer_current = omega (arith, length-take-le l.current.peer l.got w.peer_current) };
       own_ids = numbered-take 0 l.signed.own l.own k.own_ids;
       peer_ids = numbered-take 0 l.current.peer l.got k.peer_ids;
-      own_removals = subst (λ adds. AreRemovals adds [] (take l.signed.own l.own)) (sym acked_peer) (removals-take (take l.acknowledged.peer l.got) [] l.own l.signed.own k.own_removals);
+      own_removals = subst (λ adds. AreRemovals adds [] (take l.signed.own l.own)) (sym signed_peer) (removals-take (take l.signed.peer l.got) [] l.own l.signed.own k.own_removals);
+      acknowledged_removals = subst (λ us. AreRemovals (take l.acknowledged.peer (take l.current.peer l.got)) [] us) (sym acked_own) (subst (λ adds. AreRemovals adds [] (take l.acknowledged.own l.own)) (sym acked_peer) k.acknowledged_removals);
       peer_removals = subst (λ adds. AreRemovals adds [] (take l.current.peer l.got)) (sym current_own) (removals-take (take l.current.own l.own) [] l.got l.current.peer k.peer_removals);
+      own_amounts = within-take (1000 * l.opening.satoshis) l.own l.signed.own k.own_amounts;
+      peer_amounts = within-take (1000 * l.opening.satoshis) l.got l.current.peer k.peer_amounts;
       own_stands = k.own_signed_stands ∙ ap (standing_of f (take l.signed.own l.own)) (sym current_peer);
       own_signed_stands = k.own_signed_stands ∙ ap (standing_of f (take l.signed.own l.own)) (sym current_peer) ∙ ap (λ x. standing_of f x (take l.current.peer (take l.current.peer l.got))) (sym signed_own);
       peer_stands = k.peer_current_stands ∙ ap (standing_of g (take l.current.peer l.got)) (sym acked_own);
@@ -365,7 +408,7 @@ pub record Growing (lim : Limits) (f g : ℕ) (own seen held : List Update) : Ty
   pub few : length own < 2 ^ 62
   pub accepts : lim.accepted ≤ 483
 
-seen_removes : (held seen own : List Update) (r : Option Removal) → ((i : ℕ) → is_some (add_with i held) ≡ true → add_with i seen ≡ add_with i held) → RemovesLive held own r → RemovesLive seen own r
+pub seen_removes : (held seen own : List Update) (r : Option Removal) → ((i : ℕ) → is_some (add_with i held) ≡ true → add_with i seen ≡ add_with i held) → RemovesLive held own r → RemovesLive seen own r
 seen_removes held seen own None found h = tt
 seen_removes held seen own (Some r) found h = (ap is_some (found r.id h.0) ∙ h.0, h.1)
 
@@ -381,6 +424,7 @@ pub record Grown (lim : Limits) (f g : ℕ) (own seen held : List Update) (u : U
   pub stands : with_own (standing_of f own seen) seen u ≡ standing_of f (own ++ u ∷ []) seen
   pub pays : Pays f (own ++ u ∷ []) seen
   pub removes : RemovesLive held own (removed u)
+  pub amount : HasAmount (f + g) (offered u)
 
 own_fits : (lim : Limits) (f g : ℕ) (side : Role) (own seen held : List Update) (u : Update) → Growing lim f g own seen held → fault_at lim (standing_of f own seen) side own held u ≡ None
     → with_own (standing_of f own seen) seen u ≡ standing_of f (own ++ u ∷ []) seen → Pays f (own ++ u ∷ []) seen → OwnFits (standing_of f own seen) seen u
@@ -392,6 +436,13 @@ own_fits lim f g side own seen held (update.Fail x) h e moves pays = tt
 own_fits lim f g side own seen held (update.Malformed x) h e moves pays = tt
 own_fits lim f g side own seen held (update.Fee x) h e moves pays = tt
 
+amount_is : (lim : Limits) (f g : ℕ) (side : Role) (own seen held : List Update) (u : Update) → Growing lim f g own seen held → fault_at lim (standing_of f own seen) side own held u ≡ None → HasAmount (f + g) (offered u)
+amount_is lim f g side own seen held (update.Add a) h e = omega (arith, (afforded lim (standing_of f own seen) a e).paid, sums f g own seen h.pays h.back)
+amount_is lim f g side own seen held (update.Fulfil x) h e = tt
+amount_is lim f g side own seen held (update.Fail x) h e = tt
+amount_is lim f g side own seen held (update.Malformed x) h e = tt
+amount_is lim f g side own seen held (update.Fee x) h e = tt
+
 pub grown : (lim : Limits) (f g : ℕ) (side : Role) (own seen held : List Update) (u : Update) → Growing lim f g own seen held → HasId (next_id own) (offered u) → fault_at lim (standing_of f own seen) side own held u ≡ None → Grown lim f g own seen held u
 grown lim f g side own seen held u h id e =
     let removes = names_live lim (standing_of f own seen) side own held u e in
@@ -399,14 +450,14 @@ grown lim f g side own seen held u h id e =
     let may = may_add lim f g side own seen held u h id e in
     let moves = own_moves f own seen u h.seen_ids seen_too may h.pays in
     let pays = own_pays f own seen u h.seen_ids seen_too may h.pays in
-    record { fits = own_fits lim f g side own seen held u h e (sym moves) pays; stands = sym moves; pays = pays; removes = removes }
+    record { fits = own_fits lim f g side own seen held u h e (sym moves) pays; stands = sym moves; pays = pays; removes = removes; amount = amount_is lim f g side own seen held u h e }
 
-pub may_learn : (l : Log) (s t p q : Standing) (us vs : List Update) → IsKept l s t p q → us ≡ drop l.acknowledged.own (take l.signed.own l.own) → vs ≡ take l.acknowledged.peer l.got → AllFit p vs us
+pub may_learn : (l : Log) (s t p q : Standing) (us vs : List Update) → IsKept l s t p q → us ≡ drop l.acknowledged.own (take l.signed.own l.own) → vs ≡ take l.signed.peer l.got → AllFit p vs us
 may_learn l s t p q us vs k eu ev =
     let front = take-take l.acknowledged.own l.signed.own l.own k.within.own_acknowledged in
     may_move _ _ _ _ _ _ _ p us vs (learning l s t p q k) (k.peer_stands ∙ ap (standing_of (first_balance l.opening (other_role l.role)) l.got) (sym front)) eu ev
 
-pub may_learn_current : (l : Log) (s t p q : Standing) (us vs : List Update) → IsKept l s t p q → us ≡ drop l.acknowledged.own (take l.signed.own l.own) → vs ≡ take l.acknowledged.peer l.got → AllFit q vs us
+pub may_learn_current : (l : Log) (s t p q : Standing) (us vs : List Update) → IsKept l s t p q → us ≡ drop l.acknowledged.own (take l.signed.own l.own) → vs ≡ take l.signed.peer l.got → AllFit q vs us
 may_learn_current l s t p q us vs k eu ev =
     let front = take-take l.acknowledged.own l.signed.own l.own k.within.own_acknowledged in
     may_move _ _ _ _ _ _ _ q us vs (learning_current l s t p q k) (k.peer_current_stands ∙ ap (standing_of (first_balance l.opening (other_role l.role)) (take l.current.peer l.got)) (sym front)) eu ev

@@ -72,7 +72,7 @@ live_now l s t p q h side.Own own peer eo ep =
       ap next_id ep,
       counted (take l.current.own l.own) (take l.current.peer l.got) (numbered-take 0 l.current.own l.own h.own_ids) (removals-take (take l.current.own l.own) [] l.got l.current.peer h.peer_removals),
       counted (take l.current.peer l.got) (take l.current.own l.own) (numbered-take 0 l.current.peer l.got h.peer_ids)
-          (wider l.acknowledged.peer l.current.peer l.got (take l.current.own l.own) (omega (arith, h.within.peer_acknowledged, h.within.peer_signed)) (removals-take (take l.acknowledged.peer l.got) [] l.own l.current.own h.own_removals)),
+          (wider l.signed.peer l.current.peer l.got (take l.current.own l.own) h.within.peer_signed (removals-take (take l.signed.peer l.got) [] l.own l.current.own h.own_removals)),
     )
 live_now l s t p q h side.Peer own peer eo ep =
     omega (
@@ -83,7 +83,7 @@ live_now l s t p q h side.Peer own peer eo ep =
       ap next_id ep,
       counted (take l.acknowledged.own l.own) (take l.acknowledged.peer l.got) (numbered-take 0 l.acknowledged.own l.own h.own_ids)
           (wider l.current.own l.acknowledged.own l.own (take l.acknowledged.peer l.got) h.within.own_current (removals-take (take l.current.own l.own) [] l.got l.acknowledged.peer h.peer_removals)),
-      counted (take l.acknowledged.peer l.got) (take l.acknowledged.own l.own) (numbered-take 0 l.acknowledged.peer l.got h.peer_ids) (removals-take (take l.acknowledged.peer l.got) [] l.own l.acknowledged.own h.own_removals),
+      counted (take l.acknowledged.peer l.got) (take l.acknowledged.own l.own) (numbered-take 0 l.acknowledged.peer l.got h.peer_ids) h.acknowledged_removals,
     )
 
 pub live_by : (l m : Log) (s t p q : Standing) (w : Side) (n k : ℕ) (own peer : List Update) → IsKept l s t p q → l ≡ m → n ≡ (counts_of (pair.Current w) m).own → k ≡ (counts_of (pair.Current w) m).peer → own ≡ l.own → peer ≡ l.got

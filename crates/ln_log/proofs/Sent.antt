@@ -14,6 +14,9 @@ use Rattle.ln_log.specs.declared.outcome.Outcome.{Outcome}
 use Rattle.ln_log.specs.Opening.{limits_of, first_balance}
 use Rattle.ln_log.specs.Updates.{offered, removed, as_sent, all_sent, is_some, is_add, next_id, found_or, add_with, outcome_by, outcome, is_live, is_any, is_failed, is_fulfilled, total, rate_after, last_feerate}
 use Rattle.ln_log.specs.View.{balance, live_of, live_adds, htlc_of, view_of}
+use Rattle.ln_keys.specs.Role.{other_role}
+use Rattle.ln_log.specs.Machine.{Covered, turned}
+use Rattle.ln_log.specs.Log.{sent_pair, view_for}
 use Rattle.ln_log.specs.Limits.{standing_of, removable, fulfil_fault, fail_fault, malformed_fault, fault_at, update_fault}
 use Rattle.ln_log.proofs.Standings.{standing_is}
 use Rattle.ln_log.proofs.Tallies.{amount, weight, tally, total_is}
@@ -84,6 +87,14 @@ view_sent o f g =
 -- lists that are the same as sent are worth the same
 pub view_same : (o : Opening) (f g f' g' : List Update) → all_sent f ≡ all_sent f' → all_sent g ≡ all_sent g' → view_of o f g ≡ view_of o f' g'
 view_same o f g f' g' ef eg = sym (view_sent o f g) ∙ ap (λ us. view_of o us (all_sent g)) ef ∙ ap (view_of o (all_sent f')) eg ∙ view_sent o f' g'
+
+pub same_views : (o : Opening) (x : Role) (c d : Covered) → sent_pair c ≡ sent_pair d → view_for o x c ≡ view_for o x d
+same_views o Funder c d e = view_same o c.own c.peer d.own d.peer (ap (λ (p : Covered). p.own) e) (ap (λ (p : Covered). p.peer) e)
+same_views o Fundee c d e = view_same o c.peer c.own d.peer d.own (ap (λ (p : Covered). p.peer) e) (ap (λ (p : Covered). p.own) e)
+
+pub turned_views : (o : Opening) (x : Role) (c d : Covered) → sent_pair c ≡ sent_pair (turned d) → view_for o x c ≡ view_for o (other_role x) d
+turned_views o Funder c d e = same_views o Funder c (turned d) e
+turned_views o Fundee c d e = same_views o Fundee c (turned d) e
 
 -- ---- nor of what may follow them
 

@@ -111,6 +111,7 @@ fundee_view l m q n k os ps v role en ek eo ep =
 pub pair_pays : (l : Log) (s t p q : Standing) → IsKept l s t p q → (w : Pair) → BothPay l.opening l.role (covered l (counts_of w l))
 pair_pays l s t p q k (pair.Current side.Own) = k.current_pays
 pair_pays l s t p q k (pair.Current side.Peer) = k.acknowledged_pays
+pair_pays l s t p q k pair.Signed = k.signed_pays
 pair_pays l s t p q k pair.ToSign =
     let f = first_balance l.opening l.role in
     let g = first_balance l.opening (other_role l.role) in

@@ -1,5 +1,6 @@
 -- What one side keeps: both lists, and of each how many updates each commitment covers.
-use Rattle.std.specs.Prelude.{◌≡◌, ℕ, ◌+◌, ◌≤◌, List, [], ◌∷◌, ◌++◌, length, take, Bool, true, false, ◌&&◌, ◌==◌, nat_lt, not, Option, Some, None, is_none, option_map, if◌then◌else◌}
+use Rattle.std.specs.Prelude.{◌≡◌, ℕ, ◌+◌, ◌-◌, ◌*◌, ◌≤◌, List, [], ◌∷◌, ◌++◌, length, take, drop, Bool, true, false, ◌&&◌, ◌==◌, nat_lt, not, Option, Some, None, is_none, option_map, if◌then◌else◌}
+use Rattle.std.specs.List.{slice_get}
 use Rattle.ln_msgs.specs.declared.refusal.Refusal.{Refusal}
 use Rattle.ln_msgs.specs.declared.refusal.Refusal.TheVariants as refusal
 use Rattle.ln_keys.specs.declared.role.Role.{Role}
@@ -34,6 +35,7 @@ pub record Log : Type 0 where
   pub role : Role
   pub own : List Update  -- what the side proposed
   pub got : List Update  -- what it took of the peer's
+  pub first : Counts  -- those before these aren't had one by one any more
   pub signed : Counts
   pub acknowledged : Counts
   pub current : Counts
@@ -42,7 +44,7 @@ abbrev pub none : Counts
 none = record { own = 0; peer = 0 }
 
 abbrev pub opened : Opening → Role → Log
-opened o x = record { opening = o; role = x; own = []; got = []; signed = none; acknowledged = none; current = none }
+opened o x = record { opening = o; role = x; own = []; got = []; first = none; signed = none; acknowledged = none; current = none }
 
 -- the lists that counts stand for
 abbrev pub covered : Log → Counts → Covered
@@ -152,10 +154,28 @@ abbrev pub updates_of : Side → Log → List Update
 updates_of side.Own l = l.own
 updates_of side.Peer l = l.got
 
+-- the number of the first update that is had one by one
+abbrev pub first_of : Side → Log → ℕ
+first_of side.Own l = l.first.own
+first_of side.Peer l = l.first.peer
+
+-- the update of this number, from a first one on
+abbrev pub update_at : ℕ → List Update → ℕ → Option Update
+update_at first us n = if nat_lt n first then None else slice_get us n
+
+-- the updates from one number up to another
+abbrev pub between : ℕ → ℕ → List Update → List Update
+between from to us = take (to - from) (drop from us)
+
+-- what the last signature covers of the own updates, and the peer hasn't acknowledged
+abbrev pub unacknowledged : Log → List Update
+unacknowledged l = drop l.acknowledged.own (take l.signed.own l.own)
+
 -- how many updates of either side a pair covers
 abbrev pub counts_of : Pair → Log → Counts
 counts_of (pair.Current side.Own) l = l.current
 counts_of (pair.Current side.Peer) l = l.acknowledged
+counts_of pair.Signed l = l.signed
 counts_of pair.ToSign l = (signed_all l).signed
 counts_of pair.ToAccept l = (accepted_all l).current
 
@@ -196,6 +216,15 @@ abbrev pub AreRemovals : List Update → List Update → List Update → Type 0
 AreRemovals adds before [] = Unit {0}
 AreRemovals adds before (u ∷ us) = RemovesLive adds before (removed u) × AreRemovals adds (before ++ u ∷ []) us
 
+abbrev pub HasAmount : ℕ → Option Add → Type 0
+HasAmount most None = Unit {0}
+HasAmount most (Some a) = a.amount ≤ most
+
+-- no HTLC that they offer is of more than this
+abbrev pub AreWithin : ℕ → List Update → Type 0
+AreWithin most [] = Unit {0}
+AreWithin most (u ∷ us) = HasAmount most (offered u) × AreWithin most us
+
 abbrev pub BothPay : Opening → Role → Covered → Type 0
 BothPay o role c = Pays (first_balance o role) c.own c.peer × Pays (first_balance o (other_role role)) c.peer c.own
 
@@ -206,8 +235,11 @@ pub record IsKept (l : Log) (own own_signed peer peer_current : Standing) : Type
   pub within : IsWithin l
   pub own_ids : AreNumbered 0 l.own
   pub peer_ids : AreNumbered 0 l.got
-  pub own_removals : AreRemovals (take l.acknowledged.peer l.got) [] l.own
+  pub own_removals : AreRemovals (take l.signed.peer l.got) [] l.own
+  pub acknowledged_removals : AreRemovals (take l.acknowledged.peer l.got) [] (take l.acknowledged.own l.own)
   pub peer_removals : AreRemovals (take l.current.own l.own) [] l.got
+  pub own_amounts : AreWithin (1000 * l.opening.satoshis) l.own
+  pub peer_amounts : AreWithin (1000 * l.opening.satoshis) l.got
   pub own_stands : own ≡ standing_of (first_balance l.opening l.role) l.own (take l.current.peer l.got)
   pub own_signed_stands : own_signed ≡ standing_of (first_balance l.opening l.role) (take l.signed.own l.own) (take l.current.peer l.got)
   pub peer_stands : peer ≡ standing_of (first_balance l.opening (other_role l.role)) l.got (take l.acknowledged.own l.own)

@@ -1,11 +1,14 @@
 //! What a log does, as moves of the channel's machine.
 
 ghost use Rattle.std.specs.Prelude.{◌≡◌, ◌↔◌, take, None, false};
+ghost use Rattle.ln_keys.specs.declared.role.Role.{Role};
+ghost use Rattle.ln_keys.specs.Role.{other_role};
+ghost use Rattle.ln_log.specs.declared.opening.Opening.{Opening};
 ghost use Rattle.ln_log.specs.declared.update.Update.{Update};
 ghost use Rattle.ln_log.specs.Updates.{as_sent, all_sent};
 ghost use Rattle.ln_log.specs.Limits.{HasNextId, is_spent};
-ghost use Rattle.ln_log.specs.Machine.{MaySign, MayPropose, proposes, signs, accepts, learns, drops};
-ghost use Rattle.ln_log.specs.Log.{Log, IsWithin, party_of, proposed, received, signed_all, accepted_all, acknowledged_all, dropped, sign_fault, proposal_fault, length_fault};
+ghost use Rattle.ln_log.specs.Machine.{Covered, turned, MaySign, MayPropose, proposes, signs, accepts, learns, drops};
+ghost use Rattle.ln_log.specs.Log.{Log, IsWithin, sent_pair, view_for, party_of, proposed, received, signed_all, accepted_all, acknowledged_all, dropped, sign_fault, proposal_fault, length_fault};
 
 /// What the calls of a log make of its lists is what the moves make of the machine's party: an update that
 /// is taken is no move; a signature that is taken moves to what the peer has signed, and a revocation to
@@ -29,4 +32,10 @@ pub fn sign_exactly()
 /// has numbers left, and the update isn't too long to be sent.
 pub fn propose_exactly()
     ensures { (l : Log) (u : Update) → HasNextId l.own u → ((proposal_fault l u ≡ None) ↔ (MayPropose l.opening l.role (as_sent u) (party_of l) × (is_spent l.own ≡ false) × (length_fault u ≡ None))) }
+{}
+
+/// What a commitment is worth depends on the updates as they are sent alone, and both sides see it alike.
+pub fn views_as_sent()
+    ensures same { (o : Opening) (x : Role) (c d : Covered) → sent_pair c ≡ sent_pair d → view_for o x c ≡ view_for o x d }
+    ensures turned { (o : Opening) (x : Role) (c d : Covered) → sent_pair c ≡ sent_pair (turned d) → view_for o x c ≡ view_for o (other_role x) d }
 {}

@@ -1,10 +1,11 @@
 //! The updates of a channel as one side has them.
 
-ghost use Rattle.std.specs.Prelude.{◌≡◌, ℕ, ◌↔◌, List, length, Option, Some, None, if◌then◌else◌};
+ghost use Rattle.std.specs.Prelude.{◌≡◌, ◌≤◌, ◌+◌, ℕ, ◌↔◌, List, length, Option, Some, None, option_copied, if◌then◌else◌};
+ghost use Rattle.std.specs.List.{slice_get};
 ghost use Rattle.ln_log.specs.declared.update.Update.{Update};
 ghost use Rattle.ln_log.specs.Updates.{next_id};
 ghost use Rattle.ln_log.specs.Limits.{id_fault};
-ghost use Rattle.ln_log.specs.Log.{Log, IsWithin, sign_fault, length_fault, party_of};
+ghost use Rattle.ln_log.specs.Log.{Log, IsWithin, between, sign_fault, length_fault, party_of};
 ghost use Rattle.ln_log.specs.Machine.{MaySign};
 
 use crate::opening::Opening;
@@ -38,6 +39,8 @@ pub enum Side {
 pub enum Pair {
     /// A side's current commitment: the own one, or the peer's as far as it was acknowledged.
     Current(Side),
+    /// What the last own signature covers.
+    Signed,
     /// What a signature made now would cover.
     ToSign,
     /// What a signature taken now would cover.
@@ -82,6 +85,7 @@ impl Model for UpdateLog {
       role = l.role;
       own = l.own.items;
       got = l.got.items;
+      first = record { own = 0; peer = 0 };
       signed = record { own = l.signed.own; peer = l.signed.peer };
       acknowledged = record { own = l.acknowledged.own; peer = l.acknowledged.peer };
       current = record { own = l.current.own; peer = l.current.peer };
@@ -93,6 +97,7 @@ impl Model for UpdateLog {
           role = l.role;
           own = l.own.items;
           got = l.got.items;
+          first = record { own = 0; peer = 0 };
           signed = record { own = l.signed.own; peer = l.signed.peer };
           acknowledged = record { own = l.acknowledged.own; peer = l.acknowledged.peer };
           current = record { own = l.current.own; peer = l.current.peer };
@@ -101,14 +106,14 @@ impl Model for UpdateLog {
 }
 
 impl UpdateLog {
-    ghost use Rattle.std.specs.Prelude.{◌≡◌, ◌≤◌, ◌+◌, ◌-◌, ◌<◌, ◌^◌, length, take, drop, IfOk, OnOk, OnErr, IsTrue};
+    ghost use Rattle.std.specs.Prelude.{◌≡◌, ◌≤◌, ◌+◌, ◌*◌, ◌<◌, ◌^◌, length, IfSome, IfOk, OnOk, OnErr, IsTrue, option_copied};
     ghost use Rattle.std.specs.Result.{IsOkUnless};
     ghost use Rattle.ln_keys.specs.Role.{other_role};
     ghost use Rattle.ln_log.specs.Opening.{IsFit};
-    ghost use Rattle.ln_log.specs.Updates.{next_id, removed};
+    ghost use Rattle.ln_log.specs.Updates.{next_id, offered, removed};
     ghost use Rattle.ln_log.specs.View.{AddsUp};
     ghost use Rattle.ln_log.specs.Limits.{HasNextId, Answers, is_spent};
-    ghost use Rattle.ln_log.specs.Log.{StandsFor, IsWithin, updates_of, opened, proposed, received, signed_all, accepted_all, acknowledged_all, dropped, sign_fault, removal_fault, proposal_fault, taken_fault, covered, counts_of, live_in, view_for};
+    ghost use Rattle.ln_log.specs.Log.{StandsFor, IsWithin, updates_of, first_of, update_at, unacknowledged, HasAmount, opened, proposed, received, signed_all, accepted_all, acknowledged_all, dropped, sign_fault, removal_fault, proposal_fault, taken_fault, covered, counts_of, live_in, view_for};
 
     /// A channel end before any update. Takes no memory.
     pub fn new(alloc: Global, role: Role, opening: Opening) -> UpdateLog
@@ -314,7 +319,7 @@ impl UpdateLog {
         ensures { (l : Log) → StandsFor self.old l → StandsFor self.new (acknowledged_all l) }
     {
         let updates = &self.own[self.acknowledged.own..self.signed.own];
-        let htlcs = &self.got[..self.acknowledged.peer];
+        let htlcs = &self.got[..self.signed.peer];
         self.peer_standing = self.peer_standing.with_all(updates, htlcs);
         self.peer_current = self.peer_current.with_all(updates, htlcs);
         self.acknowledged = self.signed;
@@ -332,18 +337,69 @@ impl UpdateLog {
         self.peer_standing = self.peer_current;
     }
 
-    /// The updates that this side has proposed.
-    pub fn own_updates(&self) -> &[Update]
-        ensures { (l : Log) → StandsFor self.now l → result.now ≡ l.own }
+    // The updates of a side.
+    fn list(&self, side: Side) -> &[Update]
+        ensures { result.now ≡ updates_of side self.now }
     {
-        self.own.as_slice()
+        match side {
+            Side::Own => self.own.as_slice(),
+            Side::Peer => self.got.as_slice(),
+        }
     }
 
-    /// The updates that this side has taken of the peer's.
-    pub fn peer_updates(&self) -> &[Update]
-        ensures { (l : Log) → StandsFor self.now l → result.now ≡ l.got }
+    /// How many updates a side has proposed, as far as this side knows them.
+    pub fn len(&self, side: Side) -> usize
+        ensures { (l : Log) → StandsFor self.now l → result ≡ length (updates_of side l) }
     {
-        self.got.as_slice()
+        match side {
+            Side::Own => self.own.len(),
+            Side::Peer => self.got.len(),
+        }
+    }
+
+    /// The number of the first update of a side that `update` still gives; updates count from 0. It is none
+    /// that this side doesn't hold as irrevocably committed.
+    pub fn first(&self, side: Side) -> usize
+        ensures first { (l : Log) → StandsFor self.now l → result ≡ first_of side l }
+        ensures committed { (l : Log) → StandsFor self.now l → (l.first.own ≤ l.current.own) × (l.first.peer ≤ l.acknowledged.peer) }
+    {
+        // (nothing is gone: both lists are whole)
+        let _ = self.own.len();
+        match side {
+            Side::Own => 0,
+            Side::Peer => 0,
+        }
+    }
+
+    /// The update of this number, counted from 0: none before `first` and behind the last one. An HTLC that it
+    /// offers is of no more than 1000 * funding_satoshis, in millisatoshi.
+    pub fn update(&self, side: Side, number: usize) -> Option<&Update>
+        ensures update { (l : Log) → StandsFor self.now l → option_copied result ≡ update_at (first_of side l) (updates_of side l) number }
+        ensures amount { (l : Log) → StandsFor self.now l → IfSome (option_copied result) (λ u. HasAmount (1000 * l.opening.satoshis) (offered u)) }
+    {
+        match side {
+            Side::Own => nth(self.own.as_slice(), number),
+            Side::Peer => nth(self.got.as_slice(), number),
+        }
+    }
+
+    /// The updates of a side from one number up to another, from `first` on.
+    pub fn between(&self, side: Side, from: usize, to: usize) -> &[Update]
+        requires kept { (l : Log) → StandsFor self.now l → first_of side l ≤ from }
+        requires ordered { (l : Log) → StandsFor self.now l → from ≤ to }
+        requires known { (l : Log) → StandsFor self.now l → to ≤ length (updates_of side l) }
+        ensures updates { (l : Log) → StandsFor self.now l → result.now ≡ between from to (updates_of side l) }
+        ensures count { from + length result.now ≡ to }
+    {
+        part(self.list(side), from, to)
+    }
+
+    /// The own updates that the last signature covers and the peer hasn't acknowledged, in their order: what a
+    /// lost connection may have kept from the peer (BOLT 2, "Message Retransmission").
+    pub fn unacknowledged(&self) -> &[Update]
+        ensures { (l : Log) → StandsFor self.now l → result.now ≡ unacknowledged l }
+    {
+        &self.own[self.acknowledged.own..self.signed.own]
     }
 
     /// Whether a side may propose no further update: it has 2^62 of them.
@@ -355,34 +411,6 @@ impl UpdateLog {
             Side::Peer => self.got.len(),
         };
         len as u64 >= MOST_UPDATES
-    }
-
-    /// The own updates that the own commitment covers, from this one on.
-    pub fn own_since(&self, before: usize) -> &[Update]
-        requires { (l : Log) → StandsFor self.now l → before ≤ l.current.own }
-        ensures is { (l : Log) → StandsFor self.now l → result.now ≡ take (l.current.own - before) (drop before l.own) }
-        ensures many { (l : Log) → StandsFor self.now l → before + length result.now ≡ l.current.own }
-        ensures small { (l : Log) → StandsFor self.now l → l.current.own + l.acknowledged.peer + 1 < 2 ^ 64 }
-    {
-        &self.own[before..self.current.own]
-    }
-
-    /// The updates of the peer that its acknowledged commitment covers, from this one on.
-    pub fn peer_since(&self, before: usize) -> &[Update]
-        requires { (l : Log) → StandsFor self.now l → before ≤ l.acknowledged.peer }
-        ensures is { (l : Log) → StandsFor self.now l → result.now ≡ take (l.acknowledged.peer - before) (drop before l.got) }
-        ensures many { (l : Log) → StandsFor self.now l → before + length result.now ≡ l.acknowledged.peer }
-        ensures small { (l : Log) → StandsFor self.now l → l.current.own + l.acknowledged.peer + 1 < 2 ^ 64 }
-    {
-        &self.got[before..self.acknowledged.peer]
-    }
-
-    /// How many updates of either side the last own signature covers.
-    pub fn covered(&self) -> &Counts
-        ensures own { (l : Log) → StandsFor self.now l → result.now.own ≡ l.signed.own }
-        ensures peer { (l : Log) → StandsFor self.now l → result.now.peer ≡ l.signed.peer }
-    {
-        &self.signed
     }
 
     /// How many updates of either side a pair covers.
@@ -397,6 +425,7 @@ impl UpdateLog {
         match pair {
             Pair::Current(Side::Own) => self.current,
             Pair::Current(Side::Peer) => self.acknowledged,
+            Pair::Signed => self.signed,
             Pair::ToSign => Counts {
                 own: self.own.len(),
                 peer: self.current.peer,
@@ -435,6 +464,21 @@ impl UpdateLog {
         let removed = count_removals(own) + count_removals(peer);
         offered - removed
     }
+}
+
+fn part(updates: &[Update], from: usize, to: usize) -> &[Update]
+    requires ordered { from ≤ to }
+    requires within { to ≤ length updates.now }
+    ensures part { result.now ≡ between from to updates.now }
+    ensures count { from + length result.now ≡ to }
+{
+    &updates[from..to]
+}
+
+fn nth(updates: &[Update], number: usize) -> Option<&Update>
+    ensures { option_copied result ≡ slice_get updates.now number }
+{
+    updates.get(number)
 }
 
 // Whether an update offers no HTLC, or one of this id.

@@ -73,24 +73,16 @@ fn report_events(end: End, since: Mark, x: &Endpoint, lines: &mut Vec<Line>) -> 
 {
     let now = mark_of(x);
     let mut number = since.own.saturating_add(since.peer);
-    for update in x
-        .log()
-        .own_updates()
-        .iter()
-        .skip(since.own)
-        .take(now.own.saturating_sub(since.own))
-    {
-        report_event(end, number, true, update, lines)?;
+    for n in since.own..now.own {
+        if let Some(update) = x.log().update(Side::Own, n) {
+            report_event(end, number, true, update, lines)?;
+        }
         number = number.saturating_add(1);
     }
-    for update in x
-        .log()
-        .peer_updates()
-        .iter()
-        .skip(since.peer)
-        .take(now.peer.saturating_sub(since.peer))
-    {
-        report_event(end, number, false, update, lines)?;
+    for n in since.peer..now.peer {
+        if let Some(update) = x.log().update(Side::Peer, n) {
+            report_event(end, number, false, update, lines)?;
+        }
         number = number.saturating_add(1);
     }
     Ok(())

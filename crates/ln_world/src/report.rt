@@ -23,7 +23,7 @@ fn write_end(
     ensures { IsOkUnless result Refusal.Memory }
 {
     let log = endpoint.log();
-    let signed = log.covered().own;
+    let signed = log.counts(Pair::Signed).own;
     let committed = log.counts(Pair::Current(Side::Own)).own;
     let peer = log.counts(Pair::Current(Side::Peer)).peer;
     let view = log.view(alloc, Pair::Current(Side::Own))?;

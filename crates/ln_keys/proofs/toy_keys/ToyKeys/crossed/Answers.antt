@@ -35,13 +35,13 @@ returns c =
     let b = c.args.b in
     record {
       there = record {
-        commitments = λ n p v _. accepted a.tag b.peer_tag c.requires.0 n p v;
+        commitments = λ n p v _ _. accepted a.tag b.peer_tag c.requires.0 n p v;
         closings = λ fee _. closed a.tag b.peer_tag c.requires.0 fee;
         secrets = λ n _. fit (toy_secret a.seed n);
         own_secrets = λ n _. fit (toy_secret a.seed n);
       };
       back = record {
-        commitments = λ n p v _. accepted b.tag a.peer_tag c.requires.1 n p v;
+        commitments = λ n p v _ _. accepted b.tag a.peer_tag c.requires.1 n p v;
         closings = λ fee _. closed b.tag a.peer_tag c.requires.1 fee;
         secrets = λ n _. fit (toy_secret b.seed n);
         own_secrets = λ n _. fit (toy_secret b.seed n);

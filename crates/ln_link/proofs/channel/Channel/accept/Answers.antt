@@ -21,3 +21,8 @@ pub returns-clause-state : goal.returns-clause-state
 returns-clause-state g c =
     let e : End = record { dance = c.self.inside.dance; closing = c.self.inside.closing; script = c.self.inside.script; peer_script = c.self.inside.peer_script; short_id = c.self.inside.short_id; ready_received = c.self.inside.ready_received; events = c.self.inside.events } in
     rw (← c.self.view_is) (on_ok c.accept.result (λ s. ap (λ (d : Dancer). with_dance d e) s) (c.accept.ensures.ok _ refl))
+
+pub returns-clause-kept : goal.returns-clause-kept
+returns-clause-kept g c =
+    let first = subst (λ (e : End). e.dance.log.first.own ≤ e.dance.log.current.own) (sym c.self.view_is) c.own_held.ensures.first in
+    rw (← c.self.view_is) (on_ok c.accept.result (λ s. subst (λ (d : Dancer). d.log.first.own ≤ c.self.inside.dance.log.current.own) (sym s) first) (c.accept.ensures.ok _ refl))

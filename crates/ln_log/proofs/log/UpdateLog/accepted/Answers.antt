@@ -1,5 +1,5 @@
-use Rattle.std.proofs.Common.{sym}
-use Rattle.ln_log.proofs.Kept.{rest_is, front_is, may_move, accepting, accepting_signed, kept_accepted}
+use Rattle.std.proofs.Common.{sym, ◌∙◌}
+use Rattle.ln_log.proofs.Kept.{rest_is, front_is, may_move, accepting, accepting_signed, kept_accepted, accepted_is}
 use Rattle.ln_log.proofs.log.UpdateLog.accepted.Goals as goal
 
 pub with_all-self-inside-requires : goal.with_all-self-inside-requires
@@ -21,3 +21,6 @@ invariant_of-self c =
     (rest_is c.self.inside.current.peer c.self.inside.got.items c.deref.result.now c.deref.ensures.value)
     (front_is c.self.inside.current.own c.self.inside.own.items c.deref-2.result.now c.deref-2.ensures.value)
     c.with_all-self-inside.ensures c.with_all-self-inside-2.ensures
+
+pub returns : goal.returns
+returns c = λ l e. accepted_is _ l _ _ (c.self.view_is ∙ e) (c.counts-next.ensures.own l e) (c.counts-next.ensures.peer l e)
