@@ -406,11 +406,7 @@ impl UpdateLog {
     pub fn is_spent(&self, side: Side) -> bool
         ensures { (l : Log) → StandsFor self.now l → result ≡ is_spent (updates_of side l) }
     {
-        let len = match side {
-            Side::Own => self.own.len(),
-            Side::Peer => self.got.len(),
-        };
-        len as u64 >= MOST_UPDATES
+        self.len(side) as u64 >= MOST_UPDATES
     }
 
     /// How many updates of either side a pair covers.
