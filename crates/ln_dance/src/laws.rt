@@ -12,12 +12,15 @@ ghost use Rattle.ln_dance.specs.Exchange.{IsSignedFor, IsRevokedFor};
 /// A law: what `a` signed at some moment its partner `b` accepts whenever it then has the same updates as sent,
 /// at the number and the point that it was signed for.
 pub fn signature_is_accepted()
-    ensures { (a b : Signer) (x y : Dancer) (m : CommitmentSigned) → ArePartners a b → IsSignedFor b x y → x.numbers.signed + 1 < 2 ^ 48 → m ≡ signed_message a x → accept_fault b m y ≡ None }
+    ensures { (a b : Signer) (x y : Dancer) (m : CommitmentSigned) → ArePartners a b → IsSignedFor b x y
+        → x.numbers.signed + 1 < 2 ^ 48 → m ≡ signed_message a x → accept_fault b m y ≡ None }
 {}
 
 /// A law: what `b` revoked at some moment its partner `a` learns whenever it is at that number, and then it has
 /// the point of the commitment behind the next one.
 pub fn revocation_is_learned()
-    ensures learned { (a b : Signer) (x y : Dancer) (m : RevokeAndAck) → ArePartners a b → IsRevokedFor b y x → y.numbers.commitment < 2 ^ 48 → owes x ≡ true → m ≡ revoked_message b y → learn_fault a m x ≡ None }
-    ensures point { (b : Signer) (x y : Dancer) (m : RevokeAndAck) → IsRevokedFor b y x → m ≡ revoked_message b y → (learns m x).peer.next_point ≡ b.point_of ((learns m x).numbers.revoked + 1) }
+    ensures learned { (a b : Signer) (x y : Dancer) (m : RevokeAndAck) → ArePartners a b → IsRevokedFor b y x
+        → y.numbers.commitment < 2 ^ 48 → owes x ≡ true → m ≡ revoked_message b y → learn_fault a m x ≡ None }
+    ensures point { (b : Signer) (x y : Dancer) (m : RevokeAndAck) → IsRevokedFor b y x → m ≡ revoked_message b y
+        → (learns m x).peer.next_point ≡ b.point_of ((learns m x).numbers.revoked + 1) }
 {}
