@@ -9,6 +9,8 @@ mod laws;
 mod memory;
 mod rule;
 mod seats;
+#[cfg(test)]
+mod tests;
 mod traits;
 mod waiting;
 mod waiting_rule;
