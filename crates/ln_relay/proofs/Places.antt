@@ -15,10 +15,10 @@ is_first First = true
 is_first Second = false
 is_first Receiver = false
 
-pub second_is_not_first : Second ≡ First → ⊥
+second_is_not_first : Second ≡ First → ⊥
 second_is_not_first e = true≢false (sym (ap is_first e))
 
-pub first_is_not_second : First ≡ Second → ⊥
+first_is_not_second : First ≡ Second → ⊥
 first_is_not_second e = true≢false (ap is_first e)
 
 module _ {T : Type 0} where
@@ -53,7 +53,7 @@ module _ {T : Type 0} where
   first_parts (Some a) None None e n = refl
   first_parts None b c e n = absurd (second_is_not_first n)
 
-  pub is_of_first : (v : Hand T) → is_sender v ≡ true → seat_in v ≡ First → v ≡ of_first (put_in v)
+  is_of_first : (v : Hand T) → is_sender v ≡ true → seat_in v ≡ First → v ≡ of_first (put_in v)
   is_of_first v e n = first_parts v.first v.second v.taken e n
 
   second_parts : (a b c : Option (List T)) → is_one_sender a b c ≡ true → seat_in (hand a b c) ≡ Second
@@ -63,7 +63,7 @@ module _ {T : Type 0} where
   second_parts None (Some b) None e n = refl
   second_parts None None c e n = absurd (true≢false (sym e))
 
-  pub is_of_second : (v : Hand T) → is_sender v ≡ true → seat_in v ≡ Second → v ≡ of_second (put_in v)
+  is_of_second : (v : Hand T) → is_sender v ≡ true → seat_in v ≡ Second → v ≡ of_second (put_in v)
   is_of_second v e n = second_parts v.first v.second v.taken e n
 
   receiver_parts : (a b c : Option (List T)) → is_one_receiver a b c ≡ true
@@ -73,7 +73,7 @@ module _ {T : Type 0} where
   receiver_parts None None None e = absurd (true≢false (sym e))
   receiver_parts None None (Some c) e = refl
 
-  pub is_of_receiver : (v : Hand T) → is_receiver v ≡ true → v ≡ of_receiver (taken_in v)
+  is_of_receiver : (v : Hand T) → is_receiver v ≡ true → v ≡ of_receiver (taken_in v)
   is_of_receiver v e = receiver_parts v.first v.second v.taken e
 
   pub second_out : (port : ℕ) (v : Hand T) → v ≡ hand (Some []) (Some []) (Some [])
@@ -86,19 +86,28 @@ module _ {T : Type 0} where
   receiver_out port v e =
       subst (λ u. Forks Relayed port u (without_taken u) (only_taken u)) (sym e) (receiver_leaves port [] [])
 
-  pub second_in : (port : ℕ) (v : Hand T) (other : ℕ) (w : Hand T) (a b : List T) → v ≡ of_first a → w ≡ of_second b
+  second_comes : (port : ℕ) (v : Hand T) (other : ℕ) (w : Hand T) (a b : List T) → v ≡ of_first a → w ≡ of_second b
       → Merges Relayed port v other w (both v w) spent
-  second_in port v other w a b e f =
+  second_comes port v other w a b e f =
       subst (λ (y : Hand T × Hand T). Merges Relayed port y.0 other y.1 (both y.0 y.1) spent) (λ i. (sym e i, sym f i))
       (second_returns port a other b)
 
-  pub receiver_in : (port : ℕ) (v : Hand T) (other : ℕ) (w : Hand T) (a b c : List T) → v ≡ hand (Some a) (Some b) None
+  receiver_comes : (port : ℕ) (v : Hand T) (other : ℕ) (w : Hand T) (a b c : List T) → v ≡ hand (Some a) (Some b) None
       → w ≡ of_receiver c → Merges Relayed port v other w (both v w) spent
-  receiver_in port v other w a b c e f =
+  receiver_comes port v other w a b c e f =
       subst (λ (y : Hand T × Hand T). Merges Relayed port y.0 other y.1 (both y.0 y.1) spent) (λ i. (sym e i, sym f i))
       (receiver_returns port a b other c)
 
-  -- the view of a pass that took in the second's
-  pub of_two : (v w u : Hand T) (a b : List T) → v ≡ of_first a → w ≡ of_second b → u ≡ both v w
-      → u ≡ hand (Some a) (Some b) None
-  of_two v w u a b e f g = g ∙ (λ i. both (e i) (f i))
+  -- the first sender's pass takes in the second's
+  pub second_in : (port : ℕ) (v : Hand T) (other : ℕ) (w : Hand T) → is_sender v ≡ true → seat_in v ≡ First
+      → is_sender w ≡ true → seat_in w ≡ Second → Merges Relayed port v other w (both v w) spent
+  second_in port v other w sends first sends' second =
+      second_comes port v other w (put_in v) (put_in w) (is_of_first v sends first) (is_of_second w sends' second)
+
+  -- and then, as u, the receiver's
+  pub receiver_in : (port : ℕ) (u : Hand T) (other : ℕ) (r v w : Hand T) → is_sender v ≡ true → seat_in v ≡ First
+      → is_sender w ≡ true → seat_in w ≡ Second → u ≡ both v w → is_receiver r ≡ true
+      → Merges Relayed port u other r (both u r) spent
+  receiver_in port u other r v w sends first sends' second e receives =
+      receiver_comes port u other r (put_in v) (put_in w) (taken_in r)
+      (e ∙ (λ i. both (is_of_first v sends first i) (is_of_second w sends' second i))) (is_of_receiver r receives)

@@ -45,7 +45,8 @@ impl<T: Drop> MemorySend<T> {
     pub fn into_items(self) -> Vec<T>
         ensures all { result.items ≡ kept self }
     {
-        self.items
+        let MemorySend { items, .. } = self;
+        items
     }
 }
 

@@ -1,8 +1,6 @@
 //! The relays and the seats of no relay, on rows and across threads.
 
 ghost use Rattle.std.specs.Prelude.{◌≡◌, ◌≤◌};
-ghost use Rattle.ln_relay.specs.Seats as queued;
-ghost use Rattle.ln_relay.specs.WaitSeats as channel;
 
 use crate::{
     Finished, MemoryRecv, MemorySend, Receives, Sends, WaitRecv, WaitSend, Waits, finish,
@@ -12,6 +10,7 @@ use std::sync::Wait;
 use std::sync::atomic::{AtomicU64, Ordering};
 use std::test::*;
 use std::thread;
+use std::thread::Threads;
 
 // How often a thread tries again, until it gives up.
 const TURNS: u64 = 100_000_000;
@@ -151,29 +150,44 @@ fn small_seats_of_no_relay(rt: HostRuntime) -> Result<(), Fail> {
     Ok(())
 }
 
-#[test]
-fn threads_hand_over_in_order(rt: HostRuntime) -> Result<(), Fail> {
-    let (first, second, receiver) = relay(rt.alloc(), 8)?;
+// Two threads send and one receives, until all have ended: the seats, and what the receiver saw.
+fn hand_over<S: Sends<u32> + Send + Drop, D: Receives<u32> + Send + Drop, R: Threads + Wait + Sync>(
+    rt: &R,
+    first: S,
+    second: S,
+    receiver: D,
+) -> ((S, S, D), Order)
+    ensures first_stays { S.place result.0.0 ≡ S.place first }
+    ensures second_stays { S.place result.0.1 ≡ S.place second }
+    ensures receiver_stays { D.place result.0.2 ≡ D.place receiver }
+{
     let (first, (second, (receiver, order))) = thread::join(
-        &rt,
+        rt,
         move ||
-            ensures { queued.sender_place result ≡ queued.sender_place first }
-        { put_all(&rt, first, 0) },
+            ensures { S.place result ≡ S.place first }
+        { put_all(rt, first, 0) },
         move ||
-            ensures sender_stays { queued.sender_place result.0 ≡ queued.sender_place second }
-            ensures receiver_stays { queued.receiver_place result.1.0 ≡ queued.receiver_place receiver }
+            ensures second_stays { S.place result.0 ≡ S.place second }
+            ensures receiver_stays { D.place result.1.0 ≡ D.place receiver }
         {
             thread::join(
-                &rt,
+                rt,
                 move ||
-                    ensures { queued.sender_place result ≡ queued.sender_place second }
-                { put_all(&rt, second, 100_000) },
+                    ensures { S.place result ≡ S.place second }
+                { put_all(rt, second, 100_000) },
                 move ||
-                    ensures { queued.receiver_place result.0 ≡ queued.receiver_place receiver }
-                { take_all(&rt, receiver) },
+                    ensures { D.place result.0 ≡ D.place receiver }
+                { take_all(rt, receiver) },
             )
         },
     );
+    ((first, second, receiver), order)
+}
+
+#[test]
+fn threads_hand_over_in_order(rt: HostRuntime) -> Result<(), Fail> {
+    let (first, second, receiver) = relay(rt.alloc(), 8)?;
+    let ((first, second, receiver), order) = hand_over(&rt, first, second, receiver);
     assert_eq!(rt; order, MERGED);
     assert_eq!(rt; finish(first, second, receiver), ALL);
     Ok(())
@@ -182,26 +196,7 @@ fn threads_hand_over_in_order(rt: HostRuntime) -> Result<(), Fail> {
 #[test]
 fn threads_hand_over_in_order_where_one_may_wait(rt: HostRuntime) -> Result<(), Fail> {
     let (first, second, receiver) = waiting_relay(rt.alloc(), 8)?;
-    let (first, (second, (receiver, order))) = thread::join(
-        &rt,
-        move ||
-            ensures { channel.sender_place result ≡ channel.sender_place first }
-        { put_all(&rt, first, 0) },
-        move ||
-            ensures sender_stays { channel.sender_place result.0 ≡ channel.sender_place second }
-            ensures receiver_stays { channel.receiver_place result.1.0 ≡ channel.receiver_place receiver }
-        {
-            thread::join(
-                &rt,
-                move ||
-                    ensures { channel.sender_place result ≡ channel.sender_place second }
-                { put_all(&rt, second, 100_000) },
-                move ||
-                    ensures { channel.receiver_place result.0 ≡ channel.receiver_place receiver }
-                { take_all(&rt, receiver) },
-            )
-        },
-    );
+    let ((first, second, receiver), order) = hand_over(&rt, first, second, receiver);
     assert_eq!(rt; order, MERGED);
     assert_eq!(rt; finish_waiting(first, second, receiver), ALL);
     Ok(())

@@ -1,18 +1,15 @@
 use Rattle.ln_relay.proofs.Steps.{learns}
-use Rattle.ln_relay.proofs.Places.{is_of_first, is_of_second, is_of_receiver, second_in, receiver_in, of_two}
+use Rattle.ln_relay.proofs.Places.{second_in, receiver_in}
 use Rattle.ln_relay.proofs.waiting.finish_waiting.Goals as goal
 
 pub absorb-requires-clause-rule : goal.absorb-requires-clause-rule
-absorb-requires-clause-rule g c =
-    second_in _ _ _ _ _ _ (is_of_first _ c.args.first.sends c.requires.of_one.first_sends)
-    (is_of_second _ c.args.second.sends c.requires.of_one.second_sends)
+absorb-requires-clause-rule g c = let seats = c.requires.of_one in
+    second_in _ _ _ _ c.args.first.sends seats.first_sends c.args.second.sends seats.second_sends
 
 pub absorb-requires-2-clause-rule : goal.absorb-requires-2-clause-rule
-absorb-requires-2-clause-rule g c =
-    receiver_in _ _ _ _ _ _ _
-    (of_two _ _ _ _ _ (is_of_first _ c.args.first.sends c.requires.of_one.first_sends)
-    (is_of_second _ c.args.second.sends c.requires.of_one.second_sends) c.absorb.ensures.rule)
-    (is_of_receiver _ c.args.receiver.receives)
+absorb-requires-2-clause-rule g c = let seats = c.requires.of_one in
+    receiver_in _ _ _ _ _ _ c.args.first.sends seats.first_sends c.args.second.sends seats.second_sends
+    c.absorb.ensures.rule c.args.receiver.receives
 
 pub learn_as-requires-clause-rule : goal.learn_as-requires-clause-rule
 learn_as-requires-clause-rule g c = learns _ _
