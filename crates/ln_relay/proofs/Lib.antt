@@ -1,0 +1,6 @@
+pub mod Merges
+pub mod Histories
+pub mod Owners
+pub mod Steps
+pub mod Places
+pub mod Passing

@@ -1,0 +1,70 @@
+//! A relay that nobody waits at.
+ghost use Rattle.std.specs.Prelude.{◌≡◌, ◌≤◌, [], IfOk};
+ghost use Rattle.ln_relay.specs.Place.{AreSeatsOfOne, AreCounts, IsMergeOfAll};
+ghost use Rattle.ln_relay.specs.Seats.{put, taken, sender_place, receiver_place};
+
+use crate::finished::Finished;
+use crate::rule::{Line, ReceiverOut, SecondOut, Takes, Together};
+use crate::seats::{RecvSeat, SendSeat};
+use std::alloc::{AllocError, Global};
+use std::sync::Arc;
+
+/// Makes a relay that can hold so many items, 1 to 65,536: the first sender's seat, the second's and the
+/// receiver's.
+///
+/// Error: where there is no memory.
+pub fn relay<T: Drop>(
+    alloc: Global,
+    capacity: usize,
+) -> Result<(SendSeat<T>, SendSeat<T>, RecvSeat<T>), AllocError>
+    requires within { (1 ≤ capacity) × (capacity ≤ 65536) }
+    ensures seats { IfOk result (λ seats.
+        AreSeatsOfOne (sender_place seats.0) (sender_place seats.1) (receiver_place seats.2)) }
+    ensures empty { IfOk result (λ seats. (put seats.0 ≡ []) × (put seats.1 ≡ []) × (taken seats.2 ≡ [])) }
+    ensures room { IfOk result (λ seats. (sender_place seats.0).room ≡ capacity) }
+    ensures room_of_second { IfOk result (λ seats. (sender_place seats.1).room ≡ capacity) }
+    ensures room_of_receiver { IfOk result (λ seats. (receiver_place seats.2).room ≡ capacity) }
+{
+    let (queue, mut pass) = Line::ruled(alloc, capacity)?;
+    let second = queue.another::<SecondOut>(&mut pass);
+    let receiver = queue.another::<ReceiverOut>(&mut pass);
+    let line = Arc::new(alloc, queue)?;
+    let second_line = Arc::try_clone(&line)?;
+    let receiver_line = Arc::try_clone(&line)?;
+    Ok((
+        SendSeat {
+            line,
+            pass,
+            count: 0,
+        },
+        SendSeat {
+            line: second_line,
+            pass: second,
+            count: 0,
+        },
+        RecvSeat {
+            line: receiver_line,
+            pass: receiver,
+            count: 0,
+        },
+    ))
+}
+
+/// Takes the three seats of one relay back, and tells how many items each sender has put and how many were
+/// taken. What is left in the relay is dropped. Takes no memory.
+pub fn finish<T: Drop>(first: SendSeat<T>, second: SendSeat<T>, receiver: RecvSeat<T>) -> Finished
+    requires of_one { AreSeatsOfOne (sender_place first) (sender_place second) (receiver_place receiver) }
+    ensures counts { AreCounts result (put first) (put second) (taken receiver) }
+    ensures merge { IsMergeOfAll (put first) (put second) (taken receiver) }
+{
+    let done = Finished {
+        put_first: first.count,
+        put_second: second.count,
+        taken: receiver.count,
+    };
+    let SendSeat { line, mut pass, .. } = first;
+    line.absorb::<Together>(&mut pass, second.pass);
+    line.absorb::<Together>(&mut pass, receiver.pass);
+    line.learn_as::<Takes>(&mut pass);
+    done
+}
