@@ -1,11 +1,12 @@
 //! Events of a channel end.
 
-ghost use Rattle.std.specs.Prelude.{◌≡◌, IfOk, IfErr};
-ghost use Rattle.ln_hooks.specs.Event.{event_of, settled};
+ghost use Rattle.std.specs.Prelude.{◌≡◌, IfOk, IfErr, IsTrue, is_some, not};
+ghost use Rattle.ln_hooks.specs.Event.{event_of, added, settled, is_bounded, is_fee};
 ghost use Rattle.ln_msgs.specs.declared.refusal.Refusal.TheVariants as refusal;
 
+use crate::amount::Msat;
 use ln_bytes::Bytes;
-use ln_log::Update;
+use ln_log::{Add, Update};
 use ln_msgs::Refusal;
 use std::alloc::Global;
 
@@ -31,8 +32,8 @@ pub enum ChannelEvent {
         own: bool,
         /// Its id among those that its side has offered.
         id: u64,
-        /// In millisatoshi.
-        amount: u64,
+        /// What it pays.
+        amount: Msat,
         /// The payment hash.
         hash: [u8; 32],
         /// The block height at which it times out.
@@ -53,21 +54,16 @@ pub enum ChannelEvent {
     Closed(u64),
 }
 
-/// The event that an update is, once it is held as irrevocably committed; a change of the feerate is none. `own` tells
-/// whether this side had proposed it. Takes memory for a reason: 60 where there was none.
+/// The event that an update is, once it is held as irrevocably committed. None for a change of the feerate, and for an
+/// add of more than an `Msat`, which no side of a channel can hold. `own` tells whether this side had proposed it.
+/// Takes memory for a reason: 60 where there was none.
 pub fn event_of(alloc: Global, own: bool, update: &Update) -> Result<Option<ChannelEvent>, Refusal>
     ensures ok { IfOk result (λ e. e ≡ event_of own update.now) }
+    ensures only_fees_untold { IsTrue (is_bounded update.now) → IfOk result (λ e. is_some e ≡ not (is_fee update.now)) }
     ensures err { IfErr result (λ r. r ≡ refusal.Memory) }
 {
     match update {
-        Update::Add(add) => Ok(Some(ChannelEvent::Added {
-            own,
-            id: add.id,
-            amount: add.amount,
-            hash: add.hash,
-            expiry: add.expiry,
-            onion: add.onion,
-        })),
+        Update::Add(add) => Ok(added(own, add)),
         Update::Fulfil(fulfil) => Ok(Some(settled(
             own,
             fulfil.id,
@@ -83,6 +79,19 @@ pub fn event_of(alloc: Global, own: bool, update: &Update) -> Result<Option<Chan
         }
         Update::Fee(_) => Ok(None),
     }
+}
+
+fn added(own: bool, add: &Add) -> Option<ChannelEvent>
+    ensures { result ≡ added own add.now }
+{
+    Some(ChannelEvent::Added {
+        own,
+        id: add.id,
+        amount: Msat::new(add.amount)?,
+        hash: add.hash,
+        expiry: add.expiry,
+        onion: add.onion,
+    })
 }
 
 // A side removes HTLCs of the other side.

@@ -1,9 +1,19 @@
-//! What happens in a channel, as those who watch it are told.
+//! What happens in a channel, and those who are told: stored closures that are called on every event.
 #![tactic(auto)]
 
+mod amount;
 mod event;
+mod hook;
+mod table;
+mod verdict;
 
+pub use amount::Msat;
 pub use event::{ChannelEvent, How, event_of};
+pub use hook::{Call, Hook};
+pub use table::HookTable;
+pub use verdict::{FailureCode, Verdict};
 
+#[cfg(test)]
+mod hook_tests;
 #[cfg(test)]
 mod tests;

@@ -30,7 +30,7 @@ fn added(event: &Option<ChannelEvent>) -> Option<(bool, u64, u64, u32)> {
             if *hash != ADD.hash || *onion != ADD.onion {
                 return None;
             }
-            Some((*own, *id, *amount, *expiry))
+            Some((*own, *id, amount.value(), *expiry))
         }
         _ => None,
     }
@@ -61,6 +61,16 @@ fn an_add_is_of_the_side_that_offers_it(rt: HostRuntime) -> Result<(), Refusal> 
         let event = tells(rt.alloc(), own, Update::Add(ADD))?;
         assert_eq!(rt; added(&event), Some((own, 3, 5000, 400)));
     }
+    Ok(())
+}
+
+// No side of a channel can hold one.
+#[test]
+fn an_add_beyond_the_bound_is_no_event(rt: HostRuntime) -> Result<(), Refusal> {
+    let mut add = ADD;
+    add.amount = 2_100_000_000_000_000_001;
+    let event = tells(rt.alloc(), true, Update::Add(add))?;
+    assert!(rt; event.is_none());
     Ok(())
 }
 
