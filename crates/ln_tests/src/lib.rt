@@ -1,0 +1,14 @@
+//! The tests of the crates below by their public calls alone. They stand in a crate of their own because a crate with
+//! tests is proved twice, with them and without.
+#![tactic(auto)]
+
+mod refusal;
+
+pub use refusal::code_of;
+
+#[cfg(test)]
+mod keys;
+#[cfg(test)]
+mod log;
+#[cfg(test)]
+mod testing;
