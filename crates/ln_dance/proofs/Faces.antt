@@ -16,8 +16,8 @@ use Rattle.ln_log.specs.declared.opening.Opening.{Opening}
 use Rattle.ln_log.specs.declared.update.Update.{Update}
 use Rattle.ln_log.specs.Updates.{all_sent}
 use Rattle.ln_log.specs.Limits.{Answers}
-use Rattle.ln_log.specs.Log.{Log, opened, proposed, received, view_for}
-use Rattle.ln_dance.specs.Dance.{Dancer, view_at, owes, is_last, sign_fault, signs, signed_message, accept_fault, revoked_message, learn_fault, with_log, AnswersWithin, answer_of}
+use Rattle.ln_log.specs.Log.{view_for}
+use Rattle.ln_dance.specs.Dance.{Dancer, view_at, owes, is_last, sign_fault, signs, signed_message, accept_fault, revoked_message, learn_fault, AnswersWithin, answer_of}
 use Rattle.ln_dance.specs.Facing.{AreFacing}
 use Rattle.ln_dance.proofs.Kept.{not_last_of}
 use Rattle.ln_log.proofs.Sent.{view_same}
@@ -79,18 +79,3 @@ only_memory A f g e (Err x) none h eg k = subst (λ o. Answers {A = Unit {0}} o 
 
 pub well_learned : (f g : Option Refusal) (r : Result (Unit {0}) Refusal) → r ≡ answer_of f → f ≡ None → g ≡ None → Answers {A = Unit {0}} g r
 well_learned f g r e none eg = subst (λ x. Answers {A = Unit {0}} x r) (sym eg) (subst (λ x. Answers {A = Unit {0}} None x) (sym (e ∙ ap answer_of none)) tt)
-
--- ---- two sides that were just opened, the one with an update that the other has taken
-
-pub opened_facing : {K : Type 0} (point_of : K → ℕ → List ℕ) (o : Opening) (a b x y : Dancer) (u : Update) (k : K) → x ≡ with_log (proposed u a.log) a → y ≡ with_log (received u b.log) b → a.log ≡ opened o Funder → b.log ≡ opened o Fundee
-    → a.numbers.signed ≡ 0 → b.numbers.commitment ≡ 0 → a.peer.point ≡ point_of k 0 → a.peer.next_point ≡ point_of k 1 → AreFacing point_of x y k
-opened_facing point_of o a b x y u k ex ey ea eb na nb p q =
-    subst (λ (d : Dancer). AreFacing point_of d y k) (sym ex) (subst (λ (d : Dancer). AreFacing point_of (with_log (proposed u a.log) a) d k) (sym ey) (record {
-      opening = ap (λ (l : Log). l.opening) eb ∙ sym (ap (λ (l : Log). l.opening) ea);
-      roles = ap (λ (l : Log). l.role) eb ∙ sym (ap (λ (l : Log). other_role l.role) ea);
-      sent = ap (λ (l : Log). all_sent (l.got ++ u ∷ [])) eb ∙ sym (ap (λ (l : Log). all_sent (l.own ++ u ∷ [])) ea);
-      told = ap (λ (l : Log). all_sent (take l.acknowledged.own l.own)) eb ∙ sym (ap (λ (l : Log). all_sent (take l.current.peer l.got)) ea);
-      number = nb ∙ sym na;
-      point = p ∙ ap (point_of k) (sym na);
-      next_point = q ∙ ap (λ n. point_of k (n + 1)) (sym na);
-    }))

@@ -8,10 +8,3 @@ mod partners;
 
 pub use dance::{Dance, Numbers, Peer};
 pub use partners::dance_once;
-
-#[cfg(test)]
-mod small_tests;
-#[cfg(test)]
-mod testing;
-#[cfg(test)]
-mod tests;

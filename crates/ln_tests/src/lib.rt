@@ -7,8 +7,18 @@ mod refusal;
 pub use refusal::code_of;
 
 #[cfg(test)]
+mod close;
+#[cfg(test)]
+mod dance;
+#[cfg(test)]
+mod forward;
+#[cfg(test)]
 mod keys;
+#[cfg(test)]
+mod link;
 #[cfg(test)]
 mod log;
 #[cfg(test)]
 mod testing;
+#[cfg(test)]
+mod world;
