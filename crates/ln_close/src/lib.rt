@@ -7,6 +7,3 @@ mod laws;
 
 pub use closing::{Answer, Closing, Fees};
 pub use laws::closes_by_agreement;
-
-#[cfg(test)]
-mod tests;

@@ -8,10 +8,3 @@ mod laws;
 
 pub use dance::{Dance, Later, Numbers, Peer};
 pub use laws::{revocation_is_learned, signature_is_accepted};
-
-#[cfg(test)]
-mod small_tests;
-#[cfg(test)]
-mod testing;
-#[cfg(test)]
-mod tests;

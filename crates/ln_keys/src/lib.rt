@@ -19,8 +19,3 @@ pub use role::Role;
 pub use toy_keys::ToyKeys;
 pub use toy_onion::ToyOnion;
 pub use view::{Htlc, Htlcs, View};
-
-#[cfg(test)]
-mod onion_tests;
-#[cfg(test)]
-mod tests;

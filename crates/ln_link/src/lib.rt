@@ -9,8 +9,3 @@ mod taking;
 
 pub use channel::Channel;
 pub use output::Output;
-
-#[cfg(test)]
-mod testing;
-#[cfg(test)]
-mod tests;

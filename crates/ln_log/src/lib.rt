@@ -20,16 +20,3 @@ pub use plain::{conservation, find_add, last_feerate, live_count, plain_view};
 pub use removals::outcome_of;
 pub use standing::{Standing, add_refusal, update_refusal};
 pub use update::{Add, ChannelId, Fail, Fee, Fulfil, Malformed, Removal, Update, removal_of};
-
-#[cfg(test)]
-mod drop_tests;
-#[cfg(test)]
-mod life_tests;
-#[cfg(test)]
-mod refusal_tests;
-#[cfg(test)]
-mod small_tests;
-#[cfg(test)]
-mod testing;
-#[cfg(test)]
-mod tests;

@@ -17,6 +17,3 @@ pub use line::Line;
 pub use message::Message;
 pub use step::{Act, Command, End, Node, Offer, Ready, Step};
 pub use world::{World, agreement, headline, never_refused, offers_exactly, signs_exactly};
-
-#[cfg(test)]
-mod tests;

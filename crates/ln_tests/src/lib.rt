@@ -1,0 +1,24 @@
+//! The tests of the crates below by their public calls alone. They stand in a crate of their own because a crate with
+//! tests is proved twice, with them and without.
+#![tactic(auto)]
+
+mod refusal;
+
+pub use refusal::code_of;
+
+#[cfg(test)]
+mod close;
+#[cfg(test)]
+mod dance;
+#[cfg(test)]
+mod forward;
+#[cfg(test)]
+mod keys;
+#[cfg(test)]
+mod link;
+#[cfg(test)]
+mod log;
+#[cfg(test)]
+mod testing;
+#[cfg(test)]
+mod world;

@@ -1,0 +1,21 @@
+//! Refusals as numbers.
+
+ghost use Rattle.std.specs.Prelude.{◌≡◌, ◌≢◌, ◌+◌, ℕ, Some, None};
+ghost use Rattle.ln_msgs.specs.declared.refusal.Refusal.TheVariants.{PeerLimit};
+ghost use Rattle.ln_msgs.specs.Refusal.{refusal_number};
+
+use ln_msgs::Refusal;
+
+/// A call's refusal as a number: 0 where there is none, 4400 and the peer's number where the peer would refuse, else
+/// the refusal's own. Takes no memory.
+pub fn code_of(refusal: Option<Refusal>) -> u32
+    ensures none { refusal ≡ None → result ≡ 0 }
+    ensures peer_limit { (n : ℕ) → refusal ≡ Some (PeerLimit n) → result ≡ 4400 + n }
+    ensures others { (r : Refusal) → refusal ≡ Some r → ((n : ℕ) → r ≢ PeerLimit n) → result ≡ refusal_number r }
+{
+    match refusal {
+        None => 0,
+        Some(Refusal::PeerLimit(number)) => 4400 + u32::from(number),
+        Some(other) => u32::from(other.number()),
+    }
+}

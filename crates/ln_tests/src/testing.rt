@@ -1,0 +1,101 @@
+//! What the tests of several crates share.
+
+ghost use Rattle.std.specs.Prelude.{◌≡◌};
+
+use hex::FromHex;
+use ln_dance::{Dance, Later, Numbers, Peer};
+use ln_keys::{ChannelKeys, Role, ToyKeys, sha256_32};
+use ln_log::{Add, Limits, Opening, UpdateLog};
+use std::alloc::Global;
+
+/// Keys of the funder, and of the fundee: each one's tag is the other's peer's.
+pub const FUNDER: ToyKeys = ToyKeys {
+    seed: [1; 32],
+    tag: [2; 32],
+    peer_tag: [3; 32],
+};
+
+pub const FUNDEE: ToyKeys = ToyKeys {
+    seed: [4; 32],
+    tag: [3; 32],
+    peer_tag: [2; 32],
+};
+
+/// The bytes of 64 hex digits; zeros for any other text.
+pub fn bytes_of(digits: &str) -> [u8; 32] {
+    match <[u8; 32] as FromHex>::from_hex(digits) {
+        Ok(bytes) => bytes,
+        Err(_) => [0; 32],
+    }
+}
+
+/// A point: 02 and the bytes of 64 hex digits.
+pub fn point_of(digits: &str) -> [u8; 33] {
+    let mut point = [2; 33];
+    point[1..].copy_from_slice(&bytes_of(digits));
+    point
+}
+
+/// A signature: the bytes of 64 hex digits, twice.
+pub fn signature_of(digits: &str) -> [u8; 64] {
+    let half = bytes_of(digits);
+    let mut both = [0; 64];
+    both[..32].copy_from_slice(&half);
+    both[32..].copy_from_slice(&half);
+    both
+}
+
+/// What the fundee asks of the funder's HTLCs.
+const LIMITS: Limits = Limits {
+    minimum: 10,
+    accepted: 2,
+    in_flight: 9000,
+    reserve: 1,
+};
+
+/// The funder has 16,000 msat, the fundee 4000. What the funder asks of the fundee is stricter.
+pub const OPENING: Opening = Opening {
+    satoshis: 20,
+    push: 4000,
+    feerate: 253,
+    funder: Limits {
+        minimum: 1000,
+        accepted: 1,
+        in_flight: 9000,
+        reserve: 0,
+    },
+    fundee: LIMITS,
+};
+
+/// An HTLC whose preimage is 32 zero bytes.
+pub fn htlc(id: u64, amount: u64, expiry: u32) -> Add
+    ensures { result.id ≡ id }
+{
+    Add {
+        id,
+        amount,
+        hash: sha256_32(&[0; 32]),
+        expiry,
+        onion: [0; 1366],
+        origin: None,
+    }
+}
+
+pub const CHANNEL: [u8; 32] = [9; 32];
+
+/// A side behind so many commitments of either, with nothing proposed.
+pub fn side(alloc: Global, role: Role, peer: &ToyKeys, past: u64) -> Dance {
+    let number = past % 0x1_0000_0000_0000;
+    let numbers = Numbers {
+        commitment: number,
+        signed: number,
+        revoked: number,
+    };
+    let told = Peer {
+        point: peer.point(number),
+        next_point: peer.point(number + 1),
+        secret: None,
+    };
+    let updates = UpdateLog::new(alloc, role, OPENING);
+    Dance::new(CHANNEL, updates, numbers, told, Later::Signature)
+}
