@@ -55,8 +55,6 @@ mod frame_tests;
 #[cfg(test)]
 mod message_tests;
 #[cfg(test)]
-mod seen;
-#[cfg(test)]
 mod small_tests;
 #[cfg(test)]
 mod tests;
