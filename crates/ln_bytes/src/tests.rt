@@ -1,4 +1,5 @@
 use super::*;
+use std::alloc::Global;
 use std::test::*;
 
 /// BOLT 1, Appendix A: what both decodes and encodes.
@@ -19,18 +20,6 @@ const NUMBERS: [(u64, &[u8]); 8] = [
     ),
 ];
 
-#[test]
-fn numbers_both_ways(rt: HostRuntime) -> Result<(), Fail> {
-    for (number, bytes) in NUMBERS {
-        assert_eq!(rt; read_bigsize(bytes), Ok((number, bytes.len())));
-        assert_eq!(rt; bigsize_len(number), bytes.len());
-        let mut out = [0xaa; 9];
-        let len = write_bigsize(number, &mut out);
-        assert_eq!(rt; &out[..len], bytes);
-    }
-    Ok(())
-}
-
 /// BOLT 1, Appendix A: what doesn't decode, because the form is too long or the bytes end.
 const BAD_NUMBERS: [(&[u8], Fault); 10] = [
     (&[0xfd, 0x00, 0xfc], Fault::NotMinimal),
@@ -49,32 +38,42 @@ const BAD_NUMBERS: [(&[u8], Fault); 10] = [
 ];
 
 #[test]
-fn bad_numbers(rt: HostRuntime) {
+fn numbers(rt: HostRuntime) {
+    for (number, bytes) in NUMBERS {
+        assert_eq!(rt; read_bigsize(bytes), Ok((number, bytes.len())));
+        assert_eq!(rt; bigsize_len(number), bytes.len());
+        let mut out = [0xaa; 9];
+        let len = write_bigsize(number, &mut out);
+        assert_eq!(rt; &out[..len], bytes);
+    }
     for (bytes, fault) in BAD_NUMBERS {
         assert_eq!(rt; read_bigsize(bytes), Err(fault), "at {bytes:?}");
     }
 }
 
-/// The numbers by which faults are told.
-#[test]
-fn fault_numbers(rt: HostRuntime) {
-    assert_eq!(rt; Fault::Truncated.number(), 1);
-    assert_eq!(rt; Fault::NotMinimal.number(), 2);
-    assert_eq!(rt; Fault::TlvOrder.number(), 3);
-    assert_eq!(rt; Fault::TlvUnknownEven.number(), 4);
-    assert_eq!(rt; Fault::TlvLength.number(), 5);
-    assert_eq!(rt; Fault::UnknownEvenType.number(), 6);
-    assert_eq!(rt; Fault::TooLong.number(), 7);
-    assert_eq!(rt; Fault::FieldLength.number(), 8);
-    assert_eq!(rt; Fault::UnknownFeature.number(), 9);
-    assert_eq!(rt; Fault::Memory.number(), 60);
-    assert_eq!(rt; Fault::Io.number(), 63);
-}
-
+/// How each fault is told.
 #[test]
 fn fault_texts(rt: HostRuntime) -> Result<(), Fail> {
-    let text = format!(in rt.alloc(); "{}, {}", Fault::Truncated, Fault::Memory)?;
-    assert_eq!(rt; text.as_str(), "refused 1, refused 60");
+    for (fault, want) in [
+        (Fault::Truncated, "refused 1"),
+        (Fault::NotMinimal, "refused 2"),
+        (Fault::TlvOrder, "refused 3"),
+        (Fault::TlvUnknownEven, "refused 4"),
+        (Fault::TlvLength, "refused 5"),
+        (Fault::UnknownEvenType, "refused 6"),
+        (Fault::TooLong, "refused 7"),
+        (Fault::FieldLength, "refused 8"),
+        (Fault::UnknownFeature, "refused 9"),
+        (Fault::Memory, "refused 60"),
+        (Fault::Io, "refused 63"),
+    ] {
+        let text = format!(in rt.alloc(); "{fault}")?;
+        assert_eq!(rt; text.as_str(), want);
+        assert_eq!(rt;
+            format!(in rt.alloc(); "refused {}", fault.number())?.as_str(),
+            want
+        );
+    }
     Ok(())
 }
 
@@ -102,16 +101,6 @@ const BAD_STREAMS: [(&[u8], Fault); 12] = [
     ),
 ];
 
-#[test]
-fn bad_streams(rt: HostRuntime) {
-    for (bytes, fault) in BAD_STREAMS {
-        for known_even in [FIRST.as_slice(), SECOND.as_slice(), &[]] {
-            let answer = read_tlvs(rt.alloc(), bytes, known_even).err();
-            assert_eq!(rt; answer, Some(fault), "at {bytes:?}");
-        }
-    }
-}
-
 /// BOLT 1, Appendix B: streams that fail in the first namespace, by their order or an even type.
 const BAD_IN_FIRST: [(&[u8], Fault); 5] = [
     (&[0x00, 0x00], Fault::TlvUnknownEven),
@@ -132,35 +121,10 @@ const BAD_IN_FIRST: [(&[u8], Fault); 5] = [
     (&[0x1f, 0x00, 0x1f, 0x01, 0x2a], Fault::TlvOrder),
 ];
 
-#[test]
-fn bad_in_first(rt: HostRuntime) {
-    for (bytes, fault) in BAD_IN_FIRST {
-        let answer = read_tlvs(rt.alloc(), bytes, &FIRST).err();
-        assert_eq!(rt; answer, Some(fault), "at {bytes:?}");
-    }
-}
-
 /// The same appendix, in the second namespace: the greatest type, and then 0.
-#[test]
-fn bad_in_second(rt: HostRuntime) {
-    let bytes = [
-        0xff, 0xff, 0xff, 0xff, 0xff, 0xff, 0xff, 0xff, 0xff, 0x00, 0x00, 0x00,
-    ];
-    let answer = read_tlvs(rt.alloc(), &bytes, &SECOND).err();
-    assert_eq!(rt; answer, Some(Fault::TlvOrder));
-}
-
-/// The appendix's value that is cut short: its length is 513.
-#[test]
-fn value_cut_short(rt: HostRuntime) {
-    let mut bytes = [0; 516];
-    bytes[0] = 0x0f;
-    bytes[1] = 0xfd;
-    bytes[2] = 0x02;
-    bytes[3] = 0x01;
-    let answer = read_tlvs(rt.alloc(), &bytes, &FIRST).err();
-    assert_eq!(rt; answer, Some(Fault::TlvLength));
-}
+const BAD_IN_SECOND: [u8; 12] = [
+    0xff, 0xff, 0xff, 0xff, 0xff, 0xff, 0xff, 0xff, 0xff, 0x00, 0x00, 0x00,
+];
 
 /// Of the faults of one record the first is told, and lengths aren't cut to fewer bits.
 const FIRST_FAULTS: [(&[u8], Fault); 7] = [
@@ -186,67 +150,101 @@ const FIRST_FAULTS: [(&[u8], Fault); 7] = [
     ),
 ];
 
-#[test]
-fn first_faults(rt: HostRuntime) {
-    for (bytes, fault) in FIRST_FAULTS {
-        let answer = read_tlvs(rt.alloc(), bytes, &[2, 4, 6, 8]).err();
-        assert_eq!(rt; answer, Some(fault), "at {bytes:?}");
-    }
-}
-
 /// BOLT 1, Appendix B: records of odd types that nobody knows, each of which is read alone, and so one
 /// behind the other too. All are kept.
-#[test]
-fn unknown_records_both_ways(rt: HostRuntime) -> Result<(), Fail> {
-    let bytes = [
-        0x21, 0x00, 0xfd, 0x00, 0xfd, 0x00, 0xfd, 0x00, 0xff, 0x00, 0xfd, 0x02, 0x01, 0x00, 0xfe,
-        0x02, 0x00, 0x00, 0x01, 0x00, 0xff, 0x02, 0x00, 0x00, 0x00, 0x00, 0x00, 0x00, 0x01, 0x00,
-    ];
-    let records = read_tlvs(rt.alloc(), &bytes, &SECOND)?;
-    let types = [33, 253, 255, 513, 33554433, 144115188075855873];
-    assert_eq!(rt; records.len(), types.len());
-    for (record, typ) in records.iter().zip(types) {
-        assert_eq!(rt; record.typ, typ);
-        assert!(rt; record.value.is_empty());
-    }
-    let written = write_tlvs(rt.alloc(), &records)?;
-    assert_eq!(rt; written.as_slice(), bytes.as_slice());
-    Ok(())
-}
+const UNKNOWN_RECORDS: [u8; 30] = [
+    0x21, 0x00, 0xfd, 0x00, 0xfd, 0x00, 0xfd, 0x00, 0xff, 0x00, 0xfd, 0x02, 0x01, 0x00, 0xfe, 0x02,
+    0x00, 0x00, 0x01, 0x00, 0xff, 0x02, 0x00, 0x00, 0x00, 0x00, 0x00, 0x00, 0x01, 0x00,
+];
 
 /// BOLT 1, Appendix B: records of the first namespace, one behind the other.
-#[test]
-fn known_records_both_ways(rt: HostRuntime) -> Result<(), Fail> {
-    let bytes = [
-        0x01, 0x03, 0x01, 0x00, 0x00, 0x02, 0x08, 0x00, 0x00, 0x00, 0x00, 0x00, 0x00, 0x02, 0x26,
-        0xfd, 0x00, 0xfe, 0x02, 0x02, 0x26,
-    ];
-    let records = read_tlvs(rt.alloc(), &bytes, &FIRST)?;
-    let parts = [(1, &bytes[2..5]), (2, &bytes[7..15]), (254, &bytes[19..])];
-    assert_eq!(rt; records.len(), parts.len());
-    for (record, (typ, value)) in records.iter().zip(parts) {
-        assert_eq!(rt; record.typ, typ);
-        assert_eq!(rt; record.value.len(), value.len());
-        assert_eq!(rt; record.value.as_slice(), value);
+const KNOWN_RECORDS: [u8; 21] = [
+    0x01, 0x03, 0x01, 0x00, 0x00, 0x02, 0x08, 0x00, 0x00, 0x00, 0x00, 0x00, 0x00, 0x02, 0x26, 0xfd,
+    0x00, 0xfe, 0x02, 0x02, 0x26,
+];
+
+// How the records of a stream are told that is written as these bytes again: each by its type and how many bytes
+// its value has.
+fn told(alloc: Global, bytes: &[u8], known_even: &[u64]) -> Result<String, Fault> {
+    let records = read_tlvs(alloc, bytes, known_even)?;
+    let mut text = String::new(alloc);
+    for record in &records {
+        text.push_str(format!(in alloc; "{}:{} ", record.typ, record.value.len())?.as_str())?;
     }
-    let written = write_tlvs(rt.alloc(), &records)?;
-    assert_eq!(rt; written.as_slice(), bytes.as_slice());
+    let written = write_tlvs(alloc, &records)?;
+    if written.as_slice() != bytes {
+        text.push_str("written otherwise")?;
+    }
+    Ok(text)
+}
+
+#[test]
+fn streams(rt: HostRuntime) -> Result<(), Fail> {
+    for (bytes, known_even, want) in [
+        (
+            UNKNOWN_RECORDS.as_slice(),
+            SECOND.as_slice(),
+            "33:0 253:0 255:0 513:0 33554433:0 144115188075855873:0 ",
+        ),
+        (&KNOWN_RECORDS, &FIRST, "1:3 2:8 254:2 "),
+        (&[], &[], ""),
+    ] {
+        assert_eq!(rt; told(rt.alloc(), bytes, known_even)?.as_str(), want);
+    }
+    for (bytes, fault) in BAD_STREAMS {
+        for known_even in [FIRST.as_slice(), SECOND.as_slice(), &[]] {
+            assert_eq!(rt;
+                told(rt.alloc(), bytes, known_even).err(),
+                Some(fault),
+                "at {bytes:?}"
+            );
+        }
+    }
+    for (bytes, fault) in BAD_IN_FIRST {
+        assert_eq!(rt;
+            told(rt.alloc(), bytes, &FIRST).err(),
+            Some(fault),
+            "at {bytes:?}"
+        );
+    }
+    assert_eq!(rt;
+        told(rt.alloc(), &BAD_IN_SECOND, &SECOND).err(),
+        Some(Fault::TlvOrder)
+    );
+    for (bytes, fault) in FIRST_FAULTS {
+        assert_eq!(rt;
+            told(rt.alloc(), bytes, &[2, 4, 6, 8]).err(),
+            Some(fault),
+            "at {bytes:?}"
+        );
+    }
+    // the appendix's value that is cut short: its length is 513
+    let mut short = [0; 516];
+    short[0] = 0x0f;
+    short[1] = 0xfd;
+    short[2] = 0x02;
+    short[3] = 0x01;
+    assert_eq!(rt;
+        told(rt.alloc(), &short, &FIRST).err(),
+        Some(Fault::TlvLength)
+    );
     Ok(())
 }
 
-/// No bytes are no records, and no records are no bytes.
-#[test]
-fn empty_stream(rt: HostRuntime) -> Result<(), Fail> {
-    let records = read_tlvs(rt.alloc(), &[], &[])?;
-    assert_eq!(rt; records.len(), 0);
-    let written = write_tlvs(rt.alloc(), &records)?;
-    assert_eq!(rt; written.len(), 0);
-    Ok(())
+fn has_value(records: &[Record], typ: u64, want: &[u8]) -> bool {
+    match value_of(records, typ) {
+        Some(value) => value == want,
+        None => false,
+    }
 }
 
-/// A byte string is made from a vector, which it gives back.
+/// Values by their types, and a byte string, which is made from a vector and gives it back.
 #[test]
-fn byte_string(rt: HostRuntime) -> Result<(), Fail> {
+fn values(rt: HostRuntime) -> Result<(), Fail> {
+    let records = read_tlvs(rt.alloc(), &[1, 1, 9, 3, 2, 7, 8], &[])?;
+    assert!(rt; has_value(&records, 1, &[9]));
+    assert!(rt; has_value(&records, 3, &[7, 8]));
+    assert!(rt; value_of(&records, 2).is_none());
     assert!(rt; Bytes::empty(rt.alloc()).is_empty());
     let bytes = Bytes::new(Vec::from_slice(rt.alloc(), &[1, 2, 3])?);
     assert_eq!(rt; bytes.len(), 3);
@@ -272,23 +270,6 @@ const TRUNCATED: [(u64, &[u8]); 9] = [
     ),
 ];
 
-#[test]
-fn truncated_both_ways(rt: HostRuntime) {
-    for (number, bytes) in TRUNCATED {
-        assert_eq!(rt; read_tu64(bytes), Ok(number), "at {bytes:?}");
-        let mut out = [0xaa; 8];
-        let len = write_tu64(number, &mut out);
-        assert_eq!(rt; Some(bytes), out.get(..len));
-        let fits = read_tu32(bytes).map(u64::from);
-        let want = if bytes.len() > 4 {
-            Err(Fault::FieldLength)
-        } else {
-            Ok(number)
-        };
-        assert_eq!(rt; fits, want, "at {bytes:?}");
-    }
-}
-
 /// The same appendix: encodings that aren't minimal, and one that is too long.
 const BAD_TRUNCATED: [(&[u8], Fault); 9] = [
     (
@@ -312,7 +293,20 @@ const BAD_TRUNCATED: [(&[u8], Fault); 9] = [
 ];
 
 #[test]
-fn bad_truncated(rt: HostRuntime) {
+fn truncated_numbers(rt: HostRuntime) {
+    for (number, bytes) in TRUNCATED {
+        assert_eq!(rt; read_tu64(bytes), Ok(number), "at {bytes:?}");
+        let mut out = [0xaa; 8];
+        let len = write_tu64(number, &mut out);
+        assert_eq!(rt; Some(bytes), out.get(..len));
+        let fits = read_tu32(bytes).map(u64::from);
+        let want = if bytes.len() > 4 {
+            Err(Fault::FieldLength)
+        } else {
+            Ok(number)
+        };
+        assert_eq!(rt; fits, want, "at {bytes:?}");
+    }
     for (bytes, fault) in BAD_TRUNCATED {
         assert_eq!(rt; read_tu64(bytes), Err(fault), "at {bytes:?}");
         // The length is told before the leading zero.
@@ -341,33 +335,17 @@ const SHORT_IDS: [(&str, [u8; 8]); 4] = [
 ];
 
 #[test]
-fn short_ids_both_ways(rt: HostRuntime) {
+fn short_ids(rt: HostRuntime) -> Result<(), Fail> {
     for (text, bytes) in SHORT_IDS {
         let id = ShortId::from_bytes(&bytes);
         assert_eq!(rt; ShortId::parse(text), Some(id));
         assert_eq!(rt; id.to_bytes(), bytes);
+        assert_eq!(rt; format!(in rt.alloc(); "{id}")?.as_str(), text);
     }
-}
-
-#[test]
-fn short_ids_printed(rt: HostRuntime) -> Result<(), Fail> {
-    let [own, value, example, greatest] = SHORT_IDS.map(|(_, bytes)| ShortId::from_bytes(&bytes));
-    let text = format!(in rt.alloc(); "{own} {value} {example} {greatest}")?;
-    let want = "1x2x3 0x0x550 539268x845x1 16777215x16777215x65535";
-    assert_eq!(rt; text.as_str(), want);
-    Ok(())
-}
-
-#[test]
-fn short_id_parts(rt: HostRuntime) {
     let id = ShortId::from_bytes(&[0x00, 0x00, 0x01, 0x00, 0x00, 0x02, 0x00, 0x03]);
     assert_eq!(rt; id.block, 1);
     assert_eq!(rt; id.tx, 2);
     assert_eq!(rt; id.output, 3);
-}
-
-#[test]
-fn bad_short_ids(rt: HostRuntime) {
     for text in [
         "",
         "x",
@@ -397,20 +375,5 @@ fn bad_short_ids(rt: HostRuntime) {
     ] {
         assert_eq!(rt; ShortId::parse(text), None, "at {text:?}");
     }
-}
-
-fn has_value(records: &[Record], typ: u64, want: &[u8]) -> bool {
-    match value_of(records, typ) {
-        Some(value) => value == want,
-        None => false,
-    }
-}
-
-#[test]
-fn values_by_type(rt: HostRuntime) -> Result<(), Fail> {
-    let records = read_tlvs(rt.alloc(), &[1, 1, 9, 3, 2, 7, 8], &[])?;
-    assert!(rt; has_value(&records, 1, &[9]));
-    assert!(rt; has_value(&records, 3, &[7, 8]));
-    assert!(rt; value_of(&records, 2).is_none());
     Ok(())
 }

@@ -7,7 +7,7 @@ use Rattle.ln_bytes.specs.Tlv.{value_at, record_at, records_at, stream_at}
 use Rattle.ln_bytes.specs.declared.fault.Fault.{Fault}
 use Rattle.ln_bytes.specs.declared.fault.Fault.TheVariants.{Truncated, NotMinimal, TlvOrder, TlvUnknownEven, TlvLength, UnknownEvenType, TooLong, FieldLength, Io}
 use Rattle.ln_msgs.specs.Field.{Kind, Number, Fixed, Sized, Listed, bytes_at, number_at, string_at, items_at, list_at, field_at, fields_at}
-use Rattle.ln_msgs.specs.Table.{Form, form_of}
+use Rattle.ln_msgs.specs.Table.{Form, kinds_of, form_of}
 use Rattle.ln_msgs.specs.Message.{formed_at, payload_at, message_at}
 
 -- a reading that refuses by 1 to 8 alone
@@ -84,7 +84,7 @@ fields_tell (k ∷ ks) bytes = steps _ _ (field_tells k bytes) (λ first. steps 
 
 formed_tells : (form : Form) (typ : ℕ) (bytes : List ℕ) → Tells (formed_at form typ bytes)
 unfolding formed_at
-formed_tells form typ bytes = steps _ _ (fields_tell form.fields bytes) (λ values. steps _ _ (stream_tells form.known_even values.1) (λ records. either _ _ _ (given _) (refuses FieldLength (omega arith))))
+formed_tells form typ bytes = steps _ _ (fields_tell (kinds_of form) bytes) (λ values. steps _ _ (stream_tells form.known_even values.1) (λ records. either _ _ _ (given _) (refuses FieldLength (omega arith))))
 
 payload_tells : (form : Option Form) (typ : ℕ) (bytes : List ℕ) → Tells (payload_at form typ bytes)
 payload_tells (Some form) typ bytes = formed_tells form typ bytes

@@ -18,7 +18,7 @@ use Rattle.ln_bytes.proofs.Records.{record_takes}
 use Rattle.ln_bytes.proofs.Streams.{stream_again}
 use Rattle.ln_msgs.specs.Field.{Kind, Number, Fixed, Sized, Listed, Value, Num, Str, Many, IsOf, AreOf, value_bytes, fields_bytes, bytes_at, number_at, string_at, items_at, list_at, field_at, fields_at}
 use Rattle.std.specs.List.{AllByRecursion, concat}
-use Rattle.ln_msgs.specs.Table.{Form, form_of}
+use Rattle.ln_msgs.specs.Table.{Form, kinds_of, form_of}
 use Rattle.ln_msgs.specs.Message.{Wire, IsFormed, have_lengths, Heard, Known, Ignored, Says, formed_at, payload_at, may_be_ignored, message_at}
 
 -- ---- records
@@ -182,18 +182,18 @@ ends false d r y e = absurd cc
 formed_takes : (form : Form) (typ : ℕ) (bytes : List ℕ) (h : Heard) → IsBytes bytes → typ < 65536 → form_of typ ≡ Some form → formed_at form typ bytes ≡ Ok h → Says h (big_bytes 2 typ ++ bytes)
 unfolding formed_at
 formed_takes form typ bytes h fits below is e =
-    let a = bind_ok (fields_at form.fields bytes) (λ values. stream_at form.known_even values.1 >>= λ records. cond (have_lengths form.lengths records) (Ok (Known (record { typ = typ; values = values.0; records = records }))) (Err FieldLength)) h e in
+    let a = bind_ok (fields_at (kinds_of form) bytes) (λ values. stream_at form.known_even values.1 >>= λ records. cond (have_lengths form.lengths records) (Ok (Known (record { typ = typ; values = values.0; records = records }))) (Err FieldLength)) h e in
     let b = bind_ok (stream_at form.known_even a.0.1) (λ records. cond (have_lengths form.lengths records) (Ok (Known (record { typ = typ; values = a.0.0; records = records }))) (Err FieldLength)) h a.2 in
     let made : Heard = Known (record { typ = typ; values = a.0.0; records = b.0 }) in
     let c = ends (have_lengths form.lengths b.0) FieldLength (Ok made) h b.2 in
-    let first = fields_take form.fields bytes a.0 fits a.1 in
+    let first = fields_take (kinds_of form) bytes a.0 fits a.1 in
     let second = stream_takes form.known_even a.0.1 b.0 first.0.rest_fits b.1 in
-    let parts : bytes ≡ fields_bytes form.fields a.0.0 ++ stream_bytes b.0 = first.0.parts ∙ ap (λ l. fields_bytes form.fields a.0.0 ++ l) second.bytes_are in
+    let parts : bytes ≡ fields_bytes (kinds_of form) a.0.0 ++ stream_bytes b.0 = first.0.parts ∙ ap (λ l. fields_bytes (kinds_of form) a.0.0 ++ l) second.bytes_are in
     subst (λ (x : Heard). Says x (big_bytes 2 typ ++ bytes)) (ok_is made h c.1) (
       form,
       is,
       record { typ = below; values = first.1; stand = second.stand; fit = second.fit; lengths = c.0 },
-      ap (λ l. big_bytes 2 typ ++ l) parts ∙ sym (append_assoc (big_bytes 2 typ) (fields_bytes form.fields a.0.0) (stream_bytes b.0)),
+      ap (λ l. big_bytes 2 typ ++ l) parts ∙ sym (append_assoc (big_bytes 2 typ) (fields_bytes (kinds_of form) a.0.0) (stream_bytes b.0)),
     )
 
 payload_takes : (form : Option Form) (typ : ℕ) (bytes : List ℕ) (h : Heard) → IsBytes bytes → typ < 65536 → form_of typ ≡ form → payload_at form typ bytes ≡ Ok h → Says h (big_bytes 2 typ ++ bytes)
@@ -212,10 +212,10 @@ message_takes bytes h fits e =
     let first = number_takes 2 bytes a.0 fits a.1 in
     (omega arith, subst (Says h) (sym first.0.parts) (payload_takes (form_of a.0.0) a.0.0 a.0.1 h first.0.rest_fits (omega (arith, first.1)) refl a.2))
 
-formed_again : (form : Form) (w : Wire) → IsFormed form w → formed_at form w.typ (fields_bytes form.fields w.values ++ stream_bytes w.records) ≡ Ok (Known w)
+formed_again : (form : Form) (w : Wire) → IsFormed form w → formed_at form w.typ (fields_bytes (kinds_of form) w.values ++ stream_bytes w.records) ≡ Ok (Known w)
 unfolding formed_at
 formed_again form w is =
-    let first = fields_again form.fields w.values (stream_bytes w.records) is.values in
+    let first = fields_again (kinds_of form) w.values (stream_bytes w.records) is.values in
     let second : stream_at form.known_even (stream_bytes w.records) ≡ Ok w.records = stream_again form.known_even w.records (stream_bytes w.records) (record { stand = is.stand; fit = is.fit; bytes_are = refl }) in
     rw (first, second, is.lengths) refl
 
@@ -224,8 +224,8 @@ pub message_again : (bytes : List ℕ) (h : Heard) → length bytes < 65536 → 
 unfolding message_at
 message_again bytes (Known w) short says =
     let form = says.0 in
-    let payload = fields_bytes form.fields w.values ++ stream_bytes w.records in
-    let parts : bytes ≡ big_bytes 2 w.typ ++ payload = says.3 ∙ append_assoc (big_bytes 2 w.typ) (fields_bytes form.fields w.values) (stream_bytes w.records) in
+    let payload = fields_bytes (kinds_of form) w.values ++ stream_bytes w.records in
+    let parts : bytes ≡ big_bytes 2 w.typ ++ payload = says.3 ∙ append_assoc (big_bytes 2 w.typ) (fields_bytes (kinds_of form) w.values) (stream_bytes w.records) in
     let fits : nat_lt 65535 (length bytes) ≡ false = le-ltb _ _ (omega arith) in
     let typ : number_at 2 bytes ≡ Ok (w.typ, payload) = ap (number_at 2) parts ∙ number_again 2 w.typ payload (omega (arith, says.2.typ)) in
     rw (fits, typ, says.1) (formed_again form w says.2)

@@ -8,3 +8,5 @@ pub mod Items
 pub mod Sums
 pub mod Writing
 pub mod Framing
+pub mod Pieces
+pub mod Shown

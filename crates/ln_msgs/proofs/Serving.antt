@@ -11,7 +11,7 @@ use Rattle.ln_bytes.specs.Tlv.{stream_at}
 use Rattle.ln_bytes.specs.declared.fault.Fault.TheVariants.{FieldLength, UnknownEvenType}
 use Rattle.ln_bytes.proofs.Reading.{bind_ok, ok_is}
 use Rattle.ln_msgs.specs.Field.{fields_at}
-use Rattle.ln_msgs.specs.Table.{Form}
+use Rattle.ln_msgs.specs.Table.{Form, kinds_of}
 use Rattle.ln_msgs.specs.Message.{Heard, Known, Ignored, formed_at, payload_at, have_lengths, may_be_ignored, message_at}
 use Rattle.ln_msgs.proofs.Grammar.{ends}
 use Rattle.ln_msgs.specs.Frame.{frame, HasFrame, Hears}
@@ -50,7 +50,7 @@ no_pong false o e = refl
 formed_asks : (form : Form) (typ : ℕ) (bytes : List ℕ) (h : Heard) → typ ≢ 18 → formed_at form typ bytes ≡ Ok h → owed h ≡ None
 unfolding formed_at
 formed_asks form typ bytes h other e =
-    let a = bind_ok (fields_at form.fields bytes) (λ values. stream_at form.known_even values.1 >>= λ records. cond (have_lengths form.lengths records) (Ok (Known (record { typ = typ; values = values.0; records = records }))) (Err FieldLength)) h e in
+    let a = bind_ok (fields_at (kinds_of form) bytes) (λ values. stream_at form.known_even values.1 >>= λ records. cond (have_lengths form.lengths records) (Ok (Known (record { typ = typ; values = values.0; records = records }))) (Err FieldLength)) h e in
     let b = bind_ok (stream_at form.known_even a.0.1) (λ records. cond (have_lengths form.lengths records) (Ok (Known (record { typ = typ; values = a.0.0; records = records }))) (Err FieldLength)) h a.2 in
     let made : Heard = Known (record { typ = typ; values = a.0.0; records = b.0 }) in
     let c = ends (have_lengths form.lengths b.0) FieldLength (Ok made) h b.2 in

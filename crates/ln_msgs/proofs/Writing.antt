@@ -8,37 +8,37 @@ use Rattle.ln_bytes.specs.Tlv.{stream_bytes, AreFit}
 use Rattle.ln_bytes.specs.declared.fault.Fault.{Fault}
 use Rattle.ln_bytes.specs.declared.fault.Fault.TheVariants.{TooLong, Memory}
 use Rattle.ln_bytes.specs.declared.record.Record.{Record}
-use Rattle.ln_msgs.specs.declared.item.Field.{Field}
+use Rattle.ln_msgs.specs.declared.item.Item.{Item}
 use Rattle.ln_msgs.specs.Field.{AreOf, fields_bytes}
-use Rattle.ln_msgs.specs.Items.{kind_of, value_of, item_bytes, items_bytes, AreFieldsOf, AreProper}
-use Rattle.ln_msgs.specs.Table.{Form, form_of}
+use Rattle.ln_msgs.specs.Items.{kind_of, value_of, item_bytes, items_bytes, AreItemsOf, AreItemsBy, AreProper}
+use Rattle.ln_msgs.specs.Table.{Form, kinds_of, form_of}
 use Rattle.ln_msgs.specs.Message.{Wire, wire_bytes, formed_bytes, Known, Says}
 use Rattle.ln_msgs.specs.Writing.{MayFollowForm, CanBeWritten, AreOfForm, IsWritten, parts_bytes}
 use Rattle.ln_msgs.proofs.Sums.{flat_fits}
 
-pub item_below : (fs : List Field) (i : ℕ) (d : Field) → i < length fs → length (items_bytes fs) < 65536 → length (item_bytes (get_or fs i d).value) < 65536
-item_below fs i d below short = let more = flat_fits (λ f. item_bytes f.value) fs i d below in omega (arith, more)
+pub item_below : (is : List Item) (i : ℕ) (d : Item) → i < length is → length (items_bytes is) < 65536 → length (item_bytes (get_or is i d)) < 65536
+item_below is i d below short = let more = flat_fits item_bytes is i d below in omega (arith, more)
 
 -- kinds and values apart give the same bytes
-same_fields : (fs : List Field) → fields_bytes (map (λ f. kind_of f.value) fs) (map (λ f. value_of f.value) fs) ≡ items_bytes fs
+same_fields : (is : List Item) → fields_bytes (map kind_of is) (map value_of is) ≡ items_bytes is
 same_fields [] = refl
-same_fields (f ∷ fs) = ap (λ l. item_bytes f.value ++ l) (same_fields fs)
+same_fields (i ∷ is) = ap (λ l. item_bytes i ++ l) (same_fields is)
 
-pub fields_are : (form : Form) (w : Wire) (fs : List Field) → AreFieldsOf form w fs → items_bytes fs ≡ fields_bytes form.fields w.values
-fields_are form w fs are = sym (same_fields fs) ∙ ap (λ ks. fields_bytes ks (map (λ f. value_of f.value) fs)) are.kinds ∙ ap (λ vs. fields_bytes form.fields vs) are.values
+pub fields_are : (form : Form) (w : Wire) (is : List Item) → AreItemsOf form w is → items_bytes is ≡ fields_bytes (kinds_of form) w.values
+fields_are form w is are = sym (same_fields is) ∙ ap (λ ks. fields_bytes ks (map value_of is)) are.kinds ∙ ap (λ vs. fields_bytes (kinds_of form) vs) are.values
 
-are_of : (fs : List Field) → AreProper fs → AreOf (map (λ f. kind_of f.value) fs) (map (λ f. value_of f.value) fs)
+are_of : (is : List Item) → AreProper is → AreOf (map kind_of is) (map value_of is)
 are_of [] all = tt
-are_of (f ∷ fs) all = (all.0, are_of fs all.1)
+are_of (i ∷ is) all = (all.0, are_of is all.1)
 
-fields_are_of : (form : Form) (w : Wire) (fs : List Field) → AreFieldsOf form w fs → AreProper fs → AreOf form.fields w.values
-fields_are_of form w fs are all =
-    subst (λ ks. AreOf ks w.values) are.kinds (subst (AreOf (map (λ f. kind_of f.value) fs)) are.values (are_of fs all))
+fields_are_of : (form : Form) (w : Wire) (is : List Item) → AreItemsOf form w is → AreProper is → AreOf (kinds_of form) w.values
+fields_are_of form w is are all =
+    subst (λ ks. AreOf ks w.values) are.kinds (subst (AreOf (map kind_of is)) are.values (are_of is all))
 
-parts_are : (form : Form) (w : Wire) (typ : ℕ) (fs : List Field) (rs : List Record) → AreFieldsOf form w fs → form_of w.typ ≡ Some form → w.typ ≡ typ → w.records ≡ rs → parts_bytes typ fs rs ≡ wire_bytes w
+parts_are : (form : Form) (w : Wire) (typ : ℕ) (fs : List Item) (rs : List Record) → AreItemsOf form w fs → form_of w.typ ≡ Some form → w.typ ≡ typ → w.records ≡ rs → parts_bytes typ fs rs ≡ wire_bytes w
 parts_are form w typ fs rs are is typ_is records_are =
     ap (λ n. big_bytes 2 n ++ items_bytes fs ++ stream_bytes rs) (sym typ_is) ∙ ap (λ l. big_bytes 2 w.typ ++ l ++ stream_bytes rs) (fields_are form w fs are)
-    ∙ ap (λ l. big_bytes 2 w.typ ++ fields_bytes form.fields w.values ++ stream_bytes l) (sym records_are) ∙ ap (λ f. formed_bytes f w) (sym is)
+    ∙ ap (λ l. big_bytes 2 w.typ ++ fields_bytes (kinds_of form) w.values ++ stream_bytes l) (sym records_are) ∙ ap (λ f. formed_bytes f w) (sym is)
 
 short_enough : (r : Result (Vec ℕ) Fault) (bytes : List ℕ) → r ≡ Err Memory → (65535 < length bytes → r ≡ Err TooLong) → length bytes < 65536
 short_enough r bytes memory long =
@@ -50,7 +50,7 @@ short_enough r bytes memory long =
     memory_is_not_long : ◌≡◌ {A = Result (Vec ℕ) Fault} (Err Memory) (Err TooLong) → ⊥
     memory_is_not_long e = cc
 
-pub is_written_as : (r : Result (Vec ℕ) Fault) (form : Form) (w : Wire) (typ : ℕ) (fs : List Field) (rs : List Record) → typ < 65536 → AreFieldsOf form w fs → form_of w.typ ≡ Some form → w.typ ≡ typ → w.records ≡ rs
+is_written_as : (r : Result (Vec ℕ) Fault) (form : Form) (w : Wire) (typ : ℕ) (fs : List Item) (rs : List Record) → typ < 65536 → AreItemsOf form w fs → form_of w.typ ≡ Some form → w.typ ≡ typ → w.records ≡ rs
     → IfOk r (λ v. (v.items ≡ parts_bytes typ fs rs) × (length v.items < 65536) × AreFit rs × AreProper fs) → IsErrOf r TooLong ↔ (65535 < length (parts_bytes typ fs rs)) → IfErr r (λ e. (e ≡ TooLong) ⊎ (e ≡ Memory)) → IsWritten r w
 is_written_as (Ok v) form w typ fs rs below are is typ_is records_are ok long err =
     let parts = parts_are form w typ fs rs are is typ_is records_are in
@@ -62,6 +62,11 @@ is_written_as (Err f) form w typ fs rs below are is typ_is records_are ok long e
       | inl e ↦ record { is = inl (e, subst (λ l. 65535 < length l) parts (long.0 (ap Err e))) }
       | inr e ↦ record { is = inr (e, short_enough (Err f) (wire_bytes w) (ap Err e) (λ more. long.1 (subst (λ l. 65535 < length l) (sym parts) more))) }
     ]
+
+pub is_written_by : (form : Option Form) (r : Result (Vec ℕ) Fault) (w : Wire) (typ : ℕ) (fs : List Item) (rs : List Record) → form_of w.typ ≡ form → typ < 65536 → AreItemsBy form w fs → w.typ ≡ typ → w.records ≡ rs
+    → IfOk r (λ v. (v.items ≡ parts_bytes typ fs rs) × (length v.items < 65536) × AreFit rs × AreProper fs) → IsErrOf r TooLong ↔ (65535 < length (parts_bytes typ fs rs)) → IfErr r (λ e. (e ≡ TooLong) ⊎ (e ≡ Memory)) → IsWritten r w
+is_written_by None r w typ fs rs is below are typ_is records_are ok long err = absurd are
+is_written_by (Some form) r w typ fs rs is below are typ_is records_are ok long err = is_written_as r form w typ fs rs below are is typ_is records_are ok long err
 
 says_some : (form : Option Form) (w : Wire) (bytes : List ℕ) → form_of w.typ ≡ form → MayFollowForm form w.records → AreOfForm form w → AreFit w.records → bytes ≡ wire_bytes w → Says (Known w) bytes
 says_some None w bytes is may are fit e = absurd may

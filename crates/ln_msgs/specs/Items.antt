@@ -6,7 +6,7 @@ use Rattle.ln_msgs.specs.declared.item.Item.{Item}
 use Rattle.ln_msgs.specs.declared.item.Item.TheVariants as items
 use Rattle.ln_msgs.specs.Field.{Kind, Number, Value, Num, Str, Many, IsOf, value_bytes}
 use Rattle.ln_msgs.specs.Field as kinds
-use Rattle.ln_msgs.specs.Table.{Form, form_of}
+use Rattle.ln_msgs.specs.Table.{Form, kinds_of, names_of, form_of}
 use Rattle.ln_msgs.specs.Message.{Wire}
 
 abbrev pub kind_of : Item → Kind
@@ -30,23 +30,33 @@ value_of (items.Listed list) = Many list.now
 abbrev pub item_bytes : Item → List ℕ
 item_bytes i = value_bytes (kind_of i) (value_of i)
 
--- the fields one after the other
-abbrev pub items_bytes : List Field → List ℕ
-items_bytes fs = flat_map (λ f. item_bytes f.value) fs
+-- the values one after the other
+abbrev pub items_bytes : List Item → List ℕ
+items_bytes is = flat_map item_bytes is
 
--- these are the fields of the message, by its form
-pub record AreFieldsOf (form : Form) (w : Wire) (fs : List Field) : Type 0 where
-  pub kinds : map (λ f. kind_of f.value) fs ≡ form.fields
-  pub values : map (λ f. value_of f.value) fs ≡ w.values
+-- these are the values of the message's fields, by its form
+pub record AreItemsOf (form : Form) (w : Wire) (is : List Item) : Type 0 where
+  pub kinds : map kind_of is ≡ kinds_of form
+  pub values : map value_of is ≡ w.values
+
+abbrev pub AreItemsBy : Option Form → Wire → List Item → Type 0
+AreItemsBy None w is = ⊥
+AreItemsBy (Some form) w is = AreItemsOf form w is
 
 -- each value is one of its kind
-abbrev pub IsProper : Field → Type 0
-IsProper f = IsOf (kind_of f.value) (value_of f.value)
+abbrev pub IsProper : Item → Type 0
+IsProper i = IsOf (kind_of i) (value_of i)
 
-abbrev pub AreProper : List Field → Type 0
-AreProper fs = AllByRecursion IsProper fs
+abbrev pub AreProper : List Item → Type 0
+AreProper is = AllByRecursion IsProper is
 
--- these are the fields of the message, by the form of its type
+-- these are the fields of the message with their names, by its form
+pub record AreFieldsOf (form : Form) (w : Wire) (fs : List Field) : Type 0 where
+  pub names : map (λ f. f.name.now) fs ≡ names_of form
+  pub kinds : map (λ f. kind_of f.value) fs ≡ kinds_of form
+  pub values : map (λ f. value_of f.value) fs ≡ w.values
+
+-- the same by the form of its type
 abbrev pub IsShownByForm : Option Form → Wire → List Field → Type 0
 IsShownByForm None w fs = ⊥
 IsShownByForm (Some form) w fs = AreFieldsOf form w fs

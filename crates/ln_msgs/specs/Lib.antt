@@ -18,4 +18,5 @@ pub mod Channel
 pub mod Features
 pub mod Reply
 pub mod Framer
-pub mod Names
+pub mod Forms
+pub mod Pieces

@@ -9,7 +9,7 @@ use Rattle.ln_bytes.specs.declared.fault.Fault.{Fault}
 use Rattle.ln_bytes.specs.declared.fault.Fault.TheVariants.{TooLong, UnknownEvenType, FieldLength}
 use Rattle.ln_bytes.specs.declared.record.Record.{Record}
 use Rattle.ln_msgs.specs.Field.{Value, AreOf, fields_at, fields_bytes, number_at}
-use Rattle.ln_msgs.specs.Table.{Form, form_of}
+use Rattle.ln_msgs.specs.Table.{Form, kinds_of, form_of}
 
 -- an odd type that isn't known may be passed over; so are the types 256 to 265, which tell of other
 -- channels
@@ -34,7 +34,7 @@ pub record Wire : Type 0 where
 
 abbrev pub formed_bytes : Option Form → Wire → List ℕ
 formed_bytes None w = []
-formed_bytes (Some form) w = big_bytes 2 w.typ ++ fields_bytes form.fields w.values ++ stream_bytes w.records
+formed_bytes (Some form) w = big_bytes 2 w.typ ++ fields_bytes (kinds_of form) w.values ++ stream_bytes w.records
 
 abbrev pub wire_bytes : Wire → List ℕ
 wire_bytes w = formed_bytes (form_of w.typ) w
@@ -42,7 +42,7 @@ wire_bytes w = formed_bytes (form_of w.typ) w
 -- the fields are those of the form, and the records may stand behind them
 pub record IsFormed (form : Form) (w : Wire) : Type 0 where
   pub typ : w.typ < 65536
-  pub values : AreOf form.fields w.values
+  pub values : AreOf (kinds_of form) w.values
   pub stand : MayStand form.known_even None w.records
   pub fit : AreFit w.records
   pub lengths : IsTrue (have_lengths form.lengths w.records)
@@ -62,7 +62,7 @@ Says (Ignored typ) bytes = (form_of typ ≡ None) × IsTrue (may_be_ignored typ)
 
 unfoldable pub formed_at : Form → ℕ → List ℕ → Result Heard Fault
 formed_at form typ bytes = do
-  values ← fields_at form.fields bytes
+  values ← fields_at (kinds_of form) bytes
   records ← stream_at form.known_even values.1
   if have_lengths form.lengths records then Ok (Known (record { typ = typ; values = values.0; records = records })) else Err FieldLength
 

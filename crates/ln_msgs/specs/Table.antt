@@ -1,127 +1,324 @@
 -- The table of messages (BOLT 1, "Setup Messages" and "Control Messages"; BOLT 2, "Channel
 -- Establishment", "Channel Close", "Normal Operation" and "Message Retransmission"): what each type has.
-use Rattle.std.specs.Prelude.{ℕ, List, [], ◌∷◌, Option, Some, None, ◌==◌, if◌then◌else◌}
+use Rattle.std.specs.Prelude.{ℕ, List, [], ◌∷◌, Option, Some, None, ◌==◌, if◌then◌else◌, codes, map}
 use Rattle.ln_msgs.specs.Field.{Kind, Number, Fixed, Sized, Listed}
 
--- what a type of message has: its fields in order, the even types of record that it may carry, and the
--- types of record whose value has one length, with that length
+-- A type of message: its number and its name; the names and kinds of its fields in order; the even types of
+-- record that it may carry; and the types of record whose value has one length, with that length.
 pub record Form : Type 0 where
-  pub fields : List Kind
+  pub typ : ℕ
+  pub name : List ℕ
+  pub fields : List (List ℕ × Kind)
   pub known_even : List ℕ
   pub lengths : List (ℕ × ℕ)
 
--- fields, and no record that is known
-abbrev pub plain : List Kind → Form
-plain fields = record { fields = fields; known_even = []; lengths = [] }
+-- the kinds of the fields in order
+abbrev pub kinds_of : Form → List Kind
+kinds_of form = map (λ f. f.1) form.fields
 
--- 1 warning: channel_id, bytes
+-- their names
+abbrev pub names_of : Form → List (List ℕ)
+names_of form = map (λ f. f.0) form.fields
+
 abbrev pub warning_form : Form
-warning_form = plain (Fixed 32 ∷ Sized ∷ [])
+warning_form = record {
+  typ = 1;
+  name = codes "warning";
+  fields =
+      (codes "channel_id", Fixed 32) ∷
+      (codes "data", Sized) ∷ [];
+  known_even = [];
+  lengths = [];
+}
 
--- 16 init: global_features, features
 abbrev pub init_form : Form
-init_form = plain (Sized ∷ Sized ∷ [])
+init_form = record {
+  typ = 16;
+  name = codes "init";
+  fields =
+      (codes "global_features", Sized) ∷
+      (codes "features", Sized) ∷ [];
+  known_even = [];
+  lengths = [];
+}
 
--- 17 error: channel_id, bytes
 abbrev pub error_form : Form
-error_form = plain (Fixed 32 ∷ Sized ∷ [])
+error_form = record {
+  typ = 17;
+  name = codes "error";
+  fields =
+      (codes "channel_id", Fixed 32) ∷
+      (codes "data", Sized) ∷ [];
+  known_even = [];
+  lengths = [];
+}
 
--- 18 ping: num_pong_bytes, ignored
 abbrev pub ping_form : Form
-ping_form = plain (Number 2 ∷ Sized ∷ [])
+ping_form = record {
+  typ = 18;
+  name = codes "ping";
+  fields =
+      (codes "num_pong_bytes", Number 2) ∷
+      (codes "ignored", Sized) ∷ [];
+  known_even = [];
+  lengths = [];
+}
 
--- 19 pong: ignored
 abbrev pub pong_form : Form
-pong_form = plain (Sized ∷ [])
+pong_form = record {
+  typ = 19;
+  name = codes "pong";
+  fields =
+      (codes "ignored", Sized) ∷ [];
+  known_even = [];
+  lengths = [];
+}
 
--- 32 open_channel: chain_hash, temporary_id, funding_satoshis, push_msat, dust_limit_satoshis,
--- max_htlc_value_in_flight_msat, channel_reserve_satoshis, htlc_minimum_msat, feerate_per_kw,
--- to_self_delay, max_accepted_htlcs, funding_pubkey, revocation_basepoint, payment_basepoint,
--- delayed_payment_basepoint, htlc_basepoint, first_per_commitment_point, channel_flags
 abbrev pub open_form : Form
-open_form = record { fields = Fixed 32 ∷ Fixed 32 ∷ Number 8 ∷ Number 8 ∷ Number 8 ∷ Number 8 ∷ Number 8 ∷ Number 8 ∷ Number 4 ∷ Number 2 ∷ Number 2 ∷ Fixed 33 ∷ Fixed 33 ∷ Fixed 33 ∷ Fixed 33 ∷ Fixed 33 ∷ Fixed 33 ∷ Number 1 ∷ []; known_even = 0 ∷ []; lengths = [] }
+open_form = record {
+  typ = 32;
+  name = codes "open_channel";
+  fields =
+      (codes "chain_hash", Fixed 32) ∷
+      (codes "temporary_id", Fixed 32) ∷
+      (codes "funding_satoshis", Number 8) ∷
+      (codes "push_msat", Number 8) ∷
+      (codes "dust_limit_satoshis", Number 8) ∷
+      (codes "max_htlc_value_in_flight_msat", Number 8) ∷
+      (codes "channel_reserve_satoshis", Number 8) ∷
+      (codes "htlc_minimum_msat", Number 8) ∷
+      (codes "feerate_per_kw", Number 4) ∷
+      (codes "to_self_delay", Number 2) ∷
+      (codes "max_accepted_htlcs", Number 2) ∷
+      (codes "funding_pubkey", Fixed 33) ∷
+      (codes "revocation_basepoint", Fixed 33) ∷
+      (codes "payment_basepoint", Fixed 33) ∷
+      (codes "delayed_payment_basepoint", Fixed 33) ∷
+      (codes "htlc_basepoint", Fixed 33) ∷
+      (codes "first_per_commitment_point", Fixed 33) ∷
+      (codes "channel_flags", Number 1) ∷ [];
+  known_even = 0 ∷ [];
+  lengths = [];
+}
 
--- 33 accept_channel: temporary_id, dust_limit_satoshis, max_htlc_value_in_flight_msat,
--- channel_reserve_satoshis, htlc_minimum_msat, minimum_depth, to_self_delay, max_accepted_htlcs,
--- funding_pubkey, revocation_basepoint, payment_basepoint, delayed_payment_basepoint, htlc_basepoint,
--- first_per_commitment_point
 abbrev pub accept_form : Form
-accept_form = record { fields = Fixed 32 ∷ Number 8 ∷ Number 8 ∷ Number 8 ∷ Number 8 ∷ Number 4 ∷ Number 2 ∷ Number 2 ∷ Fixed 33 ∷ Fixed 33 ∷ Fixed 33 ∷ Fixed 33 ∷ Fixed 33 ∷ Fixed 33 ∷ []; known_even = 0 ∷ []; lengths = [] }
+accept_form = record {
+  typ = 33;
+  name = codes "accept_channel";
+  fields =
+      (codes "temporary_id", Fixed 32) ∷
+      (codes "dust_limit_satoshis", Number 8) ∷
+      (codes "max_htlc_value_in_flight_msat", Number 8) ∷
+      (codes "channel_reserve_satoshis", Number 8) ∷
+      (codes "htlc_minimum_msat", Number 8) ∷
+      (codes "minimum_depth", Number 4) ∷
+      (codes "to_self_delay", Number 2) ∷
+      (codes "max_accepted_htlcs", Number 2) ∷
+      (codes "funding_pubkey", Fixed 33) ∷
+      (codes "revocation_basepoint", Fixed 33) ∷
+      (codes "payment_basepoint", Fixed 33) ∷
+      (codes "delayed_payment_basepoint", Fixed 33) ∷
+      (codes "htlc_basepoint", Fixed 33) ∷
+      (codes "first_per_commitment_point", Fixed 33) ∷ [];
+  known_even = 0 ∷ [];
+  lengths = [];
+}
 
--- 34 funding_created: temporary_id, funding_txid, output_index, signature
 abbrev pub funding_created_form : Form
-funding_created_form = plain (Fixed 32 ∷ Fixed 32 ∷ Number 2 ∷ Fixed 64 ∷ [])
+funding_created_form = record {
+  typ = 34;
+  name = codes "funding_created";
+  fields =
+      (codes "temporary_id", Fixed 32) ∷
+      (codes "funding_txid", Fixed 32) ∷
+      (codes "output_index", Number 2) ∷
+      (codes "signature", Fixed 64) ∷ [];
+  known_even = [];
+  lengths = [];
+}
 
--- 35 funding_signed: channel_id, signature
 abbrev pub funding_signed_form : Form
-funding_signed_form = plain (Fixed 32 ∷ Fixed 64 ∷ [])
+funding_signed_form = record {
+  typ = 35;
+  name = codes "funding_signed";
+  fields =
+      (codes "channel_id", Fixed 32) ∷
+      (codes "signature", Fixed 64) ∷ [];
+  known_even = [];
+  lengths = [];
+}
 
--- 36 channel_ready: channel_id, second_point
 abbrev pub channel_ready_form : Form
-channel_ready_form = record { fields = Fixed 32 ∷ Fixed 33 ∷ []; known_even = []; lengths = (1, 8) ∷ [] }
+channel_ready_form = record {
+  typ = 36;
+  name = codes "channel_ready";
+  fields =
+      (codes "channel_id", Fixed 32) ∷
+      (codes "second_point", Fixed 33) ∷ [];
+  known_even = [];
+  lengths = (1, 8) ∷ [];
+}
 
--- 38 shutdown: channel_id, script
 abbrev pub shutdown_form : Form
-shutdown_form = plain (Fixed 32 ∷ Sized ∷ [])
+shutdown_form = record {
+  typ = 38;
+  name = codes "shutdown";
+  fields =
+      (codes "channel_id", Fixed 32) ∷
+      (codes "script", Sized) ∷ [];
+  known_even = [];
+  lengths = [];
+}
 
--- 39 closing_signed: channel_id, fee_satoshis, signature
 abbrev pub closing_signed_form : Form
-closing_signed_form = record { fields = Fixed 32 ∷ Number 8 ∷ Fixed 64 ∷ []; known_even = []; lengths = (1, 16) ∷ [] }
+closing_signed_form = record {
+  typ = 39;
+  name = codes "closing_signed";
+  fields =
+      (codes "channel_id", Fixed 32) ∷
+      (codes "fee_satoshis", Number 8) ∷
+      (codes "signature", Fixed 64) ∷ [];
+  known_even = [];
+  lengths = (1, 16) ∷ [];
+}
 
--- 128 update_add_htlc: channel_id, id, amount_msat, payment_hash, cltv_expiry, onion
 abbrev pub add_form : Form
-add_form = plain (Fixed 32 ∷ Number 8 ∷ Number 8 ∷ Fixed 32 ∷ Number 4 ∷ Fixed 1366 ∷ [])
+add_form = record {
+  typ = 128;
+  name = codes "update_add_htlc";
+  fields =
+      (codes "channel_id", Fixed 32) ∷
+      (codes "id", Number 8) ∷
+      (codes "amount_msat", Number 8) ∷
+      (codes "payment_hash", Fixed 32) ∷
+      (codes "cltv_expiry", Number 4) ∷
+      (codes "onion", Fixed 1366) ∷ [];
+  known_even = [];
+  lengths = [];
+}
 
--- 130 update_fulfill_htlc: channel_id, id, preimage
 abbrev pub fulfill_form : Form
-fulfill_form = plain (Fixed 32 ∷ Number 8 ∷ Fixed 32 ∷ [])
+fulfill_form = record {
+  typ = 130;
+  name = codes "update_fulfill_htlc";
+  fields =
+      (codes "channel_id", Fixed 32) ∷
+      (codes "id", Number 8) ∷
+      (codes "preimage", Fixed 32) ∷ [];
+  known_even = [];
+  lengths = [];
+}
 
--- 131 update_fail_htlc: channel_id, id, reason
 abbrev pub fail_form : Form
-fail_form = plain (Fixed 32 ∷ Number 8 ∷ Sized ∷ [])
+fail_form = record {
+  typ = 131;
+  name = codes "update_fail_htlc";
+  fields =
+      (codes "channel_id", Fixed 32) ∷
+      (codes "id", Number 8) ∷
+      (codes "reason", Sized) ∷ [];
+  known_even = [];
+  lengths = [];
+}
 
--- 132 commitment_signed: channel_id, signature, htlc_signatures
 abbrev pub commitment_signed_form : Form
-commitment_signed_form = plain (Fixed 32 ∷ Fixed 64 ∷ Listed 64 ∷ [])
+commitment_signed_form = record {
+  typ = 132;
+  name = codes "commitment_signed";
+  fields =
+      (codes "channel_id", Fixed 32) ∷
+      (codes "signature", Fixed 64) ∷
+      (codes "htlc_signatures", Listed 64) ∷ [];
+  known_even = [];
+  lengths = [];
+}
 
--- 133 revoke_and_ack: channel_id, secret, next_point
 abbrev pub revoke_and_ack_form : Form
-revoke_and_ack_form = plain (Fixed 32 ∷ Fixed 32 ∷ Fixed 33 ∷ [])
+revoke_and_ack_form = record {
+  typ = 133;
+  name = codes "revoke_and_ack";
+  fields =
+      (codes "channel_id", Fixed 32) ∷
+      (codes "secret", Fixed 32) ∷
+      (codes "next_point", Fixed 33) ∷ [];
+  known_even = [];
+  lengths = [];
+}
 
--- 134 update_fee: channel_id, feerate_per_kw
 abbrev pub fee_form : Form
-fee_form = plain (Fixed 32 ∷ Number 4 ∷ [])
+fee_form = record {
+  typ = 134;
+  name = codes "update_fee";
+  fields =
+      (codes "channel_id", Fixed 32) ∷
+      (codes "feerate_per_kw", Number 4) ∷ [];
+  known_even = [];
+  lengths = [];
+}
 
--- 135 update_fail_malformed_htlc: channel_id, id, sha256_of_onion, failure_code
 abbrev pub malformed_form : Form
-malformed_form = plain (Fixed 32 ∷ Number 8 ∷ Fixed 32 ∷ Number 2 ∷ [])
+malformed_form = record {
+  typ = 135;
+  name = codes "update_fail_malformed_htlc";
+  fields =
+      (codes "channel_id", Fixed 32) ∷
+      (codes "id", Number 8) ∷
+      (codes "sha256_of_onion", Fixed 32) ∷
+      (codes "failure_code", Number 2) ∷ [];
+  known_even = [];
+  lengths = [];
+}
 
--- 136 channel_reestablish: channel_id, next_commitment_number, next_revocation_number, last_secret,
--- current_point
 abbrev pub channel_reestablish_form : Form
-channel_reestablish_form = plain (Fixed 32 ∷ Number 8 ∷ Number 8 ∷ Fixed 32 ∷ Fixed 33 ∷ [])
+channel_reestablish_form = record {
+  typ = 136;
+  name = codes "channel_reestablish";
+  fields =
+      (codes "channel_id", Fixed 32) ∷
+      (codes "next_commitment_number", Number 8) ∷
+      (codes "next_revocation_number", Number 8) ∷
+      (codes "last_secret", Fixed 32) ∷
+      (codes "current_point", Fixed 33) ∷ [];
+  known_even = [];
+  lengths = [];
+}
+
+-- all types of message that are known
+abbrev pub table : List Form
+table =
+    warning_form ∷
+    init_form ∷
+    error_form ∷
+    ping_form ∷
+    pong_form ∷
+    open_form ∷
+    accept_form ∷
+    funding_created_form ∷
+    funding_signed_form ∷
+    channel_ready_form ∷
+    shutdown_form ∷
+    closing_signed_form ∷
+    add_form ∷
+    fulfill_form ∷
+    fail_form ∷
+    commitment_signed_form ∷
+    revoke_and_ack_form ∷
+    fee_form ∷
+    malformed_form ∷
+    channel_reestablish_form ∷ []
+
+abbrev pub form_in : List Form → ℕ → Option Form
+form_in [] typ = None
+form_in (form ∷ forms) typ = if typ == form.typ then Some form else form_in forms typ
 
 -- the form of a type, where it is known
 abbrev pub form_of : ℕ → Option Form
-form_of typ =
-    if typ == 1 then Some warning_form
-    else (if typ == 16 then Some init_form
-    else (if typ == 17 then Some error_form
-    else (if typ == 18 then Some ping_form
-    else (if typ == 19 then Some pong_form
-    else (if typ == 32 then Some open_form
-    else (if typ == 33 then Some accept_form
-    else (if typ == 34 then Some funding_created_form
-    else (if typ == 35 then Some funding_signed_form
-    else (if typ == 36 then Some channel_ready_form
-    else (if typ == 38 then Some shutdown_form
-    else (if typ == 39 then Some closing_signed_form
-    else (if typ == 128 then Some add_form
-    else (if typ == 130 then Some fulfill_form
-    else (if typ == 131 then Some fail_form
-    else (if typ == 132 then Some commitment_signed_form
-    else (if typ == 133 then Some revoke_and_ack_form
-    else (if typ == 134 then Some fee_form
-    else (if typ == 135 then Some malformed_form
-    else (if typ == 136 then Some channel_reestablish_form
-    else None)))))))))))))))))))
+form_of typ = form_in table typ
+
+abbrev pub name_in : Option Form → List ℕ
+name_in None = []
+name_in (Some form) = form.name
+
+-- the name of a type; nothing for one that isn't known
+abbrev pub name_of : ℕ → List ℕ
+name_of typ = name_in (form_of typ)

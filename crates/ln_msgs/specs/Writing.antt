@@ -6,10 +6,10 @@ use Rattle.ln_bytes.specs.declared.fault.Fault.TheVariants.{TooLong, Memory}
 use Rattle.ln_bytes.specs.Endian.{big_bytes}
 use Rattle.ln_bytes.specs.Tlv.{MayStand, AreFit, stream_bytes}
 use Rattle.ln_bytes.specs.declared.record.Record.{Record}
-use Rattle.ln_msgs.specs.declared.item.Field.{Field}
+use Rattle.ln_msgs.specs.declared.item.Item.{Item}
 use Rattle.ln_msgs.specs.Field.{AreOf}
 use Rattle.ln_msgs.specs.Items.{items_bytes}
-use Rattle.ln_msgs.specs.Table.{Form, form_of}
+use Rattle.ln_msgs.specs.Table.{Form, kinds_of, form_of}
 use Rattle.ln_msgs.specs.Message.{Wire, wire_bytes, have_lengths}
 
 -- The records may stand behind the fields of this form: their types rise strictly, each even one is known,
@@ -27,13 +27,13 @@ abbrev pub CanBeWritten : Wire → Type 0
 CanBeWritten w = MayFollowForm (form_of w.typ) w.records
 
 -- a type, fields and records one after the other
-abbrev pub parts_bytes : ℕ → List Field → List Record → List ℕ
-parts_bytes typ fs rs = big_bytes 2 typ ++ items_bytes fs ++ stream_bytes rs
+abbrev pub parts_bytes : ℕ → List Item → List Record → List ℕ
+parts_bytes typ is rs = big_bytes 2 typ ++ items_bytes is ++ stream_bytes rs
 
 -- each field's value is one of its kind
 abbrev pub AreOfForm : Option Form → Wire → Type 0
 AreOfForm None w = ⊥
-AreOfForm (Some form) w = (w.typ < 65536) × AreOf form.fields w.values
+AreOfForm (Some form) w = (w.typ < 65536) × AreOf (kinds_of form) w.values
 
 -- what was answered where this message was to be written: its bytes, unless they are too many or memory ran
 -- out

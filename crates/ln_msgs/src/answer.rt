@@ -1,13 +1,13 @@
 //! The answerer of pings.
 
-ghost use Rattle.std.specs.Prelude.{◌≡◌, ◌≢◌, ◌^◌, ◌<◌, ◌≤◌, ◌⊎◌, length, drop, IfOk, IfSome, IfErr, IsErrOf};
+ghost use Rattle.std.specs.Prelude.{◌≡◌, ◌≢◌, ◌^◌, ◌+◌, ◌-◌, ◌<◌, ◌≤◌, ◌⊎◌, length, drop, IfOk, IfSome, IfErr, IsErrOf};
 ghost use Rattle.ln_bytes.specs.Reading.{Gives};
 ghost use Rattle.ln_msgs.specs.Answer.{owed_at, asked_at, other_asked_at};
 ghost use Rattle.ln_msgs.specs.Table.{ping_form, pong_form};
 ghost use Rattle.ln_msgs.specs.Served.{Serves, StopsAt};
 ghost use Rattle.ln_msgs.specs.Answered.{AnswersAll, AnswersUpTo, AnswersSome};
 ghost use Rattle.ln_msgs.specs.Counted.{HasRisen};
-ghost use Rattle.ln_msgs.specs.CountedView.{inner_of, failures_of};
+ghost use Rattle.ln_msgs.specs.CountedView.{inner_of, failures_of, calls_of};
 
 use crate::counted::Counted;
 use crate::decoding::read_payload;
@@ -37,6 +37,7 @@ fn serve(alloc: Global, bytes: &[u8], out: &mut Outgoing) -> (usize, Stop)
     ensures within { result.0 ≤ length bytes.now }
     ensures serves { Serves bytes.now (drop result.0 bytes.now) out.old out.new }
     ensures stops { StopsAt (drop result.0 bytes.now) result.1 }
+    ensures full { result.1 ≡ Stop.Full → 131072 ≤ length out.new.bytes }
 {
     let mut rest = bytes;
     'frames: while !out.is_full() {
@@ -61,12 +62,16 @@ fn serve(alloc: Global, bytes: &[u8], out: &mut Outgoing) -> (usize, Stop)
 /// fewer than 65,532 bytes is answered by the frame of a pong of that many zero bytes; other messages are read
 /// past. Answers how many pongs were written, 2^64 - 1 for more.
 ///
-/// Memory is taken once, whatever the length of the input. It reads and writes in large pieces, and has written
-/// and flushed every pong that is owed before each read, so that it serves a connection whose other end waits.
+/// It holds 262,144 bytes of input and 196,609 bytes of pongs at most, whatever the length of the input, and takes
+/// memory for both at its beginning. Reading a message that is no ping or pong takes memory for its byte strings,
+/// and reading any message for its records; it is given back before the next message. It reads and writes in large
+/// pieces, and has written and flushed every pong that is owed before each read, so that it serves a connection
+/// whose other end waits.
 ///
-/// Refuses the first message that can't be read, by its first fault (1 to 6), and an input that ends inside
+/// Refuses the first message that can't be read, by its first fault (1 to 6, or 8), and an input that ends inside
 /// a frame (1); all pongs owed before that are written. 60 where there is no memory, 63 where a read, a write
-/// or a flush failed: then a beginning of the pongs owed is written.
+/// or a flush failed: then a beginning of the pongs owed is written. 63 also where 2^64 - 1 calls of the reader and
+/// the writer were made.
 pub fn answer_pings<R: Read, W: Write>(
     alloc: Global,
     reader: &mut Counted<R>,
@@ -81,8 +86,8 @@ pub fn answer_pings<R: Read, W: Write>(
     // At any refusal a beginning is answered.
     ensures some { IfErr result (λ _. AnswersSome (R.remaining (inner_of reader.old)) (R.remaining (inner_of reader.new)) (W.contents (inner_of writer.old)) (W.contents (inner_of writer.new))) }
 
-    // 63 comes only where a call failed.
-    ensures cause { IsErrOf result Fault.Io → HasRisen (failures_of reader.old) (failures_of reader.new) ⊎ HasRisen (failures_of writer.old) (failures_of writer.new) }
+    // 63 comes only where a call failed, or where 2^64 - 1 calls were made.
+    ensures cause { IsErrOf result Fault.Io → HasRisen (failures_of reader.old) (failures_of reader.new) ⊎ HasRisen (failures_of writer.old) (failures_of writer.new) ⊎ (2 ^ 64 - 1 ≤ calls_of reader.new + calls_of writer.new) }
 {
     let mut input = Window::new(alloc)?;
     let mut out = Outgoing::new(alloc)?;
@@ -103,7 +108,6 @@ pub fn answer_pings<R: Read, W: Write>(
             }
         }
     }
-    reader.fail();
     Err(Fault::Io)
 }
 

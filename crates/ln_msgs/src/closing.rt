@@ -1,13 +1,14 @@
 //! Messages that close a channel.
 
 use crate::field::{array_at, bytes_at, u64_at};
-use crate::item::{Field, Item};
+use crate::item::Item;
+use crate::item_list::Items;
 use crate::records::{Records, have_length, records_at};
 use ln_bytes::{Bytes, Fault};
 use std::alloc::Global;
 
 /// Begins the close of a channel (BOLT 2, "Closing Initiation: `shutdown`").
-#[derive(Debug, Drop)]
+#[derive(Drop)]
 pub struct Shutdown {
     /// The channel.
     pub channel_id: [u8; 32],
@@ -18,7 +19,7 @@ pub struct Shutdown {
 }
 
 /// Proposes a closing fee, and signs for it (BOLT 2, "Closing Negotiation: `closing_signed`").
-#[derive(Debug, Drop)]
+#[derive(Drop)]
 pub struct ClosingSigned {
     /// The channel.
     pub channel_id: [u8; 32],
@@ -31,7 +32,7 @@ pub struct ClosingSigned {
 }
 
 ghost use Rattle.ln_bytes.specs.Reading.{Gives};
-ghost use Rattle.ln_msgs.specs.Items.{AreFieldsOf};
+ghost use Rattle.ln_msgs.specs.Items.{AreItemsOf};
 ghost use Rattle.ln_msgs.specs.Table.{shutdown_form, closing_signed_form};
 ghost use Rattle.ln_msgs.specs.Message.{Known, formed_at};
 ghost use Rattle.ln_msgs.specs.Typed.{shutdown_wire, closing_signed_wire};
@@ -70,41 +71,26 @@ pub(crate) fn read_closing_signed(alloc: Global, payload: &[u8]) -> Result<Closi
 }
 
 impl Shutdown {
-    /// The fields in their order.
-    pub(crate) fn fields(&self) -> [Field<'_>; 2]
-        ensures { AreFieldsOf shutdown_form (shutdown_wire self.now) result }
+    /// The values of the fields in their order.
+    pub(crate) fn items(&self) -> Items<'_>
+        ensures { AreItemsOf shutdown_form (shutdown_wire self.now) result }
     {
-        [
-            Field {
-                name: "channel_id",
-                value: Item::Fixed(&self.channel_id),
-            },
-            Field {
-                name: "script",
-                value: Item::Sized(self.script.as_slice()),
-            },
-        ]
+        Items::of(&[
+            Item::Fixed(&self.channel_id),
+            Item::Sized(self.script.as_slice()),
+        ])
     }
 }
 
 impl ClosingSigned {
-    /// The fields in their order.
-    pub(crate) fn fields(&self) -> [Field<'_>; 3]
-        ensures { AreFieldsOf closing_signed_form (closing_signed_wire self.now) result }
+    /// The values of the fields in their order.
+    pub(crate) fn items(&self) -> Items<'_>
+        ensures { AreItemsOf closing_signed_form (closing_signed_wire self.now) result }
     {
-        [
-            Field {
-                name: "channel_id",
-                value: Item::Fixed(&self.channel_id),
-            },
-            Field {
-                name: "fee_satoshis",
-                value: Item::U64(self.fee_satoshis),
-            },
-            Field {
-                name: "signature",
-                value: Item::Fixed(&self.signature),
-            },
-        ]
+        Items::of(&[
+            Item::Fixed(&self.channel_id),
+            Item::U64(self.fee_satoshis),
+            Item::Fixed(&self.signature),
+        ])
     }
 }

@@ -1,14 +1,15 @@
 //! Messages that commit to updates, revoke, and take a channel up again.
 
 use crate::field::{array_at, signatures_at, u64_at};
-use crate::item::{Field, Item};
+use crate::item::Item;
+use crate::item_list::Items;
 use crate::records::{Records, records_at};
 use crate::signatures::Signatures;
 use ln_bytes::Fault;
 use std::alloc::Global;
 
 /// Signs the other side's next commitment (BOLT 2, "Committing Updates So Far: `commitment_signed`").
-#[derive(Debug, Drop)]
+#[derive(Drop)]
 pub struct CommitmentSigned {
     /// The channel.
     pub channel_id: [u8; 32],
@@ -22,7 +23,7 @@ pub struct CommitmentSigned {
 
 /// Revokes the last commitment, and gives the point of the one after the next (BOLT 2, "Completing the
 /// Transition to the Updated State: `revoke_and_ack`").
-#[derive(Debug, Drop)]
+#[derive(Drop)]
 pub struct RevokeAndAck {
     /// The channel.
     pub channel_id: [u8; 32],
@@ -35,7 +36,7 @@ pub struct RevokeAndAck {
 }
 
 /// Tells how far the channel was when the connection broke (BOLT 2, "Message Retransmission").
-#[derive(Debug, Drop)]
+#[derive(Drop)]
 pub struct ChannelReestablish {
     /// The channel.
     pub channel_id: [u8; 32],
@@ -52,7 +53,7 @@ pub struct ChannelReestablish {
 }
 
 ghost use Rattle.ln_bytes.specs.Reading.{Gives};
-ghost use Rattle.ln_msgs.specs.Items.{AreFieldsOf};
+ghost use Rattle.ln_msgs.specs.Items.{AreItemsOf};
 ghost use Rattle.ln_msgs.specs.Table.{commitment_signed_form, revoke_and_ack_form, channel_reestablish_form};
 ghost use Rattle.ln_msgs.specs.Message.{Known, formed_at};
 ghost use Rattle.ln_msgs.specs.Typed.{commitment_signed_wire, revoke_and_ack_wire, channel_reestablish_wire};
@@ -116,75 +117,42 @@ pub(crate) fn read_channel_reestablish(
 }
 
 impl CommitmentSigned {
-    /// The fields in their order.
-    pub(crate) fn fields(&self) -> [Field<'_>; 3]
-        ensures { AreFieldsOf commitment_signed_form (commitment_signed_wire self.now) result }
+    /// The values of the fields in their order.
+    pub(crate) fn items(&self) -> Items<'_>
+        ensures { AreItemsOf commitment_signed_form (commitment_signed_wire self.now) result }
     {
-        [
-            Field {
-                name: "channel_id",
-                value: Item::Fixed(&self.channel_id),
-            },
-            Field {
-                name: "signature",
-                value: Item::Fixed(&self.signature),
-            },
-            Field {
-                name: "htlc_signatures",
-                value: Item::Listed(self.htlc_signatures.as_slice()),
-            },
-        ]
+        Items::of(&[
+            Item::Fixed(&self.channel_id),
+            Item::Fixed(&self.signature),
+            Item::Listed(self.htlc_signatures.as_slice()),
+        ])
     }
 }
 
 impl RevokeAndAck {
-    /// The fields in their order.
-    pub(crate) fn fields(&self) -> [Field<'_>; 3]
-        ensures { AreFieldsOf revoke_and_ack_form (revoke_and_ack_wire self.now) result }
+    /// The values of the fields in their order.
+    pub(crate) fn items(&self) -> Items<'_>
+        ensures { AreItemsOf revoke_and_ack_form (revoke_and_ack_wire self.now) result }
     {
-        [
-            Field {
-                name: "channel_id",
-                value: Item::Fixed(&self.channel_id),
-            },
-            Field {
-                name: "secret",
-                value: Item::Fixed(&self.secret),
-            },
-            Field {
-                name: "next_point",
-                value: Item::Fixed(&self.next_point),
-            },
-        ]
+        Items::of(&[
+            Item::Fixed(&self.channel_id),
+            Item::Fixed(&self.secret),
+            Item::Fixed(&self.next_point),
+        ])
     }
 }
 
 impl ChannelReestablish {
-    /// The fields in their order.
-    pub(crate) fn fields(&self) -> [Field<'_>; 5]
-        ensures { AreFieldsOf channel_reestablish_form (channel_reestablish_wire self.now) result }
+    /// The values of the fields in their order.
+    pub(crate) fn items(&self) -> Items<'_>
+        ensures { AreItemsOf channel_reestablish_form (channel_reestablish_wire self.now) result }
     {
-        [
-            Field {
-                name: "channel_id",
-                value: Item::Fixed(&self.channel_id),
-            },
-            Field {
-                name: "next_commitment_number",
-                value: Item::U64(self.next_commitment_number),
-            },
-            Field {
-                name: "next_revocation_number",
-                value: Item::U64(self.next_revocation_number),
-            },
-            Field {
-                name: "last_secret",
-                value: Item::Fixed(&self.last_secret),
-            },
-            Field {
-                name: "current_point",
-                value: Item::Fixed(&self.current_point),
-            },
-        ]
+        Items::of(&[
+            Item::Fixed(&self.channel_id),
+            Item::U64(self.next_commitment_number),
+            Item::U64(self.next_revocation_number),
+            Item::Fixed(&self.last_secret),
+            Item::Fixed(&self.current_point),
+        ])
     }
 }

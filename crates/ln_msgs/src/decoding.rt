@@ -26,12 +26,13 @@ use std::alloc::Global;
 /// What the bytes of a message say (BOLT 1, "Lightning Message Format"): a type in two bytes, the highest
 /// first, the fields of that type, and a TLV stream up to the end.
 ///
-/// Known are ping and pong. Ignored are odd types that aren't known, and the types 256 to 265. Takes memory
-/// for byte strings and records.
+/// Known are the twenty types that `Message` has. Ignored are odd types that aren't known, and the types 256 to 265.
+/// Takes memory for byte strings, signatures of HTLCs and records.
 ///
-/// Errors, the first one: 7 where the message has more than 65,535 bytes; 1 where the type or the fields pass
-/// the end; 6 where the type is even and not known; then 1 to 5 where the records can't be read
-/// (`read_tlvs`). 60 where there is no memory.
+/// Errors, the first one: 7 where the message has more than 65,535 bytes; 1 where the type passes the end; 6 where
+/// the type is even and not known; 1 where the fields pass the end; then 1 to 5 where the records can't be read
+/// (`read_tlvs`); 8 where a record's value hasn't the length that its type has in this message. 60 where there is no
+/// memory.
 pub fn decode(alloc: Global, bytes: &[u8]) -> Result<Incoming, Fault>
     // What is read is spelled so.
     ensures found { IfOk result (λ m. (length bytes.now < 65536) × Says (heard m) bytes.now) }

@@ -1,17 +1,17 @@
 //! The writer of one message.
 
-ghost use Rattle.std.specs.Prelude.{◌≡◌, ◌<◌, ◌≤◌, ◌+◌, ◌^◌, ◌⊎◌, ◌↔◌, ◌++◌, length, IfOk, IfErr, Some, IfSome, IfNone, OnOk, IsErrOf};
+ghost use Rattle.std.specs.Prelude.{◌≡◌, ◌<◌, ◌≤◌, ◌+◌, ◌^◌, ◌⊎◌, ◌↔◌, ◌++◌, length, IfOk, IfErr, IfSome, IfNone, OnOk, IsErrOf};
 ghost use Rattle.std.specs.List.{concat, AllByRecursion};
 ghost use Rattle.ln_bytes.specs.Endian.{big_bytes};
 ghost use Rattle.ln_bytes.specs.Tlv.{stream_bytes, AreFit};
 ghost use Rattle.ln_msgs.specs.Field.{IsOf};
-ghost use Rattle.ln_msgs.specs.Items.{kind_of, value_of, item_bytes, items_bytes, AreFieldsOf, AreProper};
+ghost use Rattle.ln_msgs.specs.Items.{kind_of, value_of, item_bytes, items_bytes, AreItemsBy, AreProper};
 ghost use Rattle.ln_msgs.specs.Message.{Wire, Known, Says, wire_bytes};
-ghost use Rattle.ln_msgs.specs.Table.{Form, form_of};
+ghost use Rattle.ln_msgs.specs.Table.{form_of};
 ghost use Rattle.ln_msgs.specs.Typed.{wire};
 ghost use Rattle.ln_msgs.specs.Writing.{CanBeWritten, IsWritten, parts_bytes};
 
-use crate::item::{Field, Item};
+use crate::item::Item;
 use crate::message::Message;
 use ln_bytes::{Fault, Record, append_tlvs, tlvs_len};
 use std::alloc::Global;
@@ -43,43 +43,22 @@ pub fn encode(alloc: Global, message: &Message) -> Result<Vec<u8>, Fault>
 fn encode_parts(alloc: Global, message: &Message) -> Result<Vec<u8>, Fault>
     ensures { IsWritten result (wire message.now) }
 {
-    match message {
-        Message::Warning(m) => encoded(alloc, 1, &m.fields(), m.records.as_slice()),
-        Message::Init(m) => encoded(alloc, 16, &m.fields(), m.records.as_slice()),
-        Message::Error(m) => encoded(alloc, 17, &m.fields(), m.records.as_slice()),
-        Message::Ping(m) => encoded(alloc, 18, &m.fields(), m.records.as_slice()),
-        Message::Pong(m) => encoded(alloc, 19, &m.fields(), m.records.as_slice()),
-        Message::OpenChannel(m) => encoded(alloc, 32, &m.fields(), m.records.as_slice()),
-        Message::AcceptChannel(m) => encoded(alloc, 33, &m.fields(), m.records.as_slice()),
-        Message::FundingCreated(m) => encoded(alloc, 34, &m.fields(), m.records.as_slice()),
-        Message::FundingSigned(m) => encoded(alloc, 35, &m.fields(), m.records.as_slice()),
-        Message::ChannelReady(m) => encoded(alloc, 36, &m.fields(), m.records.as_slice()),
-        Message::Shutdown(m) => encoded(alloc, 38, &m.fields(), m.records.as_slice()),
-        Message::ClosingSigned(m) => encoded(alloc, 39, &m.fields(), m.records.as_slice()),
-        Message::UpdateAddHtlc(m) => encoded(alloc, 128, &m.fields(), m.records.as_slice()),
-        Message::UpdateFulfillHtlc(m) => encoded(alloc, 130, &m.fields(), m.records.as_slice()),
-        Message::UpdateFailHtlc(m) => encoded(alloc, 131, &m.fields(), m.records.as_slice()),
-        Message::CommitmentSigned(m) => encoded(alloc, 132, &m.fields(), m.records.as_slice()),
-        Message::RevokeAndAck(m) => encoded(alloc, 133, &m.fields(), m.records.as_slice()),
-        Message::UpdateFee(m) => encoded(alloc, 134, &m.fields(), m.records.as_slice()),
-        Message::UpdateFailMalformedHtlc(m) => encoded(
-            alloc,
-            135,
-            &m.fields(),
-            m.records.as_slice(),
-        ),
-        Message::ChannelReestablish(m) => encoded(alloc, 136, &m.fields(), m.records.as_slice()),
-    }
+    encoded(
+        alloc,
+        message.typ(),
+        message.items().as_slice(),
+        message.records().as_slice(),
+    )
 }
 
 /// The type, the fields and the records one after the other.
 fn encoded(
     alloc: Global,
     typ: u16,
-    fields: &[Field<'_>],
+    fields: &[Item<'_>],
     records: &[Record],
 ) -> Result<Vec<u8>, Fault>
-    ensures { (form : Form) (w : Wire) → AreFieldsOf form w fields.now → form_of w.typ ≡ Some form → w.typ ≡ typ → w.records ≡ records.now → IsWritten result w }
+    ensures { (w : Wire) → AreItemsBy (form_of w.typ) w fields.now → w.typ ≡ typ → w.records ≡ records.now → IsWritten result w }
 {
     put_parts(alloc, typ, fields, records)
 }
@@ -87,7 +66,7 @@ fn encoded(
 fn put_parts(
     alloc: Global,
     typ: u16,
-    fields: &[Field<'_>],
+    fields: &[Item<'_>],
     records: &[Record],
 ) -> Result<Vec<u8>, Fault>
     ensures ok { IfOk result (λ v. (v.items ≡ parts_bytes typ fields.now records.now) × (length v.items < 65536) × AreFit records.now × AreProper fields.now) }
@@ -105,7 +84,7 @@ fn put_parts(
 }
 
 /// How many bytes the message is, or none where they are too many.
-fn parts_len(fields: &[Field<'_>], records: &[Record]) -> Option<usize>
+fn parts_len(fields: &[Item<'_>], records: &[Record]) -> Option<usize>
     ensures more { IfNone result (65535 < 2 + length (items_bytes fields.now) + length (stream_bytes records.now)) }
     ensures len { IfSome result (λ n. (n ≡ 2 + length (items_bytes fields.now) + length (stream_bytes records.now)) × (n ≤ 65535)) }
 {
@@ -115,13 +94,13 @@ fn parts_len(fields: &[Field<'_>], records: &[Record]) -> Option<usize>
 }
 
 /// How many bytes the fields are, or none where they are more than `most`.
-fn fields_len(fields: &[Field<'_>], most: usize) -> Option<usize>
+fn fields_len(fields: &[Item<'_>], most: usize) -> Option<usize>
     ensures more { IfNone result (most < length (items_bytes fields.now)) }
     ensures len { IfSome result (λ n. (n ≡ length (items_bytes fields.now)) × (n ≤ most)) }
 {
     let mut left = most;
     for field in fields {
-        let len = item_len(&field.value);
+        let len = item_len(field);
         if (left as u128) < len {
             return None;
         }
@@ -159,14 +138,14 @@ fn signatures_len(list: &[[u8; 64]]) -> u128
     64 * u128::from(count(list))
 }
 
-fn put_fields(out: &mut Vec<u8>, fields: &[Field<'_>]) -> Result<(), Fault>
+fn put_fields(out: &mut Vec<u8>, fields: &[Item<'_>]) -> Result<(), Fault>
     requires { length (items_bytes fields.now) < 65536 }
     ensures ok { OnOk result (out.new.items ≡ out.old.items ++ items_bytes fields.now) }
     ensures proper { OnOk result (AreProper fields.now) }
     ensures err { IfErr result (λ e. e ≡ Fault.Memory) }
 {
     for field in fields {
-        put_item(out, &field.value)?;
+        put_item(out, field)?;
     }
     Ok(())
 }

@@ -1,14 +1,10 @@
+//! Frames in pieces, and what else is said to a peer. Each row goes from bytes or numbers to a line of text.
+
 use super::*;
-use crate::seen::{error, ping, warning};
+use crate::tests::READY;
 use ln_bytes::{Bytes, Fault};
-use std::alloc::Global;
+use std::alloc::{AllocError, Global};
 use std::test::*;
-
-// A ping that asks for two bytes, a message of type 21, and a pong of no bytes, each in its frame.
-const STREAM: [u8; 18] = [0, 6, 0, 18, 0, 2, 0, 0, 0, 2, 0, 21, 0, 4, 0, 19, 0, 0];
-
-// A ping, and then a message of type 100, which is even and not known.
-const FAULTY: [u8; 12] = [0, 6, 0, 18, 0, 2, 0, 0, 0, 2, 0, 100];
 
 #[test]
 fn channel_ids(rt: HostRuntime) {
@@ -21,27 +17,30 @@ fn channel_ids(rt: HostRuntime) {
     assert_eq!(rt; channel_id(&[0; 32], 0x1234), expected);
 }
 
-fn init(alloc: Global, global_features: &[u8], features: &[u8]) -> Result<Init, Fail> {
-    Ok(Init {
-        global_features: Bytes::new(Vec::from_slice(alloc, global_features)?),
-        features: Bytes::new(Vec::from_slice(alloc, features)?),
-        records: Records::empty(alloc),
-    })
-}
-
 fn checked(
     alloc: Global,
     global_features: &[u8],
     features: &[u8],
     known: &[u16],
-) -> Result<Result<(), Fault>, Fail> {
-    let init = init(alloc, global_features, features)?;
-    Ok(check_init(&init, known))
+) -> Result<(), Fault> {
+    let init = Init {
+        global_features: Bytes::new(Vec::from_slice(alloc, global_features)?),
+        features: Bytes::new(Vec::from_slice(alloc, features)?),
+        records: Records::empty(alloc),
+    };
+    check_init(&init, known)
 }
 
 #[test]
-fn features(rt: HostRuntime) -> Result<(), Fail> {
+fn features(rt: HostRuntime) {
     let unknown = Err(Fault::UnknownFeature);
+    // bit 65534 is the last even one that a list can have; bits 65536 and 65537 are beyond it
+    let mut last = [0; 8192];
+    last[0] = 0x40;
+    let mut beyond = [0; 8193];
+    beyond[0] = 0x01;
+    let mut odd = [0; 8193];
+    odd[0] = 0x02;
     for (global_features, features, known, answer) in [
         // no bit, and an odd one
         ([].as_slice(), [].as_slice(), [].as_slice(), Ok(())),
@@ -56,243 +55,138 @@ fn features(rt: HostRuntime) -> Result<(), Fail> {
         (&[0x40], &[0x01, 0x00], &[8], unknown),
         (&[0x40], &[0x01, 0x00], &[6], unknown),
         (&[0x40], &[0x01, 0x00], &[65535, 8, 3, 6, 6], Ok(())),
+        (&[], &last, &[65534], Ok(())),
+        (&[], &last, &[65532], unknown),
+        (&beyond, &[], &[0, 65534], unknown),
+        (&[], &odd, &[], Ok(())),
     ] {
         assert_eq!(rt;
-            checked(rt.alloc(), global_features, features, known)?,
+            checked(rt.alloc(), global_features, features, known),
             answer
         );
     }
-    Ok(())
 }
 
-#[test]
-fn far_features(rt: HostRuntime) -> Result<(), Fail> {
-    let unknown = Err(Fault::UnknownFeature);
-    let mut features = vec![in rt.alloc(); 0; 8193]?;
-    // bit 65534 is the last even one that a list can have
-    features[1] = 0x40;
-    let last = &features[1..];
-    assert_eq!(rt; checked(rt.alloc(), &[], last, &[65534])?, Ok(()));
-    assert_eq!(rt; checked(rt.alloc(), &[], last, &[65532])?, unknown);
-
-    // bit 65536, and bit 65537
-    features[1] = 0;
-    features[0] = 0x01;
-    assert_eq!(rt; checked(rt.alloc(), &features, &[], &[0, 65534])?, unknown);
-    features[0] = 0x02;
-    assert_eq!(rt; checked(rt.alloc(), &[], &features, &[])?, Ok(()));
-    Ok(())
-}
-
-// Whether it is an error of this channel, with this text and no records.
-fn is_error(message: &Message, id: &[u8; 32], text: &str) -> bool {
-    match error(message) {
-        Some(error) => {
-            error.channel_id == *id
-                && error.bytes.as_slice() == text.as_bytes()
-                && error.records.as_slice().is_empty()
-        }
-        None => false,
-    }
-}
-
-// The same of a warning.
-fn is_warning(message: &Message, id: &[u8; 32], text: &str) -> bool {
-    match warning(message) {
-        Some(warning) => {
-            warning.channel_id == *id
-                && warning.bytes.as_slice() == text.as_bytes()
-                && warning.records.as_slice().is_empty()
-        }
-        None => false,
-    }
-}
-
-// Whether the peer is told of the refusal by an error with this text.
-fn is_told_by_error(alloc: Global, refusal: Refusal, text: &str) -> Result<bool, Fail> {
-    let id = [7; 32];
-    let reply = refusal.reply(alloc, &id)?;
-    let is_so = match &reply {
-        Some(message) => is_error(message, &id, text),
-        None => false,
-    };
-    drop(reply);
-    Ok(is_so)
-}
-
-fn is_told_by_warning(alloc: Global, refusal: Refusal, text: &str) -> Result<bool, Fail> {
-    let id = [7; 32];
-    let reply = refusal.reply(alloc, &id)?;
-    let is_so = match &reply {
-        Some(message) => is_warning(message, &id, text),
-        None => false,
-    };
-    drop(reply);
-    Ok(is_so)
-}
-
-fn is_silent(alloc: Global, refusal: Refusal) -> Result<bool, Fail> {
+// The type of the message by which the peer is told, and 0 for none.
+fn reply_type(alloc: Global, refusal: Refusal) -> Result<u16, Refusal> {
     let reply = refusal.reply(alloc, &[7; 32])?;
-    let is_so = reply.is_none();
+    let typ = match &reply {
+        Some(message) => message.typ(),
+        None => 0,
+    };
     drop(reply);
-    Ok(is_so)
+    Ok(typ)
 }
 
 #[test]
-fn replies(rt: HostRuntime) -> Result<(), Fail> {
-    for (refusal, text) in [
-        (Refusal::UnknownChannel, "refused 20"),
-        (Refusal::NotFunder, "refused 30"),
-        (Refusal::AddAfterShutdown, "refused 35"),
+fn replies(rt: HostRuntime) {
+    for (refusal, typ) in [
+        (Refusal::UnknownChannel, 17),
+        (Refusal::NotFunder, 17),
+        (Refusal::AddAfterShutdown, 17),
+        (Refusal::FeeOutside, 1),
+        (Refusal::Truncated, 0),
+        (Refusal::UnknownFeature, 0),
+        (Refusal::PeerError, 0),
+        (Refusal::NotReady, 0),
+        (Refusal::PeerLimit(21), 0),
+        (Refusal::Version, 0),
     ] {
-        assert!(rt; is_told_by_error(rt.alloc(), refusal, text)?, "{text}");
-    }
-    assert!(rt; is_told_by_warning(rt.alloc(), Refusal::FeeOutside, "refused 36")?);
-    Ok(())
-}
-
-#[test]
-fn no_replies(rt: HostRuntime) -> Result<(), Fail> {
-    for refusal in [
-        Refusal::Truncated,
-        Refusal::UnknownFeature,
-        Refusal::PeerError,
-        Refusal::NotReady,
-        Refusal::PeerLimit(21),
-        Refusal::Memory,
-        Refusal::Version,
-    ] {
-        assert!(rt; is_silent(rt.alloc(), refusal)?, "{refusal}");
-    }
-    Ok(())
-}
-
-// The type of a message, and 0 for one that isn't in these tests.
-fn type_of(incoming: &Incoming) -> u16 {
-    match incoming {
-        Incoming::Known(Message::Ping(_)) => 18,
-        Incoming::Known(Message::Pong(_)) => 19,
-        Incoming::Known(_) => 0,
-        Incoming::Ignored(typ) => *typ,
+        assert_eq!(rt; reply_type(rt.alloc(), refusal), Ok(typ));
     }
 }
 
-// Feeds a piece, and writes down the types of the messages that it gave.
-fn feed(
+// A ping that asks for two bytes, a message of type 21, and a pong of no bytes, each in its frame.
+const STREAM: [u8; 18] = [0, 6, 0, 18, 0, 2, 0, 0, 0, 2, 0, 21, 0, 4, 0, 19, 0, 0];
+
+// A ping, and then a message of type 100, which is even and not known.
+const FAULTY: [u8; 12] = [0, 6, 0, 18, 0, 2, 0, 0, 0, 2, 0, 100];
+
+// Writes down the types of the messages that a piece gave, or its fault.
+fn put_heard(
     framer: &mut Framer,
     alloc: Global,
     piece: &[u8],
-    types: &mut Vec<u16>,
-) -> Result<(), Fail> {
-    let messages = framer.feed(alloc, piece)?;
-    for message in &messages {
-        types.push(type_of(message))?;
-    }
-    Ok(())
-}
-
-// The types of the messages of the stream, which comes in three pieces.
-fn types_of_pieces(alloc: Global, pieces: [&[u8]; 3]) -> Result<Vec<u16>, Fail> {
-    let mut framer = Framer::new(alloc);
+    out: &mut String,
+) -> Result<(), AllocError> {
+    let heard = framer.feed(alloc, piece);
     let mut types = Vec::new(alloc);
-    for piece in pieces {
-        feed(&mut framer, alloc, piece, &mut types)?;
-    }
-    Ok(types)
-}
-
-#[test]
-fn a_stream_cut_anywhere(rt: HostRuntime) -> Result<(), Fail> {
-    for first in 0..19 {
-        for second in first..19 {
-            let pieces = [&STREAM[..first], &STREAM[first..second], &STREAM[second..]];
-            let types = types_of_pieces(rt.alloc(), pieces)?;
-            assert_eq!(rt; types.as_slice(), [18, 21, 19].as_slice());
+    let fault = match &heard {
+        Ok(messages) => {
+            for message in messages {
+                types.push(match message {
+                    Incoming::Known(message) => message.typ(),
+                    Incoming::Ignored(typ) => *typ,
+                })?;
+            }
+            None
         }
-    }
-    Ok(())
-}
-
-#[test]
-fn one_byte_at_a_time(rt: HostRuntime) -> Result<(), Fail> {
-    let mut framer = Framer::new(rt.alloc());
-    let mut types = Vec::new(rt.alloc());
-    for (index, byte) in STREAM.iter().enumerate() {
-        // the frames end with the bytes 7, 11 and 17
-        let whole = match index {
-            0..7 => 0,
-            7..11 => 1,
-            11..17 => 2,
-            _ => 3,
-        };
-        feed(&mut framer, rt.alloc(), &[*byte], &mut types)?;
-        assert_eq!(rt; types.len(), whole);
-    }
-    assert_eq!(rt; types.as_slice(), [18, 21, 19].as_slice());
-    Ok(())
-}
-
-#[test]
-fn what_a_message_carries(rt: HostRuntime) -> Result<(), Fail> {
-    let mut framer = Framer::new(rt.alloc());
-    assert!(rt; framer.feed(rt.alloc(), &[0, 9, 0, 18, 1])?.is_empty());
-    let messages = framer.feed(rt.alloc(), &[2, 0, 3, 7, 8, 9, 0])?;
-    assert_eq!(rt; messages.len(), 1);
-    let Some(ping) = ping(&messages[0]) else {
-        return Err("not a ping".into());
+        Err(fault) => Some(*fault),
     };
-    assert_eq!(rt; ping.num_pong_bytes, 0x0102);
-    assert_eq!(rt; ping.ignored.as_slice(), [7, 8, 9].as_slice());
-    Ok(())
-}
-
-#[test]
-fn messages_before_a_fault(rt: HostRuntime) -> Result<(), Fail> {
-    let mut framer = Framer::new(rt.alloc());
-    let mut types = Vec::new(rt.alloc());
-    feed(&mut framer, rt.alloc(), &FAULTY, &mut types)?;
-    assert_eq!(rt; types.as_slice(), [18].as_slice());
-    for piece in [[].as_slice(), STREAM.as_slice(), &[0, 0]] {
-        let Err(fault) = framer.feed(rt.alloc(), piece) else {
-            return Err("it went on".into());
-        };
-        assert_eq!(rt; fault, Fault::UnknownEvenType);
+    drop(heard);
+    for typ in &types {
+        out.push_str(format!(in alloc; "{typ} ")?.as_str())?;
     }
-    Ok(())
-}
-
-#[test]
-fn a_fault_with_no_message_before_it(rt: HostRuntime) -> Result<(), Fail> {
-    let mut framer = Framer::new(rt.alloc());
-    let mut types = Vec::new(rt.alloc());
-    feed(&mut framer, rt.alloc(), &FAULTY[..11], &mut types)?;
-    assert_eq!(rt; types.as_slice(), [18].as_slice());
-    for piece in [[100].as_slice(), STREAM.as_slice()] {
-        let Err(fault) = framer.feed(rt.alloc(), piece) else {
-            return Err("it went on".into());
-        };
-        assert_eq!(rt; fault, Fault::UnknownEvenType);
+    if let Some(fault) = fault {
+        out.push_str(format!(in alloc; "{fault} ")?.as_str())?;
     }
-    Ok(())
+    out.push_str("| ")
 }
 
+// The bytes up to a place, and those from it on.
+fn cut(bytes: &[u8], at: usize) -> (&[u8], &[u8]) {
+    if at < bytes.len() {
+        bytes.split_at(at)
+    } else {
+        (bytes, &[])
+    }
+}
+
+// What was heard at each of three pieces, which are cut at these places.
+fn pieces_heard(
+    alloc: Global,
+    bytes: &[u8],
+    first: usize,
+    second: usize,
+) -> Result<String, AllocError> {
+    let mut framer = Framer::new(alloc);
+    let mut out = String::new(alloc);
+    let (one, rest) = cut(bytes, first);
+    let (two, three) = cut(rest, second);
+    put_heard(&mut framer, alloc, one, &mut out)?;
+    put_heard(&mut framer, alloc, two, &mut out)?;
+    put_heard(&mut framer, alloc, three, &mut out)?;
+    Ok(out)
+}
+
+// A stream, how many bytes its first and its second piece have, and what is heard at each.
+const PIECES: [(&[u8], usize, usize, &str); 9] = [
+    (&STREAM, 18, 0, "18 21 19 | | | "),
+    (&STREAM, 1, 6, "| | 18 21 19 | "),
+    (&STREAM, 8, 9, "18 | 21 | 19 | "),
+    // messages before a fault, and the fault from then on
+    (&FAULTY, 12, 0, "18 | refused 6 | refused 6 | "),
+    (&FAULTY, 11, 1, "18 | refused 6 | refused 6 | "),
+    // messages of no byte and of one, and a ping that ends in its fields
+    (&[0, 0, 0], 2, 1, "refused 1 | refused 1 | refused 1 | "),
+    (&[0, 3, 0, 18, 0], 3, 2, "| refused 1 | refused 1 | "),
+    // a record of an even type, and one of another length
+    (
+        &[0, 8, 0, 18, 0, 0, 0, 0, 2, 0],
+        9,
+        1,
+        "| refused 4 | refused 4 | ",
+    ),
+    (&READY, 71, 1, "| refused 8 | refused 8 | "),
+];
+
 #[test]
-fn faults_of_frames(rt: HostRuntime) -> Result<(), Fail> {
-    for (stream, fault) in [
-        // messages of no byte and of one, and a ping that ends in its fields
-        ([0, 0].as_slice(), Fault::Truncated),
-        (&[0, 1, 0], Fault::Truncated),
-        (&[0, 3, 0, 18, 0], Fault::Truncated),
-        // a record of an even type
-        (&[0, 8, 0, 18, 0, 0, 0, 0, 2, 0], Fault::TlvUnknownEven),
-        // an even type that isn't known
-        (&[0, 2, 0, 100], Fault::UnknownEvenType),
-    ] {
-        let mut framer = Framer::new(rt.alloc());
-        let Err(found) = framer.feed(rt.alloc(), stream) else {
-            return Err("no fault".into());
-        };
-        assert_eq!(rt; found, fault);
+fn pieces(rt: HostRuntime) -> Result<(), Fail> {
+    for (stream, first, second, want) in PIECES {
+        assert_eq!(rt;
+            pieces_heard(rt.alloc(), stream, first, second)?.as_str(),
+            want
+        );
     }
     Ok(())
 }

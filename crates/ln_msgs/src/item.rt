@@ -1,7 +1,7 @@
 //! The fields of a message one by one, as they are written and shown.
 
 /// A field of a message: its name in the standard, and its value.
-#[derive(Clone, Copy, Debug)]
+#[derive(Clone, Copy)]
 pub struct Field<'a> {
     /// The name.
     pub name: &'static str,
@@ -11,7 +11,7 @@ pub struct Field<'a> {
 
 /// The value of a field, by its kind on the wire (BOLT 1, "Fundamental Types"). Numbers are written with the
 /// highest byte first.
-#[derive(Clone, Copy, Debug)]
+#[derive(Clone, Copy)]
 pub enum Item<'a> {
     /// One byte.
     U8(u8),

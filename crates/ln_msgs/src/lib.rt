@@ -12,9 +12,11 @@ mod encoding;
 mod features;
 mod field;
 mod fitting;
+mod form;
 mod frame;
 mod framer;
 mod item;
+mod item_list;
 mod message;
 mod opening;
 mod outgoing;
@@ -52,8 +54,6 @@ pub use updates::{
 mod frame_tests;
 #[cfg(test)]
 mod message_tests;
-#[cfg(test)]
-mod seen;
 #[cfg(test)]
 mod small_tests;
 #[cfg(test)]

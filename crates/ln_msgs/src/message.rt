@@ -2,7 +2,10 @@
 
 use crate::closing::{ClosingSigned, Shutdown};
 use crate::commitments::{ChannelReestablish, CommitmentSigned, RevokeAndAck};
-use crate::item::Field;
+use crate::form;
+use crate::form::Form;
+use crate::item::{Field, Item};
+use crate::item_list::Items;
 use crate::opening::{AcceptChannel, ChannelReady, FundingCreated, FundingSigned, OpenChannel};
 use crate::records::Records;
 use crate::setup::{Error, Init, Ping, Pong, Warning};
@@ -10,10 +13,42 @@ use crate::updates::{
     UpdateAddHtlc, UpdateFailHtlc, UpdateFailMalformedHtlc, UpdateFee, UpdateFulfillHtlc,
 };
 use std::alloc::{AllocError, Global};
+use std::fmt;
+use std::fmt::{Debug, Formatter};
+
+/// The same for each type of message: an expression in its value, here `$m`.
+macro_rules! for_each_message {
+    ($message:expr, $m:ident => $result:expr) => {
+        match $message {
+            Message::Warning($m) => $result,
+            Message::Init($m) => $result,
+            Message::Error($m) => $result,
+            Message::Ping($m) => $result,
+            Message::Pong($m) => $result,
+            Message::OpenChannel($m) => $result,
+            Message::AcceptChannel($m) => $result,
+            Message::FundingCreated($m) => $result,
+            Message::FundingSigned($m) => $result,
+            Message::ChannelReady($m) => $result,
+            Message::Shutdown($m) => $result,
+            Message::ClosingSigned($m) => $result,
+            Message::UpdateAddHtlc($m) => $result,
+            Message::UpdateFulfillHtlc($m) => $result,
+            Message::UpdateFailHtlc($m) => $result,
+            Message::CommitmentSigned($m) => $result,
+            Message::RevokeAndAck($m) => $result,
+            Message::UpdateFee($m) => $result,
+            Message::UpdateFailMalformedHtlc($m) => $result,
+            Message::ChannelReestablish($m) => $result,
+        }
+    };
+}
+
+ghost use Rattle.std.specs.Prelude.{◌≡◌, length, map, IfOk};
 
 /// A message of a known type (BOLT 1, "Lightning Message Format"). Behind its fields each carries the records
 /// of its TLV stream, also those of odd types that nobody knows.
-#[derive(Debug, Drop)]
+#[derive(Drop)]
 pub enum Message {
     /// Type 1.
     Warning(Warning),
@@ -58,7 +93,7 @@ pub enum Message {
 }
 
 /// What a message's bytes are.
-#[derive(Debug, Drop)]
+#[derive(Drop)]
 pub enum Incoming {
     /// A message of a known type.
     Known(Message),
@@ -66,121 +101,99 @@ pub enum Incoming {
     Ignored(u16),
 }
 
+/// The name of the type.
+impl Debug for Message {
+    fn fmt<W: fmt::Write>(&self, f: &mut Formatter<W>) -> fmt::Result {
+        f.write_str(self.name())
+    }
+}
+
 impl Message {
-    ghost use Rattle.std.specs.Prelude.{◌≡◌, IfOk};
+    ghost use Rattle.std.specs.Prelude.{◌≡◌, IfOk, Some};
     ghost use Rattle.ln_msgs.specs.Typed.{wire};
-    ghost use Rattle.ln_msgs.specs.Items.{IsShownAs};
-    ghost use Rattle.ln_msgs.specs.Names.{name_of};
+    ghost use Rattle.ln_msgs.specs.Items.{IsShownAs, AreItemsBy};
+    ghost use Rattle.ln_msgs.specs.Forms.{IsFormBy};
+    ghost use Rattle.ln_msgs.specs.Table.{form_of, name_of};
 
     /// The type (BOLT 1, "Lightning Message Format"). Takes no memory.
     pub fn typ(&self) -> u16
         ensures { result ≡ (wire self.now).typ }
     {
-        match self {
-            Message::Warning(_) => 1,
-            Message::Init(_) => 16,
-            Message::Error(_) => 17,
-            Message::Ping(_) => 18,
-            Message::Pong(_) => 19,
-            Message::OpenChannel(_) => 32,
-            Message::AcceptChannel(_) => 33,
-            Message::FundingCreated(_) => 34,
-            Message::FundingSigned(_) => 35,
-            Message::ChannelReady(_) => 36,
-            Message::Shutdown(_) => 38,
-            Message::ClosingSigned(_) => 39,
-            Message::UpdateAddHtlc(_) => 128,
-            Message::UpdateFulfillHtlc(_) => 130,
-            Message::UpdateFailHtlc(_) => 131,
-            Message::CommitmentSigned(_) => 132,
-            Message::RevokeAndAck(_) => 133,
-            Message::UpdateFee(_) => 134,
-            Message::UpdateFailMalformedHtlc(_) => 135,
-            Message::ChannelReestablish(_) => 136,
-        }
+        self.form().typ
     }
 
     /// The name of the type in the standard. Takes no memory.
     pub fn name(&self) -> &'static str
         ensures { result.now ≡ name_of (wire self.now).typ }
     {
-        match self {
-            Message::Warning(_) => "warning",
-            Message::Init(_) => "init",
-            Message::Error(_) => "error",
-            Message::Ping(_) => "ping",
-            Message::Pong(_) => "pong",
-            Message::OpenChannel(_) => "open_channel",
-            Message::AcceptChannel(_) => "accept_channel",
-            Message::FundingCreated(_) => "funding_created",
-            Message::FundingSigned(_) => "funding_signed",
-            Message::ChannelReady(_) => "channel_ready",
-            Message::Shutdown(_) => "shutdown",
-            Message::ClosingSigned(_) => "closing_signed",
-            Message::UpdateAddHtlc(_) => "update_add_htlc",
-            Message::UpdateFulfillHtlc(_) => "update_fulfill_htlc",
-            Message::UpdateFailHtlc(_) => "update_fail_htlc",
-            Message::CommitmentSigned(_) => "commitment_signed",
-            Message::RevokeAndAck(_) => "revoke_and_ack",
-            Message::UpdateFee(_) => "update_fee",
-            Message::UpdateFailMalformedHtlc(_) => "update_fail_malformed_htlc",
-            Message::ChannelReestablish(_) => "channel_reestablish",
-        }
+        self.form().name
     }
 
     /// The fields in their order, with their names. Takes memory for the list.
     pub fn fields(&self, alloc: Global) -> Result<Vec<Field<'_>>, AllocError>
         ensures { IfOk result (λ fs. IsShownAs (wire self.now) fs.items) }
     {
-        match self {
-            Message::Warning(m) => Vec::from_slice(alloc, &m.fields()),
-            Message::Init(m) => Vec::from_slice(alloc, &m.fields()),
-            Message::Error(m) => Vec::from_slice(alloc, &m.fields()),
-            Message::Ping(m) => Vec::from_slice(alloc, &m.fields()),
-            Message::Pong(m) => Vec::from_slice(alloc, &m.fields()),
-            Message::OpenChannel(m) => Vec::from_slice(alloc, &m.fields()),
-            Message::AcceptChannel(m) => Vec::from_slice(alloc, &m.fields()),
-            Message::FundingCreated(m) => Vec::from_slice(alloc, &m.fields()),
-            Message::FundingSigned(m) => Vec::from_slice(alloc, &m.fields()),
-            Message::ChannelReady(m) => Vec::from_slice(alloc, &m.fields()),
-            Message::Shutdown(m) => Vec::from_slice(alloc, &m.fields()),
-            Message::ClosingSigned(m) => Vec::from_slice(alloc, &m.fields()),
-            Message::UpdateAddHtlc(m) => Vec::from_slice(alloc, &m.fields()),
-            Message::UpdateFulfillHtlc(m) => Vec::from_slice(alloc, &m.fields()),
-            Message::UpdateFailHtlc(m) => Vec::from_slice(alloc, &m.fields()),
-            Message::CommitmentSigned(m) => Vec::from_slice(alloc, &m.fields()),
-            Message::RevokeAndAck(m) => Vec::from_slice(alloc, &m.fields()),
-            Message::UpdateFee(m) => Vec::from_slice(alloc, &m.fields()),
-            Message::UpdateFailMalformedHtlc(m) => Vec::from_slice(alloc, &m.fields()),
-            Message::ChannelReestablish(m) => Vec::from_slice(alloc, &m.fields()),
-        }
+        named(alloc, self.form().fields, self.items().as_slice())
     }
 
     /// The records behind the fields. Takes no memory.
     pub fn records(&self) -> &Records
         ensures { result.now ≡ (wire self.now).records }
     {
+        for_each_message!(self, m => &m.records)
+    }
+
+    /// What the message's type has.
+    pub(crate) fn form(&self) -> Form
+        ensures { IsFormBy (form_of (wire self.now).typ) result (wire self.now).typ }
+    {
         match self {
-            Message::Warning(m) => &m.records,
-            Message::Init(m) => &m.records,
-            Message::Error(m) => &m.records,
-            Message::Ping(m) => &m.records,
-            Message::Pong(m) => &m.records,
-            Message::OpenChannel(m) => &m.records,
-            Message::AcceptChannel(m) => &m.records,
-            Message::FundingCreated(m) => &m.records,
-            Message::FundingSigned(m) => &m.records,
-            Message::ChannelReady(m) => &m.records,
-            Message::Shutdown(m) => &m.records,
-            Message::ClosingSigned(m) => &m.records,
-            Message::UpdateAddHtlc(m) => &m.records,
-            Message::UpdateFulfillHtlc(m) => &m.records,
-            Message::UpdateFailHtlc(m) => &m.records,
-            Message::CommitmentSigned(m) => &m.records,
-            Message::RevokeAndAck(m) => &m.records,
-            Message::UpdateFee(m) => &m.records,
-            Message::UpdateFailMalformedHtlc(m) => &m.records,
-            Message::ChannelReestablish(m) => &m.records,
+            Message::Warning(_) => form::WARNING,
+            Message::Init(_) => form::INIT,
+            Message::Error(_) => form::ERROR,
+            Message::Ping(_) => form::PING,
+            Message::Pong(_) => form::PONG,
+            Message::OpenChannel(_) => form::OPEN_CHANNEL,
+            Message::AcceptChannel(_) => form::ACCEPT_CHANNEL,
+            Message::FundingCreated(_) => form::FUNDING_CREATED,
+            Message::FundingSigned(_) => form::FUNDING_SIGNED,
+            Message::ChannelReady(_) => form::CHANNEL_READY,
+            Message::Shutdown(_) => form::SHUTDOWN,
+            Message::ClosingSigned(_) => form::CLOSING_SIGNED,
+            Message::UpdateAddHtlc(_) => form::UPDATE_ADD_HTLC,
+            Message::UpdateFulfillHtlc(_) => form::UPDATE_FULFILL_HTLC,
+            Message::UpdateFailHtlc(_) => form::UPDATE_FAIL_HTLC,
+            Message::CommitmentSigned(_) => form::COMMITMENT_SIGNED,
+            Message::RevokeAndAck(_) => form::REVOKE_AND_ACK,
+            Message::UpdateFee(_) => form::UPDATE_FEE,
+            Message::UpdateFailMalformedHtlc(_) => form::UPDATE_FAIL_MALFORMED_HTLC,
+            Message::ChannelReestablish(_) => form::CHANNEL_REESTABLISH,
         }
     }
+
+    /// The values of the fields in their order.
+    pub(crate) fn items(&self) -> Items<'_>
+        ensures { AreItemsBy (form_of (wire self.now).typ) (wire self.now) result }
+    {
+        for_each_message!(self, m => m.items())
+    }
+}
+
+/// The values with their names. Takes memory for the list, once.
+fn named<'a>(
+    alloc: Global,
+    names: &[&'static str],
+    items: &[Item<'a>],
+) -> Result<Vec<Field<'a>>, AllocError>
+    ensures names { IfOk result (λ fs. length names.now ≡ length items.now → map (λ f. f.name.now) fs.items ≡ map (λ n. n.now) names.now) }
+    ensures values { IfOk result (λ fs. length names.now ≡ length items.now → map (λ f. f.value) fs.items ≡ items.now) }
+{
+    let mut fields = Vec::with_capacity(alloc, items.len())?;
+    for (name, value) in names.iter().zip(items) {
+        fields.push(Field {
+            name: *name,
+            value: *value,
+        })?;
+    }
+    Ok(fields)
 }

@@ -1,253 +1,207 @@
-//! Messages against their bytes.
-//!
-//! A helper drops a message by `drop`, since a message that goes out of scope makes a long proof.
+//! Messages against their bytes. Each row goes from bytes to a line of text.
 
 use super::*;
-use crate::seen::{commitment_signed, ignored, known, update_add_htlc};
-use ln_bytes::{Bytes, Fault};
-use std::alloc::Global;
+use ln_bytes::{Bytes, Fault, Record};
+use std::alloc::{AllocError, Global};
 use std::test::*;
 
-// The type of each message and how many bytes its fields have where every byte string and list is empty.
-const FIELDS: [(u16, usize); 20] = [
-    (1, 34),
-    (16, 4),
-    (17, 34),
-    (18, 4),
-    (19, 2),
-    (32, 319),
-    (33, 270),
-    (34, 130),
-    (35, 96),
-    (36, 65),
-    (38, 34),
-    (39, 104),
-    (128, 1450),
-    (130, 72),
-    (131, 42),
-    (132, 98),
-    (133, 97),
-    (134, 36),
-    (135, 74),
-    (136, 113),
+// The name of each type and how many bytes its fields have where every byte string and list is empty.
+const FIELDS: [(u16, usize, &str); 20] = [
+    (1, 34, "warning"),
+    (16, 4, "init"),
+    (17, 34, "error"),
+    (18, 4, "ping"),
+    (19, 2, "pong"),
+    (32, 319, "open_channel"),
+    (33, 270, "accept_channel"),
+    (34, 130, "funding_created"),
+    (35, 96, "funding_signed"),
+    (36, 65, "channel_ready"),
+    (38, 34, "shutdown"),
+    (39, 104, "closing_signed"),
+    (128, 1450, "update_add_htlc"),
+    (130, 72, "update_fulfill_htlc"),
+    (131, 42, "update_fail_htlc"),
+    (132, 98, "commitment_signed"),
+    (133, 97, "revoke_and_ack"),
+    (134, 36, "update_fee"),
+    (135, 74, "update_fail_malformed_htlc"),
+    (136, 113, "channel_reestablish"),
 ];
 
-// A message of this type whose other bytes are all zero.
-fn zeros(alloc: Global, typ: u16, len: usize) -> Result<Vec<u8>, Fail> {
+// What is behind so many zero bytes of fields, and what is said of it: the records, types that are not known, and
+// the order in which faults are told.
+const TAILS: [(u16, usize, &[u8], &str); 22] = [
+    // BOLT 1, "Appendix C: Message Extension"
+    (16, 4, &[0xc9, 1, 0x2a, 0xcb, 1, 4], "init"),
+    (16, 4, &[1], "refused 1"),
+    (16, 4, &[0xca, 1, 0x2a], "refused 4"),
+    (16, 4, &[0xc9, 1, 1, 0xc9, 1, 2], "refused 3"),
+    // an alias and a fee range, and others of another length
+    (36, 65, &[1, 8, 0, 0, 1, 0, 0, 2, 0, 3], "channel_ready"),
+    (36, 65, &[1, 1, 0xff], "refused 8"),
+    (36, 65, &[1, 1, 0xff, 2, 0], "refused 4"),
+    (36, 65, &[3, 1, 0xff], "channel_ready"),
+    (
+        39,
+        104,
+        &[1, 16, 0, 0, 0, 0, 0, 0, 0, 1, 0, 0, 0, 0, 0, 0, 0, 2],
+        "closing_signed",
+    ),
+    (39, 104, &[1, 8, 0, 0, 0, 0, 0, 0, 0, 1], "refused 8"),
+    // an even type that is known in two messages alone
+    (32, 319, &[0, 2, 7, 7, 1, 1, 0x10], "open_channel"),
+    (33, 270, &[0, 0], "accept_channel"),
+    (32, 319, &[2, 0], "refused 4"),
+    (35, 96, &[0, 0], "refused 4"),
+    // odd types and 256 to 265 are read past, other types are refused
+    (21, 0, &[], "ignored"),
+    (256, 0, &[], "ignored"),
+    (264, 0, &[2], "ignored"),
+    (100, 0, &[], "refused 6"),
+    (266, 0, &[], "refused 6"),
+    (2, 0, &[], "refused 6"),
+    // 65,535 bytes and one more, which is told before an even type
+    (21, 65_533, &[], "ignored"),
+    (100, 65_534, &[], "refused 7"),
+];
+
+// A message of this type, with so many zero bytes and then these.
+fn bytes_of(alloc: Global, typ: u16, zeros: usize, tail: &[u8]) -> Result<Vec<u8>, AllocError> {
     let mut bytes = Vec::from_slice(alloc, &typ.to_be_bytes())?;
-    bytes.resize(len.saturating_add(2), 0)?;
+    bytes.resize(zeros.saturating_add(2), 0)?;
+    bytes.extend_from_slice(tail)?;
     Ok(bytes)
 }
 
-fn fault(alloc: Global, bytes: &[u8]) -> Option<Fault> {
-    let decoded = decode(alloc, bytes);
-    let fault = match &decoded {
-        Ok(_) => None,
-        Err(fault) => Some(*fault),
-    };
-    drop(decoded);
-    fault
-}
-
-fn is_ignored(alloc: Global, bytes: &[u8], typ: u16) -> bool {
-    let decoded = decode(alloc, bytes);
-    let is_so = match &decoded {
-        Ok(incoming) => ignored(incoming) == Some(typ),
+// Whether the message is written as these bytes.
+fn is_written_as(alloc: Global, message: &Message, bytes: &[u8]) -> bool {
+    if !fits(message) {
+        return false;
+    }
+    let written = encode(alloc, message);
+    let same = match &written {
+        Ok(again) => again.as_slice() == bytes,
         Err(_) => false,
     };
-    drop(decoded);
-    is_so
+    drop(written);
+    same
 }
 
-// Whether it is a message of this type that is written as these bytes.
-fn is_written(alloc: Global, incoming: &Incoming, bytes: &[u8], typ: u16) -> Result<bool, Fail> {
-    let Some(message) = known(incoming) else {
-        return Ok(false);
+// What the bytes say: of a known type its name, where the message is written as these bytes again.
+fn told(alloc: Global, bytes: &[u8]) -> Result<String, AllocError> {
+    let decoded = decode(alloc, bytes);
+    let text = match &decoded {
+        Ok(Incoming::Known(message)) => {
+            if is_written_as(alloc, message, bytes) {
+                String::from_str(alloc, message.name())
+            } else {
+                String::from_str(alloc, "written otherwise")
+            }
+        }
+        Ok(Incoming::Ignored(_)) => String::from_str(alloc, "ignored"),
+        Err(fault) => format!(in alloc; "{fault}"),
     };
-    if message.typ() != typ || !fits(message) {
-        return Ok(false);
-    }
-    let again = encode(alloc, message)?;
-    Ok(again.as_slice() == bytes)
+    drop(decoded);
+    text
 }
 
-// Whether the bytes are a message of this type, and are what is written for it.
-fn is_written_again(alloc: Global, bytes: &[u8], typ: u16) -> Result<bool, Fail> {
-    let incoming = decode(alloc, bytes)?;
-    let is_so = is_written(alloc, &incoming, bytes, typ);
-    drop(incoming);
-    is_so
-}
-
-// Fields that are cut short anywhere are fault 1.
-#[test]
-fn fields_cut_short(rt: HostRuntime) -> Result<(), Fail> {
-    for (typ, len) in FIELDS {
-        for short in 0..len {
-            let bytes = zeros(rt.alloc(), typ, short)?;
-            assert!(rt;
-                fault(rt.alloc(), &bytes) == Some(Fault::Truncated),
-                "type {typ} at {short}"
-            );
+// Whether the message is cut short wherever it is cut.
+fn is_refused_where_cut(alloc: Global, bytes: &[u8]) -> Result<bool, AllocError> {
+    for short in 2..bytes.len() {
+        if told(alloc, &bytes[..short])?.as_str() != "refused 1" {
+            return Ok(false);
         }
     }
-    Ok(())
+    Ok(true)
 }
 
-// Whole fields are read and written again.
 #[test]
-fn whole_fields(rt: HostRuntime) -> Result<(), Fail> {
-    for (typ, len) in FIELDS {
-        let bytes = zeros(rt.alloc(), typ, len)?;
-        assert!(rt; is_written_again(rt.alloc(), &bytes, typ)?, "type {typ}");
+fn messages_both_ways(rt: HostRuntime) -> Result<(), Fail> {
+    for (typ, len, name) in FIELDS {
+        let whole = bytes_of(rt.alloc(), typ, len, &[])?;
+        assert_eq!(rt; told(rt.alloc(), &whole)?.as_str(), name);
+        assert!(rt; is_refused_where_cut(rt.alloc(), &whole)?);
     }
     Ok(())
 }
 
 #[test]
-fn types(rt: HostRuntime) {
-    assert!(rt; is_ignored(rt.alloc(), &[0, 21], 21));
-    assert!(rt; is_ignored(rt.alloc(), &[1, 0], 256));
-    assert!(rt; is_ignored(rt.alloc(), &[1, 8, 2], 264));
-    assert_eq!(rt; fault(rt.alloc(), &[0, 100]), Some(Fault::UnknownEvenType));
-    assert_eq!(rt; fault(rt.alloc(), &[1, 10]), Some(Fault::UnknownEvenType));
-    assert_eq!(rt; fault(rt.alloc(), &[0, 2]), Some(Fault::UnknownEvenType));
-    assert_eq!(rt; fault(rt.alloc(), &[12]), Some(Fault::Truncated));
-    assert_eq!(rt; fault(rt.alloc(), &[]), Some(Fault::Truncated));
-}
-
-// BOLT 1, "Appendix C: Message Extension".
-#[test]
-fn extensions_of_init(rt: HostRuntime) {
-    let init = [0, 16, 0, 0, 0, 0];
-    assert_eq!(rt; fault(rt.alloc(), &init), None);
-    for (extension, want) in [
-        ([0xc9, 1, 0x2a, 0xcb, 1, 4].as_slice(), None),
-        (&[1], Some(Fault::Truncated)),
-        (&[0xca, 1, 0x2a], Some(Fault::TlvUnknownEven)),
-        (&[0xc9, 1, 1, 0xc9, 1, 2], Some(Fault::TlvOrder)),
-    ] {
-        let mut bytes = [0u8; 12];
-        bytes[..6].copy_from_slice(&init);
-        let end = 6 + extension.len();
-        if end <= bytes.len() {
-            bytes[6..end].copy_from_slice(extension);
-            assert_eq!(rt; fault(rt.alloc(), &bytes[..end]), want);
-        }
+fn what_is_behind_the_fields(rt: HostRuntime) -> Result<(), Fail> {
+    for (typ, zeros, tail, want) in TAILS {
+        let bytes = bytes_of(rt.alloc(), typ, zeros, tail)?;
+        assert_eq!(rt; told(rt.alloc(), &bytes)?.as_str(), want);
     }
-}
-
-// The records behind the fields: an alias of another length, a fee range of another length, an even type that is
-// known in one message alone, and the order in which faults are told.
-#[test]
-fn records_behind_the_fields(rt: HostRuntime) -> Result<(), Fail> {
-    for (typ, len, records, want) in [
-        (36, 65, [1, 8, 0, 0, 1, 0, 0, 2, 0, 3].as_slice(), None),
-        (36, 65, &[1, 1, 0xff], Some(Fault::FieldLength)),
-        (36, 65, &[1, 1, 0xff, 2, 0], Some(Fault::TlvUnknownEven)),
-        (36, 65, &[3, 1, 0xff], None),
-        (
-            39,
-            104,
-            &[1, 16, 0, 0, 0, 0, 0, 0, 0, 1, 0, 0, 0, 0, 0, 0, 0, 2],
-            None,
-        ),
-        (
-            39,
-            104,
-            &[1, 8, 0, 0, 0, 0, 0, 0, 0, 1],
-            Some(Fault::FieldLength),
-        ),
-        (32, 319, &[0, 2, 7, 7, 1, 1, 0x10], None),
-        (33, 270, &[0, 0], None),
-        (32, 319, &[2, 0], Some(Fault::TlvUnknownEven)),
-        (35, 96, &[0, 0], Some(Fault::TlvUnknownEven)),
-    ] {
-        let mut bytes = zeros(rt.alloc(), typ, len)?;
-        bytes.extend_from_slice(records)?;
-        assert_eq!(rt;
-            fault(rt.alloc(), &bytes),
-            want,
-            "type {typ} with {records:?}"
-        );
-    }
+    assert_eq!(rt; told(rt.alloc(), &[])?.as_str(), "refused 1");
+    assert_eq!(rt; told(rt.alloc(), &[12])?.as_str(), "refused 1");
     Ok(())
 }
 
-#[test]
-fn too_long_to_read(rt: HostRuntime) -> Result<(), Fail> {
-    let long = zeros(rt.alloc(), 21, 65_533)?;
-    assert!(rt; is_ignored(rt.alloc(), &long, 21));
-    let longer = zeros(rt.alloc(), 100, 65_534)?;
-    assert_eq!(rt; fault(rt.alloc(), &longer), Some(Fault::TooLong));
-    Ok(())
+// So many bytes.
+fn sevens(alloc: Global, len: usize) -> Result<Vec<u8>, AllocError> {
+    let mut bytes = Vec::new(alloc);
+    bytes.resize(len, 7)?;
+    Ok(bytes)
 }
 
-// Whether a pong that carries so many bytes of its own is too long to be written.
-fn is_too_long(alloc: Global, len: usize) -> Result<bool, Fail> {
-    let mut ignored = Vec::new(alloc);
-    ignored.resize(len, 7)?;
+// How many bytes are written for a pong that carries so many of its own.
+fn pong_len(alloc: Global, len: usize) -> Result<usize, Fault> {
     let pong = Message::Pong(Pong {
-        ignored: Bytes::new(ignored),
+        ignored: Bytes::new(sevens(alloc, len)?),
         records: Records::empty(alloc),
     });
     let written = encode(alloc, &pong);
     drop(pong);
-    match &written {
-        Ok(_) => Ok(false),
-        Err(fault) => Ok(*fault == Fault::TooLong),
+    Ok(written?.len())
+}
+
+// The same for a commitment_signed with so many signatures for HTLCs.
+fn signed_len(alloc: Global, count: usize) -> Result<usize, Fault> {
+    let mut signatures = Vec::new(alloc);
+    signatures.resize(count, [3; 64])?;
+    let signed = Message::CommitmentSigned(CommitmentSigned {
+        channel_id: [1; 32],
+        signature: [2; 64],
+        htlc_signatures: Signatures::new(signatures),
+        records: Records::empty(alloc),
+    });
+    let written = encode(alloc, &signed);
+    drop(signed);
+    Ok(written?.len())
+}
+
+// The same for an update_fee with a record of type 1 and so many bytes.
+fn fee_len(alloc: Global, len: usize) -> Result<usize, Fault> {
+    let mut records = Vec::new(alloc);
+    records.push(Record {
+        typ: 1,
+        value: Bytes::new(sevens(alloc, len)?),
+    })?;
+    let fee = Message::UpdateFee(UpdateFee {
+        channel_id: [1; 32],
+        feerate_per_kw: 253,
+        records: Records::new(records),
+    });
+    let written = if fits(&fee) {
+        encode(alloc, &fee)
+    } else {
+        Err(Fault::TlvUnknownEven)
+    };
+    drop(fee);
+    Ok(written?.len())
+}
+
+#[test]
+fn too_long_to_write(rt: HostRuntime) {
+    for (len, want) in [
+        (65_531, Ok(65_535)),
+        (65_532, Err(Fault::TooLong)),
+        (70_000, Err(Fault::TooLong)),
+    ] {
+        assert_eq!(rt; pong_len(rt.alloc(), len), want);
     }
-}
-
-#[test]
-fn too_long_to_write(rt: HostRuntime) -> Result<(), Fail> {
-    assert!(rt; !is_too_long(rt.alloc(), 65_531)?);
-    assert!(rt; is_too_long(rt.alloc(), 65_532)?);
-    assert!(rt; is_too_long(rt.alloc(), 70_000)?);
-    Ok(())
-}
-
-// Whether the bytes are a commitment_signed with these signatures for HTLCs.
-fn has_signatures(alloc: Global, bytes: &[u8], want: &[[u8; 64]]) -> Result<bool, Fail> {
-    let incoming = decode(alloc, bytes)?;
-    let are_so = match commitment_signed(&incoming) {
-        Some(signed) => signed.htlc_signatures.as_slice() == want,
-        None => false,
-    };
-    drop(incoming);
-    Ok(are_so)
-}
-
-// Two signatures by hand.
-#[test]
-fn signatures(rt: HostRuntime) -> Result<(), Fail> {
-    let mut bytes = zeros(rt.alloc(), 132, 96)?;
-    bytes.extend_from_slice(&[0, 2])?;
-    bytes.resize(164, 1)?;
-    bytes.resize(228, 2)?;
-    assert!(rt; has_signatures(rt.alloc(), &bytes, &[[1; 64], [2; 64]])?);
-    Ok(())
-}
-
-// The id, the amount and the expiry of an update_add_htlc.
-fn numbers_of(alloc: Global, bytes: &[u8]) -> Result<Option<(u64, u64, u32)>, Fail> {
-    let incoming = decode(alloc, bytes)?;
-    let numbers = match update_add_htlc(&incoming) {
-        Some(added) => Some((added.id, added.amount_msat, added.cltv_expiry)),
-        None => None,
-    };
-    drop(incoming);
-    Ok(numbers)
-}
-
-// Numbers by hand.
-#[test]
-fn numbers(rt: HostRuntime) -> Result<(), Fail> {
-    let mut bytes = zeros(rt.alloc(), 128, 1450)?;
-    assert_eq!(rt; bytes.len(), 1452);
-    bytes[41] = 9;
-    bytes[48] = 1;
-    bytes[82] = 1;
-    assert!(rt; numbers_of(rt.alloc(), &bytes)? == Some((9, 256, 1 << 24)));
-    Ok(())
+    assert_eq!(rt; signed_len(rt.alloc(), 1_022), Ok(65_508));
+    assert_eq!(rt; signed_len(rt.alloc(), 1_023), Err(Fault::TooLong));
+    assert_eq!(rt; fee_len(rt.alloc(), 65_493), Ok(65_535));
+    assert_eq!(rt; fee_len(rt.alloc(), 65_494), Err(Fault::TooLong));
 }

@@ -1,13 +1,14 @@
 //! Messages that open a channel.
 
 use crate::field::{array_at, u8_at, u16_at, u32_at, u64_at};
-use crate::item::{Field, Item};
+use crate::item::Item;
+use crate::item_list::Items;
 use crate::records::{Records, have_length, records_at};
 use ln_bytes::Fault;
 use std::alloc::Global;
 
 /// Asks the other side to open a channel that the sender funds (BOLT 2, "The `open_channel` Message").
-#[derive(Debug, Drop)]
+#[derive(Drop)]
 pub struct OpenChannel {
     /// The chain, by the hash of its first block.
     pub chain_hash: [u8; 32],
@@ -50,7 +51,7 @@ pub struct OpenChannel {
 }
 
 /// Agrees to open a channel (BOLT 2, "The `accept_channel` Message").
-#[derive(Debug, Drop)]
+#[derive(Drop)]
 pub struct AcceptChannel {
     /// The id of the channel until its funding is known.
     pub temporary_id: [u8; 32],
@@ -86,7 +87,7 @@ pub struct AcceptChannel {
 
 /// Names the funding output, and signs the fundee's first commitment (BOLT 2, "The `funding_created`
 /// Message").
-#[derive(Debug, Drop)]
+#[derive(Drop)]
 pub struct FundingCreated {
     /// The id of the channel until its funding is known.
     pub temporary_id: [u8; 32],
@@ -101,7 +102,7 @@ pub struct FundingCreated {
 }
 
 /// Signs the funder's first commitment (BOLT 2, "The `funding_signed` Message").
-#[derive(Debug, Drop)]
+#[derive(Drop)]
 pub struct FundingSigned {
     /// The channel.
     pub channel_id: [u8; 32],
@@ -112,7 +113,7 @@ pub struct FundingSigned {
 }
 
 /// Tells that the funding is deep enough for use (BOLT 2, "The `channel_ready` Message").
-#[derive(Debug, Drop)]
+#[derive(Drop)]
 pub struct ChannelReady {
     /// The channel.
     pub channel_id: [u8; 32],
@@ -123,34 +124,134 @@ pub struct ChannelReady {
 }
 
 ghost use Rattle.ln_bytes.specs.Reading.{Gives};
-ghost use Rattle.ln_msgs.specs.Items.{AreFieldsOf};
+ghost use Rattle.ln_msgs.specs.Items.{AreItemsOf};
 ghost use Rattle.ln_msgs.specs.Table.{open_form, accept_form, funding_created_form, funding_signed_form, channel_ready_form};
 ghost use Rattle.ln_msgs.specs.Message.{Known, formed_at};
+ghost use Rattle.ln_msgs.specs.Pieces.{group_at, pieced_at, funding_kinds, funding_values, amount_kinds, amount_values, point_kinds, point_values, open_pieces, accept_pieces};
 ghost use Rattle.ln_msgs.specs.Typed.{open_wire, accept_wire, funding_created_wire, funding_signed_wire, channel_ready_wire};
 
-#[tactic(auto, unfolding(crate::specs::Message::formed_at))]
-pub(crate) fn read_open_channel(alloc: Global, payload: &[u8]) -> Result<OpenChannel, Fault>
-    ensures { Gives (λ m. Known (open_wire m)) result (formed_at open_form 32 payload.now) }
+/// What `open_channel` begins with.
+#[derive(Clone, Copy)]
+pub(crate) struct Funding {
+    chain_hash: [u8; 32],
+    temporary_id: [u8; 32],
+    funding_satoshis: u64,
+    push_msat: u64,
+}
+
+/// The amounts that stand in `open_channel` and in `accept_channel`.
+#[derive(Clone, Copy)]
+pub(crate) struct Amounts {
+    dust_limit_satoshis: u64,
+    max_htlc_value_in_flight_msat: u64,
+    channel_reserve_satoshis: u64,
+    htlc_minimum_msat: u64,
+}
+
+/// The points that stand in both.
+#[derive(Clone, Copy)]
+pub(crate) struct Points {
+    funding_pubkey: [u8; 33],
+    revocation_basepoint: [u8; 33],
+    payment_basepoint: [u8; 33],
+    delayed_payment_basepoint: [u8; 33],
+    htlc_basepoint: [u8; 33],
+    first_per_commitment_point: [u8; 33],
+}
+
+#[tactic(auto, unfolding(crate::specs::Pieces::group_at))]
+fn funding_at(bytes: &[u8]) -> Result<(Funding, &[u8]), Fault>
+    ensures { Gives (λ x. (funding_values x.0, x.1.now)) result (group_at funding_kinds bytes.now) }
 {
-    let (chain_hash, rest) = array_at(payload)?;
+    let (chain_hash, rest) = array_at(bytes)?;
     let (temporary_id, rest) = array_at(rest)?;
     let (funding_satoshis, rest) = u64_at(rest)?;
     let (push_msat, rest) = u64_at(rest)?;
-    let (dust_limit_satoshis, rest) = u64_at(rest)?;
+    let funding = Funding {
+        chain_hash,
+        temporary_id,
+        funding_satoshis,
+        push_msat,
+    };
+    Ok((funding, rest))
+}
+
+#[tactic(auto, unfolding(crate::specs::Pieces::group_at))]
+fn amounts_at(bytes: &[u8]) -> Result<(Amounts, &[u8]), Fault>
+    ensures { Gives (λ x. (amount_values x.0, x.1.now)) result (group_at amount_kinds bytes.now) }
+{
+    let (dust_limit_satoshis, rest) = u64_at(bytes)?;
     let (max_htlc_value_in_flight_msat, rest) = u64_at(rest)?;
     let (channel_reserve_satoshis, rest) = u64_at(rest)?;
     let (htlc_minimum_msat, rest) = u64_at(rest)?;
-    let (feerate_per_kw, rest) = u32_at(rest)?;
-    let (to_self_delay, rest) = u16_at(rest)?;
-    let (max_accepted_htlcs, rest) = u16_at(rest)?;
-    let (funding_pubkey, rest) = array_at(rest)?;
+    let amounts = Amounts {
+        dust_limit_satoshis,
+        max_htlc_value_in_flight_msat,
+        channel_reserve_satoshis,
+        htlc_minimum_msat,
+    };
+    Ok((amounts, rest))
+}
+
+#[tactic(auto, unfolding(crate::specs::Pieces::group_at))]
+fn points_at(bytes: &[u8]) -> Result<(Points, &[u8]), Fault>
+    ensures { Gives (λ x. (point_values x.0, x.1.now)) result (group_at point_kinds bytes.now) }
+{
+    let (funding_pubkey, rest) = array_at(bytes)?;
     let (revocation_basepoint, rest) = array_at(rest)?;
     let (payment_basepoint, rest) = array_at(rest)?;
     let (delayed_payment_basepoint, rest) = array_at(rest)?;
     let (htlc_basepoint, rest) = array_at(rest)?;
     let (first_per_commitment_point, rest) = array_at(rest)?;
+    let points = Points {
+        funding_pubkey,
+        revocation_basepoint,
+        payment_basepoint,
+        delayed_payment_basepoint,
+        htlc_basepoint,
+        first_per_commitment_point,
+    };
+    Ok((points, rest))
+}
+
+pub(crate) fn read_open_channel(alloc: Global, payload: &[u8]) -> Result<OpenChannel, Fault>
+    ensures { Gives (λ m. Known (open_wire m)) result (formed_at open_form 32 payload.now) }
+{
+    open_in_pieces(alloc, payload)
+}
+
+#[tactic(auto, unfolding(crate::specs::Pieces::pieced_at))]
+fn open_in_pieces(alloc: Global, payload: &[u8]) -> Result<OpenChannel, Fault>
+    ensures { Gives (λ m. Known (open_wire m)) result (pieced_at open_pieces open_form 32 payload.now) }
+{
+    let (funding, rest) = funding_at(payload)?;
+    let (amounts, rest) = amounts_at(rest)?;
+    let (feerate_per_kw, rest) = u32_at(rest)?;
+    let (to_self_delay, rest) = u16_at(rest)?;
+    let (max_accepted_htlcs, rest) = u16_at(rest)?;
+    let (points, rest) = points_at(rest)?;
     let (channel_flags, rest) = u8_at(rest)?;
     let records = records_at(alloc, rest, &[0])?;
+    let Funding {
+        chain_hash,
+        temporary_id,
+        funding_satoshis,
+        push_msat,
+    } = funding;
+    let Amounts {
+        dust_limit_satoshis,
+        max_htlc_value_in_flight_msat,
+        channel_reserve_satoshis,
+        htlc_minimum_msat,
+    } = amounts;
+    let Points {
+        funding_pubkey,
+        revocation_basepoint,
+        payment_basepoint,
+        delayed_payment_basepoint,
+        htlc_basepoint,
+        first_per_commitment_point,
+    } = points;
     Ok(OpenChannel {
         chain_hash,
         temporary_id,
@@ -174,25 +275,37 @@ pub(crate) fn read_open_channel(alloc: Global, payload: &[u8]) -> Result<OpenCha
     })
 }
 
-#[tactic(auto, unfolding(crate::specs::Message::formed_at))]
 pub(crate) fn read_accept_channel(alloc: Global, payload: &[u8]) -> Result<AcceptChannel, Fault>
     ensures { Gives (λ m. Known (accept_wire m)) result (formed_at accept_form 33 payload.now) }
 {
+    accept_in_pieces(alloc, payload)
+}
+
+#[tactic(auto, unfolding(crate::specs::Pieces::pieced_at))]
+fn accept_in_pieces(alloc: Global, payload: &[u8]) -> Result<AcceptChannel, Fault>
+    ensures { Gives (λ m. Known (accept_wire m)) result (pieced_at accept_pieces accept_form 33 payload.now) }
+{
     let (temporary_id, rest) = array_at(payload)?;
-    let (dust_limit_satoshis, rest) = u64_at(rest)?;
-    let (max_htlc_value_in_flight_msat, rest) = u64_at(rest)?;
-    let (channel_reserve_satoshis, rest) = u64_at(rest)?;
-    let (htlc_minimum_msat, rest) = u64_at(rest)?;
+    let (amounts, rest) = amounts_at(rest)?;
     let (minimum_depth, rest) = u32_at(rest)?;
     let (to_self_delay, rest) = u16_at(rest)?;
     let (max_accepted_htlcs, rest) = u16_at(rest)?;
-    let (funding_pubkey, rest) = array_at(rest)?;
-    let (revocation_basepoint, rest) = array_at(rest)?;
-    let (payment_basepoint, rest) = array_at(rest)?;
-    let (delayed_payment_basepoint, rest) = array_at(rest)?;
-    let (htlc_basepoint, rest) = array_at(rest)?;
-    let (first_per_commitment_point, rest) = array_at(rest)?;
+    let (points, rest) = points_at(rest)?;
     let records = records_at(alloc, rest, &[0])?;
+    let Amounts {
+        dust_limit_satoshis,
+        max_htlc_value_in_flight_msat,
+        channel_reserve_satoshis,
+        htlc_minimum_msat,
+    } = amounts;
+    let Points {
+        funding_pubkey,
+        revocation_basepoint,
+        payment_basepoint,
+        delayed_payment_basepoint,
+        htlc_basepoint,
+        first_per_commitment_point,
+    } = points;
     Ok(AcceptChannel {
         temporary_id,
         dust_limit_satoshis,
@@ -262,211 +375,88 @@ pub(crate) fn read_channel_ready(alloc: Global, payload: &[u8]) -> Result<Channe
 }
 
 impl OpenChannel {
-    /// The fields in their order.
-    pub(crate) fn fields(&self) -> [Field<'_>; 18]
-        ensures { AreFieldsOf open_form (open_wire self.now) result }
+    /// The values of the fields in their order.
+    pub(crate) fn items(&self) -> Items<'_>
+        ensures { AreItemsOf open_form (open_wire self.now) result }
     {
-        [
-            Field {
-                name: "chain_hash",
-                value: Item::Fixed(&self.chain_hash),
-            },
-            Field {
-                name: "temporary_id",
-                value: Item::Fixed(&self.temporary_id),
-            },
-            Field {
-                name: "funding_satoshis",
-                value: Item::U64(self.funding_satoshis),
-            },
-            Field {
-                name: "push_msat",
-                value: Item::U64(self.push_msat),
-            },
-            Field {
-                name: "dust_limit_satoshis",
-                value: Item::U64(self.dust_limit_satoshis),
-            },
-            Field {
-                name: "max_htlc_value_in_flight_msat",
-                value: Item::U64(self.max_htlc_value_in_flight_msat),
-            },
-            Field {
-                name: "channel_reserve_satoshis",
-                value: Item::U64(self.channel_reserve_satoshis),
-            },
-            Field {
-                name: "htlc_minimum_msat",
-                value: Item::U64(self.htlc_minimum_msat),
-            },
-            Field {
-                name: "feerate_per_kw",
-                value: Item::U32(self.feerate_per_kw),
-            },
-            Field {
-                name: "to_self_delay",
-                value: Item::U16(self.to_self_delay),
-            },
-            Field {
-                name: "max_accepted_htlcs",
-                value: Item::U16(self.max_accepted_htlcs),
-            },
-            Field {
-                name: "funding_pubkey",
-                value: Item::Fixed(&self.funding_pubkey),
-            },
-            Field {
-                name: "revocation_basepoint",
-                value: Item::Fixed(&self.revocation_basepoint),
-            },
-            Field {
-                name: "payment_basepoint",
-                value: Item::Fixed(&self.payment_basepoint),
-            },
-            Field {
-                name: "delayed_payment_basepoint",
-                value: Item::Fixed(&self.delayed_payment_basepoint),
-            },
-            Field {
-                name: "htlc_basepoint",
-                value: Item::Fixed(&self.htlc_basepoint),
-            },
-            Field {
-                name: "first_per_commitment_point",
-                value: Item::Fixed(&self.first_per_commitment_point),
-            },
-            Field {
-                name: "channel_flags",
-                value: Item::U8(self.channel_flags),
-            },
-        ]
+        Items::of(&[
+            Item::Fixed(&self.chain_hash),
+            Item::Fixed(&self.temporary_id),
+            Item::U64(self.funding_satoshis),
+            Item::U64(self.push_msat),
+            Item::U64(self.dust_limit_satoshis),
+            Item::U64(self.max_htlc_value_in_flight_msat),
+            Item::U64(self.channel_reserve_satoshis),
+            Item::U64(self.htlc_minimum_msat),
+            Item::U32(self.feerate_per_kw),
+            Item::U16(self.to_self_delay),
+            Item::U16(self.max_accepted_htlcs),
+            Item::Fixed(&self.funding_pubkey),
+            Item::Fixed(&self.revocation_basepoint),
+            Item::Fixed(&self.payment_basepoint),
+            Item::Fixed(&self.delayed_payment_basepoint),
+            Item::Fixed(&self.htlc_basepoint),
+            Item::Fixed(&self.first_per_commitment_point),
+            Item::U8(self.channel_flags),
+        ])
     }
 }
 
 impl AcceptChannel {
-    /// The fields in their order.
-    pub(crate) fn fields(&self) -> [Field<'_>; 14]
-        ensures { AreFieldsOf accept_form (accept_wire self.now) result }
+    /// The values of the fields in their order.
+    pub(crate) fn items(&self) -> Items<'_>
+        ensures { AreItemsOf accept_form (accept_wire self.now) result }
     {
-        [
-            Field {
-                name: "temporary_id",
-                value: Item::Fixed(&self.temporary_id),
-            },
-            Field {
-                name: "dust_limit_satoshis",
-                value: Item::U64(self.dust_limit_satoshis),
-            },
-            Field {
-                name: "max_htlc_value_in_flight_msat",
-                value: Item::U64(self.max_htlc_value_in_flight_msat),
-            },
-            Field {
-                name: "channel_reserve_satoshis",
-                value: Item::U64(self.channel_reserve_satoshis),
-            },
-            Field {
-                name: "htlc_minimum_msat",
-                value: Item::U64(self.htlc_minimum_msat),
-            },
-            Field {
-                name: "minimum_depth",
-                value: Item::U32(self.minimum_depth),
-            },
-            Field {
-                name: "to_self_delay",
-                value: Item::U16(self.to_self_delay),
-            },
-            Field {
-                name: "max_accepted_htlcs",
-                value: Item::U16(self.max_accepted_htlcs),
-            },
-            Field {
-                name: "funding_pubkey",
-                value: Item::Fixed(&self.funding_pubkey),
-            },
-            Field {
-                name: "revocation_basepoint",
-                value: Item::Fixed(&self.revocation_basepoint),
-            },
-            Field {
-                name: "payment_basepoint",
-                value: Item::Fixed(&self.payment_basepoint),
-            },
-            Field {
-                name: "delayed_payment_basepoint",
-                value: Item::Fixed(&self.delayed_payment_basepoint),
-            },
-            Field {
-                name: "htlc_basepoint",
-                value: Item::Fixed(&self.htlc_basepoint),
-            },
-            Field {
-                name: "first_per_commitment_point",
-                value: Item::Fixed(&self.first_per_commitment_point),
-            },
-        ]
+        Items::of(&[
+            Item::Fixed(&self.temporary_id),
+            Item::U64(self.dust_limit_satoshis),
+            Item::U64(self.max_htlc_value_in_flight_msat),
+            Item::U64(self.channel_reserve_satoshis),
+            Item::U64(self.htlc_minimum_msat),
+            Item::U32(self.minimum_depth),
+            Item::U16(self.to_self_delay),
+            Item::U16(self.max_accepted_htlcs),
+            Item::Fixed(&self.funding_pubkey),
+            Item::Fixed(&self.revocation_basepoint),
+            Item::Fixed(&self.payment_basepoint),
+            Item::Fixed(&self.delayed_payment_basepoint),
+            Item::Fixed(&self.htlc_basepoint),
+            Item::Fixed(&self.first_per_commitment_point),
+        ])
     }
 }
 
 impl FundingCreated {
-    /// The fields in their order.
-    pub(crate) fn fields(&self) -> [Field<'_>; 4]
-        ensures { AreFieldsOf funding_created_form (funding_created_wire self.now) result }
+    /// The values of the fields in their order.
+    pub(crate) fn items(&self) -> Items<'_>
+        ensures { AreItemsOf funding_created_form (funding_created_wire self.now) result }
     {
-        [
-            Field {
-                name: "temporary_id",
-                value: Item::Fixed(&self.temporary_id),
-            },
-            Field {
-                name: "funding_txid",
-                value: Item::Fixed(&self.funding_txid),
-            },
-            Field {
-                name: "output_index",
-                value: Item::U16(self.output_index),
-            },
-            Field {
-                name: "signature",
-                value: Item::Fixed(&self.signature),
-            },
-        ]
+        Items::of(&[
+            Item::Fixed(&self.temporary_id),
+            Item::Fixed(&self.funding_txid),
+            Item::U16(self.output_index),
+            Item::Fixed(&self.signature),
+        ])
     }
 }
 
 impl FundingSigned {
-    /// The fields in their order.
-    pub(crate) fn fields(&self) -> [Field<'_>; 2]
-        ensures { AreFieldsOf funding_signed_form (funding_signed_wire self.now) result }
+    /// The values of the fields in their order.
+    pub(crate) fn items(&self) -> Items<'_>
+        ensures { AreItemsOf funding_signed_form (funding_signed_wire self.now) result }
     {
-        [
-            Field {
-                name: "channel_id",
-                value: Item::Fixed(&self.channel_id),
-            },
-            Field {
-                name: "signature",
-                value: Item::Fixed(&self.signature),
-            },
-        ]
+        Items::of(&[Item::Fixed(&self.channel_id), Item::Fixed(&self.signature)])
     }
 }
 
 impl ChannelReady {
-    /// The fields in their order.
-    pub(crate) fn fields(&self) -> [Field<'_>; 2]
-        ensures { AreFieldsOf channel_ready_form (channel_ready_wire self.now) result }
+    /// The values of the fields in their order.
+    pub(crate) fn items(&self) -> Items<'_>
+        ensures { AreItemsOf channel_ready_form (channel_ready_wire self.now) result }
     {
-        [
-            Field {
-                name: "channel_id",
-                value: Item::Fixed(&self.channel_id),
-            },
-            Field {
-                name: "second_point",
-                value: Item::Fixed(&self.second_point),
-            },
-        ]
+        Items::of(&[
+            Item::Fixed(&self.channel_id),
+            Item::Fixed(&self.second_point),
+        ])
     }
 }

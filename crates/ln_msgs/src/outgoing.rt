@@ -3,7 +3,7 @@
 ghost use Rattle.std.specs.Prelude.{◌≡◌, ◌≤◌, OnOk, IfErr};
 ghost use Rattle.std.specs.Io.KnownBytes.{Appends};
 ghost use Rattle.ln_msgs.specs.Counted.{HasRisen};
-ghost use Rattle.ln_msgs.specs.CountedView.{inner_of, failures_of};
+ghost use Rattle.ln_msgs.specs.CountedView.{inner_of, failures_of, calls_of};
 ghost use Rattle.ln_msgs.specs.Written.{IsPartlyWritten};
 
 use crate::counted::Counted;
@@ -47,7 +47,7 @@ impl Outgoing {
     ghost use Rattle.ln_msgs.specs.Answer.{pong_frame};
     ghost use Rattle.ln_msgs.specs.Written.{IsPartlyWritten};
     ghost use Rattle.ln_msgs.specs.Counted.{HasRisen, one_more};
-    ghost use Rattle.ln_msgs.specs.CountedView.{inner_of, failures_of};
+    ghost use Rattle.ln_msgs.specs.CountedView.{inner_of, failures_of, calls_of};
 
     /// Nothing waits.
     pub(crate) fn new(alloc: Global) -> Result<Outgoing, AllocError>
@@ -102,6 +102,8 @@ impl Outgoing {
         ensures front { IsPartlyWritten (W.contents (inner_of writer.old)) (W.contents (inner_of writer.new)) self.old.bytes }
         ensures cause { IfErr result (λ e. (e ≡ Fault.Io) × HasRisen (failures_of writer.old) (failures_of writer.new)) }
         ensures failures { failures_of writer.old ≤ failures_of writer.new }
+        ensures called { OnOk result (0 < length self.old.bytes → HasRisen (calls_of writer.old) (calls_of writer.new)) }
+        ensures calls { calls_of writer.old ≤ calls_of writer.new }
         ensures pongs { self.new.pongs ≡ self.old.pongs }
     {
         if self.bytes.is_empty() {
@@ -123,6 +125,7 @@ fn write_out<W: Write>(bytes: &[u8], writer: &mut Counted<W>) -> Result<(), Faul
     ensures front { IsPartlyWritten (W.contents (inner_of writer.old)) (W.contents (inner_of writer.new)) bytes.now }
     ensures cause { IfErr result (λ e. (e ≡ Fault.Io) × HasRisen (failures_of writer.old) (failures_of writer.new)) }
     ensures failures { failures_of writer.old ≤ failures_of writer.new }
+    ensures calls { calls_of writer.old ≤ calls_of writer.new }
 {
     let mut written = 0;
     while written < bytes.len() {

@@ -1,13 +1,14 @@
 //! Messages of a connection: init, errors, pings.
 
 use crate::field::{array_at, bytes_at, u16_at};
-use crate::item::{Field, Item};
+use crate::item::Item;
+use crate::item_list::Items;
 use crate::records::{Records, records_at};
 use ln_bytes::{Bytes, Fault};
 use std::alloc::Global;
 
 /// Tells of a problem that closes no channel (BOLT 1, "The `error` and `warning` Messages").
-#[derive(Debug, Drop)]
+#[derive(Drop)]
 pub struct Warning {
     /// The channel.
     pub channel_id: [u8; 32],
@@ -18,7 +19,7 @@ pub struct Warning {
 }
 
 /// The first message of a connection: what features a side has (BOLT 1, "The `init` Message").
-#[derive(Debug, Drop)]
+#[derive(Drop)]
 pub struct Init {
     /// Feature bits, the lowest in the last byte; joined to `features`.
     pub global_features: Bytes,
@@ -30,7 +31,7 @@ pub struct Init {
 
 /// Tells of a problem that fails the channel, or all channels where its id is all zeros (BOLT 1, "The
 /// `error` and `warning` Messages").
-#[derive(Debug, Drop)]
+#[derive(Drop)]
 pub struct Error {
     /// The channel.
     pub channel_id: [u8; 32],
@@ -41,7 +42,7 @@ pub struct Error {
 }
 
 /// Asks for a pong, to see that the connection stands (BOLT 1, "The `ping` and `pong` Messages").
-#[derive(Debug, Drop)]
+#[derive(Drop)]
 pub struct Ping {
     /// How many bytes the pong is to carry; from 65,532 on no pong is wanted.
     pub num_pong_bytes: u16,
@@ -52,7 +53,7 @@ pub struct Ping {
 }
 
 /// Answers a ping (BOLT 1, "The `ping` and `pong` Messages").
-#[derive(Debug, Drop)]
+#[derive(Drop)]
 pub struct Pong {
     /// Bytes that mean nothing.
     pub ignored: Bytes,
@@ -61,7 +62,7 @@ pub struct Pong {
 }
 
 ghost use Rattle.ln_bytes.specs.Reading.{Gives};
-ghost use Rattle.ln_msgs.specs.Items.{AreFieldsOf};
+ghost use Rattle.ln_msgs.specs.Items.{AreItemsOf};
 ghost use Rattle.ln_msgs.specs.Table.{warning_form, init_form, error_form, ping_form, pong_form};
 ghost use Rattle.ln_msgs.specs.Message.{Known, formed_at};
 ghost use Rattle.ln_msgs.specs.Typed.{warning_wire, init_wire, error_wire, ping_wire, pong_wire};
@@ -132,85 +133,58 @@ pub(crate) fn read_pong(alloc: Global, payload: &[u8]) -> Result<Pong, Fault>
 }
 
 impl Warning {
-    /// The fields in their order.
-    pub(crate) fn fields(&self) -> [Field<'_>; 2]
-        ensures { AreFieldsOf warning_form (warning_wire self.now) result }
+    /// The values of the fields in their order.
+    pub(crate) fn items(&self) -> Items<'_>
+        ensures { AreItemsOf warning_form (warning_wire self.now) result }
     {
-        [
-            Field {
-                name: "channel_id",
-                value: Item::Fixed(&self.channel_id),
-            },
-            Field {
-                name: "data",
-                value: Item::Sized(self.bytes.as_slice()),
-            },
-        ]
+        Items::of(&[
+            Item::Fixed(&self.channel_id),
+            Item::Sized(self.bytes.as_slice()),
+        ])
     }
 }
 
 impl Init {
-    /// The fields in their order.
-    pub(crate) fn fields(&self) -> [Field<'_>; 2]
-        ensures { AreFieldsOf init_form (init_wire self.now) result }
+    /// The values of the fields in their order.
+    pub(crate) fn items(&self) -> Items<'_>
+        ensures { AreItemsOf init_form (init_wire self.now) result }
     {
-        [
-            Field {
-                name: "global_features",
-                value: Item::Sized(self.global_features.as_slice()),
-            },
-            Field {
-                name: "features",
-                value: Item::Sized(self.features.as_slice()),
-            },
-        ]
+        Items::of(&[
+            Item::Sized(self.global_features.as_slice()),
+            Item::Sized(self.features.as_slice()),
+        ])
     }
 }
 
 impl Error {
-    /// The fields in their order.
-    pub(crate) fn fields(&self) -> [Field<'_>; 2]
-        ensures { AreFieldsOf error_form (error_wire self.now) result }
+    /// The values of the fields in their order.
+    pub(crate) fn items(&self) -> Items<'_>
+        ensures { AreItemsOf error_form (error_wire self.now) result }
     {
-        [
-            Field {
-                name: "channel_id",
-                value: Item::Fixed(&self.channel_id),
-            },
-            Field {
-                name: "data",
-                value: Item::Sized(self.bytes.as_slice()),
-            },
-        ]
+        Items::of(&[
+            Item::Fixed(&self.channel_id),
+            Item::Sized(self.bytes.as_slice()),
+        ])
     }
 }
 
 impl Ping {
-    /// The fields in their order.
-    pub(crate) fn fields(&self) -> [Field<'_>; 2]
-        ensures { AreFieldsOf ping_form (ping_wire self.now) result }
+    /// The values of the fields in their order.
+    pub(crate) fn items(&self) -> Items<'_>
+        ensures { AreItemsOf ping_form (ping_wire self.now) result }
     {
-        [
-            Field {
-                name: "num_pong_bytes",
-                value: Item::U16(self.num_pong_bytes),
-            },
-            Field {
-                name: "ignored",
-                value: Item::Sized(self.ignored.as_slice()),
-            },
-        ]
+        Items::of(&[
+            Item::U16(self.num_pong_bytes),
+            Item::Sized(self.ignored.as_slice()),
+        ])
     }
 }
 
 impl Pong {
-    /// The fields in their order.
-    pub(crate) fn fields(&self) -> [Field<'_>; 1]
-        ensures { AreFieldsOf pong_form (pong_wire self.now) result }
+    /// The values of the fields in their order.
+    pub(crate) fn items(&self) -> Items<'_>
+        ensures { AreItemsOf pong_form (pong_wire self.now) result }
     {
-        [Field {
-            name: "ignored",
-            value: Item::Sized(self.ignored.as_slice()),
-        }]
+        Items::of(&[Item::Sized(self.ignored.as_slice())])
     }
 }

@@ -108,10 +108,17 @@ fn answered(
     })
 }
 
+// A channel_ready whose alias has one byte, in its frame.
+pub(crate) const READY: [u8; 72] = [
+    0, 70, 0, 36, 0, 0, 0, 0, 0, 0, 0, 0, 0, 0, 0, 0, 0, 0, 0, 0, 0, 0, 0, 0, 0, 0, 0, 0, 0, 0, 0,
+    0, 0, 0, 0, 0, 0, 0, 0, 0, 0, 0, 0, 0, 0, 0, 0, 0, 0, 0, 0, 0, 0, 0, 0, 0, 0, 0, 0, 0, 0, 0, 0,
+    0, 0, 0, 0, 0, 0, 1, 1, 0,
+];
+
 // What stands on the wire, what has to be written for it, and what is answered.
 type Row = (&'static [u8], &'static [u8], Result<u64, Fault>);
 
-const ROWS: [Row; 17] = [
+const ROWS: [Row; 18] = [
     // one ping
     (&PING, &PONG, Ok(1)),
     // from 65,532 on no pong is owed
@@ -124,6 +131,8 @@ const ROWS: [Row; 17] = [
     ),
     // nothing
     (&[], &[], Ok(0)),
+    // a channel_ready whose alias has one byte
+    (&READY, &[], Err(Fault::FieldLength)),
     // an end inside a frame: in the length, in the message
     (&[0], &[], Err(Fault::Truncated)),
     (&[0, 6, 0, 18, 0, 2], &[], Err(Fault::Truncated)),

@@ -1,13 +1,14 @@
 //! Messages that update a channel: HTLCs and fees.
 
 use crate::field::{array_at, bytes_at, u16_at, u32_at, u64_at};
-use crate::item::{Field, Item};
+use crate::item::Item;
+use crate::item_list::Items;
 use crate::records::{Records, records_at};
 use ln_bytes::{Bytes, Fault};
 use std::alloc::Global;
 
 /// Offers an HTLC (BOLT 2, "Adding an HTLC: `update_add_htlc`").
-#[derive(Debug, Drop)]
+#[derive(Drop)]
 pub struct UpdateAddHtlc {
     /// The channel.
     pub channel_id: [u8; 32],
@@ -26,7 +27,7 @@ pub struct UpdateAddHtlc {
 }
 
 /// Removes an HTLC by its preimage (BOLT 2, "Removing an HTLC").
-#[derive(Debug, Drop)]
+#[derive(Drop)]
 pub struct UpdateFulfillHtlc {
     /// The channel.
     pub channel_id: [u8; 32],
@@ -39,7 +40,7 @@ pub struct UpdateFulfillHtlc {
 }
 
 /// Removes an HTLC that failed (BOLT 2, "Removing an HTLC").
-#[derive(Debug, Drop)]
+#[derive(Drop)]
 pub struct UpdateFailHtlc {
     /// The channel.
     pub channel_id: [u8; 32],
@@ -52,7 +53,7 @@ pub struct UpdateFailHtlc {
 }
 
 /// Removes an HTLC whose onion couldn't be read (BOLT 2, "Removing an HTLC").
-#[derive(Debug, Drop)]
+#[derive(Drop)]
 pub struct UpdateFailMalformedHtlc {
     /// The channel.
     pub channel_id: [u8; 32],
@@ -67,7 +68,7 @@ pub struct UpdateFailMalformedHtlc {
 }
 
 /// Sets the commitments' feerate (BOLT 2, "Updating Fees: `update_fee`").
-#[derive(Debug, Drop)]
+#[derive(Drop)]
 pub struct UpdateFee {
     /// The channel.
     pub channel_id: [u8; 32],
@@ -78,7 +79,7 @@ pub struct UpdateFee {
 }
 
 ghost use Rattle.ln_bytes.specs.Reading.{Gives};
-ghost use Rattle.ln_msgs.specs.Items.{AreFieldsOf};
+ghost use Rattle.ln_msgs.specs.Items.{AreItemsOf};
 ghost use Rattle.ln_msgs.specs.Table.{add_form, fulfill_form, fail_form, malformed_form, fee_form};
 ghost use Rattle.ln_msgs.specs.Message.{Known, formed_at};
 ghost use Rattle.ln_msgs.specs.Typed.{add_wire, fulfill_wire, fail_wire, malformed_wire, fee_wire};
@@ -176,123 +177,69 @@ pub(crate) fn read_update_fee(alloc: Global, payload: &[u8]) -> Result<UpdateFee
 }
 
 impl UpdateAddHtlc {
-    /// The fields in their order.
-    pub(crate) fn fields(&self) -> [Field<'_>; 6]
-        ensures { AreFieldsOf add_form (add_wire self.now) result }
+    /// The values of the fields in their order.
+    pub(crate) fn items(&self) -> Items<'_>
+        ensures { AreItemsOf add_form (add_wire self.now) result }
     {
-        [
-            Field {
-                name: "channel_id",
-                value: Item::Fixed(&self.channel_id),
-            },
-            Field {
-                name: "id",
-                value: Item::U64(self.id),
-            },
-            Field {
-                name: "amount_msat",
-                value: Item::U64(self.amount_msat),
-            },
-            Field {
-                name: "payment_hash",
-                value: Item::Fixed(&self.payment_hash),
-            },
-            Field {
-                name: "cltv_expiry",
-                value: Item::U32(self.cltv_expiry),
-            },
-            Field {
-                name: "onion",
-                value: Item::Fixed(&self.onion),
-            },
-        ]
+        Items::of(&[
+            Item::Fixed(&self.channel_id),
+            Item::U64(self.id),
+            Item::U64(self.amount_msat),
+            Item::Fixed(&self.payment_hash),
+            Item::U32(self.cltv_expiry),
+            Item::Fixed(&self.onion),
+        ])
     }
 }
 
 impl UpdateFulfillHtlc {
-    /// The fields in their order.
-    pub(crate) fn fields(&self) -> [Field<'_>; 3]
-        ensures { AreFieldsOf fulfill_form (fulfill_wire self.now) result }
+    /// The values of the fields in their order.
+    pub(crate) fn items(&self) -> Items<'_>
+        ensures { AreItemsOf fulfill_form (fulfill_wire self.now) result }
     {
-        [
-            Field {
-                name: "channel_id",
-                value: Item::Fixed(&self.channel_id),
-            },
-            Field {
-                name: "id",
-                value: Item::U64(self.id),
-            },
-            Field {
-                name: "preimage",
-                value: Item::Fixed(&self.preimage),
-            },
-        ]
+        Items::of(&[
+            Item::Fixed(&self.channel_id),
+            Item::U64(self.id),
+            Item::Fixed(&self.preimage),
+        ])
     }
 }
 
 impl UpdateFailHtlc {
-    /// The fields in their order.
-    pub(crate) fn fields(&self) -> [Field<'_>; 3]
-        ensures { AreFieldsOf fail_form (fail_wire self.now) result }
+    /// The values of the fields in their order.
+    pub(crate) fn items(&self) -> Items<'_>
+        ensures { AreItemsOf fail_form (fail_wire self.now) result }
     {
-        [
-            Field {
-                name: "channel_id",
-                value: Item::Fixed(&self.channel_id),
-            },
-            Field {
-                name: "id",
-                value: Item::U64(self.id),
-            },
-            Field {
-                name: "reason",
-                value: Item::Sized(self.reason.as_slice()),
-            },
-        ]
+        Items::of(&[
+            Item::Fixed(&self.channel_id),
+            Item::U64(self.id),
+            Item::Sized(self.reason.as_slice()),
+        ])
     }
 }
 
 impl UpdateFailMalformedHtlc {
-    /// The fields in their order.
-    pub(crate) fn fields(&self) -> [Field<'_>; 4]
-        ensures { AreFieldsOf malformed_form (malformed_wire self.now) result }
+    /// The values of the fields in their order.
+    pub(crate) fn items(&self) -> Items<'_>
+        ensures { AreItemsOf malformed_form (malformed_wire self.now) result }
     {
-        [
-            Field {
-                name: "channel_id",
-                value: Item::Fixed(&self.channel_id),
-            },
-            Field {
-                name: "id",
-                value: Item::U64(self.id),
-            },
-            Field {
-                name: "sha256_of_onion",
-                value: Item::Fixed(&self.sha256_of_onion),
-            },
-            Field {
-                name: "failure_code",
-                value: Item::U16(self.failure_code),
-            },
-        ]
+        Items::of(&[
+            Item::Fixed(&self.channel_id),
+            Item::U64(self.id),
+            Item::Fixed(&self.sha256_of_onion),
+            Item::U16(self.failure_code),
+        ])
     }
 }
 
 impl UpdateFee {
-    /// The fields in their order.
-    pub(crate) fn fields(&self) -> [Field<'_>; 2]
-        ensures { AreFieldsOf fee_form (fee_wire self.now) result }
+    /// The values of the fields in their order.
+    pub(crate) fn items(&self) -> Items<'_>
+        ensures { AreItemsOf fee_form (fee_wire self.now) result }
     {
-        [
-            Field {
-                name: "channel_id",
-                value: Item::Fixed(&self.channel_id),
-            },
-            Field {
-                name: "feerate_per_kw",
-                value: Item::U32(self.feerate_per_kw),
-            },
-        ]
+        Items::of(&[
+            Item::Fixed(&self.channel_id),
+            Item::U32(self.feerate_per_kw),
+        ])
     }
 }

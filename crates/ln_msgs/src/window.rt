@@ -33,7 +33,7 @@ impl Model for Window {
 impl Window {
     ghost use Rattle.std.specs.Prelude.{◌≡◌, ◌<◌, ◌≤◌, [], length, drop, Ok, false, IfOk, IfErr};
     ghost use Rattle.std.specs.Io.KnownBytes.{Keeps, IsAtEnd, prepend_known};
-    ghost use Rattle.ln_msgs.specs.CountedView.{inner_of, failures_of};
+    ghost use Rattle.ln_msgs.specs.CountedView.{inner_of, failures_of, calls_of};
     ghost use Rattle.ln_msgs.specs.Counted.{HasRisen};
 
     /// A window that holds nothing.
@@ -73,6 +73,8 @@ impl Window {
         ensures end { result ≡ Ok false → (self.new ≡ self.old) × IsAtEnd (R.remaining (inner_of reader.new)) }
         ensures cause { IfErr result (λ e. (e ≡ Fault.Io) × HasRisen (failures_of reader.old) (failures_of reader.new)) }
         ensures failures { failures_of reader.old ≤ failures_of reader.new }
+        ensures called { HasRisen (calls_of reader.old) (calls_of reader.new) }
+        ensures calls { calls_of reader.old ≤ calls_of reader.new }
     {
         let buffer = self.buffer.as_mut_slice();
         let (start, end) = make_room(buffer, self.start, self.end);

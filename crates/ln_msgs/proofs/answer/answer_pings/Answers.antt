@@ -20,6 +20,7 @@ turns-init g c = record {
   sent = c.in_ok-out.ensures.bytes;
   reader_failures = omega arith;
   writer_failures = omega arith;
+  turns = omega arith;
 }
 
 pub returns-in_err-send-clause-some : goal.returns-in_err-send-clause-some
@@ -77,14 +78,16 @@ turns-preserved g c =
         sent = c.in_ok-send.ensures.ok.0;
         reader_failures = rw w.reader-is c.turns.invariant.reader_failures;
         writer_failures = omega (arith, c.turns.invariant.writer_failures, c.send.ensures.failures);
+        turns = rw w.reader-is (omega (arith, c.turns.invariant.turns, c.turns-test.true, c.in_ok-send.ensures.called (omega (arith, c.serve-taken.ensures.full w.in-Full.is))));
       }
       | in-NoFrame+in_ok-fill-in-NoFrame+else-not-branch w ↦ record {
         progress = rw (w.input-is, w.reader-is) (filled _ _ _ _ _ c.send.new.self p w.fill.ensures.kept);
         sent = c.in_ok-send.ensures.ok.0;
         reader_failures = rw w.reader-is (omega (arith, c.turns.invariant.reader_failures, w.fill.ensures.failures));
         writer_failures = omega (arith, c.turns.invariant.writer_failures, c.send.ensures.failures);
+        turns = rw w.reader-is (omega (arith, c.turns.invariant.turns, c.turns-test.true, c.send.ensures.calls, w.fill.ensures.called));
       }
     ]
 
 pub returns-clause-some : goal.returns-clause-some
-returns-clause-some g c = rw c.fail.ensures.inner (some _ _ _ _ c.turns.input c.turns.out c.turns.invariant.progress)
+returns-clause-some g c = some _ _ _ _ c.turns.input c.turns.out c.turns.invariant.progress

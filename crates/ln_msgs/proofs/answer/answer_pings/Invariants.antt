@@ -1,7 +1,7 @@
 -- Between the turns all that was owed is written, and what was read and not yet taken is held.
-use Rattle.std.proofs.Common.{◌≡◌, ◌≤◌, []}
+use Rattle.std.proofs.Common.{◌≡◌, ◌+◌, ◌≤◌, []}
 use Rattle.std.specs.Io.KnownBytes.{prepend_known}
-use Rattle.ln_msgs.specs.CountedView.{inner_of, failures_of}
+use Rattle.ln_msgs.specs.CountedView.{inner_of, failures_of, calls_of}
 use Rattle.ln_msgs.proofs.Progress.{Progress}
 use Rattle.ln_msgs.proofs.answer.answer_pings.Given as goal
 
@@ -14,4 +14,5 @@ invariant-turns g l =
       sent : l.out.bytes ≡ [];
       reader_failures : failures_of l.initial.reader ≤ failures_of l.reader;
       writer_failures : failures_of l.initial.writer ≤ failures_of l.writer;
+      turns : l.counter ≤ calls_of l.reader + calls_of l.writer;
     }

@@ -17,7 +17,8 @@ loop-written-preserved g c =
     record {
       within = omega (arith, length-drop done xs);
       sent = subst (Appends _ _) joined (Appends-trans _ _ _ _ _ before.sent c.in-Ok.ensures.bytes);
-      failures = omega (arith, c.in-Ok.ensures.kept);
+      failures = omega (arith, c.in-Ok.ensures.no_fewer_failures);
+      calls = omega (arith, c.in-Ok.ensures.no_fewer_calls);
     }
 
 pub returns-in_default-clause-front : goal.returns-in_default-clause-front

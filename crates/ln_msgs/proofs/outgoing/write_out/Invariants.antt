@@ -1,7 +1,7 @@
 -- Each turn writes some bytes, and what is written is the front of them.
 use Rattle.std.proofs.Common.{◌-◌, ◌≤◌, length, take}
 use Rattle.std.specs.Io.KnownBytes.{Appends}
-use Rattle.ln_msgs.specs.CountedView.{inner_of, failures_of}
+use Rattle.ln_msgs.specs.CountedView.{inner_of, failures_of, calls_of}
 use Rattle.ln_msgs.proofs.outgoing.write_out.Given as goal
 
 abbrev pub invariant-loop-written : goal.invariant-loop-written
@@ -9,6 +9,7 @@ invariant-loop-written g l = record {
   within : l.written ≤ length l.bytes;
   sent : Appends (g.W.Write.contents (inner_of l.initial.writer)) (g.W.Write.contents (inner_of l.writer)) (take l.written l.bytes);
   failures : failures_of l.initial.writer ≤ failures_of l.writer;
+  calls : calls_of l.initial.writer ≤ calls_of l.writer;
 }
 
 abbrev pub decreases-loop-written : goal.decreases-loop-written
