@@ -1,5 +1,6 @@
 pub mod Dance
 pub mod Exchange
+pub mod Messages
 pub use Rattle.ln_log.specs.Log
 pub use Rattle.ln_log.specs.Limits
 pub use Rattle.ln_keys.specs.Signer

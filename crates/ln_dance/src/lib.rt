@@ -5,6 +5,11 @@
 
 mod dance;
 mod laws;
+mod messages;
 
 pub use dance::{Dance, Later, Numbers, Peer};
 pub use laws::{revocation_is_learned, signature_is_accepted};
+pub use messages::{
+    add_message, add_of, fail_message, fail_of, fee_message, fee_of, fulfil_message, fulfil_of,
+    malformed_message, malformed_of, update_is_told_as_sent, update_message, update_of,
+};

@@ -267,14 +267,6 @@ propose_fault e u = first_fault (own_fault e u) (proposal_fault e.dance.log u)
 abbrev pub proposes : Update → End → End
 proposes u e = with_dance (with_log (proposed u e.dance.log) e.dance) e
 
--- an update as the message that tells it
-abbrev pub update_message : List ℕ → Update → Message
-update_message channel (update.Add a) = message.UpdateAddHtlc (record { channel_id = channel; id = a.id; amount_msat = a.amount; payment_hash = a.hash; cltv_expiry = a.expiry; onion = a.onion; records = [] })
-update_message channel (update.Fulfil f) = message.UpdateFulfillHtlc (record { channel_id = channel; id = f.id; preimage = f.preimage; records = [] })
-update_message channel (update.Fail f) = message.UpdateFailHtlc (record { channel_id = channel; id = f.id; reason = f.reason; records = [] })
-update_message channel (update.Malformed m) = message.UpdateFailMalformedHtlc (record { channel_id = channel; id = m.id; sha256_of_onion = m.sha256_of_onion; failure_code = m.failure_code; records = [] })
-update_message channel (update.Fee f) = message.UpdateFee (record { channel_id = channel; feerate_per_kw = f.feerate; records = [] })
-
 -- ---- a closing fee of the peer (BOLT 2, "Closing Negotiation: closing_signed")
 
 -- least and greatest, each in eight bytes

@@ -4,24 +4,23 @@ use crate::channel::Channel;
 use crate::events::send;
 use crate::output::Output;
 use ln_bytes::{Bytes, ShortId};
+use ln_dance::{add_message, fail_message, fee_message, fulfil_message, malformed_message};
 use ln_keys::ChannelKeys;
 use ln_log::{Add, Fail, Fee, Fulfil, Malformed, Side, Update};
-use ln_msgs::{
-    ChannelReady, CommitmentSigned, Message, Records, Refusal, Shutdown, UpdateAddHtlc,
-    UpdateFailHtlc, UpdateFailMalformedHtlc, UpdateFee, UpdateFulfillHtlc,
-};
+use ln_msgs::{ChannelReady, CommitmentSigned, Message, Records, Refusal, Shutdown};
 use std::alloc::Global;
 
 impl Channel {
     ghost use Rattle.std.specs.Prelude.{◌≡◌, length, ◌∷◌, [], OnOk, IfOk, OnErr};
     ghost use Rattle.ln_dance.specs.Dance.{AnswersWithin, sign_fault, signed_message};
+    ghost use Rattle.ln_dance.specs.Messages.{update_message};
     ghost use Rattle.ln_log.specs.declared.update.Update.TheVariants as update;
     ghost use Rattle.ln_log.specs.Updates.{next_id};
     ghost use Rattle.ln_log.specs.Limits.{HasNextId};
     ghost use Rattle.ln_log.specs.Log.{proposal_fault};
     ghost use Rattle.ln_msgs.specs.declared.message.Message.TheVariants as message;
     ghost use Rattle.ln_link.specs.declared.output.Output.TheVariants as output;
-    ghost use Rattle.ln_link.specs.Channel.{ChangesNothing, begins, confirm_fault, confirmed, ready_message, sign_command_fault, signs_next, sign_outputs, shut_fault, shuts_down, shut_outputs, shut_either, closed_fault, own_fault, propose_fault, proposes, update_message};
+    ghost use Rattle.ln_link.specs.Channel.{ChangesNothing, begins, confirm_fault, confirmed, ready_message, sign_command_fault, signs_next, sign_outputs, shut_fault, shuts_down, shut_outputs, shut_either, closed_fault, own_fault, propose_fault, proposes};
 
     /// The funding is deep enough: sends `channel_ready` (BOLT 2, "The `channel_ready` Message"). 40 where it was sent,
     /// or the channel is closed.
@@ -192,18 +191,7 @@ impl Channel {
     {
         self.propose(Update::Add(add))?;
         let mut outputs = Vec::new(alloc);
-        let channel_id = self.dance.channel();
-        let payment_hash = add.hash;
-        let onion = add.onion;
-        let message = UpdateAddHtlc {
-            channel_id,
-            id: add.id,
-            amount_msat: add.amount,
-            payment_hash,
-            cltv_expiry: add.expiry,
-            onion,
-            records: Records::empty(alloc),
-        };
+        let message = add_message(alloc, self.dance.channel(), &add);
         send(&mut outputs, Message::UpdateAddHtlc(message))?;
         Ok(outputs)
     }
@@ -220,14 +208,7 @@ impl Channel {
     {
         self.propose(Update::Fulfil(fulfil))?;
         let mut outputs = Vec::new(alloc);
-        let channel_id = self.dance.channel();
-        let preimage = fulfil.preimage;
-        let message = UpdateFulfillHtlc {
-            channel_id,
-            id: fulfil.id,
-            preimage,
-            records: Records::empty(alloc),
-        };
+        let message = fulfil_message(alloc, self.dance.channel(), &fulfil);
         send(&mut outputs, Message::UpdateFulfillHtlc(message))?;
         Ok(outputs)
     }
@@ -241,18 +222,10 @@ impl Channel {
         ensures state { OnOk result (self.new ≡ proposes (update.Fail fail) self.old) }
         ensures refused { ChangesNothing result self.old self.new }
     {
-        let id = fail.id;
-        let reason = Vec::from_slice(alloc, fail.reason.as_slice());
+        let message = fail_message(alloc, self.dance.channel(), &fail);
         self.propose(Update::Fail(fail))?;
         let mut outputs = Vec::new(alloc);
-        let channel_id = self.dance.channel();
-        let message = UpdateFailHtlc {
-            channel_id,
-            id,
-            reason: Bytes::new(reason?),
-            records: Records::empty(alloc),
-        };
-        send(&mut outputs, Message::UpdateFailHtlc(message))?;
+        send(&mut outputs, Message::UpdateFailHtlc(message?))?;
         Ok(outputs)
     }
 
@@ -272,15 +245,7 @@ impl Channel {
     {
         self.propose(Update::Malformed(malformed))?;
         let mut outputs = Vec::new(alloc);
-        let channel_id = self.dance.channel();
-        let sha256_of_onion = malformed.sha256_of_onion;
-        let message = UpdateFailMalformedHtlc {
-            channel_id,
-            id: malformed.id,
-            sha256_of_onion,
-            failure_code: malformed.failure_code,
-            records: Records::empty(alloc),
-        };
+        let message = malformed_message(alloc, self.dance.channel(), &malformed);
         send(&mut outputs, Message::UpdateFailMalformedHtlc(message))?;
         Ok(outputs)
     }
@@ -296,12 +261,7 @@ impl Channel {
     {
         self.propose(Update::Fee(fee))?;
         let mut outputs = Vec::new(alloc);
-        let channel_id = self.dance.channel();
-        let message = UpdateFee {
-            channel_id,
-            feerate_per_kw: fee.feerate,
-            records: Records::empty(alloc),
-        };
+        let message = fee_message(alloc, self.dance.channel(), &fee);
         send(&mut outputs, Message::UpdateFee(message))?;
         Ok(outputs)
     }
