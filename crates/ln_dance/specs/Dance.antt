@@ -1,9 +1,9 @@
 -- What one side of the dance keeps, and what each call makes of it (BOLT 2, "Normal Operation").
 use Rattle.std.specs.Prelude.{◌≡◌, ◌⊎◌, ℕ, ◌+◌, ◌<◌, ◌≤◌, ◌^◌, List, [], Bool, true, not, ◌==◌, Option, Some, None, Result, Ok, Err, if◌then◌else◌}
-use Rattle.ln_msgs.specs.declared.commitments.CommitmentSigned.{CommitmentSigned}
-use Rattle.ln_msgs.specs.declared.commitments.RevokeAndAck.{RevokeAndAck}
-use Rattle.ln_msgs.specs.declared.refusal.Refusal.{Refusal}
-use Rattle.ln_msgs.specs.declared.refusal.Refusal.TheVariants as refusal
+use Rattle.ln_msgs.specs.declared.messages.commitments.CommitmentSigned.{CommitmentSigned}
+use Rattle.ln_msgs.specs.declared.messages.commitments.RevokeAndAck.{RevokeAndAck}
+use Rattle.ln_msgs.specs.declared.refusals.refusal.Refusal.{Refusal}
+use Rattle.ln_msgs.specs.declared.refusals.refusal.Refusal.TheVariants as refusal
 use Rattle.ln_keys.specs.declared.view.View.{View}
 use Rattle.ln_keys.specs.Signer.{Signer}
 use Rattle.ln_log.specs.declared.log.Pair.{Pair}

@@ -1,12 +1,12 @@
 -- Updates and the messages that tell them (BOLT 2, "Normal Operation").
 use Rattle.std.specs.Prelude.{ℕ, List, [], Option, Some, None}
-use Rattle.ln_msgs.specs.declared.message.Message.{Message}
-use Rattle.ln_msgs.specs.declared.message.Message.TheVariants as message
-use Rattle.ln_msgs.specs.declared.updates.UpdateAddHtlc.{UpdateAddHtlc}
-use Rattle.ln_msgs.specs.declared.updates.UpdateFulfillHtlc.{UpdateFulfillHtlc}
-use Rattle.ln_msgs.specs.declared.updates.UpdateFailHtlc.{UpdateFailHtlc}
-use Rattle.ln_msgs.specs.declared.updates.UpdateFailMalformedHtlc.{UpdateFailMalformedHtlc}
-use Rattle.ln_msgs.specs.declared.updates.UpdateFee.{UpdateFee}
+use Rattle.ln_msgs.specs.declared.messages.message.Message.{Message}
+use Rattle.ln_msgs.specs.declared.messages.message.Message.TheVariants as message
+use Rattle.ln_msgs.specs.declared.messages.updates.UpdateAddHtlc.{UpdateAddHtlc}
+use Rattle.ln_msgs.specs.declared.messages.updates.UpdateFulfillHtlc.{UpdateFulfillHtlc}
+use Rattle.ln_msgs.specs.declared.messages.updates.UpdateFailHtlc.{UpdateFailHtlc}
+use Rattle.ln_msgs.specs.declared.messages.updates.UpdateFailMalformedHtlc.{UpdateFailMalformedHtlc}
+use Rattle.ln_msgs.specs.declared.messages.updates.UpdateFee.{UpdateFee}
 use Rattle.ln_log.specs.declared.update.Add.{Add}
 use Rattle.ln_log.specs.declared.update.Fulfil.{Fulfil}
 use Rattle.ln_log.specs.declared.update.Fail.{Fail}

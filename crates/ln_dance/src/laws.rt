@@ -2,8 +2,8 @@
 //! its way.
 
 ghost use Rattle.std.specs.Prelude.{◌≡◌, ◌+◌, ◌<◌, ◌^◌, None, true};
-ghost use Rattle.ln_msgs.specs.declared.commitments.CommitmentSigned.{CommitmentSigned};
-ghost use Rattle.ln_msgs.specs.declared.commitments.RevokeAndAck.{RevokeAndAck};
+ghost use Rattle.ln_msgs.specs.declared.messages.commitments.CommitmentSigned.{CommitmentSigned};
+ghost use Rattle.ln_msgs.specs.declared.messages.commitments.RevokeAndAck.{RevokeAndAck};
 ghost use Rattle.ln_keys.specs.Signer.{Signer};
 ghost use Rattle.ln_keys.specs.Partners.{ArePartners};
 ghost use Rattle.ln_dance.specs.Dance.{Dancer, owes, signed_message, accept_fault, revoked_message, learn_fault, learns};

@@ -2,7 +2,7 @@
 
 ghost use Rattle.std.specs.Prelude.{◌≡◌, IfOk, IfErr, IsTrue, is_some, not};
 ghost use Rattle.ln_hooks.specs.Event.{event_of, added, settled, is_bounded, is_fee};
-ghost use Rattle.ln_msgs.specs.declared.refusal.Refusal.TheVariants as refusal;
+ghost use Rattle.ln_msgs.specs.declared.refusals.refusal.Refusal.TheVariants as refusal;
 
 use crate::amount::Msat;
 use ln_bytes::Bytes;

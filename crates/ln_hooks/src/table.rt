@@ -17,7 +17,7 @@ pub struct HookTable {
 impl HookTable {
     ghost use Rattle.std.specs.Prelude.{◌≡◌, ◌++◌, ◌∷◌, [], OnOk, OnErr, IfOk, IfErr};
     ghost use Rattle.ln_hooks.specs.Table.{Says, SaysOfEach};
-    ghost use Rattle.ln_msgs.specs.declared.refusal.Refusal.TheVariants as refusal;
+    ghost use Rattle.ln_msgs.specs.declared.refusals.refusal.Refusal.TheVariants as refusal;
 
     /// No hooks. Takes no memory.
     pub fn new(alloc: Global) -> HookTable

@@ -1,6 +1,6 @@
 -- What an end keeps as it accepts a signature or learns a revocation.
 use Rattle.std.proofs.Common.{refl, ap, sym, inl, inr, Option, Some, None, ◌≡◌, ℕ, ◌+◌, ◌≤◌, Result, Ok, Err, OnOk, OnErr, arith}
-use Rattle.ln_msgs.specs.declared.refusal.Refusal.{Refusal}
+use Rattle.ln_msgs.specs.declared.refusals.refusal.Refusal.{Refusal}
 use Rattle.ln_log.specs.Limits.{Answers}
 use Rattle.ln_dance.specs.Dance.{Dancer, AnswersWithin}
 

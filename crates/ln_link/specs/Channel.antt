@@ -4,14 +4,14 @@ use Rattle.ln_bytes.specs.Endian.{big_bytes, big_number}
 use Rattle.ln_bytes.specs.Tlv.{value_of}
 use Rattle.ln_bytes.specs.declared.record.Record.{Record}
 use Rattle.ln_bytes.specs.declared.short_id.ShortId.{ShortId}
-use Rattle.ln_msgs.specs.declared.message.Message.{Message}
-use Rattle.ln_msgs.specs.declared.message.Message.TheVariants as message
-use Rattle.ln_msgs.specs.declared.closing.ClosingSigned.{ClosingSigned}
-use Rattle.ln_msgs.specs.declared.closing.Shutdown.{Shutdown}
-use Rattle.ln_msgs.specs.declared.commitments.CommitmentSigned.{CommitmentSigned}
-use Rattle.ln_msgs.specs.declared.commitments.RevokeAndAck.{RevokeAndAck}
-use Rattle.ln_msgs.specs.declared.refusal.Refusal.{Refusal}
-use Rattle.ln_msgs.specs.declared.refusal.Refusal.TheVariants as refusal
+use Rattle.ln_msgs.specs.declared.messages.message.Message.{Message}
+use Rattle.ln_msgs.specs.declared.messages.message.Message.TheVariants as message
+use Rattle.ln_msgs.specs.declared.messages.closing.ClosingSigned.{ClosingSigned}
+use Rattle.ln_msgs.specs.declared.messages.closing.Shutdown.{Shutdown}
+use Rattle.ln_msgs.specs.declared.messages.commitments.CommitmentSigned.{CommitmentSigned}
+use Rattle.ln_msgs.specs.declared.messages.commitments.RevokeAndAck.{RevokeAndAck}
+use Rattle.ln_msgs.specs.declared.refusals.refusal.Refusal.{Refusal}
+use Rattle.ln_msgs.specs.declared.refusals.refusal.Refusal.TheVariants as refusal
 use Rattle.ln_keys.specs.Signer.{Signer}
 use Rattle.ln_log.specs.declared.update.Update.{Update}
 use Rattle.ln_log.specs.Log.{Log, covered, between, live_in, received, taken_fault, proposed, proposal_fault}
@@ -23,7 +23,7 @@ use Rattle.ln_hooks.specs.declared.event.ChannelEvent.TheVariants as event
 use Rattle.ln_close.specs.Closing.{first_fee, started, shuts, peer_shuts, answer_to, after}
 use Rattle.ln_hooks.specs.declared.event.ChannelEvent.{ChannelEvent}
 use Rattle.std.specs.Cmp.Lexicographic.{pointwise}
-use Rattle.ln_msgs.specs.declared.opening.ChannelReady.{ChannelReady}
+use Rattle.ln_msgs.specs.declared.messages.opening.ChannelReady.{ChannelReady}
 use Rattle.ln_log.specs.declared.update.Update.TheVariants as update
 use Rattle.ln_log.specs.Limits.{first_fault, is_spent}
 use Rattle.ln_link.specs.declared.output.Output.{Output}

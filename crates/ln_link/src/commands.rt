@@ -18,7 +18,7 @@ impl Channel {
     ghost use Rattle.ln_log.specs.Updates.{next_id};
     ghost use Rattle.ln_log.specs.Limits.{HasNextId};
     ghost use Rattle.ln_log.specs.Log.{proposal_fault};
-    ghost use Rattle.ln_msgs.specs.declared.message.Message.TheVariants as message;
+    ghost use Rattle.ln_msgs.specs.declared.messages.message.Message.TheVariants as message;
     ghost use Rattle.ln_link.specs.declared.output.Output.TheVariants as output;
     ghost use Rattle.ln_link.specs.Channel.{ChangesNothing, begins, confirm_fault, confirmed, ready_message, sign_command_fault, signs_next, sign_outputs, shut_fault, shuts_down, shut_outputs, shut_either, closed_fault, own_fault, propose_fault, proposes};
 

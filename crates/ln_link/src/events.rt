@@ -3,7 +3,7 @@
 ghost use Rattle.std.specs.Prelude.{◌≡◌, ◌+◌, ◌≤◌, ◌<◌, ◌^◌, ◌++◌, ◌∷◌, [], length, OnOk, IfOk, IfErr};
 ghost use Rattle.ln_link.specs.Outputs.{events_of, numbered};
 ghost use Rattle.ln_link.specs.declared.output.Output.TheVariants as output;
-ghost use Rattle.ln_msgs.specs.declared.refusal.Refusal.TheVariants as refusal;
+ghost use Rattle.ln_msgs.specs.declared.refusals.refusal.Refusal.TheVariants as refusal;
 
 use crate::output::Output;
 use ln_hooks::event_of;

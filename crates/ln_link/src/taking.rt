@@ -23,7 +23,7 @@ impl Channel {
     ghost use Rattle.ln_log.specs.declared.update.Update.TheVariants as update;
     ghost use Rattle.ln_log.specs.Log.{taken_fault};
     ghost use Rattle.ln_close.specs.declared.closing.Answer.{Answer};
-    ghost use Rattle.ln_msgs.specs.declared.message.Message.TheVariants as message;
+    ghost use Rattle.ln_msgs.specs.declared.messages.message.Message.TheVariants as message;
     ghost use Rattle.ln_link.specs.Channel.{ChangesNothing, accepts, revokes, closing_fault, closing_answer, answer_outputs, answers_fee, closed_at, takes_ready, late_fault, early_fault, update_taken_fault, takes, shutdown_fault, shutdown_outputs, after_shutdown, signature_fault, signature_outputs, after_signature, revocation_outputs, after_revocation};
 
     // Accepts a signature of the peer, and gives the revocation.

@@ -3,9 +3,9 @@ use Rattle.std.proofs.Common.{◌≡◌, ℕ, ◌+◌, ◌*◌, ◌≤◌, ◌<�
 use Rattle.std.proofs.lemmas.List.{take-append-le}
 use Rattle.std.proofs.lemmas.Bool.{leb-false, lt-leb, eqb-true}
 use Rattle.std.specs.Result.{IsErrAnd}
-use Rattle.ln_msgs.specs.Refusal.{refusal_number}
-use Rattle.ln_msgs.specs.declared.refusal.Refusal.{Refusal}
-use Rattle.ln_msgs.specs.declared.refusal.Refusal.TheVariants as refusal
+use Rattle.ln_msgs.specs.Refusals.Refusal.{refusal_number}
+use Rattle.ln_msgs.specs.declared.refusals.refusal.Refusal.{Refusal}
+use Rattle.ln_msgs.specs.declared.refusals.refusal.Refusal.TheVariants as refusal
 use Rattle.ln_keys.specs.declared.role.Role.{Role}
 use Rattle.ln_keys.specs.declared.role.Role.TheVariants.{Funder, Fundee}
 use Rattle.ln_keys.specs.Role.{other_role}

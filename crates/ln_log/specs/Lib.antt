@@ -7,4 +7,4 @@ pub mod Limits
 pub mod Standing
 pub mod Machine
 pub mod Log
-pub use Rattle.ln_msgs.specs.Refusal
+pub use Rattle.ln_msgs.specs.Refusals.Refusal

@@ -2,8 +2,8 @@
 -- "Requirements").
 use Rattle.std.specs.Prelude.{◌≡◌, ℕ, ◌+◌, ◌*◌, List, length, Option, Some, None, Result, Ok, Err, ◌||◌, ◌==◌, nat_le, nat_lt, nat_eq, Bool, if◌then◌else◌}
 use Rattle.std.specs.Cmp.Lexicographic.{pointwise}
-use Rattle.ln_msgs.specs.declared.refusal.Refusal.{Refusal}
-use Rattle.ln_msgs.specs.declared.refusal.Refusal.TheVariants as refusal
+use Rattle.ln_msgs.specs.declared.refusals.refusal.Refusal.{Refusal}
+use Rattle.ln_msgs.specs.declared.refusals.refusal.Refusal.TheVariants as refusal
 use Rattle.ln_keys.specs.declared.role.Role.{Role}
 use Rattle.ln_keys.specs.declared.role.Role.TheVariants.{Funder, Fundee}
 use Rattle.ln_keys.specs.Hash.{payment_hash}

@@ -6,9 +6,9 @@ use Rattle.ln_bytes.specs.Reading.{◌>>=◌}
 use Rattle.ln_bytes.specs.Tlv.{value_at, record_at, records_at, stream_at}
 use Rattle.ln_bytes.specs.declared.fault.Fault.{Fault}
 use Rattle.ln_bytes.specs.declared.fault.Fault.TheVariants.{Truncated, NotMinimal, TlvOrder, TlvUnknownEven, TlvLength, UnknownEvenType, TooLong, FieldLength, Io}
-use Rattle.ln_msgs.specs.Field.{Kind, Number, Fixed, Sized, Listed, bytes_at, number_at, string_at, items_at, list_at, field_at, fields_at}
-use Rattle.ln_msgs.specs.Table.{Form, kinds_of, form_of}
-use Rattle.ln_msgs.specs.Message.{formed_at, payload_at, message_at}
+use Rattle.ln_msgs.specs.Codec.Field.{Kind, Number, Fixed, Sized, Listed, bytes_at, number_at, string_at, items_at, list_at, field_at, fields_at}
+use Rattle.ln_msgs.specs.Messages.Table.{Form, kinds_of, form_of}
+use Rattle.ln_msgs.specs.Messages.Message.{formed_at, payload_at, message_at}
 
 -- a reading that refuses by 1 to 8 alone
 pub record Tells {A : Type 0} (r : Result A Fault) : Type 0 where

@@ -3,9 +3,9 @@ use Rattle.std.proofs.Common.{◌≡◌, ℕ, ◌≤◌, List, [], ◌∷◌, �
 use Rattle.std.proofs.lemmas.Bool.Decides.{nat_tests}
 use Rattle.ln_bytes.specs.Fault.{fault_number}
 use Rattle.ln_bytes.specs.declared.fault.Fault.{Fault}
-use Rattle.ln_msgs.specs.Message.{Heard, message_at}
-use Rattle.ln_msgs.specs.Frame.{frame, HasFrame, HasNoFrame, Hears, IsFaulty, EndsHearing}
-use Rattle.ln_msgs.specs.Framer.{Fed, unfed, HearsSoFar, HasHeard, Refuses, Call, Answered, Refused, Runs, came, answered}
+use Rattle.ln_msgs.specs.Messages.Message.{Heard, message_at}
+use Rattle.ln_msgs.specs.Frames.Frame.{frame, HasFrame, HasNoFrame, Hears, IsFaulty, EndsHearing}
+use Rattle.ln_msgs.specs.Frames.Framer.{Fed, unfed, HearsSoFar, HasHeard, Refuses, Call, Answered, Refused, Runs, came, answered}
 use Rattle.ln_msgs.proofs.Faults.{message_tells}
 use Rattle.ln_msgs.proofs.Serving.{hears_more}
 use Rattle.ln_msgs.proofs.OneHearing.{same_frame, one_hearing_is}

@@ -6,8 +6,8 @@ use Rattle.byteorder.specs.Endian.{big_bytes, big_number}
 use Rattle.byteorder.specs.Numbers.{big_from-lt, big_number-reads_back, length-bytes_high_first}
 use Rattle.std.specs.Prelude.{IfOk}
 use Rattle.ln_bytes.specs.Reading.{◌>>=◌, Gives}
-use Rattle.ln_msgs.specs.declared.message.Incoming.{Incoming}
-use Rattle.ln_msgs.specs.Typed.{heard}
+use Rattle.ln_msgs.specs.declared.messages.message.Incoming.{Incoming}
+use Rattle.ln_msgs.specs.Messages.Typed.{heard}
 use Rattle.ln_bytes.specs.Tlv.{record_bytes, stream_bytes, MayStand, AreFit, Spells, record_at, records_at, stream_at}
 use Rattle.ln_bytes.specs.declared.fault.Fault.{Fault}
 use Rattle.ln_bytes.specs.declared.fault.Fault.TheVariants.{Truncated, FieldLength, UnknownEvenType, TooLong}
@@ -16,10 +16,10 @@ use Rattle.ln_bytes.proofs.Reading.{IsBytes, IsBytes-drop, bind_ok, guard_ok, ok
 use Rattle.ln_bytes.proofs.Numbers.{bytes_back}
 use Rattle.ln_bytes.proofs.Records.{record_takes}
 use Rattle.ln_bytes.proofs.Streams.{stream_again}
-use Rattle.ln_msgs.specs.Field.{Kind, Number, Fixed, Sized, Listed, Value, Num, Str, Many, IsOf, AreOf, value_bytes, fields_bytes, bytes_at, number_at, string_at, items_at, list_at, field_at, fields_at}
+use Rattle.ln_msgs.specs.Codec.Field.{Kind, Number, Fixed, Sized, Listed, Value, Num, Str, Many, IsOf, AreOf, value_bytes, fields_bytes, bytes_at, number_at, string_at, items_at, list_at, field_at, fields_at}
 use Rattle.std.specs.List.{AllByRecursion, concat}
-use Rattle.ln_msgs.specs.Table.{Form, kinds_of, form_of}
-use Rattle.ln_msgs.specs.Message.{Wire, IsFormed, have_lengths, Heard, Known, Ignored, Says, formed_at, payload_at, may_be_ignored, message_at}
+use Rattle.ln_msgs.specs.Messages.Table.{Form, kinds_of, form_of}
+use Rattle.ln_msgs.specs.Messages.Message.{Wire, IsFormed, have_lengths, Heard, Known, Ignored, Says, formed_at, payload_at, may_be_ignored, message_at}
 
 -- ---- records
 

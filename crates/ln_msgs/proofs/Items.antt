@@ -4,7 +4,7 @@ use Rattle.std.proofs.lemmas.List.{append-nil}
 use Rattle.ln_bytes.specs.declared.fault.Fault.{Fault}
 use Rattle.ln_bytes.specs.declared.fault.Fault.TheVariants.{Memory}
 use Rattle.ln_bytes.specs.Reading.{◌>>=◌}
-use Rattle.ln_msgs.specs.Field.{bytes_at, items_at}
+use Rattle.ln_msgs.specs.Codec.Field.{bytes_at, items_at}
 
 -- what was read before, and what is still read
 abbrev pub with_front : List (List ℕ) → Result (List (List ℕ) × List ℕ) Fault → Result (List (List ℕ) × List ℕ) Fault

@@ -2,8 +2,8 @@
 use Rattle.std.proofs.Common.{◌≡◌, ℕ, ◌<◌, ◌/◌, ◌%◌, List, [], ◌∷◌, ◌++◌, length, get_or, take, drop, Result, Ok, refl, sym, ap, ◌∙◌, arith, append_assoc}
 use Rattle.std.proofs.lemmas.List.{take_at, drop_at}
 use Rattle.ln_bytes.specs.declared.fault.Fault.{Fault}
-use Rattle.ln_msgs.specs.Message.{Heard, message_at}
-use Rattle.ln_msgs.specs.Frame.{frame, Hears, EndsHearing}
+use Rattle.ln_msgs.specs.Messages.Message.{Heard, message_at}
+use Rattle.ln_msgs.specs.Frames.Frame.{frame, Hears, EndsHearing}
 
 same_length : (m n x y : List ℕ) → length m < 65536 → length n < 65536 → frame m ++ x ≡ frame n ++ y → length m ≡ length n
 same_length m n x y fm fn e =

@@ -5,14 +5,14 @@ use Rattle.std.proofs.KnownBytes.{Consumes-nil, Consumes-kept, Appends-nil, Appe
 use Rattle.std.proofs.lemmas.List.Concat.{flat_map-append}
 use Rattle.ln_bytes.specs.declared.fault.Fault.{Fault}
 use Rattle.ln_bytes.specs.declared.fault.Fault.TheVariants.{Truncated}
-use Rattle.ln_msgs.specs.Message.{Heard}
-use Rattle.ln_msgs.specs.Frame.{frame, Hears, HasNoFrame, IsFaulty}
-use Rattle.ln_msgs.specs.Answer.{reply, replies, pongs, told}
-use Rattle.ln_msgs.specs.Answered.{AnswersAll, AnswersUpTo, AnswersSome}
-use Rattle.ln_msgs.specs.Outgoing.{Waiting}
-use Rattle.ln_msgs.specs.Served.{Serves, StopsAt}
-use Rattle.ln_msgs.specs.declared.answer.Stop.{Stop}
-use Rattle.ln_msgs.specs.Written.{IsPartlyWritten}
+use Rattle.ln_msgs.specs.Messages.Message.{Heard}
+use Rattle.ln_msgs.specs.Frames.Frame.{frame, Hears, HasNoFrame, IsFaulty}
+use Rattle.ln_msgs.specs.Pings.Answer.{reply, replies, pongs, told}
+use Rattle.ln_msgs.specs.Pings.Answered.{AnswersAll, AnswersUpTo, AnswersSome}
+use Rattle.ln_msgs.specs.Pings.Outgoing.{Waiting}
+use Rattle.ln_msgs.specs.Pings.Served.{Serves, StopsAt}
+use Rattle.ln_msgs.specs.declared.pings.answer.Stop.{Stop}
+use Rattle.ln_msgs.specs.Pings.Written.{IsPartlyWritten}
 use Rattle.ln_msgs.proofs.Serving.{pongs-append}
 
 -- Whole frames were heard; of their replies some were written and the others wait. `outlook` is what is

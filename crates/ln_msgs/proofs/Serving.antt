@@ -10,14 +10,14 @@ use Rattle.std.proofs.lemmas.Bool.Decides.{nat_tests}
 use Rattle.ln_bytes.specs.Tlv.{stream_at}
 use Rattle.ln_bytes.specs.declared.fault.Fault.TheVariants.{FieldLength, UnknownEvenType}
 use Rattle.ln_bytes.proofs.Reading.{bind_ok, ok_is}
-use Rattle.ln_msgs.specs.Field.{fields_at}
-use Rattle.ln_msgs.specs.Table.{Form, kinds_of}
-use Rattle.ln_msgs.specs.Message.{Heard, Known, Ignored, formed_at, payload_at, have_lengths, may_be_ignored, message_at}
+use Rattle.ln_msgs.specs.Codec.Field.{fields_at}
+use Rattle.ln_msgs.specs.Messages.Table.{Form, kinds_of}
+use Rattle.ln_msgs.specs.Messages.Message.{Heard, Known, Ignored, formed_at, payload_at, have_lengths, may_be_ignored, message_at}
 use Rattle.ln_msgs.proofs.Grammar.{ends}
-use Rattle.ln_msgs.specs.Frame.{frame, HasFrame, Hears}
-use Rattle.ln_msgs.specs.Answer.{owed, asked, owed_at, paid, reply, replies, one_if_owed, pongs, told}
-use Rattle.ln_msgs.specs.Outgoing.{Waiting}
-use Rattle.ln_msgs.specs.Served.{Serves}
+use Rattle.ln_msgs.specs.Frames.Frame.{frame, HasFrame, Hears}
+use Rattle.ln_msgs.specs.Pings.Answer.{owed, asked, owed_at, paid, reply, replies, one_if_owed, pongs, told}
+use Rattle.ln_msgs.specs.Pings.Outgoing.{Waiting}
+use Rattle.ln_msgs.specs.Pings.Served.{Serves}
 
 -- a message that asks for this was heard
 pub heard_from : (message : List ℕ) (o : Option ℕ) → owed_at message ≡ Ok o → (h : Heard) × (message_at message ≡ Ok h) × (owed h ≡ o)

@@ -3,13 +3,13 @@ use Rattle.std.proofs.Common.{◌≡◌, ℕ, List, [], ◌∷◌, length, map, 
 use Rattle.std.proofs.lemmas.List.{length-map}
 use Rattle.std.specs.Prelude.{IfOk}
 use Rattle.std.specs.Global.{Vec}
-use Rattle.ln_msgs.specs.declared.form.Form.{Form}
-use Rattle.ln_msgs.specs.declared.item.Field.{Field}
-use Rattle.ln_msgs.specs.declared.item.Item.{Item}
-use Rattle.ln_msgs.specs.Forms.{IsFormBy}
-use Rattle.ln_msgs.specs.Items.{kind_of, value_of, AreItemsBy, IsShownByForm}
-use Rattle.ln_msgs.specs.Message.{Wire}
-use Rattle.ln_msgs.specs.Table as table
+use Rattle.ln_msgs.specs.declared.messages.form.Form.{Form}
+use Rattle.ln_msgs.specs.declared.messages.item.Field.{Field}
+use Rattle.ln_msgs.specs.declared.messages.item.Item.{Item}
+use Rattle.ln_msgs.specs.Messages.Forms.{IsFormBy}
+use Rattle.ln_msgs.specs.Messages.Items.{kind_of, value_of, AreItemsBy, IsShownByForm}
+use Rattle.ln_msgs.specs.Messages.Message.{Wire}
+use Rattle.ln_msgs.specs.Messages.Table as table
 
 twice : {A B C : Type 0} (f : A → B) (g : B → C) (xs : List A) → map g (map f xs) ≡ map (λ x. g (f x)) xs
 twice f g [] = refl

@@ -8,12 +8,12 @@ use Rattle.ln_bytes.specs.Tlv.{stream_bytes, AreFit}
 use Rattle.ln_bytes.specs.declared.fault.Fault.{Fault}
 use Rattle.ln_bytes.specs.declared.fault.Fault.TheVariants.{TooLong, Memory}
 use Rattle.ln_bytes.specs.declared.record.Record.{Record}
-use Rattle.ln_msgs.specs.declared.item.Item.{Item}
-use Rattle.ln_msgs.specs.Field.{AreOf, fields_bytes}
-use Rattle.ln_msgs.specs.Items.{kind_of, value_of, item_bytes, items_bytes, AreItemsOf, AreItemsBy, AreProper}
-use Rattle.ln_msgs.specs.Table.{Form, kinds_of, form_of}
-use Rattle.ln_msgs.specs.Message.{Wire, wire_bytes, formed_bytes, Known, Says}
-use Rattle.ln_msgs.specs.Writing.{MayFollowForm, CanBeWritten, AreOfForm, IsWritten, parts_bytes}
+use Rattle.ln_msgs.specs.declared.messages.item.Item.{Item}
+use Rattle.ln_msgs.specs.Codec.Field.{AreOf, fields_bytes}
+use Rattle.ln_msgs.specs.Messages.Items.{kind_of, value_of, item_bytes, items_bytes, AreItemsOf, AreItemsBy, AreProper}
+use Rattle.ln_msgs.specs.Messages.Table.{Form, kinds_of, form_of}
+use Rattle.ln_msgs.specs.Messages.Message.{Wire, wire_bytes, formed_bytes, Known, Says}
+use Rattle.ln_msgs.specs.Codec.Writing.{MayFollowForm, CanBeWritten, AreOfForm, IsWritten, parts_bytes}
 use Rattle.ln_msgs.proofs.Sums.{flat_fits}
 
 pub item_below : (is : List Item) (i : ℕ) (d : Item) → i < length is → length (items_bytes is) < 65536 → length (item_bytes (get_or is i d)) < 65536

@@ -2,53 +2,35 @@
 //! by which messages, commands, scripts and records are refused.
 #![tactic(auto)]
 
-mod answer;
-mod channel;
-mod closing;
-mod commitments;
-mod counted;
-mod decoding;
-mod encoding;
-mod features;
-mod field;
-mod fitting;
-mod form;
-mod frame;
-mod framer;
-mod item;
-mod item_list;
-mod message;
-mod opening;
-mod outgoing;
-mod records;
-mod refusal;
-mod reply;
-mod setup;
-mod signatures;
-mod updates;
-mod window;
+mod codec;
+mod frames;
+mod messages;
+mod pings;
+mod refusals;
 
-pub use answer::answer_pings;
-pub use channel::channel_id;
-pub use closing::{ClosingSigned, Shutdown};
-pub use commitments::{ChannelReestablish, CommitmentSigned, RevokeAndAck};
-pub use counted::Counted;
-pub use decoding::{decode, one_message};
-pub use encoding::encode;
-pub use features::check_init;
-pub use fitting::fits;
-pub use frame::one_hearing;
-pub use framer::{Framer, any_pieces};
-pub use item::{Field, Item};
-pub use message::{Incoming, Message};
-pub use opening::{AcceptChannel, ChannelReady, FundingCreated, FundingSigned, OpenChannel};
-pub use records::Records;
-pub use refusal::Refusal;
-pub use setup::{Error, Init, Ping, Pong, Warning};
-pub use signatures::Signatures;
-pub use updates::{
+pub use codec::decoding::{decode, one_message};
+pub use codec::encoding::encode;
+pub use codec::fitting::fits;
+pub use frames::frame::one_hearing;
+pub use frames::framer::{Framer, any_pieces};
+pub use messages::channel::channel_id;
+pub use messages::closing::{ClosingSigned, Shutdown};
+pub use messages::commitments::{ChannelReestablish, CommitmentSigned, RevokeAndAck};
+pub use messages::features::check_init;
+pub use messages::item::{Field, Item};
+pub use messages::message::{Incoming, Message};
+pub use messages::opening::{
+    AcceptChannel, ChannelReady, FundingCreated, FundingSigned, OpenChannel,
+};
+pub use messages::records::Records;
+pub use messages::setup::{Error, Init, Ping, Pong, Warning};
+pub use messages::signatures::Signatures;
+pub use messages::updates::{
     UpdateAddHtlc, UpdateFailHtlc, UpdateFailMalformedHtlc, UpdateFee, UpdateFulfillHtlc,
 };
+pub use pings::answer::answer_pings;
+pub use pings::counted::Counted;
+pub use refusals::refusal::Refusal;
 
 #[cfg(test)]
 mod frame_tests;

@@ -1,8 +1,8 @@
 //! Refusals as numbers.
 
 ghost use Rattle.std.specs.Prelude.{◌≡◌, ◌≢◌, ◌+◌, ℕ, Some, None};
-ghost use Rattle.ln_msgs.specs.declared.refusal.Refusal.TheVariants.{PeerLimit};
-ghost use Rattle.ln_msgs.specs.Refusal.{refusal_number};
+ghost use Rattle.ln_msgs.specs.declared.refusals.refusal.Refusal.TheVariants.{PeerLimit};
+ghost use Rattle.ln_msgs.specs.Refusals.Refusal.{refusal_number};
 
 use ln_msgs::Refusal;
 

@@ -1,7 +1,7 @@
 -- What an end does, by the answer of its log.
 use Rattle.std.proofs.Common.{◌≡◌, Option, Some, None, Ok, Err, false, cond, refl, sym, ap, ◌∙◌, subst, is_none}
-use Rattle.ln_msgs.specs.declared.refusal.Refusal.{Refusal}
-use Rattle.ln_msgs.specs.declared.refusal.Refusal.TheVariants as refusal
+use Rattle.ln_msgs.specs.declared.refusals.refusal.Refusal.{Refusal}
+use Rattle.ln_msgs.specs.declared.refusals.refusal.Refusal.TheVariants as refusal
 use Rattle.ln_log.specs.declared.update.Add.{Add}
 use Rattle.ln_log.specs.declared.update.Update.TheVariants as update
 use Rattle.ln_log.specs.Limits.{Answers}

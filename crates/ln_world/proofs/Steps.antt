@@ -2,7 +2,7 @@
 use Rattle.ln_world.specs.World.{MayOffer, TakesFront, taken_moves, act_moves}
 use Rattle.std.proofs.Common.{◌≡◌, ◌↔◌, ℕ, ◌+◌, ◌≤◌, List, [], ◌∷◌, ◌++◌, length, take, Option, Some, None, false, cond, refl, sym, ap, ◌∙◌, subst, arith, is_none}
 use Rattle.std.proofs.lemmas.List.{take-append-le, take_all}
-use Rattle.ln_msgs.specs.declared.refusal.Refusal.{Refusal}
+use Rattle.ln_msgs.specs.declared.refusals.refusal.Refusal.{Refusal}
 use Rattle.ln_keys.specs.declared.role.Role.{Role}
 use Rattle.ln_keys.specs.declared.role.Role.TheVariants.{Funder, Fundee}
 use Rattle.ln_log.specs.declared.opening.Opening.{Opening}

@@ -1,7 +1,7 @@
 -- Both ends of a channel, and what is in flight between them (BOLT 2, "Normal Operation"). What an end
 -- does is told from that end, as x, with y at the other.
 use Rattle.std.specs.Prelude.{ℕ, ◌+◌, List, [], ◌∷◌, ◌++◌, Option, is_none, if◌then◌else◌, Some, None}
-use Rattle.ln_msgs.specs.declared.refusal.Refusal.{Refusal}
+use Rattle.ln_msgs.specs.declared.refusals.refusal.Refusal.{Refusal}
 use Rattle.ln_keys.specs.declared.role.Role.{Role}
 use Rattle.ln_log.specs.declared.opening.Opening.{Opening}
 use Rattle.ln_log.specs.declared.update.Add.{Add}

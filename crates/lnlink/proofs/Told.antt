@@ -2,8 +2,8 @@
 use Rattle.std.proofs.Common.{◌≡◌, ◌≢◌, ◌⊎◌, ℕ, List, Result, Ok, Err, sym, ap, ◌∙◌, inl, inr, refl}
 use Rattle.ln_bytes.specs.declared.fault.Fault.{Fault}
 use Rattle.ln_bytes.specs.declared.fault.Fault.TheVariants as faults
-use Rattle.ln_msgs.specs.declared.refusal.Refusal.{Refusal}
-use Rattle.ln_msgs.specs.Message.{Heard, message_at}
+use Rattle.ln_msgs.specs.declared.refusals.refusal.Refusal.{Refusal}
+use Rattle.ln_msgs.specs.Messages.Message.{Heard, message_at}
 use Rattle.lnlink.specs.declared.failure.Failure.{Failure}
 use Rattle.lnlink.specs.declared.failure.Failure.TheVariants.{Refused}
 

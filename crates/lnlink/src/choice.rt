@@ -1,7 +1,7 @@
 //! The words of the command line.
 
 ghost use Rattle.std.specs.Prelude.{◌≡◌, ◌⊎◌, IfErr};
-ghost use Rattle.ln_msgs.specs.declared.refusal.Refusal.TheVariants.{Memory};
+ghost use Rattle.ln_msgs.specs.declared.refusals.refusal.Refusal.TheVariants.{Memory};
 
 use crate::failure::Failure;
 use clap::error::ErrorKind;

@@ -48,7 +48,7 @@ impl From<Refusal> for Failure {
 impl From<AllocError> for Failure {
     ghost use Rattle.std.specs.Prelude.{◌≡◌};
     ghost use Rattle.lnlink.specs.declared.failure.Failure.TheVariants.{Refused};
-    ghost use Rattle.ln_msgs.specs.declared.refusal.Refusal.TheVariants.{Memory};
+    ghost use Rattle.ln_msgs.specs.declared.refusals.refusal.Refusal.TheVariants.{Memory};
 
     ghost from_gives = { λ _ e. e ≡ Refused Memory };
 
@@ -60,7 +60,7 @@ impl From<AllocError> for Failure {
 impl<T: Drop> From<AllocFailed<T>> for Failure {
     ghost use Rattle.std.specs.Prelude.{◌≡◌};
     ghost use Rattle.lnlink.specs.declared.failure.Failure.TheVariants.{Refused};
-    ghost use Rattle.ln_msgs.specs.declared.refusal.Refusal.TheVariants.{Memory};
+    ghost use Rattle.ln_msgs.specs.declared.refusals.refusal.Refusal.TheVariants.{Memory};
 
     ghost from_gives = { λ _ e. e ≡ Refused Memory };
 

@@ -13,7 +13,7 @@
 
 ghost use Rattle.std.specs.Prelude.{◌≡◌, ◌≤◌, ◌⊎◌, ℕ, IfSome};
 ghost use Rattle.std.specs.Result.{IfErr};
-ghost use Rattle.ln_msgs.specs.declared.refusal.Refusal.TheVariants.{BadScript};
+ghost use Rattle.ln_msgs.specs.declared.refusals.refusal.Refusal.TheVariants.{BadScript};
 
 use crate::failure::Failure;
 use crate::print::print_all;

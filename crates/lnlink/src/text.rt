@@ -3,9 +3,9 @@
 ghost use Rattle.std.specs.Prelude.{◌≡◌, ◌⊎◌, ℕ, List, Ok, Err, OnErr};
 ghost use Rattle.hex.specs.Hex.{decode_of};
 ghost use Rattle.ln_bytes.specs.declared.fault.Fault.{Fault};
-ghost use Rattle.ln_msgs.specs.Message.{message_at};
-ghost use Rattle.ln_msgs.specs.Refusal.{refusal_of};
-ghost use Rattle.ln_msgs.specs.declared.refusal.Refusal.TheVariants.{Memory};
+ghost use Rattle.ln_msgs.specs.Messages.Message.{message_at};
+ghost use Rattle.ln_msgs.specs.Refusals.Refusal.{refusal_of};
+ghost use Rattle.ln_msgs.specs.declared.refusals.refusal.Refusal.TheVariants.{Memory};
 
 use crate::failure::Failure;
 use hex::FromHexError;

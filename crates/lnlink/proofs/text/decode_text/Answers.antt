@@ -1,5 +1,5 @@
 use Rattle.std.proofs.Common.{◌≡◌, sym, ap, ◌∙◌, inl, inr}
-use Rattle.ln_msgs.specs.Refusal.{refusal_of}
+use Rattle.ln_msgs.specs.Refusals.Refusal.{refusal_of}
 use Rattle.lnlink.proofs.Told.{told, same_value, refused_alike}
 use Rattle.lnlink.proofs.text.decode_text.Goals as goal
 

@@ -1,0 +1,16 @@
+-- The text by which each refusal is told.
+use Rattle.std.specs.Prelude.{ℕ, List, [], ◌++◌, codes}
+use Rattle.std.specs.Fmt.{decimal}
+use Rattle.ln_msgs.specs.declared.refusals.refusal.Refusal.{Refusal}
+use Rattle.ln_msgs.specs.declared.refusals.refusal.Refusal.TheVariants as refusal
+use Rattle.ln_msgs.specs.Refusals.Refusal.{refusal_number}
+
+-- what follows the number
+abbrev pub detail : Refusal → List ℕ
+detail (refusal.PeerLimit n) = codes " " ++ decimal n
+detail (refusal.BadScript line) = codes " line " ++ decimal line
+detail r = []
+
+-- `refused` and the number, and what follows it
+abbrev pub refusal_text : Refusal → List ℕ
+refusal_text r = codes "refused " ++ decimal (refusal_number r) ++ detail r

@@ -1,0 +1,166 @@
+//! Messages of a stream that comes in pieces.
+
+ghost use Rattle.std.specs.Prelude.{◌≡◌, List, [], ◌++◌, ◌≤◌, ℕ, drop, vec_len, map, IfOk, IfErr};
+ghost use Rattle.ln_msgs.specs.Messages.Message.{Heard};
+ghost use Rattle.ln_msgs.specs.Messages.Typed.{heard};
+ghost use Rattle.ln_msgs.specs.Frames.Framer.{Fed, HearsFront, HasHeard, Runs, Call, unfed, came, answered};
+ghost use Rattle.ln_msgs.specs.Frames.Frame.{Hears, EndsHearing};
+
+use crate::codec::decoding::decode;
+use crate::frames::frame::next_frame;
+use crate::messages::message::Incoming;
+use ln_bytes::Fault;
+use std::alloc::Global;
+use std::marker::Model;
+
+/// Takes the bytes of a connection in pieces, and answers the messages whose frames are whole.
+///
+/// A frame is two bytes of length, the highest first, and a message of that many bytes. Between calls a framer
+/// holds the bytes of at most one frame that isn't whole yet, 65,536 at most, whatever came before.
+#[derive(Drop)]
+pub struct Framer {
+    held: Vec<u8>,
+    fault: Option<Fault>,
+}
+
+/// The most bytes that a frame has which isn't whole.
+const MOST_HELD: usize = 65_536;
+
+impl Model for Framer {
+    ghost use Rattle.ln_msgs.specs.Frames.Framer.{Fed};
+
+    ghost Value = { Fed };
+
+    ghost view = { λ f. record { held = f.held.items; fault = f.fault } };
+}
+
+/// What was heard of some bytes: the messages of the whole frames at their front, how many bytes these frames
+/// took, and the fault of the frame behind them.
+#[derive(Drop)]
+struct Hearing {
+    messages: Vec<Incoming>,
+    taken: usize,
+    fault: Option<Fault>,
+}
+
+impl Framer {
+    ghost use Rattle.std.specs.Prelude.{◌≡◌, ◌≢◌, [], ◌++◌, map, None, IfOk, IfErr};
+    ghost use Rattle.ln_msgs.specs.Messages.Typed.{heard};
+    ghost use Rattle.ln_msgs.specs.Frames.Framer.{unfed, HearsFront, HasHeard, Answers, Finds, Refuses};
+
+    /// A framer that nothing came to yet. Takes no memory.
+    pub fn new(alloc: Global) -> Framer
+        ensures { result ≡ unfed }
+    {
+        Framer {
+            held: Vec::new(alloc),
+            fault: None,
+        }
+    }
+
+    /// Takes the next bytes of the stream, and answers the messages that are whole now, in their order.
+    ///
+    /// The bytes may be cut anywhere; those behind the last whole frame are held until the rest of it comes. Where
+    /// messages stand before a frame that can't be read, this call answers them and the next call the fault. A
+    /// framer that found a fault answers it at each call from then on, and looks at no further byte.
+    ///
+    /// Takes memory for the bytes held and the piece together, and for the messages. A call that hears a message or
+    /// is refused memory cuts its buffer to 65,536 bytes, or leaves it where the allocator can't; one that finds a
+    /// fault gives it back. So a long piece leaves no long buffer, and pieces that are no message yet leave one of
+    /// less than twice that length.
+    ///
+    /// Errors: 1 to 6 and 8, the first fault of a message (`decode`). 60 where there is no memory: then nothing has
+    /// changed, and the same bytes may be fed again.
+    pub fn feed(&mut self, alloc: Global, piece: &[u8]) -> Result<Vec<Incoming>, Fault>
+        ensures ok { IfOk result (λ messages. Answers self.old piece.now (map heard messages.items) self.new) }
+        ensures err { IfErr result (λ f. Refuses self.old piece.now f self.new) }
+    {
+        if let Some(fault) = self.fault {
+            return Err(fault);
+        }
+        let before = self.held.len();
+        self.held.extend_from_slice(piece)?;
+        match hear(alloc, &self.held) {
+            Ok(hearing) => self.keep(hearing),
+            Err(fault) => {
+                self.held.truncate(before);
+                self.held.shrink_to(MOST_HELD);
+                Err(fault)
+            }
+        }
+    }
+
+    /// Keeps what is left behind the messages that were heard, and answers these.
+    fn keep(&mut self, hearing: Hearing) -> Result<Vec<Incoming>, Fault>
+        requires heard { HearsFront self.old.held (map heard hearing.messages.items) hearing.taken hearing.fault }
+        requires sound { self.old.fault ≡ None }
+        ensures ok { IfOk result (λ messages. HasHeard self.old.held (map heard messages.items) self.new × (map heard messages.items ≡ [] → self.new.fault ≡ None)) }
+        ensures err { IfErr result (λ f. HasHeard self.old.held [] self.new × (self.new.fault ≡ Some f)) }
+    {
+        let Hearing {
+            messages,
+            taken,
+            fault,
+        } = hearing;
+        let Some(fault) = fault else {
+            drop_front(&mut self.held, taken);
+            return Ok(messages);
+        };
+        self.held.clear();
+        self.held.shrink_to_fit();
+        self.fault = Some(fault);
+        if messages.is_empty() {
+            return Err(fault);
+        }
+        Ok(messages)
+    }
+}
+
+/// Drops so many bytes from the front, and the room for more than a frame.
+fn drop_front(bytes: &mut Vec<u8>, count: usize)
+    requires { count ≤ vec_len bytes.old }
+    ensures { bytes.new.items ≡ drop count bytes.old.items }
+{
+    if count == 0 {
+        return;
+    }
+    let left = bytes.len() - count;
+    bytes.as_mut_slice().copy_within(count.., 0);
+    bytes.truncate(left);
+    bytes.shrink_to(MOST_HELD);
+}
+
+/// Hears the whole frames at the front of the bytes, up to the first fault. The only error is 60.
+fn hear(alloc: Global, bytes: &[u8]) -> Result<Hearing, Fault>
+    ensures ok { IfOk result (λ h. HearsFront bytes.now (map heard h.messages.items) h.taken h.fault) }
+    ensures err { IfErr result (λ f. f ≡ Fault.Memory) }
+{
+    let mut messages = Vec::new(alloc);
+    let mut rest = bytes;
+    'frames: while let Some((message, after)) = next_frame(rest) {
+        match decode(alloc, message) {
+            Ok(incoming) => messages.push(incoming)?,
+            Err(Fault::Memory) => return Err(Fault::Memory),
+            Err(fault) => {
+                return Ok(Hearing {
+                    messages,
+                    taken: bytes.len() - rest.len(),
+                    fault: Some(fault),
+                });
+            }
+        }
+        rest = after;
+    }
+    Ok(Hearing {
+        messages,
+        taken: bytes.len() - rest.len(),
+        fault: None,
+    })
+}
+
+/// However a stream is cut into pieces, a framer that it is fed to answers the same messages: those of the bytes
+/// that came, up to the first fault.
+pub fn any_pieces()
+    ensures heard { (calls : List Call) (fed : Fed) → Runs unfed calls fed → HasHeard (came calls) (answered calls) fed }
+    ensures only { (calls : List Call) (fed : Fed) (hs : List Heard) (front rest : List ℕ) → Runs unfed calls fed → Hears hs front → EndsHearing rest → came calls ≡ front ++ rest → answered calls ≡ hs }
+{}

@@ -1,0 +1,78 @@
+//! The records behind the fields of a message.
+
+ghost use Rattle.std.specs.Prelude.{◌≡◌};
+ghost use Rattle.std.specs.List.{list_all};
+ghost use Rattle.ln_bytes.specs.Reading.{Gives};
+ghost use Rattle.ln_bytes.specs.Tlv.{stream_at};
+ghost use Rattle.ln_msgs.specs.Messages.Message.{has_length};
+
+use ln_bytes::{Fault, Record, read_tlvs};
+use std::alloc::Global;
+use std::marker::Model;
+
+/// Records in their order, which contracts see as a list.
+///
+/// They are made from a `Vec` and give it back without taking memory.
+#[derive(Drop)]
+pub struct Records {
+    items: Vec<Record>,
+}
+
+impl Model for Records {
+    ghost use Rattle.std.specs.Prelude.{List};
+    ghost use Rattle.ln_bytes.specs.declared.record.Record.{Record};
+
+    ghost Value = { List Record };
+
+    ghost view = { λ r. r.items.items };
+}
+
+impl Records {
+    ghost use Rattle.std.specs.Prelude.{◌≡◌, []};
+
+    /// No records. Takes no memory.
+    pub fn empty(alloc: Global) -> Records
+        ensures { result ≡ [] }
+    {
+        Records {
+            items: Vec::new(alloc),
+        }
+    }
+
+    /// The records of a vector. Takes no memory.
+    pub fn new(items: Vec<Record>) -> Records
+        ensures { result ≡ items.items }
+    {
+        Records { items }
+    }
+
+    /// The vector. Takes no memory.
+    pub fn into_vec(self) -> Vec<Record>
+        ensures { result.items ≡ self }
+    {
+        self.items
+    }
+
+    /// The records in order.
+    pub fn as_slice(&self) -> &[Record]
+        ensures { result.now ≡ self.now }
+    {
+        self.items.as_slice()
+    }
+}
+
+/// The records of a TLV stream that goes to the end of the bytes; the faults are those of `read_tlvs`.
+pub(crate) fn records_at(alloc: Global, bytes: &[u8], known_even: &[u64]) -> Result<Records, Fault>
+    ensures { Gives (λ r. r) result (stream_at known_even.now bytes.now) }
+{
+    Ok(Records::new(read_tlvs(alloc, bytes, known_even)?))
+}
+
+/// Whether each record of this type has a value of this length.
+pub(crate) fn have_length(records: &[Record], typ: u64, len: usize) -> bool
+    ensures { result ≡ list_all (has_length (typ, len)) records.now }
+{
+    records
+        .iter()
+        .all(|record| record.typ != typ || record.value.len() == len)
+}

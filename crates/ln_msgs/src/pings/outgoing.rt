@@ -1,0 +1,138 @@
+//! Pongs that are owed and not yet written.
+
+ghost use Rattle.std.specs.Prelude.{◌≡◌, ◌≤◌, OnOk, IfErr};
+ghost use Rattle.std.specs.Io.KnownBytes.{Appends};
+ghost use Rattle.ln_msgs.specs.Pings.Counted.{HasRisen};
+ghost use Rattle.ln_msgs.specs.Pings.CountedView.{inner_of, failures_of, calls_of};
+ghost use Rattle.ln_msgs.specs.Pings.Written.{IsPartlyWritten};
+
+use crate::pings::counted::Counted;
+use byteorder::{BigEndian, ByteOrder};
+use ln_bytes::Fault;
+use std::alloc::{AllocError, Global};
+use std::io::Write;
+use std::marker::Model;
+
+/// From so many waiting bytes on, no further pong is taken before they are written.
+const FULL: usize = 131_072;
+
+/// The longest frame of a pong.
+const LONGEST: usize = 65_537;
+
+/// The type of a pong.
+const PONG: u16 = 19;
+
+/// Frames of pongs that wait to be written, in one piece of memory that never grows, and the count of all
+/// pongs so far, at most 2^64 - 1.
+#[derive(Drop)]
+pub(crate) struct Outgoing {
+    bytes: Vec<u8>,
+    pongs: u64,
+}
+
+impl Model for Outgoing {
+    ghost use Rattle.std.specs.Prelude.{◌≤◌, vec_capacity};
+    ghost use Rattle.ln_msgs.specs.Pings.Outgoing.{Waiting};
+
+    ghost Value = { Waiting };
+
+    ghost view = { λ o. record { bytes = o.bytes.items; pongs = o.pongs } };
+
+    ghost invariant = { λ o. 196609 ≤ vec_capacity o.bytes };
+}
+
+impl Outgoing {
+    ghost use Rattle.std.specs.Prelude.{◌≡◌, ◌+◌, ◌<◌, ◌≤◌, ◌↔◌, [], ◌++◌, length, IsTrue, IfOk, OnOk, IfErr};
+    ghost use Rattle.std.specs.Io.KnownBytes.{Appends};
+    ghost use Rattle.ln_msgs.specs.Pings.Answer.{pong_frame};
+    ghost use Rattle.ln_msgs.specs.Pings.Written.{IsPartlyWritten};
+    ghost use Rattle.ln_msgs.specs.Pings.Counted.{HasRisen, one_more};
+    ghost use Rattle.ln_msgs.specs.Pings.CountedView.{inner_of, failures_of, calls_of};
+
+    /// Nothing waits.
+    pub(crate) fn new(alloc: Global) -> Result<Outgoing, AllocError>
+        ensures bytes { IfOk result (λ o. o.bytes ≡ []) }
+        ensures pongs { IfOk result (λ o. o.pongs ≡ 0) }
+    {
+        Ok(Outgoing {
+            bytes: Vec::with_capacity(alloc, FULL + LONGEST)?,
+            pongs: 0,
+        })
+    }
+
+    /// How many pongs were owed so far.
+    pub(crate) fn pongs(&self) -> u64
+        ensures { result ≡ self.now.pongs }
+    {
+        self.pongs
+    }
+
+    /// Whether what waits has to be written first.
+    pub(crate) fn is_full(&self) -> bool
+        ensures { IsTrue result ↔ (131072 ≤ length self.now.bytes) }
+    {
+        self.bytes.len() >= FULL
+    }
+
+    /// Adds a pong of so many zero bytes. Takes no memory.
+    pub(crate) fn push_pong(&mut self, count: u16)
+        requires owed { count < 65532 }
+        requires room { length self.old.bytes < 131072 }
+        ensures bytes { self.new.bytes ≡ self.old.bytes ++ pong_frame count }
+        ensures pongs { self.new.pongs ≡ one_more self.old.pongs }
+    {
+        let mut head = [0u8; 6];
+        BigEndian::write_u16(&mut head, count + 4);
+        BigEndian::write_u16(&mut head[2..], PONG);
+        BigEndian::write_u16(&mut head[4..], count);
+        let Ok(()) = self.bytes.extend_from_slice(&head) else {
+            unreachable!();
+        };
+        let len = self.bytes.len() + usize::from(count);
+        let Ok(()) = self.bytes.resize(len, 0) else {
+            unreachable!();
+        };
+        self.pongs = self.pongs.saturating_add(1);
+    }
+
+    /// Writes all that waits and flushes the writer; where nothing waits, does nothing. A failing write or
+    /// flush is 63, and what was written by then is a beginning of what waited.
+    pub(crate) fn send<W: Write>(&mut self, writer: &mut Counted<W>) -> Result<(), Fault>
+        ensures ok { OnOk result ((self.new.bytes ≡ []) × Appends (W.contents (inner_of writer.old)) (W.contents (inner_of writer.new)) self.old.bytes) }
+        ensures front { IsPartlyWritten (W.contents (inner_of writer.old)) (W.contents (inner_of writer.new)) self.old.bytes }
+        ensures cause { IfErr result (λ e. (e ≡ Fault.Io) × HasRisen (failures_of writer.old) (failures_of writer.new)) }
+        ensures failures { failures_of writer.old ≤ failures_of writer.new }
+        ensures called { OnOk result (0 < length self.old.bytes → HasRisen (calls_of writer.old) (calls_of writer.new)) }
+        ensures calls { calls_of writer.old ≤ calls_of writer.new }
+        ensures pongs { self.new.pongs ≡ self.old.pongs }
+    {
+        if self.bytes.is_empty() {
+            return Ok(());
+        }
+        write_out(&self.bytes, writer)?;
+        self.bytes.clear();
+        match writer.flush() {
+            Ok(()) => Ok(()),
+            Err(_) => Err(Fault::Io),
+        }
+    }
+}
+
+/// Writes the bytes, in as few calls as the writer allows. A failing write is 63, and what was written by
+/// then is a beginning of the bytes.
+fn write_out<W: Write>(bytes: &[u8], writer: &mut Counted<W>) -> Result<(), Fault>
+    ensures ok { OnOk result (Appends (W.contents (inner_of writer.old)) (W.contents (inner_of writer.new)) bytes.now) }
+    ensures front { IsPartlyWritten (W.contents (inner_of writer.old)) (W.contents (inner_of writer.new)) bytes.now }
+    ensures cause { IfErr result (λ e. (e ≡ Fault.Io) × HasRisen (failures_of writer.old) (failures_of writer.new)) }
+    ensures failures { failures_of writer.old ≤ failures_of writer.new }
+    ensures calls { calls_of writer.old ≤ calls_of writer.new }
+{
+    let mut written = 0;
+    while written < bytes.len() {
+        match writer.write(&bytes[written..]) {
+            Ok(count) if count > 0 => written += count,
+            _ => return Err(Fault::Io),
+        }
+    }
+    Ok(())
+}
