@@ -56,8 +56,8 @@ impl Policy {
 
     /// The fee for forwarding this amount, both in millisatoshi, rounded down (BOLT 7, "HTLC Fees").
     pub fn fee(&self, amount: u64) -> u128
-        ensures is { result ≡ fee self.now amount }
-        ensures small { result < 2 ^ 96 }
+        ensures is_the_fee_formula { result ≡ fee self.now amount }
+        ensures fits_96_bits { result < 2 ^ 96 }
     {
         u128::from(self.base) + u128::from(amount) * u128::from(self.proportional) / 1_000_000
     }

@@ -38,7 +38,7 @@ pub struct Payload {
 /// was no memory.
 pub fn read_payload(alloc: Global, bytes: &[u8]) -> Result<Payload, Fault>
     ensures found { IfOk result (λ p. SpellsHop (hop_of p) bytes.now) }
-    ensures only { (h : Hop) → SpellsHop h bytes.now → Gives hop_of result (Ok h) }
+    ensures reads_each_spelling { (h : Hop) → SpellsHop h bytes.now → Gives hop_of result (Ok h) }
     ensures exact { Gives hop_of result (payload_at bytes.now) }
 {
     let records = read_tlvs(alloc, bytes, &[2, 4, 6, 8])?;
@@ -121,6 +121,6 @@ fn payment_in(value: Option<&[u8]>) -> Result<Option<Payment>, Fault>
 
 /// Bytes are one payload at most, and no payload is refused.
 pub fn one_payload()
-    ensures said { (g h : Hop) (bytes : List ℕ) → SpellsHop g bytes → SpellsHop h bytes → g ≡ h }
-    ensures outcome { (h : Hop) (f : Fault) (bytes : List ℕ) → SpellsHop h bytes → payload_at bytes ≢ Err f }
+    ensures one_payload { (g h : Hop) (bytes : List ℕ) → SpellsHop g bytes → SpellsHop h bytes → g ≡ h }
+    ensures refuses_no_spelling { (h : Hop) (f : Fault) (bytes : List ℕ) → SpellsHop h bytes → payload_at bytes ≢ Err f }
 {}

@@ -17,11 +17,11 @@ pub fn relay<T: Drop>(
     alloc: Global,
     capacity: usize,
 ) -> Result<(SendSeat<T>, SendSeat<T>, RecvSeat<T>), AllocError>
-    requires within { (1 ≤ capacity) × (capacity ≤ 65536) }
-    ensures seats { IfOk result (λ seats.
+    requires capacity_is_allowed { (1 ≤ capacity) × (capacity ≤ 65536) }
+    ensures seats_of_one_relay { IfOk result (λ seats.
         AreSeatsOfOne (sender_place seats.0) (sender_place seats.1) (receiver_place seats.2)) }
-    ensures empty { IfOk result (λ seats. (put seats.0 ≡ []) × (put seats.1 ≡ []) × (taken seats.2 ≡ [])) }
-    ensures room { IfOk result (λ seats. (sender_place seats.0).room ≡ capacity) }
+    ensures all_begin_empty { IfOk result (λ seats. (put seats.0 ≡ []) × (put seats.1 ≡ []) × (taken seats.2 ≡ [])) }
+    ensures has_the_capacity { IfOk result (λ seats. (sender_place seats.0).room ≡ capacity) }
     ensures room_of_second { IfOk result (λ seats. (sender_place seats.1).room ≡ capacity) }
     ensures room_of_receiver { IfOk result (λ seats. (receiver_place seats.2).room ≡ capacity) }
 {
@@ -54,7 +54,7 @@ pub fn relay<T: Drop>(
 /// taken. What is left in the relay is dropped. Takes no memory.
 pub fn finish<T: Drop>(first: SendSeat<T>, second: SendSeat<T>, receiver: RecvSeat<T>) -> Finished
     requires of_one { AreSeatsOfOne (sender_place first) (sender_place second) (receiver_place receiver) }
-    ensures counts { AreCounts result (put first) (put second) (taken receiver) }
+    ensures counts_are_of_the_seats { AreCounts result (put first) (put second) (taken receiver) }
     ensures merge { IsMergeOfAll (put first) (put second) (taken receiver) }
 {
     let done = Finished {

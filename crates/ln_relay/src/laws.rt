@@ -7,9 +7,9 @@ ghost use Rattle.ln_relay.specs.History.{nothing, CanRun, run, all_added};
 /// Each step that can happen keeps what was taken and what is queued a merge of what was put, and changes the
 /// list of no seat but its own.
 pub fn each_step_keeps_order<T>()
-    ensures order { (room : ℕ) (step : Step T) (h : History T) → CanHappen room step h → IsInOrder h
+    ensures keeps_order { (room : ℕ) (step : Step T) (h : History T) → CanHappen room step h → IsInOrder h
         → IsInOrder (after step h) }
-    ensures within { (room : ℕ) (step : Step T) (h : History T) → CanHappen room step h → length h.queued ≤ room
+    ensures keeps_within_the_room { (room : ℕ) (step : Step T) (h : History T) → CanHappen room step h → length h.queued ≤ room
         → length (after step h).queued ≤ room }
     ensures one_seat { (seat : Seat) (step : Step T) (h : History T) →
         own seat (after step h) ≡ own seat h ++ adds seat step }
@@ -19,8 +19,8 @@ pub fn each_step_keeps_order<T>()
 /// and what is queued are a merge of what was put, the queue stays within its room, and each seat's list is what
 /// its own steps put or took.
 pub fn in_every_schedule<T>()
-    ensures order { (room : ℕ) (steps : List (Step T)) → CanRun room steps nothing → IsInOrder (run steps nothing) }
-    ensures within { (room : ℕ) (steps : List (Step T)) → CanRun room steps nothing
+    ensures keeps_order { (room : ℕ) (steps : List (Step T)) → CanRun room steps nothing → IsInOrder (run steps nothing) }
+    ensures keeps_within_the_room { (room : ℕ) (steps : List (Step T)) → CanRun room steps nothing
         → length (run steps nothing).queued ≤ room }
     ensures each_seat { (seat : Seat) (steps : List (Step T)) → own seat (run steps nothing) ≡ all_added seat steps }
 {}

@@ -34,8 +34,8 @@ impl<T: Drop> MemorySend<T> {
     ///
     /// Error: where there is no memory.
     pub fn new(alloc: Global, room: usize) -> Result<MemorySend<T>, AllocError>
-        ensures empty { IfOk result (λ seat. kept seat ≡ []) }
-        ensures room { IfOk result (λ seat. (sender_place seat).room ≡ room) }
+        ensures begins_empty { IfOk result (λ seat. kept seat ≡ []) }
+        ensures has_this_room { IfOk result (λ seat. (sender_place seat).room ≡ room) }
     {
         let items = Vec::with_capacity(alloc, room)?;
         Ok(MemorySend { items, room })
@@ -43,7 +43,7 @@ impl<T: Drop> MemorySend<T> {
 
     /// What was put, oldest first. Takes no memory.
     pub fn into_items(self) -> Vec<T>
-        ensures all { result.items ≡ kept self }
+        ensures hands_out_all { result.items ≡ kept self }
     {
         let MemorySend { items, .. } = self;
         items

@@ -1,8 +1,8 @@
 use Rattle.ln_forward.proofs.Again.{same_payload, no_fault}
 use Rattle.ln_forward.proofs.payload.one_payload.Goals as goal
 
-pub returns-clause-said : goal.returns-clause-said
-returns-clause-said c = same_payload
+pub returns-clause-one_payload : goal.returns-clause-one_payload
+returns-clause-one_payload c = same_payload
 
-pub returns-clause-outcome : goal.returns-clause-outcome
-returns-clause-outcome c = no_fault
+pub returns-clause-refuses_no_spelling : goal.returns-clause-refuses_no_spelling
+returns-clause-refuses_no_spelling c = no_fault
