@@ -10,7 +10,7 @@ use Rattle.ln_bytes.specs.declared.record.Record.{Record}
 use Rattle.ln_bytes.specs.Bigsize.{bigsize}
 use Rattle.ln_bytes.specs.declared.fault.Fault.TheVariants.{Memory}
 use Rattle.ln_bytes.specs.Reading.{◌>>=◌, Gives}
-use Rattle.ln_bytes.specs.Tlv.{record_bytes, stream_bytes, may_follow, may_stand, last_type, RiseFrom, AreRising, AreKnown, Fits, AreFit, MayStand, Spells, HasFault, record_at, records_at, stream_at}
+use Rattle.ln_bytes.specs.Tlv.{record_bytes, stream_bytes, may_follow, is_allowed, last_type, RiseFrom, AreRising, AreKnown, Fits, AreFit, AreValid, Spells, HasFault, record_at, records_at, stream_at}
 use Rattle.ln_bytes.proofs.Reading.{IsBytes, bind_ok, bind_err, ok_is}
 use Rattle.ln_bytes.proofs.Numbers.{one_way}
 use Rattle.ln_bytes.proofs.Records.{IsFront, record_takes, record_again, record_nonempty}
@@ -37,9 +37,9 @@ longer a b c h e = omega arith
 
 -- ---- one more record at the end
 
-pub MayStand-push : (known : List ℕ) (before : Option ℕ) (good : List Record) (r : Record) → MayStand known before good → may_follow (last_type before good) r.typ ≡ true → may_stand known r.typ ≡ true → MayStand known before (good ++ r ∷ [])
-MayStand-push known before [] r m f s = (f, s, tt)
-MayStand-push known before (g ∷ gs) r m f s = (m.0, m.1, MayStand-push known (Some g.typ) gs r m.2 f s)
+pub AreValid-push : (known : List ℕ) (before : Option ℕ) (good : List Record) (r : Record) → AreValid known before good → may_follow (last_type before good) r.typ ≡ true → is_allowed known r.typ ≡ true → AreValid known before (good ++ r ∷ [])
+AreValid-push known before [] r m f s = (f, s, tt)
+AreValid-push known before (g ∷ gs) r m f s = (m.0, m.1, AreValid-push known (Some g.typ) gs r m.2 f s)
 
 pub AreFit-push : (good : List Record) (r : Record) → AreFit good → Fits r → AreFit (good ++ r ∷ [])
 AreFit-push [] r m f = (f, tt)
@@ -55,14 +55,14 @@ stream_bytes-push good r = flat_map-append record_bytes good (r ∷ []) ∙ ap (
 -- ---- what a reader has so far
 
 pub record IsSoFar (known : List ℕ) (bytes : List ℕ) (good : List Record) (before : Option ℕ) (rest : List ℕ) : Type 0 where
-  pub stand : MayStand known None good
+  pub valid : AreValid known None good
   pub fit : AreFit good
   pub bytes_are : bytes ≡ stream_bytes good ++ rest
   pub before_is : before ≡ last_type None good
   pub rest_fits : IsBytes rest
 
 pub begins : (known : List ℕ) (bytes : List ℕ) → IsBytes bytes → IsSoFar known bytes [] None bytes
-begins known bytes fits = record { stand = tt; fit = tt; bytes_are = refl; before_is = refl; rest_fits = fits }
+begins known bytes fits = record { valid = tt; fit = tt; bytes_are = refl; before_is = refl; rest_fits = fits }
 
 pub goes_on : (known bytes : List ℕ) (good : List Record) (before : Option ℕ) (rest : List ℕ) (r : Record) (after : List ℕ) → IsSoFar known bytes good before rest → record_at known before rest ≡ Ok (r, after) → IsSoFar known bytes (good ++ r ∷ []) (Some r.typ) after
 goes_on known bytes good before rest r after so e =
@@ -70,7 +70,7 @@ goes_on known bytes good before rest r after so e =
     let follows : may_follow (last_type None good) r.typ ≡ true = subst (λ (o : Option ℕ). may_follow o r.typ ≡ true) so.before_is f.follows in
     let whole : bytes ≡ stream_bytes (good ++ r ∷ []) ++ after = so.bytes_are ∙ ap (λ (x : List ℕ). stream_bytes good ++ x) f.takes.parts ∙ sym (append_assoc (stream_bytes good) (record_bytes r) after) ∙ ap (λ (x : List ℕ). x ++ after) (sym (stream_bytes-push good r)) in
     record {
-      stand = MayStand-push known None good r so.stand follows f.stands;
+      valid = AreValid-push known None good r so.valid follows f.allowed;
       fit = AreFit-push good r so.fit f.fits;
       bytes_are = whole;
       before_is = sym (last_type-push None good r);
@@ -85,14 +85,14 @@ gets_shorter known before rest r after fits e =
     shorter (length rest) (length (record_bytes r)) (length after) whole some
 
 pub ends : (known bytes : List ℕ) (good : List Record) (before : Option ℕ) → IsSoFar known bytes good before [] → Spells known good bytes
-ends known bytes good before so = record { stand = so.stand; fit = so.fit; bytes_are = so.bytes_are ∙ append-nil (stream_bytes good) }
+ends known bytes good before so = record { valid = so.valid; fit = so.fit; bytes_are = so.bytes_are ∙ append-nil (stream_bytes good) }
 
 pub faults : (known bytes : List ℕ) (good : List Record) (before : Option ℕ) (rest : List ℕ) (f : Fault) → IsSoFar known bytes good before rest → rest ≢ [] → record_at known before rest ≡ Err f → HasFault known bytes f
 faults known bytes good before rest f so some e =
     record {
       good = good;
       bad = rest;
-      stand = so.stand;
+      valid = so.valid;
       fit = so.fit;
       bytes_are = so.bytes_are;
       some_left = some;
@@ -139,7 +139,7 @@ record IsPast (turns : ℕ) (known : List ℕ) (before : Option ℕ) (good : Lis
   enough : length bad ≤ left
   is : records_at turns known before (stream_bytes good ++ bad) ≡ behind good (records_at left known (last_type before good) bad)
 
-past : (turns : ℕ) (known : List ℕ) (before : Option ℕ) (good : List Record) (bad : List ℕ) → MayStand known before good → AreFit good → length (stream_bytes good ++ bad) ≤ turns → IsPast turns known before good bad
+past : (turns : ℕ) (known : List ℕ) (before : Option ℕ) (good : List Record) (bad : List ℕ) → AreValid known before good → AreFit good → length (stream_bytes good ++ bad) ≤ turns → IsPast turns known before good bad
 past turns known before [] bad m f l = record { left = turns; enough = l; is = sym (behind-nil (records_at turns known before bad)) }
 past zero known before (g ∷ gs) bad m f l =
     absurd (none_left (length (record_bytes g)) _ (record_nonempty g) (ap length (append_assoc (record_bytes g) (stream_bytes gs) bad) ∙ length-append (record_bytes g) (stream_bytes gs ++ bad)) l)
@@ -161,7 +161,7 @@ pub stream_again : (known : List ℕ) (rs : List Record) (bytes : List ℕ) → 
 unfolding stream_at behind
 stream_again known rs bytes s =
     let same : bytes ≡ stream_bytes rs ++ [] = s.bytes_are ∙ sym (append-nil (stream_bytes rs)) in
-    let p = past (length bytes) known None rs [] s.stand s.fit (omega (arith, ap length same)) in
+    let p = past (length bytes) known None rs [] s.valid s.fit (omega (arith, ap length same)) in
     ap (λ (x : List ℕ). records_at (length bytes) known None x) same ∙ p.is ∙ ap (behind rs) (nothing_left p.left known (last_type None rs)) ∙ ap (λ (x : List Record). Ok x) (append-nil rs)
 
 faulty_at : (left : ℕ) (known : List ℕ) (before : Option ℕ) (bad : List ℕ) (f : Fault) → bad ≢ [] → length bad ≤ left → record_at known before bad ≡ Err f → records_at left known before bad ≡ Err f
@@ -173,7 +173,7 @@ faulty_at (suc left) known before (b ∷ bad) f some l e =
 pub stream_faulty : (known bytes : List ℕ) (f : Fault) → HasFault known bytes f → stream_at known bytes ≡ Err f
 unfolding stream_at behind
 stream_faulty known bytes f h =
-    let p = past (length bytes) known None h.good h.bad h.stand h.fit (omega (arith, ap length h.bytes_are)) in
+    let p = past (length bytes) known None h.good h.bad h.valid h.fit (omega (arith, ap length h.bytes_are)) in
     ap (λ (x : List ℕ). records_at (length bytes) known None x) h.bytes_are ∙ p.is ∙ ap (behind h.good) (faulty_at p.left known (last_type None h.good) h.bad f h.some_left p.enough h.fault)
 
 -- what is read as records behind others is spelled so
@@ -229,22 +229,22 @@ pub is_stream : (known bytes : List ℕ) (r : Result (Vec Record) Fault) → IfO
 is_stream known bytes (Ok v) found fault = stream_again known v.items bytes found
 is_stream known bytes (Err e) found fault = λ other. stream_faulty known bytes e (fault other)
 
-rises : (known : List ℕ) (before : Option ℕ) (rs : List Record) → MayStand known before rs → RiseFrom before rs
+rises : (known : List ℕ) (before : Option ℕ) (rs : List Record) → AreValid known before rs → RiseFrom before rs
 rises known before [] m = tt
 rises known before (r ∷ rs) m = (m.0, rises known (Some r.typ) rs m.2)
 
 pub is_rising : (known bytes : List ℕ) (r : Result (Vec Record) Fault) → IfOk r (λ v. Spells known v.items bytes) → IfOk r (λ v. AreRising v.items)
-is_rising known bytes (Ok v) found = rises known None v.items found.stand
+is_rising known bytes (Ok v) found = rises known None v.items found.valid
 is_rising known bytes (Err e) found = tt
 
 -- ---- what is written
 
-pub stands_all : (known : List ℕ) (before : Option ℕ) (rs : List Record) → RiseFrom before rs → AreKnown known rs → MayStand known before rs
-stands_all known before [] rise all = tt
-stands_all known before (r ∷ rs) rise all = (rise.0, all.0, stands_all known (Some r.typ) rs rise.1 all.1)
+pub valid_all : (known : List ℕ) (before : Option ℕ) (rs : List Record) → RiseFrom before rs → AreKnown known rs → AreValid known before rs
+valid_all known before [] rise all = tt
+valid_all known before (r ∷ rs) rise all = (rise.0, all.0, valid_all known (Some r.typ) rs rise.1 all.1)
 
 pub is_written : (known : List ℕ) (rs : List Record) (bytes : List ℕ) → AreRising rs → AreKnown known rs → AreFit rs → bytes ≡ stream_bytes rs → Spells known rs bytes
-is_written known rs bytes rise all fit e = record { stand = stands_all known None rs rise all; fit = fit; bytes_are = e }
+is_written known rs bytes rise all fit e = record { valid = valid_all known None rs rise all; fit = fit; bytes_are = e }
 
 -- ---- one stream, one list of records, one outcome
 
@@ -299,24 +299,24 @@ counted_more rs i r below is =
     let parts : stream_bytes rs ≡ stream_bytes (take i rs) ++ stream_bytes (r ∷ rest) = ap stream_bytes whole ∙ flat_map-append record_bytes (take i rs) (r ∷ rest) in
     omega (arith, ap length parts, length-append (stream_bytes (take i rs)) (stream_bytes (r ∷ rest)), length-append (record_bytes r) (stream_bytes rest))
 
-stands_next : (known : List ℕ) (before : Option ℕ) (xs : List Record) (r : Record) (ys : List Record) → MayStand known before (xs ++ r ∷ ys) → (may_follow (last_type before xs) r.typ ≡ true) × (may_stand known r.typ ≡ true)
-stands_next known before [] r ys m = (m.0, m.1)
-stands_next known before (x ∷ xs) r ys m = stands_next known (Some x.typ) xs r ys m.2
+valid_next : (known : List ℕ) (before : Option ℕ) (xs : List Record) (r : Record) (ys : List Record) → AreValid known before (xs ++ r ∷ ys) → (may_follow (last_type before xs) r.typ ≡ true) × (is_allowed known r.typ ≡ true)
+valid_next known before [] r ys m = (m.0, m.1)
+valid_next known before (x ∷ xs) r ys m = valid_next known (Some x.typ) xs r ys m.2
 
 -- each record of a stream follows those before it
-pub stands_at : (known : List ℕ) (rs : List Record) (i : ℕ) (r : Record) → i < length rs → r ≡ get_or rs i r → MayStand known None rs → (may_follow (last_type None (take i rs)) r.typ ≡ true) × (may_stand known r.typ ≡ true)
-stands_at known rs i r below is m =
+pub valid_at : (known : List ℕ) (rs : List Record) (i : ℕ) (r : Record) → i < length rs → r ≡ get_or rs i r → AreValid known None rs → (may_follow (last_type None (take i rs)) r.typ ≡ true) × (is_allowed known r.typ ≡ true)
+valid_at known rs i r below is m =
     let rest = drop (suc i) rs in
     let at : drop i rs ≡ r ∷ rest = drop-cons rs i r below ∙ ap (λ x. x ∷ rest) (sym is) in
     let whole : rs ≡ take i rs ++ (r ∷ rest) = sym (take-append-drop i rs) ∙ ap (λ l. take i rs ++ l) at in
-    stands_next known None (take i rs) r rest (subst (MayStand known None) whole m)
+    valid_next known None (take i rs) r rest (subst (AreValid known None) whole m)
 
 -- one more record
-pub stands_more : (known : List ℕ) (rs : List Record) (i : ℕ) (r : Record) → i < length rs → r ≡ get_or rs i r → MayStand known None (take i rs) → may_follow (last_type None (take i rs)) r.typ ≡ true → may_stand known r.typ ≡ true
-    → MayStand known None (take (i + 1) rs) × (Some r.typ ≡ last_type None (take (i + 1) rs))
-stands_more known rs i r below is m follows stands =
+pub valid_more : (known : List ℕ) (rs : List Record) (i : ℕ) (r : Record) → i < length rs → r ≡ get_or rs i r → AreValid known None (take i rs) → may_follow (last_type None (take i rs)) r.typ ≡ true → is_allowed known r.typ ≡ true
+    → AreValid known None (take (i + 1) rs) × (Some r.typ ≡ last_type None (take (i + 1) rs))
+valid_more known rs i r below is m follows allowed =
     let more : take (i + 1) rs ≡ take i rs ++ r ∷ [] = take_more rs i r below ∙ ap (λ x. take i rs ++ x ∷ []) (sym is) in
-    (subst (MayStand known None) (sym more) (MayStand-push known None (take i rs) r m follows stands), sym (ap (last_type None) more ∙ last_type-push None (take i rs) r))
+    (subst (AreValid known None) (sym more) (AreValid-push known None (take i rs) r m follows allowed), sym (ap (last_type None) more ∙ last_type-push None (take i rs) r))
 
 not_both : (b : Bool) → b ≡ true → b ≡ false → ⊥
 not_both b t f = absurd (true_is_not_false (sym t ∙ f))
@@ -324,7 +324,7 @@ not_both b t f = absurd (true_is_not_false (sym t ∙ f))
     true_is_not_false : true ≡ false → ⊥
     true_is_not_false e = cc
 
-pub refutes : (known : List ℕ) (rs : List Record) (i : ℕ) (r : Record) → i < length rs → r ≡ get_or rs i r → (may_follow (last_type None (take i rs)) r.typ ≡ false) ⊎ (may_stand known r.typ ≡ false) → MayStand known None rs → ⊥
+pub refutes : (known : List ℕ) (rs : List Record) (i : ℕ) (r : Record) → i < length rs → r ≡ get_or rs i r → (may_follow (last_type None (take i rs)) r.typ ≡ false) ⊎ (is_allowed known r.typ ≡ false) → AreValid known None rs → ⊥
 refutes known rs i r below is wrong m =
-    let at = stands_at known rs i r below is m in
+    let at = valid_at known rs i r below is m in
     elim wrong [ inl f ↦ not_both _ at.0 f | inr s ↦ not_both _ at.1 s ]

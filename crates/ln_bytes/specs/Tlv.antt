@@ -37,8 +37,8 @@ may_follow None t = true
 may_follow (Some before) t = nat_lt before t
 
 -- an odd type may be passed over by who doesn't know it; an even one has to be known
-abbrev pub may_stand : List ℕ → ℕ → Bool
-may_stand known_even t = (t % 2 == 1) || list_any (λ k. k == t) known_even
+abbrev pub is_allowed : List ℕ → ℕ → Bool
+is_allowed known_even t = (t % 2 == 1) || list_any (λ k. k == t) known_even
 
 -- the types rise strictly, from the one before on
 abbrev pub RiseFrom : Option ℕ → List Record → Type 0
@@ -50,19 +50,19 @@ AreRising rs = RiseFrom None rs
 
 -- each even type is known
 abbrev pub AreKnown : List ℕ → List Record → Type 0
-AreKnown known_even rs = AllByRecursion (λ r. IsTrue (may_stand known_even r.typ)) rs
+AreKnown known_even rs = AllByRecursion (λ r. IsTrue (is_allowed known_even r.typ)) rs
 
 -- ---- what a stream spells
 
 -- the types rise strictly, and each even one is known
-abbrev pub MayStand : List ℕ → Option ℕ → List Record → Type 0
-MayStand known_even before [] = Unit {0}
-MayStand known_even before (r ∷ rs) =
-    IsTrue (may_follow before r.typ) × IsTrue (may_stand known_even r.typ) × MayStand known_even (Some r.typ) rs
+abbrev pub AreValid : List ℕ → Option ℕ → List Record → Type 0
+AreValid known_even before [] = Unit {0}
+AreValid known_even before (r ∷ rs) =
+    IsTrue (may_follow before r.typ) × IsTrue (is_allowed known_even r.typ) × AreValid known_even (Some r.typ) rs
 
 -- the bytes are these records and nothing else
 pub record Spells (known_even : List ℕ) (rs : List Record) (bytes : List ℕ) : Type 0 where
-  pub stand : MayStand known_even None rs
+  pub valid : AreValid known_even None rs
   pub fit : AreFit rs
   pub bytes_are : bytes ≡ stream_bytes rs
 
@@ -73,7 +73,7 @@ unfoldable pub value_at : List ℕ → ℕ → List ℕ → Result (Record × Li
 value_at known_even typ bytes = do
   len ← bigsize_at bytes
   if nat_lt (length (drop len.1 bytes)) len.0 then Err TlvLength
-      else (if may_stand known_even typ then Ok (record { typ = typ; value = take len.0 (drop len.1 bytes) }, drop len.0 (drop len.1 bytes))
+      else (if is_allowed known_even typ then Ok (record { typ = typ; value = take len.0 (drop len.1 bytes) }, drop len.0 (drop len.1 bytes))
       else Err TlvUnknownEven)
 
 -- The record at the front of the bytes, behind one of the type before, and what follows it; or its
@@ -92,7 +92,7 @@ last_type before (r ∷ rs) = last_type (Some r.typ) rs
 pub record HasFault (known_even : List ℕ) (bytes : List ℕ) (f : Fault) : Type 0 where
   pub good : List Record
   pub bad : List ℕ
-  pub stand : MayStand known_even None good
+  pub valid : AreValid known_even None good
   pub fit : AreFit good
   pub bytes_are : bytes ≡ stream_bytes good ++ bad
   pub some_left : bad ≢ []

@@ -31,15 +31,15 @@ pub fn bigsize_len(number: u64) -> usize
 /// where a shorter form would do.
 pub fn read_bigsize(bytes: &[u8]) -> Result<(u64, usize), Fault>
     // What is read is spelled so.
-    ensures found { IfOk result (λ r. (r.0 < 2 ^ 64) × (bytes.now ≡ bigsize r.0 ++ drop r.1 bytes.now)) }
+    ensures is_spelled_so { IfOk result (λ r. (r.0 < 2 ^ 64) × (bytes.now ≡ bigsize r.0 ++ drop r.1 bytes.now)) }
     // It takes as many bytes as it is spelled with, and no more than there are.
-    ensures taken { IfOk result (λ r. (r.1 ≡ length (bigsize r.0)) × (r.1 ≤ length bytes.now)) }
+    ensures takes_its_spelling { IfOk result (λ r. (r.1 ≡ length (bigsize r.0)) × (r.1 ≤ length bytes.now)) }
     // What is spelled so is read, whatever follows.
-    ensures only { (n : ℕ) (rest : List ℕ) → n < 2 ^ 64 → bytes.now ≡ bigsize n ++ rest → result ≡ Ok (n, length (bigsize n)) }
+    ensures reads_each_spelling { (n : ℕ) (rest : List ℕ) → n < 2 ^ 64 → bytes.now ≡ bigsize n ++ rest → result ≡ Ok (n, length (bigsize n)) }
     // What is refused has one of two faults.
-    ensures refused { IfErr result (λ e. (e ≡ Fault.Truncated) ⊎ (e ≡ Fault.NotMinimal)) }
+    ensures has_one_of_two_faults { IfErr result (λ e. (e ≡ Fault.Truncated) ⊎ (e ≡ Fault.NotMinimal)) }
     // Which answer it is, and which fault comes first.
-    ensures exact { result ≡ bigsize_at bytes.now }
+    ensures reads_as_defined { result ≡ bigsize_at bytes.now }
 {
     first_number(bytes)
 }
@@ -100,8 +100,8 @@ fn eight_bytes(rest: &[u8]) -> Result<(u64, usize), Fault>
 ///
 /// BOLT 1, "Fundamental Types". Takes no memory.
 pub fn write_bigsize(number: u64, out: &mut [u8; 9]) -> usize
-    ensures len { result ≡ length (bigsize number) }
-    ensures bytes { out.new ≡ bigsize number ++ drop result out.old }
+    ensures counts_its_bytes { result ≡ length (bigsize number) }
+    ensures writes_the_spelling { out.new ≡ bigsize number ++ drop result out.old }
 {
     match number {
         0..=252 => {

@@ -54,8 +54,8 @@ impl Bytes {
 
     /// How many bytes there are.
     pub fn len(&self) -> usize
-        ensures len { result ≡ length self.now }
-        ensures small { result < 2 ^ 63 }
+        ensures counts_the_bytes { result ≡ length self.now }
+        ensures is_below_2_pow_63 { result < 2 ^ 63 }
     {
         self.items.len()
     }

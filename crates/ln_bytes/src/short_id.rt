@@ -28,9 +28,9 @@ impl ShortId {
     /// Every eight bytes are a short id. Takes no memory.
     pub fn from_bytes(bytes: &[u8; 8]) -> ShortId
         // What is read is spelled so.
-        ensures found { bytes.now ≡ short_id_bytes result.block result.tx result.output }
+        ensures is_spelled_so { bytes.now ≡ short_id_bytes result.block result.tx result.output }
         // What is spelled so is read.
-        ensures only { (block tx output : ℕ) → block < 2 ^ 24 → tx < 2 ^ 24 → output < 2 ^ 16 → bytes.now ≡ short_id_bytes block tx output → (result.block ≡ block) × (result.tx ≡ tx) × (result.output ≡ output) }
+        ensures reads_each_spelling { (block tx output : ℕ) → block < 2 ^ 24 → tx < 2 ^ 24 → output < 2 ^ 16 → bytes.now ≡ short_id_bytes block tx output → (result.block ≡ block) × (result.tx ≡ tx) × (result.output ≡ output) }
     {
         from_eight(bytes)
     }
@@ -51,9 +51,9 @@ impl ShortId {
     /// below 2^24, and the output is below 2^16. `None` is any other text. Takes no memory.
     pub fn parse(text: &str) -> Option<ShortId>
         // What is read is written so.
-        ensures found { IfSome result (λ id. text.now ≡ short_id_text id.block id.tx id.output) }
+        ensures is_written_so { IfSome result (λ id. text.now ≡ short_id_text id.block id.tx id.output) }
         // What is written so is read.
-        ensures only { (block tx output : ℕ) → block < 2 ^ 24 → tx < 2 ^ 24 → output < 2 ^ 16 → text.now ≡ short_id_text block tx output → IsSomeAnd result (λ id. (id.block ≡ block) × (id.tx ≡ tx) × (id.output ≡ output)) }
+        ensures reads_each_text { (block tx output : ℕ) → block < 2 ^ 24 → tx < 2 ^ 24 → output < 2 ^ 16 → text.now ≡ short_id_text block tx output → IsSomeAnd result (λ id. (id.block ≡ block) × (id.tx ≡ tx) × (id.output ≡ output)) }
     {
         let (block, rest) = number_and_x(text)?;
         let (tx, rest) = number_and_x(rest)?;

@@ -3,7 +3,7 @@
 ghost use Rattle.std.specs.Prelude.{◌≡◌, ◌≢◌, ◌<◌, ◌≤◌, ◌⊎◌, ℕ, List, ◌++◌, length, slice_index, None, IfSome, IfNone, IsTrue, ◌↔◌, IfOk, IfErr, OnOk, Ok, Err, option_map};
 ghost use Rattle.ln_bytes.specs.Bigsize.{bigsize};
 ghost use Rattle.ln_bytes.specs.Reading.{Gives};
-ghost use Rattle.ln_bytes.specs.Tlv.{value_of, record_bytes, stream_bytes, may_follow, may_stand, AreRising, AreKnown, AreFit, MayStand, Fits, Spells, HasFault, value_at, record_at, stream_at};
+ghost use Rattle.ln_bytes.specs.Tlv.{value_of, record_bytes, stream_bytes, may_follow, is_allowed, AreRising, AreKnown, AreFit, AreValid, Fits, Spells, HasFault, value_at, record_at, stream_at};
 ghost use Rattle.ln_bytes.specs.declared.fault.Fault.{Fault};
 ghost use Rattle.ln_bytes.specs.declared.record.Record.{Record};
 
@@ -25,24 +25,24 @@ use std::alloc::Global;
 /// is even and not in `known_even`. 60 (`Memory`) where there is no memory.
 pub fn read_tlvs(alloc: Global, bytes: &[u8], known_even: &[u64]) -> Result<Vec<Record>, Fault>
     // What is read is spelled so, all of the bytes.
-    ensures found { IfOk result (λ v. Spells known_even.now v.items bytes.now) }
+    ensures is_spelled_so { IfOk result (λ v. Spells known_even.now v.items bytes.now) }
     // So the records can be written again.
-    ensures rising { IfOk result (λ v. AreRising v.items) }
+    ensures types_rise { IfOk result (λ v. AreRising v.items) }
     // What is spelled so is read.
-    ensures only { (rs : List Record) → Spells known_even.now rs bytes.now → Gives (λ v. v.items) result (Ok rs) }
+    ensures reads_each_spelling { (rs : List Record) → Spells known_even.now rs bytes.now → Gives (λ v. v.items) result (Ok rs) }
     // What is refused has that fault, and no record before it has one.
-    ensures fault { IfErr result (λ e. e ≢ Fault.Memory → HasFault known_even.now bytes.now e) }
+    ensures tells_the_first_fault { IfErr result (λ e. e ≢ Fault.Memory → HasFault known_even.now bytes.now e) }
     // What has a fault is refused by it.
-    ensures faulty { (f : Fault) → HasFault known_even.now bytes.now f → Gives (λ v. v.items) result (Err f) }
+    ensures refuses_each_fault { (f : Fault) → HasFault known_even.now bytes.now f → Gives (λ v. v.items) result (Err f) }
     // Which answer it is.
-    ensures exact { Gives (λ v. v.items) result (stream_at known_even.now bytes.now) }
+    ensures reads_as_defined { Gives (λ v. v.items) result (stream_at known_even.now bytes.now) }
 {
     all_records(alloc, known_even, bytes)
 }
 
 fn all_records(alloc: Global, known_even: &[u64], bytes: &[u8]) -> Result<Vec<Record>, Fault>
-    ensures found { IfOk result (λ v. Spells known_even.now v.items bytes.now) }
-    ensures fault { IfErr result (λ e. e ≢ Fault.Memory → HasFault known_even.now bytes.now e) }
+    ensures is_spelled_so { IfOk result (λ v. Spells known_even.now v.items bytes.now) }
+    ensures tells_the_first_fault { IfErr result (λ e. e ≢ Fault.Memory → HasFault known_even.now bytes.now e) }
 {
     let mut records: Vec<Record> = Vec::new(alloc);
     let mut before = None;
@@ -88,7 +88,7 @@ fn front_value<'a>(
     if (rest.len() as u64) < len {
         return Err(Fault::TlvLength);
     }
-    if !stands(known_even, typ) {
+    if !is_allowed(known_even, typ) {
         return Err(Fault::TlvUnknownEven);
     }
     let (value, rest) = rest.split_at(len as usize);
@@ -105,8 +105,8 @@ fn follows(before: Option<u64>, typ: u64) -> bool
     }
 }
 
-fn stands(known_even: &[u64], typ: u64) -> bool
-    ensures { result ≡ may_stand known_even.now typ }
+fn is_allowed(known_even: &[u64], typ: u64) -> bool
+    ensures { result ≡ is_allowed known_even.now typ }
 {
     typ % 2 == 1 || known_even.contains(&typ)
 }
@@ -120,10 +120,10 @@ fn stands(known_even: &[u64], typ: u64) -> bool
 pub fn write_tlvs(alloc: Global, records: &[Record]) -> Result<Vec<u8>, Fault>
     requires { AreRising records.now }
     // What is written is the records' bytes, one record after the other.
-    ensures ok { IfOk result (λ v. v.items ≡ stream_bytes records.now) }
+    ensures writes_the_stream { IfOk result (λ v. v.items ≡ stream_bytes records.now) }
     // So it is read again as these records by who knows their even types.
-    ensures spells { (known_even : List ℕ) → AreKnown known_even records.now → IfOk result (λ v. Spells known_even records.now v.items) }
-    ensures err { IfErr result (λ e. e ≡ Fault.Memory) }
+    ensures spells_the_records { (known_even : List ℕ) → AreKnown known_even records.now → IfOk result (λ v. Spells known_even records.now v.items) }
+    ensures fails_for_memory_alone { IfErr result (λ e. e ≡ Fault.Memory) }
 {
     let mut out = Vec::new(alloc);
     append_tlvs(&mut out, records)?;
@@ -134,9 +134,9 @@ pub fn write_tlvs(alloc: Global, records: &[Record]) -> Result<Vec<u8>, Fault>
 ///
 /// Errors: 60 (`Memory`) where there is no memory; what was written by then is no promise.
 pub fn append_tlvs(out: &mut Vec<u8>, records: &[Record]) -> Result<(), Fault>
-    ensures ok { OnOk result (out.new.items ≡ out.old.items ++ stream_bytes records.now) }
-    ensures fit { OnOk result (AreFit records.now) }
-    ensures err { IfErr result (λ e. e ≡ Fault.Memory) }
+    ensures appends_the_stream { OnOk result (out.new.items ≡ out.old.items ++ stream_bytes records.now) }
+    ensures has_fitting_records { OnOk result (AreFit records.now) }
+    ensures fails_for_memory_alone { IfErr result (λ e. e ≡ Fault.Memory) }
 {
     for record in records {
         put_record(out, record)?;
@@ -144,17 +144,17 @@ pub fn append_tlvs(out: &mut Vec<u8>, records: &[Record]) -> Result<(), Fault>
     Ok(())
 }
 
-/// Whether the records may stand in one stream, for who knows these even types: the types rise strictly, and each
+/// Whether the records are a valid stream for who knows these even types: the types rise strictly, and each
 /// even one is known. Takes no memory.
-pub fn tlvs_stand(records: &[Record], known_even: &[u64]) -> bool
-    ensures { IsTrue result ↔ MayStand known_even.now None records.now }
+pub fn tlvs_are_valid(records: &[Record], known_even: &[u64]) -> bool
+    ensures { IsTrue result ↔ AreValid known_even.now None records.now }
 {
     let mut before = None;
     for record in records {
         if !follows(before, record.typ) {
             return false;
         }
-        if !stands(known_even, record.typ) {
+        if !is_allowed(known_even, record.typ) {
             return false;
         }
         before = Some(record.typ);
@@ -176,8 +176,8 @@ pub fn value_of(records: &[Record], typ: u64) -> Option<&[u8]>
 
 /// How many bytes the records are, or none where they are more than `most`. Takes no memory.
 pub fn tlvs_len(records: &[Record], most: usize) -> Option<usize>
-    ensures more { IfNone result (most < length (stream_bytes records.now)) }
-    ensures len { IfSome result (λ n. (n ≡ length (stream_bytes records.now)) × (n ≤ most)) }
+    ensures none_is_too_many { IfNone result (most < length (stream_bytes records.now)) }
+    ensures counts_the_bytes { IfSome result (λ n. (n ≡ length (stream_bytes records.now)) × (n ≤ most)) }
 {
     let mut left = most;
     for record in records {
@@ -198,9 +198,9 @@ fn record_len(record: &Record) -> usize
 }
 
 fn put_record(out: &mut Vec<u8>, record: &Record) -> Result<(), Fault>
-    ensures ok { OnOk result (out.new.items ≡ out.old.items ++ record_bytes «record».now) }
-    ensures fits { OnOk result (Fits «record».now) }
-    ensures err { IfErr result (λ e. e ≡ Fault.Memory) }
+    ensures appends_the_record { OnOk result (out.new.items ≡ out.old.items ++ record_bytes «record».now) }
+    ensures has_a_fitting_record { OnOk result (Fits «record».now) }
+    ensures fails_for_memory_alone { IfErr result (λ e. e ≡ Fault.Memory) }
 {
     put_number(out, record.typ)?;
     put_number(out, record.value.len() as u64)?;
@@ -209,8 +209,8 @@ fn put_record(out: &mut Vec<u8>, record: &Record) -> Result<(), Fault>
 }
 
 fn put_number(out: &mut Vec<u8>, number: u64) -> Result<(), Fault>
-    ensures ok { OnOk result (out.new.items ≡ out.old.items ++ bigsize number) }
-    ensures err { IfErr result (λ e. e ≡ Fault.Memory) }
+    ensures appends_the_number { OnOk result (out.new.items ≡ out.old.items ++ bigsize number) }
+    ensures fails_for_memory_alone { IfErr result (λ e. e ≡ Fault.Memory) }
 {
     let mut spelling = [0; 9];
     let len = write_bigsize(number, &mut spelling);
@@ -221,8 +221,8 @@ fn put_number(out: &mut Vec<u8>, number: u64) -> Result<(), Fault>
 /// A law: as a whole input, bytes are told in exactly one way. They spell records or have a fault, and
 /// not both; no two lists of records have the same bytes; and there is one first fault at most.
 pub fn one_stream()
-    ensures some { (known_even bytes : List ℕ) → ((i : ℕ) → slice_index bytes i < 256) → ((rs : List Record) × Spells known_even rs bytes) ⊎ ((f : Fault) × HasFault known_even bytes f) }
-    ensures records { (rs ss : List Record) → AreFit rs → AreFit ss → stream_bytes rs ≡ stream_bytes ss → rs ≡ ss }
-    ensures outcome { (known_even bytes : List ℕ) (rs : List Record) (f : Fault) → Spells known_even rs bytes → HasFault known_even bytes f → ⊥ }
-    ensures fault { (known_even bytes : List ℕ) (f g : Fault) → HasFault known_even bytes f → HasFault known_even bytes g → f ≡ g }
+    ensures is_spelled_or_faulty { (known_even bytes : List ℕ) → ((i : ℕ) → slice_index bytes i < 256) → ((rs : List Record) × Spells known_even rs bytes) ⊎ ((f : Fault) × HasFault known_even bytes f) }
+    ensures has_one_list_of_records { (rs ss : List Record) → AreFit rs → AreFit ss → stream_bytes rs ≡ stream_bytes ss → rs ≡ ss }
+    ensures has_no_fault_if_spelled { (known_even bytes : List ℕ) (rs : List Record) (f : Fault) → Spells known_even rs bytes → HasFault known_even bytes f → ⊥ }
+    ensures has_one_first_fault { (known_even bytes : List ℕ) (f g : Fault) → HasFault known_even bytes f → HasFault known_even bytes g → f ≡ g }
 {}

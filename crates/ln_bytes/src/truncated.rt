@@ -15,13 +15,13 @@ use byteorder::{BigEndian, ByteOrder};
 /// first is zero.
 pub fn read_tu64(bytes: &[u8]) -> Result<u64, Fault>
     // What is read is spelled so.
-    ensures found { IfOk result (λ n. bytes.now ≡ truncated n) }
+    ensures is_spelled_so { IfOk result (λ n. bytes.now ≡ truncated n) }
     // What is spelled so is read.
-    ensures only { (n : ℕ) → n < 2 ^ 64 → bytes.now ≡ truncated n → result ≡ Ok n }
+    ensures reads_each_spelling { (n : ℕ) → n < 2 ^ 64 → bytes.now ≡ truncated n → result ≡ Ok n }
     // What is refused has one of two faults.
-    ensures refused { IfErr result (λ e. (e ≡ Fault.FieldLength) ⊎ (e ≡ Fault.NotMinimal)) }
+    ensures has_one_of_two_faults { IfErr result (λ e. (e ≡ Fault.FieldLength) ⊎ (e ≡ Fault.NotMinimal)) }
     // Which answer it is, and which fault comes first.
-    ensures exact { result ≡ truncated_at 8 bytes.now }
+    ensures reads_as_defined { result ≡ truncated_at 8 bytes.now }
 {
     number_in(bytes, 8)
 }
@@ -35,13 +35,13 @@ pub fn read_tu64(bytes: &[u8]) -> Result<u64, Fault>
 /// first is zero.
 pub fn read_tu32(bytes: &[u8]) -> Result<u32, Fault>
     // What is read is spelled so.
-    ensures found { IfOk result (λ n. bytes.now ≡ truncated n) }
+    ensures is_spelled_so { IfOk result (λ n. bytes.now ≡ truncated n) }
     // What is spelled so is read.
-    ensures only { (n : ℕ) → n < 2 ^ 32 → bytes.now ≡ truncated n → result ≡ Ok n }
+    ensures reads_each_spelling { (n : ℕ) → n < 2 ^ 32 → bytes.now ≡ truncated n → result ≡ Ok n }
     // What is refused has one of two faults.
-    ensures refused { IfErr result (λ e. (e ≡ Fault.FieldLength) ⊎ (e ≡ Fault.NotMinimal)) }
+    ensures has_one_of_two_faults { IfErr result (λ e. (e ≡ Fault.FieldLength) ⊎ (e ≡ Fault.NotMinimal)) }
     // Which answer it is, and which fault comes first.
-    ensures exact { result ≡ truncated_at 4 bytes.now }
+    ensures reads_as_defined { result ≡ truncated_at 4 bytes.now }
 {
     match number_in(bytes, 4) {
         Ok(number) => Ok(number as u32),
@@ -69,8 +69,8 @@ fn number_in(bytes: &[u8], room: usize) -> Result<u64, Fault>
 ///
 /// BOLT 1, "Fundamental Types". Takes no memory.
 pub fn write_tu64(number: u64, out: &mut [u8; 8]) -> usize
-    ensures len { result ≡ length (truncated number) }
-    ensures bytes { out.new ≡ truncated number ++ drop result out.old }
+    ensures counts_its_bytes { result ≡ length (truncated number) }
+    ensures writes_the_spelling { out.new ≡ truncated number ++ drop result out.old }
 {
     let len = byte_len(number);
     if len > 0 {
@@ -81,9 +81,9 @@ pub fn write_tu64(number: u64, out: &mut [u8; 8]) -> usize
 
 // How many bytes the number takes without leading zero bytes.
 fn byte_len(number: u64) -> usize
-    ensures most { result ≤ 8 }
-    ensures below { number < 256 ^ result }
-    ensures least { 0 < result → 256 ^ (result - 1) ≤ number }
+    ensures is_eight_at_most { result ≤ 8 }
+    ensures holds_the_number { number < 256 ^ result }
+    ensures leaves_no_zero_in_front { 0 < result → 256 ^ (result - 1) ≤ number }
 {
     match number {
         0 => 0,

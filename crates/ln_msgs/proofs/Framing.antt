@@ -8,7 +8,7 @@ use Rattle.ln_msgs.specs.Frames.Frame.{frame, HasFrame, HasNoFrame, Hears, IsFau
 use Rattle.ln_msgs.specs.Frames.Framer.{Fed, unfed, HearsSoFar, HasHeard, Refuses, Call, Answered, Refused, Runs, came, answered}
 use Rattle.ln_msgs.proofs.Faults.{message_tells}
 use Rattle.ln_msgs.proofs.Serving.{hears_more}
-use Rattle.ln_msgs.proofs.OneHearing.{same_frame, one_hearing_is}
+use Rattle.ln_msgs.proofs.UniqueFrames.{same_frame, unique_frames}
 
 -- ---- frames of one piece
 
@@ -116,4 +116,4 @@ ends_hearing (Some f) held rest (empty, p) = λ message after h whole is.
 pub any_pieces_only : (calls : List Call) (fed : Fed) (hs : List Heard) (front rest : List ℕ) → Runs unfed calls fed → Hears hs front → EndsHearing rest → came calls ≡ front ++ rest → answered calls ≡ hs
 any_pieces_only calls fed hs front rest r hears ends is =
     let p = any_pieces_heard calls fed r in
-    (one_hearing_is (answered calls) hs p.front front p.rest rest p.hears hears (ends_hearing fed.fault fed.held p.rest p.left) ends (sym p.bytes_are ∙ is)).0
+    (unique_frames (answered calls) hs p.front front p.rest rest p.hears hears (ends_hearing fed.fault fed.held p.rest p.left) ends (sym p.bytes_are ∙ is)).0

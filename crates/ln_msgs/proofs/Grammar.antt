@@ -8,7 +8,7 @@ use Rattle.std.specs.Prelude.{IfOk}
 use Rattle.ln_bytes.specs.Reading.{◌>>=◌, Gives}
 use Rattle.ln_msgs.specs.declared.messages.message.Incoming.{Incoming}
 use Rattle.ln_msgs.specs.Messages.Typed.{heard}
-use Rattle.ln_bytes.specs.Tlv.{record_bytes, stream_bytes, MayStand, AreFit, Spells, record_at, records_at, stream_at}
+use Rattle.ln_bytes.specs.Tlv.{record_bytes, stream_bytes, AreValid, AreFit, Spells, record_at, records_at, stream_at}
 use Rattle.ln_bytes.specs.declared.fault.Fault.{Fault}
 use Rattle.ln_bytes.specs.declared.fault.Fault.TheVariants.{Truncated, FieldLength, UnknownEvenType, TooLong}
 use Rattle.ln_bytes.specs.declared.record.Record.{Record}
@@ -23,24 +23,24 @@ use Rattle.ln_msgs.specs.Messages.Message.{Wire, IsFormed, have_lengths, Heard, 
 
 -- ---- records
 
-pub records_take : (turns : ℕ) (known : List ℕ) (before : Option ℕ) (bytes : List ℕ) (rs : List Record) → IsBytes bytes → records_at turns known before bytes ≡ Ok rs → MayStand known before rs × AreFit rs × (bytes ≡ stream_bytes rs)
+pub records_take : (turns : ℕ) (known : List ℕ) (before : Option ℕ) (bytes : List ℕ) (rs : List Record) → IsBytes bytes → records_at turns known before bytes ≡ Ok rs → AreValid known before rs × AreFit rs × (bytes ≡ stream_bytes rs)
 unfolding records_at
 records_take turns known before [] rs fits e =
-    subst (λ (x : List Record). MayStand known before x × AreFit x × ([] ≡ stream_bytes x)) (ok_is [] rs e) (tt, tt, refl)
+    subst (λ (x : List Record). AreValid known before x × AreFit x × ([] ≡ stream_bytes x)) (ok_is [] rs e) (tt, tt, refl)
 records_take zero known before (b ∷ bytes) rs fits e = absurd cc
 records_take (suc turns) known before (b ∷ bytes) rs fits e =
     let one = bind_ok (record_at known before (b ∷ bytes)) (λ first. records_at turns known (Some first.0.typ) first.1 >>= λ others. Ok (first.0 ∷ others)) rs e in
     let first = record_takes known before (b ∷ bytes) one.0 fits one.1 in
     let two = bind_ok (records_at turns known (Some one.0.0.typ) one.0.1) (λ others. Ok (one.0.0 ∷ others)) rs one.2 in
     let others = records_take turns known (Some one.0.0.typ) one.0.1 two.0 first.takes.rest_fits two.1 in
-    subst (λ (x : List Record). MayStand known before x × AreFit x × (b ∷ bytes ≡ stream_bytes x)) (ok_is (one.0.0 ∷ two.0) rs two.2)
-    ((first.follows, first.stands, others.0), (first.fits, others.1), first.takes.parts ∙ ap (λ l. record_bytes one.0.0 ++ l) others.2)
+    subst (λ (x : List Record). AreValid known before x × AreFit x × (b ∷ bytes ≡ stream_bytes x)) (ok_is (one.0.0 ∷ two.0) rs two.2)
+    ((first.follows, first.allowed, others.0), (first.fits, others.1), first.takes.parts ∙ ap (λ l. record_bytes one.0.0 ++ l) others.2)
 
 pub stream_takes : (known bytes : List ℕ) (rs : List Record) → IsBytes bytes → stream_at known bytes ≡ Ok rs → Spells known rs bytes
 unfolding stream_at
 stream_takes known bytes rs fits e =
     let r = records_take (length bytes) known None bytes rs fits e in
-    record { stand = r.0; fit = r.1; bytes_are = r.2 }
+    record { valid = r.0; fit = r.1; bytes_are = r.2 }
 
 -- ---- fields
 
@@ -192,7 +192,7 @@ formed_takes form typ bytes h fits below is e =
     subst (λ (x : Heard). Says x (big_bytes 2 typ ++ bytes)) (ok_is made h c.1) (
       form,
       is,
-      record { typ = below; values = first.1; stand = second.stand; fit = second.fit; lengths = c.0 },
+      record { typ = below; values = first.1; valid = second.valid; fit = second.fit; lengths = c.0 },
       ap (λ l. big_bytes 2 typ ++ l) parts ∙ sym (append_assoc (big_bytes 2 typ) (fields_bytes (kinds_of form) a.0.0) (stream_bytes b.0)),
     )
 
@@ -216,7 +216,7 @@ formed_again : (form : Form) (w : Wire) → IsFormed form w → formed_at form w
 unfolding formed_at
 formed_again form w is =
     let first = fields_again (kinds_of form) w.values (stream_bytes w.records) is.values in
-    let second : stream_at form.known_even (stream_bytes w.records) ≡ Ok w.records = stream_again form.known_even w.records (stream_bytes w.records) (record { stand = is.stand; fit = is.fit; bytes_are = refl }) in
+    let second : stream_at form.known_even (stream_bytes w.records) ≡ Ok w.records = stream_again form.known_even w.records (stream_bytes w.records) (record { valid = is.valid; fit = is.fit; bytes_are = refl }) in
     rw (first, second, is.lengths) refl
 
 -- what is spelled so is read

@@ -2,7 +2,7 @@ pub mod Windows
 pub mod Serving
 pub mod Progress
 pub mod Faults
-pub mod OneHearing
+pub mod UniqueFrames
 pub mod Grammar
 pub mod Items
 pub mod Sums

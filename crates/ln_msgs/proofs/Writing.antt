@@ -1,5 +1,5 @@
 -- What is written for a message is spelled by the grammar.
-use Rattle.std.proofs.Common.{◌≡◌, ℕ, ◌<◌, ◌⊎◌, ◌↔◌, List, [], ◌∷◌, ◌++◌, length, get_or, map, Option, Some, None, Result, Ok, Err, refl, sym, ap, subst, ◌∙◌, arith, inl, inr}
+use Rattle.std.proofs.Common.{◌≡◌, ℕ, ◌<◌, ◌≤◌, ◌⊎◌, ◌↔◌, List, [], ◌∷◌, ◌++◌, length, get_or, map, Option, Some, None, Result, Ok, Err, refl, sym, ap, subst, ◌∙◌, arith, inl, inr}
 use Rattle.std.specs.Prelude.{IfOk, IfErr, IsErrOf}
 use Rattle.std.specs.Global.{Vec}
 use Rattle.std.proofs.lemmas.Bool.{cases_lt}
@@ -16,7 +16,7 @@ use Rattle.ln_msgs.specs.Messages.Message.{Wire, wire_bytes, formed_bytes, Known
 use Rattle.ln_msgs.specs.Codec.Writing.{MayFollowForm, CanBeWritten, AreOfForm, IsWritten, parts_bytes}
 use Rattle.ln_msgs.proofs.Sums.{flat_fits}
 
-pub item_below : (is : List Item) (i : ℕ) (d : Item) → i < length is → length (items_bytes is) < 65536 → length (item_bytes (get_or is i d)) < 65536
+pub item_below : (is : List Item) (i : ℕ) (d : Item) → i < length is → length (items_bytes is) ≤ 65535 → length (item_bytes (get_or is i d)) ≤ 65535
 item_below is i d below short = let more = flat_fits item_bytes is i d below in omega (arith, more)
 
 -- kinds and values apart give the same bytes
@@ -40,10 +40,10 @@ parts_are form w typ fs rs are is typ_is records_are =
     ap (λ n. big_bytes 2 n ++ items_bytes fs ++ stream_bytes rs) (sym typ_is) ∙ ap (λ l. big_bytes 2 w.typ ++ l ++ stream_bytes rs) (fields_are form w fs are)
     ∙ ap (λ l. big_bytes 2 w.typ ++ fields_bytes (kinds_of form) w.values ++ stream_bytes l) (sym records_are) ∙ ap (λ f. formed_bytes f w) (sym is)
 
-short_enough : (r : Result (Vec ℕ) Fault) (bytes : List ℕ) → r ≡ Err Memory → (65535 < length bytes → r ≡ Err TooLong) → length bytes < 65536
+short_enough : (r : Result (Vec ℕ) Fault) (bytes : List ℕ) → r ≡ Err Memory → (65535 < length bytes → r ≡ Err TooLong) → length bytes ≤ 65535
 short_enough r bytes memory long =
     elim (cases_lt (length bytes) 65536) [
-      | inl below ↦ below
+      | inl below ↦ omega (arith, below)
       | inr above ↦ absurd (memory_is_not_long (sym memory ∙ long (omega arith)))
     ]
   where
@@ -51,7 +51,7 @@ short_enough r bytes memory long =
     memory_is_not_long e = cc
 
 is_written_as : (r : Result (Vec ℕ) Fault) (form : Form) (w : Wire) (typ : ℕ) (fs : List Item) (rs : List Record) → typ < 65536 → AreItemsOf form w fs → form_of w.typ ≡ Some form → w.typ ≡ typ → w.records ≡ rs
-    → IfOk r (λ v. (v.items ≡ parts_bytes typ fs rs) × (length v.items < 65536) × AreFit rs × AreProper fs) → IsErrOf r TooLong ↔ (65535 < length (parts_bytes typ fs rs)) → IfErr r (λ e. (e ≡ TooLong) ⊎ (e ≡ Memory)) → IsWritten r w
+    → IfOk r (λ v. (v.items ≡ parts_bytes typ fs rs) × (length v.items ≤ 65535) × AreFit rs × AreProper fs) → IsErrOf r TooLong ↔ (65535 < length (parts_bytes typ fs rs)) → IfErr r (λ e. (e ≡ TooLong) ⊎ (e ≡ Memory)) → IsWritten r w
 is_written_as (Ok v) form w typ fs rs below are is typ_is records_are ok long err =
     let parts = parts_are form w typ fs rs are is typ_is records_are in
     let proper : AreOfForm (Some form) w = (omega (arith, typ_is), fields_are_of form w fs are ok.3) in
@@ -64,14 +64,14 @@ is_written_as (Err f) form w typ fs rs below are is typ_is records_are ok long e
     ]
 
 pub is_written_by : (form : Option Form) (r : Result (Vec ℕ) Fault) (w : Wire) (typ : ℕ) (fs : List Item) (rs : List Record) → form_of w.typ ≡ form → typ < 65536 → AreItemsBy form w fs → w.typ ≡ typ → w.records ≡ rs
-    → IfOk r (λ v. (v.items ≡ parts_bytes typ fs rs) × (length v.items < 65536) × AreFit rs × AreProper fs) → IsErrOf r TooLong ↔ (65535 < length (parts_bytes typ fs rs)) → IfErr r (λ e. (e ≡ TooLong) ⊎ (e ≡ Memory)) → IsWritten r w
+    → IfOk r (λ v. (v.items ≡ parts_bytes typ fs rs) × (length v.items ≤ 65535) × AreFit rs × AreProper fs) → IsErrOf r TooLong ↔ (65535 < length (parts_bytes typ fs rs)) → IfErr r (λ e. (e ≡ TooLong) ⊎ (e ≡ Memory)) → IsWritten r w
 is_written_by None r w typ fs rs is below are typ_is records_are ok long err = absurd are
 is_written_by (Some form) r w typ fs rs is below are typ_is records_are ok long err = is_written_as r form w typ fs rs below are is typ_is records_are ok long err
 
 says_some : (form : Option Form) (w : Wire) (bytes : List ℕ) → form_of w.typ ≡ form → MayFollowForm form w.records → AreOfForm form w → AreFit w.records → bytes ≡ wire_bytes w → Says (Known w) bytes
 says_some None w bytes is may are fit e = absurd may
 says_some (Some form) w bytes is may are fit e =
-    (form, is, record { typ = are.0; values = are.1; stand = may.stand; fit = fit; lengths = may.lengths }, e ∙ ap (λ f. formed_bytes f w) is)
+    (form, is, record { typ = are.0; values = are.1; valid = may.valid; fit = fit; lengths = may.lengths }, e ∙ ap (λ f. formed_bytes f w) is)
 
 pub says_it : (r : Result (Vec ℕ) Fault) (w : Wire) → CanBeWritten w → IsWritten r w → IfOk r (λ v. Says (Known w) v.items)
 says_it (Ok v) w can written = says_some (form_of w.typ) w v.items refl can written.is.3 written.is.2 written.is.0

@@ -11,7 +11,7 @@ mod refusals;
 pub use codec::decoding::{decode, one_message};
 pub use codec::encoding::encode;
 pub use codec::fitting::fits;
-pub use frames::frame::one_hearing;
+pub use frames::frame::frames_are_unique;
 pub use frames::framer::{Framer, any_pieces};
 pub use messages::channel::channel_id;
 pub use messages::closing::{ClosingSigned, Shutdown};

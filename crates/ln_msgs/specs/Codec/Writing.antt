@@ -1,10 +1,10 @@
 -- What is written for a message.
-use Rattle.std.specs.Prelude.{◌≡◌, ℕ, ◌<◌, ◌++◌, List, length, Option, Some, None, Result, Ok, Err, ◌⊎◌, IsTrue}
+use Rattle.std.specs.Prelude.{◌≡◌, ℕ, ◌<◌, ◌≤◌, ◌++◌, List, length, Option, Some, None, Result, Ok, Err, ◌⊎◌, IsTrue}
 use Rattle.std.specs.Global.{Vec}
 use Rattle.ln_bytes.specs.declared.fault.Fault.{Fault}
 use Rattle.ln_bytes.specs.declared.fault.Fault.TheVariants.{TooLong, Memory}
 use Rattle.ln_bytes.specs.Endian.{big_bytes}
-use Rattle.ln_bytes.specs.Tlv.{MayStand, AreFit, stream_bytes}
+use Rattle.ln_bytes.specs.Tlv.{AreValid, AreFit, stream_bytes}
 use Rattle.ln_bytes.specs.declared.record.Record.{Record}
 use Rattle.ln_msgs.specs.declared.messages.item.Item.{Item}
 use Rattle.ln_msgs.specs.Codec.Field.{AreOf}
@@ -15,7 +15,7 @@ use Rattle.ln_msgs.specs.Messages.Message.{Wire, wire_bytes, have_lengths}
 -- The records may stand behind the fields of this form: their types rise strictly, each even one is known,
 -- and each that has a fixed length has it.
 pub record MayFollow (form : Form) (rs : List Record) : Type 0 where
-  pub stand : MayStand form.known_even None rs
+  pub valid : AreValid form.known_even None rs
   pub lengths : IsTrue (have_lengths form.lengths rs)
 
 abbrev pub MayFollowForm : Option Form → List Record → Type 0
@@ -38,8 +38,8 @@ AreOfForm (Some form) w = (w.typ < 65536) × AreOf (kinds_of form) w.values
 -- what was answered where this message was to be written: its bytes, unless they are too many or memory ran
 -- out
 abbrev pub IsWrittenAs : Result (Vec ℕ) Fault → Wire → Type 0
-IsWrittenAs (Ok v) w = (v.items ≡ wire_bytes w) × (length v.items < 65536) × AreFit w.records × AreOfForm (form_of w.typ) w
-IsWrittenAs (Err f) w = ((f ≡ TooLong) × (65535 < length (wire_bytes w))) ⊎ ((f ≡ Memory) × (length (wire_bytes w) < 65536))
+IsWrittenAs (Ok v) w = (v.items ≡ wire_bytes w) × (length v.items ≤ 65535) × AreFit w.records × AreOfForm (form_of w.typ) w
+IsWrittenAs (Err f) w = ((f ≡ TooLong) × (65535 < length (wire_bytes w))) ⊎ ((f ≡ Memory) × (length (wire_bytes w) ≤ 65535))
 
 pub record IsWritten (r : Result (Vec ℕ) Fault) (w : Wire) : Type 0 where
   pub is : IsWrittenAs r w

@@ -4,7 +4,7 @@ use Rattle.std.specs.List.{list_all}
 use Rattle.std.specs.Prelude.{◌≡◌, ◌<◌, ℕ, ◌%◌, IsTrue, not, List, [], ◌++◌, length, Option, Some, None, Result, Ok, Err, Bool, ◌==◌, ◌||◌, ◌&&◌, nat_lt, nat_le, if◌then◌else◌}
 use Rattle.ln_bytes.specs.Endian.{big_bytes}
 use Rattle.ln_bytes.specs.Reading.{◌>>=◌}
-use Rattle.ln_bytes.specs.Tlv.{stream_at, stream_bytes, MayStand, AreFit}
+use Rattle.ln_bytes.specs.Tlv.{stream_at, stream_bytes, AreValid, AreFit}
 use Rattle.ln_bytes.specs.declared.fault.Fault.{Fault}
 use Rattle.ln_bytes.specs.declared.fault.Fault.TheVariants.{TooLong, UnknownEvenType, FieldLength}
 use Rattle.ln_bytes.specs.declared.record.Record.{Record}
@@ -43,7 +43,7 @@ wire_bytes w = formed_bytes (form_of w.typ) w
 pub record IsFormed (form : Form) (w : Wire) : Type 0 where
   pub typ : w.typ < 65536
   pub values : AreOf (kinds_of form) w.values
-  pub stand : MayStand form.known_even None w.records
+  pub valid : AreValid form.known_even None w.records
   pub fit : AreFit w.records
   pub lengths : IsTrue (have_lengths form.lengths w.records)
 

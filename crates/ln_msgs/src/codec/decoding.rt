@@ -37,13 +37,13 @@ use std::alloc::Global;
 /// memory.
 pub fn decode(alloc: Global, bytes: &[u8]) -> Result<Incoming, Fault>
     // What is read is spelled so.
-    ensures found { IfOk result (λ m. (length bytes.now < 65536) × Says (heard m) bytes.now) }
+    ensures is_spelled_so { IfOk result (λ m. (length bytes.now < 65536) × Says (heard m) bytes.now) }
 
     // What is spelled so is read.
-    ensures only { (h : Heard) → length bytes.now < 65536 → Says h bytes.now → Gives heard result (Ok h) }
+    ensures reads_each_spelling { (h : Heard) → length bytes.now < 65536 → Says h bytes.now → Gives heard result (Ok h) }
 
     // Which answer it is, and which fault comes first.
-    ensures exact { Gives heard result (message_at bytes.now) }
+    ensures reads_as_defined { Gives heard result (message_at bytes.now) }
 {
     read_message(alloc, bytes)
 }
@@ -93,6 +93,6 @@ pub(crate) fn read_payload(alloc: Global, typ: u16, payload: &[u8]) -> Result<In
 
 /// A law: as a whole input, the bytes of a message say one thing at most, and what says something has no fault.
 pub fn one_message()
-    ensures said { (g h : Heard) (bytes : List ℕ) → length bytes < 65536 → Says g bytes → Says h bytes → g ≡ h }
-    ensures outcome { (h : Heard) (f : Fault) (bytes : List ℕ) → length bytes < 65536 → Says h bytes → message_at bytes ≢ Err f }
+    ensures says_one_thing { (g h : Heard) (bytes : List ℕ) → length bytes < 65536 → Says g bytes → Says h bytes → g ≡ h }
+    ensures has_no_fault_if_it_says { (h : Heard) (f : Fault) (bytes : List ℕ) → length bytes < 65536 → Says h bytes → message_at bytes ≢ Err f }
 {}

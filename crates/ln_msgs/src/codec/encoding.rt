@@ -17,7 +17,7 @@ use ln_bytes::{Fault, Record, append_tlvs, tlvs_len};
 use std::alloc::Global;
 
 /// The most bytes that a message has.
-const MOST: usize = 65_535;
+pub(crate) const LONGEST: usize = 65_535;
 
 /// The bytes of a message (BOLT 1, "Lightning Message Format"): its type in two bytes, the highest first, its
 /// fields, and its records as a TLV stream. Takes memory for them once, and copies each field once.
@@ -30,12 +30,12 @@ pub fn encode(alloc: Global, message: &Message) -> Result<Vec<u8>, Fault>
     requires { CanBeWritten (wire message.now) }
 
     // What is written is the message's spelling, which is read as this message again.
-    ensures ok { IfOk result (λ v. (v.items ≡ wire_bytes (wire message.now)) × (length v.items < 65536)) }
-    ensures says { IfOk result (λ v. Says (Known (wire message.now)) v.items) }
+    ensures writes_the_message { IfOk result (λ v. (v.items ≡ wire_bytes (wire message.now)) × (length v.items ≤ LONGEST)) }
+    ensures says_the_message { IfOk result (λ v. Says (Known (wire message.now)) v.items) }
 
     // It is refused where it is too long, and only by that or want of memory.
-    ensures long { IsErrOf result Fault.TooLong ↔ (65535 < length (wire_bytes (wire message.now))) }
-    ensures err { IfErr result (λ e. (e ≡ Fault.TooLong) ⊎ (e ≡ Fault.Memory)) }
+    ensures refuses_what_is_too_long { IsErrOf result Fault.TooLong ↔ (LONGEST < length (wire_bytes (wire message.now))) }
+    ensures has_one_of_two_faults { IfErr result (λ e. (e ≡ Fault.TooLong) ⊎ (e ≡ Fault.Memory)) }
 {
     encode_parts(alloc, message)
 }
@@ -69,9 +69,9 @@ fn put_parts(
     fields: &[Item<'_>],
     records: &[Record],
 ) -> Result<Vec<u8>, Fault>
-    ensures ok { IfOk result (λ v. (v.items ≡ parts_bytes typ fields.now records.now) × (length v.items < 65536) × AreFit records.now × AreProper fields.now) }
-    ensures long { IsErrOf result Fault.TooLong ↔ (65535 < length (parts_bytes typ fields.now records.now)) }
-    ensures err { IfErr result (λ e. (e ≡ Fault.TooLong) ⊎ (e ≡ Fault.Memory)) }
+    ensures writes_the_parts { IfOk result (λ v. (v.items ≡ parts_bytes typ fields.now records.now) × (length v.items ≤ LONGEST) × AreFit records.now × AreProper fields.now) }
+    ensures refuses_what_is_too_long { IsErrOf result Fault.TooLong ↔ (LONGEST < length (parts_bytes typ fields.now records.now)) }
+    ensures has_one_of_two_faults { IfErr result (λ e. (e ≡ Fault.TooLong) ⊎ (e ≡ Fault.Memory)) }
 {
     let Some(len) = parts_len(fields, records) else {
         return Err(Fault::TooLong);
@@ -85,18 +85,18 @@ fn put_parts(
 
 /// How many bytes the message is, or none where they are too many.
 fn parts_len(fields: &[Item<'_>], records: &[Record]) -> Option<usize>
-    ensures more { IfNone result (65535 < 2 + length (items_bytes fields.now) + length (stream_bytes records.now)) }
-    ensures len { IfSome result (λ n. (n ≡ 2 + length (items_bytes fields.now) + length (stream_bytes records.now)) × (n ≤ 65535)) }
+    ensures none_is_too_many { IfNone result (LONGEST < 2 + length (items_bytes fields.now) + length (stream_bytes records.now)) }
+    ensures counts_the_bytes { IfSome result (λ n. (n ≡ 2 + length (items_bytes fields.now) + length (stream_bytes records.now)) × (n ≤ LONGEST)) }
 {
-    let fields_len = fields_len(fields, MOST - 2)?;
-    let records_len = tlvs_len(records, MOST - 2 - fields_len)?;
+    let fields_len = fields_len(fields, LONGEST - 2)?;
+    let records_len = tlvs_len(records, LONGEST - 2 - fields_len)?;
     Some(2 + fields_len + records_len)
 }
 
 /// How many bytes the fields are, or none where they are more than `most`.
 fn fields_len(fields: &[Item<'_>], most: usize) -> Option<usize>
-    ensures more { IfNone result (most < length (items_bytes fields.now)) }
-    ensures len { IfSome result (λ n. (n ≡ length (items_bytes fields.now)) × (n ≤ most)) }
+    ensures none_is_too_many { IfNone result (most < length (items_bytes fields.now)) }
+    ensures counts_the_bytes { IfSome result (λ n. (n ≡ length (items_bytes fields.now)) × (n ≤ most)) }
 {
     let mut left = most;
     for field in fields {
@@ -132,17 +132,17 @@ fn count<T>(items: &[T]) -> u64
 
 /// How many bytes the signatures are together.
 fn signatures_len(list: &[[u8; 64]]) -> u128
-    ensures len { result ≡ length (concat list.now) }
-    ensures small { result < 2 ^ 71 }
+    ensures counts_the_bytes { result ≡ length (concat list.now) }
+    ensures is_below_2_pow_71 { result < 2 ^ 71 }
 {
     64 * u128::from(count(list))
 }
 
 fn put_fields(out: &mut Vec<u8>, fields: &[Item<'_>]) -> Result<(), Fault>
-    requires { length (items_bytes fields.now) < 65536 }
-    ensures ok { OnOk result (out.new.items ≡ out.old.items ++ items_bytes fields.now) }
-    ensures proper { OnOk result (AreProper fields.now) }
-    ensures err { IfErr result (λ e. e ≡ Fault.Memory) }
+    requires { length (items_bytes fields.now) ≤ LONGEST }
+    ensures appends_the_fields { OnOk result (out.new.items ≡ out.old.items ++ items_bytes fields.now) }
+    ensures has_values_of_their_kinds { OnOk result (AreProper fields.now) }
+    ensures fails_for_memory_alone { IfErr result (λ e. e ≡ Fault.Memory) }
 {
     for field in fields {
         put_item(out, field)?;
@@ -151,10 +151,10 @@ fn put_fields(out: &mut Vec<u8>, fields: &[Item<'_>]) -> Result<(), Fault>
 }
 
 fn put_item(out: &mut Vec<u8>, item: &Item<'_>) -> Result<(), Fault>
-    requires { length (item_bytes «item».now) < 65536 }
-    ensures ok { OnOk result (out.new.items ≡ out.old.items ++ item_bytes «item».now) }
-    ensures proper { OnOk result (IsOf (kind_of «item».now) (value_of «item».now)) }
-    ensures err { IfErr result (λ e. e ≡ Fault.Memory) }
+    requires { length (item_bytes «item».now) ≤ LONGEST }
+    ensures appends_the_value { OnOk result (out.new.items ≡ out.old.items ++ item_bytes «item».now) }
+    ensures has_a_value_of_its_kind { OnOk result (IsOf (kind_of «item».now) (value_of «item».now)) }
+    ensures fails_for_memory_alone { IfErr result (λ e. e ≡ Fault.Memory) }
 {
     match *item {
         Item::U8(number) => out.push(number)?,
@@ -173,10 +173,10 @@ fn put_item(out: &mut Vec<u8>, item: &Item<'_>) -> Result<(), Fault>
 
 /// Their count, and the signatures one after the other.
 fn put_signatures(out: &mut Vec<u8>, list: &[[u8; 64]]) -> Result<(), Fault>
-    requires { length (concat list.now) < 65536 }
-    ensures ok { OnOk result (out.new.items ≡ out.old.items ++ (big_bytes 2 (length list.now) ++ concat list.now)) }
-    ensures proper { OnOk result ((length list.now < 65536) × AllByRecursion (λ s. length s ≡ 64) list.now) }
-    ensures err { IfErr result (λ e. e ≡ Fault.Memory) }
+    requires { length (concat list.now) ≤ LONGEST }
+    ensures appends_the_signatures { OnOk result (out.new.items ≡ out.old.items ++ (big_bytes 2 (length list.now) ++ concat list.now)) }
+    ensures has_signatures_of_64_bytes { OnOk result ((length list.now < 65536) × AllByRecursion (λ s. length s ≡ 64) list.now) }
+    ensures fails_for_memory_alone { IfErr result (λ e. e ≡ Fault.Memory) }
 {
     out.extend_from_slice(&(count(list) as u16).to_be_bytes())?;
     for signature in list {

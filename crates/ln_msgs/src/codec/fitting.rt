@@ -7,7 +7,7 @@ ghost use Rattle.ln_msgs.specs.Codec.Writing.{CanBeWritten};
 
 use crate::messages::message::Message;
 use crate::messages::records::have_length;
-use ln_bytes::{Record, tlvs_stand};
+use ln_bytes::{Record, tlvs_are_valid};
 
 /// Whether the message's records may stand behind its fields: their types rise strictly, each even one is known
 /// to the message's type, and each that has a fixed length has it (BOLT 1, "Type-Length-Value Format"). What
@@ -17,7 +17,7 @@ pub fn fits(message: &Message) -> bool
 {
     let form = message.form();
     let records = message.records().as_slice();
-    tlvs_stand(records, form.known_even) && have_lengths(records, form.lengths)
+    tlvs_are_valid(records, form.known_even) && have_lengths(records, form.lengths)
 }
 
 /// Whether each record has the length that its type asks for.

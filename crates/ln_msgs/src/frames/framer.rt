@@ -72,8 +72,8 @@ impl Framer {
     /// Errors: 1 to 6 and 8, the first fault of a message (`decode`). 60 where there is no memory: then nothing has
     /// changed, and the same bytes may be fed again.
     pub fn feed(&mut self, alloc: Global, piece: &[u8]) -> Result<Vec<Incoming>, Fault>
-        ensures ok { IfOk result (λ messages. Answers self.old piece.now (map heard messages.items) self.new) }
-        ensures err { IfErr result (λ f. Refuses self.old piece.now f self.new) }
+        ensures answers_what_is_whole { IfOk result (λ messages. Answers self.old piece.now (map heard messages.items) self.new) }
+        ensures refuses_a_fault_or_for_memory { IfErr result (λ f. Refuses self.old piece.now f self.new) }
     {
         if let Some(fault) = self.fault {
             return Err(fault);
@@ -92,10 +92,10 @@ impl Framer {
 
     /// Keeps what is left behind the messages that were heard, and answers these.
     fn keep(&mut self, hearing: Hearing) -> Result<Vec<Incoming>, Fault>
-        requires heard { HearsFront self.old.held (map heard hearing.messages.items) hearing.taken hearing.fault }
-        requires sound { self.old.fault ≡ None }
-        ensures ok { IfOk result (λ messages. HasHeard self.old.held (map heard messages.items) self.new × (map heard messages.items ≡ [] → self.new.fault ≡ None)) }
-        ensures err { IfErr result (λ f. HasHeard self.old.held [] self.new × (self.new.fault ≡ Some f)) }
+        requires hears_the_front { HearsFront self.old.held (map heard hearing.messages.items) hearing.taken hearing.fault }
+        requires has_no_fault { self.old.fault ≡ None }
+        ensures answers_what_was_heard { IfOk result (λ messages. HasHeard self.old.held (map heard messages.items) self.new × (map heard messages.items ≡ [] → self.new.fault ≡ None)) }
+        ensures tells_the_fault { IfErr result (λ f. HasHeard self.old.held [] self.new × (self.new.fault ≡ Some f)) }
     {
         let Hearing {
             messages,
@@ -132,8 +132,8 @@ fn drop_front(bytes: &mut Vec<u8>, count: usize)
 
 /// Hears the whole frames at the front of the bytes, up to the first fault. The only error is 60.
 fn hear(alloc: Global, bytes: &[u8]) -> Result<Hearing, Fault>
-    ensures ok { IfOk result (λ h. HearsFront bytes.now (map heard h.messages.items) h.taken h.fault) }
-    ensures err { IfErr result (λ f. f ≡ Fault.Memory) }
+    ensures hears_the_front { IfOk result (λ h. HearsFront bytes.now (map heard h.messages.items) h.taken h.fault) }
+    ensures fails_for_memory_alone { IfErr result (λ f. f ≡ Fault.Memory) }
 {
     let mut messages = Vec::new(alloc);
     let mut rest = bytes;
@@ -161,6 +161,6 @@ fn hear(alloc: Global, bytes: &[u8]) -> Result<Hearing, Fault>
 /// However a stream is cut into pieces, a framer that it is fed to answers the same messages: those of the bytes
 /// that came, up to the first fault.
 pub fn any_pieces()
-    ensures heard { (calls : List Call) (fed : Fed) → Runs unfed calls fed → HasHeard (came calls) (answered calls) fed }
-    ensures only { (calls : List Call) (fed : Fed) (hs : List Heard) (front rest : List ℕ) → Runs unfed calls fed → Hears hs front → EndsHearing rest → came calls ≡ front ++ rest → answered calls ≡ hs }
+    ensures has_heard_what_came { (calls : List Call) (fed : Fed) → Runs unfed calls fed → HasHeard (came calls) (answered calls) fed }
+    ensures has_answered_no_others { (calls : List Call) (fed : Fed) (hs : List Heard) (front rest : List ℕ) → Runs unfed calls fed → Hears hs front → EndsHearing rest → came calls ≡ front ++ rest → answered calls ≡ hs }
 {}

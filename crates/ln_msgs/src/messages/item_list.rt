@@ -9,19 +9,20 @@ const MOST_FIELDS: usize = 18;
 /// The values of a message's fields in their order, which contracts see as a list.
 #[derive(Drop)]
 pub(crate) struct Items<'a> {
-    items: [Item<'a>; 18],
+    items: [Item<'a>; MOST_FIELDS],
     count: usize,
 }
 
 impl<'a> Model for Items<'a> {
     ghost use Rattle.std.specs.Prelude.{List, take, ◌≤◌};
     ghost use Rattle.ln_msgs.specs.declared.messages.item.Item.{Item};
+    ghost use Rattle.ln_msgs.specs.declared.messages.item_list.TheConstants.{MOST_FIELDS};
 
     ghost Value = { List Item };
 
     ghost view = { λ i. take i.count i.items };
 
-    ghost invariant = { λ i. i.count ≤ 18 };
+    ghost invariant = { λ i. i.count ≤ MOST_FIELDS };
 }
 
 impl<'a> Items<'a> {
@@ -29,7 +30,7 @@ impl<'a> Items<'a> {
 
     /// These values.
     pub(crate) fn of(list: &[Item<'a>]) -> Items<'a>
-        requires { length list.now ≤ 18 }
+        requires { length list.now ≤ MOST_FIELDS }
         ensures { result ≡ list.now }
     {
         let mut items = [Item::U8(0); MOST_FIELDS];

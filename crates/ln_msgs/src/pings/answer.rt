@@ -13,7 +13,7 @@ use crate::codec::decoding::read_payload;
 use crate::codec::field::{sized_at, u16_at};
 use crate::frames::frame::next_frame;
 use crate::pings::counted::Counted;
-use crate::pings::outgoing::Outgoing;
+use crate::pings::outgoing::{FULL, NO_PONG, Outgoing};
 use crate::pings::window::Window;
 use ln_bytes::{Fault, read_tlvs};
 use std::alloc::Global;
@@ -34,10 +34,10 @@ pub(crate) enum Stop {
 /// how many bytes they took, and why it stopped.
 fn serve(alloc: Global, bytes: &[u8], out: &mut Outgoing) -> (usize, Stop)
     requires { out.old.pongs < 2 ^ 64 }
-    ensures within { result.0 ≤ length bytes.now }
-    ensures serves { Serves bytes.now (drop result.0 bytes.now) out.old out.new }
-    ensures stops { StopsAt (drop result.0 bytes.now) result.1 }
-    ensures full { result.1 ≡ Stop.Full → 131072 ≤ length out.new.bytes }
+    ensures takes_no_more_than_there_is { result.0 ≤ length bytes.now }
+    ensures serves_whole_frames { Serves bytes.now (drop result.0 bytes.now) out.old out.new }
+    ensures stops_for_its_reason { StopsAt (drop result.0 bytes.now) result.1 }
+    ensures waits_for_a_write_if_full { result.1 ≡ Stop.Full → FULL ≤ length out.new.bytes }
 {
     let mut rest = bytes;
     'frames: while !out.is_full() {
@@ -78,16 +78,16 @@ pub fn answer_pings<R: Read, W: Write>(
     writer: &mut Counted<W>,
 ) -> Result<u64, Fault>
     // All is answered.
-    ensures ok { IfOk result (AnswersAll (R.remaining (inner_of reader.old)) (R.remaining (inner_of reader.new)) (W.contents (inner_of writer.old)) (W.contents (inner_of writer.new))) }
+    ensures answers_all { IfOk result (AnswersAll (R.remaining (inner_of reader.old)) (R.remaining (inner_of reader.new)) (W.contents (inner_of writer.old)) (W.contents (inner_of writer.new))) }
 
     // All is answered up to the first fault.
-    ensures fault { IfErr result (λ e. e ≢ Fault.Memory → e ≢ Fault.Io → AnswersUpTo (R.remaining (inner_of reader.old)) (R.remaining (inner_of reader.new)) (W.contents (inner_of writer.old)) (W.contents (inner_of writer.new)) e) }
+    ensures answers_up_to_the_fault { IfErr result (λ e. e ≢ Fault.Memory → e ≢ Fault.Io → AnswersUpTo (R.remaining (inner_of reader.old)) (R.remaining (inner_of reader.new)) (W.contents (inner_of writer.old)) (W.contents (inner_of writer.new)) e) }
 
     // At any refusal a beginning is answered.
-    ensures some { IfErr result (λ _. AnswersSome (R.remaining (inner_of reader.old)) (R.remaining (inner_of reader.new)) (W.contents (inner_of writer.old)) (W.contents (inner_of writer.new))) }
+    ensures answers_some_if_refused { IfErr result (λ _. AnswersSome (R.remaining (inner_of reader.old)) (R.remaining (inner_of reader.new)) (W.contents (inner_of writer.old)) (W.contents (inner_of writer.new))) }
 
     // 63 comes only where a call failed, or where 2^64 - 1 calls were made.
-    ensures cause { IsErrOf result Fault.Io → HasRisen (failures_of reader.old) (failures_of reader.new) ⊎ HasRisen (failures_of writer.old) (failures_of writer.new) ⊎ (2 ^ 64 - 1 ≤ calls_of reader.new + calls_of writer.new) }
+    ensures io_is_a_failed_call { IsErrOf result Fault.Io → HasRisen (failures_of reader.old) (failures_of reader.new) ⊎ HasRisen (failures_of writer.old) (failures_of writer.new) ⊎ (2 ^ 64 - 1 ≤ calls_of reader.new + calls_of writer.new) }
 {
     let mut input = Window::new(alloc)?;
     let mut out = Outgoing::new(alloc)?;
@@ -115,8 +115,8 @@ pub fn answer_pings<R: Read, W: Write>(
 #[tactic(auto, unfolding(crate::specs::Pings::Answer::owed_at, crate::specs::Messages::Message::message_at))]
 fn pong_owed(alloc: Global, message: &[u8]) -> Result<Option<u16>, Fault>
     requires { length message.now < 65536 }
-    ensures gives { Gives (λ o. o) result (owed_at message.now) }
-    ensures small { IfOk result (λ o. IfSome o (λ n. n < 65532)) }
+    ensures reads_what_is_owed { Gives (λ o. o) result (owed_at message.now) }
+    ensures asks_for_a_pong { IfOk result (λ o. IfSome o (λ n. n < NO_PONG)) }
 {
     let (typ, payload) = u16_at(message)?;
     match typ {
@@ -129,8 +129,8 @@ fn pong_owed(alloc: Global, message: &[u8]) -> Result<Option<u16>, Fault>
 /// A message of another type asks for nothing.
 fn other_asks(alloc: Global, typ: u16, payload: &[u8]) -> Result<Option<u16>, Fault>
     requires { typ ≢ 18 }
-    ensures gives { Gives (λ o. o) result (other_asked_at typ payload.now) }
-    ensures small { IfOk result (λ o. IfSome o (λ n. n < 65532)) }
+    ensures reads_what_is_owed { Gives (λ o. o) result (other_asked_at typ payload.now) }
+    ensures asks_for_a_pong { IfOk result (λ o. IfSome o (λ n. n < NO_PONG)) }
 {
     let message = read_payload(alloc, typ, payload)?;
     drop(message);
@@ -139,19 +139,19 @@ fn other_asks(alloc: Global, typ: u16, payload: &[u8]) -> Result<Option<u16>, Fa
 
 #[tactic(auto, unfolding(crate::specs::Messages::Message::formed_at))]
 fn ping_asks(alloc: Global, payload: &[u8]) -> Result<Option<u16>, Fault>
-    ensures gives { Gives (λ o. o) result (asked_at ping_form 18 payload.now) }
-    ensures small { IfOk result (λ o. IfSome o (λ n. n < 65532)) }
+    ensures reads_what_is_owed { Gives (λ o. o) result (asked_at ping_form 18 payload.now) }
+    ensures asks_for_a_pong { IfOk result (λ o. IfSome o (λ n. n < NO_PONG)) }
 {
     let (count, rest) = u16_at(payload)?;
     let (_ignored, rest) = sized_at(rest)?;
     let _records = read_tlvs(alloc, rest, &[])?;
-    Ok(if count < 65532 { Some(count) } else { None })
+    Ok(if count < NO_PONG { Some(count) } else { None })
 }
 
 #[tactic(auto, unfolding(crate::specs::Messages::Message::formed_at))]
 fn pong_asks(alloc: Global, payload: &[u8]) -> Result<Option<u16>, Fault>
-    ensures gives { Gives (λ o. o) result (asked_at pong_form 19 payload.now) }
-    ensures small { IfOk result (λ o. IfSome o (λ n. n < 65532)) }
+    ensures reads_what_is_owed { Gives (λ o. o) result (asked_at pong_form 19 payload.now) }
+    ensures asks_for_a_pong { IfOk result (λ o. IfSome o (λ n. n < NO_PONG)) }
 {
     let (_ignored, rest) = sized_at(payload)?;
     let _records = read_tlvs(alloc, rest, &[])?;

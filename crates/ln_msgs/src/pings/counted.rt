@@ -22,9 +22,9 @@ impl<T> Counted<T> {
 
     /// Wraps a reader or a writer that wasn't called yet. Takes no memory.
     pub fn new(inner: T) -> Counted<T>
-        ensures inner { inner_of result ≡ inner }
-        ensures failures { failures_of result ≡ 0 }
-        ensures calls { calls_of result ≡ 0 }
+        ensures wraps_the_inner { inner_of result ≡ inner }
+        ensures has_no_failures { failures_of result ≡ 0 }
+        ensures has_no_calls { calls_of result ≡ 0 }
     {
         Counted {
             inner,
@@ -63,19 +63,19 @@ impl<T> Counted<T> {
 
     /// Counts a call that failed.
     fn fail(&mut self)
-        ensures inner { inner_of self.new ≡ inner_of self.old }
-        ensures failures { failures_of self.new ≡ one_more (failures_of self.old) }
+        ensures keeps_the_inner { inner_of self.new ≡ inner_of self.old }
+        ensures counts_a_failure { failures_of self.new ≡ one_more (failures_of self.old) }
         ensures no_fewer_failures { failures_of self.old ≤ failures_of self.new }
-        ensures calls { calls_of self.new ≡ calls_of self.old }
+        ensures counts_no_call { calls_of self.new ≡ calls_of self.old }
     {
         self.failures = self.failures.saturating_add(1);
     }
 
     /// Counts a call.
     fn count(&mut self)
-        ensures inner { inner_of self.new ≡ inner_of self.old }
-        ensures failures { failures_of self.new ≡ failures_of self.old }
-        ensures calls { calls_of self.new ≡ one_more (calls_of self.old) }
+        ensures keeps_the_inner { inner_of self.new ≡ inner_of self.old }
+        ensures counts_no_failure { failures_of self.new ≡ failures_of self.old }
+        ensures counts_a_call { calls_of self.new ≡ one_more (calls_of self.old) }
         ensures no_fewer_calls { calls_of self.old ≤ calls_of self.new }
     {
         self.calls = self.calls.saturating_add(1);
@@ -95,9 +95,9 @@ impl<R: Read> Read for Counted<R> {
     fn read(&mut self, buffer: &mut [u8]) -> io::Result<usize>
         ensures bound { ReadsAtMost result buffer.new }
         ensures bytes { ReadConsumes (R.remaining (inner_of self.old)) (R.remaining (inner_of self.new)) result buffer.new }
-        ensures failures { failures_of self.new ≡ counted (has_failed result) (failures_of self.old) }
+        ensures counts_a_failure { failures_of self.new ≡ counted (has_failed result) (failures_of self.old) }
         ensures no_fewer_failures { failures_of self.old ≤ failures_of self.new }
-        ensures calls { calls_of self.new ≡ one_more (calls_of self.old) }
+        ensures counts_a_call { calls_of self.new ≡ one_more (calls_of self.old) }
         ensures no_fewer_calls { calls_of self.old ≤ calls_of self.new }
     {
         self.count();
@@ -122,9 +122,9 @@ impl<W: Write> Write for Counted<W> {
     fn write(&mut self, bytes: &[u8]) -> io::Result<usize>
         ensures bound { WritesAtMost result bytes.now }
         ensures bytes { WriteAppends (W.contents (inner_of self.old)) (W.contents (inner_of self.new)) result bytes.now }
-        ensures failures { failures_of self.new ≡ counted (has_write_failed result bytes.now) (failures_of self.old) }
+        ensures counts_a_failure { failures_of self.new ≡ counted (has_write_failed result bytes.now) (failures_of self.old) }
         ensures no_fewer_failures { failures_of self.old ≤ failures_of self.new }
-        ensures calls { calls_of self.new ≡ one_more (calls_of self.old) }
+        ensures counts_a_call { calls_of self.new ≡ one_more (calls_of self.old) }
         ensures no_fewer_calls { calls_of self.old ≤ calls_of self.new }
     {
         self.count();
@@ -140,9 +140,9 @@ impl<W: Write> Write for Counted<W> {
     /// One flush of the writer. Counts an error.
     fn flush(&mut self) -> io::Result<()>
         ensures bytes { Keeps (W.contents (inner_of self.old)) (W.contents (inner_of self.new)) }
-        ensures failures { failures_of self.new ≡ counted (has_failed result) (failures_of self.old) }
+        ensures counts_a_failure { failures_of self.new ≡ counted (has_failed result) (failures_of self.old) }
         ensures no_fewer_failures { failures_of self.old ≤ failures_of self.new }
-        ensures calls { calls_of self.new ≡ one_more (calls_of self.old) }
+        ensures counts_a_call { calls_of self.new ≡ one_more (calls_of self.old) }
         ensures no_fewer_calls { calls_of self.old ≤ calls_of self.new }
     {
         self.count();

@@ -14,10 +14,13 @@ use std::io::Write;
 use std::marker::Model;
 
 /// From so many waiting bytes on, no further pong is taken before they are written.
-const FULL: usize = 131_072;
+pub(crate) const FULL: usize = 131_072;
 
-/// The longest frame of a pong.
+/// The longest frame of a pong: two bytes of length, and as many bytes as a message may have.
 const LONGEST: usize = 65_537;
+
+/// From so many bytes of pong on, a ping asks for none (BOLT 1, "The `ping` and `pong` Messages").
+pub(crate) const NO_PONG: u16 = 65_532;
 
 /// The type of a pong.
 const PONG: u16 = 19;
@@ -31,14 +34,15 @@ pub(crate) struct Outgoing {
 }
 
 impl Model for Outgoing {
-    ghost use Rattle.std.specs.Prelude.{◌≤◌, vec_capacity};
+    ghost use Rattle.std.specs.Prelude.{◌+◌, ◌≤◌, vec_capacity};
+    ghost use Rattle.ln_msgs.specs.declared.pings.outgoing.TheConstants.{FULL, LONGEST};
     ghost use Rattle.ln_msgs.specs.Pings.Outgoing.{Waiting};
 
     ghost Value = { Waiting };
 
     ghost view = { λ o. record { bytes = o.bytes.items; pongs = o.pongs } };
 
-    ghost invariant = { λ o. 196609 ≤ vec_capacity o.bytes };
+    ghost invariant = { λ o. FULL + LONGEST ≤ vec_capacity o.bytes };
 }
 
 impl Outgoing {
@@ -51,8 +55,8 @@ impl Outgoing {
 
     /// Nothing waits.
     pub(crate) fn new(alloc: Global) -> Result<Outgoing, AllocError>
-        ensures bytes { IfOk result (λ o. o.bytes ≡ []) }
-        ensures pongs { IfOk result (λ o. o.pongs ≡ 0) }
+        ensures has_no_bytes { IfOk result (λ o. o.bytes ≡ []) }
+        ensures has_no_pongs { IfOk result (λ o. o.pongs ≡ 0) }
     {
         Ok(Outgoing {
             bytes: Vec::with_capacity(alloc, FULL + LONGEST)?,
@@ -69,17 +73,17 @@ impl Outgoing {
 
     /// Whether what waits has to be written first.
     pub(crate) fn is_full(&self) -> bool
-        ensures { IsTrue result ↔ (131072 ≤ length self.now.bytes) }
+        ensures { IsTrue result ↔ (FULL ≤ length self.now.bytes) }
     {
         self.bytes.len() >= FULL
     }
 
     /// Adds a pong of so many zero bytes. Takes no memory.
     pub(crate) fn push_pong(&mut self, count: u16)
-        requires owed { count < 65532 }
-        requires room { length self.old.bytes < 131072 }
-        ensures bytes { self.new.bytes ≡ self.old.bytes ++ pong_frame count }
-        ensures pongs { self.new.pongs ≡ one_more self.old.pongs }
+        requires asks_for_a_pong { count < NO_PONG }
+        requires is_not_full { length self.old.bytes < FULL }
+        ensures appends_a_pong { self.new.bytes ≡ self.old.bytes ++ pong_frame count }
+        ensures counts_the_pong { self.new.pongs ≡ one_more self.old.pongs }
     {
         let mut head = [0u8; 6];
         BigEndian::write_u16(&mut head, count + 4);
@@ -98,13 +102,13 @@ impl Outgoing {
     /// Writes all that waits and flushes the writer; where nothing waits, does nothing. A failing write or
     /// flush is 63, and what was written by then is a beginning of what waited.
     pub(crate) fn send<W: Write>(&mut self, writer: &mut Counted<W>) -> Result<(), Fault>
-        ensures ok { OnOk result ((self.new.bytes ≡ []) × Appends (W.contents (inner_of writer.old)) (W.contents (inner_of writer.new)) self.old.bytes) }
-        ensures front { IsPartlyWritten (W.contents (inner_of writer.old)) (W.contents (inner_of writer.new)) self.old.bytes }
-        ensures cause { IfErr result (λ e. (e ≡ Fault.Io) × HasRisen (failures_of writer.old) (failures_of writer.new)) }
-        ensures failures { failures_of writer.old ≤ failures_of writer.new }
-        ensures called { OnOk result (0 < length self.old.bytes → HasRisen (calls_of writer.old) (calls_of writer.new)) }
-        ensures calls { calls_of writer.old ≤ calls_of writer.new }
-        ensures pongs { self.new.pongs ≡ self.old.pongs }
+        ensures sends_all { OnOk result ((self.new.bytes ≡ []) × Appends (W.contents (inner_of writer.old)) (W.contents (inner_of writer.new)) self.old.bytes) }
+        ensures sends_a_beginning { IsPartlyWritten (W.contents (inner_of writer.old)) (W.contents (inner_of writer.new)) self.old.bytes }
+        ensures fails_with_a_failed_call { IfErr result (λ e. (e ≡ Fault.Io) × HasRisen (failures_of writer.old) (failures_of writer.new)) }
+        ensures no_fewer_failures { failures_of writer.old ≤ failures_of writer.new }
+        ensures makes_a_call { OnOk result (0 < length self.old.bytes → HasRisen (calls_of writer.old) (calls_of writer.new)) }
+        ensures no_fewer_calls { calls_of writer.old ≤ calls_of writer.new }
+        ensures keeps_the_count { self.new.pongs ≡ self.old.pongs }
     {
         if self.bytes.is_empty() {
             return Ok(());
@@ -121,11 +125,11 @@ impl Outgoing {
 /// Writes the bytes, in as few calls as the writer allows. A failing write is 63, and what was written by
 /// then is a beginning of the bytes.
 fn write_out<W: Write>(bytes: &[u8], writer: &mut Counted<W>) -> Result<(), Fault>
-    ensures ok { OnOk result (Appends (W.contents (inner_of writer.old)) (W.contents (inner_of writer.new)) bytes.now) }
-    ensures front { IsPartlyWritten (W.contents (inner_of writer.old)) (W.contents (inner_of writer.new)) bytes.now }
-    ensures cause { IfErr result (λ e. (e ≡ Fault.Io) × HasRisen (failures_of writer.old) (failures_of writer.new)) }
-    ensures failures { failures_of writer.old ≤ failures_of writer.new }
-    ensures calls { calls_of writer.old ≤ calls_of writer.new }
+    ensures writes_all { OnOk result (Appends (W.contents (inner_of writer.old)) (W.contents (inner_of writer.new)) bytes.now) }
+    ensures writes_a_beginning { IsPartlyWritten (W.contents (inner_of writer.old)) (W.contents (inner_of writer.new)) bytes.now }
+    ensures fails_with_a_failed_call { IfErr result (λ e. (e ≡ Fault.Io) × HasRisen (failures_of writer.old) (failures_of writer.new)) }
+    ensures no_fewer_failures { failures_of writer.old ≤ failures_of writer.new }
+    ensures no_fewer_calls { calls_of writer.old ≤ calls_of writer.new }
 {
     let mut written = 0;
     while written < bytes.len() {

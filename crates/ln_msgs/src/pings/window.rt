@@ -22,12 +22,13 @@ pub(crate) struct Window {
 
 impl Model for Window {
     ghost use Rattle.std.specs.Prelude.{◌≡◌, ◌≤◌, ℕ, List, slice_range, vec_len};
+    ghost use Rattle.ln_msgs.specs.declared.pings.window.TheConstants.{CAPACITY};
 
     ghost Value = { List ℕ };
 
     ghost view = { λ w. slice_range w.buffer.items w.start w.end };
 
-    ghost invariant = { λ w. (w.start ≤ w.end) × (w.end ≤ vec_len w.buffer) × (vec_len w.buffer ≡ 262144) };
+    ghost invariant = { λ w. (w.start ≤ w.end) × (w.end ≤ vec_len w.buffer) × (vec_len w.buffer ≡ CAPACITY) };
 }
 
 impl Window {
@@ -67,14 +68,14 @@ impl Window {
     /// Reads once, as much as there is room for. False at the end of the input. An error of the reader
     /// is 63.
     pub(crate) fn fill<R: Read>(&mut self, reader: &mut Counted<R>) -> Result<bool, Fault>
-        requires { length self.old < 262144 }
+        requires { length self.old < CAPACITY }
         // What came stands behind what was there.
-        ensures kept { Keeps (prepend_known self.old (R.remaining (inner_of reader.old))) (prepend_known self.new (R.remaining (inner_of reader.new))) }
-        ensures end { result ≡ Ok false → (self.new ≡ self.old) × IsAtEnd (R.remaining (inner_of reader.new)) }
-        ensures cause { IfErr result (λ e. (e ≡ Fault.Io) × HasRisen (failures_of reader.old) (failures_of reader.new)) }
-        ensures failures { failures_of reader.old ≤ failures_of reader.new }
-        ensures called { HasRisen (calls_of reader.old) (calls_of reader.new) }
-        ensures calls { calls_of reader.old ≤ calls_of reader.new }
+        ensures loses_no_byte { Keeps (prepend_known self.old (R.remaining (inner_of reader.old))) (prepend_known self.new (R.remaining (inner_of reader.new))) }
+        ensures false_is_the_end { result ≡ Ok false → (self.new ≡ self.old) × IsAtEnd (R.remaining (inner_of reader.new)) }
+        ensures fails_with_a_failed_call { IfErr result (λ e. (e ≡ Fault.Io) × HasRisen (failures_of reader.old) (failures_of reader.new)) }
+        ensures no_fewer_failures { failures_of reader.old ≤ failures_of reader.new }
+        ensures makes_a_call { HasRisen (calls_of reader.old) (calls_of reader.new) }
+        ensures no_fewer_calls { calls_of reader.old ≤ calls_of reader.new }
     {
         let buffer = self.buffer.as_mut_slice();
         let (start, end) = make_room(buffer, self.start, self.end);
@@ -94,12 +95,12 @@ impl Window {
 /// Moves the bytes from `start` to `end` to the front, where little room is left behind them. Answers
 /// where they are.
 fn make_room(buffer: &mut [u8], start: usize, end: usize) -> (usize, usize)
-    requires ordered { start ≤ end }
-    requires within { end ≤ length buffer.old }
-    ensures same { slice_range buffer.new result.0 result.1 ≡ slice_range buffer.old start end }
-    ensures ordered { result.0 ≤ result.1 }
-    ensures within { result.1 ≤ length buffer.new }
-    ensures room { end - start < length buffer.old → result.1 < length buffer.new }
+    requires start_before_end { start ≤ end }
+    requires end_within_the_buffer { end ≤ length buffer.old }
+    ensures holds_the_same_bytes { slice_range buffer.new result.0 result.1 ≡ slice_range buffer.old start end }
+    ensures start_before_end { result.0 ≤ result.1 }
+    ensures end_within_the_buffer { result.1 ≤ length buffer.new }
+    ensures makes_room { end - start < length buffer.old → result.1 < length buffer.new }
 {
     if buffer.len() - end <= buffer.len() / 2 {
         buffer.copy_within(start..end, 0);

@@ -9,10 +9,10 @@ overflow_cast-result c =
     let below : n < 256 ^ 4 = (is_found 4 c.args.bytes.now n (λ i. omega (arith, c.type_inv.bytes i)) (omega arith) (sym c.in-Ok.ensures)).0 in
     omega (arith, below)
 
-pub returns-in-Ok-clause-found : goal.returns-in-Ok-clause-found
-returns-in-Ok-clause-found c =
+pub returns-in-Ok-clause-is_spelled_so : goal.returns-in-Ok-clause-is_spelled_so
+returns-in-Ok-clause-is_spelled_so c =
     (is_found 4 c.args.bytes.now c.in-Ok.number (λ i. omega (arith, c.type_inv.bytes i)) (omega arith) (sym c.in-Ok.ensures)).1
 
-pub returns-in-Ok-clause-only : goal.returns-in-Ok-clause-only
-returns-in-Ok-clause-only c = λ n below e.
+pub returns-in-Ok-clause-reads_each_spelling : goal.returns-in-Ok-clause-reads_each_spelling
+returns-in-Ok-clause-reads_each_spelling c = λ n below e.
     c.in-Ok.ensures ∙ ap (truncated_at 4) e ∙ is_again 4 n (omega arith) below

@@ -16,10 +16,10 @@ in_features : (init : Init) (map known : List ℕ) → map ≡ init.features →
 unfolding HasUnknownIn
 in_features init map known e u = (u.0, inr (subst (λ m. HasFeature m u.0) e u.1), u.2, u.3)
 
-pub returns-else-global_known-clause-unknown : goal.returns-else-global_known-clause-unknown
+pub returns-else-global_known-clause-tells_an_unknown_bit : goal.returns-else-global_known-clause-tells_an_unknown_bit
 unfolding HasUnknownIn
-returns-else-global_known-clause-unknown c =
+returns-else-global_known-clause-tells_an_unknown_bit c =
     elim c.else-global_known.branch [
-      | else-global_known-via-then-global_known+else-features_known w ↦ (refl, in_features c.args.init.now c.as_slice-2.result.now c.args.known_even_bits.now c.as_slice-2.ensures (c.knows_all-features_known.ensures.some w.if-features_known.false))
-      | else-global_known-via-else-global_known w ↦ (refl, in_global c.args.init.now c.as_slice.result.now c.args.known_even_bits.now c.as_slice.ensures (c.knows_all-global_known.ensures.some w.if-global_known.false))
+      | else-global_known-via-then-global_known+else-features_known w ↦ (refl, in_features c.args.init.now c.as_slice-2.result.now c.args.known_even_bits.now c.as_slice-2.ensures (c.knows_all-features_known.ensures.false_has_an_unknown_bit w.if-features_known.false))
+      | else-global_known-via-else-global_known w ↦ (refl, in_global c.args.init.now c.as_slice.result.now c.args.known_even_bits.now c.as_slice.ensures (c.knows_all-global_known.ensures.false_has_an_unknown_bit w.if-global_known.false))
     ]

@@ -17,10 +17,10 @@ in_byte : (features : List ℕ) (place k : ℕ) → place < length features → 
 in_byte features place k within at set =
     ap (λ b. bit_at b (k % 8)) (sym (get_or-reverse features place 0 within) ∙ ap (λ n. get_or (reverse features) n 0) (sym at)) ∙ set
 
-pub returns-then-not-knows_byte-clause-some : goal.returns-then-not-knows_byte-clause-some
-returns-then-not-knows_byte-clause-some c = λ e.
+pub returns-then-not-knows_byte-clause-false_has_an_unknown_bit : goal.returns-then-not-knows_byte-clause-false_has_an_unknown_bit
+returns-then-not-knows_byte-clause-false_has_an_unknown_bit c = λ e.
     let place = c.loop-place.place in
-    let found = c.knows_byte.ensures.some c.if-not-knows_byte.true in
+    let found = c.knows_byte.ensures.false_has_an_unknown_bit c.if-not-knows_byte.true in
     (8 * place + found.0, of_byte c.args.features.now place found.0 c.loop-place-test.true found.1 found.2, omega (arith, found.3), found.4)
 
 pub loop-place-preserved : goal.loop-place-preserved
@@ -28,4 +28,4 @@ loop-place-preserved c = below_more _ _ c.loop-place.invariant (λ k at set even
     let place = c.loop-place.place in
     let low : k % 8 < 8 = omega arith in
     let same : 8 * place + k % 8 ≡ k = omega arith in
-    subst (λ n. IsTrue (is_listed c.args.known.now n)) same (c.knows_byte.ensures.all c.if-not-knows_byte.false (k % 8) low (in_byte c.args.features.now place k c.loop-place-test.true at set) (omega arith)))
+    subst (λ n. IsTrue (is_listed c.args.known.now n)) same (c.knows_byte.ensures.true_is_all_known c.if-not-knows_byte.false (k % 8) low (in_byte c.args.features.now place k c.loop-place-test.true at set) (omega arith)))

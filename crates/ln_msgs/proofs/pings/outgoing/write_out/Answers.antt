@@ -21,8 +21,8 @@ loop-written-preserved g c =
       calls = omega (arith, c.in-Ok.ensures.no_fewer_calls);
     }
 
-pub returns-in_default-clause-front : goal.returns-in_default-clause-front
-returns-in_default-clause-front g c =
+pub returns-in_default-clause-writes_a_beginning : goal.returns-in_default-clause-writes_a_beginning
+returns-in_default-clause-writes_a_beginning g c =
     let done = c.loop-written.written in
     let n = c.in-Ok.count in
     let xs = c.args.bytes.now in
@@ -35,8 +35,8 @@ returns-in_default-clause-front g c =
       written = subst (Appends _ _) (append-nil (take done xs)) (Appends-trans _ _ _ _ _ c.loop-written.invariant.sent (subst (Appends _ _) nothing c.in-Ok.ensures.bytes));
     }
 
-pub returns-in_default-2-clause-front : goal.returns-in_default-2-clause-front
-returns-in_default-2-clause-front g c =
+pub returns-in_default-2-clause-writes_a_beginning : goal.returns-in_default-2-clause-writes_a_beginning
+returns-in_default-2-clause-writes_a_beginning g c =
     let done = c.loop-written.written in
     let xs = c.args.bytes.now in
     record {

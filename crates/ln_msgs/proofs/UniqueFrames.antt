@@ -21,16 +21,16 @@ same_frame m n x y fm fn e =
 ok_is : (g h : Heard) → ◌≡◌ {A = Result Heard Fault} (Ok g) (Ok h) → g ≡ h
 ok_is g h e = cc
 
-pub one_hearing_is : (hs gs : List Heard) (xs ys more rest : List ℕ) → Hears hs xs → Hears gs ys → EndsHearing more → EndsHearing rest → xs ++ more ≡ ys ++ rest → (hs ≡ gs) × (more ≡ rest)
-one_hearing_is [] [] xs ys more rest p q a b e = (refl, sym (ap (λ l. l ++ more) p) ∙ e ∙ ap (λ l. l ++ rest) q)
-one_hearing_is [] (g ∷ gs) xs ys more rest p q a b e =
+pub unique_frames : (hs gs : List Heard) (xs ys more rest : List ℕ) → Hears hs xs → Hears gs ys → EndsHearing more → EndsHearing rest → xs ++ more ≡ ys ++ rest → (hs ≡ gs) × (more ≡ rest)
+unique_frames [] [] xs ys more rest p q a b e = (refl, sym (ap (λ l. l ++ more) p) ∙ e ∙ ap (λ l. l ++ rest) q)
+unique_frames [] (g ∷ gs) xs ys more rest p q a b e =
     absurd (a q.0 (q.1 ++ rest) g (record { fits = q.2.fits; bytes_are = sym (ap (λ l. l ++ more) p) ∙ e ∙ ap (λ l. l ++ rest) q.2.bytes_are ∙ append_assoc (frame q.0) q.1 rest }) q.3)
-one_hearing_is (h ∷ hs) [] xs ys more rest p q a b e =
+unique_frames (h ∷ hs) [] xs ys more rest p q a b e =
     absurd (b p.0 (p.1 ++ more) h (record { fits = p.2.fits; bytes_are = sym (ap (λ l. l ++ rest) q) ∙ sym e ∙ ap (λ l. l ++ more) p.2.bytes_are ∙ append_assoc (frame p.0) p.1 more }) p.3)
-one_hearing_is (h ∷ hs) (g ∷ gs) xs ys more rest p q a b e =
+unique_frames (h ∷ hs) (g ∷ gs) xs ys more rest p q a b e =
     let left = ap (λ l. l ++ more) p.2.bytes_are ∙ append_assoc (frame p.0) p.1 more in
     let right = ap (λ l. l ++ rest) q.2.bytes_are ∙ append_assoc (frame q.0) q.1 rest in
     let one = same_frame p.0 q.0 (p.1 ++ more) (q.1 ++ rest) p.2.fits q.2.fits (sym left ∙ e ∙ right) in
     let same : h ≡ g = ok_is h g (sym p.3 ∙ ap message_at one.0 ∙ q.3) in
-    let others = one_hearing_is hs gs p.1 q.1 more rest p.4 q.4 a b one.1 in
+    let others = unique_frames hs gs p.1 q.1 more rest p.4 q.4 a b one.1 in
     (ap (λ k. k ∷ hs) same ∙ ap (λ ks. g ∷ ks) others.0, others.1)

@@ -1,6 +1,0 @@
-use Rattle.std.proofs.Common.{◌≡◌, None, take}
-use Rattle.ln_bytes.specs.Tlv.{MayStand, last_type}
-use Rattle.ln_bytes.proofs.tlv.tlvs_stand.Given as goal
-
-abbrev pub invariant-loop-record : goal.invariant-loop-record
-invariant-loop-record l = MayStand l.known_even None (take l.record-index l.records) × (l.before ≡ last_type None (take l.record-index l.records))
