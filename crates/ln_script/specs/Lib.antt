@@ -1,0 +1,3 @@
+pub mod Word
+pub mod Step
+pub mod Script

@@ -1,0 +1,63 @@
+//! Scripts: a step a line.
+
+ghost use Rattle.std.specs.Prelude.{◌≡◌, ℕ, ◌⊎◌, IfOk, IfErr};
+ghost use Rattle.ln_msgs.specs.declared.refusals.refusal.Refusal.TheVariants.{Memory, BadScript};
+ghost use Rattle.ln_script.specs.Step.{texts};
+ghost use Rattle.ln_script.specs.Script.{lines, words, is_skipped, script_at};
+
+use crate::step::step_of;
+use ln_msgs::Refusal;
+use ln_world::Step;
+use std::alloc::{AllocError, Global};
+
+/// The lines of a text.
+fn lines_of(alloc: Global, text: &str) -> Result<Vec<&str>, AllocError>
+    ensures { IfOk result (λ v. texts v.items ≡ lines text.now) }
+{
+    text.split('\n').collect(alloc)
+}
+
+/// The words of a line.
+fn words_of(alloc: Global, line: &str) -> Result<Vec<&str>, AllocError>
+    ensures { IfOk result (λ v. texts v.items ≡ words line.now) }
+{
+    line.split(' ').collect(alloc)
+}
+
+/// Whether nothing is asked for by a line.
+fn is_empty_or_comment(line: &str) -> bool
+    ensures { result ≡ is_skipped line.now }
+{
+    match line.as_bytes() {
+        [] => true,
+        [b'#', ..] => true,
+        _ => false,
+    }
+}
+
+/// The steps of a script: those of its lines, in order. Takes memory for the lines and the steps.
+///
+/// Errors: 64 with the number of the first line that isn't one of a script, counted from 1, skipped lines too; 60 where
+/// there is no memory.
+pub fn read_script(alloc: Global, text: &str) -> Result<Vec<Step>, Refusal>
+    ensures read { IfOk result (λ steps. script_at text.now ≡ Ok steps.items) }
+    ensures refused { IfErr result (λ e. (e ≡ Memory) ⊎ ((line : ℕ) × (e ≡ BadScript line) × (script_at text.now ≡ Err line))) }
+{
+    let lines = lines_of(alloc, text)?;
+    let mut steps = Vec::new(alloc);
+    for (number, line) in lines.iter().enumerate() {
+        if is_empty_or_comment(line) {
+            continue;
+        }
+        let words = words_of(alloc, line)?;
+        match step_of(words.as_slice()) {
+            Some(step) => steps.push(step)?,
+            None => {
+                return Err(Refusal::BadScript {
+                    line: number as u64 + 1,
+                });
+            }
+        }
+    }
+    Ok(steps)
+}
