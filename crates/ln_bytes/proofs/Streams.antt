@@ -3,7 +3,7 @@ use Rattle.std.proofs.Common.{◌≡◌, ◌≢◌, ℕ, zero, suc, ◌+◌, ◌
 use Rattle.std.specs.Prelude.{IfOk, IfErr}
 use Rattle.std.specs.Global.{Vec}
 use Rattle.std.proofs.lemmas.List.{append-nil, length-append, take_more, take_at, drop_at, take-append-drop}
-use Rattle.std.proofs.Math.Seq.{drop-cons}
+use Rattle.std.proofs.Math.Seq.{drop-cons, take-append_seam}
 use Rattle.std.proofs.lemmas.List.Concat.{flat_map-append}
 use Rattle.ln_bytes.specs.declared.fault.Fault.{Fault}
 use Rattle.ln_bytes.specs.declared.record.Record.{Record}
@@ -328,3 +328,11 @@ pub refutes : (known : List ℕ) (rs : List Record) (i : ℕ) (r : Record) → i
 refutes known rs i r below is wrong m =
     let at = valid_at known rs i r below is m in
     elim wrong [ inl f ↦ not_both _ at.0 f | inr s ↦ not_both _ at.1 s ]
+
+-- ---- what was there before stays in front
+
+pub begins_still : (xs more ys zs : List ℕ) → ys ≡ xs ++ more → take (length ys) zs ≡ ys → take (length xs) zs ≡ xs
+begins_still xs more ys zs e t =
+    let rest = drop (length ys) zs in
+    let whole : zs ≡ xs ++ (more ++ rest) = sym (take-append-drop (length ys) zs) ∙ ap (λ l. l ++ rest) (t ∙ e) ∙ append_assoc xs more rest in
+    ap (take (length xs)) whole ∙ take-append_seam xs (more ++ rest)

@@ -1,6 +1,6 @@
 //! TLV streams (BOLT 1, "Type-Length-Value Format"): records one after the other, up to the end.
 
-ghost use Rattle.std.specs.Prelude.{◌≡◌, ◌≢◌, ◌<◌, ◌≤◌, ◌⊎◌, ℕ, List, ◌++◌, length, slice_index, None, IfSome, IfNone, IsTrue, ◌↔◌, IfOk, IfErr, OnOk, Ok, Err, option_map};
+ghost use Rattle.std.specs.Prelude.{◌≡◌, ◌≢◌, ◌<◌, ◌≤◌, ◌⊎◌, ℕ, List, ◌++◌, length, take, slice_index, None, IfSome, IfNone, IsTrue, ◌↔◌, IfOk, IfErr, OnOk, OnErr, Ok, Err, option_map};
 ghost use Rattle.ln_bytes.specs.Bigsize.{bigsize};
 ghost use Rattle.ln_bytes.specs.Reading.{Gives};
 ghost use Rattle.ln_bytes.specs.Tlv.{value_of, record_bytes, stream_bytes, may_follow, is_allowed, AreRising, AreKnown, AreFit, AreValid, Fits, Spells, HasFault, value_at, record_at, stream_at};
@@ -14,7 +14,7 @@ use crate::record::Record;
 use std::alloc::Global;
 
 /// Reads a whole TLV stream: every record up to the end of the bytes, also those of odd types that
-/// nobody knows. Takes memory for the list and for each value, once.
+/// nobody knows. Takes memory for the list and for each value.
 ///
 /// A record is a BigSize type, a BigSize length and that many bytes; types rise strictly; an even
 /// type has to be in `known_even` (BOLT 1, "Type-Length-Value Format").
@@ -132,11 +132,27 @@ pub fn write_tlvs(alloc: Global, records: &[Record]) -> Result<Vec<u8>, Fault>
 
 /// Writes the records at the end of bytes, as `write_tlvs` writes them. Takes memory for the bytes.
 ///
-/// Errors: 60 (`Memory`) where there is no memory; what was written by then is no promise.
+/// Errors: 60 (`Memory`) where there is no memory: then the bytes are what they were.
 pub fn append_tlvs(out: &mut Vec<u8>, records: &[Record]) -> Result<(), Fault>
     ensures appends_the_stream { OnOk result (out.new.items ≡ out.old.items ++ stream_bytes records.now) }
     ensures has_fitting_records { OnOk result (AreFit records.now) }
     ensures fails_for_memory_alone { IfErr result (λ e. e ≡ Fault.Memory) }
+    ensures changes_nothing_if_refused { OnErr result (out.new.items ≡ out.old.items) }
+{
+    let before = out.len();
+    let result = put_records(out, records);
+    if result.is_err() {
+        out.truncate(before);
+    }
+    result
+}
+
+// Writes the records behind the bytes. Where memory is refused, some of their bytes may be there.
+fn put_records(out: &mut Vec<u8>, records: &[Record]) -> Result<(), Fault>
+    ensures appends_the_stream { OnOk result (out.new.items ≡ out.old.items ++ stream_bytes records.now) }
+    ensures has_fitting_records { OnOk result (AreFit records.now) }
+    ensures fails_for_memory_alone { IfErr result (λ e. e ≡ Fault.Memory) }
+    ensures begins_as_before { take (length out.old.items) out.new.items ≡ out.old.items }
 {
     for record in records {
         put_record(out, record)?;
@@ -201,6 +217,7 @@ fn put_record(out: &mut Vec<u8>, record: &Record) -> Result<(), Fault>
     ensures appends_the_record { OnOk result (out.new.items ≡ out.old.items ++ record_bytes «record».now) }
     ensures has_a_fitting_record { OnOk result (Fits «record».now) }
     ensures fails_for_memory_alone { IfErr result (λ e. e ≡ Fault.Memory) }
+    ensures begins_as_before { take (length out.old.items) out.new.items ≡ out.old.items }
 {
     put_number(out, record.typ)?;
     put_number(out, record.value.len() as u64)?;
@@ -211,6 +228,7 @@ fn put_record(out: &mut Vec<u8>, record: &Record) -> Result<(), Fault>
 fn put_number(out: &mut Vec<u8>, number: u64) -> Result<(), Fault>
     ensures appends_the_number { OnOk result (out.new.items ≡ out.old.items ++ bigsize number) }
     ensures fails_for_memory_alone { IfErr result (λ e. e ≡ Fault.Memory) }
+    ensures changes_nothing_if_refused { OnErr result (out.new.items ≡ out.old.items) }
 {
     let mut spelling = [0; 9];
     let len = write_bigsize(number, &mut spelling);
@@ -218,9 +236,14 @@ fn put_number(out: &mut Vec<u8>, number: u64) -> Result<(), Fault>
     Ok(())
 }
 
-/// A law: as a whole input, bytes are told in exactly one way. They spell records or have a fault, and
-/// not both; no two lists of records have the same bytes; and there is one first fault at most.
+/// A law, whatever memory does: what is spelled is read, what is read is spelled, and the same of faults. So, as a
+/// whole input, bytes are told in exactly one way: they spell records or have a fault, and not both; no two lists
+/// of records have the same bytes; and there is one first fault at most.
 pub fn one_stream()
+    ensures reads_what_is_spelled { (known_even bytes : List ℕ) (rs : List Record) → Spells known_even rs bytes → stream_at known_even bytes ≡ Ok rs }
+    ensures spells_what_is_read { (known_even bytes : List ℕ) (rs : List Record) → ((i : ℕ) → slice_index bytes i < 256) → stream_at known_even bytes ≡ Ok rs → Spells known_even rs bytes }
+    ensures finds_each_fault { (known_even bytes : List ℕ) (f : Fault) → HasFault known_even bytes f → stream_at known_even bytes ≡ Err f }
+    ensures has_the_fault_found { (known_even bytes : List ℕ) (f : Fault) → ((i : ℕ) → slice_index bytes i < 256) → stream_at known_even bytes ≡ Err f → HasFault known_even bytes f }
     ensures is_spelled_or_faulty { (known_even bytes : List ℕ) → ((i : ℕ) → slice_index bytes i < 256) → ((rs : List Record) × Spells known_even rs bytes) ⊎ ((f : Fault) × HasFault known_even bytes f) }
     ensures has_one_list_of_records { (rs ss : List Record) → AreFit rs → AreFit ss → stream_bytes rs ≡ stream_bytes ss → rs ≡ ss }
     ensures has_no_fault_if_spelled { (known_even bytes : List ℕ) (rs : List Record) (f : Fault) → Spells known_even rs bytes → HasFault known_even bytes f → ⊥ }

@@ -19,7 +19,7 @@ use Rattle.ln_bytes.proofs.Streams.{stream_again}
 use Rattle.ln_msgs.specs.Codec.Field.{Kind, Number, Fixed, Sized, Listed, Value, Num, Str, Many, IsOf, AreOf, value_bytes, fields_bytes, bytes_at, number_at, string_at, items_at, list_at, field_at, fields_at}
 use Rattle.std.specs.List.{AllByRecursion, concat}
 use Rattle.ln_msgs.specs.Messages.Table.{Form, kinds_of, form_of}
-use Rattle.ln_msgs.specs.Messages.Message.{Wire, IsFormed, have_lengths, Heard, Known, Ignored, Says, formed_at, payload_at, may_be_ignored, message_at}
+use Rattle.ln_msgs.specs.Messages.Message.{Wire, IsFormed, have_lengths, Heard, Known, Ignored, longest, IsSpelledBy, Says, formed_at, payload_at, may_be_ignored, message_at}
 
 -- ---- records
 
@@ -179,7 +179,7 @@ pub ends : {A : Type 0} (b : Bool) (d : Fault) (r : Result A Fault) (y : A) → 
 ends true d r y e = (refl, e)
 ends false d r y e = absurd cc
 
-formed_takes : (form : Form) (typ : ℕ) (bytes : List ℕ) (h : Heard) → IsBytes bytes → typ < 65536 → form_of typ ≡ Some form → formed_at form typ bytes ≡ Ok h → Says h (big_bytes 2 typ ++ bytes)
+formed_takes : (form : Form) (typ : ℕ) (bytes : List ℕ) (h : Heard) → IsBytes bytes → typ < 65536 → form_of typ ≡ Some form → formed_at form typ bytes ≡ Ok h → IsSpelledBy h (big_bytes 2 typ ++ bytes)
 unfolding formed_at
 formed_takes form typ bytes h fits below is e =
     let a = bind_ok (fields_at (kinds_of form) bytes) (λ values. stream_at form.known_even values.1 >>= λ records. cond (have_lengths form.lengths records) (Ok (Known (record { typ = typ; values = values.0; records = records }))) (Err FieldLength)) h e in
@@ -189,28 +189,28 @@ formed_takes form typ bytes h fits below is e =
     let first = fields_take (kinds_of form) bytes a.0 fits a.1 in
     let second = stream_takes form.known_even a.0.1 b.0 first.0.rest_fits b.1 in
     let parts : bytes ≡ fields_bytes (kinds_of form) a.0.0 ++ stream_bytes b.0 = first.0.parts ∙ ap (λ l. fields_bytes (kinds_of form) a.0.0 ++ l) second.bytes_are in
-    subst (λ (x : Heard). Says x (big_bytes 2 typ ++ bytes)) (ok_is made h c.1) (
+    subst (λ (x : Heard). IsSpelledBy x (big_bytes 2 typ ++ bytes)) (ok_is made h c.1) (
       form,
       is,
       record { typ = below; values = first.1; valid = second.valid; fit = second.fit; lengths = c.0 },
       ap (λ l. big_bytes 2 typ ++ l) parts ∙ sym (append_assoc (big_bytes 2 typ) (fields_bytes (kinds_of form) a.0.0) (stream_bytes b.0)),
     )
 
-payload_takes : (form : Option Form) (typ : ℕ) (bytes : List ℕ) (h : Heard) → IsBytes bytes → typ < 65536 → form_of typ ≡ form → payload_at form typ bytes ≡ Ok h → Says h (big_bytes 2 typ ++ bytes)
+payload_takes : (form : Option Form) (typ : ℕ) (bytes : List ℕ) (h : Heard) → IsBytes bytes → typ < 65536 → form_of typ ≡ form → payload_at form typ bytes ≡ Ok h → IsSpelledBy h (big_bytes 2 typ ++ bytes)
 payload_takes (Some form) typ bytes h fits below is e = formed_takes form typ bytes h fits below is e
 payload_takes None typ bytes h fits below is e =
     let c = ends (may_be_ignored typ) UnknownEvenType (Ok (Ignored typ)) h e in
-    subst (λ (x : Heard). Says x (big_bytes 2 typ ++ bytes)) (ok_is (Ignored typ) h c.1) (is, c.0, below, bytes, refl)
+    subst (λ (x : Heard). IsSpelledBy x (big_bytes 2 typ ++ bytes)) (ok_is (Ignored typ) h c.1) (is, c.0, below, bytes, refl)
 
 -- what is read is spelled so
-pub message_takes : (bytes : List ℕ) (h : Heard) → IsBytes bytes → message_at bytes ≡ Ok h → (length bytes < 65536) × Says h bytes
+pub message_takes : (bytes : List ℕ) (h : Heard) → IsBytes bytes → message_at bytes ≡ Ok h → Says h bytes
 unfolding message_at
 message_takes bytes h fits e =
-    let g = guard_ok (nat_lt 65535 (length bytes)) TooLong (number_at 2 bytes >>= λ typ. payload_at (form_of typ.0) typ.0 typ.1) h e in
-    let short : length bytes ≤ 65535 = ltb-false 65535 (length bytes) g.0 in
+    let g = guard_ok (nat_lt longest (length bytes)) TooLong (number_at 2 bytes >>= λ typ. payload_at (form_of typ.0) typ.0 typ.1) h e in
+    let short : length bytes ≤ longest = ltb-false longest (length bytes) g.0 in
     let a = bind_ok (number_at 2 bytes) (λ typ. payload_at (form_of typ.0) typ.0 typ.1) h g.1 in
     let first = number_takes 2 bytes a.0 fits a.1 in
-    (omega arith, subst (Says h) (sym first.0.parts) (payload_takes (form_of a.0.0) a.0.0 a.0.1 h first.0.rest_fits (omega (arith, first.1)) refl a.2))
+    (short, subst (IsSpelledBy h) (sym first.0.parts) (payload_takes (form_of a.0.0) a.0.0 a.0.1 h first.0.rest_fits (omega (arith, first.1)) refl a.2))
 
 formed_again : (form : Form) (w : Wire) → IsFormed form w → formed_at form w.typ (fields_bytes (kinds_of form) w.values ++ stream_bytes w.records) ≡ Ok (Known w)
 unfolding formed_at
@@ -220,27 +220,31 @@ formed_again form w is =
     rw (first, second, is.lengths) refl
 
 -- what is spelled so is read
-pub message_again : (bytes : List ℕ) (h : Heard) → length bytes < 65536 → Says h bytes → message_at bytes ≡ Ok h
+pub message_again : (bytes : List ℕ) (h : Heard) → Says h bytes → message_at bytes ≡ Ok h
 unfolding message_at
-message_again bytes (Known w) short says =
+message_again bytes (Known w) is =
+    let short : length bytes ≤ longest = is.0 in
+    let says : IsSpelledBy (Known w) bytes = is.1 in
     let form = says.0 in
     let payload = fields_bytes (kinds_of form) w.values ++ stream_bytes w.records in
     let parts : bytes ≡ big_bytes 2 w.typ ++ payload = says.3 ∙ append_assoc (big_bytes 2 w.typ) (fields_bytes (kinds_of form) w.values) (stream_bytes w.records) in
-    let fits : nat_lt 65535 (length bytes) ≡ false = le-ltb _ _ (omega arith) in
+    let fits : nat_lt longest (length bytes) ≡ false = le-ltb _ _ (omega arith) in
     let typ : number_at 2 bytes ≡ Ok (w.typ, payload) = ap (number_at 2) parts ∙ number_again 2 w.typ payload (omega (arith, says.2.typ)) in
     rw (fits, typ, says.1) (formed_again form w says.2)
-message_again bytes (Ignored typ) short says =
+message_again bytes (Ignored typ) whole =
+    let short : length bytes ≤ longest = whole.0 in
+    let says : IsSpelledBy (Ignored typ) bytes = whole.1 in
     let payload = says.3 in
-    let fits : nat_lt 65535 (length bytes) ≡ false = le-ltb _ _ (omega arith) in
+    let fits : nat_lt longest (length bytes) ≡ false = le-ltb _ _ (omega arith) in
     let is : number_at 2 bytes ≡ Ok (typ, payload) = ap (number_at 2) says.4 ∙ number_again 2 typ payload (omega (arith, says.2)) in
     rw (fits, is, says.0, says.1) refl
 
-pub is_found : (r : Result Incoming Fault) (bytes : List ℕ) → IsBytes bytes → Gives heard r (message_at bytes) → IfOk r (λ m. (length bytes < 65536) × Says (heard m) bytes)
+pub is_found : (r : Result Incoming Fault) (bytes : List ℕ) → IsBytes bytes → Gives heard r (message_at bytes) → IfOk r (λ m. Says (heard m) bytes)
 is_found (Ok m) bytes fits gives = message_takes bytes (heard m) fits gives
 is_found (Err e) bytes fits gives = tt
 
-pub one_said : (g h : Heard) (bytes : List ℕ) → length bytes < 65536 → Says g bytes → Says h bytes → g ≡ h
-one_said g h bytes short p q = ok_is g h (sym (message_again bytes g short p) ∙ message_again bytes h short q)
+pub one_said : (g h : Heard) (bytes : List ℕ) → Says g bytes → Says h bytes → g ≡ h
+one_said g h bytes p q = ok_is g h (sym (message_again bytes g p) ∙ message_again bytes h q)
 
-pub no_fault_said : (h : Heard) (f : Fault) (bytes : List ℕ) → length bytes < 65536 → Says h bytes → message_at bytes ≡ Err f → ⊥
-no_fault_said h f bytes short p e = let both = sym (message_again bytes h short p) ∙ e in absurd cc
+pub no_fault_said : (h : Heard) (f : Fault) (bytes : List ℕ) → Says h bytes → message_at bytes ≡ Err f → ⊥
+no_fault_said h f bytes p e = let both = sym (message_again bytes h p) ∙ e in absurd cc

@@ -10,3 +10,4 @@ pub mod Writing
 pub mod Framing
 pub mod Pieces
 pub mod Shown
+pub mod NoRecords

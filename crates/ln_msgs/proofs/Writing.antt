@@ -68,11 +68,11 @@ pub is_written_by : (form : Option Form) (r : Result (Vec ℕ) Fault) (w : Wire)
 is_written_by None r w typ fs rs is below are typ_is records_are ok long err = absurd are
 is_written_by (Some form) r w typ fs rs is below are typ_is records_are ok long err = is_written_as r form w typ fs rs below are is typ_is records_are ok long err
 
-says_some : (form : Option Form) (w : Wire) (bytes : List ℕ) → form_of w.typ ≡ form → MayFollowForm form w.records → AreOfForm form w → AreFit w.records → bytes ≡ wire_bytes w → Says (Known w) bytes
-says_some None w bytes is may are fit e = absurd may
-says_some (Some form) w bytes is may are fit e =
-    (form, is, record { typ = are.0; values = are.1; valid = may.valid; fit = fit; lengths = may.lengths }, e ∙ ap (λ f. formed_bytes f w) is)
+says_some : (form : Option Form) (w : Wire) (bytes : List ℕ) → form_of w.typ ≡ form → MayFollowForm form w.records → AreOfForm form w → AreFit w.records → length bytes ≤ 65535 → bytes ≡ wire_bytes w → Says (Known w) bytes
+says_some None w bytes is may are fit short e = absurd may
+says_some (Some form) w bytes is may are fit short e =
+    (short, (form, is, record { typ = are.0; values = are.1; valid = may.valid; fit = fit; lengths = may.lengths }, e ∙ ap (λ f. formed_bytes f w) is))
 
 pub says_it : (r : Result (Vec ℕ) Fault) (w : Wire) → CanBeWritten w → IsWritten r w → IfOk r (λ v. Says (Known w) v.items)
-says_it (Ok v) w can written = says_some (form_of w.typ) w v.items refl can written.is.3 written.is.2 written.is.0
+says_it (Ok v) w can written = says_some (form_of w.typ) w v.items refl can written.is.3 written.is.2 written.is.1 written.is.0
 says_it (Err f) w can written = tt

@@ -21,4 +21,6 @@ mod log;
 #[cfg(test)]
 mod testing;
 #[cfg(test)]
+mod whole_fields;
+#[cfg(test)]
 mod world;

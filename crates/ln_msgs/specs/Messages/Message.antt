@@ -1,7 +1,7 @@
 -- Messages (BOLT 1, "Lightning Message Format"): a type in two bytes, the fields that the type has, and a
 -- TLV stream up to the end.
 use Rattle.std.specs.List.{list_all}
-use Rattle.std.specs.Prelude.{◌≡◌, ◌<◌, ℕ, ◌%◌, IsTrue, not, List, [], ◌++◌, length, Option, Some, None, Result, Ok, Err, Bool, ◌==◌, ◌||◌, ◌&&◌, nat_lt, nat_le, if◌then◌else◌}
+use Rattle.std.specs.Prelude.{◌≡◌, ◌<◌, ◌≤◌, ℕ, ◌%◌, IsTrue, not, List, [], ◌++◌, length, Option, Some, None, Result, Ok, Err, Bool, ◌==◌, ◌||◌, ◌&&◌, nat_lt, nat_le, if◌then◌else◌}
 use Rattle.ln_bytes.specs.Endian.{big_bytes}
 use Rattle.ln_bytes.specs.Reading.{◌>>=◌}
 use Rattle.ln_bytes.specs.Tlv.{stream_at, stream_bytes, AreValid, AreFit}
@@ -54,11 +54,19 @@ pub data Heard : Type 0 where
   Known : (w : Wire) → Heard
   Ignored : (typ : ℕ) → Heard
 
--- The bytes say this. A message of a known type has one spelling; an ignored one is spelled by all
--- messages of its type.
+-- The bytes are a spelling of this. A message of a known type has one spelling; an ignored one is spelled by
+-- all messages of its type.
+abbrev pub IsSpelledBy : Heard → List ℕ → Type 0
+IsSpelledBy (Known w) bytes = (form : Form) × (form_of w.typ ≡ Some form) × IsFormed form w × (bytes ≡ formed_bytes (Some form) w)
+IsSpelledBy (Ignored typ) bytes = (form_of typ ≡ None) × IsTrue (may_be_ignored typ) × (typ < 65536) × (payload : List ℕ) × (bytes ≡ big_bytes 2 typ ++ payload)
+
+-- the most bytes that a message has
+abbrev pub longest : ℕ
+longest = 65535
+
+-- the bytes say this: they are a spelling of it, and no more than a message may have
 abbrev pub Says : Heard → List ℕ → Type 0
-Says (Known w) bytes = (form : Form) × (form_of w.typ ≡ Some form) × IsFormed form w × (bytes ≡ formed_bytes (Some form) w)
-Says (Ignored typ) bytes = (form_of typ ≡ None) × IsTrue (may_be_ignored typ) × (typ < 65536) × (payload : List ℕ) × (bytes ≡ big_bytes 2 typ ++ payload)
+Says h bytes = (length bytes ≤ longest) × IsSpelledBy h bytes
 
 unfoldable pub formed_at : Form → ℕ → List ℕ → Result Heard Fault
 formed_at form typ bytes = do
@@ -73,5 +81,5 @@ payload_at None typ bytes = if may_be_ignored typ then Ok (Ignored typ) else Err
 -- what the bytes of a message say, or their first fault
 unfoldable pub message_at : List ℕ → Result Heard Fault
 message_at bytes =
-    if nat_lt 65535 (length bytes) then Err TooLong
+    if nat_lt longest (length bytes) then Err TooLong
     else (number_at 2 bytes >>= λ typ. payload_at (form_of typ.0) typ.0 typ.1)

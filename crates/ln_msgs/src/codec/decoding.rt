@@ -1,12 +1,13 @@
 //! The reader of one message.
 
-ghost use Rattle.std.specs.Prelude.{◌≡◌, ◌≢◌, ◌<◌, ℕ, List, length, IfOk, Ok, Err};
+ghost use Rattle.std.specs.Prelude.{◌≡◌, ◌≢◌, ◌<◌, ℕ, List, slice_index, IfOk, Ok, Err};
 ghost use Rattle.ln_bytes.specs.declared.fault.Fault.{Fault};
 ghost use Rattle.ln_bytes.specs.Reading.{Gives};
 ghost use Rattle.ln_msgs.specs.Messages.Table.{form_of};
 ghost use Rattle.ln_msgs.specs.Messages.Message.{Heard, Says, payload_at, message_at};
 ghost use Rattle.ln_msgs.specs.Messages.Typed.{heard};
 
+use crate::codec::encoding::LONGEST;
 use crate::codec::field::u16_at;
 use crate::messages::closing::{read_closing_signed, read_shutdown};
 use crate::messages::commitments::{
@@ -37,10 +38,10 @@ use std::alloc::Global;
 /// memory.
 pub fn decode(alloc: Global, bytes: &[u8]) -> Result<Incoming, Fault>
     // What is read is spelled so.
-    ensures is_spelled_so { IfOk result (λ m. (length bytes.now < 65536) × Says (heard m) bytes.now) }
+    ensures is_spelled_so { IfOk result (λ m. Says (heard m) bytes.now) }
 
     // What is spelled so is read.
-    ensures reads_each_spelling { (h : Heard) → length bytes.now < 65536 → Says h bytes.now → Gives heard result (Ok h) }
+    ensures reads_each_spelling { (h : Heard) → Says h bytes.now → Gives heard result (Ok h) }
 
     // Which answer it is, and which fault comes first.
     ensures reads_as_defined { Gives heard result (message_at bytes.now) }
@@ -52,7 +53,7 @@ pub fn decode(alloc: Global, bytes: &[u8]) -> Result<Incoming, Fault>
 fn read_message(alloc: Global, bytes: &[u8]) -> Result<Incoming, Fault>
     ensures { Gives heard result (message_at bytes.now) }
 {
-    if bytes.len() > 65_535 {
+    if bytes.len() > LONGEST {
         return Err(Fault::TooLong);
     }
     let (typ, payload) = u16_at(bytes)?;
@@ -91,8 +92,11 @@ pub(crate) fn read_payload(alloc: Global, typ: u16, payload: &[u8]) -> Result<In
     Ok(Incoming::Known(message))
 }
 
-/// A law: as a whole input, the bytes of a message say one thing at most, and what says something has no fault.
+/// A law, whatever memory does: what bytes say is read of them, and what is read of them they say. So, as a whole
+/// input, the bytes of a message say one thing at most, and what says something has no fault.
 pub fn one_message()
-    ensures says_one_thing { (g h : Heard) (bytes : List ℕ) → length bytes < 65536 → Says g bytes → Says h bytes → g ≡ h }
-    ensures has_no_fault_if_it_says { (h : Heard) (f : Fault) (bytes : List ℕ) → length bytes < 65536 → Says h bytes → message_at bytes ≢ Err f }
+    ensures reads_what_is_said { (h : Heard) (bytes : List ℕ) → Says h bytes → message_at bytes ≡ Ok h }
+    ensures says_what_is_read { (h : Heard) (bytes : List ℕ) → ((i : ℕ) → slice_index bytes i < 256) → message_at bytes ≡ Ok h → Says h bytes }
+    ensures says_one_thing { (g h : Heard) (bytes : List ℕ) → Says g bytes → Says h bytes → g ≡ h }
+    ensures has_no_fault_if_it_says { (h : Heard) (f : Fault) (bytes : List ℕ) → Says h bytes → message_at bytes ≢ Err f }
 {}

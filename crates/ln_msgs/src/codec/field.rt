@@ -53,13 +53,10 @@ pub(crate) fn u64_at(bytes: &[u8]) -> Result<(u64, &[u8]), Fault>
 pub(crate) fn array_at<const N: usize>(bytes: &[u8]) -> Result<([u8; N], &[u8]), Fault>
     ensures { Gives (λ x. (x.0, x.1.now)) result (fixed_at N bytes.now) }
 {
-    if bytes.len() < N {
-        return Err(Fault::Truncated);
+    match bytes.split_first_chunk::<N>() {
+        Some((front, rest)) => Ok((*front, rest)),
+        None => Err(Fault::Truncated),
     }
-    let (front, rest) = bytes.split_at(N);
-    let mut array = [0; N];
-    array.copy_from_slice(front);
-    Ok((array, rest))
 }
 
 /// The bytes behind a length in two bytes.
@@ -83,7 +80,7 @@ pub(crate) fn bytes_at(alloc: Global, bytes: &[u8]) -> Result<(Bytes, &[u8]), Fa
     Ok((Bytes::new(Vec::from_slice(alloc, front)?), rest))
 }
 
-/// Signatures behind their count in two bytes. Takes memory for them, once.
+/// Signatures behind their count in two bytes. Takes memory for them.
 #[tactic(auto, unfolding(crate::specs::Codec::Field::list_at))]
 pub(crate) fn signatures_at(alloc: Global, bytes: &[u8]) -> Result<(Signatures, &[u8]), Fault>
     ensures { Gives (λ x. (x.0, x.1.now)) result (list_at 64 bytes.now) }

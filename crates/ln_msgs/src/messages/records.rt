@@ -65,6 +65,10 @@ impl Records {
 pub(crate) fn records_at(alloc: Global, bytes: &[u8], known_even: &[u64]) -> Result<Records, Fault>
     ensures { Gives (λ r. r) result (stream_at known_even.now bytes.now) }
 {
+    // most messages have none
+    if bytes.is_empty() {
+        return Ok(Records::empty(alloc));
+    }
     Ok(Records::new(read_tlvs(alloc, bytes, known_even)?))
 }
 

@@ -12,10 +12,11 @@ ghost use Rattle.ln_msgs.specs.Pings.CountedView.{inner_of, failures_of, calls_o
 use crate::codec::decoding::read_payload;
 use crate::codec::field::{sized_at, u16_at};
 use crate::frames::frame::next_frame;
+use crate::messages::records::records_at;
 use crate::pings::counted::Counted;
 use crate::pings::outgoing::{FULL, NO_PONG, Outgoing};
 use crate::pings::window::Window;
-use ln_bytes::{Fault, read_tlvs};
+use ln_bytes::Fault;
 use std::alloc::Global;
 use std::io::{Read, Write};
 
@@ -144,7 +145,7 @@ fn ping_asks(alloc: Global, payload: &[u8]) -> Result<Option<u16>, Fault>
 {
     let (count, rest) = u16_at(payload)?;
     let (_ignored, rest) = sized_at(rest)?;
-    let _records = read_tlvs(alloc, rest, &[])?;
+    let _records = records_at(alloc, rest, &[])?;
     Ok(if count < NO_PONG { Some(count) } else { None })
 }
 
@@ -154,6 +155,6 @@ fn pong_asks(alloc: Global, payload: &[u8]) -> Result<Option<u16>, Fault>
     ensures asks_for_a_pong { IfOk result (λ o. IfSome o (λ n. n < NO_PONG)) }
 {
     let (_ignored, rest) = sized_at(payload)?;
-    let _records = read_tlvs(alloc, rest, &[])?;
+    let _records = records_at(alloc, rest, &[])?;
     Ok(None)
 }

@@ -1,6 +1,6 @@
 //! The bytes that were read and not yet taken.
 
-ghost use Rattle.std.specs.Prelude.{◌≡◌, ◌-◌, ◌<◌, ◌≤◌, length, slice_range};
+ghost use Rattle.std.specs.Prelude.{◌≡◌, ◌-◌, ◌<◌, ◌≤◌, length, slice_range, vec_len, IfOk};
 
 use crate::pings::counted::Counted;
 use ln_bytes::Fault;
@@ -41,9 +41,8 @@ impl Window {
     pub(crate) fn new(alloc: Global) -> Result<Window, AllocError>
         ensures { IfOk result (λ w. w ≡ []) }
     {
-        let buffer = vec![in alloc; 0; CAPACITY]?;
         Ok(Window {
-            buffer,
+            buffer: zeros(alloc, CAPACITY)?,
             start: 0,
             end: 0,
         })
@@ -90,6 +89,13 @@ impl Window {
             Err(_) => Err(Fault::Io),
         }
     }
+}
+
+/// So many zero bytes. It stands apart since a proof over the number itself counts them one by one.
+fn zeros(alloc: Global, count: usize) -> Result<Vec<u8>, AllocError>
+    ensures { IfOk result (λ bytes. vec_len bytes ≡ count) }
+{
+    vec![in alloc; 0; count]
 }
 
 /// Moves the bytes from `start` to `end` to the front, where little room is left behind them. Answers

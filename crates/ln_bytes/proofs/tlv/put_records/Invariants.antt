@@ -1,6 +1,6 @@
 use Rattle.std.proofs.Common.{◌≡◌, ◌++◌, take}
 use Rattle.ln_bytes.specs.Tlv.{stream_bytes, AreFit}
-use Rattle.ln_bytes.proofs.tlv.append_tlvs.Given as goal
+use Rattle.ln_bytes.proofs.tlv.put_records.Given as goal
 
 abbrev pub invariant-loop-record : goal.invariant-loop-record
 invariant-loop-record l =

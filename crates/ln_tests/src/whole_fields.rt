@@ -1,0 +1,266 @@
+//! Messages whose every byte tells where it stands, all refusals by their texts, and a writer that takes nothing.
+
+use ln_bytes::Fault;
+use ln_msgs::{Counted, Incoming, Item, Message, Refusal, answer_pings, decode};
+use std::alloc::{AllocError, Global};
+use std::io;
+use std::io::Write;
+use std::test::*;
+
+// A type, how many bytes its fields of fixed size take, the bytes of those behind them, and the names of all.
+type Row = (u16, usize, &'static [u8], &'static [&'static str]);
+
+const ROWS: [Row; 20] = [
+    (1, 32, &[0, 2, 8, 9], &["channel_id", "data"]),
+    (
+        16,
+        0,
+        &[0, 1, 5, 0, 2, 6, 7],
+        &["global_features", "features"],
+    ),
+    (17, 32, &[0, 2, 8, 9], &["channel_id", "data"]),
+    (18, 2, &[0, 3, 5, 6, 7], &["num_pong_bytes", "ignored"]),
+    (19, 0, &[0, 3, 5, 6, 7], &["ignored"]),
+    (
+        32,
+        319,
+        &[],
+        &[
+            "chain_hash",
+            "temporary_id",
+            "funding_satoshis",
+            "push_msat",
+            "dust_limit_satoshis",
+            "max_htlc_value_in_flight_msat",
+            "channel_reserve_satoshis",
+            "htlc_minimum_msat",
+            "feerate_per_kw",
+            "to_self_delay",
+            "max_accepted_htlcs",
+            "funding_pubkey",
+            "revocation_basepoint",
+            "payment_basepoint",
+            "delayed_payment_basepoint",
+            "htlc_basepoint",
+            "first_per_commitment_point",
+            "channel_flags",
+        ],
+    ),
+    (
+        33,
+        270,
+        &[],
+        &[
+            "temporary_id",
+            "dust_limit_satoshis",
+            "max_htlc_value_in_flight_msat",
+            "channel_reserve_satoshis",
+            "htlc_minimum_msat",
+            "minimum_depth",
+            "to_self_delay",
+            "max_accepted_htlcs",
+            "funding_pubkey",
+            "revocation_basepoint",
+            "payment_basepoint",
+            "delayed_payment_basepoint",
+            "htlc_basepoint",
+            "first_per_commitment_point",
+        ],
+    ),
+    (
+        34,
+        130,
+        &[],
+        &["temporary_id", "funding_txid", "output_index", "signature"],
+    ),
+    (35, 96, &[], &["channel_id", "signature"]),
+    (36, 65, &[], &["channel_id", "second_point"]),
+    (38, 32, &[0, 2, 8, 9], &["channel_id", "script"]),
+    (39, 104, &[], &["channel_id", "fee_satoshis", "signature"]),
+    (
+        128,
+        1450,
+        &[],
+        &[
+            "channel_id",
+            "id",
+            "amount_msat",
+            "payment_hash",
+            "cltv_expiry",
+            "onion",
+        ],
+    ),
+    (130, 72, &[], &["channel_id", "id", "preimage"]),
+    (131, 40, &[0, 2, 8, 9], &["channel_id", "id", "reason"]),
+    (
+        132,
+        96,
+        &[0, 0],
+        &["channel_id", "signature", "htlc_signatures"],
+    ),
+    (133, 97, &[], &["channel_id", "secret", "next_point"]),
+    (134, 36, &[], &["channel_id", "feerate_per_kw"]),
+    (
+        135,
+        74,
+        &[],
+        &["channel_id", "id", "sha256_of_onion", "failure_code"],
+    ),
+    (
+        136,
+        113,
+        &[],
+        &[
+            "channel_id",
+            "next_commitment_number",
+            "next_revocation_number",
+            "last_secret",
+            "current_point",
+        ],
+    ),
+];
+
+// The message's bytes: its type, so many bytes of which neighbours differ, and the tail.
+fn bytes_of(alloc: Global, typ: u16, fixed: usize, tail: &[u8]) -> Result<Vec<u8>, AllocError> {
+    let mut bytes = Vec::from_slice(alloc, &typ.to_be_bytes())?;
+    let mut next = 1u8;
+    for _ in 0..fixed {
+        bytes.push(next)?;
+        next = next.wrapping_add(7);
+    }
+    bytes.extend_from_slice(tail)?;
+    Ok(bytes)
+}
+
+// What follows the value, where it stands in front.
+fn behind<'a>(value: &Item<'_>, bytes: &'a [u8]) -> Option<&'a [u8]> {
+    match *value {
+        Item::U8(number) => bytes.strip_prefix(&[number]),
+        Item::U16(number) => bytes.strip_prefix(&number.to_be_bytes()),
+        Item::U32(number) => bytes.strip_prefix(&number.to_be_bytes()),
+        Item::U64(number) => bytes.strip_prefix(&number.to_be_bytes()),
+        Item::Fixed(front) => bytes.strip_prefix(front),
+        Item::Sized(front) => bytes
+            .strip_prefix(&(front.len() as u16).to_be_bytes())?
+            .strip_prefix(front),
+        Item::Listed(list) => bytes.strip_prefix(&(list.len() as u16).to_be_bytes()),
+    }
+}
+
+// Whether the message's fields have these names, and their values are these bytes one after the other.
+fn are_fields(
+    alloc: Global,
+    message: &Message,
+    names: &[&str],
+    bytes: &[u8],
+) -> Result<bool, AllocError> {
+    let fields = message.fields(alloc)?;
+    if fields.len() != names.len() {
+        return Ok(false);
+    }
+    let mut rest = bytes;
+    for (field, name) in fields.iter().zip(names) {
+        match behind(&field.value, rest) {
+            Some(after) if field.name == *name => rest = after,
+            _ => return Ok(false),
+        }
+    }
+    Ok(rest.is_empty())
+}
+
+#[test]
+fn fields_by_name_and_place(rt: HostRuntime) -> Result<(), Fail> {
+    for (typ, fixed, tail, names) in ROWS {
+        let bytes = bytes_of(rt.alloc(), typ, fixed, tail)?;
+        let decoded = decode(rt.alloc(), &bytes);
+        let same = match &decoded {
+            Ok(Incoming::Known(message)) => are_fields(rt.alloc(), message, names, &bytes[2..]),
+            _ => Ok(false),
+        };
+        drop(decoded);
+        assert!(rt; same?, "of type {typ}");
+    }
+    Ok(())
+}
+
+// The texts of all refusals but the two that carry a number.
+const TEXTS: [(Refusal, &str); 41] = [
+    (Refusal::Truncated, "refused 1"),
+    (Refusal::NotMinimal, "refused 2"),
+    (Refusal::TlvOrder, "refused 3"),
+    (Refusal::TlvUnknownEven, "refused 4"),
+    (Refusal::TlvLength, "refused 5"),
+    (Refusal::UnknownEvenType, "refused 6"),
+    (Refusal::TooLong, "refused 7"),
+    (Refusal::FieldLength, "refused 8"),
+    (Refusal::UnknownFeature, "refused 9"),
+    (Refusal::UnknownChannel, "refused 20"),
+    (Refusal::OutOfPlace, "refused 21"),
+    (Refusal::BadId, "refused 22"),
+    (Refusal::AmountBelowMinimum, "refused 23"),
+    (Refusal::TooManyHtlcs, "refused 24"),
+    (Refusal::InFlightOver, "refused 25"),
+    (Refusal::CannotAfford, "refused 26"),
+    (Refusal::ExpiryRange, "refused 27"),
+    (Refusal::NoSuchHtlc, "refused 28"),
+    (Refusal::PreimageWrong, "refused 29"),
+    (Refusal::NotFunder, "refused 30"),
+    (Refusal::SignatureWrong, "refused 31"),
+    (Refusal::SecretWrong, "refused 32"),
+    (Refusal::NothingToRevoke, "refused 33"),
+    (Refusal::ReestablishNumber, "refused 34"),
+    (Refusal::AddAfterShutdown, "refused 35"),
+    (Refusal::FeeOutside, "refused 36"),
+    (Refusal::PeerError, "refused 37"),
+    (Refusal::NotReady, "refused 40"),
+    (Refusal::SignatureOutstanding, "refused 41"),
+    (Refusal::NothingToSign, "refused 42"),
+    (Refusal::Shut, "refused 43"),
+    (Refusal::UpdatesPending, "refused 45"),
+    (Refusal::NumbersSpent, "refused 46"),
+    (Refusal::Disconnected, "refused 47"),
+    (Refusal::NotCommitted, "refused 48"),
+    (Refusal::AlreadyRemoved, "refused 49"),
+    (Refusal::Memory, "refused 60"),
+    (Refusal::Store, "refused 61"),
+    (Refusal::Halted, "refused 62"),
+    (Refusal::Io, "refused 63"),
+    (Refusal::GaveUp, "refused 65"),
+];
+
+#[test]
+fn refusals_by_their_texts(rt: HostRuntime) -> Result<(), AllocError> {
+    for (refusal, text) in TEXTS {
+        let told = format!(in rt.alloc(); "{refusal}")?;
+        assert_eq!(rt; told.as_str(), text);
+    }
+    let damaged = Refusal::Damaged;
+    let told = format!(in rt.alloc(); "{damaged}")?;
+    assert_eq!(rt; told.as_str(), "refused 70");
+    Ok(())
+}
+
+// A writer that takes no byte.
+#[derive(Drop)]
+struct Full;
+
+impl Write for Full {
+    fn write(&mut self, _bytes: &[u8]) -> io::Result<usize> {
+        Ok(0)
+    }
+
+    fn flush(&mut self) -> io::Result<()> {
+        Ok(())
+    }
+}
+
+// A write that takes nothing of a pong is a failure: 63, counted once.
+#[test]
+fn a_write_that_takes_nothing(rt: HostRuntime) {
+    let ping = [0, 6, 0, 18, 0, 2, 0, 0];
+    let mut reader = Counted::new(ping.as_slice());
+    let mut writer = Counted::new(Full);
+    assert_eq!(rt; answer_pings(rt.alloc(), &mut reader, &mut writer), Err(Fault::Io));
+    assert_eq!(rt; reader.failures(), 0);
+    assert_eq!(rt; writer.failures(), 1);
+}
