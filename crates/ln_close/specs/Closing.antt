@@ -18,11 +18,11 @@ opened role fees = record { role = role; fees = fees; shut = false; peer_shut = 
 abbrev pub may_shut : Bool → Closing → Result (Unit {0}) Refusal
 may_shut pending c = if c.shut then Err refusal.Shut else (if pending then Err refusal.UpdatesPending else Ok tt)
 
-abbrev pub shuts : Closing → Closing
-shuts c = record c { shut = true }
+abbrev pub after_shut : Closing → Closing
+after_shut c = record c { shut = true }
 
-abbrev pub peer_shuts : Closing → Closing
-peer_shuts c = record c { peer_shut = true }
+abbrev pub after_peer_shut : Closing → Closing
+after_peer_shut c = record c { peer_shut = true }
 
 -- ---- the funder's first fee (BOLT 2, "Closing Negotiation")
 

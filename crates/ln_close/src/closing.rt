@@ -58,7 +58,7 @@ fn is_fee(known: Option<u64>, fee: u64) -> bool
 
 impl Closing {
     ghost use Rattle.std.specs.Prelude.{◌≡◌, IfOk, OnErr};
-    ghost use Rattle.ln_close.specs.Closing.{opened, may_shut, shuts, peer_shuts, first_fee, started, answer_to, counter, after};
+    ghost use Rattle.ln_close.specs.Closing.{opened, may_shut, after_shut, after_peer_shut, first_fee, started, answer_to, counter, after};
 
     /// A side of a channel that isn't closing.
     pub fn new(role: Role, fees: Fees) -> Closing
@@ -91,14 +91,14 @@ impl Closing {
 
     /// This side sends `shutdown`.
     pub fn shut(&mut self)
-        ensures { self.new ≡ shuts self.old }
+        ensures { self.new ≡ after_shut self.old }
     {
         self.shut = true;
     }
 
     /// The other side's `shutdown` is taken.
     pub fn peer_shut(&mut self)
-        ensures { self.new ≡ peer_shuts self.old }
+        ensures { self.new ≡ after_peer_shut self.old }
     {
         self.peer_shut = true;
     }

@@ -12,15 +12,15 @@ use Rattle.ln_log.specs.declared.opening.Opening.{Opening}
 use Rattle.ln_log.specs.Updates.{all_sent}
 use Rattle.ln_log.specs.Log.{covered, counts_of, view_for}
 use Rattle.ln_log.specs.Machine.{Covered}
-use Rattle.ln_dance.specs.Dance.{Dancer, view_at, owes, is_last, signed_message, accept_fault, revoked_message, learn_fault, learns}
+use Rattle.ln_dance.specs.Dance.{Dancer, view_at, owes, is_last, signed_message, accept_fault, revoked_message, learn_fault, after_learn}
 use Rattle.ln_dance.specs.Exchange.{IsSignedFor, IsRevokedFor}
 use Rattle.ln_log.proofs.Sent.{turned_views}
 
 -- what the one signed for is what the other accepts
 view_faces : (k : Signer) (x y : Dancer) → IsSignedFor k x y → view_at pair.ToSign x ≡ view_at pair.ToAccept y
 view_faces k x y h =
-    let own : all_sent (take (length x.log.own) x.log.own) ≡ all_sent (take (length y.log.got) y.log.got)
-    = ap all_sent (take_all (length x.log.own) x.log.own (omega arith)) ∙ h.own ∙ sym (ap all_sent (take_all (length y.log.got) y.log.got (omega arith))) in
+    let own : all_sent (take (length x.log.own) x.log.own) ≡ all_sent (take (length y.log.received) y.log.received)
+    = ap all_sent (take_all (length x.log.own) x.log.own (omega arith)) ∙ h.own ∙ sym (ap all_sent (take_all (length y.log.received) y.log.received (omega arith))) in
     let both : Covered = covered y.log (counts_of pair.ToAccept y.log) in
     turned_views x.log.opening x.log.role (covered x.log (counts_of pair.ToSign x.log)) both (cc (own, h.peer))
     ∙ ap (λ r. view_for x.log.opening r both) (sym h.roles)
@@ -52,5 +52,5 @@ learned a b x y m p h below o e =
     learned_if (owes x) _ o
     (ap (λ (n : RevokeAndAck). a.fits n.secret x.peer.point) e ∙ ap (a.fits (b.secret_of y.numbers.commitment)) at ∙ p.back.secrets y.numbers.commitment (omega (arith, below)))
 
-pub told : (b : Signer) (x y : Dancer) (m : RevokeAndAck) → IsRevokedFor b y x → m ≡ revoked_message b y → (learns m x).peer.next_point ≡ b.point_of ((learns m x).numbers.revoked + 1)
+pub told : (b : Signer) (x y : Dancer) (m : RevokeAndAck) → IsRevokedFor b y x → m ≡ revoked_message b y → (after_learn m x).peer.next_point ≡ b.point_of ((after_learn m x).numbers.revoked + 1)
 told b x y m h e = ap (λ (n : RevokeAndAck). n.next_point) e ∙ ap b.point_of (let same = h.number in omega (arith, same))

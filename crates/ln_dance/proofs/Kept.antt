@@ -6,7 +6,7 @@ use Rattle.ln_msgs.specs.declared.refusals.refusal.Refusal.{Refusal}
 use Rattle.ln_msgs.specs.declared.refusals.refusal.Refusal.TheVariants as refusal
 use Rattle.ln_log.specs.Limits.{first_fault}
 use Rattle.ln_log.specs.Log as log
-use Rattle.ln_log.specs.Log.{Log, Counts, same_counts, accepted_all, acknowledged_all}
+use Rattle.ln_log.specs.Log.{Log, Counts, same_counts, after_accept, after_learn}
 use Rattle.ln_dance.specs.declared.dance.Numbers.{Numbers}
 use Rattle.ln_dance.specs.Dance.{Dancer, AreInStep, owes, is_last, sign_fault}
 
@@ -74,7 +74,7 @@ kept_signed d m n k e en =
 pub next_below : (n : ℕ) → n < 2 ^ 48 → n ≢ 281474976710655 → n + 1 < 2 ^ 48
 next_below n lt differ = omega (arith, lt, differ)
 
-pub kept_accepted : (d : Dancer) (m : Log) → AreInStep d.numbers d.log → d.numbers.commitment ≢ 281474976710655 → m ≡ accepted_all d.log
+pub kept_accepted : (d : Dancer) (m : Log) → AreInStep d.numbers d.log → d.numbers.commitment ≢ 281474976710655 → m ≡ after_accept d.log
     → AreInStep (record { commitment = d.numbers.commitment + 1; signed = d.numbers.signed; revoked = d.numbers.revoked }) m
 kept_accepted d m k differ em =
     subst (AreInStep (record { commitment = d.numbers.commitment + 1; signed = d.numbers.signed; revoked = d.numbers.revoked })) (sym em) (record {
@@ -90,7 +90,7 @@ kept_accepted d m k differ em =
 same_self : (c : Counts) → same_counts c c ≡ true
 same_self c = ap (λ b. b && (c.peer == c.peer)) (eq-eqb c.own c.own refl) ∙ eq-eqb c.peer c.peer refl
 
-pub kept_learned : (d : Dancer) (m : Log) → AreInStep d.numbers d.log → owes d ≡ true → m ≡ acknowledged_all d.log
+pub kept_learned : (d : Dancer) (m : Log) → AreInStep d.numbers d.log → owes d ≡ true → m ≡ after_learn d.log
     → AreInStep (record { commitment = d.numbers.commitment; signed = d.numbers.signed; revoked = d.numbers.revoked + 1 }) m
 kept_learned d m k o em =
     let differ = other_number d.numbers.signed d.numbers.revoked o in

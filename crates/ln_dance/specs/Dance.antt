@@ -10,7 +10,8 @@ use Rattle.ln_log.specs.declared.log.Pair.{Pair}
 use Rattle.ln_log.specs.declared.log.Pair.TheVariants as pair
 use Rattle.ln_log.specs.Limits.{first_fault}
 use Rattle.ln_log.specs.Log as log
-use Rattle.ln_log.specs.Log.{Log, covered, counts_of, view_for, same_counts, signed_all, accepted_all, acknowledged_all, dropped}
+use Rattle.ln_log.specs.Log.{Log, covered, counts_of, view_for, same_counts}
+use Rattle.ln_dance.specs.declared.dance.TheConstants.{LAST_NUMBER}
 use Rattle.ln_dance.specs.declared.dance.Later.{Later}
 use Rattle.ln_dance.specs.declared.dance.Later.TheVariants.{Signature, Revocation}
 use Rattle.ln_dance.specs.declared.dance.Numbers.{Numbers}
@@ -37,7 +38,7 @@ owes d = not (d.numbers.signed == d.numbers.revoked)
 
 -- numbers are below 2^48 (BOLT 3, "Per-commitment Secret Requirements")
 abbrev pub is_last : ℕ → Bool
-is_last n = n == 281474976710655
+is_last n = n == LAST_NUMBER
 
 -- ---- signing
 
@@ -46,9 +47,9 @@ sign_fault d =
     if owes d then Some refusal.SignatureOutstanding
     else first_fault (log.sign_fault d.log) (if is_last d.numbers.signed then Some refusal.NumbersSpent else None)
 
-abbrev pub signs : Dancer → Dancer
-signs d = record d {
-  log = signed_all d.log;
+abbrev pub after_sign : Dancer → Dancer
+after_sign d = record d {
+  log = log.after_sign d.log;
   numbers = record { commitment = d.numbers.commitment; signed = d.numbers.signed + 1; revoked = d.numbers.revoked };
   later = Signature;
 }
@@ -75,9 +76,9 @@ accept_fault keys m d =
     if is_last d.numbers.commitment then Some refusal.OutOfPlace
     else (if is_right keys m d then None else Some refusal.SignatureWrong)
 
-abbrev pub accepts_next : Dancer → Dancer
-accepts_next d = record d {
-  log = accepted_all d.log;
+abbrev pub after_accept : Dancer → Dancer
+after_accept d = record d {
+  log = log.after_accept d.log;
   numbers = record { commitment = d.numbers.commitment + 1; signed = d.numbers.signed; revoked = d.numbers.revoked };
   later = Revocation;
 }
@@ -99,9 +100,9 @@ learn_fault keys m d =
     if owes d then (if keys.fits m.secret d.peer.point then None else Some refusal.SecretWrong)
     else Some refusal.NothingToRevoke
 
-abbrev pub learns : RevokeAndAck → Dancer → Dancer
-learns m d = record d {
-  log = acknowledged_all d.log;
+abbrev pub after_learn : RevokeAndAck → Dancer → Dancer
+after_learn m d = record d {
+  log = log.after_learn d.log;
   numbers = record { commitment = d.numbers.commitment; signed = d.numbers.signed; revoked = d.numbers.revoked + 1 };
   peer = record { point = d.peer.next_point; next_point = m.next_point; secret = Some m.secret };
 }

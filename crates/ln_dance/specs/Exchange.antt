@@ -11,8 +11,8 @@ use Rattle.ln_dance.specs.Dance.{Dancer}
 pub record IsSignedFor (y_keys : Signer) (x y : Dancer) : Type 0 where
   pub opening : y.log.opening ≡ x.log.opening
   pub roles : y.log.role ≡ other_role x.log.role
-  pub own : all_sent x.log.own ≡ all_sent y.log.got
-  pub peer : all_sent (take x.log.current.peer x.log.got) ≡ all_sent (take y.log.acknowledged.own y.log.own)
+  pub own : all_sent x.log.own ≡ all_sent y.log.received
+  pub peer : all_sent (take x.log.current.peer x.log.received) ≡ all_sent (take y.log.acknowledged.own y.log.own)
   pub number : y.numbers.commitment ≡ x.numbers.signed
   pub point : x.peer.next_point ≡ y_keys.point_of (x.numbers.signed + 1)
   pub point_length : length x.peer.next_point ≡ 33

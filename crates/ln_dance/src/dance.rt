@@ -64,9 +64,9 @@ impl Model for Dance {
 impl Dance {
     ghost use Rattle.std.specs.Prelude.{◌≡◌, ◌↔◌, ◌+◌, ◌<◌, ◌^◌, IsTrue, IsErrOf, IfOk, OnOk, OnErr};
     ghost use Rattle.ln_log.specs.Log as log;
-    ghost use Rattle.ln_log.specs.Log.{Log, proposed, received, dropped, proposal_fault, taken_fault};
+    ghost use Rattle.ln_log.specs.Log.{Log, after_propose, after_receive, after_drop, proposal_fault, taken_fault};
     ghost use Rattle.ln_log.specs.Limits.{HasNextId, Answers};
-    ghost use Rattle.ln_dance.specs.Dance.{Dancer, StandsFor, AreInStep, is_last, owes, sign_fault, signs, signed_message, accept_fault, accepts_next, revoked_message, learn_fault, learns, with_log, with_next_point, AnswersWithin, answer_of};
+    ghost use Rattle.ln_dance.specs.Dance.{Dancer, StandsFor, AreInStep, is_last, owes, sign_fault, after_sign, signed_message, accept_fault, after_accept, revoked_message, learn_fault, after_learn, with_log, with_next_point, AnswersWithin, answer_of};
 
     /// Whether a side may have these numbers beside these updates: each number is below 2^48, at most one
     /// signature is unrevoked, and where none is, the peer's acknowledged commitment covers what the last
@@ -145,7 +145,7 @@ impl Dance {
     pub fn propose(&mut self, update: Update) -> Result<(), Refusal>
         requires { (d : Dancer) → StandsFor self.old d → HasNextId d.log.own update }
         ensures answer { (d : Dancer) → StandsFor self.old d → Answers (proposal_fault d.log update) result }
-        ensures ok { (d : Dancer) → StandsFor self.old d → OnOk result (StandsFor self.new (with_log (proposed update d.log) d)) }
+        ensures ok { (d : Dancer) → StandsFor self.old d → OnOk result (StandsFor self.new (with_log (after_propose update d.log) d)) }
         ensures err { OnErr result (self.new ≡ self.old) }
     {
         self.log.propose(update)
@@ -154,7 +154,7 @@ impl Dance {
     /// Takes an update of the peer: `UpdateLog::receive`.
     pub fn receive(&mut self, update: Update) -> Result<(), Refusal>
         ensures answer { (d : Dancer) → StandsFor self.old d → Answers (taken_fault d.log update) result }
-        ensures ok { (d : Dancer) → StandsFor self.old d → OnOk result (StandsFor self.new (with_log (received update d.log) d)) }
+        ensures ok { (d : Dancer) → StandsFor self.old d → OnOk result (StandsFor self.new (with_log (after_receive update d.log) d)) }
         ensures err { OnErr result (self.new ≡ self.old) }
     {
         self.log.receive(update)
@@ -162,7 +162,7 @@ impl Dance {
 
     /// The connection is lost: `UpdateLog::drop_unsigned`. Takes no memory.
     pub fn drop_unsigned(&mut self)
-        ensures { (d : Dancer) → StandsFor self.old d → StandsFor self.new (with_log (dropped d.log) d) }
+        ensures { (d : Dancer) → StandsFor self.old d → StandsFor self.new (with_log (after_drop d.log) d) }
     {
         self.log.drop_unsigned();
     }
@@ -212,9 +212,9 @@ impl Dance {
     ) -> Result<CommitmentSigned, Refusal>
         ensures answer { (d : Dancer) → StandsFor self.old d → Answers (sign_fault d) result }
         ensures message { (d : Dancer) → StandsFor self.old d → IfOk result (λ m. m ≡ signed_message (K.signer keys.now) d) }
-        ensures ok { (d : Dancer) → StandsFor self.old d → OnOk result (StandsFor self.new (signs d)) }
+        ensures ok { (d : Dancer) → StandsFor self.old d → OnOk result (StandsFor self.new (after_sign d)) }
         ensures numbered { (d : Dancer) → StandsFor self.old d → OnOk result (d.numbers.signed + 1 < 2 ^ 48) }
-        ensures owes { (d : Dancer) → StandsFor self.old d → OnOk result (IsTrue (owes (signs d))) }
+        ensures owes { (d : Dancer) → StandsFor self.old d → OnOk result (IsTrue (owes (after_sign d))) }
         ensures err { OnErr result (self.new ≡ self.old) }
     {
         match self.sign_refusal() {
@@ -251,7 +251,7 @@ impl Dance {
         ensures answer { (d : Dancer) → StandsFor self.old d → AnswersWithin (accept_fault (K.signer keys.now) message.now d) result }
         ensures out_of_place { (d : Dancer) → StandsFor self.old d → (IsErrOf result Refusal.OutOfPlace ↔ IsTrue (is_last d.numbers.commitment)) }
         ensures message { (d : Dancer) → StandsFor self.old d → IfOk result (λ m. m ≡ revoked_message (K.signer keys.now) d) }
-        ensures ok { (d : Dancer) → StandsFor self.old d → OnOk result (StandsFor self.new (accepts_next d)) }
+        ensures ok { (d : Dancer) → StandsFor self.old d → OnOk result (StandsFor self.new (after_accept d)) }
         ensures err { OnErr result (self.new ≡ self.old) }
     {
         let last = self.numbers.commitment;
@@ -282,7 +282,7 @@ impl Dance {
     /// is revoked; then nothing has changed.
     pub fn learn<K: ChannelKeys>(&mut self, keys: &K, message: &RevokeAndAck) -> Result<(), Refusal>
         ensures answer { (d : Dancer) → StandsFor self.old d → result ≡ answer_of (learn_fault (K.signer keys.now) message.now d) }
-        ensures ok { (d : Dancer) → StandsFor self.old d → OnOk result (StandsFor self.new (learns message.now d)) }
+        ensures ok { (d : Dancer) → StandsFor self.old d → OnOk result (StandsFor self.new (after_learn message.now d)) }
         ensures err { OnErr result (self.new ≡ self.old) }
     {
         if !self.owes() {

@@ -6,7 +6,7 @@ ghost use Rattle.ln_msgs.specs.declared.messages.commitments.CommitmentSigned.{C
 ghost use Rattle.ln_msgs.specs.declared.messages.commitments.RevokeAndAck.{RevokeAndAck};
 ghost use Rattle.ln_keys.specs.Signer.{Signer};
 ghost use Rattle.ln_keys.specs.Partners.{ArePartners};
-ghost use Rattle.ln_dance.specs.Dance.{Dancer, owes, signed_message, accept_fault, revoked_message, learn_fault, learns};
+ghost use Rattle.ln_dance.specs.Dance.{Dancer, owes, signed_message, accept_fault, revoked_message, learn_fault, after_learn};
 ghost use Rattle.ln_dance.specs.Exchange.{IsSignedFor, IsRevokedFor};
 
 /// A law: what `a` signed at some moment its partner `b` accepts whenever it then has the same updates as sent,
@@ -22,5 +22,5 @@ pub fn revocation_is_learned()
     ensures learned { (a b : Signer) (x y : Dancer) (m : RevokeAndAck) → ArePartners a b → IsRevokedFor b y x
         → y.numbers.commitment < 2 ^ 48 → owes x ≡ true → m ≡ revoked_message b y → learn_fault a m x ≡ None }
     ensures point { (b : Signer) (x y : Dancer) (m : RevokeAndAck) → IsRevokedFor b y x → m ≡ revoked_message b y
-        → (learns m x).peer.next_point ≡ b.point_of ((learns m x).numbers.revoked + 1) }
+        → (after_learn m x).peer.next_point ≡ b.point_of ((after_learn m x).numbers.revoked + 1) }
 {}

@@ -7,7 +7,7 @@ use Rattle.ln_keys.specs.Signer.{Signer}
 
 -- What one end signs the other accepts, and what secret it tells fits the point that it told before, by
 -- either one's test.
-pub record IsTakenBy (one other : Signer) : Type 0 where
+pub record IsVerifiedBy (one other : Signer) : Type 0 where
   pub commitments : (n : ℕ) (point : List ℕ) (v : View) → n ≤ 2 ^ 48 → length point ≡ 33
       → other.accepts n point v (one.signature n point v) (one.htlc_signatures n point v) ≡ true
   pub closings : (fee : ℕ) → fee < 2 ^ 64 → other.accepts_close fee (one.close_signature fee) ≡ true
@@ -16,5 +16,5 @@ pub record IsTakenBy (one other : Signer) : Type 0 where
 
 -- each takes what the other gives
 pub record ArePartners (a b : Signer) : Type 0 where
-  pub there : IsTakenBy a b
-  pub back : IsTakenBy b a
+  pub there : IsVerifiedBy a b
+  pub back : IsVerifiedBy b a

@@ -61,7 +61,7 @@ pub trait Onion {
     fn open(&self, alloc: Global, onion: &[u8; 1366], hash: &[u8; 32]) -> Result<Opened, OpenFault>
         ensures found { IfOk result (λ o. opened self.now onion.now hash.now ≡ Ok o) }
         ensures fault { IfErr result (λ e. (e ≡ OpenFault.Memory) ⊎ (opened self.now onion.now hash.now ≡ Err e)) }
-        ensures next { IfOk result (λ o. IfSome o.next (λ n. length n ≡ 1366)) };
+        ensures next_has_1366_bytes { IfOk result (λ o. IfSome o.next (λ n. length n ≡ 1366)) };
 
     /// Wraps a failure that goes back on the way that the onion came (BOLT 4, "Returning Errors").
     /// Takes memory for it.

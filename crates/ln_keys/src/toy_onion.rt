@@ -84,8 +84,8 @@ fn packed(room: &[u8; 1300], hash: &[u8; 32]) -> [u8; 1366]
 /// Writes a payload behind its length, where there is room, and says where it ends.
 fn place(room: &mut [u8; 1300], at: usize, payload: &[u8]) -> Option<usize>
     requires { at ≤ 1300 }
-    ensures more { IfNone result (1300 < at + length (with_length payload.now)) }
-    ensures end { IfSome result (λ n. (n ≡ at + length (with_length payload.now)) × (n ≤ 1300)) }
+    ensures is_beyond_the_packet { IfNone result (1300 < at + length (with_length payload.now)) }
+    ensures ends_within_the_packet { IfSome result (λ n. (n ≡ at + length (with_length payload.now)) × (n ≤ 1300)) }
     ensures bytes { IfSome result (λ n. room.new ≡ take at room.old ++ with_length payload.now ++ drop n room.old) }
 {
     let mut head = [0; 9];
@@ -138,7 +138,7 @@ fn packet_fault_of(onion: &[u8; 1366], hash: &[u8; 32]) -> Option<OpenFault>
 fn next_onion(alloc: Global, rest: &[u8], hash: &[u8; 32]) -> Result<Option<Bytes>, OpenFault>
     requires { length rest.now ≤ 1300 }
     ensures ok { IfOk result (λ n. n ≡ next_packet rest.now hash.now) }
-    ensures long { IfOk result (λ n. IfSome n (λ p. length p ≡ 1366)) }
+    ensures next_has_1366_bytes { IfOk result (λ n. IfSome n (λ p. length p ≡ 1366)) }
     ensures memory { IfErr result (λ e. e ≡ OpenFault.Memory) }
 {
     match rest {
@@ -155,7 +155,7 @@ fn hop(alloc: Global, len: u64, bytes: &[u8], hash: &[u8; 32]) -> Result<Opened,
     requires { length bytes.now ≤ 1300 }
     ensures found { IfOk result (λ o. hop_of len bytes.now hash.now ≡ Ok o) }
     ensures fault { IfErr result (λ e. (e ≡ OpenFault.Memory) ⊎ (hop_of len bytes.now hash.now ≡ Err e)) }
-    ensures next { IfOk result (λ o. IfSome o.next (λ n. length n ≡ 1366)) }
+    ensures next_has_1366_bytes { IfOk result (λ o. IfSome o.next (λ n. length n ≡ 1366)) }
 {
     if len == 0 || (bytes.len() as u64) < len {
         return Err(OpenFault::Payload);
@@ -171,7 +171,7 @@ fn first_hop(alloc: Global, bytes: &[u8], hash: &[u8; 32]) -> Result<Opened, Ope
     requires { length bytes.now ≤ 1300 }
     ensures found { IfOk result (λ o. hop_behind (bigsize_at bytes.now) bytes.now hash.now ≡ Ok o) }
     ensures fault { IfErr result (λ e. (e ≡ OpenFault.Memory) ⊎ (hop_behind (bigsize_at bytes.now) bytes.now hash.now ≡ Err e)) }
-    ensures next { IfOk result (λ o. IfSome o.next (λ n. length n ≡ 1366)) }
+    ensures next_has_1366_bytes { IfOk result (λ o. IfSome o.next (λ n. length n ≡ 1366)) }
 {
     match read_bigsize(bytes) {
         Ok((len, start)) => hop(alloc, len, &bytes[start..], hash),

@@ -14,18 +14,18 @@ use Rattle.ln_msgs.specs.declared.refusals.refusal.Refusal.{Refusal}
 use Rattle.ln_msgs.specs.declared.refusals.refusal.Refusal.TheVariants as refusal
 use Rattle.ln_keys.specs.Signer.{Signer}
 use Rattle.ln_log.specs.declared.update.Update.{Update}
-use Rattle.ln_log.specs.Log.{Log, covered, between, live_in, received, taken_fault, proposed, proposal_fault}
-use Rattle.ln_dance.specs.Dance.{Dancer, accept_fault, accepts_next, revoked_message, learns, sign_fault, signs, signed_message, with_log, with_next_point}
+use Rattle.ln_log.specs.Log.{Log, covered, between, live_in, after_receive, taken_fault, after_propose, proposal_fault}
+use Rattle.ln_dance.specs.Dance.{Dancer, accept_fault, after_accept, revoked_message, after_learn, sign_fault, after_sign, signed_message, with_log, with_next_point}
 use Rattle.ln_close.specs.declared.closing.Closing.{Closing}
 use Rattle.ln_close.specs.declared.closing.Answer.{Answer}
 use Rattle.ln_close.specs.declared.closing.Answer.TheVariants as answer
 use Rattle.ln_hooks.specs.declared.event.ChannelEvent.TheVariants as event
-use Rattle.ln_close.specs.Closing.{first_fee, started, shuts, peer_shuts, answer_to, after}
+use Rattle.ln_close.specs.Closing.{first_fee, started, after_shut, after_peer_shut, answer_to, after}
 use Rattle.ln_hooks.specs.declared.event.ChannelEvent.{ChannelEvent}
 use Rattle.std.specs.Cmp.Lexicographic.{pointwise}
 use Rattle.ln_msgs.specs.declared.messages.opening.ChannelReady.{ChannelReady}
 use Rattle.ln_log.specs.declared.update.Update.TheVariants as update
-use Rattle.ln_log.specs.Limits.{first_fault, is_spent}
+use Rattle.ln_log.specs.Limits.{first_fault, is_at_update_limit}
 use Rattle.ln_link.specs.declared.output.Output.{Output}
 use Rattle.ln_link.specs.declared.output.Output.TheVariants as output
 use Rattle.ln_link.specs.Outputs.{events_of, numbered}
@@ -53,7 +53,7 @@ all_acknowledged l = l.acknowledged.own == length l.own
 -- every update stands acknowledged in both commitments, and no HTLC is live
 abbrev pub is_settled : Log → Bool
 is_settled l =
-    all_acknowledged l && (l.current.own == length l.own) && (l.current.peer == length l.got) && (l.acknowledged.peer == length l.got) && (live_in (covered l l.current) == 0)
+    all_acknowledged l && (l.current.own == length l.own) && (l.current.peer == length l.received) && (l.acknowledged.peer == length l.received) && (live_in (covered l l.current) == 0)
 
 -- BOLT 2, "Closing Negotiation: closing_signed": closing has begun
 abbrev pub has_begun : End → Bool
@@ -92,7 +92,7 @@ own_events before e = events_of true (between before e.dance.log.current.own e.d
 
 -- the events of the peer's updates that are held, from this one on
 abbrev pub peer_events : ℕ → End → List ChannelEvent
-peer_events before e = events_of false (between before e.dance.log.acknowledged.peer e.dance.log.got)
+peer_events before e = events_of false (between before e.dance.log.acknowledged.peer e.dance.log.received)
 
 abbrev pub tells : List ChannelEvent → End → End
 tells es e = record e { events = e.events + length es }
@@ -117,7 +117,7 @@ abbrev pub shutdown_sent : End → List Output
 shutdown_sent e = if owes_shutdown e then output.Send (message.Shutdown (shutdown_message e)) ∷ [] else []
 
 abbrev pub answers_shutdown : End → End
-answers_shutdown e = if owes_shutdown e then record e { closing = shuts e.closing } else e
+answers_shutdown e = if owes_shutdown e then record e { closing = after_shut e.closing } else e
 
 -- ---- a signature of the peer (BOLT 2, "Committing Updates So Far: commitment_signed")
 
@@ -125,7 +125,7 @@ abbrev pub signature_fault : Signer → CommitmentSigned → End → Option Refu
 signature_fault keys m e = if is_ready e then accept_fault keys m e.dance else Some refusal.OutOfPlace
 
 abbrev pub accepts : End → End
-accepts e = with_dance (accepts_next e.dance) e
+accepts e = with_dance (after_accept e.dance) e
 
 -- closing may begin with it
 abbrev pub signed_by_peer : End → End
@@ -143,7 +143,7 @@ after_signature e = tells (own_events e.dance.log.current.own (accepts e)) (sign
 -- ---- a revocation of the peer (BOLT 2, "Completing the Transition to the Updated State: revoke_and_ack")
 
 abbrev pub revokes : RevokeAndAck → End → End
-revokes m e = with_dance (learns m e.dance) e
+revokes m e = with_dance (after_learn m e.dance) e
 
 -- its shutdown may be answered now, and closing may begin with it
 abbrev pub revoked_by_peer : RevokeAndAck → End → End
@@ -185,13 +185,13 @@ late_fault e (update.Fee f) = if has_begun e then Some refusal.OutOfPlace else N
 
 -- what the log doesn't know of
 abbrev pub early_fault : End → Update → Option Refusal
-early_fault e u = if not (is_ready e) || is_spent e.dance.log.got then Some refusal.OutOfPlace else late_fault e u
+early_fault e u = if not (is_ready e) || is_at_update_limit e.dance.log.received then Some refusal.OutOfPlace else late_fault e u
 
 abbrev pub update_taken_fault : End → Update → Option Refusal
 update_taken_fault e u = first_fault (early_fault e u) (taken_fault e.dance.log u)
 
 abbrev pub takes : Update → End → End
-takes u e = with_dance (with_log (received u e.dance.log) e.dance) e
+takes u e = with_dance (with_log (after_receive u e.dance.log) e.dance) e
 
 -- ---- shutdown of the peer
 
@@ -203,7 +203,7 @@ shutdown_fault m None = None
 shutdown_fault m (Some script) = if same_bytes script m.script then None else Some refusal.OutOfPlace
 
 abbrev pub peer_shuts_down : Shutdown → End → End
-peer_shuts_down m e = record e { peer_script = Some m.script; closing = peer_shuts e.closing }
+peer_shuts_down m e = record e { peer_script = Some m.script; closing = after_peer_shut e.closing }
 
 -- a repeated one does nothing
 abbrev pub after_shutdown : Shutdown → End → Option (List ℕ) → End
@@ -222,7 +222,7 @@ abbrev pub sign_command_fault : End → Option Refusal
 sign_command_fault e = if is_ready e then sign_fault e.dance else Some refusal.NotReady
 
 abbrev pub signs_next : End → End
-signs_next e = with_dance (signs e.dance) e
+signs_next e = with_dance (after_sign e.dance) e
 
 abbrev pub sign_outputs : Signer → End → List Output
 sign_outputs keys e =
@@ -234,7 +234,7 @@ abbrev pub shut_fault : End → Option Refusal
 shut_fault e = if e.closing.shut then Some refusal.Shut else (if all_acknowledged e.dance.log then None else Some refusal.UpdatesPending)
 
 abbrev pub shuts_down : List ℕ → End → End
-shuts_down script e = record e { script = script; closing = shuts e.closing }
+shuts_down script e = record e { script = script; closing = after_shut e.closing }
 
 abbrev pub shut_outputs : Signer → List ℕ → End → List Output
 shut_outputs keys script e =
@@ -258,14 +258,14 @@ closed_fault e (update.Fee f) = shut_either e
 abbrev pub own_fault : End → Update → Option Refusal
 own_fault e u =
     if not (is_ready e) then Some refusal.NotReady
-    else (if is_spent e.dance.log.own then Some refusal.NumbersSpent
+    else (if is_at_update_limit e.dance.log.own then Some refusal.NumbersSpent
     else closed_fault e u)
 
 abbrev pub propose_fault : End → Update → Option Refusal
 propose_fault e u = first_fault (own_fault e u) (proposal_fault e.dance.log u)
 
 abbrev pub proposes : Update → End → End
-proposes u e = with_dance (with_log (proposed u e.dance.log) e.dance) e
+proposes u e = with_dance (with_log (after_propose u e.dance.log) e.dance) e
 
 -- ---- a closing fee of the peer (BOLT 2, "Closing Negotiation: closing_signed")
 

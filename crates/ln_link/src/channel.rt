@@ -184,7 +184,7 @@ impl Channel {
     fn peer_told(&self, before: usize) -> &[Update]
         requires start { before ≤ self.now.dance.log.acknowledged.peer }
         requires kept { self.now.dance.log.first.peer ≤ before }
-        ensures updates { result.now ≡ between before self.now.dance.log.acknowledged.peer self.now.dance.log.got }
+        ensures updates { result.now ≡ between before self.now.dance.log.acknowledged.peer self.now.dance.log.received }
         ensures count { before + length result.now ≡ self.now.dance.log.acknowledged.peer }
         ensures small { self.now.dance.log.current.own + self.now.dance.log.acknowledged.peer + 1 < 2 ^ 64 }
     {
@@ -211,7 +211,7 @@ impl Channel {
         ensures is { result ≡ self.now.dance.log.acknowledged.peer }
         ensures ordered { self.now.dance.log.acknowledged.peer ≤ self.now.dance.log.signed.peer }
         ensures first { self.now.dance.log.first.peer ≤ self.now.dance.log.acknowledged.peer }
-        ensures within { self.now.dance.log.acknowledged.peer ≤ length self.now.dance.log.got }
+        ensures within { self.now.dance.log.acknowledged.peer ≤ length self.now.dance.log.received }
         ensures small { self.now.dance.log.current.own + self.now.dance.log.acknowledged.peer + 1 < 2 ^ 64 }
     {
         let log = self.dance.log();

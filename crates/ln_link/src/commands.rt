@@ -149,7 +149,7 @@ impl Channel {
         if !self.is_ready() {
             return Some(Refusal::NotReady);
         }
-        if self.dance.log().is_spent(Side::Own) {
+        if self.dance.log().is_at_update_limit(Side::Own) {
             return Some(Refusal::NumbersSpent);
         }
         self.closed_refusal(update)

@@ -161,7 +161,7 @@ impl Channel {
     fn early_refusal(&self, update: &Update) -> Option<Refusal>
         ensures { result ≡ early_fault self.now update.now }
     {
-        if !self.is_ready() || self.dance.log().is_spent(Side::Peer) {
+        if !self.is_ready() || self.dance.log().is_at_update_limit(Side::Peer) {
             return Some(Refusal::OutOfPlace);
         }
         self.late_refusal(update)

@@ -19,7 +19,7 @@ use Rattle.ln_log.specs.Updates.{offered, removed, is_some, next_id, add_with, o
 use Rattle.ln_log.specs.View.{balance, Pays}
 use Rattle.ln_log.specs.Limits.{standing_of, add_fault, fault_at, removable, fulfil_fault, fail_fault, malformed_fault}
 use Rattle.ln_log.specs.Standing.{with_own, with_all, paid_by, PaidFits, OwnFits, AllFit}
-use Rattle.ln_log.specs.Log.{Log, IsKept, BothPay, HasAmount, AreWithin, number_after, HasId, AreNumbered, RemovesLive, AreRemovals, accepted_all, acknowledged_all, dropped}
+use Rattle.ln_log.specs.Log.{Log, IsKept, BothPay, HasAmount, AreWithin, number_after, HasId, AreNumbered, RemovesLive, AreRemovals, after_accept, after_learn, after_drop}
 use Rattle.ln_log.proofs.Outcomes.{add_with-more, next-take, next-cons, above, numbered-take, numbered-drop, removals-take, removals-drop, removals-more, untouched}
 use Rattle.ln_log.proofs.Sums.{sums, first_sum, longer, pays_longer, pays_all, pays_more}
 use Rattle.ln_log.proofs.Standings.{MayAdd, own_moves, own_pays, all_step}
@@ -83,35 +83,35 @@ has_amount most most' o e h = subst (λ m. HasAmount m o) e h
 
 -- ---- a signature of the peer is taken
 
-pub accepting : (l : Log) (s t p q : Standing) → IsKept l s t p q → Settling (first_balance l.opening l.role) (first_balance l.opening (other_role l.role)) l.own (take l.current.own l.own) (take l.signed.peer l.got) l.got l.current.peer
+pub accepting : (l : Log) (s t p q : Standing) → IsKept l s t p q → Settling (first_balance l.opening l.role) (first_balance l.opening (other_role l.role)) l.own (take l.current.own l.own) (take l.signed.peer l.received) l.received l.current.peer
 accepting l s t p q k =
     let w = k.within in
     record {
       ids = k.own_ids;
       found = found_all l.current.own l.own;
       got_ids = k.peer_ids;
-      held_ids = numbered-take 0 l.signed.peer l.got k.peer_ids;
-      held_before = next-take l.signed.peer l.current.peer l.got w.peer_signed;
+      held_ids = numbered-take 0 l.signed.peer l.received k.peer_ids;
+      held_before = next-take l.signed.peer l.current.peer l.received w.peer_signed;
       own_removals = k.own_removals;
       got_removals = k.peer_removals;
       pays = k.own_pays;
-      back = pays_all (first_balance l.opening (other_role l.role)) l.got l.own l.acknowledged.own k.peer_pays;
+      back = pays_all (first_balance l.opening (other_role l.role)) l.received l.own l.acknowledged.own k.peer_pays;
       small = small l k.fit;
     }
 
-pub accepting_signed : (l : Log) (s t p q : Standing) → IsKept l s t p q → Settling (first_balance l.opening l.role) (first_balance l.opening (other_role l.role)) (take l.signed.own l.own) (take l.current.own l.own) (take l.signed.peer l.got) l.got l.current.peer
+pub accepting_signed : (l : Log) (s t p q : Standing) → IsKept l s t p q → Settling (first_balance l.opening l.role) (first_balance l.opening (other_role l.role)) (take l.signed.own l.own) (take l.current.own l.own) (take l.signed.peer l.received) l.received l.current.peer
 accepting_signed l s t p q k =
     let w = k.within in
     record {
       ids = numbered-take 0 l.signed.own l.own k.own_ids;
       found = found_in l.current.own l.signed.own l.own (omega (arith, w.own_current, w.own_acknowledged));
       got_ids = k.peer_ids;
-      held_ids = numbered-take 0 l.signed.peer l.got k.peer_ids;
-      held_before = next-take l.signed.peer l.current.peer l.got w.peer_signed;
-      own_removals = removals-take (take l.signed.peer l.got) [] l.own l.signed.own k.own_removals;
+      held_ids = numbered-take 0 l.signed.peer l.received k.peer_ids;
+      held_before = next-take l.signed.peer l.current.peer l.received w.peer_signed;
+      own_removals = removals-take (take l.signed.peer l.received) [] l.own l.signed.own k.own_removals;
       got_removals = k.peer_removals;
-      pays = pays_longer (first_balance l.opening l.role) (take l.signed.own l.own) l.got l.signed.peer l.current.peer w.peer_signed k.signed_pays.0;
-      back = pays_longer (first_balance l.opening (other_role l.role)) l.got l.own l.acknowledged.own l.signed.own w.own_acknowledged k.peer_pays;
+      pays = pays_longer (first_balance l.opening l.role) (take l.signed.own l.own) l.received l.signed.peer l.current.peer w.peer_signed k.signed_pays.0;
+      back = pays_longer (first_balance l.opening (other_role l.role)) l.received l.own l.acknowledged.own l.signed.own w.own_acknowledged k.peer_pays;
       small = small l k.fit;
     }
 
@@ -120,40 +120,40 @@ accepting_signed l s t p q k =
 pub small_back : (l : Log) → IsFit l.opening → first_balance l.opening (other_role l.role) + first_balance l.opening l.role < 2 ^ 64
 small_back l fit = omega (arith, small l fit)
 
-pub learning : (l : Log) (s t p q : Standing) → IsKept l s t p q → Settling (first_balance l.opening (other_role l.role)) (first_balance l.opening l.role) l.got (take l.signed.peer l.got) (take l.current.own l.own) (take l.signed.own l.own) l.acknowledged.own
+pub learning : (l : Log) (s t p q : Standing) → IsKept l s t p q → Settling (first_balance l.opening (other_role l.role)) (first_balance l.opening l.role) l.received (take l.signed.peer l.received) (take l.current.own l.own) (take l.signed.own l.own) l.acknowledged.own
 learning l s t p q k =
     let w = k.within in
     let f = first_balance l.opening l.role in
     let front : take l.acknowledged.own (take l.signed.own l.own) ≡ take l.acknowledged.own l.own = take-take l.acknowledged.own l.signed.own l.own w.own_acknowledged in
     record {
       ids = k.peer_ids;
-      found = found_all l.signed.peer l.got;
+      found = found_all l.signed.peer l.received;
       got_ids = numbered-take 0 l.signed.own l.own k.own_ids;
       held_ids = numbered-take 0 l.current.own l.own k.own_ids;
       held_before = subst (λ us. next_id (take l.current.own l.own) ≤ next_id us) (sym front) (next-take l.current.own l.acknowledged.own l.own w.own_current);
       own_removals = k.peer_removals;
-      got_removals = removals-take (take l.signed.peer l.got) [] l.own l.signed.own k.own_removals;
-      pays = subst (Pays (first_balance l.opening (other_role l.role)) l.got) (sym front) k.peer_pays;
-      back = pays_all f (take l.signed.own l.own) l.got l.signed.peer k.signed_pays.0;
+      got_removals = removals-take (take l.signed.peer l.received) [] l.own l.signed.own k.own_removals;
+      pays = subst (Pays (first_balance l.opening (other_role l.role)) l.received) (sym front) k.peer_pays;
+      back = pays_all f (take l.signed.own l.own) l.received l.signed.peer k.signed_pays.0;
       small = small_back l k.fit;
     }
 
-pub learning_current : (l : Log) (s t p q : Standing) → IsKept l s t p q → Settling (first_balance l.opening (other_role l.role)) (first_balance l.opening l.role) (take l.current.peer l.got) (take l.signed.peer l.got) (take l.current.own l.own) (take l.signed.own l.own) l.acknowledged.own
+pub learning_current : (l : Log) (s t p q : Standing) → IsKept l s t p q → Settling (first_balance l.opening (other_role l.role)) (first_balance l.opening l.role) (take l.current.peer l.received) (take l.signed.peer l.received) (take l.current.own l.own) (take l.signed.own l.own) l.acknowledged.own
 learning_current l s t p q k =
     let w = k.within in
     let f = first_balance l.opening l.role in
     let g = first_balance l.opening (other_role l.role) in
     let front : take l.acknowledged.own (take l.signed.own l.own) ≡ take l.acknowledged.own l.own = take-take l.acknowledged.own l.signed.own l.own w.own_acknowledged in
     record {
-      ids = numbered-take 0 l.current.peer l.got k.peer_ids;
-      found = found_in l.signed.peer l.current.peer l.got w.peer_signed;
+      ids = numbered-take 0 l.current.peer l.received k.peer_ids;
+      found = found_in l.signed.peer l.current.peer l.received w.peer_signed;
       got_ids = numbered-take 0 l.signed.own l.own k.own_ids;
       held_ids = numbered-take 0 l.current.own l.own k.own_ids;
       held_before = subst (λ us. next_id (take l.current.own l.own) ≤ next_id us) (sym front) (next-take l.current.own l.acknowledged.own l.own w.own_current);
-      own_removals = removals-take (take l.current.own l.own) [] l.got l.current.peer k.peer_removals;
-      got_removals = removals-take (take l.signed.peer l.got) [] l.own l.signed.own k.own_removals;
-      pays = subst (Pays g (take l.current.peer l.got)) (sym front) (pays_longer g (take l.current.peer l.got) l.own l.current.own l.acknowledged.own w.own_current k.current_pays.1);
-      back = pays_longer f (take l.signed.own l.own) l.got l.signed.peer l.current.peer w.peer_signed k.signed_pays.0;
+      own_removals = removals-take (take l.current.own l.own) [] l.received l.current.peer k.peer_removals;
+      got_removals = removals-take (take l.signed.peer l.received) [] l.own l.signed.own k.own_removals;
+      pays = subst (Pays g (take l.current.peer l.received)) (sym front) (pays_longer g (take l.current.peer l.received) l.own l.current.own l.acknowledged.own w.own_current k.current_pays.1);
+      back = pays_longer f (take l.signed.own l.own) l.received l.signed.peer l.current.peer w.peer_signed k.signed_pays.0;
       small = small_back l k.fit;
     }
 
@@ -189,17 +189,17 @@ moved_to f g own adds held got m s new us vs h v =
 all_taken : (us : List Update) (n : ℕ) → n ≡ length us → take n us ≡ us
 all_taken us n e = take_all n us (omega (arith, e))
 
-pub kept_accepted : (l : Log) (s t p q a b : Standing) (m n : ℕ) (us vs : List Update) → IsKept l s t p q → m ≡ l.acknowledged.own → n ≡ length l.got
-    → us ≡ drop l.current.peer l.got → vs ≡ take l.current.own l.own → a ≡ with_all s vs us → b ≡ with_all t vs us
+pub kept_accepted : (l : Log) (s t p q a b : Standing) (m n : ℕ) (us vs : List Update) → IsKept l s t p q → m ≡ l.acknowledged.own → n ≡ length l.received
+    → us ≡ drop l.current.peer l.received → vs ≡ take l.current.own l.own → a ≡ with_all s vs us → b ≡ with_all t vs us
     → IsKept (record l { current = record { own = m; peer = n } }) a b p p
 kept_accepted l s t p q a b m n us vs k em en eu ev ea eb =
     let w = k.within in
     let f = first_balance l.opening l.role in
     let g = first_balance l.opening (other_role l.role) in
-    let whole : take n l.got ≡ l.got = all_taken l.got n en in
+    let whole : take n l.received ≡ l.received = all_taken l.received n en in
     let front : take m l.own ≡ take l.acknowledged.own l.own = ap (λ i. take i l.own) em in
-    let own_is : a ≡ standing_of f l.own l.got = moved_to f g l.own (take l.current.own l.own) (take l.signed.peer l.got) l.got l.current.peer s a us vs (accepting l s t p q k) (record { stands = k.own_stands; updates = eu; htlcs = ev; new_is = ea }) in
-    let signed_is : b ≡ standing_of f (take l.signed.own l.own) l.got = moved_to f g (take l.signed.own l.own) (take l.current.own l.own) (take l.signed.peer l.got) l.got l.current.peer t b us vs (accepting_signed l s t p q k) (record { stands = k.own_signed_stands; updates = eu; htlcs = ev; new_is = eb }) in
+    let own_is : a ≡ standing_of f l.own l.received = moved_to f g l.own (take l.current.own l.own) (take l.signed.peer l.received) l.received l.current.peer s a us vs (accepting l s t p q k) (record { stands = k.own_stands; updates = eu; htlcs = ev; new_is = ea }) in
+    let signed_is : b ≡ standing_of f (take l.signed.own l.own) l.received = moved_to f g (take l.signed.own l.own) (take l.current.own l.own) (take l.signed.peer l.received) l.received l.current.peer t b us vs (accepting_signed l s t p q k) (record { stands = k.own_signed_stands; updates = eu; htlcs = ev; new_is = eb }) in
     record {
       fit = k.fit;
       within = record { own_current = omega (arith, em); own_acknowledged = w.own_acknowledged; own_signed = w.own_signed; peer_acknowledged = w.peer_acknowledged; peer_signed = omega (arith, en, w.peer_signed, w.peer_current); peer_current = omega (arith, en) };
@@ -207,48 +207,48 @@ kept_accepted l s t p q a b m n us vs k em en eu ev ea eb =
       peer_ids = k.peer_ids;
       own_removals = k.own_removals;
       acknowledged_removals = k.acknowledged_removals;
-      peer_removals = subst (λ adds. AreRemovals adds [] l.got) (sym (front ∙ longer l.current.own l.acknowledged.own l.own w.own_current)) (removals-more (take l.current.own l.own) (drop l.current.own (take l.acknowledged.own l.own)) [] l.got k.peer_removals);
+      peer_removals = subst (λ adds. AreRemovals adds [] l.received) (sym (front ∙ longer l.current.own l.acknowledged.own l.own w.own_current)) (removals-more (take l.current.own l.own) (drop l.current.own (take l.acknowledged.own l.own)) [] l.received k.peer_removals);
       own_amounts = k.own_amounts;
       peer_amounts = k.peer_amounts;
       own_stands = own_is ∙ ap (standing_of f l.own) (sym whole);
       own_signed_stands = signed_is ∙ ap (standing_of f (take l.signed.own l.own)) (sym whole);
       peer_stands = k.peer_stands;
       peer_current_stands = k.peer_stands ∙ ap (λ x. standing_of g x (take l.acknowledged.own l.own)) (sym whole);
-      own_pays = subst (Pays f l.own) (sym whole) (pays_all f l.own l.got l.current.peer k.own_pays);
+      own_pays = subst (Pays f l.own) (sym whole) (pays_all f l.own l.received l.current.peer k.own_pays);
       peer_pays = k.peer_pays;
       signed_pays = k.signed_pays;
       acknowledged_pays = k.acknowledged_pays;
       current_pays = (
-        subst (λ x. Pays f x (take n l.got)) (sym front) (subst (Pays f (take l.acknowledged.own l.own)) (sym whole) (pays_all f (take l.acknowledged.own l.own) l.got l.acknowledged.peer k.acknowledged_pays.0)),
-        subst (Pays g (take n l.got)) (sym front) (subst (λ x. Pays g x (take l.acknowledged.own l.own)) (sym whole) k.peer_pays),
+        subst (λ x. Pays f x (take n l.received)) (sym front) (subst (Pays f (take l.acknowledged.own l.own)) (sym whole) (pays_all f (take l.acknowledged.own l.own) l.received l.acknowledged.peer k.acknowledged_pays.0)),
+        subst (Pays g (take n l.received)) (sym front) (subst (λ x. Pays g x (take l.acknowledged.own l.own)) (sym whole) k.peer_pays),
       );
     }
 
-pub accepted_is : (k l : Log) (m n : ℕ) → k ≡ l → m ≡ l.acknowledged.own → n ≡ length l.got → record k { current = record { own = m; peer = n } } ≡ accepted_all l
+pub accepted_is : (k l : Log) (m n : ℕ) → k ≡ l → m ≡ l.acknowledged.own → n ≡ length l.received → record k { current = record { own = m; peer = n } } ≡ after_accept l
 accepted_is k l m n e em en =
     ap (λ (x : Log). record x { current = record { own = m; peer = n } }) e
     ∙ ap (λ a. record l { current = record { own = a; peer = n } }) em
     ∙ ap (λ b. record l { current = record { own = l.acknowledged.own; peer = b } }) en
 
 pub kept_acknowledged : (l : Log) (s t p q a b : Standing) (us vs : List Update) → IsKept l s t p q
-    → us ≡ drop l.acknowledged.own (take l.signed.own l.own) → vs ≡ take l.signed.peer l.got → a ≡ with_all p vs us → b ≡ with_all q vs us
-    → IsKept (acknowledged_all l) s t a b
+    → us ≡ drop l.acknowledged.own (take l.signed.own l.own) → vs ≡ take l.signed.peer l.received → a ≡ with_all p vs us → b ≡ with_all q vs us
+    → IsKept (after_learn l) s t a b
 kept_acknowledged l s t p q a b us vs k eu ev ea eb =
     let w = k.within in
     let f = first_balance l.opening l.role in
     let g = first_balance l.opening (other_role l.role) in
     let front : take l.acknowledged.own (take l.signed.own l.own) ≡ take l.acknowledged.own l.own = take-take l.acknowledged.own l.signed.own l.own w.own_acknowledged in
-    let peer_is : a ≡ standing_of g l.got (take l.signed.own l.own)
-    = moved_to g f l.got (take l.signed.peer l.got) (take l.current.own l.own) (take l.signed.own l.own) l.acknowledged.own p a us vs (learning l s t p q k) (record { stands = k.peer_stands ∙ ap (standing_of g l.got) (sym front); updates = eu; htlcs = ev; new_is = ea }) in
-    let current_is : b ≡ standing_of g (take l.current.peer l.got) (take l.signed.own l.own)
-    = moved_to g f (take l.current.peer l.got) (take l.signed.peer l.got) (take l.current.own l.own) (take l.signed.own l.own) l.acknowledged.own q b us vs (learning_current l s t p q k) (record { stands = k.peer_current_stands ∙ ap (standing_of g (take l.current.peer l.got)) (sym front); updates = eu; htlcs = ev; new_is = eb }) in
+    let peer_is : a ≡ standing_of g l.received (take l.signed.own l.own)
+    = moved_to g f l.received (take l.signed.peer l.received) (take l.current.own l.own) (take l.signed.own l.own) l.acknowledged.own p a us vs (learning l s t p q k) (record { stands = k.peer_stands ∙ ap (standing_of g l.received) (sym front); updates = eu; htlcs = ev; new_is = ea }) in
+    let current_is : b ≡ standing_of g (take l.current.peer l.received) (take l.signed.own l.own)
+    = moved_to g f (take l.current.peer l.received) (take l.signed.peer l.received) (take l.current.own l.own) (take l.signed.own l.own) l.acknowledged.own q b us vs (learning_current l s t p q k) (record { stands = k.peer_current_stands ∙ ap (standing_of g (take l.current.peer l.received)) (sym front); updates = eu; htlcs = ev; new_is = eb }) in
     record {
       fit = k.fit;
       within = record { own_current = omega (arith, w.own_current, w.own_acknowledged); own_acknowledged = omega arith; own_signed = w.own_signed; peer_acknowledged = omega arith; peer_signed = w.peer_signed; peer_current = w.peer_current };
       own_ids = k.own_ids;
       peer_ids = k.peer_ids;
       own_removals = k.own_removals;
-      acknowledged_removals = removals-take (take l.signed.peer l.got) [] l.own l.signed.own k.own_removals;
+      acknowledged_removals = removals-take (take l.signed.peer l.received) [] l.own l.signed.own k.own_removals;
       peer_removals = k.peer_removals;
       own_amounts = k.own_amounts;
       peer_amounts = k.peer_amounts;
@@ -257,7 +257,7 @@ kept_acknowledged l s t p q a b us vs k eu ev ea eb =
       peer_stands = peer_is;
       peer_current_stands = current_is;
       own_pays = k.own_pays;
-      peer_pays = pays_longer g l.got l.own l.acknowledged.own l.signed.own w.own_acknowledged k.peer_pays;
+      peer_pays = pays_longer g l.received l.own l.acknowledged.own l.signed.own w.own_acknowledged k.peer_pays;
       signed_pays = k.signed_pays;
       acknowledged_pays = k.signed_pays;
       current_pays = k.current_pays;
@@ -269,26 +269,26 @@ kept_signed l s t p q m n k em en =
     let f = first_balance l.opening l.role in
     let g = first_balance l.opening (other_role l.role) in
     let whole : take m l.own ≡ l.own = all_taken l.own m em in
-    let seen : take n l.got ≡ take l.current.peer l.got = ap (λ i. take i l.got) en in
+    let seen : take n l.received ≡ take l.current.peer l.received = ap (λ i. take i l.received) en in
     record {
       fit = k.fit;
       within = record { own_current = w.own_current; own_acknowledged = omega (arith, em, w.own_acknowledged, w.own_signed); own_signed = omega (arith, em); peer_acknowledged = omega (arith, en, w.peer_acknowledged, w.peer_signed); peer_signed = omega (arith, en); peer_current = w.peer_current };
       own_ids = k.own_ids;
       peer_ids = k.peer_ids;
-      own_removals = subst (λ adds. AreRemovals adds [] l.own) (sym (seen ∙ longer l.signed.peer l.current.peer l.got w.peer_signed)) (removals-more (take l.signed.peer l.got) (drop l.signed.peer (take l.current.peer l.got)) [] l.own k.own_removals);
+      own_removals = subst (λ adds. AreRemovals adds [] l.own) (sym (seen ∙ longer l.signed.peer l.current.peer l.received w.peer_signed)) (removals-more (take l.signed.peer l.received) (drop l.signed.peer (take l.current.peer l.received)) [] l.own k.own_removals);
       acknowledged_removals = k.acknowledged_removals;
       peer_removals = k.peer_removals;
       own_amounts = k.own_amounts;
       peer_amounts = k.peer_amounts;
       own_stands = k.own_stands;
-      own_signed_stands = k.own_stands ∙ ap (λ x. standing_of f x (take l.current.peer l.got)) (sym whole);
+      own_signed_stands = k.own_stands ∙ ap (λ x. standing_of f x (take l.current.peer l.received)) (sym whole);
       peer_stands = k.peer_stands;
       peer_current_stands = k.peer_current_stands;
       own_pays = k.own_pays;
       peer_pays = k.peer_pays;
       signed_pays = (
-        subst (λ x. Pays f x (take n l.got)) (sym whole) (subst (Pays f l.own) (sym seen) k.own_pays),
-        subst (Pays g (take n l.got)) (sym whole) (subst (λ x. Pays g x l.own) (sym seen) (pays_all g (take l.current.peer l.got) l.own l.current.own k.current_pays.1)),
+        subst (λ x. Pays f x (take n l.received)) (sym whole) (subst (Pays f l.own) (sym seen) k.own_pays),
+        subst (Pays g (take n l.received)) (sym whole) (subst (λ x. Pays g x l.own) (sym seen) (pays_all g (take l.current.peer l.received) l.own l.current.own k.current_pays.1)),
       );
       acknowledged_pays = k.acknowledged_pays;
       current_pays = k.current_pays;
@@ -298,13 +298,13 @@ pub both_same : (o : Opening) (r : Role) (a b c d : List Update) → a ≡ c →
 both_same o r a b c d e h k = subst (λ x. BothPay o r (record { own = x; peer = d })) e (subst (λ x. BothPay o r (record { own = a; peer = x })) h k)
 
 -- the same lists, cut to what was covered
-pub kept_dropped : (l : Log) (s t p q : Standing) → IsKept l s t p q → IsKept (dropped l) t t q q
+pub kept_dropped : (l : Log) (s t p q : Standing) → IsKept l s t p q → IsKept (after_drop l) t t q q
 kept_dropped l s t p q k =
     let w = k.within in
     let f = first_balance l.opening l.role in
     let g = first_balance l.opening (other_role l.role) in
     let own_part = λ (n : ℕ) (le : n ≤ l.signed.own). take-take n l.signed.own l.own le in
-    let got_part = λ (n : ℕ) (le : n ≤ l.current.peer). take-take n l.current.peer l.got le in
+    let got_part = λ (n : ℕ) (le : n ≤ l.current.peer). take-take n l.current.peer l.received le in
     let signed_own = own_part l.signed.own (omega arith) in
     let acked_own = own_part l.acknowledged.own w.own_acknowledged in
     let current_own = own_part l.current.own (omega (arith, w.own_current, w.own_acknowledged)) in
@@ -313,20 +313,20 @@ kept_dropped l s t p q k =
     let acked_peer = got_part l.acknowledged.peer (omega (arith, w.peer_acknowledged, w.peer_signed)) in
     record {
       fit = k.fit;
-      within = record { own_current = w.own_current; own_acknowledged = w.own_acknowledged; own_signed = omega (arith, length-take-le l.signed.own l.own w.own_signed); peer_acknowledged = w.peer_acknowledged; peer_signed = w.peer_signed; peer_current = omega (arith, length-take-le l.current.peer l.got w.peer_current) };
+      within = record { own_current = w.own_current; own_acknowledged = w.own_acknowledged; own_signed = omega (arith, length-take-le l.signed.own l.own w.own_signed); peer_acknowledged = w.peer_acknowledged; peer_signed = w.peer_signed; peer_current = omega (arith, length-take-le l.current.peer l.received w.peer_current) };
       own_ids = numbered-take 0 l.signed.own l.own k.own_ids;
-      peer_ids = numbered-take 0 l.current.peer l.got k.peer_ids;
-      own_removals = subst (λ adds. AreRemovals adds [] (take l.signed.own l.own)) (sym signed_peer) (removals-take (take l.signed.peer l.got) [] l.own l.signed.own k.own_removals);
-      acknowledged_removals = subst (λ us. AreRemovals (take l.acknowledged.peer (take l.current.peer l.got)) [] us) (sym acked_own) (subst (λ adds. AreRemovals adds [] (take l.acknowledged.own l.own)) (sym acked_peer) k.acknowledged_removals);
-      peer_removals = subst (λ adds. AreRemovals adds [] (take l.current.peer l.got)) (sym current_own) (removals-take (take l.current.own l.own) [] l.got l.current.peer k.peer_removals);
+      peer_ids = numbered-take 0 l.current.peer l.received k.peer_ids;
+      own_removals = subst (λ adds. AreRemovals adds [] (take l.signed.own l.own)) (sym signed_peer) (removals-take (take l.signed.peer l.received) [] l.own l.signed.own k.own_removals);
+      acknowledged_removals = subst (λ us. AreRemovals (take l.acknowledged.peer (take l.current.peer l.received)) [] us) (sym acked_own) (subst (λ adds. AreRemovals adds [] (take l.acknowledged.own l.own)) (sym acked_peer) k.acknowledged_removals);
+      peer_removals = subst (λ adds. AreRemovals adds [] (take l.current.peer l.received)) (sym current_own) (removals-take (take l.current.own l.own) [] l.received l.current.peer k.peer_removals);
       own_amounts = within-take (1000 * l.opening.satoshis) l.own l.signed.own k.own_amounts;
-      peer_amounts = within-take (1000 * l.opening.satoshis) l.got l.current.peer k.peer_amounts;
+      peer_amounts = within-take (1000 * l.opening.satoshis) l.received l.current.peer k.peer_amounts;
       own_stands = k.own_signed_stands ∙ ap (standing_of f (take l.signed.own l.own)) (sym current_peer);
-      own_signed_stands = k.own_signed_stands ∙ ap (standing_of f (take l.signed.own l.own)) (sym current_peer) ∙ ap (λ x. standing_of f x (take l.current.peer (take l.current.peer l.got))) (sym signed_own);
-      peer_stands = k.peer_current_stands ∙ ap (standing_of g (take l.current.peer l.got)) (sym acked_own);
-      peer_current_stands = k.peer_current_stands ∙ ap (standing_of g (take l.current.peer l.got)) (sym acked_own) ∙ ap (λ x. standing_of g x (take l.acknowledged.own (take l.signed.own l.own))) (sym current_peer);
-      own_pays = subst (Pays f (take l.signed.own l.own)) (sym current_peer) (pays_longer f (take l.signed.own l.own) l.got l.signed.peer l.current.peer w.peer_signed k.signed_pays.0);
-      peer_pays = subst (Pays g (take l.current.peer l.got)) (sym acked_own) (pays_longer g (take l.current.peer l.got) l.own l.current.own l.acknowledged.own w.own_current k.current_pays.1);
+      own_signed_stands = k.own_signed_stands ∙ ap (standing_of f (take l.signed.own l.own)) (sym current_peer) ∙ ap (λ x. standing_of f x (take l.current.peer (take l.current.peer l.received))) (sym signed_own);
+      peer_stands = k.peer_current_stands ∙ ap (standing_of g (take l.current.peer l.received)) (sym acked_own);
+      peer_current_stands = k.peer_current_stands ∙ ap (standing_of g (take l.current.peer l.received)) (sym acked_own) ∙ ap (λ x. standing_of g x (take l.acknowledged.own (take l.signed.own l.own))) (sym current_peer);
+      own_pays = subst (Pays f (take l.signed.own l.own)) (sym current_peer) (pays_longer f (take l.signed.own l.own) l.received l.signed.peer l.current.peer w.peer_signed k.signed_pays.0);
+      peer_pays = subst (Pays g (take l.current.peer l.received)) (sym acked_own) (pays_longer g (take l.current.peer l.received) l.own l.current.own l.acknowledged.own w.own_current k.current_pays.1);
       signed_pays = both_same l.opening l.role _ _ _ _ (sym signed_own) (sym signed_peer) k.signed_pays;
       acknowledged_pays = both_same l.opening l.role _ _ _ _ (sym acked_own) (sym acked_peer) k.acknowledged_pays;
       current_pays = both_same l.opening l.role _ _ _ _ (sym current_own) (sym current_peer) k.current_pays;
@@ -452,17 +452,17 @@ grown lim f g side own seen held u h id e =
     let pays = own_pays f own seen u h.seen_ids seen_too may h.pays in
     record { fits = own_fits lim f g side own seen held u h e (sym moves) pays; stands = sym moves; pays = pays; removes = removes; amount = amount_is lim f g side own seen held u h e }
 
-pub may_learn : (l : Log) (s t p q : Standing) (us vs : List Update) → IsKept l s t p q → us ≡ drop l.acknowledged.own (take l.signed.own l.own) → vs ≡ take l.signed.peer l.got → AllFit p vs us
+pub may_learn : (l : Log) (s t p q : Standing) (us vs : List Update) → IsKept l s t p q → us ≡ drop l.acknowledged.own (take l.signed.own l.own) → vs ≡ take l.signed.peer l.received → AllFit p vs us
 may_learn l s t p q us vs k eu ev =
     let front = take-take l.acknowledged.own l.signed.own l.own k.within.own_acknowledged in
-    may_move _ _ _ _ _ _ _ p us vs (learning l s t p q k) (k.peer_stands ∙ ap (standing_of (first_balance l.opening (other_role l.role)) l.got) (sym front)) eu ev
+    may_move _ _ _ _ _ _ _ p us vs (learning l s t p q k) (k.peer_stands ∙ ap (standing_of (first_balance l.opening (other_role l.role)) l.received) (sym front)) eu ev
 
-pub may_learn_current : (l : Log) (s t p q : Standing) (us vs : List Update) → IsKept l s t p q → us ≡ drop l.acknowledged.own (take l.signed.own l.own) → vs ≡ take l.signed.peer l.got → AllFit q vs us
+pub may_learn_current : (l : Log) (s t p q : Standing) (us vs : List Update) → IsKept l s t p q → us ≡ drop l.acknowledged.own (take l.signed.own l.own) → vs ≡ take l.signed.peer l.received → AllFit q vs us
 may_learn_current l s t p q us vs k eu ev =
     let front = take-take l.acknowledged.own l.signed.own l.own k.within.own_acknowledged in
-    may_move _ _ _ _ _ _ _ q us vs (learning_current l s t p q k) (k.peer_current_stands ∙ ap (standing_of (first_balance l.opening (other_role l.role)) (take l.current.peer l.got)) (sym front)) eu ev
+    may_move _ _ _ _ _ _ _ q us vs (learning_current l s t p q k) (k.peer_current_stands ∙ ap (standing_of (first_balance l.opening (other_role l.role)) (take l.current.peer l.received)) (sym front)) eu ev
 
 -- the lists of a dropped log, by what is left of them
-pub kept_cut : (l : Log) (s t p q : Standing) (os gs : List Update) → IsKept l s t p q → os ≡ take l.signed.own l.own → gs ≡ take l.current.peer l.got → IsKept (record l { own = os; got = gs }) t t q q
+pub kept_cut : (l : Log) (s t p q : Standing) (os gs : List Update) → IsKept l s t p q → os ≡ take l.signed.own l.own → gs ≡ take l.current.peer l.received → IsKept (record l { own = os; received = gs }) t t q q
 kept_cut l s t p q os gs k eo eg =
-    subst (λ x. IsKept (record l { own = x; got = gs }) t t q q) (sym eo) (subst (λ x. IsKept (record l { own = take l.signed.own l.own; got = x }) t t q q) (sym eg) (kept_dropped l s t p q k))
+    subst (λ x. IsKept (record l { own = x; received = gs }) t t q q) (sym eo) (subst (λ x. IsKept (record l { own = take l.signed.own l.own; received = x }) t t q q) (sym eg) (kept_dropped l s t p q k))

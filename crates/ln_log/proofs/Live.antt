@@ -70,9 +70,9 @@ live_now l s t p q h side.Own own peer eo ep =
       ap removals_in ep,
       ap next_id eo,
       ap next_id ep,
-      counted (take l.current.own l.own) (take l.current.peer l.got) (numbered-take 0 l.current.own l.own h.own_ids) (removals-take (take l.current.own l.own) [] l.got l.current.peer h.peer_removals),
-      counted (take l.current.peer l.got) (take l.current.own l.own) (numbered-take 0 l.current.peer l.got h.peer_ids)
-          (wider l.signed.peer l.current.peer l.got (take l.current.own l.own) h.within.peer_signed (removals-take (take l.signed.peer l.got) [] l.own l.current.own h.own_removals)),
+      counted (take l.current.own l.own) (take l.current.peer l.received) (numbered-take 0 l.current.own l.own h.own_ids) (removals-take (take l.current.own l.own) [] l.received l.current.peer h.peer_removals),
+      counted (take l.current.peer l.received) (take l.current.own l.own) (numbered-take 0 l.current.peer l.received h.peer_ids)
+          (wider l.signed.peer l.current.peer l.received (take l.current.own l.own) h.within.peer_signed (removals-take (take l.signed.peer l.received) [] l.own l.current.own h.own_removals)),
     )
 live_now l s t p q h side.Peer own peer eo ep =
     omega (
@@ -81,14 +81,14 @@ live_now l s t p q h side.Peer own peer eo ep =
       ap removals_in ep,
       ap next_id eo,
       ap next_id ep,
-      counted (take l.acknowledged.own l.own) (take l.acknowledged.peer l.got) (numbered-take 0 l.acknowledged.own l.own h.own_ids)
-          (wider l.current.own l.acknowledged.own l.own (take l.acknowledged.peer l.got) h.within.own_current (removals-take (take l.current.own l.own) [] l.got l.acknowledged.peer h.peer_removals)),
-      counted (take l.acknowledged.peer l.got) (take l.acknowledged.own l.own) (numbered-take 0 l.acknowledged.peer l.got h.peer_ids) h.acknowledged_removals,
+      counted (take l.acknowledged.own l.own) (take l.acknowledged.peer l.received) (numbered-take 0 l.acknowledged.own l.own h.own_ids)
+          (wider l.current.own l.acknowledged.own l.own (take l.acknowledged.peer l.received) h.within.own_current (removals-take (take l.current.own l.own) [] l.received l.acknowledged.peer h.peer_removals)),
+      counted (take l.acknowledged.peer l.received) (take l.acknowledged.own l.own) (numbered-take 0 l.acknowledged.peer l.received h.peer_ids) h.acknowledged_removals,
     )
 
-pub live_by : (l m : Log) (s t p q : Standing) (w : Side) (n k : ℕ) (own peer : List Update) → IsKept l s t p q → l ≡ m → n ≡ (counts_of (pair.Current w) m).own → k ≡ (counts_of (pair.Current w) m).peer → own ≡ l.own → peer ≡ l.got
+pub live_by : (l m : Log) (s t p q : Standing) (w : Side) (n k : ℕ) (own peer : List Update) → IsKept l s t p q → l ≡ m → n ≡ (counts_of (pair.Current w) m).own → k ≡ (counts_of (pair.Current w) m).peer → own ≡ l.own → peer ≡ l.received
     → live_in (covered m (counts_of (pair.Current w) m)) + (removals_in (take n own) + removals_in (take k peer)) ≡ next_id (take n own) + next_id (take k peer)
 live_by l m s t p q w n k own peer h e en ek eo ep =
     live_now m s t p q (subst (λ x. IsKept x s t p q) e h) w (take n own) (take k peer)
     (ap (λ i. take i own) en ∙ ap (take (counts_of (pair.Current w) m).own) (eo ∙ ap (λ (x : Log). x.own) e))
-    (ap (λ i. take i peer) ek ∙ ap (take (counts_of (pair.Current w) m).peer) (ep ∙ ap (λ (x : Log). x.got) e))
+    (ap (λ i. take i peer) ek ∙ ap (take (counts_of (pair.Current w) m).peer) (ep ∙ ap (λ (x : Log). x.received) e))

@@ -89,8 +89,8 @@ id_fault own (update.Malformed m) = None
 id_fault own (update.Fee f) = None
 
 -- a side proposes 2^62 updates at most
-abbrev pub is_spent : List Update → Bool
-is_spent own = nat_le 4611686018427387904 (length own)
+abbrev pub is_at_update_limit : List Update → Bool
+is_at_update_limit own = nat_le 4611686018427387904 (length own)
 
 -- the first of two faults
 abbrev pub first_fault : Option Refusal → Option Refusal → Option Refusal

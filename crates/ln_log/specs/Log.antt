@@ -22,7 +22,7 @@ use Rattle.ln_log.specs.declared.update.Add.{Add}
 use Rattle.ln_log.specs.declared.outcome.Outcome.TheVariants.{Live}
 use Rattle.ln_log.specs.Updates.{offered, removed, all_sent, add_with, outcome, is_live, is_some}
 use Rattle.ln_log.specs.View.{live_adds, view_of, Pays}
-use Rattle.ln_log.specs.Limits.{standing_of, update_fault, id_fault, is_spent, first_fault}
+use Rattle.ln_log.specs.Limits.{standing_of, update_fault, id_fault, is_at_update_limit, first_fault}
 use Rattle.ln_log.specs.Machine.{Covered, Party}
 
 -- how many updates of either side
@@ -34,7 +34,7 @@ pub record Log : Type 0 where
   pub opening : Opening
   pub role : Role
   pub own : List Update  -- what the side proposed
-  pub got : List Update  -- what it took of the peer's
+  pub received : List Update  -- what it took of the peer's
   pub first : Counts  -- those before these aren't had one by one any more
   pub signed : Counts
   pub acknowledged : Counts
@@ -44,24 +44,25 @@ abbrev pub none : Counts
 none = record { own = 0; peer = 0 }
 
 abbrev pub opened : Opening → Role → Log
-opened o x = record { opening = o; role = x; own = []; got = []; first = none; signed = none; acknowledged = none; current = none }
+opened o x = record { opening = o; role = x; own = []; received = []; first = none; signed = none; acknowledged = none; current = none }
 
 -- the lists that counts stand for
 abbrev pub covered : Log → Counts → Covered
-covered l c = record { own = take c.own l.own; peer = take c.peer l.got }
+covered l c = record { own = take c.own l.own; peer = take c.peer l.received }
 
 abbrev pub sent_pair : Covered → Covered
 sent_pair c = record { own = all_sent c.own; peer = all_sent c.peer }
 
--- the party of the machine that a log stands for, by the updates as they are sent
-abbrev pub party_of : Log → Party
-party_of l = record {
+-- the party of the machine that a log stands for, by the updates as they are sent, with these marks: whether the
+-- side has sent shutdown, and the fee at which it has closed
+abbrev pub party_of : Bool → Option ℕ → Log → Party
+party_of shut closed l = record {
   own = all_sent l.own;
   signed = sent_pair (covered l l.signed);
   current = sent_pair (covered l l.current);
   acknowledged = sent_pair (covered l l.acknowledged);
-  shut = false;
-  closed = None;
+  shut = shut;
+  closed = closed;
 }
 
 -- the counts lie within the lists and within one another: an own update is covered by an own signature,
@@ -73,30 +74,30 @@ pub record IsWithin (l : Log) : Type 0 where
   pub own_signed : l.signed.own ≤ length l.own
   pub peer_acknowledged : l.acknowledged.peer ≤ l.signed.peer
   pub peer_signed : l.signed.peer ≤ l.current.peer
-  pub peer_current : l.current.peer ≤ length l.got
+  pub peer_current : l.current.peer ≤ length l.received
 
 -- ---- what a call makes of it
 
-abbrev pub proposed : Update → Log → Log
-proposed u l = record l { own = l.own ++ u ∷ [] }
+abbrev pub after_propose : Update → Log → Log
+after_propose u l = record l { own = l.own ++ u ∷ [] }
 
-abbrev pub received : Update → Log → Log
-received u l = record l { got = l.got ++ u ∷ [] }
+abbrev pub after_receive : Update → Log → Log
+after_receive u l = record l { received = l.received ++ u ∷ [] }
 
-abbrev pub signed_all : Log → Log
-signed_all l = record l { signed = record { own = length l.own; peer = l.current.peer } }
+abbrev pub after_sign : Log → Log
+after_sign l = record l { signed = record { own = length l.own; peer = l.current.peer } }
 
 -- the peer's signature covers what was taken, and the own updates that the peer has acknowledged
-abbrev pub accepted_all : Log → Log
-accepted_all l = record l { current = record { own = l.acknowledged.own; peer = length l.got } }
+abbrev pub after_accept : Log → Log
+after_accept l = record l { current = record { own = l.acknowledged.own; peer = length l.received } }
 
 -- the peer has revoked up to the last own signature
-abbrev pub acknowledged_all : Log → Log
-acknowledged_all l = record l { acknowledged = l.signed }
+abbrev pub after_learn : Log → Log
+after_learn l = record l { acknowledged = l.signed }
 
 -- the updates that no signature covers are gone
-abbrev pub dropped : Log → Log
-dropped l = record l { own = take l.signed.own l.own; got = take l.current.peer l.got }
+abbrev pub after_drop : Log → Log
+after_drop l = record l { own = take l.signed.own l.own; received = take l.current.peer l.received }
 
 abbrev pub same_counts : Counts → Counts → Bool
 same_counts c d = (c.own == d.own) && (c.peer == d.peer)
@@ -107,7 +108,7 @@ same_counts c d = (c.own == d.own) && (c.peer == d.peer)
 abbrev pub sign_fault : Log → Option Refusal
 sign_fault l =
     if same_counts l.acknowledged l.signed
-    then (if same_counts l.signed (signed_all l).signed then Some refusal.NothingToSign else None)
+    then (if same_counts l.signed (after_sign l).signed then Some refusal.NothingToSign else None)
     else Some refusal.SignatureOutstanding
 
 -- the peer would refuse it
@@ -119,9 +120,9 @@ peer_limit r = refusal.PeerLimit (refusal_number r)
 abbrev pub removal_fault : Log → Option Removal → Option Refusal
 removal_fault l None = None
 removal_fault l (Some r) =
-    if is_none (add_with r.id l.got) then Some (refusal.PeerLimit 28)
+    if is_none (add_with r.id l.received) then Some (refusal.PeerLimit 28)
     else (if not (is_live (outcome r.id l.own)) then Some refusal.AlreadyRemoved
-    else (if is_none (add_with r.id (take l.acknowledged.peer l.got)) then Some refusal.NotCommitted
+    else (if is_none (add_with r.id (take l.acknowledged.peer l.received)) then Some refusal.NotCommitted
     else None))
 
 -- update_fail_htlc has 44 bytes beside the reason, and a message has 65,535 at most (7)
@@ -135,24 +136,24 @@ length_fault (update.Fee f) = None
 -- by command
 abbrev pub proposal_fault : Log → Update → Option Refusal
 proposal_fault l u =
-    first_fault (if is_spent l.own then Some refusal.NumbersSpent else None)
+    first_fault (if is_at_update_limit l.own then Some refusal.NumbersSpent else None)
     (first_fault (removal_fault l (removed u))
-    (first_fault (option_map peer_limit (update_fault l.opening l.role l.own (take l.current.peer l.got) (take l.acknowledged.peer l.got) u))
+    (first_fault (option_map peer_limit (update_fault l.opening l.role l.own (take l.current.peer l.received) (take l.acknowledged.peer l.received) u))
     (length_fault u)))
 
 -- from the peer
 abbrev pub taken_fault : Log → Update → Option Refusal
 taken_fault l u =
-    first_fault (if is_spent l.got then Some refusal.OutOfPlace else None)
-    (first_fault (id_fault l.got u)
-    (update_fault l.opening (other_role l.role) l.got (take l.acknowledged.own l.own) (take l.current.own l.own) u))
+    first_fault (if is_at_update_limit l.received then Some refusal.OutOfPlace else None)
+    (first_fault (id_fault l.received u)
+    (update_fault l.opening (other_role l.role) l.received (take l.acknowledged.own l.own) (take l.current.own l.own) u))
 
 -- ---- views
 
 -- the updates of a side
 abbrev pub updates_of : Side → Log → List Update
 updates_of side.Own l = l.own
-updates_of side.Peer l = l.got
+updates_of side.Peer l = l.received
 
 -- the number of the first update that is had one by one
 abbrev pub first_of : Side → Log → ℕ
@@ -176,8 +177,8 @@ abbrev pub counts_of : Pair → Log → Counts
 counts_of (pair.Current side.Own) l = l.current
 counts_of (pair.Current side.Peer) l = l.acknowledged
 counts_of pair.Signed l = l.signed
-counts_of pair.ToSign l = (signed_all l).signed
-counts_of pair.ToAccept l = (accepted_all l).current
+counts_of pair.ToSign l = (after_sign l).signed
+counts_of pair.ToAccept l = (after_accept l).current
 
 abbrev pub live_in : Covered → ℕ
 live_in c = length (live_adds c.own c.peer) + length (live_adds c.peer c.own)
@@ -234,18 +235,18 @@ pub record IsKept (l : Log) (own own_signed peer peer_current : Standing) : Type
   pub fit : IsFit l.opening
   pub within : IsWithin l
   pub own_ids : AreNumbered 0 l.own
-  pub peer_ids : AreNumbered 0 l.got
-  pub own_removals : AreRemovals (take l.signed.peer l.got) [] l.own
-  pub acknowledged_removals : AreRemovals (take l.acknowledged.peer l.got) [] (take l.acknowledged.own l.own)
-  pub peer_removals : AreRemovals (take l.current.own l.own) [] l.got
+  pub peer_ids : AreNumbered 0 l.received
+  pub own_removals : AreRemovals (take l.signed.peer l.received) [] l.own
+  pub acknowledged_removals : AreRemovals (take l.acknowledged.peer l.received) [] (take l.acknowledged.own l.own)
+  pub peer_removals : AreRemovals (take l.current.own l.own) [] l.received
   pub own_amounts : AreWithin (1000 * l.opening.satoshis) l.own
-  pub peer_amounts : AreWithin (1000 * l.opening.satoshis) l.got
-  pub own_stands : own ≡ standing_of (first_balance l.opening l.role) l.own (take l.current.peer l.got)
-  pub own_signed_stands : own_signed ≡ standing_of (first_balance l.opening l.role) (take l.signed.own l.own) (take l.current.peer l.got)
-  pub peer_stands : peer ≡ standing_of (first_balance l.opening (other_role l.role)) l.got (take l.acknowledged.own l.own)
-  pub peer_current_stands : peer_current ≡ standing_of (first_balance l.opening (other_role l.role)) (take l.current.peer l.got) (take l.acknowledged.own l.own)
-  pub own_pays : Pays (first_balance l.opening l.role) l.own (take l.current.peer l.got)
-  pub peer_pays : Pays (first_balance l.opening (other_role l.role)) l.got (take l.acknowledged.own l.own)
+  pub peer_amounts : AreWithin (1000 * l.opening.satoshis) l.received
+  pub own_stands : own ≡ standing_of (first_balance l.opening l.role) l.own (take l.current.peer l.received)
+  pub own_signed_stands : own_signed ≡ standing_of (first_balance l.opening l.role) (take l.signed.own l.own) (take l.current.peer l.received)
+  pub peer_stands : peer ≡ standing_of (first_balance l.opening (other_role l.role)) l.received (take l.acknowledged.own l.own)
+  pub peer_current_stands : peer_current ≡ standing_of (first_balance l.opening (other_role l.role)) (take l.current.peer l.received) (take l.acknowledged.own l.own)
+  pub own_pays : Pays (first_balance l.opening l.role) l.own (take l.current.peer l.received)
+  pub peer_pays : Pays (first_balance l.opening (other_role l.role)) l.received (take l.acknowledged.own l.own)
   pub signed_pays : BothPay l.opening l.role (covered l l.signed)
   pub acknowledged_pays : BothPay l.opening l.role (covered l l.acknowledged)
   pub current_pays : BothPay l.opening l.role (covered l l.current)

@@ -11,7 +11,7 @@ mod removals;
 mod standing;
 mod update;
 
-pub use laws::{moves_exactly, propose_exactly, sign_exactly, views_as_sent};
+pub use laws::{moves_exactly, propose_exactly, shut_exactly, sign_exactly, views_as_sent};
 pub use ln_keys::{Htlc, Htlcs, Role, View};
 pub use log::{Counts, Pair, Side, UpdateLog};
 pub use opening::{Limits, Opening};

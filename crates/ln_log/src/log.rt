@@ -63,7 +63,7 @@ pub struct UpdateLog {
     opening: Opening,
     role: Role,
     own: Vec<Update>,
-    got: Vec<Update>,
+    received: Vec<Update>,
     signed: Counts,
     acknowledged: Counts,
     current: Counts,
@@ -84,7 +84,7 @@ impl Model for UpdateLog {
       opening = l.opening;
       role = l.role;
       own = l.own.items;
-      got = l.got.items;
+      received = l.received.items;
       first = record { own = 0; peer = 0 };
       signed = record { own = l.signed.own; peer = l.signed.peer };
       acknowledged = record { own = l.acknowledged.own; peer = l.acknowledged.peer };
@@ -96,7 +96,7 @@ impl Model for UpdateLog {
           opening = l.opening;
           role = l.role;
           own = l.own.items;
-          got = l.got.items;
+          received = l.received.items;
           first = record { own = 0; peer = 0 };
           signed = record { own = l.signed.own; peer = l.signed.peer };
           acknowledged = record { own = l.acknowledged.own; peer = l.acknowledged.peer };
@@ -112,8 +112,8 @@ impl UpdateLog {
     ghost use Rattle.ln_log.specs.Opening.{IsFit};
     ghost use Rattle.ln_log.specs.Updates.{next_id, offered, removed};
     ghost use Rattle.ln_log.specs.View.{AddsUp};
-    ghost use Rattle.ln_log.specs.Limits.{HasNextId, Answers, is_spent};
-    ghost use Rattle.ln_log.specs.Log.{StandsFor, IsWithin, updates_of, first_of, update_at, unacknowledged, HasAmount, opened, proposed, received, signed_all, accepted_all, acknowledged_all, dropped, sign_fault, removal_fault, proposal_fault, taken_fault, covered, counts_of, live_in, view_for};
+    ghost use Rattle.ln_log.specs.Limits.{HasNextId, Answers, is_at_update_limit};
+    ghost use Rattle.ln_log.specs.Log.{StandsFor, IsWithin, updates_of, first_of, update_at, unacknowledged, HasAmount, opened, after_propose, after_receive, after_sign, after_accept, after_learn, after_drop, sign_fault, removal_fault, proposal_fault, taken_fault, covered, counts_of, live_in, view_for};
 
     /// A channel end before any update. Takes no memory.
     pub fn new(alloc: Global, role: Role, opening: Opening) -> UpdateLog
@@ -137,7 +137,7 @@ impl UpdateLog {
             opening,
             role,
             own: Vec::new(alloc),
-            got: Vec::new(alloc),
+            received: Vec::new(alloc),
             signed: none,
             acknowledged: none,
             current: none,
@@ -166,13 +166,13 @@ impl UpdateLog {
     pub fn propose(&mut self, update: Update) -> Result<(), Refusal>
         requires { (l : Log) → StandsFor self.old l → HasNextId l.own update }
         ensures answer { (l : Log) → StandsFor self.old l → Answers (proposal_fault l update) result }
-        ensures ok { (l : Log) → StandsFor self.old l → OnOk result (StandsFor self.new (proposed update l)) }
+        ensures ok { (l : Log) → StandsFor self.old l → OnOk result (StandsFor self.new (after_propose update l)) }
         ensures err { OnErr result (self.new ≡ self.old) }
     {
         match self.proposal_refusal(&update) {
             Some(refusal) => Err(refusal),
             None => {
-                let seen = &self.got[..self.current.peer];
+                let seen = &self.received[..self.current.peer];
                 let standing = self.own_standing.with_own(&update, seen);
                 self.own.push(update)?;
                 self.own_standing = standing;
@@ -188,13 +188,13 @@ impl UpdateLog {
         match removal_of(update) {
             None => None,
             Some(removal) => {
-                if find_add(removal.id, self.got.as_slice()).is_none() {
+                if find_add(removal.id, self.received.as_slice()).is_none() {
                     return Some(Refusal::PeerLimit(28));
                 }
                 if outcome_of(removal.id, self.own.as_slice()) != Outcome::Live {
                     return Some(Refusal::AlreadyRemoved);
                 }
-                if find_add(removal.id, &self.got[..self.acknowledged.peer]).is_none() {
+                if find_add(removal.id, &self.received[..self.acknowledged.peer]).is_none() {
                     return Some(Refusal::NotCommitted);
                 }
                 None
@@ -214,7 +214,7 @@ impl UpdateLog {
             None => {}
         }
         let limits = self.opening.limits_of(self.role);
-        let held = &self.got[..self.acknowledged.peer];
+        let held = &self.received[..self.acknowledged.peer];
         match update_refusal(
             &limits,
             &self.own_standing,
@@ -237,7 +237,7 @@ impl UpdateLog {
     /// these nothing has changed.
     pub fn receive(&mut self, update: Update) -> Result<(), Refusal>
         ensures answer { (l : Log) → StandsFor self.old l → Answers (taken_fault l update) result }
-        ensures ok { (l : Log) → StandsFor self.old l → OnOk result (StandsFor self.new (received update l)) }
+        ensures ok { (l : Log) → StandsFor self.old l → OnOk result (StandsFor self.new (after_receive update l)) }
         ensures err { OnErr result (self.new ≡ self.old) }
     {
         match self.taken_refusal(&update) {
@@ -245,7 +245,7 @@ impl UpdateLog {
             None => {
                 let seen = &self.own[..self.acknowledged.own];
                 let standing = self.peer_standing.with_own(&update, seen);
-                self.got.push(update)?;
+                self.received.push(update)?;
                 self.peer_standing = standing;
                 Ok(())
             }
@@ -256,7 +256,7 @@ impl UpdateLog {
     fn taken_refusal(&self, update: &Update) -> Option<Refusal>
         ensures { result ≡ taken_fault self.now update.now }
     {
-        if self.got.len() as u64 >= MOST_UPDATES {
+        if self.received.len() as u64 >= MOST_UPDATES {
             return Some(Refusal::OutOfPlace);
         }
         if !has_id(update, self.peer_standing.next_id) {
@@ -268,7 +268,7 @@ impl UpdateLog {
             &limits,
             &self.peer_standing,
             self.role.other(),
-            self.got.as_slice(),
+            self.received.as_slice(),
             held,
             update,
         )
@@ -292,7 +292,7 @@ impl UpdateLog {
     /// This side has signed: all own updates, and those of the peer that stand in its own commitment.
     /// Takes no memory.
     pub fn signed(&mut self)
-        ensures { (l : Log) → StandsFor self.old l → StandsFor self.new (signed_all l) }
+        ensures { (l : Log) → StandsFor self.old l → StandsFor self.new (after_sign l) }
     {
         let next = self.counts(Pair::ToSign);
         self.signed = next;
@@ -302,10 +302,10 @@ impl UpdateLog {
     /// The peer's signature was taken: this side's commitment covers what was taken of the peer's, and
     /// the own updates that the peer has acknowledged. Takes no memory.
     pub fn accepted(&mut self)
-        ensures { (l : Log) → StandsFor self.old l → StandsFor self.new (accepted_all l) }
+        ensures { (l : Log) → StandsFor self.old l → StandsFor self.new (after_accept l) }
     {
         let next = self.counts(Pair::ToAccept);
-        let updates = &self.got[self.current.peer..];
+        let updates = &self.received[self.current.peer..];
         let htlcs = &self.own[..self.current.own];
         self.own_standing = self.own_standing.with_all(updates, htlcs);
         self.own_signed = self.own_signed.with_all(updates, htlcs);
@@ -316,10 +316,10 @@ impl UpdateLog {
     /// The peer's revocation was taken: the peer's commitment is the one that was signed last. Takes no
     /// memory.
     pub fn acknowledged(&mut self)
-        ensures { (l : Log) → StandsFor self.old l → StandsFor self.new (acknowledged_all l) }
+        ensures { (l : Log) → StandsFor self.old l → StandsFor self.new (after_learn l) }
     {
         let updates = &self.own[self.acknowledged.own..self.signed.own];
-        let htlcs = &self.got[..self.signed.peer];
+        let htlcs = &self.received[..self.signed.peer];
         self.peer_standing = self.peer_standing.with_all(updates, htlcs);
         self.peer_current = self.peer_current.with_all(updates, htlcs);
         self.acknowledged = self.signed;
@@ -329,10 +329,10 @@ impl UpdateLog {
     /// no own signature covers; their ids are used again (BOLT 2, "Message Retransmission"). Takes no
     /// memory.
     pub fn drop_unsigned(&mut self)
-        ensures { (l : Log) → StandsFor self.old l → StandsFor self.new (dropped l) }
+        ensures { (l : Log) → StandsFor self.old l → StandsFor self.new (after_drop l) }
     {
         self.own.truncate(self.signed.own);
-        self.got.truncate(self.current.peer);
+        self.received.truncate(self.current.peer);
         self.own_standing = self.own_signed;
         self.peer_standing = self.peer_current;
     }
@@ -343,7 +343,7 @@ impl UpdateLog {
     {
         match side {
             Side::Own => self.own.as_slice(),
-            Side::Peer => self.got.as_slice(),
+            Side::Peer => self.received.as_slice(),
         }
     }
 
@@ -353,14 +353,14 @@ impl UpdateLog {
     {
         match side {
             Side::Own => self.own.len(),
-            Side::Peer => self.got.len(),
+            Side::Peer => self.received.len(),
         }
     }
 
     /// The number of the first update of a side that `update` still gives; updates count from 0. It is none
     /// that this side doesn't hold as irrevocably committed.
     pub fn first(&self, side: Side) -> usize
-        ensures first { (l : Log) → StandsFor self.now l → result ≡ first_of side l }
+        ensures is_the_first { (l : Log) → StandsFor self.now l → result ≡ first_of side l }
         ensures committed { (l : Log) → StandsFor self.now l → (l.first.own ≤ l.current.own) × (l.first.peer ≤ l.acknowledged.peer) }
     {
         // (nothing is gone: both lists are whole)
@@ -379,15 +379,15 @@ impl UpdateLog {
     {
         match side {
             Side::Own => nth(self.own.as_slice(), number),
-            Side::Peer => nth(self.got.as_slice(), number),
+            Side::Peer => nth(self.received.as_slice(), number),
         }
     }
 
     /// The updates of a side from one number up to another, from `first` on.
     pub fn between(&self, side: Side, from: usize, to: usize) -> &[Update]
-        requires kept { (l : Log) → StandsFor self.now l → first_of side l ≤ from }
+        requires not_before_the_first { (l : Log) → StandsFor self.now l → first_of side l ≤ from }
         requires ordered { (l : Log) → StandsFor self.now l → from ≤ to }
-        requires known { (l : Log) → StandsFor self.now l → to ≤ length (updates_of side l) }
+        requires not_behind_the_last { (l : Log) → StandsFor self.now l → to ≤ length (updates_of side l) }
         ensures updates { (l : Log) → StandsFor self.now l → result.now ≡ between from to (updates_of side l) }
         ensures count { from + length result.now ≡ to }
     {
@@ -403,8 +403,8 @@ impl UpdateLog {
     }
 
     /// Whether a side may propose no further update: it has 2^62 of them.
-    pub fn is_spent(&self, side: Side) -> bool
-        ensures { (l : Log) → StandsFor self.now l → result ≡ is_spent (updates_of side l) }
+    pub fn is_at_update_limit(&self, side: Side) -> bool
+        ensures { (l : Log) → StandsFor self.now l → result ≡ is_at_update_limit (updates_of side l) }
     {
         self.len(side) as u64 >= MOST_UPDATES
     }
@@ -414,9 +414,9 @@ impl UpdateLog {
         ensures own { (l : Log) → StandsFor self.now l → result.own ≡ (counts_of pair l).own }
         ensures peer { (l : Log) → StandsFor self.now l → result.peer ≡ (counts_of pair l).peer }
         ensures own_within { (l : Log) → StandsFor self.now l → result.own ≤ length l.own }
-        ensures peer_within { (l : Log) → StandsFor self.now l → result.peer ≤ length l.got }
+        ensures peer_within { (l : Log) → StandsFor self.now l → result.peer ≤ length l.received }
         ensures ordered { (l : Log) → StandsFor self.now l → IsWithin l }
-        ensures small { (l : Log) → StandsFor self.now l → length l.own + length l.got + 1 < 2 ^ 64 }
+        ensures lengths_fit { (l : Log) → StandsFor self.now l → length l.own + length l.received + 1 < 2 ^ 64 }
     {
         match pair {
             Pair::Current(Side::Own) => self.current,
@@ -428,7 +428,7 @@ impl UpdateLog {
             },
             Pair::ToAccept => Counts {
                 own: self.acknowledged.own,
-                peer: self.got.len(),
+                peer: self.received.len(),
             },
         }
     }
@@ -442,7 +442,7 @@ impl UpdateLog {
     {
         let counts = self.counts(pair);
         let own = &self.own[..counts.own];
-        let peer = &self.got[..counts.peer];
+        let peer = &self.received[..counts.peer];
         match self.role {
             Role::Funder => plain_view(alloc, &self.opening, own, peer),
             Role::Fundee => plain_view(alloc, &self.opening, peer, own),
@@ -455,7 +455,7 @@ impl UpdateLog {
     {
         let counts = self.counts(Pair::Current(side));
         let own = &self.own[..counts.own];
-        let peer = &self.got[..counts.peer];
+        let peer = &self.received[..counts.peer];
         let offered = count_adds(own) + count_adds(peer);
         let removed = count_removals(own) + count_removals(peer);
         offered - removed
@@ -465,7 +465,7 @@ impl UpdateLog {
 fn part(updates: &[Update], from: usize, to: usize) -> &[Update]
     requires ordered { from ≤ to }
     requires within { to ≤ length updates.now }
-    ensures part { result.now ≡ between from to updates.now }
+    ensures gives_the_part { result.now ≡ between from to updates.now }
     ensures count { from + length result.now ≡ to }
 {
     &updates[from..to]

@@ -39,8 +39,8 @@ impl Opening {
     /// at most 1000 times that, and neither side accepts more than 483 HTLCs (BOLT 2, "Requirements" of
     /// `open_channel`).
     pub fn is_fit(&self) -> bool
-        ensures fit { IsTrue result ↔ IsFit self.now }
-        ensures test { result ≡ is_fit self.now }
+        ensures tells_whether_it_is_fit { IsTrue result ↔ IsFit self.now }
+        ensures is_the_test { result ≡ is_fit self.now }
     {
         self.satoshis >= 1
             && self.satoshis <= 2_100_000_000_000_000

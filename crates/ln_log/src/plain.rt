@@ -67,7 +67,7 @@ fn add_of(update: &Update) -> Option<&Add>
 /// How many HTLCs these updates offer.
 pub fn count_adds(updates: &[Update]) -> usize
     ensures count { result ≡ next_id updates.now }
-    ensures few { result ≤ length updates.now }
+    ensures at_most_the_updates { result ≤ length updates.now }
 {
     let mut count = 0usize;
     for update in updates {
@@ -112,7 +112,7 @@ fn sums_of(adds: &[Update], outcomes: &Outcomes) -> Sums
     ensures offered { result.offered ≡ total is_any adds.now outcomes.now }
     ensures failed { result.failed ≡ total is_failed adds.now outcomes.now }
     ensures fulfilled { result.fulfilled ≡ total is_fulfilled adds.now outcomes.now }
-    ensures small { result.offered ≤ 2 ^ 64 * length adds.now }
+    ensures offered_fits { result.offered ≤ 2 ^ 64 * length adds.now }
 {
     let mut sums = Sums {
         offered: 0,
@@ -183,7 +183,7 @@ fn is_live(update: &Update, removals: &[Update]) -> bool
 /// How many HTLCs of one side the other hasn't removed.
 pub fn live_count(adds: &[Update], removals: &[Update]) -> usize
     ensures count { result ≡ length (live_adds adds.now removals.now) }
-    ensures few { result ≤ length adds.now }
+    ensures at_most_the_updates { result ≤ length adds.now }
 {
     let mut count = 0usize;
     for update in adds {

@@ -32,7 +32,7 @@ pub fn outcome_of(id: u64, removals: &[Update]) -> Outcome
 /// How many HTLCs these updates remove.
 pub fn count_removals(updates: &[Update]) -> usize
     ensures count { result ≡ removals_in updates.now }
-    ensures few { result ≤ length updates.now }
+    ensures at_most_the_updates { result ≤ length updates.now }
 {
     let mut count = 0usize;
     for update in updates {

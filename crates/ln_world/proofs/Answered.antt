@@ -5,7 +5,7 @@ use Rattle.ln_msgs.specs.declared.refusals.refusal.Refusal.TheVariants as refusa
 use Rattle.ln_log.specs.declared.update.Add.{Add}
 use Rattle.ln_log.specs.declared.update.Update.TheVariants as update
 use Rattle.ln_log.specs.Limits.{Answers}
-use Rattle.ln_log.specs.Log.{Log, proposed, received, proposal_fault, taken_fault}
+use Rattle.ln_log.specs.Log.{Log, after_propose, after_receive, proposal_fault, taken_fault}
 use Rattle.ln_world.specs.declared.answer.Answer.TheVariants.{Done, Refused}
 use Rattle.ln_world.specs.Ends.{answer_by, EndState, Both, sends, add_of, offer_fault, offers, takes}
 use Rattle.ln_world.specs.declared.message.Message.TheVariants as message
@@ -21,33 +21,33 @@ some_of : (f : Option Refusal) (e : Refusal) → Answers {A = Unit {0}} f (Err e
 some_of None e h differ = absurd (differ h)
 some_of (Some r) e h differ = refl
 
-pub offered_by : (x y : EndState) (o : Offer) (a : Add) (l : Log) (n : Both) → a ≡ add_of o x.log → Answers {A = Unit {0}} (proposal_fault x.log (update.Add a)) (Ok tt) → l ≡ proposed (update.Add a) x.log
+pub offered_by : (x y : EndState) (o : Offer) (a : Add) (l : Log) (n : Both) → a ≡ add_of o x.log → Answers {A = Unit {0}} (proposal_fault x.log (update.Add a)) (Ok tt) → l ≡ after_propose (update.Add a) x.log
     → n ≡ sends (message.Add a) (record { x = record x { log = l }; y = y }) → n ≡ offers o (record { x = x; y = y })
 offered_by x y o a l n eu h el en =
     let f : offer_fault o x.log ≡ None = subst (λ v. proposal_fault x.log (update.Add v) ≡ None) eu (none_of _ h) in
     en
     ∙ ap (λ m. sends (message.Add a) (record { x = record x { log = m }; y = y })) el
-    ∙ ap (λ v. sends (message.Add v) (record { x = record x { log = proposed (update.Add v) x.log }; y = y })) eu
-    ∙ ap (λ g. cond (is_none g) (sends (message.Add (add_of o x.log)) (record { x = record x { log = proposed (update.Add (add_of o x.log)) x.log }; y = y })) (record { x = x; y = y })) (sym f)
+    ∙ ap (λ v. sends (message.Add v) (record { x = record x { log = after_propose (update.Add v) x.log }; y = y })) eu
+    ∙ ap (λ g. cond (is_none g) (sends (message.Add (add_of o x.log)) (record { x = record x { log = after_propose (update.Add (add_of o x.log)) x.log }; y = y })) (record { x = x; y = y })) (sym f)
 
 pub refused_by : (x y : EndState) (o : Offer) (a : Add) (l : Log) (e : Refusal) → a ≡ add_of o x.log → Answers {A = Unit {0}} (proposal_fault x.log (update.Add a)) (Err e) → (e ≡ refusal.Memory → ⊥) → l ≡ x.log
     → record { x = record x { log = l }; y = y } ≡ offers o (record { x = x; y = y })
 refused_by x y o a l e eu h differ el =
     let f : is_none (offer_fault o x.log) ≡ false = subst (λ v. is_none (proposal_fault x.log (update.Add v)) ≡ false) eu (some_of _ e h differ) in
     ap (λ m. record { x = record x { log = m }; y = y }) el
-    ∙ ap (λ b. cond b (sends (message.Add (add_of o x.log)) (record { x = record x { log = proposed (update.Add (add_of o x.log)) x.log }; y = y })) (record { x = x; y = y })) (sym f)
+    ∙ ap (λ b. cond b (sends (message.Add (add_of o x.log)) (record { x = record x { log = after_propose (update.Add (add_of o x.log)) x.log }; y = y })) (record { x = x; y = y })) (sym f)
 
-pub taken_by : (x y : EndState) (a : Add) (l : Log) → Answers {A = Unit {0}} (taken_fault x.log (update.Add a)) (Ok tt) → l ≡ received (update.Add a) x.log
+pub taken_by : (x y : EndState) (a : Add) (l : Log) → Answers {A = Unit {0}} (taken_fault x.log (update.Add a)) (Ok tt) → l ≡ after_receive (update.Add a) x.log
     → record { x = record x { log = l }; y = y } ≡ takes (message.Add a) (record { x = x; y = y })
 taken_by x y a l h el =
     ap (λ m. record { x = record x { log = m }; y = y }) el
-    ∙ ap (λ g. cond (is_none g) (record { x = record x { log = received (update.Add a) x.log }; y = y }) (record { x = x; y = y })) (sym (none_of _ h))
+    ∙ ap (λ g. cond (is_none g) (record { x = record x { log = after_receive (update.Add a) x.log }; y = y }) (record { x = x; y = y })) (sym (none_of _ h))
 
 pub untaken_by : (x y : EndState) (a : Add) (l : Log) (e : Refusal) → Answers {A = Unit {0}} (taken_fault x.log (update.Add a)) (Err e) → (e ≡ refusal.Memory → ⊥) → l ≡ x.log
     → record { x = record x { log = l }; y = y } ≡ takes (message.Add a) (record { x = x; y = y })
 untaken_by x y a l e h differ el =
     ap (λ m. record { x = record x { log = m }; y = y }) el
-    ∙ ap (λ b. cond b (record { x = record x { log = received (update.Add a) x.log }; y = y }) (record { x = x; y = y })) (sym (some_of _ e h differ))
+    ∙ ap (λ b. cond b (record { x = record x { log = after_receive (update.Add a) x.log }; y = y }) (record { x = x; y = y })) (sym (some_of _ e h differ))
 
 -- what is answered
 

@@ -9,7 +9,7 @@ use Rattle.ln_log.specs.declared.update.Update.{Update}
 use Rattle.ln_log.specs.declared.update.Update.TheVariants as update
 use Rattle.ln_log.specs.Opening.{limits_of, first_balance}
 use Rattle.ln_log.specs.Updates.{next_id}
-use Rattle.ln_log.specs.Limits.{add_fault, update_fault, id_fault, is_spent, first_fault}
+use Rattle.ln_log.specs.Limits.{add_fault, update_fault, id_fault, is_at_update_limit, first_fault}
 use Rattle.ln_log.specs.Log.{Counts, Log, peer_limit, proposal_fault}
 use Rattle.ln_world.proofs.Adds.{AreAdds, standing_same}
 use Rattle.std.proofs.lemmas.Bool.{eq-eqb}
@@ -53,7 +53,7 @@ last_ack a all (message.Revoke k ∷ ms) = last_ack all all ms
 
 -- what is wrong with an add behind got, where the receiver's next signature covers seen of its own
 abbrev pub add_taken : Opening → Role → List Update → List Update → Add → Option Refusal
-add_taken o r got seen a = first_fault (cond (is_spent got) (Some refusal.OutOfPlace) None) (first_fault (id_fault got (update.Add a)) (update_fault o r got seen [] (update.Add a)))
+add_taken o r got seen a = first_fault (cond (is_at_update_limit got) (Some refusal.OutOfPlace) None) (first_fault (id_fault got (update.Add a)) (update_fault o r got seen [] (update.Add a)))
 
 -- each add in flight will be within the limits
 abbrev pub AllFit : Opening → Role → List Update → List Message → Type 0
@@ -140,7 +140,7 @@ fits-revoke o r got (message.Revoke k ∷ ms) n h = fits-revoke o r got ms n h
 
 pub taken_same : (o : Opening) (r : Role) (got p q : List Update) (a : Add) → AreAdds got → AreAdds p → AreAdds q → add_taken o r got p a ≡ add_taken o r got q a
 taken_same o r got p q a hg hp hq =
-    ap (λ s. first_fault (cond (is_spent got) (Some refusal.OutOfPlace) None) (first_fault (id_fault got (update.Add a)) (add_fault (limits_of o r) s a))) (standing_same (first_balance o r) got p q hg hp hq)
+    ap (λ s. first_fault (cond (is_at_update_limit got) (Some refusal.OutOfPlace) None) (first_fault (id_fault got (update.Add a)) (add_fault (limits_of o r) s a))) (standing_same (first_balance o r) got p q hg hp hq)
 
 first_none : (f g : Option Refusal) → first_fault f g ≡ None → (f ≡ None) × (g ≡ None)
 first_none None g e = (refl, e)
@@ -155,21 +155,21 @@ unless true r e = absurd (cc)
 unless false r e = refl
 
 -- where nothing keeps a side from an add, it has room for it, and the add is within the limits
-pub allowed : (l : Log) (a : Add) → proposal_fault l (update.Add a) ≡ None → (is_spent l.own ≡ false) × (update_fault l.opening l.role l.own (take l.current.peer l.got) [] (update.Add a) ≡ None)
+pub allowed : (l : Log) (a : Add) → proposal_fault l (update.Add a) ≡ None → (is_at_update_limit l.own ≡ false) × (update_fault l.opening l.role l.own (take l.current.peer l.received) [] (update.Add a) ≡ None)
 allowed l a e =
-    let limits = update_fault l.opening l.role l.own (take l.current.peer l.got) [] (update.Add a) in
-    let spent : Option Refusal = cond (is_spent l.own) (Some refusal.NumbersSpent) None in
+    let limits = update_fault l.opening l.role l.own (take l.current.peer l.received) [] (update.Add a) in
+    let spent : Option Refusal = cond (is_at_update_limit l.own) (Some refusal.NumbersSpent) None in
     let p = first_none spent (first_fault (option_map peer_limit limits) None) e in
     let q = first_none (option_map peer_limit limits) None p.1 in
-    (unless (is_spent l.own) refusal.NumbersSpent p.0, unmapped limits q.0)
+    (unless (is_at_update_limit l.own) refusal.NumbersSpent p.0, unmapped limits q.0)
 
 -- and where it has, and the add is, nothing does
-pub unhindered : (l : Log) (a : Add) → is_spent l.own ≡ false → update_fault l.opening l.role l.own (take l.current.peer l.got) [] (update.Add a) ≡ None → proposal_fault l (update.Add a) ≡ None
+pub unhindered : (l : Log) (a : Add) → is_at_update_limit l.own ≡ false → update_fault l.opening l.role l.own (take l.current.peer l.received) [] (update.Add a) ≡ None → proposal_fault l (update.Add a) ≡ None
 unhindered l a room e =
-    let limits = update_fault l.opening l.role l.own (take l.current.peer l.got) [] (update.Add a) in
+    let limits = update_fault l.opening l.role l.own (take l.current.peer l.received) [] (update.Add a) in
     ap (λ b. first_fault (cond b (Some refusal.NumbersSpent) None) (first_fault (option_map peer_limit limits) None)) room ∙ ap (λ f. first_fault (option_map peer_limit f) None) e
 
-pub taken_none : (o : Opening) (r : Role) (own peer : List Update) (a : Add) → a.id ≡ next_id own → is_spent own ≡ false → update_fault o r own peer [] (update.Add a) ≡ None → add_taken o r own peer a ≡ None
+pub taken_none : (o : Opening) (r : Role) (own peer : List Update) (a : Add) → a.id ≡ next_id own → is_at_update_limit own ≡ false → update_fault o r own peer [] (update.Add a) ≡ None → add_taken o r own peer a ≡ None
 taken_none o r own peer a next room e =
     let limits = update_fault o r own peer [] (update.Add a) in
     ap (λ b. first_fault (cond b (Some refusal.OutOfPlace) None) (first_fault (id_fault own (update.Add a)) limits)) room

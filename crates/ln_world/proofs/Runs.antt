@@ -10,14 +10,14 @@ use Rattle.ln_log.specs.declared.update.Update.{Update}
 use Rattle.ln_log.specs.declared.update.Update.TheVariants as update
 use Rattle.ln_log.specs.Opening.{IsFit, is_fit}
 use Rattle.ln_log.specs.Updates.{as_sent, all_sent}
-use Rattle.ln_log.specs.Log.{Log, party_of, IsWithin, opened, none, sign_fault}
+use Rattle.ln_log.specs.Log.{Log, IsWithin, opened, none, sign_fault}
 use Rattle.ln_world.specs.declared.channel.Channel.{Channel}
 use Rattle.ln_world.specs.declared.step.Ready.{Ready}
 use Rattle.ln_world.specs.declared.step.Act.{Act}
 use Rattle.ln_world.specs.declared.step.Offer.{Offer}
 use Rattle.ln_world.specs.declared.step.Step.{Step}
 use Rattle.ln_world.specs.declared.step.Step.TheVariants as step
-use Rattle.ln_world.specs.Ends.{EndState, Both, acts, fresh_end, add_of, offer_fault}
+use Rattle.ln_world.specs.Ends.{EndState, Both, acts, fresh_end, add_of, offer_fault, open_party}
 use Rattle.ln_world.proofs.Steps.{place, acts_kept, acts_same, acts_run, front_fits, offer_exactly}
 use Rattle.ln_world.proofs.Flight.{ups, sigs}
 use Rattle.ln_log.proofs.Signs.{exactly}
@@ -51,7 +51,7 @@ acts_at_run (Some Funder) a c k =
     let b : Both = record { x = c.funder; y = c.fundee } in
     let d = acts a b in
     let o = c.funder.log.opening in
-    let T : Role → Opening → Type 0 = λ r p. IsRun (act_moves r a c.funder) (Some (place r o (party_of c.funder.log) (party_of c.fundee.log))) (Some (place r p (party_of d.x.log) (party_of d.y.log))) in
+    let T : Role → Opening → Type 0 = λ r p. IsRun (act_moves r a c.funder) (Some (place r o (open_party c.funder.log) (open_party c.fundee.log))) (Some (place r p (open_party d.x.log) (open_party d.y.log))) in
     let P : Role → Type 0 = λ r. T r o in
     let h : T c.funder.log.role o = acts_run a b k.kept in
     let i : T Funder o = subst P k.funder_role h in
@@ -59,7 +59,7 @@ acts_at_run (Some Funder) a c k =
 acts_at_run (Some Fundee) a c k =
     let b : Both = record { x = c.fundee; y = c.funder } in
     let d = acts a b in
-    let T : Role → Opening → Opening → Type 0 = λ r o p. IsRun (act_moves r a c.fundee) (Some (place r o (party_of c.fundee.log) (party_of c.funder.log))) (Some (place r p (party_of d.x.log) (party_of d.y.log))) in
+    let T : Role → Opening → Opening → Type 0 = λ r o p. IsRun (act_moves r a c.fundee) (Some (place r o (open_party c.fundee.log) (open_party c.funder.log))) (Some (place r p (open_party d.x.log) (open_party d.y.log))) in
     let P : Role → Type 0 = λ r. T r c.fundee.log.opening c.fundee.log.opening in
     let Q : Opening → Type 0 = λ o. T Fundee o o in
     let h : T c.fundee.log.role c.fundee.log.opening c.fundee.log.opening = acts_run a b (swapped c.funder c.fundee k.kept) in
@@ -139,17 +139,17 @@ held_begins ss = promised (run ss None) (kept_on ss None tt)
 -- ---- the other laws
 
 signs_side : (x : Role) (c : Channel) → ChannelKept c → (sign_fault (end_of x c).log ≡ None) ↔ MaySign (party x (machine_of_channel c))
-signs_side Funder c k = exactly c.funder.log k.kept.there.within
-signs_side Fundee c k = exactly c.fundee.log k.kept.back.within
+signs_side Funder c k = exactly false None c.funder.log k.kept.there.within
+signs_side Fundee c k = exactly false None c.fundee.log k.kept.back.within
 
 offers_side : (x : Role) (o : Offer) (c : Channel) → ChannelKept c → (offer_fault o (end_of x c).log ≡ None) ↔ MayOffer c.funder.log.opening x (update.Add (add_of o (end_of x c).log)) (party x (machine_of_channel c))
 offers_side Funder o c k =
     let l = c.funder.log in
-    let T : Role → Type 0 = λ r. (offer_fault o l ≡ None) ↔ MayOffer l.opening r (update.Add (add_of o l)) (party_of l) in
+    let T : Role → Type 0 = λ r. (offer_fault o l ≡ None) ↔ MayOffer l.opening r (update.Add (add_of o l)) (open_party l) in
     subst T k.funder_role (offer_exactly l o k.kept.there.adds (got_adds c.fundee c.funder k.kept.back))
 offers_side Fundee o c k =
     let l = c.fundee.log in
-    let T : Opening → Role → Type 0 = λ p r. (offer_fault o l ≡ None) ↔ MayOffer p r (update.Add (add_of o l)) (party_of l) in
+    let T : Opening → Role → Type 0 = λ p r. (offer_fault o l ≡ None) ↔ MayOffer p r (update.Add (add_of o l)) (open_party l) in
     let Q : Opening → Type 0 = λ p. T p Fundee in
     let h : T l.opening l.role = offer_exactly l o k.kept.back.adds (got_adds c.funder c.fundee k.kept.there) in
     subst Q k.kept.there.same (subst (T l.opening) k.fundee_role h)
@@ -183,35 +183,35 @@ sent_length : (n : ℕ) (us : List Update) → n ≤ length us → length (all_s
 sent_length n us le = length-map (take n us) as_sent ∙ length-take-le n us le
 
 -- at rest, by the counts
-settled_counts : (l : Log) → IsWithin l → IsSettled (party_of l) → (l.signed.own ≡ length l.own) × (l.signed.peer ≡ l.current.peer) × (l.acknowledged.own ≡ l.signed.own) × (l.acknowledged.peer ≡ l.signed.peer)
+settled_counts : (l : Log) → IsWithin l → IsSettled (open_party l) → (l.signed.own ≡ length l.own) × (l.signed.peer ≡ l.current.peer) × (l.acknowledged.own ≡ l.signed.own) × (l.acknowledged.peer ≡ l.signed.peer)
 settled_counts l w s =
     let so : l.signed.own ≡ length l.own = sym (sent_length l.signed.own l.own w.own_signed) ∙ ap (λ (v : Covered). length v.own) s.covered ∙ length-map l.own as_sent in
-    let lp : l.signed.peer ≤ length l.got = omega (arith, w.peer_signed, w.peer_current) in
-    let sp : l.signed.peer ≡ l.current.peer = sym (sent_length l.signed.peer l.got lp) ∙ ap (λ (v : Covered). length v.peer) s.covered ∙ sent_length l.current.peer l.got w.peer_current in
+    let lp : l.signed.peer ≤ length l.received = omega (arith, w.peer_signed, w.peer_current) in
+    let sp : l.signed.peer ≡ l.current.peer = sym (sent_length l.signed.peer l.received lp) ∙ ap (λ (v : Covered). length v.peer) s.covered ∙ sent_length l.current.peer l.received w.peer_current in
     let lo : l.acknowledged.own ≤ length l.own = omega (arith, w.own_acknowledged, w.own_signed) in
-    let la : l.acknowledged.peer ≤ length l.got = omega (arith, w.peer_acknowledged, w.peer_signed, w.peer_current) in
+    let la : l.acknowledged.peer ≤ length l.received = omega (arith, w.peer_acknowledged, w.peer_signed, w.peer_current) in
     let ao : l.acknowledged.own ≡ l.signed.own = sym (sent_length l.acknowledged.own l.own lo) ∙ ap (λ (v : Covered). length v.own) s.revoked ∙ sent_length l.signed.own l.own w.own_signed in
-    let pa : l.acknowledged.peer ≡ l.signed.peer = sym (sent_length l.acknowledged.peer l.got la) ∙ ap (λ (v : Covered). length v.peer) s.revoked ∙ sent_length l.signed.peer l.got lp in
+    let pa : l.acknowledged.peer ≡ l.signed.peer = sym (sent_length l.acknowledged.peer l.received la) ∙ ap (λ (v : Covered). length v.peer) s.revoked ∙ sent_length l.signed.peer l.received lp in
     (so, sp, ao, pa)
 
 -- y has taken all of x's updates, and x all of y's
-holds_all : (x y : EndState) → Flows x y → Flows y x → x.inbox ≡ [] → y.inbox ≡ [] → IsSettled (party_of x.log) → IsSettled (party_of y.log) → HoldsAll (party_of x.log) (party_of y.log)
+holds_all : (x y : EndState) → Flows x y → Flows y x → x.inbox ≡ [] → y.inbox ≡ [] → IsSettled (open_party x.log) → IsSettled (open_party y.log) → HoldsAll (open_party x.log) (open_party y.log)
 holds_all x y f g ex ey sx sy =
     let cx = settled_counts x.log f.within sx in
     let cy = settled_counts y.log g.within sy in
     let none_there : sigs y.inbox ≡ 0 = ap sigs ey in
     let none_back : sigs x.inbox ≡ 0 = ap sigs ex in
-    let got : x.log.got ≡ y.log.own = sym (append-nil x.log.got) ∙ ap (λ ms. x.log.got ++ ups ms) (sym ex) ∙ g.lists in
-    let theirs : y.log.got ≡ x.log.own = sym (append-nil y.log.got) ∙ ap (λ ms. y.log.got ++ ups ms) (sym ey) ∙ f.lists in
+    let got : x.log.received ≡ y.log.own = sym (append-nil x.log.received) ∙ ap (λ ms. x.log.received ++ ups ms) (sym ex) ∙ g.lists in
+    let theirs : y.log.received ≡ x.log.own = sym (append-nil y.log.received) ∙ ap (λ ms. y.log.received ++ ups ms) (sym ey) ∙ f.lists in
     -- y accepted all of x's, and signed for them
     let all_own : y.log.current.peer ≡ x.log.signed.own = f.phase.after_own none_there in
     let own : x.log.current.own ≡ y.log.signed.peer = g.phase.after_peer none_back in
     let peer : x.log.current.peer ≡ y.log.signed.own = g.phase.after_own none_back in
     let a : length x.log.own ≤ x.log.current.own = omega (arith, own, all_own, cx.0, cy.1) in
-    let b : length x.log.got ≤ x.log.acknowledged.peer = omega (arith, peer, cx.3, cx.1, cy.0, ap length got) in
+    let b : length x.log.received ≤ x.log.acknowledged.peer = omega (arith, peer, cx.3, cx.1, cy.0, ap length got) in
     record {
       own = ap all_sent (take_all x.log.current.own x.log.own a);
-      peer = ap all_sent (take_all x.log.acknowledged.peer x.log.got b ∙ got);
+      peer = ap all_sent (take_all x.log.acknowledged.peer x.log.received b ∙ got);
     }
 
 agrees : (c : Option Channel) → AreKept c → Agrees c

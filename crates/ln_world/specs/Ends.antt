@@ -1,13 +1,14 @@
 -- Both ends of a channel, and what is in flight between them (BOLT 2, "Normal Operation"). What an end
 -- does is told from that end, as x, with y at the other.
-use Rattle.std.specs.Prelude.{ℕ, ◌+◌, List, [], ◌∷◌, ◌++◌, Option, is_none, if◌then◌else◌, Some, None}
+use Rattle.std.specs.Prelude.{ℕ, ◌+◌, false, List, [], ◌∷◌, ◌++◌, Option, is_none, if◌then◌else◌, Some, None}
 use Rattle.ln_msgs.specs.declared.refusals.refusal.Refusal.{Refusal}
 use Rattle.ln_keys.specs.declared.role.Role.{Role}
 use Rattle.ln_log.specs.declared.opening.Opening.{Opening}
 use Rattle.ln_log.specs.declared.update.Add.{Add}
 use Rattle.ln_log.specs.declared.update.Update.TheVariants as update
 use Rattle.ln_log.specs.Updates.{next_id}
-use Rattle.ln_log.specs.Log.{Log, opened, proposed, received, signed_all, accepted_all, acknowledged_all, sign_fault, proposal_fault, taken_fault}
+use Rattle.ln_log.specs.Machine.{Party}
+use Rattle.ln_log.specs.Log.{Log, party_of, opened, after_propose, after_receive, after_sign, after_accept, after_learn, sign_fault, proposal_fault, taken_fault}
 use Rattle.ln_world.specs.declared.answer.Answer.{Answer}
 use Rattle.ln_world.specs.declared.answer.Answer.TheVariants.{Done, Idle, Refused}
 use Rattle.ln_world.specs.declared.message.Message.{Message}
@@ -27,6 +28,10 @@ pub record EndState : Type 0 where
 pub record Both : Type 0 where
   pub x : EndState
   pub y : EndState
+
+-- the machine's party that a log stands for: in this world no side has shut down
+abbrev pub open_party : Log → Party
+open_party l = party_of false None l
 
 abbrev pub fresh_end : Opening → Role → EndState
 fresh_end o role = record { log = opened o role; said = []; inbox = []; signatures = 0; revocations = 0 }
@@ -51,13 +56,13 @@ offer_fault o l = proposal_fault l (update.Add (add_of o l))
 abbrev pub offers : Offer → Both → Both
 offers o b =
     if is_none (offer_fault o b.x.log)
-    then sends (message.Add (add_of o b.x.log)) (record { x = record b.x { log = proposed (update.Add (add_of o b.x.log)) b.x.log }; y = b.y })
+    then sends (message.Add (add_of o b.x.log)) (record { x = record b.x { log = after_propose (update.Add (add_of o b.x.log)) b.x.log }; y = b.y })
     else b
 
 abbrev pub signs_all : Both → Both
 signs_all b =
     if is_none (sign_fault b.x.log)
-    then sends (message.Sign (b.x.signatures + 1)) (record { x = record b.x { log = signed_all b.x.log; signatures = b.x.signatures + 1 }; y = b.y })
+    then sends (message.Sign (b.x.signatures + 1)) (record { x = record b.x { log = after_sign b.x.log; signatures = b.x.signatures + 1 }; y = b.y })
     else b
 
 -- ---- what x takes
@@ -67,10 +72,10 @@ signs_all b =
 abbrev pub takes : Message → Both → Both
 takes (message.Add a) b =
     if is_none (taken_fault b.x.log (update.Add a))
-    then record { x = record b.x { log = received (update.Add a) b.x.log }; y = b.y }
+    then record { x = record b.x { log = after_receive (update.Add a) b.x.log }; y = b.y }
     else b
-takes (message.Sign n) b = sends (message.Revoke b.x.revocations) (record { x = record b.x { log = accepted_all b.x.log; revocations = b.x.revocations + 1 }; y = b.y })
-takes (message.Revoke n) b = record { x = record b.x { log = acknowledged_all b.x.log }; y = b.y }
+takes (message.Sign n) b = sends (message.Revoke b.x.revocations) (record { x = record b.x { log = after_accept b.x.log; revocations = b.x.revocations + 1 }; y = b.y })
+takes (message.Revoke n) b = record { x = record b.x { log = after_learn b.x.log }; y = b.y }
 
 abbrev pub delivers : List Message → Both → Both
 delivers [] b = b

@@ -1,13 +1,13 @@
 -- A world of one channel, and which steps of the abstract machine its steps are.
 use Rattle.std.specs.Prelude.{◌↔◌, ◌≡◌, List, [], ◌∷◌, ◌++◌, Bool, false, not, ◌&&◌, ◌==◌, Option, Some, None, is_none, if◌then◌else◌}
-use Rattle.ln_log.specs.Log.{Log, party_of, sign_fault, taken_fault}
+use Rattle.ln_log.specs.Log.{Log, sign_fault, taken_fault}
 use Rattle.ln_keys.specs.declared.role.Role.{Role}
 use Rattle.ln_keys.specs.declared.role.Role.TheVariants.{Funder, Fundee}
 use Rattle.ln_log.specs.declared.update.Update.TheVariants as update
 use Rattle.ln_log.specs.declared.opening.Opening.{Opening}
 use Rattle.ln_log.specs.declared.update.Update.{Update}
 use Rattle.ln_log.specs.Opening.{is_fit}
-use Rattle.ln_log.specs.Limits.{is_spent}
+use Rattle.ln_log.specs.Limits.{is_at_update_limit}
 use Rattle.ln_log.specs.Updates.{as_sent}
 use Rattle.ln_log.specs.Machine.{Machine, Party, party, held, MayPropose, MaySign, IsSettled, Move, Open, Propose, Sign, Accept, Learn, Headline}
 use Rattle.ln_world.specs.declared.message.Message.{Message}
@@ -22,7 +22,7 @@ use Rattle.ln_world.specs.declared.step.Act.TheVariants as act
 use Rattle.ln_world.specs.declared.step.Step.{Step}
 use Rattle.ln_world.specs.declared.step.Step.TheVariants as step
 use Rattle.ln_world.specs.declared.channel.Channel.{Channel}
-use Rattle.ln_world.specs.Ends.{EndState, Both, fresh_end, add_of, offer_fault, acts}
+use Rattle.ln_world.specs.Ends.{EndState, Both, open_party, fresh_end, add_of, offer_fault, acts}
 
 -- ---- its steps
 
@@ -73,7 +73,7 @@ run (s ∷ ss) c = run ss (happens s c)
 -- ---- the machine that a world stands for
 
 abbrev pub machine_of_channel : Channel → Machine
-machine_of_channel c = record { opening = c.funder.log.opening; funder = party_of c.funder.log; fundee = party_of c.fundee.log }
+machine_of_channel c = record { opening = c.funder.log.opening; funder = open_party c.funder.log; fundee = open_party c.fundee.log }
 
 abbrev pub machine_of : Option Channel → Option Machine
 machine_of None = None
@@ -124,7 +124,7 @@ SignsExactly (Some c) = (x : Role) → (sign_fault (end_of x c).log ≡ None) �
 
 -- the machine may propose it there, and the side has proposed fewer than 2^62 updates
 abbrev pub MayOffer : Opening → Role → Update → Party → Type 0
-MayOffer o x u p = MayPropose o x u p × (is_spent p.own ≡ false)
+MayOffer o x u p = MayPropose o x u p × (is_at_update_limit p.own ≡ false)
 
 -- a side is kept from offering an HTLC exactly where it may not
 abbrev pub OffersExactly : Option Channel → Type 0
@@ -147,8 +147,8 @@ NoneRefused (Some c) = (x : Role) → TakesFront (end_of x c).log (end_of x c).i
 pub record IsAtRest (c : Channel) : Type 0 where
   pub to_funder : c.funder.inbox ≡ []
   pub to_fundee : c.fundee.inbox ≡ []
-  pub funder : IsSettled (party_of c.funder.log)
-  pub fundee : IsSettled (party_of c.fundee.log)
+  pub funder : IsSettled (open_party c.funder.log)
+  pub fundee : IsSettled (open_party c.fundee.log)
 
 -- both sides then hold every update of either
 pub record HoldsAll (x y : Party) : Type 0 where
@@ -157,4 +157,4 @@ pub record HoldsAll (x y : Party) : Type 0 where
 
 abbrev pub Agrees : Option Channel → Type 0
 Agrees None = Unit {0}
-Agrees (Some c) = IsAtRest c → HoldsAll (party_of c.funder.log) (party_of c.fundee.log) × HoldsAll (party_of c.fundee.log) (party_of c.funder.log)
+Agrees (Some c) = IsAtRest c → HoldsAll (open_party c.funder.log) (open_party c.fundee.log) × HoldsAll (open_party c.fundee.log) (open_party c.funder.log)

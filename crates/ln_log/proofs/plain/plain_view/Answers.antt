@@ -16,7 +16,7 @@ htlcs_are all out both none funder fundee r s ea eb eo en er es =
     ∙ ap (λ hs. hs ++ map (htlc_of Fundee) (live_adds fundee funder)) (eo ∙ ap (λ x. none ++ map (htlc_of Funder) (live_adds funder x)) es ∙ ap (λ hs. hs ++ map (htlc_of Funder) (live_adds funder fundee)) en)
 
 pub overflow_add-result : goal.overflow_add-result
-overflow_add-result c = omega (arith, c.first_balance.type_inv, c.from-had.ensures, (c.sums_of-out.ensures.failed ∙ ap (total is_failed c.args.funder.now) c.in_ok-of_funder.ensures.ok), (c.sums_of-out.ensures.offered ∙ ap (total is_any c.args.funder.now) c.in_ok-of_funder.ensures.ok), c.sums_of-out.ensures.small, total_splits c.args.funder.now c.args.fundee.now)
+overflow_add-result c = omega (arith, c.first_balance.type_inv, c.from-had.ensures, (c.sums_of-out.ensures.failed ∙ ap (total is_failed c.args.funder.now) c.in_ok-of_funder.ensures.ok), (c.sums_of-out.ensures.offered ∙ ap (total is_any c.args.funder.now) c.in_ok-of_funder.ensures.ok), c.sums_of-out.ensures.offered_fits, total_splits c.args.funder.now c.args.fundee.now)
 
 pub overflow_add-result-2 : goal.overflow_add-result-2
 overflow_add-result-2 c =
@@ -26,16 +26,16 @@ overflow_add-result-2 c =
       c.from-had.ensures,
       (c.sums_of-out.ensures.failed ∙ ap (total is_failed c.args.funder.now) c.in_ok-of_funder.ensures.ok),
       (c.sums_of-out.ensures.offered ∙ ap (total is_any c.args.funder.now) c.in_ok-of_funder.ensures.ok),
-      c.sums_of-out.ensures.small,
+      c.sums_of-out.ensures.offered_fits,
       total_splits c.args.funder.now c.args.fundee.now,
       (c.sums_of-back.ensures.fulfilled ∙ ap (total is_fulfilled c.args.fundee.now) c.in_ok-of_fundee.ensures.ok),
       (c.sums_of-back.ensures.offered ∙ ap (total is_any c.args.fundee.now) c.in_ok-of_fundee.ensures.ok),
-      c.sums_of-back.ensures.small,
+      c.sums_of-back.ensures.offered_fits,
       total_splits c.args.fundee.now c.args.funder.now,
     )
 
 pub overflow_add-result-3 : goal.overflow_add-result-3
-overflow_add-result-3 c = omega (arith, c.first_balance-2.type_inv, c.from-got.ensures, (c.sums_of-back.ensures.failed ∙ ap (total is_failed c.args.fundee.now) c.in_ok-of_fundee.ensures.ok), (c.sums_of-back.ensures.offered ∙ ap (total is_any c.args.fundee.now) c.in_ok-of_fundee.ensures.ok), c.sums_of-back.ensures.small, total_splits c.args.fundee.now c.args.funder.now)
+overflow_add-result-3 c = omega (arith, c.first_balance-2.type_inv, c.from-got.ensures, (c.sums_of-back.ensures.failed ∙ ap (total is_failed c.args.fundee.now) c.in_ok-of_fundee.ensures.ok), (c.sums_of-back.ensures.offered ∙ ap (total is_any c.args.fundee.now) c.in_ok-of_fundee.ensures.ok), c.sums_of-back.ensures.offered_fits, total_splits c.args.fundee.now c.args.funder.now)
 
 pub overflow_add-result-4 : goal.overflow_add-result-4
 overflow_add-result-4 c =
@@ -45,11 +45,11 @@ overflow_add-result-4 c =
       c.from-got.ensures,
       (c.sums_of-back.ensures.failed ∙ ap (total is_failed c.args.fundee.now) c.in_ok-of_fundee.ensures.ok),
       (c.sums_of-back.ensures.offered ∙ ap (total is_any c.args.fundee.now) c.in_ok-of_fundee.ensures.ok),
-      c.sums_of-back.ensures.small,
+      c.sums_of-back.ensures.offered_fits,
       total_splits c.args.fundee.now c.args.funder.now,
       (c.sums_of-out.ensures.fulfilled ∙ ap (total is_fulfilled c.args.funder.now) c.in_ok-of_funder.ensures.ok),
       (c.sums_of-out.ensures.offered ∙ ap (total is_any c.args.funder.now) c.in_ok-of_funder.ensures.ok),
-      c.sums_of-out.ensures.small,
+      c.sums_of-out.ensures.offered_fits,
       total_splits c.args.funder.now c.args.fundee.now,
     )
 

@@ -1,5 +1,5 @@
 use Rattle.std.proofs.Common.{refl, sym, ap, ◌∙◌, subst}
-use Rattle.ln_log.specs.Log.{Log, proposed}
+use Rattle.ln_log.specs.Log.{Log, after_propose}
 use Rattle.ln_log.specs.Limits.{HasNextId}
 use Rattle.ln_dance.specs.Dance.{Dancer, with_log}
 use Rattle.ln_dance.proofs.Kept.{map_ok, either_way, kept_by}
@@ -13,4 +13,4 @@ invariant_of-self c = either_way c.propose.result (c.propose.ensures.ok _ refl) 
 
 pub returns-clause-ok : goal.returns-clause-ok
 returns-clause-ok c = λ d e.
-    map_ok c.propose.result (λ h. ap (λ (x : Log). record { channel = c.self.inside.channel; log = x; numbers = c.self.inside.numbers; peer = c.self.inside.peer; later = c.self.inside.later }) h ∙ ap (λ (x : Dancer). with_log (proposed c.args.update x.log) x) (c.self.view_is ∙ e)) (c.propose.ensures.ok _ refl)
+    map_ok c.propose.result (λ h. ap (λ (x : Log). record { channel = c.self.inside.channel; log = x; numbers = c.self.inside.numbers; peer = c.self.inside.peer; later = c.self.inside.later }) h ∙ ap (λ (x : Dancer). with_log (after_propose c.args.update x.log) x) (c.self.view_is ∙ e)) (c.propose.ensures.ok _ refl)

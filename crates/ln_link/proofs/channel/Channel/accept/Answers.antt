@@ -1,13 +1,13 @@
 use Rattle.std.proofs.Common.{refl, ap, sym, subst, arith, ◌≤◌, ◌+◌}
 use Rattle.ln_link.specs.Channel.{End, with_dance}
-use Rattle.ln_dance.specs.Dance.{Dancer, accepts_next}
+use Rattle.ln_dance.specs.Dance.{Dancer, after_accept}
 use Rattle.ln_link.proofs.Accepting.{keeps, on_ok}
 use Rattle.ln_link.proofs.channel.Channel.accept.Goals as goal
 
 pub invariant_of-self : goal.invariant_of-self
 invariant_of-self g c =
     let ordered = subst (λ (e : End). e.dance.log.current.own ≤ e.dance.log.acknowledged.own) (sym c.self.view_is) c.own_held.ensures.ordered in
-    record { events = keeps c.accept.result c.self.inside.dance c.accept.new.self (accepts_next c.self.inside.dance) c.self.inside.events (c.accept.ensures.ok _ refl) c.accept.ensures.err c.self.invariant.events (omega (arith, ordered)) }
+    record { events = keeps c.accept.result c.self.inside.dance c.accept.new.self (after_accept c.self.inside.dance) c.self.inside.events (c.accept.ensures.ok _ refl) c.accept.ensures.err c.self.invariant.events (omega (arith, ordered)) }
 
 pub returns-clause-few : goal.returns-clause-few
 returns-clause-few g c = rw (← c.self.view_is) (on_ok c.accept.result (λ s. subst (λ (d : Dancer). c.self.inside.events ≤ c.self.inside.dance.log.current.own + d.log.acknowledged.peer + 1) (sym s) c.self.invariant.events) (c.accept.ensures.ok _ refl))

@@ -1,13 +1,13 @@
 use Rattle.std.proofs.Common.{refl, ap, sym, subst, arith, ◌≤◌, ◌+◌}
 use Rattle.ln_link.specs.Channel.{End, with_dance}
-use Rattle.ln_dance.specs.Dance.{Dancer, learns}
+use Rattle.ln_dance.specs.Dance.{Dancer, after_learn}
 use Rattle.ln_link.proofs.Accepting.{keeps, on_ok}
 use Rattle.ln_link.proofs.channel.Channel.learn.Goals as goal
 
 pub invariant_of-self : goal.invariant_of-self
 invariant_of-self g c =
     let ordered = subst (λ (e : End). e.dance.log.acknowledged.peer ≤ e.dance.log.signed.peer) (sym c.self.view_is) c.peer_held.ensures.ordered in
-    record { events = keeps c.learn.result c.self.inside.dance c.learn.new.self (learns c.args.message.now c.self.inside.dance) c.self.inside.events (c.learn.ensures.ok _ refl) c.learn.ensures.err c.self.invariant.events (omega (arith, ordered)) }
+    record { events = keeps c.learn.result c.self.inside.dance c.learn.new.self (after_learn c.args.message.now c.self.inside.dance) c.self.inside.events (c.learn.ensures.ok _ refl) c.learn.ensures.err c.self.invariant.events (omega (arith, ordered)) }
 
 pub returns-clause-few : goal.returns-clause-few
 returns-clause-few g c = rw (← c.self.view_is) (on_ok c.learn.result (λ s. subst (λ (d : Dancer). c.self.inside.events ≤ d.log.current.own + c.self.inside.dance.log.acknowledged.peer + 1) (sym s) c.self.invariant.events) (c.learn.ensures.ok _ refl))

@@ -1,11 +1,11 @@
 use Rattle.std.proofs.Common.{refl, ap, arith}
-use Rattle.ln_dance.specs.Dance.{Dancer, signs, sign_fault}
+use Rattle.ln_dance.specs.Dance.{Dancer, after_sign, sign_fault}
 use Rattle.ln_link.specs.Channel.{End, with_dance}
 use Rattle.ln_link.proofs.Accepting.{keeps, on_ok, within}
 use Rattle.ln_link.proofs.channel.Channel.sign_next.Goals as goal
 
 pub invariant_of-self : goal.invariant_of-self
-invariant_of-self g c = record { events = keeps c.sign.result c.self.inside.dance c.sign.new.self (signs c.self.inside.dance) c.self.inside.events (c.sign.ensures.ok _ refl) c.sign.ensures.err c.self.invariant.events (omega arith) }
+invariant_of-self g c = record { events = keeps c.sign.result c.self.inside.dance c.sign.new.self (after_sign c.self.inside.dance) c.self.inside.events (c.sign.ensures.ok _ refl) c.sign.ensures.err c.self.invariant.events (omega arith) }
 
 pub returns-clause-state : goal.returns-clause-state
 returns-clause-state g c =
