@@ -12,8 +12,3 @@ pub use event::{ChannelEvent, How, event_of};
 pub use hook::{Call, Hook};
 pub use table::HookTable;
 pub use verdict::{FailureCode, Verdict};
-
-#[cfg(test)]
-mod hook_tests;
-#[cfg(test)]
-mod tests;

@@ -9,8 +9,6 @@ mod laws;
 mod memory;
 mod rule;
 mod seats;
-#[cfg(test)]
-mod tests;
 mod traits;
 mod waiting;
 mod waiting_rule;

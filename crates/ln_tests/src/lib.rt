@@ -13,11 +13,15 @@ mod dance;
 #[cfg(test)]
 mod forward;
 #[cfg(test)]
+mod hooks;
+#[cfg(test)]
 mod keys;
 #[cfg(test)]
 mod link;
 #[cfg(test)]
 mod log;
+#[cfg(test)]
+mod relay;
 #[cfg(test)]
 mod testing;
 #[cfg(test)]

@@ -4,15 +4,16 @@ use crate::code_of;
 use crate::testing::{OPENING, htlc};
 use ln_bytes::Bytes;
 use ln_log::{
-    Counts, Limits, Opening, Outcome, Pair, Role, Side, Update, UpdateLog, find_add, last_feerate,
-    live_count, outcome_of,
+    Counts, Limits, Opening, Outcome, Pair, Role, Side, Standing, Update, UpdateLog, View,
+    add_refusal, find_add, last_feerate, live_count, outcome_of, plain_view, removal_of,
+    update_refusal,
 };
 use ln_msgs::Refusal;
 use std::alloc::Global;
 
 /// An update in few words.
-#[derive(Clone, Copy, Debug)]
-enum What {
+#[derive(Clone, Copy)]
+pub enum What {
     /// Id, amount and expiry.
     Add(u64, u64, u32),
     /// Id, and the byte that the preimage repeats: 0 is right.
@@ -27,7 +28,7 @@ enum What {
 
 /// A step of one side: it proposes; it takes an update of the peer's; it signs, unless something keeps it from that; it
 /// takes the peer's revocation, or the peer's signature; it loses the connection.
-#[derive(Clone, Copy, Debug)]
+#[derive(Clone, Copy)]
 enum Step {
     Own(What),
     Peer(What),
@@ -63,7 +64,7 @@ fn malformed(id: u64, failure_code: u16) -> ln_log::Malformed {
     }
 }
 
-fn update(alloc: Global, what: What) -> Result<Update, Refusal> {
+pub fn update(alloc: Global, what: What) -> Result<Update, Refusal> {
     match what {
         Add(id, amount, expiry) => Ok(Update::Add(htlc(id, amount, expiry))),
         Fulfil(id, byte) => Ok(Update::Fulfil(fulfilment(id, byte))),
@@ -359,9 +360,12 @@ const CHEAP: Row = Row(16_000, 4000, 400, 0);
 
 const DEAR: Row = Row(16_000, 4000, 500, 0);
 
+fn row_of(view: &View) -> Row {
+    Row(view.funder, view.fundee, view.feerate, view.htlcs.len())
+}
+
 fn worth(log: &UpdateLog, alloc: Global, pair: Pair) -> Result<Row, Refusal> {
-    let view = log.view(alloc, pair)?;
-    Ok(Row(view.funder, view.fundee, view.feerate, view.htlcs.len()))
+    Ok(row_of(&log.view(alloc, pair)?))
 }
 
 /// The own commitment, the peer's, what would be signed and what would be accepted are worth these rows.
@@ -429,6 +433,38 @@ fn what_commitments_are_worth(rt: HostRuntime) {
                 (Accept, [START, START, START, START]),
             ],
         ),
+        // what failed is spent again
+        (
+            Role::Funder,
+            &[
+                (Own(Add(0, 5000, 400)), [START, START, OFFERED, START]),
+                (Sign, [START, START, OFFERED, START]),
+                (Learn, [START, OFFERED, OFFERED, OFFERED]),
+                (Accept, [OFFERED, OFFERED, OFFERED, OFFERED]),
+                (Peer(Fail(0, 3)), [OFFERED, OFFERED, OFFERED, START]),
+                (Accept, [START, OFFERED, START, START]),
+                (Sign, [START, OFFERED, START, START]),
+                (Learn, [START, START, START, START]),
+                (Own(Add(1, 5000, 400)), [START, START, OFFERED, START]),
+                (Sign, [START, START, OFFERED, START]),
+                (Learn, [START, OFFERED, OFFERED, OFFERED]),
+                (Accept, [OFFERED, OFFERED, OFFERED, OFFERED]),
+                (
+                    Peer(Malformed(1, 0xc005)),
+                    [OFFERED, OFFERED, OFFERED, START],
+                ),
+                (Accept, [START, OFFERED, START, START]),
+            ],
+        ),
+        (
+            Role::Fundee,
+            &[
+                (Peer(Fee(500)), [START, START, START, DEAR]),
+                (Accept, [DEAR, START, DEAR, DEAR]),
+                (Sign, [DEAR, START, DEAR, DEAR]),
+                (Learn, [DEAR, DEAR, DEAR, DEAR]),
+            ],
+        ),
         (
             Role::Funder,
             &[
@@ -439,6 +475,7 @@ fn what_commitments_are_worth(rt: HostRuntime) {
                 (Accept, [CHEAP, CHEAP, DEAR, CHEAP]),
                 (Sign, [CHEAP, CHEAP, DEAR, CHEAP]),
                 (Learn, [CHEAP, DEAR, DEAR, DEAR]),
+                (Accept, [DEAR, DEAR, DEAR, DEAR]),
             ],
         ),
         (
@@ -588,6 +625,141 @@ fn the_plain_programs(rt: HostRuntime) {
         told(rt.alloc(), &funder, &fundee),
         Ok((Outcome::Live, Outcome::Fulfilled, Some(3000), 1, 1, 280))
     );
+}
+
+/// What the plain program makes of an opening.
+fn opened(alloc: Global) -> Result<Row, Refusal> {
+    Ok(row_of(&plain_view(alloc, &OPENING, &[], &[])?))
+}
+
+/// Which HTLC an update removes, and what becomes of it.
+fn removal(alloc: Global, what: What) -> Result<Option<(u64, Outcome)>, Refusal> {
+    let update = update(alloc, what)?;
+    Ok(removal_of(&update).map(|removal| (removal.id, removal.outcome)))
+}
+
+#[test]
+fn an_opening_and_removals(rt: HostRuntime) {
+    assert_eq!(rt; opened(rt.alloc()), Ok(START));
+    for (what, want) in [
+        (Add(2, 5000, 400), None),
+        (Fulfil(3, 0), Some((3, Outcome::Fulfilled))),
+        (Fail(4, 0), Some((4, Outcome::Failed))),
+        (Malformed(5, 0xc005), Some((5, Outcome::Failed))),
+        (Fee(300), None),
+    ] {
+        assert_eq!(rt; removal(rt.alloc(), what), Ok(want));
+    }
+}
+
+const GREATEST: u64 = 18_446_744_073_709_551_615;
+
+// The first limit that would be broken counts, and sums may pass 64 bits.
+#[test]
+fn limits_of_an_add(rt: HostRuntime) {
+    let wide = Limits {
+        minimum: 0,
+        accepted: 483,
+        in_flight: GREATEST,
+        reserve: GREATEST,
+    };
+    for (limits, live, in_flight, balance, amount, expiry, code) in [
+        (OPENING.fundee, 1, 5000, 5000, 4000, 499_999_999, 0),
+        (OPENING.fundee, 2, 5001, 4999, 9, 500_000_000, 23),
+        (OPENING.fundee, 2, 5001, 4999, 4000, 500_000_000, 27),
+        (OPENING.fundee, 2, 5001, 4999, 4000, 400, 24),
+        (OPENING.fundee, 1, 5001, 4999, 4000, 400, 25),
+        (OPENING.fundee, 1, 5000, 4999, 4000, 400, 26),
+        (wide, GREATEST, GREATEST, GREATEST, 0, 400, 23),
+        (wide, GREATEST, GREATEST, GREATEST, 1, 400, 24),
+        (wide, 0, GREATEST, GREATEST, 1, 400, 25),
+        (wide, 0, 0, GREATEST, 1, 400, 26),
+    ] {
+        let standing = Standing {
+            next_id: 0,
+            live,
+            in_flight,
+            balance,
+        };
+        assert_eq!(rt;
+            code_of(add_refusal(&limits, &standing, &htlc(0, amount, expiry))),
+            code
+        );
+    }
+}
+
+const STANDING: Standing = Standing {
+    next_id: 1,
+    live: 1,
+    in_flight: 5000,
+    balance: 6000,
+};
+
+#[test]
+fn standings(rt: HostRuntime) {
+    let offer = Update::Add(ln_log::Add {
+        id: 1,
+        amount: 10,
+        hash: [0; 32],
+        expiry: 400,
+        onion: [0; 1366],
+        origin: None,
+    });
+    assert_eq!(rt;
+        STANDING.with_own(&offer, &[]).with_all(&[], &[]),
+        Standing {
+            next_id: 2,
+            live: 2,
+            in_flight: 5010,
+            balance: 5990
+        }
+    );
+}
+
+/// What the peer refuses a fulfilment by, behind these updates of the side that fulfils.
+fn peers_refusal(alloc: Global, own: &[What]) -> Result<Option<Refusal>, Refusal> {
+    let own = updates(alloc, own)?;
+    let held = updates(alloc, &[Add(0, 5000, 400)])?;
+    let fulfil = Update::Fulfil(fulfilment(0, 0));
+    Ok(update_refusal(
+        &OPENING.fundee,
+        &STANDING,
+        Role::Funder,
+        &own,
+        &held,
+        &fulfil,
+    ))
+}
+
+// A side fulfils what it holds, and once.
+#[test]
+fn refusals_of_the_peer(rt: HostRuntime) {
+    assert_eq!(rt; peers_refusal(rt.alloc(), &[]), Ok(None));
+    assert_eq!(rt;
+        peers_refusal(rt.alloc(), &[Fulfil(0, 0)]),
+        Ok(Some(Refusal::NoSuchHtlc))
+    );
+}
+
+/// Where an HTLC came from that is offered and signed.
+fn origin_kept(alloc: Global, origin: ([u8; 32], u64)) -> Option<([u8; 32], u64)> {
+    let mut log = UpdateLog::new(alloc, Role::Funder, OPENING);
+    let mut add = htlc(0, 5000, 400);
+    add.origin = Some(origin);
+    if log.propose(Update::Add(add)).is_err() {
+        return None;
+    }
+    log.signed();
+    match log.update(Side::Own, 0) {
+        Some(Update::Add(add)) => add.origin,
+        _ => None,
+    }
+}
+
+#[test]
+fn where_a_forward_came_from(rt: HostRuntime) {
+    let origin = ([9; 32], 17);
+    assert_eq!(rt; origin_kept(rt.alloc(), origin), Some(origin));
 }
 
 /// Offers an HTLC, takes one, and asks what they are worth: the first refusal, and whether what was refused has changed

@@ -2,34 +2,34 @@
 
 ghost use Rattle.std.specs.Prelude.{◌≡◌, ◌≤◌};
 
-use crate::{
+use ln_relay::{
     Finished, MemoryRecv, MemorySend, Receives, Sends, WaitRecv, WaitSend, Waits, finish,
     finish_waiting, relay, waiting_relay,
 };
+use std::alloc::AllocError;
 use std::sync::Wait;
 use std::sync::atomic::{AtomicU64, Ordering};
-use std::test::*;
 use std::thread;
 use std::thread::Threads;
 
-// How often a thread tries again, until it gives up.
+/// How often a thread tries again, until it gives up.
 const TURNS: u64 = 100_000_000;
 
-// Sends 1, 2 and 3.
+/// Sends 1, 2 and 3.
 fn put_three<S: Sends<u32>, R: Wait>(rt: &R, seat: &mut S) -> [Result<(), u32>; 3]
     ensures place_stays { S.place seat.new ≡ S.place seat.old }
 {
     [seat.send(rt, 1), seat.send(rt, 2), seat.send(rt, 3)]
 }
 
-// Receives three times.
+/// Receives three times.
 fn take_three<S: Receives<u32>, R: Wait>(rt: &R, seat: &mut S) -> [Option<u32>; 3]
     ensures place_stays { S.place seat.new ≡ S.place seat.old }
 {
     [seat.recv(rt), seat.recv(rt), seat.recv(rt)]
 }
 
-// Sends an item, and tries again where the relay is full.
+/// Sends an item, and tries again where the relay is full.
 fn put_one<S: Sends<u32>, R: Wait>(rt: &R, seat: &mut S, item: u32)
     ensures place_stays { S.place seat.new ≡ S.place seat.old }
 {
@@ -41,7 +41,7 @@ fn put_one<S: Sends<u32>, R: Wait>(rt: &R, seat: &mut S, item: u32)
     }
 }
 
-// Sends 10,000 numbers from `from` on.
+/// Sends 10,000 numbers from `from` on.
 fn put_all<S: Sends<u32>, R: Wait>(rt: &R, mut seat: S, from: u32) -> S
     requires within { from ≤ 100000 }
     ensures place_stays { S.place result ≡ S.place seat }
@@ -52,7 +52,7 @@ fn put_all<S: Sends<u32>, R: Wait>(rt: &R, mut seat: S, from: u32) -> S
     seat
 }
 
-// Receives an item, and tries again where the relay is empty.
+/// Receives an item, and tries again where the relay is empty.
 fn take_one<S: Receives<u32>, R: Wait>(rt: &R, seat: &mut S) -> Option<u32>
     ensures place_stays { S.place seat.new ≡ S.place seat.old }
 {
@@ -65,7 +65,7 @@ fn take_one<S: Receives<u32>, R: Wait>(rt: &R, seat: &mut S) -> Option<u32>
     None
 }
 
-// Which item of each sender comes next, and whether all came in order so far.
+/// Which item of each sender comes next, and whether all came in order so far.
 #[derive(Clone, Copy, Debug, PartialEq, Eq)]
 struct Order {
     first: u32,
@@ -85,7 +85,7 @@ impl Order {
     }
 }
 
-// Receives 20,000 items.
+/// Receives 20,000 items.
 fn take_all<S: Receives<u32>, R: Wait>(rt: &R, mut seat: S) -> (S, Order)
     ensures place_stays { S.place result.0 ≡ S.place seat }
 {
@@ -103,7 +103,7 @@ fn take_all<S: Receives<u32>, R: Wait>(rt: &R, mut seat: S) -> (S, Order)
     (seat, order)
 }
 
-// What 20,000 items come to that are a merge of what two senders have put.
+/// What 20,000 items come to that are a merge of what two senders have put.
 const MERGED: Order = Order {
     first: 10_000,
     second: 110_000,
@@ -123,7 +123,7 @@ const TWO: Finished = Finished {
 };
 
 #[test]
-fn small_relay_hands_over(rt: HostRuntime) -> Result<(), Fail> {
+fn small_relay_hands_over(rt: HostRuntime) -> Result<(), AllocError> {
     let (mut first, second, mut receiver) = relay(rt.alloc(), 2)?;
     assert_eq!(rt; put_three(&rt, &mut first), [Ok(()), Ok(()), Err(3)]);
     assert_eq!(rt; take_three(&rt, &mut receiver), [Some(1), Some(2), None]);
@@ -132,7 +132,7 @@ fn small_relay_hands_over(rt: HostRuntime) -> Result<(), Fail> {
 }
 
 #[test]
-fn small_waiting_relay_hands_over(rt: HostRuntime) -> Result<(), Fail> {
+fn small_waiting_relay_hands_over(rt: HostRuntime) -> Result<(), AllocError> {
     let (mut first, second, mut receiver) = waiting_relay(rt.alloc(), 2)?;
     assert_eq!(rt; put_three(&rt, &mut first), [Ok(()), Ok(()), Err(3)]);
     assert_eq!(rt; take_three(&rt, &mut receiver), [Some(1), Some(2), None]);
@@ -141,7 +141,7 @@ fn small_waiting_relay_hands_over(rt: HostRuntime) -> Result<(), Fail> {
 }
 
 #[test]
-fn small_seats_of_no_relay(rt: HostRuntime) -> Result<(), Fail> {
+fn small_seats_of_no_relay(rt: HostRuntime) -> Result<(), AllocError> {
     let mut sender = MemorySend::new(rt.alloc(), 2)?;
     assert_eq!(rt; put_three(&rt, &mut sender), [Ok(()), Ok(()), Err(3)]);
     let mut receiver = MemoryRecv::new(sender.into_items());
@@ -150,7 +150,7 @@ fn small_seats_of_no_relay(rt: HostRuntime) -> Result<(), Fail> {
     Ok(())
 }
 
-// Two threads send and one receives, until all have ended: the seats, and what the receiver saw.
+/// Two threads send and one receives, until all have ended: the seats, and what the receiver saw.
 fn hand_over<S: Sends<u32> + Send + Drop, D: Receives<u32> + Send + Drop, R: Threads + Wait + Sync>(
     rt: &R,
     first: S,
@@ -185,7 +185,7 @@ fn hand_over<S: Sends<u32> + Send + Drop, D: Receives<u32> + Send + Drop, R: Thr
 }
 
 #[test]
-fn threads_hand_over_in_order(rt: HostRuntime) -> Result<(), Fail> {
+fn threads_hand_over_in_order(rt: HostRuntime) -> Result<(), AllocError> {
     let (first, second, receiver) = relay(rt.alloc(), 8)?;
     let ((first, second, receiver), order) = hand_over(&rt, first, second, receiver);
     assert_eq!(rt; order, MERGED);
@@ -194,7 +194,7 @@ fn threads_hand_over_in_order(rt: HostRuntime) -> Result<(), Fail> {
 }
 
 #[test]
-fn threads_hand_over_in_order_where_one_may_wait(rt: HostRuntime) -> Result<(), Fail> {
+fn threads_hand_over_in_order_where_one_may_wait(rt: HostRuntime) -> Result<(), AllocError> {
     let (first, second, receiver) = waiting_relay(rt.alloc(), 8)?;
     let ((first, second, receiver), order) = hand_over(&rt, first, second, receiver);
     assert_eq!(rt; order, MERGED);
@@ -202,13 +202,13 @@ fn threads_hand_over_in_order_where_one_may_wait(rt: HostRuntime) -> Result<(), 
     Ok(())
 }
 
-// Sets the flag, and takes one item.
+/// Sets the flag, and takes one item.
 fn wait_for_one<R: Wait>(rt: &R, flag: &AtomicU64, mut seat: WaitRecv<u32>) -> Option<u32> {
     flag.store(1, Ordering::SeqCst);
     seat.recv_wait(rt)
 }
 
-// Sends 1, a thousand turns after it saw the flag.
+/// Sends 1, a thousand turns after it saw the flag.
 fn send_late<R: Wait>(rt: &R, flag: &AtomicU64, mut seat: WaitSend<u32>) -> bool {
     for _ in 0..TURNS {
         if flag.load(Ordering::SeqCst) == 1 {
@@ -223,7 +223,7 @@ fn send_late<R: Wait>(rt: &R, flag: &AtomicU64, mut seat: WaitSend<u32>) -> bool
 }
 
 #[test]
-fn recv_wait_waits(rt: HostRuntime) -> Result<(), Fail> {
+fn recv_wait_waits(rt: HostRuntime) -> Result<(), AllocError> {
     let (first, second, receiver) = waiting_relay(rt.alloc(), 1)?;
     let flag = AtomicU64::new(0);
     let (got, sent) = thread::join(

@@ -1,0 +1,178 @@
+//! Events of a channel end, and closures that are told of them.
+
+use crate::log::{What, update};
+use What::{Add, Fail as Failed, Fee, Fulfil, Malformed};
+use ln_hooks::{Call, ChannelEvent, FailureCode, Hook, HookTable, How, Msat, Verdict, event_of};
+use ln_msgs::Refusal;
+use std::alloc::{AllocError, Global};
+use std::sync::Arc;
+use std::sync::atomic::{AtomicU64, Ordering};
+use std::test::Fail;
+use std::thread;
+
+/// Whose HTLC it was, its id, its amount or the first byte or the length of what it was removed by, and its expiry or
+/// failure code.
+type Told = (bool, u64, u64, u32);
+
+fn told(event: &ChannelEvent) -> Told {
+    match event {
+        ChannelEvent::Added {
+            own,
+            id,
+            amount,
+            expiry,
+            ..
+        } => (*own, *id, amount.value(), *expiry),
+        ChannelEvent::Settled { own, id, how } => {
+            let (by, code) = match how {
+                How::Fulfilled(preimage) => (u64::from(preimage[0]), 0),
+                How::Failed(reason) => (reason.len() as u64, 1),
+                How::Malformed(hash, code) => (u64::from(hash[0]), u32::from(*code)),
+            };
+            (*own, *id, by, code)
+        }
+        ChannelEvent::Closed(fee) => (false, 0, *fee, 0),
+    }
+}
+
+/// What is told of an update of this side's or of the peer's.
+fn event_told(alloc: Global, own: bool, what: What) -> Result<Option<Told>, Refusal> {
+    let update = update(alloc, what)?;
+    Ok(
+        event_of(alloc, own, &update)?
+            .as_ref()
+            .map(|event| told(event)),
+    )
+}
+
+// An add is of the side that offers it, and a removal of the other side's HTLC. No channel holds what passes the bound.
+#[test]
+fn small_events(rt: HostRuntime) -> Result<(), Refusal> {
+    for (own, what, want) in [
+        (true, Add(3, 5000, 400), Some((true, 3, 5000, 400))),
+        (
+            false,
+            Add(3, Msat::MAX, 400),
+            Some((false, 3, Msat::MAX, 400)),
+        ),
+        (true, Add(3, Msat::MAX + 1, 400), None),
+        (true, Fulfil(4, 5), Some((false, 4, 5, 0))),
+        (false, Failed(2, 3), Some((true, 2, 3, 1))),
+        (true, Malformed(6, 0xc005), Some((false, 6, 5, 0xc005))),
+        (true, Fee(253), None),
+    ] {
+        assert_eq!(rt; event_told(rt.alloc(), own, what)?, want);
+    }
+    Ok(())
+}
+
+const UNKNOWN: Verdict = Verdict::Fail(FailureCode::IncorrectOrUnknownPaymentDetails);
+
+const TEMPORARY: Verdict = Verdict::Fail(FailureCode::TemporaryChannelFailure);
+
+/// An added HTLC of so much, and a close where there can't be so much.
+fn add_of(amount: u64) -> ChannelEvent {
+    match Msat::new(amount) {
+        Some(amount) => ChannelEvent::Added {
+            own: false,
+            id: 0,
+            amount,
+            hash: [7; 32],
+            expiry: 400,
+            onion: [9; 1366],
+        },
+        None => ChannelEvent::Closed(0),
+    }
+}
+
+/// A large HTLC and a small one.
+fn two_adds(alloc: Global) -> Result<Vec<ChannelEvent>, AllocError> {
+    let mut events = Vec::with_capacity(alloc, 2)?;
+    events.push_reserved(add_of(Msat::MAX));
+    events.push_reserved(add_of(1000));
+    Ok(events)
+}
+
+/// Counts on the bound of an amount: eight times as much is within 64 bits.
+fn is_large(event: &ChannelEvent) -> bool {
+    matches!(event, ChannelEvent::Added { amount, .. } if amount.value() * 8 > 8000)
+}
+
+/// A hook that writes its digit behind those that stand there, and then answers so to all, or to what is large alone.
+fn hook(
+    alloc: Global,
+    digits: &Arc<AtomicU64>,
+    digit: u64,
+    to_all: bool,
+    answer: Verdict,
+) -> Result<Hook, AllocError> {
+    let digits = Arc::try_clone(digits)?;
+    let call: Call = Box::new(alloc, move |event: &ChannelEvent| {
+        let before = digits.load(Ordering::SeqCst);
+        digits.store(
+            before.wrapping_mul(10).wrapping_add(digit),
+            Ordering::SeqCst,
+        );
+        if to_all || is_large(event) {
+            answer
+        } else {
+            Verdict::Continue
+        }
+    })?;
+    Ok(Hook::new(call))
+}
+
+fn put(table: &mut HookTable, hook: Hook) -> Result<(), Refusal> {
+    match table.register(hook) {
+        Ok(()) => Ok(()),
+        Err((_hook, refusal)) => Err(refusal),
+    }
+}
+
+/// The first and the second hook fail what is large, the third one fails all.
+fn three_hooks(alloc: Global, digits: &Arc<AtomicU64>) -> Result<HookTable, Refusal> {
+    let mut table = HookTable::new(alloc);
+    put(&mut table, hook(alloc, digits, 1, false, UNKNOWN)?)?;
+    put(&mut table, hook(alloc, digits, 2, false, TEMPORARY)?)?;
+    put(&mut table, hook(alloc, digits, 3, true, TEMPORARY)?)?;
+    Ok(table)
+}
+
+// The first fail is the answer, and all are called in order of registration.
+#[test]
+fn small_hooks(rt: HostRuntime) -> Result<(), Refusal> {
+    let digits = Arc::new(rt.alloc(), AtomicU64::new(0))?;
+    let mut table = three_hooks(rt.alloc(), &digits)?;
+    assert_eq!(rt; table.call(&add_of(Msat::MAX)), UNKNOWN);
+    assert_eq!(rt; table.call(&add_of(1000)), TEMPORARY);
+    assert_eq!(rt; digits.load(Ordering::SeqCst), 123_123);
+    let events = two_adds(rt.alloc())?;
+    let verdicts = table.call_run(&events)?;
+    assert_eq!(rt; verdicts.as_slice(), [UNKNOWN, TEMPORARY].as_slice());
+    assert_eq!(rt; digits.load(Ordering::SeqCst), 123_123_123_123);
+    Ok(())
+}
+
+#[test]
+fn a_table_moves_into_a_thread(rt: HostRuntime) -> Result<(), Fail> {
+    let digits = Arc::new(rt.alloc(), AtomicU64::new(0))?;
+    let mut table = three_hooks(rt.alloc(), &digits)?;
+    let thread = thread::spawn(&rt, move || table.call(&ChannelEvent::Closed(300)))?;
+    assert_eq!(rt; thread.join(&rt), TEMPORARY);
+    Ok(())
+}
+
+#[test]
+fn failure_codes(rt: HostRuntime) {
+    for number in [
+        0x1007, 0x400a, 0x100b, 0x100c, 0x100d, 0x100e, 0x400f, 0x0012, 0x0013, 0x0015, 0x4016,
+    ] {
+        assert_eq!(rt;
+            FailureCode::new(number).map(|code| code.number()),
+            Some(number)
+        );
+    }
+    for number in [0, 0x1008, 0x2002, 0xc004, 0xc005, 0xc006] {
+        assert!(rt; FailureCode::new(number).is_none());
+    }
+}
