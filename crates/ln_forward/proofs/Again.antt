@@ -1,5 +1,6 @@
 -- What a hop's values spell is read again.
-use Rattle.std.proofs.Common.{sym, ◌∙◌, ◌≢◌, Err, ◌≡◌, ℕ, false, List, ◌++◌, length, take, drop, Option, Some, None, Ok, nat_lt, refl, subst, arith}
+use Rattle.std.proofs.Common.{sym, ◌∙◌, ◌≢◌, Err, ◌≡◌, ℕ, false, List, ◌++◌, length, take, drop, Option, Some, None, Ok}
+use Rattle.std.proofs.Common.{nat_lt, refl, subst, arith}
 use Rattle.std.proofs.lemmas.Bool.{le-ltb}
 use Rattle.std.proofs.lemmas.List.{length-append}
 use Rattle.std.proofs.Math.Seq.{take-append_seam, drop-append_seam}
@@ -11,7 +12,8 @@ use Rattle.ln_bytes.proofs.Zeros.{is_again}
 use Rattle.ln_bytes.proofs.Reading.{ok_is}
 use Rattle.ln_bytes.proofs.Streams.{stream_again}
 use Rattle.ln_forward.specs.declared.payload.Payment.{Payment}
-use Rattle.ln_forward.specs.Payload.{Hop, HasHop, SpellsHop, known, payload_at, SpellsNumber, SpellsId, SpellsPayment, number_in, short_id_in, payment_in, hop_in}
+use Rattle.ln_forward.specs.Payload.{Hop, HasHop, SpellsHop, known, payload_at, SpellsNumber, SpellsId, SpellsPayment}
+use Rattle.ln_forward.specs.Payload.{number_in, short_id_in, payment_in, hop_in}
 
 amount_again : (n : Option ℕ) (value : Option (List ℕ)) → SpellsNumber 64 n value → number_in 8 value ≡ Ok n
 amount_again None value k = rw k.0 refl
@@ -29,9 +31,12 @@ payment_again : (p : Option Payment) (value : Option (List ℕ)) → SpellsPayme
 payment_again None value k = rw k.0 refl
 payment_again (Some p) value k =
     let t = truncated p.total in
-    let long : nat_lt (length (p.secret ++ t)) 32 ≡ false = le-ltb _ _ (let h = length-append p.secret t in omega (arith, h, k.1.0)) in
-    let front : take 32 (p.secret ++ t) ≡ p.secret = subst (λ (n : ℕ). take n (p.secret ++ t) ≡ p.secret) k.1.0 (take-append_seam p.secret t) in
-    let behind : drop 32 (p.secret ++ t) ≡ t = subst (λ (n : ℕ). drop n (p.secret ++ t) ≡ t) k.1.0 (drop-append_seam p.secret t) in
+    let long : nat_lt (length (p.secret ++ t)) 32 ≡ false =
+    le-ltb _ _ (let h = length-append p.secret t in omega (arith, h, k.1.0)) in
+    let front : take 32 (p.secret ++ t) ≡ p.secret = subst (λ (n : ℕ). take n (p.secret ++ t) ≡ p.secret) k.1.0
+    (take-append_seam p.secret t) in
+    let behind : drop 32 (p.secret ++ t) ≡ t = subst (λ (n : ℕ). drop n (p.secret ++ t) ≡ t) k.1.0
+    (drop-append_seam p.secret t) in
     rw k.0 (rw long (rw behind (rw (is_again 8 p.total (omega arith) k.1.1) (rw front refl))))
 
 pub hop_again : (h : Hop) (rs : List Record) → HasHop h rs → hop_in rs ≡ Ok h

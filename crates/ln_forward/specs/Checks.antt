@@ -1,6 +1,7 @@
 -- Whether a payment is forwarded, or taken by the final node (BOLT 4, "Accepting and Forwarding a Payment";
 -- BOLT 7, "HTLC Fees"): ordered conditions, of which the first that fits names the failure.
-use Rattle.std.specs.Prelude.{ℕ, ◌+◌, ◌*◌, ◌/◌, Option, Some, None, is_none, Result, Ok, Err, Bool, false, not, ◌&&◌, ◌||◌, ◌==◌, nat_lt, nat_le, nat_eq, if◌then◌else◌}
+use Rattle.std.specs.Prelude.{ℕ, ◌+◌, ◌*◌, ◌/◌, Option, Some, None, is_none, Result, Ok, Err, Bool, false, not, ◌&&◌}
+use Rattle.std.specs.Prelude.{◌||◌, ◌==◌, nat_lt, nat_le, nat_eq, if◌then◌else◌}
 use Rattle.std.specs.Cmp.Lexicographic.{pointwise}
 use Rattle.ln_forward.specs.declared.failure.Failure.{Failure}
 use Rattle.ln_forward.specs.declared.failure.Failure.TheVariants as failure
@@ -40,7 +41,8 @@ forward_by i p height amount expiry (Some r) =
 abbrev pub forward_at : Incoming → Payload → Option Route → Policy → ℕ → Option ℕ → Option ℕ → Option Failure
 forward_at i l r p height None expiry = missing 2
 forward_at i l r p height (Some amount) None = missing 4
-forward_at i l r p height (Some amount) (Some expiry) = if is_none l.next then missing 6 else forward_by i p height amount expiry r
+forward_at i l r p height (Some amount) (Some expiry) =
+    if is_none l.next then missing 6 else forward_by i p height amount expiry r
 
 abbrev pub forward_fault : Incoming → Payload → Option Route → Policy → ℕ → Option Failure
 forward_fault i l r p height = forward_at i l r p height l.amount l.expiry
@@ -51,7 +53,8 @@ forward_fault i l r p height = forward_at i l r p height l.amount l.expiry
 abbrev pub pays_for : Incoming → ℕ → ℕ → Option Payment → Expected → Bool
 pays_for i amount height None e = false
 pays_for i amount height (Some p) e =
-    pointwise nat_eq p.secret e.secret && (p.total == amount) && nat_le e.amount i.amount && nat_le i.amount (2 * e.amount) && nat_lt (height + 3) i.expiry
+    pointwise nat_eq p.secret e.secret && (p.total == amount) && nat_le e.amount i.amount
+    && nat_le i.amount (2 * e.amount) && nat_lt (height + 3) i.expiry
 
 abbrev pub pays : Incoming → ℕ → Option Payment → Option Expected → ℕ → Bool
 pays i amount payment None height = false

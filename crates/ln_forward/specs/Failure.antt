@@ -3,7 +3,12 @@ use Rattle.std.specs.Prelude.{ℕ, List, [], ◌++◌}
 use Rattle.ln_bytes.specs.Endian.{big_bytes}
 use Rattle.ln_bytes.specs.Bigsize.{bigsize}
 use Rattle.ln_forward.specs.declared.failure.Failure.{Failure}
-use Rattle.ln_forward.specs.declared.failure.Failure.TheVariants.{TemporaryChannelFailure, UnknownNextPeer, AmountBelowMinimum, FeeInsufficient, IncorrectCltvExpiry, ExpiryTooSoon, IncorrectOrUnknownPaymentDetails, FinalIncorrectCltvExpiry, FinalIncorrectHtlcAmount, ExpiryTooFar, InvalidOnionPayload}
+use Rattle.ln_forward.specs.declared.failure.Failure.TheVariants.{TemporaryChannelFailure, UnknownNextPeer}
+use Rattle.ln_forward.specs.declared.failure.Failure.TheVariants.{AmountBelowMinimum, FeeInsufficient}
+use Rattle.ln_forward.specs.declared.failure.Failure.TheVariants.{IncorrectCltvExpiry, ExpiryTooSoon}
+use Rattle.ln_forward.specs.declared.failure.Failure.TheVariants.{IncorrectOrUnknownPaymentDetails}
+use Rattle.ln_forward.specs.declared.failure.Failure.TheVariants.{FinalIncorrectCltvExpiry, FinalIncorrectHtlcAmount}
+use Rattle.ln_forward.specs.declared.failure.Failure.TheVariants.{ExpiryTooFar, InvalidOnionPayload}
 
 -- PERM is 0x4000 = 16384, UPDATE is 0x1000 = 4096
 abbrev pub failure_code : Failure → ℕ

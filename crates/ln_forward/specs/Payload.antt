@@ -1,5 +1,6 @@
 -- What the payload of a hop asks for (BOLT 4, "payload Format").
-use Rattle.std.specs.Prelude.{◌≡◌, ℕ, ◌<◌, ◌^◌, List, [], ◌∷◌, ◌++◌, length, take, drop, Option, Some, None, option_map, IfSome, Result, Ok, Err, ◌==◌, nat_lt, if◌then◌else◌}
+use Rattle.std.specs.Prelude.{◌≡◌, ℕ, ◌<◌, ◌^◌, List, [], ◌∷◌, ◌++◌, length, take, drop, Option, Some, None, option_map}
+use Rattle.std.specs.Prelude.{IfSome, Result, Ok, Err, ◌==◌, nat_lt, if◌then◌else◌}
 use Rattle.ln_bytes.specs.Reading.{◌>>=◌}
 use Rattle.ln_bytes.specs.ShortId.{short_id_bytes}
 use Rattle.ln_bytes.specs.Tlv.{Spells, stream_at, value_of}
@@ -42,7 +43,8 @@ SpellsId id value = (value ≡ id) × IfSome id (λ bytes. length bytes ≡ 8)
 
 -- a secret of 32 bytes, and a number below 2 ^ 64
 abbrev pub SpellsPayment : Option Payment → Option (List ℕ) → Type 0
-SpellsPayment p value = (value ≡ option_map payment_bytes p) × IfSome p (λ p. (length p.secret ≡ 32) × (p.total < 2 ^ 64))
+SpellsPayment p value = (value ≡ option_map payment_bytes p)
+    × IfSome p (λ p. (length p.secret ≡ 32) × (p.total < 2 ^ 64))
 
 -- the known records have the values of the hop; of others there may be any
 pub record HasHop (h : Hop) (rs : List Record) : Type 0 where

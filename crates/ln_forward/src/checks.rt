@@ -82,7 +82,8 @@ pub fn check_forward(
     policy: &Policy,
     height: u32,
 ) -> Result<(), Failure>
-    ensures { result ≡ answer_of (forward_fault incoming.now payload.now (option_copied route.entry) policy.now height) }
+    ensures { result ≡ answer_of (forward_fault incoming.now payload.now
+        (option_copied route.entry) policy.now height) }
 {
     let Some(amount) = payload.amount else {
         return Err(Failure::InvalidOnionPayload(2));

@@ -3,7 +3,8 @@
 ghost use Rattle.std.specs.Prelude.{◌≡◌, ◌≢◌, ℕ, List, IfOk, Ok, Err, option_map};
 ghost use Rattle.ln_bytes.specs.Reading.{Gives};
 ghost use Rattle.ln_bytes.specs.declared.fault.Fault.{Fault};
-ghost use Rattle.ln_forward.specs.Payload.{Hop, HasHop, SpellsHop, SpellsNumber, SpellsId, SpellsPayment, id_bytes, hop_of, hop_in, payload_at, number_in, short_id_in, payment_in};
+ghost use Rattle.ln_forward.specs.Payload.{Hop, HasHop, SpellsHop, SpellsNumber, SpellsId, SpellsPayment, id_bytes};
+ghost use Rattle.ln_forward.specs.Payload.{hop_of, hop_in, payload_at, number_in, short_id_in, payment_in};
 
 use ln_bytes::{Fault, Record, ShortId, read_tlvs, read_tu32, read_tu64, value_of};
 use std::alloc::Global;
@@ -122,5 +123,6 @@ fn payment_in(value: Option<&[u8]>) -> Result<Option<Payment>, Fault>
 /// Bytes are one payload at most, and no payload is refused.
 pub fn one_payload()
     ensures one_payload { (g h : Hop) (bytes : List ℕ) → SpellsHop g bytes → SpellsHop h bytes → g ≡ h }
-    ensures refuses_no_spelling { (h : Hop) (f : Fault) (bytes : List ℕ) → SpellsHop h bytes → payload_at bytes ≢ Err f }
+    ensures refuses_no_spelling { (h : Hop) (f : Fault) (bytes : List ℕ) → SpellsHop h bytes
+        → payload_at bytes ≢ Err f }
 {}
