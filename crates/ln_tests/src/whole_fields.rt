@@ -260,7 +260,10 @@ fn a_write_that_takes_nothing(rt: HostRuntime) {
     let ping = [0, 6, 0, 18, 0, 2, 0, 0];
     let mut reader = Counted::new(ping.as_slice());
     let mut writer = Counted::new(Full);
-    assert_eq!(rt; answer_pings(rt.alloc(), &mut reader, &mut writer), Err(Fault::Io));
+    assert_eq!(rt;
+        answer_pings(rt.alloc(), &mut reader, &mut writer),
+        Err(Fault::Io)
+    );
     assert_eq!(rt; reader.failures(), 0);
     assert_eq!(rt; writer.failures(), 1);
 }
