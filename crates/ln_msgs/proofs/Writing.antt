@@ -10,10 +10,11 @@ use Rattle.ln_bytes.specs.declared.fault.Fault.TheVariants.{TooLong, Memory}
 use Rattle.ln_bytes.specs.declared.record.Record.{Record}
 use Rattle.ln_msgs.specs.declared.messages.item.Item.{Item}
 use Rattle.ln_msgs.specs.Codec.Field.{AreOf, fields_bytes}
-use Rattle.ln_msgs.specs.Messages.Items.{kind_of, value_of, item_bytes, items_bytes, AreItemsOf, AreItemsBy, AreProper}
+use Rattle.ln_msgs.specs.Messages.Items.{kind_of, value_of, item_bytes, items_bytes, AreItemsOf, AreItemsBy}
 use Rattle.ln_msgs.specs.Messages.Table.{Form, kinds_of, form_of}
 use Rattle.ln_msgs.specs.Messages.Message.{Wire, wire_bytes, formed_bytes, Known, Says}
-use Rattle.ln_msgs.specs.Codec.Writing.{MayFollowForm, CanBeWritten, AreOfForm, IsWritten, parts_bytes}
+use Rattle.ln_msgs.specs.Codec.Writing.{MayFollowForm, CanBeWritten}
+use Rattle.ln_msgs.specs.Codec.Steps.{AreProper, AreOfForm, IsWritten, parts_bytes}
 use Rattle.ln_msgs.proofs.Sums.{flat_fits}
 
 pub item_below : (is : List Item) (i : ℕ) (d : Item) → i < length is → length (items_bytes is) ≤ 65535 → length (item_bytes (get_or is i d)) ≤ 65535
@@ -55,12 +56,12 @@ is_written_as : (r : Result (Vec ℕ) Fault) (form : Form) (w : Wire) (typ : ℕ
 is_written_as (Ok v) form w typ fs rs below are is typ_is records_are ok long err =
     let parts = parts_are form w typ fs rs are is typ_is records_are in
     let proper : AreOfForm (Some form) w = (omega (arith, typ_is), fields_are_of form w fs are ok.3) in
-    record { is = (ok.0 ∙ parts, ok.1, subst AreFit (sym records_are) ok.2, subst (λ f. AreOfForm f w) (sym is) proper) }
+    record { answer = (ok.0 ∙ parts, ok.1, subst AreFit (sym records_are) ok.2, subst (λ f. AreOfForm f w) (sym is) proper) }
 is_written_as (Err f) form w typ fs rs below are is typ_is records_are ok long err =
     let parts = parts_are form w typ fs rs are is typ_is records_are in
     elim err [
-      | inl e ↦ record { is = inl (e, subst (λ l. 65535 < length l) parts (long.0 (ap Err e))) }
-      | inr e ↦ record { is = inr (e, short_enough (Err f) (wire_bytes w) (ap Err e) (λ more. long.1 (subst (λ l. 65535 < length l) (sym parts) more))) }
+      | inl e ↦ record { answer = inl (e, subst (λ l. 65535 < length l) parts (long.0 (ap Err e))) }
+      | inr e ↦ record { answer = inr (e, short_enough (Err f) (wire_bytes w) (ap Err e) (λ more. long.1 (subst (λ l. 65535 < length l) (sym parts) more))) }
     ]
 
 pub is_written_by : (form : Option Form) (r : Result (Vec ℕ) Fault) (w : Wire) (typ : ℕ) (fs : List Item) (rs : List Record) → form_of w.typ ≡ form → typ < 65536 → AreItemsBy form w fs → w.typ ≡ typ → w.records ≡ rs
@@ -74,5 +75,5 @@ says_some (Some form) w bytes is may are fit short e =
     (short, (form, is, record { typ = are.0; values = are.1; valid = may.valid; fit = fit; lengths = may.lengths }, e ∙ ap (λ f. formed_bytes f w) is))
 
 pub says_it : (r : Result (Vec ℕ) Fault) (w : Wire) → CanBeWritten w → IsWritten r w → IfOk r (λ v. Says (Known w) v.items)
-says_it (Ok v) w can written = says_some (form_of w.typ) w v.items refl can written.is.3 written.is.2 written.is.1 written.is.0
+says_it (Ok v) w can written = says_some (form_of w.typ) w v.items refl can written.answer.3 written.answer.2 written.answer.1 written.answer.0
 says_it (Err f) w can written = tt

@@ -1,3 +1,4 @@
 pub mod Field
 pub mod Pieces
 pub mod Writing
+pub mod Steps

@@ -1,10 +1,10 @@
 -- The fields of a message as the program hands them out: their kinds, values and bytes.
 use Rattle.std.specs.Prelude.{◌≡◌, ℕ, List, length, map, Option, Some, None}
-use Rattle.std.specs.List.{flat_map, AllByRecursion}
+use Rattle.std.specs.List.{flat_map}
 use Rattle.ln_msgs.specs.declared.messages.item.Field.{Field}
 use Rattle.ln_msgs.specs.declared.messages.item.Item.{Item}
 use Rattle.ln_msgs.specs.declared.messages.item.Item.TheVariants as items
-use Rattle.ln_msgs.specs.Codec.Field.{Kind, Number, Value, Num, Str, Many, IsOf, value_bytes}
+use Rattle.ln_msgs.specs.Codec.Field.{Kind, Number, Value, Num, Str, Many, value_bytes}
 use Rattle.ln_msgs.specs.Codec.Field as kinds
 use Rattle.ln_msgs.specs.Messages.Table.{Form, kinds_of, names_of, form_of}
 use Rattle.ln_msgs.specs.Messages.Message.{Wire}
@@ -42,13 +42,6 @@ pub record AreItemsOf (form : Form) (w : Wire) (is : List Item) : Type 0 where
 abbrev pub AreItemsBy : Option Form → Wire → List Item → Type 0
 AreItemsBy None w is = ⊥
 AreItemsBy (Some form) w is = AreItemsOf form w is
-
--- each value is one of its kind
-abbrev pub IsProper : Item → Type 0
-IsProper i = IsOf (kind_of i) (value_of i)
-
-abbrev pub AreProper : List Item → Type 0
-AreProper is = AllByRecursion IsProper is
 
 -- these are the fields of the message with their names, by its form
 pub record AreFieldsOf (form : Form) (w : Wire) (fs : List Field) : Type 0 where

@@ -5,11 +5,12 @@ ghost use Rattle.std.specs.List.{concat, AllByRecursion};
 ghost use Rattle.ln_bytes.specs.Endian.{big_bytes};
 ghost use Rattle.ln_bytes.specs.Tlv.{stream_bytes, AreFit};
 ghost use Rattle.ln_msgs.specs.Codec.Field.{IsOf};
-ghost use Rattle.ln_msgs.specs.Messages.Items.{kind_of, value_of, item_bytes, items_bytes, AreItemsBy, AreProper};
+ghost use Rattle.ln_msgs.specs.Messages.Items.{kind_of, value_of, item_bytes, items_bytes, AreItemsBy};
 ghost use Rattle.ln_msgs.specs.Messages.Message.{Wire, Known, Says, wire_bytes};
 ghost use Rattle.ln_msgs.specs.Messages.Table.{form_of};
 ghost use Rattle.ln_msgs.specs.Messages.Typed.{wire};
-ghost use Rattle.ln_msgs.specs.Codec.Writing.{CanBeWritten, IsWritten, parts_bytes};
+ghost use Rattle.ln_msgs.specs.Codec.Writing.{CanBeWritten};
+ghost use Rattle.ln_msgs.specs.Codec.Steps.{AreProper, IsWritten, parts_bytes};
 
 use crate::messages::item::Item;
 use crate::messages::message::Message;

@@ -1,6 +1,6 @@
 //! The bytes that were read and not yet taken.
 
-ghost use Rattle.std.specs.Prelude.{◌≡◌, ◌-◌, ◌<◌, ◌≤◌, length, slice_range, vec_len, IfOk};
+ghost use Rattle.std.specs.Prelude.{◌≡◌, ◌-◌, ◌<◌, ◌≤◌, length, slice_range};
 
 use crate::pings::counted::Counted;
 use ln_bytes::Fault;
@@ -42,7 +42,7 @@ impl Window {
         ensures { IfOk result (λ w. w ≡ []) }
     {
         Ok(Window {
-            buffer: zeros(alloc, CAPACITY)?,
+            buffer: vec![in alloc; 0; CAPACITY]?,
             start: 0,
             end: 0,
         })
@@ -89,13 +89,6 @@ impl Window {
             Err(_) => Err(Fault::Io),
         }
     }
-}
-
-/// So many zero bytes. It stands apart since a proof over the number itself counts them one by one.
-fn zeros(alloc: Global, count: usize) -> Result<Vec<u8>, AllocError>
-    ensures { IfOk result (λ bytes. vec_len bytes ≡ count) }
-{
-    vec![in alloc; 0; count]
 }
 
 /// Moves the bytes from `start` to `end` to the front, where little room is left behind them. Answers

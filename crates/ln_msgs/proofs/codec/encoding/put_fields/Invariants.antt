@@ -1,5 +1,6 @@
 use Rattle.std.proofs.Common.{◌≡◌, ◌++◌, take}
-use Rattle.ln_msgs.specs.Messages.Items.{items_bytes, AreProper}
+use Rattle.ln_msgs.specs.Messages.Items.{items_bytes}
+use Rattle.ln_msgs.specs.Codec.Steps.{AreProper}
 use Rattle.ln_msgs.proofs.codec.encoding.put_fields.Given as goal
 
 abbrev pub invariant-loop-field : goal.invariant-loop-field
