@@ -17,6 +17,3 @@ pub use record::Record;
 pub use short_id::ShortId;
 pub use tlv::{append_tlvs, one_stream, read_tlvs, tlvs_are_valid, tlvs_len, value_of, write_tlvs};
 pub use truncated::{one_truncated, read_tu32, read_tu64, write_tu64};
-
-#[cfg(test)]
-mod tests;

@@ -7,6 +7,8 @@ mod refusal;
 pub use refusal::code_of;
 
 #[cfg(test)]
+mod bytes;
+#[cfg(test)]
 mod close;
 #[cfg(test)]
 mod dance;
