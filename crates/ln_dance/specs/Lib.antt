@@ -1,6 +1,8 @@
 pub mod Dance
 pub mod Exchange
 pub mod Messages
+pub mod Resume
+pub mod Reconnect
 pub use Rattle.ln_log.specs.Log
 pub use Rattle.ln_log.specs.Limits
 pub use Rattle.ln_keys.specs.Signer

@@ -62,7 +62,7 @@ impl Model for Dance {
 }
 
 impl Dance {
-    ghost use Rattle.std.specs.Prelude.{◌≡◌, ◌↔◌, ◌+◌, ◌<◌, ◌^◌, IsTrue, IsErrOf, IfOk, OnOk, OnErr};
+    ghost use Rattle.std.specs.Prelude.{◌≡◌, ◌↔◌, ◌+◌, ◌<◌, ◌≤◌, ◌^◌, IsTrue, IsErrOf, IfOk, OnOk, OnErr};
     ghost use Rattle.ln_log.specs.Log as log;
     ghost use Rattle.ln_log.specs.Log.{Log, after_propose, after_receive, after_drop, proposal_fault, taken_fault};
     ghost use Rattle.ln_log.specs.Limits.{HasNextId, Answers};
@@ -122,7 +122,8 @@ impl Dance {
 
     /// The numbers of commitments.
     pub fn numbers(&self) -> Numbers
-        ensures { (d : Dancer) → StandsFor self.now d → result ≡ d.numbers }
+        ensures numbers { (d : Dancer) → StandsFor self.now d → result ≡ d.numbers }
+        ensures numbers_fit { (result.commitment < 2 ^ 48) × (result.signed < 2 ^ 48) × (result.revoked ≤ result.signed) }
     {
         self.numbers
     }

@@ -6,6 +6,8 @@
 mod dance;
 mod laws;
 mod messages;
+mod reconnect;
+mod resume;
 
 pub use dance::{Dance, Later, Numbers, Peer};
 pub use laws::{revocation_is_learned, signature_is_accepted};
@@ -13,3 +15,7 @@ pub use messages::{
     add_message, add_of, fail_message, fail_of, fee_message, fee_of, fulfil_message, fulfil_of,
     malformed_message, malformed_of, update_is_told_as_sent, update_message, update_of,
 };
+pub use reconnect::{
+    dance_keeps_up, reestablish_is_served, revocation_is_sent_again, signature_is_sent_again,
+};
+pub use resume::{Messages, Resend};

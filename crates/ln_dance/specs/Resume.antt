@@ -1,0 +1,106 @@
+-- What a side tells as a connection comes back, and what it sends again by what the peer tells (BOLT 2, "Message
+-- Retransmission").
+use Rattle.std.specs.Prelude.{◌≡◌, ℕ, ◌+◌, ◌-◌, List, [], ◌∷◌, ◌++◌, map, replicate, Bool, ◌&&◌, ◌||◌, ◌==◌, nat_eq}
+use Rattle.std.specs.Prelude.{Option, Some, None, if◌then◌else◌}
+use Rattle.std.specs.Cmp.Lexicographic.{pointwise}
+use Rattle.ln_msgs.specs.declared.messages.commitments.ChannelReestablish.{ChannelReestablish}
+use Rattle.ln_msgs.specs.declared.messages.commitments.CommitmentSigned.{CommitmentSigned}
+use Rattle.ln_msgs.specs.declared.messages.commitments.RevokeAndAck.{RevokeAndAck}
+use Rattle.ln_msgs.specs.declared.refusals.refusal.Refusal.{Refusal}
+use Rattle.ln_msgs.specs.declared.refusals.refusal.Refusal.TheVariants as refusal
+use Rattle.ln_keys.specs.Signer.{Signer}
+use Rattle.ln_log.specs.declared.log.Pair.TheVariants as pair
+use Rattle.ln_log.specs.Log.{unacknowledged}
+use Rattle.ln_dance.specs.declared.dance.Later.{Later}
+use Rattle.ln_dance.specs.declared.dance.Later.TheVariants.{Signature, Revocation}
+use Rattle.ln_dance.specs.declared.resume.Resend.{Resend}
+use Rattle.ln_dance.specs.declared.resume.Resend.TheVariants as resend
+use Rattle.ln_dance.specs.Dance.{Dancer, view_at}
+use Rattle.ln_dance.specs.Messages.{update_message}
+
+-- ---- what a side tells
+
+-- the last secret that the peer told, or zeros
+abbrev pub secret_or_zeros : Option (List ℕ) → List ℕ
+secret_or_zeros None = replicate 32 0
+secret_or_zeros (Some secret) = secret
+
+-- the number of the next commitment that is to be signed, and how many revocations were taken
+abbrev pub reestablish_message : Signer → Dancer → ChannelReestablish
+reestablish_message keys d = record {
+  channel_id = d.channel;
+  next_commitment_number = d.numbers.commitment + 1;
+  next_revocation_number = d.numbers.revoked;
+  last_secret = secret_or_zeros d.peer.secret;
+  current_point = keys.point_of d.numbers.commitment;
+  records = [];
+}
+
+-- ---- what the peer may tell
+
+-- it waits for the last signature, which is unrevoked
+abbrev pub lacks_signature : ChannelReestablish → Dancer → Bool
+lacks_signature m d = (m.next_commitment_number == d.numbers.signed) && (d.numbers.signed == d.numbers.revoked + 1)
+
+-- it waits for the last revocation
+abbrev pub lacks_revocation : ChannelReestablish → Dancer → Bool
+lacks_revocation m d = m.next_revocation_number + 1 == d.numbers.commitment
+
+-- it has all signatures or lacks the last one, and so of revocations
+abbrev pub can_be_served : ChannelReestablish → Dancer → Bool
+can_be_served m d =
+    ((m.next_commitment_number == d.numbers.signed + 1) || lacks_signature m d)
+    && ((m.next_revocation_number == d.numbers.commitment) || lacks_revocation m d)
+
+-- who took a revocation has the secret of the last one
+abbrev pub knows_secret : Signer → ChannelReestablish → Bool
+knows_secret keys m =
+    (m.next_revocation_number == 0) || pointwise nat_eq m.last_secret (keys.secret_of (m.next_revocation_number - 1))
+
+abbrev pub resume_fault : Signer → ChannelReestablish → Dancer → Option Refusal
+resume_fault keys m d =
+    if can_be_served m d then (if knows_secret keys m then None else Some refusal.SecretWrong)
+    else Some refusal.ReestablishNumber
+
+-- ---- what is sent again
+
+-- the updates that the last signature covers newly
+abbrev pub updates_again : Dancer → List Resend
+updates_again d = resend.Updates (map (update_message d.channel) (unacknowledged d.log)) ∷ []
+
+-- the last signature: of the same number, at the same point, over what was covered first
+abbrev pub signature_again : Signer → Dancer → CommitmentSigned
+signature_again keys d = record {
+  channel_id = d.channel;
+  signature = keys.signature d.numbers.signed d.peer.next_point (view_at pair.Signed d);
+  htlc_signatures = keys.htlc_signatures d.numbers.signed d.peer.next_point (view_at pair.Signed d);
+  records = [];
+}
+
+-- the last revocation: of the commitment before the own current one
+abbrev pub revocation_again : Signer → Dancer → RevokeAndAck
+revocation_again keys d = record {
+  channel_id = d.channel;
+  secret = keys.secret_of (d.numbers.commitment - 1);
+  next_point = keys.point_of (d.numbers.commitment + 1);
+  records = [];
+}
+
+abbrev pub signature_owed : Signer → ChannelReestablish → Dancer → List Resend
+signature_owed keys m d =
+    if lacks_signature m d then updates_again d ++ resend.Signature (signature_again keys d) ∷ [] else []
+
+abbrev pub revocation_owed : Signer → ChannelReestablish → Dancer → List Resend
+revocation_owed keys m d = if lacks_revocation m d then resend.Revocation (revocation_again keys d) ∷ [] else []
+
+-- both in the order in which they were sent first
+abbrev pub owed_by : Later → Signer → ChannelReestablish → Dancer → List Resend
+owed_by Signature keys m d = revocation_owed keys m d ++ signature_owed keys m d
+owed_by Revocation keys m d = signature_owed keys m d ++ revocation_owed keys m d
+
+abbrev pub owed : Signer → ChannelReestablish → Dancer → List Resend
+owed keys m d = owed_by d.later keys m d
+
+-- no side has a commitment but the opening: channel_ready is sent again
+abbrev pub is_before_the_first : ChannelReestablish → Dancer → Bool
+is_before_the_first m d = (d.numbers.commitment == 0) && (m.next_commitment_number == 1)
