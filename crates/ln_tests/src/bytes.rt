@@ -71,7 +71,8 @@ const TRUNCATED: [(u64, &[u8]); 9] = [
     ),
 ];
 
-/// The same appendix: encodings that aren't minimal, and one that is too long. The length is told before a leading zero.
+/// The same appendix: encodings that aren't minimal, and one that is too long. The length is told before a leading
+/// zero.
 const BAD_TRUNCATED: [(&[u8], Fault, Fault); 9] = [
     (
         &[0xff, 0xff, 0xff, 0xff, 0xff, 0xff, 0xff, 0xff, 0xff],
@@ -249,8 +250,8 @@ const FIRST_FAULTS: [Row; 7] = [
     ),
 ];
 
-/// How a stream is told: each record by its type and how many bytes its value has, where they are written as these bytes
-/// again, or its fault.
+/// How a stream is told: each record by its type and how many bytes its value has, where they are written as these
+/// bytes again, or its fault.
 fn told(alloc: Global, bytes: &[u8], known_even: &[u64]) -> Result<String, AllocError> {
     let records = match read_tlvs(alloc, bytes, known_even) {
         Ok(records) => records,

@@ -280,8 +280,8 @@ fn small_turn(rt: HostRuntime) -> Result<(), Refusal> {
     answer
 }
 
-/// What the funder offers and signs, and the fundee accepts: which of its last signature and last revocation either sent
-/// later, and whether their numbers may stand beside their logs, and others may.
+/// What the funder offers and signs, and the fundee accepts: which of its last signature and last revocation either
+/// sent later, and whether their numbers may stand beside their logs, and others may.
 fn order(alloc: Global) -> Result<([Later; 2], [bool; 2]), Refusal> {
     let mut a = side(alloc, Role::Funder, &FUNDEE, 0);
     let mut b = side(alloc, Role::Fundee, &FUNDER, 0);
