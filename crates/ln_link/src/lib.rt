@@ -3,9 +3,16 @@
 
 mod channel;
 mod commands;
+mod config;
 mod events;
+mod opening;
 mod output;
 mod taking;
 
 pub use channel::Channel;
+pub use config::{Config, FitConfig, FitSpec, OpenSpec, Points};
+pub use opening::{
+    Agreed, Opened, Terms, open_channel, opening_is_agreed, take_accept, take_created, take_open,
+    take_signed,
+};
 pub use output::Output;

@@ -36,12 +36,14 @@ returns c =
     record {
       there = record {
         commitments = λ n p v _ _. accepted a.tag b.peer_tag c.requires.0 n p v;
+        htlcs = λ n p v. length-replicate (length v.htlcs) (toy_signature a.tag n p v);
         closings = λ fee _. closed a.tag b.peer_tag c.requires.0 fee;
         secrets = λ n _. fit (toy_secret a.seed n);
         own_secrets = λ n _. fit (toy_secret a.seed n);
       };
       back = record {
         commitments = λ n p v _ _. accepted b.tag a.peer_tag c.requires.1 n p v;
+        htlcs = λ n p v. length-replicate (length v.htlcs) (toy_signature b.tag n p v);
         closings = λ fee _. closed b.tag a.peer_tag c.requires.1 fee;
         secrets = λ n _. fit (toy_secret b.seed n);
         own_secrets = λ n _. fit (toy_secret b.seed n);
