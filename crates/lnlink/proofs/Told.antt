@@ -1,13 +1,18 @@
--- The refusal of a message is that of its first fault, unless memory ran out.
+-- What a text in hexadecimal is printed as, from what reading its bytes gave.
 use Rattle.std.proofs.Common.{◌≡◌, ◌≢◌, ◌⊎◌, ℕ, List, Result, Ok, Err, sym, ap, ◌∙◌, inl, inr, refl}
+use Rattle.hex.specs.Hex.{decode_of}
+use Rattle.hex.specs.declared.error.FromHexError.{FromHexError}
 use Rattle.ln_bytes.specs.declared.fault.Fault.{Fault}
 use Rattle.ln_bytes.specs.declared.fault.Fault.TheVariants as faults
 use Rattle.ln_msgs.specs.declared.refusals.refusal.Refusal.{Refusal}
+use Rattle.ln_msgs.specs.declared.refusals.refusal.Refusal.TheVariants.{Memory}
 use Rattle.ln_msgs.specs.Messages.Message.{Heard, message_at}
+use Rattle.ln_msgs.specs.Refusals.Refusal.{refusal_of}
 use Rattle.lnlink.specs.declared.failure.Failure.{Failure}
-use Rattle.lnlink.specs.declared.failure.Failure.TheVariants.{Refused}
+use Rattle.lnlink.specs.declared.failure.Failure.TheVariants.{NotHex, Refused}
+use Rattle.lnlink.specs.Text.{heard_text, read_text, spelled_text, decoded}
 
-is_memory : (f : Fault) → (f ≢ faults.Memory) ⊎ (f ≡ faults.Memory)
+pub is_memory : (f : Fault) → (f ≢ faults.Memory) ⊎ (f ≡ faults.Memory)
 is_memory faults.Memory = inr refl
 is_memory faults.Truncated = inl (λ e. absurd cc)
 is_memory faults.NotMinimal = inl (λ e. absurd cc)
@@ -20,19 +25,20 @@ is_memory faults.FieldLength = inl (λ e. absurd cc)
 is_memory faults.UnknownFeature = inl (λ e. absurd cc)
 is_memory faults.Io = inl (λ e. absurd cc)
 
-same_fault : (f g : Fault) → ◌≡◌ {A = Result Heard Fault} (Err f) (Err g) → f ≡ g
-same_fault f g e = cc
+pub not_hex : (text : List ℕ) (e : FromHexError) → decode_of text ≡ Err e → decoded text ≡ Err NotHex
+not_hex text e is = ap spelled_text is
 
--- what was told is the message's fault, or want of memory
-pub told : (f g : Fault) (read bytes : List ℕ) → (f ≢ faults.Memory → message_at read ≡ Err f) → read ≡ bytes → message_at bytes ≡ Err g → (f ≡ g) ⊎ (f ≡ faults.Memory)
-told f g read bytes gives same is =
+pub is_shown : (text bytes : List ℕ) (h : Heard) → decode_of text ≡ Ok bytes → message_at bytes ≡ Ok h → decoded text ≡ Ok (heard_text h)
+is_shown text bytes h spelled is = ap spelled_text spelled ∙ ap read_text is
+
+refused_by : (text bytes : List ℕ) (f : Fault) → decode_of text ≡ Ok bytes → message_at bytes ≡ Err f → decoded text ≡ Err (Refused (refusal_of f))
+refused_by text bytes f spelled is = ap spelled_text spelled ∙ ap read_text is
+
+-- the refusal is that of the first fault, unless memory ran out
+pub is_refused : (text bytes : List ℕ) (f : Fault) (r : Refusal) → decode_of text ≡ Ok bytes → (f ≢ faults.Memory → message_at bytes ≡ Err f) → r ≡ refusal_of f
+    → (Refused r ≡ Refused Memory) ⊎ (decoded text ≡ Err (Refused r))
+is_refused text bytes f r spelled gives is =
     elim (is_memory f) [
-      | inl ours ↦ inl (same_fault f g (sym (gives ours) ∙ ap message_at same ∙ is))
-      | inr memory ↦ inr memory
+      | inl ours ↦ inr (refused_by text bytes f spelled (gives ours) ∙ ap (λ (x : Refusal). let it : Result (List ℕ) Failure = Err (Refused x) in it) (sym is))
+      | inr memory ↦ inl (ap Refused (is ∙ ap refusal_of memory))
     ]
-
-pub same_value : {A E : Type 0} (r : Result A E) (x y : A) → r ≡ Ok x → r ≡ Ok y → x ≡ y
-same_value r x y p q = let e = sym p ∙ q in cc
-
-pub refused_alike : {T : Type 0} (x y : Refusal) → x ≡ y → ◌≡◌ {A = Result T Failure} (Err (Refused x)) (Err (Refused y))
-refused_alike {T = T} x y e = ap (λ (r : Refusal). let out : Result T Failure = Err (Refused r) in out) e

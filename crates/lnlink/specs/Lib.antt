@@ -1,1 +1,3 @@
 pub mod Failure
+pub mod Text
+pub mod Shown

@@ -3,15 +3,14 @@
 
 mod choice;
 mod failure;
-mod print;
-mod script;
+mod simulation;
 mod text;
 
 use choice::{Choice, choose};
 use failure::Failure;
 use ln_msgs::{Counted, Refusal, answer_pings};
-use print::print_all;
-use script::{script_text, simulate};
+use ln_script::print_all;
+use simulation::{script_text, simulate};
 use std::env::Env;
 use std::io::{ErrorKind, Read};
 use std::process::ExitCode;

@@ -1,6 +1,6 @@
 use crate::choice::{Choice, choose};
 use crate::failure::Failure;
-use crate::script::{script_text, simulate};
+use crate::simulation::{script_text, simulate};
 use crate::text::decode_text;
 use ln_msgs::{Counted, Refusal};
 use std::alloc::Global;

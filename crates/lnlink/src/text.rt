@@ -1,17 +1,20 @@
 //! Messages as text.
 
-ghost use Rattle.std.specs.Prelude.{◌≡◌, ◌⊎◌, ℕ, List, Ok, Err, OnErr};
-ghost use Rattle.hex.specs.Hex.{decode_of};
-ghost use Rattle.ln_bytes.specs.declared.fault.Fault.{Fault};
-ghost use Rattle.ln_msgs.specs.Messages.Message.{message_at};
-ghost use Rattle.ln_msgs.specs.Refusals.Refusal.{refusal_of};
+ghost use Rattle.std.specs.Prelude.{◌≡◌, ◌⊎◌, ◌++◌, OnOk, IfOk, MatchResult, Ok, Err, string_bytes};
+ghost use Rattle.std.specs.List.{flat_map};
+ghost use Rattle.std.specs.Fmt.{decimal};
+ghost use Rattle.ln_msgs.specs.Messages.Items.{value_of};
+ghost use Rattle.ln_msgs.specs.Messages.Typed.{wire, heard};
 ghost use Rattle.ln_msgs.specs.declared.refusals.refusal.Refusal.TheVariants.{Memory};
+ghost use Rattle.lnlink.specs.Text.{line, bytes_text, signature_line, field_text, record_text, type_line, known_text, heard_text, decoded};
+ghost use Rattle.lnlink.specs.Shown.{shown_field};
 
 use crate::failure::Failure;
 use hex::FromHexError;
 use ln_bytes::Record;
 use ln_msgs::{Field, Incoming, Item, Message, Refusal, decode};
 use std::alloc::{AllocError, Global};
+use std::fmt::Write;
 
 /// What a message in hexadecimal says, a line for its type, for each field and for each record. Takes memory for
 /// the bytes and the text.
@@ -23,8 +26,7 @@ use std::alloc::{AllocError, Global};
 /// A text that isn't hexadecimal, or has an odd count of digits, is `NotHex`. A message that can't be read is
 /// refused by its first fault (`ln_msgs::decode`), 60 where there is no memory.
 pub fn decode_text(alloc: Global, text: &str) -> Result<String, Failure>
-    ensures refused { (bytes : List ℕ) (f : Fault) → decode_of text.now ≡ Ok bytes → message_at bytes ≡ Err f
-        → (result ≡ Err (Failure.Refused (refusal_of f))) ⊎ (result ≡ Err (Failure.Refused Memory)) }
+    ensures { MatchResult result (λ s. decoded text.now ≡ Ok (string_bytes s)) (λ e. (e ≡ Failure.Refused Memory) ⊎ (decoded text.now ≡ Err e)) }
 {
     let bytes = match hex::decode(alloc, text) {
         Ok(bytes) => bytes,
@@ -38,7 +40,9 @@ pub fn decode_text(alloc: Global, text: &str) -> Result<String, Failure>
     Ok(text_of(alloc, &incoming)?)
 }
 
-fn text_of(alloc: Global, incoming: &Incoming) -> Result<String, AllocError> {
+fn text_of(alloc: Global, incoming: &Incoming) -> Result<String, AllocError>
+    ensures { IfOk result (λ s. string_bytes s ≡ heard_text (heard incoming.now)) }
+{
     match incoming {
         Incoming::Known(message) => message_text(alloc, message),
         Incoming::Ignored(typ) => {
@@ -48,55 +52,101 @@ fn text_of(alloc: Global, incoming: &Incoming) -> Result<String, AllocError> {
     }
 }
 
-fn message_text(alloc: Global, message: &Message) -> Result<String, AllocError> {
-    let (typ, name) = (message.typ(), message.name());
-    let mut out = format!(in alloc; "type {typ} {name}\n")?;
-    for field in &message.fields(alloc)? {
-        put_field(alloc, &mut out, field)?;
-    }
-    for record in message.records().as_slice() {
-        put_record(alloc, &mut out, record)?;
-    }
+fn message_text(alloc: Global, message: &Message) -> Result<String, AllocError>
+    ensures { IfOk result (λ s. string_bytes s ≡ known_text (wire message.now)) }
+{
+    let mut out = type_text(alloc, message)?;
+    put_fields(alloc, &mut out, message.fields(alloc)?.as_slice())?;
+    put_records(alloc, &mut out, message.records().as_slice())?;
     Ok(out)
 }
 
-fn put_field(alloc: Global, out: &mut String, field: &Field<'_>) -> Result<(), AllocError> {
-    let name = field.name;
-    match field.value {
-        Item::U8(number) => put_number(alloc, out, name, u64::from(number)),
-        Item::U16(number) => put_number(alloc, out, name, u64::from(number)),
-        Item::U32(number) => put_number(alloc, out, name, u64::from(number)),
-        Item::U64(number) => put_number(alloc, out, name, number),
-        Item::Fixed(bytes) | Item::Sized(bytes) => put_bytes(alloc, out, name, bytes),
-        Item::Listed(list) => put_signatures(alloc, out, list),
-    }
+#[tactic(auto, unfolding(crate::specs::Text::type_line))]
+fn type_text(alloc: Global, message: &Message) -> Result<String, AllocError>
+    ensures { IfOk result (λ s. string_bytes s ≡ type_line (wire message.now).typ) }
+{
+    let (typ, name) = (message.typ(), message.name());
+    format!(in alloc; "type {typ} {name}\n")
 }
 
-fn put_signatures(alloc: Global, out: &mut String, list: &[[u8; 64]]) -> Result<(), AllocError> {
-    put_number(alloc, out, "count", list.len() as u64)?;
-    for signature in list {
-        put_bytes(alloc, out, "htlc_signature", signature)?;
+fn put_fields(alloc: Global, out: &mut String, fields: &[Field<'_>]) -> Result<(), AllocError>
+    ensures { OnOk result (string_bytes out.new ≡ string_bytes out.old ++ flat_map shown_field fields.now) }
+{
+    for field in fields {
+        put_field(alloc, out, field)?;
     }
     Ok(())
 }
 
-fn put_number(alloc: Global, out: &mut String, name: &str, number: u64) -> Result<(), AllocError> {
-    out.push_str(format!(in alloc; "{name} {number}\n")?.as_str())
-}
-
-fn put_bytes(alloc: Global, out: &mut String, name: &str, bytes: &[u8]) -> Result<(), AllocError> {
-    out.push_str(name)?;
-    out.push_str(" ")?;
-    if bytes.is_empty() {
-        out.push_str("-")?;
-    } else {
-        out.push_str(hex::encode(alloc, bytes)?.as_str())?;
+fn put_field(alloc: Global, out: &mut String, field: &Field<'_>) -> Result<(), AllocError>
+    ensures { OnOk result (string_bytes out.new ≡ string_bytes out.old ++ shown_field field.now) }
+{
+    let name = field.name;
+    match field.value {
+        Item::U8(number) => put_number(out, name, u64::from(number)),
+        Item::U16(number) => put_number(out, name, u64::from(number)),
+        Item::U32(number) => put_number(out, name, u64::from(number)),
+        Item::U64(number) => put_number(out, name, number),
+        Item::Fixed(bytes) | Item::Sized(bytes) => put_bytes(alloc, out, name, bytes),
+        Item::Listed(list) => {
+            put_number(out, "count", list.len() as u64)?;
+            put_signatures(alloc, out, list)
+        }
     }
-    out.push_str("\n")
 }
 
-fn put_record(alloc: Global, out: &mut String, record: &Record) -> Result<(), AllocError> {
+fn put_signatures(alloc: Global, out: &mut String, list: &[[u8; 64]]) -> Result<(), AllocError>
+    ensures { OnOk result (string_bytes out.new ≡ string_bytes out.old ++ flat_map signature_line list.now) }
+{
+    for signature in list {
+        put_signature(alloc, out, signature)?;
+    }
+    Ok(())
+}
+
+#[tactic(auto, unfolding(crate::specs::Text::signature_line))]
+fn put_signature(alloc: Global, out: &mut String, signature: &[u8; 64]) -> Result<(), AllocError>
+    ensures { OnOk result (string_bytes out.new ≡ string_bytes out.old ++ signature_line signature.now) }
+{
+    put_bytes(alloc, out, "htlc_signature", signature)
+}
+
+fn put_records(alloc: Global, out: &mut String, records: &[Record]) -> Result<(), AllocError>
+    ensures { OnOk result (string_bytes out.new ≡ string_bytes out.old ++ flat_map record_text records.now) }
+{
+    for record in records {
+        put_record(alloc, out, record)?;
+    }
+    Ok(())
+}
+
+fn put_record(alloc: Global, out: &mut String, record: &Record) -> Result<(), AllocError>
+    ensures { OnOk result (string_bytes out.new ≡ string_bytes out.old ++ record_text record.now) }
+{
     let typ = record.typ;
     let name = format!(in alloc; "tlv {typ}")?;
     put_bytes(alloc, out, name.as_str(), record.value.as_slice())
+}
+
+fn put_number(out: &mut String, name: &str, number: u64) -> Result<(), AllocError>
+    ensures { OnOk result (string_bytes out.new ≡ string_bytes out.old ++ line name.now (decimal number)) }
+{
+    writeln!(out, "{name} {number}")
+}
+
+fn put_bytes(alloc: Global, out: &mut String, name: &str, bytes: &[u8]) -> Result<(), AllocError>
+    ensures { OnOk result (string_bytes out.new ≡ string_bytes out.old ++ line name.now (bytes_text bytes.now)) }
+{
+    let shown = hexadecimal(alloc, bytes)?;
+    writeln!(out, "{name} {shown}")
+}
+
+fn hexadecimal(alloc: Global, bytes: &[u8]) -> Result<String, AllocError>
+    ensures { IfOk result (λ s. string_bytes s ≡ bytes_text bytes.now) }
+{
+    if bytes.is_empty() {
+        String::from_str(alloc, "-")
+    } else {
+        hex::encode(alloc, bytes)
+    }
 }
