@@ -7,6 +7,8 @@ use Rattle.ln_keys.specs.declared.role.Role.{Role}
 use Rattle.ln_keys.specs.Role.{other_role}
 use Rattle.ln_log.specs.declared.opening.Limits.{Limits}
 use Rattle.ln_log.specs.declared.opening.Opening.{Opening}
+use Rattle.ln_log.specs.declared.log.Side.{Side}
+use Rattle.ln_log.specs.declared.log.Side.TheVariants as side
 use Rattle.ln_log.specs.declared.update.Add.{Add}
 use Rattle.ln_log.specs.declared.update.Removal.{Removal}
 use Rattle.ln_log.specs.declared.update.Update.TheVariants as update
@@ -19,7 +21,7 @@ use Rattle.ln_log.specs.Updates.{offered, removed, is_some, next_id, add_with, o
 use Rattle.ln_log.specs.View.{balance, Pays}
 use Rattle.ln_log.specs.Limits.{standing_of, add_fault, fault_at, removable, fulfil_fault, fail_fault, malformed_fault}
 use Rattle.ln_log.specs.Standing.{with_own, with_all, paid_by, PaidFits, OwnFits, AllFit}
-use Rattle.ln_log.specs.Log.{Log, IsKept, BothPay, HasAmount, AreWithin, number_after, HasId, AreNumbered, RemovesLive, AreRemovals, after_accept, after_learn, after_drop}
+use Rattle.ln_log.specs.Log.{Log, IsKept, between, updates_of, BothPay, HasAmount, AreWithin, number_after, HasId, AreNumbered, RemovesLive, AreRemovals, after_accept, after_learn, after_drop}
 use Rattle.ln_log.proofs.Outcomes.{add_with-more, next-take, next-cons, above, numbered-take, numbered-drop, removals-take, removals-drop, removals-more, untouched}
 use Rattle.ln_log.proofs.Sums.{sums, first_sum, longer, pays_longer, pays_all, pays_more}
 use Rattle.ln_log.proofs.Standings.{MayAdd, own_moves, own_pays, all_step}
@@ -63,6 +65,22 @@ pub within-take : (most : ℕ) (us : List Update) (k : ℕ) → AreWithin most u
 within-take most us zero h = tt
 within-take most [] (suc k) h = tt
 within-take most (u ∷ us) (suc k) h = (h.0, within-take most us k h.1)
+
+pub within-drop : (most : ℕ) (us : List Update) (k : ℕ) → AreWithin most us → AreWithin most (drop k us)
+within-drop most us zero h = h
+within-drop most [] (suc k) h = tt
+within-drop most (u ∷ us) (suc k) h = within-drop most us k h.1
+
+side_within : (l : Log) (s t p q : Standing) (x : Side) → IsKept l s t p q → AreWithin (1000 * l.opening.satoshis) (updates_of x l)
+side_within l s t p q side.Own k = k.own_amounts
+side_within l s t p q side.Peer k = k.peer_amounts
+
+-- a part of either list
+pub part_within : (l m : Log) (s t p q : Standing) (x : Side) (from to : ℕ) (us : List Update) → IsKept l s t p q → l ≡ m → us ≡ between from to (updates_of x l) → AreWithin (1000 * m.opening.satoshis) us
+part_within l m s t p q x from to us k e eu =
+    subst (λ (n : Log). AreWithin (1000 * n.opening.satoshis) us) e
+    (subst (AreWithin (1000 * l.opening.satoshis)) (sym eu)
+    (within-take (1000 * l.opening.satoshis) (drop from (updates_of x l)) (to - from) (within-drop (1000 * l.opening.satoshis) (updates_of x l) from (side_within l s t p q x k))))
 
 pub within-push : (most : ℕ) (us : List Update) (u : Update) → AreWithin most us → HasAmount most (offered u) → AreWithin most (us ++ u ∷ [])
 within-push most [] u h a = (a, tt)

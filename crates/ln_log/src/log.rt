@@ -113,7 +113,7 @@ impl UpdateLog {
     ghost use Rattle.ln_log.specs.Updates.{next_id, offered, removed};
     ghost use Rattle.ln_log.specs.View.{AddsUp};
     ghost use Rattle.ln_log.specs.Limits.{HasNextId, Answers, is_at_update_limit};
-    ghost use Rattle.ln_log.specs.Log.{StandsFor, IsWithin, updates_of, first_of, update_at, unacknowledged, HasAmount, opened, after_propose, after_receive, after_sign, after_accept, after_learn, after_drop, sign_fault, removal_fault, proposal_fault, taken_fault, covered, counts_of, live_in, view_for};
+    ghost use Rattle.ln_log.specs.Log.{StandsFor, IsWithin, updates_of, first_of, update_at, unacknowledged, HasAmount, AreWithin, opened, after_propose, after_receive, after_sign, after_accept, after_learn, after_drop, sign_fault, removal_fault, proposal_fault, taken_fault, covered, counts_of, live_in, view_for};
 
     /// A channel end before any update. Takes no memory.
     pub fn new(alloc: Global, role: Role, opening: Opening) -> UpdateLog
@@ -376,6 +376,7 @@ impl UpdateLog {
     pub fn update(&self, side: Side, number: usize) -> Option<&Update>
         ensures update { (l : Log) → StandsFor self.now l → option_copied result ≡ update_at (first_of side l) (updates_of side l) number }
         ensures amount { (l : Log) → StandsFor self.now l → IfSome (option_copied result) (λ u. HasAmount (1000 * l.opening.satoshis) (offered u)) }
+        ensures funds { (l : Log) → StandsFor self.now l → l.opening.satoshis ≤ 2100000000000000 }
     {
         match side {
             Side::Own => nth(self.own.as_slice(), number),
@@ -383,14 +384,19 @@ impl UpdateLog {
         }
     }
 
-    /// The updates of a side from one number up to another, from `first` on.
+    /// The updates of a side from one number up to another, from `first` on. No HTLC that they offer is of more than
+    /// 1000 * funding_satoshis, in millisatoshi.
     pub fn between(&self, side: Side, from: usize, to: usize) -> &[Update]
         requires not_before_the_first { (l : Log) → StandsFor self.now l → first_of side l ≤ from }
         requires ordered { (l : Log) → StandsFor self.now l → from ≤ to }
         requires not_behind_the_last { (l : Log) → StandsFor self.now l → to ≤ length (updates_of side l) }
         ensures updates { (l : Log) → StandsFor self.now l → result.now ≡ between from to (updates_of side l) }
         ensures count { from + length result.now ≡ to }
+        ensures amounts { (l : Log) → StandsFor self.now l → AreWithin (1000 * l.opening.satoshis) result.now }
+        ensures funds { (l : Log) → StandsFor self.now l → l.opening.satoshis ≤ 2100000000000000 }
     {
+        // (what is kept bounds the amounts)
+        let _ = self.own.len();
         part(self.list(side), from, to)
     }
 
