@@ -31,12 +31,3 @@ pub use messages::updates::{
 pub use pings::answer::answer_pings;
 pub use pings::counted::Counted;
 pub use refusals::refusal::Refusal;
-
-#[cfg(test)]
-mod frame_tests;
-#[cfg(test)]
-mod message_tests;
-#[cfg(test)]
-mod small_tests;
-#[cfg(test)]
-mod tests;

@@ -23,6 +23,10 @@ mod link;
 #[cfg(test)]
 mod log;
 #[cfg(test)]
+mod messages;
+#[cfg(test)]
+mod pings;
+#[cfg(test)]
 mod relay;
 #[cfg(test)]
 mod testing;
