@@ -194,7 +194,8 @@ const STREAM: [u8; 18] = [0, 6, 0, 18, 0, 2, 0, 0, 0, 2, 0, 21, 0, 4, 0, 19, 0, 
 /// A ping, and then a message of type 100, which is even and not known.
 const FAULTY: [u8; 12] = [0, 6, 0, 18, 0, 2, 0, 0, 0, 2, 0, 100];
 
-/// The types of the messages that a piece gave, as digits to the base of 1000, or its fault's number and half a million.
+/// The types of the messages that a piece gave, as digits to the base of 1000, or its fault's number and half a
+/// million.
 fn heard(framer: &mut Framer, alloc: Global, piece: &[u8]) -> u32 {
     let mut types = 0u32;
     match &framer.feed(alloc, piece) {
