@@ -29,6 +29,8 @@ mod pings;
 #[cfg(test)]
 mod relay;
 #[cfg(test)]
+mod script;
+#[cfg(test)]
 mod testing;
 #[cfg(test)]
 mod whole_fields;

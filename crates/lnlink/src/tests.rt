@@ -3,8 +3,11 @@ use crate::failure::Failure;
 use crate::simulation::{script_text, simulate};
 use crate::text::decode_text;
 use ln_msgs::{Counted, Refusal};
-use std::alloc::Global;
+use rows::{ROWS, Row};
+use std::alloc::{AllocError, Global};
 use std::test::*;
+
+mod rows;
 
 fn chosen(alloc: Global, line: &str) -> Result<Result<Choice, Failure>, Fail> {
     let mut words = Vec::new(alloc);
@@ -34,11 +37,6 @@ fn words(rt: HostRuntime) -> Result<(), Fail> {
     ] {
         assert_eq!(rt; chosen(rt.alloc(), line)?, want, "at {line}");
     }
-    Ok(())
-}
-
-#[test]
-fn texts_to_decode(rt: HostRuntime) -> Result<(), Fail> {
     for text in ["0015", "zz", "-"] {
         let line = format!(in rt.alloc(); "decode {text}")?;
         match chosen(rt.alloc(), line.as_str())?? {
@@ -49,60 +47,69 @@ fn texts_to_decode(rt: HostRuntime) -> Result<(), Fail> {
     Ok(())
 }
 
-// Sixty-four zeros: 32 zero bytes.
-const ZEROS: &str = "0000000000000000000000000000000000000000000000000000000000000000";
+// Adds the digits so often.
+fn push_times(out: &mut String, digits: &str, times: usize) -> Result<(), AllocError> {
+    for _ in 0..times {
+        out.push_str(digits)?;
+    }
+    Ok(())
+}
+
+// The digits of a row's message, and its text.
+fn spelled(alloc: Global, row: &Row) -> Result<(String, String), AllocError> {
+    let (typ, first, parts) = *row;
+    let mut hex = String::from_str(alloc, typ)?;
+    let mut text = format!(in alloc; "{first}\n")?;
+    for (name, digits, times, shown) in parts {
+        push_times(&mut hex, digits, *times)?;
+        if name.is_empty() {
+            continue;
+        }
+        text.push_str(name)?;
+        text.push_str(" ")?;
+        if shown.is_empty() {
+            push_times(&mut text, digits, *times)?;
+        } else {
+            text.push_str(shown)?;
+        }
+        text.push_str("\n")?;
+    }
+    Ok((hex, text))
+}
 
 #[test]
 fn messages_as_text(rt: HostRuntime) -> Result<(), Fail> {
-    for (head, tail, text) in [
+    for row in ROWS {
+        let (hex, text) = spelled(rt.alloc(), row)?;
+        let shown = decode_text(rt.alloc(), hex.as_str())?;
+        assert_eq!(rt; shown.as_str(), text.as_str());
+    }
+    for (hex, text) in [
         (
             "001200020000",
-            "",
             "type 18 ping\nnum_pong_bytes 2\nignored -\n",
         ),
-        ("0015", "", "type 21 ignored\n"),
-        ("0100", "", "type 256 ignored\n"),
+        ("0015", "type 21 ignored\n"),
+        ("0100ff", "type 256 ignored\n"),
         (
             "0010000000000301FF",
-            "",
             "type 16 init\nglobal_features -\nfeatures -\ntlv 3 ff\n",
         ),
         (
             "0010000000000300",
-            "",
             "type 16 init\nglobal_features -\nfeatures -\ntlv 3 -\n",
         ),
     ] {
-        let hex = format!(in rt.alloc(); "{head}{tail}")?;
-        let shown = decode_text(rt.alloc(), hex.as_str())?;
+        let shown = decode_text(rt.alloc(), hex)?;
         assert_eq!(rt; shown.as_str(), text);
     }
-    for (head, tail, first, rest) in [
-        ("0001", "00026869", "type 1 warning", "data 6869"),
-        (
-            "0086",
-            "000000fd",
-            "type 134 update_fee",
-            "feerate_per_kw 253",
-        ),
-    ] {
-        let hex = format!(in rt.alloc(); "{head}{ZEROS}{tail}")?;
-        let shown = decode_text(rt.alloc(), hex.as_str())?;
-        let want = format!(in rt.alloc(); "{first}\nchannel_id {ZEROS}\n{rest}\n")?;
-        assert_eq!(rt; shown.as_str(), want.as_str());
-    }
-    let hex = format!(in rt.alloc(); "0084{ZEROS}{ZEROS}{ZEROS}0001{ZEROS}{ZEROS}")?;
-    let shown = decode_text(rt.alloc(), hex.as_str())?;
-    let want = format!(in rt.alloc();
-        "type 132 commitment_signed\nchannel_id {ZEROS}\nsignature {ZEROS}{ZEROS}\ncount 1\nhtlc_signature {ZEROS}{ZEROS}\n"
-    )?;
-    assert_eq!(rt; shown.as_str(), want.as_str());
     Ok(())
 }
 
 #[test]
 fn messages_that_are_none(rt: HostRuntime) -> Result<(), Fail> {
-    let ready = format!(in rt.alloc(); "0024{ZEROS}{ZEROS}000101ff")?;
+    let zeros = "0000000000000000000000000000000000000000000000000000000000000000";
+    let ready = format!(in rt.alloc(); "0024{zeros}{zeros}000101ff")?;
     for (hex, want) in [
         ("zz", Failure::NotHex),
         ("001", Failure::NotHex),

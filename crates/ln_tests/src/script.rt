@@ -1,0 +1,144 @@
+//! Scripts: their reports, which line is the first bad one, and writers that fail.
+
+use ln_msgs::{Counted, Refusal};
+use ln_script::{print_all, print_report, read_script};
+use ln_world::World;
+use std::alloc::Global;
+use std::io;
+use std::io::{ErrorKind, Write};
+
+/// The report of a script is this text.
+fn is_told(alloc: Global, script: &str, text: &str) -> Result<bool, Refusal> {
+    let mut writer = Counted::new(Vec::new(alloc));
+    let steps = read_script(alloc, script)?;
+    let world = World::run(alloc, steps.as_slice())?;
+    print_report(alloc, &world, &mut writer)?;
+    Ok(writer.get_ref().as_slice() == text.as_bytes())
+}
+
+#[test]
+fn reports(rt: HostRuntime) {
+    for (script, text) in [
+        // an add is committed; a comment and an empty line are passed over; the last line lacks its line feed
+        (
+            "# an add\nready 0 A B 1000000 0 1x1x0\n\nadd A0 5000 400 7\nsign A0\ndeliver B0\n\
+             deliver B0\ndeliver A0\nsign B0\ndeliver A0\ndeliver B0",
+            "0 open\nA0 sends channel_ready\nB0 sends channel_ready\nA0 sends add 0\n\
+             A0 sends sign 1\nB0 sends revoke 0\nB0 sends sign 1\nA0 sends revoke 0\n\
+             A0 event 0 added own 0\nB0 event 0 added peer 0\n\
+             A0 signed 1 committed 1 peer 0 balance 999995000/0 live 1 ready\n\
+             B0 signed 0 committed 0 peer 1 balance 0/999995000 live 1 ready\n",
+        ),
+        // the greatest values that a line takes: the channel can't be opened, and there is none to offer in
+        (
+            "ready 99 Z Y 18446744073709551615 18446744073709551615 16777215x16777215x65535\n\
+             add Z99 18446744073709551615 4294967295 255\n",
+            "idle\nidle\n",
+        ),
+        ("", ""),
+        ("# nothing\n\n", ""),
+    ] {
+        assert_eq!(rt; is_told(rt.alloc(), script, text), Ok(true), "{script}");
+    }
+}
+
+#[test]
+fn bad_lines(rt: HostRuntime) {
+    for (script, line) in [
+        ("ready 0 A B 1000000 0 1x1x0\nadd A0", 2),
+        ("sign A0\nsign A0\nnothing\nnor this\n", 3),
+        ("# skipped\n\nsign  A0\n", 3),
+        (" sign A0\n", 1),
+        ("sign A0 \n", 1),
+        (" \n", 1),
+        (" # a comment\n", 1),
+        ("sign A0\r\n", 1),
+        ("Sign A0\n", 1),
+        ("sign\n", 1),
+        ("sign A0 B0\n", 1),
+        ("sign A\n", 1),
+        ("sign A00\n", 1),
+        ("sign A100\n", 1),
+        ("sign a0\n", 1),
+        ("sign AB0\n", 1),
+        ("deliver @0\n", 1),
+        ("deliver [0\n", 1),
+        ("add A0 5000 400 256\n", 1),
+        ("add A0 5000 4294967296 7\n", 1),
+        ("add A0 18446744073709551616 400 7\n", 1),
+        ("add A0 05000 400 7\n", 1),
+        ("add A0 +5 400 7\n", 1),
+        ("add A0 -5 400 7\n", 1),
+        ("add A0 5e3 400 7\n", 1),
+        ("add A0  400 7\n", 1),
+        ("ready 100 A B 1 0 1x1x0\n", 1),
+        ("ready 0 A B 1 0 1x1\n", 1),
+        ("ready 0 A B 1 0 1x1x0x0\n", 1),
+        ("ready 0 A B 1 0 16777216x1x0\n", 1),
+        ("ready 0 A B 1 0 1x16777216x0\n", 1),
+        ("ready 0 A B 1 0 1x1x65536\n", 1),
+        ("ready 0 A B 1 0 01x1x0\n", 1),
+        // steps that the world doesn't have yet
+        ("sign A0\nfulfil A0 0 7\n", 2),
+        ("down A0\n", 1),
+    ] {
+        let refused = read_script(rt.alloc(), script).err();
+        assert_eq!(rt; refused, Some(Refusal::BadScript { line }), "{script}");
+    }
+}
+
+#[test]
+fn small_script(rt: HostRuntime) -> Result<(), Refusal> {
+    assert!(rt; is_told(rt.alloc(), "sign A0\n", "idle\n")?);
+    Ok(())
+}
+
+/// A writer that takes so many calls, of one byte each, and then fails.
+#[derive(Drop)]
+struct Narrow {
+    bytes: Vec<u8>,
+    calls_left: u64,
+}
+
+impl Write for Narrow {
+    fn write(&mut self, bytes: &[u8]) -> io::Result<usize> {
+        if self.calls_left == 0 {
+            return Err(io::Error::from(ErrorKind::BrokenPipe));
+        }
+        self.calls_left -= 1;
+        let count = bytes.len().min(1);
+        self.bytes.extend_from_slice(&bytes[..count])?;
+        Ok(count)
+    }
+
+    fn flush(&mut self) -> io::Result<()> {
+        if self.calls_left == 0 {
+            return Err(io::Error::from(ErrorKind::BrokenPipe));
+        }
+        self.calls_left -= 1;
+        Ok(())
+    }
+}
+
+/// What becomes of a text at a writer that fails after so many calls, and how much of it is written.
+fn cut_short(alloc: Global, text: &str, calls_left: u64) -> (Result<(), Refusal>, usize) {
+    let mut writer = Counted::new(Narrow {
+        bytes: Vec::new(alloc),
+        calls_left,
+    });
+    let result = print_all(&mut writer, text);
+    (result, writer.get_ref().bytes.len())
+}
+
+#[test]
+fn failing_writers(rt: HostRuntime) {
+    // a byte a call, and a flush
+    for (calls, result, written) in [
+        (0, Err(Refusal::Io), 0),
+        (4, Err(Refusal::Io), 4),
+        (5, Err(Refusal::Io), 5),
+        (6, Ok(()), 5),
+    ] {
+        assert_eq!(rt; cut_short(rt.alloc(), "idle\n", calls), (result, written));
+    }
+}
