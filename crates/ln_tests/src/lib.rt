@@ -30,6 +30,7 @@ mod pings;
 mod relay;
 #[cfg(test)]
 mod script;
+mod resume;
 #[cfg(test)]
 mod testing;
 #[cfg(test)]
