@@ -25,12 +25,15 @@ mod log;
 #[cfg(test)]
 mod messages;
 #[cfg(test)]
+mod opening;
+#[cfg(test)]
 mod pings;
 #[cfg(test)]
 mod relay;
 #[cfg(test)]
-mod script;
 mod resume;
+#[cfg(test)]
+mod script;
 #[cfg(test)]
 mod testing;
 #[cfg(test)]
