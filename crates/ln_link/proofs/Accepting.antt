@@ -1,21 +1,18 @@
--- What an end keeps as it accepts a signature or learns a revocation.
-use Rattle.std.proofs.Common.{refl, ap, sym, inl, inr, Option, Some, None, ◌≡◌, ℕ, ◌+◌, ◌≤◌, Result, Ok, Err, OnOk, OnErr, arith}
+-- What an end keeps as its dance moves on.
+use Rattle.std.proofs.Common.{refl, ap, sym, ◌∙◌, inl, inr, Option, Some, None, ◌≡◌, Result, Ok, Err, OnOk, OnErr}
 use Rattle.ln_msgs.specs.declared.refusals.refusal.Refusal.{Refusal}
 use Rattle.ln_log.specs.Limits.{Answers}
 use Rattle.ln_dance.specs.Dance.{Dancer, AnswersWithin}
+use Rattle.ln_link.specs.End.{End, IsSound, with_dance}
 
 pub on_ok : {A : Type 0} (r : Result A Refusal) {P Q : Type 0} → (P → Q) → OnOk r P → OnOk r Q
 on_ok (Ok x) f p = f p
 on_ok (Err x) f p = tt
 
--- how many updates are held
-abbrev pub held : Dancer → ℕ
-held d = d.log.current.own + d.log.acknowledged.peer
-
--- no more events than updates that are held, where those that were held before still are
-pub keeps : {A : Type 0} (r : Result A Refusal) (old new moved : Dancer) (events : ℕ) → OnOk r (new ≡ moved) → OnErr r (new ≡ old) → events ≤ held old + 1 → held old ≤ held moved → events ≤ held new + 1
-keeps (Ok x) old new moved events ok err few more = rw ok (omega (arith, few, more))
-keeps (Err x) old new moved events ok err few more = rw err few
+-- one that stays in its role
+pub sound : {A : Type 0} (r : Result A Refusal) (e : End) (new moved : Dancer) → OnOk r (new ≡ moved) → OnErr r (new ≡ e.dance) → moved.log.role ≡ e.dance.log.role → IsSound e → IsSound (with_dance new e)
+sound (Ok x) e new moved ok err same s = record { one_role = ap (λ (d : Dancer). d.log.role) ok ∙ same ∙ s.one_role; fees = s.fees; scripts = s.scripts }
+sound (Err x) e new moved ok err same s = record { one_role = ap (λ (d : Dancer). d.log.role) err ∙ s.one_role; fees = s.fees; scripts = s.scripts }
 
 pub within : {A : Type 0} (fault : Option Refusal) (r : Result A Refusal) → Answers fault r → AnswersWithin fault r
 within None (Ok x) a = refl

@@ -1,8 +1,12 @@
 pub mod Outputs
-pub mod Channel
+pub mod Ledger
 pub mod Config
 pub mod Opening
 pub mod Meeting
+pub mod Since
+pub mod End
+pub mod Taking
+pub mod Commands
 pub use Rattle.ln_hooks.specs.Event
 pub use Rattle.ln_dance.specs.Dance
 pub use Rattle.ln_close.specs.Closing

@@ -1,9 +1,11 @@
 //! One end of a channel from its opening on.
 
-ghost use Rattle.std.specs.Prelude.{◌≡◌};
+ghost use Rattle.std.specs.Prelude.{◌≡◌, ◌≤◌, ◌<◌, ◌+◌, ◌^◌, length};
+ghost use Rattle.ln_link.specs.Since.{own_since, peer_since};
 
-use crate::events::{put_events, send};
-use crate::output::Output;
+use crate::ledger::EventLedger;
+use crate::opening::{Opened, Terms};
+use crate::output::{Outbox, Output};
 use byteorder::{BigEndian, ByteOrder};
 use ln_bytes::{Bytes, Record, ShortId};
 use ln_close::Closing;
@@ -14,69 +16,95 @@ use ln_msgs::{ClosingSigned, Message, Records, Refusal, Shutdown};
 use std::alloc::Global;
 use std::marker::Model;
 
-/// One end of a channel whose opening both sides have signed.
-#[derive(Debug, Drop)]
+/// How far a channel end is with being ready.
+#[derive(Clone, Copy, Debug, PartialEq, Eq)]
+pub struct Marks {
+    /// The channel's short id, once it was confirmed.
+    pub short_id: Option<ShortId>,
+    /// Whether `channel_ready` was sent.
+    pub ready_sent: bool,
+    /// Whether the peer's was taken.
+    pub ready_received: bool,
+}
+
+/// One end of a channel, once both sides have agreed to it.
+#[derive(Drop)]
 pub struct Channel {
     pub(crate) dance: Dance,
     pub(crate) closing: Closing,
-    pub(crate) script: Bytes,
-    pub(crate) peer_script: Option<Bytes>,
-    pub(crate) short_id: Option<ShortId>,
-    pub(crate) ready_received: bool,
-    pub(crate) events: u64,
+    pub(crate) terms: Terms,
+    pub(crate) marks: Marks,
+    pub(crate) ledger: EventLedger,
 }
 
 impl Model for Channel {
-    ghost use Rattle.ln_link.specs.Channel.{End, IsKept};
+    ghost use Rattle.ln_link.specs.End.{End, IsSound};
 
     ghost Value = { End };
 
-    ghost view = { λ c. record { dance = c.dance; closing = c.closing; script = c.script; peer_script = c.peer_script; short_id = c.short_id; ready_received = c.ready_received; events = c.events } };
+    ghost view = { λ c. record { dance = c.dance; closing = c.closing; terms = c.terms; marks = c.marks; ledger = c.ledger } };
 
-    ghost invariant = { λ c. IsKept (record { dance = c.dance; closing = c.closing; script = c.script; peer_script = c.peer_script; short_id = c.short_id; ready_received = c.ready_received; events = c.events }) };
+    ghost invariant = { λ c. IsSound (record { dance = c.dance; closing = c.closing; terms = c.terms; marks = c.marks; ledger = c.ledger }) };
 }
 
 impl Channel {
-    ghost use Rattle.std.specs.Prelude.{◌≡◌, ◌≤◌, ◌<◌, ◌+◌, ◌^◌, ◌∷◌, [], Some, ◌++◌, length, OnOk, IfOk, IfErr};
-    ghost use Rattle.ln_log.specs.Log.{between};
-    ghost use Rattle.ln_link.specs.Outputs.{numbered};
-    ghost use Rattle.ln_link.specs.declared.output.Output.TheVariants as output;
-    ghost use Rattle.ln_link.specs.Channel.{End, opened_end, is_ready, all_acknowledged, is_settled, has_begun, fee_range, closing_message, due_fee, fee_sent, begins, own_events, peer_events, tells, shutdown_message, shutdown_sent, answers_shutdown};
+    ghost use Rattle.std.specs.Prelude.{◌≡◌, ◌≤◌, ◌<◌, ◌+◌, ◌^◌, ◌∷◌, [], Some, ◌++◌, true, false, OnOk, IfOk, IfErr};
+    ghost use Rattle.ln_link.specs.Opening.{HasBegun};
+    ghost use Rattle.ln_link.specs.Ledger.{next_event};
+    ghost use Rattle.ln_link.specs.Outputs.{events_of, numbered};
+    ghost use Rattle.ln_link.specs.Since.{own_since, peer_since};
+    ghost use Rattle.ln_link.specs.End.{End, end_of, end_dropped, is_ready, is_closed, all_acknowledged, is_settled, has_begun, fee_range, closing_message, due_fee, fee_sent, begins, committed, telling, shutdown_message, shutdown_sent, answers_shutdown, due_sent, settled};
 
-    /// An end whose opening both sides have signed, with the script that its shutdown is to name. Takes no memory.
-    pub fn new(dance: Dance, closing: Closing, script: Bytes) -> Channel
-        ensures { result ≡ opened_end dance closing script }
+    /// An end whose opening both sides agree to. Takes no memory.
+    pub fn new(alloc: Global, opened: Opened) -> Channel
+        requires { HasBegun opened }
+        ensures { result ≡ end_of opened }
     {
+        let Opened {
+            dance,
+            closing,
+            terms,
+        } = opened;
+        let marks = Marks {
+            short_id: None,
+            ready_sent: false,
+            ready_received: false,
+        };
         Channel {
             dance,
             closing,
-            script,
-            peer_script: None,
-            short_id: None,
-            ready_received: false,
-            events: 0,
+            terms,
+            marks,
+            ledger: EventLedger::new(alloc),
         }
     }
 
-    /// The dance of signatures and revocations.
-    pub fn dance(&self) -> &Dance
-        ensures { result.now ≡ self.now.dance }
+    /// The channel's id.
+    pub fn id(&self) -> [u8; 32]
+        ensures { result ≡ self.now.dance.channel }
     {
-        &self.dance
+        self.dance.channel()
     }
 
-    /// How far it is with closing.
-    pub fn closing(&self) -> Closing
-        ensures { result ≡ self.now.closing }
+    /// The connection is lost: updates that no signature covers are gone (BOLT 2, "Message Retransmission").
+    pub fn drop_unsigned(&mut self)
+        ensures { self.new ≡ end_dropped self.old }
     {
-        self.closing
+        self.dance.drop_unsigned();
     }
 
     /// Whether both sides have sent `channel_ready`.
     pub fn is_ready(&self) -> bool
         ensures { result ≡ is_ready self.now }
     {
-        self.short_id.is_some() && self.ready_received
+        self.marks.ready_sent && self.marks.ready_received
+    }
+
+    /// Whether it is closed.
+    pub fn is_closed(&self) -> bool
+        ensures { result ≡ is_closed self.now }
+    {
+        self.closing.closed.is_some()
     }
 
     /// Whether closing has begun.
@@ -101,62 +129,95 @@ impl Channel {
             && log.live_htlcs(Side::Own) == 0
     }
 
-    // The funder sends its first fee, once closing has begun.
-    pub(crate) fn begin<K: ChannelKeys>(
+    // Whether the peer has acknowledged every own update.
+    pub(crate) fn all_acknowledged(&self) -> bool
+        ensures { result ≡ all_acknowledged self.now.dance.log }
+    {
+        let log = self.dance.log();
+        log.counts(Pair::Current(Side::Peer)).own == log.len(Side::Own)
+    }
+
+    // ---- what it comes to hold
+
+    // How many updates this side holds as irrevocably committed.
+    fn committed(&self) -> Output
+        ensures { result ≡ committed self.now }
+    {
+        Output::Committed {
+            own: own_held(&self.dance) as u64,
+            peer: peer_held(&self.dance) as u64,
+        }
+    }
+
+    // Tells of the own updates that are held from this one on.
+    pub(crate) fn tell_own(
         &mut self,
         alloc: Global,
-        keys: &K,
-        outputs: &mut Vec<Output>,
+        before: usize,
+        outbox: &mut Outbox,
     ) -> Result<(), Refusal>
-        ensures outputs { OnOk result (outputs.new.items ≡ outputs.old.items ++ fee_sent (K.signer keys.now) self.old (due_fee self.old)) }
-        ensures state { OnOk result (self.new ≡ begins self.old) }
-        ensures err { IfErr result (λ r. r ≡ Refusal.Memory) }
+        requires start { before ≤ self.old.dance.log.current.own }
+        requires kept { self.old.dance.log.first.own ≤ before }
+        ensures told { OnOk result (outbox.new ≡ record { sent = outbox.old.sent; told = (outbox.old.told ++ committed self.old ∷ []) ++ numbered (next_event self.old.ledger) (events_of true (own_since before self.old.dance.log)) }) }
+        ensures state { OnOk result (self.new ≡ telling true before (own_since before self.old.dance.log) self.old) }
+        ensures memory { IfErr result (λ r. r ≡ Refusal.Memory) }
     {
-        if !self.has_begun() {
+        outbox.tell(self.committed())?;
+        let updates = own_since(&self.dance, before);
+        self.ledger.enter_all(alloc, true, before, updates, outbox)
+    }
+
+    // Tells of the peer's updates that are held from this one on.
+    pub(crate) fn tell_peer(
+        &mut self,
+        alloc: Global,
+        before: usize,
+        outbox: &mut Outbox,
+    ) -> Result<(), Refusal>
+        requires start { before ≤ self.old.dance.log.acknowledged.peer }
+        requires kept { self.old.dance.log.first.peer ≤ before }
+        ensures told { OnOk result (outbox.new ≡ record { sent = outbox.old.sent; told = (outbox.old.told ++ committed self.old ∷ []) ++ numbered (next_event self.old.ledger) (events_of false (peer_since before self.old.dance.log)) }) }
+        ensures state { OnOk result (self.new ≡ telling false before (peer_since before self.old.dance.log) self.old) }
+        ensures memory { IfErr result (λ r. r ≡ Refusal.Memory) }
+    {
+        outbox.tell(self.committed())?;
+        let updates = peer_since(&self.dance, before);
+        self.ledger.enter_all(alloc, false, before, updates, outbox)
+    }
+
+    // ---- what it owes the peer
+
+    pub(crate) fn shutdown_message(&self, alloc: Global) -> Result<Shutdown, Refusal>
+        ensures message { IfOk result (λ m. m ≡ shutdown_message self.now) }
+        ensures memory { IfErr result (λ r. r ≡ Refusal.Memory) }
+    {
+        let script = Vec::from_slice(alloc, self.terms.script.as_slice())?;
+        Ok(Shutdown {
+            channel_id: self.dance.channel(),
+            script: Bytes::new(script),
+            records: Records::empty(alloc),
+        })
+    }
+
+    // Answers the peer's shutdown, where it is owed and may be.
+    fn answer_shutdown(&mut self, alloc: Global, outbox: &mut Outbox) -> Result<(), Refusal>
+        ensures sent { OnOk result (outbox.new ≡ record { sent = outbox.old.sent ++ shutdown_sent self.old; told = outbox.old.told }) }
+        ensures state { OnOk result (self.new ≡ answers_shutdown self.old) }
+        ensures memory { IfErr result (λ r. r ≡ Refusal.Memory) }
+    {
+        if !self.closing.peer_shut || self.closing.shut || !self.all_acknowledged() {
             return Ok(());
         }
-        match self.closing.start() {
-            None => Ok(()),
-            Some(fee) => self.send_fee(alloc, keys, fee, outputs),
-        }
-    }
-
-    pub(crate) fn send_fee<K: ChannelKeys>(
-        &self,
-        alloc: Global,
-        keys: &K,
-        fee: u64,
-        outputs: &mut Vec<Output>,
-    ) -> Result<(), Refusal>
-        ensures outputs { OnOk result (outputs.new.items ≡ outputs.old.items ++ fee_sent (K.signer keys.now) self.now (Some fee)) }
-        ensures err { IfErr result (λ r. r ≡ Refusal.Memory) }
-    {
-        let message = self.closing_message(alloc, keys, fee)?;
-        send(outputs, Message::ClosingSigned(message))
-    }
-
-    fn closing_message<K: ChannelKeys>(
-        &self,
-        alloc: Global,
-        keys: &K,
-        fee: u64,
-    ) -> Result<ClosingSigned, Refusal>
-        ensures ok { IfOk result (λ m. m ≡ closing_message (K.signer keys.now) self.now fee) }
-        ensures err { IfErr result (λ r. r ≡ Refusal.Memory) }
-    {
-        let range = self.fee_range(alloc)?;
-        Ok(ClosingSigned {
-            channel_id: self.dance.channel(),
-            fee_satoshis: fee,
-            signature: keys.sign_close(fee),
-            records: Records::new(range),
-        })
+        let message = self.shutdown_message(alloc)?;
+        outbox.send(Message::Shutdown(message))?;
+        self.closing.shut();
+        Ok(())
     }
 
     // The range that each fee of this side's comes with.
     fn fee_range(&self, alloc: Global) -> Result<Vec<Record>, Refusal>
-        ensures ok { IfOk result (λ v. v.items ≡ fee_range self.now.closing ∷ []) }
-        ensures err { IfErr result (λ r. r ≡ Refusal.Memory) }
+        ensures range { IfOk result (λ v. v.items ≡ fee_range self.now.closing ∷ []) }
+        ensures memory { IfErr result (λ r. r ≡ Refusal.Memory) }
     {
         let mut range = [0; 16];
         BigEndian::write_u64(&mut range[..8], self.closing.fees.least);
@@ -169,144 +230,116 @@ impl Channel {
         Ok(records)
     }
 
-    // The own updates that are held, from this one on.
-    fn own_told(&self, before: usize) -> &[Update]
-        requires start { before ≤ self.now.dance.log.current.own }
-        requires kept { self.now.dance.log.first.own ≤ before }
-        ensures updates { result.now ≡ between before self.now.dance.log.current.own self.now.dance.log.own }
-        ensures count { before + length result.now ≡ self.now.dance.log.current.own }
-        ensures small { self.now.dance.log.current.own + self.now.dance.log.acknowledged.peer + 1 < 2 ^ 64 }
-    {
-        self.dance.log().between(Side::Own, before, self.own_held())
-    }
-
-    // The peer's updates that are held, from this one on.
-    fn peer_told(&self, before: usize) -> &[Update]
-        requires start { before ≤ self.now.dance.log.acknowledged.peer }
-        requires kept { self.now.dance.log.first.peer ≤ before }
-        ensures updates { result.now ≡ between before self.now.dance.log.acknowledged.peer self.now.dance.log.received }
-        ensures count { before + length result.now ≡ self.now.dance.log.acknowledged.peer }
-        ensures small { self.now.dance.log.current.own + self.now.dance.log.acknowledged.peer + 1 < 2 ^ 64 }
-    {
-        self.dance
-            .log()
-            .between(Side::Peer, before, self.peer_held())
-    }
-
-    // How many own updates this side holds as irrevocably committed.
-    pub(crate) fn own_held(&self) -> usize
-        ensures is { result ≡ self.now.dance.log.current.own }
-        ensures ordered { self.now.dance.log.current.own ≤ self.now.dance.log.acknowledged.own }
-        ensures first { self.now.dance.log.first.own ≤ self.now.dance.log.current.own }
-        ensures within { self.now.dance.log.current.own ≤ length self.now.dance.log.own }
-        ensures small { self.now.dance.log.current.own + self.now.dance.log.acknowledged.peer + 1 < 2 ^ 64 }
-    {
-        let log = self.dance.log();
-        let _ = log.first(Side::Own);
-        log.counts(Pair::Current(Side::Own)).own
-    }
-
-    // How many of the peer's updates it does.
-    pub(crate) fn peer_held(&self) -> usize
-        ensures is { result ≡ self.now.dance.log.acknowledged.peer }
-        ensures ordered { self.now.dance.log.acknowledged.peer ≤ self.now.dance.log.signed.peer }
-        ensures first { self.now.dance.log.first.peer ≤ self.now.dance.log.acknowledged.peer }
-        ensures within { self.now.dance.log.acknowledged.peer ≤ length self.now.dance.log.received }
-        ensures small { self.now.dance.log.current.own + self.now.dance.log.acknowledged.peer + 1 < 2 ^ 64 }
-    {
-        let log = self.dance.log();
-        let _ = log.first(Side::Peer);
-        log.counts(Pair::Current(Side::Peer)).peer
-    }
-
-    // How many updates this side holds as irrevocably committed.
-    pub(crate) fn put_committed(&self, outputs: &mut Vec<Output>) -> Result<(), Refusal>
-        ensures outputs { OnOk result (outputs.new.items ≡ outputs.old.items ++ output.Committed self.now.dance.log.current.own self.now.dance.log.acknowledged.peer ∷ []) }
-        ensures err { IfErr result (λ r. r ≡ Refusal.Memory) }
-    {
-        outputs.push(Output::Committed {
-            own: self.own_held() as u64,
-            peer: self.peer_held() as u64,
-        })?;
-        Ok(())
-    }
-
-    // Tells of the own updates that are held from this one on.
-    pub(crate) fn tell_own(
-        &mut self,
+    fn closing_message<K: ChannelKeys>(
+        &self,
         alloc: Global,
-        before: usize,
-        outputs: &mut Vec<Output>,
-    ) -> Result<(), Refusal>
-        requires start { before ≤ self.old.dance.log.current.own }
-        requires kept { self.old.dance.log.first.own ≤ before }
-        requires few { self.old.events ≤ before + self.old.dance.log.acknowledged.peer + 1 }
-        ensures outputs { OnOk result (outputs.new.items ≡ outputs.old.items ++ numbered self.old.events (own_events before self.old)) }
-        ensures state { OnOk result (self.new ≡ tells (own_events before self.old) self.old) }
-        ensures err { IfErr result (λ r. r ≡ Refusal.Memory) }
+        keys: &K,
+        fee: u64,
+    ) -> Result<ClosingSigned, Refusal>
+        ensures message { IfOk result (λ m. m ≡ closing_message (K.signer keys.now) self.now fee) }
+        ensures memory { IfErr result (λ r. r ≡ Refusal.Memory) }
     {
-        let updates = self.own_told(before);
-        let next = put_events(alloc, outputs, self.events, true, updates)?;
-        self.events = next;
-        Ok(())
-    }
-
-    // Tells of the peer's updates that are held from this one on.
-    pub(crate) fn tell_peer(
-        &mut self,
-        alloc: Global,
-        before: usize,
-        outputs: &mut Vec<Output>,
-    ) -> Result<(), Refusal>
-        requires start { before ≤ self.old.dance.log.acknowledged.peer }
-        requires kept { self.old.dance.log.first.peer ≤ before }
-        requires few { self.old.events ≤ self.old.dance.log.current.own + before + 1 }
-        ensures outputs { OnOk result (outputs.new.items ≡ outputs.old.items ++ numbered self.old.events (peer_events before self.old)) }
-        ensures state { OnOk result (self.new ≡ tells (peer_events before self.old) self.old) }
-        ensures err { IfErr result (λ r. r ≡ Refusal.Memory) }
-    {
-        let updates = self.peer_told(before);
-        let next = put_events(alloc, outputs, self.events, false, updates)?;
-        self.events = next;
-        Ok(())
-    }
-
-    // Whether the peer has acknowledged every own update.
-    pub(crate) fn all_acknowledged(&self) -> bool
-        ensures { result ≡ all_acknowledged self.now.dance.log }
-    {
-        let log = self.dance.log();
-        log.counts(Pair::Current(Side::Peer)).own == log.len(Side::Own)
-    }
-
-    // Answers the peer's shutdown, where it is owed and may be.
-    pub(crate) fn answer_shutdown(
-        &mut self,
-        alloc: Global,
-        outputs: &mut Vec<Output>,
-    ) -> Result<(), Refusal>
-        ensures outputs { OnOk result (outputs.new.items ≡ outputs.old.items ++ shutdown_sent self.old) }
-        ensures state { OnOk result (self.new ≡ answers_shutdown self.old) }
-        ensures err { IfErr result (λ r. r ≡ Refusal.Memory) }
-    {
-        if !self.closing.peer_shut || self.closing.shut || !self.all_acknowledged() {
-            return Ok(());
-        }
-        let message = self.shutdown_message(alloc)?;
-        send(outputs, Message::Shutdown(message))?;
-        self.closing.shut();
-        Ok(())
-    }
-
-    pub(crate) fn shutdown_message(&self, alloc: Global) -> Result<Shutdown, Refusal>
-        ensures ok { IfOk result (λ m. m ≡ shutdown_message self.now) }
-        ensures err { IfErr result (λ r. r ≡ Refusal.Memory) }
-    {
-        let script = Vec::from_slice(alloc, self.script.as_slice())?;
-        Ok(Shutdown {
+        let range = self.fee_range(alloc)?;
+        Ok(ClosingSigned {
             channel_id: self.dance.channel(),
-            script: Bytes::new(script),
-            records: Records::empty(alloc),
+            fee_satoshis: fee,
+            signature: keys.sign_close(fee),
+            records: Records::new(range),
         })
     }
+
+    pub(crate) fn send_fee<K: ChannelKeys>(
+        &self,
+        alloc: Global,
+        keys: &K,
+        fee: u64,
+        outbox: &mut Outbox,
+    ) -> Result<(), Refusal>
+        ensures sent { OnOk result (outbox.new ≡ record { sent = outbox.old.sent ++ fee_sent (K.signer keys.now) self.now (Some fee); told = outbox.old.told }) }
+        ensures memory { IfErr result (λ r. r ≡ Refusal.Memory) }
+    {
+        let message = self.closing_message(alloc, keys, fee)?;
+        outbox.send(Message::ClosingSigned(message))
+    }
+
+    // The funder sends its first fee, once closing has begun.
+    fn begin<K: ChannelKeys>(
+        &mut self,
+        alloc: Global,
+        keys: &K,
+        outbox: &mut Outbox,
+    ) -> Result<(), Refusal>
+        ensures sent { OnOk result (outbox.new ≡ record { sent = outbox.old.sent ++ fee_sent (K.signer keys.now) self.old (due_fee self.old); told = outbox.old.told }) }
+        ensures state { OnOk result (self.new ≡ begins self.old) }
+        ensures memory { IfErr result (λ r. r ≡ Refusal.Memory) }
+    {
+        if !self.has_begun() {
+            return Ok(());
+        }
+        match self.closing.start() {
+            None => Ok(()),
+            Some(fee) => self.send_fee(alloc, keys, fee, outbox),
+        }
+    }
+
+    /// The end of each turn: the shutdown that is owed and may be sent now, then the funder's first fee.
+    pub(crate) fn settle<K: ChannelKeys>(
+        &mut self,
+        alloc: Global,
+        keys: &K,
+        outbox: &mut Outbox,
+    ) -> Result<(), Refusal>
+        ensures sent { OnOk result (outbox.new ≡ record { sent = outbox.old.sent ++ due_sent (K.signer keys.now) self.old; told = outbox.old.told }) }
+        ensures state { OnOk result (self.new ≡ settled self.old) }
+        ensures memory { IfErr result (λ r. r ≡ Refusal.Memory) }
+    {
+        self.answer_shutdown(alloc, outbox)?;
+        self.begin(alloc, keys, outbox)
+    }
+}
+
+// How many own updates a side holds as irrevocably committed.
+pub(crate) fn own_held(dance: &Dance) -> usize
+    ensures held { result ≡ dance.now.log.current.own }
+    ensures ordered { dance.now.log.current.own ≤ dance.now.log.acknowledged.own }
+    ensures first { dance.now.log.first.own ≤ dance.now.log.current.own }
+    ensures within { dance.now.log.current.own ≤ length dance.now.log.own }
+    ensures small { dance.now.log.current.own < 2 ^ 64 }
+{
+    let log = dance.log();
+    let _ = log.first(Side::Own);
+    log.counts(Pair::Current(Side::Own)).own
+}
+
+// How many of the peer's updates it does.
+pub(crate) fn peer_held(dance: &Dance) -> usize
+    ensures held { result ≡ dance.now.log.acknowledged.peer }
+    ensures ordered { dance.now.log.acknowledged.peer ≤ dance.now.log.signed.peer }
+    ensures first { dance.now.log.first.peer ≤ dance.now.log.acknowledged.peer }
+    ensures within { dance.now.log.acknowledged.peer ≤ length dance.now.log.received }
+    ensures small { dance.now.log.acknowledged.peer < 2 ^ 64 }
+{
+    let log = dance.log();
+    let _ = log.first(Side::Peer);
+    log.counts(Pair::Current(Side::Peer)).peer
+}
+
+// The own updates that are held, from this one on.
+fn own_since(dance: &Dance, before: usize) -> &[Update]
+    requires start { before ≤ dance.now.log.current.own }
+    requires kept { dance.now.log.first.own ≤ before }
+    ensures updates { result.now ≡ own_since before dance.now.log }
+    ensures small { before + length result.now < 2 ^ 64 }
+{
+    dance.log().between(Side::Own, before, own_held(dance))
+}
+
+// The peer's updates that are held, from this one on.
+fn peer_since(dance: &Dance, before: usize) -> &[Update]
+    requires start { before ≤ dance.now.log.acknowledged.peer }
+    requires kept { dance.now.log.first.peer ≤ before }
+    ensures updates { result.now ≡ peer_since before dance.now.log }
+    ensures small { before + length result.now < 2 ^ 64 }
+{
+    dance.log().between(Side::Peer, before, peer_held(dance))
 }

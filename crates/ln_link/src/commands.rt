@@ -1,48 +1,49 @@
 //! What each command makes of an end.
 
+ghost use Rattle.std.specs.Prelude.{◌≡◌, ◌∷◌, [], IfOk, IfErr};
+ghost use Rattle.ln_link.specs.Outputs.{sends, nothing};
+ghost use Rattle.ln_msgs.specs.declared.refusals.refusal.Refusal.TheVariants as refusal;
+
 use crate::channel::Channel;
-use crate::events::send;
-use crate::output::Output;
+use crate::command::Command;
+use crate::output::{Outbox, Output};
 use ln_bytes::{Bytes, ShortId};
 use ln_dance::{add_message, fail_message, fee_message, fulfil_message, malformed_message};
 use ln_keys::ChannelKeys;
 use ln_log::{Add, Fail, Fee, Fulfil, Malformed, Side, Update};
-use ln_msgs::{ChannelReady, CommitmentSigned, Message, Records, Refusal, Shutdown};
+use ln_msgs::{ChannelReady, CommitmentSigned, Message, Records, Refusal};
 use std::alloc::Global;
 
+/// `shutdown` has 36 bytes beside its script, and a message 65,535 at most.
+const LONGEST_SCRIPT: usize = 65_499;
+
 impl Channel {
-    ghost use Rattle.std.specs.Prelude.{◌≡◌, length, ◌∷◌, [], OnOk, IfOk, OnErr};
-    ghost use Rattle.ln_dance.specs.Dance.{AnswersWithin, sign_fault, signed_message};
-    ghost use Rattle.ln_dance.specs.Messages.{update_message};
+    ghost use Rattle.std.specs.Prelude.{◌≡◌, length, OnOk, IfOk, OnErr, IfErr};
     ghost use Rattle.ln_log.specs.declared.update.Update.TheVariants as update;
     ghost use Rattle.ln_log.specs.Updates.{next_id};
     ghost use Rattle.ln_log.specs.Limits.{HasNextId};
     ghost use Rattle.ln_log.specs.Log.{proposal_fault};
-    ghost use Rattle.ln_msgs.specs.declared.messages.message.Message.TheVariants as message;
-    ghost use Rattle.ln_link.specs.declared.output.Output.TheVariants as output;
-    ghost use Rattle.ln_link.specs.Channel.{ChangesNothing, begins, confirm_fault, confirmed, ready_message, sign_command_fault, signs_next, sign_outputs, shut_fault, shuts_down, shut_outputs, shut_either, closed_fault, own_fault, propose_fault, proposes};
+    ghost use Rattle.ln_dance.specs.Dance.{AnswersWithin, sign_fault, signed_message};
+    ghost use Rattle.ln_link.specs.End.{Makes};
+    ghost use Rattle.ln_link.specs.Commands.{confirm_row, ready_message, shut_by_either, closed_fault, own_fault, propose_fault, proposes, propose_row, sign_command_fault, signs_next, sign_row, shut_fault, shuts_down, shut_row, command_row, unready_fault};
 
     /// The funding is deep enough: sends `channel_ready` (BOLT 2, "The `channel_ready` Message"). 40 where it was sent,
     /// or the channel is closed.
-    pub fn confirm<K: ChannelKeys>(
+    fn confirm<K: ChannelKeys>(
         &mut self,
         alloc: Global,
         keys: &K,
         short_id: ShortId,
-    ) -> Result<Vec<Output>, Refusal>
-        ensures answer { AnswersWithin (confirm_fault self.old) result }
-        ensures outputs { IfOk result (λ v. v.items ≡ output.Send (message.ChannelReady (ready_message (K.signer keys.now) self.old)) ∷ []) }
-        ensures state { OnOk result (self.new ≡ confirmed short_id self.old) }
-        ensures refused { ChangesNothing result self.old self.new }
+    ) -> Result<Outbox, Refusal>
+        ensures { Makes (confirm_row (K.signer keys.now) short_id self.old) result self.old self.new }
     {
-        if self.short_id.is_some() || self.closing.closed.is_some() {
+        if self.marks.ready_sent || self.is_closed() {
             return Err(Refusal::NotReady);
         }
-        let mut outputs = Vec::new(alloc);
         let ready = self.ready_message(alloc, keys);
-        send(&mut outputs, Message::ChannelReady(ready))?;
-        self.short_id = Some(short_id);
-        Ok(outputs)
+        self.marks.short_id = Some(short_id);
+        self.marks.ready_sent = true;
+        one(alloc, Message::ChannelReady(ready))
     }
 
     fn ready_message<K: ChannelKeys>(&self, alloc: Global, keys: &K) -> ChannelReady
@@ -55,73 +56,9 @@ impl Channel {
         }
     }
 
-    // Signs the peer's next commitment.
-    fn sign_next<K: ChannelKeys>(
-        &mut self,
-        alloc: Global,
-        keys: &K,
-    ) -> Result<CommitmentSigned, Refusal>
-        ensures answer { AnswersWithin (sign_fault self.old.dance) result }
-        ensures message { IfOk result (λ m. m ≡ signed_message (K.signer keys.now) self.old.dance) }
-        ensures state { OnOk result (self.new ≡ signs_next self.old) }
-        ensures err { OnErr result (self.new ≡ self.old) }
-    {
-        self.dance.sign(alloc, keys)
-    }
-
-    /// Signs the peer's next commitment (BOLT 2, "Committing Updates So Far: `commitment_signed`").
-    ///
-    /// Errors: 40 before both sides have confirmed; 41 where a signature is unrevoked, 42 where nothing would be new, 46
-    /// behind the last number; 60.
-    pub fn sign<K: ChannelKeys>(&mut self, alloc: Global, keys: &K) -> Result<Vec<Output>, Refusal>
-        ensures answer { AnswersWithin (sign_command_fault self.old) result }
-        ensures outputs { IfOk result (λ v. v.items ≡ sign_outputs (K.signer keys.now) self.old) }
-        ensures state { OnOk result (self.new ≡ signs_next self.old) }
-        ensures refused { ChangesNothing result self.old self.new }
-    {
-        if !self.is_ready() {
-            return Err(Refusal::NotReady);
-        }
-        let message = self.sign_next(alloc, keys)?;
-        let mut outputs = Vec::new(alloc);
-        send(&mut outputs, Message::CommitmentSigned(message))?;
-        outputs.push(Output::Signed(self.own_len() as u64))?;
-        Ok(outputs)
-    }
-
-    // How many own updates there are.
-    fn own_len(&self) -> usize
-        ensures { result ≡ length self.now.dance.log.own }
-    {
-        self.dance.log().len(Side::Own)
-    }
-
-    /// Sends shutdown with this script (BOLT 2, "Closing Initiation: `shutdown`"): 43 where it was sent, 45 where own
-    /// updates are pending.
-    pub fn shut<K: ChannelKeys>(
-        &mut self,
-        alloc: Global,
-        keys: &K,
-        script: Bytes,
-    ) -> Result<Vec<Output>, Refusal>
-        ensures answer { AnswersWithin (shut_fault self.old) result }
-        ensures outputs { IfOk result (λ v. v.items ≡ shut_outputs (K.signer keys.now) script self.old) }
-        ensures state { OnOk result (self.new ≡ begins (shuts_down script self.old)) }
-        ensures refused { ChangesNothing result self.old self.new }
-    {
-        self.closing.may_shut(!self.all_acknowledged())?;
-        self.script = script;
-        self.closing.shut();
-        let mut outputs = Vec::new(alloc);
-        let message = self.shutdown_message(alloc)?;
-        send(&mut outputs, Message::Shutdown(message))?;
-        self.begin(alloc, keys, &mut outputs)?;
-        Ok(outputs)
-    }
-
     // Whether neither side has shut down.
-    fn shut_either(&self) -> Option<Refusal>
-        ensures { result ≡ shut_either self.now }
+    fn shut_refusal(&self) -> Option<Refusal>
+        ensures { result ≡ shut_by_either self.now }
     {
         if self.closing.shut || self.closing.peer_shut {
             Some(Refusal::Shut)
@@ -134,11 +71,11 @@ impl Channel {
         ensures { result ≡ closed_fault self.now update.now }
     {
         match update {
-            Update::Add(_) => self.shut_either(),
+            Update::Add(_) => self.shut_refusal(),
             Update::Fulfil(_) => None,
             Update::Fail(_) => None,
             Update::Malformed(_) => None,
-            Update::Fee(_) => self.shut_either(),
+            Update::Fee(_) => self.shut_refusal(),
         }
     }
 
@@ -182,87 +119,222 @@ impl Channel {
     ///
     /// Errors: 40 before both sides have confirmed; 46 where this side has 2^62 updates; 43 where either side has shut
     /// down; 44 with the number by which the peer would refuse it, 23 to 27; 60.
-    pub fn offer(&mut self, alloc: Global, add: Add) -> Result<Vec<Output>, Refusal>
+    fn offer(&mut self, alloc: Global, add: Add) -> Result<Outbox, Refusal>
         requires { add.id ≡ next_id self.old.dance.log.own }
-        ensures answer { AnswersWithin (propose_fault self.old (update.Add add)) result }
-        ensures outputs { IfOk result (λ v. v.items ≡ output.Send (update_message self.old.dance.channel (update.Add add)) ∷ []) }
-        ensures state { OnOk result (self.new ≡ proposes (update.Add add) self.old) }
-        ensures refused { ChangesNothing result self.old self.new }
+        ensures { Makes (propose_row (update.Add add) self.old) result self.old self.new }
     {
         self.propose(Update::Add(add))?;
-        let mut outputs = Vec::new(alloc);
         let message = add_message(alloc, self.dance.channel(), &add);
-        send(&mut outputs, Message::UpdateAddHtlc(message))?;
-        Ok(outputs)
+        one(alloc, Message::UpdateAddHtlc(message))
     }
 
     /// Fulfils an HTLC of the peer's (BOLT 2, "Removing an HTLC: `update_fulfill_htlc`").
     ///
     /// Errors: 40 and 46 as for an offer; 44 with 28 where there is no such HTLC, 49 where it is removed, 48 where it isn't
     /// held as irrevocably committed; 44 with 29 for a wrong preimage; 60.
-    pub fn fulfil(&mut self, alloc: Global, fulfil: Fulfil) -> Result<Vec<Output>, Refusal>
-        ensures answer { AnswersWithin (propose_fault self.old (update.Fulfil fulfil)) result }
-        ensures outputs { IfOk result (λ v. v.items ≡ output.Send (update_message self.old.dance.channel (update.Fulfil fulfil)) ∷ []) }
-        ensures state { OnOk result (self.new ≡ proposes (update.Fulfil fulfil) self.old) }
-        ensures refused { ChangesNothing result self.old self.new }
+    fn fulfil(&mut self, alloc: Global, fulfil: Fulfil) -> Result<Outbox, Refusal>
+        ensures { Makes (propose_row (update.Fulfil fulfil) self.old) result self.old self.new }
     {
         self.propose(Update::Fulfil(fulfil))?;
-        let mut outputs = Vec::new(alloc);
         let message = fulfil_message(alloc, self.dance.channel(), &fulfil);
-        send(&mut outputs, Message::UpdateFulfillHtlc(message))?;
-        Ok(outputs)
+        one(alloc, Message::UpdateFulfillHtlc(message))
     }
 
     /// Fails an HTLC of the peer's (BOLT 2, "Removing an HTLC: `update_fail_htlc`").
     ///
     /// Errors: as for a fulfilment, but 44 with 7 for a reason of more than 65,491 bytes in place of 44 with 29.
-    pub fn fail(&mut self, alloc: Global, fail: Fail) -> Result<Vec<Output>, Refusal>
-        ensures answer { AnswersWithin (propose_fault self.old (update.Fail fail)) result }
-        ensures outputs { IfOk result (λ v. v.items ≡ output.Send (update_message self.old.dance.channel (update.Fail fail)) ∷ []) }
-        ensures state { OnOk result (self.new ≡ proposes (update.Fail fail) self.old) }
-        ensures refused { ChangesNothing result self.old self.new }
+    fn fail(&mut self, alloc: Global, fail: Fail) -> Result<Outbox, Refusal>
+        ensures { Makes (propose_row (update.Fail fail) self.old) result self.old self.new }
     {
         let message = fail_message(alloc, self.dance.channel(), &fail);
         self.propose(Update::Fail(fail))?;
-        let mut outputs = Vec::new(alloc);
-        send(&mut outputs, Message::UpdateFailHtlc(message?))?;
-        Ok(outputs)
+        one(alloc, Message::UpdateFailHtlc(message?))
     }
 
     /// Fails an HTLC of the peer's whose onion can't be read (BOLT 2, "Removing an HTLC:
     /// `update_fail_malformed_htlc`").
     ///
     /// Errors: as for a fulfilment, but 44 with 21 for a code without the BADONION bit, 0x8000, in place of 44 with 29.
-    pub fn fail_malformed(
-        &mut self,
-        alloc: Global,
-        malformed: Malformed,
-    ) -> Result<Vec<Output>, Refusal>
-        ensures answer { AnswersWithin (propose_fault self.old (update.Malformed malformed)) result }
-        ensures outputs { IfOk result (λ v. v.items ≡ output.Send (update_message self.old.dance.channel (update.Malformed malformed)) ∷ []) }
-        ensures state { OnOk result (self.new ≡ proposes (update.Malformed malformed) self.old) }
-        ensures refused { ChangesNothing result self.old self.new }
+    fn fail_malformed(&mut self, alloc: Global, malformed: Malformed) -> Result<Outbox, Refusal>
+        ensures { Makes (propose_row (update.Malformed malformed) self.old) result self.old self.new }
     {
         self.propose(Update::Malformed(malformed))?;
-        let mut outputs = Vec::new(alloc);
         let message = malformed_message(alloc, self.dance.channel(), &malformed);
-        send(&mut outputs, Message::UpdateFailMalformedHtlc(message))?;
-        Ok(outputs)
+        one(alloc, Message::UpdateFailMalformedHtlc(message))
     }
 
     /// Changes the feerate, in satoshi per 1000 weight (BOLT 2, "Updating Fees: `update_fee`").
     ///
     /// Errors: 40, 46 and 43 as for an offer; 44 with 30 at the fundee; 60.
-    pub fn change_fee(&mut self, alloc: Global, fee: Fee) -> Result<Vec<Output>, Refusal>
-        ensures answer { AnswersWithin (propose_fault self.old (update.Fee fee)) result }
-        ensures outputs { IfOk result (λ v. v.items ≡ output.Send (update_message self.old.dance.channel (update.Fee fee)) ∷ []) }
-        ensures state { OnOk result (self.new ≡ proposes (update.Fee fee) self.old) }
-        ensures refused { ChangesNothing result self.old self.new }
+    fn change_fee(&mut self, alloc: Global, fee: Fee) -> Result<Outbox, Refusal>
+        ensures { Makes (propose_row (update.Fee fee) self.old) result self.old self.new }
     {
         self.propose(Update::Fee(fee))?;
-        let mut outputs = Vec::new(alloc);
         let message = fee_message(alloc, self.dance.channel(), &fee);
-        send(&mut outputs, Message::UpdateFee(message))?;
-        Ok(outputs)
+        one(alloc, Message::UpdateFee(message))
     }
+
+    // The id of the next HTLC that it offers.
+    fn next_id(&self) -> u64
+        ensures { result ≡ next_id self.now.dance.log.own }
+    {
+        self.dance.log().next_id()
+    }
+
+    // Signs the peer's next commitment.
+    fn sign_next<K: ChannelKeys>(
+        &mut self,
+        alloc: Global,
+        keys: &K,
+    ) -> Result<CommitmentSigned, Refusal>
+        ensures answer { AnswersWithin (sign_command_fault self.old) result }
+        ensures message { IfOk result (λ m. m ≡ signed_message (K.signer keys.now) self.old.dance) }
+        ensures state { OnOk result (self.new ≡ signs_next self.old) }
+        ensures err { OnErr result (self.new ≡ self.old) }
+    {
+        if !self.is_ready() {
+            return Err(Refusal::NotReady);
+        }
+        self.dance.sign(alloc, keys)
+    }
+
+    /// Signs the peer's next commitment (BOLT 2, "Committing Updates So Far: `commitment_signed`").
+    ///
+    /// Errors: 40 before both sides have confirmed; 41 where a signature is unrevoked, 42 where nothing would be new, 46
+    /// behind the last number; 60.
+    fn sign<K: ChannelKeys>(&mut self, alloc: Global, keys: &K) -> Result<Outbox, Refusal>
+        ensures { Makes (sign_row (K.signer keys.now) self.old) result self.old self.new }
+    {
+        let covered = self.own_len();
+        let message = self.sign_next(alloc, keys)?;
+        let mut outbox = Outbox::new(alloc);
+        outbox.send(Message::CommitmentSigned(message))?;
+        outbox.tell(Output::Signed(covered as u64))?;
+        Ok(outbox)
+    }
+
+    // How many own updates there are.
+    fn own_len(&self) -> usize
+        ensures { result ≡ length self.now.dance.log.own }
+    {
+        self.dance.log().len(Side::Own)
+    }
+
+    // What keeps this side from shutting down.
+    fn shutdown_refusal(&self, script: &Bytes) -> Option<Refusal>
+        ensures { result ≡ shut_fault script.now self.now }
+    {
+        if self.closing.shut {
+            return Some(Refusal::Shut);
+        }
+        if !self.all_acknowledged() {
+            return Some(Refusal::UpdatesPending);
+        }
+        if script.len() > LONGEST_SCRIPT {
+            return Some(Refusal::PeerLimit(7));
+        }
+        None
+    }
+
+    /// Sends shutdown with this script (BOLT 2, "Closing Initiation: `shutdown`"): 43 where it was sent, 45 where own
+    /// updates are pending, 44 with 7 for a script of more than 65,499 bytes.
+    fn shut<K: ChannelKeys>(
+        &mut self,
+        alloc: Global,
+        keys: &K,
+        script: Bytes,
+    ) -> Result<Outbox, Refusal>
+        ensures { Makes (shut_row (K.signer keys.now) script self.old) result self.old self.new }
+    {
+        match self.shutdown_refusal(&script) {
+            Some(refusal) => return Err(refusal),
+            None => {}
+        }
+        self.terms.script = script;
+        self.closing.shut();
+        let message = self.shutdown_message(alloc)?;
+        let mut outbox = one(alloc, Message::Shutdown(message))?;
+        self.settle(alloc, keys, &mut outbox)?;
+        Ok(outbox)
+    }
+
+    /// What isn't ready for a command, which is told before that the peer isn't there.
+    pub fn unready_refusal(&self, command: &Command) -> Option<Refusal>
+        ensures { result ≡ unready_fault command.now self.now }
+    {
+        match command {
+            Command::Confirm(_) => {
+                if self.marks.ready_sent || self.is_closed() {
+                    Some(Refusal::NotReady)
+                } else {
+                    None
+                }
+            }
+            Command::Shutdown(_) => None,
+            _ => {
+                if self.is_ready() {
+                    None
+                } else {
+                    Some(Refusal::NotReady)
+                }
+            }
+        }
+    }
+
+    /// What a command makes of the end.
+    pub fn command<K: ChannelKeys>(
+        &mut self,
+        alloc: Global,
+        keys: &K,
+        command: Command,
+    ) -> Result<Outbox, Refusal>
+        ensures { Makes (command_row (K.signer keys.now) command self.old) result self.old self.new }
+    {
+        match command {
+            Command::Confirm(short_id) => self.confirm(alloc, keys, short_id),
+            Command::Add {
+                amount,
+                hash,
+                expiry,
+                onion,
+                origin,
+            } => {
+                let id = self.next_id();
+                let add = Add {
+                    id,
+                    amount,
+                    hash,
+                    expiry,
+                    onion,
+                    origin,
+                };
+                self.offer(alloc, add)
+            }
+            Command::Fulfil { id, preimage } => self.fulfil(alloc, Fulfil { id, preimage }),
+            Command::Fail { id, reason } => self.fail(alloc, Fail { id, reason }),
+            Command::Malformed { id, sha, code } => {
+                let malformed = Malformed {
+                    id,
+                    sha256_of_onion: sha,
+                    failure_code: code,
+                };
+                self.fail_malformed(alloc, malformed)
+            }
+            Command::Fee(feerate) => self.change_fee(alloc, Fee { feerate }),
+            Command::Sign => self.sign(alloc, keys),
+            Command::Shutdown(script) => self.shut(alloc, keys, script),
+            Command::Decide { .. } => Err(Refusal::NotReady),
+            Command::Forget(_) => Err(Refusal::NotReady),
+        }
+    }
+}
+
+// One message is sent.
+fn one(alloc: Global, message: Message) -> Result<Outbox, Refusal>
+    ensures sent { IfOk result (λ h. h ≡ sends (message ∷ []) nothing) }
+    ensures memory { IfErr result (λ r. r ≡ refusal.Memory) }
+{
+    let mut outbox = Outbox::new(alloc);
+    outbox.send(message)?;
+    Ok(outbox)
 }

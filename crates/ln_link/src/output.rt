@@ -1,9 +1,11 @@
 //! What a link hands out.
 
 use ln_hooks::ChannelEvent;
-use ln_msgs::Message;
+use ln_msgs::{Message, Refusal};
+use std::alloc::Global;
+use std::marker::Model;
 
-/// What a link hands out.
+/// What a link hands out. Within one answer these stand in this order.
 #[derive(Debug, Drop)]
 pub enum Output {
     /// A message to the peer.
@@ -21,4 +23,65 @@ pub enum Output {
     Event(u64, ChannelEvent),
     /// The channel is closed at this fee, in satoshis.
     Closed(u64),
+}
+
+/// What is to be handed out: messages to the peer, and what is told behind them.
+#[derive(Drop)]
+pub struct Outbox {
+    sent: Vec<Output>,
+    told: Vec<Output>,
+}
+
+impl Model for Outbox {
+    ghost use Rattle.ln_link.specs.Outputs.{Handed};
+
+    ghost Value = { Handed };
+
+    ghost view = { λ b. record { sent = b.sent.items; told = b.told.items } };
+}
+
+impl Outbox {
+    ghost use Rattle.std.specs.Prelude.{◌≡◌, ◌++◌, ◌∷◌, [], OnOk, IfOk, IfErr};
+    ghost use Rattle.ln_link.specs.declared.output.Output.TheVariants as output;
+    ghost use Rattle.ln_link.specs.Outputs.{nothing, all_of};
+
+    /// Nothing yet. Takes no memory.
+    pub(crate) fn new(alloc: Global) -> Outbox
+        ensures { result ≡ nothing }
+    {
+        Outbox {
+            sent: Vec::new(alloc),
+            told: Vec::new(alloc),
+        }
+    }
+
+    /// A message to the peer.
+    pub(crate) fn send(&mut self, message: Message) -> Result<(), Refusal>
+        ensures sent { OnOk result (self.new ≡ record { sent = self.old.sent ++ output.Send message ∷ []; told = self.old.told }) }
+        ensures memory { IfErr result (λ r. r ≡ Refusal.Memory) }
+    {
+        self.sent.push(Output::Send(message))?;
+        Ok(())
+    }
+
+    /// Something to be told.
+    pub(crate) fn tell(&mut self, told: Output) -> Result<(), Refusal>
+        ensures told { OnOk result (self.new ≡ record { sent = self.old.sent; told = self.old.told ++ told ∷ [] }) }
+        ensures memory { IfErr result (λ r. r ≡ Refusal.Memory) }
+    {
+        self.told.push(told)?;
+        Ok(())
+    }
+
+    /// All of it in order.
+    pub fn into_outputs(self) -> Result<Vec<Output>, Refusal>
+        ensures outputs { IfOk result (λ v. v.items ≡ all_of self) }
+        ensures memory { IfErr result (λ r. r ≡ Refusal.Memory) }
+    {
+        let Outbox { mut sent, told } = self;
+        for output in told {
+            sent.push(output)?;
+        }
+        Ok(sent)
+    }
 }

@@ -1,15 +1,14 @@
 //! What each message of the peer makes of an end.
 
 ghost use Rattle.std.specs.Prelude.{◌≡◌};
-ghost use Rattle.ln_link.specs.Channel.{range_in};
+ghost use Rattle.ln_link.specs.Taking.{range_in};
 
-use crate::channel::Channel;
-use crate::events::send;
-use crate::output::Output;
+use crate::channel::{Channel, own_held, peer_held};
+use crate::output::Outbox;
 use byteorder::{BigEndian, ByteOrder};
 use ln_bytes::{Bytes, value_of};
 use ln_close::Answer;
-use ln_hooks::ChannelEvent;
+use ln_dance::{add_of, fail_of, fee_of, fulfil_of, malformed_of};
 use ln_keys::ChannelKeys;
 use ln_log::{Side, Update};
 use ln_msgs::{
@@ -18,121 +17,26 @@ use ln_msgs::{
 use std::alloc::Global;
 
 impl Channel {
-    ghost use Rattle.std.specs.Prelude.{◌≡◌, ◌≤◌, ◌+◌, None, Ok, ◌++◌, OnOk, IfOk, IfErr, OnErr};
-    ghost use Rattle.ln_dance.specs.Dance.{AnswersWithin, answer_of, revoked_message, learn_fault};
-    ghost use Rattle.ln_log.specs.declared.update.Update.TheVariants as update;
+    ghost use Rattle.std.specs.Prelude.{◌≡◌, ◌≤◌, OnOk, IfOk, IfErr, OnErr};
     ghost use Rattle.ln_log.specs.Log.{taken_fault};
-    ghost use Rattle.ln_close.specs.declared.closing.Answer.{Answer};
-    ghost use Rattle.ln_msgs.specs.declared.messages.message.Message.TheVariants as message;
-    ghost use Rattle.ln_link.specs.Channel.{ChangesNothing, accepts, revokes, closing_fault, closing_answer, answer_outputs, answers_fee, closed_at, takes_ready, late_fault, early_fault, update_taken_fault, takes, shutdown_fault, shutdown_outputs, after_shutdown, signature_fault, signature_outputs, after_signature, revocation_outputs, after_revocation};
-
-    // Accepts a signature of the peer, and gives the revocation.
-    fn accept<K: ChannelKeys>(
-        &mut self,
-        alloc: Global,
-        keys: &K,
-        message: &CommitmentSigned,
-    ) -> Result<RevokeAndAck, Refusal>
-        ensures answer { AnswersWithin (signature_fault (K.signer keys.now) message.now self.old) result }
-        ensures message { IfOk result (λ m. m ≡ revoked_message (K.signer keys.now) self.old.dance) }
-        ensures state { OnOk result (self.new ≡ accepts self.old) }
-        ensures few { OnOk result (self.new.events ≤ self.old.dance.log.current.own + self.new.dance.log.acknowledged.peer + 1) }
-        ensures grows { OnOk result (self.old.dance.log.current.own ≤ self.new.dance.log.current.own) }
-        ensures kept { OnOk result (self.new.dance.log.first.own ≤ self.old.dance.log.current.own) }
-        ensures err { OnErr result (self.new ≡ self.old) }
-    {
-        if !self.is_ready() {
-            return Err(Refusal::OutOfPlace);
-        }
-        let _ = self.own_held();
-        self.dance.accept(alloc, keys, message)
-    }
-
-    /// Takes a signature of the peer (BOLT 2, "Completing the Transition to the Updated State"): it is answered by
-    /// the revocation, and what is newly held is told.
-    ///
-    /// Errors: 21 before both sides have confirmed, or behind the last number; 31 for a wrong signature; 60.
-    pub fn take_signature<K: ChannelKeys>(
-        &mut self,
-        alloc: Global,
-        keys: &K,
-        message: &CommitmentSigned,
-    ) -> Result<Vec<Output>, Refusal>
-        ensures answer { AnswersWithin (signature_fault (K.signer keys.now) message.now self.old) result }
-        ensures outputs { IfOk result (λ v. v.items ≡ signature_outputs (K.signer keys.now) self.old) }
-        ensures state { OnOk result (self.new ≡ after_signature self.old) }
-        ensures refused { ChangesNothing result self.old self.new }
-    {
-        let before = self.own_held();
-        let revocation = self.accept(alloc, keys, message)?;
-        let mut outputs = Vec::new(alloc);
-        send(&mut outputs, Message::RevokeAndAck(revocation))?;
-        self.begin(alloc, keys, &mut outputs)?;
-        self.put_committed(&mut outputs)?;
-        self.tell_own(alloc, before, &mut outputs)?;
-        Ok(outputs)
-    }
-
-    // Learns a revocation of the peer.
-    fn learn<K: ChannelKeys>(&mut self, keys: &K, message: &RevokeAndAck) -> Result<(), Refusal>
-        ensures answer { result ≡ answer_of (learn_fault (K.signer keys.now) message.now self.old.dance) }
-        ensures state { OnOk result (self.new ≡ revokes message.now self.old) }
-        ensures few { OnOk result (self.new.events ≤ self.new.dance.log.current.own + self.old.dance.log.acknowledged.peer + 1) }
-        ensures grows { OnOk result (self.old.dance.log.acknowledged.peer ≤ self.new.dance.log.acknowledged.peer) }
-        ensures kept { OnOk result (self.new.dance.log.first.peer ≤ self.old.dance.log.acknowledged.peer) }
-        ensures err { OnErr result (self.new ≡ self.old) }
-    {
-        let _ = self.peer_held();
-        self.dance.learn(keys, message)
-    }
-
-    /// Takes a revocation of the peer (BOLT 2, "Completing the Transition to the Updated State: `revoke_and_ack`"): a
-    /// shutdown that was to be answered may be now, and what is newly held is told.
-    ///
-    /// Errors: 33 where no signature is unrevoked, 32 for a wrong secret, 60.
-    pub fn take_revocation<K: ChannelKeys>(
-        &mut self,
-        alloc: Global,
-        keys: &K,
-        message: &RevokeAndAck,
-    ) -> Result<Vec<Output>, Refusal>
-        ensures answer { AnswersWithin (learn_fault (K.signer keys.now) message.now self.old.dance) result }
-        ensures outputs { IfOk result (λ v. v.items ≡ revocation_outputs (K.signer keys.now) message.now self.old) }
-        ensures state { OnOk result (self.new ≡ after_revocation message.now self.old) }
-        ensures refused { ChangesNothing result self.old self.new }
-    {
-        let before = self.peer_held();
-        self.learn(keys, message)?;
-        let mut outputs = Vec::new(alloc);
-        self.answer_shutdown(alloc, &mut outputs)?;
-        self.begin(alloc, keys, &mut outputs)?;
-        self.put_committed(&mut outputs)?;
-        self.tell_peer(alloc, before, &mut outputs)?;
-        Ok(outputs)
-    }
+    ghost use Rattle.ln_dance.specs.Dance.{AnswersWithin, answer_of, revoked_message, learn_fault};
+    ghost use Rattle.ln_link.specs.Outputs.{nothing};
+    ghost use Rattle.ln_link.specs.End.{Makes};
+    ghost use Rattle.ln_link.specs.Taking.{takes_ready, late_fault, early_fault, update_row, takes, signature_fault, accepts, accepting, signature_row, revokes, learning, revocation_row, shutdown_row, shuts_by_peer, answering, answer_handed, answer_ledger, fee_row, message_row, taken};
 
     /// Takes `channel_ready` (BOLT 2, "The `channel_ready` Message"): a second one, or one behind the close, does
     /// nothing.
-    pub fn take_ready(&mut self, message: &ChannelReady)
+    fn take_ready(&mut self, message: &ChannelReady)
         ensures { self.new ≡ takes_ready message.now self.old }
     {
-        if self.ready_received || self.closing.closed.is_some() {
+        if self.marks.ready_received || self.is_closed() {
             return;
         }
-        self.ready_received = true;
+        self.marks.ready_received = true;
         self.dance.take_point(message.second_point);
     }
 
-    // Takes an update into the log.
-    fn receive(&mut self, update: Update) -> Result<(), Refusal>
-        ensures answer { AnswersWithin (taken_fault self.old.dance.log update) result }
-        ensures state { OnOk result (self.new ≡ takes update self.old) }
-        ensures err { OnErr result (self.new ≡ self.old) }
-    {
-        self.dance.receive(update)
-    }
-
-    // Whether it comes too late: an add behind the peer's shutdown, a fee once closing has begun.
+    // Whether an update comes too late: an add behind the peer's shutdown, a fee once closing has begun.
     fn late_refusal(&self, update: &Update) -> Option<Refusal>
         ensures { result ≡ late_fault self.now update.now }
     {
@@ -167,76 +71,138 @@ impl Channel {
         self.late_refusal(update)
     }
 
-    /// Takes an update of the peer (BOLT 2, "Normal Operation").
-    ///
-    /// Errors: 21 before both sides have confirmed, where the peer has 2^62 updates, or for a fee once closing has
-    /// begun; 35 for an add behind the peer's shutdown; else those of `UpdateLog::receive`.
-    pub fn take_update(&mut self, update: Update) -> Result<(), Refusal>
-        ensures answer { AnswersWithin (update_taken_fault self.old update) result }
+    // Takes an update into the log.
+    fn receive(&mut self, update: Update) -> Result<(), Refusal>
+        ensures answer { AnswersWithin (taken_fault self.old.dance.log update) result }
         ensures state { OnOk result (self.new ≡ takes update self.old) }
         ensures err { OnErr result (self.new ≡ self.old) }
     {
-        match self.early_refusal(&update) {
-            Some(refusal) => Err(refusal),
-            None => self.receive(update),
-        }
+        self.dance.receive(update)
     }
 
-    /// Takes the peer's shutdown (BOLT 2, "Closing Initiation: `shutdown`"), and answers it where that is allowed. A
-    /// repeated one does nothing; 21 where it names another script.
-    pub fn take_shutdown<K: ChannelKeys>(
+    /// Takes an update (BOLT 2, "Normal Operation").
+    ///
+    /// Errors: 21 before both sides have confirmed, where the peer has 2^62 updates, or for a fee once closing has
+    /// begun; 35 for an add behind the peer's shutdown; else those of `UpdateLog::receive`.
+    fn take_update(&mut self, alloc: Global, update: Update) -> Result<Outbox, Refusal>
+        ensures { Makes (update_row update self.old) result self.old self.new }
+    {
+        match self.early_refusal(&update) {
+            Some(refusal) => return Err(refusal),
+            None => {}
+        }
+        self.receive(update)?;
+        Ok(Outbox::new(alloc))
+    }
+
+    // Accepts a signature, and gives the revocation.
+    fn accept<K: ChannelKeys>(
         &mut self,
         alloc: Global,
         keys: &K,
-        message: &Shutdown,
-    ) -> Result<Vec<Output>, Refusal>
-        ensures answer { AnswersWithin (shutdown_fault message.now self.old.peer_script) result }
-        ensures outputs { IfOk result (λ v. v.items ≡ shutdown_outputs (K.signer keys.now) message.now self.old self.old.peer_script) }
-        ensures state { OnOk result (self.new ≡ after_shutdown message.now self.old self.old.peer_script) }
-        ensures refused { ChangesNothing result self.old self.new }
+        message: &CommitmentSigned,
+    ) -> Result<RevokeAndAck, Refusal>
+        ensures answer { AnswersWithin (signature_fault (K.signer keys.now) message.now self.old) result }
+        ensures message { IfOk result (λ m. m ≡ revoked_message (K.signer keys.now) self.old.dance) }
+        ensures state { OnOk result (self.new ≡ accepts self.old) }
+        ensures grows { OnOk result (self.old.dance.log.current.own ≤ self.new.dance.log.current.own) }
+        ensures kept { OnOk result (self.new.dance.log.first.own ≤ self.old.dance.log.current.own) }
+        ensures err { OnErr result (self.new ≡ self.old) }
     {
-        match &self.peer_script {
+        if !self.is_ready() {
+            return Err(Refusal::OutOfPlace);
+        }
+        let _ = own_held(&self.dance);
+        self.dance.accept(alloc, keys, message)
+    }
+
+    /// Takes a signature (BOLT 2, "Completing the Transition to the Updated State"): it is answered by the revocation,
+    /// and what is newly held is told.
+    ///
+    /// Errors: 21 before both sides have confirmed, or behind the last number; 31 for a wrong signature; 60.
+    fn take_signature<K: ChannelKeys>(
+        &mut self,
+        alloc: Global,
+        keys: &K,
+        message: &CommitmentSigned,
+    ) -> Result<Outbox, Refusal>
+        ensures { Makes (signature_row (K.signer keys.now) message.now self.old) result self.old self.new }
+    {
+        let before = own_held(&self.dance);
+        let revocation = self.accept(alloc, keys, message)?;
+        let mut outbox = Outbox::new(alloc);
+        outbox.send(Message::RevokeAndAck(revocation))?;
+        self.tell_own(alloc, before, &mut outbox)?;
+        Ok(outbox)
+    }
+
+    // Learns a revocation.
+    fn learn<K: ChannelKeys>(&mut self, keys: &K, message: &RevokeAndAck) -> Result<(), Refusal>
+        ensures answer { result ≡ answer_of (learn_fault (K.signer keys.now) message.now self.old.dance) }
+        ensures state { OnOk result (self.new ≡ revokes message.now self.old) }
+        ensures grows { OnOk result (self.old.dance.log.acknowledged.peer ≤ self.new.dance.log.acknowledged.peer) }
+        ensures kept { OnOk result (self.new.dance.log.first.peer ≤ self.old.dance.log.acknowledged.peer) }
+        ensures err { OnErr result (self.new ≡ self.old) }
+    {
+        let _ = peer_held(&self.dance);
+        self.dance.learn(keys, message)
+    }
+
+    /// Takes a revocation (BOLT 2, "Completing the Transition to the Updated State: `revoke_and_ack`"): what is newly
+    /// held is told.
+    ///
+    /// Errors: 33 where no signature is unrevoked, 32 for a wrong secret, 60.
+    fn take_revocation<K: ChannelKeys>(
+        &mut self,
+        alloc: Global,
+        keys: &K,
+        message: &RevokeAndAck,
+    ) -> Result<Outbox, Refusal>
+        ensures { Makes (revocation_row (K.signer keys.now) message.now self.old) result self.old self.new }
+    {
+        let before = peer_held(&self.dance);
+        self.learn(keys, message)?;
+        let mut outbox = Outbox::new(alloc);
+        self.tell_peer(alloc, before, &mut outbox)?;
+        Ok(outbox)
+    }
+
+    /// Takes a shutdown (BOLT 2, "Closing Initiation: `shutdown`"). A repeated one does nothing; 21 where it names
+    /// another script.
+    fn take_shutdown(&mut self, alloc: Global, message: &Shutdown) -> Result<Outbox, Refusal>
+        ensures { Makes (shutdown_row message.now self.old) result self.old self.new }
+    {
+        match &self.terms.peer_script {
             Some(script) => {
                 if script.as_slice() != message.script.as_slice() {
                     return Err(Refusal::OutOfPlace);
                 }
-                Ok(Vec::new(alloc))
             }
-            None => self.first_shutdown(alloc, keys, message),
+            None => self.note_shutdown(alloc, message)?,
         }
+        Ok(Outbox::new(alloc))
     }
 
-    fn first_shutdown<K: ChannelKeys>(
-        &mut self,
-        alloc: Global,
-        keys: &K,
-        message: &Shutdown,
-    ) -> Result<Vec<Output>, Refusal>
-        ensures outputs { IfOk result (λ v. v.items ≡ shutdown_outputs (K.signer keys.now) message.now self.old None) }
-        ensures state { OnOk result (self.new ≡ after_shutdown message.now self.old None) }
-        ensures err { IfErr result (λ r. r ≡ Refusal.Memory) }
+    // The peer has shut down, with this script.
+    fn note_shutdown(&mut self, alloc: Global, message: &Shutdown) -> Result<(), Refusal>
+        ensures state { OnOk result (self.new ≡ shuts_by_peer message.now self.old) }
+        ensures memory { IfErr result (λ r. r ≡ Refusal.Memory) }
     {
         let script = Vec::from_slice(alloc, message.script.as_slice())?;
-        self.peer_script = Some(Bytes::new(script));
+        self.terms.peer_script = Some(Bytes::new(script));
         self.closing.peer_shut();
-        let mut outputs = Vec::new(alloc);
-        self.answer_shutdown(alloc, &mut outputs)?;
-        self.begin(alloc, keys, &mut outputs)?;
-        Ok(outputs)
+        Ok(())
     }
 
-    /// Takes a closing fee of the peer's, and answers it (BOLT 2, "Closing Negotiation: `closing_signed`"): 21 where
-    /// closing hasn't begun, 31 for a wrong signature, 36 by `Closing::answer`, which leaves all as it was.
-    pub fn take_fee<K: ChannelKeys>(
+    /// Takes a closing fee, and answers it (BOLT 2, "Closing Negotiation: `closing_signed`"): 21 where closing hasn't
+    /// begun, 31 for a wrong signature, 36 by `Closing::answer`, which leaves all as it was.
+    fn take_fee<K: ChannelKeys>(
         &mut self,
         alloc: Global,
         keys: &K,
         message: &ClosingSigned,
-    ) -> Result<Vec<Output>, Refusal>
-        ensures answer { AnswersWithin (closing_fault (K.signer keys.now) message.now self.old) result }
-        ensures outputs { (a : Answer) → closing_answer message.now self.old ≡ Ok a → IfOk result (λ v. v.items ≡ answer_outputs (K.signer keys.now) self.old a) }
-        ensures state { (a : Answer) → closing_answer message.now self.old ≡ Ok a → OnOk result (self.new ≡ answers_fee message.now a self.old) }
-        ensures refused { ChangesNothing result self.old self.new }
+    ) -> Result<Outbox, Refusal>
+        ensures { Makes (fee_row (K.signer keys.now) message.now self.old) result self.old self.new }
     {
         if !self.has_begun() {
             return Err(Refusal::OutOfPlace);
@@ -246,27 +212,77 @@ impl Channel {
             return Err(Refusal::SignatureWrong);
         }
         let answer = self.closing.answer(fee, range_in(message))?;
-        let mut outputs = Vec::new(alloc);
-        match answer {
-            Answer::Nothing => {}
-            Answer::Close(fee) => self.put_close(fee, &mut outputs)?,
-            Answer::EchoAndClose(fee) => {
-                self.send_fee(alloc, keys, fee, &mut outputs)?;
-                self.put_close(fee, &mut outputs)?;
-            }
-            Answer::Propose(fee) => self.send_fee(alloc, keys, fee, &mut outputs)?,
-        }
-        Ok(outputs)
+        self.hand_answer(alloc, keys, answer)
     }
 
-    // The channel is closed at this fee.
-    fn put_close(&self, fee: u64, outputs: &mut Vec<Output>) -> Result<(), Refusal>
-        ensures outputs { OnOk result (outputs.new.items ≡ outputs.old.items ++ closed_at self.now fee) }
-        ensures err { IfErr result (λ r. r ≡ Refusal.Memory) }
+    // Sends what an answer to a fee sends, and tells of a close.
+    fn hand_answer<K: ChannelKeys>(
+        &mut self,
+        alloc: Global,
+        keys: &K,
+        answer: Answer,
+    ) -> Result<Outbox, Refusal>
+        ensures handed { IfOk result (λ h. h ≡ (answering (K.signer keys.now) answer self.old).handed) }
+        ensures state { OnOk result (self.new ≡ (answering (K.signer keys.now) answer self.old).end) }
+        ensures memory { IfErr result (λ r. r ≡ Refusal.Memory) }
     {
-        outputs.push(Output::Event(self.events, ChannelEvent::Closed(fee)))?;
-        outputs.push(Output::Closed(fee))?;
-        Ok(())
+        let mut outbox = Outbox::new(alloc);
+        match answer {
+            Answer::Nothing => {}
+            Answer::Close(fee) => self.ledger.enter_close(fee, &mut outbox)?,
+            Answer::EchoAndClose(fee) => {
+                self.send_fee(alloc, keys, fee, &mut outbox)?;
+                self.ledger.enter_close(fee, &mut outbox)?;
+            }
+            Answer::Propose(fee) => self.send_fee(alloc, keys, fee, &mut outbox)?,
+        }
+        Ok(outbox)
+    }
+
+    // By message: those that aren't of a channel, and those that open one, are out of place (21).
+    fn take_message<K: ChannelKeys>(
+        &mut self,
+        alloc: Global,
+        keys: &K,
+        message: Message,
+    ) -> Result<Outbox, Refusal>
+        ensures { Makes (message_row (K.signer keys.now) message self.old) result self.old self.new }
+    {
+        match message {
+            Message::ChannelReady(ready) => {
+                self.take_ready(&ready);
+                Ok(Outbox::new(alloc))
+            }
+            Message::UpdateAddHtlc(add) => self.take_update(alloc, Update::Add(add_of(&add))),
+            Message::UpdateFulfillHtlc(fulfil) => {
+                self.take_update(alloc, Update::Fulfil(fulfil_of(&fulfil)))
+            }
+            Message::UpdateFailHtlc(fail) => self.take_update(alloc, Update::Fail(fail_of(fail))),
+            Message::UpdateFailMalformedHtlc(malformed) => {
+                self.take_update(alloc, Update::Malformed(malformed_of(&malformed)))
+            }
+            Message::UpdateFee(fee) => self.take_update(alloc, Update::Fee(fee_of(&fee))),
+            Message::CommitmentSigned(signed) => self.take_signature(alloc, keys, &signed),
+            Message::RevokeAndAck(revocation) => self.take_revocation(alloc, keys, &revocation),
+            Message::Shutdown(shutdown) => self.take_shutdown(alloc, &shutdown),
+            Message::ClosingSigned(closing) => self.take_fee(alloc, keys, &closing),
+            _ => Err(Refusal::OutOfPlace),
+        }
+    }
+
+    /// Takes a message: what it makes of the end, then the shutdown that is owed and may be sent now, then the funder's
+    /// first fee.
+    pub fn take<K: ChannelKeys>(
+        &mut self,
+        alloc: Global,
+        keys: &K,
+        message: Message,
+    ) -> Result<Outbox, Refusal>
+        ensures { Makes (taken (K.signer keys.now) message self.old) result self.old self.new }
+    {
+        let mut outbox = self.take_message(alloc, keys, message)?;
+        self.settle(alloc, keys, &mut outbox)?;
+        Ok(outbox)
     }
 }
 

@@ -1,17 +1,20 @@
 //! Two ends of a channel, as they hand their messages to one another.
 
 use crate::code_of;
-use crate::testing::{FUNDEE, FUNDER, htlc, side};
+use crate::testing::{FUNDEE, FUNDER, htlc};
 use ln_bytes::{Bytes, ShortId};
-use ln_close::{Closing, Fees};
+use ln_dance::add_message;
 use ln_hooks::ChannelEvent;
-use ln_keys::{Role, ToyKeys};
-use ln_link::{Channel, Output};
-use ln_log::{Fee, Fulfil, Malformed, Update};
-use ln_msgs::{Message, Refusal};
+use ln_keys::ToyKeys;
+use ln_link::{
+    Channel, Command, Config, FitConfig, FitSpec, Mark, OpenSpec, Output, Points, open_channel,
+    take_accept, take_created, take_open, take_signed,
+};
+use ln_log::Limits;
+use ln_msgs::{Message, Records, Refusal};
 use std::alloc::Global;
 
-/// What happens between the funder's end and the fundee's.
+/// What happens between the funder's end and the fundee's. What an end hands out the other takes at once.
 #[derive(Clone, Copy, Debug)]
 enum Move {
     /// Both confirm.
@@ -19,61 +22,101 @@ enum Move {
     /// The funder's end offers an HTLC, or changes the fee.
     Offer,
     Rate,
-    /// The fundee's end takes these.
-    TakeOffer,
-    TakeRate,
     /// The fundee's end fulfils the HTLC, finds it malformed by this code, or fails it.
     Pay,
     Garble(u16),
     Fail,
-    /// The funder's end takes the fulfilment.
-    TakePaid,
-    /// The funder's end signs with these keys, or the fundee's end, and each takes what the other hands out.
-    Out(ToyKeys),
+    /// The funder's end signs, or the fundee's.
+    Out,
     Back,
-    /// The funder's end sends shutdown, and so many times each takes what the other hands out.
-    Shut(u8),
+    /// The funder's end sends shutdown with a script of so many bytes, and so many times each takes what the other hands
+    /// out.
+    Shut(usize, u8),
+    /// The fundee's end decides an event, or forgets a result.
+    Decide,
+    Forget,
+    /// The fundee's end takes an HTLC.
+    Take,
 }
 
-use Move::{
-    Back, Confirm, Fail, Garble, Offer, Out, Pay, Rate, Shut, TakeOffer, TakePaid, TakeRate,
+use Move::{Back, Confirm, Decide, Fail, Forget, Garble, Offer, Out, Pay, Rate, Shut, Take};
+
+/// Least, first and greatest closing fee.
+type Range = (u64, u64, u64);
+
+const POINTS: Points = Points {
+    funding_pubkey: [2; 33],
+    revocation_basepoint: [2; 33],
+    payment_basepoint: [2; 33],
+    delayed_payment_basepoint: [2; 33],
+    htlc_basepoint: [2; 33],
 };
 
-const PAID: Fulfil = Fulfil {
-    id: 0,
-    preimage: [0; 32],
-};
-
-const FEE: Fee = Fee { feerate: 300 };
-
-fn end(alloc: Global, role: Role, peer: &ToyKeys, fees: (u64, u64, u64)) -> Channel {
-    let fees = Fees {
-        first: fees.0,
-        least: fees.1,
+fn config(alloc: Global, fees: Range) -> Config {
+    Config {
+        limits: Limits {
+            minimum: 1,
+            accepted: 30,
+            in_flight: 1_000_000_000_000,
+            reserve: 0,
+        },
+        chain_hash: [0; 32],
+        dust_limit: 546,
+        to_self_delay: 144,
+        minimum_depth: 3,
+        points: POINTS,
+        first: fees.1,
+        least: fees.0,
         greatest: fees.2,
-    };
-    let dance = side(alloc, role, peer, 0);
-    Channel::new(dance, Closing::new(role, fees), Bytes::empty(alloc))
+        script: Bytes::empty(alloc),
+    }
 }
 
-/// Hands a message to an end.
-fn take(
-    alloc: Global,
-    end: &mut Channel,
-    keys: &ToyKeys,
-    message: &Message,
-) -> Result<Vec<Output>, Refusal> {
-    match message {
-        Message::ChannelReady(ready) => {
-            end.take_ready(ready);
-            Ok(Vec::new(alloc))
-        }
-        Message::CommitmentSigned(signed) => end.take_signature(alloc, keys, signed),
-        Message::RevokeAndAck(revocation) => end.take_revocation(alloc, keys, revocation),
-        Message::Shutdown(shutdown) => end.take_shutdown(alloc, keys, shutdown),
-        Message::ClosingSigned(closing) => end.take_fee(alloc, keys, closing),
-        _ => Err(Refusal::UnknownChannel),
+/// A channel end and its keys.
+#[derive(Drop)]
+struct End {
+    channel: Channel,
+    keys: ToyKeys,
+}
+
+fn spec(alloc: Global) -> Result<FitSpec, Refusal> {
+    let spec = OpenSpec {
+        config: config(alloc, (200, 300, 400)),
+        funding: 1_000_000,
+        push: 0,
+        feerate: 253,
+        flags: 0,
+        temporary_id: [255; 32],
+        txid: [9; 32],
+        output: 0,
+        records: Records::empty(alloc),
+    };
+    if spec.fits() {
+        Ok(FitSpec::new(spec))
+    } else {
+        Err(Refusal::NotReady)
     }
+}
+
+fn fit(alloc: Global, fees: Range) -> Result<FitConfig, Refusal> {
+    let config = config(alloc, fees);
+    if config.fits() {
+        Ok(FitConfig::new(config))
+    } else {
+        Err(Refusal::NotReady)
+    }
+}
+
+/// Both ends of a channel, behind its opening.
+fn opened(alloc: Global, fees: Range) -> Result<(Channel, Channel), Refusal> {
+    let spec = spec(alloc)?;
+    let config = fit(alloc, fees)?;
+    let open = open_channel(alloc, &FUNDER, &spec)?;
+    let (agreed, accept) = take_open(alloc, &FUNDEE, config, open)?;
+    let (a, created) = take_accept(alloc, &FUNDER, spec, accept)?;
+    let (b, signed) = take_created(alloc, &FUNDEE, agreed, created)?;
+    take_signed(alloc, &FUNDER, &a.dance, &signed)?;
+    Ok((Channel::new(alloc, a), Channel::new(alloc, b)))
 }
 
 /// An output as one number: a message by its type, below 1000; what was signed from 1000 on; what is held from 2000 on,
@@ -105,29 +148,27 @@ fn kind(event: &ChannelEvent) -> u64 {
     }
 }
 
-/// Writes outputs down as numbers.
-fn see(outputs: &[Output], seen: &mut Vec<u64>) -> Result<(), Refusal> {
-    for output in outputs {
+/// Writes outputs down as numbers, and gives them on.
+fn noted(outputs: Vec<Output>, seen: &mut Vec<u64>) -> Result<Vec<Output>, Refusal> {
+    for output in &outputs {
         seen.push(word(output))?;
     }
-    Ok(())
+    Ok(outputs)
 }
 
-/// Hands all messages that were handed out to the other end. What that one hands out is written down, and what it hands
-/// out last is given.
-fn deliver(
+/// Hands all messages that were handed out to the other end, and gives what that one hands out last.
+fn pass(
     alloc: Global,
-    outputs: &[Output],
-    end: &mut Channel,
-    keys: &ToyKeys,
+    outputs: Vec<Output>,
+    end: &mut End,
     seen: &mut Vec<u64>,
 ) -> Result<Vec<Output>, Refusal> {
     let mut last = Vec::new(alloc);
     for output in outputs {
         match output {
             Output::Send(message) => {
-                last = take(alloc, end, keys, message)?;
-                see(&last, seen)?;
+                let handed = end.channel.take(alloc, &end.keys, message)?;
+                last = noted(handed.into_outputs()?, seen)?;
             }
             _ => {}
         }
@@ -135,139 +176,137 @@ fn deliver(
     Ok(last)
 }
 
-/// Hands over all messages that were handed out.
-fn pass(
+/// What one end hands out goes to and fro so many times.
+fn exchanged(
     alloc: Global,
     outputs: Vec<Output>,
-    end: &mut Channel,
-    keys: &ToyKeys,
-    seen: &mut Vec<u64>,
-) -> Result<Vec<Output>, Refusal> {
-    deliver(alloc, &outputs, end, keys, seen)
-}
-
-/// Writes what was handed out down, and gives it on.
-fn noted(outputs: Vec<Output>, seen: &mut Vec<u64>) -> Result<Vec<Output>, Refusal> {
-    match see(&outputs, seen) {
-        Ok(()) => Ok(outputs),
-        Err(refusal) => Err(refusal),
-    }
-}
-
-/// One end confirms, and the other takes that.
-fn confirm(
-    alloc: Global,
-    x: &mut Channel,
-    keys: &ToyKeys,
-    y: &mut Channel,
-    seen: &mut Vec<u64>,
-) -> Result<(), Refusal> {
-    let Some(id) = ShortId::parse("1x1x0") else {
-        return Err(Refusal::Truncated);
-    };
-    let outputs = noted(x.confirm(alloc, keys, id)?, seen)?;
-    drop(pass(alloc, outputs, y, keys, seen)?);
-    Ok(())
-}
-
-/// One end signs, and the other answers.
-fn sign(
-    alloc: Global,
-    x: &mut Channel,
-    x_keys: &ToyKeys,
-    y: &mut Channel,
-    y_keys: &ToyKeys,
-    seen: &mut Vec<u64>,
-) -> Result<(), Refusal> {
-    let signature = noted(x.sign(alloc, x_keys)?, seen)?;
-    let answer = pass(alloc, signature, y, y_keys, seen)?;
-    drop(pass(alloc, answer, x, x_keys, seen)?);
-    Ok(())
-}
-
-fn shut(
-    alloc: Global,
-    a: &mut Channel,
-    b: &mut Channel,
+    x: &mut End,
+    y: &mut End,
     turns: u8,
     seen: &mut Vec<u64>,
 ) -> Result<(), Refusal> {
-    let mut outputs = noted(a.shut(alloc, &FUNDER, Bytes::empty(alloc))?, seen)?;
+    let mut outputs = noted(outputs, seen)?;
     for _ in 0..turns {
-        let answer = pass(alloc, outputs, b, &FUNDEE, seen)?;
-        outputs = pass(alloc, answer, a, &FUNDER, seen)?;
+        let answer = pass(alloc, outputs, y, seen)?;
+        outputs = pass(alloc, answer, x, seen)?;
     }
     drop(outputs);
     Ok(())
 }
 
-/// A command of either end.
-fn command(
+/// One end does what it is told, and the other takes what it hands out.
+fn told(
     alloc: Global,
-    a: &mut Channel,
-    b: &mut Channel,
-    one: Move,
-) -> Result<Vec<Output>, Refusal> {
-    match one {
-        Offer => {
-            let id = a.dance().log().next_id();
-            a.offer(alloc, htlc(id, 5000, 400))
-        }
-        Rate => a.change_fee(alloc, FEE),
-        Pay => b.fulfil(alloc, PAID),
-        Garble(failure_code) => b.fail_malformed(
-            alloc,
-            Malformed {
-                id: 0,
-                sha256_of_onion: [0; 32],
-                failure_code,
-            },
-        ),
-        _ => b.fail(
-            alloc,
-            ln_log::Fail {
-                id: 0,
-                reason: Bytes::empty(alloc),
-            },
-        ),
+    x: &mut End,
+    y: &mut End,
+    command: Command,
+    turns: u8,
+    seen: &mut Vec<u64>,
+) -> Result<(), Refusal> {
+    let outputs = x.channel.command(alloc, &x.keys, command)?.into_outputs()?;
+    exchanged(alloc, outputs, x, y, turns, seen)
+}
+
+fn confirm(alloc: Global, a: &mut End, b: &mut End, seen: &mut Vec<u64>) -> Result<(), Refusal> {
+    let Some(id) = ShortId::parse("1x1x0") else {
+        return Err(Refusal::Truncated);
+    };
+    told(alloc, a, b, Command::Confirm(id), 1, seen)?;
+    told(alloc, b, a, Command::Confirm(id), 1, seen)
+}
+
+fn script(alloc: Global, len: usize) -> Result<Bytes, Refusal> {
+    let mut bytes = Vec::new(alloc);
+    for _ in 0..len {
+        bytes.push(0)?;
     }
+    Ok(Bytes::new(bytes))
+}
+
+/// A command of the fundee's end.
+fn answer(alloc: Global, one: Move) -> Command {
+    match one {
+        Pay => Command::Fulfil {
+            id: 0,
+            preimage: [0; 32],
+        },
+        Garble(code) => Command::Malformed {
+            id: 0,
+            sha: [0; 32],
+            code,
+        },
+        Fail => Command::Fail {
+            id: 0,
+            reason: Bytes::empty(alloc),
+        },
+        Decide => Command::Decide {
+            event: 0,
+            mark: Mark::None,
+        },
+        Back => Command::Sign,
+        _ => Command::Forget(0),
+    }
+}
+
+fn offer() -> Command {
+    let add = htlc(0, 5000, 400);
+    Command::Add {
+        amount: add.amount,
+        hash: add.hash,
+        expiry: add.expiry,
+        onion: add.onion,
+        origin: None,
+    }
+}
+
+/// The fundee's end takes this.
+fn take(alloc: Global, b: &mut End, message: Message, seen: &mut Vec<u64>) -> Result<(), Refusal> {
+    let handed = b.channel.take(alloc, &b.keys, message)?;
+    drop(noted(handed.into_outputs()?, seen)?);
+    Ok(())
 }
 
 fn play(
     alloc: Global,
-    a: &mut Channel,
-    b: &mut Channel,
+    a: &mut End,
+    b: &mut End,
     one: Move,
     seen: &mut Vec<u64>,
 ) -> Result<(), Refusal> {
     match one {
-        Confirm => {
-            confirm(alloc, a, &FUNDER, b, seen)?;
-            confirm(alloc, b, &FUNDEE, a, seen)
+        Confirm => confirm(alloc, a, b, seen),
+        Offer => told(alloc, a, b, offer(), 1, seen),
+        Rate => told(alloc, a, b, Command::Fee(300), 1, seen),
+        Out => told(alloc, a, b, Command::Sign, 1, seen),
+        Shut(len, turns) => {
+            let script = script(alloc, len)?;
+            told(alloc, a, b, Command::Shutdown(script), turns, seen)
         }
-        Out(keys) => sign(alloc, a, &keys, b, &FUNDEE, seen),
-        Back => sign(alloc, b, &FUNDEE, a, &FUNDER, seen),
-        TakeOffer => b.take_update(Update::Add(htlc(0, 5000, 400))),
-        TakeRate => b.take_update(Update::Fee(FEE)),
-        TakePaid => a.take_update(Update::Fulfil(PAID)),
-        Shut(turns) => shut(alloc, a, b, turns, seen),
-        _ => {
-            drop(noted(command(alloc, a, b, one)?, seen)?);
-            Ok(())
+        Take => {
+            let message = add_message(alloc, b.channel.id(), &htlc(0, 5000, 400));
+            take(alloc, b, Message::UpdateAddHtlc(message), seen)
         }
+        _ => told(alloc, b, a, answer(alloc, one), 1, seen),
     }
 }
 
-/// Moves up to the first that isn't refused by the code beside it: how many were as they should be, whether these
-/// outputs were handed out, and the fee at which both ends are closed.
+/// Moves up to the first that isn't refused by the code beside it: how many were as they should be, and whether these
+/// outputs were handed out.
 fn moved(
     alloc: Global,
-    fees: (u64, u64, u64),
+    fees: Range,
     table: &[(Move, u32)],
     outputs: &[u64],
-) -> (usize, bool, Option<u64>) {
-    let mut a = end(alloc, Role::Funder, &FUNDEE, (300, 200, 400));
-    let mut b = end(alloc, Role::Fundee, &FUNDER, fees);
+) -> Result<(usize, bool), Refusal> {
+    let (funder, fundee) = opened(alloc, fees)?;
+    let mut a = End {
+        channel: funder,
+        keys: FUNDER,
+    };
+    let mut b = End {
+        channel: fundee,
+        keys: FUNDEE,
+    };
     let mut seen = Vec::new(alloc);
     let mut right = 0usize;
     for row in table {
@@ -276,38 +315,31 @@ fn moved(
         }
         right = right.saturating_add(1);
     }
-    let closed = if a.closing().closed == b.closing().closed {
-        a.closing().closed
-    } else {
-        None
-    };
-    (right, seen.as_slice() == outputs, closed)
+    Ok((right, seen.as_slice() == outputs))
 }
 
-const DEAR: (u64, u64, u64) = (400, 350, 500);
+const DEAR: Range = (350, 400, 500);
 
 #[test]
-fn moves(rt: HostRuntime) {
-    for (fees, table, outputs, closed) in [
+fn moves(rt: HostRuntime) -> Result<(), Refusal> {
+    for (fees, table, outputs) in [
         // an HTLC is offered, and fulfilled once both hold it
         (
             DEAR,
             [
                 (Offer, 40),
-                (Out(FUNDER), 40),
-                (TakeOffer, 21),
                 (Confirm, 0),
                 (Confirm, 40),
+                (Decide, 40),
+                (Forget, 40),
                 (Offer, 0),
-                (TakeOffer, 0),
                 (Pay, 48),
-                (Out(FUNDER), 0),
+                (Out, 0),
                 (Back, 0),
                 (Garble(0x400f), 4421),
                 (Pay, 0),
-                (TakePaid, 0),
                 (Back, 0),
-                (Out(FUNDER), 0),
+                (Out, 0),
             ]
             .as_slice(),
             [
@@ -315,101 +347,50 @@ fn moves(rt: HostRuntime) {
                 130, 132, 1001, 133, 2010, 2001, 132, 1001, 133, 2011, 3104, 2011, 3103,
             ]
             .as_slice(),
-            None,
         ),
-        // it is failed or malformed; keys that aren't the peer's sign
+        // it is failed; another has the next id
         (
             DEAR,
             &[
                 (Confirm, 0),
                 (Offer, 0),
-                (TakeOffer, 0),
-                (Out(FUNDER), 0),
+                (Out, 0),
                 (Back, 0),
                 (Fail, 0),
+                (Take, 22),
             ],
             &[
                 36, 36, 128, 132, 1001, 133, 2000, 2000, 132, 1000, 133, 2010, 3001, 2001, 3002,
                 131,
             ],
-            None,
-        ),
-        (
-            DEAR,
-            &[(Confirm, 0), (Rate, 0), (TakeRate, 0), (Out(FUNDEE), 31)],
-            &[36, 36, 134, 132, 1001],
-            None,
         ),
         // a fee that both take, and none
         (
             DEAR,
-            &[(Shut(3), 0)],
+            &[(Shut(0, 3), 0), (Shut(0, 0), 43), (Confirm, 40)],
             &[38, 38, 39, 39, 39, 3005, 10_350, 3005, 10_350],
-            Some(350),
         ),
-        ((500, 500, 600), &[(Shut(3), 36)], &[38, 38, 39], None),
-        // an update is pending; nothing is added behind a shutdown, nor a fee changed once closing has begun
+        ((500, 500, 600), &[(Shut(0, 3), 36)], &[38, 38, 39]),
+        // an update is pending; nothing is added behind a shutdown; a script that is too long
         (
             DEAR,
             &[
                 (Confirm, 0),
                 (Rate, 0),
-                (TakeRate, 0),
-                (Shut(0), 45),
-                (Out(FUNDER), 0),
-                (Shut(0), 0),
-            ],
-            &[36, 36, 134, 132, 1001, 133, 2000, 2000, 38],
-            None,
-        ),
-        (
-            DEAR,
-            &[
-                (Confirm, 0),
-                (Shut(1), 0),
-                (Shut(0), 43),
+                (Shut(0, 1), 45),
+                (Out, 0),
+                (Shut(65_500, 1), 4407),
+                (Shut(0, 1), 0),
                 (Offer, 43),
-                (TakeOffer, 35),
-                (TakeRate, 21),
+                (Take, 35),
             ],
-            &[36, 36, 38, 38, 39],
-            None,
+            &[36, 36, 134, 132, 1001, 133, 2000, 2000, 38, 38],
         ),
     ] {
         assert_eq!(rt;
-            moved(rt.alloc(), fees, table, outputs),
-            (table.len(), true, closed)
+            moved(rt.alloc(), fees, table, outputs)?,
+            (table.len(), true)
         );
     }
-}
-
-fn all_played(
-    alloc: Global,
-    a: &mut Channel,
-    b: &mut Channel,
-    moves: &[Move],
-    seen: &mut Vec<u64>,
-) -> Result<(), Refusal> {
-    for one in moves {
-        play(alloc, a, b, *one, seen)?;
-    }
     Ok(())
-}
-
-/// The first refusal of these moves, one after the other.
-fn moved_once(alloc: Global, moves: &[Move]) -> Result<(), Refusal> {
-    let mut a = end(alloc, Role::Funder, &FUNDEE, DEAR);
-    let mut b = end(alloc, Role::Fundee, &FUNDER, DEAR);
-    let mut seen = Vec::new(alloc);
-    all_played(alloc, &mut a, &mut b, moves, &mut seen)
-}
-
-#[test]
-fn small_htlc(rt: HostRuntime) -> Result<(), Refusal> {
-    moved_once(rt.alloc(), &[Confirm, Offer, TakeOffer, Out(FUNDER), Back])
-}
-
-#[test]
-fn small_close(rt: HostRuntime) -> Result<(), Refusal> {
-    moved_once(rt.alloc(), &[Shut(3)])
 }

@@ -1,4 +1,4 @@
 use Rattle.ln_link.proofs.channel.Channel.send_fee.Goals as goal
 
-pub returns-clause-outputs : goal.returns-clause-outputs
-returns-clause-outputs g c = rw (← c.in_ok-message.ensures.ok) c.send.ensures.outputs
+pub returns-clause-sent : goal.returns-clause-sent
+returns-clause-sent g c = rw (← c.in_ok-message.ensures.message) c.send.ensures.sent

@@ -1,0 +1,129 @@
+//! The events of a channel end, by number.
+
+use crate::output::{Outbox, Output};
+use ln_hooks::{ChannelEvent, event_of};
+use ln_log::Update;
+use ln_msgs::Refusal;
+use std::alloc::Global;
+use std::marker::Model;
+
+/// What an event tells of. Updates of a side count from 0.
+#[derive(Clone, Copy, Debug, PartialEq, Eq)]
+pub enum EventRef {
+    /// The own update of this number.
+    Own(u64),
+    /// The peer's update of this number.
+    Peer(u64),
+    /// The close.
+    Close,
+}
+
+/// The events of a channel end by number: how many were decided, and the undecided ones behind them in their order.
+#[derive(Debug, Drop)]
+pub struct EventLedger {
+    decided: u64,
+    undecided: Vec<EventRef>,
+}
+
+impl Model for EventLedger {
+    ghost use Rattle.std.specs.Prelude.{◌<◌, ◌^◌};
+    ghost use Rattle.ln_link.specs.Ledger.{Ledger};
+
+    ghost Value = { Ledger };
+
+    ghost view = { λ l. record { decided = l.decided; undecided = l.undecided.items } };
+
+    ghost invariant = { λ l. l.decided < 2 ^ 63 };
+}
+
+ghost use Rattle.std.specs.Prelude.{◌≡◌};
+ghost use Rattle.ln_link.specs.Ledger.{ref_of};
+
+// The update of this number, of this side's own or of the peer's.
+fn ref_of(own: bool, number: u64) -> EventRef
+    ensures { result ≡ ref_of own number }
+{
+    if own {
+        EventRef::Own(number)
+    } else {
+        EventRef::Peer(number)
+    }
+}
+
+impl EventLedger {
+    ghost use Rattle.std.specs.Prelude.{◌≡◌, ◌+◌, ◌<◌, ◌^◌, ◌++◌, ◌∷◌, [], length, OnOk, IfErr};
+    ghost use Rattle.ln_log.specs.declared.update.Update.{Update};
+    ghost use Rattle.ln_hooks.specs.declared.event.ChannelEvent.TheVariants as event;
+    ghost use Rattle.ln_link.specs.declared.ledger.EventRef.TheVariants as ref;
+    ghost use Rattle.ln_link.specs.declared.output.Output.TheVariants as output;
+    ghost use Rattle.ln_link.specs.Ledger.{no_events, next_event, refs_of, entered};
+    ghost use Rattle.ln_link.specs.Outputs.{events_of, numbered};
+
+    /// No events yet. Takes no memory.
+    pub(crate) fn new(alloc: Global) -> EventLedger
+        ensures { result ≡ no_events }
+    {
+        EventLedger {
+            decided: 0,
+            undecided: Vec::new(alloc),
+        }
+    }
+
+    // The number of the next event.
+    fn next(&self) -> u64
+        ensures { result ≡ next_event self.now }
+    {
+        self.decided + self.undecided.len() as u64
+    }
+
+    // Enters an event, and tells it by its number.
+    fn enter(
+        &mut self,
+        entry: EventRef,
+        event: ChannelEvent,
+        outbox: &mut Outbox,
+    ) -> Result<(), Refusal>
+        ensures entered { OnOk result (self.new ≡ entered (entry ∷ []) self.old) }
+        ensures told { OnOk result (outbox.new ≡ record { sent = outbox.old.sent; told = outbox.old.told ++ output.Event (next_event self.old) event ∷ [] }) }
+        ensures memory { IfErr result (λ r. r ≡ Refusal.Memory) }
+    {
+        outbox.tell(Output::Event(self.next(), event))?;
+        self.undecided.push(entry)?;
+        Ok(())
+    }
+
+    /// Enters and tells the events of updates of one side, the first of which has this number.
+    pub(crate) fn enter_all(
+        &mut self,
+        alloc: Global,
+        own: bool,
+        first: usize,
+        updates: &[Update],
+        outbox: &mut Outbox,
+    ) -> Result<(), Refusal>
+        requires { first + length updates.now < 2 ^ 64 }
+        ensures entered { OnOk result (self.new ≡ entered (refs_of own first updates.now) self.old) }
+        ensures told { OnOk result (outbox.new ≡ record { sent = outbox.old.sent; told = outbox.old.told ++ numbered (next_event self.old) (events_of own updates.now) }) }
+        ensures memory { IfErr result (λ r. r ≡ Refusal.Memory) }
+    {
+        let mut number = first as u64;
+        for update in updates {
+            match event_of(alloc, own, update)? {
+                None => {}
+                Some(event) => self.enter(ref_of(own, number), event, outbox)?,
+            }
+            number += 1;
+        }
+        Ok(())
+    }
+
+    /// Enters the close at this fee, in satoshis, which is the last event, and tells it.
+    pub(crate) fn enter_close(&mut self, fee: u64, outbox: &mut Outbox) -> Result<(), Refusal>
+        ensures entered { OnOk result (self.new ≡ entered (ref.Close ∷ []) self.old) }
+        ensures told { OnOk result (outbox.new ≡ record { sent = outbox.old.sent; told = (outbox.old.told ++ output.Event (next_event self.old) (event.Closed fee) ∷ []) ++ output.Closed fee ∷ [] }) }
+        ensures memory { IfErr result (λ r. r ≡ Refusal.Memory) }
+    {
+        self.enter(EventRef::Close, ChannelEvent::Closed(fee), outbox)?;
+        outbox.tell(Output::Closed(fee))
+    }
+}
