@@ -250,11 +250,13 @@ fn answer(alloc: Global, one: Move) -> Command {
 
 fn offer() -> Command {
     let add = htlc(0, 5000, 400);
+    let hash = add.hash;
+    let onion = add.onion;
     Command::Add {
         amount: add.amount,
-        hash: add.hash,
+        hash,
         expiry: add.expiry,
-        onion: add.onion,
+        onion,
         origin: None,
     }
 }

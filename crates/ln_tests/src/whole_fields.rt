@@ -132,6 +132,12 @@ fn bytes_of(alloc: Global, typ: u16, fixed: usize, tail: &[u8]) -> Result<Vec<u8
     Ok(bytes)
 }
 
+// What stands behind a length or a count, in two bytes.
+fn behind_count(count: usize, bytes: &[u8]) -> Option<&[u8]> {
+    let count = u16::try_from(count).ok()?;
+    bytes.strip_prefix(&count.to_be_bytes())
+}
+
 // What follows the value, where it stands in front.
 fn behind<'a>(value: &Item<'_>, bytes: &'a [u8]) -> Option<&'a [u8]> {
     match *value {
@@ -140,10 +146,8 @@ fn behind<'a>(value: &Item<'_>, bytes: &'a [u8]) -> Option<&'a [u8]> {
         Item::U32(number) => bytes.strip_prefix(&number.to_be_bytes()),
         Item::U64(number) => bytes.strip_prefix(&number.to_be_bytes()),
         Item::Fixed(front) => bytes.strip_prefix(front),
-        Item::Sized(front) => bytes
-            .strip_prefix(&(front.len() as u16).to_be_bytes())?
-            .strip_prefix(front),
-        Item::Listed(list) => bytes.strip_prefix(&(list.len() as u16).to_be_bytes()),
+        Item::Sized(front) => behind_count(front.len(), bytes)?.strip_prefix(front),
+        Item::Listed(list) => behind_count(list.len(), bytes),
     }
 }
 

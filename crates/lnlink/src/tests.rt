@@ -3,11 +3,8 @@ use crate::failure::Failure;
 use crate::simulation::{script_text, simulate};
 use crate::text::decode_text;
 use ln_msgs::{Counted, Refusal};
-use rows::{ROWS, Row};
-use std::alloc::{AllocError, Global};
+use std::alloc::Global;
 use std::test::*;
-
-mod rows;
 
 fn chosen(alloc: Global, line: &str) -> Result<Result<Choice, Failure>, Fail> {
     let mut words = Vec::new(alloc);
@@ -47,43 +44,8 @@ fn words(rt: HostRuntime) -> Result<(), Fail> {
     Ok(())
 }
 
-// Adds the digits so often.
-fn push_times(out: &mut String, digits: &str, times: usize) -> Result<(), AllocError> {
-    for _ in 0..times {
-        out.push_str(digits)?;
-    }
-    Ok(())
-}
-
-// The digits of a row's message, and its text.
-fn spelled(alloc: Global, row: &Row) -> Result<(String, String), AllocError> {
-    let (typ, first, parts) = *row;
-    let mut hex = String::from_str(alloc, typ)?;
-    let mut text = format!(in alloc; "{first}\n")?;
-    for (name, digits, times, shown) in parts {
-        push_times(&mut hex, digits, *times)?;
-        if name.is_empty() {
-            continue;
-        }
-        text.push_str(name)?;
-        text.push_str(" ")?;
-        if shown.is_empty() {
-            push_times(&mut text, digits, *times)?;
-        } else {
-            text.push_str(shown)?;
-        }
-        text.push_str("\n")?;
-    }
-    Ok((hex, text))
-}
-
 #[test]
 fn messages_as_text(rt: HostRuntime) -> Result<(), Fail> {
-    for row in ROWS {
-        let (hex, text) = spelled(rt.alloc(), row)?;
-        let shown = decode_text(rt.alloc(), hex.as_str())?;
-        assert_eq!(rt; shown.as_str(), text.as_str());
-    }
     for (hex, text) in [
         (
             "001200020000",
