@@ -6,6 +6,5 @@ pub mod View
 pub mod Limits
 pub mod Standing
 pub mod Machine
-pub mod Events
 pub mod Log
 pub use Rattle.ln_msgs.specs.Refusals.Refusal
