@@ -1,5 +1,7 @@
 -- What is read as a number is spelled so, and what is spelled so is read.
-use Rattle.std.proofs.Common.{◌≡◌, ℕ, zero, suc, ◌+◌, ◌*◌, ◌^◌, ◌<◌, ◌≤◌, ◌/◌, false, cond, List, [], ◌∷◌, ◌++◌, length, take, drop, refl, sym, ◌∙◌, ap, subst, arith, Result, Ok, Err, nat_lt, IfOk, append-nil, ◌==◌, inl, inr}
+use Rattle.std.proofs.Common.{◌≡◌, ℕ, zero, suc, ◌+◌, ◌*◌, ◌^◌, ◌<◌, ◌≤◌, ◌/◌, false, cond, List, [], ◌∷◌, ◌++◌, length}
+use Rattle.std.proofs.Common.{take, drop, refl, sym, ◌∙◌, ap, subst, arith, Result, Ok, Err, nat_lt, IfOk, append-nil}
+use Rattle.std.proofs.Common.{◌==◌, inl, inr}
 use Rattle.std.specs.Int.{bytes_high_first, byte_at}
 use Rattle.std.proofs.lemmas.Nat.{same_from_place, mod_below}
 use Rattle.std.proofs.lemmas.List.{take-append-drop, take_at, drop_at, length-append}
@@ -15,14 +17,18 @@ use Rattle.ln_bytes.proofs.Reading.{IsBytes, IsBytes-rest, chosen, guard_ok, ok_
 -- ---- numbers of k bytes
 
 -- bytes that give one number are the same
-same_front : (k : ℕ) (xs ys : List ℕ) → IsBytes xs → IsBytes ys → k ≤ length xs → k ≤ length ys → big_from 0 k xs ≡ big_from 0 k ys → take k xs ≡ take k ys
+same_front : (k : ℕ) (xs ys : List ℕ) → IsBytes xs → IsBytes ys → k ≤ length xs → k ≤ length ys
+    → big_from 0 k xs ≡ big_from 0 k ys → take k xs ≡ take k ys
 same_front zero xs ys bx by lx ly e = refl
 same_front (suc k) [] ys bx by lx ly e = absurd (omega arith)
 same_front (suc k) (x ∷ xs) [] bx by lx ly e = absurd (omega arith)
 same_front (suc k) (x ∷ xs) (y ∷ ys) bx by lx ly e =
     let tx : IsBytes xs = IsBytes-rest x xs bx in
     let ty : IsBytes ys = IsBytes-rest y ys by in
-    let p : (x ≡ y) × (big_from 0 k xs ≡ big_from 0 k ys) = same_from_place x (big_from 0 k xs) y (big_from 0 k ys) (256 ^ k) (big_from-lt 0 k xs tx) (big_from-lt 0 k ys ty) (ap (λ n. x * 256 ^ k + n) (sym (big_from-cons 0 k x xs)) ∙ e ∙ ap (λ n. y * 256 ^ k + n) (big_from-cons 0 k y ys)) in
+    let p : (x ≡ y) × (big_from 0 k xs ≡ big_from 0 k ys) =
+    same_from_place x (big_from 0 k xs) y (big_from 0 k ys) (256 ^ k) (big_from-lt 0 k xs tx) (big_from-lt 0 k ys ty)
+    (ap (λ n. x * 256 ^ k + n) (sym (big_from-cons 0 k x xs)) ∙ e
+    ∙ ap (λ n. y * 256 ^ k + n) (big_from-cons 0 k y ys)) in
     let q = same_front k xs ys tx ty (omega arith) (omega arith) p.1 in
     cc (p.0, q)
 
@@ -41,7 +47,8 @@ bytes_back k xs b l =
     let m = big_number k xs in
     let ys = bytes_high_first k m in
     let len : length ys ≡ k = length-bytes_high_first k m in
-    let same : big_from 0 k ys ≡ big_from 0 k xs = rw append-nil at (big_number-reads_back k m [] (big_from-lt 0 k xs b)) in
+    let same : big_from 0 k ys ≡ big_from 0 k xs =
+    rw append-nil at (big_number-reads_back k m [] (big_from-lt 0 k xs b)) in
     sym (rw append-nil at (take_at ys [] k len)) ∙ same_front k ys xs (bytes_are k m) b (omega arith) l same
 
 -- ---- what is read is spelled so
@@ -55,11 +62,17 @@ record IsLong (k least n len : ℕ) (rest : List ℕ) : Type 0 where
 
 long_takes : (k least n len : ℕ) (rest : List ℕ) → long_at k least rest ≡ Ok (n, len) → IsLong k least n len rest
 long_takes k least n len rest e =
-    let a = guard_ok (nat_lt (length rest) k) Truncated (cond (nat_lt (big_number k rest) least) (Err NotMinimal) (Ok (big_number k rest, k + 1))) (n, len) e in
+    let a = guard_ok (nat_lt (length rest) k) Truncated
+    (cond (nat_lt (big_number k rest) least) (Err NotMinimal) (Ok (big_number k rest, k + 1))) (n, len) e in
     let b = guard_ok (nat_lt (big_number k rest) least) NotMinimal (Ok (big_number k rest, k + 1)) (n, len) a.1 in
     let same = ok_pair (big_number k rest) (k + 1) n len b.1 in
     let least_is : least ≤ big_number k rest = ltb-false (big_number k rest) least b.0 in
-    record { enough = ltb-false (length rest) k a.0; minimal = rw (← same.0) least_is; number = sym same.0; taken = omega (arith, same.1) }
+    record {
+      enough = ltb-false (length rest) k a.0;
+      minimal = rw (← same.0) least_is;
+      number = sym same.0;
+      taken = omega (arith, same.1);
+    }
 
 -- a number that is read from the front, of which len bytes are taken
 pub record IsRead (n len : ℕ) (bytes : List ℕ) : Type 0 where
@@ -68,7 +81,8 @@ pub record IsRead (n len : ℕ) (bytes : List ℕ) : Type 0 where
   pub within : len ≤ length bytes
   pub parts : bytes ≡ bigsize n ++ drop len bytes
 
-long_spelled : (k least n len x : ℕ) (rest : List ℕ) → IsBytes rest → IsLong k least n len rest → n < 2 ^ 64 → bigsize n ≡ x ∷ big_bytes k n → IsRead n len (x ∷ rest)
+long_spelled : (k least n len x : ℕ) (rest : List ℕ) → IsBytes rest → IsLong k least n len rest → n < 2 ^ 64
+    → bigsize n ≡ x ∷ big_bytes k n → IsRead n len (x ∷ rest)
 long_spelled k least n len x rest b h below form =
     let back : big_bytes k n ≡ take k rest = rw h.number (bytes_back k rest b h.enough) in
     let len_is : length (big_bytes k n) ≡ k = length-bytes_high_first k n in
@@ -90,7 +104,12 @@ is_read (x ∷ rest) n len b e =
           let same = ok_pair x 1 n len h.1 in
           let short : x < 253 = ltb-true x 253 h.0 in
           let form : bigsize x ≡ x ∷ [] = rw h.0 refl in
-          let read : IsRead x 1 (x ∷ rest) = record { below = omega arith; taken = rw form refl; within = omega arith; parts = rw form refl } in
+          let read : IsRead x 1 (x ∷ rest) = record {
+            below = omega arith;
+            taken = rw form refl;
+            within = omega arith;
+            parts = rw form refl;
+          } in
           rw (← same.0, ← same.1) read
       | inr h ↦
           let long : 253 ≤ x = ltb-false x 253 h.0 in
@@ -125,10 +144,12 @@ is_read (x ∷ rest) n len b e =
 
 -- ---- what is spelled so is read
 
-long_again : (k least n : ℕ) (rest : List ℕ) → n < 256 ^ k → least ≤ n → long_at k least (big_bytes k n ++ rest) ≡ Ok (n, k + 1)
+long_again : (k least n : ℕ) (rest : List ℕ) → n < 256 ^ k → least ≤ n
+    → long_at k least (big_bytes k n ++ rest) ≡ Ok (n, k + 1)
 long_again k least n rest below minimal =
     let len : length (big_bytes k n) ≡ k = length-bytes_high_first k n in
-    let enough : nat_lt (length (big_bytes k n ++ rest)) k ≡ false = le-ltb _ _ (omega (arith, length-append (big_bytes k n) rest)) in
+    let enough : nat_lt (length (big_bytes k n ++ rest)) k ≡ false =
+    le-ltb _ _ (omega (arith, length-append (big_bytes k n) rest)) in
     let number : big_number k (big_bytes k n ++ rest) ≡ n = big_number-reads_back k n rest below in
     let test : nat_lt n least ≡ false = le-ltb _ _ minimal in
     rw (enough, number, test) refl
@@ -150,13 +171,19 @@ is_again n rest below =
 -- no spelling begins another one
 pub one_way : (m n : ℕ) (x y : List ℕ) → m < 2 ^ 64 → n < 2 ^ 64 → bigsize m ++ x ≡ bigsize n ++ y → (m ≡ n) × (x ≡ y)
 one_way m n x y bm bn e =
-    let same = ok_pair m (length (bigsize m)) n (length (bigsize n)) (sym (is_again m x bm) ∙ ap bigsize_at e ∙ is_again n y bn) in
-    (same.0, sym (drop_at (bigsize m) x (length (bigsize m)) refl) ∙ ap (drop (length (bigsize m))) e ∙ drop_at (bigsize n) y (length (bigsize m)) (sym same.1))
+    let same = ok_pair m (length (bigsize m)) n (length (bigsize n)) (sym (is_again m x bm)
+    ∙ ap bigsize_at e ∙ is_again n y bn) in (
+      same.0,
+      sym (drop_at (bigsize m) x (length (bigsize m)) refl) ∙ ap (drop (length (bigsize m))) e
+          ∙ drop_at (bigsize n) y (length (bigsize m)) (sym same.1),
+    )
 
-pub found : (r : Result (ℕ × ℕ) Fault) (bytes : List ℕ) → IsBytes bytes → r ≡ bigsize_at bytes → IfOk r (λ p. (p.0 < 2 ^ 64) × (bytes ≡ bigsize p.0 ++ drop p.1 bytes))
+pub found : (r : Result (ℕ × ℕ) Fault) (bytes : List ℕ) → IsBytes bytes → r ≡ bigsize_at bytes
+    → IfOk r (λ p. (p.0 < 2 ^ 64) × (bytes ≡ bigsize p.0 ++ drop p.1 bytes))
 found (Ok p) bytes b e = let read = is_read bytes p.0 p.1 b (sym e) in (read.below, read.parts)
 found (Err f) bytes b e = tt
 
-pub taken : (r : Result (ℕ × ℕ) Fault) (bytes : List ℕ) → IsBytes bytes → r ≡ bigsize_at bytes → IfOk r (λ p. (p.1 ≡ length (bigsize p.0)) × (p.1 ≤ length bytes))
+pub taken : (r : Result (ℕ × ℕ) Fault) (bytes : List ℕ) → IsBytes bytes → r ≡ bigsize_at bytes
+    → IfOk r (λ p. (p.1 ≡ length (bigsize p.0)) × (p.1 ≤ length bytes))
 taken (Ok p) bytes b e = let read = is_read bytes p.0 p.1 b (sym e) in (read.taken, read.within)
 taken (Err f) bytes b e = tt

@@ -1,6 +1,7 @@
 -- Leading zero bytes don't count: what is read as a truncated number is spelled so, and what is spelled
 -- so is read.
-use Rattle.std.proofs.Common.{◌≡◌, ℕ, zero, suc, ◌+◌, ◌-◌, ◌*◌, ◌^◌, ◌<◌, ◌≤◌, ◌/◌, ◌%◌, false, List, [], ◌∷◌, length, refl, sym, ◌∙◌, ap, subst, arith, Result, Ok, Err, IfOk, cond, nat_lt}
+use Rattle.std.proofs.Common.{◌≡◌, ℕ, zero, suc, ◌+◌, ◌-◌, ◌*◌, ◌^◌, ◌<◌, ◌≤◌, ◌/◌, ◌%◌, false, List, [], ◌∷◌, length}
+use Rattle.std.proofs.Common.{refl, sym, ◌∙◌, ap, subst, arith, Result, Ok, Err, IfOk, cond, nat_lt}
 use Rattle.std.specs.Int.{byte_at}
 use Rattle.std.proofs.Math.Nat.{div-eq_of_lt, div-one, div-lt_iff_lt-mul, mod-eq_of_lt, pow-suc, pow-succ', one-le-pow}
 use Rattle.std.proofs.lemmas.Nat.{le-div}
@@ -35,11 +36,13 @@ no_longer [] = omega arith
 no_longer (zero ∷ bytes) = let h = no_longer bytes in omega (arith, h)
 no_longer (suc b ∷ bytes) = omega arith
 
-same_value : (bytes : List ℕ) → big_number (length (without_zeros bytes)) (without_zeros bytes) ≡ big_number (length bytes) bytes
+same_value : (bytes : List ℕ) → big_number (length (without_zeros bytes)) (without_zeros bytes)
+    ≡ big_number (length bytes) bytes
 same_value [] = refl
 same_value (zero ∷ bytes) =
     let h = same_value bytes in
-    let moved : big_from 1 (length bytes) (0 ∷ bytes) ≡ big_from 0 (length bytes) bytes = big_from-cons 0 (length bytes) 0 bytes in
+    let moved : big_from 1 (length bytes) (0 ∷ bytes) ≡ big_from 0 (length bytes) bytes =
+    big_from-cons 0 (length bytes) 0 bytes in
     h ∙ sym moved ∙ omega arith
 same_value (suc b ∷ bytes) = refl
 
@@ -61,11 +64,15 @@ record IsWide (k n m : ℕ) : Type 0 where
   same : without_zeros (big_bytes m n) ≡ without_zeros (big_bytes k n)
 
 one_wider : (k n m : ℕ) → IsWide k n m → IsWide k n (suc m)
-one_wider k n m w = record { below = grows m n w.below; same = zeros_behind (byte_at m n) (big_bytes m n) (top_is_zero m n w.below) ∙ w.same }
+one_wider k n m w = record {
+  below = grows m n w.below;
+  same = zeros_behind (byte_at m n) (big_bytes m n) (top_is_zero m n w.below) ∙ w.same;
+}
 
 wider : (j k n : ℕ) → n < 256 ^ k → IsWide k n (j + k)
 wider zero k n below = let e : 0 + k ≡ k = omega arith in rw e (record { below = below; same = refl })
-wider (suc j) k n below = let e : suc j + k ≡ suc (j + k) = omega arith in rw e (one_wider k n (j + k) (wider j k n below))
+wider (suc j) k n below = let e : suc j + k ≡ suc (j + k) = omega arith in
+    rw e (one_wider k n (j + k) (wider j k n below))
 
 wide : (k n : ℕ) → k ≤ 8 → n < 256 ^ k → IsWide k n 8
 wide k n le below = let e : (8 - k) + k ≡ 8 = omega arith in subst (IsWide k n) e (wider (8 - k) k n below)
@@ -99,22 +106,26 @@ top_stands (suc k) n below least =
 
 -- ---- reading
 
-pub is_found : (room : ℕ) (bytes : List ℕ) (n : ℕ) → IsBytes bytes → room ≤ 8 → truncated_at room bytes ≡ Ok n → (n < 256 ^ room) × (bytes ≡ truncated n)
+pub is_found : (room : ℕ) (bytes : List ℕ) (n : ℕ) → IsBytes bytes → room ≤ 8 → truncated_at room bytes ≡ Ok n
+    → (n < 256 ^ room) × (bytes ≡ truncated n)
 is_found room bytes n fits le e =
-    let g = guard_ok (nat_lt room (length bytes)) FieldLength (cond (begins_with_zero bytes) (Err NotMinimal) (Ok (big_number (length bytes) bytes))) n e in
+    let g = guard_ok (nat_lt room (length bytes)) FieldLength
+    (cond (begins_with_zero bytes) (Err NotMinimal) (Ok (big_number (length bytes) bytes))) n e in
     let h = guard_ok (begins_with_zero bytes) NotMinimal (Ok (big_number (length bytes) bytes)) n g.1 in
     let k = length bytes in
     let short : k ≤ room = ltb-false room k g.0 in
     let number : big_number k bytes ≡ n = ok_is (big_number k bytes) n h.1 in
     let below : n < 256 ^ k = rw (← number) (big_from-lt 0 k bytes fits) in
     let w : IsWide k n 8 = wide k n (omega arith) below in
-    let back : big_bytes k n ≡ bytes = rw (← number) (bytes_back k bytes fits (omega arith) ∙ take_all k bytes (omega arith)) in
+    let back : big_bytes k n ≡ bytes = rw (← number) (bytes_back k bytes fits (omega arith)
+    ∙ take_all k bytes (omega arith)) in
     (below_more (room - k) k room n below (omega arith), sym (w.same ∙ ap without_zeros back ∙ same_without bytes h.0))
 
 pub is_again : (room n : ℕ) → room ≤ 8 → n < 256 ^ room → truncated_at room (truncated n) ≡ Ok n
 is_again room n le below =
     let w : IsWide room n 8 = wide room n le below in
-    let short : length (truncated n) ≤ room = rw w.same (shorter_than (big_bytes room n) room (length-bytes_high_first room n)) in
+    let short : length (truncated n) ≤ room = rw w.same
+    (shorter_than (big_bytes room n) room (length-bytes_high_first room n)) in
     let fits : nat_lt room (length (truncated n)) ≡ false = le-ltb _ _ short in
     let first : begins_with_zero (truncated n) ≡ false = nothing_leads (big_bytes 8 n) in
     let reads : big_number 8 (big_bytes 8 n) ≡ n = big_number-reads_back 8 n [] w.below in
@@ -128,9 +139,11 @@ as_bytes k n le below least = (wide k n le below).same ∙ same_without (big_byt
 
 -- ---- the calls
 
-pub found : (room : ℕ) (r : Result ℕ Fault) (bytes : List ℕ) → IsBytes bytes → room ≤ 8 → r ≡ truncated_at room bytes → IfOk r (λ n. bytes ≡ truncated n)
+pub found : (room : ℕ) (r : Result ℕ Fault) (bytes : List ℕ) → IsBytes bytes → room ≤ 8 → r ≡ truncated_at room bytes
+    → IfOk r (λ n. bytes ≡ truncated n)
 found room (Ok n) bytes fits le e = (is_found room bytes n fits le (sym e)).1
 found room (Err f) bytes fits le e = tt
 
 pub one_number : (m n : ℕ) → m < 2 ^ 64 → n < 2 ^ 64 → truncated m ≡ truncated n → m ≡ n
-one_number m n bm bn e = ok_is m n (sym (is_again 8 m (omega arith) bm) ∙ ap (truncated_at 8) e ∙ is_again 8 n (omega arith) bn)
+one_number m n bm bn e = ok_is m n (sym (is_again 8 m (omega arith) bm) ∙ ap (truncated_at 8) e
+    ∙ is_again 8 n (omega arith) bn)

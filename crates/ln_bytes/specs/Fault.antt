@@ -1,7 +1,9 @@
 -- The number of each fault.
 use Rattle.std.specs.Prelude.{ℕ}
 use Rattle.ln_bytes.specs.declared.fault.Fault.{Fault}
-use Rattle.ln_bytes.specs.declared.fault.Fault.TheVariants.{Truncated, NotMinimal, TlvOrder, TlvUnknownEven, TlvLength, UnknownEvenType, TooLong, FieldLength, UnknownFeature, Memory, Io}
+use Rattle.ln_bytes.specs.declared.fault.Fault.TheVariants.{Truncated, NotMinimal, TlvOrder, TlvUnknownEven, TlvLength}
+use Rattle.ln_bytes.specs.declared.fault.Fault.TheVariants.{UnknownEvenType, TooLong, FieldLength, UnknownFeature}
+use Rattle.ln_bytes.specs.declared.fault.Fault.TheVariants.{Memory, Io}
 
 abbrev pub fault_number : Fault → ℕ
 fault_number Truncated = 1

@@ -1,5 +1,6 @@
 -- TLV streams (BOLT 1, "Type-Length-Value Format"): records one after the other, up to the end.
-use Rattle.std.specs.Prelude.{◌≡◌, ◌≢◌, ℕ, zero, suc, ◌%◌, ◌^◌, ◌<◌, List, [], ◌∷◌, ◌++◌, length, take, drop, Option, Some, None, Result, Ok, Err, Bool, true, not, ◌||◌, ◌==◌, nat_lt, IsTrue, if◌then◌else◌}
+use Rattle.std.specs.Prelude.{◌≡◌, ◌≢◌, ℕ, zero, suc, ◌%◌, ◌^◌, ◌<◌, List, [], ◌∷◌, ◌++◌, length, take, drop, Option}
+use Rattle.std.specs.Prelude.{Some, None, Result, Ok, Err, Bool, true, not, ◌||◌, ◌==◌, nat_lt, IsTrue, if◌then◌else◌}
 use Rattle.std.specs.List.{flat_map, list_any, AllByRecursion}
 use Rattle.ln_bytes.specs.declared.fault.Fault.{Fault}
 use Rattle.ln_bytes.specs.declared.fault.Fault.TheVariants.{Truncated, TlvOrder, TlvUnknownEven, TlvLength}
@@ -73,7 +74,10 @@ unfoldable pub value_at : List ℕ → ℕ → List ℕ → Result (Record × Li
 value_at known_even typ bytes = do
   len ← bigsize_at bytes
   if nat_lt (length (drop len.1 bytes)) len.0 then Err TlvLength
-      else (if is_allowed known_even typ then Ok (record { typ = typ; value = take len.0 (drop len.1 bytes) }, drop len.0 (drop len.1 bytes))
+      else (if is_allowed known_even typ then Ok (
+        record { typ = typ; value = take len.0 (drop len.1 bytes) },
+        drop len.0 (drop len.1 bytes),
+      )
       else Err TlvUnknownEven)
 
 -- The record at the front of the bytes, behind one of the type before, and what follows it; or its

@@ -35,7 +35,8 @@ pub fn read_bigsize(bytes: &[u8]) -> Result<(u64, usize), Fault>
     // It takes as many bytes as it is spelled with, and no more than there are.
     ensures takes_its_spelling { IfOk result (λ r. (r.1 ≡ length (bigsize r.0)) × (r.1 ≤ length bytes.now)) }
     // What is spelled so is read, whatever follows.
-    ensures reads_each_spelling { (n : ℕ) (rest : List ℕ) → n < 2 ^ 64 → bytes.now ≡ bigsize n ++ rest → result ≡ Ok (n, length (bigsize n)) }
+    ensures reads_each_spelling { (n : ℕ) (rest : List ℕ) → n < 2 ^ 64 → bytes.now ≡ bigsize n ++ rest
+        → result ≡ Ok (n, length (bigsize n)) }
     // What is refused has one of two faults.
     ensures has_one_of_two_faults { IfErr result (λ e. (e ≡ Fault.Truncated) ⊎ (e ≡ Fault.NotMinimal)) }
     // Which answer it is, and which fault comes first.

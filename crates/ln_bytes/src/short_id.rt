@@ -30,7 +30,9 @@ impl ShortId {
         // What is read is spelled so.
         ensures is_spelled_so { bytes.now ≡ short_id_bytes result.block result.tx result.output }
         // What is spelled so is read.
-        ensures reads_each_spelling { (block tx output : ℕ) → block < 2 ^ 24 → tx < 2 ^ 24 → output < 2 ^ 16 → bytes.now ≡ short_id_bytes block tx output → (result.block ≡ block) × (result.tx ≡ tx) × (result.output ≡ output) }
+        ensures reads_each_spelling { (block tx output : ℕ) → block < 2 ^ 24 → tx < 2 ^ 24 → output < 2 ^ 16
+            → bytes.now ≡ short_id_bytes block tx output → (result.block ≡ block) × (result.tx ≡ tx)
+            × (result.output ≡ output) }
     {
         from_eight(bytes)
     }
@@ -53,7 +55,9 @@ impl ShortId {
         // What is read is written so.
         ensures is_written_so { IfSome result (λ id. text.now ≡ short_id_text id.block id.tx id.output) }
         // What is written so is read.
-        ensures reads_each_text { (block tx output : ℕ) → block < 2 ^ 24 → tx < 2 ^ 24 → output < 2 ^ 16 → text.now ≡ short_id_text block tx output → IsSomeAnd result (λ id. (id.block ≡ block) × (id.tx ≡ tx) × (id.output ≡ output)) }
+        ensures reads_each_text { (block tx output : ℕ) → block < 2 ^ 24 → tx < 2 ^ 24 → output < 2 ^ 16
+            → text.now ≡ short_id_text block tx output → IsSomeAnd result (λ id. (id.block ≡ block) × (id.tx ≡ tx)
+            × (id.output ≡ output)) }
     {
         let (block, rest) = number_and_x(text)?;
         let (tx, rest) = number_and_x(rest)?;
@@ -82,7 +86,8 @@ fn from_eight(bytes: &[u8]) -> ShortId
 
 // A decimal number and an x in front, and what follows them.
 fn number_and_x(text: &str) -> Option<(u32, &str)>
-    ensures { MatchOption result ((n : ℕ) (rest : List ℕ) → n < 2 ^ 32 → text.now ≢ decimal n ++ (120 ∷ rest)) (λ x. (x.0 < 2 ^ 32) × (text.now ≡ decimal x.0 ++ (120 ∷ x.1.now))) }
+    ensures { MatchOption result ((n : ℕ) (rest : List ℕ) → n < 2 ^ 32
+        → text.now ≢ decimal n ++ (120 ∷ rest)) (λ x. (x.0 < 2 ^ 32) × (text.now ≡ decimal x.0 ++ (120 ∷ x.1.now))) }
 {
     let (front, rest) = text.split_once('x')?;
     Some((number(front)?, rest))
@@ -90,7 +95,8 @@ fn number_and_x(text: &str) -> Option<(u32, &str)>
 
 // A decimal number without a sign and without leading zeros.
 fn number(text: &str) -> Option<u32>
-    ensures { MatchOption result ((n : ℕ) → n < 2 ^ 32 → text.now ≢ decimal n) (λ n. (n < 2 ^ 32) × (text.now ≡ decimal n)) }
+    ensures { MatchOption result ((n : ℕ) → n < 2 ^ 32 → text.now ≢ decimal n) (λ n. (n < 2 ^ 32)
+        × (text.now ≡ decimal n)) }
 {
     if !begins_plainly(text.as_bytes()) {
         return None;

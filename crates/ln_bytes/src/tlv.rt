@@ -1,9 +1,11 @@
 //! TLV streams (BOLT 1, "Type-Length-Value Format"): records one after the other, up to the end.
 
-ghost use Rattle.std.specs.Prelude.{◌≡◌, ◌≢◌, ◌<◌, ◌≤◌, ◌⊎◌, ℕ, List, ◌++◌, length, take, slice_index, None, IfSome, IfNone, IsTrue, ◌↔◌, IfOk, IfErr, OnOk, OnErr, Ok, Err, option_map};
+ghost use Rattle.std.specs.Prelude.{◌≡◌, ◌≢◌, ◌<◌, ◌≤◌, ◌⊎◌, ℕ, List, ◌++◌, length, take, slice_index, None, IfSome};
+ghost use Rattle.std.specs.Prelude.{IfNone, IsTrue, ◌↔◌, IfOk, IfErr, OnOk, OnErr, Ok, Err, option_map};
 ghost use Rattle.ln_bytes.specs.Bigsize.{bigsize};
 ghost use Rattle.ln_bytes.specs.Reading.{Gives};
-ghost use Rattle.ln_bytes.specs.Tlv.{value_of, record_bytes, stream_bytes, may_follow, is_allowed, AreRising, AreKnown, AreFit, AreValid, Fits, Spells, HasFault, value_at, record_at, stream_at};
+ghost use Rattle.ln_bytes.specs.Tlv.{value_of, record_bytes, stream_bytes, may_follow, is_allowed, AreRising, AreKnown};
+ghost use Rattle.ln_bytes.specs.Tlv.{AreFit, AreValid, Fits, Spells, HasFault, value_at, record_at, stream_at};
 ghost use Rattle.ln_bytes.specs.declared.fault.Fault.{Fault};
 ghost use Rattle.ln_bytes.specs.declared.record.Record.{Record};
 
@@ -29,11 +31,13 @@ pub fn read_tlvs(alloc: Global, bytes: &[u8], known_even: &[u64]) -> Result<Vec<
     // So the records can be written again.
     ensures types_rise { IfOk result (λ v. AreRising v.items) }
     // What is spelled so is read.
-    ensures reads_each_spelling { (rs : List Record) → Spells known_even.now rs bytes.now → Gives (λ v. v.items) result (Ok rs) }
+    ensures reads_each_spelling { (rs : List Record) → Spells known_even.now rs bytes.now
+        → Gives (λ v. v.items) result (Ok rs) }
     // What is refused has that fault, and no record before it has one.
     ensures tells_the_first_fault { IfErr result (λ e. e ≢ Fault.Memory → HasFault known_even.now bytes.now e) }
     // What has a fault is refused by it.
-    ensures refuses_each_fault { (f : Fault) → HasFault known_even.now bytes.now f → Gives (λ v. v.items) result (Err f) }
+    ensures refuses_each_fault { (f : Fault) → HasFault known_even.now bytes.now f
+        → Gives (λ v. v.items) result (Err f) }
     // Which answer it is.
     ensures reads_as_defined { Gives (λ v. v.items) result (stream_at known_even.now bytes.now) }
 {
@@ -122,7 +126,8 @@ pub fn write_tlvs(alloc: Global, records: &[Record]) -> Result<Vec<u8>, Fault>
     // What is written is the records' bytes, one record after the other.
     ensures writes_the_stream { IfOk result (λ v. v.items ≡ stream_bytes records.now) }
     // So it is read again as these records by who knows their even types.
-    ensures spells_the_records { (known_even : List ℕ) → AreKnown known_even records.now → IfOk result (λ v. Spells known_even records.now v.items) }
+    ensures spells_the_records { (known_even : List ℕ) → AreKnown known_even records.now
+        → IfOk result (λ v. Spells known_even records.now v.items) }
     ensures fails_for_memory_alone { IfErr result (λ e. e ≡ Fault.Memory) }
 {
     let mut out = Vec::new(alloc);
@@ -240,12 +245,20 @@ fn put_number(out: &mut Vec<u8>, number: u64) -> Result<(), Fault>
 /// whole input, bytes are told in exactly one way: they spell records or have a fault, and not both; no two lists
 /// of records have the same bytes; and there is one first fault at most.
 pub fn one_stream()
-    ensures reads_what_is_spelled { (known_even bytes : List ℕ) (rs : List Record) → Spells known_even rs bytes → stream_at known_even bytes ≡ Ok rs }
-    ensures spells_what_is_read { (known_even bytes : List ℕ) (rs : List Record) → ((i : ℕ) → slice_index bytes i < 256) → stream_at known_even bytes ≡ Ok rs → Spells known_even rs bytes }
-    ensures finds_each_fault { (known_even bytes : List ℕ) (f : Fault) → HasFault known_even bytes f → stream_at known_even bytes ≡ Err f }
-    ensures has_the_fault_found { (known_even bytes : List ℕ) (f : Fault) → ((i : ℕ) → slice_index bytes i < 256) → stream_at known_even bytes ≡ Err f → HasFault known_even bytes f }
-    ensures is_spelled_or_faulty { (known_even bytes : List ℕ) → ((i : ℕ) → slice_index bytes i < 256) → ((rs : List Record) × Spells known_even rs bytes) ⊎ ((f : Fault) × HasFault known_even bytes f) }
-    ensures has_one_list_of_records { (rs ss : List Record) → AreFit rs → AreFit ss → stream_bytes rs ≡ stream_bytes ss → rs ≡ ss }
-    ensures has_no_fault_if_spelled { (known_even bytes : List ℕ) (rs : List Record) (f : Fault) → Spells known_even rs bytes → HasFault known_even bytes f → ⊥ }
-    ensures has_one_first_fault { (known_even bytes : List ℕ) (f g : Fault) → HasFault known_even bytes f → HasFault known_even bytes g → f ≡ g }
+    ensures reads_what_is_spelled { (known_even bytes : List ℕ) (rs : List Record) → Spells known_even rs bytes
+        → stream_at known_even bytes ≡ Ok rs }
+    ensures spells_what_is_read { (known_even bytes : List ℕ) (rs : List Record) → ((i : ℕ) → slice_index bytes i < 256)
+        → stream_at known_even bytes ≡ Ok rs → Spells known_even rs bytes }
+    ensures finds_each_fault { (known_even bytes : List ℕ) (f : Fault) → HasFault known_even bytes f
+        → stream_at known_even bytes ≡ Err f }
+    ensures has_the_fault_found { (known_even bytes : List ℕ) (f : Fault) → ((i : ℕ) → slice_index bytes i < 256)
+        → stream_at known_even bytes ≡ Err f → HasFault known_even bytes f }
+    ensures is_spelled_or_faulty { (known_even bytes : List ℕ) → ((i : ℕ) → slice_index bytes i < 256)
+        → ((rs : List Record) × Spells known_even rs bytes) ⊎ ((f : Fault) × HasFault known_even bytes f) }
+    ensures has_one_list_of_records { (rs ss : List Record) → AreFit rs → AreFit ss
+        → stream_bytes rs ≡ stream_bytes ss → rs ≡ ss }
+    ensures has_no_fault_if_spelled { (known_even bytes : List ℕ) (rs : List Record) (f : Fault)
+        → Spells known_even rs bytes → HasFault known_even bytes f → ⊥ }
+    ensures has_one_first_fault { (known_even bytes : List ℕ) (f g : Fault) → HasFault known_even bytes f
+        → HasFault known_even bytes g → f ≡ g }
 {}

@@ -1,5 +1,6 @@
 -- The end of a channel that both sides agree to (BOLT 2, "Channel Close").
-use Rattle.std.specs.Prelude.{◌≡◌, ℕ, ◌≤◌, min, max, Bool, true, false, ◌&&◌, ◌==◌, nat_le, Option, Some, None, is_none, IfSome, Result, Ok, Err, if◌then◌else◌}
+use Rattle.std.specs.Prelude.{◌≡◌, ℕ, ◌≤◌, min, max, Bool, true, false, ◌&&◌, ◌==◌, nat_le, Option, Some, None, is_none}
+use Rattle.std.specs.Prelude.{IfSome, Result, Ok, Err, if◌then◌else◌}
 use Rattle.ln_msgs.specs.declared.refusals.refusal.Refusal.{Refusal}
 use Rattle.ln_msgs.specs.declared.refusals.refusal.Refusal.TheVariants as refusal
 use Rattle.ln_keys.specs.declared.role.Role.{Role}
@@ -10,7 +11,15 @@ use Rattle.ln_close.specs.declared.closing.Answer.TheVariants as answer
 use Rattle.ln_close.specs.declared.closing.Closing.{Closing}
 
 abbrev pub opened : Role → Fees → Closing
-opened role fees = record { role = role; fees = fees; shut = false; peer_shut = false; own_fee = None; peer_fee = None; closed = None }
+opened role fees = record {
+  role = role;
+  fees = fees;
+  shut = false;
+  peer_shut = false;
+  own_fee = None;
+  peer_fee = None;
+  closed = None;
+}
 
 -- ---- shutdown (BOLT 2, "Closing Initiation")
 
@@ -51,7 +60,8 @@ abbrev pub nearest : ℕ → ℕ → ℕ → ℕ
 nearest least greatest fee = min (max fee least) greatest
 
 abbrev pub within : ℕ → ℕ → ℕ → Result Answer Refusal
-within least greatest fee = if nat_le least greatest then Ok (answer.Propose (nearest least greatest fee)) else Err refusal.FeeOutside
+within least greatest fee = if nat_le least greatest then Ok (answer.Propose (nearest least greatest fee))
+    else Err refusal.FeeOutside
 
 -- by the other side's range, where it came with one
 abbrev pub within_both : Fees → ℕ → Option (ℕ × ℕ) → Result Answer Refusal
@@ -60,7 +70,8 @@ within_both own fee (Some r) = within (max own.least r.0) (min own.greatest r.1)
 
 -- the fundee, where it has sent no fee yet, proposes one within both ranges
 abbrev pub counter : Closing → ℕ → Option (ℕ × ℕ) → Result Answer Refusal
-counter c fee range = if is_funder c.role then Err refusal.FeeOutside else (if is_none c.own_fee then within_both c.fees fee range else Err refusal.FeeOutside)
+counter c fee range = if is_funder c.role then Err refusal.FeeOutside
+    else (if is_none c.own_fee then within_both c.fees fee range else Err refusal.FeeOutside)
 
 -- where the channel is closed
 abbrev pub behind_close : Option ℕ → ℕ → Result Answer Refusal → Result Answer Refusal

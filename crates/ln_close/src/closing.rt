@@ -58,7 +58,8 @@ fn is_fee(known: Option<u64>, fee: u64) -> bool
 
 impl Closing {
     ghost use Rattle.std.specs.Prelude.{◌≡◌, IfOk, OnErr};
-    ghost use Rattle.ln_close.specs.Closing.{opened, may_shut, after_shut, after_peer_shut, first_fee, started, answer_to, counter, after};
+    ghost use Rattle.ln_close.specs.Closing.{opened, may_shut, after_shut, after_peer_shut, first_fee, started};
+    ghost use Rattle.ln_close.specs.Closing.{answer_to, counter, after};
 
     /// A side of a channel that isn't closing.
     pub fn new(role: Role, fees: Fees) -> Closing

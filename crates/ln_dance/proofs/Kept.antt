@@ -1,5 +1,6 @@
 -- What each call of the dance keeps.
-use Rattle.std.proofs.Common.{◌≡◌, ◌≢◌, ℕ, ◌+◌, ◌<◌, ◌≤◌, ◌^◌, refl, sym, ap, ◌∙◌, subst, arith, Bool, true, false, cond, not, ◌&&◌, ◌==◌, eqb, Option, Some, None, Result, Ok, Err, OnOk, OnErr, inl, inr}
+use Rattle.std.proofs.Common.{◌≡◌, ◌≢◌, ℕ, ◌+◌, ◌<◌, ◌≤◌, ◌^◌, refl, sym, ap, ◌∙◌, subst, arith, Bool, true, false}
+use Rattle.std.proofs.Common.{cond, not, ◌&&◌, ◌==◌, eqb, Option, Some, None, Result, Ok, Err, OnOk, OnErr, inl, inr}
 use Rattle.std.proofs.lemmas.Bool.{eq-eqb}
 use Rattle.std.proofs.lemmas.Bool.Decides.{eqb_tells}
 use Rattle.ln_msgs.specs.declared.refusals.refusal.Refusal.{Refusal}
@@ -22,14 +23,16 @@ either_way (Err e) h k f g = g k
 
 -- ---- a log that was changed in another way
 
-pub kept_by : (n : Numbers) (l m x : Log) → AreInStep n l → m ≡ x → x.acknowledged ≡ l.acknowledged → x.signed ≡ l.signed → AreInStep n m
+pub kept_by : (n : Numbers) (l m x : Log) → AreInStep n l → m ≡ x → x.acknowledged ≡ l.acknowledged
+    → x.signed ≡ l.signed → AreInStep n m
 kept_by n l m x k e a s =
     subst (AreInStep n) (sym e) (record {
       commitment = k.commitment;
       signed = k.signed;
       revoked = k.revoked;
       one_unrevoked = k.one_unrevoked;
-      acknowledged = λ same. ap (λ c. same_counts c x.signed) a ∙ ap (same_counts l.acknowledged) s ∙ k.acknowledged same;
+      acknowledged = λ same. ap (λ c. same_counts c x.signed) a
+          ∙ ap (same_counts l.acknowledged) s ∙ k.acknowledged same;
     })
 
 -- ---- signing
@@ -47,20 +50,32 @@ unless true r o e = absurd (cc)
 unless false r o e = (refl, e)
 
 not_last : (n : ℕ) → n < 2 ^ 48 → is_last n ≡ false → n + 1 < 2 ^ 48
-not_last n lt e = elim (eqb_tells n 281474976710655) [ inl g ↦ absurd (let is : true ≡ false = sym g.0 ∙ e in cc) | inr g ↦ (let differ = g.1 in omega (arith, lt, differ)) ]
+not_last n lt e = elim (eqb_tells n 281474976710655) [
+  | inl g ↦ absurd (let is : true ≡ false = sym g.0 ∙ e in cc)
+  | inr g ↦ (let differ = g.1 in omega (arith, lt, differ))
+]
 
 pub signed_below : (d : Dancer) → AreInStep d.numbers d.log → sign_fault d ≡ None → d.numbers.signed + 1 < 2 ^ 48
-signed_below d k e = not_last d.numbers.signed k.signed (untested (is_last d.numbers.signed) refusal.NumbersSpent (none_both _ _ (unless (owes d) refusal.SignatureOutstanding _ e).1).1)
+signed_below d k e = not_last d.numbers.signed k.signed
+    (untested (is_last d.numbers.signed) refusal.NumbersSpent
+    (none_both _ _ (unless (owes d) refusal.SignatureOutstanding _ e).1).1)
 
 same_number : (s r : ℕ) → not (s == r) ≡ false → s ≡ r
-same_number s r e = elim (eqb_tells s r) [ inl g ↦ g.1 | inr g ↦ absurd (let is : true ≡ false = ap not (sym g.0) ∙ e in cc) ]
+same_number s r e = elim (eqb_tells s r) [
+  | inl g ↦ g.1
+  | inr g ↦
+      absurd (let is : true ≡ false = ap not (sym g.0) ∙ e in cc)
+]
 
 other_number : (s r : ℕ) → not (s == r) ≡ true → s ≢ r
 other_number s r e same = absurd (let is : false ≡ true = ap not (sym (eq-eqb s r same)) ∙ e in cc)
 
-pub kept_signed : (d : Dancer) (m : Log) (n : Numbers) → AreInStep d.numbers d.log → sign_fault d ≡ None → n ≡ record { commitment = d.numbers.commitment; signed = d.numbers.signed + 1; revoked = d.numbers.revoked } → AreInStep n m
+pub kept_signed : (d : Dancer) (m : Log) (n : Numbers) → AreInStep d.numbers d.log → sign_fault d ≡ None
+    → n ≡ record { commitment = d.numbers.commitment; signed = d.numbers.signed + 1; revoked = d.numbers.revoked }
+    → AreInStep n m
 kept_signed d m n k e en =
-    let all : d.numbers.signed ≡ d.numbers.revoked = same_number d.numbers.signed d.numbers.revoked (unless (owes d) refusal.SignatureOutstanding _ e).0 in
+    let all : d.numbers.signed ≡ d.numbers.revoked =
+    same_number d.numbers.signed d.numbers.revoked (unless (owes d) refusal.SignatureOutstanding _ e).0 in
     subst (λ x. AreInStep x m) (sym en) (record {
       commitment = k.commitment;
       signed = signed_below d k e;
@@ -74,10 +89,19 @@ kept_signed d m n k e en =
 pub next_below : (n : ℕ) → n < 2 ^ 48 → n ≢ 281474976710655 → n + 1 < 2 ^ 48
 next_below n lt differ = omega (arith, lt, differ)
 
-pub kept_accepted : (d : Dancer) (m : Log) → AreInStep d.numbers d.log → d.numbers.commitment ≢ 281474976710655 → m ≡ after_accept d.log
-    → AreInStep (record { commitment = d.numbers.commitment + 1; signed = d.numbers.signed; revoked = d.numbers.revoked }) m
+pub kept_accepted : (d : Dancer) (m : Log) → AreInStep d.numbers d.log → d.numbers.commitment ≢ 281474976710655
+    → m ≡ after_accept d.log
+    → AreInStep (record {
+      commitment = d.numbers.commitment + 1;
+      signed = d.numbers.signed;
+      revoked = d.numbers.revoked;
+    }) m
 kept_accepted d m k differ em =
-    subst (AreInStep (record { commitment = d.numbers.commitment + 1; signed = d.numbers.signed; revoked = d.numbers.revoked })) (sym em) (record {
+    subst (AreInStep (record {
+      commitment = d.numbers.commitment + 1;
+      signed = d.numbers.signed;
+      revoked = d.numbers.revoked;
+    })) (sym em) (record {
       commitment = next_below d.numbers.commitment k.commitment differ;
       signed = k.signed;
       revoked = k.revoked;
@@ -91,10 +115,18 @@ same_self : (c : Counts) → same_counts c c ≡ true
 same_self c = ap (λ b. b && (c.peer == c.peer)) (eq-eqb c.own c.own refl) ∙ eq-eqb c.peer c.peer refl
 
 pub kept_learned : (d : Dancer) (m : Log) → AreInStep d.numbers d.log → owes d ≡ true → m ≡ after_learn d.log
-    → AreInStep (record { commitment = d.numbers.commitment; signed = d.numbers.signed; revoked = d.numbers.revoked + 1 }) m
+    → AreInStep (record {
+      commitment = d.numbers.commitment;
+      signed = d.numbers.signed;
+      revoked = d.numbers.revoked + 1;
+    }) m
 kept_learned d m k o em =
     let differ = other_number d.numbers.signed d.numbers.revoked o in
-    subst (AreInStep (record { commitment = d.numbers.commitment; signed = d.numbers.signed; revoked = d.numbers.revoked + 1 })) (sym em) (record {
+    subst (AreInStep (record {
+      commitment = d.numbers.commitment;
+      signed = d.numbers.signed;
+      revoked = d.numbers.revoked + 1;
+    })) (sym em) (record {
       commitment = k.commitment;
       signed = k.signed;
       revoked = (let less = k.revoked in omega (arith, less, differ));

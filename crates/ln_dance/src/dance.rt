@@ -56,7 +56,13 @@ impl Model for Dance {
 
     ghost Value = { Dancer };
 
-    ghost view = { λ d. record { channel = d.channel; log = d.log; numbers = d.numbers; peer = d.peer; later = d.later } };
+    ghost view = { λ d. record {
+      channel = d.channel;
+      log = d.log;
+      numbers = d.numbers;
+      peer = d.peer;
+      later = d.later;
+    } };
 
     ghost invariant = { λ d. AreInStep d.numbers d.log };
 }
@@ -66,7 +72,9 @@ impl Dance {
     ghost use Rattle.ln_log.specs.Log as log;
     ghost use Rattle.ln_log.specs.Log.{Log, after_propose, after_receive, after_drop, proposal_fault, taken_fault};
     ghost use Rattle.ln_log.specs.Limits.{HasNextId, Answers};
-    ghost use Rattle.ln_dance.specs.Dance.{Dancer, StandsFor, AreInStep, is_last, owes, sign_fault, after_sign, signed_message, accept_fault, after_accept, revoked_message, learn_fault, after_learn, with_log, with_next_point, AnswersWithin, answer_of};
+    ghost use Rattle.ln_dance.specs.Dance.{Dancer, StandsFor, AreInStep, is_last, owes, sign_fault, after_sign};
+    ghost use Rattle.ln_dance.specs.Dance.{signed_message, accept_fault, after_accept, revoked_message, learn_fault};
+    ghost use Rattle.ln_dance.specs.Dance.{after_learn, with_log, with_next_point, AnswersWithin, answer_of};
 
     /// Whether a side may have these numbers beside these updates: each number is below 2^48, at most one
     /// signature is unrevoked, and where none is, the peer's acknowledged commitment covers what the last
@@ -95,7 +103,8 @@ impl Dance {
         later: Later,
     ) -> Dance
         requires { (l : Log) → log.StandsFor updates l → AreInStep numbers l }
-        ensures { (l : Log) → log.StandsFor updates l → StandsFor result (record { channel = channel; log = l; numbers = numbers; peer = peer; later = later }) }
+        ensures { (l : Log) → log.StandsFor updates l
+            → StandsFor result (record { channel = channel; log = l; numbers = numbers; peer = peer; later = later }) }
     {
         Dance {
             channel,
@@ -123,7 +132,8 @@ impl Dance {
     /// The numbers of commitments.
     pub fn numbers(&self) -> Numbers
         ensures numbers { (d : Dancer) → StandsFor self.now d → result ≡ d.numbers }
-        ensures numbers_fit { (result.commitment < 2 ^ 48) × (result.signed < 2 ^ 48) × (result.revoked ≤ result.signed) }
+        ensures numbers_fit { (result.commitment < 2 ^ 48) × (result.signed < 2 ^ 48)
+            × (result.revoked ≤ result.signed) }
     {
         self.numbers
     }
@@ -146,7 +156,8 @@ impl Dance {
     pub fn propose(&mut self, update: Update) -> Result<(), Refusal>
         requires { (d : Dancer) → StandsFor self.old d → HasNextId d.log.own update }
         ensures answer { (d : Dancer) → StandsFor self.old d → Answers (proposal_fault d.log update) result }
-        ensures ok { (d : Dancer) → StandsFor self.old d → OnOk result (StandsFor self.new (with_log (after_propose update d.log) d)) }
+        ensures ok { (d : Dancer) → StandsFor self.old d
+            → OnOk result (StandsFor self.new (with_log (after_propose update d.log) d)) }
         ensures err { OnErr result (self.new ≡ self.old) }
     {
         self.log.propose(update)
@@ -155,7 +166,8 @@ impl Dance {
     /// Takes an update of the peer: `UpdateLog::receive`.
     pub fn receive(&mut self, update: Update) -> Result<(), Refusal>
         ensures answer { (d : Dancer) → StandsFor self.old d → Answers (taken_fault d.log update) result }
-        ensures ok { (d : Dancer) → StandsFor self.old d → OnOk result (StandsFor self.new (with_log (after_receive update d.log) d)) }
+        ensures ok { (d : Dancer) → StandsFor self.old d
+            → OnOk result (StandsFor self.new (with_log (after_receive update d.log) d)) }
         ensures err { OnErr result (self.new ≡ self.old) }
     {
         self.log.receive(update)
@@ -212,7 +224,8 @@ impl Dance {
         keys: &K,
     ) -> Result<CommitmentSigned, Refusal>
         ensures answer { (d : Dancer) → StandsFor self.old d → Answers (sign_fault d) result }
-        ensures message { (d : Dancer) → StandsFor self.old d → IfOk result (λ m. m ≡ signed_message (K.signer keys.now) d) }
+        ensures message { (d : Dancer) → StandsFor self.old d
+            → IfOk result (λ m. m ≡ signed_message (K.signer keys.now) d) }
         ensures ok { (d : Dancer) → StandsFor self.old d → OnOk result (StandsFor self.new (after_sign d)) }
         ensures numbered { (d : Dancer) → StandsFor self.old d → OnOk result (d.numbers.signed + 1 < 2 ^ 48) }
         ensures owes { (d : Dancer) → StandsFor self.old d → OnOk result (IsTrue (owes (after_sign d))) }
@@ -249,9 +262,12 @@ impl Dance {
         keys: &K,
         message: &CommitmentSigned,
     ) -> Result<RevokeAndAck, Refusal>
-        ensures answer { (d : Dancer) → StandsFor self.old d → AnswersWithin (accept_fault (K.signer keys.now) message.now d) result }
-        ensures out_of_place { (d : Dancer) → StandsFor self.old d → (IsErrOf result Refusal.OutOfPlace ↔ IsTrue (is_last d.numbers.commitment)) }
-        ensures message { (d : Dancer) → StandsFor self.old d → IfOk result (λ m. m ≡ revoked_message (K.signer keys.now) d) }
+        ensures answer { (d : Dancer) → StandsFor self.old d
+            → AnswersWithin (accept_fault (K.signer keys.now) message.now d) result }
+        ensures out_of_place { (d : Dancer) → StandsFor self.old d
+            → (IsErrOf result Refusal.OutOfPlace ↔ IsTrue (is_last d.numbers.commitment)) }
+        ensures message { (d : Dancer) → StandsFor self.old d
+            → IfOk result (λ m. m ≡ revoked_message (K.signer keys.now) d) }
         ensures ok { (d : Dancer) → StandsFor self.old d → OnOk result (StandsFor self.new (after_accept d)) }
         ensures err { OnErr result (self.new ≡ self.old) }
     {
@@ -282,8 +298,10 @@ impl Dance {
     /// 33 where no signature is unrevoked, 32 for a secret that doesn't fit the point of the commitment that
     /// is revoked; then nothing has changed.
     pub fn learn<K: ChannelKeys>(&mut self, keys: &K, message: &RevokeAndAck) -> Result<(), Refusal>
-        ensures answer { (d : Dancer) → StandsFor self.old d → result ≡ answer_of (learn_fault (K.signer keys.now) message.now d) }
-        ensures ok { (d : Dancer) → StandsFor self.old d → OnOk result (StandsFor self.new (after_learn message.now d)) }
+        ensures answer { (d : Dancer) → StandsFor self.old d
+            → result ≡ answer_of (learn_fault (K.signer keys.now) message.now d) }
+        ensures ok { (d : Dancer) → StandsFor self.old d
+            → OnOk result (StandsFor self.new (after_learn message.now d)) }
         ensures err { OnErr result (self.new ≡ self.old) }
     {
         if !self.owes() {

@@ -6,7 +6,8 @@ ghost use Rattle.ln_msgs.specs.declared.messages.commitments.CommitmentSigned.{C
 ghost use Rattle.ln_msgs.specs.declared.messages.commitments.RevokeAndAck.{RevokeAndAck};
 ghost use Rattle.ln_keys.specs.Signer.{Signer};
 ghost use Rattle.ln_keys.specs.Partners.{ArePartners};
-ghost use Rattle.ln_dance.specs.Dance.{Dancer, owes, signed_message, accept_fault, revoked_message, learn_fault, after_learn};
+ghost use Rattle.ln_dance.specs.Dance.{Dancer, owes, signed_message, accept_fault, revoked_message, learn_fault};
+ghost use Rattle.ln_dance.specs.Dance.{after_learn};
 ghost use Rattle.ln_dance.specs.Exchange.{IsSignedFor, IsRevokedFor};
 
 /// A law: what `a` signed at some moment its partner `b` accepts whenever it then has the same updates as sent,

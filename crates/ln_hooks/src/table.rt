@@ -56,7 +56,8 @@ impl HookTable {
     /// Calls each hook on each of the events in turn, and says what is to become of each. All the memory that it takes
     /// is taken before the first call: 60 where there was none, and no hook was called.
     pub fn call_run(&mut self, events: &[ChannelEvent]) -> Result<Vec<Verdict>, Refusal>
-        ensures calls_each_hook_on_each { IfOk result (λ v. SaysOfEach (λ h. h.call) step self.old.hooks.items events.now v.items self.new.hooks.items) }
+        ensures calls_each_hook_on_each { IfOk result
+            (λ v. SaysOfEach (λ h. h.call) step self.old.hooks.items events.now v.items self.new.hooks.items) }
         ensures err { IfErr result (λ r. r ≡ refusal.Memory) }
         ensures calls_none_if_refused { OnErr result (self.new.hooks.items ≡ self.old.hooks.items) }
     {

@@ -20,13 +20,15 @@ owner_byte Fundee = 1
 
 -- the owner in one byte, the id and the amount in eight each, the hash, the expiry in four
 unfoldable pub htlc_bytes : Htlc → List ℕ
-htlc_bytes h = owner_byte h.owner ∷ (to_be_bytes w64 h.id ++ to_be_bytes w64 h.amount ++ h.hash ++ to_be_bytes w32 h.expiry)
+htlc_bytes h = owner_byte h.owner ∷ (to_be_bytes w64 h.id ++ to_be_bytes w64 h.amount ++ h.hash
+    ++ to_be_bytes w32 h.expiry)
 
 -- The balances in eight bytes each, the feerate and the count of HTLCs in four each. The count starts again
 -- at 0 behind 2 ^ 32 - 1.
 unfoldable pub view_head : View → List ℕ
 view_head v =
-    to_be_bytes w64 v.funder ++ to_be_bytes w64 v.fundee ++ to_be_bytes w32 v.feerate ++ to_be_bytes w32 (length v.htlcs % 2 ^ 32)
+    to_be_bytes w64 v.funder ++ to_be_bytes w64 v.fundee ++ to_be_bytes w32 v.feerate
+    ++ to_be_bytes w32 (length v.htlcs % 2 ^ 32)
 
 -- that, and the HTLCs
 abbrev pub view_bytes : View → List ℕ

@@ -3,7 +3,9 @@
 ghost use Rattle.std.specs.Prelude.{◌≡◌, ◌++◌, ℕ, List, replicate, Ok, IfOk, IfErr};
 ghost use Rattle.std.specs.List.{list_all, flat_map};
 ghost use Rattle.ln_keys.specs.Partners.{ArePartners};
-ghost use Rattle.ln_keys.specs.Toy.{toy_secret, toy_point, toy_signature, toy_htlc_signatures, toy_close_signature, toy_accepts, toy_fits, toy_accepts_close, toy_signer, htlc_bytes, view_head, view_bytes, owner_byte, are_all, are_same, AreCrossed};
+ghost use Rattle.ln_keys.specs.Toy.{toy_secret, toy_point, toy_signature, toy_htlc_signatures, toy_close_signature};
+ghost use Rattle.ln_keys.specs.Toy.{toy_accepts, toy_fits, toy_accepts_close, toy_signer, htlc_bytes, view_head};
+ghost use Rattle.ln_keys.specs.Toy.{view_bytes, owner_byte, are_all, are_same, AreCrossed};
 
 use crate::keys::{ChannelKeys, Signed};
 use crate::role::Role;
@@ -63,7 +65,8 @@ fn owner_of(htlc: &Htlc) -> u8
 /// Feeds the bytes of an HTLC.
 #[tactic(auto, unfolding(crate::specs::Toy::htlc_bytes))]
 fn feed_htlc(hasher: &mut Sha256, htlc: &Htlc)
-    ensures { (m : List ℕ) → ⟦<Sha256 as Digest>⟧.holds hasher.old m → ⟦<Sha256 as Digest>⟧.holds hasher.new (m ++ htlc_bytes htlc.now) }
+    ensures { (m : List ℕ) → ⟦<Sha256 as Digest>⟧.holds hasher.old m
+        → ⟦<Sha256 as Digest>⟧.holds hasher.new (m ++ htlc_bytes htlc.now) }
 {
     hasher.update([owner_of(htlc)].as_slice());
     hasher.update(htlc.id.to_be_bytes().as_slice());
@@ -75,7 +78,8 @@ fn feed_htlc(hasher: &mut Sha256, htlc: &Htlc)
 /// Feeds what stands before the HTLCs of a view.
 #[tactic(auto, unfolding(crate::specs::Toy::view_head))]
 fn feed_head(hasher: &mut Sha256, view: &View)
-    ensures { (m : List ℕ) → ⟦<Sha256 as Digest>⟧.holds hasher.old m → ⟦<Sha256 as Digest>⟧.holds hasher.new (m ++ view_head view.now) }
+    ensures { (m : List ℕ) → ⟦<Sha256 as Digest>⟧.holds hasher.old m
+        → ⟦<Sha256 as Digest>⟧.holds hasher.new (m ++ view_head view.now) }
 {
     let count = (view.htlcs.len() % 0x1_0000_0000) as u32;
     hasher.update(view.funder.to_be_bytes().as_slice());
@@ -86,7 +90,8 @@ fn feed_head(hasher: &mut Sha256, view: &View)
 
 /// Feeds the bytes of HTLCs one after the other.
 fn feed_htlcs(hasher: &mut Sha256, htlcs: &[Htlc])
-    ensures { (m : List ℕ) → ⟦<Sha256 as Digest>⟧.holds hasher.old m → ⟦<Sha256 as Digest>⟧.holds hasher.new (m ++ flat_map htlc_bytes htlcs.now) }
+    ensures { (m : List ℕ) → ⟦<Sha256 as Digest>⟧.holds hasher.old m
+        → ⟦<Sha256 as Digest>⟧.holds hasher.new (m ++ flat_map htlc_bytes htlcs.now) }
 {
     for htlc in htlcs {
         feed_htlc(hasher, htlc);
@@ -95,7 +100,8 @@ fn feed_htlcs(hasher: &mut Sha256, htlcs: &[Htlc])
 
 /// Feeds the bytes of a view.
 fn feed_view(hasher: &mut Sha256, view: &View)
-    ensures { (m : List ℕ) → ⟦<Sha256 as Digest>⟧.holds hasher.old m → ⟦<Sha256 as Digest>⟧.holds hasher.new (m ++ view_bytes view.now) }
+    ensures { (m : List ℕ) → ⟦<Sha256 as Digest>⟧.holds hasher.old m
+        → ⟦<Sha256 as Digest>⟧.holds hasher.new (m ++ view_bytes view.now) }
 {
     feed_head(hasher, view);
     feed_htlcs(hasher, view.htlcs.as_slice());

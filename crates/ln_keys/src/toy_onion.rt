@@ -1,10 +1,12 @@
 //! Onions for tests. They are not secure: each payload stands open in its place.
 
-ghost use Rattle.std.specs.Prelude.{◌≡◌, ◌+◌, ◌-◌, ◌≤◌, ◌<◌, ◌++◌, ◌∷◌, ◌⊎◌, ℕ, List, length, take, drop, Ok, Err, None, Some, IfOk, IfErr, IfSome, IfNone};
+ghost use Rattle.std.specs.Prelude.{◌≡◌, ◌+◌, ◌-◌, ◌≤◌, ◌<◌, ◌++◌, ◌∷◌, ◌⊎◌, ℕ, List, length, take, drop, Ok, Err};
+ghost use Rattle.std.specs.Prelude.{None, Some, IfOk, IfErr, IfSome, IfNone};
 ghost use Rattle.ln_bytes.specs.Bigsize.{bigsize_at};
 ghost use Rattle.ln_keys.specs.Onion.{onion_key, onion_payloads, onion_hmac};
 ghost use Rattle.ln_keys.specs.Toy.{are_same};
-ghost use Rattle.ln_keys.specs.ToyOnion.{toy_key, toy_hmac, filled, with_length, toy_made, passed_on, next_packet, hop_of, hop_behind, packet_fault, toy_opened};
+ghost use Rattle.ln_keys.specs.ToyOnion.{toy_key, toy_hmac, filled, with_length, toy_made, passed_on, next_packet};
+ghost use Rattle.ln_keys.specs.ToyOnion.{hop_of, hop_behind, packet_fault, toy_opened};
 
 use crate::onion::{Onion, OpenFault, Opened};
 use ln_bytes::{Bytes, read_bigsize, write_bigsize};
@@ -170,7 +172,8 @@ fn hop(alloc: Global, len: u64, bytes: &[u8], hash: &[u8; 32]) -> Result<Opened,
 fn first_hop(alloc: Global, bytes: &[u8], hash: &[u8; 32]) -> Result<Opened, OpenFault>
     requires { length bytes.now ≤ 1300 }
     ensures found { IfOk result (λ o. hop_behind (bigsize_at bytes.now) bytes.now hash.now ≡ Ok o) }
-    ensures fault { IfErr result (λ e. (e ≡ OpenFault.Memory) ⊎ (hop_behind (bigsize_at bytes.now) bytes.now hash.now ≡ Err e)) }
+    ensures fault { IfErr result (λ e. (e ≡ OpenFault.Memory)
+        ⊎ (hop_behind (bigsize_at bytes.now) bytes.now hash.now ≡ Err e)) }
     ensures next_has_1366_bytes { IfOk result (λ o. IfSome o.next (λ n. length n ≡ 1366)) }
 {
     match read_bigsize(bytes) {
@@ -221,6 +224,8 @@ impl ToyOnion {
     /// A law: an onion that was made is opened again, under the same payment hash. The first hop finds the
     /// first payload, and passes on the onion that would be made of the others.
     pub fn opened_again()
-        ensures { (payload : List ℕ) (payloads : List (List ℕ)) (hash onion : List ℕ) → 0 < length payload → toy_made (payload ∷ payloads) hash ≡ Some onion → toy_opened onion hash ≡ Ok (record { payload = payload; next = passed_on payloads hash }) }
+        ensures { (payload : List ℕ) (payloads : List (List ℕ)) (hash onion : List ℕ) → 0 < length payload
+            → toy_made (payload ∷ payloads) hash ≡ Some onion
+            → toy_opened onion hash ≡ Ok (record { payload = payload; next = passed_on payloads hash }) }
     {}
 }

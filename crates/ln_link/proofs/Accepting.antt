@@ -10,9 +10,18 @@ on_ok (Ok x) f p = f p
 on_ok (Err x) f p = tt
 
 -- one that stays in its role
-pub sound : {A : Type 0} (r : Result A Refusal) (e : End) (new moved : Dancer) → OnOk r (new ≡ moved) → OnErr r (new ≡ e.dance) → moved.log.role ≡ e.dance.log.role → IsSound e → IsSound (with_dance new e)
-sound (Ok x) e new moved ok err same s = record { one_role = ap (λ (d : Dancer). d.log.role) ok ∙ same ∙ s.one_role; fees = s.fees; scripts = s.scripts }
-sound (Err x) e new moved ok err same s = record { one_role = ap (λ (d : Dancer). d.log.role) err ∙ s.one_role; fees = s.fees; scripts = s.scripts }
+pub sound : {A : Type 0} (r : Result A Refusal) (e : End) (new moved : Dancer) → OnOk r (new ≡ moved)
+    → OnErr r (new ≡ e.dance) → moved.log.role ≡ e.dance.log.role → IsSound e → IsSound (with_dance new e)
+sound (Ok x) e new moved ok err same s = record {
+  one_role = ap (λ (d : Dancer). d.log.role) ok ∙ same ∙ s.one_role;
+  fees = s.fees;
+  scripts = s.scripts;
+}
+sound (Err x) e new moved ok err same s = record {
+  one_role = ap (λ (d : Dancer). d.log.role) err ∙ s.one_role;
+  fees = s.fees;
+  scripts = s.scripts;
+}
 
 pub within : {A : Type 0} (fault : Option Refusal) (r : Result A Refusal) → Answers fault r → AnswersWithin fault r
 within None (Ok x) a = refl

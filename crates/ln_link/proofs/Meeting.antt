@@ -1,5 +1,6 @@
 -- Between partners no message of an opening is refused, and its ends are the two ends of one channel.
-use Rattle.std.proofs.Common.{◌≡◌, ℕ, ◌≤◌, ◌*◌, ◌^◌, nat_eq, nat_le, List, [], ◌∷◌, length, refl, sym, ap, ◌∙◌, subst, arith}
+use Rattle.std.proofs.Common.{◌≡◌, ℕ, ◌≤◌, ◌*◌, ◌^◌, nat_eq, nat_le, List, [], ◌∷◌, length, refl, sym, ap, ◌∙◌, subst}
+use Rattle.std.proofs.Common.{arith}
 use Rattle.std.proofs.Common.{Bool, true, false, cond, ◌&&◌, Option, Some, None, Result, Ok, Err}
 use Rattle.std.specs.Cmp.Lexicographic.{pointwise}
 use Rattle.std.proofs.lemmas.Bool.{le-leb}
@@ -23,7 +24,9 @@ use Rattle.ln_link.specs.declared.config.Config.{Config}
 use Rattle.ln_link.specs.declared.config.OpenSpec.{OpenSpec}
 use Rattle.ln_link.specs.declared.opening.Opened.{Opened}
 use Rattle.ln_link.specs.Config.{offered}
-use Rattle.ln_link.specs.Opening.{Agreement, unless, open_message, open_fault, agreement, accept_message, typed, repeats, accept_fault, funder_end, created_message, created_fault, fundee_end, funding_message, first_signature, first_fault}
+use Rattle.ln_link.specs.Opening.{Agreement, unless, open_message, open_fault, agreement, accept_message, typed}
+use Rattle.ln_link.specs.Opening.{repeats, accept_fault, funder_end, created_message, created_fault, fundee_end}
+use Rattle.ln_link.specs.Opening.{funding_message, first_signature, first_fault}
 use Rattle.ln_link.specs.Meeting.{CanOpen, Opens, AreEnds}
 
 -- ---- tests that pass
@@ -33,15 +36,20 @@ same xs ys e = let P : List ℕ → Type 0 = λ w. pointwise nat_eq xs w ≡ tru
 
 five : (p q r s t : Bool) → p ≡ true → q ≡ true → r ≡ true → s ≡ true → t ≡ true → (p && q && r && s && t) ≡ true
 five p q r s t ep eq er es et =
-    ap (λ b. b && q && r && s && t) ep ∙ ap (λ b. b && r && s && t) eq ∙ ap (λ b. b && s && t) er ∙ ap (λ b. b && t) es ∙ et
+    ap (λ b. b && q && r && s && t) ep ∙ ap (λ b. b && r && s && t) eq ∙ ap (λ b. b && s && t) er
+    ∙ ap (λ b. b && t) es ∙ et
 
 fit : (o : Opening) → IsFit o → is_fit o ≡ true
 fit o f =
-    five (nat_le 1 o.satoshis) (nat_le o.satoshis 2100000000000000) (nat_le o.push (1000 * o.satoshis)) (nat_le o.funder.accepted 483) (nat_le o.fundee.accepted 483)
-    (le-leb 1 o.satoshis f.some_funds) (le-leb o.satoshis 2100000000000000 f.funds) (le-leb o.push (1000 * o.satoshis) f.push) (le-leb o.funder.accepted 483 f.funder_accepts) (le-leb o.fundee.accepted 483 f.fundee_accepts)
+    five (nat_le 1 o.satoshis) (nat_le o.satoshis 2100000000000000) (nat_le o.push (1000 * o.satoshis))
+    (nat_le o.funder.accepted 483) (nat_le o.fundee.accepted 483)
+    (le-leb 1 o.satoshis f.some_funds) (le-leb o.satoshis 2100000000000000 f.funds)
+    (le-leb o.push (1000 * o.satoshis) f.push) (le-leb o.funder.accepted 483 f.funder_accepts)
+    (le-leb o.fundee.accepted 483 f.fundee_accepts)
 
 unfaulted : (p q : Bool) → p ≡ true → q ≡ true → cond (p && q) None (Some refusal.OutOfPlace) ≡ None
-unfaulted p q ep eq = ap (λ b. cond (b && q) None (Some refusal.OutOfPlace)) ep ∙ ap (λ b. cond b None (Some refusal.OutOfPlace)) eq
+unfaulted p q ep eq = ap (λ b. cond (b && q) None (Some refusal.OutOfPlace)) ep
+    ∙ ap (λ b. cond b None (Some refusal.OutOfPlace)) eq
 
 both : (p q : Bool) → p ≡ true → q ≡ true → (p && q) ≡ true
 both p q ep eq = ap (λ b. b && q) ep ∙ eq
@@ -52,11 +60,14 @@ repeated None = refl
 repeated (Some v) = same v v refl
 
 -- what one signs of a commitment without HTLCs the other accepts
-accepted : (one other : Signer) (point : List ℕ) (v : View) → IsVerifiedBy one other → length point ≡ 33 → length v.htlcs ≡ 0
+accepted : (one other : Signer) (point : List ℕ) (v : View) → IsVerifiedBy one other
+    → length point ≡ 33 → length v.htlcs ≡ 0
     → other.accepts 0 point v (one.signature 0 point v) [] ≡ true
 accepted one other point v t len none =
-    let no : one.htlc_signatures 0 point v ≡ [] = nil_from_length (one.htlc_signatures 0 point v) (t.htlcs 0 point v ∙ none) in
-    ap (λ (hs : List (List ℕ)). other.accepts 0 point v (one.signature 0 point v) hs) (sym no) ∙ t.commitments 0 point v (omega arith) len
+    let no : one.htlc_signatures 0 point v ≡ [] =
+    nil_from_length (one.htlc_signatures 0 point v) (t.htlcs 0 point v ∙ none) in
+    ap (λ (hs : List (List ℕ)). other.accepts 0 point v (one.signature 0 point v) hs) (sym no)
+    ∙ t.commitments 0 point v (omega arith) len
 
 right : (b : Bool) → b ≡ true → cond b None (Some refusal.SignatureWrong) ≡ None
 right b e = ap (λ x. cond x None (Some refusal.SignatureWrong)) e
@@ -94,27 +105,38 @@ fit_both a b s c h = record {
 
 open_right : (a b : Signer) (s : OpenSpec) (c : Config) → CanOpen a b s c → open_fault c (open_message a s) ≡ None
 open_right a b s c h =
-    unfaulted (pointwise nat_eq s.config.chain_hash c.chain_hash) (is_fit (offered s c.limits)) (same s.config.chain_hash c.chain_hash h.chain) (fit (offered s c.limits) (fit_both a b s c h))
+    unfaulted (pointwise nat_eq s.config.chain_hash c.chain_hash) (is_fit (offered s c.limits))
+    (same s.config.chain_hash c.chain_hash h.chain) (fit (offered s c.limits) (fit_both a b s c h))
 
-accept_right : (a b : Signer) (s : OpenSpec) (c : Config) → CanOpen a b s c → accept_fault s (told_accept a b s c) ≡ None
+accept_right : (a b : Signer) (s : OpenSpec) (c : Config) → CanOpen a b s c
+    → accept_fault s (told_accept a b s c) ≡ None
 accept_right a b s c h =
     let few : is_fit (offered s c.limits) ≡ true = fit (offered s c.limits) (fit_both a b s c h) in
-    unfaulted (pointwise nat_eq s.temporary_id s.temporary_id) (is_fit (offered s c.limits) && repeats (value_of 1 s.records) (value_of 1 (typed (value_of 1 s.records)))) (same s.temporary_id s.temporary_id refl)
-    (both (is_fit (offered s c.limits)) (repeats (value_of 1 s.records) (value_of 1 (typed (value_of 1 s.records)))) few (repeated (value_of 1 s.records)))
+    unfaulted (pointwise nat_eq s.temporary_id s.temporary_id) (is_fit (offered s c.limits)
+    && repeats (value_of 1 s.records) (value_of 1 (typed (value_of 1 s.records))))
+    (same s.temporary_id s.temporary_id refl)
+    (both (is_fit (offered s c.limits)) (repeats (value_of 1 s.records) (value_of 1 (typed (value_of 1 s.records)))) few
+    (repeated (value_of 1 s.records)))
 
-created_right : (a b : Signer) (s : OpenSpec) (c : Config) → CanOpen a b s c → created_fault b (told_agreement a b s c) (told_created a b s c) ≡ None
+created_right : (a b : Signer) (s : OpenSpec) (c : Config) → CanOpen a b s c
+    → created_fault b (told_agreement a b s c) (told_created a b s c) ≡ None
 created_right a b s c h =
-    ap (λ x. cond x (first_fault b (second_end a b s c).dance (told_created a b s c).signature) (Some refusal.OutOfPlace)) (same s.temporary_id s.temporary_id refl)
-    ∙ right _ (accepted a b (b.point_of 0) (view_at (pair.Current side.Own) (second_end a b s c).dance) h.partners.there h.fundee_point refl)
+    ap (λ x. cond x (first_fault b (second_end a b s c).dance (told_created a b s c).signature)
+    (Some refusal.OutOfPlace)) (same s.temporary_id s.temporary_id refl)
+    ∙ right _ (accepted a b (b.point_of 0) (view_at (pair.Current side.Own) (second_end a b s c).dance)
+    h.partners.there h.fundee_point refl)
 
-signed_right : (a b : Signer) (s : OpenSpec) (c : Config) → CanOpen a b s c → first_fault a (first_end a b s c).dance (told_signed a b s c).signature ≡ None
+signed_right : (a b : Signer) (s : OpenSpec) (c : Config) → CanOpen a b s c
+    → first_fault a (first_end a b s c).dance (told_signed a b s c).signature ≡ None
 signed_right a b s c h =
-    right _ (accepted b a (a.point_of 0) (view_at (pair.Current side.Own) (first_end a b s c).dance) h.partners.back h.funder_point refl)
+    right _ (accepted b a (a.point_of 0) (view_at (pair.Current side.Own) (first_end a b s c).dance)
+    h.partners.back h.funder_point refl)
 
 given : {A : Type 0} (f : Option Refusal) (x : A) → f ≡ None → unless f x ≡ Ok x
 given f x e = ap (λ o. unless o x) e
 
-pub none_refused : (a b : Signer) (s : OpenSpec) (c : Config) → CanOpen a b s c → (funder : Opened) × (fundee : Opened) × Opens a b s c funder fundee
+pub none_refused : (a b : Signer) (s : OpenSpec) (c : Config) → CanOpen a b s c
+    → (funder : Opened) × (fundee : Opened) × Opens a b s c funder fundee
 none_refused a b s c h = (
   first_end a b s c,
   second_end a b s c,
@@ -151,17 +173,24 @@ faced a b s c = record {
   fundees_point = refl;
 }
 
-pub are_ends : (a b : Signer) (s : OpenSpec) (c : Config) (funder fundee : Opened) → Opens a b s c funder fundee → AreEnds a b funder fundee
+pub are_ends : (a b : Signer) (s : OpenSpec) (c : Config) (funder fundee : Opened) → Opens a b s c funder fundee
+    → AreEnds a b funder fundee
 are_ends a b s c funder fundee o =
-    let opened : (told_agreement a b s c, told_accept a b s c) ≡ (o.agreement, o.accept) = was_given (open_fault c (open_message a s)) _ _ o.open_channel in
+    let opened : (told_agreement a b s c, told_accept a b s c) ≡ (o.agreement, o.accept) =
+    was_given (open_fault c (open_message a s)) _ _ o.open_channel in
     let agreed : told_agreement a b s c ≡ o.agreement = ap (λ (p : Agreement × AcceptChannel). p.0) opened in
     let accept : told_accept a b s c ≡ o.accept = ap (λ (p : Agreement × AcceptChannel). p.1) opened in
-    let answered : (funder_end a s o.accept, created_message a s o.accept) ≡ (funder, o.created) = was_given (accept_fault s o.accept) _ _ o.accept_channel in
-    let created : told_created a b s c ≡ o.created = ap (created_message a s) accept ∙ ap (λ (p : Opened × FundingCreated). p.1) answered in
-    let funder_is : first_end a b s c ≡ funder = ap (funder_end a s) accept ∙ ap (λ (p : Opened × FundingCreated). p.0) answered in
-    let funded : (fundee_end o.agreement o.created, funding_message b o.agreement o.created) ≡ (fundee, o.signed) = was_given (created_fault b o.agreement o.created) _ _ o.funding_created in
+    let answered : (funder_end a s o.accept, created_message a s o.accept) ≡ (funder, o.created) =
+    was_given (accept_fault s o.accept) _ _ o.accept_channel in
+    let created : told_created a b s c ≡ o.created = ap (created_message a s) accept
+    ∙ ap (λ (p : Opened × FundingCreated). p.1) answered in
+    let funder_is : first_end a b s c ≡ funder = ap (funder_end a s) accept
+    ∙ ap (λ (p : Opened × FundingCreated). p.0) answered in
+    let funded : (fundee_end o.agreement o.created, funding_message b o.agreement o.created) ≡ (fundee, o.signed) =
+    was_given (created_fault b o.agreement o.created) _ _ o.funding_created in
     let fundee_is : second_end a b s c ≡ fundee =
-    ap (λ (g : Agreement). fundee_end g (told_created a b s c)) agreed ∙ ap (fundee_end o.agreement) created ∙ ap (λ (p : Opened × FundingSigned). p.0) funded in
+    ap (λ (g : Agreement). fundee_end g (told_created a b s c)) agreed ∙ ap (fundee_end o.agreement) created
+    ∙ ap (λ (p : Opened × FundingSigned). p.0) funded in
     let P : Opened → Type 0 = λ x. AreEnds a b x fundee in
     let Q : Opened → Type 0 = λ x. AreEnds a b (first_end a b s c) x in
     subst P funder_is (subst Q fundee_is (faced a b s c))

@@ -1,5 +1,6 @@
 -- What each command makes of an end (BOLT 2).
-use Rattle.std.specs.Prelude.{ℕ, List, [], ◌∷◌, ◌++◌, length, Bool, true, false, not, ◌||◌, nat_lt, Option, Some, None, Result, Ok, Err, if◌then◌else◌}
+use Rattle.std.specs.Prelude.{ℕ, List, [], ◌∷◌, ◌++◌, length, Bool, true, false, not, ◌||◌, nat_lt, Option, Some, None}
+use Rattle.std.specs.Prelude.{Result, Ok, Err, if◌then◌else◌}
 use Rattle.ln_bytes.specs.declared.short_id.ShortId.{ShortId}
 use Rattle.ln_msgs.specs.declared.messages.message.Message.TheVariants as message
 use Rattle.ln_msgs.specs.declared.messages.opening.ChannelReady.{ChannelReady}
@@ -18,7 +19,8 @@ use Rattle.ln_link.specs.declared.command.Command.{Command}
 use Rattle.ln_link.specs.declared.command.Command.TheVariants as command
 use Rattle.ln_link.specs.declared.output.Output.TheVariants as output
 use Rattle.ln_link.specs.Opening.{unless}
-use Rattle.ln_link.specs.End.{End, with_dance, is_ready, is_closed, all_acknowledged, Turn, quiet, sending, completed, shutdown_message}
+use Rattle.ln_link.specs.End.{End, with_dance, is_ready, is_closed, all_acknowledged, Turn, quiet, sending, completed}
+use Rattle.ln_link.specs.End.{shutdown_message}
 
 -- ---- Confirm: the funding is deep enough (BOLT 2, "The channel_ready Message")
 
@@ -29,10 +31,17 @@ abbrev pub ready_message : Signer → End → ChannelReady
 ready_message keys e = record { channel_id = e.dance.channel; second_point = keys.point_of 1; records = [] }
 
 abbrev pub confirmed : ShortId → End → End
-confirmed id e = record e { marks = record { short_id = Some id; ready_sent = true; ready_received = e.marks.ready_received } }
+confirmed id e = record e {
+  marks = record {
+    short_id = Some id;
+    ready_sent = true;
+    ready_received = e.marks.ready_received;
+  };
+}
 
 abbrev pub confirm_row : Signer → ShortId → End → Result Turn Refusal
-confirm_row keys id e = unless (confirm_fault e) (sending (message.ChannelReady (ready_message keys e)) (confirmed id e))
+confirm_row keys id e = unless (confirm_fault e)
+    (sending (message.ChannelReady (ready_message keys e)) (confirmed id e))
 
 -- ---- an update (BOLT 2, "Normal Operation")
 
@@ -74,7 +83,10 @@ signs_next e = with_dance (after_sign e.dance) e
 abbrev pub sign_row : Signer → End → Result Turn Refusal
 sign_row keys e = unless (sign_command_fault e) (record {
   end = signs_next e;
-  handed = record { sent = output.Send (message.CommitmentSigned (signed_message keys e.dance)) ∷ []; told = output.Signed (length e.dance.log.own) ∷ [] };
+  handed = record {
+    sent = output.Send (message.CommitmentSigned (signed_message keys e.dance)) ∷ [];
+    told = output.Signed (length e.dance.log.own) ∷ [];
+  };
 })
 
 -- ---- Shutdown (BOLT 2, "Closing Initiation: shutdown")
@@ -102,10 +114,19 @@ shut_row keys script e =
 abbrev pub command_row : Signer → Command → End → Result Turn Refusal
 command_row keys (command.Confirm id) e = confirm_row keys id e
 command_row keys (command.Add amount hash expiry onion origin) e =
-    propose_row (update.Add (record { id = next_id e.dance.log.own; amount = amount; hash = hash; expiry = expiry; onion = onion; origin = origin })) e
-command_row keys (command.Fulfil id preimage) e = propose_row (update.Fulfil (record { id = id; preimage = preimage })) e
+    propose_row (update.Add (record {
+      id = next_id e.dance.log.own;
+      amount = amount;
+      hash = hash;
+      expiry = expiry;
+      onion = onion;
+      origin = origin;
+    })) e
+command_row keys (command.Fulfil id preimage) e =
+    propose_row (update.Fulfil (record { id = id; preimage = preimage })) e
 command_row keys (command.Fail id reason) e = propose_row (update.Fail (record { id = id; reason = reason })) e
-command_row keys (command.Malformed id sha code) e = propose_row (update.Malformed (record { id = id; sha256_of_onion = sha; failure_code = code })) e
+command_row keys (command.Malformed id sha code) e =
+    propose_row (update.Malformed (record { id = id; sha256_of_onion = sha; failure_code = code })) e
 command_row keys (command.Fee feerate) e = propose_row (update.Fee (record { feerate = feerate })) e
 command_row keys command.Sign e = sign_row keys e
 command_row keys (command.Shutdown script) e = shut_row keys script e

@@ -1,5 +1,6 @@
 -- What one end of a channel keeps once both sides have agreed to it, and what it owes the peer (BOLT 2).
-use Rattle.std.specs.Prelude.{◌≡◌, ◌⊎◌, ℕ, List, [], ◌∷◌, ◌++◌, length, Bool, true, false, not, ◌&&◌, ◌==◌, Option, Some, None, is_some, Result, Ok, Err, if◌then◌else◌}
+use Rattle.std.specs.Prelude.{◌≡◌, ◌⊎◌, ℕ, List, [], ◌∷◌, ◌++◌, length, Bool, true, false, not, ◌&&◌, ◌==◌, Option}
+use Rattle.std.specs.Prelude.{Some, None, is_some, Result, Ok, Err, if◌then◌else◌}
 use Rattle.ln_bytes.specs.Endian.{big_bytes}
 use Rattle.ln_bytes.specs.declared.record.Record.{Record}
 use Rattle.ln_msgs.specs.declared.messages.message.Message.{Message}
@@ -67,7 +68,8 @@ all_acknowledged l = l.acknowledged.own == length l.own
 -- every update stands acknowledged in both commitments, and no HTLC is live
 abbrev pub is_settled : Log → Bool
 is_settled l =
-    all_acknowledged l && (l.current.own == length l.own) && (l.current.peer == length l.received) && (l.acknowledged.peer == length l.received) && (live_in (covered l l.current) == 0)
+    all_acknowledged l && (l.current.own == length l.own) && (l.current.peer == length l.received)
+    && (l.acknowledged.peer == length l.received) && (live_in (covered l l.current) == 0)
 
 -- BOLT 2, "Closing Negotiation: closing_signed": closing has begun
 abbrev pub has_begun : End → Bool
@@ -154,4 +156,7 @@ abbrev pub settled : End → End
 settled e = begins (answers_shutdown e)
 
 abbrev pub completed : Signer → Turn → Turn
-completed keys t = record { end = settled t.end; handed = record { sent = t.handed.sent ++ due_sent keys t.end; told = t.handed.told } }
+completed keys t = record {
+  end = settled t.end;
+  handed = record { sent = t.handed.sent ++ due_sent keys t.end; told = t.handed.told };
+}

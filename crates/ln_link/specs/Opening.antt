@@ -138,7 +138,8 @@ open_message keys s = record {
 -- 21: another chain than the fundee's, more pushed than funded, a funding out of its range, or more than 483 HTLCs
 abbrev pub open_fault : Config → OpenChannel → Option Refusal
 open_fault c m =
-    if pointwise nat_eq m.chain_hash c.chain_hash && is_fit (asked_with m c.limits) then None else Some refusal.OutOfPlace
+    if pointwise nat_eq m.chain_hash c.chain_hash && is_fit (asked_with m c.limits) then None
+    else Some refusal.OutOfPlace
 
 abbrev pub typed : Option (List ℕ) → List Record
 typed None = []

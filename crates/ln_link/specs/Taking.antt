@@ -1,5 +1,6 @@
 -- What each message of the peer makes of an end (BOLT 2).
-use Rattle.std.specs.Prelude.{ℕ, List, [], ◌∷◌, length, drop, Bool, true, false, not, ◌&&◌, ◌||◌, ◌==◌, Option, Some, None, is_some, Result, Ok, Err, nat_eq, if◌then◌else◌}
+use Rattle.std.specs.Prelude.{ℕ, List, [], ◌∷◌, length, drop, Bool, true, false, not, ◌&&◌, ◌||◌, ◌==◌, Option, Some}
+use Rattle.std.specs.Prelude.{None, is_some, Result, Ok, Err, nat_eq, if◌then◌else◌}
 use Rattle.std.specs.Cmp.Lexicographic.{pointwise}
 use Rattle.ln_bytes.specs.Endian.{big_number}
 use Rattle.ln_bytes.specs.Tlv.{value_of}
@@ -17,7 +18,8 @@ use Rattle.ln_log.specs.declared.update.Update.{Update}
 use Rattle.ln_log.specs.declared.update.Update.TheVariants as update
 use Rattle.ln_log.specs.Limits.{first_fault, is_at_update_limit}
 use Rattle.ln_log.specs.Log.{after_receive, taken_fault}
-use Rattle.ln_dance.specs.Dance.{accept_fault, after_accept, revoked_message, learn_fault, after_learn, with_log, with_next_point}
+use Rattle.ln_dance.specs.Dance.{accept_fault, after_accept, revoked_message, learn_fault, after_learn, with_log}
+use Rattle.ln_dance.specs.Dance.{with_next_point}
 use Rattle.ln_dance.specs.Messages.{add_of, fulfil_of, fail_of, malformed_of, fee_of}
 use Rattle.ln_close.specs.declared.closing.Answer.{Answer}
 use Rattle.ln_close.specs.declared.closing.Answer.TheVariants as answer
@@ -30,7 +32,8 @@ use Rattle.ln_link.specs.Ledger.{Ledger, next_event, entered}
 use Rattle.ln_link.specs.Outputs.{Handed, nothing}
 use Rattle.ln_link.specs.Opening.{unless}
 use Rattle.ln_link.specs.Since.{own_since, peer_since}
-use Rattle.ln_link.specs.End.{End, with_dance, is_ready, is_closed, has_begun, Turn, quiet, completed, told_of, telling, fee_sent}
+use Rattle.ln_link.specs.End.{End, with_dance, is_ready, is_closed, has_begun, Turn, quiet, completed, told_of, telling}
+use Rattle.ln_link.specs.End.{fee_sent}
 
 -- ---- channel_ready (BOLT 2, "The channel_ready Message")
 
@@ -38,7 +41,14 @@ use Rattle.ln_link.specs.End.{End, with_dance, is_ready, is_closed, has_begun, T
 abbrev pub takes_ready : ChannelReady → End → End
 takes_ready m e =
     if e.marks.ready_received || is_closed e then e
-    else record e { marks = record { short_id = e.marks.short_id; ready_sent = e.marks.ready_sent; ready_received = true }; dance = with_next_point m.second_point e.dance }
+    else record e {
+      marks = record {
+        short_id = e.marks.short_id;
+        ready_sent = e.marks.ready_sent;
+        ready_received = true;
+      };
+      dance = with_next_point m.second_point e.dance;
+    }
 
 -- ---- updates (BOLT 2, "Normal Operation")
 
@@ -52,7 +62,8 @@ late_fault e (update.Fee f) = if has_begun e then Some refusal.OutOfPlace else N
 
 -- what the log doesn't know of
 abbrev pub early_fault : End → Update → Option Refusal
-early_fault e u = if not (is_ready e) || is_at_update_limit e.dance.log.received then Some refusal.OutOfPlace else late_fault e u
+early_fault e u = if not (is_ready e) || is_at_update_limit e.dance.log.received
+    then Some refusal.OutOfPlace else late_fault e u
 
 abbrev pub update_fault : End → Update → Option Refusal
 update_fault e u = first_fault (early_fault e u) (taken_fault e.dance.log u)
@@ -75,7 +86,10 @@ accepts e = with_dance (after_accept e.dance) e
 abbrev pub accepting : Signer → ℕ → End → End → Turn
 accepting keys before e now = record {
   end = telling true before (own_since before now.dance.log) now;
-  handed = record { sent = output.Send (message.RevokeAndAck (revoked_message keys e.dance)) ∷ []; told = told_of true (own_since before now.dance.log) now };
+  handed = record {
+    sent = output.Send (message.RevokeAndAck (revoked_message keys e.dance)) ∷ [];
+    told = told_of true (own_since before now.dance.log) now;
+  };
 }
 
 abbrev pub signature_row : Signer → CommitmentSigned → End → Result Turn Refusal
@@ -102,7 +116,10 @@ abbrev pub same_bytes : List ℕ → List ℕ → Bool
 same_bytes xs ys = pointwise nat_eq xs ys
 
 abbrev pub shuts_by_peer : Shutdown → End → End
-shuts_by_peer m e = record e { terms = record e.terms { peer_script = Some m.script }; closing = after_peer_shut e.closing }
+shuts_by_peer m e = record e {
+  terms = record e.terms { peer_script = Some m.script };
+  closing = after_peer_shut e.closing;
+}
 
 -- a repeated one does nothing, and may not name another script
 abbrev pub shutdown_at : Option (List ℕ) → Shutdown → End → Result Turn Refusal
@@ -152,7 +169,8 @@ answered keys m e (Err r) = Err r
 abbrev pub fee_row : Signer → ClosingSigned → End → Result Turn Refusal
 fee_row keys m e =
     if not (has_begun e) then Err refusal.OutOfPlace
-    else (if keys.accepts_close m.fee_satoshis m.signature then answered keys m e (answer_to e.closing m.fee_satoshis (range_in m))
+    else (if keys.accepts_close m.fee_satoshis m.signature
+    then answered keys m e (answer_to e.closing m.fee_satoshis (range_in m))
     else Err refusal.SignatureWrong)
 
 -- ---- by message: those that aren't of a channel, and those that open one, are out of place

@@ -42,9 +42,21 @@ impl Model for Channel {
 
     ghost Value = { End };
 
-    ghost view = { λ c. record { dance = c.dance; closing = c.closing; terms = c.terms; marks = c.marks; ledger = c.ledger } };
+    ghost view = { λ c. record {
+      dance = c.dance;
+      closing = c.closing;
+      terms = c.terms;
+      marks = c.marks;
+      ledger = c.ledger;
+    } };
 
-    ghost invariant = { λ c. IsSound (record { dance = c.dance; closing = c.closing; terms = c.terms; marks = c.marks; ledger = c.ledger }) };
+    ghost invariant = { λ c. IsSound (record {
+      dance = c.dance;
+      closing = c.closing;
+      terms = c.terms;
+      marks = c.marks;
+      ledger = c.ledger;
+    }) };
 }
 
 impl Channel {
@@ -53,7 +65,9 @@ impl Channel {
     ghost use Rattle.ln_link.specs.Ledger.{next_event};
     ghost use Rattle.ln_link.specs.Outputs.{events_of, numbered};
     ghost use Rattle.ln_link.specs.Since.{own_since, peer_since};
-    ghost use Rattle.ln_link.specs.End.{End, end_of, end_dropped, is_ready, is_closed, all_acknowledged, is_settled, has_begun, fee_range, closing_message, due_fee, fee_sent, begins, committed, telling, shutdown_message, shutdown_sent, answers_shutdown, due_sent, settled};
+    ghost use Rattle.ln_link.specs.End.{End, end_of, end_dropped, is_ready, is_closed, all_acknowledged, is_settled};
+    ghost use Rattle.ln_link.specs.End.{has_begun, fee_range, closing_message, due_fee, fee_sent, begins, committed};
+    ghost use Rattle.ln_link.specs.End.{telling, shutdown_message, shutdown_sent, answers_shutdown, due_sent, settled};
 
     /// An end whose opening both sides agree to. Takes no memory.
     pub fn new(alloc: Global, opened: Opened) -> Channel
@@ -158,7 +172,11 @@ impl Channel {
     ) -> Result<(), Refusal>
         requires start { before ≤ self.old.dance.log.current.own }
         requires kept { self.old.dance.log.first.own ≤ before }
-        ensures told { OnOk result (outbox.new ≡ record { sent = outbox.old.sent; told = (outbox.old.told ++ committed self.old ∷ []) ++ numbered (next_event self.old.ledger) (events_of true (own_since before self.old.dance.log)) }) }
+        ensures told { OnOk result (outbox.new ≡ record {
+          sent = outbox.old.sent;
+          told = (outbox.old.told ++ committed self.old ∷ [])
+              ++ numbered (next_event self.old.ledger) (events_of true (own_since before self.old.dance.log));
+        }) }
         ensures state { OnOk result (self.new ≡ telling true before (own_since before self.old.dance.log) self.old) }
         ensures memory { IfErr result (λ r. r ≡ Refusal.Memory) }
     {
@@ -176,7 +194,11 @@ impl Channel {
     ) -> Result<(), Refusal>
         requires start { before ≤ self.old.dance.log.acknowledged.peer }
         requires kept { self.old.dance.log.first.peer ≤ before }
-        ensures told { OnOk result (outbox.new ≡ record { sent = outbox.old.sent; told = (outbox.old.told ++ committed self.old ∷ []) ++ numbered (next_event self.old.ledger) (events_of false (peer_since before self.old.dance.log)) }) }
+        ensures told { OnOk result (outbox.new ≡ record {
+          sent = outbox.old.sent;
+          told = (outbox.old.told ++ committed self.old ∷ [])
+              ++ numbered (next_event self.old.ledger) (events_of false (peer_since before self.old.dance.log));
+        }) }
         ensures state { OnOk result (self.new ≡ telling false before (peer_since before self.old.dance.log) self.old) }
         ensures memory { IfErr result (λ r. r ≡ Refusal.Memory) }
     {
@@ -201,7 +223,10 @@ impl Channel {
 
     // Answers the peer's shutdown, where it is owed and may be.
     fn answer_shutdown(&mut self, alloc: Global, outbox: &mut Outbox) -> Result<(), Refusal>
-        ensures sent { OnOk result (outbox.new ≡ record { sent = outbox.old.sent ++ shutdown_sent self.old; told = outbox.old.told }) }
+        ensures sent { OnOk result (outbox.new ≡ record {
+          sent = outbox.old.sent ++ shutdown_sent self.old;
+          told = outbox.old.told;
+        }) }
         ensures state { OnOk result (self.new ≡ answers_shutdown self.old) }
         ensures memory { IfErr result (λ r. r ≡ Refusal.Memory) }
     {
@@ -255,7 +280,8 @@ impl Channel {
         fee: u64,
         outbox: &mut Outbox,
     ) -> Result<(), Refusal>
-        ensures sent { OnOk result (outbox.new ≡ record { sent = outbox.old.sent ++ fee_sent (K.signer keys.now) self.now (Some fee); told = outbox.old.told }) }
+        ensures sent { OnOk result (outbox.new ≡ record
+            { sent = outbox.old.sent ++ fee_sent (K.signer keys.now) self.now (Some fee); told = outbox.old.told }) }
         ensures memory { IfErr result (λ r. r ≡ Refusal.Memory) }
     {
         let message = self.closing_message(alloc, keys, fee)?;
@@ -269,7 +295,10 @@ impl Channel {
         keys: &K,
         outbox: &mut Outbox,
     ) -> Result<(), Refusal>
-        ensures sent { OnOk result (outbox.new ≡ record { sent = outbox.old.sent ++ fee_sent (K.signer keys.now) self.old (due_fee self.old); told = outbox.old.told }) }
+        ensures sent { OnOk result (outbox.new ≡ record {
+          sent = outbox.old.sent ++ fee_sent (K.signer keys.now) self.old (due_fee self.old);
+          told = outbox.old.told;
+        }) }
         ensures state { OnOk result (self.new ≡ begins self.old) }
         ensures memory { IfErr result (λ r. r ≡ Refusal.Memory) }
     {
@@ -289,7 +318,8 @@ impl Channel {
         keys: &K,
         outbox: &mut Outbox,
     ) -> Result<(), Refusal>
-        ensures sent { OnOk result (outbox.new ≡ record { sent = outbox.old.sent ++ due_sent (K.signer keys.now) self.old; told = outbox.old.told }) }
+        ensures sent { OnOk result (outbox.new ≡ record
+            { sent = outbox.old.sent ++ due_sent (K.signer keys.now) self.old; told = outbox.old.told }) }
         ensures state { OnOk result (self.new ≡ settled self.old) }
         ensures memory { IfErr result (λ r. r ≡ Refusal.Memory) }
     {

@@ -25,7 +25,9 @@ impl Channel {
     ghost use Rattle.ln_log.specs.Log.{proposal_fault};
     ghost use Rattle.ln_dance.specs.Dance.{AnswersWithin, sign_fault, signed_message};
     ghost use Rattle.ln_link.specs.End.{Makes};
-    ghost use Rattle.ln_link.specs.Commands.{confirm_row, ready_message, shut_by_either, closed_fault, own_fault, propose_fault, proposes, propose_row, sign_command_fault, signs_next, sign_row, shut_fault, shuts_down, shut_row, command_row, unready_fault};
+    ghost use Rattle.ln_link.specs.Commands.{confirm_row, ready_message, shut_by_either, closed_fault, own_fault};
+    ghost use Rattle.ln_link.specs.Commands.{propose_fault, proposes, propose_row, sign_command_fault, signs_next};
+    ghost use Rattle.ln_link.specs.Commands.{sign_row, shut_fault, shuts_down, shut_row, command_row, unready_fault};
 
     /// The funding is deep enough: sends `channel_ready` (BOLT 2, "The `channel_ready` Message"). 40 where it was sent,
     /// or the channel is closed.
@@ -130,8 +132,8 @@ impl Channel {
 
     /// Fulfils an HTLC of the peer's (BOLT 2, "Removing an HTLC: `update_fulfill_htlc`").
     ///
-    /// Errors: 40 and 46 as for an offer; 44 with 28 where there is no such HTLC, 49 where it is removed, 48 where it isn't
-    /// held as irrevocably committed; 44 with 29 for a wrong preimage; 60.
+    /// Errors: 40 and 46 as for an offer; 44 with 28 where there is no such HTLC, 49 where it is removed, 48
+    /// where it isn't held as irrevocably committed; 44 with 29 for a wrong preimage; 60.
     fn fulfil(&mut self, alloc: Global, fulfil: Fulfil) -> Result<Outbox, Refusal>
         ensures { Makes (propose_row (update.Fulfil fulfil) self.old) result self.old self.new }
     {
@@ -200,8 +202,8 @@ impl Channel {
 
     /// Signs the peer's next commitment (BOLT 2, "Committing Updates So Far: `commitment_signed`").
     ///
-    /// Errors: 40 before both sides have confirmed; 41 where a signature is unrevoked, 42 where nothing would be new, 46
-    /// behind the last number; 60.
+    /// Errors: 40 before both sides have confirmed; 41 where a signature is unrevoked, 42 where nothing would be
+    /// new, 46 behind the last number; 60.
     fn sign<K: ChannelKeys>(&mut self, alloc: Global, keys: &K) -> Result<Outbox, Refusal>
         ensures { Makes (sign_row (K.signer keys.now) self.old) result self.old self.new }
     {

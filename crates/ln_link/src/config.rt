@@ -123,7 +123,8 @@ impl OpenSpec {
 
     // Whether the records may stand in an `open_channel`, and leave it short enough.
     fn can_be_written(&self) -> bool
-        ensures { IsTrue result ↔ (MayFollow open_form self.now.records × (length (stream_bytes self.now.records) ≤ 65214)) }
+        ensures { IsTrue result ↔ (MayFollow open_form self.now.records
+            × (length (stream_bytes self.now.records) ≤ 65214)) }
     {
         let records = self.records.as_slice();
         tlvs_are_valid(records, &[0]) && tlvs_len(records, LONGEST_RECORDS).is_some()

@@ -84,7 +84,10 @@ impl EventLedger {
         outbox: &mut Outbox,
     ) -> Result<(), Refusal>
         ensures entered { OnOk result (self.new ≡ entered (entry ∷ []) self.old) }
-        ensures told { OnOk result (outbox.new ≡ record { sent = outbox.old.sent; told = outbox.old.told ++ output.Event (next_event self.old) event ∷ [] }) }
+        ensures told { OnOk result (outbox.new ≡ record {
+          sent = outbox.old.sent;
+          told = outbox.old.told ++ output.Event (next_event self.old) event ∷ [];
+        }) }
         ensures memory { IfErr result (λ r. r ≡ Refusal.Memory) }
     {
         outbox.tell(Output::Event(self.next(), event))?;
@@ -103,7 +106,10 @@ impl EventLedger {
     ) -> Result<(), Refusal>
         requires { first + length updates.now < 2 ^ 64 }
         ensures entered { OnOk result (self.new ≡ entered (refs_of own first updates.now) self.old) }
-        ensures told { OnOk result (outbox.new ≡ record { sent = outbox.old.sent; told = outbox.old.told ++ numbered (next_event self.old) (events_of own updates.now) }) }
+        ensures told { OnOk result (outbox.new ≡ record {
+          sent = outbox.old.sent;
+          told = outbox.old.told ++ numbered (next_event self.old) (events_of own updates.now);
+        }) }
         ensures memory { IfErr result (λ r. r ≡ Refusal.Memory) }
     {
         let mut number = first as u64;
@@ -120,7 +126,11 @@ impl EventLedger {
     /// Enters the close at this fee, in satoshis, which is the last event, and tells it.
     pub(crate) fn enter_close(&mut self, fee: u64, outbox: &mut Outbox) -> Result<(), Refusal>
         ensures entered { OnOk result (self.new ≡ entered (ref.Close ∷ []) self.old) }
-        ensures told { OnOk result (outbox.new ≡ record { sent = outbox.old.sent; told = (outbox.old.told ++ output.Event (next_event self.old) (event.Closed fee) ∷ []) ++ output.Closed fee ∷ [] }) }
+        ensures told { OnOk result (outbox.new ≡ record {
+          sent = outbox.old.sent;
+          told = (outbox.old.told ++ output.Event (next_event self.old) (event.Closed fee) ∷ [])
+              ++ output.Closed fee ∷ [];
+        }) }
         ensures memory { IfErr result (λ r. r ≡ Refusal.Memory) }
     {
         self.enter(EventRef::Close, ChannelEvent::Closed(fee), outbox)?;

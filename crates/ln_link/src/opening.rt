@@ -10,7 +10,11 @@ ghost use Rattle.ln_link.specs.declared.config.Config.{Config};
 ghost use Rattle.ln_link.specs.declared.config.OpenSpec.{OpenSpec};
 ghost use Rattle.ln_link.specs.declared.opening.Opened.{Opened};
 ghost use Rattle.ln_link.specs.Meeting.{CanOpen, Opens, AreEnds};
-ghost use Rattle.ln_link.specs.Opening.{Gives, HasBegun, asked_by_open, asked_by_accept, asked_with, opening_of, first_point, first_dance, opened_by, first_signature, first_fault, open_message, open_fault, typed, accept_message, open_taken, repeats, accept_fault, funder_terms, funder_end, accept_taken, created_taken, signed_taken};
+ghost use Rattle.ln_link.specs.Opening.{Gives, HasBegun, asked_by_open, asked_by_accept, asked_with, opening_of};
+ghost use Rattle.ln_link.specs.Opening.{first_point, first_dance, opened_by, first_signature, first_fault};
+ghost use Rattle.ln_link.specs.Opening.{open_message, open_fault, typed, accept_message, open_taken, repeats};
+ghost use Rattle.ln_link.specs.Opening.{accept_fault, funder_terms, funder_end, accept_taken, created_taken};
+ghost use Rattle.ln_link.specs.Opening.{signed_taken};
 
 use crate::config::{Config, FitConfig, FitSpec, OpenSpec};
 use ln_bytes::{Bytes, Record, value_of};
@@ -498,6 +502,8 @@ pub fn take_signed<K: ChannelKeys>(
 /// A law: between partners on one chain whose values fit, each message of the opening is taken, and the two ends that
 /// it makes know the same opening, with the roles turned, and hold each other's points.
 pub fn opening_is_agreed()
-    ensures taken { (a b : Signer) (s : OpenSpec) (c : Config) → CanOpen a b s c → (funder : Opened) × (fundee : Opened) × Opens a b s c funder fundee }
-    ensures agreed { (a b : Signer) (s : OpenSpec) (c : Config) (funder fundee : Opened) → Opens a b s c funder fundee → AreEnds a b funder fundee }
+    ensures taken { (a b : Signer) (s : OpenSpec) (c : Config) → CanOpen a b s c
+        → (funder : Opened) × (fundee : Opened) × Opens a b s c funder fundee }
+    ensures agreed { (a b : Signer) (s : OpenSpec) (c : Config) (funder fundee : Opened) → Opens a b s c funder fundee
+        → AreEnds a b funder fundee }
 {}

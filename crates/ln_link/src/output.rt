@@ -57,7 +57,10 @@ impl Outbox {
 
     /// A message to the peer.
     pub(crate) fn send(&mut self, message: Message) -> Result<(), Refusal>
-        ensures sent { OnOk result (self.new ≡ record { sent = self.old.sent ++ output.Send message ∷ []; told = self.old.told }) }
+        ensures sent { OnOk result (self.new ≡ record {
+          sent = self.old.sent ++ output.Send message ∷ [];
+          told = self.old.told;
+        }) }
         ensures memory { IfErr result (λ r. r ≡ Refusal.Memory) }
     {
         self.sent.push(Output::Send(message))?;

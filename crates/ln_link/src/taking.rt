@@ -22,7 +22,10 @@ impl Channel {
     ghost use Rattle.ln_dance.specs.Dance.{AnswersWithin, answer_of, revoked_message, learn_fault};
     ghost use Rattle.ln_link.specs.Outputs.{nothing};
     ghost use Rattle.ln_link.specs.End.{Makes};
-    ghost use Rattle.ln_link.specs.Taking.{takes_ready, late_fault, early_fault, update_row, takes, signature_fault, accepts, accepting, signature_row, revokes, learning, revocation_row, shutdown_row, shuts_by_peer, answering, answer_handed, answer_ledger, fee_row, message_row, taken};
+    ghost use Rattle.ln_link.specs.Taking.{takes_ready, late_fault, early_fault, update_row, takes, signature_fault};
+    ghost use Rattle.ln_link.specs.Taking.{accepts, accepting, signature_row, revokes, learning, revocation_row};
+    ghost use Rattle.ln_link.specs.Taking.{shutdown_row, shuts_by_peer, answering, answer_handed, answer_ledger};
+    ghost use Rattle.ln_link.specs.Taking.{fee_row, message_row, taken};
 
     /// Takes `channel_ready` (BOLT 2, "The `channel_ready` Message"): a second one, or one behind the close, does
     /// nothing.

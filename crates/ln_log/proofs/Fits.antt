@@ -11,9 +11,12 @@ both_true false b e = absurd (cc)
 -- an opening that passes the test is fit
 pub fit_is : (o : Opening) → is_fit o ≡ true → IsFit o
 fit_is o e =
-    let p4 = both_true (nat_le 1 o.satoshis && nat_le o.satoshis 2100000000000000 && nat_le o.push (1000 * o.satoshis) && nat_le o.funder.accepted 483) (nat_le o.fundee.accepted 483) e in
-    let p3 = both_true (nat_le 1 o.satoshis && nat_le o.satoshis 2100000000000000 && nat_le o.push (1000 * o.satoshis)) (nat_le o.funder.accepted 483) p4.0 in
-    let p2 = both_true (nat_le 1 o.satoshis && nat_le o.satoshis 2100000000000000) (nat_le o.push (1000 * o.satoshis)) p3.0 in
+    let p4 = both_true (nat_le 1 o.satoshis && nat_le o.satoshis 2100000000000000 && nat_le o.push (1000 * o.satoshis)
+    && nat_le o.funder.accepted 483) (nat_le o.fundee.accepted 483) e in
+    let p3 = both_true (nat_le 1 o.satoshis && nat_le o.satoshis 2100000000000000
+    && nat_le o.push (1000 * o.satoshis)) (nat_le o.funder.accepted 483) p4.0 in
+    let p2 = both_true (nat_le 1 o.satoshis && nat_le o.satoshis 2100000000000000)
+    (nat_le o.push (1000 * o.satoshis)) p3.0 in
     let p1 = both_true (nat_le 1 o.satoshis) (nat_le o.satoshis 2100000000000000) p2.0 in
     record {
       some_funds = leb-true 1 o.satoshis p1.0;

@@ -1,5 +1,7 @@
 -- A log with a further update.
-use Rattle.std.proofs.Common.{◌≡◌, ℕ, ◌+◌, ◌*◌, ◌≤◌, ◌<◌, ◌^◌, List, [], ◌∷◌, length, take, refl, sym, ap, ◌∙◌, subst, arith, Bool, true, false, cond, eqb, Option, Some, None, Result, Ok, Err, length-append, nat_le, option_map}
+use Rattle.std.proofs.Common.{◌≡◌, ℕ, ◌+◌, ◌*◌, ◌≤◌, ◌<◌, ◌^◌, List, [], ◌∷◌, length, take, refl, sym, ap, ◌∙◌, subst}
+use Rattle.std.proofs.Common.{arith, Bool, true, false, cond, eqb, Option, Some, None, Result, Ok, Err, length-append}
+use Rattle.std.proofs.Common.{nat_le, option_map}
 use Rattle.std.proofs.lemmas.List.{take-append-le}
 use Rattle.std.proofs.lemmas.Bool.{leb-false, lt-leb, eqb-true}
 use Rattle.std.specs.Result.{IsErrAnd}
@@ -18,12 +20,16 @@ use Rattle.ln_log.specs.declared.outcome.Outcome.TheVariants.{Live}
 use Rattle.ln_log.specs.Opening.{IsFit, limits_of, first_balance}
 use Rattle.ln_log.specs.Updates.{offered, removed, next_id, outcome}
 use Rattle.ln_log.specs.View.{Pays}
-use Rattle.ln_log.specs.Limits.{standing_of, fault_at, update_fault, HasNextId, id_fault, is_at_update_limit, first_fault, Answers}
+use Rattle.ln_log.specs.Limits.{standing_of, fault_at, update_fault, HasNextId, id_fault, is_at_update_limit}
+use Rattle.ln_log.specs.Limits.{first_fault, Answers}
 use Rattle.ln_log.specs.Standing.{with_own, OwnFits}
-use Rattle.ln_log.specs.Log.{Log, IsKept, HasId, AreRemovals, peer_limit, removal_fault, length_fault, proposal_fault, taken_fault, after_propose, after_receive}
-use Rattle.ln_log.proofs.Outcomes.{above, next-front, numbered-take, numbered-push, removals-push, removals-take, untouched}
+use Rattle.ln_log.specs.Log.{Log, IsKept, HasId, AreRemovals, peer_limit, removal_fault, length_fault, proposal_fault}
+use Rattle.ln_log.specs.Log.{taken_fault, after_propose, after_receive}
+use Rattle.ln_log.proofs.Outcomes.{above, next-front, numbered-take, numbered-push, removals-push, removals-take}
+use Rattle.ln_log.proofs.Outcomes.{untouched}
 use Rattle.ln_log.proofs.Sums.{pays_all, first_sum}
-use Rattle.ln_log.proofs.Kept.{small, small_back, found_in, both_same, Growing, Grown, grown, seen_removes, within-push, has_amount}
+use Rattle.ln_log.proofs.Kept.{small, small_back, found_in, both_same, Growing, Grown, grown, seen_removes, within-push}
+use Rattle.ln_log.proofs.Kept.{has_amount}
 
 -- ---- what an answer of no fault says
 
@@ -46,7 +52,8 @@ few_updates us r e =
 
 pub record MayGrow (l : Log) (u : Update) : Type 0 where
   pub few : length l.own < 2 ^ 62
-  pub none : update_fault l.opening l.role l.own (take l.current.peer l.received) (take l.acknowledged.peer l.received) u ≡ None
+  pub none : update_fault l.opening l.role l.own (take l.current.peer l.received)
+      (take l.acknowledged.peer l.received) u ≡ None
 
 pub may_propose : (l : Log) (u : Update) → proposal_fault l u ≡ None → MayGrow l u
 may_propose l u e =
@@ -58,7 +65,8 @@ may_propose l u e =
 pub record MayTake (l : Log) (u : Update) : Type 0 where
   pub few : length l.received < 2 ^ 62
   pub id : id_fault l.received u ≡ None
-  pub none : update_fault l.opening (other_role l.role) l.received (take l.acknowledged.own l.own) (take l.current.own l.own) u ≡ None
+  pub none : update_fault l.opening (other_role l.role) l.received (take l.acknowledged.own l.own)
+      (take l.current.own l.own) u ≡ None
 
 pub may_take : (l : Log) (u : Update) → taken_fault l u ≡ None → MayTake l u
 may_take l u e =
@@ -94,34 +102,45 @@ front_counts : (n : ℕ) (us : List Update) → 0 + next_id (take n us) ≤ next
 front_counts n us = omega (arith, next-front n us)
 
 -- the id that is due isn't touched
-due_live : (l : Log) (s t p q : Standing) → IsKept l s t p q → (n : ℕ) → outcome (next_id l.own) (take n l.received) ≡ Live
+due_live : (l : Log) (s t p q : Standing) → IsKept l s t p q → (n : ℕ)
+    → outcome (next_id l.own) (take n l.received) ≡ Live
 due_live l s t p q k n =
-    untouched (next_id l.own) (take l.current.own l.own) [] (take n l.received) (removals-take (take l.current.own l.own) [] l.received n k.peer_removals)
-    (above 0 (next_id l.own) (take l.current.own l.own) (numbered-take 0 l.current.own l.own k.own_ids) (front_counts l.current.own l.own))
+    untouched (next_id l.own) (take l.current.own l.own) [] (take n l.received)
+    (removals-take (take l.current.own l.own) [] l.received n k.peer_removals)
+    (above 0 (next_id l.own) (take l.current.own l.own) (numbered-take 0 l.current.own l.own k.own_ids)
+    (front_counts l.current.own l.own))
 
-due_live_back : (l : Log) (s t p q : Standing) → IsKept l s t p q → (n : ℕ) → outcome (next_id l.received) (take n l.own) ≡ Live
+due_live_back : (l : Log) (s t p q : Standing) → IsKept l s t p q → (n : ℕ)
+    → outcome (next_id l.received) (take n l.own) ≡ Live
 due_live_back l s t p q k n =
-    untouched (next_id l.received) (take l.signed.peer l.received) [] (take n l.own) (removals-take (take l.signed.peer l.received) [] l.own n k.own_removals)
-    (above 0 (next_id l.received) (take l.signed.peer l.received) (numbered-take 0 l.signed.peer l.received k.peer_ids) (front_counts l.signed.peer l.received))
+    untouched (next_id l.received) (take l.signed.peer l.received) [] (take n l.own)
+    (removals-take (take l.signed.peer l.received) [] l.own n k.own_removals)
+    (above 0 (next_id l.received) (take l.signed.peer l.received) (numbered-take 0 l.signed.peer l.received k.peer_ids)
+    (front_counts l.signed.peer l.received))
 
 pub growing : (l : Log) (s t p q : Standing) → IsKept l s t p q → length l.own < 2 ^ 62
-    → Growing (limits_of l.opening l.role) (first_balance l.opening l.role) (first_balance l.opening (other_role l.role)) l.own (take l.current.peer l.received) (take l.acknowledged.peer l.received)
+    → Growing (limits_of l.opening l.role) (first_balance l.opening l.role)
+    (first_balance l.opening (other_role l.role)) l.own (take l.current.peer l.received)
+    (take l.acknowledged.peer l.received)
 growing l s t p q k few =
     let w = k.within in
     record {
       own_ids = k.own_ids;
       seen_ids = numbered-take 0 l.current.peer l.received k.peer_ids;
-      found = found_in l.acknowledged.peer l.current.peer l.received (omega (arith, w.peer_acknowledged, w.peer_signed));
+      found = found_in l.acknowledged.peer l.current.peer l.received
+          (omega (arith, w.peer_acknowledged, w.peer_signed));
       new = due_live l s t p q k l.current.peer;
       pays = k.own_pays;
-      back = pays_all (first_balance l.opening (other_role l.role)) (take l.current.peer l.received) l.own l.current.own k.current_pays.1;
+      back = pays_all (first_balance l.opening (other_role l.role)) (take l.current.peer l.received) l.own
+          l.current.own k.current_pays.1;
       small = small l k.fit;
       few = few;
       accepts = few_accepted l.opening l.role k.fit;
     }
 
 pub growing_back : (l : Log) (s t p q : Standing) → IsKept l s t p q → length l.received < 2 ^ 62
-    → Growing (limits_of l.opening (other_role l.role)) (first_balance l.opening (other_role l.role)) (first_balance l.opening l.role) l.received (take l.acknowledged.own l.own) (take l.current.own l.own)
+    → Growing (limits_of l.opening (other_role l.role)) (first_balance l.opening (other_role l.role))
+    (first_balance l.opening l.role) l.received (take l.acknowledged.own l.own) (take l.current.own l.own)
 growing_back l s t p q k few =
     let w = k.within in
     record {
@@ -130,35 +149,53 @@ growing_back l s t p q k few =
       found = found_in l.current.own l.acknowledged.own l.own w.own_current;
       new = due_live_back l s t p q k l.acknowledged.own;
       pays = k.peer_pays;
-      back = pays_all (first_balance l.opening l.role) (take l.acknowledged.own l.own) l.received l.acknowledged.peer k.acknowledged_pays.0;
+      back = pays_all (first_balance l.opening l.role) (take l.acknowledged.own l.own) l.received
+          l.acknowledged.peer k.acknowledged_pays.0;
       small = small_back l k.fit;
       few = few;
       accepts = few_accepted l.opening (other_role l.role) k.fit;
     }
 
-pub grown_own : (l : Log) (s t p q : Standing) (u : Update) → IsKept l s t p q → MayGrow l u → HasId (next_id l.own) (offered u)
-    → Grown (limits_of l.opening l.role) (first_balance l.opening l.role) (first_balance l.opening (other_role l.role)) l.own (take l.current.peer l.received) (take l.acknowledged.peer l.received) u
-grown_own l s t p q u k m id = grown (limits_of l.opening l.role) (first_balance l.opening l.role) (first_balance l.opening (other_role l.role)) l.role l.own (take l.current.peer l.received) (take l.acknowledged.peer l.received) u (growing l s t p q k m.few) id m.none
+pub grown_own : (l : Log) (s t p q : Standing) (u : Update) → IsKept l s t p q → MayGrow l u
+    → HasId (next_id l.own) (offered u)
+    → Grown (limits_of l.opening l.role) (first_balance l.opening l.role) (first_balance l.opening (other_role l.role))
+    l.own (take l.current.peer l.received) (take l.acknowledged.peer l.received) u
+grown_own l s t p q u k m id = grown (limits_of l.opening l.role) (first_balance l.opening l.role)
+    (first_balance l.opening (other_role l.role)) l.role l.own (take l.current.peer l.received)
+    (take l.acknowledged.peer l.received) u (growing l s t p q k m.few) id m.none
 
 pub grown_got : (l : Log) (s t p q : Standing) (u : Update) → IsKept l s t p q → MayTake l u
-    → Grown (limits_of l.opening (other_role l.role)) (first_balance l.opening (other_role l.role)) (first_balance l.opening l.role) l.received (take l.acknowledged.own l.own) (take l.current.own l.own) u
-grown_got l s t p q u k m = grown (limits_of l.opening (other_role l.role)) (first_balance l.opening (other_role l.role)) (first_balance l.opening l.role) (other_role l.role) l.received (take l.acknowledged.own l.own) (take l.current.own l.own) u (growing_back l s t p q k m.few) (id_taken l.received u m.id) m.none
+    → Grown (limits_of l.opening (other_role l.role)) (first_balance l.opening (other_role l.role))
+    (first_balance l.opening l.role) l.received (take l.acknowledged.own l.own) (take l.current.own l.own) u
+grown_got l s t p q u k m = grown (limits_of l.opening (other_role l.role))
+    (first_balance l.opening (other_role l.role)) (first_balance l.opening l.role) (other_role l.role) l.received
+    (take l.acknowledged.own l.own) (take l.current.own l.own) u (growing_back l s t p q k m.few)
+    (id_taken l.received u m.id) m.none
 
 -- the call fits, by the lists that it is handed
-pub own_call : (l : Log) (s t p q : Standing) (u : Update) (vs : List Update) → IsKept l s t p q → proposal_fault l u ≡ None → HasNextId l.own u → vs ≡ take l.current.peer l.received → OwnFits s vs u
+pub own_call : (l : Log) (s t p q : Standing) (u : Update) (vs : List Update) → IsKept l s t p q
+    → proposal_fault l u ≡ None → HasNextId l.own u → vs ≡ take l.current.peer l.received → OwnFits s vs u
 own_call l s t p q u vs k none next e =
     let g = grown_own l s t p q u k (may_propose l u none) (has_id l.own u next) in
-    subst (λ x. OwnFits x vs u) (sym k.own_stands) (subst (λ x. OwnFits (standing_of (first_balance l.opening l.role) l.own (take l.current.peer l.received)) x u) (sym e) g.fits)
+    subst (λ x. OwnFits x vs u) (sym k.own_stands)
+    (subst (λ x. OwnFits (standing_of (first_balance l.opening l.role) l.own (take l.current.peer l.received)) x u)
+    (sym e) g.fits)
 
-pub got_call : (l : Log) (s t p q : Standing) (u : Update) (vs : List Update) → IsKept l s t p q → taken_fault l u ≡ None → vs ≡ take l.acknowledged.own l.own → OwnFits p vs u
+pub got_call : (l : Log) (s t p q : Standing) (u : Update) (vs : List Update) → IsKept l s t p q
+    → taken_fault l u ≡ None → vs ≡ take l.acknowledged.own l.own → OwnFits p vs u
 got_call l s t p q u vs k none e =
     let g = grown_got l s t p q u k (may_take l u none) in
-    subst (λ x. OwnFits x vs u) (sym k.peer_stands) (subst (λ x. OwnFits (standing_of (first_balance l.opening (other_role l.role)) l.received (take l.acknowledged.own l.own)) x u) (sym e) g.fits)
+    subst (λ x. OwnFits x vs u) (sym k.peer_stands)
+    (subst (λ x. OwnFits (standing_of (first_balance l.opening (other_role l.role)) l.received
+    (take l.acknowledged.own l.own)) x u) (sym e) g.fits)
 
-first_sum_back : (o : Opening) (r : Role) → IsFit o → first_balance o (other_role r) + first_balance o r ≡ 1000 * o.satoshis
+first_sum_back : (o : Opening) (r : Role) → IsFit o
+    → first_balance o (other_role r) + first_balance o r ≡ 1000 * o.satoshis
 first_sum_back o r fit = omega (arith, first_sum o r fit)
 
-pub kept_proposed : (l : Log) (s t p q a : Standing) (u : Update) (vs : List Update) → IsKept l s t p q → proposal_fault l u ≡ None → HasNextId l.own u → vs ≡ take l.current.peer l.received → a ≡ with_own s vs u → IsKept (after_propose u l) a t p q
+pub kept_proposed : (l : Log) (s t p q a : Standing) (u : Update) (vs : List Update) → IsKept l s t p q
+    → proposal_fault l u ≡ None → HasNextId l.own u → vs ≡ take l.current.peer l.received → a ≡ with_own s vs u
+    → IsKept (after_propose u l) a t p q
 kept_proposed l s t p q a u vs k none next ev ea =
     let w = k.within in
     let f = first_balance l.opening l.role in
@@ -171,26 +208,45 @@ kept_proposed l s t p q a u vs k none next ev ea =
     let current = front l.current.own (omega (arith, w.own_current, w.own_acknowledged, w.own_signed)) in
     record {
       fit = k.fit;
-      within = record { own_current = w.own_current; own_acknowledged = w.own_acknowledged; own_signed = omega (arith, w.own_signed, more); peer_acknowledged = w.peer_acknowledged; peer_signed = w.peer_signed; peer_current = w.peer_current };
-      own_ids = numbered-push 0 l.own u k.own_ids (subst (λ n. HasId n (offered u)) (omega arith) (has_id l.own u next));
+      within = record {
+        own_current = w.own_current;
+        own_acknowledged = w.own_acknowledged;
+        own_signed = omega (arith, w.own_signed, more);
+        peer_acknowledged = w.peer_acknowledged;
+        peer_signed =
+            w.peer_signed;
+        peer_current = w.peer_current;
+      };
+      own_ids = numbered-push 0 l.own u k.own_ids (subst (λ n. HasId n (offered u))
+          (omega arith) (has_id l.own u next));
       peer_ids = k.peer_ids;
-      own_removals = removals-push (take l.signed.peer l.received) [] l.own u k.own_removals (seen_removes (take l.acknowledged.peer l.received) (take l.signed.peer l.received) l.own (removed u) (found_in l.acknowledged.peer l.signed.peer l.received w.peer_acknowledged) g.removes);
-      acknowledged_removals = subst (λ us. AreRemovals (take l.acknowledged.peer l.received) [] us) (sym acked) k.acknowledged_removals;
+      own_removals = removals-push (take l.signed.peer l.received) [] l.own u k.own_removals
+          (seen_removes (take l.acknowledged.peer l.received) (take l.signed.peer l.received) l.own (removed u)
+          (found_in l.acknowledged.peer l.signed.peer l.received w.peer_acknowledged) g.removes);
+      acknowledged_removals = subst (λ us. AreRemovals (take l.acknowledged.peer l.received) [] us) (sym acked)
+          k.acknowledged_removals;
       peer_removals = subst (λ adds. AreRemovals adds [] l.received) (sym current) k.peer_removals;
-      own_amounts = within-push (1000 * l.opening.satoshis) l.own u k.own_amounts (has_amount _ _ (offered u) (first_sum l.opening l.role k.fit) g.amount);
+      own_amounts = within-push (1000 * l.opening.satoshis) l.own u k.own_amounts
+          (has_amount _ _ (offered u) (first_sum l.opening l.role k.fit) g.amount);
       peer_amounts = k.peer_amounts;
-      own_stands = ea ∙ ap (λ x. with_own x vs u) k.own_stands ∙ ap (λ x. with_own (standing_of f l.own (take l.current.peer l.received)) x u) ev ∙ g.stands;
+      own_stands = ea ∙ ap (λ x. with_own x vs u) k.own_stands
+          ∙ ap (λ x. with_own (standing_of f l.own (take l.current.peer l.received)) x u) ev ∙ g.stands;
       own_signed_stands = k.own_signed_stands ∙ ap (λ x. standing_of f x (take l.current.peer l.received)) (sym signed);
       peer_stands = k.peer_stands ∙ ap (standing_of h l.received) (sym acked);
       peer_current_stands = k.peer_current_stands ∙ ap (standing_of h (take l.current.peer l.received)) (sym acked);
       own_pays = g.pays;
       peer_pays = subst (Pays h l.received) (sym acked) k.peer_pays;
-      signed_pays = both_same l.opening l.role _ (take l.signed.peer l.received) _ (take l.signed.peer l.received) (sym signed) refl k.signed_pays;
-      acknowledged_pays = both_same l.opening l.role _ (take l.acknowledged.peer l.received) _ (take l.acknowledged.peer l.received) (sym acked) refl k.acknowledged_pays;
-      current_pays = both_same l.opening l.role _ (take l.current.peer l.received) _ (take l.current.peer l.received) (sym current) refl k.current_pays;
+      signed_pays = both_same l.opening l.role _ (take l.signed.peer l.received) _ (take l.signed.peer l.received)
+          (sym signed) refl k.signed_pays;
+      acknowledged_pays = both_same l.opening l.role _ (take l.acknowledged.peer l.received) _
+          (take l.acknowledged.peer l.received) (sym acked) refl k.acknowledged_pays;
+      current_pays = both_same l.opening l.role _ (take l.current.peer l.received) _ (take l.current.peer l.received)
+          (sym current) refl k.current_pays;
     }
 
-pub kept_received : (l : Log) (s t p q b : Standing) (u : Update) (vs : List Update) → IsKept l s t p q → taken_fault l u ≡ None → vs ≡ take l.acknowledged.own l.own → b ≡ with_own p vs u → IsKept (after_receive u l) s t b q
+pub kept_received : (l : Log) (s t p q b : Standing) (u : Update) (vs : List Update) → IsKept l s t p q
+    → taken_fault l u ≡ None → vs ≡ take l.acknowledged.own l.own → b ≡ with_own p vs u
+    → IsKept (after_receive u l) s t b q
 kept_received l s t p q b u vs k none ev eb =
     let w = k.within in
     let f = first_balance l.opening l.role in
@@ -204,64 +260,105 @@ kept_received l s t p q b u vs k none ev eb =
     let acked = front l.acknowledged.peer (omega (arith, w.peer_acknowledged, w.peer_signed, w.peer_current)) in
     record {
       fit = k.fit;
-      within = record { own_current = w.own_current; own_acknowledged = w.own_acknowledged; own_signed = w.own_signed; peer_acknowledged = w.peer_acknowledged; peer_signed = w.peer_signed; peer_current = omega (arith, w.peer_current, more) };
+      within = record {
+        own_current = w.own_current;
+        own_acknowledged = w.own_acknowledged;
+        own_signed = w.own_signed;
+        peer_acknowledged = w.peer_acknowledged;
+        peer_signed = w.peer_signed;
+        peer_current =
+            omega (arith, w.peer_current, more);
+      };
       own_ids = k.own_ids;
-      peer_ids = numbered-push 0 l.received u k.peer_ids (subst (λ n. HasId n (offered u)) (omega arith) (id_taken l.received u m.id));
+      peer_ids = numbered-push 0 l.received u k.peer_ids
+          (subst (λ n. HasId n (offered u)) (omega arith) (id_taken l.received u m.id));
       own_removals = subst (λ adds. AreRemovals adds [] l.own) (sym signed) k.own_removals;
-      acknowledged_removals = subst (λ adds. AreRemovals adds [] (take l.acknowledged.own l.own)) (sym acked) k.acknowledged_removals;
+      acknowledged_removals = subst (λ adds. AreRemovals adds [] (take l.acknowledged.own l.own)) (sym acked)
+          k.acknowledged_removals;
       peer_removals = removals-push (take l.current.own l.own) [] l.received u k.peer_removals g.removes;
       own_amounts = k.own_amounts;
-      peer_amounts = within-push (1000 * l.opening.satoshis) l.received u k.peer_amounts (has_amount _ _ (offered u) (first_sum_back l.opening l.role k.fit) g.amount);
+      peer_amounts = within-push (1000 * l.opening.satoshis) l.received u k.peer_amounts
+          (has_amount _ _ (offered u) (first_sum_back l.opening l.role k.fit) g.amount);
       own_stands = k.own_stands ∙ ap (standing_of f l.own) (sym current);
       own_signed_stands = k.own_signed_stands ∙ ap (standing_of f (take l.signed.own l.own)) (sym current);
-      peer_stands = eb ∙ ap (λ x. with_own x vs u) k.peer_stands ∙ ap (λ x. with_own (standing_of h l.received (take l.acknowledged.own l.own)) x u) ev ∙ g.stands;
-      peer_current_stands = k.peer_current_stands ∙ ap (λ x. standing_of h x (take l.acknowledged.own l.own)) (sym current);
+      peer_stands = eb ∙ ap (λ x. with_own x vs u) k.peer_stands
+          ∙ ap (λ x. with_own (standing_of h l.received (take l.acknowledged.own l.own)) x u) ev ∙ g.stands;
+      peer_current_stands = k.peer_current_stands ∙ ap
+          (λ x. standing_of h x (take l.acknowledged.own l.own)) (sym current);
       own_pays = subst (Pays f l.own) (sym current) k.own_pays;
       peer_pays = g.pays;
-      signed_pays = both_same l.opening l.role (take l.signed.own l.own) _ (take l.signed.own l.own) _ refl (sym signed) k.signed_pays;
-      acknowledged_pays = both_same l.opening l.role (take l.acknowledged.own l.own) _ (take l.acknowledged.own l.own) _ refl (sym acked) k.acknowledged_pays;
-      current_pays = both_same l.opening l.role (take l.current.own l.own) _ (take l.current.own l.own) _ refl (sym current) k.current_pays;
+      signed_pays = both_same l.opening l.role (take l.signed.own l.own) _ (take l.signed.own l.own) _ refl
+          (sym signed) k.signed_pays;
+      acknowledged_pays = both_same l.opening l.role (take l.acknowledged.own l.own) _ (take l.acknowledged.own l.own) _
+          refl (sym acked) k.acknowledged_pays;
+      current_pays = both_same l.opening l.role (take l.current.own l.own) _ (take l.current.own l.own) _ refl
+          (sym current) k.current_pays;
     }
 
 -- ---- what the code found is the fault by the lists
 
-few_is : (us : List Update) (n : ℕ) (r : Refusal) → n ≡ length us → n < 4611686018427387904 → cond (is_at_update_limit us) (Some r) None ≡ None
+few_is : (us : List Update) (n : ℕ) (r : Refusal) → n ≡ length us → n < 4611686018427387904
+    → cond (is_at_update_limit us) (Some r) None ≡ None
 few_is us n r e lt =
-    let not_ : nat_le 4611686018427387904 (length us) ≡ false = lt-leb 4611686018427387904 (length us) (subst (λ m. m < 4611686018427387904) e lt) in
+    let not_ : nat_le 4611686018427387904 (length us) ≡ false =
+    lt-leb 4611686018427387904 (length us) (subst (λ m. m < 4611686018427387904) e lt) in
     ap (λ b. cond b (Some r) None) not_
 
-fault_is : (lim lim' : Limits) (s s' : Standing) (r r' : Role) (os os' hs hs' : List Update) (u : Update) → lim ≡ lim' → s ≡ s' → r ≡ r' → os ≡ os' → hs ≡ hs' → fault_at lim s r os hs u ≡ fault_at lim' s' r' os' hs' u
+fault_is : (lim lim' : Limits) (s s' : Standing) (r r' : Role) (os os' hs hs' : List Update) (u : Update) → lim ≡ lim'
+    → s ≡ s' → r ≡ r' → os ≡ os' → hs ≡ hs' → fault_at lim s r os hs u ≡ fault_at lim' s' r' os' hs' u
 fault_is lim lim' s s' r r' os os' hs hs' u el es er eo eh =
-    ap (λ x. fault_at x s r os hs u) el ∙ ap (λ x. fault_at lim' x r os hs u) es ∙ ap (λ x. fault_at lim' s' x os hs u) er ∙ ap (λ x. fault_at lim' s' r' x hs u) eo ∙ ap (λ x. fault_at lim' s' r' os' x u) eh
+    ap (λ x. fault_at x s r os hs u) el ∙ ap (λ x. fault_at lim' x r os hs u) es
+    ∙ ap (λ x. fault_at lim' s' x os hs u) er ∙ ap (λ x. fault_at lim' s' r' x hs u) eo
+    ∙ ap (λ x. fault_at lim' s' r' os' x u) eh
 
-pub proposal_is : (l m : Log) (s t p q : Standing) (u : Update) (n : ℕ) (lim : Limits) (os hs : List Update) (r : Option Refusal) → l ≡ m → IsKept l s t p q → n ≡ length l.own → n < 4611686018427387904
-    → removal_fault m (removed u) ≡ None → lim ≡ limits_of l.opening l.role → os ≡ l.own → hs ≡ take l.acknowledged.peer l.received → r ≡ fault_at lim s l.role os hs u
+pub proposal_is : (l m : Log) (s t p q : Standing) (u : Update) (n : ℕ) (lim : Limits) (os hs : List Update)
+    (r : Option Refusal) → l ≡ m → IsKept l s t p q → n ≡ length l.own → n < 4611686018427387904
+    → removal_fault m (removed u) ≡ None → lim ≡ limits_of l.opening l.role → os ≡ l.own
+    → hs ≡ take l.acknowledged.peer l.received → r ≡ fault_at lim s l.role os hs u
     → proposal_fault m u ≡ first_fault (option_map peer_limit r) (length_fault u)
 proposal_is l m s t p q u n lim os hs r v k en lt none el eo eh er =
-    let found : r ≡ update_fault l.opening l.role l.own (take l.current.peer l.received) (take l.acknowledged.peer l.received) u
-    = er ∙ fault_is lim (limits_of l.opening l.role) s (standing_of (first_balance l.opening l.role) l.own (take l.current.peer l.received)) l.role l.role os l.own hs (take l.acknowledged.peer l.received) u el k.own_stands refl eo eh in
+    let found : r ≡ update_fault l.opening l.role l.own (take l.current.peer l.received)
+    (take l.acknowledged.peer l.received) u
+    = er ∙ fault_is lim (limits_of l.opening l.role) s
+    (standing_of (first_balance l.opening l.role) l.own (take l.current.peer l.received)) l.role l.role os l.own hs
+    (take l.acknowledged.peer l.received) u el k.own_stands refl eo eh in
     let here : removal_fault l (removed u) ≡ None = ap (λ (x : Log). removal_fault x (removed u)) v ∙ none in
     ap (λ (x : Log). proposal_fault x u) (sym v)
-    ∙ ap (λ x. first_fault x (first_fault (removal_fault l (removed u)) (first_fault (option_map peer_limit (update_fault l.opening l.role l.own (take l.current.peer l.received) (take l.acknowledged.peer l.received) u)) (length_fault u)))) (few_is l.own n refusal.NumbersSpent en lt)
-    ∙ ap (λ x. first_fault x (first_fault (option_map peer_limit (update_fault l.opening l.role l.own (take l.current.peer l.received) (take l.acknowledged.peer l.received) u)) (length_fault u))) here
+    ∙ ap (λ x. first_fault x (first_fault (removal_fault l (removed u))
+    (first_fault (option_map peer_limit (update_fault l.opening l.role l.own (take l.current.peer l.received)
+    (take l.acknowledged.peer l.received) u)) (length_fault u)))) (few_is l.own n refusal.NumbersSpent en lt)
+    ∙ ap (λ x. first_fault x (first_fault (option_map peer_limit
+    (update_fault l.opening l.role l.own (take l.current.peer l.received) (take l.acknowledged.peer l.received) u))
+    (length_fault u))) here
     ∙ ap (λ x. first_fault (option_map peer_limit x) (length_fault u)) (sym found)
 
-pub proposal_refused : (m : Log) (u : Update) (r : Option Refusal) (x : Refusal) (n : ℕ) → proposal_fault m u ≡ first_fault (option_map peer_limit r) (length_fault u) → r ≡ Some x → n ≡ refusal_number x → Some (refusal.PeerLimit n) ≡ proposal_fault m u
-proposal_refused m u r x n e is en = ap (λ i. Some (refusal.PeerLimit i)) en ∙ ap (λ y. first_fault (option_map peer_limit y) (length_fault u)) (sym is) ∙ sym e
+pub proposal_refused : (m : Log) (u : Update) (r : Option Refusal) (x : Refusal) (n : ℕ)
+    → proposal_fault m u ≡ first_fault (option_map peer_limit r) (length_fault u) → r ≡ Some x → n ≡ refusal_number x
+    → Some (refusal.PeerLimit n) ≡ proposal_fault m u
+proposal_refused m u r x n e is en = ap (λ i. Some (refusal.PeerLimit i)) en
+    ∙ ap (λ y. first_fault (option_map peer_limit y) (length_fault u)) (sym is) ∙ sym e
 
-pub proposal_else : (m : Log) (u : Update) (r o : Option Refusal) → proposal_fault m u ≡ first_fault (option_map peer_limit r) (length_fault u) → r ≡ None → o ≡ length_fault u → o ≡ proposal_fault m u
+pub proposal_else : (m : Log) (u : Update) (r o : Option Refusal)
+    → proposal_fault m u ≡ first_fault (option_map peer_limit r) (length_fault u) → r ≡ None → o ≡ length_fault u
+    → o ≡ proposal_fault m u
 proposal_else m u r o e is eo = eo ∙ ap (λ y. first_fault (option_map peer_limit y) (length_fault u)) (sym is) ∙ sym e
 
-pub taken_is : (l m : Log) (s t p q : Standing) (u : Update) (n : ℕ) (lim : Limits) (side : Role) (os hs : List Update) (r : Option Refusal) → l ≡ m → IsKept l s t p q → n ≡ length l.received → n < 4611686018427387904
-    → id_fault l.received u ≡ None → lim ≡ limits_of l.opening (other_role l.role) → side ≡ other_role l.role → os ≡ l.received → hs ≡ take l.current.own l.own → r ≡ fault_at lim p side os hs u
+pub taken_is : (l m : Log) (s t p q : Standing) (u : Update) (n : ℕ) (lim : Limits) (side : Role) (os hs : List Update)
+    (r : Option Refusal) → l ≡ m → IsKept l s t p q → n ≡ length l.received → n < 4611686018427387904
+    → id_fault l.received u ≡ None → lim ≡ limits_of l.opening (other_role l.role) → side ≡ other_role l.role
+    → os ≡ l.received → hs ≡ take l.current.own l.own → r ≡ fault_at lim p side os hs u
     → r ≡ taken_fault m u
 taken_is l m s t p q u n lim side os hs r v k en lt none el es eo eh er =
-    let f = update_fault l.opening (other_role l.role) l.received (take l.acknowledged.own l.own) (take l.current.own l.own) u in
+    let f = update_fault l.opening (other_role l.role) l.received (take l.acknowledged.own l.own)
+    (take l.current.own l.own) u in
     let found : r ≡ f
-    = er ∙ fault_is lim (limits_of l.opening (other_role l.role)) p (standing_of (first_balance l.opening (other_role l.role)) l.received (take l.acknowledged.own l.own)) side (other_role l.role) os l.received hs (take l.current.own l.own) u el k.peer_stands es eo eh in
+    = er ∙ fault_is lim (limits_of l.opening (other_role l.role)) p
+    (standing_of (first_balance l.opening (other_role l.role)) l.received (take l.acknowledged.own l.own)) side
+    (other_role l.role) os l.received hs (take l.current.own l.own) u el k.peer_stands es eo eh in
     found
     ∙ ap (λ x. first_fault x f) (sym none)
-    ∙ ap (λ x. first_fault x (first_fault (id_fault l.received u) f)) (sym (few_is l.received n refusal.OutOfPlace en lt))
+    ∙ ap (λ x. first_fault x (first_fault (id_fault l.received u) f))
+    (sym (few_is l.received n refusal.OutOfPlace en lt))
     ∙ ap (λ (x : Log). taken_fault x u) v
 
 -- ---- answers
@@ -272,6 +369,7 @@ refused_as o f r e is = subst (λ x. Answers {A = Unit {0}} x (Err r)) (sym is �
 pub goes_as : (o f : Option Refusal) → o ≡ f → o ≡ None → Answers {A = Unit {0}} f (Ok tt)
 goes_as o f e is = subst (λ y. Answers {A = Unit {0}} y (Ok tt)) (sym is ∙ e) tt
 
-pub no_memory : (o f : Option Refusal) (r : Result (Unit {0}) Refusal) → o ≡ f → o ≡ None → IsErrAnd r (λ e. e ≡ refusal.Memory) → Answers {A = Unit {0}} f r
+pub no_memory : (o f : Option Refusal) (r : Result (Unit {0}) Refusal) → o ≡ f → o ≡ None
+    → IsErrAnd r (λ e. e ≡ refusal.Memory) → Answers {A = Unit {0}} f r
 no_memory o f (Ok x) e is h = absurd h
 no_memory o f (Err r) e is h = subst (λ y. Answers {A = Unit {0}} y (Err r)) (sym is ∙ e) h

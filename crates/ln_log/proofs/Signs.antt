@@ -1,5 +1,6 @@
 -- Signing, by counts and by lists; and the views of a log.
-use Rattle.std.proofs.Common.{◌≡◌, ℕ, ◌≤◌, List, length, take, refl, sym, ap, ◌∙◌, subst, arith, Bool, true, false, cond, Option, Some, None, ◌&&◌, ◌==◌, ◌↔◌}
+use Rattle.std.proofs.Common.{◌≡◌, ℕ, ◌≤◌, List, length, take, refl, sym, ap, ◌∙◌, subst, arith, Bool, true, false}
+use Rattle.std.proofs.Common.{cond, Option, Some, None, ◌&&◌, ◌==◌, ◌↔◌}
 use Rattle.std.proofs.lemmas.List.{length-map, length-take-le, take_all}
 use Rattle.std.proofs.lemmas.Bool.{eqb-true, eq-eqb}
 use Rattle.ln_msgs.specs.declared.refusals.refusal.Refusal.TheVariants as refusal
@@ -17,7 +18,8 @@ use Rattle.ln_log.specs.Opening.{first_balance}
 use Rattle.ln_log.specs.Updates.{as_sent, all_sent}
 use Rattle.ln_log.specs.View.{view_of, Pays, IsFunded}
 use Rattle.ln_log.specs.Machine.{Covered, MaySign, to_sign}
-use Rattle.ln_log.specs.Log.{Counts, Log, covered, sent_pair, party_of, IsWithin, IsKept, BothPay, after_sign, same_counts, sign_fault, counts_of, view_for}
+use Rattle.ln_log.specs.Log.{Counts, Log, covered, sent_pair, party_of, IsWithin, IsKept, BothPay, after_sign}
+use Rattle.ln_log.specs.Log.{same_counts, sign_fault, counts_of, view_for}
 use Rattle.ln_log.proofs.Sums.{pays_all}
 
 both_hold : (a b : Bool) → (a && b) ≡ true → (a ≡ true) × (b ≡ true)
@@ -38,7 +40,8 @@ sent_length : (n : ℕ) (us : List Update) → n ≤ length us → length (all_s
 sent_length n us le = length-map (take n us) as_sent ∙ length-take-le n us le
 
 -- counts within the lists that stand for the same lists are the same
-same_lists : (l : Log) (c d : Counts) → c.own ≤ length l.own → c.peer ≤ length l.received → d.own ≤ length l.own → d.peer ≤ length l.received → sent_pair (covered l c) ≡ sent_pair (covered l d) → same_counts c d ≡ true
+same_lists : (l : Log) (c d : Counts) → c.own ≤ length l.own → c.peer ≤ length l.received → d.own ≤ length l.own
+    → d.peer ≤ length l.received → sent_pair (covered l c) ≡ sent_pair (covered l d) → same_counts c d ≡ true
 same_lists l c d co cp do_ dp e =
     same_when c d
     (sym (sent_length c.own l.own co) ∙ ap (λ (v : Covered). length v.own) e ∙ sent_length d.own l.own do_)
@@ -46,15 +49,18 @@ same_lists l c d co cp do_ dp e =
 
 -- what a signature would cover, by counts
 all_own : (s : Bool) (c : Option ℕ) (l : Log) → sent_pair (covered l (after_sign l).signed) ≡ to_sign (party_of s c l)
-all_own s c l = ap (λ us. record { own = all_sent us; peer = all_sent (take l.current.peer l.received) }) (take_all (length l.own) l.own (omega arith))
+all_own s c l = ap (λ us. record { own = all_sent us; peer = all_sent (take l.current.peer l.received) })
+    (take_all (length l.own) l.own (omega arith))
 
-passes : (b d : Bool) → cond b (cond d (Some refusal.NothingToSign) None) (Some refusal.SignatureOutstanding) ≡ None → (b ≡ true) × (d ≡ false)
+passes : (b d : Bool) → cond b (cond d (Some refusal.NothingToSign) None) (Some refusal.SignatureOutstanding) ≡ None
+    → (b ≡ true) × (d ≡ false)
 passes true true e = absurd (cc)
 passes true false e = (refl, refl)
 passes false true e = absurd (cc)
 passes false false e = absurd (cc)
 
-passed : (b d : Bool) → b ≡ true → (d ≡ true → ⊥) → cond b (cond d (Some refusal.NothingToSign) None) (Some refusal.SignatureOutstanding) ≡ None
+passed : (b d : Bool) → b ≡ true → (d ≡ true → ⊥)
+    → cond b (cond d (Some refusal.NothingToSign) None) (Some refusal.SignatureOutstanding) ≡ None
 passed true true e n = absurd (n refl)
 passed true false e n = refl
 passed false true e n = absurd (n refl)
@@ -63,28 +69,40 @@ passed false false e n = absurd (cc)
 pub exactly : (s : Bool) (f : Option ℕ) (l : Log) → IsWithin l → ((sign_fault l ≡ None) ↔ MaySign (party_of s f l))
 exactly s f l w =
     let next = (after_sign l).signed in
-    let sc = same_lists l l.signed next w.own_signed (omega (arith, w.peer_signed, w.peer_current)) (omega arith) w.peer_current in
-    let ac = same_lists l l.acknowledged l.signed (omega (arith, w.own_acknowledged, w.own_signed)) (omega (arith, w.peer_acknowledged, w.peer_signed, w.peer_current)) w.own_signed (omega (arith, w.peer_signed, w.peer_current)) in (
+    let sc = same_lists l l.signed next w.own_signed (omega (arith, w.peer_signed, w.peer_current))
+    (omega arith) w.peer_current in
+    let ac = same_lists l l.acknowledged l.signed (omega (arith, w.own_acknowledged, w.own_signed))
+    (omega (arith, w.peer_acknowledged, w.peer_signed, w.peer_current)) w.own_signed
+    (omega (arith, w.peer_signed, w.peer_current)) in (
       (λ e.
           let p = passes (same_counts l.acknowledged l.signed) (same_counts l.signed next) e in
           record {
             revoked = ap (λ c. sent_pair (covered l c)) (equal_counts l.acknowledged l.signed p.0);
-            new = λ same. let is : same_counts l.signed next ≡ true = sc (same ∙ sym (all_own s f l)) in let not_ = p.1 in cc;
+            new = λ same. let is : same_counts l.signed next ≡ true =
+                sc (same ∙ sym (all_own s f l)) in let not_ = p.1 in cc;
           }),
-      (λ m. passed (same_counts l.acknowledged l.signed) (same_counts l.signed next) (ac m.revoked) (λ e. m.new (ap (λ c. sent_pair (covered l c)) (equal_counts l.signed next e) ∙ all_own s f l))),
+      (λ m. passed (same_counts l.acknowledged l.signed) (same_counts l.signed next) (ac m.revoked)
+          (λ e. m.new (ap (λ c. sent_pair (covered l c)) (equal_counts l.signed next e) ∙ all_own s f l))),
     )
 
 -- where nothing keeps a side from signing, its counts are these
-pub sign_allowed : (l : Log) → sign_fault l ≡ None → (l.acknowledged.own ≡ l.signed.own) × (l.acknowledged.peer ≡ l.signed.peer) × (l.signed.own ≡ length l.own → l.signed.peer ≡ l.current.peer → ⊥)
+pub sign_allowed : (l : Log) → sign_fault l ≡ None
+    → (l.acknowledged.own ≡ l.signed.own) × (l.acknowledged.peer ≡ l.signed.peer)
+    × (l.signed.own ≡ length l.own → l.signed.peer ≡ l.current.peer → ⊥)
 sign_allowed l e =
     let next = (after_sign l).signed in
     let p = passes (same_counts l.acknowledged l.signed) (same_counts l.signed next) e in
-    let same = equal_counts l.acknowledged l.signed p.0 in
-    (ap (λ (c : Counts). c.own) same, ap (λ (c : Counts). c.peer) same, λ a b. let is : same_counts l.signed next ≡ true = same_when l.signed next a b in let differ = p.1 in cc)
+    let same = equal_counts l.acknowledged l.signed p.0 in (
+      ap (λ (c : Counts). c.own) same,
+      ap (λ (c : Counts). c.peer) same,
+      λ a b. let is : same_counts l.signed next ≡ true = same_when l.signed next a b in let differ = p.1 in cc,
+    )
 
 -- ---- views
 
-pub view_is : (o : Opening) (f g : List Update) (v : View) → v.funder ≡ (view_of o f g).funder → v.fundee ≡ (view_of o f g).fundee → v.feerate ≡ (view_of o f g).feerate → v.htlcs ≡ (view_of o f g).htlcs → v ≡ view_of o f g
+pub view_is : (o : Opening) (f g : List Update) (v : View) → v.funder ≡ (view_of o f g).funder
+    → v.fundee ≡ (view_of o f g).fundee → v.feerate ≡ (view_of o f g).feerate
+    → v.htlcs ≡ (view_of o f g).htlcs → v ≡ view_of o f g
 view_is o f g v e1 e2 e3 e4 =
     let w : View = view_of o f g in
     ap (λ n. record { funder = n; fundee = v.fundee; feerate = v.feerate; htlcs = v.htlcs }) e1
@@ -92,23 +110,32 @@ view_is o f g v e1 e2 e3 e4 =
     ∙ ap (λ n. record { funder = w.funder; fundee = w.fundee; feerate = n; htlcs = v.htlcs }) e3
     ∙ ap (λ n. record { funder = w.funder; fundee = w.fundee; feerate = w.feerate; htlcs = n }) e4
 
-pub funder_view : (l m : Log) (q : Pair) (n k : ℕ) (os ps : List Update) → l ≡ m → l.role ≡ Funder → n ≡ (counts_of q m).own → k ≡ (counts_of q m).peer → os ≡ l.own → ps ≡ l.received → view_of l.opening (take n os) (take k ps) ≡ view_for m.opening m.role (covered m (counts_of q m))
+pub funder_view : (l m : Log) (q : Pair) (n k : ℕ) (os ps : List Update) → l ≡ m → l.role ≡ Funder
+    → n ≡ (counts_of q m).own → k ≡ (counts_of q m).peer → os ≡ l.own → ps ≡ l.received
+    → view_of l.opening (take n os) (take k ps) ≡ view_for m.opening m.role (covered m (counts_of q m))
 funder_view l m q n k os ps v role en ek eo ep =
-    ap (λ a. view_of l.opening (take a os) (take k ps)) en ∙ ap (λ a. view_of l.opening (take (counts_of q m).own os) (take a ps)) ek
-    ∙ ap (λ a. view_of l.opening (take (counts_of q m).own a) (take (counts_of q m).peer ps)) eo ∙ ap (λ a. view_of l.opening (take (counts_of q m).own l.own) (take (counts_of q m).peer a)) ep
+    ap (λ a. view_of l.opening (take a os) (take k ps)) en
+    ∙ ap (λ a. view_of l.opening (take (counts_of q m).own os) (take a ps)) ek
+    ∙ ap (λ a. view_of l.opening (take (counts_of q m).own a) (take (counts_of q m).peer ps)) eo
+    ∙ ap (λ a. view_of l.opening (take (counts_of q m).own l.own) (take (counts_of q m).peer a)) ep
     ∙ ap (λ (r : Role). view_for l.opening r (covered l (counts_of q m))) (sym role)
     ∙ ap (λ (a : Log). view_for a.opening a.role (covered a (counts_of q m))) v
 
-pub fundee_view : (l m : Log) (q : Pair) (n k : ℕ) (os ps : List Update) → l ≡ m → l.role ≡ Fundee → n ≡ (counts_of q m).own → k ≡ (counts_of q m).peer → os ≡ l.own → ps ≡ l.received → view_of l.opening (take k ps) (take n os) ≡ view_for m.opening m.role (covered m (counts_of q m))
+pub fundee_view : (l m : Log) (q : Pair) (n k : ℕ) (os ps : List Update) → l ≡ m → l.role ≡ Fundee
+    → n ≡ (counts_of q m).own → k ≡ (counts_of q m).peer → os ≡ l.own → ps ≡ l.received
+    → view_of l.opening (take k ps) (take n os) ≡ view_for m.opening m.role (covered m (counts_of q m))
 fundee_view l m q n k os ps v role en ek eo ep =
-    ap (λ a. view_of l.opening (take k ps) (take a os)) en ∙ ap (λ a. view_of l.opening (take a ps) (take (counts_of q m).own os)) ek
-    ∙ ap (λ a. view_of l.opening (take (counts_of q m).peer ps) (take (counts_of q m).own a)) eo ∙ ap (λ a. view_of l.opening (take (counts_of q m).peer a) (take (counts_of q m).own l.own)) ep
+    ap (λ a. view_of l.opening (take k ps) (take a os)) en
+    ∙ ap (λ a. view_of l.opening (take a ps) (take (counts_of q m).own os)) ek
+    ∙ ap (λ a. view_of l.opening (take (counts_of q m).peer ps) (take (counts_of q m).own a)) eo
+    ∙ ap (λ a. view_of l.opening (take (counts_of q m).peer a) (take (counts_of q m).own l.own)) ep
     ∙ ap (λ (r : Role). view_for l.opening r (covered l (counts_of q m))) (sym role)
     ∙ ap (λ (a : Log). view_for a.opening a.role (covered a (counts_of q m))) v
 
 -- ---- every pair is funded
 
-pub pair_pays : (l : Log) (s t p q : Standing) → IsKept l s t p q → (w : Pair) → BothPay l.opening l.role (covered l (counts_of w l))
+pub pair_pays : (l : Log) (s t p q : Standing) → IsKept l s t p q → (w : Pair)
+    → BothPay l.opening l.role (covered l (counts_of w l))
 pair_pays l s t p q k (pair.Current side.Own) = k.current_pays
 pair_pays l s t p q k (pair.Current side.Peer) = k.acknowledged_pays
 pair_pays l s t p q k pair.Signed = k.signed_pays
@@ -117,13 +144,16 @@ pair_pays l s t p q k pair.ToSign =
     let g = first_balance l.opening (other_role l.role) in
     let whole : take (length l.own) l.own ≡ l.own = take_all (length l.own) l.own (omega arith) in (
       subst (λ x. Pays f x (take l.current.peer l.received)) (sym whole) k.own_pays,
-      subst (Pays g (take l.current.peer l.received)) (sym whole) (pays_all g (take l.current.peer l.received) l.own l.current.own k.current_pays.1),
+      subst (Pays g (take l.current.peer l.received)) (sym whole)
+          (pays_all g (take l.current.peer l.received) l.own l.current.own k.current_pays.1),
     )
 pair_pays l s t p q k pair.ToAccept =
     let f = first_balance l.opening l.role in
     let g = first_balance l.opening (other_role l.role) in
-    let whole : take (length l.received) l.received ≡ l.received = take_all (length l.received) l.received (omega arith) in (
-      subst (Pays f (take l.acknowledged.own l.own)) (sym whole) (pays_all f (take l.acknowledged.own l.own) l.received l.acknowledged.peer k.acknowledged_pays.0),
+    let whole : take (length l.received) l.received ≡ l.received =
+    take_all (length l.received) l.received (omega arith) in (
+      subst (Pays f (take l.acknowledged.own l.own)) (sym whole)
+          (pays_all f (take l.acknowledged.own l.own) l.received l.acknowledged.peer k.acknowledged_pays.0),
       subst (λ x. Pays g x (take l.acknowledged.own l.own)) (sym whole) k.peer_pays,
     )
 
@@ -136,16 +166,22 @@ as_fundee o Funder c e h = absurd (cc)
 as_fundee o Fundee c e h = record { funder_pays = h.1; fundee_pays = h.0 }
 
 -- by the lists and counts that a call is handed
-pub funder_funded : (l : Log) (s t p q : Standing) (w : Pair) (n k : ℕ) (os ps : List Update) → IsKept l s t p q → l.role ≡ Funder → n ≡ (counts_of w l).own → k ≡ (counts_of w l).peer → os ≡ l.own → ps ≡ l.received → IsFunded l.opening (take n os) (take k ps)
+pub funder_funded : (l : Log) (s t p q : Standing) (w : Pair) (n k : ℕ) (os ps : List Update) → IsKept l s t p q
+    → l.role ≡ Funder → n ≡ (counts_of w l).own → k ≡ (counts_of w l).peer → os ≡ l.own → ps ≡ l.received
+    → IsFunded l.opening (take n os) (take k ps)
 funder_funded l s t p q w n k os ps h r en ek eo ep =
     subst (λ x. IsFunded l.opening x (take k ps)) (sym (ap (λ i. take i os) en ∙ ap (take (counts_of w l).own) eo))
-    (subst (IsFunded l.opening (take (counts_of w l).own l.own)) (sym (ap (λ i. take i ps) ek ∙ ap (take (counts_of w l).peer) ep))
+    (subst (IsFunded l.opening (take (counts_of w l).own l.own))
+    (sym (ap (λ i. take i ps) ek ∙ ap (take (counts_of w l).peer) ep))
     (as_funder l.opening l.role (covered l (counts_of w l)) r (pair_pays l s t p q h w)))
 
-pub fundee_funded : (l : Log) (s t p q : Standing) (w : Pair) (n k : ℕ) (os ps : List Update) → IsKept l s t p q → l.role ≡ Fundee → n ≡ (counts_of w l).own → k ≡ (counts_of w l).peer → os ≡ l.own → ps ≡ l.received → IsFunded l.opening (take k ps) (take n os)
+pub fundee_funded : (l : Log) (s t p q : Standing) (w : Pair) (n k : ℕ) (os ps : List Update) → IsKept l s t p q
+    → l.role ≡ Fundee → n ≡ (counts_of w l).own → k ≡ (counts_of w l).peer → os ≡ l.own → ps ≡ l.received
+    → IsFunded l.opening (take k ps) (take n os)
 fundee_funded l s t p q w n k os ps h r en ek eo ep =
     subst (λ x. IsFunded l.opening x (take n os)) (sym (ap (λ i. take i ps) ek ∙ ap (take (counts_of w l).peer) ep))
-    (subst (IsFunded l.opening (take (counts_of w l).peer l.received)) (sym (ap (λ i. take i os) en ∙ ap (take (counts_of w l).own) eo))
+    (subst (IsFunded l.opening (take (counts_of w l).peer l.received))
+    (sym (ap (λ i. take i os) en ∙ ap (take (counts_of w l).own) eo))
     (as_fundee l.opening l.role (covered l (counts_of w l)) r (pair_pays l s t p q h w)))
 
 -- a slice that ends within a list

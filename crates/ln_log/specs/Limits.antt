@@ -1,6 +1,7 @@
 -- When an update may be proposed (BOLT 2, "Adding an HTLC", "Removing an HTLC", "Updating Fees",
 -- "Requirements").
-use Rattle.std.specs.Prelude.{◌≡◌, ℕ, ◌+◌, ◌*◌, List, length, Option, Some, None, Result, Ok, Err, ◌||◌, ◌==◌, nat_le, nat_lt, nat_eq, Bool, if◌then◌else◌}
+use Rattle.std.specs.Prelude.{◌≡◌, ℕ, ◌+◌, ◌*◌, List, length, Option, Some, None, Result, Ok, Err, ◌||◌, ◌==◌, nat_le}
+use Rattle.std.specs.Prelude.{nat_lt, nat_eq, Bool, if◌then◌else◌}
 use Rattle.std.specs.Cmp.Lexicographic.{pointwise}
 use Rattle.ln_msgs.specs.declared.refusals.refusal.Refusal.{Refusal}
 use Rattle.ln_msgs.specs.declared.refusals.refusal.Refusal.TheVariants as refusal
@@ -44,7 +45,8 @@ removable id own held = if is_live (outcome id own) then add_with id held else N
 -- a preimage fulfils the HTLC whose payment hash is its SHA-256
 abbrev pub fulfil_fault : List ℕ → Option Add → Option Refusal
 fulfil_fault preimage None = Some refusal.NoSuchHtlc
-fulfil_fault preimage (Some a) = if pointwise nat_eq (payment_hash preimage) a.hash then None else Some refusal.PreimageWrong
+fulfil_fault preimage (Some a) = if pointwise nat_eq (payment_hash preimage) a.hash then None
+    else Some refusal.PreimageWrong
 
 abbrev pub fail_fault : Option Add → Option Refusal
 fail_fault None = Some refusal.NoSuchHtlc
@@ -71,7 +73,8 @@ fault_at l s side own held (update.Fee f) = fee_fault side
 -- by whole lists: behind own, where the side's next signature covers seen of the other side's updates, and
 -- the side holds held of them
 abbrev pub update_fault : Opening → Role → List Update → List Update → List Update → Update → Option Refusal
-update_fault o side own seen held u = fault_at (limits_of o side) (standing_of (first_balance o side) own seen) side own held u
+update_fault o side own seen held u = fault_at (limits_of o side)
+    (standing_of (first_balance o side) own seen) side own held u
 
 -- the update has the id that is due
 abbrev pub HasNextId : List Update → Update → Type 0

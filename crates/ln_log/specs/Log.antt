@@ -1,5 +1,6 @@
 -- What one side keeps: both lists, and of each how many updates each commitment covers.
-use Rattle.std.specs.Prelude.{◌≡◌, ℕ, ◌+◌, ◌-◌, ◌*◌, ◌≤◌, List, [], ◌∷◌, ◌++◌, length, take, drop, Bool, true, false, ◌&&◌, ◌==◌, nat_lt, not, Option, Some, None, is_none, option_map, if◌then◌else◌}
+use Rattle.std.specs.Prelude.{◌≡◌, ℕ, ◌+◌, ◌-◌, ◌*◌, ◌≤◌, List, [], ◌∷◌, ◌++◌, length, take, drop, Bool, true, false}
+use Rattle.std.specs.Prelude.{◌&&◌, ◌==◌, nat_lt, not, Option, Some, None, is_none, option_map, if◌then◌else◌}
 use Rattle.std.specs.List.{slice_get}
 use Rattle.ln_msgs.specs.declared.refusals.refusal.Refusal.{Refusal}
 use Rattle.ln_msgs.specs.declared.refusals.refusal.Refusal.TheVariants as refusal
@@ -44,7 +45,16 @@ abbrev pub none : Counts
 none = record { own = 0; peer = 0 }
 
 abbrev pub opened : Opening → Role → Log
-opened o x = record { opening = o; role = x; own = []; received = []; first = none; signed = none; acknowledged = none; current = none }
+opened o x = record {
+  opening = o;
+  role = x;
+  own = [];
+  received = [];
+  first = none;
+  signed = none;
+  acknowledged = none;
+  current = none;
+}
 
 -- the lists that counts stand for
 abbrev pub covered : Log → Counts → Covered
@@ -138,7 +148,8 @@ abbrev pub proposal_fault : Log → Update → Option Refusal
 proposal_fault l u =
     first_fault (if is_at_update_limit l.own then Some refusal.NumbersSpent else None)
     (first_fault (removal_fault l (removed u))
-    (first_fault (option_map peer_limit (update_fault l.opening l.role l.own (take l.current.peer l.received) (take l.acknowledged.peer l.received) u))
+    (first_fault (option_map peer_limit (update_fault l.opening l.role l.own (take l.current.peer l.received)
+    (take l.acknowledged.peer l.received) u))
     (length_fault u)))
 
 -- from the peer
@@ -146,7 +157,8 @@ abbrev pub taken_fault : Log → Update → Option Refusal
 taken_fault l u =
     first_fault (if is_at_update_limit l.received then Some refusal.OutOfPlace else None)
     (first_fault (id_fault l.received u)
-    (update_fault l.opening (other_role l.role) l.received (take l.acknowledged.own l.own) (take l.current.own l.own) u))
+    (update_fault l.opening (other_role l.role) l.received (take l.acknowledged.own l.own)
+    (take l.current.own l.own) u))
 
 -- ---- views
 
@@ -242,9 +254,12 @@ pub record IsKept (l : Log) (own own_signed peer peer_current : Standing) : Type
   pub own_amounts : AreWithin (1000 * l.opening.satoshis) l.own
   pub peer_amounts : AreWithin (1000 * l.opening.satoshis) l.received
   pub own_stands : own ≡ standing_of (first_balance l.opening l.role) l.own (take l.current.peer l.received)
-  pub own_signed_stands : own_signed ≡ standing_of (first_balance l.opening l.role) (take l.signed.own l.own) (take l.current.peer l.received)
-  pub peer_stands : peer ≡ standing_of (first_balance l.opening (other_role l.role)) l.received (take l.acknowledged.own l.own)
-  pub peer_current_stands : peer_current ≡ standing_of (first_balance l.opening (other_role l.role)) (take l.current.peer l.received) (take l.acknowledged.own l.own)
+  pub own_signed_stands : own_signed ≡ standing_of (first_balance l.opening l.role) (take l.signed.own l.own)
+      (take l.current.peer l.received)
+  pub peer_stands : peer ≡ standing_of (first_balance l.opening (other_role l.role)) l.received
+      (take l.acknowledged.own l.own)
+  pub peer_current_stands : peer_current ≡ standing_of (first_balance l.opening (other_role l.role))
+      (take l.current.peer l.received) (take l.acknowledged.own l.own)
   pub own_pays : Pays (first_balance l.opening l.role) l.own (take l.current.peer l.received)
   pub peer_pays : Pays (first_balance l.opening (other_role l.role)) l.received (take l.acknowledged.own l.own)
   pub signed_pays : BothPay l.opening l.role (covered l l.signed)

@@ -25,4 +25,5 @@ pub record IsFit (o : Opening) : Type 0 where
 
 -- the same, as a test
 abbrev pub is_fit : Opening → Bool
-is_fit o = nat_le 1 o.satoshis && nat_le o.satoshis 2100000000000000 && nat_le o.push (1000 * o.satoshis) && nat_le o.funder.accepted 483 && nat_le o.fundee.accepted 483
+is_fit o = nat_le 1 o.satoshis && nat_le o.satoshis 2100000000000000 && nat_le o.push (1000 * o.satoshis)
+    && nat_le o.funder.accepted 483 && nat_le o.fundee.accepted 483

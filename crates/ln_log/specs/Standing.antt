@@ -10,7 +10,12 @@ use Rattle.ln_log.specs.Updates.{removed, add_with, is_failed}
 
 -- an add is live, and its amount is gone from the balance
 abbrev pub with_add : Standing → Add → Standing
-with_add s a = record { next_id = s.next_id + 1; live = s.live + 1; in_flight = s.in_flight + a.amount; balance = s.balance - a.amount }
+with_add s a = record {
+  next_id = s.next_id + 1;
+  live = s.live + 1;
+  in_flight = s.in_flight + a.amount;
+  balance = s.balance - a.amount;
+}
 
 -- the HTLC that a side fulfils pays it
 abbrev pub paid_by : Standing → Option Add → Standing
@@ -28,7 +33,12 @@ with_own s seen (update.Fee f) = s
 -- its HTLC is removed, and what failed comes back
 abbrev pub without : Standing → Outcome → Option Add → Standing
 without s how None = s
-without s how (Some a) = record { next_id = s.next_id; live = s.live - 1; in_flight = s.in_flight - a.amount; balance = s.balance + (if is_failed how then a.amount else 0) }
+without s how (Some a) = record {
+  next_id = s.next_id;
+  live = s.live - 1;
+  in_flight = s.in_flight - a.amount;
+  balance = s.balance + (if is_failed how then a.amount else 0);
+}
 
 abbrev pub with_removal : Standing → List Update → Option Removal → Standing
 with_removal s own None = s

@@ -1,5 +1,6 @@
 -- Updates, and what becomes of an HTLC (BOLT 2, "Normal Operation"), over whole lists.
-use Rattle.std.specs.Prelude.{ℕ, List, [], ◌∷◌, map, count_by, sum_by, Bool, true, false, ◌==◌, Option, Some, None, if◌then◌else◌}
+use Rattle.std.specs.Prelude.{ℕ, List, [], ◌∷◌, map, count_by, sum_by, Bool, true, false, ◌==◌, Option, Some, None}
+use Rattle.std.specs.Prelude.{if◌then◌else◌}
 use Rattle.ln_log.specs.declared.update.Add.{Add}
 use Rattle.ln_log.specs.declared.update.Removal.{Removal}
 use Rattle.ln_log.specs.declared.update.Update.{Update}

@@ -1,6 +1,7 @@
 //! The updates of a channel as one side has them.
 
-ghost use Rattle.std.specs.Prelude.{◌≡◌, ◌≤◌, ◌+◌, ℕ, ◌↔◌, List, length, Option, Some, None, option_copied, if◌then◌else◌};
+ghost use Rattle.std.specs.Prelude.{◌≡◌, ◌≤◌, ◌+◌, ℕ, ◌↔◌, List, length, Option, Some, None, option_copied};
+ghost use Rattle.std.specs.Prelude.{if◌then◌else◌};
 ghost use Rattle.std.specs.List.{slice_get};
 ghost use Rattle.ln_log.specs.declared.update.Update.{Update};
 ghost use Rattle.ln_log.specs.Updates.{next_id};
@@ -106,14 +107,18 @@ impl Model for UpdateLog {
 }
 
 impl UpdateLog {
-    ghost use Rattle.std.specs.Prelude.{◌≡◌, ◌≤◌, ◌+◌, ◌*◌, ◌<◌, ◌^◌, length, IfSome, IfOk, OnOk, OnErr, IsTrue, option_copied};
+    ghost use Rattle.std.specs.Prelude.{◌≡◌, ◌≤◌, ◌+◌, ◌*◌, ◌<◌, ◌^◌, length, IfSome, IfOk, OnOk, OnErr, IsTrue};
+    ghost use Rattle.std.specs.Prelude.{option_copied};
     ghost use Rattle.std.specs.Result.{IsOkUnless};
     ghost use Rattle.ln_keys.specs.Role.{other_role};
     ghost use Rattle.ln_log.specs.Opening.{IsFit};
     ghost use Rattle.ln_log.specs.Updates.{next_id, offered, removed};
     ghost use Rattle.ln_log.specs.View.{AddsUp};
     ghost use Rattle.ln_log.specs.Limits.{HasNextId, Answers, is_at_update_limit};
-    ghost use Rattle.ln_log.specs.Log.{StandsFor, IsWithin, updates_of, first_of, update_at, unacknowledged, HasAmount, AreWithin, opened, after_propose, after_receive, after_sign, after_accept, after_learn, after_drop, sign_fault, removal_fault, proposal_fault, taken_fault, covered, counts_of, live_in, view_for};
+    ghost use Rattle.ln_log.specs.Log.{StandsFor, IsWithin, updates_of, first_of, update_at, unacknowledged, HasAmount};
+    ghost use Rattle.ln_log.specs.Log.{AreWithin, opened, after_propose, after_receive, after_sign, after_accept};
+    ghost use Rattle.ln_log.specs.Log.{after_learn, after_drop, sign_fault, removal_fault, proposal_fault, taken_fault};
+    ghost use Rattle.ln_log.specs.Log.{covered, counts_of, live_in, view_for};
 
     /// A channel end before any update. Takes no memory.
     pub fn new(alloc: Global, role: Role, opening: Opening) -> UpdateLog
@@ -361,7 +366,8 @@ impl UpdateLog {
     /// that this side doesn't hold as irrevocably committed.
     pub fn first(&self, side: Side) -> usize
         ensures is_the_first { (l : Log) → StandsFor self.now l → result ≡ first_of side l }
-        ensures committed { (l : Log) → StandsFor self.now l → (l.first.own ≤ l.current.own) × (l.first.peer ≤ l.acknowledged.peer) }
+        ensures committed { (l : Log) → StandsFor self.now l
+            → (l.first.own ≤ l.current.own) × (l.first.peer ≤ l.acknowledged.peer) }
     {
         // (nothing is gone: both lists are whole)
         let _ = self.own.len();
@@ -374,8 +380,10 @@ impl UpdateLog {
     /// The update of this number, counted from 0: none before `first` and behind the last one. An HTLC that it
     /// offers is of no more than 1000 * funding_satoshis, in millisatoshi.
     pub fn update(&self, side: Side, number: usize) -> Option<&Update>
-        ensures update { (l : Log) → StandsFor self.now l → option_copied result ≡ update_at (first_of side l) (updates_of side l) number }
-        ensures amount { (l : Log) → StandsFor self.now l → IfSome (option_copied result) (λ u. HasAmount (1000 * l.opening.satoshis) (offered u)) }
+        ensures update { (l : Log) → StandsFor self.now l
+            → option_copied result ≡ update_at (first_of side l) (updates_of side l) number }
+        ensures amount { (l : Log) → StandsFor self.now l
+            → IfSome (option_copied result) (λ u. HasAmount (1000 * l.opening.satoshis) (offered u)) }
         ensures funds { (l : Log) → StandsFor self.now l → l.opening.satoshis ≤ 2100000000000000 }
     {
         match side {
@@ -442,7 +450,8 @@ impl UpdateLog {
     /// What a commitment is worth. It always adds up to 1000 * funding_satoshis. 60 where there was no
     /// memory for its HTLCs.
     pub fn view(&self, alloc: Global, pair: Pair) -> Result<View, Refusal>
-        ensures view { (l : Log) → StandsFor self.now l → IfOk result (λ v. v ≡ view_for l.opening l.role (covered l (counts_of pair l))) }
+        ensures view { (l : Log) → StandsFor self.now l
+            → IfOk result (λ v. v ≡ view_for l.opening l.role (covered l (counts_of pair l))) }
         ensures adds_up { (l : Log) → StandsFor self.now l → IfOk result (λ v. AddsUp l.opening v) }
         ensures memory { IsOkUnless result Refusal.Memory }
     {
@@ -485,7 +494,8 @@ fn nth(updates: &[Update], number: usize) -> Option<&Update>
 
 // Whether an update offers no HTLC, or one of this id.
 fn has_id(update: &Update, id: u64) -> bool
-    ensures { (own : List Update) → id ≡ next_id own → id_fault own update.now ≡ (if result then None else Some Refusal.BadId) }
+    ensures { (own : List Update) → id ≡ next_id own
+        → id_fault own update.now ≡ (if result then None else Some Refusal.BadId) }
 {
     match update {
         Update::Add(add) => add.id == id,

@@ -1,12 +1,14 @@
 //! Plain, slow programs for the definitions, and the law that a view adds up.
 
-ghost use Rattle.std.specs.Prelude.{◌≡◌, ◌≤◌, ◌+◌, ◌*◌, ◌^◌, ◌++◌, ℕ, Bool, if◌then◌else◌, List, length, map, IfOk, OnOk, Result, option_copied};
+ghost use Rattle.std.specs.Prelude.{◌≡◌, ◌≤◌, ◌+◌, ◌*◌, ◌^◌, ◌++◌, ℕ, Bool, if◌then◌else◌, List, length, map, IfOk};
+ghost use Rattle.std.specs.Prelude.{OnOk, Result, option_copied};
 ghost use Rattle.std.specs.Result.{IsOkUnless};
 ghost use Rattle.ln_log.specs.declared.opening.Opening.{Opening};
 ghost use Rattle.ln_log.specs.declared.update.Update.{Update};
 ghost use Rattle.ln_log.specs.declared.outcome.Outcome.{Outcome};
 ghost use Rattle.ln_log.specs.Opening.{IsFit};
-ghost use Rattle.ln_log.specs.Updates.{offered, next_id, add_with, outcome, last_feerate, is_some, share, total, is_any, is_failed, is_fulfilled};
+ghost use Rattle.ln_log.specs.Updates.{offered, next_id, add_with, outcome, last_feerate, is_some, share, total};
+ghost use Rattle.ln_log.specs.Updates.{is_any, is_failed, is_fulfilled};
 ghost use Rattle.ln_log.specs.View.{live_of, live_adds, htlc_of, view_of, IsFunded, AddsUp};
 
 use crate::opening::Opening;
@@ -86,7 +88,8 @@ struct Share {
 }
 
 fn share_of(update: &Update, outcomes: &Outcomes) -> Share
-    ensures { (test : Outcome → Bool) → share test outcomes.now update.now ≡ (if test result.outcome then result.amount else 0) }
+    ensures { (test : Outcome → Bool) → share test outcomes.now update.now
+        ≡ (if test result.outcome then result.amount else 0) }
 {
     match add_of(update) {
         None => Share {
@@ -152,7 +155,8 @@ fn push_live(
     adds: &[Update],
     outcomes: &Outcomes,
 ) -> Result<(), Refusal>
-    ensures ok { OnOk result (htlcs.new.items ≡ htlcs.old.items ++ map (htlc_of owner) (live_adds adds.now outcomes.now)) }
+    ensures ok { OnOk result (htlcs.new.items ≡ htlcs.old.items
+        ++ map (htlc_of owner) (live_adds adds.now outcomes.now)) }
     ensures memory { IsOkUnless result Refusal.Memory }
 {
     for update in adds {
@@ -228,5 +232,6 @@ pub fn plain_view(
 /// Where no side spent more than it had, the balances and the live HTLCs of a view add up to
 /// 1000 * funding_satoshis.
 pub fn conservation()
-    ensures { (o : Opening) (funder fundee : List Update) → IsFit o → IsFunded o funder fundee → AddsUp o (view_of o funder fundee) }
+    ensures { (o : Opening) (funder fundee : List Update) → IsFit o → IsFunded o funder fundee
+        → AddsUp o (view_of o funder fundee) }
 {}

@@ -45,7 +45,8 @@ pub fn count_removals(updates: &[Update]) -> usize
 
 // Notes what one more update makes of the HTLCs of a table.
 fn note_removal(by_id: &mut Vec<Outcome>, update: &Update)
-    ensures { (before : List Update) → Tells by_id.old.items before → Tells by_id.new.items (before ++ update.now ∷ []) }
+    ensures { (before : List Update) → Tells by_id.old.items before
+        → Tells by_id.new.items (before ++ update.now ∷ []) }
 {
     match removal_of(update) {
         None => {}

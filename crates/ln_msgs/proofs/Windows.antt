@@ -1,7 +1,9 @@
 -- The bytes of a window after its start moves on, or after a read past its end.
-use Rattle.std.proofs.Common.{◌≡◌, ℕ, ◌+◌, ◌-◌, ◌≤◌, List, ◌++◌, length, take, drop, slice_range, Option, Some, None, sym, ap, ◌∙◌, arith, refl, append_assoc}
+use Rattle.std.proofs.Common.{◌≡◌, ℕ, ◌+◌, ◌-◌, ◌≤◌, List, ◌++◌, length, take, drop, slice_range, Option, Some, None}
+use Rattle.std.proofs.Common.{sym, ap, ◌∙◌, arith, refl, append_assoc}
 use Rattle.std.specs.Io.KnownBytes.{Keeps, Consumes, prepend_known}
-use Rattle.std.proofs.lemmas.List.{append-nil, take_at, drop_at, take-append-le, drop-append-le, drop-take, drop-drop, length-take-le, length-drop}
+use Rattle.std.proofs.lemmas.List.{append-nil, take_at, drop_at, take-append-le, drop-append-le, drop-take, drop-drop}
+use Rattle.std.proofs.lemmas.List.{length-take-le, length-drop}
 use borrow.Rule.Slice.PartMut.{put_mid, post_of}
 use lib.Seq.{take-add}
 
@@ -13,7 +15,8 @@ grown xs ys start end k n ordered within fits =
     let len : length held ≡ end - start = omega (arith, length-drop start (take end xs)) in
     let sum : end + n - start ≡ (end - start) + n = omega arith in
     let parts : end ≡ start + (end - start) = omega arith in
-    let same : held ≡ take (end - start) (drop start xs) = ap (λ j. drop start (take j xs)) parts ∙ drop-take start (end - start) xs in
+    let same : held ≡ take (end - start) (drop start xs) = ap (λ j. drop start (take j xs)) parts
+    ∙ drop-take start (end - start) xs in
     let after = ys ++ post_of end k xs in
     ap (take (end + n - start)) (drop-append-le start (take end xs) after (omega arith))
     ∙ ap (λ j. take j (held ++ after)) sum ∙ take-add (end - start) n (held ++ after)
@@ -23,7 +26,8 @@ pub kept : (xs ys : List ℕ) (start end k : ℕ) → start ≤ end → end ≤ 
     → slice_range (put_mid end k xs ys) start end ≡ slice_range xs start end
 kept xs ys start end k ordered within =
     let none : end ≡ end + 0 = omega arith in
-    ap (slice_range (put_mid end k xs ys) start) none ∙ grown xs ys start end k 0 ordered within (omega arith) ∙ append-nil _
+    ap (slice_range (put_mid end k xs ys) start) none
+    ∙ grown xs ys start end k 0 ordered within (omega arith) ∙ append-nil _
 
 pub consumed : (xs : List ℕ) (start end count : ℕ) → start + count ≤ end
     → slice_range xs (start + count) end ≡ drop count (slice_range xs start end)
@@ -33,12 +37,15 @@ consumed xs start end count inside =
     ∙ ap (take (end - (start + count))) (drop-drop count start xs))
 
 -- a read moves bytes from what is left to what is held
-pub Keeps-read : (a b : Option (List ℕ)) (held more new : List ℕ) → new ≡ held ++ more → Consumes a b more → Keeps (prepend_known held a) (prepend_known new b)
+pub Keeps-read : (a b : Option (List ℕ)) (held more new : List ℕ) → new ≡ held ++ more → Consumes a b more
+    → Keeps (prepend_known held a) (prepend_known new b)
 Keeps-read None b held more new e p = tt
 Keeps-read (Some x) None held more new e p = absurd p
-Keeps-read (Some x) (Some y) held more new e p = ap (λ l. l ++ y) e ∙ append_assoc held more y ∙ ap (λ l. held ++ l) (sym p)
+Keeps-read (Some x) (Some y) held more new e p = ap (λ l. l ++ y) e ∙ append_assoc held more y
+    ∙ ap (λ l. held ++ l) (sym p)
 
-pub Keeps-held : (a b : Option (List ℕ)) (held new : List ℕ) → new ≡ held → Keeps a b → Keeps (prepend_known held a) (prepend_known new b)
+pub Keeps-held : (a b : Option (List ℕ)) (held new : List ℕ) → new ≡ held → Keeps a b
+    → Keeps (prepend_known held a) (prepend_known new b)
 Keeps-held None b held new e p = tt
 Keeps-held (Some x) None held new e p = absurd p
 Keeps-held (Some x) (Some y) held new e p = ap (λ l. l ++ y) e ∙ ap (λ l. held ++ l) p

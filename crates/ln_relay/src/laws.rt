@@ -9,7 +9,8 @@ ghost use Rattle.ln_relay.specs.History.{nothing, CanRun, run, all_added};
 pub fn each_step_keeps_order<T>()
     ensures keeps_order { (room : ℕ) (step : Step T) (h : History T) → CanHappen room step h → IsInOrder h
         → IsInOrder (after step h) }
-    ensures keeps_within_the_room { (room : ℕ) (step : Step T) (h : History T) → CanHappen room step h → length h.queued ≤ room
+    ensures keeps_within_the_room { (room : ℕ) (step : Step T) (h : History T) → CanHappen room step h
+        → length h.queued ≤ room
         → length (after step h).queued ≤ room }
     ensures one_seat { (seat : Seat) (step : Step T) (h : History T) →
         own seat (after step h) ≡ own seat h ++ adds seat step }
@@ -19,7 +20,8 @@ pub fn each_step_keeps_order<T>()
 /// and what is queued are a merge of what was put, the queue stays within its room, and each seat's list is what
 /// its own steps put or took.
 pub fn in_every_schedule<T>()
-    ensures keeps_order { (room : ℕ) (steps : List (Step T)) → CanRun room steps nothing → IsInOrder (run steps nothing) }
+    ensures keeps_order { (room : ℕ) (steps : List (Step T)) → CanRun room steps nothing
+        → IsInOrder (run steps nothing) }
     ensures keeps_within_the_room { (room : ℕ) (steps : List (Step T)) → CanRun room steps nothing
         → length (run steps nothing).queued ≤ room }
     ensures each_seat { (seat : Seat) (steps : List (Step T)) → own seat (run steps nothing) ≡ all_added seat steps }

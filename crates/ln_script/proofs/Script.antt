@@ -1,5 +1,7 @@
 -- Reading a script line by line: what was read, and then what the rest asks for.
-use Rattle.std.proofs.Common.{◌≡◌, ℕ, suc, ◌+◌, ◌<◌, ◌≤◌, List, [], ◌∷◌, ◌++◌, length, get_or, take, drop, map, Option, Some, None, Result, Ok, Err, Bool, true, false, refl, sym, ap, ◌∙◌, arith, append_assoc, append-nil, add-one}
+use Rattle.std.proofs.Common.{◌≡◌, ℕ, suc, ◌+◌, ◌<◌, ◌≤◌, List, [], ◌∷◌, ◌++◌, length, get_or, take, drop, map, Option}
+use Rattle.std.proofs.Common.{Some, None, Result, Ok, Err, Bool, true, false, refl, sym, ap, ◌∙◌, arith, append_assoc}
+use Rattle.std.proofs.Common.{append-nil, add-one}
 use Rattle.std.specs.Borrow.{Bor}
 use Rattle.std.proofs.Math.Seq.{drop-cons}
 use Rattle.std.proofs.lemmas.List.{drop_all, get_or-map, length-map}
@@ -12,10 +14,12 @@ behind_nothing (Ok ts) = refl
 behind_nothing (Err n) = refl
 
 behind_both : (ss ts : List Step) (r : Result (List Step) ℕ) → behind ss (behind ts r) ≡ behind (ss ++ ts) r
-behind_both ss ts (Ok us) = ap (λ (vs : List Step). let it : Result (List Step) ℕ = Ok vs in it) (sym (append_assoc ss ts us))
+behind_both ss ts (Ok us) = ap (λ (vs : List Step). let it : Result (List Step) ℕ = Ok vs in
+    it) (sym (append_assoc ss ts us))
 behind_both ss ts (Err n) = refl
 
-one_line : (n : ℕ) (l : List ℕ) (ls : List (List ℕ)) → steps_from n (l ∷ ls) ≡ line_then n (line_at l) (steps_from (n + 1) ls)
+one_line : (n : ℕ) (l : List ℕ) (ls : List (List ℕ))
+    → steps_from n (l ∷ ls) ≡ line_then n (line_at l) (steps_from (n + 1) ls)
 unfolding steps_from
 one_line n l ls = refl
 
@@ -27,11 +31,15 @@ no_line n = refl
 cut_at : (xs : List (List ℕ)) (i : ℕ) → i < length xs → drop i xs ≡ get_or xs i [] ∷ drop (i + 1) xs
 cut_at xs i within = rw (add-one, drop-cons xs i [])
 
-front : (n : ℕ) (xs : List (List ℕ)) (i : ℕ) → i < length xs → steps_from n (drop i xs) ≡ line_then n (line_at (get_or xs i [])) (steps_from (n + 1) (drop (i + 1) xs))
-front n xs i within = ap (λ (ls : List (List ℕ)). steps_from n ls) (cut_at xs i within) ∙ one_line n (get_or xs i []) (drop (i + 1) xs)
+front : (n : ℕ) (xs : List (List ℕ)) (i : ℕ) → i < length xs
+    → steps_from n (drop i xs) ≡ line_then n (line_at (get_or xs i [])) (steps_from (n + 1) (drop (i + 1) xs))
+front n xs i within = ap (λ (ls : List (List ℕ)). steps_from n ls) (cut_at xs i within)
+    ∙ one_line n (get_or xs i []) (drop (i + 1) xs)
 
-pub first_lines : (ss : List Step) (xs ls : List (List ℕ)) → ss ≡ [] → xs ≡ ls → steps_from 1 ls ≡ behind ss (steps_from 1 xs)
-first_lines ss xs ls none same = ap (λ (it : List (List ℕ)). steps_from 1 it) (sym same) ∙ sym (behind_nothing (steps_from 1 xs)) ∙ ap (λ (it : List Step). behind it (steps_from 1 xs)) (sym none)
+pub first_lines : (ss : List Step) (xs ls : List (List ℕ)) → ss ≡ [] → xs ≡ ls
+    → steps_from 1 ls ≡ behind ss (steps_from 1 xs)
+first_lines ss xs ls none same = ap (λ (it : List (List ℕ)). steps_from 1 it) (sym same)
+    ∙ sym (behind_nothing (steps_from 1 xs)) ∙ ap (λ (it : List Step). behind it (steps_from 1 xs)) (sym none)
 
 -- ---- what becomes of a line
 
@@ -49,24 +57,37 @@ abbrev Reads : Result (List Step) ℕ → List Step → List (List ℕ) → ℕ 
 Reads r ss xs i = r ≡ behind ss (steps_from (i + 1) (drop i xs))
 
 -- the same with the line of this place told
-told : (r : Result (List Step) ℕ) (ss : List Step) (xs : List (List ℕ)) (i : ℕ) (l : List ℕ) (o : Option (List Step)) → Reads r ss xs i → i < length xs → l ≡ get_or xs i [] → line_at l ≡ o → r ≡ behind ss (line_then (i + 1) o (steps_from (i + 1 + 1) (drop (i + 1) xs)))
+told : (r : Result (List Step) ℕ) (ss : List Step) (xs : List (List ℕ)) (i : ℕ) (l : List ℕ) (o : Option (List Step))
+    → Reads r ss xs i → i < length xs → l ≡ get_or xs i [] → line_at l ≡ o
+    → r ≡ behind ss (line_then (i + 1) o (steps_from (i + 1 + 1) (drop (i + 1) xs)))
 told r ss xs i l o reads within is e =
-    reads ∙ ap (behind ss) (front (i + 1) xs i within ∙ ap (λ (x : Option (List Step)). line_then (i + 1) x (steps_from (i + 1 + 1) (drop (i + 1) xs))) (ap line_at (sym is) ∙ e))
+    reads ∙ ap (behind ss) (front (i + 1) xs i within
+    ∙ ap (λ (x : Option (List Step)). line_then (i + 1) x (steps_from (i + 1 + 1) (drop (i + 1) xs)))
+    (ap line_at (sym is) ∙ e))
 
-pub after_skipped : (r : Result (List Step) ℕ) (ss : List Step) (xs : List (List ℕ)) (i : ℕ) (l : List ℕ) → Reads r ss xs i → i < length xs → l ≡ get_or xs i [] → is_skipped l ≡ true → Reads r ss xs (i + 1)
+pub after_skipped : (r : Result (List Step) ℕ) (ss : List Step) (xs : List (List ℕ)) (i : ℕ) (l : List ℕ)
+    → Reads r ss xs i → i < length xs → l ≡ get_or xs i [] → is_skipped l ≡ true → Reads r ss xs (i + 1)
 after_skipped r ss xs i l reads within is e =
-    told r ss xs i l (Some []) reads within is (skipped l e) ∙ ap (behind ss) (behind_nothing (steps_from (i + 1 + 1) (drop (i + 1) xs)))
+    told r ss xs i l (Some []) reads within is (skipped l e)
+    ∙ ap (behind ss) (behind_nothing (steps_from (i + 1 + 1) (drop (i + 1) xs)))
 
-pub after_step : (r : Result (List Step) ℕ) (ss : List Step) (xs : List (List ℕ)) (i : ℕ) (l : List ℕ) (s : Step) → Reads r ss xs i → i < length xs → l ≡ get_or xs i [] → is_skipped l ≡ false → step_at (words l) ≡ Some s → Reads r (ss ++ s ∷ []) xs (i + 1)
+pub after_step : (r : Result (List Step) ℕ) (ss : List Step) (xs : List (List ℕ)) (i : ℕ) (l : List ℕ) (s : Step)
+    → Reads r ss xs i → i < length xs → l ≡ get_or xs i [] → is_skipped l ≡ false → step_at (words l) ≡ Some s
+    → Reads r (ss ++ s ∷ []) xs (i + 1)
 after_step r ss xs i l s reads within is e f =
-    told r ss xs i l (Some (s ∷ [])) reads within is (stepped l s e f) ∙ behind_both ss (s ∷ []) (steps_from (i + 1 + 1) (drop (i + 1) xs))
+    told r ss xs i l (Some (s ∷ [])) reads within is (stepped l s e f)
+    ∙ behind_both ss (s ∷ []) (steps_from (i + 1 + 1) (drop (i + 1) xs))
 
-pub at_bad : (r : Result (List Step) ℕ) (ss : List Step) (xs : List (List ℕ)) (i : ℕ) (l : List ℕ) → Reads r ss xs i → i < length xs → l ≡ get_or xs i [] → is_skipped l ≡ false → step_at (words l) ≡ None → r ≡ Err (i + 1)
+pub at_bad : (r : Result (List Step) ℕ) (ss : List Step) (xs : List (List ℕ)) (i : ℕ) (l : List ℕ) → Reads r ss xs i
+    → i < length xs → l ≡ get_or xs i [] → is_skipped l ≡ false → step_at (words l) ≡ None → r ≡ Err (i + 1)
 at_bad r ss xs i l reads within is e f = told r ss xs i l None reads within is (bad l e f)
 
-pub at_end : (r : Result (List Step) ℕ) (ss : List Step) (xs : List (List ℕ)) (i : ℕ) → Reads r ss xs i → length xs ≤ i → r ≡ Ok ss
+pub at_end : (r : Result (List Step) ℕ) (ss : List Step) (xs : List (List ℕ)) (i : ℕ) → Reads r ss xs i
+    → length xs ≤ i → r ≡ Ok ss
 at_end r ss xs i reads all =
-    reads ∙ ap (λ (ls : List (List ℕ)). behind ss (steps_from (i + 1) ls)) (drop_all i xs all) ∙ ap (behind ss) (no_line (i + 1)) ∙ ap (λ (vs : List Step). let it : Result (List Step) ℕ = Ok vs in it) (append-nil ss)
+    reads ∙ ap (λ (ls : List (List ℕ)). behind ss (steps_from (i + 1) ls)) (drop_all i xs all)
+    ∙ ap (behind ss) (no_line (i + 1)) ∙ ap (λ (vs : List Step). let it : Result (List Step) ℕ = Ok vs in
+    it) (append-nil ss)
 
 -- ---- the texts of pieces
 
@@ -76,5 +97,6 @@ as_many items i within = omega (arith, length-map items (λ (b : Bor (List ℕ))
 pub no_more : (items : List (Bor (List ℕ))) (i : ℕ) → length items ≤ i → length (texts items) ≤ i
 no_more items i all = omega (arith, length-map items (λ (b : Bor (List ℕ)). b.now))
 
-pub text_at : (items : List (Bor (List ℕ))) (i : ℕ) (d : Bor (List ℕ)) → i < length items → (get_or items i d).now ≡ get_or (texts items) i []
+pub text_at : (items : List (Bor (List ℕ))) (i : ℕ) (d : Bor (List ℕ)) → i < length items
+    → (get_or items i d).now ≡ get_or (texts items) i []
 text_at items i d within = sym (get_or-map (λ (b : Bor (List ℕ)). b.now) items i d [] within)

@@ -1,5 +1,7 @@
 -- Numbers of a script are what the library parses, where nothing stands in front of them.
-use Rattle.std.proofs.Common.{◌≡◌, ◌≢◌, ℕ, ◌^◌, ◌<◌, ◌≤◌, List, [], ◌∷◌, length, get_or, Option, Some, None, Result, Ok, Err, Bool, true, false, not, ◌==◌, ◌+◌, is_some, nat_lt, if◌then◌else◌, refl, sym, ap, subst, ◌∙◌, arith, inl, inr}
+use Rattle.std.proofs.Common.{◌≡◌, ◌≢◌, ℕ, ◌^◌, ◌<◌, ◌≤◌, List, [], ◌∷◌, length, get_or, Option, Some, None, Result, Ok}
+use Rattle.std.proofs.Common.{Err, Bool, true, false, not, ◌==◌, ◌+◌, is_some, nat_lt, if◌then◌else◌, refl, sym, ap}
+use Rattle.std.proofs.Common.{subst, ◌∙◌, arith, inl, inr}
 use Rattle.std.specs.Prelude.{◌&&◌}
 use Rattle.std.specs.Result.{result_ok}
 use Rattle.std.specs.Char.{is_ascii_digit}
@@ -46,7 +48,8 @@ decimal_plain (b ∷ c ∷ bs) e =
     let parts = and_parts (not (b == 48)) (all_ascii_digits (b ∷ c ∷ bs)) e in
     (no_plus b (c ∷ bs) parts.1, λ zero. absurd (no_zero b parts.0 zero))
 
-from_test : (w : List ℕ) → is_decimal w ≡ true → nat_lt (digits_value 10 w) (2 ^ 64) ≡ true → decimal_at w ≡ Some (digits_value 10 w)
+from_test : (w : List ℕ) → is_decimal w ≡ true → nat_lt (digits_value 10 w) (2 ^ 64) ≡ true
+    → decimal_at w ≡ Some (digits_value 10 w)
 unfolding decimal_at
 from_test w e f = rw (e, f) refl
 
@@ -75,10 +78,12 @@ below n e = grind (arith, nat_tests)
 below_true : (n : ℕ) → n < 2 ^ 64 → nat_lt n (2 ^ 64) ≡ true
 below_true n e = grind (arith, nat_tests)
 
-pub number_is : {E : Type 0} (w : List ℕ) (r : Result ℕ E) (o : Option ℕ) → o ≡ result_ok r → ParsesUnsigned 64 10 w r → IsPlain w → o ≡ decimal_at w
+pub number_is : {E : Type 0} (w : List ℕ) (r : Result ℕ E) (o : Option ℕ) → o ≡ result_ok r → ParsesUnsigned 64 10 w r
+    → IsPlain w → o ≡ decimal_at w
 number_is {E = E} w (Ok n) o is h plain =
     let p = parse_plain own {E = E} 64 w (Ok n) h plain.0 in
-    is ∙ ap (λ (x : ℕ). let y : Option ℕ = Some x in y) p.1 ∙ sym (from_test w (decimal_true w plain p.0.0 p.0.1) (below_true _ p.0.2))
+    is ∙ ap (λ (x : ℕ). let y : Option ℕ = Some x in y) p.1
+    ∙ sym (from_test w (decimal_true w plain p.0.0 p.0.1) (below_true _ p.0.2))
 number_is {E = E} w (Err e) o is h plain =
     let p = parse_plain own {E = E} 64 w (Err e) h plain.0 in
     is ∙ sym (elim (cases_Bool (is_decimal w)) as (λ _. decimal_at w ≡ None) [
@@ -108,6 +113,8 @@ pub no_first_x : (w : List ℕ) → position_or_len (λ b. b == 120) w ≡ lengt
 unfolding is_short_id
 no_first_x w e = and_right _ _ (none_twice w (after_first (λ b. b == 120) w) (nothing_after w e))
 
-pub no_second_x : (w rest : List ℕ) → rest ≡ after_first (λ b. b == 120) w → position_or_len (λ b. b == 120) rest ≡ length rest → is_short_id w ≡ false
+pub no_second_x : (w rest : List ℕ) → rest ≡ after_first (λ b. b == 120) w
+    → position_or_len (λ b. b == 120) rest ≡ length rest → is_short_id w ≡ false
 unfolding is_short_id
-no_second_x w rest is e = and_right _ _ (none_left w (after_first (λ b. b == 120) (after_first (λ b. b == 120) w)) (ap (λ (r : List ℕ). after_first (λ b. b == 120) r) (sym is) ∙ nothing_after rest e))
+no_second_x w rest is e = and_right _ _ (none_left w (after_first (λ b. b == 120) (after_first (λ b. b == 120) w))
+    (ap (λ (r : List ℕ). after_first (λ b. b == 120) r) (sym is) ∙ nothing_after rest e))

@@ -38,7 +38,12 @@ ready_step c x y satoshis push id =
       fundee ← node_at y
       funding ← decimal_at satoshis
       pushed ← decimal_at push
-      Some (step.Ready (record { channel = channel; funder = funder; fundee = fundee; opening = opening_of funding pushed })))
+      Some (step.Ready (record {
+        channel = channel;
+        funder = funder;
+        fundee = fundee;
+        opening = opening_of funding pushed;
+      })))
     else None
 
 unfoldable pub add_step : List ℕ → List ℕ → List ℕ → List ℕ → Option Step

@@ -52,7 +52,8 @@ pub fn print_report<W: Write>(
     world: &World,
     writer: &mut Counted<W>,
 ) -> Result<(), Refusal>
-    ensures { IfErr result (λ e. (e ≡ Memory) ⊎ ((e ≡ Io) × HasRisen (failures_of writer.old) (failures_of writer.new))) }
+    ensures { IfErr result (λ e. (e ≡ Memory) ⊎ ((e ≡ Io)
+        × HasRisen (failures_of writer.old) (failures_of writer.new))) }
 {
     let text = world.report(alloc)?;
     print_all(writer, text.as_str())

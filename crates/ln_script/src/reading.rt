@@ -41,7 +41,8 @@ fn is_empty_or_comment(line: &str) -> bool
 /// there is no memory.
 pub fn read_script(alloc: Global, text: &str) -> Result<Vec<Step>, Refusal>
     ensures read { IfOk result (λ steps. script_at text.now ≡ Ok steps.items) }
-    ensures refused { IfErr result (λ e. (e ≡ Memory) ⊎ ((line : ℕ) × (e ≡ BadScript line) × (script_at text.now ≡ Err line))) }
+    ensures refused { IfErr result (λ e. (e ≡ Memory)
+        ⊎ ((line : ℕ) × (e ≡ BadScript line) × (script_at text.now ≡ Err line))) }
 {
     let lines = lines_of(alloc, text)?;
     let mut steps = Vec::new(alloc);

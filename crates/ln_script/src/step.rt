@@ -2,7 +2,8 @@
 
 ghost use Rattle.std.specs.Prelude.{◌≡◌};
 ghost use Rattle.ln_script.specs.Word.{is_short_id as short_id_test};
-ghost use Rattle.ln_script.specs.Step.{texts, opening_of, offer_of, ready_step, add_step, sign_step, deliver_step, step_at};
+ghost use Rattle.ln_script.specs.Step.{texts, opening_of, offer_of, ready_step, add_step, sign_step, deliver_step};
+ghost use Rattle.ln_script.specs.Step.{step_at};
 
 use crate::word::{decimal_of, end_of, node_of, number_of};
 use ln_log::{Limits, Opening};

@@ -29,8 +29,8 @@ enum Move {
     /// The funder's end signs, or the fundee's.
     Out,
     Back,
-    /// The funder's end sends shutdown with a script of so many bytes, and so many times each takes what the other hands
-    /// out.
+    /// The funder's end sends shutdown with a script of so many bytes, and so many times each takes what the other
+    /// hands out.
     Shut(usize, u8),
     /// The fundee's end decides an event, or forgets a result.
     Decide,

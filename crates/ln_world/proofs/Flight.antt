@@ -1,5 +1,6 @@
 -- Messages in flight.
-use Rattle.std.proofs.Common.{◌≡◌, ℕ, ◌+◌, ◌≤◌, List, [], ◌∷◌, ◌++◌, length, take, Bool, true, false, Option, option_map, Some, None, cond, refl, sym, ap, ◌∙◌, subst, arith, append_assoc, append-nil}
+use Rattle.std.proofs.Common.{◌≡◌, ℕ, ◌+◌, ◌≤◌, List, [], ◌∷◌, ◌++◌, length, take, Bool, true, false, Option}
+use Rattle.std.proofs.Common.{option_map, Some, None, cond, refl, sym, ap, ◌∙◌, subst, arith, append_assoc, append-nil}
 use Rattle.ln_msgs.specs.declared.refusals.refusal.Refusal.{Refusal}
 use Rattle.ln_msgs.specs.declared.refusals.refusal.Refusal.TheVariants as refusal
 use Rattle.ln_keys.specs.declared.role.Role.{Role}
@@ -53,7 +54,8 @@ last_ack a all (message.Revoke k ∷ ms) = last_ack all all ms
 
 -- what is wrong with an add behind got, where the receiver's next signature covers seen of its own
 abbrev pub add_taken : Opening → Role → List Update → List Update → Add → Option Refusal
-add_taken o r got seen a = first_fault (cond (is_at_update_limit got) (Some refusal.OutOfPlace) None) (first_fault (id_fault got (update.Add a)) (update_fault o r got seen [] (update.Add a)))
+add_taken o r got seen a = first_fault (cond (is_at_update_limit got) (Some refusal.OutOfPlace) None)
+    (first_fault (id_fault got (update.Add a)) (update_fault o r got seen [] (update.Add a)))
 
 -- each add in flight will be within the limits
 abbrev pub AllFit : Opening → Role → List Update → List Message → Type 0
@@ -80,9 +82,11 @@ revs-append (message.Add a ∷ ms) ns = revs-append ms ns
 revs-append (message.Sign k ∷ ms) ns = revs-append ms ns
 revs-append (message.Revoke k ∷ ms) ns = omega (arith, revs-append ms ns)
 
-pub arrives-push : (s : Counts) (n a all : ℕ) (ms : List Message) (m : Message) → Arrives s n a all ms → Arrives s (n + length (ups ms)) (last_ack a all ms) all (m ∷ []) → Arrives s n a all (ms ++ m ∷ [])
+pub arrives-push : (s : Counts) (n a all : ℕ) (ms : List Message) (m : Message) → Arrives s n a all ms
+    → Arrives s (n + length (ups ms)) (last_ack a all ms) all (m ∷ []) → Arrives s n a all (ms ++ m ∷ [])
 arrives-push s n a all [] m h last = subst (λ k. Arrives s k a all (m ∷ [])) (omega arith) last
-arrives-push s n a all (message.Add new ∷ ms) m h last = arrives-push s (n + 1) a all ms m h (subst (λ k. Arrives s k (last_ack a all ms) all (m ∷ [])) (omega arith) last)
+arrives-push s n a all (message.Add new ∷ ms) m h last =
+    arrives-push s (n + 1) a all ms m h (subst (λ k. Arrives s k (last_ack a all ms) all (m ∷ [])) (omega arith) last)
 arrives-push s n a all (message.Sign k ∷ ms) m h last = (h.0, h.1, arrives-push s n a all ms m h.2 last)
 arrives-push s n a all (message.Revoke k ∷ ms) m h last = arrives-push s n all all ms m h last
 
@@ -94,7 +98,8 @@ arrives_unsigned s n a all (message.Sign k ∷ ms) e = absurd (omega (arith, e))
 arrives_unsigned s n a all (message.Revoke k ∷ ms) e = arrives_unsigned s n all all ms e
 
 -- with no revocation in flight it is all one what was signed for
-pub arrives_unrevoked : (s : Counts) (n a all more : ℕ) (ms : List Message) → revs ms ≡ 0 → Arrives s n a all ms → Arrives s n a more ms
+pub arrives_unrevoked : (s : Counts) (n a all more : ℕ) (ms : List Message) → revs ms ≡ 0
+    → Arrives s n a all ms → Arrives s n a more ms
 arrives_unrevoked s n a all more [] e h = tt
 arrives_unrevoked s n a all more (message.Add new ∷ ms) e h = arrives_unrevoked s (n + 1) a all more ms e h
 arrives_unrevoked s n a all more (message.Sign k ∷ ms) e h = (h.0, h.1, arrives_unrevoked s n a all more ms e h.2)
@@ -118,19 +123,26 @@ last_revoked a all (message.Add new ∷ ms) h = last_revoked a all ms h
 last_revoked a all (message.Sign k ∷ ms) h = last_revoked a all ms h
 last_revoked a all (message.Revoke k ∷ ms) h = last_same all ms
 
-pub fits-push : (o : Opening) (r : Role) (got : List Update) (ms : List Message) (a : Add) → AllFit o r got ms → add_taken o r (got ++ ups ms) [] a ≡ None → AllFit o r got (ms ++ message.Add a ∷ [])
+pub fits-push : (o : Opening) (r : Role) (got : List Update) (ms : List Message) (a : Add) → AllFit o r got ms
+    → add_taken o r (got ++ ups ms) [] a ≡ None → AllFit o r got (ms ++ message.Add a ∷ [])
 fits-push o r got [] a h last = (subst (λ us. add_taken o r us [] a ≡ None) (append-nil got) last, tt)
-fits-push o r got (message.Add b ∷ ms) a h last = (h.0, fits-push o r (got ++ update.Add b ∷ []) ms a h.1 (subst (λ us. add_taken o r us [] a ≡ None) (sym (append_assoc got (update.Add b ∷ []) (ups ms))) last))
+fits-push o r got (message.Add b ∷ ms) a h last = (
+  h.0,
+  fits-push o r (got ++ update.Add b ∷ []) ms a h.1
+      (subst (λ us. add_taken o r us [] a ≡ None) (sym (append_assoc got (update.Add b ∷ []) (ups ms))) last),
+)
 fits-push o r got (message.Sign k ∷ ms) a h last = fits-push o r got ms a h last
 fits-push o r got (message.Revoke k ∷ ms) a h last = fits-push o r got ms a h last
 
-pub fits-sign : (o : Opening) (r : Role) (got : List Update) (ms : List Message) (n : ℕ) → AllFit o r got ms → AllFit o r got (ms ++ message.Sign n ∷ [])
+pub fits-sign : (o : Opening) (r : Role) (got : List Update) (ms : List Message) (n : ℕ) → AllFit o r got ms
+    → AllFit o r got (ms ++ message.Sign n ∷ [])
 fits-sign o r got [] n h = tt
 fits-sign o r got (message.Add b ∷ ms) n h = (h.0, fits-sign o r (got ++ update.Add b ∷ []) ms n h.1)
 fits-sign o r got (message.Sign k ∷ ms) n h = fits-sign o r got ms n h
 fits-sign o r got (message.Revoke k ∷ ms) n h = fits-sign o r got ms n h
 
-pub fits-revoke : (o : Opening) (r : Role) (got : List Update) (ms : List Message) (n : ℕ) → AllFit o r got ms → AllFit o r got (ms ++ message.Revoke n ∷ [])
+pub fits-revoke : (o : Opening) (r : Role) (got : List Update) (ms : List Message) (n : ℕ) → AllFit o r got ms
+    → AllFit o r got (ms ++ message.Revoke n ∷ [])
 fits-revoke o r got [] n h = tt
 fits-revoke o r got (message.Add b ∷ ms) n h = (h.0, fits-revoke o r (got ++ update.Add b ∷ []) ms n h.1)
 fits-revoke o r got (message.Sign k ∷ ms) n h = fits-revoke o r got ms n h
@@ -138,9 +150,12 @@ fits-revoke o r got (message.Revoke k ∷ ms) n h = fits-revoke o r got ms n h
 
 -- ---- what the receiver tests is what the sender tested
 
-pub taken_same : (o : Opening) (r : Role) (got p q : List Update) (a : Add) → AreAdds got → AreAdds p → AreAdds q → add_taken o r got p a ≡ add_taken o r got q a
+pub taken_same : (o : Opening) (r : Role) (got p q : List Update) (a : Add) → AreAdds got → AreAdds p → AreAdds q
+    → add_taken o r got p a ≡ add_taken o r got q a
 taken_same o r got p q a hg hp hq =
-    ap (λ s. first_fault (cond (is_at_update_limit got) (Some refusal.OutOfPlace) None) (first_fault (id_fault got (update.Add a)) (add_fault (limits_of o r) s a))) (standing_same (first_balance o r) got p q hg hp hq)
+    ap (λ s. first_fault (cond (is_at_update_limit got) (Some refusal.OutOfPlace) None)
+    (first_fault (id_fault got (update.Add a)) (add_fault (limits_of o r) s a)))
+    (standing_same (first_balance o r) got p q hg hp hq)
 
 first_none : (f g : Option Refusal) → first_fault f g ≡ None → (f ≡ None) × (g ≡ None)
 first_none None g e = (refl, e)
@@ -155,7 +170,9 @@ unless true r e = absurd (cc)
 unless false r e = refl
 
 -- where nothing keeps a side from an add, it has room for it, and the add is within the limits
-pub allowed : (l : Log) (a : Add) → proposal_fault l (update.Add a) ≡ None → (is_at_update_limit l.own ≡ false) × (update_fault l.opening l.role l.own (take l.current.peer l.received) [] (update.Add a) ≡ None)
+pub allowed : (l : Log) (a : Add) → proposal_fault l (update.Add a) ≡ None
+    → (is_at_update_limit l.own ≡ false) × (update_fault l.opening l.role l.own (take l.current.peer l.received)
+    [] (update.Add a) ≡ None)
 allowed l a e =
     let limits = update_fault l.opening l.role l.own (take l.current.peer l.received) [] (update.Add a) in
     let spent : Option Refusal = cond (is_at_update_limit l.own) (Some refusal.NumbersSpent) None in
@@ -164,14 +181,20 @@ allowed l a e =
     (unless (is_at_update_limit l.own) refusal.NumbersSpent p.0, unmapped limits q.0)
 
 -- and where it has, and the add is, nothing does
-pub unhindered : (l : Log) (a : Add) → is_at_update_limit l.own ≡ false → update_fault l.opening l.role l.own (take l.current.peer l.received) [] (update.Add a) ≡ None → proposal_fault l (update.Add a) ≡ None
+pub unhindered : (l : Log) (a : Add) → is_at_update_limit l.own ≡ false
+    → update_fault l.opening l.role l.own (take l.current.peer l.received) [] (update.Add a) ≡ None
+    → proposal_fault l (update.Add a) ≡ None
 unhindered l a room e =
     let limits = update_fault l.opening l.role l.own (take l.current.peer l.received) [] (update.Add a) in
-    ap (λ b. first_fault (cond b (Some refusal.NumbersSpent) None) (first_fault (option_map peer_limit limits) None)) room ∙ ap (λ f. first_fault (option_map peer_limit f) None) e
+    ap (λ b. first_fault (cond b (Some refusal.NumbersSpent) None) (first_fault (option_map peer_limit limits) None))
+    room ∙ ap (λ f. first_fault (option_map peer_limit f) None) e
 
-pub taken_none : (o : Opening) (r : Role) (own peer : List Update) (a : Add) → a.id ≡ next_id own → is_at_update_limit own ≡ false → update_fault o r own peer [] (update.Add a) ≡ None → add_taken o r own peer a ≡ None
+pub taken_none : (o : Opening) (r : Role) (own peer : List Update) (a : Add) → a.id ≡ next_id own
+    → is_at_update_limit own ≡ false → update_fault o r own peer [] (update.Add a) ≡ None
+    → add_taken o r own peer a ≡ None
 taken_none o r own peer a next room e =
     let limits = update_fault o r own peer [] (update.Add a) in
-    ap (λ b. first_fault (cond b (Some refusal.OutOfPlace) None) (first_fault (id_fault own (update.Add a)) limits)) room
+    ap (λ b. first_fault (cond b (Some refusal.OutOfPlace) None) (first_fault (id_fault own (update.Add a)) limits))
+    room
     ∙ ap (λ b. first_fault (cond b None (Some refusal.BadId)) limits) (eq-eqb a.id (next_id own) next)
     ∙ e

@@ -8,7 +8,8 @@ use Rattle.ln_log.specs.declared.update.Add.{Add}
 use Rattle.ln_log.specs.declared.update.Update.TheVariants as update
 use Rattle.ln_log.specs.Updates.{next_id}
 use Rattle.ln_log.specs.Machine.{Party}
-use Rattle.ln_log.specs.Log.{Log, party_of, opened, after_propose, after_receive, after_sign, after_accept, after_learn, sign_fault, proposal_fault, taken_fault}
+use Rattle.ln_log.specs.Log.{Log, party_of, opened, after_propose, after_receive, after_sign, after_accept, after_learn}
+use Rattle.ln_log.specs.Log.{sign_fault, proposal_fault, taken_fault}
 use Rattle.ln_world.specs.declared.answer.Answer.{Answer}
 use Rattle.ln_world.specs.declared.answer.Answer.TheVariants.{Done, Idle, Refused}
 use Rattle.ln_world.specs.declared.message.Message.{Message}
@@ -47,7 +48,14 @@ sends m b = record {
 
 -- the add with the next id, which forwards nothing
 abbrev pub add_of : Offer → Log → Add
-add_of o l = record { id = next_id l.own; amount = o.amount; hash = o.hash; expiry = o.expiry; onion = o.onion; origin = None }
+add_of o l = record {
+  id = next_id l.own;
+  amount = o.amount;
+  hash = o.hash;
+  expiry = o.expiry;
+  onion = o.onion;
+  origin = None;
+}
 
 -- what keeps x from offering it
 abbrev pub offer_fault : Offer → Log → Option Refusal
@@ -56,13 +64,15 @@ offer_fault o l = proposal_fault l (update.Add (add_of o l))
 abbrev pub offers : Offer → Both → Both
 offers o b =
     if is_none (offer_fault o b.x.log)
-    then sends (message.Add (add_of o b.x.log)) (record { x = record b.x { log = after_propose (update.Add (add_of o b.x.log)) b.x.log }; y = b.y })
+    then sends (message.Add (add_of o b.x.log)) (record
+    { x = record b.x { log = after_propose (update.Add (add_of o b.x.log)) b.x.log }; y = b.y })
     else b
 
 abbrev pub signs_all : Both → Both
 signs_all b =
     if is_none (sign_fault b.x.log)
-    then sends (message.Sign (b.x.signatures + 1)) (record { x = record b.x { log = after_sign b.x.log; signatures = b.x.signatures + 1 }; y = b.y })
+    then sends (message.Sign (b.x.signatures + 1))
+    (record { x = record b.x { log = after_sign b.x.log; signatures = b.x.signatures + 1 }; y = b.y })
     else b
 
 -- ---- what x takes
@@ -74,7 +84,8 @@ takes (message.Add a) b =
     if is_none (taken_fault b.x.log (update.Add a))
     then record { x = record b.x { log = after_receive (update.Add a) b.x.log }; y = b.y }
     else b
-takes (message.Sign n) b = sends (message.Revoke b.x.revocations) (record { x = record b.x { log = after_accept b.x.log; revocations = b.x.revocations + 1 }; y = b.y })
+takes (message.Sign n) b = sends (message.Revoke b.x.revocations)
+    (record { x = record b.x { log = after_accept b.x.log; revocations = b.x.revocations + 1 }; y = b.y })
 takes (message.Revoke n) b = record { x = record b.x { log = after_learn b.x.log }; y = b.y }
 
 abbrev pub delivers : List Message → Both → Both

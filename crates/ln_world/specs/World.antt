@@ -1,5 +1,6 @@
 -- A world of one channel, and which steps of the abstract machine its steps are.
-use Rattle.std.specs.Prelude.{◌↔◌, ◌≡◌, List, [], ◌∷◌, ◌++◌, Bool, false, not, ◌&&◌, ◌==◌, Option, Some, None, is_none, if◌then◌else◌}
+use Rattle.std.specs.Prelude.{◌↔◌, ◌≡◌, List, [], ◌∷◌, ◌++◌, Bool, false, not, ◌&&◌, ◌==◌, Option, Some, None, is_none}
+use Rattle.std.specs.Prelude.{if◌then◌else◌}
 use Rattle.ln_log.specs.Log.{Log, sign_fault, taken_fault}
 use Rattle.ln_keys.specs.declared.role.Role.{Role}
 use Rattle.ln_keys.specs.declared.role.Role.TheVariants.{Funder, Fundee}
@@ -9,7 +10,8 @@ use Rattle.ln_log.specs.declared.update.Update.{Update}
 use Rattle.ln_log.specs.Opening.{is_fit}
 use Rattle.ln_log.specs.Limits.{is_at_update_limit}
 use Rattle.ln_log.specs.Updates.{as_sent}
-use Rattle.ln_log.specs.Machine.{Machine, Party, party, held, MayPropose, MaySign, IsSettled, Move, Open, Propose, Sign, Accept, Learn, Headline}
+use Rattle.ln_log.specs.Machine.{Machine, Party, party, held, MayPropose, MaySign, IsSettled, Move, Open, Propose, Sign}
+use Rattle.ln_log.specs.Machine.{Accept, Learn, Headline}
 use Rattle.ln_world.specs.declared.message.Message.{Message}
 use Rattle.ln_world.specs.declared.message.Message.TheVariants as message
 use Rattle.ln_world.specs.declared.step.Node.{Node}
@@ -58,7 +60,13 @@ abbrev pub may_open : Ready → Bool
 may_open r = not (same_node r.funder r.fundee) && is_fit r.opening
 
 abbrev pub opened_by : Ready → Channel
-opened_by r = record { number = r.channel; funder_node = r.funder; fundee_node = r.fundee; funder = fresh_end r.opening Funder; fundee = fresh_end r.opening Fundee }
+opened_by r = record {
+  number = r.channel;
+  funder_node = r.funder;
+  fundee_node = r.fundee;
+  funder = fresh_end r.opening Funder;
+  fundee = fresh_end r.opening Fundee;
+}
 
 abbrev pub happens : Step → Option Channel → Option Channel
 happens (step.Ready r) None = if may_open r then Some (opened_by r) else None
@@ -73,7 +81,11 @@ run (s ∷ ss) c = run ss (happens s c)
 -- ---- the machine that a world stands for
 
 abbrev pub machine_of_channel : Channel → Machine
-machine_of_channel c = record { opening = c.funder.log.opening; funder = open_party c.funder.log; fundee = open_party c.fundee.log }
+machine_of_channel c = record {
+  opening = c.funder.log.opening;
+  funder = open_party c.funder.log;
+  fundee = open_party c.fundee.log;
+}
 
 abbrev pub machine_of : Option Channel → Option Machine
 machine_of None = None
@@ -129,7 +141,9 @@ MayOffer o x u p = MayPropose o x u p × (is_at_update_limit p.own ≡ false)
 -- a side is kept from offering an HTLC exactly where it may not
 abbrev pub OffersExactly : Option Channel → Type 0
 OffersExactly None = Unit {0}
-OffersExactly (Some c) = (x : Role) (o : Offer) → (offer_fault o (end_of x c).log ≡ None) ↔ MayOffer c.funder.log.opening x (as_sent (update.Add (add_of o (end_of x c).log))) (party x (machine_of_channel c))
+OffersExactly (Some c) = (x : Role) (o : Offer) → (offer_fault o (end_of x c).log ≡ None)
+    ↔ MayOffer c.funder.log.opening x (as_sent (update.Add (add_of o (end_of x c).log)))
+    (party x (machine_of_channel c))
 
 -- an add in front of an end is within its limits
 abbrev pub TakesFront : Log → List Message → Type 0
@@ -157,4 +171,5 @@ pub record HoldsAll (x y : Party) : Type 0 where
 
 abbrev pub Agrees : Option Channel → Type 0
 Agrees None = Unit {0}
-Agrees (Some c) = IsAtRest c → HoldsAll (open_party c.funder.log) (open_party c.fundee.log) × HoldsAll (open_party c.fundee.log) (open_party c.funder.log)
+Agrees (Some c) = IsAtRest c → HoldsAll (open_party c.funder.log) (open_party c.fundee.log)
+    × HoldsAll (open_party c.fundee.log) (open_party c.funder.log)

@@ -3,7 +3,8 @@
 ghost use Rattle.std.specs.Prelude.{◌≡◌, OnOk, IfOk};
 ghost use Rattle.ln_log.specs.Log.{taken_fault};
 ghost use Rattle.std.specs.Result.{IsOkUnless};
-ghost use Rattle.ln_world.specs.Ends.{EndState, Both, sends, offers, signs_all, takes, delivers, acts, answer_by, answer_to};
+ghost use Rattle.ln_world.specs.Ends.{EndState, Both, sends, offers, signs_all, takes, delivers, acts, answer_by};
+ghost use Rattle.ln_world.specs.Ends.{answer_to};
 
 use crate::answer::Answer;
 use crate::message::Message;
@@ -31,7 +32,13 @@ impl Model for Endpoint {
 
     ghost Value = { EndState };
 
-    ghost view = { λ e. record { log = e.log; said = e.said.items; inbox = e.inbox.items; signatures = e.signatures; revocations = e.revocations } };
+    ghost view = { λ e. record {
+      log = e.log;
+      said = e.said.items;
+      inbox = e.inbox.items;
+      signatures = e.signatures;
+      revocations = e.revocations;
+    } };
 
     ghost invariant = { λ e. e.signatures + e.revocations ≤ length e.said.items };
 }
@@ -122,7 +129,8 @@ fn sign(x: &mut Endpoint, y: &mut Endpoint) -> Result<Answer, Refusal>
 }
 
 fn take_add(x: &mut Endpoint, y: &Endpoint, add: Add) -> Result<Answer, Refusal>
-    ensures ok { OnOk result (record { x = x.new; y = y.now } ≡ takes (Message.Add add) (record { x = x.old; y = y.now })) }
+    ensures ok { OnOk result (record { x = x.new; y = y.now }
+        ≡ takes (Message.Add add) (record { x = x.old; y = y.now })) }
     ensures answer { IfOk result (λ a. a ≡ answer_by (taken_fault x.old.log (Update.Add add))) }
     ensures memory { IsOkUnless result Refusal.Memory }
 {
@@ -136,7 +144,8 @@ fn take_add(x: &mut Endpoint, y: &Endpoint, add: Add) -> Result<Answer, Refusal>
 }
 
 fn take_signature(x: &mut Endpoint, y: &mut Endpoint, number: u64) -> Result<Answer, Refusal>
-    ensures ok { OnOk result (record { x = x.new; y = y.new } ≡ takes (Message.Sign number) (record { x = x.old; y = y.old })) }
+    ensures ok { OnOk result (record { x = x.new; y = y.new }
+        ≡ takes (Message.Sign number) (record { x = x.old; y = y.old })) }
     ensures answer { IfOk result (λ a. a ≡ Answer.Done) }
     ensures memory { IsOkUnless result Refusal.Memory }
 {
@@ -149,7 +158,8 @@ fn take_signature(x: &mut Endpoint, y: &mut Endpoint, number: u64) -> Result<Ans
 }
 
 fn deliver(x: &mut Endpoint, y: &mut Endpoint) -> Result<Answer, Refusal>
-    ensures ok { OnOk result (record { x = x.new; y = y.new } ≡ delivers x.old.inbox (record { x = x.old; y = y.old })) }
+    ensures ok { OnOk result (record { x = x.new; y = y.new }
+        ≡ delivers x.old.inbox (record { x = x.old; y = y.old })) }
     ensures answer { IfOk result (λ a. a ≡ answer_to Act.Deliver x.old) }
     ensures memory { IsOkUnless result Refusal.Memory }
 {

@@ -2,7 +2,8 @@
 
 ghost use Rattle.std.specs.Prelude.{◌≡◌, List, Option, None};
 ghost use Rattle.ln_world.specs.declared.step.Step.{Step};
-ghost use Rattle.ln_world.specs.World.{run, machine_of, moves, Promises, SignsExactly, OffersExactly, NoneRefused, Agrees};
+ghost use Rattle.ln_world.specs.World.{run, machine_of, moves, Promises, SignsExactly, OffersExactly, NoneRefused};
+ghost use Rattle.ln_world.specs.World.{Agrees};
 ghost use Rattle.ln_log.specs.Machine.{IsRun};
 
 use crate::channel::Channel;

@@ -28,17 +28,21 @@ is_memory faults.Io = inl (λ e. absurd cc)
 pub not_hex : (text : List ℕ) (e : FromHexError) → decode_of text ≡ Err e → decoded text ≡ Err NotHex
 not_hex text e is = ap spelled_text is
 
-pub is_shown : (text bytes : List ℕ) (h : Heard) → decode_of text ≡ Ok bytes → message_at bytes ≡ Ok h → decoded text ≡ Ok (heard_text h)
+pub is_shown : (text bytes : List ℕ) (h : Heard) → decode_of text ≡ Ok bytes → message_at bytes ≡ Ok h
+    → decoded text ≡ Ok (heard_text h)
 is_shown text bytes h spelled is = ap spelled_text spelled ∙ ap read_text is
 
-refused_by : (text bytes : List ℕ) (f : Fault) → decode_of text ≡ Ok bytes → message_at bytes ≡ Err f → decoded text ≡ Err (Refused (refusal_of f))
+refused_by : (text bytes : List ℕ) (f : Fault) → decode_of text ≡ Ok bytes → message_at bytes ≡ Err f
+    → decoded text ≡ Err (Refused (refusal_of f))
 refused_by text bytes f spelled is = ap spelled_text spelled ∙ ap read_text is
 
 -- the refusal is that of the first fault, unless memory ran out
-pub is_refused : (text bytes : List ℕ) (f : Fault) (r : Refusal) → decode_of text ≡ Ok bytes → (f ≢ faults.Memory → message_at bytes ≡ Err f) → r ≡ refusal_of f
+pub is_refused : (text bytes : List ℕ) (f : Fault) (r : Refusal) → decode_of text ≡ Ok bytes
+    → (f ≢ faults.Memory → message_at bytes ≡ Err f) → r ≡ refusal_of f
     → (Refused r ≡ Refused Memory) ⊎ (decoded text ≡ Err (Refused r))
 is_refused text bytes f r spelled gives is =
     elim (is_memory f) [
-      | inl ours ↦ inr (refused_by text bytes f spelled (gives ours) ∙ ap (λ (x : Refusal). let it : Result (List ℕ) Failure = Err (Refused x) in it) (sym is))
+      | inl ours ↦ inr (refused_by text bytes f spelled (gives ours)
+          ∙ ap (λ (x : Refusal). let it : Result (List ℕ) Failure = Err (Refused x) in it) (sym is))
       | inr memory ↦ inl (ap Refused (is ∙ ap refusal_of memory))
     ]

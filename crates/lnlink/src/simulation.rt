@@ -18,8 +18,11 @@ use std::io::Write;
 /// Errors: 64 with the number of the first bad line; 60 where there is no memory (after either nothing was written);
 /// 63 where a call of the writer fails.
 pub fn simulate<W: Write>(alloc: Global, text: &str, writer: &mut Counted<W>) -> Result<(), Failure>
-    ensures bad_line { IfErr result (λ f. (line : ℕ) → f ≡ Failure.Refused (BadScript line) → script_at text.now ≡ Err line) }
-    ensures refused { IfErr result (λ f. (f ≡ Failure.Refused Memory) ⊎ ((line : ℕ) × (f ≡ Failure.Refused (BadScript line))) ⊎ ((f ≡ Failure.Refused Io) × HasRisen (failures_of writer.old) (failures_of writer.new))) }
+    ensures bad_line { IfErr result (λ f. (line : ℕ) → f ≡ Failure.Refused (BadScript line)
+        → script_at text.now ≡ Err line) }
+    ensures refused { IfErr result (λ f. (f ≡ Failure.Refused Memory)
+        ⊎ ((line : ℕ) × (f ≡ Failure.Refused (BadScript line)))
+        ⊎ ((f ≡ Failure.Refused Io) × HasRisen (failures_of writer.old) (failures_of writer.new))) }
 {
     let steps = read_script(alloc, text)?;
     let world = World::run(alloc, steps.as_slice())?;

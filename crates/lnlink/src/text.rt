@@ -6,7 +6,8 @@ ghost use Rattle.std.specs.Fmt.{decimal};
 ghost use Rattle.ln_msgs.specs.Messages.Items.{value_of};
 ghost use Rattle.ln_msgs.specs.Messages.Typed.{wire, heard};
 ghost use Rattle.ln_msgs.specs.declared.refusals.refusal.Refusal.TheVariants.{Memory};
-ghost use Rattle.lnlink.specs.Text.{line, bytes_text, signature_line, field_text, record_text, type_line, known_text, heard_text, decoded};
+ghost use Rattle.lnlink.specs.Text.{line, bytes_text, signature_line, field_text, record_text, type_line, known_text};
+ghost use Rattle.lnlink.specs.Text.{heard_text, decoded};
 ghost use Rattle.lnlink.specs.Shown.{shown_field};
 
 use crate::failure::Failure;
@@ -26,7 +27,8 @@ use std::fmt::Write;
 /// A text that isn't hexadecimal, or has an odd count of digits, is `NotHex`. A message that can't be read is
 /// refused by its first fault (`ln_msgs::decode`), 60 where there is no memory.
 pub fn decode_text(alloc: Global, text: &str) -> Result<String, Failure>
-    ensures { MatchResult result (λ s. decoded text.now ≡ Ok (string_bytes s)) (λ e. (e ≡ Failure.Refused Memory) ⊎ (decoded text.now ≡ Err e)) }
+    ensures { MatchResult result (λ s. decoded text.now ≡ Ok (string_bytes s)) (λ e. (e ≡ Failure.Refused Memory)
+        ⊎ (decoded text.now ≡ Err e)) }
 {
     let bytes = match hex::decode(alloc, text) {
         Ok(bytes) => bytes,

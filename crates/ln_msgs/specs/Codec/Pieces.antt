@@ -41,7 +41,8 @@ unfoldable pub pieced_at : List Piece → Form → ℕ → List ℕ → Result H
 pieced_at pieces form typ bytes = do
   values ← pieces_at pieces bytes
   records ← stream_at form.known_even values.1
-  if have_lengths form.lengths records then Ok (Known (record { typ = typ; values = values.0; records = records })) else Err FieldLength
+  if have_lengths form.lengths records then Ok (Known (record { typ = typ; values = values.0; records = records }))
+      else Err FieldLength
 
 -- chain_hash, temporary_id, funding_satoshis, push_msat
 abbrev pub funding_kinds : List Kind

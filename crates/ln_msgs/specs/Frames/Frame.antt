@@ -20,7 +20,8 @@ HasNoFrame bytes = (message rest : List ℕ) → HasFrame bytes message rest →
 -- the bytes are whole frames of messages that are heard so, in this order, and nothing else
 abbrev pub Hears : List Heard → List ℕ → Type 0
 Hears [] bytes = bytes ≡ []
-Hears (h ∷ hs) bytes = (message : List ℕ) × (rest : List ℕ) × HasFrame bytes message rest × (message_at message ≡ Ok h) × Hears hs rest
+Hears (h ∷ hs) bytes = (message : List ℕ) × (rest : List ℕ) × HasFrame bytes message rest
+    × (message_at message ≡ Ok h) × Hears hs rest
 
 -- a whole frame is at the front, and its message has this first fault
 pub record IsFaulty (bytes : List ℕ) (f : Fault) : Type 0 where

@@ -1,5 +1,6 @@
 -- Frames that come in pieces: what a framer holds, what one call answers, and what a run of calls has heard.
-use Rattle.std.specs.Prelude.{◌≡◌, ℕ, List, [], ◌∷◌, ◌++◌, length, Option, Some, None, ◌==◌, if◌then◌else◌, ◌⊎◌, MatchOption}
+use Rattle.std.specs.Prelude.{◌≡◌, ℕ, List, [], ◌∷◌, ◌++◌, length, Option, Some, None, ◌==◌, if◌then◌else◌, ◌⊎◌}
+use Rattle.std.specs.Prelude.{MatchOption}
 use Rattle.ln_bytes.specs.Fault.{fault_number}
 use Rattle.ln_bytes.specs.declared.fault.Fault.{Fault}
 use Rattle.ln_bytes.specs.declared.fault.Fault.TheVariants.{Memory}
@@ -57,7 +58,8 @@ pub record Finds (old : Fed) (piece : List ℕ) (f : Fault) (new : Fed) : Type 0
 -- A call answers this fault: the one that was found earlier, or want of memory, neither of which changes
 -- anything, or one that the piece brings.
 abbrev pub Refuses : Fed → List ℕ → Fault → Fed → Type 0
-Refuses old piece f new = ((old.fault ≡ Some f) × (new ≡ old)) ⊎ ((old.fault ≡ None) × (f ≡ Memory) × (new ≡ old)) ⊎ Finds old piece f new
+Refuses old piece f new = ((old.fault ≡ Some f) × (new ≡ old))
+    ⊎ ((old.fault ≡ None) × (f ≡ Memory) × (new ≡ old)) ⊎ Finds old piece f new
 
 -- ---- calls one after the other
 

@@ -1,7 +1,8 @@
 -- Messages (BOLT 1, "Lightning Message Format"): a type in two bytes, the fields that the type has, and a
 -- TLV stream up to the end.
 use Rattle.std.specs.List.{list_all}
-use Rattle.std.specs.Prelude.{◌≡◌, ◌<◌, ◌≤◌, ℕ, ◌%◌, IsTrue, not, List, [], ◌++◌, length, Option, Some, None, Result, Ok, Err, Bool, ◌==◌, ◌||◌, ◌&&◌, nat_lt, nat_le, if◌then◌else◌}
+use Rattle.std.specs.Prelude.{◌≡◌, ◌<◌, ◌≤◌, ℕ, ◌%◌, IsTrue, not, List, [], ◌++◌, length, Option, Some, None, Result}
+use Rattle.std.specs.Prelude.{Ok, Err, Bool, ◌==◌, ◌||◌, ◌&&◌, nat_lt, nat_le, if◌then◌else◌}
 use Rattle.ln_bytes.specs.Endian.{big_bytes}
 use Rattle.ln_bytes.specs.Reading.{◌>>=◌}
 use Rattle.ln_bytes.specs.Tlv.{stream_at, stream_bytes, AreValid, AreFit}
@@ -57,8 +58,10 @@ pub data Heard : Type 0 where
 -- The bytes are a spelling of this. A message of a known type has one spelling; an ignored one is spelled by
 -- all messages of its type.
 abbrev pub IsSpelledBy : Heard → List ℕ → Type 0
-IsSpelledBy (Known w) bytes = (form : Form) × (form_of w.typ ≡ Some form) × IsFormed form w × (bytes ≡ formed_bytes (Some form) w)
-IsSpelledBy (Ignored typ) bytes = (form_of typ ≡ None) × IsTrue (may_be_ignored typ) × (typ < 65536) × (payload : List ℕ) × (bytes ≡ big_bytes 2 typ ++ payload)
+IsSpelledBy (Known w) bytes = (form : Form) × (form_of w.typ ≡ Some form) × IsFormed form w
+    × (bytes ≡ formed_bytes (Some form) w)
+IsSpelledBy (Ignored typ) bytes = (form_of typ ≡ None) × IsTrue (may_be_ignored typ) × (typ < 65536)
+    × (payload : List ℕ) × (bytes ≡ big_bytes 2 typ ++ payload)
 
 -- the most bytes that a message has
 abbrev pub longest : ℕ
@@ -72,7 +75,8 @@ unfoldable pub formed_at : Form → ℕ → List ℕ → Result Heard Fault
 formed_at form typ bytes = do
   values ← fields_at (kinds_of form) bytes
   records ← stream_at form.known_even values.1
-  if have_lengths form.lengths records then Ok (Known (record { typ = typ; values = values.0; records = records })) else Err FieldLength
+  if have_lengths form.lengths records then Ok (Known (record { typ = typ; values = values.0; records = records }))
+      else Err FieldLength
 
 abbrev pub payload_at : Option Form → ℕ → List ℕ → Result Heard Fault
 payload_at (Some form) typ bytes = formed_at form typ bytes

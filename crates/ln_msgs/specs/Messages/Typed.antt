@@ -44,13 +44,32 @@ abbrev pub pong_wire : Pong → Wire
 pong_wire m = record { typ = 19; values = Str m.ignored ∷ []; records = m.records }
 
 abbrev pub open_wire : OpenChannel → Wire
-open_wire m = record { typ = 32; values = Str m.chain_hash ∷ Str m.temporary_id ∷ Num m.funding_satoshis ∷ Num m.push_msat ∷ Num m.dust_limit_satoshis ∷ Num m.max_htlc_value_in_flight_msat ∷ Num m.channel_reserve_satoshis ∷ Num m.htlc_minimum_msat ∷ Num m.feerate_per_kw ∷ Num m.to_self_delay ∷ Num m.max_accepted_htlcs ∷ Str m.funding_pubkey ∷ Str m.revocation_basepoint ∷ Str m.payment_basepoint ∷ Str m.delayed_payment_basepoint ∷ Str m.htlc_basepoint ∷ Str m.first_per_commitment_point ∷ Num m.channel_flags ∷ []; records = m.records }
+open_wire m = record {
+  typ = 32;
+  values = Str m.chain_hash ∷ Str m.temporary_id ∷ Num m.funding_satoshis ∷ Num m.push_msat
+      ∷ Num m.dust_limit_satoshis ∷ Num m.max_htlc_value_in_flight_msat ∷ Num m.channel_reserve_satoshis
+      ∷ Num m.htlc_minimum_msat ∷ Num m.feerate_per_kw ∷ Num m.to_self_delay ∷ Num m.max_accepted_htlcs
+      ∷ Str m.funding_pubkey ∷ Str m.revocation_basepoint ∷ Str m.payment_basepoint ∷ Str m.delayed_payment_basepoint
+      ∷ Str m.htlc_basepoint ∷ Str m.first_per_commitment_point ∷ Num m.channel_flags ∷ [];
+  records = m.records;
+}
 
 abbrev pub accept_wire : AcceptChannel → Wire
-accept_wire m = record { typ = 33; values = Str m.temporary_id ∷ Num m.dust_limit_satoshis ∷ Num m.max_htlc_value_in_flight_msat ∷ Num m.channel_reserve_satoshis ∷ Num m.htlc_minimum_msat ∷ Num m.minimum_depth ∷ Num m.to_self_delay ∷ Num m.max_accepted_htlcs ∷ Str m.funding_pubkey ∷ Str m.revocation_basepoint ∷ Str m.payment_basepoint ∷ Str m.delayed_payment_basepoint ∷ Str m.htlc_basepoint ∷ Str m.first_per_commitment_point ∷ []; records = m.records }
+accept_wire m = record {
+  typ = 33;
+  values = Str m.temporary_id ∷ Num m.dust_limit_satoshis ∷ Num m.max_htlc_value_in_flight_msat
+      ∷ Num m.channel_reserve_satoshis ∷ Num m.htlc_minimum_msat ∷ Num m.minimum_depth ∷ Num m.to_self_delay
+      ∷ Num m.max_accepted_htlcs ∷ Str m.funding_pubkey ∷ Str m.revocation_basepoint ∷ Str m.payment_basepoint
+      ∷ Str m.delayed_payment_basepoint ∷ Str m.htlc_basepoint ∷ Str m.first_per_commitment_point ∷ [];
+  records = m.records;
+}
 
 abbrev pub funding_created_wire : FundingCreated → Wire
-funding_created_wire m = record { typ = 34; values = Str m.temporary_id ∷ Str m.funding_txid ∷ Num m.output_index ∷ Str m.signature ∷ []; records = m.records }
+funding_created_wire m = record {
+  typ = 34;
+  values = Str m.temporary_id ∷ Str m.funding_txid ∷ Num m.output_index ∷ Str m.signature ∷ [];
+  records = m.records;
+}
 
 abbrev pub funding_signed_wire : FundingSigned → Wire
 funding_signed_wire m = record { typ = 35; values = Str m.channel_id ∷ Str m.signature ∷ []; records = m.records }
@@ -62,10 +81,19 @@ abbrev pub shutdown_wire : Shutdown → Wire
 shutdown_wire m = record { typ = 38; values = Str m.channel_id ∷ Str m.script ∷ []; records = m.records }
 
 abbrev pub closing_signed_wire : ClosingSigned → Wire
-closing_signed_wire m = record { typ = 39; values = Str m.channel_id ∷ Num m.fee_satoshis ∷ Str m.signature ∷ []; records = m.records }
+closing_signed_wire m = record {
+  typ = 39;
+  values = Str m.channel_id ∷ Num m.fee_satoshis ∷ Str m.signature ∷ [];
+  records = m.records;
+}
 
 abbrev pub add_wire : UpdateAddHtlc → Wire
-add_wire m = record { typ = 128; values = Str m.channel_id ∷ Num m.id ∷ Num m.amount_msat ∷ Str m.payment_hash ∷ Num m.cltv_expiry ∷ Str m.onion ∷ []; records = m.records }
+add_wire m = record {
+  typ = 128;
+  values = Str m.channel_id ∷ Num m.id ∷ Num m.amount_msat ∷ Str m.payment_hash ∷ Num m.cltv_expiry
+      ∷ Str m.onion ∷ [];
+  records = m.records;
+}
 
 abbrev pub fulfill_wire : UpdateFulfillHtlc → Wire
 fulfill_wire m = record { typ = 130; values = Str m.channel_id ∷ Num m.id ∷ Str m.preimage ∷ []; records = m.records }
@@ -74,19 +102,36 @@ abbrev pub fail_wire : UpdateFailHtlc → Wire
 fail_wire m = record { typ = 131; values = Str m.channel_id ∷ Num m.id ∷ Str m.reason ∷ []; records = m.records }
 
 abbrev pub commitment_signed_wire : CommitmentSigned → Wire
-commitment_signed_wire m = record { typ = 132; values = Str m.channel_id ∷ Str m.signature ∷ Many m.htlc_signatures ∷ []; records = m.records }
+commitment_signed_wire m = record {
+  typ = 132;
+  values = Str m.channel_id ∷ Str m.signature ∷ Many m.htlc_signatures ∷ [];
+  records = m.records;
+}
 
 abbrev pub revoke_and_ack_wire : RevokeAndAck → Wire
-revoke_and_ack_wire m = record { typ = 133; values = Str m.channel_id ∷ Str m.secret ∷ Str m.next_point ∷ []; records = m.records }
+revoke_and_ack_wire m = record {
+  typ = 133;
+  values = Str m.channel_id ∷ Str m.secret ∷ Str m.next_point ∷ [];
+  records = m.records;
+}
 
 abbrev pub fee_wire : UpdateFee → Wire
 fee_wire m = record { typ = 134; values = Str m.channel_id ∷ Num m.feerate_per_kw ∷ []; records = m.records }
 
 abbrev pub malformed_wire : UpdateFailMalformedHtlc → Wire
-malformed_wire m = record { typ = 135; values = Str m.channel_id ∷ Num m.id ∷ Str m.sha256_of_onion ∷ Num m.failure_code ∷ []; records = m.records }
+malformed_wire m = record {
+  typ = 135;
+  values = Str m.channel_id ∷ Num m.id ∷ Str m.sha256_of_onion ∷ Num m.failure_code ∷ [];
+  records = m.records;
+}
 
 abbrev pub channel_reestablish_wire : ChannelReestablish → Wire
-channel_reestablish_wire m = record { typ = 136; values = Str m.channel_id ∷ Num m.next_commitment_number ∷ Num m.next_revocation_number ∷ Str m.last_secret ∷ Str m.current_point ∷ []; records = m.records }
+channel_reestablish_wire m = record {
+  typ = 136;
+  values = Str m.channel_id ∷ Num m.next_commitment_number ∷ Num m.next_revocation_number ∷ Str m.last_secret
+      ∷ Str m.current_point ∷ [];
+  records = m.records;
+}
 
 abbrev pub wire : Message → Wire
 wire (types.Warning m) = warning_wire m

@@ -1,5 +1,6 @@
 -- The pongs that answer pings (BOLT 1, "The ping and pong Messages").
-use Rattle.std.specs.Prelude.{ℕ, ◌+◌, ◌-◌, ◌^◌, min, List, [], ◌∷◌, replicate, Option, Some, None, ◌==◌, nat_lt, if◌then◌else◌, Result, Ok}
+use Rattle.std.specs.Prelude.{ℕ, ◌+◌, ◌-◌, ◌^◌, min, List, [], ◌∷◌, replicate, Option, Some, None, ◌==◌, nat_lt}
+use Rattle.std.specs.Prelude.{if◌then◌else◌, Result, Ok}
 use Rattle.ln_bytes.specs.Reading.{◌>>=◌}
 use Rattle.ln_bytes.specs.declared.fault.Fault.{Fault}
 use Rattle.std.specs.List.{flat_map}

@@ -16,7 +16,8 @@ refused_wire typ id n = record { typ = typ; values = Str id ∷ Str (text_of_num
 
 -- an error, type 17, for 20 to 35; a warning, type 1, for 36; nothing for any other number
 abbrev pub reply_by_number : List ℕ → ℕ → Option Wire
-reply_by_number id n = if nat_le 20 n && nat_le n 35 then Some (refused_wire 17 id n) else (if n == 36 then Some (refused_wire 1 id n) else None)
+reply_by_number id n = if nat_le 20 n && nat_le n 35 then Some (refused_wire 17 id n)
+    else (if n == 36 then Some (refused_wire 1 id n) else None)
 
 abbrev pub reply_to : Refusal → List ℕ → Option Wire
 reply_to refusal id = reply_by_number id (refusal_number refusal)

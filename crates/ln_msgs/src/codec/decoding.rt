@@ -96,7 +96,9 @@ pub(crate) fn read_payload(alloc: Global, typ: u16, payload: &[u8]) -> Result<In
 /// input, the bytes of a message say one thing at most, and what says something has no fault.
 pub fn one_message()
     ensures reads_what_is_said { (h : Heard) (bytes : List ℕ) → Says h bytes → message_at bytes ≡ Ok h }
-    ensures says_what_is_read { (h : Heard) (bytes : List ℕ) → ((i : ℕ) → slice_index bytes i < 256) → message_at bytes ≡ Ok h → Says h bytes }
+    ensures says_what_is_read { (h : Heard) (bytes : List ℕ) → ((i : ℕ) → slice_index bytes i < 256)
+        → message_at bytes ≡ Ok h → Says h bytes }
     ensures says_one_thing { (g h : Heard) (bytes : List ℕ) → Says g bytes → Says h bytes → g ≡ h }
-    ensures has_no_fault_if_it_says { (h : Heard) (f : Fault) (bytes : List ℕ) → Says h bytes → message_at bytes ≢ Err f }
+    ensures has_no_fault_if_it_says { (h : Heard) (f : Fault) (bytes : List ℕ) → Says h bytes
+        → message_at bytes ≢ Err f }
 {}

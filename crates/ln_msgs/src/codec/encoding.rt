@@ -1,6 +1,7 @@
 //! The writer of one message.
 
-ghost use Rattle.std.specs.Prelude.{◌≡◌, ◌<◌, ◌≤◌, ◌+◌, ◌^◌, ◌⊎◌, ◌↔◌, ◌++◌, length, IfOk, IfErr, IfSome, IfNone, OnOk, IsErrOf};
+ghost use Rattle.std.specs.Prelude.{◌≡◌, ◌<◌, ◌≤◌, ◌+◌, ◌^◌, ◌⊎◌, ◌↔◌, ◌++◌, length, IfOk, IfErr, IfSome, IfNone, OnOk};
+ghost use Rattle.std.specs.Prelude.{IsErrOf};
 ghost use Rattle.std.specs.List.{concat, AllByRecursion};
 ghost use Rattle.ln_bytes.specs.Endian.{big_bytes};
 ghost use Rattle.ln_bytes.specs.Tlv.{stream_bytes, AreFit};
@@ -31,11 +32,13 @@ pub fn encode(alloc: Global, message: &Message) -> Result<Vec<u8>, Fault>
     requires { CanBeWritten (wire message.now) }
 
     // What is written is the message's spelling, which is read as this message again.
-    ensures writes_the_message { IfOk result (λ v. (v.items ≡ wire_bytes (wire message.now)) × (length v.items ≤ LONGEST)) }
+    ensures writes_the_message { IfOk result (λ v. (v.items ≡ wire_bytes (wire message.now))
+        × (length v.items ≤ LONGEST)) }
     ensures says_the_message { IfOk result (λ v. Says (Known (wire message.now)) v.items) }
 
     // It is refused where it is too long, and only by that or want of memory.
-    ensures refuses_what_is_too_long { IsErrOf result Fault.TooLong ↔ (LONGEST < length (wire_bytes (wire message.now))) }
+    ensures refuses_what_is_too_long { IsErrOf result Fault.TooLong
+        ↔ (LONGEST < length (wire_bytes (wire message.now))) }
     ensures has_one_of_two_faults { IfErr result (λ e. (e ≡ Fault.TooLong) ⊎ (e ≡ Fault.Memory)) }
 {
     encode_parts(alloc, message)
@@ -59,7 +62,8 @@ fn encoded(
     fields: &[Item<'_>],
     records: &[Record],
 ) -> Result<Vec<u8>, Fault>
-    ensures { (w : Wire) → AreItemsBy (form_of w.typ) w fields.now → w.typ ≡ typ → w.records ≡ records.now → IsWritten result w }
+    ensures { (w : Wire) → AreItemsBy (form_of w.typ) w fields.now → w.typ ≡ typ
+        → w.records ≡ records.now → IsWritten result w }
 {
     put_parts(alloc, typ, fields, records)
 }
@@ -70,8 +74,10 @@ fn put_parts(
     fields: &[Item<'_>],
     records: &[Record],
 ) -> Result<Vec<u8>, Fault>
-    ensures writes_the_parts { IfOk result (λ v. (v.items ≡ parts_bytes typ fields.now records.now) × (length v.items ≤ LONGEST) × AreFit records.now × AreProper fields.now) }
-    ensures refuses_what_is_too_long { IsErrOf result Fault.TooLong ↔ (LONGEST < length (parts_bytes typ fields.now records.now)) }
+    ensures writes_the_parts { IfOk result (λ v. (v.items ≡ parts_bytes typ fields.now records.now)
+        × (length v.items ≤ LONGEST) × AreFit records.now × AreProper fields.now) }
+    ensures refuses_what_is_too_long { IsErrOf result Fault.TooLong
+        ↔ (LONGEST < length (parts_bytes typ fields.now records.now)) }
     ensures has_one_of_two_faults { IfErr result (λ e. (e ≡ Fault.TooLong) ⊎ (e ≡ Fault.Memory)) }
 {
     let Some(len) = parts_len(fields, records) else {
@@ -86,8 +92,10 @@ fn put_parts(
 
 /// How many bytes the message is, or none where they are too many.
 fn parts_len(fields: &[Item<'_>], records: &[Record]) -> Option<usize>
-    ensures none_is_too_many { IfNone result (LONGEST < 2 + length (items_bytes fields.now) + length (stream_bytes records.now)) }
-    ensures counts_the_bytes { IfSome result (λ n. (n ≡ 2 + length (items_bytes fields.now) + length (stream_bytes records.now)) × (n ≤ LONGEST)) }
+    ensures none_is_too_many { IfNone result (LONGEST < 2 + length (items_bytes fields.now)
+        + length (stream_bytes records.now)) }
+    ensures counts_the_bytes { IfSome result (λ n.
+        (n ≡ 2 + length (items_bytes fields.now) + length (stream_bytes records.now)) × (n ≤ LONGEST)) }
 {
     let fields_len = fields_len(fields, LONGEST - 2)?;
     let records_len = tlvs_len(records, LONGEST - 2 - fields_len)?;
@@ -175,8 +183,10 @@ fn put_item(out: &mut Vec<u8>, item: &Item<'_>) -> Result<(), Fault>
 /// Their count, and the signatures one after the other.
 fn put_signatures(out: &mut Vec<u8>, list: &[[u8; 64]]) -> Result<(), Fault>
     requires { length (concat list.now) ≤ LONGEST }
-    ensures appends_the_signatures { OnOk result (out.new.items ≡ out.old.items ++ (big_bytes 2 (length list.now) ++ concat list.now)) }
-    ensures has_signatures_of_64_bytes { OnOk result ((length list.now < 65536) × AllByRecursion (λ s. length s ≡ 64) list.now) }
+    ensures appends_the_signatures { OnOk result (out.new.items ≡ out.old.items
+        ++ (big_bytes 2 (length list.now) ++ concat list.now)) }
+    ensures has_signatures_of_64_bytes { OnOk result ((length list.now < 65536)
+        × AllByRecursion (λ s. length s ≡ 64) list.now) }
     ensures fails_for_memory_alone { IfErr result (λ e. e ≡ Fault.Memory) }
 {
     out.extend_from_slice(&(count(list) as u16).to_be_bytes())?;

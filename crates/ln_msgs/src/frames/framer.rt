@@ -72,7 +72,8 @@ impl Framer {
     /// Errors: 1 to 6 and 8, the first fault of a message (`decode`). 60 where there is no memory: then nothing has
     /// changed, and the same bytes may be fed again.
     pub fn feed(&mut self, alloc: Global, piece: &[u8]) -> Result<Vec<Incoming>, Fault>
-        ensures answers_what_is_whole { IfOk result (λ messages. Answers self.old piece.now (map heard messages.items) self.new) }
+        ensures answers_what_is_whole { IfOk result (λ messages. Answers self.old piece.now
+            (map heard messages.items) self.new) }
         ensures refuses_a_fault_or_for_memory { IfErr result (λ f. Refuses self.old piece.now f self.new) }
     {
         if let Some(fault) = self.fault {
@@ -92,9 +93,11 @@ impl Framer {
 
     /// Keeps what is left behind the messages that were heard, and answers these.
     fn keep(&mut self, hearing: Hearing) -> Result<Vec<Incoming>, Fault>
-        requires hears_the_front { HearsFront self.old.held (map heard hearing.messages.items) hearing.taken hearing.fault }
+        requires hears_the_front { HearsFront self.old.held (map heard hearing.messages.items)
+            hearing.taken hearing.fault }
         requires has_no_fault { self.old.fault ≡ None }
-        ensures answers_what_was_heard { IfOk result (λ messages. HasHeard self.old.held (map heard messages.items) self.new × (map heard messages.items ≡ [] → self.new.fault ≡ None)) }
+        ensures answers_what_was_heard { IfOk result (λ messages. HasHeard self.old.held (map heard messages.items)
+            self.new × (map heard messages.items ≡ [] → self.new.fault ≡ None)) }
         ensures tells_the_fault { IfErr result (λ f. HasHeard self.old.held [] self.new × (self.new.fault ≡ Some f)) }
     {
         let Hearing {
@@ -161,6 +164,8 @@ fn hear(alloc: Global, bytes: &[u8]) -> Result<Hearing, Fault>
 /// However a stream is cut into pieces, a framer that it is fed to answers the same messages: those of the bytes
 /// that came, up to the first fault.
 pub fn any_pieces()
-    ensures has_heard_what_came { (calls : List Call) (fed : Fed) → Runs unfed calls fed → HasHeard (came calls) (answered calls) fed }
-    ensures has_answered_no_others { (calls : List Call) (fed : Fed) (hs : List Heard) (front rest : List ℕ) → Runs unfed calls fed → Hears hs front → EndsHearing rest → came calls ≡ front ++ rest → answered calls ≡ hs }
+    ensures has_heard_what_came { (calls : List Call) (fed : Fed) → Runs unfed calls fed
+        → HasHeard (came calls) (answered calls) fed }
+    ensures has_answered_no_others { (calls : List Call) (fed : Fed) (hs : List Heard) (front rest : List ℕ)
+        → Runs unfed calls fed → Hears hs front → EndsHearing rest → came calls ≡ front ++ rest → answered calls ≡ hs }
 {}

@@ -98,7 +98,8 @@ pub(crate) fn read_channel_reestablish(
     alloc: Global,
     payload: &[u8],
 ) -> Result<ChannelReestablish, Fault>
-    ensures { Gives (λ m. Known (channel_reestablish_wire m)) result (formed_at channel_reestablish_form 136 payload.now) }
+    ensures { Gives (λ m. Known (channel_reestablish_wire m)) result
+        (formed_at channel_reestablish_form 136 payload.now) }
 {
     let (channel_id, rest) = array_at(payload)?;
     let (next_commitment_number, rest) = u64_at(rest)?;

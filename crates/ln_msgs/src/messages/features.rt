@@ -1,6 +1,7 @@
 //! Features that a peer asks for.
 
-ghost use Rattle.std.specs.Prelude.{◌≡◌, ◌<◌, ◌+◌, ◌*◌, ◌/◌, ◌%◌, ℕ, IsTrue, true, false, length, slice_index, OnOk, IfErr};
+ghost use Rattle.std.specs.Prelude.{◌≡◌, ◌<◌, ◌+◌, ◌*◌, ◌/◌, ◌%◌, ℕ, IsTrue, true, false, length, slice_index, OnOk};
+ghost use Rattle.std.specs.Prelude.{IfErr};
 ghost use Rattle.std.specs.Int.{bit_at};
 ghost use Rattle.ln_msgs.specs.Messages.Features.{HasFeature, is_listed, IsAllKnown, HasUnknown};
 
@@ -15,7 +16,8 @@ use ln_bytes::Fault;
 /// doesn't matter. Takes no memory.
 pub fn check_init(init: &Init, known_even_bits: &[u16]) -> Result<(), Fault>
     ensures knows_all_that_is_asked { OnOk result (IsAllKnown init.now known_even_bits.now) }
-    ensures tells_an_unknown_bit { IfErr result (λ e. (e ≡ Fault.UnknownFeature) × HasUnknown init.now known_even_bits.now) }
+    ensures tells_an_unknown_bit { IfErr result (λ e. (e ≡ Fault.UnknownFeature)
+        × HasUnknown init.now known_even_bits.now) }
 {
     let global_known = knows_all(init.global_features.as_slice(), known_even_bits);
     let features_known = knows_all(init.features.as_slice(), known_even_bits);
@@ -28,8 +30,10 @@ pub fn check_init(init: &Init, known_even_bits: &[u16]) -> Result<(), Fault>
 
 /// Whether each even bit that is set in the map is in the list.
 fn knows_all(features: &[u8], known: &[u16]) -> bool
-    ensures true_is_all_known { IsTrue result → (k : ℕ) → HasFeature features.now k → k % 2 ≡ 0 → IsTrue (is_listed known.now k) }
-    ensures false_has_an_unknown_bit { result ≡ false → (k : ℕ) × HasFeature features.now k × (k % 2 ≡ 0) × ¬ IsTrue (is_listed known.now k) }
+    ensures true_is_all_known { IsTrue result → (k : ℕ) → HasFeature features.now k → k % 2 ≡ 0
+        → IsTrue (is_listed known.now k) }
+    ensures false_has_an_unknown_bit { result ≡ false → (k : ℕ) × HasFeature features.now k × (k % 2 ≡ 0)
+        × ¬ IsTrue (is_listed known.now k) }
 {
     for place in 0..features.len() {
         let byte = features[features.len() - 1 - place];
@@ -42,8 +46,10 @@ fn knows_all(features: &[u8], known: &[u16]) -> bool
 
 /// The same for one byte of the map, which has so many bytes behind it.
 fn knows_byte(byte: u8, place: usize, known: &[u16]) -> bool
-    ensures true_is_all_known { IsTrue result → (j : ℕ) → j < 8 → bit_at byte j ≡ 1 → j % 2 ≡ 0 → IsTrue (is_listed known.now (8 * place + j)) }
-    ensures false_has_an_unknown_bit { result ≡ false → (j : ℕ) × (j < 8) × (bit_at byte j ≡ 1) × (j % 2 ≡ 0) × ¬ IsTrue (is_listed known.now (8 * place + j)) }
+    ensures true_is_all_known { IsTrue result → (j : ℕ) → j < 8 → bit_at byte j ≡ 1 → j % 2 ≡ 0
+        → IsTrue (is_listed known.now (8 * place + j)) }
+    ensures false_has_an_unknown_bit { result ≡ false → (j : ℕ) × (j < 8) × (bit_at byte j ≡ 1) × (j % 2 ≡ 0)
+        × ¬ IsTrue (is_listed known.now (8 * place + j)) }
 {
     for bit in 0..8 {
         if bit % 2 == 0 && byte >> bit & 1 == 1 && !lists(known, place, bit) {

@@ -187,8 +187,10 @@ fn named<'a>(
     names: &[&'static str],
     items: &[Item<'a>],
 ) -> Result<Vec<Field<'a>>, AllocError>
-    ensures has_the_names { IfOk result (λ fs. length names.now ≡ length items.now → map (λ f. f.name.now) fs.items ≡ map (λ n. n.now) names.now) }
-    ensures has_the_values { IfOk result (λ fs. length names.now ≡ length items.now → map (λ f. f.value) fs.items ≡ items.now) }
+    ensures has_the_names { IfOk result (λ fs. length names.now ≡ length items.now
+        → map (λ f. f.name.now) fs.items ≡ map (λ n. n.now) names.now) }
+    ensures has_the_values { IfOk result (λ fs. length names.now ≡ length items.now
+        → map (λ f. f.value) fs.items ≡ items.now) }
 {
     let mut fields = Vec::with_capacity(alloc, items.len())?;
     for (name, value) in names.iter().zip(items) {

@@ -125,10 +125,13 @@ pub struct ChannelReady {
 
 ghost use Rattle.ln_bytes.specs.Reading.{Gives};
 ghost use Rattle.ln_msgs.specs.Messages.Items.{AreItemsOf};
-ghost use Rattle.ln_msgs.specs.Messages.Table.{open_form, accept_form, funding_created_form, funding_signed_form, channel_ready_form};
+ghost use Rattle.ln_msgs.specs.Messages.Table.{open_form, accept_form, funding_created_form, funding_signed_form};
+ghost use Rattle.ln_msgs.specs.Messages.Table.{channel_ready_form};
 ghost use Rattle.ln_msgs.specs.Messages.Message.{Known, formed_at};
-ghost use Rattle.ln_msgs.specs.Codec.Pieces.{group_at, pieced_at, funding_kinds, funding_values, amount_kinds, amount_values, point_kinds, point_values, open_pieces, accept_pieces};
-ghost use Rattle.ln_msgs.specs.Messages.Typed.{open_wire, accept_wire, funding_created_wire, funding_signed_wire, channel_ready_wire};
+ghost use Rattle.ln_msgs.specs.Codec.Pieces.{group_at, pieced_at, funding_kinds, funding_values, amount_kinds};
+ghost use Rattle.ln_msgs.specs.Codec.Pieces.{amount_values, point_kinds, point_values, open_pieces, accept_pieces};
+ghost use Rattle.ln_msgs.specs.Messages.Typed.{open_wire, accept_wire, funding_created_wire, funding_signed_wire};
+ghost use Rattle.ln_msgs.specs.Messages.Typed.{channel_ready_wire};
 
 /// What `open_channel` begins with.
 #[derive(Clone, Copy)]

@@ -79,16 +79,23 @@ pub fn answer_pings<R: Read, W: Write>(
     writer: &mut Counted<W>,
 ) -> Result<u64, Fault>
     // All is answered.
-    ensures answers_all { IfOk result (AnswersAll (R.remaining (inner_of reader.old)) (R.remaining (inner_of reader.new)) (W.contents (inner_of writer.old)) (W.contents (inner_of writer.new))) }
+    ensures answers_all { IfOk result (AnswersAll (R.remaining (inner_of reader.old))
+        (R.remaining (inner_of reader.new)) (W.contents (inner_of writer.old)) (W.contents (inner_of writer.new))) }
 
     // All is answered up to the first fault.
-    ensures answers_up_to_the_fault { IfErr result (λ e. e ≢ Fault.Memory → e ≢ Fault.Io → AnswersUpTo (R.remaining (inner_of reader.old)) (R.remaining (inner_of reader.new)) (W.contents (inner_of writer.old)) (W.contents (inner_of writer.new)) e) }
+    ensures answers_up_to_the_fault { IfErr result (λ e. e ≢ Fault.Memory → e ≢ Fault.Io
+        → AnswersUpTo (R.remaining (inner_of reader.old)) (R.remaining (inner_of reader.new))
+        (W.contents (inner_of writer.old)) (W.contents (inner_of writer.new)) e) }
 
     // At any refusal a beginning is answered.
-    ensures answers_some_if_refused { IfErr result (λ _. AnswersSome (R.remaining (inner_of reader.old)) (R.remaining (inner_of reader.new)) (W.contents (inner_of writer.old)) (W.contents (inner_of writer.new))) }
+    ensures answers_some_if_refused { IfErr result
+        (λ _. AnswersSome (R.remaining (inner_of reader.old)) (R.remaining (inner_of reader.new))
+        (W.contents (inner_of writer.old)) (W.contents (inner_of writer.new))) }
 
     // 63 comes only where a call failed, or where 2^64 - 1 calls were made.
-    ensures io_is_a_failed_call { IsErrOf result Fault.Io → HasRisen (failures_of reader.old) (failures_of reader.new) ⊎ HasRisen (failures_of writer.old) (failures_of writer.new) ⊎ (2 ^ 64 - 1 ≤ calls_of reader.new + calls_of writer.new) }
+    ensures io_is_a_failed_call { IsErrOf result Fault.Io → HasRisen (failures_of reader.old) (failures_of reader.new)
+        ⊎ HasRisen (failures_of writer.old) (failures_of writer.new)
+        ⊎ (2 ^ 64 - 1 ≤ calls_of reader.new + calls_of writer.new) }
 {
     let mut input = Window::new(alloc)?;
     let mut out = Outgoing::new(alloc)?;

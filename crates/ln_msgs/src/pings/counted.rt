@@ -94,7 +94,8 @@ impl<R: Read> Read for Counted<R> {
     /// One read of the reader. Counts an error.
     fn read(&mut self, buffer: &mut [u8]) -> io::Result<usize>
         ensures bound { ReadsAtMost result buffer.new }
-        ensures bytes { ReadConsumes (R.remaining (inner_of self.old)) (R.remaining (inner_of self.new)) result buffer.new }
+        ensures bytes { ReadConsumes (R.remaining (inner_of self.old))
+            (R.remaining (inner_of self.new)) result buffer.new }
         ensures counts_a_failure { failures_of self.new ≡ counted (has_failed result) (failures_of self.old) }
         ensures no_fewer_failures { failures_of self.old ≤ failures_of self.new }
         ensures counts_a_call { calls_of self.new ≡ one_more (calls_of self.old) }
@@ -121,8 +122,10 @@ impl<W: Write> Write for Counted<W> {
     /// One write of the writer. Counts an error, and a write that takes nothing of some bytes.
     fn write(&mut self, bytes: &[u8]) -> io::Result<usize>
         ensures bound { WritesAtMost result bytes.now }
-        ensures bytes { WriteAppends (W.contents (inner_of self.old)) (W.contents (inner_of self.new)) result bytes.now }
-        ensures counts_a_failure { failures_of self.new ≡ counted (has_write_failed result bytes.now) (failures_of self.old) }
+        ensures bytes { WriteAppends (W.contents (inner_of self.old))
+            (W.contents (inner_of self.new)) result bytes.now }
+        ensures counts_a_failure { failures_of self.new
+            ≡ counted (has_write_failed result bytes.now) (failures_of self.old) }
         ensures no_fewer_failures { failures_of self.old ≤ failures_of self.new }
         ensures counts_a_call { calls_of self.new ≡ one_more (calls_of self.old) }
         ensures no_fewer_calls { calls_of self.old ≤ calls_of self.new }

@@ -102,11 +102,15 @@ impl Outgoing {
     /// Writes all that waits and flushes the writer; where nothing waits, does nothing. A failing write or
     /// flush is 63, and what was written by then is a beginning of what waited.
     pub(crate) fn send<W: Write>(&mut self, writer: &mut Counted<W>) -> Result<(), Fault>
-        ensures sends_all { OnOk result ((self.new.bytes ≡ []) × Appends (W.contents (inner_of writer.old)) (W.contents (inner_of writer.new)) self.old.bytes) }
-        ensures sends_a_beginning { IsPartlyWritten (W.contents (inner_of writer.old)) (W.contents (inner_of writer.new)) self.old.bytes }
-        ensures fails_with_a_failed_call { IfErr result (λ e. (e ≡ Fault.Io) × HasRisen (failures_of writer.old) (failures_of writer.new)) }
+        ensures sends_all { OnOk result ((self.new.bytes ≡ [])
+            × Appends (W.contents (inner_of writer.old)) (W.contents (inner_of writer.new)) self.old.bytes) }
+        ensures sends_a_beginning { IsPartlyWritten (W.contents (inner_of writer.old))
+            (W.contents (inner_of writer.new)) self.old.bytes }
+        ensures fails_with_a_failed_call { IfErr result (λ e. (e ≡ Fault.Io)
+            × HasRisen (failures_of writer.old) (failures_of writer.new)) }
         ensures no_fewer_failures { failures_of writer.old ≤ failures_of writer.new }
-        ensures makes_a_call { OnOk result (0 < length self.old.bytes → HasRisen (calls_of writer.old) (calls_of writer.new)) }
+        ensures makes_a_call { OnOk result (0 < length self.old.bytes
+            → HasRisen (calls_of writer.old) (calls_of writer.new)) }
         ensures no_fewer_calls { calls_of writer.old ≤ calls_of writer.new }
         ensures keeps_the_count { self.new.pongs ≡ self.old.pongs }
     {
@@ -125,9 +129,12 @@ impl Outgoing {
 /// Writes the bytes, in as few calls as the writer allows. A failing write is 63, and what was written by
 /// then is a beginning of the bytes.
 fn write_out<W: Write>(bytes: &[u8], writer: &mut Counted<W>) -> Result<(), Fault>
-    ensures writes_all { OnOk result (Appends (W.contents (inner_of writer.old)) (W.contents (inner_of writer.new)) bytes.now) }
-    ensures writes_a_beginning { IsPartlyWritten (W.contents (inner_of writer.old)) (W.contents (inner_of writer.new)) bytes.now }
-    ensures fails_with_a_failed_call { IfErr result (λ e. (e ≡ Fault.Io) × HasRisen (failures_of writer.old) (failures_of writer.new)) }
+    ensures writes_all { OnOk result (Appends (W.contents (inner_of writer.old))
+        (W.contents (inner_of writer.new)) bytes.now) }
+    ensures writes_a_beginning { IsPartlyWritten (W.contents (inner_of writer.old))
+        (W.contents (inner_of writer.new)) bytes.now }
+    ensures fails_with_a_failed_call { IfErr result (λ e. (e ≡ Fault.Io)
+        × HasRisen (failures_of writer.old) (failures_of writer.new)) }
     ensures no_fewer_failures { failures_of writer.old ≤ failures_of writer.new }
     ensures no_fewer_calls { calls_of writer.old ≤ calls_of writer.new }
 {

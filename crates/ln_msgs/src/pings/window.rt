@@ -69,9 +69,12 @@ impl Window {
     pub(crate) fn fill<R: Read>(&mut self, reader: &mut Counted<R>) -> Result<bool, Fault>
         requires { length self.old < CAPACITY }
         // What came stands behind what was there.
-        ensures loses_no_byte { Keeps (prepend_known self.old (R.remaining (inner_of reader.old))) (prepend_known self.new (R.remaining (inner_of reader.new))) }
-        ensures false_is_the_end { result ≡ Ok false → (self.new ≡ self.old) × IsAtEnd (R.remaining (inner_of reader.new)) }
-        ensures fails_with_a_failed_call { IfErr result (λ e. (e ≡ Fault.Io) × HasRisen (failures_of reader.old) (failures_of reader.new)) }
+        ensures loses_no_byte { Keeps (prepend_known self.old (R.remaining (inner_of reader.old)))
+            (prepend_known self.new (R.remaining (inner_of reader.new))) }
+        ensures false_is_the_end { result ≡ Ok false → (self.new ≡ self.old)
+            × IsAtEnd (R.remaining (inner_of reader.new)) }
+        ensures fails_with_a_failed_call { IfErr result (λ e. (e ≡ Fault.Io)
+            × HasRisen (failures_of reader.old) (failures_of reader.new)) }
         ensures no_fewer_failures { failures_of reader.old ≤ failures_of reader.new }
         ensures makes_a_call { HasRisen (calls_of reader.old) (calls_of reader.new) }
         ensures no_fewer_calls { calls_of reader.old ≤ calls_of reader.new }

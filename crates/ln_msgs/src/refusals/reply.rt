@@ -22,7 +22,8 @@ impl Refusal {
     /// Takes memory for that text. The only error is 60, where there is none.
     pub fn reply(&self, alloc: Global, channel_id: &[u8; 32]) -> Result<Option<Message>, Refusal>
         ensures is_the_reply { IfOk result (λ m. option_map wire m ≡ reply_to self.now channel_id.now) }
-        ensures fails_for_memory_alone { IfErr result (λ e. (e ≡ Refusal.Memory) × (reply_to self.now channel_id.now ≢ None)) }
+        ensures fails_for_memory_alone { IfErr result (λ e. (e ≡ Refusal.Memory)
+            × (reply_to self.now channel_id.now ≢ None)) }
     {
         let number = self.number();
         match number {

@@ -8,8 +8,10 @@ invariant_of-result-clause-block_fits c =
 
 pub invariant_of-result-clause-tx_fits : goal.invariant_of-result-clause-tx_fits
 invariant_of-result-clause-tx_fits c =
-    three_below _ c.read_u24-2.result (tail_fits 3 c.args.bytes.now (λ i. omega (arith, c.type_inv.bytes i))) c.read_u24-2.ensures
+    three_below _ c.read_u24-2.result (tail_fits 3 c.args.bytes.now (λ i. omega (arith, c.type_inv.bytes i)))
+    c.read_u24-2.ensures
 
 pub returns : goal.returns
 returns c =
-    bytes_are_id c.args.bytes.now c.read_u24.result c.read_u24-2.result c.read_u16.result (λ i. omega (arith, c.type_inv.bytes i)) c.requires c.read_u24.ensures c.read_u24-2.ensures c.read_u16.ensures
+    bytes_are_id c.args.bytes.now c.read_u24.result c.read_u24-2.result c.read_u16.result
+    (λ i. omega (arith, c.type_inv.bytes i)) c.requires c.read_u24.ensures c.read_u24-2.ensures c.read_u16.ensures

@@ -7,4 +7,5 @@ returns-in_err-front c =
 
 pub returns-in_err-number : goal.returns-in_err-number
 returns-in_err-number c =
-    rw c.from_residual-in_err-number.ensures (λ n rest below e. c.in_err-number.ensures n below (front_is c.args.text.now n rest (c.in_ok-front.front, c.in_ok-front.rest) c.in_ok-front.ensures.cases below e))
+    rw c.from_residual-in_err-number.ensures (λ n rest below e. c.in_err-number.ensures n below
+    (front_is c.args.text.now n rest (c.in_ok-front.front, c.in_ok-front.rest) c.in_ok-front.ensures.cases below e))

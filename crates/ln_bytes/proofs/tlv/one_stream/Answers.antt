@@ -1,4 +1,5 @@
-use Rattle.ln_bytes.proofs.Streams.{stream_again, stream_found, stream_faulty, stream_broken, some_outcome, same_records, one_outcome, one_fault}
+use Rattle.ln_bytes.proofs.Streams.{stream_again, stream_found, stream_faulty, stream_broken, some_outcome}
+use Rattle.ln_bytes.proofs.Streams.{same_records, one_outcome, one_fault}
 use Rattle.ln_bytes.proofs.tlv.one_stream.Goals as goal
 
 pub returns-clause-reads_what_is_spelled : goal.returns-clause-reads_what_is_spelled

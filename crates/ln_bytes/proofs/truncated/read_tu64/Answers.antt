@@ -5,7 +5,8 @@ use Rattle.ln_bytes.proofs.truncated.read_tu64.Goals as goal
 
 pub returns-clause-is_spelled_so : goal.returns-clause-is_spelled_so
 returns-clause-is_spelled_so c =
-    found 8 c.number_in.result c.args.bytes.now (λ i. omega (arith, c.type_inv.bytes i)) (omega arith) c.number_in.ensures
+    found 8 c.number_in.result c.args.bytes.now (λ i. omega (arith, c.type_inv.bytes i))
+    (omega arith) c.number_in.ensures
 
 pub returns-clause-reads_each_spelling : goal.returns-clause-reads_each_spelling
 returns-clause-reads_each_spelling c = λ n below e.

@@ -1,4 +1,5 @@
-use Rattle.ln_dance.proofs.Parted.{signed_again, same_updates, signs_so, so_proposed, so_received, so_accepted, so_dropped, so_told}
+use Rattle.ln_dance.proofs.Parted.{signed_again, same_updates, signs_so, so_proposed, so_received, so_accepted}
+use Rattle.ln_dance.proofs.Parted.{so_dropped, so_told}
 use Rattle.ln_dance.proofs.reconnect.signature_is_sent_again.Goals as goal
 
 pub returns-clause-same_signature : goal.returns-clause-same_signature

@@ -9,4 +9,15 @@ unfolding view_head
 returns c = λ m held.
     let all = c.update-4.ensures _ (c.update-3.ensures _ (c.update-2.ensures _ (c.update.ensures m held))) in
     let P : List ℕ → Type 0 = λ l. Holds256 c.update-4.new.self l in
-    subst P (four m c.as_slice.result.now c.as_slice-2.result.now c.as_slice-3.result.now c.as_slice-4.result.now ∙ rw (c.as_slice.ensures, c.as_slice-2.ensures, c.as_slice-3.ensures, c.as_slice-4.ensures, c.to_be_bytes.ensures, c.to_be_bytes-2.ensures, c.to_be_bytes-3.ensures, c.to_be_bytes-4.ensures, c.len.ensures) refl) all
+    subst P (four m c.as_slice.result.now c.as_slice-2.result.now c.as_slice-3.result.now c.as_slice-4.result.now
+    ∙ rw (
+      c.as_slice.ensures,
+      c.as_slice-2.ensures,
+      c.as_slice-3.ensures,
+      c.as_slice-4.ensures,
+      c.to_be_bytes.ensures,
+      c.to_be_bytes-2.ensures,
+      c.to_be_bytes-3.ensures,
+      c.to_be_bytes-4.ensures,
+      c.len.ensures,
+    ) refl) all

@@ -12,9 +12,12 @@ returns-clause-bytes c =
     let head = bigsize (length payload) in
     let len = c.write_bigsize-head_len.result in
     let len_is = c.write_bigsize-head_len.ensures.counts_its_bytes in
-    let head_is : take len c.write_bigsize-head_len.new.out ≡ head = ap (take len) c.write_bigsize-head_len.ensures.writes_the_spelling ∙ take_at head _ len (sym len_is) in
+    let head_is : take len c.write_bigsize-head_len.new.out ≡ head =
+    ap (take len) c.write_bigsize-head_len.ensures.writes_the_spelling ∙ take_at head _ len (sym len_is) in
     let first : c.put.new.room ≡ written at head room = c.put.ensures ∙ ap (λ h. written at h room) head_is in
-    let end : at + length (head ++ payload) ≡ at + len + length payload = omega (arith, length-append head payload, len_is) in
-    c.put-2.ensures ∙ ap (λ r. written (at + len) payload r) first ∙ ap (λ n. written (at + n) payload (written at head room)) len_is
+    let end : at + length (head ++ payload) ≡ at + len + length payload =
+    omega (arith, length-append head payload, len_is) in
+    c.put-2.ensures ∙ ap (λ r. written (at + len) payload r) first
+    ∙ ap (λ n. written (at + n) payload (written at head room)) len_is
     ∙ written_twice at head payload room (omega (arith, c.requires, c.told-room))
     ∙ ap (λ n. take at room ++ (head ++ payload) ++ drop n room) end

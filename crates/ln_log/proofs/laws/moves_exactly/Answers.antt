@@ -1,5 +1,6 @@
 use Rattle.std.proofs.Common.{refl}
-use Rattle.ln_log.proofs.Moves.{party_proposed, party_received, party_signed, party_accepted, party_acknowledged, party_dropped}
+use Rattle.ln_log.proofs.Moves.{party_proposed, party_received, party_signed, party_accepted, party_acknowledged}
+use Rattle.ln_log.proofs.Moves.{party_dropped}
 use Rattle.ln_log.proofs.laws.moves_exactly.Goals as goal
 
 pub returns-clause-a_proposal_is_its_move : goal.returns-clause-a_proposal_is_its_move

@@ -10,18 +10,25 @@ returns-in-None c = λ before h. tells_none _ before _ (sym c.removal_of.ensures
 
 pub returns-in-Live : goal.returns-in-Live
 returns-in-Live c = λ before h.
-    tells_set _ before _ _ (sym c.removal_of.ensures ∙ c.in-Some.is) (omega (arith, c.if-removal-len.true, c.len.ensures))
-    (sym (get_or_read_under _ _ _ _ Live c.index.ensures c.if-removal-len.true (omega (arith, c.len.ensures))) ∙ c.in-Live.is) h
+    tells_set _ before _ _ (sym c.removal_of.ensures
+    ∙ c.in-Some.is) (omega (arith, c.if-removal-len.true, c.len.ensures))
+    (sym (get_or_read_under _ _ _ _ Live c.index.ensures c.if-removal-len.true (omega (arith, c.len.ensures)))
+    ∙ c.in-Live.is) h
 
 pub returns-in-Fulfilled : goal.returns-in-Fulfilled
 returns-in-Fulfilled c = λ before h.
-    tells_done _ before _ _ (sym c.removal_of.ensures ∙ c.in-Some.is) (omega (arith, c.if-removal-len.true, c.len.ensures))
-    (ap is_live (sym (get_or_read_under _ _ _ _ Live c.index.ensures c.if-removal-len.true (omega (arith, c.len.ensures))) ∙ c.in-Fulfilled.is)) h
+    tells_done _ before _ _ (sym c.removal_of.ensures
+    ∙ c.in-Some.is) (omega (arith, c.if-removal-len.true, c.len.ensures))
+    (ap is_live (sym (get_or_read_under _ _ _ _ Live c.index.ensures c.if-removal-len.true
+    (omega (arith, c.len.ensures))) ∙ c.in-Fulfilled.is)) h
 
 pub returns-in-Failed : goal.returns-in-Failed
 returns-in-Failed c = λ before h.
-    tells_done _ before _ _ (sym c.removal_of.ensures ∙ c.in-Some.is) (omega (arith, c.if-removal-len.true, c.len.ensures))
-    (ap is_live (sym (get_or_read_under _ _ _ _ Live c.index.ensures c.if-removal-len.true (omega (arith, c.len.ensures))) ∙ c.in-Failed.is)) h
+    tells_done _ before _ _ (sym c.removal_of.ensures
+    ∙ c.in-Some.is) (omega (arith, c.if-removal-len.true, c.len.ensures))
+    (ap is_live (sym (get_or_read_under _ _ _ _ Live c.index.ensures c.if-removal-len.true
+    (omega (arith, c.len.ensures))) ∙ c.in-Failed.is)) h
 
 pub returns-else-removal-len : goal.returns-else-removal-len
-returns-else-removal-len c = λ before h. tells_past _ before _ _ (sym c.removal_of.ensures ∙ c.in-Some.is) (omega (arith, c.if-removal-len.false, c.len.ensures)) h
+returns-else-removal-len c = λ before h. tells_past _ before _ _ (sym c.removal_of.ensures
+    ∙ c.in-Some.is) (omega (arith, c.if-removal-len.false, c.len.ensures)) h

@@ -1,4 +1,5 @@
-use Rattle.std.proofs.Common.{◌≡◌, ◌-◌, ◌++◌, length, take, drop, sym, ap, subst, ◌∙◌, arith, length-take, length-drop, append-nil}
+use Rattle.std.proofs.Common.{◌≡◌, ◌-◌, ◌++◌, length, take, drop, sym, ap, subst, ◌∙◌, arith, length-take, length-drop}
+use Rattle.std.proofs.Common.{append-nil}
 use lib.Seq.{take-add, take-take}
 use Rattle.std.specs.Io.KnownBytes.{Appends}
 use Rattle.std.proofs.KnownBytes.{Appends-trans, Appends-kept}
@@ -13,7 +14,8 @@ loop-written-preserved g c =
     let before = c.loop-written.invariant in
     let fits = c.in-Ok.ensures.bound in
     let most = length-take (length xs - done) (drop done xs) in
-    let joined = ap (λ l. take done xs ++ l) (take-take n (length xs - done) (drop done xs) (omega arith)) ∙ sym (take-add done n xs) in
+    let joined = ap (λ l. take done xs ++ l) (take-take n (length xs - done) (drop done xs) (omega arith))
+    ∙ sym (take-add done n xs) in
     record {
       within = omega (arith, length-drop done xs);
       sent = subst (Appends _ _) joined (Appends-trans _ _ _ _ _ before.sent c.in-Ok.ensures.bytes);
@@ -31,7 +33,8 @@ returns-in_default-clause-front g c =
       sent = take done xs;
       left = drop done xs;
       bytes_are = sym (take-append-drop done xs);
-      written = subst (Appends _ _) (append-nil (take done xs)) (Appends-trans _ _ _ _ _ c.loop-written.invariant.sent (subst (Appends _ _) nothing c.in-Ok.ensures.bytes));
+      written = subst (Appends _ _) (append-nil (take done xs))
+          (Appends-trans _ _ _ _ _ c.loop-written.invariant.sent (subst (Appends _ _) nothing c.in-Ok.ensures.bytes));
     }
 
 pub returns-in_default-2-clause-front : goal.returns-in_default-2-clause-front

@@ -10,11 +10,25 @@ use Rattle.ln_world.proofs.endpoint.take_add.Goals.{in-Ok, in-Err+in-Memory, in-
 
 pub returns-clause-ok : goal.returns-clause-ok
 returns-clause-ok c =
-    let P : EndState → Type 0 = λ x. record { x = record { log = c.receive.new.self; said = c.x.inside.said.items; inbox = c.x.inside.inbox.items; signatures = c.x.inside.signatures; revocations = c.x.inside.revocations }; y = c.args.y.now } ≡ takes (message.Add c.args.add) (record { x = x; y = c.args.y.now }) in
+    let P : EndState → Type 0 = λ x. record {
+      x = record {
+        log = c.receive.new.self;
+        said = c.x.inside.said.items;
+        inbox = c.x.inside.inbox.items;
+        signatures = c.x.inside.signatures;
+        revocations = c.x.inside.revocations;
+      };
+      y =
+          c.args.y.now;
+    } ≡ takes (message.Add c.args.add) (record { x = x; y = c.args.y.now }) in
     elim c.match-receive.branch [
-      | in-Ok w ↦ rw w.result-is (subst P c.x.view_is (taken_by _ c.args.y.now c.args.add c.receive.new.self (w.in-Ok.ensures.answer _ refl) (w.in-Ok.ensures.ok _ refl)))
+      | in-Ok w ↦ rw w.result-is (subst P c.x.view_is
+          (taken_by _ c.args.y.now c.args.add c.receive.new.self (w.in-Ok.ensures.answer _ refl)
+          (w.in-Ok.ensures.ok _ refl)))
       | in-Err+in-Memory w ↦ rw w.result-is tt
-      | in-Err+in_default w ↦ rw w.result-is (subst P c.x.view_is (untaken_by _ c.args.y.now c.args.add c.receive.new.self _ (w.in-Err.ensures.answer _ refl) w.in_default.not-Memory w.in-Err.ensures.err))
+      | in-Err+in_default w ↦
+          rw w.result-is (subst P c.x.view_is (untaken_by _ c.args.y.now c.args.add c.receive.new.self _
+          (w.in-Err.ensures.answer _ refl) w.in_default.not-Memory w.in-Err.ensures.err))
     ]
 
 pub returns-clause-answer : goal.returns-clause-answer
@@ -23,5 +37,8 @@ returns-clause-answer c =
     elim c.match-receive.branch [
       | in-Ok w ↦ rw w.result-is (subst P c.x.view_is (done_by _ (w.in-Ok.ensures.answer _ refl)))
       | in-Err+in-Memory w ↦ rw w.result-is tt
-      | in-Err+in_default w ↦ (let Q : EndState → Type 0 = λ x. Refused w.in-Err.refusal ≡ answer_by (taken_fault x.log (update.Add c.args.add)) in rw w.result-is (subst Q c.x.view_is (refused_answer _ w.in-Err.refusal (w.in-Err.ensures.answer _ refl) w.in_default.not-Memory)))
+      | in-Err+in_default w ↦ (let Q : EndState → Type 0 = λ x. Refused w.in-Err.refusal
+          ≡ answer_by (taken_fault x.log (update.Add c.args.add)) in
+          rw w.result-is (subst Q c.x.view_is (refused_answer _ w.in-Err.refusal (w.in-Err.ensures.answer _ refl)
+          w.in_default.not-Memory)))
     ]

@@ -4,4 +4,5 @@ use Rattle.lnlink.specs.Shown.{shown_field}
 use Rattle.lnlink.proofs.text.put_fields.Given as goal
 
 abbrev pub invariant-loop-field : goal.invariant-loop-field
-invariant-loop-field l = string_bytes l.out ≡ string_bytes l.initial.out ++ flat_map shown_field (take l.field-index l.fields)
+invariant-loop-field l = string_bytes l.out ≡ string_bytes l.initial.out
+    ++ flat_map shown_field (take l.field-index l.fields)

@@ -4,4 +4,5 @@ use Rattle.lnlink.specs.Text.{record_text}
 use Rattle.lnlink.proofs.text.put_records.Given as goal
 
 abbrev pub invariant-loop-record : goal.invariant-loop-record
-invariant-loop-record l = string_bytes l.out ≡ string_bytes l.initial.out ++ flat_map record_text (take l.record-index l.records)
+invariant-loop-record l = string_bytes l.out ≡ string_bytes l.initial.out
+    ++ flat_map record_text (take l.record-index l.records)

@@ -3,4 +3,5 @@ use Rattle.lnlink.proofs.text.put_signatures.Goals as goal
 
 pub loop-signature-preserved : goal.loop-signature-preserved
 loop-signature-preserved c =
-    signatures_more _ _ _ c.args.list.now c.loop-signature.signature-index _ c.loop-signature-test.true c.loop-signature.invariant c.in_ok-put_signature.ensures
+    signatures_more _ _ _ c.args.list.now c.loop-signature.signature-index _ c.loop-signature-test.true
+    c.loop-signature.invariant c.in_ok-put_signature.ensures

@@ -4,4 +4,5 @@ use Rattle.lnlink.specs.Text.{signature_line}
 use Rattle.lnlink.proofs.text.put_signatures.Given as goal
 
 abbrev pub invariant-loop-signature : goal.invariant-loop-signature
-invariant-loop-signature l = string_bytes l.out ≡ string_bytes l.initial.out ++ flat_map signature_line (take l.signature-index l.list)
+invariant-loop-signature l = string_bytes l.out ≡ string_bytes l.initial.out
+    ++ flat_map signature_line (take l.signature-index l.list)

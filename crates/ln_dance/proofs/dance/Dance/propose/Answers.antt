@@ -9,8 +9,17 @@ pub propose-requires : goal.propose-requires
 propose-requires c = λ l e. subst (λ (x : Log). HasNextId x.own c.args.update) e (c.requires _ (sym c.self.view_is))
 
 pub invariant_of-self : goal.invariant_of-self
-invariant_of-self c = either_way c.propose.result (c.propose.ensures.ok _ refl) c.propose.ensures.err (λ e. kept_by _ _ _ _ c.self.invariant e refl refl) (λ e. kept_by _ _ _ _ c.self.invariant e refl refl)
+invariant_of-self c = either_way c.propose.result (c.propose.ensures.ok _ refl) c.propose.ensures.err
+    (λ e. kept_by _ _ _ _ c.self.invariant e refl refl) (λ e. kept_by _ _ _ _ c.self.invariant e refl refl)
 
 pub returns-clause-ok : goal.returns-clause-ok
 returns-clause-ok c = λ d e.
-    map_ok c.propose.result (λ h. ap (λ (x : Log). record { channel = c.self.inside.channel; log = x; numbers = c.self.inside.numbers; peer = c.self.inside.peer; later = c.self.inside.later }) h ∙ ap (λ (x : Dancer). with_log (after_propose c.args.update x.log) x) (c.self.view_is ∙ e)) (c.propose.ensures.ok _ refl)
+    map_ok c.propose.result (λ h. ap (λ (x : Log). record {
+      channel = c.self.inside.channel;
+      log = x;
+      numbers = c.self.inside.numbers;
+      peer = c.self.inside.peer;
+      later = c.self.inside.later;
+    }) h
+    ∙ ap (λ (x : Dancer). with_log (after_propose c.args.update x.log) x) (c.self.view_is ∙ e))
+    (c.propose.ensures.ok _ refl)

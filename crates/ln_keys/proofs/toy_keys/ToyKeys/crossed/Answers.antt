@@ -3,7 +3,8 @@ use Rattle.std.specs.List.{list_all}
 use Rattle.std.proofs.lemmas.Cmp.{nat_list_eq_equiv, nat_eq_equiv}
 use Rattle.std.proofs.lemmas.List.{length-replicate}
 use Rattle.ln_keys.specs.declared.view.View.{View}
-use Rattle.ln_keys.specs.Toy.{toy_secret, toy_point, toy_signature, toy_htlc_signatures, toy_close_signature, toy_accepts, toy_fits, toy_accepts_close, are_same, are_all}
+use Rattle.ln_keys.specs.Toy.{toy_secret, toy_point, toy_signature, toy_htlc_signatures, toy_close_signature}
+use Rattle.ln_keys.specs.Toy.{toy_accepts, toy_fits, toy_accepts_close, are_same, are_all}
 use Rattle.ln_keys.proofs.toy_keys.ToyKeys.crossed.Goals as goal
 
 same : (xs : List ℕ) → are_same xs xs ≡ true
@@ -16,7 +17,8 @@ each (suc n) one = rw (same one) (each n one)
 all : (n : ℕ) (one : List ℕ) → are_all n one (replicate n one) ≡ true
 all n one = rw (length-replicate n one, nat_eq_equiv.refl n) (each n one)
 
-accepted : (t u : List ℕ) → t ≡ u → (n : ℕ) (p : List ℕ) (v : View) → toy_accepts u n p v (toy_signature t n p v) (toy_htlc_signatures t n p v) ≡ true
+accepted : (t u : List ℕ) → t ≡ u → (n : ℕ) (p : List ℕ) (v : View)
+    → toy_accepts u n p v (toy_signature t n p v) (toy_htlc_signatures t n p v) ≡ true
 accepted t u e n p v =
     let P : List ℕ → Type 0 = λ w. toy_accepts w n p v (toy_signature t n p v) (toy_htlc_signatures t n p v) ≡ true in
     subst P e (rw (same (toy_signature t n p v)) (all (length v.htlcs) (toy_signature t n p v)))

@@ -6,16 +6,34 @@ use Rattle.ln_link.proofs.channel.Channel.accept.Goals as goal
 
 pub invariant_of-self : goal.invariant_of-self
 invariant_of-self g c =
-    let e : End = record { dance = c.self.inside.dance; closing = c.self.inside.closing; terms = c.self.inside.terms; marks = c.self.inside.marks; ledger = c.self.inside.ledger } in
-    sound c.accept.result e c.accept.new.self (after_accept c.self.inside.dance) (c.accept.ensures.ok _ refl) c.accept.ensures.err refl c.self.invariant
+    let e : End = record {
+      dance = c.self.inside.dance;
+      closing = c.self.inside.closing;
+      terms = c.self.inside.terms;
+      marks = c.self.inside.marks;
+      ledger = c.self.inside.ledger;
+    } in
+    sound c.accept.result e c.accept.new.self (after_accept c.self.inside.dance) (c.accept.ensures.ok _ refl)
+    c.accept.ensures.err refl c.self.invariant
 
 pub returns-clause-state : goal.returns-clause-state
 returns-clause-state g c =
-    let e : End = record { dance = c.self.inside.dance; closing = c.self.inside.closing; terms = c.self.inside.terms; marks = c.self.inside.marks; ledger = c.self.inside.ledger } in
-    rw (← c.self.view_is) (on_ok c.accept.result (λ s. ap (λ (d : Dancer). with_dance d e) s) (c.accept.ensures.ok _ refl))
+    let e : End = record {
+      dance = c.self.inside.dance;
+      closing = c.self.inside.closing;
+      terms = c.self.inside.terms;
+      marks = c.self.inside.marks;
+      ledger = c.self.inside.ledger;
+    } in
+    rw (← c.self.view_is) (on_ok c.accept.result (λ s. ap (λ (d : Dancer). with_dance d e) s)
+    (c.accept.ensures.ok _ refl))
 
 pub returns-clause-grows : goal.returns-clause-grows
-returns-clause-grows g c = rw (← c.self.view_is) (on_ok c.accept.result (λ s. subst (λ (d : Dancer). c.self.inside.dance.log.current.own ≤ d.log.current.own) (sym s) c.own_held.ensures.ordered) (c.accept.ensures.ok _ refl))
+returns-clause-grows g c = rw (← c.self.view_is)
+    (on_ok c.accept.result (λ s. subst (λ (d : Dancer). c.self.inside.dance.log.current.own ≤ d.log.current.own) (sym s)
+    c.own_held.ensures.ordered) (c.accept.ensures.ok _ refl))
 
 pub returns-clause-kept : goal.returns-clause-kept
-returns-clause-kept g c = rw (← c.self.view_is) (on_ok c.accept.result (λ s. subst (λ (d : Dancer). d.log.first.own ≤ c.self.inside.dance.log.current.own) (sym s) c.own_held.ensures.first) (c.accept.ensures.ok _ refl))
+returns-clause-kept g c = rw (← c.self.view_is)
+    (on_ok c.accept.result (λ s. subst (λ (d : Dancer). d.log.first.own ≤ c.self.inside.dance.log.current.own) (sym s)
+    c.own_held.ensures.first) (c.accept.ensures.ok _ refl))

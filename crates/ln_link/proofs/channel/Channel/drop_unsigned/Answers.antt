@@ -3,4 +3,9 @@ use Rattle.ln_dance.specs.Dance.{Dancer}
 use Rattle.ln_link.proofs.channel.Channel.drop_unsigned.Goals as goal
 
 pub invariant_of-self : goal.invariant_of-self
-invariant_of-self c = record { one_role = ap (λ (d : Dancer). d.log.role) (c.drop_unsigned.ensures _ refl) ∙ c.self.invariant.one_role; fees = c.self.invariant.fees; scripts = c.self.invariant.scripts }
+invariant_of-self c = record {
+  one_role = ap (λ (d : Dancer). d.log.role) (c.drop_unsigned.ensures _ refl)
+      ∙ c.self.invariant.one_role;
+  fees = c.self.invariant.fees;
+  scripts = c.self.invariant.scripts;
+}

@@ -7,13 +7,28 @@ use Rattle.ln_link.proofs.channel.Channel.propose_next.Goals as goal
 
 pub invariant_of-self : goal.invariant_of-self
 invariant_of-self c =
-    let e : End = record { dance = c.self.inside.dance; closing = c.self.inside.closing; terms = c.self.inside.terms; marks = c.self.inside.marks; ledger = c.self.inside.ledger } in
-    sound c.propose.result e c.propose.new.self (with_log (after_propose c.args.update c.self.inside.dance.log) c.self.inside.dance) (c.propose.ensures.ok _ refl) c.propose.ensures.err refl c.self.invariant
+    let e : End = record {
+      dance = c.self.inside.dance;
+      closing = c.self.inside.closing;
+      terms = c.self.inside.terms;
+      marks = c.self.inside.marks;
+      ledger = c.self.inside.ledger;
+    } in
+    sound c.propose.result e c.propose.new.self (with_log (after_propose c.args.update c.self.inside.dance.log)
+    c.self.inside.dance) (c.propose.ensures.ok _ refl) c.propose.ensures.err refl c.self.invariant
 
 pub returns-clause-state : goal.returns-clause-state
 returns-clause-state c =
-    let e : End = record { dance = c.self.inside.dance; closing = c.self.inside.closing; terms = c.self.inside.terms; marks = c.self.inside.marks; ledger = c.self.inside.ledger } in
-    rw (← c.self.view_is) (on_ok c.propose.result (λ s. ap (λ (d : Dancer). with_dance d e) s) (c.propose.ensures.ok _ refl))
+    let e : End = record {
+      dance = c.self.inside.dance;
+      closing = c.self.inside.closing;
+      terms = c.self.inside.terms;
+      marks = c.self.inside.marks;
+      ledger = c.self.inside.ledger;
+    } in
+    rw (← c.self.view_is) (on_ok c.propose.result (λ s. ap (λ (d : Dancer). with_dance d e) s)
+    (c.propose.ensures.ok _ refl))
 
 pub returns-clause-answer : goal.returns-clause-answer
-returns-clause-answer c = rw (← c.self.view_is) (within (proposal_fault c.self.inside.dance.log c.args.update) c.propose.result (c.propose.ensures.answer _ refl))
+returns-clause-answer c = rw (← c.self.view_is)
+    (within (proposal_fault c.self.inside.dance.log c.args.update) c.propose.result (c.propose.ensures.answer _ refl))

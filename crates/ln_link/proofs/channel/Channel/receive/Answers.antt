@@ -7,13 +7,28 @@ use Rattle.ln_link.proofs.channel.Channel.receive.Goals as goal
 
 pub invariant_of-self : goal.invariant_of-self
 invariant_of-self c =
-    let e : End = record { dance = c.self.inside.dance; closing = c.self.inside.closing; terms = c.self.inside.terms; marks = c.self.inside.marks; ledger = c.self.inside.ledger } in
-    sound c.receive.result e c.receive.new.self (with_log (after_receive c.args.update c.self.inside.dance.log) c.self.inside.dance) (c.receive.ensures.ok _ refl) c.receive.ensures.err refl c.self.invariant
+    let e : End = record {
+      dance = c.self.inside.dance;
+      closing = c.self.inside.closing;
+      terms = c.self.inside.terms;
+      marks = c.self.inside.marks;
+      ledger = c.self.inside.ledger;
+    } in
+    sound c.receive.result e c.receive.new.self (with_log (after_receive c.args.update c.self.inside.dance.log)
+    c.self.inside.dance) (c.receive.ensures.ok _ refl) c.receive.ensures.err refl c.self.invariant
 
 pub returns-clause-state : goal.returns-clause-state
 returns-clause-state c =
-    let e : End = record { dance = c.self.inside.dance; closing = c.self.inside.closing; terms = c.self.inside.terms; marks = c.self.inside.marks; ledger = c.self.inside.ledger } in
-    rw (← c.self.view_is) (on_ok c.receive.result (λ s. ap (λ (d : Dancer). with_dance d e) s) (c.receive.ensures.ok _ refl))
+    let e : End = record {
+      dance = c.self.inside.dance;
+      closing = c.self.inside.closing;
+      terms = c.self.inside.terms;
+      marks = c.self.inside.marks;
+      ledger = c.self.inside.ledger;
+    } in
+    rw (← c.self.view_is) (on_ok c.receive.result (λ s. ap (λ (d : Dancer). with_dance d e) s)
+    (c.receive.ensures.ok _ refl))
 
 pub returns-clause-answer : goal.returns-clause-answer
-returns-clause-answer c = rw (← c.self.view_is) (within (taken_fault c.self.inside.dance.log c.args.update) c.receive.result (c.receive.ensures.answer _ refl))
+returns-clause-answer c = rw (← c.self.view_is)
+    (within (taken_fault c.self.inside.dance.log c.args.update) c.receive.result (c.receive.ensures.answer _ refl))

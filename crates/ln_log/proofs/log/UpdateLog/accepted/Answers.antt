@@ -23,4 +23,5 @@ invariant_of-self c =
     c.with_all-self-inside.ensures c.with_all-self-inside-2.ensures
 
 pub returns : goal.returns
-returns c = λ l e. accepted_is _ l _ _ (c.self.view_is ∙ e) (c.counts-next.ensures.own l e) (c.counts-next.ensures.peer l e)
+returns c = λ l e. accepted_is _ l _ _ (c.self.view_is
+    ∙ e) (c.counts-next.ensures.own l e) (c.counts-next.ensures.peer l e)

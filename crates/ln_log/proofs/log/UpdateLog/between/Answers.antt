@@ -6,4 +6,5 @@ use Rattle.ln_log.proofs.log.UpdateLog.between.Goals as goal
 pub returns-clause-amounts : goal.returns-clause-amounts
 returns-clause-amounts c = λ l e.
     part_within _ l _ _ _ _ c.args.side c.args.from c.args.to _ c.self.invariant (c.self.view_is ∙ e)
-    (c.part.ensures.gives_the_part ∙ ap (between c.args.from c.args.to) (c.list.ensures ∙ ap (updates_of c.args.side) (sym c.self.view_is)))
+    (c.part.ensures.gives_the_part ∙ ap (between c.args.from c.args.to) (c.list.ensures
+    ∙ ap (updates_of c.args.side) (sym c.self.view_is)))

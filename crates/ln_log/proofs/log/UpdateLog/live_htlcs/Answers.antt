@@ -4,10 +4,12 @@ use Rattle.ln_log.proofs.Signs.{cut_length}
 use Rattle.ln_log.proofs.log.UpdateLog.live_htlcs.Goals as goal
 
 pub slice_bounds-own-end : goal.slice_bounds-own-end
-slice_bounds-own-end c = cut_length _ _ _ (c.counts-counts.ensures.own_within _ (sym c.self.view_is)) c.deref.ensures.value
+slice_bounds-own-end c = cut_length _ _ _ (c.counts-counts.ensures.own_within _
+    (sym c.self.view_is)) c.deref.ensures.value
 
 pub slice_bounds-peer-end : goal.slice_bounds-peer-end
-slice_bounds-peer-end c = cut_length _ _ _ (c.counts-counts.ensures.peer_within _ (sym c.self.view_is)) c.deref-2.ensures.value
+slice_bounds-peer-end c = cut_length _ _ _ (c.counts-counts.ensures.peer_within _
+    (sym c.self.view_is)) c.deref-2.ensures.value
 
 pub overflow_sub-result : goal.overflow_sub-result
 overflow_sub-result c =
@@ -17,7 +19,8 @@ overflow_sub-result c =
       c.count_adds-2.ensures.count,
       c.count_removals.ensures.count,
       c.count_removals-2.ensures.count,
-      live_by _ _ _ _ _ _ c.args.side _ _ _ _ c.self.invariant refl (c.counts-counts.ensures.own _ (sym c.self.view_is)) (c.counts-counts.ensures.peer _ (sym c.self.view_is)) c.deref.ensures.value c.deref-2.ensures.value,
+      live_by _ _ _ _ _ _ c.args.side _ _ _ _ c.self.invariant refl (c.counts-counts.ensures.own _ (sym c.self.view_is))
+          (c.counts-counts.ensures.peer _ (sym c.self.view_is)) c.deref.ensures.value c.deref-2.ensures.value,
     )
 
 pub returns : goal.returns
@@ -28,5 +31,7 @@ returns c = λ l e.
       c.count_adds-2.ensures.count,
       c.count_removals.ensures.count,
       c.count_removals-2.ensures.count,
-      live_by _ l _ _ _ _ c.args.side _ _ _ _ c.self.invariant (c.self.view_is ∙ e) (c.counts-counts.ensures.own l e) (c.counts-counts.ensures.peer l e) c.deref.ensures.value c.deref-2.ensures.value,
+      live_by _ l _ _ _ _ c.args.side _ _ _ _ c.self.invariant (c.self.view_is
+          ∙ e) (c.counts-counts.ensures.own l e) (c.counts-counts.ensures.peer l e) c.deref.ensures.value
+          c.deref-2.ensures.value,
     )

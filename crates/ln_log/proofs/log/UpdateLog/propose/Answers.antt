@@ -6,19 +6,26 @@ use Rattle.ln_log.proofs.log.UpdateLog.propose.Goals as goal
 
 pub with_own-standing-requires : goal.with_own-standing-requires
 with_own-standing-requires c =
-    own_call _ _ _ _ _ c.args.update _ c.self.invariant (ap (λ (l : Log). proposal_fault l c.args.update) c.self.view_is ∙ sym c.proposal_refusal.ensures ∙ c.in-None.is)
+    own_call _ _ _ _ _ c.args.update _ c.self.invariant (ap (λ (l : Log). proposal_fault l c.args.update) c.self.view_is
+    ∙ sym c.proposal_refusal.ensures ∙ c.in-None.is)
     (c.requires _ (sym c.self.view_is)) (front_is _ _ _ c.deref.ensures.value)
 
 pub returns-in_err-push-in-None-clause-answer : goal.returns-in_err-push-in-None-clause-answer
-returns-in_err-push-in-None-clause-answer c = λ l e. no_memory _ _ _ (c.proposal_refusal.ensures ∙ ap (λ (x : Log). proposal_fault x c.args.update) e) c.in-None.is c.from_residual.ensures.1
+returns-in_err-push-in-None-clause-answer c =
+    λ l e. no_memory _ _ _ (c.proposal_refusal.ensures
+    ∙ ap (λ (x : Log). proposal_fault x c.args.update) e) c.in-None.is
+    c.from_residual.ensures.1
 
 pub invariant_of-self-in-None : goal.invariant_of-self-in-None
 invariant_of-self-in-None c =
-    rw c.in_ok-push-in-None.ensures.items (kept_proposed _ _ _ _ _ _ c.args.update _ c.self.invariant (ap (λ (l : Log). proposal_fault l c.args.update) c.self.view_is ∙ sym c.proposal_refusal.ensures ∙ c.in-None.is)
+    rw c.in_ok-push-in-None.ensures.items (kept_proposed _ _ _ _ _ _ c.args.update _ c.self.invariant
+    (ap (λ (l : Log). proposal_fault l c.args.update) c.self.view_is ∙ sym c.proposal_refusal.ensures ∙ c.in-None.is)
     (c.requires _ (sym c.self.view_is)) (front_is _ _ _ c.deref.ensures.value) c.with_own-standing.ensures)
 
 pub returns-in-Some-clause-answer : goal.returns-in-Some-clause-answer
-returns-in-Some-clause-answer c = λ l e. refused_as _ _ _ (c.proposal_refusal.ensures ∙ ap (λ (x : Log). proposal_fault x c.args.update) e) c.in-Some.is
+returns-in-Some-clause-answer c = λ l e. refused_as _ _ _ (c.proposal_refusal.ensures
+    ∙ ap (λ (x : Log). proposal_fault x c.args.update) e) c.in-Some.is
 
 pub returns-in_ok-push-in-None-clause-answer : goal.returns-in_ok-push-in-None-clause-answer
-returns-in_ok-push-in-None-clause-answer c = λ l e. goes_as _ _ (c.proposal_refusal.ensures ∙ ap (λ (x : Log). proposal_fault x c.args.update) e) c.in-None.is
+returns-in_ok-push-in-None-clause-answer c = λ l e. goes_as _ _ (c.proposal_refusal.ensures
+    ∙ ap (λ (x : Log). proposal_fault x c.args.update) e) c.in-None.is

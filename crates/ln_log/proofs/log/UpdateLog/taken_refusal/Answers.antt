@@ -7,8 +7,12 @@ use Rattle.ln_log.proofs.log.UpdateLog.taken_refusal.Goals as goal
 
 pub returns : goal.returns
 returns c =
-    let all : c.len.result ≡ length c.self.inside.received.items = omega (arith, c.len.ensures, c.self.inside.received.ok) in
-    taken_is _ _ _ _ _ _ c.args.update.now _ _ _ _ _ _ c.self.view_is c.self.invariant all (omega (arith, c.if-len-ge-MOST_UPDATES.false))
-    (c.if-not-has_id.ensures c.self.inside.received.items (ap (λ (t : Standing). t.next_id) c.self.invariant.peer_stands))
-    (c.limits_of-limits.ensures ∙ ap (limits_of c.self.inside.opening) c.other.ensures) c.other-2.ensures c.as_slice.ensures.value
+    let all : c.len.result ≡ length c.self.inside.received.items =
+    omega (arith, c.len.ensures, c.self.inside.received.ok) in
+    taken_is _ _ _ _ _ _ c.args.update.now _ _ _ _ _ _ c.self.view_is c.self.invariant all
+    (omega (arith, c.if-len-ge-MOST_UPDATES.false))
+    (c.if-not-has_id.ensures c.self.inside.received.items
+    (ap (λ (t : Standing). t.next_id) c.self.invariant.peer_stands))
+    (c.limits_of-limits.ensures ∙ ap (limits_of c.self.inside.opening) c.other.ensures) c.other-2.ensures
+    c.as_slice.ensures.value
     (front_is _ _ _ c.deref.ensures.value) c.update_refusal.ensures

@@ -7,5 +7,6 @@ pub returns-then-left-len-clause-none_is_too_many : goal.returns-then-left-len-c
 returns-then-left-len-clause-none_is_too_many c =
     let i = c.loop-field.field-index in
     let fs = c.args.fields.now in
-    let more : length (items_bytes (take i fs)) + c.item_len-len.result ≤ length (items_bytes fs) = rw c.item_len-len.ensures (flat_fits item_bytes fs i _ c.loop-field-test.true) in
+    let more : length (items_bytes (take i fs)) + c.item_len-len.result ≤ length (items_bytes fs) =
+    rw c.item_len-len.ensures (flat_fits item_bytes fs i _ c.loop-field-test.true) in
     omega (arith, more, c.loop-field.invariant)

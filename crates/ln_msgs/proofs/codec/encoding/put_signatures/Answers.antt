@@ -11,8 +11,12 @@ loop-signature-preserved c =
     let i = c.loop-signature.signature-index in
     let xs = c.args.list.now in
     let next = get_or xs i [] in
-    c.in_ok-extend_from_slice-2.ensures.items ∙ ap (λ l. l ++ next) c.loop-signature.invariant ∙ append_assoc c.extend_from_slice.new.self.items (concat (take i xs)) next
+    c.in_ok-extend_from_slice-2.ensures.items ∙ ap (λ l. l ++ next) c.loop-signature.invariant
+    ∙ append_assoc c.extend_from_slice.new.self.items (concat (take i xs)) next
     ∙ ap (λ l. c.extend_from_slice.new.self.items ++ l) (sym (concat_more xs i [] c.loop-signature-test.true))
 
 pub returns-clause-has_signatures_of_64_bytes : goal.returns-clause-has_signatures_of_64_bytes
-returns-clause-has_signatures_of_64_bytes c = (omega (arith, length-concat 64 c.args.list.now c.told-list, c.requires), all-by_index 64 c.args.list.now c.told-list)
+returns-clause-has_signatures_of_64_bytes c = (
+  omega (arith, length-concat 64 c.args.list.now c.told-list, c.requires),
+  all-by_index 64 c.args.list.now c.told-list,
+)

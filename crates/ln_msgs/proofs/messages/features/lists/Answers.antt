@@ -1,4 +1,5 @@
-use Rattle.std.proofs.Common.{◌≡◌, ℕ, suc, ◌+◌, ◌*◌, ◌<◌, ◌≤◌, List, [], ◌∷◌, get_or, false, ◌==◌, ◌||◌, nat_lt, refl, sym, ap, ◌∙◌, arith}
+use Rattle.std.proofs.Common.{◌≡◌, ℕ, suc, ◌+◌, ◌*◌, ◌<◌, ◌≤◌, List, [], ◌∷◌, get_or, false, ◌==◌, ◌||◌, nat_lt, refl}
+use Rattle.std.proofs.Common.{sym, ap, ◌∙◌, arith}
 use Rattle.std.proofs.lemmas.Bool.Decides.{nat_tests}
 use Rattle.ln_msgs.specs.Messages.Features.{is_listed}
 use Rattle.ln_msgs.proofs.messages.features.lists.Goals as goal
@@ -14,4 +15,5 @@ none_so_great (x ∷ xs) k small great =
 pub returns-else-place-lt8192 : goal.returns-else-place-lt8192
 returns-else-place-lt8192 c =
     let past : nat_lt c.args.place 8192 ≡ false = grind (arith, nat_tests) in
-    past ∙ sym (none_so_great c.args.known.now (8 * c.args.place + c.args.bit) (λ i. omega (arith, c.type_inv.known i)) (omega arith))
+    past ∙ sym (none_so_great c.args.known.now (8 * c.args.place + c.args.bit)
+    (λ i. omega (arith, c.type_inv.known i)) (omega arith))

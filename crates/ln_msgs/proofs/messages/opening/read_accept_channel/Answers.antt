@@ -8,4 +8,5 @@ use Rattle.ln_msgs.proofs.Pieces.{pieced_is}
 use Rattle.ln_msgs.proofs.messages.opening.read_accept_channel.Goals as goal
 
 pub returns : goal.returns
-returns c = subst (Gives (λ m. Known (accept_wire m)) c.accept_in_pieces.result) (pieced_is accept_pieces accept_form 33 c.args.payload.now refl) c.accept_in_pieces.ensures
+returns c = subst (Gives (λ m. Known (accept_wire m)) c.accept_in_pieces.result)
+    (pieced_is accept_pieces accept_form 33 c.args.payload.now refl) c.accept_in_pieces.ensures

@@ -8,4 +8,5 @@ use Rattle.ln_msgs.proofs.Pieces.{pieced_is}
 use Rattle.ln_msgs.proofs.messages.opening.read_open_channel.Goals as goal
 
 pub returns : goal.returns
-returns c = subst (Gives (λ m. Known (open_wire m)) c.open_in_pieces.result) (pieced_is open_pieces open_form 32 c.args.payload.now refl) c.open_in_pieces.ensures
+returns c = subst (Gives (λ m. Known (open_wire m)) c.open_in_pieces.result)
+    (pieced_is open_pieces open_form 32 c.args.payload.now refl) c.open_in_pieces.ensures

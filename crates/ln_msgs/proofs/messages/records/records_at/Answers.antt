@@ -9,4 +9,5 @@ use Rattle.ln_msgs.proofs.messages.records.records_at.Goals as goal
 pub returns-then-is_empty : goal.returns-then-is_empty
 returns-then-is_empty c =
     let none : c.args.bytes.now ≡ [] = nil_from_length _ (eqb-true _ _ (sym c.if-is_empty.ensures)) in
-    ap (stream_at c.args.known_even.now) none ∙ no_records c.args.known_even.now ∙ ap (λ (rs : List Record). Ok rs) (sym c.empty.ensures)
+    ap (stream_at c.args.known_even.now) none ∙ no_records c.args.known_even.now
+    ∙ ap (λ (rs : List Record). Ok rs) (sym c.empty.ensures)

@@ -10,7 +10,9 @@ invariant-turns g l =
     let remaining = g.R.Read.remaining in
     let contents = g.W.Write.contents in
     record {
-      progress : Progress (remaining (inner_of l.initial.reader)) (prepend_known l.input (remaining (inner_of l.reader))) (contents (inner_of l.initial.writer)) (contents (inner_of l.writer)) l.out;
+      progress : Progress (remaining (inner_of l.initial.reader))
+          (prepend_known l.input (remaining (inner_of l.reader))) (contents (inner_of l.initial.writer))
+          (contents (inner_of l.writer)) l.out;
       sent : l.out.bytes ≡ [];
       reader_failures : failures_of l.initial.reader ≤ failures_of l.reader;
       writer_failures : failures_of l.initial.writer ≤ failures_of l.writer;

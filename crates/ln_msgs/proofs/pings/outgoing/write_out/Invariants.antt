@@ -7,7 +7,8 @@ use Rattle.ln_msgs.proofs.pings.outgoing.write_out.Given as goal
 abbrev pub invariant-loop-written : goal.invariant-loop-written
 invariant-loop-written g l = record {
   within : l.written ≤ length l.bytes;
-  sent : Appends (g.W.Write.contents (inner_of l.initial.writer)) (g.W.Write.contents (inner_of l.writer)) (take l.written l.bytes);
+  sent : Appends (g.W.Write.contents (inner_of l.initial.writer)) (g.W.Write.contents (inner_of l.writer))
+      (take l.written l.bytes);
   failures : failures_of l.initial.writer ≤ failures_of l.writer;
   calls : calls_of l.initial.writer ≤ calls_of l.writer;
 }

@@ -10,12 +10,14 @@ pub returns-clause-machine : goal.returns-clause-machine
 returns-clause-machine c =
     let w = c.loop-step.world in
     let ss = c.args.steps.now in
-    let e : w ≡ run ss None = ap (λ (rest : List Step). run rest w) (sym (drop_all c.loop-step.step-index ss (omega arith))) ∙ c.loop-step.invariant in
+    let e : w ≡ run ss None = ap (λ (rest : List Step). run rest w)
+    (sym (drop_all c.loop-step.step-index ss (omega arith))) ∙ c.loop-step.invariant in
     subst (λ v. IsRun (moves ss None) None (machine_of v)) (sym e) (machine_runs ss)
 
 pub returns-clause-headline : goal.returns-clause-headline
 returns-clause-headline c =
     let w = c.loop-step.world in
     let ss = c.args.steps.now in
-    let e : w ≡ run ss None = ap (λ (rest : List Step). run rest w) (sym (drop_all c.loop-step.step-index ss (omega arith))) ∙ c.loop-step.invariant in
+    let e : w ≡ run ss None = ap (λ (rest : List Step). run rest w)
+    (sym (drop_all c.loop-step.step-index ss (omega arith))) ∙ c.loop-step.invariant in
     subst (λ v. Promises (machine_of v)) (sym e) (held_begins ss)

@@ -8,4 +8,5 @@ returns c =
     let w = c.self.inside in
     let held = c.self.view_is in
     let some : c.args.count ≤ length (slice_range w.buffer.items w.start w.end) = rw held c.requires in
-    consumed w.buffer.items w.start w.end c.args.count (omega (arith, length-take {A = ℕ}, length-drop {A = ℕ})) ∙ ap (drop c.args.count) held
+    consumed w.buffer.items w.start w.end c.args.count (omega (arith, length-take {A = ℕ}, length-drop {A = ℕ}))
+    ∙ ap (drop c.args.count) held
