@@ -19,7 +19,8 @@ regroup true false false k = refl
 regroup false q h k = refl
 
 have_lengths-push : (lengths : List (ℕ × ℕ)) (good : List Record) (r : Record)
-    → have_lengths lengths (good ++ r ∷ []) ≡ (have_lengths lengths good && list_all (λ asked. has_length asked r) lengths)
+    → have_lengths lengths (good ++ r ∷ []) ≡ (have_lengths lengths good
+    && list_all (λ asked. has_length asked r) lengths)
 have_lengths-push [] good r = refl
 have_lengths-push (a ∷ more) good r =
     ap (λ b. b && have_lengths more (good ++ r ∷ [])) (list_all-append (has_length a) good (r ∷ []))

@@ -1,6 +1,6 @@
 -- How what is checked goes on behind each field.
-use Rattle.std.proofs.Common.{◌≡◌, ℕ, zero, suc, ◌+◌, ◌*◌, ◌<◌, ◌≤◌, Bool, true, false, cond, List, [], ◌∷◌, ◌++◌, length}
-use Rattle.std.proofs.Common.{map, get_or, take, drop, Option, Some, None, Result, Ok, Err, refl, sym, ap, ◌∙◌, arith}
+use Rattle.std.proofs.Common.{◌≡◌, ℕ, zero, suc, ◌+◌, ◌*◌, ◌<◌, ◌≤◌, Bool, true, false, cond, List, [], ◌∷◌, ◌++◌}
+use Rattle.std.proofs.Common.{length, map, get_or, take, drop, Result, Ok, Err, refl, sym, ap, ◌∙◌, arith}
 use Rattle.std.proofs.Common.{nat_lt, drop-drop}
 use Rattle.std.proofs.lemmas.Bool.{ltb-false, ltb-true, le-ltb, lt-ltb, ltb_from_iff}
 use Rattle.std.proofs.lemmas.List.{take-append-drop, take_more, length-drop, map-append}
@@ -8,7 +8,7 @@ use Rattle.std.proofs.Math.Seq.{drop-cons}
 use Rattle.ln_bytes.specs.Reading.{◌>>=◌}
 use Rattle.ln_bytes.specs.Tlv.{stream_at, have_lengths}
 use Rattle.ln_bytes.specs.declared.fault.Fault.{Fault}
-use Rattle.ln_bytes.specs.declared.fault.Fault.TheVariants.{Truncated, FieldLength, UnknownEvenType}
+use Rattle.ln_bytes.specs.declared.fault.Fault.TheVariants.{FieldLength}
 use Rattle.ln_bytes.specs.declared.record.Record.{Record}
 use Rattle.ln_msgs.specs.Codec.Field.{Kind, Listed, Value, Many, number_at, items_at, list_at, field_at, fields_at}
 use Rattle.ln_msgs.specs.Codec.Checking.{behind, behind_field, behind_fields, checked, checked_records_at}
@@ -16,7 +16,7 @@ use Rattle.ln_msgs.specs.Messages.Table.{Form, kinds_of}
 use Rattle.ln_msgs.specs.Messages.Forms.{kind_of, IsRow}
 use Rattle.ln_msgs.specs.declared.messages.form.Form as rows
 use Rattle.ln_msgs.proofs.Shown.{twice}
-use Rattle.ln_msgs.specs.Messages.Message.{Heard, Known, formed_at}
+use Rattle.ln_msgs.specs.Messages.Message.{Known, formed_at}
 
 -- a step after two others
 bind_assoc : {A B C : Type 0} (r : Result A Fault) (f : A → Result B Fault) (g : B → Result C Fault)
@@ -64,7 +64,8 @@ module _ {A : Type 0} (f : A → Kind) (fields : List A) (bytes : List ℕ) wher
       ≡ (behind_field (f x) rest >>= behind_fields (map f more))
   split i x rest more e = ap (λ ks. behind_fields ks bytes) (map-append f (take i fields) (x ∷ more))
       ∙ behind-append (map f (take i fields)) (map f (x ∷ more)) bytes
-      ∙ ap (λ (r : Result (List ℕ) Fault). r >>= behind_fields (map f (x ∷ more))) e ∙ behind-cons (f x) (map f more) rest
+      ∙ ap (λ (r : Result (List ℕ) Fault). r >>= behind_fields (map f (x ∷ more))) e
+      ∙ behind-cons (f x) (map f more) rest
 
   pub one_more : (i : ℕ) (d : A) (rest after : List ℕ) → i < length fields
       → behind_fields (map f (take i fields)) bytes ≡ Ok rest → behind_field (f (get_or fields i d)) rest ≡ Ok after
@@ -115,7 +116,8 @@ unfolding items_at
 items_behind zero bytes =
     let enough : nat_lt (length bytes) (64 * 0) ≡ false = le-ltb _ _ (omega arith) in
     rw enough refl
-items_behind (suc count) bytes = items_one count bytes (nat_lt (length bytes) 64) refl (items_behind count (drop 64 bytes))
+items_behind (suc count) bytes =
+    items_one count bytes (nat_lt (length bytes) 64) refl (items_behind count (drop 64 bytes))
 
 abbrev as_list : List (List ℕ) × List ℕ → Result (Value × List ℕ) Fault
 as_list items = Ok (Many items.0, items.1)
@@ -144,7 +146,8 @@ records_checked form typ values (Ok records) = either (have_lengths form.lengths
     either false = refl
 
 fields_checked : (form : Form) (typ : ℕ) (r : Result (List Value × List ℕ) Fault)
-    → checked (r >>= λ values. stream_at form.known_even values.1 >>= λ records. cond (have_lengths form.lengths records)
+    → checked (r >>= λ values. stream_at form.known_even values.1 >>= λ records.
+    cond (have_lengths form.lengths records)
     (Ok (Known (record { typ = typ; values = values.0; records = records }))) (Err FieldLength))
     ≡ ((r >>= λ values. Ok values.1) >>= checked_records_at form.known_even form.lengths)
 fields_checked form typ (Err e) = refl

@@ -10,7 +10,8 @@ use Rattle.std.specs.Prelude.{IfOk}
 use Rattle.ln_bytes.specs.Reading.{◌>>=◌, Gives}
 use Rattle.ln_msgs.specs.declared.messages.message.Incoming.{Incoming}
 use Rattle.ln_msgs.specs.Messages.Typed.{heard}
-use Rattle.ln_bytes.specs.Tlv.{record_bytes, stream_bytes, AreValid, AreFit, Spells, have_lengths, record_at, records_at, stream_at}
+use Rattle.ln_bytes.specs.Tlv.{record_bytes, stream_bytes, AreValid, AreFit, Spells, record_at, records_at, stream_at}
+use Rattle.ln_bytes.specs.Tlv.{have_lengths}
 use Rattle.ln_bytes.specs.declared.fault.Fault.{Fault}
 use Rattle.ln_bytes.specs.declared.fault.Fault.TheVariants.{Truncated, FieldLength, UnknownEvenType, TooLong}
 use Rattle.ln_bytes.specs.declared.record.Record.{Record}

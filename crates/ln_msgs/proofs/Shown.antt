@@ -25,7 +25,8 @@ is_shown : (row : Option table.Form) (form : Form) (typ : ℕ) (w : Wire) (is : 
 is_shown None form typ w is fs by are names values = absurd by
 is_shown (Some row) form typ w is fs by are names values =
     let many : length form.fields.now ≡ length is = sym (length-map form.fields.now (λ f. (f.0.now, forms.kind_of f.1)))
-    ∙ ap length by.0.fields ∙ sym (length-map row.fields (λ f. f.1)) ∙ sym (ap length are.kinds) ∙ length-map is kind_of in
+    ∙ ap length by.0.fields ∙ sym (length-map row.fields (λ f. f.1)) ∙ sym (ap length are.kinds)
+    ∙ length-map is kind_of in
     let named : map (λ f. f.0.now) form.fields.now ≡ names_of row =
     sym (twice (λ f. (f.0.now, forms.kind_of f.1)) (λ f. f.0) form.fields.now) ∙ ap (map (λ f. f.0)) by.0.fields in
     record {

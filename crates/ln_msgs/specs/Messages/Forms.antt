@@ -1,5 +1,5 @@
 -- What the program holds of a type of message, beside the table.
-use Rattle.std.specs.Prelude.{◌≡◌, ℕ, List, map, Option, Some, None}
+use Rattle.std.specs.Prelude.{◌≡◌, ℕ, map, Option, Some, None}
 use Rattle.ln_msgs.specs.declared.messages.form.Form.{Form}
 use Rattle.ln_msgs.specs.declared.messages.form.Kind.{Kind}
 use Rattle.ln_msgs.specs.declared.messages.form.Kind.TheVariants as kinds

@@ -35,5 +35,5 @@ pub returns : goal.returns
 returns c =
     let none : c.loop-rest.rest.now ≡ [] = nil_from_length _ (eqb-true _ _ (sym c.loop-rest-test.ensures)) in
     sym (ends_checked c.args.known_even.now c.args.lengths.now c.args.bytes.now c.loop-rest.fits c.loop-rest.before
-    (subst (IsCheckedSoFar c.args.known_even.now c.args.lengths.now c.args.bytes.now c.loop-rest.fits c.loop-rest.before)
-    none c.loop-rest.invariant))
+    (subst (IsCheckedSoFar c.args.known_even.now c.args.lengths.now c.args.bytes.now c.loop-rest.fits
+    c.loop-rest.before) none c.loop-rest.invariant))
