@@ -141,6 +141,20 @@ messages! {
     17 Error "error" { channel_id: [u8; 32], data: &'a [u8] } [], [];
     18 Ping "ping" { num_pong_bytes: u16, ignored: &'a [u8] } [], [];
     19 Pong "pong" { ignored: &'a [u8] } [], [];
+    32 OpenChannel "open_channel" { chain_hash: [u8; 32], temporary_id: [u8; 32], funding_satoshis: u64, push_msat: u64,
+        dust_limit_satoshis: u64, max_htlc_value_in_flight_msat: u64, channel_reserve_satoshis: u64,
+        htlc_minimum_msat: u64, feerate_per_kw: u32, to_self_delay: u16, max_accepted_htlcs: u16,
+        funding_pubkey: [u8; 33], revocation_basepoint: [u8; 33], payment_basepoint: [u8; 33],
+        delayed_payment_basepoint: [u8; 33], htlc_basepoint: [u8; 33], first_per_commitment_point: [u8; 33],
+        channel_flags: u8 } [0], [];
+    33 AcceptChannel "accept_channel" { temporary_id: [u8; 32], dust_limit_satoshis: u64,
+        max_htlc_value_in_flight_msat: u64, channel_reserve_satoshis: u64, htlc_minimum_msat: u64, minimum_depth: u32,
+        to_self_delay: u16, max_accepted_htlcs: u16, funding_pubkey: [u8; 33], revocation_basepoint: [u8; 33],
+        payment_basepoint: [u8; 33], delayed_payment_basepoint: [u8; 33], htlc_basepoint: [u8; 33],
+        first_per_commitment_point: [u8; 33] } [0], [];
+    34 FundingCreated "funding_created" { temporary_id: [u8; 32], funding_txid: [u8; 32], output_index: u16,
+        signature: [u8; 64] } [], [];
+    35 FundingSigned "funding_signed" { channel_id: [u8; 32], signature: [u8; 64] } [], [];
     36 ChannelReady "channel_ready" { channel_id: [u8; 32], second_point: [u8; 33] } [], [(1, 8)];
     38 Shutdown "shutdown" { channel_id: [u8; 32], script: &'a [u8] } [], [];
     39 ClosingSigned "closing_signed" { channel_id: [u8; 32], fee_satoshis: u64, signature: [u8; 64] } [], [(1, 16)];
@@ -152,6 +166,10 @@ messages! {
         htlc_signatures: &'a [[u8; 64]] } [], [];
     133 RevokeAndAck "revoke_and_ack" { channel_id: [u8; 32], secret: [u8; 32], next_point: [u8; 33] } [], [];
     134 Fee "update_fee" { channel_id: [u8; 32], feerate_per_kw: u32 } [], [];
+    135 FailMalformed "update_fail_malformed_htlc" { channel_id: [u8; 32], id: u64, sha256_of_onion: [u8; 32],
+        failure_code: u16 } [], [];
+    136 Reestablish "channel_reestablish" { channel_id: [u8; 32], next_commitment_number: u64,
+        next_revocation_number: u64, last_secret: [u8; 32], current_point: [u8; 33] } [], [];
 }
 
 /// Adds the pong's frame that a message asks for.
@@ -213,6 +231,9 @@ fn decode(text: &str) -> Result<String, u16> {
         eprintln!("not hex");
         exit(2)
     };
+    if bytes.len() > 65_535 {
+        return Err(7);
+    }
     show(&read(&bytes)?)
 }
 

@@ -3,4 +3,5 @@ pub mod Numbers
 pub mod Records
 pub mod Streams
 pub mod Zeros
+pub mod Checks
 pub mod ShortIds

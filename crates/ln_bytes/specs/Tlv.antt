@@ -1,7 +1,7 @@
 -- TLV streams (BOLT 1, "Type-Length-Value Format"): records one after the other, up to the end.
 use Rattle.std.specs.Prelude.{◌≡◌, ◌≢◌, ℕ, zero, suc, ◌%◌, ◌^◌, ◌<◌, List, [], ◌∷◌, ◌++◌, length, take, drop, Option}
 use Rattle.std.specs.Prelude.{Some, None, Result, Ok, Err, Bool, true, not, ◌||◌, ◌==◌, nat_lt, IsTrue, if◌then◌else◌}
-use Rattle.std.specs.List.{flat_map, list_any, AllByRecursion}
+use Rattle.std.specs.List.{flat_map, list_all, list_any, AllByRecursion}
 use Rattle.ln_bytes.specs.declared.fault.Fault.{Fault}
 use Rattle.ln_bytes.specs.declared.fault.Fault.TheVariants.{Truncated, TlvOrder, TlvUnknownEven, TlvLength}
 use Rattle.ln_bytes.specs.declared.record.Record.{Record}
@@ -52,6 +52,14 @@ AreRising rs = RiseFrom None rs
 -- each even type is known
 abbrev pub AreKnown : List ℕ → List Record → Type 0
 AreKnown known_even rs = AllByRecursion (λ r. IsTrue (is_allowed known_even r.typ)) rs
+
+-- a record of this type has a value of this length
+abbrev pub has_length : ℕ × ℕ → Record → Bool
+has_length asked r = not (r.typ == asked.0) || (length r.value == asked.1)
+
+-- each record has the length that its type asks for
+abbrev pub have_lengths : List (ℕ × ℕ) → List Record → Bool
+have_lengths lengths rs = list_all (λ asked. list_all (has_length asked) rs) lengths
 
 -- ---- what a stream spells
 
@@ -116,3 +124,9 @@ records_at (suc turns) known_even before (b ∷ bytes) = do
 -- the records of a stream, or its first fault
 unfoldable pub stream_at : List ℕ → List ℕ → Result (List Record) Fault
 stream_at known_even bytes = records_at (length bytes) known_even None bytes
+
+-- whether the records of a stream have the lengths that their types ask for, or the stream's first fault
+abbrev pub lengths_at : List ℕ → List (ℕ × ℕ) → List ℕ → Result Bool Fault
+lengths_at known_even lengths bytes = do
+  records ← stream_at known_even bytes
+  Ok (have_lengths lengths records)

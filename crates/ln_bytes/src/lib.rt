@@ -15,5 +15,7 @@ pub use bytes::Bytes;
 pub use fault::Fault;
 pub use record::Record;
 pub use short_id::ShortId;
-pub use tlv::{append_tlvs, one_stream, read_tlvs, tlvs_are_valid, tlvs_len, value_of, write_tlvs};
+pub use tlv::{
+    append_tlvs, check_tlvs, one_stream, read_tlvs, tlvs_are_valid, tlvs_len, value_of, write_tlvs,
+};
 pub use truncated::{one_truncated, read_tu32, read_tu64, write_tu64};

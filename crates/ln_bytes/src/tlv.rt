@@ -3,9 +3,11 @@
 ghost use Rattle.std.specs.Prelude.{◌≡◌, ◌≢◌, ◌<◌, ◌≤◌, ◌⊎◌, ℕ, List, ◌++◌, length, take, slice_index, None, IfSome};
 ghost use Rattle.std.specs.Prelude.{IfNone, IsTrue, ◌↔◌, IfOk, IfErr, OnOk, OnErr, Ok, Err, option_map};
 ghost use Rattle.ln_bytes.specs.Bigsize.{bigsize};
-ghost use Rattle.ln_bytes.specs.Reading.{Gives};
+ghost use Rattle.std.specs.List.{list_all};
+ghost use Rattle.ln_bytes.specs.Reading.{Gives, Reads};
 ghost use Rattle.ln_bytes.specs.Tlv.{value_of, record_bytes, stream_bytes, may_follow, is_allowed, AreRising, AreKnown};
 ghost use Rattle.ln_bytes.specs.Tlv.{AreFit, AreValid, Fits, Spells, HasFault, value_at, record_at, stream_at};
+ghost use Rattle.ln_bytes.specs.Tlv.{has_length, lengths_at};
 ghost use Rattle.ln_bytes.specs.declared.fault.Fault.{Fault};
 ghost use Rattle.ln_bytes.specs.declared.record.Record.{Record};
 
@@ -52,40 +54,71 @@ fn all_records(alloc: Global, known_even: &[u64], bytes: &[u8]) -> Result<Vec<Re
     let mut before = None;
     let mut rest = bytes;
     while !rest.is_empty() {
-        let (record, after) = front_record(alloc, known_even, before, rest)?;
-        before = Some(record.typ);
-        records.push(record)?;
+        let (typ, value, after) = front_record(known_even, before, rest)?;
+        before = Some(typ);
+        let value = Bytes::new(Vec::from_slice(alloc, value)?);
+        records.push(Record { typ, value })?;
         rest = after;
     }
     Ok(records)
 }
 
-// The record at the front, behind one of the type before, and what follows it.
+/// Reads past a whole TLV stream, and answers whether its records have these lengths: each pair is a type and the
+/// length that a value of that type has. Takes no memory.
+///
+/// Errors: those of `read_tlvs` but for 60.
+pub fn check_tlvs(bytes: &[u8], known_even: &[u64], lengths: &[(u64, usize)]) -> Result<bool, Fault>
+    // What it answers is what is so of the records that `read_tlvs` would give, and its fault is theirs.
+    ensures { result ≡ lengths_at known_even.now lengths.now bytes.now }
+{
+    let mut fits = true;
+    let mut before = None;
+    let mut rest = bytes;
+    while !rest.is_empty() {
+        let (typ, value, after) = front_record(known_even, before, rest)?;
+        fits &= has_length(lengths, typ, value);
+        before = Some(typ);
+        rest = after;
+    }
+    Ok(fits)
+}
+
+// Whether a value of this type has the length that its type asks for.
+fn has_length(lengths: &[(u64, usize)], typ: u64, value: &[u8]) -> bool
+    ensures { result ≡ list_all (λ asked. has_length asked (record { typ = typ; value = value.now })) lengths.now }
+{
+    lengths
+        .iter()
+        .all(|asked| typ != asked.0 || value.len() == asked.1)
+}
+
+// The type and the value of the record at the front, behind one of the type before, and what follows it.
 #[tactic(auto, unfolding(crate::specs::Tlv::record_at))]
 fn front_record<'a>(
-    alloc: Global,
     known_even: &[u64],
     before: Option<u64>,
     bytes: &'a [u8],
-) -> Result<(Record, &'a [u8]), Fault>
-    ensures { Gives (λ x. (x.0, x.1.now)) result (record_at known_even.now before bytes.now) }
+) -> Result<(u64, &'a [u8], &'a [u8]), Fault>
+    ensures { Reads (λ x. (record { typ = x.0; value = x.1.now }, x.2.now)) result
+        (record_at known_even.now before bytes.now) }
 {
     let (typ, taken) = read_bigsize(bytes)?;
     if !follows(before, typ) {
         return Err(Fault::TlvOrder);
     }
-    front_value(alloc, known_even, typ, &bytes[taken..])
+    let (value, rest) = front_value(known_even, typ, &bytes[taken..])?;
+    Ok((typ, value, rest))
 }
 
-// The length and the value behind a type, and what follows them.
+// The value behind a type, and what follows it.
 #[tactic(auto, unfolding(crate::specs::Tlv::value_at))]
 fn front_value<'a>(
-    alloc: Global,
     known_even: &[u64],
     typ: u64,
     bytes: &'a [u8],
-) -> Result<(Record, &'a [u8]), Fault>
-    ensures { Gives (λ x. (x.0, x.1.now)) result (value_at known_even.now typ bytes.now) }
+) -> Result<(&'a [u8], &'a [u8]), Fault>
+    ensures { Reads (λ x. (record { typ = typ; value = x.0.now }, x.1.now)) result
+        (value_at known_even.now typ bytes.now) }
 {
     let (len, taken) = read_bigsize(bytes)?;
     let rest = &bytes[taken..];
@@ -95,9 +128,7 @@ fn front_value<'a>(
     if !is_allowed(known_even, typ) {
         return Err(Fault::TlvUnknownEven);
     }
-    let (value, rest) = rest.split_at(len as usize);
-    let value = Bytes::new(Vec::from_slice(alloc, value)?);
-    Ok((Record { typ, value }, rest))
+    Ok(rest.split_at(len as usize))
 }
 
 fn follows(before: Option<u64>, typ: u64) -> bool

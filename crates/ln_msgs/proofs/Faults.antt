@@ -1,13 +1,14 @@
 -- Which faults the bytes of a message can have: 1 to 8, and so neither want of memory nor a failed call.
-use Rattle.std.proofs.Common.{◌≡◌, ◌≢◌, ℕ, zero, suc, ◌≤◌, List, [], ◌∷◌, length, Option, Some, None, Result, Ok, Err}
-use Rattle.std.proofs.Common.{Bool, true, false, cond, refl, subst, arith}
+use Rattle.std.proofs.Common.{◌≡◌, ◌≢◌, ℕ, zero, suc, ◌<◌, ◌≤◌, List, [], ◌∷◌, length, Option, Some, None}
+use Rattle.std.proofs.Common.{Result, Ok, Err, Bool, true, false, cond, refl, ap, subst, arith}
 use Rattle.ln_bytes.specs.Fault.{fault_number}
 use Rattle.ln_bytes.specs.Bigsize.{bigsize_at, long_at}
 use Rattle.ln_bytes.specs.Reading.{◌>>=◌}
 use Rattle.ln_bytes.specs.Tlv.{value_at, record_at, records_at, stream_at}
 use Rattle.ln_bytes.specs.declared.fault.Fault.{Fault}
 use Rattle.ln_bytes.specs.declared.fault.Fault.TheVariants.{Truncated, NotMinimal, TlvOrder, TlvUnknownEven, TlvLength}
-use Rattle.ln_bytes.specs.declared.fault.Fault.TheVariants.{UnknownEvenType, TooLong, FieldLength, Io}
+use Rattle.ln_bytes.specs.declared.fault.Fault.TheVariants.{UnknownEvenType, TooLong, FieldLength, Memory, Io}
+use Rattle.ln_msgs.specs.Frames.Frame.{IsFaulty}
 use Rattle.ln_msgs.specs.Codec.Field.{Kind, Number, Fixed, Sized, Listed, bytes_at, number_at, string_at, items_at}
 use Rattle.ln_msgs.specs.Codec.Field.{list_at, field_at, fields_at}
 use Rattle.ln_msgs.specs.Messages.Table.{Form, kinds_of, form_of}
@@ -111,5 +112,12 @@ unfolding message_at
 message_tells bytes = either _ _ _ (refuses TooLong (omega arith))
     (steps _ _ (number_tells 2 bytes) (λ typ. payload_tells (form_of typ.0) typ.0 typ.1))
 
-pub no_failed_call : (bytes : List ℕ) → message_at bytes ≢ Err Io
-no_failed_call bytes e = absurd (omega (arith, (message_tells bytes).refused Io e))
+-- what is wrong with a message is neither a failed call nor want of memory
+is_other : (bytes : List ℕ) (f g : Fault) → 8 < fault_number g → message_at bytes ≡ Err f → f ≢ g
+is_other bytes f g high e same = absurd (omega (arith, (message_tells bytes).refused f e, ap fault_number same))
+
+pub not_io : (bytes : List ℕ) (f : Fault) → IsFaulty bytes f → f ≢ Io
+not_io bytes f is = is_other is.message f Io (omega arith) is.fault
+
+pub not_memory : (bytes : List ℕ) (f : Fault) → IsFaulty bytes f → f ≢ Memory
+not_memory bytes f is = is_other is.message f Memory (omega arith) is.fault

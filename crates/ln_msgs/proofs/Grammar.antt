@@ -11,6 +11,7 @@ use Rattle.ln_bytes.specs.Reading.{◌>>=◌, Gives}
 use Rattle.ln_msgs.specs.declared.messages.message.Incoming.{Incoming}
 use Rattle.ln_msgs.specs.Messages.Typed.{heard}
 use Rattle.ln_bytes.specs.Tlv.{record_bytes, stream_bytes, AreValid, AreFit, Spells, record_at, records_at, stream_at}
+use Rattle.ln_bytes.specs.Tlv.{have_lengths}
 use Rattle.ln_bytes.specs.declared.fault.Fault.{Fault}
 use Rattle.ln_bytes.specs.declared.fault.Fault.TheVariants.{Truncated, FieldLength, UnknownEvenType, TooLong}
 use Rattle.ln_bytes.specs.declared.record.Record.{Record}
@@ -23,7 +24,7 @@ use Rattle.ln_msgs.specs.Codec.Field.{value_bytes, fields_bytes, bytes_at, numbe
 use Rattle.ln_msgs.specs.Codec.Field.{field_at, fields_at}
 use Rattle.std.specs.List.{AllByRecursion, concat}
 use Rattle.ln_msgs.specs.Messages.Table.{Form, kinds_of, form_of}
-use Rattle.ln_msgs.specs.Messages.Message.{Wire, IsFormed, have_lengths, Heard, Known, Ignored, longest, IsSpelledBy}
+use Rattle.ln_msgs.specs.Messages.Message.{Wire, IsFormed, Heard, Known, Ignored, longest, IsSpelledBy}
 use Rattle.ln_msgs.specs.Messages.Message.{Says, formed_at, payload_at, may_be_ignored, message_at}
 
 -- ---- records

@@ -2,6 +2,7 @@ pub mod Windows
 pub mod Serving
 pub mod Progress
 pub mod Faults
+pub mod Checking
 pub mod UniqueFrames
 pub mod Grammar
 pub mod Items

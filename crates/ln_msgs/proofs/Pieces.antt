@@ -1,12 +1,12 @@
 -- Reading piece by piece is reading field by field.
 use Rattle.std.proofs.Common.{◌≡◌, ℕ, List, [], ◌∷◌, ◌++◌, Result, Ok, Err, cond, refl, sym, ap, ◌∙◌}
 use Rattle.ln_bytes.specs.Reading.{◌>>=◌}
-use Rattle.ln_bytes.specs.Tlv.{stream_at}
+use Rattle.ln_bytes.specs.Tlv.{stream_at, have_lengths}
 use Rattle.ln_bytes.specs.declared.fault.Fault.{Fault}
 use Rattle.ln_bytes.specs.declared.fault.Fault.TheVariants.{FieldLength}
 use Rattle.ln_msgs.specs.Codec.Field.{Kind, Value, field_at, fields_at}
 use Rattle.ln_msgs.specs.Messages.Table.{Form, kinds_of}
-use Rattle.ln_msgs.specs.Messages.Message.{Known, formed_at, have_lengths}
+use Rattle.ln_msgs.specs.Messages.Message.{Known, formed_at}
 use Rattle.ln_msgs.specs.Codec.Pieces.{Piece, One, Group, kinds_in, group_at, pieces_at, pieced_at}
 
 abbrev Parts : Type 0

@@ -6,15 +6,14 @@ use Rattle.std.proofs.lemmas.List.{drop_at}
 use Rattle.std.proofs.lemmas.List.Concat.{flat_map-append}
 use Rattle.ln_bytes.specs.Reading.{◌>>=◌}
 use Rattle.ln_bytes.specs.declared.fault.Fault.{Fault}
-use Rattle.ln_bytes.specs.declared.fault.Fault.TheVariants.{Memory, Io}
-use Rattle.ln_msgs.proofs.Faults.{no_failed_call}
+use Rattle.ln_msgs.specs.Codec.Checking.{checked}
 use Rattle.std.proofs.lemmas.Bool.Decides.{nat_tests}
-use Rattle.ln_bytes.specs.Tlv.{stream_at}
+use Rattle.ln_bytes.specs.Tlv.{stream_at, have_lengths}
 use Rattle.ln_bytes.specs.declared.fault.Fault.TheVariants.{FieldLength, UnknownEvenType}
 use Rattle.ln_bytes.proofs.Reading.{bind_ok, ok_is}
 use Rattle.ln_msgs.specs.Codec.Field.{fields_at}
 use Rattle.ln_msgs.specs.Messages.Table.{Form, kinds_of}
-use Rattle.ln_msgs.specs.Messages.Message.{Heard, Known, Ignored, formed_at, payload_at, have_lengths, may_be_ignored}
+use Rattle.ln_msgs.specs.Messages.Message.{Heard, Known, Ignored, formed_at, payload_at, may_be_ignored}
 use Rattle.ln_msgs.specs.Messages.Message.{message_at}
 use Rattle.ln_msgs.proofs.Grammar.{ends}
 use Rattle.ln_msgs.specs.Frames.Frame.{frame, HasFrame, Hears}
@@ -43,12 +42,6 @@ faulty_from message f e = asks (message_at message) refl e
     asks (Ok h) is e = absurd cc
     asks (Err g) is e = is ∙ cc
 
--- no call fails while a message is read
-pub no_call_failed : (message : List ℕ) (f : Fault) → (f ≢ Memory → owed_at message ≡ Err f) → f ≢ Io
-no_call_failed message f is e =
-    let ours : f ≢ Memory = λ m. absurd cc in
-    no_failed_call message (faulty_from message f (is ours) ∙ ap Err e)
-
 no_pong : (b : Bool) (o : Option ℕ) → b ≡ false → cond b o None ≡ None
 no_pong true o e = absurd cc
 no_pong false o e = refl
@@ -76,11 +69,16 @@ asks_none None typ bytes h other e =
     let c = ends (may_be_ignored typ) UnknownEvenType (Ok (Ignored typ)) h e in
     subst (λ (x : Heard). owed x ≡ None) (ok_is (Ignored typ) h c.1) refl
 
-pub asks_nothing : (form : Option Form) (typ : ℕ) (bytes : List ℕ) (h : Heard) → typ ≢ 18
-    → payload_at form typ bytes ≡ Ok h → (payload_at form typ bytes >>= λ heard. Ok (owed heard)) ≡ Ok None
-asks_nothing form typ bytes h other e =
-    ap (λ (r : Result Heard Fault). r >>= λ heard. Ok (owed heard)) e
-    ∙ ap (λ (o : Option ℕ). Ok o) (asks_none form typ bytes h other e)
+pub asks_nothing : (form : Option Form) (typ : ℕ) (bytes : List ℕ) → typ ≢ 18
+    → checked (payload_at form typ bytes) ≡ Ok tt → (payload_at form typ bytes >>= λ heard. Ok (owed heard)) ≡ Ok None
+asks_nothing form typ bytes other e =
+    let a = bind_ok (payload_at form typ bytes) (λ found. Ok tt) tt e in
+    ap (λ (r : Result Heard Fault). r >>= λ heard. Ok (owed heard)) a.1
+    ∙ ap (λ (o : Option ℕ). Ok o) (asks_none form typ bytes a.0 other a.1)
+
+pub asks_in_vain : (r : Result Heard Fault) (f : Fault) → checked r ≡ Err f → (r >>= λ heard. Ok (owed heard)) ≡ Err f
+asks_in_vain (Ok heard) f e = absurd cc
+asks_in_vain (Err g) f e = let same : g ≡ f = cc in ap (λ (d : Fault). Err d) same
 
 -- one more whole frame
 pub hears_more : (hs : List Heard) (front message : List ℕ) (h : Heard) → Hears hs front → length message < 65536

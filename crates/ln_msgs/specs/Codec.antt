@@ -1,4 +1,5 @@
 pub mod Field
 pub mod Pieces
+pub mod Checking
 pub mod Writing
 pub mod Steps

@@ -2,12 +2,12 @@
 -- the protocol: it lets a reader be proved a group at a time.
 use Rattle.std.specs.Prelude.{ℕ, List, [], ◌∷◌, ◌++◌, Result, Ok, Err, if◌then◌else◌}
 use Rattle.ln_bytes.specs.Reading.{◌>>=◌}
-use Rattle.ln_bytes.specs.Tlv.{stream_at}
+use Rattle.ln_bytes.specs.Tlv.{stream_at, have_lengths}
 use Rattle.ln_bytes.specs.declared.fault.Fault.{Fault}
 use Rattle.ln_bytes.specs.declared.fault.Fault.TheVariants.{FieldLength}
 use Rattle.ln_msgs.specs.Codec.Field.{Kind, Number, Fixed, Value, Num, Str, field_at, fields_at}
 use Rattle.ln_msgs.specs.Messages.Table.{Form}
-use Rattle.ln_msgs.specs.Messages.Message.{Heard, Known, have_lengths}
+use Rattle.ln_msgs.specs.Messages.Message.{Heard, Known}
 use Rattle.ln_msgs.specs.declared.messages.opening.Funding.{Funding}
 use Rattle.ln_msgs.specs.declared.messages.opening.Amounts.{Amounts}
 use Rattle.ln_msgs.specs.declared.messages.opening.Points.{Points}

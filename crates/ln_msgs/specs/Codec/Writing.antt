@@ -1,9 +1,9 @@
 -- What can be written of a message.
 use Rattle.std.specs.Prelude.{List, Option, Some, None, IsTrue}
-use Rattle.ln_bytes.specs.Tlv.{AreValid}
+use Rattle.ln_bytes.specs.Tlv.{AreValid, have_lengths}
 use Rattle.ln_bytes.specs.declared.record.Record.{Record}
 use Rattle.ln_msgs.specs.Messages.Table.{Form, form_of}
-use Rattle.ln_msgs.specs.Messages.Message.{Wire, have_lengths}
+use Rattle.ln_msgs.specs.Messages.Message.{Wire}
 
 -- The records may stand behind the fields of this form: their types rise strictly, each even one is known,
 -- and each that has a fixed length has it.

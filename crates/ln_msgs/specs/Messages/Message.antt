@@ -1,11 +1,10 @@
 -- Messages (BOLT 1, "Lightning Message Format"): a type in two bytes, the fields that the type has, and a
 -- TLV stream up to the end.
-use Rattle.std.specs.List.{list_all}
-use Rattle.std.specs.Prelude.{◌≡◌, ◌<◌, ◌≤◌, ℕ, ◌%◌, IsTrue, not, List, [], ◌++◌, length, Option, Some, None, Result}
+use Rattle.std.specs.Prelude.{◌≡◌, ◌<◌, ◌≤◌, ℕ, ◌%◌, IsTrue, List, [], ◌++◌, length, Option, Some, None, Result}
 use Rattle.std.specs.Prelude.{Ok, Err, Bool, ◌==◌, ◌||◌, ◌&&◌, nat_lt, nat_le, if◌then◌else◌}
 use Rattle.ln_bytes.specs.Endian.{big_bytes}
 use Rattle.ln_bytes.specs.Reading.{◌>>=◌}
-use Rattle.ln_bytes.specs.Tlv.{stream_at, stream_bytes, AreValid, AreFit}
+use Rattle.ln_bytes.specs.Tlv.{stream_at, stream_bytes, AreValid, AreFit, have_lengths}
 use Rattle.ln_bytes.specs.declared.fault.Fault.{Fault}
 use Rattle.ln_bytes.specs.declared.fault.Fault.TheVariants.{TooLong, UnknownEvenType, FieldLength}
 use Rattle.ln_bytes.specs.declared.record.Record.{Record}
@@ -16,14 +15,6 @@ use Rattle.ln_msgs.specs.Messages.Table.{Form, kinds_of, form_of}
 -- channels
 abbrev pub may_be_ignored : ℕ → Bool
 may_be_ignored typ = (typ % 2 == 1) || (nat_le 256 typ && nat_le typ 265)
-
--- a record of this type has a value of this length
-abbrev pub has_length : ℕ × ℕ → Record → Bool
-has_length asked r = not (r.typ == asked.0) || (length r.value == asked.1)
-
--- each record has the length that its type asks for
-abbrev pub have_lengths : List (ℕ × ℕ) → List Record → Bool
-have_lengths lengths rs = list_all (λ asked. list_all (has_length asked) rs) lengths
 
 -- ---- what a message's bytes are
 

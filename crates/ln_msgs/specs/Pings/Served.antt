@@ -1,6 +1,5 @@
 -- What one piece of a stream gave: the messages of its whole frames, and the pongs that wait to be written.
-use Rattle.std.specs.Prelude.{◌≡◌, ◌≢◌, ℕ, ◌+◌, ◌<◌, List, ◌++◌, length}
-use Rattle.ln_bytes.specs.declared.fault.Fault.TheVariants.{Memory, Io}
+use Rattle.std.specs.Prelude.{◌≡◌, ℕ, ◌+◌, ◌<◌, List, ◌++◌, length}
 use Rattle.ln_msgs.specs.declared.pings.answer.Stop.{Stop}
 use Rattle.ln_msgs.specs.declared.pings.answer.Stop.TheVariants as stops
 use Rattle.ln_msgs.specs.Messages.Message.{Heard}
@@ -21,4 +20,4 @@ pub record Serves (bytes rest : List ℕ) (old new : Waiting) : Type 0 where
 abbrev pub StopsAt : List ℕ → Stop → Type 0
 StopsAt rest stops.NoFrame = HasNoFrame rest × (length rest < 65537)
 StopsAt rest stops.Full = Unit {0}
-StopsAt rest (stops.Fault f) = (f ≢ Io) × (f ≢ Memory → IsFaulty rest f)
+StopsAt rest (stops.Fault f) = IsFaulty rest f

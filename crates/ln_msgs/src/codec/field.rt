@@ -1,7 +1,7 @@
 //! Readers of one field at the front of bytes. Each answers the value and the bytes after it, or fault 1 where
 //! the bytes end too soon.
 
-ghost use Rattle.ln_bytes.specs.Reading.{Gives};
+ghost use Rattle.ln_bytes.specs.Reading.{Gives, Reads};
 ghost use Rattle.ln_msgs.specs.Codec.Field.{bytes_at as fixed_at, number_at, string_at, list_at, items_at};
 
 use crate::messages::signatures::Signatures;
@@ -11,7 +11,7 @@ use std::alloc::Global;
 
 /// One byte.
 pub(crate) fn u8_at(bytes: &[u8]) -> Result<(u8, &[u8]), Fault>
-    ensures { Gives (λ x. (x.0, x.1.now)) result (number_at 1 bytes.now) }
+    ensures { Reads (λ x. (x.0, x.1.now)) result (number_at 1 bytes.now) }
 {
     match bytes {
         [] => Err(Fault::Truncated),
@@ -21,7 +21,7 @@ pub(crate) fn u8_at(bytes: &[u8]) -> Result<(u8, &[u8]), Fault>
 
 /// Two bytes, the highest first.
 pub(crate) fn u16_at(bytes: &[u8]) -> Result<(u16, &[u8]), Fault>
-    ensures { Gives (λ x. (x.0, x.1.now)) result (number_at 2 bytes.now) }
+    ensures { Reads (λ x. (x.0, x.1.now)) result (number_at 2 bytes.now) }
 {
     if bytes.len() < 2 {
         return Err(Fault::Truncated);
@@ -31,7 +31,7 @@ pub(crate) fn u16_at(bytes: &[u8]) -> Result<(u16, &[u8]), Fault>
 
 /// Four bytes, the highest first.
 pub(crate) fn u32_at(bytes: &[u8]) -> Result<(u32, &[u8]), Fault>
-    ensures { Gives (λ x. (x.0, x.1.now)) result (number_at 4 bytes.now) }
+    ensures { Reads (λ x. (x.0, x.1.now)) result (number_at 4 bytes.now) }
 {
     if bytes.len() < 4 {
         return Err(Fault::Truncated);
@@ -41,7 +41,7 @@ pub(crate) fn u32_at(bytes: &[u8]) -> Result<(u32, &[u8]), Fault>
 
 /// Eight bytes, the highest first.
 pub(crate) fn u64_at(bytes: &[u8]) -> Result<(u64, &[u8]), Fault>
-    ensures { Gives (λ x. (x.0, x.1.now)) result (number_at 8 bytes.now) }
+    ensures { Reads (λ x. (x.0, x.1.now)) result (number_at 8 bytes.now) }
 {
     if bytes.len() < 8 {
         return Err(Fault::Truncated);
@@ -51,7 +51,7 @@ pub(crate) fn u64_at(bytes: &[u8]) -> Result<(u64, &[u8]), Fault>
 
 /// So many bytes.
 pub(crate) fn array_at<const N: usize>(bytes: &[u8]) -> Result<([u8; N], &[u8]), Fault>
-    ensures { Gives (λ x. (x.0, x.1.now)) result (fixed_at N bytes.now) }
+    ensures { Reads (λ x. (x.0, x.1.now)) result (fixed_at N bytes.now) }
 {
     match bytes.split_first_chunk::<N>() {
         Some((front, rest)) => Ok((*front, rest)),
@@ -62,7 +62,7 @@ pub(crate) fn array_at<const N: usize>(bytes: &[u8]) -> Result<([u8; N], &[u8]),
 /// The bytes behind a length in two bytes.
 #[tactic(auto, unfolding(crate::specs::Codec::Field::string_at))]
 pub(crate) fn sized_at(bytes: &[u8]) -> Result<(&[u8], &[u8]), Fault>
-    ensures { Gives (λ x. (x.0.now, x.1.now)) result (string_at bytes.now) }
+    ensures { Reads (λ x. (x.0.now, x.1.now)) result (string_at bytes.now) }
 {
     let (len, rest) = u16_at(bytes)?;
     let len = usize::from(len);

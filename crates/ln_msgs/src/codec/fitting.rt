@@ -1,7 +1,7 @@
 //! Whether a message can be written.
 
 ghost use Rattle.std.specs.Prelude.{◌≡◌, ◌↔◌, IsTrue};
-ghost use Rattle.ln_msgs.specs.Messages.Message.{have_lengths as are_so_long};
+ghost use Rattle.ln_bytes.specs.Tlv.{have_lengths as are_so_long};
 ghost use Rattle.ln_msgs.specs.Messages.Typed.{wire};
 ghost use Rattle.ln_msgs.specs.Codec.Writing.{CanBeWritten};
 

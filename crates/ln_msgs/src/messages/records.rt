@@ -3,10 +3,10 @@
 ghost use Rattle.std.specs.Prelude.{◌≡◌};
 ghost use Rattle.std.specs.List.{list_all};
 ghost use Rattle.ln_bytes.specs.Reading.{Gives};
-ghost use Rattle.ln_bytes.specs.Tlv.{stream_at};
-ghost use Rattle.ln_msgs.specs.Messages.Message.{has_length};
+ghost use Rattle.ln_bytes.specs.Tlv.{stream_at, has_length};
+ghost use Rattle.ln_msgs.specs.Codec.Checking.{checked_records_at};
 
-use ln_bytes::{Fault, Record, read_tlvs};
+use ln_bytes::{Fault, Record, check_tlvs, read_tlvs};
 use std::alloc::Global;
 use std::marker::Model;
 
@@ -70,6 +70,22 @@ pub(crate) fn records_at(alloc: Global, bytes: &[u8], known_even: &[u64]) -> Res
         return Ok(Records::empty(alloc));
     }
     Ok(Records::new(read_tlvs(alloc, bytes, known_even)?))
+}
+
+/// Checks the records of a TLV stream that goes to the end of the bytes: the faults are those of `read_tlvs`, and
+/// then 8 where a record hasn't the length that its type asks for. Takes no memory.
+pub(crate) fn check_records(
+    bytes: &[u8],
+    known_even: &[u64],
+    lengths: &[(u64, usize)],
+) -> Result<(), Fault>
+    ensures { result ≡ checked_records_at known_even.now lengths.now bytes.now }
+{
+    if check_tlvs(bytes, known_even, lengths)? {
+        Ok(())
+    } else {
+        Err(Fault::FieldLength)
+    }
 }
 
 /// Whether each record of this type has a value of this length.

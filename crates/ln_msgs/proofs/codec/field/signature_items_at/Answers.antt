@@ -7,7 +7,7 @@ pub returns-in_err-item : goal.returns-in_err-item
 returns-in_err-item c =
     let p = err_from_is_err_and c.from_residual.result c.from_residual.ensures.1 in
     rw (p.1, p.2) (ends 64 c.in_err-item.field-0.0 c.loop.items.items c.args.count c.loop.counter c.loop.rest.now
-    (items_at 64 c.args.count c.args.bytes.now) c.loop-test.true c.in_err-item.ensures c.loop.invariant)
+    (items_at 64 c.args.count c.args.bytes.now) c.loop-test.true (λ other. c.in_err-item.ensures) c.loop.invariant)
 
 pub loop-preserved : goal.loop-preserved
 loop-preserved c =
