@@ -1,6 +1,6 @@
 -- What one side signs its partner accepts, and what that one revokes the first learns.
-use Rattle.std.proofs.Common.{◌≡◌, ℕ, ◌+◌, ◌<◌, ◌^◌, List, length, take, refl, sym, ap, ◌∙◌, arith, Bool, true, false}
-use Rattle.std.proofs.Common.{cond, Option, Some, None, inl, inr}
+use Rattle.std.proofs.Common.{◌≡◌, ℕ, ◌+◌, length, take, sym, ap, ◌∙◌, arith, Bool, true, false}
+use Rattle.std.proofs.Common.{cond, Some, None, inl, inr}
 use Rattle.std.proofs.lemmas.List.{take_all}
 use Rattle.std.proofs.lemmas.Bool.Decides.{eqb_tells}
 use Rattle.ln_msgs.specs.declared.messages.commitments.CommitmentSigned.{CommitmentSigned}
@@ -9,12 +9,12 @@ use Rattle.ln_msgs.specs.declared.refusals.refusal.Refusal.TheVariants as refusa
 use Rattle.ln_keys.specs.Signer.{Signer}
 use Rattle.ln_keys.specs.Partners.{ArePartners}
 use Rattle.ln_log.specs.declared.log.Pair.TheVariants as pair
-use Rattle.ln_log.specs.declared.opening.Opening.{Opening}
 use Rattle.ln_log.specs.Updates.{all_sent}
 use Rattle.ln_log.specs.Log.{covered, counts_of, view_for}
 use Rattle.ln_log.specs.Machine.{Covered}
-use Rattle.ln_dance.specs.Dance.{Dancer, view_at, owes, is_last, signed_message, accept_fault, revoked_message}
-use Rattle.ln_dance.specs.Dance.{learn_fault, after_learn}
+use Rattle.ln_dance.specs.declared.dance.TheConstants.{LAST_NUMBER}
+use Rattle.ln_dance.specs.Dance.{Dancer, IsNumber, view_at, owes, is_last, signed_message, accept_fault}
+use Rattle.ln_dance.specs.Dance.{revoked_message, learn_fault, after_learn}
 use Rattle.ln_dance.specs.Exchange.{IsSignedFor, IsRevokedFor}
 use Rattle.ln_log.proofs.Sent.{turned_views}
 
@@ -29,8 +29,8 @@ view_faces k x y h =
     ∙ ap (λ r. view_for x.log.opening r both) (sym h.roles)
     ∙ ap (λ o. view_for o y.log.role both) (sym h.opening)
 
-not_last : (n : ℕ) → n + 1 < 2 ^ 48 → is_last n ≡ false
-not_last n below = elim (eqb_tells n 281474976710655) [
+not_last : (n : ℕ) → IsNumber (n + 1) → is_last n ≡ false
+not_last n below = elim (eqb_tells n LAST_NUMBER) [
   | inl g ↦
       absurd (let is = g.1 in omega (arith, below, is))
   | inr g ↦ g.0
@@ -42,7 +42,7 @@ accepted_if b c eb ec = ap (λ x. cond x (Some refusal.OutOfPlace) (cond c None 
     ∙ ap (λ x. cond x None (Some refusal.SignatureWrong)) ec
 
 pub accepted : (a b : Signer) (x y : Dancer) (m : CommitmentSigned) → ArePartners a b → IsSignedFor b x y
-    → x.numbers.signed + 1 < 2 ^ 48 → m ≡ signed_message a x → accept_fault b m y ≡ None
+    → IsNumber (x.numbers.signed + 1) → m ≡ signed_message a x → accept_fault b m y ≡ None
 accepted a b x y m p h below e =
     let last : is_last y.numbers.commitment ≡ false = ap is_last h.number ∙ not_last x.numbers.signed below in
     let next : y.numbers.commitment + 1 ≡ x.numbers.signed + 1 = ap (λ n. n + 1) h.number in
@@ -62,7 +62,7 @@ learned_if b c eb ec = ap (λ x. cond x (cond c None (Some refusal.SecretWrong))
     ∙ ap (λ x. cond x None (Some refusal.SecretWrong)) ec
 
 pub learned : (a b : Signer) (x y : Dancer) (m : RevokeAndAck) → ArePartners a b → IsRevokedFor b y x
-    → y.numbers.commitment < 2 ^ 48 → owes x ≡ true → m ≡ revoked_message b y → learn_fault a m x ≡ None
+    → IsNumber y.numbers.commitment → owes x ≡ true → m ≡ revoked_message b y → learn_fault a m x ≡ None
 learned a b x y m p h below o e =
     let at : x.peer.point ≡ b.point_of y.numbers.commitment = h.point ∙ ap b.point_of (sym h.number) in
     learned_if (owes x) _ o

@@ -1,15 +1,15 @@
 -- What each call of the dance keeps.
-use Rattle.std.proofs.Common.{◌≡◌, ◌≢◌, ℕ, ◌+◌, ◌<◌, ◌≤◌, ◌^◌, refl, sym, ap, ◌∙◌, subst, arith, Bool, true, false}
-use Rattle.std.proofs.Common.{cond, not, ◌&&◌, ◌==◌, eqb, Option, Some, None, Result, Ok, Err, OnOk, OnErr, inl, inr}
+use Rattle.std.proofs.Common.{◌≡◌, ◌≢◌, ℕ, ◌+◌, refl, sym, ap, ◌∙◌, subst, arith, Bool, true, false}
+use Rattle.std.proofs.Common.{cond, not, ◌&&◌, ◌==◌, Option, Some, None, Result, Ok, Err, OnOk, OnErr, inl, inr}
 use Rattle.std.proofs.lemmas.Bool.{eq-eqb}
 use Rattle.std.proofs.lemmas.Bool.Decides.{eqb_tells}
 use Rattle.ln_msgs.specs.declared.refusals.refusal.Refusal.{Refusal}
 use Rattle.ln_msgs.specs.declared.refusals.refusal.Refusal.TheVariants as refusal
 use Rattle.ln_log.specs.Limits.{first_fault}
-use Rattle.ln_log.specs.Log as log
 use Rattle.ln_log.specs.Log.{Log, Counts, same_counts, after_accept, after_learn}
 use Rattle.ln_dance.specs.declared.dance.Numbers.{Numbers}
-use Rattle.ln_dance.specs.Dance.{Dancer, AreInStep, owes, is_last, sign_fault}
+use Rattle.ln_dance.specs.declared.dance.TheConstants.{LAST_NUMBER}
+use Rattle.ln_dance.specs.Dance.{Dancer, IsNumber, AreInStep, owes, is_last, sign_fault}
 
 -- ---- results
 
@@ -49,13 +49,13 @@ unless : (b : Bool) (r : Refusal) (o : Option Refusal) → cond b (Some r) o ≡
 unless true r o e = absurd (cc)
 unless false r o e = (refl, e)
 
-not_last : (n : ℕ) → n < 2 ^ 48 → is_last n ≡ false → n + 1 < 2 ^ 48
-not_last n lt e = elim (eqb_tells n 281474976710655) [
+not_last : (n : ℕ) → IsNumber n → is_last n ≡ false → IsNumber (n + 1)
+not_last n lt e = elim (eqb_tells n LAST_NUMBER) [
   | inl g ↦ absurd (let is : true ≡ false = sym g.0 ∙ e in cc)
   | inr g ↦ (let differ = g.1 in omega (arith, lt, differ))
 ]
 
-pub signed_below : (d : Dancer) → AreInStep d.numbers d.log → sign_fault d ≡ None → d.numbers.signed + 1 < 2 ^ 48
+pub signed_below : (d : Dancer) → AreInStep d.numbers d.log → sign_fault d ≡ None → IsNumber (d.numbers.signed + 1)
 signed_below d k e = not_last d.numbers.signed k.signed
     (untested (is_last d.numbers.signed) refusal.NumbersSpent
     (none_both _ _ (unless (owes d) refusal.SignatureOutstanding _ e).1).1)
@@ -86,10 +86,10 @@ kept_signed d m n k e en =
 
 -- ---- accepting
 
-pub next_below : (n : ℕ) → n < 2 ^ 48 → n ≢ 281474976710655 → n + 1 < 2 ^ 48
+pub next_below : (n : ℕ) → IsNumber n → n ≢ LAST_NUMBER → IsNumber (n + 1)
 next_below n lt differ = omega (arith, lt, differ)
 
-pub kept_accepted : (d : Dancer) (m : Log) → AreInStep d.numbers d.log → d.numbers.commitment ≢ 281474976710655
+pub kept_accepted : (d : Dancer) (m : Log) → AreInStep d.numbers d.log → d.numbers.commitment ≢ LAST_NUMBER
     → m ≡ after_accept d.log
     → AreInStep (record {
       commitment = d.numbers.commitment + 1;

@@ -1,6 +1,6 @@
 -- What partners tell each other as a connection comes back is served, and what is sent again is what was sent first.
-use Rattle.std.proofs.Common.{◌≡◌, ◌≢◌, ◌↔◌, ℕ, ◌+◌, ◌-◌, ◌<◌, ◌≤◌, List, [], ◌∷◌, ◌++◌, take, drop, length}
-use Rattle.std.proofs.Common.{refl, sym, ap, ◌∙◌, subst, arith, Bool, true, false, cond, not, ◌&&◌, ◌||◌, ◌==◌, nat_eq}
+use Rattle.std.proofs.Common.{◌≡◌, ◌≢◌, ◌↔◌, ℕ, ◌+◌, ◌-◌, ◌≤◌, List, [], ◌∷◌, ◌++◌, take, drop, length}
+use Rattle.std.proofs.Common.{refl, sym, ap, ◌∙◌, arith, Bool, true, false, cond, not, ◌&&◌, ◌||◌, ◌==◌, nat_eq}
 use Rattle.std.proofs.Common.{Option, Some, None, inl, inr}
 use Rattle.std.specs.Cmp.Lexicographic.{pointwise}
 use Rattle.std.proofs.lemmas.Bool.{eq-eqb}
@@ -16,7 +16,7 @@ use Rattle.ln_keys.specs.Signer.{Signer}
 use Rattle.ln_log.specs.declared.update.Update.{Update}
 use Rattle.ln_log.specs.declared.log.Pair.TheVariants as pair
 use Rattle.ln_log.specs.Machine.{Covered}
-use Rattle.ln_log.specs.Log.{Log, IsWithin, after_propose, after_receive, after_drop, unacknowledged}
+use Rattle.ln_log.specs.Log.{IsWithin, after_propose, after_receive, after_drop, unacknowledged}
 use Rattle.ln_log.specs.Log.{covered, counts_of, view_for}
 use Rattle.ln_dance.specs.Dance.{Dancer, view_at, owes, after_sign, signed_message, after_accept, revoked_message}
 use Rattle.ln_dance.specs.Dance.{after_learn, with_log, with_next_point}

@@ -1,5 +1,5 @@
 -- What one side of the dance keeps, and what each call makes of it (BOLT 2, "Normal Operation").
-use Rattle.std.specs.Prelude.{◌≡◌, ◌⊎◌, ℕ, ◌+◌, ◌<◌, ◌≤◌, ◌^◌, List, [], Bool, true, not, ◌==◌, Option, Some, None}
+use Rattle.std.specs.Prelude.{◌≡◌, ◌⊎◌, ℕ, ◌+◌, ◌≤◌, List, [], Bool, true, not, ◌==◌, Option, Some, None}
 use Rattle.std.specs.Prelude.{Result, Ok, Err, if◌then◌else◌}
 use Rattle.ln_msgs.specs.declared.messages.commitments.CommitmentSigned.{CommitmentSigned}
 use Rattle.ln_msgs.specs.declared.messages.commitments.RevokeAndAck.{RevokeAndAck}
@@ -37,7 +37,10 @@ view_at p d = view_for d.log.opening d.log.role (covered d.log (counts_of p d.lo
 abbrev pub owes : Dancer → Bool
 owes d = not (d.numbers.signed == d.numbers.revoked)
 
--- numbers are below 2^48 (BOLT 3, "Per-commitment Secret Requirements")
+-- a commitment may have this number (BOLT 3, "Per-commitment Secret Requirements")
+abbrev pub IsNumber : ℕ → Type 0
+IsNumber n = n ≤ LAST_NUMBER
+
 abbrev pub is_last : ℕ → Bool
 is_last n = n == LAST_NUMBER
 
@@ -131,11 +134,11 @@ answer_of (Some r) = Err r
 
 -- ---- what is kept
 
--- numbers are below 2^48; at most one signature is unrevoked, and where none is, the peer's acknowledged
+-- at most one signature is unrevoked, and where none is, the peer's acknowledged
 -- commitment covers what the last signature does
 pub record AreInStep (n : Numbers) (l : Log) : Type 0 where
-  pub commitment : n.commitment < 2 ^ 48
-  pub signed : n.signed < 2 ^ 48
+  pub commitment : IsNumber n.commitment
+  pub signed : IsNumber n.signed
   pub revoked : n.revoked ≤ n.signed
   pub one_unrevoked : n.signed ≤ n.revoked + 1
   pub acknowledged : n.signed ≡ n.revoked → same_counts l.acknowledged l.signed ≡ true

@@ -1,6 +1,6 @@
 -- A signature is made at one moment and taken at another, and so is a revocation: what has to hold between the
 -- one who made it then and the one who takes it now.
-use Rattle.std.specs.Prelude.{◌≡◌, ◌+◌, List, take, length}
+use Rattle.std.specs.Prelude.{◌≡◌, ◌+◌, take, length}
 use Rattle.ln_keys.specs.Role.{other_role}
 use Rattle.ln_keys.specs.Signer.{Signer}
 use Rattle.ln_log.specs.Updates.{all_sent}

@@ -1,6 +1,6 @@
 -- What a lost connection leaves between two sides, and what stays of what a side has signed (BOLT 2, "Message
 -- Retransmission").
-use Rattle.std.specs.Prelude.{◌≡◌, ℕ, ◌+◌, ◌≤◌, List, take, Some}
+use Rattle.std.specs.Prelude.{◌≡◌, ℕ, ◌+◌, ◌≤◌, take, Some}
 use Rattle.ln_keys.specs.Signer.{Signer}
 use Rattle.ln_dance.specs.Dance.{Dancer}
 

@@ -1,6 +1,6 @@
 -- What a side tells as a connection comes back, and what it sends again by what the peer tells (BOLT 2, "Message
 -- Retransmission").
-use Rattle.std.specs.Prelude.{◌≡◌, ℕ, ◌+◌, ◌-◌, List, [], ◌∷◌, ◌++◌, map, replicate, Bool, ◌&&◌, ◌||◌, ◌==◌, nat_eq}
+use Rattle.std.specs.Prelude.{ℕ, ◌+◌, ◌-◌, List, [], ◌∷◌, ◌++◌, map, replicate, Bool, ◌&&◌, ◌||◌, ◌==◌, nat_eq}
 use Rattle.std.specs.Prelude.{Option, Some, None, if◌then◌else◌}
 use Rattle.std.specs.Cmp.Lexicographic.{pointwise}
 use Rattle.ln_msgs.specs.declared.messages.commitments.ChannelReestablish.{ChannelReestablish}

@@ -6,8 +6,8 @@ use ln_msgs::{CommitmentSigned, Records, Refusal, RevokeAndAck};
 use std::alloc::Global;
 use std::marker::Model;
 
-/// The last number that a commitment can have.
-const LAST_NUMBER: u64 = 281_474_976_710_655;
+/// The last number that a commitment can have, 2^48 - 1 (BOLT 3, "Per-commitment Secret Requirements").
+pub const LAST_NUMBER: u64 = 281_474_976_710_655;
 
 /// The numbers of commitments, each below 2^48; commitment 0 is the opening state.
 #[derive(Clone, Copy, Debug, PartialEq, Eq)]
@@ -72,7 +72,8 @@ impl Dance {
     ghost use Rattle.ln_log.specs.Log as log;
     ghost use Rattle.ln_log.specs.Log.{Log, after_propose, after_receive, after_drop, proposal_fault, taken_fault};
     ghost use Rattle.ln_log.specs.Limits.{HasNextId, Answers};
-    ghost use Rattle.ln_dance.specs.Dance.{Dancer, StandsFor, AreInStep, is_last, owes, sign_fault, after_sign};
+    ghost use Rattle.ln_dance.specs.Dance.{Dancer, StandsFor, AreInStep, IsNumber, is_last, owes, sign_fault};
+    ghost use Rattle.ln_dance.specs.Dance.{after_sign};
     ghost use Rattle.ln_dance.specs.Dance.{signed_message, accept_fault, after_accept, revoked_message, learn_fault};
     ghost use Rattle.ln_dance.specs.Dance.{after_learn, with_log, with_next_point, AnswersWithin, answer_of};
 
@@ -132,7 +133,7 @@ impl Dance {
     /// The numbers of commitments.
     pub fn numbers(&self) -> Numbers
         ensures numbers { (d : Dancer) → StandsFor self.now d → result ≡ d.numbers }
-        ensures numbers_fit { (result.commitment < 2 ^ 48) × (result.signed < 2 ^ 48)
+        ensures numbers_fit { IsNumber result.commitment × IsNumber result.signed
             × (result.revoked ≤ result.signed) }
     {
         self.numbers
@@ -227,7 +228,7 @@ impl Dance {
         ensures message { (d : Dancer) → StandsFor self.old d
             → IfOk result (λ m. m ≡ signed_message (K.signer keys.now) d) }
         ensures ok { (d : Dancer) → StandsFor self.old d → OnOk result (StandsFor self.new (after_sign d)) }
-        ensures numbered { (d : Dancer) → StandsFor self.old d → OnOk result (d.numbers.signed + 1 < 2 ^ 48) }
+        ensures numbered { (d : Dancer) → StandsFor self.old d → OnOk result (IsNumber (d.numbers.signed + 1)) }
         ensures owes { (d : Dancer) → StandsFor self.old d → OnOk result (IsTrue (owes (after_sign d))) }
         ensures err { OnErr result (self.new ≡ self.old) }
     {

@@ -9,7 +9,7 @@ mod messages;
 mod reconnect;
 mod resume;
 
-pub use dance::{Dance, Later, Numbers, Peer};
+pub use dance::{Dance, LAST_NUMBER, Later, Numbers, Peer};
 pub use laws::{revocation_is_learned, signature_is_accepted};
 pub use messages::{
     add_message, add_of, fail_message, fail_of, fee_message, fee_of, fulfil_message, fulfil_of,

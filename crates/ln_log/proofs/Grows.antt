@@ -1,5 +1,5 @@
 -- A log with a further update.
-use Rattle.std.proofs.Common.{◌≡◌, ℕ, ◌+◌, ◌*◌, ◌≤◌, ◌<◌, ◌^◌, List, [], ◌∷◌, length, take, refl, sym, ap, ◌∙◌, subst}
+use Rattle.std.proofs.Common.{◌≡◌, ℕ, ◌+◌, ◌*◌, ◌≤◌, ◌<◌, List, [], ◌∷◌, length, take, refl, sym, ap, ◌∙◌, subst}
 use Rattle.std.proofs.Common.{arith, Bool, true, false, cond, eqb, Option, Some, None, Result, Ok, Err, length-append}
 use Rattle.std.proofs.Common.{nat_le, option_map}
 use Rattle.std.proofs.lemmas.List.{take-append-le}
@@ -9,15 +9,15 @@ use Rattle.ln_msgs.specs.Refusals.Refusal.{refusal_number}
 use Rattle.ln_msgs.specs.declared.refusals.refusal.Refusal.{Refusal}
 use Rattle.ln_msgs.specs.declared.refusals.refusal.Refusal.TheVariants as refusal
 use Rattle.ln_keys.specs.declared.role.Role.{Role}
-use Rattle.ln_keys.specs.declared.role.Role.TheVariants.{Funder, Fundee}
 use Rattle.ln_keys.specs.Role.{other_role}
+use Rattle.ln_log.specs.declared.log.TheConstants.{MOST_UPDATES}
 use Rattle.ln_log.specs.declared.opening.Limits.{Limits}
 use Rattle.ln_log.specs.declared.opening.Opening.{Opening}
 use Rattle.ln_log.specs.declared.standing.Standing.{Standing}
 use Rattle.ln_log.specs.declared.update.Update.{Update}
 use Rattle.ln_log.specs.declared.update.Update.TheVariants as update
 use Rattle.ln_log.specs.declared.outcome.Outcome.TheVariants.{Live}
-use Rattle.ln_log.specs.Opening.{IsFit, limits_of, first_balance}
+use Rattle.ln_log.specs.Opening.{HasFunds, limits_of, first_balance}
 use Rattle.ln_log.specs.Updates.{offered, removed, next_id, outcome}
 use Rattle.ln_log.specs.View.{Pays}
 use Rattle.ln_log.specs.Limits.{standing_of, fault_at, update_fault, HasNextId, id_fault, is_at_update_limit}
@@ -45,13 +45,14 @@ unmapped : (o : Option Refusal) → option_map peer_limit o ≡ None → o ≡ N
 unmapped None e = refl
 unmapped (Some r) e = absurd (cc)
 
-few_updates : (us : List Update) (r : Refusal) → cond (is_at_update_limit us) (Some r) None ≡ None → length us < 2 ^ 62
+few_updates : (us : List Update) (r : Refusal) → cond (is_at_update_limit us) (Some r) None ≡ None
+    → length us < MOST_UPDATES
 few_updates us r e =
-    let h = leb-false 4611686018427387904 (length us) (not_spent (is_at_update_limit us) r e) in
+    let h = leb-false MOST_UPDATES (length us) (not_spent (is_at_update_limit us) r e) in
     omega (arith, h)
 
 pub record MayGrow (l : Log) (u : Update) : Type 0 where
-  pub few : length l.own < 2 ^ 62
+  pub few : length l.own < MOST_UPDATES
   pub none : update_fault l.opening l.role l.own (take l.current.peer l.received)
       (take l.acknowledged.peer l.received) u ≡ None
 
@@ -63,7 +64,7 @@ may_propose l u e =
     record { few = few_updates l.own refusal.NumbersSpent a.0; none = unmapped _ c.0 }
 
 pub record MayTake (l : Log) (u : Update) : Type 0 where
-  pub few : length l.received < 2 ^ 62
+  pub few : length l.received < MOST_UPDATES
   pub id : id_fault l.received u ≡ None
   pub none : update_fault l.opening (other_role l.role) l.received (take l.acknowledged.own l.own)
       (take l.current.own l.own) u ≡ None
@@ -94,10 +95,6 @@ id_taken us (update.Fee f) e = tt
 
 -- ---- who grows
 
-few_accepted : (o : Opening) (r : Role) → IsFit o → (limits_of o r).accepted ≤ 483
-few_accepted o Funder fit = fit.fundee_accepts
-few_accepted o Fundee fit = fit.funder_accepts
-
 front_counts : (n : ℕ) (us : List Update) → 0 + next_id (take n us) ≤ next_id us
 front_counts n us = omega (arith, next-front n us)
 
@@ -118,7 +115,7 @@ due_live_back l s t p q k n =
     (above 0 (next_id l.received) (take l.signed.peer l.received) (numbered-take 0 l.signed.peer l.received k.peer_ids)
     (front_counts l.signed.peer l.received))
 
-pub growing : (l : Log) (s t p q : Standing) → IsKept l s t p q → length l.own < 2 ^ 62
+pub growing : (l : Log) (s t p q : Standing) → IsKept l s t p q → length l.own < MOST_UPDATES
     → Growing (limits_of l.opening l.role) (first_balance l.opening l.role)
     (first_balance l.opening (other_role l.role)) l.own (take l.current.peer l.received)
     (take l.acknowledged.peer l.received)
@@ -133,12 +130,11 @@ growing l s t p q k few =
       pays = k.own_pays;
       back = pays_all (first_balance l.opening (other_role l.role)) (take l.current.peer l.received) l.own
           l.current.own k.current_pays.1;
-      small = small l k.fit;
+      small = small l k.funds;
       few = few;
-      accepts = few_accepted l.opening l.role k.fit;
     }
 
-pub growing_back : (l : Log) (s t p q : Standing) → IsKept l s t p q → length l.received < 2 ^ 62
+pub growing_back : (l : Log) (s t p q : Standing) → IsKept l s t p q → length l.received < MOST_UPDATES
     → Growing (limits_of l.opening (other_role l.role)) (first_balance l.opening (other_role l.role))
     (first_balance l.opening l.role) l.received (take l.acknowledged.own l.own) (take l.current.own l.own)
 growing_back l s t p q k few =
@@ -151,9 +147,8 @@ growing_back l s t p q k few =
       pays = k.peer_pays;
       back = pays_all (first_balance l.opening l.role) (take l.acknowledged.own l.own) l.received
           l.acknowledged.peer k.acknowledged_pays.0;
-      small = small_back l k.fit;
+      small = small_back l k.funds;
       few = few;
-      accepts = few_accepted l.opening (other_role l.role) k.fit;
     }
 
 pub grown_own : (l : Log) (s t p q : Standing) (u : Update) → IsKept l s t p q → MayGrow l u
@@ -189,9 +184,9 @@ got_call l s t p q u vs k none e =
     (subst (λ x. OwnFits (standing_of (first_balance l.opening (other_role l.role)) l.received
     (take l.acknowledged.own l.own)) x u) (sym e) g.fits)
 
-first_sum_back : (o : Opening) (r : Role) → IsFit o
+first_sum_back : (o : Opening) (r : Role) → HasFunds o
     → first_balance o (other_role r) + first_balance o r ≡ 1000 * o.satoshis
-first_sum_back o r fit = omega (arith, first_sum o r fit)
+first_sum_back o r funds = omega (arith, first_sum o r funds)
 
 pub kept_proposed : (l : Log) (s t p q a : Standing) (u : Update) (vs : List Update) → IsKept l s t p q
     → proposal_fault l u ≡ None → HasNextId l.own u → vs ≡ take l.current.peer l.received → a ≡ with_own s vs u
@@ -207,7 +202,7 @@ kept_proposed l s t p q a u vs k none next ev ea =
     let acked = front l.acknowledged.own (omega (arith, w.own_acknowledged, w.own_signed)) in
     let current = front l.current.own (omega (arith, w.own_current, w.own_acknowledged, w.own_signed)) in
     record {
-      fit = k.fit;
+      funds = k.funds;
       within = record {
         own_current = w.own_current;
         own_acknowledged = w.own_acknowledged;
@@ -227,7 +222,7 @@ kept_proposed l s t p q a u vs k none next ev ea =
           k.acknowledged_removals;
       peer_removals = subst (λ adds. AreRemovals adds [] l.received) (sym current) k.peer_removals;
       own_amounts = within-push (1000 * l.opening.satoshis) l.own u k.own_amounts
-          (has_amount _ _ (offered u) (first_sum l.opening l.role k.fit) g.amount);
+          (has_amount _ _ (offered u) (first_sum l.opening l.role k.funds) g.amount);
       peer_amounts = k.peer_amounts;
       own_stands = ea ∙ ap (λ x. with_own x vs u) k.own_stands
           ∙ ap (λ x. with_own (standing_of f l.own (take l.current.peer l.received)) x u) ev ∙ g.stands;
@@ -259,7 +254,7 @@ kept_received l s t p q b u vs k none ev eb =
     let signed = front l.signed.peer (omega (arith, w.peer_signed, w.peer_current)) in
     let acked = front l.acknowledged.peer (omega (arith, w.peer_acknowledged, w.peer_signed, w.peer_current)) in
     record {
-      fit = k.fit;
+      funds = k.funds;
       within = record {
         own_current = w.own_current;
         own_acknowledged = w.own_acknowledged;
@@ -278,7 +273,7 @@ kept_received l s t p q b u vs k none ev eb =
       peer_removals = removals-push (take l.current.own l.own) [] l.received u k.peer_removals g.removes;
       own_amounts = k.own_amounts;
       peer_amounts = within-push (1000 * l.opening.satoshis) l.received u k.peer_amounts
-          (has_amount _ _ (offered u) (first_sum_back l.opening l.role k.fit) g.amount);
+          (has_amount _ _ (offered u) (first_sum_back l.opening l.role k.funds) g.amount);
       own_stands = k.own_stands ∙ ap (standing_of f l.own) (sym current);
       own_signed_stands = k.own_signed_stands ∙ ap (standing_of f (take l.signed.own l.own)) (sym current);
       peer_stands = eb ∙ ap (λ x. with_own x vs u) k.peer_stands
@@ -297,11 +292,11 @@ kept_received l s t p q b u vs k none ev eb =
 
 -- ---- what the code found is the fault by the lists
 
-few_is : (us : List Update) (n : ℕ) (r : Refusal) → n ≡ length us → n < 4611686018427387904
+few_is : (us : List Update) (n : ℕ) (r : Refusal) → n ≡ length us → n < MOST_UPDATES
     → cond (is_at_update_limit us) (Some r) None ≡ None
 few_is us n r e lt =
-    let not_ : nat_le 4611686018427387904 (length us) ≡ false =
-    lt-leb 4611686018427387904 (length us) (subst (λ m. m < 4611686018427387904) e lt) in
+    let not_ : nat_le MOST_UPDATES (length us) ≡ false =
+    lt-leb MOST_UPDATES (length us) (subst (λ m. m < MOST_UPDATES) e lt) in
     ap (λ b. cond b (Some r) None) not_
 
 fault_is : (lim lim' : Limits) (s s' : Standing) (r r' : Role) (os os' hs hs' : List Update) (u : Update) → lim ≡ lim'
@@ -312,7 +307,7 @@ fault_is lim lim' s s' r r' os os' hs hs' u el es er eo eh =
     ∙ ap (λ x. fault_at lim' s' r' os' x u) eh
 
 pub proposal_is : (l m : Log) (s t p q : Standing) (u : Update) (n : ℕ) (lim : Limits) (os hs : List Update)
-    (r : Option Refusal) → l ≡ m → IsKept l s t p q → n ≡ length l.own → n < 4611686018427387904
+    (r : Option Refusal) → l ≡ m → IsKept l s t p q → n ≡ length l.own → n < MOST_UPDATES
     → removal_fault m (removed u) ≡ None → lim ≡ limits_of l.opening l.role → os ≡ l.own
     → hs ≡ take l.acknowledged.peer l.received → r ≡ fault_at lim s l.role os hs u
     → proposal_fault m u ≡ first_fault (option_map peer_limit r) (length_fault u)
@@ -344,7 +339,7 @@ pub proposal_else : (m : Log) (u : Update) (r o : Option Refusal)
 proposal_else m u r o e is eo = eo ∙ ap (λ y. first_fault (option_map peer_limit y) (length_fault u)) (sym is) ∙ sym e
 
 pub taken_is : (l m : Log) (s t p q : Standing) (u : Update) (n : ℕ) (lim : Limits) (side : Role) (os hs : List Update)
-    (r : Option Refusal) → l ≡ m → IsKept l s t p q → n ≡ length l.received → n < 4611686018427387904
+    (r : Option Refusal) → l ≡ m → IsKept l s t p q → n ≡ length l.received → n < MOST_UPDATES
     → id_fault l.received u ≡ None → lim ≡ limits_of l.opening (other_role l.role) → side ≡ other_role l.role
     → os ≡ l.received → hs ≡ take l.current.own l.own → r ≡ fault_at lim p side os hs u
     → r ≡ taken_fault m u

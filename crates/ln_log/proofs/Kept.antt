@@ -1,5 +1,5 @@
 -- What each call of a log keeps.
-use Rattle.std.specs.List.{slice_get}
+use Rattle.std.specs.List.{slice_get, cons_option}
 use Rattle.std.proofs.Common.{◌≡◌, ℕ, zero, suc, IfSome, ◌+◌, ◌-◌, ◌*◌, ◌≤◌, ◌<◌, ◌^◌, List, [], ◌∷◌, ◌++◌, length}
 use Rattle.std.proofs.Common.{take, drop, refl, sym, ap, ◌∙◌, subst, arith, Bool, true, false, cond, Option, Some, None}
 use Rattle.std.proofs.Common.{◌||◌, ◌==◌, nat_lt}
@@ -10,6 +10,7 @@ use Rattle.ln_keys.specs.Role.{other_role}
 use Rattle.ln_log.specs.declared.opening.Limits.{Limits}
 use Rattle.ln_log.specs.declared.opening.Opening.{Opening}
 use Rattle.ln_log.specs.declared.log.Side.{Side}
+use Rattle.ln_log.specs.declared.log.TheConstants.{MOST_UPDATES}
 use Rattle.ln_log.specs.declared.log.Side.TheVariants as side
 use Rattle.ln_log.specs.declared.update.Add.{Add}
 use Rattle.ln_log.specs.declared.update.Removal.{Removal}
@@ -18,9 +19,9 @@ use Rattle.ln_log.specs.declared.outcome.Outcome.{Outcome}
 use Rattle.ln_log.specs.declared.standing.Standing.{Standing}
 use Rattle.ln_log.specs.declared.update.Update.{Update}
 use Rattle.ln_log.specs.declared.outcome.Outcome.TheVariants.{Live, Fulfilled, Failed}
-use Rattle.ln_log.specs.Opening.{IsFit, first_balance}
+use Rattle.ln_log.specs.Opening.{HasFunds, first_balance}
 use Rattle.ln_log.specs.Updates.{offered, removed, is_some, next_id, add_with, outcome, is_live}
-use Rattle.ln_log.specs.View.{balance, Pays}
+use Rattle.ln_log.specs.View.{live_of, live_adds, balance, Pays}
 use Rattle.ln_log.specs.Limits.{standing_of, add_fault, fault_at, removable, fulfil_fault, fail_fault, malformed_fault}
 use Rattle.ln_log.specs.Standing.{with_own, with_all, paid_by, PaidFits, OwnFits, AllFit}
 use Rattle.ln_log.specs.Log.{Log, IsKept, between, updates_of, BothPay, HasAmount, AreWithin, number_after, HasId}
@@ -70,9 +71,9 @@ pub found_all : (m : ℕ) (us : List Update) → (i : ℕ) → is_some (add_with
     → add_with i us ≡ add_with i (take m us)
 found_all m us i e = ap (add_with i) (sym (take-append-drop m us)) ∙ add_with-more i (take m us) (drop m us) e
 
-pub small : (l : Log) → IsFit l.opening → first_balance l.opening l.role
+pub small : (l : Log) → HasFunds l.opening → first_balance l.opening l.role
     + first_balance l.opening (other_role l.role) < 2 ^ 64
-small l fit = omega (arith, first_sum l.opening l.role fit, fit.funds)
+small l funds = omega (arith, first_sum l.opening l.role funds, funds.funds)
 
 -- ---- amounts
 
@@ -138,7 +139,7 @@ accepting l s t p q k =
       got_removals = k.peer_removals;
       pays = k.own_pays;
       back = pays_all (first_balance l.opening (other_role l.role)) l.received l.own l.acknowledged.own k.peer_pays;
-      small = small l k.fit;
+      small = small l k.funds;
     }
 
 pub accepting_signed : (l : Log) (s t p q : Standing) → IsKept l s t p q
@@ -158,14 +159,14 @@ accepting_signed l s t p q k =
           l.current.peer w.peer_signed k.signed_pays.0;
       back = pays_longer (first_balance l.opening (other_role l.role)) l.received l.own l.acknowledged.own l.signed.own
           w.own_acknowledged k.peer_pays;
-      small = small l k.fit;
+      small = small l k.funds;
     }
 
 -- ---- a revocation of the peer is taken
 
-pub small_back : (l : Log) → IsFit l.opening → first_balance l.opening (other_role l.role)
+pub small_back : (l : Log) → HasFunds l.opening → first_balance l.opening (other_role l.role)
     + first_balance l.opening l.role < 2 ^ 64
-small_back l fit = omega (arith, small l fit)
+small_back l funds = omega (arith, small l funds)
 
 pub learning : (l : Log) (s t p q : Standing) → IsKept l s t p q
     → Settling (first_balance l.opening (other_role l.role)) (first_balance l.opening l.role) l.received
@@ -186,7 +187,7 @@ learning l s t p q k =
       got_removals = removals-take (take l.signed.peer l.received) [] l.own l.signed.own k.own_removals;
       pays = subst (Pays (first_balance l.opening (other_role l.role)) l.received) (sym front) k.peer_pays;
       back = pays_all f (take l.signed.own l.own) l.received l.signed.peer k.signed_pays.0;
-      small = small_back l k.fit;
+      small = small_back l k.funds;
     }
 
 pub learning_current : (l : Log) (s t p q : Standing) → IsKept l s t p q
@@ -213,7 +214,7 @@ learning_current l s t p q k =
           w.own_current k.current_pays.1);
       back = pays_longer f (take l.signed.own l.own) l.received l.signed.peer l.current.peer
           w.peer_signed k.signed_pays.0;
-      small = small_back l k.fit;
+      small = small_back l k.funds;
     }
 
 -- ---- what each call keeps
@@ -272,7 +273,7 @@ kept_accepted l s t p q a b m n us vs k em en eu ev ea eb =
     l.current.peer t b us vs (accepting_signed l s t p q k)
     (record { stands = k.own_signed_stands; updates = eu; htlcs = ev; new_is = eb }) in
     record {
-      fit = k.fit;
+      funds = k.funds;
       within = record {
         own_current = omega (arith, em);
         own_acknowledged = w.own_acknowledged;
@@ -345,7 +346,7 @@ kept_acknowledged l s t p q a b us vs k eu ev ea eb =
       new_is = eb;
     }) in
     record {
-      fit = k.fit;
+      funds = k.funds;
       within = record {
         own_current = omega (arith, w.own_current, w.own_acknowledged);
         own_acknowledged = omega arith;
@@ -381,7 +382,7 @@ kept_signed l s t p q m n k em en =
     let whole : take m l.own ≡ l.own = all_taken l.own m em in
     let seen : take n l.received ≡ take l.current.peer l.received = ap (λ i. take i l.received) en in
     record {
-      fit = k.fit;
+      funds = k.funds;
       within = record {
         own_current = w.own_current;
         own_acknowledged = omega (arith, em, w.own_acknowledged, w.own_signed);
@@ -436,7 +437,7 @@ kept_dropped l s t p q k =
     let signed_peer = got_part l.signed.peer w.peer_signed in
     let acked_peer = got_part l.acknowledged.peer (omega (arith, w.peer_acknowledged, w.peer_signed)) in
     record {
-      fit = k.fit;
+      funds = k.funds;
       within = record {
         own_current = w.own_current;
         own_acknowledged = w.own_acknowledged;
@@ -515,20 +516,15 @@ passes_test true x o e = absurd (cc)
 passes_test false x o e = (refl, e)
 
 -- who may offer an HTLC can pay for it
-pub record Affords (lim : Limits) (s : Standing) (a : Add) : Type 0 where
-  pub few : s.live + 1 ≤ lim.accepted
-  pub paid : a.amount ≤ s.balance
-
-pub afforded : (lim : Limits) (s : Standing) (a : Add) → add_fault lim s a ≡ None → Affords lim s a
+pub afforded : (lim : Limits) (s : Standing) (a : Add) → add_fault lim s a ≡ None → a.amount ≤ s.balance
 afforded lim s a e =
     let p1 = passes_test ((a.amount == 0) || nat_lt a.amount lim.minimum) _ _ e in
     let p2 = passes_test (nat_lt 499999999 a.expiry) _ _ p1.1 in
     let p3 = passes_test (nat_lt lim.accepted (s.live + 1)) _ _ p2.1 in
     let p4 = passes_test (nat_lt lim.in_flight (s.in_flight + a.amount)) _ _ p3.1 in
     let p5 = passes_test (nat_lt s.balance (a.amount + 1000 * lim.reserve)) _ _ p4.1 in
-    let few : s.live + 1 ≤ lim.accepted = ltb-false lim.accepted (s.live + 1) p3.0 in
     let le : a.amount + 1000 * lim.reserve ≤ s.balance = ltb-false s.balance (a.amount + 1000 * lim.reserve) p5.0 in
-    record { few = few; paid = omega (arith, le) }
+    omega (arith, le)
 
 one_at_most : (o : Option Add) → number_after 0 o ≤ 1
 one_at_most None = omega arith
@@ -537,6 +533,14 @@ one_at_most (Some a) = omega arith
 next_few : (us : List Update) → next_id us ≤ length us
 next_few [] = omega arith
 next_few (u ∷ us) = omega (arith, next-cons u us, one_at_most (offered u), next_few us)
+
+one_live : (o : Option Add) (rest : List Add) → length (cons_option o rest) ≤ 1 + length rest
+one_live None rest = omega arith
+one_live (Some a) rest = omega arith
+
+live_few : (us r : List Update) → length (live_adds us r) ≤ length us
+live_few [] r = omega arith
+live_few (u ∷ us) r = omega (arith, one_live (live_of (offered u) r) (live_adds us r), live_few us r)
 
 bounded_balance : (f g : ℕ) (own seen : List Update) (u : Update) → f + g < 2 ^ 64 → {b : ℕ}
     → b ≡ balance f (own ++ u ∷ []) seen → Pays f (own ++ u ∷ []) seen → Pays g seen own → b < 2 ^ 64
@@ -556,8 +560,7 @@ pub record Growing (lim : Limits) (f g : ℕ) (own seen held : List Update) : Ty
   pub pays : Pays f own seen
   pub back : Pays g seen own
   pub small : f + g < 2 ^ 64
-  pub few : length own < 2 ^ 62
-  pub accepts : lim.accepted ≤ 483
+  pub few : length own < MOST_UPDATES
 
 pub seen_removes : (held seen own : List Update) (r : Option Removal)
     → ((i : ℕ) → is_some (add_with i held) ≡ true → add_with i seen ≡ add_with i held) → RemovesLive held own r
@@ -569,7 +572,7 @@ may_add : (lim : Limits) (f g : ℕ) (side : Role) (own seen held : List Update)
     → Growing lim f g own seen held → HasId (next_id own) (offered u)
     → fault_at lim (standing_of f own seen) side own held u ≡ None → MayAdd f own seen u
 may_add lim f g side own seen held (update.Add a) h id e =
-    (ap (λ i. outcome i seen) id ∙ h.new, (afforded lim (standing_of f own seen) a e).paid)
+    (ap (λ i. outcome i seen) id ∙ h.new, afforded lim (standing_of f own seen) a e)
 may_add lim f g side own seen held (update.Fulfil x) h id e = tt
 may_add lim f g side own seen held (update.Fail x) h id e = tt
 may_add lim f g side own seen held (update.Malformed x) h id e = tt
@@ -587,12 +590,12 @@ own_fits : (lim : Limits) (f g : ℕ) (side : Role) (own seen held : List Update
     → with_own (standing_of f own seen) seen u ≡ standing_of f (own ++ u ∷ []) seen → Pays f (own ++ u ∷ []) seen
     → OwnFits (standing_of f own seen) seen u
 own_fits lim f g side own seen held (update.Add a) h e moves pays =
-    let t = afforded lim (standing_of f own seen) a e in
+    let paid = afforded lim (standing_of f own seen) a e in
     record {
       next_id = omega (arith, h.few, next_few own);
-      live = omega (arith, t.few, h.accepts);
-      in_flight = omega (arith, t.paid, h.small, sums f g own seen h.pays h.back);
-      paid = t.paid;
+      live = omega (arith, h.few, live_few own seen);
+      in_flight = omega (arith, paid, h.small, sums f g own seen h.pays h.back);
+      paid = paid;
     }
 own_fits lim f g side own seen held (update.Fulfil x) h e moves pays =
     paid_fits (standing_of f own seen) (add_with x.id seen)
@@ -605,7 +608,7 @@ amount_is : (lim : Limits) (f g : ℕ) (side : Role) (own seen held : List Updat
     → Growing lim f g own seen held → fault_at lim (standing_of f own seen) side own held u ≡ None
     → HasAmount (f + g) (offered u)
 amount_is lim f g side own seen held (update.Add a) h e =
-    omega (arith, (afforded lim (standing_of f own seen) a e).paid, sums f g own seen h.pays h.back)
+    omega (arith, afforded lim (standing_of f own seen) a e, sums f g own seen h.pays h.back)
 amount_is lim f g side own seen held (update.Fulfil x) h e = tt
 amount_is lim f g side own seen held (update.Fail x) h e = tt
 amount_is lim f g side own seen held (update.Malformed x) h e = tt

@@ -61,7 +61,8 @@ pub counted : (adds us : List Update) → AreNumbered 0 adds → AreRemovals add
     → length (live_adds adds us) + removals_in us ≡ next_id adds
 counted adds us ids h = omega (arith, live_is adds us, left adds [] us ids h, all_live adds)
 
-wider : (m n : ℕ) (adds us : List Update) → m ≤ n → AreRemovals (take m adds) [] us → AreRemovals (take n adds) [] us
+pub wider : (m n : ℕ) (adds us : List Update) → m ≤ n → AreRemovals (take m adds) [] us
+    → AreRemovals (take n adds) [] us
 wider m n adds us le h =
     subst (λ a. AreRemovals a [] us) (take-append-drop m (take n adds))
     (removals-more (take m (take n adds)) (drop m (take n adds)) [] us

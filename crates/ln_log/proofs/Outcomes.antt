@@ -103,7 +103,7 @@ counts_one (Some a) = refl
 pub next-cons : (u : Update) (us : List Update) → next_id (u ∷ us) ≡ number_after 0 (offered u) + next_id us
 next-cons u us = sum_by-cons (λ v. cond (is_add v) 1 0) u us ∙ ap (λ n. n + next_id us) (counts_one (offered u))
 
-number_is : (n : ℕ) (o : Option Add) → number_after n o ≡ n + number_after 0 o
+pub number_is : (n : ℕ) (o : Option Add) → number_after n o ≡ n + number_after 0 o
 number_is n None = omega arith
 number_is n (Some a) = omega arith
 

@@ -13,7 +13,7 @@ use Rattle.ln_log.specs.declared.update.Add.{Add}
 use Rattle.ln_log.specs.declared.update.Update.{Update}
 use Rattle.ln_log.specs.declared.outcome.Outcome.{Outcome}
 use Rattle.ln_log.specs.declared.outcome.Outcome.TheVariants.{Live, Fulfilled, Failed}
-use Rattle.ln_log.specs.Opening.{IsFit, first_balance}
+use Rattle.ln_log.specs.Opening.{HasFunds, first_balance}
 use Rattle.ln_log.specs.Updates.{offered, outcome, is_live, is_fulfilled, is_failed, is_any, total}
 use Rattle.ln_log.specs.View.{live_of, live_adds, balance, htlc_of, htlc_amount, view_of, Pays, IsFunded, AddsUp}
 use Rattle.ln_log.proofs.Outcomes.{outcome-append}
@@ -75,9 +75,9 @@ pub sums : (f g : ℕ) (us vs : List Update) → Pays f us vs → Pays g vs us
     → balance f us vs + balance g vs us + (total is_live us vs + total is_live vs us) ≡ f + g
 sums f g us vs p q = omega (arith, total_splits us vs, total_splits vs us, p, q)
 
-pub adds_up : (o : Opening) (funder fundee : List Update) → IsFit o → IsFunded o funder fundee
+pub adds_up : (o : Opening) (funder fundee : List Update) → HasFunds o → IsFunded o funder fundee
     → AddsUp o (view_of o funder fundee)
-adds_up o funder fundee fit h =
+adds_up o funder fundee funds h =
     let both : sum_by htlc_amount (map (htlc_of Funder) (live_adds funder fundee)
     ++ map (htlc_of Fundee) (live_adds fundee funder)) ≡ total is_live funder fundee + total is_live fundee funder
     = sum_by-append htlc_amount (map (htlc_of Funder) (live_adds funder fundee))
@@ -90,14 +90,14 @@ adds_up o funder fundee fit h =
       both,
       sums (first_balance o Funder) (first_balance o Fundee) funder fundee h.funder_pays
           h.fundee_pays,
-      fit.push,
+      funds.push,
     )
 
 -- what both sides have together at the opening
-pub first_sum : (o : Opening) (r : Role) → IsFit o
+pub first_sum : (o : Opening) (r : Role) → HasFunds o
     → first_balance o r + first_balance o (other_role r) ≡ 1000 * o.satoshis
-first_sum o Funder fit = omega (arith, fit.push)
-first_sum o Fundee fit = omega (arith, fit.push)
+first_sum o Funder funds = omega (arith, funds.push)
+first_sum o Fundee funds = omega (arith, funds.push)
 
 -- ---- behind more of the other side's updates
 

@@ -7,4 +7,5 @@ pub mod Limits
 pub mod Standing
 pub mod Machine
 pub mod Log
+pub mod Loading
 pub use Rattle.ln_msgs.specs.Refusals.Refusal

@@ -10,6 +10,7 @@ use Rattle.ln_keys.specs.declared.role.Role.TheVariants.{Funder, Fundee}
 use Rattle.ln_keys.specs.Hash.{payment_hash}
 use Rattle.ln_log.specs.declared.opening.Limits.{Limits}
 use Rattle.ln_log.specs.declared.opening.Opening.{Opening}
+use Rattle.ln_log.specs.declared.log.TheConstants.{MOST_UPDATES}
 use Rattle.ln_log.specs.declared.standing.Standing.{Standing}
 use Rattle.ln_log.specs.declared.update.Add.{Add}
 use Rattle.ln_log.specs.declared.update.Update.{Update}
@@ -91,9 +92,9 @@ id_fault own (update.Fail f) = None
 id_fault own (update.Malformed m) = None
 id_fault own (update.Fee f) = None
 
--- a side proposes 2^62 updates at most
+-- a side proposes no more updates than these
 abbrev pub is_at_update_limit : List Update → Bool
-is_at_update_limit own = nat_le 4611686018427387904 (length own)
+is_at_update_limit own = nat_le MOST_UPDATES (length own)
 
 -- the first of two faults
 abbrev pub first_fault : Option Refusal → Option Refusal → Option Refusal

@@ -1,5 +1,5 @@
 -- What one side keeps: both lists, and of each how many updates each commitment covers.
-use Rattle.std.specs.Prelude.{◌≡◌, ℕ, ◌+◌, ◌-◌, ◌*◌, ◌≤◌, List, [], ◌∷◌, ◌++◌, length, take, drop, Bool, true, false}
+use Rattle.std.specs.Prelude.{◌≡◌, ℕ, ◌+◌, ◌-◌, ◌*◌, ◌≤◌, List, [], ◌∷◌, ◌++◌, length, take, drop, Bool, true}
 use Rattle.std.specs.Prelude.{◌&&◌, ◌==◌, nat_lt, not, Option, Some, None, is_none, option_map, if◌then◌else◌}
 use Rattle.std.specs.List.{slice_get}
 use Rattle.ln_msgs.specs.declared.refusals.refusal.Refusal.{Refusal}
@@ -17,7 +17,7 @@ use Rattle.ln_log.specs.declared.update.Update.{Update}
 use Rattle.ln_log.specs.declared.update.Update.TheVariants as update
 use Rattle.ln_keys.specs.declared.view.View.{View}
 use Rattle.ln_keys.specs.Role.{other_role}
-use Rattle.ln_log.specs.Opening.{IsFit, first_balance}
+use Rattle.ln_log.specs.Opening.{HasFunds, first_balance}
 use Rattle.ln_msgs.specs.Refusals.Refusal.{refusal_number}
 use Rattle.ln_log.specs.declared.update.Add.{Add}
 use Rattle.ln_log.specs.declared.outcome.Outcome.TheVariants.{Live}
@@ -244,7 +244,7 @@ BothPay o role c = Pays (first_balance o role) c.own c.peer × Pays (first_balan
 -- how each side stands is what the lists say: by all that it proposed, and by what of it the last
 -- signature covers; and in each commitment both sides have paid from what they had
 pub record IsKept (l : Log) (own own_signed peer peer_current : Standing) : Type 0 where
-  pub fit : IsFit l.opening
+  pub funds : HasFunds l.opening
   pub within : IsWithin l
   pub own_ids : AreNumbered 0 l.own
   pub peer_ids : AreNumbered 0 l.received

@@ -4,6 +4,7 @@ use Rattle.ln_keys.specs.declared.role.Role.{Role}
 use Rattle.ln_keys.specs.declared.role.Role.TheVariants.{Funder, Fundee}
 use Rattle.ln_log.specs.declared.opening.Limits.{Limits}
 use Rattle.ln_log.specs.declared.opening.Opening.{Opening}
+use Rattle.ln_log.specs.declared.opening.TheConstants.{MOST_SATOSHIS, MOST_HTLCS}
 
 -- the limits that the HTLCs of a side have to meet are those that the other side sent
 abbrev pub limits_of : Opening → Role → Limits
@@ -15,15 +16,21 @@ abbrev pub first_balance : Opening → Role → ℕ
 first_balance o Funder = 1000 * o.satoshis - o.push
 first_balance o Fundee = o.push
 
+-- a channel with these funds can be, and neither side begins with less than nothing
+pub record HasFunds (o : Opening) : Type 0 where
+  pub some_funds : 1 ≤ o.satoshis
+  pub funds : o.satoshis ≤ MOST_SATOSHIS
+  pub push : o.push ≤ 1000 * o.satoshis
+
 -- a channel may open so
 pub record IsFit (o : Opening) : Type 0 where
   pub some_funds : 1 ≤ o.satoshis
-  pub funds : o.satoshis ≤ 2100000000000000
+  pub funds : o.satoshis ≤ MOST_SATOSHIS
   pub push : o.push ≤ 1000 * o.satoshis
-  pub funder_accepts : o.funder.accepted ≤ 483
-  pub fundee_accepts : o.fundee.accepted ≤ 483
+  pub funder_accepts : o.funder.accepted ≤ MOST_HTLCS
+  pub fundee_accepts : o.fundee.accepted ≤ MOST_HTLCS
 
 -- the same, as a test
 abbrev pub is_fit : Opening → Bool
-is_fit o = nat_le 1 o.satoshis && nat_le o.satoshis 2100000000000000 && nat_le o.push (1000 * o.satoshis)
-    && nat_le o.funder.accepted 483 && nat_le o.fundee.accepted 483
+is_fit o = nat_le 1 o.satoshis && nat_le o.satoshis MOST_SATOSHIS && nat_le o.push (1000 * o.satoshis)
+    && nat_le o.funder.accepted MOST_HTLCS && nat_le o.fundee.accepted MOST_HTLCS

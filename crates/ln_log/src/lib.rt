@@ -3,6 +3,7 @@
 #![tactic(auto)]
 
 mod laws;
+mod loading;
 mod log;
 mod opening;
 mod outcome;
@@ -13,8 +14,9 @@ mod update;
 
 pub use laws::{moves_exactly, propose_exactly, shut_exactly, sign_exactly, views_as_sent};
 pub use ln_keys::{Htlc, Htlcs, Role, View};
-pub use log::{Counts, Pair, Side, UpdateLog};
-pub use opening::{Limits, Opening};
+pub use loading::Coverage;
+pub use log::{Counts, MOST_UPDATES, Pair, Side, UpdateLog};
+pub use opening::{Limits, MOST_HTLCS, MOST_SATOSHIS, Opening};
 pub use outcome::Outcome;
 pub use plain::{conservation, find_add, last_feerate, live_count, plain_view};
 pub use removals::outcome_of;

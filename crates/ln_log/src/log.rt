@@ -9,7 +9,7 @@ ghost use Rattle.ln_log.specs.Limits.{id_fault};
 ghost use Rattle.ln_log.specs.Log.{Log, IsWithin, between, sign_fault, length_fault, party_of};
 ghost use Rattle.ln_log.specs.Machine.{MaySign};
 
-use crate::opening::Opening;
+use crate::opening::{MOST_SATOSHIS, Opening};
 use crate::outcome::Outcome;
 use crate::plain::{count_adds, find_add, plain_view};
 use crate::removals::{count_removals, outcome_of};
@@ -21,7 +21,7 @@ use std::alloc::Global;
 use std::marker::Model;
 
 /// A side proposes no more updates than these.
-const MOST_UPDATES: u64 = 1 << 62;
+pub const MOST_UPDATES: u64 = 1 << 62;
 
 /// `update_fail_htlc` has 44 bytes beside the reason, and a message 65,535 at most.
 const LONGEST_REASON: usize = 65_491;
@@ -61,19 +61,19 @@ pub struct Counts {
 /// commitment and the peer's acknowledged commitment cover.
 #[derive(Debug, Drop)]
 pub struct UpdateLog {
-    opening: Opening,
-    role: Role,
-    own: Vec<Update>,
-    received: Vec<Update>,
-    signed: Counts,
-    acknowledged: Counts,
-    current: Counts,
+    pub(crate) opening: Opening,
+    pub(crate) role: Role,
+    pub(crate) own: Vec<Update>,
+    pub(crate) received: Vec<Update>,
+    pub(crate) signed: Counts,
+    pub(crate) acknowledged: Counts,
+    pub(crate) current: Counts,
     // how this side stands by what it would sign, and what is left of that once the connection is lost
-    own_standing: Standing,
-    own_signed: Standing,
+    pub(crate) own_standing: Standing,
+    pub(crate) own_signed: Standing,
     // the same for the peer, by what this side would accept
-    peer_standing: Standing,
-    peer_current: Standing,
+    pub(crate) peer_standing: Standing,
+    pub(crate) peer_current: Standing,
 }
 
 impl Model for UpdateLog {
@@ -384,7 +384,7 @@ impl UpdateLog {
             → option_copied result ≡ update_at (first_of side l) (updates_of side l) number }
         ensures amount { (l : Log) → StandsFor self.now l
             → IfSome (option_copied result) (λ u. HasAmount (1000 * l.opening.satoshis) (offered u)) }
-        ensures funds { (l : Log) → StandsFor self.now l → l.opening.satoshis ≤ 2100000000000000 }
+        ensures funds { (l : Log) → StandsFor self.now l → l.opening.satoshis ≤ MOST_SATOSHIS }
     {
         match side {
             Side::Own => nth(self.own.as_slice(), number),
@@ -401,7 +401,7 @@ impl UpdateLog {
         ensures updates { (l : Log) → StandsFor self.now l → result.now ≡ between from to (updates_of side l) }
         ensures count { from + length result.now ≡ to }
         ensures amounts { (l : Log) → StandsFor self.now l → AreWithin (1000 * l.opening.satoshis) result.now }
-        ensures funds { (l : Log) → StandsFor self.now l → l.opening.satoshis ≤ 2100000000000000 }
+        ensures funds { (l : Log) → StandsFor self.now l → l.opening.satoshis ≤ MOST_SATOSHIS }
     {
         // (what is kept bounds the amounts)
         let _ = self.own.len();

@@ -2,6 +2,12 @@
 
 use ln_keys::Role;
 
+/// No channel has more funds, in satoshi.
+pub const MOST_SATOSHIS: u64 = 2_100_000_000_000_000;
+
+/// No side accepts more HTLCs at a time (BOLT 2, "Rationale" of `open_channel`: `max_accepted_htlcs`).
+pub const MOST_HTLCS: u16 = 483;
+
 /// What a side asks of the HTLCs that it is offered (BOLT 2, "The `open_channel` Message" and "The
 /// `accept_channel` Message").
 #[derive(Clone, Copy, Debug, PartialEq, Eq)]
@@ -33,7 +39,7 @@ pub struct Opening {
 
 impl Opening {
     ghost use Rattle.std.specs.Prelude.{◌≡◌, ◌↔◌, IsTrue};
-    ghost use Rattle.ln_log.specs.Opening.{IsFit, is_fit, limits_of, first_balance};
+    ghost use Rattle.ln_log.specs.Opening.{HasFunds, IsFit, is_fit, limits_of, first_balance};
 
     /// Whether a channel may open so: `funding_satoshis` is 1 to 2,100,000,000,000,000, `push_msat` is
     /// at most 1000 times that, and neither side accepts more than 483 HTLCs (BOLT 2, "Requirements" of
@@ -42,11 +48,15 @@ impl Opening {
         ensures tells_whether_it_is_fit { IsTrue result ↔ IsFit self.now }
         ensures is_the_test { result ≡ is_fit self.now }
     {
-        self.satoshis >= 1
-            && self.satoshis <= 2_100_000_000_000_000
-            && self.push <= 1000 * self.satoshis
-            && self.funder.accepted <= 483
-            && self.fundee.accepted <= 483
+        self.has_funds() && self.funder.accepted <= MOST_HTLCS && self.fundee.accepted <= MOST_HTLCS
+    }
+
+    /// Whether there can be a channel with these funds: `funding_satoshis` is 1 to 2,100,000,000,000,000, and
+    /// `push_msat` is at most 1000 times that.
+    pub fn has_funds(&self) -> bool
+        ensures { IsTrue result ↔ HasFunds self.now }
+    {
+        self.satoshis >= 1 && self.satoshis <= MOST_SATOSHIS && self.push <= 1000 * self.satoshis
     }
 
     /// The limits that HTLCs of this side have to meet: those that the other side asks for.
@@ -61,7 +71,7 @@ impl Opening {
 
     /// What a side has before any update, in millisatoshi.
     pub fn first_balance(&self, side: Role) -> u64
-        requires { IsFit self.now }
+        requires { HasFunds self.now }
         ensures { result ≡ first_balance self.now side }
     {
         match side {

@@ -6,7 +6,7 @@ ghost use Rattle.std.specs.Result.{IsOkUnless};
 ghost use Rattle.ln_log.specs.declared.opening.Opening.{Opening};
 ghost use Rattle.ln_log.specs.declared.update.Update.{Update};
 ghost use Rattle.ln_log.specs.declared.outcome.Outcome.{Outcome};
-ghost use Rattle.ln_log.specs.Opening.{IsFit};
+ghost use Rattle.ln_log.specs.Opening.{HasFunds};
 ghost use Rattle.ln_log.specs.Updates.{offered, next_id, add_with, outcome, last_feerate, is_some, share, total};
 ghost use Rattle.ln_log.specs.Updates.{is_any, is_failed, is_fulfilled};
 ghost use Rattle.ln_log.specs.View.{live_of, live_adds, htlc_of, view_of, IsFunded, AddsUp};
@@ -54,7 +54,7 @@ pub fn last_feerate(opening: u32, funder: &[Update]) -> u32
 }
 
 // The HTLC that an update offers.
-fn add_of(update: &Update) -> Option<&Add>
+pub fn add_of(update: &Update) -> Option<&Add>
     ensures { option_copied result ≡ offered update.now }
 {
     match update {
@@ -105,17 +105,19 @@ fn share_of(update: &Update, outcomes: &Outcomes) -> Share
 
 // The amounts of all that a side offered, of what came back to it, and of what the other side fulfilled.
 #[derive(Clone, Copy)]
-struct Sums {
-    offered: u128,
-    failed: u128,
-    fulfilled: u128,
+pub struct Sums {
+    pub offered: u128,
+    pub failed: u128,
+    pub fulfilled: u128,
 }
 
-fn sums_of(adds: &[Update], outcomes: &Outcomes) -> Sums
+pub fn sums_of(adds: &[Update], outcomes: &Outcomes) -> Sums
     ensures offered { result.offered ≡ total is_any adds.now outcomes.now }
     ensures failed { result.failed ≡ total is_failed adds.now outcomes.now }
     ensures fulfilled { result.fulfilled ≡ total is_fulfilled adds.now outcomes.now }
     ensures offered_fits { result.offered ≤ 2 ^ 64 * length adds.now }
+    ensures failed_fits { result.failed ≤ 2 ^ 64 * length adds.now }
+    ensures fulfilled_fits { result.fulfilled ≤ 2 ^ 64 * length adds.now }
 {
     let mut sums = Sums {
         offered: 0,
@@ -206,7 +208,7 @@ pub fn plain_view(
     funder: &[Update],
     fundee: &[Update],
 ) -> Result<View, Refusal>
-    requires fit { IsFit opening.now }
+    requires funds { HasFunds opening.now }
     requires funded { IsFunded opening.now funder.now fundee.now }
     ensures view { IfOk result (λ v. v ≡ view_of opening.now funder.now fundee.now) }
     ensures adds_up { IfOk result (λ v. AddsUp opening.now v) }
@@ -232,6 +234,6 @@ pub fn plain_view(
 /// Where no side spent more than it had, the balances and the live HTLCs of a view add up to
 /// 1000 * funding_satoshis.
 pub fn conservation()
-    ensures { (o : Opening) (funder fundee : List Update) → IsFit o → IsFunded o funder fundee
+    ensures { (o : Opening) (funder fundee : List Update) → HasFunds o → IsFunded o funder fundee
         → AddsUp o (view_of o funder fundee) }
 {}

@@ -44,9 +44,10 @@ pub fn count_removals(updates: &[Update]) -> usize
 }
 
 // Notes what one more update makes of the HTLCs of a table.
-fn note_removal(by_id: &mut Vec<Outcome>, update: &Update)
-    ensures { (before : List Update) → Tells by_id.old.items before
+pub fn note_removal(by_id: &mut Vec<Outcome>, update: &Update)
+    ensures notes { (before : List Update) → Tells by_id.old.items before
         → Tells by_id.new.items (before ++ update.now ∷ []) }
+    ensures keeps_its_length { length by_id.new.items ≡ length by_id.old.items }
 {
     match removal_of(update) {
         None => {}

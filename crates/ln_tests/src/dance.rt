@@ -4,10 +4,10 @@ use crate::code_of;
 use crate::testing::{
     CHANNEL, FUNDEE, FUNDER, OPENING, bytes_of, htlc, point_of, side, signature_of,
 };
-use ln_dance::{Dance, Later, Numbers, Peer};
+use ln_dance::{Dance, Later, Numbers, Peer, update_of};
 use ln_keys::{ChannelKeys, Role, ToyKeys};
 use ln_log::{Fulfil, Pair, Update};
-use ln_msgs::{CommitmentSigned, Records, Refusal, RevokeAndAck, Signatures};
+use ln_msgs::{CommitmentSigned, Incoming, Records, Refusal, RevokeAndAck, Signatures, decode};
 use std::alloc::Global;
 
 /// The last number that a commitment can have.
@@ -307,4 +307,88 @@ fn the_order_of_what_was_sent(rt: HostRuntime) {
         order(rt.alloc()),
         Ok(([Later::Signature, Later::Revocation], [true, false]))
     );
+}
+
+/// What an update says: its type's number, and of its fields what fits a number: id, amount and expiry; id and ends of
+/// the preimage; id, length and first byte of the reason; id, end of the onion's hash and code; the feerate.
+fn fields_of(update: &Update) -> [u64; 4] {
+    match update {
+        Update::Add(add) => [128, add.id, add.amount, u64::from(add.expiry)],
+        Update::Fulfil(it) => [
+            130,
+            it.id,
+            u64::from(it.preimage[0]),
+            u64::from(it.preimage[31]),
+        ],
+        Update::Fail(it) => [131, it.id, it.reason.len() as u64, 0],
+        Update::Malformed(it) => {
+            [
+                135,
+                it.id,
+                u64::from(it.sha256_of_onion[31]),
+                u64::from(it.failure_code),
+            ]
+        }
+        Update::Fee(it) => [134, u64::from(it.feerate), 0, 0],
+    }
+}
+
+/// What the update says that a message of this type tells, whose bytes behind the type are these, each so many times;
+/// zeros where it tells none.
+fn told_update(alloc: Global, typ: u16, runs: &[(usize, u8)]) -> Result<[u64; 4], Refusal> {
+    let mut bytes = Vec::from_slice(alloc, &typ.to_be_bytes())?;
+    for (count, byte) in runs {
+        let len = bytes.len().saturating_add(*count);
+        bytes.resize(len, *byte)?;
+    }
+    match decode(alloc, &bytes) {
+        Ok(Incoming::Known(message)) => match update_of(message) {
+            Some(update) => Ok(fields_of(&update)),
+            None => Ok([0; 4]),
+        },
+        _ => Err(Refusal::OutOfPlace),
+    }
+}
+
+// Behind the channel's id each message has the fields of its table in BOLT 2, high byte first.
+#[test]
+fn updates_of_messages(rt: HostRuntime) {
+    for (typ, runs, want) in [
+        (
+            128,
+            [
+                (32, 9),
+                (7, 0),
+                (1, 3),
+                (6, 0),
+                (2, 19),
+                (32, 7),
+                (2, 0),
+                (2, 1),
+                (1366, 0),
+            ]
+            .as_slice(),
+            [128, 3, 4883, 257],
+        ),
+        (
+            130,
+            &[(32, 9), (7, 0), (1, 4), (1, 5), (31, 6)],
+            [130, 4, 5, 6],
+        ),
+        (
+            131,
+            &[(32, 9), (7, 0), (1, 5), (1, 0), (1, 2), (2, 8)],
+            [131, 5, 2, 0],
+        ),
+        (
+            135,
+            &[(32, 9), (7, 0), (1, 6), (32, 7), (1, 0xc0), (1, 5)],
+            [135, 6, 7, 0xc005],
+        ),
+        (134, &[(32, 9), (2, 0), (2, 1)], [134, 257, 0, 0]),
+        // a ping tells none
+        (18, &[(4, 0)], [0; 4]),
+    ] {
+        assert_eq!(rt; told_update(rt.alloc(), typ, runs), Ok(want));
+    }
 }

@@ -21,6 +21,8 @@ mod keys;
 #[cfg(test)]
 mod link;
 #[cfg(test)]
+mod loading;
+#[cfg(test)]
 mod log;
 #[cfg(test)]
 mod messages;

@@ -608,7 +608,7 @@ fn told(
     ))
 }
 
-fn updates(alloc: Global, whats: &[What]) -> Result<Vec<Update>, Refusal> {
+pub fn updates(alloc: Global, whats: &[What]) -> Result<Vec<Update>, Refusal> {
     let mut list = Vec::new(alloc);
     for what in whats {
         list.push(update(alloc, *what)?)?;

@@ -75,11 +75,11 @@ overflow_add-result-4 c =
 
 pub overflow_cast-result : goal.overflow_cast-result
 overflow_cast-result c =
-    let all = adds_up c.args.opening.now c.args.funder.now c.args.fundee.now c.requires.fit c.requires.funded in
+    let all = adds_up c.args.opening.now c.args.funder.now c.args.fundee.now c.requires.funds c.requires.funded in
     omega (
       arith,
       all,
-      c.requires.fit.funds,
+      c.requires.funds.funds,
       c.from-had.ensures,
       c.first_balance.ensures,
       (c.sums_of-out.ensures.failed ∙ ap (total is_failed c.args.funder.now) c.in_ok-of_funder.ensures.ok),
@@ -89,11 +89,11 @@ overflow_cast-result c =
 
 pub overflow_cast-result-2 : goal.overflow_cast-result-2
 overflow_cast-result-2 c =
-    let all = adds_up c.args.opening.now c.args.funder.now c.args.fundee.now c.requires.fit c.requires.funded in
+    let all = adds_up c.args.opening.now c.args.funder.now c.args.fundee.now c.requires.funds c.requires.funded in
     omega (
       arith,
       all,
-      c.requires.fit.funds,
+      c.requires.funds.funds,
       c.from-got.ensures,
       c.first_balance-2.ensures,
       (c.sums_of-back.ensures.failed ∙ ap (total is_failed c.args.fundee.now) c.in_ok-of_fundee.ensures.ok),
@@ -127,4 +127,4 @@ returns-clause-view c =
 pub returns-clause-adds_up : goal.returns-clause-adds_up
 returns-clause-adds_up c =
     subst (AddsUp c.args.opening.now) (sym (returns-clause-view c))
-    (adds_up c.args.opening.now c.args.funder.now c.args.fundee.now c.requires.fit c.requires.funded)
+    (adds_up c.args.opening.now c.args.funder.now c.args.fundee.now c.requires.funds c.requires.funded)
