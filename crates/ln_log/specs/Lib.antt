@@ -6,5 +6,6 @@ pub mod View
 pub mod Limits
 pub mod Standing
 pub mod Machine
+pub mod Events
 pub mod Log
 pub use Rattle.ln_msgs.specs.Refusals.Refusal
