@@ -1,17 +1,17 @@
 -- Lines of events, one list behind another.
 use Rattle.std.proofs.Common.{◌≡◌, ℕ, suc, ◌+◌, ◌≤◌, ◌<◌, List, [], ◌∷◌, ◌++◌, length, take, get_or}
 use Rattle.std.proofs.Common.{Bool, refl, sym, ap, ◌∙◌, arith, append_assoc}
-use Rattle.std.proofs.lemmas.List.{take_more, map-append}
+use Rattle.std.proofs.lemmas.List.{take_more}
 use Rattle.ln_log.specs.declared.update.Update.{Update}
 use Rattle.ln_log.specs.declared.update.Update.TheVariants as update
 use Rattle.ln_log.specs.Events.{Event, Held, held_events}
 use Rattle.ln_world.specs.declared.message.Message.{Message}
 use Rattle.ln_world.specs.declared.line.Line.{Line}
-use Rattle.ln_world.specs.declared.line.Line.TheVariants as line
 use Rattle.ln_world.specs.declared.step.End.{End}
 use Rattle.ln_world.specs.Report.{event_line, event_lines, sends_lines}
 
-pub held-append : (own : Bool) (us vs : List Update) → held_events own (us ++ vs) ≡ held_events own us ++ held_events own vs
+pub held-append : (own : Bool) (us vs : List Update)
+    → held_events own (us ++ vs) ≡ held_events own us ++ held_events own vs
 held-append own [] vs = refl
 held-append own (update.Add a ∷ us) vs = ap (λ es. Held own (update.Add a) ∷ es) (held-append own us vs)
 held-append own (update.Fulfil f ∷ us) vs = ap (λ es. Held own (update.Fulfil f) ∷ es) (held-append own us vs)
@@ -32,7 +32,8 @@ pub lines-append : (e : End) (n : ℕ) (es fs : List Event)
 lines-append e n [] fs = ap (λ (m : ℕ). event_lines e m fs) (let it : n ≡ n + 0 = omega arith in it)
 lines-append e n (v ∷ es) fs =
     ap (λ ls. event_line e n v ++ ls) (lines-append e (n + 1) es fs
-    ∙ ap (λ m. event_lines e (n + 1) es ++ event_lines e m fs) (let it : n + 1 + length es ≡ n + suc (length es) = omega arith in it))
+    ∙ ap (λ m. event_lines e (n + 1) es ++ event_lines e m fs)
+    (let it : n + 1 + length es ≡ n + suc (length es) = omega arith in it))
     ∙ sym (append_assoc (event_line e n v) (event_lines e (n + 1) es) (event_lines e (n + suc (length es)) fs))
 
 -- one update more
@@ -56,16 +57,6 @@ told_more e first n own us i d old now new within number before pushed =
     ∙ sym (lines-append e first (held_events own (take i us)) (held_events own (get_or us i d ∷ [])))
     ∙ ap (event_lines e first) (sym (held_more own us i d within))
     )
-
-pub sends_more : (e : End) (ms : List Message) (i : ℕ) (d : Message) (old now new : List Line) → i < length ms
-    → now ≡ old ++ sends_lines e (take i ms) → new ≡ now ++ sends_lines e (get_or ms i d ∷ [])
-    → new ≡ old ++ sends_lines e (take (i + 1) ms)
-sends_more e ms i d old now new within before pushed =
-    pushed ∙ ap (λ (ls : List Line). ls ++ sends_lines e (get_or ms i d ∷ [])) before
-    ∙ append_assoc old (sends_lines e (take i ms)) (sends_lines e (get_or ms i d ∷ []))
-    ∙ ap (λ (ls : List Line). old ++ ls)
-    (sym (map-append (λ m. line.Sends e m) (take i ms) (get_or ms i d ∷ []))
-    ∙ ap (sends_lines e) (sym (take_more ms i d within)))
 
 -- what is sent, then own events, then the peer's
 pub told_all : (e : End) (n k : ℕ) (old a b c : List Line) (sent : List Message) (es fs : List Event)

@@ -21,10 +21,12 @@ use Rattle.ln_world.specs.declared.step.End.{End}
 use Rattle.ln_world.specs.declared.step.Ready.{Ready}
 use Rattle.ln_world.specs.declared.step.Step.{Step}
 use Rattle.ln_world.specs.declared.step.Step.TheVariants as step
-use Rattle.ln_world.specs.Ends.{EndState, Both, acts, delivers, taken, sends, answer_to, add_of, offer_fault, message_fault}
+use Rattle.ln_world.specs.Ends.{EndState, Both, acts, delivers, taken, sends, answer_to, add_of, offer_fault}
+use Rattle.ln_world.specs.Ends.{message_fault}
 use Rattle.ln_world.specs.World.{end_of, side_of, acts_at, may_open, opened_by, happens, machine_of, machine_of_channel}
 use Rattle.ln_world.specs.World.{act_moves, taken_moves, moves_at, moves_of}
-use Rattle.ln_world.specs.Report.{answer_lines, sent_since, event_lines, act_lines, step_lines, lines_behind, report_lines}
+use Rattle.ln_world.specs.Report.{answer_lines, sent_since, event_lines, act_lines, step_lines, lines_behind}
+use Rattle.ln_world.specs.Report.{report_lines}
 use Rattle.ln_world.specs.Told.{events_since, told_act, told_step, told_steps}
 use Rattle.ln_world.proofs.Told.{acts_told}
 use Rattle.ln_world.proofs.Runs.{ChannelKept, AreKept, swapped, happens_kept, happens_runs, runs-append}

@@ -1,5 +1,6 @@
 -- The events of the machine's moves are what the ends' own lists tell.
-use Rattle.std.proofs.Common.{◌≡◌, ℕ, zero, suc, ◌+◌, ◌-◌, ◌≤◌, List, [], ◌∷◌, ◌++◌, length, take, drop, Bool, true, false}
+use Rattle.std.proofs.Common.{◌≡◌, ℕ, zero, suc, ◌+◌, ◌-◌, ◌≤◌, List, [], ◌∷◌, ◌++◌, length, take, drop, Bool, true}
+use Rattle.std.proofs.Common.{false}
 use Rattle.std.proofs.Common.{Option, Some, None, cond, is_none, refl, sym, ap, ◌∙◌, subst, arith, append-nil}
 use Rattle.std.proofs.Common.{length-append}
 use Rattle.std.proofs.lemmas.List.{length-take-le, length-drop, drop-take}
@@ -11,7 +12,8 @@ use Rattle.ln_log.specs.declared.update.Update.{Update}
 use Rattle.ln_log.specs.declared.update.Update.TheVariants as update
 use Rattle.ln_log.specs.Updates.{all_sent}
 use Rattle.ln_log.specs.Machine.{Machine, Move, Propose, Sign}
-use Rattle.ln_log.specs.Log.{Log, between, after_propose, after_receive, after_sign, after_accept, after_learn, sign_fault}
+use Rattle.ln_log.specs.Log.{Log, between, after_propose, after_receive, after_sign, after_accept, after_learn}
+use Rattle.ln_log.specs.Log.{sign_fault}
 use Rattle.ln_log.specs.Events.{Event, held_events, grown, events}
 use Rattle.ln_world.specs.declared.message.Message.{Message}
 use Rattle.ln_world.specs.declared.message.Message.TheVariants as message
@@ -65,7 +67,8 @@ told_between own n m us h le within =
 -- ---- what an act tells
 
 -- nothing is told where nothing is newly held
-nothing_since : (own peer : ℕ) (l : Log) → l.current.own ≡ own → l.acknowledged.peer ≡ peer → events_since own peer l ≡ []
+nothing_since : (own peer : ℕ) (l : Log) → l.current.own ≡ own → l.acknowledged.peer ≡ peer
+    → events_since own peer l ≡ []
 nothing_since own peer l eo ep =
     ap (λ (us : List Update). held_events true us ++ held_events false (between peer l.acknowledged.peer l.received))
     (none_between own l.current.own l.own eo)
@@ -98,7 +101,8 @@ accept_told x y n ms k =
     let is : grown (all_sent (take c x.log.own)) (all_sent (take y.log.signed.peer y.log.received))
     ≡ between c a x.log.own = ap (λ (us : List Update). grown (all_sent (take c x.log.own)) (all_sent us))
     (sym (accept_lists x y n ms k).0) ∙ sent_grown c a x.log.own adds le (omega (arith, le, most)) in
-    let many : c + length (held_events true (between c a x.log.own)) ≡ a = told_between true c a x.log.own adds le most in
+    let many : c + length (held_events true (between c a x.log.own)) ≡ a =
+    told_between true c a x.log.own adds le most in
     record {
       events = ap (λ (us : List Update). held_events true us ++ []) is
           ∙ ap (λ (us : List Update). held_events true (between c a x.log.own) ++ held_events false us)

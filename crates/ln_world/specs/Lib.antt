@@ -2,6 +2,7 @@ pub mod Ends
 pub mod World
 pub mod Report
 pub mod Told
+pub mod Text
 pub use Rattle.ln_log.specs.Lists
 pub use Rattle.ln_log.specs.Opening
 pub use Rattle.ln_log.specs.Updates

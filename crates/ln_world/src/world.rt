@@ -30,12 +30,13 @@ impl Model for World {
 }
 
 impl World {
-    ghost use Rattle.std.specs.Prelude.{◌≡◌, IfOk, OnOk, [], None, option_copied};
+    ghost use Rattle.std.specs.Prelude.{◌≡◌, IfOk, OnOk, [], None, option_copied, string_bytes};
     ghost use Rattle.std.specs.Result.{IsOkUnless};
     ghost use Rattle.ln_log.specs.Machine.{IsRun};
     ghost use Rattle.ln_world.specs.World.{run, machine_of, moves, Promises};
     ghost use Rattle.ln_world.specs.Report.{report_lines};
     ghost use Rattle.ln_world.specs.Told.{steps_on};
+    ghost use Rattle.ln_world.specs.Text.{report_text};
 
     /// A world without a channel. Takes no memory.
     pub fn new(alloc: Global) -> World
@@ -93,7 +94,8 @@ impl World {
     /// What the steps did, line by line, and then how each end of the channel stands. 60 where there was
     /// no memory; nothing has changed then.
     pub fn report(&self, alloc: Global) -> Result<String, Refusal>
-        ensures { IsOkUnless result Refusal.Memory }
+        ensures text { IfOk result (λ s. string_bytes s ≡ report_text self.now) }
+        ensures memory { IsOkUnless result Refusal.Memory }
     {
         report(alloc, &self.lines, self.channel.as_ref())
     }

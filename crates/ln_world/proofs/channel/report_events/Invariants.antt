@@ -6,5 +6,6 @@ use Rattle.ln_world.proofs.channel.report_events.Given as goal
 abbrev pub invariant-loop-update : goal.invariant-loop-update
 invariant-loop-update l = record {
   number : l.number ≡ l.first + length (held_events l.own (take l.update-index l.updates));
-  lines : l.lines.items ≡ l.initial.lines.items ++ event_lines l.end l.first (held_events l.own (take l.update-index l.updates));
+  lines : l.lines.items ≡ l.initial.lines.items
+      ++ event_lines l.end l.first (held_events l.own (take l.update-index l.updates));
 }

@@ -13,10 +13,13 @@ returns-in_ok-push_back-in-None-clause-answer c =
     ∙ ap (λ (x : EndState). sign_fault x.log) c.x.view_is)
 
 pub invariant_of-x : goal.invariant_of-x
-invariant_of-x c = (search rules, ap (λ (l : Log). l.first) (c.signed.ensures _ refl) ∙ c.x.invariant.1)
+invariant_of-x c =
+    (search rules, ap (λ (l : Log). l.first) (c.signed.ensures _ refl) ∙ c.x.invariant.1)
 
 pub invariant_of-x-in_err-push_back-in-None : goal.invariant_of-x-in_err-push_back-in-None
-invariant_of-x-in_err-push_back-in-None c = (search rules, ap (λ (l : Log). l.first) (c.signed.ensures _ refl) ∙ c.x.invariant.1)
+invariant_of-x-in_err-push_back-in-None c =
+    (search rules, ap (λ (l : Log). l.first) (c.signed.ensures _ refl) ∙ c.x.invariant.1)
 
 pub invariant_of-x-in-None : goal.invariant_of-x-in-None
-invariant_of-x-in-None c = (search rules, ap (λ (l : Log). l.first) (c.signed.ensures _ refl) ∙ c.x.invariant.1)
+invariant_of-x-in-None c =
+    (search rules, ap (λ (l : Log). l.first) (c.signed.ensures _ refl) ∙ c.x.invariant.1)
