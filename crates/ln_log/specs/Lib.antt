@@ -6,6 +6,7 @@ pub mod View
 pub mod Limits
 pub mod Standing
 pub mod Machine
+pub mod Events
 pub mod Log
 pub mod Loading
 pub use Rattle.ln_msgs.specs.Refusals.Refusal

@@ -4,3 +4,6 @@ pub mod Flow
 pub mod Steps
 pub mod Runs
 pub mod Answered
+pub mod Lines
+pub mod Told
+pub mod Reports

@@ -32,7 +32,7 @@ pub record ChannelKept (c : Channel) : Type 0 where
   pub fundee_role : c.fundee.log.role ≡ Fundee
   pub kept : Kept (record { x = c.funder; y = c.fundee })
 
-swapped : (x y : EndState) → Kept (record { x = x; y = y }) → Kept (record { x = y; y = x })
+pub swapped : (x y : EndState) → Kept (record { x = x; y = y }) → Kept (record { x = y; y = x })
 swapped x y k = record { there = k.back; back = k.there }
 
 acts_at_kept : (side : Option Role) (a : Act) (c : Channel) → ChannelKept c → ChannelKept (acts_at side a c)
@@ -141,7 +141,7 @@ ready_kept : (b : Bool) (c : Channel) → ChannelKept c → AreKept (cond b (Som
 ready_kept true c k = k
 ready_kept false c k = tt
 
-happens_kept : (s : Step) (c : Option Channel) → AreKept c → AreKept (happens s c)
+pub happens_kept : (s : Step) (c : Option Channel) → AreKept c → AreKept (happens s c)
 happens_kept (step.Ready r) None k = ready_kept (may_open r) (opened_by r) (opened_kept r)
 happens_kept (step.Ready r) (Some c) k = k
 happens_kept (step.Do e a) None k = tt
@@ -156,7 +156,7 @@ ready_runs : (b : Bool) (r : Ready) → (b ≡ true → IsFit r.opening)
 ready_runs true r fit = (fit refl, refl)
 ready_runs false r fit = refl
 
-happens_runs : (s : Step) (c : Option Channel) → AreKept c
+pub happens_runs : (s : Step) (c : Option Channel) → AreKept c
     → IsRun (moves_of s c) (machine_of c) (machine_of (happens s c))
 happens_runs (step.Ready r) None k = ready_runs (may_open r) r
     (λ e. fit_is r.opening (second (not (same_node r.funder r.fundee)) (is_fit r.opening) e))
@@ -164,7 +164,7 @@ happens_runs (step.Ready r) (Some c) k = refl
 happens_runs (step.Do e a) None k = refl
 happens_runs (step.Do e a) (Some c) k = acts_at_run (side_of c e) a c k
 
-runs-append : (ms ns : List Move) (a b c : Option Machine) → IsRun ms a b → IsRun ns b c → IsRun (ms ++ ns) a c
+pub runs-append : (ms ns : List Move) (a b c : Option Machine) → IsRun ms a b → IsRun ns b c → IsRun (ms ++ ns) a c
 runs-append [] ns a b c h i = subst (λ m. IsRun ns m c) h i
 runs-append (m ∷ ms) ns a b c h i = (h.0, runs-append ms ns (after m a) b c h.1 i)
 

@@ -1,6 +1,6 @@
 -- What an end does keeps the flows, and is the moves of the machine that the table says.
 use Rattle.ln_world.specs.World.{MayOffer, TakesFront, taken_moves, act_moves}
-use Rattle.std.proofs.Common.{◌≡◌, ◌↔◌, ℕ, ◌+◌, ◌≤◌, List, [], ◌∷◌, ◌++◌, length, take, Option, Some, None, false, cond}
+use Rattle.std.proofs.Common.{◌≡◌, ◌↔◌, ℕ, ◌+◌, ◌≤◌, List, [], ◌∷◌, length, take, Option, Some, None, false, cond}
 use Rattle.std.proofs.Common.{refl, sym, ap, ◌∙◌, subst, arith, is_none}
 use Rattle.std.proofs.lemmas.List.{take-append-le, take_all}
 use Rattle.ln_msgs.specs.declared.refusals.refusal.Refusal.{Refusal}
@@ -15,7 +15,7 @@ use Rattle.ln_log.specs.Updates.{next_id, all_sent}
 use Rattle.ln_log.specs.Limits.{update_fault, is_at_update_limit}
 use Rattle.ln_log.specs.Machine as machine
 use Rattle.ln_log.specs.Machine.{Party, Machine, Move, Propose, Sign, Accept, Learn, MayPropose, MaySign, IsRun}
-use Rattle.ln_log.specs.Log.{Log, IsWithin, after_propose, after_receive, after_sign, after_accept, after_learn}
+use Rattle.ln_log.specs.Log.{Log, after_propose, after_receive, after_sign, after_accept, after_learn}
 use Rattle.ln_log.specs.Log.{sign_fault, taken_fault}
 use Rattle.ln_log.proofs.Moves.{party_proposed, party_received, party_signed, party_accepted, party_acknowledged}
 use Rattle.ln_log.proofs.Signs.{sign_allowed, exactly}
@@ -53,8 +53,8 @@ pub front_fits : (x y : EndState) (ms : List Message)
     → Kept (record { x = record x { inbox = ms }; y = y }) → TakesFront x.log ms
 front_fits x y [] k = tt
 front_fits x y (message.Add a ∷ ms) k = comes x y a ms k
-front_fits x y (message.Sign n ∷ ms) k = tt
-front_fits x y (message.Revoke n ∷ ms) k = tt
+front_fits x y (message.Sign n ∷ ms) k = refl
+front_fits x y (message.Revoke n ∷ ms) k = refl
 
 delivered : (x y : EndState) (ms : List Message) → Kept (record { x = record x { inbox = ms }; y = y })
     → Kept (delivers ms (record { x = record x { inbox = ms }; y = y }))
@@ -149,7 +149,7 @@ run_gated : (o : Option Refusal) (move : Move) (n : Both → Machine) (new old :
 run_gated None move n new old h = h refl
 run_gated (Some r) move n new old h = refl
 
-accept_lists : (x y : EndState) (k : ℕ) (ms : List Message)
+pub accept_lists : (x y : EndState) (k : ℕ) (ms : List Message)
     → Kept (record { x = record x { inbox = message.Sign k ∷ ms }; y = y })
     → (take x.log.acknowledged.own x.log.own ≡ take y.log.signed.peer y.log.received)
     × (take (length x.log.received) x.log.received ≡ take y.log.signed.own y.log.own)
@@ -165,7 +165,7 @@ accept_lists x y k ms h =
           ∙ ap (take (length x.log.received)) g.lists ∙ ap (λ m. take m y.log.own) n,
     )
 
-learn_lists : (x y : EndState) (k : ℕ) (ms : List Message)
+pub learn_lists : (x y : EndState) (k : ℕ) (ms : List Message)
     → Kept (record { x = record x { inbox = message.Revoke k ∷ ms }; y = y })
     → (take x.log.signed.own x.log.own ≡ take y.log.current.peer y.log.received)
     × (take x.log.signed.peer x.log.received ≡ take y.log.current.own y.log.own)

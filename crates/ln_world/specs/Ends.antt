@@ -77,16 +77,22 @@ signs_all b =
 
 -- ---- what x takes
 
+-- what a message is refused by: an add by the limits, nothing else by anything
+abbrev pub message_fault : Log → Message → Option Refusal
+message_fault l (message.Add a) = taken_fault l (update.Add a)
+message_fault l (message.Sign n) = None
+message_fault l (message.Revoke n) = None
+
 -- an add joins what it took; a signature moves its own commitment, and its earlier one is revoked in
 -- the same step; a revocation moves what the peer has acknowledged
-abbrev pub takes : Message → Both → Both
-takes (message.Add a) b =
-    if is_none (taken_fault b.x.log (update.Add a))
-    then record { x = record b.x { log = after_receive (update.Add a) b.x.log }; y = b.y }
-    else b
-takes (message.Sign n) b = sends (message.Revoke b.x.revocations)
+abbrev pub taken : Message → Both → Both
+taken (message.Add a) b = record { x = record b.x { log = after_receive (update.Add a) b.x.log }; y = b.y }
+taken (message.Sign n) b = sends (message.Revoke b.x.revocations)
     (record { x = record b.x { log = after_accept b.x.log; revocations = b.x.revocations + 1 }; y = b.y })
-takes (message.Revoke n) b = record { x = record b.x { log = after_learn b.x.log }; y = b.y }
+taken (message.Revoke n) b = record { x = record b.x { log = after_learn b.x.log }; y = b.y }
+
+abbrev pub takes : Message → Both → Both
+takes m b = if is_none (message_fault b.x.log m) then taken m b else b
 
 abbrev pub delivers : List Message → Both → Both
 delivers [] b = b
@@ -105,9 +111,7 @@ answer_by (Some r) = Refused r
 
 abbrev pub taken_answer : Log → List Message → Answer
 taken_answer l [] = Idle
-taken_answer l (message.Add a ∷ ms) = answer_by (taken_fault l (update.Add a))
-taken_answer l (message.Sign n ∷ ms) = Done
-taken_answer l (message.Revoke n ∷ ms) = Done
+taken_answer l (m ∷ ms) = answer_by (message_fault l m)
 
 -- it is refused exactly where something forbids it, and nothing else changes then
 abbrev pub answer_to : Act → EndState → Answer

@@ -1,7 +1,7 @@
 -- A world of one channel, and which steps of the abstract machine its steps are.
 use Rattle.std.specs.Prelude.{◌↔◌, ◌≡◌, List, [], ◌∷◌, ◌++◌, Bool, false, not, ◌&&◌, ◌==◌, Option, Some, None, is_none}
 use Rattle.std.specs.Prelude.{if◌then◌else◌}
-use Rattle.ln_log.specs.Log.{Log, sign_fault, taken_fault}
+use Rattle.ln_log.specs.Log.{Log, sign_fault}
 use Rattle.ln_keys.specs.declared.role.Role.{Role}
 use Rattle.ln_keys.specs.declared.role.Role.TheVariants.{Funder, Fundee}
 use Rattle.ln_log.specs.declared.update.Update.TheVariants as update
@@ -24,7 +24,7 @@ use Rattle.ln_world.specs.declared.step.Act.TheVariants as act
 use Rattle.ln_world.specs.declared.step.Step.{Step}
 use Rattle.ln_world.specs.declared.step.Step.TheVariants as step
 use Rattle.ln_world.specs.declared.channel.Channel.{Channel}
-use Rattle.ln_world.specs.Ends.{EndState, Both, open_party, fresh_end, add_of, offer_fault, acts}
+use Rattle.ln_world.specs.Ends.{EndState, Both, open_party, fresh_end, add_of, offer_fault, message_fault, acts}
 
 -- ---- its steps
 
@@ -96,11 +96,14 @@ abbrev pub offer_moves : Role → Offer → Log → List Move
 offer_moves x o l = if is_none (offer_fault o l) then Propose x (as_sent (update.Add (add_of o l))) ∷ [] else []
 
 -- a signature that is taken is accepted, a revocation learned; an add that is taken is no move
+abbrev pub message_moves : Role → Message → List Move
+message_moves x (message.Add a) = []
+message_moves x (message.Sign n) = Accept x ∷ []
+message_moves x (message.Revoke n) = Learn x ∷ []
+
 abbrev pub taken_moves : Role → List Message → List Move
 taken_moves x [] = []
-taken_moves x (message.Add a ∷ ms) = []
-taken_moves x (message.Sign n ∷ ms) = Accept x ∷ []
-taken_moves x (message.Revoke n ∷ ms) = Learn x ∷ []
+taken_moves x (m ∷ ms) = message_moves x m
 
 abbrev pub act_moves : Role → Act → EndState → List Move
 act_moves x act.Deliver e = taken_moves x e.inbox
@@ -145,12 +148,10 @@ OffersExactly (Some c) = (x : Role) (o : Offer) → (offer_fault o (end_of x c).
     ↔ MayOffer c.funder.log.opening x (as_sent (update.Add (add_of o (end_of x c).log)))
     (party x (machine_of_channel c))
 
--- an add in front of an end is within its limits
+-- nothing refuses the message in front of an end
 abbrev pub TakesFront : Log → List Message → Type 0
 TakesFront l [] = Unit {0}
-TakesFront l (message.Add a ∷ ms) = taken_fault l (update.Add a) ≡ None
-TakesFront l (message.Sign n ∷ ms) = Unit {0}
-TakesFront l (message.Revoke n ∷ ms) = Unit {0}
+TakesFront l (m ∷ ms) = message_fault l m ≡ None
 
 -- no message that is delivered is refused
 abbrev pub NoneRefused : Option Channel → Type 0

@@ -27,7 +27,8 @@ pub struct Endpoint {
 }
 
 impl Model for Endpoint {
-    ghost use Rattle.std.specs.Prelude.{◌+◌, ◌≤◌, length};
+    ghost use Rattle.std.specs.Prelude.{◌≡◌, ◌+◌, ◌≤◌, length};
+    ghost use Rattle.ln_log.specs.Log.{none};
     ghost use Rattle.ln_world.specs.Ends.{EndState};
 
     ghost Value = { EndState };
@@ -40,12 +41,13 @@ impl Model for Endpoint {
       revocations = e.revocations;
     } };
 
-    ghost invariant = { λ e. e.signatures + e.revocations ≤ length e.said.items };
+    ghost invariant = { λ e. (e.signatures + e.revocations ≤ length e.said.items) × (e.log.first ≡ none) };
 }
 
 impl Endpoint {
     ghost use Rattle.std.specs.Prelude.{◌≡◌};
     ghost use Rattle.ln_log.specs.Opening.{IsFit};
+    ghost use Rattle.ln_log.specs.Log.{none};
     ghost use Rattle.ln_world.specs.Ends.{EndState, fresh_end};
 
     /// An end of a channel that was just opened. Takes no memory.
@@ -62,9 +64,10 @@ impl Endpoint {
         }
     }
 
-    /// Its updates and the peer's.
+    /// Its updates and the peer's, all of which it has one by one.
     pub fn log(&self) -> &UpdateLog
-        ensures { result.now ≡ self.now.log }
+        ensures log { result.now ≡ self.now.log }
+        ensures whole { result.now.first ≡ none }
     {
         &self.log
     }

@@ -16,6 +16,11 @@ pub enum Message {
 }
 
 impl fmt::Display for Message {
+    ghost use Rattle.std.specs.Prelude.{Some};
+    ghost use Rattle.ln_world.specs.Text.{message_text};
+
+    ghost output = { λ m. Some (message_text m) };
+
     fn fmt<W: fmt::Write>(&self, f: &mut fmt::Formatter<W>) -> fmt::Result {
         match self {
             Message::Add(add) => write!(f, "add {}", add.id),

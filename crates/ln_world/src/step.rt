@@ -17,6 +17,11 @@ pub struct End {
 }
 
 impl fmt::Display for End {
+    ghost use Rattle.std.specs.Prelude.{Some};
+    ghost use Rattle.ln_world.specs.Text.{end_text};
+
+    ghost output = { λ e. Some (end_text e) };
+
     fn fmt<W: fmt::Write>(&self, f: &mut fmt::Formatter<W>) -> fmt::Result {
         write!(f, "{}{}", self.node.letter, self.channel)
     }

@@ -22,23 +22,25 @@ pub struct World {
 }
 
 impl Model for World {
-    ghost use Rattle.std.specs.Prelude.{Option};
-    ghost use Rattle.ln_world.specs.declared.channel.Channel.{Channel};
+    ghost use Rattle.ln_world.specs.Told.{WorldState};
 
-    ghost Value = { Option Channel };
+    ghost Value = { WorldState };
 
-    ghost view = { λ w. w.channel };
+    ghost view = { λ w. record { channel = w.channel; lines = w.lines.items } };
 }
 
 impl World {
-    ghost use Rattle.std.specs.Prelude.{◌≡◌, IfOk, OnOk, None, option_copied};
+    ghost use Rattle.std.specs.Prelude.{◌≡◌, IfOk, OnOk, [], None, option_copied, string_bytes};
     ghost use Rattle.std.specs.Result.{IsOkUnless};
     ghost use Rattle.ln_log.specs.Machine.{IsRun};
-    ghost use Rattle.ln_world.specs.World.{happens, run, machine_of, moves, Promises};
+    ghost use Rattle.ln_world.specs.World.{run, machine_of, moves, Promises};
+    ghost use Rattle.ln_world.specs.Report.{report_lines};
+    ghost use Rattle.ln_world.specs.Told.{steps_on};
+    ghost use Rattle.ln_world.specs.Text.{report_text};
 
     /// A world without a channel. Takes no memory.
     pub fn new(alloc: Global) -> World
-        ensures { result ≡ None }
+        ensures { result ≡ record { channel = None; lines = [] } }
     {
         World {
             channel: None,
@@ -49,11 +51,13 @@ impl World {
     /// The world after the steps, from one without a channel. 60 where there was no memory.
     ///
     /// What its ends have proposed, covered, taken and acknowledged is that of the abstract machine, moved
-    /// by the moves that the steps are.
+    /// by the moves that the steps are. Its lines tell what each step did: what was sent, and the committed events of
+    /// these moves, each once and in order.
     pub fn run(alloc: Global, steps: &[Step]) -> Result<World, Refusal>
-        ensures exact { IfOk result (λ w. w ≡ run steps.now None) }
-        ensures machine { IfOk result (λ w. IsRun (moves steps.now None) None (machine_of w)) }
-        ensures headline { IfOk result (λ w. Promises (machine_of w)) }
+        ensures exact { IfOk result (λ w. w.channel ≡ run steps.now None) }
+        ensures lines { IfOk result (λ w. w.lines ≡ report_lines steps.now) }
+        ensures machine { IfOk result (λ w. IsRun (moves steps.now None) None (machine_of w.channel)) }
+        ensures headline { IfOk result (λ w. Promises (machine_of w.channel)) }
         ensures memory { IsOkUnless result Refusal.Memory }
     {
         let mut world = World::new(alloc);
@@ -64,8 +68,8 @@ impl World {
     }
 
     /// One step. 60 where there was no memory; then the world is of no further use.
-    pub fn step(&mut self, alloc: Global, step: &Step) -> Result<(), Refusal>
-        ensures ok { OnOk result (self.new ≡ happens step.now self.old) }
+    fn step(&mut self, alloc: Global, step: &Step) -> Result<(), Refusal>
+        ensures ok { OnOk result (self.new ≡ steps_on step.now self.old) }
         ensures memory { IsOkUnless result Refusal.Memory }
     {
         match step {
@@ -82,7 +86,7 @@ impl World {
 
     /// The channel, where there is one.
     pub fn channel(&self) -> Option<&Channel>
-        ensures { option_copied result ≡ self.now }
+        ensures { option_copied result ≡ self.now.channel }
     {
         self.channel.as_ref()
     }
@@ -90,13 +94,14 @@ impl World {
     /// What the steps did, line by line, and then how each end of the channel stands. 60 where there was
     /// no memory; nothing has changed then.
     pub fn report(&self, alloc: Global) -> Result<String, Refusal>
-        ensures { IsOkUnless result Refusal.Memory }
+        ensures text { IfOk result (λ s. string_bytes s ≡ report_text self.now) }
+        ensures memory { IsOkUnless result Refusal.Memory }
     {
         report(alloc, &self.lines, self.channel.as_ref())
     }
 
     fn open(&mut self, alloc: Global, ready: &Ready) -> Result<(), Refusal>
-        ensures ok { OnOk result (self.new ≡ happens (Step.Ready ready.now) self.old) }
+        ensures ok { OnOk result (self.new ≡ steps_on (Step.Ready ready.now) self.old) }
         ensures memory { IsOkUnless result Refusal.Memory }
     {
         match &self.channel {

@@ -1,4 +1,5 @@
-use Rattle.std.proofs.Common.{◌≡◌, None, refl, ap, subst}
+use Rattle.std.proofs.Common.{◌≡◌, None, refl, ap, subst, ◌∙◌}
+use Rattle.ln_log.specs.Log.{Log}
 use Rattle.ln_world.specs.Ends.{EndState, offers, answer_by, offer_fault}
 use Rattle.ln_world.specs.declared.answer.Answer.TheVariants.{Done, Refused}
 use Rattle.ln_world.proofs.Answered.{offered_by, refused_by, offer_done, offer_refused}
@@ -79,3 +80,6 @@ returns-after-refusal-clause-answer c =
           }) (c.next_id.ensures _ refl))
           (c.in-Err.ensures.answer _ refl) w.in_default.not-Memory))
     ]
+
+pub invariant_of-x : goal.invariant_of-x
+invariant_of-x c = (c.x.invariant.0, ap (λ (l : Log). l.first) (c.in-Ok.ensures.ok _ refl) ∙ c.x.invariant.1)

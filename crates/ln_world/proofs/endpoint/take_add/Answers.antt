@@ -1,4 +1,5 @@
-use Rattle.std.proofs.Common.{◌≡◌, refl, subst}
+use Rattle.std.proofs.Common.{◌≡◌, refl, subst, ap, ◌∙◌}
+use Rattle.ln_log.specs.Log.{Log}
 use Rattle.ln_world.specs.declared.message.Message.TheVariants as message
 use Rattle.ln_world.specs.Ends.{EndState, takes, answer_by}
 use Rattle.ln_log.specs.declared.update.Update.TheVariants as update
@@ -42,3 +43,13 @@ returns-clause-answer c =
           rw w.result-is (subst Q c.x.view_is (refused_answer _ w.in-Err.refusal (w.in-Err.ensures.answer _ refl)
           w.in_default.not-Memory)))
     ]
+
+pub invariant_of-x : goal.invariant_of-x
+invariant_of-x c = (
+  c.x.invariant.0,
+  elim c.match-receive.branch [
+    | in-Ok w ↦ ap (λ (l : Log). l.first) (w.in-Ok.ensures.ok _ refl) ∙ c.x.invariant.1
+    | in-Err+in-Memory w ↦ ap (λ (l : Log). l.first) w.in-Err.ensures.err ∙ c.x.invariant.1
+    | in-Err+in_default w ↦ ap (λ (l : Log). l.first) w.in-Err.ensures.err ∙ c.x.invariant.1
+  ],
+)
