@@ -1,10 +1,9 @@
 -- What of an end the walk over what is in flight goes by.
-use Rattle.std.proofs.Common.{◌≡◌, ℕ, zero, suc, ◌+◌, ◌-◌, ◌≤◌, List, [], ◌∷◌, ◌++◌, length, map, take, refl, sym, ap, ◌∙◌, arith, Bool, true, false, length-append}
+use Rattle.std.proofs.Common.{◌≡◌, ℕ, zero, suc, ◌+◌, ◌-◌, ◌≤◌, List, [], ◌∷◌, ◌++◌, length, take, refl, sym, ap, ◌∙◌}
+use Rattle.std.proofs.Common.{arith, Bool, true, false}
 use Rattle.std.proofs.lemmas.List.{map-append, length-map, take-append-le}
 use Rattle.ln_msgs.specs.declared.messages.message.Message.{Message}
 use Rattle.ln_msgs.specs.declared.messages.message.Message.TheVariants as message
-use Rattle.ln_msgs.specs.declared.messages.opening.ChannelReady.{ChannelReady}
-use Rattle.ln_msgs.specs.declared.messages.closing.Shutdown.{Shutdown as ShutdownMessage}
 use Rattle.ln_msgs.specs.declared.messages.commitments.CommitmentSigned.{CommitmentSigned}
 use Rattle.ln_msgs.specs.declared.messages.commitments.RevokeAndAck.{RevokeAndAck}
 use Rattle.ln_keys.specs.Signer.{Signer}
@@ -12,7 +11,7 @@ use Rattle.ln_log.specs.declared.update.Update.{Update as Change}
 use Rattle.ln_log.specs.declared.update.Update.TheVariants as update
 use Rattle.ln_log.specs.Updates.{as_sent, all_sent}
 use Rattle.ln_log.specs.Machine.{Covered}
-use Rattle.ln_log.specs.Log.{Log, Counts, covered, view_for, IsWithin, after_propose, after_receive}
+use Rattle.ln_log.specs.Log.{view_for}
 use Rattle.ln_dance.specs.declared.dance.Later.{Later}
 use Rattle.ln_dance.specs.declared.dance.Later.TheVariants.{Signature, Revocation}
 use Rattle.ln_dance.specs.Dance.{Dancer, signed_message, revoked_message}
@@ -21,7 +20,8 @@ use Rattle.ln_dance.specs.Resume.{signature_again, revocation_again}
 use Rattle.ln_link.specs.End.{End, shutdown_message}
 use Rattle.ln_link.specs.Commands.{ready_message, proposes, signs_next}
 use Rattle.ln_link.specs.Taking.{takes, accepts}
-use Rattle.ln_pair.proofs.Sides.{Notice, Update, Sign, Revoke, Ready, Shutdown, Again, Side, proposed, received, signed_all, accepted_all}
+use Rattle.ln_pair.proofs.Sides.{Notice, Update, Sign, Revoke, Ready, Shutdown, Again, Side, proposed, received}
+use Rattle.ln_pair.proofs.Sides.{signed_all, accepted_all}
 
 -- the message that a notice is, in the channel of this id
 abbrev pub message_of : List ℕ → Notice → Message
@@ -36,7 +36,8 @@ abbrev pub messages_of : List ℕ → List Notice → List Message
 messages_of channel [] = []
 messages_of channel (n ∷ ns) = message_of channel n ∷ messages_of channel ns
 
-pub messages-append : (channel : List ℕ) (ns os : List Notice) → messages_of channel (ns ++ os) ≡ messages_of channel ns ++ messages_of channel os
+pub messages-append : (channel : List ℕ) (ns os : List Notice)
+    → messages_of channel (ns ++ os) ≡ messages_of channel ns ++ messages_of channel os
 messages-append channel [] os = refl
 messages-append channel (n ∷ ns) os = ap (λ ms. message_of channel n ∷ ms) (messages-append channel ns os)
 
@@ -96,29 +97,45 @@ signed_over k d c = record {
 
 -- ---- steps of an end
 
-pub proposes_so : (k : Signer) (e : End) (u : Change) → e.dance.log.signed.own ≤ length e.dance.log.own → side_of k (proposes u e) ≡ proposed (as_sent u) (side_of k e)
+pub proposes_so : (k : Signer) (e : End) (u : Change) → e.dance.log.signed.own ≤ length e.dance.log.own
+    → side_of k (proposes u e) ≡ proposed (as_sent u) (side_of k e)
 proposes_so k e u le =
     let l = e.dance.log in
     let at : List Change → CommitmentSigned → Side = λ us m. record (side_of k e) { own = us; signature = m } in
     ap (λ us. at us (signature_again k (proposes u e).dance)) (map-append as_sent l.own (u ∷ []))
-    ∙ ap (λ us. at (all_sent l.own ++ as_sent u ∷ []) (signed_over k e.dance (record { own = us; peer = take l.signed.peer l.received }))) (take-append-le l.signed.own l.own (u ∷ []) le)
+    ∙ ap (λ us. at (all_sent l.own ++ as_sent u ∷ [])
+    (signed_over k e.dance (record { own = us; peer = take l.signed.peer l.received })))
+    (take-append-le l.signed.own l.own (u ∷ []) le)
 
-pub takes_so : (k : Signer) (e : End) (u : Change) → as_sent u ≡ u → e.dance.log.signed.peer ≤ length e.dance.log.received → side_of k (takes u e) ≡ received u (side_of k e)
+pub takes_so : (k : Signer) (e : End) (u : Change) → as_sent u ≡ u
+    → e.dance.log.signed.peer ≤ length e.dance.log.received → side_of k (takes u e) ≡ received u (side_of k e)
 takes_so k e u s le =
     let l = e.dance.log in
     let at : List Change → CommitmentSigned → Side = λ us m. record (side_of k e) { got = us; signature = m } in
-    ap (λ us. at us (signature_again k (takes u e).dance)) (map-append as_sent l.received (u ∷ []) ∙ ap (λ v. all_sent l.received ++ v ∷ []) s)
-    ∙ ap (λ us. at (all_sent l.received ++ u ∷ []) (signed_over k e.dance (record { own = take l.signed.own l.own; peer = us }))) (take-append-le l.signed.peer l.received (u ∷ []) le)
+    ap (λ us. at us (signature_again k (takes u e).dance)) (map-append as_sent l.received (u ∷ [])
+    ∙ ap (λ v. all_sent l.received ++ v ∷ []) s)
+    ∙ ap (λ us. at (all_sent l.received ++ u ∷ [])
+    (signed_over k e.dance (record { own = take l.signed.own l.own; peer = us })))
+    (take-append-le l.signed.peer l.received (u ∷ []) le)
 
 pub signs_so : (k : Signer) (e : End) → side_of k (signs_next e) ≡ signed_all (signed_message k e.dance) (side_of k e)
-signs_so k e = ap (λ n. record (side_of k (signs_next e)) { signed = record { own = n; peer = e.dance.log.current.peer } }) (sym (length-sent e.dance.log.own))
+signs_so k e = ap (λ n. record (side_of k (signs_next e))
+    { signed = record { own = n; peer = e.dance.log.current.peer } }) (sym (length-sent e.dance.log.own))
 
 pub accepts_so : (k : Signer) (e : End) → side_of k (accepts e) ≡ accepted_all (revoked_message k e.dance) (side_of k e)
 accepts_so k e =
-    let at : ℕ → RevokeAndAck → Side = λ n m. record (side_of k (accepts e)) { current = record { own = e.dance.log.acknowledged.own; peer = n }; revocation = m } in
+    let at : ℕ → RevokeAndAck → Side = λ n m. record (side_of k (accepts e))
+    { current = record { own = e.dance.log.acknowledged.own; peer = n }; revocation = m } in
     let c = e.dance.numbers.commitment in
     let back : c + 1 - 1 ≡ c = omega arith in
     let on : c + 1 + 1 ≡ c + 2 = omega arith in
     ap (λ n. at n (revocation_again k (accepts e).dance)) (sym (length-sent e.dance.log.received))
-    ∙ ap (λ n. at (length (all_sent e.dance.log.received)) (record { channel_id = e.dance.channel; secret = k.secret_of n; next_point = k.point_of (c + 1 + 1); records = [] })) back
-    ∙ ap (λ n. at (length (all_sent e.dance.log.received)) (record { channel_id = e.dance.channel; secret = k.secret_of c; next_point = k.point_of n; records = [] })) on
+    ∙ ap (λ n. at (length (all_sent e.dance.log.received))
+    (record {
+      channel_id = e.dance.channel;
+      secret = k.secret_of n;
+      next_point = k.point_of (c + 1 + 1);
+      records = [];
+    })) back
+    ∙ ap (λ n. at (length (all_sent e.dance.log.received))
+    (record { channel_id = e.dance.channel; secret = k.secret_of c; next_point = k.point_of n; records = [] })) on

@@ -4,7 +4,8 @@ use Rattle.std.specs.Prelude.{◌≡◌, ◌≤◌, List, [], ◌∷◌, length,
 use Rattle.ln_log.specs.declared.update.Update.{Update as Change}
 use Rattle.ln_msgs.specs.declared.messages.opening.ChannelReady.{ChannelReady}
 use Rattle.ln_msgs.specs.declared.messages.closing.Shutdown.{Shutdown as ShutdownMessage}
-use Rattle.ln_pair.proofs.Sides.{Both, opens, Notice, Update, Sign, Revoke, Ready, Shutdown, Again, Link, Down, Waiting, Met, Side}
+use Rattle.ln_pair.proofs.Sides.{Both, opens, Notice, Update, Sign, Revoke, Ready, Shutdown, Again, Link, Down, Waiting}
+use Rattle.ln_pair.proofs.Sides.{Met, Side}
 
 -- what opens something doesn't stand behind a shutdown
 abbrev pub IsAllowed : Bool → Bool → Type 0
@@ -40,7 +41,13 @@ abbrev pub ToldAny : Bool → Bool → Type 0
 ToldAny r s = Unit {0}
 
 abbrev pub teller : Side → Side → Teller
-teller x y = record { ready = x.ready; shut = x.shut; peer_ready = y.ready; ready_message = x.ready_message; shut_message = x.shut_message }
+teller x y = record {
+  ready = x.ready;
+  shut = x.shut;
+  peer_ready = y.ready;
+  ready_message = x.ready_message;
+  shut_message = x.shut_message;
+}
 
 abbrev pub Speaks : Link → Side → Side → List Notice → Type 0
 Speaks Down x y ms = Tells (teller x y) ToldAny y.peer_ready y.peer_shut ms

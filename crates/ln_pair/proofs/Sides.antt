@@ -10,7 +10,8 @@ use Rattle.ln_msgs.specs.declared.messages.commitments.RevokeAndAck.{RevokeAndAc
 use Rattle.ln_msgs.specs.declared.messages.commitments.ChannelReestablish.{ChannelReestablish}
 use Rattle.ln_msgs.specs.declared.messages.opening.ChannelReady.{ChannelReady}
 use Rattle.ln_msgs.specs.declared.messages.closing.Shutdown.{Shutdown as ShutdownMessage}
-use Rattle.std.specs.Prelude.{ℕ, ◌+◌, List, [], ◌∷◌, ◌++◌, length, take, drop, Bool, true, false, ◌==◌, if◌then◌else◌, ◌&&◌}
+use Rattle.std.specs.Prelude.{ℕ, ◌+◌, List, [], ◌∷◌, ◌++◌, length, take, drop, Bool, true, false, ◌==◌, if◌then◌else◌}
+use Rattle.std.specs.Prelude.{◌&&◌}
 
 -- no add and no fee follows a shutdown
 abbrev pub opens : Change → Bool
@@ -74,13 +75,23 @@ abbrev pub proposed : Change → Side → Side
 proposed u x = record x { own = x.own ++ u ∷ [] }
 
 abbrev pub signed_all : CommitmentSigned → Side → Side
-signed_all m x = record x { signed = record { own = length x.own; peer = x.current.peer }; signatures = x.signatures + 1; late = false; signature = m }
+signed_all m x = record x {
+  signed = record { own = length x.own; peer = x.current.peer };
+  signatures = x.signatures + 1;
+  late = false;
+  signature = m;
+}
 
 abbrev pub received : Change → Side → Side
 received u x = record x { got = x.got ++ u ∷ [] }
 
 abbrev pub accepted_all : RevokeAndAck → Side → Side
-accepted_all m x = record x { current = record { own = x.acked.own; peer = length x.got }; number = x.number + 1; late = true; revocation = m }
+accepted_all m x = record x {
+  current = record { own = x.acked.own; peer = length x.got };
+  number = x.number + 1;
+  late = true;
+  revocation = m;
+}
 
 -- with what it would now send again as its last signature
 abbrev pub acknowledged_all : CommitmentSigned → Side → Side
@@ -131,7 +142,10 @@ abbrev pub confirms : Both → Both
 confirms b = record b { x = record b.x { ready = true }; to_y = posts b.y_link (Ready b.x.ready_message ∷ []) b.to_y }
 
 abbrev pub shuts : ShutdownMessage → Both → Both
-shuts m b = record b { x = record b.x { shut = true; shut_message = m }; to_y = posts b.y_link (Shutdown m ∷ []) b.to_y }
+shuts m b = record b {
+  x = record b.x { shut = true; shut_message = m };
+  to_y = posts b.y_link (Shutdown m ∷ []) b.to_y;
+}
 
 abbrev pub goes_down : Both → Both
 goes_down b = record b { x_link = Down; x = dropped b.x; to_x = [] }

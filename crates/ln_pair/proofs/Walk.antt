@@ -9,7 +9,8 @@ use Rattle.ln_log.specs.Log.{Counts}
 use Rattle.ln_log.specs.Updates.{as_sent}
 use Rattle.ln_msgs.specs.declared.messages.commitments.CommitmentSigned.{CommitmentSigned}
 use Rattle.ln_msgs.specs.declared.messages.commitments.RevokeAndAck.{RevokeAndAck}
-use Rattle.ln_pair.proofs.Sides.{Both, Notice, Update, Sign, Revoke, Ready, Shutdown, Again, Link, Down, Waiting, Met, Side}
+use Rattle.ln_pair.proofs.Sides.{Both, Notice, Update, Sign, Revoke, Ready, Shutdown, Again, Link, Down, Waiting, Met}
+use Rattle.ln_pair.proofs.Sides.{Side}
 
 -- an update of the side r is taken behind own, where seen of the other side's stand with it, and the side
 -- holds held of them
@@ -27,9 +28,11 @@ AllFit o r before seen held (u ∷ us) = Fits o r before seen held u × AllFit o
 
 -- how far x's last signature is; current is y's commitment
 pub data Phase (s a c : ℕ) (acked signed current : Counts) : Type 0 where
-  Idle : s ≡ a → c ≡ s → acked.own ≡ signed.own → acked.peer ≡ signed.peer → current.peer ≡ signed.own → current.own ≡ signed.peer → Phase s a c acked signed current
+  Idle : s ≡ a → c ≡ s → acked.own ≡ signed.own → acked.peer ≡ signed.peer → current.peer ≡ signed.own
+      → current.own ≡ signed.peer → Phase s a c acked signed current
   Sent : s ≡ a + 1 → c ≡ a → current.peer ≡ acked.own → current.own ≡ acked.peer → Phase s a c acked signed current
-  Answered : s ≡ a + 1 → c ≡ s → current.peer ≡ signed.own → current.own ≡ signed.peer → Phase s a c acked signed current
+  Answered : s ≡ a + 1 → c ≡ s → current.peer ≡ signed.own → current.own ≡ signed.peer
+      → Phase s a c acked signed current
 
 -- where y hasn't accepted it: if x has revoked since, y hasn't taken that revocation either, and the
 -- signature covers what y knew before; else it covers what x's commitment covers now
@@ -52,7 +55,17 @@ pub record Sender : Type 0 where
   pub revocation : RevokeAndAck
 
 abbrev pub sender : Side → Sender
-sender x = record { opening = x.opening; role = x.role; covered = take x.signed.own x.own; seen = x.signed.peer; signatures = x.signatures; number = x.number; late = x.late; signature = x.signature; revocation = x.revocation }
+sender x = record {
+  opening = x.opening;
+  role = x.role;
+  covered = take x.signed.own x.own;
+  seen = x.signed.peer;
+  signatures = x.signatures;
+  number = x.number;
+  late = x.late;
+  signature = x.signature;
+  revocation = x.revocation;
+}
 
 -- the signature is due for who took got, knows a of its own to be acknowledged and has commitment c
 pub record IsDue (w : Sender) (got : List Change) (a c : ℕ) (m : CommitmentSigned) : Type 0 where
@@ -74,9 +87,11 @@ pub record IsNext (w : Sender) (c r : ℕ) (m : RevokeAndAck) : Type 0 where
 
 -- who stands there reads the messages, each as it is due, and stands at Q then; own is its own list, held what
 -- of it stands in its own commitment, all how many of it its last signature covers
-abbrev pub Reads : Sender → List Change → List Change → ℕ → (List Change → ℕ → ℕ → ℕ → Type 0) → List Change → ℕ → ℕ → ℕ → List Notice → Type 0
+abbrev pub Reads : Sender → List Change → List Change → ℕ → (List Change → ℕ → ℕ → ℕ → Type 0) → List Change → ℕ → ℕ
+    → ℕ → List Notice → Type 0
 Reads w own held all Q got a c r [] = Q got a c r
-Reads w own held all Q got a c r (Update u ∷ ms) = Fits w.opening w.role got (take a own) held u × Reads w own held all Q (got ++ u ∷ []) a c r ms
+Reads w own held all Q got a c r (Update u ∷ ms) = Fits w.opening w.role got (take a own) held u
+    × Reads w own held all Q (got ++ u ∷ []) a c r ms
 Reads w own held all Q got a c r (Sign k ∷ ms) = IsDue w got a c k × Reads w own held all Q got a (c + 1) r ms
 Reads w own held all Q got a c r (Revoke k ∷ ms) = IsNext w c r k × Reads w own held all Q got all c (r + 1) ms
 Reads w own held all Q got a c r (Ready z ∷ ms) = Reads w own held all Q got a c r ms
@@ -85,7 +100,8 @@ Reads w own held all Q got a c r (Again n ∷ ms) = ⊥
 
 -- then it lacks nothing of the sender, which has these updates, has seen so many of its own, and has sent the
 -- signature and has the commitment of these numbers
-pub record LacksNothing (updates : List Change) (seen signatures number : ℕ) (got : List Change) (a c r : ℕ) : Type 0 where
+pub record LacksNothing (updates : List Change) (seen signatures number : ℕ) (got : List Change)
+    (a c r : ℕ) : Type 0 where
   pub has_all : got ≡ updates
   pub knows : a ≡ seen
   pub accepted : c ≡ signatures
@@ -103,7 +119,8 @@ holds y = take y.current.own y.own
 abbrev pub Carries : Link → Side → Side → List Notice → Type 0
 Carries Down x y ms = Reads (sender x) y.own (holds y) y.signed.own Anywhere y.got y.acked.own y.number y.revocations ms
 Carries Waiting x y ms = (ms ≡ []) × (length y.got ≤ y.current.peer)
-Carries Met x y ms = Reads (sender x) y.own (holds y) y.signed.own (LacksNothing x.own x.current.peer x.signatures x.number) y.got y.acked.own y.number y.revocations ms
+Carries Met x y ms = Reads (sender x) y.own (holds y) y.signed.own
+    (LacksNothing x.own x.current.peer x.signatures x.number) y.got y.acked.own y.number y.revocations ms
 
 abbrev pub BeginsAgain : Link → Side → Side → List Notice → Type 0
 BeginsAgain l x y [] = ⊥
@@ -112,7 +129,8 @@ BeginsAgain l x y (Sign k ∷ ms) = ⊥
 BeginsAgain l x y (Revoke k ∷ ms) = ⊥
 BeginsAgain l x y (Ready z ∷ ms) = ⊥
 BeginsAgain l x y (Shutdown z ∷ ms) = ⊥
-BeginsAgain l x y (Again n ∷ ms) = (n.next_commitment_number ≡ x.number + 1) × (n.next_revocation_number ≡ x.revocations) × Carries l x y ms
+BeginsAgain l x y (Again n ∷ ms) = (n.next_commitment_number ≡ x.number + 1)
+    × (n.next_revocation_number ≡ x.revocations) × Carries l x y ms
 
 -- from x to y; in front, until y has taken it, x's reestablish
 abbrev pub InFlight : Link → Link → Side → Side → List Notice → Type 0
@@ -142,10 +160,12 @@ pub record Flows (lx ly : Link) (x y : Side) (ms : List Notice) : Type 0 where
   pub within : IsWithin x
   pub cut : IsCut lx x
   pub fit : AllFit x.opening x.role [] (take x.current.peer x.got) (take x.acked.peer x.got) x.own
-  pub fit_signed : AllFit x.opening x.role [] (take x.signed.peer x.got) (take x.acked.peer x.got) (take x.signed.own x.own)
+  pub fit_signed : AllFit x.opening x.role [] (take x.signed.peer x.got) (take x.acked.peer x.got)
+      (take x.signed.own x.own)
   pub phase : Phase x.signatures x.revocations y.number x.acked x.signed y.current
   pub agree : take y.current.peer y.got ≡ take y.current.peer x.own
-  pub order : y.number + 1 ≡ x.signatures → InOrder x.late x.number y.revocations x.signed.peer y.acked.own x.current.peer
+  pub order : y.number + 1 ≡ x.signatures → InOrder x.late x.number y.revocations x.signed.peer
+      y.acked.own x.current.peer
   pub flight : InFlight lx ly x y ms
 
 -- each way round

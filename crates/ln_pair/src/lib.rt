@@ -4,4 +4,6 @@
 
 mod laws;
 
-pub use laws::{both_agree_at_rest, held_was_covered, no_add_follows_a_shutdown, no_message_is_refused};
+pub use laws::{
+    both_agree_at_rest, held_was_covered, no_add_follows_a_shutdown, no_message_is_refused,
+};
