@@ -3,7 +3,7 @@ use std::fmt::Write as _;
 use std::io::{self, Read, Write};
 use std::process::exit;
 
-/// A field: read from the front of bytes, and shown. Byte strings are borrowed, all else is copied.
+/// A field: read from the front of bytes, and shown. Numbers are copied, all else is borrowed.
 trait Field<'a>: Sized {
     fn read(rest: &mut &'a [u8]) -> Result<Self, u16>;
     fn show(&self, name: &str, text: &mut String);
@@ -36,12 +36,12 @@ macro_rules! numbers {
 }
 numbers!(u8 u16 u32 u64);
 
-impl<'a, const N: usize> Field<'a> for [u8; N] {
+impl<'a, const N: usize> Field<'a> for &'a [u8; N] {
     fn read(rest: &mut &'a [u8]) -> Result<Self, u16> {
         Ok(cut(rest, N)?.try_into().unwrap())
     }
     fn show(&self, name: &str, text: &mut String) {
-        show_bytes(name, self, text);
+        show_bytes(name, &self[..], text);
     }
 }
 
@@ -51,7 +51,7 @@ impl<'a> Field<'a> for &'a [u8] {
         cut(rest, count.into())
     }
     fn show(&self, name: &str, text: &mut String) {
-        show_bytes(name, self, text);
+        show_bytes(name, &self[..], text);
     }
 }
 
@@ -136,40 +136,42 @@ macro_rules! messages {
     };
 }
 messages! {
-    1 Warning "warning" { channel_id: [u8; 32], data: &'a [u8] } [], [];
+    1 Warning "warning" { channel_id: &'a [u8; 32], data: &'a [u8] } [], [];
     16 Init "init" { global_features: &'a [u8], features: &'a [u8] } [], [];
-    17 Error "error" { channel_id: [u8; 32], data: &'a [u8] } [], [];
+    17 Error "error" { channel_id: &'a [u8; 32], data: &'a [u8] } [], [];
     18 Ping "ping" { num_pong_bytes: u16, ignored: &'a [u8] } [], [];
     19 Pong "pong" { ignored: &'a [u8] } [], [];
-    32 OpenChannel "open_channel" { chain_hash: [u8; 32], temporary_id: [u8; 32], funding_satoshis: u64, push_msat: u64,
-        dust_limit_satoshis: u64, max_htlc_value_in_flight_msat: u64, channel_reserve_satoshis: u64,
+    32 OpenChannel "open_channel" { chain_hash: &'a [u8; 32], temporary_id: &'a [u8; 32], funding_satoshis: u64,
+        push_msat: u64, dust_limit_satoshis: u64, max_htlc_value_in_flight_msat: u64, channel_reserve_satoshis: u64,
         htlc_minimum_msat: u64, feerate_per_kw: u32, to_self_delay: u16, max_accepted_htlcs: u16,
-        funding_pubkey: [u8; 33], revocation_basepoint: [u8; 33], payment_basepoint: [u8; 33],
-        delayed_payment_basepoint: [u8; 33], htlc_basepoint: [u8; 33], first_per_commitment_point: [u8; 33],
+        funding_pubkey: &'a [u8; 33], revocation_basepoint: &'a [u8; 33], payment_basepoint: &'a [u8; 33],
+        delayed_payment_basepoint: &'a [u8; 33], htlc_basepoint: &'a [u8; 33], first_per_commitment_point: &'a [u8; 33],
         channel_flags: u8 } [0], [];
-    33 AcceptChannel "accept_channel" { temporary_id: [u8; 32], dust_limit_satoshis: u64,
+    33 AcceptChannel "accept_channel" { temporary_id: &'a [u8; 32], dust_limit_satoshis: u64,
         max_htlc_value_in_flight_msat: u64, channel_reserve_satoshis: u64, htlc_minimum_msat: u64, minimum_depth: u32,
-        to_self_delay: u16, max_accepted_htlcs: u16, funding_pubkey: [u8; 33], revocation_basepoint: [u8; 33],
-        payment_basepoint: [u8; 33], delayed_payment_basepoint: [u8; 33], htlc_basepoint: [u8; 33],
-        first_per_commitment_point: [u8; 33] } [0], [];
-    34 FundingCreated "funding_created" { temporary_id: [u8; 32], funding_txid: [u8; 32], output_index: u16,
-        signature: [u8; 64] } [], [];
-    35 FundingSigned "funding_signed" { channel_id: [u8; 32], signature: [u8; 64] } [], [];
-    36 ChannelReady "channel_ready" { channel_id: [u8; 32], second_point: [u8; 33] } [], [(1, 8)];
-    38 Shutdown "shutdown" { channel_id: [u8; 32], script: &'a [u8] } [], [];
-    39 ClosingSigned "closing_signed" { channel_id: [u8; 32], fee_satoshis: u64, signature: [u8; 64] } [], [(1, 16)];
-    128 Add "update_add_htlc" { channel_id: [u8; 32], id: u64, amount_msat: u64, payment_hash: [u8; 32],
-        cltv_expiry: u32, onion: [u8; 1366] } [], [];
-    130 Fulfill "update_fulfill_htlc" { channel_id: [u8; 32], id: u64, preimage: [u8; 32] } [], [];
-    131 Fail "update_fail_htlc" { channel_id: [u8; 32], id: u64, reason: &'a [u8] } [], [];
-    132 CommitmentSigned "commitment_signed" { channel_id: [u8; 32], signature: [u8; 64],
+        to_self_delay: u16, max_accepted_htlcs: u16, funding_pubkey: &'a [u8; 33], revocation_basepoint: &'a [u8; 33],
+        payment_basepoint: &'a [u8; 33], delayed_payment_basepoint: &'a [u8; 33], htlc_basepoint: &'a [u8; 33],
+        first_per_commitment_point: &'a [u8; 33] } [0], [];
+    34 FundingCreated "funding_created" { temporary_id: &'a [u8; 32], funding_txid: &'a [u8; 32], output_index: u16,
+        signature: &'a [u8; 64] } [], [];
+    35 FundingSigned "funding_signed" { channel_id: &'a [u8; 32], signature: &'a [u8; 64] } [], [];
+    36 ChannelReady "channel_ready" { channel_id: &'a [u8; 32], second_point: &'a [u8; 33] } [], [(1, 8)];
+    38 Shutdown "shutdown" { channel_id: &'a [u8; 32], script: &'a [u8] } [], [];
+    39 ClosingSigned "closing_signed" { channel_id: &'a [u8; 32], fee_satoshis: u64,
+        signature: &'a [u8; 64] } [], [(1, 16)];
+    128 Add "update_add_htlc" { channel_id: &'a [u8; 32], id: u64, amount_msat: u64, payment_hash: &'a [u8; 32],
+        cltv_expiry: u32, onion: &'a [u8; 1366] } [], [];
+    130 Fulfill "update_fulfill_htlc" { channel_id: &'a [u8; 32], id: u64, preimage: &'a [u8; 32] } [], [];
+    131 Fail "update_fail_htlc" { channel_id: &'a [u8; 32], id: u64, reason: &'a [u8] } [], [];
+    132 CommitmentSigned "commitment_signed" { channel_id: &'a [u8; 32], signature: &'a [u8; 64],
         htlc_signatures: &'a [[u8; 64]] } [], [];
-    133 RevokeAndAck "revoke_and_ack" { channel_id: [u8; 32], secret: [u8; 32], next_point: [u8; 33] } [], [];
-    134 Fee "update_fee" { channel_id: [u8; 32], feerate_per_kw: u32 } [], [];
-    135 FailMalformed "update_fail_malformed_htlc" { channel_id: [u8; 32], id: u64, sha256_of_onion: [u8; 32],
+    133 RevokeAndAck "revoke_and_ack" { channel_id: &'a [u8; 32], secret: &'a [u8; 32],
+        next_point: &'a [u8; 33] } [], [];
+    134 Fee "update_fee" { channel_id: &'a [u8; 32], feerate_per_kw: u32 } [], [];
+    135 FailMalformed "update_fail_malformed_htlc" { channel_id: &'a [u8; 32], id: u64, sha256_of_onion: &'a [u8; 32],
         failure_code: u16 } [], [];
-    136 Reestablish "channel_reestablish" { channel_id: [u8; 32], next_commitment_number: u64,
-        next_revocation_number: u64, last_secret: [u8; 32], current_point: [u8; 33] } [], [];
+    136 Reestablish "channel_reestablish" { channel_id: &'a [u8; 32], next_commitment_number: u64,
+        next_revocation_number: u64, last_secret: &'a [u8; 32], current_point: &'a [u8; 33] } [], [];
 }
 
 /// Adds the pong's frame that a message asks for.

@@ -8,6 +8,10 @@ use Rattle.ln_bytes.specs.declared.record.Record.{Record}
 use Rattle.ln_bytes.specs.Bigsize.{bigsize, bigsize_at}
 use Rattle.ln_bytes.specs.Reading.{◌>>=◌}
 
+-- the record of a type and a value
+abbrev pub as_record : ℕ → List ℕ → Record
+as_record typ value = record { typ = typ; value = value }
+
 -- a record: its type, the length of its value, and the value
 abbrev pub record_bytes : Record → List ℕ
 record_bytes r = bigsize r.typ ++ bigsize (length r.value) ++ r.value

@@ -7,7 +7,7 @@ ghost use Rattle.std.specs.List.{list_all};
 ghost use Rattle.ln_bytes.specs.Reading.{Gives, Reads};
 ghost use Rattle.ln_bytes.specs.Tlv.{value_of, record_bytes, stream_bytes, may_follow, is_allowed, AreRising, AreKnown};
 ghost use Rattle.ln_bytes.specs.Tlv.{AreFit, AreValid, Fits, Spells, HasFault, value_at, record_at, stream_at};
-ghost use Rattle.ln_bytes.specs.Tlv.{has_length, lengths_at};
+ghost use Rattle.ln_bytes.specs.Tlv.{as_record, has_length, lengths_at};
 ghost use Rattle.ln_bytes.specs.declared.fault.Fault.{Fault};
 ghost use Rattle.ln_bytes.specs.declared.record.Record.{Record};
 
@@ -85,7 +85,7 @@ pub fn check_tlvs(bytes: &[u8], known_even: &[u64], lengths: &[(u64, usize)]) ->
 
 // Whether a value of this type has the length that its type asks for.
 fn has_length(lengths: &[(u64, usize)], typ: u64, value: &[u8]) -> bool
-    ensures { result ≡ list_all (λ asked. has_length asked (record { typ = typ; value = value.now })) lengths.now }
+    ensures { result ≡ list_all (λ asked. has_length asked (as_record typ value.now)) lengths.now }
 {
     lengths
         .iter()
@@ -99,7 +99,7 @@ fn front_record<'a>(
     before: Option<u64>,
     bytes: &'a [u8],
 ) -> Result<(u64, &'a [u8], &'a [u8]), Fault>
-    ensures { Reads (λ x. (record { typ = x.0; value = x.1.now }, x.2.now)) result
+    ensures { Reads (λ x. (as_record x.0 x.1.now, x.2.now)) result
         (record_at known_even.now before bytes.now) }
 {
     let (typ, taken) = read_bigsize(bytes)?;
@@ -117,7 +117,7 @@ fn front_value<'a>(
     typ: u64,
     bytes: &'a [u8],
 ) -> Result<(&'a [u8], &'a [u8]), Fault>
-    ensures { Reads (λ x. (record { typ = typ; value = x.0.now }, x.1.now)) result
+    ensures { Reads (λ x. (as_record typ x.0.now, x.1.now)) result
         (value_at known_even.now typ bytes.now) }
 {
     let (len, taken) = read_bigsize(bytes)?;

@@ -10,12 +10,12 @@ use Rattle.ln_bytes.specs.Tlv.{stream_at, have_lengths}
 use Rattle.ln_bytes.specs.declared.fault.Fault.{Fault}
 use Rattle.ln_bytes.specs.declared.fault.Fault.TheVariants.{FieldLength}
 use Rattle.ln_bytes.specs.declared.record.Record.{Record}
-use Rattle.ln_msgs.specs.Codec.Field.{Kind, Listed, Value, Many, number_at, items_at, list_at, field_at, fields_at}
+use Rattle.ln_msgs.specs.Codec.Field.{Kind, Number, Fixed, Sized, Listed, Value, Many, number_at, items_at, list_at}
+use Rattle.ln_msgs.specs.Codec.Field.{field_at, fields_at}
 use Rattle.ln_msgs.specs.Codec.Checking.{behind, behind_field, behind_fields, checked, checked_records_at}
 use Rattle.ln_msgs.specs.Messages.Table.{Form, kinds_of}
-use Rattle.ln_msgs.specs.Messages.Forms.{kind_of, IsRow}
+use Rattle.ln_msgs.specs.Messages.Forms.{kind_of, fixed_size, behind_fixed, IsRow}
 use Rattle.ln_msgs.specs.declared.messages.form.Form as rows
-use Rattle.ln_msgs.proofs.Shown.{twice}
 use Rattle.ln_msgs.specs.Messages.Message.{Known, formed_at}
 
 -- a step after two others
@@ -86,16 +86,16 @@ module _ {A : Type 0} (f : A → Kind) (fields : List A) (bytes : List ℕ) wher
 
 -- ---- signatures are passed at once
 
-behind-drop : (count : ℕ) (bytes : List ℕ) → 64 ≤ length bytes
-    → behind (64 * count) (drop 64 bytes) ≡ behind (64 * suc count) bytes
-behind-drop count bytes long =
-    let same : nat_lt (length (drop 64 bytes)) (64 * count) ≡ nat_lt (length bytes) (64 * suc count) =
+-- so many bytes, and so many more
+behind-add : (m n : ℕ) (bytes : List ℕ) → m ≤ length bytes → behind n (drop m bytes) ≡ behind (m + n) bytes
+behind-add m n bytes long =
+    let same : nat_lt (length (drop m bytes)) n ≡ nat_lt (length bytes) (m + n) =
     ltb_from_iff (
-      λ e. omega (arith, length-drop 64 bytes, ltb-true (length (drop 64 bytes)) (64 * count) e),
-      λ l. lt-ltb _ _ (omega (arith, length-drop 64 bytes)),
+      λ e. omega (arith, length-drop m bytes, ltb-true (length (drop m bytes)) n e),
+      λ l. lt-ltb _ _ (omega (arith, length-drop m bytes)),
     ) in
-    let far : drop (64 * count) (drop 64 bytes) ≡ drop (64 * suc count) bytes =
-    drop-drop (64 * count) 64 bytes ∙ ap (λ n. drop n bytes) (omega arith) in
+    let far : drop n (drop m bytes) ≡ drop (m + n) bytes =
+    drop-drop n m bytes ∙ ap (λ k. drop k bytes) (omega arith) in
     rw (same, far) refl
 
 items_one : (count : ℕ) (bytes : List ℕ) (b : Bool) → nat_lt (length bytes) 64 ≡ b
@@ -108,7 +108,8 @@ items_one count bytes true short others =
     rw (short, shorter) refl
 items_one count bytes false long others =
     rw long (behind_others (take 64 bytes) (items_at 64 count (drop 64 bytes))) ∙ others
-    ∙ behind-drop count bytes (ltb-false (length bytes) 64 long)
+    ∙ behind-add 64 (64 * count) bytes (ltb-false (length bytes) 64 long)
+    ∙ ap (λ n. behind n bytes) (omega arith)
 
 items_behind : (count : ℕ) (bytes : List ℕ)
     → (items_at 64 count bytes >>= λ items. Ok items.1) ≡ behind (64 * count) bytes
@@ -131,6 +132,52 @@ pub list_behind : (count : ℕ) (rest bytes : List ℕ) → number_at 2 bytes �
     → behind_field (Listed 64) bytes ≡ behind (64 * count) rest
 unfolding list_at
 list_behind count rest bytes e = rw e (behind_list (items_at 64 count rest)) ∙ items_behind count rest
+
+-- ---- fields of one size are passed at once
+
+behind-none : (bytes : List ℕ) → behind 0 bytes ≡ Ok bytes
+behind-none bytes = let enough : nat_lt (length bytes) 0 ≡ false = le-ltb _ _ (omega arith) in rw enough refl
+
+behind-then : (m n : ℕ) (bytes : List ℕ) (b : Bool) → nat_lt (length bytes) m ≡ b
+    → (behind m bytes >>= behind n) ≡ behind (m + n) bytes
+behind-then m n bytes true short =
+    let shorter : nat_lt (length bytes) (m + n) ≡ true =
+    lt-ltb _ _ (omega (arith, ltb-true (length bytes) m short)) in
+    rw (short, shorter) refl
+behind-then m n bytes false long = rw long (behind-add m n bytes (ltb-false (length bytes) m long))
+
+number_behind : (size : ℕ) (bytes : List ℕ) (b : Bool) → nat_lt (length bytes) size ≡ b
+    → behind_field (Number size) bytes ≡ behind size bytes
+number_behind size bytes true short = rw short refl
+number_behind size bytes false long = rw long refl
+
+bytes_behind : (size : ℕ) (bytes : List ℕ) (b : Bool) → nat_lt (length bytes) size ≡ b
+    → behind_field (Fixed size) bytes ≡ behind size bytes
+bytes_behind size bytes true short = rw short refl
+bytes_behind size bytes false long = rw long refl
+
+-- a field of one size, and those behind it
+one_size : (k : Kind) (size n : ℕ) (ks js : List Kind) (bytes : List ℕ) → behind_field k bytes ≡ behind size bytes
+    → ((rest : List ℕ) → behind_fields ks rest ≡ (behind n rest >>= behind_fields js))
+    → behind_fields (k ∷ ks) bytes ≡ (behind (size + n) bytes >>= behind_fields js)
+one_size k size n ks js bytes is others = behind-cons k ks bytes
+    ∙ ap (λ (r : Result (List ℕ) Fault). r >>= behind_fields ks) is
+    ∙ each (behind size bytes) (behind_fields ks) (λ rest. behind n rest >>= behind_fields js) others
+    ∙ sym (bind_assoc (behind size bytes) (behind n) (behind_fields js))
+    ∙ ap (λ (r : Result (List ℕ) Fault). r >>= behind_fields js) (behind-then size n bytes _ refl)
+
+no_size : (ks : List Kind) (bytes : List ℕ) → behind_fields ks bytes ≡ (behind 0 bytes >>= behind_fields ks)
+no_size ks bytes = ap (λ (r : Result (List ℕ) Fault). r >>= behind_fields ks) (sym (behind-none bytes))
+
+behind-fixed : (ks : List Kind) (bytes : List ℕ)
+    → behind_fields ks bytes ≡ (behind (fixed_size ks) bytes >>= behind_fields (behind_fixed ks))
+behind-fixed [] bytes = no_size [] bytes
+behind-fixed (Number size ∷ ks) bytes = one_size (Number size) size (fixed_size ks) ks (behind_fixed ks) bytes
+    (number_behind size bytes _ refl) (behind-fixed ks)
+behind-fixed (Fixed size ∷ ks) bytes = one_size (Fixed size) size (fixed_size ks) ks (behind_fixed ks) bytes
+    (bytes_behind size bytes _ refl) (behind-fixed ks)
+behind-fixed (Sized ∷ ks) bytes = no_size (Sized ∷ ks) bytes
+behind-fixed (Listed size ∷ ks) bytes = no_size (Listed size ∷ ks) bytes
 
 -- what is checked of a type: its fields, and then its records
 records_checked : (form : Form) (typ : ℕ) (values : List Value) (r : Result (List Record) Fault)
@@ -160,9 +207,8 @@ formed_checked form typ bytes = fields_checked form typ (fields_at (kinds_of for
 
 -- the same by the program's row
 pub form_checked : (row : Form) (form : rows.Form) (typ : ℕ) (bytes : List ℕ) → IsRow row form
-    → checked (formed_at row typ bytes) ≡ (behind_fields (map (λ f. kind_of f.1) form.fields.now) bytes
+    → checked (formed_at row typ bytes) ≡ ((behind form.fixed bytes >>= behind_fields (map kind_of form.others.now))
     >>= checked_records_at form.known_even.now form.lengths.now)
-form_checked row form typ bytes is =
-    let kinds : map (λ f. kind_of f.1) form.fields.now ≡ kinds_of row =
-    sym (twice (λ f. (f.0.now, kind_of f.1)) (λ f. f.1) form.fields.now) ∙ ap (map (λ f. f.1)) is.fields in
-    rw (kinds, is.known_even, is.lengths) (formed_checked row typ bytes)
+form_checked row form typ bytes is = rw (is.fixed, is.others, is.known_even, is.lengths) (formed_checked row typ bytes
+    ∙ ap (λ (r : Result (List ℕ) Fault). r >>= checked_records_at row.known_even row.lengths)
+    (behind-fixed (kinds_of row) bytes))

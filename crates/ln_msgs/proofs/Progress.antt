@@ -13,6 +13,7 @@ use Rattle.ln_msgs.specs.Pings.Answered.{AnswersAll, AnswersUpTo, AnswersSome}
 use Rattle.ln_msgs.specs.Pings.Outgoing.{Waiting}
 use Rattle.ln_msgs.specs.Pings.Served.{Serves, StopsAt}
 use Rattle.ln_msgs.specs.declared.pings.answer.Stop.{Stop}
+use Rattle.ln_msgs.specs.declared.pings.answer.Stop.TheVariants as stop
 use Rattle.ln_msgs.specs.Pings.Written.{IsPartlyWritten}
 use Rattle.ln_msgs.proofs.Serving.{pongs-append}
 
@@ -230,3 +231,9 @@ pub stops : (input slice after : List ℕ) (taken : ℕ) (stop : Stop) → slice
     → StopsAt (drop taken slice) stop → StopsAt after stop
 stops input slice after taken stop same left s =
     subst (λ l. StopsAt l stop) (same_left input slice after taken same left) s
+
+-- the fault that it stopped at
+pub stops_faulty : (input slice after : List ℕ) (taken : ℕ) (reason : Stop) (f : Fault) → slice ≡ input
+    → after ≡ drop taken input → StopsAt (drop taken slice) reason → reason ≡ stop.Fault f → IsFaulty after f
+stops_faulty input slice after taken reason f same left s is =
+    subst (StopsAt after) is (stops input slice after taken reason same left s)

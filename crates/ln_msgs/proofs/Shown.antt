@@ -8,29 +8,25 @@ use Rattle.ln_msgs.specs.declared.messages.form.Form.{Form}
 use Rattle.ln_msgs.specs.declared.messages.item.Field.{Field}
 use Rattle.ln_msgs.specs.declared.messages.item.Item.{Item}
 use Rattle.ln_msgs.specs.Messages.Forms.{IsFormBy}
-use Rattle.ln_msgs.specs.Messages.Forms as forms
-use Rattle.ln_msgs.specs.Messages.Table.{names_of}
 use Rattle.ln_msgs.specs.Messages.Items.{kind_of, value_of, AreItemsBy, IsShownByForm}
 use Rattle.ln_msgs.specs.Messages.Message.{Wire}
 use Rattle.ln_msgs.specs.Messages.Table as table
 
-pub twice : {A B C : Type 0} (f : A → B) (g : B → C) (xs : List A) → map g (map f xs) ≡ map (λ x. g (f x)) xs
+twice : {A B C : Type 0} (f : A → B) (g : B → C) (xs : List A) → map g (map f xs) ≡ map (λ x. g (f x)) xs
 twice f g [] = refl
 twice f g (x ∷ xs) = ap (λ l. g (f x) ∷ l) (twice f g xs)
 
 is_shown : (row : Option table.Form) (form : Form) (typ : ℕ) (w : Wire) (is : List Item) (fs : List Field)
     → IsFormBy row form typ → AreItemsBy row w is
-    → (length form.fields.now ≡ length is → map (λ f. f.name.now) fs ≡ map (λ f. f.0.now) form.fields.now)
+    → (length form.fields.now ≡ length is → map (λ f. f.name.now) fs ≡ map (λ n. n.now) form.fields.now)
     → (length form.fields.now ≡ length is → map (λ f. f.value) fs ≡ is) → IsShownByForm row w fs
 is_shown None form typ w is fs by are names values = absurd by
 is_shown (Some row) form typ w is fs by are names values =
-    let many : length form.fields.now ≡ length is = sym (length-map form.fields.now (λ f. (f.0.now, forms.kind_of f.1)))
-    ∙ ap length by.0.fields ∙ sym (length-map row.fields (λ f. f.1)) ∙ sym (ap length are.kinds)
+    let many : length form.fields.now ≡ length is = sym (length-map form.fields.now (λ n. n.now)) ∙ ap length by.0.names
+    ∙ length-map row.fields (λ f. f.0) ∙ sym (length-map row.fields (λ f. f.1)) ∙ sym (ap length are.kinds)
     ∙ length-map is kind_of in
-    let named : map (λ f. f.0.now) form.fields.now ≡ names_of row =
-    sym (twice (λ f. (f.0.now, forms.kind_of f.1)) (λ f. f.0) form.fields.now) ∙ ap (map (λ f. f.0)) by.0.fields in
     record {
-      names = names many ∙ named;
+      names = names many ∙ by.0.names;
       kinds = sym (twice (λ f. f.value) kind_of fs) ∙ ap (map kind_of) (values many) ∙ are.kinds;
       values = sym (twice (λ f. f.value) value_of fs) ∙ ap (map value_of) (values many) ∙ are.values;
     }
@@ -38,7 +34,7 @@ is_shown (Some row) form typ w is fs by are names values =
 pub is_answered : {E : Type 0} (row : Option table.Form) (form : Form) (typ : ℕ) (w : Wire) (is : List Item)
     (r : Result (Vec Field) E) → IsFormBy row form typ → AreItemsBy row w is
     → IfOk r (λ fs. length form.fields.now ≡ length is
-    → map (λ f. f.name.now) fs.items ≡ map (λ f. f.0.now) form.fields.now)
+    → map (λ f. f.name.now) fs.items ≡ map (λ n. n.now) form.fields.now)
     → IfOk r (λ fs. length form.fields.now ≡ length is → map (λ f. f.value) fs.items ≡ is)
     → IfOk r (λ fs. IsShownByForm row w fs.items)
 is_answered row form typ w is (Ok fs) by are names values = is_shown row form typ w is fs.items by are names values

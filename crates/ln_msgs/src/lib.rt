@@ -9,7 +9,7 @@ mod pings;
 mod refusals;
 
 pub use codec::decoding::{decode, one_message};
-pub use codec::encoding::encode;
+pub use codec::encoding::{LONGEST_MESSAGE, encode};
 pub use codec::fitting::fits;
 pub use frames::frame::frames_are_unique;
 pub use frames::framer::{Framer, any_pieces};
@@ -30,4 +30,5 @@ pub use messages::updates::{
 };
 pub use pings::answer::answer_pings;
 pub use pings::counted::Counted;
+pub use pings::outgoing::write_out;
 pub use refusals::refusal::Refusal;

@@ -1,13 +1,13 @@
 //! Text to a writer.
 
-ghost use Rattle.std.specs.Prelude.{◌≡◌, ◌⊎◌, ◌≤◌, OnOk, IfErr};
+ghost use Rattle.std.specs.Prelude.{◌≡◌, ◌⊎◌, OnOk, IfErr};
 ghost use Rattle.std.specs.Io.KnownBytes.{Appends};
 ghost use Rattle.ln_msgs.specs.declared.refusals.refusal.Refusal.TheVariants.{Memory, Io};
 ghost use Rattle.ln_msgs.specs.Pings.Counted.{HasRisen};
 ghost use Rattle.ln_msgs.specs.Pings.CountedView.{inner_of, failures_of};
 ghost use Rattle.ln_msgs.specs.Pings.Written.{IsPartlyWritten};
 
-use ln_msgs::{Counted, Refusal};
+use ln_msgs::{Counted, Refusal, write_out};
 use ln_world::World;
 use std::alloc::Global;
 use std::io::Write;
@@ -25,23 +25,6 @@ pub fn print_all<W: Write>(writer: &mut Counted<W>, text: &str) -> Result<(), Re
         Ok(()) => Ok(()),
         Err(_) => Err(Refusal::Io),
     }
-}
-
-/// Writes the bytes, in as few calls as the writer allows.
-fn write_out<W: Write>(bytes: &[u8], writer: &mut Counted<W>) -> Result<(), Refusal>
-    ensures ok { OnOk result (Appends (W.contents (inner_of writer.old)) (W.contents (inner_of writer.new)) bytes.now) }
-    ensures front { IsPartlyWritten (W.contents (inner_of writer.old)) (W.contents (inner_of writer.new)) bytes.now }
-    ensures cause { IfErr result (λ e. (e ≡ Io) × HasRisen (failures_of writer.old) (failures_of writer.new)) }
-    ensures failures { failures_of writer.old ≤ failures_of writer.new }
-{
-    let mut written = 0;
-    while written < bytes.len() {
-        match writer.write(&bytes[written..]) {
-            Ok(count) if count > 0 => written += count,
-            _ => return Err(Refusal::Io),
-        }
-    }
-    Ok(())
 }
 
 /// Writes what a world's steps did, line by line, and how each end of its channel stands. Takes memory for the text.

@@ -34,37 +34,9 @@ fn may_be_ignored(typ: u16) -> bool
 fn check_form(form: &Form, payload: &[u8]) -> Result<(), Fault>
     ensures { (row : Row) (typ : ℕ) → IsRow row form.now → result ≡ checked (formed_at row typ payload.now) }
 {
-    let rest = past_fields(form.fields, payload)?;
+    let rest = past(form.fixed, payload)?;
+    let rest = past_fields(form.others, rest)?;
     check_records(rest, form.known_even, form.lengths)
-}
-
-/// What follows the fields.
-fn past_fields<'a>(fields: &[(&'static str, Kind)], bytes: &'a [u8]) -> Result<&'a [u8], Fault>
-    ensures { Reads (λ rest. rest.now) result (behind_fields (map (λ f. kind_of f.1) fields.now) bytes.now) }
-{
-    let mut rest = bytes;
-    for field in fields {
-        rest = past_field(field.1, rest)?;
-    }
-    Ok(rest)
-}
-
-/// What follows a field.
-#[tactic(auto, unfolding(crate::specs::Codec::Field::string_at, crate::specs::Codec::Field::list_at))]
-fn past_field(kind: Kind, bytes: &[u8]) -> Result<&[u8], Fault>
-    ensures { Reads (λ rest. rest.now) result (behind_field (kind_of kind) bytes.now) }
-{
-    match kind {
-        Kind::Number(size) | Kind::Fixed(size) => past(size, bytes),
-        Kind::Sized => {
-            let (len, rest) = u16_at(bytes)?;
-            past(usize::from(len), rest)
-        }
-        Kind::Listed => {
-            let (count, rest) = u16_at(bytes)?;
-            past(64 * usize::from(count), rest)
-        }
-    }
 }
 
 /// What follows so many bytes.
@@ -75,4 +47,27 @@ fn past(size: usize, bytes: &[u8]) -> Result<&[u8], Fault>
         return Err(Fault::Truncated);
     }
     Ok(&bytes[size..])
+}
+
+/// What follows the fields.
+fn past_fields<'a>(kinds: &[Kind], bytes: &'a [u8]) -> Result<&'a [u8], Fault>
+    ensures { Reads (λ rest. rest.now) result (behind_fields (map kind_of kinds.now) bytes.now) }
+{
+    let mut rest = bytes;
+    for kind in kinds {
+        rest = past_field(*kind, rest)?;
+    }
+    Ok(rest)
+}
+
+/// What follows a field.
+#[tactic(auto, unfolding(crate::specs::Codec::Field::string_at, crate::specs::Codec::Field::list_at))]
+fn past_field(kind: Kind, bytes: &[u8]) -> Result<&[u8], Fault>
+    ensures { Reads (λ rest. rest.now) result (behind_field (kind_of kind) bytes.now) }
+{
+    let (count, rest) = u16_at(bytes)?;
+    match kind {
+        Kind::Sized => past(usize::from(count), rest),
+        Kind::Listed => past(64 * usize::from(count), rest),
+    }
 }

@@ -7,7 +7,7 @@ ghost use Rattle.ln_msgs.specs.Messages.Table.{form_of};
 ghost use Rattle.ln_msgs.specs.Messages.Message.{Heard, Says, payload_at, message_at};
 ghost use Rattle.ln_msgs.specs.Messages.Typed.{heard};
 
-use crate::codec::encoding::LONGEST;
+use crate::codec::encoding::LONGEST_MESSAGE;
 use crate::codec::field::u16_at;
 use crate::messages::closing::{read_closing_signed, read_shutdown};
 use crate::messages::commitments::{
@@ -53,7 +53,7 @@ pub fn decode(alloc: Global, bytes: &[u8]) -> Result<Incoming, Fault>
 fn read_message(alloc: Global, bytes: &[u8]) -> Result<Incoming, Fault>
     ensures { Gives heard result (message_at bytes.now) }
 {
-    if bytes.len() > LONGEST {
+    if bytes.len() > LONGEST_MESSAGE {
         return Err(Fault::TooLong);
     }
     let (typ, payload) = u16_at(bytes)?;

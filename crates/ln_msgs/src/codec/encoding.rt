@@ -18,8 +18,8 @@ use crate::messages::message::Message;
 use ln_bytes::{Fault, Record, append_tlvs, tlvs_len};
 use std::alloc::Global;
 
-/// The most bytes that a message has.
-pub(crate) const LONGEST: usize = 65_535;
+/// The most bytes that a message has (BOLT 1, "Lightning Message Format").
+pub const LONGEST_MESSAGE: usize = 65_535;
 
 /// The bytes of a message (BOLT 1, "Lightning Message Format"): its type in two bytes, the highest first, its
 /// fields, and its records as a TLV stream. Takes memory for them once, and copies each field once.
@@ -33,12 +33,12 @@ pub fn encode(alloc: Global, message: &Message) -> Result<Vec<u8>, Fault>
 
     // What is written is the message's spelling, which is read as this message again.
     ensures writes_the_message { IfOk result (λ v. (v.items ≡ wire_bytes (wire message.now))
-        × (length v.items ≤ LONGEST)) }
+        × (length v.items ≤ LONGEST_MESSAGE)) }
     ensures says_the_message { IfOk result (λ v. Says (Known (wire message.now)) v.items) }
 
     // It is refused where it is too long, and only by that or want of memory.
     ensures refuses_what_is_too_long { IsErrOf result Fault.TooLong
-        ↔ (LONGEST < length (wire_bytes (wire message.now))) }
+        ↔ (LONGEST_MESSAGE < length (wire_bytes (wire message.now))) }
     ensures has_one_of_two_faults { IfErr result (λ e. (e ≡ Fault.TooLong) ⊎ (e ≡ Fault.Memory)) }
 {
     encode_parts(alloc, message)
@@ -75,9 +75,9 @@ fn put_parts(
     records: &[Record],
 ) -> Result<Vec<u8>, Fault>
     ensures writes_the_parts { IfOk result (λ v. (v.items ≡ parts_bytes typ fields.now records.now)
-        × (length v.items ≤ LONGEST) × AreFit records.now × AreProper fields.now) }
+        × (length v.items ≤ LONGEST_MESSAGE) × AreFit records.now × AreProper fields.now) }
     ensures refuses_what_is_too_long { IsErrOf result Fault.TooLong
-        ↔ (LONGEST < length (parts_bytes typ fields.now records.now)) }
+        ↔ (LONGEST_MESSAGE < length (parts_bytes typ fields.now records.now)) }
     ensures has_one_of_two_faults { IfErr result (λ e. (e ≡ Fault.TooLong) ⊎ (e ≡ Fault.Memory)) }
 {
     let Some(len) = parts_len(fields, records) else {
@@ -92,13 +92,13 @@ fn put_parts(
 
 /// How many bytes the message is, or none where they are too many.
 fn parts_len(fields: &[Item<'_>], records: &[Record]) -> Option<usize>
-    ensures none_is_too_many { IfNone result (LONGEST < 2 + length (items_bytes fields.now)
+    ensures none_is_too_many { IfNone result (LONGEST_MESSAGE < 2 + length (items_bytes fields.now)
         + length (stream_bytes records.now)) }
     ensures counts_the_bytes { IfSome result (λ n.
-        (n ≡ 2 + length (items_bytes fields.now) + length (stream_bytes records.now)) × (n ≤ LONGEST)) }
+        (n ≡ 2 + length (items_bytes fields.now) + length (stream_bytes records.now)) × (n ≤ LONGEST_MESSAGE)) }
 {
-    let fields_len = fields_len(fields, LONGEST - 2)?;
-    let records_len = tlvs_len(records, LONGEST - 2 - fields_len)?;
+    let fields_len = fields_len(fields, LONGEST_MESSAGE - 2)?;
+    let records_len = tlvs_len(records, LONGEST_MESSAGE - 2 - fields_len)?;
     Some(2 + fields_len + records_len)
 }
 
@@ -148,7 +148,7 @@ fn signatures_len(list: &[[u8; 64]]) -> u128
 }
 
 fn put_fields(out: &mut Vec<u8>, fields: &[Item<'_>]) -> Result<(), Fault>
-    requires { length (items_bytes fields.now) ≤ LONGEST }
+    requires { length (items_bytes fields.now) ≤ LONGEST_MESSAGE }
     ensures appends_the_fields { OnOk result (out.new.items ≡ out.old.items ++ items_bytes fields.now) }
     ensures has_values_of_their_kinds { OnOk result (AreProper fields.now) }
     ensures fails_for_memory_alone { IfErr result (λ e. e ≡ Fault.Memory) }
@@ -160,7 +160,7 @@ fn put_fields(out: &mut Vec<u8>, fields: &[Item<'_>]) -> Result<(), Fault>
 }
 
 fn put_item(out: &mut Vec<u8>, item: &Item<'_>) -> Result<(), Fault>
-    requires { length (item_bytes «item».now) ≤ LONGEST }
+    requires { length (item_bytes «item».now) ≤ LONGEST_MESSAGE }
     ensures appends_the_value { OnOk result (out.new.items ≡ out.old.items ++ item_bytes «item».now) }
     ensures has_a_value_of_its_kind { OnOk result (IsOf (kind_of «item».now) (value_of «item».now)) }
     ensures fails_for_memory_alone { IfErr result (λ e. e ≡ Fault.Memory) }
@@ -182,7 +182,7 @@ fn put_item(out: &mut Vec<u8>, item: &Item<'_>) -> Result<(), Fault>
 
 /// Their count, and the signatures one after the other.
 fn put_signatures(out: &mut Vec<u8>, list: &[[u8; 64]]) -> Result<(), Fault>
-    requires { length (concat list.now) ≤ LONGEST }
+    requires { length (concat list.now) ≤ LONGEST_MESSAGE }
     ensures appends_the_signatures { OnOk result (out.new.items ≡ out.old.items
         ++ (big_bytes 2 (length list.now) ++ concat list.now)) }
     ensures has_signatures_of_64_bytes { OnOk result ((length list.now < 65536)

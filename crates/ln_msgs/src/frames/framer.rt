@@ -7,6 +7,7 @@ ghost use Rattle.ln_msgs.specs.Frames.Framer.{Fed, HearsFront, HasHeard, Runs, C
 ghost use Rattle.ln_msgs.specs.Frames.Frame.{Hears, EndsHearing};
 
 use crate::codec::decoding::decode;
+use crate::codec::encoding::LONGEST_MESSAGE;
 use crate::frames::frame::next_frame;
 use crate::messages::message::Incoming;
 use ln_bytes::Fault;
@@ -23,8 +24,8 @@ pub struct Framer {
     fault: Option<Fault>,
 }
 
-/// The most bytes that a frame has which isn't whole.
-const MOST_HELD: usize = 65_536;
+/// The most bytes that a frame has which isn't whole: one fewer than its length and the longest message.
+const MOST_HELD: usize = 1 + LONGEST_MESSAGE;
 
 impl Model for Framer {
     ghost use Rattle.ln_msgs.specs.Frames.Framer.{Fed};

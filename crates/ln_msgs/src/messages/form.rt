@@ -1,25 +1,23 @@
 //! What each type of message has beside its values.
 
-/// What a field is (BOLT 1, "Fundamental Types").
+/// A field that hasn't the same size in every message (BOLT 1, "Fundamental Types").
 #[derive(Clone, Copy)]
 pub(crate) enum Kind {
-    /// A number of so many bytes, the highest first.
-    Number(usize),
-    /// So many bytes.
-    Fixed(usize),
     /// Bytes behind their length in two bytes.
     Sized,
     /// Signatures behind their count in two bytes.
     Listed,
 }
 
-/// A type of message: its number and name, its fields by name and kind, the even types of record that it may carry,
-/// and the types of record whose value has one length, with that length.
-#[derive(Clone, Copy)]
+/// A type of message: its number and name, the names of its fields, how many bytes those have that have one size and
+/// stand first, the kinds of the others, the even types of record that it may carry, and the types of record whose
+/// value has one length, with that length.
 pub(crate) struct Form {
     pub(crate) typ: u16,
     pub(crate) name: &'static str,
-    pub(crate) fields: &'static [(&'static str, Kind)],
+    pub(crate) fields: &'static [&'static str],
+    pub(crate) fixed: usize,
+    pub(crate) others: &'static [Kind],
     pub(crate) known_even: &'static [u64],
     pub(crate) lengths: &'static [(u64, usize)],
 }
@@ -27,7 +25,9 @@ pub(crate) struct Form {
 pub(crate) const WARNING: &Form = &Form {
     typ: 1,
     name: "warning",
-    fields: &[("channel_id", Kind::Fixed(32)), ("data", Kind::Sized)],
+    fields: &["channel_id", "data"],
+    fixed: 32,
+    others: &[Kind::Sized],
     known_even: &[],
     lengths: &[],
 };
@@ -35,7 +35,9 @@ pub(crate) const WARNING: &Form = &Form {
 pub(crate) const INIT: &Form = &Form {
     typ: 16,
     name: "init",
-    fields: &[("global_features", Kind::Sized), ("features", Kind::Sized)],
+    fields: &["global_features", "features"],
+    fixed: 0,
+    others: &[Kind::Sized, Kind::Sized],
     known_even: &[],
     lengths: &[],
 };
@@ -43,7 +45,9 @@ pub(crate) const INIT: &Form = &Form {
 pub(crate) const ERROR: &Form = &Form {
     typ: 17,
     name: "error",
-    fields: &[("channel_id", Kind::Fixed(32)), ("data", Kind::Sized)],
+    fields: &["channel_id", "data"],
+    fixed: 32,
+    others: &[Kind::Sized],
     known_even: &[],
     lengths: &[],
 };
@@ -51,10 +55,9 @@ pub(crate) const ERROR: &Form = &Form {
 pub(crate) const PING: &Form = &Form {
     typ: 18,
     name: "ping",
-    fields: &[
-        ("num_pong_bytes", Kind::Number(2)),
-        ("ignored", Kind::Sized),
-    ],
+    fields: &["num_pong_bytes", "ignored"],
+    fixed: 2,
+    others: &[Kind::Sized],
     known_even: &[],
     lengths: &[],
 };
@@ -62,7 +65,9 @@ pub(crate) const PING: &Form = &Form {
 pub(crate) const PONG: &Form = &Form {
     typ: 19,
     name: "pong",
-    fields: &[("ignored", Kind::Sized)],
+    fields: &["ignored"],
+    fixed: 0,
+    others: &[Kind::Sized],
     known_even: &[],
     lengths: &[],
 };
@@ -71,25 +76,27 @@ pub(crate) const OPEN_CHANNEL: &Form = &Form {
     typ: 32,
     name: "open_channel",
     fields: &[
-        ("chain_hash", Kind::Fixed(32)),
-        ("temporary_id", Kind::Fixed(32)),
-        ("funding_satoshis", Kind::Number(8)),
-        ("push_msat", Kind::Number(8)),
-        ("dust_limit_satoshis", Kind::Number(8)),
-        ("max_htlc_value_in_flight_msat", Kind::Number(8)),
-        ("channel_reserve_satoshis", Kind::Number(8)),
-        ("htlc_minimum_msat", Kind::Number(8)),
-        ("feerate_per_kw", Kind::Number(4)),
-        ("to_self_delay", Kind::Number(2)),
-        ("max_accepted_htlcs", Kind::Number(2)),
-        ("funding_pubkey", Kind::Fixed(33)),
-        ("revocation_basepoint", Kind::Fixed(33)),
-        ("payment_basepoint", Kind::Fixed(33)),
-        ("delayed_payment_basepoint", Kind::Fixed(33)),
-        ("htlc_basepoint", Kind::Fixed(33)),
-        ("first_per_commitment_point", Kind::Fixed(33)),
-        ("channel_flags", Kind::Number(1)),
+        "chain_hash",
+        "temporary_id",
+        "funding_satoshis",
+        "push_msat",
+        "dust_limit_satoshis",
+        "max_htlc_value_in_flight_msat",
+        "channel_reserve_satoshis",
+        "htlc_minimum_msat",
+        "feerate_per_kw",
+        "to_self_delay",
+        "max_accepted_htlcs",
+        "funding_pubkey",
+        "revocation_basepoint",
+        "payment_basepoint",
+        "delayed_payment_basepoint",
+        "htlc_basepoint",
+        "first_per_commitment_point",
+        "channel_flags",
     ],
+    fixed: 319,
+    others: &[],
     known_even: &[0],
     lengths: &[],
 };
@@ -98,21 +105,23 @@ pub(crate) const ACCEPT_CHANNEL: &Form = &Form {
     typ: 33,
     name: "accept_channel",
     fields: &[
-        ("temporary_id", Kind::Fixed(32)),
-        ("dust_limit_satoshis", Kind::Number(8)),
-        ("max_htlc_value_in_flight_msat", Kind::Number(8)),
-        ("channel_reserve_satoshis", Kind::Number(8)),
-        ("htlc_minimum_msat", Kind::Number(8)),
-        ("minimum_depth", Kind::Number(4)),
-        ("to_self_delay", Kind::Number(2)),
-        ("max_accepted_htlcs", Kind::Number(2)),
-        ("funding_pubkey", Kind::Fixed(33)),
-        ("revocation_basepoint", Kind::Fixed(33)),
-        ("payment_basepoint", Kind::Fixed(33)),
-        ("delayed_payment_basepoint", Kind::Fixed(33)),
-        ("htlc_basepoint", Kind::Fixed(33)),
-        ("first_per_commitment_point", Kind::Fixed(33)),
+        "temporary_id",
+        "dust_limit_satoshis",
+        "max_htlc_value_in_flight_msat",
+        "channel_reserve_satoshis",
+        "htlc_minimum_msat",
+        "minimum_depth",
+        "to_self_delay",
+        "max_accepted_htlcs",
+        "funding_pubkey",
+        "revocation_basepoint",
+        "payment_basepoint",
+        "delayed_payment_basepoint",
+        "htlc_basepoint",
+        "first_per_commitment_point",
     ],
+    fixed: 270,
+    others: &[],
     known_even: &[0],
     lengths: &[],
 };
@@ -120,12 +129,9 @@ pub(crate) const ACCEPT_CHANNEL: &Form = &Form {
 pub(crate) const FUNDING_CREATED: &Form = &Form {
     typ: 34,
     name: "funding_created",
-    fields: &[
-        ("temporary_id", Kind::Fixed(32)),
-        ("funding_txid", Kind::Fixed(32)),
-        ("output_index", Kind::Number(2)),
-        ("signature", Kind::Fixed(64)),
-    ],
+    fields: &["temporary_id", "funding_txid", "output_index", "signature"],
+    fixed: 130,
+    others: &[],
     known_even: &[],
     lengths: &[],
 };
@@ -133,10 +139,9 @@ pub(crate) const FUNDING_CREATED: &Form = &Form {
 pub(crate) const FUNDING_SIGNED: &Form = &Form {
     typ: 35,
     name: "funding_signed",
-    fields: &[
-        ("channel_id", Kind::Fixed(32)),
-        ("signature", Kind::Fixed(64)),
-    ],
+    fields: &["channel_id", "signature"],
+    fixed: 96,
+    others: &[],
     known_even: &[],
     lengths: &[],
 };
@@ -144,10 +149,9 @@ pub(crate) const FUNDING_SIGNED: &Form = &Form {
 pub(crate) const CHANNEL_READY: &Form = &Form {
     typ: 36,
     name: "channel_ready",
-    fields: &[
-        ("channel_id", Kind::Fixed(32)),
-        ("second_point", Kind::Fixed(33)),
-    ],
+    fields: &["channel_id", "second_point"],
+    fixed: 65,
+    others: &[],
     known_even: &[],
     lengths: &[(1, 8)],
 };
@@ -155,7 +159,9 @@ pub(crate) const CHANNEL_READY: &Form = &Form {
 pub(crate) const SHUTDOWN: &Form = &Form {
     typ: 38,
     name: "shutdown",
-    fields: &[("channel_id", Kind::Fixed(32)), ("script", Kind::Sized)],
+    fields: &["channel_id", "script"],
+    fixed: 32,
+    others: &[Kind::Sized],
     known_even: &[],
     lengths: &[],
 };
@@ -163,11 +169,9 @@ pub(crate) const SHUTDOWN: &Form = &Form {
 pub(crate) const CLOSING_SIGNED: &Form = &Form {
     typ: 39,
     name: "closing_signed",
-    fields: &[
-        ("channel_id", Kind::Fixed(32)),
-        ("fee_satoshis", Kind::Number(8)),
-        ("signature", Kind::Fixed(64)),
-    ],
+    fields: &["channel_id", "fee_satoshis", "signature"],
+    fixed: 104,
+    others: &[],
     known_even: &[],
     lengths: &[(1, 16)],
 };
@@ -176,13 +180,15 @@ pub(crate) const UPDATE_ADD_HTLC: &Form = &Form {
     typ: 128,
     name: "update_add_htlc",
     fields: &[
-        ("channel_id", Kind::Fixed(32)),
-        ("id", Kind::Number(8)),
-        ("amount_msat", Kind::Number(8)),
-        ("payment_hash", Kind::Fixed(32)),
-        ("cltv_expiry", Kind::Number(4)),
-        ("onion", Kind::Fixed(1366)),
+        "channel_id",
+        "id",
+        "amount_msat",
+        "payment_hash",
+        "cltv_expiry",
+        "onion",
     ],
+    fixed: 1450,
+    others: &[],
     known_even: &[],
     lengths: &[],
 };
@@ -190,11 +196,9 @@ pub(crate) const UPDATE_ADD_HTLC: &Form = &Form {
 pub(crate) const UPDATE_FULFILL_HTLC: &Form = &Form {
     typ: 130,
     name: "update_fulfill_htlc",
-    fields: &[
-        ("channel_id", Kind::Fixed(32)),
-        ("id", Kind::Number(8)),
-        ("preimage", Kind::Fixed(32)),
-    ],
+    fields: &["channel_id", "id", "preimage"],
+    fixed: 72,
+    others: &[],
     known_even: &[],
     lengths: &[],
 };
@@ -202,11 +206,9 @@ pub(crate) const UPDATE_FULFILL_HTLC: &Form = &Form {
 pub(crate) const UPDATE_FAIL_HTLC: &Form = &Form {
     typ: 131,
     name: "update_fail_htlc",
-    fields: &[
-        ("channel_id", Kind::Fixed(32)),
-        ("id", Kind::Number(8)),
-        ("reason", Kind::Sized),
-    ],
+    fields: &["channel_id", "id", "reason"],
+    fixed: 40,
+    others: &[Kind::Sized],
     known_even: &[],
     lengths: &[],
 };
@@ -214,11 +216,9 @@ pub(crate) const UPDATE_FAIL_HTLC: &Form = &Form {
 pub(crate) const COMMITMENT_SIGNED: &Form = &Form {
     typ: 132,
     name: "commitment_signed",
-    fields: &[
-        ("channel_id", Kind::Fixed(32)),
-        ("signature", Kind::Fixed(64)),
-        ("htlc_signatures", Kind::Listed),
-    ],
+    fields: &["channel_id", "signature", "htlc_signatures"],
+    fixed: 96,
+    others: &[Kind::Listed],
     known_even: &[],
     lengths: &[],
 };
@@ -226,11 +226,9 @@ pub(crate) const COMMITMENT_SIGNED: &Form = &Form {
 pub(crate) const REVOKE_AND_ACK: &Form = &Form {
     typ: 133,
     name: "revoke_and_ack",
-    fields: &[
-        ("channel_id", Kind::Fixed(32)),
-        ("secret", Kind::Fixed(32)),
-        ("next_point", Kind::Fixed(33)),
-    ],
+    fields: &["channel_id", "secret", "next_point"],
+    fixed: 97,
+    others: &[],
     known_even: &[],
     lengths: &[],
 };
@@ -238,10 +236,9 @@ pub(crate) const REVOKE_AND_ACK: &Form = &Form {
 pub(crate) const UPDATE_FEE: &Form = &Form {
     typ: 134,
     name: "update_fee",
-    fields: &[
-        ("channel_id", Kind::Fixed(32)),
-        ("feerate_per_kw", Kind::Number(4)),
-    ],
+    fields: &["channel_id", "feerate_per_kw"],
+    fixed: 36,
+    others: &[],
     known_even: &[],
     lengths: &[],
 };
@@ -249,12 +246,9 @@ pub(crate) const UPDATE_FEE: &Form = &Form {
 pub(crate) const UPDATE_FAIL_MALFORMED_HTLC: &Form = &Form {
     typ: 135,
     name: "update_fail_malformed_htlc",
-    fields: &[
-        ("channel_id", Kind::Fixed(32)),
-        ("id", Kind::Number(8)),
-        ("sha256_of_onion", Kind::Fixed(32)),
-        ("failure_code", Kind::Number(2)),
-    ],
+    fields: &["channel_id", "id", "sha256_of_onion", "failure_code"],
+    fixed: 74,
+    others: &[],
     known_even: &[],
     lengths: &[],
 };
@@ -263,12 +257,14 @@ pub(crate) const CHANNEL_REESTABLISH: &Form = &Form {
     typ: 136,
     name: "channel_reestablish",
     fields: &[
-        ("channel_id", Kind::Fixed(32)),
-        ("next_commitment_number", Kind::Number(8)),
-        ("next_revocation_number", Kind::Number(8)),
-        ("last_secret", Kind::Fixed(32)),
-        ("current_point", Kind::Fixed(33)),
+        "channel_id",
+        "next_commitment_number",
+        "next_revocation_number",
+        "last_secret",
+        "current_point",
     ],
+    fixed: 113,
+    others: &[],
     known_even: &[],
     lengths: &[],
 };

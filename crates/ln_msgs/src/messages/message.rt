@@ -3,7 +3,7 @@
 use crate::messages::closing::{ClosingSigned, Shutdown};
 use crate::messages::commitments::{ChannelReestablish, CommitmentSigned, RevokeAndAck};
 use crate::messages::form;
-use crate::messages::form::{Form, Kind};
+use crate::messages::form::Form;
 use crate::messages::item::{Field, Item};
 use crate::messages::item_list::Items;
 use crate::messages::opening::{
@@ -184,18 +184,18 @@ impl Message {
 /// The values with their names. Takes memory for the list, once.
 fn named<'a>(
     alloc: Global,
-    forms: &[(&'static str, Kind)],
+    names: &[&'static str],
     items: &[Item<'a>],
 ) -> Result<Vec<Field<'a>>, AllocError>
-    ensures has_the_names { IfOk result (λ fs. length forms.now ≡ length items.now
-        → map (λ f. f.name.now) fs.items ≡ map (λ f. f.0.now) forms.now) }
-    ensures has_the_values { IfOk result (λ fs. length forms.now ≡ length items.now
+    ensures has_the_names { IfOk result (λ fs. length names.now ≡ length items.now
+        → map (λ f. f.name.now) fs.items ≡ map (λ n. n.now) names.now) }
+    ensures has_the_values { IfOk result (λ fs. length names.now ≡ length items.now
         → map (λ f. f.value) fs.items ≡ items.now) }
 {
     let mut fields = Vec::with_capacity(alloc, items.len())?;
-    for (form, value) in forms.iter().zip(items) {
+    for (name, value) in names.iter().zip(items) {
         fields.push(Field {
-            name: form.0,
+            name: *name,
             value: *value,
         })?;
     }

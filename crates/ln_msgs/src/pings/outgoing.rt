@@ -6,6 +6,7 @@ ghost use Rattle.ln_msgs.specs.Pings.Counted.{HasRisen};
 ghost use Rattle.ln_msgs.specs.Pings.CountedView.{inner_of, failures_of, calls_of};
 ghost use Rattle.ln_msgs.specs.Pings.Written.{IsPartlyWritten};
 
+use crate::codec::encoding::LONGEST_MESSAGE;
 use crate::pings::counted::Counted;
 use byteorder::{BigEndian, ByteOrder};
 use ln_bytes::Fault;
@@ -17,7 +18,7 @@ use std::marker::Model;
 pub(crate) const FULL: usize = 131_072;
 
 /// The longest frame of a pong: two bytes of length, and as many bytes as a message may have.
-const LONGEST: usize = 65_537;
+const LONGEST_FRAME: usize = 2 + LONGEST_MESSAGE;
 
 /// From so many bytes of pong on, a ping asks for none (BOLT 1, "The `ping` and `pong` Messages").
 pub(crate) const NO_PONG: u16 = 65_532;
@@ -35,14 +36,14 @@ pub(crate) struct Outgoing {
 
 impl Model for Outgoing {
     ghost use Rattle.std.specs.Prelude.{◌+◌, ◌≤◌, vec_capacity};
-    ghost use Rattle.ln_msgs.specs.declared.pings.outgoing.TheConstants.{FULL, LONGEST};
+    ghost use Rattle.ln_msgs.specs.declared.pings.outgoing.TheConstants.{FULL, LONGEST_FRAME};
     ghost use Rattle.ln_msgs.specs.Pings.Outgoing.{Waiting};
 
     ghost Value = { Waiting };
 
     ghost view = { λ o. record { bytes = o.bytes.items; pongs = o.pongs } };
 
-    ghost invariant = { λ o. FULL + LONGEST ≤ vec_capacity o.bytes };
+    ghost invariant = { λ o. FULL + LONGEST_FRAME ≤ vec_capacity o.bytes };
 }
 
 impl Outgoing {
@@ -59,7 +60,7 @@ impl Outgoing {
         ensures has_no_pongs { IfOk result (λ o. o.pongs ≡ 0) }
     {
         Ok(Outgoing {
-            bytes: Vec::with_capacity(alloc, FULL + LONGEST)?,
+            bytes: Vec::with_capacity(alloc, FULL + LONGEST_FRAME)?,
             pongs: 0,
         })
     }
@@ -126,9 +127,10 @@ impl Outgoing {
     }
 }
 
-/// Writes the bytes, in as few calls as the writer allows. A failing write is 63, and what was written by
-/// then is a beginning of the bytes.
-fn write_out<W: Write>(bytes: &[u8], writer: &mut Counted<W>) -> Result<(), Fault>
+/// Writes the bytes, in as few calls as the writer allows, and doesn't flush it. Takes no memory.
+///
+/// The only error is 63, where a write fails or takes nothing; what was written by then is a beginning of the bytes.
+pub fn write_out<W: Write>(bytes: &[u8], writer: &mut Counted<W>) -> Result<(), Fault>
     ensures writes_all { OnOk result (Appends (W.contents (inner_of writer.old))
         (W.contents (inner_of writer.new)) bytes.now) }
     ensures writes_a_beginning { IsPartlyWritten (W.contents (inner_of writer.old))

@@ -5,9 +5,9 @@ use Rattle.ln_msgs.specs.Messages.Forms.{kind_of}
 use Rattle.ln_msgs.proofs.Checking.{list_behind}
 use Rattle.ln_msgs.proofs.codec.checking.past_field.Goals as goal
 
-pub returns-in_ok-count-in-Listed : goal.returns-in_ok-count-in-Listed
-returns-in_ok-count-in-Listed c =
-    let count = c.in_ok-count-in-Listed in
+pub returns-in-Listed : goal.returns-in-Listed
+returns-in-Listed c =
+    let count = c.in_ok-count in
     let same = ap (λ k. behind_field (kind_of k) c.args.bytes.now) c.in-Listed.is
     ∙ list_behind count.count count.rest.now c.args.bytes.now count.ensures
     ∙ ap (λ n. behind (64 * n) count.rest.now) (sym c.from-in-Listed.ensures) in

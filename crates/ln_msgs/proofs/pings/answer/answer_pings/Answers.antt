@@ -1,12 +1,12 @@
 use Rattle.std.proofs.Common.{Ok, ◌≡◌, ◌≢◌, [], ap, sym, subst, ◌∙◌, arith}
-use Rattle.ln_bytes.specs.declared.fault.Fault.TheVariants.{Memory, Io}
+use Rattle.ln_bytes.specs.declared.fault.Fault.TheVariants.{Io}
 use Rattle.std.proofs.lemmas.Bool.{eqb-true}
 use Rattle.std.proofs.lemmas.List.{nil_from_length}
 use Rattle.ln_msgs.specs.Frames.Frame.{HasNoFrame}
 use Rattle.ln_msgs.specs.Pings.Served.{StopsAt}
 use Rattle.ln_msgs.proofs.Progress.{begins, turned, stops, sent_all, filled, anyhow, nothing_done, some_sent, some}
 use Rattle.ln_msgs.proofs.Faults.{not_io, not_memory}
-use Rattle.ln_msgs.proofs.Progress.{up_to_faulty, up_to_cut, not_empty, all_answered}
+use Rattle.ln_msgs.proofs.Progress.{stops_faulty, up_to_faulty, up_to_cut, not_empty, all_answered}
 use Rattle.ln_msgs.proofs.pings.answer.answer_pings.Goals as goal
 use Rattle.ln_msgs.proofs.pings.answer.answer_pings.Goals.{in-Full, in-NoFrame+in_ok-fill-in-NoFrame+else-not-branch}
 
@@ -39,9 +39,9 @@ returns-in-Fault-clause-answers_up_to_the_fault g c ours theirs =
     c.serve-taken.new.out c.as_slice.ensures c.consume.ensures c.turns.invariant.progress
     c.serve-taken.ensures.serves_whole_frames) c.in_ok-send.ensures.sends_all.1 c.in_ok-send.ensures.sends_all.0
     c.send.ensures.keeps_the_count in
-    let at = subst (StopsAt c.consume.new.self) c.in-Fault.is
-    (stops c.turns.input c.as_slice.result.now c.consume.new.self c.serve-taken.result.0 c.serve-taken.result.1
-    c.as_slice.ensures c.consume.ensures c.serve-taken.ensures.stops_for_its_reason) in
+    let at = stops_faulty c.turns.input c.as_slice.result.now c.consume.new.self c.serve-taken.result.0
+    c.serve-taken.result.1 c.in-Fault.fault c.as_slice.ensures c.consume.ensures
+    c.serve-taken.ensures.stops_for_its_reason c.in-Fault.is in
     up_to_faulty _ _ _ _ c.consume.new.self c.send.new.self c.in-Fault.fault p
     c.in_ok-send.ensures.sends_all.0 at
 
@@ -56,19 +56,16 @@ returns-in-Fault-clause-answers_some_if_refused g c =
 
 pub returns-in-Fault-clause-io_is_a_failed_call : goal.returns-in-Fault-clause-io_is_a_failed_call
 returns-in-Fault-clause-io_is_a_failed_call g c is =
-    let at = subst (StopsAt c.consume.new.self) c.in-Fault.is
-    (stops c.turns.input c.as_slice.result.now c.consume.new.self c.serve-taken.result.0 c.serve-taken.result.1
-    c.as_slice.ensures c.consume.ensures c.serve-taken.ensures.stops_for_its_reason) in
     let io : c.in-Fault.fault ≡ Io = cc in
-    absurd (not_io c.consume.new.self c.in-Fault.fault at io)
+    absurd (not_io c.consume.new.self c.in-Fault.fault (stops_faulty c.turns.input c.as_slice.result.now _
+    c.serve-taken.result.0 c.serve-taken.result.1 _ c.as_slice.ensures c.consume.ensures
+    c.serve-taken.ensures.stops_for_its_reason c.in-Fault.is) io)
 
 pub returns-in-Fault-clause-changes_nothing_without_memory : goal.returns-in-Fault-clause-changes_nothing_without_memory
 returns-in-Fault-clause-changes_nothing_without_memory g c is =
-    let at = subst (StopsAt c.consume.new.self) c.in-Fault.is
-    (stops c.turns.input c.as_slice.result.now c.consume.new.self c.serve-taken.result.0 c.serve-taken.result.1
-    c.as_slice.ensures c.consume.ensures c.serve-taken.ensures.stops_for_its_reason) in
-    let memory : c.in-Fault.fault ≡ Memory = cc in
-    absurd (not_memory c.consume.new.self c.in-Fault.fault at memory)
+    absurd (not_memory c.consume.new.self c.in-Fault.fault (stops_faulty c.turns.input c.as_slice.result.now _
+    c.serve-taken.result.0 c.serve-taken.result.1 _ c.as_slice.ensures c.consume.ensures
+    c.serve-taken.ensures.stops_for_its_reason c.in-Fault.is) cc)
 
 pub returns-in_err-fill-in-NoFrame-clause-answers_some_if_refused
     : goal.returns-in_err-fill-in-NoFrame-clause-answers_some_if_refused
