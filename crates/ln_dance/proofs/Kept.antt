@@ -9,7 +9,7 @@ use Rattle.ln_log.specs.Limits.{first_fault}
 use Rattle.ln_log.specs.Log.{Log, Counts, same_counts, after_accept, after_learn}
 use Rattle.ln_dance.specs.declared.dance.Numbers.{Numbers}
 use Rattle.ln_dance.specs.declared.dance.TheConstants.{LAST_NUMBER}
-use Rattle.ln_dance.specs.Dance.{Dancer, IsNumber, AreInStep, owes, is_last, sign_fault}
+use Rattle.ln_dance.specs.Dance.{Dancer, IsNumber, AreInStep, owes, is_last, sign_fault, with_log}
 
 -- ---- results
 
@@ -34,6 +34,9 @@ kept_by n l m x k e a s =
       acknowledged = λ same. ap (λ c. same_counts c x.signed) a
           ∙ ap (same_counts l.acknowledged) s ∙ k.acknowledged same;
     })
+
+pub log_becomes : (v d : Dancer) (f : Log → Log) (m : Log) → v ≡ d → m ≡ f v.log → with_log m v ≡ with_log (f d.log) d
+log_becomes v d f m e h = ap (λ x. with_log x v) h ∙ ap (λ (x : Dancer). with_log (f x.log) x) e
 
 -- ---- signing
 
@@ -89,20 +92,11 @@ kept_signed d m n k e en =
 pub next_below : (n : ℕ) → IsNumber n → n ≢ LAST_NUMBER → IsNumber (n + 1)
 next_below n lt differ = omega (arith, lt, differ)
 
-pub kept_accepted : (d : Dancer) (m : Log) → AreInStep d.numbers d.log → d.numbers.commitment ≢ LAST_NUMBER
-    → m ≡ after_accept d.log
-    → AreInStep (record {
-      commitment = d.numbers.commitment + 1;
-      signed = d.numbers.signed;
-      revoked = d.numbers.revoked;
-    }) m
-kept_accepted d m k differ em =
-    subst (AreInStep (record {
-      commitment = d.numbers.commitment + 1;
-      signed = d.numbers.signed;
-      revoked = d.numbers.revoked;
-    })) (sym em) (record {
-      commitment = next_below d.numbers.commitment k.commitment differ;
+pub kept_accepted : (n : Numbers) (l m : Log) → AreInStep n l → n.commitment ≢ LAST_NUMBER → m ≡ after_accept l
+    → AreInStep (record n { commitment = n.commitment + 1 }) m
+kept_accepted n l m k differ em =
+    subst (AreInStep (record n { commitment = n.commitment + 1 })) (sym em) (record {
+      commitment = next_below n.commitment k.commitment differ;
       signed = k.signed;
       revoked = k.revoked;
       one_unrevoked = k.one_unrevoked;
@@ -114,22 +108,14 @@ kept_accepted d m k differ em =
 same_self : (c : Counts) → same_counts c c ≡ true
 same_self c = ap (λ b. b && (c.peer == c.peer)) (eq-eqb c.own c.own refl) ∙ eq-eqb c.peer c.peer refl
 
-pub kept_learned : (d : Dancer) (m : Log) → AreInStep d.numbers d.log → owes d ≡ true → m ≡ after_learn d.log
-    → AreInStep (record {
-      commitment = d.numbers.commitment;
-      signed = d.numbers.signed;
-      revoked = d.numbers.revoked + 1;
-    }) m
-kept_learned d m k o em =
-    let differ = other_number d.numbers.signed d.numbers.revoked o in
-    subst (AreInStep (record {
-      commitment = d.numbers.commitment;
-      signed = d.numbers.signed;
-      revoked = d.numbers.revoked + 1;
-    })) (sym em) (record {
+pub kept_learned : (n : Numbers) (l m : Log) → AreInStep n l → not (n.signed == n.revoked) ≡ true → m ≡ after_learn l
+    → AreInStep (record n { revoked = n.revoked + 1 }) m
+kept_learned n l m k o em =
+    let differ = other_number n.signed n.revoked o in
+    subst (AreInStep (record n { revoked = n.revoked + 1 })) (sym em) (record {
       commitment = k.commitment;
       signed = k.signed;
       revoked = (let less = k.revoked in omega (arith, less, differ));
       one_unrevoked = (let one = k.one_unrevoked in omega (arith, one));
-      acknowledged = λ _. same_self d.log.signed;
+      acknowledged = λ _. same_self l.signed;
     })

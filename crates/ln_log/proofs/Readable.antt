@@ -4,7 +4,7 @@ use Rattle.std.proofs.Common.{drop, refl, sym, ap, ◌∙◌, subst, arith, Bool
 use Rattle.std.proofs.Common.{Err, Option, Some, None, inl, inr, drop-cons}
 use Rattle.std.proofs.Math.Seq.{take-suc}
 use Rattle.std.proofs.lemmas.Bool.Decides.{eqb_tells}
-use Rattle.std.proofs.lemmas.List.{take_all}
+use Rattle.std.proofs.lemmas.List.{length-take-le, take_all}
 use Rattle.ln_msgs.specs.declared.refusals.refusal.Refusal.{Refusal}
 use Rattle.ln_keys.specs.declared.role.Role.{Role}
 use Rattle.ln_keys.specs.declared.role.Role.TheVariants.{Funder, Fundee}
@@ -12,6 +12,7 @@ use Rattle.ln_keys.specs.Role.{other_role}
 use Rattle.ln_log.specs.declared.opening.Opening.{Opening}
 use Rattle.ln_log.specs.declared.log.Pair.TheVariants as pair
 use Rattle.ln_log.specs.declared.log.Side.TheVariants as side
+use Rattle.ln_log.specs.declared.log.TheConstants.{MOST_UPDATES}
 use Rattle.ln_log.specs.declared.standing.Standing.{Standing}
 use Rattle.ln_log.specs.declared.update.Add.{Add}
 use Rattle.ln_log.specs.declared.update.Removal.{Removal}
@@ -24,10 +25,13 @@ use Rattle.ln_log.specs.Outcomes.{Tells, removals_in}
 use Rattle.ln_log.specs.View.{balance, Pays}
 use Rattle.ln_log.specs.Limits.{standing_of}
 use Rattle.ln_log.specs.Log.{Log, covered, number_after, HasId, AreNumbered, RemovesLive, AreRemovals, IsKept}
+use Rattle.ln_log.specs.Log.{after_drop}
 use Rattle.ln_log.specs.Loading.{IsLawful, CoverAll, AreLawful, IsReadable}
-use Rattle.ln_log.proofs.Outcomes.{next-cons, number_is, above}
+use Rattle.ln_log.proofs.Outcomes.{next-cons, number_is, above, removals-take}
 use Rattle.ln_log.proofs.Sums.{sums, first_sum, pays_longer}
 use Rattle.ln_log.proofs.Live.{counted, wider}
+use Rattle.ln_log.proofs.Standings.{standing_is}
+use Rattle.ln_log.proofs.Kept.{kept_dropped}
 
 -- ---- answers
 
@@ -120,16 +124,11 @@ first_of_rest adds us i u e lt h = (subst (AreRemovals adds (take i us)) (split 
 
 -- ---- how a side stands
 
-pub standing_is : (first : ℕ) (own peer : List Update) (s : Standing) → s.next_id ≡ next_id own
+pub stands_so : (first : ℕ) (own peer : List Update) (s : Standing) → s.next_id ≡ next_id own
     → s.live + removals_in peer ≡ next_id own → s.in_flight ≡ total is_live own peer
     → s.balance ≡ balance first own peer → AreNumbered 0 own → AreRemovals own [] peer → s ≡ standing_of first own peer
-standing_is first own peer s e1 e2 e3 e4 ids removals =
-    let w : Standing = standing_of first own peer in
-    let live : s.live ≡ w.live = omega (arith, e2, counted own peer ids removals) in
-    ap (λ n. record { next_id = n; live = s.live; in_flight = s.in_flight; balance = s.balance }) e1
-    ∙ ap (λ n. record { next_id = w.next_id; live = n; in_flight = s.in_flight; balance = s.balance }) live
-    ∙ ap (λ n. record { next_id = w.next_id; live = w.live; in_flight = n; balance = s.balance }) e3
-    ∙ ap (λ n. record { next_id = w.next_id; live = w.live; in_flight = w.in_flight; balance = n }) e4
+stands_so first own peer s e1 e2 e3 e4 ids removals =
+    standing_is s (standing_of first own peer) e1 (omega (arith, e2, counted own peer ids removals)) e3 e4
 
 -- ---- views
 
@@ -273,3 +272,50 @@ kept_loaded l s p r es ep =
       acknowledged_pays = (r.views (pair.Current side.Peer)).paid;
       current_pays = (r.views (pair.Current side.Own)).paid;
     }
+
+-- ---- what a log keeps can be loaded again
+
+-- where signatures cover all of it
+covers_so : (l : Log) (s t p q : Standing) → IsKept l s t p q → CoverAll l → length l.own ≤ MOST_UPDATES
+    → length l.received ≤ MOST_UPDATES → IsReadable l
+covers_so l s t p q k all own peer =
+    let w = k.within in
+    record {
+      lists = record {
+        funds = k.funds;
+        covered_all = all;
+        own_offered = record { few = own; ids = k.own_ids; amounts = k.own_amounts };
+        peer_offered = record { few = peer; ids = k.peer_ids; amounts = k.peer_amounts };
+      };
+      views = all_views l all
+          (record {
+            own_removals = removals-take (take l.signed.peer l.received) [] l.own l.signed.own k.own_removals;
+            peer_removals = wider l.current.own l.signed.own l.own (take l.signed.peer l.received)
+                (omega (arith, w.own_current, w.own_acknowledged))
+                (removals-take (take l.current.own l.own) [] l.received l.signed.peer k.peer_removals);
+            paid = k.signed_pays;
+          })
+          (record {
+            own_removals = k.acknowledged_removals;
+            peer_removals = wider l.current.own l.acknowledged.own l.own (take l.acknowledged.peer l.received)
+                w.own_current
+                (removals-take (take l.current.own l.own) [] l.received l.acknowledged.peer k.peer_removals);
+            paid = k.acknowledged_pays;
+          })
+          (record {
+            own_removals = wider l.signed.peer l.current.peer l.received (take l.current.own l.own) w.peer_signed
+                (removals-take (take l.signed.peer l.received) [] l.own l.current.own k.own_removals);
+            peer_removals = removals-take (take l.current.own l.own) [] l.received l.current.peer k.peer_removals;
+            paid = k.current_pays;
+          });
+    }
+
+pub loads_again : (l : Log) (s t p q : Standing) → IsKept l s t p q → length l.own ≤ MOST_UPDATES
+    → length l.received ≤ MOST_UPDATES → IsReadable (after_drop l)
+loads_again l s t p q k own peer =
+    let w = k.within in
+    let d = kept_dropped l s t p q k in
+    let cut = length-take-le l.signed.own l.own w.own_signed in
+    let got = length-take-le l.current.peer l.received w.peer_current in
+    covers_so (after_drop l) t t q q d (record { within = d.within; own = sym cut; peer = sym got })
+    (omega (arith, cut, own, w.own_signed)) (omega (arith, got, peer, w.peer_current))

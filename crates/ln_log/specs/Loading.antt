@@ -19,9 +19,9 @@ stored o x own received c = record {
   own = own;
   received = received;
   first = none;
-  signed = record { own = c.signed.own; peer = c.signed.peer };
-  acknowledged = record { own = c.acknowledged.own; peer = c.acknowledged.peer };
-  current = record { own = c.current.own; peer = c.current.peer };
+  signed = c.signed;
+  acknowledged = c.acknowledged;
+  current = c.current;
 }
 
 -- a view in which each removal names an HTLC that is offered and that none before it removes, and in which neither

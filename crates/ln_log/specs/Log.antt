@@ -7,6 +7,7 @@ use Rattle.ln_msgs.specs.declared.refusals.refusal.Refusal.TheVariants as refusa
 use Rattle.ln_keys.specs.declared.role.Role.{Role}
 use Rattle.ln_keys.specs.declared.role.Role.TheVariants.{Funder, Fundee}
 use Rattle.ln_log.specs.declared.opening.Opening.{Opening}
+use Rattle.ln_log.specs.declared.log.Counts as counts
 use Rattle.ln_log.specs.declared.log.Pair.{Pair}
 use Rattle.ln_log.specs.declared.log.Pair.TheVariants as pair
 use Rattle.ln_log.specs.declared.log.Side.{Side}
@@ -27,9 +28,8 @@ use Rattle.ln_log.specs.Limits.{standing_of, update_fault, id_fault, is_at_updat
 use Rattle.ln_log.specs.Machine.{Covered, Party}
 
 -- how many updates of either side
-pub record Counts : Type 0 where
-  pub own : ℕ
-  pub peer : ℕ
+abbrev pub Counts : Type 0
+Counts = counts.Counts
 
 pub record Log : Type 0 where
   pub opening : Opening

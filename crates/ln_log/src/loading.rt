@@ -282,9 +282,9 @@ fn views_are_lawful(
 }
 
 impl UpdateLog {
-    ghost use Rattle.std.specs.Prelude.{◌↔◌, IsTrue, IfOk};
+    ghost use Rattle.std.specs.Prelude.{◌≡◌, ◌↔◌, IsTrue, IfOk, take};
     ghost use Rattle.std.specs.Result.{IsOkUnless};
-    ghost use Rattle.ln_log.specs.Log.{StandsFor};
+    ghost use Rattle.ln_log.specs.Log.{Log, StandsFor, none};
     ghost use Rattle.ln_log.specs.Loading.{stored, IsReadable};
 
     /// Whether a log can be made of what the record of a channel tells of its updates: what both sides agreed on, this
@@ -311,6 +311,24 @@ impl UpdateLog {
             return Ok(false);
         }
         views_are_lawful(alloc, opening, role, own, received, coverage)
+    }
+
+    /// What the three commitments cover: with the updates of both sides that signatures cover, all that a record has to
+    /// tell of them. Of what it tells a log can be made again.
+    pub fn coverage(&self) -> Coverage
+        ensures counts { (l : Log) → StandsFor self.now l
+            → stored l.opening l.role l.own l.received result ≡ record l { first = none } }
+        ensures can_be_loaded { (l : Log) → StandsFor self.now l → IsReadable
+            (stored l.opening l.role (take l.signed.own l.own) (take l.current.peer l.received) result) }
+    {
+        // (a list that lies in memory has no more than 2^62 updates)
+        let _ = self.own.as_slice().len();
+        let _ = self.received.as_slice().len();
+        Coverage {
+            signed: self.signed,
+            acknowledged: self.acknowledged,
+            current: self.current,
+        }
     }
 
     /// The log of what a record tells, which `can_be_loaded` tests. Takes time that grows linearly with the updates. 60

@@ -87,9 +87,9 @@ impl Model for UpdateLog {
       own = l.own.items;
       received = l.received.items;
       first = record { own = 0; peer = 0 };
-      signed = record { own = l.signed.own; peer = l.signed.peer };
-      acknowledged = record { own = l.acknowledged.own; peer = l.acknowledged.peer };
-      current = record { own = l.current.own; peer = l.current.peer };
+      signed = l.signed;
+      acknowledged = l.acknowledged;
+      current = l.current;
     } };
 
     ghost invariant = { λ l. IsKept
@@ -99,9 +99,9 @@ impl Model for UpdateLog {
           own = l.own.items;
           received = l.received.items;
           first = record { own = 0; peer = 0 };
-          signed = record { own = l.signed.own; peer = l.signed.peer };
-          acknowledged = record { own = l.acknowledged.own; peer = l.acknowledged.peer };
-          current = record { own = l.current.own; peer = l.current.peer };
+          signed = l.signed;
+          acknowledged = l.acknowledged;
+          current = l.current;
         })
         l.own_standing l.own_signed l.peer_standing l.peer_current };
 }

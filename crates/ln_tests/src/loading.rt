@@ -45,7 +45,8 @@ fn load(
     }
 }
 
-/// How many HTLCs are live in the own commitment of the log that is loaded, and the id of its next one.
+/// How many HTLCs are live in the own commitment of the log that is loaded, and the id of its next one, where it covers
+/// what was told.
 fn loaded(
     alloc: Global,
     opening: Opening,
@@ -53,8 +54,12 @@ fn loaded(
     lists: [&[What]; 2],
     counts: [usize; 6],
 ) -> Result<Option<(usize, u64)>, Refusal> {
-    let log = load(alloc, opening, role, lists, counts)?;
-    Ok(log.map(|log| (log.live_htlcs(Side::Own), log.next_id())))
+    match load(alloc, opening, role, lists, counts)? {
+        Some(log) if log.coverage() == coverage(counts) => {
+            Ok(Some((log.live_htlcs(Side::Own), log.next_id())))
+        }
+        _ => Ok(None),
+    }
 }
 
 const OFFER: [What; 1] = [Add(0, 5000, 400)];

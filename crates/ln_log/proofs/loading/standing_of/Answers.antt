@@ -1,7 +1,7 @@
 use Rattle.std.proofs.Common.{arith}
 use Rattle.ln_log.specs.Opening.{first_balance}
 use Rattle.ln_log.proofs.Live.{counted}
-use Rattle.ln_log.proofs.Readable.{bounded, standing_is}
+use Rattle.ln_log.proofs.Readable.{bounded, stands_so}
 use Rattle.ln_log.proofs.loading.standing_of.Goals as goal
 
 pub overflow_sub-result : goal.overflow_sub-result
@@ -29,7 +29,7 @@ overflow_cast-result-2 c = omega (
 )
 
 pub returns-clause-ok : goal.returns-clause-ok
-returns-clause-ok c = standing_is (first_balance c.args.opening.now c.args.side) c.args.own.now c.args.peer.now _
+returns-clause-ok c = stands_so (first_balance c.args.opening.now c.args.side) c.args.own.now c.args.peer.now _
     c.count_adds-offered.ensures.count
     (omega (
       arith,

@@ -4,7 +4,7 @@ use Rattle.ln_log.specs.declared.update.Update.{Update}
 use Rattle.ln_log.specs.Updates.{total, is_any, is_failed, is_fulfilled}
 use Rattle.ln_log.specs.View.{htlc_of, live_adds, AddsUp}
 use Rattle.ln_keys.specs.declared.role.Role.TheVariants.{Funder, Fundee}
-use Rattle.ln_log.proofs.Sums.{adds_up, total_splits}
+use Rattle.ln_log.proofs.Sums.{adds_up}
 use Rattle.ln_log.proofs.Signs.{view_is}
 use Rattle.ln_log.proofs.plain.plain_view.Goals as goal
 
@@ -18,60 +18,6 @@ htlcs_are all out both none funder fundee r s ea eb eo en er es =
     ∙ ap (λ hs. hs ++ map (htlc_of Fundee) (live_adds fundee funder)) (eo
     ∙ ap (λ x. none ++ map (htlc_of Funder) (live_adds funder x)) es
     ∙ ap (λ hs. hs ++ map (htlc_of Funder) (live_adds funder fundee)) en)
-
-pub overflow_add-result : goal.overflow_add-result
-overflow_add-result c = omega (
-  arith,
-  c.first_balance.type_inv,
-  c.from-had.ensures,
-  (c.sums_of-out.ensures.failed ∙ ap (total is_failed c.args.funder.now) c.in_ok-of_funder.ensures.ok),
-  (c.sums_of-out.ensures.offered ∙ ap (total is_any c.args.funder.now) c.in_ok-of_funder.ensures.ok),
-  c.sums_of-out.ensures.offered_fits,
-  total_splits c.args.funder.now c.args.fundee.now,
-)
-
-pub overflow_add-result-2 : goal.overflow_add-result-2
-overflow_add-result-2 c =
-    omega (
-      arith,
-      c.first_balance.type_inv,
-      c.from-had.ensures,
-      (c.sums_of-out.ensures.failed ∙ ap (total is_failed c.args.funder.now) c.in_ok-of_funder.ensures.ok),
-      (c.sums_of-out.ensures.offered ∙ ap (total is_any c.args.funder.now) c.in_ok-of_funder.ensures.ok),
-      c.sums_of-out.ensures.offered_fits,
-      total_splits c.args.funder.now c.args.fundee.now,
-      (c.sums_of-back.ensures.fulfilled ∙ ap (total is_fulfilled c.args.fundee.now) c.in_ok-of_fundee.ensures.ok),
-      (c.sums_of-back.ensures.offered ∙ ap (total is_any c.args.fundee.now) c.in_ok-of_fundee.ensures.ok),
-      c.sums_of-back.ensures.offered_fits,
-      total_splits c.args.fundee.now c.args.funder.now,
-    )
-
-pub overflow_add-result-3 : goal.overflow_add-result-3
-overflow_add-result-3 c = omega (
-  arith,
-  c.first_balance-2.type_inv,
-  c.from-got.ensures,
-  (c.sums_of-back.ensures.failed ∙ ap (total is_failed c.args.fundee.now) c.in_ok-of_fundee.ensures.ok),
-  (c.sums_of-back.ensures.offered ∙ ap (total is_any c.args.fundee.now) c.in_ok-of_fundee.ensures.ok),
-  c.sums_of-back.ensures.offered_fits,
-  total_splits c.args.fundee.now c.args.funder.now,
-)
-
-pub overflow_add-result-4 : goal.overflow_add-result-4
-overflow_add-result-4 c =
-    omega (
-      arith,
-      c.first_balance-2.type_inv,
-      c.from-got.ensures,
-      (c.sums_of-back.ensures.failed ∙ ap (total is_failed c.args.fundee.now) c.in_ok-of_fundee.ensures.ok),
-      (c.sums_of-back.ensures.offered ∙ ap (total is_any c.args.fundee.now) c.in_ok-of_fundee.ensures.ok),
-      c.sums_of-back.ensures.offered_fits,
-      total_splits c.args.fundee.now c.args.funder.now,
-      (c.sums_of-out.ensures.fulfilled ∙ ap (total is_fulfilled c.args.funder.now) c.in_ok-of_funder.ensures.ok),
-      (c.sums_of-out.ensures.offered ∙ ap (total is_any c.args.funder.now) c.in_ok-of_funder.ensures.ok),
-      c.sums_of-out.ensures.offered_fits,
-      total_splits c.args.funder.now c.args.fundee.now,
-    )
 
 pub overflow_cast-result : goal.overflow_cast-result
 overflow_cast-result c =

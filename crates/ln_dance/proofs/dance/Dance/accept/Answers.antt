@@ -3,11 +3,5 @@ use Rattle.ln_dance.proofs.Kept.{kept_accepted}
 use Rattle.ln_dance.proofs.dance.Dance.accept.Goals as goal
 
 pub invariant_of-self : goal.invariant_of-self
-invariant_of-self g c = kept_accepted (record {
-  channel = c.self.inside.channel;
-  log = c.self.inside.log;
-  numbers = c.self.inside.numbers;
-  peer = c.self.inside.peer;
-  later = c.self.inside.later;
-}) _ c.self.invariant
+invariant_of-self g c = kept_accepted _ _ _ c.self.invariant
     c.if-last-eq-LAST_NUMBER.false (c.accepted.ensures _ refl)

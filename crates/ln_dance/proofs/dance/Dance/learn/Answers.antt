@@ -3,11 +3,5 @@ use Rattle.ln_dance.proofs.Kept.{kept_learned}
 use Rattle.ln_dance.proofs.dance.Dance.learn.Goals as goal
 
 pub invariant_of-self : goal.invariant_of-self
-invariant_of-self g c = kept_learned (record {
-  channel = c.self.inside.channel;
-  log = c.self.inside.log;
-  numbers = c.self.inside.numbers;
-  peer = c.self.inside.peer;
-  later = c.self.inside.later;
-}) _ c.self.invariant
+invariant_of-self g c = kept_learned _ _ _ c.self.invariant
     (sym (c.if-not-owes.ensures _ (sym c.self.view_is))) (c.acknowledged.ensures _ refl)

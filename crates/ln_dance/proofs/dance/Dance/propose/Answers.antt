@@ -1,8 +1,7 @@
-use Rattle.std.proofs.Common.{refl, sym, ap, ◌∙◌, subst}
+use Rattle.std.proofs.Common.{refl, sym, ◌∙◌, subst}
 use Rattle.ln_log.specs.Log.{Log, after_propose}
 use Rattle.ln_log.specs.Limits.{HasNextId}
-use Rattle.ln_dance.specs.Dance.{Dancer, with_log}
-use Rattle.ln_dance.proofs.Kept.{map_ok, either_way, kept_by}
+use Rattle.ln_dance.proofs.Kept.{map_ok, either_way, kept_by, log_becomes}
 use Rattle.ln_dance.proofs.dance.Dance.propose.Goals as goal
 
 pub propose-requires : goal.propose-requires
@@ -14,12 +13,5 @@ invariant_of-self c = either_way c.propose.result (c.propose.ensures.ok _ refl) 
 
 pub returns-clause-ok : goal.returns-clause-ok
 returns-clause-ok c = λ d e.
-    map_ok c.propose.result (λ h. ap (λ (x : Log). record {
-      channel = c.self.inside.channel;
-      log = x;
-      numbers = c.self.inside.numbers;
-      peer = c.self.inside.peer;
-      later = c.self.inside.later;
-    }) h
-    ∙ ap (λ (x : Dancer). with_log (after_propose c.args.update x.log) x) (c.self.view_is ∙ e))
+    map_ok c.propose.result (log_becomes _ d (after_propose c.args.update) _ (c.self.view_is ∙ e))
     (c.propose.ensures.ok _ refl)

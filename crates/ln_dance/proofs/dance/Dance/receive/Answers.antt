@@ -1,7 +1,6 @@
-use Rattle.std.proofs.Common.{refl, ap, ◌∙◌}
-use Rattle.ln_log.specs.Log.{Log, after_receive}
-use Rattle.ln_dance.specs.Dance.{Dancer, with_log}
-use Rattle.ln_dance.proofs.Kept.{map_ok, either_way, kept_by}
+use Rattle.std.proofs.Common.{refl, ◌∙◌}
+use Rattle.ln_log.specs.Log.{after_receive}
+use Rattle.ln_dance.proofs.Kept.{map_ok, either_way, kept_by, log_becomes}
 use Rattle.ln_dance.proofs.dance.Dance.receive.Goals as goal
 
 pub invariant_of-self : goal.invariant_of-self
@@ -10,12 +9,5 @@ invariant_of-self c = either_way c.receive.result (c.receive.ensures.ok _ refl) 
 
 pub returns-clause-ok : goal.returns-clause-ok
 returns-clause-ok c = λ d e.
-    map_ok c.receive.result (λ h. ap (λ (x : Log). record {
-      channel = c.self.inside.channel;
-      log = x;
-      numbers = c.self.inside.numbers;
-      peer = c.self.inside.peer;
-      later = c.self.inside.later;
-    }) h
-    ∙ ap (λ (x : Dancer). with_log (after_receive c.args.update x.log) x) (c.self.view_is ∙ e))
+    map_ok c.receive.result (log_becomes _ d (after_receive c.args.update) _ (c.self.view_is ∙ e))
     (c.receive.ensures.ok _ refl)
