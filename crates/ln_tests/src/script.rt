@@ -1,7 +1,7 @@
 //! Scripts: their reports, which line is the first bad one, and writers that fail.
 
 use ln_msgs::{Counted, Refusal};
-use ln_script::{print_all, print_report, read_script};
+use ln_script::{first_bad_line, print_all, print_report, read_script};
 use ln_world::World;
 use std::alloc::Global;
 use std::io;
@@ -89,6 +89,7 @@ fn bad_lines(rt: HostRuntime) {
 
 #[test]
 fn small_script(rt: HostRuntime) -> Result<(), Refusal> {
+    first_bad_line();
     assert!(rt; is_told(rt.alloc(), "sign A0\n", "idle\n")?);
     Ok(())
 }
