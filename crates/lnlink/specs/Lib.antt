@@ -1,4 +1,3 @@
 pub mod Failure
 pub mod Text
 pub mod Printed
-pub mod Shown
