@@ -1,2 +1,4 @@
 pub mod Words
 pub mod Script
+pub mod FirstBad
+pub mod Shown

@@ -1,6 +1,6 @@
 -- Reading a script line by line: what was read, and then what the rest asks for.
-use Rattle.std.proofs.Common.{◌≡◌, ℕ, suc, ◌+◌, ◌<◌, ◌≤◌, List, [], ◌∷◌, ◌++◌, length, get_or, take, drop, map, Option}
-use Rattle.std.proofs.Common.{Some, None, Result, Ok, Err, Bool, true, false, refl, sym, ap, ◌∙◌, arith, append_assoc}
+use Rattle.std.proofs.Common.{◌≡◌, ℕ, ◌+◌, ◌<◌, ◌≤◌, List, [], ◌∷◌, ◌++◌, length, get_or, drop, Option}
+use Rattle.std.proofs.Common.{Some, None, Result, Ok, Err, true, false, refl, sym, ap, ◌∙◌, arith, append_assoc}
 use Rattle.std.proofs.Common.{append-nil, add-one}
 use Rattle.std.specs.Borrow.{Bor}
 use Rattle.std.proofs.Math.Seq.{drop-cons}
@@ -18,12 +18,12 @@ behind_both ss ts (Ok us) = ap (λ (vs : List Step). let it : Result (List Step)
     it) (sym (append_assoc ss ts us))
 behind_both ss ts (Err n) = refl
 
-one_line : (n : ℕ) (l : List ℕ) (ls : List (List ℕ))
+pub one_line : (n : ℕ) (l : List ℕ) (ls : List (List ℕ))
     → steps_from n (l ∷ ls) ≡ line_then n (line_at l) (steps_from (n + 1) ls)
 unfolding steps_from
 one_line n l ls = refl
 
-no_line : (n : ℕ) → steps_from n [] ≡ Ok []
+pub no_line : (n : ℕ) → steps_from n [] ≡ Ok []
 unfolding steps_from
 no_line n = refl
 

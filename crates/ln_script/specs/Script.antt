@@ -1,9 +1,10 @@
 -- A script: what its lines ask for, in order.
-use Rattle.std.specs.Prelude.{◌≡◌, ℕ, ◌+◌, ◌-◌, List, [], ◌∷◌, ◌++◌, Bool, true, ◌==◌, Option, Some, None, Result, Ok}
-use Rattle.std.specs.Prelude.{Err, if◌then◌else◌, take, drop}
+use Rattle.std.specs.Prelude.{◌≡◌, ℕ, ◌+◌, List, [], ◌∷◌, ◌++◌, Bool, true, ◌==◌, Option, Some, None, Result, Ok}
+use Rattle.std.specs.Prelude.{Err, if◌then◌else◌, length, is_some}
 use Rattle.std.specs.List.{slice_split}
 use Rattle.std.specs.Option.{option_map}
 use Rattle.ln_world.specs.declared.step.Step.{Step}
+use Rattle.ln_world.specs.Text.{steps_text}
 use Rattle.ln_script.specs.Step.{step_at}
 
 -- what stands between line feeds
@@ -39,3 +40,30 @@ steps_from n (l ∷ ls) = line_then n (line_at l) (steps_from (n + 1) ls)
 
 abbrev pub script_at : List ℕ → Result (List Step) ℕ
 script_at text = steps_from 1 (lines text)
+
+-- ---- the first bad line
+
+-- each of these lines asks for a step, or is skipped
+abbrev pub AreGood : List (List ℕ) → Type 0
+AreGood [] = Unit {0}
+AreGood (l ∷ ls) = (is_some (line_at l) ≡ true) × AreGood ls
+
+-- the line of this number, counted from 1, is bad, and none before it is
+pub record IsFirstBad (ls : List (List ℕ)) (n : ℕ) : Type 0 where
+  pub before : List (List ℕ)
+  pub bad : List ℕ
+  pub behind : List (List ℕ)
+  pub lines_are : ls ≡ before ++ bad ∷ behind
+  pub number : n ≡ length before + 1
+  pub good : AreGood before
+  pub is_bad : line_at bad ≡ None
+
+-- ---- what a script is printed as
+
+abbrev pub told_by : Result (List Step) ℕ → Result (List ℕ) ℕ
+told_by (Ok steps) = Ok (steps_text steps)
+told_by (Err line) = Err line
+
+-- the report of its steps, or the number of its first bad line
+abbrev pub simulated : List ℕ → Result (List ℕ) ℕ
+simulated text = told_by (script_at text)

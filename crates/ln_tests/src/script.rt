@@ -1,7 +1,7 @@
 //! Scripts: their reports, which line is the first bad one, and writers that fail.
 
-use ln_msgs::{Counted, Refusal};
-use ln_script::{print_all, print_report, read_script};
+use ln_msgs::{Counted, Refusal, decode};
+use ln_script::{first_bad_line, message_text, print_all, print_report, read_script};
 use ln_world::World;
 use std::alloc::Global;
 use std::io;
@@ -89,6 +89,7 @@ fn bad_lines(rt: HostRuntime) {
 
 #[test]
 fn small_script(rt: HostRuntime) -> Result<(), Refusal> {
+    first_bad_line();
     assert!(rt; is_told(rt.alloc(), "sign A0\n", "idle\n")?);
     Ok(())
 }
@@ -140,5 +141,36 @@ fn failing_writers(rt: HostRuntime) {
         (6, Ok(()), 5),
     ] {
         assert_eq!(rt; cut_short(rt.alloc(), "idle\n", calls), (result, written));
+    }
+}
+
+/// The text of a message that is given in hexadecimal is this one.
+fn is_shown(alloc: Global, digits: &str, text: &str) -> Result<bool, Refusal> {
+    let Ok(bytes) = hex::decode(alloc, digits) else {
+        return Ok(false);
+    };
+    let shown = message_text(alloc, &decode(alloc, &bytes)?)?;
+    Ok(shown.as_str() == text)
+}
+
+#[test]
+fn messages_as_text(rt: HostRuntime) {
+    for (digits, text) in [
+        (
+            "001200020000",
+            "type 18 ping\nnum_pong_bytes 2\nignored -\n",
+        ),
+        ("0015", "type 21 ignored\n"),
+        ("0100ff", "type 256 ignored\n"),
+        (
+            "0010000000000301FF",
+            "type 16 init\nglobal_features -\nfeatures -\ntlv 3 ff\n",
+        ),
+        (
+            "0010000000000300",
+            "type 16 init\nglobal_features -\nfeatures -\ntlv 3 -\n",
+        ),
+    ] {
+        assert_eq!(rt; is_shown(rt.alloc(), digits, text), Ok(true), "{digits}");
     }
 }

@@ -4,7 +4,7 @@ use ln_log::{Limits, Opening, Pair, Role};
 use ln_msgs::Refusal;
 use ln_world::{
     Act, Answer, Command, End, Endpoint, Message, Node, Offer, Ready, Step, World, act, agreement,
-    headline, never_refused, offers_exactly, signs_exactly,
+    events_are_told, headline, never_refused, offers_exactly, signs_exactly,
 };
 use std::alloc::Global;
 
@@ -151,6 +151,7 @@ fn small_report(rt: HostRuntime) -> Result<(), Refusal> {
     offers_exactly();
     never_refused();
     agreement();
+    events_are_told();
     let text = "0 open\nA0 sends channel_ready\nB0 sends channel_ready\n\
          A0 signed 0 committed 0 peer 0 balance 1000000/0 live 0 ready\n\
          B0 signed 0 committed 0 peer 0 balance 0/1000000 live 0 ready\n";

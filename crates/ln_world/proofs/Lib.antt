@@ -7,3 +7,4 @@ pub mod Answered
 pub mod Lines
 pub mod Told
 pub mod Reports
+pub mod Events

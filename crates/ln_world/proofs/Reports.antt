@@ -83,7 +83,7 @@ acts_other (act.Send command.Sign) b =
     (record { x = record b.x { log = after_sign b.x.log; signatures = b.x.signatures + 1 }; y = b.y })) b refl refl
 
 -- and it is told nothing
-gated_silent : (o : Option Refusal) (x : Role) (move : Move) (m : Option Machine) → events x (move ∷ []) m ≡ []
+pub gated_silent : (o : Option Refusal) (x : Role) (move : Move) (m : Option Machine) → events x (move ∷ []) m ≡ []
     → events x (cond (is_none o) (move ∷ []) []) m ≡ []
 gated_silent None x move m h = h
 gated_silent (Some r) x move m h = refl
@@ -96,7 +96,7 @@ taken_silent Fundee (message.Sign n ∷ ms) m = refl
 taken_silent Funder (message.Revoke n ∷ ms) m = refl
 taken_silent Fundee (message.Revoke n ∷ ms) m = refl
 
-acts_silent : (r : Role) (a : Act) (x : EndState) (m : Machine)
+pub acts_silent : (r : Role) (a : Act) (x : EndState) (m : Machine)
     → events (other_role r) (act_moves r a x) (Some m) ≡ []
 acts_silent r act.Deliver x m = taken_silent r x.inbox m
 acts_silent r (act.Send (command.Add f)) x m =

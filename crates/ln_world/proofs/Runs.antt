@@ -128,7 +128,7 @@ fresh_flows o = record {
   };
 }
 
-opened_kept : (r : Ready) → ChannelKept (opened_by r)
+pub opened_kept : (r : Ready) → ChannelKept (opened_by r)
 opened_kept r = record { funder_role = refl; fundee_role = refl; kept = fresh_flows r.opening }
 
 -- ---- steps

@@ -1,6 +1,9 @@
 -- What the steps of a world are told as, line by line: what each end sends, and the committed events of each side.
 use Rattle.std.specs.Prelude.{ℕ, ◌+◌, List, [], ◌∷◌, ◌++◌, length, drop, map, Option, Some, None, Bool, if◌then◌else◌}
+use Rattle.std.specs.Prelude.{◌≡◌, false, ◌&&◌, ◌==◌}
+use Rattle.std.specs.List.{filter}
 use Rattle.ln_keys.specs.declared.role.Role.{Role}
+use Rattle.ln_keys.specs.declared.role.Role.TheVariants.{Funder, Fundee}
 use Rattle.ln_log.specs.declared.update.Update.{Update}
 use Rattle.ln_log.specs.declared.update.Update.TheVariants as update
 use Rattle.ln_log.specs.Machine.{Move}
@@ -18,6 +21,7 @@ use Rattle.ln_world.specs.declared.line.Line.{Line}
 use Rattle.ln_world.specs.declared.line.Line.TheVariants as line
 use Rattle.ln_world.specs.Ends.{EndState, answer_to}
 use Rattle.ln_world.specs.World.{end_of, side_of, acts_at, may_open, happens, machine_of_channel, act_moves, moves_of}
+use Rattle.ln_world.specs.World.{same_node}
 
 -- a line for each message that is sent
 abbrev pub sends_lines : End → List Message → List Line
@@ -80,3 +84,28 @@ lines_behind before (s ∷ ss) c = step_lines before s c ++ lines_behind (before
 -- from a world without a channel
 abbrev pub report_lines : List Step → List Line
 report_lines ss = lines_behind [] ss None
+
+-- ---- the events of one end
+
+abbrev pub end_at : Role → Channel → End
+end_at Funder c = record { node = c.funder_node; channel = c.number }
+end_at Fundee c = record { node = c.fundee_node; channel = c.number }
+
+abbrev pub same_end : End → End → Bool
+same_end e f = same_node e.node f.node && (e.channel == f.channel)
+
+-- a line that tells an event of this end
+abbrev pub is_event_of : End → Line → Bool
+is_event_of e (line.Open channel) = false
+is_event_of e (line.Ready f) = false
+is_event_of e (line.Sends f m) = false
+is_event_of e (line.Added f number own id) = same_end e f
+is_event_of e (line.Refused f r) = false
+is_event_of e line.Idle = false
+
+-- of these lines, those of an end's events are its events over all of these moves, each once, in their order, numbered
+-- from 0
+abbrev pub TellsEvents : List Line → List Move → Option Channel → Type 0
+TellsEvents ls ms None = Unit {0}
+TellsEvents ls ms (Some c) = (x : Role) → filter (is_event_of (end_at x c)) ls
+    ≡ event_lines (end_at x c) 0 (events x ms None)

@@ -15,6 +15,9 @@ use Rattle.ln_world.specs.declared.step.End.{End}
 use Rattle.ln_world.specs.declared.channel.Channel.{Channel}
 use Rattle.ln_world.specs.declared.line.Line.{Line}
 use Rattle.ln_world.specs.declared.line.Line.TheVariants as line
+use Rattle.ln_world.specs.declared.step.Step.{Step}
+use Rattle.ln_world.specs.World.{run}
+use Rattle.ln_world.specs.Report.{report_lines}
 use Rattle.ln_world.specs.Told.{WorldState}
 
 -- a node's letter and the channel's number
@@ -78,3 +81,7 @@ last_lines (Some c) =
 
 abbrev pub report_text : WorldState → List ℕ
 report_text w = flat_map shown_line w.lines ++ last_lines w.channel
+
+-- of steps, from a world without a channel
+abbrev pub steps_text : List Step → List ℕ
+steps_text ss = report_text (record { channel = run ss None; lines = report_lines ss })

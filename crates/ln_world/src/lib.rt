@@ -16,4 +16,6 @@ pub use endpoint::{Endpoint, act};
 pub use line::Line;
 pub use message::Message;
 pub use step::{Act, Command, End, Node, Offer, Ready, Step};
-pub use world::{World, agreement, headline, never_refused, offers_exactly, signs_exactly};
+pub use world::{
+    World, agreement, events_are_told, headline, never_refused, offers_exactly, signs_exactly,
+};

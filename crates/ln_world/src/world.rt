@@ -4,6 +4,7 @@ ghost use Rattle.std.specs.Prelude.{◌≡◌, List, Option, None};
 ghost use Rattle.ln_world.specs.declared.step.Step.{Step};
 ghost use Rattle.ln_world.specs.World.{run, machine_of, moves, Promises, SignsExactly, OffersExactly, NoneRefused};
 ghost use Rattle.ln_world.specs.World.{Agrees};
+ghost use Rattle.ln_world.specs.Report.{report_lines, TellsEvents};
 ghost use Rattle.ln_log.specs.Machine.{IsRun};
 
 use crate::channel::Channel;
@@ -157,4 +158,10 @@ pub fn never_refused()
 /// both sides hold every update of either.
 pub fn agreement()
     ensures { (steps : List Step) → Agrees (run steps None) }
+{}
+
+/// Over every list of steps: of the report's lines, those of an end's events are its committed events over all moves,
+/// each once, in their order, numbered from 0.
+pub fn events_are_told()
+    ensures { (steps : List Step) → TellsEvents (report_lines steps) (moves steps None) (run steps None) }
 {}

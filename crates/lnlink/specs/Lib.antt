@@ -1,3 +1,3 @@
 pub mod Failure
 pub mod Text
-pub mod Shown
+pub mod Printed

@@ -2,127 +2,75 @@ use crate::choice::{Choice, choose};
 use crate::failure::Failure;
 use crate::simulation::{script_text, simulate};
 use crate::text::decode_text;
-use ln_msgs::{Counted, Refusal};
+use ln_msgs::Counted;
 use std::alloc::Global;
 use std::test::*;
 
-fn chosen(alloc: Global, line: &str) -> Result<Result<Choice, Failure>, Fail> {
+/// What the words of a command line come to, with this on standard input; `answer` is told by its name.
+fn answered(alloc: Global, line: &str, input: &[u8]) -> Result<String, Failure> {
     let mut words = Vec::new(alloc);
     for word in line.split_whitespace() {
         words.push(String::from_str(alloc, word)?)?;
     }
-    Ok(choose(alloc, words.as_slice()))
-}
-
-#[test]
-fn words(rt: HostRuntime) -> Result<(), Fail> {
-    for (line, want) in [
-        ("answer", Ok(Choice::Answer)),
-        ("sim", Ok(Choice::Simulate)),
-        ("decode", Err(Failure::Usage)),
-        ("decode 00 11", Err(Failure::Usage)),
-        ("sim more", Err(Failure::Usage)),
-        ("", Err(Failure::Usage)),
-        ("answers", Err(Failure::Usage)),
-        ("answer more", Err(Failure::Usage)),
-        ("Answer", Err(Failure::Usage)),
-        ("--help", Err(Failure::Usage)),
-        ("-h", Err(Failure::Usage)),
-        ("help", Err(Failure::Usage)),
-        ("answer --help", Err(Failure::Usage)),
-        ("--version", Err(Failure::Usage)),
-    ] {
-        assert_eq!(rt; chosen(rt.alloc(), line)?, want, "at {line}");
-    }
-    for text in ["0015", "zz", "-"] {
-        let line = format!(in rt.alloc(); "decode {text}")?;
-        match chosen(rt.alloc(), line.as_str())?? {
-            Choice::Decode(hex) => assert_eq!(rt; hex.as_str(), text),
-            _ => return Err("decode".into()),
+    match choose(alloc, words.as_slice())? {
+        Choice::Answer => Ok(String::from_str(alloc, "answer")?),
+        Choice::Decode(hex) => decode_text(alloc, hex.as_str()),
+        Choice::Simulate => {
+            let mut writer = Counted::new(Vec::new(alloc));
+            simulate(alloc, script_text(input)?, &mut writer)?;
+            match str::from_utf8(writer.get_ref().as_slice()) {
+                Ok(text) => Ok(String::from_str(alloc, text)?),
+                Err(_) => Err(Failure::NotHex),
+            }
         }
     }
-    Ok(())
+}
+
+/// That, or the line for standard error and the exit status.
+fn told(alloc: Global, line: &str, input: &[u8]) -> Result<String, Fail> {
+    match answered(alloc, line, input) {
+        Ok(text) => Ok(text),
+        Err(failure) => {
+            let status = failure.status();
+            Ok(format!(in alloc; "{failure}, {status}")?)
+        }
+    }
 }
 
 #[test]
-fn messages_as_text(rt: HostRuntime) -> Result<(), Fail> {
-    for (hex, text) in [
+fn command_lines(rt: HostRuntime) -> Result<(), Fail> {
+    for (line, input, text) in [
+        ("answer", b"".as_slice(), "answer"),
+        ("sim", b"sign A0\n", "idle\n"),
+        ("sim", b"# nothing\nsign\n", "refused 64 line 2, 1"),
+        ("sim", b"\xff", "refused 64 line 0, 1"),
+        ("decode 0015", b"", "type 21 ignored\n"),
         (
-            "001200020000",
+            "decode 001200020000",
+            b"",
             "type 18 ping\nnum_pong_bytes 2\nignored -\n",
         ),
-        ("0015", "type 21 ignored\n"),
-        ("0100ff", "type 256 ignored\n"),
-        (
-            "0010000000000301FF",
-            "type 16 init\nglobal_features -\nfeatures -\ntlv 3 ff\n",
-        ),
-        (
-            "0010000000000300",
-            "type 16 init\nglobal_features -\nfeatures -\ntlv 3 -\n",
-        ),
+        ("decode zz", b"", "not hex, 2"),
+        ("decode 001", b"", "not hex, 2"),
+        ("decode 0x15", b"", "not hex, 2"),
+        ("decode -", b"", "not hex, 2"),
+        ("decode 12", b"", "refused 1, 1"),
+        ("decode 0064", b"", "refused 6, 1"),
+        ("decode", b"", "usage, 2"),
+        ("decode 00 11", b"", "usage, 2"),
+        ("sim more", b"", "usage, 2"),
+        ("", b"", "usage, 2"),
+        ("answers", b"", "usage, 2"),
+        ("answer more", b"", "usage, 2"),
+        ("Answer", b"", "usage, 2"),
+        ("--help", b"", "usage, 2"),
+        ("-h", b"", "usage, 2"),
+        ("help", b"", "usage, 2"),
+        ("answer --help", b"", "usage, 2"),
+        ("--version", b"", "usage, 2"),
     ] {
-        let shown = decode_text(rt.alloc(), hex)?;
-        assert_eq!(rt; shown.as_str(), text);
-    }
-    Ok(())
-}
-
-#[test]
-fn messages_that_are_none(rt: HostRuntime) -> Result<(), Fail> {
-    let zeros = "0000000000000000000000000000000000000000000000000000000000000000";
-    let ready = format!(in rt.alloc(); "0024{zeros}{zeros}000101ff")?;
-    for (hex, want) in [
-        ("zz", Failure::NotHex),
-        ("001", Failure::NotHex),
-        ("0x15", Failure::NotHex),
-        ("", Failure::Refused(Refusal::Truncated)),
-        ("12", Failure::Refused(Refusal::Truncated)),
-        ("0064", Failure::Refused(Refusal::UnknownEvenType)),
-        (
-            "0010000000000200",
-            Failure::Refused(Refusal::TlvUnknownEven),
-        ),
-        (ready.as_str(), Failure::Refused(Refusal::FieldLength)),
-    ] {
-        assert_eq!(rt; decode_text(rt.alloc(), hex).err(), Some(want), "at {hex}");
-    }
-    Ok(())
-}
-
-#[test]
-fn scripts(rt: HostRuntime) -> Result<(), Fail> {
-    let mut writer = Counted::new(Vec::new(rt.alloc()));
-    simulate(rt.alloc(), "sign A0\n", &mut writer)?;
-    assert!(rt; writer.get_ref().as_slice() == b"idle\n".as_slice());
-    assert_eq!(rt;
-        script_text(&[0xff]).err(),
-        Some(Failure::Refused(Refusal::BadScript { line: 0 }))
-    );
-    assert_eq!(rt;
-        simulate(rt.alloc(), "sign\n", &mut writer),
-        Err(Failure::Refused(Refusal::BadScript { line: 1 }))
-    );
-    assert!(rt; writer.get_ref().as_slice() == b"idle\n".as_slice());
-    Ok(())
-}
-
-#[test]
-fn lines_and_statuses(rt: HostRuntime) -> Result<(), Fail> {
-    for (failure, line, status) in [
-        (Failure::Usage, "usage", 2),
-        (Failure::NotHex, "not hex", 2),
-        (Failure::Refused(Refusal::Truncated), "refused 1", 1),
-        (Failure::Refused(Refusal::Io), "refused 63", 1),
-        (
-            Failure::Refused(Refusal::BadScript { line: 2 }),
-            "refused 64 line 2",
-            1,
-        ),
-    ] {
-        let text = format!(in rt.alloc(); "{failure}")?;
-        assert_eq!(rt; text.as_str(), line);
-        assert_eq!(rt; failure.status(), status);
+        let got = told(rt.alloc(), line, input)?;
+        assert_eq!(rt; got.as_str(), text, "{line}");
     }
     Ok(())
 }

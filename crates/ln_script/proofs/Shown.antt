@@ -1,16 +1,16 @@
 -- The text of a message's fields, from the fields that it hands out.
-use Rattle.std.proofs.Common.{◌≡◌, ℕ, suc, ◌+◌, ◌<◌, List, [], ◌∷◌, ◌++◌, length, get_or, take, map, Option, Some, None}
-use Rattle.std.proofs.Common.{refl, sym, ap, ◌∙◌, append_assoc}
+use Rattle.std.proofs.Common.{◌≡◌, ℕ, ◌+◌, ◌<◌, List, [], ◌∷◌, ◌++◌, length, get_or, take, map, Option, Some, None}
+use Rattle.std.proofs.Common.{refl, sym, ap, ◌∙◌}
 use Rattle.std.specs.List.{flat_map}
 use Rattle.std.proofs.lemmas.List.{flat_map_more, take_more}
 use Rattle.ln_msgs.specs.declared.messages.item.Field.{Field}
 use Rattle.ln_msgs.specs.Codec.Field.{Value}
 use Rattle.ln_msgs.specs.Messages.Table.{Form, form_of, names_of}
 use Rattle.ln_msgs.specs.Messages.Message.{Wire}
-use Rattle.ln_msgs.specs.Messages.Items.{value_of, AreFieldsOf, IsShownByForm, IsShownAs}
+use Rattle.ln_msgs.specs.Messages.Items.{value_of, IsShownByForm, IsShownAs}
 use Rattle.ln_bytes.specs.declared.record.Record.{Record}
-use Rattle.lnlink.specs.Text.{field_text, fields_text, names_by, record_text, type_line, known_text, signature_line}
-use Rattle.lnlink.specs.Shown.{shown_field}
+use Rattle.ln_script.specs.MessageText.{fields_text, names_by, record_text, type_line, known_text, signature_line}
+use Rattle.ln_script.specs.Shown.{shown_field}
 
 zipped : (fs : List Field) → flat_map shown_field fs
     ≡ fields_text (map (λ f. f.name.now) fs) (map (λ f. value_of f.value) fs)
