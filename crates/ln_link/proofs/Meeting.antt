@@ -1,7 +1,7 @@
 -- Between partners no message of an opening is refused, and its ends are the two ends of one channel.
-use Rattle.std.proofs.Common.{◌≡◌, ℕ, ◌≤◌, ◌*◌, ◌^◌, nat_eq, nat_le, List, [], ◌∷◌, length, refl, sym, ap, ◌∙◌, subst}
+use Rattle.std.proofs.Common.{◌≡◌, ℕ, ◌*◌, nat_eq, nat_le, List, [], length, refl, sym, ap, ◌∙◌, subst}
 use Rattle.std.proofs.Common.{arith}
-use Rattle.std.proofs.Common.{Bool, true, false, cond, ◌&&◌, Option, Some, None, Result, Ok, Err}
+use Rattle.std.proofs.Common.{Bool, true, cond, ◌&&◌, Option, Some, None, Result, Ok, Err}
 use Rattle.std.specs.Cmp.Lexicographic.{pointwise}
 use Rattle.std.proofs.lemmas.Bool.{le-leb}
 use Rattle.std.proofs.lemmas.Cmp.{nat_list_eq_equiv}
@@ -19,14 +19,14 @@ use Rattle.ln_log.specs.declared.log.Pair.TheVariants as pair
 use Rattle.ln_log.specs.declared.log.Side.TheVariants as side
 use Rattle.ln_log.specs.declared.opening.Opening.{Opening}
 use Rattle.ln_log.specs.Opening.{IsFit, is_fit}
-use Rattle.ln_dance.specs.Dance.{Dancer, view_at}
+use Rattle.ln_dance.specs.Dance.{view_at}
 use Rattle.ln_link.specs.declared.config.Config.{Config}
 use Rattle.ln_link.specs.declared.config.OpenSpec.{OpenSpec}
 use Rattle.ln_link.specs.declared.opening.Opened.{Opened}
 use Rattle.ln_link.specs.Config.{offered}
 use Rattle.ln_link.specs.Opening.{Agreement, unless, open_message, open_fault, agreement, accept_message, typed}
 use Rattle.ln_link.specs.Opening.{repeats, accept_fault, funder_end, created_message, created_fault, fundee_end}
-use Rattle.ln_link.specs.Opening.{funding_message, first_signature, first_fault}
+use Rattle.ln_link.specs.Opening.{funding_message, first_fault}
 use Rattle.ln_link.specs.Meeting.{CanOpen, Opens, AreEnds}
 
 -- ---- tests that pass

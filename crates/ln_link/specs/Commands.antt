@@ -1,6 +1,6 @@
 -- What each command makes of an end (BOLT 2).
-use Rattle.std.specs.Prelude.{ℕ, List, [], ◌∷◌, ◌++◌, length, Bool, true, false, not, ◌||◌, nat_lt, Option, Some, None}
-use Rattle.std.specs.Prelude.{Result, Ok, Err, if◌then◌else◌}
+use Rattle.std.specs.Prelude.{ℕ, List, [], ◌∷◌, length, true, not, ◌||◌, nat_lt, Option, Some, None}
+use Rattle.std.specs.Prelude.{Result, Err, if◌then◌else◌}
 use Rattle.ln_bytes.specs.declared.short_id.ShortId.{ShortId}
 use Rattle.ln_msgs.specs.declared.messages.message.Message.TheVariants as message
 use Rattle.ln_msgs.specs.declared.messages.opening.ChannelReady.{ChannelReady}
@@ -19,7 +19,7 @@ use Rattle.ln_link.specs.declared.command.Command.{Command}
 use Rattle.ln_link.specs.declared.command.Command.TheVariants as command
 use Rattle.ln_link.specs.declared.output.Output.TheVariants as output
 use Rattle.ln_link.specs.Opening.{unless}
-use Rattle.ln_link.specs.End.{End, with_dance, is_ready, is_closed, all_acknowledged, Turn, quiet, sending, completed}
+use Rattle.ln_link.specs.End.{End, with_dance, is_ready, is_closed, all_acknowledged, Turn, sending, completed}
 use Rattle.ln_link.specs.End.{shutdown_message}
 
 -- ---- Confirm: the funding is deep enough (BOLT 2, "The channel_ready Message")

@@ -1,5 +1,5 @@
 -- What an end is opened with, and which values may be used (BOLT 2, "Channel Establishment v1").
-use Rattle.std.specs.Prelude.{◌≡◌, ◌≤◌, length}
+use Rattle.std.specs.Prelude.{◌≤◌, length}
 use Rattle.ln_bytes.specs.Tlv.{stream_bytes}
 use Rattle.ln_msgs.specs.Messages.Table.{open_form}
 use Rattle.ln_msgs.specs.Codec.Writing.{MayFollow}

@@ -7,6 +7,11 @@ pub mod Since
 pub mod End
 pub mod Taking
 pub mod Commands
+pub mod Resume
+pub mod Failing
+pub mod State
+pub mod Naming
+pub mod Step
 pub use Rattle.ln_hooks.specs.Event
 pub use Rattle.ln_dance.specs.Dance
 pub use Rattle.ln_close.specs.Closing

@@ -1,6 +1,6 @@
 -- What each message of the peer makes of an end (BOLT 2).
-use Rattle.std.specs.Prelude.{ℕ, List, [], ◌∷◌, length, drop, Bool, true, false, not, ◌&&◌, ◌||◌, ◌==◌, Option, Some}
-use Rattle.std.specs.Prelude.{None, is_some, Result, Ok, Err, nat_eq, if◌then◌else◌}
+use Rattle.std.specs.Prelude.{ℕ, List, [], ◌∷◌, length, drop, Bool, true, false, not, ◌||◌, ◌==◌, Option, Some}
+use Rattle.std.specs.Prelude.{None, Result, Ok, Err, nat_eq, if◌then◌else◌}
 use Rattle.std.specs.Cmp.Lexicographic.{pointwise}
 use Rattle.ln_bytes.specs.Endian.{big_number}
 use Rattle.ln_bytes.specs.Tlv.{value_of}

@@ -100,6 +100,13 @@ impl Channel {
         self.dance.channel()
     }
 
+    /// The id that it had while it was opened.
+    pub(crate) fn temporary_id(&self) -> [u8; 32]
+        ensures { result ≡ self.now.terms.open_channel.temporary_id }
+    {
+        self.terms.open_channel.temporary_id
+    }
+
     /// The connection is lost: updates that no signature covers are gone (BOLT 2, "Message Retransmission").
     pub fn drop_unsigned(&mut self)
         ensures { self.new ≡ end_dropped self.old }

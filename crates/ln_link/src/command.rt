@@ -82,3 +82,19 @@ pub enum Command {
     /// What became of the own HTLC of this id has been passed on.
     Forget(u64),
 }
+
+impl Command {
+    ghost use Rattle.std.specs.Prelude.{◌≡◌};
+    ghost use Rattle.ln_link.specs.Step.{is_of_records};
+
+    // Whether it is about what a record keeps of decisions.
+    pub(crate) fn is_of_records(&self) -> bool
+        ensures { result ≡ is_of_records self.now }
+    {
+        match self {
+            Command::Decide { .. } => true,
+            Command::Forget(_) => true,
+            _ => false,
+        }
+    }
+}

@@ -1,12 +1,8 @@
 //! What each command makes of an end.
 
-ghost use Rattle.std.specs.Prelude.{◌≡◌, ◌∷◌, [], IfOk, IfErr};
-ghost use Rattle.ln_link.specs.Outputs.{sends, nothing};
-ghost use Rattle.ln_msgs.specs.declared.refusals.refusal.Refusal.TheVariants as refusal;
-
 use crate::channel::Channel;
 use crate::command::Command;
-use crate::output::{Outbox, Output};
+use crate::output::{Outbox, Output, one};
 use ln_bytes::{Bytes, ShortId};
 use ln_dance::{add_message, fail_message, fee_message, fulfil_message, malformed_message};
 use ln_keys::ChannelKeys;
@@ -48,7 +44,7 @@ impl Channel {
         one(alloc, Message::ChannelReady(ready))
     }
 
-    fn ready_message<K: ChannelKeys>(&self, alloc: Global, keys: &K) -> ChannelReady
+    pub(crate) fn ready_message<K: ChannelKeys>(&self, alloc: Global, keys: &K) -> ChannelReady
         ensures { result ≡ ready_message (K.signer keys.now) self.now }
     {
         ChannelReady {
@@ -329,14 +325,4 @@ impl Channel {
             Command::Forget(_) => Err(Refusal::NotReady),
         }
     }
-}
-
-// One message is sent.
-fn one(alloc: Global, message: Message) -> Result<Outbox, Refusal>
-    ensures sent { IfOk result (λ h. h ≡ sends (message ∷ []) nothing) }
-    ensures memory { IfErr result (λ r. r ≡ refusal.Memory) }
-{
-    let mut outbox = Outbox::new(alloc);
-    outbox.send(message)?;
-    Ok(outbox)
 }

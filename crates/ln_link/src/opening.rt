@@ -1,6 +1,6 @@
 //! The four messages that open a channel.
 
-ghost use Rattle.std.specs.Prelude.{◌≡◌, Some, None, IfOk, IfErr, if◌then◌else◌};
+ghost use Rattle.std.specs.Prelude.{◌≡◌, ◌⊎◌, true, Some, None, IfOk, IfErr, if◌then◌else◌};
 ghost use Rattle.ln_bytes.specs.Tlv.{value_of};
 ghost use Rattle.ln_msgs.specs.declared.refusals.refusal.Refusal.TheVariants as refusal;
 ghost use Rattle.ln_keys.specs.Signer.{Signer};
@@ -9,6 +9,7 @@ ghost use Rattle.ln_dance.specs.Dance.{AnswersWithin};
 ghost use Rattle.ln_link.specs.declared.config.Config.{Config};
 ghost use Rattle.ln_link.specs.declared.config.OpenSpec.{OpenSpec};
 ghost use Rattle.ln_link.specs.declared.opening.Opened.{Opened};
+ghost use Rattle.ln_link.specs.Failing.{fails};
 ghost use Rattle.ln_link.specs.Meeting.{CanOpen, Opens, AreEnds};
 ghost use Rattle.ln_link.specs.Opening.{Gives, HasBegun, asked_by_open, asked_by_accept, asked_with, opening_of};
 ghost use Rattle.ln_link.specs.Opening.{first_point, first_dance, opened_by, first_signature, first_fault};
@@ -68,6 +69,17 @@ impl Model for Agreed {
     ghost view = { λ a. record { fees = a.fees; terms = a.terms } };
 
     ghost invariant = { λ a. IsAgreed (record { fees = a.fees; terms = a.terms }) };
+}
+
+impl Agreed {
+    ghost use Rattle.std.specs.Prelude.{◌≡◌};
+
+    // The channel's id until its funding is named.
+    pub(crate) fn temporary_id(&self) -> [u8; 32]
+        ensures { result ≡ self.now.terms.open_channel.temporary_id }
+    {
+        self.terms.open_channel.temporary_id
+    }
 }
 
 // What each message asks of the HTLCs that its sender is offered.
@@ -165,13 +177,14 @@ fn sign_first<K: ChannelKeys>(alloc: Global, keys: &K, dance: &Dance) -> Result<
 }
 
 // And checks the peer's signature over its own, at its own point.
-fn check_first<K: ChannelKeys>(
+pub(crate) fn check_first<K: ChannelKeys>(
     alloc: Global,
     keys: &K,
     dance: &Dance,
     signature: &[u8; 64],
 ) -> Result<(), Refusal>
-    ensures { AnswersWithin (first_fault (K.signer keys.now) dance.now signature.now) result }
+    ensures answer { AnswersWithin (first_fault (K.signer keys.now) dance.now signature.now) result }
+    ensures refused { IfErr result (λ r. (r ≡ refusal.Memory) ⊎ (fails r ≡ true)) }
 {
     let view = dance.log().view(alloc, Pair::Current(Side::Own))?;
     if keys.verify(0, &keys.point(0), &view, signature, &[]) {
@@ -330,7 +343,8 @@ pub fn take_open<K: ChannelKeys>(
     config: FitConfig,
     message: OpenChannel,
 ) -> Result<(Agreed, AcceptChannel), Refusal>
-    ensures { Gives (open_taken (K.signer keys.now) config message) result }
+    ensures answer { Gives (open_taken (K.signer keys.now) config message) result }
+    ensures refused { IfErr result (λ r. (r ≡ refusal.Memory) ⊎ (fails r ≡ true)) }
 {
     let config = config.into_config();
     if !config.agrees_to(&message) {
@@ -428,6 +442,7 @@ pub fn take_accept<K: ChannelKeys>(
     accept: AcceptChannel,
 ) -> Result<(Opened, FundingCreated), Refusal>
     ensures answer { Gives (accept_taken (K.signer keys.now) spec accept) result }
+    ensures refused { IfErr result (λ r. (r ≡ refusal.Memory) ⊎ (fails r ≡ true)) }
     ensures begun { IfOk result (λ r. HasBegun r.0) }
 {
     let spec = spec.into_spec();
@@ -463,6 +478,7 @@ pub fn take_created<K: ChannelKeys>(
     created: FundingCreated,
 ) -> Result<(Opened, FundingSigned), Refusal>
     ensures answer { Gives (created_taken (K.signer keys.now) agreed created) result }
+    ensures refused { IfErr result (λ r. (r ≡ refusal.Memory) ⊎ (fails r ≡ true)) }
     ensures begun { IfOk result (λ r. HasBegun r.0) }
 {
     let Agreed { fees, terms } = agreed;
@@ -492,7 +508,8 @@ pub fn take_signed<K: ChannelKeys>(
     dance: &Dance,
     signed: &FundingSigned,
 ) -> Result<(), Refusal>
-    ensures { Gives (signed_taken (K.signer keys.now) dance.now signed.now) result }
+    ensures answer { Gives (signed_taken (K.signer keys.now) dance.now signed.now) result }
+    ensures refused { IfErr result (λ r. (r ≡ refusal.Memory) ⊎ (fails r ≡ true)) }
 {
     check_first(alloc, keys, dance, &signed.signature)
 }

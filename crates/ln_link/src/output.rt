@@ -1,5 +1,9 @@
 //! What a link hands out.
 
+ghost use Rattle.std.specs.Prelude.{◌≡◌, ◌∷◌, [], IfOk, IfErr};
+ghost use Rattle.ln_link.specs.Outputs.{sends, nothing};
+ghost use Rattle.ln_msgs.specs.declared.refusals.refusal.Refusal.TheVariants as refusal;
+
 use ln_hooks::ChannelEvent;
 use ln_msgs::{Message, Refusal};
 use std::alloc::Global;
@@ -87,4 +91,14 @@ impl Outbox {
         }
         Ok(sent)
     }
+}
+
+// One message is sent.
+pub(crate) fn one(alloc: Global, message: Message) -> Result<Outbox, Refusal>
+    ensures sent { IfOk result (λ h. h ≡ sends (message ∷ []) nothing) }
+    ensures memory { IfErr result (λ r. r ≡ refusal.Memory) }
+{
+    let mut outbox = Outbox::new(alloc);
+    outbox.send(message)?;
+    Ok(outbox)
 }

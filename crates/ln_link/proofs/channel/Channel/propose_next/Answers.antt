@@ -1,4 +1,4 @@
-use Rattle.std.proofs.Common.{refl, ap, sym}
+use Rattle.std.proofs.Common.{refl, ap}
 use Rattle.ln_log.specs.Log.{after_propose, proposal_fault}
 use Rattle.ln_dance.specs.Dance.{Dancer, with_log}
 use Rattle.ln_link.specs.End.{End, with_dance}

@@ -1,7 +1,7 @@
-use Rattle.std.proofs.Common.{refl, ap, sym}
+use Rattle.std.proofs.Common.{refl, ap}
 use Rattle.ln_dance.specs.Dance.{Dancer, after_sign}
 use Rattle.ln_link.specs.End.{End, with_dance}
-use Rattle.ln_link.proofs.Accepting.{sound, on_ok, within}
+use Rattle.ln_link.proofs.Accepting.{sound, on_ok}
 use Rattle.ln_link.proofs.channel.Channel.sign_next.Goals as goal
 
 pub invariant_of-self : goal.invariant_of-self

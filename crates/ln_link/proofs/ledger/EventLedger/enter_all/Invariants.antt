@@ -1,4 +1,4 @@
-use Rattle.std.specs.Prelude.{◌≡◌, ◌+◌, ◌++◌, length, drop}
+use Rattle.std.specs.Prelude.{◌≡◌, ◌+◌, ◌++◌, drop}
 use Rattle.ln_link.specs.Ledger.{next_event, refs_of, entered}
 use Rattle.ln_link.specs.Outputs.{events_of, numbered}
 use Rattle.ln_link.proofs.ledger.EventLedger.enter_all.Given as goal

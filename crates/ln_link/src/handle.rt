@@ -1,0 +1,110 @@
+//! What a message and a command make of a link.
+
+use crate::command::Command;
+use crate::link::{Link, Stage};
+use crate::output::{Outbox, Output};
+use crate::stage::fails;
+use ln_keys::ChannelKeys;
+use ln_msgs::{Message, Refusal};
+use std::alloc::Global;
+
+impl<K: ChannelKeys + Drop> Link<K> {
+    ghost use Rattle.std.specs.Prelude.{◌≡◌};
+    ghost use Rattle.ln_link.specs.State.{State, StandsFor, fails_by};
+    ghost use Rattle.ln_link.specs.Step.{AnsweredMessage, Answered, handled, commanded, at_hand, obeyed, MovesBy};
+    ghost use Rattle.ln_link.specs.Step.{Takes};
+
+    /// Takes a message: what it makes of the link, and what is handed out.
+    ///
+    /// Errors, the first that holds: 62 where the link has halted; the number by which it has failed; 37 for an error
+    /// for its channel or for all; 20 for another channel's message; 21 where there is no connection; then those of the
+    /// message, with 21 for one that may not come now. By 21 to 35 and 37 the channel has failed; an opening that isn't
+    /// signed by both is gone then. By 20 and 36 nothing has changed. 60 where there is no memory, which halts it.
+    ///
+    /// A warning is passed over, and so are an error for another channel, `init`, `ping` and `pong`.
+    pub fn handle(&mut self, alloc: Global, message: Message) -> Result<Vec<Output>, Refusal>
+        ensures { (l : State K) → StandsFor self.old l
+            → AnsweredMessage (λ v. v.items) (handled (K.signer l.keys) l message) l result self.new }
+    {
+        if self.halted {
+            return Err(Refusal::Halted);
+        }
+        match self.failure {
+            Some(refusal) => return Err(refusal),
+            None => {}
+        }
+        match self.take(alloc, message) {
+            Ok(outbox) => self.hand_out(outbox),
+            Err(Refusal::Memory) => Err(self.halted_by_memory()),
+            Err(refusal) => Err(self.refused_by(refusal)),
+        }
+    }
+
+    // A refusal is kept, where the channel fails by it.
+    fn refused_by(&mut self, refusal: Refusal) -> Refusal
+        ensures refusal { result ≡ refusal }
+        ensures state { self.new ≡ fails_by refusal self.old }
+    {
+        if fails(refusal) {
+            self.failure = Some(refusal);
+            self.stage.lose();
+        }
+        refusal
+    }
+
+    // Takes a message, unless it is passed over.
+    fn take(&mut self, alloc: Global, message: Message) -> Result<Outbox, Refusal>
+        ensures { Takes (at_hand (K.signer self.old.keys) self.old.line message self.old.stage)
+            result self.old self.new }
+    {
+        if self.stage.is_passed_over(&message) {
+            return Ok(Outbox::new(alloc));
+        }
+        match self.stage.message_refusal(self.line, &message) {
+            Some(refusal) => return Err(refusal),
+            None => {}
+        }
+        self.stage.take(alloc, &self.keys, &mut self.line, message)
+    }
+
+    /// Does what it is told.
+    pub fn command(&mut self, alloc: Global, command: Command) -> Result<Vec<Output>, Refusal>
+        ensures { (l : State K) → StandsFor self.old l
+            → Answered (λ v. v.items) (commanded (K.signer l.keys) l command) l result self.new }
+    {
+        if self.halted {
+            return Err(Refusal::Halted);
+        }
+        if command.is_of_records() {
+            return Err(Refusal::NotReady);
+        }
+        match self.failure {
+            Some(refusal) => return Err(refusal),
+            None => {}
+        }
+        match self.obey(alloc, command) {
+            Ok(outbox) => self.hand_out(outbox),
+            Err(Refusal::Memory) => Err(self.halted_by_memory()),
+            Err(refusal) => Err(refusal),
+        }
+    }
+
+    fn obey(&mut self, alloc: Global, command: Command) -> Result<Outbox, Refusal>
+        ensures { MovesBy (obeyed (K.signer self.old.keys) self.old.line command self.old.stage)
+            result self.old self.new }
+    {
+        match &mut self.stage {
+            Stage::Saved(channel) => {
+                match channel.unready_refusal(&command) {
+                    Some(refusal) => return Err(refusal),
+                    None => {}
+                }
+                if !self.line.is_met() {
+                    return Err(Refusal::Disconnected);
+                }
+                channel.command(alloc, &self.keys, command)
+            }
+            _ => Err(Refusal::NotReady),
+        }
+    }
+}
