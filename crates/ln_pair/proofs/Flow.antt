@@ -8,10 +8,13 @@ use Rattle.ln_log.specs.declared.update.Update.{Update as Change}
 use Rattle.ln_log.specs.Log.{Counts}
 use Rattle.ln_msgs.specs.declared.messages.commitments.CommitmentSigned.{CommitmentSigned}
 use Rattle.ln_msgs.specs.declared.messages.commitments.RevokeAndAck.{RevokeAndAck}
+use Rattle.ln_msgs.specs.declared.messages.commitments.ChannelReestablish.{ChannelReestablish}
 use Rattle.ln_msgs.specs.declared.messages.opening.ChannelReady.{ChannelReady}
 use Rattle.ln_msgs.specs.declared.messages.closing.Shutdown.{Shutdown as ShutdownMessage}
-use Rattle.ln_pair.proofs.Sides.{confirms, shuts, Ready, Shutdown, Notice, Update, Sign, Revoke, Again, Link, Down}
-use Rattle.ln_pair.proofs.Sides.{Waiting, Met, Side, posts, proposed, signed_all, received, accepted_all}
+use Rattle.ln_link.specs.declared.link.Line.{Line}
+use Rattle.ln_link.specs.declared.link.Line.TheVariants.{Down, Awaiting, Met}
+use Rattle.ln_pair.proofs.Sides.{confirms, shuts, Ready, Shutdown, Notice, Update, Sign, Revoke, Again}
+use Rattle.ln_pair.proofs.Sides.{Side, posts, proposed, signed_all, received, accepted_all}
 use Rattle.ln_pair.proofs.Sides.{acknowledged_all, proposes, signs}
 use Rattle.ln_pair.proofs.Walk.{holds, Reads, Fits, AllFit, Phase, Idle, Sent, Answered, InOrder, sender, IsDue}
 use Rattle.ln_pair.proofs.Walk.{IsBehind, IsNext, LacksNothing, Anywhere, Carries, InFlight, Flows, Kept}
@@ -98,53 +101,53 @@ held_there x y l m agree p =
 -- ---- what is in flight, where x changes
 
 -- an end that waits knows of x what x was as it came up
-abbrev pub SameFront : Link → Side → Side → Type 0
+abbrev pub SameFront : Line → Side → Side → Type 0
 SameFront Down x n = Unit {0}
-SameFront Waiting x n = (n.number ≡ x.number) × (n.revocations ≡ x.revocations)
+SameFront Awaiting x n = n.reestablish ≡ x.reestablish
 SameFront Met x n = Unit {0}
 
 -- x sends
-pub posted : (ly lx ln : Link) (x n y : Side) (sent ms : List Notice) → SameFront ly x n
+pub posted : (ly lx ln : Line) (x n y : Side) (sent ms : List Notice) → SameFront ly x n
     → ((ns : List Notice) → Carries lx x y ns → Carries ln n y (ns ++ sent)) → InFlight lx ly x y ms
     → InFlight ln ly n y (posts ly sent ms)
 posted Down lx ln x n y sent ms f h e = e
-posted Waiting lx ln x n y sent [] f h e = absurd e
-posted Waiting lx ln x n y sent (Update u ∷ ms) f h e = absurd e
-posted Waiting lx ln x n y sent (Sign k ∷ ms) f h e = absurd e
-posted Waiting lx ln x n y sent (Revoke k ∷ ms) f h e = absurd e
-posted Waiting lx ln x n y sent (Ready z ∷ ms) f h e = absurd e
-posted Waiting lx ln x n y sent (Shutdown z ∷ ms) f h e = absurd e
-posted Waiting lx ln x n y sent (Again k ∷ ms) f h e = (e.0 ∙ ap (λ m. m + 1) (sym f.0), e.1 ∙ sym f.1, h ms e.2)
+posted Awaiting lx ln x n y sent [] f h e = absurd e
+posted Awaiting lx ln x n y sent (Update u ∷ ms) f h e = absurd e
+posted Awaiting lx ln x n y sent (Sign k ∷ ms) f h e = absurd e
+posted Awaiting lx ln x n y sent (Revoke k ∷ ms) f h e = absurd e
+posted Awaiting lx ln x n y sent (Ready z ∷ ms) f h e = absurd e
+posted Awaiting lx ln x n y sent (Shutdown z ∷ ms) f h e = absurd e
+posted Awaiting lx ln x n y sent (Again k ∷ ms) f h e = (e.0 ∙ sym f, h ms e.1)
 posted Met lx ln x n y sent ms f h e = h ms e
 
 -- x sends nothing
-pub passed : (ly lx ln : Link) (x n y : Side) (ms : List Notice) → SameFront ly x n
+pub passed : (ly lx ln : Line) (x n y : Side) (ms : List Notice) → SameFront ly x n
     → ((ns : List Notice) → Carries lx x y ns → Carries ln n y ns) → InFlight lx ly x y ms → InFlight ln ly n y ms
 passed Down lx ln x n y ms f h e = e
-passed Waiting lx ln x n y [] f h e = absurd e
-passed Waiting lx ln x n y (Update u ∷ ms) f h e = absurd e
-passed Waiting lx ln x n y (Sign k ∷ ms) f h e = absurd e
-passed Waiting lx ln x n y (Revoke k ∷ ms) f h e = absurd e
-passed Waiting lx ln x n y (Ready z ∷ ms) f h e = absurd e
-passed Waiting lx ln x n y (Shutdown z ∷ ms) f h e = absurd e
-passed Waiting lx ln x n y (Again k ∷ ms) f h e = (e.0 ∙ ap (λ m. m + 1) (sym f.0), e.1 ∙ sym f.1, h ms e.2)
+passed Awaiting lx ln x n y [] f h e = absurd e
+passed Awaiting lx ln x n y (Update u ∷ ms) f h e = absurd e
+passed Awaiting lx ln x n y (Sign k ∷ ms) f h e = absurd e
+passed Awaiting lx ln x n y (Revoke k ∷ ms) f h e = absurd e
+passed Awaiting lx ln x n y (Ready z ∷ ms) f h e = absurd e
+passed Awaiting lx ln x n y (Shutdown z ∷ ms) f h e = absurd e
+passed Awaiting lx ln x n y (Again k ∷ ms) f h e = (e.0 ∙ sym f, h ms e.1)
 passed Met lx ln x n y ms f h e = h ms e
 
-pub same_front : (ly : Link) (x n : Side) → n.number ≡ x.number → n.revocations ≡ x.revocations → SameFront ly x n
-same_front Down x n e f = tt
-same_front Waiting x n e f = (e, f)
-same_front Met x n e f = tt
+pub same_front : (ly : Line) (x n : Side) → n.reestablish ≡ x.reestablish → SameFront ly x n
+same_front Down x n e = tt
+same_front Awaiting x n e = e
+same_front Met x n e = tt
 
 -- ---- x proposes
 
-carries_proposed : (ly : Link) (y x : Side) (u : Change) (ms : List Notice) → x.current.own ≤ length x.own
+carries_proposed : (ly : Line) (y x : Side) (u : Change) (ms : List Notice) → x.current.own ≤ length x.own
     → Carries ly y x ms → Carries ly y (proposed u x) ms
 carries_proposed Down y x u ms le h =
     subst (λ p. Reads (sender y) (x.own ++ u ∷ []) p x.signed.own Anywhere x.got x.acked.own x.number x.revocations ms)
     (sym (take-append-le x.current.own x.own (u ∷ []) le))
     (reads-proposed (sender y) x.own (u ∷ []) (holds x) x.signed.own Anywhere x.got x.acked.own
     x.number x.revocations ms h)
-carries_proposed Waiting y x u ms le h = h
+carries_proposed Awaiting y x u ms le h = h
 carries_proposed Met y x u ms le h =
     subst (λ p. Reads (sender y) (x.own ++ u ∷ []) p x.signed.own
     (LacksNothing y.own y.current.peer y.signatures y.number) x.got x.acked.own x.number x.revocations ms)
@@ -152,7 +155,7 @@ carries_proposed Met y x u ms le h =
     (reads-proposed (sender y) x.own (u ∷ []) (holds x) x.signed.own
     (LacksNothing y.own y.current.peer y.signatures y.number) x.got x.acked.own x.number x.revocations ms h)
 
-pub kept_proposed : (ly : Link) (x y : Side) (u : Change) (to_x to_y : List Notice)
+pub kept_proposed : (ly : Line) (x y : Side) (u : Change) (to_x to_y : List Notice)
     → Fits x.opening x.role x.own (take x.current.peer x.got) (take x.acked.peer x.got) u
     → Kept (record { x_link = Met; y_link = ly; x = x; y = y; to_x = to_x; to_y = to_y })
     → Kept (proposes u (record { x_link = Met; y_link = ly; x = x; y = y; to_x = to_x; to_y = to_y }))
@@ -218,7 +221,7 @@ kept_proposed ly x y u to_x to_y may k =
         phase = f.phase;
         agree = f.agree ∙ sym (take-append-le y.current.peer x.own (u ∷ []) (omega (arith, le, f.within.own_signed)));
         order = f.order;
-        flight = posted ly Met Met x n y (Update u ∷ []) to_y (same_front ly x n refl refl) body f.flight;
+        flight = posted ly Met Met x n y (Update u ∷ []) to_y (same_front ly x n refl) body f.flight;
       };
       back = record {
         same = g.same;
@@ -242,11 +245,11 @@ kept_proposed ly x y u to_x to_y may k =
 
 -- ---- x signs
 
-carries_signed : (ly : Link) (z : CommitmentSigned) (y x : Side) (ms : List Notice) → y.number ≤ x.revocations
+carries_signed : (ly : Line) (z : CommitmentSigned) (y x : Side) (ms : List Notice) → y.number ≤ x.revocations
     → Carries ly y x ms → Carries ly y (signed_all z x) ms
 carries_signed Down z y x ms le h = reads-signed (sender y) x.own (holds x) x.signed.own (length x.own) Anywhere x.got
     x.acked.own x.number x.revocations ms le h
-carries_signed Waiting z y x ms le h = h
+carries_signed Awaiting z y x ms le h = h
 carries_signed Met z y x ms le h = reads-signed (sender y) x.own (holds x) x.signed.own (length x.own)
     (LacksNothing y.own y.current.peer y.signatures y.number) x.got x.acked.own x.number x.revocations ms le h
 
@@ -257,7 +260,7 @@ settled s a c acked signed current e (Idle e1 e2 e3 e4 e5 e6) = (e2, e5 ∙ sym 
 settled s a c acked signed current e (Sent e1 e2 e3 e4) = absurd (omega (arith, e, e1))
 settled s a c acked signed current e (Answered e1 e2 e3 e4) = absurd (omega (arith, e, e1))
 
-pub kept_signed : (ly : Link) (z : CommitmentSigned) (x y : Side) (to_x to_y : List Notice)
+pub kept_signed : (ly : Line) (z : CommitmentSigned) (x y : Side) (to_x to_y : List Notice)
     → x.signatures ≡ x.revocations → Kept (record { x_link = Met; y_link = ly; x = x; y = y; to_x = to_x; to_y = to_y })
     → Kept (signs z (record { x_link = Met; y_link = ly; x = x; y = y; to_x = to_x; to_y = to_y }))
 kept_signed ly z x y to_x to_y free k =
@@ -299,7 +302,7 @@ kept_signed ly z x y to_x to_y free k =
         phase = Sent (ap (λ m. m + 1) free) (number ∙ free) p.1 p.2;
         agree = f.agree;
         order = λ e. refl;
-        flight = posted ly Met Met x n y (Sign z ∷ []) to_y (same_front ly x n refl refl) body f.flight;
+        flight = posted ly Met Met x n y (Sign z ∷ []) to_y (same_front ly x n refl) body f.flight;
       };
       back = record {
         same = g.same;
@@ -318,13 +321,13 @@ kept_signed ly z x y to_x to_y free k =
 
 -- ---- x takes an update
 
-took_update : (ly : Link) (x y : Side) (u : Change) (ms : List Notice) → Carries ly y x (Update u ∷ ms)
+took_update : (ly : Line) (x y : Side) (u : Change) (ms : List Notice) → Carries ly y x (Update u ∷ ms)
     → Carries ly y (received u x) ms
 took_update Down x y u ms h = h.1
-took_update Waiting x y u ms h = absurd (cc (h.0))
+took_update Awaiting x y u ms h = absurd (cc (h.0))
 took_update Met x y u ms h = h.1
 
-pub kept_update : (ly : Link) (x y : Side) (u : Change) (ms to_y : List Notice)
+pub kept_update : (ly : Line) (x y : Side) (u : Change) (ms to_y : List Notice)
     → Kept (record { x_link = Met; y_link = ly; x = x; y = y; to_x = Update u ∷ ms; to_y = to_y })
     → Kept (record { x_link = Met; y_link = ly; x = received u x; y = y; to_x = ms; to_y = to_y })
 kept_update ly x y u ms to_y k =
@@ -361,7 +364,7 @@ kept_update ly x y u ms to_y k =
         phase = f.phase;
         agree = f.agree;
         order = f.order;
-        flight = passed ly Met Met x n y to_y (same_front ly x n refl refl) (λ ns h. h) f.flight;
+        flight = passed ly Met Met x n y to_y (same_front ly x n refl) (λ ns h. h) f.flight;
       };
       back = record {
         same = g.same;
@@ -395,7 +398,7 @@ unaccepted s a c acked signed current e (Idle e1 e2 e3 e4 e5 e6) = absurd (omega
 unaccepted s a c acked signed current e (Sent e1 e2 e3 e4) = (e2, e1, e3, e4)
 unaccepted s a c acked signed current e (Answered e1 e2 e3 e4) = absurd (omega (arith, e, e2))
 
-pub accepts : (lx ly : Link) (x y : Side) (k : CommitmentSigned) (ms : List Notice) → Flows ly lx y x ms
+pub accepts : (lx ly : Line) (x y : Side) (k : CommitmentSigned) (ms : List Notice) → Flows ly lx y x ms
     → IsDue (sender y) x.got x.acked.own x.number k → Accepts x y k
 accepts lx ly x y k ms g d =
     let p = unaccepted y.signatures y.revocations x.number y.acked y.signed x.current d.next g.phase in
@@ -415,19 +418,20 @@ late_order : (l : Bool) (number revocations seen known current : ℕ) → number
 late_order true number revocations seen known current e d h = absurd (omega (arith, e, h.0))
 late_order false number revocations seen known current e d h = h ∙ d
 
-kept_sign_by : (ly : Link) (z : RevokeAndAck) (x y : Side) (k : CommitmentSigned) (ms to_y : List Notice)
-    → SameFront ly x (accepted_all z x) → Flows Met ly x y to_y → Flows ly Met y x (Sign k ∷ ms) → Accepts x y k
-    → Carries ly y (accepted_all z x) ms
+kept_sign_by : (ly : Line) (z : RevokeAndAck) (v : ChannelReestablish) (x y : Side)
+    (k : CommitmentSigned) (ms to_y : List Notice)
+    → SameFront ly x (accepted_all z v x) → Flows Met ly x y to_y → Flows ly Met y x (Sign k ∷ ms) → Accepts x y k
+    → Carries ly y (accepted_all z v x) ms
     → Kept (record {
       x_link = Met;
       y_link = ly;
-      x = accepted_all z x;
+      x = accepted_all z v x;
       y = y;
       to_x = ms;
       to_y = posts ly (Revoke z ∷ []) to_y;
     })
-kept_sign_by ly z x y k ms to_y front f g a rest =
-    let n = accepted_all z x in
+kept_sign_by ly z v x y k ms to_y front f g a rest =
+    let n = accepted_all z v x in
     let w = f.within in
     let d = a.due in
     let whole : take (length x.got) x.got ≡ x.got = take_all (length x.got) x.got (omega arith) in
@@ -498,21 +502,22 @@ reads_further x y Q ms le h =
     (reads-held (sender y) x.own (holds x) (drop x.current.own (take x.acked.own x.own)) x.signed.own Q x.got
     x.acked.own (x.number + 1) x.revocations ms h)
 
-pub kept_sign : (ly : Link) (z : RevokeAndAck) (x y : Side) (k : CommitmentSigned) (ms to_y : List Notice)
+pub kept_sign : (ly : Line) (z : RevokeAndAck) (v : ChannelReestablish) (x y : Side)
+    (k : CommitmentSigned) (ms to_y : List Notice)
     → Kept (record { x_link = Met; y_link = ly; x = x; y = y; to_x = Sign k ∷ ms; to_y = to_y })
     → Kept (record {
       x_link = Met;
       y_link = ly;
-      x = accepted_all z x;
+      x = accepted_all z v x;
       y = y;
       to_x = ms;
       to_y = posts ly (Revoke z ∷ []) to_y;
     })
-kept_sign Down z x y k ms to_y h = kept_sign_by Down z x y k ms to_y tt h.there h.back
+kept_sign Down z v x y k ms to_y h = kept_sign_by Down z v x y k ms to_y tt h.there h.back
     (accepts Met Down x y k (Sign k ∷ ms) h.back h.back.flight.0)
     (reads_further x y Anywhere ms h.there.within.own_current h.back.flight.1)
-kept_sign Waiting z x y k ms to_y h = absurd (cc (h.back.flight.0))
-kept_sign Met z x y k ms to_y h = kept_sign_by Met z x y k ms to_y tt h.there h.back
+kept_sign Awaiting z v x y k ms to_y h = absurd (cc (h.back.flight.0))
+kept_sign Met z v x y k ms to_y h = kept_sign_by Met z v x y k ms to_y tt h.there h.back
     (accepts Met Met x y k (Sign k ∷ ms) h.back h.back.flight.0)
     (reads_further x y (LacksNothing y.own y.current.peer y.signatures y.number) ms
     h.there.within.own_current h.back.flight.1)
@@ -531,12 +536,13 @@ not_before : (l : Bool) (c s number revocations seen known more current : ℕ) �
 not_before true c s number revocations seen known more current e b h = absurd (omega (arith, e, b))
 not_before false c s number revocations seen known more current e b h = h
 
-kept_revoke_by : (ly : Link) (z : CommitmentSigned) (x y : Side) (k : RevokeAndAck) (ms to_y : List Notice)
-    → InFlight Met ly (acknowledged_all z x) y to_y → Flows Met ly x y to_y → Flows ly Met y x (Revoke k ∷ ms)
-    → IsNext (sender y) x.number x.revocations k → Carries ly y (acknowledged_all z x) ms
-    → Kept (record { x_link = Met; y_link = ly; x = acknowledged_all z x; y = y; to_x = ms; to_y = to_y })
-kept_revoke_by ly z x y k ms to_y flight f g d rest =
-    let n = acknowledged_all z x in
+kept_revoke_by : (ly : Line) (z : CommitmentSigned) (v : ChannelReestablish) (x y : Side)
+    (k : RevokeAndAck) (ms to_y : List Notice)
+    → InFlight Met ly (acknowledged_all z v x) y to_y → Flows Met ly x y to_y → Flows ly Met y x (Revoke k ∷ ms)
+    → IsNext (sender y) x.number x.revocations k → Carries ly y (acknowledged_all z v x) ms
+    → Kept (record { x_link = Met; y_link = ly; x = acknowledged_all z v x; y = y; to_x = ms; to_y = to_y })
+kept_revoke_by ly z v x y k ms to_y flight f g d rest =
+    let n = acknowledged_all z v x in
     let w = f.within in
     let p = revoked_for x.signatures x.revocations y.number x.acked x.signed y.current d.next f.phase in
     let more : (seen us : List Change) → AllFit x.opening x.role [] seen (take x.acked.peer x.got) us
@@ -579,40 +585,44 @@ kept_revoke_by ly z x y k ms to_y flight f g d rest =
       };
     }
 
-carries_learned : (z : CommitmentSigned) (x y : Side) (ms : List Notice) → x.signatures ≤ y.number → Carries Met x y ms
-    → Carries Met (acknowledged_all z x) y ms
-carries_learned z x y ms le h = reads-learned (sender x) (sender (acknowledged_all z x)) y.own (holds y) y.signed.own
+carries_learned : (z : CommitmentSigned) (v : ChannelReestablish) (x y : Side) (ms : List Notice)
+    → x.signatures ≤ y.number → Carries Met x y ms
+    → Carries Met (acknowledged_all z v x) y ms
+carries_learned z v x y ms le h = reads-learned (sender x) (sender (acknowledged_all z v x))
+    y.own (holds y) y.signed.own
     (LacksNothing x.own x.current.peer x.signatures x.number) y.got y.acked.own y.number y.revocations ms refl refl
     le refl refl refl refl h
 
-pub kept_revoke : (ly : Link) (z : CommitmentSigned) (x y : Side) (k : RevokeAndAck) (ms to_y : List Notice)
+pub kept_revoke : (ly : Line) (z : CommitmentSigned) (v : ChannelReestablish) (x y : Side)
+    (k : RevokeAndAck) (ms to_y : List Notice)
     → Kept (record { x_link = Met; y_link = ly; x = x; y = y; to_x = Revoke k ∷ ms; to_y = to_y })
-    → Kept (record { x_link = Met; y_link = ly; x = acknowledged_all z x; y = y; to_x = ms; to_y = to_y })
-kept_revoke Down z x y k ms to_y h = kept_revoke_by Down z x y k ms to_y h.there.flight h.there h.back
+    → Kept (record { x_link = Met; y_link = ly; x = acknowledged_all z v x; y = y; to_x = ms; to_y = to_y })
+kept_revoke Down z v x y k ms to_y h = kept_revoke_by Down z v x y k ms to_y h.there.flight h.there h.back
     h.back.flight.0 h.back.flight.1
-kept_revoke Waiting z x y k ms to_y h = absurd (cc (h.back.flight.0))
-kept_revoke Met z x y k ms to_y h =
+kept_revoke Awaiting z v x y k ms to_y h = absurd (cc (h.back.flight.0))
+kept_revoke Met z v x y k ms to_y h =
     let p = revoked_for x.signatures x.revocations y.number x.acked x.signed y.current
     (h.back.flight.0).next h.there.phase in
-    kept_revoke_by Met z x y k ms to_y (carries_learned z x y to_y (omega (arith, p.1)) h.there.flight) h.there h.back
+    kept_revoke_by Met z v x y k ms to_y (carries_learned z v x y to_y (omega (arith, p.1))
+    h.there.flight) h.there h.back
     h.back.flight.0 h.back.flight.1
 
 -- ---- x takes channel_ready, or a shutdown
 
-took_ready : (ly : Link) (z : ChannelReady) (m : CommitmentSigned) (x y : Side) (ms : List Notice)
+took_ready : (ly : Line) (z : ChannelReady) (m : CommitmentSigned) (x y : Side) (ms : List Notice)
     → Carries ly y x (Ready z ∷ ms) → Carries ly y (record x { peer_ready = true; signature = m }) ms
 took_ready Down z m x y ms h = h
-took_ready Waiting z m x y ms h = absurd (cc (h.0))
+took_ready Awaiting z m x y ms h = absurd (cc (h.0))
 took_ready Met z m x y ms h = h
 
-took_shutdown : (ly : Link) (z : ShutdownMessage) (x y : Side) (ms : List Notice) → Carries ly y x (Shutdown z ∷ ms)
+took_shutdown : (ly : Line) (z : ShutdownMessage) (x y : Side) (ms : List Notice) → Carries ly y x (Shutdown z ∷ ms)
     → Carries ly y (record x { peer_shut = true }) ms
 took_shutdown Down z x y ms h = h
-took_shutdown Waiting z x y ms h = absurd (cc (h.0))
+took_shutdown Awaiting z x y ms h = absurd (cc (h.0))
 took_shutdown Met z x y ms h = h
 
 -- m is what x would now send again as its last signature
-pub kept_ready : (ly : Link) (z : ChannelReady) (m : CommitmentSigned) (x y : Side) (ms to_y : List Notice)
+pub kept_ready : (ly : Line) (z : ChannelReady) (m : CommitmentSigned) (x y : Side) (ms to_y : List Notice)
     → ((ns : List Notice) → Carries Met x y ns → Carries Met (record x { peer_ready = true; signature = m }) y ns)
     → Kept (record { x_link = Met; y_link = ly; x = x; y = y; to_x = Ready z ∷ ms; to_y = to_y })
     → Kept (record {
@@ -646,7 +656,7 @@ kept_ready ly z m x y ms to_y frame k =
         agree = f.agree;
         order = f.order;
         flight = passed ly Met Met x n y to_y
-            (same_front ly x n refl refl) frame f.flight;
+            (same_front ly x n refl) frame f.flight;
       };
       back = record {
         same = g.same;
@@ -670,7 +680,7 @@ carries_first m x y ms le h = reads-learned (sender x) (sender (record x { peer_
     (holds y) y.signed.own (LacksNothing x.own x.current.peer x.signatures x.number) y.got y.acked.own y.number
     y.revocations ms refl refl le refl refl refl refl h
 
-pub kept_shutdown : (ly : Link) (z : ShutdownMessage) (x y : Side) (ms to_y : List Notice)
+pub kept_shutdown : (ly : Line) (z : ShutdownMessage) (x y : Side) (ms to_y : List Notice)
     → Kept (record { x_link = Met; y_link = ly; x = x; y = y; to_x = Shutdown z ∷ ms; to_y = to_y })
     → Kept (record { x_link = Met; y_link = ly; x = record x { peer_shut = true }; y = y; to_x = ms; to_y = to_y })
 kept_shutdown ly z x y ms to_y k =
@@ -696,7 +706,7 @@ kept_shutdown ly z x y ms to_y k =
         agree = f.agree;
         order = f.order;
         flight = passed ly Met Met x n y to_y
-            (same_front ly x n refl refl) (λ ns h. h) f.flight;
+            (same_front ly x n refl) (λ ns h. h) f.flight;
       };
       back = record {
         same = g.same;
@@ -728,7 +738,7 @@ body_quiet x n y m ns e h f = reads-push (sender x) y.own (holds y) y.signed.own
     y.got y.acked.own y.number y.revocations ns (m ∷ []) f h
 
 -- what the reader reads by is the same
-carries_own : (ly : Link) (y x n : Side) (ms : List Notice) → Carries ly y x ms
+carries_own : (ly : Line) (y x n : Side) (ms : List Notice) → Carries ly y x ms
     → Carries ly y (record n {
       own = x.own;
       got = x.got;
@@ -739,10 +749,10 @@ carries_own : (ly : Link) (y x n : Side) (ms : List Notice) → Carries ly y x m
       revocations = x.revocations;
     }) ms
 carries_own Down y x n ms h = h
-carries_own Waiting y x n ms h = h
+carries_own Awaiting y x n ms h = h
 carries_own Met y x n ms h = h
 
-pub kept_confirmed : (ly : Link) (x y : Side) (to_x to_y : List Notice)
+pub kept_confirmed : (ly : Line) (x y : Side) (to_x to_y : List Notice)
     → Kept (record { x_link = Met; y_link = ly; x = x; y = y; to_x = to_x; to_y = to_y })
     → Kept (confirms (record { x_link = Met; y_link = ly; x = x; y = y; to_x = to_x; to_y = to_y }))
 kept_confirmed ly x y to_x to_y k =
@@ -768,7 +778,7 @@ kept_confirmed ly x y to_x to_y k =
         agree = f.agree;
         order = f.order;
         flight = posted ly Met Met x n y (Ready x.ready_message ∷ []) to_y
-            (same_front ly x n refl refl) (λ ns h. body_quiet x n y (Ready x.ready_message) ns refl h
+            (same_front ly x n refl) (λ ns h. body_quiet x n y (Ready x.ready_message) ns refl h
             (λ b c d s l. l)) f.flight;
       };
       back = record {
@@ -786,7 +796,7 @@ kept_confirmed ly x y to_x to_y k =
       };
     }
 
-pub kept_shut : (ly : Link) (z : ShutdownMessage) (x y : Side) (to_x to_y : List Notice)
+pub kept_shut : (ly : Line) (z : ShutdownMessage) (x y : Side) (to_x to_y : List Notice)
     → Kept (record { x_link = Met; y_link = ly; x = x; y = y; to_x = to_x; to_y = to_y })
     → Kept (shuts z (record { x_link = Met; y_link = ly; x = x; y = y; to_x = to_x; to_y = to_y }))
 kept_shut ly z x y to_x to_y k =
@@ -812,7 +822,7 @@ kept_shut ly z x y to_x to_y k =
         agree = f.agree;
         order = f.order;
         flight = posted ly Met Met x n y (Shutdown z ∷ []) to_y
-            (same_front ly x n refl refl) (λ ns h. body_quiet x n y (Shutdown z) ns refl h (λ b c d s l. l)) f.flight;
+            (same_front ly x n refl) (λ ns h. body_quiet x n y (Shutdown z) ns refl h (λ b c d s l. l)) f.flight;
       };
       back = record {
         same = g.same;

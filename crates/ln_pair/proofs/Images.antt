@@ -1,7 +1,7 @@
 -- What of an end the walk over what is in flight goes by.
 use Rattle.std.proofs.Common.{◌≡◌, ℕ, zero, suc, ◌+◌, ◌-◌, ◌≤◌, List, [], ◌∷◌, ◌++◌, length, take, refl, sym, ap, ◌∙◌}
 use Rattle.std.proofs.Common.{arith, Bool, true, false}
-use Rattle.std.proofs.lemmas.List.{map-append, length-map, take-append-le}
+use Rattle.std.proofs.lemmas.List.{map-append, length-map, take-append-le, take-take}
 use Rattle.ln_msgs.specs.declared.messages.message.Message.{Message}
 use Rattle.ln_msgs.specs.declared.messages.message.Message.TheVariants as message
 use Rattle.ln_msgs.specs.declared.messages.commitments.CommitmentSigned.{CommitmentSigned}
@@ -16,12 +16,12 @@ use Rattle.ln_dance.specs.declared.dance.Later.{Later}
 use Rattle.ln_dance.specs.declared.dance.Later.TheVariants.{Signature, Revocation}
 use Rattle.ln_dance.specs.Dance.{Dancer, signed_message, revoked_message}
 use Rattle.ln_dance.specs.Messages.{update_message}
-use Rattle.ln_dance.specs.Resume.{signature_again, revocation_again}
-use Rattle.ln_link.specs.End.{End, shutdown_message}
+use Rattle.ln_dance.specs.Resume.{reestablish_message, signature_again, revocation_again}
+use Rattle.ln_link.specs.End.{End, end_dropped, shutdown_message}
 use Rattle.ln_link.specs.Commands.{ready_message, proposes, signs_next}
 use Rattle.ln_link.specs.Taking.{takes, accepts}
 use Rattle.ln_pair.proofs.Sides.{Notice, Update, Sign, Revoke, Ready, Shutdown, Again, Side, proposed, received}
-use Rattle.ln_pair.proofs.Sides.{signed_all, accepted_all}
+use Rattle.ln_pair.proofs.Sides.{signed_all, accepted_all, dropped}
 
 -- the message that a notice is, in the channel of this id
 abbrev pub message_of : List ℕ → Notice → Message
@@ -66,6 +66,7 @@ side_of k e = record {
   revocation = revocation_again k e.dance;
   ready_message = ready_message k e;
   shut_message = shutdown_message e;
+  reestablish = reestablish_message k e.dance;
 }
 
 -- ---- updates as they are sent
@@ -122,7 +123,8 @@ pub signs_so : (k : Signer) (e : End) → side_of k (signs_next e) ≡ signed_al
 signs_so k e = ap (λ n. record (side_of k (signs_next e))
     { signed = record { own = n; peer = e.dance.log.current.peer } }) (sym (length-sent e.dance.log.own))
 
-pub accepts_so : (k : Signer) (e : End) → side_of k (accepts e) ≡ accepted_all (revoked_message k e.dance) (side_of k e)
+pub accepts_so : (k : Signer) (e : End) → side_of k (accepts e)
+    ≡ accepted_all (revoked_message k e.dance) (reestablish_message k (accepts e).dance) (side_of k e)
 accepts_so k e =
     let at : ℕ → RevokeAndAck → Side = λ n m. record (side_of k (accepts e))
     { current = record { own = e.dance.log.acknowledged.own; peer = n }; revocation = m } in
@@ -139,3 +141,20 @@ accepts_so k e =
     })) back
     ∙ ap (λ n. at (length (all_sent e.dance.log.received))
     (record { channel_id = e.dance.channel; secret = k.secret_of c; next_point = k.point_of n; records = [] })) on
+
+pub dropped_so : (k : Signer) (e : End) → e.dance.log.signed.peer ≤ e.dance.log.current.peer
+    → side_of k (end_dropped e) ≡ dropped (side_of k e)
+dropped_so k e le =
+    let l = e.dance.log in
+    let at : List Change → List Change → CommitmentSigned
+    → Side = λ us vs m. record (side_of k e) { own = us; got = vs; signature = m } in
+    let m = signature_again k (end_dropped e).dance in
+    let own = take l.signed.own (all_sent l.own) in
+    let got = take l.current.peer (all_sent l.received) in
+    ap (λ us. at us (all_sent (take l.current.peer l.received)) m) (sym (take-sent l.signed.own l.own))
+    ∙ ap (λ vs. at own vs m) (sym (take-sent l.current.peer l.received))
+    ∙ ap (λ us. at own got (signed_over k e.dance
+    (record { own = us; peer = take l.signed.peer (take l.current.peer l.received) })))
+    (take-take l.signed.own l.signed.own l.own (omega arith))
+    ∙ ap (λ us. at own got (signed_over k e.dance (record { own = take l.signed.own l.own; peer = us })))
+    (take-take l.signed.peer l.current.peer l.received le)

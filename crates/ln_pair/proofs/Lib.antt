@@ -5,10 +5,14 @@ pub mod Marks
 pub mod Reading
 pub mod Flow
 pub mod Telling
+pub mod Resume
+pub mod TellingAgain
 pub mod Images
 pub mod Rows
 pub mod Steps
+pub mod Resends
 pub mod Turns
+pub mod Breaks
 pub mod Runs
 pub mod Opens
 pub mod Promised

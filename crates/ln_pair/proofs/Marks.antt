@@ -4,8 +4,10 @@ use Rattle.std.specs.Prelude.{◌≡◌, ◌≤◌, List, [], ◌∷◌, length,
 use Rattle.ln_log.specs.declared.update.Update.{Update as Change}
 use Rattle.ln_msgs.specs.declared.messages.opening.ChannelReady.{ChannelReady}
 use Rattle.ln_msgs.specs.declared.messages.closing.Shutdown.{Shutdown as ShutdownMessage}
-use Rattle.ln_pair.proofs.Sides.{Both, opens, Notice, Update, Sign, Revoke, Ready, Shutdown, Again, Link, Down, Waiting}
-use Rattle.ln_pair.proofs.Sides.{Met, Side}
+use Rattle.ln_link.specs.declared.link.Line.{Line}
+use Rattle.ln_link.specs.declared.link.Line.TheVariants.{Down, Awaiting, Met}
+use Rattle.ln_pair.proofs.Sides.{Both, opens, Notice, Update, Sign, Revoke, Ready, Shutdown, Again}
+use Rattle.ln_pair.proofs.Sides.{Side}
 
 -- what opens something doesn't stand behind a shutdown
 abbrev pub IsAllowed : Bool → Bool → Type 0
@@ -49,12 +51,12 @@ teller x y = record {
   shut_message = x.shut_message;
 }
 
-abbrev pub Speaks : Link → Side → Side → List Notice → Type 0
+abbrev pub Speaks : Line → Side → Side → List Notice → Type 0
 Speaks Down x y ms = Tells (teller x y) ToldAny y.peer_ready y.peer_shut ms
-Speaks Waiting x y ms = ms ≡ []
+Speaks Awaiting x y ms = ms ≡ []
 Speaks Met x y ms = Tells (teller x y) (ToldAll x.ready x.shut) y.peer_ready y.peer_shut ms
 
-abbrev pub SpeaksAgain : Link → Side → Side → List Notice → Type 0
+abbrev pub SpeaksAgain : Line → Side → Side → List Notice → Type 0
 SpeaksAgain l x y [] = ⊥
 SpeaksAgain l x y (Update u ∷ ms) = ⊥
 SpeaksAgain l x y (Sign k ∷ ms) = ⊥
@@ -63,16 +65,16 @@ SpeaksAgain l x y (Ready z ∷ ms) = ⊥
 SpeaksAgain l x y (Shutdown z ∷ ms) = ⊥
 SpeaksAgain l x y (Again n ∷ ms) = Speaks l x y ms
 
-abbrev pub Speech : Link → Link → Side → Side → List Notice → Type 0
+abbrev pub Speech : Line → Line → Side → Side → List Notice → Type 0
 Speech l Down x y ms = ms ≡ []
-Speech l Waiting x y ms = SpeaksAgain l x y ms
+Speech l Awaiting x y ms = SpeaksAgain l x y ms
 Speech l Met x y ms = Speaks l x y ms
 
 pub record IsReady (x : Side) : Type 0 where
   pub sent : x.ready ≡ true
   pub taken : x.peer_ready ≡ true
 
-pub record Told (lx ly : Link) (x y : Side) (ms : List Notice) : Type 0 where
+pub record Told (lx ly : Line) (x y : Side) (ms : List Notice) : Type 0 where
   pub ready_sent : y.peer_ready ≡ true → x.ready ≡ true
   pub shut_sent : y.peer_shut ≡ true → x.shut ≡ true
   pub used : 1 ≤ length x.own → IsReady x

@@ -19,7 +19,7 @@ use Rattle.ln_link.specs.Meeting.{Opens}
 use Rattle.ln_link.specs.End.{End, end_of}
 use Rattle.ln_link.proofs.Meeting.{are_ends}
 use Rattle.ln_pair.specs.Ends.{opened}
-use Rattle.ln_pair.proofs.Sides.{Met}
+use Rattle.ln_link.specs.declared.link.Line.TheVariants.{Met}
 use Rattle.ln_pair.proofs.Walk.{Idle, Flows}
 use Rattle.ln_pair.proofs.Marks.{Told}
 use Rattle.ln_pair.proofs.Images.{side_of}
@@ -71,6 +71,8 @@ knows k r q c d f g t u ep es = record {
   below = omega arith;
   script = es;
   not_closed = refl;
+  no_fee = refl;
+  secret = λ n e. absurd (omega (arith, e));
 }
 
 said : Said false []

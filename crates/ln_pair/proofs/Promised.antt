@@ -20,13 +20,16 @@ use Rattle.ln_link.specs.End.{End, has_begun, completed}
 use Rattle.ln_pair.specs.Ends.{Ends, Step, opened, turned, run}
 use Rattle.ln_pair.specs.Promises.{AreKeys, StaysOpen, party, Headline, TakesFront, NoneRefused, HoldsAll, Agrees}
 use Rattle.ln_pair.specs.Promises.{NoneAddsLate}
-use Rattle.ln_pair.proofs.Sides.{Notice, Met}
+use Rattle.ln_link.specs.declared.link.Line.{Line}
+use Rattle.ln_link.specs.declared.link.Line.TheVariants.{Down, Awaiting, Met}
+use Rattle.ln_link.specs.Resume.{resumed}
+use Rattle.ln_pair.proofs.Sides.{Notice, Update, Sign, Revoke, Ready, Shutdown, Again}
 use Rattle.ln_pair.proofs.Walk.{Phase, Idle, Sent, Answered, LacksNothing, Flows}
 use Rattle.ln_pair.proofs.Flow.{current_own, current_peer}
 use Rattle.ln_pair.proofs.Images.{messages_of, side_of, length-sent, take-sent}
 use Rattle.ln_pair.proofs.Steps.{parts, Hold}
 use Rattle.ln_pair.proofs.Turns.{turn_of}
-use Rattle.ln_pair.proofs.Runs.{Holds, flipped, flipped_keys, due_row, open_then, ran}
+use Rattle.ln_pair.proofs.Runs.{Holds, flipped, flipped_keys, met_row, meeting_row, open_then, ran}
 use Rattle.ln_pair.proofs.Opens.{opened_holds}
 
 -- at every end of a run
@@ -52,9 +55,9 @@ begins_all n k us vs e le =
 begins_so : (p q r s : List Change) → p ≡ r → q ≡ s → Begins p q → Begins r s
 begins_so p q r s e f h = subst (λ w. Begins w s) e (subst (λ w. Begins p w) f h)
 
-follows : (a b : Signer) (x y : End) (ms ns : List Notice) → Flows Met Met (side_of a x) (side_of b y) ms
-    → Flows Met Met (side_of b y) (side_of a x) ns → Follows (party x) (party y)
-follows a b x y ms ns f g =
+follows : (a b : Signer) (lx ly : Line) (x y : End) (ms ns : List Notice) → Flows lx ly (side_of a x) (side_of b y) ms
+    → Flows ly lx (side_of b y) (side_of a x) ns → Follows (party x) (party y)
+follows a b lx ly x y ms ns f g =
     let l = x.dance.log in
     let m = y.dance.log in
     let own : m.current.peer ≤ l.signed.own = current_own x.dance.numbers.signed x.dance.numbers.revoked
@@ -76,8 +79,8 @@ follows a b x y ms ns f g =
 
 headline_of : (a b : Signer) (p : Ends) → Holds a b p → Headline p
 headline_of a b p h = (
-  follows a b p.x p.y h.to_y h.to_x h.hold.kept.there h.hold.kept.back,
-  follows b a p.y p.x h.to_x h.to_y h.hold.kept.back h.hold.kept.there,
+  follows a b p.x_line p.y_line p.x p.y h.to_y h.to_x h.hold.kept.there h.hold.kept.back,
+  follows b a p.y_line p.x_line p.y p.x h.to_x h.to_y h.hold.kept.back h.hold.kept.there,
 )
 
 pub headline : (a b : Signer) (s : OpenSpec) (c : Config) (funder fundee : Opened) (steps : List Step) → AreKeys a b
@@ -88,15 +91,25 @@ headline a b s c funder fundee steps keys o still =
 
 -- ---- no message is refused
 
-front_by : (a b : Signer) → AreKeys a b → (p : Ends) (channel : List ℕ) (ns to_y : List Notice) → has_begun p.x ≡ false
-    → Hold a b channel p.x p.y ns to_y p.said_x p.said_y → TakesFront a (messages_of channel ns) p.x
-front_by a b keys p channel [] to_y e h = tt
-front_by a b keys p channel (n ∷ ns) to_y e h =
-    (completed a (turn_of a n p.x), due_row a b keys p channel n ns to_y e h)
+front_by : (a b : Signer) → AreKeys a b → (l : Line) (p : Ends) → p.x_line ≡ l
+    → (channel : List ℕ) (ns to_y : List Notice) → has_begun p.x ≡ false
+    → Hold a b channel l p.y_line p.x p.y ns to_y p.said_x p.said_y → TakesFront a p.x_line (messages_of channel ns) p.x
+front_by a b keys l p is channel [] to_y e h = tt
+front_by a b keys Down p is channel (n ∷ ns) to_y e h = absurd (let no : n ∷ ns ≡ [] = h.kept.back.flight in cc)
+front_by a b keys Awaiting p is channel (Update u ∷ ns) to_y e h = absurd (h.kept.back.flight)
+front_by a b keys Awaiting p is channel (Sign m ∷ ns) to_y e h = absurd (h.kept.back.flight)
+front_by a b keys Awaiting p is channel (Revoke m ∷ ns) to_y e h = absurd (h.kept.back.flight)
+front_by a b keys Awaiting p is channel (Ready m ∷ ns) to_y e h = absurd (h.kept.back.flight)
+front_by a b keys Awaiting p is channel (Shutdown m ∷ ns) to_y e h = absurd (h.kept.back.flight)
+front_by a b keys Awaiting p is channel (Again m ∷ ns) to_y e h =
+    (completed a (resumed a m p.x), meeting_row a b keys p is channel m ns to_y h)
+front_by a b keys Met p is channel (n ∷ ns) to_y e h =
+    (completed a (turn_of a n p.x), met_row a b keys p is channel n ns to_y e h)
 
-front : (a b : Signer) → AreKeys a b → (p : Ends) → has_begun p.x ≡ false → Holds a b p → TakesFront a p.to_x p.x
-front a b keys p e h = let is = h.in_x in subst (λ ms. TakesFront a ms p.x) (sym is)
-    (front_by a b keys p h.channel h.to_x h.to_y e h.hold)
+front : (a b : Signer) → AreKeys a b → (p : Ends) → has_begun p.x ≡ false → Holds a b p
+    → TakesFront a p.x_line p.to_x p.x
+front a b keys p e h = let is = h.in_x in subst (λ ms. TakesFront a p.x_line ms p.x) (sym is)
+    (front_by a b keys p.x_line p refl h.channel h.to_x h.to_y e h.hold)
 
 pub none_refused : (a b : Signer) (s : OpenSpec) (c : Config) (funder fundee : Opened) (steps : List Step) → AreKeys a b
     → Opens a b s c funder fundee → StaysOpen a b steps (opened funder fundee)
@@ -169,15 +182,20 @@ holds_all a b x y f g sx sy =
       peer = ap all_sent (take_all l.acknowledged.peer l.received (omega (arith, peer))) ∙ m.has_all;
     }
 
-agrees_by : (a b : Signer) (p : Ends) (to_x to_y : List Notice) → to_x ≡ [] → to_y ≡ [] → (channel : List ℕ)
-    → Hold a b channel p.x p.y to_x to_y p.said_x p.said_y → HasNothing p.x.dance.log → HasNothing p.y.dance.log
-    → HoldsAll (party p.x) (party p.y) × HoldsAll (party p.y) (party p.x)
-agrees_by a b p to_x to_y ex ey channel h sx sy =
-    let f : Flows Met Met (side_of a p.x) (side_of b p.y) [] =
-    subst (λ ms. Flows Met Met (side_of a p.x) (side_of b p.y) ms) ey h.kept.there in
-    let g : Flows Met Met (side_of b p.y) (side_of a p.x) [] =
-    subst (λ ms. Flows Met Met (side_of b p.y) (side_of a p.x) ms) ex h.kept.back in
-    (holds_all a b p.x p.y f g sx sy, holds_all b a p.y p.x g f sy sx)
+agrees_by : (a b : Signer) (lx ly : Line) (x y : End) (to_x to_y : List Notice) → lx ≡ Met → ly ≡ Met → to_x ≡ []
+    → to_y ≡ [] → Flows lx ly (side_of a x) (side_of b y) to_y → Flows ly lx (side_of b y) (side_of a x) to_x
+    → HasNothing x.dance.log → HasNothing y.dance.log → HoldsAll (party x) (party y)
+agrees_by a b lx ly x y to_x to_y ex ey dx dy f g sx sy =
+    let f1 : Flows Met ly (side_of a x) (side_of b y) to_y =
+    subst (λ l. Flows l ly (side_of a x) (side_of b y) to_y) ex f in
+    let f2 : Flows Met Met (side_of a x) (side_of b y) to_y =
+    subst (λ l. Flows Met l (side_of a x) (side_of b y) to_y) ey f1 in
+    let g1 : Flows Met lx (side_of b y) (side_of a x) to_x =
+    subst (λ l. Flows l lx (side_of b y) (side_of a x) to_x) ey g in
+    let g2 : Flows Met Met (side_of b y) (side_of a x) to_x =
+    subst (λ l. Flows Met l (side_of b y) (side_of a x) to_x) ex g1 in
+    holds_all a b x y (subst (λ ms. Flows Met Met (side_of a x) (side_of b y) ms) dy f2)
+    (subst (λ ms. Flows Met Met (side_of b y) (side_of a x) ms) dx g2) sx sy
 
 pub agrees : (a b : Signer) (s : OpenSpec) (c : Config) (funder fundee : Opened) (steps : List Step) → AreKeys a b
     → Opens a b s c funder fundee → StaysOpen a b steps (opened funder fundee)
@@ -185,9 +203,14 @@ pub agrees : (a b : Signer) (s : OpenSpec) (c : Config) (funder fundee : Opened)
 agrees a b s c funder fundee steps keys o still rest =
     let p = run a b steps (opened funder fundee) in
     let h = at_end a b s c funder fundee steps keys o still in
-    agrees_by a b p h.to_x h.to_y (nothing_in h.channel h.to_x (sym h.in_x ∙ rest.to_x))
-    (nothing_in h.channel h.to_y (sym h.in_y ∙ rest.to_y)) h.channel h.hold (has_nothing p.x.dance rest.x)
-    (has_nothing p.y.dance rest.y)
+    let nx = nothing_in h.channel h.to_x (sym h.in_x ∙ rest.to_x) in
+    let ny = nothing_in h.channel h.to_y (sym h.in_y ∙ rest.to_y) in
+    let sx = has_nothing p.x.dance rest.x in
+    let sy = has_nothing p.y.dance rest.y in
+    let k = h.hold.kept in (
+      agrees_by a b p.x_line p.y_line p.x p.y h.to_x h.to_y rest.x_met rest.y_met nx ny k.there k.back sx sy,
+      agrees_by b a p.y_line p.x_line p.y p.x h.to_y h.to_x rest.y_met rest.x_met ny nx k.back k.there sy sx,
+    )
 
 -- ---- no add behind the own shutdown
 

@@ -17,20 +17,28 @@ use Rattle.ln_dance.specs.Messages.{update_message}
 use Rattle.ln_close.specs.Closing.{after_shut, may_start, started, first_fee}
 use Rattle.ln_link.specs.declared.command.Command.{Command}
 use Rattle.ln_link.specs.declared.command.Command.TheVariants as command
-use Rattle.ln_link.specs.declared.output.Output.{Output}
 use Rattle.ln_link.specs.declared.output.Output.TheVariants as output
 use Rattle.ln_link.specs.Opening.{unless}
 use Rattle.ln_link.specs.End.{End, Turn, has_begun, sending, completed, settled, begins, answers_shutdown}
-use Rattle.ln_link.specs.End.{owes_shutdown, due_fee, fee_sent, due_sent, shutdown_sent, shutdown_message}
-use Rattle.ln_link.specs.Taking.{completed_row, taken}
+use Rattle.ln_link.specs.End.{owes_shutdown, due_fee, fee_sent, due_sent, end_dropped, shutdown_sent, shutdown_message}
+use Rattle.ln_link.specs.Taking.{completed_row}
 use Rattle.ln_link.specs.Commands.{ready_message, confirmed, confirm_fault, propose_fault, proposes, sign_command_fault}
-use Rattle.ln_link.specs.Commands.{signs_next, shut_fault, shuts_down}
-use Rattle.ln_pair.specs.Ends.{Ends, turned, messages_in, becomes, answers, delivers, Act, Deliver, Give, acts, Step}
-use Rattle.ln_pair.specs.Ends.{By, happens, run}
+use Rattle.ln_link.specs.Commands.{signs_next, shut_fault, shuts_down, command_row, unready_fault}
+use Rattle.ln_msgs.specs.declared.messages.commitments.ChannelReestablish.{ChannelReestablish}
+use Rattle.ln_dance.specs.Resume.{reestablish_message}
+use Rattle.ln_link.specs.declared.link.Line.{Line}
+use Rattle.ln_link.specs.declared.link.Line.TheVariants.{Down, Awaiting, Met}
+use Rattle.ln_link.specs.State.{is_down}
+use Rattle.ln_link.specs.Step.{faulted, line_fault}
+use Rattle.ln_link.specs.Resume.{resumed}
+use Rattle.ln_pair.specs.Ends.{Ends, turned, message_at, messages_in, arrive, becomes, answers, delivers, Act, Deliver}
+use Rattle.ln_pair.specs.Ends.{Give, Lose, acts, connects, Step, By, Connect, happens, run}
 use Rattle.ln_pair.specs.Promises.{AreKeys, IsOpen, StaysOpen}
-use Rattle.ln_pair.proofs.Sides.{Notice, Update, Sign, Ready, Shutdown}
+use Rattle.ln_pair.proofs.Sides.{Notice, Update, Sign, Revoke, Ready, Shutdown, Again, posts}
 use Rattle.ln_pair.proofs.Images.{message_of, messages_of, messages-append}
 use Rattle.ln_pair.proofs.Steps.{sent_as, Hold, flip, confirms, proposed_so, signed_so, shuts}
+use Rattle.ln_pair.proofs.Resends.{in-append}
+use Rattle.ln_pair.proofs.Breaks.{again_row, lacked, again_sends, took_again, lost_so, joined_so}
 use Rattle.ln_pair.proofs.Turns.{turn_of, sent_by, sends_so, row, took, shutdown_notice, owes_by}
 
 -- ---- closing hasn't begun
@@ -58,14 +66,6 @@ begins_not e h = ap (λ t. cond t (record e { closing = started e.closing }) e) 
 owes_no_fee : (e : End) → has_begun e ≡ false → due_fee e ≡ None
 owes_no_fee e h = ap (λ t. cond t (first_fee e.closing) None) h
 
-in-append : (os ps : List Output) → messages_in (os ++ ps) ≡ messages_in os ++ messages_in ps
-in-append [] ps = refl
-in-append (output.Send m ∷ os) ps = ap (λ ms. m ∷ ms) (in-append os ps)
-in-append (output.Signed n ∷ os) ps = in-append os ps
-in-append (output.Committed own peer ∷ os) ps = in-append os ps
-in-append (output.Event n e ∷ os) ps = in-append os ps
-in-append (output.Closed fee ∷ os) ps = in-append os ps
-
 -- ---- two ends
 
 -- what is in flight is what these notices say
@@ -75,7 +75,7 @@ pub record Holds (a b : Signer) (p : Ends) : Type 0 where
   pub to_y : List Notice
   pub in_x : p.to_x ≡ messages_of channel to_x
   pub in_y : p.to_y ≡ messages_of channel to_y
-  pub hold : Hold a b channel p.x p.y to_x to_y p.said_x p.said_y
+  pub hold : Hold a b channel p.x_line p.y_line p.x p.y to_x to_y p.said_x p.said_y
 
 pub flipped : (a b : Signer) (p : Ends) → Holds a b p → Holds b a (turned p)
 flipped a b p h = record {
@@ -84,7 +84,7 @@ flipped a b p h = record {
   to_y = h.to_x;
   in_x = h.in_y;
   in_y = h.in_x;
-  hold = flip a b h.channel p.x p.y h.to_x h.to_y p.said_x p.said_y h.hold;
+  hold = flip a b h.channel p.x_line p.y_line p.x p.y h.to_x h.to_y p.said_x p.said_y h.hold;
 }
 
 pub flipped_keys : (a b : Signer) → AreKeys a b → AreKeys b a
@@ -94,19 +94,32 @@ flipped_keys a b k = record {
   b_points = k.a_points;
 }
 
+posts_twice : (l : Line) (ms ns os : List Notice) → posts l (ms ++ ns) os ≡ posts l ns (posts l ms os)
+posts_twice Down ms ns os = refl
+posts_twice Awaiting ms ns os = sym (append_assoc os ms ns)
+posts_twice Met ms ns os = sym (append_assoc os ms ns)
+
+arrive_so : (l : Line) (channel : List ℕ) (sent ms : List Message) (new old : List Notice)
+    → sent ≡ messages_of channel new → ms ≡ messages_of channel old
+    → arrive l sent ms ≡ messages_of channel (posts l new old)
+arrive_so Down channel sent ms new old e f = f
+arrive_so Awaiting channel sent ms new old e f = ap (λ os. os ++ sent) f ∙ ap (λ os. messages_of channel old ++ os) e
+    ∙ sym (messages-append channel old new)
+arrive_so Met channel sent ms new old e f = ap (λ os. os ++ sent) f ∙ ap (λ os. messages_of channel old ++ os) e
+    ∙ sym (messages-append channel old new)
+
 module _ (a b : Signer) (keys : AreKeys a b) where
   -- x has made this turn
   become : (t : Turn) (p : Ends) (channel : List ℕ) (rest old new : List Notice) → p.to_x ≡ messages_of channel rest
       → p.to_y ≡ messages_of channel old → messages_in t.handed.sent ≡ messages_of channel new
-      → Hold a b channel t.end p.y rest (old ++ new) (p.said_x ++ messages_in t.handed.sent) p.said_y
-      → Holds a b (becomes t p)
+      → Hold a b channel Met p.y_line t.end p.y rest (posts p.y_line new old) (p.said_x ++ messages_in t.handed.sent)
+      p.said_y → Holds a b (becomes t p)
   become t p channel rest old new ix iy is h = record {
     channel = channel;
     to_x = rest;
-    to_y = old ++ new;
+    to_y = posts p.y_line new old;
     in_x = ix;
-    in_y = ap (λ ms. ms ++ messages_in t.handed.sent) iy ∙ ap (λ ms. messages_of channel old ++ ms) is
-        ∙ sym (messages-append channel old new);
+    in_y = arrive_so p.y_line channel (messages_in t.handed.sent) p.to_y new old is iy;
     hold = h;
   }
 
@@ -115,10 +128,11 @@ module _ (a b : Signer) (keys : AreKeys a b) where
       → has_begun (answers_shutdown t.end) ≡ false → p.to_x ≡ messages_of channel rest
       → p.to_y ≡ messages_of channel old
       → messages_in t.handed.sent ≡ messages_of channel new
-      → Hold a b channel t.end p.y rest (old ++ new) (p.said_x ++ messages_in t.handed.sent) p.said_y
-      → Holds a b (becomes (completed a t) p)
+      → Hold a b channel Met p.y_line t.end p.y rest (posts p.y_line new old) (p.said_x ++ messages_in t.handed.sent)
+      p.said_y → Holds a b (becomes (completed a t) p)
   finish_by t p channel rest old new o owes unbegun ix iy is h =
       let e = t.end in
+      let l = p.y_line in
       let m = shutdown_message e in
       let sent = messages_in t.handed.sent in
       let due = messages_in (cond o (output.Send (message.Shutdown m) ∷ []) []) in
@@ -130,70 +144,99 @@ module _ (a b : Signer) (keys : AreKeys a b) where
       ∙ append-nil (shutdown_sent e) ∙ ap (λ q. cond q (output.Send (message.Shutdown m) ∷ []) []) owes in
       let all_is : messages_in (t.handed.sent ++ due_sent a e) ≡ sent ++ due = in-append t.handed.sent (due_sent a e)
       ∙ ap (λ os. sent ++ messages_in os) out_is in
-      let extra = shutdown_notice a b keys channel e p.y (p.said_x ++ sent) p.said_y o in
-      let owed : Hold a b channel (cond o (record e { closing = after_shut e.closing }) e) p.y rest
-      ((old ++ new) ++ extra) ((p.said_x ++ sent) ++ due) p.said_y =
-      owes_by a b keys channel e p.y (p.said_x ++ sent) p.said_y o owes rest (old ++ new) h in
-      let here : Hold a b channel (settled e) p.y rest ((old ++ new) ++ extra) ((p.said_x ++ sent) ++ due) p.said_y =
-      subst (λ n. Hold a b channel n p.y rest ((old ++ new) ++ extra) ((p.said_x ++ sent) ++ due)
-      p.said_y) (sym end_is) owed in
+      let extra = shutdown_notice a b keys channel l e p.y (p.said_x ++ sent) p.said_y o in
+      let owed : Hold a b channel Met l (cond o (record e { closing = after_shut e.closing }) e) p.y rest
+      (posts l extra (posts l new old)) ((p.said_x ++ sent) ++ due) p.said_y =
+      owes_by a b keys channel l e p.y (p.said_x ++ sent) p.said_y o owes rest (posts l new old) h in
+      let here : Hold a b channel Met l (settled e) p.y rest (posts l extra (posts l new old))
+      ((p.said_x ++ sent) ++ due) p.said_y = subst (λ n. Hold a b channel Met l n p.y rest
+      (posts l extra (posts l new old)) ((p.said_x ++ sent) ++ due) p.said_y) (sym end_is) owed in
       let said : (p.said_x ++ sent) ++ due ≡ p.said_x ++ messages_in (t.handed.sent ++ due_sent a e) =
       append_assoc p.said_x sent due ∙ ap (λ ms. p.said_x ++ ms) (sym all_is) in
+      let all_so : messages_in (t.handed.sent ++ due_sent a e) ≡ messages_of channel (new ++ extra) =
+      all_is ∙ ap (λ ms. ms ++ due) is ∙ ap (λ ms. messages_of channel new ++ ms)
+      (extra_so o e channel l p.y (p.said_x ++ sent) p.said_y) ∙ sym (messages-append channel new extra) in
       record {
         channel = channel;
         to_x = rest;
-        to_y = (old ++ new) ++ extra;
+        to_y = posts l extra (posts l new old);
         in_x = ix;
-        in_y = ap (λ ms. ms ++ messages_in (t.handed.sent ++ due_sent a e)) iy
-            ∙ ap (λ ms. messages_of channel old ++ ms) all_is
-            ∙ sym (append_assoc (messages_of channel old) sent due)
-            ∙ ap (λ ms. (messages_of channel old ++ ms) ++ due) is
-            ∙ ap (λ ms. ms ++ due) (sym (messages-append channel old new))
-            ∙ ap (λ ms. messages_of channel (old ++ new) ++ ms) (extra_so o e channel p.y (p.said_x ++ sent) p.said_y)
-            ∙ sym (messages-append channel (old ++ new) extra);
-        hold = subst (λ ms. Hold a b channel (settled e) p.y rest ((old ++ new) ++ extra) ms p.said_y) said here;
+        in_y = arrive_so l channel (messages_in (t.handed.sent ++ due_sent a e)) p.to_y (new ++ extra) old all_so iy
+            ∙ ap (messages_of channel) (posts_twice l new extra old);
+        hold = subst (λ ms. Hold a b channel Met l (settled e) p.y rest (posts l extra (posts l new old)) ms p.said_y)
+            said here;
       }
     where
-      extra_so : (o : Bool) (e : End) (channel : List ℕ) (y : End) (sx sy : List Message)
+      extra_so : (o : Bool) (e : End) (channel : List ℕ) (l : Line) (y : End) (sx sy : List Message)
           → messages_in (cond o (output.Send (message.Shutdown (shutdown_message e)) ∷ []) [])
-          ≡ messages_of channel (shutdown_notice a b keys channel e y sx sy o)
-      extra_so true e channel y sx sy = refl
-      extra_so false e channel y sx sy = refl
+          ≡ messages_of channel (shutdown_notice a b keys channel l e y sx sy o)
+      extra_so true e channel l y sx sy = refl
+      extra_so false e channel l y sx sy = refl
 
   finish : (t : Turn) (p : Ends) (channel : List ℕ) (rest old new : List Notice) → has_begun (settled t.end) ≡ false
       → p.to_x ≡ messages_of channel rest → p.to_y ≡ messages_of channel old
       → messages_in t.handed.sent ≡ messages_of channel new
-      → Hold a b channel t.end p.y rest (old ++ new) (p.said_x ++ messages_in t.handed.sent) p.said_y
-      → Holds a b (becomes (completed a t) p)
-  finish t p channel rest old new stays ix iy is h =
-      finish_by t p channel rest old new (owes_shutdown t.end) refl (unbegun (answers_shutdown t.end) stays) ix iy is h
+      → Hold a b channel Met p.y_line t.end p.y rest (posts p.y_line new old) (p.said_x ++ messages_in t.handed.sent)
+      p.said_y → Holds a b (becomes (completed a t) p)
+  finish t p channel rest old new still ix iy is h =
+      finish_by t p channel rest old new (owes_shutdown t.end) refl (unbegun (answers_shutdown t.end) still) ix iy is h
 
   -- ---- a message is taken
 
-  pub due_row : (p : Ends) (channel : List ℕ) (n : Notice) (ns to_y : List Notice) → has_begun p.x ≡ false
-      → Hold a b channel p.x p.y (n ∷ ns) to_y p.said_x p.said_y
-      → taken a (message_of channel n) p.x ≡ Ok (completed a (turn_of a n p.x))
-  due_row p channel n ns to_y unbegun h = ap (completed_row a)
-      (row a b keys channel p.x p.y p.said_x p.said_y n ns to_y unbegun h)
-
-  delivered_by : (p : Ends) (channel : List ℕ) (ns to_y : List Notice) → has_begun p.x ≡ false
-      → p.to_y ≡ messages_of channel to_y → Hold a b channel p.x p.y ns to_y p.said_x p.said_y → Holds a b p
-      → has_begun (delivers a (messages_of channel ns) p).x ≡ false → Holds a b (delivers a (messages_of channel ns) p)
-  delivered_by p channel [] to_y unbegun iy h hp still = hp
-  delivered_by p channel (n ∷ ns) to_y unbegun iy h hp still =
-      let t = turn_of a n p.x in
+  taking : (p : Ends) (m : Message) (t : Turn) (channel : List ℕ) (ns to_y new : List Notice)
+      → message_at a p.x_line m p.x ≡ Ok (completed a t) → p.to_y ≡ messages_of channel to_y
+      → messages_in t.handed.sent ≡ messages_of channel new
+      → Hold a b channel Met p.y_line t.end p.y ns (posts p.y_line new to_y)
+      (p.said_x ++ messages_in t.handed.sent) p.said_y
+      → has_begun (answers (message_at a p.x_line m p.x) (record p { to_x = messages_of channel ns })).x ≡ false
+      → Holds a b (answers (message_at a p.x_line m p.x) (record p { to_x = messages_of channel ns }))
+  taking p m t channel ns to_y new is iy sent h still =
       let q : Ends = record p { to_x = messages_of channel ns } in
-      let is = due_row p channel n ns to_y unbegun h in
       subst (λ r. Holds a b (answers r q)) (sym is)
-      (finish t q channel ns to_y (sent_by a n p.x) (subst (λ r. has_begun (answers r q).x ≡ false) is still) refl iy
-      (sends_so a channel n p.x) (took a b keys channel p.x p.y p.said_x p.said_y n ns to_y h))
+      (finish t q channel ns to_y new (subst (λ r. has_begun (answers r q).x ≡ false) is still) refl iy sent h)
+
+  -- by the connection of x: what is in front is taken so
+  pub met_row : (p : Ends) → p.x_line ≡ Met → (channel : List ℕ) (n : Notice) (ns to_y : List Notice)
+      → has_begun p.x ≡ false → Hold a b channel Met p.y_line p.x p.y (n ∷ ns) to_y p.said_x p.said_y
+      → message_at a p.x_line (message_of channel n) p.x ≡ Ok (completed a (turn_of a n p.x))
+  met_row p is channel n ns to_y unbegun h = ap (λ l. message_at a l (message_of channel n) p.x) is
+      ∙ ap (completed_row a) (row a b keys channel p.y_line p.x p.y p.said_x p.said_y n ns to_y unbegun h)
+
+  pub meeting_row : (p : Ends) → p.x_line ≡ Awaiting
+      → (channel : List ℕ) (m : ChannelReestablish) (ns to_y : List Notice)
+      → Hold a b channel Awaiting p.y_line p.x p.y (Again m ∷ ns) to_y p.said_x p.said_y
+      → message_at a p.x_line (message.ChannelReestablish m) p.x ≡ Ok (completed a (resumed a m p.x))
+  meeting_row p is channel m ns to_y h = ap (λ l. message_at a l (message.ChannelReestablish m) p.x) is
+      ∙ again_row a b channel p.y_line p.x p.y to_y p.said_x p.said_y m ns h
+
+  delivered_by : (l : Line) (p : Ends) → p.x_line ≡ l → (channel : List ℕ) (ns to_y : List Notice)
+      → has_begun p.x ≡ false → p.to_y ≡ messages_of channel to_y
+      → Hold a b channel l p.y_line p.x p.y ns to_y p.said_x p.said_y → Holds a b p
+      → has_begun (delivers a (messages_of channel ns) p).x ≡ false → Holds a b (delivers a (messages_of channel ns) p)
+  delivered_by l p is channel [] to_y unbegun iy h hp still = hp
+  delivered_by Down p is channel (n ∷ ns) to_y unbegun iy h hp still =
+      absurd (let no : n ∷ ns ≡ [] = h.kept.back.flight in cc)
+  delivered_by Awaiting p is channel (Update u ∷ ns) to_y unbegun iy h hp still = absurd (h.kept.back.flight)
+  delivered_by Awaiting p is channel (Sign m ∷ ns) to_y unbegun iy h hp still = absurd (h.kept.back.flight)
+  delivered_by Awaiting p is channel (Revoke m ∷ ns) to_y unbegun iy h hp still = absurd (h.kept.back.flight)
+  delivered_by Awaiting p is channel (Ready m ∷ ns) to_y unbegun iy h hp still = absurd (h.kept.back.flight)
+  delivered_by Awaiting p is channel (Shutdown m ∷ ns) to_y unbegun iy h hp still = absurd (h.kept.back.flight)
+  delivered_by Awaiting p is channel (Again m ∷ ns) to_y unbegun iy h hp still =
+      taking p (message.ChannelReestablish m) (resumed a m p.x) channel ns to_y
+      (lacked a b channel p.y_line p.x p.y to_y p.said_x p.said_y m) (meeting_row p is channel m ns to_y h) iy
+      (again_sends a b channel p.y_line p.x p.y to_y p.said_x p.said_y m ns h)
+      (took_again a b channel p.y_line p.x p.y to_y p.said_x p.said_y m ns h) still
+  delivered_by Met p is channel (n ∷ ns) to_y unbegun iy h hp still =
+      taking p (message_of channel n) (turn_of a n p.x) channel ns to_y (sent_by a n p.x)
+      (met_row p is channel n ns to_y unbegun h) iy (sends_so a channel n p.x)
+      (took a b keys channel p.y_line p.x p.y p.said_x p.said_y n ns to_y h) still
 
   delivered : (p : Ends) → Holds a b p → has_begun p.x ≡ false → has_begun (acts a Deliver p).x ≡ false
       → Holds a b (acts a Deliver p)
   delivered p h unbegun still =
       let is = h.in_x in
       subst (λ ms. Holds a b (delivers a ms p)) (sym is)
-      (delivered_by p h.channel h.to_x h.to_y unbegun h.in_y h.hold h
+      (delivered_by p.x_line p refl h.channel h.to_x h.to_y unbegun h.in_y h.hold h
       (subst (λ ms. has_begun (delivers a ms p).x ≡ false) is still))
 
   -- ---- a command
@@ -204,30 +247,37 @@ module _ (a b : Signer) (keys : AreKeys a b) where
   given_by None t p still k h = k refl still
   given_by (Some r) t p still k h = h
 
-  propose : (u : Change) (p : Ends) → id_fault p.x.dance.log.own u ≡ None → Holds a b p
+  -- an end that has met the other
+  hold_met : (p : Ends) (h : Holds a b p) → p.x_line ≡ Met
+      → Hold a b h.channel Met p.y_line p.x p.y h.to_x h.to_y p.said_x p.said_y
+  hold_met p h met = subst (λ l. Hold a b h.channel l p.y_line p.x p.y h.to_x h.to_y p.said_x p.said_y) met h.hold
+
+  propose : (u : Change) (p : Ends) → p.x_line ≡ Met → id_fault p.x.dance.log.own u ≡ None → Holds a b p
       → has_begun (answers (unless (propose_fault p.x u)
       (sending (update_message p.x.dance.channel u) (proposes u p.x)))
       p).x ≡ false
       → Holds a b (answers (unless (propose_fault p.x u)
       (sending (update_message p.x.dance.channel u) (proposes u p.x))) p)
-  propose u p id h still =
+  propose u p met id h still =
       let channel = h.channel in
+      let k = hold_met p h met in
       let t = sending (update_message p.x.dance.channel u) (proposes u p.x) in
       given_by (propose_fault p.x u) t p still
-      (λ none stays. become t p channel h.to_x h.to_y (Update (as_sent u) ∷ []) h.in_x h.in_y
+      (λ none on. become t p channel h.to_x h.to_y (Update (as_sent u) ∷ []) h.in_x h.in_y
       (ap (λ c. update_message c u ∷ []) h.hold.x_channel ∙ ap (λ m. m ∷ []) (sym (sent_as channel u)))
-      (subst (λ c. Hold a b channel (proposes u p.x) p.y h.to_x (h.to_y ++ Update (as_sent u) ∷ [])
-      (p.said_x ++ update_message c u ∷ []) p.said_y) (sym h.hold.x_channel)
-      (proposed_so a b keys channel p.x p.y p.said_x p.said_y u h.to_x h.to_y id none h.hold))) h
+      (subst (λ c. Hold a b channel Met p.y_line (proposes u p.x) p.y h.to_x
+      (posts p.y_line (Update (as_sent u) ∷ []) h.to_y) (p.said_x ++ update_message c u ∷ [])
+      p.said_y) (sym h.hold.x_channel)
+      (proposed_so a b keys channel p.y_line p.x p.y p.said_x p.said_y u h.to_x h.to_y id none k))) h
 
-  given : (c : Command) (p : Ends) → Holds a b p → has_begun (acts a (Give c) p).x ≡ false
-      → Holds a b (acts a (Give c) p)
-  given (command.Confirm id) p h still =
+  given : (c : Command) (p : Ends) → p.x_line ≡ Met → Holds a b p
+      → has_begun (answers (command_row a c p.x) p).x ≡ false → Holds a b (answers (command_row a c p.x) p)
+  given (command.Confirm id) p met h still =
       let t = sending (message.ChannelReady (ready_message a p.x)) (confirmed id p.x) in
       given_by (confirm_fault p.x) t p still
-      (λ none stays. become t p h.channel h.to_x h.to_y (Ready (ready_message a p.x) ∷ []) h.in_x h.in_y refl
-      (confirms a b keys h.channel p.x p.y p.said_x p.said_y id h.to_x h.to_y h.hold)) h
-  given (command.Add amount hash expiry onion origin) p h still =
+      (λ none on. become t p h.channel h.to_x h.to_y (Ready (ready_message a p.x) ∷ []) h.in_x h.in_y refl
+      (confirms a b keys h.channel p.y_line p.x p.y p.said_x p.said_y id h.to_x h.to_y (hold_met p h met))) h
+  given (command.Add amount hash expiry onion origin) p met h still =
       let n = next_id p.x.dance.log.own in
       propose (update.Add (record {
         id = n;
@@ -236,14 +286,15 @@ module _ (a b : Signer) (keys : AreKeys a b) where
         expiry = expiry;
         onion = onion;
         origin = origin;
-      })) p (ap (λ q. cond q None (Some refusal.BadId)) (eq-eqb n n refl)) h still
-  given (command.Fulfil id preimage) p h still =
-      propose (update.Fulfil (record { id = id; preimage = preimage })) p refl h still
-  given (command.Fail id reason) p h still = propose (update.Fail (record { id = id; reason = reason })) p refl h still
-  given (command.Malformed id sha code) p h still =
-      propose (update.Malformed (record { id = id; sha256_of_onion = sha; failure_code = code })) p refl h still
-  given (command.Fee feerate) p h still = propose (update.Fee (record { feerate = feerate })) p refl h still
-  given command.Sign p h still =
+      })) p met (ap (λ q. cond q None (Some refusal.BadId)) (eq-eqb n n refl)) h still
+  given (command.Fulfil id preimage) p met h still =
+      propose (update.Fulfil (record { id = id; preimage = preimage })) p met refl h still
+  given (command.Fail id reason) p met h still =
+      propose (update.Fail (record { id = id; reason = reason })) p met refl h still
+  given (command.Malformed id sha code) p met h still =
+      propose (update.Malformed (record { id = id; sha256_of_onion = sha; failure_code = code })) p met refl h still
+  given (command.Fee feerate) p met h still = propose (update.Fee (record { feerate = feerate })) p met refl h still
+  given command.Sign p met h still =
       let t : Turn = record {
         end = signs_next p.x;
         handed = record {
@@ -252,30 +303,69 @@ module _ (a b : Signer) (keys : AreKeys a b) where
         };
       } in
       given_by (sign_command_fault p.x) t p still
-      (λ none stays. become t p h.channel h.to_x h.to_y (Sign (signed_message a p.x.dance) ∷ []) h.in_x h.in_y refl
-      (signed_so a b keys h.channel p.x p.y p.said_x p.said_y h.to_x h.to_y none h.hold)) h
-  given (command.Shutdown script) p h still =
+      (λ none on. become t p h.channel h.to_x h.to_y (Sign (signed_message a p.x.dance) ∷ []) h.in_x h.in_y refl
+      (signed_so a b keys h.channel p.y_line p.x p.y p.said_x p.said_y h.to_x h.to_y none (hold_met p h met))) h
+  given (command.Shutdown script) p met h still =
       let n = shuts_down script p.x in
       let t = sending (message.Shutdown (shutdown_message n)) n in
       given_by (shut_fault script p.x) (completed a t) p still
-      (λ none stays. finish t p h.channel h.to_x h.to_y (Shutdown (shutdown_message n) ∷ []) stays h.in_x h.in_y refl
-      (shuts a b keys h.channel p.x p.y p.said_x p.said_y script h.to_x h.to_y none h.hold)) h
-  given (command.Decide event mark) p h still = h
-  given (command.Forget id) p h still = h
+      (λ none on. finish t p h.channel h.to_x h.to_y (Shutdown (shutdown_message n) ∷ []) on h.in_x h.in_y refl
+      (shuts a b keys h.channel p.y_line p.x p.y p.said_x p.said_y script h.to_x h.to_y none (hold_met p h met))) h
+  given (command.Decide event mark) p met h still = h
+  given (command.Forget id) p met h still = h
+
+  commanded_by : (f : Option Refusal) (l : Line) (c : Command) (p : Ends) → p.x_line ≡ l → Holds a b p
+      → has_begun (answers (faulted f (faulted (line_fault l) (command_row a c p.x))) p).x ≡ false
+      → Holds a b (answers (faulted f (faulted (line_fault l) (command_row a c p.x))) p)
+  commanded_by (Some r) l c p is h still = h
+  commanded_by None Down c p is h still = h
+  commanded_by None Awaiting c p is h still = h
+  commanded_by None Met c p is h still = given c p is h still
+
+  -- ---- a connection that is lost
+
+  lost_by : (down : Bool) (p : Ends) → Holds a b p
+      → Holds a b (cond down p (record p { x_line = Down; x = end_dropped p.x; to_x = [] }))
+  lost_by true p h = h
+  lost_by false p h = record {
+    channel = h.channel;
+    to_x = [];
+    to_y = h.to_y;
+    in_x = refl;
+    in_y = h.in_y;
+    hold = lost_so a b h.channel p.x_line p.y_line p.x p.y h.to_x h.to_y p.said_x p.said_y h.hold;
+  }
 
   pub acted : (act : Act) (p : Ends) → Holds a b p → has_begun p.x ≡ false → has_begun (acts a act p).x ≡ false
       → Holds a b (acts a act p)
-  acted Deliver p h stays still = delivered p h stays still
-  acted (Give c) p h stays still = given c p h still
+  acted Deliver p h unbegun still = delivered p h unbegun still
+  acted (Give c) p h unbegun still = commanded_by (unready_fault c p.x) p.x_line c p refl h still
+  acted Lose p h unbegun still = lost_by (is_down p.x_line) p h
 
 -- ---- steps
 
+connected_by : (a b : Signer) (lx ly : Line) (p : Ends) (h : Holds a b p)
+    → Hold a b h.channel lx ly p.x p.y h.to_x h.to_y p.said_x p.said_y → Holds a b (connects a b lx ly p)
+connected_by a b Down Down p h k = record {
+  channel = h.channel;
+  to_x = Again (reestablish_message b p.y.dance) ∷ [];
+  to_y = Again (reestablish_message a p.x.dance) ∷ [];
+  in_x = refl;
+  in_y = refl;
+  hold = joined_so a b h.channel p.x p.y h.to_x h.to_y p.said_x p.said_y k;
+}
+connected_by a b Down Awaiting p h k = h
+connected_by a b Down Met p h k = h
+connected_by a b Awaiting l p h k = h
+connected_by a b Met l p h k = h
+
 happened : (a b : Signer) → AreKeys a b → (s : Step) (p : Ends) → IsOpen p → IsOpen (happens a b s p) → Holds a b p
     → Holds a b (happens a b s p)
-happened a b keys (By Funder act) p stays still h = acted a b keys act p h stays.x still.x
-happened a b keys (By Fundee act) p stays still h =
+happened a b keys (By Funder act) p on still h = acted a b keys act p h on.x still.x
+happened a b keys (By Fundee act) p on still h =
     flipped b a (acts b act (turned p)) (acted b a (flipped_keys a b keys) act (turned p)
-    (flipped a b p h) stays.y still.y)
+    (flipped a b p h) on.y still.y)
+happened a b keys Connect p on still h = connected_by a b p.x_line p.y_line p h h.hold
 
 pub open_now : (a b : Signer) (ss : List Step) (p : Ends) → StaysOpen a b ss p → IsOpen p
 open_now a b [] p o = o

@@ -5,6 +5,8 @@ use Rattle.ln_log.specs.declared.update.Update.TheVariants as update
 use Rattle.ln_log.specs.declared.opening.Opening.{Opening}
 use Rattle.ln_keys.specs.declared.role.Role.{Role}
 use Rattle.ln_log.specs.Log.{Counts}
+use Rattle.ln_link.specs.declared.link.Line.{Line}
+use Rattle.ln_link.specs.declared.link.Line.TheVariants.{Down, Awaiting, Met}
 use Rattle.ln_msgs.specs.declared.messages.commitments.CommitmentSigned.{CommitmentSigned}
 use Rattle.ln_msgs.specs.declared.messages.commitments.RevokeAndAck.{RevokeAndAck}
 use Rattle.ln_msgs.specs.declared.messages.commitments.ChannelReestablish.{ChannelReestablish}
@@ -29,12 +31,6 @@ pub data Notice : Type 0 where
   Shutdown : (m : ShutdownMessage) → Notice
   Again : (m : ChannelReestablish) → Notice
 
--- an end is down, or up and hasn't taken the peer's reestablish, or has met the peer
-pub data Link : Type 0 where
-  Down : Link
-  Waiting : Link
-  Met : Link
-
 -- what a record keeps, and the updates that no signature covers
 pub record Side : Type 0 where
   pub opening : Opening
@@ -56,19 +52,20 @@ pub record Side : Type 0 where
   pub revocation : RevokeAndAck  -- its last revocation, likewise
   pub ready_message : ChannelReady  -- its channel_ready
   pub shut_message : ShutdownMessage  -- its shutdown
+  pub reestablish : ChannelReestablish  -- what it would tell as a connection comes back
 
 pub record Both : Type 0 where
-  pub x_link : Link
-  pub y_link : Link
+  pub x_link : Line
+  pub y_link : Line
   pub x : Side
   pub y : Side
   pub to_x : List Notice
   pub to_y : List Notice
 
 -- what is sent joins the end of what is in flight to an end that is up
-abbrev pub posts : Link → List Notice → List Notice → List Notice
+abbrev pub posts : Line → List Notice → List Notice → List Notice
 posts Down sent ms = ms
-posts Waiting sent ms = ms ++ sent
+posts Awaiting sent ms = ms ++ sent
 posts Met sent ms = ms ++ sent
 
 abbrev pub proposed : Change → Side → Side
@@ -85,17 +82,23 @@ signed_all m x = record x {
 abbrev pub received : Change → Side → Side
 received u x = record x { got = x.got ++ u ∷ [] }
 
-abbrev pub accepted_all : RevokeAndAck → Side → Side
-accepted_all m x = record x {
+abbrev pub accepted_all : RevokeAndAck → ChannelReestablish → Side → Side
+accepted_all m again x = record x {
   current = record { own = x.acked.own; peer = length x.got };
   number = x.number + 1;
   late = true;
   revocation = m;
+  reestablish = again;
 }
 
 -- with what it would now send again as its last signature
-abbrev pub acknowledged_all : CommitmentSigned → Side → Side
-acknowledged_all m x = record x { acked = x.signed; revocations = x.revocations + 1; signature = m }
+abbrev pub acknowledged_all : CommitmentSigned → ChannelReestablish → Side → Side
+acknowledged_all m again x = record x {
+  acked = x.signed;
+  revocations = x.revocations + 1;
+  signature = m;
+  reestablish = again;
+}
 
 abbrev pub dropped : Side → Side
 dropped x = record x { own = take x.signed.own x.own; got = take x.current.peer x.got }
@@ -111,10 +114,10 @@ abbrev pub again_signed : Side → List Notice
 again_signed x = updates_of (drop x.acked.own (take x.signed.own x.own)) ++ Sign x.signature ∷ []
 
 abbrev pub signature_owed : ℕ → Side → List Notice
-signature_owed n x = if n == x.signatures + 1 then [] else again_signed x
+signature_owed n x = if (n == x.signatures) && (x.signatures == x.revocations + 1) then again_signed x else []
 
 abbrev pub revocation_owed : ℕ → Side → List Notice
-revocation_owed r x = if r == x.number then [] else Revoke x.revocation ∷ []
+revocation_owed r x = if r + 1 == x.number then Revoke x.revocation ∷ [] else []
 
 -- in the order in which they were sent first
 abbrev pub owed : ℕ → ℕ → Side → List Notice
@@ -122,7 +125,7 @@ owed n r x = if x.late then signature_owed n x ++ revocation_owed r x else revoc
 
 -- channel_ready, where both sides are at commitment 0
 abbrev pub ready_again : ℕ → Side → List Notice
-ready_again n x = if (n == 1) && (x.number == 0) && x.ready then Ready x.ready_message ∷ [] else []
+ready_again n x = if (x.number == 0) && (n == 1) && x.ready then Ready x.ready_message ∷ [] else []
 
 abbrev pub shutdown_again : Side → List Notice
 shutdown_again x = if x.shut then Shutdown x.shut_message ∷ [] else []
@@ -150,5 +153,10 @@ shuts m b = record b {
 abbrev pub goes_down : Both → Both
 goes_down b = record b { x_link = Down; x = dropped b.x; to_x = [] }
 
-abbrev pub comes_up : ChannelReestablish → ChannelReestablish → Both → Both
-comes_up mx my b = record b { x_link = Waiting; y_link = Waiting; to_x = Again my ∷ []; to_y = Again mx ∷ [] }
+abbrev pub comes_up : Both → Both
+comes_up b = record b {
+  x_link = Awaiting;
+  y_link = Awaiting;
+  to_x = Again b.y.reestablish ∷ [];
+  to_y = Again b.x.reestablish ∷ [];
+}

@@ -23,21 +23,25 @@ use Rattle.ln_bytes.specs.declared.short_id.ShortId.{ShortId}
 use Rattle.ln_close.specs.Closing.{after_shut}
 use Rattle.ln_dance.specs.Dance.{with_next_point, owes, is_last, sign_fault, signed_message, revoked_message}
 use Rattle.ln_dance.specs.Messages.{update_message}
-use Rattle.ln_dance.specs.Resume.{signature_again}
+use Rattle.ln_dance.specs.Resume.{reestablish_message, signature_again}
 use Rattle.ln_link.specs.Ledger.{Ledger}
 use Rattle.ln_link.specs.End.{End, is_ready, is_closed, all_acknowledged, shutdown_message}
 use Rattle.ln_link.specs.Taking.{takes, takes_ready, accepts, revokes, shuts_by_peer}
 use Rattle.ln_link.specs.Commands.{ready_message, confirmed, closed_fault, own_fault, propose_fault, proposes}
 use Rattle.ln_link.specs.Commands.{sign_command_fault, signs_next, shut_fault, shuts_down, script_fault}
 use Rattle.ln_pair.specs.Promises.{AreKeys, is_add, is_shutdown, AddsBefore}
-use Rattle.ln_pair.proofs.Sides.{Both, Notice, Update, Sign, Revoke, Ready, Shutdown, Met, Side, opens, received}
+use Rattle.ln_link.specs.declared.link.Line.{Line}
+use Rattle.ln_link.specs.declared.link.Line.TheVariants.{Down, Awaiting, Met}
+use Rattle.ln_pair.proofs.Sides.{Both, Notice, Update, Sign, Revoke, Ready, Shutdown, Side, posts, opens, received}
 use Rattle.ln_pair.proofs.Sides.{proposed, signed_all, accepted_all, acknowledged_all}
-use Rattle.ln_pair.proofs.Walk.{Phase, Idle, Sent, Answered, Kept}
-use Rattle.ln_pair.proofs.Marks.{IsAllowed, BothTold}
+use Rattle.ln_pair.proofs.Walk.{Phase, Idle, Sent, Answered, holds, sender, Reads, LacksNothing, Anywhere, Carries}
+use Rattle.ln_pair.proofs.Walk.{Kept}
+use Rattle.ln_pair.proofs.Reading.{reads-to}
+use Rattle.ln_pair.proofs.Marks.{IsAllowed, Tells, ToldAll, ToldAny, teller, Speaks, BothTold}
 use Rattle.ln_pair.proofs.Flow.{revoked_for, carries_first, kept_proposed, kept_signed, kept_update, kept_sign}
 use Rattle.ln_pair.proofs.Flow.{kept_revoke, kept_ready, kept_shutdown, kept_confirmed, kept_shut}
-use Rattle.ln_pair.proofs.Telling.{told_proposed, told_signed, told_update, told_sign, told_revoke, told_ready}
-use Rattle.ln_pair.proofs.Telling.{told_shutdown, told_confirmed, told_shut}
+use Rattle.ln_pair.proofs.Telling.{tells-any, told_proposed, told_signed, told_update, told_sign, told_revoke}
+use Rattle.ln_pair.proofs.Telling.{told_ready, told_shutdown, told_confirmed, told_shut}
 use Rattle.ln_pair.proofs.Images.{side_of, length-sent, proposes_so, takes_so, signs_so, accepts_so}
 use Rattle.ln_pair.proofs.Rows.{proposal_fits, no_fault, IsTold, revoked_so, next_told}
 
@@ -52,12 +56,12 @@ pub record Said (shut : Bool) (said : List Message) : Type 0 where
   pub adds : AddsBefore false said
   pub told : shut_in false said ≡ true → shut ≡ true
 
-adds-more : (shut : Bool) (ms ns : List Message) → AddsBefore shut ms → AddsBefore (shut_in shut ms) ns
+pub adds-more : (shut : Bool) (ms ns : List Message) → AddsBefore shut ms → AddsBefore (shut_in shut ms) ns
     → AddsBefore shut (ms ++ ns)
 adds-more shut [] ns h k = k
 adds-more shut (m ∷ ms) ns h k = (h.0, adds-more (shut || is_shutdown m) ms ns h.1 k)
 
-shut-more : (shut : Bool) (ms ns : List Message) → shut_in shut (ms ++ ns) ≡ shut_in (shut_in shut ms) ns
+pub shut-more : (shut : Bool) (ms ns : List Message) → shut_in shut (ms ++ ns) ≡ shut_in (shut_in shut ms) ns
 shut-more shut [] ns = refl
 shut-more shut (m ∷ ms) ns = shut-more (shut || is_shutdown m) ms ns
 
@@ -70,7 +74,7 @@ either_one : (s t shut now : Bool) → (s ≡ true → shut ≡ true) → (shut 
 either_one true t shut now f g h e = g (f refl)
 either_one false t shut now f g h e = h e
 
-said_more : (shut now : Bool) (said : List Message) (m : Message) → (is_add m ≡ true → shut ≡ false)
+pub said_more : (shut now : Bool) (said : List Message) (m : Message) → (is_add m ≡ true → shut ≡ false)
     → (shut ≡ true → now ≡ true) → (is_shutdown m ≡ true → now ≡ true) → Said shut said → Said now (said ++ m ∷ [])
 said_more shut now said m a keeps t s = record {
   adds = adds-more false said (m ∷ []) s.adds (λ e. not_before (shut_in false said) shut s.told (a e), tt);
@@ -92,16 +96,18 @@ pub record Knows (k : Signer) (x y : End) : Type 0 where
   pub below : x.dance.numbers.signed < 2 ^ 48
   pub script : IsScript x.closing.peer_shut x.terms.peer_script y.terms.script
   pub not_closed : is_closed x ≡ false
+  pub no_fee : x.closing.own_fee ≡ None
+  pub secret : (n : ℕ) → x.dance.numbers.revoked ≡ n + 1 → x.dance.peer.secret ≡ Some (k.secret_of n)
 
 -- ---- the whole
 
-abbrev pub both : Side → Side → List Notice → List Notice → Both
-both x y to_x to_y = record { x_link = Met; y_link = Met; x = x; y = y; to_x = to_x; to_y = to_y }
+abbrev pub both : Line → Line → Side → Side → List Notice → List Notice → Both
+both lx ly x y to_x to_y = record { x_link = lx; y_link = ly; x = x; y = y; to_x = to_x; to_y = to_y }
 
-pub record Hold (a b : Signer) (channel : List ℕ) (x y : End) (to_x to_y : List Notice)
+pub record Hold (a b : Signer) (channel : List ℕ) (lx ly : Line) (x y : End) (to_x to_y : List Notice)
     (said_x said_y : List Message) : Type 0 where
-  pub kept : Kept (both (side_of a x) (side_of b y) to_x to_y)
-  pub told : BothTold (both (side_of a x) (side_of b y) to_x to_y)
+  pub kept : Kept (both lx ly (side_of a x) (side_of b y) to_x to_y)
+  pub told : BothTold (both lx ly (side_of a x) (side_of b y) to_x to_y)
   pub x_channel : x.dance.channel ≡ channel
   pub y_channel : y.dance.channel ≡ channel
   pub x_knows : Knows b x y
@@ -109,9 +115,10 @@ pub record Hold (a b : Signer) (channel : List ℕ) (x y : End) (to_x to_y : Lis
   pub x_said : Said x.closing.shut said_x
   pub y_said : Said y.closing.shut said_y
 
-pub flip : (a b : Signer) (channel : List ℕ) (x y : End) (to_x to_y : List Notice) (said_x said_y : List Message)
-    → Hold a b channel x y to_x to_y said_x said_y → Hold b a channel y x to_y to_x said_y said_x
-flip a b channel x y to_x to_y said_x said_y h = record {
+pub flip : (a b : Signer) (channel : List ℕ) (lx ly : Line) (x y : End) (to_x to_y : List Notice)
+    (said_x said_y : List Message) → Hold a b channel lx ly x y to_x to_y said_x said_y
+    → Hold b a channel ly lx y x to_y to_x said_y said_x
+flip a b channel lx ly x y to_x to_y said_x said_y h = record {
   kept = record { there = h.kept.back; back = h.kept.there };
   told = record { there = h.told.back; back = h.told.there };
   x_channel = h.y_channel;
@@ -123,10 +130,10 @@ flip a b channel x y to_x to_y said_x said_y h = record {
 }
 
 -- what x tells of its events changes nothing of it
-pub numbered : (a b : Signer) (channel : List ℕ) (x y : End) (to_x to_y : List Notice) (said_x said_y : List Message)
-    (l : Ledger) → Hold a b channel x y to_x to_y said_x said_y
-    → Hold a b channel (record x { ledger = l }) y to_x to_y said_x said_y
-numbered a b channel x y to_x to_y said_x said_y l h = record {
+pub numbered : (a b : Signer) (channel : List ℕ) (lx ly : Line) (x y : End) (to_x to_y : List Notice)
+    (said_x said_y : List Message) (l : Ledger) → Hold a b channel lx ly x y to_x to_y said_x said_y
+    → Hold a b channel lx ly (record x { ledger = l }) y to_x to_y said_x said_y
+numbered a b channel lx ly x y to_x to_y said_x said_y l h = record {
   kept = h.kept;
   told = h.told;
   x_channel = h.x_channel;
@@ -137,6 +144,8 @@ numbered a b channel x y to_x to_y said_x said_y l h = record {
     below = h.x_knows.below;
     script = h.x_knows.script;
     not_closed = h.x_knows.not_closed;
+    no_fee = h.x_knows.no_fee;
+    secret = h.x_knows.secret;
   };
   y_knows = record {
     point = h.y_knows.point;
@@ -144,12 +153,14 @@ numbered a b channel x y to_x to_y said_x said_y l h = record {
     below = h.y_knows.below;
     script = h.y_knows.script;
     not_closed = h.y_knows.not_closed;
+    no_fee = h.y_knows.no_fee;
+    secret = h.y_knows.secret;
   };
   x_said = h.x_said;
   y_said = h.y_said;
 }
 
-revoked_within : (s a c : ℕ) (acked signed current : Counts) → Phase s a c acked signed current → a ≤ s
+pub revoked_within : (s a c : ℕ) (acked signed current : Counts) → Phase s a c acked signed current → a ≤ s
 revoked_within s a c acked signed current (Idle e1 e2 e3 e4 e5 e6) = omega (arith, e1)
 revoked_within s a c acked signed current (Sent e1 e2 e3 e4) = omega (arith, e1)
 revoked_within s a c acked signed current (Answered e1 e2 e3 e4) = omega (arith, e1)
@@ -231,16 +242,38 @@ small_still n below e = elim (eqb_tells n 281474976710655) [
   | inr g ↦ (let is = g.1 in omega (arith, below, is))
 ]
 
-module _ (a b : Signer) (keys : AreKeys a b) (channel : List ℕ) (x y : End) (said_x said_y : List Message) where
+-- what is in front, for an end that has met the other
+pub front_reads : (ly : Line) (x y : Side) (n : Notice) (ns : List Notice) → Carries ly y x (n ∷ ns)
+    → Reads (sender y) x.own (holds x) x.signed.own Anywhere x.got x.acked.own x.number x.revocations (n ∷ ns)
+front_reads Down x y n ns h = h
+front_reads Awaiting x y n ns h = absurd (cc (h.0))
+front_reads Met x y n ns h = reads-to (sender y) x.own (holds x) x.signed.own
+    (LacksNothing y.own y.current.peer y.signatures y.number) Anywhere x.got x.acked.own x.number x.revocations
+    (n ∷ ns) (λ g b d s l. tt) h
+
+pub front_told : (ly : Line) (x y : Side) (n : Notice) (ns : List Notice) → Speaks ly y x (n ∷ ns)
+    → Tells (teller y x) ToldAny x.peer_ready x.peer_shut (n ∷ ns)
+front_told Down x y n ns h = h
+front_told Awaiting x y n ns h = absurd (cc)
+front_told Met x y n ns h = tells-any (teller y x) (ToldAll y.ready y.shut) x.peer_ready x.peer_shut (n ∷ ns) h
+
+module _ (a b : Signer) (keys : AreKeys a b) (channel : List ℕ) (ly : Line) (x y : End)
+    (said_x said_y : List Message) where
+  abbrev x_side : Side
+  x_side = side_of a x
+
+  abbrev y_side : Side
+  y_side = side_of b y
+
   -- where x has become n, whose image is this
   moved : (n : End) (side : Side) (to_x to_y rest sent : List Notice) (said : List Message) → side_of a n ≡ side
-      → Hold a b channel x y to_x to_y said_x said_y
-      → Kept (both side (side_of b y) rest sent) → BothTold (both side (side_of b y) rest sent)
+      → Hold a b channel Met ly x y to_x to_y said_x said_y
+      → Kept (both Met ly side (side_of b y) rest sent) → BothTold (both Met ly side (side_of b y) rest sent)
       → n.dance.channel ≡ x.dance.channel → Knows b n y → Knows a y n → Said n.closing.shut said
-      → Hold a b channel n y rest sent said said_y
+      → Hold a b channel Met ly n y rest sent said said_y
   moved n side to_x to_y rest sent said e h k t c kn kp s = record {
-    kept = subst (λ z. Kept (both z (side_of b y) rest sent)) (sym e) k;
-    told = subst (λ z. BothTold (both z (side_of b y) rest sent)) (sym e) t;
+    kept = subst (λ z. Kept (both Met ly z (side_of b y) rest sent)) (sym e) k;
+    told = subst (λ z. BothTold (both Met ly z (side_of b y) rest sent)) (sym e) t;
     x_channel = c ∙ h.x_channel;
     y_channel = h.y_channel;
     x_knows = kn;
@@ -251,17 +284,18 @@ module _ (a b : Signer) (keys : AreKeys a b) (channel : List ℕ) (x y : End) (s
 
   -- ---- x takes an update
 
-  pub took_update : (u : Change) (ns to_y : List Notice) → Hold a b channel x y (Update u ∷ ns) to_y said_x said_y
-      → Hold a b channel (takes u x) y ns to_y said_x said_y
+  pub took_update : (u : Change) (ns to_y : List Notice)
+      → Hold a b channel Met ly x y (Update u ∷ ns) to_y said_x said_y
+      → Hold a b channel Met ly (takes u x) y ns to_y said_x said_y
   took_update u ns to_y h =
       let l = x.dance.log in
       let f = h.kept.there in
-      let fits = h.kept.back.flight.0 in
+      let fits = (front_reads ly x_side y_side (Update u) ns h.kept.back.flight).0 in
       moved (takes u x) (received u (side_of a x)) (Update u ∷ ns) to_y ns to_y said_x
       (takes_so a x u fits.sent (omega (arith, f.within.peer_signed, f.within.peer_current, length-sent l.received)))
       h
-      (kept_update Met (side_of a x) (side_of b y) u ns to_y h.kept)
-      (told_update Met (side_of a x) (side_of b y) u ns to_y h.told)
+      (kept_update ly (side_of a x) (side_of b y) u ns to_y h.kept)
+      (told_update ly (side_of a x) (side_of b y) u ns to_y h.told)
       refl
       (record {
         point = h.x_knows.point;
@@ -269,6 +303,8 @@ module _ (a b : Signer) (keys : AreKeys a b) (channel : List ℕ) (x y : End) (s
         below = h.x_knows.below;
         script = h.x_knows.script;
         not_closed = h.x_knows.not_closed;
+        no_fee = h.x_knows.no_fee;
+        secret = h.x_knows.secret;
       })
       (record {
         point = h.y_knows.point;
@@ -276,26 +312,23 @@ module _ (a b : Signer) (keys : AreKeys a b) (channel : List ℕ) (x y : End) (s
         below = h.y_knows.below;
         script = h.y_knows.script;
         not_closed = h.y_knows.not_closed;
+        no_fee = h.y_knows.no_fee;
+        secret = h.y_knows.secret;
       })
       h.x_said
 
   -- ---- a signature
 
-  abbrev x_side : Side
-  x_side = side_of a x
-
-  abbrev y_side : Side
-  y_side = side_of b y
-
-  pub took_sign : (m : CommitmentSigned) (ns to_y : List Notice) → Hold a b channel x y (Sign m ∷ ns) to_y said_x said_y
-      → Hold a b channel (accepts x) y ns (to_y ++ Revoke (revoked_message a x.dance) ∷ [])
+  pub took_sign : (m : CommitmentSigned) (ns to_y : List Notice)
+      → Hold a b channel Met ly x y (Sign m ∷ ns) to_y said_x said_y
+      → Hold a b channel Met ly (accepts x) y ns (posts ly (Revoke (revoked_message a x.dance) ∷ []) to_y)
       (said_x ++ message.RevokeAndAck (revoked_message a x.dance) ∷ []) said_y
   took_sign m ns to_y h =
       let z = revoked_message a x.dance in
-      moved (accepts x) (accepted_all z x_side) (Sign m ∷ ns) to_y ns (to_y ++ Revoke z ∷ [])
-      (said_x ++ message.RevokeAndAck z ∷ []) (accepts_so a x) h
-      (kept_sign Met z x_side y_side m ns to_y h.kept)
-      (told_sign Met z x_side y_side m ns to_y h.told)
+      moved (accepts x) (accepted_all z (reestablish_message a (accepts x).dance) x_side) (Sign m ∷ ns) to_y ns
+      (posts ly (Revoke z ∷ []) to_y) (said_x ++ message.RevokeAndAck z ∷ []) (accepts_so a x) h
+      (kept_sign ly z (reestablish_message a (accepts x).dance) x_side y_side m ns to_y h.kept)
+      (told_sign ly z (reestablish_message a (accepts x).dance) x_side y_side m ns to_y h.told)
       refl
       (record {
         point = h.x_knows.point;
@@ -303,6 +336,8 @@ module _ (a b : Signer) (keys : AreKeys a b) (channel : List ℕ) (x y : End) (s
         below = h.x_knows.below;
         script = h.x_knows.script;
         not_closed = h.x_knows.not_closed;
+        no_fee = h.x_knows.no_fee;
+        secret = h.x_knows.secret;
       })
       (record {
         point = h.y_knows.point;
@@ -310,30 +345,37 @@ module _ (a b : Signer) (keys : AreKeys a b) (channel : List ℕ) (x y : End) (s
         below = h.y_knows.below;
         script = h.y_knows.script;
         not_closed = h.y_knows.not_closed;
+        no_fee = h.y_knows.no_fee;
+        secret = h.y_knows.secret;
       })
       (said_more x.closing.shut x.closing.shut said_x (message.RevokeAndAck z) (λ e. absurd (cc)) (λ e. e)
       (λ e. absurd (cc)) h.x_said)
 
   -- ---- a revocation
 
-  pub outstanding : (m : RevokeAndAck) (ns to_y : List Notice) → Hold a b channel x y (Revoke m ∷ ns) to_y said_x said_y
+  pub outstanding : (m : RevokeAndAck) (ns to_y : List Notice)
+      → Hold a b channel Met ly x y (Revoke m ∷ ns) to_y said_x said_y
       → x.dance.numbers.signed ≡ x.dance.numbers.revoked + 1
   outstanding m ns to_y h = (revoked_for x_side.signatures x_side.revocations y_side.number x_side.acked x_side.signed
-      y_side.current (h.kept.back.flight.0).next h.kept.there.phase).0
+      y_side.current (front_reads ly x_side y_side (Revoke m) ns h.kept.back.flight).0.next h.kept.there.phase).0
 
-  pub is_told : (m : RevokeAndAck) (ns to_y : List Notice) → Hold a b channel x y (Revoke m ∷ ns) to_y said_x said_y
-      → IsTold b x.dance y.dance m
-  is_told m ns to_y h = revoked_so b x.dance y.dance m (h.kept.back.flight.0).named
-      (h.kept.back.flight.0).next h.x_knows.point
+  pub is_told : (m : RevokeAndAck) (ns to_y : List Notice)
+      → Hold a b channel Met ly x y (Revoke m ∷ ns) to_y said_x said_y → IsTold b x.dance y.dance m
+  is_told m ns to_y h = revoked_so b x.dance y.dance m
+      (front_reads ly x_side y_side (Revoke m) ns h.kept.back.flight).0.named
+      (front_reads ly x_side y_side (Revoke m) ns h.kept.back.flight).0.next h.x_knows.point
 
-  pub took_revoke : (m : RevokeAndAck) (ns to_y : List Notice) → Hold a b channel x y (Revoke m ∷ ns) to_y said_x said_y
-      → Hold a b channel (revokes m x) y ns to_y said_x said_y
+  pub took_revoke : (m : RevokeAndAck) (ns to_y : List Notice)
+      → Hold a b channel Met ly x y (Revoke m ∷ ns) to_y said_x said_y
+      → Hold a b channel Met ly (revokes m x) y ns to_y said_x said_y
   took_revoke m ns to_y h =
       let z = signature_again a (revokes m x).dance in
       let one = outstanding m ns to_y h in
-      moved (revokes m x) (acknowledged_all z x_side) (Revoke m ∷ ns) to_y ns to_y said_x refl h
-      (kept_revoke Met z x_side y_side m ns to_y h.kept)
-      (told_revoke Met z x_side y_side m ns to_y h.kept.there.within.own_acked h.told)
+      moved (revokes m x) (acknowledged_all z (reestablish_message a (revokes m x).dance) x_side) (Revoke m ∷ ns)
+      to_y ns to_y said_x refl h
+      (kept_revoke ly z (reestablish_message a (revokes m x).dance) x_side y_side m ns to_y h.kept)
+      (told_revoke ly z (reestablish_message a (revokes m x).dance) x_side y_side m ns to_y
+      h.kept.there.within.own_acked h.told)
       refl
       (record {
         point = h.x_knows.next_point (h.told.there.used_signature (omega (arith, one))).taken;
@@ -341,6 +383,9 @@ module _ (a b : Signer) (keys : AreKeys a b) (channel : List ℕ) (x y : End) (s
         below = h.x_knows.below;
         script = h.x_knows.script;
         not_closed = h.x_knows.not_closed;
+        no_fee = h.x_knows.no_fee;
+        secret = λ n e. ap (λ (q : RevokeAndAck). Some q.secret) (is_told m ns to_y h).1
+            ∙ ap (λ i. Some (b.secret_of i)) (let i : x.dance.numbers.revoked ≡ n = omega (arith, e) in i);
       })
       (record {
         point = h.y_knows.point;
@@ -348,14 +393,16 @@ module _ (a b : Signer) (keys : AreKeys a b) (channel : List ℕ) (x y : End) (s
         below = h.y_knows.below;
         script = h.y_knows.script;
         not_closed = h.y_knows.not_closed;
+        no_fee = h.y_knows.no_fee;
+        secret = h.y_knows.secret;
       })
       h.x_said
 
   -- ---- channel_ready
 
   took_ready_by : (r : Bool) → x.marks.ready_received ≡ r → (m : ChannelReady) (ns to_y : List Notice)
-      → Hold a b channel x y (Ready m ∷ ns) to_y said_x said_y
-      → Hold a b channel (takes_ready m x) y ns to_y said_x said_y
+      → Hold a b channel Met ly x y (Ready m ∷ ns) to_y said_x said_y
+      → Hold a b channel Met ly (takes_ready m x) y ns to_y said_x said_y
   took_ready_by true e m ns to_y h =
       let same : takes_ready m x ≡ x = ap (λ (r : Bool). cond (r
       || is_closed x) x (record x {
@@ -366,11 +413,11 @@ module _ (a b : Signer) (keys : AreKeys a b) (channel : List ℕ) (x y : End) (s
         };
         dance = with_next_point m.second_point x.dance;
       })) e in
-      subst (λ n. Hold a b channel n y ns to_y said_x said_y) (sym same)
+      subst (λ n. Hold a b channel Met ly n y ns to_y said_x said_y) (sym same)
       (moved x (record x_side { peer_ready = true; signature = x_side.signature }) (Ready m ∷ ns) to_y ns to_y said_x
       (ap (λ r. record x_side { peer_ready = r }) e) h
-      (kept_ready Met m x_side.signature x_side y_side ns to_y (λ os k. k) h.kept)
-      (told_ready Met m x_side.signature x_side y_side ns to_y h.told)
+      (kept_ready ly m x_side.signature x_side y_side ns to_y (λ os k. k) h.kept)
+      (told_ready ly m x_side.signature x_side y_side ns to_y h.told)
       refl h.x_knows h.y_knows h.x_said)
   took_ready_by false e m ns to_y h =
       let n : End = record x {
@@ -389,14 +436,14 @@ module _ (a b : Signer) (keys : AreKeys a b) (channel : List ℕ) (x y : End) (s
       let first : x.dance.numbers.revoked + 1 ≡ 1 = omega (arith, zero_signed, within) in
       let goes : takes_ready m x ≡ n = ap (λ (r : Bool). cond (r || is_closed x) x n) e
       ∙ ap (λ (r : Bool). cond r x n) h.x_knows.not_closed in
-      let told : m ≡ ready_message b y = h.told.back.speech.1 in
-      subst (λ q. Hold a b channel q y ns to_y said_x said_y) (sym goes)
+      let told : m ≡ ready_message b y = (front_told ly x_side y_side (Ready m) ns h.told.back.speech).1 in
+      subst (λ q. Hold a b channel Met ly q y ns to_y said_x said_y) (sym goes)
       (moved n (record x_side { peer_ready = true; signature = signature_again a n.dance }) (Ready m ∷ ns)
       to_y ns to_y said_x refl h
-      (kept_ready Met m (signature_again a n.dance) x_side y_side ns to_y
+      (kept_ready ly m (signature_again a n.dance) x_side y_side ns to_y
       (λ os k. carries_first (signature_again a n.dance) x_side y_side os
       (none_signed x.dance.numbers.signed y_side.number none) k) h.kept)
-      (told_ready Met m (signature_again a n.dance) x_side y_side ns to_y h.told)
+      (told_ready ly m (signature_again a n.dance) x_side y_side ns to_y h.told)
       refl
       (record {
         point = h.x_knows.point;
@@ -404,6 +451,8 @@ module _ (a b : Signer) (keys : AreKeys a b) (channel : List ℕ) (x y : End) (s
         below = h.x_knows.below;
         script = h.x_knows.script;
         not_closed = h.x_knows.not_closed;
+        no_fee = h.x_knows.no_fee;
+        secret = h.x_knows.secret;
       })
       (record {
         point = h.y_knows.point;
@@ -411,33 +460,37 @@ module _ (a b : Signer) (keys : AreKeys a b) (channel : List ℕ) (x y : End) (s
         below = h.y_knows.below;
         script = h.y_knows.script;
         not_closed = h.y_knows.not_closed;
+        no_fee = h.y_knows.no_fee;
+        secret = h.y_knows.secret;
       })
       h.x_said)
 
-  pub took_ready : (m : ChannelReady) (ns to_y : List Notice) → Hold a b channel x y (Ready m ∷ ns) to_y said_x said_y
-      → Hold a b channel (takes_ready m x) y ns to_y said_x said_y
+  pub took_ready : (m : ChannelReady) (ns to_y : List Notice)
+      → Hold a b channel Met ly x y (Ready m ∷ ns) to_y said_x said_y
+      → Hold a b channel Met ly (takes_ready m x) y ns to_y said_x said_y
   took_ready m ns to_y h = took_ready_by x.marks.ready_received refl m ns to_y h
 
   -- ---- shutdown
 
   -- a repeated one changes nothing
   pub took_shutdown_again : (m : ShutdownMessage) (ns to_y : List Notice) → x.closing.peer_shut ≡ true
-      → Hold a b channel x y (Shutdown m ∷ ns) to_y said_x said_y → Hold a b channel x y ns to_y said_x said_y
+      → Hold a b channel Met ly x y (Shutdown m ∷ ns) to_y said_x said_y
+      → Hold a b channel Met ly x y ns to_y said_x said_y
   took_shutdown_again m ns to_y e h =
       moved x (record x_side { peer_shut = true }) (Shutdown m ∷ ns) to_y ns to_y said_x
       (ap (λ r. record x_side { peer_shut = r }) e) h
-      (kept_shutdown Met m x_side y_side ns to_y h.kept)
-      (told_shutdown Met m x_side y_side ns to_y h.told)
+      (kept_shutdown ly m x_side y_side ns to_y h.kept)
+      (told_shutdown ly m x_side y_side ns to_y h.told)
       refl h.x_knows h.y_knows h.x_said
 
   pub took_shutdown : (m : ShutdownMessage) (ns to_y : List Notice)
-      → Hold a b channel x y (Shutdown m ∷ ns) to_y said_x said_y
-      → Hold a b channel (shuts_by_peer m x) y ns to_y said_x said_y
+      → Hold a b channel Met ly x y (Shutdown m ∷ ns) to_y said_x said_y
+      → Hold a b channel Met ly (shuts_by_peer m x) y ns to_y said_x said_y
   took_shutdown m ns to_y h =
-      let told : m ≡ shutdown_message y = h.told.back.speech.1 in
+      let told : m ≡ shutdown_message y = (front_told ly x_side y_side (Shutdown m) ns h.told.back.speech).1 in
       moved (shuts_by_peer m x) (record x_side { peer_shut = true }) (Shutdown m ∷ ns) to_y ns to_y said_x refl h
-      (kept_shutdown Met m x_side y_side ns to_y h.kept)
-      (told_shutdown Met m x_side y_side ns to_y h.told)
+      (kept_shutdown ly m x_side y_side ns to_y h.kept)
+      (told_shutdown ly m x_side y_side ns to_y h.told)
       refl
       (record {
         point = h.x_knows.point;
@@ -445,6 +498,9 @@ module _ (a b : Signer) (keys : AreKeys a b) (channel : List ℕ) (x y : End) (s
         below = h.x_knows.below;
         script = ap (λ (q : ShutdownMessage). Some q.script) told;
         not_closed = h.x_knows.not_closed;
+        no_fee =
+            h.x_knows.no_fee;
+        secret = h.x_knows.secret;
       })
       (record {
         point = h.y_knows.point;
@@ -452,19 +508,22 @@ module _ (a b : Signer) (keys : AreKeys a b) (channel : List ℕ) (x y : End) (s
         below = h.y_knows.below;
         script = h.y_knows.script;
         not_closed = h.y_knows.not_closed;
+        no_fee = h.y_knows.no_fee;
+        secret = h.y_knows.secret;
       })
       h.x_said
 
   -- ---- what x does by itself
 
-  pub confirms : (id : ShortId) (to_x to_y : List Notice) → Hold a b channel x y to_x to_y said_x said_y
-      → Hold a b channel (confirmed id x) y to_x (to_y ++ Ready (ready_message a x) ∷ [])
+  pub confirms : (id : ShortId) (to_x to_y : List Notice) → Hold a b channel Met ly x y to_x to_y said_x said_y
+      → Hold a b channel Met ly (confirmed id x) y to_x (posts ly (Ready (ready_message a x) ∷ []) to_y)
       (said_x ++ message.ChannelReady (ready_message a x) ∷ []) said_y
   confirms id to_x to_y h =
-      moved (confirmed id x) (record x_side { ready = true }) to_x to_y to_x (to_y ++ Ready (ready_message a x) ∷ [])
+      moved (confirmed id x) (record x_side { ready = true }) to_x to_y to_x
+      (posts ly (Ready (ready_message a x) ∷ []) to_y)
       (said_x ++ message.ChannelReady (ready_message a x) ∷ []) refl h
-      (kept_confirmed Met x_side y_side to_x to_y h.kept)
-      (told_confirmed Met x_side y_side to_x to_y h.told)
+      (kept_confirmed ly x_side y_side to_x to_y h.kept)
+      (told_confirmed ly x_side y_side to_x to_y h.told)
       refl
       (record {
         point = h.x_knows.point;
@@ -472,6 +531,8 @@ module _ (a b : Signer) (keys : AreKeys a b) (channel : List ℕ) (x y : End) (s
         below = h.x_knows.below;
         script = h.x_knows.script;
         not_closed = h.x_knows.not_closed;
+        no_fee = h.x_knows.no_fee;
+        secret = h.x_knows.secret;
       })
       (record {
         point = h.y_knows.point;
@@ -479,13 +540,15 @@ module _ (a b : Signer) (keys : AreKeys a b) (channel : List ℕ) (x y : End) (s
         below = h.y_knows.below;
         script = h.y_knows.script;
         not_closed = h.y_knows.not_closed;
+        no_fee = h.y_knows.no_fee;
+        secret = h.y_knows.secret;
       })
       (said_more x.closing.shut x.closing.shut said_x (message.ChannelReady (ready_message a x)) (λ e. absurd (cc))
       (λ e. e) (λ e. absurd (cc)) h.x_said)
 
   pub proposed_so : (u : Change) (to_x to_y : List Notice) → id_fault x.dance.log.own u ≡ None
-      → propose_fault x u ≡ None → Hold a b channel x y to_x to_y said_x said_y
-      → Hold a b channel (proposes u x) y to_x (to_y ++ Update (as_sent u) ∷ [])
+      → propose_fault x u ≡ None → Hold a b channel Met ly x y to_x to_y said_x said_y
+      → Hold a b channel Met ly (proposes u x) y to_x (posts ly (Update (as_sent u) ∷ []) to_y)
       (said_x ++ update_message channel u ∷ []) said_y
   proposed_so u to_x to_y id none h =
       let w = h.kept.there.within in
@@ -493,11 +556,11 @@ module _ (a b : Signer) (keys : AreKeys a b) (channel : List ℕ) (x y : End) (s
       let q = otherwise (not (is_ready x)) refusal.NotReady _ p.0 in
       let r = otherwise (is_at_update_limit x.dance.log.own) refusal.NumbersSpent _ q.1 in
       let ready = parts x.marks.ready_sent x.marks.ready_received (negated (is_ready x) q.0) in
-      moved (proposes u x) (proposed (as_sent u) x_side) to_x to_y to_x (to_y ++ Update (as_sent u) ∷ [])
+      moved (proposes u x) (proposed (as_sent u) x_side) to_x to_y to_x (posts ly (Update (as_sent u) ∷ []) to_y)
       (said_x ++ update_message channel u ∷ []) (proposes_so a x u
       (omega (arith, w.own_signed, length-sent x.dance.log.own))) h
-      (kept_proposed Met x_side y_side (as_sent u) to_x to_y (proposal_fits x u id p.1) h.kept)
-      (told_proposed Met x_side y_side (as_sent u) to_x to_y (omega (arith, w.own_acked, w.own_signed))
+      (kept_proposed ly x_side y_side (as_sent u) to_x to_y (proposal_fits x u id p.1) h.kept)
+      (told_proposed ly x_side y_side (as_sent u) to_x to_y (omega (arith, w.own_acked, w.own_signed))
       (record { sent = ready.0; taken = ready.1 }) (still_open x u r.1) h.told)
       refl
       (record {
@@ -506,6 +569,8 @@ module _ (a b : Signer) (keys : AreKeys a b) (channel : List ℕ) (x y : End) (s
         below = h.x_knows.below;
         script = h.x_knows.script;
         not_closed = h.x_knows.not_closed;
+        no_fee = h.x_knows.no_fee;
+        secret = h.x_knows.secret;
       })
       (record {
         point = h.y_knows.point;
@@ -513,12 +578,15 @@ module _ (a b : Signer) (keys : AreKeys a b) (channel : List ℕ) (x y : End) (s
         below = h.y_knows.below;
         script = h.y_knows.script;
         not_closed = h.y_knows.not_closed;
+        no_fee = h.y_knows.no_fee;
+        secret = h.y_knows.secret;
       })
       (said_more x.closing.shut x.closing.shut said_x (update_message channel u) (an_add channel x u r.1) (λ e. e)
       (λ e. absurd (no_shutdown channel u e)) h.x_said)
 
-  pub signed_so : (to_x to_y : List Notice) → sign_command_fault x ≡ None → Hold a b channel x y to_x to_y said_x said_y
-      → Hold a b channel (signs_next x) y to_x (to_y ++ Sign (signed_message a x.dance) ∷ [])
+  pub signed_so : (to_x to_y : List Notice) → sign_command_fault x ≡ None
+      → Hold a b channel Met ly x y to_x to_y said_x said_y
+      → Hold a b channel Met ly (signs_next x) y to_x (posts ly (Sign (signed_message a x.dance) ∷ []) to_y)
       (said_x ++ message.CommitmentSigned (signed_message a x.dance) ∷ []) said_y
   signed_so to_x to_y none h =
       let z = signed_message a x.dance in
@@ -529,10 +597,10 @@ module _ (a b : Signer) (keys : AreKeys a b) (channel : List ℕ) (x y : End) (s
       let equal : x.dance.numbers.signed ≡ x.dance.numbers.revoked =
       eqb-true x.dance.numbers.signed x.dance.numbers.revoked
       (negated (x.dance.numbers.signed == x.dance.numbers.revoked) q.0) in
-      moved (signs_next x) (signed_all z x_side) to_x to_y to_x (to_y ++ Sign z ∷ [])
+      moved (signs_next x) (signed_all z x_side) to_x to_y to_x (posts ly (Sign z ∷ []) to_y)
       (said_x ++ message.CommitmentSigned z ∷ []) (signs_so a x) h
-      (kept_signed Met z x_side y_side to_x to_y equal h.kept)
-      (told_signed Met z x_side y_side to_x to_y (record { sent = ready.0; taken = ready.1 }) h.told)
+      (kept_signed ly z x_side y_side to_x to_y equal h.kept)
+      (told_signed ly z x_side y_side to_x to_y (record { sent = ready.0; taken = ready.1 }) h.told)
       refl
       (record {
         point = h.x_knows.point;
@@ -540,7 +608,10 @@ module _ (a b : Signer) (keys : AreKeys a b) (channel : List ℕ) (x y : End) (s
         below = small_still x.dance.numbers.signed h.x_knows.below
             (no_fault (is_last x.dance.numbers.signed) refusal.NumbersSpent r.1);
         script = h.x_knows.script;
-        not_closed = h.x_knows.not_closed;
+        not_closed =
+            h.x_knows.not_closed;
+        no_fee = h.x_knows.no_fee;
+        secret = h.x_knows.secret;
       })
       (record {
         point = h.y_knows.point;
@@ -548,6 +619,8 @@ module _ (a b : Signer) (keys : AreKeys a b) (channel : List ℕ) (x y : End) (s
         below = h.y_knows.below;
         script = h.y_knows.script;
         not_closed = h.y_knows.not_closed;
+        no_fee = h.y_knows.no_fee;
+        secret = h.y_knows.secret;
       })
       (said_more x.closing.shut x.closing.shut said_x (message.CommitmentSigned z) (λ e. absurd (cc)) (λ e. e)
       (λ e. absurd (cc)) h.x_said)
@@ -556,21 +629,22 @@ module _ (a b : Signer) (keys : AreKeys a b) (channel : List ℕ) (x y : End) (s
   shut_with : (n : End) (z : ShutdownMessage) (to_x to_y : List Notice)
       → side_of a n ≡ record x_side { shut = true; shut_message = z } → n.dance.channel ≡ x.dance.channel → Knows b n y
       → Knows a y n → x.closing.shut ≡ false → all_acknowledged x.dance.log ≡ true → n.closing.shut ≡ true
-      → Hold a b channel x y to_x to_y said_x said_y
-      → Hold a b channel n y to_x (to_y ++ Shutdown z ∷ []) (said_x ++ message.Shutdown z ∷ []) said_y
+      → Hold a b channel Met ly x y to_x to_y said_x said_y
+      → Hold a b channel Met ly n y to_x (posts ly (Shutdown z ∷ []) to_y) (said_x ++ message.Shutdown z ∷ []) said_y
   shut_with n z to_x to_y is same kn kp unshut all shut h =
-      moved n (record x_side { shut = true; shut_message = z }) to_x to_y to_x (to_y ++ Shutdown z ∷ [])
+      moved n (record x_side { shut = true; shut_message = z }) to_x to_y to_x (posts ly (Shutdown z ∷ []) to_y)
       (said_x ++ message.Shutdown z ∷ []) is h
-      (kept_shut Met z x_side y_side to_x to_y h.kept)
-      (told_shut Met z x_side y_side to_x to_y unshut
-      (eqb-true x.dance.log.acknowledged.own (length x.dance.log.own) all ∙ sym (length-sent x.dance.log.own)) h.told)
+      (kept_shut ly z x_side y_side to_x to_y h.kept)
+      (told_shut ly z x_side y_side to_x to_y unshut (eqb-true x.dance.log.acknowledged.own (length x.dance.log.own) all
+      ∙ sym (length-sent x.dance.log.own)) h.told)
       same kn kp
       (said_more x.closing.shut n.closing.shut said_x (message.Shutdown z) (λ e. absurd (cc))
       (λ e. shut) (λ e. shut) h.x_said)
 
   pub shuts : (script : List ℕ) (to_x to_y : List Notice) → shut_fault script x ≡ None
-      → Hold a b channel x y to_x to_y said_x said_y
-      → Hold a b channel (shuts_down script x) y to_x (to_y ++ Shutdown (shutdown_message (shuts_down script x)) ∷ [])
+      → Hold a b channel Met ly x y to_x to_y said_x said_y
+      → Hold a b channel Met ly (shuts_down script x) y to_x
+      (posts ly (Shutdown (shutdown_message (shuts_down script x)) ∷ []) to_y)
       (said_x ++ message.Shutdown (shutdown_message (shuts_down script x)) ∷ []) said_y
   shuts script to_x to_y none h =
       let p = otherwise x.closing.shut refusal.Shut _ none in
@@ -582,6 +656,8 @@ module _ (a b : Signer) (keys : AreKeys a b) (channel : List ℕ) (x y : End) (s
         below = h.x_knows.below;
         script = h.x_knows.script;
         not_closed = h.x_knows.not_closed;
+        no_fee = h.x_knows.no_fee;
+        secret = h.x_knows.secret;
       })
       (record {
         point = h.y_knows.point;
@@ -589,15 +665,17 @@ module _ (a b : Signer) (keys : AreKeys a b) (channel : List ℕ) (x y : End) (s
         below = h.y_knows.below;
         script = same_script y.closing.peer_shut y.terms.peer_script x.terms.script script
             (λ e. absurd (let d : true ≡ false = sym (h.told.there.shut_sent e) ∙ p.0 in cc)) h.y_knows.script;
-        not_closed = h.y_knows.not_closed;
+        not_closed =
+            h.y_knows.not_closed;
+        no_fee = h.y_knows.no_fee;
+        secret = h.y_knows.secret;
       })
       p.0 q.0 refl h
 
   pub shuts_in_answer : (to_x to_y : List Notice) → x.closing.shut ≡ false → all_acknowledged x.dance.log ≡ true
-      → Hold a b channel x y to_x to_y said_x said_y
-      → Hold a b channel (record x { closing = after_shut x.closing }) y to_x
-      (to_y ++ Shutdown (shutdown_message x) ∷ [])
-      (said_x ++ message.Shutdown (shutdown_message x) ∷ []) said_y
+      → Hold a b channel Met ly x y to_x to_y said_x said_y
+      → Hold a b channel Met ly (record x { closing = after_shut x.closing }) y to_x
+      (posts ly (Shutdown (shutdown_message x) ∷ []) to_y) (said_x ++ message.Shutdown (shutdown_message x) ∷ []) said_y
   shuts_in_answer to_x to_y unshut all h =
       shut_with (record x { closing = after_shut x.closing }) (shutdown_message x) to_x to_y refl refl
       (record {
@@ -606,6 +684,8 @@ module _ (a b : Signer) (keys : AreKeys a b) (channel : List ℕ) (x y : End) (s
         below = h.x_knows.below;
         script = h.x_knows.script;
         not_closed = h.x_knows.not_closed;
+        no_fee = h.x_knows.no_fee;
+        secret = h.x_knows.secret;
       })
       (record {
         point = h.y_knows.point;
@@ -613,5 +693,7 @@ module _ (a b : Signer) (keys : AreKeys a b) (channel : List ℕ) (x y : End) (s
         below = h.y_knows.below;
         script = h.y_knows.script;
         not_closed = h.y_knows.not_closed;
+        no_fee = h.y_knows.no_fee;
+        secret = h.y_knows.secret;
       })
       unshut all refl h

@@ -4,9 +4,12 @@ use Rattle.std.proofs.Common.{arith, Bool, true, false}
 use Rattle.ln_log.specs.declared.update.Update.{Update as Change}
 use Rattle.ln_msgs.specs.declared.messages.commitments.CommitmentSigned.{CommitmentSigned}
 use Rattle.ln_msgs.specs.declared.messages.commitments.RevokeAndAck.{RevokeAndAck}
+use Rattle.ln_msgs.specs.declared.messages.commitments.ChannelReestablish.{ChannelReestablish}
 use Rattle.ln_msgs.specs.declared.messages.opening.ChannelReady.{ChannelReady}
 use Rattle.ln_msgs.specs.declared.messages.closing.Shutdown.{Shutdown as ShutdownMessage}
-use Rattle.ln_pair.proofs.Sides.{opens, Notice, Update, Sign, Revoke, Ready, Shutdown, Again, Link, Down, Waiting, Met}
+use Rattle.ln_link.specs.declared.link.Line.{Line}
+use Rattle.ln_link.specs.declared.link.Line.TheVariants.{Down, Awaiting, Met}
+use Rattle.ln_pair.proofs.Sides.{opens, Notice, Update, Sign, Revoke, Ready, Shutdown, Again}
 use Rattle.ln_pair.proofs.Sides.{Side, posts, proposed, signed_all, received, accepted_all, acknowledged_all, proposes}
 use Rattle.ln_pair.proofs.Sides.{signs, confirms, shuts}
 use Rattle.ln_pair.proofs.Marks.{IsAllowed, NoneOpens, Teller, Tells, ToldAll, ToldAny, teller, Speaks, Speech, IsReady}
@@ -60,29 +63,29 @@ tells-front t P r s (Again n ∷ ms) ns h = absurd h
 
 -- ---- where x or y changes
 
-pub spoken : (ly lx ln : Link) (x n y : Side) (sent ms : List Notice)
+pub spoken : (ly lx ln : Line) (x n y : Side) (sent ms : List Notice)
     → ((ns : List Notice) → Speaks lx x y ns → Speaks ln n y (ns ++ sent)) → Speech lx ly x y ms
     → Speech ln ly n y (posts ly sent ms)
 spoken Down lx ln x n y sent ms h e = e
-spoken Waiting lx ln x n y sent [] h e = absurd e
-spoken Waiting lx ln x n y sent (Update u ∷ ms) h e = absurd e
-spoken Waiting lx ln x n y sent (Sign k ∷ ms) h e = absurd e
-spoken Waiting lx ln x n y sent (Revoke k ∷ ms) h e = absurd e
-spoken Waiting lx ln x n y sent (Ready z ∷ ms) h e = absurd e
-spoken Waiting lx ln x n y sent (Shutdown z ∷ ms) h e = absurd e
-spoken Waiting lx ln x n y sent (Again k ∷ ms) h e = h ms e
+spoken Awaiting lx ln x n y sent [] h e = absurd e
+spoken Awaiting lx ln x n y sent (Update u ∷ ms) h e = absurd e
+spoken Awaiting lx ln x n y sent (Sign k ∷ ms) h e = absurd e
+spoken Awaiting lx ln x n y sent (Revoke k ∷ ms) h e = absurd e
+spoken Awaiting lx ln x n y sent (Ready z ∷ ms) h e = absurd e
+spoken Awaiting lx ln x n y sent (Shutdown z ∷ ms) h e = absurd e
+spoken Awaiting lx ln x n y sent (Again k ∷ ms) h e = h ms e
 spoken Met lx ln x n y sent ms h e = h ms e
 
-pub silent : (ly lx ln : Link) (x n y : Side) (ms : List Notice)
+pub silent : (ly lx ln : Line) (x n y : Side) (ms : List Notice)
     → ((ns : List Notice) → Speaks lx x y ns → Speaks ln n y ns) → Speech lx ly x y ms → Speech ln ly n y ms
 silent Down lx ln x n y ms h e = e
-silent Waiting lx ln x n y [] h e = absurd e
-silent Waiting lx ln x n y (Update u ∷ ms) h e = absurd e
-silent Waiting lx ln x n y (Sign k ∷ ms) h e = absurd e
-silent Waiting lx ln x n y (Revoke k ∷ ms) h e = absurd e
-silent Waiting lx ln x n y (Ready z ∷ ms) h e = absurd e
-silent Waiting lx ln x n y (Shutdown z ∷ ms) h e = absurd e
-silent Waiting lx ln x n y (Again k ∷ ms) h e = h ms e
+silent Awaiting lx ln x n y [] h e = absurd e
+silent Awaiting lx ln x n y (Update u ∷ ms) h e = absurd e
+silent Awaiting lx ln x n y (Sign k ∷ ms) h e = absurd e
+silent Awaiting lx ln x n y (Revoke k ∷ ms) h e = absurd e
+silent Awaiting lx ln x n y (Ready z ∷ ms) h e = absurd e
+silent Awaiting lx ln x n y (Shutdown z ∷ ms) h e = absurd e
+silent Awaiting lx ln x n y (Again k ∷ ms) h e = h ms e
 silent Met lx ln x n y ms h e = h ms e
 
 -- ---- lists
@@ -99,7 +102,7 @@ none-drop (suc k) zero us le h = absurd (omega (arith, le))
 none-drop (suc k) (suc m) [] le h = tt
 none-drop (suc k) (suc m) (u ∷ us) le h = none-drop k m us (omega (arith, le)) h
 
-none-take : (k m : ℕ) (us : List Change) → NoneOpens (drop k us) → NoneOpens (drop k (take m us))
+pub none-take : (k m : ℕ) (us : List Change) → NoneOpens (drop k us) → NoneOpens (drop k (take m us))
 none-take zero zero us h = tt
 none-take zero (suc m) [] h = tt
 none-take zero (suc m) (u ∷ us) h = (h.0, none-take zero m us h.1)
@@ -119,7 +122,7 @@ drop-past (suc k) [] le = refl
 drop-past (suc k) (u ∷ us) le = drop-past k us (omega (arith, le))
 
 -- nothing that the reader has said changes
-heard_same : (ly : Link) (y x n : Side) (ms : List Notice) → n.ready ≡ x.ready → n.peer_ready ≡ x.peer_ready
+heard_same : (ly : Line) (y x n : Side) (ms : List Notice) → n.ready ≡ x.ready → n.peer_ready ≡ x.peer_ready
     → n.peer_shut ≡ x.peer_shut → Speaks ly y x ms → Speaks ly y n ms
 heard_same Down y x n ms e f g h =
     subst (λ b. Tells (record {
@@ -131,7 +134,7 @@ heard_same Down y x n ms e f g h =
     }) ToldAny n.peer_ready n.peer_shut ms) (sym e)
     (subst (λ b. Tells (teller y x) ToldAny b n.peer_shut ms) (sym f)
     (subst (λ b. Tells (teller y x) ToldAny x.peer_ready b ms) (sym g) h))
-heard_same Waiting y x n ms e f g h = h
+heard_same Awaiting y x n ms e f g h = h
 heard_same Met y x n ms e f g h =
     subst (λ b. Tells (record {
       ready = y.ready;
@@ -145,15 +148,15 @@ heard_same Met y x n ms e f g h =
 
 -- ---- x sends channel_ready
 
-heard_ready : (ly : Link) (y x : Side) (ms : List Notice) → Speaks ly y x ms
+heard_ready : (ly : Line) (y x : Side) (ms : List Notice) → Speaks ly y x ms
     → Speaks ly y (record x { ready = true }) ms
 heard_ready Down y x ms h = tells-more (teller y x) (teller y (record x { ready = true })) ToldAny x.peer_ready
     x.peer_shut ms (λ e. e) (λ e. e) (λ e. refl) refl (λ e. refl) h
-heard_ready Waiting y x ms h = h
+heard_ready Awaiting y x ms h = h
 heard_ready Met y x ms h = tells-more (teller y x) (teller y (record x { ready = true })) (ToldAll y.ready y.shut)
     x.peer_ready x.peer_shut ms (λ e. e) (λ e. e) (λ e. refl) refl (λ e. refl) h
 
-pub told_confirmed : (ly : Link) (x y : Side) (to_x to_y : List Notice)
+pub told_confirmed : (ly : Line) (x y : Side) (to_x to_y : List Notice)
     → BothTold (record { x_link = Met; y_link = ly; x = x; y = y; to_x = to_x; to_y = to_y })
     → BothTold (confirms (record { x_link = Met; y_link = ly; x = x; y = y; to_x = to_x; to_y = to_y }))
 told_confirmed ly x y to_x to_y k =
@@ -189,7 +192,7 @@ told_confirmed ly x y to_x to_y k =
 
 -- ---- x sends shutdown
 
-pub told_shut : (ly : Link) (z : ShutdownMessage) (x y : Side) (to_x to_y : List Notice) → x.shut ≡ false
+pub told_shut : (ly : Line) (z : ShutdownMessage) (x y : Side) (to_x to_y : List Notice) → x.shut ≡ false
     → x.acked.own ≡ length x.own → BothTold (record {
       x_link = Met;
       y_link = ly;
@@ -237,10 +240,10 @@ allowed_own true true h e = absurd (cc)
 allowed_own true false h e = absurd (cc)
 allowed_own false s h e = refl
 
-ready_same : (x n : Side) → n.ready ≡ x.ready → n.peer_ready ≡ x.peer_ready → IsReady x → IsReady n
+pub ready_same : (x n : Side) → n.ready ≡ x.ready → n.peer_ready ≡ x.peer_ready → IsReady x → IsReady n
 ready_same x n e f r = record { sent = e ∙ r.sent; taken = f ∙ r.taken }
 
-pub told_proposed : (ly : Link) (x y : Side) (u : Change) (to_x to_y : List Notice) → x.acked.own ≤ length x.own
+pub told_proposed : (ly : Line) (x y : Side) (u : Change) (to_x to_y : List Notice) → x.acked.own ≤ length x.own
     → IsReady x → IsAllowed (opens u) x.shut → BothTold
     (record { x_link = Met; y_link = ly; x = x; y = y; to_x = to_x; to_y = to_y })
     → BothTold (proposes u (record { x_link = Met; y_link = ly; x = x; y = y; to_x = to_x; to_y = to_y }))
@@ -276,7 +279,7 @@ told_proposed ly x y u to_x to_y le ready may k =
       };
     }
 
-pub told_signed : (ly : Link) (z : CommitmentSigned) (x y : Side) (to_x to_y : List Notice) → IsReady x
+pub told_signed : (ly : Line) (z : CommitmentSigned) (x y : Side) (to_x to_y : List Notice) → IsReady x
     → BothTold (record { x_link = Met; y_link = ly; x = x; y = y; to_x = to_x; to_y = to_y })
     → BothTold (signs z (record { x_link = Met; y_link = ly; x = x; y = y; to_x = to_x; to_y = to_y }))
 told_signed ly z x y to_x to_y ready k =
@@ -311,13 +314,13 @@ told_signed ly z x y to_x to_y ready k =
 
 -- ---- x takes what is in front of it
 
-took_update : (ly : Link) (x y : Side) (u : Change) (ms : List Notice) → Speaks ly y x (Update u ∷ ms)
+took_update : (ly : Line) (x y : Side) (u : Change) (ms : List Notice) → Speaks ly y x (Update u ∷ ms)
     → Speaks ly y (received u x) ms
 took_update Down x y u ms h = h.3
-took_update Waiting x y u ms h = absurd (cc h)
+took_update Awaiting x y u ms h = absurd (cc h)
 took_update Met x y u ms h = h.3
 
-pub told_update : (ly : Link) (x y : Side) (u : Change) (ms to_y : List Notice)
+pub told_update : (ly : Line) (x y : Side) (u : Change) (ms to_y : List Notice)
     → BothTold (record { x_link = Met; y_link = ly; x = x; y = y; to_x = Update u ∷ ms; to_y = to_y })
     → BothTold (record { x_link = Met; y_link = ly; x = received u x; y = y; to_x = ms; to_y = to_y })
 told_update ly x y u ms to_y k =
@@ -349,27 +352,29 @@ told_update ly x y u ms to_y k =
       };
     }
 
-took_sign : (ly : Link) (z : RevokeAndAck) (x y : Side) (k : CommitmentSigned) (ms : List Notice)
-    → Speaks ly y x (Sign k ∷ ms) → (x.peer_ready ≡ true) × (x.ready ≡ true) × Speaks ly y (accepted_all z x) ms
-took_sign Down z x y k ms h = h
-took_sign Waiting z x y k ms h = absurd (cc h)
-took_sign Met z x y k ms h = h
+took_sign : (ly : Line) (z : RevokeAndAck) (v : ChannelReestablish) (x y : Side)
+    (k : CommitmentSigned) (ms : List Notice)
+    → Speaks ly y x (Sign k ∷ ms) → (x.peer_ready ≡ true) × (x.ready ≡ true) × Speaks ly y (accepted_all z v x) ms
+took_sign Down z v x y k ms h = h
+took_sign Awaiting z v x y k ms h = absurd (cc h)
+took_sign Met z v x y k ms h = h
 
-pub told_sign : (ly : Link) (z : RevokeAndAck) (x y : Side) (k : CommitmentSigned) (ms to_y : List Notice)
+pub told_sign : (ly : Line) (z : RevokeAndAck) (v : ChannelReestablish) (x y : Side)
+    (k : CommitmentSigned) (ms to_y : List Notice)
     → BothTold (record { x_link = Met; y_link = ly; x = x; y = y; to_x = Sign k ∷ ms; to_y = to_y })
     → BothTold (record {
       x_link = Met;
       y_link = ly;
-      x = accepted_all z x;
+      x = accepted_all z v x;
       y = y;
       to_x = ms;
       to_y = posts ly (Revoke z ∷ []) to_y;
     })
-told_sign ly z x y k ms to_y h =
+told_sign ly z v x y k ms to_y h =
     let f = h.there in
     let g = h.back in
-    let n = accepted_all z x in
-    let t = took_sign ly z x y k ms g.speech in
+    let n = accepted_all z v x in
+    let t = took_sign ly z v x y k ms g.speech in
     let r : IsReady n = record { sent = t.1; taken = t.0 } in
     let body : (ns : List Notice) → Speaks Met x y ns → Speaks Met n y (ns ++ Revoke z ∷ []) = λ ns s.
     tells-push (teller x y) (ToldAll x.ready x.shut) (ToldAll x.ready x.shut) y.peer_ready y.peer_shut ns
@@ -395,13 +400,15 @@ told_sign ly z x y k ms to_y h =
       };
     }
 
-took_revoke : (ly : Link) (z : CommitmentSigned) (x y : Side) (k : RevokeAndAck) (ms : List Notice)
-    → Speaks ly y x (Revoke k ∷ ms) → Speaks ly y (acknowledged_all z x) ms
-took_revoke Down z x y k ms h = h
-took_revoke Waiting z x y k ms h = absurd (cc h)
-took_revoke Met z x y k ms h = h
+took_revoke : (ly : Line) (z : CommitmentSigned) (v : ChannelReestablish) (x y : Side)
+    (k : RevokeAndAck) (ms : List Notice)
+    → Speaks ly y x (Revoke k ∷ ms) → Speaks ly y (acknowledged_all z v x) ms
+took_revoke Down z v x y k ms h = h
+took_revoke Awaiting z v x y k ms h = absurd (cc h)
+took_revoke Met z v x y k ms h = h
 
-pub told_revoke : (ly : Link) (z : CommitmentSigned) (x y : Side) (k : RevokeAndAck) (ms to_y : List Notice)
+pub told_revoke : (ly : Line) (z : CommitmentSigned) (v : ChannelReestablish) (x y : Side)
+    (k : RevokeAndAck) (ms to_y : List Notice)
     → x.acked.own ≤ x.signed.own → BothTold (record {
       x_link = Met;
       y_link = ly;
@@ -412,15 +419,15 @@ pub told_revoke : (ly : Link) (z : CommitmentSigned) (x y : Side) (k : RevokeAnd
     }) → BothTold (record {
       x_link = Met;
       y_link = ly;
-      x = acknowledged_all z x;
+      x = acknowledged_all z v x;
       y = y;
       to_x = ms;
       to_y = to_y;
     })
-told_revoke ly z x y k ms to_y le h =
+told_revoke ly z v x y k ms to_y le h =
     let f = h.there in
     let g = h.back in
-    let n = acknowledged_all z x in
+    let n = acknowledged_all z v x in
     record {
       there = record {
         ready_sent = f.ready_sent;
@@ -443,18 +450,18 @@ told_revoke ly z x y k ms to_y le h =
         used_number = g.used_number;
         shut = g.shut;
         speech =
-            took_revoke ly z x y k ms g.speech;
+            took_revoke ly z v x y k ms g.speech;
       };
     }
 
-took_ready : (ly : Link) (z : ChannelReady) (m : CommitmentSigned) (x y : Side) (ms : List Notice)
+took_ready : (ly : Line) (z : ChannelReady) (m : CommitmentSigned) (x y : Side) (ms : List Notice)
     → Speaks ly y x (Ready z ∷ ms) → (y.ready ≡ true) × (z ≡ y.ready_message)
     × Speaks ly y (record x { peer_ready = true; signature = m }) ms
 took_ready Down z m x y ms h = h
-took_ready Waiting z m x y ms h = absurd (cc h)
+took_ready Awaiting z m x y ms h = absurd (cc h)
 took_ready Met z m x y ms h = h
 
-pub told_ready : (ly : Link) (z : ChannelReady) (m : CommitmentSigned) (x y : Side) (ms to_y : List Notice)
+pub told_ready : (ly : Line) (z : ChannelReady) (m : CommitmentSigned) (x y : Side) (ms to_y : List Notice)
     → BothTold (record { x_link = Met; y_link = ly; x = x; y = y; to_x = Ready z ∷ ms; to_y = to_y })
     → BothTold (record {
       x_link = Met;
@@ -493,13 +500,13 @@ told_ready ly z m x y ms to_y h =
       };
     }
 
-took_shutdown : (ly : Link) (z : ShutdownMessage) (x y : Side) (ms : List Notice) → Speaks ly y x (Shutdown z ∷ ms)
+took_shutdown : (ly : Line) (z : ShutdownMessage) (x y : Side) (ms : List Notice) → Speaks ly y x (Shutdown z ∷ ms)
     → (y.shut ≡ true) × (z ≡ y.shut_message) × Speaks ly y (record x { peer_shut = true }) ms
 took_shutdown Down z x y ms h = h
-took_shutdown Waiting z x y ms h = absurd (cc h)
+took_shutdown Awaiting z x y ms h = absurd (cc h)
 took_shutdown Met z x y ms h = h
 
-pub told_shutdown : (ly : Link) (z : ShutdownMessage) (x y : Side) (ms to_y : List Notice)
+pub told_shutdown : (ly : Line) (z : ShutdownMessage) (x y : Side) (ms to_y : List Notice)
     → BothTold (record { x_link = Met; y_link = ly; x = x; y = y; to_x = Shutdown z ∷ ms; to_y = to_y })
     → BothTold (record { x_link = Met; y_link = ly; x = record x { peer_shut = true }; y = y; to_x = ms; to_y = to_y })
 told_shutdown ly z x y ms to_y h =

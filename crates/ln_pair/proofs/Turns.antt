@@ -18,13 +18,16 @@ use Rattle.ln_link.specs.Taking.{takes, takes_ready, accepts, accepting, revokes
 use Rattle.ln_link.specs.Taking.{shutdown_at, shuts_by_peer, message_row}
 use Rattle.ln_pair.specs.Ends.{messages_in}
 use Rattle.ln_pair.specs.Promises.{AreKeys}
-use Rattle.ln_pair.proofs.Sides.{Notice, Update, Sign, Revoke, Ready, Shutdown, Again, Met}
+use Rattle.ln_link.specs.declared.link.Line.{Line}
+use Rattle.ln_link.specs.declared.link.Line.TheVariants.{Down, Awaiting, Met}
+use Rattle.ln_pair.proofs.Sides.{Notice, Update, Sign, Revoke, Ready, Shutdown, Again, posts}
 use Rattle.ln_pair.proofs.Flow.{accepts as is_last_signature}
 use Rattle.ln_pair.proofs.Images.{message_of, messages_of, side_of}
 use Rattle.ln_pair.proofs.Rows.{row_of_update, update_taken, signature_right, signature_taken, revocation_right}
 use Rattle.ln_pair.proofs.Rows.{revocation_taken}
-use Rattle.ln_pair.proofs.Steps.{IsScript, both_true, parts, Hold, numbered, took_update, took_sign, outstanding}
-use Rattle.ln_pair.proofs.Steps.{is_told, took_revoke, took_ready, took_shutdown, took_shutdown_again, shuts_in_answer}
+use Rattle.ln_pair.proofs.Steps.{front_reads, front_told, IsScript, both_true, parts, Hold, numbered, took_update}
+use Rattle.ln_pair.proofs.Steps.{took_sign, outstanding, is_told, took_revoke, took_ready, took_shutdown}
+use Rattle.ln_pair.proofs.Steps.{took_shutdown_again, shuts_in_answer}
 
 -- ---- rows
 
@@ -71,22 +74,29 @@ unnegated : (c : Bool) → not c ≡ true → c ≡ false
 unnegated true e = absurd (cc)
 unnegated false e = refl
 
-module _ (a b : Signer) (keys : AreKeys a b) (channel : List ℕ) (x y : End) (said_x said_y : List Message) where
+pub nothing_posted : (l : Line) (ms : List Notice) → posts l [] ms ≡ ms
+nothing_posted Down ms = refl
+nothing_posted Awaiting ms = append-nil ms
+nothing_posted Met ms = append-nil ms
+
+module _ (a b : Signer) (keys : AreKeys a b) (channel : List ℕ) (ly : Line) (x y : End)
+    (said_x said_y : List Message) where
   pub row : (n : Notice) (ns to_y : List Notice) → has_begun x ≡ false
-      → Hold a b channel x y (n ∷ ns) to_y said_x said_y → message_row a (message_of channel n) x ≡ Ok (turn_of a n x)
+      → Hold a b channel Met ly x y (n ∷ ns) to_y said_x said_y
+      → message_row a (message_of channel n) x ≡ Ok (turn_of a n x)
   row (Update u) ns to_y begun h =
       let f = h.kept.back in
-      let fits = f.flight.0 in
-      let s = h.told.back.speech in
+      let fits = (front_reads ly (side_of a x) (side_of b y) (Update u) ns f.flight).0 in
+      let s = front_told ly (side_of a x) (side_of b y) (Update u) ns h.told.back.speech in
       row_of_update a channel u x ∙ ap (λ v. update_row v x) fits.sent
       ∙ update_taken y.dance.log.opening y.dance.log.role x u f.same f.roles
       (both_true x.marks.ready_sent x.marks.ready_received s.1 s.0) begun s.2 fits
   row (Sign m) ns to_y begun h =
       let f = h.kept.there in
       let g = h.kept.back in
-      let d = g.flight.0 in
-      let s = h.told.back.speech in
-      let l = is_last_signature Met Met (side_of a x) (side_of b y) m (Sign m ∷ ns) g d in
+      let d = (front_reads ly (side_of a x) (side_of b y) (Sign m) ns g.flight).0 in
+      let s = front_told ly (side_of a x) (side_of b y) (Sign m) ns h.told.back.speech in
+      let l = is_last_signature Met ly (side_of a x) (side_of b y) m (Sign m ∷ ns) g d in
       let peer = fronts y.dance.log.signed.peer x.dance.log.acknowledged.own y.dance.log.current.peer
       (all_sent y.dance.log.received) (all_sent x.dance.log.own) f.agree (sym d.knows) g.within.peer_signed in
       let below = h.y_knows.below in
@@ -98,44 +108,48 @@ module _ (a b : Signer) (keys : AreKeys a b) (channel : List ℕ) (x y : End) (s
       below)
   row (Revoke m) ns to_y begun h =
       revocation_taken a m x (revocation_right a b x.dance y.dance m keys.partners
-      (is_told a b keys channel x y said_x said_y m ns to_y h)
-      (outstanding a b keys channel x y said_x said_y m ns to_y h) h.x_knows.below)
+      (is_told a b keys channel ly x y said_x said_y m ns to_y h)
+      (outstanding a b keys channel ly x y said_x said_y m ns to_y h) h.x_knows.below)
   row (Ready m) ns to_y begun h = refl
   row (Shutdown m) ns to_y begun h =
-      let told : m ≡ shutdown_message y = h.told.back.speech.1 in
+      let told : m ≡ shutdown_message y = (front_told ly (side_of a x) (side_of b y) (Shutdown m) ns
+      h.told.back.speech).1 in
       same_shutdown x.closing.peer_shut x.terms.peer_script y.terms.script m x h.x_knows.script
       (sym (ap (λ (q : ShutdownMessage). q.script) told))
-  row (Again m) ns to_y begun h = absurd (h.kept.back.flight)
+  row (Again m) ns to_y begun h = absurd (front_reads ly (side_of a x) (side_of b y) (Again m) ns h.kept.back.flight)
 
   -- ---- turns
 
-  quietly : (n : End) (rest sent : List Notice) → Hold a b channel n y rest sent said_x said_y
-      → Hold a b channel n y rest (sent ++ []) (said_x ++ []) said_y
-  quietly n rest sent h = subst (λ os. Hold a b channel n y rest os (said_x ++ []) said_y) (sym (append-nil sent))
-      (subst (λ ms. Hold a b channel n y rest sent ms said_y) (sym (append-nil said_x)) h)
+  quietly : (n : End) (rest sent : List Notice) → Hold a b channel Met ly n y rest sent said_x said_y
+      → Hold a b channel Met ly n y rest (posts ly [] sent) (said_x ++ []) said_y
+  quietly n rest sent h = subst (λ os. Hold a b channel Met ly n y rest os (said_x ++ []) said_y)
+      (sym (nothing_posted ly sent)) (subst (λ ms. Hold a b channel Met ly n y rest sent ms said_y)
+      (sym (append-nil said_x)) h)
 
   shut_by : (s : Bool) → x.closing.peer_shut ≡ s → (m : ShutdownMessage) (ns to_y : List Notice)
-      → Hold a b channel x y (Shutdown m ∷ ns) to_y said_x said_y
-      → Hold a b channel (cond s x (shuts_by_peer m x)) y ns to_y said_x said_y
-  shut_by true e m ns to_y h = took_shutdown_again a b keys channel x y said_x said_y m ns to_y e h
-  shut_by false e m ns to_y h = took_shutdown a b keys channel x y said_x said_y m ns to_y h
+      → Hold a b channel Met ly x y (Shutdown m ∷ ns) to_y said_x said_y
+      → Hold a b channel Met ly (cond s x (shuts_by_peer m x)) y ns to_y said_x said_y
+  shut_by true e m ns to_y h = took_shutdown_again a b keys channel ly x y said_x said_y m ns to_y e h
+  shut_by false e m ns to_y h = took_shutdown a b keys channel ly x y said_x said_y m ns to_y h
 
-  pub took : (n : Notice) (ns to_y : List Notice) → Hold a b channel x y (n ∷ ns) to_y said_x said_y
-      → Hold a b channel (turn_of a n x).end y ns (to_y ++ sent_by a n x)
+  pub took : (n : Notice) (ns to_y : List Notice) → Hold a b channel Met ly x y (n ∷ ns) to_y said_x said_y
+      → Hold a b channel Met ly (turn_of a n x).end y ns (posts ly (sent_by a n x) to_y)
       (said_x ++ messages_in (turn_of a n x).handed.sent) said_y
-  took (Update u) ns to_y h = quietly (takes u x) ns to_y (took_update a b keys channel x y said_x said_y u ns to_y h)
+  took (Update u) ns to_y h = quietly (takes u x) ns to_y
+      (took_update a b keys channel ly x y said_x said_y u ns to_y h)
   took (Sign m) ns to_y h =
       let sent = message.RevokeAndAck (revoked_message a x.dance) in
-      numbered a b channel (accepts x) y ns (to_y ++ Revoke (revoked_message a x.dance) ∷ []) (said_x ++ sent ∷ [])
-      said_y (turn_of a (Sign m) x).end.ledger (took_sign a b keys channel x y said_x said_y m ns to_y h)
+      numbered a b channel Met ly (accepts x) y ns (posts ly (Revoke (revoked_message a x.dance) ∷ []) to_y)
+      (said_x ++ sent ∷ []) said_y (turn_of a (Sign m) x).end.ledger
+      (took_sign a b keys channel ly x y said_x said_y m ns to_y h)
   took (Revoke m) ns to_y h = quietly (turn_of a (Revoke m) x).end ns to_y
-      (numbered a b channel (revokes m x) y ns to_y said_x said_y (turn_of a (Revoke m) x).end.ledger
-      (took_revoke a b keys channel x y said_x said_y m ns to_y h))
+      (numbered a b channel Met ly (revokes m x) y ns to_y said_x said_y (turn_of a (Revoke m) x).end.ledger
+      (took_revoke a b keys channel ly x y said_x said_y m ns to_y h))
   took (Ready m) ns to_y h = quietly (takes_ready m x) ns to_y
-      (took_ready a b keys channel x y said_x said_y m ns to_y h)
+      (took_ready a b keys channel ly x y said_x said_y m ns to_y h)
   took (Shutdown m) ns to_y h = quietly (cond x.closing.peer_shut x (shuts_by_peer m x)) ns to_y
       (shut_by x.closing.peer_shut refl m ns to_y h)
-  took (Again m) ns to_y h = absurd (h.kept.back.flight)
+  took (Again m) ns to_y h = absurd (front_reads ly (side_of a x) (side_of b y) (Again m) ns h.kept.back.flight)
 
   -- ---- the end of a turn
 
@@ -144,11 +158,12 @@ module _ (a b : Signer) (keys : AreKeys a b) (channel : List ℕ) (x y : End) (s
   shutdown_notice false = []
 
   pub owes_by : (o : Bool) → owes_shutdown x ≡ o → (to_x to_y : List Notice)
-      → Hold a b channel x y to_x to_y said_x said_y
-      → Hold a b channel (cond o (record x { closing = after_shut x.closing }) x) y to_x (to_y ++ shutdown_notice o)
-      (said_x ++ messages_in (cond o (output.Send (message.Shutdown (shutdown_message x)) ∷ []) [])) said_y
+      → Hold a b channel Met ly x y to_x to_y said_x said_y
+      → Hold a b channel Met ly (cond o (record x { closing = after_shut x.closing }) x) y to_x
+      (posts ly (shutdown_notice o) to_y) (said_x ++ messages_in
+      (cond o (output.Send (message.Shutdown (shutdown_message x)) ∷ []) [])) said_y
   owes_by true e to_x to_y h =
       let p = parts (x.closing.peer_shut && not x.closing.shut) (all_acknowledged x.dance.log) e in
       let q = parts x.closing.peer_shut (not x.closing.shut) p.0 in
-      shuts_in_answer a b keys channel x y said_x said_y to_x to_y (unnegated x.closing.shut q.1) p.1 h
+      shuts_in_answer a b keys channel ly x y said_x said_y to_x to_y (unnegated x.closing.shut q.1) p.1 h
   owes_by false e to_x to_y h = quietly x to_x to_y h

@@ -9,7 +9,9 @@ use Rattle.ln_log.specs.Log.{Counts}
 use Rattle.ln_log.specs.Updates.{as_sent}
 use Rattle.ln_msgs.specs.declared.messages.commitments.CommitmentSigned.{CommitmentSigned}
 use Rattle.ln_msgs.specs.declared.messages.commitments.RevokeAndAck.{RevokeAndAck}
-use Rattle.ln_pair.proofs.Sides.{Both, Notice, Update, Sign, Revoke, Ready, Shutdown, Again, Link, Down, Waiting, Met}
+use Rattle.ln_link.specs.declared.link.Line.{Line}
+use Rattle.ln_link.specs.declared.link.Line.TheVariants.{Down, Awaiting, Met}
+use Rattle.ln_pair.proofs.Sides.{Both, Notice, Update, Sign, Revoke, Ready, Shutdown, Again}
 use Rattle.ln_pair.proofs.Sides.{Side}
 
 -- an update of the side r is taken behind own, where seen of the other side's stand with it, and the side
@@ -116,26 +118,25 @@ holds y = take y.current.own y.own
 
 -- behind the reestablish: all that y lacks, where x has met it; nothing, where x hasn't; a beginning, where x
 -- is down again
-abbrev pub Carries : Link → Side → Side → List Notice → Type 0
+abbrev pub Carries : Line → Side → Side → List Notice → Type 0
 Carries Down x y ms = Reads (sender x) y.own (holds y) y.signed.own Anywhere y.got y.acked.own y.number y.revocations ms
-Carries Waiting x y ms = (ms ≡ []) × (length y.got ≤ y.current.peer)
+Carries Awaiting x y ms = (ms ≡ []) × (length y.got ≤ y.current.peer)
 Carries Met x y ms = Reads (sender x) y.own (holds y) y.signed.own
     (LacksNothing x.own x.current.peer x.signatures x.number) y.got y.acked.own y.number y.revocations ms
 
-abbrev pub BeginsAgain : Link → Side → Side → List Notice → Type 0
+abbrev pub BeginsAgain : Line → Side → Side → List Notice → Type 0
 BeginsAgain l x y [] = ⊥
 BeginsAgain l x y (Update u ∷ ms) = ⊥
 BeginsAgain l x y (Sign k ∷ ms) = ⊥
 BeginsAgain l x y (Revoke k ∷ ms) = ⊥
 BeginsAgain l x y (Ready z ∷ ms) = ⊥
 BeginsAgain l x y (Shutdown z ∷ ms) = ⊥
-BeginsAgain l x y (Again n ∷ ms) = (n.next_commitment_number ≡ x.number + 1)
-    × (n.next_revocation_number ≡ x.revocations) × Carries l x y ms
+BeginsAgain l x y (Again m ∷ ms) = (m ≡ x.reestablish) × Carries l x y ms
 
 -- from x to y; in front, until y has taken it, x's reestablish
-abbrev pub InFlight : Link → Link → Side → Side → List Notice → Type 0
+abbrev pub InFlight : Line → Line → Side → Side → List Notice → Type 0
 InFlight l Down x y ms = ms ≡ []
-InFlight l Waiting x y ms = BeginsAgain l x y ms
+InFlight l Awaiting x y ms = BeginsAgain l x y ms
 InFlight l Met x y ms = Carries l x y ms
 
 -- ---- the whole
@@ -149,12 +150,12 @@ pub record IsWithin (x : Side) : Type 0 where
   pub peer_current : x.current.peer ≤ length x.got
 
 -- an end that hasn't met the peer has only what its record keeps
-abbrev pub IsCut : Link → Side → Type 0
+abbrev pub IsCut : Line → Side → Type 0
 IsCut Down x = (length x.own ≤ x.signed.own) × (length x.got ≤ x.current.peer)
-IsCut Waiting x = (length x.own ≤ x.signed.own) × (length x.got ≤ x.current.peer)
+IsCut Awaiting x = (length x.own ≤ x.signed.own) × (length x.got ≤ x.current.peer)
 IsCut Met x = Unit {0}
 
-pub record Flows (lx ly : Link) (x y : Side) (ms : List Notice) : Type 0 where
+pub record Flows (lx ly : Line) (x y : Side) (ms : List Notice) : Type 0 where
   pub same : y.opening ≡ x.opening
   pub roles : other_role y.role ≡ x.role
   pub within : IsWithin x

@@ -9,8 +9,9 @@ use Rattle.ln_log.specs.Machine.{Party, Follows, held}
 use Rattle.ln_log.specs.Log.{party_of}
 use Rattle.ln_dance.specs.Dance.{sign_fault}
 use Rattle.ln_link.specs.End.{End, Turn, has_begun}
-use Rattle.ln_link.specs.Taking.{taken}
-use Rattle.ln_pair.specs.Ends.{Ends, Step, happens}
+use Rattle.ln_link.specs.declared.link.Line.{Line}
+use Rattle.ln_link.specs.declared.link.Line.TheVariants.{Met}
+use Rattle.ln_pair.specs.Ends.{Ends, Step, message_at, happens}
 
 -- the keys of both ends: partners, and every point has 33 bytes
 pub record AreKeys (a b : Signer) : Type 0 where
@@ -40,15 +41,17 @@ abbrev pub Headline : Ends → Type 0
 Headline p = Follows (party p.x) (party p.y) × Follows (party p.y) (party p.x)
 
 -- the message in front is taken
-abbrev pub TakesFront : Signer → List Message → End → Type 0
-TakesFront keys [] e = Unit {0}
-TakesFront keys (m ∷ ms) e = (t : Turn) × (taken keys m e ≡ Ok t)
+abbrev pub TakesFront : Signer → Line → List Message → End → Type 0
+TakesFront keys l [] e = Unit {0}
+TakesFront keys l (m ∷ ms) e = (t : Turn) × (message_at keys l m e ≡ Ok t)
 
 abbrev pub NoneRefused : Signer → Signer → Ends → Type 0
-NoneRefused a b p = TakesFront a p.to_x p.x × TakesFront b p.to_y p.y
+NoneRefused a b p = TakesFront a p.x_line p.to_x p.x × TakesFront b p.y_line p.to_y p.y
 
--- nothing is in flight, and neither end has anything to sign
+-- both ends have met, nothing is in flight, and neither has anything to sign
 pub record IsAtRest (p : Ends) : Type 0 where
+  pub x_met : p.x_line ≡ Met
+  pub y_met : p.y_line ≡ Met
   pub to_x : p.to_x ≡ []
   pub to_y : p.to_y ≡ []
   pub x : sign_fault p.x.dance ≡ Some refusal.NothingToSign

@@ -1,13 +1,21 @@
 //! What two ends of a channel promise over every list of steps from their opening on, as far as closing begins at
-//! neither: messages are delivered in the order in which they were sent, and either end is given any command.
+//! neither: messages are delivered in the order in which they were sent, either end is given any command, and
+//! connections are lost, at each end by itself, and come back (BOLT 2, "Message Retransmission").
 
-ghost use Rattle.std.specs.Prelude.{List};
+ghost use Rattle.std.specs.Prelude.{◌≡◌, List};
+ghost use Rattle.ln_msgs.specs.declared.messages.message.Message.{Message};
 ghost use Rattle.ln_keys.specs.Signer.{Signer};
+ghost use Rattle.ln_link.specs.declared.command.Command.{Command};
 ghost use Rattle.ln_link.specs.declared.config.Config.{Config};
 ghost use Rattle.ln_link.specs.declared.config.OpenSpec.{OpenSpec};
+ghost use Rattle.ln_link.specs.declared.link.Line.{Line};
+ghost use Rattle.ln_link.specs.declared.link.Line.TheVariants.{Awaiting, Met};
+ghost use Rattle.ln_link.specs.declared.link.Stage.TheVariants as stage;
 ghost use Rattle.ln_link.specs.declared.opening.Opened.{Opened};
+ghost use Rattle.ln_link.specs.End.{End};
 ghost use Rattle.ln_link.specs.Meeting.{Opens};
-ghost use Rattle.ln_pair.specs.Ends.{Step, opened, run};
+ghost use Rattle.ln_link.specs.Step.{turned, saved_at, obeyed};
+ghost use Rattle.ln_pair.specs.Ends.{Step, opened, message_at, command_at, run};
 ghost use Rattle.ln_pair.specs.Promises.{AreKeys, StaysOpen, Headline, NoneRefused, Agrees, NoneAddsLate};
 
 /// A law: what either end holds as irrevocably committed is, each update once and in the order in which it was sent,
@@ -18,23 +26,34 @@ pub fn held_was_covered()
         → Headline (run a b steps (opened funder fundee)) }
 {}
 
-/// A law: no message that is delivered is refused.
+/// A law: no message that is delivered is refused, `channel_reestablish` and what is sent again behind it included.
 pub fn no_message_is_refused()
     ensures { (a b : Signer) (s : OpenSpec) (c : Config) (funder fundee : Opened) (steps : List Step) → AreKeys a b
         → Opens a b s c funder fundee → StaysOpen a b steps (opened funder fundee)
         → NoneRefused a b (run a b steps (opened funder fundee)) }
 {}
 
-/// A law: where nothing is in flight and neither end has anything to sign, both hold every update of either side.
+/// A law: where both ends have met, nothing is in flight and neither has anything to sign, both hold every update of
+/// either side.
 pub fn both_agree_at_rest()
     ensures { (a b : Signer) (s : OpenSpec) (c : Config) (funder fundee : Opened) (steps : List Step) → AreKeys a b
         → Opens a b s c funder fundee → StaysOpen a b steps (opened funder fundee)
         → Agrees (run a b steps (opened funder fundee)) }
 {}
 
-/// A law: of all that an end has sent, no `update_add_htlc` stands behind a `shutdown`.
+/// A law: of all that an end has sent, over all its connections, no `update_add_htlc` stands behind a `shutdown`.
 pub fn no_add_follows_a_shutdown()
     ensures { (a b : Signer) (s : OpenSpec) (c : Config) (funder fundee : Opened) (steps : List Step) → AreKeys a b
         → Opens a b s c funder fundee → StaysOpen a b steps (opened funder fundee)
         → NoneAddsLate (run a b steps (opened funder fundee)) }
+{}
+
+/// A law: what the steps say of an end with a connection is what a link of it answers, to a message and to a command.
+pub fn steps_are_those_of_a_link()
+    ensures message_behind_the_reestablish { (keys : Signer) (m : Message) (e : End)
+        → saved_at keys Met m e ≡ turned Met (message_at keys Met m e) }
+    ensures message_before_it { (keys : Signer) (m : Message) (e : End)
+        → saved_at keys Awaiting m e ≡ turned Met (message_at keys Awaiting m e) }
+    ensures command { (keys : Signer) (l : Line) (c : Command) (e : End)
+        → obeyed keys l c (stage.Saved e) ≡ turned l (command_at keys l c e) }
 {}
