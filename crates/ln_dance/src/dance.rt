@@ -81,8 +81,7 @@ impl Dance {
     /// signature is unrevoked, and where none is, the peer's acknowledged commitment covers what the last
     /// signature does. Takes no memory.
     pub fn are_in_step(numbers: &Numbers, updates: &UpdateLog) -> bool
-        ensures tells { (l : Log) → log.StandsFor updates.now l → (IsTrue result ↔ AreInStep numbers.now l) }
-        ensures offers_new { IsTrue result → (l : Log) → log.StandsFor updates.now l → AreInStep numbers.now l }
+        ensures { (l : Log) → log.StandsFor updates.now l → (IsTrue result ↔ AreInStep numbers.now l) }
     {
         let covered = updates.counts(Pair::Signed);
         let acknowledged = updates.counts(Pair::Current(Side::Peer));

@@ -9,7 +9,7 @@ use Rattle.ln_log.specs.declared.update.Update.TheVariants as update
 use Rattle.ln_log.specs.declared.outcome.Outcome.{Outcome}
 use Rattle.ln_log.specs.declared.outcome.Outcome.TheVariants.{Live, Fulfilled, Failed}
 use Rattle.ln_log.specs.Updates.{offered, removed, is_some, next_id, add_with, outcome, is_live, is_fulfilled}
-use Rattle.ln_log.specs.Updates.{is_failed, is_any}
+use Rattle.ln_log.specs.Updates.{is_failed, is_any, total}
 use Rattle.ln_log.specs.View.{balance, Pays}
 use Rattle.ln_log.specs.Limits.{standing_of}
 use Rattle.ln_log.specs.Standing.{with_add, paid_by, with_own, without, with_peer, with_all, WithoutFits, FoundFits}
@@ -37,109 +37,96 @@ weight_live : (w : Add → ℕ) (test : Outcome → Bool) (r : List Update) (a :
     → weight w test r (Some a) ≡ cond (test Live) (w a) 0
 weight_live w test r a e = ap (λ o. cond (test o) (w a) 0) e
 
+-- by a further update of its own a side spends n and gets k
+record Shifts (own seen : List Update) (u : Update) (n k : ℕ) : Type 0 where
+  spent : total is_any (own ++ u ∷ []) seen ≡ total is_any own seen + n
+  failed : total is_failed (own ++ u ∷ []) seen ≡ total is_failed own seen
+  got : total is_fulfilled seen (own ++ u ∷ []) ≡ total is_fulfilled seen own + k
+
+pushed : (test : Outcome → Bool) (own seen : List Update) (u : Update)
+    → total test (own ++ u ∷ []) seen ≡ total test own seen + weight amount test seen (offered u)
+pushed test own seen u = omega (
+  arith,
+  total_is test (own ++ u ∷ []) seen,
+  total_is test own seen,
+  tally-push amount test own u seen,
+)
+
+add_shifts : (own seen : List Update) (a : Add) → outcome a.id seen ≡ Live
+    → Shifts own seen (update.Add a) a.amount 0
+add_shifts own seen a live =
+    let u : Update = update.Add a in
+    record {
+      spent = omega (arith, pushed is_any own seen u, weight_live amount is_any seen a live);
+      failed = omega (arith, pushed is_failed own seen u, weight_live amount is_failed seen a live);
+      got = omega (
+        arith,
+        total_is is_fulfilled seen (own ++ u ∷ []),
+        total_is is_fulfilled seen own,
+        tally-none amount is_fulfilled seen own u refl,
+      );
+    }
+
 pub add_moves : (first : ℕ) (own seen : List Update) (a : Add) → outcome a.id seen ≡ Live
     → standing_of first (own ++ update.Add a ∷ []) seen ≡ with_add (standing_of first own seen) a
 add_moves first own seen a live =
     let u : Update = update.Add a in
-    let grown = λ (w : Add → ℕ) (test : Outcome → Bool). tally-push w test own u seen in
-    let worth = λ (w : Add → ℕ) (test : Outcome → Bool). weight_live w test seen a live in
+    let s = add_shifts own seen a live in
     standing_is _ _
     (next-push own u ∙ omega arith)
-    (omega (arith, live_is (own ++ u ∷ []) seen, live_is own seen, grown one is_live, worth one is_live))
     (omega (
       arith,
-      total_is is_live (own ++ u ∷ []) seen,
-      total_is is_live own seen,
-      grown amount is_live,
-      worth amount is_live,
+      live_is (own ++ u ∷ []) seen,
+      live_is own seen,
+      tally-push one is_live own u seen,
+      weight_live one is_live seen a live,
     ))
-    (omega (
-      arith,
-      total_is is_failed (own ++ u ∷ []) seen,
-      total_is is_failed own seen,
-      grown amount is_failed,
-      worth amount is_failed,
-      total_is is_any (own ++ u ∷ []) seen,
-      total_is is_any own seen,
-      grown amount is_any,
-      worth amount is_any,
-      total_is is_fulfilled seen (own ++ u ∷ []),
-      total_is is_fulfilled seen own,
-      tally-none amount is_fulfilled seen own u refl,
-    ))
+    (omega (arith, pushed is_live own seen u, weight_live amount is_live seen a live))
+    (omega (arith, s.spent, s.failed, s.got))
 
 pub add_pays : (first : ℕ) (own seen : List Update) (a : Add) → outcome a.id seen ≡ Live
     → a.amount ≤ balance first own seen → Pays first own seen → Pays first (own ++ update.Add a ∷ []) seen
 add_pays first own seen a live le h =
-    let u : Update = update.Add a in
-    let grown = λ (w : Add → ℕ) (test : Outcome → Bool). tally-push w test own u seen in
-    let worth = λ (w : Add → ℕ) (test : Outcome → Bool). weight_live w test seen a live in
-    omega (
-      arith,
-      le,
-      h,
-      total_is is_failed (own ++ u ∷ []) seen,
-      total_is is_failed own seen,
-      grown amount is_failed,
-      worth amount is_failed,
-      total_is is_any (own ++ u ∷ []) seen,
-      total_is is_any own seen,
-      grown amount is_any,
-      worth amount is_any,
-      total_is is_fulfilled seen (own ++ u ∷ []),
-      total_is is_fulfilled seen own,
-      tally-none amount is_fulfilled seen own u refl,
-    )
+    let s = add_shifts own seen a live in
+    omega (arith, le, h, s.spent, s.failed, s.got)
 
 -- ---- a side proposes another update, by which it gets k
 
 nothing : (w : Add → ℕ) (test : Outcome → Bool) (r : List Update) (o : Option Add) → o ≡ None → weight w test r o ≡ 0
 nothing w test r o e = ap (weight w test r) e
 
+other_shifts : (own seen : List Update) (u : Update) (k : ℕ) → offered u ≡ None
+    → tally amount is_fulfilled seen (own ++ u ∷ []) ≡ tally amount is_fulfilled seen own + k → Shifts own seen u 0 k
+other_shifts own seen u k none got = record {
+  spent = omega (arith, pushed is_any own seen u, nothing amount is_any seen (offered u) none);
+  failed = omega (arith, pushed is_failed own seen u, nothing amount is_failed seen (offered u) none);
+  got = omega (arith, got, total_is is_fulfilled seen (own ++ u ∷ []), total_is is_fulfilled seen own);
+}
+
 pub other_moves : (first : ℕ) (own seen : List Update) (u : Update) (k : ℕ) → offered u ≡ None
     → tally amount is_fulfilled seen (own ++ u ∷ []) ≡ tally amount is_fulfilled seen own + k → Pays first own seen
     → standing_of first (own ++ u ∷ []) seen ≡ record (standing_of first own seen)
     { balance = balance first own seen + k }
 other_moves first own seen u k none got h =
-    let same = λ (w : Add → ℕ) (test : Outcome → Bool). tally-push w test own u seen
-    ∙ ap (λ n. tally w test own seen + n) (nothing w test seen (offered u) none) in
+    let s = other_shifts own seen u k none got in
     standing_is _ _
     (next-push own u ∙ ap (number_after (next_id own)) none)
-    (omega (arith, live_is (own ++ u ∷ []) seen, live_is own seen, same one is_live))
-    (omega (arith, total_is is_live (own ++ u ∷ []) seen, total_is is_live own seen, same amount is_live))
     (omega (
       arith,
-      h,
-      got,
-      total_is is_failed (own ++ u ∷ []) seen,
-      total_is is_failed own seen,
-      same amount is_failed,
-      total_is is_any (own ++ u ∷ []) seen,
-      total_is is_any own seen,
-      same amount is_any,
-      total_is is_fulfilled seen (own ++ u ∷ []),
-      total_is is_fulfilled seen own,
+      live_is (own ++ u ∷ []) seen,
+      live_is own seen,
+      tally-push one is_live own u seen,
+      nothing one is_live seen (offered u) none,
     ))
+    (omega (arith, pushed is_live own seen u, nothing amount is_live seen (offered u) none))
+    (omega (arith, h, s.spent, s.failed, s.got))
 
 pub other_pays : (first : ℕ) (own seen : List Update) (u : Update) (k : ℕ) → offered u ≡ None
     → tally amount is_fulfilled seen (own ++ u ∷ []) ≡ tally amount is_fulfilled seen own + k → Pays first own seen
     → Pays first (own ++ u ∷ []) seen
 other_pays first own seen u k none got h =
-    let same = λ (w : Add → ℕ) (test : Outcome → Bool). tally-push w test own u seen
-    ∙ ap (λ n. tally w test own seen + n) (nothing w test seen (offered u) none) in
-    omega (
-      arith,
-      h,
-      got,
-      total_is is_failed (own ++ u ∷ []) seen,
-      total_is is_failed own seen,
-      same amount is_failed,
-      total_is is_any (own ++ u ∷ []) seen,
-      total_is is_any own seen,
-      same amount is_any,
-      total_is is_fulfilled seen (own ++ u ∷ []),
-      total_is is_fulfilled seen own,
-    )
+    let s = other_shifts own seen u k none got in
+    omega (arith, h, s.spent, s.failed, s.got)
 
 -- what a removal pays its side
 abbrev pub gain : Outcome → Add → ℕ

@@ -123,36 +123,27 @@ pub any_same : (us p q : List Update) → tally amount is_any us p ≡ tally amo
 any_same [] p q = refl
 any_same (u ∷ us) p q = omega (arith, any_one p q (offered u), any_same us p q)
 
-pub pays_more : (first : ℕ) (own p q : List Update) → Pays first own p → Pays first own (p ++ q)
-pays_more first own p q h =
+gets_more : (own p q : List Update) → total is_failed own p + total is_fulfilled p own
+    ≤ total is_failed own (p ++ q) + total is_fulfilled (p ++ q) own
+gets_more own p q =
     omega (
       arith,
-      h,
       failed_grows own p q,
-      any_same own p (p ++ q),
       tally-append amount is_fulfilled p q own,
-      total_is is_any own p,
-      total_is is_any own (p ++ q),
       total_is is_failed own p,
       total_is is_failed own (p ++ q),
       total_is is_fulfilled p own,
       total_is is_fulfilled (p ++ q) own,
     )
 
+spends_same : (own p q : List Update) → total is_any own p ≡ total is_any own q
+spends_same own p q = total_is is_any own p ∙ any_same own p q ∙ sym (total_is is_any own q)
+
+pub pays_more : (first : ℕ) (own p q : List Update) → Pays first own p → Pays first own (p ++ q)
+pays_more first own p q h = omega (arith, h, gets_more own p q, spends_same own p (p ++ q))
+
 pub balance_more : (first : ℕ) (own p q : List Update) → balance first own p ≤ balance first own (p ++ q)
-balance_more first own p q =
-    omega (
-      arith,
-      failed_grows own p q,
-      any_same own p (p ++ q),
-      tally-append amount is_fulfilled p q own,
-      total_is is_any own p,
-      total_is is_any own (p ++ q),
-      total_is is_failed own p,
-      total_is is_failed own (p ++ q),
-      total_is is_fulfilled p own,
-      total_is is_fulfilled (p ++ q) own,
-    )
+balance_more first own p q = omega (arith, gets_more own p q, spends_same own p (p ++ q))
 
 -- a longer front
 pub longer : (m n : ℕ) (us : List Update) → m ≤ n → take n us ≡ take m us ++ drop m (take n us)

@@ -1,10 +1,11 @@
-//! What a channel's record tells of its updates: whether a log can be made of it, and the dance behind that.
+//! What a channel's record tells of its updates: whether a log can be made of it, and which numbers it can
+//! have.
 
 use crate::log::What::{Add, Fail, Fee, Fulfil};
 use crate::log::{What, updates};
-use crate::testing::{CHANNEL, OPENING};
-use ln_dance::{Dance, Later, Numbers, Peer};
-use ln_log::{Counts, Coverage, Limits, Opening, Pair, Role, Side, UpdateLog};
+use crate::testing::OPENING;
+use ln_dance::{Dance, Numbers};
+use ln_log::{Counts, Coverage, Limits, Opening, Role, Side, UpdateLog};
 use ln_msgs::Refusal;
 use std::alloc::Global;
 
@@ -223,32 +224,31 @@ fn openings_of_a_record(rt: HostRuntime) {
     }
 }
 
-/// Whether the fundee, which has signed its fulfilment of an HTLC that isn't acknowledged, can have revoked so many of
-/// its signatures as it says; and what its dance then owes, and its signature covers.
-fn came_back(alloc: Global, revoked: u64) -> Result<Option<(bool, usize)>, Refusal> {
+/// Whether the fundee, which has signed its fulfilment of an HTLC that isn't acknowledged, can have signed this
+/// commitment and taken so many revocations.
+fn in_step(alloc: Global, signed: u64, revoked: u64) -> Result<bool, Refusal> {
     let lists: [&[What]; 2] = [&[Fulfil(0, 0)], &OFFER];
-    let Some(log) = load(alloc, OPENING, Role::Fundee, lists, [1, 1, 0, 0, 0, 1])? else {
-        return Ok(None);
-    };
     let numbers = Numbers {
         commitment: 1,
-        signed: 1,
+        signed,
         revoked,
     };
-    if !Dance::are_in_step(&numbers, &log) {
-        return Ok(None);
+    match load(alloc, OPENING, Role::Fundee, lists, [1, 1, 0, 0, 0, 1])? {
+        Some(log) => Ok(Dance::are_in_step(&numbers, &log)),
+        None => Ok(false),
     }
-    let peer = Peer {
-        point: [2; 33],
-        next_point: [3; 33],
-        secret: None,
-    };
-    let dance = Dance::new(CHANNEL, log, numbers, peer, Later::Signature);
-    Ok(Some((dance.owes(), dance.log().counts(Pair::Signed).own)))
 }
 
 #[test]
-fn dances_of_a_record(rt: HostRuntime) {
-    assert_eq!(rt; came_back(rt.alloc(), 0), Ok(Some((true, 1))));
-    assert_eq!(rt; came_back(rt.alloc(), 1), Ok(None));
+fn numbers_of_a_record(rt: HostRuntime) {
+    for (signed, revoked, want) in [
+        (1, 0, true),
+        (0x0000_ffff_ffff_ffff, 0x0000_ffff_ffff_fffe, true),
+        (0x0001_0000_0000_0000, 0x0000_ffff_ffff_ffff, false),
+        (1, 1, false),
+        (2, 0, false),
+        (0, 1, false),
+    ] {
+        assert_eq!(rt; in_step(rt.alloc(), signed, revoked), Ok(want));
+    }
 }
