@@ -72,11 +72,13 @@ acts_other act.Deliver b = delivers_other b.x b.y b.x.inbox
 acts_other (act.Send (command.Add f)) b =
     gated (λ c. c.y.log ≡ b.y.log) (offer_fault f b.x.log)
     (sends (message.Add (add_of f b.x.log))
-    (record { x = record b.x { log = after_propose (update.Add (add_of f b.x.log)) b.x.log }; y = b.y })) b (λ _. refl) refl
+    (record { x = record b.x { log = after_propose (update.Add (add_of f b.x.log)) b.x.log }; y = b.y })) b
+    (λ _. refl) refl
 acts_other (act.Send command.Sign) b =
     gated (λ c. c.y.log ≡ b.y.log) (sign_fault b.x.log)
     (sends (message.Sign (b.x.signatures + 1))
-    (record { x = record b.x { log = after_sign b.x.log; signatures = b.x.signatures + 1 }; y = b.y })) b (λ _. refl) refl
+    (record { x = record b.x { log = after_sign b.x.log; signatures = b.x.signatures + 1 }; y = b.y })) b
+    (λ _. refl) refl
 
 -- and it is told nothing
 pub gated_silent : (o : Option Refusal) (x : Role) (move : Move) (m : Option Machine) → events x (move ∷ []) m ≡ []
