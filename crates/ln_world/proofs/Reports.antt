@@ -28,6 +28,7 @@ use Rattle.ln_world.specs.World.{act_moves, taken_moves, moves_at, moves_of}
 use Rattle.ln_world.specs.Report.{answer_lines, sent_since, event_lines, act_lines, step_lines, lines_behind}
 use Rattle.ln_world.specs.Report.{report_lines}
 use Rattle.ln_world.specs.Told.{events_since, told_act, told_step, told_steps}
+use Rattle.ln_world.proofs.Steps.{gated}
 use Rattle.ln_world.proofs.Told.{acts_told}
 use Rattle.ln_world.proofs.Runs.{ChannelKept, AreKept, swapped, happens_kept, happens_runs, runs-append}
 
@@ -56,17 +57,12 @@ record IsTold (before : List Move) (c : Option Channel) : Type 0 where
 
 -- ---- an end acts
 
-gated_other : (o : Option Refusal) (l : Log) (new old : Both) → new.y.log ≡ l → old.y.log ≡ l
-    → (cond (is_none o) new old).y.log ≡ l
-gated_other None l new old h k = h
-gated_other (Some r) l new old h k = k
-
 delivers_other : (x y : EndState) (ms : List Message) → (delivers ms (record { x = x; y = y })).y.log ≡ y.log
 delivers_other x y [] = refl
 delivers_other x y (message.Add a ∷ ms) =
-    gated_other (message_fault x.log (message.Add a)) y.log
+    gated (λ b. b.y.log ≡ y.log) (message_fault x.log (message.Add a))
     (taken (message.Add a) (record { x = record x { inbox = ms }; y = y }))
-    (record { x = record x { inbox = ms }; y = y }) refl refl
+    (record { x = record x { inbox = ms }; y = y }) (λ _. refl) refl
 delivers_other x y (message.Sign n ∷ ms) = refl
 delivers_other x y (message.Revoke n ∷ ms) = refl
 
@@ -74,13 +70,15 @@ delivers_other x y (message.Revoke n ∷ ms) = refl
 acts_other : (a : Act) (b : Both) → (acts a b).y.log ≡ b.y.log
 acts_other act.Deliver b = delivers_other b.x b.y b.x.inbox
 acts_other (act.Send (command.Add f)) b =
-    gated_other (offer_fault f b.x.log) b.y.log
+    gated (λ c. c.y.log ≡ b.y.log) (offer_fault f b.x.log)
     (sends (message.Add (add_of f b.x.log))
-    (record { x = record b.x { log = after_propose (update.Add (add_of f b.x.log)) b.x.log }; y = b.y })) b refl refl
+    (record { x = record b.x { log = after_propose (update.Add (add_of f b.x.log)) b.x.log }; y = b.y })) b
+    (λ _. refl) refl
 acts_other (act.Send command.Sign) b =
-    gated_other (sign_fault b.x.log) b.y.log
+    gated (λ c. c.y.log ≡ b.y.log) (sign_fault b.x.log)
     (sends (message.Sign (b.x.signatures + 1))
-    (record { x = record b.x { log = after_sign b.x.log; signatures = b.x.signatures + 1 }; y = b.y })) b refl refl
+    (record { x = record b.x { log = after_sign b.x.log; signatures = b.x.signatures + 1 }; y = b.y })) b
+    (λ _. refl) refl
 
 -- and it is told nothing
 pub gated_silent : (o : Option Refusal) (x : Role) (move : Move) (m : Option Machine) → events x (move ∷ []) m ≡ []

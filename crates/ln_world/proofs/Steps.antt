@@ -31,7 +31,7 @@ use Rattle.ln_world.proofs.Flight.{ups, sigs, revs, add_taken, allowed, unhinder
 use Rattle.ln_world.proofs.Flow.{Kept, got_adds, offered, signed, took_add, took_signature, took_revocation}
 
 -- what is done only where nothing forbids it
-gated : (P : Both → Type 0) (o : Option Refusal) (new old : Both) → (o ≡ None → P new) → P old
+pub gated : (P : Both → Type 0) (o : Option Refusal) (new old : Both) → (o ≡ None → P new) → P old
     → P (cond (is_none o) new old)
 gated P None new old h k = h refl
 gated P (Some r) new old h k = k

@@ -86,6 +86,16 @@ tells_nothing old now eo ep = record {
   count = omega (arith, eo, ep);
 }
 
+-- what a front tells as it grows, as it is sent, from c updates to a
+front_told : (own : Bool) (c a : ℕ) (us vs : List Update) → AreAdds us → c ≤ a → a ≤ length us → take a us ≡ vs
+    → (held_events own (grown (all_sent (take c us)) (all_sent vs)) ≡ held_events own (between c a us))
+    × (c + length (held_events own (grown (all_sent (take c us)) (all_sent vs))) ≡ a)
+front_told own c a us vs adds le most same =
+    let is : held_events own (grown (all_sent (take c us)) (all_sent vs)) ≡ held_events own (between c a us) =
+    ap (λ (ws : List Update). held_events own (grown (all_sent (take c us)) (all_sent ws))) (sym same)
+    ∙ ap (λ (ws : List Update). held_events own ws) (sent_grown c a us adds le (omega (arith, le, most))) in
+    (is, ap (λ (es : List Event). c + length es) is ∙ told_between own c a us adds le most)
+
 accept_told : (x y : EndState) (n : ℕ) (ms : List Message)
     → Kept (record { x = record x { inbox = message.Sign n ∷ ms }; y = y })
     → Tells x.log (after_accept x.log)
@@ -93,25 +103,19 @@ accept_told : (x y : EndState) (n : ℕ) (ms : List Message)
     (all_sent (take y.log.signed.peer y.log.received))) ++ [])
 accept_told x y n ms k =
     let w = k.there.within in
-    let adds : AreAdds x.log.own = k.there.adds in
-    let c = x.log.current.own in
-    let a = x.log.acknowledged.own in
-    let le : c ≤ a = w.own_current in
-    let most : a ≤ length x.log.own = omega (arith, w.own_acknowledged, w.own_signed) in
-    let is : grown (all_sent (take c x.log.own)) (all_sent (take y.log.signed.peer y.log.received))
-    ≡ between c a x.log.own = ap (λ (us : List Update). grown (all_sent (take c x.log.own)) (all_sent us))
-    (sym (accept_lists x y n ms k).0) ∙ sent_grown c a x.log.own adds le (omega (arith, le, most)) in
-    let many : c + length (held_events true (between c a x.log.own)) ≡ a =
-    told_between true c a x.log.own adds le most in
+    let l = x.log in
+    let peer = l.acknowledged.peer in
+    let t = front_told true l.current.own l.acknowledged.own l.own (take y.log.signed.peer y.log.received) k.there.adds
+    w.own_current (omega (arith, w.own_acknowledged, w.own_signed)) (accept_lists x y n ms k).0 in
     record {
-      events = ap (λ (us : List Update). held_events true us ++ []) is
-          ∙ ap (λ (us : List Update). held_events true (between c a x.log.own) ++ held_events false us)
-          (sym (none_between x.log.acknowledged.peer x.log.acknowledged.peer x.log.received refl));
+      events = ap (λ (es : List Event). es ++ []) t.0
+          ∙ ap (λ (us : List Update). held_events true (between l.current.own l.acknowledged.own l.own)
+          ++ held_events false us) (sym (none_between peer peer l.received refl));
       count = omega (
         arith,
-        many,
-        length-append (held_events true (between c a x.log.own)) [],
-        ap (λ (us : List Update). length (held_events true us ++ [])) is,
+        t.1,
+        length-append (held_events true (grown (all_sent (take l.current.own l.own))
+            (all_sent (take y.log.signed.peer y.log.received)))) [],
       );
     }
 
@@ -122,26 +126,22 @@ learn_told : (x y : EndState) (n : ℕ) (ms : List Message)
     (all_sent (take y.log.current.own y.log.own))) ++ [])
 learn_told x y n ms k =
     let w = k.there.within in
-    let adds : AreAdds x.log.received = got_adds y (record x { inbox = message.Revoke n ∷ ms }) k.back in
-    let c = x.log.acknowledged.peer in
-    let a = x.log.signed.peer in
-    let le : c ≤ a = w.peer_acknowledged in
-    let most : a ≤ length x.log.received = omega (arith, w.peer_signed, w.peer_current) in
-    let is : grown (all_sent (take c x.log.received)) (all_sent (take y.log.current.own y.log.own))
-    ≡ between c a x.log.received = ap (λ (us : List Update). grown (all_sent (take c x.log.received)) (all_sent us))
-    (sym (learn_lists x y n ms k).1) ∙ sent_grown c a x.log.received adds le (omega (arith, le, most)) in
-    let many : c + length (held_events false (between c a x.log.received)) ≡ a =
-    told_between false c a x.log.received adds le most in
+    let l = x.log in
+    let own = l.current.own in
+    let t = front_told false l.acknowledged.peer l.signed.peer l.received (take y.log.current.own y.log.own)
+    (got_adds y (record x { inbox = message.Revoke n ∷ ms }) k.back) w.peer_acknowledged
+    (omega (arith, w.peer_signed, w.peer_current)) (learn_lists x y n ms k).1 in
     record {
-      events = ap (λ (us : List Update). held_events false us ++ []) is
-          ∙ append-nil (held_events false (between c a x.log.received))
-          ∙ ap (λ (us : List Update). held_events true us ++ held_events false (between c a x.log.received))
-          (sym (none_between x.log.current.own x.log.current.own x.log.own refl));
+      events = append-nil (held_events false (grown (all_sent (take l.acknowledged.peer l.received))
+          (all_sent (take y.log.current.own y.log.own)))) ∙ t.0
+          ∙ ap (λ (us : List Update). held_events true us
+          ++ held_events false (between l.acknowledged.peer l.signed.peer l.received))
+          (sym (none_between own own l.own refl));
       count = omega (
         arith,
-        many,
-        length-append (held_events false (between c a x.log.received)) [],
-        ap (λ (us : List Update). length (held_events false us ++ [])) is,
+        t.1,
+        length-append (held_events false (grown (all_sent (take l.acknowledged.peer l.received))
+            (all_sent (take y.log.current.own y.log.own)))) [],
       );
     }
 
