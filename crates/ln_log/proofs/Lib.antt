@@ -11,3 +11,4 @@ pub mod Fits
 pub mod Sent
 pub mod Moves
 pub mod Readable
+pub mod Rules

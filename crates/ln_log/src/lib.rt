@@ -12,7 +12,9 @@ mod removals;
 mod standing;
 mod update;
 
-pub use laws::{moves_exactly, propose_exactly, shut_exactly, sign_exactly, views_as_sent};
+pub use laws::{
+    limits_are_rules, moves_exactly, propose_exactly, shut_exactly, sign_exactly, views_as_sent,
+};
 pub use ln_keys::{Htlc, Htlcs, Role, View};
 pub use loading::Coverage;
 pub use log::{Counts, MOST_UPDATES, Pair, Side, UpdateLog};
