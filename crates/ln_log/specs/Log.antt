@@ -18,14 +18,9 @@ use Rattle.ln_log.specs.declared.update.Update.{Update}
 use Rattle.ln_log.specs.declared.update.Update.TheVariants as update
 use Rattle.ln_keys.specs.declared.view.View.{View}
 use Rattle.ln_keys.specs.Role.{other_role}
-<<<<<<< HEAD
 use Rattle.ln_log.specs.Opening.{HasFunds, first_balance}
-use Rattle.ln_msgs.specs.Refusals.Refusal.{refusal_number}
-=======
-use Rattle.ln_log.specs.Opening.{IsFit, first_balance}
 use Rattle.ln_msgs.specs.Refusals.PeerRule.{rule_of}
 use Rattle.ln_msgs.specs.declared.refusals.peer_rule.PeerRule.TheVariants as rule
->>>>>>> origin/msgs-peer
 use Rattle.ln_log.specs.declared.update.Add.{Add}
 use Rattle.ln_log.specs.declared.outcome.Outcome.TheVariants.{Live}
 use Rattle.ln_log.specs.Updates.{offered, removed, all_sent, add_with, outcome, is_live, is_some}
