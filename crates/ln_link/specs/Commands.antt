@@ -6,6 +6,7 @@ use Rattle.ln_msgs.specs.declared.messages.message.Message.TheVariants as messag
 use Rattle.ln_msgs.specs.declared.messages.opening.ChannelReady.{ChannelReady}
 use Rattle.ln_msgs.specs.declared.refusals.refusal.Refusal.{Refusal}
 use Rattle.ln_msgs.specs.declared.refusals.refusal.Refusal.TheVariants as refusal
+use Rattle.ln_msgs.specs.declared.refusals.peer_rule.PeerRule.TheVariants as rule
 use Rattle.ln_keys.specs.Signer.{Signer}
 use Rattle.ln_log.specs.declared.update.Update.{Update}
 use Rattle.ln_log.specs.declared.update.Update.TheVariants as update
@@ -93,7 +94,7 @@ sign_row keys e = unless (sign_command_fault e) (record {
 
 -- the message has 36 bytes beside its script, and a message has 65,535 at most (7)
 abbrev pub script_fault : List ℕ → Option Refusal
-script_fault script = if nat_lt 65499 (length script) then Some (refusal.PeerLimit 7) else None
+script_fault script = if nat_lt 65499 (length script) then Some (refusal.PeerLimit rule.TooLong) else None
 
 abbrev pub shut_fault : List ℕ → End → Option Refusal
 shut_fault script e =

@@ -11,7 +11,7 @@ use ln_bytes::{Bytes, ShortId};
 use ln_dance::{add_message, fail_message, fee_message, fulfil_message, malformed_message};
 use ln_keys::ChannelKeys;
 use ln_log::{Add, Fail, Fee, Fulfil, Malformed, Side, Update};
-use ln_msgs::{ChannelReady, CommitmentSigned, Message, Records, Refusal};
+use ln_msgs::{ChannelReady, CommitmentSigned, Message, PeerRule, Records, Refusal};
 use std::alloc::Global;
 
 /// `shutdown` has 36 bytes beside its script, and a message 65,535 at most.
@@ -233,7 +233,7 @@ impl Channel {
             return Some(Refusal::UpdatesPending);
         }
         if script.len() > LONGEST_SCRIPT {
-            return Some(Refusal::PeerLimit(7));
+            return Some(Refusal::PeerLimit(PeerRule::TooLong));
         }
         None
     }

@@ -5,7 +5,8 @@ use Rattle.std.proofs.Common.{nat_le, option_map}
 use Rattle.std.proofs.lemmas.List.{take-append-le}
 use Rattle.std.proofs.lemmas.Bool.{leb-false, lt-leb, eqb-true}
 use Rattle.std.specs.Result.{IsErrAnd}
-use Rattle.ln_msgs.specs.Refusals.Refusal.{refusal_number}
+use Rattle.ln_msgs.specs.Refusals.PeerRule.{rule_of}
+use Rattle.ln_msgs.specs.declared.refusals.peer_rule.PeerRule.{PeerRule}
 use Rattle.ln_msgs.specs.declared.refusals.refusal.Refusal.{Refusal}
 use Rattle.ln_msgs.specs.declared.refusals.refusal.Refusal.TheVariants as refusal
 use Rattle.ln_keys.specs.declared.role.Role.{Role}
@@ -332,8 +333,8 @@ proposal_is l m s t p q u n lim os hs r v k en lt none el eo eh er =
     (length_fault u))) here
     ∙ ap (λ x. first_fault (option_map peer_limit x) (length_fault u)) (sym found)
 
-pub proposal_refused : (m : Log) (u : Update) (r : Option Refusal) (x : Refusal) (n : ℕ)
-    → proposal_fault m u ≡ first_fault (option_map peer_limit r) (length_fault u) → r ≡ Some x → n ≡ refusal_number x
+pub proposal_refused : (m : Log) (u : Update) (r : Option Refusal) (x : Refusal) (n : PeerRule)
+    → proposal_fault m u ≡ first_fault (option_map peer_limit r) (length_fault u) → r ≡ Some x → n ≡ rule_of x
     → Some (refusal.PeerLimit n) ≡ proposal_fault m u
 proposal_refused m u r x n e is en = ap (λ i. Some (refusal.PeerLimit i)) en
     ∙ ap (λ y. first_fault (option_map peer_limit y) (length_fault u)) (sym is) ∙ sym e

@@ -10,3 +10,4 @@ pub mod Signs
 pub mod Fits
 pub mod Sent
 pub mod Moves
+pub mod Rules

@@ -5,6 +5,7 @@ use Rattle.std.proofs.lemmas.List.{take-append-le, take-append-drop, take-take, 
 use Rattle.std.proofs.lemmas.List.{length-take-le}
 use Rattle.ln_msgs.specs.declared.refusals.refusal.Refusal.{Refusal}
 use Rattle.ln_msgs.specs.declared.refusals.refusal.Refusal.TheVariants as refusal
+use Rattle.ln_msgs.specs.declared.refusals.peer_rule.PeerRule.TheVariants as rule
 use Rattle.ln_log.specs.declared.update.Add.{Add}
 use Rattle.ln_log.specs.declared.update.Removal.{Removal}
 use Rattle.ln_log.specs.declared.update.Update.{Update}
@@ -167,7 +168,7 @@ known l (Some r) h =
     ∙ ap is_none (add_with-more r.id (take l.acknowledged.peer l.received) (drop l.acknowledged.peer l.received) h.0)
     ∙ held in
     let live : not (is_live (outcome r.id l.own)) ≡ false = ap (λ o. not (is_live o)) h.1 in
-    ap (λ b. cond b (Some (refusal.PeerLimit 28))
+    ap (λ b. cond b (Some (refusal.PeerLimit rule.NoSuchHtlc))
     (cond (not (is_live (outcome r.id l.own))) (Some refusal.AlreadyRemoved)
     (cond (is_none (add_with r.id (take l.acknowledged.peer l.received))) (Some refusal.NotCommitted) None))) got
     ∙ ap (λ b. cond b (Some refusal.AlreadyRemoved)

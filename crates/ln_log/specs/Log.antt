@@ -18,7 +18,8 @@ use Rattle.ln_log.specs.declared.update.Update.TheVariants as update
 use Rattle.ln_keys.specs.declared.view.View.{View}
 use Rattle.ln_keys.specs.Role.{other_role}
 use Rattle.ln_log.specs.Opening.{IsFit, first_balance}
-use Rattle.ln_msgs.specs.Refusals.Refusal.{refusal_number}
+use Rattle.ln_msgs.specs.Refusals.PeerRule.{rule_of}
+use Rattle.ln_msgs.specs.declared.refusals.peer_rule.PeerRule.TheVariants as rule
 use Rattle.ln_log.specs.declared.update.Add.{Add}
 use Rattle.ln_log.specs.declared.outcome.Outcome.TheVariants.{Live}
 use Rattle.ln_log.specs.Updates.{offered, removed, all_sent, add_with, outcome, is_live, is_some}
@@ -123,14 +124,14 @@ sign_fault l =
 
 -- the peer would refuse it
 abbrev pub peer_limit : Refusal → Refusal
-peer_limit r = refusal.PeerLimit (refusal_number r)
+peer_limit r = refusal.PeerLimit (rule_of r)
 
 -- no HTLC of this id was ever offered (28), it is removed already, or it isn't held as irrevocably
 -- committed
 abbrev pub removal_fault : Log → Option Removal → Option Refusal
 removal_fault l None = None
 removal_fault l (Some r) =
-    if is_none (add_with r.id l.received) then Some (refusal.PeerLimit 28)
+    if is_none (add_with r.id l.received) then Some (refusal.PeerLimit rule.NoSuchHtlc)
     else (if not (is_live (outcome r.id l.own)) then Some refusal.AlreadyRemoved
     else (if is_none (add_with r.id (take l.acknowledged.peer l.received)) then Some refusal.NotCommitted
     else None))
@@ -139,7 +140,8 @@ removal_fault l (Some r) =
 abbrev pub length_fault : Update → Option Refusal
 length_fault (update.Add a) = None
 length_fault (update.Fulfil f) = None
-length_fault (update.Fail f) = if nat_lt 65491 (length f.reason) then Some (refusal.PeerLimit 7) else None
+length_fault (update.Fail f) =
+    if nat_lt 65491 (length f.reason) then Some (refusal.PeerLimit rule.TooLong) else None
 length_fault (update.Malformed m) = None
 length_fault (update.Fee f) = None
 

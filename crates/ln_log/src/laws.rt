@@ -1,12 +1,14 @@
 //! What a log does, as moves of the channel's machine.
 
-ghost use Rattle.std.specs.Prelude.{◌≡◌, ◌↔◌, ℕ, take, length, Bool, true, false, Option, Some, None};
+ghost use Rattle.std.specs.Prelude.{◌≡◌, ◌↔◌, ℕ, List, take, length, Bool, true, false, Option, Some, None};
 ghost use Rattle.ln_keys.specs.declared.role.Role.{Role};
 ghost use Rattle.ln_keys.specs.Role.{other_role};
+ghost use Rattle.ln_msgs.specs.declared.refusals.refusal.Refusal.{Refusal};
+ghost use Rattle.ln_msgs.specs.Refusals.PeerRule.{refusal_by, rule_of};
 ghost use Rattle.ln_log.specs.declared.opening.Opening.{Opening};
 ghost use Rattle.ln_log.specs.declared.update.Update.{Update};
 ghost use Rattle.ln_log.specs.Updates.{as_sent, all_sent};
-ghost use Rattle.ln_log.specs.Limits.{HasNextId, is_at_update_limit};
+ghost use Rattle.ln_log.specs.Limits.{HasNextId, is_at_update_limit, update_fault};
 ghost use Rattle.ln_log.specs.Machine as machine;
 ghost use Rattle.ln_log.specs.Machine.{Covered, turned, MaySign, MayShut, MayFollow, MayPropose};
 ghost use Rattle.ln_log.specs.Log.{Log, IsWithin, sent_pair, view_for, party_of, after_propose, after_receive};
@@ -58,6 +60,12 @@ pub fn propose_exactly()
         → ((MayFollow s u × (proposal_fault l u ≡ None))
         ↔ (MayPropose l.opening l.role (as_sent u) (party_of s c l) × (is_at_update_limit l.own ≡ false)
         × (length_fault u ≡ None))) }
+{}
+
+/// What is wrong with an update is the refusal of one of its receiver's rules, and has that rule's number.
+pub fn limits_are_rules()
+    ensures { (o : Opening) (side : Role) (own seen held : List Update) (u : Update) (r : Refusal)
+        → update_fault o side own seen held u ≡ Some r → refusal_by (rule_of r) ≡ r }
 {}
 
 /// What a commitment is worth depends on the updates as they are sent alone, and both sides see it alike.

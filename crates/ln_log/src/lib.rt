@@ -11,7 +11,9 @@ mod removals;
 mod standing;
 mod update;
 
-pub use laws::{moves_exactly, propose_exactly, shut_exactly, sign_exactly, views_as_sent};
+pub use laws::{
+    limits_are_rules, moves_exactly, propose_exactly, shut_exactly, sign_exactly, views_as_sent,
+};
 pub use ln_keys::{Htlc, Htlcs, Role, View};
 pub use log::{Counts, Pair, Side, UpdateLog};
 pub use opening::{Limits, Opening};

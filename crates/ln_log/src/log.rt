@@ -16,7 +16,7 @@ use crate::removals::{count_removals, outcome_of};
 use crate::standing::{Standing, update_refusal};
 use crate::update::{Update, removal_of};
 use ln_keys::{Role, View};
-use ln_msgs::Refusal;
+use ln_msgs::{PeerRule, Refusal};
 use std::alloc::Global;
 use std::marker::Model;
 
@@ -194,7 +194,7 @@ impl UpdateLog {
             None => None,
             Some(removal) => {
                 if find_add(removal.id, self.received.as_slice()).is_none() {
-                    return Some(Refusal::PeerLimit(28));
+                    return Some(Refusal::PeerLimit(PeerRule::NoSuchHtlc));
                 }
                 if outcome_of(removal.id, self.own.as_slice()) != Outcome::Live {
                     return Some(Refusal::AlreadyRemoved);
@@ -228,7 +228,7 @@ impl UpdateLog {
             held,
             update,
         ) {
-            Some(refusal) => Some(Refusal::PeerLimit(refusal.number())),
+            Some(refusal) => Some(Refusal::PeerLimit(refusal.peer_rule())),
             None => length_refusal(update),
         }
     }
@@ -513,7 +513,7 @@ fn length_refusal(update: &Update) -> Option<Refusal>
     match update {
         Update::Fail(fail) => {
             if fail.reason.len() > LONGEST_REASON {
-                Some(Refusal::PeerLimit(7))
+                Some(Refusal::PeerLimit(PeerRule::TooLong))
             } else {
                 None
             }

@@ -1,3 +1,4 @@
 pub mod Refusal
+pub mod PeerRule
 pub mod RefusalText
 pub mod Reply

@@ -31,4 +31,5 @@ pub use messages::updates::{
 pub use pings::answer::answer_pings;
 pub use pings::counted::Counted;
 pub use pings::outgoing::write_out;
+pub use refusals::peer_rule::PeerRule;
 pub use refusals::refusal::Refusal;

@@ -4,8 +4,8 @@
 use crate::pings::READY;
 use ln_bytes::{Bytes, Fault};
 use ln_msgs::{
-    Framer, Incoming, Init, Message, Pong, Records, Refusal, channel_id, check_init, decode,
-    encode, fits,
+    Framer, Incoming, Init, Message, PeerRule, Pong, Records, Refusal, channel_id, check_init,
+    decode, encode, fits,
 };
 use std::alloc::{AllocError, Global};
 
@@ -349,7 +349,7 @@ fn replies(rt: HostRuntime) {
         (Refusal::UnknownFeature, 0),
         (Refusal::PeerError, 0),
         (Refusal::NotReady, 0),
-        (Refusal::PeerLimit(21), 0),
+        (Refusal::PeerLimit(PeerRule::OutOfPlace), 0),
         (Refusal::Version, 0),
     ] {
         assert_eq!(rt; reply_type(rt.alloc(), refusal), Ok(typ));
@@ -367,7 +367,7 @@ fn refusal_texts(rt: HostRuntime) -> Result<(), AllocError> {
     for (refusal, text) in [
         (Refusal::Truncated, "refused 1"),
         (Refusal::UnknownChannel, "refused 20"),
-        (Refusal::PeerLimit(21), "refused 44 21"),
+        (Refusal::PeerLimit(PeerRule::OutOfPlace), "refused 44 21"),
         (Refusal::BadScript { line: 7 }, "refused 64 line 7"),
         (Refusal::Version, "refused 71"),
     ] {

@@ -1,7 +1,9 @@
 //! Refusals as numbers.
 
-ghost use Rattle.std.specs.Prelude.{◌≡◌, ◌≢◌, ◌+◌, ℕ, Some, None};
+ghost use Rattle.std.specs.Prelude.{◌≡◌, ◌≢◌, ◌+◌, Some, None};
 ghost use Rattle.ln_msgs.specs.declared.refusals.refusal.Refusal.TheVariants.{PeerLimit};
+ghost use Rattle.ln_msgs.specs.declared.refusals.peer_rule.PeerRule.{PeerRule};
+ghost use Rattle.ln_msgs.specs.Refusals.PeerRule.{rule_number};
 ghost use Rattle.ln_msgs.specs.Refusals.Refusal.{refusal_number};
 
 use ln_msgs::Refusal;
@@ -10,12 +12,12 @@ use ln_msgs::Refusal;
 /// the refusal's own. Takes no memory.
 pub fn code_of(refusal: Option<Refusal>) -> u32
     ensures none { refusal ≡ None → result ≡ 0 }
-    ensures peer_limit { (n : ℕ) → refusal ≡ Some (PeerLimit n) → result ≡ 4400 + n }
-    ensures others { (r : Refusal) → refusal ≡ Some r → ((n : ℕ) → r ≢ PeerLimit n) → result ≡ refusal_number r }
+    ensures peer_limit { (n : PeerRule) → refusal ≡ Some (PeerLimit n) → result ≡ 4400 + rule_number n }
+    ensures others { (r : Refusal) → refusal ≡ Some r → ((n : PeerRule) → r ≢ PeerLimit n) → result ≡ refusal_number r }
 {
     match refusal {
         None => 0,
-        Some(Refusal::PeerLimit(number)) => 4400 + u32::from(number),
+        Some(Refusal::PeerLimit(rule)) => 4400 + u32::from(rule.number()),
         Some(other) => u32::from(other.number()),
     }
 }

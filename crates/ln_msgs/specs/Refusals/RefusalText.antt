@@ -3,11 +3,12 @@ use Rattle.std.specs.Prelude.{ℕ, List, [], ◌++◌, codes}
 use Rattle.std.specs.Fmt.{decimal}
 use Rattle.ln_msgs.specs.declared.refusals.refusal.Refusal.{Refusal}
 use Rattle.ln_msgs.specs.declared.refusals.refusal.Refusal.TheVariants as refusal
+use Rattle.ln_msgs.specs.Refusals.PeerRule.{rule_number}
 use Rattle.ln_msgs.specs.Refusals.Refusal.{refusal_number}
 
 -- what follows the number
 abbrev pub detail : Refusal → List ℕ
-detail (refusal.PeerLimit n) = codes " " ++ decimal n
+detail (refusal.PeerLimit rule) = codes " " ++ decimal (rule_number rule)
 detail (refusal.BadScript line) = codes " line " ++ decimal line
 detail r = []
 

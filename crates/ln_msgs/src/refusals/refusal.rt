@@ -1,5 +1,6 @@
 //! Why a message, a command, a script or a record is refused, by number.
 
+use crate::refusals::peer_rule::PeerRule;
 use ln_bytes::Fault;
 use std::alloc::{AllocError, AllocFailed};
 use std::fmt;
@@ -10,7 +11,7 @@ use thiserror::Error;
 ///
 /// 1 to 9 tell of bytes, 20 to 37 of a peer's message, 40 to 49 of a command (nothing has changed),
 /// 60 to 65 of the surroundings, 70 and 71 of a record. The text is `refused` and the number; for
-/// `PeerLimit` the number that it carries follows, for `BadScript` the word `line` and the line.
+/// `PeerLimit` the number of the rule that it carries follows, for `BadScript` the word `line` and the line.
 #[derive(Clone, Copy, Debug, PartialEq, Eq, Error)]
 pub enum Refusal {
     /// 1: the bytes end inside a value.
@@ -75,8 +76,8 @@ pub enum Refusal {
     NothingToSign,
     /// 43: a shutdown has passed.
     Shut,
-    /// 44: the peer would refuse; carries the number by which it would (7, 21 or 23 to 30).
-    PeerLimit(u16),
+    /// 44: the peer would refuse; carries the rule by which it would (7, 21 or 23 to 30).
+    PeerLimit(PeerRule),
     /// 45: the peer hasn't acknowledged every own update.
     UpdatesPending,
     /// 46: there is no further number.
@@ -171,7 +172,7 @@ impl Display for Refusal {
 
     fn fmt<W: fmt::Write>(&self, f: &mut Formatter<W>) -> fmt::Result {
         match self {
-            Refusal::PeerLimit(number) => write!(f, "refused {} {number}", self.number()),
+            Refusal::PeerLimit(rule) => write!(f, "refused {} {}", self.number(), rule.number()),
             Refusal::BadScript { line } => write!(f, "refused {} line {line}", self.number()),
             _ => write!(f, "refused {}", self.number()),
         }

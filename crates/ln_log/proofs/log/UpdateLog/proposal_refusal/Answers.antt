@@ -11,7 +11,7 @@ returns-in-Some-update_refusal c =
     (omega (arith, c.if-len-ge-MOST_UPDATES.false)) (sym c.removal_refusal.ensures
     ∙ c.in-None.is) c.limits_of-limits.ensures c.as_slice.ensures.value
     (front_is _ _ _ c.deref.ensures.value) c.update_refusal.ensures)
-    c.in-Some-update_refusal.is c.number.ensures
+    c.in-Some-update_refusal.is c.peer_rule.ensures
 
 pub returns-in-None-update_refusal : goal.returns-in-None-update_refusal
 returns-in-None-update_refusal c =
