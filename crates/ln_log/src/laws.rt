@@ -62,7 +62,7 @@ pub fn propose_exactly()
         × (length_fault u ≡ None))) }
 {}
 
-/// What is wrong with an update is a rule's by which its receiver refuses it, and has that rule's number.
+/// What is wrong with an update is the refusal of one of its receiver's rules, and has that rule's number.
 pub fn limits_are_rules()
     ensures { (o : Opening) (side : Role) (own seen held : List Update) (u : Update) (r : Refusal)
         → update_fault o side own seen held u ≡ Some r → refusal_by (rule_of r) ≡ r }
