@@ -87,7 +87,8 @@ module _ (x y : Side) (Q : List Change → ℕ → ℕ → ℕ
       (subst (λ us. AllFit x.opening x.role [] (take x.signed.peer x.got) (holds y) us) (sym parts) fit) in
       let fits_there : AllFit x.opening x.role front (take a y.own) (holds y) new =
       subst (λ p. AllFit x.opening x.role front p (holds y) new) (seen ∙ ap (λ m. take m y.own) (sym knows)) fits in
-      let signed : Reads (sender x) y.own (holds y) y.signed.own Q (front ++ new) a y.number r (Sign x.signature ∷ ms) = (
+      let next_one : List Notice = Sign x.signature ∷ ms in
+      let signed : Reads (sender x) y.own (holds y) y.signed.own Q (front ++ new) a y.number r next_one = (
         record { named = refl; next = next; covers = parts; knows = knows },
         subst (λ us. Reads (sender x) y.own (holds y) y.signed.own Q us a (y.number + 1) r ms) (sym parts) h,
       ) in
