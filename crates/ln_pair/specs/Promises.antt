@@ -7,7 +7,10 @@ use Rattle.ln_keys.specs.Signer.{Signer}
 use Rattle.ln_keys.specs.Partners.{ArePartners}
 use Rattle.ln_log.specs.Machine.{Party, Follows, held}
 use Rattle.ln_log.specs.Log.{party_of}
-use Rattle.ln_dance.specs.Dance.{sign_fault}
+use Rattle.ln_keys.specs.declared.view.View.{View}
+use Rattle.ln_log.specs.declared.log.Pair.TheVariants as pair
+use Rattle.ln_log.specs.declared.log.Side.TheVariants as side
+use Rattle.ln_dance.specs.Dance.{sign_fault, view_at}
 use Rattle.ln_link.specs.End.{End, Turn}
 use Rattle.ln_link.specs.declared.link.Line.{Line}
 use Rattle.ln_link.specs.declared.link.Line.TheVariants.{Met}
@@ -55,8 +58,13 @@ pub record HoldsAll (x y : Party) : Type 0 where
   pub own : (held x).own ≡ x.own
   pub peer : (held x).peer ≡ y.own
 
+-- what the own commitment of an end is worth
+abbrev pub worth : End → View
+worth e = view_at (pair.Current side.Own) e.dance
+
+-- then both hold everything, and each one's commitment is worth what the other's is
 abbrev pub Agrees : Ends → Type 0
-Agrees p = IsAtRest p → HoldsAll (party p.x) (party p.y) × HoldsAll (party p.y) (party p.x)
+Agrees p = IsAtRest p → HoldsAll (party p.x) (party p.y) × HoldsAll (party p.y) (party p.x) × (worth p.x ≡ worth p.y)
 
 -- ---- no add behind the own shutdown (BOLT 2, "Closing Initiation: shutdown")
 

@@ -33,7 +33,7 @@ pub fn no_message_is_refused()
 {}
 
 /// A law: where both ends have met, nothing is in flight and neither has anything to sign, both hold every update of
-/// either side.
+/// either side, and their commitments are worth the same.
 pub fn both_agree_at_rest()
     ensures { (a b : Signer) (s : OpenSpec) (c : Config) (funder fundee : Opened) (steps : List Step) → AreKeys a b
         → Opens a b s c funder fundee → Agrees (run a b steps (opened funder fundee)) }
