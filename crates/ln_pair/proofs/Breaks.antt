@@ -18,6 +18,7 @@ use Rattle.ln_pair.specs.Ends.{messages_in}
 use Rattle.ln_pair.proofs.Sides.{Notice, Again, posts, all_owed}
 use Rattle.ln_pair.proofs.Walk.{Phase, Idle, Sent, Answered, Kept}
 use Rattle.ln_pair.proofs.Marks.{BothTold}
+use Rattle.ln_pair.proofs.Ending.{Ending, none_owed, begun_dropped}
 use Rattle.ln_pair.proofs.Resume.{kept_again, kept_down, kept_up}
 use Rattle.ln_pair.proofs.Telling.{none-take}
 use Rattle.ln_pair.proofs.TellingAgain.{told_again, told_down, told_up}
@@ -66,14 +67,17 @@ module _ (a b : Signer) (channel : List ℕ) (ly : Line) (x y : End) (to_y : Lis
   pub again_sends : (m : ChannelReestablish) (ns : List Notice)
       → Hold a b channel Awaiting ly x y (Again m ∷ ns) to_y said_x said_y
       → messages_in (sent_again a m x) ≡ messages_of channel (lacked m)
-  again_sends m ns h = resends_so a m x h.x_knows.no_fee ∙ ap (λ c. messages_of c (lacked m)) h.x_channel
+  again_sends m ns h = resends_so a m x ∙ ap (λ c. messages_of c (lacked m)) h.x_channel
 
   pub took_again : (m : ChannelReestablish) (ns : List Notice)
       → Hold a b channel Awaiting ly x y (Again m ∷ ns) to_y said_x said_y
       → Hold a b channel Met ly x y ns (posts ly (lacked m) to_y) (said_x ++ messages_in (sent_again a m x)) said_y
   took_again m ns h = record {
     kept = kept_again ly (side_of a x) (side_of b y) m ns to_y refl refl h.kept;
-    told = told_again ly (side_of a x) (side_of b y) m ns to_y refl refl h.kept h.told;
+    told = told_again ly (side_of a x) (side_of b y) m ns to_y
+        (none_owed Awaiting ly (side_of a x) (side_of b y) to_y h.kept.there h.ended) refl refl h.kept h.told;
+    ended = h.ended;
+    ended_back = h.ended_back;
     x_channel = h.x_channel;
     y_channel = h.y_channel;
     x_knows = h.x_knows;
@@ -98,6 +102,20 @@ lost_so a b channel lx ly x y to_x to_y said_x said_y h =
           (kept_down (both lx ly (side_of a x) (side_of b y) to_x to_y) h.kept);
       told = subst (λ z. BothTold (both Down ly z (side_of b y) [] to_y)) (sym is)
           (told_down (both lx ly (side_of a x) (side_of b y) to_x to_y) w.own_signed h.told);
+      ended = subst (λ z. Ending z (side_of b y)) (sym is)
+          (record {
+            news = h.ended.news;
+            begun = λ q. begun_dropped (side_of a x) w (h.ended.begun q);
+            closed = λ q. begun_dropped (side_of a x) w (h.ended.closed q);
+            answered = h.ended.answered;
+          });
+      ended_back = subst (λ z. Ending (side_of b y) z) (sym is)
+          (record {
+            news = h.ended_back.news;
+            begun = h.ended_back.begun;
+            closed = h.ended_back.closed;
+            answered = h.ended_back.answered;
+          });
       x_channel = h.x_channel;
       y_channel = h.y_channel;
       x_knows = record {
@@ -105,8 +123,6 @@ lost_so a b channel lx ly x y to_x to_y said_x said_y h =
         next_point = h.x_knows.next_point;
         below = h.x_knows.below;
         script = h.x_knows.script;
-        not_closed = h.x_knows.not_closed;
-        no_fee = h.x_knows.no_fee;
         secret = h.x_knows.secret;
       };
       y_knows = record {
@@ -114,8 +130,6 @@ lost_so a b channel lx ly x y to_x to_y said_x said_y h =
         next_point = h.y_knows.next_point;
         below = h.y_knows.below;
         script = h.y_knows.script;
-        not_closed = h.y_knows.not_closed;
-        no_fee = h.y_knows.no_fee;
         secret = h.y_knows.secret;
       };
       x_said = h.x_said;
@@ -136,6 +150,8 @@ joined_so a b channel x y to_x to_y said_x said_y h =
     record {
       kept = kept_up (side_of a x) (side_of b y) empty;
       told = told_up (side_of a x) (side_of b y) to_x to_y h.told;
+      ended = h.ended;
+      ended_back = h.ended_back;
       x_channel = h.x_channel;
       y_channel = h.y_channel;
       x_knows = h.x_knows;

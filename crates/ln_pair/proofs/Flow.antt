@@ -10,10 +10,13 @@ use Rattle.ln_msgs.specs.declared.messages.commitments.CommitmentSigned.{Commitm
 use Rattle.ln_msgs.specs.declared.messages.commitments.RevokeAndAck.{RevokeAndAck}
 use Rattle.ln_msgs.specs.declared.messages.commitments.ChannelReestablish.{ChannelReestablish}
 use Rattle.ln_msgs.specs.declared.messages.opening.ChannelReady.{ChannelReady}
+use Rattle.ln_msgs.specs.declared.messages.closing.ClosingSigned.{ClosingSigned}
 use Rattle.ln_msgs.specs.declared.messages.closing.Shutdown.{Shutdown as ShutdownMessage}
 use Rattle.ln_link.specs.declared.link.Line.{Line}
 use Rattle.ln_link.specs.declared.link.Line.TheVariants.{Down, Awaiting, Met}
-use Rattle.ln_pair.proofs.Sides.{confirms, shuts, Ready, Shutdown, Notice, Update, Sign, Revoke, Again}
+use Rattle.std.specs.Prelude.{Option, Some, None}
+use Rattle.ln_pair.proofs.Sides.{dealt, closes_of}
+use Rattle.ln_pair.proofs.Sides.{confirms, shuts, Ready, Shutdown, Close, Notice, Update, Sign, Revoke, Again}
 use Rattle.ln_pair.proofs.Sides.{Side, posts, proposed, signed_all, received, accepted_all}
 use Rattle.ln_pair.proofs.Sides.{acknowledged_all, proposes, signs}
 use Rattle.ln_pair.proofs.Walk.{holds, Reads, Fits, AllFit, Phase, Idle, Sent, Answered, InOrder, sender, IsDue}
@@ -117,6 +120,7 @@ posted Awaiting lx ln x n y sent (Sign k ∷ ms) f h e = absurd e
 posted Awaiting lx ln x n y sent (Revoke k ∷ ms) f h e = absurd e
 posted Awaiting lx ln x n y sent (Ready z ∷ ms) f h e = absurd e
 posted Awaiting lx ln x n y sent (Shutdown z ∷ ms) f h e = absurd e
+posted Awaiting lx ln x n y sent (Close z ∷ ms) f h e = absurd e
 posted Awaiting lx ln x n y sent (Again k ∷ ms) f h e = (e.0 ∙ sym f, h ms e.1)
 posted Met lx ln x n y sent ms f h e = h ms e
 
@@ -130,6 +134,7 @@ passed Awaiting lx ln x n y (Sign k ∷ ms) f h e = absurd e
 passed Awaiting lx ln x n y (Revoke k ∷ ms) f h e = absurd e
 passed Awaiting lx ln x n y (Ready z ∷ ms) f h e = absurd e
 passed Awaiting lx ln x n y (Shutdown z ∷ ms) f h e = absurd e
+passed Awaiting lx ln x n y (Close z ∷ ms) f h e = absurd e
 passed Awaiting lx ln x n y (Again k ∷ ms) f h e = (e.0 ∙ sym f, h ms e.1)
 passed Met lx ln x n y ms f h e = h ms e
 
@@ -392,7 +397,7 @@ pub record Accepts (x y : Side) (k : CommitmentSigned) : Type 0 where
   pub known_peer : x.current.own ≡ y.acked.peer
   pub length_own : length x.got ≡ y.signed.own
 
-unaccepted : (s a c : ℕ) (acked signed current : Counts) → c + 1 ≡ s → Phase s a c acked signed current
+pub unaccepted : (s a c : ℕ) (acked signed current : Counts) → c + 1 ≡ s → Phase s a c acked signed current
     → (c ≡ a) × (s ≡ a + 1) × (current.peer ≡ acked.own) × (current.own ≡ acked.peer)
 unaccepted s a c acked signed current e (Idle e1 e2 e3 e4 e5 e6) = absurd (omega (arith, e, e2))
 unaccepted s a c acked signed current e (Sent e1 e2 e3 e4) = (e2, e1, e3, e4)
@@ -838,3 +843,126 @@ kept_shut ly z x y to_x to_y k =
             carries_own ly y x n to_x g.flight;
       };
     }
+
+-- ---- closing fees: they say nothing of updates and commitments
+
+took_close : (ly : Line) (z : ClosingSigned) (x y : Side) (ms : List Notice)
+    → Carries ly y x (Close z ∷ ms) → Carries ly y x ms
+took_close Down z x y ms h = h
+took_close Awaiting z x y ms h = absurd (cc (h.0))
+took_close Met z x y ms h = h
+
+pub kept_close : (ly : Line) (z : ClosingSigned) (x y : Side) (ms to_y : List Notice)
+    → Kept (record { x_link = Met; y_link = ly; x = x; y = y; to_x = Close z ∷ ms; to_y = to_y })
+    → Kept (record { x_link = Met; y_link = ly; x = x; y = y; to_x = ms; to_y = to_y })
+kept_close ly z x y ms to_y k =
+    let g = k.back in
+    record {
+      there = k.there;
+      back = record {
+        same = g.same;
+        roles = g.roles;
+        within = g.within;
+        cut = g.cut;
+        fit = g.fit;
+        fit_signed = g.fit_signed;
+        phase = g.phase;
+        agree = g.agree;
+        order = g.order;
+        flight =
+            took_close ly z x y ms g.flight;
+      };
+    }
+
+skipped_ready : (ly : Line) (z : ChannelReady) (x y : Side) (ms : List Notice)
+    → Carries ly y x (Ready z ∷ ms) → Carries ly y x ms
+skipped_ready Down z x y ms h = h
+skipped_ready Awaiting z x y ms h = absurd (cc (h.0))
+skipped_ready Met z x y ms h = h
+
+pub kept_skipped : (ly : Line) (z : ChannelReady) (x y : Side) (ms to_y : List Notice)
+    → Kept (record { x_link = Met; y_link = ly; x = x; y = y; to_x = Ready z ∷ ms; to_y = to_y })
+    → Kept (record { x_link = Met; y_link = ly; x = x; y = y; to_x = ms; to_y = to_y })
+kept_skipped ly z x y ms to_y k =
+    let g = k.back in
+    record {
+      there = k.there;
+      back = record {
+        same = g.same;
+        roles = g.roles;
+        within = g.within;
+        cut = g.cut;
+        fit = g.fit;
+        fit_signed = g.fit_signed;
+        phase = g.phase;
+        agree = g.agree;
+        order = g.order;
+        flight =
+            skipped_ready ly z x y ms g.flight;
+      };
+    }
+
+heard_dealt : (ly : Line) (m : Option ClosingSigned) (c : Bool) (y x : Side) (ms : List Notice) → Carries ly y x ms
+    → Carries ly y (dealt m c x) ms
+heard_dealt Down m c y x ms h = h
+heard_dealt Awaiting m c y x ms h = h
+heard_dealt Met m c y x ms h = h
+
+pub kept_dealt : (ly : Line) (m : Option ClosingSigned) (c : Bool) (sent : Option ClosingSigned) (x y : Side)
+    (to_x to_y : List Notice) → Kept (record { x_link = Met; y_link = ly; x = x; y = y; to_x = to_x; to_y = to_y })
+    → Kept (record {
+      x_link = Met;
+      y_link = ly;
+      x = dealt m c x;
+      y = y;
+      to_x = to_x;
+      to_y = posts ly (closes_of sent) to_y;
+    })
+kept_dealt ly m c sent x y to_x to_y k =
+    let f = k.there in
+    let g = k.back in
+    let n : Side = dealt m c x in
+    let Q = LacksNothing x.own x.current.peer x.signatures x.number in
+    record {
+      there = record {
+        same = f.same;
+        roles = f.roles;
+        within = record {
+          own_current = f.within.own_current;
+          own_acked = f.within.own_acked;
+          own_signed = f.within.own_signed;
+          peer_acked = f.within.peer_acked;
+          peer_signed = f.within.peer_signed;
+          peer_current = f.within.peer_current;
+        };
+        cut = tt;
+        fit = f.fit;
+        fit_signed = f.fit_signed;
+        phase = f.phase;
+        agree = f.agree;
+        order = f.order;
+        flight = posted ly Met Met x n y (closes_of sent) to_y (same_front ly x n refl)
+            (λ ns h. reads-push (sender x) y.own (holds y) y.signed.own Q Q y.got y.acked.own y.number y.revocations ns
+            (closes_of sent) (λ q b d s l. says sent q b d s l) h) f.flight;
+      };
+      back = record {
+        same = g.same;
+        roles = g.roles;
+        within = g.within;
+        cut = g.cut;
+        fit = g.fit;
+        fit_signed = g.fit_signed;
+        phase = g.phase;
+        agree = g.agree;
+        order = g.order;
+        flight =
+            heard_dealt ly m c y x to_x g.flight;
+      };
+    }
+  where
+    says : (o : Option ClosingSigned) (q : List Change) (b d s : ℕ)
+        → LacksNothing x.own x.current.peer x.signatures x.number q b d s
+        → Reads (sender x) y.own (holds y) y.signed.own
+        (LacksNothing x.own x.current.peer x.signatures x.number) q b d s (closes_of o)
+    says None q b d s l = l
+    says (Some w) q b d s l = l

@@ -20,7 +20,9 @@ use Rattle.ln_dance.specs.Resume.{reestablish_message, signature_again, revocati
 use Rattle.ln_link.specs.End.{End, end_dropped, shutdown_message}
 use Rattle.ln_link.specs.Commands.{ready_message, proposes, signs_next}
 use Rattle.ln_link.specs.Taking.{takes, accepts}
-use Rattle.ln_pair.proofs.Sides.{Notice, Update, Sign, Revoke, Ready, Shutdown, Again, Side, proposed, received}
+use Rattle.std.specs.Prelude.{is_some, option_map}
+use Rattle.ln_link.specs.End.{closing_message}
+use Rattle.ln_pair.proofs.Sides.{Close, Notice, Update, Sign, Revoke, Ready, Shutdown, Again, Side, proposed, received}
 use Rattle.ln_pair.proofs.Sides.{signed_all, accepted_all, dropped}
 
 -- the message that a notice is, in the channel of this id
@@ -30,6 +32,7 @@ message_of channel (Sign m) = message.CommitmentSigned m
 message_of channel (Revoke m) = message.RevokeAndAck m
 message_of channel (Ready m) = message.ChannelReady m
 message_of channel (Shutdown m) = message.Shutdown m
+message_of channel (Close m) = message.ClosingSigned m
 message_of channel (Again m) = message.ChannelReestablish m
 
 abbrev pub messages_of : List ℕ → List Notice → List Message
@@ -61,6 +64,8 @@ side_of k e = record {
   peer_ready = e.marks.ready_received;
   shut = e.closing.shut;
   peer_shut = e.closing.peer_shut;
+  closed = is_some e.closing.closed;
+  close_message = option_map (closing_message k e) e.closing.own_fee;
   late = is_late e.dance.later;
   signature = signature_again k e.dance;
   revocation = revocation_again k e.dance;

@@ -7,12 +7,13 @@ pub mod Flow
 pub mod Telling
 pub mod Resume
 pub mod TellingAgain
+pub mod Ending
 pub mod Images
 pub mod Rows
 pub mod Steps
 pub mod Resends
-pub mod Turns
 pub mod Breaks
+pub mod Turns
 pub mod Runs
 pub mod Opens
 pub mod Promised

@@ -6,7 +6,7 @@ use Rattle.ln_msgs.specs.declared.messages.opening.ChannelReady.{ChannelReady}
 use Rattle.ln_msgs.specs.declared.messages.closing.Shutdown.{Shutdown as ShutdownMessage}
 use Rattle.ln_link.specs.declared.link.Line.{Line}
 use Rattle.ln_link.specs.declared.link.Line.TheVariants.{Down, Awaiting, Met}
-use Rattle.ln_pair.proofs.Sides.{Both, opens, Notice, Update, Sign, Revoke, Ready, Shutdown, Again}
+use Rattle.ln_pair.proofs.Sides.{Both, has_bid, opens, Notice, Update, Sign, Revoke, Ready, Shutdown, Close, Again}
 use Rattle.ln_pair.proofs.Sides.{Side}
 
 -- what opens something doesn't stand behind a shutdown
@@ -25,6 +25,7 @@ pub record Teller : Type 0 where
   pub peer_ready : Bool
   pub ready_message : ChannelReady
   pub shut_message : ShutdownMessage
+  pub bid : Bool  -- it has sent a closing_signed
 
 -- who has taken channel_ready (r) and shutdown (s) or not reads the messages, and stands at Q then
 abbrev pub Tells : Teller → (Bool → Bool → Type 0) → Bool → Bool → List Notice → Type 0
@@ -34,10 +35,12 @@ Tells t Q r s (Sign k ∷ ms) = (r ≡ true) × (t.peer_ready ≡ true) × Tells
 Tells t Q r s (Revoke k ∷ ms) = Tells t Q r s ms
 Tells t Q r s (Ready z ∷ ms) = (t.ready ≡ true) × (z ≡ t.ready_message) × Tells t Q true s ms
 Tells t Q r s (Shutdown z ∷ ms) = (t.shut ≡ true) × (z ≡ t.shut_message) × Tells t Q r true ms
+Tells t Q r s (Close z ∷ ms) = (t.bid ≡ true) × Tells t Q r s ms
 Tells t Q r s (Again n ∷ ms) = ⊥
 
-abbrev pub ToldAll : Bool → Bool → Bool → Bool → Type 0
-ToldAll ready shut r s = (r ≡ ready) × (s ≡ shut)
+-- a closed end takes no channel_ready any more
+abbrev pub ToldAll : Bool → Bool → Bool → Bool → Bool → Type 0
+ToldAll ready shut closed r s = (closed ≡ false → r ≡ ready) × (s ≡ shut)
 
 abbrev pub ToldAny : Bool → Bool → Type 0
 ToldAny r s = Unit {0}
@@ -49,12 +52,13 @@ teller x y = record {
   peer_ready = y.ready;
   ready_message = x.ready_message;
   shut_message = x.shut_message;
+  bid = has_bid x;
 }
 
 abbrev pub Speaks : Line → Side → Side → List Notice → Type 0
 Speaks Down x y ms = Tells (teller x y) ToldAny y.peer_ready y.peer_shut ms
 Speaks Awaiting x y ms = ms ≡ []
-Speaks Met x y ms = Tells (teller x y) (ToldAll x.ready x.shut) y.peer_ready y.peer_shut ms
+Speaks Met x y ms = Tells (teller x y) (ToldAll x.ready x.shut y.closed) y.peer_ready y.peer_shut ms
 
 abbrev pub SpeaksAgain : Line → Side → Side → List Notice → Type 0
 SpeaksAgain l x y [] = ⊥
@@ -63,6 +67,7 @@ SpeaksAgain l x y (Sign k ∷ ms) = ⊥
 SpeaksAgain l x y (Revoke k ∷ ms) = ⊥
 SpeaksAgain l x y (Ready z ∷ ms) = ⊥
 SpeaksAgain l x y (Shutdown z ∷ ms) = ⊥
+SpeaksAgain l x y (Close z ∷ ms) = ⊥
 SpeaksAgain l x y (Again n ∷ ms) = Speaks l x y ms
 
 abbrev pub Speech : Line → Line → Side → Side → List Notice → Type 0

@@ -21,6 +21,7 @@ use Rattle.ln_link.proofs.Meeting.{are_ends}
 use Rattle.ln_pair.specs.Ends.{opened}
 use Rattle.ln_link.specs.declared.link.Line.TheVariants.{Met}
 use Rattle.ln_pair.proofs.Walk.{Idle, Flows}
+use Rattle.ln_pair.proofs.Ending.{Ending}
 use Rattle.ln_pair.proofs.Marks.{Told}
 use Rattle.ln_pair.proofs.Images.{side_of}
 use Rattle.ln_pair.proofs.Steps.{Said, Knows}
@@ -60,7 +61,7 @@ told k j r q c d f g t u = record {
   used_signature = λ e. absurd (omega (arith, e));
   used_number = λ e. absurd (omega (arith, e));
   shut = λ e. tt;
-  speech = (refl, refl);
+  speech = (λ e. refl, refl);
 }
 
 knows : (k : Signer) (r q : Role) (c d : List ℕ) (f g : Fees) (t u : Terms)
@@ -70,9 +71,16 @@ knows k r q c d f g t u ep es = record {
   next_point = λ e. absurd (let no : false ≡ true = e in cc);
   below = omega arith;
   script = es;
-  not_closed = refl;
-  no_fee = refl;
   secret = λ n e. absurd (omega (arith, e));
+}
+
+ended : (k j : Signer) (r q : Role) (c d : List ℕ) (f g : Fees) (t u : Terms)
+    → Ending (side_of k (first r c f t)) (side_of j (first q d g u))
+ended k j r q c d f g t u = record {
+  news = λ e. absurd (omega (arith, e));
+  begun = λ e. absurd (let no : false ≡ true = e in cc);
+  closed = λ e. absurd (let no : false ≡ true = e in cc);
+  answered = λ e. absurd (let no : false ≡ true = e in cc);
 }
 
 said : Said false []
@@ -94,6 +102,8 @@ holds_first a b c f g t u eo et eu ep eq = record {
       back = flows b a Fundee Funder c c g f u t (sym eo) refl;
     };
     told = record { there = told a b Funder Fundee c c f g t u; back = told b a Fundee Funder c c g f u t };
+    ended = ended a b Funder Fundee c c f g t u;
+    ended_back = ended b a Fundee Funder c c g f u t;
     x_channel = refl;
     y_channel = refl;
     x_knows = knows b Funder Fundee c c f g t u ep et;

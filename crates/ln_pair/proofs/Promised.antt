@@ -16,28 +16,31 @@ use Rattle.ln_link.specs.declared.config.Config.{Config}
 use Rattle.ln_link.specs.declared.config.OpenSpec.{OpenSpec}
 use Rattle.ln_link.specs.declared.opening.Opened.{Opened}
 use Rattle.ln_link.specs.Meeting.{Opens}
-use Rattle.ln_link.specs.End.{End, has_begun, completed}
+use Rattle.ln_link.specs.End.{End, completed}
 use Rattle.ln_pair.specs.Ends.{Ends, Step, opened, turned, run}
-use Rattle.ln_pair.specs.Promises.{AreKeys, StaysOpen, party, Headline, TakesFront, NoneRefused, HoldsAll, Agrees}
+use Rattle.ln_pair.specs.Promises.{AreKeys, party, Headline, TakesFront, NoneRefused, HoldsAll, Agrees}
 use Rattle.ln_pair.specs.Promises.{NoneAddsLate}
 use Rattle.ln_link.specs.declared.link.Line.{Line}
 use Rattle.ln_link.specs.declared.link.Line.TheVariants.{Down, Awaiting, Met}
 use Rattle.ln_link.specs.Resume.{resumed}
-use Rattle.ln_pair.proofs.Sides.{Notice, Update, Sign, Revoke, Ready, Shutdown, Again}
+use Rattle.ln_pair.proofs.Sides.{Notice, Update, Sign, Revoke, Ready, Shutdown, Close, Again}
 use Rattle.ln_pair.proofs.Walk.{Phase, Idle, Sent, Answered, LacksNothing, Flows}
+use Rattle.ln_log.specs.Log.{covered, view_for}
+use Rattle.ln_log.proofs.Sent.{turned_views}
+use Rattle.ln_pair.specs.Promises.{worth}
 use Rattle.ln_pair.proofs.Flow.{current_own, current_peer}
 use Rattle.ln_pair.proofs.Images.{messages_of, side_of, length-sent, take-sent}
 use Rattle.ln_pair.proofs.Steps.{parts, Hold}
 use Rattle.ln_pair.proofs.Turns.{turn_of}
-use Rattle.ln_pair.proofs.Runs.{Holds, flipped, flipped_keys, met_row, meeting_row, open_then, ran}
+use Rattle.ln_pair.proofs.Runs.{Holds, flipped, flipped_keys, met_row, meeting_row, ran}
 use Rattle.ln_pair.proofs.Opens.{opened_holds}
 
 -- at every end of a run
 pub at_end : (a b : Signer) (s : OpenSpec) (c : Config) (funder fundee : Opened) (steps : List Step) → AreKeys a b
-    → Opens a b s c funder fundee → StaysOpen a b steps (opened funder fundee)
+    → Opens a b s c funder fundee
     → Holds a b (run a b steps (opened funder fundee))
-at_end a b s c funder fundee steps keys o still =
-    ran a b keys steps (opened funder fundee) still (opened_holds a b s c funder fundee o)
+at_end a b s c funder fundee steps keys o =
+    ran a b keys steps (opened funder fundee) (opened_holds a b s c funder fundee o)
 
 -- ---- what is held begins what the other has covered
 
@@ -84,41 +87,50 @@ headline_of a b p h = (
 )
 
 pub headline : (a b : Signer) (s : OpenSpec) (c : Config) (funder fundee : Opened) (steps : List Step) → AreKeys a b
-    → Opens a b s c funder fundee → StaysOpen a b steps (opened funder fundee)
+    → Opens a b s c funder fundee
     → Headline (run a b steps (opened funder fundee))
-headline a b s c funder fundee steps keys o still =
-    headline_of a b (run a b steps (opened funder fundee)) (at_end a b s c funder fundee steps keys o still)
+headline a b s c funder fundee steps keys o =
+    headline_of a b (run a b steps (opened funder fundee)) (at_end a b s c funder fundee steps keys o)
 
 -- ---- no message is refused
 
 front_by : (a b : Signer) → AreKeys a b → (l : Line) (p : Ends) → p.x_line ≡ l
-    → (channel : List ℕ) (ns to_y : List Notice) → has_begun p.x ≡ false
-    → Hold a b channel l p.y_line p.x p.y ns to_y p.said_x p.said_y → TakesFront a p.x_line (messages_of channel ns) p.x
-front_by a b keys l p is channel [] to_y e h = tt
-front_by a b keys Down p is channel (n ∷ ns) to_y e h = absurd (let no : n ∷ ns ≡ [] = h.kept.back.flight in cc)
-front_by a b keys Awaiting p is channel (Update u ∷ ns) to_y e h = absurd (h.kept.back.flight)
-front_by a b keys Awaiting p is channel (Sign m ∷ ns) to_y e h = absurd (h.kept.back.flight)
-front_by a b keys Awaiting p is channel (Revoke m ∷ ns) to_y e h = absurd (h.kept.back.flight)
-front_by a b keys Awaiting p is channel (Ready m ∷ ns) to_y e h = absurd (h.kept.back.flight)
-front_by a b keys Awaiting p is channel (Shutdown m ∷ ns) to_y e h = absurd (h.kept.back.flight)
-front_by a b keys Awaiting p is channel (Again m ∷ ns) to_y e h =
-    (completed a (resumed a m p.x), meeting_row a b keys p is channel m ns to_y h)
-front_by a b keys Met p is channel (n ∷ ns) to_y e h =
-    (completed a (turn_of a n p.x), met_row a b keys p is channel n ns to_y e h)
+    → (channel : List ℕ) (ns to_y : List Notice) → Hold a b channel l p.y_line p.x p.y ns to_y p.said_x p.said_y
+    → TakesFront a p.x_line (messages_of channel ns) p.x
+front_by a b keys l p is channel [] to_y h = tt
+front_by a b keys Down p is channel (n ∷ ns) to_y h = absurd (let no : n ∷ ns ≡ [] = h.kept.back.flight in cc)
+front_by a b keys Awaiting p is channel (Update u ∷ ns) to_y h = absurd (h.kept.back.flight)
+front_by a b keys Awaiting p is channel (Sign m ∷ ns) to_y h = absurd (h.kept.back.flight)
+front_by a b keys Awaiting p is channel (Revoke m ∷ ns) to_y h = absurd (h.kept.back.flight)
+front_by a b keys Awaiting p is channel (Ready m ∷ ns) to_y h = absurd (h.kept.back.flight)
+front_by a b keys Awaiting p is channel (Shutdown m ∷ ns) to_y h = absurd (h.kept.back.flight)
+front_by a b keys Awaiting p is channel (Close m ∷ ns) to_y h = absurd (h.kept.back.flight)
+front_by a b keys Awaiting p is channel (Again m ∷ ns) to_y h =
+    λ e. (completed a (resumed a m p.x), meeting_row a b keys p is channel m ns to_y h)
+front_by a b keys Met p is channel (Update u ∷ ns) to_y h =
+    λ e. (completed a (turn_of a (Update u) p.x), met_row a b keys p is channel (Update u) ns to_y refl h)
+front_by a b keys Met p is channel (Sign m ∷ ns) to_y h =
+    λ e. (completed a (turn_of a (Sign m) p.x), met_row a b keys p is channel (Sign m) ns to_y refl h)
+front_by a b keys Met p is channel (Revoke m ∷ ns) to_y h =
+    λ e. (completed a (turn_of a (Revoke m) p.x), met_row a b keys p is channel (Revoke m) ns to_y refl h)
+front_by a b keys Met p is channel (Ready m ∷ ns) to_y h =
+    λ e. (completed a (turn_of a (Ready m) p.x), met_row a b keys p is channel (Ready m) ns to_y refl h)
+front_by a b keys Met p is channel (Shutdown m ∷ ns) to_y h =
+    λ e. (completed a (turn_of a (Shutdown m) p.x), met_row a b keys p is channel (Shutdown m) ns to_y refl h)
+front_by a b keys Met p is channel (Close m ∷ ns) to_y h = λ e. absurd (let no : true ≡ false = e in cc)
+front_by a b keys Met p is channel (Again m ∷ ns) to_y h =
+    λ e. (completed a (turn_of a (Again m) p.x), met_row a b keys p is channel (Again m) ns to_y refl h)
 
-front : (a b : Signer) → AreKeys a b → (p : Ends) → has_begun p.x ≡ false → Holds a b p
-    → TakesFront a p.x_line p.to_x p.x
-front a b keys p e h = let is = h.in_x in subst (λ ms. TakesFront a p.x_line ms p.x) (sym is)
-    (front_by a b keys p.x_line p refl h.channel h.to_x h.to_y e h.hold)
+front : (a b : Signer) → AreKeys a b → (p : Ends) → Holds a b p → TakesFront a p.x_line p.to_x p.x
+front a b keys p h = let is = h.in_x in subst (λ ms. TakesFront a p.x_line ms p.x) (sym is)
+    (front_by a b keys p.x_line p refl h.channel h.to_x h.to_y h.hold)
 
 pub none_refused : (a b : Signer) (s : OpenSpec) (c : Config) (funder fundee : Opened) (steps : List Step) → AreKeys a b
-    → Opens a b s c funder fundee → StaysOpen a b steps (opened funder fundee)
-    → NoneRefused a b (run a b steps (opened funder fundee))
-none_refused a b s c funder fundee steps keys o still =
+    → Opens a b s c funder fundee → NoneRefused a b (run a b steps (opened funder fundee))
+none_refused a b s c funder fundee steps keys o =
     let p = run a b steps (opened funder fundee) in
-    let h = at_end a b s c funder fundee steps keys o still in
-    let e = open_then a b steps (opened funder fundee) still in
-    (front a b keys p e.x h, front b a (flipped_keys a b keys) (turned p) e.y (flipped a b p h))
+    let h = at_end a b s c funder fundee steps keys o in
+    (front a b keys p h, front b a (flipped_keys a b keys) (turned p) (flipped a b p h))
 
 -- ---- at rest
 
@@ -182,41 +194,60 @@ holds_all a b x y f g sx sy =
       peer = ap all_sent (take_all l.acknowledged.peer l.received (omega (arith, peer))) ∙ m.has_all;
     }
 
-agrees_by : (a b : Signer) (lx ly : Line) (x y : End) (to_x to_y : List Notice) → lx ≡ Met → ly ≡ Met → to_x ≡ []
-    → to_y ≡ [] → Flows lx ly (side_of a x) (side_of b y) to_y → Flows ly lx (side_of b y) (side_of a x) to_x
-    → HasNothing x.dance.log → HasNothing y.dance.log → HoldsAll (party x) (party y)
-agrees_by a b lx ly x y to_x to_y ex ey dx dy f g sx sy =
-    let f1 : Flows Met ly (side_of a x) (side_of b y) to_y =
-    subst (λ l. Flows l ly (side_of a x) (side_of b y) to_y) ex f in
-    let f2 : Flows Met Met (side_of a x) (side_of b y) to_y =
-    subst (λ l. Flows Met l (side_of a x) (side_of b y) to_y) ey f1 in
-    let g1 : Flows Met lx (side_of b y) (side_of a x) to_x =
-    subst (λ l. Flows l lx (side_of b y) (side_of a x) to_x) ey g in
-    let g2 : Flows Met Met (side_of b y) (side_of a x) to_x =
-    subst (λ l. Flows Met l (side_of b y) (side_of a x) to_x) ex g1 in
-    holds_all a b x y (subst (λ ms. Flows Met Met (side_of a x) (side_of b y) ms) dy f2)
-    (subst (λ ms. Flows Met Met (side_of b y) (side_of a x) ms) dx g2) sx sy
+-- its commitment covers all of the other's
+covers_peer : (a b : Signer) (x y : End) → Flows Met Met (side_of b y) (side_of a x) [] → HasNothing y.dance.log
+    → all_sent (take x.dance.log.current.peer x.dance.log.received) ≡ all_sent y.dance.log.own
+covers_peer a b x y g sy =
+    let l = x.dance.log in
+    let k = y.dance.log in
+    let m : LacksNothing (all_sent k.own) k.current.peer y.dance.numbers.signed y.dance.numbers.commitment
+    (all_sent l.received) l.acknowledged.own x.dance.numbers.commitment x.dance.numbers.revoked = g.flight in
+    let p = current_is y.dance.numbers.signed y.dance.numbers.revoked x.dance.numbers.commitment k.acknowledged k.signed
+    l.current m.accepted g.phase in
+    let all : l.current.peer ≡ length l.received = p.0 ∙ sy.all ∙ sym (length-sent k.own) ∙ ap length (sym m.has_all)
+    ∙ length-sent l.received in
+    ap all_sent (take_all l.current.peer l.received (omega (arith, all))) ∙ m.has_all
+
+same_worth : (a b : Signer) (x y : End) → Flows Met Met (side_of a x) (side_of b y) []
+    → Flows Met Met (side_of b y) (side_of a x) [] → HasNothing x.dance.log → HasNothing y.dance.log → worth x ≡ worth y
+same_worth a b x y f g sx sy =
+    let l = x.dance.log in
+    let k = y.dance.log in
+    let own = (holds_all a b x y f g sx sy).own ∙ sym (covers_peer b a y x f sx) in
+    let peer = covers_peer a b x y g sy ∙ sym (holds_all b a y x g f sy sx).own in
+    turned_views l.opening l.role (covered l l.current) (covered k k.current) (cc (own, peer))
+    ∙ ap (λ r. view_for l.opening r (covered k k.current)) g.roles
+    ∙ ap (λ o. view_for o k.role (covered k k.current)) (sym f.same)
+
+module _ (a b : Signer) (x y : End) where
+  at_rest : (lx ly : Line) (to_x to_y : List Notice) → lx ≡ Met → ly ≡ Met → to_y ≡ []
+      → Flows lx ly (side_of a x) (side_of b y) to_y → Flows Met Met (side_of a x) (side_of b y) []
+  at_rest lx ly to_x to_y ex ey dy f =
+      let f1 : Flows Met ly (side_of a x) (side_of b y) to_y =
+      subst (λ l. Flows l ly (side_of a x) (side_of b y) to_y) ex f in
+      let f2 : Flows Met Met (side_of a x) (side_of b y) to_y =
+      subst (λ l. Flows Met l (side_of a x) (side_of b y) to_y) ey f1 in
+      subst (λ ms. Flows Met Met (side_of a x) (side_of b y) ms) dy f2
 
 pub agrees : (a b : Signer) (s : OpenSpec) (c : Config) (funder fundee : Opened) (steps : List Step) → AreKeys a b
-    → Opens a b s c funder fundee → StaysOpen a b steps (opened funder fundee)
+    → Opens a b s c funder fundee
     → Agrees (run a b steps (opened funder fundee))
-agrees a b s c funder fundee steps keys o still rest =
+agrees a b s c funder fundee steps keys o rest =
     let p = run a b steps (opened funder fundee) in
-    let h = at_end a b s c funder fundee steps keys o still in
+    let h = at_end a b s c funder fundee steps keys o in
     let nx = nothing_in h.channel h.to_x (sym h.in_x ∙ rest.to_x) in
     let ny = nothing_in h.channel h.to_y (sym h.in_y ∙ rest.to_y) in
     let sx = has_nothing p.x.dance rest.x in
     let sy = has_nothing p.y.dance rest.y in
-    let k = h.hold.kept in (
-      agrees_by a b p.x_line p.y_line p.x p.y h.to_x h.to_y rest.x_met rest.y_met nx ny k.there k.back sx sy,
-      agrees_by b a p.y_line p.x_line p.y p.x h.to_y h.to_x rest.y_met rest.x_met ny nx k.back k.there sy sx,
-    )
+    let f = at_rest a b p.x p.y p.x_line p.y_line h.to_x h.to_y rest.x_met rest.y_met ny h.hold.kept.there in
+    let g = at_rest b a p.y p.x p.y_line p.x_line h.to_y h.to_x rest.y_met rest.x_met nx h.hold.kept.back in
+    (holds_all a b p.x p.y f g sx sy, holds_all b a p.y p.x g f sy sx, same_worth a b p.x p.y f g sx sy)
 
 -- ---- no add behind the own shutdown
 
 pub none_adds_late : (a b : Signer) (s : OpenSpec) (c : Config) (funder fundee : Opened) (steps : List Step)
-    → AreKeys a b → Opens a b s c funder fundee → StaysOpen a b steps (opened funder fundee)
+    → AreKeys a b → Opens a b s c funder fundee
     → NoneAddsLate (run a b steps (opened funder fundee))
-none_adds_late a b s c funder fundee steps keys o still =
-    let h = at_end a b s c funder fundee steps keys o still in
+none_adds_late a b s c funder fundee steps keys o =
+    let h = at_end a b s c funder fundee steps keys o in
     (h.hold.x_said.adds, h.hold.y_said.adds)

@@ -6,7 +6,7 @@ use Rattle.ln_pair.proofs.More.{fault_more}
 use Rattle.std.proofs.Common.{None, ◌≡◌, ℕ, ◌+◌, ◌≤◌, List, [], ◌∷◌, ◌++◌, take, refl, sym, ap, ◌∙◌, subst, arith}
 use Rattle.std.proofs.Common.{append_assoc, append-nil, false, zero, suc}
 use Rattle.ln_log.specs.declared.update.Update.{Update as Change}
-use Rattle.ln_pair.proofs.Sides.{Ready, Shutdown, Notice, Update, Sign, Revoke, Again, updates_of}
+use Rattle.ln_pair.proofs.Sides.{Ready, Shutdown, Close, Notice, Update, Sign, Revoke, Again, updates_of}
 use Rattle.ln_pair.proofs.Walk.{Fits, AllFit, Sender, IsBehind, Reads, Anywhere}
 
 -- what is within the limits stays so where more of the peer's updates stand with it
@@ -44,6 +44,7 @@ reads-to w own held all P Q got a c r (Revoke k ∷ ms) f h =
     (h.0, reads-to w own held all P Q got all c (r + 1) ms f h.1)
 reads-to w own held all P Q got a c r (Ready z ∷ ms) f h = reads-to w own held all P Q got a c r ms f h
 reads-to w own held all P Q got a c r (Shutdown z ∷ ms) f h = reads-to w own held all P Q got a c r ms f h
+reads-to w own held all P Q got a c r (Close z ∷ ms) f h = reads-to w own held all P Q got a c r ms f h
 reads-to w own held all P Q got a c r (Again n ∷ ms) f h = absurd h
 
 -- more messages behind
@@ -60,6 +61,7 @@ reads-push w own held all P Q got a c r (Revoke k ∷ ms) ns f h =
     (h.0, reads-push w own held all P Q got all c (r + 1) ms ns f h.1)
 reads-push w own held all P Q got a c r (Ready z ∷ ms) ns f h = reads-push w own held all P Q got a c r ms ns f h
 reads-push w own held all P Q got a c r (Shutdown z ∷ ms) ns f h = reads-push w own held all P Q got a c r ms ns f h
+reads-push w own held all P Q got a c r (Close z ∷ ms) ns f h = reads-push w own held all P Q got a c r ms ns f h
 reads-push w own held all P Q got a c r (Again n ∷ ms) ns f h = absurd h
 
 pub take-begins : (n : ℕ) (us vs : List Change) → (rest : List Change) × (take n us ++ rest ≡ take n (us ++ vs))
@@ -83,6 +85,7 @@ reads-proposed w own more held all Q got a c r (Revoke k ∷ ms) h =
     (h.0, reads-proposed w own more held all Q got all c (r + 1) ms h.1)
 reads-proposed w own more held all Q got a c r (Ready z ∷ ms) h = reads-proposed w own more held all Q got a c r ms h
 reads-proposed w own more held all Q got a c r (Shutdown z ∷ ms) h = reads-proposed w own more held all Q got a c r ms h
+reads-proposed w own more held all Q got a c r (Close z ∷ ms) h = reads-proposed w own more held all Q got a c r ms h
 reads-proposed w own more held all Q got a c r (Again n ∷ ms) h = absurd h
 
 -- the reader signs: it has taken all revocations
@@ -97,6 +100,8 @@ reads-signed w own held all more Q got a c r (Sign k ∷ ms) le h =
 reads-signed w own held all more Q got a c r (Revoke k ∷ ms) le h = absurd (omega (arith, le, h.0.next))
 reads-signed w own held all more Q got a c r (Ready z ∷ ms) le h = reads-signed w own held all more Q got a c r ms le h
 reads-signed w own held all more Q got a c r (Shutdown z ∷ ms) le h =
+    reads-signed w own held all more Q got a c r ms le h
+reads-signed w own held all more Q got a c r (Close z ∷ ms) le h =
     reads-signed w own held all more Q got a c r ms le h
 reads-signed w own held all more Q got a c r (Again n ∷ ms) le h = absurd h
 
@@ -128,6 +133,8 @@ reads-signing w v own held all Q got a c r (Ready z ∷ ms) eo er le e m f h =
     reads-signing w v own held all Q got a c r ms eo er le e m f h
 reads-signing w v own held all Q got a c r (Shutdown z ∷ ms) eo er le e m f h =
     reads-signing w v own held all Q got a c r ms eo er le e m f h
+reads-signing w v own held all Q got a c r (Close z ∷ ms) eo er le e m f h =
+    reads-signing w v own held all Q got a c r ms eo er le e m f h
 reads-signing w v own held all Q got a c r (Again n ∷ ms) eo er le e m f h = absurd h
 
 -- the sender learns: its last signature was accepted
@@ -153,6 +160,8 @@ reads-learned w v own held all Q got a c r (Revoke k ∷ ms) eo er le e m f es h
 reads-learned w v own held all Q got a c r (Ready z ∷ ms) eo er le e m f es h =
     reads-learned w v own held all Q got a c r ms eo er le e m f es h
 reads-learned w v own held all Q got a c r (Shutdown z ∷ ms) eo er le e m f es h =
+    reads-learned w v own held all Q got a c r ms eo er le e m f es h
+reads-learned w v own held all Q got a c r (Close z ∷ ms) eo er le e m f es h =
     reads-learned w v own held all Q got a c r ms eo er le e m f es h
 reads-learned w v own held all Q got a c r (Again n ∷ ms) eo er le e m f es h = absurd h
 
@@ -183,6 +192,8 @@ reads-accepting w v own held all Q got a c r (Ready z ∷ ms) eo er le ec es en 
     reads-accepting w v own held all Q got a c r ms eo er le ec es en em h
 reads-accepting w v own held all Q got a c r (Shutdown z ∷ ms) eo er le ec es en em h =
     reads-accepting w v own held all Q got a c r ms eo er le ec es en em h
+reads-accepting w v own held all Q got a c r (Close z ∷ ms) eo er le ec es en em h =
+    reads-accepting w v own held all Q got a c r ms eo er le ec es en em h
 reads-accepting w v own held all Q got a c r (Again n ∷ ms) eo er le ec es en em h = absurd h
 
 -- what is told of the sender is the same
@@ -211,6 +222,7 @@ IsQuiet (Sign k ∷ ms) = ⊥
 IsQuiet (Revoke k ∷ ms) = ⊥
 IsQuiet (Ready z ∷ ms) = IsQuiet ms
 IsQuiet (Shutdown z ∷ ms) = IsQuiet ms
+IsQuiet (Close z ∷ ms) = IsQuiet ms
 IsQuiet (Again n ∷ ms) = ⊥
 
 pub reads-quiet : (w : Sender) (own held : List Change) (all : ℕ) (Q : List Change → ℕ → ℕ → ℕ
@@ -222,6 +234,7 @@ reads-quiet w own held all Q got a c r (Sign k ∷ ms) ns q h = absurd q
 reads-quiet w own held all Q got a c r (Revoke k ∷ ms) ns q h = absurd q
 reads-quiet w own held all Q got a c r (Ready z ∷ ms) ns q h = reads-quiet w own held all Q got a c r ms ns q h
 reads-quiet w own held all Q got a c r (Shutdown z ∷ ms) ns q h = reads-quiet w own held all Q got a c r ms ns q h
+reads-quiet w own held all Q got a c r (Close z ∷ ms) ns q h = reads-quiet w own held all Q got a c r ms ns q h
 reads-quiet w own held all Q got a c r (Again n ∷ ms) ns q h = absurd q
 
 -- the reader holds more of its own
@@ -235,6 +248,7 @@ reads-held w own h k all Q got a c r (Sign n ∷ ms) f = (f.0, reads-held w own 
 reads-held w own h k all Q got a c r (Revoke n ∷ ms) f = (f.0, reads-held w own h k all Q got all c (r + 1) ms f.1)
 reads-held w own h k all Q got a c r (Ready z ∷ ms) f = reads-held w own h k all Q got a c r ms f
 reads-held w own h k all Q got a c r (Shutdown z ∷ ms) f = reads-held w own h k all Q got a c r ms f
+reads-held w own h k all Q got a c r (Close z ∷ ms) f = reads-held w own h k all Q got a c r ms f
 reads-held w own h k all Q got a c r (Again n ∷ ms) f = absurd f
 
 -- what is lost is a tail
@@ -250,4 +264,5 @@ reads-front w own held all P got a c r (Revoke n ∷ ms) ns f =
     (f.0, reads-front w own held all P got all c (r + 1) ms ns f.1)
 reads-front w own held all P got a c r (Ready z ∷ ms) ns f = reads-front w own held all P got a c r ms ns f
 reads-front w own held all P got a c r (Shutdown z ∷ ms) ns f = reads-front w own held all P got a c r ms ns f
+reads-front w own held all P got a c r (Close z ∷ ms) ns f = reads-front w own held all P got a c r ms ns f
 reads-front w own held all P got a c r (Again n ∷ ms) ns f = absurd f

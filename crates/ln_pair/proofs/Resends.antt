@@ -1,6 +1,6 @@
 -- What an end sends again as a connection comes back is what the walk reads.
 use Rattle.std.proofs.Common.{◌≡◌, ℕ, zero, suc, ◌+◌, List, [], ◌∷◌, ◌++◌, map, take, drop, refl, sym, ap, ◌∙◌, subst}
-use Rattle.std.proofs.Common.{append_assoc, append-nil, Bool, true, false, cond, ◌&&◌, ◌||◌, ◌==◌, None}
+use Rattle.std.proofs.Common.{append_assoc, Bool, true, false, cond, ◌&&◌, ◌||◌, ◌==◌, None}
 use Rattle.ln_msgs.specs.declared.messages.message.Message.{Message}
 use Rattle.ln_msgs.specs.declared.messages.message.Message.TheVariants as message
 use Rattle.ln_msgs.specs.declared.messages.commitments.ChannelReestablish.{ChannelReestablish}
@@ -26,6 +26,10 @@ use Rattle.ln_link.specs.Resume.{one_again, owed_again, sent_again}
 use Rattle.ln_link.specs.Resume as link
 use Rattle.ln_pair.specs.Ends.{messages_in}
 use Rattle.ln_pair.specs.Promises.{is_add, is_shutdown, AddsBefore}
+use Rattle.std.specs.Prelude.{Option, Some, option_map}
+use Rattle.ln_msgs.specs.declared.messages.closing.ClosingSigned.{ClosingSigned}
+use Rattle.ln_link.specs.End.{closing_message}
+use Rattle.ln_pair.proofs.Sides.{closes_of}
 use Rattle.ln_pair.proofs.Sides.{Notice, Sign, Revoke, Ready, Shutdown, Side, opens, updates_of, again_signed}
 use Rattle.ln_pair.proofs.Sides.{signature_owed, revocation_owed, owed, ready_again, shutdown_again, all_owed}
 use Rattle.ln_pair.proofs.Marks.{NoneOpens}
@@ -117,23 +121,34 @@ module _ (k : Signer) (m : ChannelReestablish) (e : End) where
   owed_so Revocation = two (dance.signature_owed k m d) (dance.revocation_owed k m d) (signature_owed n side)
       (revocation_owed r side) (signature_by (lacks_signature m d)) (revocation_by (lacks_revocation m d))
 
-  pub resends_so : e.closing.own_fee ≡ None → messages_in (sent_again k m e) ≡ messages_of c (all_owed n r side)
-  resends_so no_fee =
+  closes_by : (o : Option ℕ) → messages_in (fee_sent k e o)
+      ≡ messages_of c (closes_of (option_map (closing_message k e) o))
+  closes_by None = refl
+  closes_by (Some fee) = refl
+
+  pub resends_so : messages_in (sent_again k m e) ≡ messages_of c (all_owed n r side)
+  resends_so =
       let ra = link.ready_again k m e in
       let ow = owed_again (dance.owed k m d) in
       let sh = link.shutdown_again e in
-      let no : sent_again k m e ≡ (ra ++ ow) ++ sh = ap (λ f. ((ra ++ ow) ++ sh) ++ fee_sent k e f) no_fee
-      ∙ append-nil ((ra ++ ow) ++ sh) in
+      let fe = link.fee_again k e in
       let ready = ready_by (is_before_the_first m d && e.marks.ready_sent) in
-      ap messages_in no ∙ in-append (ra ++ ow) sh ∙ ap (λ ms. ms ++ messages_in sh) (in-append ra ow)
-      ∙ append_assoc (messages_in ra) (messages_in ow) (messages_in sh)
-      ∙ ap (λ ms. ms ++ (messages_in ow ++ messages_in sh)) ready
-      ∙ ap (λ ms. messages_of c (ready_again n side) ++ (ms ++ messages_in sh)) (owed_so d.later)
-      ∙ ap (λ ms. messages_of c (ready_again n side) ++ (messages_of c (owed n r side) ++ ms))
+      in-append ((ra ++ ow) ++ sh) fe ∙ ap (λ ms. ms ++ messages_in fe) (in-append (ra ++ ow) sh
+      ∙ ap (λ ms. ms ++ messages_in sh) (in-append ra ow))
+      ∙ append_assoc (messages_in ra ++ messages_in ow) (messages_in sh) (messages_in fe)
+      ∙ append_assoc (messages_in ra) (messages_in ow) (messages_in sh ++ messages_in fe)
+      ∙ ap (λ ms. ms ++ (messages_in ow ++ (messages_in sh ++ messages_in fe))) ready
+      ∙ ap (λ ms. messages_of c (ready_again n side) ++ (ms ++ (messages_in sh ++ messages_in fe))) (owed_so d.later)
+      ∙ ap (λ ms. messages_of c (ready_again n side) ++ (messages_of c (owed n r side) ++ (ms ++ messages_in fe)))
       (shutdown_by e.closing.shut)
+      ∙ ap (λ ms. messages_of c (ready_again n side)
+      ++ (messages_of c (owed n r side) ++ (messages_of c (shutdown_again side) ++ ms))) (closes_by e.closing.own_fee)
+      ∙ ap (λ ms. messages_of c (ready_again n side) ++ (messages_of c (owed n r side) ++ ms))
+      (sym (messages-append c (shutdown_again side) (closes_of side.close_message)))
       ∙ ap (λ ms. messages_of c (ready_again n side) ++ ms)
-      (sym (messages-append c (owed n r side) (shutdown_again side)))
-      ∙ sym (messages-append c (ready_again n side) (owed n r side ++ shutdown_again side))
+      (sym (messages-append c (owed n r side) (shutdown_again side ++ closes_of side.close_message)))
+      ∙ sym (messages-append c (ready_again n side)
+      (owed n r side ++ (shutdown_again side ++ closes_of side.close_message)))
 
 -- ---- no add behind the own shutdown
 
@@ -205,18 +220,24 @@ module _ (t : Message → Bool) (channel : List ℕ) (x : Side) (n r : ℕ) wher
   ordered true os ps f g = in_two os ps f g
   ordered false os ps f g = in_two ps os g f
 
+  closes_none : (o : Option ClosingSigned) → ((m : ClosingSigned) → t (message.ClosingSigned m) ≡ false)
+      → NoneIs t (messages_of channel (closes_of o))
+  closes_none None f = tt
+  closes_none (Some m) f = (f m, tt)
+
   owed_none : t (message.ChannelReady x.ready_message) ≡ false → t (message.RevokeAndAck x.revocation) ≡ false
-      → t (message.CommitmentSigned x.signature) ≡ false
+      → t (message.CommitmentSigned x.signature) ≡ false → ((m : ClosingSigned) → t (message.ClosingSigned m) ≡ false)
       → NoneIs t (messages_of channel (updates_of (drop x.acked.own (take x.signed.own x.own))))
       → NoneIs t (messages_of channel (shutdown_again x)) → NoneIs t (messages_of channel (all_owed n r x))
-  owed_none er ev es us sh =
+  owed_none er ev es ec us sh =
       let signed = if_any ((n == x.signatures) && (x.signatures == x.revocations + 1)) (again_signed x)
       (in_two (updates_of (drop x.acked.own (take x.signed.own x.own))) (Sign x.signature ∷ []) us (es, tt)) in
       let revoked = if_any (r + 1 == x.number) (Revoke x.revocation ∷ []) (ev, tt) in
-      in_two (ready_again n x) (owed n r x ++ shutdown_again x)
+      in_two (ready_again n x) (owed n r x ++ (shutdown_again x ++ closes_of x.close_message))
       (if_any ((x.number == 0) && (n == 1) && x.ready) (Ready x.ready_message ∷ []) (er, tt))
-      (in_two (owed n r x) (shutdown_again x) (ordered x.late (signature_owed n x)
-      (revocation_owed r x) signed revoked) sh)
+      (in_two (owed n r x) (shutdown_again x ++ closes_of x.close_message)
+      (ordered x.late (signature_owed n x) (revocation_owed r x) signed revoked)
+      (in_two (shutdown_again x) (closes_of x.close_message) sh (closes_none x.close_message ec)))
 
 module _ (channel : List ℕ) (x : Side) (n r : ℕ) (said : List Message) where
   no_again : x.shut ≡ false → messages_of channel (shutdown_again x) ≡ []
@@ -231,7 +252,7 @@ module _ (channel : List ℕ) (x : Side) (n r : ℕ) (said : List Message) where
   said_by true e none h = record {
     adds = adds-more false said (messages_of channel (all_owed n r x)) h.adds
         (adds_none (shut_in false said) (messages_of channel (all_owed n r x))
-        (owed_none is_add channel x n r refl refl refl
+        (owed_none is_add channel x n r refl refl refl (λ m. refl)
         (updates_add_none channel (drop x.acked.own (take x.signed.own x.own)) (none e))
         (shutdown_adds_none x.shut)));
     told = λ f. e;
@@ -239,7 +260,7 @@ module _ (channel : List ℕ) (x : Side) (n r : ℕ) (said : List Message) where
   said_by false e none h =
       let before : shut_in false said ≡ false = before_by (shut_in false said) h.told in
       let quiet : NoneIs is_shutdown (messages_of channel (all_owed n r x)) =
-      owed_none is_shutdown channel x n r refl refl refl
+      owed_none is_shutdown channel x n r refl refl refl (λ m. refl)
       (shutdowns_none channel (drop x.acked.own (take x.signed.own x.own)))
       (subst (NoneIs is_shutdown) (sym (no_again e)) tt) in
       record {

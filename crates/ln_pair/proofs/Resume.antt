@@ -8,6 +8,10 @@ use Rattle.ln_log.specs.Log.{Counts}
 use Rattle.ln_link.specs.declared.link.Line.{Line}
 use Rattle.ln_link.specs.declared.link.Line.TheVariants.{Down, Awaiting, Met}
 use Rattle.ln_msgs.specs.declared.messages.commitments.ChannelReestablish.{ChannelReestablish}
+use Rattle.std.specs.Prelude.{Option, Some, None}
+use Rattle.ln_msgs.specs.declared.messages.closing.ClosingSigned.{ClosingSigned}
+use Rattle.ln_msgs.specs.declared.messages.closing.Shutdown.{Shutdown as ShutdownMessage}
+use Rattle.ln_pair.proofs.Sides.{closes_of}
 use Rattle.ln_pair.proofs.Sides.{Ready, Shutdown, all_owed, ready_again, shutdown_again, Both, Notice, Sign, Revoke}
 use Rattle.ln_pair.proofs.Sides.{Again, Side, posts, dropped, updates_of, again_signed, signature_owed, revocation_owed}
 use Rattle.ln_pair.proofs.Sides.{owed, goes_down, comes_up}
@@ -83,7 +87,8 @@ module _ (x y : Side) (Q : List Change → ℕ → ℕ → ℕ
       (subst (λ us. AllFit x.opening x.role [] (take x.signed.peer x.got) (holds y) us) (sym parts) fit) in
       let fits_there : AllFit x.opening x.role front (take a y.own) (holds y) new =
       subst (λ p. AllFit x.opening x.role front p (holds y) new) (seen ∙ ap (λ m. take m y.own) (sym knows)) fits in
-      let signed : Reads (sender x) y.own (holds y) y.signed.own Q (front ++ new) a y.number r (Sign x.signature ∷ ms) = (
+      let next_one : List Notice = Sign x.signature ∷ ms in
+      let signed : Reads (sender x) y.own (holds y) y.signed.own Q (front ++ new) a y.number r next_one = (
         record { named = refl; next = next; covers = parts; knows = knows },
         subst (λ us. Reads (sender x) y.own (holds y) y.signed.own Q us a (y.number + 1) r ms) (sym parts) h,
       ) in
@@ -196,20 +201,28 @@ quiet_when : (b : Bool) (m : Notice) → IsQuiet (m ∷ []) → IsQuiet (cond b 
 quiet_when true m q = q
 quiet_when false m q = tt
 
+quiet_tail : (b : Bool) (m : ShutdownMessage) (o : Option ClosingSigned)
+    → IsQuiet (cond b (Shutdown m ∷ []) [] ++ closes_of o)
+quiet_tail true m None = tt
+quiet_tail true m (Some w) = tt
+quiet_tail false m None = tt
+quiet_tail false m (Some w) = tt
+
 resumes_all : (x y : Side) → Reads (sender x) y.own (holds y) y.signed.own (All x) y.got y.acked.own y.number
     y.revocations (owed (y.number + 1) y.revocations x)
     → Reads (sender x) y.own (holds y) y.signed.own (All x) y.got y.acked.own y.number y.revocations
     (all_owed (y.number + 1) y.revocations x)
 resumes_all x y h =
     let n = y.number + 1 in
+    let tail = shutdown_again x ++ closes_of x.close_message in
     reads-quiet (sender x) y.own (holds y) y.signed.own (All x) y.got y.acked.own y.number y.revocations
-    (ready_again n x) (owed n y.revocations x ++ shutdown_again x)
+    (ready_again n x) (owed n y.revocations x ++ tail)
     (quiet_when ((x.number == 0) && (n == 1) && x.ready) (Ready x.ready_message) tt)
     (reads-push (sender x) y.own (holds y) y.signed.own (All x) (All x) y.got y.acked.own y.number y.revocations
-    (owed n y.revocations x) (shutdown_again x)
-    (λ g b d s l. subst (λ ms. Reads (sender x) y.own (holds y) y.signed.own (All x) g b d s ms)
-    (append-nil (shutdown_again x)) (reads-quiet (sender x) y.own (holds y) y.signed.own (All x) g b d s
-    (shutdown_again x) [] (quiet_when x.shut (Shutdown x.shut_message) tt) l)) h)
+    (owed n y.revocations x) tail
+    (λ g b d s l. subst (λ ms. Reads (sender x) y.own (holds y) y.signed.own (All x) g b d s ms) (append-nil tail)
+    (reads-quiet (sender x) y.own (holds y) y.signed.own (All x) g b d s tail []
+    (quiet_tail x.shut x.shut_message x.close_message) l)) h)
 
 -- ---- x takes the reestablish
 

@@ -1,4 +1,5 @@
 -- What is due in front of an end is taken by its rows.
+use Rattle.std.proofs.Common.{◌&&◌}
 use Rattle.std.proofs.Common.{◌≡◌, ℕ, ◌+◌, ◌<◌, ◌^◌, List, length, take, refl, sym, ap, ◌∙◌, arith, Bool, true, false}
 use Rattle.std.proofs.Common.{cond, not, ◌||◌, ◌==◌, nat_le, option_map, Option, Some, None, Ok, inl, inr}
 use Rattle.std.proofs.lemmas.Bool.Decides.{eqb_tells}
@@ -26,7 +27,7 @@ use Rattle.ln_dance.specs.Reconnect.{HasSigned, HasRevoked}
 use Rattle.ln_dance.proofs.Faces.{accepted, learned, told}
 use Rattle.ln_dance.proofs.Parted.{signed_again, revoked_again}
 use Rattle.ln_link.specs.Opening.{unless}
-use Rattle.ln_link.specs.End.{End, is_ready, has_begun, quiet}
+use Rattle.ln_link.specs.End.{End, is_ready, is_settled, quiet}
 use Rattle.ln_link.specs.Taking.{takes, late_fault, early_fault, update_fault, update_row, signature_fault}
 use Rattle.ln_link.specs.Taking.{signature_row, accepting, accepts, learning, revokes, revocation_row, message_row}
 use Rattle.ln_pair.proofs.Sides.{opens}
@@ -54,13 +55,17 @@ id_sent us (update.Fee f) = refl
 pub room_sent : (us : List Change) → is_at_update_limit (all_sent us) ≡ is_at_update_limit us
 room_sent us = ap (λ n. nat_le 4611686018427387904 n) (length-sent us)
 
-late_none : (e : End) (u : Change) → IsAllowed (opens u) e.closing.peer_shut
-    → has_begun e ≡ false → late_fault e u ≡ None
-late_none e (update.Add a) may b = ap (λ s. cond s (Some refusal.AddAfterShutdown) None) may
-late_none e (update.Fulfil f) may b = refl
-late_none e (update.Fail f) may b = refl
-late_none e (update.Malformed m) may b = refl
-late_none e (update.Fee f) may b = ap (λ s. cond s (Some refusal.OutOfPlace) None) b
+unbegun : (s p t : Bool) → p ≡ false → (s && (p && t)) ≡ false
+unbegun true p t e = ap (λ b. b && t) e
+unbegun false p t e = refl
+
+late_none : (e : End) (u : Change) → IsAllowed (opens u) e.closing.peer_shut → late_fault e u ≡ None
+late_none e (update.Add a) may = ap (λ s. cond s (Some refusal.AddAfterShutdown) None) may
+late_none e (update.Fulfil f) may = refl
+late_none e (update.Fail f) may = refl
+late_none e (update.Malformed m) may = refl
+late_none e (update.Fee f) may = ap (λ s. cond s (Some refusal.OutOfPlace) None)
+    (unbegun e.closing.shut e.closing.peer_shut (is_settled e.dance.log) may)
 
 early_none : (ready full : Bool) (f : Option Refusal) → ready ≡ true → full ≡ false → f ≡ None
     → cond (not ready || full) (Some refusal.OutOfPlace) f ≡ None
@@ -101,15 +106,14 @@ unlimited o r e u eo er f =
     ∙ f.within))
 
 pub update_taken : (o : Opening) (r : Role) (e : End) (u : Change) → e.dance.log.opening ≡ o
-    → other_role e.dance.log.role ≡ r → is_ready e ≡ true → has_begun e ≡ false
-    → IsAllowed (opens u) e.closing.peer_shut
+    → other_role e.dance.log.role ≡ r → is_ready e ≡ true → IsAllowed (opens u) e.closing.peer_shut
     → Fits o r (all_sent e.dance.log.received) (take e.dance.log.acknowledged.own (all_sent e.dance.log.own))
     (take e.dance.log.current.own (all_sent e.dance.log.own)) u → update_row u e ≡ Ok (quiet (takes u e))
-update_taken o r e u eo er ready b may f =
+update_taken o r e u eo er ready may f =
     unless_none (update_fault e u) (quiet (takes u e))
     (firsts (early_fault e u) (taken_fault e.dance.log u)
     (early_none (is_ready e) (is_at_update_limit e.dance.log.received) (late_fault e u) ready
-    (sym (room_sent e.dance.log.received) ∙ f.room) (late_none e u may b))
+    (sym (room_sent e.dance.log.received) ∙ f.room) (late_none e u may))
     (unlimited o r e u eo er f))
 
 -- ---- an update of its own

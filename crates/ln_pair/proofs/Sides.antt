@@ -11,8 +11,10 @@ use Rattle.ln_msgs.specs.declared.messages.commitments.CommitmentSigned.{Commitm
 use Rattle.ln_msgs.specs.declared.messages.commitments.RevokeAndAck.{RevokeAndAck}
 use Rattle.ln_msgs.specs.declared.messages.commitments.ChannelReestablish.{ChannelReestablish}
 use Rattle.ln_msgs.specs.declared.messages.opening.ChannelReady.{ChannelReady}
+use Rattle.ln_msgs.specs.declared.messages.closing.ClosingSigned.{ClosingSigned}
 use Rattle.ln_msgs.specs.declared.messages.closing.Shutdown.{Shutdown as ShutdownMessage}
 use Rattle.std.specs.Prelude.{ℕ, ◌+◌, List, [], ◌∷◌, ◌++◌, length, take, drop, Bool, true, false, ◌==◌, if◌then◌else◌}
+use Rattle.std.specs.Prelude.{Option, Some, None, is_some}
 use Rattle.std.specs.Prelude.{◌&&◌}
 
 -- no add and no fee follows a shutdown
@@ -29,6 +31,7 @@ pub data Notice : Type 0 where
   Revoke : (m : RevokeAndAck) → Notice
   Ready : (m : ChannelReady) → Notice
   Shutdown : (m : ShutdownMessage) → Notice
+  Close : (m : ClosingSigned) → Notice
   Again : (m : ChannelReestablish) → Notice
 
 -- what a record keeps, and the updates that no signature covers
@@ -47,11 +50,13 @@ pub record Side : Type 0 where
   pub peer_ready : Bool  -- it has taken the peer's
   pub shut : Bool  -- it has sent shutdown
   pub peer_shut : Bool  -- it has taken the peer's
+  pub closed : Bool  -- it has closed
   pub late : Bool  -- of its last signature and its last revocation, the revocation was sent later
   pub signature : CommitmentSigned  -- its last signature, as it would send it again
   pub revocation : RevokeAndAck  -- its last revocation, likewise
   pub ready_message : ChannelReady  -- its channel_ready
   pub shut_message : ShutdownMessage  -- its shutdown
+  pub close_message : Option ClosingSigned  -- its last closing_signed, where it has sent one
   pub reestablish : ChannelReestablish  -- what it would tell as a connection comes back
 
 pub record Both : Type 0 where
@@ -130,8 +135,12 @@ ready_again n x = if (x.number == 0) && (n == 1) && x.ready then Ready x.ready_m
 abbrev pub shutdown_again : Side → List Notice
 shutdown_again x = if x.shut then Shutdown x.shut_message ∷ [] else []
 
+abbrev pub closes_of : Option ClosingSigned → List Notice
+closes_of None = []
+closes_of (Some m) = Close m ∷ []
+
 abbrev pub all_owed : ℕ → ℕ → Side → List Notice
-all_owed n r x = ready_again n x ++ (owed n r x ++ shutdown_again x)
+all_owed n r x = ready_again n x ++ (owed n r x ++ (shutdown_again x ++ closes_of x.close_message))
 
 -- ---- steps of x
 
@@ -149,6 +158,13 @@ shuts m b = record b {
   x = record b.x { shut = true; shut_message = m };
   to_y = posts b.y_link (Shutdown m ∷ []) b.to_y;
 }
+
+-- with this closing_signed as its last, and closed or not
+abbrev pub dealt : Option ClosingSigned → Bool → Side → Side
+dealt m closed x = record x { close_message = m; closed = closed }
+
+abbrev pub has_bid : Side → Bool
+has_bid x = is_some x.close_message
 
 abbrev pub goes_down : Both → Both
 goes_down b = record b { x_link = Down; x = dropped b.x; to_x = [] }

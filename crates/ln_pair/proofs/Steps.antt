@@ -1,4 +1,5 @@
 -- What every step of two ends keeps.
+use Rattle.std.proofs.Common.{take, is_some}
 use Rattle.std.proofs.Common.{◌≡◌, ℕ, zero, suc, ◌+◌, ◌<◌, ◌≤◌, ◌^◌, List, [], ◌∷◌, ◌++◌, length, refl, sym, ap, ◌∙◌}
 use Rattle.std.proofs.Common.{subst, arith, Bool, true, false, cond, not, ◌&&◌, ◌||◌, ◌==◌, Option, Some, None, inl}
 use Rattle.std.proofs.Common.{inr}
@@ -32,6 +33,14 @@ use Rattle.ln_link.specs.Commands.{sign_command_fault, signs_next, shut_fault, s
 use Rattle.ln_pair.specs.Promises.{AreKeys, is_add, is_shutdown, AddsBefore}
 use Rattle.ln_link.specs.declared.link.Line.{Line}
 use Rattle.ln_link.specs.declared.link.Line.TheVariants.{Down, Awaiting, Met}
+use Rattle.std.proofs.lemmas.Bool.{eq-eqb}
+use Rattle.ln_msgs.specs.declared.messages.closing.ClosingSigned.{ClosingSigned}
+use Rattle.ln_log.specs.Log.{same_counts}
+use Rattle.ln_pair.proofs.Ending.{HasBegun, Ending, covers_all, allowed_own, no_removal, held_none, not_due, not_next}
+use Rattle.ln_pair.proofs.Ending.{still, no_proposal}
+use Rattle.ln_pair.proofs.Flow.{kept_close, kept_skipped, kept_dealt}
+use Rattle.ln_pair.proofs.Telling.{IsStill, told_close, told_skipped, told_dealt}
+use Rattle.ln_pair.proofs.Sides.{Close, closes_of, dealt, has_bid}
 use Rattle.ln_pair.proofs.Sides.{Both, Notice, Update, Sign, Revoke, Ready, Shutdown, Side, posts, opens, received}
 use Rattle.ln_pair.proofs.Sides.{proposed, signed_all, accepted_all, acknowledged_all}
 use Rattle.ln_pair.proofs.Walk.{Phase, Idle, Sent, Answered, holds, sender, Reads, LacksNothing, Anywhere, Carries}
@@ -95,8 +104,6 @@ pub record Knows (k : Signer) (x y : End) : Type 0 where
   pub next_point : x.marks.ready_received ≡ true → x.dance.peer.next_point ≡ k.point_of (x.dance.numbers.revoked + 1)
   pub below : x.dance.numbers.signed < 2 ^ 48
   pub script : IsScript x.closing.peer_shut x.terms.peer_script y.terms.script
-  pub not_closed : is_closed x ≡ false
-  pub no_fee : x.closing.own_fee ≡ None
   pub secret : (n : ℕ) → x.dance.numbers.revoked ≡ n + 1 → x.dance.peer.secret ≡ Some (k.secret_of n)
 
 -- ---- the whole
@@ -108,6 +115,8 @@ pub record Hold (a b : Signer) (channel : List ℕ) (lx ly : Line) (x y : End) (
     (said_x said_y : List Message) : Type 0 where
   pub kept : Kept (both lx ly (side_of a x) (side_of b y) to_x to_y)
   pub told : BothTold (both lx ly (side_of a x) (side_of b y) to_x to_y)
+  pub ended : Ending (side_of a x) (side_of b y)
+  pub ended_back : Ending (side_of b y) (side_of a x)
   pub x_channel : x.dance.channel ≡ channel
   pub y_channel : y.dance.channel ≡ channel
   pub x_knows : Knows b x y
@@ -121,6 +130,8 @@ pub flip : (a b : Signer) (channel : List ℕ) (lx ly : Line) (x y : End) (to_x 
 flip a b channel lx ly x y to_x to_y said_x said_y h = record {
   kept = record { there = h.kept.back; back = h.kept.there };
   told = record { there = h.told.back; back = h.told.there };
+  ended = h.ended_back;
+  ended_back = h.ended;
   x_channel = h.y_channel;
   y_channel = h.x_channel;
   x_knows = h.y_knows;
@@ -136,6 +147,8 @@ pub numbered : (a b : Signer) (channel : List ℕ) (lx ly : Line) (x y : End) (t
 numbered a b channel lx ly x y to_x to_y said_x said_y l h = record {
   kept = h.kept;
   told = h.told;
+  ended = h.ended;
+  ended_back = h.ended_back;
   x_channel = h.x_channel;
   y_channel = h.y_channel;
   x_knows = record {
@@ -143,8 +156,6 @@ numbered a b channel lx ly x y to_x to_y said_x said_y l h = record {
     next_point = h.x_knows.next_point;
     below = h.x_knows.below;
     script = h.x_knows.script;
-    not_closed = h.x_knows.not_closed;
-    no_fee = h.x_knows.no_fee;
     secret = h.x_knows.secret;
   };
   y_knows = record {
@@ -152,8 +163,6 @@ numbered a b channel lx ly x y to_x to_y said_x said_y l h = record {
     next_point = h.y_knows.next_point;
     below = h.y_knows.below;
     script = h.y_knows.script;
-    not_closed = h.y_knows.not_closed;
-    no_fee = h.y_knows.no_fee;
     secret = h.y_knows.secret;
   };
   x_said = h.x_said;
@@ -255,7 +264,13 @@ pub front_told : (ly : Line) (x y : Side) (n : Notice) (ns : List Notice) → Sp
     → Tells (teller y x) ToldAny x.peer_ready x.peer_shut (n ∷ ns)
 front_told Down x y n ns h = h
 front_told Awaiting x y n ns h = absurd (cc)
-front_told Met x y n ns h = tells-any (teller y x) (ToldAll y.ready y.shut) x.peer_ready x.peer_shut (n ∷ ns) h
+front_told Met x y n ns h = tells-any (teller y x) (ToldAll y.ready y.shut x.closed) x.peer_ready x.peer_shut (n ∷ ns) h
+
+unsigned : (q s : Bool) → cond q (cond s (Some refusal.NothingToSign) None) (Some refusal.SignatureOutstanding) ≡ None
+    → (q ≡ true) × (s ≡ false)
+unsigned true true e = absurd (cc)
+unsigned true false e = (refl, refl)
+unsigned false s e = absurd (cc)
 
 module _ (a b : Signer) (keys : AreKeys a b) (channel : List ℕ) (ly : Line) (x y : End)
     (said_x said_y : List Message) where
@@ -269,11 +284,14 @@ module _ (a b : Signer) (keys : AreKeys a b) (channel : List ℕ) (ly : Line) (x
   moved : (n : End) (side : Side) (to_x to_y rest sent : List Notice) (said : List Message) → side_of a n ≡ side
       → Hold a b channel Met ly x y to_x to_y said_x said_y
       → Kept (both Met ly side (side_of b y) rest sent) → BothTold (both Met ly side (side_of b y) rest sent)
+      → Ending side (side_of b y) → Ending (side_of b y) side
       → n.dance.channel ≡ x.dance.channel → Knows b n y → Knows a y n → Said n.closing.shut said
       → Hold a b channel Met ly n y rest sent said said_y
-  moved n side to_x to_y rest sent said e h k t c kn kp s = record {
+  moved n side to_x to_y rest sent said e h k t d db c kn kp s = record {
     kept = subst (λ z. Kept (both Met ly z (side_of b y) rest sent)) (sym e) k;
     told = subst (λ z. BothTold (both Met ly z (side_of b y) rest sent)) (sym e) t;
+    ended = subst (λ z. Ending z (side_of b y)) (sym e) d;
+    ended_back = subst (λ z. Ending (side_of b y) z) (sym e) db;
     x_channel = c ∙ h.x_channel;
     y_channel = h.y_channel;
     x_knows = kn;
@@ -281,6 +299,32 @@ module _ (a b : Signer) (keys : AreKeys a b) (channel : List ℕ) (ly : Line) (x
     x_said = s;
     y_said = h.y_said;
   }
+
+  -- of an end that has begun nothing moves: what x becomes by such a step
+  unmoved : (n : Side) → (HasBegun (side_of a x) → ⊥)
+      → (n.signatures ≡ n.revocations + 1 → n.acked.own ≡ n.signed.own → n.acked.peer ≡ n.signed.peer → ⊥)
+      → has_bid n ≡ has_bid (side_of a x) → n.closed ≡ (side_of a x).closed → Ending (side_of a x) (side_of b y)
+      → Ending n (side_of b y)
+  unmoved n none news eb ec e = record {
+    news = news;
+    begun = λ q. absurd (none (e.begun (sym eb ∙ q)));
+    closed = λ q. absurd (none (e.closed (sym ec ∙ q)));
+    answered = λ q. eb ∙ e.answered q;
+  }
+
+  back_same : (n : Side) → n.closed ≡ (side_of a x).closed → Ending (side_of b y) (side_of a x) → Ending (side_of b y) n
+  back_same n ec e = record {
+    news = e.news;
+    begun = e.begun;
+    closed = e.closed;
+    answered = λ q. e.answered (sym ec ∙ q);
+  }
+
+  -- y isn't closed while x may still move
+  not_closed : (HasBegun (side_of a x) → ⊥) → Ending (side_of a x) (side_of b y) → (c : Bool) → (side_of b y).closed ≡ c
+      → (side_of b y).closed ≡ false
+  not_closed none e true q = absurd (none (e.begun (e.answered q)))
+  not_closed none e false q = q
 
   -- ---- x takes an update
 
@@ -291,19 +335,23 @@ module _ (a b : Signer) (keys : AreKeys a b) (channel : List ℕ) (ly : Line) (x
       let l = x.dance.log in
       let f = h.kept.there in
       let fits = (front_reads ly x_side y_side (Update u) ns h.kept.back.flight).0 in
+      let allowed = (front_told ly x_side y_side (Update u) ns h.told.back.speech).2 in
+      let none : HasBegun x_side → ⊥ = λ q. no_removal y_side.opening y_side.role x_side.got
+      (take x_side.acked.own x_side.own) (holds x_side) u (held_none x_side q)
+      (allowed_own (opens u) x_side.peer_shut allowed q.shut_taken) fits in
       moved (takes u x) (received u (side_of a x)) (Update u ∷ ns) to_y ns to_y said_x
       (takes_so a x u fits.sent (omega (arith, f.within.peer_signed, f.within.peer_current, length-sent l.received)))
       h
       (kept_update ly (side_of a x) (side_of b y) u ns to_y h.kept)
       (told_update ly (side_of a x) (side_of b y) u ns to_y h.told)
+      (unmoved (received u x_side) none h.ended.news refl refl h.ended)
+      (back_same (received u x_side) refl h.ended_back)
       refl
       (record {
         point = h.x_knows.point;
         next_point = h.x_knows.next_point;
         below = h.x_knows.below;
         script = h.x_knows.script;
-        not_closed = h.x_knows.not_closed;
-        no_fee = h.x_knows.no_fee;
         secret = h.x_knows.secret;
       })
       (record {
@@ -311,8 +359,6 @@ module _ (a b : Signer) (keys : AreKeys a b) (channel : List ℕ) (ly : Line) (x
         next_point = h.y_knows.next_point;
         below = h.y_knows.below;
         script = h.y_knows.script;
-        not_closed = h.y_knows.not_closed;
-        no_fee = h.y_knows.no_fee;
         secret = h.y_knows.secret;
       })
       h.x_said
@@ -325,18 +371,21 @@ module _ (a b : Signer) (keys : AreKeys a b) (channel : List ℕ) (ly : Line) (x
       (said_x ++ message.RevokeAndAck (revoked_message a x.dance) ∷ []) said_y
   took_sign m ns to_y h =
       let z = revoked_message a x.dance in
+      let due = (front_reads ly x_side y_side (Sign m) ns h.kept.back.flight).0 in
+      let none : HasBegun x_side → ⊥ = λ q. not_due Met ly x_side y_side (Sign m ∷ ns)
+      h.kept.back h.ended_back q m due in
       moved (accepts x) (accepted_all z (reestablish_message a (accepts x).dance) x_side) (Sign m ∷ ns) to_y ns
       (posts ly (Revoke z ∷ []) to_y) (said_x ++ message.RevokeAndAck z ∷ []) (accepts_so a x) h
       (kept_sign ly z (reestablish_message a (accepts x).dance) x_side y_side m ns to_y h.kept)
       (told_sign ly z (reestablish_message a (accepts x).dance) x_side y_side m ns to_y h.told)
+      (unmoved (accepted_all z (reestablish_message a (accepts x).dance) x_side) none h.ended.news refl refl h.ended)
+      (back_same (accepted_all z (reestablish_message a (accepts x).dance) x_side) refl h.ended_back)
       refl
       (record {
         point = h.x_knows.point;
         next_point = h.x_knows.next_point;
         below = h.x_knows.below;
         script = h.x_knows.script;
-        not_closed = h.x_knows.not_closed;
-        no_fee = h.x_knows.no_fee;
         secret = h.x_knows.secret;
       })
       (record {
@@ -344,8 +393,6 @@ module _ (a b : Signer) (keys : AreKeys a b) (channel : List ℕ) (ly : Line) (x
         next_point = h.y_knows.next_point;
         below = h.y_knows.below;
         script = h.y_knows.script;
-        not_closed = h.y_knows.not_closed;
-        no_fee = h.y_knows.no_fee;
         secret = h.y_knows.secret;
       })
       (said_more x.closing.shut x.closing.shut said_x (message.RevokeAndAck z) (λ e. absurd (cc)) (λ e. e)
@@ -371,19 +418,22 @@ module _ (a b : Signer) (keys : AreKeys a b) (channel : List ℕ) (ly : Line) (x
   took_revoke m ns to_y h =
       let z = signature_again a (revokes m x).dance in
       let one = outstanding m ns to_y h in
+      let next = (front_reads ly x_side y_side (Revoke m) ns h.kept.back.flight).0 in
+      let none : HasBegun x_side → ⊥ = λ q. not_next Met ly x_side y_side to_y h.kept.there h.ended q m next in
       moved (revokes m x) (acknowledged_all z (reestablish_message a (revokes m x).dance) x_side) (Revoke m ∷ ns)
       to_y ns to_y said_x refl h
       (kept_revoke ly z (reestablish_message a (revokes m x).dance) x_side y_side m ns to_y h.kept)
       (told_revoke ly z (reestablish_message a (revokes m x).dance) x_side y_side m ns to_y
       h.kept.there.within.own_acked h.told)
+      (unmoved (acknowledged_all z (reestablish_message a (revokes m x).dance) x_side) none
+      (λ e f g. absurd (omega (arith, e, one))) refl refl h.ended)
+      (back_same (acknowledged_all z (reestablish_message a (revokes m x).dance) x_side) refl h.ended_back)
       refl
       (record {
         point = h.x_knows.next_point (h.told.there.used_signature (omega (arith, one))).taken;
         next_point = λ e. next_told b x.dance y.dance m (is_told m ns to_y h);
         below = h.x_knows.below;
         script = h.x_knows.script;
-        not_closed = h.x_knows.not_closed;
-        no_fee = h.x_knows.no_fee;
         secret = λ n e. ap (λ (q : RevokeAndAck). Some q.secret) (is_told m ns to_y h).1
             ∙ ap (λ i. Some (b.secret_of i)) (let i : x.dance.numbers.revoked ≡ n = omega (arith, e) in i);
       })
@@ -392,13 +442,104 @@ module _ (a b : Signer) (keys : AreKeys a b) (channel : List ℕ) (ly : Line) (x
         next_point = h.y_knows.next_point;
         below = h.y_knows.below;
         script = h.y_knows.script;
-        not_closed = h.y_knows.not_closed;
-        no_fee = h.y_knows.no_fee;
         secret = h.y_knows.secret;
       })
       h.x_said
 
   -- ---- channel_ready
+
+  took_open : x.marks.ready_received ≡ false → is_closed x ≡ false → (m : ChannelReady) (ns to_y : List Notice)
+      → Hold a b channel Met ly x y (Ready m ∷ ns) to_y said_x said_y
+      → Hold a b channel Met ly (takes_ready m x) y ns to_y said_x said_y
+  took_open e unclosed m ns to_y h =
+      let n : End = record x {
+        marks = record {
+          short_id = x.marks.short_id;
+          ready_sent = x.marks.ready_sent;
+          ready_received = true;
+        };
+        dance = with_next_point m.second_point x.dance;
+      } in
+      let none : 1 ≤ x.dance.numbers.signed → ⊥ = λ i. absurd (let d : false ≡ true = sym e
+      ∙ (h.told.there.used_signature i).taken in cc) in
+      let zero_signed : x.dance.numbers.signed ≡ 0 = none_at x.dance.numbers.signed none in
+      let within = revoked_within x_side.signatures x_side.revocations y_side.number x_side.acked x_side.signed
+      y_side.current h.kept.there.phase in
+      let first : x.dance.numbers.revoked + 1 ≡ 1 = omega (arith, zero_signed, within) in
+      let goes : takes_ready m x ≡ n = ap (λ (r : Bool). cond (r || is_closed x) x n) e
+      ∙ ap (λ (r : Bool). cond r x n) unclosed in
+      let told : m ≡ ready_message b y = (front_told ly x_side y_side (Ready m) ns h.told.back.speech).1 in
+      subst (λ q. Hold a b channel Met ly q y ns to_y said_x said_y) (sym goes)
+      (moved n (record x_side { peer_ready = true; signature = signature_again a n.dance }) (Ready m ∷ ns)
+      to_y ns to_y said_x refl h
+      (kept_ready ly m (signature_again a n.dance) x_side y_side ns to_y
+      (λ os k. carries_first (signature_again a n.dance) x_side y_side os
+      (none_signed x.dance.numbers.signed y_side.number none) k) h.kept)
+      (told_ready ly m (signature_again a n.dance) x_side y_side ns to_y h.told)
+      (record { news = h.ended.news; begun = h.ended.begun; closed = h.ended.closed; answered = h.ended.answered })
+      (record {
+        news = h.ended_back.news;
+        begun = h.ended_back.begun;
+        closed = h.ended_back.closed;
+        answered = h.ended_back.answered;
+      })
+      refl
+      (record {
+        point = h.x_knows.point;
+        next_point = λ d. ap (λ (q : ChannelReady). q.second_point) told ∙ ap b.point_of (sym first);
+        below = h.x_knows.below;
+        script = h.x_knows.script;
+        secret = h.x_knows.secret;
+      })
+      (record {
+        point = h.y_knows.point;
+        next_point = h.y_knows.next_point;
+        below = h.y_knows.below;
+        script = h.y_knows.script;
+        secret = h.y_knows.secret;
+      })
+      h.x_said)
+
+  -- a closed end passes it over
+  took_closed : is_closed x ≡ true → (m : ChannelReady) (ns to_y : List Notice)
+      → Hold a b channel Met ly x y (Ready m ∷ ns) to_y said_x said_y
+      → Hold a b channel Met ly x y ns to_y said_x said_y
+  took_closed is m ns to_y h =
+      let nothing : IsStill (Ready m ∷ ns) = still ly x_side y_side to_y (Ready m ∷ ns) h.kept.there h.kept.back
+      h.told.back h.ended h.ended_back (h.ended.closed is) in
+      record {
+        kept = kept_skipped ly m x_side y_side ns to_y h.kept;
+        told = told_skipped ly m x_side y_side ns to_y is nothing h.told;
+        ended = h.ended;
+        ended_back = h.ended_back;
+        x_channel = h.x_channel;
+        y_channel = h.y_channel;
+        x_knows = h.x_knows;
+        y_knows = h.y_knows;
+        x_said = h.x_said;
+        y_said = h.y_said;
+      }
+
+  or_true : (r : Bool) → (r || true) ≡ true
+  or_true true = refl
+  or_true false = refl
+
+  took_unready : (c : Bool) → is_closed x ≡ c → x.marks.ready_received ≡ false
+      → (m : ChannelReady) (ns to_y : List Notice) → Hold a b channel Met ly x y (Ready m ∷ ns) to_y said_x said_y
+      → Hold a b channel Met ly (takes_ready m x) y ns to_y said_x said_y
+  took_unready true is e m ns to_y h =
+      let n : End = record x {
+        marks = record {
+          short_id = x.marks.short_id;
+          ready_sent = x.marks.ready_sent;
+          ready_received = true;
+        };
+        dance = with_next_point m.second_point x.dance;
+      } in
+      let same : takes_ready m x ≡ x = ap (λ (c : Bool). cond (x.marks.ready_received || c) x n) is
+      ∙ ap (λ (c : Bool). cond c x n) (or_true x.marks.ready_received) in
+      subst (λ q. Hold a b channel Met ly q y ns to_y said_x said_y) (sym same) (took_closed is m ns to_y h)
+  took_unready false is e m ns to_y h = took_open e is m ns to_y h
 
   took_ready_by : (r : Bool) → x.marks.ready_received ≡ r → (m : ChannelReady) (ns to_y : List Notice)
       → Hold a b channel Met ly x y (Ready m ∷ ns) to_y said_x said_y
@@ -418,52 +559,15 @@ module _ (a b : Signer) (keys : AreKeys a b) (channel : List ℕ) (ly : Line) (x
       (ap (λ r. record x_side { peer_ready = r }) e) h
       (kept_ready ly m x_side.signature x_side y_side ns to_y (λ os k. k) h.kept)
       (told_ready ly m x_side.signature x_side y_side ns to_y h.told)
+      (record { news = h.ended.news; begun = h.ended.begun; closed = h.ended.closed; answered = h.ended.answered })
+      (record {
+        news = h.ended_back.news;
+        begun = h.ended_back.begun;
+        closed = h.ended_back.closed;
+        answered = h.ended_back.answered;
+      })
       refl h.x_knows h.y_knows h.x_said)
-  took_ready_by false e m ns to_y h =
-      let n : End = record x {
-        marks = record {
-          short_id = x.marks.short_id;
-          ready_sent = x.marks.ready_sent;
-          ready_received = true;
-        };
-        dance = with_next_point m.second_point x.dance;
-      } in
-      let none : 1 ≤ x.dance.numbers.signed → ⊥ = λ i. absurd (let d : false ≡ true = sym e
-      ∙ (h.told.there.used_signature i).taken in cc) in
-      let zero_signed : x.dance.numbers.signed ≡ 0 = none_at x.dance.numbers.signed none in
-      let within = revoked_within x_side.signatures x_side.revocations y_side.number x_side.acked x_side.signed
-      y_side.current h.kept.there.phase in
-      let first : x.dance.numbers.revoked + 1 ≡ 1 = omega (arith, zero_signed, within) in
-      let goes : takes_ready m x ≡ n = ap (λ (r : Bool). cond (r || is_closed x) x n) e
-      ∙ ap (λ (r : Bool). cond r x n) h.x_knows.not_closed in
-      let told : m ≡ ready_message b y = (front_told ly x_side y_side (Ready m) ns h.told.back.speech).1 in
-      subst (λ q. Hold a b channel Met ly q y ns to_y said_x said_y) (sym goes)
-      (moved n (record x_side { peer_ready = true; signature = signature_again a n.dance }) (Ready m ∷ ns)
-      to_y ns to_y said_x refl h
-      (kept_ready ly m (signature_again a n.dance) x_side y_side ns to_y
-      (λ os k. carries_first (signature_again a n.dance) x_side y_side os
-      (none_signed x.dance.numbers.signed y_side.number none) k) h.kept)
-      (told_ready ly m (signature_again a n.dance) x_side y_side ns to_y h.told)
-      refl
-      (record {
-        point = h.x_knows.point;
-        next_point = λ d. ap (λ (q : ChannelReady). q.second_point) told ∙ ap b.point_of (sym first);
-        below = h.x_knows.below;
-        script = h.x_knows.script;
-        not_closed = h.x_knows.not_closed;
-        no_fee = h.x_knows.no_fee;
-        secret = h.x_knows.secret;
-      })
-      (record {
-        point = h.y_knows.point;
-        next_point = h.y_knows.next_point;
-        below = h.y_knows.below;
-        script = h.y_knows.script;
-        not_closed = h.y_knows.not_closed;
-        no_fee = h.y_knows.no_fee;
-        secret = h.y_knows.secret;
-      })
-      h.x_said)
+  took_ready_by false e m ns to_y h = took_unready (is_closed x) refl e m ns to_y h
 
   pub took_ready : (m : ChannelReady) (ns to_y : List Notice)
       → Hold a b channel Met ly x y (Ready m ∷ ns) to_y said_x said_y
@@ -471,6 +575,27 @@ module _ (a b : Signer) (keys : AreKeys a b) (channel : List ℕ) (ly : Line) (x
   took_ready m ns to_y h = took_ready_by x.marks.ready_received refl m ns to_y h
 
   -- ---- shutdown
+
+  taken_shut : HasBegun x_side → HasBegun (record x_side { peer_shut = true })
+  taken_shut q = record {
+    shut_sent = q.shut_sent;
+    shut_taken = refl;
+    own_acked = q.own_acked;
+    own_current = q.own_current;
+    peer_current = q.peer_current;
+    peer_acked = q.peer_acked;
+    none_own =
+        q.none_own;
+    none_got = q.none_got;
+  }
+
+  shut_ended : Ending x_side y_side → Ending (record x_side { peer_shut = true }) y_side
+  shut_ended e = record {
+    news = e.news;
+    begun = λ q. taken_shut (e.begun q);
+    closed = λ q. taken_shut (e.closed q);
+    answered = e.answered;
+  }
 
   -- a repeated one changes nothing
   pub took_shutdown_again : (m : ShutdownMessage) (ns to_y : List Notice) → x.closing.peer_shut ≡ true
@@ -481,6 +606,12 @@ module _ (a b : Signer) (keys : AreKeys a b) (channel : List ℕ) (ly : Line) (x
       (ap (λ r. record x_side { peer_shut = r }) e) h
       (kept_shutdown ly m x_side y_side ns to_y h.kept)
       (told_shutdown ly m x_side y_side ns to_y h.told)
+      (shut_ended h.ended) (record {
+        news = h.ended_back.news;
+        begun = h.ended_back.begun;
+        closed = h.ended_back.closed;
+        answered = h.ended_back.answered;
+      })
       refl h.x_knows h.y_knows h.x_said
 
   pub took_shutdown : (m : ShutdownMessage) (ns to_y : List Notice)
@@ -491,15 +622,18 @@ module _ (a b : Signer) (keys : AreKeys a b) (channel : List ℕ) (ly : Line) (x
       moved (shuts_by_peer m x) (record x_side { peer_shut = true }) (Shutdown m ∷ ns) to_y ns to_y said_x refl h
       (kept_shutdown ly m x_side y_side ns to_y h.kept)
       (told_shutdown ly m x_side y_side ns to_y h.told)
+      (shut_ended h.ended) (record {
+        news = h.ended_back.news;
+        begun = h.ended_back.begun;
+        closed = h.ended_back.closed;
+        answered = h.ended_back.answered;
+      })
       refl
       (record {
         point = h.x_knows.point;
         next_point = h.x_knows.next_point;
         below = h.x_knows.below;
         script = ap (λ (q : ShutdownMessage). Some q.script) told;
-        not_closed = h.x_knows.not_closed;
-        no_fee =
-            h.x_knows.no_fee;
         secret = h.x_knows.secret;
       })
       (record {
@@ -507,8 +641,6 @@ module _ (a b : Signer) (keys : AreKeys a b) (channel : List ℕ) (ly : Line) (x
         next_point = h.y_knows.next_point;
         below = h.y_knows.below;
         script = h.y_knows.script;
-        not_closed = h.y_knows.not_closed;
-        no_fee = h.y_knows.no_fee;
         secret = h.y_knows.secret;
       })
       h.x_said
@@ -524,14 +656,19 @@ module _ (a b : Signer) (keys : AreKeys a b) (channel : List ℕ) (ly : Line) (x
       (said_x ++ message.ChannelReady (ready_message a x) ∷ []) refl h
       (kept_confirmed ly x_side y_side to_x to_y h.kept)
       (told_confirmed ly x_side y_side to_x to_y h.told)
+      (record { news = h.ended.news; begun = h.ended.begun; closed = h.ended.closed; answered = h.ended.answered })
+      (record {
+        news = h.ended_back.news;
+        begun = h.ended_back.begun;
+        closed = h.ended_back.closed;
+        answered = h.ended_back.answered;
+      })
       refl
       (record {
         point = h.x_knows.point;
         next_point = h.x_knows.next_point;
         below = h.x_knows.below;
         script = h.x_knows.script;
-        not_closed = h.x_knows.not_closed;
-        no_fee = h.x_knows.no_fee;
         secret = h.x_knows.secret;
       })
       (record {
@@ -539,8 +676,6 @@ module _ (a b : Signer) (keys : AreKeys a b) (channel : List ℕ) (ly : Line) (x
         next_point = h.y_knows.next_point;
         below = h.y_knows.below;
         script = h.y_knows.script;
-        not_closed = h.y_knows.not_closed;
-        no_fee = h.y_knows.no_fee;
         secret = h.y_knows.secret;
       })
       (said_more x.closing.shut x.closing.shut said_x (message.ChannelReady (ready_message a x)) (λ e. absurd (cc))
@@ -556,20 +691,24 @@ module _ (a b : Signer) (keys : AreKeys a b) (channel : List ℕ) (ly : Line) (x
       let q = otherwise (not (is_ready x)) refusal.NotReady _ p.0 in
       let r = otherwise (is_at_update_limit x.dance.log.own) refusal.NumbersSpent _ q.1 in
       let ready = parts x.marks.ready_sent x.marks.ready_received (negated (is_ready x) q.0) in
+      let may = still_open x u r.1 in
+      let fits = proposal_fits x u id p.1 in
+      let nobegun : HasBegun x_side → ⊥ = λ q. no_proposal x_side (as_sent u) q fits may in
       moved (proposes u x) (proposed (as_sent u) x_side) to_x to_y to_x (posts ly (Update (as_sent u) ∷ []) to_y)
       (said_x ++ update_message channel u ∷ []) (proposes_so a x u
       (omega (arith, w.own_signed, length-sent x.dance.log.own))) h
-      (kept_proposed ly x_side y_side (as_sent u) to_x to_y (proposal_fits x u id p.1) h.kept)
-      (told_proposed ly x_side y_side (as_sent u) to_x to_y (omega (arith, w.own_acked, w.own_signed))
+      (kept_proposed ly x_side y_side (as_sent u) to_x to_y fits h.kept)
+      (told_proposed ly x_side y_side (as_sent u) to_x to_y (not_closed nobegun h.ended y_side.closed refl)
+      (omega (arith, w.own_acked, w.own_signed))
       (record { sent = ready.0; taken = ready.1 }) (still_open x u r.1) h.told)
+      (unmoved (proposed (as_sent u) x_side) nobegun h.ended.news refl refl h.ended)
+      (back_same (proposed (as_sent u) x_side) refl h.ended_back)
       refl
       (record {
         point = h.x_knows.point;
         next_point = h.x_knows.next_point;
         below = h.x_knows.below;
         script = h.x_knows.script;
-        not_closed = h.x_knows.not_closed;
-        no_fee = h.x_knows.no_fee;
         secret = h.x_knows.secret;
       })
       (record {
@@ -577,8 +716,6 @@ module _ (a b : Signer) (keys : AreKeys a b) (channel : List ℕ) (ly : Line) (x
         next_point = h.y_knows.next_point;
         below = h.y_knows.below;
         script = h.y_knows.script;
-        not_closed = h.y_knows.not_closed;
-        no_fee = h.y_knows.no_fee;
         secret = h.y_knows.secret;
       })
       (said_more x.closing.shut x.closing.shut said_x (update_message channel u) (an_add channel x u r.1) (λ e. e)
@@ -597,10 +734,28 @@ module _ (a b : Signer) (keys : AreKeys a b) (channel : List ℕ) (ly : Line) (x
       let equal : x.dance.numbers.signed ≡ x.dance.numbers.revoked =
       eqb-true x.dance.numbers.signed x.dance.numbers.revoked
       (negated (x.dance.numbers.signed == x.dance.numbers.revoked) q.0) in
+      let fresh = unsigned (same_counts x.dance.log.acknowledged x.dance.log.signed)
+      (same_counts x.dance.log.signed (log.after_sign x.dance.log).signed) r.0 in
+      let acked = parts (x.dance.log.acknowledged.own == x.dance.log.signed.own)
+      (x.dance.log.acknowledged.peer == x.dance.log.signed.peer) fresh.0 in
+      let acked_own : x_side.acked.own ≡ x_side.signed.own =
+      eqb-true x.dance.log.acknowledged.own x.dance.log.signed.own acked.0 in
+      let acked_peer : x_side.acked.peer ≡ x_side.signed.peer =
+      eqb-true x.dance.log.acknowledged.peer x.dance.log.signed.peer acked.1 in
+      let new : x_side.signed.own ≡ length x_side.own → x_side.signed.peer ≡ x_side.current.peer
+      → ⊥ = λ e f. absurd (let no : true ≡ false = sym
+      (both_true (x.dance.log.signed.own == length x.dance.log.own)
+      (x.dance.log.signed.peer == x.dance.log.current.peer)
+      (eq-eqb x.dance.log.signed.own (length x.dance.log.own) (e ∙ length-sent x.dance.log.own))
+      (eq-eqb x.dance.log.signed.peer x.dance.log.current.peer f)) ∙ fresh.1 in cc) in
+      let nobegun : HasBegun x_side → ⊥ = λ q. (let all = covers_all x_side h.kept.there.within q in new all.0 all.1) in
       moved (signs_next x) (signed_all z x_side) to_x to_y to_x (posts ly (Sign z ∷ []) to_y)
       (said_x ++ message.CommitmentSigned z ∷ []) (signs_so a x) h
       (kept_signed ly z x_side y_side to_x to_y equal h.kept)
-      (told_signed ly z x_side y_side to_x to_y (record { sent = ready.0; taken = ready.1 }) h.told)
+      (told_signed ly z x_side y_side to_x to_y (not_closed nobegun h.ended y_side.closed refl)
+      (record { sent = ready.0; taken = ready.1 }) h.told)
+      (unmoved (signed_all z x_side) nobegun (λ e f g. new (sym acked_own ∙ f) (sym acked_peer ∙ g)) refl refl h.ended)
+      (back_same (signed_all z x_side) refl h.ended_back)
       refl
       (record {
         point = h.x_knows.point;
@@ -608,9 +763,6 @@ module _ (a b : Signer) (keys : AreKeys a b) (channel : List ℕ) (ly : Line) (x
         below = small_still x.dance.numbers.signed h.x_knows.below
             (no_fault (is_last x.dance.numbers.signed) refusal.NumbersSpent r.1);
         script = h.x_knows.script;
-        not_closed =
-            h.x_knows.not_closed;
-        no_fee = h.x_knows.no_fee;
         secret = h.x_knows.secret;
       })
       (record {
@@ -618,12 +770,32 @@ module _ (a b : Signer) (keys : AreKeys a b) (channel : List ℕ) (ly : Line) (x
         next_point = h.y_knows.next_point;
         below = h.y_knows.below;
         script = h.y_knows.script;
-        not_closed = h.y_knows.not_closed;
-        no_fee = h.y_knows.no_fee;
         secret = h.y_knows.secret;
       })
       (said_more x.closing.shut x.closing.shut said_x (message.CommitmentSigned z) (λ e. absurd (cc)) (λ e. e)
       (λ e. absurd (cc)) h.x_said)
+
+  sent_shut : (z : ShutdownMessage) → HasBegun x_side → HasBegun (record x_side { shut = true; shut_message = z })
+  sent_shut z q = record {
+    shut_sent = refl;
+    shut_taken = q.shut_taken;
+    own_acked = q.own_acked;
+    own_current = q.own_current;
+    peer_current = q.peer_current;
+    peer_acked = q.peer_acked;
+    none_own =
+        q.none_own;
+    none_got = q.none_got;
+  }
+
+  own_shut : {z : ShutdownMessage} → Ending x_side y_side
+      → Ending (record x_side { shut = true; shut_message = z }) y_side
+  own_shut {z} e = record {
+    news = e.news;
+    begun = λ q. sent_shut z (e.begun q);
+    closed = λ q. sent_shut z (e.closed q);
+    answered = e.answered;
+  }
 
   -- with the script that n has, and but for this as x was
   shut_with : (n : End) (z : ShutdownMessage) (to_x to_y : List Notice)
@@ -637,6 +809,12 @@ module _ (a b : Signer) (keys : AreKeys a b) (channel : List ℕ) (ly : Line) (x
       (kept_shut ly z x_side y_side to_x to_y h.kept)
       (told_shut ly z x_side y_side to_x to_y unshut (eqb-true x.dance.log.acknowledged.own (length x.dance.log.own) all
       ∙ sym (length-sent x.dance.log.own)) h.told)
+      (own_shut h.ended) (record {
+        news = h.ended_back.news;
+        begun = h.ended_back.begun;
+        closed = h.ended_back.closed;
+        answered = h.ended_back.answered;
+      })
       same kn kp
       (said_more x.closing.shut n.closing.shut said_x (message.Shutdown z) (λ e. absurd (cc))
       (λ e. shut) (λ e. shut) h.x_said)
@@ -655,8 +833,6 @@ module _ (a b : Signer) (keys : AreKeys a b) (channel : List ℕ) (ly : Line) (x
         next_point = h.x_knows.next_point;
         below = h.x_knows.below;
         script = h.x_knows.script;
-        not_closed = h.x_knows.not_closed;
-        no_fee = h.x_knows.no_fee;
         secret = h.x_knows.secret;
       })
       (record {
@@ -665,9 +841,6 @@ module _ (a b : Signer) (keys : AreKeys a b) (channel : List ℕ) (ly : Line) (x
         below = h.y_knows.below;
         script = same_script y.closing.peer_shut y.terms.peer_script x.terms.script script
             (λ e. absurd (let d : true ≡ false = sym (h.told.there.shut_sent e) ∙ p.0 in cc)) h.y_knows.script;
-        not_closed =
-            h.y_knows.not_closed;
-        no_fee = h.y_knows.no_fee;
         secret = h.y_knows.secret;
       })
       p.0 q.0 refl h
@@ -683,8 +856,6 @@ module _ (a b : Signer) (keys : AreKeys a b) (channel : List ℕ) (ly : Line) (x
         next_point = h.x_knows.next_point;
         below = h.x_knows.below;
         script = h.x_knows.script;
-        not_closed = h.x_knows.not_closed;
-        no_fee = h.x_knows.no_fee;
         secret = h.x_knows.secret;
       })
       (record {
@@ -692,8 +863,42 @@ module _ (a b : Signer) (keys : AreKeys a b) (channel : List ℕ) (ly : Line) (x
         next_point = h.y_knows.next_point;
         below = h.y_knows.below;
         script = h.y_knows.script;
-        not_closed = h.y_knows.not_closed;
-        no_fee = h.y_knows.no_fee;
         secret = h.y_knows.secret;
       })
       unshut all refl h
+
+  -- ---- closing fees
+
+  -- what x has said and taken of fees, where closing has begun
+  pub dealt_so : (n : End) (m : Option ClosingSigned) (c : Bool) (sent : Option ClosingSigned) (out : List Message)
+      (to_x to_y : List Notice) → side_of a n ≡ dealt m c x_side → n.dance.channel ≡ x.dance.channel → Knows b n y
+      → Knows a y n → n.closing.shut ≡ x.closing.shut
+      → HasBegun x_side → (x_side.closed ≡ true → c ≡ true) → (has_bid x_side ≡ true → is_some m ≡ true)
+      → (is_some sent ≡ true → is_some m ≡ true) → (c ≡ true → has_bid y_side ≡ true)
+      → Said x.closing.shut (said_x ++ out)
+      → Hold a b channel Met ly x y to_x to_y said_x said_y
+      → Hold a b channel Met ly n y to_x (posts ly (closes_of sent) to_y) (said_x ++ out) said_y
+  dealt_so n m c sent out to_x to_y is same kn kp shut begun cl bd st an said h =
+      moved n (dealt m c x_side) to_x to_y to_x (posts ly (closes_of sent) to_y) (said_x ++ out) is h
+      (kept_dealt ly m c sent x_side y_side to_x to_y h.kept)
+      (told_dealt ly m c sent x_side y_side to_x to_y cl bd st h.told)
+      (record { news = h.ended.news; begun = λ q. begun; closed = λ q. begun; answered = λ q. bd (h.ended.answered q) })
+      (record { news = h.ended_back.news; begun = h.ended_back.begun; closed = h.ended_back.closed; answered = an })
+      same kn kp (subst (λ s. Said s (said_x ++ out)) (sym shut) said)
+
+  -- a closing_signed is out of what is in flight
+  pub passed_close : (m : ClosingSigned) (ns to_y : List Notice)
+      → Hold a b channel Met ly x y (Close m ∷ ns) to_y said_x said_y
+      → Hold a b channel Met ly x y ns to_y said_x said_y
+  passed_close m ns to_y h = record {
+    kept = kept_close ly m x_side y_side ns to_y h.kept;
+    told = told_close ly m x_side y_side ns to_y h.told;
+    ended = h.ended;
+    ended_back = h.ended_back;
+    x_channel = h.x_channel;
+    y_channel = h.y_channel;
+    x_knows = h.x_knows;
+    y_knows = h.y_knows;
+    x_said = h.x_said;
+    y_said = h.y_said;
+  }

@@ -6,10 +6,13 @@ use Rattle.ln_msgs.specs.declared.messages.commitments.CommitmentSigned.{Commitm
 use Rattle.ln_msgs.specs.declared.messages.commitments.RevokeAndAck.{RevokeAndAck}
 use Rattle.ln_msgs.specs.declared.messages.commitments.ChannelReestablish.{ChannelReestablish}
 use Rattle.ln_msgs.specs.declared.messages.opening.ChannelReady.{ChannelReady}
+use Rattle.ln_msgs.specs.declared.messages.closing.ClosingSigned.{ClosingSigned}
 use Rattle.ln_msgs.specs.declared.messages.closing.Shutdown.{Shutdown as ShutdownMessage}
 use Rattle.ln_link.specs.declared.link.Line.{Line}
 use Rattle.ln_link.specs.declared.link.Line.TheVariants.{Down, Awaiting, Met}
-use Rattle.ln_pair.proofs.Sides.{opens, Notice, Update, Sign, Revoke, Ready, Shutdown, Again}
+use Rattle.std.specs.Prelude.{Option, Some, None, is_some}
+use Rattle.ln_pair.proofs.Sides.{has_bid, dealt, closes_of}
+use Rattle.ln_pair.proofs.Sides.{opens, Notice, Update, Sign, Revoke, Ready, Shutdown, Close, Again}
 use Rattle.ln_pair.proofs.Sides.{Side, posts, proposed, signed_all, received, accepted_all, acknowledged_all, proposes}
 use Rattle.ln_pair.proofs.Sides.{signs, confirms, shuts}
 use Rattle.ln_pair.proofs.Marks.{IsAllowed, NoneOpens, Teller, Tells, ToldAll, ToldAny, teller, Speaks, Speech, IsReady}
@@ -21,15 +24,17 @@ use Rattle.ln_pair.proofs.Marks.{BothTold}
 pub tells-more : (t v : Teller) (Q : Bool → Bool → Type 0) (r s : Bool) (ms : List Notice)
     → (t.ready ≡ true → v.ready ≡ true) → (t.shut ≡ true → v.shut ≡ true) → (t.peer_ready ≡ true → v.peer_ready ≡ true)
     → v.ready_message ≡ t.ready_message → (t.shut ≡ true → v.shut_message ≡ t.shut_message)
+    → (t.bid ≡ true → v.bid ≡ true)
     → Tells t Q r s ms → Tells v Q r s ms
-tells-more t v Q r s [] a b c d g h = h
-tells-more t v Q r s (Update u ∷ ms) a b c d g h = (h.0, c h.1, h.2, tells-more t v Q r s ms a b c d g h.3)
-tells-more t v Q r s (Sign k ∷ ms) a b c d g h = (h.0, c h.1, tells-more t v Q r s ms a b c d g h.2)
-tells-more t v Q r s (Revoke k ∷ ms) a b c d g h = tells-more t v Q r s ms a b c d g h
-tells-more t v Q r s (Ready z ∷ ms) a b c d g h = (a h.0, h.1 ∙ sym d, tells-more t v Q true s ms a b c d g h.2)
-tells-more t v Q r s (Shutdown z ∷ ms) a b c d g h =
-    (b h.0, h.1 ∙ sym (g h.0), tells-more t v Q r true ms a b c d g h.2)
-tells-more t v Q r s (Again n ∷ ms) a b c d g h = absurd h
+tells-more t v Q r s [] a b c d g k h = h
+tells-more t v Q r s (Update u ∷ ms) a b c d g k h = (h.0, c h.1, h.2, tells-more t v Q r s ms a b c d g k h.3)
+tells-more t v Q r s (Sign z ∷ ms) a b c d g k h = (h.0, c h.1, tells-more t v Q r s ms a b c d g k h.2)
+tells-more t v Q r s (Revoke z ∷ ms) a b c d g k h = tells-more t v Q r s ms a b c d g k h
+tells-more t v Q r s (Ready z ∷ ms) a b c d g k h = (a h.0, h.1 ∙ sym d, tells-more t v Q true s ms a b c d g k h.2)
+tells-more t v Q r s (Shutdown z ∷ ms) a b c d g k h =
+    (b h.0, h.1 ∙ sym (g h.0), tells-more t v Q r true ms a b c d g k h.2)
+tells-more t v Q r s (Close z ∷ ms) a b c d g k h = (k h.0, tells-more t v Q r s ms a b c d g k h.1)
+tells-more t v Q r s (Again n ∷ ms) a b c d g k h = absurd h
 
 pub tells-push : (t : Teller) (P Q : Bool → Bool → Type 0) (r s : Bool) (ms ns : List Notice)
     → ((q p : Bool) → P q p → Tells t Q q p ns) → Tells t P r s ms → Tells t Q r s (ms ++ ns)
@@ -39,6 +44,7 @@ tells-push t P Q r s (Sign k ∷ ms) ns f h = (h.0, h.1, tells-push t P Q r s ms
 tells-push t P Q r s (Revoke k ∷ ms) ns f h = tells-push t P Q r s ms ns f h
 tells-push t P Q r s (Ready z ∷ ms) ns f h = (h.0, h.1, tells-push t P Q true s ms ns f h.2)
 tells-push t P Q r s (Shutdown z ∷ ms) ns f h = (h.0, h.1, tells-push t P Q r true ms ns f h.2)
+tells-push t P Q r s (Close z ∷ ms) ns f h = (h.0, tells-push t P Q r s ms ns f h.1)
 tells-push t P Q r s (Again n ∷ ms) ns f h = absurd h
 
 pub tells-any : (t : Teller) (P : Bool → Bool → Type 0) (r s : Bool) (ms : List Notice) → Tells t P r s ms
@@ -49,6 +55,7 @@ tells-any t P r s (Sign k ∷ ms) h = (h.0, h.1, tells-any t P r s ms h.2)
 tells-any t P r s (Revoke k ∷ ms) h = tells-any t P r s ms h
 tells-any t P r s (Ready z ∷ ms) h = (h.0, h.1, tells-any t P true s ms h.2)
 tells-any t P r s (Shutdown z ∷ ms) h = (h.0, h.1, tells-any t P r true ms h.2)
+tells-any t P r s (Close z ∷ ms) h = (h.0, tells-any t P r s ms h.1)
 tells-any t P r s (Again n ∷ ms) h = absurd h
 
 pub tells-front : (t : Teller) (P : Bool → Bool → Type 0) (r s : Bool) (ms ns : List Notice) → Tells t P r s (ms ++ ns)
@@ -59,6 +66,7 @@ tells-front t P r s (Sign k ∷ ms) ns h = (h.0, h.1, tells-front t P r s ms ns 
 tells-front t P r s (Revoke k ∷ ms) ns h = tells-front t P r s ms ns h
 tells-front t P r s (Ready z ∷ ms) ns h = (h.0, h.1, tells-front t P true s ms ns h.2)
 tells-front t P r s (Shutdown z ∷ ms) ns h = (h.0, h.1, tells-front t P r true ms ns h.2)
+tells-front t P r s (Close z ∷ ms) ns h = (h.0, tells-front t P r s ms ns h.1)
 tells-front t P r s (Again n ∷ ms) ns h = absurd h
 
 -- ---- where x or y changes
@@ -73,6 +81,7 @@ spoken Awaiting lx ln x n y sent (Sign k ∷ ms) h e = absurd e
 spoken Awaiting lx ln x n y sent (Revoke k ∷ ms) h e = absurd e
 spoken Awaiting lx ln x n y sent (Ready z ∷ ms) h e = absurd e
 spoken Awaiting lx ln x n y sent (Shutdown z ∷ ms) h e = absurd e
+spoken Awaiting lx ln x n y sent (Close z ∷ ms) h e = absurd e
 spoken Awaiting lx ln x n y sent (Again k ∷ ms) h e = h ms e
 spoken Met lx ln x n y sent ms h e = h ms e
 
@@ -85,6 +94,7 @@ silent Awaiting lx ln x n y (Sign k ∷ ms) h e = absurd e
 silent Awaiting lx ln x n y (Revoke k ∷ ms) h e = absurd e
 silent Awaiting lx ln x n y (Ready z ∷ ms) h e = absurd e
 silent Awaiting lx ln x n y (Shutdown z ∷ ms) h e = absurd e
+silent Awaiting lx ln x n y (Close z ∷ ms) h e = absurd e
 silent Awaiting lx ln x n y (Again k ∷ ms) h e = h ms e
 silent Met lx ln x n y ms h e = h ms e
 
@@ -123,38 +133,29 @@ drop-past (suc k) (u ∷ us) le = drop-past k us (omega (arith, le))
 
 -- nothing that the reader has said changes
 heard_same : (ly : Line) (y x n : Side) (ms : List Notice) → n.ready ≡ x.ready → n.peer_ready ≡ x.peer_ready
-    → n.peer_shut ≡ x.peer_shut → Speaks ly y x ms → Speaks ly y n ms
-heard_same Down y x n ms e f g h =
-    subst (λ b. Tells (record {
-      ready = y.ready;
-      shut = y.shut;
-      peer_ready = b;
-      ready_message = y.ready_message;
-      shut_message = y.shut_message;
-    }) ToldAny n.peer_ready n.peer_shut ms) (sym e)
+    → n.peer_shut ≡ x.peer_shut → n.closed ≡ x.closed → Speaks ly y x ms → Speaks ly y n ms
+heard_same Down y x n ms e f g c h =
+    subst (λ b. Tells (record (teller y x) { peer_ready = b }) ToldAny n.peer_ready n.peer_shut ms) (sym e)
     (subst (λ b. Tells (teller y x) ToldAny b n.peer_shut ms) (sym f)
     (subst (λ b. Tells (teller y x) ToldAny x.peer_ready b ms) (sym g) h))
-heard_same Awaiting y x n ms e f g h = h
-heard_same Met y x n ms e f g h =
-    subst (λ b. Tells (record {
-      ready = y.ready;
-      shut = y.shut;
-      peer_ready = b;
-      ready_message = y.ready_message;
-      shut_message = y.shut_message;
-    }) (ToldAll y.ready y.shut) n.peer_ready n.peer_shut ms) (sym e)
-    (subst (λ b. Tells (teller y x) (ToldAll y.ready y.shut) b n.peer_shut ms) (sym f)
-    (subst (λ b. Tells (teller y x) (ToldAll y.ready y.shut) x.peer_ready b ms) (sym g) h))
+heard_same Awaiting y x n ms e f g c h = h
+heard_same Met y x n ms e f g c h =
+    subst (λ b. Tells (record (teller y x) { peer_ready = b }) (ToldAll y.ready y.shut n.closed)
+    n.peer_ready n.peer_shut ms) (sym e)
+    (subst (λ q. Tells (teller y x) (ToldAll y.ready y.shut q) n.peer_ready n.peer_shut ms) (sym c)
+    (subst (λ b. Tells (teller y x) (ToldAll y.ready y.shut x.closed) b n.peer_shut ms) (sym f)
+    (subst (λ b. Tells (teller y x) (ToldAll y.ready y.shut x.closed) x.peer_ready b ms) (sym g) h)))
 
 -- ---- x sends channel_ready
 
 heard_ready : (ly : Line) (y x : Side) (ms : List Notice) → Speaks ly y x ms
     → Speaks ly y (record x { ready = true }) ms
 heard_ready Down y x ms h = tells-more (teller y x) (teller y (record x { ready = true })) ToldAny x.peer_ready
-    x.peer_shut ms (λ e. e) (λ e. e) (λ e. refl) refl (λ e. refl) h
+    x.peer_shut ms (λ e. e) (λ e. e) (λ e. refl) refl (λ e. refl) (λ e. e) h
 heard_ready Awaiting y x ms h = h
-heard_ready Met y x ms h = tells-more (teller y x) (teller y (record x { ready = true })) (ToldAll y.ready y.shut)
-    x.peer_ready x.peer_shut ms (λ e. e) (λ e. e) (λ e. refl) refl (λ e. refl) h
+heard_ready Met y x ms h = tells-more (teller y x) (teller y (record x { ready = true }))
+    (ToldAll y.ready y.shut x.closed)
+    x.peer_ready x.peer_shut ms (λ e. e) (λ e. e) (λ e. refl) refl (λ e. refl) (λ e. e) h
 
 pub told_confirmed : (ly : Line) (x y : Side) (to_x to_y : List Notice)
     → BothTold (record { x_link = Met; y_link = ly; x = x; y = y; to_x = to_x; to_y = to_y })
@@ -164,10 +165,10 @@ told_confirmed ly x y to_x to_y k =
     let g = k.back in
     let n : Side = record x { ready = true } in
     let body : (ns : List Notice) → Speaks Met x y ns → Speaks Met n y (ns ++ Ready x.ready_message ∷ []) = λ ns h.
-    tells-push (teller n y) (ToldAll x.ready x.shut) (ToldAll true x.shut) y.peer_ready y.peer_shut ns
-    (Ready x.ready_message ∷ []) (λ q p a. (refl, refl, (refl, a.1)))
-    (tells-more (teller x y) (teller n y) (ToldAll x.ready x.shut) y.peer_ready y.peer_shut ns (λ e. refl) (λ e. e)
-    (λ e. e) refl (λ e. refl) h) in
+    tells-push (teller n y) (ToldAll x.ready x.shut y.closed) (ToldAll true x.shut y.closed) y.peer_ready y.peer_shut ns
+    (Ready x.ready_message ∷ []) (λ q p a. (refl, refl, (λ e. refl, a.1)))
+    (tells-more (teller x y) (teller n y) (ToldAll x.ready x.shut y.closed) y.peer_ready y.peer_shut ns (λ e. refl)
+    (λ e. e) (λ e. e) refl (λ e. refl) (λ e. e) h) in
     record {
       there = record {
         ready_sent = λ e. refl;
@@ -207,10 +208,12 @@ told_shut ly z x y to_x to_y unshut all k =
     let g = k.back in
     let n : Side = record x { shut = true; shut_message = z } in
     let body : (ns : List Notice) → Speaks Met x y ns → Speaks Met n y (ns ++ Shutdown z ∷ []) = λ ns h.
-    tells-push (teller n y) (ToldAll x.ready x.shut) (ToldAll x.ready true) y.peer_ready y.peer_shut ns
+    tells-push (teller n y) (ToldAll x.ready x.shut y.closed) (ToldAll x.ready true y.closed)
+    y.peer_ready y.peer_shut ns
     (Shutdown z ∷ []) (λ q p a. (refl, refl, (a.0, refl)))
-    (tells-more (teller x y) (teller n y) (ToldAll x.ready x.shut) y.peer_ready y.peer_shut ns (λ e. e) (λ e. refl)
-    (λ e. e) refl (λ e. absurd (let d : true ≡ false = sym e ∙ unshut in cc)) h) in
+    (tells-more (teller x y) (teller n y) (ToldAll x.ready x.shut y.closed) y.peer_ready
+    y.peer_shut ns (λ e. e) (λ e. refl)
+    (λ e. e) refl (λ e. absurd (let d : true ≡ false = sym e ∙ unshut in cc)) (λ e. e) h) in
     record {
       there = record {
         ready_sent = f.ready_sent;
@@ -229,7 +232,7 @@ told_shut ly z x y to_x to_y unshut all k =
         used_number = g.used_number;
         shut = g.shut;
         speech =
-            heard_same ly y x n to_x refl refl refl g.speech;
+            heard_same ly y x n to_x refl refl refl refl g.speech;
       };
     }
 
@@ -243,19 +246,20 @@ allowed_own false s h e = refl
 pub ready_same : (x n : Side) → n.ready ≡ x.ready → n.peer_ready ≡ x.peer_ready → IsReady x → IsReady n
 ready_same x n e f r = record { sent = e ∙ r.sent; taken = f ∙ r.taken }
 
-pub told_proposed : (ly : Line) (x y : Side) (u : Change) (to_x to_y : List Notice) → x.acked.own ≤ length x.own
+pub told_proposed : (ly : Line) (x y : Side) (u : Change) (to_x to_y : List Notice) → y.closed ≡ false
+    → x.acked.own ≤ length x.own
     → IsReady x → IsAllowed (opens u) x.shut → BothTold
     (record { x_link = Met; y_link = ly; x = x; y = y; to_x = to_x; to_y = to_y })
     → BothTold (proposes u (record { x_link = Met; y_link = ly; x = x; y = y; to_x = to_x; to_y = to_y }))
-told_proposed ly x y u to_x to_y le ready may k =
+told_proposed ly x y u to_x to_y on le ready may k =
     let f = k.there in
     let g = k.back in
     let n = proposed u x in
     let r : IsReady n = ready_same x n refl refl ready in
     let body : (ns : List Notice) → Speaks Met x y ns → Speaks Met n y (ns ++ Update u ∷ []) = λ ns h.
-    tells-push (teller x y) (ToldAll x.ready x.shut) (ToldAll x.ready x.shut) y.peer_ready
+    tells-push (teller x y) (ToldAll x.ready x.shut y.closed) (ToldAll x.ready x.shut y.closed) y.peer_ready
     y.peer_shut ns (Update u ∷ [])
-    (λ q p a. (a.0 ∙ ready.sent, g.ready_sent ready.taken, subst (IsAllowed (opens u)) (sym a.1) may, a)) h in
+    (λ q p a. (a.0 on ∙ ready.sent, g.ready_sent ready.taken, subst (IsAllowed (opens u)) (sym a.1) may, a)) h in
     record {
       there = record {
         ready_sent = f.ready_sent;
@@ -275,21 +279,23 @@ told_proposed ly x y u to_x to_y le ready may k =
         used_number = g.used_number;
         shut = g.shut;
         speech =
-            heard_same ly y x n to_x refl refl refl g.speech;
+            heard_same ly y x n to_x refl refl refl refl g.speech;
       };
     }
 
-pub told_signed : (ly : Line) (z : CommitmentSigned) (x y : Side) (to_x to_y : List Notice) → IsReady x
+pub told_signed : (ly : Line) (z : CommitmentSigned) (x y : Side) (to_x to_y : List Notice)
+    → y.closed ≡ false → IsReady x
     → BothTold (record { x_link = Met; y_link = ly; x = x; y = y; to_x = to_x; to_y = to_y })
     → BothTold (signs z (record { x_link = Met; y_link = ly; x = x; y = y; to_x = to_x; to_y = to_y }))
-told_signed ly z x y to_x to_y ready k =
+told_signed ly z x y to_x to_y on ready k =
     let f = k.there in
     let g = k.back in
     let n = signed_all z x in
     let r : IsReady n = ready_same x n refl refl ready in
     let body : (ns : List Notice) → Speaks Met x y ns → Speaks Met n y (ns ++ Sign z ∷ []) = λ ns h.
-    tells-push (teller x y) (ToldAll x.ready x.shut) (ToldAll x.ready x.shut) y.peer_ready y.peer_shut ns (Sign z ∷ [])
-    (λ q p a. (a.0 ∙ ready.sent, g.ready_sent ready.taken, a)) h in
+    tells-push (teller x y) (ToldAll x.ready x.shut y.closed) (ToldAll x.ready x.shut y.closed) y.peer_ready
+    y.peer_shut ns (Sign z ∷ [])
+    (λ q p a. (a.0 on ∙ ready.sent, g.ready_sent ready.taken, a)) h in
     record {
       there = record {
         ready_sent = f.ready_sent;
@@ -308,7 +314,7 @@ told_signed ly z x y to_x to_y ready k =
         used_number = g.used_number;
         shut = g.shut;
         speech =
-            heard_same ly y x n to_x refl refl refl g.speech;
+            heard_same ly y x n to_x refl refl refl refl g.speech;
       };
     }
 
@@ -377,7 +383,8 @@ told_sign ly z v x y k ms to_y h =
     let t = took_sign ly z v x y k ms g.speech in
     let r : IsReady n = record { sent = t.1; taken = t.0 } in
     let body : (ns : List Notice) → Speaks Met x y ns → Speaks Met n y (ns ++ Revoke z ∷ []) = λ ns s.
-    tells-push (teller x y) (ToldAll x.ready x.shut) (ToldAll x.ready x.shut) y.peer_ready y.peer_shut ns
+    tells-push (teller x y) (ToldAll x.ready x.shut y.closed) (ToldAll x.ready x.shut y.closed)
+    y.peer_ready y.peer_shut ns
     (Revoke z ∷ []) (λ q p a. a) s in
     record {
       there = record {
@@ -537,3 +544,163 @@ told_shutdown ly z x y ms to_y h =
         speech = t.2;
       };
     }
+
+-- ---- where nothing moves any more
+
+-- messages that ask for no channel_ready
+abbrev pub IsStill : List Notice → Type 0
+IsStill [] = Unit {0}
+IsStill (Update u ∷ ms) = ⊥
+IsStill (Sign k ∷ ms) = ⊥
+IsStill (Revoke k ∷ ms) = ⊥
+IsStill (Ready z ∷ ms) = IsStill ms
+IsStill (Shutdown z ∷ ms) = IsStill ms
+IsStill (Close z ∷ ms) = IsStill ms
+IsStill (Again n ∷ ms) = ⊥
+
+pub tells-unready : (t : Teller) (P Q : Bool → Bool → Type 0) (q r s : Bool) (ms : List Notice) → IsStill ms
+    → ((q r s : Bool) → P q s → Q r s) → Tells t P q s ms → Tells t Q r s ms
+tells-unready t P Q q r s [] i f h = f q r s h
+tells-unready t P Q q r s (Update u ∷ ms) i f h = absurd i
+tells-unready t P Q q r s (Sign k ∷ ms) i f h = absurd i
+tells-unready t P Q q r s (Revoke k ∷ ms) i f h = absurd i
+tells-unready t P Q q r s (Ready z ∷ ms) i f h = (h.0, h.1, tells-unready t P Q true true s ms i f h.2)
+tells-unready t P Q q r s (Shutdown z ∷ ms) i f h = (h.0, h.1, tells-unready t P Q q r true ms i f h.2)
+tells-unready t P Q q r s (Close z ∷ ms) i f h = (h.0, tells-unready t P Q q r s ms i f h.1)
+tells-unready t P Q q r s (Again n ∷ ms) i f h = absurd i
+
+pub tells-to : (t : Teller) (P Q : Bool → Bool → Type 0) (r s : Bool) (ms : List Notice)
+    → ((r s : Bool) → P r s → Q r s) → Tells t P r s ms → Tells t Q r s ms
+tells-to t P Q r s [] f h = f r s h
+tells-to t P Q r s (Update u ∷ ms) f h = (h.0, h.1, h.2, tells-to t P Q r s ms f h.3)
+tells-to t P Q r s (Sign k ∷ ms) f h = (h.0, h.1, tells-to t P Q r s ms f h.2)
+tells-to t P Q r s (Revoke k ∷ ms) f h = tells-to t P Q r s ms f h
+tells-to t P Q r s (Ready z ∷ ms) f h = (h.0, h.1, tells-to t P Q true s ms f h.2)
+tells-to t P Q r s (Shutdown z ∷ ms) f h = (h.0, h.1, tells-to t P Q r true ms f h.2)
+tells-to t P Q r s (Close z ∷ ms) f h = (h.0, tells-to t P Q r s ms f h.1)
+tells-to t P Q r s (Again n ∷ ms) f h = absurd h
+
+-- a closed end passes over channel_ready
+skipped_ready : (ly : Line) (z : ChannelReady) (x y : Side) (ms : List Notice) → x.closed ≡ true → IsStill ms
+    → Speaks ly y x (Ready z ∷ ms) → Speaks ly y x ms
+skipped_ready Down z x y ms c i h = tells-unready (teller y x) ToldAny ToldAny true x.peer_ready x.peer_shut
+    ms i (λ q r s p. tt) h.2
+skipped_ready Awaiting z x y ms c i h = absurd (cc)
+skipped_ready Met z x y ms c i h = tells-unready (teller y x) (ToldAll y.ready y.shut x.closed)
+    (ToldAll y.ready y.shut x.closed) true x.peer_ready x.peer_shut ms i
+    (λ q r s p. (λ e. absurd (let no : true ≡ false = sym c ∙ e in cc), p.1)) h.2
+
+pub told_skipped : (ly : Line) (z : ChannelReady) (x y : Side) (ms to_y : List Notice) → x.closed ≡ true → IsStill ms
+    → BothTold (record { x_link = Met; y_link = ly; x = x; y = y; to_x = Ready z ∷ ms; to_y = to_y })
+    → BothTold (record { x_link = Met; y_link = ly; x = x; y = y; to_x = ms; to_y = to_y })
+told_skipped ly z x y ms to_y c i h =
+    let f = h.there in
+    let g = h.back in
+    record {
+      there = f;
+      back = record {
+        ready_sent = g.ready_sent;
+        shut_sent = g.shut_sent;
+        used = g.used;
+        used_signature = g.used_signature;
+        used_number = g.used_number;
+        shut = g.shut;
+        speech =
+            skipped_ready ly z x y ms c i g.speech;
+      };
+    }
+
+-- ---- closing fees
+
+took_close : (ly : Line) (z : ClosingSigned) (x y : Side) (ms : List Notice) → Speaks ly y x (Close z ∷ ms)
+    → (has_bid y ≡ true) × Speaks ly y x ms
+took_close Down z x y ms h = h
+took_close Awaiting z x y ms h = absurd (cc)
+took_close Met z x y ms h = h
+
+pub closing_sent : (ly : Line) (z : ClosingSigned) (x y : Side) (ms : List Notice)
+    → Speaks ly y x (Close z ∷ ms) → has_bid y ≡ true
+closing_sent ly z x y ms h = (took_close ly z x y ms h).0
+
+pub told_close : (ly : Line) (z : ClosingSigned) (x y : Side) (ms to_y : List Notice)
+    → BothTold (record { x_link = Met; y_link = ly; x = x; y = y; to_x = Close z ∷ ms; to_y = to_y })
+    → BothTold (record { x_link = Met; y_link = ly; x = x; y = y; to_x = ms; to_y = to_y })
+told_close ly z x y ms to_y h =
+    let g = h.back in
+    record {
+      there = h.there;
+      back = record {
+        ready_sent = g.ready_sent;
+        shut_sent = g.shut_sent;
+        used = g.used;
+        used_signature = g.used_signature;
+        used_number = g.used_number;
+        shut = g.shut;
+        speech =
+            (took_close ly z x y ms g.speech).1;
+      };
+    }
+
+heard_dealt : (ly : Line) (m : Option ClosingSigned) (c : Bool) (y x : Side) (ms : List Notice)
+    → (x.closed ≡ true → c ≡ true) → Speaks ly y x ms → Speaks ly y (dealt m c x) ms
+heard_dealt Down m c y x ms f h = h
+heard_dealt Awaiting m c y x ms f h = h
+heard_dealt Met m c y x ms f h = tells-to (teller y x) (ToldAll y.ready y.shut x.closed) (ToldAll y.ready y.shut c)
+    x.peer_ready x.peer_shut ms (λ r s p. (λ e. p.0 (unclosed x.closed c f e), p.1)) h
+  where
+    unclosed : (a b : Bool) → (a ≡ true → b ≡ true) → b ≡ false → a ≡ false
+    unclosed true b g e = absurd (let no : true ≡ false = sym (g refl) ∙ e in cc)
+    unclosed false b g e = refl
+
+-- it sends this, or nothing
+pub told_dealt : (ly : Line) (m : Option ClosingSigned) (c : Bool) (sent : Option ClosingSigned) (x y : Side)
+    (to_x to_y : List Notice) → (x.closed ≡ true → c ≡ true) → (has_bid x ≡ true → is_some m ≡ true)
+    → (is_some sent ≡ true → is_some m ≡ true)
+    → BothTold (record { x_link = Met; y_link = ly; x = x; y = y; to_x = to_x; to_y = to_y })
+    → BothTold (record {
+      x_link = Met;
+      y_link = ly;
+      x = dealt m c x;
+      y = y;
+      to_x = to_x;
+      to_y = posts ly (closes_of sent) to_y;
+    })
+told_dealt ly m c sent x y to_x to_y cl bd st k =
+    let f = k.there in
+    let g = k.back in
+    let n : Side = dealt m c x in
+    let body : (ns : List Notice) → Speaks Met x y ns → Speaks Met n y (ns ++ closes_of sent) = λ ns h.
+    tells-push (teller n y) (ToldAll x.ready x.shut y.closed) (ToldAll x.ready x.shut y.closed) y.peer_ready y.peer_shut
+    ns (closes_of sent) (λ q p a. says sent st q p a)
+    (tells-more (teller x y) (teller n y) (ToldAll x.ready x.shut y.closed) y.peer_ready y.peer_shut ns (λ e. e)
+    (λ e. e) (λ e. e) refl (λ e. refl) bd h) in
+    record {
+      there = record {
+        ready_sent = f.ready_sent;
+        shut_sent = f.shut_sent;
+        used = λ e. ready_same x n refl refl (f.used e);
+        used_signature =
+            λ e. ready_same x n refl refl (f.used_signature e);
+        used_number =
+            λ e. ready_same x n refl refl (f.used_number e);
+        shut = f.shut;
+        speech =
+            spoken ly Met Met x n y (closes_of sent) to_y body f.speech;
+      };
+      back = record {
+        ready_sent = g.ready_sent;
+        shut_sent = g.shut_sent;
+        used = g.used;
+        used_signature = g.used_signature;
+        used_number = g.used_number;
+        shut = g.shut;
+        speech =
+            heard_dealt ly m c y x to_x cl g.speech;
+      };
+    }
+  where
+    says : (o : Option ClosingSigned) → (is_some o ≡ true → is_some m ≡ true) → (q p : Bool)
+        → ToldAll x.ready x.shut y.closed q p → Tells (teller (dealt m c x) y)
+        (ToldAll x.ready x.shut y.closed) q p (closes_of o)
+    says None i q p a = a
+    says (Some w) i q p a = (i refl, a)

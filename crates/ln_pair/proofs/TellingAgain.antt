@@ -8,6 +8,9 @@ use Rattle.ln_log.specs.Log.{Counts}
 use Rattle.ln_msgs.specs.declared.messages.commitments.ChannelReestablish.{ChannelReestablish}
 use Rattle.ln_link.specs.declared.link.Line.{Line}
 use Rattle.ln_link.specs.declared.link.Line.TheVariants.{Down, Awaiting, Met}
+use Rattle.std.specs.Prelude.{Option, Some, None, is_some}
+use Rattle.ln_msgs.specs.declared.messages.closing.ClosingSigned.{ClosingSigned}
+use Rattle.ln_pair.proofs.Sides.{closes_of}
 use Rattle.ln_pair.proofs.Sides.{Both, opens, Notice, Sign, Revoke, Ready, Shutdown, Again, Side, posts, dropped}
 use Rattle.ln_pair.proofs.Sides.{updates_of, again_signed, signature_owed, revocation_owed, owed, ready_again}
 use Rattle.ln_pair.proofs.Sides.{shutdown_again, all_owed, goes_down, comes_up}
@@ -23,7 +26,7 @@ tells_down : (lx : Line) (x y : Side) (ms : List Notice) → Speaks lx x y ms �
 tells_down Down x y ms h = h
 tells_down Awaiting x y [] h = tt
 tells_down Awaiting x y (m ∷ ms) h = absurd (cc h)
-tells_down Met x y ms h = tells-any (teller x y) (ToldAll x.ready x.shut) y.peer_ready y.peer_shut ms h
+tells_down Met x y ms h = tells-any (teller x y) (ToldAll x.ready x.shut y.closed) y.peer_ready y.peer_shut ms h
 
 pub told_down : (b : Both) → b.x.signed.own ≤ length b.x.own → BothTold b → BothTold (goes_down b)
 told_down b le k =
@@ -154,19 +157,39 @@ says_ready x y Q ns again sent f = when ((x.number == 0) && (y.number + 1 == 1) 
         (r, refl, f true (sym r))
     when false e = f y.peer_ready (told_already y.peer_ready x.ready y.peer_ready refl sent (λ r. taken e r (again r)))
 
-says_shutdown : (x y : Side) (r : Bool) → r ≡ x.ready → (y.peer_shut ≡ true → x.shut ≡ true)
-    → Tells (teller x y) (ToldAll x.ready x.shut) r y.peer_shut (shutdown_again x)
-says_shutdown x y r e sent = when x.shut refl
+-- a closed end needn't know it
+says_ready_closed : (x y : Side) (Q : Bool → Bool → Type 0) (ns : List Notice)
+    → ((r : Bool) → Tells (teller x y) Q r y.peer_shut ns)
+    → Tells (teller x y) Q y.peer_ready y.peer_shut (ready_again (y.number + 1) x ++ ns)
+says_ready_closed x y Q ns f = when ((x.number == 0) && (y.number + 1 == 1) && x.ready) refl
+  where
+    when : (b : Bool) → b ≡ ((x.number == 0) && (y.number + 1 == 1) && x.ready)
+        → Tells (teller x y) Q y.peer_ready y.peer_shut (cond b (Ready x.ready_message ∷ []) [] ++ ns)
+    when true e = let r : x.ready ≡ true = and_true (x.number == 0) (y.number + 1 == 1) x.ready (sym e) in
+        (r, refl, f true)
+    when false e = f y.peer_ready
+
+says_closes : (x y : Side) (Q : Bool → Bool → Type 0) (r s : Bool) (o : Option ClosingSigned) → x.close_message ≡ o
+    → Q r s → Tells (teller x y) Q r s (closes_of o)
+says_closes x y Q r s None e h = h
+says_closes x y Q r s (Some m) e h = (ap (λ (q : Option ClosingSigned). is_some q) e, h)
+
+says_tail : (x y : Side) (r : Bool) → (y.closed ≡ false → r ≡ x.ready) → (y.peer_shut ≡ true → x.shut ≡ true)
+    → Tells (teller x y) (ToldAll x.ready x.shut y.closed) r y.peer_shut (shutdown_again x ++ closes_of x.close_message)
+says_tail x y r e sent = when x.shut refl
   where
     none : (s p : Bool) → (p ≡ true → s ≡ true) → s ≡ false → p ≡ s
     none true p f d = absurd (cc)
     none false true f d = absurd (let g : false ≡ true = f refl in cc)
     none false false f d = refl
 
-    when : (b : Bool) → b ≡ x.shut → Tells (teller x y) (ToldAll x.ready x.shut) r y.peer_shut
-        (cond b (Shutdown x.shut_message ∷ []) [])
-    when true d = (sym d, refl, (e, d))
-    when false d = (e, none x.shut y.peer_shut sent (sym d))
+    when : (b : Bool) → b ≡ x.shut → Tells (teller x y) (ToldAll x.ready x.shut y.closed) r y.peer_shut
+        (cond b (Shutdown x.shut_message ∷ []) [] ++ closes_of x.close_message)
+    when true d = (sym d, refl, says_closes x y (ToldAll x.ready x.shut y.closed) r true x.close_message refl (e, d))
+    when false d = says_closes x y (ToldAll x.ready x.shut y.closed) r y.peer_shut x.close_message refl (
+      e,
+      none x.shut y.peer_shut sent (sym d),
+    )
 
 -- whether y has taken channel_ready, or neither side has a commitment behind the first
 ready_known : (x y : Side) (lx ly : Line) (ms ns : List Notice) → Told lx ly x y ms → Told ly lx y x ns
@@ -190,29 +213,44 @@ owed_when_ready x y r e f g (ARevocation s i v j) = inl s
 owed_when_ready x y r e f g (SignatureAndRevocation s i v j) = let h = f (omega (arith, s)) in
     inr (e ∙ h.sent, g h.taken)
 
-says_again : (lx ly : Line) (x y : Side) (ms ns os ps : List Notice) → Flows lx ly x y os → Flows ly lx y x ps
-    → Told lx ly x y ms → Told ly lx y x ns → Tells (teller x y) (ToldAll x.ready x.shut) y.peer_ready y.peer_shut
+-- where y is closed no signature is owed
+says_again_by : (c : Bool) (lx ly : Line) (x y : Side) (ms ns os ps : List Notice) → y.closed ≡ c
+    → (y.closed ≡ true → y.number ≡ x.signatures) → Flows lx ly x y os → Flows ly lx y x ps → Told lx ly x y ms
+    → Told ly lx y x ns → Tells (teller x y) (ToldAll x.ready x.shut y.closed) y.peer_ready y.peer_shut
     (all_owed (y.number + 1) y.revocations x)
-says_again lx ly x y ms ns os ps p q f g =
+says_again_by true lx ly x y ms ns os ps is over p q f g =
+    let Q = ToldAll x.ready x.shut y.closed in
+    let tail = shutdown_again x ++ closes_of x.close_message in
+    says_ready_closed x y Q (owed (y.number + 1) y.revocations x ++ tail) (λ r.
+    harmless-order x.late (teller x y) Q r y.peer_shut (signature_owed (y.number + 1) x)
+    (revocation_owed y.revocations x)
+    (harmless-signature x y Q r (inl (over is)) (λ e. none-take x.acked.own x.signed.own x.own
+    (f.shut (f.shut_sent e))))
+    (harmless-revocation x (teller x y) Q r y.peer_shut y.revocations)
+    tail (says_tail x y r (λ e. absurd (let no : true ≡ false = sym is ∙ e in cc)) f.shut_sent))
+says_again_by false lx ly x y ms ns os ps is over p q f g =
     let known : x.ready ≡ true → (y.peer_ready ≡ true) ⊎ ((y.number ≡ 0) × (x.number ≡ 0)) =
     λ e. ready_known x y lx ly ms ns f g (number_signed y.signatures y.revocations x.number y.acked y.signed x.current
     q.phase) y.number x.number refl refl in
-    let Q = ToldAll x.ready x.shut in
-    says_ready x y Q (owed (y.number + 1) y.revocations x ++ shutdown_again x) known f.ready_sent (λ r e.
+    let Q = ToldAll x.ready x.shut y.closed in
+    let tail = shutdown_again x ++ closes_of x.close_message in
+    says_ready x y Q (owed (y.number + 1) y.revocations x ++ tail) known f.ready_sent (λ r e.
     harmless-order x.late (teller x y) Q r y.peer_shut (signature_owed (y.number + 1) x)
     (revocation_owed y.revocations x)
     (harmless-signature x y Q r (owed_when_ready x y r e f.used_signature g.ready_sent (lacks x y p.phase q.phase))
     (λ e. none-take x.acked.own x.signed.own x.own (f.shut (f.shut_sent e))))
     (harmless-revocation x (teller x y) Q r y.peer_shut y.revocations)
-    (shutdown_again x) (says_shutdown x y r e f.shut_sent))
+    tail (says_tail x y r (λ c. e) f.shut_sent))
 
-speaks_owed : (ly : Line) (x y : Side) (ms ns os ps : List Notice) → Flows Awaiting ly x y os → Flows ly Awaiting y x ps
+speaks_owed : (ly : Line) (x y : Side) (ms ns os ps : List Notice) → (y.closed ≡ true → y.number ≡ x.signatures)
+    → Flows Awaiting ly x y os → Flows ly Awaiting y x ps
     → Told Awaiting ly x y ms → Told ly Awaiting y x ns → (qs : List Notice) → Speaks Awaiting x y qs
     → Speaks Met x y (qs ++ all_owed (y.number + 1) y.revocations x)
-speaks_owed ly x y ms ns os ps p q f g [] h = says_again Awaiting ly x y ms ns os ps p q f g
-speaks_owed ly x y ms ns os ps p q f g (m ∷ qs) h = absurd (cc h)
+speaks_owed ly x y ms ns os ps over p q f g [] h = says_again_by y.closed Awaiting ly x y ms ns os ps refl over p q f g
+speaks_owed ly x y ms ns os ps over p q f g (m ∷ qs) h = absurd (cc h)
 
 pub told_again : (ly : Line) (x y : Side) (m : ChannelReestablish) (ms to_y : List Notice)
+    → (y.closed ≡ true → y.number ≡ x.signatures)
     → y.reestablish.next_commitment_number ≡ y.number + 1 → y.reestablish.next_revocation_number ≡ y.revocations
     → Kept (record { x_link = Awaiting; y_link = ly; x = x; y = y; to_x = Again m ∷ ms; to_y = to_y })
     → BothTold (record { x_link = Awaiting; y_link = ly; x = x; y = y; to_x = Again m ∷ ms; to_y = to_y })
@@ -224,7 +262,7 @@ pub told_again : (ly : Line) (x y : Side) (m : ChannelReestablish) (ms to_y : Li
       to_x = ms;
       to_y = posts ly (all_owed m.next_commitment_number m.next_revocation_number x) to_y;
     })
-told_again ly x y m ms to_y en er k t =
+told_again ly x y m ms to_y over en er k t =
     let f = t.there in
     let g = t.back in
     let n : m.next_commitment_number ≡ y.number + 1 =
@@ -243,7 +281,7 @@ told_again ly x y m ms to_y en er k t =
         shut = f.shut;
         speech = subst (λ os. Speech Met ly x y (posts ly os to_y)) same
             (spoken ly Awaiting Met x x y (all_owed (y.number + 1) y.revocations x) to_y
-            (speaks_owed ly x y to_y (Again m ∷ ms) to_y (Again m ∷ ms) k.there k.back f g) f.speech);
+            (speaks_owed ly x y to_y (Again m ∷ ms) to_y (Again m ∷ ms) over k.there k.back f g) f.speech);
       };
       back = record {
         ready_sent = g.ready_sent;

@@ -11,7 +11,7 @@ use Rattle.ln_msgs.specs.declared.messages.commitments.CommitmentSigned.{Commitm
 use Rattle.ln_msgs.specs.declared.messages.commitments.RevokeAndAck.{RevokeAndAck}
 use Rattle.ln_link.specs.declared.link.Line.{Line}
 use Rattle.ln_link.specs.declared.link.Line.TheVariants.{Down, Awaiting, Met}
-use Rattle.ln_pair.proofs.Sides.{Both, Notice, Update, Sign, Revoke, Ready, Shutdown, Again}
+use Rattle.ln_pair.proofs.Sides.{Both, Notice, Update, Sign, Revoke, Ready, Shutdown, Close, Again}
 use Rattle.ln_pair.proofs.Sides.{Side}
 
 -- an update of the side r is taken behind own, where seen of the other side's stand with it, and the side
@@ -98,6 +98,7 @@ Reads w own held all Q got a c r (Sign k ∷ ms) = IsDue w got a c k × Reads w 
 Reads w own held all Q got a c r (Revoke k ∷ ms) = IsNext w c r k × Reads w own held all Q got all c (r + 1) ms
 Reads w own held all Q got a c r (Ready z ∷ ms) = Reads w own held all Q got a c r ms
 Reads w own held all Q got a c r (Shutdown z ∷ ms) = Reads w own held all Q got a c r ms
+Reads w own held all Q got a c r (Close z ∷ ms) = Reads w own held all Q got a c r ms
 Reads w own held all Q got a c r (Again n ∷ ms) = ⊥
 
 -- then it lacks nothing of the sender, which has these updates, has seen so many of its own, and has sent the
@@ -131,6 +132,7 @@ BeginsAgain l x y (Sign k ∷ ms) = ⊥
 BeginsAgain l x y (Revoke k ∷ ms) = ⊥
 BeginsAgain l x y (Ready z ∷ ms) = ⊥
 BeginsAgain l x y (Shutdown z ∷ ms) = ⊥
+BeginsAgain l x y (Close z ∷ ms) = ⊥
 BeginsAgain l x y (Again m ∷ ms) = (m ≡ x.reestablish) × Carries l x y ms
 
 -- from x to y; in front, until y has taken it, x's reestablish

@@ -7,28 +7,20 @@ use Rattle.ln_keys.specs.Signer.{Signer}
 use Rattle.ln_keys.specs.Partners.{ArePartners}
 use Rattle.ln_log.specs.Machine.{Party, Follows, held}
 use Rattle.ln_log.specs.Log.{party_of}
-use Rattle.ln_dance.specs.Dance.{sign_fault}
-use Rattle.ln_link.specs.End.{End, Turn, has_begun}
+use Rattle.ln_keys.specs.declared.view.View.{View}
+use Rattle.ln_log.specs.declared.log.Pair.TheVariants as pair
+use Rattle.ln_log.specs.declared.log.Side.TheVariants as side
+use Rattle.ln_dance.specs.Dance.{sign_fault, view_at}
+use Rattle.ln_link.specs.End.{End, Turn}
 use Rattle.ln_link.specs.declared.link.Line.{Line}
 use Rattle.ln_link.specs.declared.link.Line.TheVariants.{Met}
-use Rattle.ln_pair.specs.Ends.{Ends, Step, message_at, happens}
+use Rattle.ln_pair.specs.Ends.{Ends, message_at}
 
 -- the keys of both ends: partners, and every point has 33 bytes
 pub record AreKeys (a b : Signer) : Type 0 where
   pub partners : ArePartners a b
   pub a_points : (n : ℕ) → n ≤ 2 ^ 48 → length (a.point_of n) ≡ 33
   pub b_points : (n : ℕ) → n ≤ 2 ^ 48 → length (b.point_of n) ≡ 33
-
--- ---- how far the steps go: closing begins at neither end
-
-pub record IsOpen (p : Ends) : Type 0 where
-  pub x : has_begun p.x ≡ false
-  pub y : has_begun p.y ≡ false
-
--- at no step
-abbrev pub StaysOpen : Signer → Signer → List Step → Ends → Type 0
-StaysOpen a b [] p = IsOpen p
-StaysOpen a b (s ∷ ss) p = IsOpen p × StaysOpen a b ss (happens a b s p)
 
 -- ---- what is promised
 
@@ -40,10 +32,14 @@ party e = party_of e.closing.shut e.closing.closed e.dance.log
 abbrev pub Headline : Ends → Type 0
 Headline p = Follows (party p.x) (party p.y) × Follows (party p.y) (party p.x)
 
--- the message in front is taken
+abbrev pub is_closing_signed : Message → Bool
+is_closing_signed (message.ClosingSigned m) = true
+is_closing_signed m = false
+
+-- the message in front is taken, but for a closing_signed: its fee may be refused
 abbrev pub TakesFront : Signer → Line → List Message → End → Type 0
 TakesFront keys l [] e = Unit {0}
-TakesFront keys l (m ∷ ms) e = (t : Turn) × (message_at keys l m e ≡ Ok t)
+TakesFront keys l (m ∷ ms) e = is_closing_signed m ≡ false → (t : Turn) × (message_at keys l m e ≡ Ok t)
 
 abbrev pub NoneRefused : Signer → Signer → Ends → Type 0
 NoneRefused a b p = TakesFront a p.x_line p.to_x p.x × TakesFront b p.y_line p.to_y p.y
@@ -62,8 +58,13 @@ pub record HoldsAll (x y : Party) : Type 0 where
   pub own : (held x).own ≡ x.own
   pub peer : (held x).peer ≡ y.own
 
+-- what the own commitment of an end is worth
+abbrev pub worth : End → View
+worth e = view_at (pair.Current side.Own) e.dance
+
+-- then both hold everything, and each one's commitment is worth what the other's is
 abbrev pub Agrees : Ends → Type 0
-Agrees p = IsAtRest p → HoldsAll (party p.x) (party p.y) × HoldsAll (party p.y) (party p.x)
+Agrees p = IsAtRest p → HoldsAll (party p.x) (party p.y) × HoldsAll (party p.y) (party p.x) × (worth p.x ≡ worth p.y)
 
 -- ---- no add behind the own shutdown (BOLT 2, "Closing Initiation: shutdown")
 

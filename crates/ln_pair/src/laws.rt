@@ -1,6 +1,6 @@
-//! What two ends of a channel promise over every list of steps from their opening on, as far as closing begins at
-//! neither: messages are delivered in the order in which they were sent, either end is given any command, and
-//! connections are lost, at each end by itself, and come back (BOLT 2, "Message Retransmission").
+//! What two ends of a channel promise over every list of steps from their opening on: messages are delivered in the
+//! order in which they were sent, either end is given any command, closing included, and connections are lost, at each
+//! end by itself, and come back (BOLT 2, "Message Retransmission").
 
 ghost use Rattle.std.specs.Prelude.{◌≡◌, List};
 ghost use Rattle.ln_msgs.specs.declared.messages.message.Message.{Message};
@@ -16,36 +16,33 @@ ghost use Rattle.ln_link.specs.End.{End};
 ghost use Rattle.ln_link.specs.Meeting.{Opens};
 ghost use Rattle.ln_link.specs.Step.{turned, saved_at, obeyed};
 ghost use Rattle.ln_pair.specs.Ends.{Step, opened, message_at, command_at, run};
-ghost use Rattle.ln_pair.specs.Promises.{AreKeys, StaysOpen, Headline, NoneRefused, Agrees, NoneAddsLate};
+ghost use Rattle.ln_pair.specs.Promises.{AreKeys, Headline, NoneRefused, Agrees, NoneAddsLate};
 
 /// A law: what either end holds as irrevocably committed is, each update once and in the order in which it was sent,
 /// a beginning of what the other end has covered by a signature.
 pub fn held_was_covered()
     ensures { (a b : Signer) (s : OpenSpec) (c : Config) (funder fundee : Opened) (steps : List Step) → AreKeys a b
-        → Opens a b s c funder fundee → StaysOpen a b steps (opened funder fundee)
-        → Headline (run a b steps (opened funder fundee)) }
+        → Opens a b s c funder fundee → Headline (run a b steps (opened funder fundee)) }
 {}
 
-/// A law: no message that is delivered is refused, `channel_reestablish` and what is sent again behind it included.
+/// A law: no message that is delivered is refused but a `closing_signed`, whose fee may be. That holds of
+/// `channel_reestablish` and of what is sent again behind it too.
 pub fn no_message_is_refused()
     ensures { (a b : Signer) (s : OpenSpec) (c : Config) (funder fundee : Opened) (steps : List Step) → AreKeys a b
-        → Opens a b s c funder fundee → StaysOpen a b steps (opened funder fundee)
-        → NoneRefused a b (run a b steps (opened funder fundee)) }
+        → Opens a b s c funder fundee → NoneRefused a b (run a b steps (opened funder fundee)) }
 {}
 
 /// A law: where both ends have met, nothing is in flight and neither has anything to sign, both hold every update of
-/// either side.
+/// either side, and their commitments are worth the same.
 pub fn both_agree_at_rest()
     ensures { (a b : Signer) (s : OpenSpec) (c : Config) (funder fundee : Opened) (steps : List Step) → AreKeys a b
-        → Opens a b s c funder fundee → StaysOpen a b steps (opened funder fundee)
-        → Agrees (run a b steps (opened funder fundee)) }
+        → Opens a b s c funder fundee → Agrees (run a b steps (opened funder fundee)) }
 {}
 
 /// A law: of all that an end has sent, over all its connections, no `update_add_htlc` stands behind a `shutdown`.
 pub fn no_add_follows_a_shutdown()
     ensures { (a b : Signer) (s : OpenSpec) (c : Config) (funder fundee : Opened) (steps : List Step) → AreKeys a b
-        → Opens a b s c funder fundee → StaysOpen a b steps (opened funder fundee)
-        → NoneAddsLate (run a b steps (opened funder fundee)) }
+        → Opens a b s c funder fundee → NoneAddsLate (run a b steps (opened funder fundee)) }
 {}
 
 /// A law: what the steps say of an end with a connection is what a link of it answers, to a message and to a command.
