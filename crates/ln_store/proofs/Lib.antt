@@ -1,1 +1,5 @@
 mod Maps
+pub mod Formats
+pub mod Laws
+pub mod Loops
+mod Appends

@@ -1,1 +1,3 @@
 pub mod Store
+pub mod Format
+pub mod Items

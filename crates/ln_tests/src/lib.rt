@@ -35,6 +35,8 @@ mod resume;
 #[cfg(test)]
 mod script;
 #[cfg(test)]
+mod store;
+#[cfg(test)]
 mod testing;
 #[cfg(test)]
 mod whole_fields;
