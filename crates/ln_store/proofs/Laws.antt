@@ -72,6 +72,7 @@ role_forth Funder y e = sym (some_is Funder y e)
 role_forth Fundee y e = sym (some_is Fundee y e)
 
 pub role_is_lawful : IsLawful it.role
+unfolding it.role
 role_is_lawful = code_is_lawful 1 role_number role_of (λ n x b e. role_back n x e) role_forth
 
 bit_is : (m : ℕ) → bit (is_odd m) ≡ m % 2
@@ -140,6 +141,7 @@ flags_forth_of false false false false Signature y e = sym (some_is _ y e)
 flags_forth_of false false false false Revocation y e = sym (some_is _ y e)
 
 pub flags_are_lawful : IsLawful it.flags
+unfolding it.flags
 flags_are_lawful = code_is_lawful 1 flags_number flags_of (λ n x b e. flags_back n x e)
     (λ x y e. flags_forth_of x.ready_sent x.ready_received x.shut_sent x.shut_received x.later y e)
 
@@ -205,6 +207,7 @@ failure_forth (Some refusal.Damaged) y e = absurd cc
 failure_forth (Some refusal.Version) y e = absurd cc
 
 pub failure_is_lawful : IsLawful it.failure
+unfolding it.failure
 failure_is_lawful = code_is_lawful 2 failure_number failure_of (λ n x b e. failure_back n x e) failure_forth
 
 -- ---- what was agreed on, and numbers of commitments
@@ -213,36 +216,45 @@ n8 : IsLawful (number 8)
 n8 = number_is_lawful 8
 
 pub fees_are_lawful : IsLawful it.fees
+unfolding it.fees
 fees_are_lawful = made_is_lawful _ _ _ (also n8 (also n8 n8)) (λ y. refl) (λ x. refl)
 
 pub agreement_is_lawful : IsLawful it.agreement
+unfolding it.agreement
 agreement_is_lawful = made_is_lawful _ _ _ (also (sized_is_lawful 4) (also (sized_is_lawful 4)
     (also (optional_is_lawful _ (fixed_is_lawful 8)) (also fees_are_lawful
     (also (sized_is_lawful 2) (optional_is_lawful _ (sized_is_lawful 2))))))) (λ y. refl) (λ x. refl)
 
 pub numbers_are_lawful : IsLawful it.numbers
+unfolding it.numbers
 numbers_are_lawful = made_is_lawful _ _ _ (also n8 (also n8 n8)) (λ y. refl) (λ x. refl)
 
 pub peer_is_lawful : IsLawful it.peer
+unfolding it.peer
 peer_is_lawful = made_is_lawful _ _ _ (also (fixed_is_lawful 33) (also (fixed_is_lawful 33)
     (optional_is_lawful _ (fixed_is_lawful 32)))) (λ y. refl) (λ x. refl)
 
 -- ---- updates
 
 pub add_is_lawful : IsLawful it.add
+unfolding it.add
 add_is_lawful = made_is_lawful _ _ _ (also n8 (also n8 (also (fixed_is_lawful 32) (also (number_is_lawful 4)
     (also (fixed_is_lawful 1366) (optional_is_lawful _ (also (fixed_is_lawful 32) n8))))))) (λ y. refl) (λ x. refl)
 
 fulfil_is_lawful : IsLawful it.fulfil
+unfolding it.fulfil
 fulfil_is_lawful = made_is_lawful _ _ _ (also n8 (fixed_is_lawful 32)) (λ y. refl) (λ x. refl)
 
 fail_is_lawful : IsLawful it.fail
+unfolding it.fail
 fail_is_lawful = made_is_lawful _ _ _ (also n8 (sized_is_lawful 2)) (λ y. refl) (λ x. refl)
 
 malformed_is_lawful : IsLawful it.malformed
+unfolding it.malformed
 malformed_is_lawful = made_is_lawful _ _ _ (also n8 (also (fixed_is_lawful 32) (number_is_lawful 2))) (λ y. refl) (λ x. refl)
 
 fee_is_lawful : IsLawful it.fee
+unfolding it.fee
 fee_is_lawful = made_is_lawful _ _ _ (number_is_lawful 4) (λ y. refl) (λ x. refl)
 
 add_forth : (x : Update) (y : Add) → offered x ≡ Some y → (kinds.Add) y ≡ x
@@ -337,6 +349,7 @@ update_own : (n : ℕ) (x : Update) → (update_form n).fits x ≡ true → upda
 update_own n x = own_picked update_tag n 0 _ _ x (add_own x) (own_picked update_tag n 1 _ _ x (fulfil_own x) (own_picked update_tag n 2 _ _ x (fail_own x) (own_picked update_tag n 3 _ _ x (malformed_own x) (own_picked update_tag n 4 _ _ x (fee_own x) (λ h. absurd cc)))))
 
 pub update_is_lawful : IsLawful it.update
+unfolding it.update
 update_is_lawful = tagged_is_lawful update_tag update_form update_forms update_own
 
 -- ---- the base and the window behind it
@@ -348,24 +361,34 @@ adds_own : (n : ℕ) (x : Add) → (add_form n).fits x ≡ true → 0 ≡ n
 adds_own n x = own_picked (λ a. 0) n 0 _ _ x (λ h. refl) (λ h. absurd cc)
 
 pub live_is_lawful : IsLawful it.live
+unfolding it.live
 live_is_lawful = made_is_lawful _ _ _ (also role_is_lawful (tagged_is_lawful (λ a. 0) add_form add_forms adds_own))
     (λ y. refl) (λ x. refl)
 
+sides_are_lawful : IsLawful it.sides
+unfolding it.sides
+sides_are_lawful = made_is_lawful _ _ _ (also n8 n8) (λ y. refl) (λ x. refl)
+
 pub base_is_lawful : IsLawful it.base
-base_is_lawful = made_is_lawful _ _ _ (also n8 (also n8 (also n8 (also n8 (also n8 (also n8 (also (number_is_lawful 4)
-    (list_is_lawful _ live_is_lawful)))))))) (λ y. refl) (λ x. refl)
+unfolding it.base
+base_is_lawful = made_is_lawful _ _ _ (also sides_are_lawful (also sides_are_lawful (also sides_are_lawful
+    (also (number_is_lawful 4) (list_is_lawful _ live_is_lawful))))) (λ y. refl) (λ x. refl)
 
 pub window_is_lawful : IsLawful it.window
+unfolding it.window
 window_is_lawful = made_is_lawful _ _ _ (also (list_is_lawful _ update_is_lawful) (list_is_lawful _ update_is_lawful))
     (λ y. refl) (λ x. refl)
 
 covered_is_lawful : IsLawful it.covered
+unfolding it.covered
 covered_is_lawful = made_is_lawful _ _ _ (also n8 n8) (λ y. refl) (λ x. refl)
 
 covered_by_own_is_lawful : IsLawful it.covered_by_own
+unfolding it.covered_by_own
 covered_by_own_is_lawful = made_is_lawful _ _ _ (also n8 n8) (λ y. refl) (λ x. refl)
 
 pub pairs_are_lawful : IsLawful it.pairs
+unfolding it.pairs
 pairs_are_lawful = made_is_lawful _ _ _ (also covered_is_lawful (also covered_is_lawful covered_by_own_is_lawful))
     (λ y. refl) (λ x. refl)
 
@@ -381,6 +404,7 @@ zero_back n u e = elim (chosen (n == 0) (Some tt) None (Some u) e) [
 ]
 
 no_number_is_lawful : IsLawful it.no_number
+unfolding it.no_number
 no_number_is_lawful = code_is_lawful 8 _ _ (λ n u b e. zero_back n u e) (λ x y e. refl)
 
 own_forth : (x : EventRef) (y : ℕ) → own_number x ≡ Some y → (ref.Own) y ≡ x
@@ -429,9 +453,11 @@ event_own : (n : ℕ) (x : EventRef) → (event_form n).fits x ≡ true → even
 event_own n x = own_picked event_tag n 0 _ _ x (own_own x) (own_picked event_tag n 1 _ _ x (peer_own x) (own_picked event_tag n 2 _ _ x (close_own x) (λ h. absurd cc)))
 
 event_is_lawful : IsLawful it.event
+unfolding it.event
 event_is_lawful = tagged_is_lawful event_tag event_form event_forms event_own
 
 pub events_are_lawful : IsLawful it.events
+unfolding it.events
 events_are_lawful = made_is_lawful _ _ _ (also n8 (list_is_lawful _ event_is_lawful)) (λ y. refl) (λ x. refl)
 
 forward_forth : (x : Mark) (y : List ℕ × (ℕ × ℕ)) → forward_of x ≡ Some y → (λ (p : List ℕ × (ℕ × ℕ)). mark.Forward p.0 p.1.0 p.1.1) y ≡ x
@@ -509,30 +535,54 @@ mark_own : (n : ℕ) (x : Mark) → (mark_form n).fits x ≡ true → mark_tag x
 mark_own n x = own_picked mark_tag n 1 _ _ x (forward_own x) (own_picked mark_tag n 2 _ _ x (reason_own x) (own_picked mark_tag n 3 _ _ x (code_own x) (own_picked mark_tag n 4 _ _ x (preimage_own x) (λ h. absurd cc))))
 
 stored_mark_is_lawful : IsLawful it.stored_mark
+unfolding it.stored_mark
 stored_mark_is_lawful = tagged_is_lawful mark_tag mark_form mark_forms mark_own
 
 decision_is_lawful : IsLawful it.decision
+unfolding it.decision
 decision_is_lawful = made_is_lawful _ _ _ (also n8 stored_mark_is_lawful) (λ y. refl) (λ x. refl)
 
 origin_is_lawful : IsLawful it.origin
+unfolding it.origin
 origin_is_lawful = made_is_lawful _ _ _ (also (fixed_is_lawful 32) n8) (λ y. refl) (λ x. refl)
 
 settlement_is_lawful : IsLawful it.settlement
+unfolding it.settlement
 settlement_is_lawful = made_is_lawful _ _ _ (also n8 (also origin_is_lawful (only_is_lawful _ _ update_is_lawful)))
     (λ y. refl) (λ x. refl)
 
 pub forwards_are_lawful : IsLawful it.forwards
+unfolding it.forwards
 forwards_are_lawful = made_is_lawful _ _ _ (also (list_is_lawful _ decision_is_lawful) (list_is_lawful _ settlement_is_lawful))
     (λ y. refl) (λ x. refl)
 
 pub closing_fees_are_lawful : IsLawful it.closing_fees
+unfolding it.closing_fees
 closing_fees_are_lawful = made_is_lawful _ _ _ (also (optional_is_lawful _ n8) (also (optional_is_lawful _ n8)
     (optional_is_lawful _ n8))) (λ y. refl) (λ x. refl)
 
 -- ---- all of them
 
+header_is_lawful : IsLawful it.header
+unfolding it.header
+header_is_lawful = made_is_lawful _ _ _ (also (fixed_is_lawful 32) (also role_is_lawful (also flags_are_lawful
+    failure_is_lawful))) (λ y. refl) (λ x. refl)
+
+commitments_are_lawful : IsLawful it.commitments
+unfolding it.commitments
+commitments_are_lawful = made_is_lawful _ _ _ (also numbers_are_lawful peer_is_lawful) (λ y. refl) (λ x. refl)
+
+updates_are_lawful : IsLawful it.updates
+unfolding it.updates
+updates_are_lawful = made_is_lawful _ _ _ (also base_is_lawful (also window_is_lawful pairs_are_lawful))
+    (λ y. refl) (λ x. refl)
+
+progress_is_lawful : IsLawful it.progress
+unfolding it.progress
+progress_is_lawful = made_is_lawful _ _ _ (also events_are_lawful (also forwards_are_lawful closing_fees_are_lawful))
+    (λ y. refl) (λ x. refl)
+
 pub items_are_lawful : IsLawful it.items
-items_are_lawful = made_is_lawful _ _ _ (also (fixed_is_lawful 32) (also role_is_lawful (also flags_are_lawful
-    (also failure_is_lawful (also agreement_is_lawful (also numbers_are_lawful (also peer_is_lawful
-    (also base_is_lawful (also window_is_lawful (also pairs_are_lawful (also events_are_lawful
-    (also forwards_are_lawful closing_fees_are_lawful)))))))))))) (λ y. refl) (λ x. refl)
+unfolding it.items
+items_are_lawful = made_is_lawful _ _ _ (also header_is_lawful (also agreement_is_lawful (also commitments_are_lawful
+    (also updates_are_lawful progress_is_lawful)))) (λ y. refl) (λ x. refl)

@@ -3,3 +3,4 @@ pub mod Formats
 pub mod Laws
 pub mod Loops
 mod Appends
+mod Records

@@ -36,6 +36,11 @@ use Rattle.ln_store.specs.declared.record.Origin.{Origin}
 use Rattle.ln_store.specs.declared.record.Settlement.{Settlement}
 use Rattle.ln_store.specs.declared.record.Forwards.{Forwards}
 use Rattle.ln_store.specs.declared.record.ClosingFees.{ClosingFees}
+use Rattle.ln_store.specs.declared.record.Sides.{Sides}
+use Rattle.ln_store.specs.declared.record.Header.{Header}
+use Rattle.ln_store.specs.declared.record.Commitments.{Commitments}
+use Rattle.ln_store.specs.declared.record.Updates.{Updates}
+use Rattle.ln_store.specs.declared.record.Progress.{Progress}
 use Rattle.ln_store.specs.declared.record.Items.{Items}
 use Rattle.ln_store.specs.Format.{Format, number, fixed, sized, ◌&◌, list, optional, tagged, nothing, made, kind, code, only}
 use Rattle.ln_store.specs.Format.{is_some}
@@ -50,7 +55,7 @@ abbrev pub role_of : ℕ → Option Role
 role_of n = if n == 0 then Some Funder else (if n == 1 then Some Fundee else None)
 
 -- one byte: 0 for the funder, 1 for the fundee
-abbrev pub role : Format Role
+unfoldable pub role : Format Role
 role = code 1 role_number role_of
 
 abbrev pub bit : Bool → ℕ
@@ -78,7 +83,7 @@ flags_of n = if nat_lt n 32 then Some (record {
 }) else None
 
 -- one byte, a bit each from the lowest on; the other bits are 0
-abbrev pub flags : Format Flags
+unfoldable pub flags : Format Flags
 flags = code 1 flags_number flags_of
 
 -- the refusals by which a channel fails
@@ -100,16 +105,16 @@ abbrev pub failure_of : ℕ → Option (Option Refusal)
 failure_of n = if n == 0 then Some None else failure_with n failures
 
 -- two bytes: 0 for none, else the number of a refusal by which a channel fails
-abbrev pub failure : Format (Option Refusal)
+unfoldable pub failure : Format (Option Refusal)
 failure = code 2 failure_number failure_of
 
 -- ---- what was agreed on, and numbers of commitments
 
-abbrev pub fees : Format Fees
+unfoldable pub fees : Format Fees
 fees = made (λ p. record { first = p.0; least = p.1.0; greatest = p.1.1 }) (λ f. (f.first, (f.least, f.greatest)))
     (number 8 & number 8 & number 8)
 
-abbrev pub agreement : Format Agreement
+unfoldable pub agreement : Format Agreement
 agreement =
     made (λ p. record {
       open_payload = p.0;
@@ -121,18 +126,18 @@ agreement =
     }) (λ a. (a.open_payload, (a.accept_payload, (a.place, (a.fees, (a.script, a.peer_script))))))
     (sized 4 & sized 4 & optional (fixed 8) & fees & sized 2 & optional (sized 2))
 
-abbrev pub numbers : Format Numbers
+unfoldable pub numbers : Format Numbers
 numbers = made (λ p. record { commitment = p.0; signed = p.1.0; revoked = p.1.1 })
     (λ n. (n.commitment, (n.signed, n.revoked))) (number 8 & number 8 & number 8)
 
-abbrev pub peer : Format Peer
+unfoldable pub peer : Format Peer
 peer = made (λ p. record { point = p.0; next_point = p.1.0; secret = p.1.1 }) (λ p. (p.point, (p.next_point, p.secret)))
     (fixed 33 & fixed 33 & optional (fixed 32))
 
 -- ---- updates
 
 -- the fields of BOLT 2 without the channel's id, and where the HTLC came from
-abbrev pub add : Format Add
+unfoldable pub add : Format Add
 add =
     made (λ p. record {
       id = p.0;
@@ -144,17 +149,17 @@ add =
     }) (λ a. (a.id, (a.amount, (a.hash, (a.expiry, (a.onion, a.origin))))))
     (number 8 & number 8 & fixed 32 & number 4 & fixed 1366 & optional (fixed 32 & number 8))
 
-abbrev pub fulfil : Format Fulfil
+unfoldable pub fulfil : Format Fulfil
 fulfil = made (λ p. record { id = p.0; preimage = p.1 }) (λ f. (f.id, f.preimage)) (number 8 & fixed 32)
 
-abbrev pub fail : Format Fail
+unfoldable pub fail : Format Fail
 fail = made (λ p. record { id = p.0; reason = p.1 }) (λ f. (f.id, f.reason)) (number 8 & sized 2)
 
-abbrev pub malformed : Format Malformed
+unfoldable pub malformed : Format Malformed
 malformed = made (λ p. record { id = p.0; sha256_of_onion = p.1.0; failure_code = p.1.1 })
     (λ m. (m.id, (m.sha256_of_onion, m.failure_code))) (number 8 & fixed 32 & number 2)
 
-abbrev pub fee : Format Fee
+unfoldable pub fee : Format Fee
 fee = made (λ n. record { feerate = n }) (λ f. f.feerate) (number 4)
 
 abbrev pub the_fulfil : Update → Option Fulfil
@@ -201,7 +206,7 @@ update_form tag =
     else (if tag == 4 then kind kinds.Fee the_fee fee else nothing))))
 
 -- a byte for the kind, and its fields
-abbrev pub update : Format Update
+unfoldable pub update : Format Update
 update = tagged update_tag update_form
 
 abbrev pub is_removal : Update → Bool
@@ -213,34 +218,37 @@ abbrev pub add_form : ℕ → Format Add
 add_form tag = if tag == 0 then add else nothing
 
 -- who offers it, and then the add as an update
-abbrev pub live : Format LiveHtlc
+unfoldable pub live : Format LiveHtlc
 live = made (λ p. record { offerer = p.0; add = p.1 }) (λ h. (h.offerer, h.add)) (role & tagged (λ a. 0) add_form)
 
-abbrev pub base : Format Base
+-- the funder's, and then the fundee's
+unfoldable pub sides : Format Sides
+sides = made (λ p. record { funder = p.0; fundee = p.1 }) (λ s. (s.funder, s.fundee)) (number 8 & number 8)
+
+-- how many updates, the next ids, the balances; the feerate; the live HTLCs
+unfoldable pub base : Format Base
 base =
     made (λ p. record {
-      funder_updates = p.0;
-      fundee_updates = p.1.0;
-      funder_next_id = p.1.1.0;
-      fundee_next_id = p.1.1.1.0;
-      funder_balance = p.1.1.1.1.0;
-      fundee_balance = p.1.1.1.1.1.0;
-      feerate = p.1.1.1.1.1.1.0;
-      live = p.1.1.1.1.1.1.1;
-    }) (λ b. (b.funder_updates, (b.fundee_updates, (b.funder_next_id, (b.fundee_next_id, (b.funder_balance, (b.fundee_balance, (b.feerate, b.live)))))))) (number 8 & number 8 & number 8 & number 8 & number 8 & number 8 & number 4 & list live)
+      updates = p.0;
+      next_ids = p.1.0;
+      balances = p.1.1.0;
+      feerate = p.1.1.1.0;
+      live = p.1.1.1.1;
+    }) (λ b. (b.updates, (b.next_ids, (b.balances, (b.feerate, b.live)))))
+    (sides & sides & sides & number 4 & list live)
 
-abbrev pub window : Format Window
+unfoldable pub window : Format Window
 window = made (λ p. record { funder = p.0; fundee = p.1 }) (λ w. (w.funder, w.fundee)) (list update & list update)
 
 -- own ones first
-abbrev pub covered : Format Covered
+unfoldable pub covered : Format Covered
 covered = made (λ p. record { own = p.0; peer = p.1 }) (λ c. (c.own, c.peer)) (number 8 & number 8)
 
 -- those of the peer first
-abbrev pub covered_by_own : Format Covered
+unfoldable pub covered_by_own : Format Covered
 covered_by_own = made (λ p. record { own = p.1; peer = p.0 }) (λ c. (c.peer, c.own)) (number 8 & number 8)
 
-abbrev pub pairs : Format Pairs
+unfoldable pub pairs : Format Pairs
 pairs = made (λ p. record { signed = p.0; acknowledged = p.1.0; current = p.1.1 })
     (λ p. (p.signed, (p.acknowledged, p.current))) (covered & covered & covered_by_own)
 
@@ -267,7 +275,7 @@ event_tag (ref.Peer n) = 1
 event_tag ref.Close = 2
 
 -- eight zero bytes
-abbrev pub no_number : Format (Unit {0})
+unfoldable pub no_number : Format (Unit {0})
 no_number = code 8 (λ u. 0) (λ n. if n == 0 then Some tt else None)
 
 abbrev pub event_form : ℕ → Format EventRef
@@ -277,10 +285,10 @@ event_form tag =
     else (if tag == 2 then kind (λ u. ref.Close) the_close no_number else nothing))
 
 -- a byte for the side, 2 for the close, and the number of the update
-abbrev pub event : Format EventRef
+unfoldable pub event : Format EventRef
 event = tagged event_tag event_form
 
-abbrev pub events : Format Events
+unfoldable pub events : Format Events
 events = made (λ p. record { decided = p.0; undecided = p.1 }) (λ e. (e.decided, e.undecided)) (number 8 & list event)
 
 abbrev pub forward_of : Mark → Option (List ℕ × (ℕ × ℕ))
@@ -326,44 +334,51 @@ mark_form tag =
     else (if tag == 3 then kind mark.Malformed code_of (number 2)
     else (if tag == 4 then kind mark.Fulfil preimage_of (fixed 32) else nothing)))
 
-abbrev pub stored_mark : Format Mark
+unfoldable pub stored_mark : Format Mark
 stored_mark = tagged mark_tag mark_form
 
-abbrev pub decision : Format Decision
+unfoldable pub decision : Format Decision
 decision = made (λ p. record { id = p.0; mark = p.1 }) (λ d. (d.id, d.mark)) (number 8 & stored_mark)
 
-abbrev pub origin : Format Origin
+unfoldable pub origin : Format Origin
 origin = made (λ p. record { channel = p.0; id = p.1 }) (λ o. (o.channel, o.id)) (fixed 32 & number 8)
 
-abbrev pub settlement : Format Settlement
+unfoldable pub settlement : Format Settlement
 settlement = made (λ p. record { id = p.0; origin = p.1.0; removal = p.1.1 }) (λ s. (s.id, (s.origin, s.removal)))
     (number 8 & origin & only is_removal update)
 
-abbrev pub forwards : Format Forwards
+unfoldable pub forwards : Format Forwards
 forwards = made (λ p. record { decisions = p.0; results = p.1 }) (λ f. (f.decisions, f.results))
     (list decision & list settlement)
 
-abbrev pub closing_fees : Format ClosingFees
+unfoldable pub closing_fees : Format ClosingFees
 closing_fees = made (λ p. record { own = p.0; peer = p.1.0; closed = p.1.1 }) (λ f. (f.own, (f.peer, f.closed)))
     (optional (number 8) & optional (number 8) & optional (number 8))
 
 -- ---- all of them
 
-abbrev pub items : Format Items
+unfoldable pub header : Format Header
+header = made (λ p. record { channel = p.0; role = p.1.0; flags = p.1.1.0; failure = p.1.1.1 })
+    (λ h. (h.channel, (h.role, (h.flags, h.failure)))) (fixed 32 & role & flags & failure)
+
+unfoldable pub commitments : Format Commitments
+commitments = made (λ p. record { numbers = p.0; peer = p.1 }) (λ c. (c.numbers, c.peer)) (numbers & peer)
+
+unfoldable pub updates : Format Updates
+updates = made (λ p. record { base = p.0; window = p.1.0; pairs = p.1.1 }) (λ u. (u.base, (u.window, u.pairs)))
+    (base & window & pairs)
+
+unfoldable pub progress : Format Progress
+progress = made (λ p. record { events = p.0; forwards = p.1.0; fees = p.1.1 })
+    (λ p. (p.events, (p.forwards, p.fees))) (events & forwards & closing_fees)
+
+unfoldable pub items : Format Items
 items =
     made (λ p. record {
-      channel = p.0;
-      role = p.1.0;
-      flags = p.1.1.0;
-      failure = p.1.1.1.0;
-      agreement = p.1.1.1.1.0;
-      numbers = p.1.1.1.1.1.0;
-      peer = p.1.1.1.1.1.1.0;
-      base = p.1.1.1.1.1.1.1.0;
-      window = p.1.1.1.1.1.1.1.1.0;
-      pairs = p.1.1.1.1.1.1.1.1.1.0;
-      events = p.1.1.1.1.1.1.1.1.1.1.0;
-      forwards = p.1.1.1.1.1.1.1.1.1.1.1.0;
-      fees = p.1.1.1.1.1.1.1.1.1.1.1.1;
-    }) (λ i. (i.channel, (i.role, (i.flags, (i.failure, (i.agreement, (i.numbers, (i.peer, (i.base, (i.window, (i.pairs, (i.events, (i.forwards, i.fees))))))))))))) (fixed 32 & role & flags & failure & agreement & numbers & peer & base & window & pairs & events & forwards
-        & closing_fees)
+      header = p.0;
+      agreement = p.1.0;
+      commitments = p.1.1.0;
+      updates = p.1.1.1.0;
+      progress = p.1.1.1.1;
+    }) (λ i. (i.header, (i.agreement, (i.commitments, (i.updates, i.progress)))))
+    (header & agreement & commitments & updates & progress)

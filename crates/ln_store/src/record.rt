@@ -51,21 +51,24 @@ pub struct LiveHtlc {
     pub add: Add,
 }
 
-/// What a number of updates of either side have come to, in whose place it stands.
-#[derive(Debug, Drop)]
+/// A number of either side.
+#[derive(Clone, Copy, Debug, PartialEq, Eq)]
+pub struct Sides {
+    /// The funder's.
+    pub funder: u64,
+    /// The fundee's.
+    pub fundee: u64,
+}
+
+/// What the first updates of either side have come to, in whose place it stands.
+#[derive(Drop)]
 pub struct Base {
-    /// How many updates of the funder's are in it.
-    pub funder_updates: u64,
-    /// How many of the fundee's.
-    pub fundee_updates: u64,
-    /// The id of the funder's next HTLC behind them.
-    pub funder_next_id: u64,
-    /// That of the fundee's.
-    pub fundee_next_id: u64,
-    /// What the funder has, in millisatoshi.
-    pub funder_balance: u64,
-    /// What the fundee has, in millisatoshi.
-    pub fundee_balance: u64,
+    /// How many updates are in it.
+    pub updates: Sides,
+    /// The ids of the next HTLCs behind these.
+    pub next_ids: Sides,
+    /// What the sides have, in millisatoshi.
+    pub balances: Sides,
     /// In satoshi per 1000 weight.
     pub feerate: u32,
     /// The live HTLCs: those of the funder by id, then those of the fundee.
@@ -73,7 +76,7 @@ pub struct Base {
 }
 
 /// The updates behind the base, one by one.
-#[derive(Debug, Drop)]
+#[derive(Drop)]
 pub struct Window {
     /// The funder's.
     pub funder: Listed<Update>,
@@ -102,7 +105,7 @@ pub struct Pairs {
 }
 
 /// The events of a channel end: how many were decided, and those behind them.
-#[derive(Debug, Drop)]
+#[derive(Drop)]
 pub struct Events {
     /// How many were decided.
     pub decided: u64,
@@ -111,7 +114,7 @@ pub struct Events {
 }
 
 /// What was decided about an HTLC of the peer's.
-#[derive(Debug, Drop)]
+#[derive(Drop)]
 pub struct Decision {
     /// The HTLC.
     pub id: u64,
@@ -129,7 +132,7 @@ pub struct Origin {
 }
 
 /// What became of an own HTLC that forwards another one.
-#[derive(Debug, Drop)]
+#[derive(Drop)]
 pub struct Settlement {
     /// The own HTLC.
     pub id: u64,
@@ -140,7 +143,7 @@ pub struct Settlement {
 }
 
 /// What was decided about HTLCs, and what became of those that were forwarded.
-#[derive(Debug, Drop)]
+#[derive(Drop)]
 pub struct Forwards {
     /// In the order of deciding.
     pub decisions: Listed<Decision>,
@@ -159,9 +162,9 @@ pub struct ClosingFees {
     pub closed: Option<u64>,
 }
 
-/// What is stored of one end of a channel.
-#[derive(Drop)]
-pub struct Items {
+/// Which channel and end it is, and how far it is.
+#[derive(Clone, Copy, Debug, PartialEq, Eq)]
+pub struct Header {
     /// The channel's id.
     pub channel: ChannelId,
     /// Which side this end is.
@@ -170,22 +173,50 @@ pub struct Items {
     pub flags: Flags,
     /// By what the channel has failed, if it has: 21 to 35 or 37.
     pub failure: Option<Refusal>,
-    /// What both sides agreed on.
-    pub agreement: Agreement,
-    /// The numbers of commitments.
+}
+
+/// The commitments of both sides.
+#[derive(Clone, Copy, Debug, PartialEq, Eq)]
+pub struct Commitments {
+    /// Their numbers.
     pub numbers: Numbers,
-    /// What the peer has told of its commitments.
+    /// What the peer has told of its own.
     pub peer: Peer,
-    /// What the first updates came to.
+}
+
+/// The updates of both sides.
+#[derive(Drop)]
+pub struct Updates {
+    /// What the first ones came to.
     pub base: Base,
-    /// The updates behind these.
+    /// Those behind them.
     pub window: Window,
-    /// What the signatures and commitments cover.
+    /// How many of them signatures and commitments cover.
     pub pairs: Pairs,
+}
+
+/// What became of the updates.
+#[derive(Drop)]
+pub struct Progress {
     /// The events.
     pub events: Events,
     /// The HTLCs that are forwarded.
     pub forwards: Forwards,
     /// The closing fees that passed.
     pub fees: ClosingFees,
+}
+
+/// What is stored of one end of a channel.
+#[derive(Drop)]
+pub struct Items {
+    /// Which channel and end it is, and how far it is.
+    pub header: Header,
+    /// What both sides agreed on.
+    pub agreement: Agreement,
+    /// The commitments of both sides.
+    pub commitments: Commitments,
+    /// The updates of both sides.
+    pub updates: Updates,
+    /// What became of the updates.
+    pub progress: Progress,
 }

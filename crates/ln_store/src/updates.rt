@@ -35,6 +35,7 @@ impl Stored for (ChannelId, u64) {
 impl Stored for Add {
     ghost format = { it.add };
 
+    #[tactic(auto, unfolding(crate::specs::Items::add))]
     fn read(alloc: Global, bytes: &[u8]) -> Result<(Add, &[u8]), Refusal> {
         let (id, rest) = u64_at(bytes)?;
         let (amount, rest) = u64_at(rest)?;
@@ -53,6 +54,7 @@ impl Stored for Add {
         Ok((add, rest))
     }
 
+    #[tactic(auto, unfolding(crate::specs::Items::add))]
     fn write(&self, out: &mut Vec<u8>) -> Result<(), Refusal> {
         put_u64(out, self.id)?;
         put_u64(out, self.amount)?;
@@ -66,12 +68,14 @@ impl Stored for Add {
 impl Stored for Fulfil {
     ghost format = { it.fulfil };
 
+    #[tactic(auto, unfolding(crate::specs::Items::fulfil))]
     fn read(_alloc: Global, bytes: &[u8]) -> Result<(Fulfil, &[u8]), Refusal> {
         let (id, rest) = u64_at(bytes)?;
         let (preimage, rest) = array_at(rest)?;
         Ok((Fulfil { id, preimage }, rest))
     }
 
+    #[tactic(auto, unfolding(crate::specs::Items::fulfil))]
     fn write(&self, out: &mut Vec<u8>) -> Result<(), Refusal> {
         put_u64(out, self.id)?;
         put(out, &self.preimage)
@@ -81,12 +85,14 @@ impl Stored for Fulfil {
 impl Stored for Fail {
     ghost format = { it.fail };
 
+    #[tactic(auto, unfolding(crate::specs::Items::fail))]
     fn read(alloc: Global, bytes: &[u8]) -> Result<(Fail, &[u8]), Refusal> {
         let (id, rest) = u64_at(bytes)?;
         let (reason, rest) = short_at(alloc, rest)?;
         Ok((Fail { id, reason }, rest))
     }
 
+    #[tactic(auto, unfolding(crate::specs::Items::fail))]
     fn write(&self, out: &mut Vec<u8>) -> Result<(), Refusal> {
         put_u64(out, self.id)?;
         put_short(out, self.reason.as_slice())
@@ -96,6 +102,7 @@ impl Stored for Fail {
 impl Stored for Malformed {
     ghost format = { it.malformed };
 
+    #[tactic(auto, unfolding(crate::specs::Items::malformed))]
     fn read(_alloc: Global, bytes: &[u8]) -> Result<(Malformed, &[u8]), Refusal> {
         let (id, rest) = u64_at(bytes)?;
         let (sha256_of_onion, rest) = array_at(rest)?;
@@ -108,6 +115,7 @@ impl Stored for Malformed {
         Ok((malformed, rest))
     }
 
+    #[tactic(auto, unfolding(crate::specs::Items::malformed))]
     fn write(&self, out: &mut Vec<u8>) -> Result<(), Refusal> {
         put_u64(out, self.id)?;
         put(out, &self.sha256_of_onion)?;
@@ -118,11 +126,13 @@ impl Stored for Malformed {
 impl Stored for Fee {
     ghost format = { it.fee };
 
+    #[tactic(auto, unfolding(crate::specs::Items::fee))]
     fn read(_alloc: Global, bytes: &[u8]) -> Result<(Fee, &[u8]), Refusal> {
         let (feerate, rest) = u32_at(bytes)?;
         Ok((Fee { feerate }, rest))
     }
 
+    #[tactic(auto, unfolding(crate::specs::Items::fee))]
     fn write(&self, out: &mut Vec<u8>) -> Result<(), Refusal> {
         put_u32(out, self.feerate)
     }
@@ -131,6 +141,7 @@ impl Stored for Fee {
 impl Stored for Update {
     ghost format = { it.update };
 
+    #[tactic(auto, unfolding(crate::specs::Items::update))]
     fn read(alloc: Global, bytes: &[u8]) -> Result<(Update, &[u8]), Refusal> {
         let [tag, rest @ ..] = bytes else {
             return Err(Refusal::Damaged);
@@ -160,6 +171,7 @@ impl Stored for Update {
         }
     }
 
+    #[tactic(auto, unfolding(crate::specs::Items::update))]
     fn write(&self, out: &mut Vec<u8>) -> Result<(), Refusal> {
         match self {
             Update::Add(add) => {
@@ -200,6 +212,7 @@ pub(crate) fn removal_at(alloc: Global, bytes: &[u8]) -> Result<(Update, &[u8]),
 impl Stored for Role {
     ghost format = { it.role };
 
+    #[tactic(auto, unfolding(crate::specs::Items::role))]
     fn read(_alloc: Global, bytes: &[u8]) -> Result<(Role, &[u8]), Refusal> {
         let (number, rest) = u8_at(bytes)?;
         match number {
@@ -209,6 +222,7 @@ impl Stored for Role {
         }
     }
 
+    #[tactic(auto, unfolding(crate::specs::Items::role))]
     fn write(&self, out: &mut Vec<u8>) -> Result<(), Refusal> {
         match self {
             Role::Funder => put_u8(out, 0),
@@ -220,6 +234,7 @@ impl Stored for Role {
 impl Stored for LiveHtlc {
     ghost format = { it.live };
 
+    #[tactic(auto, unfolding(crate::specs::Items::live))]
     fn read(alloc: Global, bytes: &[u8]) -> Result<(LiveHtlc, &[u8]), Refusal> {
         let (offerer, rest) = Role::read(alloc, bytes)?;
         let [0, rest @ ..] = rest else {
@@ -229,6 +244,7 @@ impl Stored for LiveHtlc {
         Ok((LiveHtlc { offerer, add }, rest))
     }
 
+    #[tactic(auto, unfolding(crate::specs::Items::live))]
     fn write(&self, out: &mut Vec<u8>) -> Result<(), Refusal> {
         self.offerer.write(out)?;
         put_u8(out, 0)?;

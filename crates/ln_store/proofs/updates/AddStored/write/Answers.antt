@@ -1,10 +1,12 @@
 use Rattle.std.proofs.lemmas.Result.{on_ok_weaker}
 use Rattle.byteorder.specs.Endian.{big_bytes}
 use Rattle.ln_store.specs.Format.{optional, fixed, number, ◌&◌}
+use Rattle.ln_store.specs.Items.{add}
 use Rattle.ln_store.proofs.Appends.{six_follow}
 use Rattle.ln_store.proofs.updates.AddStored.write.Goals as goal
 
 pub returns-clause-appends_the_value : goal.returns-clause-appends_the_value
+unfolding add
 returns-clause-appends_the_value c =
     let a = c.args.self.now in
     on_ok_weaker c.put_optional.result (λ e.
