@@ -15,7 +15,7 @@ abbrev pub magic : List ℕ
 magic = 76 ∷ 78 ∷ 76 ∷ 82 ∷ []
 
 -- the version in two bytes, the length of the body in eight, and the body
-abbrev pub unsealed : ℕ → List ℕ → List ℕ
+unfoldable pub unsealed : ℕ → List ℕ → List ℕ
 unsealed version body = magic ++ (big_bytes 2 version ++ (big_bytes 8 (length body) ++ body))
 
 -- and the SHA-256 of these
@@ -52,8 +52,7 @@ body_of bytes = drop 14 (before_seal bytes)
 -- nothing follows the items, and they may be had
 abbrev pub only_items : Option (Items × List ℕ) → Result Items Refusal
 only_items None = Err refusal.Damaged
-only_items (Some x) = if length x.1 == 0 then (if is_readable x.0 then Ok x.0 else Err refusal.Damaged)
-    else Err refusal.Damaged
+only_items (Some x) = if (length x.1 == 0) && is_readable x.0 then Ok x.0 else Err refusal.Damaged
 
 -- the items of a record, or the first thing that is wrong
 abbrev pub record_at : List ℕ → Result Items Refusal

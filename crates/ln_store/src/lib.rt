@@ -17,6 +17,7 @@ mod record_store;
 mod stored;
 mod updates;
 
+pub use codec::{decode_record, encode_record, one_record};
 pub use link_record::LinkRecord;
 pub use list::Listed;
 pub use mark::{EventRef, Mark};
