@@ -1,7 +1,7 @@
 -- Each format reads what it writes, and nothing else.
 use Rattle.std.proofs.Common.{◌≡◌, ℕ, zero, suc, ◌^◌, ◌<◌, ◌≤◌, Bool, true, false, cond, List, [], ◌∷◌, ◌++◌, length}
 use Rattle.std.proofs.Common.{take, drop, Option, Some, None, nat_lt, refl, sym, ap, subst, ◌∙◌, append_assoc, arith}
-use Rattle.std.proofs.Common.{◌&&◌, ◌==◌, IsTrue, inl, inr}
+use Rattle.std.proofs.Common.{◌&&◌, ◌==◌, inl, inr}
 use Rattle.std.proofs.lemmas.Bool.{ltb-false, le-ltb, ltb-true, lt-ltb, eqb-true, eq-eqb}
 use Rattle.std.proofs.lemmas.List.{take_at, drop_at, take-append-drop, length-append, length-take}
 use Rattle.byteorder.specs.Endian.{big_bytes, big_number}
@@ -9,9 +9,9 @@ use Rattle.byteorder.specs.Numbers.{big_from-lt, big_number-reads_back, length-b
 use Rattle.std.specs.List.{flat_map, list_all}
 use Rattle.ln_bytes.proofs.Reading.{IsBytes, IsBytes-rest, IsBytes-drop, Takes, Takes-then, chosen}
 use Rattle.ln_bytes.proofs.Numbers.{bytes_back}
-use Rattle.ln_store.specs.Format.{Format, ◌>>=◌, number_at, bytes_at, number, fixed, sized_at, sized, both_at, ◌&◌}
-use Rattle.ln_store.specs.Format.{items_at, list_at, list, optional_at, optional, tagged_at, tagged, nothing, made_at, made}
-use Rattle.ln_store.specs.Format.{kind, bytes_of_some, fits_some, found, code_at, code, is_some, only_at, only}
+use Rattle.ln_store.specs.Format.{Format, ◌>>=◌, number_at, bytes_at, number, fixed, sized_at, sized, ◌&◌}
+use Rattle.ln_store.specs.Format.{items_at, list, optional_at, optional, tagged_at, tagged, nothing, made_at, made}
+use Rattle.ln_store.specs.Format.{kind, bytes_of_some, fits_some, found, code, is_some, only}
 
 -- what is read is spelled so and fits, and what fits is read as it is spelled
 pub record IsLawful {A : Type 0} (f : Format A) : Type 0 where
@@ -202,7 +202,7 @@ list_is_lawful {A = A} f lf = record {
       let both = Takes-then bytes (big_bytes 8 a.0.0) a.0.1 (flat_map f.bytes xs) rest first.0 second.0 in (
         subst (λ (n : ℕ). Takes bytes (big_bytes 8 n ++ flat_map f.bytes xs) rest) (sym second.1) both,
         true_both (nat_lt (length xs) (256 ^ 8)) (list_all f.fits xs)
-        (lt-ltb (length xs) (256 ^ 8) (subst (λ (n : ℕ). n < 256 ^ 8) (sym second.1) first.1)) second.2,
+            (lt-ltb (length xs) (256 ^ 8) (subst (λ (n : ℕ). n < 256 ^ 8) (sym second.1) first.1)) second.2,
       );
   again = λ xs rest h.
       let fit = both_true (nat_lt (length xs) (256 ^ 8)) (list_all f.fits xs) h in
@@ -228,11 +228,13 @@ optional_takes {A = A} f lf (tag ∷ bytes) o rest b e =
           let same = some_pair {A = Option A} None o bytes rest h.1 in
           subst (λ (t : ℕ). Takes (t ∷ bytes) ((optional f).bytes o) rest × ((optional f).fits o ≡ true))
           (sym (eqb-true tag 0 h.0))
-          (subst (λ (p : Option A). Takes (0 ∷ bytes) ((optional f).bytes p) rest × ((optional f).fits p ≡ true)) same.0
-          (record {
-            parts = ap (λ (l : List ℕ). 0 ∷ l) same.1;
-            rest_fits = subst IsBytes same.1 (IsBytes-rest tag bytes b);
-          }, refl))
+          (subst (λ (p : Option A). Takes (0 ∷ bytes) ((optional f).bytes p) rest × ((optional f).fits p ≡ true)) same.0 (
+            record {
+              parts = ap (λ (l : List ℕ). 0 ∷ l) same.1;
+              rest_fits = subst IsBytes same.1 (IsBytes-rest tag bytes b);
+            },
+            refl,
+          ))
       | inr h ↦
           let g = passed (tag == 1) (f.at bytes >>= λ x. Some (Some x.0, x.1)) (o, rest) h.1 in
           let a = then_some (f.at bytes) (λ x. Some (Some x.0, x.1)) (o, rest) g.1 in

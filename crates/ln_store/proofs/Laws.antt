@@ -1,5 +1,5 @@
 -- Each item is read as it is written, and nothing else is.
-use Rattle.std.proofs.Common.{◌≡◌, ℕ, ◌+◌, ◌*◌, ◌/◌, ◌%◌, ◌^◌, ◌<◌, Bool, true, false, cond, List, [], ◌∷◌, Option, Some}
+use Rattle.std.proofs.Common.{◌≡◌, ℕ, ◌/◌, ◌%◌, ◌<◌, Bool, true, false, cond, List, [], ◌∷◌, Option, Some}
 use Rattle.std.proofs.Common.{None, nat_lt, ◌==◌, refl, sym, ap, ◌∙◌, arith, inl, inr}
 use Rattle.std.proofs.lemmas.Bool.{eqb-true, ltb-true, eqb-false}
 use Rattle.ln_bytes.proofs.Reading.{chosen}
@@ -23,7 +23,7 @@ use Rattle.ln_store.specs.declared.mark.Mark.TheVariants as mark
 use Rattle.ln_store.specs.declared.mark.EventRef.{EventRef}
 use Rattle.ln_store.specs.declared.mark.EventRef.TheVariants as ref
 use Rattle.ln_store.specs.declared.record.Flags.{Flags}
-use Rattle.ln_store.specs.Format.{Format, number, fixed, sized, ◌&◌, list, optional, tagged, nothing, made, kind, code, only}
+use Rattle.ln_store.specs.Format.{Format, number, fixed, sized, ◌&◌, kind}
 use Rattle.ln_store.specs.Items as it
 use Rattle.ln_store.specs.Items.{role_number, role_of, bit, later_bit, is_odd, flags_number, flags_of, failure_with}
 use Rattle.ln_store.specs.Items.{failure_number, failure_of, failures, update_tag, update_form, add_form, event_tag}

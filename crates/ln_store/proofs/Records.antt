@@ -1,8 +1,8 @@
 -- A record is read as it is written, and nothing else is.
 use Rattle.std.proofs.Common.{◌≡◌, ℕ, zero, suc, ◌+◌, ◌-◌, ◌^◌, ◌<◌, ◌≤◌, Bool, true, false, cond, List, [], ◌∷◌, ◌++◌, length, take, drop}
 use Rattle.std.proofs.Common.{Option, Some, None, Result, Ok, Err, nat_lt, nat_eq, ◌==◌, not, ◌&&◌, refl, sym, ap, ◌∙◌, arith}
-use Rattle.std.proofs.Common.{subst, append_assoc, append-nil, inl, inr}
-use Rattle.std.proofs.lemmas.Bool.{ltb-false, le-ltb, ltb-true, lt-ltb, eqb-true, eq-eqb, not-true}
+use Rattle.std.proofs.Common.{subst, append-nil, inl, inr}
+use Rattle.std.proofs.lemmas.Bool.{ltb-false, le-ltb, eqb-true, eq-eqb, not-true}
 use Rattle.std.proofs.lemmas.List.{take_at, drop_at, take-append-drop, length-append, length-take, length-drop}
 use Rattle.std.proofs.lemmas.Cmp.{nat_list_eq_equiv}
 use Rattle.std.specs.Cmp.Lexicographic.{same_text, pointwise}
@@ -11,12 +11,12 @@ use Rattle.byteorder.specs.Numbers.{big_number-reads_back, length-bytes_high_fir
 use Rattle.sha2.proofs.Facts256.{length-sha256}
 use Rattle.ln_msgs.specs.declared.refusals.refusal.Refusal.{Refusal}
 use Rattle.ln_msgs.specs.declared.refusals.refusal.Refusal.TheVariants as refusal
-use Rattle.ln_bytes.proofs.Reading.{IsBytes, IsBytes-drop, IsBytes-rest, Takes, chosen}
+use Rattle.ln_bytes.proofs.Reading.{IsBytes, IsBytes-drop, IsBytes-rest, chosen}
 use Rattle.ln_bytes.proofs.Numbers.{bytes_back}
 use Rattle.ln_keys.specs.Hash.{payment_hash as digest}
 use Rattle.ln_store.specs.declared.record.Items.{Items}
 use Rattle.ln_store.specs.Items as it
-use Rattle.ln_store.specs.Readable.{is_readable, is_sound, have_forms}
+use Rattle.ln_store.specs.Readable.{is_readable, is_sound}
 use Rattle.ln_store.specs.Record.{magic, unsealed, sealed, record_bytes, before_seal, seal_of, begins_well, is_sealed}
 use Rattle.ln_store.specs.Record.{version_of, body_of, only_items, record_at, Gives}
 use Rattle.std.specs.Prelude.{IfOk}
@@ -28,14 +28,22 @@ use Rattle.ln_store.proofs.Laws.{items_are_lawful}
 length_unsealed : (v : ℕ) (body : List ℕ) → length (unsealed v body) ≡ 14 + length body
 unfolding unsealed
 length_unsealed v body =
-    omega (arith, length-append (big_bytes 2 v) (big_bytes 8 (length body) ++ body),
-    length-append (big_bytes 8 (length body)) body, length-bytes_high_first 2 v,
-    length-bytes_high_first 8 (length body))
+    omega (
+      arith,
+      length-append (big_bytes 2 v) (big_bytes 8 (length body) ++ body),
+      length-append (big_bytes 8 (length body)) body,
+      length-bytes_high_first 2 v,
+      length-bytes_high_first 8 (length body),
+    )
 
 length_sealed : (v : ℕ) (body : List ℕ) → length (sealed v body) ≡ 46 + length body
 length_sealed v body =
-    omega (arith, length-append (unsealed v body) (digest (unsealed v body)), length_unsealed v body,
-    length-sha256 (unsealed v body))
+    omega (
+      arith,
+      length-append (unsealed v body) (digest (unsealed v body)),
+      length_unsealed v body,
+      length-sha256 (unsealed v body),
+    )
 
 before : (v : ℕ) (body : List ℕ) → before_seal (sealed v body) ≡ unsealed v body
 before v body = take_at (unsealed v body) (digest (unsealed v body)) (length (sealed v body) - 32)
@@ -75,13 +83,6 @@ is_sealed_so v body below =
 
 -- ---- what is written is read again
 
-readable_parts : (i : Items) → is_readable i ≡ true
-    → (it.items.fits i ≡ true) × (length (it.items.bytes i) < 256 ^ 8) × (is_sound i ≡ true)
-readable_parts i h =
-    let a = both_true (have_forms i) (is_sound i) h in
-    let b = both_true (it.items.fits i) (nat_lt (length (it.items.bytes i)) (256 ^ 8)) a.0 in
-    (b.0, ltb-true _ _ b.1, a.1)
-
 items_again : (i : Items) → it.items.fits i ≡ true → it.items.at (it.items.bytes i) ≡ Some (i, [])
 items_again i h = ap it.items.at (sym (append-nil (it.items.bytes i))) ∙ items_are_lawful.again i [] h
 
@@ -89,15 +90,17 @@ chosen_by : {A : Type 0} (b : Bool) (x y : A) → b ≡ true → cond b x y ≡ 
 chosen_by true x y e = refl
 chosen_by false x y e = absurd cc
 
-pub record_again : (i : Items) → is_readable i ≡ true → record_at (record_bytes i) ≡ Ok i
-record_again i h =
-    let p = readable_parts i h in
+pub record_again : (i : Items) → is_readable i ≡ true → length (record_bytes i) < 2 ^ 64
+    → record_at (record_bytes i) ≡ Ok i
+record_again i h short =
+    let p = both_true (it.items.fits i) (is_sound i) h in
     let body = it.items.bytes i in
+    let below : length body < 256 ^ 8 = omega (arith, length_sealed 1 body) in
     let version : (version_of (record_bytes i) == 1) ≡ true =
     eq-eqb (version_of (record_bytes i)) 1 (version_is 1 body (omega arith)) in
     let read : it.items.at (body_of (record_bytes i)) ≡ Some (i, []) =
     ap it.items.at (body_is 1 body) ∙ items_again i p.0 in
-    rw (is_sealed_so 1 body p.1, version, read) (chosen_by (is_readable i) (Ok i) (Err refusal.Damaged) h)
+    rw (is_sealed_so 1 body below, version, read) (chosen_by (is_readable i) (Ok i) (Err refusal.Damaged) h)
 
 abbrev done : Items → Result Items Refusal
 done i = Ok i
@@ -105,22 +108,21 @@ done i = Ok i
 same_items : (i j : Items) → done i ≡ done j → i ≡ j
 same_items i j e = cc
 
-pub one_item : (i j : Items) → is_readable i ≡ true → is_readable j ≡ true → record_bytes i ≡ record_bytes j → i ≡ j
-one_item i j p q e = same_items i j (sym (record_again i p) ∙ ap record_at e ∙ record_again j q)
+pub one_item : (i j : Items) → is_readable i ≡ true → is_readable j ≡ true → length (record_bytes i) < 2 ^ 64
+    → record_bytes i ≡ record_bytes j → i ≡ j
+one_item i j p q short e =
+    same_items i j (sym (record_again i p short) ∙ ap record_at e
+    ∙ record_again j q (subst (λ (l : List ℕ). length l < 2 ^ 64) e short))
 
 -- ---- what is read is spelled so
 
 -- what is read of a body has its forms
-pub told : (body : List ℕ) (i : Items) (rest : List ℕ) → IsBytes body → length body < 256 ^ 8
-    → it.items.at body ≡ Some (i, rest)
+pub told : (body : List ℕ) (i : Items) (rest : List ℕ) → IsBytes body → it.items.at body ≡ Some (i, rest)
     → only_items (it.items.at body) ≡ cond ((length rest == 0) && is_sound i) (Ok i) (Err refusal.Damaged)
-told body i rest b below e =
+told body i rest b e =
     let t = items_are_lawful.takes body i rest b e in
-    let short : length (it.items.bytes i) < 256 ^ 8 =
-    omega (arith, ap length t.0.parts, length-append (it.items.bytes i) rest) in
-    let forms : have_forms i ≡ true = true_both _ _ t.1 (lt-ltb _ _ short) in
     ap only_items e
-    ∙ ap (λ (f : Bool). cond ((length rest == 0) && (f && is_sound i)) (Ok i) (Err refusal.Damaged)) forms
+    ∙ ap (λ (f : Bool). cond ((length rest == 0) && (f && is_sound i)) (Ok i) (Err refusal.Damaged)) t.1
 
 IsBytes-take : (n : ℕ) (bytes : List ℕ) → IsBytes bytes → IsBytes (take n bytes)
 IsBytes-take zero bytes b i = omega arith

@@ -1,10 +1,10 @@
 -- Which items a record may have.
-use Rattle.std.specs.Prelude.{ℕ, ◌+◌, ◌*◌, ◌^◌, List, [], ◌∷◌, ◌++◌, length, Bool, true, false, not, ◌==◌, ◌&&◌, ◌||◌}
+use Rattle.std.specs.Prelude.{ℕ, ◌+◌, ◌^◌, List, ◌∷◌, length, Bool, true, false, not, ◌==◌, ◌&&◌, ◌||◌}
 use Rattle.std.specs.Prelude.{nat_lt, nat_le, slice_get, Option, Some, None, Result, Ok, Err}
 use Rattle.std.specs.List.{list_all}
 use Rattle.ln_bytes.specs.declared.fault.Fault.{Fault}
 use Rattle.ln_msgs.specs.Codec.Field.{Value, Num, Str, Many}
-use Rattle.ln_msgs.specs.Messages.Message.{Wire, Heard, Known, Ignored, message_at}
+use Rattle.ln_msgs.specs.Messages.Message.{Heard, Known, Ignored, message_at}
 use Rattle.ln_keys.specs.declared.role.Role.{Role}
 use Rattle.ln_keys.specs.declared.role.Role.TheVariants.{Funder, Fundee}
 use Rattle.ln_dance.specs.declared.dance.Numbers.{Numbers}
@@ -94,9 +94,6 @@ is_sound i =
     && nat_le i.progress.events.decided (2 ^ 63 + 1)
     && list_all (names_an_update i.header.role i.updates) i.progress.events.undecided
 
--- the items have their forms, and their bytes a length below 2^64
-abbrev pub have_forms : Items → Bool
-have_forms i = it.items.fits i && nat_lt (length (it.items.bytes i)) (256 ^ 8)
-
+-- the items have their forms, and fit together
 abbrev pub is_readable : Items → Bool
-is_readable i = have_forms i && is_sound i
+is_readable i = it.items.fits i && is_sound i

@@ -70,7 +70,6 @@ fn are_whole(alloc: Global, items: &Items, rest: &[u8]) -> Result<bool, Refusal>
 
 // The items that the body has, and nothing behind them.
 fn items_of(alloc: Global, body: &[u8]) -> Result<Items, Refusal>
-    requires { length body.now < 2 ^ 63 }
     ensures reads_as_defined { Gives (λ i. i) result (only_items (it.items.at body.now)) }
     ensures is_readable { IfOk result (λ i. is_readable i ≡ true) }
 {
@@ -107,7 +106,8 @@ pub fn decode_record(alloc: Global, bytes: &[u8]) -> Result<LinkRecord, Refusal>
 }
 
 fn read_record(alloc: Global, bytes: &[u8]) -> Result<LinkRecord, Refusal>
-    ensures { Gives (λ r. r) result (record_at bytes.now) }
+    ensures reads_as_defined { Gives (λ r. r) result (record_at bytes.now) }
+    ensures is_in_memory { length bytes.now < 2 ^ 63 }
 {
     if !is_sealed(bytes) {
         return Err(Refusal::Damaged);
@@ -164,9 +164,10 @@ fn put_unsealed(out: &mut Vec<u8>, body: &[u8]) -> Result<(), Refusal>
 
 /// A law: a record is one spelling of its items, and what reads as items is spelled so.
 pub fn one_record()
-    ensures reads_what_is_written { (i : Items) → is_readable i ≡ true → record_at (record_bytes i) ≡ Ok i }
+    ensures reads_what_is_written { (i : Items) → is_readable i ≡ true → length (record_bytes i) < 2 ^ 64
+        → record_at (record_bytes i) ≡ Ok i }
     ensures spells_one_record { (i j : Items) → is_readable i ≡ true → is_readable j ≡ true
-        → record_bytes i ≡ record_bytes j → i ≡ j }
+        → length (record_bytes i) < 2 ^ 64 → record_bytes i ≡ record_bytes j → i ≡ j }
     ensures spells_what_is_read { (i : Items) (bytes : List ℕ) → ((n : ℕ) → slice_index bytes n < 256)
-        → length bytes < 2 ^ 63 → record_at bytes ≡ Ok i → (bytes ≡ record_bytes i) × (is_readable i ≡ true) }
+        → record_at bytes ≡ Ok i → (bytes ≡ record_bytes i) × (is_readable i ≡ true) }
 {}

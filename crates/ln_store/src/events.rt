@@ -4,15 +4,15 @@ ghost use Rattle.std.specs.Prelude.{◌≡◌, ◌++◌, true, IfErr, OnOk};
 ghost use Rattle.ln_store.specs.Format.{fixed, number, ◌&◌};
 ghost use Rattle.ln_store.specs.Items as it;
 
-use crate::lists::{list_at, optional_at, put_list, put_optional};
+use crate::lists::{list_at, list_fits, optional_at, optional_fits, put_list, put_optional};
 use crate::mark::{EventRef, Mark};
 use crate::record::{ClosingFees, Decision, Events, Forwards, Origin, Progress, Settlement};
 use crate::stored::{
-    Stored, array_at, long_at, put, put_long, put_u16, put_u32, put_u64, put_u8, u16_at, u32_at,
-    u64_at,
+    Stored, array_at, array_fits, long_at, put, put_long, put_u8, put_u16, put_u32, put_u64,
+    u16_at, u16_fits, u32_at, u32_fits, u64_at, u64_fits,
 };
 use crate::updates::removal_at;
-use ln_log::ChannelId;
+use ln_log::{ChannelId, removal_of};
 use ln_msgs::Refusal;
 use std::alloc::Global;
 
@@ -30,6 +30,15 @@ impl Stored for EventRef {
             1 => Ok((EventRef::Peer(number), rest)),
             2 if number == 0 => Ok((EventRef::Close, rest)),
             _ => Err(Refusal::Damaged),
+        }
+    }
+
+    #[tactic(auto, unfolding(crate::specs::Items::event, crate::specs::Items::no_number))]
+    fn fits(&self) -> bool {
+        match self {
+            EventRef::Own(number) => u64_fits(*number),
+            EventRef::Peer(number) => u64_fits(*number),
+            EventRef::Close => true,
         }
     }
 
@@ -60,6 +69,11 @@ impl Stored for Events {
         let (decided, rest) = u64_at(bytes)?;
         let (undecided, rest) = list_at(alloc, rest)?;
         Ok((Events { decided, undecided }, rest))
+    }
+
+    #[tactic(auto, unfolding(crate::specs::Items::events))]
+    fn fits(&self) -> bool {
+        u64_fits(self.decided) && list_fits(self.undecided.as_slice())
     }
 
     #[tactic(auto, unfolding(crate::specs::Items::events))]
@@ -121,6 +135,21 @@ impl Stored for Mark {
     }
 
     #[tactic(auto, unfolding(crate::specs::Items::stored_mark))]
+    fn fits(&self) -> bool {
+        match self {
+            Mark::None => false,
+            Mark::Forward {
+                channel,
+                amount,
+                expiry,
+            } => array_fits(channel) && u64_fits(*amount) && u32_fits(*expiry),
+            Mark::Fail(reason) => (reason.len() as u128) < 1 << 64,
+            Mark::Malformed(code) => u16_fits(*code),
+            Mark::Fulfil(preimage) => array_fits(preimage),
+        }
+    }
+
+    #[tactic(auto, unfolding(crate::specs::Items::stored_mark))]
     fn write(&self, out: &mut Vec<u8>) -> Result<(), Refusal> {
         match self {
             Mark::None => Ok(()),
@@ -159,6 +188,11 @@ impl Stored for Decision {
     }
 
     #[tactic(auto, unfolding(crate::specs::Items::decision))]
+    fn fits(&self) -> bool {
+        u64_fits(self.id) && self.mark.fits()
+    }
+
+    #[tactic(auto, unfolding(crate::specs::Items::decision))]
     fn write(&self, out: &mut Vec<u8>) -> Result<(), Refusal> {
         put_u64(out, self.id)?;
         self.mark.write(out)
@@ -173,6 +207,11 @@ impl Stored for Origin {
         let (channel, rest) = array_at(bytes)?;
         let (id, rest) = u64_at(rest)?;
         Ok((Origin { channel, id }, rest))
+    }
+
+    #[tactic(auto, unfolding(crate::specs::Items::origin))]
+    fn fits(&self) -> bool {
+        array_fits(&self.channel) && u64_fits(self.id)
     }
 
     #[tactic(auto, unfolding(crate::specs::Items::origin))]
@@ -199,6 +238,14 @@ impl Stored for Settlement {
     }
 
     #[tactic(auto, unfolding(crate::specs::Items::settlement))]
+    fn fits(&self) -> bool {
+        u64_fits(self.id)
+            && self.origin.fits()
+            && self.removal.fits()
+            && removal_of(&self.removal).is_some()
+    }
+
+    #[tactic(auto, unfolding(crate::specs::Items::settlement))]
     fn write(&self, out: &mut Vec<u8>) -> Result<(), Refusal> {
         put_u64(out, self.id)?;
         self.origin.write(out)?;
@@ -217,6 +264,11 @@ impl Stored for Forwards {
     }
 
     #[tactic(auto, unfolding(crate::specs::Items::forwards))]
+    fn fits(&self) -> bool {
+        list_fits(self.decisions.as_slice()) && list_fits(self.results.as_slice())
+    }
+
+    #[tactic(auto, unfolding(crate::specs::Items::forwards))]
     fn write(&self, out: &mut Vec<u8>) -> Result<(), Refusal> {
         put_list(out, self.decisions.as_slice())?;
         put_list(out, self.results.as_slice())
@@ -232,6 +284,11 @@ impl Stored for ClosingFees {
         let (peer, rest) = optional_at(alloc, rest)?;
         let (closed, rest) = optional_at(alloc, rest)?;
         Ok((ClosingFees { own, peer, closed }, rest))
+    }
+
+    #[tactic(auto, unfolding(crate::specs::Items::closing_fees))]
+    fn fits(&self) -> bool {
+        optional_fits(&self.own) && optional_fits(&self.peer) && optional_fits(&self.closed)
     }
 
     #[tactic(auto, unfolding(crate::specs::Items::closing_fees))]
@@ -256,6 +313,11 @@ impl Stored for Progress {
             fees,
         };
         Ok((progress, rest))
+    }
+
+    #[tactic(auto, unfolding(crate::specs::Items::progress))]
+    fn fits(&self) -> bool {
+        self.events.fits() && self.forwards.fits() && self.fees.fits()
     }
 
     #[tactic(auto, unfolding(crate::specs::Items::progress))]

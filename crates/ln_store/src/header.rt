@@ -5,12 +5,12 @@ ghost use Rattle.ln_store.specs.Format.{Finds, optional as optionally, optional_
 ghost use Rattle.ln_store.specs.Items as it;
 ghost use Rattle.ln_store.specs.Items.{flags_of, flags_number, failure_of, failure_number};
 
+use crate::lists::{optional_at, optional_fits, put_optional};
 use crate::place::ChainPlace;
-use crate::lists::{optional_at, put_optional};
 use crate::record::{Agreement, Commitments, Flags, Header};
 use crate::stored::{
-    Stored, array_at, medium_at, put, put_medium, put_short, put_u16, put_u64, put_u8, short_at,
-    u16_at, u64_at, u8_at,
+    Stored, array_at, array_fits, medium_at, put, put_medium, put_short, put_u8, put_u16, put_u64,
+    short_at, u8_at, u16_at, u64_at, u64_fits,
 };
 use ln_bytes::Bytes;
 use ln_close::Fees;
@@ -78,6 +78,12 @@ impl Stored for Flags {
     }
 
     #[tactic(auto, unfolding(crate::specs::Items::flags))]
+    fn fits(&self) -> bool {
+        let _value = *self;
+        true
+    }
+
+    #[tactic(auto, unfolding(crate::specs::Items::flags))]
     fn write(&self, out: &mut Vec<u8>) -> Result<(), Refusal> {
         put_u8(out, number_of(self))
     }
@@ -138,6 +144,14 @@ impl Stored for Header {
     }
 
     #[tactic(auto, unfolding(crate::specs::Items::header))]
+    fn fits(&self) -> bool {
+        array_fits(&self.channel)
+            && self.role.fits()
+            && self.flags.fits()
+            && failure_fits(&self.failure)
+    }
+
+    #[tactic(auto, unfolding(crate::specs::Items::header))]
     fn write(&self, out: &mut Vec<u8>) -> Result<(), Refusal> {
         put(out, &self.channel)?;
         self.role.write(out)?;
@@ -155,6 +169,13 @@ fn failure_at(bytes: &[u8]) -> Result<(Option<Refusal>, &[u8]), Refusal>
         Some(failure) => Ok((failure, rest)),
         None => Err(Refusal::Damaged),
     }
+}
+
+#[tactic(auto, unfolding(crate::specs::Items::failure))]
+fn failure_fits(failure: &Option<Refusal>) -> bool
+    ensures { result ≡ it.failure.fits failure.now }
+{
+    failure_of(failure_number(failure)).is_some()
 }
 
 #[tactic(auto, unfolding(crate::specs::Items::failure))]
@@ -182,6 +203,11 @@ impl Stored for Fees {
     }
 
     #[tactic(auto, unfolding(crate::specs::Items::fees))]
+    fn fits(&self) -> bool {
+        u64_fits(self.first) && u64_fits(self.least) && u64_fits(self.greatest)
+    }
+
+    #[tactic(auto, unfolding(crate::specs::Items::fees))]
     fn write(&self, out: &mut Vec<u8>) -> Result<(), Refusal> {
         put_u64(out, self.first)?;
         put_u64(out, self.least)?;
@@ -197,6 +223,10 @@ impl Stored for ChainPlace {
         Ok((ChainPlace::from_bytes(&place), rest))
     }
 
+    fn fits(&self) -> bool {
+        array_fits(&self.to_bytes())
+    }
+
     fn write(&self, out: &mut Vec<u8>) -> Result<(), Refusal> {
         put(out, &self.to_bytes())
     }
@@ -210,9 +240,19 @@ impl Stored for Bytes {
         short_at(alloc, bytes)
     }
 
+    fn fits(&self) -> bool {
+        self.len() < 65_536
+    }
+
     fn write(&self, out: &mut Vec<u8>) -> Result<(), Refusal> {
         put_short(out, self.as_slice())
     }
+}
+
+fn medium_fits(bytes: &[u8]) -> bool
+    ensures { result ≡ (sized 4).fits bytes.now }
+{
+    bytes.len() < 4_294_967_296
 }
 
 impl Stored for Agreement {
@@ -235,6 +275,16 @@ impl Stored for Agreement {
             peer_script,
         };
         Ok((agreement, rest))
+    }
+
+    #[tactic(auto, unfolding(crate::specs::Items::agreement))]
+    fn fits(&self) -> bool {
+        medium_fits(self.open_payload.as_slice())
+            && medium_fits(self.accept_payload.as_slice())
+            && optional_fits(&self.place)
+            && self.fees.fits()
+            && self.script.fits()
+            && optional_fits(&self.peer_script)
     }
 
     #[tactic(auto, unfolding(crate::specs::Items::agreement))]
@@ -265,6 +315,11 @@ impl Stored for Numbers {
     }
 
     #[tactic(auto, unfolding(crate::specs::Items::numbers))]
+    fn fits(&self) -> bool {
+        u64_fits(self.commitment) && u64_fits(self.signed) && u64_fits(self.revoked)
+    }
+
+    #[tactic(auto, unfolding(crate::specs::Items::numbers))]
     fn write(&self, out: &mut Vec<u8>) -> Result<(), Refusal> {
         put_u64(out, self.commitment)?;
         put_u64(out, self.signed)?;
@@ -277,6 +332,11 @@ impl Stored for [u8; 32] {
 
     fn read(_alloc: Global, bytes: &[u8]) -> Result<([u8; 32], &[u8]), Refusal> {
         array_at(bytes)
+    }
+
+    fn fits(&self) -> bool {
+        let _value = *self;
+        true
     }
 
     fn write(&self, out: &mut Vec<u8>) -> Result<(), Refusal> {
@@ -301,6 +361,11 @@ impl Stored for Peer {
     }
 
     #[tactic(auto, unfolding(crate::specs::Items::peer))]
+    fn fits(&self) -> bool {
+        array_fits(&self.point) && array_fits(&self.next_point) && optional_fits(&self.secret)
+    }
+
+    #[tactic(auto, unfolding(crate::specs::Items::peer))]
     fn write(&self, out: &mut Vec<u8>) -> Result<(), Refusal> {
         put(out, &self.point)?;
         put(out, &self.next_point)?;
@@ -316,6 +381,11 @@ impl Stored for Commitments {
         let (numbers, rest) = Numbers::read(alloc, bytes)?;
         let (peer, rest) = Peer::read(alloc, rest)?;
         Ok((Commitments { numbers, peer }, rest))
+    }
+
+    #[tactic(auto, unfolding(crate::specs::Items::commitments))]
+    fn fits(&self) -> bool {
+        self.numbers.fits() && self.peer.fits()
     }
 
     #[tactic(auto, unfolding(crate::specs::Items::commitments))]

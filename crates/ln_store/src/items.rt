@@ -5,11 +5,12 @@ ghost use Rattle.ln_store.specs.Format.{Finds, number, list, ◌&◌};
 ghost use Rattle.ln_store.specs.Items as it;
 
 use crate::list::Listed;
-use crate::lists::{list_at, put_list};
+use crate::lists::{list_at, list_fits, put_list};
 use crate::record::{
-    Agreement, Base, Commitments, Covered, Header, Items, LiveHtlc, Pairs, Progress, Sides, Updates, Window,
+    Agreement, Base, Commitments, Covered, Header, Items, LiveHtlc, Pairs, Progress, Sides,
+    Updates, Window,
 };
-use crate::stored::{Stored, put_u32, put_u64, u32_at, u64_at};
+use crate::stored::{Stored, put_u32, put_u64, u32_at, u32_fits, u64_at, u64_fits};
 use ln_msgs::Refusal;
 use std::alloc::Global;
 
@@ -21,6 +22,11 @@ impl Stored for Sides {
         let (funder, rest) = u64_at(bytes)?;
         let (fundee, rest) = u64_at(rest)?;
         Ok((Sides { funder, fundee }, rest))
+    }
+
+    #[tactic(auto, unfolding(crate::specs::Items::sides))]
+    fn fits(&self) -> bool {
+        u64_fits(self.funder) && u64_fits(self.fundee)
     }
 
     #[tactic(auto, unfolding(crate::specs::Items::sides))]
@@ -62,6 +68,15 @@ impl Stored for Base {
     }
 
     #[tactic(auto, unfolding(crate::specs::Items::base))]
+    fn fits(&self) -> bool {
+        self.updates.fits()
+            && self.next_ids.fits()
+            && self.balances.fits()
+            && u32_fits(self.feerate)
+            && list_fits(self.live.as_slice())
+    }
+
+    #[tactic(auto, unfolding(crate::specs::Items::base))]
     fn write(&self, out: &mut Vec<u8>) -> Result<(), Refusal> {
         self.updates.write(out)?;
         self.next_ids.write(out)?;
@@ -78,6 +93,11 @@ impl Stored for Window {
         let (funder, rest) = list_at(alloc, bytes)?;
         let (fundee, rest) = list_at(alloc, rest)?;
         Ok((Window { funder, fundee }, rest))
+    }
+
+    #[tactic(auto, unfolding(crate::specs::Items::window))]
+    fn fits(&self) -> bool {
+        list_fits(self.funder.as_slice()) && list_fits(self.fundee.as_slice())
     }
 
     #[tactic(auto, unfolding(crate::specs::Items::window))]
@@ -99,6 +119,11 @@ impl Stored for Covered {
     }
 
     #[tactic(auto, unfolding(crate::specs::Items::covered))]
+    fn fits(&self) -> bool {
+        u64_fits(self.own) && u64_fits(self.peer)
+    }
+
+    #[tactic(auto, unfolding(crate::specs::Items::covered))]
     fn write(&self, out: &mut Vec<u8>) -> Result<(), Refusal> {
         put_u64(out, self.own)?;
         put_u64(out, self.peer)
@@ -113,6 +138,13 @@ fn current_at(bytes: &[u8]) -> Result<(Covered, &[u8]), Refusal>
     let (peer, rest) = u64_at(bytes)?;
     let (own, rest) = u64_at(rest)?;
     Ok((Covered { own, peer }, rest))
+}
+
+#[tactic(auto, unfolding(crate::specs::Items::covered_by_own))]
+fn current_fits(covered: &Covered) -> bool
+    ensures { result ≡ it.covered_by_own.fits covered.now }
+{
+    u64_fits(covered.peer) && u64_fits(covered.own)
 }
 
 #[tactic(auto, unfolding(crate::specs::Items::covered_by_own))]
@@ -141,6 +173,11 @@ impl Stored for Pairs {
     }
 
     #[tactic(auto, unfolding(crate::specs::Items::pairs))]
+    fn fits(&self) -> bool {
+        self.signed.fits() && self.acknowledged.fits() && current_fits(&self.current)
+    }
+
+    #[tactic(auto, unfolding(crate::specs::Items::pairs))]
     fn write(&self, out: &mut Vec<u8>) -> Result<(), Refusal> {
         self.signed.write(out)?;
         self.acknowledged.write(out)?;
@@ -162,6 +199,11 @@ impl Stored for Updates {
             pairs,
         };
         Ok((updates, rest))
+    }
+
+    #[tactic(auto, unfolding(crate::specs::Items::updates))]
+    fn fits(&self) -> bool {
+        self.base.fits() && self.window.fits() && self.pairs.fits()
     }
 
     #[tactic(auto, unfolding(crate::specs::Items::updates))]
@@ -190,6 +232,15 @@ impl Stored for Items {
             progress,
         };
         Ok((items, rest))
+    }
+
+    #[tactic(auto, unfolding(crate::specs::Items::items))]
+    fn fits(&self) -> bool {
+        self.header.fits()
+            && self.agreement.fits()
+            && self.commitments.fits()
+            && self.updates.fits()
+            && self.progress.fits()
     }
 
     #[tactic(auto, unfolding(crate::specs::Items::items))]

@@ -23,6 +23,7 @@ pub use list::Listed;
 pub use mark::{EventRef, Mark};
 pub use memory_store::MemoryStore;
 pub use place::ChainPlace;
+pub use readable::is_readable;
 pub use record::{
     Agreement, Base, ClosingFees, Commitments, Covered, Decision, Events, Flags, Forwards, Header,
     Items, LiveHtlc, Origin, Pairs, Progress, Settlement, Sides, Updates, Window,

@@ -6,7 +6,7 @@ ghost use Rattle.ln_store.specs.Format.{Finds, items_at, list as listed, optiona
 ghost use Rattle.ln_store.specs.Format.{optional_at as optional_in, fixed};
 
 use crate::list::Listed;
-use crate::stored::{Stored, array_at, put, put_u64, put_u8, u64_at};
+use crate::stored::{Stored, array_at, put, put_u8, put_u64, u64_at};
 use ln_msgs::Refusal;
 use std::alloc::Global;
 
@@ -80,10 +80,7 @@ pub(crate) fn put_list<T: Stored>(out: &mut Vec<u8>, items: &[T]) -> Result<(), 
 }
 
 // Writes a zero byte for none, else a one and the value.
-pub(crate) fn put_optional<T: Stored>(
-    out: &mut Vec<u8>,
-    value: &Option<T>,
-) -> Result<(), Refusal>
+pub(crate) fn put_optional<T: Stored>(out: &mut Vec<u8>, value: &Option<T>) -> Result<(), Refusal>
     requires { (optionally T.format).fits value.now ≡ true }
     ensures appends_it { OnOk result (out.new.items ≡ out.old.items ++ (optionally T.format).bytes value.now) }
     ensures fails_for_memory_alone { IfErr result (λ e. e ≡ Refusal.Memory) }
@@ -94,5 +91,33 @@ pub(crate) fn put_optional<T: Stored>(
             put_u8(out, 1)?;
             value.write(out)
         }
+    }
+}
+
+// Whether each value has its form.
+pub(crate) fn list_fits<T: Stored>(items: &[T]) -> bool
+    ensures { result ≡ (listed T.format).fits items.now }
+{
+    (items.len() as u128) < 1 << 64 && items_fit(items)
+}
+
+fn items_fit<T: Stored>(items: &[T]) -> bool
+    ensures { result ≡ list_all T.format.fits items.now }
+{
+    for item in items {
+        if !item.fits() {
+            return false;
+        }
+    }
+    true
+}
+
+// Whether the value that may be there has its form.
+pub(crate) fn optional_fits<T: Stored>(value: &Option<T>) -> bool
+    ensures { result ≡ (optionally T.format).fits value.now }
+{
+    match value {
+        None => true,
+        Some(value) => value.fits(),
     }
 }

@@ -4,13 +4,14 @@ ghost use Rattle.std.specs.Prelude.{◌≡◌, ◌∷◌, Ok, IfOk, IfErr};
 ghost use Rattle.ln_bytes.specs.Reading.{Gives};
 ghost use Rattle.ln_msgs.specs.Messages.Message.{message_at};
 ghost use Rattle.ln_msgs.specs.Messages.Typed.{heard};
-ghost use Rattle.ln_store.specs.Readable.{is_open, is_of_type};
+ghost use Rattle.ln_store.specs.Readable.{is_open, is_of_type, is_readable};
 ghost use Rattle.std.specs.List.{list_all};
 ghost use Rattle.ln_store.specs.Readable.{is_open_payload, is_accept_payload, are_in_step, cover_the_same, are_settled};
 ghost use Rattle.ln_store.specs.Readable.{is_of, is_of_other, names_an_update, is_sound, is_in_window};
 
 use crate::mark::EventRef;
 use crate::record::{Covered, Items, Pairs, Updates};
+use crate::stored::Stored;
 use ln_bytes::Fault;
 use ln_dance::Numbers;
 use ln_keys::Role;
@@ -159,6 +160,27 @@ pub(crate) fn is_sound(alloc: Global, items: &Items) -> Result<bool, Refusal>
             && are_in_step(&items.commitments.numbers)
             && are_settled(&items.commitments.numbers, &items.updates.pairs)
             && events.decided <= MOST_EVENTS
-            && all_name_updates(items.header.role, &items.updates, events.undecided.as_slice()),
+            && all_name_updates(
+                items.header.role,
+                &items.updates,
+                events.undecided.as_slice(),
+            ),
     )
+}
+
+/// Whether the items may stand in a record.
+///
+/// They have their forms: a script or a reason has at most 65,535 bytes, a decision does something, a result tells of
+/// a removal, a failure is one by which a channel fails (21 to 35 or 37). The payloads say an `open_channel` whose
+/// funding is 1 to 2,100,000,000,000,000 satoshi and an `accept_channel`; the numbers of commitments are below 2^48
+/// with at most one signature unrevoked, and where none is, what was acknowledged is what was signed; at most
+/// 2^63 + 1 events were decided; each undecided event names an update of the window or the close. Takes memory for
+/// the two payloads.
+///
+/// Error: 60 alone, where there is no memory.
+pub fn is_readable(alloc: Global, items: &Items) -> Result<bool, Refusal>
+    ensures tells_it { IfOk result (λ b. b ≡ is_readable items.now) }
+    ensures fails_for_memory_alone { IfErr result (λ e. e ≡ Refusal.Memory) }
+{
+    Ok(items.fits() && is_sound(alloc, items)?)
 }

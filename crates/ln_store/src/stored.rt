@@ -20,6 +20,10 @@ pub(crate) trait Stored: Sized {
     fn read(alloc: Global, bytes: &[u8]) -> Result<(Self, &[u8]), Refusal>
         ensures { Finds (λ x. (x.0, x.1.now)) result (format.at bytes.now) };
 
+    /// Whether the value has this form. Takes no memory.
+    fn fits(&self) -> bool
+        ensures { result ≡ format.fits self.now };
+
     /// Writes the value behind the bytes. Error: 60 alone, where there is no memory.
     fn write(&self, out: &mut Vec<u8>) -> Result<(), Refusal>
         requires { format.fits self.now ≡ true }
@@ -179,11 +183,41 @@ pub(crate) fn put_long(out: &mut Vec<u8>, bytes: &[u8]) -> Result<(), Refusal>
     put(out, bytes)
 }
 
+// Each value of these types has its form.
+pub(crate) fn u16_fits(value: u16) -> bool
+    ensures { result ≡ (number 2).fits value }
+{
+    true
+}
+
+pub(crate) fn u32_fits(value: u32) -> bool
+    ensures { result ≡ (number 4).fits value }
+{
+    true
+}
+
+pub(crate) fn u64_fits(value: u64) -> bool
+    ensures { result ≡ (number 8).fits value }
+{
+    true
+}
+
+pub(crate) fn array_fits<const N: usize>(bytes: &[u8; N]) -> bool
+    ensures { result ≡ (fixed N).fits bytes.now }
+{
+    true
+}
+
 impl Stored for u64 {
     ghost format = { number 8 };
 
     fn read(alloc: Global, bytes: &[u8]) -> Result<(u64, &[u8]), Refusal> {
         u64_at(bytes)
+    }
+
+    fn fits(&self) -> bool {
+        let _value = *self;
+        true
     }
 
     fn write(&self, out: &mut Vec<u8>) -> Result<(), Refusal> {

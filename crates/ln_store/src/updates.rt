@@ -4,11 +4,11 @@ ghost use Rattle.std.specs.Prelude.{◌≡◌, ◌++◌, true, IfErr, OnOk};
 ghost use Rattle.ln_store.specs.Format.{Finds, only_at, only};
 ghost use Rattle.ln_store.specs.Items as it;
 
-use crate::lists::{optional_at, put_optional};
+use crate::lists::{optional_at, optional_fits, put_optional};
 use crate::record::{LiveHtlc, Origin};
 use crate::stored::{
-    Stored, array_at, put, put_short, put_u16, put_u32, put_u64, put_u8, short_at, u16_at, u32_at,
-    u64_at, u8_at,
+    Stored, array_at, array_fits, put, put_short, put_u8, put_u16, put_u32, put_u64, short_at,
+    u8_at, u16_at, u16_fits, u32_at, u32_fits, u64_at, u64_fits,
 };
 use ln_keys::Role;
 use ln_log::{Add, ChannelId, Fail, Fee, Fulfil, Malformed, Update, removal_of};
@@ -24,6 +24,10 @@ impl Stored for (ChannelId, u64) {
         let (channel, rest) = array_at(bytes)?;
         let (id, rest) = u64_at(rest)?;
         Ok(((channel, id), rest))
+    }
+
+    fn fits(&self) -> bool {
+        array_fits(&self.0) && u64_fits(self.1)
     }
 
     fn write(&self, out: &mut Vec<u8>) -> Result<(), Refusal> {
@@ -55,6 +59,16 @@ impl Stored for Add {
     }
 
     #[tactic(auto, unfolding(crate::specs::Items::add))]
+    fn fits(&self) -> bool {
+        u64_fits(self.id)
+            && u64_fits(self.amount)
+            && array_fits(&self.hash)
+            && u32_fits(self.expiry)
+            && array_fits(&self.onion)
+            && optional_fits(&self.origin)
+    }
+
+    #[tactic(auto, unfolding(crate::specs::Items::add))]
     fn write(&self, out: &mut Vec<u8>) -> Result<(), Refusal> {
         put_u64(out, self.id)?;
         put_u64(out, self.amount)?;
@@ -76,6 +90,11 @@ impl Stored for Fulfil {
     }
 
     #[tactic(auto, unfolding(crate::specs::Items::fulfil))]
+    fn fits(&self) -> bool {
+        u64_fits(self.id) && array_fits(&self.preimage)
+    }
+
+    #[tactic(auto, unfolding(crate::specs::Items::fulfil))]
     fn write(&self, out: &mut Vec<u8>) -> Result<(), Refusal> {
         put_u64(out, self.id)?;
         put(out, &self.preimage)
@@ -90,6 +109,11 @@ impl Stored for Fail {
         let (id, rest) = u64_at(bytes)?;
         let (reason, rest) = short_at(alloc, rest)?;
         Ok((Fail { id, reason }, rest))
+    }
+
+    #[tactic(auto, unfolding(crate::specs::Items::fail))]
+    fn fits(&self) -> bool {
+        u64_fits(self.id) && self.reason.fits()
     }
 
     #[tactic(auto, unfolding(crate::specs::Items::fail))]
@@ -116,6 +140,11 @@ impl Stored for Malformed {
     }
 
     #[tactic(auto, unfolding(crate::specs::Items::malformed))]
+    fn fits(&self) -> bool {
+        u64_fits(self.id) && array_fits(&self.sha256_of_onion) && u16_fits(self.failure_code)
+    }
+
+    #[tactic(auto, unfolding(crate::specs::Items::malformed))]
     fn write(&self, out: &mut Vec<u8>) -> Result<(), Refusal> {
         put_u64(out, self.id)?;
         put(out, &self.sha256_of_onion)?;
@@ -130,6 +159,11 @@ impl Stored for Fee {
     fn read(_alloc: Global, bytes: &[u8]) -> Result<(Fee, &[u8]), Refusal> {
         let (feerate, rest) = u32_at(bytes)?;
         Ok((Fee { feerate }, rest))
+    }
+
+    #[tactic(auto, unfolding(crate::specs::Items::fee))]
+    fn fits(&self) -> bool {
+        u32_fits(self.feerate)
     }
 
     #[tactic(auto, unfolding(crate::specs::Items::fee))]
@@ -168,6 +202,17 @@ impl Stored for Update {
                 Ok((Update::Fee(fee), rest))
             }
             _ => Err(Refusal::Damaged),
+        }
+    }
+
+    #[tactic(auto, unfolding(crate::specs::Items::update))]
+    fn fits(&self) -> bool {
+        match self {
+            Update::Add(add) => add.fits(),
+            Update::Fulfil(fulfil) => fulfil.fits(),
+            Update::Fail(fail) => fail.fits(),
+            Update::Malformed(malformed) => malformed.fits(),
+            Update::Fee(fee) => fee.fits(),
         }
     }
 
@@ -223,6 +268,11 @@ impl Stored for Role {
     }
 
     #[tactic(auto, unfolding(crate::specs::Items::role))]
+    fn fits(&self) -> bool {
+        true
+    }
+
+    #[tactic(auto, unfolding(crate::specs::Items::role))]
     fn write(&self, out: &mut Vec<u8>) -> Result<(), Refusal> {
         match self {
             Role::Funder => put_u8(out, 0),
@@ -242,6 +292,11 @@ impl Stored for LiveHtlc {
         };
         let (add, rest) = Add::read(alloc, rest)?;
         Ok((LiveHtlc { offerer, add }, rest))
+    }
+
+    #[tactic(auto, unfolding(crate::specs::Items::live))]
+    fn fits(&self) -> bool {
+        self.offerer.fits() && self.add.fits()
     }
 
     #[tactic(auto, unfolding(crate::specs::Items::live))]

@@ -29,6 +29,8 @@ mod opening;
 #[cfg(test)]
 mod pings;
 #[cfg(test)]
+mod record;
+#[cfg(test)]
 mod relay;
 #[cfg(test)]
 mod resume;

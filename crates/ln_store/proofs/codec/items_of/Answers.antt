@@ -1,15 +1,13 @@
-use Rattle.std.proofs.Common.{◌≡◌, ◌∙◌, sym, ap, arith, cond, Bool, Ok, Err, ◌==◌, ◌&&◌, length, true, false}
+use Rattle.std.proofs.Common.{◌∙◌, sym, ap, arith, cond, Bool, Ok, Err}
 use Rattle.ln_msgs.specs.declared.refusals.refusal.Refusal.TheVariants as refusal
 use Rattle.ln_store.specs.Items as it
-use Rattle.ln_store.specs.Readable.{is_sound}
-use Rattle.ln_store.specs.Record.{only_items}
 use Rattle.ln_store.proofs.Records.{told, only_readable}
 use Rattle.ln_store.proofs.codec.items_of.Goals as goal
 
 pub returns-then-whole-clause-reads_as_defined : goal.returns-then-whole-clause-reads_as_defined
 returns-then-whole-clause-reads_as_defined c =
     let i = c.in_ok-items.items in
-    told c.args.body.now i c.in_ok-items.rest.now (λ n. omega (arith, c.type_inv.body n)) (omega (arith, c.requires))
+    told c.args.body.now i c.in_ok-items.rest.now (λ n. omega (arith, c.type_inv.body n))
     c.in_ok-items.ensures
     ∙ ap (λ (b : Bool). cond b (Ok i) (Err refusal.Damaged)) (sym c.in_ok-whole.ensures.tells_it ∙ c.if-whole.true)
 
@@ -20,6 +18,6 @@ returns-then-whole-clause-is_readable c =
 pub returns-else-whole-clause-reads_as_defined : goal.returns-else-whole-clause-reads_as_defined
 returns-else-whole-clause-reads_as_defined c = λ other.
     let i = c.in_ok-items.items in
-    told c.args.body.now i c.in_ok-items.rest.now (λ n. omega (arith, c.type_inv.body n)) (omega (arith, c.requires))
+    told c.args.body.now i c.in_ok-items.rest.now (λ n. omega (arith, c.type_inv.body n))
     c.in_ok-items.ensures
     ∙ ap (λ (b : Bool). cond b (Ok i) (Err refusal.Damaged)) (sym c.in_ok-whole.ensures.tells_it ∙ c.if-whole.false)

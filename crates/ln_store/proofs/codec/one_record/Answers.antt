@@ -8,4 +8,4 @@ pub returns-clause-spells_one_record : goal.returns-clause-spells_one_record
 returns-clause-spells_one_record c = one_item
 
 pub returns-clause-spells_what_is_read : goal.returns-clause-spells_what_is_read
-returns-clause-spells_what_is_read c = λ i bytes b short e. record_takes bytes i b e
+returns-clause-spells_what_is_read c = λ i bytes b e. record_takes bytes i b e
