@@ -55,7 +55,8 @@ true_both false b p q = absurd cc
 
 -- ---- numbers and bytes
 
-number_takes : (size : ℕ) (bytes : List ℕ) (n : ℕ) (rest : List ℕ) → IsBytes bytes → number_at size bytes ≡ Some (n, rest)
+number_takes : (size : ℕ) (bytes : List ℕ) (n : ℕ) (rest : List ℕ) → IsBytes bytes
+    → number_at size bytes ≡ Some (n, rest)
     → Takes bytes (big_bytes size n) rest × (n < 256 ^ size)
 number_takes size bytes n rest b e =
     let g = guard_some (nat_lt (length bytes) size) (Some (big_number size bytes, drop size bytes)) (n, rest) e in
@@ -71,7 +72,8 @@ number_takes size bytes n rest b e =
       big_from-lt 0 size bytes b,
     ))
 
-number_again : (size n : ℕ) (rest : List ℕ) → n < 256 ^ size → number_at size (big_bytes size n ++ rest) ≡ Some (n, rest)
+number_again : (size n : ℕ) (rest : List ℕ) → n < 256 ^ size
+    → number_at size (big_bytes size n ++ rest) ≡ Some (n, rest)
 number_again size n rest below =
     let len = length-bytes_high_first size n in
     let long : nat_lt (length (big_bytes size n ++ rest)) size ≡ false =
@@ -123,8 +125,10 @@ sized_takes size bytes x rest b e =
 sized_again : (size : ℕ) (x rest : List ℕ) → length x < 256 ^ size
     → sized_at size ((big_bytes size (length x) ++ x) ++ rest) ≡ Some (x, rest)
 sized_again size x rest below =
-    ap (λ (l : List ℕ). number_at size l >>= λ len. bytes_at len.0 len.1) (append_assoc (big_bytes size (length x)) x rest)
-    ∙ ap (λ (r : Option (ℕ × List ℕ)). r >>= λ len. bytes_at len.0 len.1) (number_again size (length x) (x ++ rest) below)
+    ap (λ (l : List ℕ). number_at size l >>= λ len. bytes_at len.0 len.1)
+    (append_assoc (big_bytes size (length x)) x rest)
+    ∙ ap (λ (r : Option (ℕ × List ℕ)). r >>= λ len. bytes_at len.0 len.1)
+    (number_again size (length x) (x ++ rest) below)
     ∙ bytes_again x rest
 
 pub sized_is_lawful : (size : ℕ) → IsLawful (sized size)
@@ -164,7 +168,8 @@ items_take : {A : Type 0} (f : Format A) → IsLawful f → (count : ℕ) (bytes
 unfolding items_at
 items_take {A = A} f lf zero bytes xs rest b e =
     let same = some_pair {A = List A} [] xs bytes rest e in
-    subst (λ (ys : List A). Takes bytes (flat_map f.bytes ys) rest × (length ys ≡ 0) × (list_all f.fits ys ≡ true)) same.0
+    subst (λ (ys : List A). Takes bytes (flat_map f.bytes ys) rest × (length ys ≡ 0)
+    × (list_all f.fits ys ≡ true)) same.0
     (record { parts = same.1; rest_fits = subst IsBytes same.1 b }, refl, refl)
 items_take {A = A} f lf (suc count) bytes xs rest b e =
     let a = then_some (f.at bytes) (λ first. items_at f count first.1 >>= λ others. Some
@@ -191,7 +196,8 @@ items_again {A = A} f lf (x ∷ xs) rest h =
     ap (items_at f (suc (length xs))) (append_assoc (f.bytes x) (flat_map f.bytes xs) rest)
     ∙ ap (λ (r : Option (A × List ℕ)). r >>= λ first. items_at f (length xs) first.1 >>= λ others. Some
     (first.0 ∷ others.0, others.1)) (lf.again x (flat_map f.bytes xs ++ rest) fit.0)
-    ∙ ap (λ (r : Option (List A × List ℕ)). r >>= λ others. Some (x ∷ others.0, others.1)) (items_again f lf xs rest fit.1)
+    ∙ ap (λ (r : Option (List A × List ℕ)). r >>= λ others. Some (x ∷ others.0, others.1))
+    (items_again f lf xs rest fit.1)
 
 pub list_is_lawful : {A : Type 0} (f : Format A) → IsLawful f → IsLawful (list f)
 list_is_lawful {A = A} f lf = record {
@@ -219,7 +225,8 @@ list_is_lawful {A = A} f lf = record {
 front : (n : ℕ) (bytes text rest : List ℕ) → Takes bytes text rest → Takes (n ∷ bytes) (n ∷ text) rest
 front n bytes text rest t = record { parts = ap (λ (l : List ℕ). n ∷ l) t.parts; rest_fits = t.rest_fits }
 
-optional_takes : {A : Type 0} (f : Format A) → IsLawful f → (bytes : List ℕ) (o : Option A) (rest : List ℕ) → IsBytes bytes
+optional_takes : {A : Type 0} (f : Format A) → IsLawful f
+    → (bytes : List ℕ) (o : Option A) (rest : List ℕ) → IsBytes bytes
     → optional_at f bytes ≡ Some (o, rest) → Takes bytes ((optional f).bytes o) rest × ((optional f).fits o ≡ true)
 optional_takes f lf [] o rest b e = absurd cc
 optional_takes {A = A} f lf (tag ∷ bytes) o rest b e =
@@ -228,7 +235,8 @@ optional_takes {A = A} f lf (tag ∷ bytes) o rest b e =
           let same = some_pair {A = Option A} None o bytes rest h.1 in
           subst (λ (t : ℕ). Takes (t ∷ bytes) ((optional f).bytes o) rest × ((optional f).fits o ≡ true))
           (sym (eqb-true tag 0 h.0))
-          (subst (λ (p : Option A). Takes (0 ∷ bytes) ((optional f).bytes p) rest × ((optional f).fits p ≡ true)) same.0 (
+          (subst (λ (p : Option A). Takes (0 ∷ bytes) ((optional f).bytes p) rest
+          × ((optional f).fits p ≡ true)) same.0 (
             record {
               parts = ap (λ (l : List ℕ). 0 ∷ l) same.1;
               rest_fits = subst IsBytes same.1 (IsBytes-rest tag bytes b);
@@ -294,7 +302,8 @@ made_is_lawful {A = A} {B = B} make parts f lf back forth = record {
       ∙ ap (λ (z : A). Some (z, rest)) (forth x);
 }
 
-some_fits : {B : Type 0} (f : Format B) (o : Option B) → fits_some f o ≡ true → (y : B) × (o ≡ Some y) × (f.fits y ≡ true)
+some_fits : {B : Type 0} (f : Format B) (o : Option B) → fits_some f o ≡ true
+    → (y : B) × (o ≡ Some y) × (f.fits y ≡ true)
 some_fits f None h = absurd cc
 some_fits f (Some y) h = (y, refl, h)
 

@@ -251,7 +251,8 @@ fail_is_lawful = made_is_lawful _ _ _ (also n8 (sized_is_lawful 2)) (λ y. refl)
 
 malformed_is_lawful : IsLawful it.malformed
 unfolding it.malformed
-malformed_is_lawful = made_is_lawful _ _ _ (also n8 (also (fixed_is_lawful 32) (number_is_lawful 2))) (λ y. refl) (λ x. refl)
+malformed_is_lawful = made_is_lawful _ _ _ (also n8 (also (fixed_is_lawful 32) (number_is_lawful 2))) (λ y. refl)
+    (λ x. refl)
 
 fee_is_lawful : IsLawful it.fee
 unfolding it.fee
@@ -343,10 +344,15 @@ fee_kind : IsLawful (kind (kinds.Fee) the_fee it.fee)
 fee_kind = kind_is_lawful (kinds.Fee) the_fee _ (fee_is_lawful) (λ y. refl) fee_forth
 
 update_forms : (n : ℕ) → IsLawful (update_form n)
-update_forms n = picked (n == 0) _ _ add_kind (picked (n == 1) _ _ fulfil_kind (picked (n == 2) _ _ fail_kind (picked (n == 3) _ _ malformed_kind (picked (n == 4) _ _ fee_kind (nothing_is_lawful)))))
+update_forms n = picked (n == 0) _ _ add_kind
+    (picked (n == 1) _ _ fulfil_kind (picked (n == 2) _ _ fail_kind
+    (picked (n == 3) _ _ malformed_kind (picked (n == 4) _ _ fee_kind (nothing_is_lawful)))))
 
 update_own : (n : ℕ) (x : Update) → (update_form n).fits x ≡ true → update_tag x ≡ n
-update_own n x = own_picked update_tag n 0 _ _ x (add_own x) (own_picked update_tag n 1 _ _ x (fulfil_own x) (own_picked update_tag n 2 _ _ x (fail_own x) (own_picked update_tag n 3 _ _ x (malformed_own x) (own_picked update_tag n 4 _ _ x (fee_own x) (λ h. absurd cc)))))
+update_own n x = own_picked update_tag n 0 _ _ x (add_own x)
+    (own_picked update_tag n 1 _ _ x (fulfil_own x)
+    (own_picked update_tag n 2 _ _ x (fail_own x)
+    (own_picked update_tag n 3 _ _ x (malformed_own x) (own_picked update_tag n 4 _ _ x (fee_own x) (λ h. absurd cc)))))
 
 pub update_is_lawful : IsLawful it.update
 unfolding it.update
@@ -447,10 +453,12 @@ close_kind : IsLawful (kind (λ (u : Unit {0}). ref.Close) the_close it.no_numbe
 close_kind = kind_is_lawful (λ (u : Unit {0}). ref.Close) the_close _ (no_number_is_lawful) (λ y. refl) close_forth
 
 event_forms : (n : ℕ) → IsLawful (event_form n)
-event_forms n = picked (n == 0) _ _ own_kind (picked (n == 1) _ _ peer_kind (picked (n == 2) _ _ close_kind (nothing_is_lawful)))
+event_forms n = picked (n == 0) _ _ own_kind (picked (n == 1) _ _ peer_kind
+    (picked (n == 2) _ _ close_kind (nothing_is_lawful)))
 
 event_own : (n : ℕ) (x : EventRef) → (event_form n).fits x ≡ true → event_tag x ≡ n
-event_own n x = own_picked event_tag n 0 _ _ x (own_own x) (own_picked event_tag n 1 _ _ x (peer_own x) (own_picked event_tag n 2 _ _ x (close_own x) (λ h. absurd cc)))
+event_own n x = own_picked event_tag n 0 _ _ x (own_own x)
+    (own_picked event_tag n 1 _ _ x (peer_own x) (own_picked event_tag n 2 _ _ x (close_own x) (λ h. absurd cc)))
 
 event_is_lawful : IsLawful it.event
 unfolding it.event
@@ -460,22 +468,28 @@ pub events_are_lawful : IsLawful it.events
 unfolding it.events
 events_are_lawful = made_is_lawful _ _ _ (also n8 (list_is_lawful _ event_is_lawful)) (λ y. refl) (λ x. refl)
 
-forward_forth : (x : Mark) (y : List ℕ × (ℕ × ℕ)) → forward_of x ≡ Some y → (λ (p : List ℕ × (ℕ × ℕ)). mark.Forward p.0 p.1.0 p.1.1) y ≡ x
+forward_forth : (x : Mark) (y : List ℕ × (ℕ × ℕ)) → forward_of x ≡ Some y
+    → (λ (p : List ℕ × (ℕ × ℕ)). mark.Forward p.0 p.1.0 p.1.1) y ≡ x
 forward_forth mark.None y e = absurd cc
-forward_forth (mark.Forward c a t) y e = ap (λ (p : List ℕ × (ℕ × ℕ)). mark.Forward p.0 p.1.0 p.1.1) (sym (some_is (c, (a, t)) y e))
+forward_forth (mark.Forward c a t) y e = ap (λ (p : List ℕ × (ℕ × ℕ)). mark.Forward p.0 p.1.0 p.1.1)
+    (sym (some_is (c, (a, t)) y e))
 forward_forth (mark.Fail r) y e = absurd cc
 forward_forth (mark.Malformed r) y e = absurd cc
 forward_forth (mark.Fulfil r) y e = absurd cc
 
-forward_own : (x : Mark) → (kind (λ (p : List ℕ × (ℕ × ℕ)). mark.Forward p.0 p.1.0 p.1.1) forward_of (fixed 32 & number 8 & number 4)).fits x ≡ true → mark_tag x ≡ 1
+forward_own : (x : Mark)
+    → (kind (λ (p : List ℕ × (ℕ × ℕ)). mark.Forward p.0 p.1.0 p.1.1) forward_of (fixed 32 & number 8 & number 4)).fits
+    x ≡ true → mark_tag x ≡ 1
 forward_own mark.None h = absurd cc
 forward_own (mark.Forward c a t) h = refl
 forward_own (mark.Fail r) h = absurd cc
 forward_own (mark.Malformed r) h = absurd cc
 forward_own (mark.Fulfil r) h = absurd cc
 
-forward_kind : IsLawful (kind (λ (p : List ℕ × (ℕ × ℕ)). mark.Forward p.0 p.1.0 p.1.1) forward_of (fixed 32 & number 8 & number 4))
-forward_kind = kind_is_lawful (λ (p : List ℕ × (ℕ × ℕ)). mark.Forward p.0 p.1.0 p.1.1) forward_of _ (also (fixed_is_lawful 32) (also n8 (number_is_lawful 4))) (λ y. refl) forward_forth
+forward_kind : IsLawful (kind (λ (p : List ℕ × (ℕ × ℕ)). mark.Forward p.0 p.1.0 p.1.1) forward_of
+    (fixed 32 & number 8 & number 4))
+forward_kind = kind_is_lawful (λ (p : List ℕ × (ℕ × ℕ)). mark.Forward p.0 p.1.0 p.1.1) forward_of _
+    (also (fixed_is_lawful 32) (also n8 (number_is_lawful 4))) (λ y. refl) forward_forth
 
 reason_forth : (x : Mark) (y : List ℕ) → reason_of x ≡ Some y → (mark.Fail) y ≡ x
 reason_forth mark.None y e = absurd cc
@@ -529,10 +543,14 @@ preimage_kind : IsLawful (kind (mark.Fulfil) preimage_of (fixed 32))
 preimage_kind = kind_is_lawful (mark.Fulfil) preimage_of _ (fixed_is_lawful 32) (λ y. refl) preimage_forth
 
 mark_forms : (n : ℕ) → IsLawful (mark_form n)
-mark_forms n = picked (n == 1) _ _ forward_kind (picked (n == 2) _ _ reason_kind (picked (n == 3) _ _ code_kind (picked (n == 4) _ _ preimage_kind (nothing_is_lawful))))
+mark_forms n = picked (n == 1) _ _ forward_kind
+    (picked (n == 2) _ _ reason_kind (picked (n == 3) _ _ code_kind
+    (picked (n == 4) _ _ preimage_kind (nothing_is_lawful))))
 
 mark_own : (n : ℕ) (x : Mark) → (mark_form n).fits x ≡ true → mark_tag x ≡ n
-mark_own n x = own_picked mark_tag n 1 _ _ x (forward_own x) (own_picked mark_tag n 2 _ _ x (reason_own x) (own_picked mark_tag n 3 _ _ x (code_own x) (own_picked mark_tag n 4 _ _ x (preimage_own x) (λ h. absurd cc))))
+mark_own n x = own_picked mark_tag n 1 _ _ x (forward_own x)
+    (own_picked mark_tag n 2 _ _ x (reason_own x)
+    (own_picked mark_tag n 3 _ _ x (code_own x) (own_picked mark_tag n 4 _ _ x (preimage_own x) (λ h. absurd cc))))
 
 stored_mark_is_lawful : IsLawful it.stored_mark
 unfolding it.stored_mark
@@ -553,7 +571,8 @@ settlement_is_lawful = made_is_lawful _ _ _ (also n8 (also origin_is_lawful (onl
 
 pub forwards_are_lawful : IsLawful it.forwards
 unfolding it.forwards
-forwards_are_lawful = made_is_lawful _ _ _ (also (list_is_lawful _ decision_is_lawful) (list_is_lawful _ settlement_is_lawful))
+forwards_are_lawful = made_is_lawful _ _ _ (also (list_is_lawful _ decision_is_lawful)
+    (list_is_lawful _ settlement_is_lawful))
     (λ y. refl) (λ x. refl)
 
 pub closing_fees_are_lawful : IsLawful it.closing_fees

@@ -1,6 +1,8 @@
 -- A record is read as it is written, and nothing else is.
-use Rattle.std.proofs.Common.{◌≡◌, ℕ, zero, suc, ◌+◌, ◌-◌, ◌^◌, ◌<◌, ◌≤◌, Bool, true, false, cond, List, [], ◌∷◌, ◌++◌, length, take, drop}
-use Rattle.std.proofs.Common.{Option, Some, None, Result, Ok, Err, nat_lt, nat_eq, ◌==◌, not, ◌&&◌, refl, sym, ap, ◌∙◌, arith}
+use Rattle.std.proofs.Common.{◌≡◌, ℕ, zero, suc, ◌+◌, ◌-◌, ◌^◌, ◌<◌, ◌≤◌, Bool, true, false, cond, List, [], ◌∷◌, ◌++◌}
+use Rattle.std.proofs.Common.{length, take, drop}
+use Rattle.std.proofs.Common.{Option, Some, None, Result, Ok, Err, nat_lt, nat_eq, ◌==◌, not, ◌&&◌, refl, sym, ap, ◌∙◌}
+use Rattle.std.proofs.Common.{arith}
 use Rattle.std.proofs.Common.{subst, append-nil, inl, inr}
 use Rattle.std.proofs.lemmas.Bool.{ltb-false, le-ltb, eqb-true, eq-eqb, not-true}
 use Rattle.std.proofs.lemmas.List.{take_at, drop_at, take-append-drop, length-append, length-take, length-drop}
@@ -76,7 +78,8 @@ pub is_sealed_so : (v : ℕ) (body : List ℕ) → length body < 256 ^ 8 → is_
 unfolding is_sealed
 is_sealed_so v body below =
     true_both _ _ (ap not (le-ltb (length (sealed v body)) 46 (omega (arith, length_sealed v body))))
-    (true_both _ _ (ap (λ (l : List ℕ). begins_well l (length (sealed v body))) (before v body) ∙ length_is v body below)
+    (true_both _ _ (ap (λ (l : List ℕ). begins_well l (length (sealed v body))) (before v body)
+    ∙ length_is v body below)
     (ap (λ (l : List ℕ). pointwise nat_eq (digest l) (seal_of (sealed v body))) (before v body)
     ∙ ap (pointwise nat_eq (digest (unsealed v body))) (behind v body)
     ∙ nat_list_eq_equiv.refl (digest (unsealed v body))))

@@ -42,7 +42,8 @@ use Rattle.ln_store.specs.declared.record.Commitments.{Commitments}
 use Rattle.ln_store.specs.declared.record.Updates.{Updates}
 use Rattle.ln_store.specs.declared.record.Progress.{Progress}
 use Rattle.ln_store.specs.declared.record.Items.{Items}
-use Rattle.ln_store.specs.Format.{Format, number, fixed, sized, ◌&◌, list, optional, tagged, nothing, made, kind, code, only}
+use Rattle.ln_store.specs.Format.{Format, number, fixed, sized, ◌&◌, list, optional, tagged, nothing, made, kind, code}
+use Rattle.ln_store.specs.Format.{only}
 use Rattle.ln_store.specs.Format.{is_some}
 
 -- ---- who, and what was sent and taken

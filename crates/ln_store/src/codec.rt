@@ -1,6 +1,7 @@
 //! Records as bytes.
 
-ghost use Rattle.std.specs.Prelude.{◌≡◌, IsTrue, ◌<◌, ◌≤◌, ◌++◌, ℕ, List, Ok, Err, true, false, IfOk, IfErr, OnOk, slice_index, length, ◌&&◌, ◌==◌, ◌^◌};
+ghost use Rattle.std.specs.Prelude.{◌≡◌, IsTrue, ◌<◌, ◌≤◌, ◌++◌, ℕ, List, Ok, Err, true, false, IfOk, IfErr, OnOk};
+ghost use Rattle.std.specs.Prelude.{slice_index, length, ◌&&◌, ◌==◌, ◌^◌};
 ghost use Rattle.ln_keys.specs.Hash.{payment_hash as digest};
 ghost use Rattle.ln_store.specs.declared.record.Items.{Items};
 ghost use Rattle.ln_store.specs.Items as it;

@@ -89,7 +89,12 @@ fn records_in_memory(rt: HostRuntime) {
     let mut store = MemoryStore::new(alloc);
     assert!(rt; has(alloc, &mut store, 3, ""));
     assert_eq!(rt; listed(alloc, &mut store), 0);
-    for (id, text, ids) in [(3, "three", 3), (1, "one", 13), (2, "two", 123), (3, "four", 123)] {
+    for (id, text, ids) in [
+        (3, "three", 3),
+        (1, "one", 13),
+        (2, "two", 123),
+        (3, "four", 123),
+    ] {
         assert_eq!(rt; saved(alloc, &mut store, id, text), 0);
         assert!(rt; has(alloc, &mut store, id, text));
         assert_eq!(rt; listed(alloc, &mut store), ids);
