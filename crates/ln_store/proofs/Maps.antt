@@ -5,7 +5,8 @@ use Rattle.std.specs.Ordering.{nat_cmp, eq_by_cmp}
 use Rattle.std.specs.Cmp.{eq_by_cmp_equiv}
 use Rattle.std.specs.Cmp.Lexicographic.{slice_cmp, nat_list_cmp_total}
 use Rattle.std.specs.FinMap as map
-use Rattle.std.specs.FinMap.{IsAntisymmetric, nat_cmp-IsAntisymmetric, slice_cmp-IsAntisymmetric, find, get-from_entries}
+use Rattle.std.specs.FinMap.{IsAntisymmetric, nat_cmp-IsAntisymmetric, slice_cmp-IsAntisymmetric, find}
+use Rattle.std.specs.FinMap.{get-from_entries}
 use Rattle.std.specs.FinMap.{get-insert, same_map, from_entries, entries-insert, len-entries, len-empty}
 use Rattle.std.specs.BTreeMap.{is_at}
 use Rattle.std.specs.Map.{lookup, keys_of}
@@ -33,7 +34,8 @@ got es q = get-from_entries nat_list_cmp_total es q ∙ find_is es q
 
 -- entries that differ at one id alone make maps that differ there alone
 pub put : (es fs : List (List ℕ × List ℕ)) (k v : List ℕ)
-    → ((q : List ℕ) → lookup (is_at (by_bytes q)) fs ≡ cond (eq_by_cmp by_bytes k q) (Some v) (lookup (is_at (by_bytes q)) es))
+    → ((q : List ℕ) → lookup (is_at (by_bytes q)) fs
+    ≡ cond (eq_by_cmp by_bytes k q) (Some v) (lookup (is_at (by_bytes q)) es))
     → records_of fs ≡ map.insert (records_of es) k v
 put es fs k v h = same_map nat_list_cmp_total exact _ _ (λ q.
     got fs q ∙ h q

@@ -1,1 +1,5 @@
 pub mod Store
+pub mod Format
+pub mod Items
+pub mod Readable
+pub mod Record

@@ -1,8 +1,31 @@
-//! What outlives a restart: where the record of each channel is stored.
+//! What outlives a restart: where the record of each channel is stored, and what it has.
 #![tactic(auto)]
 
+mod codec;
+mod events;
+mod header;
+mod items;
+mod link_record;
+mod list;
+mod lists;
+mod mark;
 mod memory_store;
+mod place;
+mod readable;
+mod record;
 mod record_store;
+mod stored;
+mod updates;
 
+pub use codec::{decode_record, encode_record, one_record};
+pub use link_record::LinkRecord;
+pub use list::Listed;
+pub use mark::{EventRef, Mark};
 pub use memory_store::MemoryStore;
+pub use place::ChainPlace;
+pub use readable::is_readable;
+pub use record::{
+    Agreement, Base, ClosingFees, Commitments, Covered, Decision, Events, Flags, Forwards, Header,
+    Items, LiveHtlc, Origin, Pairs, Progress, Settlement, Sides, Updates, Window,
+};
 pub use record_store::RecordStore;

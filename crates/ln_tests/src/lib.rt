@@ -31,11 +31,15 @@ mod opening;
 #[cfg(test)]
 mod pings;
 #[cfg(test)]
+mod record;
+#[cfg(test)]
 mod relay;
 #[cfg(test)]
 mod resume;
 #[cfg(test)]
 mod script;
+#[cfg(test)]
+mod store;
 #[cfg(test)]
 mod testing;
 #[cfg(test)]

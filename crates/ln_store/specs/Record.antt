@@ -1,0 +1,67 @@
+-- The bytes of a record, version 1, around its items.
+use Rattle.std.specs.Prelude.{ℕ, ◌+◌, ◌-◌, List, [], ◌∷◌, ◌++◌, length, take, drop, Bool, not, nat_eq, nat_lt, ◌==◌}
+use Rattle.std.specs.Prelude.{◌&&◌}
+use Rattle.std.specs.Prelude.{Option, Some, None, Result, Ok, Err, if◌then◌else◌, ◌≡◌, ◌≢◌}
+use Rattle.std.specs.Cmp.Lexicographic.{pointwise}
+use Rattle.ln_bytes.specs.Endian.{big_bytes, big_number}
+use Rattle.ln_msgs.specs.declared.refusals.refusal.Refusal.{Refusal}
+use Rattle.ln_msgs.specs.declared.refusals.refusal.Refusal.TheVariants as refusal
+use Rattle.ln_keys.specs.Hash.{payment_hash as digest}
+use Rattle.ln_store.specs.declared.record.Items.{Items}
+use Rattle.ln_store.specs.Items as it
+use Rattle.ln_store.specs.Readable.{is_readable}
+
+-- "LNLR"
+abbrev pub magic : List ℕ
+magic = 76 ∷ 78 ∷ 76 ∷ 82 ∷ []
+
+-- the version in two bytes, the length of the body in eight, and the body
+unfoldable pub unsealed : ℕ → List ℕ → List ℕ
+unsealed version body = magic ++ (big_bytes 2 version ++ (big_bytes 8 (length body) ++ body))
+
+-- and the SHA-256 of these
+abbrev pub sealed : ℕ → List ℕ → List ℕ
+sealed version body = unsealed version body ++ digest (unsealed version body)
+
+-- the one spelling of a record
+abbrev pub record_bytes : Items → List ℕ
+record_bytes i = sealed 1 (it.items.bytes i)
+
+-- what is before the digest, and the digest
+abbrev pub before_seal : List ℕ → List ℕ
+before_seal bytes = take (length bytes - 32) bytes
+
+abbrev pub seal_of : List ℕ → List ℕ
+seal_of bytes = drop (length bytes - 32) bytes
+
+-- what is before the digest begins with the magic bytes, and tells so many bytes behind the head
+abbrev pub begins_well : List ℕ → ℕ → Bool
+begins_well front len = pointwise nat_eq (take 4 front) magic && (big_number 8 (drop 6 front) + 46 == len)
+
+-- the first bytes, the length and the digest are those of a record
+unfoldable pub is_sealed : List ℕ → Bool
+is_sealed bytes =
+    not (nat_lt (length bytes) 46)
+    && (begins_well (before_seal bytes) (length bytes) && pointwise nat_eq (digest (before_seal bytes)) (seal_of bytes))
+
+unfoldable pub version_of : List ℕ → ℕ
+version_of bytes = big_number 2 (drop 4 (before_seal bytes))
+
+unfoldable pub body_of : List ℕ → List ℕ
+body_of bytes = drop 14 (before_seal bytes)
+
+-- nothing follows the items, and they may be had
+abbrev pub only_items : Option (Items × List ℕ) → Result Items Refusal
+only_items None = Err refusal.Damaged
+only_items (Some x) = if (length x.1 == 0) && is_readable x.0 then Ok x.0 else Err refusal.Damaged
+
+-- the items of a record, or the first thing that is wrong
+abbrev pub record_at : List ℕ → Result Items Refusal
+record_at bytes =
+    if not (is_sealed bytes) then Err refusal.Damaged
+    else (if not (version_of bytes == 1) then Err refusal.Version else only_items (it.items.at (body_of bytes)))
+
+-- what was answered, seen by view, is what reading gives, unless memory ran out
+abbrev pub Gives : {X Y : Type 0} → (X → Y) → Result X Refusal → Result Y Refusal → Type 0
+Gives view (Ok x) read = read ≡ Ok (view x)
+Gives view (Err e) read = e ≢ refusal.Memory → read ≡ Err e

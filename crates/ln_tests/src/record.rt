@@ -1,0 +1,310 @@
+//! Records of channel ends, against bytes that a separate program wrote.
+
+use crate::code_of;
+use ln_keys::sha256_32;
+use ln_msgs::Refusal;
+use ln_store::{decode_record, encode_record, one_record};
+use std::alloc::Global;
+
+/// The body of a record with each kind of item, as pieces that are written so many times.
+const FULL: [(&str, u32); 93] = [
+    ("09", 32), // channel
+    ("00", 1), // role
+    ("17", 1), // flags
+    ("0000", 1), // failure
+    ("0000013f", 1), // open_len
+    ("00", 32), // chain and temporary id
+    ("ff", 32),
+    ("00000000000f4240", 1), // funding
+    ("00000000000000050000000000000222000000e8d4a51000", 1),
+    ("00000000000000000000000000000001000000fd0090001e", 1),
+    (
+        "020000000000000000000000000000000000000000000000000000000000000000",
+        1,
+    ),
+    (
+        "020101010101010101010101010101010101010101010101010101010101010101",
+        1,
+    ),
+    (
+        "020202020202020202020202020202020202020202020202020202020202020202",
+        1,
+    ),
+    (
+        "020303030303030303030303030303030303030303030303030303030303030303",
+        1,
+    ),
+    (
+        "020404040404040404040404040404040404040404040404040404040404040404",
+        1,
+    ),
+    (
+        "020505050505050505050505050505050505050505050505050505050505050505",
+        1,
+    ),
+    ("00", 1),
+    ("0000010e", 1), // accept_len
+    ("ff", 32),
+    (
+        "0000000000000222000000e8d4a5100000000000000000000000000000000001000000030090001e",
+        1,
+    ),
+    (
+        "020000000000000000000000000000000000000000000000000000000000000000",
+        1,
+    ),
+    (
+        "020101010101010101010101010101010101010101010101010101010101010101",
+        1,
+    ),
+    (
+        "020202020202020202020202020202020202020202020202020202020202020202",
+        1,
+    ),
+    (
+        "020303030303030303030303030303030303030303030303030303030303030303",
+        1,
+    ),
+    (
+        "020404040404040404040404040404040404040404040404040404040404040404",
+        1,
+    ),
+    (
+        "020505050505050505050505050505050505050505050505050505050505050505",
+        1,
+    ),
+    ("010000010000020003", 1), // place
+    ("000000000000012c00000000000000c80000000000000190", 1), // fees
+    ("000141", 1), // script
+    ("0100024243", 1), // peer script
+    ("0000000000000003", 1), // commitment
+    ("0000000000000005", 1), // signed
+    ("0000000000000004", 1), // revoked
+    ("02", 33), // points
+    ("03", 33),
+    ("01", 1), // secret tag
+    ("08", 32),
+    ("00000000000000010000000000000002", 1), // base counts
+    ("00000000000000010000000000000000", 1), // next ids
+    ("00000000000003840000000000000064", 1), // balances
+    ("000000fd", 1), // feerate
+    ("0000000000000001", 1), // live count
+    ("00", 1), // owner
+    ("00", 1), // live tag
+    ("0000000000000000000000000000004d", 1),
+    ("07", 32),
+    ("00000190", 1),
+    ("05", 1366),
+    ("00", 1), // origin tag
+    ("0000000000000002", 1), // window
+    ("00", 1), // tag
+    ("00000000000000010000000000001388", 1),
+    ("07", 32),
+    ("00000190", 1),
+    ("05", 1366),
+    ("01", 1),
+    ("09", 32),
+    ("0000000000000006", 1),
+    ("040000012c", 1), // fee update
+    ("0000000000000003", 1), // peer's window
+    ("010000000000000000", 1),
+    ("01", 32),
+    ("0200000000000000010003626164", 1),
+    ("030000000000000001", 1),
+    ("04", 32),
+    ("c005", 1),
+    ("00000000000000030000000000000004", 1), // covered
+    ("00000000000000020000000000000003", 1), // acknowledged
+    ("00000000000000050000000000000002", 1), // current
+    ("0000000000000007", 1), // decided
+    ("0000000000000003", 1), // undecided
+    ("000000000000000001", 1), // own event
+    ("010000000000000004", 1), // peer event
+    ("020000000000000000", 1), // close event
+    ("0000000000000004", 1), // decisions
+    ("0000000000000004", 1),
+    ("01", 1), // forward tag
+    ("09", 32),
+    ("000000000000000500000006", 1),
+    ("00000000000000050200000000000000026e6f", 1),
+    ("000000000000000603c006", 1),
+    ("000000000000000704", 1),
+    ("06", 32),
+    ("0000000000000001", 1), // results
+    ("0000000000000001", 1),
+    ("09", 32),
+    ("0000000000000002", 1),
+    ("02", 1), // result tag
+    ("0000000000000001000178", 1),
+    ("01000000000000012c", 1), // own fee
+    ("01000000000000015e", 1), // peer fee
+    ("00", 1), // closed
+    ("", 1), // end
+];
+
+/// A place in it, and what stands there in another record.
+const READABLE: [(usize, &str); 14] = [
+    (3, "0025"), // failure
+    (3, "0015"), // failure
+    (3, "0023"), // failure
+    (2, "00"), // flags
+    (2, "1f"), // flags
+    (7, "0000000000000001"), // funding
+    (7, "000775f05a074000"), // funding
+    (69, "8000000000000001"), // decided
+    (72, "010000000000000002"), // peer event
+    (71, "000000000000000002"), // own event
+    (26, "00"), // place
+    (29, "00"), // peer script
+    (91, "010000000000000007"), // closed
+    (30, "0000ffffffffffff"), // commitment
+];
+
+const UNREADABLE: [(usize, &str); 28] = [
+    (1, "02"), // role
+    (2, "37"), // flags
+    (3, "0024"), // failure
+    (3, "0014"), // failure
+    (7, "0000000000000000"), // funding
+    (7, "000775f05a074001"), // funding
+    (4, "0000013e"), // open_len
+    (17, "0000010f"), // accept_len
+    (26, "020000010000020003"), // place
+    (31, "0000000000000006"), // signed
+    (31, "0000000000000003"), // signed
+    (31, "0000000000000004"), // signed
+    (30, "0001000000000000"), // commitment
+    (42, "02"), // owner
+    (43, "01"), // live tag
+    (48, "02"), // origin tag
+    (49, "0000000000000001"), // window
+    (50, "05"), // tag
+    (69, "8000000000000002"), // decided
+    (71, "000000000000000000"), // own event
+    (71, "000000000000000003"), // own event
+    (72, "010000000000000005"), // peer event
+    (73, "020000000000000001"), // close event
+    (73, "030000000000000000"), // close event
+    (76, "00"), // forward tag
+    (87, "04"), // result tag
+    (91, "03"), // closed
+    (92, "00"), // end
+];
+
+/// The value of a hex digit.
+fn digit(sign: u8) -> u8 {
+    match sign {
+        b'0'..=b'9' => sign - b'0',
+        b'a'..=b'f' => sign - b'a' + 10,
+        _ => 0,
+    }
+}
+
+/// Writes the bytes of these digits behind the others.
+fn put_hex(out: &mut Vec<u8>, digits: &[u8]) -> Result<(), Refusal> {
+    let mut high = None;
+    for sign in digits {
+        match high {
+            None => high = Some(digit(*sign)),
+            Some(first) => {
+                out.push(first.wrapping_mul(16).wrapping_add(digit(*sign)))?;
+                high = None;
+            }
+        }
+    }
+    Ok(())
+}
+
+/// The record of this version with the full body, in which this stands at one place.
+fn record_with(alloc: Global, version: u8, place: usize, other: &str) -> Result<Vec<u8>, Refusal> {
+    let mut body = Vec::new(alloc);
+    for (number, (digits, times)) in FULL.iter().enumerate() {
+        if number == place {
+            put_hex(&mut body, other.as_bytes())?;
+        } else {
+            for _ in 0..*times {
+                put_hex(&mut body, digits.as_bytes())?;
+            }
+        }
+    }
+    let mut out = Vec::new(alloc);
+    out.extend_from_slice(b"LNLR\0")?;
+    out.push(version)?;
+    out.extend_from_slice(&(body.len() as u64).to_be_bytes())?;
+    out.extend_from_slice(body.as_slice())?;
+    let digest = sha256_32(out.as_slice());
+    out.extend_from_slice(&digest)?;
+    Ok(out)
+}
+
+/// What these bytes are refused by; 0 where they are a record, which is written again as it was; 1 where it isn't.
+fn code_of_bytes(alloc: Global, bytes: &[u8]) -> u32 {
+    match decode_record(alloc, bytes) {
+        Err(refusal) => code_of(Some(refusal)),
+        Ok(found) => match encode_record(alloc, &found) {
+            Err(refusal) => code_of(Some(refusal)),
+            Ok(again) => u32::from(again.as_slice() != bytes),
+        },
+    }
+}
+
+fn code_with(alloc: Global, version: u8, place: usize, other: &str) -> u32 {
+    match record_with(alloc, version, place, other) {
+        Err(refusal) => code_of(Some(refusal)),
+        Ok(bytes) => code_of_bytes(alloc, bytes.as_slice()),
+    }
+}
+
+/// How many of the beginnings of a record aren't refused by 70.
+fn cuts_taken(alloc: Global, bytes: &[u8]) -> u32 {
+    let mut taken: u32 = 0;
+    for len in 0..bytes.len() {
+        if code_of_bytes(alloc, &bytes[..len]) != 70 {
+            taken = taken.wrapping_add(1);
+        }
+    }
+    taken
+}
+
+/// How many of its bytes can have their lowest bit changed without 70.
+fn changes_taken(alloc: Global, bytes: &mut [u8]) -> u32 {
+    let mut taken: u32 = 0;
+    for place in 0..bytes.len() {
+        bytes[place] ^= 1;
+        if code_of_bytes(alloc, bytes) != 70 {
+            taken = taken.wrapping_add(1);
+        }
+        bytes[place] ^= 1;
+    }
+    taken
+}
+
+const NOWHERE: usize = 1000;
+
+#[test]
+fn small_records(rt: HostRuntime) {
+    let alloc = rt.alloc();
+    one_record();
+    assert_eq!(rt; code_with(alloc, 1, NOWHERE, ""), 0);
+    assert_eq!(rt; code_with(alloc, 9, NOWHERE, ""), 71);
+    assert_eq!(rt; code_with(alloc, 0, NOWHERE, ""), 71);
+    for (place, other) in READABLE {
+        assert_eq!(rt; code_with(alloc, 1, place, other), 0);
+    }
+    for (place, other) in UNREADABLE {
+        assert_eq!(rt; code_with(alloc, 1, place, other), 70);
+        assert_eq!(rt; code_with(alloc, 2, place, other), 71);
+    }
+}
+
+#[test]
+fn damaged_records(rt: HostRuntime) {
+    let alloc = rt.alloc();
+    assert_eq!(rt; code_of_bytes(alloc, &[]), 70);
+    let Ok(mut bytes) = record_with(alloc, 1, NOWHERE, "") else {
+        return;
+    };
+    assert_eq!(rt; bytes.len(), 4213);
+    assert_eq!(rt; cuts_taken(alloc, bytes.as_slice()), 0);
+    assert_eq!(rt; changes_taken(alloc, bytes.as_mut_slice()), 0);
+}
