@@ -3,7 +3,7 @@
 use crate::command::Command;
 use crate::link::{Link, Stage};
 use crate::output::{Outbox, Output};
-use crate::stage::fails;
+use crate::stage::{fails, obey_open};
 use ln_keys::ChannelKeys;
 use ln_msgs::{Message, Refusal};
 use std::alloc::Global;
@@ -94,16 +94,7 @@ impl<K: ChannelKeys + Drop> Link<K> {
             result self.old self.new }
     {
         match &mut self.stage {
-            Stage::Saved(channel) => {
-                match channel.unready_refusal(&command) {
-                    Some(refusal) => return Err(refusal),
-                    None => {}
-                }
-                if !self.line.is_met() {
-                    return Err(Refusal::Disconnected);
-                }
-                channel.command(alloc, &self.keys, command)
-            }
+            Stage::Saved(channel) => obey_open(alloc, &self.keys, self.line, channel, command),
             _ => Err(Refusal::NotReady),
         }
     }

@@ -7,11 +7,10 @@ use ln_dance::add_message;
 use ln_hooks::ChannelEvent;
 use ln_keys::ToyKeys;
 use ln_link::{
-    Channel, Command, Config, FitConfig, FitSpec, Mark, OpenSpec, Output, Points, open_channel,
-    take_accept, take_created, take_open, take_signed,
+    Command, Config, FitConfig, FitSpec, Link, Mark, OpenSpec, Output, Points,
 };
 use ln_log::Limits;
-use ln_msgs::{Message, Records, Refusal};
+use ln_msgs::{Error, Message, Records, Refusal};
 use std::alloc::Global;
 
 /// What happens between the funder's end and the fundee's. What an end hands out the other takes at once.
@@ -35,11 +34,20 @@ enum Move {
     /// The fundee's end decides an event, or forgets a result.
     Decide,
     Forget,
-    /// The fundee's end takes an HTLC.
-    Take,
+    /// The fundee's end takes an HTLC of the channel whose id is this byte, or an error for it.
+    Take(u8),
+    Hear(u8),
+    /// The connection is lost, or comes back.
+    Down,
+    Up,
+    /// The fundee's end halts.
+    Halt,
 }
 
-use Move::{Back, Confirm, Decide, Fail, Forget, Garble, Offer, Out, Pay, Rate, Shut, Take};
+use Move::{
+    Back, Confirm, Decide, Down, Fail, Forget, Garble, Halt, Hear, Offer, Out, Pay, Rate, Shut, Take,
+    Up,
+};
 
 /// Least, first and greatest closing fee.
 type Range = (u64, u64, u64);
@@ -72,13 +80,6 @@ fn config(alloc: Global, fees: Range) -> Config {
     }
 }
 
-/// A channel end and its keys.
-#[derive(Drop)]
-struct End {
-    channel: Channel,
-    keys: ToyKeys,
-}
-
 fn spec(alloc: Global) -> Result<FitSpec, Refusal> {
     let spec = OpenSpec {
         config: config(alloc, (200, 300, 400)),
@@ -107,16 +108,18 @@ fn fit(alloc: Global, fees: Range) -> Result<FitConfig, Refusal> {
     }
 }
 
-/// Both ends of a channel, behind its opening.
-fn opened(alloc: Global, fees: Range) -> Result<(Channel, Channel), Refusal> {
-    let spec = spec(alloc)?;
-    let config = fit(alloc, fees)?;
-    let open = open_channel(alloc, &FUNDER, &spec)?;
-    let (agreed, accept) = take_open(alloc, &FUNDEE, config, open)?;
-    let (a, created) = take_accept(alloc, &FUNDER, spec, accept)?;
-    let (b, signed) = take_created(alloc, &FUNDEE, agreed, created)?;
-    take_signed(alloc, &FUNDER, &a.dance, &signed)?;
-    Ok((Channel::new(alloc, a), Channel::new(alloc, b)))
+/// Both ends of a channel, behind its opening: the four messages pass.
+fn opened(
+    alloc: Global,
+    fees: Range,
+    seen: &mut Vec<u64>,
+) -> Result<(Link<ToyKeys>, Link<ToyKeys>), Refusal> {
+    let mut a = Link::funder(FUNDER, spec(alloc)?);
+    let mut b = Link::fundee(FUNDEE, fit(alloc, fees)?);
+    drop(b.connect(alloc)?);
+    let outputs = a.connect(alloc)?;
+    exchanged(alloc, outputs, &mut a, &mut b, 2, seen)?;
+    Ok((a, b))
 }
 
 /// An output as one number: a message by its type, below 1000; what was signed from 1000 on; what is held from 2000 on,
@@ -160,15 +163,14 @@ fn noted(outputs: Vec<Output>, seen: &mut Vec<u64>) -> Result<Vec<Output>, Refus
 fn pass(
     alloc: Global,
     outputs: Vec<Output>,
-    end: &mut End,
+    end: &mut Link<ToyKeys>,
     seen: &mut Vec<u64>,
 ) -> Result<Vec<Output>, Refusal> {
     let mut last = Vec::new(alloc);
     for output in outputs {
         match output {
             Output::Send(message) => {
-                let handed = end.channel.take(alloc, &end.keys, message)?;
-                last = noted(handed.into_outputs()?, seen)?;
+                last = noted(end.handle(alloc, message)?, seen)?;
             }
             _ => {}
         }
@@ -180,8 +182,8 @@ fn pass(
 fn exchanged(
     alloc: Global,
     outputs: Vec<Output>,
-    x: &mut End,
-    y: &mut End,
+    x: &mut Link<ToyKeys>,
+    y: &mut Link<ToyKeys>,
     turns: u8,
     seen: &mut Vec<u64>,
 ) -> Result<(), Refusal> {
@@ -197,17 +199,17 @@ fn exchanged(
 /// One end does what it is told, and the other takes what it hands out.
 fn told(
     alloc: Global,
-    x: &mut End,
-    y: &mut End,
+    x: &mut Link<ToyKeys>,
+    y: &mut Link<ToyKeys>,
     command: Command,
     turns: u8,
     seen: &mut Vec<u64>,
 ) -> Result<(), Refusal> {
-    let outputs = x.channel.command(alloc, &x.keys, command)?.into_outputs()?;
+    let outputs = x.command(alloc, command)?;
     exchanged(alloc, outputs, x, y, turns, seen)
 }
 
-fn confirm(alloc: Global, a: &mut End, b: &mut End, seen: &mut Vec<u64>) -> Result<(), Refusal> {
+fn confirm(alloc: Global, a: &mut Link<ToyKeys>, b: &mut Link<ToyKeys>, seen: &mut Vec<u64>) -> Result<(), Refusal> {
     let Some(id) = ShortId::parse("1x1x0") else {
         return Err(Refusal::Truncated);
     };
@@ -262,7 +264,7 @@ fn offer() -> Command {
 }
 
 /// The fundee's end takes this.
-fn take(alloc: Global, b: &mut End, message: Message, seen: &mut Vec<u64>) -> Result<(), Refusal> {
+fn take(alloc: Global, b: &mut Link<ToyKeys>, message: Message, seen: &mut Vec<u64>) -> Result<(), Refusal> {
     let handed = b.channel.take(alloc, &b.keys, message)?;
     drop(noted(handed.into_outputs()?, seen)?);
     Ok(())
@@ -270,8 +272,8 @@ fn take(alloc: Global, b: &mut End, message: Message, seen: &mut Vec<u64>) -> Re
 
 fn play(
     alloc: Global,
-    a: &mut End,
-    b: &mut End,
+    a: &mut Link<ToyKeys>,
+    b: &mut Link<ToyKeys>,
     one: Move,
     seen: &mut Vec<u64>,
 ) -> Result<(), Refusal> {
@@ -284,9 +286,20 @@ fn play(
             let script = script(alloc, len)?;
             told(alloc, a, b, Command::Shutdown(script), turns, seen)
         }
-        Take => {
-            let message = add_message(alloc, b.channel.id(), &htlc(0, 5000, 400));
+        Take(channel) => {
+            let message = add_message(alloc, [channel; 32], &htlc(0, 5000, 400));
             take(alloc, b, Message::UpdateAddHtlc(message), seen)
+        }
+        Hear(channel) => take(alloc, b, error(alloc, [channel; 32]), seen),
+        Down => {
+            a.drop_connection();
+            b.drop_connection();
+            Ok(())
+        }
+        Up => up(alloc, a, b, seen),
+        Halt => {
+            b.halt();
+            Ok(())
         }
         _ => told(alloc, b, a, answer(alloc, one), 1, seen),
     }
@@ -300,16 +313,8 @@ fn moved(
     table: &[(Move, u32)],
     outputs: &[u64],
 ) -> Result<(usize, bool), Refusal> {
-    let (funder, fundee) = opened(alloc, fees)?;
-    let mut a = End {
-        channel: funder,
-        keys: FUNDER,
-    };
-    let mut b = End {
-        channel: fundee,
-        keys: FUNDEE,
-    };
     let mut seen = Vec::new(alloc);
+    let (mut a, mut b) = opened(alloc, fees, &mut seen)?;
     let mut right = 0usize;
     for row in table {
         if code_of(play(alloc, &mut a, &mut b, row.0, &mut seen).err()) != row.1 {
@@ -359,7 +364,7 @@ fn moves(rt: HostRuntime) -> Result<(), Refusal> {
                 (Out, 0),
                 (Back, 0),
                 (Fail, 0),
-                (Take, 22),
+                (Take(9), 22),
             ],
             &[
                 36, 36, 128, 132, 1001, 133, 2000, 2000, 132, 1000, 133, 2010, 3001, 2001, 3002,
@@ -384,7 +389,7 @@ fn moves(rt: HostRuntime) -> Result<(), Refusal> {
                 (Shut(65_500, 1), 4407),
                 (Shut(0, 1), 0),
                 (Offer, 43),
-                (Take, 35),
+                (Take(9), 35),
             ],
             &[36, 36, 134, 132, 1001, 133, 2000, 2000, 38, 38],
         ),
