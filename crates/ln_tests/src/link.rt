@@ -6,9 +6,7 @@ use ln_bytes::{Bytes, ShortId};
 use ln_dance::add_message;
 use ln_hooks::ChannelEvent;
 use ln_keys::ToyKeys;
-use ln_link::{
-    Command, Config, FitConfig, FitSpec, Link, Mark, OpenSpec, Output, Points,
-};
+use ln_link::{Command, Config, FitConfig, FitSpec, Link, Mark, OpenSpec, Output, Points};
 use ln_log::Limits;
 use ln_msgs::{Error, Message, Records, Refusal};
 use std::alloc::Global;
@@ -25,9 +23,10 @@ enum Move {
     Pay,
     Garble(u16),
     Fail,
-    /// The funder's end signs, or the fundee's.
+    /// The funder's end signs, or the fundee's; or the funder's does, and what it hands out is lost.
     Out,
     Back,
+    Lost,
     /// The funder's end sends shutdown with a script of so many bytes, and so many times each takes what the other
     /// hands out.
     Shut(usize, u8),
@@ -45,8 +44,8 @@ enum Move {
 }
 
 use Move::{
-    Back, Confirm, Decide, Down, Fail, Forget, Garble, Halt, Hear, Offer, Out, Pay, Rate, Shut, Take,
-    Up,
+    Back, Confirm, Decide, Down, Fail, Forget, Garble, Halt, Hear, Lost, Offer, Out, Pay, Rate,
+    Shut, Take, Up,
 };
 
 /// Least, first and greatest closing fee.
@@ -209,7 +208,12 @@ fn told(
     exchanged(alloc, outputs, x, y, turns, seen)
 }
 
-fn confirm(alloc: Global, a: &mut Link<ToyKeys>, b: &mut Link<ToyKeys>, seen: &mut Vec<u64>) -> Result<(), Refusal> {
+fn confirm(
+    alloc: Global,
+    a: &mut Link<ToyKeys>,
+    b: &mut Link<ToyKeys>,
+    seen: &mut Vec<u64>,
+) -> Result<(), Refusal> {
     let Some(id) = ShortId::parse("1x1x0") else {
         return Err(Refusal::Truncated);
     };
@@ -264,10 +268,40 @@ fn offer() -> Command {
 }
 
 /// The fundee's end takes this.
-fn take(alloc: Global, b: &mut Link<ToyKeys>, message: Message, seen: &mut Vec<u64>) -> Result<(), Refusal> {
-    let handed = b.channel.take(alloc, &b.keys, message)?;
-    drop(noted(handed.into_outputs()?, seen)?);
+fn take(
+    alloc: Global,
+    b: &mut Link<ToyKeys>,
+    message: Message,
+    seen: &mut Vec<u64>,
+) -> Result<(), Refusal> {
+    drop(noted(b.handle(alloc, message)?, seen)?);
     Ok(())
+}
+
+/// A connection comes back: the funder's end sends first.
+fn up(
+    alloc: Global,
+    a: &mut Link<ToyKeys>,
+    b: &mut Link<ToyKeys>,
+    seen: &mut Vec<u64>,
+) -> Result<(), Refusal> {
+    let from_a = noted(a.connect(alloc)?, seen)?;
+    let from_b = noted(b.connect(alloc)?, seen)?;
+    let to_a = pass(alloc, from_a, b, seen)?;
+    let to_b = pass(alloc, from_b, a, seen)?;
+    drop(pass(alloc, to_a, a, seen)?);
+    let answer = pass(alloc, to_b, b, seen)?;
+    drop(pass(alloc, answer, a, seen)?);
+    Ok(())
+}
+
+/// An error for this channel.
+fn error(alloc: Global, channel_id: [u8; 32]) -> Message {
+    Message::Error(Error {
+        channel_id,
+        bytes: Bytes::empty(alloc),
+        records: Records::empty(alloc),
+    })
 }
 
 fn play(
@@ -282,6 +316,7 @@ fn play(
         Offer => told(alloc, a, b, offer(), 1, seen),
         Rate => told(alloc, a, b, Command::Fee(300), 1, seen),
         Out => told(alloc, a, b, Command::Sign, 1, seen),
+        Lost => told(alloc, a, b, Command::Sign, 0, seen),
         Shut(len, turns) => {
             let script = script(alloc, len)?;
             told(alloc, a, b, Command::Shutdown(script), turns, seen)
@@ -315,6 +350,10 @@ fn moved(
 ) -> Result<(usize, bool), Refusal> {
     let mut seen = Vec::new(alloc);
     let (mut a, mut b) = opened(alloc, fees, &mut seen)?;
+    if seen.as_slice() != [32, 33, 34, 35].as_slice() {
+        return Err(Refusal::NotReady);
+    }
+    seen.clear();
     let mut right = 0usize;
     for row in table {
         if code_of(play(alloc, &mut a, &mut b, row.0, &mut seen).err()) != row.1 {
@@ -365,11 +404,69 @@ fn moves(rt: HostRuntime) -> Result<(), Refusal> {
                 (Back, 0),
                 (Fail, 0),
                 (Take(9), 22),
+                (Take(8), 22),
+                (Hear(9), 22),
+                (Pay, 22),
+                (Decide, 40),
             ],
             &[
                 36, 36, 128, 132, 1001, 133, 2000, 2000, 132, 1000, 133, 2010, 3001, 2001, 3002,
                 131,
             ],
+        ),
+        // another channel's messages; an error for this one
+        (
+            DEAR,
+            &[
+                (Take(8), 20),
+                (Hear(8), 0),
+                (Confirm, 0),
+                (Take(8), 20),
+                (Hear(9), 37),
+                (Take(8), 37),
+                (Pay, 37),
+                (Forget, 40),
+            ],
+            &[36, 36],
+        ),
+        // a connection is lost, and what was signed is sent again
+        (
+            DEAR,
+            &[
+                (Confirm, 0),
+                (Up, 40),
+                (Offer, 0),
+                (Lost, 0),
+                (Down, 0),
+                (Offer, 47),
+                (Decide, 40),
+                (Up, 0),
+                (Back, 0),
+            ],
+            &[
+                36, 36, 128, 132, 1001, 136, 136, 36, 36, 128, 132, 133, 2000, 2000, 132, 1000,
+                133, 2010, 3001, 2001, 3002,
+            ],
+        ),
+        // a message that comes without a connection; a link that has halted
+        (
+            DEAR,
+            &[(Confirm, 0), (Down, 0), (Take(9), 21), (Pay, 21)],
+            &[36, 36],
+        ),
+        (
+            DEAR,
+            &[
+                (Confirm, 0),
+                (Halt, 0),
+                (Take(9), 62),
+                (Hear(9), 62),
+                (Pay, 62),
+                (Decide, 62),
+                (Down, 0),
+                (Up, 62),
+            ],
+            &[36, 36, 136],
         ),
         // a fee that both take, and none
         (
@@ -399,5 +496,34 @@ fn moves(rt: HostRuntime) -> Result<(), Refusal> {
             (table.len(), true)
         );
     }
+    Ok(())
+}
+
+/// What a link that isn't opened yet answers: to a command, a connection, a connection behind a lost one, an error for
+/// all, and a command behind that.
+fn unopened(alloc: Global, mut link: Link<ToyKeys>) -> [u32; 5] {
+    let command = code_of(link.command(alloc, Command::Sign).err());
+    let connection = code_of(link.connect(alloc).err());
+    link.drop_connection();
+    let again = code_of(link.connect(alloc).err());
+    let error = code_of(link.handle(alloc, error(alloc, [0; 32])).err());
+    [
+        command,
+        connection,
+        again,
+        error,
+        code_of(link.command(alloc, Command::Sign).err()),
+    ]
+}
+
+#[test]
+fn lost_openings(rt: HostRuntime) -> Result<(), Refusal> {
+    let alloc = rt.alloc();
+    let told = [40, 0, 40, 37, 37];
+    assert_eq!(rt; unopened(alloc, Link::funder(FUNDER, spec(alloc)?)), told);
+    assert_eq!(rt;
+        unopened(alloc, Link::fundee(FUNDEE, fit(alloc, DEAR)?)),
+        told
+    );
     Ok(())
 }
