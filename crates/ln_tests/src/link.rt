@@ -107,18 +107,16 @@ fn fit(alloc: Global, fees: Range) -> Result<FitConfig, Refusal> {
     }
 }
 
-/// Both ends of a channel, behind its opening: the four messages pass.
-fn opened(
+/// The four messages of an opening pass.
+fn open(
     alloc: Global,
-    fees: Range,
+    a: &mut Link<ToyKeys>,
+    b: &mut Link<ToyKeys>,
     seen: &mut Vec<u64>,
-) -> Result<(Link<ToyKeys>, Link<ToyKeys>), Refusal> {
-    let mut a = Link::funder(FUNDER, spec(alloc)?);
-    let mut b = Link::fundee(FUNDEE, fit(alloc, fees)?);
+) -> Result<(), Refusal> {
     drop(b.connect(alloc)?);
     let outputs = a.connect(alloc)?;
-    exchanged(alloc, outputs, &mut a, &mut b, 2, seen)?;
-    Ok((a, b))
+    exchanged(alloc, outputs, a, b, 2, seen)
 }
 
 /// An output as one number: a message by its type, below 1000; what was signed from 1000 on; what is held from 2000 on,
@@ -285,13 +283,48 @@ fn up(
     b: &mut Link<ToyKeys>,
     seen: &mut Vec<u64>,
 ) -> Result<(), Refusal> {
-    let from_a = noted(a.connect(alloc)?, seen)?;
-    let from_b = noted(b.connect(alloc)?, seen)?;
-    let to_a = pass(alloc, from_a, b, seen)?;
-    let to_b = pass(alloc, from_b, a, seen)?;
-    drop(pass(alloc, to_a, a, seen)?);
-    let answer = pass(alloc, to_b, b, seen)?;
-    drop(pass(alloc, answer, a, seen)?);
+    let to_b = noted(a.connect(alloc)?, seen)?;
+    meet(alloc, b, a, to_b, seen)
+}
+
+/// The other end, x, sends too before it takes what came.
+fn meet(
+    alloc: Global,
+    x: &mut Link<ToyKeys>,
+    y: &mut Link<ToyKeys>,
+    to_x: Vec<Output>,
+    seen: &mut Vec<u64>,
+) -> Result<(), Refusal> {
+    let to_y = noted(x.connect(alloc)?, seen)?;
+    cross(alloc, x, y, to_x, to_y, seen)
+}
+
+/// Each takes what the other has sent.
+fn cross(
+    alloc: Global,
+    x: &mut Link<ToyKeys>,
+    y: &mut Link<ToyKeys>,
+    to_x: Vec<Output>,
+    to_y: Vec<Output>,
+    seen: &mut Vec<u64>,
+) -> Result<(), Refusal> {
+    let from_x = pass(alloc, to_x, x, seen)?;
+    let from_y = pass(alloc, to_y, y, seen)?;
+    answered(alloc, x, y, from_x, from_y, seen)
+}
+
+/// And what the other answers.
+fn answered(
+    alloc: Global,
+    x: &mut Link<ToyKeys>,
+    y: &mut Link<ToyKeys>,
+    to_y: Vec<Output>,
+    to_x: Vec<Output>,
+    seen: &mut Vec<u64>,
+) -> Result<(), Refusal> {
+    drop(pass(alloc, to_y, y, seen)?);
+    let last = pass(alloc, to_x, x, seen)?;
+    drop(pass(alloc, last, y, seen)?);
     Ok(())
 }
 
@@ -341,27 +374,54 @@ fn play(
 }
 
 /// Moves up to the first that isn't refused by the code beside it: how many were as they should be, and whether these
-/// outputs were handed out.
+/// outputs were handed out behind the opening's.
 fn moved(
+    alloc: Global,
+    a: &mut Link<ToyKeys>,
+    b: &mut Link<ToyKeys>,
+    table: &[(Move, u32)],
+    outputs: &[u64],
+) -> Result<(usize, bool), Refusal> {
+    let mut seen = Vec::new(alloc);
+    open(alloc, a, b, &mut seen)?;
+    let mut right = 0usize;
+    for row in table {
+        if code_of(play(alloc, a, b, row.0, &mut seen).err()) != row.1 {
+            break;
+        }
+        right = right.saturating_add(1);
+    }
+    Ok((right, is_seen(&seen, outputs)))
+}
+
+fn is_seen(seen: &[u64], outputs: &[u64]) -> bool {
+    match seen {
+        [32, 33, 34, 35, rest @ ..] => rest == outputs,
+        _ => false,
+    }
+}
+
+/// The same for new links.
+fn linked(
+    alloc: Global,
+    mut a: Link<ToyKeys>,
+    mut b: Link<ToyKeys>,
+    table: &[(Move, u32)],
+    outputs: &[u64],
+) -> Result<(usize, bool), Refusal> {
+    moved(alloc, &mut a, &mut b, table, outputs)
+}
+
+fn played(
     alloc: Global,
     fees: Range,
     table: &[(Move, u32)],
     outputs: &[u64],
 ) -> Result<(usize, bool), Refusal> {
-    let mut seen = Vec::new(alloc);
-    let (mut a, mut b) = opened(alloc, fees, &mut seen)?;
-    if seen.as_slice() != [32, 33, 34, 35].as_slice() {
-        return Err(Refusal::NotReady);
-    }
-    seen.clear();
-    let mut right = 0usize;
-    for row in table {
-        if code_of(play(alloc, &mut a, &mut b, row.0, &mut seen).err()) != row.1 {
-            break;
-        }
-        right = right.saturating_add(1);
-    }
-    Ok((right, seen.as_slice() == outputs))
+    let spec = spec(alloc)?;
+    let config = fit(alloc, fees)?;
+    let a = Link::funder(FUNDER, spec);
+    linked(alloc, a, Link::fundee(FUNDEE, config), table, outputs)
 }
 
 const DEAR: Range = (350, 400, 500);
@@ -492,7 +552,7 @@ fn moves(rt: HostRuntime) -> Result<(), Refusal> {
         ),
     ] {
         assert_eq!(rt;
-            moved(rt.alloc(), fees, table, outputs)?,
+            played(rt.alloc(), fees, table, outputs)?,
             (table.len(), true)
         );
     }

@@ -191,33 +191,16 @@ fn sent(outputs: Vec<Output>) -> Result<Message, Refusal> {
     Err(Refusal::NotReady)
 }
 
-/// The links of a funder and of a fundee, connected, and what the funder's sends.
-fn begun(
+/// What comes of an opening with this change: the digest of the message that the change names, or zeros where all goes
+/// through.
+fn passed(
     alloc: Global,
-    records: Records,
-) -> Result<(Link<ToyKeys>, Link<ToyKeys>, Message), Refusal> {
-    let spec = spec(alloc, records);
-    let config = fundee(alloc);
-    if !spec.fits() || !config.fits() {
-        return Err(Refusal::NotReady);
-    }
-    let mut a = Link::funder(FUNDER, FitSpec::new(spec));
-    let mut b = Link::fundee(FUNDEE, FitConfig::new(config));
+    a: &mut Link<ToyKeys>,
+    b: &mut Link<ToyKeys>,
+    change: &str,
+) -> Result<[u8; 32], Refusal> {
     drop(b.connect(alloc)?);
-    let open = sent(a.connect(alloc)?)?;
-    Ok((a, b, open))
-}
-
-/// What comes of an opening with this change, with records or without: the digest of the message that the change
-/// names, or zeros where all goes through.
-fn opening(alloc: Global, typed: bool, change: &str) -> Result<[u8; 32], Refusal> {
-    let records = if typed {
-        records(alloc)?
-    } else {
-        Records::empty(alloc)
-    };
-    let (mut a, mut b, open) = begun(alloc, records)?;
-    let open = changed(alloc, open, change);
+    let open = changed(alloc, sent(a.connect(alloc)?)?, change);
     if change == "open" {
         return digest(alloc, open);
     }
@@ -235,6 +218,37 @@ fn opening(alloc: Global, typed: bool, change: &str) -> Result<[u8; 32], Refusal
     }
     drop(a.handle(alloc, signed)?);
     Ok([0; 32])
+}
+
+/// The same between new links.
+fn linked(
+    alloc: Global,
+    mut a: Link<ToyKeys>,
+    mut b: Link<ToyKeys>,
+    change: &str,
+) -> Result<[u8; 32], Refusal> {
+    passed(alloc, &mut a, &mut b, change)
+}
+
+/// The same for a channel with records or without.
+fn opening(alloc: Global, typed: bool, change: &str) -> Result<[u8; 32], Refusal> {
+    let records = if typed {
+        records(alloc)?
+    } else {
+        Records::empty(alloc)
+    };
+    let spec = spec(alloc, records);
+    let config = fundee(alloc);
+    if !spec.fits() || !config.fits() {
+        return Err(Refusal::NotReady);
+    }
+    let a = Link::funder(FUNDER, FitSpec::new(spec));
+    linked(
+        alloc,
+        a,
+        Link::fundee(FUNDEE, FitConfig::new(config)),
+        change,
+    )
 }
 
 // Expected bytes come from a computation apart from this program.
