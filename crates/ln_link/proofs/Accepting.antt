@@ -1,8 +1,11 @@
 -- What an end keeps as its dance moves on.
 use Rattle.std.proofs.Common.{refl, ap, sym, ◌∙◌, inl, inr, Option, Some, None, ◌≡◌, Result, Ok, Err, OnOk, OnErr}
+use Rattle.std.proofs.Common.{Bool, true, false, IsTrue, IsErrOf, ◌↔◌, if◌then◌else◌}
 use Rattle.ln_msgs.specs.declared.refusals.refusal.Refusal.{Refusal}
 use Rattle.ln_log.specs.Limits.{Answers}
 use Rattle.ln_dance.specs.Dance.{Dancer, AnswersWithin}
+use Rattle.ln_msgs.specs.declared.refusals.refusal.Refusal.TheVariants as refusal
+use Rattle.ln_link.specs.Opening.{AnswersFault}
 use Rattle.ln_link.specs.End.{End, IsSound, with_dance}
 
 pub on_ok : {A : Type 0} (r : Result A Refusal) {P Q : Type 0} → (P → Q) → OnOk r P → OnOk r Q
@@ -23,8 +26,22 @@ sound (Err x) e new moved ok err same s = record {
   scripts = s.scripts;
 }
 
-pub within : {A : Type 0} (fault : Option Refusal) (r : Result A Refusal) → Answers fault r → AnswersWithin fault r
+abbrev pub unless_last : Bool → Bool → Option Refusal
+unless_last last right = if last then Some refusal.OutOfPlace else (if right then None else Some refusal.SignatureWrong)
+
+pub within : {A : Type 0} (fault : Option Refusal) (r : Result A Refusal) → Answers fault r → AnswersFault fault r
 within None (Ok x) a = refl
-within None (Err e) a = inl a
+within None (Err e) a = inl (a, inl refl)
 within (Some f) (Ok x) a = absurd a
 within (Some f) (Err e) a = inr (ap Some (sym a))
+
+-- where a view is made before a signature is looked at
+pub viewed : {A : Type 0} (last right : Bool) (r : Result A Refusal) → AnswersWithin (unless_last last right) r
+    → (IsErrOf r refusal.OutOfPlace ↔ IsTrue last) → AnswersFault (unless_last last right) r
+viewed last right (Ok x) a h = a
+viewed true right (Err e) a h =
+    let q : Err e ≡ Err refusal.OutOfPlace = h.1 refl in let p : e ≡ refusal.OutOfPlace = cc in inr (ap Some (sym p))
+viewed false true (Err e) (inl m) h = inl (m, inl refl)
+viewed false true (Err e) (inr n) h = inr n
+viewed false false (Err e) (inl m) h = inl (m, inr (inl refl))
+viewed false false (Err e) (inr n) h = inr n

@@ -21,6 +21,7 @@ use Rattle.ln_link.specs.declared.channel.Marks.{Marks}
 use Rattle.ln_link.specs.declared.output.Output.{Output}
 use Rattle.ln_link.specs.declared.output.Output.TheVariants as output
 use Rattle.ln_link.specs.Ledger.{Ledger, no_events, next_event, refs_of, entered}
+use Rattle.ln_link.specs.Opening.{MayLack, fault_of}
 use Rattle.ln_link.specs.Outputs.{Handed, nothing, sends, events_of, numbered}
 
 pub record End : Type 0 where
@@ -92,7 +93,7 @@ sending m e = record { end = e; handed = sends (m ∷ []) nothing }
 -- an end answers what a row says, but for want of memory: where it refuses, it is as it was
 abbrev pub Makes : Result Turn Refusal → Result Handed Refusal → End → End → Type 0
 Makes row (Ok h) old new = row ≡ Ok (record { end = new; handed = h })
-Makes row (Err e) old new = (e ≡ refusal.Memory) ⊎ ((row ≡ Err e) × (new ≡ old))
+Makes row (Err e) old new = ((e ≡ refusal.Memory) × MayLack (fault_of row)) ⊎ ((row ≡ Err e) × (new ≡ old))
 
 -- ---- what it comes to hold as irrevocably committed (BOLT 2, "Normal Operation")
 

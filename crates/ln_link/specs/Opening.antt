@@ -92,10 +92,24 @@ abbrev pub unless : {A : Type 0} → Option Refusal → A → Result A Refusal
 unless None x = Ok x
 unless (Some r) x = Err r
 
+abbrev pub fault_of : {A : Type 0} → Result A Refusal → Option Refusal
+fault_of (Ok x) = None
+fault_of (Err r) = Some r
+
+-- want of memory may stand in place of what isn't refused, and of a wrong signature, as a view is made before it is
+-- looked at; else only of itself
+abbrev pub MayLack : Option Refusal → Type 0
+MayLack fault = (fault ≡ None) ⊎ ((fault ≡ Some refusal.SignatureWrong) ⊎ (fault ≡ Some refusal.Memory))
+
+-- refused exactly by the fault that there is, but for want of memory
+abbrev pub AnswersFault : {A : Type 0} → Option Refusal → Result A Refusal → Type 0
+AnswersFault fault (Ok x) = fault ≡ None
+AnswersFault fault (Err e) = ((e ≡ refusal.Memory) × MayLack fault) ⊎ (fault ≡ Some e)
+
 -- what a row says is answered, but for want of memory
 abbrev pub Gives : {A : Type 0} → Result A Refusal → Result A Refusal → Type 0
 Gives row (Ok x) = row ≡ Ok x
-Gives row (Err e) = (e ≡ refusal.Memory) ⊎ (row ≡ Err e)
+Gives row (Err e) = ((e ≡ refusal.Memory) × MayLack (fault_of row)) ⊎ (row ≡ Err e)
 
 -- ---- signatures over commitment 0, which has no HTLCs
 

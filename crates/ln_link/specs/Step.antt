@@ -22,7 +22,7 @@ use Rattle.ln_link.specs.declared.output.Output.{Output}
 use Rattle.ln_link.specs.declared.output.Output.TheVariants as output
 use Rattle.ln_link.specs.Outputs.{Handed, all_of}
 use Rattle.ln_link.specs.Opening.{unless, open_message, open_taken, accept_taken, created_taken}
-use Rattle.ln_link.specs.Opening.{first_fault}
+use Rattle.ln_link.specs.Opening.{first_fault, MayLack, fault_of}
 use Rattle.ln_link.specs.End.{End, Turn, end_of}
 use Rattle.ln_link.specs.Taking.{taken}
 use Rattle.ln_link.specs.Resume.{resume_row}
@@ -135,9 +135,11 @@ is_of_records c = false
 abbrev pub line_fault : Line → Option Refusal
 line_fault l = if is_met l then None else Some refusal.Disconnected
 
+abbrev pub obeyed_open : Signer → Line → Command → End → Result Done Refusal
+obeyed_open keys l c e = faulted (unready_fault c e) (faulted (line_fault l) (turned l (command_row keys c e)))
+
 abbrev pub obeyed : Signer → Line → Command → Stage → Result Done Refusal
-obeyed keys l c (stage.Saved e) =
-    faulted (unready_fault c e) (faulted (line_fault l) (turned l (command_row keys c e)))
+obeyed keys l c (stage.Saved e) = obeyed_open keys l c e
 obeyed keys l c s = Err refusal.NotReady
 
 abbrev pub commanded : {K : Type 0} → Signer → State K → Command → Result Done Refusal
@@ -178,7 +180,8 @@ AnsweredBy outs said l after (Ok v) new =
     (said ≡ Ok (record { line = new.line; stage = new.stage; outputs = outs v }))
     × (new ≡ record l { line = new.line; stage = new.stage })
 AnsweredBy outs said l after (Err e) new =
-    ((e ≡ refusal.Memory) × (new.halted ≡ true)) ⊎ ((said ≡ Err e) × (new ≡ after e))
+    ((e ≡ refusal.Memory) × (new.halted ≡ true) × MayLack (fault_of said))
+    ⊎ ((said ≡ Err e) × (new ≡ after e))
 
 -- a message: a refusal by which a channel fails is kept
 abbrev pub AnsweredMessage : {K V : Type 0} → (V → List Output) → Result Done Refusal → State K → Result V Refusal
@@ -200,28 +203,35 @@ pub record IsLeft (r : Refusal) (s s' : Stage) : Type 0 where
 -- a stage and a line, by what is said of them
 abbrev pub Moves : Result Done Refusal → Result Handed Refusal → Line → Line → Stage → Stage → Type 0
 Moves said (Ok h) l l' s s' = said ≡ Ok (record { line = l'; stage = s'; outputs = all_of h })
-Moves said (Err e) l l' s s' = (e ≡ refusal.Memory) ⊎ ((said ≡ Err e) × (l' ≡ l) × IsLeft e s s')
+Moves said (Err e) l l' s s' =
+    ((e ≡ refusal.Memory) × MayLack (fault_of said))
+    ⊎ ((said ≡ Err e) × (l' ≡ l) × IsLeft e s s')
 
 -- a link that leaves its line and stage so, or as they were
 abbrev pub MovesBy : {K : Type 0} → Result Done Refusal → Result Handed Refusal → State K → State K → Type 0
 MovesBy said (Ok h) l new =
     (said ≡ Ok (record { line = new.line; stage = new.stage; outputs = all_of h }))
     × (new ≡ record l { line = new.line; stage = new.stage })
-MovesBy said (Err e) l new = (e ≡ refusal.Memory) ⊎ ((said ≡ Err e) × (new ≡ l))
+MovesBy said (Err e) l new = ((e ≡ refusal.Memory) × MayLack (fault_of said)) ⊎ ((said ≡ Err e) × (new ≡ l))
 
 abbrev pub Takes : {K : Type 0} → Result Done Refusal → Result Handed Refusal → State K → State K → Type 0
 Takes said (Ok h) l new =
     (said ≡ Ok (record { line = new.line; stage = new.stage; outputs = all_of h }))
     × (new ≡ record l { line = new.line; stage = new.stage })
 Takes said (Err e) l new =
-    (e ≡ refusal.Memory) ⊎ ((said ≡ Err e) × (new ≡ record l { stage = new.stage }) × IsLeft e l.stage new.stage)
+    ((e ≡ refusal.Memory) × MayLack (fault_of said))
+    ⊎ ((said ≡ Err e) × (new ≡ record l { stage = new.stage }) × IsLeft e l.stage new.stage)
 
 -- an end that isn't replaced, with its line
 abbrev pub MovesEnd : Result Done Refusal → Result Handed Refusal → Line → Line → End → End → Type 0
 MovesEnd said (Ok h) l l' e e' = said ≡ Ok (record { line = l'; stage = stage.Saved e'; outputs = all_of h })
-MovesEnd said (Err r) l l' e e' = (r ≡ refusal.Memory) ⊎ ((said ≡ Err r) × (l' ≡ l) × (e' ≡ e))
+MovesEnd said (Err r) l l' e e' =
+    ((r ≡ refusal.Memory) × MayLack (fault_of said))
+    ⊎ ((said ≡ Err r) × (l' ≡ l) × (e' ≡ e))
 
 -- a stage of the opening, which is replaced
 abbrev pub Replaces : {V : Type 0} → (V → Stage) → (V → Handed) → Line → Result Done Refusal → Result V Refusal → Type 0
 Replaces to handed l said (Ok v) = said ≡ Ok (record { line = l; stage = to v; outputs = all_of (handed v) })
-Replaces to handed l said (Err e) = (e ≡ refusal.Memory) ⊎ ((said ≡ Err e) × (fails e ≡ true))
+Replaces to handed l said (Err e) =
+    ((e ≡ refusal.Memory) × MayLack (fault_of said))
+    ⊎ ((said ≡ Err e) × (fails e ≡ true))

@@ -19,7 +19,8 @@ impl Channel {
     ghost use Rattle.ln_log.specs.Updates.{next_id};
     ghost use Rattle.ln_log.specs.Limits.{HasNextId};
     ghost use Rattle.ln_log.specs.Log.{proposal_fault};
-    ghost use Rattle.ln_dance.specs.Dance.{AnswersWithin, sign_fault, signed_message};
+    ghost use Rattle.ln_dance.specs.Dance.{sign_fault, signed_message};
+    ghost use Rattle.ln_link.specs.Opening.{AnswersFault};
     ghost use Rattle.ln_link.specs.End.{Makes};
     ghost use Rattle.ln_link.specs.Commands.{confirm_row, ready_message, shut_by_either, closed_fault, own_fault};
     ghost use Rattle.ln_link.specs.Commands.{propose_fault, proposes, propose_row, sign_command_fault, signs_next};
@@ -93,7 +94,7 @@ impl Channel {
     // Proposes an update to the log.
     fn propose_next(&mut self, update: Update) -> Result<(), Refusal>
         requires { HasNextId self.old.dance.log.own update }
-        ensures answer { AnswersWithin (proposal_fault self.old.dance.log update) result }
+        ensures answer { AnswersFault (proposal_fault self.old.dance.log update) result }
         ensures state { OnOk result (self.new ≡ proposes update self.old) }
         ensures err { OnErr result (self.new ≡ self.old) }
     {
@@ -103,7 +104,7 @@ impl Channel {
     // Proposes an update, which has the next id where it is an add.
     fn propose(&mut self, update: Update) -> Result<(), Refusal>
         requires { HasNextId self.old.dance.log.own update }
-        ensures answer { AnswersWithin (propose_fault self.old update) result }
+        ensures answer { AnswersFault (propose_fault self.old update) result }
         ensures state { OnOk result (self.new ≡ proposes update self.old) }
         ensures err { OnErr result (self.new ≡ self.old) }
     {
@@ -185,7 +186,7 @@ impl Channel {
         alloc: Global,
         keys: &K,
     ) -> Result<CommitmentSigned, Refusal>
-        ensures answer { AnswersWithin (sign_command_fault self.old) result }
+        ensures answer { AnswersFault (sign_command_fault self.old) result }
         ensures message { IfOk result (λ m. m ≡ signed_message (K.signer keys.now) self.old.dance) }
         ensures state { OnOk result (self.new ≡ signs_next self.old) }
         ensures err { OnErr result (self.new ≡ self.old) }

@@ -3,7 +3,7 @@
 use crate::command::Command;
 use crate::link::{Link, Stage};
 use crate::output::{Outbox, Output};
-use crate::stage::fails;
+use crate::stage::{fails, obey_open};
 use ln_keys::ChannelKeys;
 use ln_msgs::{Message, Refusal};
 use std::alloc::Global;
@@ -30,7 +30,7 @@ impl<K: ChannelKeys + Drop> Link<K> {
             return Err(Refusal::Halted);
         }
         match self.failure {
-            Some(refusal) => return Err(refusal),
+            Some(failure) => return Err(failure),
             None => {}
         }
         match self.take(alloc, message) {
@@ -67,7 +67,13 @@ impl<K: ChannelKeys + Drop> Link<K> {
         self.stage.take(alloc, &self.keys, &mut self.line, message)
     }
 
-    /// Does what it is told.
+    /// Does what it is told: what it makes of the link, and what is handed out. Where it refuses nothing has changed,
+    /// but for 60.
+    ///
+    /// Errors, the first that holds: 62 where the link has halted; 40 for what is about decisions, as it keeps none
+    /// yet; the number by which it has failed; 40 where its opening isn't signed by both, or the channel isn't ready
+    /// for the command; 47 where there is no connection, or the peer's `channel_reestablish` hasn't come; then those of
+    /// the command, 41 to 46, 48 and 49. 60 where there is no memory, which halts it.
     pub fn command(&mut self, alloc: Global, command: Command) -> Result<Vec<Output>, Refusal>
         ensures { (l : State K) → StandsFor self.old l
             → Answered (λ v. v.items) (commanded (K.signer l.keys) l command) l result self.new }
@@ -79,7 +85,7 @@ impl<K: ChannelKeys + Drop> Link<K> {
             return Err(Refusal::NotReady);
         }
         match self.failure {
-            Some(refusal) => return Err(refusal),
+            Some(stored) => return Err(stored),
             None => {}
         }
         match self.obey(alloc, command) {
@@ -89,21 +95,13 @@ impl<K: ChannelKeys + Drop> Link<K> {
         }
     }
 
+    // What it does at its stage.
     fn obey(&mut self, alloc: Global, command: Command) -> Result<Outbox, Refusal>
         ensures { MovesBy (obeyed (K.signer self.old.keys) self.old.line command self.old.stage)
             result self.old self.new }
     {
         match &mut self.stage {
-            Stage::Saved(channel) => {
-                match channel.unready_refusal(&command) {
-                    Some(refusal) => return Err(refusal),
-                    None => {}
-                }
-                if !self.line.is_met() {
-                    return Err(Refusal::Disconnected);
-                }
-                channel.command(alloc, &self.keys, command)
-            }
+            Stage::Saved(channel) => obey_open(alloc, &self.keys, self.line, channel, command),
             _ => Err(Refusal::NotReady),
         }
     }

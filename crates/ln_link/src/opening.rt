@@ -5,17 +5,16 @@ ghost use Rattle.ln_bytes.specs.Tlv.{value_of};
 ghost use Rattle.ln_msgs.specs.declared.refusals.refusal.Refusal.TheVariants as refusal;
 ghost use Rattle.ln_keys.specs.Signer.{Signer};
 ghost use Rattle.ln_log.specs.Opening.{IsFit};
-ghost use Rattle.ln_dance.specs.Dance.{AnswersWithin};
 ghost use Rattle.ln_link.specs.declared.config.Config.{Config};
 ghost use Rattle.ln_link.specs.declared.config.OpenSpec.{OpenSpec};
 ghost use Rattle.ln_link.specs.declared.opening.Opened.{Opened};
 ghost use Rattle.ln_link.specs.Failing.{fails};
 ghost use Rattle.ln_link.specs.Meeting.{CanOpen, Opens, AreEnds};
-ghost use Rattle.ln_link.specs.Opening.{Gives, HasBegun, asked_by_open, asked_by_accept, asked_with, opening_of};
+ghost use Rattle.ln_link.specs.Opening.{AnswersFault, Gives, HasBegun, asked_by_open, asked_by_accept};
+ghost use Rattle.ln_link.specs.Opening.{asked_with, opening_of};
 ghost use Rattle.ln_link.specs.Opening.{first_point, first_dance, opened_by, first_signature, first_fault};
 ghost use Rattle.ln_link.specs.Opening.{open_message, open_fault, typed, accept_message, open_taken, repeats};
 ghost use Rattle.ln_link.specs.Opening.{accept_fault, funder_terms, funder_end, accept_taken, created_taken};
-ghost use Rattle.ln_link.specs.Opening.{signed_taken};
 
 use crate::config::{Config, FitConfig, FitSpec, OpenSpec};
 use ln_bytes::{Bytes, Record, value_of};
@@ -183,7 +182,7 @@ pub(crate) fn check_first<K: ChannelKeys>(
     dance: &Dance,
     signature: &[u8; 64],
 ) -> Result<(), Refusal>
-    ensures answer { AnswersWithin (first_fault (K.signer keys.now) dance.now signature.now) result }
+    ensures answer { AnswersFault (first_fault (K.signer keys.now) dance.now signature.now) result }
     ensures refused { IfErr result (λ r. (r ≡ refusal.Memory) ⊎ (fails r ≡ true)) }
 {
     let view = dance.log().view(alloc, Pair::Current(Side::Own))?;
@@ -494,24 +493,6 @@ pub fn take_created<K: ChannelKeys>(
         records: Records::empty(alloc),
     };
     Ok((end, message))
-}
-
-// ---- funding_signed
-
-/// A funder takes a `funding_signed` for its channel: its end stays as it is (BOLT 2, "The `funding_signed` Message").
-///
-/// Errors: 31 for a wrong signature over the funder's commitment 0, 60 where there is no memory, also before the
-/// signature is tested.
-pub fn take_signed<K: ChannelKeys>(
-    alloc: Global,
-    keys: &K,
-    dance: &Dance,
-    signed: &FundingSigned,
-) -> Result<(), Refusal>
-    ensures answer { Gives (signed_taken (K.signer keys.now) dance.now signed.now) result }
-    ensures refused { IfErr result (λ r. (r ≡ refusal.Memory) ⊎ (fails r ≡ true)) }
-{
-    check_first(alloc, keys, dance, &signed.signature)
 }
 
 // ---- both ends

@@ -11,9 +11,8 @@ use std::alloc::Global;
 impl Channel {
     ghost use Rattle.std.specs.Prelude.{◌≡◌, ◌⊎◌, true, ◌++◌, OnOk, IfOk, IfErr};
     ghost use Rattle.ln_link.specs.Failing.{fails};
-    ghost use Rattle.ln_dance.specs.Dance.{AnswersWithin};
     ghost use Rattle.ln_dance.specs.Resume.{reestablish_message, resume_fault, owed};
-    ghost use Rattle.ln_link.specs.Opening.{first_fault};
+    ghost use Rattle.ln_link.specs.Opening.{first_fault, AnswersFault};
     ghost use Rattle.ln_link.specs.End.{Makes};
     ghost use Rattle.ln_link.specs.Resume.{resume_row, ready_again, shutdown_again, fee_again, sent_again};
 
@@ -31,7 +30,7 @@ impl Channel {
         keys: &K,
         message: &FundingSigned,
     ) -> Result<(), Refusal>
-        ensures answer { AnswersWithin (first_fault (K.signer keys.now) self.now.dance message.now.signature) result }
+        ensures answer { AnswersFault (first_fault (K.signer keys.now) self.now.dance message.now.signature) result }
         ensures refused { IfErr result (λ r. (r ≡ Refusal.Memory) ⊎ (fails r ≡ true)) }
     {
         check_first(alloc, keys, &self.dance, &message.signature)
@@ -117,7 +116,7 @@ impl Channel {
         keys: &K,
         message: &ChannelReestablish,
     ) -> Result<Vec<Resend>, Refusal>
-        ensures answer { AnswersWithin (resume_fault (K.signer keys.now) message.now self.now.dance) result }
+        ensures answer { AnswersFault (resume_fault (K.signer keys.now) message.now self.now.dance) result }
         ensures owed { IfOk result (λ v. v.items ≡ owed (K.signer keys.now) message.now self.now.dance) }
     {
         self.dance.resume(alloc, keys, message)

@@ -4,14 +4,19 @@ ghost use Rattle.std.specs.Prelude.{◌≡◌};
 ghost use Rattle.ln_link.specs.Naming.{named};
 ghost use Rattle.ln_link.specs.Failing.{fails};
 ghost use Rattle.ln_link.specs.Step.{opening_at, open_at, accept_at, created_at, signed_at, saved_at};
-ghost use Rattle.ln_link.specs.Step.{error_fault, awaiting_at, Replaces, MovesEnd};
+ghost use Rattle.ln_link.specs.declared.link.Line.TheVariants as lines;
+ghost use Rattle.ln_link.specs.Resume.{resume_row};
+ghost use Rattle.ln_link.specs.Step.{error_fault, turned, obeyed_open, awaiting_at, Replaces, MovesEnd};
 
 use crate::channel::Channel;
+use crate::command::Command;
 use crate::link::{Line, Stage};
 use crate::opening::{take_accept, take_created, take_open};
 use crate::output::{Outbox, one};
 use ln_keys::ChannelKeys;
-use ln_msgs::{AcceptChannel, FundingCreated, FundingSigned, Message, OpenChannel, Refusal};
+use ln_msgs::{
+    AcceptChannel, ChannelReestablish, FundingCreated, FundingSigned, Message, OpenChannel, Refusal,
+};
 use std::alloc::Global;
 use std::mem;
 
@@ -331,10 +336,51 @@ fn take_awaited<K: ChannelKeys>(
 {
     match message {
         Message::ChannelReestablish(reestablish) => {
-            let outbox = channel.resume(alloc, keys, &reestablish)?;
-            *line = Line::Met;
-            Ok(outbox)
+            take_reestablish(alloc, keys, line, channel, &reestablish)
         }
         _ => Err(Refusal::OutOfPlace),
     }
+}
+
+// The peer is there.
+fn take_reestablish<K: ChannelKeys>(
+    alloc: Global,
+    keys: &K,
+    line: &mut Line,
+    channel: &mut Channel,
+    message: &ChannelReestablish,
+) -> Result<Outbox, Refusal>
+    ensures { MovesEnd (turned lines.Met (resume_row (K.signer keys.now) message.now channel.old))
+        result line.old line.new channel.old channel.new }
+{
+    match channel.resume(alloc, keys, message) {
+        Ok(outbox) => {
+            *line = Line::Met;
+            Ok(outbox)
+        }
+        Err(refusal) => Err(refusal),
+    }
+}
+
+// ---- a command
+
+// What an open channel does by a command: what sends needs a connection on which the peer is there.
+pub(crate) fn obey_open<K: ChannelKeys>(
+    alloc: Global,
+    keys: &K,
+    line: Line,
+    channel: &mut Channel,
+    command: Command,
+) -> Result<Outbox, Refusal>
+    ensures { MovesEnd (obeyed_open (K.signer keys.now) line command channel.old)
+        result line line channel.old channel.new }
+{
+    match channel.unready_refusal(&command) {
+        Some(refusal) => return Err(refusal),
+        None => {}
+    }
+    if !line.is_met() {
+        return Err(Refusal::Disconnected);
+    }
+    channel.command(alloc, keys, command)
 }

@@ -19,10 +19,11 @@ use std::alloc::Global;
 impl Channel {
     ghost use Rattle.std.specs.Prelude.{◌≡◌, ◌≤◌, OnOk, IfOk, IfErr, OnErr};
     ghost use Rattle.ln_log.specs.Log.{taken_fault};
-    ghost use Rattle.ln_dance.specs.Dance.{AnswersWithin, answer_of, revoked_message, learn_fault};
+    ghost use Rattle.ln_dance.specs.Dance.{accept_fault, answer_of, revoked_message, learn_fault};
     ghost use Rattle.ln_link.specs.Outputs.{nothing};
+    ghost use Rattle.ln_link.specs.Opening.{AnswersFault};
     ghost use Rattle.ln_link.specs.End.{Makes};
-    ghost use Rattle.ln_link.specs.Taking.{takes_ready, late_fault, early_fault, update_row, takes, signature_fault};
+    ghost use Rattle.ln_link.specs.Taking.{takes_ready, late_fault, early_fault, update_row, takes};
     ghost use Rattle.ln_link.specs.Taking.{accepts, accepting, signature_row, revokes, learning, revocation_row};
     ghost use Rattle.ln_link.specs.Taking.{shutdown_row, shuts_by_peer, answering, answer_handed, answer_ledger};
     ghost use Rattle.ln_link.specs.Taking.{fee_row, message_row, taken};
@@ -76,7 +77,7 @@ impl Channel {
 
     // Takes an update into the log.
     fn receive(&mut self, update: Update) -> Result<(), Refusal>
-        ensures answer { AnswersWithin (taken_fault self.old.dance.log update) result }
+        ensures answer { AnswersFault (taken_fault self.old.dance.log update) result }
         ensures state { OnOk result (self.new ≡ takes update self.old) }
         ensures err { OnErr result (self.new ≡ self.old) }
     {
@@ -105,16 +106,13 @@ impl Channel {
         keys: &K,
         message: &CommitmentSigned,
     ) -> Result<RevokeAndAck, Refusal>
-        ensures answer { AnswersWithin (signature_fault (K.signer keys.now) message.now self.old) result }
+        ensures answer { AnswersFault (accept_fault (K.signer keys.now) message.now self.old.dance) result }
         ensures message { IfOk result (λ m. m ≡ revoked_message (K.signer keys.now) self.old.dance) }
         ensures state { OnOk result (self.new ≡ accepts self.old) }
         ensures grows { OnOk result (self.old.dance.log.current.own ≤ self.new.dance.log.current.own) }
         ensures kept { OnOk result (self.new.dance.log.first.own ≤ self.old.dance.log.current.own) }
         ensures err { OnErr result (self.new ≡ self.old) }
     {
-        if !self.is_ready() {
-            return Err(Refusal::OutOfPlace);
-        }
         let _ = own_held(&self.dance);
         self.dance.accept(alloc, keys, message)
     }
@@ -131,6 +129,9 @@ impl Channel {
     ) -> Result<Outbox, Refusal>
         ensures { Makes (signature_row (K.signer keys.now) message.now self.old) result self.old self.new }
     {
+        if !self.is_ready() {
+            return Err(Refusal::OutOfPlace);
+        }
         let before = own_held(&self.dance);
         let revocation = self.accept(alloc, keys, message)?;
         let mut outbox = Outbox::new(alloc);

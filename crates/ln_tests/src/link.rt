@@ -6,12 +6,9 @@ use ln_bytes::{Bytes, ShortId};
 use ln_dance::add_message;
 use ln_hooks::ChannelEvent;
 use ln_keys::ToyKeys;
-use ln_link::{
-    Channel, Command, Config, FitConfig, FitSpec, Mark, OpenSpec, Output, Points, open_channel,
-    take_accept, take_created, take_open, take_signed,
-};
+use ln_link::{Command, Config, FitConfig, FitSpec, Link, Mark, OpenSpec, Output, Points};
 use ln_log::Limits;
-use ln_msgs::{Message, Records, Refusal};
+use ln_msgs::{Error, Message, Records, Refusal};
 use std::alloc::Global;
 
 /// What happens between the funder's end and the fundee's. What an end hands out the other takes at once.
@@ -26,20 +23,30 @@ enum Move {
     Pay,
     Garble(u16),
     Fail,
-    /// The funder's end signs, or the fundee's.
+    /// The funder's end signs, or the fundee's; or the funder's does, and what it hands out is lost.
     Out,
     Back,
+    Lost,
     /// The funder's end sends shutdown with a script of so many bytes, and so many times each takes what the other
     /// hands out.
     Shut(usize, u8),
     /// The fundee's end decides an event, or forgets a result.
     Decide,
     Forget,
-    /// The fundee's end takes an HTLC.
-    Take,
+    /// The fundee's end takes an HTLC of the channel whose id is this byte, or an error for it.
+    Take(u8),
+    Hear(u8),
+    /// The connection is lost, or comes back.
+    Down,
+    Up,
+    /// The fundee's end halts.
+    Halt,
 }
 
-use Move::{Back, Confirm, Decide, Fail, Forget, Garble, Offer, Out, Pay, Rate, Shut, Take};
+use Move::{
+    Back, Confirm, Decide, Down, Fail, Forget, Garble, Halt, Hear, Lost, Offer, Out, Pay, Rate,
+    Shut, Take, Up,
+};
 
 /// Least, first and greatest closing fee.
 type Range = (u64, u64, u64);
@@ -72,13 +79,6 @@ fn config(alloc: Global, fees: Range) -> Config {
     }
 }
 
-/// A channel end and its keys.
-#[derive(Drop)]
-struct End {
-    channel: Channel,
-    keys: ToyKeys,
-}
-
 fn spec(alloc: Global) -> Result<FitSpec, Refusal> {
     let spec = OpenSpec {
         config: config(alloc, (200, 300, 400)),
@@ -107,16 +107,16 @@ fn fit(alloc: Global, fees: Range) -> Result<FitConfig, Refusal> {
     }
 }
 
-/// Both ends of a channel, behind its opening.
-fn opened(alloc: Global, fees: Range) -> Result<(Channel, Channel), Refusal> {
-    let spec = spec(alloc)?;
-    let config = fit(alloc, fees)?;
-    let open = open_channel(alloc, &FUNDER, &spec)?;
-    let (agreed, accept) = take_open(alloc, &FUNDEE, config, open)?;
-    let (a, created) = take_accept(alloc, &FUNDER, spec, accept)?;
-    let (b, signed) = take_created(alloc, &FUNDEE, agreed, created)?;
-    take_signed(alloc, &FUNDER, &a.dance, &signed)?;
-    Ok((Channel::new(alloc, a), Channel::new(alloc, b)))
+/// The four messages of an opening pass.
+fn open(
+    alloc: Global,
+    a: &mut Link<ToyKeys>,
+    b: &mut Link<ToyKeys>,
+    seen: &mut Vec<u64>,
+) -> Result<(), Refusal> {
+    drop(b.connect(alloc)?);
+    let outputs = a.connect(alloc)?;
+    exchanged(alloc, outputs, a, b, 2, seen)
 }
 
 /// An output as one number: a message by its type, below 1000; what was signed from 1000 on; what is held from 2000 on,
@@ -160,15 +160,14 @@ fn noted(outputs: Vec<Output>, seen: &mut Vec<u64>) -> Result<Vec<Output>, Refus
 fn pass(
     alloc: Global,
     outputs: Vec<Output>,
-    end: &mut End,
+    end: &mut Link<ToyKeys>,
     seen: &mut Vec<u64>,
 ) -> Result<Vec<Output>, Refusal> {
     let mut last = Vec::new(alloc);
     for output in outputs {
         match output {
             Output::Send(message) => {
-                let handed = end.channel.take(alloc, &end.keys, message)?;
-                last = noted(handed.into_outputs()?, seen)?;
+                last = noted(end.handle(alloc, message)?, seen)?;
             }
             _ => {}
         }
@@ -180,8 +179,8 @@ fn pass(
 fn exchanged(
     alloc: Global,
     outputs: Vec<Output>,
-    x: &mut End,
-    y: &mut End,
+    x: &mut Link<ToyKeys>,
+    y: &mut Link<ToyKeys>,
     turns: u8,
     seen: &mut Vec<u64>,
 ) -> Result<(), Refusal> {
@@ -197,17 +196,22 @@ fn exchanged(
 /// One end does what it is told, and the other takes what it hands out.
 fn told(
     alloc: Global,
-    x: &mut End,
-    y: &mut End,
+    x: &mut Link<ToyKeys>,
+    y: &mut Link<ToyKeys>,
     command: Command,
     turns: u8,
     seen: &mut Vec<u64>,
 ) -> Result<(), Refusal> {
-    let outputs = x.channel.command(alloc, &x.keys, command)?.into_outputs()?;
+    let outputs = x.command(alloc, command)?;
     exchanged(alloc, outputs, x, y, turns, seen)
 }
 
-fn confirm(alloc: Global, a: &mut End, b: &mut End, seen: &mut Vec<u64>) -> Result<(), Refusal> {
+fn confirm(
+    alloc: Global,
+    a: &mut Link<ToyKeys>,
+    b: &mut Link<ToyKeys>,
+    seen: &mut Vec<u64>,
+) -> Result<(), Refusal> {
     let Some(id) = ShortId::parse("1x1x0") else {
         return Err(Refusal::Truncated);
     };
@@ -262,16 +266,81 @@ fn offer() -> Command {
 }
 
 /// The fundee's end takes this.
-fn take(alloc: Global, b: &mut End, message: Message, seen: &mut Vec<u64>) -> Result<(), Refusal> {
-    let handed = b.channel.take(alloc, &b.keys, message)?;
-    drop(noted(handed.into_outputs()?, seen)?);
+fn take(
+    alloc: Global,
+    b: &mut Link<ToyKeys>,
+    message: Message,
+    seen: &mut Vec<u64>,
+) -> Result<(), Refusal> {
+    drop(noted(b.handle(alloc, message)?, seen)?);
     Ok(())
+}
+
+/// A connection comes back: the funder's end sends first.
+fn up(
+    alloc: Global,
+    a: &mut Link<ToyKeys>,
+    b: &mut Link<ToyKeys>,
+    seen: &mut Vec<u64>,
+) -> Result<(), Refusal> {
+    let to_b = noted(a.connect(alloc)?, seen)?;
+    meet(alloc, b, a, to_b, seen)
+}
+
+/// The other end, x, sends too before it takes what came.
+fn meet(
+    alloc: Global,
+    x: &mut Link<ToyKeys>,
+    y: &mut Link<ToyKeys>,
+    to_x: Vec<Output>,
+    seen: &mut Vec<u64>,
+) -> Result<(), Refusal> {
+    let to_y = noted(x.connect(alloc)?, seen)?;
+    cross(alloc, x, y, to_x, to_y, seen)
+}
+
+/// Each takes what the other has sent.
+fn cross(
+    alloc: Global,
+    x: &mut Link<ToyKeys>,
+    y: &mut Link<ToyKeys>,
+    to_x: Vec<Output>,
+    to_y: Vec<Output>,
+    seen: &mut Vec<u64>,
+) -> Result<(), Refusal> {
+    let from_x = pass(alloc, to_x, x, seen)?;
+    let from_y = pass(alloc, to_y, y, seen)?;
+    answered(alloc, x, y, from_x, from_y, seen)
+}
+
+/// And what the other answers.
+fn answered(
+    alloc: Global,
+    x: &mut Link<ToyKeys>,
+    y: &mut Link<ToyKeys>,
+    to_y: Vec<Output>,
+    to_x: Vec<Output>,
+    seen: &mut Vec<u64>,
+) -> Result<(), Refusal> {
+    drop(pass(alloc, to_y, y, seen)?);
+    let last = pass(alloc, to_x, x, seen)?;
+    drop(pass(alloc, last, y, seen)?);
+    Ok(())
+}
+
+/// An error for this channel.
+fn error(alloc: Global, channel_id: [u8; 32]) -> Message {
+    Message::Error(Error {
+        channel_id,
+        bytes: Bytes::empty(alloc),
+        records: Records::empty(alloc),
+    })
 }
 
 fn play(
     alloc: Global,
-    a: &mut End,
-    b: &mut End,
+    a: &mut Link<ToyKeys>,
+    b: &mut Link<ToyKeys>,
     one: Move,
     seen: &mut Vec<u64>,
 ) -> Result<(), Refusal> {
@@ -280,44 +349,79 @@ fn play(
         Offer => told(alloc, a, b, offer(), 1, seen),
         Rate => told(alloc, a, b, Command::Fee(300), 1, seen),
         Out => told(alloc, a, b, Command::Sign, 1, seen),
+        Lost => told(alloc, a, b, Command::Sign, 0, seen),
         Shut(len, turns) => {
             let script = script(alloc, len)?;
             told(alloc, a, b, Command::Shutdown(script), turns, seen)
         }
-        Take => {
-            let message = add_message(alloc, b.channel.id(), &htlc(0, 5000, 400));
+        Take(channel) => {
+            let message = add_message(alloc, [channel; 32], &htlc(0, 5000, 400));
             take(alloc, b, Message::UpdateAddHtlc(message), seen)
+        }
+        Hear(channel) => take(alloc, b, error(alloc, [channel; 32]), seen),
+        Down => {
+            a.drop_connection();
+            b.drop_connection();
+            Ok(())
+        }
+        Up => up(alloc, a, b, seen),
+        Halt => {
+            b.halt();
+            Ok(())
         }
         _ => told(alloc, b, a, answer(alloc, one), 1, seen),
     }
 }
 
 /// Moves up to the first that isn't refused by the code beside it: how many were as they should be, and whether these
-/// outputs were handed out.
+/// outputs were handed out behind the opening's.
 fn moved(
+    alloc: Global,
+    a: &mut Link<ToyKeys>,
+    b: &mut Link<ToyKeys>,
+    table: &[(Move, u32)],
+    outputs: &[u64],
+) -> Result<(usize, bool), Refusal> {
+    let mut seen = Vec::new(alloc);
+    open(alloc, a, b, &mut seen)?;
+    let mut right = 0usize;
+    for row in table {
+        if code_of(play(alloc, a, b, row.0, &mut seen).err()) != row.1 {
+            break;
+        }
+        right = right.saturating_add(1);
+    }
+    Ok((right, is_seen(&seen, outputs)))
+}
+
+fn is_seen(seen: &[u64], outputs: &[u64]) -> bool {
+    match seen {
+        [32, 33, 34, 35, rest @ ..] => rest == outputs,
+        _ => false,
+    }
+}
+
+/// The same for new links.
+fn linked(
+    alloc: Global,
+    mut a: Link<ToyKeys>,
+    mut b: Link<ToyKeys>,
+    table: &[(Move, u32)],
+    outputs: &[u64],
+) -> Result<(usize, bool), Refusal> {
+    moved(alloc, &mut a, &mut b, table, outputs)
+}
+
+fn played(
     alloc: Global,
     fees: Range,
     table: &[(Move, u32)],
     outputs: &[u64],
 ) -> Result<(usize, bool), Refusal> {
-    let (funder, fundee) = opened(alloc, fees)?;
-    let mut a = End {
-        channel: funder,
-        keys: FUNDER,
-    };
-    let mut b = End {
-        channel: fundee,
-        keys: FUNDEE,
-    };
-    let mut seen = Vec::new(alloc);
-    let mut right = 0usize;
-    for row in table {
-        if code_of(play(alloc, &mut a, &mut b, row.0, &mut seen).err()) != row.1 {
-            break;
-        }
-        right = right.saturating_add(1);
-    }
-    Ok((right, seen.as_slice() == outputs))
+    let spec = spec(alloc)?;
+    let config = fit(alloc, fees)?;
+    let a = Link::funder(FUNDER, spec);
+    linked(alloc, a, Link::fundee(FUNDEE, config), table, outputs)
 }
 
 const DEAR: Range = (350, 400, 500);
@@ -359,12 +463,70 @@ fn moves(rt: HostRuntime) -> Result<(), Refusal> {
                 (Out, 0),
                 (Back, 0),
                 (Fail, 0),
-                (Take, 22),
+                (Take(9), 22),
+                (Take(8), 22),
+                (Hear(9), 22),
+                (Pay, 22),
+                (Decide, 40),
             ],
             &[
                 36, 36, 128, 132, 1001, 133, 2000, 2000, 132, 1000, 133, 2010, 3001, 2001, 3002,
                 131,
             ],
+        ),
+        // another channel's messages; an error for this one
+        (
+            DEAR,
+            &[
+                (Take(8), 20),
+                (Hear(8), 0),
+                (Confirm, 0),
+                (Take(8), 20),
+                (Hear(9), 37),
+                (Take(8), 37),
+                (Pay, 37),
+                (Forget, 40),
+            ],
+            &[36, 36],
+        ),
+        // a connection is lost, and what was signed is sent again
+        (
+            DEAR,
+            &[
+                (Confirm, 0),
+                (Up, 40),
+                (Offer, 0),
+                (Lost, 0),
+                (Down, 0),
+                (Offer, 47),
+                (Decide, 40),
+                (Up, 0),
+                (Back, 0),
+            ],
+            &[
+                36, 36, 128, 132, 1001, 136, 136, 36, 36, 128, 132, 133, 2000, 2000, 132, 1000,
+                133, 2010, 3001, 2001, 3002,
+            ],
+        ),
+        // a message that comes without a connection; a link that has halted
+        (
+            DEAR,
+            &[(Confirm, 0), (Down, 0), (Take(9), 21), (Pay, 21)],
+            &[36, 36],
+        ),
+        (
+            DEAR,
+            &[
+                (Confirm, 0),
+                (Halt, 0),
+                (Take(9), 62),
+                (Hear(9), 62),
+                (Pay, 62),
+                (Decide, 62),
+                (Down, 0),
+                (Up, 62),
+            ],
+            &[36, 36, 136],
         ),
         // a fee that both take, and none
         (
@@ -384,15 +546,44 @@ fn moves(rt: HostRuntime) -> Result<(), Refusal> {
                 (Shut(65_500, 1), 4407),
                 (Shut(0, 1), 0),
                 (Offer, 43),
-                (Take, 35),
+                (Take(9), 35),
             ],
             &[36, 36, 134, 132, 1001, 133, 2000, 2000, 38, 38],
         ),
     ] {
         assert_eq!(rt;
-            moved(rt.alloc(), fees, table, outputs)?,
+            played(rt.alloc(), fees, table, outputs)?,
             (table.len(), true)
         );
     }
+    Ok(())
+}
+
+/// What a link that isn't opened yet answers: to a command, a connection, a connection behind a lost one, an error for
+/// all, and a command behind that.
+fn unopened(alloc: Global, mut link: Link<ToyKeys>) -> [u32; 5] {
+    let command = code_of(link.command(alloc, Command::Sign).err());
+    let connection = code_of(link.connect(alloc).err());
+    link.drop_connection();
+    let again = code_of(link.connect(alloc).err());
+    let error = code_of(link.handle(alloc, error(alloc, [0; 32])).err());
+    [
+        command,
+        connection,
+        again,
+        error,
+        code_of(link.command(alloc, Command::Sign).err()),
+    ]
+}
+
+#[test]
+fn lost_openings(rt: HostRuntime) -> Result<(), Refusal> {
+    let alloc = rt.alloc();
+    let told = [40, 0, 40, 37, 37];
+    assert_eq!(rt; unopened(alloc, Link::funder(FUNDER, spec(alloc)?)), told);
+    assert_eq!(rt;
+        unopened(alloc, Link::fundee(FUNDEE, fit(alloc, DEAR)?)),
+        told
+    );
     Ok(())
 }

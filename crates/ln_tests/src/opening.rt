@@ -3,11 +3,8 @@
 use crate::code_of;
 use crate::testing::{FUNDEE, FUNDER, bytes_of};
 use ln_bytes::{Bytes, Record};
-use ln_keys::sha256_32;
-use ln_link::{
-    Config, FitConfig, FitSpec, OpenSpec, Points, open_channel, take_accept, take_created,
-    take_open, take_signed,
-};
+use ln_keys::{ToyKeys, sha256_32};
+use ln_link::{Config, FitConfig, FitSpec, Link, OpenSpec, Output, Points};
 use ln_log::Limits;
 use ln_msgs::{
     AcceptChannel, FundingCreated, FundingSigned, Message, OpenChannel, Records, Refusal, encode,
@@ -160,8 +157,80 @@ fn digest(alloc: Global, message: Message) -> Result<[u8; 32], Refusal> {
     Ok(sha256_32(bytes.as_slice()))
 }
 
-/// What comes of an opening with this change, with records or without: the digest of the message that the change
-/// names, or zeros where all goes through.
+/// A message on its way, changed so.
+fn changed(alloc: Global, message: Message, change: &str) -> Message {
+    match message {
+        Message::OpenChannel(mut open) => {
+            change_open(&mut open, change);
+            Message::OpenChannel(open)
+        }
+        Message::AcceptChannel(mut accept) => {
+            change_accept(alloc, &mut accept, change);
+            Message::AcceptChannel(accept)
+        }
+        Message::FundingCreated(mut created) => {
+            change_created(&mut created, change);
+            Message::FundingCreated(created)
+        }
+        Message::FundingSigned(mut signed) => {
+            change_signed(&mut signed, change);
+            Message::FundingSigned(signed)
+        }
+        other => other,
+    }
+}
+
+/// The first message that is handed out.
+fn sent(outputs: Vec<Output>) -> Result<Message, Refusal> {
+    for output in outputs {
+        match output {
+            Output::Send(message) => return Ok(message),
+            _ => {}
+        }
+    }
+    Err(Refusal::NotReady)
+}
+
+/// What comes of an opening with this change: the digest of the message that the change names, or zeros where all goes
+/// through.
+fn passed(
+    alloc: Global,
+    a: &mut Link<ToyKeys>,
+    b: &mut Link<ToyKeys>,
+    change: &str,
+) -> Result<[u8; 32], Refusal> {
+    drop(b.connect(alloc)?);
+    let open = changed(alloc, sent(a.connect(alloc)?)?, change);
+    if change == "open" {
+        return digest(alloc, open);
+    }
+    let accept = changed(alloc, sent(b.handle(alloc, open)?)?, change);
+    if change == "accept" {
+        return digest(alloc, accept);
+    }
+    let created = changed(alloc, sent(a.handle(alloc, accept)?)?, change);
+    if change == "created" {
+        return digest(alloc, created);
+    }
+    let signed = changed(alloc, sent(b.handle(alloc, created)?)?, change);
+    if change == "signed" {
+        return digest(alloc, signed);
+    }
+    drop(a.handle(alloc, signed)?);
+    Ok([0; 32])
+}
+
+/// The same between new links.
+fn linked(
+    alloc: Global,
+    mut a: Link<ToyKeys>,
+    mut b: Link<ToyKeys>,
+    change: &str,
+) -> Result<[u8; 32], Refusal> {
+    passed(alloc, &mut a, &mut b, change)
+}
+
+/// The same for a channel with records or without.
 fn opening(alloc: Global, typed: bool, change: &str) -> Result<[u8; 32], Refusal> {
     let records = if typed {
         records(alloc)?
@@ -173,29 +242,13 @@ fn opening(alloc: Global, typed: bool, change: &str) -> Result<[u8; 32], Refusal
     if !spec.fits() || !config.fits() {
         return Err(Refusal::NotReady);
     }
-    let spec = FitSpec::new(spec);
-    let mut open = open_channel(alloc, &FUNDER, &spec)?;
-    change_open(&mut open, change);
-    if change == "open" {
-        return digest(alloc, Message::OpenChannel(open));
-    }
-    let (agreed, mut accept) = take_open(alloc, &FUNDEE, FitConfig::new(config), open)?;
-    change_accept(alloc, &mut accept, change);
-    if change == "accept" {
-        return digest(alloc, Message::AcceptChannel(accept));
-    }
-    let (end, mut created) = take_accept(alloc, &FUNDER, spec, accept)?;
-    change_created(&mut created, change);
-    if change == "created" {
-        return digest(alloc, Message::FundingCreated(created));
-    }
-    let (_, mut signed) = take_created(alloc, &FUNDEE, agreed, created)?;
-    change_signed(&mut signed, change);
-    if change == "signed" {
-        return digest(alloc, Message::FundingSigned(signed));
-    }
-    take_signed(alloc, &FUNDER, &end.dance, &signed)?;
-    Ok([0; 32])
+    let a = Link::funder(FUNDER, FitSpec::new(spec));
+    linked(
+        alloc,
+        a,
+        Link::fundee(FUNDEE, FitConfig::new(config)),
+        change,
+    )
 }
 
 // Expected bytes come from a computation apart from this program.

@@ -1,7 +1,7 @@
 use Rattle.std.proofs.Common.{refl, ap, sym, subst, ◌≤◌}
-use Rattle.ln_dance.specs.Dance.{Dancer, after_accept}
+use Rattle.ln_dance.specs.Dance.{Dancer, after_accept, is_last, is_right}
 use Rattle.ln_link.specs.End.{End, with_dance}
-use Rattle.ln_link.proofs.Accepting.{sound, on_ok}
+use Rattle.ln_link.proofs.Accepting.{sound, on_ok, viewed}
 use Rattle.ln_link.proofs.channel.Channel.accept.Goals as goal
 
 pub invariant_of-self : goal.invariant_of-self
@@ -15,6 +15,13 @@ invariant_of-self g c =
     } in
     sound c.accept.result e c.accept.new.self (after_accept c.self.inside.dance) (c.accept.ensures.ok _ refl)
     c.accept.ensures.err refl c.self.invariant
+
+pub returns-clause-answer : goal.returns-clause-answer
+returns-clause-answer g c =
+    let keys = g.K.ChannelKeys.signer c.args.keys.now in
+    rw (← c.self.view_is) (viewed (is_last c.self.inside.dance.numbers.commitment)
+    (is_right keys c.args.message.now c.self.inside.dance) c.accept.result (c.accept.ensures.answer _ refl)
+    (c.accept.ensures.out_of_place _ refl))
 
 pub returns-clause-state : goal.returns-clause-state
 returns-clause-state g c =
