@@ -8,6 +8,8 @@ use Rattle.ln_log.specs.declared.opening.Opening.{Opening}
 use Rattle.ln_log.specs.Opening.{IsFit}
 use Rattle.ln_close.specs.declared.closing.Fees.{Fees}
 use Rattle.ln_close.specs.Closing.{AreOrdered}
+use Rattle.ln_log.specs.declared.opening.TheConstants.{MOST_HTLCS}
+use Rattle.ln_link.specs.declared.config.TheConstants.{LONGEST_SCRIPT, LONGEST_RECORDS}
 use Rattle.ln_link.specs.declared.config.Config.{Config}
 use Rattle.ln_link.specs.declared.config.OpenSpec.{OpenSpec}
 
@@ -26,9 +28,9 @@ offered s fundee = record {
 
 -- No peer refuses it, and a shutdown with its script has 65,535 bytes at most: 36 of them beside the script.
 pub record IsFitConfig (c : Config) : Type 0 where
-  pub accepted : c.limits.accepted ≤ 483
+  pub accepted : c.limits.accepted ≤ MOST_HTLCS
   pub fees : AreOrdered (fees_of c)
-  pub script : length c.script ≤ 65499
+  pub script : length c.script ≤ LONGEST_SCRIPT
 
 -- No peer refuses it; the open_channel that it gives can be written and has 65,535 bytes at most: 321 of them beside
 -- the records.
@@ -36,4 +38,4 @@ pub record IsFitSpec (s : OpenSpec) : Type 0 where
   pub config : IsFitConfig s.config
   pub opening : IsFit (offered s s.config.limits)
   pub records : MayFollow open_form s.records
-  pub length : length (stream_bytes s.records) ≤ 65214
+  pub length : length (stream_bytes s.records) ≤ LONGEST_RECORDS

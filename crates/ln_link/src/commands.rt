@@ -2,6 +2,7 @@
 
 use crate::channel::Channel;
 use crate::command::Command;
+use crate::config::LONGEST_SCRIPT;
 use crate::output::{Outbox, Output, one};
 use ln_bytes::{Bytes, ShortId};
 use ln_dance::{add_message, fail_message, fee_message, fulfil_message, malformed_message};
@@ -9,9 +10,6 @@ use ln_keys::ChannelKeys;
 use ln_log::{Add, Fail, Fee, Fulfil, Malformed, Side, Update};
 use ln_msgs::{ChannelReady, CommitmentSigned, Message, PeerRule, Records, Refusal};
 use std::alloc::Global;
-
-/// `shutdown` has 36 bytes beside its script, and a message 65,535 at most.
-const LONGEST_SCRIPT: usize = 65_499;
 
 impl Channel {
     ghost use Rattle.std.specs.Prelude.{◌≡◌, length, OnOk, IfOk, OnErr, IfErr};

@@ -2,18 +2,15 @@
 
 use ln_bytes::{Bytes, tlvs_are_valid, tlvs_len};
 use ln_close::Fees;
-use ln_log::{Limits, Opening};
+use ln_log::{Limits, MOST_HTLCS, Opening};
 use ln_msgs::Records;
 use std::marker::Model;
 
 /// `shutdown` has 36 bytes beside its script, and a message 65,535 at most.
-const LONGEST_SCRIPT: usize = 65_499;
+pub(crate) const LONGEST_SCRIPT: usize = 65_499;
 
 /// `open_channel` has 321 bytes beside its records.
-const LONGEST_RECORDS: usize = 65_214;
-
-/// A side takes no more live HTLCs than these.
-const MOST_HTLCS: u16 = 483;
+pub(crate) const LONGEST_RECORDS: usize = 65_214;
 
 /// The points of a side that serve all its commitments (BOLT 3, "Key Derivation"), each of 33 bytes.
 #[derive(Clone, Copy, Debug, PartialEq, Eq)]
