@@ -1,0 +1,14 @@
+pub mod More
+pub mod Sides
+pub mod Walk
+pub mod Marks
+pub mod Reading
+pub mod Flow
+pub mod Telling
+pub mod Images
+pub mod Rows
+pub mod Steps
+pub mod Turns
+pub mod Runs
+pub mod Opens
+pub mod Promised

@@ -1,0 +1,121 @@
+-- Two ends that were just opened.
+use Rattle.std.proofs.Common.{◌≡◌, ℕ, ◌+◌, ◌<◌, ◌≤◌, ◌^◌, List, [], ◌∷◌, length, refl, sym, ap, ◌∙◌, subst, arith, Bool, true, false, Option, Some, None, Result, Ok, Err}
+use Rattle.ln_msgs.specs.declared.messages.opening.AcceptChannel.{AcceptChannel}
+use Rattle.ln_msgs.specs.declared.messages.opening.FundingCreated.{FundingCreated}
+use Rattle.ln_msgs.specs.declared.messages.opening.FundingSigned.{FundingSigned}
+use Rattle.ln_msgs.specs.declared.refusals.refusal.Refusal.{Refusal}
+use Rattle.ln_keys.specs.declared.role.Role.{Role}
+use Rattle.ln_keys.specs.declared.role.Role.TheVariants.{Funder, Fundee}
+use Rattle.ln_keys.specs.Role.{other_role}
+use Rattle.ln_keys.specs.Signer.{Signer}
+use Rattle.ln_close.specs.declared.closing.Fees.{Fees}
+use Rattle.ln_link.specs.declared.config.Config.{Config}
+use Rattle.ln_link.specs.declared.config.OpenSpec.{OpenSpec}
+use Rattle.ln_link.specs.declared.opening.Opened.{Opened}
+use Rattle.ln_link.specs.declared.opening.Terms.{Terms}
+use Rattle.ln_link.specs.Opening.{Agreement, unless, opening_of, opened_by, open_message, open_fault, agreement, accept_message, accept_fault, funder_end, created_message, created_fault, fundee_end, funding_message}
+use Rattle.ln_link.specs.Meeting.{Opens, AreEnds}
+use Rattle.ln_link.specs.End.{End, end_of}
+use Rattle.ln_link.proofs.Meeting.{are_ends}
+use Rattle.ln_pair.specs.Ends.{opened}
+use Rattle.ln_pair.proofs.Sides.{Met, Side}
+use Rattle.ln_pair.proofs.Walk.{Idle, Flows}
+use Rattle.ln_pair.proofs.Marks.{Told}
+use Rattle.ln_pair.proofs.Images.{side_of}
+use Rattle.ln_pair.proofs.Steps.{Said, Knows, Hold}
+use Rattle.ln_pair.proofs.Runs.{Holds}
+
+abbrev first : Role → List ℕ → Fees → Terms → End
+first r c f t = end_of (opened_by r c f t)
+
+flows : (k j : Signer) (r q : Role) (c d : List ℕ) (f g : Fees) (t u : Terms) → opening_of u ≡ opening_of t → other_role q ≡ r → Flows Met Met (side_of k (first r c f t)) (side_of j (first q d g u)) []
+flows k j r q c d f g t u eo er = record {
+  same = eo;
+  roles = er;
+  within = record { own_current = omega arith; own_acked = omega arith; own_signed = omega arith; peer_acked = omega arith; peer_signed = omega arith; peer_current = omega arith };
+  cut = tt;
+  fit = tt;
+  fit_signed = tt;
+  phase = Idle refl refl refl refl refl refl;
+  agree = refl;
+  order = λ e. refl;
+  flight = record { has_all = refl; knows = refl; accepted = refl; revoked = refl };
+}
+
+told : (k j : Signer) (r q : Role) (c d : List ℕ) (f g : Fees) (t u : Terms) → Told Met Met (side_of k (first r c f t)) (side_of j (first q d g u)) []
+told k j r q c d f g t u = record {
+  ready_sent = λ e. e;
+  shut_sent = λ e. e;
+  used = λ e. absurd (omega (arith, e));
+  used_signature = λ e. absurd (omega (arith, e));
+  used_number = λ e. absurd (omega (arith, e));
+  shut = λ e. tt;
+  speech = (refl, refl);
+}
+
+knows : (k : Signer) (r q : Role) (c d : List ℕ) (f g : Fees) (t u : Terms) → (first r c f t).dance.peer.point ≡ k.point_of 0 → t.peer_script ≡ None → Knows k (first r c f t) (first q d g u)
+knows k r q c d f g t u ep es = record {
+  point = ep;
+  next_point = λ e. absurd (let no : false ≡ true = e in cc);
+  below = omega arith;
+  script = es;
+  not_closed = refl;
+}
+
+said : Said false []
+said = record { adds = tt; told = λ e. e }
+
+holds_first : (a b : Signer) (c : List ℕ) (f g : Fees) (t u : Terms) → opening_of u ≡ opening_of t → t.peer_script ≡ None → u.peer_script ≡ None
+    → (first Funder c f t).dance.peer.point ≡ b.point_of 0 → (first Fundee c g u).dance.peer.point ≡ a.point_of 0
+    → Holds a b (opened (opened_by Funder c f t) (opened_by Fundee c g u))
+holds_first a b c f g t u eo et eu ep eq = record {
+  channel = c;
+  to_x = [];
+  to_y = [];
+  in_x = refl;
+  in_y = refl;
+  hold = record {
+    kept = record { there = flows a b Funder Fundee c c f g t u eo refl; back = flows b a Fundee Funder c c g f u t (sym eo) refl };
+    told = record { there = told a b Funder Fundee c c f g t u; back = told b a Fundee Funder c c g f u t };
+    x_channel = refl;
+    y_channel = refl;
+    x_knows = knows b Funder Fundee c c f g t u ep et;
+    y_knows = knows a Fundee Funder c c g f u t eq eu;
+    x_said = said;
+    y_said = said;
+  };
+}
+
+abbrev ok_or : {A : Type 0} → A → Result A Refusal → A
+ok_or x (Ok y) = y
+ok_or x (Err r) = x
+
+was_given : {A : Type 0} (f : Option Refusal) (x y : A) → unless f x ≡ Ok y → x ≡ y
+was_given None x y e = ap (ok_or x) e
+was_given (Some r) x y e = absurd (cc)
+
+-- the terms of both
+is_fundee : (b : Signer) (a : Agreement) (c : FundingCreated) (e : Opened) → fundee_end a c ≡ e → a.terms.peer_script ≡ None → e ≡ opened_by Fundee e.dance.channel e.closing.fees e.terms
+is_fundee b a c e is none = subst (λ (x : Opened). x ≡ opened_by Fundee x.dance.channel x.closing.fees x.terms) is refl
+
+is_funder : (a : Signer) (s : OpenSpec) (m : AcceptChannel) (e : Opened) → funder_end a s m ≡ e → e ≡ opened_by Funder e.dance.channel e.closing.fees e.terms
+is_funder a s m e is = subst (λ (x : Opened). x ≡ opened_by Funder x.dance.channel x.closing.fees x.terms) is refl
+
+pub opened_holds : (a b : Signer) (s : OpenSpec) (c : Config) (funder fundee : Opened) → Opens a b s c funder fundee → Holds a b (opened funder fundee)
+opened_holds a b s c funder fundee o =
+    let ends = are_ends a b s c funder fundee o in
+    let agreed : agreement b c (open_message a s) ≡ o.agreement = ap (λ (p : Agreement × AcceptChannel). p.0) (was_given (open_fault c (open_message a s)) (agreement b c (open_message a s), accept_message b c (open_message a s)) (o.agreement, o.accept) o.open_channel) in
+    let funder_is : funder_end a s o.accept ≡ funder = ap (λ (p : Opened × FundingCreated). p.0) (was_given (accept_fault s o.accept) (funder_end a s o.accept, created_message a s o.accept) (funder, o.created) o.accept_channel) in
+    let fundee_is : fundee_end o.agreement o.created ≡ fundee = ap (λ p. p.0) (was_given (created_fault b o.agreement o.created) _ _ o.funding_created) in
+    let none : o.agreement.terms.peer_script ≡ None = ap (λ (g : Agreement). g.terms.peer_script) (sym agreed) in
+    let x_is = is_funder a s o.accept funder funder_is in
+    let y_is = is_fundee b o.agreement o.created fundee fundee_is none in
+    let y_here : opened_by Fundee funder.dance.channel fundee.closing.fees fundee.terms ≡ fundee = ap (λ q. opened_by Fundee q fundee.closing.fees fundee.terms) (sym ends.channel) ∙ sym y_is in
+    let same : opening_of fundee.terms ≡ opening_of funder.terms = ap (λ (e : Opened). e.dance.log.opening) (sym y_is) ∙ ends.opening ∙ ap (λ (e : Opened). e.dance.log.opening) x_is in
+    let x_none : funder.terms.peer_script ≡ None = ap (λ (e : Opened). e.terms.peer_script) (sym funder_is) in
+    let y_none : fundee.terms.peer_script ≡ None = ap (λ (e : Opened). e.terms.peer_script) (sym fundee_is) ∙ none in
+    let x_point : (opened_by Funder funder.dance.channel funder.closing.fees funder.terms).dance.peer.point ≡ b.point_of 0 = ap (λ (e : Opened). e.dance.peer.point) (sym x_is) ∙ ends.fundees_point in
+    let y_point : (opened_by Fundee funder.dance.channel fundee.closing.fees fundee.terms).dance.peer.point ≡ a.point_of 0 = ap (λ (e : Opened). e.dance.peer.point) y_here ∙ ends.funders_point in
+    subst (λ e. Holds a b (opened e fundee)) (sym x_is)
+    (subst (λ e. Holds a b (opened (opened_by Funder funder.dance.channel funder.closing.fees funder.terms) e)) y_here
+    (holds_first a b funder.dance.channel funder.closing.fees fundee.closing.fees funder.terms fundee.terms same x_none y_none x_point y_point))

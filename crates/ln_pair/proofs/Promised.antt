@@ -1,0 +1,156 @@
+-- What every list of steps promises.
+use Rattle.std.proofs.Common.{◌≡◌, ℕ, ◌+◌, ◌≤◌, List, [], ◌∷◌, ◌++◌, length, take, drop, refl, sym, ap, ◌∙◌, subst, arith, Bool, true, false, cond, not, ◌&&◌, ◌==◌, Option, Some, None, Result, Ok, Err}
+use Rattle.std.proofs.lemmas.List.{take-append-drop, take-take, take_all}
+use Rattle.std.proofs.lemmas.Bool.{eqb-true}
+use Rattle.ln_msgs.specs.declared.messages.message.Message.{Message}
+use Rattle.ln_msgs.specs.declared.refusals.refusal.Refusal.{Refusal}
+use Rattle.ln_msgs.specs.declared.refusals.refusal.Refusal.TheVariants as refusal
+use Rattle.ln_keys.specs.Signer.{Signer}
+use Rattle.ln_log.specs.declared.update.Update.{Update as Change}
+use Rattle.ln_log.specs.Updates.{all_sent}
+use Rattle.ln_log.specs.Lists.{Begins}
+use Rattle.ln_log.specs.Limits.{first_fault}
+use Rattle.ln_log.specs.Log as log
+use Rattle.ln_log.specs.Log.{Log, Counts, same_counts, after_sign}
+use Rattle.ln_log.specs.Machine.{Follows}
+use Rattle.ln_dance.specs.Dance.{Dancer, owes, is_last, sign_fault}
+use Rattle.ln_link.specs.declared.config.Config.{Config}
+use Rattle.ln_link.specs.declared.config.OpenSpec.{OpenSpec}
+use Rattle.ln_link.specs.declared.opening.Opened.{Opened}
+use Rattle.ln_link.specs.Meeting.{Opens}
+use Rattle.ln_link.specs.End.{End, has_begun, completed}
+use Rattle.ln_link.specs.Taking.{taken}
+use Rattle.ln_pair.specs.Ends.{Ends, Step, opened, turned, run}
+use Rattle.ln_pair.specs.Promises.{AreKeys, IsOpen, StaysOpen, party, Headline, TakesFront, NoneRefused, IsAtRest, HoldsAll, Agrees, NoneAddsLate}
+use Rattle.ln_pair.proofs.Sides.{Notice, Met, Side}
+use Rattle.ln_pair.proofs.Walk.{Phase, Idle, Sent, Answered, LacksNothing, Flows}
+use Rattle.ln_pair.proofs.Flow.{current_own, current_peer}
+use Rattle.ln_pair.proofs.Images.{messages_of, message_of, side_of, length-sent, take-sent}
+use Rattle.ln_pair.proofs.Steps.{otherwise, negated, parts, Hold}
+use Rattle.ln_pair.proofs.Turns.{turn_of}
+use Rattle.ln_pair.proofs.Runs.{Holds, flipped, flipped_keys, due_row, open_then, ran}
+use Rattle.ln_pair.proofs.Opens.{opened_holds}
+
+-- at every end of a run
+pub at_end : (a b : Signer) (s : OpenSpec) (c : Config) (funder fundee : Opened) (steps : List Step) → AreKeys a b → Opens a b s c funder fundee → StaysOpen a b steps (opened funder fundee) → Holds a b (run a b steps (opened funder fundee))
+at_end a b s c funder fundee steps keys o still = ran a b keys steps (opened funder fundee) still (opened_holds a b s c funder fundee o)
+
+-- ---- what is held begins what the other has covered
+
+begins : (n k m : ℕ) (us vs : List Change) → take k us ≡ take k vs → n ≤ k → n ≤ m → Begins (take n us) (take m vs)
+begins n k m us vs e le lm =
+    let same : take n us ≡ take n (take m vs) = sym (take-take n k us le) ∙ ap (take n) e ∙ take-take n k vs le ∙ sym (take-take n m vs lm) in
+    (drop n (take m vs), ap (λ ws. ws ++ drop n (take m vs)) same ∙ take-append-drop n (take m vs))
+
+begins_all : (n k : ℕ) (us vs : List Change) → take k us ≡ take k vs → n ≤ k → Begins (take n us) vs
+begins_all n k us vs e le =
+    let same : take n us ≡ take n vs = sym (take-take n k us le) ∙ ap (take n) e ∙ take-take n k vs le in
+    (drop n vs, ap (λ ws. ws ++ drop n vs) same ∙ take-append-drop n vs)
+
+begins_so : (p q r s : List Change) → p ≡ r → q ≡ s → Begins p q → Begins r s
+begins_so p q r s e f h = subst (λ w. Begins w s) e (subst (λ w. Begins p w) f h)
+
+follows : (a b : Signer) (x y : End) (ms ns : List Notice) → Flows Met Met (side_of a x) (side_of b y) ms → Flows Met Met (side_of b y) (side_of a x) ns → Follows (party x) (party y)
+follows a b x y ms ns f g =
+    let l = x.dance.log in
+    let m = y.dance.log in
+    let own : m.current.peer ≤ l.signed.own = current_own x.dance.numbers.signed x.dance.numbers.revoked y.dance.numbers.commitment l.acknowledged l.signed m.current f.within.own_acked f.phase in
+    let peer : m.current.own ≤ l.signed.peer = current_peer x.dance.numbers.signed x.dance.numbers.revoked y.dance.numbers.commitment l.acknowledged l.signed m.current f.within.peer_acked f.phase in
+    let w = g.within in
+    let held : m.acknowledged.peer ≤ m.current.peer = omega (arith, w.peer_acked, w.peer_signed) in
+    record {
+      of_x = begins_so _ _ _ _ (take-sent m.acknowledged.peer m.received) (take-sent l.signed.own l.own) (begins m.acknowledged.peer m.current.peer l.signed.own (all_sent m.received) (all_sent l.own) f.agree held (omega (arith, held, own)));
+      of_y = begins_so _ _ _ _ (take-sent m.current.own m.own) (take-sent l.signed.peer l.received) (begins m.current.own l.current.peer l.signed.peer (all_sent m.own) (all_sent l.received) (sym g.agree) (omega (arith, peer, f.within.peer_signed)) peer);
+      in_order = begins_so _ _ _ _ (take-sent m.acknowledged.peer m.received) refl (begins_all m.acknowledged.peer m.current.peer (all_sent m.received) (all_sent l.own) f.agree held);
+    }
+
+headline_of : (a b : Signer) (p : Ends) → Holds a b p → Headline p
+headline_of a b p h = (
+  follows a b p.x p.y h.to_y h.to_x h.hold.kept.there h.hold.kept.back,
+  follows b a p.y p.x h.to_x h.to_y h.hold.kept.back h.hold.kept.there,
+)
+
+pub headline : (a b : Signer) (s : OpenSpec) (c : Config) (funder fundee : Opened) (steps : List Step) → AreKeys a b → Opens a b s c funder fundee → StaysOpen a b steps (opened funder fundee) → Headline (run a b steps (opened funder fundee))
+headline a b s c funder fundee steps keys o still = headline_of a b (run a b steps (opened funder fundee)) (at_end a b s c funder fundee steps keys o still)
+
+-- ---- no message is refused
+
+front_by : (a b : Signer) → AreKeys a b → (p : Ends) (channel : List ℕ) (ns to_y : List Notice) → has_begun p.x ≡ false → Hold a b channel p.x p.y ns to_y p.said_x p.said_y → TakesFront a (messages_of channel ns) p.x
+front_by a b keys p channel [] to_y e h = tt
+front_by a b keys p channel (n ∷ ns) to_y e h = (completed a (turn_of a n p.x), due_row a b keys p channel n ns to_y e h)
+
+front : (a b : Signer) → AreKeys a b → (p : Ends) → has_begun p.x ≡ false → Holds a b p → TakesFront a p.to_x p.x
+front a b keys p e h = let is = h.in_x in subst (λ ms. TakesFront a ms p.x) (sym is) (front_by a b keys p h.channel h.to_x h.to_y e h.hold)
+
+pub none_refused : (a b : Signer) (s : OpenSpec) (c : Config) (funder fundee : Opened) (steps : List Step) → AreKeys a b → Opens a b s c funder fundee → StaysOpen a b steps (opened funder fundee) → NoneRefused a b (run a b steps (opened funder fundee))
+none_refused a b s c funder fundee steps keys o still =
+    let p = run a b steps (opened funder fundee) in
+    let h = at_end a b s c funder fundee steps keys o still in
+    let e = open_then a b steps (opened funder fundee) still in
+    (front a b keys p e.x h, front b a (flipped_keys a b keys) (turned p) e.y (flipped a b p h))
+
+-- ---- at rest
+
+nothing_in : (channel : List ℕ) (ns : List Notice) → messages_of channel ns ≡ [] → ns ≡ []
+nothing_in channel [] e = refl
+nothing_in channel (n ∷ ns) e = absurd (cc)
+
+-- nothing is left to sign or to acknowledge
+record HasNothing (l : Log) : Type 0 where
+  acked_own : l.acknowledged.own ≡ l.signed.own
+  acked_peer : l.acknowledged.peer ≡ l.signed.peer
+  all : l.signed.own ≡ length l.own
+  seen : l.signed.peer ≡ l.current.peer
+
+nothing_new : (o a s l : Bool) → cond o (Some refusal.SignatureOutstanding) (first_fault (cond a (cond s (Some refusal.NothingToSign) None) (Some refusal.SignatureOutstanding)) (cond l (Some refusal.NumbersSpent) None)) ≡ Some refusal.NothingToSign → (a ≡ true) × (s ≡ true)
+nothing_new true a s l e = absurd (cc)
+nothing_new false false s l e = absurd (cc)
+nothing_new false true true l e = (refl, refl)
+nothing_new false true false true e = absurd (cc)
+nothing_new false true false false e = absurd (cc)
+
+has_nothing : (d : Dancer) → sign_fault d ≡ Some refusal.NothingToSign → HasNothing d.log
+has_nothing d e =
+    let l = d.log in
+    let p = nothing_new (owes d) (same_counts l.acknowledged l.signed) (same_counts l.signed (after_sign l).signed) (is_last d.numbers.signed) e in
+    let a = parts (l.acknowledged.own == l.signed.own) (l.acknowledged.peer == l.signed.peer) p.0 in
+    let s = parts (l.signed.own == length l.own) (l.signed.peer == l.current.peer) p.1 in
+    record { acked_own = eqb-true l.acknowledged.own l.signed.own a.0; acked_peer = eqb-true l.acknowledged.peer l.signed.peer a.1; all = eqb-true l.signed.own (length l.own) s.0; seen = eqb-true l.signed.peer l.current.peer s.1 }
+
+current_is : (s a c : ℕ) (am sm current : Counts) → c ≡ s → Phase s a c am sm current → (current.peer ≡ sm.own) × (current.own ≡ sm.peer)
+current_is s a c am sm current e (Idle e1 e2 e3 e4 e5 e6) = (e5, e6)
+current_is s a c am sm current e (Sent e1 e2 e3 e4) = absurd (omega (arith, e, e1, e2))
+current_is s a c am sm current e (Answered e1 e2 e3 e4) = (e3, e4)
+
+holds_all : (a b : Signer) (x y : End) → Flows Met Met (side_of a x) (side_of b y) [] → Flows Met Met (side_of b y) (side_of a x) [] → HasNothing x.dance.log → HasNothing y.dance.log → HoldsAll (party x) (party y)
+holds_all a b x y f g sx sy =
+    let l = x.dance.log in
+    let k = y.dance.log in
+    let has : LacksNothing (all_sent l.own) l.current.peer x.dance.numbers.signed x.dance.numbers.commitment (all_sent k.received) k.acknowledged.own y.dance.numbers.commitment y.dance.numbers.revoked = f.flight in
+    let m : LacksNothing (all_sent k.own) k.current.peer y.dance.numbers.signed y.dance.numbers.commitment (all_sent l.received) l.acknowledged.own x.dance.numbers.commitment x.dance.numbers.revoked = g.flight in
+    let p = current_is y.dance.numbers.signed y.dance.numbers.revoked x.dance.numbers.commitment k.acknowledged k.signed l.current m.accepted g.phase in
+    let own : l.current.own ≡ length l.own = p.1 ∙ sy.seen ∙ sym m.knows ∙ sx.acked_own ∙ sx.all in
+    let peer : l.acknowledged.peer ≡ length l.received = sx.acked_peer ∙ sx.seen ∙ p.0 ∙ sy.all ∙ sym (length-sent k.own) ∙ ap length (sym m.has_all) ∙ length-sent l.received in
+    record {
+      own = ap all_sent (take_all l.current.own l.own (omega (arith, own)));
+      peer = ap all_sent (take_all l.acknowledged.peer l.received (omega (arith, peer))) ∙ m.has_all;
+    }
+
+agrees_by : (a b : Signer) (p : Ends) (to_x to_y : List Notice) → to_x ≡ [] → to_y ≡ [] → (channel : List ℕ) → Hold a b channel p.x p.y to_x to_y p.said_x p.said_y → HasNothing p.x.dance.log → HasNothing p.y.dance.log → HoldsAll (party p.x) (party p.y) × HoldsAll (party p.y) (party p.x)
+agrees_by a b p to_x to_y ex ey channel h sx sy =
+    let f : Flows Met Met (side_of a p.x) (side_of b p.y) [] = subst (λ ms. Flows Met Met (side_of a p.x) (side_of b p.y) ms) ey h.kept.there in
+    let g : Flows Met Met (side_of b p.y) (side_of a p.x) [] = subst (λ ms. Flows Met Met (side_of b p.y) (side_of a p.x) ms) ex h.kept.back in
+    (holds_all a b p.x p.y f g sx sy, holds_all b a p.y p.x g f sy sx)
+
+pub agrees : (a b : Signer) (s : OpenSpec) (c : Config) (funder fundee : Opened) (steps : List Step) → AreKeys a b → Opens a b s c funder fundee → StaysOpen a b steps (opened funder fundee) → Agrees (run a b steps (opened funder fundee))
+agrees a b s c funder fundee steps keys o still rest =
+    let p = run a b steps (opened funder fundee) in
+    let h = at_end a b s c funder fundee steps keys o still in
+    agrees_by a b p h.to_x h.to_y (nothing_in h.channel h.to_x (sym h.in_x ∙ rest.to_x)) (nothing_in h.channel h.to_y (sym h.in_y ∙ rest.to_y)) h.channel h.hold (has_nothing p.x.dance rest.x) (has_nothing p.y.dance rest.y)
+
+-- ---- no add behind the own shutdown
+
+pub none_adds_late : (a b : Signer) (s : OpenSpec) (c : Config) (funder fundee : Opened) (steps : List Step) → AreKeys a b → Opens a b s c funder fundee → StaysOpen a b steps (opened funder fundee) → NoneAddsLate (run a b steps (opened funder fundee))
+none_adds_late a b s c funder fundee steps keys o still =
+    let h = at_end a b s c funder fundee steps keys o still in
+    (h.hold.x_said.adds, h.hold.y_said.adds)

@@ -1,0 +1,5 @@
+use Rattle.ln_pair.proofs.Promised.{agrees}
+use Rattle.ln_pair.proofs.laws.both_agree_at_rest.Goals as goal
+
+pub returns : goal.returns
+returns c = agrees

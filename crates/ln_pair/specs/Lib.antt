@@ -1,0 +1,9 @@
+pub mod Ends
+pub mod Promises
+pub use Rattle.ln_log.specs.Machine
+pub use Rattle.ln_log.specs.Log
+pub use Rattle.ln_link.specs.Opening
+pub use Rattle.ln_link.specs.Meeting
+pub use Rattle.ln_link.specs.End
+pub use Rattle.ln_link.specs.Taking
+pub use Rattle.ln_link.specs.Commands

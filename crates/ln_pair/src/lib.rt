@@ -1,0 +1,7 @@
+//! The two ends of one channel: laws over every list of their steps, told with the rows that each end's code meets
+//! (BOLT 2).
+#![tactic(auto)]
+
+mod laws;
+
+pub use laws::{both_agree_at_rest, held_was_covered, no_add_follows_a_shutdown, no_message_is_refused};
