@@ -1,0 +1,11 @@
+//! Nodes and the channels between them, moved step by step: each end is a link of its own, and what it sends is in
+//! flight to the other end (BOLT 2).
+#![tactic(auto)]
+
+mod line;
+mod settings;
+mod step;
+
+pub use line::{Ending, Line, Word};
+pub use settings::Settings;
+pub use step::{Act, End, Node, Open, Partners, Step};
