@@ -14,6 +14,8 @@ use Rattle.ln_link.specs.Step.{Done, handled, commanded, connected}
 use Rattle.ln_nodes.specs.declared.step.Act.{Act}
 use Rattle.ln_nodes.specs.declared.step.Act.TheVariants as act
 use Rattle.ln_nodes.specs.declared.step.End.{End}
+use Rattle.ln_nodes.specs.declared.answer.Answer.{Answer}
+use Rattle.ln_nodes.specs.declared.answer.Answer.TheVariants as answer
 use Rattle.ln_nodes.specs.declared.line.Line.{Line}
 use Rattle.ln_nodes.specs.declared.line.Line.TheVariants as line
 use Rattle.ln_nodes.specs.Lines.{numbers_of, lines_of, messages_in, replies, refused_lines}
@@ -54,6 +56,11 @@ abbrev pub told_by : End → List ℕ → Result Done Refusal → List Line
 told_by e id (Ok d) = lines_of e (numbers_of d.stage) d.outputs
 told_by e id (Err r) = refused_lines e id r
 
+-- what a call answered of a link that it left so
+abbrev pub said_by : {K : Type 0} → Answer → State K → Result Done Refusal
+said_by (answer.Done outputs) l = Ok (record { line = l.line; stage = l.stage; outputs = outputs.items })
+said_by (answer.Refused r) l = Err r
+
 -- a refused command or connection changes nothing
 abbrev pub unchanged : {K : Type 0} → Refusal → State K → State K
 unchanged r l = l
@@ -86,9 +93,12 @@ abbrev pub act_lines : {K : Type 0} → (K → Signer) → End → List ℕ → 
 act_lines signer e id act.Deliver p = delivered_lines signer e id p.inbox p.link
 act_lines signer e id (act.Send c) p = told_by e id (commanded (signer p.link.keys) p.link c)
 
--- x loses its connection, and what is in flight to it
+-- an end loses its connection, and what is in flight to it
+abbrev pub fallen : {K : Type 0} → Place K → Place K
+fallen p = record { link = drops p.link; inbox = [] }
+
 abbrev pub falls : {K : Type 0} → Both K → Both K
-falls p = record { x = record { link = drops p.x.link; inbox = [] }; y = p.y }
+falls p = record { x = fallen p.x; y = p.y }
 
 -- ---- a connection: both ends have it before either sends, so that nothing is lost
 

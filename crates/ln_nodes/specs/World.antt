@@ -156,22 +156,23 @@ abbrev pub place_of : {K : Type 0} → Role → Both K → Place K
 place_of Funder p = p.x
 place_of Fundee p = p.y
 
-abbrev pub acted_lines : {K : Type 0} → (K → Signer) → End → Act → Channel K → Option Role → List Line
-acted_lines signer e a c None = line.Idle ∷ []
-acted_lines signer e a c (Some side) = act_lines signer e (channel_id_of c.number) a (place_of side c.both)
+abbrev pub end_at : ℕ → Node → End
+end_at n node = record { node = node; channel = n }
+
+abbrev pub acted_lines : {K : Type 0} → (K → Signer) → Node → Act → Channel K → Option Role → List Line
+acted_lines signer n a c None = line.Idle ∷ []
+acted_lines signer n a c (Some side) =
+    act_lines signer (end_at c.number n) (channel_id_of c.number) a (place_of side c.both)
 
 abbrev pub fallen_lines : Option Role → List Line
 fallen_lines None = line.Idle ∷ []
 fallen_lines (Some side) = []
 
-abbrev pub end_at : ℕ → Node → End
-end_at n node = record { node = node; channel = n }
-
 abbrev pub met_lines : {K : Type 0} → (K → Signer) → Channel K → List Line
 met_lines signer c =
     if may_meet c.both
     then greet_lines (end_at c.number c.funder) (greeting signer c.both.x.link)
-        ++ greet_lines (end_at c.number c.fundee) (greeting signer c.both.y.link)
+    ++ greet_lines (end_at c.number c.fundee) (greeting signer c.both.y.link)
     else line.Idle ∷ []
 
 -- what is told of a channel that there isn't
@@ -183,7 +184,7 @@ abbrev pub told : {K : Type 0} → (k : Ghosts K) → Step K k → World K → L
 told k (step.Fees n fees) w = []
 told k (step.Limits n limits) w = []
 told k (step.Open o) w = if may_open k o w then line.Open o.channel ∷ [] else line.Idle ∷ []
-told k (step.Do e a) w = if_there (λ c. acted_lines k.signer e a c (side_of e.node c)) (channel e.channel w.channels)
+told k (step.Do e a) w = if_there (λ c. acted_lines k.signer e.node a c (side_of e.node c)) (channel e.channel w.channels)
 told k (step.Down e) w = if_there (λ c. fallen_lines (side_of e.node c)) (channel e.channel w.channels)
 told k (step.Up n) w = if_there (met_lines k.signer) (channel n w.channels)
 

@@ -2,9 +2,12 @@
 //! flight to the other end (BOLT 2).
 #![tactic(auto)]
 
+mod answer;
+mod both;
 mod line;
 mod settings;
 mod step;
+mod tell;
 
 pub use line::{Ending, Line, Word};
 pub use settings::Settings;
