@@ -7,8 +7,6 @@ use Rattle.ln_msgs.specs.declared.refusals.refusal.Refusal.{Refusal}
 use Rattle.ln_keys.specs.declared.role.Role.{Role}
 use Rattle.ln_keys.specs.declared.role.Role.TheVariants.{Funder, Fundee}
 use Rattle.ln_keys.specs.Signer.{Signer}
-use Rattle.ln_link.specs.declared.command.Command.{Command}
-use Rattle.ln_link.specs.declared.output.Output.{Output}
 use Rattle.ln_link.specs.State.{State, is_down, refused, drops}
 use Rattle.ln_link.specs.Step.{Done, handled, commanded, connected}
 use Rattle.ln_nodes.specs.declared.step.Act.{Act}
@@ -138,7 +136,7 @@ abbrev pub from : {K : Type 0} → Role → (Both K → Both K) → Both K → B
 from Funder f p = f p
 from Fundee f p = turned (f (turned p))
 
-abbrev pub moves : {K : Type 0} → (K → Signer) → List ℕ → Move → Both K → Both K
+unfoldable pub moves : {K : Type 0} → (K → Signer) → List ℕ → Move → Both K → Both K
 moves signer id (By side act) p = from side (acts signer id act) p
 moves signer id (Falls side) p = from side falls p
 moves signer id Meet p = meet signer p

@@ -1,9 +1,7 @@
 -- What is told of a step, line by line.
-use Rattle.std.specs.Prelude.{◌==◌, ◌&&◌, nat_le, ℕ, ◌-◌, List, [], ◌∷◌, ◌++◌, Bool, Option, Some, None, if◌then◌else◌}
+use Rattle.std.specs.Prelude.{◌==◌, ◌&&◌, nat_le, ℕ, ◌-◌, List, [], ◌∷◌, ◌++◌, Option, Some, None, if◌then◌else◌}
 use Rattle.ln_msgs.specs.declared.messages.message.Message.{Message}
 use Rattle.ln_msgs.specs.declared.messages.message.Message.TheVariants as message
-use Rattle.ln_msgs.specs.declared.messages.setup.Error.{Error}
-use Rattle.ln_msgs.specs.declared.messages.setup.Warning.{Warning}
 use Rattle.ln_msgs.specs.declared.refusals.refusal.Refusal.{Refusal}
 use Rattle.ln_msgs.specs.Refusals.Refusal.{refusal_number}
 use Rattle.ln_msgs.specs.Refusals.Reply.{text_of_number}

@@ -1,11 +1,12 @@
 -- What nodes open channels with (BOLT 2, "Channel Establishment v1").
 use Rattle.std.specs.Prelude.{ℕ, List, [], ◌∷◌, ◌++◌, replicate, Bool, ◌&&◌, nat_le}
 use Rattle.ln_msgs.specs.Messages.Channel.{id_of_channel}
-use Rattle.ln_log.specs.Opening.{is_fit}
+use Rattle.ln_close.specs.Closing.{AreOrdered}
+use Rattle.ln_log.specs.declared.opening.Opening.{Opening}
+use Rattle.ln_log.specs.Opening.{IsFit, is_fit}
 use Rattle.ln_link.specs.declared.config.Config.{Config}
 use Rattle.ln_link.specs.declared.config.OpenSpec.{OpenSpec}
 use Rattle.ln_link.specs.declared.config.Points.{Points}
-use Rattle.ln_link.specs.Config.{offered}
 use Rattle.ln_nodes.specs.declared.settings.Settings.{Settings}
 use Rattle.ln_nodes.specs.declared.step.Node.{Node}
 
@@ -45,7 +46,7 @@ config_of n s = record {
 abbrev pub txid_of : ℕ → List ℕ
 txid_of channel = replicate 31 0 ++ channel ∷ []
 
-abbrev pub channel_id_of : ℕ → List ℕ
+unfoldable pub channel_id_of : ℕ → List ℕ
 channel_id_of channel = id_of_channel (txid_of channel) 0
 
 -- a funder opens the channel with this number by it
@@ -62,16 +63,24 @@ spec_of channel c satoshis push = record {
   records = [];
 }
 
+abbrev pub opening_by : ℕ → ℕ → Settings → Settings → Opening
+opening_by satoshis push funder fundee = record {
+  satoshis = satoshis;
+  push = push;
+  feerate = 253;
+  funder = funder.limits;
+  fundee = fundee.limits;
+}
+
 abbrev pub are_ordered : Settings → Bool
 are_ordered s = nat_le s.fees.least s.fees.first && nat_le s.fees.first s.fees.greatest
 
 -- what both bring fits: the funds, what is pushed of them, how many HTLCs either takes, and the fees in their order
 abbrev pub may_bring : ℕ → ℕ → Settings → Settings → Bool
 may_bring satoshis push funder fundee =
-    is_fit (record {
-      satoshis = satoshis;
-      push = push;
-      feerate = 253;
-      funder = funder.limits;
-      fundee = fundee.limits;
-    }) && (are_ordered funder && are_ordered fundee)
+    is_fit (opening_by satoshis push funder fundee) && (are_ordered funder && are_ordered fundee)
+
+pub record CanBring (satoshis push : ℕ) (funder fundee : Settings) : Type 0 where
+  pub opening : IsFit (opening_by satoshis push funder fundee)
+  pub funder_fees : AreOrdered funder.fees
+  pub fundee_fees : AreOrdered fundee.fees

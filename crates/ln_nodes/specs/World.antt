@@ -1,6 +1,6 @@
 -- Nodes, the channels between them, and what a step is to each.
-use Rattle.std.specs.Prelude.{ℕ, List, [], ◌∷◌, ◌++◌, map, Bool, not, ◌==◌, ◌&&◌, Option, Some, None, is_none}
-use Rattle.std.specs.Prelude.{◌≡◌, if◌then◌else◌, replicate, get_or, set}
+use Rattle.std.specs.Prelude.{ℕ, List, [], ◌∷◌, ◌++◌, Bool, not, ◌==◌, ◌&&◌, Option, Some, None, is_none}
+use Rattle.std.specs.Prelude.{if◌then◌else◌, replicate, get_or, set}
 use Rattle.ln_keys.specs.declared.keys.ChannelKeys.{Ghosts}
 use Rattle.ln_keys.specs.declared.role.Role.{Role}
 use Rattle.ln_keys.specs.declared.role.Role.TheVariants.{Funder, Fundee}
@@ -67,17 +67,16 @@ abbrev pub by : Option Role → (Role → Move) → List Move
 by None f = []
 by (Some side) f = f side ∷ []
 
+abbrev pub end_at : ℕ → Node → End
+end_at n node = record { node = node; channel = n }
+
+abbrev pub end_of : {K : Type 0} → Role → Channel K → End
+end_of Funder c = end_at c.number c.funder
+end_of Fundee c = end_at c.number c.fundee
+
 -- both ends are down, and neither has halted
 abbrev pub may_meet : {K : Type 0} → Both K → Bool
 may_meet p = may_come_up p.x.link && may_come_up p.y.link
-
-abbrev pub moves_of : {K : Type 0} → (k : Ghosts K) → Step K k → Channel K → List Move
-moves_of k (step.Fees n fees) c = []
-moves_of k (step.Limits n limits) c = []
-moves_of k (step.Open o) c = []
-moves_of k (step.Do e a) c = if c.number == e.channel then by (side_of e.node c) (λ side. By side a) else []
-moves_of k (step.Down e) c = if c.number == e.channel then by (side_of e.node c) Falls else []
-moves_of k (step.Up n) c = if c.number == n then (if may_meet c.both then Meet ∷ [] else []) else []
 
 abbrev pub moved : {K : Type 0} → (K → Signer) → (Channel K → List Move) → Channel K → Channel K
 moved signer f c = record {
@@ -87,33 +86,45 @@ moved signer f c = record {
   both = run_both signer (channel_id_of c.number) (f c) c.both;
 }
 
+-- the channel of this number moves so
+abbrev pub moved_at : {K : Type 0} → (K → Signer) → ℕ → (Channel K → List Move) → List (Channel K) → List (Channel K)
+moved_at signer n f [] = []
+moved_at signer n f (c ∷ cs) = if c.number == n then moved signer f c ∷ cs else c ∷ moved_at signer n f cs
+
+-- the table: which moves of a channel an act, the loss of a connection and a new one are
+abbrev pub act_moves : {K : Type 0} → Node → Act → Channel K → List Move
+act_moves n a c = by (side_of n c) (λ side. By side a)
+
+abbrev pub fall_moves : {K : Type 0} → Node → Channel K → List Move
+fall_moves n c = by (side_of n c) Falls
+
+abbrev pub up_moves : {K : Type 0} → Channel K → List Move
+up_moves c = if may_meet c.both then Meet ∷ [] else []
+
 -- ---- a channel that is opened (BOLT 2, "Channel Establishment v1")
 
 abbrev pub channel : {K : Type 0} → ℕ → List (Channel K) → Option (Channel K)
 channel n [] = None
 channel n (c ∷ cs) = if c.number == n then Some c else channel n cs
 
--- each number stands once
-abbrev pub AreOnce : {K : Type 0} → List (Channel K) → Type 0
-AreOnce [] = Unit {0}
-AreOnce (c ∷ cs) = (channel c.number cs ≡ None) × AreOnce cs
-
 abbrev pub may_open : {K : Type 0} → (k : Ghosts K) → Open K k → World K → Bool
 may_open k o w =
     not (is_node o.funder o.fundee) && (is_none (channel o.channel w.channels)
     && may_bring o.satoshis o.push (settings_of o.funder w.settings) (settings_of o.fundee w.settings))
 
--- two new links
-abbrev pub begun_by : {K : Type 0} → (k : Ghosts K) → Open K k → List Settings → Both K
-begun_by k o ss = record {
-  x = record {
-    link = begun o.keys.funder (stage.AwaitsAccept (spec_of o.channel
-        (config_of o.funder (settings_of o.funder ss)) o.satoshis o.push));
-    inbox = [];
-  };
-  y = record {
-    link = begun o.keys.fundee (stage.AwaitsOpen (config_of o.fundee (settings_of o.fundee ss)));
-    inbox = [];
+-- a channel of two new links, by what was set for the funder and for the fundee
+abbrev pub begun_by : {K : Type 0} → (k : Ghosts K) → Open K k → Settings → Settings → Channel K
+begun_by k o funder fundee = record {
+  number = o.channel;
+  funder = o.funder;
+  fundee = o.fundee;
+  both = record {
+    x = record {
+      link = begun o.keys.funder (stage.AwaitsAccept
+          (spec_of o.channel (config_of o.funder funder) o.satoshis o.push));
+      inbox = [];
+    };
+    y = record { link = begun o.keys.fundee (stage.AwaitsOpen (config_of o.fundee fundee)); inbox = [] };
   };
 }
 
@@ -122,29 +133,27 @@ abbrev pub opening_moves : List Move
 opening_moves =
     Meet ∷ By Fundee act.Deliver ∷ By Funder act.Deliver ∷ By Fundee act.Deliver ∷ By Funder act.Deliver ∷ []
 
-abbrev pub opened_by : {K : Type 0} → (k : Ghosts K) → Open K k → List Settings → Channel K
-opened_by k o ss = record {
-  number = o.channel;
-  funder = o.funder;
-  fundee = o.fundee;
-  both = run_both k.signer (channel_id_of o.channel) opening_moves (begun_by k o ss);
-}
+abbrev pub opened_by : {K : Type 0} → (k : Ghosts K) → Open K k → Settings → Settings → Channel K
+opened_by k o funder fundee = moved k.signer (λ c. opening_moves) (begun_by k o funder fundee)
 
-abbrev pub joined : {K : Type 0} → (k : Ghosts K) → Step K k → World K → List (Channel K) → List (Channel K)
-joined k (step.Open o) w cs = if may_open k o w then cs ++ opened_by k o w.settings ∷ [] else cs
-joined k (step.Fees n fees) w cs = cs
-joined k (step.Limits n limits) w cs = cs
-joined k (step.Do e a) w cs = cs
-joined k (step.Down e) w cs = cs
-joined k (step.Up n) w cs = cs
+abbrev pub with_opened : {K : Type 0} → (k : Ghosts K) → Open K k → World K → List (Channel K)
+with_opened k o w =
+    if may_open k o w
+    then w.channels ++ opened_by k o (settings_of o.funder w.settings) (settings_of o.fundee w.settings) ∷ []
+    else w.channels
 
 -- ---- what happens
 
+abbrev pub channels_after : {K : Type 0} → (k : Ghosts K) → Step K k → World K → List (Channel K)
+channels_after k (step.Fees n fees) w = w.channels
+channels_after k (step.Limits n limits) w = w.channels
+channels_after k (step.Open o) w = with_opened k o w
+channels_after k (step.Do e a) w = moved_at k.signer e.channel (act_moves e.node a) w.channels
+channels_after k (step.Down e) w = moved_at k.signer e.channel (fall_moves e.node) w.channels
+channels_after k (step.Up n) w = moved_at k.signer n up_moves w.channels
+
 abbrev pub happens : {K : Type 0} → (k : Ghosts K) → Step K k → World K → World K
-happens k s w = record {
-  settings = settings_after k s w.settings;
-  channels = joined k s w (map (moved k.signer (moves_of k s)) w.channels);
-}
+happens k s w = record { settings = settings_after k s w.settings; channels = channels_after k s w }
 
 abbrev pub run : {K : Type 0} → (k : Ghosts K) → List (Step K k) → World K → World K
 run k [] w = w
@@ -156,19 +165,16 @@ abbrev pub place_of : {K : Type 0} → Role → Both K → Place K
 place_of Funder p = p.x
 place_of Fundee p = p.y
 
-abbrev pub end_at : ℕ → Node → End
-end_at n node = record { node = node; channel = n }
-
-abbrev pub acted_lines : {K : Type 0} → (K → Signer) → Node → Act → Channel K → Option Role → List Line
-acted_lines signer n a c None = line.Idle ∷ []
-acted_lines signer n a c (Some side) =
-    act_lines signer (end_at c.number n) (channel_id_of c.number) a (place_of side c.both)
+unfoldable pub acted_lines : {K : Type 0} → (K → Signer) → Act → Channel K → Option Role → List Line
+acted_lines signer a c None = line.Idle ∷ []
+acted_lines signer a c (Some side) =
+    act_lines signer (end_of side c) (channel_id_of c.number) a (place_of side c.both)
 
 abbrev pub fallen_lines : Option Role → List Line
 fallen_lines None = line.Idle ∷ []
 fallen_lines (Some side) = []
 
-abbrev pub met_lines : {K : Type 0} → (K → Signer) → Channel K → List Line
+unfoldable pub met_lines : {K : Type 0} → (K → Signer) → Channel K → List Line
 met_lines signer c =
     if may_meet c.both
     then greet_lines (end_at c.number c.funder) (greeting signer c.both.x.link)
@@ -184,7 +190,7 @@ abbrev pub told : {K : Type 0} → (k : Ghosts K) → Step K k → World K → L
 told k (step.Fees n fees) w = []
 told k (step.Limits n limits) w = []
 told k (step.Open o) w = if may_open k o w then line.Open o.channel ∷ [] else line.Idle ∷ []
-told k (step.Do e a) w = if_there (λ c. acted_lines k.signer e.node a c (side_of e.node c)) (channel e.channel w.channels)
+told k (step.Do e a) w = if_there (λ c. acted_lines k.signer a c (side_of e.node c)) (channel e.channel w.channels)
 told k (step.Down e) w = if_there (λ c. fallen_lines (side_of e.node c)) (channel e.channel w.channels)
 told k (step.Up n) w = if_there (met_lines k.signer) (channel n w.channels)
 

@@ -6,8 +6,9 @@ ghost use Rattle.ln_nodes.specs.declared.step.Act.TheVariants as act;
 ghost use Rattle.ln_nodes.specs.Settings.{channel_id_of};
 ghost use Rattle.ln_nodes.specs.Lines.{messages_in, numbers_of, lines_of, replies, refused_lines};
 ghost use Rattle.ln_nodes.specs.Both.{reaches, sent_by, told_by, said_by, delivers, delivered_lines, acts, act_lines};
+ghost use Rattle.ln_nodes.specs.Both.{greeting, greets, greet_lines, meet};
 
-use crate::answer::{Answer, command as obey, handle};
+use crate::answer::{Answer, command as obey, connect, handle};
 use crate::line::Line;
 use crate::settings::channel_id_of;
 use crate::step::{Act, End};
@@ -51,7 +52,7 @@ fn send_all(outputs: Vec<Output>, inbox: &mut VecDeque<Message>) -> Result<(), R
 impl<K: ChannelKeys + Copy> Place<K> {
     ghost use Rattle.std.specs.Prelude.{◌≡◌, [], IfErr, OnOk};
     ghost use Rattle.ln_nodes.specs.Lines.{messages_in, one_or_none};
-    ghost use Rattle.ln_nodes.specs.Both.{reaches, fallen};
+    ghost use Rattle.ln_nodes.specs.Both.{reaches, fallen, may_come_up};
 
     /// An end without a connection, and nothing in flight to it. Takes no memory.
     pub(crate) fn new(alloc: Global, link: Link<K>) -> Place<K>
@@ -93,6 +94,13 @@ impl<K: ChannelKeys + Copy> Place<K> {
             None => {}
         }
         Ok(())
+    }
+
+    /// Whether it may get a connection: it has none, and hasn't halted.
+    pub(crate) fn may_come_up(&self) -> bool
+        ensures { result ≡ may_come_up self.now.link }
+    {
+        self.link.line().is_down() && !self.link.is_halted()
     }
 
     /// It loses its connection, and what is in flight to it.
@@ -225,4 +233,41 @@ pub(crate) fn act<K: ChannelKeys + Copy>(
         Act::Deliver => deliver(alloc, end, x, y, lines),
         Act::Send(command) => give(alloc, end, x, y, command, lines),
     }
+}
+
+/// What a link sends over its new connection is told, and in flight to the other end. 60 where there is no memory.
+fn greet<K: ChannelKeys + Copy>(
+    end: End,
+    link: &Link<K>,
+    answer: Answer,
+    other: &mut Place<K>,
+    lines: &mut Vec<Line>,
+) -> Result<(), Refusal>
+    ensures sent { OnOk result (other.new ≡ reaches (greets (said_by answer link.now)) other.old) }
+    ensures told { OnOk result (lines.new.items ≡ lines.old.items ++ greet_lines end (said_by answer link.now)) }
+    ensures memory { IfErr result (λ e. e ≡ refusal.Memory) }
+{
+    match answer {
+        Answer::Done(outputs) => hand_out(end, link, outputs, other, lines),
+        Answer::Refused(_) => Ok(()),
+    }
+}
+
+/// Both ends get a connection before either sends, the end x first. 60 where there is no memory.
+pub(crate) fn meet<K: ChannelKeys + Copy>(
+    alloc: Global,
+    ends: (End, End),
+    x: &mut Place<K>,
+    y: &mut Place<K>,
+    lines: &mut Vec<Line>,
+) -> Result<(), Refusal>
+    ensures both { OnOk result (record { x = x.new; y = y.new } ≡ meet K.signer (record { x = x.old; y = y.old })) }
+    ensures told { OnOk result (lines.new.items ≡ lines.old.items
+        ++ (greet_lines ends.0 (greeting K.signer x.old.link) ++ greet_lines ends.1 (greeting K.signer y.old.link))) }
+    ensures memory { IfErr result (λ e. e ≡ refusal.Memory) }
+{
+    let from_x = connect(alloc, &mut x.link)?;
+    let from_y = connect(alloc, &mut y.link)?;
+    greet(ends.0, &x.link, from_x, y, lines)?;
+    greet(ends.1, &y.link, from_y, x, lines)
 }

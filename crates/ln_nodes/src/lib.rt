@@ -4,11 +4,15 @@
 
 mod answer;
 mod both;
+mod channel;
 mod line;
 mod settings;
 mod step;
 mod tell;
 
+pub use answer::Answer;
+pub use both::Place;
+pub use channel::Channel;
 pub use line::{Ending, Line, Word};
 pub use settings::Settings;
 pub use step::{Act, End, Node, Open, Partners, Step};

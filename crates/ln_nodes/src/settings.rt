@@ -1,13 +1,15 @@
 //! What nodes open channels with (BOLT 2, "Channel Establishment v1").
 
-ghost use Rattle.std.specs.Prelude.{◌≡◌, IfOk, IfErr};
+ghost use Rattle.std.specs.Prelude.{◌≡◌, IfOk, IfErr, IsTrue};
 ghost use Rattle.ln_msgs.specs.declared.refusals.refusal.Refusal.TheVariants as refusal;
-ghost use Rattle.ln_nodes.specs.Settings.{defaults, config_of, txid_of, channel_id_of, spec_of, are_ordered, may_bring};
+ghost use Rattle.ln_nodes.specs.Settings.{defaults, config_of, txid_of, channel_id_of, spec_of, may_bring};
+ghost use Rattle.ln_nodes.specs.Settings.{CanBring};
+ghost use Rattle.ln_link.specs.Config.{IsFitConfig, IsFitSpec};
 
 use crate::step::Node;
 use ln_bytes::Bytes;
 use ln_close::Fees;
-use ln_link::{Config, OpenSpec, Points};
+use ln_link::{Config, FitConfig, FitSpec, OpenSpec, Points};
 use ln_log::{Limits, Opening};
 use ln_msgs::{Records, Refusal, channel_id};
 use std::alloc::Global;
@@ -22,7 +24,8 @@ pub struct Settings {
 }
 
 impl Settings {
-    ghost use Rattle.std.specs.Prelude.{◌≡◌};
+    ghost use Rattle.std.specs.Prelude.{◌≡◌, IsTrue};
+    ghost use Rattle.ln_close.specs.Closing.{AreOrdered};
     ghost use Rattle.ln_nodes.specs.Settings.{defaults, are_ordered};
 
     /// What a node has that nothing was set for: closing fees 300, from 200 to 400 satoshis, and HTLCs of at least 1
@@ -46,7 +49,8 @@ impl Settings {
     }
 
     fn are_ordered(&self) -> bool
-        ensures { result ≡ are_ordered self.now }
+        ensures test { result ≡ are_ordered self.now }
+        ensures fits { IsTrue result → AreOrdered self.now.fees }
     {
         self.fees.least <= self.fees.first && self.fees.first <= self.fees.greatest
     }
@@ -91,6 +95,7 @@ fn txid_of(channel: u8) -> [u8; 32]
 }
 
 /// The id of the channel with this number.
+#[tactic(auto, unfolding(crate::specs::Settings::channel_id_of))]
 pub(crate) fn channel_id_of(channel: u8) -> [u8; 32]
     ensures { result ≡ channel_id_of channel }
 {
@@ -122,7 +127,8 @@ pub(crate) fn spec_of(
 
 /// Whether what both bring fits.
 pub(crate) fn may_bring(satoshis: u64, push: u64, funder: &Settings, fundee: &Settings) -> bool
-    ensures { result ≡ may_bring satoshis push funder.now fundee.now }
+    ensures test { result ≡ may_bring satoshis push funder.now fundee.now }
+    ensures fits { IsTrue result → CanBring satoshis push funder.now fundee.now }
 {
     let opening = Opening {
         satoshis,
@@ -132,4 +138,34 @@ pub(crate) fn may_bring(satoshis: u64, push: u64, funder: &Settings, fundee: &Se
         fundee: fundee.limits,
     };
     opening.is_fit() && funder.are_ordered() && fundee.are_ordered()
+}
+
+/// What a fundee takes channels with. 60 where there is no memory.
+pub(crate) fn fit_config(
+    alloc: Global,
+    node: Node,
+    settings: &Settings,
+) -> Result<FitConfig, Refusal>
+    requires { IsFitConfig (config_of node settings.now) }
+    ensures config { IfOk result (λ c. c ≡ config_of node settings.now) }
+    ensures memory { IfErr result (λ e. e ≡ refusal.Memory) }
+{
+    Ok(FitConfig::new(config_of(alloc, node, settings)?))
+}
+
+/// What a funder opens the channel with this number by. 60 where there is no memory.
+pub(crate) fn fit_spec(
+    alloc: Global,
+    channel: u8,
+    node: Node,
+    settings: &Settings,
+    satoshis: u64,
+    push: u64,
+) -> Result<FitSpec, Refusal>
+    requires { IsFitSpec (spec_of channel (config_of node settings.now) satoshis push) }
+    ensures spec { IfOk result (λ s. s ≡ spec_of channel (config_of node settings.now) satoshis push) }
+    ensures memory { IfErr result (λ e. e ≡ refusal.Memory) }
+{
+    let config = config_of(alloc, node, settings)?;
+    Ok(FitSpec::new(spec_of(alloc, channel, config, satoshis, push)))
 }
