@@ -144,6 +144,34 @@ impl<K: ChannelKeys + Drop> Link<K> {
         self.halted = true;
     }
 
+    /// Whether it has a connection, and whether the peer is there. Takes no memory.
+    pub fn line(&self) -> Line
+        ensures { (l : State K) → StandsFor self.now l → result ≡ l.line }
+    {
+        self.line
+    }
+
+    /// Whether it has halted, and answers 62 to everything. Takes no memory.
+    pub fn is_halted(&self) -> bool
+        ensures { (l : State K) → StandsFor self.now l → result ≡ l.halted }
+    {
+        self.halted
+    }
+
+    /// By what the channel has failed. Takes no memory.
+    pub fn failure(&self) -> Option<Refusal>
+        ensures { (l : State K) → StandsFor self.now l → result ≡ l.failure }
+    {
+        self.failure
+    }
+
+    /// How far it is with its channel. Takes no memory.
+    pub fn stage(&self) -> &Stage
+        ensures { (l : State K) → StandsFor self.now l → result.now ≡ l.stage }
+    {
+        &self.stage
+    }
+
     // There was no memory.
     pub(crate) fn halted_by_memory(&mut self) -> Refusal
         ensures memory { result ≡ Refusal.Memory }

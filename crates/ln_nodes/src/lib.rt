@@ -1,0 +1,18 @@
+//! Nodes and the channels between them, moved step by step: each end is a link of its own, and what it sends is in
+//! flight to the other end (BOLT 2).
+#![tactic(auto)]
+
+mod answer;
+mod both;
+mod channel;
+mod line;
+mod settings;
+mod step;
+mod tell;
+
+pub use answer::Answer;
+pub use both::Place;
+pub use channel::Channel;
+pub use line::{Ending, Line, Word};
+pub use settings::Settings;
+pub use step::{Act, End, Node, Open, Partners, Step};

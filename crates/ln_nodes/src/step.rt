@@ -1,0 +1,79 @@
+//! What may happen to nodes and channels.
+
+ghost use Rattle.ln_keys.specs.Partners.{ArePartners};
+
+use ln_close::Fees;
+use ln_keys::ChannelKeys;
+use ln_link::Command;
+use ln_log::Limits;
+
+/// A node, by its letter.
+#[derive(Clone, Copy, Debug, PartialEq, Eq)]
+pub struct Node {
+    /// The letter, in ASCII. It is also the script of the node's `shutdown`.
+    pub letter: u8,
+}
+
+/// A channel's end at a node.
+#[derive(Clone, Copy, Debug, PartialEq, Eq)]
+pub struct End {
+    /// The node.
+    pub node: Node,
+    /// The channel's number.
+    pub channel: u8,
+}
+
+/// The keys of a channel's two ends, which are partners: what either signs the other accepts.
+#[derive(Drop)]
+pub struct Partners<K: ChannelKeys + Copy> {
+    /// The keys of the node that opens the channel.
+    pub funder: K,
+    /// The keys of the other node.
+    pub fundee: K,
+    pub ghost partners: { ∥ ArePartners (K.signer funder) (K.signer fundee) ∥₁ },
+}
+
+/// A channel is opened (BOLT 2, "Channel Establishment v1").
+#[derive(Drop)]
+pub struct Open<K: ChannelKeys + Copy> {
+    /// The channel's number.
+    pub channel: u8,
+    /// The node that opens and pays for it.
+    pub funder: Node,
+    /// The other node.
+    pub fundee: Node,
+    /// What the funder pays in, in satoshis.
+    pub satoshis: u64,
+    /// What of that the fundee has at first, in msat.
+    pub push: u64,
+    /// The keys of both ends.
+    pub keys: Partners<K>,
+}
+
+/// What a channel end does.
+#[derive(Debug, Drop)]
+pub enum Act {
+    /// It takes the oldest message in flight to it.
+    Deliver,
+    /// It is given a command.
+    Send(Command),
+}
+
+/// A step. One that can't be taken changes nothing.
+#[derive(Drop)]
+pub enum Step<K: ChannelKeys + Copy> {
+    /// The closing fees that a node takes in channels that are opened later.
+    Fees(Node, Fees),
+    /// What a node asks of the HTLCs that it is offered in channels that are opened later.
+    Limits(Node, Limits),
+    /// A channel is opened. It can't be where a channel has that number, where both nodes are one, or where what the
+    /// nodes bring doesn't fit.
+    Open(Open<K>),
+    /// An end acts. It can't where there is no such end, or nothing in flight to it.
+    Do(End, Act),
+    /// An end loses its connection. It can't where there is no such end.
+    Down(End),
+    /// Both ends of the channel of this number have a connection again. They can't where either has one or has halted,
+    /// or where there is no such channel.
+    Up(u8),
+}
