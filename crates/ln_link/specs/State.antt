@@ -1,6 +1,7 @@
 -- One link: one end of a channel from its opening to its close, with the connection that it has (BOLT 2).
 use Rattle.std.specs.Prelude.{◌≡◌, Bool, true, false, Option, Some, None, if◌then◌else◌}
 use Rattle.ln_msgs.specs.declared.refusals.refusal.Refusal.{Refusal}
+use Rattle.ln_dance.specs.declared.dance.Numbers.{Numbers}
 use Rattle.ln_link.specs.declared.link.Line.{Line}
 use Rattle.ln_link.specs.declared.link.Line.TheVariants as line
 use Rattle.ln_link.specs.declared.link.Stage.{Stage}
@@ -75,3 +76,14 @@ drops l = if is_down l.line then l else record l { line = line.Down; stage = cut
 -- it answers nothing any more
 abbrev pub halts : {K : Type 0} → State K → State K
 halts l = record (drops l) { halted = true }
+
+-- ---- what is told of it
+
+-- the numbers of an end's commitments; none before an opening is agreed to
+abbrev pub no_numbers : Numbers
+no_numbers = record { commitment = 0; signed = 0; revoked = 0 }
+
+abbrev pub numbers_of : Stage → Numbers
+numbers_of (stage.AwaitsSigned e) = e.dance.numbers
+numbers_of (stage.Saved e) = e.dance.numbers
+numbers_of s = no_numbers

@@ -100,20 +100,6 @@ impl Channel {
         self.dance.channel()
     }
 
-    /// Its commitments and updates. Takes no memory.
-    pub fn dance(&self) -> &Dance
-        ensures { result.now ≡ self.now.dance }
-    {
-        &self.dance
-    }
-
-    /// How far it is with its close. Takes no memory.
-    pub fn closing(&self) -> &Closing
-        ensures { result.now ≡ self.now.closing }
-    {
-        &self.closing
-    }
-
     /// The id that it had while it was opened.
     pub(crate) fn temporary_id(&self) -> [u8; 32]
         ensures { result ≡ self.now.terms.open_channel.temporary_id }

@@ -4,6 +4,7 @@ use crate::channel::Channel;
 use crate::config::{FitConfig, FitSpec};
 use crate::opening::{Agreed, open_channel};
 use crate::output::{Outbox, Output, one};
+use ln_dance::Numbers;
 use ln_keys::ChannelKeys;
 use ln_msgs::{Message, Refusal};
 use std::alloc::Global;
@@ -96,7 +97,7 @@ impl<K: ChannelKeys + Drop> Link<K> {
     ghost use Rattle.std.specs.Prelude.{◌≡◌, OnOk, IfOk, IfErr, OnErr};
     ghost use Rattle.ln_link.specs.declared.link.Stage.TheVariants as stage;
     ghost use Rattle.ln_link.specs.Outputs.{all_of};
-    ghost use Rattle.ln_link.specs.State.{State, StandsFor, begun, drops, halts};
+    ghost use Rattle.ln_link.specs.State.{State, StandsFor, begun, drops, halts, numbers_of};
     ghost use Rattle.ln_link.specs.Step.{Answered, connected, MovesBy, connects};
 
     /// A new link of a funder, which opens a channel by this spec. Takes no memory.
@@ -165,11 +166,11 @@ impl<K: ChannelKeys + Drop> Link<K> {
         self.failure
     }
 
-    /// How far it is with its channel. Takes no memory.
-    pub fn stage(&self) -> &Stage
-        ensures { (l : State K) → StandsFor self.now l → result.now ≡ l.stage }
+    /// The numbers of its commitments; 0 before an opening is agreed to. Takes no memory.
+    pub fn numbers(&self) -> Numbers
+        ensures { (l : State K) → StandsFor self.now l → result ≡ numbers_of l.stage }
     {
-        &self.stage
+        self.stage.numbers()
     }
 
     // There was no memory.

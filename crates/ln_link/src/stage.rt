@@ -13,6 +13,7 @@ use crate::command::Command;
 use crate::link::{Line, Stage};
 use crate::opening::{take_accept, take_created, take_open};
 use crate::output::{Outbox, one};
+use ln_dance::Numbers;
 use ln_keys::ChannelKeys;
 use ln_msgs::{
     AcceptChannel, ChannelReestablish, FundingCreated, FundingSigned, Message, OpenChannel, Refusal,
@@ -59,11 +60,29 @@ pub(crate) fn fails(refusal: Refusal) -> bool
     (21 <= number && number <= 35) || number == 37
 }
 
+// Before an opening is agreed to.
+const NO_NUMBERS: Numbers = Numbers {
+    commitment: 0,
+    signed: 0,
+    revoked: 0,
+};
+
 impl Stage {
     ghost use Rattle.std.specs.Prelude.{◌≡◌, false};
     ghost use Rattle.ln_link.specs.Naming.{channel_of, temporary_of, is_meant, is_other};
-    ghost use Rattle.ln_link.specs.State.{is_saved, lost, cut};
+    ghost use Rattle.ln_link.specs.State.{is_saved, lost, cut, numbers_of};
     ghost use Rattle.ln_link.specs.Step.{is_passed_over, stray_fault, message_fault, stage_row, opening_at, Moves};
+
+    // The numbers of its end's commitments.
+    pub(crate) fn numbers(&self) -> Numbers
+        ensures { result ≡ numbers_of self.now }
+    {
+        match self {
+            Stage::AwaitsSigned(channel) => channel.dance.numbers(),
+            Stage::Saved(channel) => channel.dance.numbers(),
+            _ => NO_NUMBERS,
+        }
+    }
 
     // Whether both have signed the opening.
     fn is_saved(&self) -> bool

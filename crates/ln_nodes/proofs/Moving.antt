@@ -6,7 +6,7 @@ use Rattle.ln_nodes.specs.declared.step.Act.{Act}
 use Rattle.ln_nodes.specs.declared.step.Node.{Node}
 use Rattle.ln_nodes.specs.Settings.{channel_id_of}
 use Rattle.ln_nodes.specs.Both.{Both, Place, By, acts, turned, moves}
-use Rattle.ln_nodes.specs.World.{Channel, moved}
+use Rattle.ln_nodes.specs.Channel.{Channel, moved}
 
 pub on_ok : {A E : Type 0} {P Q : Type 0} (r : Result A E) → (P → Q) → OnOk r P → OnOk r Q
 on_ok (Ok a) f p = f p

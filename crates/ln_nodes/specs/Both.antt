@@ -7,7 +7,7 @@ use Rattle.ln_msgs.specs.declared.refusals.refusal.Refusal.{Refusal}
 use Rattle.ln_keys.specs.declared.role.Role.{Role}
 use Rattle.ln_keys.specs.declared.role.Role.TheVariants.{Funder, Fundee}
 use Rattle.ln_keys.specs.Signer.{Signer}
-use Rattle.ln_link.specs.State.{State, is_down, refused, drops}
+use Rattle.ln_link.specs.State.{State, is_down, refused, drops, numbers_of}
 use Rattle.ln_link.specs.Step.{Done, handled, commanded, connected}
 use Rattle.ln_nodes.specs.declared.step.Act.{Act}
 use Rattle.ln_nodes.specs.declared.step.Act.TheVariants as act
@@ -16,7 +16,7 @@ use Rattle.ln_nodes.specs.declared.answer.Answer.{Answer}
 use Rattle.ln_nodes.specs.declared.answer.Answer.TheVariants as answer
 use Rattle.ln_nodes.specs.declared.line.Line.{Line}
 use Rattle.ln_nodes.specs.declared.line.Line.TheVariants as line
-use Rattle.ln_nodes.specs.Lines.{numbers_of, lines_of, messages_in, replies, refused_lines}
+use Rattle.ln_nodes.specs.Lines.{lines_of, messages_in, replies, refused_lines}
 
 -- an end, and the messages in flight to it, the oldest first
 pub record Place (K : Type 0) : Type 0 where

@@ -1,4 +1,4 @@
 pub mod Settings
 pub mod Lines
 pub mod Both
-pub mod World
+pub mod Channel

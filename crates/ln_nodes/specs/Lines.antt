@@ -10,8 +10,7 @@ use Rattle.ln_hooks.specs.declared.event.ChannelEvent.{ChannelEvent}
 use Rattle.ln_hooks.specs.declared.event.ChannelEvent.TheVariants as event
 use Rattle.ln_hooks.specs.declared.event.How.{How}
 use Rattle.ln_hooks.specs.declared.event.How.TheVariants as how
-use Rattle.ln_link.specs.declared.link.Stage.{Stage}
-use Rattle.ln_link.specs.declared.link.Stage.TheVariants as stage
+use Rattle.ln_link.specs.State.{no_numbers}
 use Rattle.ln_link.specs.declared.output.Output.{Output}
 use Rattle.ln_link.specs.declared.output.Output.TheVariants as output
 use Rattle.ln_nodes.specs.declared.step.End.{End}
@@ -23,15 +22,6 @@ use Rattle.ln_nodes.specs.declared.line.Line.{Line}
 use Rattle.ln_nodes.specs.declared.line.Line.TheVariants as line
 
 -- ---- messages
-
--- the numbers of an end's commitments; none before an opening is agreed to
-abbrev pub no_numbers : Numbers
-no_numbers = record { commitment = 0; signed = 0; revoked = 0 }
-
-abbrev pub numbers_of : Stage → Numbers
-numbers_of (stage.AwaitsSigned e) = e.dance.numbers
-numbers_of (stage.Saved e) = e.dance.numbers
-numbers_of s = no_numbers
 
 -- How a message is told whose sender has these numbers now: a signature is that of the commitment that it signed last,
 -- a revocation that of the commitment before its own. The messages of an opening aren't told.

@@ -4,7 +4,8 @@ ghost use Rattle.std.specs.Prelude.{◌≡◌, ◌++◌, IfOk, IfErr, OnOk};
 ghost use Rattle.ln_msgs.specs.declared.refusals.refusal.Refusal.TheVariants as refusal;
 ghost use Rattle.ln_nodes.specs.declared.step.Act.TheVariants as act;
 ghost use Rattle.ln_nodes.specs.Settings.{channel_id_of};
-ghost use Rattle.ln_nodes.specs.Lines.{messages_in, numbers_of, lines_of, replies, refused_lines};
+ghost use Rattle.ln_nodes.specs.Lines.{messages_in, lines_of, replies, refused_lines};
+ghost use Rattle.ln_link.specs.State.{numbers_of};
 ghost use Rattle.ln_nodes.specs.Both.{reaches, sent_by, told_by, said_by, delivers, delivered_lines, acts, act_lines};
 ghost use Rattle.ln_nodes.specs.Both.{greeting, greets, greet_lines, meet};
 
@@ -12,7 +13,7 @@ use crate::answer::{Answer, command as obey, connect, handle};
 use crate::line::Line;
 use crate::settings::channel_id_of;
 use crate::step::{Act, End};
-use crate::tell::{numbers_of, reply_of, tell_outputs, tell_refusal};
+use crate::tell::{reply_of, tell_outputs, tell_refusal};
 use ln_keys::{ChannelKeys, Role};
 use ln_link::{Command, Link, Output};
 use ln_msgs::{Message, Refusal};
@@ -125,7 +126,7 @@ fn hand_out<K: ChannelKeys + Copy>(
         ≡ lines.old.items ++ lines_of end (numbers_of link.now.stage) outputs.items) }
     ensures memory { IfErr result (λ e. e ≡ refusal.Memory) }
 {
-    let numbers = numbers_of(link.stage());
+    let numbers = link.numbers();
     tell_outputs(end, numbers, &outputs, lines)?;
     other.take_in(outputs)
 }

@@ -3,7 +3,7 @@
 ghost use Rattle.std.specs.Prelude.{◌≡◌, ◌++◌, IfOk, IfErr, OnOk};
 ghost use Rattle.ln_msgs.specs.declared.refusals.refusal.Refusal.TheVariants as refusal;
 ghost use Rattle.ln_nodes.specs.Settings.{CanBring};
-ghost use Rattle.ln_nodes.specs.World.{opened_by, begun_by};
+ghost use Rattle.ln_nodes.specs.Channel.{opened_by, begun_by};
 
 use crate::both::{Place, act, meet};
 use crate::line::Line;
@@ -26,7 +26,7 @@ pub struct Channel<K: ChannelKeys + Copy> {
 }
 
 impl<K: ChannelKeys + Copy> Model for Channel<K> {
-    ghost use Rattle.ln_nodes.specs.World.{Channel as ChannelState};
+    ghost use Rattle.ln_nodes.specs.Channel.{Channel as ChannelState};
 
     ghost Value = { ChannelState K };
 
@@ -43,8 +43,8 @@ impl<K: ChannelKeys + Copy> Channel<K> {
     ghost use Rattle.ln_keys.specs.declared.role.Role.TheVariants.{Funder, Fundee};
     ghost use Rattle.ln_nodes.specs.Settings.{channel_id_of};
     ghost use Rattle.ln_nodes.specs.Both.{By, Falls, Meet, act_lines, greet_lines, greeting};
-    ghost use Rattle.ln_nodes.specs.World.{side_of, end_at, moved, by, acted_lines, fallen_lines, may_meet, met_lines};
-    ghost use Rattle.ln_nodes.specs.World.{place_of, end_of, opening_moves};
+    ghost use Rattle.ln_nodes.specs.Channel.{side_of, moved, act_moves, fall_moves, up_moves, acted_lines, fallen_lines};
+    ghost use Rattle.ln_nodes.specs.Channel.{place_of, end_of, opening_moves, met_lines};
 
     /// Its number.
     pub fn number(&self) -> u8
@@ -123,15 +123,15 @@ impl<K: ChannelKeys + Copy> Channel<K> {
     }
 
     /// The node's end acts, where it has one. 60 where there is no memory.
-    #[tactic(auto, unfolding(crate::specs::World::acted_lines))]
-    pub(crate) fn act(
+    #[tactic(auto, unfolding(crate::specs::Channel::acted_lines))]
+    pub fn act(
         &mut self,
         alloc: Global,
         node: Node,
         what: Act,
         lines: &mut Vec<Line>,
     ) -> Result<(), Refusal>
-        ensures moved { OnOk result (self.new ≡ moved K.signer (λ c. by (side_of node c) (λ s. By s what)) self.old) }
+        ensures moved { OnOk result (self.new ≡ moved K.signer (act_moves node what) self.old) }
         ensures told { OnOk result (lines.new.items
             ≡ lines.old.items ++ acted_lines K.signer what self.old (side_of node self.old)) }
         ensures memory { IfErr result (λ e. e ≡ Refusal.Memory) }
@@ -147,8 +147,8 @@ impl<K: ChannelKeys + Copy> Channel<K> {
 
     /// The node's end loses its connection, where it has one. 60 where there is no memory.
     #[tactic(auto, unfolding(crate::specs::Both::moves))]
-    pub(crate) fn fall(&mut self, node: Node, lines: &mut Vec<Line>) -> Result<(), Refusal>
-        ensures moved { OnOk result (self.new ≡ moved K.signer (λ c. by (side_of node c) Falls) self.old) }
+    pub fn fall(&mut self, node: Node, lines: &mut Vec<Line>) -> Result<(), Refusal>
+        ensures moved { OnOk result (self.new ≡ moved K.signer (fall_moves node) self.old) }
         ensures told { OnOk result (lines.new.items ≡ lines.old.items ++ fallen_lines (side_of node self.old)) }
         ensures memory { IfErr result (λ e. e ≡ Refusal.Memory) }
     {
@@ -188,10 +188,10 @@ impl<K: ChannelKeys + Copy> Channel<K> {
     }
 
     /// Both ends get a connection, where they may. 60 where there is no memory.
-    #[tactic(auto, unfolding(crate::specs::World::met_lines))]
-    pub(crate) fn come_up(&mut self, alloc: Global, lines: &mut Vec<Line>) -> Result<(), Refusal>
+    #[tactic(auto, unfolding(crate::specs::Channel::met_lines))]
+    pub fn come_up(&mut self, alloc: Global, lines: &mut Vec<Line>) -> Result<(), Refusal>
         ensures moved { OnOk result (self.new
-            ≡ moved K.signer (λ c. if may_meet c.both then Meet ∷ [] else []) self.old) }
+            ≡ moved K.signer up_moves self.old) }
         ensures told { OnOk result (lines.new.items ≡ lines.old.items ++ met_lines K.signer self.old) }
         ensures memory { IfErr result (λ e. e ≡ Refusal.Memory) }
     {
@@ -233,7 +233,7 @@ fn begin<K: ChannelKeys + Copy>(
 }
 
 /// A channel is opened: each of the four messages is taken by the other end. 60 where there is no memory.
-pub(crate) fn open_channel<K: ChannelKeys + Copy>(
+pub fn open_channel<K: ChannelKeys + Copy>(
     alloc: Global,
     wish: &Open<K>,
     funder: &Settings,

@@ -1,5 +1,4 @@
-//! Nodes and the channels between them, moved step by step: each end is a link of its own, and what it sends is in
-//! flight to the other end (BOLT 2).
+//! Channels between two nodes: each end is a link of its own, and what it sends is in flight to the other end (BOLT 2).
 #![tactic(auto)]
 
 mod answer;
@@ -12,7 +11,7 @@ mod tell;
 
 pub use answer::Answer;
 pub use both::Place;
-pub use channel::Channel;
+pub use channel::{Channel, open_channel};
 pub use line::{Ending, Line, Word};
-pub use settings::Settings;
-pub use step::{Act, End, Node, Open, Partners, Step};
+pub use settings::{Settings, may_bring};
+pub use step::{Act, End, Node, Open, Partners};

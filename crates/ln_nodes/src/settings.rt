@@ -125,8 +125,9 @@ pub(crate) fn spec_of(
     }
 }
 
-/// Whether what both bring fits.
-pub(crate) fn may_bring(satoshis: u64, push: u64, funder: &Settings, fundee: &Settings) -> bool
+/// Whether what both nodes of a channel bring fits: the funds in satoshis, what of them is pushed in msat, how many
+/// HTLCs either takes, and the closing fees in their order. Takes no memory.
+pub fn may_bring(satoshis: u64, push: u64, funder: &Settings, fundee: &Settings) -> bool
     ensures test { result ≡ may_bring satoshis push funder.now fundee.now }
     ensures fits { IsTrue result → CanBring satoshis push funder.now fundee.now }
 {

@@ -58,22 +58,3 @@ pub enum Act {
     /// It is given a command.
     Send(Command),
 }
-
-/// A step. One that can't be taken changes nothing.
-#[derive(Drop)]
-pub enum Step<K: ChannelKeys + Copy> {
-    /// The closing fees that a node takes in channels that are opened later.
-    Fees(Node, Fees),
-    /// What a node asks of the HTLCs that it is offered in channels that are opened later.
-    Limits(Node, Limits),
-    /// A channel is opened. It can't be where a channel has that number, where both nodes are one, or where what the
-    /// nodes bring doesn't fit.
-    Open(Open<K>),
-    /// An end acts. It can't where there is no such end, or nothing in flight to it.
-    Do(End, Act),
-    /// An end loses its connection. It can't where there is no such end.
-    Down(End),
-    /// Both ends of the channel of this number have a connection again. They can't where either has one or has halted,
-    /// or where there is no such channel.
-    Up(u8),
-}

@@ -2,8 +2,8 @@
 
 ghost use Rattle.std.specs.Prelude.{◌≡◌, ◌++◌, ◌∷◌, [], IfOk, IfErr, OnOk};
 ghost use Rattle.ln_msgs.specs.declared.refusals.refusal.Refusal.TheVariants as refusal;
-ghost use Rattle.ln_nodes.specs.Lines.{numbers_of, word_of, ending_of, event_line, sends_line, line_of, lines_of};
-ghost use Rattle.ln_nodes.specs.Lines.{no_numbers, reply_of, one_or_none, reply_lines};
+ghost use Rattle.ln_nodes.specs.Lines.{word_of, ending_of, event_line, sends_line, line_of, lines_of};
+ghost use Rattle.ln_nodes.specs.Lines.{reply_of, one_or_none, reply_lines};
 ghost use Rattle.ln_msgs.specs.Refusals.Refusal.{refusal_number};
 ghost use Rattle.ln_nodes.specs.declared.line.Line.TheVariants as line;
 
@@ -11,26 +11,16 @@ use crate::line::{Ending, Line, Word};
 use crate::step::End;
 use ln_dance::Numbers;
 use ln_hooks::{ChannelEvent, How};
-use ln_link::{Output, Stage};
+use ln_link::Output;
 use ln_msgs::{Message, Refusal};
 use std::alloc::Global;
 
+// An error and a warning tell of none.
 const NO_NUMBERS: Numbers = Numbers {
     commitment: 0,
     signed: 0,
     revoked: 0,
 };
-
-/// The numbers of an end's commitments.
-pub(crate) fn numbers_of(stage: &Stage) -> Numbers
-    ensures { result ≡ numbers_of stage.now }
-{
-    match stage {
-        Stage::AwaitsSigned(channel) => channel.dance().numbers(),
-        Stage::Saved(channel) => channel.dance().numbers(),
-        _ => NO_NUMBERS,
-    }
-}
 
 /// How a message is told whose sender has these numbers now.
 fn word_of(numbers: Numbers, message: &Message) -> Option<Word>

@@ -27,6 +27,8 @@ mod log;
 #[cfg(test)]
 mod messages;
 #[cfg(test)]
+mod nodes;
+#[cfg(test)]
 mod opening;
 #[cfg(test)]
 mod pings;

@@ -1,5 +1,5 @@
 use Rattle.std.proofs.Common.{ap, ◌∙◌}
-use Rattle.ln_nodes.specs.World.{moved, opening_moves}
+use Rattle.ln_nodes.specs.Channel.{moved, opening_moves}
 use Rattle.ln_nodes.proofs.channel.open_channel.Goals as goal
 
 pub returns-clause-opened : goal.returns-clause-opened

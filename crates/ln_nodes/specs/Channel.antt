@@ -1,12 +1,10 @@
--- Nodes, the channels between them, and what a step is to each.
-use Rattle.std.specs.Prelude.{ℕ, List, [], ◌∷◌, ◌++◌, Bool, not, ◌==◌, ◌&&◌, Option, Some, None, is_none}
-use Rattle.std.specs.Prelude.{if◌then◌else◌, replicate, get_or, set}
+-- A channel between two nodes: which moves of its two ends an act, the loss of a connection and a new one are, how it
+-- is opened, and what is told of it.
+use Rattle.std.specs.Prelude.{ℕ, List, [], ◌∷◌, ◌++◌, Bool, ◌==◌, ◌&&◌, Option, Some, None, if◌then◌else◌}
 use Rattle.ln_keys.specs.declared.keys.ChannelKeys.{Ghosts}
 use Rattle.ln_keys.specs.declared.role.Role.{Role}
 use Rattle.ln_keys.specs.declared.role.Role.TheVariants.{Funder, Fundee}
 use Rattle.ln_keys.specs.Signer.{Signer}
-use Rattle.ln_close.specs.declared.closing.Fees.{Fees}
-use Rattle.ln_log.specs.declared.opening.Limits.{Limits}
 use Rattle.ln_link.specs.declared.link.Stage.TheVariants as stage
 use Rattle.ln_link.specs.State.{begun}
 use Rattle.ln_nodes.specs.declared.step.Act.{Act}
@@ -14,12 +12,10 @@ use Rattle.ln_nodes.specs.declared.step.Act.TheVariants as act
 use Rattle.ln_nodes.specs.declared.step.End.{End}
 use Rattle.ln_nodes.specs.declared.step.Node.{Node}
 use Rattle.ln_nodes.specs.declared.step.Open.{Open}
-use Rattle.ln_nodes.specs.declared.step.Step.{Step}
-use Rattle.ln_nodes.specs.declared.step.Step.TheVariants as step
 use Rattle.ln_nodes.specs.declared.settings.Settings.{Settings}
 use Rattle.ln_nodes.specs.declared.line.Line.{Line}
 use Rattle.ln_nodes.specs.declared.line.Line.TheVariants as line
-use Rattle.ln_nodes.specs.Settings.{defaults, config_of, spec_of, channel_id_of, may_bring}
+use Rattle.ln_nodes.specs.Settings.{config_of, spec_of, channel_id_of}
 use Rattle.ln_nodes.specs.Both.{Both, Place, Move, By, Falls, Meet, act_lines, may_come_up, greet_lines, greeting}
 use Rattle.ln_nodes.specs.Both.{run as run_both}
 
@@ -29,34 +25,8 @@ pub record Channel (K : Type 0) : Type 0 where
   pub fundee : Node
   pub both : Both K  -- the funder's end is x
 
-pub record World (K : Type 0) : Type 0 where
-  pub settings : List Settings  -- of each node, by its letter
-  pub channels : List (Channel K)
-
-abbrev pub empty : {K : Type 0} → World K
-empty = record { settings = replicate 256 defaults; channels = [] }
-
--- ---- nodes
-
 abbrev pub is_node : Node → Node → Bool
 is_node a b = a.letter == b.letter
-
-abbrev pub settings_of : Node → List Settings → Settings
-settings_of n ss = get_or ss n.letter defaults
-
-abbrev pub with_fees : Fees → Settings → Settings
-with_fees fees s = record { fees = fees; limits = s.limits }
-
-abbrev pub with_limits : Limits → Settings → Settings
-with_limits limits s = record { fees = s.fees; limits = limits }
-
-abbrev pub settings_after : {K : Type 0} → (k : Ghosts K) → Step K k → List Settings → List Settings
-settings_after k (step.Fees n fees) ss = set ss n.letter (with_fees fees (settings_of n ss))
-settings_after k (step.Limits n limits) ss = set ss n.letter (with_limits limits (settings_of n ss))
-settings_after k (step.Open o) ss = ss
-settings_after k (step.Do e a) ss = ss
-settings_after k (step.Down e) ss = ss
-settings_after k (step.Up n) ss = ss
 
 -- ---- which moves of a channel a step is
 
@@ -86,11 +56,6 @@ moved signer f c = record {
   both = run_both signer (channel_id_of c.number) (f c) c.both;
 }
 
--- the channel of this number moves so
-abbrev pub moved_at : {K : Type 0} → (K → Signer) → ℕ → (Channel K → List Move) → List (Channel K) → List (Channel K)
-moved_at signer n f [] = []
-moved_at signer n f (c ∷ cs) = if c.number == n then moved signer f c ∷ cs else c ∷ moved_at signer n f cs
-
 -- the table: which moves of a channel an act, the loss of a connection and a new one are
 abbrev pub act_moves : {K : Type 0} → Node → Act → Channel K → List Move
 act_moves n a c = by (side_of n c) (λ side. By side a)
@@ -102,15 +67,6 @@ abbrev pub up_moves : {K : Type 0} → Channel K → List Move
 up_moves c = if may_meet c.both then Meet ∷ [] else []
 
 -- ---- a channel that is opened (BOLT 2, "Channel Establishment v1")
-
-abbrev pub channel : {K : Type 0} → ℕ → List (Channel K) → Option (Channel K)
-channel n [] = None
-channel n (c ∷ cs) = if c.number == n then Some c else channel n cs
-
-abbrev pub may_open : {K : Type 0} → (k : Ghosts K) → Open K k → World K → Bool
-may_open k o w =
-    not (is_node o.funder o.fundee) && (is_none (channel o.channel w.channels)
-    && may_bring o.satoshis o.push (settings_of o.funder w.settings) (settings_of o.fundee w.settings))
 
 -- a channel of two new links, by what was set for the funder and for the fundee
 abbrev pub begun_by : {K : Type 0} → (k : Ghosts K) → Open K k → Settings → Settings → Channel K
@@ -136,29 +92,6 @@ opening_moves =
 abbrev pub opened_by : {K : Type 0} → (k : Ghosts K) → Open K k → Settings → Settings → Channel K
 opened_by k o funder fundee = moved k.signer (λ c. opening_moves) (begun_by k o funder fundee)
 
-abbrev pub with_opened : {K : Type 0} → (k : Ghosts K) → Open K k → World K → List (Channel K)
-with_opened k o w =
-    if may_open k o w
-    then w.channels ++ opened_by k o (settings_of o.funder w.settings) (settings_of o.fundee w.settings) ∷ []
-    else w.channels
-
--- ---- what happens
-
-abbrev pub channels_after : {K : Type 0} → (k : Ghosts K) → Step K k → World K → List (Channel K)
-channels_after k (step.Fees n fees) w = w.channels
-channels_after k (step.Limits n limits) w = w.channels
-channels_after k (step.Open o) w = with_opened k o w
-channels_after k (step.Do e a) w = moved_at k.signer e.channel (act_moves e.node a) w.channels
-channels_after k (step.Down e) w = moved_at k.signer e.channel (fall_moves e.node) w.channels
-channels_after k (step.Up n) w = moved_at k.signer n up_moves w.channels
-
-abbrev pub happens : {K : Type 0} → (k : Ghosts K) → Step K k → World K → World K
-happens k s w = record { settings = settings_after k s w.settings; channels = channels_after k s w }
-
-abbrev pub run : {K : Type 0} → (k : Ghosts K) → List (Step K k) → World K → World K
-run k [] w = w
-run k (s ∷ ss) w = run k ss (happens k s w)
-
 -- ---- what is told of it
 
 abbrev pub place_of : {K : Type 0} → Role → Both K → Place K
@@ -180,20 +113,3 @@ met_lines signer c =
     then greet_lines (end_at c.number c.funder) (greeting signer c.both.x.link)
     ++ greet_lines (end_at c.number c.fundee) (greeting signer c.both.y.link)
     else line.Idle ∷ []
-
--- what is told of a channel that there isn't
-abbrev pub if_there : {K : Type 0} → (Channel K → List Line) → Option (Channel K) → List Line
-if_there f None = line.Idle ∷ []
-if_there f (Some c) = f c
-
-abbrev pub told : {K : Type 0} → (k : Ghosts K) → Step K k → World K → List Line
-told k (step.Fees n fees) w = []
-told k (step.Limits n limits) w = []
-told k (step.Open o) w = if may_open k o w then line.Open o.channel ∷ [] else line.Idle ∷ []
-told k (step.Do e a) w = if_there (λ c. acted_lines k.signer a c (side_of e.node c)) (channel e.channel w.channels)
-told k (step.Down e) w = if_there (λ c. fallen_lines (side_of e.node c)) (channel e.channel w.channels)
-told k (step.Up n) w = if_there (met_lines k.signer) (channel n w.channels)
-
-abbrev pub all_told : {K : Type 0} → (k : Ghosts K) → List (Step K k) → World K → List Line
-all_told k [] w = []
-all_told k (s ∷ ss) w = told k s w ++ all_told k ss (happens k s w)
