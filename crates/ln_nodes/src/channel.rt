@@ -43,8 +43,8 @@ impl<K: ChannelKeys + Copy> Channel<K> {
     ghost use Rattle.ln_keys.specs.declared.role.Role.TheVariants.{Funder, Fundee};
     ghost use Rattle.ln_nodes.specs.Settings.{channel_id_of};
     ghost use Rattle.ln_nodes.specs.Both.{By, Falls, Meet, act_lines, greet_lines, greeting};
-    ghost use Rattle.ln_nodes.specs.Channel.{side_of, moved, act_moves, fall_moves, up_moves, acted_lines, fallen_lines};
-    ghost use Rattle.ln_nodes.specs.Channel.{place_of, end_of, opening_moves, met_lines};
+    ghost use Rattle.ln_nodes.specs.Channel.{side_of, moved, act_moves, fall_moves, up_moves, acted_lines};
+    ghost use Rattle.ln_nodes.specs.Channel.{fallen_lines, place_of, end_of, opening_moves, met_lines};
 
     /// Its number.
     pub fn number(&self) -> u8
