@@ -12,6 +12,7 @@ pub mod Failing
 pub mod State
 pub mod Naming
 pub mod Step
+pub mod Standing
 pub use Rattle.ln_hooks.specs.Event
 pub use Rattle.ln_dance.specs.Dance
 pub use Rattle.ln_close.specs.Closing

@@ -13,6 +13,7 @@ mod opening;
 mod output;
 mod resume;
 mod stage;
+mod standing;
 mod taking;
 
 pub use command::{Command, Mark};
@@ -20,3 +21,4 @@ pub use config::{Config, FitConfig, FitSpec, OpenSpec, Points};
 pub use link::{Line, Link};
 pub use opening::opening_is_agreed;
 pub use output::Output;
+pub use standing::{Life, Standing};

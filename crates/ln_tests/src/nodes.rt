@@ -5,7 +5,7 @@ use ln_bytes::ShortId;
 use ln_keys::ToyKeys;
 use ln_link::Command;
 use ln_msgs::Refusal;
-use ln_nodes::{
+use ln_world::{
     Act, Channel, End, Line, Node, Open, Partners, Settings, Word, may_bring, open_channel,
 };
 use std::alloc::Global;

@@ -1,10 +1,2 @@
-pub mod Adds
-pub mod Flight
-pub mod Flow
-pub mod Steps
-pub mod Runs
-pub mod Answered
-pub mod Lines
-pub mod Told
-pub mod Reports
-pub mod Events
+pub mod Fitting
+pub mod Moving

@@ -1,13 +1,4 @@
-pub mod Ends
-pub mod World
-pub mod Report
-pub mod Told
-pub mod Text
-pub use Rattle.ln_log.specs.Lists
-pub use Rattle.ln_log.specs.Opening
-pub use Rattle.ln_log.specs.Updates
-pub use Rattle.ln_log.specs.View
-pub use Rattle.ln_log.specs.Limits
-pub use Rattle.ln_log.specs.Machine
-pub use Rattle.ln_log.specs.Events
-pub use Rattle.ln_log.specs.Log
+pub mod Settings
+pub mod Lines
+pub mod Both
+pub mod Channel

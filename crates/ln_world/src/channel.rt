@@ -1,201 +1,249 @@
-//! A channel: two ends, and what is in flight between them.
+//! A channel between two nodes.
 
-ghost use Rattle.std.specs.Prelude.{◌≡◌, ◌≤◌, ◌<◌, ◌+◌, ◌^◌, ◌++◌, ◌∷◌, [], length, drop, OnOk, IfOk};
-ghost use Rattle.std.specs.Result.{IsOkUnless};
-ghost use Rattle.ln_log.specs.Opening.{IsFit};
-ghost use Rattle.ln_log.specs.Log.{IsWithin};
-ghost use Rattle.ln_log.specs.Events.{held_events};
-ghost use Rattle.ln_world.specs.Ends.{acts, answer_to};
-ghost use Rattle.ln_world.specs.Report.{sends_lines, event_lines};
-ghost use Rattle.ln_world.specs.Told.{held_of, events_since, end_lines};
+ghost use Rattle.std.specs.Prelude.{◌≡◌, ◌++◌, IfOk, IfErr, OnOk};
+ghost use Rattle.ln_msgs.specs.declared.refusals.refusal.Refusal.TheVariants as refusal;
+ghost use Rattle.ln_world.specs.Settings.{CanBring};
+ghost use Rattle.ln_world.specs.Channel.{opened_by, begun_by};
 
-use crate::answer::Answer;
-use crate::endpoint::{Endpoint, act};
+use crate::both::{Place, act, meet};
 use crate::line::Line;
-use crate::message::Message;
-use crate::step::{Act, End, Node, Ready};
-use ln_log::{Pair, Role, Side, Update};
+use crate::settings::{Settings, fit_config, fit_spec};
+use crate::step::{Act, End, Node, Open};
+use ln_keys::{ChannelKeys, Role};
+use ln_link::Link;
 use ln_msgs::Refusal;
 use std::alloc::Global;
+use std::marker::Model;
 
-/// A channel between two nodes.
-#[derive(Debug, Drop)]
-pub struct Channel {
-    pub number: u8,
-    pub funder_node: Node,
-    pub fundee_node: Node,
-    pub funder: Endpoint,
-    pub fundee: Endpoint,
+/// A channel between two nodes: its two ends, and what is in flight to each.
+#[derive(Drop)]
+pub struct Channel<K: ChannelKeys + Copy> {
+    number: u8,
+    funder_node: Node,
+    fundee_node: Node,
+    funder: Place<K>,
+    fundee: Place<K>,
 }
 
-/// How far an end's report is.
-#[derive(Clone, Copy)]
-struct Mark {
-    said: usize,
-    own: usize,
-    peer: usize,
+impl<K: ChannelKeys + Copy> Model for Channel<K> {
+    ghost use Rattle.ln_world.specs.Channel.{Channel as ChannelState};
+
+    ghost Value = { ChannelState K };
+
+    ghost view = { λ c. record {
+      number = c.number;
+      funder = c.funder_node;
+      fundee = c.fundee_node;
+      both = record { x = c.funder; y = c.fundee };
+    } };
 }
 
-fn mark_of(x: &Endpoint) -> Mark
-    ensures said { result.said ≡ length x.now.said }
-    ensures own { result.own ≡ x.now.log.current.own }
-    ensures peer { result.peer ≡ x.now.log.acknowledged.peer }
-    ensures within { IsWithin x.now.log }
-    ensures fits { result.own + result.peer < 2 ^ 64 }
-{
-    let log = x.log();
-    Mark {
-        said: x.said().len(),
-        own: log.counts(Pair::Current(Side::Own)).own,
-        peer: log.counts(Pair::Current(Side::Peer)).peer,
-    }
-}
+impl<K: ChannelKeys + Copy> Channel<K> {
+    ghost use Rattle.std.specs.Prelude.{◌≡◌, ◌++◌, ◌∷◌, [], OnOk, IfErr, if◌then◌else◌};
+    ghost use Rattle.ln_keys.specs.declared.role.Role.TheVariants.{Funder, Fundee};
+    ghost use Rattle.ln_world.specs.Settings.{channel_id_of};
+    ghost use Rattle.ln_world.specs.Both.{By, Falls, Meet, act_lines, greet_lines, greeting};
+    ghost use Rattle.ln_world.specs.Channel.{side_of, moved, act_moves, fall_moves, up_moves, acted_lines};
+    ghost use Rattle.ln_world.specs.Channel.{fallen_lines, place_of, end_of, opening_moves, met_lines};
 
-fn report_sends(end: End, sent: &[Message], lines: &mut Vec<Line>) -> Result<(), Refusal>
-    ensures ok { OnOk result (lines.new.items ≡ lines.old.items ++ sends_lines end sent.now) }
-    ensures memory { IsOkUnless result Refusal.Memory }
-{
-    for message in sent {
-        lines.push(Line::Sends(end, *message))?;
-    }
-    Ok(())
-}
-
-/// An event is told where it is an HTLC that was offered: nothing else is proposed here. The number of the next one.
-fn report_event(
-    end: End,
-    number: usize,
-    own: bool,
-    update: &Update,
-    lines: &mut Vec<Line>,
-) -> Result<usize, Refusal>
-    requires { number + 1 < 2 ^ 64 }
-    ensures ok { OnOk result (lines.new.items ≡ lines.old.items
-        ++ event_lines end number (held_events own (update.now ∷ []))) }
-    ensures next { IfOk result (λ n. n ≡ number + length (held_events own (update.now ∷ []))) }
-    ensures memory { IsOkUnless result Refusal.Memory }
-{
-    match update {
-        Update::Add(add) => {
-            lines.push(Line::Added(end, number, own, add.id))?;
-            Ok(number + 1)
-        }
-        Update::Fulfil(_) => Ok(number + 1),
-        Update::Fail(_) => Ok(number + 1),
-        Update::Malformed(_) => Ok(number + 1),
-        Update::Fee(_) => Ok(number),
-    }
-}
-
-fn report_events(
-    end: End,
-    first: usize,
-    own: bool,
-    updates: &[Update],
-    lines: &mut Vec<Line>,
-) -> Result<usize, Refusal>
-    requires { first + length updates.now < 2 ^ 64 }
-    ensures ok { OnOk result (lines.new.items ≡ lines.old.items
-        ++ event_lines end first (held_events own updates.now)) }
-    ensures next { IfOk result (λ n. n ≡ first + length (held_events own updates.now)) }
-    ensures memory { IsOkUnless result Refusal.Memory }
-{
-    let mut number = first;
-    for update in updates {
-        number = report_event(end, number, own, update, lines)?;
-    }
-    Ok(number)
-}
-
-/// What an end has sent, and then which events it was told, since it stood at a mark.
-fn report_done(end: End, since: Mark, x: &Endpoint, lines: &mut Vec<Line>) -> Result<(), Refusal>
-    requires said { since.said ≤ length x.now.said }
-    requires own { since.own ≤ held_of Side.Own x.now.log }
-    requires peer { since.peer ≤ held_of Side.Peer x.now.log }
-    ensures ok { OnOk result (lines.new.items ≡ lines.old.items ++ (sends_lines end (drop since.said x.now.said)
-        ++ event_lines end (since.own + since.peer) (events_since since.own since.peer x.now.log))) }
-    ensures memory { IsOkUnless result Refusal.Memory }
-{
-    let now = mark_of(x);
-    report_sends(end, &x.said()[since.said..], lines)?;
-    let own = x.log().between(Side::Own, since.own, now.own);
-    let number = report_events(end, since.own + since.peer, true, own, lines)?;
-    let peer = x.log().between(Side::Peer, since.peer, now.peer);
-    report_events(end, number, false, peer, lines)?;
-    Ok(())
-}
-
-fn move_end(
-    end: End,
-    what: &Act,
-    x: &mut Endpoint,
-    y: &mut Endpoint,
-    lines: &mut Vec<Line>,
-) -> Result<(), Refusal>
-    ensures ok { OnOk result (record { x = x.new; y = y.new } ≡ acts what.now (record { x = x.old; y = y.old })) }
-    ensures told { OnOk result (lines.new.items ≡ lines.old.items
-        ++ end_lines end (answer_to what.now x.old) x.old x.new) }
-    ensures memory { IsOkUnless result Refusal.Memory }
-{
-    let since = mark_of(x);
-    match act(x, y, what)? {
-        Answer::Idle => lines.push(Line::Idle)?,
-        Answer::Refused(refusal) => lines.push(Line::Refused(end, refusal))?,
-        Answer::Done => report_done(end, since, x, lines)?,
-    }
-    Ok(())
-}
-
-impl Channel {
-    ghost use Rattle.std.specs.Prelude.{◌≡◌, ◌++◌, OnOk, IsTrue};
-    ghost use Rattle.std.specs.Result.{IsOkUnless};
-    ghost use Rattle.ln_log.specs.Opening.{IsFit};
-    ghost use Rattle.ln_world.specs.World.{opened_by, side_of, acts_at};
-    ghost use Rattle.ln_world.specs.Told.{told_act};
-
-    /// A channel that was just opened. Takes no memory.
-    pub fn new(alloc: Global, ready: &Ready) -> Channel
-        requires { IsFit ready.now.opening }
-        ensures { result ≡ opened_by ready.now }
+    /// Its number.
+    pub fn number(&self) -> u8
+        ensures { result ≡ self.now.number }
     {
-        Channel {
-            number: ready.channel,
-            funder_node: ready.funder,
-            fundee_node: ready.fundee,
-            funder: Endpoint::new(alloc, Role::Funder, ready.opening),
-            fundee: Endpoint::new(alloc, Role::Fundee, ready.opening),
-        }
+        self.number
     }
 
-    /// Which side of the channel an end is.
-    pub fn side_of(&self, end: &End) -> Option<Role>
-        ensures { result ≡ side_of self.now end.now }
+    /// Which side of it a node is.
+    pub fn side_of(&self, node: Node) -> Option<Role>
+        ensures { result ≡ side_of node self.now }
     {
-        if end.channel != self.number {
-            None
-        } else if end.node == self.funder_node {
+        if self.funder_node.letter == node.letter {
             Some(Role::Funder)
-        } else if end.node == self.fundee_node {
+        } else if self.fundee_node.letter == node.letter {
             Some(Role::Fundee)
         } else {
             None
         }
     }
 
-    /// An end acts, and lines are added that tell of it. 60 where there was no memory.
-    pub fn act(&mut self, end: &End, what: &Act, lines: &mut Vec<Line>) -> Result<(), Refusal>
-        ensures ok { OnOk result (self.new ≡ acts_at (side_of self.old end.now) what.now self.old) }
-        ensures told { OnOk result (lines.new.items
-            ≡ lines.old.items ++ told_act end.now what.now self.old (side_of self.old end.now)) }
-        ensures memory { IsOkUnless result Refusal.Memory }
+    /// One of its ends.
+    pub fn place(&self, side: Role) -> &Place<K>
+        ensures { result.now ≡ place_of side self.now.both }
     {
-        match self.side_of(end) {
+        match side {
+            Role::Funder => &self.funder,
+            Role::Fundee => &self.fundee,
+        }
+    }
+
+    /// The end of one of its sides.
+    pub fn end(&self, side: Role) -> End
+        ensures { result ≡ end_of side self.now }
+    {
+        let node = match side {
+            Role::Funder => self.funder_node,
+            Role::Fundee => self.fundee_node,
+        };
+        End {
+            node,
+            channel: self.number,
+        }
+    }
+
+    /// One of its ends acts. 60 where there is no memory.
+    #[tactic(auto, unfolding(crate::specs::Both::moves))]
+    fn act_by(
+        &mut self,
+        alloc: Global,
+        side: Role,
+        what: Act,
+        lines: &mut Vec<Line>,
+    ) -> Result<(), Refusal>
+        ensures moved { OnOk result (self.new ≡ moved K.signer (λ c. By side what ∷ []) self.old) }
+        ensures told { OnOk result (lines.new.items ≡ lines.old.items ++ act_lines K.signer (end_of side self.old)
+            (channel_id_of self.old.number) what (place_of side self.old.both)) }
+        ensures memory { IfErr result (λ e. e ≡ Refusal.Memory) }
+    {
+        match side {
+            Role::Funder => {
+                let end = End {
+                    node: self.funder_node,
+                    channel: self.number,
+                };
+                act(alloc, end, &mut self.funder, &mut self.fundee, what, lines)
+            }
+            Role::Fundee => {
+                let end = End {
+                    node: self.fundee_node,
+                    channel: self.number,
+                };
+                act(alloc, end, &mut self.fundee, &mut self.funder, what, lines)
+            }
+        }
+    }
+
+    /// The node's end acts, where it has one. 60 where there is no memory.
+    #[tactic(auto, unfolding(crate::specs::Channel::acted_lines))]
+    pub fn act(
+        &mut self,
+        alloc: Global,
+        node: Node,
+        what: Act,
+        lines: &mut Vec<Line>,
+    ) -> Result<(), Refusal>
+        ensures moved { OnOk result (self.new ≡ moved K.signer (act_moves node what) self.old) }
+        ensures told { OnOk result (lines.new.items
+            ≡ lines.old.items ++ acted_lines K.signer what self.old (side_of node self.old)) }
+        ensures memory { IfErr result (λ e. e ≡ Refusal.Memory) }
+    {
+        match self.side_of(node) {
             None => {
                 lines.push(Line::Idle)?;
                 Ok(())
             }
-            Some(Role::Funder) => move_end(*end, what, &mut self.funder, &mut self.fundee, lines),
-            Some(Role::Fundee) => move_end(*end, what, &mut self.fundee, &mut self.funder, lines),
+            Some(side) => self.act_by(alloc, side, what, lines),
         }
     }
+
+    /// The node's end loses its connection, where it has one. 60 where there is no memory.
+    #[tactic(auto, unfolding(crate::specs::Both::moves))]
+    pub fn fall(&mut self, node: Node, lines: &mut Vec<Line>) -> Result<(), Refusal>
+        ensures moved { OnOk result (self.new ≡ moved K.signer (fall_moves node) self.old) }
+        ensures told { OnOk result (lines.new.items ≡ lines.old.items ++ fallen_lines (side_of node self.old)) }
+        ensures memory { IfErr result (λ e. e ≡ Refusal.Memory) }
+    {
+        match self.side_of(node) {
+            None => lines.push(Line::Idle)?,
+            Some(Role::Funder) => self.funder.fall(),
+            Some(Role::Fundee) => self.fundee.fall(),
+        }
+        Ok(())
+    }
+
+    /// Its ends connect, and each of the four messages of the opening is taken by the other end. Nothing is told of it.
+    /// 60 where there is no memory.
+    fn open(&mut self, alloc: Global) -> Result<(), Refusal>
+        ensures moved { OnOk result (self.new ≡ moved K.signer (λ c. opening_moves) self.old) }
+        ensures memory { IfErr result (λ e. e ≡ Refusal.Memory) }
+    {
+        let mut lines = Vec::new(alloc);
+        self.meet(alloc, &mut lines)?;
+        self.act_by(alloc, Role::Fundee, Act::Deliver, &mut lines)?;
+        self.act_by(alloc, Role::Funder, Act::Deliver, &mut lines)?;
+        self.act_by(alloc, Role::Fundee, Act::Deliver, &mut lines)?;
+        self.act_by(alloc, Role::Funder, Act::Deliver, &mut lines)
+    }
+
+    /// Both ends get a connection. 60 where there is no memory.
+    #[tactic(auto, unfolding(crate::specs::Both::moves))]
+    fn meet(&mut self, alloc: Global, lines: &mut Vec<Line>) -> Result<(), Refusal>
+        ensures moved { OnOk result (self.new ≡ moved K.signer (λ c. Meet ∷ []) self.old) }
+        ensures told { OnOk result (lines.new.items ≡ lines.old.items
+            ++ (greet_lines (end_of Funder self.old) (greeting K.signer self.old.both.x.link)
+            ++ greet_lines (end_of Fundee self.old) (greeting K.signer self.old.both.y.link))) }
+        ensures memory { IfErr result (λ e. e ≡ Refusal.Memory) }
+    {
+        let ends = (self.end(Role::Funder), self.end(Role::Fundee));
+        meet(alloc, ends, &mut self.funder, &mut self.fundee, lines)
+    }
+
+    /// Both ends get a connection, where they may. 60 where there is no memory.
+    #[tactic(auto, unfolding(crate::specs::Channel::met_lines))]
+    pub fn come_up(&mut self, alloc: Global, lines: &mut Vec<Line>) -> Result<(), Refusal>
+        ensures moved { OnOk result (self.new
+            ≡ moved K.signer up_moves self.old) }
+        ensures told { OnOk result (lines.new.items ≡ lines.old.items ++ met_lines K.signer self.old) }
+        ensures memory { IfErr result (λ e. e ≡ Refusal.Memory) }
+    {
+        if !(self.funder.may_come_up() && self.fundee.may_come_up()) {
+            lines.push(Line::Idle)?;
+            return Ok(());
+        }
+        self.meet(alloc, lines)
+    }
+}
+
+/// A channel of two new links, which have no connection yet.
+fn begin<K: ChannelKeys + Copy>(
+    alloc: Global,
+    wish: &Open<K>,
+    funder: &Settings,
+    fundee: &Settings,
+) -> Result<Channel<K>, Refusal>
+    requires { CanBring wish.now.satoshis wish.now.push funder.now fundee.now }
+    ensures begun { IfOk result (λ c. c ≡ begun_by K.ChannelKeys wish.now funder.now fundee.now) }
+    ensures memory { IfErr result (λ e. e ≡ refusal.Memory) }
+{
+    let spec = fit_spec(
+        alloc,
+        wish.channel,
+        wish.funder,
+        funder,
+        wish.satoshis,
+        wish.push,
+    )?;
+    let config = fit_config(alloc, wish.fundee, fundee)?;
+    Ok(Channel {
+        number: wish.channel,
+        funder_node: wish.funder,
+        fundee_node: wish.fundee,
+        funder: Place::new(alloc, Link::funder(wish.keys.funder, spec)),
+        fundee: Place::new(alloc, Link::fundee(wish.keys.fundee, config)),
+    })
+}
+
+/// A channel is opened: each of the four messages is taken by the other end. 60 where there is no memory.
+pub fn open_channel<K: ChannelKeys + Copy>(
+    alloc: Global,
+    wish: &Open<K>,
+    funder: &Settings,
+    fundee: &Settings,
+) -> Result<Channel<K>, Refusal>
+    requires { CanBring wish.now.satoshis wish.now.push funder.now fundee.now }
+    ensures opened { IfOk result (λ c. c ≡ opened_by K.ChannelKeys wish.now funder.now fundee.now) }
+    ensures memory { IfErr result (λ e. e ≡ refusal.Memory) }
+{
+    let mut channel = begin(alloc, wish, funder, fundee)?;
+    channel.open(alloc)?;
+    Ok(channel)
 }

@@ -1,21 +1,17 @@
-//! Two sides of a channel and the messages between them, moved step by step.
+//! Channels between two nodes: each end is a link of its own, and what it sends is in flight to the other end (BOLT 2).
 #![tactic(auto)]
 
 mod answer;
+mod both;
 mod channel;
-mod endpoint;
 mod line;
-mod message;
-mod report;
+mod settings;
 mod step;
-mod world;
+mod tell;
 
 pub use answer::Answer;
-pub use channel::Channel;
-pub use endpoint::{Endpoint, act};
-pub use line::Line;
-pub use message::Message;
-pub use step::{Act, Command, End, Node, Offer, Ready, Step};
-pub use world::{
-    World, agreement, events_are_told, headline, never_refused, offers_exactly, signs_exactly,
-};
+pub use both::Place;
+pub use channel::{Channel, open_channel};
+pub use line::{EndLine, Ending, Line, Word};
+pub use settings::{Settings, may_bring};
+pub use step::{Act, End, Node, Open, Partners, Step};

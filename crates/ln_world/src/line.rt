@@ -1,55 +1,102 @@
-//! Lines of a report.
+//! What a step did, line by line.
 
-ghost use Rattle.std.specs.Prelude.{◌≡◌};
-ghost use Rattle.ln_world.specs.Text.{owner_text};
-
-use crate::message::Message;
 use crate::step::End;
+use ln_link::Standing;
 use ln_msgs::Refusal;
-use std::fmt;
+
+/// A message, by what a report tells of it.
+#[derive(Clone, Copy, Debug, PartialEq, Eq)]
+pub enum Word {
+    /// `channel_ready`.
+    ChannelReady,
+    /// `update_add_htlc` with this id.
+    Add(u64),
+    /// `update_fulfill_htlc` of the HTLC with this id.
+    Fulfil(u64),
+    /// `update_fail_htlc` of the HTLC with this id.
+    Fail(u64),
+    /// `update_fail_malformed_htlc` of the HTLC with this id.
+    Malformed(u64),
+    /// `update_fee` to this feerate, in satoshis for 1000 units of weight.
+    Fee(u32),
+    /// `commitment_signed` of the receiver's commitment with this number.
+    Sign(u64),
+    /// `revoke_and_ack` of the sender's commitment with this number.
+    Revoke(u64),
+    /// `channel_reestablish` with these next numbers, of a commitment and of a revocation.
+    Reestablish(u64, u64),
+    /// `shutdown`.
+    Shutdown,
+    /// `closing_signed` with this fee, in satoshis.
+    Closing(u64),
+    /// `warning`.
+    Warning,
+    /// `error`.
+    Error,
+}
+
+/// How an HTLC was removed.
+#[derive(Clone, Copy, Debug, PartialEq, Eq)]
+pub enum Ending {
+    /// It was fulfilled.
+    Fulfilled,
+    /// It has failed.
+    Failed,
+    /// It has failed as its onion couldn't be read.
+    Malformed,
+}
 
 /// A line of a report: what a step did.
-#[derive(Clone, Copy, Debug)]
+#[derive(Clone, Copy, Debug, PartialEq, Eq)]
 pub enum Line {
-    /// A channel was opened.
+    /// The channel with this number was opened.
     Open(u8),
-    /// An end sent word that it is ready.
-    Ready(End),
-    /// An end sent a message.
-    Sends(End, Message),
-    /// An HTLC became irrevocably committed for an end: the number of the event, whether the HTLC is the
-    /// end's own, and its id.
-    Added(End, usize, bool, u64),
-    /// A command or a message was refused.
+    /// An end sent a message, also where the other end is down.
+    Sends(End, Word),
+    /// An HTLC became irrevocably committed for an end.
+    Added {
+        /// The end.
+        end: End,
+        /// The event's number.
+        number: u64,
+        /// Whether this end had offered the HTLC.
+        own: bool,
+        /// The HTLC's id.
+        id: u64,
+    },
+    /// The removal of an HTLC became irrevocably committed for an end.
+    Settled {
+        /// The end.
+        end: End,
+        /// The event's number.
+        number: u64,
+        /// Whether this end had offered the HTLC.
+        own: bool,
+        /// The HTLC's id.
+        id: u64,
+        /// How it was removed.
+        how: Ending,
+    },
+    /// The channel is closed for an end.
+    Closed {
+        /// The end.
+        end: End,
+        /// The event's number.
+        number: u64,
+        /// The fee, in satoshis.
+        fee: u64,
+    },
+    /// A command or a message was refused by an end.
     Refused(End, Refusal),
     /// The step couldn't be taken.
     Idle,
 }
 
-/// Whose HTLC it is that came to be committed.
-fn owner_word(own: bool) -> &'static str
-    ensures { result.now ≡ owner_text own }
-{
-    if own { "own" } else { "peer" }
-}
-
-impl fmt::Display for Line {
-    ghost use Rattle.std.specs.Prelude.{Some};
-    ghost use Rattle.ln_world.specs.Text.{line_text};
-
-    ghost output = { λ l. Some (line_text l) };
-
-    fn fmt<W: fmt::Write>(&self, f: &mut fmt::Formatter<W>) -> fmt::Result {
-        match self {
-            Line::Open(channel) => write!(f, "{channel} open"),
-            Line::Ready(end) => write!(f, "{end} sends channel_ready"),
-            Line::Sends(end, message) => write!(f, "{end} sends {message}"),
-            Line::Added(end, number, own, id) => {
-                let owner = owner_word(*own);
-                write!(f, "{end} event {number} added {owner} {id}")
-            }
-            Line::Refused(end, refusal) => write!(f, "{end} {refusal}"),
-            Line::Idle => write!(f, "idle"),
-        }
-    }
+/// Where an end of a channel stands, as a report ends with.
+#[derive(Clone, Copy, Debug, PartialEq, Eq)]
+pub struct EndLine {
+    /// The end.
+    pub end: End,
+    /// Where it stands.
+    pub standing: Standing,
 }

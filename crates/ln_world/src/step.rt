@@ -1,68 +1,57 @@
-//! What may happen in a world.
+//! What may happen to nodes and channels.
 
-use ln_log::Opening;
-use std::fmt;
+ghost use Rattle.ln_keys.specs.Partners.{ArePartners};
 
-/// A node, named by a letter.
+use ln_close::Fees;
+use ln_keys::ChannelKeys;
+use ln_link::Command;
+use ln_log::Limits;
+
+/// A node, by its letter.
 #[derive(Clone, Copy, Debug, PartialEq, Eq)]
 pub struct Node {
-    pub letter: char,
+    /// The letter, in ASCII. It is also the script of the node's `shutdown`.
+    pub letter: u8,
 }
 
 /// A channel's end at a node.
 #[derive(Clone, Copy, Debug, PartialEq, Eq)]
 pub struct End {
+    /// The node.
     pub node: Node,
+    /// The channel's number.
     pub channel: u8,
 }
 
-impl fmt::Display for End {
-    ghost use Rattle.std.specs.Prelude.{Some};
-    ghost use Rattle.ln_world.specs.Text.{end_text};
-
-    ghost output = { λ e. Some (end_text e) };
-
-    fn fmt<W: fmt::Write>(&self, f: &mut fmt::Formatter<W>) -> fmt::Result {
-        write!(f, "{}{}", self.node.letter, self.channel)
-    }
+/// The keys of a channel's two ends, which are partners: what either signs the other accepts.
+#[derive(Drop)]
+pub struct Partners<K: ChannelKeys + Copy> {
+    /// The keys of the node that opens the channel.
+    pub funder: K,
+    /// The keys of the other node.
+    pub fundee: K,
+    pub ghost partners: { ∥ ArePartners (K.signer funder) (K.signer fundee) ∥₁ },
 }
 
-/// A channel is opened, and both ends are ready.
-#[derive(Clone, Copy, Debug, PartialEq, Eq)]
-pub struct Ready {
+/// A channel is opened (BOLT 2, "Channel Establishment v1").
+#[derive(Drop)]
+pub struct Open<K: ChannelKeys + Copy> {
     /// The channel's number.
     pub channel: u8,
     /// The node that opens and pays for it.
     pub funder: Node,
+    /// The other node.
     pub fundee: Node,
-    /// What both agree on.
-    pub opening: Opening,
-}
-
-/// An HTLC to be offered; its id is the next one.
-#[derive(Clone, Copy, Debug, PartialEq, Eq)]
-pub struct Offer {
-    /// In millisatoshi.
-    pub amount: u64,
-    /// The payment hash.
-    pub hash: [u8; 32],
-    /// The block height at which it times out.
-    pub expiry: u32,
-    /// What the receiver forwards by (BOLT 4).
-    pub onion: [u8; 1366],
-}
-
-/// What a user asks of a channel end.
-#[derive(Clone, Copy, Debug, PartialEq, Eq)]
-pub enum Command {
-    /// Offer an HTLC.
-    Add(Offer),
-    /// Sign what is new.
-    Sign,
+    /// What the funder pays in, in satoshis.
+    pub satoshis: u64,
+    /// What of that the fundee has at first, in msat.
+    pub push: u64,
+    /// The keys of both ends.
+    pub keys: Partners<K>,
 }
 
 /// What a channel end does.
-#[derive(Clone, Copy, Debug, PartialEq, Eq)]
+#[derive(Debug, Drop)]
 pub enum Act {
     /// It takes the oldest message in flight to it.
     Deliver,
@@ -70,12 +59,19 @@ pub enum Act {
     Send(Command),
 }
 
-/// A step of a world. One that can't be taken changes nothing.
-#[derive(Clone, Copy, Debug, PartialEq, Eq)]
-pub enum Step {
-    /// A channel is opened. It can't be where there is one, where both nodes are one, or where the
-    /// opening isn't fit.
-    Ready(Ready),
-    /// An end acts. It can't where there is no such end, or nothing in flight to it.
+/// What may happen in a world of nodes and channels.
+#[derive(Drop)]
+pub enum Step<K: ChannelKeys + Copy> {
+    /// What closing fees a node takes in the channels that are opened from now on.
+    Fees(Node, Fees),
+    /// What a node asks of the HTLCs that it is offered in the channels that are opened from now on.
+    Limits(Node, Limits),
+    /// A channel is opened.
+    Open(Open<K>),
+    /// A channel's end acts.
     Do(End, Act),
+    /// An end loses its connection, and what is in flight to it.
+    Down(End),
+    /// Both ends of the channel with this number get a connection.
+    Up(u8),
 }

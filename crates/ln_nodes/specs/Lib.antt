@@ -1,4 +1,0 @@
-pub mod Settings
-pub mod Lines
-pub mod Both
-pub mod Channel

@@ -1,0 +1,7 @@
+use Rattle.std.proofs.Common.{ap, ◌∙◌}
+use Rattle.ln_world.specs.Channel.{moved, opening_moves}
+use Rattle.ln_world.proofs.channel.open_channel.Goals as goal
+
+pub returns-clause-opened : goal.returns-clause-opened
+returns-clause-opened g c = c.in_ok-open.ensures.moved
+    ∙ ap (moved g.K.ChannelKeys.signer (λ d. opening_moves)) c.in_ok-channel.ensures.begun

@@ -1,0 +1,115 @@
+-- A channel between two nodes: which moves of its two ends an act, the loss of a connection and a new one are, how it
+-- is opened, and what is told of it.
+use Rattle.std.specs.Prelude.{ℕ, List, [], ◌∷◌, ◌++◌, Bool, ◌==◌, ◌&&◌, Option, Some, None, if◌then◌else◌}
+use Rattle.ln_keys.specs.declared.keys.ChannelKeys.{Ghosts}
+use Rattle.ln_keys.specs.declared.role.Role.{Role}
+use Rattle.ln_keys.specs.declared.role.Role.TheVariants.{Funder, Fundee}
+use Rattle.ln_keys.specs.Signer.{Signer}
+use Rattle.ln_link.specs.declared.link.Stage.TheVariants as stage
+use Rattle.ln_link.specs.State.{begun}
+use Rattle.ln_world.specs.declared.step.Act.{Act}
+use Rattle.ln_world.specs.declared.step.Act.TheVariants as act
+use Rattle.ln_world.specs.declared.step.End.{End}
+use Rattle.ln_world.specs.declared.step.Node.{Node}
+use Rattle.ln_world.specs.declared.step.Open.{Open}
+use Rattle.ln_world.specs.declared.settings.Settings.{Settings}
+use Rattle.ln_world.specs.declared.line.Line.{Line}
+use Rattle.ln_world.specs.declared.line.Line.TheVariants as line
+use Rattle.ln_world.specs.Settings.{config_of, spec_of, channel_id_of}
+use Rattle.ln_world.specs.Both.{Both, Place, Move, By, Falls, Meet, act_lines, may_come_up, greet_lines, greeting}
+use Rattle.ln_world.specs.Both.{run as run_both}
+
+pub record Channel (K : Type 0) : Type 0 where
+  pub number : ℕ
+  pub funder : Node
+  pub fundee : Node
+  pub both : Both K  -- the funder's end is x
+
+abbrev pub is_node : Node → Node → Bool
+is_node a b = a.letter == b.letter
+
+-- ---- which moves of a channel a step is
+
+abbrev pub side_of : {K : Type 0} → Node → Channel K → Option Role
+side_of n c = if is_node c.funder n then Some Funder else (if is_node c.fundee n then Some Fundee else None)
+
+abbrev pub by : Option Role → (Role → Move) → List Move
+by None f = []
+by (Some side) f = f side ∷ []
+
+abbrev pub end_at : ℕ → Node → End
+end_at n node = record { node = node; channel = n }
+
+abbrev pub end_of : {K : Type 0} → Role → Channel K → End
+end_of Funder c = end_at c.number c.funder
+end_of Fundee c = end_at c.number c.fundee
+
+-- both ends are down, and neither has halted
+abbrev pub may_meet : {K : Type 0} → Both K → Bool
+may_meet p = may_come_up p.x.link && may_come_up p.y.link
+
+abbrev pub moved : {K : Type 0} → (K → Signer) → (Channel K → List Move) → Channel K → Channel K
+moved signer f c = record {
+  number = c.number;
+  funder = c.funder;
+  fundee = c.fundee;
+  both = run_both signer (channel_id_of c.number) (f c) c.both;
+}
+
+-- the table: which moves of a channel an act, the loss of a connection and a new one are
+abbrev pub act_moves : {K : Type 0} → Node → Act → Channel K → List Move
+act_moves n a c = by (side_of n c) (λ side. By side a)
+
+abbrev pub fall_moves : {K : Type 0} → Node → Channel K → List Move
+fall_moves n c = by (side_of n c) Falls
+
+abbrev pub up_moves : {K : Type 0} → Channel K → List Move
+up_moves c = if may_meet c.both then Meet ∷ [] else []
+
+-- ---- a channel that is opened (BOLT 2, "Channel Establishment v1")
+
+-- a channel of two new links, by what was set for the funder and for the fundee
+abbrev pub begun_by : {K : Type 0} → (k : Ghosts K) → Open K k → Settings → Settings → Channel K
+begun_by k o funder fundee = record {
+  number = o.channel;
+  funder = o.funder;
+  fundee = o.fundee;
+  both = record {
+    x = record {
+      link = begun o.keys.funder (stage.AwaitsAccept
+          (spec_of o.channel (config_of o.funder funder) o.satoshis o.push));
+      inbox = [];
+    };
+    y = record { link = begun o.keys.fundee (stage.AwaitsOpen (config_of o.fundee fundee)); inbox = [] };
+  };
+}
+
+-- they connect, and each of the four messages is taken
+abbrev pub opening_moves : List Move
+opening_moves =
+    Meet ∷ By Fundee act.Deliver ∷ By Funder act.Deliver ∷ By Fundee act.Deliver ∷ By Funder act.Deliver ∷ []
+
+abbrev pub opened_by : {K : Type 0} → (k : Ghosts K) → Open K k → Settings → Settings → Channel K
+opened_by k o funder fundee = moved k.signer (λ c. opening_moves) (begun_by k o funder fundee)
+
+-- ---- what is told of it
+
+abbrev pub place_of : {K : Type 0} → Role → Both K → Place K
+place_of Funder p = p.x
+place_of Fundee p = p.y
+
+unfoldable pub acted_lines : {K : Type 0} → (K → Signer) → Act → Channel K → Option Role → List Line
+acted_lines signer a c None = line.Idle ∷ []
+acted_lines signer a c (Some side) =
+    act_lines signer (end_of side c) (channel_id_of c.number) a (place_of side c.both)
+
+abbrev pub fallen_lines : Option Role → List Line
+fallen_lines None = line.Idle ∷ []
+fallen_lines (Some side) = []
+
+unfoldable pub met_lines : {K : Type 0} → (K → Signer) → Channel K → List Line
+met_lines signer c =
+    if may_meet c.both
+    then greet_lines (end_at c.number c.funder) (greeting signer c.both.x.link)
+    ++ greet_lines (end_at c.number c.fundee) (greeting signer c.both.y.link)
+    else line.Idle ∷ []
