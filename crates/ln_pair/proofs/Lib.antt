@@ -8,6 +8,8 @@ pub mod Telling
 pub mod Resume
 pub mod TellingAgain
 pub mod Ending
+pub mod Closing
+pub mod Answering
 pub mod Images
 pub mod Rows
 pub mod Steps
