@@ -10,9 +10,11 @@ pub mod TellingAgain
 pub mod Ending
 pub mod Closing
 pub mod Answering
+pub mod Deals
 pub mod Images
 pub mod Rows
 pub mod Steps
+pub mod Begins
 pub mod Resends
 pub mod Breaks
 pub mod Turns
