@@ -231,7 +231,7 @@ module _ (k : Signer) (f : Fees) where
   no_updates [] m n = n
   no_updates (u ∷ us) m n = no_updates us m n
 
-  when_none : (b : Bool) (ms : List Notice) → NoCloses ms → NoCloses (cond b ms [])
+  pub when_none : (b : Bool) (ms : List Notice) → NoCloses ms → NoCloses (cond b ms [])
   when_none true ms n = n
   when_none false ms n = tt
 
@@ -249,7 +249,7 @@ module _ (k : Signer) (f : Fees) where
   ordered_none true ms ns n o = no-append ms ns n o
   ordered_none false ms ns n o = no-append ns ms o n
 
-  owed_none : (n r : ℕ) (x : Side) → NoCloses (owed n r x)
+  pub owed_none : (n r : ℕ) (x : Side) → NoCloses (owed n r x)
   owed_none n r x = ordered_none x.late (signature_owed n x) (revocation_owed r x)
       (when_none ((n == x.signatures) && (x.signatures == x.revocations + 1)) (again_signed x)
       (no_updates (drop x.acked.own (take x.signed.own x.own)) (Sign x.signature) tt))

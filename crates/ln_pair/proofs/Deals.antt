@@ -7,14 +7,12 @@ use Rattle.ln_msgs.specs.declared.messages.closing.ClosingSigned.{ClosingSigned}
 use Rattle.ln_msgs.specs.declared.messages.closing.Shutdown.{Shutdown as ShutdownMessage}
 use Rattle.ln_msgs.specs.declared.refusals.refusal.Refusal.{Refusal}
 use Rattle.ln_msgs.specs.declared.refusals.refusal.Refusal.TheVariants as refusal
-use Rattle.ln_keys.specs.declared.role.Role.{Role}
 use Rattle.ln_keys.specs.Signer.{Signer}
 use Rattle.ln_log.specs.declared.update.Update.{Update as Change}
 use Rattle.ln_log.specs.declared.update.Update.TheVariants as update
 use Rattle.ln_log.specs.Updates.{next_id}
 use Rattle.ln_dance.specs.Dance.{with_next_point}
 use Rattle.ln_dance.specs.Messages.{update_message}
-use Rattle.ln_close.specs.declared.closing.Fees.{Fees}
 use Rattle.ln_close.specs.declared.closing.Closing.{Closing}
 use Rattle.ln_link.specs.declared.command.Command.{Command}
 use Rattle.ln_link.specs.declared.command.Command.TheVariants as command
@@ -32,37 +30,44 @@ use Rattle.ln_close.specs.declared.closing.Answer.{Answer}
 use Rattle.ln_close.specs.declared.closing.Answer.TheVariants as answer
 use Rattle.ln_close.specs.Closing.{may_start, started, after_shut, after, answer_to}
 use Rattle.ln_link.specs.End.{has_begun, settled, answers_shutdown, owes_shutdown, completed, end_dropped, shutdown_message}
-use Rattle.ln_link.specs.Taking.{answered, range_in, completed_row}
+use Rattle.ln_bytes.specs.Tlv.{value_of}
+use Rattle.ln_close.specs.Closing.{is_funder}
+use Rattle.ln_link.specs.End.{fee_range}
+use Rattle.ln_link.specs.Taking.{answered, range_of, range_in, completed_row}
+use Rattle.ln_pair.proofs.Agreed.{Deal, Offer}
 use Rattle.ln_link.specs.Commands.{shuts_down, shut_fault, unready_fault}
 use Rattle.ln_keys.specs.declared.role.Role.TheVariants.{Funder, Fundee}
 use Rattle.ln_pair.specs.Ends.{messages_in, met_again, message_at, command_at, Ends, turned, answers, delivers, Act, Deliver}
 use Rattle.ln_pair.specs.Ends.{Give, Lose, acts, connects, Step, By, Connect, happens, run}
 use Rattle.ln_pair.specs.Promises.{is_closing_signed}
 
--- what an end has said and heard of the closing fee
-pub record Deal : Type 0 where
-  pub role : Role
-  pub fees : Fees
-  pub bid : Option ℕ  -- the last fee that it sent
-  pub heard : Option ℕ  -- the last one that it took
-  pub closed : Option ℕ
+-- the range that an end tells
+abbrev pub told_range : Closing → Option (ℕ × ℕ)
+told_range c = range_of (value_of 1 (fee_range c ∷ []))
 
 abbrev pub deal_of : Closing → Deal
-deal_of c = record { role = c.role; fees = c.fees; bid = c.own_fee; heard = c.peer_fee; closed = c.closed }
+deal_of c = record {
+  funder = is_funder c.role;
+  fees = c.fees;
+  range = told_range c;
+  bid = c.own_fee;
+  heard = c.peer_fee;
+  closed = c.closed;
+}
 
--- the closing_signed among messages
-abbrev pub bid_in : Message → List ClosingSigned
-bid_in (message.ClosingSigned m) = m ∷ []
-bid_in m = []
+-- the closing fees among messages
+abbrev pub offer_in : Message → List Offer
+offer_in (message.ClosingSigned m) = record { fee = m.fee_satoshis; range = range_in m } ∷ []
+offer_in m = []
 
-abbrev pub bids : List Message → List ClosingSigned
-bids [] = []
-bids (m ∷ ms) = bid_in m ++ bids ms
+abbrev pub offers_in : List Message → List Offer
+offers_in [] = []
+offers_in (m ∷ ms) = offer_in m ++ offers_in ms
 
 -- a turn that leaves them alone
 pub record IsAside (e : End) (t : Turn) : Type 0 where
   pub deal : deal_of t.end.closing ≡ deal_of e.closing
-  pub none : bids (messages_in t.handed.sent) ≡ []
+  pub none : offers_in (messages_in t.handed.sent) ≡ []
 
 abbrev pub Aside : End → Result Turn Refusal → Type 0
 Aside e (Ok t) = IsAside e t
@@ -115,7 +120,7 @@ aside_message k (message.UpdateFee m) e h = aside_unless _ _ e (record { deal = 
 aside_message k (message.UpdateFailMalformedHtlc m) e h = aside_unless _ _ e (record { deal = refl; none = refl })
 aside_message k (message.ChannelReestablish m) e h = tt
 
-no_bid : (channel : List ℕ) (u : Change) → bid_in (update_message channel u) ≡ []
+pub no_bid : (channel : List ℕ) (u : Change) → offer_in (update_message channel u) ≡ []
 no_bid channel (update.Add d) = refl
 no_bid channel (update.Fulfil d) = refl
 no_bid channel (update.Fail d) = refl

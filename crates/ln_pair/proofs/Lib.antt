@@ -10,7 +10,9 @@ pub mod TellingAgain
 pub mod Ending
 pub mod Closing
 pub mod Answering
+pub mod Agreed
 pub mod Deals
+pub mod Rules
 pub mod Images
 pub mod Rows
 pub mod Steps
@@ -20,4 +22,5 @@ pub mod Breaks
 pub mod Turns
 pub mod Runs
 pub mod Opens
+pub mod Prices
 pub mod Promised
