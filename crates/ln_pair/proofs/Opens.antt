@@ -9,6 +9,7 @@ use Rattle.ln_keys.specs.declared.role.Role.TheVariants.{Funder, Fundee}
 use Rattle.ln_keys.specs.Role.{other_role}
 use Rattle.ln_keys.specs.Signer.{Signer}
 use Rattle.ln_close.specs.declared.closing.Fees.{Fees}
+use Rattle.ln_close.specs.Closing as closing
 use Rattle.ln_link.specs.declared.config.Config.{Config}
 use Rattle.ln_link.specs.declared.config.OpenSpec.{OpenSpec}
 use Rattle.ln_link.specs.declared.opening.Opened.{Opened}
@@ -104,6 +105,10 @@ holds_first a b c f g t u eo et eu ep eq = record {
     told = record { there = told a b Funder Fundee c c f g t u; back = told b a Fundee Funder c c g f u t };
     ended = ended a b Funder Fundee c c f g t u;
     ended_back = ended b a Fundee Funder c c g f u t;
+    closes = tt;
+    closes_back = tt;
+    x_signs = tt;
+    y_signs = tt;
     x_channel = refl;
     y_channel = refl;
     x_knows = knows b Funder Fundee c c f g t u ep et;
@@ -164,3 +169,23 @@ opened_holds a b s c funder fundee o =
     (subst (λ e. Holds a b (opened (opened_by Funder funder.dance.channel funder.closing.fees funder.terms) e)) y_here
     (holds_first a b funder.dance.channel funder.closing.fees fundee.closing.fees funder.terms fundee.terms same x_none
     y_none x_point y_point))
+
+-- no closing fee was said or heard of yet
+pub record AreFresh (funder fundee : Opened) : Type 0 where
+  pub funder_is : funder.closing ≡ closing.opened Funder funder.closing.fees
+  pub fundee_is : fundee.closing ≡ closing.opened Fundee fundee.closing.fees
+
+pub opened_fresh : (a b : Signer) (s : OpenSpec) (c : Config) (funder fundee : Opened) → Opens a b s c funder fundee
+    → AreFresh funder fundee
+opened_fresh a b s c funder fundee o =
+    let funder_so : funder_end a s o.accept ≡ funder =
+    ap (λ (p : Opened × FundingCreated). p.0) (was_given (accept_fault s o.accept) (
+      funder_end a s o.accept,
+      created_message a s o.accept,
+    ) (funder, o.created) o.accept_channel) in
+    let fundee_so : fundee_end o.agreement o.created ≡ fundee =
+    ap (λ p. p.0) (was_given (created_fault b o.agreement o.created) _ _ o.funding_created) in
+    record {
+      funder_is = subst (λ (x : Opened). x.closing ≡ closing.opened Funder x.closing.fees) funder_so refl;
+      fundee_is = subst (λ (x : Opened). x.closing ≡ closing.opened Fundee x.closing.fees) fundee_so refl;
+    }
