@@ -13,5 +13,5 @@ pub use answer::Answer;
 pub use both::Place;
 pub use channel::{Channel, open_channel};
 pub use line::{EndLine, Ending, Line, Word};
-pub use settings::{Settings, may_bring};
+pub use settings::{Setting, Settings, may_bring};
 pub use step::{Act, End, Node, Open, Partners, Step};

@@ -23,6 +23,15 @@ pub struct Settings {
     pub limits: Limits,
 }
 
+/// What was set for a node.
+#[derive(Clone, Copy, Debug, PartialEq, Eq)]
+pub struct Setting {
+    /// The node.
+    pub node: Node,
+    /// What it opens channels with.
+    pub settings: Settings,
+}
+
 impl Settings {
     ghost use Rattle.std.specs.Prelude.{◌≡◌, IsTrue};
     ghost use Rattle.ln_close.specs.Closing.{AreOrdered};
