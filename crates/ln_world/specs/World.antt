@@ -1,7 +1,6 @@
 -- Nodes with what was set for them, the channels between them, what a step makes of them, and what is told of it.
-use Rattle.std.specs.Prelude.{◌≡◌, ℕ, List, [], ◌∷◌, ◌++◌, map, flat_map, Bool, not, ◌==◌, ◌&&◌, ⊤}
+use Rattle.std.specs.Prelude.{◌≡◌, ℕ, zero, suc, List, [], ◌∷◌, ◌++◌, map, Bool, not, ◌==◌, ◌&&◌, ⊤}
 use Rattle.std.specs.Prelude.{Option, Some, None, is_none, if◌then◌else◌}
-use Rattle.std.specs.List.{range_with_len}
 use Rattle.ln_keys.specs.declared.keys.ChannelKeys.{Ghosts}
 use Rattle.ln_keys.specs.declared.role.Role.TheVariants.{Funder, Fundee}
 use Rattle.ln_keys.specs.Signer.{Signer}
@@ -127,10 +126,10 @@ lines_of_ends (Some c) =
     ∷ record { end = end_of Fundee c; standing = standing c.both.y.link }
     ∷ []
 
--- of the channels with n numbers, from the first on
-abbrev pub end_lines_from : {K : Type 0} → ℕ → ℕ → List (Channel K) → List EndLine
-end_lines_from first n cs = flat_map (λ number. lines_of_ends (channel number cs)) (range_with_len first n)
+-- of the channels with a number below n, in the order of their numbers
+unfoldable pub end_lines_below : {K : Type 0} → ℕ → List (Channel K) → List EndLine
+end_lines_below zero cs = []
+end_lines_below (suc n) cs = end_lines_below n cs ++ lines_of_ends (channel n cs)
 
--- channels in the order of their numbers
 abbrev pub end_lines : {K : Type 0} → World K → List EndLine
-end_lines w = end_lines_from 0 256 w.channels
+end_lines w = end_lines_below 256 w.channels

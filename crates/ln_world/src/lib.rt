@@ -4,10 +4,12 @@
 mod answer;
 mod both;
 mod channel;
+mod channels;
 mod line;
 mod settings;
 mod step;
 mod tell;
+mod world;
 
 pub use answer::Answer;
 pub use both::Place;
@@ -15,3 +17,4 @@ pub use channel::{Channel, open_channel};
 pub use line::{EndLine, Ending, Line, Word};
 pub use settings::{Setting, Settings, may_bring};
 pub use step::{Act, End, Node, Open, Partners, Step};
+pub use world::World;
