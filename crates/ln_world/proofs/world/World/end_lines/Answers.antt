@@ -25,7 +25,8 @@ returns-clause-lines g c =
       | then-loop-number-test+in_ok-tell_ends+else-number-lt255 w ↦
           let last : suc n ≡ 256 = omega (arith, c.loop-number.auto.number-end) in
           ap (λ l. l.items) w.lines-is
-          ∙ one_below n c.args.self.now.channels c.loop-number.lines.items w.tell_ends.new.lines.items c.loop-number.invariant
+          ∙ one_below n c.args.self.now.channels c.loop-number.lines.items w.tell_ends.new.lines.items
+          c.loop-number.invariant
           (w.in_ok-tell_ends.ensures.told
           ∙ ap (λ (v : World _). c.loop-number.lines.items ++ lines_of_ends (channel n v.channels)) c.self.view_is)
           ∙ ap (λ k. end_lines_below k c.args.self.now.channels) last
