@@ -1,2 +1,4 @@
 pub mod Fitting
 pub mod Moving
+pub mod Places
+pub mod Worlds

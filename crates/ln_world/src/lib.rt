@@ -4,14 +4,17 @@
 mod answer;
 mod both;
 mod channel;
+mod channels;
 mod line;
 mod settings;
 mod step;
 mod tell;
+mod world;
 
 pub use answer::Answer;
 pub use both::Place;
 pub use channel::{Channel, open_channel};
 pub use line::{EndLine, Ending, Line, Word};
-pub use settings::{Settings, may_bring};
+pub use settings::{Setting, Settings, may_bring};
 pub use step::{Act, End, Node, Open, Partners, Step};
+pub use world::World;
