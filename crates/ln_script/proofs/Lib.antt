@@ -1,4 +1,6 @@
 pub mod Words
+pub mod Partners
+pub mod Onions
 pub mod Script
 pub mod FirstBad
 pub mod Shown

@@ -1,20 +1,19 @@
 -- Reading a script line by line: what was read, and then what the rest asks for.
 use Rattle.std.proofs.Common.{◌≡◌, ℕ, ◌+◌, ◌<◌, ◌≤◌, List, [], ◌∷◌, ◌++◌, length, get_or, drop, Option}
-use Rattle.std.proofs.Common.{Some, None, Result, Ok, Err, true, false, refl, sym, ap, ◌∙◌, arith, append_assoc}
+use Rattle.std.proofs.Common.{Some, None, Result, Ok, Err, refl, sym, ap, ◌∙◌, arith, append_assoc}
 use Rattle.std.proofs.Common.{append-nil, add-one}
 use Rattle.std.specs.Borrow.{Bor}
 use Rattle.std.proofs.Math.Seq.{drop-cons}
 use Rattle.std.proofs.lemmas.List.{drop_all, get_or-map, length-map}
-use Rattle.ln_world.specs.declared.step.Step.{Step}
-use Rattle.ln_script.specs.Step.{texts, step_at}
-use Rattle.ln_script.specs.Script.{words, is_skipped, line_at, behind, line_then, steps_from}
+use Rattle.ln_script.specs.Step.{texts, ToyStep, if_good, joined}
+use Rattle.ln_script.specs.Script.{line_at, behind, line_then, steps_from}
 
-behind_nothing : (r : Result (List Step) ℕ) → behind [] r ≡ r
+behind_nothing : (r : Result (List ToyStep) ℕ) → behind [] r ≡ r
 behind_nothing (Ok ts) = refl
 behind_nothing (Err n) = refl
 
-behind_both : (ss ts : List Step) (r : Result (List Step) ℕ) → behind ss (behind ts r) ≡ behind (ss ++ ts) r
-behind_both ss ts (Ok us) = ap (λ (vs : List Step). let it : Result (List Step) ℕ = Ok vs in
+behind_both : (ss ts : List ToyStep) (r : Result (List ToyStep) ℕ) → behind ss (behind ts r) ≡ behind (ss ++ ts) r
+behind_both ss ts (Ok us) = ap (λ (vs : List ToyStep). let it : Result (List ToyStep) ℕ = Ok vs in
     it) (sym (append_assoc ss ts us))
 behind_both ss ts (Err n) = refl
 
@@ -36,57 +35,48 @@ front : (n : ℕ) (xs : List (List ℕ)) (i : ℕ) → i < length xs
 front n xs i within = ap (λ (ls : List (List ℕ)). steps_from n ls) (cut_at xs i within)
     ∙ one_line n (get_or xs i []) (drop (i + 1) xs)
 
-pub first_lines : (ss : List Step) (xs ls : List (List ℕ)) → ss ≡ [] → xs ≡ ls
+pub first_lines : (ss : List ToyStep) (xs ls : List (List ℕ)) → ss ≡ [] → xs ≡ ls
     → steps_from 1 ls ≡ behind ss (steps_from 1 xs)
 first_lines ss xs ls none same = ap (λ (it : List (List ℕ)). steps_from 1 it) (sym same)
-    ∙ sym (behind_nothing (steps_from 1 xs)) ∙ ap (λ (it : List Step). behind it (steps_from 1 xs)) (sym none)
+    ∙ sym (behind_nothing (steps_from 1 xs)) ∙ ap (λ (it : List ToyStep). behind it (steps_from 1 xs)) (sym none)
 
--- ---- what becomes of a line
-
-skipped : (l : List ℕ) → is_skipped l ≡ true → line_at l ≡ Some []
-skipped l e = rw e refl
-
-stepped : (l : List ℕ) (s : Step) → is_skipped l ≡ false → step_at (words l) ≡ Some s → line_at l ≡ Some (s ∷ [])
-stepped l s e f = rw (e, f) refl
-
-bad : (l : List ℕ) → is_skipped l ≡ false → step_at (words l) ≡ None → line_at l ≡ None
-bad l e f = rw (e, f) refl
+some_is : (ss ts : List ToyStep) → (let it : Option (List ToyStep) = Some ss in it) ≡ Some ts → ts ≡ ss
+some_is ss ts e = cc
 
 -- r is what the script asks for: these steps, and what the lines from this place on do
-abbrev Reads : Result (List Step) ℕ → List Step → List (List ℕ) → ℕ → Type 0
+abbrev Reads : Result (List ToyStep) ℕ → List ToyStep → List (List ℕ) → ℕ → Type 0
 Reads r ss xs i = r ≡ behind ss (steps_from (i + 1) (drop i xs))
 
 -- the same with the line of this place told
-told : (r : Result (List Step) ℕ) (ss : List Step) (xs : List (List ℕ)) (i : ℕ) (l : List ℕ) (o : Option (List Step))
+told : (r : Result (List ToyStep) ℕ) (ss : List ToyStep) (xs : List (List ℕ)) (i : ℕ) (l : List ℕ) (o : Option (List ToyStep))
     → Reads r ss xs i → i < length xs → l ≡ get_or xs i [] → line_at l ≡ o
     → r ≡ behind ss (line_then (i + 1) o (steps_from (i + 1 + 1) (drop (i + 1) xs)))
 told r ss xs i l o reads within is e =
     reads ∙ ap (behind ss) (front (i + 1) xs i within
-    ∙ ap (λ (x : Option (List Step)). line_then (i + 1) x (steps_from (i + 1 + 1) (drop (i + 1) xs)))
+    ∙ ap (λ (x : Option (List ToyStep)). line_then (i + 1) x (steps_from (i + 1 + 1) (drop (i + 1) xs)))
     (ap line_at (sym is) ∙ e))
 
-pub after_skipped : (r : Result (List Step) ℕ) (ss : List Step) (xs : List (List ℕ)) (i : ℕ) (l : List ℕ)
-    → Reads r ss xs i → i < length xs → l ≡ get_or xs i [] → is_skipped l ≡ true → Reads r ss xs (i + 1)
-after_skipped r ss xs i l reads within is e =
-    told r ss xs i l (Some []) reads within is (skipped l e)
-    ∙ ap (behind ss) (behind_nothing (steps_from (i + 1 + 1) (drop (i + 1) xs)))
+-- behind a line, whose steps joined the others where it is good
+pub after_line : (r : Result (List ToyStep) ℕ) (ss ts : List ToyStep) (xs : List (List ℕ)) (i : ℕ) (l : List ℕ)
+    → (o : Option (List ToyStep)) → Reads r ss xs i → i < length xs → l ≡ get_or xs i [] → line_at l ≡ o
+    → Some ts ≡ joined ss o → Reads r ts xs (i + 1)
+after_line r ss ts xs i l None reads within is e good = absurd cc
+after_line r ss ts xs i l (Some us) reads within is e good =
+    told r ss xs i l (Some us) reads within is e
+    ∙ behind_both ss us (steps_from (i + 1 + 1) (drop (i + 1) xs))
+    ∙ ap (λ (vs : List ToyStep). behind vs (steps_from (i + 1 + 1) (drop (i + 1) xs))) (some_is ts (ss ++ us) good)
 
-pub after_step : (r : Result (List Step) ℕ) (ss : List Step) (xs : List (List ℕ)) (i : ℕ) (l : List ℕ) (s : Step)
-    → Reads r ss xs i → i < length xs → l ≡ get_or xs i [] → is_skipped l ≡ false → step_at (words l) ≡ Some s
-    → Reads r (ss ++ s ∷ []) xs (i + 1)
-after_step r ss xs i l s reads within is e f =
-    told r ss xs i l (Some (s ∷ [])) reads within is (stepped l s e f)
-    ∙ behind_both ss (s ∷ []) (steps_from (i + 1 + 1) (drop (i + 1) xs))
+pub at_bad : (r : Result (List ToyStep) ℕ) (ss : List ToyStep) (xs : List (List ℕ)) (i : ℕ) (l : List ℕ)
+    → (o : Option (List ToyStep)) → Reads r ss xs i → i < length xs → l ≡ get_or xs i [] → line_at l ≡ o
+    → None ≡ joined ss o → r ≡ Err (i + 1)
+at_bad r ss xs i l None reads within is e bad = told r ss xs i l None reads within is e
+at_bad r ss xs i l (Some us) reads within is e bad = absurd cc
 
-pub at_bad : (r : Result (List Step) ℕ) (ss : List Step) (xs : List (List ℕ)) (i : ℕ) (l : List ℕ) → Reads r ss xs i
-    → i < length xs → l ≡ get_or xs i [] → is_skipped l ≡ false → step_at (words l) ≡ None → r ≡ Err (i + 1)
-at_bad r ss xs i l reads within is e f = told r ss xs i l None reads within is (bad l e f)
-
-pub at_end : (r : Result (List Step) ℕ) (ss : List Step) (xs : List (List ℕ)) (i : ℕ) → Reads r ss xs i
+pub at_end : (r : Result (List ToyStep) ℕ) (ss : List ToyStep) (xs : List (List ℕ)) (i : ℕ) → Reads r ss xs i
     → length xs ≤ i → r ≡ Ok ss
 at_end r ss xs i reads all =
     reads ∙ ap (λ (ls : List (List ℕ)). behind ss (steps_from (i + 1) ls)) (drop_all i xs all)
-    ∙ ap (behind ss) (no_line (i + 1)) ∙ ap (λ (vs : List Step). let it : Result (List Step) ℕ = Ok vs in
+    ∙ ap (behind ss) (no_line (i + 1)) ∙ ap (λ (vs : List ToyStep). let it : Result (List ToyStep) ℕ = Ok vs in
     it) (append-nil ss)
 
 -- ---- the texts of pieces

@@ -1,7 +1,8 @@
 -- Numbers of a script are what the library parses, where nothing stands in front of them.
 use Rattle.std.proofs.Common.{◌≡◌, ◌≢◌, ℕ, ◌^◌, ◌<◌, List, [], ◌∷◌, length, Option, Some, None, Result, Ok}
 use Rattle.std.proofs.Common.{Err, true, false, not, ◌==◌, ◌+◌, is_some, nat_lt, refl, sym, ap}
-use Rattle.std.proofs.Common.{subst, ◌∙◌, arith, inl, inr}
+use Rattle.std.proofs.Common.{subst, ◌∙◌, ◌%◌, arith, inl, inr, mod-eq_of_lt}
+use Rattle.std.specs.Coded.{le_prop}
 use Rattle.std.specs.Result.{result_ok}
 use Rattle.std.specs.Char.{is_ascii_digit}
 use Rattle.std.specs.Str.{all_ascii_digits}
@@ -10,9 +11,11 @@ use Rattle.std.proofs.lemmas.Str.Parse.{IsNumeralModel, numerals_by_value, tells
 use Rattle.std.proofs.lemmas.Bool.{cases_Bool, and_parts, and_from, and_right}
 use Rattle.std.proofs.lemmas.Bool.Decides.{nat_tests}
 use Rattle.ln_bytes.specs.ShortId.{IsPlain}
-use Rattle.std.specs.List.{position_or_len, after_first}
+use Rattle.std.specs.List.{position_or_len}
 use Rattle.std.proofs.lemmas.List.{drop_all}
-use Rattle.ln_script.specs.Word.{is_decimal, decimal_at, number_at, is_short_id}
+use Rattle.ln_bytes.specs.declared.short_id.ShortId.{ShortId}
+use Rattle.ln_script.specs.Word.{◌>>=◌, is_decimal, decimal_at, number_at, cut_below, id_of, before_x}
+use Rattle.ln_script.specs.Word.{after_x, short_id_at}
 
 own : IsNumeralModel (λ ds. all_ascii_digits ds ≡ true) (digits_value 10)
 own = numerals_by_value (λ ds. all_ascii_digits ds ≡ true) tells_all_ascii_digits
@@ -97,23 +100,61 @@ number_is {E = E} w (Err e) o is h plain =
 
 -- ---- short channel ids
 
-nothing_after : (w : List ℕ) → position_or_len (λ b. b == 120) w ≡ length w → after_first (λ b. b == 120) w ≡ []
+no_number : (w : List ℕ) → w ≡ [] → number_at 65535 w ≡ None
+unfolding decimal_at
+no_number w e = rw e refl
+
+nothing_after : (w : List ℕ) → position_or_len (λ b. b == 120) w ≡ length w → after_x w ≡ []
 nothing_after w e = drop_all (position_or_len (λ b. b == 120) w + 1) w (omega (arith, e))
 
-none_left : (w rest : List ℕ) → rest ≡ [] → is_some (number_at 65535 rest) ≡ false
-unfolding decimal_at
-none_left w rest e = rw e refl
+-- an id whose last number is missing
+abbrev third_of : Option ℕ → Option ℕ → Option ℕ → Option ShortId
+third_of a b c = do
+  block ← a
+  tx ← b
+  output ← c
+  Some (id_of block tx output)
 
-none_twice : (w rest : List ℕ) → rest ≡ [] → is_some (number_at 65535 (after_first (λ b. b == 120) rest)) ≡ false
-unfolding decimal_at
-none_twice w rest e = rw e refl
+no_third : (a b : Option ℕ) → third_of a b None ≡ None
+no_third None b = refl
+no_third (Some x) None = refl
+no_third (Some x) (Some y) = refl
 
-pub no_first_x : (w : List ℕ) → position_or_len (λ b. b == 120) w ≡ length w → is_short_id w ≡ false
-unfolding is_short_id
-no_first_x w e = and_right _ _ (none_twice w (after_first (λ b. b == 120) w) (nothing_after w e))
+as_third : (w : List ℕ) → number_at 65535 (after_x (after_x w)) ≡ None → short_id_at w ≡ None
+unfolding short_id_at
+as_third w e =
+    ap (third_of (number_at 16777215 (before_x w)) (number_at 16777215 (before_x (after_x w)))) e
+    ∙ no_third (number_at 16777215 (before_x w)) (number_at 16777215 (before_x (after_x w)))
 
-pub no_second_x : (w rest : List ℕ) → rest ≡ after_first (λ b. b == 120) w
-    → position_or_len (λ b. b == 120) rest ≡ length rest → is_short_id w ≡ false
-unfolding is_short_id
-no_second_x w rest is e = and_right _ _ (none_left w (after_first (λ b. b == 120) (after_first (λ b. b == 120) w))
-    (ap (λ (r : List ℕ). after_first (λ b. b == 120) r) (sym is) ∙ nothing_after rest e))
+after_nothing : (w : List ℕ) → w ≡ [] → after_x w ≡ []
+after_nothing w e = rw e refl
+
+pub no_first_x : (w : List ℕ) → position_or_len (λ b. b == 120) w ≡ length w → short_id_at w ≡ None
+no_first_x w e = as_third w (no_number (after_x (after_x w)) (after_nothing (after_x w) (nothing_after w e)))
+
+pub no_second_x : (w rest : List ℕ) → rest ≡ after_x w → position_or_len (λ b. b == 120) rest ≡ length rest
+    → short_id_at w ≡ None
+no_second_x w rest is e =
+    as_third w (no_number (after_x (after_x w)) (ap (λ (r : List ℕ). after_x r) (sym is) ∙ nothing_after rest e))
+
+-- ---- numbers that fit
+
+abbrev as_id : (b t o : ℕ) → b < 2 ^ 24 → t < 2 ^ 24 → ShortId
+as_id b t o p q = record { block = b; tx = t; output = o; block_fits = p; tx_fits = q }
+
+-- ids of the same numbers are the same: that numbers fit is shown in one way
+from_block : (b c t o : ℕ) (p : b < 2 ^ 24) (q : t < 2 ^ 24) → b ≡ c → (r : c < 2 ^ 24)
+    → as_id b t o p q ≡ as_id c t o r q
+from_block b c t o p q e = subst (λ (x : ℕ). (r : x < 2 ^ 24) → as_id b t o p q ≡ as_id x t o r q) e
+    (λ r. ap (λ (s : b < 2 ^ 24). as_id b t o s q) (le_prop p r))
+
+from_tx : (b t u o : ℕ) (p : b < 2 ^ 24) (q : t < 2 ^ 24) → t ≡ u → (r : u < 2 ^ 24)
+    → as_id b t o p q ≡ as_id b u o p r
+from_tx b t u o p q e = subst (λ (x : ℕ). (r : x < 2 ^ 24) → as_id b t o p q ≡ as_id b x o p r) e
+    (λ r. ap (λ (s : t < 2 ^ 24). as_id b t o p s) (le_prop q r))
+
+pub id_is : (b t o : ℕ) (p : b < 2 ^ 24) (q : t < 2 ^ 24) → as_id b t o p q ≡ id_of b t o
+unfolding id_of
+id_is b t o p q =
+    from_block b (b % 2 ^ 24) t o p q (sym (mod-eq_of_lt p)) (cut_below 24 b)
+    ∙ from_tx (b % 2 ^ 24) t (t % 2 ^ 24) o (cut_below 24 b) q (sym (mod-eq_of_lt q)) (cut_below 24 t)

@@ -1,5 +1,9 @@
 pub mod Word
+pub mod Keys
+pub mod Onion
+pub mod Command
 pub mod Step
 pub mod Script
+pub mod LineText
 pub mod MessageText
 pub mod Shown

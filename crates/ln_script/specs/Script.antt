@@ -2,10 +2,7 @@
 use Rattle.std.specs.Prelude.{◌≡◌, ℕ, ◌+◌, List, [], ◌∷◌, ◌++◌, Bool, true, ◌==◌, Option, Some, None, Result, Ok}
 use Rattle.std.specs.Prelude.{Err, if◌then◌else◌, length, is_some}
 use Rattle.std.specs.List.{slice_split}
-use Rattle.std.specs.Option.{option_map}
-use Rattle.ln_world.specs.declared.step.Step.{Step}
-use Rattle.ln_world.specs.Text.{steps_text}
-use Rattle.ln_script.specs.Step.{step_at}
+use Rattle.ln_script.specs.Step.{ToyStep, steps_at}
 
 -- what stands between line feeds
 abbrev pub lines : List ℕ → List (List ℕ)
@@ -20,25 +17,25 @@ abbrev pub is_skipped : List ℕ → Bool
 is_skipped [] = true
 is_skipped (b ∷ bs) = b == 35
 
--- the steps that a line asks for: one, or none where it is skipped; None for a line that is bad
-abbrev pub line_at : List ℕ → Option (List Step)
-line_at l = if is_skipped l then Some [] else option_map (λ s. s ∷ []) (step_at (words l))
+-- the steps that a line asks for, none where it is skipped; None for a line that is bad
+abbrev pub line_at : List ℕ → Option (List ToyStep)
+line_at l = if is_skipped l then Some [] else steps_at (words l)
 
 -- steps in front of what is read further on
-abbrev pub behind : List Step → Result (List Step) ℕ → Result (List Step) ℕ
+abbrev pub behind : List ToyStep → Result (List ToyStep) ℕ → Result (List ToyStep) ℕ
 behind ss (Ok ts) = Ok (ss ++ ts)
 behind ss (Err n) = Err n
 
 -- what lines ask for, of which the first has this number; or the number of the first that is bad
-abbrev pub line_then : ℕ → Option (List Step) → Result (List Step) ℕ → Result (List Step) ℕ
+abbrev pub line_then : ℕ → Option (List ToyStep) → Result (List ToyStep) ℕ → Result (List ToyStep) ℕ
 line_then n None rest = Err n
 line_then n (Some ss) rest = behind ss rest
 
-unfoldable pub steps_from : ℕ → List (List ℕ) → Result (List Step) ℕ
+unfoldable pub steps_from : ℕ → List (List ℕ) → Result (List ToyStep) ℕ
 steps_from n [] = Ok []
 steps_from n (l ∷ ls) = line_then n (line_at l) (steps_from (n + 1) ls)
 
-abbrev pub script_at : List ℕ → Result (List Step) ℕ
+abbrev pub script_at : List ℕ → Result (List ToyStep) ℕ
 script_at text = steps_from 1 (lines text)
 
 -- ---- the first bad line
@@ -57,13 +54,3 @@ pub record IsFirstBad (ls : List (List ℕ)) (n : ℕ) : Type 0 where
   pub number : n ≡ length before + 1
   pub good : AreGood before
   pub is_bad : line_at bad ≡ None
-
--- ---- what a script is printed as
-
-abbrev pub told_by : Result (List Step) ℕ → Result (List ℕ) ℕ
-told_by (Ok steps) = Ok (steps_text steps)
-told_by (Err line) = Err line
-
--- the report of its steps, or the number of its first bad line
-abbrev pub simulated : List ℕ → Result (List ℕ) ℕ
-simulated text = told_by (script_at text)

@@ -1,96 +1,190 @@
--- The step of a script's line, by its words.
-use Rattle.std.specs.Prelude.{ℕ, List, [], ◌∷◌, map, codes, replicate, Option, Some, None, if◌then◌else◌}
+-- The steps of a script's line, by its words.
+use Rattle.std.specs.Prelude.{ℕ, List, [], ◌∷◌, ◌++◌, map, codes, Bool, true, false, Option, Some, None, ◌&&◌}
+use Rattle.std.specs.Prelude.{nat_le, if◌then◌else◌}
 use Rattle.std.specs.Borrow.{Bor}
 use Rattle.std.specs.Str.{bytes_eq}
-use Rattle.ln_log.specs.declared.opening.Limits.{Limits}
-use Rattle.ln_log.specs.declared.opening.Opening.{Opening}
-use Rattle.ln_world.specs.declared.step.Offer.{Offer}
-use Rattle.ln_world.specs.declared.step.Command.TheVariants as command
+use Rattle.ln_bytes.specs.declared.short_id.ShortId.{ShortId}
+use Rattle.ln_keys.specs.declared.toy_keys.ToyKeys.{ToyKeys}
+use Rattle.ln_link.specs.declared.command.Command.TheVariants as command
+use Rattle.ln_world.specs.declared.step.Act.{Act}
 use Rattle.ln_world.specs.declared.step.Act.TheVariants as act
+use Rattle.ln_world.specs.declared.step.End.{End}
+use Rattle.ln_world.specs.declared.step.Node.{Node}
+use Rattle.ln_world.specs.declared.step.Open.{Open}
 use Rattle.ln_world.specs.declared.step.Step.{Step}
 use Rattle.ln_world.specs.declared.step.Step.TheVariants as step
-use Rattle.ln_script.specs.Word.{◌>>=◌, decimal_at, number_at, node_at, end_at, is_short_id}
+use Rattle.ln_script.specs.Word.{◌>>=◌, decimal_at, number_at, node_at, end_at, short_id_at}
+use Rattle.ln_script.specs.Keys.{toy, partners_of}
+use Rattle.ln_script.specs.Command.{command_at}
 
 -- the bytes of each word
 abbrev pub texts : List (Bor (List ℕ)) → List (List ℕ)
 texts words = map (λ w. w.now) words
 
--- what every node asks of the HTLCs that it is offered
-abbrev pub limits : Limits
-limits = record { minimum = 1; accepted = 30; in_flight = 1000000000000; reserve = 0 }
+abbrev pub ToyStep : Type 0
+ToyStep = Step ToyKeys toy
 
-abbrev pub opening_of : ℕ → ℕ → Opening
-opening_of satoshis push = record { satoshis = satoshis; push = push; feerate = 253; funder = limits; fundee = limits }
+-- ---- what a node sets
 
--- an HTLC whose payment hash is 32 bytes of this value
-unfoldable pub offer_of : ℕ → ℕ → ℕ → Offer
-offer_of amount expiry payment =
-    record { amount = amount; hash = replicate 32 payment; expiry = expiry; onion = replicate 1366 0 }
-
--- ---- what each line asks for
-
-unfoldable pub ready_step : List ℕ → List ℕ → List ℕ → List ℕ → List ℕ → List ℕ → Option Step
-ready_step c x y satoshis push id =
-    if is_short_id id
-    then (do
-      channel ← number_at 99 c
-      funder ← node_at x
-      fundee ← node_at y
-      funding ← decimal_at satoshis
-      pushed ← decimal_at push
-      Some (step.Ready (record {
-        channel = channel;
-        funder = funder;
-        fundee = fundee;
-        opening = opening_of funding pushed;
-      })))
+-- fees that rise from the least to the most
+abbrev pub fees_if : Node → ℕ → ℕ → ℕ → Option ToyStep
+fees_if node first least most =
+    if nat_le least first && nat_le first most
+    then Some (step.Fees node (record { first = first; least = least; greatest = most }))
     else None
 
-unfoldable pub add_step : List ℕ → List ℕ → List ℕ → List ℕ → Option Step
-add_step e amount expiry n = do
+-- set X fees FIRST LEAST MOST
+unfoldable pub fees_at : Node → List ℕ → List ℕ → List ℕ → Option ToyStep
+fees_at node f l m = do
+  first ← decimal_at f
+  least ← decimal_at l
+  most ← decimal_at m
+  fees_if node first least most
+
+-- set X limits MINIMUM ACCEPTED INFLIGHT RESERVE
+unfoldable pub limits_at : Node → List ℕ → List ℕ → List ℕ → List ℕ → Option ToyStep
+limits_at node m a i r = do
+  minimum ← decimal_at m
+  accepted ← number_at 65535 a
+  in_flight ← decimal_at i
+  reserve ← decimal_at r
+  Some (step.Limits node (record {
+    minimum = minimum;
+    accepted = accepted;
+    in_flight = in_flight;
+    reserve = reserve;
+  }))
+
+abbrev pub fees_line : Node → List (List ℕ) → Option ToyStep
+fees_line node (f ∷ l ∷ m ∷ []) = fees_at node f l m
+fees_line node _ = None
+
+abbrev pub limits_line : Node → List (List ℕ) → Option ToyStep
+limits_line node (m ∷ a ∷ i ∷ r ∷ []) = limits_at node m a i r
+limits_line node _ = None
+
+abbrev pub setting_at : Node → List ℕ → List (List ℕ) → Option ToyStep
+setting_at node w ws =
+    if bytes_eq w (codes "fees") then fees_line node ws
+    else (if bytes_eq w (codes "limits") then limits_line node ws else None)
+
+abbrev pub set_line : List (List ℕ) → Option ToyStep
+set_line (x ∷ w ∷ ws) = do
+  node ← node_at x
+  setting_at node w ws
+set_line _ = None
+
+-- ---- a channel is opened
+
+-- open C X Y SATOSHIS PUSH
+unfoldable pub opening_at : List ℕ → List ℕ → List ℕ → List ℕ → List ℕ → Option (Open ToyKeys toy)
+opening_at c x y s p = do
+  channel ← number_at 99 c
+  funder ← node_at x
+  fundee ← node_at y
+  satoshis ← decimal_at s
+  push ← decimal_at p
+  Some (record {
+    channel = channel;
+    funder = funder;
+    fundee = fundee;
+    satoshis = satoshis;
+    push = push;
+    keys = partners_of channel;
+  })
+
+abbrev pub open_line : List (List ℕ) → Option ToyStep
+open_line (c ∷ x ∷ y ∷ s ∷ p ∷ []) = do
+  opening ← opening_at c x y s p
+  Some (step.Open opening)
+open_line _ = None
+
+-- ---- what an end does
+
+-- up C
+abbrev pub up_line : List (List ℕ) → Option ToyStep
+up_line (c ∷ []) = do
+  channel ← number_at 99 c
+  Some (step.Up channel)
+up_line _ = None
+
+-- down E
+abbrev pub down_line : List (List ℕ) → Option ToyStep
+down_line (e ∷ []) = do
   end ← end_at e
-  offered ← decimal_at amount
-  height ← number_at 4294967295 expiry
-  payment ← number_at 255 n
-  Some (step.Do end (act.Send (command.Add (offer_of offered height payment))))
-
-abbrev pub sign_step : List ℕ → Option Step
-sign_step e = do
-  end ← end_at e
-  Some (step.Do end (act.Send command.Sign))
-
-abbrev pub deliver_step : List ℕ → Option Step
-deliver_step e = do
-  end ← end_at e
-  Some (step.Do end act.Deliver)
-
--- ---- the lines
-
--- ready C X Y SATOSHIS PUSH BxTxO
-abbrev pub ready_at : List (List ℕ) → Option Step
-ready_at (c ∷ x ∷ y ∷ satoshis ∷ push ∷ id ∷ []) = ready_step c x y satoshis push id
-ready_at _ = None
-
--- add E AMOUNT EXPIRY N
-abbrev pub add_at : List (List ℕ) → Option Step
-add_at (e ∷ amount ∷ expiry ∷ n ∷ []) = add_step e amount expiry n
-add_at _ = None
-
--- sign E
-abbrev pub sign_at : List (List ℕ) → Option Step
-sign_at (e ∷ []) = sign_step e
-sign_at _ = None
+  Some (step.Down end)
+down_line _ = None
 
 -- deliver E
-abbrev pub deliver_at : List (List ℕ) → Option Step
-deliver_at (e ∷ []) = deliver_step e
-deliver_at _ = None
+abbrev pub deliver_line : List (List ℕ) → Option ToyStep
+deliver_line (e ∷ []) = do
+  end ← end_at e
+  Some (step.Do end act.Deliver)
+deliver_line _ = None
 
--- the step of a line: its first word says which
-abbrev pub step_at : List (List ℕ) → Option Step
-step_at [] = None
-step_at (w ∷ ws) =
-    if bytes_eq w (codes "ready") then ready_at ws
-    else (if bytes_eq w (codes "add") then add_at ws
-    else (if bytes_eq w (codes "sign") then sign_at ws
-    else (if bytes_eq w (codes "deliver") then deliver_at ws else None)))
+-- a command's word, E, and what the command asks for
+unfoldable pub command_line : List ℕ → List (List ℕ) → Option ToyStep
+command_line w (e ∷ ws) = do
+  end ← end_at e
+  command ← command_at end.node w ws
+  Some (step.Do end (act.Send command))
+command_line w [] = None
+
+-- ---- the step of a line: its first word says which
+
+unfoldable pub step_at : List ℕ → List (List ℕ) → Option ToyStep
+step_at w ws =
+    if bytes_eq w (codes "set") then set_line ws
+    else (if bytes_eq w (codes "open") then open_line ws
+    else (if bytes_eq w (codes "up") then up_line ws
+    else (if bytes_eq w (codes "down") then down_line ws
+    else (if bytes_eq w (codes "deliver") then deliver_line ws else command_line w ws))))
+
+-- ---- the steps of a line
+
+abbrev pub confirms : ℕ → Node → ShortId → ToyStep
+confirms channel node id = step.Do (record { node = node; channel = channel }) (act.Send (command.Confirm id))
+
+abbrev pub delivers : ℕ → Node → ToyStep
+delivers channel node = step.Do (record { node = node; channel = channel }) act.Deliver
+
+-- the channel is opened, both ends confirm it, and each takes what the other sends of that
+unfoldable pub ready_steps : Open ToyKeys toy → ShortId → List ToyStep
+ready_steps o id =
+    step.Open o
+    ∷ confirms o.channel o.funder id
+    ∷ confirms o.channel o.fundee id
+    ∷ delivers o.channel o.fundee
+    ∷ delivers o.channel o.funder
+    ∷ []
+
+-- ready C X Y SATOSHIS PUSH BxTxO
+abbrev pub ready_line : List (List ℕ) → Option (List ToyStep)
+ready_line (c ∷ x ∷ y ∷ s ∷ p ∷ i ∷ []) = do
+  opening ← opening_at c x y s p
+  id ← short_id_at i
+  Some (ready_steps opening id)
+ready_line _ = None
+
+abbrev pub one_step : Option ToyStep → Option (List ToyStep)
+one_step None = None
+one_step (Some s) = Some (s ∷ [])
+
+unfoldable pub word_line : List ℕ → List (List ℕ) → Option (List ToyStep)
+word_line w ws = if bytes_eq w (codes "ready") then ready_line ws else one_step (step_at w ws)
+
+abbrev pub steps_at : List (List ℕ) → Option (List ToyStep)
+steps_at [] = None
+steps_at (w ∷ ws) = word_line w ws
+
+-- ---- the steps that were read so far
+
+-- where the last line was good
+abbrev pub if_good : Bool → List ToyStep → Option (List ToyStep)
+if_good true ss = Some ss
+if_good false ss = None
+
+-- those of a line join them
+abbrev pub joined : List ToyStep → Option (List ToyStep) → Option (List ToyStep)
+joined ss None = None
+joined ss (Some ts) = Some (ss ++ ts)

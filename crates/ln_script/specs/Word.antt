@@ -1,9 +1,12 @@
--- The words of a script's line: numbers, nodes, channel ends, short channel ids.
-use Rattle.std.specs.Prelude.{ℕ, ◌^◌, List, [], ◌∷◌, Bool, false, not, ◌&&◌, ◌==◌, nat_le, nat_lt}
-use Rattle.std.specs.Prelude.{Option, Some, None, option_and_then, if◌then◌else◌, is_some}
+-- The words of a script's line: numbers, nodes, channel ends, short channel ids, failure codes.
+use Rattle.std.specs.Prelude.{ℕ, ◌+◌, ◌-◌, ◌*◌, ◌%◌, ◌^◌, ◌<◌, List, [], ◌∷◌, Bool, false, not, ◌&&◌, ◌==◌}
+use Rattle.std.specs.Prelude.{nat_le, nat_lt, Option, Some, None, option_and_then, if◌then◌else◌}
+use Rattle.std.proofs.Common.{mod-lt, lit≤}
+use Rattle.std.proofs.Math.Nat.{one-le-pow}
 use Rattle.std.specs.List.{before_first, after_first}
 use Rattle.std.specs.Str.{all_ascii_digits}
 use Rattle.std.specs.Str.Parse.{digits_value}
+use Rattle.ln_bytes.specs.declared.short_id.ShortId.{ShortId}
 use Rattle.ln_world.specs.declared.step.Node.{Node}
 use Rattle.ln_world.specs.declared.step.End.{End}
 
@@ -45,10 +48,47 @@ end_at (b ∷ digits) =
       Some (record { node = record { letter = b }; channel = channel }))
     else None
 
--- BLOCKxTXxOUTPUT (BOLT 7, "Definition of short_channel_id"); 120 is the code of x
-unfoldable pub is_short_id : List ℕ → Bool
-is_short_id w =
-    let rest = after_first (λ b. b == 120) w in
-    is_some (number_at 16777215 (before_first (λ b. b == 120) w))
-    && is_some (number_at 16777215 (before_first (λ b. b == 120) rest))
-    && is_some (number_at 65535 (after_first (λ b. b == 120) rest))
+-- a number cut to so many bits is below that power of two
+pub cut_below : (bits n : ℕ) → n % 2 ^ bits < 2 ^ bits
+cut_below bits n = mod-lt n (one-le-pow bits 2 (lit≤ tt))
+
+-- a short channel id of these numbers, which fit their fields
+unfoldable pub id_of : ℕ → ℕ → ℕ → ShortId
+id_of block tx output = record {
+  block = block % 2 ^ 24;
+  tx = tx % 2 ^ 24;
+  output = output;
+  block_fits = cut_below 24 block;
+  tx_fits = cut_below 24 tx;
+}
+
+-- what stands before the first x, and behind it; 120 is the code of x
+abbrev pub before_x : List ℕ → List ℕ
+before_x w = before_first (λ b. b == 120) w
+
+abbrev pub after_x : List ℕ → List ℕ
+after_x w = after_first (λ b. b == 120) w
+
+-- BLOCKxTXxOUTPUT (BOLT 7, "Definition of short_channel_id")
+unfoldable pub short_id_at : List ℕ → Option ShortId
+short_id_at w = do
+  block ← number_at 16777215 (before_x w)
+  tx ← number_at 16777215 (before_x (after_x w))
+  output ← number_at 65535 (after_x (after_x w))
+  Some (id_of block tx output)
+
+-- a digit 0 to 9 or a to f
+abbrev pub digit_at : ℕ → Option ℕ
+digit_at b =
+    if nat_le 48 b && nat_le b 57 then Some (b - 48)
+    else (if nat_le 97 b && nat_le b 102 then Some (b - 87) else None)
+
+-- four such digits
+abbrev pub code_at : List ℕ → Option ℕ
+code_at (a ∷ b ∷ c ∷ d ∷ []) = do
+  p ← digit_at a
+  q ← digit_at b
+  r ← digit_at c
+  s ← digit_at d
+  Some (p * 4096 + q * 256 + r * 16 + s)
+code_at _ = None

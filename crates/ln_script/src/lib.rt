@@ -1,8 +1,13 @@
-//! Texts: scripts, the steps of a world, a line a step; the printing of a world's report; messages as text.
+//! Texts: scripts, the steps of nodes and channels, a line a step; a report of what they did; messages as text.
 #![tactic(auto)]
 
+mod command;
+mod hop;
+mod keys;
 mod laws;
+mod line;
 mod message;
+mod onion;
 mod print;
 mod reading;
 mod step;
@@ -10,5 +15,5 @@ mod word;
 
 pub use laws::first_bad_line;
 pub use message::message_text;
-pub use print::{print_all, print_report};
+pub use print::print_all;
 pub use reading::read_script;

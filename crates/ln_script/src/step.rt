@@ -1,134 +1,318 @@
-//! The step of a line.
+//! The steps of a line.
 
-ghost use Rattle.std.specs.Prelude.{◌≡◌};
-ghost use Rattle.ln_script.specs.Word.{is_short_id as short_id_test};
-ghost use Rattle.ln_script.specs.Step.{texts, opening_of, offer_of, ready_step, add_step, sign_step, deliver_step};
-ghost use Rattle.ln_script.specs.Step.{step_at};
+ghost use Rattle.std.specs.Prelude.{◌≡◌, ◌++◌, IfOk, IfErr, OnOk};
+ghost use Rattle.ln_msgs.specs.declared.refusals.refusal.Refusal.TheVariants as refusal;
+ghost use Rattle.ln_script.specs.Step.{texts, fees_at, limits_at, fees_line, limits_line, setting_at, set_line};
+ghost use Rattle.ln_script.specs.Step.{opening_at, open_line, up_line, down_line, deliver_line, command_line};
+ghost use Rattle.ln_script.specs.Step.{step_at, confirms, delivers, ready_steps, ready_line, one_step, word_line};
+ghost use Rattle.ln_script.specs.Step.{steps_at, if_good, joined};
 
-use crate::word::{decimal_of, end_of, node_of, number_of};
-use ln_log::{Limits, Opening};
-use ln_world::{Act, Command, Offer, Ready, Step};
+use crate::command::command_of;
+use crate::keys::partners_of;
+use crate::word::{channel_of, decimal_of, end_of, node_of, number_of, short_id_of};
+use ln_bytes::ShortId;
+use ln_close::Fees;
+use ln_keys::ToyKeys;
+use ln_link::Command;
+use ln_log::Limits;
+use ln_msgs::Refusal;
+use ln_world::{Act, End, Node, Open, Step};
+use std::alloc::Global;
 
-/// The feerate that channels open at, in satoshi per 1000 weight.
-const FEERATE: u32 = 253;
-
-/// What every node asks of the HTLCs that it is offered.
-const LIMITS: Limits = Limits {
-    minimum: 1,
-    accepted: 30,
-    in_flight: 1_000_000_000_000,
-    reserve: 0,
-};
-
-/// The opening of a channel with this funding, in satoshi, of which the funder pushes so much, in millisatoshi.
-fn opening(satoshis: u64, push: u64) -> Opening
-    ensures { result ≡ opening_of satoshis push }
+/// set X fees FIRST LEAST MOST
+#[tactic(auto, unfolding(crate::specs::Step::fees_at))]
+fn fees(node: Node, first: &str, least: &str, most: &str) -> Option<Step<ToyKeys>>
+    ensures { result ≡ fees_at node first.now least.now most.now }
 {
-    Opening {
-        satoshis,
-        push,
-        feerate: FEERATE,
-        funder: LIMITS,
-        fundee: LIMITS,
+    let first = decimal_of(first)?;
+    let least = decimal_of(least)?;
+    let greatest = decimal_of(most)?;
+    if least <= first && first <= greatest {
+        Some(Step::Fees(
+            node,
+            Fees {
+                first,
+                least,
+                greatest,
+            },
+        ))
+    } else {
+        None
     }
 }
 
-#[tactic(auto, unfolding(crate::specs::Word::is_short_id))]
-/// Whether a word is a short channel id.
-fn is_short_id(word: &str) -> bool
-    ensures { result ≡ short_id_test word.now }
+/// set X limits MINIMUM ACCEPTED INFLIGHT RESERVE
+#[tactic(auto, unfolding(crate::specs::Step::limits_at))]
+fn limits(
+    node: Node,
+    minimum: &str,
+    accepted: &str,
+    in_flight: &str,
+    reserve: &str,
+) -> Option<Step<ToyKeys>>
+    ensures { result ≡ limits_at node minimum.now accepted.now in_flight.now reserve.now }
 {
-    let Some((block, rest)) = word.split_once('x') else {
-        return false;
-    };
-    let Some((tx, output)) = rest.split_once('x') else {
-        return false;
-    };
-    number_of(block, 0xff_ffff).is_some()
-        && number_of(tx, 0xff_ffff).is_some()
-        && number_of(output, 0xffff).is_some()
+    let minimum = decimal_of(minimum)?;
+    let accepted = number_of(accepted, 0xffff)?;
+    let in_flight = decimal_of(in_flight)?;
+    let reserve = decimal_of(reserve)?;
+    Some(Step::Limits(
+        node,
+        Limits {
+            minimum,
+            accepted: accepted as u16,
+            in_flight,
+            reserve,
+        },
+    ))
 }
 
-/// A channel is opened, and both ends are ready.
-#[tactic(auto, unfolding(crate::specs::Step::ready_step))]
-fn ready(
+fn fees_line(node: Node, words: &[&str]) -> Option<Step<ToyKeys>>
+    ensures { result ≡ fees_line node (texts words.now) }
+{
+    match words {
+        [first, least, most] => fees(node, first, least, most),
+        _ => None,
+    }
+}
+
+fn limits_line(node: Node, words: &[&str]) -> Option<Step<ToyKeys>>
+    ensures { result ≡ limits_line node (texts words.now) }
+{
+    match words {
+        [minimum, accepted, in_flight, reserve] => {
+            limits(node, minimum, accepted, in_flight, reserve)
+        }
+        _ => None,
+    }
+}
+
+fn setting_of(node: Node, word: &str, words: &[&str]) -> Option<Step<ToyKeys>>
+    ensures { result ≡ setting_at node word.now (texts words.now) }
+{
+    match word {
+        "fees" => fees_line(node, words),
+        "limits" => limits_line(node, words),
+        _ => None,
+    }
+}
+
+fn set_line(words: &[&str]) -> Option<Step<ToyKeys>>
+    ensures { result ≡ set_line (texts words.now) }
+{
+    match words {
+        [node, word, rest @ ..] => setting_of(node_of(node)?, word, rest),
+        _ => None,
+    }
+}
+
+/// open C X Y SATOSHIS PUSH
+#[tactic(auto, unfolding(crate::specs::Step::opening_at))]
+fn opening_of(
     channel: &str,
     funder: &str,
     fundee: &str,
     satoshis: &str,
     push: &str,
-    id: &str,
-) -> Option<Step>
-    ensures { result ≡ ready_step channel.now funder.now fundee.now satoshis.now push.now id.now }
+) -> Option<Open<ToyKeys>>
+    ensures { result ≡ opening_at channel.now funder.now fundee.now satoshis.now push.now }
 {
-    if !is_short_id(id) {
-        return None;
-    }
-    let channel = number_of(channel, 99)?;
+    let channel = channel_of(channel)?;
     let funder = node_of(funder)?;
     let fundee = node_of(fundee)?;
     let satoshis = decimal_of(satoshis)?;
     let push = decimal_of(push)?;
-    Some(Step::Ready(Ready {
-        channel: channel as u8,
+    Some(Open {
+        channel,
         funder,
         fundee,
-        opening: opening(satoshis, push),
-    }))
+        satoshis,
+        push,
+        keys: partners_of(channel),
+    })
 }
 
-/// An HTLC whose payment hash is 32 bytes of this value.
-#[tactic(auto, unfolding(crate::specs::Step::offer_of))]
-fn offer(amount: u64, expiry: u32, payment: u8) -> Offer
-    ensures { result ≡ offer_of amount expiry payment }
+fn open_line(words: &[&str]) -> Option<Step<ToyKeys>>
+    ensures { result ≡ open_line (texts words.now) }
 {
-    Offer {
-        amount,
-        hash: [payment; 32],
-        expiry,
-        onion: [0; 1366],
+    match words {
+        [channel, funder, fundee, satoshis, push] => Some(Step::Open(opening_of(
+            channel, funder, fundee, satoshis, push,
+        )?)),
+        _ => None,
     }
 }
 
-/// An end offers an HTLC.
-#[tactic(auto, unfolding(crate::specs::Step::add_step))]
-fn add(end: &str, amount: &str, expiry: &str, payment: &str) -> Option<Step>
-    ensures { result ≡ add_step end.now amount.now expiry.now payment.now }
+/// up C
+fn up_line(words: &[&str]) -> Option<Step<ToyKeys>>
+    ensures { result ≡ up_line (texts words.now) }
 {
-    let end = end_of(end)?;
-    let amount = decimal_of(amount)?;
-    let expiry = number_of(expiry, 0xffff_ffff)?;
-    let payment = number_of(payment, 255)?;
-    let offer = offer(amount, expiry as u32, payment as u8);
-    Some(Step::Do(end, Act::Send(Command::Add(offer))))
-}
-
-/// An end signs.
-fn sign(end: &str) -> Option<Step>
-    ensures { result ≡ sign_step end.now }
-{
-    Some(Step::Do(end_of(end)?, Act::Send(Command::Sign)))
-}
-
-/// An end takes the next message.
-fn deliver(end: &str) -> Option<Step>
-    ensures { result ≡ deliver_step end.now }
-{
-    Some(Step::Do(end_of(end)?, Act::Deliver))
-}
-
-/// The step of a line's words, where they are one.
-pub(crate) fn step_of(words: &[&str]) -> Option<Step>
-    ensures { result ≡ step_at (texts words.now) }
-{
-    let [first, rest @ ..] = words else {
-        return None;
-    };
-    match (*first, rest) {
-        ("ready", [channel, x, y, satoshis, push, id]) => ready(channel, x, y, satoshis, push, id),
-        ("add", [end, amount, expiry, payment]) => add(end, amount, expiry, payment),
-        ("sign", [end]) => sign(end),
-        ("deliver", [end]) => deliver(end),
+    match words {
+        [channel] => Some(Step::Up(channel_of(channel)?)),
         _ => None,
+    }
+}
+
+/// down E
+fn down_line(words: &[&str]) -> Option<Step<ToyKeys>>
+    ensures { result ≡ down_line (texts words.now) }
+{
+    match words {
+        [end] => Some(Step::Down(end_of(end)?)),
+        _ => None,
+    }
+}
+
+/// deliver E
+fn deliver_line(words: &[&str]) -> Option<Step<ToyKeys>>
+    ensures { result ≡ deliver_line (texts words.now) }
+{
+    match words {
+        [end] => Some(Step::Do(end_of(end)?, Act::Deliver)),
+        _ => None,
+    }
+}
+
+/// A command's word, E, and what the command asks for.
+#[tactic(auto, unfolding(crate::specs::Step::command_line))]
+fn command_line(
+    alloc: Global,
+    word: &str,
+    words: &[&str],
+) -> Result<Option<Step<ToyKeys>>, Refusal>
+    ensures step { IfOk result (λ o. o ≡ command_line word.now (texts words.now)) }
+    ensures memory { IfErr result (λ e. e ≡ refusal.Memory) }
+{
+    let [end, rest @ ..] = words else {
+        return Ok(None);
+    };
+    let Some(end) = end_of(end) else {
+        return Ok(None);
+    };
+    match command_of(alloc, end.node, word, rest)? {
+        Some(command) => Ok(Some(Step::Do(end, Act::Send(command)))),
+        None => Ok(None),
+    }
+}
+
+/// The step of a line's first word and those behind it, where they are one. 60 where there is no memory.
+#[tactic(auto, unfolding(crate::specs::Step::step_at))]
+fn step_of(alloc: Global, word: &str, words: &[&str]) -> Result<Option<Step<ToyKeys>>, Refusal>
+    ensures step { IfOk result (λ o. o ≡ step_at word.now (texts words.now)) }
+    ensures memory { IfErr result (λ e. e ≡ refusal.Memory) }
+{
+    match word {
+        "set" => Ok(set_line(words)),
+        "open" => Ok(open_line(words)),
+        "up" => Ok(up_line(words)),
+        "down" => Ok(down_line(words)),
+        "deliver" => Ok(deliver_line(words)),
+        _ => command_line(alloc, word, words),
+    }
+}
+
+/// An end that confirms a channel.
+fn confirms(channel: u8, node: Node, id: ShortId) -> Step<ToyKeys>
+    ensures { result ≡ confirms channel node id }
+{
+    Step::Do(End { node, channel }, Act::Send(Command::Confirm(id)))
+}
+
+/// An end that takes a message.
+fn delivers(channel: u8, node: Node) -> Step<ToyKeys>
+    ensures { result ≡ delivers channel node }
+{
+    Step::Do(End { node, channel }, Act::Deliver)
+}
+
+/// A channel is opened, both ends confirm it, and each takes what the other sends of that.
+#[tactic(auto, unfolding(crate::specs::Step::ready_steps))]
+fn push_ready(
+    opening: Open<ToyKeys>,
+    id: ShortId,
+    steps: &mut Vec<Step<ToyKeys>>,
+) -> Result<(), Refusal>
+    ensures pushed { OnOk result (steps.new.items ≡ steps.old.items ++ ready_steps opening id) }
+    ensures memory { IfErr result (λ e. e ≡ refusal.Memory) }
+{
+    let channel = opening.channel;
+    let funder = opening.funder;
+    let fundee = opening.fundee;
+    steps.push(Step::Open(opening))?;
+    steps.push(confirms(channel, funder, id))?;
+    steps.push(confirms(channel, fundee, id))?;
+    steps.push(delivers(channel, fundee))?;
+    steps.push(delivers(channel, funder))?;
+    Ok(())
+}
+
+/// ready C X Y SATOSHIS PUSH BxTxO
+fn ready_line(words: &[&str], steps: &mut Vec<Step<ToyKeys>>) -> Result<bool, Refusal>
+    ensures read { IfOk result (λ good. if_good good steps.new.items
+        ≡ joined steps.old.items (ready_line (texts words.now))) }
+    ensures memory { IfErr result (λ e. e ≡ refusal.Memory) }
+{
+    let [channel, funder, fundee, satoshis, push, id] = words else {
+        return Ok(false);
+    };
+    let Some(opening) = opening_of(channel, funder, fundee, satoshis, push) else {
+        return Ok(false);
+    };
+    let Some(id) = short_id_of(id) else {
+        return Ok(false);
+    };
+    push_ready(opening, id, steps)?;
+    Ok(true)
+}
+
+fn step_line(
+    alloc: Global,
+    word: &str,
+    words: &[&str],
+    steps: &mut Vec<Step<ToyKeys>>,
+) -> Result<bool, Refusal>
+    ensures read { IfOk result (λ good. if_good good steps.new.items
+        ≡ joined steps.old.items (one_step (step_at word.now (texts words.now)))) }
+    ensures memory { IfErr result (λ e. e ≡ refusal.Memory) }
+{
+    match step_of(alloc, word, words)? {
+        Some(step) => {
+            steps.push(step)?;
+            Ok(true)
+        }
+        None => Ok(false),
+    }
+}
+
+#[tactic(auto, unfolding(crate::specs::Step::word_line))]
+fn word_line(
+    alloc: Global,
+    word: &str,
+    words: &[&str],
+    steps: &mut Vec<Step<ToyKeys>>,
+) -> Result<bool, Refusal>
+    ensures read { IfOk result (λ good. if_good good steps.new.items
+        ≡ joined steps.old.items (word_line word.now (texts words.now))) }
+    ensures memory { IfErr result (λ e. e ≡ refusal.Memory) }
+{
+    match word {
+        "ready" => ready_line(words, steps),
+        _ => step_line(alloc, word, words, steps),
+    }
+}
+
+/// Appends the steps of a line's words, and answers whether they are a line's. 60 where there is no memory.
+pub(crate) fn push_steps(
+    alloc: Global,
+    words: &[&str],
+    steps: &mut Vec<Step<ToyKeys>>,
+) -> Result<bool, Refusal>
+    ensures read { IfOk result (λ good. if_good good steps.new.items
+        ≡ joined steps.old.items (steps_at (texts words.now))) }
+    ensures memory { IfErr result (λ e. e ≡ refusal.Memory) }
+{
+    match words {
+        [word, rest @ ..] => word_line(alloc, word, rest, steps),
+        [] => Ok(false),
     }
 }

@@ -1,7 +1,7 @@
 use Rattle.std.proofs.Common.{sym, lit<}
 use Rattle.std.proofs.lemmas.Str.Pattern.{split_once_first}
 use Rattle.ln_script.proofs.Words.{no_first_x, no_second_x}
-use Rattle.ln_script.proofs.step.is_short_id.Goals as goal
+use Rattle.ln_script.proofs.word.short_id_of.Goals as goal
 
 pub returns-in_default : goal.returns-in_default
 returns-in_default c =

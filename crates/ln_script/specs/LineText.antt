@@ -1,0 +1,109 @@
+-- The text of a report's lines.
+use Rattle.std.specs.Prelude.{ℕ, List, [], ◌++◌, codes, Bool, true, false}
+use Rattle.std.specs.Char.{encode_utf8}
+use Rattle.std.specs.Fmt.{decimal}
+use Rattle.ln_msgs.specs.declared.refusals.refusal.Refusal.{Refusal}
+use Rattle.ln_msgs.specs.Refusals.Refusal.{refusal_number}
+use Rattle.ln_msgs.specs.Refusals.RefusalText.{refusal_text}
+use Rattle.ln_link.specs.declared.standing.Life.{Life}
+use Rattle.ln_link.specs.declared.standing.Life.TheVariants as life
+use Rattle.ln_link.specs.declared.standing.Standing.{Standing}
+use Rattle.ln_world.specs.declared.step.End.{End}
+use Rattle.ln_world.specs.declared.line.Word.{Word}
+use Rattle.ln_world.specs.declared.line.Word.TheVariants as word
+use Rattle.ln_world.specs.declared.line.Ending.{Ending}
+use Rattle.ln_world.specs.declared.line.Ending.TheVariants as ending
+use Rattle.ln_world.specs.declared.line.EndLine.{EndLine}
+use Rattle.ln_world.specs.declared.line.Line.{Line}
+use Rattle.ln_world.specs.declared.line.Line.TheVariants as line
+
+-- a node's letter and the channel's number
+unfoldable pub end_text : End → List ℕ
+end_text e = encode_utf8 e.node.letter ++ decimal e.channel
+
+-- a word and its number
+abbrev pub with_number : List ℕ → ℕ → List ℕ
+with_number w n = w ++ (codes " " ++ decimal n)
+
+-- ---- what a step did
+
+-- a message
+abbrev pub word_text : Word → List ℕ
+word_text word.ChannelReady = codes "channel_ready"
+word_text (word.Add id) = with_number (codes "add") id
+word_text (word.Fulfil id) = with_number (codes "fulfil") id
+word_text (word.Fail id) = with_number (codes "fail") id
+word_text (word.Malformed id) = with_number (codes "malformed") id
+word_text (word.Fee rate) = with_number (codes "fee") rate
+word_text (word.Sign n) = with_number (codes "sign") n
+word_text (word.Revoke n) = with_number (codes "revoke") n
+word_text (word.Reestablish c r) = codes "reestablish " ++ (decimal c ++ (codes " " ++ decimal r))
+word_text word.Shutdown = codes "shutdown"
+word_text (word.Closing fee) = with_number (codes "closing") fee
+word_text word.Warning = codes "warning"
+word_text word.Error = codes "error"
+
+-- whose HTLC it is
+abbrev pub owner_text : Bool → List ℕ
+owner_text true = codes "own"
+owner_text false = codes "peer"
+
+abbrev pub ending_text : Ending → List ℕ
+ending_text ending.Fulfilled = codes "fulfilled"
+ending_text ending.Failed = codes "failed"
+ending_text ending.Malformed = codes "malformed"
+
+-- an end's event of this number
+abbrev pub event_text : End → ℕ → List ℕ
+event_text e number = end_text e ++ (codes " event " ++ decimal number)
+
+unfoldable pub sends_text : End → Word → List ℕ
+sends_text e w = end_text e ++ (codes " sends " ++ word_text w)
+
+unfoldable pub added_text : End → ℕ → Bool → ℕ → List ℕ
+added_text e number own id =
+    event_text e number ++ (codes " added " ++ (owner_text own ++ (codes " " ++ decimal id)))
+
+unfoldable pub settled_text : End → ℕ → Bool → ℕ → Ending → List ℕ
+settled_text e number own id how =
+    event_text e number ++ (codes " settled " ++ (owner_text own ++ (codes " " ++ (decimal id
+    ++ (codes " " ++ ending_text how)))))
+
+unfoldable pub closed_text : End → ℕ → ℕ → List ℕ
+closed_text e number fee = event_text e number ++ (codes " closed " ++ decimal fee)
+
+unfoldable pub refused_text : End → Refusal → List ℕ
+refused_text e why = end_text e ++ (codes " " ++ refusal_text why)
+
+abbrev pub line_text : Line → List ℕ
+line_text (line.Open channel) = decimal channel ++ codes " open"
+line_text (line.Sends e w) = sends_text e w
+line_text (line.Added e number own id) = added_text e number own id
+line_text (line.Settled e number own id how) = settled_text e number own id how
+line_text (line.Closed e number fee) = closed_text e number fee
+line_text (line.Refused e why) = refused_text e why
+line_text line.Idle = codes "idle"
+
+-- ---- how an end stands
+
+abbrev pub life_text : Life → List ℕ
+life_text life.Open = codes "open"
+life_text life.Ready = codes "ready"
+life_text life.Shut = codes "shut"
+life_text (life.Closed fee) = with_number (codes "closed") fee
+life_text (life.Failed why) = with_number (codes "failed") (refusal_number why)
+
+-- the own updates that its last signature covers, and the own ones and the peer's that it holds as committed
+abbrev pub counts_text : Standing → List ℕ
+counts_text s =
+    codes " signed " ++ (decimal s.signed ++ (codes " committed " ++ (decimal s.own_held
+    ++ (codes " peer " ++ decimal s.peer_held))))
+
+-- both balances in msat, how many HTLCs are live, and how far the channel is
+abbrev pub worth_text : Standing → List ℕ
+worth_text s =
+    codes " balance " ++ (decimal s.own ++ (codes "/" ++ (decimal s.peer ++ (codes " live " ++ (decimal s.live
+    ++ (codes " " ++ life_text s.life))))))
+
+abbrev pub end_line_text : EndLine → List ℕ
+end_line_text l = end_text l.end ++ (counts_text l.standing ++ worth_text l.standing)

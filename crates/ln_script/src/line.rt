@@ -1,0 +1,202 @@
+//! Lines of a report as text.
+
+ghost use Rattle.std.specs.Prelude.{◌≡◌, ◌++◌, OnOk, string_bytes};
+ghost use Rattle.ln_script.specs.LineText.{end_text, word_text, owner_text, ending_text, sends_text, added_text};
+ghost use Rattle.ln_script.specs.LineText.{settled_text, closed_text, line_text, life_text, counts_text, worth_text};
+ghost use Rattle.ln_script.specs.LineText.{event_text, refused_text, end_line_text, with_number};
+
+use ln_link::{Life, Standing};
+use ln_msgs::Refusal;
+use ln_world::{End, EndLine, Ending, Line, Word};
+use std::alloc::AllocError;
+use std::fmt::Write;
+
+#[tactic(auto, unfolding(crate::specs::LineText::end_text))]
+fn put_end(text: &mut String, end: End) -> Result<(), AllocError>
+    ensures { OnOk result (string_bytes text.new ≡ string_bytes text.old ++ end_text end) }
+{
+    let letter = char::from(end.node.letter);
+    let channel = end.channel;
+    write!(text, "{letter}{channel}")
+}
+
+fn put_number(text: &mut String, name: &str, number: u64) -> Result<(), AllocError>
+    ensures { OnOk result (string_bytes text.new ≡ string_bytes text.old ++ with_number name.now number) }
+{
+    write!(text, "{name} {number}")
+}
+
+/// What a message is told as.
+fn put_word(text: &mut String, word: Word) -> Result<(), AllocError>
+    ensures { OnOk result (string_bytes text.new ≡ string_bytes text.old ++ word_text word) }
+{
+    match word {
+        Word::ChannelReady => text.push_str("channel_ready"),
+        Word::Add(id) => put_number(text, "add", id),
+        Word::Fulfil(id) => put_number(text, "fulfil", id),
+        Word::Fail(id) => put_number(text, "fail", id),
+        Word::Malformed(id) => put_number(text, "malformed", id),
+        Word::Fee(rate) => put_number(text, "fee", u64::from(rate)),
+        Word::Sign(number) => put_number(text, "sign", number),
+        Word::Revoke(number) => put_number(text, "revoke", number),
+        Word::Reestablish(commitment, revocation) => {
+            write!(text, "reestablish {commitment} {revocation}")
+        }
+        Word::Shutdown => text.push_str("shutdown"),
+        Word::Closing(fee) => put_number(text, "closing", fee),
+        Word::Warning => text.push_str("warning"),
+        Word::Error => text.push_str("error"),
+    }
+}
+
+/// Whose HTLC it is.
+fn owner_text(own: bool) -> &'static str
+    ensures { result.now ≡ owner_text own }
+{
+    if own { "own" } else { "peer" }
+}
+
+/// How an HTLC was removed.
+fn ending_text(how: Ending) -> &'static str
+    ensures { result.now ≡ ending_text how }
+{
+    match how {
+        Ending::Fulfilled => "fulfilled",
+        Ending::Failed => "failed",
+        Ending::Malformed => "malformed",
+    }
+}
+
+/// An end's event of this number.
+fn put_event(text: &mut String, end: End, number: u64) -> Result<(), AllocError>
+    ensures { OnOk result (string_bytes text.new ≡ string_bytes text.old ++ event_text end number) }
+{
+    put_end(text, end)?;
+    write!(text, " event {number}")
+}
+
+#[tactic(auto, unfolding(crate::specs::LineText::sends_text))]
+fn put_sends(text: &mut String, end: End, word: Word) -> Result<(), AllocError>
+    ensures { OnOk result (string_bytes text.new ≡ string_bytes text.old ++ sends_text end word) }
+{
+    put_end(text, end)?;
+    text.push_str(" sends ")?;
+    put_word(text, word)
+}
+
+#[tactic(auto, unfolding(crate::specs::LineText::added_text))]
+fn put_added(
+    text: &mut String,
+    end: End,
+    number: u64,
+    own: bool,
+    id: u64,
+) -> Result<(), AllocError>
+    ensures { OnOk result (string_bytes text.new ≡ string_bytes text.old ++ added_text end number own id) }
+{
+    let owner = owner_text(own);
+    put_event(text, end, number)?;
+    write!(text, " added {owner} {id}")
+}
+
+#[tactic(auto, unfolding(crate::specs::LineText::settled_text))]
+fn put_settled(
+    text: &mut String,
+    end: End,
+    number: u64,
+    own: bool,
+    id: u64,
+    how: Ending,
+) -> Result<(), AllocError>
+    ensures { OnOk result (string_bytes text.new ≡ string_bytes text.old ++ settled_text end number own id how) }
+{
+    let owner = owner_text(own);
+    let ending = ending_text(how);
+    put_event(text, end, number)?;
+    write!(text, " settled {owner} {id} {ending}")
+}
+
+#[tactic(auto, unfolding(crate::specs::LineText::closed_text))]
+fn put_closed(text: &mut String, end: End, number: u64, fee: u64) -> Result<(), AllocError>
+    ensures { OnOk result (string_bytes text.new ≡ string_bytes text.old ++ closed_text end number fee) }
+{
+    put_event(text, end, number)?;
+    write!(text, " closed {fee}")
+}
+
+#[tactic(auto, unfolding(crate::specs::LineText::refused_text))]
+fn put_refused(text: &mut String, end: End, why: Refusal) -> Result<(), AllocError>
+    ensures { OnOk result (string_bytes text.new ≡ string_bytes text.old ++ refused_text end why) }
+{
+    put_end(text, end)?;
+    write!(text, " {why}")
+}
+
+/// What a step did. Takes memory for the text.
+pub(crate) fn put_line(text: &mut String, line: &Line) -> Result<(), AllocError>
+    ensures { OnOk result (string_bytes text.new ≡ string_bytes text.old ++ line_text line.now) }
+{
+    match *line {
+        Line::Open(channel) => write!(text, "{channel} open"),
+        Line::Sends(end, word) => put_sends(text, end, word),
+        Line::Added {
+            end,
+            number,
+            own,
+            id,
+        } => put_added(text, end, number, own, id),
+        Line::Settled {
+            end,
+            number,
+            own,
+            id,
+            how,
+        } => put_settled(text, end, number, own, id, how),
+        Line::Closed { end, number, fee } => put_closed(text, end, number, fee),
+        Line::Refused(end, why) => put_refused(text, end, why),
+        Line::Idle => text.push_str("idle"),
+    }
+}
+
+/// How far a channel is.
+fn put_life(text: &mut String, life: Life) -> Result<(), AllocError>
+    ensures { OnOk result (string_bytes text.new ≡ string_bytes text.old ++ life_text life) }
+{
+    match life {
+        Life::Open => text.push_str("open"),
+        Life::Ready => text.push_str("ready"),
+        Life::Shut => text.push_str("shut"),
+        Life::Closed(fee) => put_number(text, "closed", fee),
+        Life::Failed(why) => put_number(text, "failed", u64::from(why.number())),
+    }
+}
+
+/// The own updates that the last signature covers, and the own ones and the peer's that are held as committed.
+fn put_counts(text: &mut String, standing: &Standing) -> Result<(), AllocError>
+    ensures { OnOk result (string_bytes text.new ≡ string_bytes text.old ++ counts_text standing.now) }
+{
+    let signed = standing.signed;
+    let committed = standing.own_held;
+    let peer = standing.peer_held;
+    write!(text, " signed {signed} committed {committed} peer {peer}")
+}
+
+/// Both balances in msat, how many HTLCs are live, and how far the channel is.
+fn put_worth(text: &mut String, standing: &Standing) -> Result<(), AllocError>
+    ensures { OnOk result (string_bytes text.new ≡ string_bytes text.old ++ worth_text standing.now) }
+{
+    let own = standing.own;
+    let peer = standing.peer;
+    let live = standing.live;
+    write!(text, " balance {own}/{peer} live {live} ")?;
+    put_life(text, standing.life)
+}
+
+/// How an end stands. Takes memory for the text.
+pub(crate) fn put_end_line(text: &mut String, line: &EndLine) -> Result<(), AllocError>
+    ensures { OnOk result (string_bytes text.new ≡ string_bytes text.old ++ end_line_text line.now) }
+{
+    put_end(text, line.end)?;
+    put_counts(text, &line.standing)?;
+    put_worth(text, &line.standing)
+}
