@@ -24,3 +24,4 @@ pub mod Runs
 pub mod Opens
 pub mod Prices
 pub mod Promised
+pub mod Fees

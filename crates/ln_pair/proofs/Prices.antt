@@ -368,7 +368,7 @@ acts_at k (Give c) p h =
     (faulted_at (line_fault p.x_line) (command_row k c p.x) p (command_by k c (is_shutdown c) p refl h) h) h
 acts_at k Lose p h = loses_at (is_down p.x_line) p h
 
-turned_at : (p : Ends) → At p → At (turned p)
+pub turned_at : (p : Ends) → At p → At (turned p)
 turned_at p h = swap (deal_of p.x.closing) (deal_of p.y.closing) (offers_in p.to_y) (offers_in p.to_x) h
 
 connects_at : (a b : Signer) (lx ly : Line) (p : Ends) → At p → At (connects a b lx ly p)

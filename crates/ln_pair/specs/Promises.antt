@@ -1,6 +1,6 @@
 -- What every list of steps of two ends promises.
 use Rattle.std.specs.Prelude.{◌≡◌, ◌⊎◌, ℕ, ◌<◌, ◌≤◌, ◌^◌, List, [], ◌∷◌, length, Bool, true, false, ◌||◌, Some}
-use Rattle.std.specs.Prelude.{Result, Ok, Err}
+use Rattle.std.specs.Prelude.{Result, Ok, Err, min, max}
 use Rattle.ln_msgs.specs.declared.messages.message.Message.{Message}
 use Rattle.ln_msgs.specs.declared.messages.message.Message.TheVariants as message
 use Rattle.ln_msgs.specs.declared.refusals.refusal.Refusal.{Refusal}
@@ -14,6 +14,7 @@ use Rattle.ln_log.specs.declared.log.Pair.TheVariants as pair
 use Rattle.ln_log.specs.declared.log.Side.TheVariants as side
 use Rattle.ln_dance.specs.Dance.{sign_fault, view_at}
 use Rattle.ln_close.specs.declared.closing.Fees.{Fees}
+use Rattle.ln_close.specs.Closing.{AreOrdered}
 use Rattle.ln_link.specs.End.{End, Turn}
 use Rattle.ln_link.specs.declared.link.Line.{Line}
 use Rattle.ln_link.specs.declared.link.Line.TheVariants.{Met}
@@ -55,6 +56,32 @@ TakesFront keys l (m ∷ ms) e = IsTaken (message_at keys l m e)
 
 abbrev pub NoneRefused : Signer → Signer → Ends → Type 0
 NoneRefused a b p = TakesFront a p.x_line p.to_x p.x × TakesFront b p.y_line p.to_y p.y
+
+-- ---- where each side takes a fee that the other takes too
+
+abbrev pub Overlap : Fees → Fees → Type 0
+Overlap f g = max f.least g.least ≤ min f.greatest g.greatest
+
+pub record AreAgreeable (f g : Fees) : Type 0 where
+  pub funder : AreOrdered f
+  pub fundee : AreOrdered g
+  pub funder_sent : AreSent f
+  pub fundee_sent : AreSent g
+  pub overlap : Overlap f g
+
+-- the message in front is taken
+abbrev pub AcceptsFront : Signer → Line → List Message → End → Type 0
+AcceptsFront keys l [] e = Unit {0}
+AcceptsFront keys l (m ∷ ms) e = IsTaken (message_at keys l m e)
+
+abbrev pub AllTaken : Signer → Signer → Ends → Type 0
+AllTaken a b p = AcceptsFront a p.x_line p.to_x p.x × AcceptsFront b p.y_line p.to_y p.y
+
+-- two ends that have closed have closed at one fee
+abbrev pub OneFee : Ends → Type 0
+OneFee p = (f g : ℕ) → p.x.closing.closed ≡ Some f → p.y.closing.closed ≡ Some g → f ≡ g
+
+-- ---- at rest
 
 -- both ends have met, nothing is in flight, and neither has anything to sign
 pub record IsAtRest (p : Ends) : Type 0 where

@@ -16,7 +16,8 @@ ghost use Rattle.ln_link.specs.End.{End};
 ghost use Rattle.ln_link.specs.Meeting.{Opens};
 ghost use Rattle.ln_link.specs.Step.{turned, saved_at, obeyed};
 ghost use Rattle.ln_pair.specs.Ends.{Step, opened, message_at, command_at, run};
-ghost use Rattle.ln_pair.specs.Promises.{AreKeys, AreSent, Headline, NoneRefused, Agrees, NoneAddsLate};
+ghost use Rattle.ln_pair.specs.Promises.{AreKeys, AreSent, AreAgreeable, Headline, NoneRefused, AllTaken};
+ghost use Rattle.ln_pair.specs.Promises.{OneFee, Agrees, NoneAddsLate};
 
 /// A law: what either end holds as irrevocably committed is, each update once and in the order in which it was sent,
 /// a beginning of what the other end has covered by a signature.
@@ -31,6 +32,20 @@ pub fn held_was_covered()
 pub fn no_message_is_refused()
     ensures { (a b : Signer) (s : OpenSpec) (c : Config) (funder fundee : Opened) (steps : List Step) → AreKeys a b
         → Opens a b s c funder fundee → AreSent funder.closing.fees → AreSent fundee.closing.fees → NoneRefused a b (run a b steps (opened funder fundee)) }
+{}
+
+/// A law: where both sides' ranges of closing fees overlap, every message that is delivered is taken, each
+/// `closing_signed` too. Of both, `least` <= `first` <= `greatest`, and all below 2^64.
+pub fn no_message_is_refused_where_fees_overlap()
+    ensures { (a b : Signer) (s : OpenSpec) (c : Config) (funder fundee : Opened) (steps : List Step) → AreKeys a b
+        → Opens a b s c funder fundee → AreAgreeable funder.closing.fees fundee.closing.fees
+        → AllTaken a b (run a b steps (opened funder fundee)) }
+{}
+
+/// A law: where both ends have closed, both have closed at one fee.
+pub fn closed_at_one_fee()
+    ensures { (a b : Signer) (s : OpenSpec) (c : Config) (funder fundee : Opened) (steps : List Step)
+        → Opens a b s c funder fundee → OneFee (run a b steps (opened funder fundee)) }
 {}
 
 /// A law: where both ends have met, nothing is in flight and neither has anything to sign, both hold every update of
