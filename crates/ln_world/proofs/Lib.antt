@@ -1,2 +1,6 @@
 pub mod Fitting
 pub mod Moving
+pub mod Named
+pub mod Silent
+pub mod Mirror
+pub mod Moves

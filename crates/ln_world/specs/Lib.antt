@@ -2,3 +2,4 @@ pub mod Settings
 pub mod Lines
 pub mod Both
 pub mod Channel
+pub mod Promises

@@ -1,0 +1,71 @@
+-- What the two links of an open channel promise, whatever has happened to them.
+use Rattle.std.specs.Prelude.{◌≡◌, ◌⊎◌, List, [], ◌∷◌, Bool, true, false, Some, None, Result, Ok, Err}
+use Rattle.ln_msgs.specs.declared.messages.message.Message.{Message}
+use Rattle.ln_msgs.specs.declared.messages.message.Message.TheVariants as message
+use Rattle.ln_msgs.specs.declared.refusals.refusal.Refusal.{Refusal}
+use Rattle.ln_msgs.specs.declared.refusals.refusal.Refusal.TheVariants as refusal
+use Rattle.ln_keys.specs.Signer.{Signer}
+use Rattle.ln_log.specs.Machine.{Follows}
+use Rattle.ln_dance.specs.Dance.{sign_fault}
+use Rattle.ln_link.specs.declared.link.Line.TheVariants.{Met}
+use Rattle.ln_link.specs.declared.link.Stage.{Stage}
+use Rattle.ln_link.specs.declared.link.Stage.TheVariants as stage
+use Rattle.ln_link.specs.End.{End}
+use Rattle.ln_link.specs.State.{State}
+use Rattle.ln_link.specs.Step.{Done, handled}
+use Rattle.ln_pair.specs.Promises.{party, is_closing_signed, HoldsAll, worth}
+use Rattle.ln_world.specs.Both.{Both}
+
+-- both links have their channel open, and of its two ends this holds
+abbrev pub WithPeer : (End → Type 0) → Stage → Type 0
+WithPeer f (stage.Saved y) = f y
+WithPeer f s = ⊥
+
+abbrev pub AtEnds : (End → End → Type 0) → Stage → Stage → Type 0
+AtEnds f (stage.Saved x) s = WithPeer (f x) s
+AtEnds f r s = ⊥
+
+-- ---- what each end holds as irrevocably committed begins what the other has covered by a signature
+
+abbrev pub FollowEachOther : End → End → Type 0
+FollowEachOther x y = Follows (party x) (party y) × Follows (party y) (party x)
+
+abbrev pub Headline : {K : Type 0} → Both K → Type 0
+Headline p = AtEnds FollowEachOther p.x.link.stage p.y.link.stage
+
+-- ---- no message is refused but a closing_signed, whose fee may be (36)
+
+abbrev pub IsTaken : Result Done Refusal → Type 0
+IsTaken (Ok d) = Unit {0}
+IsTaken (Err r) = ⊥
+
+abbrev pub TakesFront : {K : Type 0} → (K → Signer) → State K → List Message → Type 0
+TakesFront signer l [] = Unit {0}
+TakesFront signer l (m ∷ ms) = IsTaken (handled (signer l.keys) l m)
+    ⊎ ((is_closing_signed m ≡ true) × (handled (signer l.keys) l m ≡ Err refusal.FeeOutside))
+
+-- nor has either link failed
+pub record NoneRefused {K : Type 0} (signer : K → Signer) (p : Both K) : Type 0 where
+  pub x : TakesFront signer p.x.link p.x.inbox
+  pub y : TakesFront signer p.y.link p.y.inbox
+  pub x_stands : p.x.link.failure ≡ None
+  pub y_stands : p.y.link.failure ≡ None
+
+-- ---- at rest both hold every update of either side, and their commitments are worth the same
+
+-- both ends have met, and nothing is in flight
+pub record IsQuiet {K : Type 0} (p : Both K) : Type 0 where
+  pub x_met : p.x.link.line ≡ Met
+  pub y_met : p.y.link.line ≡ Met
+  pub to_x : p.x.inbox ≡ []
+  pub to_y : p.y.inbox ≡ []
+
+abbrev pub HasSignedAll : End → Type 0
+HasSignedAll e = sign_fault e.dance ≡ Some refusal.NothingToSign
+
+abbrev pub AgreeOnceSigned : End → End → Type 0
+AgreeOnceSigned x y = HasSignedAll x → HasSignedAll y
+    → HoldsAll (party x) (party y) × HoldsAll (party y) (party x) × (worth x ≡ worth y)
+
+abbrev pub Agrees : {K : Type 0} → Both K → Type 0
+Agrees p = IsQuiet p → AtEnds AgreeOnceSigned p.x.link.stage p.y.link.stage
