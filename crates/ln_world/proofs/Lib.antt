@@ -4,3 +4,5 @@ pub mod Named
 pub mod Silent
 pub mod Mirror
 pub mod Moves
+pub mod Opened
+pub mod Channels

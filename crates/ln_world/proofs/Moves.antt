@@ -232,7 +232,7 @@ module _ {K : Type 0} (signer : K → Signer) (id : List ℕ) (kx ky : K) where
   -- ---- a message is delivered
 
   -- none is in flight to an end that is down
-  is_up : (l : Line) (m : Message) (ms : List Message) → (is_down l ≡ true → m ∷ ms ≡ []) → is_down l ≡ false
+  pub is_up : (l : Line) (m : Message) (ms : List Message) → (is_down l ≡ true → m ∷ ms ≡ []) → is_down l ≡ false
   is_up Down m ms h = absurd (let no : m ∷ ms ≡ [] = h refl in cc)
   is_up Awaiting m ms h = refl
   is_up Met m ms h = refl
