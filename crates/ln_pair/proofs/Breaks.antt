@@ -19,6 +19,7 @@ use Rattle.ln_pair.proofs.Sides.{Notice, Again, posts, all_owed}
 use Rattle.ln_pair.proofs.Walk.{Phase, Idle, Sent, Answered, Kept}
 use Rattle.ln_pair.proofs.Marks.{BothTold}
 use Rattle.ln_pair.proofs.Ending.{Ending, none_owed, begun_dropped}
+use Rattle.ln_pair.proofs.Closing.{again_closes}
 use Rattle.ln_pair.proofs.Resume.{kept_again, kept_down, kept_up}
 use Rattle.ln_pair.proofs.Telling.{none-take}
 use Rattle.ln_pair.proofs.TellingAgain.{told_again, told_down, told_up}
@@ -69,15 +70,31 @@ module _ (a b : Signer) (channel : List ℕ) (ly : Line) (x y : End) (to_y : Lis
       → messages_in (sent_again a m x) ≡ messages_of channel (lacked m)
   again_sends m ns h = resends_so a m x ∙ ap (λ c. messages_of c (lacked m)) h.x_channel
 
+  again_kept : (m : ChannelReestablish) (ns : List Notice)
+      → Hold a b channel Awaiting ly x y (Again m ∷ ns) to_y said_x said_y
+      → Kept (both Met ly (side_of a x) (side_of b y) ns (posts ly (lacked m) to_y))
+  again_kept m ns h = kept_again ly (side_of a x) (side_of b y) m ns to_y refl refl h.kept
+
+  again_told : (m : ChannelReestablish) (ns : List Notice)
+      → Hold a b channel Awaiting ly x y (Again m ∷ ns) to_y said_x said_y
+      → BothTold (both Met ly (side_of a x) (side_of b y) ns (posts ly (lacked m) to_y))
+  again_told m ns h = told_again ly (side_of a x) (side_of b y) m ns to_y
+      (none_owed Awaiting ly (side_of a x) (side_of b y) to_y h.kept.there h.ended) refl refl h.kept h.told
+
   pub took_again : (m : ChannelReestablish) (ns : List Notice)
       → Hold a b channel Awaiting ly x y (Again m ∷ ns) to_y said_x said_y
       → Hold a b channel Met ly x y ns (posts ly (lacked m) to_y) (said_x ++ messages_in (sent_again a m x)) said_y
   took_again m ns h = record {
-    kept = kept_again ly (side_of a x) (side_of b y) m ns to_y refl refl h.kept;
-    told = told_again ly (side_of a x) (side_of b y) m ns to_y
-        (none_owed Awaiting ly (side_of a x) (side_of b y) to_y h.kept.there h.ended) refl refl h.kept h.told;
+    kept = again_kept m ns h;
+    told = again_told m ns h;
     ended = h.ended;
     ended_back = h.ended_back;
+    closes = again_closes a x.closing.fees ly m.next_commitment_number m.next_revocation_number (side_of a x)
+        (side_of b y) to_y h.kept.there.within h.ended.begun h.x_signs h.kept.there.flight (again_kept m ns h).there.flight
+        (again_told m ns h).there.speech h.closes;
+    closes_back = h.closes_back;
+    x_signs = h.x_signs;
+    y_signs = h.y_signs;
     x_channel = h.x_channel;
     y_channel = h.y_channel;
     x_knows = h.x_knows;
@@ -116,6 +133,10 @@ lost_so a b channel lx ly x y to_x to_y said_x said_y h =
             closed = h.ended_back.closed;
             answered = h.ended_back.answered;
           });
+      closes = h.closes;
+      closes_back = tt;
+      x_signs = h.x_signs;
+      y_signs = h.y_signs;
       x_channel = h.x_channel;
       y_channel = h.y_channel;
       x_knows = record {
@@ -152,6 +173,10 @@ joined_so a b channel x y to_x to_y said_x said_y h =
       told = told_up (side_of a x) (side_of b y) to_x to_y h.told;
       ended = h.ended;
       ended_back = h.ended_back;
+      closes = tt;
+      closes_back = tt;
+      x_signs = h.x_signs;
+      y_signs = h.y_signs;
       x_channel = h.x_channel;
       y_channel = h.y_channel;
       x_knows = h.x_knows;

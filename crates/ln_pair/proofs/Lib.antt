@@ -8,9 +8,13 @@ pub mod Telling
 pub mod Resume
 pub mod TellingAgain
 pub mod Ending
+pub mod Closing
+pub mod Answering
+pub mod Deals
 pub mod Images
 pub mod Rows
 pub mod Steps
+pub mod Begins
 pub mod Resends
 pub mod Breaks
 pub mod Turns

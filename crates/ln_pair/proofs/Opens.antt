@@ -104,6 +104,10 @@ holds_first a b c f g t u eo et eu ep eq = record {
     told = record { there = told a b Funder Fundee c c f g t u; back = told b a Fundee Funder c c g f u t };
     ended = ended a b Funder Fundee c c f g t u;
     ended_back = ended b a Fundee Funder c c g f u t;
+    closes = tt;
+    closes_back = tt;
+    x_signs = tt;
+    y_signs = tt;
     x_channel = refl;
     y_channel = refl;
     x_knows = knows b Funder Fundee c c f g t u ep et;

@@ -18,7 +18,7 @@ use Rattle.ln_link.specs.declared.opening.Opened.{Opened}
 use Rattle.ln_link.specs.Meeting.{Opens}
 use Rattle.ln_link.specs.End.{End, completed}
 use Rattle.ln_pair.specs.Ends.{Ends, Step, opened, turned, run}
-use Rattle.ln_pair.specs.Promises.{AreKeys, party, Headline, TakesFront, NoneRefused, HoldsAll, Agrees}
+use Rattle.ln_pair.specs.Promises.{AreKeys, AreSent, party, Headline, TakesFront, NoneRefused, HoldsAll, Agrees}
 use Rattle.ln_pair.specs.Promises.{NoneAddsLate}
 use Rattle.ln_link.specs.declared.link.Line.{Line}
 use Rattle.ln_link.specs.declared.link.Line.TheVariants.{Down, Awaiting, Met}
@@ -34,6 +34,13 @@ use Rattle.ln_pair.proofs.Steps.{parts, Hold}
 use Rattle.ln_pair.proofs.Turns.{turn_of}
 use Rattle.ln_pair.proofs.Runs.{Holds, flipped, flipped_keys, met_row, meeting_row, ran}
 use Rattle.ln_pair.proofs.Opens.{opened_holds}
+use Rattle.ln_pair.proofs.Begins.{TakenOr36, close_row}
+use Rattle.ln_pair.proofs.Deals.{run_fees}
+use Rattle.ln_msgs.specs.declared.messages.message.Message.{Message}
+use Rattle.ln_msgs.specs.declared.messages.message.Message.TheVariants as message
+use Rattle.ln_msgs.specs.declared.messages.closing.ClosingSigned.{ClosingSigned}
+use Rattle.ln_link.specs.Taking.{taken}
+use Rattle.std.proofs.Common.{inl, inr}
 
 -- at every end of a run
 pub at_end : (a b : Signer) (s : OpenSpec) (c : Config) (funder fundee : Opened) (steps : List Step) → AreKeys a b
@@ -94,43 +101,56 @@ headline a b s c funder fundee steps keys o =
 
 -- ---- no message is refused
 
-front_by : (a b : Signer) → AreKeys a b → (l : Line) (p : Ends) → p.x_line ≡ l
-    → (channel : List ℕ) (ns to_y : List Notice) → Hold a b channel l p.y_line p.x p.y ns to_y p.said_x p.said_y
-    → TakesFront a p.x_line (messages_of channel ns) p.x
-front_by a b keys l p is channel [] to_y h = tt
-front_by a b keys Down p is channel (n ∷ ns) to_y h = absurd (let no : n ∷ ns ≡ [] = h.kept.back.flight in cc)
-front_by a b keys Awaiting p is channel (Update u ∷ ns) to_y h = absurd (h.kept.back.flight)
-front_by a b keys Awaiting p is channel (Sign m ∷ ns) to_y h = absurd (h.kept.back.flight)
-front_by a b keys Awaiting p is channel (Revoke m ∷ ns) to_y h = absurd (h.kept.back.flight)
-front_by a b keys Awaiting p is channel (Ready m ∷ ns) to_y h = absurd (h.kept.back.flight)
-front_by a b keys Awaiting p is channel (Shutdown m ∷ ns) to_y h = absurd (h.kept.back.flight)
-front_by a b keys Awaiting p is channel (Close m ∷ ns) to_y h = absurd (h.kept.back.flight)
-front_by a b keys Awaiting p is channel (Again m ∷ ns) to_y h =
-    λ e. (completed a (resumed a m p.x), meeting_row a b keys p is channel m ns to_y h)
-front_by a b keys Met p is channel (Update u ∷ ns) to_y h =
-    λ e. (completed a (turn_of a (Update u) p.x), met_row a b keys p is channel (Update u) ns to_y refl h)
-front_by a b keys Met p is channel (Sign m ∷ ns) to_y h =
-    λ e. (completed a (turn_of a (Sign m) p.x), met_row a b keys p is channel (Sign m) ns to_y refl h)
-front_by a b keys Met p is channel (Revoke m ∷ ns) to_y h =
-    λ e. (completed a (turn_of a (Revoke m) p.x), met_row a b keys p is channel (Revoke m) ns to_y refl h)
-front_by a b keys Met p is channel (Ready m ∷ ns) to_y h =
-    λ e. (completed a (turn_of a (Ready m) p.x), met_row a b keys p is channel (Ready m) ns to_y refl h)
-front_by a b keys Met p is channel (Shutdown m ∷ ns) to_y h =
-    λ e. (completed a (turn_of a (Shutdown m) p.x), met_row a b keys p is channel (Shutdown m) ns to_y refl h)
-front_by a b keys Met p is channel (Close m ∷ ns) to_y h = λ e. absurd (let no : true ≡ false = e in cc)
-front_by a b keys Met p is channel (Again m ∷ ns) to_y h =
-    λ e. (completed a (turn_of a (Again m) p.x), met_row a b keys p is channel (Again m) ns to_y refl h)
+fee_front : (a : Signer) (m : ClosingSigned) (ms : List Message) (e : End)
+    → TakenOr36 (taken a (message.ClosingSigned m) e) → TakesFront a Met (message.ClosingSigned m ∷ ms) e
+fee_front a m ms e (inl t) = inl t
+fee_front a m ms e (inr r) = inr (refl, r)
 
-front : (a b : Signer) → AreKeys a b → (p : Ends) → Holds a b p → TakesFront a p.x_line p.to_x p.x
-front a b keys p h = let is = h.in_x in subst (λ ms. TakesFront a p.x_line ms p.x) (sym is)
-    (front_by a b keys p.x_line p refl h.channel h.to_x h.to_y h.hold)
+front_by : (a b : Signer) → AreKeys a b → (l : Line) (p : Ends) → p.x_line ≡ l
+    → (channel : List ℕ) (ns to_y : List Notice) → AreSent p.y.closing.fees → Hold a b channel l p.y_line p.x p.y ns to_y p.said_x p.said_y
+    → TakesFront a p.x_line (messages_of channel ns) p.x
+front_by a b keys l p is channel [] to_y sent h = tt
+front_by a b keys Down p is channel (n ∷ ns) to_y sent h = absurd (let no : n ∷ ns ≡ [] = h.kept.back.flight in cc)
+front_by a b keys Awaiting p is channel (Update u ∷ ns) to_y sent h = absurd (h.kept.back.flight)
+front_by a b keys Awaiting p is channel (Sign m ∷ ns) to_y sent h = absurd (h.kept.back.flight)
+front_by a b keys Awaiting p is channel (Revoke m ∷ ns) to_y sent h = absurd (h.kept.back.flight)
+front_by a b keys Awaiting p is channel (Ready m ∷ ns) to_y sent h = absurd (h.kept.back.flight)
+front_by a b keys Awaiting p is channel (Shutdown m ∷ ns) to_y sent h = absurd (h.kept.back.flight)
+front_by a b keys Awaiting p is channel (Close m ∷ ns) to_y sent h = absurd (h.kept.back.flight)
+front_by a b keys Awaiting p is channel (Again m ∷ ns) to_y sent h =
+    inl (completed a (resumed a m p.x), meeting_row a b keys p is channel m ns to_y h)
+front_by a b keys Met p is channel (Update u ∷ ns) to_y sent h =
+    inl (completed a (turn_of a (Update u) p.x), met_row a b keys p is channel (Update u) ns to_y refl h)
+front_by a b keys Met p is channel (Sign m ∷ ns) to_y sent h =
+    inl (completed a (turn_of a (Sign m) p.x), met_row a b keys p is channel (Sign m) ns to_y refl h)
+front_by a b keys Met p is channel (Revoke m ∷ ns) to_y sent h =
+    inl (completed a (turn_of a (Revoke m) p.x), met_row a b keys p is channel (Revoke m) ns to_y refl h)
+front_by a b keys Met p is channel (Ready m ∷ ns) to_y sent h =
+    inl (completed a (turn_of a (Ready m) p.x), met_row a b keys p is channel (Ready m) ns to_y refl h)
+front_by a b keys Met p is channel (Shutdown m ∷ ns) to_y sent h =
+    inl (completed a (turn_of a (Shutdown m) p.x), met_row a b keys p is channel (Shutdown m) ns to_y refl h)
+front_by a b keys Met p is channel (Close m ∷ ns) to_y sent h =
+    subst (λ l. TakesFront a l (message.ClosingSigned m ∷ messages_of channel ns) p.x) (sym is)
+    (fee_front a m (messages_of channel ns) p.x
+    (close_row a b channel p.y_line p.x p.y m ns to_y p.said_x p.said_y keys sent h))
+front_by a b keys Met p is channel (Again m ∷ ns) to_y sent h =
+    inl (completed a (turn_of a (Again m) p.x), met_row a b keys p is channel (Again m) ns to_y refl h)
+
+front : (a b : Signer) → AreKeys a b → (p : Ends) → AreSent p.y.closing.fees → Holds a b p
+    → TakesFront a p.x_line p.to_x p.x
+front a b keys p sent h = let is = h.in_x in subst (λ ms. TakesFront a p.x_line ms p.x) (sym is)
+    (front_by a b keys p.x_line p refl h.channel h.to_x h.to_y sent h.hold)
 
 pub none_refused : (a b : Signer) (s : OpenSpec) (c : Config) (funder fundee : Opened) (steps : List Step) → AreKeys a b
-    → Opens a b s c funder fundee → NoneRefused a b (run a b steps (opened funder fundee))
-none_refused a b s c funder fundee steps keys o =
+    → Opens a b s c funder fundee → AreSent funder.closing.fees → AreSent fundee.closing.fees
+    → NoneRefused a b (run a b steps (opened funder fundee))
+none_refused a b s c funder fundee steps keys o fx fy =
     let p = run a b steps (opened funder fundee) in
     let h = at_end a b s c funder fundee steps keys o in
-    (front a b keys p h, front b a (flipped_keys a b keys) (turned p) (flipped a b p h))
+    let same = run_fees a b steps (opened funder fundee) in
+    let sent_x : AreSent p.x.closing.fees = subst AreSent (sym same.x) fx in
+    let sent_y : AreSent p.y.closing.fees = subst AreSent (sym same.y) fy in
+    (front a b keys p sent_y h, front b a (flipped_keys a b keys) (turned p) sent_x (flipped a b p h))
 
 -- ---- at rest
 

@@ -1,5 +1,5 @@
 -- Over every list of steps.
-use Rattle.std.proofs.Common.{Result, Err}
+use Rattle.std.proofs.Common.{Result, Err, inr}
 use Rattle.std.proofs.Common.{◌≡◌, ℕ, List, [], ◌∷◌, ◌++◌, length, refl, sym, ap, ◌∙◌, subst, append_assoc, append-nil}
 use Rattle.std.proofs.Common.{Bool, true, false, cond, Option, Some, None, Ok}
 use Rattle.std.proofs.lemmas.Bool.{eq-eqb}
@@ -45,6 +45,7 @@ use Rattle.ln_link.specs.End.{closing_message}
 use Rattle.ln_link.specs.Taking.{answering, answered, answered_end, range_in}
 use Rattle.ln_pair.proofs.Ending.{HasBegun}
 use Rattle.ln_pair.proofs.Telling.{closing_sent}
+use Rattle.ln_pair.proofs.Answering.{Offers, IsFair, fair}
 use Rattle.ln_pair.proofs.Images.{side_of}
 use Rattle.ln_pair.proofs.Steps.{Said, said_more, dealt_so, passed_close}
 use Rattle.ln_pair.proofs.Turns.{is_close, begun_so, begins_by}
@@ -207,16 +208,16 @@ module _ (a b : Signer) (keys : AreKeys a b) where
 
   -- a closing fee, by the answer to it
   fee_answered : (ans : Answer) (p : Ends) (channel : List ℕ) (m : ClosingSigned) (ns to_y : List Notice)
-      → HasBegun (side_of a p.x) → has_bid (side_of b p.y) ≡ true → p.to_y ≡ messages_of channel to_y
+      → Offers p.x.closing.fees ans → HasBegun (side_of a p.x) → has_bid (side_of b p.y) ≡ true → p.to_y ≡ messages_of channel to_y
       → Hold a b channel Met p.y_line p.x p.y ns to_y p.said_x p.said_y
       → Holds a b (becomes (completed a (answering a ans (answered_end m ans p.x)))
       (record p { to_x = messages_of channel ns }))
-  fee_answered answer.Nothing p channel m ns to_y begun bid iy h =
+  fee_answered answer.Nothing p channel m ns to_y may begun bid iy h =
       let n = answered_end m answer.Nothing p.x in
       let t = answering a answer.Nothing n in
       finish t (record p { to_x = messages_of channel ns }) channel ns to_y [] refl iy refl
       (dealt_so a b keys channel p.y_line p.x p.y p.said_x p.said_y t.end (side_of a p.x).close_message
-      (side_of a p.x).closed None [] ns to_y refl refl
+      (side_of a p.x).closed None [] ns to_y refl refl refl h.x_signs tt
       (record {
         point = h.x_knows.point;
         next_point = h.x_knows.next_point;
@@ -233,12 +234,12 @@ module _ (a b : Signer) (keys : AreKeys a b) where
       })
       refl begun (λ e. e) (λ e. e) (λ e. absurd (cc)) h.ended_back.answered
       (subst (Said p.x.closing.shut) (sym (append-nil p.said_x)) h.x_said) h)
-  fee_answered (answer.Close fee) p channel m ns to_y begun bid iy h =
+  fee_answered (answer.Close fee) p channel m ns to_y may begun bid iy h =
       let n = answered_end m (answer.Close fee) p.x in
       let t = answering a (answer.Close fee) n in
       finish t (record p { to_x = messages_of channel ns }) channel ns to_y [] refl iy refl
       (dealt_so a b keys channel p.y_line p.x p.y p.said_x p.said_y t.end (side_of a p.x).close_message true
-      None [] ns to_y refl refl
+      None [] ns to_y refl refl refl h.x_signs tt
       (record {
         point = h.x_knows.point;
         next_point = h.x_knows.next_point;
@@ -255,13 +256,13 @@ module _ (a b : Signer) (keys : AreKeys a b) where
       })
       refl begun (λ e. refl) (λ e. e) (λ e. absurd (cc)) (λ e. bid)
       (subst (Said p.x.closing.shut) (sym (append-nil p.said_x)) h.x_said) h)
-  fee_answered (answer.EchoAndClose fee) p channel m ns to_y begun bid iy h =
+  fee_answered (answer.EchoAndClose fee) p channel m ns to_y may begun bid iy h =
       let n = answered_end m (answer.EchoAndClose fee) p.x in
       let t = answering a (answer.EchoAndClose fee) n in
       let w = closing_message a n fee in
       finish t (record p { to_x = messages_of channel ns }) channel ns to_y (Close w ∷ []) refl iy refl
       (dealt_so a b keys channel p.y_line p.x p.y p.said_x p.said_y t.end (Some w) true (Some w)
-      (message.ClosingSigned w ∷ []) ns to_y refl refl
+      (message.ClosingSigned w ∷ []) ns to_y refl refl refl (refl, inr may) (refl, inr may)
       (record {
         point = h.x_knows.point;
         next_point = h.x_knows.next_point;
@@ -279,13 +280,13 @@ module _ (a b : Signer) (keys : AreKeys a b) where
       refl begun (λ e. refl) (λ e. refl) (λ e. refl) (λ e. bid)
       (said_more p.x.closing.shut p.x.closing.shut p.said_x (message.ClosingSigned w) (λ e. absurd (cc)) (λ e. e)
       (λ e. absurd (cc)) h.x_said) h)
-  fee_answered (answer.Propose fee) p channel m ns to_y begun bid iy h =
+  fee_answered (answer.Propose fee) p channel m ns to_y may begun bid iy h =
       let n = answered_end m (answer.Propose fee) p.x in
       let t = answering a (answer.Propose fee) n in
       let w = closing_message a n fee in
       finish t (record p { to_x = messages_of channel ns }) channel ns to_y (Close w ∷ []) refl iy refl
       (dealt_so a b keys channel p.y_line p.x p.y p.said_x p.said_y t.end (Some w) (side_of a p.x).closed (Some w)
-      (message.ClosingSigned w ∷ []) ns to_y refl refl
+      (message.ClosingSigned w ∷ []) ns to_y refl refl refl (refl, inr may) (refl, inr may)
       (record {
         point = h.x_knows.point;
         next_point = h.x_knows.next_point;
@@ -318,15 +319,15 @@ module _ (a b : Signer) (keys : AreKeys a b) where
 
   fee_by : (begun right : Bool) (r : Result Answer Refusal) (p : Ends) → p.x_line ≡ Met
       → (channel : List ℕ) (m : ClosingSigned) (ns to_y : List Notice) → has_begun p.x ≡ begun
-      → has_bid (side_of b p.y) ≡ true → p.to_y ≡ messages_of channel to_y
+      → IsFair p.x.closing.fees r → has_bid (side_of b p.y) ≡ true → p.to_y ≡ messages_of channel to_y
       → Hold a b channel Met p.y_line p.x p.y ns to_y p.said_x p.said_y
       → Holds a b (answers (completed_row a (cond (not begun) (Err refusal.OutOfPlace)
       (cond right (answered a m p.x r) (Err refusal.SignatureWrong)))) (record p { to_x = messages_of channel ns }))
-  fee_by true true (Ok ans) p is channel m ns to_y began bid iy h =
-      fee_answered ans p channel m ns to_y (begun_so a p.x began) bid iy h
-  fee_by true true (Err e) p is channel m ns to_y began bid iy h = passed_on p is channel ns to_y iy h
-  fee_by true false r p is channel m ns to_y began bid iy h = passed_on p is channel ns to_y iy h
-  fee_by false right r p is channel m ns to_y began bid iy h = passed_on p is channel ns to_y iy h
+  fee_by true true (Ok ans) p is channel m ns to_y began may bid iy h =
+      fee_answered ans p channel m ns to_y may (begun_so a p.x began) bid iy h
+  fee_by true true (Err e) p is channel m ns to_y began may bid iy h = passed_on p is channel ns to_y iy h
+  fee_by true false r p is channel m ns to_y began may bid iy h = passed_on p is channel ns to_y iy h
+  fee_by false right r p is channel m ns to_y began may bid iy h = passed_on p is channel ns to_y iy h
 
   fee_taken : (p : Ends) → p.x_line ≡ Met → (channel : List ℕ) (m : ClosingSigned) (ns to_y : List Notice)
       → p.to_y ≡ messages_of channel to_y → Hold a b channel Met p.y_line p.x p.y (Close m ∷ ns) to_y p.said_x p.said_y
@@ -336,7 +337,7 @@ module _ (a b : Signer) (keys : AreKeys a b) where
       subst (λ l. Holds a b (answers (message_at a l (message.ClosingSigned m) p.x) q)) (sym is)
       (fee_by (has_begun p.x) (a.accepts_close m.fee_satoshis m.signature)
       (answer_to p.x.closing m.fee_satoshis (range_in m)) p is channel m ns to_y refl
-      (closing_sent p.y_line m (side_of a p.x) (side_of b p.y) ns h.told.back.speech) iy
+      (fair p.x.closing m.fee_satoshis (range_in m)) (closing_sent p.y_line m (side_of a p.x) (side_of b p.y) ns h.told.back.speech) iy
       (passed_close a b keys channel p.y_line p.x p.y p.said_x p.said_y m ns to_y h))
 
   delivered_by : (l : Line) (p : Ends) → p.x_line ≡ l → (channel : List ℕ) (ns to_y : List Notice)

@@ -38,6 +38,8 @@ use Rattle.ln_msgs.specs.declared.messages.closing.ClosingSigned.{ClosingSigned}
 use Rattle.ln_log.specs.Log.{same_counts}
 use Rattle.ln_pair.proofs.Ending.{HasBegun, Ending, covers_all, allowed_own, no_removal, held_none, not_due, not_next}
 use Rattle.ln_pair.proofs.Ending.{still, no_proposal}
+use Rattle.ln_pair.proofs.Closing.{SignsAll, Closer, closer, Closes, NoCloses, closes-posts, closes-unsent, one_less}
+use Rattle.ln_pair.proofs.Closing.{dealt_closes, Due}
 use Rattle.ln_pair.proofs.Flow.{kept_close, kept_skipped, kept_dealt}
 use Rattle.ln_pair.proofs.Telling.{IsStill, told_close, told_skipped, told_dealt}
 use Rattle.ln_pair.proofs.Sides.{Close, closes_of, dealt, has_bid}
@@ -117,6 +119,10 @@ pub record Hold (a b : Signer) (channel : List ℕ) (lx ly : Line) (x y : End) (
   pub told : BothTold (both lx ly (side_of a x) (side_of b y) to_x to_y)
   pub ended : Ending (side_of a x) (side_of b y)
   pub ended_back : Ending (side_of b y) (side_of a x)
+  pub closes : Due a x.closing.fees (side_of a x) (side_of b y) to_y
+  pub closes_back : Due b y.closing.fees (side_of b y) (side_of a x) to_x
+  pub x_signs : SignsAll a x.closing.fees (side_of a x).close_message
+  pub y_signs : SignsAll b y.closing.fees (side_of b y).close_message
   pub x_channel : x.dance.channel ≡ channel
   pub y_channel : y.dance.channel ≡ channel
   pub x_knows : Knows b x y
@@ -132,6 +138,10 @@ flip a b channel lx ly x y to_x to_y said_x said_y h = record {
   told = record { there = h.told.back; back = h.told.there };
   ended = h.ended_back;
   ended_back = h.ended;
+  closes = h.closes_back;
+  closes_back = h.closes;
+  x_signs = h.y_signs;
+  y_signs = h.x_signs;
   x_channel = h.y_channel;
   y_channel = h.x_channel;
   x_knows = h.y_knows;
@@ -149,6 +159,10 @@ numbered a b channel lx ly x y to_x to_y said_x said_y l h = record {
   told = h.told;
   ended = h.ended;
   ended_back = h.ended_back;
+  closes = h.closes;
+  closes_back = h.closes_back;
+  x_signs = h.x_signs;
+  y_signs = h.y_signs;
   x_channel = h.x_channel;
   y_channel = h.y_channel;
   x_knows = record {
@@ -283,15 +297,23 @@ module _ (a b : Signer) (keys : AreKeys a b) (channel : List ℕ) (ly : Line) (x
   -- where x has become n, whose image is this
   moved : (n : End) (side : Side) (to_x to_y rest sent : List Notice) (said : List Message) → side_of a n ≡ side
       → Hold a b channel Met ly x y to_x to_y said_x said_y
+      → n.closing.fees ≡ x.closing.fees → Due a x.closing.fees side (side_of b y) sent
+      → Due b y.closing.fees (side_of b y) side rest → SignsAll a x.closing.fees side.close_message
       → Kept (both Met ly side (side_of b y) rest sent) → BothTold (both Met ly side (side_of b y) rest sent)
       → Ending side (side_of b y) → Ending (side_of b y) side
       → n.dance.channel ≡ x.dance.channel → Knows b n y → Knows a y n → Said n.closing.shut said
       → Hold a b channel Met ly n y rest sent said said_y
-  moved n side to_x to_y rest sent said e h k t d db c kn kp s = record {
+  moved n side to_x to_y rest sent said e h fs cl clb sg k t d db c kn kp s = record {
     kept = subst (λ z. Kept (both Met ly z (side_of b y) rest sent)) (sym e) k;
     told = subst (λ z. BothTold (both Met ly z (side_of b y) rest sent)) (sym e) t;
     ended = subst (λ z. Ending z (side_of b y)) (sym e) d;
     ended_back = subst (λ z. Ending (side_of b y) z) (sym e) db;
+    closes = subst (λ f. Due a f (side_of a n) (side_of b y) sent) (sym fs)
+        (subst (λ z. Due a x.closing.fees z (side_of b y) sent) (sym e) cl);
+    closes_back = subst (λ z. Due b y.closing.fees (side_of b y) z rest) (sym e) clb;
+    x_signs = subst (λ f. SignsAll a f (side_of a n).close_message) (sym fs)
+        (subst (λ (z : Side). SignsAll a x.closing.fees z.close_message) (sym e) sg);
+    y_signs = h.y_signs;
     x_channel = c ∙ h.x_channel;
     y_channel = h.y_channel;
     x_knows = kn;
@@ -326,6 +348,25 @@ module _ (a b : Signer) (keys : AreKeys a b) (channel : List ℕ) (ly : Line) (x
   not_closed none e true q = absurd (none (e.begun (e.answered q)))
   not_closed none e false q = q
 
+  not_bid : (HasBegun (side_of a x) → ⊥) → Ending (side_of a x) (side_of b y) → (c : Bool) → has_bid (side_of a x) ≡ c
+      → has_bid (side_of a x) ≡ false
+  not_bid none e true q = absurd (none (e.begun q))
+  not_bid none e false q = q
+
+  -- x sends no closing_signed
+  posted_due : (new to_y : List Notice) → NoCloses new → Due a x.closing.fees (side_of a x) (side_of b y) to_y
+      → Due a x.closing.fees (side_of a x) (side_of b y) (posts ly new to_y)
+  posted_due new to_y n h = closes-posts a x.closing.fees ly (closer x_side) y_side.revocations y_side.peer_shut
+      (length y_side.got) new to_y n h
+
+  -- nor has it sent one
+  moved_due : (v : Closer) (new to_y : List Notice) → NoCloses new → has_bid (side_of a x) ≡ false
+      → Due a x.closing.fees (side_of a x) (side_of b y) to_y
+      → Closes a x.closing.fees v y_side.revocations y_side.peer_shut (length y_side.got) (posts ly new to_y)
+  moved_due v new to_y n e h = closes-posts a x.closing.fees ly v y_side.revocations y_side.peer_shut
+      (length y_side.got) new to_y n (closes-unsent a x.closing.fees (closer x_side) v y_side.revocations
+      y_side.peer_shut (length y_side.got) to_y e h)
+
   -- ---- x takes an update
 
   pub took_update : (u : Change) (ns to_y : List Notice)
@@ -342,6 +383,8 @@ module _ (a b : Signer) (keys : AreKeys a b) (channel : List ℕ) (ly : Line) (x
       moved (takes u x) (received u (side_of a x)) (Update u ∷ ns) to_y ns to_y said_x
       (takes_so a x u fits.sent (omega (arith, f.within.peer_signed, f.within.peer_current, length-sent l.received)))
       h
+      refl h.closes (one_less b y.closing.fees (closer y_side) x_side.revocations x_side.peer_shut x_side.got u ns
+      h.closes_back) h.x_signs
       (kept_update ly (side_of a x) (side_of b y) u ns to_y h.kept)
       (told_update ly (side_of a x) (side_of b y) u ns to_y h.told)
       (unmoved (received u x_side) none h.ended.news refl refl h.ended)
@@ -376,6 +419,8 @@ module _ (a b : Signer) (keys : AreKeys a b) (channel : List ℕ) (ly : Line) (x
       h.kept.back h.ended_back q m due in
       moved (accepts x) (accepted_all z (reestablish_message a (accepts x).dance) x_side) (Sign m ∷ ns) to_y ns
       (posts ly (Revoke z ∷ []) to_y) (said_x ++ message.RevokeAndAck z ∷ []) (accepts_so a x) h
+      refl (moved_due (closer (accepted_all z (reestablish_message a (accepts x).dance) x_side)) (Revoke z ∷ []) to_y tt
+      (not_bid none h.ended (has_bid x_side) refl) h.closes) h.closes_back h.x_signs
       (kept_sign ly z (reestablish_message a (accepts x).dance) x_side y_side m ns to_y h.kept)
       (told_sign ly z (reestablish_message a (accepts x).dance) x_side y_side m ns to_y h.told)
       (unmoved (accepted_all z (reestablish_message a (accepts x).dance) x_side) none h.ended.news refl refl h.ended)
@@ -422,6 +467,7 @@ module _ (a b : Signer) (keys : AreKeys a b) (channel : List ℕ) (ly : Line) (x
       let none : HasBegun x_side → ⊥ = λ q. not_next Met ly x_side y_side to_y h.kept.there h.ended q m next in
       moved (revokes m x) (acknowledged_all z (reestablish_message a (revokes m x).dance) x_side) (Revoke m ∷ ns)
       to_y ns to_y said_x refl h
+      refl h.closes h.closes_back h.x_signs
       (kept_revoke ly z (reestablish_message a (revokes m x).dance) x_side y_side m ns to_y h.kept)
       (told_revoke ly z (reestablish_message a (revokes m x).dance) x_side y_side m ns to_y
       h.kept.there.within.own_acked h.told)
@@ -472,6 +518,7 @@ module _ (a b : Signer) (keys : AreKeys a b) (channel : List ℕ) (ly : Line) (x
       subst (λ q. Hold a b channel Met ly q y ns to_y said_x said_y) (sym goes)
       (moved n (record x_side { peer_ready = true; signature = signature_again a n.dance }) (Ready m ∷ ns)
       to_y ns to_y said_x refl h
+      refl h.closes h.closes_back h.x_signs
       (kept_ready ly m (signature_again a n.dance) x_side y_side ns to_y
       (λ os k. carries_first (signature_again a n.dance) x_side y_side os
       (none_signed x.dance.numbers.signed y_side.number none) k) h.kept)
@@ -512,6 +559,10 @@ module _ (a b : Signer) (keys : AreKeys a b) (channel : List ℕ) (ly : Line) (x
         told = told_skipped ly m x_side y_side ns to_y is nothing h.told;
         ended = h.ended;
         ended_back = h.ended_back;
+        closes = h.closes;
+        closes_back = h.closes_back;
+        x_signs = h.x_signs;
+        y_signs = h.y_signs;
         x_channel = h.x_channel;
         y_channel = h.y_channel;
         x_knows = h.x_knows;
@@ -557,6 +608,7 @@ module _ (a b : Signer) (keys : AreKeys a b) (channel : List ℕ) (ly : Line) (x
       subst (λ n. Hold a b channel Met ly n y ns to_y said_x said_y) (sym same)
       (moved x (record x_side { peer_ready = true; signature = x_side.signature }) (Ready m ∷ ns) to_y ns to_y said_x
       (ap (λ r. record x_side { peer_ready = r }) e) h
+      refl h.closes h.closes_back h.x_signs
       (kept_ready ly m x_side.signature x_side y_side ns to_y (λ os k. k) h.kept)
       (told_ready ly m x_side.signature x_side y_side ns to_y h.told)
       (record { news = h.ended.news; begun = h.ended.begun; closed = h.ended.closed; answered = h.ended.answered })
@@ -604,6 +656,7 @@ module _ (a b : Signer) (keys : AreKeys a b) (channel : List ℕ) (ly : Line) (x
   took_shutdown_again m ns to_y e h =
       moved x (record x_side { peer_shut = true }) (Shutdown m ∷ ns) to_y ns to_y said_x
       (ap (λ r. record x_side { peer_shut = r }) e) h
+      refl h.closes h.closes_back h.x_signs
       (kept_shutdown ly m x_side y_side ns to_y h.kept)
       (told_shutdown ly m x_side y_side ns to_y h.told)
       (shut_ended h.ended) (record {
@@ -620,6 +673,7 @@ module _ (a b : Signer) (keys : AreKeys a b) (channel : List ℕ) (ly : Line) (x
   took_shutdown m ns to_y h =
       let told : m ≡ shutdown_message y = (front_told ly x_side y_side (Shutdown m) ns h.told.back.speech).1 in
       moved (shuts_by_peer m x) (record x_side { peer_shut = true }) (Shutdown m ∷ ns) to_y ns to_y said_x refl h
+      refl h.closes h.closes_back h.x_signs
       (kept_shutdown ly m x_side y_side ns to_y h.kept)
       (told_shutdown ly m x_side y_side ns to_y h.told)
       (shut_ended h.ended) (record {
@@ -654,6 +708,7 @@ module _ (a b : Signer) (keys : AreKeys a b) (channel : List ℕ) (ly : Line) (x
       moved (confirmed id x) (record x_side { ready = true }) to_x to_y to_x
       (posts ly (Ready (ready_message a x) ∷ []) to_y)
       (said_x ++ message.ChannelReady (ready_message a x) ∷ []) refl h
+      refl (posted_due (Ready (ready_message a x) ∷ []) to_y tt h.closes) h.closes_back h.x_signs
       (kept_confirmed ly x_side y_side to_x to_y h.kept)
       (told_confirmed ly x_side y_side to_x to_y h.told)
       (record { news = h.ended.news; begun = h.ended.begun; closed = h.ended.closed; answered = h.ended.answered })
@@ -697,6 +752,7 @@ module _ (a b : Signer) (keys : AreKeys a b) (channel : List ℕ) (ly : Line) (x
       moved (proposes u x) (proposed (as_sent u) x_side) to_x to_y to_x (posts ly (Update (as_sent u) ∷ []) to_y)
       (said_x ++ update_message channel u ∷ []) (proposes_so a x u
       (omega (arith, w.own_signed, length-sent x.dance.log.own))) h
+      refl (posted_due (Update (as_sent u) ∷ []) to_y tt h.closes) h.closes_back h.x_signs
       (kept_proposed ly x_side y_side (as_sent u) to_x to_y fits h.kept)
       (told_proposed ly x_side y_side (as_sent u) to_x to_y (not_closed nobegun h.ended y_side.closed refl)
       (omega (arith, w.own_acked, w.own_signed))
@@ -751,6 +807,8 @@ module _ (a b : Signer) (keys : AreKeys a b) (channel : List ℕ) (ly : Line) (x
       let nobegun : HasBegun x_side → ⊥ = λ q. (let all = covers_all x_side h.kept.there.within q in new all.0 all.1) in
       moved (signs_next x) (signed_all z x_side) to_x to_y to_x (posts ly (Sign z ∷ []) to_y)
       (said_x ++ message.CommitmentSigned z ∷ []) (signs_so a x) h
+      refl (moved_due (closer (signed_all z x_side)) (Sign z ∷ []) to_y tt (not_bid nobegun h.ended (has_bid x_side) refl)
+      h.closes) h.closes_back h.x_signs
       (kept_signed ly z x_side y_side to_x to_y equal h.kept)
       (told_signed ly z x_side y_side to_x to_y (not_closed nobegun h.ended y_side.closed refl)
       (record { sent = ready.0; taken = ready.1 }) h.told)
@@ -799,13 +857,15 @@ module _ (a b : Signer) (keys : AreKeys a b) (channel : List ℕ) (ly : Line) (x
 
   -- with the script that n has, and but for this as x was
   shut_with : (n : End) (z : ShutdownMessage) (to_x to_y : List Notice)
-      → side_of a n ≡ record x_side { shut = true; shut_message = z } → n.dance.channel ≡ x.dance.channel → Knows b n y
+      → side_of a n ≡ record x_side { shut = true; shut_message = z } → n.dance.channel ≡ x.dance.channel
+      → n.closing.fees ≡ x.closing.fees → Knows b n y
       → Knows a y n → x.closing.shut ≡ false → all_acknowledged x.dance.log ≡ true → n.closing.shut ≡ true
       → Hold a b channel Met ly x y to_x to_y said_x said_y
       → Hold a b channel Met ly n y to_x (posts ly (Shutdown z ∷ []) to_y) (said_x ++ message.Shutdown z ∷ []) said_y
-  shut_with n z to_x to_y is same kn kp unshut all shut h =
+  shut_with n z to_x to_y is same fs kn kp unshut all shut h =
       moved n (record x_side { shut = true; shut_message = z }) to_x to_y to_x (posts ly (Shutdown z ∷ []) to_y)
       (said_x ++ message.Shutdown z ∷ []) is h
+      fs (posted_due (Shutdown z ∷ []) to_y tt h.closes) h.closes_back h.x_signs
       (kept_shut ly z x_side y_side to_x to_y h.kept)
       (told_shut ly z x_side y_side to_x to_y unshut (eqb-true x.dance.log.acknowledged.own (length x.dance.log.own) all
       ∙ sym (length-sent x.dance.log.own)) h.told)
@@ -827,7 +887,7 @@ module _ (a b : Signer) (keys : AreKeys a b) (channel : List ℕ) (ly : Line) (x
   shuts script to_x to_y none h =
       let p = otherwise x.closing.shut refusal.Shut _ none in
       let q = where_true (all_acknowledged x.dance.log) (script_fault script) refusal.UpdatesPending p.1 in
-      shut_with (shuts_down script x) (shutdown_message (shuts_down script x)) to_x to_y refl refl
+      shut_with (shuts_down script x) (shutdown_message (shuts_down script x)) to_x to_y refl refl refl
       (record {
         point = h.x_knows.point;
         next_point = h.x_knows.next_point;
@@ -850,7 +910,7 @@ module _ (a b : Signer) (keys : AreKeys a b) (channel : List ℕ) (ly : Line) (x
       → Hold a b channel Met ly (record x { closing = after_shut x.closing }) y to_x
       (posts ly (Shutdown (shutdown_message x) ∷ []) to_y) (said_x ++ message.Shutdown (shutdown_message x) ∷ []) said_y
   shuts_in_answer to_x to_y unshut all h =
-      shut_with (record x { closing = after_shut x.closing }) (shutdown_message x) to_x to_y refl refl
+      shut_with (record x { closing = after_shut x.closing }) (shutdown_message x) to_x to_y refl refl refl
       (record {
         point = h.x_knows.point;
         next_point = h.x_knows.next_point;
@@ -871,15 +931,18 @@ module _ (a b : Signer) (keys : AreKeys a b) (channel : List ℕ) (ly : Line) (x
 
   -- what x has said and taken of fees, where closing has begun
   pub dealt_so : (n : End) (m : Option ClosingSigned) (c : Bool) (sent : Option ClosingSigned) (out : List Message)
-      (to_x to_y : List Notice) → side_of a n ≡ dealt m c x_side → n.dance.channel ≡ x.dance.channel → Knows b n y
+      (to_x to_y : List Notice) → side_of a n ≡ dealt m c x_side → n.dance.channel ≡ x.dance.channel
+      → n.closing.fees ≡ x.closing.fees → SignsAll a x.closing.fees m → SignsAll a x.closing.fees sent → Knows b n y
       → Knows a y n → n.closing.shut ≡ x.closing.shut
       → HasBegun x_side → (x_side.closed ≡ true → c ≡ true) → (has_bid x_side ≡ true → is_some m ≡ true)
       → (is_some sent ≡ true → is_some m ≡ true) → (c ≡ true → has_bid y_side ≡ true)
       → Said x.closing.shut (said_x ++ out)
       → Hold a b channel Met ly x y to_x to_y said_x said_y
       → Hold a b channel Met ly n y to_x (posts ly (closes_of sent) to_y) (said_x ++ out) said_y
-  dealt_so n m c sent out to_x to_y is same kn kp shut begun cl bd st an said h =
+  dealt_so n m c sent out to_x to_y is same fs sg sig kn kp shut begun cl bd st an said h =
       moved n (dealt m c x_side) to_x to_y to_x (posts ly (closes_of sent) to_y) (said_x ++ out) is h
+      fs (dealt_closes a x.closing.fees ly x_side y_side m c sent to_y begun h.kept.there.within h.kept.there.flight
+      h.told.there.speech bd st sig h.closes) h.closes_back sg
       (kept_dealt ly m c sent x_side y_side to_x to_y h.kept)
       (told_dealt ly m c sent x_side y_side to_x to_y cl bd st h.told)
       (record { news = h.ended.news; begun = λ q. begun; closed = λ q. begun; answered = λ q. bd (h.ended.answered q) })
@@ -895,6 +958,10 @@ module _ (a b : Signer) (keys : AreKeys a b) (channel : List ℕ) (ly : Line) (x
     told = told_close ly m x_side y_side ns to_y h.told;
     ended = h.ended;
     ended_back = h.ended_back;
+    closes = h.closes;
+    closes_back = h.closes_back.1;
+    x_signs = h.x_signs;
+    y_signs = h.y_signs;
     x_channel = h.x_channel;
     y_channel = h.y_channel;
     x_knows = h.x_knows;

@@ -1,7 +1,7 @@
 -- Every step is a turn of one end, and keeps what every step keeps.
 use Rattle.std.proofs.Common.{length, ◌==◌, Some, None}
 use Rattle.std.proofs.Common.{◌≡◌, ℕ, ◌+◌, ◌≤◌, List, [], ◌∷◌, ◌++◌, take, refl, sym, ap, ◌∙◌, subst, arith, append-nil}
-use Rattle.std.proofs.Common.{Bool, true, false, cond, not, ◌&&◌, Option, Ok, Err}
+use Rattle.std.proofs.Common.{Bool, true, false, cond, not, ◌&&◌, Option, Ok, Err, inl}
 use Rattle.std.proofs.lemmas.List.{take-take}
 use Rattle.std.proofs.lemmas.Cmp.{nat_list_eq_equiv}
 use Rattle.ln_msgs.specs.declared.messages.message.Message.{Message}
@@ -277,7 +277,8 @@ module _ (a b : Signer) (keys : AreKeys a b) (channel : List ℕ) (ly : Line) (x
       let n : End = record x { closing = record x.closing { own_fee = Some x.closing.fees.first } } in
       let m = closing_message a x x.closing.fees.first in
       dealt_so a b keys channel ly x y said_x said_y n (Some m) (side_of a x).closed (Some m)
-      (message.ClosingSigned m ∷ []) to_x to_y refl refl (same_x h.x_knows) (same_y h.y_knows) refl
+      (message.ClosingSigned m ∷ []) to_x to_y refl refl refl (refl, inl refl) (refl, inl refl) (same_x h.x_knows)
+      (same_y h.y_knows) refl
       (begun_so a x is) (λ e. e) (λ e. refl) (λ e. refl) h.ended_back.answered
       (said_more x.closing.shut x.closing.shut said_x (message.ClosingSigned m) (λ e. absurd (cc)) (λ e. e)
       (λ e. absurd (cc)) h.x_said) h

@@ -1,7 +1,9 @@
 -- What every list of steps of two ends promises.
-use Rattle.std.specs.Prelude.{◌≡◌, ℕ, ◌≤◌, ◌^◌, List, [], ◌∷◌, length, Bool, true, false, ◌||◌, Some, Ok}
+use Rattle.std.specs.Prelude.{◌≡◌, ◌⊎◌, ℕ, ◌<◌, ◌≤◌, ◌^◌, List, [], ◌∷◌, length, Bool, true, false, ◌||◌, Some}
+use Rattle.std.specs.Prelude.{Result, Ok, Err}
 use Rattle.ln_msgs.specs.declared.messages.message.Message.{Message}
 use Rattle.ln_msgs.specs.declared.messages.message.Message.TheVariants as message
+use Rattle.ln_msgs.specs.declared.refusals.refusal.Refusal.{Refusal}
 use Rattle.ln_msgs.specs.declared.refusals.refusal.Refusal.TheVariants as refusal
 use Rattle.ln_keys.specs.Signer.{Signer}
 use Rattle.ln_keys.specs.Partners.{ArePartners}
@@ -11,6 +13,7 @@ use Rattle.ln_keys.specs.declared.view.View.{View}
 use Rattle.ln_log.specs.declared.log.Pair.TheVariants as pair
 use Rattle.ln_log.specs.declared.log.Side.TheVariants as side
 use Rattle.ln_dance.specs.Dance.{sign_fault, view_at}
+use Rattle.ln_close.specs.declared.closing.Fees.{Fees}
 use Rattle.ln_link.specs.End.{End, Turn}
 use Rattle.ln_link.specs.declared.link.Line.{Line}
 use Rattle.ln_link.specs.declared.link.Line.TheVariants.{Met}
@@ -36,10 +39,19 @@ abbrev pub is_closing_signed : Message → Bool
 is_closing_signed (message.ClosingSigned m) = true
 is_closing_signed m = false
 
--- the message in front is taken, but for a closing_signed: its fee may be refused
+-- fees are told in eight bytes
+pub record AreSent (f : Fees) : Type 0 where
+  pub first : f.first < 2 ^ 64
+  pub greatest : f.greatest < 2 ^ 64
+
+abbrev pub IsTaken : Result Turn Refusal → Type 0
+IsTaken r = (t : Turn) × (r ≡ Ok t)
+
+-- the message in front is taken, or it is a closing_signed whose fee can't be agreed to
 abbrev pub TakesFront : Signer → Line → List Message → End → Type 0
 TakesFront keys l [] e = Unit {0}
-TakesFront keys l (m ∷ ms) e = is_closing_signed m ≡ false → (t : Turn) × (message_at keys l m e ≡ Ok t)
+TakesFront keys l (m ∷ ms) e = IsTaken (message_at keys l m e)
+    ⊎ ((is_closing_signed m ≡ true) × (message_at keys l m e ≡ Err refusal.FeeOutside))
 
 abbrev pub NoneRefused : Signer → Signer → Ends → Type 0
 NoneRefused a b p = TakesFront a p.x_line p.to_x p.x × TakesFront b p.y_line p.to_y p.y

@@ -16,7 +16,7 @@ ghost use Rattle.ln_link.specs.End.{End};
 ghost use Rattle.ln_link.specs.Meeting.{Opens};
 ghost use Rattle.ln_link.specs.Step.{turned, saved_at, obeyed};
 ghost use Rattle.ln_pair.specs.Ends.{Step, opened, message_at, command_at, run};
-ghost use Rattle.ln_pair.specs.Promises.{AreKeys, Headline, NoneRefused, Agrees, NoneAddsLate};
+ghost use Rattle.ln_pair.specs.Promises.{AreKeys, AreSent, Headline, NoneRefused, Agrees, NoneAddsLate};
 
 /// A law: what either end holds as irrevocably committed is, each update once and in the order in which it was sent,
 /// a beginning of what the other end has covered by a signature.
@@ -25,11 +25,12 @@ pub fn held_was_covered()
         → Opens a b s c funder fundee → Headline (run a b steps (opened funder fundee)) }
 {}
 
-/// A law: no message that is delivered is refused but a `closing_signed`, whose fee may be. That holds of
-/// `channel_reestablish` and of what is sent again behind it too.
+/// A law: every message that is delivered is taken, `channel_reestablish` and what is sent again behind it included,
+/// but for a `closing_signed` whose fee can't be agreed to, which is refused as such (36) and as nothing else. The
+/// closing fees of both are below 2^64, as their numbers are sent in eight bytes.
 pub fn no_message_is_refused()
     ensures { (a b : Signer) (s : OpenSpec) (c : Config) (funder fundee : Opened) (steps : List Step) → AreKeys a b
-        → Opens a b s c funder fundee → NoneRefused a b (run a b steps (opened funder fundee)) }
+        → Opens a b s c funder fundee → AreSent funder.closing.fees → AreSent fundee.closing.fees → NoneRefused a b (run a b steps (opened funder fundee)) }
 {}
 
 /// A law: where both ends have met, nothing is in flight and neither has anything to sign, both hold every update of
