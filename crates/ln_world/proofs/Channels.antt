@@ -22,7 +22,7 @@ use Rattle.ln_link.specs.Step.{Done, handled}
 use Rattle.ln_link.specs.Step as step
 use Rattle.ln_pair.specs.Ends.{Ends, Step}
 use Rattle.ln_pair.specs.Ends as pair
-use Rattle.ln_pair.specs.Promises.{AreKeys}
+use Rattle.ln_pair.specs.Promises.{AreKeys, AreSent, TakesFront as Front}
 use Rattle.ln_pair.specs.Promises as promise
 use Rattle.ln_pair.proofs.Promised as promised
 use Rattle.ln_world.specs.declared.step.Act.{Act}
@@ -35,7 +35,7 @@ use Rattle.ln_world.specs.Channel.{Channel, by, side_of, moved, may_meet, act_mo
 use Rattle.ln_world.specs.Promises.{AtEnds, WithPeer, FollowEachOther, Headline, IsTaken, TakesFront, NoneRefused}
 use Rattle.ln_world.specs.Promises.{IsQuiet, HasSignedAll, AgreeOnceSigned, Agrees}
 use Rattle.ln_world.proofs.Mirror.{link_of, is_warning, without_warnings, IsInbox, Mirrors, flipped, plain}
-use Rattle.ln_world.proofs.Moves.{Front, Goes, handled_so, passed_so, delivered, given, fell, met, is_up}
+use Rattle.ln_world.proofs.Moves.{Goes, handled_so, passed_so, delivered, given, fell, met, is_up}
 
 -- ---- the pair's steps
 
@@ -43,10 +43,6 @@ pub run-append : (a b : Signer) (ss : List Step) (s : Step) (p : Ends)
     → pair.run a b (ss ++ s ∷ []) p ≡ pair.happens a b s (pair.run a b ss p)
 run-append a b [] s p = refl
 run-append a b (r ∷ ss) s p = run-append a b ss s (pair.happens a b r p)
-
--- the messages in front of both ends are taken, but for a closing_signed that is refused by 36
-abbrev pub BothFronts : Signer → Signer → Ends → Type 0
-BothFronts a b q = Front a q.x_line q.to_x q.x × Front b q.y_line q.to_y q.y
 
 -- ---- a channel whose links are at the ends of a pair
 
@@ -61,14 +57,20 @@ module _ {K : Type 0} (signer : K → Signer) where
     pub steps : List Step
     pub keys : AreKeys (signer funders) (signer fundees)
     pub opens : Opens (signer funders) (signer fundees) spec config funder fundee
-    pub fronts : (ss : List Step) → BothFronts (signer funders) (signer fundees)
-        (pair.run (signer funders) (signer fundees) ss (pair.opened funder fundee))
+    pub funders_fees : AreSent funder.closing.fees
+    pub fundees_fees : AreSent fundee.closing.fees
     pub mirrors : Mirrors id funders fundees p
         (pair.run (signer funders) (signer fundees) steps (pair.opened funder fundee))
 
   -- the ends
   abbrev ends_of : (id : List ℕ) (p : Both K) → IsRun id p → Ends
   ends_of id p r = pair.run (signer r.funders) (signer r.fundees) r.steps (pair.opened r.funder r.fundee)
+
+  -- the message in front of each end
+  fronts : (id : List ℕ) (p : Both K) (r : IsRun id p)
+      → promise.NoneRefused (signer r.funders) (signer r.fundees) (ends_of id p r)
+  fronts id p r = promised.none_refused (signer r.funders) (signer r.fundees) r.spec r.config r.funder r.fundee
+      r.steps r.keys r.opens r.funders_fees r.fundees_fees
 
   -- no step more
   as_before : (id : List ℕ) (p p' : Both K) (r : IsRun id p) → Mirrors id r.funders r.fundees p' (ends_of id p r)
@@ -83,7 +85,8 @@ module _ {K : Type 0} (signer : K → Signer) where
     steps = r.steps;
     keys = r.keys;
     opens = r.opens;
-    fronts = r.fronts;
+    funders_fees = r.funders_fees;
+    fundees_fees = r.fundees_fees;
     mirrors = h;
   }
 
@@ -101,7 +104,8 @@ module _ {K : Type 0} (signer : K → Signer) where
     steps = r.steps ++ s ∷ [];
     keys = r.keys;
     opens = r.opens;
-    fronts = r.fronts;
+    funders_fees = r.funders_fees;
+    fundees_fees = r.fundees_fees;
     mirrors = subst (Mirrors id r.funders r.fundees p') (sym (run-append (signer r.funders) (signer r.fundees)
         r.steps s (pair.opened r.funder r.fundee))) h;
   }
@@ -115,14 +119,14 @@ module _ {K : Type 0} (signer : K → Signer) where
   unfolding moves
   acted id Funder a p r =
       let q = ends_of id p r in
-      elim (acts_so id a r.funders r.fundees p q r.mirrors (r.fronts r.steps).0) [
+      elim (acts_so id a r.funders r.fundees p q r.mirrors (fronts id p r).0) [
         | inl h ↦ as_before id p _ r h
         | inr h ↦ one_more id p _ r (pair.By Funder h.0) h.1
       ]
   acted id Fundee a p r =
       let q = ends_of id p r in
       elim (acts_so id a r.fundees r.funders (turned p) (pair.turned q)
-      (flipped id r.funders r.fundees p q r.mirrors) (r.fronts r.steps).1) [
+      (flipped id r.funders r.fundees p q r.mirrors) (fronts id p r).1) [
         | inl h ↦ as_before id p _ r (flipped id r.fundees r.funders _ (pair.turned q) h)
         | inr h ↦
             one_more id p _ r (pair.By Fundee h.0)
@@ -241,8 +245,8 @@ module _ {K : Type 0} (signer : K → Signer) where
       let q = ends_of id p r in
       let h = r.mirrors in
       record {
-        x = front_by id r.funders p.x.link q.x_line q.x p.x.inbox q.to_x h.x_link h.x_in h.x_channel (r.fronts r.steps).0;
-        y = front_by id r.fundees p.y.link q.y_line q.y p.y.inbox q.to_y h.y_link h.y_in h.y_channel (r.fronts r.steps).1;
+        x = front_by id r.funders p.x.link q.x_line q.x p.x.inbox q.to_x h.x_link h.x_in h.x_channel (fronts id p r).0;
+        y = front_by id r.fundees p.y.link q.y_line q.y p.y.inbox q.to_y h.y_link h.y_in h.y_channel (fronts id p r).1;
         x_stands = ap (λ (l : State K). l.failure) h.x_link;
         y_stands = ap (λ (l : State K). l.failure) h.y_link;
       }

@@ -26,7 +26,7 @@ use Rattle.ln_link.specs.Step as step
 use Rattle.ln_log.specs.Limits.{first_fault}
 use Rattle.ln_pair.specs.Ends.{Ends, arrive, message_at, command_at, becomes, Act, Deliver, Give, Lose}
 use Rattle.ln_pair.specs.Ends as pair
-use Rattle.ln_pair.specs.Promises.{is_closing_signed}
+use Rattle.ln_pair.specs.Promises.{TakesFront as Front}
 use Rattle.ln_world.specs.declared.step.Act.TheVariants as act
 use Rattle.ln_world.specs.Lines.{messages_in, replies}
 use Rattle.ln_world.specs.Both.{Both, Place, reaches, left, left_by, sent_by, unchanged, answers, delivers, acts, falls}
@@ -36,12 +36,6 @@ use Rattle.ln_world.proofs.Named as sent
 use Rattle.ln_world.proofs.Silent.{IsSilentRow, silent_at}
 use Rattle.ln_world.proofs.Mirror.{link_of, is_warning, without_warnings, AreIn, IsInbox, Mirrors, IsPlain, plain}
 use Rattle.ln_world.proofs.Mirror.{all_plain, all_in, reached_link, reached, reached_aside}
-
--- the message in front of an end is taken, but for a closing_signed, which may be refused by 36
-abbrev pub Front : Signer → Line → List Message → End → Type 0
-Front keys l [] e = Unit {0}
-Front keys l (m ∷ ms) e = ((t : Turn) × (message_at keys l m e ≡ Ok t))
-    ⊎ ((is_closing_signed m ≡ true) × (message_at keys l m e ≡ Err refusal.FeeOutside))
 
 -- ---- what a link answers is what its end's rows say
 
