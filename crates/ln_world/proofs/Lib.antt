@@ -6,3 +6,4 @@ pub mod Mirror
 pub mod Moves
 pub mod Opened
 pub mod Channels
+pub mod Worlds

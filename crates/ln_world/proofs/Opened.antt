@@ -22,6 +22,8 @@ use Rattle.ln_link.specs.declared.link.Stage.TheVariants as stage
 use Rattle.ln_link.specs.declared.opening.Opened.{Opened}
 use Rattle.ln_link.specs.Opening.{unless, open_message, accept_fault, created_fault, first_fault, funder_end}
 use Rattle.ln_link.specs.Opening.{fundee_end, created_message, funding_message}
+use Rattle.ln_link.specs.Opening.{Agreement, agreement, accept_message, open_fault}
+use Rattle.ln_link.specs.Config.{fees_of}
 use Rattle.ln_link.specs.Meeting.{Opens}
 use Rattle.ln_link.specs.End.{end_of}
 use Rattle.ln_link.specs.State.{State, begun, refused}
@@ -161,3 +163,21 @@ module _ {K : Type 0} (signer : K → Signer) (id : List ℕ) (kx ky : K) (s : O
     x_channel = funders_channel ∙ sym e;
     y_channel = of_both ∙ funders_channel ∙ sym e;
   })
+
+  -- the closing fees that each was set up with
+  pub fees_so : (funder.closing.fees ≡ fees_of s.config) × (fundee.closing.fees ≡ fees_of c)
+  fees_so =
+      let taken : ◌≡◌ {A = Agreement × AcceptChannel} (
+        agreement (signer ky) c (open_message (signer kx) s),
+        accept_message (signer ky) c (open_message (signer kx) s),
+      ) (o.agreement, o.accept) =
+      was_given (open_fault c (open_message (signer kx) s)) _ _ o.open_channel in
+      let answered : ◌≡◌ {A = Opened × FundingCreated} (
+        funder_end (signer kx) s o.accept,
+        created_message (signer kx) s o.accept,
+      ) (funder, o.created) =
+      was_given (accept_fault s o.accept) _ _ o.accept_channel in (
+        ap (λ (w : Opened × FundingCreated). w.0.closing.fees) (sym answered),
+        ap (λ (w : Opened × FundingSigned). w.0.closing.fees) (sym funded)
+            ∙ ap (λ (w : Agreement × AcceptChannel). w.0.fees) (sym taken),
+      )

@@ -1,9 +1,10 @@
--- What the two links of an open channel promise, whatever has happened to them.
+-- What the two links of each channel of a world promise, whatever has happened to them.
 use Rattle.std.specs.Prelude.{◌≡◌, ◌⊎◌, List, [], ◌∷◌, Bool, true, false, Some, None, Result, Ok, Err}
 use Rattle.ln_msgs.specs.declared.messages.message.Message.{Message}
 use Rattle.ln_msgs.specs.declared.messages.message.Message.TheVariants as message
 use Rattle.ln_msgs.specs.declared.refusals.refusal.Refusal.{Refusal}
 use Rattle.ln_msgs.specs.declared.refusals.refusal.Refusal.TheVariants as refusal
+use Rattle.ln_keys.specs.declared.keys.ChannelKeys.{Ghosts}
 use Rattle.ln_keys.specs.Signer.{Signer}
 use Rattle.ln_log.specs.Machine.{Follows}
 use Rattle.ln_dance.specs.Dance.{sign_fault}
@@ -13,7 +14,10 @@ use Rattle.ln_link.specs.declared.link.Stage.TheVariants as stage
 use Rattle.ln_link.specs.End.{End}
 use Rattle.ln_link.specs.State.{State}
 use Rattle.ln_link.specs.Step.{Done, handled}
-use Rattle.ln_pair.specs.Promises.{party, is_closing_signed, HoldsAll, worth}
+use Rattle.ln_pair.specs.Promises.{AreKeys, AreSent, party, is_closing_signed, HoldsAll, worth}
+use Rattle.ln_world.specs.declared.step.Step.{Step}
+use Rattle.ln_world.specs.declared.step.Step.TheVariants as step
+use Rattle.ln_world.specs.World.{World}
 use Rattle.ln_world.specs.Both.{Both}
 
 -- both links have their channel open, and of its two ends this holds
@@ -69,3 +73,25 @@ AgreeOnceSigned x y = HasSignedAll x → HasSignedAll y
 
 abbrev pub Agrees : {K : Type 0} → Both K → Type 0
 Agrees p = IsQuiet p → AtEnds AgreeOnceSigned p.x.link.stage p.y.link.stage
+
+-- ---- what the steps bring
+
+-- a step of the code brings numbers of 64 bits, and keys that are partners, with points of 33 bytes
+abbrev pub BringsFit : {K : Type 0} → (k : Ghosts K) → Step K k → Type 0
+BringsFit k (step.Fees n fees) = AreSent fees
+BringsFit k (step.Limits n limits) = Unit {0}
+BringsFit k (step.Open o) = AreKeys (k.signer o.keys.funder) (k.signer o.keys.fundee)
+BringsFit k (step.Do e a) = Unit {0}
+BringsFit k (step.Down e) = Unit {0}
+BringsFit k (step.Up n) = Unit {0}
+
+abbrev pub Each : {A : Type 0} → (A → Type 0) → List A → Type 0
+Each P [] = Unit {0}
+Each P (x ∷ xs) = P x × Each P xs
+
+abbrev pub BringFit : {K : Type 0} → (k : Ghosts K) → List (Step K k) → Type 0
+BringFit k steps = Each (BringsFit k) steps
+
+-- each channel of a world
+abbrev pub OfEach : {K : Type 0} → (Both K → Type 0) → World K → Type 0
+OfEach P w = Each (λ c. P c.both) w.channels

@@ -4,6 +4,7 @@
 mod answer;
 mod both;
 mod channel;
+mod laws;
 mod line;
 mod settings;
 mod step;
@@ -12,6 +13,7 @@ mod tell;
 pub use answer::Answer;
 pub use both::Place;
 pub use channel::{Channel, open_channel};
+pub use laws::{both_agree_at_rest, held_was_covered, no_message_is_refused};
 pub use line::{EndLine, Ending, Line, Word};
 pub use settings::{Settings, may_bring};
 pub use step::{Act, End, Node, Open, Partners, Step};
