@@ -5,5 +5,7 @@ pub mod Silent
 pub mod Mirror
 pub mod Moves
 pub mod Opened
-pub mod Channels
+pub mod Kept
+pub mod Places
 pub mod Worlds
+pub mod Promised

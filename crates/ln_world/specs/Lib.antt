@@ -2,4 +2,5 @@ pub mod Settings
 pub mod Lines
 pub mod Both
 pub mod Channel
+pub mod World
 pub mod Promises

@@ -1,5 +1,5 @@
 -- What the two links of each channel of a world promise, whatever has happened to them.
-use Rattle.std.specs.Prelude.{◌≡◌, ◌⊎◌, List, [], ◌∷◌, Bool, true, false, Some, None, Result, Ok, Err}
+use Rattle.std.specs.Prelude.{◌≡◌, ◌⊎◌, ℕ, ◌≤◌, ◌^◌, length, List, [], ◌∷◌, Bool, true, false, Some, None, Result, Ok, Err}
 use Rattle.ln_msgs.specs.declared.messages.message.Message.{Message}
 use Rattle.ln_msgs.specs.declared.messages.message.Message.TheVariants as message
 use Rattle.ln_msgs.specs.declared.refusals.refusal.Refusal.{Refusal}
@@ -14,7 +14,7 @@ use Rattle.ln_link.specs.declared.link.Stage.TheVariants as stage
 use Rattle.ln_link.specs.End.{End}
 use Rattle.ln_link.specs.State.{State}
 use Rattle.ln_link.specs.Step.{Done, handled}
-use Rattle.ln_pair.specs.Promises.{AreKeys, AreSent, party, is_closing_signed, HoldsAll, worth}
+use Rattle.ln_pair.specs.Promises.{AreSent, party, is_closing_signed, HoldsAll, worth}
 use Rattle.ln_world.specs.declared.step.Step.{Step}
 use Rattle.ln_world.specs.declared.step.Step.TheVariants as step
 use Rattle.ln_world.specs.World.{World}
@@ -76,11 +76,15 @@ Agrees p = IsQuiet p → AtEnds AgreeOnceSigned p.x.link.stage p.y.link.stage
 
 -- ---- what the steps bring
 
--- a step of the code brings numbers of 64 bits, and keys that are partners, with points of 33 bytes
+-- points have 33 bytes, as those that keys answer in code
+abbrev pub HavePoints : Signer → Type 0
+HavePoints s = (n : ℕ) → n ≤ 2 ^ 48 → length (s.point_of n) ≡ 33
+
+-- as each step in code does: fees are numbers of 64 bits, and points have their size
 abbrev pub BringsFit : {K : Type 0} → (k : Ghosts K) → Step K k → Type 0
 BringsFit k (step.Fees n fees) = AreSent fees
 BringsFit k (step.Limits n limits) = Unit {0}
-BringsFit k (step.Open o) = AreKeys (k.signer o.keys.funder) (k.signer o.keys.fundee)
+BringsFit k (step.Open o) = HavePoints (k.signer o.keys.funder) × HavePoints (k.signer o.keys.fundee)
 BringsFit k (step.Do e a) = Unit {0}
 BringsFit k (step.Down e) = Unit {0}
 BringsFit k (step.Up n) = Unit {0}

@@ -6,7 +6,7 @@ ghost use Rattle.ln_world.specs.Settings.{CanBring};
 ghost use Rattle.ln_world.specs.Channel.{opened_by, begun_by};
 
 use crate::both::{Place, act, meet};
-use crate::line::Line;
+use crate::line::{EndLine, Line};
 use crate::settings::{Settings, fit_config, fit_spec};
 use crate::step::{Act, End, Node, Open};
 use ln_keys::{ChannelKeys, Role};
@@ -39,12 +39,14 @@ impl<K: ChannelKeys + Copy> Model for Channel<K> {
 }
 
 impl<K: ChannelKeys + Copy> Channel<K> {
-    ghost use Rattle.std.specs.Prelude.{◌≡◌, ◌++◌, ◌∷◌, [], OnOk, IfErr, if◌then◌else◌};
+    ghost use Rattle.std.specs.Prelude.{◌≡◌, ◌++◌, ◌∷◌, [], Some, OnOk, IfOk, IfErr, if◌then◌else◌};
     ghost use Rattle.ln_keys.specs.declared.role.Role.TheVariants.{Funder, Fundee};
     ghost use Rattle.ln_world.specs.Settings.{channel_id_of};
     ghost use Rattle.ln_world.specs.Both.{By, Falls, Meet, act_lines, greet_lines, greeting};
     ghost use Rattle.ln_world.specs.Channel.{side_of, moved, act_moves, fall_moves, up_moves, acted_lines};
     ghost use Rattle.ln_world.specs.Channel.{fallen_lines, place_of, end_of, opening_moves, met_lines};
+    ghost use Rattle.ln_link.specs.Standing.{standing};
+    ghost use Rattle.ln_world.specs.World.{lines_of_ends};
 
     /// Its number.
     pub fn number(&self) -> u8
@@ -102,6 +104,7 @@ impl<K: ChannelKeys + Copy> Channel<K> {
         ensures moved { OnOk result (self.new ≡ moved K.signer (λ c. By side what ∷ []) self.old) }
         ensures told { OnOk result (lines.new.items ≡ lines.old.items ++ act_lines K.signer (end_of side self.old)
             (channel_id_of self.old.number) what (place_of side self.old.both)) }
+        ensures number { self.new.number ≡ self.old.number }
         ensures memory { IfErr result (λ e. e ≡ Refusal.Memory) }
     {
         match side {
@@ -134,6 +137,7 @@ impl<K: ChannelKeys + Copy> Channel<K> {
         ensures moved { OnOk result (self.new ≡ moved K.signer (act_moves node what) self.old) }
         ensures told { OnOk result (lines.new.items
             ≡ lines.old.items ++ acted_lines K.signer what self.old (side_of node self.old)) }
+        ensures number { self.new.number ≡ self.old.number }
         ensures memory { IfErr result (λ e. e ≡ Refusal.Memory) }
     {
         match self.side_of(node) {
@@ -150,6 +154,7 @@ impl<K: ChannelKeys + Copy> Channel<K> {
     pub fn fall(&mut self, node: Node, lines: &mut Vec<Line>) -> Result<(), Refusal>
         ensures moved { OnOk result (self.new ≡ moved K.signer (fall_moves node) self.old) }
         ensures told { OnOk result (lines.new.items ≡ lines.old.items ++ fallen_lines (side_of node self.old)) }
+        ensures number { self.new.number ≡ self.old.number }
         ensures memory { IfErr result (λ e. e ≡ Refusal.Memory) }
     {
         match self.side_of(node) {
@@ -181,6 +186,7 @@ impl<K: ChannelKeys + Copy> Channel<K> {
         ensures told { OnOk result (lines.new.items ≡ lines.old.items
             ++ (greet_lines (end_of Funder self.old) (greeting K.signer self.old.both.x.link)
             ++ greet_lines (end_of Fundee self.old) (greeting K.signer self.old.both.y.link))) }
+        ensures number { self.new.number ≡ self.old.number }
         ensures memory { IfErr result (λ e. e ≡ Refusal.Memory) }
     {
         let ends = (self.end(Role::Funder), self.end(Role::Fundee));
@@ -193,6 +199,7 @@ impl<K: ChannelKeys + Copy> Channel<K> {
         ensures moved { OnOk result (self.new
             ≡ moved K.signer up_moves self.old) }
         ensures told { OnOk result (lines.new.items ≡ lines.old.items ++ met_lines K.signer self.old) }
+        ensures number { self.new.number ≡ self.old.number }
         ensures memory { IfErr result (λ e. e ≡ Refusal.Memory) }
     {
         if !(self.funder.may_come_up() && self.fundee.may_come_up()) {
@@ -200,6 +207,30 @@ impl<K: ChannelKeys + Copy> Channel<K> {
             return Ok(());
         }
         self.meet(alloc, lines)
+    }
+
+    /// Where one of its ends stands. 60 where there is no memory.
+    fn end_line(&self, alloc: Global, side: Role) -> Result<EndLine, Refusal>
+        ensures line { IfOk result (λ l. l ≡ record {
+          end = end_of side self.now;
+          standing = standing (place_of side self.now.both).link;
+        }) }
+        ensures memory { IfErr result (λ e. e ≡ Refusal.Memory) }
+    {
+        Ok(EndLine {
+            end: self.end(side),
+            standing: self.place(side).link().standing(alloc)?,
+        })
+    }
+
+    /// Where its two ends stand, the funder's first. 60 where there is no memory.
+    pub(crate) fn tell_ends(&self, alloc: Global, lines: &mut Vec<EndLine>) -> Result<(), Refusal>
+        ensures told { OnOk result (lines.new.items ≡ lines.old.items ++ lines_of_ends (Some self.now)) }
+        ensures memory { IfErr result (λ e. e ≡ Refusal.Memory) }
+    {
+        lines.push(self.end_line(alloc, Role::Funder)?)?;
+        lines.push(self.end_line(alloc, Role::Fundee)?)?;
+        Ok(())
     }
 }
 

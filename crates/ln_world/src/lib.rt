@@ -4,16 +4,19 @@
 mod answer;
 mod both;
 mod channel;
+mod channels;
 mod laws;
 mod line;
 mod settings;
 mod step;
 mod tell;
+mod world;
 
 pub use answer::Answer;
 pub use both::Place;
 pub use channel::{Channel, open_channel};
 pub use laws::{both_agree_at_rest, held_was_covered, no_message_is_refused};
 pub use line::{EndLine, Ending, Line, Word};
-pub use settings::{Settings, may_bring};
+pub use settings::{Setting, Settings, may_bring};
 pub use step::{Act, End, Node, Open, Partners, Step};
+pub use world::World;

@@ -1,9 +1,11 @@
 //! What nodes open channels with (BOLT 2, "Channel Establishment v1").
 
-ghost use Rattle.std.specs.Prelude.{◌≡◌, IfOk, IfErr, IsTrue};
+ghost use Rattle.std.specs.Prelude.{◌≡◌, position, OnOk, IfOk, IfErr, IsTrue};
 ghost use Rattle.ln_msgs.specs.declared.refusals.refusal.Refusal.TheVariants as refusal;
 ghost use Rattle.ln_world.specs.Settings.{defaults, config_of, txid_of, channel_id_of, spec_of, may_bring};
 ghost use Rattle.ln_world.specs.Settings.{CanBring};
+ghost use Rattle.ln_world.specs.Channel.{is_node};
+ghost use Rattle.ln_world.specs.World.{settings_of, with_settings};
 ghost use Rattle.ln_link.specs.Config.{IsFitConfig, IsFitSpec};
 
 use crate::step::Node;
@@ -21,6 +23,15 @@ pub struct Settings {
     pub fees: Fees,
     /// What it asks of the HTLCs that it is offered.
     pub limits: Limits,
+}
+
+/// What was set for a node.
+#[derive(Clone, Copy, Debug, PartialEq, Eq)]
+pub struct Setting {
+    /// The node.
+    pub node: Node,
+    /// What it opens channels with.
+    pub settings: Settings,
 }
 
 impl Settings {
@@ -169,4 +180,37 @@ pub(crate) fn fit_spec(
 {
     let config = config_of(alloc, node, settings)?;
     Ok(FitSpec::new(spec_of(alloc, channel, config, satoshis, push)))
+}
+
+/// What was set for a node, or the defaults.
+pub(crate) fn settings_of(all: &[Setting], node: Node) -> Settings
+    ensures { result ≡ settings_of node all.now }
+{
+    for setting in all {
+        if setting.node.letter == node.letter {
+            return setting.settings;
+        }
+    }
+    Settings::defaults()
+}
+
+/// Where what was set for a node stands.
+fn place_of(all: &[Setting], node: Node) -> Option<usize>
+    ensures { result ≡ position (λ s. is_node s.node node) all.now }
+{
+    all.iter()
+        .position(|setting| setting.node.letter == node.letter)
+}
+
+/// Sets what a node opens channels with. 60 where there is no memory.
+pub(crate) fn set_for(all: &mut Vec<Setting>, node: Node, settings: Settings) -> Result<(), Refusal>
+    ensures set { OnOk result (all.new.items ≡ with_settings node settings all.old.items) }
+    ensures memory { IfErr result (λ e. e ≡ refusal.Memory) }
+{
+    let setting = Setting { node, settings };
+    match place_of(all, node) {
+        Some(i) => all[i] = setting,
+        None => all.push(setting)?,
+    }
+    Ok(())
 }

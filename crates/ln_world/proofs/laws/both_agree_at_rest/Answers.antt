@@ -1,4 +1,4 @@
-use Rattle.ln_world.proofs.Worlds.{agrees}
+use Rattle.ln_world.proofs.Promised.{agrees}
 use Rattle.ln_world.proofs.laws.both_agree_at_rest.Goals as goal
 
 pub returns : goal.returns

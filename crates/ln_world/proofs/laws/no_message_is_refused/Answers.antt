@@ -1,4 +1,4 @@
-use Rattle.ln_world.proofs.Worlds.{none_is_refused}
+use Rattle.ln_world.proofs.Promised.{none_is_refused}
 use Rattle.ln_world.proofs.laws.no_message_is_refused.Goals as goal
 
 pub returns : goal.returns

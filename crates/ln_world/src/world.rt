@@ -1,0 +1,158 @@
+//! Nodes with what was set for them, and the channels between them.
+
+ghost use Rattle.std.specs.Prelude.{◌≡◌, IsTrue, IsFalse};
+
+use crate::channels::Channels;
+use crate::line::{EndLine, Line};
+use crate::settings::{Setting, Settings, may_bring, set_for, settings_of};
+use crate::step::{Act, End, Node, Open, Step};
+use ln_close::Fees;
+use ln_keys::ChannelKeys;
+use ln_log::Limits;
+use ln_msgs::Refusal;
+use std::alloc::Global;
+use std::marker::Model;
+
+/// Nodes with what was set for them, and the channels between them.
+#[derive(Drop)]
+pub struct World<K: ChannelKeys + Copy> {
+    settings: Vec<Setting>,
+    channels: Channels<K>,
+}
+
+impl<K: ChannelKeys + Copy> Model for World<K> {
+    ghost use Rattle.ln_world.specs.World.{World as WorldState};
+
+    ghost Value = { WorldState K };
+
+    ghost view = { λ w. record { settings = w.settings.items; channels = w.channels } };
+}
+
+impl<K: ChannelKeys + Copy> World<K> {
+    ghost use Rattle.std.specs.Prelude.{◌≡◌, ◌++◌, IsTrue, None, OnOk, IfOk, IfErr};
+    ghost use Rattle.ln_world.specs.Settings.{CanBring};
+    ghost use Rattle.ln_world.specs.declared.step.Step.TheVariants as step;
+    ghost use Rattle.ln_world.specs.World.{empty, channel, settings_of, may_open, happens, step_lines};
+    ghost use Rattle.ln_world.specs.World.{run, run_lines, end_lines};
+
+    /// No channel, and nothing was set. Takes no memory.
+    pub fn new(alloc: Global) -> World<K>
+        ensures { result ≡ empty }
+    {
+        World {
+            settings: Vec::new(alloc),
+            channels: Channels::new(alloc),
+        }
+    }
+
+    fn settings_of(&self, node: Node) -> Settings
+        ensures { result ≡ settings_of node self.now.settings }
+    {
+        settings_of(&self.settings, node)
+    }
+
+    fn set_fees(&mut self, node: Node, fees: Fees) -> Result<(), Refusal>
+        ensures world { OnOk result (self.new ≡ happens K.ChannelKeys (step.Fees node fees) self.old) }
+        ensures memory { IfErr result (λ e. e ≡ Refusal.Memory) }
+    {
+        let limits = self.settings_of(node).limits;
+        set_for(&mut self.settings, node, Settings { fees, limits })
+    }
+
+    fn set_limits(&mut self, node: Node, limits: Limits) -> Result<(), Refusal>
+        ensures world { OnOk result (self.new ≡ happens K.ChannelKeys (step.Limits node limits) self.old) }
+        ensures memory { IfErr result (λ e. e ≡ Refusal.Memory) }
+    {
+        let fees = self.settings_of(node).fees;
+        set_for(&mut self.settings, node, Settings { fees, limits })
+    }
+
+    /// Whether a channel may be opened so: no channel has its number, its ends are at two nodes, and what both bring
+    /// fits. Takes no memory.
+    fn may_open(&self, wish: &Open<K>) -> bool
+        ensures test { result ≡ may_open wish.now self.now }
+        ensures number { IsTrue result → channel wish.now.channel self.now.channels ≡ None }
+        ensures fits { IsTrue result → CanBring wish.now.satoshis wish.now.push
+            (settings_of wish.now.funder self.now.settings) (settings_of wish.now.fundee self.now.settings) }
+    {
+        let funder = self.settings_of(wish.funder);
+        let fundee = self.settings_of(wish.fundee);
+        wish.funder.letter != wish.fundee.letter
+            && self.channels.is_free(wish.channel)
+            && may_bring(wish.satoshis, wish.push, &funder, &fundee)
+    }
+
+    fn open(&mut self, alloc: Global, wish: &Open<K>, lines: &mut Vec<Line>) -> Result<(), Refusal>
+        ensures world { OnOk result (self.new ≡ happens K.ChannelKeys (step.Open wish.now) self.old) }
+        ensures told { OnOk result (lines.new.items
+            ≡ lines.old.items ++ step_lines K.ChannelKeys (step.Open wish.now) self.old) }
+        ensures memory { IfErr result (λ e. e ≡ Refusal.Memory) }
+    {
+        if !self.may_open(wish) {
+            lines.push(Line::Idle)?;
+            return Ok(());
+        }
+        let funder = self.settings_of(wish.funder);
+        let fundee = self.settings_of(wish.fundee);
+        self.channels.open(alloc, wish, &funder, &fundee)?;
+        lines.push(Line::Open(wish.channel))?;
+        Ok(())
+    }
+
+    /// What happens in a step, and what is told of it, which joins the lines. 60 where there is no memory.
+    ///
+    /// What was set for a node counts in the channels that are opened from then on. A channel opens (BOLT 2, "Channel
+    /// Establishment v1") where no other has its number, its ends are at two nodes, and `may_bring` takes what both
+    /// bring; an end acts or loses its connection where its channel is there and the node has an end of it; both ends
+    /// of a channel get a connection where both are down and neither has halted. Else nothing changes, and `Line::Idle`
+    /// is told.
+    pub fn step(
+        &mut self,
+        alloc: Global,
+        step: Step<K>,
+        lines: &mut Vec<Line>,
+    ) -> Result<(), Refusal>
+        ensures world { OnOk result (self.new ≡ happens K.ChannelKeys step self.old) }
+        ensures told { OnOk result (lines.new.items ≡ lines.old.items ++ step_lines K.ChannelKeys step self.old) }
+        ensures memory { IfErr result (λ e. e ≡ Refusal.Memory) }
+    {
+        match step {
+            Step::Fees(node, fees) => self.set_fees(node, fees),
+            Step::Limits(node, limits) => self.set_limits(node, limits),
+            Step::Open(wish) => self.open(alloc, &wish, lines),
+            Step::Do(end, what) => self.channels.act(alloc, end, what, lines),
+            Step::Down(end) => self.channels.fall(end, lines),
+            Step::Up(number) => self.channels.come_up(alloc, number, lines),
+        }
+    }
+
+    /// One step after the other. 60 where there is no memory.
+    pub fn run(
+        &mut self,
+        alloc: Global,
+        steps: Vec<Step<K>>,
+        lines: &mut Vec<Line>,
+    ) -> Result<(), Refusal>
+        ensures world { OnOk result (self.new ≡ run K.ChannelKeys steps.items self.old) }
+        ensures told { OnOk result (lines.new.items ≡ lines.old.items ++ run_lines K.ChannelKeys steps.items self.old) }
+        ensures memory { IfErr result (λ e. e ≡ Refusal.Memory) }
+    {
+        for step in steps {
+            self.step(alloc, step, lines)?;
+        }
+        Ok(())
+    }
+
+    /// Where the ends of all channels stand, in the order of their numbers; the funder's before the fundee's. 60 where
+    /// there is no memory.
+    pub fn end_lines(&self, alloc: Global) -> Result<Vec<EndLine>, Refusal>
+        ensures lines { IfOk result (λ ls. ls.items ≡ end_lines self.now) }
+        ensures memory { IfErr result (λ e. e ≡ Refusal.Memory) }
+    {
+        let mut lines = Vec::new(alloc);
+        for number in 0..=255u8 {
+            self.channels.tell_ends(alloc, number, &mut lines)?;
+        }
+        Ok(lines)
+    }
+}
