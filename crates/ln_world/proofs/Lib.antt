@@ -1,4 +1,11 @@
 pub mod Fitting
 pub mod Moving
+pub mod Named
+pub mod Silent
+pub mod Mirror
+pub mod Moves
+pub mod Opened
+pub mod Kept
 pub mod Places
 pub mod Worlds
+pub mod Promised

@@ -3,3 +3,4 @@ pub mod Lines
 pub mod Both
 pub mod Channel
 pub mod World
+pub mod Promises

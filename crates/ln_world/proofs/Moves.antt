@@ -1,0 +1,421 @@
+-- What a move makes of the two links, a step of the pair makes of the ends.
+use Rattle.std.proofs.Common.{◌≡◌, ◌⊎◌, ℕ, List, [], ◌∷◌, ◌++◌, refl, sym, ap, ◌∙◌, subst, Bool, true, false, cond, not}
+use Rattle.std.proofs.Common.{Option, Some, None, Result, Ok, Err, inl, inr, append-nil, nat_eq, ◌&&◌}
+use Rattle.std.proofs.lemmas.Cmp.{nat_list_eq_equiv}
+use Rattle.std.specs.Cmp.Lexicographic.{pointwise}
+use Rattle.ln_msgs.specs.declared.messages.message.Message.{Message}
+use Rattle.ln_msgs.specs.declared.messages.message.Message.TheVariants as message
+use Rattle.ln_msgs.specs.declared.refusals.refusal.Refusal.{Refusal}
+use Rattle.ln_msgs.specs.declared.refusals.refusal.Refusal.TheVariants as refusal
+use Rattle.ln_keys.specs.Signer.{Signer}
+use Rattle.ln_dance.specs.Resume.{reestablish_message}
+use Rattle.ln_link.specs.declared.command.Command.{Command}
+use Rattle.ln_link.specs.declared.command.Command.TheVariants as command
+use Rattle.ln_link.specs.declared.link.Line.{Line}
+use Rattle.ln_link.specs.declared.link.Line.TheVariants.{Down, Awaiting, Met}
+use Rattle.ln_link.specs.declared.link.Stage.TheVariants as stage
+use Rattle.ln_link.specs.declared.output.Output.TheVariants as output
+use Rattle.ln_link.specs.Naming.{named, is_other}
+use Rattle.ln_link.specs.Outputs.{all_of}
+use Rattle.ln_link.specs.End.{End, Turn, is_ready, end_dropped}
+use Rattle.ln_link.specs.Commands.{command_row, unready_fault}
+use Rattle.ln_link.specs.State.{State, is_down, refused, drops}
+use Rattle.ln_link.specs.Step.{Done, handled, commanded, faulted, line_fault, is_passed_over, error_fault, stray_fault}
+use Rattle.ln_link.specs.Step.{message_fault, saved_at, at_hand, obeyed}
+use Rattle.ln_link.specs.Step as step
+use Rattle.ln_log.specs.Limits.{first_fault}
+use Rattle.ln_pair.specs.Ends.{Ends, arrive, message_at, command_at, becomes, Act, Deliver, Give, Lose}
+use Rattle.ln_pair.specs.Ends as pair
+use Rattle.ln_pair.specs.Promises.{TakesFront as Front}
+use Rattle.ln_world.specs.declared.step.Act.TheVariants as act
+use Rattle.ln_world.specs.Lines.{messages_in, replies}
+use Rattle.ln_world.specs.Both.{Both, Place, reaches, left, left_by, sent_by, unchanged, answers, delivers, acts, falls}
+use Rattle.ln_world.specs.Both.{fallen, greeting, greets, comes_up, meet}
+use Rattle.ln_world.proofs.Named.{Names, IsFine, IsFineRow, fine_at, fine_command, same_in}
+use Rattle.ln_world.proofs.Named as sent
+use Rattle.ln_world.proofs.Silent.{IsSilentRow, silent_at}
+use Rattle.ln_world.proofs.Mirror.{link_of, is_warning, without_warnings, AreIn, IsInbox, Mirrors, IsPlain, plain}
+use Rattle.ln_world.proofs.Mirror.{all_plain, all_in, reached_link, reached, reached_aside}
+
+-- ---- what a link answers is what its end's rows say
+
+same_bytes : (xs ys : List ℕ) → xs ≡ ys → pointwise nat_eq xs ys ≡ true
+same_bytes xs ys e = let P : List ℕ → Type 0 = λ w. pointwise nat_eq xs w ≡ true in
+    subst P e (nat_list_eq_equiv.refl xs)
+
+saved_so : (keys : Signer) (l : Line) (m : Message) (e : End) → is_down l ≡ false
+    → saved_at keys l m e ≡ step.turned Met (message_at keys l m e)
+saved_so keys Down m e up = absurd (cc)
+saved_so keys Met m e up = refl
+saved_so keys Awaiting (message.Warning m) e up = refl
+saved_so keys Awaiting (message.Init m) e up = refl
+saved_so keys Awaiting (message.Error m) e up = refl
+saved_so keys Awaiting (message.Ping m) e up = refl
+saved_so keys Awaiting (message.Pong m) e up = refl
+saved_so keys Awaiting (message.OpenChannel m) e up = refl
+saved_so keys Awaiting (message.AcceptChannel m) e up = refl
+saved_so keys Awaiting (message.FundingCreated m) e up = refl
+saved_so keys Awaiting (message.FundingSigned m) e up = refl
+saved_so keys Awaiting (message.ChannelReady m) e up = refl
+saved_so keys Awaiting (message.Shutdown m) e up = refl
+saved_so keys Awaiting (message.ClosingSigned m) e up = refl
+saved_so keys Awaiting (message.UpdateAddHtlc m) e up = refl
+saved_so keys Awaiting (message.UpdateFulfillHtlc m) e up = refl
+saved_so keys Awaiting (message.UpdateFailHtlc m) e up = refl
+saved_so keys Awaiting (message.UpdateFailMalformedHtlc m) e up = refl
+saved_so keys Awaiting (message.UpdateFee m) e up = refl
+saved_so keys Awaiting (message.CommitmentSigned m) e up = refl
+saved_so keys Awaiting (message.RevokeAndAck m) e up = refl
+saved_so keys Awaiting (message.ChannelReestablish m) e up = refl
+
+module _ {K : Type 0} (keys : Signer) (k : K) (id : List ℕ) where
+  -- a message of the channel
+  pub handled_so : (l : Line) (m : Message) (e : End) → is_down l ≡ false → named m ≡ Some id → e.dance.channel ≡ id
+      → handled keys (link_of k l e) m ≡ step.turned Met (message_at keys l m e)
+  handled_so l m e up is channel =
+      let s = stage.Saved e in
+      let p = plain id m is in
+      let own : is_other (named m) s ≡ false = ap (λ o. is_other o s) is
+      ∙ ap not (same_bytes id e.dance.channel (sym channel)) in
+      let stray : stray_fault l s m ≡ None = ap (λ b. cond b (Some refusal.UnknownChannel)
+      (cond (is_down l) (Some refusal.OutOfPlace) None)) own
+      ∙ ap (λ b. cond b (Some refusal.OutOfPlace) None) up in
+      let fault : message_fault l s m ≡ None = ap (λ f. first_fault f (stray_fault l s m)) p.error ∙ stray in
+      ap (λ b. cond b (Ok (record { line = l; stage = s; outputs = [] }))
+      (faulted (message_fault l s m) (saved_at keys l m e))) (p.passed s)
+      ∙ ap (λ f. faulted f (saved_at keys l m e)) fault
+      ∙ saved_so keys l m e up
+
+  -- a warning
+  pub passed_so : (l : Line) (m : Message) (e : End) → is_warning m ≡ true
+      → handled keys (link_of k l e) m ≡ Ok (record { line = l; stage = stage.Saved e; outputs = [] })
+  passed_so l (message.Warning m) e is = refl
+  passed_so l (message.Init m) e is = absurd (cc)
+  passed_so l (message.Error m) e is = absurd (cc)
+  passed_so l (message.Ping m) e is = absurd (cc)
+  passed_so l (message.Pong m) e is = absurd (cc)
+  passed_so l (message.OpenChannel m) e is = absurd (cc)
+  passed_so l (message.AcceptChannel m) e is = absurd (cc)
+  passed_so l (message.FundingCreated m) e is = absurd (cc)
+  passed_so l (message.FundingSigned m) e is = absurd (cc)
+  passed_so l (message.ChannelReady m) e is = absurd (cc)
+  passed_so l (message.Shutdown m) e is = absurd (cc)
+  passed_so l (message.ClosingSigned m) e is = absurd (cc)
+  passed_so l (message.UpdateAddHtlc m) e is = absurd (cc)
+  passed_so l (message.UpdateFulfillHtlc m) e is = absurd (cc)
+  passed_so l (message.UpdateFailHtlc m) e is = absurd (cc)
+  passed_so l (message.UpdateFailMalformedHtlc m) e is = absurd (cc)
+  passed_so l (message.UpdateFee m) e is = absurd (cc)
+  passed_so l (message.CommitmentSigned m) e is = absurd (cc)
+  passed_so l (message.RevokeAndAck m) e is = absurd (cc)
+  passed_so l (message.ChannelReestablish m) e is = absurd (cc)
+
+  -- a command
+  turned_faulted : (l : Line) (f : Option Refusal) (r : Result Turn Refusal)
+      → faulted f (step.turned l r) ≡ step.turned l (faulted f r)
+  turned_faulted l None r = refl
+  turned_faulted l (Some f) r = refl
+
+  obeyed_so : (l : Line) (c : Command) (e : End)
+      → obeyed keys l c (stage.Saved e) ≡ step.turned l (command_at keys l c e)
+  obeyed_so l c e =
+      ap (faulted (unready_fault c e)) (turned_faulted l (line_fault l) (command_row keys c e))
+      ∙ turned_faulted l (unready_fault c e) (faulted (line_fault l) (command_row keys c e))
+
+  -- one about records is refused by both
+  pub record AreRefused (l : Line) (c : Command) (e : End) : Type 0 where
+    pub by_link : commanded keys (link_of k l e) c ≡ Err refusal.NotReady
+    pub why : Refusal
+    pub by_row : command_at keys l c e ≡ Err why
+
+  abbrev first_why : Option Refusal → Refusal → Refusal
+  first_why None r = r
+  first_why (Some f) r = f
+
+  faulted_err : (f : Option Refusal) (r : Refusal) → ◌≡◌ {A = Result Turn Refusal} (faulted f (Err r)) (Err (first_why f r))
+  faulted_err None r = refl
+  faulted_err (Some f) r = refl
+
+  of_records : (l : Line) (c : Command) (e : End) → commanded keys (link_of k l e) c ≡ Err refusal.NotReady
+      → command_row keys c e ≡ Err refusal.NotReady → AreRefused l c e
+  of_records l c e is row = record {
+    by_link = is;
+    why = first_why (unready_fault c e) (first_why (line_fault l) refusal.NotReady);
+    by_row = ap (λ r. faulted (unready_fault c e) (faulted (line_fault l) r)) row
+        ∙ ap (faulted (unready_fault c e)) (faulted_err (line_fault l) refusal.NotReady)
+        ∙ faulted_err (unready_fault c e) (first_why (line_fault l) refusal.NotReady);
+  }
+
+  pub commanded_so : (l : Line) (c : Command) (e : End)
+      → AreRefused l c e ⊎ (commanded keys (link_of k l e) c ≡ step.turned l (command_at keys l c e))
+  commanded_so l (command.Confirm i) e = inr (obeyed_so l (command.Confirm i) e)
+  commanded_so l (command.Add amount hash expiry onion origin) e =
+      inr (obeyed_so l (command.Add amount hash expiry onion origin) e)
+  commanded_so l (command.Fulfil i preimage) e = inr (obeyed_so l (command.Fulfil i preimage) e)
+  commanded_so l (command.Fail i reason) e = inr (obeyed_so l (command.Fail i reason) e)
+  commanded_so l (command.Malformed i sha code) e = inr (obeyed_so l (command.Malformed i sha code) e)
+  commanded_so l (command.Fee feerate) e = inr (obeyed_so l (command.Fee feerate) e)
+  commanded_so l command.Sign e = inr (obeyed_so l command.Sign e)
+  commanded_so l (command.Shutdown script) e = inr (obeyed_so l (command.Shutdown script) e)
+  commanded_so l (command.Decide event mark) e = inl (of_records l (command.Decide event mark) e refl refl)
+  commanded_so l (command.Forget i) e = inl (of_records l (command.Forget i) e refl refl)
+
+-- a command that is obeyed is obeyed by an end that has met its peer
+obeyed_met : (f : Option Refusal) (l : Line) (r : Result Turn Refusal) (t : Turn)
+    → faulted f (faulted (line_fault l) r) ≡ Ok t → l ≡ Met
+obeyed_met (Some f) l r t e = absurd (cc)
+obeyed_met None Down r t e = absurd (cc)
+obeyed_met None Awaiting r t e = absurd (cc)
+obeyed_met None Met r t e = refl
+
+fine_of : (id : List ℕ) (r : Result Turn Refusal) (t : Turn) → r ≡ Ok t → IsFineRow id r → IsFine id t
+fine_of id r t e h = subst (IsFineRow id) e h
+
+silent_of : (id : List ℕ) (r : Result Turn Refusal) (w : Refusal) → r ≡ Err w → IsSilentRow id r → replies id w ≡ []
+silent_of id r w e h = subst (IsSilentRow id) e h
+
+-- ---- an end answers
+
+module _ {K : Type 0} (signer : K → Signer) (id : List ℕ) (kx ky : K) where
+  -- it has made this turn, and has met its peer
+  turned_so : (after : Refusal → State K → State K) (row : Result Done Refusal) (t : Turn) (p : Both K) (q : Ends)
+      (ms to : List Message) → row ≡ step.turned Met (Ok t) → IsFine id t → IsInbox id Met ms to
+      → Mirrors id kx ky p q
+      → Mirrors id kx ky (answers after id row (record { x = record { link = p.x.link; inbox = ms }; y = p.y }))
+      (becomes t (record q { to_x = to }))
+  turned_so after row t p q ms to is fine in_x h =
+      let d : Done = record { line = Met; stage = stage.Saved t.end; outputs = all_of t.handed } in
+      let out : List Message = messages_in (all_of t.handed) in
+      let first : out ≡ messages_in t.handed.sent = sent.in-append t.handed.sent t.handed.told
+      ∙ ap (λ ws. messages_in t.handed.sent ++ ws) fine.told ∙ append-nil (messages_in t.handed.sent) in
+      let names : Names id out = subst (Names id) (sym first) fine.sent in
+      let same : without_warnings out ≡ pair.messages_in t.handed.sent = all_plain id out names ∙ first
+      ∙ same_in t.handed.sent in
+      subst (λ r. Mirrors id kx ky
+      (answers after id r (record { x = record { link = p.x.link; inbox = ms }; y = p.y }))
+      (becomes t (record q { to_x = to }))) (sym is) (record {
+        x_link = ap (left_by d) h.x_link;
+        y_link = reached_link id out p.y ∙ h.y_link;
+        x_in = in_x;
+        y_in = subst (λ w. IsInbox id q.y_line (reaches out p.y).inbox (arrive q.y_line w q.to_y)) same
+            (reached id q.y_line out q.to_y p.y (ap (λ (l : State K). l.line) h.y_link) h.y_in (all_in id out names));
+        x_channel = fine.channel;
+        y_channel = h.y_channel;
+      })
+
+  -- it stays as it was, and sends warnings or nothing
+  still_so : (after : Refusal → State K → State K) (row row' : Result Done Refusal) (p : Both K) (q : Ends)
+      (ms to : List Message) → row ≡ row' → left after row' (link_of kx q.x_line q.x) ≡ link_of kx q.x_line q.x
+      → without_warnings (sent_by id row') ≡ [] → AreIn id (sent_by id row') → IsInbox id q.x_line ms to
+      → Mirrors id kx ky p q
+      → Mirrors id kx ky (answers after id row (record { x = record { link = p.x.link; inbox = ms }; y = p.y }))
+      (record q { to_x = to })
+  still_so after row row' p q ms to is stays none in_channel in_x h =
+      subst (λ r. Mirrors id kx ky
+      (answers after id r (record { x = record { link = p.x.link; inbox = ms }; y = p.y }))
+      (record q { to_x = to })) (sym is) (record {
+        x_link = ap (left after row') h.x_link ∙ stays;
+        y_link = reached_link id (sent_by id row') p.y ∙ h.y_link;
+        x_in = in_x;
+        y_in = reached_aside id q.y_line (sent_by id row') q.to_y p.y (ap (λ (l : State K). l.line) h.y_link) none
+            h.y_in in_channel;
+        x_channel = h.x_channel;
+        y_channel = h.y_channel;
+      })
+
+  -- ---- a message is delivered
+
+  -- none is in flight to an end that is down
+  pub is_up : (l : Line) (m : Message) (ms : List Message) → (is_down l ≡ true → m ∷ ms ≡ []) → is_down l ≡ false
+  is_up Down m ms h = absurd (let no : m ∷ ms ≡ [] = h refl in cc)
+  is_up Awaiting m ms h = refl
+  is_up Met m ms h = refl
+
+  behind_it : (l : Line) (m : Message) (ms to : List Message) → is_down l ≡ false → without_warnings ms ≡ to
+      → AreIn id ms → IsInbox id l ms to
+  behind_it l m ms to up told named = record {
+    told = told;
+    named = named;
+    down = λ e. absurd (let no : true ≡ false = sym e ∙ up in cc);
+  }
+
+  abbrev pub Goes : Both K → Ends → Type 0
+  Goes p q = Mirrors id kx ky p q ⊎ ((a : Act) × Mirrors id kx ky p (pair.acts (signer kx) a q))
+
+  of_channel : (p : Both K) (q : Ends) (m : Message) (ms to : List Message) → is_down q.x_line ≡ false
+      → named m ≡ Some id → without_warnings ms ≡ to → AreIn id ms → Mirrors id kx ky p q
+      → Front (signer kx) q.x_line (m ∷ to) q.x
+      → Mirrors id kx ky (answers refused id (handled (signer p.x.link.keys) p.x.link m)
+      (record { x = record { link = p.x.link; inbox = ms }; y = p.y })) (pair.delivers (signer kx) (m ∷ to) q)
+  of_channel p q m ms to up is told named h (inl f) =
+      let keys = signer kx in
+      let row : handled (signer p.x.link.keys) p.x.link m ≡ step.turned Met (Ok f.0) =
+      ap (λ (l : State K). handled (signer l.keys) l m) h.x_link ∙ handled_so keys kx id q.x_line m q.x up is h.x_channel
+      ∙ ap (step.turned Met) f.1 in
+      let fine = fine_of id (message_at keys q.x_line m q.x) f.0 f.1 (fine_at keys id q.x_line m q.x h.x_channel) in
+      subst (λ r. Mirrors id kx ky (answers refused id (handled (signer p.x.link.keys) p.x.link m)
+      (record { x = record { link = p.x.link; inbox = ms }; y = p.y })) (pair.answers r (record q { to_x = to })))
+      (sym f.1)
+      (turned_so refused (handled (signer p.x.link.keys) p.x.link m) f.0 p q ms to row fine
+      (behind_it Met m ms to refl told named) h)
+  of_channel p q m ms to up is told named h (inr f) =
+      let keys = signer kx in
+      let row : handled (signer p.x.link.keys) p.x.link m ≡ Err refusal.FeeOutside =
+      ap (λ (l : State K). handled (signer l.keys) l m) h.x_link ∙ handled_so keys kx id q.x_line m q.x up is h.x_channel
+      ∙ ap (step.turned Met) f.1 in
+      subst (λ r. Mirrors id kx ky (answers refused id (handled (signer p.x.link.keys) p.x.link m)
+      (record { x = record { link = p.x.link; inbox = ms }; y = p.y })) (pair.answers r (record q { to_x = to })))
+      (sym f.1)
+      (still_so refused (handled (signer p.x.link.keys) p.x.link m) (Err refusal.FeeOutside) p q ms to row refl refl
+      (inl refl, tt) (behind_it q.x_line m ms to up told named) h)
+
+  delivered_by : (p : Both K) (q : Ends) (ms : List Message) → IsInbox id q.x_line ms q.to_x
+      → Mirrors id kx ky p q → p.x.inbox ≡ ms
+      → Front (signer kx) q.x_line q.to_x q.x → Goes (delivers signer id ms p) q
+  delivered_by p q [] i h is f = inl h
+  delivered_by p q (m ∷ ms) i h is f =
+      let up = is_up q.x_line m ms i.down in
+      elim (i.named.0) [
+        | inl warns ↦
+            inl (still_so refused (handled (signer p.x.link.keys) p.x.link m)
+            (Ok (record { line = q.x_line; stage = stage.Saved q.x; outputs = [] })) p q ms q.to_x
+            (ap (λ (l : State K). handled (signer l.keys) l m) h.x_link
+            ∙ passed_so (signer kx) kx id q.x_line m q.x warns) refl refl tt
+            (behind_it q.x_line m ms q.to_x up
+            (sym (ap (λ b. cond b (without_warnings ms) (m ∷ without_warnings ms)) warns) ∙ i.told) i.named.1) h)
+        | inr own ↦
+            inr (
+              Deliver,
+              let to : m ∷ without_warnings ms ≡ q.to_x =
+                  sym (ap (λ b. cond b (without_warnings ms) (m ∷ without_warnings ms)) (plain id m own).warning) ∙ i.told in
+                  subst (λ ws. Mirrors id kx ky (delivers signer id (m ∷ ms) p) (pair.delivers (signer kx) ws q)) to
+                  (of_channel p q m ms (without_warnings ms) up own refl i.named.1 h
+                  (subst (λ ws. Front (signer kx) q.x_line ws q.x) (sym to) f)),
+            )
+      ]
+
+  pub delivered : (p : Both K) (q : Ends) → Mirrors id kx ky p q → Front (signer kx) q.x_line q.to_x q.x
+      → Goes (acts signer id act.Deliver p) q
+  delivered p q h f = delivered_by p q p.x.inbox h.x_in h refl f
+
+  -- ---- a command
+
+  given_by : (c : Command) (r : Result Turn Refusal) (p : Both K) (q : Ends) → command_at (signer kx) q.x_line c q.x ≡ r
+      → commanded (signer kx) (link_of kx q.x_line q.x) c ≡ step.turned q.x_line (command_at (signer kx) q.x_line c q.x)
+      → Mirrors id kx ky p q
+      → Mirrors id kx ky (acts signer id (act.Send c) p) (pair.answers r q)
+  given_by c (Ok t) p q e is h =
+      let keys = signer kx in
+      let met : q.x_line ≡ Met = obeyed_met (unready_fault c q.x) q.x_line (command_row keys c q.x) t e in
+      let row : commanded (signer p.x.link.keys) p.x.link c ≡ step.turned Met (Ok t) =
+      ap (λ (l : State K). commanded (signer l.keys) l c) h.x_link ∙ is
+      ∙ ap (λ l. step.turned l (command_at keys q.x_line c q.x)) met ∙ ap (step.turned Met) e in
+      turned_so unchanged (commanded (signer p.x.link.keys) p.x.link c) t p q p.x.inbox q.to_x row
+      (fine_of id (command_at keys q.x_line c q.x) t e (fine_command keys id q.x_line c q.x h.x_channel))
+      (subst (λ l. IsInbox id l p.x.inbox q.to_x) met h.x_in) h
+  given_by c (Err r) p q e is h =
+      let keys = signer kx in
+      let row : commanded (signer p.x.link.keys) p.x.link c ≡ Err r =
+      ap (λ (l : State K). commanded (signer l.keys) l c) h.x_link ∙ is ∙ ap (step.turned q.x_line) e in
+      let none : replies id r ≡ [] = silent_of id (command_at keys q.x_line c q.x) r e
+      (silent_at id keys q.x_line c q.x) in
+      still_so unchanged (commanded (signer p.x.link.keys) p.x.link c) (Err r) p q p.x.inbox q.to_x row refl
+      (ap without_warnings none) (subst (AreIn id) (sym none) tt) h.x_in h
+
+  pub given : (c : Command) (p : Both K) (q : Ends) → Mirrors id kx ky p q
+      → Mirrors id kx ky (acts signer id (act.Send c) p) (pair.acts (signer kx) (Give c) q)
+  given c p q h = elim (commanded_so (signer kx) kx id q.x_line c q.x) [
+    | inl refused_so ↦
+        subst (λ r. Mirrors id kx ky (acts signer id (act.Send c) p) (pair.answers r q)) (sym refused_so.by_row)
+        (still_so unchanged (commanded (signer p.x.link.keys) p.x.link c) (Err refusal.NotReady) p q p.x.inbox q.to_x
+        (ap (λ (l : State K). commanded (signer l.keys) l c) h.x_link ∙ refused_so.by_link) refl refl tt h.x_in h)
+    | inr is ↦
+        given_by c (command_at (signer kx) q.x_line c q.x) p q refl is h
+  ]
+
+  -- ---- a connection is lost
+
+  falls_by : (b : Bool) (p : Both K) (q : Ends) → is_down q.x_line ≡ b → Mirrors id kx ky p q
+      → Mirrors id kx ky (falls p) (cond b q (record q { x_line = Down; x = end_dropped q.x; to_x = [] }))
+  falls_by true p q e h = record {
+    x_link = ap drops h.x_link ∙ ap (λ b. cond b (link_of kx q.x_line q.x) (link_of kx Down (end_dropped q.x))) e;
+    y_link = h.y_link;
+    x_in = record {
+      told = ap without_warnings (sym (h.x_in.down e)) ∙ h.x_in.told;
+      named = tt;
+      down = λ d. refl;
+    };
+    y_in = h.y_in;
+    x_channel = h.x_channel;
+    y_channel = h.y_channel;
+  }
+  falls_by false p q e h = record {
+    x_link = ap drops h.x_link ∙ ap (λ b. cond b (link_of kx q.x_line q.x) (link_of kx Down (end_dropped q.x))) e;
+    y_link = h.y_link;
+    x_in = record { told = refl; named = tt; down = λ d. refl };
+    y_in = h.y_in;
+    x_channel = h.x_channel;
+    y_channel = h.y_channel;
+  }
+
+  pub fell : (p : Both K) (q : Ends) → Mirrors id kx ky p q
+      → Mirrors id kx ky (falls p) (pair.acts (signer kx) Lose q)
+  fell p q h = falls_by (is_down q.x_line) p q refl h
+
+  -- ---- a connection comes up
+
+  was_down : (l : Line) → is_down l ≡ true → l ≡ Down
+  was_down Down e = refl
+  was_down Awaiting e = absurd (cc)
+  was_down Met e = absurd (cc)
+
+  -- what is sent over it
+  abbrev again : K → End → List Message
+  again k e = message.ChannelReestablish (reestablish_message (signer k) e.dance) ∷ []
+
+  up_link : (k : K) (e : End) (l : State K) → l ≡ link_of k Down e
+      → left unchanged (greeting signer l) l ≡ link_of k Awaiting e
+  up_link k e l is = ap (λ (w : State K). left unchanged (greeting signer w) w) is
+
+  up_sent : (k : K) (e : End) (l : State K) → l ≡ link_of k Down e → greets (greeting signer l) ≡ again k e
+  up_sent k e l is = ap (λ (w : State K). greets (greeting signer w)) is
+
+  up_in : (k : K) (e : End) (other : State K) (p : Place K) (from : K) (f : End) → p.link ≡ link_of k Down e
+      → other ≡ link_of from Down f → f.dance.channel ≡ id → p.inbox ≡ []
+      → IsInbox id Awaiting (reaches (greets (greeting signer other)) (comes_up signer p)).inbox (again from f)
+  up_in k e other p from f is are channel none =
+      subst (λ ws. IsInbox id Awaiting (reaches ws (comes_up signer p)).inbox (again from f)) (sym (up_sent from f other are))
+      (reached id Awaiting (again from f) [] (comes_up signer p)
+      (ap (λ (l : State K). l.line) (up_link k e p.link is))
+      (subst (λ ws. IsInbox id Awaiting ws []) (sym none)
+      (record { told = refl; named = tt; down = λ e. refl }))
+      (inr (ap Some channel), tt))
+
+  meets_by : (p : Both K) (q : Ends) (lx ly : Line) → q.x_line ≡ lx → q.y_line ≡ ly → lx ≡ Down → ly ≡ Down
+      → Mirrors id kx ky p q
+      → Mirrors id kx ky (meet signer p) (pair.connects (signer kx) (signer ky) lx ly q)
+  meets_by p q Down Down ex ey dx dy h =
+      let x_is : p.x.link ≡ link_of kx Down q.x = h.x_link ∙ ap (λ l. link_of kx l q.x) ex in
+      let y_is : p.y.link ≡ link_of ky Down q.y = h.y_link ∙ ap (λ l. link_of ky l q.y) ey in
+      record {
+        x_link = reached_link id (greets (greeting signer p.y.link)) (comes_up signer p.x)
+            ∙ up_link kx q.x p.x.link x_is;
+        y_link = reached_link id (greets (greeting signer p.x.link)) (comes_up signer p.y)
+            ∙ up_link ky q.y p.y.link y_is;
+        x_in = up_in kx q.x p.y.link p.x ky q.y x_is y_is h.y_channel (h.x_in.down (ap is_down ex));
+        y_in = up_in ky q.y p.x.link p.y kx q.x y_is x_is h.x_channel (h.y_in.down (ap is_down ey));
+        x_channel = h.x_channel;
+        y_channel = h.y_channel;
+      }
+  meets_by p q Down Awaiting ex ey dx dy h = absurd (cc)
+  meets_by p q Down Met ex ey dx dy h = absurd (cc)
+  meets_by p q Awaiting ly ex ey dx dy h = absurd (cc)
+  meets_by p q Met ly ex ey dx dy h = absurd (cc)
+
+  pub met : (p : Both K) (q : Ends) → is_down p.x.link.line ≡ true → is_down p.y.link.line ≡ true
+      → Mirrors id kx ky p q
+      → Mirrors id kx ky (meet signer p) (pair.connects (signer kx) (signer ky) q.x_line q.y_line q)
+  met p q dx dy h =
+      let lx : is_down q.x_line ≡ true = ap (λ (l : State K). is_down l.line) (sym h.x_link) ∙ dx in
+      let ly : is_down q.y_line ≡ true = ap (λ (l : State K). is_down l.line) (sym h.y_link) ∙ dy in
+      meets_by p q q.x_line q.y_line refl refl (was_down q.x_line lx) (was_down q.y_line ly) h

@@ -1,0 +1,248 @@
+-- Every channel of a world is one that was opened, and what has happened to it.
+use Rattle.std.proofs.Common.{◌≡◌, ℕ, ◌≤◌, ◌<◌, ◌^◌, List, [], ◌∷◌, ◌++◌, map, refl, sym, ap, ◌∙◌, subst, arith}
+use Rattle.std.proofs.Common.{Bool, true, false, cond, ◌&&◌, ◌==◌, not, nat_le, Option, Some, None, is_none}
+use Rattle.std.proofs.lemmas.Bool.{leb-true}
+use Rattle.ln_keys.specs.declared.keys.ChannelKeys.{Ghosts}
+use Rattle.std.proofs.Math.Logic.{∥∥₁_elim}
+use Rattle.std.proofs.Math.Bool.{Bool-set}
+use Rattle.std.proofs.Math.Nat.{ℕ_set}
+use Rattle.ln_keys.specs.Signer.{Signer}
+use Rattle.ln_keys.specs.Partners.{ArePartners}
+use Rattle.ln_msgs.specs.Messages.Channel.{id_of_channel}
+use Rattle.ln_log.specs.Opening.{is_fit}
+use Rattle.ln_log.proofs.Fits.{fit_is}
+use Rattle.ln_close.specs.Closing.{AreOrdered}
+use Rattle.ln_link.specs.declared.config.Config.{Config}
+use Rattle.ln_link.specs.declared.config.OpenSpec.{OpenSpec}
+use Rattle.ln_link.specs.declared.opening.Opened.{Opened}
+use Rattle.ln_link.specs.Config.{fees_of}
+use Rattle.ln_link.specs.Meeting.{CanOpen, Opens}
+use Rattle.ln_link.proofs.Meeting.{none_refused}
+use Rattle.ln_pair.specs.Promises.{AreKeys, AreSent}
+use Rattle.ln_world.specs.declared.step.Node.{Node}
+use Rattle.ln_world.specs.declared.step.Open.{Open}
+use Rattle.ln_world.specs.declared.step.Step.{Step}
+use Rattle.ln_world.specs.declared.step.Step.TheVariants as step
+use Rattle.ln_world.specs.declared.settings.Settings.{Settings}
+use Rattle.ln_world.specs.declared.settings.Setting.{Setting}
+use Rattle.ln_world.specs.Settings.{defaults, config_of, spec_of, txid_of, channel_id_of, opening_by, are_ordered}
+use Rattle.ln_world.specs.Settings.{may_bring, CanBring}
+use Rattle.ln_world.specs.Both.{Both, Move}
+use Rattle.ln_world.specs.Channel.{Channel, is_node, moved, opened_by, act_moves, fall_moves, up_moves}
+use Rattle.ln_world.specs.World.{World, settings_of, with_settings, channel, moved_if, moved_at, may_open, opens, happens}
+use Rattle.ln_world.specs.World.{empty, run}
+use Rattle.ln_world.specs.Promises.{Headline, NoneRefused, Agrees, BringsFit, Each, BringFit, OfEach}
+use Rattle.ln_world.proofs.Fitting.{funders, fundees}
+use Rattle.ln_world.proofs.Opened.{mirrored, fees_so}
+use Rattle.ln_world.proofs.Kept.{IsRun, IsOpen, act_kept, fall_kept, up_kept}
+use Rattle.ln_world.proofs.Kept as channels
+
+-- ---- what nodes bring
+
+both_true : (b c : Bool) → (b && c) ≡ true → (b ≡ true) × (c ≡ true)
+both_true true true e = (refl, refl)
+both_true true false e = absurd (cc)
+both_true false c e = absurd (cc)
+
+ordered_so : (s : Settings) → are_ordered s ≡ true → AreOrdered s.fees
+ordered_so s e =
+    let p = both_true (nat_le s.fees.least s.fees.first) (nat_le s.fees.first s.fees.greatest) e in
+    (leb-true s.fees.least s.fees.first p.0, leb-true s.fees.first s.fees.greatest p.1)
+
+brings_so : (satoshis push : ℕ) (s t : Settings) → may_bring satoshis push s t ≡ true → CanBring satoshis push s t
+brings_so satoshis push s t e =
+    let o = opening_by satoshis push s t in
+    let p = both_true (is_fit o) (are_ordered s && are_ordered t) e in
+    let q = both_true (are_ordered s) (are_ordered t) p.1 in
+    record {
+      opening = fit_is o p.0;
+      funder_fees = ordered_so s q.0;
+      fundee_fees = ordered_so t q.1;
+    }
+
+-- ---- what is set for nodes
+
+abbrev IsSet : Setting → Type 0
+IsSet s = AreSent s.settings.fees
+
+found : (b : Bool) (s t : Settings) → AreSent s.fees → AreSent t.fees → AreSent (cond b s t).fees
+found true s t h k = h
+found false s t h k = k
+
+either_list : (b : Bool) (new s : Setting) (ss ts : List Setting) → IsSet new → Each IsSet (s ∷ ss) → Each IsSet ts
+    → Each IsSet (cond b (new ∷ ss) (s ∷ ts))
+either_list true new s ss ts f h k = (f, h.1)
+either_list false new s ss ts f h k = (h.0, k)
+
+set_so : (n : Node) (ss : List Setting) → Each IsSet ss
+    → AreSent (settings_of n ss).fees
+set_so n [] h = record { first = omega arith; greatest = omega arith }
+set_so n (s ∷ ss) h = found (is_node s.node n) s.settings (settings_of n ss) h.0 (set_so n ss h.1)
+
+with_so : (n : Node) (new : Settings) (ss : List Setting) → AreSent new.fees
+    → Each IsSet ss
+    → Each IsSet (with_settings n new ss)
+with_so n new [] f h = (f, tt)
+with_so n new (s ∷ ss) f h = either_list (is_node s.node n) (record { node = n; settings = new }) s ss
+    (with_settings n new ss) f h (with_so n new ss f h.1)
+
+-- ---- a channel that is opened
+
+id_so : (n : ℕ) → channel_id_of n ≡ id_of_channel (txid_of n) 0
+unfolding channel_id_of
+id_so n = refl
+
+-- Open has that its keys are partners, but not which proof of it
+partners_so : (a b : Signer) → ∥ ArePartners a b ∥₁ → ArePartners a b
+partners_so a b t = record {
+  there = record {
+    commitments = λ n point v le len. ∥∥₁_elim t (Bool-set _ _) (λ p. p.there.commitments n point v le len);
+    htlcs = λ n point v. ∥∥₁_elim t (ℕ_set _ _) (λ p. p.there.htlcs n point v);
+    closings = λ fee lt. ∥∥₁_elim t (Bool-set _ _) (λ p. p.there.closings fee lt);
+    secrets = λ n le. ∥∥₁_elim t (Bool-set _ _) (λ p. p.there.secrets n le);
+    own_secrets = λ n le. ∥∥₁_elim t (Bool-set _ _) (λ p. p.there.own_secrets n le);
+  };
+  back = record {
+    commitments = λ n point v le len. ∥∥₁_elim t (Bool-set _ _) (λ p. p.back.commitments n point v le len);
+    htlcs = λ n point v. ∥∥₁_elim t (ℕ_set _ _) (λ p. p.back.htlcs n point v);
+    closings = λ fee lt. ∥∥₁_elim t (Bool-set _ _) (λ p. p.back.closings fee lt);
+    secrets = λ n le. ∥∥₁_elim t (Bool-set _ _) (λ p. p.back.secrets n le);
+    own_secrets = λ n le. ∥∥₁_elim t (Bool-set _ _) (λ p. p.back.own_secrets n le);
+  };
+}
+
+module _ {K : Type 0} (k : Ghosts K) where
+  opened_so : (o : Open K k) (s t : Settings) → AreKeys (k.signer o.keys.funder) (k.signer o.keys.fundee)
+      → CanBring o.satoshis o.push s t → AreSent s.fees → AreSent t.fees → IsOpen k.signer (opened_by k o s t)
+  opened_so o s t keys brings fs ft =
+      let a = k.signer o.keys.funder in
+      let b = k.signer o.keys.fundee in
+      let spec = spec_of o.channel (config_of o.funder s) o.satoshis o.push in
+      let config = config_of o.fundee t in
+      let can : CanOpen a b spec config = record {
+        partners = keys.partners;
+        funder_point = keys.a_points 0 (omega arith);
+        fundee_point = keys.b_points 0 (omega arith);
+        chain = refl;
+        spec = funders o.channel o.satoshis o.push o.funder s t brings;
+        config = fundees o.satoshis o.push o.fundee s t brings;
+      } in
+      let ends = none_refused a b spec config can in
+      let funder = ends.0 in
+      let fundee = ends.1 in
+      let opens = ends.2 in
+      let fees = fees_so k.signer (channel_id_of o.channel) o.keys.funder o.keys.fundee spec config funder fundee opens in
+      record {
+        funders = o.keys.funder;
+        fundees = o.keys.fundee;
+        spec = spec;
+        config = config;
+        funder = funder;
+        fundee = fundee;
+        steps = [];
+        keys = keys;
+        opens = opens;
+        funders_fees = subst AreSent (sym fees.0) fs;
+        fundees_fees = subst AreSent (sym fees.1) ft;
+        mirrors = mirrored k.signer (channel_id_of o.channel) o.keys.funder o.keys.fundee spec config funder fundee
+            opens (id_so o.channel);
+      }
+
+  -- ---- a world
+
+  record Keeps (w : World K) : Type 0 where
+    settings : Each IsSet w.settings
+    channels : Each (IsOpen k.signer) w.channels
+
+  one_moved : (b : Bool) (f : Channel K → List Move)
+      → ((c : Channel K) → IsOpen k.signer c → IsOpen k.signer (moved k.signer f c))
+      → (c : Channel K) → IsOpen k.signer c → IsOpen k.signer (cond b (moved k.signer f c) c)
+  one_moved true f keep c h = keep c h
+  one_moved false f keep c h = h
+
+  moved_so : (n : ℕ) (f : Channel K → List Move)
+      → ((c : Channel K) → IsOpen k.signer c → IsOpen k.signer (moved k.signer f c))
+      → (cs : List (Channel K)) → Each (IsOpen k.signer) cs → Each (IsOpen k.signer) (moved_at k.signer n f cs)
+  moved_so n f keep [] h = tt
+  moved_so n f keep (c ∷ cs) h = (one_moved (c.number == n) f keep c h.0, moved_so n f keep cs h.1)
+
+  joined_so : (cs : List (Channel K)) (c : Channel K) → Each (IsOpen k.signer) cs → IsOpen k.signer c
+      → Each (IsOpen k.signer) (cs ++ c ∷ [])
+  joined_so [] c h o = (o, tt)
+  joined_so (d ∷ cs) c h o = (h.0, joined_so cs c h.1 o)
+
+  keys_so : (o : Open K k) → BringsFit k (step.Open o) → AreKeys (k.signer o.keys.funder) (k.signer o.keys.fundee)
+  keys_so o f = record {
+    partners = partners_so (k.signer o.keys.funder) (k.signer o.keys.fundee) o.keys.partners;
+    a_points = f.0;
+    b_points = f.1;
+  }
+
+  opens_by : (b : Bool) (o : Open K k) (w : World K) → may_open o w ≡ b
+      → AreKeys (k.signer o.keys.funder) (k.signer o.keys.fundee) → Keeps w
+      → Keeps (cond b (record {
+        settings = w.settings;
+        channels = w.channels
+            ++ opened_by k o (settings_of o.funder w.settings) (settings_of o.fundee w.settings) ∷ [];
+      }) w)
+  opens_by false o w e keys h = h
+  opens_by true o w e keys h =
+      let s = settings_of o.funder w.settings in
+      let t = settings_of o.fundee w.settings in
+      let p = both_true (not (is_node o.funder o.fundee))
+      (is_none (channel o.channel w.channels) && may_bring o.satoshis o.push s t) e in
+      let q = both_true (is_none (channel o.channel w.channels)) (may_bring o.satoshis o.push s t) p.1 in
+      record {
+        settings = h.settings;
+        channels = joined_so w.channels (opened_by k o s t) h.channels
+            (opened_so o s t keys (brings_so o.satoshis o.push s t q.1) (set_so o.funder w.settings h.settings)
+            (set_so o.fundee w.settings h.settings));
+      }
+
+  happened : (s : Step K k) (w : World K) → BringsFit k s → Keeps w → Keeps (happens k s w)
+  happened (step.Fees n fees) w f h = record {
+    settings = with_so n (record (settings_of n w.settings) { fees = fees }) w.settings f h.settings;
+    channels = h.channels;
+  }
+  happened (step.Limits n limits) w f h = record {
+    settings = with_so n (record (settings_of n w.settings) { limits = limits }) w.settings
+        (set_so n w.settings h.settings) h.settings;
+    channels = h.channels;
+  }
+  happened (step.Open o) w f h = opens_by (may_open o w) o w refl (keys_so o f) h
+  happened (step.Do e a) w f h = record {
+    settings = h.settings;
+    channels = moved_so e.channel (act_moves e.node a) (act_kept k.signer e.node a) w.channels h.channels;
+  }
+  happened (step.Down e) w f h = record {
+    settings = h.settings;
+    channels = moved_so e.channel (fall_moves e.node) (fall_kept k.signer e.node) w.channels h.channels;
+  }
+  happened (step.Up n) w f h = record {
+    settings = h.settings;
+    channels = moved_so n up_moves (up_kept k.signer) w.channels h.channels;
+  }
+
+  ran : (ss : List (Step K k)) (w : World K) → BringFit k ss → Keeps w → Keeps (run k ss w)
+  ran [] w f h = h
+  ran (s ∷ ss) w f h = ran ss (happens k s w) f.1 (happened s w f.0 h)
+
+  kept : (ss : List (Step K k)) → BringFit k ss → Keeps (run k ss empty)
+  kept ss f = ran ss empty f (record { settings = tt; channels = tt })
+
+  -- ---- what is promised of each channel
+
+  of_each : (P : Both K → Type 0) → ((id : List ℕ) (p : Both K) → IsRun k.signer id p → P p)
+      → (cs : List (Channel K)) → Each (IsOpen k.signer) cs → Each (λ (c : Channel K). P c.both) cs
+  of_each P f [] h = tt
+  of_each P f (c ∷ cs) h = (f (channel_id_of c.number) c.both h.0, of_each P f cs h.1)
+
+  pub headline : (ss : List (Step K k)) → BringFit k ss → OfEach Headline (run k ss empty)
+  headline ss f = of_each Headline (channels.headline k.signer) (run k ss empty).channels (kept ss f).channels
+
+  pub none_is_refused : (ss : List (Step K k)) → BringFit k ss → OfEach (NoneRefused k.signer) (run k ss empty)
+  none_is_refused ss f = of_each (NoneRefused k.signer) (channels.none_refused k.signer) (run k ss empty).channels
+      (kept ss f).channels
+
+  pub agrees : (ss : List (Step K k)) → BringFit k ss → OfEach Agrees (run k ss empty)
+  agrees ss f = of_each Agrees (channels.agrees k.signer) (run k ss empty).channels (kept ss f).channels

@@ -1,0 +1,101 @@
+-- What the two links of each channel of a world promise, whatever has happened to them.
+use Rattle.std.specs.Prelude.{◌≡◌, ◌⊎◌, ℕ, ◌≤◌, ◌^◌, length, List, [], ◌∷◌, Bool, true, false, Some, None, Result, Ok, Err}
+use Rattle.ln_msgs.specs.declared.messages.message.Message.{Message}
+use Rattle.ln_msgs.specs.declared.messages.message.Message.TheVariants as message
+use Rattle.ln_msgs.specs.declared.refusals.refusal.Refusal.{Refusal}
+use Rattle.ln_msgs.specs.declared.refusals.refusal.Refusal.TheVariants as refusal
+use Rattle.ln_keys.specs.declared.keys.ChannelKeys.{Ghosts}
+use Rattle.ln_keys.specs.Signer.{Signer}
+use Rattle.ln_log.specs.Machine.{Follows}
+use Rattle.ln_dance.specs.Dance.{sign_fault}
+use Rattle.ln_link.specs.declared.link.Line.TheVariants.{Met}
+use Rattle.ln_link.specs.declared.link.Stage.{Stage}
+use Rattle.ln_link.specs.declared.link.Stage.TheVariants as stage
+use Rattle.ln_link.specs.End.{End}
+use Rattle.ln_link.specs.State.{State}
+use Rattle.ln_link.specs.Step.{Done, handled}
+use Rattle.ln_pair.specs.Promises.{AreSent, party, is_closing_signed, HoldsAll, worth}
+use Rattle.ln_world.specs.declared.step.Step.{Step}
+use Rattle.ln_world.specs.declared.step.Step.TheVariants as step
+use Rattle.ln_world.specs.World.{World}
+use Rattle.ln_world.specs.Both.{Both}
+
+-- both links have their channel open, and of its two ends this holds
+abbrev pub WithPeer : (End → Type 0) → Stage → Type 0
+WithPeer f (stage.Saved y) = f y
+WithPeer f s = ⊥
+
+abbrev pub AtEnds : (End → End → Type 0) → Stage → Stage → Type 0
+AtEnds f (stage.Saved x) s = WithPeer (f x) s
+AtEnds f r s = ⊥
+
+-- ---- what each end holds as irrevocably committed begins what the other has covered by a signature
+
+abbrev pub FollowEachOther : End → End → Type 0
+FollowEachOther x y = Follows (party x) (party y) × Follows (party y) (party x)
+
+abbrev pub Headline : {K : Type 0} → Both K → Type 0
+Headline p = AtEnds FollowEachOther p.x.link.stage p.y.link.stage
+
+-- ---- no message is refused but a closing_signed, whose fee may be (36)
+
+abbrev pub IsTaken : Result Done Refusal → Type 0
+IsTaken (Ok d) = Unit {0}
+IsTaken (Err r) = ⊥
+
+abbrev pub TakesFront : {K : Type 0} → (K → Signer) → State K → List Message → Type 0
+TakesFront signer l [] = Unit {0}
+TakesFront signer l (m ∷ ms) = IsTaken (handled (signer l.keys) l m)
+    ⊎ ((is_closing_signed m ≡ true) × (handled (signer l.keys) l m ≡ Err refusal.FeeOutside))
+
+-- nor has either link failed
+pub record NoneRefused {K : Type 0} (signer : K → Signer) (p : Both K) : Type 0 where
+  pub x : TakesFront signer p.x.link p.x.inbox
+  pub y : TakesFront signer p.y.link p.y.inbox
+  pub x_stands : p.x.link.failure ≡ None
+  pub y_stands : p.y.link.failure ≡ None
+
+-- ---- at rest both hold every update of either side, and their commitments are worth the same
+
+-- both ends have met, and nothing is in flight
+pub record IsQuiet {K : Type 0} (p : Both K) : Type 0 where
+  pub x_met : p.x.link.line ≡ Met
+  pub y_met : p.y.link.line ≡ Met
+  pub to_x : p.x.inbox ≡ []
+  pub to_y : p.y.inbox ≡ []
+
+abbrev pub HasSignedAll : End → Type 0
+HasSignedAll e = sign_fault e.dance ≡ Some refusal.NothingToSign
+
+abbrev pub AgreeOnceSigned : End → End → Type 0
+AgreeOnceSigned x y = HasSignedAll x → HasSignedAll y
+    → HoldsAll (party x) (party y) × HoldsAll (party y) (party x) × (worth x ≡ worth y)
+
+abbrev pub Agrees : {K : Type 0} → Both K → Type 0
+Agrees p = IsQuiet p → AtEnds AgreeOnceSigned p.x.link.stage p.y.link.stage
+
+-- ---- what the steps bring
+
+-- points have 33 bytes, as those that keys answer in code
+abbrev pub HavePoints : Signer → Type 0
+HavePoints s = (n : ℕ) → n ≤ 2 ^ 48 → length (s.point_of n) ≡ 33
+
+-- as each step in code does: fees are numbers of 64 bits, and points have their size
+abbrev pub BringsFit : {K : Type 0} → (k : Ghosts K) → Step K k → Type 0
+BringsFit k (step.Fees n fees) = AreSent fees
+BringsFit k (step.Limits n limits) = Unit {0}
+BringsFit k (step.Open o) = HavePoints (k.signer o.keys.funder) × HavePoints (k.signer o.keys.fundee)
+BringsFit k (step.Do e a) = Unit {0}
+BringsFit k (step.Down e) = Unit {0}
+BringsFit k (step.Up n) = Unit {0}
+
+abbrev pub Each : {A : Type 0} → (A → Type 0) → List A → Type 0
+Each P [] = Unit {0}
+Each P (x ∷ xs) = P x × Each P xs
+
+abbrev pub BringFit : {K : Type 0} → (k : Ghosts K) → List (Step K k) → Type 0
+BringFit k steps = Each (BringsFit k) steps
+
+-- each channel of a world
+abbrev pub OfEach : {K : Type 0} → (Both K → Type 0) → World K → Type 0
+OfEach P w = Each (λ c. P c.both) w.channels
