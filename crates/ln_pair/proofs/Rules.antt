@@ -67,8 +67,13 @@ says_within c fee None e f l = late_refused (deal_of c) fee None l (inr (inr tt)
 says_within c fee (Some r) e f l =
     either (Says (deal_of c) fee (Some r)) (nat_le (max c.fees.least r.0) (min c.fees.greatest r.1))
     (Ok (answer.Propose (nearest (max c.fees.least r.0) (min c.fees.greatest r.1) fee))) (Err refusal.FeeOutside)
-    (λ t. (e, f, l.unclosed, nearest_in fee c.fees.least c.fees.greatest r.0 r.1
-    (leb-true (max c.fees.least r.0) (min c.fees.greatest r.1) t)))
+    (λ t. (
+      e,
+      f,
+      l.unclosed,
+      nearest_in fee c.fees.least c.fees.greatest r.0 r.1
+          (leb-true (max c.fees.least r.0) (min c.fees.greatest r.1) t),
+    ))
     (λ t. late_refused (deal_of c) fee (Some r) l
     (inr (inr (le_not (max c.fees.least r.0) (min c.fees.greatest r.1) t))))
 
