@@ -44,7 +44,7 @@ use Rattle.ln_pair.proofs.Agreed.{Deal, Offer, Agreed, Priced, dealt, swap, pric
 use Rattle.ln_pair.proofs.Agreed.{passed_over, not_none}
 use Rattle.ln_pair.proofs.Deals.{deal_of, offer_in, offers_in, IsAside, Aside, aside_message, aside_command}
 use Rattle.ln_pair.proofs.Deals.{is_shutdown, no_bid}
-use Rattle.ln_pair.proofs.Rules.{Says, says}
+use Rattle.ln_pair.proofs.Rules.{Says, none_is, says}
 use Rattle.ln_pair.proofs.Images.{messages_of, messages-append, side_of}
 use Rattle.ln_pair.proofs.Resends.{in-append, resends_so}
 use Rattle.ln_pair.proofs.Opens.{AreFresh}
@@ -118,10 +118,6 @@ and_left false b h = absurd (cc)
 and_right : (a b : Bool) → (a && b) ≡ true → b ≡ true
 and_right true b h = h
 and_right false b h = absurd (cc)
-
-none_is : (o : Option ℕ) → is_none o ≡ true → o ≡ None
-none_is None h = refl
-none_is (Some n) h = absurd (cc)
 
 fee_by : (l : Line) (t s : Bool) (k : Signer) (n : End) (e : Deal) (old : List Message) (q : List Offer)
     → may_start n.closing ≡ s → Priced (deal_of n.closing) e (offers_in old) q

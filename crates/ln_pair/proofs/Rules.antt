@@ -38,7 +38,7 @@ both_not : (a b c d : ℕ) → (nat_le a b && nat_le c d) ≡ false → a ≤ b 
 both_not a b c d e h k =
     let f : true ≡ false = sym (ap (λ t. t && nat_le c d) (le-leb a b h) ∙ le-leb c d k) ∙ e in absurd (cc)
 
-none_is : (o : Option ℕ) → is_none o ≡ true → o ≡ None
+pub none_is : (o : Option ℕ) → is_none o ≡ true → o ≡ None
 none_is None e = refl
 none_is (Some n) e = absurd (cc)
 
