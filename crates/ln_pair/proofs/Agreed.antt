@@ -1,5 +1,6 @@
 -- What every step keeps of the closing fees: of the funder's deal d, the fundee's e, and the fees in flight.
-use Rattle.std.proofs.Common.{◌≡◌, ◌⊎◌, inl, inr, ℕ, ◌≤◌, List, [], ◌∷◌, ◌++◌, refl, sym, ap, ◌∙◌, subst, arith, append-nil}
+use Rattle.std.proofs.Common.{◌≡◌, ◌⊎◌, inl, inr, ℕ, ◌≤◌, List, [], ◌∷◌, ◌++◌, refl, sym, ap, ◌∙◌, subst, arith}
+use Rattle.std.proofs.Common.{append-nil}
 use Rattle.std.proofs.Common.{Bool, true, false, Option, Some, is_some, None, min, max}
 use Rattle.ln_close.specs.declared.closing.Fees.{Fees}
 use Rattle.ln_close.specs.declared.closing.Answer.{Answer}
@@ -105,8 +106,11 @@ offers-push-by : (r : Option (ℕ × ℕ)) (first n : ℕ) (bid : Option ℕ) (o
 offers-push-by r first n bid o os e ih (inl k) = inl (k.0, k.1, ih k.2)
 offers-push-by r first n bid o os e ih (inr k) =
     let same : o.fee ≡ n = some_same o.fee n (sym k.0 ∙ e) in
-    inr (k.0, subst (λ m. AllAre r m (os ++ record { fee = n; range = r } ∷ [])) (sym same)
-    (are-push r n os (subst (λ m. AllAre r m os) same k.1)))
+    inr (
+      k.0,
+      subst (λ m. AllAre r m (os ++ record { fee = n; range = r } ∷ [])) (sym same)
+          (are-push r n os (subst (λ m. AllAre r m os) same k.1)),
+    )
 
 offers-push : (r : Option (ℕ × ℕ)) (first n : ℕ) (bid : Option ℕ) (os : List Offer) → bid ≡ Some n
     → Offers r first bid os → Offers r first bid (os ++ record { fee = n; range = r } ∷ [])
@@ -465,7 +469,8 @@ passed_over d e o os qs (inr a) = inr (fundee_same e d o qs os a)
 
 -- ---- two ends that are closed have one fee
 
-pub same_fee : (d e : Deal) (p q : List Offer) (m n : ℕ) → Priced d e p q → d.closed ≡ Some m → e.closed ≡ Some n → m ≡ n
+pub same_fee : (d e : Deal) (p q : List Offer) (m n : ℕ) → Priced d e p q → d.closed ≡ Some m → e.closed ≡ Some n
+    → m ≡ n
 same_fee d e p q m n (inl a) h k = some_same m n (sym (a.closed m h).1 ∙ (a.their_closed n k).1)
 same_fee d e p q m n (inr a) h k = some_same m n (sym (a.their_closed m h).1 ∙ (a.closed n k).1)
 

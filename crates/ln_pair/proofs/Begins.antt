@@ -112,7 +112,8 @@ taker_begun lx ly k f x y m ms ns there back told ended due =
     let q = signed_is y.signatures y.revocations x.number y.acked y.signed x.current number back.phase in
     let p = acked_is x.signatures x.revocations y.number x.acked x.signed y.current (sym at.revoked) there.phase in
     let lengths : length x.got ≡ length y.own = at.has_all ∙ all.0 in
-    let has_all : x.got ≡ y.own = sym (take_all x.current.peer x.got (let c = q.0 in let g = at.has_all in omega (arith, c, g)))
+    let has_all : x.got ≡ y.own =
+    sym (take_all x.current.peer x.got (let c = q.0 in let g = at.has_all in omega (arith, c, g)))
     ∙ back.agree ∙ take_all x.current.peer y.own (let c = q.0 in let g = all.0 in omega (arith, c, g)) in
     both_begun ly lx y x (Close m ∷ ns) ms back there told b
     (record { has_all = has_all; knows = sym p.0; accepted = number; revoked = at.revoked }) at.shut

@@ -90,7 +90,8 @@ module _ (a b : Signer) (channel : List ℕ) (ly : Line) (x y : End) (to_y : Lis
     ended = h.ended;
     ended_back = h.ended_back;
     closes = again_closes a x.closing.fees ly m.next_commitment_number m.next_revocation_number (side_of a x)
-        (side_of b y) to_y h.kept.there.within h.ended.begun h.x_signs h.kept.there.flight (again_kept m ns h).there.flight
+        (side_of b y) to_y h.kept.there.within h.ended.begun h.x_signs h.kept.there.flight
+        (again_kept m ns h).there.flight
         (again_told m ns h).there.speech h.closes;
     closes_back = h.closes_back;
     x_signs = h.x_signs;

@@ -167,7 +167,8 @@ module _ (k : Signer) (f : Fees) where
   -- behind messages of which none is one
   closes-behind : (w : Sender) (t : Teller) (v : Closer) (own held : List Change) (all : ℕ)
       (Q : List Change → ℕ → ℕ → ℕ → Type 0) (P : Bool → Bool → Type 0) (got : List Change) (a c r : ℕ) (q s : Bool)
-      (ms ns : List Notice) → NoCloses ms → ((gs : List Change) (b d j : ℕ) (p z : Bool) → Reads w own held all Q gs b d j ns
+      (ms ns : List Notice) → NoCloses ms → ((gs : List Change) (b d j : ℕ) (p z : Bool)
+      → Reads w own held all Q gs b d j ns
       → Tells t P p z ns → Closes k f v j z (length gs) ns) → Reads w own held all Q got a c r (ms ++ ns)
       → Tells t P q s (ms ++ ns) → Closes k f v r s (length got) (ms ++ ns)
   closes-behind w t v own held all Q P got a c r q s [] ns n e h i = e got a c r q s h i
@@ -193,13 +194,13 @@ module _ (k : Signer) (f : Fees) where
       let at = h refl in
       (record { bid = at.0; revoked = at.1; shut = at.2; has_all = at.3; signed = i }, tt)
 
-  dealt_closes_by : (ly lz : Line) (x y : Side) (m : Option ClosingSigned) (c : Bool) (sent : Option ClosingSigned)
+  dealt_closes_by : (x y : Side) (m : Option ClosingSigned) (c : Bool) (sent : Option ClosingSigned)
       (to_y : List Notice) → HasBegun x → IsWithin x
       → Carries Met x y to_y → Speaks Met x y to_y
       → (has_bid x ≡ true → is_some m ≡ true) → (is_some sent ≡ true → is_some m ≡ true) → SignsAll k f sent
       → Closes k f (closer x) y.revocations y.peer_shut (length y.got) to_y
       → Closes k f (closer (dealt m c x)) y.revocations y.peer_shut (length y.got) (to_y ++ closes_of sent)
-  dealt_closes_by ly lz x y m c sent to_y b w h i bd st sg j =
+  dealt_closes_by x y m c sent to_y b w h i bd st sg j =
       closes-last (sender x) (teller x y) (closer (dealt m c x)) y.own (holds y) y.signed.own
       (LacksNothing x.own x.current.peer x.signatures x.number) (ToldAll x.ready x.shut y.closed) y.got y.acked.own
       y.number y.revocations y.peer_ready y.peer_shut to_y (closes_of sent)
@@ -222,8 +223,8 @@ module _ (k : Signer) (f : Fees) where
   dealt_closes Awaiting x y m c sent (Shutdown z ∷ ms) b w h i bd st sg j = absurd h
   dealt_closes Awaiting x y m c sent (Close z ∷ ms) b w h i bd st sg j = absurd h
   dealt_closes Awaiting x y m c sent (Again z ∷ ms) b w h i bd st sg j =
-      dealt_closes_by Met Met x y m c sent ms b w h.1 i bd st sg j
-  dealt_closes Met x y m c sent to_y b w h i bd st sg j = dealt_closes_by Met Met x y m c sent to_y b w h i bd st sg j
+      dealt_closes_by x y m c sent ms b w h.1 i bd st sg j
+  dealt_closes Met x y m c sent to_y b w h i bd st sg j = dealt_closes_by x y m c sent to_y b w h i bd st sg j
 
   -- ---- what is sent again
 

@@ -29,7 +29,8 @@ use Rattle.ln_link.specs.Resume.{resumed}
 use Rattle.ln_close.specs.declared.closing.Answer.{Answer}
 use Rattle.ln_close.specs.declared.closing.Answer.TheVariants as answer
 use Rattle.ln_close.specs.Closing.{may_start, started, after_shut, after, answer_to}
-use Rattle.ln_link.specs.End.{has_begun, settled, answers_shutdown, owes_shutdown, completed, end_dropped, shutdown_message}
+use Rattle.ln_link.specs.End.{has_begun, settled, answers_shutdown, owes_shutdown, completed, end_dropped}
+use Rattle.ln_link.specs.End.{shutdown_message}
 use Rattle.ln_bytes.specs.Tlv.{value_of}
 use Rattle.ln_close.specs.Closing.{is_funder}
 use Rattle.ln_link.specs.End.{fee_range}
@@ -37,7 +38,8 @@ use Rattle.ln_link.specs.Taking.{answered, range_of, range_in, completed_row}
 use Rattle.ln_pair.proofs.Agreed.{Deal, Offer}
 use Rattle.ln_link.specs.Commands.{shuts_down, shut_fault, unready_fault}
 use Rattle.ln_keys.specs.declared.role.Role.TheVariants.{Funder, Fundee}
-use Rattle.ln_pair.specs.Ends.{messages_in, met_again, message_at, command_at, Ends, turned, answers, delivers, Act, Deliver}
+use Rattle.ln_pair.specs.Ends.{messages_in, met_again, message_at, command_at, Ends, turned, answers, delivers, Act}
+use Rattle.ln_pair.specs.Ends.{Deliver}
 use Rattle.ln_pair.specs.Ends.{Give, Lose, acts, connects, Step, By, Connect, happens, run}
 use Rattle.ln_pair.specs.Promises.{is_closing_signed}
 
@@ -202,7 +204,8 @@ answered_fees k m e (Ok a) = after_fees m.fee_satoshis a e.closing
 answered_fees k m e (Err r) = tt
 
 fee_fees : (k : Signer) (m : ClosingSigned) (e : End) (begun right : Bool) (r : Result Answer Refusal)
-    → KeepsFees e (cond (not begun) (Err refusal.OutOfPlace) (cond right (answered k m e r) (Err refusal.SignatureWrong)))
+    → KeepsFees e (cond (not begun) (Err refusal.OutOfPlace)
+    (cond right (answered k m e r) (Err refusal.SignatureWrong)))
 fee_fees k m e true true r = answered_fees k m e r
 fee_fees k m e true false r = tt
 fee_fees k m e false right r = tt

@@ -161,8 +161,7 @@ all_taken a b s c funder fundee steps keys o g =
     let py = is_plain p.y.closing (subst AreOrdered (sym same.y) g.fundee) (subst AreSent (sym same.y) g.fundee_sent) in
     let over : Overlap p.x.closing.fees p.y.closing.fees =
     subst (λ q. Overlap q p.y.closing.fees) (sym same.x) (subst (λ q. Overlap funder.closing.fees q) (sym same.y)
-    g.overlap) in
-    (
+    g.overlap) in (
       front_taken a p p.to_x refl px py over h f.0,
       front_taken b (turned p) p.to_y refl py px (overlaps_back p.x.closing.fees p.y.closing.fees over)
           (turned_at p h) f.1,

@@ -25,7 +25,8 @@ use Rattle.ln_link.specs.declared.opening.Opened.{Opened}
 use Rattle.ln_link.specs.declared.output.Output.{Output}
 use Rattle.ln_link.specs.declared.output.Output.TheVariants as output
 use Rattle.ln_link.specs.Opening.{unless}
-use Rattle.ln_link.specs.End.{End, Turn, sending, has_begun, completed, settled, answers_shutdown, owes_shutdown, due_fee}
+use Rattle.ln_link.specs.End.{End, Turn, sending, has_begun, completed, settled, answers_shutdown, owes_shutdown}
+use Rattle.ln_link.specs.End.{due_fee}
 use Rattle.ln_link.specs.End.{due_sent, fee_sent, shutdown_sent, shutdown_message, end_dropped, closing_message}
 use Rattle.ln_link.specs.State.{is_down}
 use Rattle.ln_link.specs.Step.{faulted, line_fault}
@@ -33,7 +34,8 @@ use Rattle.ln_link.specs.Taking.{answering, answered, answered_end, range_in, me
 use Rattle.ln_link.specs.Commands.{command_row, shuts_down, shut_fault, unready_fault}
 use Rattle.ln_link.specs.Resume.{resumed, sent_again}
 use Rattle.ln_pair.specs.Ends.{Ends, turned, message_at, met_again, messages_in, arrive, becomes, answers}
-use Rattle.ln_pair.specs.Ends.{delivers, Act, Deliver, Give, Lose, acts, connects, Step, By, Connect, happens, run, opened}
+use Rattle.ln_pair.specs.Ends.{delivers, Act, Deliver, Give, Lose, acts, connects, Step, By, Connect, happens, run}
+use Rattle.ln_pair.specs.Ends.{opened}
 use Rattle.ln_pair.specs.Promises.{is_closing_signed}
 use Rattle.ln_pair.proofs.Sides.{Notice, Update, Sign, Revoke, Ready, Shutdown, Close, Again, closes_of, owed}
 use Rattle.ln_pair.proofs.Sides.{ready_again, shutdown_again}
@@ -42,7 +44,7 @@ use Rattle.ln_pair.proofs.Agreed.{Deal, Offer, Agreed, Priced, dealt, swap, pric
 use Rattle.ln_pair.proofs.Agreed.{passed_over, not_none}
 use Rattle.ln_pair.proofs.Deals.{deal_of, offer_in, offers_in, IsAside, Aside, aside_message, aside_command}
 use Rattle.ln_pair.proofs.Deals.{is_shutdown, no_bid}
-use Rattle.ln_pair.proofs.Rules.{Says, says}
+use Rattle.ln_pair.proofs.Rules.{Says, none_is, says}
 use Rattle.ln_pair.proofs.Images.{messages_of, messages-append, side_of}
 use Rattle.ln_pair.proofs.Resends.{in-append, resends_so}
 use Rattle.ln_pair.proofs.Opens.{AreFresh}
@@ -117,14 +119,12 @@ and_right : (a b : Bool) → (a && b) ≡ true → b ≡ true
 and_right true b h = h
 and_right false b h = absurd (cc)
 
-none_is : (o : Option ℕ) → is_none o ≡ true → o ≡ None
-none_is None h = refl
-none_is (Some n) h = absurd (cc)
-
 fee_by : (l : Line) (t s : Bool) (k : Signer) (n : End) (e : Deal) (old : List Message) (q : List Offer)
     → may_start n.closing ≡ s → Priced (deal_of n.closing) e (offers_in old) q
-    → Priced (deal_of (cond t (record n { closing = cond s (record n.closing { own_fee = Some n.closing.fees.first })
-    n.closing }) n).closing) e (offers_in (arrive l (messages_in (fee_sent k n
+    → Priced (deal_of (cond t (record n {
+      closing = cond s (record n.closing { own_fee = Some n.closing.fees.first })
+          n.closing;
+    }) n).closing) e (offers_in (arrive l (messages_in (fee_sent k n
     (cond t (cond s (Some n.closing.fees.first) None) None))) old)) q
 fee_by l false s k n e old q is h = quietly l (deal_of n.closing) e [] old q refl h
 fee_by l true false k n e old q is h = quietly l (deal_of n.closing) e [] old q refl h

@@ -107,7 +107,8 @@ fee_front a m ms e (inl t) = inl t
 fee_front a m ms e (inr r) = inr (refl, r)
 
 front_by : (a b : Signer) → AreKeys a b → (l : Line) (p : Ends) → p.x_line ≡ l
-    → (channel : List ℕ) (ns to_y : List Notice) → AreSent p.y.closing.fees → Hold a b channel l p.y_line p.x p.y ns to_y p.said_x p.said_y
+    → (channel : List ℕ) (ns to_y : List Notice) → AreSent p.y.closing.fees
+    → Hold a b channel l p.y_line p.x p.y ns to_y p.said_x p.said_y
     → TakesFront a p.x_line (messages_of channel ns) p.x
 front_by a b keys l p is channel [] to_y sent h = tt
 front_by a b keys Down p is channel (n ∷ ns) to_y sent h = absurd (let no : n ∷ ns ≡ [] = h.kept.back.flight in cc)

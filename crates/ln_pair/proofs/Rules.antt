@@ -38,7 +38,7 @@ both_not : (a b c d : ℕ) → (nat_le a b && nat_le c d) ≡ false → a ≤ b 
 both_not a b c d e h k =
     let f : true ≡ false = sym (ap (λ t. t && nat_le c d) (le-leb a b h) ∙ le-leb c d k) ∙ e in absurd (cc)
 
-none_is : (o : Option ℕ) → is_none o ≡ true → o ≡ None
+pub none_is : (o : Option ℕ) → is_none o ≡ true → o ≡ None
 none_is None e = refl
 none_is (Some n) e = absurd (cc)
 
@@ -67,8 +67,13 @@ says_within c fee None e f l = late_refused (deal_of c) fee None l (inr (inr tt)
 says_within c fee (Some r) e f l =
     either (Says (deal_of c) fee (Some r)) (nat_le (max c.fees.least r.0) (min c.fees.greatest r.1))
     (Ok (answer.Propose (nearest (max c.fees.least r.0) (min c.fees.greatest r.1) fee))) (Err refusal.FeeOutside)
-    (λ t. (e, f, l.unclosed, nearest_in fee c.fees.least c.fees.greatest r.0 r.1
-    (leb-true (max c.fees.least r.0) (min c.fees.greatest r.1) t)))
+    (λ t. (
+      e,
+      f,
+      l.unclosed,
+      nearest_in fee c.fees.least c.fees.greatest r.0 r.1
+          (leb-true (max c.fees.least r.0) (min c.fees.greatest r.1) t),
+    ))
     (λ t. late_refused (deal_of c) fee (Some r) l
     (inr (inr (le_not (max c.fees.least r.0) (min c.fees.greatest r.1) t))))
 

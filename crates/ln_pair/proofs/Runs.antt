@@ -208,7 +208,8 @@ module _ (a b : Signer) (keys : AreKeys a b) where
 
   -- a closing fee, by the answer to it
   fee_answered : (ans : Answer) (p : Ends) (channel : List ℕ) (m : ClosingSigned) (ns to_y : List Notice)
-      → Offers p.x.closing.fees ans → HasBegun (side_of a p.x) → has_bid (side_of b p.y) ≡ true → p.to_y ≡ messages_of channel to_y
+      → Offers p.x.closing.fees ans → HasBegun (side_of a p.x) → has_bid (side_of b p.y) ≡ true
+      → p.to_y ≡ messages_of channel to_y
       → Hold a b channel Met p.y_line p.x p.y ns to_y p.said_x p.said_y
       → Holds a b (becomes (completed a (answering a ans (answered_end m ans p.x)))
       (record p { to_x = messages_of channel ns }))
@@ -337,7 +338,8 @@ module _ (a b : Signer) (keys : AreKeys a b) where
       subst (λ l. Holds a b (answers (message_at a l (message.ClosingSigned m) p.x) q)) (sym is)
       (fee_by (has_begun p.x) (a.accepts_close m.fee_satoshis m.signature)
       (answer_to p.x.closing m.fee_satoshis (range_in m)) p is channel m ns to_y refl
-      (fair p.x.closing m.fee_satoshis (range_in m)) (closing_sent p.y_line m (side_of a p.x) (side_of b p.y) ns h.told.back.speech) iy
+      (fair p.x.closing m.fee_satoshis (range_in m))
+      (closing_sent p.y_line m (side_of a p.x) (side_of b p.y) ns h.told.back.speech) iy
       (passed_close a b keys channel p.y_line p.x p.y p.said_x p.said_y m ns to_y h))
 
   delivered_by : (l : Line) (p : Ends) → p.x_line ≡ l → (channel : List ℕ) (ns to_y : List Notice)

@@ -807,8 +807,8 @@ module _ (a b : Signer) (keys : AreKeys a b) (channel : List ℕ) (ly : Line) (x
       let nobegun : HasBegun x_side → ⊥ = λ q. (let all = covers_all x_side h.kept.there.within q in new all.0 all.1) in
       moved (signs_next x) (signed_all z x_side) to_x to_y to_x (posts ly (Sign z ∷ []) to_y)
       (said_x ++ message.CommitmentSigned z ∷ []) (signs_so a x) h
-      refl (moved_due (closer (signed_all z x_side)) (Sign z ∷ []) to_y tt (not_bid nobegun h.ended (has_bid x_side) refl)
-      h.closes) h.closes_back h.x_signs
+      refl (moved_due (closer (signed_all z x_side)) (Sign z ∷ []) to_y tt
+      (not_bid nobegun h.ended (has_bid x_side) refl) h.closes) h.closes_back h.x_signs
       (kept_signed ly z x_side y_side to_x to_y equal h.kept)
       (told_signed ly z x_side y_side to_x to_y (not_closed nobegun h.ended y_side.closed refl)
       (record { sent = ready.0; taken = ready.1 }) h.told)

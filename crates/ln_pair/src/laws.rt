@@ -31,7 +31,8 @@ pub fn held_was_covered()
 /// closing fees of both are below 2^64, as their numbers are sent in eight bytes.
 pub fn no_message_is_refused()
     ensures { (a b : Signer) (s : OpenSpec) (c : Config) (funder fundee : Opened) (steps : List Step) → AreKeys a b
-        → Opens a b s c funder fundee → AreSent funder.closing.fees → AreSent fundee.closing.fees → NoneRefused a b (run a b steps (opened funder fundee)) }
+        → Opens a b s c funder fundee → AreSent funder.closing.fees → AreSent fundee.closing.fees
+        → NoneRefused a b (run a b steps (opened funder fundee)) }
 {}
 
 /// A law: where both sides' ranges of closing fees overlap, every message that is delivered is taken, each

@@ -5,6 +5,6 @@
 mod laws;
 
 pub use laws::{
-    both_agree_at_rest, closed_at_one_fee, held_was_covered, no_add_follows_a_shutdown, no_message_is_refused,
-    no_message_is_refused_where_fees_overlap,
+    both_agree_at_rest, closed_at_one_fee, held_was_covered, no_add_follows_a_shutdown,
+    no_message_is_refused, no_message_is_refused_where_fees_overlap,
 };
