@@ -1,9 +1,8 @@
 -- Every channel that is opened, and whatever happens to it.
-use Rattle.std.proofs.Common.{◌≡◌, ◌⊎◌, ℕ, List, [], ◌∷◌, ◌++◌, refl, sym, ap, ◌∙◌, subst, Bool, true, false, cond, ◌&&◌}
-use Rattle.std.proofs.Common.{Option, Some, None, Result, Ok, Err, inl, inr, not}
+use Rattle.std.proofs.Common.{◌≡◌, ℕ, List, [], ◌∷◌, ◌++◌, refl, sym, ap, ◌∙◌, subst, Bool, true, false, cond}
+use Rattle.std.proofs.Common.{◌&&◌}
+use Rattle.std.proofs.Common.{Option, Some, None, inl, inr, not}
 use Rattle.ln_msgs.specs.declared.messages.message.Message.{Message}
-use Rattle.ln_msgs.specs.declared.refusals.refusal.Refusal.{Refusal}
-use Rattle.ln_msgs.specs.declared.refusals.refusal.Refusal.TheVariants as refusal
 use Rattle.ln_keys.specs.declared.role.Role.{Role}
 use Rattle.ln_keys.specs.declared.role.Role.TheVariants.{Funder, Fundee}
 use Rattle.ln_keys.specs.Signer.{Signer}
@@ -12,7 +11,6 @@ use Rattle.ln_link.specs.declared.config.OpenSpec.{OpenSpec}
 use Rattle.ln_link.specs.declared.link.Line.{Line}
 use Rattle.ln_link.specs.declared.link.Line.TheVariants.{Met}
 use Rattle.ln_link.specs.Naming.{named}
-use Rattle.ln_link.specs.declared.link.Stage.{Stage}
 use Rattle.ln_link.specs.declared.link.Stage.TheVariants as stage
 use Rattle.ln_link.specs.declared.opening.Opened.{Opened}
 use Rattle.ln_link.specs.Meeting.{Opens}
@@ -29,12 +27,12 @@ use Rattle.ln_world.specs.declared.step.Act.{Act}
 use Rattle.ln_world.specs.declared.step.Act.TheVariants as act
 use Rattle.ln_world.specs.declared.step.Node.{Node}
 use Rattle.ln_world.specs.Settings.{channel_id_of}
-use Rattle.ln_world.specs.Both.{Both, Move, By, Falls, Meet, acts, falls, meet, turned, moves, may_come_up}
+use Rattle.ln_world.specs.Both.{Both, By, Falls, Meet, acts, turned, moves, may_come_up}
 use Rattle.ln_world.specs.Both.{run as run_both}
 use Rattle.ln_world.specs.Channel.{Channel, by, side_of, moved, may_meet, act_moves, fall_moves, up_moves}
-use Rattle.ln_world.specs.Promises.{AtEnds, WithPeer, FollowEachOther, Headline, IsTaken, TakesFront, NoneRefused}
-use Rattle.ln_world.specs.Promises.{IsQuiet, HasSignedAll, AgreeOnceSigned, Agrees}
-use Rattle.ln_world.proofs.Mirror.{link_of, is_warning, without_warnings, IsInbox, Mirrors, flipped, plain}
+use Rattle.ln_world.specs.Promises.{AtEnds, FollowEachOther, Headline, IsTaken, TakesFront, NoneRefused}
+use Rattle.ln_world.specs.Promises.{AgreeOnceSigned, Agrees}
+use Rattle.ln_world.proofs.Mirror.{link_of, without_warnings, IsInbox, Mirrors, flipped, plain}
 use Rattle.ln_world.proofs.Moves.{Goes, handled_so, passed_so, delivered, given, fell, met, is_up}
 
 -- ---- the pair's steps

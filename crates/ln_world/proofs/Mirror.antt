@@ -1,10 +1,9 @@
 -- A channel of two links beside a pair of ends: the links are saved at these ends, and what is in flight is the same
 -- but for warnings, which a link passes over.
 use Rattle.std.proofs.Common.{◌≡◌, ◌⊎◌, ℕ, List, [], ◌∷◌, ◌++◌, refl, sym, ap, ◌∙◌, subst, Bool, true, false, cond}
-use Rattle.std.proofs.Common.{Option, Some, None, Result, Ok, Err, inl, inr, append-nil, append_assoc}
+use Rattle.std.proofs.Common.{Some, None, inr, append-nil}
 use Rattle.ln_msgs.specs.declared.messages.message.Message.{Message}
 use Rattle.ln_msgs.specs.declared.messages.message.Message.TheVariants as message
-use Rattle.ln_keys.specs.Signer.{Signer}
 use Rattle.ln_link.specs.declared.link.Line.{Line}
 use Rattle.ln_link.specs.declared.link.Line.TheVariants.{Down, Awaiting, Met}
 use Rattle.ln_link.specs.declared.link.Stage.{Stage}
@@ -133,7 +132,8 @@ module _ (id : List ℕ) where
   nothing_arrives Met to = append-nil to
 
 module _ {K : Type 0} (id : List ℕ) where
-  same_link : (b : Bool) (ms : List Message) (p : Place K) → (cond b p (record p { inbox = p.inbox ++ ms })).link ≡ p.link
+  same_link : (b : Bool) (ms : List Message) (p : Place K)
+      → (cond b p (record p { inbox = p.inbox ++ ms })).link ≡ p.link
   same_link true ms p = refl
   same_link false ms p = refl
 
@@ -141,7 +141,8 @@ module _ {K : Type 0} (id : List ℕ) where
   reached_link ms p = same_link (is_down p.link.line) ms p
 
   reached_by : (b : Bool) (l : Line) (ms to : List Message) (p : Place K) → b ≡ is_down l → IsInbox id l p.inbox to
-      → AreIn id ms → IsInbox id l (cond b p (record p { inbox = p.inbox ++ ms })).inbox (arrive l (without_warnings ms) to)
+      → AreIn id ms
+      → IsInbox id l (cond b p (record p { inbox = p.inbox ++ ms })).inbox (arrive l (without_warnings ms) to)
   reached_by true Down ms to p e h n = h
   reached_by false Down ms to p e h n = absurd (cc)
   reached_by true Awaiting ms to p e h n = absurd (cc)
@@ -149,8 +150,8 @@ module _ {K : Type 0} (id : List ℕ) where
   reached_by true Met ms to p e h n = absurd (cc)
   reached_by false Met ms to p e h n = behind id Met ms p.inbox to refl h n
 
-  pub reached : (l : Line) (ms to : List Message) (p : Place K) → p.link.line ≡ l → IsInbox id l p.inbox to → AreIn id ms
-      → IsInbox id l (reaches ms p).inbox (arrive l (without_warnings ms) to)
+  pub reached : (l : Line) (ms to : List Message) (p : Place K) → p.link.line ≡ l → IsInbox id l p.inbox to
+      → AreIn id ms → IsInbox id l (reaches ms p).inbox (arrive l (without_warnings ms) to)
   reached l ms to p e h n = reached_by (is_down p.link.line) l ms to p (ap is_down e) h n
 
   -- only warnings come

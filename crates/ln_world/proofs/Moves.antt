@@ -1,6 +1,6 @@
 -- What a move makes of the two links, a step of the pair makes of the ends.
 use Rattle.std.proofs.Common.{◌≡◌, ◌⊎◌, ℕ, List, [], ◌∷◌, ◌++◌, refl, sym, ap, ◌∙◌, subst, Bool, true, false, cond, not}
-use Rattle.std.proofs.Common.{Option, Some, None, Result, Ok, Err, inl, inr, append-nil, nat_eq, ◌&&◌}
+use Rattle.std.proofs.Common.{Option, Some, None, Result, Ok, Err, inl, inr, append-nil, nat_eq}
 use Rattle.std.proofs.lemmas.Cmp.{nat_list_eq_equiv}
 use Rattle.std.specs.Cmp.Lexicographic.{pointwise}
 use Rattle.ln_msgs.specs.declared.messages.message.Message.{Message}
@@ -14,10 +14,9 @@ use Rattle.ln_link.specs.declared.command.Command.TheVariants as command
 use Rattle.ln_link.specs.declared.link.Line.{Line}
 use Rattle.ln_link.specs.declared.link.Line.TheVariants.{Down, Awaiting, Met}
 use Rattle.ln_link.specs.declared.link.Stage.TheVariants as stage
-use Rattle.ln_link.specs.declared.output.Output.TheVariants as output
 use Rattle.ln_link.specs.Naming.{named, is_other}
 use Rattle.ln_link.specs.Outputs.{all_of}
-use Rattle.ln_link.specs.End.{End, Turn, is_ready, end_dropped}
+use Rattle.ln_link.specs.End.{End, Turn, end_dropped}
 use Rattle.ln_link.specs.Commands.{command_row, unready_fault}
 use Rattle.ln_link.specs.State.{State, is_down, refused, drops}
 use Rattle.ln_link.specs.Step.{Done, handled, commanded, faulted, line_fault, is_passed_over, error_fault, stray_fault}
@@ -30,11 +29,11 @@ use Rattle.ln_pair.specs.Promises.{TakesFront as Front}
 use Rattle.ln_world.specs.declared.step.Act.TheVariants as act
 use Rattle.ln_world.specs.Lines.{messages_in, replies}
 use Rattle.ln_world.specs.Both.{Both, Place, reaches, left, left_by, sent_by, unchanged, answers, delivers, acts, falls}
-use Rattle.ln_world.specs.Both.{fallen, greeting, greets, comes_up, meet}
+use Rattle.ln_world.specs.Both.{greeting, greets, comes_up, meet}
 use Rattle.ln_world.proofs.Named.{Names, IsFine, IsFineRow, fine_at, fine_command, same_in}
 use Rattle.ln_world.proofs.Named as sent
 use Rattle.ln_world.proofs.Silent.{IsSilentRow, silent_at}
-use Rattle.ln_world.proofs.Mirror.{link_of, is_warning, without_warnings, AreIn, IsInbox, Mirrors, IsPlain, plain}
+use Rattle.ln_world.proofs.Mirror.{link_of, is_warning, without_warnings, AreIn, IsInbox, Mirrors, plain}
 use Rattle.ln_world.proofs.Mirror.{all_plain, all_in, reached_link, reached, reached_aside}
 
 -- ---- what a link answers is what its end's rows say
@@ -132,7 +131,8 @@ module _ {K : Type 0} (keys : Signer) (k : K) (id : List ℕ) where
   first_why None r = r
   first_why (Some f) r = f
 
-  faulted_err : (f : Option Refusal) (r : Refusal) → ◌≡◌ {A = Result Turn Refusal} (faulted f (Err r)) (Err (first_why f r))
+  faulted_err : (f : Option Refusal) (r : Refusal)
+      → ◌≡◌ {A = Result Turn Refusal} (faulted f (Err r)) (Err (first_why f r))
   faulted_err None r = refl
   faulted_err (Some f) r = refl
 
@@ -250,8 +250,8 @@ module _ {K : Type 0} (signer : K → Signer) (id : List ℕ) (kx ky : K) where
   of_channel p q m ms to up is told named h (inl f) =
       let keys = signer kx in
       let row : handled (signer p.x.link.keys) p.x.link m ≡ step.turned Met (Ok f.0) =
-      ap (λ (l : State K). handled (signer l.keys) l m) h.x_link ∙ handled_so keys kx id q.x_line m q.x up is h.x_channel
-      ∙ ap (step.turned Met) f.1 in
+      ap (λ (l : State K). handled (signer l.keys) l m) h.x_link
+      ∙ handled_so keys kx id q.x_line m q.x up is h.x_channel ∙ ap (step.turned Met) f.1 in
       let fine = fine_of id (message_at keys q.x_line m q.x) f.0 f.1 (fine_at keys id q.x_line m q.x h.x_channel) in
       subst (λ r. Mirrors id kx ky (answers refused id (handled (signer p.x.link.keys) p.x.link m)
       (record { x = record { link = p.x.link; inbox = ms }; y = p.y })) (pair.answers r (record q { to_x = to })))
@@ -261,8 +261,8 @@ module _ {K : Type 0} (signer : K → Signer) (id : List ℕ) (kx ky : K) where
   of_channel p q m ms to up is told named h (inr f) =
       let keys = signer kx in
       let row : handled (signer p.x.link.keys) p.x.link m ≡ Err refusal.FeeOutside =
-      ap (λ (l : State K). handled (signer l.keys) l m) h.x_link ∙ handled_so keys kx id q.x_line m q.x up is h.x_channel
-      ∙ ap (step.turned Met) f.1 in
+      ap (λ (l : State K). handled (signer l.keys) l m) h.x_link
+      ∙ handled_so keys kx id q.x_line m q.x up is h.x_channel ∙ ap (step.turned Met) f.1 in
       subst (λ r. Mirrors id kx ky (answers refused id (handled (signer p.x.link.keys) p.x.link m)
       (record { x = record { link = p.x.link; inbox = ms }; y = p.y })) (pair.answers r (record q { to_x = to })))
       (sym f.1)
@@ -287,7 +287,8 @@ module _ {K : Type 0} (signer : K → Signer) (id : List ℕ) (kx ky : K) where
             inr (
               Deliver,
               let to : m ∷ without_warnings ms ≡ q.to_x =
-                  sym (ap (λ b. cond b (without_warnings ms) (m ∷ without_warnings ms)) (plain id m own).warning) ∙ i.told in
+                  sym (ap (λ b. cond b (without_warnings ms) (m ∷ without_warnings ms))
+                  (plain id m own).warning) ∙ i.told in
                   subst (λ ws. Mirrors id kx ky (delivers signer id (m ∷ ms) p) (pair.delivers (signer kx) ws q)) to
                   (of_channel p q m ms (without_warnings ms) up own refl i.named.1 h
                   (subst (λ ws. Front (signer kx) q.x_line ws q.x) (sym to) f)),
@@ -384,7 +385,8 @@ module _ {K : Type 0} (signer : K → Signer) (id : List ℕ) (kx ky : K) where
       → other ≡ link_of from Down f → f.dance.channel ≡ id → p.inbox ≡ []
       → IsInbox id Awaiting (reaches (greets (greeting signer other)) (comes_up signer p)).inbox (again from f)
   up_in k e other p from f is are channel none =
-      subst (λ ws. IsInbox id Awaiting (reaches ws (comes_up signer p)).inbox (again from f)) (sym (up_sent from f other are))
+      subst (λ ws. IsInbox id Awaiting (reaches ws (comes_up signer p)).inbox (again from f))
+      (sym (up_sent from f other are))
       (reached id Awaiting (again from f) [] (comes_up signer p)
       (ap (λ (l : State K). l.line) (up_link k e p.link is))
       (subst (λ ws. IsInbox id Awaiting ws []) (sym none)

@@ -44,15 +44,15 @@ use Rattle.ln_link.specs.Outputs.{numbered, events_of}
 use Rattle.ln_link.specs.Ledger.{next_event}
 use Rattle.ln_link.specs.Since.{own_since, peer_since}
 use Rattle.ln_link.specs.End.{End, Turn, completed, quiet, sending, owes_shutdown, answers_shutdown, due_fee, fee_sent}
-use Rattle.ln_link.specs.End.{has_begun, is_closed, shutdown_message, shutdown_sent, due_sent, told_of}
-use Rattle.ln_link.specs.Taking.{taken, message_row, takes_ready, takes, update_row, update_fault, signature_fault}
-use Rattle.ln_link.specs.Taking.{signature_row, accepting, accepts, revocation_row, learning, revokes, shutdown_at}
-use Rattle.ln_link.specs.Taking.{shuts_by_peer, same_bytes, fee_row, answering, answered, answered_end, range_in}
+use Rattle.ln_link.specs.End.{has_begun, is_closed, shutdown_message, shutdown_sent, due_sent}
+use Rattle.ln_link.specs.Taking.{message_row, takes_ready, takes, update_row, update_fault, signature_fault}
+use Rattle.ln_link.specs.Taking.{accepting, accepts, learning, revokes, shutdown_at}
+use Rattle.ln_link.specs.Taking.{shuts_by_peer, same_bytes, answering, answered, answered_end, range_in}
 use Rattle.ln_link.specs.Taking.{completed_row}
-use Rattle.ln_link.specs.Commands.{command_row, confirm_fault, ready_message, confirmed, propose_fault, proposes}
+use Rattle.ln_link.specs.Commands.{command_row, confirm_fault, ready_message, propose_fault, proposes}
 use Rattle.ln_link.specs.Commands.{sign_command_fault, shut_fault, shuts_down, unready_fault}
 use Rattle.ln_link.specs.Resume.{resume_row, resumed, ready_again, all_sent, one_again, owed_again, shutdown_again}
-use Rattle.ln_link.specs.Resume.{fee_again, sent_again}
+use Rattle.ln_link.specs.Resume.{fee_again}
 use Rattle.ln_link.specs.Step.{faulted, line_fault}
 use Rattle.ln_pair.specs.Ends.{message_at, command_at}
 use Rattle.ln_pair.specs.Ends as pair

@@ -15,8 +15,7 @@ use Rattle.ln_keys.specs.declared.role.Role.TheVariants.{Funder, Fundee}
 use Rattle.ln_keys.specs.Signer.{Signer}
 use Rattle.ln_link.specs.declared.config.Config.{Config}
 use Rattle.ln_link.specs.declared.config.OpenSpec.{OpenSpec}
-use Rattle.ln_link.specs.declared.link.Line.{Line}
-use Rattle.ln_link.specs.declared.link.Line.TheVariants.{Down, Awaiting, Met}
+use Rattle.ln_link.specs.declared.link.Line.TheVariants.{Met}
 use Rattle.ln_link.specs.declared.link.Stage.{Stage}
 use Rattle.ln_link.specs.declared.link.Stage.TheVariants as stage
 use Rattle.ln_link.specs.declared.opening.Opened.{Opened}
@@ -27,14 +26,14 @@ use Rattle.ln_link.specs.Config.{fees_of}
 use Rattle.ln_link.specs.Meeting.{Opens}
 use Rattle.ln_link.specs.End.{end_of}
 use Rattle.ln_link.specs.State.{State, begun, refused}
-use Rattle.ln_link.specs.Step.{Done, replied, faulted, stray_fault, message_fault}
+use Rattle.ln_link.specs.Step.{Done, replied, faulted}
 use Rattle.ln_link.proofs.Meeting.{are_ends}
 use Rattle.ln_pair.specs.Ends as pair
 use Rattle.ln_world.specs.declared.step.Act.TheVariants as act
-use Rattle.ln_world.specs.Both.{Both, Place, Move, By, Falls, Meet, answers, turned, moves}
+use Rattle.ln_world.specs.Both.{Both, Move, By, Meet, answers, turned, moves}
 use Rattle.ln_world.specs.Both.{run as run_both}
 use Rattle.ln_world.specs.Channel.{opening_moves}
-use Rattle.ln_world.proofs.Mirror.{link_of, Mirrors}
+use Rattle.ln_world.proofs.Mirror.{Mirrors}
 
 -- a link with a connection, at this stage
 abbrev at_stage : {K : Type 0} → K → Stage → State K
@@ -147,7 +146,8 @@ module _ {K : Type 0} (signer : K → Signer) (id : List ℕ) (kx ky : K) (s : O
   pub opens_so : run_both signer id opening_moves at_first ≡ both_open
   opens_so =
       let deliver : List Move = By Funder act.Deliver ∷ [] in
-      ap (run_both signer id (By Fundee act.Deliver ∷ By Funder act.Deliver ∷ By Fundee act.Deliver ∷ deliver)) they_meet
+      ap (run_both signer id (By Fundee act.Deliver ∷ By Funder act.Deliver ∷ By Fundee act.Deliver ∷ deliver))
+      they_meet
       ∙ ap (run_both signer id (By Funder act.Deliver ∷ By Fundee act.Deliver ∷ deliver)) takes_open
       ∙ ap (run_both signer id (By Fundee act.Deliver ∷ deliver)) takes_accept
       ∙ ap (run_both signer id deliver) takes_created

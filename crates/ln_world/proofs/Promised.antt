@@ -1,6 +1,6 @@
 -- Every channel of a world is one that was opened, and what has happened to it.
-use Rattle.std.proofs.Common.{◌≡◌, ℕ, ◌≤◌, ◌<◌, ◌^◌, List, [], ◌∷◌, ◌++◌, map, refl, sym, ap, ◌∙◌, subst, arith}
-use Rattle.std.proofs.Common.{Bool, true, false, cond, ◌&&◌, ◌==◌, not, nat_le, Option, Some, None, is_none}
+use Rattle.std.proofs.Common.{◌≡◌, ℕ, List, [], ◌∷◌, ◌++◌, refl, sym, subst, arith}
+use Rattle.std.proofs.Common.{Bool, true, false, cond, ◌&&◌, ◌==◌, not, nat_le, is_none}
 use Rattle.std.proofs.lemmas.Bool.{leb-true}
 use Rattle.ln_keys.specs.declared.keys.ChannelKeys.{Ghosts}
 use Rattle.std.proofs.Math.Logic.{∥∥₁_elim}
@@ -12,11 +12,7 @@ use Rattle.ln_msgs.specs.Messages.Channel.{id_of_channel}
 use Rattle.ln_log.specs.Opening.{is_fit}
 use Rattle.ln_log.proofs.Fits.{fit_is}
 use Rattle.ln_close.specs.Closing.{AreOrdered}
-use Rattle.ln_link.specs.declared.config.Config.{Config}
-use Rattle.ln_link.specs.declared.config.OpenSpec.{OpenSpec}
-use Rattle.ln_link.specs.declared.opening.Opened.{Opened}
-use Rattle.ln_link.specs.Config.{fees_of}
-use Rattle.ln_link.specs.Meeting.{CanOpen, Opens}
+use Rattle.ln_link.specs.Meeting.{CanOpen}
 use Rattle.ln_link.proofs.Meeting.{none_refused}
 use Rattle.ln_pair.specs.Promises.{AreKeys, AreSent}
 use Rattle.ln_world.specs.declared.step.Node.{Node}
@@ -25,11 +21,11 @@ use Rattle.ln_world.specs.declared.step.Step.{Step}
 use Rattle.ln_world.specs.declared.step.Step.TheVariants as step
 use Rattle.ln_world.specs.declared.settings.Settings.{Settings}
 use Rattle.ln_world.specs.declared.settings.Setting.{Setting}
-use Rattle.ln_world.specs.Settings.{defaults, config_of, spec_of, txid_of, channel_id_of, opening_by, are_ordered}
+use Rattle.ln_world.specs.Settings.{config_of, spec_of, txid_of, channel_id_of, opening_by, are_ordered}
 use Rattle.ln_world.specs.Settings.{may_bring, CanBring}
 use Rattle.ln_world.specs.Both.{Both, Move}
 use Rattle.ln_world.specs.Channel.{Channel, is_node, moved, opened_by, act_moves, fall_moves, up_moves}
-use Rattle.ln_world.specs.World.{World, settings_of, with_settings, channel, moved_if, moved_at, may_open, opens, happens}
+use Rattle.ln_world.specs.World.{World, settings_of, with_settings, channel, moved_at, may_open, happens}
 use Rattle.ln_world.specs.World.{empty, run}
 use Rattle.ln_world.specs.Promises.{Headline, NoneRefused, Agrees, BringsFit, Each, BringFit, OfEach}
 use Rattle.ln_world.proofs.Fitting.{funders, fundees}
@@ -131,7 +127,8 @@ module _ {K : Type 0} (k : Ghosts K) where
       let funder = ends.0 in
       let fundee = ends.1 in
       let opens = ends.2 in
-      let fees = fees_so k.signer (channel_id_of o.channel) o.keys.funder o.keys.fundee spec config funder fundee opens in
+      let fees = fees_so k.signer (channel_id_of o.channel) o.keys.funder o.keys.fundee spec config funder fundee
+      opens in
       record {
         funders = o.keys.funder;
         fundees = o.keys.fundee;
