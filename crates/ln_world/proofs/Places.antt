@@ -44,7 +44,7 @@ same_found : {K : Type 0} (n : ℕ) (cs : List (Channel K)) → find (λ c. c.nu
 same_found n [] = refl
 same_found n (c ∷ cs) = ap (λ o. cond (c.number == n) (Some c) o) (same_found n cs)
 
-lacks : (t : Bool) (i : ℕ) → ◌≡◌ {A = Option ℕ} (cond t (Some i) None) None → t ≡ false
+pub lacks : (t : Bool) (i : ℕ) → ◌≡◌ {A = Option ℕ} (cond t (Some i) None) None → t ≡ false
 lacks true i e = absurd (cc)
 lacks false i e = refl
 

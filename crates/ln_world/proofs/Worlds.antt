@@ -1,6 +1,6 @@
 -- What was set for a node, where it stands; a channel that joins; where the ends stand, number by number.
 use Rattle.std.proofs.Common.{◌≡◌, ℕ, suc, ◌+◌, ◌≤◌, List, [], ◌∷◌, ◌++◌, length, set}
-use Rattle.std.proofs.Common.{refl, sym, ap, ◌∙◌, arith, Bool, true, false, cond, Option, Some, None}
+use Rattle.std.proofs.Common.{refl, sym, ap, ◌∙◌, arith, Bool, true, false, cond, Some, None}
 use Rattle.std.proofs.Common.{position, ltb-false, nat_lt, not}
 use Rattle.std.specs.List.{position_or_len}
 use Rattle.ln_keys.specs.declared.keys.ChannelKeys.{Ghosts}
@@ -12,7 +12,7 @@ use Rattle.ln_world.specs.declared.settings.Setting.{Setting}
 use Rattle.ln_world.specs.Channel.{Channel, is_node, opened_by}
 use Rattle.ln_world.specs.World.{World, settings_of, with_settings, channel, may_open, joined, opens}
 use Rattle.ln_world.specs.World.{end_lines_below, lines_of_ends}
-use Rattle.ln_world.proofs.Places.{at_first}
+use Rattle.ln_world.proofs.Places.{at_first, lacks}
 
 -- ---- what is set for a node
 
@@ -39,10 +39,6 @@ past_all n new (s ∷ ss) h =
     let g = no_room (is_node s.node n) (position_or_len (λ s. is_node s.node n) ss) (length ss) h in
     ap (λ t. s ∷ t) (past_all n new ss g.1)
     ∙ sym (ap (λ t. cond t (setting n new ∷ ss) (s ∷ with_settings n new ss)) g.0)
-
-lacks : (t : Bool) (i : ℕ) → ◌≡◌ {A = Option ℕ} (cond t (Some i) None) None → t ≡ false
-lacks true i e = absurd (cc)
-lacks false i e = refl
 
 pub appended : (n : Node) (new : Settings) (ss : List Setting)
     → position (λ s. is_node s.node n) ss ≡ None → ss ++ setting n new ∷ [] ≡ with_settings n new ss
