@@ -17,3 +17,6 @@ pub mod Turns
 pub mod Runs
 pub mod Opens
 pub mod Promised
+pub mod Made
+pub mod Moving
+pub mod Machines
