@@ -374,17 +374,19 @@ may_be_made a b s c funder fundee steps keys o =
     let fit : IsFit q = subst IsFit offered_is (fit_so (asked_with (open_message a s) c.limits)
     (unfaulted _ (is_fit (asked_with (open_message a s) c.limits)) open_is.0)) in
     let first : Some (made Funder q (party p.x) (party p.y)) ≡ Some (made Funder q fresh fresh) =
-    ap (λ z. Some (made Funder q z (party p.y))) bx.fresh_party ∙ ap (λ z. Some (made Funder q fresh z)) by.fresh_party in
+    ap (λ z. Some (made Funder q z (party p.y))) bx.fresh_party
+    ∙ ap (λ z. Some (made Funder q fresh z)) by.fresh_party in
     let all = runs_so a b keys steps q p (record {
       x = record { role = bx.role; opening = refl };
       y = record { role = by.role; opening = ends.opening };
     }) (opened_holds a b s c funder fundee o) in
     let last = run a b steps p in
     let is_last : made Funder q (party last.x) (party last.y) ≡ machine_of last =
-    ap (λ z. made Funder z (party last.x) (party last.y)) (sym all.1.x.opening) in (
+    ap (λ z. made Funder z (party last.x) (party last.y)) (sym all.1.x.opening) in
+    let ms = all_moves a b steps p in (
       fit,
-      subst (λ m. IsRun (all_moves a b steps p) (Some (made Funder q fresh fresh)) (Some m)) is_last
-          (subst (λ m. IsRun (all_moves a b steps p) m (Some (made Funder q (party last.x) (party last.y)))) first all.0),
+      subst (λ m. IsRun ms (Some (made Funder q fresh fresh)) (Some m)) is_last
+          (subst (λ m. IsRun ms m (Some (made Funder q (party last.x) (party last.y)))) first all.0),
     )
 
 run_after : (ms : List Move) (old new : Option Machine) → IsRun ms old new → after_all ms old ≡ new

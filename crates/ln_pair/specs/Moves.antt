@@ -1,5 +1,5 @@
--- Which moves of the channel's abstract machine the steps of two ends are. An update is as it is sent: where an add came
--- from is no part of it.
+-- Which moves of the channel's abstract machine the steps of two ends are. An update is as it is sent: where an add
+-- came from is no part of it.
 use Rattle.std.specs.Prelude.{ℕ, List, [], ◌∷◌, ◌++◌, Bool, true, false, Option, Some, None, Result, Ok, Err}
 use Rattle.std.specs.Prelude.{if◌then◌else◌}
 use Rattle.ln_msgs.specs.declared.messages.message.Message.{Message}
@@ -17,7 +17,8 @@ use Rattle.ln_link.specs.declared.link.Line.{Line}
 use Rattle.ln_link.specs.declared.opening.Opened.{Opened}
 use Rattle.ln_link.specs.End.{End, Turn}
 use Rattle.ln_link.specs.State.{is_down}
-use Rattle.ln_pair.specs.Ends.{Ends, opened, turned, message_at, command_at, Act, Deliver, Give, Lose, Step, By, Connect, happens}
+use Rattle.ln_pair.specs.Ends.{Ends, opened, turned, message_at, command_at, Act, Deliver, Give, Lose, Step, By}
+use Rattle.ln_pair.specs.Ends.{Connect, happens}
 use Rattle.ln_pair.specs.Promises.{party}
 
 -- the machine that two ends stand for, the funder being x
