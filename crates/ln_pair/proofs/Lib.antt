@@ -25,3 +25,6 @@ pub mod Opens
 pub mod Prices
 pub mod Promised
 pub mod Fees
+pub mod Made
+pub mod Moving
+pub mod Machines

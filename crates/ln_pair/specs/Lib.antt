@@ -1,5 +1,6 @@
 pub mod Ends
 pub mod Promises
+pub mod Moves
 pub use Rattle.ln_log.specs.Machine
 pub use Rattle.ln_log.specs.Log
 pub use Rattle.ln_link.specs.Opening

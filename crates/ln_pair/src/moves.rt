@@ -1,0 +1,36 @@
+//! The two ends of a channel, over every list of their steps, are the channel's abstract machine: its moves are what
+//! they do (BOLT 2, "Normal Operation").
+
+ghost use Rattle.std.specs.Prelude.{◌≡◌, List, Some, None};
+ghost use Rattle.ln_keys.specs.Signer.{Signer};
+ghost use Rattle.ln_log.specs.Machine.{IsRun};
+ghost use Rattle.ln_link.specs.declared.config.Config.{Config};
+ghost use Rattle.ln_link.specs.declared.config.OpenSpec.{OpenSpec};
+ghost use Rattle.ln_link.specs.declared.opening.Opened.{Opened};
+ghost use Rattle.ln_link.specs.Meeting.{Opens};
+ghost use Rattle.ln_pair.specs.Ends.{Step, opened, run};
+ghost use Rattle.ln_pair.specs.Promises.{AreKeys};
+ghost use Rattle.ln_pair.specs.Moves.{machine_of, history, after_all};
+
+/// A law: the opening, then the moves that the steps are, lead the machine to the opening and the two parties that the
+/// ends stand for. A command that isn't refused is its move: an update is proposed, a signature or a shutdown sent. A
+/// `commitment_signed` that is taken is accepted, a `revoke_and_ack` learned from; a close, and a shutdown that an end
+/// owes and sends in its turn, are the move of that turn. A lost connection drops what no signature covers. What is
+/// refused is no move, nor is an update that is taken, a connection that comes back, or what is sent again then.
+pub fn moves_are_the_machines()
+    ensures { (a b : Signer) (s : OpenSpec) (c : Config) (funder fundee : Opened) (steps : List Step) → AreKeys a b
+        → Opens a b s c funder fundee
+        → after_all (history a b funder fundee steps) None
+        ≡ Some (machine_of (run a b steps (opened funder fundee))) }
+{}
+
+/// A law: each of these moves is one that the machine may make where it is made. The opening is fit; an update has the
+/// next id, meets the limits, and is no add and no fee behind a shutdown; a signature covers something new, and none is
+/// unrevoked before it; each update of a side that shuts down is acknowledged; and a side closes once, with both sides
+/// shut down, every commitment covering every update, and no HTLC live.
+pub fn each_move_may_be_made()
+    ensures { (a b : Signer) (s : OpenSpec) (c : Config) (funder fundee : Opened) (steps : List Step) → AreKeys a b
+        → Opens a b s c funder fundee
+        → IsRun (history a b funder fundee steps) None
+        (Some (machine_of (run a b steps (opened funder fundee)))) }
+{}
