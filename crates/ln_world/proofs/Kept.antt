@@ -1,4 +1,15 @@
 -- Every channel that is opened, and whatever happens to it.
+use Rattle.ln_world.proofs.Mirror.{is_warning}
+use Rattle.ln_world.specs.Both.{Move}
+use Rattle.std.proofs.Common.{append-nil, append_assoc, ◌||◌}
+use Rattle.ln_msgs.specs.declared.messages.message.Message.TheVariants as message
+use Rattle.ln_link.specs.declared.link.Line.TheVariants.{Down}
+use Rattle.ln_link.specs.End.{end_dropped}
+use Rattle.ln_pair.specs.Promises.{is_add, is_shutdown, AddsBefore}
+use Rattle.ln_world.specs.Sending.{act_sends, funder_sends, fundee_sends, sent_by_funder, sent_by_fundee, is_possible}
+use Rattle.ln_world.specs.Sending.{ArePossible, NoneAddsLate}
+use Rattle.ln_world.proofs.Mirror.{without-append}
+use Rattle.ln_world.proofs.Moves.{met_says, lost_says}
 use Rattle.std.proofs.Common.{◌≡◌, ℕ, List, [], ◌∷◌, ◌++◌, refl, sym, ap, ◌∙◌, subst, Bool, true, false, cond}
 use Rattle.std.proofs.Common.{◌&&◌}
 use Rattle.std.proofs.Common.{Option, Some, None, inl, inr, not}
@@ -42,6 +53,47 @@ pub run-append : (a b : Signer) (ss : List Step) (s : Step) (p : Ends)
 run-append a b [] s p = refl
 run-append a b (r ∷ ss) s p = run-append a b ss s (pair.happens a b r p)
 
+-- a warning is neither an add nor a shutdown
+is_neither : (m : Message) → is_warning m ≡ true → (is_add m ≡ false) × (is_shutdown m ≡ false)
+is_neither (message.Warning m) e = (refl, refl)
+is_neither (message.Init m) e = absurd (cc)
+is_neither (message.Error m) e = absurd (cc)
+is_neither (message.Ping m) e = absurd (cc)
+is_neither (message.Pong m) e = absurd (cc)
+is_neither (message.OpenChannel m) e = absurd (cc)
+is_neither (message.AcceptChannel m) e = absurd (cc)
+is_neither (message.FundingCreated m) e = absurd (cc)
+is_neither (message.FundingSigned m) e = absurd (cc)
+is_neither (message.ChannelReady m) e = absurd (cc)
+is_neither (message.Shutdown m) e = absurd (cc)
+is_neither (message.ClosingSigned m) e = absurd (cc)
+is_neither (message.UpdateAddHtlc m) e = absurd (cc)
+is_neither (message.UpdateFulfillHtlc m) e = absurd (cc)
+is_neither (message.UpdateFailHtlc m) e = absurd (cc)
+is_neither (message.UpdateFailMalformedHtlc m) e = absurd (cc)
+is_neither (message.UpdateFee m) e = absurd (cc)
+is_neither (message.CommitmentSigned m) e = absurd (cc)
+is_neither (message.RevokeAndAck m) e = absurd (cc)
+is_neither (message.ChannelReestablish m) e = absurd (cc)
+
+or_false : (s : Bool) → (s || false) ≡ s
+or_false true = refl
+or_false false = refl
+
+as_well : (b shut : Bool) (m : Message) (ms : List Message) → is_warning m ≡ b
+    → ((now : Bool) → AddsBefore now (without_warnings ms) → AddsBefore now ms)
+    → AddsBefore shut (cond b (without_warnings ms) (m ∷ without_warnings ms)) → AddsBefore shut (m ∷ ms)
+as_well false shut m ms e f h = (h.0, f (shut || is_shutdown m) h.1)
+as_well true shut m ms e f h =
+    let n = is_neither m e in (
+      λ add. absurd (let clash : true ≡ false = sym add ∙ n.0 in cc),
+      subst (λ s. AddsBefore s ms) (sym (ap (λ b. shut || b) n.1 ∙ or_false shut)) (f shut h),
+    )
+
+with_warnings : (shut : Bool) (ms : List Message) → AddsBefore shut (without_warnings ms) → AddsBefore shut ms
+with_warnings shut [] h = tt
+with_warnings shut (m ∷ ms) h = as_well (is_warning m) shut m ms refl (λ now. with_warnings now ms) h
+
 -- ---- a channel whose links are at the ends of a pair
 
 module _ {K : Type 0} (signer : K → Signer) where
@@ -61,7 +113,7 @@ module _ {K : Type 0} (signer : K → Signer) where
         (pair.run (signer funders) (signer fundees) steps (pair.opened funder fundee))
 
   -- the ends
-  abbrev ends_of : (id : List ℕ) (p : Both K) → IsRun id p → Ends
+  abbrev pub ends_of : (id : List ℕ) (p : Both K) → IsRun id p → Ends
   ends_of id p r = pair.run (signer r.funders) (signer r.fundees) r.steps (pair.opened r.funder r.fundee)
 
   -- the message in front of each end
@@ -71,7 +123,7 @@ module _ {K : Type 0} (signer : K → Signer) where
       r.steps r.keys r.opens r.funders_fees r.fundees_fees
 
   -- no step more
-  as_before : (id : List ℕ) (p p' : Both K) (r : IsRun id p) → Mirrors id r.funders r.fundees p' (ends_of id p r)
+  abbrev as_before : (id : List ℕ) (p p' : Both K) (r : IsRun id p) → Mirrors id r.funders r.fundees p' (ends_of id p r)
       → IsRun id p'
   as_before id p p' r h = record {
     funders = r.funders;
@@ -89,7 +141,7 @@ module _ {K : Type 0} (signer : K → Signer) where
   }
 
   -- one more
-  one_more : (id : List ℕ) (p p' : Both K) (r : IsRun id p) (s : Step)
+  abbrev one_more : (id : List ℕ) (p p' : Both K) (r : IsRun id p) (s : Step)
       → Mirrors id r.funders r.fundees p' (pair.happens (signer r.funders) (signer r.fundees) s (ends_of id p r))
       → IsRun id p'
   one_more id p p' r s h = record {
@@ -109,51 +161,151 @@ module _ {K : Type 0} (signer : K → Signer) where
   }
 
   acts_so : (id : List ℕ) (a : Act) (kx ky : K) (p : Both K) (q : Ends) → Mirrors id kx ky p q
-      → Front (signer kx) q.x_line q.to_x q.x → Goes signer id kx ky (acts signer id a p) q
+      → Front (signer kx) q.x_line q.to_x q.x → Goes signer id kx ky (act_sends signer id a p.x) (acts signer id a p) q
   acts_so id act.Deliver kx ky p q h f = delivered signer id kx ky p q h f
-  acts_so id (act.Send c) kx ky p q h f = inr (pair.Give c, given signer id kx ky c p q h)
+  acts_so id (act.Send c) kx ky p q h f = let went = given signer id kx ky c p q h in
+      inr (pair.Give c, went.0, went.1)
 
-  pub acted : (id : List ℕ) (side : Role) (a : Act) (p : Both K) → IsRun id p → IsRun id (moves signer id (By side a) p)
+  -- what a move makes of it, and what the ends say with it
+  pub record Went (id : List ℕ) (p p' : Both K) (r : IsRun id p) (out_x out_y : List Message) : Type 0 where
+    pub run : IsRun id p'
+    pub x : (ends_of id p' run).said_x ≡ (ends_of id p r).said_x ++ without_warnings out_x
+    pub y : (ends_of id p' run).said_y ≡ (ends_of id p r).said_y ++ without_warnings out_y
+
+  silently : (said out : List Message) → without_warnings out ≡ [] → said ≡ said ++ without_warnings out
+  silently said out none = sym (ap (λ ws. said ++ ws) none ∙ append-nil said)
+
+  went_so : (id : List ℕ) (p p' : Both K) (r : IsRun id p) (s : Step) (out_x out_y : List Message)
+      → Mirrors id r.funders r.fundees p' (pair.happens (signer r.funders) (signer r.fundees) s (ends_of id p r))
+      → (pair.happens (signer r.funders) (signer r.fundees) s (ends_of id p r)).said_x
+      ≡ (ends_of id p r).said_x ++ without_warnings out_x
+      → (pair.happens (signer r.funders) (signer r.fundees) s (ends_of id p r)).said_y
+      ≡ (ends_of id p r).said_y ++ without_warnings out_y
+      → Went id p p' r out_x out_y
+  went_so id p p' r s out_x out_y h x y =
+      let is = run-append (signer r.funders) (signer r.fundees) r.steps s (pair.opened r.funder r.fundee) in
+      record {
+        run = one_more id p p' r s h;
+        x = ap (λ (w : Ends). w.said_x) is ∙ x;
+        y = ap (λ (w : Ends). w.said_y) is ∙ y;
+      }
+
+  stayed_so : (id : List ℕ) (p p' : Both K) (r : IsRun id p) (out_x out_y : List Message)
+      → Mirrors id r.funders r.fundees p' (ends_of id p r) → without_warnings out_x ≡ [] → without_warnings out_y ≡ []
+      → Went id p p' r out_x out_y
+  stayed_so id p p' r out_x out_y h x y = record {
+    run = as_before id p p' r h;
+    x = silently (ends_of id p r).said_x out_x x;
+    y = silently (ends_of id p r).said_y out_y y;
+  }
+
+  acted_went : (id : List ℕ) (side : Role) (a : Act) (p : Both K) (r : IsRun id p)
+      → Went id p (moves signer id (By side a) p) r (funder_sends signer id (By side a) p)
+      (fundee_sends signer id (By side a) p)
   unfolding moves
-  acted id Funder a p r =
+  acted_went id Funder a p r =
       let q = ends_of id p r in
       elim (acts_so id a r.funders r.fundees p q r.mirrors (fronts id p r).0) [
-        | inl h ↦ as_before id p _ r h
-        | inr h ↦ one_more id p _ r (pair.By Funder h.0) h.1
+        | inl h ↦ stayed_so id p _ r (act_sends signer id a p.x) [] h.0 h.1 refl
+        | inr h ↦
+            went_so id p _ r (pair.By Funder h.0) (act_sends signer id a p.x) [] h.1 h.2.x
+            (h.2.y ∙ silently q.said_y [] refl)
       ]
-  acted id Fundee a p r =
+  acted_went id Fundee a p r =
       let q = ends_of id p r in
       elim (acts_so id a r.fundees r.funders (turned p) (pair.turned q)
       (flipped id r.funders r.fundees p q r.mirrors) (fronts id p r).1) [
-        | inl h ↦ as_before id p _ r (flipped id r.fundees r.funders _ (pair.turned q) h)
+        | inl h ↦
+            stayed_so id p _ r [] (act_sends signer id a p.y) (flipped id r.fundees r.funders _ (pair.turned q) h.0)
+            refl h.1
         | inr h ↦
-            one_more id p _ r (pair.By Fundee h.0)
+            went_so id p _ r (pair.By Fundee h.0) [] (act_sends signer id a p.y)
             (flipped id r.fundees r.funders _ (pair.acts (signer r.fundees) h.0 (pair.turned q)) h.1)
+            (h.2.y ∙ silently q.said_x [] refl) h.2.x
       ]
 
-  pub fallen : (id : List ℕ) (side : Role) (p : Both K) → IsRun id p → IsRun id (moves signer id (Falls side) p)
+  pub acted : (id : List ℕ) (side : Role) (a : Act) (p : Both K) → IsRun id p → IsRun id (moves signer id (By side a) p)
+  acted id side a p r = (acted_went id side a p r).run
+
+  fallen_went : (id : List ℕ) (side : Role) (p : Both K) (r : IsRun id p)
+      → Went id p (moves signer id (Falls side) p) r [] []
   unfolding moves
-  fallen id Funder p r =
-      one_more id p _ r (pair.By Funder pair.Lose)
-      (fell signer id r.funders r.fundees p (ends_of id p r) r.mirrors)
-  fallen id Fundee p r =
+  fallen_went id Funder p r =
       let q = ends_of id p r in
-      one_more id p _ r (pair.By Fundee pair.Lose)
-      (flipped id r.fundees r.funders _ _ (fell signer id r.fundees r.funders (turned p) (pair.turned q)
+      let said = lost_says (is_down q.x_line) q (record q { x_line = Down; x = end_dropped q.x; to_x = [] }) refl refl in
+      went_so id p _ r (pair.By Funder pair.Lose) [] []
+      (fell signer id r.funders r.fundees p q r.mirrors)
+      (said.0 ∙ silently q.said_x [] refl) (said.1 ∙ silently q.said_y [] refl)
+  fallen_went id Fundee p r =
+      let q = ends_of id p r in
+      let t = pair.turned q in
+      let said = lost_says (is_down t.x_line) t (record t { x_line = Down; x = end_dropped t.x; to_x = [] }) refl refl in
+      went_so id p _ r (pair.By Fundee pair.Lose) [] []
+      (flipped id r.fundees r.funders _ _ (fell signer id r.fundees r.funders (turned p) t
       (flipped id r.funders r.fundees p q r.mirrors)))
+      (said.1 ∙ silently q.said_x [] refl) (said.0 ∙ silently q.said_y [] refl)
+
+  pub fallen : (id : List ℕ) (side : Role) (p : Both K) → IsRun id p → IsRun id (moves signer id (Falls side) p)
+  fallen id side p r = (fallen_went id side p r).run
 
   both_true : (b c : Bool) → (b && c) ≡ true → (b ≡ true) × (c ≡ true)
   both_true true true e = (refl, refl)
   both_true true false e = absurd (cc)
   both_true false c e = absurd (cc)
 
-  pub came_up : (id : List ℕ) (p : Both K) → may_meet p ≡ true → IsRun id p → IsRun id (moves signer id Meet p)
+  came_up_went : (id : List ℕ) (p : Both K) → may_meet p ≡ true → (r : IsRun id p)
+      → Went id p (moves signer id Meet p) r (funder_sends signer id Meet p) (fundee_sends signer id Meet p)
   unfolding moves
-  came_up id p e r =
+  came_up_went id p e r =
       let ends = both_true (may_come_up p.x.link) (may_come_up p.y.link) e in
       let x = both_true (is_down p.x.link.line) (not p.x.link.halted) ends.0 in
       let y = both_true (is_down p.y.link.line) (not p.y.link.halted) ends.1 in
-      one_more id p _ r pair.Connect (met signer id r.funders r.fundees p (ends_of id p r) x.0 y.0 r.mirrors)
+      let q = ends_of id p r in
+      let said = met_says signer id r.funders r.fundees p q x.0 y.0 r.mirrors in
+      went_so id p _ r pair.Connect (funder_sends signer id Meet p) (fundee_sends signer id Meet p)
+      (met signer id r.funders r.fundees p q x.0 y.0 r.mirrors) said.0 said.1
+
+  pub came_up : (id : List ℕ) (p : Both K) → may_meet p ≡ true → IsRun id p → IsRun id (moves signer id Meet p)
+  came_up id p e r = (came_up_went id p e r).run
+
+  -- any move that is possible
+  went : (id : List ℕ) (m : Move) (p : Both K) → is_possible m p ≡ true → (r : IsRun id p)
+      → Went id p (moves signer id m p) r (funder_sends signer id m p) (fundee_sends signer id m p)
+  went id (By side a) p e r = acted_went id side a p r
+  went id (Falls side) p e r = fallen_went id side p r
+  went id Meet p e r = came_up_went id p e r
+
+  -- ---- what is sent
+
+  spoken : (id : List ℕ) (ms : List Move) (p : Both K) (r : IsRun id p) (heard_x heard_y : List Message)
+      → (ends_of id p r).said_x ≡ without_warnings heard_x → (ends_of id p r).said_y ≡ without_warnings heard_y
+      → ArePossible signer id ms p
+      → AddsBefore false (without_warnings (heard_x ++ sent_by_funder signer id ms p))
+      × AddsBefore false (without_warnings (heard_y ++ sent_by_fundee signer id ms p))
+  spoken id [] p r heard_x heard_y x y may =
+      let late = promised.none_adds_late (signer r.funders) (signer r.fundees) r.spec r.config r.funder r.fundee r.steps
+      r.keys r.opens in (
+        subst (AddsBefore false) (x ∙ ap without_warnings (sym (append-nil heard_x))) late.0,
+        subst (AddsBefore false) (y ∙ ap without_warnings (sym (append-nil heard_y))) late.1,
+      )
+  spoken id (m ∷ ms) p r heard_x heard_y x y may =
+      let out_x = funder_sends signer id m p in
+      let out_y = fundee_sends signer id m p in
+      let w = went id m p may.0 r in
+      let rest = spoken id ms (moves signer id m p) w.run (heard_x ++ out_x) (heard_y ++ out_y)
+      (w.x ∙ ap (λ ws. ws ++ without_warnings out_x) x ∙ sym (without-append heard_x out_x))
+      (w.y ∙ ap (λ ws. ws ++ without_warnings out_y) y ∙ sym (without-append heard_y out_y)) may.1 in (
+        subst (λ ws. AddsBefore false (without_warnings ws))
+            (append_assoc heard_x out_x (sent_by_funder signer id ms (moves signer id m p))) rest.0,
+        subst (λ ws. AddsBefore false (without_warnings ws))
+            (append_assoc heard_y out_y (sent_by_fundee signer id ms (moves signer id m p))) rest.1,
+      )
+
+  pub none_adds_late : (id : List ℕ) (ms : List Move) (p : Both K) (r : IsRun id p) → (ends_of id p r).said_x ≡ []
+      → (ends_of id p r).said_y ≡ [] → ArePossible signer id ms p → NoneAddsLate signer id ms p
+  none_adds_late id ms p r x y may =
+      let s = spoken id ms p r [] [] x y may in
+      (with_warnings false (sent_by_funder signer id ms p) s.0, with_warnings false (sent_by_fundee signer id ms p) s.1)
 
   -- ---- by the table
 

@@ -27,6 +27,7 @@ use Rattle.ln_pair.specs.Ends.{Ends, arrive, message_at, command_at, becomes, Ac
 use Rattle.ln_pair.specs.Ends as pair
 use Rattle.ln_pair.specs.Promises.{TakesFront as Front}
 use Rattle.ln_world.specs.declared.step.Act.TheVariants as act
+use Rattle.ln_world.specs.Sending.{delivery_sends, act_sends}
 use Rattle.ln_world.specs.Lines.{messages_in, replies}
 use Rattle.ln_world.specs.Both.{Both, Place, reaches, left, left_by, sent_by, unchanged, answers, delivers, acts, falls}
 use Rattle.ln_world.specs.Both.{greeting, greets, comes_up, meet}
@@ -174,9 +175,43 @@ fine_of id r t e h = subst (IsFineRow id) e h
 silent_of : (id : List ℕ) (r : Result Turn Refusal) (w : Refusal) → r ≡ Err w → IsSilentRow id r → replies id w ≡ []
 silent_of id r w e h = subst (IsSilentRow id) e h
 
+-- what x said on the way from q to r; y said nothing
+pub record Says (out : List Message) (q r : Ends) : Type 0 where
+  pub x : r.said_x ≡ q.said_x ++ without_warnings out
+  pub y : r.said_y ≡ q.said_y
+
+says_refused : (out : List Message) (r : Result Turn Refusal) (w : Refusal) (q : Ends) (to : List Message)
+    → r ≡ Err w → without_warnings out ≡ [] → Says out q (pair.answers r (record q { to_x = to }))
+says_refused out r w q to e none =
+    subst (λ z. Says out q (pair.answers z (record q { to_x = to }))) (sym e)
+    (record { x = sym (ap (λ ws. q.said_x ++ ws) none ∙ append-nil q.said_x); y = refl })
+
 -- ---- an end answers
 
 module _ {K : Type 0} (signer : K → Signer) (id : List ℕ) (kx ky : K) where
+  out_names : (t : Turn) → IsFine id t
+      → (messages_in (all_of t.handed) ≡ messages_in t.handed.sent) × Names id (messages_in (all_of t.handed))
+  out_names t fine =
+      let first : messages_in (all_of t.handed) ≡ messages_in t.handed.sent =
+      sent.in-append t.handed.sent t.handed.told
+      ∙ ap (λ ws. messages_in t.handed.sent ++ ws) fine.told ∙ append-nil (messages_in t.handed.sent) in
+      (first, subst (Names id) (sym first) fine.sent)
+
+  out_so : (t : Turn) → IsFine id t
+      → without_warnings (messages_in (all_of t.handed)) ≡ pair.messages_in t.handed.sent
+  out_so t fine =
+      let n = out_names t fine in
+      all_plain id (messages_in (all_of t.handed)) n.1 ∙ n.0 ∙ same_in t.handed.sent
+
+  says_turned : (row : Result Done Refusal) (r : Result Turn Refusal) (t : Turn) (q : Ends) (to : List Message)
+      → row ≡ step.turned Met (Ok t) → r ≡ Ok t → IsFine id t
+      → Says (sent_by id row) q (pair.answers r (record q { to_x = to }))
+  says_turned row r t q to is e fine =
+      let all : without_warnings (sent_by id row) ≡ pair.messages_in t.handed.sent =
+      ap (λ d. without_warnings (sent_by id d)) is ∙ out_so t fine in
+      subst (λ w. Says (sent_by id row) q (pair.answers w (record q { to_x = to }))) (sym e)
+      (record { x = ap (λ ws. q.said_x ++ ws) (sym all); y = refl })
+
   -- it has made this turn, and has met its peer
   turned_so : (after : Refusal → State K → State K) (row : Result Done Refusal) (t : Turn) (p : Both K) (q : Ends)
       (ms to : List Message) → row ≡ step.turned Met (Ok t) → IsFine id t → IsInbox id Met ms to
@@ -186,11 +221,8 @@ module _ {K : Type 0} (signer : K → Signer) (id : List ℕ) (kx ky : K) where
   turned_so after row t p q ms to is fine in_x h =
       let d : Done = record { line = Met; stage = stage.Saved t.end; outputs = all_of t.handed } in
       let out : List Message = messages_in (all_of t.handed) in
-      let first : out ≡ messages_in t.handed.sent = sent.in-append t.handed.sent t.handed.told
-      ∙ ap (λ ws. messages_in t.handed.sent ++ ws) fine.told ∙ append-nil (messages_in t.handed.sent) in
-      let names : Names id out = subst (Names id) (sym first) fine.sent in
-      let same : without_warnings out ≡ pair.messages_in t.handed.sent = all_plain id out names ∙ first
-      ∙ same_in t.handed.sent in
+      let names : Names id out = (out_names t fine).1 in
+      let same : without_warnings out ≡ pair.messages_in t.handed.sent = out_so t fine in
       subst (λ r. Mirrors id kx ky
       (answers after id r (record { x = record { link = p.x.link; inbox = ms }; y = p.y }))
       (becomes t (record q { to_x = to }))) (sym is) (record {
@@ -239,64 +271,76 @@ module _ {K : Type 0} (signer : K → Signer) (id : List ℕ) (kx ky : K) where
     down = λ e. absurd (let no : true ≡ false = sym e ∙ up in cc);
   }
 
-  abbrev pub Goes : Both K → Ends → Type 0
-  Goes p q = Mirrors id kx ky p q ⊎ ((a : Act) × Mirrors id kx ky p (pair.acts (signer kx) a q))
+  abbrev pub Goes : List Message → Both K → Ends → Type 0
+  Goes out p q = (Mirrors id kx ky p q × (without_warnings out ≡ []))
+      ⊎ ((a : Act) × Mirrors id kx ky p (pair.acts (signer kx) a q) × Says out q (pair.acts (signer kx) a q))
 
   of_channel : (p : Both K) (q : Ends) (m : Message) (ms to : List Message) → is_down q.x_line ≡ false
       → named m ≡ Some id → without_warnings ms ≡ to → AreIn id ms → Mirrors id kx ky p q
       → Front (signer kx) q.x_line (m ∷ to) q.x
       → Mirrors id kx ky (answers refused id (handled (signer p.x.link.keys) p.x.link m)
       (record { x = record { link = p.x.link; inbox = ms }; y = p.y })) (pair.delivers (signer kx) (m ∷ to) q)
+      × Says (sent_by id (handled (signer p.x.link.keys) p.x.link m)) q (pair.delivers (signer kx) (m ∷ to) q)
   of_channel p q m ms to up is told named h (inl f) =
       let keys = signer kx in
       let row : handled (signer p.x.link.keys) p.x.link m ≡ step.turned Met (Ok f.0) =
       ap (λ (l : State K). handled (signer l.keys) l m) h.x_link
       ∙ handled_so keys kx id q.x_line m q.x up is h.x_channel ∙ ap (step.turned Met) f.1 in
-      let fine = fine_of id (message_at keys q.x_line m q.x) f.0 f.1 (fine_at keys id q.x_line m q.x h.x_channel) in
-      subst (λ r. Mirrors id kx ky (answers refused id (handled (signer p.x.link.keys) p.x.link m)
-      (record { x = record { link = p.x.link; inbox = ms }; y = p.y })) (pair.answers r (record q { to_x = to })))
-      (sym f.1)
-      (turned_so refused (handled (signer p.x.link.keys) p.x.link m) f.0 p q ms to row fine
-      (behind_it Met m ms to refl told named) h)
+      let fine = fine_of id (message_at keys q.x_line m q.x) f.0 f.1 (fine_at keys id q.x_line m q.x h.x_channel) in (
+        subst (λ r. Mirrors id kx ky (answers refused id (handled (signer p.x.link.keys) p.x.link m)
+            (record { x = record { link = p.x.link; inbox = ms }; y = p.y })) (pair.answers r (record q { to_x = to })))
+            (sym f.1)
+            (turned_so refused (handled (signer p.x.link.keys) p.x.link m) f.0 p q ms to row fine
+            (behind_it Met m ms to refl told named) h),
+        says_turned (handled (signer p.x.link.keys) p.x.link m) (message_at keys q.x_line m q.x) f.0 q to row f.1 fine,
+      )
   of_channel p q m ms to up is told named h (inr f) =
       let keys = signer kx in
       let row : handled (signer p.x.link.keys) p.x.link m ≡ Err refusal.FeeOutside =
       ap (λ (l : State K). handled (signer l.keys) l m) h.x_link
-      ∙ handled_so keys kx id q.x_line m q.x up is h.x_channel ∙ ap (step.turned Met) f.1 in
-      subst (λ r. Mirrors id kx ky (answers refused id (handled (signer p.x.link.keys) p.x.link m)
-      (record { x = record { link = p.x.link; inbox = ms }; y = p.y })) (pair.answers r (record q { to_x = to })))
-      (sym f.1)
-      (still_so refused (handled (signer p.x.link.keys) p.x.link m) (Err refusal.FeeOutside) p q ms to row refl refl
-      (inl refl, tt) (behind_it q.x_line m ms to up told named) h)
+      ∙ handled_so keys kx id q.x_line m q.x up is h.x_channel ∙ ap (step.turned Met) f.1 in (
+        subst (λ r. Mirrors id kx ky (answers refused id (handled (signer p.x.link.keys) p.x.link m)
+            (record { x = record { link = p.x.link; inbox = ms }; y = p.y })) (pair.answers r (record q { to_x = to })))
+            (sym f.1)
+            (still_so refused (handled (signer p.x.link.keys) p.x.link m) (Err refusal.FeeOutside) p q ms to row refl refl
+            (inl refl, tt) (behind_it q.x_line m ms to up told named) h),
+        says_refused (sent_by id (handled (signer p.x.link.keys) p.x.link m)) (message_at keys q.x_line m q.x)
+            refusal.FeeOutside q to f.1 (ap (λ d. without_warnings (sent_by id d)) row),
+      )
 
   delivered_by : (p : Both K) (q : Ends) (ms : List Message) → IsInbox id q.x_line ms q.to_x
       → Mirrors id kx ky p q → p.x.inbox ≡ ms
-      → Front (signer kx) q.x_line q.to_x q.x → Goes (delivers signer id ms p) q
-  delivered_by p q [] i h is f = inl h
+      → Front (signer kx) q.x_line q.to_x q.x → Goes (delivery_sends signer id ms p.x.link) (delivers signer id ms p) q
+  delivered_by p q [] i h is f = inl (h, refl)
   delivered_by p q (m ∷ ms) i h is f =
       let up = is_up q.x_line m ms i.down in
       elim (i.named.0) [
         | inl warns ↦
-            inl (still_so refused (handled (signer p.x.link.keys) p.x.link m)
-            (Ok (record { line = q.x_line; stage = stage.Saved q.x; outputs = [] })) p q ms q.to_x
-            (ap (λ (l : State K). handled (signer l.keys) l m) h.x_link
-            ∙ passed_so (signer kx) kx id q.x_line m q.x warns) refl refl tt
-            (behind_it q.x_line m ms q.to_x up
-            (sym (ap (λ b. cond b (without_warnings ms) (m ∷ without_warnings ms)) warns) ∙ i.told) i.named.1) h)
-        | inr own ↦
-            inr (
-              Deliver,
-              let to : m ∷ without_warnings ms ≡ q.to_x =
-                  sym (ap (λ b. cond b (without_warnings ms) (m ∷ without_warnings ms))
-                  (plain id m own).warning) ∙ i.told in
-                  subst (λ ws. Mirrors id kx ky (delivers signer id (m ∷ ms) p) (pair.delivers (signer kx) ws q)) to
-                  (of_channel p q m ms (without_warnings ms) up own refl i.named.1 h
-                  (subst (λ ws. Front (signer kx) q.x_line ws q.x) (sym to) f)),
+            let row : handled (signer p.x.link.keys) p.x.link m
+            ≡ Ok (record { line = q.x_line; stage = stage.Saved q.x; outputs = [] }) =
+            ap (λ (l : State K). handled (signer l.keys) l m) h.x_link
+            ∙ passed_so (signer kx) kx id q.x_line m q.x warns in
+            inl (
+              still_so refused (handled (signer p.x.link.keys) p.x.link m)
+                  (Ok (record { line = q.x_line; stage = stage.Saved q.x; outputs = [] })) p q ms q.to_x
+                  row refl refl tt
+                  (behind_it q.x_line m ms q.to_x up
+                  (sym (ap (λ b. cond b (without_warnings ms) (m ∷ without_warnings ms)) warns) ∙ i.told) i.named.1) h,
+              ap (λ d. without_warnings (sent_by id d)) row,
             )
+        | inr own ↦
+            let to : m ∷ without_warnings ms ≡ q.to_x =
+            sym (ap (λ b. cond b (without_warnings ms) (m ∷ without_warnings ms))
+            (plain id m own).warning) ∙ i.told in
+            let went = subst (λ ws. Mirrors id kx ky (delivers signer id (m ∷ ms) p) (pair.delivers (signer kx) ws q)
+            × Says (delivery_sends signer id (m ∷ ms) p.x.link) q (pair.delivers (signer kx) ws q)) to
+            (of_channel p q m ms (without_warnings ms) up own refl i.named.1 h
+            (subst (λ ws. Front (signer kx) q.x_line ws q.x) (sym to) f)) in
+            inr (Deliver, went.0, went.1)
       ]
 
   pub delivered : (p : Both K) (q : Ends) → Mirrors id kx ky p q → Front (signer kx) q.x_line q.to_x q.x
-      → Goes (acts signer id act.Deliver p) q
+      → Goes (act_sends signer id act.Deliver p.x) (acts signer id act.Deliver p) q
   delivered p q h f = delivered_by p q p.x.inbox h.x_in h refl f
 
   -- ---- a command
@@ -305,31 +349,43 @@ module _ {K : Type 0} (signer : K → Signer) (id : List ℕ) (kx ky : K) where
       → commanded (signer kx) (link_of kx q.x_line q.x) c ≡ step.turned q.x_line (command_at (signer kx) q.x_line c q.x)
       → Mirrors id kx ky p q
       → Mirrors id kx ky (acts signer id (act.Send c) p) (pair.answers r q)
+      × Says (act_sends signer id (act.Send c) p.x) q (pair.answers r q)
   given_by c (Ok t) p q e is h =
       let keys = signer kx in
       let met : q.x_line ≡ Met = obeyed_met (unready_fault c q.x) q.x_line (command_row keys c q.x) t e in
       let row : commanded (signer p.x.link.keys) p.x.link c ≡ step.turned Met (Ok t) =
       ap (λ (l : State K). commanded (signer l.keys) l c) h.x_link ∙ is
       ∙ ap (λ l. step.turned l (command_at keys q.x_line c q.x)) met ∙ ap (step.turned Met) e in
-      turned_so unchanged (commanded (signer p.x.link.keys) p.x.link c) t p q p.x.inbox q.to_x row
-      (fine_of id (command_at keys q.x_line c q.x) t e (fine_command keys id q.x_line c q.x h.x_channel))
-      (subst (λ l. IsInbox id l p.x.inbox q.to_x) met h.x_in) h
+      let fine = fine_of id (command_at keys q.x_line c q.x) t e (fine_command keys id q.x_line c q.x h.x_channel) in (
+        turned_so unchanged (commanded (signer p.x.link.keys) p.x.link c) t p q p.x.inbox q.to_x row
+            fine (subst (λ l. IsInbox id l p.x.inbox q.to_x) met h.x_in) h,
+        says_turned (commanded (signer p.x.link.keys) p.x.link c) (Ok t) t q q.to_x row refl fine,
+      )
   given_by c (Err r) p q e is h =
       let keys = signer kx in
       let row : commanded (signer p.x.link.keys) p.x.link c ≡ Err r =
       ap (λ (l : State K). commanded (signer l.keys) l c) h.x_link ∙ is ∙ ap (step.turned q.x_line) e in
       let none : replies id r ≡ [] = silent_of id (command_at keys q.x_line c q.x) r e
-      (silent_at id keys q.x_line c q.x) in
-      still_so unchanged (commanded (signer p.x.link.keys) p.x.link c) (Err r) p q p.x.inbox q.to_x row refl
-      (ap without_warnings none) (subst (AreIn id) (sym none) tt) h.x_in h
+      (silent_at id keys q.x_line c q.x) in (
+        still_so unchanged (commanded (signer p.x.link.keys) p.x.link c) (Err r) p q p.x.inbox q.to_x row refl
+            (ap without_warnings none) (subst (AreIn id) (sym none) tt) h.x_in h,
+        says_refused (act_sends signer id (act.Send c) p.x) (Err r) r q q.to_x refl
+            (ap (λ d. without_warnings (sent_by id d)) row ∙ ap without_warnings none),
+      )
 
   pub given : (c : Command) (p : Both K) (q : Ends) → Mirrors id kx ky p q
       → Mirrors id kx ky (acts signer id (act.Send c) p) (pair.acts (signer kx) (Give c) q)
+      × Says (act_sends signer id (act.Send c) p.x) q (pair.acts (signer kx) (Give c) q)
   given c p q h = elim (commanded_so (signer kx) kx id q.x_line c q.x) [
     | inl refused_so ↦
-        subst (λ r. Mirrors id kx ky (acts signer id (act.Send c) p) (pair.answers r q)) (sym refused_so.by_row)
-        (still_so unchanged (commanded (signer p.x.link.keys) p.x.link c) (Err refusal.NotReady) p q p.x.inbox q.to_x
-        (ap (λ (l : State K). commanded (signer l.keys) l c) h.x_link ∙ refused_so.by_link) refl refl tt h.x_in h)
+        let row : commanded (signer p.x.link.keys) p.x.link c ≡ Err refusal.NotReady =
+        ap (λ (l : State K). commanded (signer l.keys) l c) h.x_link ∙ refused_so.by_link in (
+          subst (λ r. Mirrors id kx ky (acts signer id (act.Send c) p) (pair.answers r q)) (sym refused_so.by_row)
+              (still_so unchanged (commanded (signer p.x.link.keys) p.x.link c) (Err refusal.NotReady) p q p.x.inbox q.to_x
+              row refl refl tt h.x_in h),
+          says_refused (act_sends signer id (act.Send c) p.x) (command_at (signer kx) q.x_line c q.x) refused_so.why q
+              q.to_x refused_so.by_row (ap (λ d. without_warnings (sent_by id d)) row),
+        )
     | inr is ↦
         given_by c (command_at (signer kx) q.x_line c q.x) p q refl is h
   ]
@@ -421,3 +477,38 @@ module _ {K : Type 0} (signer : K → Signer) (id : List ℕ) (kx ky : K) where
       let lx : is_down q.x_line ≡ true = ap (λ (l : State K). is_down l.line) (sym h.x_link) ∙ dx in
       let ly : is_down q.y_line ≡ true = ap (λ (l : State K). is_down l.line) (sym h.y_link) ∙ dy in
       meets_by p q q.x_line q.y_line refl refl (was_down q.x_line lx) (was_down q.y_line ly) h
+
+  -- both have said where they stand
+  said_met : (p : Both K) (q : Ends) (lx ly : Line) → q.x_line ≡ lx → q.y_line ≡ ly → lx ≡ Down → ly ≡ Down
+      → Mirrors id kx ky p q
+      → ((pair.connects (signer kx) (signer ky) lx ly q).said_x
+      ≡ q.said_x ++ without_warnings (greets (greeting signer p.x.link)))
+      × ((pair.connects (signer kx) (signer ky) lx ly q).said_y
+      ≡ q.said_y ++ without_warnings (greets (greeting signer p.y.link)))
+  said_met p q Down Down ex ey dx dy h = (
+    ap (λ ws. q.said_x ++ without_warnings ws)
+        (sym (up_sent kx q.x p.x.link (h.x_link ∙ ap (λ l. link_of kx l q.x) ex))),
+    ap (λ ws. q.said_y ++ without_warnings ws)
+        (sym (up_sent ky q.y p.y.link (h.y_link ∙ ap (λ l. link_of ky l q.y) ey))),
+  )
+  said_met p q Down Awaiting ex ey dx dy h = absurd (cc)
+  said_met p q Down Met ex ey dx dy h = absurd (cc)
+  said_met p q Awaiting ly ex ey dx dy h = absurd (cc)
+  said_met p q Met ly ex ey dx dy h = absurd (cc)
+
+  pub met_says : (p : Both K) (q : Ends) → is_down p.x.link.line ≡ true → is_down p.y.link.line ≡ true
+      → Mirrors id kx ky p q
+      → ((pair.connects (signer kx) (signer ky) q.x_line q.y_line q).said_x
+      ≡ q.said_x ++ without_warnings (greets (greeting signer p.x.link)))
+      × ((pair.connects (signer kx) (signer ky) q.x_line q.y_line q).said_y
+      ≡ q.said_y ++ without_warnings (greets (greeting signer p.y.link)))
+  met_says p q dx dy h =
+      let lx : is_down q.x_line ≡ true = ap (λ (l : State K). is_down l.line) (sym h.x_link) ∙ dx in
+      let ly : is_down q.y_line ≡ true = ap (λ (l : State K). is_down l.line) (sym h.y_link) ∙ dy in
+      said_met p q q.x_line q.y_line refl refl (was_down q.x_line lx) (was_down q.y_line ly) h
+
+-- a connection that is lost says nothing
+pub lost_says : (down : Bool) (q r : Ends) → r.said_x ≡ q.said_x → r.said_y ≡ q.said_y
+    → ((cond down q r).said_x ≡ q.said_x) × ((cond down q r).said_y ≡ q.said_y)
+lost_says true q r x y = (refl, refl)
+lost_says false q r x y = (x, y)

@@ -1,4 +1,6 @@
 -- Every channel of a world is one that was opened, and what has happened to it.
+use Rattle.ln_world.proofs.Kept.{ends_of}
+use Rattle.ln_world.specs.Sending.{ArePossible, NoneAddsLate}
 use Rattle.std.proofs.Common.{◌≡◌, ℕ, List, [], ◌∷◌, ◌++◌, refl, sym, subst, arith}
 use Rattle.std.proofs.Common.{Bool, true, false, cond, ◌&&◌, ◌==◌, not, nat_le, is_none}
 use Rattle.std.proofs.lemmas.Bool.{leb-true}
@@ -108,9 +110,15 @@ partners_so a b t = record {
 }
 
 module _ {K : Type 0} (k : Ghosts K) where
-  opened_so : (o : Open K k) (s t : Settings) → AreKeys (k.signer o.keys.funder) (k.signer o.keys.fundee)
-      → CanBring o.satoshis o.push s t → AreSent s.fees → AreSent t.fees → IsOpen k.signer (opened_by k o s t)
-  opened_so o s t keys brings fs ft =
+  -- a channel that was opened, with nothing said since
+  record IsNew (c : Channel K) : Type 0 where
+    run : IsOpen k.signer c
+    x : (ends_of k.signer (channel_id_of c.number) c.both run).said_x ≡ []
+    y : (ends_of k.signer (channel_id_of c.number) c.both run).said_y ≡ []
+
+  new_so : (o : Open K k) (s t : Settings) → AreKeys (k.signer o.keys.funder) (k.signer o.keys.fundee)
+      → CanBring o.satoshis o.push s t → AreSent s.fees → AreSent t.fees → IsNew (opened_by k o s t)
+  new_so o s t keys brings fs ft =
       let a = k.signer o.keys.funder in
       let b = k.signer o.keys.fundee in
       let spec = spec_of o.channel (config_of o.funder s) o.satoshis o.push in
@@ -130,20 +138,28 @@ module _ {K : Type 0} (k : Ghosts K) where
       let fees = fees_so k.signer (channel_id_of o.channel) o.keys.funder o.keys.fundee spec config funder fundee
       opens in
       record {
-        funders = o.keys.funder;
-        fundees = o.keys.fundee;
-        spec = spec;
-        config = config;
-        funder = funder;
-        fundee = fundee;
-        steps = [];
-        keys = keys;
-        opens = opens;
-        funders_fees = subst AreSent (sym fees.0) fs;
-        fundees_fees = subst AreSent (sym fees.1) ft;
-        mirrors = mirrored k.signer (channel_id_of o.channel) o.keys.funder o.keys.fundee spec config funder fundee
-            opens (id_so o.channel);
+        run = record {
+          funders = o.keys.funder;
+          fundees = o.keys.fundee;
+          spec = spec;
+          config = config;
+          funder = funder;
+          fundee = fundee;
+          steps = [];
+          keys = keys;
+          opens = opens;
+          funders_fees = subst AreSent (sym fees.0) fs;
+          fundees_fees = subst AreSent (sym fees.1) ft;
+          mirrors = mirrored k.signer (channel_id_of o.channel) o.keys.funder o.keys.fundee spec config funder fundee
+              opens (id_so o.channel);
+        };
+        x = refl;
+        y = refl;
       }
+
+  opened_so : (o : Open K k) (s t : Settings) → AreKeys (k.signer o.keys.funder) (k.signer o.keys.fundee)
+      → CanBring o.satoshis o.push s t → AreSent s.fees → AreSent t.fees → IsOpen k.signer (opened_by k o s t)
+  opened_so o s t keys brings fs ft = (new_so o s t keys brings fs ft).run
 
   -- ---- a world
 
@@ -243,3 +259,11 @@ module _ {K : Type 0} (k : Ghosts K) where
 
   pub agrees : (ss : List (Step K k)) → BringFit k ss → OfEach Agrees (run k ss empty)
   agrees ss f = of_each Agrees (channels.agrees k.signer) (run k ss empty).channels (kept ss f).channels
+
+  pub none_adds_late : (o : Open K k) (s t : Settings) (ms : List Move) → CanBring o.satoshis o.push s t
+      → BringsFit k (step.Open o) → AreSent s.fees → AreSent t.fees
+      → ArePossible k.signer (channel_id_of o.channel) ms (opened_by k o s t).both
+      → NoneAddsLate k.signer (channel_id_of o.channel) ms (opened_by k o s t).both
+  none_adds_late o s t ms brings fit fs ft may =
+      let new = new_so o s t (keys_so o fit) brings fs ft in
+      channels.none_adds_late k.signer (channel_id_of o.channel) ms (opened_by k o s t).both new.run new.x new.y may

@@ -4,3 +4,4 @@ pub mod Both
 pub mod Channel
 pub mod World
 pub mod Promises
+pub mod Sending

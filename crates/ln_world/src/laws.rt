@@ -4,9 +4,17 @@
 //! What the steps bring fits: fees are below 2^64 and points have 33 bytes, as is so of every step in code.
 
 ghost use Rattle.std.specs.Prelude.{List};
+ghost use Rattle.ln_pair.specs.Promises.{AreSent};
+ghost use Rattle.ln_world.specs.declared.settings.Settings.{Settings};
+ghost use Rattle.ln_world.specs.declared.step.Open.{Open};
 ghost use Rattle.ln_world.specs.declared.step.Step.{Step};
+ghost use Rattle.ln_world.specs.declared.step.Step.TheVariants as step;
+ghost use Rattle.ln_world.specs.Settings.{CanBring, channel_id_of};
+ghost use Rattle.ln_world.specs.Both.{Move};
+ghost use Rattle.ln_world.specs.Channel.{opened_by};
 ghost use Rattle.ln_world.specs.World.{empty, run};
-ghost use Rattle.ln_world.specs.Promises.{BringFit, OfEach, Headline, NoneRefused, Agrees};
+ghost use Rattle.ln_world.specs.Promises.{BringsFit, BringFit, OfEach, Headline, NoneRefused, Agrees};
+ghost use Rattle.ln_world.specs.Sending.{ArePossible, NoneAddsLate};
 
 use ln_keys::ChannelKeys;
 
@@ -30,4 +38,15 @@ pub fn no_message_is_refused<K: ChannelKeys + Copy>()
 pub fn both_agree_at_rest<K: ChannelKeys + Copy>()
     ensures { (steps : List (Step K K.ChannelKeys)) → BringFit K.ChannelKeys steps
         → OfEach Agrees (run K.ChannelKeys steps empty) }
+{}
+
+/// A law: whatever moves a channel makes that was opened, of all that either end sends over all its connections, no
+/// `update_add_htlc` stands behind a `shutdown`. The moves are those that a world makes: a connection joins two ends
+/// that have none.
+pub fn no_add_follows_a_shutdown<K: ChannelKeys + Copy>()
+    ensures { (o : Open K K.ChannelKeys) (funder fundee : Settings) (moves : List Move)
+        → CanBring o.satoshis o.push funder fundee → BringsFit K.ChannelKeys (step.Open o)
+        → AreSent funder.fees → AreSent fundee.fees
+        → ArePossible K.signer (channel_id_of o.channel) moves (opened_by K.ChannelKeys o funder fundee).both
+        → NoneAddsLate K.signer (channel_id_of o.channel) moves (opened_by K.ChannelKeys o funder fundee).both }
 {}
