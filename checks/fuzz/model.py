@@ -51,6 +51,19 @@ def short_id(word):
     return tuple(number(part, most) for part, most in zip(parts, (2**24 - 1, 2**24 - 1, 2**16 - 1)))
 
 
+def truncated(n):
+    """How many bytes a number takes without leading zeros."""
+    return (n.bit_length() + 7) // 8
+
+
+def onion_size(amount, expiry, hops):
+    """How many bytes the payloads take, each behind its length: types 2, 4, 6 for a hop, and 2, 4, 8 for the last."""
+    if hops:
+        amount, expiry = hops[-1]
+    values = [(truncated(a), truncated(c), 8) for a, c in hops] + [(truncated(amount), truncated(expiry), 32 + truncated(amount))]
+    return sum(1 + sum(2 + len for len in it) for it in values)  # each length is below 253
+
+
 class End:
     """One end of a channel: its lists, counts, numbers and marks."""
 
@@ -405,8 +418,6 @@ class World:
 
     @staticmethod
     def down(it):
-        if it.line == "down":
-            return "idle"
         it.go_down()
 
     def up(self, channel):
@@ -449,8 +460,12 @@ def step_of(line):
     if word == "add" and len(words) >= 4 and len(words) % 3 == 1:
         u = dict(kind="add", amount=number(words[1]), expiry=number(words[2], 2**32 - 1), hash=payment(words[3]))
         e = end(words[0])
+        hops = []
         for i in range(4, len(words), 3):
-            short_id(words[i]), number(words[i + 1]), number(words[i + 2], 2**32 - 1)
+            short_id(words[i])
+            hops.append((number(words[i + 1]), number(words[i + 2], 2**32 - 1)))
+        if onion_size(u["amount"], u["expiry"], hops) > 1300:
+            raise Bad()
         return lambda w: w.act(e, lambda it: it.command("add", u))
     if word in ("fulfil", "fail", "malformed") and len(words) == 3:
         e, u = end(words[0]), dict(kind=word, id=number(words[1]))

@@ -2,6 +2,7 @@
 use Rattle.std.proofs.Common.{◌≡◌, ◌≢◌, ℕ, List, [], ◌∷◌, ◌++◌, Option, Some, None, refl, sym, ap, ◌∙◌, append_assoc}
 use Rattle.std.proofs.Common.{◌-◌, ◌==◌, Bool, true, false, length, take, drop, arith}
 use Rattle.std.proofs.lemmas.List.{take_all}
+use Rattle.std.proofs.lemmas.Bool.Decides.{nat_tests}
 use Rattle.std.specs.Borrow.{Bor}
 use Rattle.ln_script.specs.declared.hop.Hop.{Hop}
 use Rattle.ln_script.specs.Word.{◌>>=◌}
@@ -42,9 +43,12 @@ pub not_empty : (ws : List (Bor (List ℕ))) (b : Bool) → b ≡ (length ws == 
 not_empty [] b e f none = absurd (let it : true ≡ false = sym e ∙ f in cc)
 not_empty (w ∷ ws) b e f none = absurd cc
 
+zero_length : (n : ℕ) → (n == 0) ≡ true → n ≡ 0
+zero_length n e = grind (arith, nat_tests)
+
 pub empty : (ws : List (Bor (List ℕ))) (b : Bool) → b ≡ (length ws == 0) → b ≡ true → texts ws ≡ []
 empty [] b e f = refl
-empty (w ∷ ws) b e f = absurd (let it : true ≡ false = sym f ∙ e in cc)
+empty (w ∷ ws) b e f = let none : length (w ∷ ws) ≡ 0 = zero_length (length (w ∷ ws)) (sym e ∙ f) in absurd (omega arith)
 
 -- what r is: these payloads, and what the words that are left ask for
 abbrev Reads : Option (List (List ℕ)) → List (List ℕ) → ℕ → ℕ → ℕ → List (List ℕ) → Type 0

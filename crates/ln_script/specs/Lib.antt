@@ -5,5 +5,6 @@ pub mod Command
 pub mod Step
 pub mod Script
 pub mod LineText
+pub mod Report
 pub mod MessageText
 pub mod Shown

@@ -19,20 +19,20 @@ hop_at id amt cltv = do
 -- amt_to_forward, outgoing_cltv_value, short_channel_id
 unfoldable pub hop_payload : Hop → List ℕ
 hop_payload h = stream_bytes (
-  as_record 2 (truncated h.amount)
-  ∷ as_record 4 (truncated h.expiry)
-  ∷ as_record 6 (short_id_bytes h.id.block h.id.tx h.id.output)
-  ∷ []
-)
+    as_record 2 (truncated h.amount)
+    ∷ as_record 4 (truncated h.expiry)
+    ∷ as_record 6 (short_id_bytes h.id.block h.id.tx h.id.output)
+    ∷ []
+    )
 
 -- amt_to_forward, outgoing_cltv_value, payment_data: a secret of 32 bytes, and the total, which is the amount
 unfoldable pub last_payload : ℕ → ℕ → ℕ → List ℕ
 last_payload payment amount expiry = stream_bytes (
-  as_record 2 (truncated amount)
-  ∷ as_record 4 (truncated expiry)
-  ∷ as_record 8 (replicate 32 payment ++ truncated amount)
-  ∷ []
-)
+    as_record 2 (truncated amount)
+    ∷ as_record 4 (truncated expiry)
+    ∷ as_record 8 (replicate 32 payment ++ truncated amount)
+    ∷ []
+    )
 
 -- payloads in front of those that are read further on
 abbrev pub in_front : List (List ℕ) → Option (List (List ℕ)) → Option (List (List ℕ))

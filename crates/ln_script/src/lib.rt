@@ -10,6 +10,7 @@ mod message;
 mod onion;
 mod print;
 mod reading;
+mod report;
 mod step;
 mod word;
 
@@ -17,3 +18,4 @@ pub use laws::first_bad_line;
 pub use message::message_text;
 pub use print::print_all;
 pub use reading::read_script;
+pub use report::print_report;

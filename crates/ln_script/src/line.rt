@@ -85,13 +85,7 @@ fn put_sends(text: &mut String, end: End, word: Word) -> Result<(), AllocError>
 }
 
 #[tactic(auto, unfolding(crate::specs::LineText::added_text))]
-fn put_added(
-    text: &mut String,
-    end: End,
-    number: u64,
-    own: bool,
-    id: u64,
-) -> Result<(), AllocError>
+fn put_added(text: &mut String, end: End, number: u64, own: bool, id: u64) -> Result<(), AllocError>
     ensures { OnOk result (string_bytes text.new ≡ string_bytes text.old ++ added_text end number own id) }
 {
     let owner = owner_text(own);

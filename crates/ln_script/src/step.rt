@@ -175,11 +175,7 @@ fn deliver_line(words: &[&str]) -> Option<Step<ToyKeys>>
 
 /// A command's word, E, and what the command asks for.
 #[tactic(auto, unfolding(crate::specs::Step::command_line))]
-fn command_line(
-    alloc: Global,
-    word: &str,
-    words: &[&str],
-) -> Result<Option<Step<ToyKeys>>, Refusal>
+fn command_line(alloc: Global, word: &str, words: &[&str]) -> Result<Option<Step<ToyKeys>>, Refusal>
     ensures step { IfOk result (λ o. o ≡ command_line word.now (texts words.now)) }
     ensures memory { IfErr result (λ e. e ≡ refusal.Memory) }
 {

@@ -8,7 +8,7 @@ abbrev pub Prints : Option (List ℕ) → Option (List ℕ) → Result (List ℕ
 Prints old new (Ok report) = Appends old new report
 Prints old new (Err line) = ⊥
 
--- there is one, and a beginning of it was written
+-- a beginning of the report was written, where there is one, and else nothing
 abbrev pub PrintsPartly : Option (List ℕ) → Option (List ℕ) → Result (List ℕ) ℕ → Type 0
 PrintsPartly old new (Ok report) = IsPartlyWritten old new report
-PrintsPartly old new (Err line) = ⊥
+PrintsPartly old new (Err line) = new ≡ old
