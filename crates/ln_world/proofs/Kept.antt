@@ -232,14 +232,16 @@ module _ {K : Type 0} (signer : K → Signer) where
   unfolding moves
   fallen_went id Funder p r =
       let q = ends_of id p r in
-      let said = lost_says (is_down q.x_line) q (record q { x_line = Down; x = end_dropped q.x; to_x = [] }) refl refl in
+      let said = lost_says (is_down q.x_line) q (record q { x_line = Down; x = end_dropped q.x; to_x = [] }) refl
+      refl in
       went_so id p _ r (pair.By Funder pair.Lose) [] []
       (fell signer id r.funders r.fundees p q r.mirrors)
       (said.0 ∙ silently q.said_x [] refl) (said.1 ∙ silently q.said_y [] refl)
   fallen_went id Fundee p r =
       let q = ends_of id p r in
       let t = pair.turned q in
-      let said = lost_says (is_down t.x_line) t (record t { x_line = Down; x = end_dropped t.x; to_x = [] }) refl refl in
+      let said = lost_says (is_down t.x_line) t (record t { x_line = Down; x = end_dropped t.x; to_x = [] }) refl
+      refl in
       went_so id p _ r (pair.By Fundee pair.Lose) [] []
       (flipped id r.fundees r.funders _ _ (fell signer id r.fundees r.funders (turned p) t
       (flipped id r.funders r.fundees p q r.mirrors)))

@@ -302,8 +302,8 @@ module _ {K : Type 0} (signer : K → Signer) (id : List ℕ) (kx ky : K) where
         subst (λ r. Mirrors id kx ky (answers refused id (handled (signer p.x.link.keys) p.x.link m)
             (record { x = record { link = p.x.link; inbox = ms }; y = p.y })) (pair.answers r (record q { to_x = to })))
             (sym f.1)
-            (still_so refused (handled (signer p.x.link.keys) p.x.link m) (Err refusal.FeeOutside) p q ms to row refl refl
-            (inl refl, tt) (behind_it q.x_line m ms to up told named) h),
+            (still_so refused (handled (signer p.x.link.keys) p.x.link m) (Err refusal.FeeOutside) p q ms to row refl
+            refl (inl refl, tt) (behind_it q.x_line m ms to up told named) h),
         says_refused (sent_by id (handled (signer p.x.link.keys) p.x.link m)) (message_at keys q.x_line m q.x)
             refusal.FeeOutside q to f.1 (ap (λ d. without_warnings (sent_by id d)) row),
       )
@@ -381,8 +381,8 @@ module _ {K : Type 0} (signer : K → Signer) (id : List ℕ) (kx ky : K) where
         let row : commanded (signer p.x.link.keys) p.x.link c ≡ Err refusal.NotReady =
         ap (λ (l : State K). commanded (signer l.keys) l c) h.x_link ∙ refused_so.by_link in (
           subst (λ r. Mirrors id kx ky (acts signer id (act.Send c) p) (pair.answers r q)) (sym refused_so.by_row)
-              (still_so unchanged (commanded (signer p.x.link.keys) p.x.link c) (Err refusal.NotReady) p q p.x.inbox q.to_x
-              row refl refl tt h.x_in h),
+              (still_so unchanged (commanded (signer p.x.link.keys) p.x.link c) (Err refusal.NotReady) p q p.x.inbox
+              q.to_x row refl refl tt h.x_in h),
           says_refused (act_sends signer id (act.Send c) p.x) (command_at (signer kx) q.x_line c q.x) refused_so.why q
               q.to_x refused_so.by_row (ap (λ d. without_warnings (sent_by id d)) row),
         )
