@@ -20,3 +20,5 @@ pub mod Promised
 pub mod Made
 pub mod Moving
 pub mod Machines
+pub mod Tellings
+pub mod Recounts

@@ -8,4 +8,4 @@ mod moves;
 pub use laws::{
     both_agree_at_rest, held_was_covered, no_add_follows_a_shutdown, no_message_is_refused,
 };
-pub use moves::{each_move_may_be_made, moves_are_the_machines};
+pub use moves::{each_move_may_be_made, events_are_told, moves_are_the_machines};
