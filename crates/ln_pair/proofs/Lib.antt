@@ -28,3 +28,5 @@ pub mod Fees
 pub mod Made
 pub mod Moving
 pub mod Machines
+pub mod Tellings
+pub mod Recounts

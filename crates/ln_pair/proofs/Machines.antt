@@ -287,7 +287,7 @@ connected_by a b Down Met o p k = (refl, k)
 connected_by a b Awaiting l o p k = (refl, k)
 connected_by a b Met l o p k = (refl, k)
 
-happens_so : (a b : Signer) → AreKeys a b → (s : Step) (o : Opening) (p : Ends) → Keeps o p → Holds a b p
+pub happens_so : (a b : Signer) → AreKeys a b → (s : Step) (o : Opening) (p : Ends) → Keeps o p → Holds a b p
     → Runs o (moves_of a b s p) p (happens a b s p) × Keeps o (happens a b s p)
 happens_so a b keys (By Funder act) o p k h =
     let m = acts_so a b keys Funder o act p k.x h in
@@ -344,10 +344,15 @@ fit_so q e =
       fundee_accepts = leb-true q.fundee.accepted 483 r4.1;
     }
 
-pub may_be_made : (a b : Signer) (s : OpenSpec) (c : Config) (funder fundee : Opened) (steps : List Step) → AreKeys a b
-    → Opens a b s c funder fundee
-    → IsRun (history a b funder fundee steps) None (Some (machine_of (run a b steps (opened funder fundee))))
-may_be_made a b s c funder fundee steps keys o =
+-- as both ends begin
+pub record Starts (q : Opening) (p : Ends) : Type 0 where
+  pub fit : IsFit q
+  pub first : Some (made Funder q (party p.x) (party p.y)) ≡ Some (made Funder q fresh fresh)
+  pub keeps : Keeps q p
+
+pub starts : (a b : Signer) (s : OpenSpec) (c : Config) (funder fundee : Opened) → Opens a b s c funder fundee
+    → Starts funder.dance.log.opening (opened funder fundee)
+starts a b s c funder fundee o =
     let p = opened funder fundee in
     let ends = are_ends a b s c funder fundee o in
     let open_is = was_given (open_fault c (open_message a s)) (
@@ -376,20 +381,33 @@ may_be_made a b s c funder fundee steps keys o =
     let first : Some (made Funder q (party p.x) (party p.y)) ≡ Some (made Funder q fresh fresh) =
     ap (λ z. Some (made Funder q z (party p.y))) bx.fresh_party
     ∙ ap (λ z. Some (made Funder q fresh z)) by.fresh_party in
-    let all = runs_so a b keys steps q p (record {
-      x = record { role = bx.role; opening = refl };
-      y = record { role = by.role; opening = ends.opening };
-    }) (opened_holds a b s c funder fundee o) in
+    record {
+      fit = fit;
+      first = first;
+      keeps = record {
+        x = record { role = bx.role; opening = refl };
+        y = record { role = by.role; opening = ends.opening };
+      };
+    }
+
+pub may_be_made : (a b : Signer) (s : OpenSpec) (c : Config) (funder fundee : Opened) (steps : List Step) → AreKeys a b
+    → Opens a b s c funder fundee
+    → IsRun (history a b funder fundee steps) None (Some (machine_of (run a b steps (opened funder fundee))))
+may_be_made a b s c funder fundee steps keys o =
+    let p = opened funder fundee in
+    let q = funder.dance.log.opening in
+    let st = starts a b s c funder fundee o in
+    let all = runs_so a b keys steps q p st.keeps (opened_holds a b s c funder fundee o) in
     let last = run a b steps p in
     let is_last : made Funder q (party last.x) (party last.y) ≡ machine_of last =
     ap (λ z. made Funder z (party last.x) (party last.y)) (sym all.1.x.opening) in
     let ms = all_moves a b steps p in (
-      fit,
+      st.fit,
       subst (λ m. IsRun ms (Some (made Funder q fresh fresh)) (Some m)) is_last
-          (subst (λ m. IsRun ms m (Some (made Funder q (party last.x) (party last.y)))) first all.0),
+          (subst (λ m. IsRun ms m (Some (made Funder q (party last.x) (party last.y)))) st.first all.0),
     )
 
-run_after : (ms : List Move) (old new : Option Machine) → IsRun ms old new → after_all ms old ≡ new
+pub run_after : (ms : List Move) (old new : Option Machine) → IsRun ms old new → after_all ms old ≡ new
 run_after [] old new e = sym e
 run_after (move ∷ ms) old new e = run_after ms (after move old) new e.1
 

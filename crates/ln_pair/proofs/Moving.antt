@@ -121,7 +121,7 @@ module _ (r : Role) (o : Opening) (y : Party) where
       subst (λ (q : Party). IsRun (shuts r e.closing.shut q.shut) (Some (made r o (party e) y)) (Some (made r o q y)))
       (sym is.0) (shut_by (owes_shutdown e) e refl w)
 
-  settled_closed : (e : End) → (settled e).closing.closed ≡ e.closing.closed
+  pub settled_closed : (e : End) → (settled e).closing.closed ≡ e.closing.closed
   settled_closed e = ap (λ (q : Party). q.closed) (begins_so (answers_shutdown e)).0
       ∙ same_closed (owes_shutdown e) e
 
@@ -160,14 +160,14 @@ front_same n m k us vs e same le = sym (take-take n k us le) ∙ ap (take n) e �
     ∙ ap (λ i. take i vs) same
 
 -- what of the log an update, a signature, ... leaves
-record Taken (r : Role) (o : Opening) (first : List Move) (x n : End) (y : Party) : Type 0 where
-  run : Run r o y first x n
-  closed : n.closing.closed ≡ x.closing.closed
-  shut : n.closing.shut ≡ x.closing.shut
-  role : n.dance.log.role ≡ x.dance.log.role
-  opening : n.dance.log.opening ≡ x.dance.log.opening
+pub record Taken (r : Role) (o : Opening) (first : List Move) (x n : End) (y : Party) : Type 0 where
+  pub run : Run r o y first x n
+  pub closed : n.closing.closed ≡ x.closing.closed
+  pub shut : n.closing.shut ≡ x.closing.shut
+  pub role : n.dance.log.role ≡ x.dance.log.role
+  pub opening : n.dance.log.opening ≡ x.dance.log.opening
 
-no_move : (r : Role) (channel : List ℕ) (u : Change) → moves_taken r (message_of channel (Update u)) ≡ []
+pub no_move : (r : Role) (channel : List ℕ) (u : Change) → moves_taken r (message_of channel (Update u)) ≡ []
 no_move r channel (update.Add d) = refl
 no_move r channel (update.Fulfil d) = refl
 no_move r channel (update.Fail d) = refl
@@ -193,7 +193,7 @@ ready_by r o false x n k y is e l = record {
 
 module _ (a b : Signer) (keys : AreKeys a b) (r : Role) (o : Opening) (channel : List ℕ) (ly : Line) (x y : End)
     (said_x said_y : List Message) where
-  tells : (n : Notice) (ns to_y : List Notice) → is_close n ≡ false
+  pub tells : (n : Notice) (ns to_y : List Notice) → is_close n ≡ false
       → Hold a b channel Met ly x y (n ∷ ns) to_y said_x said_y
       → Taken r o (moves_taken r (message_of channel n)) x (turn_of a n x).end (party y)
   tells (Update u) ns to_y other h = record {

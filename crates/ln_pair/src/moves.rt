@@ -2,15 +2,19 @@
 //! they do (BOLT 2, "Normal Operation").
 
 ghost use Rattle.std.specs.Prelude.{◌≡◌, List, Some, None};
+ghost use Rattle.ln_keys.specs.declared.role.Role.{Role};
 ghost use Rattle.ln_keys.specs.Signer.{Signer};
 ghost use Rattle.ln_log.specs.Machine.{IsRun};
+ghost use Rattle.ln_log.specs.Events.{events};
 ghost use Rattle.ln_link.specs.declared.config.Config.{Config};
 ghost use Rattle.ln_link.specs.declared.config.OpenSpec.{OpenSpec};
 ghost use Rattle.ln_link.specs.declared.opening.Opened.{Opened};
 ghost use Rattle.ln_link.specs.Meeting.{Opens};
+ghost use Rattle.ln_link.specs.Outputs.{numbered};
 ghost use Rattle.ln_pair.specs.Ends.{Step, opened, run};
 ghost use Rattle.ln_pair.specs.Promises.{AreKeys};
 ghost use Rattle.ln_pair.specs.Moves.{machine_of, history, after_all};
+ghost use Rattle.ln_pair.specs.Told.{as_told, events_in, all_told};
 
 /// A law: the opening, then the moves that the steps are, lead the machine to the opening and the two parties that the
 /// ends stand for. A command that isn't refused is its move: an update is proposed, a signature or a shutdown sent. A
@@ -33,4 +37,14 @@ pub fn each_move_may_be_made()
         → Opens a b s c funder fundee
         → IsRun (history a b funder fundee steps) None
         (Some (machine_of (run a b steps (opened funder fundee)))) }
+{}
+
+/// A law: the events that an end tells over all steps, with their numbers, are those of the machine's moves for its
+/// side: each once, in their order, numbered from 0. These are each add and each removal of either side as the end
+/// comes to hold it as irrevocably committed, and its close; an add of more than an event can tell is none.
+pub fn events_are_told()
+    ensures { (a b : Signer) (s : OpenSpec) (c : Config) (funder fundee : Opened) (steps : List Step) (side : Role)
+        → AreKeys a b → Opens a b s c funder fundee
+        → events_in (all_told a b side steps (opened funder fundee))
+        ≡ numbered 0 (as_told (events side (history a b funder fundee steps) None)) }
 {}

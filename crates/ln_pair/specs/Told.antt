@@ -1,0 +1,63 @@
+-- The events that an end tells over a list of steps, and what the machine's moves tell its side.
+use Rattle.std.specs.Prelude.{List, [], ◌∷◌, ◌++◌, Option, Some, Result, Ok, Err}
+use Rattle.std.specs.List.{cons_option}
+use Rattle.ln_msgs.specs.declared.messages.message.Message.{Message}
+use Rattle.ln_msgs.specs.declared.refusals.refusal.Refusal.{Refusal}
+use Rattle.ln_keys.specs.declared.role.Role.{Role}
+use Rattle.ln_keys.specs.declared.role.Role.TheVariants.{Funder, Fundee}
+use Rattle.ln_keys.specs.Signer.{Signer}
+use Rattle.ln_log.specs.Events.{Event, Held, ClosedAt}
+use Rattle.ln_hooks.specs.declared.event.ChannelEvent.{ChannelEvent}
+use Rattle.ln_hooks.specs.declared.event.ChannelEvent.TheVariants as event
+use Rattle.ln_hooks.specs.Event.{event_of}
+use Rattle.ln_link.specs.declared.link.Line.{Line}
+use Rattle.ln_link.specs.declared.output.Output.{Output}
+use Rattle.ln_link.specs.declared.output.Output.TheVariants as output
+use Rattle.ln_link.specs.End.{End, Turn}
+use Rattle.ln_pair.specs.Ends.{Ends, turned, message_at, command_at, Act, Deliver, Give, Lose, Step, By, Connect}
+use Rattle.ln_pair.specs.Ends.{happens}
+
+-- as an end tells it; an add beyond what an event can tell is none
+abbrev pub event_at : Event → Option ChannelEvent
+event_at (Held own u) = event_of own u
+event_at (ClosedAt fee) = Some (event.Closed fee)
+
+abbrev pub as_told : List Event → List ChannelEvent
+as_told [] = []
+as_told (e ∷ es) = cons_option (event_at e) (as_told es)
+
+-- the events among what is told, with their numbers
+abbrev pub events_in : List Output → List Output
+events_in [] = []
+events_in (output.Send m ∷ os) = events_in os
+events_in (output.Signed n ∷ os) = events_in os
+events_in (output.Committed own peer ∷ os) = events_in os
+events_in (output.Event n e ∷ os) = output.Event n e ∷ events_in os
+events_in (output.Closed fee ∷ os) = events_in os
+
+-- what is told beside the messages to the peer
+abbrev pub told_by : Result Turn Refusal → List Output
+told_by (Ok t) = t.handed.told
+told_by (Err r) = []
+
+abbrev pub told_on : Signer → Line → List Message → End → List Output
+told_on keys l [] e = []
+told_on keys l (m ∷ ms) e = told_by (message_at keys l m e)
+
+abbrev pub told_in : Signer → Act → Ends → List Output
+told_in keys Deliver p = told_on keys p.x_line p.to_x p.x
+told_in keys (Give c) p = told_by (command_at keys p.x_line c p.x)
+told_in keys Lose p = []
+
+-- by the end of this role; a connection that comes up tells nothing
+abbrev pub told : Signer → Signer → Role → Step → Ends → List Output
+told a b Funder (By Funder act) p = told_in a act p
+told a b Funder (By Fundee act) p = []
+told a b Fundee (By Funder act) p = []
+told a b Fundee (By Fundee act) p = told_in b act (turned p)
+told a b Funder Connect p = []
+told a b Fundee Connect p = []
+
+abbrev pub all_told : Signer → Signer → Role → List Step → Ends → List Output
+all_told a b side [] p = []
+all_told a b side (s ∷ ss) p = told a b side s p ++ all_told a b side ss (happens a b s p)
