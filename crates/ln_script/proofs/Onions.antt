@@ -33,7 +33,8 @@ front payment amount expiry (a ∷ []) some = refl
 front payment amount expiry (a ∷ b ∷ []) some = refl
 front payment amount expiry (id ∷ amt ∷ cltv ∷ ws) some = refl
 
-pub behind_three : (ws : List (Bor (List ℕ))) (n : ℕ) → n ≡ length ws - 3 → drop 3 (texts ws) ≡ texts (take n (drop 3 ws))
+pub behind_three : (ws : List (Bor (List ℕ))) (n : ℕ) → n ≡ length ws - 3
+    → drop 3 (texts ws) ≡ texts (take n (drop 3 ws))
 behind_three [] n e = rw e refl
 behind_three (a ∷ []) n e = rw e refl
 behind_three (a ∷ b ∷ []) n e = rw e refl
@@ -48,7 +49,9 @@ zero_length n e = grind (arith, nat_tests)
 
 pub empty : (ws : List (Bor (List ℕ))) (b : Bool) → b ≡ (length ws == 0) → b ≡ true → texts ws ≡ []
 empty [] b e f = refl
-empty (w ∷ ws) b e f = let none : length (w ∷ ws) ≡ 0 = zero_length (length (w ∷ ws)) (sym e ∙ f) in absurd (omega arith)
+empty (w ∷ ws) b e f =
+    let none : length (w ∷ ws) ≡ 0 = zero_length (length (w ∷ ws)) (sym e ∙ f) in
+    absurd (omega arith)
 
 -- what r is: these payloads, and what the words that are left ask for
 abbrev Reads : Option (List (List ℕ)) → List (List ℕ) → ℕ → ℕ → ℕ → List (List ℕ) → Type 0

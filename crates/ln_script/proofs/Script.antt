@@ -48,8 +48,8 @@ abbrev Reads : Result (List ToyStep) ℕ → List ToyStep → List (List ℕ) �
 Reads r ss xs i = r ≡ behind ss (steps_from (i + 1) (drop i xs))
 
 -- the same with the line of this place told
-told : (r : Result (List ToyStep) ℕ) (ss : List ToyStep) (xs : List (List ℕ)) (i : ℕ) (l : List ℕ) (o : Option (List ToyStep))
-    → Reads r ss xs i → i < length xs → l ≡ get_or xs i [] → line_at l ≡ o
+told : (r : Result (List ToyStep) ℕ) (ss : List ToyStep) (xs : List (List ℕ)) (i : ℕ) (l : List ℕ)
+    → (o : Option (List ToyStep)) → Reads r ss xs i → i < length xs → l ≡ get_or xs i [] → line_at l ≡ o
     → r ≡ behind ss (line_then (i + 1) o (steps_from (i + 1 + 1) (drop (i + 1) xs)))
 told r ss xs i l o reads within is e =
     reads ∙ ap (behind ss) (front (i + 1) xs i within

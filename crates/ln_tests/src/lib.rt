@@ -46,5 +46,3 @@ mod store;
 mod testing;
 #[cfg(test)]
 mod whole_fields;
-#[cfg(test)]
-mod world;

@@ -2,7 +2,6 @@
 
 use ln_msgs::{Counted, Refusal, decode};
 use ln_script::{first_bad_line, message_text, print_all, print_report, read_script};
-use ln_world::World;
 use std::alloc::Global;
 use std::io;
 use std::io::{ErrorKind, Write};
@@ -10,31 +9,39 @@ use std::io::{ErrorKind, Write};
 /// The report of a script is this text.
 fn is_told(alloc: Global, script: &str, text: &str) -> Result<bool, Refusal> {
     let mut writer = Counted::new(Vec::new(alloc));
-    let steps = read_script(alloc, script)?;
-    let world = World::run(alloc, steps.as_slice())?;
-    print_report(alloc, &world, &mut writer)?;
+    print_report(alloc, read_script(alloc, script)?, &mut writer)?;
     Ok(writer.get_ref().as_slice() == text.as_bytes())
 }
 
 #[test]
 fn reports(rt: HostRuntime) {
     for (script, text) in [
-        // an add is committed; a comment and an empty line are passed over; the last line lacks its line feed
+        // all kinds of updates and removals; a comment and an empty line are passed over
         (
-            "# an add\nready 0 A B 1000000 0 1x1x0\n\nadd A0 5000 400 7\nsign A0\ndeliver B0\n\
-             deliver B0\ndeliver A0\nsign B0\ndeliver A0\ndeliver B0",
-            "0 open\nA0 sends channel_ready\nB0 sends channel_ready\nA0 sends add 0\n\
-             A0 sends sign 1\nB0 sends revoke 0\nB0 sends sign 1\nA0 sends revoke 0\n\
-             A0 event 0 added own 0\nB0 event 0 added peer 0\n\
-             A0 signed 1 committed 1 peer 0 balance 999995000/0 live 1 ready\n\
-             B0 signed 0 committed 0 peer 1 balance 0/999995000 live 1 ready\n",
+            "# updates\nready 7 A B 1000000 100000000 1x1x0\n\nadd A7 5000 400 7 1x2x3 4000 300\n\
+             add A7 6000 400 8\nadd A7 7000 400 9\nfee A7 300\nsign A7\ndeliver B7\ndeliver B7\n\
+             deliver B7\ndeliver B7\ndeliver B7\ndeliver A7\nsign B7\ndeliver A7\ndeliver B7\n\
+             fulfil B7 0 7\nfail B7 1 100c\nmalformed B7 2 c005\nsign B7\ndeliver A7\ndeliver A7\n\
+             deliver A7\ndeliver A7\ndeliver B7\nsign A7\ndeliver B7\ndeliver A7\nfulfil B7 0 7",
+            "7 open\nA7 sends channel_ready\nB7 sends channel_ready\nA7 sends add 0\n\
+             A7 sends add 1\nA7 sends add 2\nA7 sends fee 300\nA7 sends sign 1\nB7 sends revoke 0\n\
+             B7 sends sign 1\nA7 sends revoke 0\nA7 event 0 added own 0\nA7 event 1 added own 1\n\
+             A7 event 2 added own 2\nB7 event 0 added peer 0\nB7 event 1 added peer 1\n\
+             B7 event 2 added peer 2\nB7 sends fulfil 0\nB7 sends fail 1\nB7 sends malformed 2\n\
+             B7 sends sign 2\nA7 sends revoke 1\nA7 sends sign 2\nB7 sends revoke 1\n\
+             B7 event 3 settled peer 0 fulfilled\nB7 event 4 settled peer 1 failed\n\
+             B7 event 5 settled peer 2 malformed\nA7 event 3 settled own 0 fulfilled\n\
+             A7 event 4 settled own 1 failed\nA7 event 5 settled own 2 malformed\nB7 refused 49\n\
+             A7 signed 4 committed 4 peer 3 balance 899995000/100005000 live 0 ready\n\
+             B7 signed 3 committed 3 peer 4 balance 100005000/899995000 live 0 ready\n",
         ),
-        // the greatest values that a line takes: the channel can't be opened, and there is none to offer in
+        // the greatest values that a line takes: the channel can't be opened, and there is none to act in
         (
             "ready 99 Z Y 18446744073709551615 18446744073709551615 16777215x16777215x65535\n\
-             add Z99 18446744073709551615 4294967295 255\n",
-            "idle\nidle\n",
+             add Z99 18446744073709551615 4294967295 255\nup 99\ndown Z99\n",
+            "idle\nidle\nidle\nidle\nidle\nidle\nidle\nidle\n",
         ),
+        ("set A fees 0 0 0\nset A limits 0 65535 0 0\n", ""),
         ("", ""),
         ("# nothing\n\n", ""),
     ] {
@@ -78,9 +85,23 @@ fn bad_lines(rt: HostRuntime) {
         ("ready 0 A B 1 0 1x16777216x0\n", 1),
         ("ready 0 A B 1 0 1x1x65536\n", 1),
         ("ready 0 A B 1 0 01x1x0\n", 1),
-        // steps that the world doesn't have yet
-        ("sign A0\nfulfil A0 0 7\n", 2),
-        ("down A0\n", 1),
+        ("add A0 5000 400 7 1x1x0\n", 1),
+        ("add A0 5000 400 7 1x1x0 4000\n", 1),
+        ("add A0 5000 400 7 1x1 4000 300\n", 1),
+        ("fail A0 0 400F\n", 1),
+        ("fail A0 0 40\n", 1),
+        ("malformed A0 0 10005\n", 1),
+        ("fulfil A0 0 256\n", 1),
+        ("fee A0 4294967296\n", 1),
+        ("shutdown A0 A\n", 1),
+        ("up A0\n", 1),
+        ("down 0\n", 1),
+        ("set A fees 300 301 400\n", 1),
+        ("set A fees 300 200 299\n", 1),
+        ("set A limits 1 65536 1 0\n", 1),
+        // lines of nodes that decide by themselves are none
+        ("sign A0\nrestart A\n", 2),
+        ("height A 100\n", 1),
     ] {
         let refused = read_script(rt.alloc(), script).err();
         assert_eq!(rt; refused, Some(Refusal::BadScript { line }), "{script}");

@@ -16,8 +16,8 @@ use std::io::Write;
 /// Runs a script and writes its report, what a step is told as before the next is taken. Takes memory for the script's
 /// lines and steps, the world, and the text of one step.
 ///
-/// Errors: 64 with the number of the first bad line, and then nothing was written; 60 where there is no memory; 63 where
-/// a call of the writer fails. What was written by then is a beginning of the report.
+/// Errors: 64 with the number of the first bad line, and then nothing was written; 60 where there is no memory; 63
+/// where a call of the writer fails. What was written by then is a beginning of the report.
 pub fn simulate<W: Write>(alloc: Global, text: &str, writer: &mut Counted<W>) -> Result<(), Failure>
     ensures ok { OnOk result (Prints (W.contents (inner_of writer.old)) (W.contents (inner_of writer.new))
         (simulated text.now)) }
