@@ -1,5 +1,6 @@
 -- A refusal that is answered to a message: what of it is saved.
-use Rattle.std.proofs.Common.{refl, sym, ◌∙◌, ap, subst, inl, inr, Option, Some, None, is_none, Bool, true, false, not, ◌&&◌, ◌≡◌}
+use Rattle.std.proofs.Common.{refl, sym, ◌∙◌, ap, subst, inl, inr, Option}
+use Rattle.std.proofs.Common.{Some, None, is_none, Bool, true, false, not, ◌&&◌, ◌≡◌}
 use Rattle.std.proofs.Common.{List, Result, Err, if◌then◌else◌}
 use Rattle.ln_msgs.specs.declared.refusals.refusal.Refusal.{Refusal}
 use Rattle.ln_link.specs.declared.link.Line.{Line}
@@ -10,7 +11,8 @@ use Rattle.ln_link.specs.State.{State, failed, refused}
 use Rattle.ln_link.specs.Step.{Done, AnsweredMessage}
 use Rattle.ln_link.specs.State.{halts}
 use Rattle.ln_link.specs.Record.{saved_end}
-use Rattle.ln_durable.specs.Durable.{Shelf, Refuses, IsUnsaved, HaltsRefused, is_failing, fails_now, saved, AnswersMessage}
+use Rattle.ln_durable.specs.Durable.{Shelf, Refuses, IsUnsaved, HaltsRefused}
+use Rattle.ln_durable.specs.Durable.{is_failing, fails_now, saved, AnswersMessage}
 
 -- a link without a failure, by whether the refusal is one
 by_refusal : {K : Type 0} (r : Refusal) (keys : K) (line : Line) (s : Stage) (b : Bool)

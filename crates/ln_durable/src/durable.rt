@@ -15,9 +15,9 @@ use std::marker::Model;
 /// A link that saves before it hands out.
 ///
 /// What a call made of the channel is in the store before any message that tells it leaves this side: a restart finds
-/// what the peer may know of. Where a save fails, by 60 for want of memory, by 61 where the store failed, by 70 where no
-/// record has these items, the link halts and answers 62 from then on; the store then has the record that it had, or
-/// the one that was to be saved.
+/// what the peer may know of. Where a save fails, by 60 for want of memory, by 61 where the store failed, by 70 where
+/// no record has these items, the link halts and answers 62 from then on; the store then has the record that it had,
+/// or the one that was to be saved.
 #[derive(Drop)]
 pub struct Durable<K: ChannelKeys + Drop> {
     link: Link<K>,

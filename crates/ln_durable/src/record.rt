@@ -5,7 +5,8 @@ ghost use Rattle.ln_msgs.specs.declared.refusals.refusal.Refusal.TheVariants as 
 ghost use Rattle.ln_log.specs.Log.{after_drop, updates_of as sent_by};
 ghost use Rattle.ln_link.specs.Opening.{opening_of};
 ghost use Rattle.ln_durable.specs.Record.{flags_of, header_of, place_of, agreement_of, base_of, window_of, covered_of};
-ghost use Rattle.ln_durable.specs.Record.{pairs_of, updates_of, events_of, fees_of, progress_of, commitments_of, items_of};
+ghost use Rattle.ln_durable.specs.Record.{pairs_of, updates_of, events_of};
+ghost use Rattle.ln_durable.specs.Record.{fees_of, progress_of, commitments_of, items_of};
 
 use crate::copy::{copy_bytes, copy_events, copy_updates};
 use crate::payload::{accept_payload, open_payload};
