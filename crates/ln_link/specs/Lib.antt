@@ -10,6 +10,8 @@ pub mod Commands
 pub mod Resume
 pub mod Failing
 pub mod State
+pub mod Parts
+pub mod Record
 pub mod Naming
 pub mod Step
 pub mod Standing

@@ -1,5 +1,5 @@
 -- Where a link stands with its channel.
-use Rattle.std.specs.Prelude.{Bool, true, false, Option, Some, None, length, if◌then◌else◌, ℕ}
+use Rattle.std.specs.Prelude.{Option, Some, None, length, if◌then◌else◌, ℕ}
 use Rattle.ln_msgs.specs.declared.refusals.refusal.Refusal.{Refusal}
 use Rattle.ln_keys.specs.declared.role.Role.{Role}
 use Rattle.ln_keys.specs.declared.role.Role.TheVariants.{Funder, Fundee}

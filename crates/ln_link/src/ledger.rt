@@ -137,3 +137,29 @@ impl EventLedger {
         outbox.tell(Output::Closed(fee))
     }
 }
+
+impl EventLedger {
+    ghost use Rattle.std.specs.Prelude.{◌≡◌, ◌<◌, ◌^◌};
+
+    /// Fewer than 2^63 decided events, and these undecided ones behind them. Takes no memory.
+    pub fn from_parts(decided: u64, undecided: Vec<EventRef>) -> EventLedger
+        requires { decided < 2 ^ 63 }
+        ensures { result ≡ record { decided = decided; undecided = undecided.items } }
+    {
+        EventLedger { decided, undecided }
+    }
+
+    /// How many were decided.
+    pub fn decided(&self) -> u64
+        ensures { result ≡ self.now.decided }
+    {
+        self.decided
+    }
+
+    /// The undecided ones in their order.
+    pub fn undecided(&self) -> &[EventRef]
+        ensures { result.now ≡ self.now.undecided }
+    {
+        self.undecided.as_slice()
+    }
+}

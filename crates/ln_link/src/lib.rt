@@ -11,14 +11,17 @@ mod ledger;
 mod link;
 mod opening;
 mod output;
+mod record;
 mod resume;
 mod stage;
 mod standing;
 mod taking;
 
+pub use channel::{Channel, Marks};
 pub use command::{Command, Mark};
 pub use config::{Config, FitConfig, FitSpec, OpenSpec, Points};
+pub use ledger::{EventLedger, EventRef};
 pub use link::{Line, Link};
-pub use opening::opening_is_agreed;
+pub use opening::{Terms, opening_is_agreed};
 pub use output::Output;
 pub use standing::{Life, Standing};

@@ -1,0 +1,139 @@
+-- The record of an end of a channel: what of it outlives a lost connection, in the form in which it is stored. Its
+-- updates are those that signatures cover (BOLT 2, "Message Retransmission").
+use Rattle.std.specs.Prelude.{ℕ, List, [], drop, map, Option, option_map}
+use Rattle.ln_bytes.specs.declared.short_id.ShortId.{ShortId}
+use Rattle.ln_bytes.specs.ShortId.{short_id_bytes}
+use Rattle.ln_msgs.specs.Messages.Message.{Wire, wire_bytes}
+use Rattle.ln_msgs.specs.Messages.Typed.{open_wire, accept_wire}
+use Rattle.ln_msgs.specs.declared.refusals.refusal.Refusal.{Refusal}
+use Rattle.ln_keys.specs.declared.role.Role.{Role}
+use Rattle.ln_keys.specs.declared.role.Role.TheVariants.{Funder, Fundee}
+use Rattle.ln_log.specs.declared.log.Counts.{Counts}
+use Rattle.ln_log.specs.declared.opening.Opening.{Opening}
+use Rattle.ln_log.specs.declared.update.Update.{Update}
+use Rattle.ln_log.specs.Opening.{first_balance}
+use Rattle.ln_log.specs.Log.{Log, after_drop}
+use Rattle.ln_dance.specs.Dance.{Dancer}
+use Rattle.ln_close.specs.declared.closing.Closing.{Closing}
+use Rattle.ln_link.specs.declared.ledger.EventRef as link
+use Rattle.ln_link.specs.declared.ledger.EventRef.TheVariants as link_ref
+use Rattle.ln_link.specs.Opening.{opening_of}
+use Rattle.ln_link.specs.Ledger.{Ledger}
+use Rattle.ln_link.specs.End.{End}
+use Rattle.ln_store.specs.declared.mark.EventRef as stored
+use Rattle.ln_store.specs.declared.mark.EventRef.TheVariants as ref
+use Rattle.ln_store.specs.declared.record.Flags.{Flags}
+use Rattle.ln_store.specs.declared.record.Agreement.{Agreement}
+use Rattle.ln_store.specs.declared.record.Sides.{Sides}
+use Rattle.ln_store.specs.declared.record.Base.{Base}
+use Rattle.ln_store.specs.declared.record.Window.{Window}
+use Rattle.ln_store.specs.declared.record.Covered.{Covered}
+use Rattle.ln_store.specs.declared.record.Pairs.{Pairs}
+use Rattle.ln_store.specs.declared.record.Events.{Events}
+use Rattle.ln_store.specs.declared.record.Forwards.{Forwards}
+use Rattle.ln_store.specs.declared.record.ClosingFees.{ClosingFees}
+use Rattle.ln_store.specs.declared.record.Header.{Header}
+use Rattle.ln_store.specs.declared.record.Commitments.{Commitments}
+use Rattle.ln_store.specs.declared.record.Updates.{Updates}
+use Rattle.ln_store.specs.declared.record.Progress.{Progress}
+use Rattle.ln_store.specs.declared.record.Items.{Items}
+
+-- ---- which channel and end it is, and how far it is
+
+abbrev pub flags_of : End → Flags
+flags_of e = record {
+  ready_sent = e.marks.ready_sent;
+  ready_received = e.marks.ready_received;
+  shut_sent = e.closing.shut;
+  shut_received = e.closing.peer_shut;
+  later = e.dance.later;
+}
+
+unfoldable pub header_of : Option Refusal → End → Header
+header_of failure e =
+    record { channel = e.dance.channel; role = e.closing.role; flags = flags_of e; failure = failure }
+
+-- ---- what both sides agreed on
+
+-- the bytes of a message behind its type
+unfoldable pub payload_of : Wire → List ℕ
+payload_of w = drop 2 (wire_bytes w)
+
+abbrev pub place_of : ShortId → List ℕ
+place_of id = short_id_bytes id.block id.tx id.output
+
+unfoldable pub agreement_of : End → Agreement
+agreement_of e = record {
+  open_payload = payload_of (open_wire e.terms.open_channel);
+  accept_payload = payload_of (accept_wire e.terms.accept_channel);
+  place = option_map place_of e.marks.short_id;
+  fees = e.closing.fees;
+  script = e.terms.script;
+  peer_script = e.terms.peer_script;
+}
+
+-- ---- the updates
+
+abbrev pub no_sides : Sides
+no_sides = record { funder = 0; fundee = 0 }
+
+-- no update is in the base
+abbrev pub base_of : Opening → Base
+base_of o = record {
+  updates = no_sides;
+  next_ids = no_sides;
+  balances = record { funder = first_balance o Funder; fundee = first_balance o Fundee };
+  feerate = o.feerate;
+  live = [];
+}
+
+abbrev pub window_of : Role → List Update → List Update → Window
+window_of Funder own received = record { funder = own; fundee = received }
+window_of Fundee own received = record { funder = received; fundee = own }
+
+abbrev pub covered_of : Counts → Covered
+covered_of c = record { own = c.own; peer = c.peer }
+
+abbrev pub pairs_of : Log → Pairs
+pairs_of l = record {
+  signed = covered_of l.signed;
+  acknowledged = covered_of l.acknowledged;
+  current = covered_of l.current;
+}
+
+unfoldable pub updates_of : Opening → Role → Log → Updates
+updates_of o role l = record { base = base_of o; window = window_of role l.own l.received; pairs = pairs_of l }
+
+-- ---- what became of them
+
+abbrev pub event_of : link.EventRef → stored.EventRef
+event_of (link_ref.Own n) = ref.Own n
+event_of (link_ref.Peer n) = ref.Peer n
+event_of link_ref.Close = ref.Close
+
+abbrev pub events_of : Ledger → Events
+events_of l = record { decided = l.decided; undecided = map event_of l.undecided }
+
+-- there are no decisions yet
+abbrev pub no_forwards : Forwards
+no_forwards = record { decisions = []; results = [] }
+
+abbrev pub fees_of : Closing → ClosingFees
+fees_of c = record { own = c.own_fee; peer = c.peer_fee; closed = c.closed }
+
+unfoldable pub progress_of : End → Progress
+progress_of e = record { events = events_of e.ledger; forwards = no_forwards; fees = fees_of e.closing }
+
+-- ---- all of it
+
+abbrev pub commitments_of : Dancer → Commitments
+commitments_of d = record { numbers = d.numbers; peer = d.peer }
+
+unfoldable pub items_of : Option Refusal → End → Items
+items_of failure e = record {
+  header = header_of failure e;
+  agreement = agreement_of e;
+  commitments = commitments_of e.dance;
+  updates = updates_of (opening_of e.terms) e.closing.role (after_drop e.dance.log);
+  progress = progress_of e;
+}
