@@ -13,6 +13,8 @@ mod close;
 #[cfg(test)]
 mod dance;
 #[cfg(test)]
+mod durable;
+#[cfg(test)]
 mod forward;
 #[cfg(test)]
 mod hooks;
@@ -38,6 +40,8 @@ mod record;
 mod relay;
 #[cfg(test)]
 mod resume;
+#[cfg(test)]
+mod rows;
 #[cfg(test)]
 mod script;
 #[cfg(test)]

@@ -79,7 +79,7 @@ fn config(alloc: Global, fees: Range) -> Config {
     }
 }
 
-fn spec(alloc: Global) -> Result<FitSpec, Refusal> {
+pub fn spec(alloc: Global) -> Result<FitSpec, Refusal> {
     let spec = OpenSpec {
         config: config(alloc, (200, 300, 400)),
         funding: 1_000_000,
@@ -98,7 +98,7 @@ fn spec(alloc: Global) -> Result<FitSpec, Refusal> {
     }
 }
 
-fn fit(alloc: Global, fees: Range) -> Result<FitConfig, Refusal> {
+pub fn fit(alloc: Global, fees: Range) -> Result<FitConfig, Refusal> {
     let config = config(alloc, fees);
     if config.fits() {
         Ok(FitConfig::new(config))

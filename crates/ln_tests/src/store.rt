@@ -8,7 +8,7 @@ use std::alloc::Global;
 
 /// A store whose save of this number fails, counted from 0, with the old record left or the new one.
 #[derive(Drop)]
-struct FailingStore {
+pub struct FailingStore {
     inner: MemoryStore,
     saves_left: u64,
     leaves_new: bool,
@@ -16,7 +16,7 @@ struct FailingStore {
 }
 
 impl FailingStore {
-    fn new(alloc: Global, saves_left: u64, leaves_new: bool) -> FailingStore {
+    pub fn new(alloc: Global, saves_left: u64, leaves_new: bool) -> FailingStore {
         FailingStore {
             inner: MemoryStore::new(alloc),
             saves_left,

@@ -1,0 +1,142 @@
+//! A link that saves before it hands out: what its store has behind each call, and a save that fails.
+
+use crate::code_of;
+use crate::link::{fit, spec};
+use crate::store::FailingStore;
+use crate::testing::{FUNDEE, FUNDER};
+use ln_bytes::ShortId;
+use ln_durable::Durable;
+use ln_keys::ToyKeys;
+use ln_link::{Command, Link, Output};
+use ln_msgs::Refusal;
+use ln_store::{MemoryStore, RecordStore, decode_record};
+use std::alloc::Global;
+
+/// A link and its store.
+#[derive(Drop)]
+struct Side<S: RecordStore + Drop> {
+    link: Durable<ToyKeys>,
+    store: S,
+}
+
+/// What a side answers to all that it is sent.
+fn taken<S: RecordStore + Drop>(
+    alloc: Global,
+    outputs: Vec<Output>,
+    side: &mut Side<S>,
+) -> Result<Vec<Output>, Refusal> {
+    let mut all = Vec::new(alloc);
+    for output in outputs {
+        if let Output::Send(message) = output {
+            for answer in side.link.handle(alloc, &mut side.store, message)? {
+                all.push(answer)?;
+            }
+        }
+    }
+    Ok(all)
+}
+
+/// The four messages of an opening pass.
+fn opened<S: RecordStore + Drop, T: RecordStore + Drop>(
+    alloc: Global,
+    a: &mut Side<S>,
+    b: &mut Side<T>,
+) -> Result<(), Refusal> {
+    drop(b.link.connect(alloc)?);
+    let created = a.link.connect(alloc)?;
+    let accepted = taken(alloc, created, b)?;
+    let created = taken(alloc, accepted, a)?;
+    let signed = taken(alloc, created, b)?;
+    drop(taken(alloc, signed, a)?);
+    Ok(())
+}
+
+fn confirmed<S: RecordStore + Drop, T: RecordStore + Drop>(
+    alloc: Global,
+    a: &mut Side<S>,
+    b: &mut Side<T>,
+) -> Result<(), Refusal> {
+    let Some(id) = ShortId::parse("1x1x0") else {
+        return Err(Refusal::Truncated);
+    };
+    let from_a = a.link.command(alloc, &mut a.store, Command::Confirm(id))?;
+    let from_b = b.link.command(alloc, &mut b.store, Command::Confirm(id))?;
+    drop(taken(alloc, from_a, b)?);
+    drop(taken(alloc, from_b, a)?);
+    Ok(())
+}
+
+/// The funder's end changes the fee and signs: by what it is refused, 0 where it isn't.
+fn signed<S: RecordStore + Drop>(alloc: Global, a: &mut Side<S>) -> (u32, u32) {
+    let fee = a.link.command(alloc, &mut a.store, Command::Fee(300));
+    let sign = a.link.command(alloc, &mut a.store, Command::Sign);
+    (code_of(fee.err()), code_of(sign.err()))
+}
+
+/// Of the one record of a store: how many updates its side's last signature covers, and whether `channel_ready` was
+/// sent and taken.
+fn recorded<S: RecordStore + Drop>(
+    alloc: Global,
+    side: &mut Side<S>,
+) -> Result<(u64, bool, bool), Refusal> {
+    let ids = side.store.ids(alloc)?;
+    let Some(id) = ids.as_slice().first() else {
+        return Err(Refusal::NotReady);
+    };
+    let Some(bytes) = side.store.load(alloc, id)? else {
+        return Err(Refusal::NotReady);
+    };
+    let record = decode_record(alloc, bytes.as_slice())?;
+    let items = record.items();
+    let flags = items.header.flags;
+    Ok((
+        items.updates.pairs.signed.own,
+        flags.ready_sent,
+        flags.ready_received,
+    ))
+}
+
+fn played<S: RecordStore + Drop, T: RecordStore + Drop>(
+    alloc: Global,
+    a: &mut Side<S>,
+    b: &mut Side<T>,
+) -> Result<(), Refusal> {
+    opened(alloc, a, b)?;
+    confirmed(alloc, a, b)
+}
+
+/// What is recorded once both are ready, what is answered to a fee and a signature, and what is recorded then; the
+/// funder's store fails at its save of this number.
+fn told(
+    alloc: Global,
+    saves: u64,
+    leaves_new: bool,
+) -> Result<((u64, bool, bool), (u32, u32), (u64, bool, bool)), Refusal> {
+    let mut a = Side {
+        link: Durable::new(Link::funder(FUNDER, spec(alloc)?)),
+        store: FailingStore::new(alloc, saves, leaves_new),
+    };
+    let mut b = Side {
+        link: Durable::new(Link::fundee(FUNDEE, fit(alloc, (350, 400, 500))?)),
+        store: MemoryStore::new(alloc),
+    };
+    played(alloc, &mut a, &mut b)?;
+    let before = recorded(alloc, &mut a)?;
+    let answers = signed(alloc, &mut a);
+    let behind = recorded(alloc, &mut a)?;
+    Ok((before, answers, behind))
+}
+
+#[test]
+fn saves(rt: HostRuntime) {
+    let ready = (0, true, true);
+    for (saves, leaves_new, answers, behind) in [
+        (100, false, (0, 0), 1),
+        (4, false, (0, 61), 0),
+        (4, true, (0, 61), 1),
+        (3, false, (61, 62), 0),
+    ] {
+        let told = told(rt.alloc(), saves, leaves_new);
+        assert_eq!(rt; told, Ok((ready, answers, (behind, true, true))), "{saves}");
+    }
+}
