@@ -59,6 +59,15 @@ use Rattle.ln_pair.specs.Moves.{moves_taken, closes, shuts}
 use Rattle.ln_pair.specs.Told.{as_told, events_in, told_by, told_on, told_in, told, all_told}
 use Rattle.ln_pair.proofs.Steps.{front_reads}
 use Rattle.ln_pair.proofs.Moving.{no_move, tells, settled_closed, still_open}
+use Rattle.std.proofs.Common.{◌&&◌}
+use Rattle.ln_dance.specs.declared.resume.Resend.{Resend}
+use Rattle.ln_dance.specs.declared.resume.Resend.TheVariants as resend
+use Rattle.ln_dance.specs.Resume.{owed, is_before_the_first}
+use Rattle.ln_link.specs.declared.output.Output.TheVariants as output
+use Rattle.ln_link.specs.Outputs.{all_of}
+use Rattle.ln_link.specs.End.{fee_sent, due_sent, due_fee, shutdown_sent, shutdown_message}
+use Rattle.ln_link.specs.Commands.{ready_message}
+use Rattle.ln_link.specs.Resume.{all_sent, one_again, owed_again, shutdown_again, fee_again, sent_again, ready_again}
 use Rattle.ln_pair.proofs.Tellings.{in_numbered, in_append, numbered_append, told_append, events_append, held_told}
 use Rattle.ln_pair.proofs.Tellings.{grown_so, refs_count, entered_next, tail_none, tail_close, tail_other}
 use Rattle.ln_pair.proofs.Tellings.{accept_told, learn_told, accept_other, learn_other}
@@ -231,6 +240,70 @@ fee_tells k r o m (answer.EchoAndClose fee) x y e =
     closed_told k r o fee (answer.EchoAndClose fee) x t y _
     (still_open x.closing.closed m.fee_satoshis _ (answer.EchoAndClose fee) (λ q. absurd (cc)) e) refl refl refl
 
+-- ---- no event is among the messages
+
+shutdown_none : (owed : Bool) (m : Message) → events_in (cond owed (output.Send m ∷ []) []) ≡ []
+shutdown_none true m = refl
+shutdown_none false m = refl
+
+fee_none : (k : Signer) (e : End) (f : Option ℕ) → events_in (fee_sent k e f) ≡ []
+fee_none k e None = refl
+fee_none k e (Some fee) = refl
+
+both_none : (os ps : List Output) → events_in os ≡ [] → events_in ps ≡ [] → events_in (os ++ ps) ≡ []
+both_none os ps e f = in_append os ps ∙ ap (λ z. z ++ events_in ps) e ∙ f
+
+due_none : (k : Signer) (e : End) → events_in (due_sent k e) ≡ []
+due_none k e = both_none (shutdown_sent e) (fee_sent k (answers_shutdown e) (due_fee (answers_shutdown e)))
+    (shutdown_none (owes_shutdown e) (message.Shutdown (shutdown_message e)))
+    (fee_none k (answers_shutdown e) (due_fee (answers_shutdown e)))
+
+updates_none : (ms : List Message) → events_in (all_sent ms) ≡ []
+updates_none [] = refl
+updates_none (m ∷ ms) = updates_none ms
+
+one_none : (w : Resend) → events_in (one_again w) ≡ []
+one_none (resend.Updates ms) = updates_none ms
+one_none (resend.Signature m) = refl
+one_none (resend.Revocation m) = refl
+
+owed_none : (ws : List Resend) → events_in (owed_again ws) ≡ []
+owed_none [] = refl
+owed_none (w ∷ ws) = both_none (one_again w) (owed_again ws) (one_none w) (owed_none ws)
+
+again_none : (k : Signer) (m : ChannelReestablish) (e : End) → events_in (sent_again k m e) ≡ []
+again_none k m e =
+    let ready = ready_again k m e in
+    let owes = owed_again (owed k m e.dance) in
+    both_none ((ready ++ owes) ++ shutdown_again e) (fee_again k e)
+    (both_none (ready ++ owes) (shutdown_again e) (both_none ready owes
+    (shutdown_none (is_before_the_first m e.dance && e.marks.ready_sent) (message.ChannelReady (ready_message k e)))
+    (owed_none (owed k m e.dance))) (shutdown_none e.closing.shut (message.Shutdown (shutdown_message e))))
+    (fee_none k e e.closing.own_fee)
+
+turn_none : (k : Signer) (n : Notice) (e : End) → events_in (turn_of k n e).handed.sent ≡ []
+turn_none k (Update u) e = refl
+turn_none k (Sign m) e = refl
+turn_none k (Revoke m) e = refl
+turn_none k (Ready m) e = refl
+turn_none k (Shutdown m) e = refl
+turn_none k (Close m) e = refl
+turn_none k (Again m) e = refl
+
+answer_none : (k : Signer) (ans : Answer) (e : End) → events_in (answering k ans e).handed.sent ≡ []
+answer_none k answer.Nothing e = refl
+answer_none k (answer.Close fee) e = refl
+answer_none k (answer.EchoAndClose fee) e = refl
+answer_none k (answer.Propose fee) e = refl
+
+with_sent : (r : Role) (o : Opening) (x n : End) (y : Party) (ms : List Move) (sent os : List Output)
+    → events_in sent ≡ [] → Tells r o x n y ms os → Tells r o x n y ms (sent ++ os)
+with_sent r o x n y ms sent os none t = record {
+  told = in_append sent os ∙ ap (λ z. z ++ events_in os) none ∙ t.told;
+  next = t.next;
+  other = t.other;
+}
+
 -- ---- two ends
 
 asked_none : (q r : Role) (c : Command) (e : End) (m : Machine) → events q (moves_asked r c e) (Some m) ≡ []
@@ -259,7 +332,10 @@ module _ (a b : Signer) (keys : AreKeys a b) (r : Role) (o : Opening) where
       let m = message_of channel n in
       subst (λ res. Tells r o p.x (answers res q).x (party p.y) (moves_of_message r m p.x res) (told_by res))
       (sym (met_row a b keys p is channel n ns to_y other h))
-      (turn_tells a b keys r o channel p.y_line p.x p.y p.said_x p.said_y n ns to_y other h)
+      (with_sent r o p.x _ (party p.y) _ ((turn_of a n p.x).handed.sent ++ due_sent a (turn_of a n p.x).end)
+      (turn_of a n p.x).handed.told (both_none (turn_of a n p.x).handed.sent (due_sent a (turn_of a n p.x).end)
+      (turn_none a n p.x) (due_none a (turn_of a n p.x).end))
+      (turn_tells a b keys r o channel p.y_line p.x p.y p.said_x p.said_y n ns to_y other h))
 
   meeting : (p : Ends) → p.x_line ≡ Awaiting → (channel : List ℕ) (m : ChannelReestablish) (ns to_y : List Notice)
       → Hold a b channel Awaiting p.y_line p.x p.y (Again m ∷ ns) to_y p.said_x p.said_y
@@ -272,9 +348,11 @@ module _ (a b : Signer) (keys : AreKeys a b) (r : Role) (o : Opening) where
       let n = settled p.x in
       subst (λ res. Tells r o p.x (answers res q).x (party p.y) (moves_of_message r w p.x res) (told_by res))
       (sym (meeting_row a b keys p is channel m ns to_y h))
+      (with_sent r o p.x n (party p.y) _ (sent_again a m p.x ++ due_sent a p.x) []
+      (both_none (sent_again a m p.x) (due_sent a p.x) (again_none a m p.x) (due_none a p.x))
       (silent r o p.x n (party p.y) _ [] refl (settled_ledger p.x)
       (λ z. tail_none z r p.x.closing.closed n.closing.closed p.x.closing.shut n.closing.shut _
-      (settled_closed r o (party p.y) p.x)))
+      (settled_closed r o (party p.y) p.x))))
 
   fee_by : (begun right : Bool) (res : Result Answer Refusal) (p : Ends) (channel : List ℕ) (m : ClosingSigned)
       (ns : List Notice) → answer_to p.x.closing m.fee_satoshis (range_in m) ≡ res
@@ -284,8 +362,13 @@ module _ (a b : Signer) (keys : AreKeys a b) (r : Role) (o : Opening) where
       (moves_of_message r (message.ClosingSigned m) p.x row) (told_by row)
   fee_by true true (Ok ans) p channel m ns e row is =
       let q : Ends = record p { to_x = messages_of channel ns } in
+      let n = answered_end m ans p.x in
+      let t = answering a ans n in
       subst (λ z. Tells r o p.x (answers z q).x (party p.y) (moves_of_message r (message.ClosingSigned m) p.x z)
-      (told_by z)) (sym is) (fee_tells a r o m ans p.x (party p.y) e)
+      (told_by z)) (sym is)
+      (with_sent r o p.x _ (party p.y) _ (t.handed.sent ++ due_sent a t.end) t.handed.told
+      (both_none t.handed.sent (due_sent a t.end) (answer_none a ans n) (due_none a t.end))
+      (fee_tells a r o m ans p.x (party p.y) e))
   fee_by true true (Err z) p channel m ns e row is =
       let q : Ends = record p { to_x = messages_of channel ns } in
       subst (λ z. Tells r o p.x (answers z q).x (party p.y) (moves_of_message r (message.ClosingSigned m) p.x z)
@@ -324,12 +407,12 @@ module _ (a b : Signer) (keys : AreKeys a b) (r : Role) (o : Opening) where
       (ap (λ l. message_at a l (message.ClosingSigned m) p.x) is)
   delivered_by Met p is channel (Again m ∷ ns) to_y h = met p is channel (Again m) ns to_y refl h
 
-  given_by : (f : Option Refusal) (t : Turn) (c : Command) (p : Ends) → events_in t.handed.told ≡ []
+  given_by : (f : Option Refusal) (t : Turn) (c : Command) (p : Ends) → events_in (all_of t.handed) ≡ []
       → t.end.ledger ≡ p.x.ledger
       → Tells r o p.x (answers (unless f t) p).x (party p.y) (moves_of_command r c p.x (unless f t))
       (told_by (unless f t))
   given_by None t c p none same =
-      silent r o p.x t.end (party p.y) (moves_asked r c p.x) t.handed.told none same
+      silent r o p.x t.end (party p.y) (moves_asked r c p.x) (all_of t.handed) none same
       (λ q. asked_none q r c p.x (made r o (party p.x) (party p.y)))
   given_by (Some z) t c p none same = rests p p refl
 
@@ -344,7 +427,8 @@ module _ (a b : Signer) (keys : AreKeys a b) (r : Role) (o : Opening) where
   given (command.Malformed id sha code) p = given_by _ _ (command.Malformed id sha code) p refl refl
   given (command.Fee feerate) p = given_by _ _ (command.Fee feerate) p refl refl
   given command.Sign p = given_by (sign_command_fault p.x) _ command.Sign p refl refl
-  given (command.Shutdown script) p = given_by (shut_fault script p.x) _ (command.Shutdown script) p refl
+  given (command.Shutdown script) p = given_by (shut_fault script p.x) _ (command.Shutdown script) p
+      (both_none (due_sent a (shuts_down script p.x)) [] (due_none a (shuts_down script p.x)) refl)
       (settled_ledger (shuts_down script p.x))
   given (command.Decide event mark) p = rests p p refl
   given (command.Forget id) p = rests p p refl

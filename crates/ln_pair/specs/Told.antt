@@ -13,6 +13,7 @@ use Rattle.ln_hooks.specs.Event.{event_of}
 use Rattle.ln_link.specs.declared.link.Line.{Line}
 use Rattle.ln_link.specs.declared.output.Output.{Output}
 use Rattle.ln_link.specs.declared.output.Output.TheVariants as output
+use Rattle.ln_link.specs.Outputs.{all_of}
 use Rattle.ln_link.specs.End.{End, Turn}
 use Rattle.ln_pair.specs.Ends.{Ends, turned, message_at, command_at, Act, Deliver, Give, Lose, Step, By, Connect}
 use Rattle.ln_pair.specs.Ends.{happens}
@@ -26,7 +27,7 @@ abbrev pub as_told : List Event → List ChannelEvent
 as_told [] = []
 as_told (e ∷ es) = cons_option (event_at e) (as_told es)
 
--- the events among what is told, with their numbers
+-- the events among what is handed out, with their numbers
 abbrev pub events_in : List Output → List Output
 events_in [] = []
 events_in (output.Send m ∷ os) = events_in os
@@ -35,9 +36,9 @@ events_in (output.Committed own peer ∷ os) = events_in os
 events_in (output.Event n e ∷ os) = output.Event n e ∷ events_in os
 events_in (output.Closed fee ∷ os) = events_in os
 
--- what is told beside the messages to the peer
+-- what is handed out: messages to the peer, and what is told beside them
 abbrev pub told_by : Result Turn Refusal → List Output
-told_by (Ok t) = t.handed.told
+told_by (Ok t) = all_of t.handed
 told_by (Err r) = []
 
 abbrev pub told_on : Signer → Line → List Message → End → List Output
@@ -49,7 +50,7 @@ told_in keys Deliver p = told_on keys p.x_line p.to_x p.x
 told_in keys (Give c) p = told_by (command_at keys p.x_line c p.x)
 told_in keys Lose p = []
 
--- by the end of this role; a connection that comes up tells nothing
+-- by the end of this role; what a connection that comes up hands out is a message alone, and left out
 abbrev pub told : Signer → Signer → Role → Step → Ends → List Output
 told a b Funder (By Funder act) p = told_in a act p
 told a b Funder (By Fundee act) p = []

@@ -39,7 +39,7 @@ pub fn each_move_may_be_made()
         (Some (machine_of (run a b steps (opened funder fundee)))) }
 {}
 
-/// A law: the events that an end tells over all steps, with their numbers, are those of the machine's moves for its
+/// A law: the events among all that an end hands out over all steps, with their numbers, are those of the moves for its
 /// side: each once, in their order, numbered from 0. These are each add and each removal of either side as the end
 /// comes to hold it as irrevocably committed, and its close; an add of more than an event can tell is none.
 pub fn events_are_told()
