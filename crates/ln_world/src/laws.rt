@@ -20,7 +20,7 @@ use ln_keys::ChannelKeys;
 
 /// A law: in each channel, what either end holds as irrevocably committed is, each update once and in the order in
 /// which it was sent, a beginning of what the other end has covered by a signature.
-pub fn held_was_covered<K: ChannelKeys + Copy>()
+pub fn headline<K: ChannelKeys + Copy>()
     ensures { (steps : List (Step K K.ChannelKeys)) → BringFit K.ChannelKeys steps
         → OfEach Headline (run K.ChannelKeys steps empty) }
 {}
@@ -28,14 +28,14 @@ pub fn held_was_covered<K: ChannelKeys + Copy>()
 /// A law: in each channel, the message in front of either end is taken by its link, or passed over where it is a
 /// `warning`, but for a `closing_signed` whose fee can't be agreed to, which is refused as such (36) and as nothing
 /// else. So no link of an open channel has failed.
-pub fn no_message_is_refused<K: ChannelKeys + Copy>()
+pub fn never_refused<K: ChannelKeys + Copy>()
     ensures { (steps : List (Step K K.ChannelKeys)) → BringFit K.ChannelKeys steps
         → OfEach (NoneRefused K.signer) (run K.ChannelKeys steps empty) }
 {}
 
 /// A law: in each channel, where both ends have met, nothing is in flight and neither has anything to sign, both hold
 /// every update of either side, and their commitments are worth the same.
-pub fn both_agree_at_rest<K: ChannelKeys + Copy>()
+pub fn agreement<K: ChannelKeys + Copy>()
     ensures { (steps : List (Step K K.ChannelKeys)) → BringFit K.ChannelKeys steps
         → OfEach Agrees (run K.ChannelKeys steps empty) }
 {}

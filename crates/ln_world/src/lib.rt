@@ -16,9 +16,7 @@ mod world;
 pub use answer::Answer;
 pub use both::Place;
 pub use channel::{Channel, open_channel};
-pub use laws::{
-    both_agree_at_rest, held_was_covered, no_add_follows_a_shutdown, no_message_is_refused,
-};
+pub use laws::{agreement, headline, never_refused, no_add_follows_a_shutdown};
 pub use line::{EndLine, Ending, Line, Word};
 pub use settings::{Setting, Settings, may_bring};
 pub use step::{Act, End, Node, Open, Partners, Step};

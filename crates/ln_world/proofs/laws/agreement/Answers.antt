@@ -1,5 +1,5 @@
 use Rattle.ln_world.proofs.Promised.{agrees}
-use Rattle.ln_world.proofs.laws.both_agree_at_rest.Goals as goal
+use Rattle.ln_world.proofs.laws.agreement.Goals as goal
 
 pub returns : goal.returns
 returns g c = agrees g.K.ChannelKeys

@@ -1,5 +1,5 @@
 use Rattle.ln_world.proofs.Promised.{none_is_refused}
-use Rattle.ln_world.proofs.laws.no_message_is_refused.Goals as goal
+use Rattle.ln_world.proofs.laws.never_refused.Goals as goal
 
 pub returns : goal.returns
 returns g c = none_is_refused g.K.ChannelKeys
