@@ -1,4 +1,4 @@
-"""A plain model of two ends of a channel and of the scripts that drive them, written from the rules of docs/PROTOCOL.md
+"""A plain model of channels, two ends each, and of the scripts that drive them, written from the rules of docs/PROTOCOL.md
 and docs/FORMATS.md alone: whole lists, no bytes, no keys. `report(script)` gives what `lnlink sim` has to print, or the
 line that is refused. checks/fuzz compares the two."""
 from hashlib import sha256

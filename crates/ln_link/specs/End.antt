@@ -56,7 +56,7 @@ end_dropped e = with_dance (with_log (after_drop e.dance.log) e.dance) e
 
 -- ---- where it stands
 
--- both sides have sent channel_ready
+-- it has sent channel_ready, and taken the peer's
 abbrev pub is_ready : End → Bool
 is_ready e = e.marks.ready_sent && e.marks.ready_received
 

@@ -114,7 +114,7 @@ impl Channel {
         self.dance.drop_unsigned();
     }
 
-    /// Whether both sides have sent `channel_ready`.
+    /// Whether it has sent `channel_ready`, and taken the peer's.
     pub fn is_ready(&self) -> bool
         ensures { result ≡ is_ready self.now }
     {

@@ -41,8 +41,8 @@ pub enum Stage {
 /// One link: one end of a channel from its opening to its close, with the connection that it has.
 ///
 /// It is new and without a connection at first; `connect` begins. A refusal by which a channel fails, 21 to 35 and 37,
-/// is kept, and answered to all messages and commands from then on. Where memory is refused (60) it halts, and answers
-/// 62 to everything.
+/// is kept, and answered from then on to all messages, and to all commands but `Decide` and `Forget`. Where memory is
+/// refused (60) it halts, and answers 62 to everything.
 #[derive(Drop)]
 pub struct Link<K: ChannelKeys + Drop> {
     pub(crate) keys: K,

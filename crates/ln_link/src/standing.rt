@@ -10,9 +10,9 @@ use std::alloc::Global;
 /// How far a channel is, for one of its ends.
 #[derive(Clone, Copy, Debug, PartialEq, Eq)]
 pub enum Life {
-    /// It was opened.
+    /// None of those below.
     Open,
-    /// Both sides have sent `channel_ready`.
+    /// This end has sent `channel_ready`, and taken the peer's.
     Ready,
     /// This end has sent `shutdown`.
     Shut,

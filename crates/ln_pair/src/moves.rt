@@ -17,7 +17,7 @@ ghost use Rattle.ln_pair.specs.Moves.{machine_of, history, after_all};
 ghost use Rattle.ln_pair.specs.Told.{as_told, events_in, all_told};
 
 /// A law: the opening, then the moves that the steps are, lead the machine to the opening and the two parties that the
-/// ends stand for. A command that isn't refused is its move: an update is proposed, a signature or a shutdown sent. A
+/// ends stand for. Of commands that aren't refused, an update is proposed, a signature or a shutdown sent. A
 /// `commitment_signed` that is taken is accepted, a `revoke_and_ack` learned from; a close, and a shutdown that an end
 /// owes and sends in its turn, are the move of that turn. A lost connection drops what no signature covers. What is
 /// refused is no move, nor is an update that is taken, a connection that comes back, or what is sent again then.

@@ -1,4 +1,4 @@
-//! Texts: scripts, the steps of nodes and channels, a line a step; a report of what they did; messages as text.
+//! Texts: scripts, each line one step of nodes and channels or a few; a report of what they did; messages as text.
 #![tactic(auto)]
 
 mod command;

@@ -1,7 +1,8 @@
 //! What nodes and channels promise over every list of steps: what is set, channels that are opened, messages that are
 //! delivered one at a time, commands that are given, and connections that are lost, at each end by itself, and come
 //! back (BOLT 2). Told of each channel's two links as the code leaves them, whatever their keys are that are partners.
-//! What the steps bring fits: fees are below 2^64 and points have 33 bytes, as is so of every step in code.
+//! What the steps bring fits: fees are below 2^64 and points have 33 bytes, as is so of every step in code. The
+//! last law is told of the moves of one channel.
 
 ghost use Rattle.std.specs.Prelude.{List};
 ghost use Rattle.ln_pair.specs.Promises.{AreSent};

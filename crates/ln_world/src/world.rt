@@ -103,9 +103,9 @@ impl<K: ChannelKeys + Copy> World<K> {
     ///
     /// What was set for a node counts in the channels that are opened from then on. A channel opens (BOLT 2, "Channel
     /// Establishment v1") where no other has its number, its ends are at two nodes, and `may_bring` takes what both
-    /// bring; an end acts or loses its connection where its channel is there and the node has an end of it; both ends
-    /// of a channel get a connection where both are down and neither has halted. Else nothing changes, and `Line::Idle`
-    /// is told.
+    /// bring; an end acts or loses its connection where its channel is there and the node has an end of it, and takes a
+    /// message where one is in flight to it; both ends of a channel get a connection where both are down and neither
+    /// has halted. Else nothing changes, and `Line::Idle` is told.
     pub fn step(
         &mut self,
         alloc: Global,
