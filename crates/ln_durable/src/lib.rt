@@ -1,4 +1,4 @@
-//! A link that saves before it hands out, and comes back from its record after a restart.
+//! A link that saves before it hands out.
 #![tactic(auto)]
 
 mod copy;
