@@ -3,8 +3,10 @@
 
 mod copy;
 mod durable;
+mod laws;
 mod payload;
 mod record;
 
 pub use durable::Durable;
+pub use laws::lost_connection_is_recorded;
 pub use record::to_record;
