@@ -15,7 +15,7 @@ use Rattle.ln_link.specs.State.{State, refused, halts}
 use Rattle.ln_link.specs.Step.{Done}
 use Rattle.ln_store.specs.Store.{Records, IsOneOf}
 use Rattle.ln_store.specs.Record.{record_bytes}
-use Rattle.ln_durable.specs.Record.{items_of}
+use Rattle.ln_durable.specs.Record.{items_of, NoRecord}
 
 -- a store as a call finds it or leaves it: its records, and how many of its calls have failed
 pub record Shelf : Type 0 where
@@ -36,15 +36,21 @@ with_records rs s = record { records = rs; failed = s.failed }
 abbrev pub saved : Option Refusal → Stage → Shelf → Shelf
 saved failure s shelf = with_records (stored failure s shelf.records) shelf
 
+-- there is an end to be saved, and it has no record
+abbrev pub CannotBeStored : Option Refusal → Option End → Type 0
+CannotBeStored failure (Some e) = NoRecord failure e
+CannotBeStored failure None = ⊥
+
 -- no memory, no record that has these items, or the store failed, which it counts
-abbrev pub FailsBy : Refusal → ℕ → ℕ → Type 0
-FailsBy e before behind =
-    ((e ≡ refusal.Memory) × (behind ≡ before))
-    ⊎ (((e ≡ refusal.Damaged) × (behind ≡ before)) ⊎ ((e ≡ refusal.Store) × HasRisen before behind))
+abbrev pub FailsBy : Refusal → Option Refusal → Option End → ℕ → ℕ → Type 0
+FailsBy r failure o before behind =
+    ((r ≡ refusal.Memory) × (behind ≡ before))
+    ⊎ (((r ≡ refusal.Damaged) × CannotBeStored failure o × (behind ≡ before))
+    ⊎ ((r ≡ refusal.Store) × HasRisen before behind))
 
 -- the store has the record that it had, or the one that was to be saved
 pub record IsUnsaved (e : Refusal) (failure : Option Refusal) (o : Option End) (before behind : Shelf) : Type 0 where
-  pub cause : FailsBy e before.failed behind.failed
+  pub cause : FailsBy e failure o before.failed behind.failed
   pub one_of_both : IsOneOf before.records (stored_end failure o before.records) behind.records
 
 abbrev pub Saves : Option Refusal → Option End → Result (Unit {0}) Refusal → Shelf → Shelf → Type 0

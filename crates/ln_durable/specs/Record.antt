@@ -1,17 +1,19 @@
 -- The record of an end of a channel: what of it outlives a lost connection, in the form in which it is stored. Its
 -- updates are those that signatures cover (BOLT 2, "Message Retransmission").
-use Rattle.std.specs.Prelude.{ℕ, List, [], drop, map, Option, option_map}
+use Rattle.std.specs.Prelude.{◌≡◌, ◌<◌, ◌⊎◌, ℕ, List, [], length, drop, map, Option, option_map, false}
 use Rattle.ln_bytes.specs.declared.short_id.ShortId.{ShortId}
 use Rattle.ln_bytes.specs.ShortId.{short_id_bytes}
 use Rattle.ln_msgs.specs.Messages.Message.{Wire, wire_bytes}
 use Rattle.ln_msgs.specs.Messages.Typed.{open_wire, accept_wire}
+use Rattle.ln_msgs.specs.Codec.Writing.{CanBeWritten}
+use Rattle.ln_msgs.specs.declared.codec.encoding.TheConstants.{LONGEST_MESSAGE}
 use Rattle.ln_msgs.specs.declared.refusals.refusal.Refusal.{Refusal}
 use Rattle.ln_keys.specs.declared.role.Role.{Role}
 use Rattle.ln_keys.specs.declared.role.Role.TheVariants.{Funder, Fundee}
 use Rattle.ln_log.specs.declared.log.Counts.{Counts}
 use Rattle.ln_log.specs.declared.opening.Opening.{Opening}
 use Rattle.ln_log.specs.declared.update.Update.{Update}
-use Rattle.ln_log.specs.Opening.{first_balance}
+use Rattle.ln_log.specs.Opening.{HasFunds, first_balance}
 use Rattle.ln_log.specs.Log.{Log, after_drop}
 use Rattle.ln_dance.specs.Dance.{Dancer}
 use Rattle.ln_close.specs.declared.closing.Closing.{Closing}
@@ -37,6 +39,7 @@ use Rattle.ln_store.specs.declared.record.Commitments.{Commitments}
 use Rattle.ln_store.specs.declared.record.Updates.{Updates}
 use Rattle.ln_store.specs.declared.record.Progress.{Progress}
 use Rattle.ln_store.specs.declared.record.Items.{Items}
+use Rattle.ln_store.specs.Readable.{is_readable}
 
 -- ---- which channel and end it is, and how far it is
 
@@ -137,3 +140,25 @@ items_of failure e = record {
   updates = updates_of (opening_of e.terms) e.closing.role (after_drop e.dance.log);
   progress = progress_of e;
 }
+
+-- ---- which ends have no record
+
+-- a message whose records may not stand behind its fields, or that is longer than a message may be
+abbrev pub IsUnwritable : Wire → Type 0
+IsUnwritable w = ¬ CanBeWritten w ⊎ (LONGEST_MESSAGE < length (wire_bytes w))
+
+-- a message of the opening can't be written
+unfoldable pub HasNoAgreement : End → Type 0
+HasNoAgreement e = IsUnwritable (open_wire e.terms.open_channel) ⊎ IsUnwritable (accept_wire e.terms.accept_channel)
+
+-- the first updates of a side aren't had one by one any more
+abbrev pub LacksUpdates : Log → Type 0
+LacksUpdates l = (0 < l.first.own) ⊎ (0 < l.first.peer)
+
+-- updates are gone that a record needs, or there can be no channel with these funds
+unfoldable pub HasNoUpdates : End → Type 0
+HasNoUpdates e = LacksUpdates e.dance.log ⊎ ¬ HasFunds (opening_of e.terms)
+
+-- an end without a record: its items can't be had, or aren't readable
+unfoldable pub NoRecord : Option Refusal → End → Type 0
+NoRecord failure e = HasNoAgreement e ⊎ (HasNoUpdates e ⊎ (is_readable (items_of failure e) ≡ false))

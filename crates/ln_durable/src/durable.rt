@@ -89,7 +89,7 @@ impl<K: ChannelKeys + Drop> Durable<K> {
     ghost use Rattle.ln_link.specs.Step.{Answered, connected, handled, commanded};
     ghost use Rattle.ln_durable.specs.Durable.{Keeps, Refuses, is_failing, AnswersMessage, AnswersCommand};
 
-    /// A link that is new, or that came back from its record. Takes no memory.
+    /// A link that saves, over this one. Takes no memory.
     pub fn new(link: Link<K>) -> Durable<K>
         ensures { result ≡ link }
     {

@@ -1,10 +1,12 @@
-//! A link that saves before it hands out, and comes back from its record after a restart.
+//! A link that saves before it hands out.
 #![tactic(auto)]
 
 mod copy;
 mod durable;
+mod laws;
 mod payload;
 mod record;
 
 pub use durable::Durable;
+pub use laws::lost_connection_is_recorded;
 pub use record::to_record;

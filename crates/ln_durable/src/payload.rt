@@ -3,7 +3,7 @@
 ghost use Rattle.std.specs.Prelude.{◌≡◌, ◌⊎◌, drop, IfOk, IfErr};
 ghost use Rattle.ln_msgs.specs.declared.refusals.refusal.Refusal.TheVariants as refusal;
 ghost use Rattle.ln_msgs.specs.Messages.Typed.{wire, open_wire, accept_wire};
-ghost use Rattle.ln_durable.specs.Record.{payload_of};
+ghost use Rattle.ln_durable.specs.Record.{payload_of, IsUnwritable};
 
 use crate::copy::copy_records;
 use ln_bytes::{Bytes, Fault};
@@ -14,24 +14,26 @@ use std::alloc::Global;
 #[tactic(auto, unfolding(crate::specs::Record::payload_of))]
 fn payload(alloc: Global, message: &Message) -> Result<Bytes, Refusal>
     ensures payload { IfOk result (λ b. b ≡ payload_of (wire message.now)) }
-    ensures fails { IfErr result (λ r. (r ≡ refusal.Memory) ⊎ (r ≡ refusal.Damaged)) }
+    ensures fails { IfErr result (λ r. (r ≡ refusal.Memory)
+        ⊎ ((r ≡ refusal.Damaged) × IsUnwritable (wire message.now))) }
 {
     if !fits(message) {
         return Err(Refusal::Damaged);
     }
     match encode(alloc, message) {
         Ok(bytes) => behind_type(alloc, bytes.as_slice()),
-        Err(Fault::Memory) => Err(Refusal::Memory),
-        Err(_) => Err(Refusal::Damaged),
+        Err(Fault::TooLong) => Err(Refusal::Damaged),
+        Err(_) => Err(Refusal::Memory),
     }
 }
 
+// All but the first 2 bytes.
 fn behind_type(alloc: Global, bytes: &[u8]) -> Result<Bytes, Refusal>
     ensures payload { IfOk result (λ b. b ≡ drop 2 bytes.now) }
-    ensures fails { IfErr result (λ r. (r ≡ refusal.Memory) ⊎ (r ≡ refusal.Damaged)) }
+    ensures memory { IfErr result (λ r. r ≡ refusal.Memory) }
 {
     if bytes.len() < 2 {
-        return Err(Refusal::Damaged);
+        return Ok(Bytes::new(Vec::new(alloc)));
     }
     Ok(Bytes::new(Vec::from_slice(alloc, &bytes[2..])?))
 }
@@ -90,14 +92,16 @@ fn copy_accept(alloc: Global, message: &AcceptChannel) -> Result<AcceptChannel, 
 
 fn payload_of_open(alloc: Global, message: OpenChannel) -> Result<Bytes, Refusal>
     ensures payload { IfOk result (λ b. b ≡ payload_of (open_wire message)) }
-    ensures fails { IfErr result (λ r. (r ≡ refusal.Memory) ⊎ (r ≡ refusal.Damaged)) }
+    ensures fails { IfErr result (λ r. (r ≡ refusal.Memory)
+        ⊎ ((r ≡ refusal.Damaged) × IsUnwritable (open_wire message))) }
 {
     payload(alloc, &Message::OpenChannel(message))
 }
 
 fn payload_of_accept(alloc: Global, accept: AcceptChannel) -> Result<Bytes, Refusal>
     ensures payload { IfOk result (λ b. b ≡ payload_of (accept_wire accept)) }
-    ensures fails { IfErr result (λ r. (r ≡ refusal.Memory) ⊎ (r ≡ refusal.Damaged)) }
+    ensures fails { IfErr result (λ r. (r ≡ refusal.Memory)
+        ⊎ ((r ≡ refusal.Damaged) × IsUnwritable (accept_wire accept))) }
 {
     payload(alloc, &Message::AcceptChannel(accept))
 }
@@ -105,7 +109,8 @@ fn payload_of_accept(alloc: Global, accept: AcceptChannel) -> Result<Bytes, Refu
 /// The `open_channel` without its type; 70 where it can't be written.
 pub(crate) fn open_payload(alloc: Global, open: &OpenChannel) -> Result<Bytes, Refusal>
     ensures payload { IfOk result (λ b. b ≡ payload_of (open_wire open.now)) }
-    ensures fails { IfErr result (λ r. (r ≡ refusal.Memory) ⊎ (r ≡ refusal.Damaged)) }
+    ensures fails { IfErr result (λ r. (r ≡ refusal.Memory)
+        ⊎ ((r ≡ refusal.Damaged) × IsUnwritable (open_wire open.now))) }
 {
     payload_of_open(alloc, copy_open(alloc, open)?)
 }
@@ -113,7 +118,8 @@ pub(crate) fn open_payload(alloc: Global, open: &OpenChannel) -> Result<Bytes, R
 /// The `accept_channel` without its type; 70 where it can't be written.
 pub(crate) fn accept_payload(alloc: Global, accept: &AcceptChannel) -> Result<Bytes, Refusal>
     ensures payload { IfOk result (λ b. b ≡ payload_of (accept_wire accept.now)) }
-    ensures fails { IfErr result (λ r. (r ≡ refusal.Memory) ⊎ (r ≡ refusal.Damaged)) }
+    ensures fails { IfErr result (λ r. (r ≡ refusal.Memory)
+        ⊎ ((r ≡ refusal.Damaged) × IsUnwritable (accept_wire accept.now))) }
 {
     payload_of_accept(alloc, copy_accept(alloc, accept)?)
 }

@@ -1,12 +1,14 @@
 //! The record of an end of a channel.
 
-ghost use Rattle.std.specs.Prelude.{◌≡◌, ◌≤◌, ◌⊎◌, IfOk, IfErr, length, take, option_map};
+ghost use Rattle.std.specs.Prelude.{◌≡◌, ◌≤◌, ◌<◌, ◌⊎◌, IfOk, IfErr, length, take, option_map};
 ghost use Rattle.ln_msgs.specs.declared.refusals.refusal.Refusal.TheVariants as refusal;
-ghost use Rattle.ln_log.specs.Log.{after_drop, updates_of as sent_by};
+ghost use Rattle.ln_log.specs.Log.{after_drop, first_of, updates_of as sent_by};
+ghost use Rattle.ln_log.specs.Opening.{HasFunds};
 ghost use Rattle.ln_link.specs.Opening.{opening_of};
 ghost use Rattle.ln_durable.specs.Record.{flags_of, header_of, place_of, agreement_of, base_of, window_of, covered_of};
 ghost use Rattle.ln_durable.specs.Record.{pairs_of, updates_of, events_of};
 ghost use Rattle.ln_durable.specs.Record.{fees_of, progress_of, commitments_of, items_of};
+ghost use Rattle.ln_durable.specs.Record.{HasNoAgreement, HasNoUpdates, NoRecord};
 
 use crate::copy::{copy_bytes, copy_events, copy_updates};
 use crate::payload::{accept_payload, open_payload};
@@ -68,10 +70,10 @@ fn copy_script(alloc: Global, script: &Option<Bytes>) -> Result<Option<Bytes>, R
     }
 }
 
-#[tactic(auto, unfolding(crate::specs::Record::agreement_of))]
+#[tactic(auto, unfolding(crate::specs::Record::agreement_of, crate::specs::Record::HasNoAgreement))]
 fn agreement_of(alloc: Global, channel: &Channel) -> Result<Agreement, Refusal>
     ensures agreement { IfOk result (λ a. a ≡ agreement_of channel.now) }
-    ensures fails { IfErr result (λ r. (r ≡ refusal.Memory) ⊎ (r ≡ refusal.Damaged)) }
+    ensures fails { IfErr result (λ r. (r ≡ refusal.Memory) ⊎ ((r ≡ refusal.Damaged) × HasNoAgreement channel.now)) }
 {
     let terms = channel.terms();
     Ok(Agreement {
@@ -111,7 +113,7 @@ fn opening_of(terms: &Terms) -> Opening
 // No update is in the base; 70 where there can be no channel with these funds.
 fn base_of(alloc: Global, opening: &Opening) -> Result<Base, Refusal>
     ensures base { IfOk result (λ b. b ≡ base_of opening.now) }
-    ensures fails { IfErr result (λ r. r ≡ refusal.Damaged) }
+    ensures fails { IfErr result (λ r. (r ≡ refusal.Damaged) × (¬ HasFunds opening.now)) }
 {
     if !opening.has_funds() {
         return Err(Refusal::Damaged);
@@ -176,7 +178,7 @@ fn log_of(channel: &Channel) -> &UpdateLog
 fn first_updates(log: &UpdateLog, side: Side, count: usize) -> Result<&[Update], Refusal>
     requires { count ≤ length (sent_by side log.now) }
     ensures updates { IfOk result (λ us. us.now ≡ take count (sent_by side log.now)) }
-    ensures fails { IfErr result (λ r. r ≡ refusal.Damaged) }
+    ensures fails { IfErr result (λ r. (r ≡ refusal.Damaged) × (0 < first_of side log.now)) }
 {
     if log.first(side) == 0 {
         Ok(log.between(side, 0, count))
@@ -187,7 +189,7 @@ fn first_updates(log: &UpdateLog, side: Side, count: usize) -> Result<&[Update],
 
 fn own_updates(alloc: Global, log: &UpdateLog) -> Result<Vec<Update>, Refusal>
     ensures updates { IfOk result (λ us. us.items ≡ (after_drop log.now).own) }
-    ensures fails { IfErr result (λ r. (r ≡ refusal.Memory) ⊎ (r ≡ refusal.Damaged)) }
+    ensures fails { IfErr result (λ r. (r ≡ refusal.Memory) ⊎ ((r ≡ refusal.Damaged) × (0 < log.now.first.own))) }
 {
     let updates = first_updates(log, Side::Own, log.counts(Pair::Signed).own)?;
     copy_updates(alloc, updates)
@@ -195,7 +197,7 @@ fn own_updates(alloc: Global, log: &UpdateLog) -> Result<Vec<Update>, Refusal>
 
 fn peer_updates(alloc: Global, log: &UpdateLog) -> Result<Vec<Update>, Refusal>
     ensures updates { IfOk result (λ us. us.items ≡ (after_drop log.now).received) }
-    ensures fails { IfErr result (λ r. (r ≡ refusal.Memory) ⊎ (r ≡ refusal.Damaged)) }
+    ensures fails { IfErr result (λ r. (r ≡ refusal.Memory) ⊎ ((r ≡ refusal.Damaged) × (0 < log.now.first.peer))) }
 {
     let count = log.counts(Pair::Current(Side::Own)).peer;
     let updates = first_updates(log, Side::Peer, count)?;
@@ -203,11 +205,11 @@ fn peer_updates(alloc: Global, log: &UpdateLog) -> Result<Vec<Update>, Refusal>
 }
 
 // The updates that signatures cover.
-#[tactic(auto, unfolding(crate::specs::Record::updates_of))]
+#[tactic(auto, unfolding(crate::specs::Record::updates_of, crate::specs::Record::HasNoUpdates))]
 fn updates_of(alloc: Global, channel: &Channel) -> Result<Updates, Refusal>
     ensures updates { IfOk result (λ u. u ≡ updates_of (opening_of channel.now.terms) channel.now.closing.role
         (after_drop channel.now.dance.log)) }
-    ensures fails { IfErr result (λ r. (r ≡ refusal.Memory) ⊎ (r ≡ refusal.Damaged)) }
+    ensures fails { IfErr result (λ r. (r ≡ refusal.Memory) ⊎ ((r ≡ refusal.Damaged) × HasNoUpdates channel.now)) }
 {
     let log = log_of(channel);
     let own = own_updates(alloc, log)?;
@@ -266,7 +268,8 @@ fn progress_of(alloc: Global, channel: &Channel) -> Result<Progress, Refusal>
 #[tactic(auto, unfolding(crate::specs::Record::items_of))]
 fn items_of(alloc: Global, failure: Option<Refusal>, channel: &Channel) -> Result<Items, Refusal>
     ensures items { IfOk result (λ i. i ≡ items_of failure channel.now) }
-    ensures fails { IfErr result (λ r. (r ≡ refusal.Memory) ⊎ (r ≡ refusal.Damaged)) }
+    ensures fails { IfErr result (λ r. (r ≡ refusal.Memory)
+        ⊎ ((r ≡ refusal.Damaged) × (HasNoAgreement channel.now ⊎ HasNoUpdates channel.now))) }
 {
     let agreement = agreement_of(alloc, channel)?;
     let updates = updates_of(alloc, channel)?;
@@ -283,15 +286,17 @@ fn items_of(alloc: Global, failure: Option<Refusal>, channel: &Channel) -> Resul
 /// The record of an end of a channel that has failed by this, or hasn't: what of it outlives a lost connection. Takes
 /// memory for it.
 ///
-/// Errors: 60 where there is no memory; 70 where no record has these items, as one of the messages of the opening can't
-/// be written or the items aren't readable.
+/// Errors: 60 where there is no memory; 70 where no record has these items: a message of the opening can't be written,
+/// the first updates aren't had one by one any more, there can be no channel with these funds, or the items aren't
+/// readable.
+#[tactic(auto, unfolding(crate::specs::Record::NoRecord))]
 pub fn to_record(
     alloc: Global,
     failure: Option<Refusal>,
     channel: &Channel,
 ) -> Result<LinkRecord, Refusal>
     ensures record { IfOk result (λ r. r ≡ items_of failure channel.now) }
-    ensures fails { IfErr result (λ r. (r ≡ refusal.Memory) ⊎ (r ≡ refusal.Damaged)) }
+    ensures fails { IfErr result (λ r. (r ≡ refusal.Memory) ⊎ ((r ≡ refusal.Damaged) × NoRecord failure channel.now)) }
 {
     let items = items_of(alloc, failure, channel)?;
     let readable = is_readable(alloc, &items)?;

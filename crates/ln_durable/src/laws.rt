@@ -1,0 +1,11 @@
+//! What a record has of an end.
+
+ghost use Rattle.std.specs.Prelude.{◌≡◌, Option};
+ghost use Rattle.ln_msgs.specs.declared.refusals.refusal.Refusal.{Refusal};
+ghost use Rattle.ln_link.specs.End.{End, end_dropped};
+ghost use Rattle.ln_durable.specs.Record.{items_of};
+
+/// An end has the same record before and behind a lost connection.
+pub fn lost_connection_is_recorded()
+    ensures { (failure : Option Refusal) (e : End) → items_of failure (end_dropped e) ≡ items_of failure e }
+{}
