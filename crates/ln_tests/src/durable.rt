@@ -7,7 +7,7 @@ use crate::testing::{FUNDEE, FUNDER};
 use ln_bytes::ShortId;
 use ln_durable::Durable;
 use ln_keys::ToyKeys;
-use ln_link::{Command, Link, Output};
+use ln_link::{Command, FitConfig, FitSpec, Link, Output};
 use ln_msgs::Refusal;
 use ln_store::{MemoryStore, RecordStore, decode_record};
 use std::alloc::Global;
@@ -105,26 +105,44 @@ fn played<S: RecordStore + Drop, T: RecordStore + Drop>(
     confirmed(alloc, a, b)
 }
 
-/// What is recorded once both are ready, what is answered to a fee and a signature, and what is recorded then; the
-/// funder's store fails at its save of this number.
-fn told(
+/// What is recorded once both are ready, what is answered to a fee and a signature, and what is recorded then.
+type Told = ((u64, bool, bool), (u32, u32), (u64, bool, bool));
+
+fn told<S: RecordStore + Drop, T: RecordStore + Drop>(
     alloc: Global,
-    saves: u64,
-    leaves_new: bool,
-) -> Result<((u64, bool, bool), (u32, u32), (u64, bool, bool)), Refusal> {
+    a: &mut Side<S>,
+    b: &mut Side<T>,
+) -> Result<Told, Refusal> {
+    played(alloc, a, b)?;
+    let before = recorded(alloc, a)?;
+    let answers = signed(alloc, a);
+    let behind = recorded(alloc, a)?;
+    Ok((before, answers, behind))
+}
+
+fn told_of_new(
+    alloc: Global,
+    store: FailingStore,
+    spec: FitSpec,
+    config: FitConfig,
+) -> Result<Told, Refusal> {
     let mut a = Side {
-        link: Durable::new(Link::funder(FUNDER, spec(alloc)?)),
-        store: FailingStore::new(alloc, saves, leaves_new),
+        link: Durable::new(Link::funder(FUNDER, spec)),
+        store,
     };
     let mut b = Side {
-        link: Durable::new(Link::fundee(FUNDEE, fit(alloc, (350, 400, 500))?)),
+        link: Durable::new(Link::fundee(FUNDEE, config)),
         store: MemoryStore::new(alloc),
     };
-    played(alloc, &mut a, &mut b)?;
-    let before = recorded(alloc, &mut a)?;
-    let answers = signed(alloc, &mut a);
-    let behind = recorded(alloc, &mut a)?;
-    Ok((before, answers, behind))
+    told(alloc, &mut a, &mut b)
+}
+
+/// The same where the funder's store fails at its save of this number, counted from 0.
+fn told_where_a_save_fails(alloc: Global, saves: u64, leaves_new: bool) -> Result<Told, Refusal> {
+    let spec = spec(alloc)?;
+    let config = fit(alloc, (350, 400, 500))?;
+    let store = FailingStore::new(alloc, saves, leaves_new);
+    told_of_new(alloc, store, spec, config)
 }
 
 #[test]
@@ -136,7 +154,7 @@ fn saves(rt: HostRuntime) {
         (4, true, (0, 61), 1),
         (3, false, (61, 62), 0),
     ] {
-        let told = told(rt.alloc(), saves, leaves_new);
+        let told = told_where_a_save_fails(rt.alloc(), saves, leaves_new);
         assert_eq!(rt; told, Ok((ready, answers, (behind, true, true))), "{saves}");
     }
 }
