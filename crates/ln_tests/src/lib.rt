@@ -29,8 +29,6 @@ mod log;
 #[cfg(test)]
 mod messages;
 #[cfg(test)]
-mod nodes;
-#[cfg(test)]
 mod opening;
 #[cfg(test)]
 mod pings;

@@ -85,6 +85,16 @@ fn bad_lines(rt: HostRuntime) {
         ("ready 0 A B 1 0 1x16777216x0\n", 1),
         ("ready 0 A B 1 0 1x1x65536\n", 1),
         ("ready 0 A B 1 0 01x1x0\n", 1),
+    ] {
+        let refused = read_script(rt.alloc(), script).err();
+        assert_eq!(rt; refused, Some(Refusal::BadScript { line }), "{script}");
+    }
+}
+
+// Words that are missing, too many or too great behind each line's first; lines of nodes that decide by themselves.
+#[test]
+fn bad_words(rt: HostRuntime) {
+    for (script, line) in [
         ("add A0 5000 400 7 1x1x0\n", 1),
         ("add A0 5000 400 7 1x1x0 4000\n", 1),
         ("add A0 5000 400 7 1x1 4000 300\n", 1),
