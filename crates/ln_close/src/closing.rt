@@ -137,9 +137,9 @@ impl Closing {
     ///
     /// At 36 nothing has changed.
     pub fn answer(&mut self, fee: u64, range: Option<(u64, u64)>) -> Result<Answer, Refusal>
-        ensures answer { result ≡ answer_to self.old fee range }
-        ensures ok { IfOk result (λ a. self.new ≡ after fee a self.old) }
-        ensures err { OnErr result (self.new ≡ self.old) }
+        ensures answers_by_the_first_rule { result ≡ answer_to self.old fee range }
+        ensures moves_as_stated { IfOk result (λ a. self.new ≡ after fee a self.old) }
+        ensures changes_nothing_if_refused { OnErr result (self.new ≡ self.old) }
     {
         let answer = self.answer_to(fee, range)?;
         match answer {

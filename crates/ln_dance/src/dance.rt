@@ -156,20 +156,20 @@ impl Dance {
     /// Proposes an update: `UpdateLog::propose`.
     pub fn propose(&mut self, update: Update) -> Result<(), Refusal>
         requires { (d : Dancer) → StandsFor self.old d → HasNextId d.log.own update }
-        ensures answer { (d : Dancer) → StandsFor self.old d → Answers (proposal_fault d.log update) result }
-        ensures ok { (d : Dancer) → StandsFor self.old d
+        ensures refuses_exactly { (d : Dancer) → StandsFor self.old d → Answers (proposal_fault d.log update) result }
+        ensures moves_as_stated { (d : Dancer) → StandsFor self.old d
             → OnOk result (StandsFor self.new (with_log (after_propose update d.log) d)) }
-        ensures err { OnErr result (self.new ≡ self.old) }
+        ensures changes_nothing_if_refused { OnErr result (self.new ≡ self.old) }
     {
         self.log.propose(update)
     }
 
     /// Takes an update of the peer: `UpdateLog::receive`.
     pub fn receive(&mut self, update: Update) -> Result<(), Refusal>
-        ensures answer { (d : Dancer) → StandsFor self.old d → Answers (taken_fault d.log update) result }
-        ensures ok { (d : Dancer) → StandsFor self.old d
+        ensures refuses_exactly { (d : Dancer) → StandsFor self.old d → Answers (taken_fault d.log update) result }
+        ensures moves_as_stated { (d : Dancer) → StandsFor self.old d
             → OnOk result (StandsFor self.new (with_log (after_receive update d.log) d)) }
-        ensures err { OnErr result (self.new ≡ self.old) }
+        ensures changes_nothing_if_refused { OnErr result (self.new ≡ self.old) }
     {
         self.log.receive(update)
     }
@@ -224,13 +224,14 @@ impl Dance {
         alloc: Global,
         keys: &K,
     ) -> Result<CommitmentSigned, Refusal>
-        ensures answer { (d : Dancer) → StandsFor self.old d → Answers (sign_fault d) result }
+        ensures refuses_exactly { (d : Dancer) → StandsFor self.old d → Answers (sign_fault d) result }
         ensures message { (d : Dancer) → StandsFor self.old d
             → IfOk result (λ m. m ≡ signed_message (K.signer keys.now) d) }
-        ensures ok { (d : Dancer) → StandsFor self.old d → OnOk result (StandsFor self.new (after_sign d)) }
+        ensures moves_as_stated { (d : Dancer) → StandsFor self.old d
+            → OnOk result (StandsFor self.new (after_sign d)) }
         ensures numbered { (d : Dancer) → StandsFor self.old d → OnOk result (IsNumber (d.numbers.signed + 1)) }
         ensures owes { (d : Dancer) → StandsFor self.old d → OnOk result (IsTrue (owes (after_sign d))) }
-        ensures err { OnErr result (self.new ≡ self.old) }
+        ensures changes_nothing_if_refused { OnErr result (self.new ≡ self.old) }
     {
         match self.sign_refusal() {
             Some(refusal) => return Err(refusal),
@@ -263,14 +264,15 @@ impl Dance {
         keys: &K,
         message: &CommitmentSigned,
     ) -> Result<RevokeAndAck, Refusal>
-        ensures answer { (d : Dancer) → StandsFor self.old d
+        ensures refuses_exactly { (d : Dancer) → StandsFor self.old d
             → AnswersWithin (accept_fault (K.signer keys.now) message.now d) result }
         ensures out_of_place { (d : Dancer) → StandsFor self.old d
             → (IsErrOf result Refusal.OutOfPlace ↔ IsTrue (is_last d.numbers.commitment)) }
         ensures message { (d : Dancer) → StandsFor self.old d
             → IfOk result (λ m. m ≡ revoked_message (K.signer keys.now) d) }
-        ensures ok { (d : Dancer) → StandsFor self.old d → OnOk result (StandsFor self.new (after_accept d)) }
-        ensures err { OnErr result (self.new ≡ self.old) }
+        ensures moves_as_stated { (d : Dancer) → StandsFor self.old d
+            → OnOk result (StandsFor self.new (after_accept d)) }
+        ensures changes_nothing_if_refused { OnErr result (self.new ≡ self.old) }
     {
         let last = self.numbers.commitment;
         if last == LAST_NUMBER {
@@ -299,11 +301,11 @@ impl Dance {
     /// 33 where no signature is unrevoked, 32 for a secret that doesn't fit the point of the commitment that
     /// is revoked; then nothing has changed.
     pub fn learn<K: ChannelKeys>(&mut self, keys: &K, message: &RevokeAndAck) -> Result<(), Refusal>
-        ensures answer { (d : Dancer) → StandsFor self.old d
+        ensures refuses_exactly { (d : Dancer) → StandsFor self.old d
             → result ≡ answer_of (learn_fault (K.signer keys.now) message.now d) }
-        ensures ok { (d : Dancer) → StandsFor self.old d
+        ensures moves_as_stated { (d : Dancer) → StandsFor self.old d
             → OnOk result (StandsFor self.new (after_learn message.now d)) }
-        ensures err { OnErr result (self.new ≡ self.old) }
+        ensures changes_nothing_if_refused { OnErr result (self.new ≡ self.old) }
     {
         if !self.owes() {
             return Err(Refusal::NothingToRevoke);

@@ -149,9 +149,9 @@ impl Dance {
 
     // The messages of the updates that the last signature covers newly.
     fn updates_again(&self, alloc: Global) -> Result<Messages, Refusal>
-        ensures ok { (d : Dancer) → StandsFor self.now d
+        ensures gives_the_updates { (d : Dancer) → StandsFor self.now d
             → IfOk result (λ m. m ≡ map (update_message d.channel) (unacknowledged d.log)) }
-        ensures memory { IsOkUnless result Refusal.Memory }
+        ensures fails_for_memory_alone { IsOkUnless result Refusal.Memory }
     {
         let channel = self.channel();
         let mut messages = Vec::new(alloc);
@@ -167,9 +167,9 @@ impl Dance {
         alloc: Global,
         keys: &K,
     ) -> Result<CommitmentSigned, Refusal>
-        ensures ok { (d : Dancer) → StandsFor self.now d
+        ensures gives_the_signature { (d : Dancer) → StandsFor self.now d
             → IfOk result (λ m. m ≡ signature_again (K.signer keys.now) d) }
-        ensures memory { IsOkUnless result Refusal.Memory }
+        ensures fails_for_memory_alone { IsOkUnless result Refusal.Memory }
     {
         let view = self.log().view(alloc, Pair::Signed)?;
         let point = self.peer().next_point;
@@ -205,9 +205,9 @@ impl Dance {
         message: &ChannelReestablish,
         resends: &mut Vec<Resend>,
     ) -> Result<(), Refusal>
-        ensures ok { (d : Dancer) → StandsFor self.now d
+        ensures appends_what_is_owed { (d : Dancer) → StandsFor self.now d
             → OnOk result (resends.new.items ≡ resends.old.items ++ signature_owed (K.signer keys.now) message.now d) }
-        ensures memory { IsOkUnless result Refusal.Memory }
+        ensures fails_for_memory_alone { IsOkUnless result Refusal.Memory }
     {
         if self.lacks_signature(message) {
             resends.push(Resend::Updates(self.updates_again(alloc)?))?;
@@ -224,9 +224,9 @@ impl Dance {
         message: &ChannelReestablish,
         resends: &mut Vec<Resend>,
     ) -> Result<(), Refusal>
-        ensures ok { (d : Dancer) → StandsFor self.now d
+        ensures appends_what_is_owed { (d : Dancer) → StandsFor self.now d
             → OnOk result (resends.new.items ≡ resends.old.items ++ revocation_owed (K.signer keys.now) message.now d) }
-        ensures memory { IsOkUnless result Refusal.Memory }
+        ensures fails_for_memory_alone { IsOkUnless result Refusal.Memory }
     {
         if self.lacks_revocation(message) {
             resends.push(Resend::Revocation(self.revocation_again(alloc, keys)))?;
@@ -248,7 +248,7 @@ impl Dance {
         keys: &K,
         message: &ChannelReestablish,
     ) -> Result<Vec<Resend>, Refusal>
-        ensures answer { (d : Dancer) → StandsFor self.now d
+        ensures refuses_exactly { (d : Dancer) → StandsFor self.now d
             → Answers (resume_fault (K.signer keys.now) message.now d) result }
         ensures owed { (d : Dancer) → StandsFor self.now d
             → IfOk result (λ v. v.items ≡ owed (K.signer keys.now) message.now d) }

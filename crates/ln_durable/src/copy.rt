@@ -13,14 +13,14 @@ use std::alloc::Global;
 /// The same bytes.
 pub(crate) fn copy_bytes(alloc: Global, bytes: &Bytes) -> Result<Bytes, Refusal>
     ensures copy { IfOk result (λ b. b ≡ bytes.now) }
-    ensures memory { IfErr result (λ r. r ≡ refusal.Memory) }
+    ensures fails_for_memory_alone { IfErr result (λ r. r ≡ refusal.Memory) }
 {
     Ok(Bytes::new(Vec::from_slice(alloc, bytes.as_slice())?))
 }
 
 fn copy_record(alloc: Global, original: &Record) -> Result<Record, Refusal>
     ensures copy { IfOk result (λ r. r ≡ original.now) }
-    ensures memory { IfErr result (λ r. r ≡ refusal.Memory) }
+    ensures fails_for_memory_alone { IfErr result (λ r. r ≡ refusal.Memory) }
 {
     Ok(Record {
         typ: original.typ,
@@ -31,7 +31,7 @@ fn copy_record(alloc: Global, original: &Record) -> Result<Record, Refusal>
 /// The same records.
 pub(crate) fn copy_records(alloc: Global, records: &Records) -> Result<Records, Refusal>
     ensures copies { IfOk result (λ rs. rs ≡ records.now) }
-    ensures memory { IfErr result (λ r. r ≡ refusal.Memory) }
+    ensures fails_for_memory_alone { IfErr result (λ r. r ≡ refusal.Memory) }
 {
     let mut copies = Vec::new(alloc);
     for original in records.as_slice() {
@@ -42,7 +42,7 @@ pub(crate) fn copy_records(alloc: Global, records: &Records) -> Result<Records, 
 
 fn copy_update(alloc: Global, update: &Update) -> Result<Update, Refusal>
     ensures copy { IfOk result (λ u. u ≡ update.now) }
-    ensures memory { IfErr result (λ r. r ≡ refusal.Memory) }
+    ensures fails_for_memory_alone { IfErr result (λ r. r ≡ refusal.Memory) }
 {
     match update {
         Update::Add(add) => Ok(Update::Add(*add)),
@@ -62,7 +62,7 @@ fn copy_update(alloc: Global, update: &Update) -> Result<Update, Refusal>
 /// The same updates.
 pub(crate) fn copy_updates(alloc: Global, updates: &[Update]) -> Result<Vec<Update>, Refusal>
     ensures copies { IfOk result (λ us. us.items ≡ updates.now) }
-    ensures memory { IfErr result (λ r. r ≡ refusal.Memory) }
+    ensures fails_for_memory_alone { IfErr result (λ r. r ≡ refusal.Memory) }
 {
     let mut copies = Vec::new(alloc);
     for update in updates {
@@ -87,7 +87,7 @@ pub(crate) fn copy_events(
     events: &[EventRef],
 ) -> Result<Vec<ln_store::EventRef>, Refusal>
     ensures copies { IfOk result (λ es. es.items ≡ map event_of events.now) }
-    ensures memory { IfErr result (λ r. r ≡ refusal.Memory) }
+    ensures fails_for_memory_alone { IfErr result (λ r. r ≡ refusal.Memory) }
 {
     let mut copies = Vec::new(alloc);
     for event in events {

@@ -30,7 +30,7 @@ fn payload(alloc: Global, message: &Message) -> Result<Bytes, Refusal>
 // All but the first 2 bytes.
 fn behind_type(alloc: Global, bytes: &[u8]) -> Result<Bytes, Refusal>
     ensures payload { IfOk result (λ b. b ≡ drop 2 bytes.now) }
-    ensures memory { IfErr result (λ r. r ≡ refusal.Memory) }
+    ensures fails_for_memory_alone { IfErr result (λ r. r ≡ refusal.Memory) }
 {
     if bytes.len() < 2 {
         return Ok(Bytes::new(Vec::new(alloc)));
@@ -40,7 +40,7 @@ fn behind_type(alloc: Global, bytes: &[u8]) -> Result<Bytes, Refusal>
 
 fn copy_open(alloc: Global, message: &OpenChannel) -> Result<OpenChannel, Refusal>
     ensures copy { IfOk result (λ m. m ≡ message.now) }
-    ensures memory { IfErr result (λ r. r ≡ refusal.Memory) }
+    ensures fails_for_memory_alone { IfErr result (λ r. r ≡ refusal.Memory) }
 {
     let records = copy_records(alloc, &message.records)?;
     Ok(OpenChannel {
@@ -68,7 +68,7 @@ fn copy_open(alloc: Global, message: &OpenChannel) -> Result<OpenChannel, Refusa
 
 fn copy_accept(alloc: Global, message: &AcceptChannel) -> Result<AcceptChannel, Refusal>
     ensures copy { IfOk result (λ m. m ≡ message.now) }
-    ensures memory { IfErr result (λ r. r ≡ refusal.Memory) }
+    ensures fails_for_memory_alone { IfErr result (λ r. r ≡ refusal.Memory) }
 {
     let records = copy_records(alloc, &message.records)?;
     Ok(AcceptChannel {

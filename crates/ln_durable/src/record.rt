@@ -62,7 +62,7 @@ fn place_of(id: Option<ShortId>) -> Option<ChainPlace>
 
 fn copy_script(alloc: Global, script: &Option<Bytes>) -> Result<Option<Bytes>, Refusal>
     ensures copy { IfOk result (λ s. s ≡ script.now) }
-    ensures memory { IfErr result (λ r. r ≡ refusal.Memory) }
+    ensures fails_for_memory_alone { IfErr result (λ r. r ≡ refusal.Memory) }
 {
     match script {
         None => Ok(None),
@@ -232,7 +232,7 @@ fn commitments_of(dance: &Dance) -> Commitments
 
 fn events_of(alloc: Global, ledger: &EventLedger) -> Result<Events, Refusal>
     ensures events { IfOk result (λ e. e ≡ events_of ledger.now) }
-    ensures memory { IfErr result (λ r. r ≡ refusal.Memory) }
+    ensures fails_for_memory_alone { IfErr result (λ r. r ≡ refusal.Memory) }
 {
     Ok(Events {
         decided: ledger.decided(),
@@ -253,7 +253,7 @@ fn fees_of(closing: Closing) -> ClosingFees
 #[tactic(auto, unfolding(crate::specs::Record::progress_of))]
 fn progress_of(alloc: Global, channel: &Channel) -> Result<Progress, Refusal>
     ensures progress { IfOk result (λ p. p ≡ progress_of channel.now) }
-    ensures memory { IfErr result (λ r. r ≡ refusal.Memory) }
+    ensures fails_for_memory_alone { IfErr result (λ r. r ≡ refusal.Memory) }
 {
     Ok(Progress {
         events: events_of(alloc, channel.ledger())?,

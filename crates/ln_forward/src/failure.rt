@@ -58,8 +58,8 @@ impl Failure {
     /// The failure as its origin reads it: the code in two bytes, and its data. A `channel_update` is left out,
     /// which a length of 0 tells. Fault 60 where there was no memory.
     pub fn to_bytes(&self, alloc: Global) -> Result<Vec<u8>, Fault>
-        ensures ok { IfOk result (λ v. v.items ≡ failure_bytes self.now) }
-        ensures err { IfErr result (λ e. e ≡ Fault.Memory) }
+        ensures spells_it { IfOk result (λ v. v.items ≡ failure_bytes self.now) }
+        ensures fails_for_memory_alone { IfErr result (λ e. e ≡ Fault.Memory) }
     {
         let mut bytes = Vec::new(alloc);
         put_u16(&mut bytes, self.code())?;
@@ -97,8 +97,8 @@ ghost use Rattle.ln_bytes.specs.Bigsize.{bigsize};
 ghost use Rattle.ln_bytes.specs.declared.fault.Fault.{Fault};
 
 fn put_u16(bytes: &mut Vec<u8>, number: u16) -> Result<(), Fault>
-    ensures ok { OnOk result (bytes.new.items ≡ bytes.old.items ++ big_bytes 2 number) }
-    ensures err { IfErr result (λ e. e ≡ Fault.Memory) }
+    ensures appends_it { OnOk result (bytes.new.items ≡ bytes.old.items ++ big_bytes 2 number) }
+    ensures fails_for_memory_alone { IfErr result (λ e. e ≡ Fault.Memory) }
 {
     let mut spelling = [0; 2];
     BigEndian::write_u16(&mut spelling, number);
@@ -107,8 +107,8 @@ fn put_u16(bytes: &mut Vec<u8>, number: u16) -> Result<(), Fault>
 }
 
 fn put_u32(bytes: &mut Vec<u8>, number: u32) -> Result<(), Fault>
-    ensures ok { OnOk result (bytes.new.items ≡ bytes.old.items ++ big_bytes 4 number) }
-    ensures err { IfErr result (λ e. e ≡ Fault.Memory) }
+    ensures appends_it { OnOk result (bytes.new.items ≡ bytes.old.items ++ big_bytes 4 number) }
+    ensures fails_for_memory_alone { IfErr result (λ e. e ≡ Fault.Memory) }
 {
     let mut spelling = [0; 4];
     BigEndian::write_u32(&mut spelling, number);
@@ -117,8 +117,8 @@ fn put_u32(bytes: &mut Vec<u8>, number: u32) -> Result<(), Fault>
 }
 
 fn put_u64(bytes: &mut Vec<u8>, number: u64) -> Result<(), Fault>
-    ensures ok { OnOk result (bytes.new.items ≡ bytes.old.items ++ big_bytes 8 number) }
-    ensures err { IfErr result (λ e. e ≡ Fault.Memory) }
+    ensures appends_it { OnOk result (bytes.new.items ≡ bytes.old.items ++ big_bytes 8 number) }
+    ensures fails_for_memory_alone { IfErr result (λ e. e ≡ Fault.Memory) }
 {
     let mut spelling = [0; 8];
     BigEndian::write_u64(&mut spelling, number);
@@ -127,8 +127,8 @@ fn put_u64(bytes: &mut Vec<u8>, number: u64) -> Result<(), Fault>
 }
 
 fn put_bigsize(bytes: &mut Vec<u8>, number: u64) -> Result<(), Fault>
-    ensures ok { OnOk result (bytes.new.items ≡ bytes.old.items ++ bigsize number) }
-    ensures err { IfErr result (λ e. e ≡ Fault.Memory) }
+    ensures appends_it { OnOk result (bytes.new.items ≡ bytes.old.items ++ bigsize number) }
+    ensures fails_for_memory_alone { IfErr result (λ e. e ≡ Fault.Memory) }
 {
     let mut spelling = [0; 9];
     let len = write_bigsize(number, &mut spelling);

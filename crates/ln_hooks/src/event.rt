@@ -58,9 +58,9 @@ pub enum ChannelEvent {
 /// add of more than an `Msat`, which no side of a channel can hold. `own` tells whether this side had proposed it.
 /// Takes memory for a reason: 60 where there was none.
 pub fn event_of(alloc: Global, own: bool, update: &Update) -> Result<Option<ChannelEvent>, Refusal>
-    ensures ok { IfOk result (λ e. e ≡ event_of own update.now) }
+    ensures gives_the_event { IfOk result (λ e. e ≡ event_of own update.now) }
     ensures only_fees_untold { IsTrue (is_bounded update.now) → IfOk result (λ e. is_some e ≡ not (is_fee update.now)) }
-    ensures err { IfErr result (λ r. r ≡ refusal.Memory) }
+    ensures fails_for_memory_alone { IfErr result (λ r. r ≡ refusal.Memory) }
 {
     match update {
         Update::Add(add) => Ok(added(own, add)),

@@ -31,7 +31,7 @@ impl HookTable {
     /// Puts a hook behind all others. Takes memory: where there was none the hook is handed back beside 60, and the
     /// table is as it was.
     pub fn register(&mut self, hook: Hook) -> Result<(), (Hook, Refusal)>
-        ensures ok { OnOk result (self.new.hooks.items ≡ self.old.hooks.items ++ hook ∷ []) }
+        ensures appends_it { OnOk result (self.new.hooks.items ≡ self.old.hooks.items ++ hook ∷ []) }
         ensures changes_nothing_if_refused { OnErr result (self.new.hooks.items ≡ self.old.hooks.items) }
         ensures hands_the_hook_back { IfErr result (λ e. (e.0 ≡ hook) × (e.1 ≡ refusal.Memory)) }
     {
@@ -58,7 +58,7 @@ impl HookTable {
     pub fn call_run(&mut self, events: &[ChannelEvent]) -> Result<Vec<Verdict>, Refusal>
         ensures calls_each_hook_on_each { IfOk result
             (λ v. SaysOfEach (λ h. h.call) step self.old.hooks.items events.now v.items self.new.hooks.items) }
-        ensures err { IfErr result (λ r. r ≡ refusal.Memory) }
+        ensures fails_for_memory_alone { IfErr result (λ r. r ≡ refusal.Memory) }
         ensures calls_none_if_refused { OnErr result (self.new.hooks.items ≡ self.old.hooks.items) }
     {
         let mut verdicts = Vec::with_capacity(*self.hooks.allocator(), events.len())?;

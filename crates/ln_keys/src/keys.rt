@@ -47,7 +47,7 @@ pub trait ChannelKeys {
     ) -> Result<Signed, Refusal>
         ensures commitment { IfOk result (λ s. s.sig ≡ (signer self.now).signature number peer_point.now view.now) }
         ensures htlcs { IfOk result (λ s. s.htlcs ≡ (signer self.now).htlc_signatures number peer_point.now view.now) }
-        ensures memory { IfErr result (λ e. e ≡ Refusal.Memory) };
+        ensures fails_for_memory_alone { IfErr result (λ e. e ≡ Refusal.Memory) };
 
     /// Whether these are the peer's signatures over the own commitment of this number, made at the own
     /// point and worth this view, and over each of its HTLCs. Takes no memory.

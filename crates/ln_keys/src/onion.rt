@@ -69,5 +69,5 @@ pub trait Onion {
     /// Error: 60 (`Memory`) alone, where there is no memory.
     fn wrap_failure(&self, alloc: Global, reason: &[u8]) -> Result<Bytes, Refusal>
         ensures wrapped { IfOk result (λ b. b ≡ wrapped self.now reason.now) }
-        ensures memory { IfErr result (λ e. e ≡ Refusal.Memory) };
+        ensures fails_for_memory_alone { IfErr result (λ e. e ≡ Refusal.Memory) };
 }

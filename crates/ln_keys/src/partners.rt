@@ -24,7 +24,7 @@ pub fn partner_accepts<K: ChannelKeys>(
     requires numbered { number ≤ 2 ^ 48 }
     requires partners { ArePartners (K.signer signer.now) (K.signer taker.now) }
     ensures accepted { IfOk result (λ b. b ≡ true) }
-    ensures memory { IfErr result (λ e. e ≡ Refusal.Memory) }
+    ensures fails_for_memory_alone { IfErr result (λ e. e ≡ Refusal.Memory) }
 {
     let signed = signer.sign(alloc, number, point, view)?;
     Ok(taker.verify(number, point, view, &signed.sig, signed.htlcs.as_slice()))

@@ -135,8 +135,8 @@ fn close_signed(tag: &[u8; 32], fee: u64) -> [u8; 64]
 
 /// One signature so many times.
 fn repeated(alloc: Global, sig: &[u8; 64], count: usize) -> Result<Signatures, Refusal>
-    ensures ok { IfOk result (λ s. s ≡ replicate count sig.now) }
-    ensures memory { IfErr result (λ e. e ≡ Refusal.Memory) }
+    ensures repeats_it { IfOk result (λ s. s ≡ replicate count sig.now) }
+    ensures fails_for_memory_alone { IfErr result (λ e. e ≡ Refusal.Memory) }
 {
     let mut list = Vec::with_capacity(alloc, count)?;
     for _ in 0..count {

@@ -139,9 +139,9 @@ fn packet_fault_of(onion: &[u8; 1366], hash: &[u8; 32]) -> Option<OpenFault>
 /// The onion that has what is left to the front, where something is left and doesn't begin with 0.
 fn next_onion(alloc: Global, rest: &[u8], hash: &[u8; 32]) -> Result<Option<Bytes>, OpenFault>
     requires { length rest.now ≤ 1300 }
-    ensures ok { IfOk result (λ n. n ≡ next_packet rest.now hash.now) }
+    ensures gives_the_next { IfOk result (λ n. n ≡ next_packet rest.now hash.now) }
     ensures next_has_1366_bytes { IfOk result (λ n. IfSome n (λ p. length p ≡ 1366)) }
-    ensures memory { IfErr result (λ e. e ≡ OpenFault.Memory) }
+    ensures fails_for_memory_alone { IfErr result (λ e. e ≡ OpenFault.Memory) }
 {
     match rest {
         [] | [0, ..] => Ok(None),

@@ -185,7 +185,7 @@ impl Channel {
               ++ numbered (next_event self.old.ledger) (events_of true (own_since before self.old.dance.log));
         }) }
         ensures state { OnOk result (self.new ≡ telling true before (own_since before self.old.dance.log) self.old) }
-        ensures memory { IfErr result (λ r. r ≡ Refusal.Memory) }
+        ensures fails_for_memory_alone { IfErr result (λ r. r ≡ Refusal.Memory) }
     {
         outbox.tell(self.committed())?;
         let updates = own_since(&self.dance, before);
@@ -207,7 +207,7 @@ impl Channel {
               ++ numbered (next_event self.old.ledger) (events_of false (peer_since before self.old.dance.log));
         }) }
         ensures state { OnOk result (self.new ≡ telling false before (peer_since before self.old.dance.log) self.old) }
-        ensures memory { IfErr result (λ r. r ≡ Refusal.Memory) }
+        ensures fails_for_memory_alone { IfErr result (λ r. r ≡ Refusal.Memory) }
     {
         outbox.tell(self.committed())?;
         let updates = peer_since(&self.dance, before);
@@ -218,7 +218,7 @@ impl Channel {
 
     pub(crate) fn shutdown_message(&self, alloc: Global) -> Result<Shutdown, Refusal>
         ensures message { IfOk result (λ m. m ≡ shutdown_message self.now) }
-        ensures memory { IfErr result (λ r. r ≡ Refusal.Memory) }
+        ensures fails_for_memory_alone { IfErr result (λ r. r ≡ Refusal.Memory) }
     {
         let script = Vec::from_slice(alloc, self.terms.script.as_slice())?;
         Ok(Shutdown {
@@ -235,7 +235,7 @@ impl Channel {
           told = outbox.old.told;
         }) }
         ensures state { OnOk result (self.new ≡ answers_shutdown self.old) }
-        ensures memory { IfErr result (λ r. r ≡ Refusal.Memory) }
+        ensures fails_for_memory_alone { IfErr result (λ r. r ≡ Refusal.Memory) }
     {
         if !self.closing.peer_shut || self.closing.shut || !self.all_acknowledged() {
             return Ok(());
@@ -249,7 +249,7 @@ impl Channel {
     // The range that each fee of this side's comes with.
     fn fee_range(&self, alloc: Global) -> Result<Vec<Record>, Refusal>
         ensures range { IfOk result (λ v. v.items ≡ fee_range self.now.closing ∷ []) }
-        ensures memory { IfErr result (λ r. r ≡ Refusal.Memory) }
+        ensures fails_for_memory_alone { IfErr result (λ r. r ≡ Refusal.Memory) }
     {
         let mut range = [0; 16];
         BigEndian::write_u64(&mut range[..8], self.closing.fees.least);
@@ -269,7 +269,7 @@ impl Channel {
         fee: u64,
     ) -> Result<ClosingSigned, Refusal>
         ensures message { IfOk result (λ m. m ≡ closing_message (K.signer keys.now) self.now fee) }
-        ensures memory { IfErr result (λ r. r ≡ Refusal.Memory) }
+        ensures fails_for_memory_alone { IfErr result (λ r. r ≡ Refusal.Memory) }
     {
         let range = self.fee_range(alloc)?;
         Ok(ClosingSigned {
@@ -289,7 +289,7 @@ impl Channel {
     ) -> Result<(), Refusal>
         ensures sent { OnOk result (outbox.new ≡ record
             { sent = outbox.old.sent ++ fee_sent (K.signer keys.now) self.now (Some fee); told = outbox.old.told }) }
-        ensures memory { IfErr result (λ r. r ≡ Refusal.Memory) }
+        ensures fails_for_memory_alone { IfErr result (λ r. r ≡ Refusal.Memory) }
     {
         let message = self.closing_message(alloc, keys, fee)?;
         outbox.send(Message::ClosingSigned(message))
@@ -307,7 +307,7 @@ impl Channel {
           told = outbox.old.told;
         }) }
         ensures state { OnOk result (self.new ≡ begins self.old) }
-        ensures memory { IfErr result (λ r. r ≡ Refusal.Memory) }
+        ensures fails_for_memory_alone { IfErr result (λ r. r ≡ Refusal.Memory) }
     {
         if !self.has_begun() {
             return Ok(());
@@ -328,7 +328,7 @@ impl Channel {
         ensures sent { OnOk result (outbox.new ≡ record
             { sent = outbox.old.sent ++ due_sent (K.signer keys.now) self.old; told = outbox.old.told }) }
         ensures state { OnOk result (self.new ≡ settled self.old) }
-        ensures memory { IfErr result (λ r. r ≡ Refusal.Memory) }
+        ensures fails_for_memory_alone { IfErr result (λ r. r ≡ Refusal.Memory) }
     {
         self.answer_shutdown(alloc, outbox)?;
         self.begin(alloc, keys, outbox)
@@ -341,7 +341,7 @@ pub(crate) fn own_held(dance: &Dance) -> usize
     ensures ordered { dance.now.log.current.own ≤ dance.now.log.acknowledged.own }
     ensures first { dance.now.log.first.own ≤ dance.now.log.current.own }
     ensures within { dance.now.log.current.own ≤ length dance.now.log.own }
-    ensures small { dance.now.log.current.own < 2 ^ 64 }
+    ensures fits_64_bits { dance.now.log.current.own < 2 ^ 64 }
 {
     let log = dance.log();
     let _ = log.first(Side::Own);
@@ -354,7 +354,7 @@ pub(crate) fn peer_held(dance: &Dance) -> usize
     ensures ordered { dance.now.log.acknowledged.peer ≤ dance.now.log.signed.peer }
     ensures first { dance.now.log.first.peer ≤ dance.now.log.acknowledged.peer }
     ensures within { dance.now.log.acknowledged.peer ≤ length dance.now.log.received }
-    ensures small { dance.now.log.acknowledged.peer < 2 ^ 64 }
+    ensures fits_64_bits { dance.now.log.acknowledged.peer < 2 ^ 64 }
 {
     let log = dance.log();
     let _ = log.first(Side::Peer);
@@ -366,7 +366,7 @@ fn own_since(dance: &Dance, before: usize) -> &[Update]
     requires start { before ≤ dance.now.log.current.own }
     requires kept { dance.now.log.first.own ≤ before }
     ensures updates { result.now ≡ own_since before dance.now.log }
-    ensures small { before + length result.now < 2 ^ 64 }
+    ensures fits_64_bits { before + length result.now < 2 ^ 64 }
 {
     dance.log().between(Side::Own, before, own_held(dance))
 }
@@ -376,7 +376,7 @@ fn peer_since(dance: &Dance, before: usize) -> &[Update]
     requires start { before ≤ dance.now.log.acknowledged.peer }
     requires kept { dance.now.log.first.peer ≤ before }
     ensures updates { result.now ≡ peer_since before dance.now.log }
-    ensures small { before + length result.now < 2 ^ 64 }
+    ensures fits_64_bits { before + length result.now < 2 ^ 64 }
 {
     dance.log().between(Side::Peer, before, peer_held(dance))
 }

@@ -92,9 +92,9 @@ impl Channel {
     // Proposes an update to the log.
     fn propose_next(&mut self, update: Update) -> Result<(), Refusal>
         requires { HasNextId self.old.dance.log.own update }
-        ensures answer { AnswersFault (proposal_fault self.old.dance.log update) result }
+        ensures refuses_exactly { AnswersFault (proposal_fault self.old.dance.log update) result }
         ensures state { OnOk result (self.new ≡ proposes update self.old) }
-        ensures err { OnErr result (self.new ≡ self.old) }
+        ensures changes_nothing_if_refused { OnErr result (self.new ≡ self.old) }
     {
         self.dance.propose(update)
     }
@@ -102,9 +102,9 @@ impl Channel {
     // Proposes an update, which has the next id where it is an add.
     fn propose(&mut self, update: Update) -> Result<(), Refusal>
         requires { HasNextId self.old.dance.log.own update }
-        ensures answer { AnswersFault (propose_fault self.old update) result }
+        ensures refuses_exactly { AnswersFault (propose_fault self.old update) result }
         ensures state { OnOk result (self.new ≡ proposes update self.old) }
-        ensures err { OnErr result (self.new ≡ self.old) }
+        ensures changes_nothing_if_refused { OnErr result (self.new ≡ self.old) }
     {
         match self.own_refusal(&update) {
             Some(refusal) => Err(refusal),
@@ -184,10 +184,10 @@ impl Channel {
         alloc: Global,
         keys: &K,
     ) -> Result<CommitmentSigned, Refusal>
-        ensures answer { AnswersFault (sign_command_fault self.old) result }
+        ensures refuses_exactly { AnswersFault (sign_command_fault self.old) result }
         ensures message { IfOk result (λ m. m ≡ signed_message (K.signer keys.now) self.old.dance) }
         ensures state { OnOk result (self.new ≡ signs_next self.old) }
-        ensures err { OnErr result (self.new ≡ self.old) }
+        ensures changes_nothing_if_refused { OnErr result (self.new ≡ self.old) }
     {
         if !self.is_ready() {
             return Err(Refusal::NotReady);

@@ -88,7 +88,7 @@ impl EventLedger {
           sent = outbox.old.sent;
           told = outbox.old.told ++ output.Event (next_event self.old) event ∷ [];
         }) }
-        ensures memory { IfErr result (λ r. r ≡ Refusal.Memory) }
+        ensures fails_for_memory_alone { IfErr result (λ r. r ≡ Refusal.Memory) }
     {
         outbox.tell(Output::Event(self.next(), event))?;
         self.undecided.push(entry)?;
@@ -110,7 +110,7 @@ impl EventLedger {
           sent = outbox.old.sent;
           told = outbox.old.told ++ numbered (next_event self.old) (events_of own updates.now);
         }) }
-        ensures memory { IfErr result (λ r. r ≡ Refusal.Memory) }
+        ensures fails_for_memory_alone { IfErr result (λ r. r ≡ Refusal.Memory) }
     {
         let mut number = first as u64;
         for update in updates {
@@ -131,7 +131,7 @@ impl EventLedger {
           told = (outbox.old.told ++ output.Event (next_event self.old) (event.Closed fee) ∷ [])
               ++ output.Closed fee ∷ [];
         }) }
-        ensures memory { IfErr result (λ r. r ≡ Refusal.Memory) }
+        ensures fails_for_memory_alone { IfErr result (λ r. r ≡ Refusal.Memory) }
     {
         self.enter(EventRef::Close, ChannelEvent::Closed(fee), outbox)?;
         outbox.tell(Output::Closed(fee))

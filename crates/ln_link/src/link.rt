@@ -175,7 +175,7 @@ impl<K: ChannelKeys + Drop> Link<K> {
 
     // There was no memory.
     pub(crate) fn halted_by_memory(&mut self) -> Refusal
-        ensures memory { result ≡ Refusal.Memory }
+        ensures fails_for_memory_alone { result ≡ Refusal.Memory }
         ensures halted { self.new ≡ halts self.old }
     {
         self.halt();
@@ -187,7 +187,7 @@ impl<K: ChannelKeys + Drop> Link<K> {
         ensures outputs { IfOk result (λ v. v.items ≡ all_of outbox) }
         ensures same { OnOk result (self.new ≡ self.old) }
         ensures halted { OnErr result (self.new ≡ halts self.old) }
-        ensures memory { IfErr result (λ r. r ≡ Refusal.Memory) }
+        ensures fails_for_memory_alone { IfErr result (λ r. r ≡ Refusal.Memory) }
     {
         match outbox.into_outputs() {
             Ok(outputs) => Ok(outputs),

@@ -168,7 +168,7 @@ fn opened_by(alloc: Global, role: Role, channel: [u8; 32], fees: Fees, terms: Te
 // An end signs the peer's commitment 0, at the peer's point.
 fn sign_first<K: ChannelKeys>(alloc: Global, keys: &K, dance: &Dance) -> Result<[u8; 64], Refusal>
     ensures signature { IfOk result (λ s. s ≡ first_signature (K.signer keys.now) dance.now) }
-    ensures memory { IfErr result (λ r. r ≡ refusal.Memory) }
+    ensures fails_for_memory_alone { IfErr result (λ r. r ≡ refusal.Memory) }
 {
     let view = dance.log().view(alloc, Pair::Current(Side::Peer))?;
     let signed = keys.sign(alloc, 0, &dance.peer().point, &view)?;
@@ -182,7 +182,7 @@ pub(crate) fn check_first<K: ChannelKeys>(
     dance: &Dance,
     signature: &[u8; 64],
 ) -> Result<(), Refusal>
-    ensures answer { AnswersFault (first_fault (K.signer keys.now) dance.now signature.now) result }
+    ensures refuses_exactly { AnswersFault (first_fault (K.signer keys.now) dance.now signature.now) result }
     ensures refused { IfErr result (λ r. (r ≡ refusal.Memory) ⊎ (fails r ≡ true)) }
 {
     let view = dance.log().view(alloc, Pair::Current(Side::Own))?;
@@ -228,7 +228,7 @@ impl OpenSpec {
 
 fn copy_of(alloc: Global, original: &Record) -> Result<Record, Refusal>
     ensures copy { IfOk result (λ r. r ≡ original.now) }
-    ensures memory { IfErr result (λ r. r ≡ refusal.Memory) }
+    ensures fails_for_memory_alone { IfErr result (λ r. r ≡ refusal.Memory) }
 {
     let value = Vec::from_slice(alloc, original.value.as_slice())?;
     Ok(Record {
@@ -239,7 +239,7 @@ fn copy_of(alloc: Global, original: &Record) -> Result<Record, Refusal>
 
 fn copies_of(alloc: Global, records: &[Record]) -> Result<Records, Refusal>
     ensures copies { IfOk result (λ rs. rs ≡ records.now) }
-    ensures memory { IfErr result (λ r. r ≡ refusal.Memory) }
+    ensures fails_for_memory_alone { IfErr result (λ r. r ≡ refusal.Memory) }
 {
     let mut copies = Vec::new(alloc);
     for original in records {
@@ -257,7 +257,7 @@ pub fn open_channel<K: ChannelKeys>(
     spec: &FitSpec,
 ) -> Result<OpenChannel, Refusal>
     ensures message { IfOk result (λ m. m ≡ open_message (K.signer keys.now) spec.now) }
-    ensures memory { IfErr result (λ r. r ≡ refusal.Memory) }
+    ensures fails_for_memory_alone { IfErr result (λ r. r ≡ refusal.Memory) }
 {
     let spec = spec.get();
     let records = copies_of(alloc, spec.records.as_slice())?;
@@ -305,7 +305,7 @@ impl Config {
 // A channel type that was asked for, to be repeated.
 fn channel_type(alloc: Global, records: &Records) -> Result<Records, Refusal>
     ensures typed { IfOk result (λ rs. rs ≡ typed (value_of 1 records.now)) }
-    ensures memory { IfErr result (λ r. r ≡ refusal.Memory) }
+    ensures fails_for_memory_alone { IfErr result (λ r. r ≡ refusal.Memory) }
 {
     let mut repeated = Vec::new(alloc);
     match value_of(records.as_slice(), 1) {
@@ -325,7 +325,7 @@ fn accept_to_send<K: ChannelKeys>(
     message: &OpenChannel,
 ) -> Result<AcceptChannel, Refusal>
     ensures message { IfOk result (λ m. m ≡ accept_message (K.signer keys.now) config.now message.now) }
-    ensures memory { IfErr result (λ r. r ≡ refusal.Memory) }
+    ensures fails_for_memory_alone { IfErr result (λ r. r ≡ refusal.Memory) }
 {
     let records = channel_type(alloc, &message.records)?;
     Ok(config.accept_with(keys, message, records))
@@ -342,7 +342,7 @@ pub fn take_open<K: ChannelKeys>(
     config: FitConfig,
     message: OpenChannel,
 ) -> Result<(Agreed, AcceptChannel), Refusal>
-    ensures answer { Gives (open_taken (K.signer keys.now) config message) result }
+    ensures gives_its_row { Gives (open_taken (K.signer keys.now) config message) result }
     ensures refused { IfErr result (λ r. (r ≡ refusal.Memory) ⊎ (fails r ≡ true)) }
 {
     let config = config.into_config();
@@ -440,7 +440,7 @@ pub fn take_accept<K: ChannelKeys>(
     spec: FitSpec,
     accept: AcceptChannel,
 ) -> Result<(Opened, FundingCreated), Refusal>
-    ensures answer { Gives (accept_taken (K.signer keys.now) spec accept) result }
+    ensures gives_its_row { Gives (accept_taken (K.signer keys.now) spec accept) result }
     ensures refused { IfErr result (λ r. (r ≡ refusal.Memory) ⊎ (fails r ≡ true)) }
     ensures begun { IfOk result (λ r. HasBegun r.0) }
 {
@@ -476,7 +476,7 @@ pub fn take_created<K: ChannelKeys>(
     agreed: Agreed,
     created: FundingCreated,
 ) -> Result<(Opened, FundingSigned), Refusal>
-    ensures answer { Gives (created_taken (K.signer keys.now) agreed created) result }
+    ensures gives_its_row { Gives (created_taken (K.signer keys.now) agreed created) result }
     ensures refused { IfErr result (λ r. (r ≡ refusal.Memory) ⊎ (fails r ≡ true)) }
     ensures begun { IfOk result (λ r. HasBegun r.0) }
 {

@@ -65,7 +65,7 @@ impl Outbox {
           sent = self.old.sent ++ output.Send message ∷ [];
           told = self.old.told;
         }) }
-        ensures memory { IfErr result (λ r. r ≡ Refusal.Memory) }
+        ensures fails_for_memory_alone { IfErr result (λ r. r ≡ Refusal.Memory) }
     {
         self.sent.push(Output::Send(message))?;
         Ok(())
@@ -74,7 +74,7 @@ impl Outbox {
     /// Something to be told.
     pub(crate) fn tell(&mut self, told: Output) -> Result<(), Refusal>
         ensures told { OnOk result (self.new ≡ record { sent = self.old.sent; told = self.old.told ++ told ∷ [] }) }
-        ensures memory { IfErr result (λ r. r ≡ Refusal.Memory) }
+        ensures fails_for_memory_alone { IfErr result (λ r. r ≡ Refusal.Memory) }
     {
         self.told.push(told)?;
         Ok(())
@@ -83,7 +83,7 @@ impl Outbox {
     /// All of it in order.
     pub fn into_outputs(self) -> Result<Vec<Output>, Refusal>
         ensures outputs { IfOk result (λ v. v.items ≡ all_of self) }
-        ensures memory { IfErr result (λ r. r ≡ Refusal.Memory) }
+        ensures fails_for_memory_alone { IfErr result (λ r. r ≡ Refusal.Memory) }
     {
         let Outbox { mut sent, told } = self;
         for output in told {
@@ -96,7 +96,7 @@ impl Outbox {
 // One message is sent.
 pub(crate) fn one(alloc: Global, message: Message) -> Result<Outbox, Refusal>
     ensures sent { IfOk result (λ h. h ≡ sends (message ∷ []) nothing) }
-    ensures memory { IfErr result (λ r. r ≡ refusal.Memory) }
+    ensures fails_for_memory_alone { IfErr result (λ r. r ≡ refusal.Memory) }
 {
     let mut outbox = Outbox::new(alloc);
     outbox.send(message)?;

@@ -30,7 +30,8 @@ impl Channel {
         keys: &K,
         message: &FundingSigned,
     ) -> Result<(), Refusal>
-        ensures answer { AnswersFault (first_fault (K.signer keys.now) self.now.dance message.now.signature) result }
+        ensures refuses_exactly { AnswersFault (first_fault (K.signer keys.now) self.now.dance message.now.signature)
+            result }
         ensures refused { IfErr result (λ r. (r ≡ Refusal.Memory) ⊎ (fails r ≡ true)) }
     {
         check_first(alloc, keys, &self.dance, &message.signature)
@@ -47,7 +48,7 @@ impl Channel {
           sent = outbox.old.sent ++ ready_again (K.signer keys.now) message.now self.now;
           told = outbox.old.told;
         }) }
-        ensures memory { IfErr result (λ r. r ≡ Refusal.Memory) }
+        ensures fails_for_memory_alone { IfErr result (λ r. r ≡ Refusal.Memory) }
     {
         if self.dance.is_before_the_first(message) && self.marks.ready_sent {
             outbox.send(Message::ChannelReady(self.ready_message(alloc, keys)))?;
@@ -60,7 +61,7 @@ impl Channel {
           sent = outbox.old.sent ++ shutdown_again self.now;
           told = outbox.old.told;
         }) }
-        ensures memory { IfErr result (λ r. r ≡ Refusal.Memory) }
+        ensures fails_for_memory_alone { IfErr result (λ r. r ≡ Refusal.Memory) }
     {
         if self.closing.shut {
             let message = self.shutdown_message(alloc)?;
@@ -79,7 +80,7 @@ impl Channel {
           sent = outbox.old.sent ++ fee_again (K.signer keys.now) self.now;
           told = outbox.old.told;
         }) }
-        ensures memory { IfErr result (λ r. r ≡ Refusal.Memory) }
+        ensures fails_for_memory_alone { IfErr result (λ r. r ≡ Refusal.Memory) }
     {
         match self.closing.own_fee {
             None => Ok(()),
@@ -101,7 +102,7 @@ impl Channel {
           sent = outbox.old.sent ++ sent_again (K.signer keys.now) message.now self.now;
           told = outbox.old.told;
         }) }
-        ensures memory { IfErr result (λ r. r ≡ Refusal.Memory) }
+        ensures fails_for_memory_alone { IfErr result (λ r. r ≡ Refusal.Memory) }
     {
         self.send_ready_again(alloc, keys, message, outbox)?;
         outbox.send_owed(resends)?;
@@ -116,7 +117,7 @@ impl Channel {
         keys: &K,
         message: &ChannelReestablish,
     ) -> Result<Vec<Resend>, Refusal>
-        ensures answer { AnswersFault (resume_fault (K.signer keys.now) message.now self.now.dance) result }
+        ensures refuses_exactly { AnswersFault (resume_fault (K.signer keys.now) message.now self.now.dance) result }
         ensures owed { IfOk result (λ v. v.items ≡ owed (K.signer keys.now) message.now self.now.dance) }
     {
         self.dance.resume(alloc, keys, message)
@@ -151,7 +152,7 @@ impl Outbox {
           sent = self.old.sent ++ all_sent messages;
           told = self.old.told;
         }) }
-        ensures memory { IfErr result (λ r. r ≡ Refusal.Memory) }
+        ensures fails_for_memory_alone { IfErr result (λ r. r ≡ Refusal.Memory) }
     {
         for message in messages.into_vec() {
             self.send(message)?;
@@ -164,7 +165,7 @@ impl Outbox {
           sent = self.old.sent ++ one_again resend;
           told = self.old.told;
         }) }
-        ensures memory { IfErr result (λ r. r ≡ Refusal.Memory) }
+        ensures fails_for_memory_alone { IfErr result (λ r. r ≡ Refusal.Memory) }
     {
         match resend {
             Resend::Updates(messages) => self.send_all(messages),
@@ -178,7 +179,7 @@ impl Outbox {
           sent = self.old.sent ++ owed_again resends.items;
           told = self.old.told;
         }) }
-        ensures memory { IfErr result (λ r. r ≡ Refusal.Memory) }
+        ensures fails_for_memory_alone { IfErr result (λ r. r ≡ Refusal.Memory) }
     {
         for resend in resends {
             self.send_one(resend)?;

@@ -68,7 +68,7 @@ impl Channel {
     fn standing(&self, alloc: Global, failure: Option<Refusal>) -> Result<Standing, Refusal>
         ensures standing { IfOk result (λ s. s ≡ standing_of (failed_or failure (life_of self.now))
             (view_at (pair.Current side.Own) self.now.dance) self.now) }
-        ensures memory { IfErr result (λ e. e ≡ Refusal.Memory) }
+        ensures fails_for_memory_alone { IfErr result (λ e. e ≡ Refusal.Memory) }
     {
         let life = match failure {
             Some(refusal) => Life::Failed(refusal),
@@ -100,7 +100,7 @@ impl<K: ChannelKeys + Drop> Link<K> {
     /// Where it stands with its channel. 60 where there is no memory for the HTLCs of its own commitment.
     pub fn standing(&self, alloc: Global) -> Result<Standing, Refusal>
         ensures standing { (l : State K) → StandsFor self.now l → IfOk result (λ s. s ≡ standing l) }
-        ensures memory { IfErr result (λ e. e ≡ Refusal.Memory) }
+        ensures fails_for_memory_alone { IfErr result (λ e. e ≡ Refusal.Memory) }
     {
         match &self.stage {
             Stage::Saved(channel) => channel.standing(alloc, self.failure),

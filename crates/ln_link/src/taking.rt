@@ -77,9 +77,9 @@ impl Channel {
 
     // Takes an update into the log.
     fn receive(&mut self, update: Update) -> Result<(), Refusal>
-        ensures answer { AnswersFault (taken_fault self.old.dance.log update) result }
+        ensures refuses_exactly { AnswersFault (taken_fault self.old.dance.log update) result }
         ensures state { OnOk result (self.new ≡ takes update self.old) }
-        ensures err { OnErr result (self.new ≡ self.old) }
+        ensures changes_nothing_if_refused { OnErr result (self.new ≡ self.old) }
     {
         self.dance.receive(update)
     }
@@ -106,12 +106,12 @@ impl Channel {
         keys: &K,
         message: &CommitmentSigned,
     ) -> Result<RevokeAndAck, Refusal>
-        ensures answer { AnswersFault (accept_fault (K.signer keys.now) message.now self.old.dance) result }
+        ensures refuses_exactly { AnswersFault (accept_fault (K.signer keys.now) message.now self.old.dance) result }
         ensures message { IfOk result (λ m. m ≡ revoked_message (K.signer keys.now) self.old.dance) }
         ensures state { OnOk result (self.new ≡ accepts self.old) }
         ensures grows { OnOk result (self.old.dance.log.current.own ≤ self.new.dance.log.current.own) }
-        ensures kept { OnOk result (self.new.dance.log.first.own ≤ self.old.dance.log.current.own) }
-        ensures err { OnErr result (self.new ≡ self.old) }
+        ensures first_stays_below { OnOk result (self.new.dance.log.first.own ≤ self.old.dance.log.current.own) }
+        ensures changes_nothing_if_refused { OnErr result (self.new ≡ self.old) }
     {
         let _ = own_held(&self.dance);
         self.dance.accept(alloc, keys, message)
@@ -142,11 +142,11 @@ impl Channel {
 
     // Learns a revocation.
     fn learn<K: ChannelKeys>(&mut self, keys: &K, message: &RevokeAndAck) -> Result<(), Refusal>
-        ensures answer { result ≡ answer_of (learn_fault (K.signer keys.now) message.now self.old.dance) }
+        ensures refuses_exactly { result ≡ answer_of (learn_fault (K.signer keys.now) message.now self.old.dance) }
         ensures state { OnOk result (self.new ≡ revokes message.now self.old) }
         ensures grows { OnOk result (self.old.dance.log.acknowledged.peer ≤ self.new.dance.log.acknowledged.peer) }
-        ensures kept { OnOk result (self.new.dance.log.first.peer ≤ self.old.dance.log.acknowledged.peer) }
-        ensures err { OnErr result (self.new ≡ self.old) }
+        ensures first_stays_below { OnOk result (self.new.dance.log.first.peer ≤ self.old.dance.log.acknowledged.peer) }
+        ensures changes_nothing_if_refused { OnErr result (self.new ≡ self.old) }
     {
         let _ = peer_held(&self.dance);
         self.dance.learn(keys, message)
@@ -190,7 +190,7 @@ impl Channel {
     // The peer has shut down, with this script.
     fn note_shutdown(&mut self, alloc: Global, message: &Shutdown) -> Result<(), Refusal>
         ensures state { OnOk result (self.new ≡ shuts_by_peer message.now self.old) }
-        ensures memory { IfErr result (λ r. r ≡ Refusal.Memory) }
+        ensures fails_for_memory_alone { IfErr result (λ r. r ≡ Refusal.Memory) }
     {
         let script = Vec::from_slice(alloc, message.script.as_slice())?;
         self.terms.peer_script = Some(Bytes::new(script));
@@ -228,7 +228,7 @@ impl Channel {
     ) -> Result<Outbox, Refusal>
         ensures handed { IfOk result (λ h. h ≡ (answering (K.signer keys.now) answer self.old).handed) }
         ensures state { OnOk result (self.new ≡ (answering (K.signer keys.now) answer self.old).end) }
-        ensures memory { IfErr result (λ r. r ≡ Refusal.Memory) }
+        ensures fails_for_memory_alone { IfErr result (λ r. r ≡ Refusal.Memory) }
     {
         let mut outbox = Outbox::new(alloc);
         match answer {

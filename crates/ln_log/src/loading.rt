@@ -103,8 +103,8 @@ fn removes_live(by_id: &[Outcome], update: &Update) -> bool
 // Whether each of these that removes an HTLC removes one that was offered and that none before it removes.
 fn are_removals(alloc: Global, adds: &[Update], updates: &[Update]) -> Result<bool, Refusal>
     requires { AreNumbered 0 adds.now }
-    ensures ok { IfOk result (λ b. IsTrue b ↔ AreRemovals adds.now [] updates.now) }
-    ensures memory { IsOkUnless result Refusal.Memory }
+    ensures tells_it { IfOk result (λ b. IsTrue b ↔ AreRemovals adds.now [] updates.now) }
+    ensures fails_for_memory_alone { IsOkUnless result Refusal.Memory }
 {
     let mut by_id = Vec::new(alloc);
     by_id.resize(count_adds(adds), Outcome::Live)?;
@@ -137,7 +137,7 @@ fn account_of(
         + total is_fulfilled peer.now own.now) }
     ensures spent { IfOk result (λ a. a.spent ≡ total is_any own.now peer.now) }
     ensures in_flight { IfOk result (λ a. a.in_flight ≡ total is_live own.now peer.now) }
-    ensures memory { IsOkUnless result Refusal.Memory }
+    ensures fails_for_memory_alone { IsOkUnless result Refusal.Memory }
 {
     let of_own = Outcomes::new(alloc, own.len(), peer)?;
     let of_peer = Outcomes::new(alloc, peer.len(), own)?;
@@ -152,8 +152,8 @@ fn account_of(
 
 // Whether a side hasn't spent more than it had.
 fn pays(alloc: Global, first: u64, own: &[Update], peer: &[Update]) -> Result<bool, Refusal>
-    ensures ok { IfOk result (λ b. IsTrue b ↔ Pays first own.now peer.now) }
-    ensures memory { IsOkUnless result Refusal.Memory }
+    ensures tells_it { IfOk result (λ b. IsTrue b ↔ Pays first own.now peer.now) }
+    ensures fails_for_memory_alone { IsOkUnless result Refusal.Memory }
 {
     let account = account_of(alloc, first, own, peer)?;
     Ok(account.spent <= account.got)
@@ -170,8 +170,9 @@ fn is_lawful(
     requires funds { HasFunds opening.now }
     requires own_ids { AreNumbered 0 own.now }
     requires peer_ids { AreNumbered 0 peer.now }
-    ensures ok { IfOk result (λ b. IsTrue b ↔ IsLawful opening.now role (record { own = own.now; peer = peer.now })) }
-    ensures memory { IsOkUnless result Refusal.Memory }
+    ensures tells_it { IfOk result (λ b. IsTrue b ↔ IsLawful opening.now role (record { own = own.now; peer = peer.now
+        })) }
+    ensures fails_for_memory_alone { IsOkUnless result Refusal.Memory }
 {
     if !are_removals(alloc, peer, own)? || !are_removals(alloc, own, peer)? {
         return Ok(false);
@@ -219,8 +220,8 @@ fn standing_of(
     requires funds { HasFunds opening.now }
     requires ids { AreNumbered 0 own.now }
     requires lawful { IsLawful opening.now side (record { own = own.now; peer = peer.now }) }
-    ensures ok { IfOk result (λ s. s ≡ standing_of (first_balance opening.now side) own.now peer.now) }
-    ensures memory { IsOkUnless result Refusal.Memory }
+    ensures gives_the_standing { IfOk result (λ s. s ≡ standing_of (first_balance opening.now side) own.now peer.now) }
+    ensures fails_for_memory_alone { IsOkUnless result Refusal.Memory }
 {
     let account = account_of(alloc, opening.first_balance(side), own, peer)?;
     let offered = count_adds(own);
@@ -246,9 +247,9 @@ fn covers_lawfully(
     requires peer_ids { AreNumbered 0 received.now }
     requires own_within { counts.own ≤ length own.now }
     requires peer_within { counts.peer ≤ length received.now }
-    ensures ok { IfOk result (λ b. IsTrue b ↔ IsLawful opening.now role
+    ensures tells_it { IfOk result (λ b. IsTrue b ↔ IsLawful opening.now role
         (record { own = take counts.own own.now; peer = take counts.peer received.now })) }
-    ensures memory { IsOkUnless result Refusal.Memory }
+    ensures fails_for_memory_alone { IsOkUnless result Refusal.Memory }
 {
     is_lawful(
         alloc,
@@ -269,8 +270,9 @@ fn views_are_lawful(
     coverage: &Coverage,
 ) -> Result<bool, Refusal>
     requires { AreInOrder (stored opening.now role own.now received.now coverage.now) }
-    ensures ok { IfOk result (λ b. IsTrue b ↔ AreLawful (stored opening.now role own.now received.now coverage.now)) }
-    ensures memory { IsOkUnless result Refusal.Memory }
+    ensures tells_it { IfOk result (λ b. IsTrue b ↔ AreLawful (stored opening.now role own.now received.now
+        coverage.now)) }
+    ensures fails_for_memory_alone { IsOkUnless result Refusal.Memory }
 {
     if !covers_lawfully(alloc, opening, role, own, received, coverage.signed)? {
         return Ok(false);
@@ -303,9 +305,9 @@ impl UpdateLog {
         received: &[Update],
         coverage: &Coverage,
     ) -> Result<bool, Refusal>
-        ensures ok { IfOk result (λ b. IsTrue b ↔ IsReadable
+        ensures tells_it { IfOk result (λ b. IsTrue b ↔ IsReadable
             (stored opening.now role own.now received.now coverage.now)) }
-        ensures memory { IsOkUnless result Refusal.Memory }
+        ensures fails_for_memory_alone { IsOkUnless result Refusal.Memory }
     {
         if !are_in_order(opening, own, received, coverage) {
             return Ok(false);
@@ -342,8 +344,9 @@ impl UpdateLog {
         coverage: Coverage,
     ) -> Result<UpdateLog, Refusal>
         requires { IsReadable (stored opening role own.items received.items coverage) }
-        ensures ok { IfOk result (λ l. StandsFor l (stored opening role own.items received.items coverage)) }
-        ensures memory { IsOkUnless result Refusal.Memory }
+        ensures stands_for_the_lists { IfOk result (λ l. StandsFor l (stored opening role own.items received.items
+            coverage)) }
+        ensures fails_for_memory_alone { IsOkUnless result Refusal.Memory }
     {
         let own_standing = standing_of(alloc, &opening, role, &own, &received)?;
         let acknowledged = &own[..coverage.acknowledged.own];

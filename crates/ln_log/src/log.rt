@@ -170,9 +170,10 @@ impl UpdateLog {
     /// no memory. At each of these nothing has changed.
     pub fn propose(&mut self, update: Update) -> Result<(), Refusal>
         requires { (l : Log) → StandsFor self.old l → HasNextId l.own update }
-        ensures answer { (l : Log) → StandsFor self.old l → Answers (proposal_fault l update) result }
-        ensures ok { (l : Log) → StandsFor self.old l → OnOk result (StandsFor self.new (after_propose update l)) }
-        ensures err { OnErr result (self.new ≡ self.old) }
+        ensures refuses_exactly { (l : Log) → StandsFor self.old l → Answers (proposal_fault l update) result }
+        ensures moves_as_stated { (l : Log) → StandsFor self.old l
+            → OnOk result (StandsFor self.new (after_propose update l)) }
+        ensures changes_nothing_if_refused { OnErr result (self.new ≡ self.old) }
     {
         match self.proposal_refusal(&update) {
             Some(refusal) => Err(refusal),
@@ -241,9 +242,10 @@ impl UpdateLog {
     /// without the BADONION bit; for a fee of the fundee's 30. 60 where there was no memory. At each of
     /// these nothing has changed.
     pub fn receive(&mut self, update: Update) -> Result<(), Refusal>
-        ensures answer { (l : Log) → StandsFor self.old l → Answers (taken_fault l update) result }
-        ensures ok { (l : Log) → StandsFor self.old l → OnOk result (StandsFor self.new (after_receive update l)) }
-        ensures err { OnErr result (self.new ≡ self.old) }
+        ensures refuses_exactly { (l : Log) → StandsFor self.old l → Answers (taken_fault l update) result }
+        ensures moves_as_stated { (l : Log) → StandsFor self.old l
+            → OnOk result (StandsFor self.new (after_receive update l)) }
+        ensures changes_nothing_if_refused { OnErr result (self.new ≡ self.old) }
     {
         match self.taken_refusal(&update) {
             Some(refusal) => Err(refusal),
@@ -453,7 +455,7 @@ impl UpdateLog {
         ensures view { (l : Log) → StandsFor self.now l
             → IfOk result (λ v. v ≡ view_for l.opening l.role (covered l (counts_of pair l))) }
         ensures adds_up { (l : Log) → StandsFor self.now l → IfOk result (λ v. AddsUp l.opening v) }
-        ensures memory { IsOkUnless result Refusal.Memory }
+        ensures fails_for_memory_alone { IsOkUnless result Refusal.Memory }
     {
         let counts = self.counts(pair);
         let own = &self.own[..counts.own];

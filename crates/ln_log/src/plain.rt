@@ -157,9 +157,9 @@ fn push_live(
     adds: &[Update],
     outcomes: &Outcomes,
 ) -> Result<(), Refusal>
-    ensures ok { OnOk result (htlcs.new.items ≡ htlcs.old.items
+    ensures appends_them { OnOk result (htlcs.new.items ≡ htlcs.old.items
         ++ map (htlc_of owner) (live_adds adds.now outcomes.now)) }
-    ensures memory { IsOkUnless result Refusal.Memory }
+    ensures fails_for_memory_alone { IsOkUnless result Refusal.Memory }
 {
     for update in adds {
         match live_add(update, outcomes) {
@@ -212,7 +212,7 @@ pub fn plain_view(
     requires funded { IsFunded opening.now funder.now fundee.now }
     ensures view { IfOk result (λ v. v ≡ view_of opening.now funder.now fundee.now) }
     ensures adds_up { IfOk result (λ v. AddsUp opening.now v) }
-    ensures memory { IsOkUnless result Refusal.Memory }
+    ensures fails_for_memory_alone { IsOkUnless result Refusal.Memory }
 {
     let of_funder = Outcomes::new(alloc, funder.len(), fundee)?;
     let of_fundee = Outcomes::new(alloc, fundee.len(), funder)?;

@@ -91,8 +91,8 @@ impl<'a> Outcomes<'a> {
 
     /// What these updates make of the HTLCs with the first `count` ids. 60 where there was no memory.
     pub fn new(alloc: Global, count: usize, removals: &'a [Update]) -> Result<Outcomes<'a>, Refusal>
-        ensures ok { IfOk result (λ o. o ≡ removals.now) }
-        ensures memory { IsOkUnless result Refusal.Memory }
+        ensures keeps_the_removals { IfOk result (λ o. o ≡ removals.now) }
+        ensures fails_for_memory_alone { IsOkUnless result Refusal.Memory }
     {
         let mut by_id = Vec::new(alloc);
         by_id.resize(count, Outcome::Live)?;

@@ -40,7 +40,7 @@ fn hash_of(payment: u8) -> [u8; 32]
 #[tactic(auto, unfolding(crate::specs::Command::reason_of))]
 fn reason_of(alloc: Global, code: u16) -> Result<Bytes, Refusal>
     ensures reason { IfOk result (λ b. b ≡ reason_of code) }
-    ensures memory { IfErr result (λ e. e ≡ refusal.Memory) }
+    ensures fails_for_memory_alone { IfErr result (λ e. e ≡ refusal.Memory) }
 {
     let mut bytes = Vec::from_slice(alloc, &[(code / 256) as u8, (code % 256) as u8])?;
     if (code / 4096) % 2 == 1 {
@@ -66,7 +66,7 @@ fn onion_of(
     hops: &[&str],
 ) -> Result<Option<[u8; 1366]>, Refusal>
     ensures onion { IfOk result (λ o. o ≡ onion_at payment amount expiry (texts hops.now)) }
-    ensures memory { IfErr result (λ e. e ≡ refusal.Memory) }
+    ensures fails_for_memory_alone { IfErr result (λ e. e ≡ refusal.Memory) }
 {
     match payloads_of(alloc, payment, amount, expiry, hops)? {
         Some(payloads) => Ok(ToyOnion::make(payloads.as_slice(), &hash_of(payment))),
@@ -84,7 +84,7 @@ fn add(
     hops: &[&str],
 ) -> Result<Option<Command>, Refusal>
     ensures command { IfOk result (λ o. o ≡ add_at amount.now expiry.now payment.now (texts hops.now)) }
-    ensures memory { IfErr result (λ e. e ≡ refusal.Memory) }
+    ensures fails_for_memory_alone { IfErr result (λ e. e ≡ refusal.Memory) }
 {
     let Some(amount) = decimal_of(amount) else {
         return Ok(None);
@@ -122,7 +122,7 @@ fn fulfil(id: &str, payment: &str) -> Option<Command>
 /// fail E ID CODE
 fn fail(alloc: Global, id: &str, code: &str) -> Result<Option<Command>, Refusal>
     ensures command { IfOk result (λ o. o ≡ fail_at id.now code.now) }
-    ensures memory { IfErr result (λ e. e ≡ refusal.Memory) }
+    ensures fails_for_memory_alone { IfErr result (λ e. e ≡ refusal.Memory) }
 {
     let Some(id) = decimal_of(id) else {
         return Ok(None);
@@ -157,7 +157,7 @@ fn fee(rate: &str) -> Option<Command>
 /// shutdown E
 fn shutdown(alloc: Global, node: Node) -> Result<Command, Refusal>
     ensures command { IfOk result (λ c. c ≡ shutdown_by node) }
-    ensures memory { IfErr result (λ e. e ≡ refusal.Memory) }
+    ensures fails_for_memory_alone { IfErr result (λ e. e ≡ refusal.Memory) }
 {
     let script = Vec::from_slice(alloc, &[node.letter])?;
     Ok(Command::Shutdown(Bytes::new(script)))
@@ -174,7 +174,7 @@ fn confirm_line(words: &[&str]) -> Option<Command>
 
 fn add_line(alloc: Global, words: &[&str]) -> Result<Option<Command>, Refusal>
     ensures command { IfOk result (λ o. o ≡ add_line (texts words.now)) }
-    ensures memory { IfErr result (λ e. e ≡ refusal.Memory) }
+    ensures fails_for_memory_alone { IfErr result (λ e. e ≡ refusal.Memory) }
 {
     match words {
         [amount, expiry, payment, hops @ ..] => add(alloc, amount, expiry, payment, hops),
@@ -193,7 +193,7 @@ fn fulfil_line(words: &[&str]) -> Option<Command>
 
 fn fail_line(alloc: Global, words: &[&str]) -> Result<Option<Command>, Refusal>
     ensures command { IfOk result (λ o. o ≡ fail_line (texts words.now)) }
-    ensures memory { IfErr result (λ e. e ≡ refusal.Memory) }
+    ensures fails_for_memory_alone { IfErr result (λ e. e ≡ refusal.Memory) }
 {
     match words {
         [id, code] => fail(alloc, id, code),
@@ -230,7 +230,7 @@ fn sign_line(words: &[&str]) -> Option<Command>
 
 fn shutdown_line(alloc: Global, node: Node, words: &[&str]) -> Result<Option<Command>, Refusal>
     ensures command { IfOk result (λ o. o ≡ shutdown_line node (texts words.now)) }
-    ensures memory { IfErr result (λ e. e ≡ refusal.Memory) }
+    ensures fails_for_memory_alone { IfErr result (λ e. e ≡ refusal.Memory) }
 {
     match words {
         [] => Ok(Some(shutdown(alloc, node)?)),
@@ -241,7 +241,7 @@ fn shutdown_line(alloc: Global, node: Node, words: &[&str]) -> Result<Option<Com
 /// The update that a line's first word and those behind its end ask for.
 fn update_of(alloc: Global, word: &str, words: &[&str]) -> Result<Option<Command>, Refusal>
     ensures command { IfOk result (λ o. o ≡ update_at word.now (texts words.now)) }
-    ensures memory { IfErr result (λ e. e ≡ refusal.Memory) }
+    ensures fails_for_memory_alone { IfErr result (λ e. e ≡ refusal.Memory) }
 {
     match word {
         "add" => add_line(alloc, words),
@@ -263,7 +263,7 @@ pub(crate) fn command_of(
     words: &[&str],
 ) -> Result<Option<Command>, Refusal>
     ensures command { IfOk result (λ o. o ≡ command_at node word.now (texts words.now)) }
-    ensures memory { IfErr result (λ e. e ≡ refusal.Memory) }
+    ensures fails_for_memory_alone { IfErr result (λ e. e ≡ refusal.Memory) }
 {
     match word {
         "confirm" => Ok(confirm_line(words)),

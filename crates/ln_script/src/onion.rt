@@ -17,7 +17,7 @@ use std::alloc::Global;
 
 fn number_record(alloc: Global, typ: u64, number: u64) -> Result<Record, Refusal>
     ensures record { IfOk result (λ r. r ≡ as_record typ (truncated number)) }
-    ensures memory { IfErr result (λ e. e ≡ refusal.Memory) }
+    ensures fails_for_memory_alone { IfErr result (λ e. e ≡ refusal.Memory) }
 {
     let mut bytes = [0; 8];
     let len = write_tu64(number, &mut bytes);
@@ -30,7 +30,7 @@ fn number_record(alloc: Global, typ: u64, number: u64) -> Result<Record, Refusal
 
 fn id_record(alloc: Global, id: ShortId) -> Result<Record, Refusal>
     ensures record { IfOk result (λ r. r ≡ as_record 6 (short_id_bytes id.block id.tx id.output)) }
-    ensures memory { IfErr result (λ e. e ≡ refusal.Memory) }
+    ensures fails_for_memory_alone { IfErr result (λ e. e ≡ refusal.Memory) }
 {
     let value = Vec::from_slice(alloc, &id.to_bytes())?;
     Ok(Record {
@@ -41,7 +41,7 @@ fn id_record(alloc: Global, id: ShortId) -> Result<Record, Refusal>
 
 fn payment_record(alloc: Global, payment: u8, total: u64) -> Result<Record, Refusal>
     ensures record { IfOk result (λ r. r ≡ as_record 8 (replicate 32 payment ++ truncated total)) }
-    ensures memory { IfErr result (λ e. e ≡ refusal.Memory) }
+    ensures fails_for_memory_alone { IfErr result (λ e. e ≡ refusal.Memory) }
 {
     let mut bytes = [0; 8];
     let len = write_tu64(total, &mut bytes);
@@ -55,7 +55,7 @@ fn payment_record(alloc: Global, payment: u8, total: u64) -> Result<Record, Refu
 
 fn stream_of(alloc: Global, records: &[Record]) -> Result<Bytes, Refusal>
     ensures bytes { IfOk result (λ b. b ≡ stream_bytes records.now) }
-    ensures memory { IfErr result (λ e. e ≡ refusal.Memory) }
+    ensures fails_for_memory_alone { IfErr result (λ e. e ≡ refusal.Memory) }
 {
     let mut out = Vec::new(alloc);
     match append_tlvs(&mut out, records) {
@@ -68,7 +68,7 @@ fn stream_of(alloc: Global, records: &[Record]) -> Result<Bytes, Refusal>
 #[tactic(auto, unfolding(crate::specs::Onion::hop_payload))]
 fn hop_payload(alloc: Global, hop: Hop) -> Result<Bytes, Refusal>
     ensures payload { IfOk result (λ b. b ≡ hop_payload hop) }
-    ensures memory { IfErr result (λ e. e ≡ refusal.Memory) }
+    ensures fails_for_memory_alone { IfErr result (λ e. e ≡ refusal.Memory) }
 {
     let records = [
         number_record(alloc, 2, hop.amount)?,
@@ -82,7 +82,7 @@ fn hop_payload(alloc: Global, hop: Hop) -> Result<Bytes, Refusal>
 #[tactic(auto, unfolding(crate::specs::Onion::last_payload))]
 fn last_payload(alloc: Global, payment: u8, amount: u64, expiry: u32) -> Result<Bytes, Refusal>
     ensures payload { IfOk result (λ b. b ≡ last_payload payment amount expiry) }
-    ensures memory { IfErr result (λ e. e ≡ refusal.Memory) }
+    ensures fails_for_memory_alone { IfErr result (λ e. e ≡ refusal.Memory) }
 {
     let records = [
         number_record(alloc, 2, amount)?,
@@ -116,7 +116,7 @@ fn front_hop(words: &[&str]) -> Option<Hop>
 
 fn push_hop(alloc: Global, payloads: &mut Vec<Bytes>, hop: Hop) -> Result<(), Refusal>
     ensures pushed { OnOk result (payloads.new.items ≡ payloads.old.items ++ hop_payload hop ∷ []) }
-    ensures memory { IfErr result (λ e. e ≡ refusal.Memory) }
+    ensures fails_for_memory_alone { IfErr result (λ e. e ≡ refusal.Memory) }
 {
     let payload = hop_payload(alloc, hop)?;
     payloads.push(payload)?;
@@ -132,7 +132,7 @@ fn push_last(
 ) -> Result<(), Refusal>
     ensures pushed { OnOk result (payloads.new.items
         ≡ payloads.old.items ++ last_payload payment amount expiry ∷ []) }
-    ensures memory { IfErr result (λ e. e ≡ refusal.Memory) }
+    ensures fails_for_memory_alone { IfErr result (λ e. e ≡ refusal.Memory) }
 {
     let payload = last_payload(alloc, payment, amount, expiry)?;
     payloads.push(payload)?;
@@ -149,7 +149,7 @@ pub(crate) fn payloads_of(
 ) -> Result<Option<Vec<Bytes>>, Refusal>
     ensures payloads { IfOk result (λ o. option_map (λ v. v.items) o
         ≡ payloads_at payment amount expiry (texts hops.now)) }
-    ensures memory { IfErr result (λ e. e ≡ refusal.Memory) }
+    ensures fails_for_memory_alone { IfErr result (λ e. e ≡ refusal.Memory) }
 {
     let mut payloads = Vec::new(alloc);
     let mut amount = amount;

@@ -14,7 +14,8 @@ use std::io::Write;
 ///
 /// The only error is 63, where a call of the writer fails; what was written by then is a beginning of the text.
 pub fn print_all<W: Write>(writer: &mut Counted<W>, text: &str) -> Result<(), Refusal>
-    ensures ok { OnOk result (Appends (W.contents (inner_of writer.old)) (W.contents (inner_of writer.new)) text.now) }
+    ensures prints_it { OnOk result (Appends (W.contents (inner_of writer.old)) (W.contents (inner_of writer.new))
+        text.now) }
     ensures front { IsPartlyWritten (W.contents (inner_of writer.old)) (W.contents (inner_of writer.new)) text.now }
     ensures cause { IfErr result (λ e. (e ≡ Io) × HasRisen (failures_of writer.old) (failures_of writer.new)) }
 {

@@ -39,7 +39,7 @@ fn is_empty_or_comment(line: &str) -> bool
 /// Appends the steps of a line, and answers whether it is a line of a script.
 fn read_line(alloc: Global, line: &str, steps: &mut Vec<Step<ToyKeys>>) -> Result<bool, Refusal>
     ensures read { IfOk result (λ good. if_good good steps.new.items ≡ joined steps.old.items (line_at line.now)) }
-    ensures memory { IfErr result (λ e. e ≡ Memory) }
+    ensures fails_for_memory_alone { IfErr result (λ e. e ≡ Memory) }
 {
     if is_empty_or_comment(line) {
         return Ok(true);

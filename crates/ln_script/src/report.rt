@@ -59,7 +59,7 @@ fn lines_of_step(
 ) -> Result<Vec<Line>, Refusal>
     ensures world { OnOk result (world.new ≡ happens toy step world.old) }
     ensures lines { IfOk result (λ v. v.items ≡ step_lines toy step world.old) }
-    ensures memory { IfErr result (λ e. e ≡ Memory) }
+    ensures fails_for_memory_alone { IfErr result (λ e. e ≡ Memory) }
 {
     let mut lines = Vec::new(alloc);
     world.step(alloc, step, &mut lines)?;
@@ -74,7 +74,7 @@ fn text_of_step(
 ) -> Result<String, Refusal>
     ensures world { OnOk result (world.new ≡ happens toy step world.old) }
     ensures text { IfOk result (λ s. string_bytes s ≡ step_text step world.old) }
-    ensures memory { IfErr result (λ e. e ≡ Memory) }
+    ensures fails_for_memory_alone { IfErr result (λ e. e ≡ Memory) }
 {
     let lines = lines_of_step(alloc, world, step)?;
     let mut text = String::new(alloc);
@@ -85,7 +85,7 @@ fn text_of_step(
 /// How the ends of a world's channels stand.
 fn text_of_ends(alloc: Global, world: &World<ToyKeys>) -> Result<String, Refusal>
     ensures text { IfOk result (λ s. string_bytes s ≡ ends_text world.now) }
-    ensures memory { IfErr result (λ e. e ≡ Memory) }
+    ensures fails_for_memory_alone { IfErr result (λ e. e ≡ Memory) }
 {
     let lines = world.end_lines(alloc)?;
     let mut text = String::new(alloc);
@@ -95,7 +95,8 @@ fn text_of_ends(alloc: Global, world: &World<ToyKeys>) -> Result<String, Refusal
 
 /// Writes a text.
 fn print_text<W: Write>(writer: &mut Counted<W>, text: &str) -> Result<(), Refusal>
-    ensures ok { OnOk result (Appends (W.contents (inner_of writer.old)) (W.contents (inner_of writer.new)) text.now) }
+    ensures prints_it { OnOk result (Appends (W.contents (inner_of writer.old)) (W.contents (inner_of writer.new))
+        text.now) }
     ensures front { IsPartlyWritten (W.contents (inner_of writer.old)) (W.contents (inner_of writer.new)) text.now }
     ensures cause { IfErr result (λ e. (e ≡ Io) × HasRisen (failures_of writer.old) (failures_of writer.new)) }
     ensures no_fewer_failures { failures_of writer.old ≤ failures_of writer.new }
@@ -112,7 +113,7 @@ fn print_step<W: Write>(
     writer: &mut Counted<W>,
 ) -> Result<(), Refusal>
     ensures world { OnOk result (world.new ≡ happens toy step world.old) }
-    ensures ok { OnOk result (Appends (W.contents (inner_of writer.old)) (W.contents (inner_of writer.new))
+    ensures prints_it { OnOk result (Appends (W.contents (inner_of writer.old)) (W.contents (inner_of writer.new))
         (step_text step world.old)) }
     ensures front { IsPartlyWritten (W.contents (inner_of writer.old)) (W.contents (inner_of writer.new))
         (step_text step world.old) }
@@ -132,7 +133,7 @@ fn print_steps<W: Write>(
     writer: &mut Counted<W>,
 ) -> Result<(), Refusal>
     ensures world { OnOk result (world.new ≡ run toy steps.items world.old) }
-    ensures ok { OnOk result (Appends (W.contents (inner_of writer.old)) (W.contents (inner_of writer.new))
+    ensures prints_it { OnOk result (Appends (W.contents (inner_of writer.old)) (W.contents (inner_of writer.new))
         (steps_text steps.items world.old)) }
     ensures front { IsPartlyWritten (W.contents (inner_of writer.old)) (W.contents (inner_of writer.new))
         (steps_text steps.items world.old) }
@@ -152,7 +153,7 @@ fn print_ends<W: Write>(
     world: &World<ToyKeys>,
     writer: &mut Counted<W>,
 ) -> Result<(), Refusal>
-    ensures ok { OnOk result (Appends (W.contents (inner_of writer.old)) (W.contents (inner_of writer.new))
+    ensures prints_it { OnOk result (Appends (W.contents (inner_of writer.old)) (W.contents (inner_of writer.new))
         (ends_text world.now)) }
     ensures front { IsPartlyWritten (W.contents (inner_of writer.old)) (W.contents (inner_of writer.new))
         (ends_text world.now) }
@@ -174,7 +175,7 @@ pub fn print_report<W: Write>(
     steps: Vec<Step<ToyKeys>>,
     writer: &mut Counted<W>,
 ) -> Result<(), Refusal>
-    ensures ok { OnOk result (Appends (W.contents (inner_of writer.old)) (W.contents (inner_of writer.new))
+    ensures prints_it { OnOk result (Appends (W.contents (inner_of writer.old)) (W.contents (inner_of writer.new))
         (report_text steps.items)) }
     ensures front { IsPartlyWritten (W.contents (inner_of writer.old)) (W.contents (inner_of writer.new))
         (report_text steps.items) }

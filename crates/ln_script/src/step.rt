@@ -177,7 +177,7 @@ fn deliver_line(words: &[&str]) -> Option<Step<ToyKeys>>
 #[tactic(auto, unfolding(crate::specs::Step::command_line))]
 fn command_line(alloc: Global, word: &str, words: &[&str]) -> Result<Option<Step<ToyKeys>>, Refusal>
     ensures step { IfOk result (λ o. o ≡ command_line word.now (texts words.now)) }
-    ensures memory { IfErr result (λ e. e ≡ refusal.Memory) }
+    ensures fails_for_memory_alone { IfErr result (λ e. e ≡ refusal.Memory) }
 {
     let [end, rest @ ..] = words else {
         return Ok(None);
@@ -195,7 +195,7 @@ fn command_line(alloc: Global, word: &str, words: &[&str]) -> Result<Option<Step
 #[tactic(auto, unfolding(crate::specs::Step::step_at))]
 fn step_of(alloc: Global, word: &str, words: &[&str]) -> Result<Option<Step<ToyKeys>>, Refusal>
     ensures step { IfOk result (λ o. o ≡ step_at word.now (texts words.now)) }
-    ensures memory { IfErr result (λ e. e ≡ refusal.Memory) }
+    ensures fails_for_memory_alone { IfErr result (λ e. e ≡ refusal.Memory) }
 {
     match word {
         "set" => Ok(set_line(words)),
@@ -229,7 +229,7 @@ fn push_ready(
     steps: &mut Vec<Step<ToyKeys>>,
 ) -> Result<(), Refusal>
     ensures pushed { OnOk result (steps.new.items ≡ steps.old.items ++ ready_steps opening id) }
-    ensures memory { IfErr result (λ e. e ≡ refusal.Memory) }
+    ensures fails_for_memory_alone { IfErr result (λ e. e ≡ refusal.Memory) }
 {
     let channel = opening.channel;
     let funder = opening.funder;
@@ -246,7 +246,7 @@ fn push_ready(
 fn ready_line(words: &[&str], steps: &mut Vec<Step<ToyKeys>>) -> Result<bool, Refusal>
     ensures read { IfOk result (λ good. if_good good steps.new.items
         ≡ joined steps.old.items (ready_line (texts words.now))) }
-    ensures memory { IfErr result (λ e. e ≡ refusal.Memory) }
+    ensures fails_for_memory_alone { IfErr result (λ e. e ≡ refusal.Memory) }
 {
     let [channel, funder, fundee, satoshis, push, id] = words else {
         return Ok(false);
@@ -269,7 +269,7 @@ fn step_line(
 ) -> Result<bool, Refusal>
     ensures read { IfOk result (λ good. if_good good steps.new.items
         ≡ joined steps.old.items (one_step (step_at word.now (texts words.now)))) }
-    ensures memory { IfErr result (λ e. e ≡ refusal.Memory) }
+    ensures fails_for_memory_alone { IfErr result (λ e. e ≡ refusal.Memory) }
 {
     match step_of(alloc, word, words)? {
         Some(step) => {
@@ -289,7 +289,7 @@ fn word_line(
 ) -> Result<bool, Refusal>
     ensures read { IfOk result (λ good. if_good good steps.new.items
         ≡ joined steps.old.items (word_line word.now (texts words.now))) }
-    ensures memory { IfErr result (λ e. e ≡ refusal.Memory) }
+    ensures fails_for_memory_alone { IfErr result (λ e. e ≡ refusal.Memory) }
 {
     match word {
         "ready" => ready_line(words, steps),
@@ -305,7 +305,7 @@ pub(crate) fn push_steps(
 ) -> Result<bool, Refusal>
     ensures read { IfOk result (λ good. if_good good steps.new.items
         ≡ joined steps.old.items (steps_at (texts words.now))) }
-    ensures memory { IfErr result (λ e. e ≡ refusal.Memory) }
+    ensures fails_for_memory_alone { IfErr result (λ e. e ≡ refusal.Memory) }
 {
     match words {
         [word, rest @ ..] => word_line(alloc, word, rest, steps),

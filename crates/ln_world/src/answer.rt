@@ -28,7 +28,7 @@ pub(crate) fn handle<K: ChannelKeys + Copy>(
 ) -> Result<Answer, Refusal>
     ensures said { IfOk result (λ a. handled (K.signer link.old.keys) link.old message ≡ said_by a link.new) }
     ensures link { OnOk result (link.new ≡ left refused (handled (K.signer link.old.keys) link.old message) link.old) }
-    ensures memory { IfErr result (λ e. e ≡ refusal.Memory) }
+    ensures fails_for_memory_alone { IfErr result (λ e. e ≡ refusal.Memory) }
 {
     match link.handle(alloc, message) {
         Ok(outputs) => Ok(Answer::Done(outputs)),
@@ -46,7 +46,7 @@ pub(crate) fn command<K: ChannelKeys + Copy>(
     ensures said { IfOk result (λ a. commanded (K.signer link.old.keys) link.old command ≡ said_by a link.new) }
     ensures link { OnOk result (link.new
         ≡ left unchanged (commanded (K.signer link.old.keys) link.old command) link.old) }
-    ensures memory { IfErr result (λ e. e ≡ refusal.Memory) }
+    ensures fails_for_memory_alone { IfErr result (λ e. e ≡ refusal.Memory) }
 {
     match link.command(alloc, command) {
         Ok(outputs) => Ok(Answer::Done(outputs)),
@@ -62,7 +62,7 @@ pub(crate) fn connect<K: ChannelKeys + Copy>(
 ) -> Result<Answer, Refusal>
     ensures said { IfOk result (λ a. greeting K.signer link.old ≡ said_by a link.new) }
     ensures link { OnOk result (link.new ≡ left unchanged (greeting K.signer link.old) link.old) }
-    ensures memory { IfErr result (λ e. e ≡ refusal.Memory) }
+    ensures fails_for_memory_alone { IfErr result (λ e. e ≡ refusal.Memory) }
 {
     match link.connect(alloc) {
         Ok(outputs) => Ok(Answer::Done(outputs)),

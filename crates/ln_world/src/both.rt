@@ -39,7 +39,7 @@ impl<K: ChannelKeys + Copy> Model for Place<K> {
 /// The messages among what is handed out join those in flight.
 fn send_all(outputs: Vec<Output>, inbox: &mut VecDeque<Message>) -> Result<(), Refusal>
     ensures sent { OnOk result (inbox.new.items ≡ inbox.old.items ++ messages_in outputs.items) }
-    ensures memory { IfErr result (λ e. e ≡ refusal.Memory) }
+    ensures fails_for_memory_alone { IfErr result (λ e. e ≡ refusal.Memory) }
 {
     for output in outputs {
         match output {
@@ -75,7 +75,7 @@ impl<K: ChannelKeys + Copy> Place<K> {
     /// What is sent to it is in flight, or lost where it has no connection. 60 where there is no memory.
     fn take_in(&mut self, outputs: Vec<Output>) -> Result<(), Refusal>
         ensures sent { OnOk result (self.new ≡ reaches (messages_in outputs.items) self.old) }
-        ensures memory { IfErr result (λ e. e ≡ Refusal.Memory) }
+        ensures fails_for_memory_alone { IfErr result (λ e. e ≡ Refusal.Memory) }
     {
         if self.link.line().is_down() {
             return Ok(());
@@ -85,7 +85,7 @@ impl<K: ChannelKeys + Copy> Place<K> {
 
     fn take_reply(&mut self, reply: Option<Message>) -> Result<(), Refusal>
         ensures sent { OnOk result (self.new ≡ reaches (one_or_none reply) self.old) }
-        ensures memory { IfErr result (λ e. e ≡ Refusal.Memory) }
+        ensures fails_for_memory_alone { IfErr result (λ e. e ≡ Refusal.Memory) }
     {
         if self.link.line().is_down() {
             return Ok(());
@@ -124,7 +124,7 @@ fn hand_out<K: ChannelKeys + Copy>(
     ensures sent { OnOk result (other.new ≡ reaches (messages_in outputs.items) other.old) }
     ensures told { OnOk result (lines.new.items
         ≡ lines.old.items ++ lines_of end (numbers_of link.now.stage) outputs.items) }
-    ensures memory { IfErr result (λ e. e ≡ refusal.Memory) }
+    ensures fails_for_memory_alone { IfErr result (λ e. e ≡ refusal.Memory) }
 {
     let numbers = link.numbers();
     tell_outputs(end, numbers, &outputs, lines)?;
@@ -142,7 +142,7 @@ fn refuse<K: ChannelKeys + Copy>(
     ensures sent { OnOk result (other.new ≡ reaches (replies (channel_id_of end.channel) why) other.old) }
     ensures told { OnOk result (lines.new.items
         ≡ lines.old.items ++ refused_lines end (channel_id_of end.channel) why) }
-    ensures memory { IfErr result (λ e. e ≡ refusal.Memory) }
+    ensures fails_for_memory_alone { IfErr result (λ e. e ≡ refusal.Memory) }
 {
     let reply = reply_of(alloc, &channel_id_of(end.channel), why)?;
     tell_refusal(end, why, &reply, lines)?;
@@ -162,7 +162,7 @@ fn pass_on<K: ChannelKeys + Copy>(
         ≡ reaches (sent_by (channel_id_of end.channel) (said_by answer link.now)) other.old) }
     ensures told { OnOk result (lines.new.items
         ≡ lines.old.items ++ told_by end (channel_id_of end.channel) (said_by answer link.now)) }
-    ensures memory { IfErr result (λ e. e ≡ refusal.Memory) }
+    ensures fails_for_memory_alone { IfErr result (λ e. e ≡ refusal.Memory) }
 {
     match answer {
         Answer::Done(outputs) => hand_out(end, link, outputs, other, lines),
@@ -182,7 +182,7 @@ fn deliver<K: ChannelKeys + Copy>(
         ≡ delivers K.signer (channel_id_of end.channel) x.old.inbox (record { x = x.old; y = y.old })) }
     ensures told { OnOk result (lines.new.items ≡ lines.old.items
         ++ delivered_lines K.signer end (channel_id_of end.channel) x.old.inbox x.old.link) }
-    ensures memory { IfErr result (λ e. e ≡ refusal.Memory) }
+    ensures fails_for_memory_alone { IfErr result (λ e. e ≡ refusal.Memory) }
 {
     match x.inbox.pop_front() {
         None => {
@@ -209,7 +209,7 @@ fn give<K: ChannelKeys + Copy>(
         ≡ acts K.signer (channel_id_of end.channel) (act.Send command) (record { x = x.old; y = y.old })) }
     ensures told { OnOk result (lines.new.items ≡ lines.old.items
         ++ act_lines K.signer end (channel_id_of end.channel) (act.Send command) x.old) }
-    ensures memory { IfErr result (λ e. e ≡ refusal.Memory) }
+    ensures fails_for_memory_alone { IfErr result (λ e. e ≡ refusal.Memory) }
 {
     let answer = obey(alloc, &mut x.link, command)?;
     pass_on(alloc, end, &x.link, answer, y, lines)
@@ -228,7 +228,7 @@ pub(crate) fn act<K: ChannelKeys + Copy>(
         ≡ acts K.signer (channel_id_of end.channel) act (record { x = x.old; y = y.old })) }
     ensures told { OnOk result (lines.new.items ≡ lines.old.items
         ++ act_lines K.signer end (channel_id_of end.channel) act x.old) }
-    ensures memory { IfErr result (λ e. e ≡ refusal.Memory) }
+    ensures fails_for_memory_alone { IfErr result (λ e. e ≡ refusal.Memory) }
 {
     match act {
         Act::Deliver => deliver(alloc, end, x, y, lines),
@@ -246,7 +246,7 @@ fn greet<K: ChannelKeys + Copy>(
 ) -> Result<(), Refusal>
     ensures sent { OnOk result (other.new ≡ reaches (greets (said_by answer link.now)) other.old) }
     ensures told { OnOk result (lines.new.items ≡ lines.old.items ++ greet_lines end (said_by answer link.now)) }
-    ensures memory { IfErr result (λ e. e ≡ refusal.Memory) }
+    ensures fails_for_memory_alone { IfErr result (λ e. e ≡ refusal.Memory) }
 {
     match answer {
         Answer::Done(outputs) => hand_out(end, link, outputs, other, lines),
@@ -265,7 +265,7 @@ pub(crate) fn meet<K: ChannelKeys + Copy>(
     ensures both { OnOk result (record { x = x.new; y = y.new } ≡ meet K.signer (record { x = x.old; y = y.old })) }
     ensures told { OnOk result (lines.new.items ≡ lines.old.items
         ++ (greet_lines ends.0 (greeting K.signer x.old.link) ++ greet_lines ends.1 (greeting K.signer y.old.link))) }
-    ensures memory { IfErr result (λ e. e ≡ refusal.Memory) }
+    ensures fails_for_memory_alone { IfErr result (λ e. e ≡ refusal.Memory) }
 {
     let from_x = connect(alloc, &mut x.link)?;
     let from_y = connect(alloc, &mut y.link)?;

@@ -105,7 +105,7 @@ impl<K: ChannelKeys + Copy> Channel<K> {
         ensures told { OnOk result (lines.new.items ≡ lines.old.items ++ act_lines K.signer (end_of side self.old)
             (channel_id_of self.old.number) what (place_of side self.old.both)) }
         ensures number { self.new.number ≡ self.old.number }
-        ensures memory { IfErr result (λ e. e ≡ Refusal.Memory) }
+        ensures fails_for_memory_alone { IfErr result (λ e. e ≡ Refusal.Memory) }
     {
         match side {
             Role::Funder => {
@@ -138,7 +138,7 @@ impl<K: ChannelKeys + Copy> Channel<K> {
         ensures told { OnOk result (lines.new.items
             ≡ lines.old.items ++ acted_lines K.signer what self.old (side_of node self.old)) }
         ensures number { self.new.number ≡ self.old.number }
-        ensures memory { IfErr result (λ e. e ≡ Refusal.Memory) }
+        ensures fails_for_memory_alone { IfErr result (λ e. e ≡ Refusal.Memory) }
     {
         match self.side_of(node) {
             None => {
@@ -155,7 +155,7 @@ impl<K: ChannelKeys + Copy> Channel<K> {
         ensures moved { OnOk result (self.new ≡ moved K.signer (fall_moves node) self.old) }
         ensures told { OnOk result (lines.new.items ≡ lines.old.items ++ fallen_lines (side_of node self.old)) }
         ensures number { self.new.number ≡ self.old.number }
-        ensures memory { IfErr result (λ e. e ≡ Refusal.Memory) }
+        ensures fails_for_memory_alone { IfErr result (λ e. e ≡ Refusal.Memory) }
     {
         match self.side_of(node) {
             None => lines.push(Line::Idle)?,
@@ -169,7 +169,7 @@ impl<K: ChannelKeys + Copy> Channel<K> {
     /// 60 where there is no memory.
     fn open(&mut self, alloc: Global) -> Result<(), Refusal>
         ensures moved { OnOk result (self.new ≡ moved K.signer (λ c. opening_moves) self.old) }
-        ensures memory { IfErr result (λ e. e ≡ Refusal.Memory) }
+        ensures fails_for_memory_alone { IfErr result (λ e. e ≡ Refusal.Memory) }
     {
         let mut lines = Vec::new(alloc);
         self.meet(alloc, &mut lines)?;
@@ -187,7 +187,7 @@ impl<K: ChannelKeys + Copy> Channel<K> {
             ++ (greet_lines (end_of Funder self.old) (greeting K.signer self.old.both.x.link)
             ++ greet_lines (end_of Fundee self.old) (greeting K.signer self.old.both.y.link))) }
         ensures number { self.new.number ≡ self.old.number }
-        ensures memory { IfErr result (λ e. e ≡ Refusal.Memory) }
+        ensures fails_for_memory_alone { IfErr result (λ e. e ≡ Refusal.Memory) }
     {
         let ends = (self.end(Role::Funder), self.end(Role::Fundee));
         meet(alloc, ends, &mut self.funder, &mut self.fundee, lines)
@@ -200,7 +200,7 @@ impl<K: ChannelKeys + Copy> Channel<K> {
             ≡ moved K.signer up_moves self.old) }
         ensures told { OnOk result (lines.new.items ≡ lines.old.items ++ met_lines K.signer self.old) }
         ensures number { self.new.number ≡ self.old.number }
-        ensures memory { IfErr result (λ e. e ≡ Refusal.Memory) }
+        ensures fails_for_memory_alone { IfErr result (λ e. e ≡ Refusal.Memory) }
     {
         if !(self.funder.may_come_up() && self.fundee.may_come_up()) {
             lines.push(Line::Idle)?;
@@ -215,7 +215,7 @@ impl<K: ChannelKeys + Copy> Channel<K> {
           end = end_of side self.now;
           standing = standing (place_of side self.now.both).link;
         }) }
-        ensures memory { IfErr result (λ e. e ≡ Refusal.Memory) }
+        ensures fails_for_memory_alone { IfErr result (λ e. e ≡ Refusal.Memory) }
     {
         Ok(EndLine {
             end: self.end(side),
@@ -226,7 +226,7 @@ impl<K: ChannelKeys + Copy> Channel<K> {
     /// Where its two ends stand, the funder's first. 60 where there is no memory.
     pub(crate) fn tell_ends(&self, alloc: Global, lines: &mut Vec<EndLine>) -> Result<(), Refusal>
         ensures told { OnOk result (lines.new.items ≡ lines.old.items ++ lines_of_ends (Some self.now)) }
-        ensures memory { IfErr result (λ e. e ≡ Refusal.Memory) }
+        ensures fails_for_memory_alone { IfErr result (λ e. e ≡ Refusal.Memory) }
     {
         lines.push(self.end_line(alloc, Role::Funder)?)?;
         lines.push(self.end_line(alloc, Role::Fundee)?)?;
@@ -243,7 +243,7 @@ fn begin<K: ChannelKeys + Copy>(
 ) -> Result<Channel<K>, Refusal>
     requires { CanBring wish.now.satoshis wish.now.push funder.now fundee.now }
     ensures begun { IfOk result (λ c. c ≡ begun_by K.ChannelKeys wish.now funder.now fundee.now) }
-    ensures memory { IfErr result (λ e. e ≡ refusal.Memory) }
+    ensures fails_for_memory_alone { IfErr result (λ e. e ≡ refusal.Memory) }
 {
     let spec = fit_spec(
         alloc,
@@ -272,7 +272,7 @@ pub fn open_channel<K: ChannelKeys + Copy>(
 ) -> Result<Channel<K>, Refusal>
     requires { CanBring wish.now.satoshis wish.now.push funder.now fundee.now }
     ensures opened { IfOk result (λ c. c ≡ opened_by K.ChannelKeys wish.now funder.now fundee.now) }
-    ensures memory { IfErr result (λ e. e ≡ refusal.Memory) }
+    ensures fails_for_memory_alone { IfErr result (λ e. e ≡ refusal.Memory) }
 {
     let mut channel = begin(alloc, wish, funder, fundee)?;
     channel.open(alloc)?;

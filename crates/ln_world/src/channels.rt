@@ -39,7 +39,7 @@ fn tell_ends_at<K: ChannelKeys + Copy>(
     lines: &mut Vec<EndLine>,
 ) -> Result<(), Refusal>
     ensures told { OnOk result (lines.new.items ≡ lines.old.items ++ lines_of_ends (channel number channels.now)) }
-    ensures memory { IfErr result (λ e. e ≡ refusal.Memory) }
+    ensures fails_for_memory_alone { IfErr result (λ e. e ≡ refusal.Memory) }
 {
     match place_of(channels, number) {
         None => Ok(()),
@@ -60,7 +60,7 @@ fn act_at<K: ChannelKeys + Copy>(
     ensures told { OnOk result (lines.new.items ≡ lines.old.items
         ++ if_there (λ c. acted_lines K.signer what c (side_of end.node c)) (channel end.channel channels.old)) }
     ensures once { AreOnce channels.new }
-    ensures memory { IfErr result (λ e. e ≡ refusal.Memory) }
+    ensures fails_for_memory_alone { IfErr result (λ e. e ≡ refusal.Memory) }
 {
     match place_of(channels, end.channel) {
         None => {
@@ -82,7 +82,7 @@ fn fall_at<K: ChannelKeys + Copy>(
     ensures told { OnOk result (lines.new.items ≡ lines.old.items
         ++ if_there (λ c. fallen_lines (side_of end.node c)) (channel end.channel channels.old)) }
     ensures once { AreOnce channels.new }
-    ensures memory { IfErr result (λ e. e ≡ refusal.Memory) }
+    ensures fails_for_memory_alone { IfErr result (λ e. e ≡ refusal.Memory) }
 {
     match place_of(channels, end.channel) {
         None => {
@@ -105,7 +105,7 @@ fn come_up_at<K: ChannelKeys + Copy>(
     ensures told { OnOk result (lines.new.items
         ≡ lines.old.items ++ if_there (met_lines K.signer) (channel number channels.old)) }
     ensures once { AreOnce channels.new }
-    ensures memory { IfErr result (λ e. e ≡ refusal.Memory) }
+    ensures fails_for_memory_alone { IfErr result (λ e. e ≡ refusal.Memory) }
 {
     match place_of(channels, number) {
         None => {
@@ -169,7 +169,7 @@ impl<K: ChannelKeys + Copy> Channels<K> {
         requires number { channel wish.now.channel self.old ≡ None }
         ensures joined { OnOk result (self.new
             ≡ self.old ++ opened_by K.ChannelKeys wish.now funder.now fundee.now ∷ []) }
-        ensures memory { IfErr result (λ e. e ≡ Refusal.Memory) }
+        ensures fails_for_memory_alone { IfErr result (λ e. e ≡ Refusal.Memory) }
     {
         let channel = open_channel(alloc, wish, funder, fundee)?;
         self.items.push(channel)?;
@@ -187,7 +187,7 @@ impl<K: ChannelKeys + Copy> Channels<K> {
         ensures moved { OnOk result (self.new ≡ moved_at K.signer end.channel (act_moves end.node what) self.old) }
         ensures told { OnOk result (lines.new.items ≡ lines.old.items
             ++ if_there (λ c. acted_lines K.signer what c (side_of end.node c)) (channel end.channel self.old)) }
-        ensures memory { IfErr result (λ e. e ≡ Refusal.Memory) }
+        ensures fails_for_memory_alone { IfErr result (λ e. e ≡ Refusal.Memory) }
     {
         act_at(alloc, &mut self.items, end, what, lines)
     }
@@ -197,7 +197,7 @@ impl<K: ChannelKeys + Copy> Channels<K> {
         ensures moved { OnOk result (self.new ≡ moved_at K.signer end.channel (fall_moves end.node) self.old) }
         ensures told { OnOk result (lines.new.items ≡ lines.old.items
             ++ if_there (λ c. fallen_lines (side_of end.node c)) (channel end.channel self.old)) }
-        ensures memory { IfErr result (λ e. e ≡ Refusal.Memory) }
+        ensures fails_for_memory_alone { IfErr result (λ e. e ≡ Refusal.Memory) }
     {
         fall_at(&mut self.items, end, lines)
     }
@@ -212,7 +212,7 @@ impl<K: ChannelKeys + Copy> Channels<K> {
         ensures moved { OnOk result (self.new ≡ moved_at K.signer number up_moves self.old) }
         ensures told { OnOk result (lines.new.items
             ≡ lines.old.items ++ if_there (met_lines K.signer) (channel number self.old)) }
-        ensures memory { IfErr result (λ e. e ≡ Refusal.Memory) }
+        ensures fails_for_memory_alone { IfErr result (λ e. e ≡ Refusal.Memory) }
     {
         come_up_at(alloc, &mut self.items, number, lines)
     }
@@ -225,7 +225,7 @@ impl<K: ChannelKeys + Copy> Channels<K> {
         lines: &mut Vec<EndLine>,
     ) -> Result<(), Refusal>
         ensures told { OnOk result (lines.new.items ≡ lines.old.items ++ lines_of_ends (channel number self.now)) }
-        ensures memory { IfErr result (λ e. e ≡ Refusal.Memory) }
+        ensures fails_for_memory_alone { IfErr result (λ e. e ≡ Refusal.Memory) }
     {
         tell_ends_at(alloc, &self.items, number, lines)
     }

@@ -79,7 +79,7 @@ const POINTS: Points = Points {
 /// What a node opens channels with, as its links take it. 60 where there is no memory.
 pub(crate) fn config_of(alloc: Global, node: Node, settings: &Settings) -> Result<Config, Refusal>
     ensures config { IfOk result (λ c. c ≡ config_of node settings.now) }
-    ensures memory { IfErr result (λ e. e ≡ refusal.Memory) }
+    ensures fails_for_memory_alone { IfErr result (λ e. e ≡ refusal.Memory) }
 {
     let script = Vec::from_slice(alloc, &[node.letter])?;
     Ok(Config {
@@ -160,7 +160,7 @@ pub(crate) fn fit_config(
 ) -> Result<FitConfig, Refusal>
     requires { IsFitConfig (config_of node settings.now) }
     ensures config { IfOk result (λ c. c ≡ config_of node settings.now) }
-    ensures memory { IfErr result (λ e. e ≡ refusal.Memory) }
+    ensures fails_for_memory_alone { IfErr result (λ e. e ≡ refusal.Memory) }
 {
     Ok(FitConfig::new(config_of(alloc, node, settings)?))
 }
@@ -176,7 +176,7 @@ pub(crate) fn fit_spec(
 ) -> Result<FitSpec, Refusal>
     requires { IsFitSpec (spec_of channel (config_of node settings.now) satoshis push) }
     ensures spec { IfOk result (λ s. s ≡ spec_of channel (config_of node settings.now) satoshis push) }
-    ensures memory { IfErr result (λ e. e ≡ refusal.Memory) }
+    ensures fails_for_memory_alone { IfErr result (λ e. e ≡ refusal.Memory) }
 {
     let config = config_of(alloc, node, settings)?;
     Ok(FitSpec::new(spec_of(alloc, channel, config, satoshis, push)))
@@ -205,7 +205,7 @@ fn place_of(all: &[Setting], node: Node) -> Option<usize>
 /// Sets what a node opens channels with. 60 where there is no memory.
 pub(crate) fn set_for(all: &mut Vec<Setting>, node: Node, settings: Settings) -> Result<(), Refusal>
     ensures set { OnOk result (all.new.items ≡ with_settings node settings all.old.items) }
-    ensures memory { IfErr result (λ e. e ≡ refusal.Memory) }
+    ensures fails_for_memory_alone { IfErr result (λ e. e ≡ refusal.Memory) }
 {
     let setting = Setting { node, settings };
     match place_of(all, node) {

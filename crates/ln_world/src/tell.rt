@@ -90,7 +90,7 @@ fn tell_message(
     lines: &mut Vec<Line>,
 ) -> Result<(), Refusal>
     ensures told { OnOk result (lines.new.items ≡ lines.old.items ++ sends_line end (word_of numbers message.now)) }
-    ensures memory { IfErr result (λ e. e ≡ refusal.Memory) }
+    ensures fails_for_memory_alone { IfErr result (λ e. e ≡ refusal.Memory) }
 {
     match word_of(numbers, message) {
         Some(word) => lines.push(Line::Sends(end, word))?,
@@ -106,7 +106,7 @@ fn tell_output(
     lines: &mut Vec<Line>,
 ) -> Result<(), Refusal>
     ensures told { OnOk result (lines.new.items ≡ lines.old.items ++ line_of end numbers output.now) }
-    ensures memory { IfErr result (λ e. e ≡ refusal.Memory) }
+    ensures fails_for_memory_alone { IfErr result (λ e. e ≡ refusal.Memory) }
 {
     match output {
         Output::Send(message) => tell_message(end, numbers, message, lines),
@@ -128,7 +128,7 @@ pub(crate) fn tell_outputs(
     lines: &mut Vec<Line>,
 ) -> Result<(), Refusal>
     ensures told { OnOk result (lines.new.items ≡ lines.old.items ++ lines_of end numbers outputs.now) }
-    ensures memory { IfErr result (λ e. e ≡ refusal.Memory) }
+    ensures fails_for_memory_alone { IfErr result (λ e. e ≡ refusal.Memory) }
 {
     for output in outputs {
         tell_output(end, numbers, output, lines)?;
@@ -145,7 +145,7 @@ pub(crate) fn tell_refusal(
 ) -> Result<(), Refusal>
     ensures told { OnOk result (lines.new.items
         ≡ lines.old.items ++ line.Refused end why ∷ reply_lines end (one_or_none reply.now)) }
-    ensures memory { IfErr result (λ e. e ≡ refusal.Memory) }
+    ensures fails_for_memory_alone { IfErr result (λ e. e ≡ refusal.Memory) }
 {
     lines.push(Line::Refused(end, why))?;
     match reply {
@@ -161,7 +161,7 @@ pub(crate) fn reply_of(
     why: Refusal,
 ) -> Result<Option<Message>, Refusal>
     ensures reply { IfOk result (λ m. m ≡ reply_of id.now (refusal_number why)) }
-    ensures memory { IfErr result (λ e. e ≡ refusal.Memory) }
+    ensures fails_for_memory_alone { IfErr result (λ e. e ≡ refusal.Memory) }
 {
     why.reply(alloc, id)
 }

@@ -53,7 +53,7 @@ impl<K: ChannelKeys + Copy> World<K> {
 
     fn set_fees(&mut self, node: Node, fees: Fees) -> Result<(), Refusal>
         ensures world { OnOk result (self.new ≡ happens K.ChannelKeys (step.Fees node fees) self.old) }
-        ensures memory { IfErr result (λ e. e ≡ Refusal.Memory) }
+        ensures fails_for_memory_alone { IfErr result (λ e. e ≡ Refusal.Memory) }
     {
         let limits = self.settings_of(node).limits;
         set_for(&mut self.settings, node, Settings { fees, limits })
@@ -61,7 +61,7 @@ impl<K: ChannelKeys + Copy> World<K> {
 
     fn set_limits(&mut self, node: Node, limits: Limits) -> Result<(), Refusal>
         ensures world { OnOk result (self.new ≡ happens K.ChannelKeys (step.Limits node limits) self.old) }
-        ensures memory { IfErr result (λ e. e ≡ Refusal.Memory) }
+        ensures fails_for_memory_alone { IfErr result (λ e. e ≡ Refusal.Memory) }
     {
         let fees = self.settings_of(node).fees;
         set_for(&mut self.settings, node, Settings { fees, limits })
@@ -86,7 +86,7 @@ impl<K: ChannelKeys + Copy> World<K> {
         ensures world { OnOk result (self.new ≡ happens K.ChannelKeys (step.Open wish.now) self.old) }
         ensures told { OnOk result (lines.new.items
             ≡ lines.old.items ++ step_lines K.ChannelKeys (step.Open wish.now) self.old) }
-        ensures memory { IfErr result (λ e. e ≡ Refusal.Memory) }
+        ensures fails_for_memory_alone { IfErr result (λ e. e ≡ Refusal.Memory) }
     {
         if !self.may_open(wish) {
             lines.push(Line::Idle)?;
@@ -114,7 +114,7 @@ impl<K: ChannelKeys + Copy> World<K> {
     ) -> Result<(), Refusal>
         ensures world { OnOk result (self.new ≡ happens K.ChannelKeys step self.old) }
         ensures told { OnOk result (lines.new.items ≡ lines.old.items ++ step_lines K.ChannelKeys step self.old) }
-        ensures memory { IfErr result (λ e. e ≡ Refusal.Memory) }
+        ensures fails_for_memory_alone { IfErr result (λ e. e ≡ Refusal.Memory) }
     {
         match step {
             Step::Fees(node, fees) => self.set_fees(node, fees),
@@ -135,7 +135,7 @@ impl<K: ChannelKeys + Copy> World<K> {
     ) -> Result<(), Refusal>
         ensures world { OnOk result (self.new ≡ run K.ChannelKeys steps.items self.old) }
         ensures told { OnOk result (lines.new.items ≡ lines.old.items ++ run_lines K.ChannelKeys steps.items self.old) }
-        ensures memory { IfErr result (λ e. e ≡ Refusal.Memory) }
+        ensures fails_for_memory_alone { IfErr result (λ e. e ≡ Refusal.Memory) }
     {
         for step in steps {
             self.step(alloc, step, lines)?;
@@ -147,7 +147,7 @@ impl<K: ChannelKeys + Copy> World<K> {
     /// there is no memory.
     pub fn end_lines(&self, alloc: Global) -> Result<Vec<EndLine>, Refusal>
         ensures lines { IfOk result (λ ls. ls.items ≡ end_lines self.now) }
-        ensures memory { IfErr result (λ e. e ≡ Refusal.Memory) }
+        ensures fails_for_memory_alone { IfErr result (λ e. e ≡ Refusal.Memory) }
     {
         let mut lines = Vec::new(alloc);
         for number in 0..=255u8 {

@@ -19,7 +19,7 @@ use std::io::Write;
 /// Errors: 64 with the number of the first bad line, and then nothing was written; 60 where there is no memory; 63
 /// where a call of the writer fails. What was written by then is a beginning of the report.
 pub fn simulate<W: Write>(alloc: Global, text: &str, writer: &mut Counted<W>) -> Result<(), Failure>
-    ensures ok { OnOk result (Prints (W.contents (inner_of writer.old)) (W.contents (inner_of writer.new))
+    ensures prints_it { OnOk result (Prints (W.contents (inner_of writer.old)) (W.contents (inner_of writer.new))
         (simulated text.now)) }
     ensures front { PrintsPartly (W.contents (inner_of writer.old)) (W.contents (inner_of writer.new))
         (simulated text.now) }

@@ -3,8 +3,8 @@ use Rattle.ln_log.specs.Outcomes.{Tells}
 use Rattle.ln_log.proofs.Readable.{refuted, no, tells_too, joined, goes_on, first_of_rest}
 use Rattle.ln_log.proofs.loading.are_removals.Goals as goal
 
-pub returns-then-not-removes_live-clause-ok : goal.returns-then-not-removes_live-clause-ok
-returns-then-not-removes_live-clause-ok c = no (λ all. refuted c.removes_live.result c.if-not-removes_live.true
+pub returns-then-not-removes_live-clause-tells_it : goal.returns-then-not-removes_live-clause-tells_it
+returns-then-not-removes_live-clause-tells_it c = no (λ all. refuted c.removes_live.result c.if-not-removes_live.true
     ((c.removes_live.ensures c.args.adds.now (take c.loop-update.update-index c.args.updates.now) c.requires
     (ap length c.as_slice.ensures.value ∙ c.loop-update.invariant.whole)
     (tells_too _ _ (take c.loop-update.update-index c.args.updates.now) c.as_slice.ensures.value

@@ -28,8 +28,9 @@ overflow_cast-result-2 c = omega (
   bounded c.args.opening.now c.args.side c.args.own.now c.args.peer.now c.requires.funds c.requires.lawful,
 )
 
-pub returns-clause-ok : goal.returns-clause-ok
-returns-clause-ok c = stands_so (first_balance c.args.opening.now c.args.side) c.args.own.now c.args.peer.now _
+pub returns-clause-gives_the_standing : goal.returns-clause-gives_the_standing
+returns-clause-gives_the_standing c = stands_so (first_balance c.args.opening.now c.args.side) c.args.own.now
+    c.args.peer.now _
     c.count_adds-offered.ensures.count
     (omega (
       arith,

@@ -14,4 +14,4 @@ returns-clause-front g c =
     c.in_ok-print_steps.ensures.world
     ∙ ap (λ (w : World ToyKeys). report_from c.args.steps.items w) c.new-world.ensures)
     (partly_behind _ _ _ (steps_text c.args.steps.items c.new-world.result) (ends_text c.print_steps.new.world)
-    c.in_ok-print_steps.ensures.ok c.print_ends.ensures.front)
+    c.in_ok-print_steps.ensures.prints_it c.print_ends.ensures.front)

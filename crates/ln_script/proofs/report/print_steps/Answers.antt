@@ -11,7 +11,7 @@ loop-step-preserved g c =
       world = run_step c.in-Some.step (into_iter_items c.loop-step.step-iterator) _ c.loop-step.world _ given.0 after
           ∙ c.loop-step.invariant.world;
       wrote = kept_step _ _ _ c.in-Some.step (into_iter_items c.loop-step.step-iterator) _ c.loop-step.world _ _ given.0
-          after c.loop-step.invariant.wrote c.in_ok-print_step.ensures.ok;
+          after c.loop-step.invariant.wrote c.in_ok-print_step.ensures.prints_it;
       failures = omega (arith, c.loop-step.invariant.failures, c.print_step.ensures.no_fewer_failures);
       len = omega (arith, c.loop-step.invariant.len, given.1, ap length given.0);
     }

@@ -8,10 +8,11 @@ pub propose-requires : goal.propose-requires
 propose-requires c = λ l e. subst (λ (x : Log). HasNextId x.own c.args.update) e (c.requires _ (sym c.self.view_is))
 
 pub invariant_of-self : goal.invariant_of-self
-invariant_of-self c = either_way c.propose.result (c.propose.ensures.ok _ refl) c.propose.ensures.err
+invariant_of-self c = either_way c.propose.result (c.propose.ensures.moves_as_stated _ refl)
+    c.propose.ensures.changes_nothing_if_refused
     (λ e. kept_by _ _ _ _ c.self.invariant e refl refl) (λ e. kept_by _ _ _ _ c.self.invariant e refl refl)
 
-pub returns-clause-ok : goal.returns-clause-ok
-returns-clause-ok c = λ d e.
+pub returns-clause-moves_as_stated : goal.returns-clause-moves_as_stated
+returns-clause-moves_as_stated c = λ d e.
     map_ok c.propose.result (log_becomes _ d (after_propose c.args.update) _ (c.self.view_is ∙ e))
-    (c.propose.ensures.ok _ refl)
+    (c.propose.ensures.moves_as_stated _ refl)

@@ -4,10 +4,11 @@ use Rattle.ln_dance.proofs.Kept.{map_ok, either_way, kept_by, log_becomes}
 use Rattle.ln_dance.proofs.dance.Dance.receive.Goals as goal
 
 pub invariant_of-self : goal.invariant_of-self
-invariant_of-self c = either_way c.receive.result (c.receive.ensures.ok _ refl) c.receive.ensures.err
+invariant_of-self c = either_way c.receive.result (c.receive.ensures.moves_as_stated _ refl)
+    c.receive.ensures.changes_nothing_if_refused
     (λ e. kept_by _ _ _ _ c.self.invariant e refl refl) (λ e. kept_by _ _ _ _ c.self.invariant e refl refl)
 
-pub returns-clause-ok : goal.returns-clause-ok
-returns-clause-ok c = λ d e.
+pub returns-clause-moves_as_stated : goal.returns-clause-moves_as_stated
+returns-clause-moves_as_stated c = λ d e.
     map_ok c.receive.result (log_becomes _ d (after_receive c.args.update) _ (c.self.view_is ∙ e))
-    (c.receive.ensures.ok _ refl)
+    (c.receive.ensures.moves_as_stated _ refl)

@@ -13,14 +13,15 @@ invariant_of-self g c =
       marks = c.self.inside.marks;
       ledger = c.self.inside.ledger;
     } in
-    sound c.accept.result e c.accept.new.self (after_accept c.self.inside.dance) (c.accept.ensures.ok _ refl)
-    c.accept.ensures.err refl c.self.invariant
+    sound c.accept.result e c.accept.new.self (after_accept c.self.inside.dance) (c.accept.ensures.moves_as_stated _
+      refl)
+    c.accept.ensures.changes_nothing_if_refused refl c.self.invariant
 
-pub returns-clause-answer : goal.returns-clause-answer
-returns-clause-answer g c =
+pub returns-clause-refuses_exactly : goal.returns-clause-refuses_exactly
+returns-clause-refuses_exactly g c =
     let keys = g.K.ChannelKeys.signer c.args.keys.now in
     rw (← c.self.view_is) (viewed (is_last c.self.inside.dance.numbers.commitment)
-    (is_right keys c.args.message.now c.self.inside.dance) c.accept.result (c.accept.ensures.answer _ refl)
+    (is_right keys c.args.message.now c.self.inside.dance) c.accept.result (c.accept.ensures.refuses_exactly _ refl)
     (c.accept.ensures.out_of_place _ refl))
 
 pub returns-clause-state : goal.returns-clause-state
@@ -33,14 +34,14 @@ returns-clause-state g c =
       ledger = c.self.inside.ledger;
     } in
     rw (← c.self.view_is) (on_ok c.accept.result (λ s. ap (λ (d : Dancer). with_dance d e) s)
-    (c.accept.ensures.ok _ refl))
+    (c.accept.ensures.moves_as_stated _ refl))
 
 pub returns-clause-grows : goal.returns-clause-grows
 returns-clause-grows g c = rw (← c.self.view_is)
     (on_ok c.accept.result (λ s. subst (λ (d : Dancer). c.self.inside.dance.log.current.own ≤ d.log.current.own) (sym s)
-    c.own_held.ensures.ordered) (c.accept.ensures.ok _ refl))
+    c.own_held.ensures.ordered) (c.accept.ensures.moves_as_stated _ refl))
 
-pub returns-clause-kept : goal.returns-clause-kept
-returns-clause-kept g c = rw (← c.self.view_is)
+pub returns-clause-first_stays_below : goal.returns-clause-first_stays_below
+returns-clause-first_stays_below g c = rw (← c.self.view_is)
     (on_ok c.accept.result (λ s. subst (λ (d : Dancer). d.log.first.own ≤ c.self.inside.dance.log.current.own) (sym s)
-    c.own_held.ensures.first) (c.accept.ensures.ok _ refl))
+    c.own_held.ensures.first) (c.accept.ensures.moves_as_stated _ refl))

@@ -14,7 +14,7 @@ invariant_of-self g c =
       ledger = c.self.inside.ledger;
     } in
     sound c.learn.result e c.learn.new.self (after_learn c.args.message.now c.self.inside.dance)
-    (c.learn.ensures.ok _ refl) c.learn.ensures.err refl c.self.invariant
+    (c.learn.ensures.moves_as_stated _ refl) c.learn.ensures.changes_nothing_if_refused refl c.self.invariant
 
 pub returns-clause-state : goal.returns-clause-state
 returns-clause-state g c =
@@ -26,14 +26,14 @@ returns-clause-state g c =
       ledger = c.self.inside.ledger;
     } in
     rw (← c.self.view_is) (on_ok c.learn.result (λ s. ap (λ (d : Dancer). with_dance d e) s)
-    (c.learn.ensures.ok _ refl))
+    (c.learn.ensures.moves_as_stated _ refl))
 
 pub returns-clause-grows : goal.returns-clause-grows
 returns-clause-grows g c = rw (← c.self.view_is)
     (on_ok c.learn.result (λ s. subst (λ (d : Dancer). c.self.inside.dance.log.acknowledged.peer
-    ≤ d.log.acknowledged.peer) (sym s) c.peer_held.ensures.ordered) (c.learn.ensures.ok _ refl))
+    ≤ d.log.acknowledged.peer) (sym s) c.peer_held.ensures.ordered) (c.learn.ensures.moves_as_stated _ refl))
 
-pub returns-clause-kept : goal.returns-clause-kept
-returns-clause-kept g c = rw (← c.self.view_is)
+pub returns-clause-first_stays_below : goal.returns-clause-first_stays_below
+returns-clause-first_stays_below g c = rw (← c.self.view_is)
     (on_ok c.learn.result (λ s. subst (λ (d : Dancer). d.log.first.peer ≤ c.self.inside.dance.log.acknowledged.peer)
-    (sym s) c.peer_held.ensures.first) (c.learn.ensures.ok _ refl))
+    (sym s) c.peer_held.ensures.first) (c.learn.ensures.moves_as_stated _ refl))

@@ -10,8 +10,8 @@ with_own-standing-requires c =
     ∙ sym c.proposal_refusal.ensures ∙ c.in-None.is)
     (c.requires _ (sym c.self.view_is)) (front_is _ _ _ c.deref.ensures.value)
 
-pub returns-in_err-push-in-None-clause-answer : goal.returns-in_err-push-in-None-clause-answer
-returns-in_err-push-in-None-clause-answer c =
+pub returns-in_err-push-in-None-clause-refuses_exactly : goal.returns-in_err-push-in-None-clause-refuses_exactly
+returns-in_err-push-in-None-clause-refuses_exactly c =
     λ l e. no_memory _ _ _ (c.proposal_refusal.ensures
     ∙ ap (λ (x : Log). proposal_fault x c.args.update) e) c.in-None.is
     c.from_residual.ensures.1
@@ -22,10 +22,10 @@ invariant_of-self-in-None c =
     (ap (λ (l : Log). proposal_fault l c.args.update) c.self.view_is ∙ sym c.proposal_refusal.ensures ∙ c.in-None.is)
     (c.requires _ (sym c.self.view_is)) (front_is _ _ _ c.deref.ensures.value) c.with_own-standing.ensures)
 
-pub returns-in-Some-clause-answer : goal.returns-in-Some-clause-answer
-returns-in-Some-clause-answer c = λ l e. refused_as _ _ _ (c.proposal_refusal.ensures
+pub returns-in-Some-clause-refuses_exactly : goal.returns-in-Some-clause-refuses_exactly
+returns-in-Some-clause-refuses_exactly c = λ l e. refused_as _ _ _ (c.proposal_refusal.ensures
     ∙ ap (λ (x : Log). proposal_fault x c.args.update) e) c.in-Some.is
 
-pub returns-in_ok-push-in-None-clause-answer : goal.returns-in_ok-push-in-None-clause-answer
-returns-in_ok-push-in-None-clause-answer c = λ l e. goes_as _ _ (c.proposal_refusal.ensures
+pub returns-in_ok-push-in-None-clause-refuses_exactly : goal.returns-in_ok-push-in-None-clause-refuses_exactly
+returns-in_ok-push-in-None-clause-refuses_exactly c = λ l e. goes_as _ _ (c.proposal_refusal.ensures
     ∙ ap (λ (x : Log). proposal_fault x c.args.update) e) c.in-None.is

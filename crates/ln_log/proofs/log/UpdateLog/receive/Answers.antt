@@ -9,8 +9,8 @@ with_own-standing-requires c = got_call _ _ _ _ _ c.args.update _ c.self.invaria
     (ap (λ (l : Log). taken_fault l c.args.update) c.self.view_is ∙ sym c.taken_refusal.ensures
     ∙ c.in-None.is) (front_is _ _ _ c.deref.ensures.value)
 
-pub returns-in_err-push-in-None-clause-answer : goal.returns-in_err-push-in-None-clause-answer
-returns-in_err-push-in-None-clause-answer c =
+pub returns-in_err-push-in-None-clause-refuses_exactly : goal.returns-in_err-push-in-None-clause-refuses_exactly
+returns-in_err-push-in-None-clause-refuses_exactly c =
     λ l e. no_memory _ _ _ (c.taken_refusal.ensures ∙ ap (λ (x : Log). taken_fault x c.args.update) e) c.in-None.is
     c.from_residual.ensures.1
 
@@ -20,10 +20,10 @@ invariant_of-self-in-None c =
     (ap (λ (l : Log). taken_fault l c.args.update) c.self.view_is ∙ sym c.taken_refusal.ensures ∙ c.in-None.is)
     (front_is _ _ _ c.deref.ensures.value) c.with_own-standing.ensures)
 
-pub returns-in-Some-clause-answer : goal.returns-in-Some-clause-answer
-returns-in-Some-clause-answer c = λ l e. refused_as _ _ _ (c.taken_refusal.ensures
+pub returns-in-Some-clause-refuses_exactly : goal.returns-in-Some-clause-refuses_exactly
+returns-in-Some-clause-refuses_exactly c = λ l e. refused_as _ _ _ (c.taken_refusal.ensures
     ∙ ap (λ (x : Log). taken_fault x c.args.update) e) c.in-Some.is
 
-pub returns-in_ok-push-in-None-clause-answer : goal.returns-in_ok-push-in-None-clause-answer
-returns-in_ok-push-in-None-clause-answer c = λ l e. goes_as _ _ (c.taken_refusal.ensures
+pub returns-in_ok-push-in-None-clause-refuses_exactly : goal.returns-in_ok-push-in-None-clause-refuses_exactly
+returns-in_ok-push-in-None-clause-refuses_exactly c = λ l e. goes_as _ _ (c.taken_refusal.ensures
     ∙ ap (λ (x : Log). taken_fault x c.args.update) e) c.in-None.is
