@@ -98,15 +98,17 @@ is_passed_over s (message.Pong m) = true
 is_passed_over s (message.Error m) = not (is_meant s m.channel_id)
 is_passed_over s m = false
 
--- an error for the channel (37), another channel's message (20), and one that comes without a connection (21)
+-- another channel's message (20), and one that comes without a connection (21)
 abbrev pub stray_fault : Line → Stage → Message → Option Refusal
 stray_fault l s m =
     if is_other (named m) s then Some refusal.UnknownChannel else (if is_down l then Some refusal.OutOfPlace else None)
 
+-- an error for the channel (37)
 abbrev pub error_fault : Message → Option Refusal
 error_fault (message.Error m) = Some refusal.PeerError
 error_fault m = None
 
+-- the first of them
 abbrev pub message_fault : Line → Stage → Message → Option Refusal
 message_fault l s m = first_of (error_fault m) (stray_fault l s m)
 
