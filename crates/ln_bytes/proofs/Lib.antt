@@ -1,3 +1,4 @@
+pub mod Same
 pub mod Reading
 pub mod Numbers
 pub mod Records

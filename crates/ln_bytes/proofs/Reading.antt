@@ -20,6 +20,11 @@ pub bind_ok : {A B : Type 0} (r : Result A Fault) (f : A → Result B Fault) (y 
 bind_ok (Ok x) f y e = (x, refl, e)
 bind_ok (Err d) f y e = absurd cc
 
+-- where nothing may stand in the place of what is said
+pub said_itself : {P : Type 0} → ⊥ ⊎ P → P
+said_itself (inl b) = absurd b
+said_itself (inr p) = p
+
 -- a fault of the step, or of the next one
 pub bind_err : {A B : Type 0} (r : Result A Fault) (f : A → Result B Fault) (d : Fault) → (r >>= f) ≡ Err d
     → (r ≡ Err d) ⊎ ((x : A) × (r ≡ Ok x) × (f x ≡ Err d))

@@ -293,9 +293,10 @@ some_outcome known bytes fits = by_answer known bytes (stream_at known bytes) fi
 
 -- what a reader answers that finds a spelling or a fault
 pub is_stream : (known bytes : List ℕ) (r : Result (Vec Record) Fault) → IfOk r (λ v. Spells known v.items bytes)
-    → IfErr r (λ e. e ≢ Memory → HasFault known bytes e) → Gives (λ v. v.items) r (stream_at known bytes)
+    → IfErr r (λ e. (e ≡ Memory) ⊎ HasFault known bytes e) → Gives (λ v. v.items) r (stream_at known bytes)
 is_stream known bytes (Ok v) found fault = stream_again known v.items bytes found
-is_stream known bytes (Err e) found fault = λ other. stream_faulty known bytes e (fault other)
+is_stream known bytes (Err e) found (inl memory) = inl memory
+is_stream known bytes (Err e) found (inr fault) = inr (stream_faulty known bytes e fault)
 
 rises : (known : List ℕ) (before : Option ℕ) (rs : List Record) → AreValid known before rs → RiseFrom before rs
 rises known before [] m = tt

@@ -1,5 +1,7 @@
 pub mod Fault
 pub mod Bigsize
+pub mod Answers
+pub mod Same
 pub mod Reading
 pub mod Tlv
 pub mod Truncated

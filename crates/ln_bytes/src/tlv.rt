@@ -1,6 +1,6 @@
 //! TLV streams (BOLT 1, "Type-Length-Value Format"): records one after the other, up to the end.
 
-ghost use Rattle.std.specs.Prelude.{◌≡◌, ◌≢◌, ◌<◌, ◌≤◌, ◌⊎◌, ℕ, List, ◌++◌, length, take, slice_index, None, IfSome};
+ghost use Rattle.std.specs.Prelude.{◌≡◌, ◌<◌, ◌≤◌, ◌⊎◌, ℕ, List, ◌++◌, length, take, slice_index, None, IfSome};
 ghost use Rattle.std.specs.Prelude.{IfNone, IsTrue, ◌↔◌, IfOk, IfErr, OnOk, OnErr, Ok, Err, option_map};
 ghost use Rattle.ln_bytes.specs.Bigsize.{bigsize};
 ghost use Rattle.std.specs.List.{list_all};
@@ -36,7 +36,7 @@ pub fn read_tlvs(alloc: Global, bytes: &[u8], known_even: &[u64]) -> Result<Vec<
     ensures reads_each_spelling { (rs : List Record) → Spells known_even.now rs bytes.now
         → Gives (λ v. v.items) result (Ok rs) }
     // What is refused has that fault, and no record before it has one.
-    ensures tells_the_first_fault { IfErr result (λ e. e ≢ Fault.Memory → HasFault known_even.now bytes.now e) }
+    ensures tells_the_first_fault { IfErr result (λ e. (e ≡ Fault.Memory) ⊎ HasFault known_even.now bytes.now e) }
     // What has a fault is refused by it.
     ensures refuses_each_fault { (f : Fault) → HasFault known_even.now bytes.now f
         → Gives (λ v. v.items) result (Err f) }
@@ -48,7 +48,7 @@ pub fn read_tlvs(alloc: Global, bytes: &[u8], known_even: &[u64]) -> Result<Vec<
 
 fn all_records(alloc: Global, known_even: &[u64], bytes: &[u8]) -> Result<Vec<Record>, Fault>
     ensures is_spelled_so { IfOk result (λ v. Spells known_even.now v.items bytes.now) }
-    ensures tells_the_first_fault { IfErr result (λ e. e ≢ Fault.Memory → HasFault known_even.now bytes.now e) }
+    ensures tells_the_first_fault { IfErr result (λ e. (e ≡ Fault.Memory) ⊎ HasFault known_even.now bytes.now e) }
 {
     let mut records: Vec<Record> = Vec::new(alloc);
     let mut before = None;

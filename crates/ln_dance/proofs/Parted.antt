@@ -1,11 +1,12 @@
 -- What partners tell each other as a connection comes back is served, and what is sent again is what was sent first.
 use Rattle.std.proofs.Common.{◌≡◌, ◌≢◌, ◌↔◌, ℕ, ◌+◌, ◌-◌, ◌≤◌, List, [], ◌∷◌, ◌++◌, take, drop, length}
-use Rattle.std.proofs.Common.{refl, sym, ap, ◌∙◌, arith, Bool, true, false, cond, not, ◌&&◌, ◌||◌, ◌==◌, nat_eq}
+use Rattle.std.proofs.Common.{refl, sym, ap, ◌∙◌, arith, Bool, true, false, cond, not, ◌&&◌, ◌||◌, ◌==◌}
 use Rattle.std.proofs.Common.{Option, Some, None, inl, inr}
-use Rattle.std.specs.Cmp.Lexicographic.{pointwise}
 use Rattle.std.proofs.lemmas.Bool.{eq-eqb}
 use Rattle.std.proofs.lemmas.Bool.Decides.{eqb_tells}
 use Rattle.std.proofs.lemmas.List.{take-append-le, take-take, take_all}
+use Rattle.ln_bytes.specs.Same.{are_same}
+use Rattle.ln_bytes.proofs.Same.{same_as_itself}
 use Rattle.ln_msgs.specs.declared.messages.commitments.ChannelReestablish.{ChannelReestablish}
 use Rattle.ln_msgs.specs.declared.messages.commitments.CommitmentSigned.{CommitmentSigned}
 use Rattle.ln_msgs.specs.declared.messages.commitments.RevokeAndAck.{RevokeAndAck}
@@ -67,22 +68,18 @@ serves_revocation a c s above below one = elim (eqb_tells a c) [
   | inr g ↦ second_holds _ _ (eq-eqb (a + 1) c (one_less a c s above below one g.1))
 ]
 
-same_bytes : (xs : List ℕ) → pointwise nat_eq xs xs ≡ true
-same_bytes [] = refl
-same_bytes (x ∷ xs) = both_hold _ _ (eq-eqb x x refl) (same_bytes xs)
-
 -- the last of n secrets is o
 abbrev IsLast : Signer → ℕ → Option (List ℕ) → Type 0
 IsLast k n o = (i : ℕ) → n ≡ i + 1 → o ≡ Some (k.secret_of i)
 
 is_told : (k : Signer) (n : ℕ) (o : Option (List ℕ)) → n ≢ 0 → IsLast k n o
-    → pointwise nat_eq (secret_or_zeros o) (k.secret_of (n - 1)) ≡ true
+    → are_same (secret_or_zeros o) (k.secret_of (n - 1)) ≡ true
 is_told k n o some h =
-    ap (λ p. pointwise nat_eq (secret_or_zeros p) (k.secret_of (n - 1))) (h (n - 1) (omega (arith, some)))
-    ∙ same_bytes (k.secret_of (n - 1))
+    ap (λ p. are_same (secret_or_zeros p) (k.secret_of (n - 1))) (h (n - 1) (omega (arith, some)))
+    ∙ same_as_itself (k.secret_of (n - 1))
 
 knows : (k : Signer) (n : ℕ) (o : Option (List ℕ)) → IsLast k n o
-    → (n == 0) || pointwise nat_eq (secret_or_zeros o) (k.secret_of (n - 1)) ≡ true
+    → (n == 0) || are_same (secret_or_zeros o) (k.secret_of (n - 1)) ≡ true
 knows k n o h = elim (eqb_tells n 0) [
   | inl g ↦ first_holds _ _ g.0
   | inr g ↦ second_holds _ _ (is_told k n o g.1 h)

@@ -1,6 +1,7 @@
 -- What one side of the dance keeps, and what each call makes of it (BOLT 2, "Normal Operation").
-use Rattle.std.specs.Prelude.{◌≡◌, ◌⊎◌, ℕ, ◌+◌, ◌≤◌, List, [], Bool, true, not, ◌==◌, Option, Some, None}
+use Rattle.std.specs.Prelude.{◌≡◌, ℕ, ◌+◌, ◌≤◌, List, [], Bool, true, not, ◌==◌, Option, Some, None}
 use Rattle.std.specs.Prelude.{Result, Ok, Err, if◌then◌else◌}
+use Rattle.ln_bytes.specs.Answers.{Refuses}
 use Rattle.ln_msgs.specs.declared.messages.commitments.CommitmentSigned.{CommitmentSigned}
 use Rattle.ln_msgs.specs.declared.messages.commitments.RevokeAndAck.{RevokeAndAck}
 use Rattle.ln_msgs.specs.declared.refusals.refusal.Refusal.{Refusal}
@@ -122,10 +123,9 @@ with_next_point p d = record d { peer = record { point = d.peer.point; next_poin
 
 -- ---- answers
 
--- refused exactly by the fault that there is, but for want of memory
+-- refused exactly by the fault that there is, but for want of memory, which may stand in place of any
 abbrev pub AnswersWithin : {A : Type 0} → Option Refusal → Result A Refusal → Type 0
-AnswersWithin fault (Ok x) = fault ≡ None
-AnswersWithin fault (Err e) = (e ≡ refusal.Memory) ⊎ (fault ≡ Some e)
+AnswersWithin fault answer = Refuses (λ e other. e ≡ refusal.Memory) fault answer
 
 -- where nothing takes memory
 abbrev pub answer_of : Option Refusal → Result (Unit {0}) Refusal

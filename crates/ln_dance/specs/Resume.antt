@@ -1,8 +1,8 @@
 -- What a side tells as a connection comes back, and what it sends again by what the peer tells (BOLT 2, "Message
 -- Retransmission").
-use Rattle.std.specs.Prelude.{ℕ, ◌+◌, ◌-◌, List, [], ◌∷◌, ◌++◌, map, replicate, Bool, ◌&&◌, ◌||◌, ◌==◌, nat_eq}
+use Rattle.std.specs.Prelude.{ℕ, ◌+◌, ◌-◌, List, [], ◌∷◌, ◌++◌, map, replicate, Bool, ◌&&◌, ◌||◌, ◌==◌}
 use Rattle.std.specs.Prelude.{Option, Some, None, if◌then◌else◌}
-use Rattle.std.specs.Cmp.Lexicographic.{pointwise}
+use Rattle.ln_bytes.specs.Same.{are_same}
 use Rattle.ln_msgs.specs.declared.messages.commitments.ChannelReestablish.{ChannelReestablish}
 use Rattle.ln_msgs.specs.declared.messages.commitments.CommitmentSigned.{CommitmentSigned}
 use Rattle.ln_msgs.specs.declared.messages.commitments.RevokeAndAck.{RevokeAndAck}
@@ -55,7 +55,7 @@ can_be_served m d =
 -- who took a revocation has the secret of the last one
 abbrev pub knows_secret : Signer → ChannelReestablish → Bool
 knows_secret keys m =
-    (m.next_revocation_number == 0) || pointwise nat_eq m.last_secret (keys.secret_of (m.next_revocation_number - 1))
+    (m.next_revocation_number == 0) || are_same m.last_secret (keys.secret_of (m.next_revocation_number - 1))
 
 abbrev pub resume_fault : Signer → ChannelReestablish → Dancer → Option Refusal
 resume_fault keys m d =

@@ -68,7 +68,7 @@ impl Model for Dance {
 }
 
 impl Dance {
-    ghost use Rattle.std.specs.Prelude.{◌≡◌, ◌↔◌, ◌+◌, ◌<◌, ◌≤◌, ◌^◌, IsTrue, IsErrOf, IfOk, OnOk, OnErr};
+    ghost use Rattle.std.specs.Prelude.{◌≡◌, ◌↔◌, ◌+◌, ◌<◌, ◌≤◌, IsTrue, IsErrOf, IfOk, OnOk, OnErr};
     ghost use Rattle.ln_log.specs.Log as log;
     ghost use Rattle.ln_log.specs.Log.{Log, after_propose, after_receive, after_drop, proposal_fault, taken_fault};
     ghost use Rattle.ln_log.specs.Limits.{HasNextId, Answers};

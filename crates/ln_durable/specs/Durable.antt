@@ -2,6 +2,7 @@
 use Rattle.std.specs.Prelude.{◌≡◌, ◌⊎◌, ℕ, List, Bool, true, false, not, ◌&&◌, Option, Some, None, is_none, Result, Ok}
 use Rattle.std.specs.Prelude.{Err, if◌then◌else◌}
 use Rattle.std.specs.FinMap as map
+use Rattle.ln_bytes.specs.Answers.{fault_of}
 use Rattle.ln_msgs.specs.Pings.Counted.{HasRisen}
 use Rattle.ln_msgs.specs.declared.refusals.refusal.Refusal.{Refusal}
 use Rattle.ln_msgs.specs.declared.refusals.refusal.Refusal.TheVariants as refusal
@@ -10,7 +11,7 @@ use Rattle.ln_link.specs.declared.output.Output.{Output}
 use Rattle.ln_link.specs.End.{End}
 use Rattle.ln_link.specs.Record.{saved_end}
 use Rattle.ln_link.specs.Failing.{fails}
-use Rattle.ln_link.specs.Opening.{MayLack, fault_of}
+use Rattle.ln_link.specs.Opening.{MayLack}
 use Rattle.ln_link.specs.State.{State, refused, halts}
 use Rattle.ln_link.specs.Step.{Done}
 use Rattle.ln_store.specs.Store.{Records, IsOneOf}

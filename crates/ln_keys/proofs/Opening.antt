@@ -1,24 +1,20 @@
 -- An onion that was made is opened again.
 use Rattle.std.proofs.Common.{◌≡◌, ℕ, zero, suc, ◌+◌, ◌-◌, ◌<◌, ◌≤◌, ◌^◌, List, [], ◌∷◌, ◌++◌, length, take, drop}
 use Rattle.std.proofs.Common.{replicate, Some, None, Result, Ok, refl, sym, ap, subst, ◌∙◌, arith, append_assoc}
-use Rattle.std.proofs.Common.{append-nil, length-append, nat_lt, nat_eq, true, false, inl, inr}
+use Rattle.std.proofs.Common.{append-nil, length-append, nat_lt, nat_eq, false, inl, inr}
 use Rattle.std.proofs.lemmas.List.{take_at, drop_at, length-replicate, replicate-append-replicate}
 use Rattle.std.proofs.lemmas.Bool.{le-ltb, ltb-false, ne_eqb}
-use Rattle.std.proofs.lemmas.Cmp.{nat_list_eq_equiv}
 use Rattle.sha2.proofs.Facts256.{length-sha256}
 use Rattle.ln_bytes.specs.Bigsize.{bigsize, bigsize_at}
 use Rattle.ln_bytes.specs.Endian.{big_bytes}
 use Rattle.ln_bytes.proofs.Numbers.{is_again}
 use Rattle.ln_bytes.proofs.Reading.{chosen}
+use Rattle.ln_bytes.proofs.Same.{same_as_itself}
 use Rattle.ln_keys.specs.declared.onion.Opened.{Opened}
 use Rattle.ln_keys.specs.declared.onion.OpenFault.{OpenFault}
 use Rattle.ln_keys.specs.Onion.{onion_key, onion_payloads, onion_hmac}
-use Rattle.ln_keys.specs.Toy.{are_same}
 use Rattle.ln_keys.specs.ToyOnion.{toy_key, toy_hmac, filled, toy_packet, with_length, payload_bytes, toy_made}
 use Rattle.ln_keys.specs.ToyOnion.{next_packet, passed_on, hop_behind, packet_fault, unless, toy_opened}
-
-same : (xs : List ℕ) → are_same xs xs ≡ true
-same xs = nat_list_eq_equiv.refl xs
 
 length-hmac : (payloads hash : List ℕ) → length (toy_hmac payloads hash) ≡ 32
 unfolding toy_hmac
@@ -63,7 +59,7 @@ no_fault bytes hash fits =
     let inner : onion_payloads (toy_packet bytes hash) ≡ room = payloads_of toy_key room hmac length-key lr in
     let seal : onion_hmac (toy_packet bytes hash) ≡ hmac =
     hmac_of toy_key room hmac length-key lr (length-hmac room hash) in
-    rw (key, inner, seal, same toy_key, same hmac) refl
+    rw (key, inner, seal, same_as_itself toy_key, same_as_itself hmac) refl
 
 -- ---- what is passed on
 

@@ -1,10 +1,10 @@
 -- What the toy keys answer. They stand in for keys in tests: they hide nothing, and any one who knows a tag
 -- signs for it.
-use Rattle.std.specs.Prelude.{◌≡◌, ℕ, ◌%◌, ◌^◌, Bool, ◌&&◌, ◌==◌, List, ◌∷◌, ◌++◌, length, replicate, nat_eq}
+use Rattle.std.specs.Prelude.{◌≡◌, ℕ, ◌%◌, ◌^◌, Bool, ◌&&◌, ◌==◌, List, ◌∷◌, ◌++◌, length, replicate}
 use Rattle.std.specs.Int.{w32, w64, to_be_bytes}
 use Rattle.std.specs.List.{flat_map, list_all}
-use Rattle.std.specs.Cmp.Lexicographic.{pointwise}
 use Rattle.sha2.specs.Sha256.{sha256}
+use Rattle.ln_bytes.specs.Same.{are_same}
 use Rattle.ln_keys.specs.declared.role.Role.{Role}
 use Rattle.ln_keys.specs.declared.role.Role.TheVariants.{Funder, Fundee}
 use Rattle.ln_keys.specs.declared.view.Htlc.{Htlc}
@@ -59,9 +59,6 @@ abbrev pub toy_htlc_signatures : List ℕ → ℕ → List ℕ → View → List
 toy_htlc_signatures tag n point v = replicate (length v.htlcs) (toy_signature tag n point v)
 
 -- ---- tests
-
-abbrev pub are_same : List ℕ → List ℕ → Bool
-are_same xs ys = pointwise nat_eq xs ys
 
 -- there are so many, and each is this one
 abbrev pub are_all : ℕ → List ℕ → List (List ℕ) → Bool

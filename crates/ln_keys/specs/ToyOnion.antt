@@ -5,12 +5,12 @@ use Rattle.std.specs.Prelude.{Result, Ok, Err, not, nat_lt, ◌==◌, if◌then�
 use Rattle.std.specs.List.{flat_map}
 use Rattle.sha2.specs.Sha256.{sha256}
 use Rattle.ln_bytes.specs.Bigsize.{bigsize, bigsize_at}
+use Rattle.ln_bytes.specs.Same.{are_same}
 use Rattle.ln_bytes.specs.declared.fault.Fault.{Fault}
 use Rattle.ln_keys.specs.declared.onion.Opened.{Opened}
 use Rattle.ln_keys.specs.declared.onion.OpenFault.{OpenFault}
 use Rattle.ln_keys.specs.declared.onion.OpenFault.TheVariants.{Version, Key, Hmac, Payload}
 use Rattle.ln_keys.specs.Onion.{onion_version, onion_key, onion_payloads, onion_hmac}
-use Rattle.ln_keys.specs.Toy.{are_same}
 
 -- ---- the packet
 

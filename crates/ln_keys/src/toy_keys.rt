@@ -2,10 +2,11 @@
 
 ghost use Rattle.std.specs.Prelude.{◌≡◌, ◌++◌, ℕ, List, replicate, Ok, IfOk, IfErr};
 ghost use Rattle.std.specs.List.{list_all, flat_map};
+ghost use Rattle.ln_bytes.specs.Same.{are_same};
 ghost use Rattle.ln_keys.specs.Partners.{ArePartners};
-ghost use Rattle.ln_keys.specs.Toy.{toy_secret, toy_point, toy_signature, toy_htlc_signatures, toy_close_signature};
-ghost use Rattle.ln_keys.specs.Toy.{toy_accepts, toy_fits, toy_accepts_close, toy_signer, htlc_bytes, view_head};
-ghost use Rattle.ln_keys.specs.Toy.{view_bytes, owner_byte, are_all, are_same, AreCrossed};
+ghost use Rattle.ln_keys.specs.Toy.{toy_secret, toy_point, toy_signature, toy_close_signature};
+ghost use Rattle.ln_keys.specs.Toy.{toy_signer, htlc_bytes, view_head};
+ghost use Rattle.ln_keys.specs.Toy.{view_bytes, owner_byte, are_all, AreCrossed};
 
 use crate::keys::{ChannelKeys, Signed};
 use crate::role::Role;

@@ -3,8 +3,8 @@
 ghost use Rattle.std.specs.Prelude.{◌≡◌, ◌+◌, ◌-◌, ◌≤◌, ◌<◌, ◌++◌, ◌∷◌, ◌⊎◌, ℕ, List, length, take, drop, Ok, Err};
 ghost use Rattle.std.specs.Prelude.{None, Some, IfOk, IfErr, IfSome, IfNone};
 ghost use Rattle.ln_bytes.specs.Bigsize.{bigsize_at};
+ghost use Rattle.ln_bytes.specs.Same.{are_same};
 ghost use Rattle.ln_keys.specs.Onion.{onion_key, onion_payloads, onion_hmac};
-ghost use Rattle.ln_keys.specs.Toy.{are_same};
 ghost use Rattle.ln_keys.specs.ToyOnion.{toy_key, toy_hmac, filled, with_length, toy_made, passed_on, next_packet};
 ghost use Rattle.ln_keys.specs.ToyOnion.{hop_of, hop_behind, packet_fault, toy_opened};
 

@@ -30,10 +30,15 @@ abbrev pub unless_last : Bool → Bool → Option Refusal
 unless_last last right = if last then Some refusal.OutOfPlace else (if right then None else Some refusal.SignatureWrong)
 
 pub within : {A : Type 0} (fault : Option Refusal) (r : Result A Refusal) → Answers fault r → AnswersFault fault r
-within None (Ok x) a = refl
-within None (Err e) a = inl (a, inl refl)
-within (Some f) (Ok x) a = absurd a
-within (Some f) (Err e) a = inr (ap Some (sym a))
+within fault (Ok x) a = a
+within fault (Err e) (inl m) = inl (m.0, inl m.1)
+within fault (Err e) (inr n) = inr n
+
+-- the same, behind a test that passed
+pub within_if : {A : Type 0} (b : Bool) (other : Refusal) (fault : Option Refusal) (r : Result A Refusal) → b ≡ true
+    → Answers fault r → AnswersFault (if b then fault else Some other) r
+within_if true other fault r e a = within fault r a
+within_if false other fault r e a = absurd (cc)
 
 -- where a view is made before a signature is looked at
 pub viewed : {A : Type 0} (last right : Bool) (r : Result A Refusal) → AnswersWithin (unless_last last right) r

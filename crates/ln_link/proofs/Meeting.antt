@@ -4,8 +4,8 @@ use Rattle.std.proofs.Common.{arith}
 use Rattle.std.proofs.Common.{Bool, true, cond, ◌&&◌, Option, Some, None, Result, Ok, Err}
 use Rattle.std.specs.Cmp.Lexicographic.{pointwise}
 use Rattle.std.proofs.lemmas.Bool.{le-leb}
-use Rattle.std.proofs.lemmas.Cmp.{nat_list_eq_equiv}
 use Rattle.std.proofs.lemmas.List.{nil_from_length}
+use Rattle.ln_bytes.proofs.Same.{same_as_itself, same_if_equal}
 use Rattle.ln_bytes.specs.Tlv.{value_of}
 use Rattle.ln_msgs.specs.declared.messages.opening.AcceptChannel.{AcceptChannel}
 use Rattle.ln_msgs.specs.declared.messages.opening.FundingCreated.{FundingCreated}
@@ -31,9 +31,6 @@ use Rattle.ln_link.specs.Meeting.{CanOpen, Opens, AreEnds}
 
 -- ---- tests that pass
 
-same : (xs ys : List ℕ) → xs ≡ ys → pointwise nat_eq xs ys ≡ true
-same xs ys e = let P : List ℕ → Type 0 = λ w. pointwise nat_eq xs w ≡ true in subst P e (nat_list_eq_equiv.refl xs)
-
 five : (p q r s t : Bool) → p ≡ true → q ≡ true → r ≡ true → s ≡ true → t ≡ true → (p && q && r && s && t) ≡ true
 five p q r s t ep eq er es et =
     ap (λ b. b && q && r && s && t) ep ∙ ap (λ b. b && r && s && t) eq ∙ ap (λ b. b && s && t) er
@@ -57,7 +54,7 @@ both p q ep eq = ap (λ b. b && q) ep ∙ eq
 -- what is typed repeats what was asked for
 repeated : (o : Option (List ℕ)) → repeats o (value_of 1 (typed o)) ≡ true
 repeated None = refl
-repeated (Some v) = same v v refl
+repeated (Some v) = same_as_itself v
 
 -- what one signs of a commitment without HTLCs the other accepts
 accepted : (one other : Signer) (point : List ℕ) (v : View) → IsVerifiedBy one other
@@ -106,7 +103,7 @@ fit_both a b s c h = record {
 open_right : (a b : Signer) (s : OpenSpec) (c : Config) → CanOpen a b s c → open_fault c (open_message a s) ≡ None
 open_right a b s c h =
     unfaulted (pointwise nat_eq s.config.chain_hash c.chain_hash) (is_fit (offered s c.limits))
-    (same s.config.chain_hash c.chain_hash h.chain) (fit (offered s c.limits) (fit_both a b s c h))
+    (same_if_equal s.config.chain_hash c.chain_hash h.chain) (fit (offered s c.limits) (fit_both a b s c h))
 
 accept_right : (a b : Signer) (s : OpenSpec) (c : Config) → CanOpen a b s c
     → accept_fault s (told_accept a b s c) ≡ None
@@ -114,7 +111,7 @@ accept_right a b s c h =
     let few : is_fit (offered s c.limits) ≡ true = fit (offered s c.limits) (fit_both a b s c h) in
     unfaulted (pointwise nat_eq s.temporary_id s.temporary_id) (is_fit (offered s c.limits)
     && repeats (value_of 1 s.records) (value_of 1 (typed (value_of 1 s.records))))
-    (same s.temporary_id s.temporary_id refl)
+    (same_as_itself s.temporary_id)
     (both (is_fit (offered s c.limits)) (repeats (value_of 1 s.records) (value_of 1 (typed (value_of 1 s.records)))) few
     (repeated (value_of 1 s.records)))
 
@@ -122,7 +119,7 @@ created_right : (a b : Signer) (s : OpenSpec) (c : Config) → CanOpen a b s c
     → created_fault b (told_agreement a b s c) (told_created a b s c) ≡ None
 created_right a b s c h =
     ap (λ x. cond x (first_fault b (second_end a b s c).dance (told_created a b s c).signature)
-    (Some refusal.OutOfPlace)) (same s.temporary_id s.temporary_id refl)
+    (Some refusal.OutOfPlace)) (same_as_itself s.temporary_id)
     ∙ right _ (accepted a b (b.point_of 0) (view_at (pair.Current side.Own) (second_end a b s c).dance)
     h.partners.there h.fundee_point refl)
 

@@ -1,6 +1,7 @@
 -- What one end of a channel keeps once both sides have agreed to it, and what it owes the peer (BOLT 2).
-use Rattle.std.specs.Prelude.{◌≡◌, ◌⊎◌, ℕ, List, [], ◌∷◌, ◌++◌, length, Bool, false, not, ◌&&◌, ◌==◌, Option}
-use Rattle.std.specs.Prelude.{Some, None, is_some, Result, Ok, Err, if◌then◌else◌}
+use Rattle.std.specs.Prelude.{◌≡◌, ℕ, List, [], ◌∷◌, ◌++◌, length, Bool, false, not, ◌&&◌, ◌==◌, Option}
+use Rattle.std.specs.Prelude.{Some, None, is_some, Result, if◌then◌else◌}
+use Rattle.ln_bytes.specs.Answers.{Leaves}
 use Rattle.ln_bytes.specs.Endian.{big_bytes}
 use Rattle.ln_bytes.specs.declared.record.Record.{Record}
 use Rattle.ln_msgs.specs.declared.messages.message.Message.{Message}
@@ -8,7 +9,6 @@ use Rattle.ln_msgs.specs.declared.messages.message.Message.TheVariants as messag
 use Rattle.ln_msgs.specs.declared.messages.closing.ClosingSigned.{ClosingSigned}
 use Rattle.ln_msgs.specs.declared.messages.closing.Shutdown.{Shutdown}
 use Rattle.ln_msgs.specs.declared.refusals.refusal.Refusal.{Refusal}
-use Rattle.ln_msgs.specs.declared.refusals.refusal.Refusal.TheVariants as refusal
 use Rattle.ln_keys.specs.Signer.{Signer}
 use Rattle.ln_log.specs.declared.update.Update.{Update}
 use Rattle.ln_log.specs.Log.{Log, covered, live_in, after_drop}
@@ -21,7 +21,7 @@ use Rattle.ln_link.specs.declared.channel.Marks.{Marks}
 use Rattle.ln_link.specs.declared.output.Output.{Output}
 use Rattle.ln_link.specs.declared.output.Output.TheVariants as output
 use Rattle.ln_link.specs.Ledger.{Ledger, no_events, next_event, refs_of, entered}
-use Rattle.ln_link.specs.Opening.{MayLack, fault_of}
+use Rattle.ln_link.specs.Opening.{Lacks}
 use Rattle.ln_link.specs.Outputs.{Handed, nothing, sends, events_of, numbered}
 
 pub record End : Type 0 where
@@ -92,8 +92,7 @@ sending m e = record { end = e; handed = sends (m ∷ []) nothing }
 
 -- an end answers what a row says, but for want of memory: where it refuses, it is as it was
 abbrev pub Makes : Result Turn Refusal → Result Handed Refusal → End → End → Type 0
-Makes row (Ok h) old new = row ≡ Ok (record { end = new; handed = h })
-Makes row (Err e) old new = ((e ≡ refusal.Memory) × MayLack (fault_of row)) ⊎ ((row ≡ Err e) × (new ≡ old))
+Makes row answer old new = Leaves Lacks (λ h. record { end = new; handed = h }) (λ e. new ≡ old) row answer
 
 -- ---- what it comes to hold as irrevocably committed (BOLT 2, "Normal Operation")
 

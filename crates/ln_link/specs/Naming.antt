@@ -1,6 +1,6 @@
 -- Which channel a message names, and whether that is the link's (BOLT 1, "The error and warning Messages"; BOLT 2).
-use Rattle.std.specs.Prelude.{ℕ, List, Bool, false, not, ◌||◌, Option, Some, None, nat_eq, replicate}
-use Rattle.std.specs.Cmp.Lexicographic.{pointwise}
+use Rattle.std.specs.Prelude.{ℕ, List, Bool, false, not, ◌||◌, Option, Some, None, replicate}
+use Rattle.ln_bytes.specs.Same.{are_same}
 use Rattle.ln_msgs.specs.declared.messages.message.Message.{Message}
 use Rattle.ln_msgs.specs.declared.messages.message.Message.TheVariants as message
 use Rattle.ln_link.specs.declared.link.Stage.{Stage}
@@ -37,11 +37,11 @@ temporary_of s = None
 
 abbrev pub is_id : List ℕ → Option (List ℕ) → Bool
 is_id id None = false
-is_id id (Some own) = pointwise nat_eq id own
+is_id id (Some own) = are_same id own
 
 -- all channels
 abbrev pub is_all : List ℕ → Bool
-is_all id = pointwise nat_eq id (replicate 32 0)
+is_all id = are_same id (replicate 32 0)
 
 -- an error with this id is meant for the link
 abbrev pub is_meant : Stage → List ℕ → Bool

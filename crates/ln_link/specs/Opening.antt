@@ -1,8 +1,9 @@
 -- The four messages that open a channel: what each end sends, what it refuses, and what it then has (BOLT 2,
 -- "Channel Establishment v1"). For each message taken: what is wrong with it first, and what then.
-use Rattle.std.specs.Prelude.{◌≡◌, ◌⊎◌, ℕ, nat_eq, List, [], ◌∷◌, replicate, Bool, true, false, ◌&&◌, if◌then◌else◌}
+use Rattle.std.specs.Prelude.{◌≡◌, ◌⊎◌, ℕ, List, [], ◌∷◌, replicate, Bool, true, false, ◌&&◌, if◌then◌else◌}
 use Rattle.std.specs.Prelude.{Option, Some, None, Result, Ok, Err}
-use Rattle.std.specs.Cmp.Lexicographic.{pointwise}
+use Rattle.ln_bytes.specs.Answers as answers
+use Rattle.ln_bytes.specs.Same.{are_same}
 use Rattle.ln_bytes.specs.Tlv.{value_of}
 use Rattle.ln_bytes.specs.declared.record.Record.{Record}
 use Rattle.ln_msgs.specs.Messages.Channel.{id_of_channel}
@@ -92,24 +93,21 @@ abbrev pub unless : {A : Type 0} → Option Refusal → A → Result A Refusal
 unless None x = Ok x
 unless (Some r) x = Err r
 
-abbrev pub fault_of : {A : Type 0} → Result A Refusal → Option Refusal
-fault_of (Ok x) = None
-fault_of (Err r) = Some r
-
 -- want of memory may stand in place of what isn't refused, and of a wrong signature, as a view is made before it is
 -- looked at; else only of itself
 abbrev pub MayLack : Option Refusal → Type 0
 MayLack fault = (fault ≡ None) ⊎ ((fault ≡ Some refusal.SignatureWrong) ⊎ (fault ≡ Some refusal.Memory))
 
+abbrev pub Lacks : Refusal → Option Refusal → Type 0
+Lacks e fault = (e ≡ refusal.Memory) × MayLack fault
+
 -- refused exactly by the fault that there is, but for want of memory
 abbrev pub AnswersFault : {A : Type 0} → Option Refusal → Result A Refusal → Type 0
-AnswersFault fault (Ok x) = fault ≡ None
-AnswersFault fault (Err e) = ((e ≡ refusal.Memory) × MayLack fault) ⊎ (fault ≡ Some e)
+AnswersFault fault answer = answers.Refuses Lacks fault answer
 
 -- what a row says is answered, but for want of memory
 abbrev pub Gives : {A : Type 0} → Result A Refusal → Result A Refusal → Type 0
-Gives row (Ok x) = row ≡ Ok x
-Gives row (Err e) = ((e ≡ refusal.Memory) × MayLack (fault_of row)) ⊎ (row ≡ Err e)
+Gives row answer = answers.Gives Lacks (λ x. x) row answer
 
 -- ---- signatures over commitment 0, which has no HTLCs
 
@@ -152,7 +150,7 @@ open_message keys s = record {
 -- 21: another chain than the fundee's, more pushed than funded, a funding out of its range, or more than 483 HTLCs
 abbrev pub open_fault : Config → OpenChannel → Option Refusal
 open_fault c m =
-    if pointwise nat_eq m.chain_hash c.chain_hash && is_fit (asked_with m c.limits) then None
+    if are_same m.chain_hash c.chain_hash && is_fit (asked_with m c.limits) then None
     else Some refusal.OutOfPlace
 
 abbrev pub typed : Option (List ℕ) → List Record
@@ -204,12 +202,12 @@ open_taken keys c m = unless (open_fault c m) (agreement keys c m, accept_messag
 abbrev pub repeats : Option (List ℕ) → Option (List ℕ) → Bool
 repeats None told = true
 repeats (Some asked) None = false
-repeats (Some asked) (Some told) = pointwise nat_eq asked told
+repeats (Some asked) (Some told) = are_same asked told
 
 -- 21: another temporary id, more than 483 HTLCs, or without the channel type that was asked for
 abbrev pub accept_fault : OpenSpec → AcceptChannel → Option Refusal
 accept_fault s m =
-    if pointwise nat_eq m.temporary_id s.temporary_id
+    if are_same m.temporary_id s.temporary_id
     && (is_fit (offered s (asked_by_accept m)) && repeats (value_of 1 s.records) (value_of 1 m.records))
     then None else Some refusal.OutOfPlace
 
@@ -246,7 +244,7 @@ fundee_end a m = opened_by Fundee (id_of_channel m.funding_txid m.output_index) 
 -- 21: another temporary id; 31: a wrong signature
 abbrev pub created_fault : Signer → Agreement → FundingCreated → Option Refusal
 created_fault keys a m =
-    if pointwise nat_eq m.temporary_id a.terms.open_channel.temporary_id
+    if are_same m.temporary_id a.terms.open_channel.temporary_id
     then first_fault keys (fundee_end a m).dance m.signature
     else Some refusal.OutOfPlace
 

@@ -1,6 +1,7 @@
 -- What a call makes of a link (BOLT 1 and 2).
 use Rattle.std.specs.Prelude.{◌≡◌, ◌⊎◌, List, [], ◌∷◌, Bool, true, false, not, Option, Some, None, Result, Ok, Err}
 use Rattle.std.specs.Prelude.{if◌then◌else◌}
+use Rattle.ln_bytes.specs.Answers.{fault_of, Leaves}
 use Rattle.ln_msgs.specs.declared.messages.message.Message.{Message}
 use Rattle.ln_msgs.specs.declared.messages.message.Message.TheVariants as message
 use Rattle.ln_msgs.specs.declared.messages.opening.OpenChannel.{OpenChannel}
@@ -22,7 +23,7 @@ use Rattle.ln_link.specs.declared.output.Output.{Output}
 use Rattle.ln_link.specs.declared.output.Output.TheVariants as output
 use Rattle.ln_link.specs.Outputs.{Handed, all_of}
 use Rattle.ln_link.specs.Opening.{unless, open_message, open_taken, accept_taken, created_taken}
-use Rattle.ln_link.specs.Opening.{first_fault, MayLack, fault_of}
+use Rattle.ln_link.specs.Opening.{first_fault, MayLack, Lacks}
 use Rattle.ln_link.specs.End.{End, Turn, end_of}
 use Rattle.ln_link.specs.Taking.{taken}
 use Rattle.ln_link.specs.Resume.{resume_row}
@@ -204,36 +205,30 @@ pub record IsLeft (r : Refusal) (s s' : Stage) : Type 0 where
 
 -- a stage and a line, by what is said of them
 abbrev pub Moves : Result Done Refusal → Result Handed Refusal → Line → Line → Stage → Stage → Type 0
-Moves said (Ok h) l l' s s' = said ≡ Ok (record { line = l'; stage = s'; outputs = all_of h })
-Moves said (Err e) l l' s s' =
-    ((e ≡ refusal.Memory) × MayLack (fault_of said))
-    ⊎ ((said ≡ Err e) × (l' ≡ l) × IsLeft e s s')
+Moves said answer l l' s s' =
+    Leaves Lacks (λ h. record { line = l'; stage = s'; outputs = all_of h }) (λ e. (l' ≡ l) × IsLeft e s s') said answer
 
 -- a link that leaves its line and stage so, or as they were
 abbrev pub MovesBy : {K : Type 0} → Result Done Refusal → Result Handed Refusal → State K → State K → Type 0
 MovesBy said (Ok h) l new =
     (said ≡ Ok (record { line = new.line; stage = new.stage; outputs = all_of h }))
     × (new ≡ record l { line = new.line; stage = new.stage })
-MovesBy said (Err e) l new = ((e ≡ refusal.Memory) × MayLack (fault_of said)) ⊎ ((said ≡ Err e) × (new ≡ l))
+MovesBy said (Err e) l new = Lacks e (fault_of said) ⊎ ((said ≡ Err e) × (new ≡ l))
 
 abbrev pub Takes : {K : Type 0} → Result Done Refusal → Result Handed Refusal → State K → State K → Type 0
 Takes said (Ok h) l new =
     (said ≡ Ok (record { line = new.line; stage = new.stage; outputs = all_of h }))
     × (new ≡ record l { line = new.line; stage = new.stage })
 Takes said (Err e) l new =
-    ((e ≡ refusal.Memory) × MayLack (fault_of said))
-    ⊎ ((said ≡ Err e) × (new ≡ record l { stage = new.stage }) × IsLeft e l.stage new.stage)
+    Lacks e (fault_of said) ⊎ ((said ≡ Err e) × (new ≡ record l { stage = new.stage }) × IsLeft e l.stage new.stage)
 
 -- an end that isn't replaced, with its line
 abbrev pub MovesEnd : Result Done Refusal → Result Handed Refusal → Line → Line → End → End → Type 0
-MovesEnd said (Ok h) l l' e e' = said ≡ Ok (record { line = l'; stage = stage.Saved e'; outputs = all_of h })
-MovesEnd said (Err r) l l' e e' =
-    ((r ≡ refusal.Memory) × MayLack (fault_of said))
-    ⊎ ((said ≡ Err r) × (l' ≡ l) × (e' ≡ e))
+MovesEnd said answer l l' e e' =
+    Leaves Lacks (λ h. record { line = l'; stage = stage.Saved e'; outputs = all_of h }) (λ r. (l' ≡ l) × (e' ≡ e)) said
+    answer
 
 -- a stage of the opening, which is replaced
 abbrev pub Replaces : {V : Type 0} → (V → Stage) → (V → Handed) → Line → Result Done Refusal → Result V Refusal → Type 0
-Replaces to handed l said (Ok v) = said ≡ Ok (record { line = l; stage = to v; outputs = all_of (handed v) })
-Replaces to handed l said (Err e) =
-    ((e ≡ refusal.Memory) × MayLack (fault_of said))
-    ⊎ ((said ≡ Err e) × (fails e ≡ true))
+Replaces to handed l said answer =
+    Leaves Lacks (λ v. record { line = l; stage = to v; outputs = all_of (handed v) }) (λ e. fails e ≡ true) said answer

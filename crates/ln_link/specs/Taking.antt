@@ -1,8 +1,8 @@
 -- What each message of the peer makes of an end (BOLT 2).
-use Rattle.std.specs.Prelude.{ℕ, List, [], ◌∷◌, length, drop, Bool, true, false, not, ◌||◌, ◌==◌, Option, Some}
-use Rattle.std.specs.Prelude.{None, Result, Ok, Err, nat_eq, if◌then◌else◌}
-use Rattle.std.specs.Cmp.Lexicographic.{pointwise}
+use Rattle.std.specs.Prelude.{ℕ, List, [], ◌∷◌, length, drop, true, false, not, ◌||◌, ◌==◌, Option, Some}
+use Rattle.std.specs.Prelude.{None, Result, Ok, Err, if◌then◌else◌}
 use Rattle.ln_bytes.specs.Endian.{big_number}
+use Rattle.ln_bytes.specs.Same.{are_same}
 use Rattle.ln_bytes.specs.Tlv.{value_of}
 use Rattle.ln_msgs.specs.declared.messages.message.Message.{Message}
 use Rattle.ln_msgs.specs.declared.messages.message.Message.TheVariants as message
@@ -112,9 +112,6 @@ revocation_row keys m e = unless (learn_fault keys m e.dance) (learning e.dance.
 
 -- ---- shutdown (BOLT 2, "Closing Initiation: shutdown")
 
-abbrev pub same_bytes : List ℕ → List ℕ → Bool
-same_bytes xs ys = pointwise nat_eq xs ys
-
 abbrev pub shuts_by_peer : Shutdown → End → End
 shuts_by_peer m e = record e {
   terms = record e.terms { peer_script = Some m.script };
@@ -124,7 +121,7 @@ shuts_by_peer m e = record e {
 -- a repeated one does nothing, and may not name another script
 abbrev pub shutdown_at : Option (List ℕ) → Shutdown → End → Result Turn Refusal
 shutdown_at None m e = Ok (quiet (shuts_by_peer m e))
-shutdown_at (Some script) m e = if same_bytes script m.script then Ok (quiet e) else Err refusal.OutOfPlace
+shutdown_at (Some script) m e = if are_same script m.script then Ok (quiet e) else Err refusal.OutOfPlace
 
 abbrev pub shutdown_row : Shutdown → End → Result Turn Refusal
 shutdown_row m e = shutdown_at e.terms.peer_script m e

@@ -12,17 +12,17 @@ use ln_msgs::{ChannelReady, CommitmentSigned, Message, PeerRule, Records, Refusa
 use std::alloc::Global;
 
 impl Channel {
-    ghost use Rattle.std.specs.Prelude.{◌≡◌, length, OnOk, IfOk, OnErr, IfErr};
+    ghost use Rattle.std.specs.Prelude.{◌≡◌, length, OnOk, IfOk, OnErr};
     ghost use Rattle.ln_log.specs.declared.update.Update.TheVariants as update;
     ghost use Rattle.ln_log.specs.Updates.{next_id};
     ghost use Rattle.ln_log.specs.Limits.{HasNextId};
     ghost use Rattle.ln_log.specs.Log.{proposal_fault};
-    ghost use Rattle.ln_dance.specs.Dance.{sign_fault, signed_message};
+    ghost use Rattle.ln_dance.specs.Dance.{signed_message};
     ghost use Rattle.ln_link.specs.Opening.{AnswersFault};
     ghost use Rattle.ln_link.specs.End.{Makes};
     ghost use Rattle.ln_link.specs.Commands.{confirm_row, ready_message, shut_by_either, closed_fault, own_fault};
     ghost use Rattle.ln_link.specs.Commands.{propose_fault, proposes, propose_row, sign_command_fault, signs_next};
-    ghost use Rattle.ln_link.specs.Commands.{sign_row, shut_fault, shuts_down, shut_row, command_row, unready_fault};
+    ghost use Rattle.ln_link.specs.Commands.{sign_row, shut_fault, shut_row, command_row, unready_fault};
 
     /// The funding is deep enough: sends `channel_ready` (BOLT 2, "The `channel_ready` Message"). 40 where it was sent,
     /// or the channel is closed.

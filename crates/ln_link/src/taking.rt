@@ -20,12 +20,11 @@ impl Channel {
     ghost use Rattle.std.specs.Prelude.{◌≡◌, ◌≤◌, OnOk, IfOk, IfErr, OnErr};
     ghost use Rattle.ln_log.specs.Log.{taken_fault};
     ghost use Rattle.ln_dance.specs.Dance.{accept_fault, answer_of, revoked_message, learn_fault};
-    ghost use Rattle.ln_link.specs.Outputs.{nothing};
     ghost use Rattle.ln_link.specs.Opening.{AnswersFault};
     ghost use Rattle.ln_link.specs.End.{Makes};
     ghost use Rattle.ln_link.specs.Taking.{takes_ready, late_fault, early_fault, update_row, takes};
-    ghost use Rattle.ln_link.specs.Taking.{accepts, accepting, signature_row, revokes, learning, revocation_row};
-    ghost use Rattle.ln_link.specs.Taking.{shutdown_row, shuts_by_peer, answering, answer_handed, answer_ledger};
+    ghost use Rattle.ln_link.specs.Taking.{accepts, signature_row, revokes, revocation_row};
+    ghost use Rattle.ln_link.specs.Taking.{shutdown_row, shuts_by_peer, answering};
     ghost use Rattle.ln_link.specs.Taking.{fee_row, message_row, taken};
 
     /// Takes `channel_ready` (BOLT 2, "The `channel_ready` Message"): a second one, or one behind the close, does

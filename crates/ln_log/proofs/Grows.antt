@@ -1,7 +1,7 @@
 -- A log with a further update.
 use Rattle.std.proofs.Common.{◌≡◌, ℕ, ◌+◌, ◌*◌, ◌≤◌, ◌<◌, List, [], ◌∷◌, length, take, refl, sym, ap, ◌∙◌, subst}
 use Rattle.std.proofs.Common.{arith, Bool, true, false, cond, eqb, Option, Some, None, Result, Ok, Err, length-append}
-use Rattle.std.proofs.Common.{nat_le, option_map}
+use Rattle.std.proofs.Common.{nat_le, option_map, inl, inr}
 use Rattle.std.proofs.lemmas.List.{take-append-le}
 use Rattle.std.proofs.lemmas.Bool.{leb-false, lt-leb, eqb-true}
 use Rattle.std.specs.Result.{IsErrAnd}
@@ -360,12 +360,12 @@ taken_is l m s t p q u n lim side os hs r v k en lt none el es eo eh er =
 -- ---- answers
 
 pub refused_as : (o f : Option Refusal) (r : Refusal) → o ≡ f → o ≡ Some r → Answers {A = Unit {0}} f (Err r)
-refused_as o f r e is = subst (λ x. Answers {A = Unit {0}} x (Err r)) (sym is ∙ e) refl
+refused_as o f r e is = subst (λ x. Answers {A = Unit {0}} x (Err r)) (sym is ∙ e) (inr refl)
 
 pub goes_as : (o f : Option Refusal) → o ≡ f → o ≡ None → Answers {A = Unit {0}} f (Ok tt)
-goes_as o f e is = subst (λ y. Answers {A = Unit {0}} y (Ok tt)) (sym is ∙ e) tt
+goes_as o f e is = subst (λ y. Answers {A = Unit {0}} y (Ok tt)) (sym is ∙ e) refl
 
 pub no_memory : (o f : Option Refusal) (r : Result (Unit {0}) Refusal) → o ≡ f → o ≡ None
     → IsErrAnd r (λ e. e ≡ refusal.Memory) → Answers {A = Unit {0}} f r
 no_memory o f (Ok x) e is h = absurd h
-no_memory o f (Err r) e is h = subst (λ y. Answers {A = Unit {0}} y (Err r)) (sym is ∙ e) h
+no_memory o f (Err r) e is h = subst (λ y. Answers {A = Unit {0}} y (Err r)) (sym is ∙ e) (inl (h, refl))

@@ -12,3 +12,4 @@ pub mod Sent
 pub mod Moves
 pub mod Readable
 pub mod Rules
+pub mod More

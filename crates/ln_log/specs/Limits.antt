@@ -1,8 +1,9 @@
 -- When an update may be proposed (BOLT 2, "Adding an HTLC", "Removing an HTLC", "Updating Fees",
 -- "Requirements").
-use Rattle.std.specs.Prelude.{◌≡◌, ℕ, ◌+◌, ◌*◌, List, length, Option, Some, None, Result, Ok, Err, ◌||◌, ◌==◌, nat_le}
-use Rattle.std.specs.Prelude.{nat_lt, nat_eq, Bool, if◌then◌else◌}
-use Rattle.std.specs.Cmp.Lexicographic.{pointwise}
+use Rattle.std.specs.Prelude.{◌≡◌, ℕ, ◌+◌, ◌*◌, List, length, Option, Some, None, Result, ◌||◌, ◌==◌, nat_le}
+use Rattle.std.specs.Prelude.{nat_lt, Bool, if◌then◌else◌}
+use Rattle.ln_bytes.specs.Answers.{Refuses}
+use Rattle.ln_bytes.specs.Same.{are_same}
 use Rattle.ln_msgs.specs.declared.refusals.refusal.Refusal.{Refusal}
 use Rattle.ln_msgs.specs.declared.refusals.refusal.Refusal.TheVariants as refusal
 use Rattle.ln_keys.specs.declared.role.Role.{Role}
@@ -46,7 +47,7 @@ removable id own held = if is_live (outcome id own) then add_with id held else N
 -- a preimage fulfils the HTLC whose payment hash is its SHA-256
 abbrev pub fulfil_fault : List ℕ → Option Add → Option Refusal
 fulfil_fault preimage None = Some refusal.NoSuchHtlc
-fulfil_fault preimage (Some a) = if pointwise nat_eq (payment_hash preimage) a.hash then None
+fulfil_fault preimage (Some a) = if are_same (payment_hash preimage) a.hash then None
     else Some refusal.PreimageWrong
 
 abbrev pub fail_fault : Option Add → Option Refusal
@@ -103,7 +104,4 @@ first_fault (Some r) next = Some r
 
 -- the answer is the refusal that there is, and Ok where there is none, but for want of memory
 abbrev pub Answers : {A : Type 0} → Option Refusal → Result A Refusal → Type 0
-Answers None (Ok x) = Unit {0}
-Answers None (Err e) = e ≡ refusal.Memory
-Answers (Some r) (Ok x) = ⊥
-Answers (Some r) (Err e) = e ≡ r
+Answers fault answer = Refuses (λ e none. (e ≡ refusal.Memory) × (none ≡ None)) fault answer

@@ -170,8 +170,10 @@ fn is_lawful(
     requires funds { HasFunds opening.now }
     requires own_ids { AreNumbered 0 own.now }
     requires peer_ids { AreNumbered 0 peer.now }
-    ensures tells_it { IfOk result (λ b. IsTrue b ↔ IsLawful opening.now role (record { own = own.now; peer = peer.now
-        })) }
+    ensures tells_it { IfOk result (λ b. IsTrue b ↔ IsLawful opening.now role (record {
+      own = own.now;
+      peer = peer.now;
+    })) }
     ensures fails_for_memory_alone { IsOkUnless result Refusal.Memory }
 {
     if !are_removals(alloc, peer, own)? || !are_removals(alloc, own, peer)? {

@@ -1,13 +1,12 @@
 //! The updates of a channel as one side has them.
 
-ghost use Rattle.std.specs.Prelude.{◌≡◌, ◌≤◌, ◌+◌, ℕ, ◌↔◌, List, length, Option, Some, None, option_copied};
+ghost use Rattle.std.specs.Prelude.{◌≡◌, ◌≤◌, ◌+◌, List, length, Option, Some, None, option_copied};
 ghost use Rattle.std.specs.Prelude.{if◌then◌else◌};
 ghost use Rattle.std.specs.List.{slice_get};
 ghost use Rattle.ln_log.specs.declared.update.Update.{Update};
 ghost use Rattle.ln_log.specs.Updates.{next_id};
 ghost use Rattle.ln_log.specs.Limits.{id_fault};
-ghost use Rattle.ln_log.specs.Log.{Log, IsWithin, between, sign_fault, length_fault, party_of};
-ghost use Rattle.ln_log.specs.Machine.{MaySign};
+ghost use Rattle.ln_log.specs.Log.{Log, IsWithin, between, sign_fault, length_fault};
 
 use crate::opening::{MOST_SATOSHIS, Opening};
 use crate::outcome::Outcome;
@@ -107,10 +106,9 @@ impl Model for UpdateLog {
 }
 
 impl UpdateLog {
-    ghost use Rattle.std.specs.Prelude.{◌≡◌, ◌≤◌, ◌+◌, ◌*◌, ◌<◌, ◌^◌, length, IfSome, IfOk, OnOk, OnErr, IsTrue};
+    ghost use Rattle.std.specs.Prelude.{◌≡◌, ◌≤◌, ◌+◌, ◌*◌, ◌<◌, ◌^◌, length, IfSome, IfOk, OnOk, OnErr};
     ghost use Rattle.std.specs.Prelude.{option_copied};
     ghost use Rattle.std.specs.Result.{IsOkUnless};
-    ghost use Rattle.ln_keys.specs.Role.{other_role};
     ghost use Rattle.ln_log.specs.Opening.{IsFit};
     ghost use Rattle.ln_log.specs.Updates.{next_id, offered, removed};
     ghost use Rattle.ln_log.specs.View.{AddsUp};

@@ -1,9 +1,8 @@
 -- Reading items one after the other, as a loop does.
-use Rattle.std.proofs.Common.{◌≡◌, ◌≢◌, ℕ, suc, ◌-◌, ◌+◌, ◌≤◌, ◌<◌, List, [], ◌∷◌, ◌++◌, Result, Ok, Err, refl, sym, ap}
+use Rattle.std.proofs.Common.{◌≡◌, ℕ, suc, ◌-◌, ◌+◌, ◌≤◌, ◌<◌, List, [], ◌∷◌, ◌++◌, Result, Ok, Err, refl, sym, ap}
 use Rattle.std.proofs.Common.{◌∙◌, append_assoc, arith}
 use Rattle.std.proofs.lemmas.List.{append-nil}
 use Rattle.ln_bytes.specs.declared.fault.Fault.{Fault}
-use Rattle.ln_bytes.specs.declared.fault.Fault.TheVariants.{Memory}
 use Rattle.ln_bytes.specs.Reading.{◌>>=◌}
 use Rattle.ln_msgs.specs.Codec.Field.{bytes_at, items_at}
 
@@ -34,13 +33,12 @@ goes_on size front count i bytes item after total lt h so_far =
     sym one ∙ so_far
 
 pub ends : (size : ℕ) (e : Fault) (front : List (List ℕ)) (count i : ℕ) (bytes : List ℕ)
-    (total : Result (List (List ℕ) × List ℕ) Fault) → i < count → (e ≢ Memory → bytes_at size bytes ≡ Err e)
-    → with_front front (items_at size (count - i) bytes) ≡ total → e ≢ Memory → total ≡ Err e
+    (total : Result (List (List ℕ) × List ℕ) Fault) → i < count → bytes_at size bytes ≡ Err e
+    → with_front front (items_at size (count - i) bytes) ≡ total → total ≡ Err e
 unfolding items_at
-ends size e front count i bytes total lt h so_far ours =
+ends size e front count i bytes total lt h so_far =
     let k : count - i ≡ suc (count - (i + 1)) = omega arith in
-    let is : bytes_at size bytes ≡ Err e = h ours in
-    let one : with_front front (items_at size (count - i) bytes) ≡ Err e = rw (k, is) refl in
+    let one : with_front front (items_at size (count - i) bytes) ≡ Err e = rw (k, h) refl in
     sym so_far ∙ one
 
 pub is_done : (size : ℕ) (front : List (List ℕ)) (count i : ℕ) (bytes : List ℕ)

@@ -1,6 +1,7 @@
 -- What a message or a command makes of an end's closing fees, and of those in flight.
 use Rattle.std.proofs.Common.{◌≡◌, ℕ, List, [], ◌∷◌, ◌++◌, refl, ap, ◌∙◌, Bool, true, false}
 use Rattle.std.proofs.Common.{cond, not, ◌||◌, Option, Some, None, Result, Ok, Err}
+use Rattle.ln_bytes.specs.Same.{are_same}
 use Rattle.ln_msgs.specs.declared.messages.message.Message.{Message}
 use Rattle.ln_msgs.specs.declared.messages.message.Message.TheVariants as message
 use Rattle.ln_msgs.specs.declared.messages.closing.ClosingSigned.{ClosingSigned}
@@ -18,7 +19,7 @@ use Rattle.ln_link.specs.declared.command.Command.{Command}
 use Rattle.ln_link.specs.declared.command.Command.TheVariants as command
 use Rattle.ln_link.specs.Opening.{unless}
 use Rattle.ln_link.specs.End.{End, Turn, quiet, is_closed, sending}
-use Rattle.ln_link.specs.Taking.{message_row, shutdown_at, same_bytes}
+use Rattle.ln_link.specs.Taking.{message_row, shutdown_at}
 use Rattle.ln_link.specs.Commands.{command_row, propose_row, propose_fault, proposes}
 use Rattle.ln_link.specs.declared.link.Line.{Line}
 use Rattle.ln_link.specs.declared.link.Line.TheVariants.{Down, Awaiting, Met}
@@ -85,7 +86,7 @@ aside_ready false e n h = record { deal = ap deal_of h; none = refl }
 
 aside_shutdown : (o : Option (List ℕ)) (m : ShutdownMessage) (e : End) → Aside e (shutdown_at o m e)
 aside_shutdown None m e = record { deal = refl; none = refl }
-aside_shutdown (Some script) m e = by (same_bytes script m.script)
+aside_shutdown (Some script) m e = by (are_same script m.script)
   where
     by : (b : Bool) → Aside e (cond b (Ok (quiet e)) (Err refusal.OutOfPlace))
     by true = record { deal = refl; none = refl }

@@ -1,4 +1,3 @@
-pub mod More
 pub mod Sides
 pub mod Walk
 pub mod Marks

@@ -2,7 +2,7 @@
 use Rattle.ln_log.specs.declared.opening.Opening.{Opening}
 use Rattle.ln_keys.specs.declared.role.Role.{Role}
 use Rattle.ln_log.specs.Limits.{update_fault}
-use Rattle.ln_pair.proofs.More.{fault_more}
+use Rattle.ln_log.proofs.More.{fault_more}
 use Rattle.std.proofs.Common.{None, ◌≡◌, ℕ, ◌+◌, ◌≤◌, List, [], ◌∷◌, ◌++◌, take, refl, sym, ap, ◌∙◌, subst, arith}
 use Rattle.std.proofs.Common.{append_assoc, append-nil, false, zero, suc}
 use Rattle.ln_log.specs.declared.update.Update.{Update as Change}

@@ -3,7 +3,7 @@ use Rattle.std.proofs.Common.{length, ◌==◌, Some, None}
 use Rattle.std.proofs.Common.{◌≡◌, ℕ, ◌+◌, ◌≤◌, List, [], ◌∷◌, ◌++◌, take, refl, sym, ap, ◌∙◌, subst, arith, append-nil}
 use Rattle.std.proofs.Common.{Bool, true, false, cond, not, ◌&&◌, Option, Ok, Err, inl}
 use Rattle.std.proofs.lemmas.List.{take-take}
-use Rattle.std.proofs.lemmas.Cmp.{nat_list_eq_equiv}
+use Rattle.ln_bytes.proofs.Same.{same_if_equal}
 use Rattle.ln_msgs.specs.declared.messages.message.Message.{Message}
 use Rattle.ln_msgs.specs.declared.messages.message.Message.TheVariants as message
 use Rattle.ln_msgs.specs.declared.messages.closing.Shutdown.{Shutdown as ShutdownMessage}
@@ -15,7 +15,7 @@ use Rattle.ln_dance.specs.Dance.{revoked_message}
 use Rattle.ln_close.specs.Closing.{after_shut}
 use Rattle.ln_link.specs.declared.output.Output.TheVariants as output
 use Rattle.ln_link.specs.End.{End, Turn, has_begun, quiet, owes_shutdown, all_acknowledged, shutdown_message}
-use Rattle.ln_link.specs.Taking.{takes, takes_ready, accepts, accepting, revokes, learning, update_row, same_bytes}
+use Rattle.ln_link.specs.Taking.{takes, takes_ready, accepts, accepting, revokes, learning, update_row}
 use Rattle.ln_link.specs.Taking.{shutdown_at, shuts_by_peer, message_row}
 use Rattle.ln_pair.specs.Ends.{messages_in}
 use Rattle.ln_pair.specs.Promises.{AreKeys}
@@ -83,9 +83,8 @@ fronts n m k us vs e same le = sym (take-take n k us le) ∙ ap (take n) e ∙ t
 same_shutdown : (taken : Bool) (o : Option (List ℕ)) (script : List ℕ) (m : ShutdownMessage) (e : End)
     → IsScript taken o script → script ≡ m.script → shutdown_at o m e ≡ Ok (quiet (cond taken e (shuts_by_peer m e)))
 same_shutdown true o script m e h is =
-    let same : same_bytes script m.script ≡ true =
-    subst (λ w. same_bytes script w ≡ true) is (nat_list_eq_equiv.refl script) in
-    ap (λ q. shutdown_at q m e) h ∙ ap (λ q. cond q (Ok (quiet e)) (Err refusal.OutOfPlace)) same
+    ap (λ q. shutdown_at q m e) h
+    ∙ ap (λ q. cond q (Ok (quiet e)) (Err refusal.OutOfPlace)) (same_if_equal script m.script is)
 same_shutdown false o script m e h is = ap (λ q. shutdown_at q m e) h
 
 unnegated : (c : Bool) → not c ≡ true → c ≡ false

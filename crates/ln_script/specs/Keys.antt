@@ -4,11 +4,12 @@ use Rattle.std.specs.List.{list_all}
 use Rattle.std.proofs.Common.{refl}
 use Rattle.std.proofs.lemmas.Cmp.{nat_list_eq_equiv, nat_eq_equiv}
 use Rattle.std.proofs.lemmas.List.{length-replicate}
+use Rattle.ln_bytes.specs.Same.{are_same}
 use Rattle.ln_keys.specs.declared.keys.ChannelKeys.{Ghosts}
 use Rattle.ln_keys.specs.declared.toy_keys.ToyKeys.{ToyKeys}
 use Rattle.ln_keys.specs.declared.view.View.{View}
 use Rattle.ln_keys.specs.Partners.{ArePartners, IsVerifiedBy}
-use Rattle.ln_keys.specs.Toy.{toy_signer, toy_secret, toy_point, toy_signature, toy_close_signature, are_same, are_all}
+use Rattle.ln_keys.specs.Toy.{toy_signer, toy_secret, toy_point, toy_signature, toy_close_signature, are_all}
 use Rattle.ln_world.specs.declared.step.Partners.{Partners}
 
 -- what toy keys answer

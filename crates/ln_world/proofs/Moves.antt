@@ -1,8 +1,7 @@
 -- What a move makes of the two links, a step of the pair makes of the ends.
 use Rattle.std.proofs.Common.{◌≡◌, ◌⊎◌, ℕ, List, [], ◌∷◌, ◌++◌, refl, sym, ap, ◌∙◌, subst, Bool, true, false, cond, not}
-use Rattle.std.proofs.Common.{Option, Some, None, Result, Ok, Err, inl, inr, append-nil, nat_eq}
-use Rattle.std.proofs.lemmas.Cmp.{nat_list_eq_equiv}
-use Rattle.std.specs.Cmp.Lexicographic.{pointwise}
+use Rattle.std.proofs.Common.{Option, Some, None, Result, Ok, Err, inl, inr, append-nil}
+use Rattle.ln_bytes.proofs.Same.{same_if_equal}
 use Rattle.ln_msgs.specs.declared.messages.message.Message.{Message}
 use Rattle.ln_msgs.specs.declared.messages.message.Message.TheVariants as message
 use Rattle.ln_msgs.specs.declared.refusals.refusal.Refusal.{Refusal}
@@ -39,10 +38,6 @@ use Rattle.ln_world.proofs.Mirror.{all_plain, all_in, reached_link, reached, rea
 
 -- ---- what a link answers is what its end's rows say
 
-same_bytes : (xs ys : List ℕ) → xs ≡ ys → pointwise nat_eq xs ys ≡ true
-same_bytes xs ys e = let P : List ℕ → Type 0 = λ w. pointwise nat_eq xs w ≡ true in
-    subst P e (nat_list_eq_equiv.refl xs)
-
 saved_so : (keys : Signer) (l : Line) (m : Message) (e : End) → is_down l ≡ false
     → saved_at keys l m e ≡ step.turned Met (message_at keys l m e)
 saved_so keys Down m e up = absurd (cc)
@@ -76,7 +71,7 @@ module _ {K : Type 0} (keys : Signer) (k : K) (id : List ℕ) where
       let s = stage.Saved e in
       let p = plain id m is in
       let own : is_other (named m) s ≡ false = ap (λ o. is_other o s) is
-      ∙ ap not (same_bytes id e.dance.channel (sym channel)) in
+      ∙ ap not (same_if_equal id e.dance.channel (sym channel)) in
       let stray : stray_fault l s m ≡ None = ap (λ b. cond b (Some refusal.UnknownChannel)
       (cond (is_down l) (Some refusal.OutOfPlace) None)) own
       ∙ ap (λ b. cond b (Some refusal.OutOfPlace) None) up in

@@ -1,4 +1,5 @@
 -- What an end sends names its channel, and nothing is sent by what else it hands out.
+use Rattle.ln_bytes.specs.Same.{are_same}
 use Rattle.ln_dance.specs.Resume.{signature_again}
 use Rattle.std.proofs.Common.{◌||◌}
 use Rattle.std.proofs.Common.{sym}
@@ -47,7 +48,7 @@ use Rattle.ln_link.specs.End.{End, Turn, completed, quiet, sending, owes_shutdow
 use Rattle.ln_link.specs.End.{has_begun, is_closed, shutdown_message, shutdown_sent, due_sent}
 use Rattle.ln_link.specs.Taking.{message_row, takes_ready, takes, update_row, update_fault, signature_fault}
 use Rattle.ln_link.specs.Taking.{accepting, accepts, learning, revokes, shutdown_at}
-use Rattle.ln_link.specs.Taking.{shuts_by_peer, same_bytes, answering, answered, answered_end, range_in}
+use Rattle.ln_link.specs.Taking.{shuts_by_peer, answering, answered, answered_end, range_in}
 use Rattle.ln_link.specs.Taking.{completed_row}
 use Rattle.ln_link.specs.Commands.{command_row, confirm_fault, ready_message, propose_fault, proposes}
 use Rattle.ln_link.specs.Commands.{sign_command_fault, shut_fault, shuts_down, unready_fault}
@@ -159,7 +160,7 @@ module _ (keys : Signer) (id : List ℕ) where
   fine_shutdown : (o : Option (List ℕ)) (m : Shutdown) (e : End) → e.dance.channel ≡ id
       → IsFineRow id (shutdown_at o m e)
   fine_shutdown None m e h = quietly (shuts_by_peer m e) h
-  fine_shutdown (Some script) m e h = repeated (same_bytes script m.script) e h
+  fine_shutdown (Some script) m e h = repeated (are_same script m.script) e h
 
   fine_answer : (a : Answer) (e : End) → e.dance.channel ≡ id → IsFine id (answering keys a e)
   fine_answer answer.Nothing e h = record { channel = h; sent = tt; told = refl }

@@ -1,8 +1,7 @@
 -- The four messages that open a channel leave two links at the ends of a pair.
-use Rattle.std.proofs.Common.{◌≡◌, ℕ, List, [], ◌∷◌, refl, sym, ap, ◌∙◌, subst, true, false, cond, not, nat_eq}
+use Rattle.std.proofs.Common.{◌≡◌, ℕ, List, [], ◌∷◌, refl, sym, ap, ◌∙◌, subst, false, cond, not}
 use Rattle.std.proofs.Common.{Option, Some, None, Result, Ok, Err}
-use Rattle.std.proofs.lemmas.Cmp.{nat_list_eq_equiv}
-use Rattle.std.specs.Cmp.Lexicographic.{pointwise}
+use Rattle.ln_bytes.proofs.Same.{same_if_equal}
 use Rattle.ln_msgs.specs.declared.messages.message.Message.{Message}
 use Rattle.ln_msgs.specs.declared.messages.message.Message.TheVariants as message
 use Rattle.ln_msgs.specs.declared.messages.opening.AcceptChannel.{AcceptChannel}
@@ -56,10 +55,6 @@ was_given (Some r) x y e = absurd (cc)
 no_fault : {A : Type 0} (f : Option Refusal) (x y : A) → unless f x ≡ Ok y → f ≡ None
 no_fault None x y e = refl
 no_fault (Some r) x y e = absurd (cc)
-
-same_bytes : (xs ys : List ℕ) → xs ≡ ys → pointwise nat_eq xs ys ≡ true
-same_bytes xs ys e = let P : List ℕ → Type 0 = λ w. pointwise nat_eq xs w ≡ true in
-    subst P e (nat_list_eq_equiv.refl xs)
 
 module _ {K : Type 0} (signer : K → Signer) (id : List ℕ) (kx ky : K) (s : OpenSpec) (c : Config)
     (funder fundee : Opened) (o : Opens (signer kx) (signer ky) s c funder fundee) where
@@ -139,7 +134,7 @@ module _ {K : Type 0} (signer : K → Signer) (id : List ℕ) (kx ky : K) (s : O
       (two kx (stage.AwaitsSigned (end_of funder)) [] ky (stage.Saved (end_of fundee)) []) in
       let row : Result Done Refusal = unless (first_fault (signer kx) funder.dance o.signed.signature) d in
       ap (λ b. after (faulted (cond (not b) (Some refusal.UnknownChannel) None) row))
-      (same_bytes o.signed.channel_id funder.dance.channel (named_so ∙ of_both))
+      (same_if_equal o.signed.channel_id funder.dance.channel (named_so ∙ of_both))
       ∙ ap (λ f. after (unless f d)) (no_fault (first_fault (signer kx) funder.dance o.signed.signature) tt tt
       o.funding_signed)
 

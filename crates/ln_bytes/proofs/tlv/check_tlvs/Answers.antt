@@ -2,6 +2,7 @@ use Rattle.std.proofs.Common.{◌≡◌, ◌≢◌, ◌==◌, [], length, ap, sy
 use Rattle.std.proofs.lemmas.Bool.{eqb-true}
 use Rattle.std.proofs.lemmas.List.{nil_from_length}
 use Rattle.std.proofs.lemmas.Result.{err_from_is_err_and}
+use Rattle.ln_bytes.proofs.Reading.{said_itself}
 use Rattle.ln_bytes.proofs.Streams.{gets_shorter}
 use Rattle.ln_bytes.proofs.Checks.{IsCheckedSoFar, begins_checked, goes_on_checked, faults_checked, ends_checked}
 use Rattle.ln_bytes.proofs.tlv.check_tlvs.Goals as goal
@@ -17,7 +18,8 @@ returns-in_err-typ c =
     let none = c.loop-rest-test.ensures ∙ ap (λ l. length l == 0) e in
     absurd cc in
     rw (p.1, p.2) (sym (faults_checked c.args.known_even.now c.args.lengths.now c.args.bytes.now c.loop-rest.fits
-    c.loop-rest.before c.loop-rest.rest.now c.in_err-typ.field-0.0 c.loop-rest.invariant some c.in_err-typ.ensures))
+    c.loop-rest.before c.loop-rest.rest.now c.in_err-typ.field-0.0 c.loop-rest.invariant some
+    (said_itself c.in_err-typ.ensures)))
 
 pub loop-rest-smaller : goal.loop-rest-smaller
 loop-rest-smaller c =

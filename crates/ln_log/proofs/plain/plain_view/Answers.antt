@@ -29,11 +29,11 @@ overflow_cast-result c =
       c.from-had.ensures,
       c.first_balance.ensures,
       (c.sums_of-out.ensures.failed ∙ ap (total is_failed c.args.funder.now)
-        c.in_ok-of_funder.ensures.keeps_the_removals),
+          c.in_ok-of_funder.ensures.keeps_the_removals),
       (c.sums_of-out.ensures.offered ∙ ap (total is_any c.args.funder.now)
-        c.in_ok-of_funder.ensures.keeps_the_removals),
+          c.in_ok-of_funder.ensures.keeps_the_removals),
       (c.sums_of-back.ensures.fulfilled ∙ ap (total is_fulfilled c.args.fundee.now)
-        c.in_ok-of_fundee.ensures.keeps_the_removals),
+          c.in_ok-of_fundee.ensures.keeps_the_removals),
     )
 
 pub overflow_cast-result-2 : goal.overflow_cast-result-2
@@ -46,11 +46,11 @@ overflow_cast-result-2 c =
       c.from-got.ensures,
       c.first_balance-2.ensures,
       (c.sums_of-back.ensures.failed ∙ ap (total is_failed c.args.fundee.now)
-        c.in_ok-of_fundee.ensures.keeps_the_removals),
+          c.in_ok-of_fundee.ensures.keeps_the_removals),
       (c.sums_of-back.ensures.offered ∙ ap (total is_any c.args.fundee.now)
-        c.in_ok-of_fundee.ensures.keeps_the_removals),
+          c.in_ok-of_fundee.ensures.keeps_the_removals),
       (c.sums_of-out.ensures.fulfilled ∙ ap (total is_fulfilled c.args.funder.now)
-        c.in_ok-of_funder.ensures.keeps_the_removals),
+          c.in_ok-of_funder.ensures.keeps_the_removals),
     )
 
 pub returns-clause-view : goal.returns-clause-view
@@ -61,27 +61,27 @@ returns-clause-view c =
       c.from-had.ensures,
       c.first_balance.ensures,
       (c.sums_of-out.ensures.failed ∙ ap (total is_failed c.args.funder.now)
-        c.in_ok-of_funder.ensures.keeps_the_removals),
+          c.in_ok-of_funder.ensures.keeps_the_removals),
       (c.sums_of-out.ensures.offered ∙ ap (total is_any c.args.funder.now)
-        c.in_ok-of_funder.ensures.keeps_the_removals),
+          c.in_ok-of_funder.ensures.keeps_the_removals),
       (c.sums_of-back.ensures.fulfilled ∙ ap (total is_fulfilled c.args.fundee.now)
-        c.in_ok-of_fundee.ensures.keeps_the_removals),
+          c.in_ok-of_fundee.ensures.keeps_the_removals),
     ))
     (omega (
       arith,
       c.from-got.ensures,
       c.first_balance-2.ensures,
       (c.sums_of-back.ensures.failed ∙ ap (total is_failed c.args.fundee.now)
-        c.in_ok-of_fundee.ensures.keeps_the_removals),
+          c.in_ok-of_fundee.ensures.keeps_the_removals),
       (c.sums_of-back.ensures.offered ∙ ap (total is_any c.args.fundee.now)
-        c.in_ok-of_fundee.ensures.keeps_the_removals),
+          c.in_ok-of_fundee.ensures.keeps_the_removals),
       (c.sums_of-out.ensures.fulfilled ∙ ap (total is_fulfilled c.args.funder.now)
-        c.in_ok-of_funder.ensures.keeps_the_removals),
+          c.in_ok-of_funder.ensures.keeps_the_removals),
     ))
     c.last_feerate.ensures
     (htlcs_are _ _ _ _ c.args.funder.now c.args.fundee.now _ _ c.new-3.ensures c.in_ok-push_live-2.ensures.appends_them
     c.in_ok-push_live.ensures.appends_them c.new-htlcs.ensures.items c.in_ok-of_fundee.ensures.keeps_the_removals
-      c.in_ok-of_funder.ensures.keeps_the_removals)
+    c.in_ok-of_funder.ensures.keeps_the_removals)
 
 pub returns-clause-adds_up : goal.returns-clause-adds_up
 returns-clause-adds_up c =

@@ -1,6 +1,7 @@
 use Rattle.std.proofs.Common.{refl, sym, ◌∙◌, subst}
-use Rattle.ln_log.specs.Log.{Log, after_propose}
-use Rattle.ln_log.specs.Limits.{HasNextId}
+use Rattle.ln_log.specs.Log.{Log, after_propose, proposal_fault}
+use Rattle.ln_log.specs.Limits.{HasNextId, Answers}
+use Rattle.ln_dance.specs.Dance.{Dancer}
 use Rattle.ln_dance.proofs.Kept.{map_ok, either_way, kept_by, log_becomes}
 use Rattle.ln_dance.proofs.dance.Dance.propose.Goals as goal
 
@@ -16,3 +17,8 @@ pub returns-clause-moves_as_stated : goal.returns-clause-moves_as_stated
 returns-clause-moves_as_stated c = λ d e.
     map_ok c.propose.result (log_becomes _ d (after_propose c.args.update) _ (c.self.view_is ∙ e))
     (c.propose.ensures.moves_as_stated _ refl)
+
+pub returns-clause-refuses_exactly : goal.returns-clause-refuses_exactly
+returns-clause-refuses_exactly c = λ d e.
+    subst (λ (x : Dancer). Answers (proposal_fault x.log c.args.update) c.propose.result) (c.self.view_is ∙ e)
+    (c.propose.ensures.refuses_exactly _ refl)

@@ -19,5 +19,5 @@ invariant_of-result c =
     (stands_as _ c.args.opening c.args.role c.args.role _ _ _ _ c.in_ok-own_standing.ensures.gives_the_standing refl
     c.deref.ensures.value c.deref-2.ensures.value)
     (stands_as _ c.args.opening _ c.other.result _ _ _ _ c.in_ok-peer_standing.ensures.gives_the_standing
-      c.other.ensures
+    c.other.ensures
     c.deref-4.ensures.value (ap (take c.args.coverage.acknowledged.own) c.deref-3.ensures.value))

@@ -1,4 +1,6 @@
+use Rattle.std.proofs.Common.{inr}
 use Rattle.std.proofs.lemmas.Result.{err_from_is_err_and}
+use Rattle.ln_bytes.proofs.Reading.{said_itself}
 use Rattle.ln_msgs.specs.Codec.Field.{items_at}
 use Rattle.ln_msgs.proofs.Items.{goes_on, ends, is_done}
 use Rattle.ln_msgs.proofs.codec.field.signature_items_at.Goals as goal
@@ -6,8 +8,8 @@ use Rattle.ln_msgs.proofs.codec.field.signature_items_at.Goals as goal
 pub returns-in_err-item : goal.returns-in_err-item
 returns-in_err-item c =
     let p = err_from_is_err_and c.from_residual.result c.from_residual.ensures.1 in
-    rw (p.1, p.2) (ends 64 c.in_err-item.field-0.0 c.loop.items.items c.args.count c.loop.counter c.loop.rest.now
-    (items_at 64 c.args.count c.args.bytes.now) c.loop-test.true (λ other. c.in_err-item.ensures) c.loop.invariant)
+    rw (p.1, p.2) (inr (ends 64 c.in_err-item.field-0.0 c.loop.items.items c.args.count c.loop.counter c.loop.rest.now
+    (items_at 64 c.args.count c.args.bytes.now) c.loop-test.true (said_itself c.in_err-item.ensures) c.loop.invariant))
 
 pub loop-preserved : goal.loop-preserved
 loop-preserved c =
