@@ -12,16 +12,19 @@ pub on_ok : {A : Type 0} (r : Result A Refusal) {P Q : Type 0} → (P → Q) →
 on_ok (Ok x) f p = f p
 on_ok (Err x) f p = tt
 
--- one that stays in its role
+-- one that keeps its role and opening
 pub sound : {A : Type 0} (r : Result A Refusal) (e : End) (new moved : Dancer) → OnOk r (new ≡ moved)
-    → OnErr r (new ≡ e.dance) → moved.log.role ≡ e.dance.log.role → IsSound e → IsSound (with_dance new e)
-sound (Ok x) e new moved ok err same s = record {
-  one_role = ap (λ (d : Dancer). d.log.role) ok ∙ same ∙ s.one_role;
+    → OnErr r (new ≡ e.dance) → moved.log.role ≡ e.dance.log.role → moved.log.opening ≡ e.dance.log.opening
+    → IsSound e → IsSound (with_dance new e)
+sound (Ok x) e new moved ok err role opening s = record {
+  one_role = ap (λ (d : Dancer). d.log.role) ok ∙ role ∙ s.one_role;
+  opening = ap (λ (d : Dancer). d.log.opening) ok ∙ opening ∙ s.opening;
   fees = s.fees;
   scripts = s.scripts;
 }
-sound (Err x) e new moved ok err same s = record {
+sound (Err x) e new moved ok err role opening s = record {
   one_role = ap (λ (d : Dancer). d.log.role) err ∙ s.one_role;
+  opening = ap (λ (d : Dancer). d.log.opening) err ∙ s.opening;
   fees = s.fees;
   scripts = s.scripts;
 }

@@ -21,7 +21,7 @@ use Rattle.ln_link.specs.declared.channel.Marks.{Marks}
 use Rattle.ln_link.specs.declared.output.Output.{Output}
 use Rattle.ln_link.specs.declared.output.Output.TheVariants as output
 use Rattle.ln_link.specs.Ledger.{Ledger, no_events, next_event, refs_of, entered}
-use Rattle.ln_link.specs.Opening.{Lacks}
+use Rattle.ln_link.specs.Opening.{Lacks, opening_of}
 use Rattle.ln_link.specs.Outputs.{Handed, nothing, sends, events_of, numbered}
 
 pub record End : Type 0 where
@@ -41,9 +41,10 @@ opened_end d c t = record { dance = d; closing = c; terms = t; marks = no_marks;
 abbrev pub end_of : Opened → End
 end_of o = opened_end o.dance o.closing o.terms
 
--- one role, fees in order, and a script of the peer's where it has shut down
+-- one role, the opening that the terms say, fees in order, and a script of the peer's where it has shut down
 pub record IsSound (e : End) : Type 0 where
   pub one_role : e.dance.log.role ≡ e.closing.role
+  pub opening : e.dance.log.opening ≡ opening_of e.terms
   pub fees : AreOrdered e.closing.fees
   pub scripts : is_some e.terms.peer_script ≡ e.closing.peer_shut
 

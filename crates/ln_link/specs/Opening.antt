@@ -277,6 +277,7 @@ pub record IsAgreed (a : Agreement) : Type 0 where
 -- an end as it begins
 pub record HasBegun (o : Opened) : Type 0 where
   pub role : o.closing.role ≡ o.dance.log.role
+  pub opening : o.dance.log.opening ≡ opening_of o.terms
   pub fees : AreOrdered o.closing.fees
   pub not_shut : o.closing.peer_shut ≡ false
   pub no_script : o.terms.peer_script ≡ None

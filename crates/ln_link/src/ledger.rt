@@ -7,6 +7,9 @@ use ln_msgs::Refusal;
 use std::alloc::Global;
 use std::marker::Model;
 
+/// An end has no more events: 2^62 updates of either side, and the close.
+pub const MOST_DECIDED: u64 = (1 << 63) + 1;
+
 /// What an event tells of. Updates of a side count from 0.
 #[derive(Clone, Copy, Debug, PartialEq, Eq)]
 pub enum EventRef {
@@ -26,14 +29,15 @@ pub struct EventLedger {
 }
 
 impl Model for EventLedger {
-    ghost use Rattle.std.specs.Prelude.{◌<◌, ◌^◌};
+    ghost use Rattle.std.specs.Prelude.{◌≤◌};
     ghost use Rattle.ln_link.specs.Ledger.{Ledger};
+    ghost use Rattle.ln_link.specs.declared.ledger.TheConstants.{MOST_DECIDED};
 
     ghost Value = { Ledger };
 
     ghost view = { λ l. record { decided = l.decided; undecided = l.undecided.items } };
 
-    ghost invariant = { λ l. l.decided < 2 ^ 63 };
+    ghost invariant = { λ l. l.decided ≤ MOST_DECIDED };
 }
 
 ghost use Rattle.std.specs.Prelude.{◌≡◌};
@@ -73,7 +77,7 @@ impl EventLedger {
     fn next(&self) -> u64
         ensures { result ≡ next_event self.now }
     {
-        self.decided + self.undecided.len() as u64
+        self.decided + self.undecided.as_slice().len() as u64
     }
 
     // Enters an event, and tells it by its number.
@@ -139,11 +143,12 @@ impl EventLedger {
 }
 
 impl EventLedger {
-    ghost use Rattle.std.specs.Prelude.{◌≡◌, ◌<◌, ◌^◌};
+    ghost use Rattle.std.specs.Prelude.{◌≡◌, ◌≤◌};
+    ghost use Rattle.ln_link.specs.declared.ledger.TheConstants.{MOST_DECIDED};
 
-    /// Fewer than 2^63 decided events, and these undecided ones behind them. Takes no memory.
+    /// So many decided events, 2^63 + 1 at most, and these undecided ones behind them. Takes no memory.
     pub fn from_parts(decided: u64, undecided: Vec<EventRef>) -> EventLedger
-        requires { decided < 2 ^ 63 }
+        requires { decided ≤ MOST_DECIDED }
         ensures { result ≡ record { decided = decided; undecided = undecided.items } }
     {
         EventLedger { decided, undecided }

@@ -43,8 +43,8 @@ impl Channel {
     ghost use Rattle.ln_link.specs.End.{IsSound};
     ghost use Rattle.ln_link.specs.Parts.{end_with};
 
-    /// An end of these parts: of one role, with ordered fees, and with the peer's script where the peer has shut down.
-    /// Takes no memory.
+    /// An end of these parts: of one role, with the opening that its terms say, with ordered fees, and with the peer's
+    /// script where the peer has shut down. Takes no memory.
     pub fn from_parts(
         dance: Dance,
         closing: Closing,
@@ -66,7 +66,8 @@ impl Channel {
 
     /// The updates, numbers and points of its commitments.
     pub fn dance(&self) -> &Dance
-        ensures { result.now ≡ self.now.dance }
+        ensures dance { result.now ≡ self.now.dance }
+        ensures fits_together { IsSound self.now }
     {
         &self.dance
     }

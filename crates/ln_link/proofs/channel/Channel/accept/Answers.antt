@@ -14,8 +14,8 @@ invariant_of-self g c =
       ledger = c.self.inside.ledger;
     } in
     sound c.accept.result e c.accept.new.self (after_accept c.self.inside.dance) (c.accept.ensures.moves_as_stated _
-      refl)
-    c.accept.ensures.changes_nothing_if_refused refl c.self.invariant
+    refl)
+    c.accept.ensures.changes_nothing_if_refused refl refl c.self.invariant
 
 pub returns-clause-refuses_exactly : goal.returns-clause-refuses_exactly
 returns-clause-refuses_exactly g c =

@@ -6,6 +6,8 @@ pub invariant_of-self : goal.invariant_of-self
 invariant_of-self c = record {
   one_role = ap (λ (d : Dancer). d.log.role) (c.drop_unsigned.ensures _ refl)
       ∙ c.self.invariant.one_role;
+  opening = ap (λ (d : Dancer). d.log.opening) (c.drop_unsigned.ensures _ refl)
+      ∙ c.self.invariant.opening;
   fees = c.self.invariant.fees;
   scripts = c.self.invariant.scripts;
 }

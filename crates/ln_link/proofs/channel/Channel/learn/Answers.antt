@@ -14,7 +14,7 @@ invariant_of-self g c =
       ledger = c.self.inside.ledger;
     } in
     sound c.learn.result e c.learn.new.self (after_learn c.args.message.now c.self.inside.dance)
-    (c.learn.ensures.moves_as_stated _ refl) c.learn.ensures.changes_nothing_if_refused refl c.self.invariant
+    (c.learn.ensures.moves_as_stated _ refl) c.learn.ensures.changes_nothing_if_refused refl refl c.self.invariant
 
 pub returns-clause-state : goal.returns-clause-state
 returns-clause-state g c =

@@ -15,8 +15,8 @@ invariant_of-self c =
       ledger = c.self.inside.ledger;
     } in
     sound c.propose.result e c.propose.new.self (with_log (after_propose c.args.update c.self.inside.dance.log)
-    c.self.inside.dance) (c.propose.ensures.moves_as_stated _ refl) c.propose.ensures.changes_nothing_if_refused refl
-      c.self.invariant
+    c.self.inside.dance) (c.propose.ensures.moves_as_stated _ refl) c.propose.ensures.changes_nothing_if_refused
+      refl refl c.self.invariant
 
 pub returns-clause-state : goal.returns-clause-state
 returns-clause-state c =
@@ -33,4 +33,4 @@ returns-clause-state c =
 pub returns-clause-refuses_exactly : goal.returns-clause-refuses_exactly
 returns-clause-refuses_exactly c = rw (← c.self.view_is)
     (within (proposal_fault c.self.inside.dance.log c.args.update) c.propose.result (c.propose.ensures.refuses_exactly
-      _ refl))
+    _ refl))

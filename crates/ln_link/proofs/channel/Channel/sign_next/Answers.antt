@@ -15,7 +15,7 @@ invariant_of-self g c =
       ledger = c.self.inside.ledger;
     } in
     sound c.sign.result e c.sign.new.self (after_sign c.self.inside.dance) (c.sign.ensures.moves_as_stated _ refl)
-    c.sign.ensures.changes_nothing_if_refused refl c.self.invariant
+    c.sign.ensures.changes_nothing_if_refused refl refl c.self.invariant
 
 pub returns-clause-state : goal.returns-clause-state
 returns-clause-state g c =
