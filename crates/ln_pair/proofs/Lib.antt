@@ -29,3 +29,4 @@ pub mod Moving
 pub mod Machines
 pub mod Tellings
 pub mod Recounts
+pub mod Answers

@@ -2,6 +2,7 @@ pub mod Ends
 pub mod Promises
 pub mod Moves
 pub mod Told
+pub mod Answers
 pub use Rattle.ln_log.specs.Machine
 pub use Rattle.ln_log.specs.Log
 pub use Rattle.ln_link.specs.Opening

@@ -21,9 +21,13 @@ use Rattle.ln_pair.specs.Ends.{Ends, opened, turned, message_at, command_at, Act
 use Rattle.ln_pair.specs.Ends.{Connect, happens}
 use Rattle.ln_pair.specs.Promises.{party}
 
--- the machine that two ends stand for, the funder being x
+-- the machine that a funder's and a fundee's end stand for
+abbrev pub machine_by : End → End → Machine
+machine_by x y = record { opening = x.dance.log.opening; funder = party x; fundee = party y }
+
+-- the funder being x
 abbrev pub machine_of : Ends → Machine
-machine_of p = record { opening = p.x.dance.log.opening; funder = party p.x; fundee = party p.y }
+machine_of p = machine_by p.x p.y
 
 -- ---- a command
 
@@ -74,10 +78,13 @@ shuts side false true = Shut side ∷ []
 shuts side false false = []
 shuts side true now = []
 
--- what is taken, then what the end makes of it in its turn
+-- what is taken, then what the end, e before it and f behind it, makes of it in its turn
+abbrev pub moves_between : Role → Message → End → End → List Move
+moves_between side m e f = moves_taken side m ++ (closes side e.closing.closed f.closing.closed
+    ++ shuts side e.closing.shut f.closing.shut)
+
 abbrev pub moves_of_message : Role → Message → End → Result Turn Refusal → List Move
-moves_of_message side m e (Ok t) = moves_taken side m ++ (closes side e.closing.closed t.end.closing.closed
-    ++ shuts side e.closing.shut t.end.closing.shut)
+moves_of_message side m e (Ok t) = moves_between side m e t.end
 moves_of_message side m e (Err r) = []
 
 -- ---- a step

@@ -15,7 +15,7 @@ use Rattle.ln_log.specs.declared.log.Side.TheVariants as side
 use Rattle.ln_dance.specs.Dance.{sign_fault, view_at}
 use Rattle.ln_close.specs.declared.closing.Fees.{Fees}
 use Rattle.ln_close.specs.Closing.{AreOrdered}
-use Rattle.ln_link.specs.End.{End, Turn}
+use Rattle.ln_link.specs.End.{End}
 use Rattle.ln_link.specs.declared.link.Line.{Line}
 use Rattle.ln_link.specs.declared.link.Line.TheVariants.{Met}
 use Rattle.ln_pair.specs.Ends.{Ends, message_at}
@@ -33,8 +33,11 @@ abbrev pub party : End → Party
 party e = party_of e.closing.shut e.closing.closed e.dance.log
 
 -- what each end holds as irrevocably committed begins what the other has covered by a signature
+abbrev pub FollowEachOther : End → End → Type 0
+FollowEachOther x y = Follows (party x) (party y) × Follows (party y) (party x)
+
 abbrev pub Headline : Ends → Type 0
-Headline p = Follows (party p.x) (party p.y) × Follows (party p.y) (party p.x)
+Headline p = FollowEachOther p.x p.y
 
 abbrev pub is_closing_signed : Message → Bool
 is_closing_signed (message.ClosingSigned m) = true
@@ -45,14 +48,17 @@ pub record AreSent (f : Fees) : Type 0 where
   pub first : f.first < 2 ^ 64
   pub greatest : f.greatest < 2 ^ 64
 
-abbrev pub IsTaken : Result Turn Refusal → Type 0
-IsTaken r = (t : Turn) × (r ≡ Ok t)
+abbrev pub IsTaken : {A : Type 0} → Result A Refusal → Type 0
+IsTaken {A} r = (t : A) × (r ≡ Ok t)
 
--- the message in front is taken, or it is a closing_signed whose fee can't be agreed to
+-- a message is taken, or it is a closing_signed whose fee can't be agreed to
+abbrev pub IsTakenButForItsFee : {A : Type 0} → Message → Result A Refusal → Type 0
+IsTakenButForItsFee m r = IsTaken r ⊎ ((is_closing_signed m ≡ true) × (r ≡ Err refusal.FeeOutside))
+
+-- so is the message in front
 abbrev pub TakesFront : Signer → Line → List Message → End → Type 0
 TakesFront keys l [] e = Unit {0}
-TakesFront keys l (m ∷ ms) e = IsTaken (message_at keys l m e)
-    ⊎ ((is_closing_signed m ≡ true) × (message_at keys l m e ≡ Err refusal.FeeOutside))
+TakesFront keys l (m ∷ ms) e = IsTakenButForItsFee m (message_at keys l m e)
 
 abbrev pub NoneRefused : Signer → Signer → Ends → Type 0
 NoneRefused a b p = TakesFront a p.x_line p.to_x p.x × TakesFront b p.y_line p.to_y p.y
@@ -78,8 +84,11 @@ abbrev pub AllTaken : Signer → Signer → Ends → Type 0
 AllTaken a b p = AcceptsFront a p.x_line p.to_x p.x × AcceptsFront b p.y_line p.to_y p.y
 
 -- two ends that have closed have closed at one fee
+abbrev pub CloseAtOneFee : End → End → Type 0
+CloseAtOneFee x y = (f g : ℕ) → x.closing.closed ≡ Some f → y.closing.closed ≡ Some g → f ≡ g
+
 abbrev pub OneFee : Ends → Type 0
-OneFee p = (f g : ℕ) → p.x.closing.closed ≡ Some f → p.y.closing.closed ≡ Some g → f ≡ g
+OneFee p = CloseAtOneFee p.x p.y
 
 -- ---- at rest
 
@@ -101,9 +110,12 @@ pub record HoldsAll (x y : Party) : Type 0 where
 abbrev pub worth : End → View
 worth e = view_at (pair.Current side.Own) e.dance
 
--- then both hold everything, and each one's commitment is worth what the other's is
+-- both hold everything, and each one's commitment is worth what the other's is
+abbrev pub HoldTheSame : End → End → Type 0
+HoldTheSame x y = HoldsAll (party x) (party y) × HoldsAll (party y) (party x) × (worth x ≡ worth y)
+
 abbrev pub Agrees : Ends → Type 0
-Agrees p = IsAtRest p → HoldsAll (party p.x) (party p.y) × HoldsAll (party p.y) (party p.x) × (worth p.x ≡ worth p.y)
+Agrees p = IsAtRest p → HoldTheSame p.x p.y
 
 -- ---- no add behind the own shutdown (BOLT 2, "Closing Initiation: shutdown")
 

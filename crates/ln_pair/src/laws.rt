@@ -17,6 +17,7 @@ ghost use Rattle.ln_link.specs.Meeting.{Opens};
 ghost use Rattle.ln_link.specs.Step.{turned, saved_at, obeyed};
 ghost use Rattle.ln_pair.specs.Ends.{Step, opened, message_at, command_at, run};
 ghost use Rattle.ln_pair.specs.Promises.{AreKeys, AreSent, AreAgreeable, Headline, NoneRefused, AllTaken};
+ghost use Rattle.ln_pair.specs.Answers.{BothHaveAnswered};
 ghost use Rattle.ln_pair.specs.Promises.{OneFee, Agrees, NoneAddsLate};
 
 /// A law: what either end holds as irrevocably committed is, each update once and in the order in which it was sent,
@@ -62,7 +63,17 @@ pub fn no_add_follows_a_shutdown()
         → Opens a b s c funder fundee → NoneAddsLate (run a b steps (opened funder fundee)) }
 {}
 
-/// A law: what the steps say of an end with a connection is what a link of it answers, to a message and to a command.
+/// A law: an end that has met its peer and has taken the peer's `shutdown` has sent its own, once all its updates are
+/// acknowledged (BOLT 2, "Closing Initiation: shutdown").
+pub fn a_shutdown_is_answered()
+    ensures { (a b : Signer) (s : OpenSpec) (c : Config) (funder fundee : Opened) (steps : List Step) → AreKeys a b
+        → Opens a b s c funder fundee → BothHaveAnswered (run a b steps (opened funder fundee)) }
+{}
+
+/// A law of rows, not of whole calls: behind a link's looks at what has halted or failed, at what is passed over and at
+/// what is of another channel, what ln_link's rows of an open channel with a connection answer to a message
+/// (`saved_at`), and to a command that isn't about records (`obeyed`), is what the steps say of the end
+/// (`message_at`, `command_at`). That `handled` and `commanded` of a link answer so is shown in ln_world.
 pub fn steps_are_those_of_a_link()
     ensures message_behind_the_reestablish { (keys : Signer) (m : Message) (e : End)
         → saved_at keys Met m e ≡ turned Met (message_at keys Met m e) }

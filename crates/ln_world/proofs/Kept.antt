@@ -6,10 +6,11 @@ use Rattle.ln_msgs.specs.declared.messages.message.Message.TheVariants as messag
 use Rattle.ln_link.specs.declared.link.Line.TheVariants.{Down}
 use Rattle.ln_link.specs.End.{end_dropped}
 use Rattle.ln_pair.specs.Promises.{is_add, is_shutdown, AddsBefore}
-use Rattle.ln_world.specs.Sending.{act_sends, funder_sends, fundee_sends, sent_by_funder, sent_by_fundee, is_possible}
-use Rattle.ln_world.specs.Sending.{ArePossible, NoneAddsLate}
+use Rattle.ln_world.specs.Sending.{sends}
+use Rattle.ln_world.specs.Course.{along}
+use Rattle.ln_world.specs.Machine.{moves_of, moves_of_fall, tells, machine_with, machine_of_stages}
 use Rattle.ln_world.proofs.Mirror.{without-append}
-use Rattle.ln_world.proofs.Moves.{met_says, lost_says}
+use Rattle.ln_world.proofs.Moves.{met_says, met_tells, lost_says}
 use Rattle.std.proofs.Common.{◌≡◌, ℕ, List, [], ◌∷◌, ◌++◌, refl, sym, ap, ◌∙◌, subst, Bool, true, false, cond}
 use Rattle.std.proofs.Common.{◌&&◌}
 use Rattle.std.proofs.Common.{Option, Some, None, inl, inr, not}
@@ -31,7 +32,23 @@ use Rattle.ln_link.specs.Step.{Done, handled}
 use Rattle.ln_link.specs.Step as step
 use Rattle.ln_pair.specs.Ends.{Ends, Step}
 use Rattle.ln_pair.specs.Ends as pair
-use Rattle.ln_pair.specs.Promises.{AreKeys, AreSent, TakesFront as Front}
+use Rattle.ln_pair.specs.Promises.{AreKeys, AreSent, IsTaken, Overlap, CloseAtOneFee, TakesFront as Front}
+use Rattle.ln_pair.specs.Promises.{AcceptsFront as Accepted, FollowEachOther}
+use Rattle.ln_pair.specs.Moves.{history, after_all}
+use Rattle.ln_pair.specs.Moves as pair_moves
+use Rattle.ln_pair.specs.Told.{events_in, as_told}
+use Rattle.ln_pair.specs.Told as pair_told
+use Rattle.ln_pair.proofs.Tellings.{in_append}
+use Rattle.ln_pair.proofs.Machines.{may_be_made}
+use Rattle.ln_pair.proofs.Recounts.{events_so}
+use Rattle.ln_pair.proofs.Fees.{one_fee, all_taken}
+use Rattle.ln_pair.proofs.Deals.{run_fees}
+use Rattle.ln_close.specs.Closing.{AreOrdered}
+use Rattle.ln_log.specs.Machine.{Machine}
+use Rattle.ln_log.specs.Machine as machine
+use Rattle.ln_log.specs.Events.{events}
+use Rattle.ln_link.specs.declared.output.Output.{Output}
+use Rattle.ln_link.specs.Outputs.{all_of, numbered}
 use Rattle.ln_pair.specs.Promises as promise
 use Rattle.ln_pair.proofs.Promised as promised
 use Rattle.ln_world.specs.declared.step.Act.{Act}
@@ -41,10 +58,10 @@ use Rattle.ln_world.specs.Settings.{channel_id_of}
 use Rattle.ln_world.specs.Both.{Both, By, Falls, Meet, acts, turned, moves, may_come_up}
 use Rattle.ln_world.specs.Both.{run as run_both}
 use Rattle.ln_world.specs.Channel.{Channel, by, side_of, moved, may_meet, act_moves, fall_moves, up_moves}
-use Rattle.ln_world.specs.Promises.{AtEnds, FollowEachOther, Headline, IsTaken, TakesFront, NoneRefused}
-use Rattle.ln_world.specs.Promises.{AgreeOnceSigned, Agrees}
+use Rattle.ln_world.specs.Promises.{AtEnds, WithPeer, Headline, TakesFront, NoneRefused, AgreeOnceSigned, Agrees}
+use Rattle.ln_world.specs.Promises.{FeesOverlap, AcceptsFront, AllTaken, OneFee}
 use Rattle.ln_world.proofs.Mirror.{link_of, without_warnings, IsInbox, Mirrors, flipped, plain}
-use Rattle.ln_world.proofs.Moves.{Goes, handled_so, passed_so, delivered, given, fell, met, is_up}
+use Rattle.ln_world.proofs.Moves.{Goes, Out, out_of, handled_so, passed_so, delivered, given, fell, met, is_up}
 
 -- ---- the pair's steps
 
@@ -52,6 +69,69 @@ pub run-append : (a b : Signer) (ss : List Step) (s : Step) (p : Ends)
     → pair.run a b (ss ++ s ∷ []) p ≡ pair.happens a b s (pair.run a b ss p)
 run-append a b [] s p = refl
 run-append a b (r ∷ ss) s p = run-append a b ss s (pair.happens a b r p)
+
+module _ (a b : Signer) where
+  moves-append : (ss : List Step) (s : Step) (p : Ends)
+      → pair_moves.all_moves a b (ss ++ s ∷ []) p
+      ≡ pair_moves.all_moves a b ss p ++ pair_moves.moves_of a b s (pair.run a b ss p)
+  moves-append [] s p = append-nil (pair_moves.moves_of a b s p)
+  moves-append (r ∷ ss) s p =
+      let q = pair.happens a b r p in
+      ap (λ ms. pair_moves.moves_of a b r p ++ ms) (moves-append ss s q)
+      ∙ sym (append_assoc (pair_moves.moves_of a b r p) (pair_moves.all_moves a b ss q)
+      (pair_moves.moves_of a b s (pair.run a b ss q)))
+
+  told-append : (side : Role) (ss : List Step) (s : Step) (p : Ends)
+      → pair_told.all_told a b side (ss ++ s ∷ []) p
+      ≡ pair_told.all_told a b side ss p ++ pair_told.told a b side s (pair.run a b ss p)
+  told-append side [] s p = append-nil (pair_told.told a b side s p)
+  told-append side (r ∷ ss) s p =
+      let q = pair.happens a b r p in
+      ap (λ os. pair_told.told a b side r p ++ os) (told-append side ss s q)
+      ∙ sym (append_assoc (pair_told.told a b side r p) (pair_told.all_told a b side ss q)
+      (pair_told.told a b side s (pair.run a b ss q)))
+
+-- ---- what comes of the moves of a channel, told of its links
+
+pub record Tale : Type 0 where
+  pub sent_x : List Message
+  pub sent_y : List Message
+  pub moves : List machine.Move
+  pub told_x : List Output
+  pub told_y : List Output
+
+abbrev pub untold : Tale
+untold = record { sent_x = []; sent_y = []; moves = []; told_x = []; told_y = [] }
+
+abbrev pub then : Tale → Tale → Tale
+then t u = record {
+  sent_x = t.sent_x ++ u.sent_x;
+  sent_y = t.sent_y ++ u.sent_y;
+  moves = t.moves ++ u.moves;
+  told_x = t.told_x ++ u.told_x;
+  told_y = t.told_y ++ u.told_y;
+}
+
+abbrev tale_by : List Message → List Message → List machine.Move → List Output → List Output → Tale
+tale_by a c ms os qs = record { sent_x = a; sent_y = c; moves = ms; told_x = os; told_y = qs }
+
+same_tale : (a c : List Message) (ms : List machine.Move) (os qs : List Output) (t : Tale) → a ≡ t.sent_x
+    → c ≡ t.sent_y → ms ≡ t.moves → os ≡ t.told_x → qs ≡ t.told_y → tale_by a c ms os qs ≡ t
+same_tale a c ms os qs t ea ec em eo eq =
+    ap (λ w. tale_by w c ms os qs) ea
+    ∙ ap (λ w. tale_by t.sent_x w ms os qs) ec
+    ∙ ap (λ w. tale_by t.sent_x t.sent_y w os qs) em
+    ∙ ap (λ w. tale_by t.sent_x t.sent_y t.moves w qs) eo
+    ∙ ap (λ w. tale_by t.sent_x t.sent_y t.moves t.told_x w) eq
+
+pub then-untold : (t : Tale) → then t untold ≡ t
+then-untold t = same_tale _ _ _ _ _ t (append-nil t.sent_x) (append-nil t.sent_y) (append-nil t.moves)
+    (append-nil t.told_x) (append-nil t.told_y)
+
+pub then_assoc : (t u v : Tale) → then (then t u) v ≡ then t (then u v)
+then_assoc t u v = same_tale _ _ _ _ _ (then t (then u v)) (append_assoc t.sent_x u.sent_x v.sent_x)
+    (append_assoc t.sent_y u.sent_y v.sent_y) (append_assoc t.moves u.moves v.moves)
+    (append_assoc t.told_x u.told_x v.told_x) (append_assoc t.told_y u.told_y v.told_y)
 
 -- a warning is neither an add nor a shutdown
 is_neither : (m : Message) → is_warning m ≡ true → (is_add m ≡ false) × (is_shutdown m ≡ false)
@@ -109,6 +189,8 @@ module _ {K : Type 0} (signer : K → Signer) where
     pub opens : Opens (signer funders) (signer fundees) spec config funder fundee
     pub funders_fees : AreSent funder.closing.fees
     pub fundees_fees : AreSent fundee.closing.fees
+    pub funders_order : AreOrdered funder.closing.fees
+    pub fundees_order : AreOrdered fundee.closing.fees
     pub mirrors : Mirrors id funders fundees p
         (pair.run (signer funders) (signer fundees) steps (pair.opened funder fundee))
 
@@ -137,6 +219,8 @@ module _ {K : Type 0} (signer : K → Signer) where
     opens = r.opens;
     funders_fees = r.funders_fees;
     fundees_fees = r.fundees_fees;
+    funders_order = r.funders_order;
+    fundees_order = r.fundees_order;
     mirrors = h;
   }
 
@@ -156,99 +240,142 @@ module _ {K : Type 0} (signer : K → Signer) where
     opens = r.opens;
     funders_fees = r.funders_fees;
     fundees_fees = r.fundees_fees;
+    funders_order = r.funders_order;
+    fundees_order = r.fundees_order;
     mirrors = subst (Mirrors id r.funders r.fundees p') (sym (run-append (signer r.funders) (signer r.fundees)
         r.steps s (pair.opened r.funder r.fundee))) h;
   }
 
-  acts_so : (id : List ℕ) (a : Act) (kx ky : K) (p : Both K) (q : Ends) → Mirrors id kx ky p q
-      → Front (signer kx) q.x_line q.to_x q.x → Goes signer id kx ky (act_sends signer id a p.x) (acts signer id a p) q
-  acts_so id act.Deliver kx ky p q h f = delivered signer id kx ky p q h f
-  acts_so id (act.Send c) kx ky p q h f = let went = given signer id kx ky c p q h in
-      inr (pair.Give c, went.0, went.1)
+  acts_so : (id : List ℕ) (side : Role) (a : Act) (kx ky : K) (p : Both K) (q : Ends) → Mirrors id kx ky p q
+      → Front (signer kx) q.x_line q.to_x q.x
+      → Goes signer id kx ky side (out_of signer id side a p.x) (acts signer id a p) q
+  acts_so id side act.Deliver kx ky p q h f = delivered signer id kx ky side p q h f
+  acts_so id side (act.Send c) kx ky p q h f = let went = given signer id kx ky side c p q h in
+      inr (pair.Give c, went.0, went.1, went.2)
 
-  -- what a move makes of it, and what the ends say with it
-  pub record Went (id : List ℕ) (p p' : Both K) (r : IsRun id p) (out_x out_y : List Message) : Type 0 where
+  -- what a move comes to
+  abbrev pub tale_of : List ℕ → Move → Both K → Tale
+  tale_of id m p = record {
+    sent_x = sends signer Funder id m p;
+    sent_y = sends signer Fundee id m p;
+    moves = moves_of signer m p;
+    told_x = tells signer Funder m p;
+    told_y = tells signer Fundee m p;
+  }
+
+  -- what the ends have come to
+  abbrev pub moves_until : (id : List ℕ) (p : Both K) → IsRun id p → List machine.Move
+  moves_until id p r = history (signer r.funders) (signer r.fundees) r.funder r.fundee r.steps
+
+  abbrev pub told_until : Role → (id : List ℕ) (p : Both K) → IsRun id p → List Output
+  told_until side id p r = events_in
+      (pair_told.all_told (signer r.funders) (signer r.fundees) side r.steps (pair.opened r.funder r.fundee))
+
+  -- what a move makes of it, and what comes of it for the ends
+  pub record Went (id : List ℕ) (p p' : Both K) (r : IsRun id p) (t : Tale) : Type 0 where
     pub run : IsRun id p'
-    pub x : (ends_of id p' run).said_x ≡ (ends_of id p r).said_x ++ without_warnings out_x
-    pub y : (ends_of id p' run).said_y ≡ (ends_of id p r).said_y ++ without_warnings out_y
+    pub x : (ends_of id p' run).said_x ≡ (ends_of id p r).said_x ++ without_warnings t.sent_x
+    pub y : (ends_of id p' run).said_y ≡ (ends_of id p r).said_y ++ without_warnings t.sent_y
+    pub moves : moves_until id p' run ≡ moves_until id p r ++ t.moves
+    pub told_x : told_until Funder id p' run ≡ told_until Funder id p r ++ events_in t.told_x
+    pub told_y : told_until Fundee id p' run ≡ told_until Fundee id p r ++ events_in t.told_y
 
   silently : (said out : List Message) → without_warnings out ≡ [] → said ≡ said ++ without_warnings out
   silently said out none = sym (ap (λ ws. said ++ ws) none ∙ append-nil said)
 
-  went_so : (id : List ℕ) (p p' : Both K) (r : IsRun id p) (s : Step) (out_x out_y : List Message)
+  nothing_more : {A : Type 0} (xs ys : List A) → ys ≡ [] → xs ≡ xs ++ ys
+  nothing_more xs ys none = sym (ap (λ zs. xs ++ zs) none ∙ append-nil xs)
+
+  went_so : (id : List ℕ) (p p' : Both K) (r : IsRun id p) (s : Step) (t : Tale)
       → Mirrors id r.funders r.fundees p' (pair.happens (signer r.funders) (signer r.fundees) s (ends_of id p r))
       → (pair.happens (signer r.funders) (signer r.fundees) s (ends_of id p r)).said_x
-      ≡ (ends_of id p r).said_x ++ without_warnings out_x
+      ≡ (ends_of id p r).said_x ++ without_warnings t.sent_x
       → (pair.happens (signer r.funders) (signer r.fundees) s (ends_of id p r)).said_y
-      ≡ (ends_of id p r).said_y ++ without_warnings out_y
-      → Went id p p' r out_x out_y
-  went_so id p p' r s out_x out_y h x y =
-      let is = run-append (signer r.funders) (signer r.fundees) r.steps s (pair.opened r.funder r.fundee) in
+      ≡ (ends_of id p r).said_y ++ without_warnings t.sent_y
+      → pair_moves.moves_of (signer r.funders) (signer r.fundees) s (ends_of id p r) ≡ t.moves
+      → events_in (pair_told.told (signer r.funders) (signer r.fundees) Funder s (ends_of id p r)) ≡ events_in t.told_x
+      → events_in (pair_told.told (signer r.funders) (signer r.fundees) Fundee s (ends_of id p r)) ≡ events_in t.told_y
+      → Went id p p' r t
+  went_so id p p' r s t h x y ms ox oy =
+      let a = signer r.funders in
+      let b = signer r.fundees in
+      let first = pair.opened r.funder r.fundee in
+      let q = ends_of id p r in
+      let is = run-append a b r.steps s first in
       record {
         run = one_more id p p' r s h;
         x = ap (λ (w : Ends). w.said_x) is ∙ x;
         y = ap (λ (w : Ends). w.said_y) is ∙ y;
+        moves = ap (λ ns. machine.Open r.funder.dance.log.opening ∷ ns)
+            (moves-append a b r.steps s first ∙ ap (λ ns. pair_moves.all_moves a b r.steps first ++ ns) ms);
+        told_x = ap events_in (told-append a b Funder r.steps s first)
+            ∙ in_append (pair_told.all_told a b Funder r.steps first) (pair_told.told a b Funder s q)
+            ∙ ap (λ os. told_until Funder id p r ++ os) ox;
+        told_y = ap events_in (told-append a b Fundee r.steps s first)
+            ∙ in_append (pair_told.all_told a b Fundee r.steps first) (pair_told.told a b Fundee s q)
+            ∙ ap (λ os. told_until Fundee id p r ++ os) oy;
       }
 
-  stayed_so : (id : List ℕ) (p p' : Both K) (r : IsRun id p) (out_x out_y : List Message)
-      → Mirrors id r.funders r.fundees p' (ends_of id p r) → without_warnings out_x ≡ [] → without_warnings out_y ≡ []
-      → Went id p p' r out_x out_y
-  stayed_so id p p' r out_x out_y h x y = record {
+  stayed_so : (id : List ℕ) (p p' : Both K) (r : IsRun id p) (t : Tale)
+      → Mirrors id r.funders r.fundees p' (ends_of id p r) → without_warnings t.sent_x ≡ []
+      → without_warnings t.sent_y ≡ [] → t.moves ≡ [] → events_in t.told_x ≡ [] → events_in t.told_y ≡ []
+      → Went id p p' r t
+  stayed_so id p p' r t h x y ms ox oy = record {
     run = as_before id p p' r h;
-    x = silently (ends_of id p r).said_x out_x x;
-    y = silently (ends_of id p r).said_y out_y y;
+    x = silently (ends_of id p r).said_x t.sent_x x;
+    y = silently (ends_of id p r).said_y t.sent_y y;
+    moves = nothing_more (moves_until id p r) t.moves ms;
+    told_x = nothing_more (told_until Funder id p r) (events_in t.told_x) ox;
+    told_y = nothing_more (told_until Fundee id p r) (events_in t.told_y) oy;
   }
 
   acted_went : (id : List ℕ) (side : Role) (a : Act) (p : Both K) (r : IsRun id p)
-      → Went id p (moves signer id (By side a) p) r (funder_sends signer id (By side a) p)
-      (fundee_sends signer id (By side a) p)
+      → Went id p (moves signer id (By side a) p) r (tale_of id (By side a) p)
   unfolding moves
   acted_went id Funder a p r =
       let q = ends_of id p r in
-      elim (acts_so id a r.funders r.fundees p q r.mirrors (fronts id p r).0) [
-        | inl h ↦ stayed_so id p _ r (act_sends signer id a p.x) [] h.0 h.1 refl
+      let t = tale_of id (By Funder a) p in
+      elim (acts_so id Funder a r.funders r.fundees p q r.mirrors (fronts id p r).0) [
+        | inl h ↦ stayed_so id p _ r t h.0 h.1.sent refl h.1.moves (ap events_in h.1.told) refl
         | inr h ↦
-            went_so id p _ r (pair.By Funder h.0) (act_sends signer id a p.x) [] h.1 h.2.x
-            (h.2.y ∙ silently q.said_y [] refl)
+            went_so id p _ r (pair.By Funder h.0) t h.1 h.2.x (h.2.y ∙ silently q.said_y [] refl) h.3.moves
+            (ap events_in h.3.told) refl
       ]
   acted_went id Fundee a p r =
       let q = ends_of id p r in
-      elim (acts_so id a r.fundees r.funders (turned p) (pair.turned q)
+      let t = tale_of id (By Fundee a) p in
+      elim (acts_so id Fundee a r.fundees r.funders (turned p) (pair.turned q)
       (flipped id r.funders r.fundees p q r.mirrors) (fronts id p r).1) [
         | inl h ↦
-            stayed_so id p _ r [] (act_sends signer id a p.y) (flipped id r.fundees r.funders _ (pair.turned q) h.0)
-            refl h.1
+            stayed_so id p _ r t (flipped id r.fundees r.funders _ (pair.turned q) h.0) refl h.1.sent h.1.moves refl
+            (ap events_in h.1.told)
         | inr h ↦
-            went_so id p _ r (pair.By Fundee h.0) [] (act_sends signer id a p.y)
+            went_so id p _ r (pair.By Fundee h.0) t
             (flipped id r.fundees r.funders _ (pair.acts (signer r.fundees) h.0 (pair.turned q)) h.1)
-            (h.2.y ∙ silently q.said_x [] refl) h.2.x
+            (h.2.y ∙ silently q.said_x [] refl) h.2.x h.3.moves refl (ap events_in h.3.told)
       ]
 
-  pub acted : (id : List ℕ) (side : Role) (a : Act) (p : Both K) → IsRun id p → IsRun id (moves signer id (By side a) p)
-  acted id side a p r = (acted_went id side a p r).run
-
   fallen_went : (id : List ℕ) (side : Role) (p : Both K) (r : IsRun id p)
-      → Went id p (moves signer id (Falls side) p) r [] []
+      → Went id p (moves signer id (Falls side) p) r (tale_of id (Falls side) p)
   unfolding moves
   fallen_went id Funder p r =
       let q = ends_of id p r in
       let said = lost_says (is_down q.x_line) q (record q { x_line = Down; x = end_dropped q.x; to_x = [] }) refl
       refl in
-      went_so id p _ r (pair.By Funder pair.Lose) [] []
+      went_so id p _ r (pair.By Funder pair.Lose) (tale_of id (Falls Funder) p)
       (fell signer id r.funders r.fundees p q r.mirrors)
       (said.0 ∙ silently q.said_x [] refl) (said.1 ∙ silently q.said_y [] refl)
+      (ap (λ (l : State K). moves_of_fall Funder l.line) (sym r.mirrors.x_link)) refl refl
   fallen_went id Fundee p r =
       let q = ends_of id p r in
       let t = pair.turned q in
       let said = lost_says (is_down t.x_line) t (record t { x_line = Down; x = end_dropped t.x; to_x = [] }) refl
       refl in
-      went_so id p _ r (pair.By Fundee pair.Lose) [] []
+      went_so id p _ r (pair.By Fundee pair.Lose) (tale_of id (Falls Fundee) p)
       (flipped id r.fundees r.funders _ _ (fell signer id r.fundees r.funders (turned p) t
       (flipped id r.funders r.fundees p q r.mirrors)))
       (said.1 ∙ silently q.said_x [] refl) (said.0 ∙ silently q.said_y [] refl)
-
-  pub fallen : (id : List ℕ) (side : Role) (p : Both K) → IsRun id p → IsRun id (moves signer id (Falls side) p)
-  fallen id side p r = (fallen_went id side p r).run
+      (ap (λ (l : State K). moves_of_fall Fundee l.line) (sym r.mirrors.y_link)) refl refl
 
   both_true : (b c : Bool) → (b && c) ≡ true → (b ≡ true) × (c ≡ true)
   both_true true true e = (refl, refl)
@@ -256,7 +383,7 @@ module _ {K : Type 0} (signer : K → Signer) where
   both_true false c e = absurd (cc)
 
   came_up_went : (id : List ℕ) (p : Both K) → may_meet p ≡ true → (r : IsRun id p)
-      → Went id p (moves signer id Meet p) r (funder_sends signer id Meet p) (fundee_sends signer id Meet p)
+      → Went id p (moves signer id Meet p) r (tale_of id Meet p)
   unfolding moves
   came_up_went id p e r =
       let ends = both_true (may_come_up p.x.link) (may_come_up p.y.link) e in
@@ -264,65 +391,125 @@ module _ {K : Type 0} (signer : K → Signer) where
       let y = both_true (is_down p.y.link.line) (not p.y.link.halted) ends.1 in
       let q = ends_of id p r in
       let said = met_says signer id r.funders r.fundees p q x.0 y.0 r.mirrors in
-      went_so id p _ r pair.Connect (funder_sends signer id Meet p) (fundee_sends signer id Meet p)
-      (met signer id r.funders r.fundees p q x.0 y.0 r.mirrors) said.0 said.1
+      let told = met_tells signer id r.funders r.fundees p q x.0 y.0 r.mirrors in
+      went_so id p _ r pair.Connect (tale_of id Meet p)
+      (met signer id r.funders r.fundees p q x.0 y.0 r.mirrors) said.0 said.1 refl (sym told.0) (sym told.1)
 
-  pub came_up : (id : List ℕ) (p : Both K) → may_meet p ≡ true → IsRun id p → IsRun id (moves signer id Meet p)
-  came_up id p e r = (came_up_went id p e r).run
+  -- those that the table gives: a connection joins ends that are both down, and haven't halted
+  abbrev pub is_possible : Move → Both K → Bool
+  is_possible (By side a) p = true
+  is_possible (Falls side) p = true
+  is_possible Meet p = may_meet p
 
-  -- any move that is possible
+  abbrev pub ArePossible : List ℕ → List Move → Both K → Type 0
+  ArePossible id [] p = Unit {0}
+  ArePossible id (m ∷ ms) p = (is_possible m p ≡ true) × ArePossible id ms (moves signer id m p)
+
   went : (id : List ℕ) (m : Move) (p : Both K) → is_possible m p ≡ true → (r : IsRun id p)
-      → Went id p (moves signer id m p) r (funder_sends signer id m p) (fundee_sends signer id m p)
+      → Went id p (moves signer id m p) r (tale_of id m p)
   went id (By side a) p e r = acted_went id side a p r
   went id (Falls side) p e r = fallen_went id side p r
   went id Meet p e r = came_up_went id p e r
 
-  -- ---- what is sent
+  -- ---- a channel, and what has come of it since it was opened
 
-  spoken : (id : List ℕ) (ms : List Move) (p : Both K) (r : IsRun id p) (heard_x heard_y : List Message)
-      → (ends_of id p r).said_x ≡ without_warnings heard_x → (ends_of id p r).said_y ≡ without_warnings heard_y
-      → ArePossible signer id ms p
-      → AddsBefore false (without_warnings (heard_x ++ sent_by_funder signer id ms p))
-      × AddsBefore false (without_warnings (heard_y ++ sent_by_fundee signer id ms p))
-  spoken id [] p r heard_x heard_y x y may =
+  pub record IsTold (id : List ℕ) (p : Both K) (t : Tale) : Type 0 where
+    pub run : IsRun id p
+    pub x : (ends_of id p run).said_x ≡ without_warnings t.sent_x
+    pub y : (ends_of id p run).said_y ≡ without_warnings t.sent_y
+    pub moves : moves_until id p run ≡ t.moves
+    pub told_x : told_until Funder id p run ≡ events_in t.told_x
+    pub told_y : told_until Fundee id p run ≡ events_in t.told_y
+
+  -- of moves, in their order
+  abbrev pub tale_along : List ℕ → List Move → Both K → Tale
+  tale_along id ms p = record {
+    sent_x = along signer id (sends signer Funder id) ms p;
+    sent_y = along signer id (sends signer Fundee id) ms p;
+    moves = along signer id (moves_of signer) ms p;
+    told_x = along signer id (tells signer Funder) ms p;
+    told_y = along signer id (tells signer Fundee) ms p;
+  }
+
+  one_told : (id : List ℕ) (m : Move) (p : Both K) (t : Tale) → is_possible m p ≡ true → IsTold id p t
+      → IsTold id (moves signer id m p) (then t (tale_of id m p))
+  one_told id m p t may h =
+      let u = tale_of id m p in
+      let w = went id m p may h.run in
+      record {
+        run = w.run;
+        x = w.x ∙ ap (λ ws. ws ++ without_warnings u.sent_x) h.x ∙ sym (without-append t.sent_x u.sent_x);
+        y = w.y ∙ ap (λ ws. ws ++ without_warnings u.sent_y) h.y ∙ sym (without-append t.sent_y u.sent_y);
+        moves = w.moves ∙ ap (λ ms. ms ++ u.moves) h.moves;
+        told_x = w.told_x ∙ ap (λ os. os ++ events_in u.told_x) h.told_x ∙ sym (in_append t.told_x u.told_x);
+        told_y = w.told_y ∙ ap (λ os. os ++ events_in u.told_y) h.told_y ∙ sym (in_append t.told_y u.told_y);
+      }
+
+  pub all_told : (id : List ℕ) (ms : List Move) (p : Both K) (t : Tale) → ArePossible id ms p → IsTold id p t
+      → IsTold id (run_both signer id ms p) (then t (tale_along id ms p))
+  all_told id [] p t may h = subst (IsTold id p) (sym (then-untold t)) h
+  all_told id (m ∷ ms) p t may h =
+      let p' = moves signer id m p in
+      subst (IsTold id (run_both signer id ms p')) (then_assoc t (tale_of id m p) (tale_along id ms p'))
+      (all_told id ms p' (then t (tale_of id m p)) may.1 (one_told id m p t may.0 h))
+
+  -- ---- what it has sent, the moves that it made, and what it has told
+
+  pub none_adds_late : (id : List ℕ) (p : Both K) (t : Tale) → IsTold id p t
+      → AddsBefore false t.sent_x × AddsBefore false t.sent_y
+  none_adds_late id p t h =
+      let r = h.run in
       let late = promised.none_adds_late (signer r.funders) (signer r.fundees) r.spec r.config r.funder r.fundee r.steps
       r.keys r.opens in (
-        subst (AddsBefore false) (x ∙ ap without_warnings (sym (append-nil heard_x))) late.0,
-        subst (AddsBefore false) (y ∙ ap without_warnings (sym (append-nil heard_y))) late.1,
-      )
-  spoken id (m ∷ ms) p r heard_x heard_y x y may =
-      let out_x = funder_sends signer id m p in
-      let out_y = fundee_sends signer id m p in
-      let w = went id m p may.0 r in
-      let rest = spoken id ms (moves signer id m p) w.run (heard_x ++ out_x) (heard_y ++ out_y)
-      (w.x ∙ ap (λ ws. ws ++ without_warnings out_x) x ∙ sym (without-append heard_x out_x))
-      (w.y ∙ ap (λ ws. ws ++ without_warnings out_y) y ∙ sym (without-append heard_y out_y)) may.1 in (
-        subst (λ ws. AddsBefore false (without_warnings ws))
-            (append_assoc heard_x out_x (sent_by_funder signer id ms (moves signer id m p))) rest.0,
-        subst (λ ws. AddsBefore false (without_warnings ws))
-            (append_assoc heard_y out_y (sent_by_fundee signer id ms (moves signer id m p))) rest.1,
+        with_warnings false t.sent_x (subst (AddsBefore false) h.x late.0),
+        with_warnings false t.sent_y (subst (AddsBefore false) h.y late.1),
       )
 
-  pub none_adds_late : (id : List ℕ) (ms : List Move) (p : Both K) (r : IsRun id p) → (ends_of id p r).said_x ≡ []
-      → (ends_of id p r).said_y ≡ [] → ArePossible signer id ms p → NoneAddsLate signer id ms p
-  none_adds_late id ms p r x y may =
-      let s = spoken id ms p r [] [] x y may in
-      (with_warnings false (sent_by_funder signer id ms p) s.0, with_warnings false (sent_by_fundee signer id ms p) s.1)
+  machine_so : (id : List ℕ) (p : Both K) (r : IsRun id p)
+      → Some (pair_moves.machine_of (ends_of id p r)) ≡ machine_of_stages p.x.link.stage p.y.link.stage
+  machine_so id p r =
+      let q = ends_of id p r in
+      ap (λ (l : State K). machine_of_stages (stage.Saved q.x) l.stage) (sym r.mirrors.y_link)
+      ∙ ap (λ (l : State K). machine_of_stages l.stage p.y.link.stage) (sym r.mirrors.x_link)
+
+  pub runs_so : (id : List ℕ) (p : Both K) (t : Tale) → IsTold id p t
+      → machine.IsRun t.moves None (machine_of_stages p.x.link.stage p.y.link.stage)
+  runs_so id p t h =
+      let r = h.run in
+      let made = may_be_made (signer r.funders) (signer r.fundees) r.spec r.config r.funder r.fundee r.steps r.keys
+      r.opens in
+      subst (λ m. machine.IsRun t.moves None m) (machine_so id p r)
+      (subst (λ ms. machine.IsRun ms None (Some (pair_moves.machine_of (ends_of id p r)))) h.moves made)
+
+  events_told : (side : Role) (id : List ℕ) (p : Both K) (t : Tale) (h : IsTold id p t)
+      → told_until side id p h.run ≡ numbered 0 (as_told (events side t.moves None))
+  events_told side id p t h =
+      let r = h.run in
+      events_so (signer r.funders) (signer r.fundees) r.spec r.config r.funder r.fundee r.steps side r.keys r.opens
+      ∙ ap (λ ms. numbered 0 (as_told (events side ms None))) h.moves
+
+  pub funder_told : (id : List ℕ) (p : Both K) (t : Tale) → IsTold id p t
+      → events_in t.told_x ≡ numbered 0 (as_told (events Funder t.moves None))
+  funder_told id p t h = sym h.told_x ∙ events_told Funder id p t h
+
+  pub fundee_told : (id : List ℕ) (p : Both K) (t : Tale) → IsTold id p t
+      → events_in t.told_y ≡ numbered 0 (as_told (events Fundee t.moves None))
+  fundee_told id p t h = sym h.told_y ∙ events_told Fundee id p t h
 
   -- ---- by the table
 
   acted_by : (id : List ℕ) (o : Option Role) (a : Act) (p : Both K) → IsRun id p
       → IsRun id (run_both signer id (by o (λ side. By side a)) p)
   acted_by id None a p r = r
-  acted_by id (Some side) a p r = acted id side a p r
+  acted_by id (Some side) a p r = (acted_went id side a p r).run
 
   fallen_by : (id : List ℕ) (o : Option Role) (p : Both K) → IsRun id p → IsRun id (run_both signer id (by o Falls) p)
   fallen_by id None p r = r
-  fallen_by id (Some side) p r = fallen id side p r
+  fallen_by id (Some side) p r = (fallen_went id side p r).run
 
   up_by : (id : List ℕ) (b : Bool) (p : Both K) → may_meet p ≡ b → IsRun id p
       → IsRun id (run_both signer id (cond b (Meet ∷ []) []) p)
-  up_by id true p e r = came_up id p e r
+  up_by id true p e r = (came_up_went id p e r).run
   up_by id false p e r = r
 
   abbrev pub IsOpen : Channel K → Type 0
@@ -370,8 +557,10 @@ module _ {K : Type 0} (signer : K → Signer) where
   front_of : (id : List ℕ) (k : K) (line : Line) (m : Message) (ms to : List Message) (e : End)
       → is_down line ≡ false → named m ≡ Some id → e.dance.channel ≡ id → Front (signer k) line (m ∷ to) e
       → TakesFront signer (link_of k line e) (m ∷ ms)
-  front_of id k line m ms to e up own channel (inl f) = inl (subst IsTaken
-      (sym (handled_so (signer k) k id line m e up own channel ∙ ap (step.turned Met) f.1)) tt)
+  front_of id k line m ms to e up own channel (inl f) = inl (
+    record { line = Met; stage = stage.Saved f.0.end; outputs = all_of f.0.handed },
+    handled_so (signer k) k id line m e up own channel ∙ ap (step.turned Met) f.1,
+  )
   front_of id k line m ms to e up own channel (inr f) = inr (
     f.0,
     handled_so (signer k) k id line m e up own channel ∙ ap (step.turned Met) f.1,
@@ -385,7 +574,10 @@ module _ {K : Type 0} (signer : K → Signer) where
       let Goal : State K → Type 0 = λ w. TakesFront signer w (m ∷ ms) in
       let up = is_up signer id k k line m ms i.down in
       subst Goal (sym is) (elim (i.named.0) [
-        | inl warns ↦ inl (subst IsTaken (sym (passed_so (signer k) k id line m e warns)) tt)
+        | inl warns ↦ inl (
+            record { line = line; stage = stage.Saved e; outputs = [] },
+            passed_so (signer k) k id line m e warns,
+          )
         | inr own ↦
             front_of id k line m ms (without_warnings ms) e up own channel
             (subst (λ ws. Front (signer k) line ws e) (sym i.told
@@ -402,3 +594,62 @@ module _ {K : Type 0} (signer : K → Signer) where
         x_stands = ap (λ (l : State K). l.failure) h.x_link;
         y_stands = ap (λ (l : State K). l.failure) h.y_link;
       }
+
+  -- ---- where fees overlap
+
+  accepted_of : (id : List ℕ) (k : K) (line : Line) (m : Message) (ms to : List Message) (e : End)
+      → is_down line ≡ false → named m ≡ Some id → e.dance.channel ≡ id → Accepted (signer k) line (m ∷ to) e
+      → AcceptsFront signer (link_of k line e) (m ∷ ms)
+  accepted_of id k line m ms to e up own channel f = (
+    record { line = Met; stage = stage.Saved f.0.end; outputs = all_of f.0.handed },
+    handled_so (signer k) k id line m e up own channel ∙ ap (step.turned Met) f.1,
+  )
+
+  accepted_by : (id : List ℕ) (k : K) (l : State K) (line : Line) (e : End) (inbox to : List Message)
+      → l ≡ link_of k line e → IsInbox id line inbox to → e.dance.channel ≡ id → Accepted (signer k) line to e
+      → AcceptsFront signer l inbox
+  accepted_by id k l line e [] to is i channel f = tt
+  accepted_by id k l line e (m ∷ ms) to is i channel f =
+      let Goal : State K → Type 0 = λ w. AcceptsFront signer w (m ∷ ms) in
+      let up = is_up signer id k k line m ms i.down in
+      subst Goal (sym is) (elim (i.named.0) [
+        | inl warns ↦ (
+            record { line = line; stage = stage.Saved e; outputs = [] },
+            passed_so (signer k) k id line m e warns,
+          )
+        | inr own ↦
+            accepted_of id k line m ms (without_warnings ms) e up own channel
+            (subst (λ ws. Accepted (signer k) line ws e) (sym i.told
+            ∙ ap (λ b. cond b (without_warnings ms) (m ∷ without_warnings ms)) (plain id m own).warning) f)
+      ])
+
+  overlap_so : (id : List ℕ) (p : Both K) (r : IsRun id p) → AtEnds FeesOverlap p.x.link.stage p.y.link.stage
+      → Overlap r.funder.closing.fees r.fundee.closing.fees
+  overlap_so id p r over =
+      let q = ends_of id p r in
+      let h = r.mirrors in
+      let same = run_fees (signer r.funders) (signer r.fundees) r.steps (pair.opened r.funder r.fundee) in
+      let x : AtEnds FeesOverlap (stage.Saved q.x) p.y.link.stage =
+      subst (λ (l : State K). AtEnds FeesOverlap l.stage p.y.link.stage) h.x_link over in
+      let at : FeesOverlap q.x q.y = subst (λ (l : State K). AtEnds FeesOverlap (stage.Saved q.x) l.stage) h.y_link x in
+      subst (λ f. Overlap r.funder.closing.fees f) same.y (subst (λ f. Overlap f q.y.closing.fees) same.x at)
+
+  pub all_accepted : (id : List ℕ) (p : Both K) → IsRun id p → AllTaken signer p
+  all_accepted id p r over =
+      let q = ends_of id p r in
+      let h = r.mirrors in
+      let f = all_taken (signer r.funders) (signer r.fundees) r.spec r.config r.funder r.fundee r.steps r.keys r.opens
+      (record {
+        funder = r.funders_order;
+        fundee = r.fundees_order;
+        funder_sent = r.funders_fees;
+        fundee_sent = r.fundees_fees;
+        overlap = overlap_so id p r over;
+      }) in (
+        accepted_by id r.funders p.x.link q.x_line q.x p.x.inbox q.to_x h.x_link h.x_in h.x_channel f.0,
+        accepted_by id r.fundees p.y.link q.y_line q.y p.y.inbox q.to_y h.y_link h.y_in h.y_channel f.1,
+      )
+
+  pub closes_at_one_fee : (id : List ℕ) (p : Both K) → IsRun id p → OneFee p
+  closes_at_one_fee id p r = at_links id r.funders r.fundees CloseAtOneFee p (ends_of id p r) r.mirrors
+      (one_fee (signer r.funders) (signer r.fundees) r.spec r.config r.funder r.fundee r.steps r.opens)

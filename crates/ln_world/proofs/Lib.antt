@@ -9,3 +9,4 @@ pub mod Kept
 pub mod Places
 pub mod Worlds
 pub mod Promised
+pub mod Told

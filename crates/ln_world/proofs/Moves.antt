@@ -6,7 +6,9 @@ use Rattle.ln_msgs.specs.declared.messages.message.Message.{Message}
 use Rattle.ln_msgs.specs.declared.messages.message.Message.TheVariants as message
 use Rattle.ln_msgs.specs.declared.refusals.refusal.Refusal.{Refusal}
 use Rattle.ln_msgs.specs.declared.refusals.refusal.Refusal.TheVariants as refusal
+use Rattle.ln_keys.specs.declared.role.Role.{Role}
 use Rattle.ln_keys.specs.Signer.{Signer}
+use Rattle.ln_log.specs.Machine as machine
 use Rattle.ln_dance.specs.Resume.{reestablish_message}
 use Rattle.ln_link.specs.declared.command.Command.{Command}
 use Rattle.ln_link.specs.declared.command.Command.TheVariants as command
@@ -14,6 +16,7 @@ use Rattle.ln_link.specs.declared.link.Line.{Line}
 use Rattle.ln_link.specs.declared.link.Line.TheVariants.{Down, Awaiting, Met}
 use Rattle.ln_link.specs.declared.link.Stage.TheVariants as stage
 use Rattle.ln_link.specs.Naming.{named, is_other}
+use Rattle.ln_link.specs.declared.output.Output.{Output}
 use Rattle.ln_link.specs.Outputs.{all_of}
 use Rattle.ln_link.specs.End.{End, Turn, end_dropped}
 use Rattle.ln_link.specs.Commands.{command_row, unready_fault}
@@ -22,15 +25,21 @@ use Rattle.ln_link.specs.Step.{Done, handled, commanded, faulted, line_fault, is
 use Rattle.ln_link.specs.Step.{message_fault, saved_at, at_hand, obeyed}
 use Rattle.ln_link.specs.Step as step
 use Rattle.ln_log.specs.Limits.{first_fault}
-use Rattle.ln_pair.specs.Ends.{Ends, arrive, message_at, command_at, becomes, Act, Deliver, Give, Lose}
+use Rattle.ln_pair.specs.Ends.{Ends, arrive, messages_in, message_at, command_at, becomes, Act, Deliver, Give, Lose}
 use Rattle.ln_pair.specs.Ends as pair
+use Rattle.ln_pair.specs.Moves.{moves_between, closes, shuts}
+use Rattle.ln_pair.specs.Moves as pair_moves
+use Rattle.ln_pair.specs.Told.{events_in, told_by, told_on, told_in}
 use Rattle.ln_pair.specs.Promises.{TakesFront as Front}
+use Rattle.ln_world.specs.declared.step.Act.{Act as Doing}
 use Rattle.ln_world.specs.declared.step.Act.TheVariants as act
 use Rattle.ln_world.specs.Sending.{delivery_sends, act_sends}
-use Rattle.ln_world.specs.Lines.{messages_in, replies}
+use Rattle.ln_world.specs.Machine.{moves_of_message, moves_delivered, moves_of_command, moves_of_act}
+use Rattle.ln_world.specs.Machine.{outputs_of, delivery_tells, act_tells}
+use Rattle.ln_world.specs.Lines.{replies}
 use Rattle.ln_world.specs.Both.{Both, Place, reaches, left, left_by, sent_by, unchanged, answers, delivers, acts, falls}
 use Rattle.ln_world.specs.Both.{greeting, greets, comes_up, meet}
-use Rattle.ln_world.proofs.Named.{Names, IsFine, IsFineRow, fine_at, fine_command, same_in}
+use Rattle.ln_world.proofs.Named.{Names, IsFine, IsFineRow, fine_at, fine_command}
 use Rattle.ln_world.proofs.Named as sent
 use Rattle.ln_world.proofs.Silent.{IsSilentRow, silent_at}
 use Rattle.ln_world.proofs.Mirror.{link_of, is_warning, without_warnings, AreIn, IsInbox, Mirrors, plain}
@@ -181,6 +190,85 @@ says_refused out r w q to e none =
     subst (λ z. Says out q (pair.answers z (record q { to_x = to }))) (sym e)
     (record { x = sym (ap (λ ws. q.said_x ++ ws) none ∙ append-nil q.said_x); y = refl })
 
+-- what comes of an act of one end, told of the links
+pub record Out : Type 0 where
+  pub sent : List Message
+  pub moves : List machine.Move
+  pub told : List Output
+
+abbrev out_delivered : {K : Type 0} → (K → Signer) → List ℕ → Role → List Message → State K → Out
+out_delivered signer id side ms l = record {
+  sent = delivery_sends signer id ms l;
+  moves = moves_delivered signer side ms l;
+  told = delivery_tells signer ms l;
+}
+
+abbrev pub out_of : {K : Type 0} → (K → Signer) → List ℕ → Role → Doing → Place K → Out
+out_of signer id side a p = record {
+  sent = act_sends signer id a p;
+  moves = moves_of_act signer side a p;
+  told = act_tells signer a p;
+}
+
+-- nothing of it is told of the ends
+pub record IsAside (out : Out) : Type 0 where
+  pub sent : without_warnings out.sent ≡ []
+  pub moves : out.moves ≡ []
+  pub told : out.told ≡ []
+
+-- it is what is told of the ends
+pub record Tells (out : Out) (ms : List machine.Move) (os : List Output) : Type 0 where
+  pub moves : ms ≡ out.moves
+  pub told : os ≡ out.told
+
+-- by what an end's rows say
+same_moves : (side : Role) (m : Message) (e : End) (l : Line) (r : Result Turn Refusal)
+    → moves_of_message side m (stage.Saved e) (step.turned l r) ≡ pair_moves.moves_of_message side m e r
+same_moves side m e l (Ok t) = refl
+same_moves side m e l (Err r) = refl
+
+same_asked : (side : Role) (c : Command) (e : End) (l : Line) (r : Result Turn Refusal)
+    → moves_of_command side c (stage.Saved e) (step.turned l r) ≡ pair_moves.moves_of_command side c e r
+same_asked side c e l (Ok t) = refl
+same_asked side c e l (Err r) = refl
+
+same_told : (l : Line) (r : Result Turn Refusal) → outputs_of (step.turned l r) ≡ told_by r
+same_told l (Ok t) = refl
+same_told l (Err r) = refl
+
+closes_not : (side : Role) (o : Option ℕ) → closes side o o ≡ []
+closes_not side None = refl
+closes_not side (Some fee) = refl
+
+shuts_not : (side : Role) (b : Bool) → shuts side b b ≡ []
+shuts_not side true = refl
+shuts_not side false = refl
+
+-- a warning that is passed over is no move
+still : (side : Role) (m : Message) (e : End) → is_warning m ≡ true → moves_between side m e e ≡ []
+still side (message.Warning m) e is =
+    ap (λ ms. ms ++ shuts side e.closing.shut e.closing.shut) (closes_not side e.closing.closed)
+    ∙ shuts_not side e.closing.shut
+still side (message.Init m) e is = absurd (cc)
+still side (message.Error m) e is = absurd (cc)
+still side (message.Ping m) e is = absurd (cc)
+still side (message.Pong m) e is = absurd (cc)
+still side (message.OpenChannel m) e is = absurd (cc)
+still side (message.AcceptChannel m) e is = absurd (cc)
+still side (message.FundingCreated m) e is = absurd (cc)
+still side (message.FundingSigned m) e is = absurd (cc)
+still side (message.ChannelReady m) e is = absurd (cc)
+still side (message.Shutdown m) e is = absurd (cc)
+still side (message.ClosingSigned m) e is = absurd (cc)
+still side (message.UpdateAddHtlc m) e is = absurd (cc)
+still side (message.UpdateFulfillHtlc m) e is = absurd (cc)
+still side (message.UpdateFailHtlc m) e is = absurd (cc)
+still side (message.UpdateFailMalformedHtlc m) e is = absurd (cc)
+still side (message.UpdateFee m) e is = absurd (cc)
+still side (message.CommitmentSigned m) e is = absurd (cc)
+still side (message.RevokeAndAck m) e is = absurd (cc)
+still side (message.ChannelReestablish m) e is = absurd (cc)
+
 -- ---- an end answers
 
 module _ {K : Type 0} (signer : K → Signer) (id : List ℕ) (kx ky : K) where
@@ -193,16 +281,16 @@ module _ {K : Type 0} (signer : K → Signer) (id : List ℕ) (kx ky : K) where
       (first, subst (Names id) (sym first) fine.sent)
 
   out_so : (t : Turn) → IsFine id t
-      → without_warnings (messages_in (all_of t.handed)) ≡ pair.messages_in t.handed.sent
+      → without_warnings (messages_in (all_of t.handed)) ≡ messages_in t.handed.sent
   out_so t fine =
       let n = out_names t fine in
-      all_plain id (messages_in (all_of t.handed)) n.1 ∙ n.0 ∙ same_in t.handed.sent
+      all_plain id (messages_in (all_of t.handed)) n.1 ∙ n.0
 
   says_turned : (row : Result Done Refusal) (r : Result Turn Refusal) (t : Turn) (q : Ends) (to : List Message)
       → row ≡ step.turned Met (Ok t) → r ≡ Ok t → IsFine id t
       → Says (sent_by id row) q (pair.answers r (record q { to_x = to }))
   says_turned row r t q to is e fine =
-      let all : without_warnings (sent_by id row) ≡ pair.messages_in t.handed.sent =
+      let all : without_warnings (sent_by id row) ≡ messages_in t.handed.sent =
       ap (λ d. without_warnings (sent_by id d)) is ∙ out_so t fine in
       subst (λ w. Says (sent_by id row) q (pair.answers w (record q { to_x = to }))) (sym e)
       (record { x = ap (λ ws. q.said_x ++ ws) (sym all); y = refl })
@@ -217,7 +305,7 @@ module _ {K : Type 0} (signer : K → Signer) (id : List ℕ) (kx ky : K) where
       let d : Done = record { line = Met; stage = stage.Saved t.end; outputs = all_of t.handed } in
       let out : List Message = messages_in (all_of t.handed) in
       let names : Names id out = (out_names t fine).1 in
-      let same : without_warnings out ≡ pair.messages_in t.handed.sent = out_so t fine in
+      let same : without_warnings out ≡ messages_in t.handed.sent = out_so t fine in
       subst (λ r. Mirrors id kx ky
       (answers after id r (record { x = record { link = p.x.link; inbox = ms }; y = p.y }))
       (becomes t (record q { to_x = to }))) (sym is) (record {
@@ -266,17 +354,37 @@ module _ {K : Type 0} (signer : K → Signer) (id : List ℕ) (kx ky : K) where
     down = λ e. absurd (let no : true ≡ false = sym e ∙ up in cc);
   }
 
-  abbrev pub Goes : List Message → Both K → Ends → Type 0
-  Goes out p q = (Mirrors id kx ky p q × (without_warnings out ≡ []))
-      ⊎ ((a : Act) × Mirrors id kx ky p (pair.acts (signer kx) a q) × Says out q (pair.acts (signer kx) a q))
+  abbrev pub Goes : Role → Out → Both K → Ends → Type 0
+  Goes side out p q = (Mirrors id kx ky p q × IsAside out)
+      ⊎ ((a : Act) × Mirrors id kx ky p (pair.acts (signer kx) a q) × Says out.sent q (pair.acts (signer kx) a q)
+      × Tells out (pair_moves.moves_of_act (signer kx) side a q) (told_in (signer kx) a q))
 
-  of_channel : (p : Both K) (q : Ends) (m : Message) (ms to : List Message) → is_down q.x_line ≡ false
+  tells_taken : (side : Role) (p : Both K) (q : Ends) (m : Message) (ms to : List Message) → is_down q.x_line ≡ false
+      → named m ≡ Some id → Mirrors id kx ky p q
+      → Tells (out_delivered signer id side (m ∷ ms) p.x.link)
+      (pair_moves.moves_delivered (signer kx) side q.x_line (m ∷ to) q.x)
+      (told_on (signer kx) q.x_line (m ∷ to) q.x)
+  tells_taken side p q m ms to up is h =
+      let keys = signer kx in
+      let row = handled_so keys kx id q.x_line m q.x up is h.x_channel in
+      let at_row = message_at keys q.x_line m q.x in
+      record {
+        moves = sym (ap (λ (l : State K). moves_of_message side m l.stage (handled (signer l.keys) l m)) h.x_link
+            ∙ ap (moves_of_message side m (stage.Saved q.x)) row ∙ same_moves side m q.x Met at_row);
+        told = sym (ap (λ (l : State K). outputs_of (handled (signer l.keys) l m)) h.x_link
+            ∙ ap outputs_of row ∙ same_told Met at_row);
+      }
+
+  of_channel : (side : Role) (p : Both K) (q : Ends) (m : Message) (ms to : List Message) → is_down q.x_line ≡ false
       → named m ≡ Some id → without_warnings ms ≡ to → AreIn id ms → Mirrors id kx ky p q
       → Front (signer kx) q.x_line (m ∷ to) q.x
       → Mirrors id kx ky (answers refused id (handled (signer p.x.link.keys) p.x.link m)
       (record { x = record { link = p.x.link; inbox = ms }; y = p.y })) (pair.delivers (signer kx) (m ∷ to) q)
       × Says (sent_by id (handled (signer p.x.link.keys) p.x.link m)) q (pair.delivers (signer kx) (m ∷ to) q)
-  of_channel p q m ms to up is told named h (inl f) =
+      × Tells (out_delivered signer id side (m ∷ ms) p.x.link)
+      (pair_moves.moves_delivered (signer kx) side q.x_line (m ∷ to) q.x)
+      (told_on (signer kx) q.x_line (m ∷ to) q.x)
+  of_channel side p q m ms to up is told named h (inl f) =
       let keys = signer kx in
       let row : handled (signer p.x.link.keys) p.x.link m ≡ step.turned Met (Ok f.0) =
       ap (λ (l : State K). handled (signer l.keys) l m) h.x_link
@@ -288,8 +396,9 @@ module _ {K : Type 0} (signer : K → Signer) (id : List ℕ) (kx ky : K) where
             (turned_so refused (handled (signer p.x.link.keys) p.x.link m) f.0 p q ms to row fine
             (behind_it Met m ms to refl told named) h),
         says_turned (handled (signer p.x.link.keys) p.x.link m) (message_at keys q.x_line m q.x) f.0 q to row f.1 fine,
+        tells_taken side p q m ms to up is h,
       )
-  of_channel p q m ms to up is told named h (inr f) =
+  of_channel side p q m ms to up is told named h (inr f) =
       let keys = signer kx in
       let row : handled (signer p.x.link.keys) p.x.link m ≡ Err refusal.FeeOutside =
       ap (λ (l : State K). handled (signer l.keys) l m) h.x_link
@@ -301,13 +410,14 @@ module _ {K : Type 0} (signer : K → Signer) (id : List ℕ) (kx ky : K) where
             refl (inl refl, tt) (behind_it q.x_line m ms to up told named) h),
         says_refused (sent_by id (handled (signer p.x.link.keys) p.x.link m)) (message_at keys q.x_line m q.x)
             refusal.FeeOutside q to f.1 (ap (λ d. without_warnings (sent_by id d)) row),
+        tells_taken side p q m ms to up is h,
       )
 
-  delivered_by : (p : Both K) (q : Ends) (ms : List Message) → IsInbox id q.x_line ms q.to_x
-      → Mirrors id kx ky p q → p.x.inbox ≡ ms
-      → Front (signer kx) q.x_line q.to_x q.x → Goes (delivery_sends signer id ms p.x.link) (delivers signer id ms p) q
-  delivered_by p q [] i h is f = inl (h, refl)
-  delivered_by p q (m ∷ ms) i h is f =
+  delivered_by : (side : Role) (p : Both K) (q : Ends) (ms : List Message) → IsInbox id q.x_line ms q.to_x
+      → Mirrors id kx ky p q → p.x.inbox ≡ ms → Front (signer kx) q.x_line q.to_x q.x
+      → Goes side (out_delivered signer id side ms p.x.link) (delivers signer id ms p) q
+  delivered_by side p q [] i h is f = inl (h, record { sent = refl; moves = refl; told = refl })
+  delivered_by side p q (m ∷ ms) i h is f =
       let up = is_up q.x_line m ms i.down in
       elim (i.named.0) [
         | inl warns ↦
@@ -321,22 +431,31 @@ module _ {K : Type 0} (signer : K → Signer) (id : List ℕ) (kx ky : K) where
                   row refl refl tt
                   (behind_it q.x_line m ms q.to_x up
                   (sym (ap (λ b. cond b (without_warnings ms) (m ∷ without_warnings ms)) warns) ∙ i.told) i.named.1) h,
-              ap (λ d. without_warnings (sent_by id d)) row,
+              record {
+                sent = ap (λ d. without_warnings (sent_by id d)) row;
+                moves = ap (λ (l : State K). moves_of_message side m l.stage (handled (signer l.keys) l m)) h.x_link
+                    ∙ ap (moves_of_message side m (stage.Saved q.x)) (passed_so (signer kx) kx id q.x_line m q.x warns)
+                    ∙ still side m q.x warns;
+                told = ap outputs_of row;
+              },
             )
         | inr own ↦
             let to : m ∷ without_warnings ms ≡ q.to_x =
             sym (ap (λ b. cond b (without_warnings ms) (m ∷ without_warnings ms))
             (plain id m own).warning) ∙ i.told in
             let went = subst (λ ws. Mirrors id kx ky (delivers signer id (m ∷ ms) p) (pair.delivers (signer kx) ws q)
-            × Says (delivery_sends signer id (m ∷ ms) p.x.link) q (pair.delivers (signer kx) ws q)) to
-            (of_channel p q m ms (without_warnings ms) up own refl i.named.1 h
+            × Says (delivery_sends signer id (m ∷ ms) p.x.link) q (pair.delivers (signer kx) ws q)
+            × Tells (out_delivered signer id side (m ∷ ms) p.x.link)
+            (pair_moves.moves_delivered (signer kx) side q.x_line ws q.x) (told_on (signer kx) q.x_line ws q.x)) to
+            (of_channel side p q m ms (without_warnings ms) up own refl i.named.1 h
             (subst (λ ws. Front (signer kx) q.x_line ws q.x) (sym to) f)) in
-            inr (Deliver, went.0, went.1)
+            inr (Deliver, went.0, went.1, went.2)
       ]
 
-  pub delivered : (p : Both K) (q : Ends) → Mirrors id kx ky p q → Front (signer kx) q.x_line q.to_x q.x
-      → Goes (act_sends signer id act.Deliver p.x) (acts signer id act.Deliver p) q
-  delivered p q h f = delivered_by p q p.x.inbox h.x_in h refl f
+  pub delivered : (side : Role) (p : Both K) (q : Ends) → Mirrors id kx ky p q
+      → Front (signer kx) q.x_line q.to_x q.x
+      → Goes side (out_of signer id side act.Deliver p.x) (acts signer id act.Deliver p) q
+  delivered side p q h f = delivered_by side p q p.x.inbox h.x_in h refl f
 
   -- ---- a command
 
@@ -368,10 +487,12 @@ module _ {K : Type 0} (signer : K → Signer) (id : List ℕ) (kx ky : K) where
             (ap (λ d. without_warnings (sent_by id d)) row ∙ ap without_warnings none),
       )
 
-  pub given : (c : Command) (p : Both K) (q : Ends) → Mirrors id kx ky p q
+  pub given : (side : Role) (c : Command) (p : Both K) (q : Ends) → Mirrors id kx ky p q
       → Mirrors id kx ky (acts signer id (act.Send c) p) (pair.acts (signer kx) (Give c) q)
       × Says (act_sends signer id (act.Send c) p.x) q (pair.acts (signer kx) (Give c) q)
-  given c p q h = elim (commanded_so (signer kx) kx id q.x_line c q.x) [
+      × Tells (out_of signer id side (act.Send c) p.x) (pair_moves.moves_of_act (signer kx) side (Give c) q)
+      (told_in (signer kx) (Give c) q)
+  given side c p q h = elim (commanded_so (signer kx) kx id q.x_line c q.x) [
     | inl refused_so ↦
         let row : commanded (signer p.x.link.keys) p.x.link c ≡ Err refusal.NotReady =
         ap (λ (l : State K). commanded (signer l.keys) l c) h.x_link ∙ refused_so.by_link in (
@@ -380,9 +501,24 @@ module _ {K : Type 0} (signer : K → Signer) (id : List ℕ) (kx ky : K) where
               q.to_x row refl refl tt h.x_in h),
           says_refused (act_sends signer id (act.Send c) p.x) (command_at (signer kx) q.x_line c q.x) refused_so.why q
               q.to_x refused_so.by_row (ap (λ d. without_warnings (sent_by id d)) row),
+          record {
+            moves = ap (pair_moves.moves_of_command side c q.x) refused_so.by_row
+                ∙ sym (ap (moves_of_command side c p.x.link.stage) row);
+            told = ap told_by refused_so.by_row ∙ sym (ap outputs_of row);
+          },
         )
     | inr is ↦
-        given_by c (command_at (signer kx) q.x_line c q.x) p q refl is h
+        let at_row = command_at (signer kx) q.x_line c q.x in
+        let went = given_by c at_row p q refl is h in (
+          went.0,
+          went.1,
+          record {
+            moves = sym (ap (λ (l : State K). moves_of_command side c l.stage (commanded (signer l.keys) l c)) h.x_link
+                ∙ ap (moves_of_command side c (stage.Saved q.x)) is ∙ same_asked side c q.x q.x_line at_row);
+            told = sym (ap (λ (l : State K). outputs_of (commanded (signer l.keys) l c)) h.x_link
+                ∙ ap outputs_of is ∙ same_told q.x_line at_row);
+          },
+        )
   ]
 
   -- ---- a connection is lost
@@ -501,6 +637,20 @@ module _ {K : Type 0} (signer : K → Signer) (id : List ℕ) (kx ky : K) where
       let lx : is_down q.x_line ≡ true = ap (λ (l : State K). is_down l.line) (sym h.x_link) ∙ dx in
       let ly : is_down q.y_line ≡ true = ap (λ (l : State K). is_down l.line) (sym h.y_link) ∙ dy in
       said_met p q q.x_line q.y_line refl refl (was_down q.x_line lx) (was_down q.y_line ly) h
+
+  -- what is handed out over it is this message alone
+  no_events : (k : K) (e : End) (l : State K) → l ≡ link_of k Down e → events_in (outputs_of (greeting signer l)) ≡ []
+  no_events k e l is = ap (λ (w : State K). events_in (outputs_of (greeting signer w))) is
+
+  pub met_tells : (p : Both K) (q : Ends) → is_down p.x.link.line ≡ true → is_down p.y.link.line ≡ true
+      → Mirrors id kx ky p q
+      → (events_in (outputs_of (greeting signer p.x.link)) ≡ []) × (events_in (outputs_of (greeting signer p.y.link)) ≡ [])
+  met_tells p q dx dy h =
+      let lx : is_down q.x_line ≡ true = ap (λ (l : State K). is_down l.line) (sym h.x_link) ∙ dx in
+      let ly : is_down q.y_line ≡ true = ap (λ (l : State K). is_down l.line) (sym h.y_link) ∙ dy in (
+        no_events kx q.x p.x.link (h.x_link ∙ ap (λ l. link_of kx l q.x) (was_down q.x_line lx)),
+        no_events ky q.y p.y.link (h.y_link ∙ ap (λ l. link_of ky l q.y) (was_down q.y_line ly)),
+      )
 
 -- a connection that is lost says nothing
 pub lost_says : (down : Bool) (q r : Ends) → r.said_x ≡ q.said_x → r.said_y ≡ q.said_y

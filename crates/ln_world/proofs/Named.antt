@@ -55,9 +55,7 @@ use Rattle.ln_link.specs.Commands.{sign_command_fault, shut_fault, shuts_down, u
 use Rattle.ln_link.specs.Resume.{resume_row, resumed, ready_again, all_sent, one_again, owed_again, shutdown_again}
 use Rattle.ln_link.specs.Resume.{fee_again}
 use Rattle.ln_link.specs.Step.{faulted, line_fault}
-use Rattle.ln_pair.specs.Ends.{message_at, command_at}
-use Rattle.ln_pair.specs.Ends as pair
-use Rattle.ln_world.specs.Lines.{messages_in}
+use Rattle.ln_pair.specs.Ends.{message_at, command_at, messages_in}
 
 -- each message names this channel
 abbrev pub Names : List ℕ → List Message → Type 0
@@ -82,15 +80,6 @@ in-append (output.Signed n ∷ os) ps = in-append os ps
 in-append (output.Committed own peer ∷ os) ps = in-append os ps
 in-append (output.Event n e ∷ os) ps = in-append os ps
 in-append (output.Closed fee ∷ os) ps = in-append os ps
-
--- the pair reads them alike
-pub same_in : (os : List Output) → messages_in os ≡ pair.messages_in os
-same_in [] = refl
-same_in (output.Send m ∷ os) = ap (λ ms. m ∷ ms) (same_in os)
-same_in (output.Signed n ∷ os) = same_in os
-same_in (output.Committed own peer ∷ os) = same_in os
-same_in (output.Event n e ∷ os) = same_in os
-same_in (output.Closed fee ∷ os) = same_in os
 
 none_numbered : (n : ℕ) (es : List ChannelEvent) → messages_in (numbered n es) ≡ []
 none_numbered n [] = refl

@@ -21,7 +21,8 @@ use Rattle.ln_link.specs.declared.opening.Opened.{Opened}
 use Rattle.ln_link.specs.Opening.{unless, open_message, accept_fault, created_fault, first_fault, funder_end}
 use Rattle.ln_link.specs.Opening.{fundee_end, created_message, funding_message}
 use Rattle.ln_link.specs.Opening.{Agreement, agreement, accept_message, open_fault}
-use Rattle.ln_link.specs.Config.{fees_of}
+use Rattle.ln_link.specs.Config.{fees_of, offered}
+use Rattle.ln_link.specs.Opening.{asked_with, asked_by_accept}
 use Rattle.ln_link.specs.Meeting.{Opens}
 use Rattle.ln_link.specs.End.{end_of}
 use Rattle.ln_link.specs.State.{State, begun, refused}
@@ -176,3 +177,19 @@ module _ {K : Type 0} (signer : K → Signer) (id : List ℕ) (kx ky : K) (s : O
         ap (λ (w : Opened × FundingSigned). w.0.closing.fees) (sym funded)
             ∙ ap (λ (w : Agreement × AcceptChannel). w.0.fees) (sym taken),
       )
+
+  -- the opening that both know
+  pub opening_so : funder.dance.log.opening ≡ offered s c.limits
+  opening_so =
+      let taken : ◌≡◌ {A = Agreement × AcceptChannel} (
+        agreement (signer ky) c (open_message (signer kx) s),
+        accept_message (signer ky) c (open_message (signer kx) s),
+      ) (o.agreement, o.accept) =
+      was_given (open_fault c (open_message (signer kx) s)) _ _ o.open_channel in
+      let answered : ◌≡◌ {A = Opened × FundingCreated} (
+        funder_end (signer kx) s o.accept,
+        created_message (signer kx) s o.accept,
+      ) (funder, o.created) =
+      was_given (accept_fault s o.accept) _ _ o.accept_channel in
+      ap (λ (w : Opened × FundingCreated). w.0.dance.log.opening) (sym answered)
+      ∙ ap (λ (w : Agreement × AcceptChannel). asked_with (open_message (signer kx) s) (asked_by_accept w.1)) (sym taken)

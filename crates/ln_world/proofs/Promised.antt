@@ -1,7 +1,5 @@
 -- Every channel of a world is one that was opened, and what has happened to it.
-use Rattle.ln_world.proofs.Kept.{ends_of}
-use Rattle.ln_world.specs.Sending.{ArePossible, NoneAddsLate}
-use Rattle.std.proofs.Common.{◌≡◌, ℕ, List, [], ◌∷◌, ◌++◌, refl, sym, subst, arith}
+use Rattle.std.proofs.Common.{◌≡◌, ℕ, List, [], ◌∷◌, ◌++◌, refl, sym, ap, subst, arith}
 use Rattle.std.proofs.Common.{Bool, true, false, cond, ◌&&◌, ◌==◌, not, nat_le, is_none}
 use Rattle.std.proofs.lemmas.Bool.{leb-true}
 use Rattle.ln_keys.specs.declared.keys.ChannelKeys.{Ghosts}
@@ -11,6 +9,8 @@ use Rattle.std.proofs.Math.Nat.{ℕ_set}
 use Rattle.ln_keys.specs.Signer.{Signer}
 use Rattle.ln_keys.specs.Partners.{ArePartners}
 use Rattle.ln_msgs.specs.Messages.Channel.{id_of_channel}
+use Rattle.ln_log.specs.declared.opening.Opening.{Opening}
+use Rattle.ln_log.specs.Machine as machine
 use Rattle.ln_log.specs.Opening.{is_fit}
 use Rattle.ln_log.proofs.Fits.{fit_is}
 use Rattle.ln_close.specs.Closing.{AreOrdered}
@@ -29,15 +29,15 @@ use Rattle.ln_world.specs.Both.{Both, Move}
 use Rattle.ln_world.specs.Channel.{Channel, is_node, moved, opened_by, act_moves, fall_moves, up_moves}
 use Rattle.ln_world.specs.World.{World, settings_of, with_settings, channel, moved_at, may_open, happens}
 use Rattle.ln_world.specs.World.{empty, run}
-use Rattle.ln_world.specs.Promises.{Headline, NoneRefused, Agrees, BringsFit, Each, BringFit, OfEach}
+use Rattle.ln_world.specs.Promises.{Headline, NoneRefused, AllTaken, OneFee, Agrees, BringsFit, Each, BringFit, OfEach}
 use Rattle.ln_world.proofs.Fitting.{funders, fundees}
-use Rattle.ln_world.proofs.Opened.{mirrored, fees_so}
-use Rattle.ln_world.proofs.Kept.{IsRun, IsOpen, act_kept, fall_kept, up_kept}
+use Rattle.ln_world.proofs.Opened.{mirrored, fees_so, opening_so}
+use Rattle.ln_world.proofs.Kept.{IsRun, IsOpen, act_kept, fall_kept, up_kept, Tale, IsTold}
 use Rattle.ln_world.proofs.Kept as channels
 
 -- ---- what nodes bring
 
-both_true : (b c : Bool) → (b && c) ≡ true → (b ≡ true) × (c ≡ true)
+pub both_true : (b c : Bool) → (b && c) ≡ true → (b ≡ true) × (c ≡ true)
 both_true true true e = (refl, refl)
 both_true true false e = absurd (cc)
 both_true false c e = absurd (cc)
@@ -47,7 +47,7 @@ ordered_so s e =
     let p = both_true (nat_le s.fees.least s.fees.first) (nat_le s.fees.first s.fees.greatest) e in
     (leb-true s.fees.least s.fees.first p.0, leb-true s.fees.first s.fees.greatest p.1)
 
-brings_so : (satoshis push : ℕ) (s t : Settings) → may_bring satoshis push s t ≡ true → CanBring satoshis push s t
+pub brings_so : (satoshis push : ℕ) (s t : Settings) → may_bring satoshis push s t ≡ true → CanBring satoshis push s t
 brings_so satoshis push s t e =
     let o = opening_by satoshis push s t in
     let p = both_true (is_fit o) (are_ordered s && are_ordered t) e in
@@ -60,7 +60,7 @@ brings_so satoshis push s t e =
 
 -- ---- what is set for nodes
 
-abbrev IsSet : Setting → Type 0
+abbrev pub IsSet : Setting → Type 0
 IsSet s = AreSent s.settings.fees
 
 found : (b : Bool) (s t : Settings) → AreSent s.fees → AreSent t.fees → AreSent (cond b s t).fees
@@ -72,7 +72,7 @@ either_list : (b : Bool) (new s : Setting) (ss ts : List Setting) → IsSet new 
 either_list true new s ss ts f h k = (f, h.1)
 either_list false new s ss ts f h k = (h.0, k)
 
-set_so : (n : Node) (ss : List Setting) → Each IsSet ss
+pub set_so : (n : Node) (ss : List Setting) → Each IsSet ss
     → AreSent (settings_of n ss).fees
 set_so n [] h = record { first = omega arith; greatest = omega arith }
 set_so n (s ∷ ss) h = found (is_node s.node n) s.settings (settings_of n ss) h.0 (set_so n ss h.1)
@@ -110,15 +110,18 @@ partners_so a b t = record {
 }
 
 module _ {K : Type 0} (k : Ghosts K) where
-  -- a channel that was opened, with nothing said since
-  record IsNew (c : Channel K) : Type 0 where
-    run : IsOpen k.signer c
-    x : (ends_of k.signer (channel_id_of c.number) c.both run).said_x ≡ []
-    y : (ends_of k.signer (channel_id_of c.number) c.both run).said_y ≡ []
+  abbrev pub IsToldOf : Channel K → Tale → Type 0
+  IsToldOf c t = IsTold k.signer (channel_id_of c.number) c.both t
 
-  new_so : (o : Open K k) (s t : Settings) → AreKeys (k.signer o.keys.funder) (k.signer o.keys.fundee)
-      → CanBring o.satoshis o.push s t → AreSent s.fees → AreSent t.fees → IsNew (opened_by k o s t)
-  new_so o s t keys brings fs ft =
+  -- what comes of an opening
+  abbrev pub opening_tale : Opening → Tale
+  opening_tale o = record { sent_x = []; sent_y = []; moves = machine.Open o ∷ []; told_x = []; told_y = [] }
+
+  -- a channel that was opened, with nothing said since
+  pub opened_told : (o : Open K k) (s t : Settings) → AreKeys (k.signer o.keys.funder) (k.signer o.keys.fundee)
+      → CanBring o.satoshis o.push s t → AreSent s.fees → AreSent t.fees
+      → IsToldOf (opened_by k o s t) (opening_tale (opening_by o.satoshis o.push s t))
+  opened_told o s t keys brings fs ft =
       let a = k.signer o.keys.funder in
       let b = k.signer o.keys.fundee in
       let spec = spec_of o.channel (config_of o.funder s) o.satoshis o.push in
@@ -135,8 +138,8 @@ module _ {K : Type 0} (k : Ghosts K) where
       let funder = ends.0 in
       let fundee = ends.1 in
       let opens = ends.2 in
-      let fees = fees_so k.signer (channel_id_of o.channel) o.keys.funder o.keys.fundee spec config funder fundee
-      opens in
+      let id = channel_id_of o.channel in
+      let fees = fees_so k.signer id o.keys.funder o.keys.fundee spec config funder fundee opens in
       record {
         run = record {
           funders = o.keys.funder;
@@ -150,22 +153,28 @@ module _ {K : Type 0} (k : Ghosts K) where
           opens = opens;
           funders_fees = subst AreSent (sym fees.0) fs;
           fundees_fees = subst AreSent (sym fees.1) ft;
-          mirrors = mirrored k.signer (channel_id_of o.channel) o.keys.funder o.keys.fundee spec config funder fundee
-              opens (id_so o.channel);
+          funders_order = subst AreOrdered (sym fees.0) brings.funder_fees;
+          fundees_order = subst AreOrdered (sym fees.1) brings.fundee_fees;
+          mirrors = mirrored k.signer id o.keys.funder o.keys.fundee spec config funder fundee opens
+              (id_so o.channel);
         };
         x = refl;
         y = refl;
+        moves = ap (λ q. machine.Open q ∷ [])
+            (opening_so k.signer id o.keys.funder o.keys.fundee spec config funder fundee opens);
+        told_x = refl;
+        told_y = refl;
       }
 
   opened_so : (o : Open K k) (s t : Settings) → AreKeys (k.signer o.keys.funder) (k.signer o.keys.fundee)
       → CanBring o.satoshis o.push s t → AreSent s.fees → AreSent t.fees → IsOpen k.signer (opened_by k o s t)
-  opened_so o s t keys brings fs ft = (new_so o s t keys brings fs ft).run
+  opened_so o s t keys brings fs ft = (opened_told o s t keys brings fs ft).run
 
   -- ---- a world
 
-  record Keeps (w : World K) : Type 0 where
-    settings : Each IsSet w.settings
-    channels : Each (IsOpen k.signer) w.channels
+  pub record Keeps (w : World K) : Type 0 where
+    pub settings : Each IsSet w.settings
+    pub channels : Each (IsOpen k.signer) w.channels
 
   one_moved : (b : Bool) (f : Channel K → List Move)
       → ((c : Channel K) → IsOpen k.signer c → IsOpen k.signer (moved k.signer f c))
@@ -184,7 +193,7 @@ module _ {K : Type 0} (k : Ghosts K) where
   joined_so [] c h o = (o, tt)
   joined_so (d ∷ cs) c h o = (h.0, joined_so cs c h.1 o)
 
-  keys_so : (o : Open K k) → BringsFit k (step.Open o) → AreKeys (k.signer o.keys.funder) (k.signer o.keys.fundee)
+  pub keys_so : (o : Open K k) → BringsFit k (step.Open o) → AreKeys (k.signer o.keys.funder) (k.signer o.keys.fundee)
   keys_so o f = record {
     partners = partners_so (k.signer o.keys.funder) (k.signer o.keys.fundee) o.keys.partners;
     a_points = f.0;
@@ -212,7 +221,7 @@ module _ {K : Type 0} (k : Ghosts K) where
             (set_so o.fundee w.settings h.settings));
       }
 
-  happened : (s : Step K k) (w : World K) → BringsFit k s → Keeps w → Keeps (happens k s w)
+  pub happened : (s : Step K k) (w : World K) → BringsFit k s → Keeps w → Keeps (happens k s w)
   happened (step.Fees n fees) w f h = record {
     settings = with_so n (record (settings_of n w.settings) { fees = fees }) w.settings f h.settings;
     channels = h.channels;
@@ -260,10 +269,9 @@ module _ {K : Type 0} (k : Ghosts K) where
   pub agrees : (ss : List (Step K k)) → BringFit k ss → OfEach Agrees (run k ss empty)
   agrees ss f = of_each Agrees (channels.agrees k.signer) (run k ss empty).channels (kept ss f).channels
 
-  pub none_adds_late : (o : Open K k) (s t : Settings) (ms : List Move) → CanBring o.satoshis o.push s t
-      → BringsFit k (step.Open o) → AreSent s.fees → AreSent t.fees
-      → ArePossible k.signer (channel_id_of o.channel) ms (opened_by k o s t).both
-      → NoneAddsLate k.signer (channel_id_of o.channel) ms (opened_by k o s t).both
-  none_adds_late o s t ms brings fit fs ft may =
-      let new = new_so o s t (keys_so o fit) brings fs ft in
-      channels.none_adds_late k.signer (channel_id_of o.channel) ms (opened_by k o s t).both new.run new.x new.y may
+  pub all_taken : (ss : List (Step K k)) → BringFit k ss → OfEach (AllTaken k.signer) (run k ss empty)
+  all_taken ss f = of_each (AllTaken k.signer) (channels.all_accepted k.signer) (run k ss empty).channels
+      (kept ss f).channels
+
+  pub one_fee : (ss : List (Step K k)) → BringFit k ss → OfEach OneFee (run k ss empty)
+  one_fee ss f = of_each OneFee (channels.closes_at_one_fee k.signer) (run k ss empty).channels (kept ss f).channels

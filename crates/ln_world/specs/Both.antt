@@ -16,7 +16,8 @@ use Rattle.ln_world.specs.declared.answer.Answer.{Answer}
 use Rattle.ln_world.specs.declared.answer.Answer.TheVariants as answer
 use Rattle.ln_world.specs.declared.line.Line.{Line}
 use Rattle.ln_world.specs.declared.line.Line.TheVariants as line
-use Rattle.ln_world.specs.Lines.{lines_of, messages_in, replies, refused_lines}
+use Rattle.ln_pair.specs.Ends.{messages_in}
+use Rattle.ln_world.specs.Lines.{lines_of, replies, refused_lines}
 
 -- an end, and the messages in flight to it, the oldest first
 pub record Place (K : Type 0) : Type 0 where

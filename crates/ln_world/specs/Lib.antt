@@ -4,4 +4,6 @@ pub mod Both
 pub mod Channel
 pub mod World
 pub mod Promises
+pub mod Course
 pub mod Sending
+pub mod Machine

@@ -69,15 +69,6 @@ abbrev pub lines_of : End → Numbers → List Output → List Line
 lines_of e n [] = []
 lines_of e n (o ∷ os) = line_of e n o ++ lines_of e n os
 
--- the messages among what is handed out
-abbrev pub messages_in : List Output → List Message
-messages_in [] = []
-messages_in (output.Send m ∷ os) = m ∷ messages_in os
-messages_in (output.Signed n ∷ os) = messages_in os
-messages_in (output.Committed own peer ∷ os) = messages_in os
-messages_in (output.Event n e ∷ os) = messages_in os
-messages_in (output.Closed fee ∷ os) = messages_in os
-
 -- ---- what is refused
 
 -- what the peer is sent: an error for 20 to 35, a warning for 36, and nothing for the others

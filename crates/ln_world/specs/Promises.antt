@@ -1,19 +1,18 @@
 -- What the two links of each channel of a world promise, whatever has happened to them.
-use Rattle.std.specs.Prelude.{◌≡◌, ◌⊎◌, ℕ, ◌≤◌, ◌^◌, length, List, [], ◌∷◌, true, Some, None, Result, Ok, Err}
+use Rattle.std.specs.Prelude.{◌≡◌, ℕ, ◌≤◌, ◌^◌, length, List, [], ◌∷◌, Some, None}
 use Rattle.ln_msgs.specs.declared.messages.message.Message.{Message}
-use Rattle.ln_msgs.specs.declared.refusals.refusal.Refusal.{Refusal}
 use Rattle.ln_msgs.specs.declared.refusals.refusal.Refusal.TheVariants as refusal
 use Rattle.ln_keys.specs.declared.keys.ChannelKeys.{Ghosts}
 use Rattle.ln_keys.specs.Signer.{Signer}
-use Rattle.ln_log.specs.Machine.{Follows}
 use Rattle.ln_dance.specs.Dance.{sign_fault}
 use Rattle.ln_link.specs.declared.link.Line.TheVariants.{Met}
 use Rattle.ln_link.specs.declared.link.Stage.{Stage}
 use Rattle.ln_link.specs.declared.link.Stage.TheVariants as stage
 use Rattle.ln_link.specs.End.{End}
 use Rattle.ln_link.specs.State.{State}
-use Rattle.ln_link.specs.Step.{Done, handled}
-use Rattle.ln_pair.specs.Promises.{AreSent, party, is_closing_signed, HoldsAll, worth}
+use Rattle.ln_link.specs.Step.{handled}
+use Rattle.ln_pair.specs.Promises.{AreSent, FollowEachOther, IsTaken, IsTakenButForItsFee, Overlap, CloseAtOneFee}
+use Rattle.ln_pair.specs.Promises.{HoldTheSame}
 use Rattle.ln_world.specs.declared.step.Step.{Step}
 use Rattle.ln_world.specs.declared.step.Step.TheVariants as step
 use Rattle.ln_world.specs.World.{World}
@@ -30,22 +29,14 @@ AtEnds f r s = ⊥
 
 -- ---- what each end holds as irrevocably committed begins what the other has covered by a signature
 
-abbrev pub FollowEachOther : End → End → Type 0
-FollowEachOther x y = Follows (party x) (party y) × Follows (party y) (party x)
-
 abbrev pub Headline : {K : Type 0} → Both K → Type 0
 Headline p = AtEnds FollowEachOther p.x.link.stage p.y.link.stage
 
 -- ---- no message is refused but a closing_signed, whose fee may be (36)
 
-abbrev pub IsTaken : Result Done Refusal → Type 0
-IsTaken (Ok d) = Unit {0}
-IsTaken (Err r) = ⊥
-
 abbrev pub TakesFront : {K : Type 0} → (K → Signer) → State K → List Message → Type 0
 TakesFront signer l [] = Unit {0}
-TakesFront signer l (m ∷ ms) = IsTaken (handled (signer l.keys) l m)
-    ⊎ ((is_closing_signed m ≡ true) × (handled (signer l.keys) l m ≡ Err refusal.FeeOutside))
+TakesFront signer l (m ∷ ms) = IsTakenButForItsFee m (handled (signer l.keys) l m)
 
 -- nor has either link failed
 pub record NoneRefused {K : Type 0} (signer : K → Signer) (p : Both K) : Type 0 where
@@ -53,6 +44,24 @@ pub record NoneRefused {K : Type 0} (signer : K → Signer) (p : Both K) : Type 
   pub y : TakesFront signer p.y.link p.y.inbox
   pub x_stands : p.x.link.failure ≡ None
   pub y_stands : p.y.link.failure ≡ None
+
+-- ---- where the closing fees of both ends overlap none is refused at all
+
+abbrev pub FeesOverlap : End → End → Type 0
+FeesOverlap x y = Overlap x.closing.fees y.closing.fees
+
+abbrev pub AcceptsFront : {K : Type 0} → (K → Signer) → State K → List Message → Type 0
+AcceptsFront signer l [] = Unit {0}
+AcceptsFront signer l (m ∷ ms) = IsTaken (handled (signer l.keys) l m)
+
+abbrev pub AllTaken : {K : Type 0} → (K → Signer) → Both K → Type 0
+AllTaken signer p = AtEnds FeesOverlap p.x.link.stage p.y.link.stage
+    → AcceptsFront signer p.x.link p.x.inbox × AcceptsFront signer p.y.link p.y.inbox
+
+-- ---- ends that have both closed have closed at one fee
+
+abbrev pub OneFee : {K : Type 0} → Both K → Type 0
+OneFee p = AtEnds CloseAtOneFee p.x.link.stage p.y.link.stage
 
 -- ---- at rest both hold every update of either side, and their commitments are worth the same
 
@@ -67,8 +76,7 @@ abbrev pub HasSignedAll : End → Type 0
 HasSignedAll e = sign_fault e.dance ≡ Some refusal.NothingToSign
 
 abbrev pub AgreeOnceSigned : End → End → Type 0
-AgreeOnceSigned x y = HasSignedAll x → HasSignedAll y
-    → HoldsAll (party x) (party y) × HoldsAll (party y) (party x) × (worth x ≡ worth y)
+AgreeOnceSigned x y = HasSignedAll x → HasSignedAll y → HoldTheSame x y
 
 abbrev pub Agrees : {K : Type 0} → Both K → Type 0
 Agrees p = IsQuiet p → AtEnds AgreeOnceSigned p.x.link.stage p.y.link.stage

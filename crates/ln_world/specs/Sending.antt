@@ -1,6 +1,9 @@
--- What each end of a channel sends over a list of moves (BOLT 2, "Closing Initiation: shutdown").
-use Rattle.std.specs.Prelude.{◌≡◌, ℕ, List, [], ◌∷◌, ◌++◌, Bool, true, false}
+-- What each end of a channel sends over a list of steps, over all its connections (BOLT 2, "Closing Initiation:
+-- shutdown").
+use Rattle.std.specs.Prelude.{ℕ, List, [], ◌∷◌, false}
 use Rattle.ln_msgs.specs.declared.messages.message.Message.{Message}
+use Rattle.ln_keys.specs.declared.keys.ChannelKeys.{Ghosts}
+use Rattle.ln_keys.specs.declared.role.Role.{Role}
 use Rattle.ln_keys.specs.declared.role.Role.TheVariants.{Funder, Fundee}
 use Rattle.ln_keys.specs.Signer.{Signer}
 use Rattle.ln_link.specs.State.{State}
@@ -8,8 +11,10 @@ use Rattle.ln_link.specs.Step.{handled, commanded}
 use Rattle.ln_pair.specs.Promises.{AddsBefore}
 use Rattle.ln_world.specs.declared.step.Act.{Act}
 use Rattle.ln_world.specs.declared.step.Act.TheVariants as act
-use Rattle.ln_world.specs.Both.{Both, Place, Move, By, Falls, Meet, sent_by, greets, greeting, moves}
-use Rattle.ln_world.specs.Channel.{may_meet}
+use Rattle.ln_world.specs.declared.step.Step.{Step}
+use Rattle.ln_world.specs.Both.{Both, Place, Move, By, Falls, Meet, sent_by, greets, greeting}
+use Rattle.ln_world.specs.World.{World, channel}
+use Rattle.ln_world.specs.Course.{in_channel, over}
 
 -- ---- in a move
 
@@ -21,39 +26,26 @@ abbrev pub act_sends : {K : Type 0} → (K → Signer) → List ℕ → Act → 
 act_sends signer id act.Deliver p = delivery_sends signer id p.inbox p.link
 act_sends signer id (act.Send c) p = sent_by id (commanded (signer p.link.keys) p.link c)
 
-abbrev pub funder_sends : {K : Type 0} → (K → Signer) → List ℕ → Move → Both K → List Message
-funder_sends signer id (By Funder a) p = act_sends signer id a p.x
-funder_sends signer id (By Fundee a) p = []
-funder_sends signer id (Falls side) p = []
-funder_sends signer id Meet p = greets (greeting signer p.x.link)
+-- the end of this side
+abbrev pub sends : {K : Type 0} → (K → Signer) → Role → List ℕ → Move → Both K → List Message
+sends signer Funder id (By Funder a) p = act_sends signer id a p.x
+sends signer Funder id (By Fundee a) p = []
+sends signer Funder id (Falls side) p = []
+sends signer Funder id Meet p = greets (greeting signer p.x.link)
+sends signer Fundee id (By Funder a) p = []
+sends signer Fundee id (By Fundee a) p = act_sends signer id a p.y
+sends signer Fundee id (Falls side) p = []
+sends signer Fundee id Meet p = greets (greeting signer p.y.link)
 
-abbrev pub fundee_sends : {K : Type 0} → (K → Signer) → List ℕ → Move → Both K → List Message
-fundee_sends signer id (By Funder a) p = []
-fundee_sends signer id (By Fundee a) p = act_sends signer id a p.y
-fundee_sends signer id (Falls side) p = []
-fundee_sends signer id Meet p = greets (greeting signer p.y.link)
+-- ---- over a list of steps
 
--- ---- over all of them
+-- the end of this side of the channel with this number, since it was opened
+abbrev pub sent_in : {K : Type 0} → (k : Ghosts K) → ℕ → Role → Step K k → World K → List Message
+sent_in k n side s w = in_channel k (sends k.signer side) s (channel n w.channels)
 
-abbrev pub sent_by_funder : {K : Type 0} → (K → Signer) → List ℕ → List Move → Both K → List Message
-sent_by_funder signer id [] p = []
-sent_by_funder signer id (m ∷ ms) p = funder_sends signer id m p ++ sent_by_funder signer id ms (moves signer id m p)
-
-abbrev pub sent_by_fundee : {K : Type 0} → (K → Signer) → List ℕ → List Move → Both K → List Message
-sent_by_fundee signer id [] p = []
-sent_by_fundee signer id (m ∷ ms) p = fundee_sends signer id m p ++ sent_by_fundee signer id ms (moves signer id m p)
-
--- those that the table gives: a connection joins ends that are both down, and haven't halted
-abbrev pub is_possible : {K : Type 0} → Move → Both K → Bool
-is_possible (By side a) p = true
-is_possible (Falls side) p = true
-is_possible Meet p = may_meet p
-
-abbrev pub ArePossible : {K : Type 0} → (K → Signer) → List ℕ → List Move → Both K → Type 0
-ArePossible signer id [] p = Unit {0}
-ArePossible signer id (m ∷ ms) p = (is_possible m p ≡ true) × ArePossible signer id ms (moves signer id m p)
+abbrev pub all_sent : {K : Type 0} → (k : Ghosts K) → ℕ → Role → List (Step K k) → World K → List Message
+all_sent k n side ss w = over k (sent_in k n side) ss w
 
 -- of all that either end sends no update_add_htlc stands behind its shutdown
-abbrev pub NoneAddsLate : {K : Type 0} → (K → Signer) → List ℕ → List Move → Both K → Type 0
-NoneAddsLate signer id ms p =
-    AddsBefore false (sent_by_funder signer id ms p) × AddsBefore false (sent_by_fundee signer id ms p)
+abbrev pub NoneAddsLate : {K : Type 0} → (k : Ghosts K) → ℕ → List (Step K k) → World K → Type 0
+NoneAddsLate k n ss w = AddsBefore false (all_sent k n Funder ss w) × AddsBefore false (all_sent k n Fundee ss w)

@@ -4,7 +4,8 @@ ghost use Rattle.std.specs.Prelude.{◌≡◌, ◌++◌, IfOk, IfErr, OnOk};
 ghost use Rattle.ln_msgs.specs.declared.refusals.refusal.Refusal.TheVariants as refusal;
 ghost use Rattle.ln_world.specs.declared.step.Act.TheVariants as act;
 ghost use Rattle.ln_world.specs.Settings.{channel_id_of};
-ghost use Rattle.ln_world.specs.Lines.{messages_in, lines_of, replies, refused_lines};
+ghost use Rattle.ln_pair.specs.Ends.{messages_in};
+ghost use Rattle.ln_world.specs.Lines.{lines_of, replies, refused_lines};
 ghost use Rattle.ln_link.specs.State.{numbers_of};
 ghost use Rattle.ln_world.specs.Both.{reaches, sent_by, told_by, said_by, delivers, delivered_lines, acts, act_lines};
 ghost use Rattle.ln_world.specs.Both.{greeting, greets, greet_lines, meet};
@@ -52,7 +53,8 @@ fn send_all(outputs: Vec<Output>, inbox: &mut VecDeque<Message>) -> Result<(), R
 
 impl<K: ChannelKeys + Copy> Place<K> {
     ghost use Rattle.std.specs.Prelude.{◌≡◌, [], IfErr, OnOk};
-    ghost use Rattle.ln_world.specs.Lines.{messages_in, one_or_none};
+    ghost use Rattle.ln_pair.specs.Ends.{messages_in};
+    ghost use Rattle.ln_world.specs.Lines.{one_or_none};
     ghost use Rattle.ln_world.specs.Both.{reaches, fallen, may_come_up};
 
     /// An end without a connection, and nothing in flight to it. Takes no memory.

@@ -1,21 +1,13 @@
 //! What nodes and channels promise over every list of steps: what is set, channels that are opened, messages that are
 //! delivered one at a time, commands that are given, and connections that are lost, at each end by itself, and come
 //! back (BOLT 2). Told of each channel's two links as the code leaves them, whatever their keys are that are partners.
-//! What the steps bring fits: fees are below 2^64 and points have 33 bytes, as is so of every step in code. The
-//! last law is told of the moves of one channel.
+//! What the steps bring fits: fees are below 2^64 and points have 33 bytes, as is so of every step in code.
 
-ghost use Rattle.std.specs.Prelude.{List};
-ghost use Rattle.ln_pair.specs.Promises.{AreSent};
-ghost use Rattle.ln_world.specs.declared.settings.Settings.{Settings};
-ghost use Rattle.ln_world.specs.declared.step.Open.{Open};
+ghost use Rattle.std.specs.Prelude.{ℕ, List};
 ghost use Rattle.ln_world.specs.declared.step.Step.{Step};
-ghost use Rattle.ln_world.specs.declared.step.Step.TheVariants as step;
-ghost use Rattle.ln_world.specs.Settings.{CanBring, channel_id_of};
-ghost use Rattle.ln_world.specs.Both.{Move};
-ghost use Rattle.ln_world.specs.Channel.{opened_by};
 ghost use Rattle.ln_world.specs.World.{empty, run};
-ghost use Rattle.ln_world.specs.Promises.{BringsFit, BringFit, OfEach, Headline, NoneRefused, Agrees};
-ghost use Rattle.ln_world.specs.Sending.{ArePossible, NoneAddsLate};
+ghost use Rattle.ln_world.specs.Promises.{BringFit, OfEach, Headline, NoneRefused, AllTaken, OneFee, Agrees};
+ghost use Rattle.ln_world.specs.Sending.{NoneAddsLate};
 
 use ln_keys::ChannelKeys;
 
@@ -34,6 +26,19 @@ pub fn never_refused<K: ChannelKeys + Copy>()
         → OfEach (NoneRefused K.signer) (run K.ChannelKeys steps empty) }
 {}
 
+/// A law: in each channel whose ends take ranges of closing fees that overlap, which are those that were set for its
+/// nodes when it was opened, the message in front of either end is taken or passed over, each `closing_signed` too.
+pub fn never_refused_where_fees_overlap<K: ChannelKeys + Copy>()
+    ensures { (steps : List (Step K K.ChannelKeys)) → BringFit K.ChannelKeys steps
+        → OfEach (AllTaken K.signer) (run K.ChannelKeys steps empty) }
+{}
+
+/// A law: in each channel, where both ends have closed, both have closed at one fee.
+pub fn closed_at_one_fee<K: ChannelKeys + Copy>()
+    ensures { (steps : List (Step K K.ChannelKeys)) → BringFit K.ChannelKeys steps
+        → OfEach OneFee (run K.ChannelKeys steps empty) }
+{}
+
 /// A law: in each channel, where both ends have met, nothing is in flight and neither has anything to sign, both hold
 /// every update of either side, and their commitments are worth the same.
 pub fn agreement<K: ChannelKeys + Copy>()
@@ -41,13 +46,9 @@ pub fn agreement<K: ChannelKeys + Copy>()
         → OfEach Agrees (run K.ChannelKeys steps empty) }
 {}
 
-/// A law: whatever moves a channel makes that was opened, of all that either end sends over all its connections, no
-/// `update_add_htlc` stands behind a `shutdown`. The moves are those that a world makes: a connection joins two ends
-/// that have none.
+/// A law: of all that either end of the channel with this number sends in these steps since it was opened, over all its
+/// connections, no `update_add_htlc` stands behind a `shutdown`.
 pub fn no_add_follows_a_shutdown<K: ChannelKeys + Copy>()
-    ensures { (o : Open K K.ChannelKeys) (funder fundee : Settings) (moves : List Move)
-        → CanBring o.satoshis o.push funder fundee → BringsFit K.ChannelKeys (step.Open o)
-        → AreSent funder.fees → AreSent fundee.fees
-        → ArePossible K.signer (channel_id_of o.channel) moves (opened_by K.ChannelKeys o funder fundee).both
-        → NoneAddsLate K.signer (channel_id_of o.channel) moves (opened_by K.ChannelKeys o funder fundee).both }
+    ensures { (steps : List (Step K K.ChannelKeys)) (number : ℕ) → BringFit K.ChannelKeys steps
+        → NoneAddsLate K.ChannelKeys number steps empty }
 {}

@@ -8,6 +8,7 @@ mod channel;
 mod channels;
 mod laws;
 mod line;
+mod machine;
 mod settings;
 mod step;
 mod tell;
@@ -16,8 +17,12 @@ mod world;
 pub use answer::Answer;
 pub use both::Place;
 pub use channel::{Channel, open_channel};
-pub use laws::{agreement, headline, never_refused, no_add_follows_a_shutdown};
+pub use laws::{
+    agreement, closed_at_one_fee, headline, never_refused, never_refused_where_fees_overlap,
+    no_add_follows_a_shutdown,
+};
 pub use line::{EndLine, Ending, Line, Word};
+pub use machine::{each_move_may_be_made, events_are_told, moves_are_the_machines};
 pub use settings::{Setting, Settings, may_bring};
 pub use step::{Act, End, Node, Open, Partners, Step};
 pub use world::World;

@@ -1,6 +1,6 @@
 use Rattle.std.proofs.Common.{◌≡◌, ◌++◌, length}
 use Rattle.std.specs.Vec.Iter.{into_iter_items, into_iter_len}
-use Rattle.ln_world.specs.Lines.{messages_in}
+use Rattle.ln_pair.specs.Ends.{messages_in}
 use Rattle.ln_world.proofs.both.send_all.Given as goal
 
 -- what is left joins behind

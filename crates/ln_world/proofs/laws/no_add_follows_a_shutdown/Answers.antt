@@ -1,4 +1,4 @@
-use Rattle.ln_world.proofs.Promised.{none_adds_late}
+use Rattle.ln_world.proofs.Told.{none_adds_late}
 use Rattle.ln_world.proofs.laws.no_add_follows_a_shutdown.Goals as goal
 
 pub returns : goal.returns

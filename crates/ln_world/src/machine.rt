@@ -1,0 +1,43 @@
+//! Each channel of a world is the channel's abstract machine, over every list of steps: its moves are what the steps do
+//! (BOLT 2, "Normal Operation").
+
+ghost use Rattle.std.specs.Prelude.{◌≡◌, ℕ, List, None};
+ghost use Rattle.ln_keys.specs.declared.role.Role.{Role};
+ghost use Rattle.ln_log.specs.Machine.{IsRun};
+ghost use Rattle.ln_log.specs.Events.{events};
+ghost use Rattle.ln_link.specs.Outputs.{numbered};
+ghost use Rattle.ln_pair.specs.Moves.{after_all};
+ghost use Rattle.ln_pair.specs.Told.{as_told, events_in};
+ghost use Rattle.ln_world.specs.declared.step.Step.{Step};
+ghost use Rattle.ln_world.specs.World.{empty, run, channel};
+ghost use Rattle.ln_world.specs.Promises.{BringFit};
+ghost use Rattle.ln_world.specs.Machine.{machine_of, history, all_told};
+
+use ln_keys::ChannelKeys;
+
+/// A law: the opening of the channel with this number, by what was set for its nodes, then the moves that the steps
+/// are for it, lead the machine to the opening and the two parties that its links stand for; where no channel has the
+/// number there is no machine, and no step is a move. Of commands that aren't refused, an update is proposed, a
+/// signature or a shutdown sent. A `commitment_signed` that is taken is accepted, a `revoke_and_ack` learned from; a
+/// close, and a shutdown that an end owes and sends in its turn, are the move of that turn. A lost connection drops
+/// what no signature covers. All else is no move.
+pub fn moves_are_the_machines<K: ChannelKeys + Copy>()
+    ensures { (steps : List (Step K K.ChannelKeys)) (number : ℕ) → BringFit K.ChannelKeys steps
+        → after_all (history K.ChannelKeys number steps empty) None
+        ≡ machine_of (channel number (run K.ChannelKeys steps empty).channels) }
+{}
+
+/// A law: each of these moves is one that the machine may make where it is made.
+pub fn each_move_may_be_made<K: ChannelKeys + Copy>()
+    ensures { (steps : List (Step K K.ChannelKeys)) (number : ℕ) → BringFit K.ChannelKeys steps
+        → IsRun (history K.ChannelKeys number steps empty) None
+        (machine_of (channel number (run K.ChannelKeys steps empty).channels)) }
+{}
+
+/// A law: the events among all that an end of the channel with this number hands out in these steps, with their numbers,
+/// are those of the moves for its side: each once, in their order, numbered from 0.
+pub fn events_are_told<K: ChannelKeys + Copy>()
+    ensures { (steps : List (Step K K.ChannelKeys)) (number : ℕ) (side : Role) → BringFit K.ChannelKeys steps
+        → events_in (all_told K.ChannelKeys number side steps empty)
+        ≡ numbered 0 (as_told (events side (history K.ChannelKeys number steps empty) None)) }
+{}
