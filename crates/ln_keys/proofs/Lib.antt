@@ -1,3 +1,4 @@
 pub mod Joined
 pub mod Packets
 pub mod Opening
+pub mod ToyPartners
