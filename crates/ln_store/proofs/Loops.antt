@@ -1,6 +1,6 @@
 -- Reading and writing values one after the other, as a loop does.
-use Rattle.std.proofs.Common.{◌≡◌, ◌≢◌, ℕ, suc, ◌-◌, ◌+◌, ◌≤◌, ◌<◌, List, [], ◌∷◌, ◌++◌, Option, Some, None, refl, sym}
-use Rattle.std.proofs.Common.{ap, ◌∙◌, append_assoc, arith}
+use Rattle.std.proofs.Common.{◌≡◌, ◌⊎◌, ℕ, suc, ◌-◌, ◌+◌, ◌≤◌, ◌<◌, List, [], ◌∷◌, ◌++◌, Option, Some, None, refl, sym}
+use Rattle.std.proofs.Common.{ap, ◌∙◌, append_assoc, arith, inl, inr}
 use Rattle.std.proofs.lemmas.List.{append-nil}
 use Rattle.ln_msgs.specs.declared.refusals.refusal.Refusal.{Refusal}
 use Rattle.ln_msgs.specs.declared.refusals.refusal.Refusal.TheVariants.{Memory, Damaged}
@@ -32,14 +32,14 @@ goes_on f front count i bytes item after total lt h so_far =
     sym one ∙ so_far
 
 pub ends : {A : Type 0} (f : Format A) (e : Refusal) (front : List A) (count i : ℕ) (bytes : List ℕ)
-    (total : Option (List A × List ℕ)) → i < count → (e ≢ Memory → (e ≡ Damaged) × (f.at bytes ≡ None))
-    → with_front front (items_at f (count - i) bytes) ≡ total → e ≢ Memory → (e ≡ Damaged) × (total ≡ None)
+    (total : Option (List A × List ℕ)) → i < count → (e ≡ Memory) ⊎ ((e ≡ Damaged) × (f.at bytes ≡ None))
+    → with_front front (items_at f (count - i) bytes) ≡ total → (e ≡ Memory) ⊎ ((e ≡ Damaged) × (total ≡ None))
 unfolding items_at
-ends f e front count i bytes total lt h so_far ours =
+ends f e front count i bytes total lt (inl memory) so_far = inl memory
+ends f e front count i bytes total lt (inr is) so_far =
     let k : count - i ≡ suc (count - (i + 1)) = omega arith in
-    let is = h ours in
     let one : with_front front (items_at f (count - i) bytes) ≡ None = rw (k, is.1) refl in
-    (is.0, sym so_far ∙ one)
+    inr (is.0, sym so_far ∙ one)
 
 pub is_done : {A : Type 0} (f : Format A) (front : List A) (count i : ℕ) (bytes : List ℕ)
     (total : Option (List A × List ℕ)) → count ≤ i → with_front front (items_at f (count - i) bytes) ≡ total

@@ -1,5 +1,5 @@
 -- How values are written into bytes and read from the front of bytes. Numbers are big-endian.
-use Rattle.std.specs.Prelude.{◌≡◌, ◌≢◌, ℕ, zero, suc, ◌^◌, List, [], ◌∷◌, ◌++◌, length, take, drop, Bool, true, false}
+use Rattle.std.specs.Prelude.{◌≡◌, ◌⊎◌, ℕ, zero, suc, ◌^◌, List, [], ◌∷◌, ◌++◌, length, take, drop, Bool, true, false}
 use Rattle.std.specs.Prelude.{◌==◌, ◌&&◌, nat_lt, Option, Some, None, Result, Ok, Err, if◌then◌else◌}
 use Rattle.std.specs.List.{flat_map, list_all}
 use Rattle.ln_bytes.specs.Endian.{big_bytes, big_number}
@@ -22,7 +22,7 @@ None >>= f = None
 -- are damaged
 abbrev pub Finds : {X Y : Type 0} → (X → Y) → Result X Refusal → Option Y → Type 0
 Finds view (Ok x) read = read ≡ Some (view x)
-Finds view (Err e) read = e ≢ refusal.Memory → (e ≡ refusal.Damaged) × (read ≡ None)
+Finds view (Err e) read = (e ≡ refusal.Memory) ⊎ ((e ≡ refusal.Damaged) × (read ≡ None))
 
 -- ---- numbers and bytes
 

@@ -1,9 +1,10 @@
 -- The bytes of a record, version 1, around its items.
-use Rattle.std.specs.Prelude.{ℕ, ◌+◌, ◌-◌, List, [], ◌∷◌, ◌++◌, length, take, drop, Bool, not, nat_eq, nat_lt, ◌==◌}
+use Rattle.std.specs.Prelude.{ℕ, ◌+◌, ◌-◌, List, [], ◌∷◌, ◌++◌, length, take, drop, Bool, not, nat_lt, ◌==◌}
 use Rattle.std.specs.Prelude.{◌&&◌}
-use Rattle.std.specs.Prelude.{Option, Some, None, Result, Ok, Err, if◌then◌else◌, ◌≡◌, ◌≢◌}
-use Rattle.std.specs.Cmp.Lexicographic.{pointwise}
+use Rattle.std.specs.Prelude.{Option, Some, None, Result, Ok, Err, if◌then◌else◌, ◌≡◌}
+use Rattle.ln_bytes.specs.Answers as answers
 use Rattle.ln_bytes.specs.Endian.{big_bytes, big_number}
+use Rattle.ln_bytes.specs.Same.{are_same}
 use Rattle.ln_msgs.specs.declared.refusals.refusal.Refusal.{Refusal}
 use Rattle.ln_msgs.specs.declared.refusals.refusal.Refusal.TheVariants as refusal
 use Rattle.ln_keys.specs.Hash.{payment_hash as digest}
@@ -36,13 +37,13 @@ seal_of bytes = drop (length bytes - 32) bytes
 
 -- what is before the digest begins with the magic bytes, and tells so many bytes behind the head
 abbrev pub begins_well : List ℕ → ℕ → Bool
-begins_well front len = pointwise nat_eq (take 4 front) magic && (big_number 8 (drop 6 front) + 46 == len)
+begins_well front len = are_same (take 4 front) magic && (big_number 8 (drop 6 front) + 46 == len)
 
 -- the first bytes, the length and the digest are those of a record
 unfoldable pub is_sealed : List ℕ → Bool
 is_sealed bytes =
     not (nat_lt (length bytes) 46)
-    && (begins_well (before_seal bytes) (length bytes) && pointwise nat_eq (digest (before_seal bytes)) (seal_of bytes))
+    && (begins_well (before_seal bytes) (length bytes) && are_same (digest (before_seal bytes)) (seal_of bytes))
 
 unfoldable pub version_of : List ℕ → ℕ
 version_of bytes = big_number 2 (drop 4 (before_seal bytes))
@@ -63,5 +64,4 @@ record_at bytes =
 
 -- what was answered, seen by view, is what reading gives, unless memory ran out
 abbrev pub Gives : {X Y : Type 0} → (X → Y) → Result X Refusal → Result Y Refusal → Type 0
-Gives view (Ok x) read = read ≡ Ok (view x)
-Gives view (Err e) read = e ≢ refusal.Memory → read ≡ Err e
+Gives view answer read = answers.Gives (λ e fault. e ≡ refusal.Memory) view read answer

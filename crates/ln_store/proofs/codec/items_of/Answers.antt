@@ -1,4 +1,4 @@
-use Rattle.std.proofs.Common.{◌∙◌, sym, ap, arith, cond, Bool, Ok, Err}
+use Rattle.std.proofs.Common.{◌∙◌, sym, ap, arith, cond, Bool, Ok, Err, inr}
 use Rattle.ln_msgs.specs.declared.refusals.refusal.Refusal.TheVariants as refusal
 use Rattle.ln_store.specs.Items as it
 use Rattle.ln_store.proofs.Records.{told, only_readable}
@@ -16,8 +16,8 @@ returns-then-whole-clause-is_readable c =
     only_readable (it.items.at c.args.body.now) c.in_ok-items.items (returns-then-whole-clause-reads_as_defined c)
 
 pub returns-else-whole-clause-reads_as_defined : goal.returns-else-whole-clause-reads_as_defined
-returns-else-whole-clause-reads_as_defined c = λ other.
+returns-else-whole-clause-reads_as_defined c =
     let i = c.in_ok-items.items in
-    told c.args.body.now i c.in_ok-items.rest.now (λ n. omega (arith, c.type_inv.body n))
+    inr (told c.args.body.now i c.in_ok-items.rest.now (λ n. omega (arith, c.type_inv.body n))
     c.in_ok-items.ensures
-    ∙ ap (λ (b : Bool). cond b (Ok i) (Err refusal.Damaged)) (sym c.in_ok-whole.ensures.tells_it ∙ c.if-whole.false)
+    ∙ ap (λ (b : Bool). cond b (Ok i) (Err refusal.Damaged)) (sym c.in_ok-whole.ensures.tells_it ∙ c.if-whole.false))
