@@ -1,5 +1,5 @@
 -- The text of a report: what was told of each step, and then how the ends of each channel stand.
-use Rattle.std.specs.Prelude.{ℕ, List, ◌++◌, codes, Result, Ok, Err}
+use Rattle.std.specs.Prelude.{◌≡◌, ℕ, List, ◌++◌, codes, Result, Ok, Err}
 use Rattle.std.specs.List.{flat_map}
 use Rattle.ln_keys.specs.declared.toy_keys.ToyKeys.{ToyKeys}
 use Rattle.ln_world.specs.declared.line.EndLine.{EndLine}
@@ -45,3 +45,9 @@ told_by (Err line) = Err line
 -- the report of its steps, or the number of its first bad line
 abbrev pub simulated : List ℕ → Result (List ℕ) ℕ
 simulated text = told_by (script_at text)
+
+-- ---- the world that a script leaves
+
+-- it holds of the world that the steps of each script that is read make of the empty one
+abbrev pub AfterEachScript : (World ToyKeys → Type 0) → Type 0
+AfterEachScript P = (text : List ℕ) (steps : List ToyStep) → script_at text ≡ Ok steps → P (run toy steps empty)

@@ -1,10 +1,37 @@
-//! A law of scripts.
+//! Laws of scripts, over every text.
 
-ghost use Rattle.std.specs.Prelude.{◌≡◌, ℕ, List, Err};
+ghost use Rattle.std.specs.Prelude.{◌≡◌, ℕ, List, Ok, Err};
+ghost use Rattle.ln_keys.specs.Toy.{toy_signer};
+ghost use Rattle.ln_world.specs.Promises.{BringFit, OfEach, Headline, NoneRefused, Agrees};
+ghost use Rattle.ln_script.specs.Keys.{toy};
+ghost use Rattle.ln_script.specs.Step.{ToyStep};
 ghost use Rattle.ln_script.specs.Script.{lines, script_at, IsFirstBad};
+ghost use Rattle.ln_script.specs.Report.{AfterEachScript};
+
+use ln_keys::ToyKeys;
+use ln_world::{agreement, headline, never_refused};
 
 /// A script is refused by the number of its first bad line, and only where there is one.
 pub fn first_bad_line()
     ensures refused { (text : List ℕ) (n : ℕ) → script_at text ≡ Err n → IsFirstBad (lines text) n }
     ensures only_then { (text : List ℕ) (n : ℕ) → IsFirstBad (lines text) n → script_at text ≡ Err n }
 {}
+
+/// What a script's steps bring is what the laws of a world ask for: closing fees below 2^64, and points of 33 bytes.
+pub fn steps_bring_what_fits()
+    ensures { (text : List ℕ) (steps : List ToyStep) → script_at text ≡ Ok steps → BringFit toy steps }
+{}
+
+/// The laws of a world hold after each script that is read, with nothing else asked for: in each channel, what either
+/// end holds as irrevocably committed was covered by the other (`ln_world::headline`); the message in front of either
+/// end is taken, or refused for its closing fee, and no link has failed (`ln_world::never_refused`); and at rest both
+/// ends hold every update and their commitments are worth the same (`ln_world::agreement`).
+pub fn scripts_keep_the_promises()
+    ensures headline { AfterEachScript (OfEach Headline) }
+    ensures never_refused { AfterEachScript (OfEach (NoneRefused toy_signer)) }
+    ensures agreement { AfterEachScript (OfEach Agrees) }
+{
+    headline::<ToyKeys>();
+    never_refused::<ToyKeys>();
+    agreement::<ToyKeys>();
+}

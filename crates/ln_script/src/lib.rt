@@ -14,7 +14,7 @@ mod report;
 mod step;
 mod word;
 
-pub use laws::first_bad_line;
+pub use laws::{first_bad_line, scripts_keep_the_promises, steps_bring_what_fits};
 pub use message::message_text;
 pub use print::print_all;
 pub use reading::read_script;

@@ -1,3 +1,4 @@
 pub mod Failure
 pub mod Text
 pub mod Printed
+pub mod Done

@@ -2,20 +2,19 @@
 #![tactic(auto)]
 
 mod choice;
+mod commands;
 mod failure;
 mod simulation;
 mod text;
 
-use choice::{Choice, choose};
+use choice::choose;
+use commands::perform;
 use failure::Failure;
-use ln_msgs::{Counted, Refusal, answer_pings};
-use ln_script::print_all;
-use simulation::{script_text, simulate};
+use ln_msgs::{Counted, Refusal};
 use std::env::Env;
-use std::io::{ErrorKind, Read};
+use std::io::ErrorKind;
 use std::process::ExitCode;
 use std::{env, io};
-use text::decode_text;
 
 fn main(rt: HostRuntime) -> ExitCode {
     match run(&rt) {
@@ -27,38 +26,12 @@ fn main(rt: HostRuntime) -> ExitCode {
     }
 }
 
-/// Runs what the command line asks for.
+/// Runs what the command line asks for, with standard input and output.
 fn run<R: Env + Input + Print + AllocGlobal>(rt: &R) -> Result<(), Failure> {
-    match choose(rt.alloc(), words(rt)?.as_slice())? {
-        Choice::Answer => {
-            let mut reader = Counted::new(rt.reader());
-            let mut writer = Counted::new(io::writer(rt));
-            answer_pings(rt.alloc(), &mut reader, &mut writer).map_err(Refusal::from)?;
-        }
-        Choice::Decode(hex) => {
-            let text = decode_text(rt.alloc(), hex.as_str())?;
-            let mut writer = Counted::new(io::writer(rt));
-            print_all(&mut writer, text.as_str())?;
-        }
-        Choice::Simulate => {
-            let bytes = read_all(rt)?;
-            let mut writer = Counted::new(io::writer(rt));
-            simulate(rt.alloc(), script_text(&bytes)?, &mut writer)?;
-        }
-    }
-    Ok(())
-}
-
-/// All of standard input.
-fn read_all<R: Input + AllocGlobal>(rt: &R) -> Result<Vec<u8>, Failure> {
-    let mut bytes = Vec::new(rt.alloc());
-    match rt.reader().read_to_end(&mut bytes) {
-        Ok(_) => Ok(bytes),
-        Err(error) if error.kind() == ErrorKind::OutOfMemory => {
-            Err(Failure::Refused(Refusal::Memory))
-        }
-        Err(_) => Err(Failure::Refused(Refusal::Io)),
-    }
+    let choice = choose(rt.alloc(), words(rt)?.as_slice())?;
+    let mut reader = Counted::new(rt.reader());
+    let mut writer = Counted::new(io::writer(rt));
+    perform(rt.alloc(), choice, &mut reader, &mut writer)
 }
 
 /// The words behind the program's name. Words that aren't text are no command.

@@ -1,6 +1,7 @@
 //! Scripts that run.
 
-ghost use Rattle.std.specs.Prelude.{◌≡◌, ◌⊎◌, ℕ, Err, OnOk, IfErr};
+ghost use Rattle.std.specs.Prelude.{◌≡◌, ◌⊎◌, ℕ, true, false, Err, OnOk, IfOk, IfErr};
+ghost use Rattle.std.specs.Str.{is_utf8};
 ghost use Rattle.ln_msgs.specs.declared.refusals.refusal.Refusal.TheVariants.{Memory, Io, BadScript};
 ghost use Rattle.ln_msgs.specs.Pings.Counted.{HasRisen};
 ghost use Rattle.ln_msgs.specs.Pings.CountedView.{inner_of, failures_of};
@@ -35,7 +36,8 @@ pub fn simulate<W: Write>(alloc: Global, text: &str, writer: &mut Counted<W>) ->
 
 /// The text of a script: its bytes, where they are UTF-8. 64 with line 0 where they aren't.
 pub fn script_text(bytes: &[u8]) -> Result<&str, Failure>
-    ensures { IfErr result (λ e. e ≡ Failure.Refused (BadScript 0)) }
+    ensures gives_the_bytes { IfOk result (λ text. (is_utf8 bytes.now ≡ true) × (text.now ≡ bytes.now)) }
+    ensures refused { IfErr result (λ f. (is_utf8 bytes.now ≡ false) × (f ≡ Failure.Refused (BadScript 0))) }
 {
     match str::from_utf8(bytes) {
         Ok(text) => Ok(text),

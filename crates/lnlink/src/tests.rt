@@ -1,7 +1,6 @@
-use crate::choice::{Choice, choose};
+use crate::choice::choose;
+use crate::commands::perform;
 use crate::failure::Failure;
-use crate::simulation::{script_text, simulate};
-use crate::text::decode_text;
 use ln_msgs::Counted;
 use std::alloc::Global;
 use std::test::*;
@@ -49,23 +48,19 @@ const LIMITS_REPORT: &str =
     A0 signed 0 committed 0 peer 0 balance 1000000/0 live 0 ready\n\
     B0 signed 0 committed 0 peer 0 balance 0/1000000 live 0 ready\n";
 
-/// What the words of a command line come to, with this on standard input; `answer` is told by its name.
+/// What the command that these words are writes, with this on its input.
 fn answered(alloc: Global, line: &str, input: &[u8]) -> Result<String, Failure> {
     let mut words = Vec::new(alloc);
     for word in line.split_whitespace() {
         words.push(String::from_str(alloc, word)?)?;
     }
-    match choose(alloc, words.as_slice())? {
-        Choice::Answer => Ok(String::from_str(alloc, "answer")?),
-        Choice::Decode(hex) => decode_text(alloc, hex.as_str()),
-        Choice::Simulate => {
-            let mut writer = Counted::new(Vec::new(alloc));
-            simulate(alloc, script_text(input)?, &mut writer)?;
-            match str::from_utf8(writer.get_ref().as_slice()) {
-                Ok(text) => Ok(String::from_str(alloc, text)?),
-                Err(_) => Err(Failure::NotHex),
-            }
-        }
+    let choice = choose(alloc, words.as_slice())?;
+    let mut reader = Counted::new(input);
+    let mut writer = Counted::new(Vec::new(alloc));
+    perform(alloc, choice, &mut reader, &mut writer)?;
+    match str::from_utf8(writer.get_ref().as_slice()) {
+        Ok(text) => Ok(String::from_str(alloc, text)?),
+        Err(_) => Err(Failure::NotHex),
     }
 }
 
@@ -83,7 +78,13 @@ fn told(alloc: Global, line: &str, input: &[u8]) -> Result<String, Fail> {
 #[test]
 fn command_lines(rt: HostRuntime) -> Result<(), Fail> {
     for (line, input, text) in [
-        ("answer", b"".as_slice(), "answer"),
+        ("answer", b"".as_slice(), ""),
+        (
+            "answer",
+            b"\0\x06\0\x12\0\x02\0\0",
+            "\0\x06\0\x13\0\x02\0\0",
+        ),
+        ("answer", b"\0\x06\0\x12", "refused 1, 1"),
         ("sim", b"sign A0\n", "idle\n"),
         ("sim", b"# nothing\nsign\n", "refused 64 line 2, 1"),
         ("sim", b"\xff", "refused 64 line 0, 1"),

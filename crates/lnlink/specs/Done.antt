@@ -1,0 +1,41 @@
+-- What each command of the program does with its input and output, where their bytes are known.
+use Rattle.std.specs.Prelude.{◌≡◌, ◌≢◌, ◌⊎◌, ℕ, List, Option, Result, Err, IfSome, string_bytes, if◌then◌else◌}
+use Rattle.std.specs.Str.{is_utf8}
+use Rattle.ln_bytes.specs.declared.fault.Fault.{Fault}
+use Rattle.ln_bytes.specs.declared.fault.Fault.TheVariants as fault
+use Rattle.ln_msgs.specs.declared.refusals.refusal.Refusal.TheVariants.{Memory, Io, BadScript}
+use Rattle.ln_msgs.specs.Refusals.Refusal.{refusal_of}
+use Rattle.ln_msgs.specs.Pings.Answered.{AnswersAll, AnswersUpTo, AnswersSome}
+use Rattle.ln_script.specs.Report.{simulated}
+use Rattle.lnlink.specs.declared.choice.Choice.{Choice}
+use Rattle.lnlink.specs.declared.choice.Choice.TheVariants as choice
+use Rattle.lnlink.specs.declared.failure.Failure.{Failure}
+use Rattle.lnlink.specs.declared.failure.Failure.TheVariants.{Refused}
+use Rattle.lnlink.specs.Printed.{Prints, PrintsPartly}
+use Rattle.lnlink.specs.Text.{decoded}
+
+-- the report of a script's bytes, or the number of its first bad line; 0 where they aren't UTF-8
+abbrev pub simulated_bytes : List ℕ → Result (List ℕ) ℕ
+simulated_bytes bytes = if is_utf8 bytes then simulated bytes else Err 0
+
+module _ (input input_after output output_after : Option (List ℕ)) where
+  -- all that a command is for
+  abbrev pub Does : Choice → Type 0
+  Does choice.Answer = (count : ℕ) × AnswersAll input input_after output output_after count
+  Does (choice.Decode text) = Prints output output_after (decoded (string_bytes text))
+  Does choice.Simulate = IfSome input (λ bytes. Prints output output_after (simulated_bytes bytes))
+
+  -- a beginning of it
+  abbrev pub DoesPartly : Choice → Type 0
+  DoesPartly choice.Answer = AnswersSome input input_after output output_after
+  DoesPartly (choice.Decode text) = PrintsPartly output output_after (decoded (string_bytes text))
+  DoesPartly choice.Simulate = IfSome input (λ bytes. PrintsPartly output output_after (simulated_bytes bytes))
+
+  -- why it stops there: what was read is at fault, or there was no memory, or a read or a write failed
+  abbrev pub StopsBy : Choice → Failure → Type 0
+  StopsBy choice.Answer f = (e : Fault) × (f ≡ Refused (refusal_of e))
+      × (e ≢ fault.Memory → e ≢ fault.Io → AnswersUpTo input input_after output output_after e)
+  StopsBy (choice.Decode text) f =
+      (f ≡ Refused Memory) ⊎ (f ≡ Refused Io) ⊎ (decoded (string_bytes text) ≡ Err f)
+  StopsBy choice.Simulate f = (f ≡ Refused Memory) ⊎ (f ≡ Refused Io)
+      ⊎ ((line : ℕ) × (f ≡ Refused (BadScript line)) × IfSome input (λ bytes. simulated_bytes bytes ≡ Err line))

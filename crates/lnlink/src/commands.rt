@@ -1,0 +1,130 @@
+//! What each command does, over any reader and writer.
+
+ghost use Rattle.std.specs.Prelude.{◌≡◌, ◌⊎◌, ℕ, Err, OnOk, OnErr, IfOk, IfErr, IfSome};
+ghost use Rattle.ln_msgs.specs.declared.refusals.refusal.Refusal.TheVariants.{Memory, Io, BadScript};
+ghost use Rattle.ln_msgs.specs.Pings.Counted.{HasRisen};
+ghost use Rattle.ln_msgs.specs.Pings.CountedView.{inner_of, failures_of};
+ghost use Rattle.lnlink.specs.Printed.{Prints, PrintsPartly};
+ghost use Rattle.lnlink.specs.Text.{decoded};
+ghost use Rattle.lnlink.specs.Done.{simulated_bytes, Does, DoesPartly, StopsBy};
+
+use crate::choice::Choice;
+use crate::failure::Failure;
+use crate::simulation::{script_text, simulate};
+use crate::text::decode_text;
+use ln_msgs::{Counted, Refusal, answer_pings};
+use ln_script::print_all;
+use std::alloc::Global;
+use std::io::{ErrorKind, Read, Write};
+
+/// Answers the pings of its input (`ln_msgs::answer_pings`), and stops at the first message that can't be read.
+fn answer<R: Read, W: Write>(
+    alloc: Global,
+    reader: &mut Counted<R>,
+    writer: &mut Counted<W>,
+) -> Result<(), Failure>
+    ensures does_it { OnOk result (Does (R.remaining (inner_of reader.old)) (R.remaining (inner_of reader.new))
+        (W.contents (inner_of writer.old)) (W.contents (inner_of writer.new)) Choice.Answer) }
+    ensures front { OnErr result (DoesPartly (R.remaining (inner_of reader.old)) (R.remaining (inner_of reader.new))
+        (W.contents (inner_of writer.old)) (W.contents (inner_of writer.new)) Choice.Answer) }
+    ensures cause { IfErr result (StopsBy (R.remaining (inner_of reader.old)) (R.remaining (inner_of reader.new))
+        (W.contents (inner_of writer.old)) (W.contents (inner_of writer.new)) Choice.Answer) }
+{
+    match answer_pings(alloc, reader, writer) {
+        Ok(_) => Ok(()),
+        Err(fault) => Err(Failure::Refused(Refusal::from(fault))),
+    }
+}
+
+/// Prints what a message in hexadecimal says (`decode_text`).
+///
+/// Errors: those of `decode_text`, and then nothing was written; 63 where a call of the writer fails.
+fn print_decoded<W: Write>(alloc: Global, hex: &str, writer: &mut Counted<W>) -> Result<(), Failure>
+    ensures prints_it { OnOk result (Prints (W.contents (inner_of writer.old)) (W.contents (inner_of writer.new))
+        (decoded hex.now)) }
+    ensures front { OnErr result (PrintsPartly (W.contents (inner_of writer.old)) (W.contents (inner_of writer.new))
+        (decoded hex.now)) }
+    ensures cause { IfErr result (λ f. (f ≡ Failure.Refused Memory)
+        ⊎ ((f ≡ Failure.Refused Io) × HasRisen (failures_of writer.old) (failures_of writer.new))
+        ⊎ (decoded hex.now ≡ Err f)) }
+{
+    let text = decode_text(alloc, hex)?;
+    print_all(writer, text.as_str())?;
+    Ok(())
+}
+
+/// All of a reader's bytes. 60 where there is no memory for them, 63 where a read fails.
+fn read_all<R: Read>(alloc: Global, reader: &mut R) -> Result<Vec<u8>, Failure>
+    ensures reads_all { IfOk result (λ bytes. IfSome (R.remaining reader.old) (λ all. bytes.items ≡ all)) }
+    ensures cause { IfErr result (λ f. (f ≡ Failure.Refused Memory) ⊎ (f ≡ Failure.Refused Io)) }
+{
+    let mut bytes = Vec::new(alloc);
+    match reader.read_to_end(&mut bytes) {
+        Ok(_) => Ok(bytes),
+        Err(error) if error.kind() == ErrorKind::OutOfMemory => {
+            Err(Failure::Refused(Refusal::Memory))
+        }
+        Err(_) => Err(Failure::Refused(Refusal::Io)),
+    }
+}
+
+/// Runs the script that these bytes are, and writes its report (`simulate`). 64 with line 0 where they aren't UTF-8.
+fn simulate_bytes<W: Write>(
+    alloc: Global,
+    bytes: &[u8],
+    writer: &mut Counted<W>,
+) -> Result<(), Failure>
+    ensures prints_it { OnOk result (Prints (W.contents (inner_of writer.old)) (W.contents (inner_of writer.new))
+        (simulated_bytes bytes.now)) }
+    ensures front { PrintsPartly (W.contents (inner_of writer.old)) (W.contents (inner_of writer.new))
+        (simulated_bytes bytes.now) }
+    ensures cause { IfErr result (λ f. (f ≡ Failure.Refused Memory) ⊎ (f ≡ Failure.Refused Io)
+        ⊎ ((line : ℕ) × (f ≡ Failure.Refused (BadScript line)) × (simulated_bytes bytes.now ≡ Err line))) }
+{
+    match script_text(bytes) {
+        Ok(text) => simulate(alloc, text, writer),
+        Err(failure) => Err(failure),
+    }
+}
+
+/// Runs the script that its input is, once all of it is read.
+fn simulate_input<R: Read, W: Write>(
+    alloc: Global,
+    reader: &mut R,
+    writer: &mut Counted<W>,
+) -> Result<(), Failure>
+    ensures prints_it { OnOk result (IfSome (R.remaining reader.old) (λ bytes.
+        Prints (W.contents (inner_of writer.old)) (W.contents (inner_of writer.new)) (simulated_bytes bytes))) }
+    ensures front { OnErr result (IfSome (R.remaining reader.old) (λ bytes.
+        PrintsPartly (W.contents (inner_of writer.old)) (W.contents (inner_of writer.new)) (simulated_bytes bytes))) }
+    ensures cause { IfErr result (λ f. (f ≡ Failure.Refused Memory) ⊎ (f ≡ Failure.Refused Io)
+        ⊎ ((line : ℕ) × (f ≡ Failure.Refused (BadScript line))
+        × IfSome (R.remaining reader.old) (λ bytes. simulated_bytes bytes ≡ Err line))) }
+{
+    let bytes = read_all(alloc, reader)?;
+    simulate_bytes(alloc, bytes.as_slice(), writer)
+}
+
+/// Does what a command is for, and flushes what it has written. Takes memory.
+///
+/// Errors: those of `ln_msgs::answer_pings`, `decode_text` and `simulate` by the number of the refusal; 63 also where
+/// a script can't be read. What was written by then is a beginning.
+pub fn perform<R: Read, W: Write>(
+    alloc: Global,
+    choice: Choice,
+    reader: &mut Counted<R>,
+    writer: &mut Counted<W>,
+) -> Result<(), Failure>
+    ensures does_it { OnOk result (Does (R.remaining (inner_of reader.old)) (R.remaining (inner_of reader.new))
+        (W.contents (inner_of writer.old)) (W.contents (inner_of writer.new)) choice) }
+    ensures front { OnErr result (DoesPartly (R.remaining (inner_of reader.old)) (R.remaining (inner_of reader.new))
+        (W.contents (inner_of writer.old)) (W.contents (inner_of writer.new)) choice) }
+    ensures cause { IfErr result (StopsBy (R.remaining (inner_of reader.old)) (R.remaining (inner_of reader.new))
+        (W.contents (inner_of writer.old)) (W.contents (inner_of writer.new)) choice) }
+{
+    match choice {
+        Choice::Answer => answer(alloc, reader, writer),
+        Choice::Decode(hex) => print_decoded(alloc, hex.as_str(), writer),
+        Choice::Simulate => simulate_input(alloc, reader, writer),
+    }
+}
