@@ -55,7 +55,7 @@ use Rattle.ln_world.specs.declared.step.Act.{Act}
 use Rattle.ln_world.specs.declared.step.Act.TheVariants as act
 use Rattle.ln_world.specs.declared.step.Node.{Node}
 use Rattle.ln_world.specs.Settings.{channel_id_of}
-use Rattle.ln_world.specs.Both.{Both, By, Falls, Meet, acts, turned, moves, may_come_up}
+use Rattle.ln_world.specs.Both.{Both, By, Falls, Meet, acts, swapped, moves, may_come_up}
 use Rattle.ln_world.specs.Both.{run as run_both}
 use Rattle.ln_world.specs.Channel.{Channel, by, side_of, moved, may_meet, act_moves, fall_moves, up_moves}
 use Rattle.ln_world.specs.Promises.{AtEnds, WithPeer, Headline, TakesFront, NoneRefused, AgreeOnceSigned, Agrees}
@@ -344,7 +344,7 @@ module _ {K : Type 0} (signer : K → Signer) where
   acted_went id Fundee a p r =
       let q = ends_of id p r in
       let t = tale_of id (By Fundee a) p in
-      elim (acts_so id Fundee a r.fundees r.funders (turned p) (pair.turned q)
+      elim (acts_so id Fundee a r.fundees r.funders (swapped p) (pair.turned q)
       (flipped id r.funders r.fundees p q r.mirrors) (fronts id p r).1) [
         | inl h ↦
             stayed_so id p _ r t (flipped id r.fundees r.funders _ (pair.turned q) h.0) refl h.1.sent h.1.moves refl
@@ -372,7 +372,7 @@ module _ {K : Type 0} (signer : K → Signer) where
       let said = lost_says (is_down t.x_line) t (record t { x_line = Down; x = end_dropped t.x; to_x = [] }) refl
       refl in
       went_so id p _ r (pair.By Fundee pair.Lose) (tale_of id (Falls Fundee) p)
-      (flipped id r.fundees r.funders _ _ (fell signer id r.fundees r.funders (turned p) t
+      (flipped id r.fundees r.funders _ _ (fell signer id r.fundees r.funders (swapped p) t
       (flipped id r.funders r.fundees p q r.mirrors)))
       (said.1 ∙ silently q.said_x [] refl) (said.0 ∙ silently q.said_y [] refl)
       (ap (λ (l : State K). moves_of_fall Fundee l.line) (sym r.mirrors.y_link)) refl refl
@@ -575,9 +575,9 @@ module _ {K : Type 0} (signer : K → Signer) where
       let up = is_up signer id k k line m ms i.down in
       subst Goal (sym is) (elim (i.named.0) [
         | inl warns ↦ inl (
-            record { line = line; stage = stage.Saved e; outputs = [] },
-            passed_so (signer k) k id line m e warns,
-          )
+          record { line = line; stage = stage.Saved e; outputs = [] },
+          passed_so (signer k) k id line m e warns,
+        )
         | inr own ↦
             front_of id k line m ms (without_warnings ms) e up own channel
             (subst (λ ws. Front (signer k) line ws e) (sym i.told
@@ -614,9 +614,9 @@ module _ {K : Type 0} (signer : K → Signer) where
       let up = is_up signer id k k line m ms i.down in
       subst Goal (sym is) (elim (i.named.0) [
         | inl warns ↦ (
-            record { line = line; stage = stage.Saved e; outputs = [] },
-            passed_so (signer k) k id line m e warns,
-          )
+          record { line = line; stage = stage.Saved e; outputs = [] },
+          passed_so (signer k) k id line m e warns,
+        )
         | inr own ↦
             accepted_of id k line m ms (without_warnings ms) e up own channel
             (subst (λ ws. Accepted (signer k) line ws e) (sym i.told

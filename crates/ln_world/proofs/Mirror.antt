@@ -14,7 +14,7 @@ use Rattle.ln_link.specs.State.{State, is_down}
 use Rattle.ln_link.specs.Step.{is_passed_over, error_fault}
 use Rattle.ln_pair.specs.Ends.{Ends, arrive}
 use Rattle.ln_pair.specs.Ends as pair
-use Rattle.ln_world.specs.Both.{Both, Place, reaches, turned}
+use Rattle.ln_world.specs.Both.{Both, Place, reaches, swapped}
 use Rattle.ln_world.proofs.Named.{Names}
 
 -- a link of an open channel, which hasn't failed
@@ -48,7 +48,7 @@ pub record Mirrors {K : Type 0} (id : List ℕ) (kx ky : K) (p : Both K) (q : En
   pub y_channel : q.y.dance.channel ≡ id
 
 pub flipped : {K : Type 0} (id : List ℕ) (kx ky : K) (p : Both K) (q : Ends) → Mirrors id kx ky p q
-    → Mirrors id ky kx (turned p) (pair.turned q)
+    → Mirrors id ky kx (swapped p) (pair.turned q)
 flipped id kx ky p q h = record {
   x_link = h.y_link;
   y_link = h.x_link;

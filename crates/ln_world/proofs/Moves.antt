@@ -644,7 +644,8 @@ module _ {K : Type 0} (signer : K → Signer) (id : List ℕ) (kx ky : K) where
 
   pub met_tells : (p : Both K) (q : Ends) → is_down p.x.link.line ≡ true → is_down p.y.link.line ≡ true
       → Mirrors id kx ky p q
-      → (events_in (outputs_of (greeting signer p.x.link)) ≡ []) × (events_in (outputs_of (greeting signer p.y.link)) ≡ [])
+      → (events_in (outputs_of (greeting signer p.x.link)) ≡ [])
+      × (events_in (outputs_of (greeting signer p.y.link)) ≡ [])
   met_tells p q dx dy h =
       let lx : is_down q.x_line ≡ true = ap (λ (l : State K). is_down l.line) (sym h.x_link) ∙ dx in
       let ly : is_down q.y_line ≡ true = ap (λ (l : State K). is_down l.line) (sym h.y_link) ∙ dy in (

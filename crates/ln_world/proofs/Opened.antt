@@ -30,7 +30,7 @@ use Rattle.ln_link.specs.Step.{Done, replied, faulted}
 use Rattle.ln_link.proofs.Meeting.{are_ends}
 use Rattle.ln_pair.specs.Ends as pair
 use Rattle.ln_world.specs.declared.step.Act.TheVariants as act
-use Rattle.ln_world.specs.Both.{Both, Move, By, Meet, answers, turned, moves}
+use Rattle.ln_world.specs.Both.{Both, Move, By, Meet, answers, swapped, moves}
 use Rattle.ln_world.specs.Both.{run as run_both}
 use Rattle.ln_world.specs.Channel.{opening_moves}
 use Rattle.ln_world.proofs.Mirror.{Mirrors}
@@ -89,7 +89,7 @@ module _ {K : Type 0} (signer : K → Signer) (id : List ℕ) (kx ky : K) (s : O
 
   takes_open : moves signer id (By Fundee act.Deliver) asked ≡ accepted
   unfolding moves
-  takes_open = ap (λ r. turned (answers refused id (replied Met stage.AwaitsCreated message.AcceptChannel r)
+  takes_open = ap (λ r. swapped (answers refused id (replied Met stage.AwaitsCreated message.AcceptChannel r)
       (two ky (stage.AwaitsOpen c) [] kx (stage.AwaitsAccept s) []))) o.open_channel
 
   takes_accept : moves signer id (By Funder act.Deliver) accepted ≡ created
@@ -100,7 +100,7 @@ module _ {K : Type 0} (signer : K → Signer) (id : List ℕ) (kx ky : K) (s : O
 
   takes_created : moves signer id (By Fundee act.Deliver) created ≡ signed
   unfolding moves
-  takes_created = ap (λ r. turned (answers refused id
+  takes_created = ap (λ r. swapped (answers refused id
       (replied Met (λ q. stage.Saved (end_of q)) message.FundingSigned r)
       (two ky (stage.AwaitsCreated o.agreement) [] kx (stage.AwaitsSigned (end_of funder)) []))) o.funding_created
 
@@ -192,4 +192,5 @@ module _ {K : Type 0} (signer : K → Signer) (id : List ℕ) (kx ky : K) (s : O
       ) (funder, o.created) =
       was_given (accept_fault s o.accept) _ _ o.accept_channel in
       ap (λ (w : Opened × FundingCreated). w.0.dance.log.opening) (sym answered)
-      ∙ ap (λ (w : Agreement × AcceptChannel). asked_with (open_message (signer kx) s) (asked_by_accept w.1)) (sym taken)
+      ∙ ap (λ (w : Agreement × AcceptChannel). asked_with (open_message (signer kx) s) (asked_by_accept w.1))
+      (sym taken)

@@ -1,7 +1,8 @@
--- What comes of each channel of a world since it was opened: what its ends send, the machine's moves that they make, and
--- what they tell.
+-- What comes of each channel of a world since it was opened: what its ends send, the machine's moves that they make,
+-- and what they tell.
 use Rattle.std.proofs.Common.{◌≡◌, ℕ, List, [], ◌∷◌, ◌++◌, refl, sym, ap, ◌∙◌, subst}
-use Rattle.std.proofs.Common.{Bool, true, false, cond, ◌&&◌, ◌==◌, not, is_none, Option, Some, None, option_map, eqb-true}
+use Rattle.std.proofs.Common.{Bool, true, false, cond, ◌&&◌, ◌==◌, not, is_none, Option, Some, None, option_map}
+use Rattle.std.proofs.Common.{eqb-true}
 use Rattle.ln_keys.specs.declared.keys.ChannelKeys.{Ghosts}
 use Rattle.ln_keys.specs.declared.role.Role.{Role}
 use Rattle.ln_keys.specs.declared.role.Role.TheVariants.{Funder, Fundee}
@@ -24,7 +25,8 @@ use Rattle.ln_world.specs.Settings.{channel_id_of, opening_by, may_bring}
 use Rattle.ln_world.specs.Both.{Both, Move, By, Falls, Meet}
 use Rattle.ln_world.specs.Channel.{Channel, is_node, by, side_of, moved, may_meet, opened_by, act_moves, fall_moves}
 use Rattle.ln_world.specs.Channel.{up_moves}
-use Rattle.ln_world.specs.World.{World, settings_of, channel, moved_if, moved_at, may_open, joined, happens, empty, run}
+use Rattle.ln_world.specs.World.{World, settings_of, channel, moved_if, moved_at, may_open, joined, happens}
+use Rattle.ln_world.specs.World.{empty, run}
 use Rattle.ln_world.specs.Promises.{BringsFit, BringFit}
 use Rattle.ln_world.specs.Course.{step_moves, in_channel, over}
 use Rattle.ln_world.specs.Sending.{sends, sent_in, NoneAddsLate}
@@ -100,7 +102,8 @@ module _ {K : Type 0} (k : Ghosts K) where
   by_possible id p (Some side) f h = h side
 
   acts_possible : (n : Node) (a : Act) → MayMake (act_moves n a)
-  acts_possible n a c = by_possible (channel_id_of c.number) c.both (side_of n c) (λ side. By side a) (λ side. (refl, tt))
+  acts_possible n a c =
+      by_possible (channel_id_of c.number) c.both (side_of n c) (λ side. By side a) (λ side. (refl, tt))
 
   falls_possible : (n : Node) → MayMake (fall_moves n)
   falls_possible n c = by_possible (channel_id_of c.number) c.both (side_of n c) Falls (λ side. (refl, tt))

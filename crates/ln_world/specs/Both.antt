@@ -29,8 +29,8 @@ pub record Both (K : Type 0) : Type 0 where
   pub y : Place K
 
 -- told from the other end
-abbrev pub turned : {K : Type 0} → Both K → Both K
-turned p = record { x = p.y; y = p.x }
+abbrev pub swapped : {K : Type 0} → Both K → Both K
+swapped p = record { x = p.y; y = p.x }
 
 -- what is sent to an end is in flight to it, and is lost where that end has no connection
 abbrev pub reaches : {K : Type 0} → List Message → Place K → Place K
@@ -51,9 +51,9 @@ abbrev pub sent_by : List ℕ → Result Done Refusal → List Message
 sent_by id (Ok d) = messages_in d.outputs
 sent_by id (Err r) = replies id r
 
-abbrev pub told_by : End → List ℕ → Result Done Refusal → List Line
-told_by e id (Ok d) = lines_of e (numbers_of d.stage) d.outputs
-told_by e id (Err r) = refused_lines e id r
+abbrev pub answer_lines : End → List ℕ → Result Done Refusal → List Line
+answer_lines e id (Ok d) = lines_of e (numbers_of d.stage) d.outputs
+answer_lines e id (Err r) = refused_lines e id r
 
 -- what a call answered of a link that it left so
 abbrev pub said_by : {K : Type 0} → Answer → State K → Result Done Refusal
@@ -82,7 +82,7 @@ delivers signer id (m ∷ ms) p =
 
 abbrev pub delivered_lines : {K : Type 0} → (K → Signer) → End → List ℕ → List Message → State K → List Line
 delivered_lines signer e id [] l = line.Idle ∷ []
-delivered_lines signer e id (m ∷ ms) l = told_by e id (handled (signer l.keys) l m)
+delivered_lines signer e id (m ∷ ms) l = answer_lines e id (handled (signer l.keys) l m)
 
 abbrev pub acts : {K : Type 0} → (K → Signer) → List ℕ → Act → Both K → Both K
 acts signer id act.Deliver p = delivers signer id p.x.inbox p
@@ -90,7 +90,7 @@ acts signer id (act.Send c) p = answers unchanged id (commanded (signer p.x.link
 
 abbrev pub act_lines : {K : Type 0} → (K → Signer) → End → List ℕ → Act → Place K → List Line
 act_lines signer e id act.Deliver p = delivered_lines signer e id p.inbox p.link
-act_lines signer e id (act.Send c) p = told_by e id (commanded (signer p.link.keys) p.link c)
+act_lines signer e id (act.Send c) p = answer_lines e id (commanded (signer p.link.keys) p.link c)
 
 -- an end loses its connection, and what is in flight to it
 abbrev pub fallen : {K : Type 0} → Place K → Place K
@@ -135,7 +135,7 @@ pub data Move : Type 0 where
 -- told from the funder's end or from the fundee's
 abbrev pub from : {K : Type 0} → Role → (Both K → Both K) → Both K → Both K
 from Funder f p = f p
-from Fundee f p = turned (f (turned p))
+from Fundee f p = swapped (f (swapped p))
 
 unfoldable pub moves : {K : Type 0} → (K → Signer) → List ℕ → Move → Both K → Both K
 moves signer id (By side act) p = from side (acts signer id act) p

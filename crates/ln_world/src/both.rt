@@ -7,7 +7,8 @@ ghost use Rattle.ln_world.specs.Settings.{channel_id_of};
 ghost use Rattle.ln_pair.specs.Ends.{messages_in};
 ghost use Rattle.ln_world.specs.Lines.{lines_of, replies, refused_lines};
 ghost use Rattle.ln_link.specs.State.{numbers_of};
-ghost use Rattle.ln_world.specs.Both.{reaches, sent_by, told_by, said_by, delivers, delivered_lines, acts, act_lines};
+ghost use Rattle.ln_world.specs.Both.{reaches, sent_by, answer_lines, said_by, delivers, delivered_lines, acts};
+ghost use Rattle.ln_world.specs.Both.{act_lines};
 ghost use Rattle.ln_world.specs.Both.{greeting, greets, greet_lines, meet};
 
 use crate::answer::{Answer, command as obey, connect, handle};
@@ -163,7 +164,7 @@ fn pass_on<K: ChannelKeys + Copy>(
     ensures sent { OnOk result (other.new
         ≡ reaches (sent_by (channel_id_of end.channel) (said_by answer link.now)) other.old) }
     ensures told { OnOk result (lines.new.items
-        ≡ lines.old.items ++ told_by end (channel_id_of end.channel) (said_by answer link.now)) }
+        ≡ lines.old.items ++ answer_lines end (channel_id_of end.channel) (said_by answer link.now)) }
     ensures fails_for_memory_alone { IfErr result (λ e. e ≡ refusal.Memory) }
 {
     match answer {

@@ -26,8 +26,8 @@ pub fn never_refused<K: ChannelKeys + Copy>()
         → OfEach (NoneRefused K.signer) (run K.ChannelKeys steps empty) }
 {}
 
-/// A law: in each channel whose ends take ranges of closing fees that overlap, which are those that were set for its
-/// nodes when it was opened, the message in front of either end is taken or passed over, each `closing_signed` too.
+/// A law: in each channel whose ends take ranges of closing fees that overlap, the message in front of either end is
+/// taken or passed over, each `closing_signed` too.
 pub fn never_refused_where_fees_overlap<K: ChannelKeys + Copy>()
     ensures { (steps : List (Step K K.ChannelKeys)) → BringFit K.ChannelKeys steps
         → OfEach (AllTaken K.signer) (run K.ChannelKeys steps empty) }

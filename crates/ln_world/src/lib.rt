@@ -14,7 +14,6 @@ mod step;
 mod tell;
 mod world;
 
-pub use answer::Answer;
 pub use both::Place;
 pub use channel::{Channel, open_channel};
 pub use laws::{

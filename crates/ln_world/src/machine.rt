@@ -34,8 +34,8 @@ pub fn each_move_may_be_made<K: ChannelKeys + Copy>()
         (machine_of (channel number (run K.ChannelKeys steps empty).channels)) }
 {}
 
-/// A law: the events among all that an end of the channel with this number hands out in these steps, with their numbers,
-/// are those of the moves for its side: each once, in their order, numbered from 0.
+/// A law: the events among all that an end of the channel with this number hands out in these steps, with their
+/// numbers, are those of the moves for its side: each once, in their order, numbered from 0.
 pub fn events_are_told<K: ChannelKeys + Copy>()
     ensures { (steps : List (Step K K.ChannelKeys)) (number : ℕ) (side : Role) → BringFit K.ChannelKeys steps
         → events_in (all_told K.ChannelKeys number side steps empty)
