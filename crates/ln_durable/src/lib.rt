@@ -8,5 +8,5 @@ mod payload;
 mod record;
 
 pub use durable::Durable;
-pub use laws::lost_connection_is_recorded;
+pub use laws::{lost_connection_is_recorded, saved_is_loaded};
 pub use record::to_record;
