@@ -12,4 +12,4 @@ dance_of-dance-requires c =
     let p = parts c.args.items c.requires in
     subst (λ (l : Log). AreInStep c.args.items.commitments.numbers l) (sym c.in_ok-log.ensures.log.1)
     (stepping c.args.items.commitments.numbers c.opening_of.result c.args.items.header.role c.args.items.updates
-      p.in_step p.settled)
+    p.in_step p.settled)
