@@ -1,10 +1,12 @@
 -- What each command of the program does with its input and output, where their bytes are known.
-use Rattle.std.specs.Prelude.{◌≡◌, ◌≢◌, ◌⊎◌, ℕ, List, Option, Result, Err, IfSome, string_bytes, if◌then◌else◌}
+use Rattle.std.specs.Prelude.{◌≡◌, ◌≢◌, ◌⊎◌, ℕ, ◌-◌, ◌^◌, ◌≤◌, List, Option, Result, Err, IfSome, string_bytes}
+use Rattle.std.specs.Prelude.{if◌then◌else◌}
 use Rattle.std.specs.Str.{is_utf8}
 use Rattle.ln_bytes.specs.declared.fault.Fault.{Fault}
 use Rattle.ln_bytes.specs.declared.fault.Fault.TheVariants as fault
 use Rattle.ln_msgs.specs.declared.refusals.refusal.Refusal.TheVariants.{Memory, Io, BadScript}
 use Rattle.ln_msgs.specs.Refusals.Refusal.{refusal_of}
+use Rattle.ln_msgs.specs.Pings.Counted.{HasRisen}
 use Rattle.ln_msgs.specs.Pings.Answered.{AnswersAll, AnswersUpTo, AnswersSome}
 use Rattle.ln_script.specs.Report.{simulated}
 use Rattle.lnlink.specs.declared.choice.Choice.{Choice}
@@ -31,11 +33,17 @@ module _ (input input_after output output_after : Option (List ℕ)) where
   DoesPartly (choice.Decode text) = PrintsPartly output output_after (decoded (string_bytes text))
   DoesPartly choice.Simulate = IfSome input (λ bytes. PrintsPartly output output_after (simulated_bytes bytes))
 
-  -- why it stops there: what was read is at fault, or there was no memory, or a read or a write failed
-  abbrev pub StopsBy : Choice → Failure → Type 0
-  StopsBy choice.Answer f = (e : Fault) × (f ≡ Refused (refusal_of e))
+  -- why it stops there: what was read is at fault, or there was no memory, or a call of the reader or the writer
+  -- failed; that a script's reading failed is told by no count
+  abbrev pub StopsBy : (failed : Type 0) → Choice → Failure → Type 0
+  StopsBy failed choice.Answer f = (e : Fault) × (f ≡ Refused (refusal_of e)) × (e ≡ fault.Io → failed)
       × (e ≢ fault.Memory → e ≢ fault.Io → AnswersUpTo input input_after output output_after e)
-  StopsBy (choice.Decode text) f =
-      (f ≡ Refused Memory) ⊎ (f ≡ Refused Io) ⊎ (decoded (string_bytes text) ≡ Err f)
-  StopsBy choice.Simulate f = (f ≡ Refused Memory) ⊎ (f ≡ Refused Io)
+  StopsBy failed (choice.Decode text) f =
+      (f ≡ Refused Memory) ⊎ ((f ≡ Refused Io) × failed) ⊎ (decoded (string_bytes text) ≡ Err f)
+  StopsBy failed choice.Simulate f = (f ≡ Refused Memory) ⊎ (f ≡ Refused Io)
       ⊎ ((line : ℕ) × (f ≡ Refused (BadScript line)) × IfSome input (λ bytes. simulated_bytes bytes ≡ Err line))
+
+-- a call of one of them failed, or they were called 2^64 - 1 times
+abbrev pub HasFailed : (reads reads_after writes writes_after calls : ℕ) → Type 0
+HasFailed reads reads_after writes writes_after calls =
+    HasRisen reads reads_after ⊎ HasRisen writes writes_after ⊎ (2 ^ 64 - 1 ≤ calls)

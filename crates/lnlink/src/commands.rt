@@ -1,12 +1,12 @@
 //! What each command does, over any reader and writer.
 
-ghost use Rattle.std.specs.Prelude.{◌≡◌, ◌⊎◌, ℕ, Err, OnOk, OnErr, IfOk, IfErr, IfSome};
+ghost use Rattle.std.specs.Prelude.{◌≡◌, ◌⊎◌, ◌+◌, ℕ, Err, OnOk, OnErr, IfOk, IfErr, IfSome};
 ghost use Rattle.ln_msgs.specs.declared.refusals.refusal.Refusal.TheVariants.{Memory, Io, BadScript};
 ghost use Rattle.ln_msgs.specs.Pings.Counted.{HasRisen};
-ghost use Rattle.ln_msgs.specs.Pings.CountedView.{inner_of, failures_of};
+ghost use Rattle.ln_msgs.specs.Pings.CountedView.{inner_of, failures_of, calls_of};
 ghost use Rattle.lnlink.specs.Printed.{Prints, PrintsPartly};
 ghost use Rattle.lnlink.specs.Text.{decoded};
-ghost use Rattle.lnlink.specs.Done.{simulated_bytes, Does, DoesPartly, StopsBy};
+ghost use Rattle.lnlink.specs.Done.{simulated_bytes, Does, DoesPartly, StopsBy, HasFailed};
 
 use crate::choice::Choice;
 use crate::failure::Failure;
@@ -28,7 +28,9 @@ fn answer<R: Read, W: Write>(
     ensures front { OnErr result (DoesPartly (R.remaining (inner_of reader.old)) (R.remaining (inner_of reader.new))
         (W.contents (inner_of writer.old)) (W.contents (inner_of writer.new)) Choice.Answer) }
     ensures cause { IfErr result (StopsBy (R.remaining (inner_of reader.old)) (R.remaining (inner_of reader.new))
-        (W.contents (inner_of writer.old)) (W.contents (inner_of writer.new)) Choice.Answer) }
+        (W.contents (inner_of writer.old)) (W.contents (inner_of writer.new))
+        (HasFailed (failures_of reader.old) (failures_of reader.new) (failures_of writer.old) (failures_of writer.new)
+        (calls_of reader.new + calls_of writer.new)) Choice.Answer) }
 {
     match answer_pings(alloc, reader, writer) {
         Ok(_) => Ok(()),
@@ -120,7 +122,9 @@ pub fn perform<R: Read, W: Write>(
     ensures front { OnErr result (DoesPartly (R.remaining (inner_of reader.old)) (R.remaining (inner_of reader.new))
         (W.contents (inner_of writer.old)) (W.contents (inner_of writer.new)) choice) }
     ensures cause { IfErr result (StopsBy (R.remaining (inner_of reader.old)) (R.remaining (inner_of reader.new))
-        (W.contents (inner_of writer.old)) (W.contents (inner_of writer.new)) choice) }
+        (W.contents (inner_of writer.old)) (W.contents (inner_of writer.new))
+        (HasFailed (failures_of reader.old) (failures_of reader.new) (failures_of writer.old) (failures_of writer.new)
+        (calls_of reader.new + calls_of writer.new)) choice) }
 {
     match choice {
         Choice::Answer => answer(alloc, reader, writer),
