@@ -2,14 +2,16 @@
 
 ghost use Rattle.std.specs.Prelude.{◌≡◌, ℕ, List, Ok, Err};
 ghost use Rattle.ln_keys.specs.Toy.{toy_signer};
-ghost use Rattle.ln_world.specs.Promises.{BringFit, OfEach, Headline, NoneRefused, Agrees};
+ghost use Rattle.ln_world.specs.Promises.{BringFit, OfEach, Headline, NoneRefused, AllTaken, OneFee, Agrees};
 ghost use Rattle.ln_script.specs.Keys.{toy};
 ghost use Rattle.ln_script.specs.Step.{ToyStep};
 ghost use Rattle.ln_script.specs.Script.{lines, script_at, IsFirstBad};
 ghost use Rattle.ln_script.specs.Report.{AfterEachScript};
 
 use ln_keys::ToyKeys;
-use ln_world::{agreement, headline, never_refused};
+use ln_world::{
+    agreement, closed_at_one_fee, headline, never_refused, never_refused_where_fees_overlap,
+};
 
 /// A script is refused by the number of its first bad line, and only where there is one.
 pub fn first_bad_line()
@@ -24,14 +26,20 @@ pub fn steps_bring_what_fits()
 
 /// The laws of a world hold after each script that is read, with nothing else asked for: in each channel, what either
 /// end holds as irrevocably committed was covered by the other (`ln_world::headline`); the message in front of either
-/// end is taken, or refused for its closing fee, and no link has failed (`ln_world::never_refused`); and at rest both
-/// ends hold every update and their commitments are worth the same (`ln_world::agreement`).
+/// end is taken, or refused for its closing fee, and no link has failed (`ln_world::never_refused`), and where both ends
+/// take fees that overlap it is taken (`ln_world::never_refused_where_fees_overlap`); both close at one fee
+/// (`ln_world::closed_at_one_fee`); and at rest both ends hold every update and their commitments are worth the same
+/// (`ln_world::agreement`).
 pub fn scripts_keep_the_promises()
     ensures headline { AfterEachScript (OfEach Headline) }
     ensures never_refused { AfterEachScript (OfEach (NoneRefused toy_signer)) }
+    ensures never_refused_where_fees_overlap { AfterEachScript (OfEach (AllTaken toy_signer)) }
+    ensures closed_at_one_fee { AfterEachScript (OfEach OneFee) }
     ensures agreement { AfterEachScript (OfEach Agrees) }
 {
     headline::<ToyKeys>();
     never_refused::<ToyKeys>();
+    never_refused_where_fees_overlap::<ToyKeys>();
+    closed_at_one_fee::<ToyKeys>();
     agreement::<ToyKeys>();
 }
