@@ -26,7 +26,7 @@ pub fn steps_bring_what_fits()
 
 /// The laws of a world hold after each script that is read, with nothing else asked for: in each channel, what either
 /// end holds as irrevocably committed was covered by the other (`ln_world::headline`); the message in front of either
-/// end is taken, or refused for its closing fee, and no link has failed (`ln_world::never_refused`), and where both ends
+/// end is taken, or refused for its closing fee, and no link has failed (`ln_world::never_refused`); where both ends
 /// take fees that overlap it is taken (`ln_world::never_refused_where_fees_overlap`); both close at one fee
 /// (`ln_world::closed_at_one_fee`); and at rest both ends hold every update and their commitments are worth the same
 /// (`ln_world::agreement`).
