@@ -1,2 +1,4 @@
 pub mod Recorded
 pub mod Refusing
+pub mod Again
+pub mod Loaded

@@ -4,9 +4,11 @@
 mod copy;
 mod durable;
 mod laws;
+mod loading;
 mod payload;
 mod record;
 
 pub use durable::Durable;
-pub use laws::lost_connection_is_recorded;
+pub use laws::{lost_connection_is_recorded, saved_is_loaded};
+pub use loading::from_record;
 pub use record::to_record;

@@ -86,7 +86,7 @@ fn agreement_of(alloc: Global, channel: &Channel) -> Result<Agreement, Refusal>
     })
 }
 
-fn opening_of(terms: &Terms) -> Opening
+pub(crate) fn opening_of(terms: &Terms) -> Opening
     ensures { result ≡ opening_of terms.now }
 {
     let open = &terms.open_channel;

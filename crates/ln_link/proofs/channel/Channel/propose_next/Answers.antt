@@ -16,7 +16,7 @@ invariant_of-self c =
     } in
     sound c.propose.result e c.propose.new.self (with_log (after_propose c.args.update c.self.inside.dance.log)
     c.self.inside.dance) (c.propose.ensures.moves_as_stated _ refl) c.propose.ensures.changes_nothing_if_refused
-      refl refl c.self.invariant
+    refl refl c.self.invariant
 
 pub returns-clause-state : goal.returns-clause-state
 returns-clause-state c =

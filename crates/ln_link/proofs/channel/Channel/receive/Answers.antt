@@ -16,7 +16,7 @@ invariant_of-self c =
     } in
     sound c.receive.result e c.receive.new.self (with_log (after_receive c.args.update c.self.inside.dance.log)
     c.self.inside.dance) (c.receive.ensures.moves_as_stated _ refl) c.receive.ensures.changes_nothing_if_refused
-      refl refl c.self.invariant
+    refl refl c.self.invariant
 
 pub returns-clause-state : goal.returns-clause-state
 returns-clause-state c =

@@ -1,0 +1,160 @@
+-- What is saved of an end is read as a lost connection leaves it.
+use Rattle.std.proofs.Common.{◌≡◌, ◌∙◌, ◌<◌, ◌^◌, refl, sym, ap, subst, List, [], ◌∷◌, map, Option, Some, None}
+use Rattle.std.proofs.Common.{option_map, IfSome, Result}
+use Rattle.ln_bytes.specs.declared.fault.Fault.{Fault}
+use Rattle.ln_bytes.specs.declared.short_id.ShortId.{ShortId}
+use Rattle.ln_msgs.specs.Messages.Message.{Heard, Known, wire_bytes}
+use Rattle.ln_msgs.specs.Messages.Typed.{open_wire, accept_wire}
+use Rattle.ln_msgs.specs.declared.messages.opening.OpenChannel.{OpenChannel}
+use Rattle.ln_msgs.specs.declared.messages.opening.AcceptChannel.{AcceptChannel}
+use Rattle.ln_msgs.specs.declared.refusals.refusal.Refusal.{Refusal}
+use Rattle.ln_msgs.proofs.Grammar.{message_again}
+use Rattle.ln_keys.specs.declared.role.Role.{Role}
+use Rattle.ln_keys.specs.declared.role.Role.TheVariants.{Funder, Fundee}
+use Rattle.ln_log.specs.declared.log.Counts.{Counts}
+use Rattle.ln_log.specs.declared.opening.Opening.{Opening}
+use Rattle.ln_log.specs.Loading.{IsReadable}
+use Rattle.ln_log.specs.Log.{Log, none, after_drop}
+use Rattle.ln_link.specs.declared.channel.Marks.{Marks}
+use Rattle.ln_link.specs.declared.ledger.EventRef as link
+use Rattle.ln_link.specs.declared.ledger.EventRef.TheVariants as link_ref
+use Rattle.ln_link.specs.declared.opening.Terms.{Terms}
+use Rattle.ln_link.specs.Opening.{opening_of}
+use Rattle.ln_link.specs.Ledger.{Ledger}
+use Rattle.ln_link.specs.End.{End, end_dropped}
+use Rattle.ln_link.specs.Parts.{end_with}
+use Rattle.ln_durable.specs.Record.{payload_of, place_of, agreement_of, event_of, events_of, updates_of, base_of}
+use Rattle.ln_durable.specs.Record.{header_of, progress_of, items_of, commitments_of, fees_of, flags_of}
+use Rattle.ln_durable.specs.Loading.{open_of, accept_of, said, open_in, accept_in, terms_of, short_id_of, marks_of}
+use Rattle.ln_durable.specs.Loading.{event_in, ledger_of, log_of, log_in, dance_of, closing_of, end_of, IsSaid}
+use Rattle.ln_durable.specs.Loading.{IsLoadable, HasRecord}
+use Rattle.ln_durable.proofs.Again.{id_again}
+
+-- ---- the opening
+
+open_again : (m : OpenChannel) → IsSaid (open_wire m) → open_in (payload_of (open_wire m)) ≡ m
+unfolding open_in payload_of
+open_again m s =
+    ap (λ (r : Result Heard Fault). open_of (said r)) (message_again (wire_bytes (open_wire m)) (Known (open_wire m)) s)
+
+accept_again : (m : AcceptChannel) → IsSaid (accept_wire m) → accept_in (payload_of (accept_wire m)) ≡ m
+unfolding accept_in payload_of
+accept_again m s =
+    ap (λ (r : Result Heard Fault). accept_of (said r))
+    (message_again (wire_bytes (accept_wire m)) (Known (accept_wire m)) s)
+
+terms_again : (failure : Option Refusal) (e : End) → HasRecord failure e → terms_of (agreement_of e) ≡ e.terms
+unfolding agreement_of
+terms_again failure e h =
+    ap (λ (o : OpenChannel). record {
+      open_channel = o;
+      accept_channel = accept_in (payload_of (accept_wire e.terms.accept_channel));
+      script = e.terms.script;
+      peer_script = e.terms.peer_script;
+    }) (open_again e.terms.open_channel h.open_channel)
+    ∙ ap (λ (a : AcceptChannel). record {
+      open_channel = e.terms.open_channel;
+      accept_channel = a;
+      script = e.terms.script;
+      peer_script = e.terms.peer_script;
+    }) (accept_again e.terms.accept_channel h.accept_channel)
+
+-- ---- how far it is
+
+place_again : (s : Option ShortId) → IfSome s (λ id. id.output < 2 ^ 16)
+    → option_map short_id_of (option_map place_of s) ≡ s
+place_again None f = refl
+place_again (Some id) f = ap Some (id_again id.block id.tx id.output id.block_fits id.tx_fits f)
+
+-- ---- the updates
+
+by_role : (x : Role) (o p : Opening) (l : Log) → log_of o x (updates_of p x l) ≡ record {
+  opening = o;
+  role = x;
+  own = l.own;
+  received = l.received;
+  first = none;
+  signed = l.signed;
+  acknowledged = l.acknowledged;
+  current = l.current;
+}
+unfolding updates_of
+by_role Funder o p l = refl
+by_role Fundee o p l = refl
+
+log_again : (l : Log) (o p : Opening) (x : Role) → l.opening ≡ o → l.role ≡ x → l.first ≡ none
+    → log_of o x (updates_of p x l) ≡ l
+log_again l o p x opening role first =
+    by_role x o p l
+    ∙ ap (λ (z : Opening). record {
+      opening = z;
+      role = x;
+      own = l.own;
+      received = l.received;
+      first = none;
+      signed = l.signed;
+      acknowledged = l.acknowledged;
+      current = l.current;
+    }) (sym opening)
+    ∙ ap (λ (z : Role). record {
+      opening = l.opening;
+      role = z;
+      own = l.own;
+      received = l.received;
+      first = none;
+      signed = l.signed;
+      acknowledged = l.acknowledged;
+      current = l.current;
+    }) (sym role)
+    ∙ ap (λ (z : Counts). record l { first = z }) (sym first)
+
+-- ---- what became of them
+
+event_again : (r : link.EventRef) → event_in (event_of r) ≡ r
+event_again (link_ref.Own n) = refl
+event_again (link_ref.Peer n) = refl
+event_again link_ref.Close = refl
+
+events_again : (rs : List link.EventRef) → map event_in (map event_of rs) ≡ rs
+events_again [] = refl
+events_again (r ∷ rs) =
+    ap (λ (x : link.EventRef). x ∷ map event_in (map event_of rs)) (event_again r)
+    ∙ ap (λ (xs : List link.EventRef). r ∷ xs) (events_again rs)
+
+-- ---- all of it
+
+loaded_log : (failure : Option Refusal) (e : End) → HasRecord failure e
+    → log_in (items_of failure e) ≡ after_drop e.dance.log
+unfolding items_of header_of
+loaded_log failure e h =
+    log_again (after_drop e.dance.log) (opening_of (terms_of (agreement_of e))) (opening_of e.terms) e.closing.role
+    (h.sound.opening ∙ ap opening_of (sym (terms_again failure e h))) h.sound.one_role h.first
+
+pub loaded : (failure : Option Refusal) (e : End) → HasRecord failure e
+    → end_of (items_of failure e) ≡ end_dropped e
+unfolding end_of items_of header_of progress_of agreement_of
+loaded failure e h =
+    let d = after_drop e.dance.log in
+    let made : Log → Terms → Option ShortId → List link.EventRef → End = λ l t s rs.
+    end_with (dance_of (header_of failure e) (commitments_of e.dance) l) e.closing t
+    (record { short_id = s; ready_sent = e.marks.ready_sent; ready_received = e.marks.ready_received })
+    (record { decided = e.ledger.decided; undecided = rs }) in
+    let t = terms_of (agreement_of e) in
+    let s = option_map short_id_of (option_map place_of e.marks.short_id) in
+    let rs = map event_in (map event_of e.ledger.undecided) in
+    ap (λ (l : Log). made l t s rs) (loaded_log failure e h)
+    ∙ ap (λ (u : Terms). made d u s rs) (terms_again failure e h)
+    ∙ ap (λ (u : Option ShortId). made d e.terms u rs) (place_again e.marks.short_id h.output)
+    ∙ ap (λ (us : List link.EventRef). made d e.terms e.marks.short_id us) (events_again e.ledger.undecided)
+
+pub loadable : (failure : Option Refusal) (e : End) → HasRecord failure e → IsLoadable (items_of failure e)
+unfolding items_of header_of progress_of updates_of agreement_of
+loadable failure e h = record {
+  updates = record {
+    log = subst IsReadable (sym (loaded_log failure e h)) h.log;
+    base = ap base_of (ap opening_of (sym (terms_again failure e h)));
+  };
+  forwards = refl;
+  fees = h.sound.fees;
+  scripts = h.sound.scripts;
+}
