@@ -2,12 +2,12 @@
 
 use crate::code_of;
 use crate::testing::{
-    CHANNEL, FUNDEE, FUNDER, OPENING, bytes_of, htlc, point_of, side, signature_of,
+    CHANNEL, FUNDEE, FUNDER, bytes_of, htlc, message_of, point_of, side, signature_of,
 };
 use ln_dance::{Dance, Later, Numbers, Peer, update_of};
 use ln_keys::{ChannelKeys, Role, ToyKeys};
 use ln_log::{Fulfil, Pair, Update};
-use ln_msgs::{CommitmentSigned, Incoming, Records, Refusal, RevokeAndAck, Signatures, decode};
+use ln_msgs::{CommitmentSigned, Records, Refusal, RevokeAndAck, Signatures};
 use std::alloc::Global;
 
 /// The last number that a commitment can have.
@@ -336,17 +336,9 @@ fn fields_of(update: &Update) -> [u64; 4] {
 /// What the update says that a message of this type tells, whose bytes behind the type are these, each so many times;
 /// zeros where it tells none.
 fn told_update(alloc: Global, typ: u16, runs: &[(usize, u8)]) -> Result<[u64; 4], Refusal> {
-    let mut bytes = Vec::from_slice(alloc, &typ.to_be_bytes())?;
-    for (count, byte) in runs {
-        let len = bytes.len().saturating_add(*count);
-        bytes.resize(len, *byte)?;
-    }
-    match decode(alloc, &bytes) {
-        Ok(Incoming::Known(message)) => match update_of(message) {
-            Some(update) => Ok(fields_of(&update)),
-            None => Ok([0; 4]),
-        },
-        _ => Err(Refusal::OutOfPlace),
+    match update_of(message_of(alloc, typ, runs)?) {
+        Some(update) => Ok(fields_of(&update)),
+        None => Ok([0; 4]),
     }
 }
 

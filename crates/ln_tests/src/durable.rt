@@ -3,11 +3,11 @@
 use crate::code_of;
 use crate::link::{fit, spec};
 use crate::store::FailingStore;
-use crate::testing::{FUNDEE, FUNDER};
+use crate::testing::{FUNDEE, FUNDER, htlc};
 use ln_bytes::ShortId;
-use ln_durable::Durable;
-use ln_keys::ToyKeys;
-use ln_link::{Command, FitConfig, FitSpec, Link, Output};
+use ln_durable::{Durable, from_record};
+use ln_keys::{ToyKeys, sha256_32};
+use ln_link::{Command, FitConfig, FitSpec, Life, Link, Output, Standing};
 use ln_msgs::Refusal;
 use ln_store::{MemoryStore, RecordStore, decode_record};
 use std::alloc::Global;
@@ -156,5 +156,109 @@ fn saves(rt: HostRuntime) {
     ] {
         let told = told_where_a_save_fails(rt.alloc(), saves, leaves_new);
         assert_eq!(rt; told, Ok((ready, answers, (behind, true, true))), "{saves}");
+    }
+}
+
+/// The funder's end offers an HTLC and signs it; then it offers another one, which no signature covers.
+fn offered<S: RecordStore + Drop>(alloc: Global, a: &mut Side<S>) -> Result<(), Refusal> {
+    for id in 0..2 {
+        let add = htlc(id, 5000, 400);
+        let offer = Command::Add {
+            amount: add.amount,
+            hash: add.hash,
+            expiry: add.expiry,
+            onion: add.onion,
+            origin: None,
+        };
+        drop(a.link.command(alloc, &mut a.store, offer)?);
+        if id == 0 {
+            drop(a.link.command(alloc, &mut a.store, Command::Sign)?);
+        }
+    }
+    Ok(())
+}
+
+/// The bytes of the one record of a store.
+fn stored<S: RecordStore + Drop>(alloc: Global, a: &mut Side<S>) -> Result<Vec<u8>, Refusal> {
+    let ids = a.store.ids(alloc)?;
+    let Some(id) = ids.as_slice().first() else {
+        return Err(Refusal::NotReady);
+    };
+    let Some(bytes) = a.store.load(alloc, id)? else {
+        return Err(Refusal::NotReady);
+    };
+    Ok(Vec::from_slice(alloc, bytes.as_slice())?)
+}
+
+/// Where the link stands that comes back from these bytes.
+fn standing_of(alloc: Global, bytes: &[u8]) -> Result<Standing, Refusal> {
+    match from_record(alloc, FUNDER, bytes) {
+        Ok(link) => link.standing(alloc),
+        Err(refusal) => Err(refusal),
+    }
+}
+
+/// By what a record is refused with a changed bit, and as one of version 2.
+fn refused(alloc: Global, bytes: &mut [u8]) -> (u32, u32) {
+    let len = bytes.len();
+    if len < 46 {
+        return (0, 0);
+    }
+    bytes[20] ^= 1;
+    let damaged = code_of(standing_of(alloc, bytes).err());
+    bytes[20] ^= 1;
+    bytes[5] = 2;
+    let digest = sha256_32(&bytes[..len - 32]);
+    bytes[len - 32..].copy_from_slice(&digest);
+    let other = code_of(standing_of(alloc, bytes).err());
+    (damaged, other)
+}
+
+/// Where the funder's link stands once it has come back, and once it was dropped; by what a changed record is refused.
+type Loaded = (Standing, Standing, (u32, u32));
+
+fn loaded<S: RecordStore + Drop, T: RecordStore + Drop>(
+    alloc: Global,
+    a: &mut Side<S>,
+    b: &mut Side<T>,
+) -> Result<Loaded, Refusal> {
+    played(alloc, a, b)?;
+    offered(alloc, a)?;
+    let mut bytes = stored(alloc, a)?;
+    let back = standing_of(alloc, bytes.as_slice())?;
+    a.link.drop_connection();
+    let dropped = a.link.link().standing(alloc)?;
+    let faults = refused(alloc, bytes.as_mut_slice());
+    Ok((back, dropped, faults))
+}
+
+fn loaded_of_new(alloc: Global, spec: FitSpec, config: FitConfig) -> Result<Loaded, Refusal> {
+    let mut a = Side {
+        link: Durable::new(Link::funder(FUNDER, spec)),
+        store: MemoryStore::new(alloc),
+    };
+    let mut b = Side {
+        link: Durable::new(Link::fundee(FUNDEE, config)),
+        store: MemoryStore::new(alloc),
+    };
+    loaded(alloc, &mut a, &mut b)
+}
+
+fn loads_of(alloc: Global) -> Result<Loaded, Refusal> {
+    let spec = spec(alloc)?;
+    let config = fit(alloc, (350, 400, 500))?;
+    loaded_of_new(alloc, spec, config)
+}
+
+#[test]
+fn comes_back(rt: HostRuntime) {
+    match loads_of(rt.alloc()) {
+        Ok((back, dropped, faults)) => {
+            assert_eq!(rt; back, dropped);
+            assert_eq!(rt; (back.signed, back.live), (1, 0));
+            assert_eq!(rt; faults, (70, 71));
+            assert_eq!(rt; back.life, Life::Ready);
+        }
+        Err(refusal) => assert_eq!(rt; refusal.number(), 0),
     }
 }

@@ -13,7 +13,7 @@ use std::alloc::Global;
 
 /// What happens between the funder's end and the fundee's. What an end hands out the other takes at once.
 #[derive(Clone, Copy, Debug)]
-enum Move {
+pub enum Move {
     /// Both confirm.
     Confirm,
     /// The funder's end offers an HTLC, or changes the fee.
@@ -49,7 +49,7 @@ use Move::{
 };
 
 /// Least, first and greatest closing fee.
-type Range = (u64, u64, u64);
+pub type Range = (u64, u64, u64);
 
 const POINTS: Points = Points {
     funding_pubkey: [2; 33],
@@ -394,6 +394,21 @@ fn moved(
     Ok((right, is_seen(&seen, outputs)))
 }
 
+/// The same for moves of which none is refused.
+pub fn begin(
+    alloc: Global,
+    a: &mut Link<ToyKeys>,
+    b: &mut Link<ToyKeys>,
+    moves: &[Move],
+    seen: &mut Vec<u64>,
+) -> Result<(), Refusal> {
+    open(alloc, a, b, seen)?;
+    for one in moves {
+        play(alloc, a, b, *one, seen)?;
+    }
+    Ok(())
+}
+
 fn is_seen(seen: &[u64], outputs: &[u64]) -> bool {
     match seen {
         [32, 33, 34, 35, rest @ ..] => rest == outputs,
@@ -424,7 +439,7 @@ fn played(
     linked(alloc, a, Link::fundee(FUNDEE, config), table, outputs)
 }
 
-const DEAR: Range = (350, 400, 500);
+pub const DEAR: Range = (350, 400, 500);
 
 #[test]
 fn moves(rt: HostRuntime) -> Result<(), Refusal> {
@@ -556,6 +571,22 @@ fn moves(rt: HostRuntime) -> Result<(), Refusal> {
             (table.len(), true)
         );
     }
+    Ok(())
+}
+
+/// What is handed out behind an opening, where an HTLC is offered and signed.
+fn offered(alloc: Global, mut a: Link<ToyKeys>, mut b: Link<ToyKeys>) -> Result<Vec<u64>, Refusal> {
+    let mut seen = Vec::new(alloc);
+    begin(alloc, &mut a, &mut b, &[Confirm, Offer, Out], &mut seen)?;
+    Ok(seen)
+}
+
+#[test]
+fn small_link(rt: HostRuntime) -> Result<(), Refusal> {
+    let alloc = rt.alloc();
+    let a = Link::funder(FUNDER, spec(alloc)?);
+    let seen = offered(alloc, a, Link::fundee(FUNDEE, fit(alloc, DEAR)?))?;
+    assert!(rt; is_seen(&seen, &[36, 36, 128, 132, 1001, 133, 2000, 2000]));
     Ok(())
 }
 

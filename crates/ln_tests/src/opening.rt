@@ -316,6 +316,12 @@ fn refusals(rt: HostRuntime) {
     }
 }
 
+#[test]
+fn small_opening(rt: HostRuntime) -> Result<(), Refusal> {
+    assert_eq!(rt; opening(rt.alloc(), true, "none")?, [0; 32]);
+    Ok(())
+}
+
 /// Whether a funder's values fit with this change.
 fn fits_with(alloc: Global, change: &str) -> bool {
     let mut spec = spec(alloc, Records::empty(alloc));

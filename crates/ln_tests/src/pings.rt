@@ -36,11 +36,22 @@ impl Read for Slow<'_> {
 
 /// A writer that takes at most so many bytes a call, and fails from a call on; flushes count too.
 #[derive(Drop)]
-struct Narrow {
-    bytes: Vec<u8>,
+pub struct Narrow {
+    pub bytes: Vec<u8>,
     most: usize,
     calls_left: u64,
     flushed: usize,
+}
+
+impl Narrow {
+    pub fn new(alloc: Global, most: usize, calls_left: u64) -> Narrow {
+        Narrow {
+            bytes: Vec::new(alloc),
+            most,
+            calls_left,
+            flushed: 0,
+        }
+    }
 }
 
 impl Write for Narrow {
@@ -81,12 +92,7 @@ fn answered(alloc: Global, input: &[u8], most: usize, reads: u64, writes: u64) -
         most,
         calls_left: reads,
     });
-    let mut writer = Counted::new(Narrow {
-        bytes: Vec::new(alloc),
-        most,
-        calls_left: writes,
-        flushed: 0,
-    });
+    let mut writer = Counted::new(Narrow::new(alloc, most, writes));
     let answer = answer_pings(alloc, &mut reader, &mut writer);
     let failures = reader.failures().saturating_add(writer.failures());
     let written = writer.into_inner();

@@ -19,10 +19,19 @@ fn otherwise(alloc: Global, rows: &[Row]) -> Result<usize, Refusal> {
 }
 
 /// The report of a script is this text.
-fn is_told(alloc: Global, script: &str, report: &str) -> Result<bool, Refusal> {
+pub fn is_told(alloc: Global, script: &str, report: &str) -> Result<bool, Refusal> {
     let mut writer = Counted::new(Vec::new(alloc));
     print_report(alloc, read_script(alloc, script)?, &mut writer)?;
     Ok(writer.get_ref().as_slice() == report.as_bytes())
+}
+
+#[test]
+fn small_row(rt: HostRuntime) -> Result<(), Refusal> {
+    let script = "open 0 A B 1000 0\n";
+    let report = "0 open\nA0 signed 0 committed 0 peer 0 balance 1000000/0 live 0 open\n\
+                  B0 signed 0 committed 0 peer 0 balance 0/1000000 live 0 open\n";
+    assert!(rt; is_told(rt.alloc(), script, report)?);
+    Ok(())
 }
 
 // Payments, from the offer to what both sides hold.
@@ -257,7 +266,7 @@ fn openings(rt: HostRuntime) {
 // Closes, by each rule of a closing fee.
 #[test]
 fn closes(rt: HostRuntime) {
-    let rows: [Row; 4] = [
+    let rows: [Row; 5] = [
         // both close at the funder's fee
         (
             "ready 0 A B 1000000 0 1x1x0\nshutdown B0\ndeliver A0\ndeliver B0\ndeliver A0\n\
@@ -306,6 +315,16 @@ fn closes(rt: HostRuntime) {
              A0 signed 1 committed 1 peer 1 balance 999995000/5000 live 0 closed 300\n\
              B0 signed 1 committed 1 peer 1 balance 5000/999995000 live 0 closed 300\n",
         ),
+        // a shutdown is answered once what was added is acknowledged
+        (
+            "ready 0 A B 1000000 100000000 1x1x0\nadd B0 5000 400 7\nsign B0\nshutdown A0\n\
+             deliver B0\nshutdown B0\ndeliver A0\ndeliver A0\ndeliver B0\ndeliver A0\n",
+            "0 open\nA0 sends channel_ready\nB0 sends channel_ready\nB0 sends add 0\n\
+             B0 sends sign 1\nA0 sends shutdown\nB0 refused 45\nA0 sends revoke 0\n\
+             B0 sends shutdown\n\
+             A0 signed 0 committed 0 peer 0 balance 900000000/99995000 live 1 shut\n\
+             B0 signed 1 committed 0 peer 0 balance 100000000/900000000 live 0 shut\n",
+        ),
     ];
     assert_eq!(rt; otherwise(rt.alloc(), &rows), Ok(0));
 }
@@ -313,7 +332,7 @@ fn closes(rt: HostRuntime) {
 // Connections that are lost, and come back.
 #[test]
 fn breaks(rt: HostRuntime) {
-    let rows: [Row; 6] = [
+    let rows: [Row; 9] = [
         // an unsigned add is lost with its connection
         (
             "ready 0 A B 1000000 0 1x1x0\nadd A0 5000 400 7\ndown A0\ndown B0\nup 0\n\
@@ -380,6 +399,83 @@ fn breaks(rt: HostRuntime) {
              A0 signed 1 committed 0 peer 0 balance 1000000000/0 live 0 ready\n\
              B0 signed 0 committed 0 peer 0 balance 0/1000000000 live 0 ready\n",
         ),
+        // a change of the fee is sent again
+        (
+            "ready 0 A B 1000000 0 1x1x0\nfee A0 300\nsign A0\ndown B0\ndown A0\nup 0\ndeliver B0\n\
+             deliver A0\ndeliver B0\ndeliver B0\ndeliver B0\ndeliver A0\ndeliver A0\nsign B0\n\
+             deliver A0\ndeliver B0\n",
+            "0 open\nA0 sends channel_ready\nB0 sends channel_ready\nA0 sends fee 300\n\
+             A0 sends sign 1\nA0 sends reestablish 1 0\nB0 sends reestablish 1 0\n\
+             B0 sends channel_ready\nA0 sends channel_ready\nA0 sends fee 300\nA0 sends sign 1\n\
+             B0 sends revoke 0\nB0 sends sign 1\nA0 sends revoke 0\n\
+             A0 signed 1 committed 1 peer 0 balance 1000000000/0 live 0 ready\n\
+             B0 signed 0 committed 0 peer 1 balance 0/1000000000 live 0 ready\n",
+        ),
+        // ten connections in a row, of which the last one serves
+        (
+            "ready 0 A B 1000000 0 1x1x0\nadd A0 5000 400 7\nsign A0\ndown A0\ndown B0\nup 0\n\
+             down B0\ndown A0\nup 0\ndown A0\ndown B0\nup 0\ndown B0\ndown A0\nup 0\ndown A0\n\
+             down B0\nup 0\ndown B0\ndown A0\nup 0\ndown A0\ndown B0\nup 0\ndown B0\ndown A0\n\
+             up 0\ndown A0\ndown B0\nup 0\ndown B0\ndown A0\nup 0\ndeliver A0\ndeliver B0\n\
+             deliver B0\ndeliver B0\ndeliver B0\ndeliver A0\ndeliver A0\n",
+            "0 open\nA0 sends channel_ready\nB0 sends channel_ready\nA0 sends add 0\n\
+             A0 sends sign 1\nA0 sends reestablish 1 0\nB0 sends reestablish 1 0\n\
+             A0 sends reestablish 1 0\nB0 sends reestablish 1 0\nA0 sends reestablish 1 0\n\
+             B0 sends reestablish 1 0\nA0 sends reestablish 1 0\nB0 sends reestablish 1 0\n\
+             A0 sends reestablish 1 0\nB0 sends reestablish 1 0\nA0 sends reestablish 1 0\n\
+             B0 sends reestablish 1 0\nA0 sends reestablish 1 0\nB0 sends reestablish 1 0\n\
+             A0 sends reestablish 1 0\nB0 sends reestablish 1 0\nA0 sends reestablish 1 0\n\
+             B0 sends reestablish 1 0\nA0 sends reestablish 1 0\nB0 sends reestablish 1 0\n\
+             A0 sends channel_ready\nA0 sends add 0\nA0 sends sign 1\nB0 sends channel_ready\n\
+             B0 sends revoke 0\nA0 signed 1 committed 0 peer 0 balance 1000000000/0 live 0 ready\n\
+             B0 signed 0 committed 0 peer 0 balance 0/999995000 live 1 ready\n",
+        ),
+        // both pay, and the connection is lost at each place of both ways
+        (
+            "ready 0 A B 1000000 100000000 1x1x0\nadd A0 5000 400 7\nadd B0 4000 401 8\nsign A0\n\
+             sign B0\ndown A0\ndown B0\nup 0\ndeliver A0\ndeliver B0\ndown B0\ndown A0\nup 0\n\
+             deliver B0\ndeliver A0\ndeliver B0\ndeliver A0\ndeliver B0\ndeliver A0\ndown A0\n\
+             down B0\nup 0\ndeliver A0\ndeliver B0\ndeliver A0\ndeliver B0\ndeliver A0\n\
+             deliver B0\ndeliver A0\ndeliver B0\ndown B0\ndown A0\nup 0\ndeliver B0\ndeliver A0\n\
+             deliver B0\ndeliver A0\nsign A0\nsign B0\ndown A0\ndown B0\nup 0\ndeliver A0\n\
+             deliver B0\ndown B0\ndown A0\nup 0\ndeliver B0\ndeliver A0\ndeliver B0\ndeliver A0\n\
+             down A0\ndown B0\nup 0\ndeliver A0\ndeliver B0\ndeliver A0\ndeliver B0\n\
+             fulfil A0 0 8\nfulfil B0 0 7\nsign A0\nsign B0\ndown B0\ndown A0\nup 0\ndeliver B0\n\
+             deliver A0\ndown A0\ndown B0\nup 0\ndeliver A0\ndeliver B0\ndeliver A0\ndeliver B0\n\
+             deliver A0\ndeliver B0\ndown B0\ndown A0\nup 0\ndeliver B0\ndeliver A0\ndeliver B0\n\
+             deliver A0\nsign A0\nsign B0\ndown A0\ndown B0\nup 0\ndeliver A0\ndeliver B0\n\
+             down B0\ndown A0\nup 0\ndeliver B0\ndeliver A0\ndeliver B0\ndeliver A0\ndown A0\n\
+             down B0\nup 0\ndeliver A0\ndeliver B0\ndeliver A0\ndeliver B0\n",
+            "0 open\nA0 sends channel_ready\nB0 sends channel_ready\nA0 sends add 0\n\
+             B0 sends add 0\nA0 sends sign 1\nB0 sends sign 1\nA0 sends reestablish 1 0\n\
+             B0 sends reestablish 1 0\nA0 sends channel_ready\nA0 sends add 0\nA0 sends sign 1\n\
+             B0 sends channel_ready\nB0 sends add 0\nB0 sends sign 1\nA0 sends reestablish 1 0\n\
+             B0 sends reestablish 1 0\nB0 sends channel_ready\nB0 sends add 0\nB0 sends sign 1\n\
+             A0 sends channel_ready\nA0 sends add 0\nA0 sends sign 1\nA0 sends reestablish 1 0\n\
+             B0 sends reestablish 1 0\nA0 sends channel_ready\nA0 sends add 0\nA0 sends sign 1\n\
+             B0 sends channel_ready\nB0 sends add 0\nB0 sends sign 1\nA0 sends revoke 0\n\
+             B0 sends revoke 0\nA0 sends reestablish 2 0\nB0 sends reestablish 2 0\n\
+             B0 sends revoke 0\nA0 sends revoke 0\nA0 sends sign 2\nB0 sends sign 2\n\
+             A0 sends reestablish 2 1\nB0 sends reestablish 2 1\nA0 sends sign 2\nB0 sends sign 2\n\
+             A0 sends reestablish 2 1\nB0 sends reestablish 2 1\nB0 sends sign 2\nA0 sends sign 2\n\
+             B0 sends revoke 1\nB0 event 0 added own 0\nA0 sends revoke 1\nA0 event 0 added own 0\n\
+             A0 sends reestablish 3 1\nB0 sends reestablish 3 1\nA0 sends revoke 1\n\
+             B0 sends revoke 1\nA0 event 1 added peer 0\nB0 event 1 added peer 0\n\
+             A0 sends fulfil 0\nB0 sends fulfil 0\nA0 sends sign 3\nB0 sends sign 3\n\
+             A0 sends reestablish 3 2\nB0 sends reestablish 3 2\nB0 sends fulfil 0\n\
+             B0 sends sign 3\nA0 sends fulfil 0\nA0 sends sign 3\nA0 sends reestablish 3 2\n\
+             B0 sends reestablish 3 2\nA0 sends fulfil 0\nA0 sends sign 3\nB0 sends fulfil 0\n\
+             B0 sends sign 3\nA0 sends revoke 2\nB0 sends revoke 2\nA0 sends reestablish 4 2\n\
+             B0 sends reestablish 4 2\nB0 sends revoke 2\nA0 sends revoke 2\nA0 sends sign 4\n\
+             B0 sends sign 4\nA0 sends reestablish 4 3\nB0 sends reestablish 4 3\nA0 sends sign 4\n\
+             B0 sends sign 4\nA0 sends reestablish 4 3\nB0 sends reestablish 4 3\nB0 sends sign 4\n\
+             A0 sends sign 4\nB0 sends revoke 3\nB0 event 2 settled peer 0 fulfilled\n\
+             A0 sends revoke 3\nA0 event 2 settled peer 0 fulfilled\nA0 sends reestablish 5 3\n\
+             B0 sends reestablish 5 3\nA0 sends revoke 3\nB0 sends revoke 3\n\
+             A0 event 3 settled own 0 fulfilled\nB0 event 3 settled own 0 fulfilled\n\
+             A0 signed 2 committed 2 peer 2 balance 899999000/100001000 live 0 ready\n\
+             B0 signed 2 committed 2 peer 2 balance 100001000/899999000 live 0 ready\n",
+        ),
     ];
     assert_eq!(rt; otherwise(rt.alloc(), &rows), Ok(0));
 }
@@ -387,7 +483,7 @@ fn breaks(rt: HostRuntime) {
 // Connections that are lost behind a shutdown.
 #[test]
 fn breaks_of_a_close(rt: HostRuntime) {
-    let rows: [Row; 3] = [
+    let rows: [Row; 4] = [
         // a shutdown over a break
         (
             "ready 0 A B 1000000 0 1x1x0\nshutdown B0\ndown A0\ndown B0\nup 0\ndeliver A0\n\
@@ -432,6 +528,19 @@ fn breaks_of_a_close(rt: HostRuntime) {
              B0 sends closing 300\n\
              A0 signed 0 committed 0 peer 0 balance 1000000000/0 live 0 closed 300\n\
              B0 signed 0 committed 0 peer 0 balance 0/1000000000 live 0 closed 300\n",
+        ),
+        // a shutdown is owed for an add that no signature covers, and the break cuts it
+        (
+            "ready 0 A B 1000000 100000000 1x1x0\nadd B0 5000 400 7\nshutdown A0\ndeliver B0\n\
+             shutdown B0\ndown A0\ndown B0\nup 0\ndeliver B0\ndeliver A0\ndeliver B0\ndeliver B0\n\
+             deliver A0\ndeliver A0\ndeliver B0\ndeliver A0\n",
+            "0 open\nA0 sends channel_ready\nB0 sends channel_ready\nB0 sends add 0\n\
+             A0 sends shutdown\nB0 refused 45\nA0 sends reestablish 1 0\nB0 sends reestablish 1 0\n\
+             B0 sends channel_ready\nB0 sends shutdown\nA0 sends channel_ready\nA0 sends shutdown\n\
+             A0 sends closing 300\nB0 sends closing 300\nB0 event 0 closed 300\n\
+             A0 event 0 closed 300\n\
+             A0 signed 0 committed 0 peer 0 balance 900000000/100000000 live 0 closed 300\n\
+             B0 signed 0 committed 0 peer 0 balance 100000000/900000000 live 0 closed 300\n",
         ),
     ];
     assert_eq!(rt; otherwise(rt.alloc(), &rows), Ok(0));

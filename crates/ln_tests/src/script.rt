@@ -1,17 +1,10 @@
 //! Scripts: their reports, which line is the first bad one, and writers that fail.
 
+use crate::pings::Narrow;
+use crate::rows::is_told;
 use ln_msgs::{Counted, Refusal, decode};
-use ln_script::{first_bad_line, message_text, print_all, print_report, read_script};
+use ln_script::{first_bad_line, message_text, print_all, read_script};
 use std::alloc::Global;
-use std::io;
-use std::io::{ErrorKind, Write};
-
-/// The report of a script is this text.
-fn is_told(alloc: Global, script: &str, text: &str) -> Result<bool, Refusal> {
-    let mut writer = Counted::new(Vec::new(alloc));
-    print_report(alloc, read_script(alloc, script)?, &mut writer)?;
-    Ok(writer.get_ref().as_slice() == text.as_bytes())
-}
 
 #[test]
 fn reports(rt: HostRuntime) {
@@ -125,39 +118,9 @@ fn small_script(rt: HostRuntime) -> Result<(), Refusal> {
     Ok(())
 }
 
-/// A writer that takes so many calls, of one byte each, and then fails.
-#[derive(Drop)]
-struct Narrow {
-    bytes: Vec<u8>,
-    calls_left: u64,
-}
-
-impl Write for Narrow {
-    fn write(&mut self, bytes: &[u8]) -> io::Result<usize> {
-        if self.calls_left == 0 {
-            return Err(io::Error::from(ErrorKind::BrokenPipe));
-        }
-        self.calls_left -= 1;
-        let count = bytes.len().min(1);
-        self.bytes.extend_from_slice(&bytes[..count])?;
-        Ok(count)
-    }
-
-    fn flush(&mut self) -> io::Result<()> {
-        if self.calls_left == 0 {
-            return Err(io::Error::from(ErrorKind::BrokenPipe));
-        }
-        self.calls_left -= 1;
-        Ok(())
-    }
-}
-
 /// What becomes of a text at a writer that fails after so many calls, and how much of it is written.
 fn cut_short(alloc: Global, text: &str, calls_left: u64) -> (Result<(), Refusal>, usize) {
-    let mut writer = Counted::new(Narrow {
-        bytes: Vec::new(alloc),
-        calls_left,
-    });
+    let mut writer = Counted::new(Narrow::new(alloc, 1, calls_left));
     let result = print_all(&mut writer, text);
     (result, writer.get_ref().bytes.len())
 }

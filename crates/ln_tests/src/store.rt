@@ -121,3 +121,21 @@ fn records_where_a_save_fails(rt: HostRuntime) {
         assert_eq!(rt; listed(alloc, &mut store), 78);
     }
 }
+
+/// What is found of a record that was saved, and how many ids there are.
+fn found(alloc: Global) -> Result<(Option<Bytes>, usize), Refusal> {
+    let mut store = MemoryStore::new(alloc);
+    store.save(alloc, &[7; 32], b"old")?;
+    store.save(alloc, &[7; 32], b"new")?;
+    let found = store.load(alloc, &[7; 32])?;
+    let ids = store.ids(alloc)?;
+    Ok((found, ids.len()))
+}
+
+#[test]
+fn small_store(rt: HostRuntime) -> Result<(), Refusal> {
+    let (found, count) = found(rt.alloc())?;
+    assert!(rt; found.is_some_and(|record| record.as_slice() == b"new".as_slice()));
+    assert_eq!(rt; count, 1);
+    Ok(())
+}

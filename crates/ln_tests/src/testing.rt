@@ -6,6 +6,7 @@ use hex::FromHex;
 use ln_dance::{Dance, Later, Numbers, Peer};
 use ln_keys::{ChannelKeys, Role, ToyKeys, sha256_32};
 use ln_log::{Add, Limits, Opening, UpdateLog};
+use ln_msgs::{Incoming, Message, Refusal, decode};
 use std::alloc::Global;
 
 /// Keys of the funder, and of the fundee: each one's tag is the other's peer's.
@@ -98,4 +99,17 @@ pub fn side(alloc: Global, role: Role, peer: &ToyKeys, past: u64) -> Dance {
     };
     let updates = UpdateLog::new(alloc, role, OPENING);
     Dance::new(CHANNEL, updates, numbers, told, Later::Signature)
+}
+
+/// The message of this type whose bytes behind the type are these, each so many times.
+pub fn message_of(alloc: Global, typ: u16, runs: &[(usize, u8)]) -> Result<Message, Refusal> {
+    let mut bytes = Vec::from_slice(alloc, &typ.to_be_bytes())?;
+    for (count, byte) in runs {
+        let len = bytes.len().saturating_add(*count);
+        bytes.resize(len, *byte)?;
+    }
+    match decode(alloc, &bytes) {
+        Ok(Incoming::Known(message)) => Ok(message),
+        _ => Err(Refusal::OutOfPlace),
+    }
 }

@@ -187,6 +187,17 @@ fn fields_by_name_and_place(rt: HostRuntime) -> Result<(), Fail> {
     Ok(())
 }
 
+#[test]
+fn small_fields(rt: HostRuntime) -> Result<(), Refusal> {
+    let (typ, fixed, tail, names) = ROWS[14];
+    let bytes = bytes_of(rt.alloc(), typ, fixed, tail)?;
+    let Incoming::Known(message) = decode(rt.alloc(), &bytes)? else {
+        return Err(Refusal::OutOfPlace);
+    };
+    assert!(rt; are_fields(rt.alloc(), &message, names, &bytes[2..])?);
+    Ok(())
+}
+
 // The texts of all refusals but the two that carry a number.
 const TEXTS: [(Refusal, &str); 41] = [
     (Refusal::Truncated, "refused 1"),
