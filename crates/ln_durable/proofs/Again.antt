@@ -1,6 +1,6 @@
 -- What readable items tell, and what is read again of an end's record.
-use Rattle.std.proofs.Common.{◌≡◌, ◌∙◌, ◌⊎◌, ◌<◌, ◌≤◌, ◌^◌, ℕ, refl, sym, ap, subst, arith, inl, inr, true, false, Bool}
-use Rattle.std.proofs.Common.{◌==◌, ◌+◌, ◌&&◌, ◌||◌, not, nat_lt, nat_le}
+use Rattle.std.proofs.Common.{◌≡◌, ◌∙◌, ◌⊎◌, ◌<◌, ◌≤◌, ◌^◌, ℕ, refl, sym, ap, subst, arith, inl, inr, true, Bool}
+use Rattle.std.proofs.Common.{◌==◌, ◌+◌, ◌||◌, not}
 use Rattle.std.proofs.lemmas.Bool.{and_parts, or_cases, eq-eqb, eqb-true, leb-true, ltb-true}
 use Rattle.std.proofs.Common.{◌%◌, ◌++◌, List, [], drop, append_assoc, mod-eq_of_lt}
 use Rattle.std.specs.Coded.{le_prop}
@@ -14,7 +14,6 @@ use Rattle.ln_dance.specs.declared.dance.Numbers.{Numbers}
 use Rattle.ln_dance.specs.Dance.{AreInStep}
 use Rattle.ln_store.specs.declared.record.Items.{Items}
 use Rattle.ln_store.specs.declared.record.Updates.{Updates}
-use Rattle.ln_store.specs.declared.record.Pairs.{Pairs}
 use Rattle.ln_store.specs.Items as it
 use Rattle.ln_store.specs.Readable.{is_readable, is_sound, is_open_payload, is_accept_payload, are_in_step}
 use Rattle.ln_store.specs.Readable.{are_settled, cover_the_same}

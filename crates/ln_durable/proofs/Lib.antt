@@ -2,3 +2,5 @@ pub mod Recorded
 pub mod Refusing
 pub mod Again
 pub mod Loaded
+pub mod Coverage
+pub mod Restarted

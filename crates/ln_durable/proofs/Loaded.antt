@@ -15,30 +15,28 @@ use Rattle.ln_log.specs.declared.log.Counts.{Counts}
 use Rattle.ln_log.specs.declared.opening.Opening.{Opening}
 use Rattle.ln_log.specs.Loading.{IsReadable}
 use Rattle.ln_log.specs.Log.{Log, none, after_drop}
-use Rattle.ln_link.specs.declared.channel.Marks.{Marks}
 use Rattle.ln_link.specs.declared.ledger.EventRef as link
 use Rattle.ln_link.specs.declared.ledger.EventRef.TheVariants as link_ref
 use Rattle.ln_link.specs.declared.opening.Terms.{Terms}
 use Rattle.ln_link.specs.Opening.{opening_of}
-use Rattle.ln_link.specs.Ledger.{Ledger}
 use Rattle.ln_link.specs.End.{End, end_dropped}
 use Rattle.ln_link.specs.Parts.{end_with}
-use Rattle.ln_durable.specs.Record.{payload_of, place_of, agreement_of, event_of, events_of, updates_of, base_of}
-use Rattle.ln_durable.specs.Record.{header_of, progress_of, items_of, commitments_of, fees_of, flags_of}
-use Rattle.ln_durable.specs.Loading.{open_of, accept_of, said, open_in, accept_in, terms_of, short_id_of, marks_of}
-use Rattle.ln_durable.specs.Loading.{event_in, ledger_of, log_of, log_in, dance_of, closing_of, end_of, IsSaid}
+use Rattle.ln_durable.specs.Record.{payload_of, place_of, agreement_of, event_of, updates_of, base_of}
+use Rattle.ln_durable.specs.Record.{header_of, progress_of, items_of, commitments_of}
+use Rattle.ln_durable.specs.Loading.{open_of, accept_of, said, open_in, accept_in, terms_of, short_id_of}
+use Rattle.ln_durable.specs.Loading.{event_in, log_of, log_in, dance_of, end_of, IsSaid}
 use Rattle.ln_durable.specs.Loading.{IsLoadable, HasRecord}
 use Rattle.ln_durable.proofs.Again.{id_again}
 
 -- ---- the opening
 
 open_again : (m : OpenChannel) → IsSaid (open_wire m) → open_in (payload_of (open_wire m)) ≡ m
-unfolding open_in payload_of
+unfolding open_in payload_of IsSaid
 open_again m s =
     ap (λ (r : Result Heard Fault). open_of (said r)) (message_again (wire_bytes (open_wire m)) (Known (open_wire m)) s)
 
 accept_again : (m : AcceptChannel) → IsSaid (accept_wire m) → accept_in (payload_of (accept_wire m)) ≡ m
-unfolding accept_in payload_of
+unfolding accept_in payload_of IsSaid
 accept_again m s =
     ap (λ (r : Result Heard Fault). accept_of (said r))
     (message_again (wire_bytes (accept_wire m)) (Known (accept_wire m)) s)

@@ -58,10 +58,14 @@ abbrev pub Saves : Option Refusal → Option End → Result (Unit {0}) Refusal �
 Saves failure o (Ok u) before behind = behind ≡ with_records (stored_end failure o before.records) before
 Saves failure o (Err e) before behind = IsUnsaved e failure o before behind
 
+-- the link halts, as what was done, or the failure of its channel, couldn't be saved
+abbrev pub HaltsUnsaved : {K : Type 0} → Refusal → State K → State K → Shelf → Shelf → Type 0
+HaltsUnsaved e l new before behind = (new ≡ halts l) × IsUnsaved e l.failure (saved_end l.stage) before behind
+
 -- what is saved, or else the link halts
 abbrev pub Keeps : {K : Type 0} → Result (Unit {0}) Refusal → State K → State K → Shelf → Shelf → Type 0
 Keeps (Ok u) old new before behind = (new ≡ old) × (behind ≡ saved old.failure old.stage before)
-Keeps (Err e) old new before behind = (new ≡ halts old) × IsUnsaved e old.failure (saved_end old.stage) before behind
+Keeps (Err e) old new before behind = HaltsUnsaved e old new before behind
 
 -- it has failed, and hasn't halted
 abbrev pub is_failing : {K : Type 0} → State K → Bool
@@ -71,18 +75,13 @@ is_failing l = not l.halted && not (is_none l.failure)
 abbrev pub Refuses : {K : Type 0} → Bool → Refusal → Refusal → State K → State K → Shelf → Shelf → Type 0
 Refuses false r e old new before behind = (e ≡ r) × (new ≡ old) × (behind ≡ before)
 Refuses true r e old new before behind =
-    ((e ≡ r) × (new ≡ old) × (behind ≡ saved old.failure old.stage before))
-    ⊎ ((new ≡ halts old) × IsUnsaved e old.failure (saved_end old.stage) before behind)
+    ((e ≡ r) × (new ≡ old) × (behind ≡ saved old.failure old.stage before)) ⊎ HaltsUnsaved e old new before behind
 
 -- ---- answers
 
 -- the link that a call comes to
 abbrev pub reached : {K : Type 0} → Done → State K → State K
 reached d l = record l { line = d.line; stage = d.stage }
-
--- what was done, or the failure of the channel, could not be saved
-abbrev pub HaltsUnsaved : {K : Type 0} → Refusal → State K → State K → Shelf → Shelf → Type 0
-HaltsUnsaved e l new before behind = (new ≡ halts l) × IsUnsaved e l.failure (saved_end l.stage) before behind
 
 -- outputs are handed out where the link that they come from is saved
 abbrev pub HandsOut : {K V : Type 0} → (V → List Output) → Result Done Refusal → State K → V → State K → Shelf → Shelf

@@ -1,6 +1,6 @@
 -- What a record tells of an end of a channel: the end as a lost connection leaves it (BOLT 2, "Message
 -- Retransmission"), and by what its channel has failed.
-use Rattle.std.specs.Prelude.{◌≡◌, ◌⊎◌, ◌<◌, ◌^◌, ◌%◌, ℕ, List, [], ◌∷◌, take, drop, map, slice_get, Option, Some, None}
+use Rattle.std.specs.Prelude.{◌≡◌, ◌⊎◌, ◌<◌, ◌^◌, ◌%◌, ℕ, List, [], ◌∷◌, drop, map, slice_get, Option, Some, None}
 use Rattle.std.specs.Prelude.{option_map, is_some, IfSome, true, Result, Ok, Err}
 use Rattle.std.proofs.Common.{mod-lt, lit≤}
 use Rattle.std.proofs.Math.Nat.{one-le-pow}
@@ -252,7 +252,7 @@ Loads keys read (Err e) = (e ≡ refusal.Memory) ⊎ IsFault e read
 -- ---- what is saved
 
 -- the bytes of a message say it
-abbrev pub IsSaid : Wire → Type 0
+unfoldable pub IsSaid : Wire → Type 0
 IsSaid w = Says (Known w) (wire_bytes w)
 
 -- An end that has a record: its parts fit together, the messages of its opening can be written, its first updates are

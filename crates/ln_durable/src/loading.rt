@@ -1,6 +1,7 @@
 //! A link from the bytes of its record.
 
-ghost use Rattle.std.specs.Prelude.{◌≡◌, ◌∷◌, ◌≤◌, ◌⊎◌, ◌↔◌, map, IsTrue, IfOk, IfErr, true, is_some};
+ghost use Rattle.std.specs.Prelude.{◌≡◌, ◌∷◌, ◌≤◌, ◌⊎◌, ◌↔◌, map, IsTrue, IfOk, IfErr, Ok, true};
+ghost use Rattle.std.specs.Prelude.{is_some};
 ghost use Rattle.ln_msgs.specs.declared.refusals.refusal.Refusal.TheVariants as refusal;
 ghost use Rattle.ln_msgs.specs.Messages.Message.{message_at};
 ghost use Rattle.ln_msgs.specs.Messages.Typed.{heard};
@@ -12,7 +13,8 @@ ghost use Rattle.ln_close.specs.Closing.{AreOrdered};
 ghost use Rattle.ln_link.specs.Opening.{opening_of};
 ghost use Rattle.ln_link.specs.declared.ledger.TheConstants.{MOST_DECIDED};
 ghost use Rattle.ln_store.specs.Readable.{is_readable, is_open_payload, is_accept_payload};
-ghost use Rattle.ln_store.specs.Record.{record_at};
+ghost use Rattle.ln_store.specs.Record.{record_at, record_bytes};
+ghost use Rattle.ln_store.specs.declared.record.Items.{Items};
 ghost use Rattle.ln_durable.specs.Record.{base_of, no_sides, no_forwards};
 ghost use Rattle.ln_durable.specs.Loading.{open_in, accept_in, terms_of, marks_of, closing_of, own_in, received_in};
 ghost use Rattle.ln_durable.specs.Loading.{counts_in, coverage_in, log_of, dance_of, event_in, ledger_of, end_of};
@@ -53,8 +55,9 @@ fn open_in(alloc: Global, payload: &[u8]) -> Result<OpenChannel, Refusal>
 {
     match said_by(alloc, 32, payload) {
         Ok(Incoming::Known(Message::OpenChannel(open))) => Ok(open),
-        // (the payload is readable: memory alone can be missing)
-        _ => Err(Refusal::Memory),
+        Err(Fault::Memory) => Err(Refusal::Memory),
+        // (the payload is readable: it has no other fault, and says no other message)
+        _ => unreachable!(),
     }
 }
 
@@ -66,8 +69,9 @@ fn accept_in(alloc: Global, payload: &[u8]) -> Result<AcceptChannel, Refusal>
 {
     match said_by(alloc, 33, payload) {
         Ok(Incoming::Known(Message::AcceptChannel(accept))) => Ok(accept),
-        // (the payload is readable: memory alone can be missing)
-        _ => Err(Refusal::Memory),
+        Err(Fault::Memory) => Err(Refusal::Memory),
+        // (the payload is readable: it has no other fault, and says no other message)
+        _ => unreachable!(),
     }
 }
 
@@ -337,7 +341,12 @@ pub fn from_record<K: ChannelKeys + Drop>(
     keys: K,
     bytes: &[u8],
 ) -> Result<Link<K>, Refusal>
-    ensures { Loads keys (record_at bytes.now) result }
+    // The link, or the first fault.
+    ensures loads_as_defined { Loads keys (record_at bytes.now) result }
+
+    // What is written of readable items is loaded as they tell.
+    ensures loads_each_record { (i : Items) → is_readable i ≡ true → bytes.now ≡ record_bytes i
+        → Loads keys (Ok i) result }
 {
     let record = decode_record(alloc, bytes)?;
     let items = record.into_items();

@@ -1,19 +1,22 @@
 //! The messages of an opening, without their types.
 
-ghost use Rattle.std.specs.Prelude.{◌≡◌, ◌⊎◌, drop, IfOk, IfErr};
+ghost use Rattle.std.specs.Prelude.{◌≡◌, ◌⊎◌, drop, IfOk, IfErr, OnOk};
 ghost use Rattle.ln_msgs.specs.declared.refusals.refusal.Refusal.TheVariants as refusal;
+ghost use Rattle.ln_msgs.specs.Messages.Message.{wire_bytes};
 ghost use Rattle.ln_msgs.specs.Messages.Typed.{wire, open_wire, accept_wire};
 ghost use Rattle.ln_durable.specs.Record.{payload_of, IsUnwritable};
+ghost use Rattle.ln_durable.specs.Loading.{IsSaid};
 
 use crate::copy::copy_records;
 use ln_bytes::{Bytes, Fault};
 use ln_msgs::{AcceptChannel, Message, OpenChannel, Refusal, encode, fits};
 use std::alloc::Global;
 
-// What is behind a message's type; 70 where the message can't be written.
-#[tactic(auto, unfolding(crate::specs::Record::payload_of))]
-fn payload(alloc: Global, message: &Message) -> Result<Bytes, Refusal>
-    ensures payload { IfOk result (λ b. b ≡ payload_of (wire message.now)) }
+// The message's bytes, which say it; 70 where it can't be written.
+#[tactic(auto, unfolding(crate::specs::Loading::IsSaid))]
+fn bytes_of(alloc: Global, message: &Message) -> Result<Vec<u8>, Refusal>
+    ensures bytes { IfOk result (λ v. v.items ≡ wire_bytes (wire message.now)) }
+    ensures can_be_read { OnOk result (IsSaid (wire message.now)) }
     ensures fails { IfErr result (λ r. (r ≡ refusal.Memory)
         ⊎ ((r ≡ refusal.Damaged) × IsUnwritable (wire message.now))) }
 {
@@ -21,10 +24,22 @@ fn payload(alloc: Global, message: &Message) -> Result<Bytes, Refusal>
         return Err(Refusal::Damaged);
     }
     match encode(alloc, message) {
-        Ok(bytes) => behind_type(alloc, bytes.as_slice()),
+        Ok(bytes) => Ok(bytes),
         Err(Fault::TooLong) => Err(Refusal::Damaged),
         Err(_) => Err(Refusal::Memory),
     }
+}
+
+// What is behind a message's type; 70 where the message can't be written.
+#[tactic(auto, unfolding(crate::specs::Record::payload_of))]
+fn payload(alloc: Global, message: &Message) -> Result<Bytes, Refusal>
+    ensures payload { IfOk result (λ b. b ≡ payload_of (wire message.now)) }
+    ensures can_be_read { OnOk result (IsSaid (wire message.now)) }
+    ensures fails { IfErr result (λ r. (r ≡ refusal.Memory)
+        ⊎ ((r ≡ refusal.Damaged) × IsUnwritable (wire message.now))) }
+{
+    let bytes = bytes_of(alloc, message)?;
+    behind_type(alloc, bytes.as_slice())
 }
 
 // All but the first 2 bytes.
@@ -92,34 +107,38 @@ fn copy_accept(alloc: Global, message: &AcceptChannel) -> Result<AcceptChannel, 
 
 fn payload_of_open(alloc: Global, message: OpenChannel) -> Result<Bytes, Refusal>
     ensures payload { IfOk result (λ b. b ≡ payload_of (open_wire message)) }
+    ensures can_be_read { OnOk result (IsSaid (open_wire message)) }
     ensures fails { IfErr result (λ r. (r ≡ refusal.Memory)
         ⊎ ((r ≡ refusal.Damaged) × IsUnwritable (open_wire message))) }
 {
     payload(alloc, &Message::OpenChannel(message))
 }
 
-fn payload_of_accept(alloc: Global, accept: AcceptChannel) -> Result<Bytes, Refusal>
-    ensures payload { IfOk result (λ b. b ≡ payload_of (accept_wire accept)) }
+fn payload_of_accept(alloc: Global, message: AcceptChannel) -> Result<Bytes, Refusal>
+    ensures payload { IfOk result (λ b. b ≡ payload_of (accept_wire message)) }
+    ensures can_be_read { OnOk result (IsSaid (accept_wire message)) }
     ensures fails { IfErr result (λ r. (r ≡ refusal.Memory)
-        ⊎ ((r ≡ refusal.Damaged) × IsUnwritable (accept_wire accept))) }
+        ⊎ ((r ≡ refusal.Damaged) × IsUnwritable (accept_wire message))) }
 {
-    payload(alloc, &Message::AcceptChannel(accept))
+    payload(alloc, &Message::AcceptChannel(message))
 }
 
 /// The `open_channel` without its type; 70 where it can't be written.
-pub(crate) fn open_payload(alloc: Global, open: &OpenChannel) -> Result<Bytes, Refusal>
-    ensures payload { IfOk result (λ b. b ≡ payload_of (open_wire open.now)) }
+pub(crate) fn open_payload(alloc: Global, message: &OpenChannel) -> Result<Bytes, Refusal>
+    ensures payload { IfOk result (λ b. b ≡ payload_of (open_wire message.now)) }
+    ensures can_be_read { OnOk result (IsSaid (open_wire message.now)) }
     ensures fails { IfErr result (λ r. (r ≡ refusal.Memory)
-        ⊎ ((r ≡ refusal.Damaged) × IsUnwritable (open_wire open.now))) }
+        ⊎ ((r ≡ refusal.Damaged) × IsUnwritable (open_wire message.now))) }
 {
-    payload_of_open(alloc, copy_open(alloc, open)?)
+    payload_of_open(alloc, copy_open(alloc, message)?)
 }
 
 /// The `accept_channel` without its type; 70 where it can't be written.
-pub(crate) fn accept_payload(alloc: Global, accept: &AcceptChannel) -> Result<Bytes, Refusal>
-    ensures payload { IfOk result (λ b. b ≡ payload_of (accept_wire accept.now)) }
+pub(crate) fn accept_payload(alloc: Global, message: &AcceptChannel) -> Result<Bytes, Refusal>
+    ensures payload { IfOk result (λ b. b ≡ payload_of (accept_wire message.now)) }
+    ensures can_be_read { OnOk result (IsSaid (accept_wire message.now)) }
     ensures fails { IfErr result (λ r. (r ≡ refusal.Memory)
-        ⊎ ((r ≡ refusal.Damaged) × IsUnwritable (accept_wire accept.now))) }
+        ⊎ ((r ≡ refusal.Damaged) × IsUnwritable (accept_wire message.now))) }
 {
-    payload_of_accept(alloc, copy_accept(alloc, accept)?)
+    payload_of_accept(alloc, copy_accept(alloc, message)?)
 }

@@ -1,14 +1,18 @@
 //! The record of an end of a channel.
 
-ghost use Rattle.std.specs.Prelude.{◌≡◌, ◌≤◌, ◌<◌, ◌⊎◌, IfOk, IfErr, length, take, option_map};
+ghost use Rattle.std.specs.Prelude.{◌≡◌, ◌≤◌, ◌<◌, ◌^◌, ◌⊎◌, IfOk, IfErr, IfSome, OnOk, length, take, option_map, true};
 ghost use Rattle.ln_msgs.specs.declared.refusals.refusal.Refusal.TheVariants as refusal;
-ghost use Rattle.ln_log.specs.Log.{after_drop, first_of, updates_of as sent_by};
+ghost use Rattle.ln_msgs.specs.Messages.Typed.{open_wire, accept_wire};
+ghost use Rattle.ln_log.specs.Log.{none, after_drop, first_of, updates_of as sent_by};
+ghost use Rattle.ln_log.specs.Loading.{IsReadable};
 ghost use Rattle.ln_log.specs.Opening.{HasFunds};
 ghost use Rattle.ln_link.specs.Opening.{opening_of};
 ghost use Rattle.ln_durable.specs.Record.{flags_of, header_of, place_of, agreement_of, base_of, window_of, covered_of};
 ghost use Rattle.ln_durable.specs.Record.{pairs_of, updates_of, events_of};
 ghost use Rattle.ln_durable.specs.Record.{fees_of, progress_of, commitments_of, items_of};
 ghost use Rattle.ln_durable.specs.Record.{HasNoAgreement, HasNoUpdates, NoRecord};
+ghost use Rattle.ln_durable.specs.Loading.{IsSaid, HasRecord};
+ghost use Rattle.ln_store.specs.Readable.{is_readable};
 
 use crate::copy::{copy_bytes, copy_events, copy_updates};
 use crate::payload::{accept_payload, open_payload};
@@ -52,7 +56,8 @@ fn header_of(failure: Option<Refusal>, channel: &Channel) -> Header
 }
 
 fn place_of(id: Option<ShortId>) -> Option<ChainPlace>
-    ensures { result ≡ option_map place_of id }
+    ensures place { result ≡ option_map place_of id }
+    ensures output_fits_16_bits { IfSome id (λ id. id.output < 2 ^ 16) }
 {
     match id {
         None => None,
@@ -73,6 +78,9 @@ fn copy_script(alloc: Global, script: &Option<Bytes>) -> Result<Option<Bytes>, R
 #[tactic(auto, unfolding(crate::specs::Record::agreement_of, crate::specs::Record::HasNoAgreement))]
 fn agreement_of(alloc: Global, channel: &Channel) -> Result<Agreement, Refusal>
     ensures agreement { IfOk result (λ a. a ≡ agreement_of channel.now) }
+    ensures open_can_be_read { OnOk result (IsSaid (open_wire channel.now.terms.open_channel)) }
+    ensures accept_can_be_read { OnOk result (IsSaid (accept_wire channel.now.terms.accept_channel)) }
+    ensures output_fits_16_bits { OnOk result (IfSome channel.now.marks.short_id (λ id. id.output < 2 ^ 16)) }
     ensures fails { IfErr result (λ r. (r ≡ refusal.Memory) ⊎ ((r ≡ refusal.Damaged) × HasNoAgreement channel.now)) }
 {
     let terms = channel.terms();
@@ -159,12 +167,14 @@ fn covered_of(counts: Counts) -> Covered
 }
 
 fn pairs_of(log: &UpdateLog) -> Pairs
-    ensures { result ≡ pairs_of log.now }
+    ensures pairs { result ≡ pairs_of log.now }
+    ensures can_be_loaded { log.now.first ≡ none → IsReadable (after_drop log.now) }
 {
+    let coverage = log.coverage();
     Pairs {
-        signed: covered_of(log.counts(Pair::Signed)),
-        acknowledged: covered_of(log.counts(Pair::Current(Side::Peer))),
-        current: covered_of(log.counts(Pair::Current(Side::Own))),
+        signed: covered_of(coverage.signed),
+        acknowledged: covered_of(coverage.acknowledged),
+        current: covered_of(coverage.current),
     }
 }
 
@@ -178,6 +188,7 @@ fn log_of(channel: &Channel) -> &UpdateLog
 fn first_updates(log: &UpdateLog, side: Side, count: usize) -> Result<&[Update], Refusal>
     requires { count ≤ length (sent_by side log.now) }
     ensures updates { IfOk result (λ us. us.now ≡ take count (sent_by side log.now)) }
+    ensures from_the_first { OnOk result (first_of side log.now ≡ 0) }
     ensures fails { IfErr result (λ r. (r ≡ refusal.Damaged) × (0 < first_of side log.now)) }
 {
     if log.first(side) == 0 {
@@ -189,6 +200,7 @@ fn first_updates(log: &UpdateLog, side: Side, count: usize) -> Result<&[Update],
 
 fn own_updates(alloc: Global, log: &UpdateLog) -> Result<Vec<Update>, Refusal>
     ensures updates { IfOk result (λ us. us.items ≡ (after_drop log.now).own) }
+    ensures from_the_first { OnOk result (log.now.first.own ≡ 0) }
     ensures fails { IfErr result (λ r. (r ≡ refusal.Memory) ⊎ ((r ≡ refusal.Damaged) × (0 < log.now.first.own))) }
 {
     let updates = first_updates(log, Side::Own, log.counts(Pair::Signed).own)?;
@@ -197,6 +209,7 @@ fn own_updates(alloc: Global, log: &UpdateLog) -> Result<Vec<Update>, Refusal>
 
 fn peer_updates(alloc: Global, log: &UpdateLog) -> Result<Vec<Update>, Refusal>
     ensures updates { IfOk result (λ us. us.items ≡ (after_drop log.now).received) }
+    ensures from_the_first { OnOk result (log.now.first.peer ≡ 0) }
     ensures fails { IfErr result (λ r. (r ≡ refusal.Memory) ⊎ ((r ≡ refusal.Damaged) × (0 < log.now.first.peer))) }
 {
     let count = log.counts(Pair::Current(Side::Own)).peer;
@@ -209,6 +222,8 @@ fn peer_updates(alloc: Global, log: &UpdateLog) -> Result<Vec<Update>, Refusal>
 fn updates_of(alloc: Global, channel: &Channel) -> Result<Updates, Refusal>
     ensures updates { IfOk result (λ u. u ≡ updates_of (opening_of channel.now.terms) channel.now.closing.role
         (after_drop channel.now.dance.log)) }
+    ensures from_the_first { OnOk result (channel.now.dance.log.first ≡ none) }
+    ensures can_be_loaded { OnOk result (IsReadable (after_drop channel.now.dance.log)) }
     ensures fails { IfErr result (λ r. (r ≡ refusal.Memory) ⊎ ((r ≡ refusal.Damaged) × HasNoUpdates channel.now)) }
 {
     let log = log_of(channel);
@@ -268,6 +283,8 @@ fn progress_of(alloc: Global, channel: &Channel) -> Result<Progress, Refusal>
 #[tactic(auto, unfolding(crate::specs::Record::items_of))]
 fn items_of(alloc: Global, failure: Option<Refusal>, channel: &Channel) -> Result<Items, Refusal>
     ensures items { IfOk result (λ i. i ≡ items_of failure channel.now) }
+    ensures has_record_if_readable { OnOk result (is_readable (items_of failure channel.now) ≡ true
+        → HasRecord failure channel.now) }
     ensures fails { IfErr result (λ r. (r ≡ refusal.Memory)
         ⊎ ((r ≡ refusal.Damaged) × (HasNoAgreement channel.now ⊎ HasNoUpdates channel.now))) }
 {
@@ -283,8 +300,8 @@ fn items_of(alloc: Global, failure: Option<Refusal>, channel: &Channel) -> Resul
     })
 }
 
-/// The record of an end of a channel that has failed by this, or hasn't: what of it outlives a lost connection. Takes
-/// memory for it.
+/// The record of an end of a channel that has failed by this, or hasn't: what of it outlives a lost connection, which
+/// is what can be loaded of it again. Takes memory for it.
 ///
 /// Errors: 60 where there is no memory; 70 where no record has these items: a message of the opening can't be written,
 /// the first updates aren't had one by one any more, there can be no channel with these funds, or the items aren't
@@ -296,6 +313,7 @@ pub fn to_record(
     channel: &Channel,
 ) -> Result<LinkRecord, Refusal>
     ensures record { IfOk result (λ r. r ≡ items_of failure channel.now) }
+    ensures has_record { IfOk result (λ r. HasRecord failure channel.now) }
     ensures fails { IfErr result (λ r. (r ≡ refusal.Memory) ⊎ ((r ≡ refusal.Damaged) × NoRecord failure channel.now)) }
 {
     let items = items_of(alloc, failure, channel)?;

@@ -1,4 +1,4 @@
-use Rattle.std.proofs.Common.{refl, sym, subst}
+use Rattle.std.proofs.Common.{refl, subst}
 use Rattle.ln_log.specs.Log.{Log}
 use Rattle.ln_dance.specs.Dance.{AreInStep}
 use Rattle.ln_durable.proofs.loading.dance_of.Goals as goal

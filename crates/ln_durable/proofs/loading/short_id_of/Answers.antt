@@ -6,5 +6,5 @@ use Rattle.ln_durable.proofs.loading.short_id_of.Goals as goal
 pub returns : goal.returns
 returns c =
     let id = c.id.result in
-    sym (id_again id.block id.tx id.output id.block_fits id.tx_fits (omega (arith, c.id.type_inv.0, c.id.type_inv.1)))
+    sym (id_again id.block id.tx id.output id.block_fits id.tx_fits (omega (arith, c.id.type_inv.1)))
     ∙ ap short_id_of c.id.ensures
