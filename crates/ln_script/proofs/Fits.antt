@@ -17,8 +17,8 @@ use Rattle.ln_script.specs.Word.{◌>>=◌, is_decimal, decimal_at, number_at, n
 use Rattle.ln_script.specs.Keys.{toy}
 use Rattle.ln_script.specs.Command.{command_at}
 use Rattle.ln_script.specs.Step.{ToyStep, fees_if, fees_at, limits_at, fees_line, limits_line, setting_at, set_line}
-use Rattle.ln_script.specs.Step.{opening_at, open_line, up_line, down_line, deliver_line, command_line, step_at}
-use Rattle.ln_script.specs.Step.{ready_steps, ready_line, one_step, word_line, steps_at}
+use Rattle.ln_script.specs.Step.{opening_at, open_line, up_line, down_line, restart_line, deliver_line, command_line}
+use Rattle.ln_script.specs.Step.{step_at, ready_steps, ready_line, one_step, word_line, steps_at}
 use Rattle.ln_script.specs.Script.{lines, words, is_skipped, line_at, behind, line_then, steps_from, script_at}
 use Rattle.ln_script.specs.Report.{AfterEachScript}
 
@@ -138,6 +138,11 @@ down_lines [] = tt
 down_lines (e ∷ []) = then Fits (end_at e) _ (λ end. tt)
 down_lines (e ∷ w ∷ ws) = tt
 
+restart_lines : (ws : List (List ℕ)) → Has Fits (restart_line ws)
+restart_lines [] = tt
+restart_lines (x ∷ []) = then Fits (node_at x) _ (λ node. tt)
+restart_lines (x ∷ w ∷ ws) = tt
+
 deliver_lines : (ws : List (List ℕ)) → Has Fits (deliver_line ws)
 deliver_lines [] = tt
 deliver_lines (e ∷ []) = then Fits (end_at e) _ (λ end. tt)
@@ -156,7 +161,8 @@ single w ws =
     (either Fits (bytes_eq w (codes "open")) _ _ (open_lines ws)
     (either Fits (bytes_eq w (codes "up")) _ _ (up_lines ws)
     (either Fits (bytes_eq w (codes "down")) _ _ (down_lines ws)
-    (either Fits (bytes_eq w (codes "deliver")) _ _ (deliver_lines ws) (command_lines w ws)))))
+    (either Fits (bytes_eq w (codes "restart")) _ _ (restart_lines ws)
+    (either Fits (bytes_eq w (codes "deliver")) _ _ (deliver_lines ws) (command_lines w ws))))))
 
 -- ---- lines
 

@@ -1,5 +1,5 @@
 -- Keys that are partners are told apart by themselves alone.
-use Rattle.std.proofs.Common.{◌≡◌, ℕ, sym, ap, subst, ◌∙◌}
+use Rattle.std.proofs.Common.{◌≡◌, ℕ, ap, subst, ◌∙◌}
 use Rattle.std.proofs.Math.Logic.{∥∥₁_prop}
 use Rattle.ln_keys.specs.declared.toy_keys.ToyKeys.{ToyKeys}
 use Rattle.ln_keys.specs.Partners.{ArePartners}

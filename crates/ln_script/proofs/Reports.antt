@@ -1,14 +1,15 @@
 -- A report bit by bit: what was written, and what is left of it.
 use Rattle.std.proofs.Common.{◌≡◌, ℕ, ◌≤◌, List, [], ◌∷◌, ◌++◌, Option, sym, ap, subst, ◌∙◌, arith, append_assoc}
-use Rattle.std.proofs.Common.{append-nil}
-use Rattle.std.specs.List.{flat_map}
+use Rattle.std.proofs.Common.{append-nil, inr}
 use Rattle.std.specs.Io.KnownBytes.{Appends}
 use Rattle.std.proofs.KnownBytes.{Appends-trans}
 use Rattle.std.proofs.lemmas.Grind.{flat_map-append}
 use Rattle.ln_keys.specs.declared.toy_keys.ToyKeys.{ToyKeys}
 use Rattle.ln_msgs.specs.Pings.Counted.{HasRisen}
 use Rattle.ln_msgs.specs.Pings.Written.{IsPartlyWritten}
+use Rattle.ln_msgs.specs.declared.refusals.refusal.Refusal.TheVariants as refusal
 use Rattle.ln_world.specs.World.{World, happens, run, step_lines, run_lines}
+use Rattle.ln_world.specs.Failing.{SomeMayFail}
 use Rattle.ln_script.specs.Keys.{toy}
 use Rattle.ln_script.specs.Step.{ToyStep}
 use Rattle.ln_script.specs.Report.{shown_line, step_text, steps_text}
@@ -88,3 +89,12 @@ stopped_step a b c s steps rest from to w v first same wrote part =
     subst (λ (xs : List ToyStep). IsPartlyWritten a c (steps_text xs v)) same
     (failed_step a b c s rest w (steps_text from v)
     (subst (λ (xs : List ToyStep). Wrote a b (steps_text xs w) (steps_text from v)) first wrote) part)
+
+-- ---- by what steps fail
+
+-- among the steps that are left behind a step one lacks a record: so one of all does
+pub lacks_later : (s : ToyStep) (steps rest : List ToyStep) (w v : World ToyKeys) (P : Type 0) → steps ≡ s ∷ rest
+    → v ≡ happens toy s w → (SomeMayFail toy steps refusal.Damaged w → P) → SomeMayFail toy rest refusal.Damaged v → P
+lacks_later s steps rest w v P first after all h =
+    all (subst (λ (xs : List ToyStep). SomeMayFail toy xs refusal.Damaged w) (sym first)
+    (inr (subst (λ (x : World ToyKeys). SomeMayFail toy rest refusal.Damaged x) after h)))

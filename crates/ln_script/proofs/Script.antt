@@ -5,7 +5,7 @@ use Rattle.std.proofs.Common.{append-nil, add-one}
 use Rattle.std.specs.Borrow.{Bor}
 use Rattle.std.proofs.Math.Seq.{drop-cons}
 use Rattle.std.proofs.lemmas.List.{drop_all, get_or-map, length-map}
-use Rattle.ln_script.specs.Step.{texts, ToyStep, if_good, joined}
+use Rattle.ln_script.specs.Step.{texts, ToyStep, joined}
 use Rattle.ln_script.specs.Script.{line_at, behind, line_then, steps_from}
 
 behind_nothing : (r : Result (List ToyStep) ℕ) → behind [] r ≡ r

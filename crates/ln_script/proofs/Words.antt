@@ -1,6 +1,6 @@
 -- Numbers of a script are what the library parses, where nothing stands in front of them.
 use Rattle.std.proofs.Common.{◌≡◌, ◌≢◌, ℕ, ◌^◌, ◌<◌, List, [], ◌∷◌, length, Option, Some, None, Result, Ok}
-use Rattle.std.proofs.Common.{Err, true, false, not, ◌==◌, ◌+◌, is_some, nat_lt, refl, sym, ap}
+use Rattle.std.proofs.Common.{Err, true, false, not, ◌==◌, ◌+◌, nat_lt, refl, sym, ap}
 use Rattle.std.proofs.Common.{subst, ◌∙◌, ◌%◌, arith, inl, inr, mod-eq_of_lt}
 use Rattle.std.specs.Coded.{le_prop}
 use Rattle.std.specs.Result.{result_ok}
@@ -8,7 +8,7 @@ use Rattle.std.specs.Char.{is_ascii_digit}
 use Rattle.std.specs.Str.{all_ascii_digits}
 use Rattle.std.specs.Str.Parse.{digits_value, ParsesUnsigned}
 use Rattle.std.proofs.lemmas.Str.Parse.{IsNumeralModel, numerals_by_value, tells_all_ascii_digits, parse_plain}
-use Rattle.std.proofs.lemmas.Bool.{cases_Bool, and_parts, and_from, and_right}
+use Rattle.std.proofs.lemmas.Bool.{cases_Bool, and_parts, and_from}
 use Rattle.std.proofs.lemmas.Bool.Decides.{nat_tests}
 use Rattle.ln_bytes.specs.ShortId.{IsPlain}
 use Rattle.std.specs.List.{position_or_len}

@@ -1,7 +1,6 @@
 -- The onion of an HTLC that a script offers: what its hops forward, and what its last node is paid for (BOLT 4,
 -- "payload Format").
 use Rattle.std.specs.Prelude.{ℕ, List, [], ◌∷◌, ◌++◌, replicate, Option, Some, None}
-use Rattle.ln_bytes.specs.declared.record.Record.{Record}
 use Rattle.ln_bytes.specs.ShortId.{short_id_bytes}
 use Rattle.ln_bytes.specs.Tlv.{as_record, stream_bytes}
 use Rattle.ln_bytes.specs.Truncated.{truncated}

@@ -1,10 +1,13 @@
 -- The text of a report: what was told of each step, and then how the ends of each channel stand.
-use Rattle.std.specs.Prelude.{◌≡◌, ℕ, List, ◌++◌, codes, Result, Ok, Err}
+use Rattle.std.specs.Prelude.{◌≡◌, ◌⊎◌, ℕ, List, ◌++◌, codes, Result, Ok, Err}
 use Rattle.std.specs.List.{flat_map}
+use Rattle.ln_msgs.specs.declared.refusals.refusal.Refusal.{Refusal}
+use Rattle.ln_msgs.specs.declared.refusals.refusal.Refusal.TheVariants as refusal
 use Rattle.ln_keys.specs.declared.toy_keys.ToyKeys.{ToyKeys}
 use Rattle.ln_world.specs.declared.line.EndLine.{EndLine}
 use Rattle.ln_world.specs.declared.line.Line.{Line}
 use Rattle.ln_world.specs.World.{World, empty, run, step_lines, run_lines, end_lines}
+use Rattle.ln_world.specs.Failing.{MayFail, SomeMayFail}
 use Rattle.ln_script.specs.Keys.{toy}
 use Rattle.ln_script.specs.Step.{ToyStep}
 use Rattle.ln_script.specs.Script.{script_at}
@@ -36,6 +39,14 @@ report_from ss w = steps_text ss w ++ ends_text (run toy ss w)
 abbrev pub report_text : List ToyStep → List ℕ
 report_text ss = report_from ss empty
 
+-- by what telling a step may fail: for want of memory (60), and where a node restarts by an end without a record (70)
+abbrev pub StepFails : ToyStep → Refusal → World ToyKeys → Type 0
+StepFails s r w = (r ≡ refusal.Memory) ⊎ ((r ≡ refusal.Damaged) × MayFail toy s refusal.Damaged w)
+
+-- and steps, from this world on
+abbrev pub StepsFail : List ToyStep → Refusal → World ToyKeys → Type 0
+StepsFail ss r w = (r ≡ refusal.Memory) ⊎ ((r ≡ refusal.Damaged) × SomeMayFail toy ss refusal.Damaged w)
+
 -- ---- of a script
 
 abbrev pub told_by : Result (List ToyStep) ℕ → Result (List ℕ) ℕ
@@ -45,6 +56,11 @@ told_by (Err line) = Err line
 -- the report of its steps, or the number of its first bad line
 abbrev pub simulated : List ℕ → Result (List ℕ) ℕ
 simulated text = told_by (script_at text)
+
+-- one of its steps restarts a node that has an end without a record
+abbrev pub ScriptLacksRecord : Result (List ToyStep) ℕ → Type 0
+ScriptLacksRecord (Ok steps) = SomeMayFail toy steps refusal.Damaged empty
+ScriptLacksRecord (Err line) = ⊥
 
 -- ---- the world that a script leaves
 

@@ -6,9 +6,7 @@ use Rattle.std.specs.Str.{bytes_eq}
 use Rattle.ln_bytes.specs.declared.short_id.ShortId.{ShortId}
 use Rattle.ln_keys.specs.declared.toy_keys.ToyKeys.{ToyKeys}
 use Rattle.ln_link.specs.declared.command.Command.TheVariants as command
-use Rattle.ln_world.specs.declared.step.Act.{Act}
 use Rattle.ln_world.specs.declared.step.Act.TheVariants as act
-use Rattle.ln_world.specs.declared.step.End.{End}
 use Rattle.ln_world.specs.declared.step.Node.{Node}
 use Rattle.ln_world.specs.declared.step.Open.{Open}
 use Rattle.ln_world.specs.declared.step.Step.{Step}
@@ -115,6 +113,13 @@ down_line (e ∷ []) = do
   Some (step.Down end)
 down_line _ = None
 
+-- restart X
+abbrev pub restart_line : List (List ℕ) → Option ToyStep
+restart_line (x ∷ []) = do
+  node ← node_at x
+  Some (step.Restart node)
+restart_line _ = None
+
 -- deliver E
 abbrev pub deliver_line : List (List ℕ) → Option ToyStep
 deliver_line (e ∷ []) = do
@@ -138,7 +143,8 @@ step_at w ws =
     else (if bytes_eq w (codes "open") then open_line ws
     else (if bytes_eq w (codes "up") then up_line ws
     else (if bytes_eq w (codes "down") then down_line ws
-    else (if bytes_eq w (codes "deliver") then deliver_line ws else command_line w ws))))
+    else (if bytes_eq w (codes "restart") then restart_line ws
+    else (if bytes_eq w (codes "deliver") then deliver_line ws else command_line w ws)))))
 
 -- ---- the steps of a line
 

@@ -3,6 +3,9 @@
 ghost use Rattle.std.specs.Prelude.{◌≡◌, ℕ, List, Ok, Err};
 ghost use Rattle.ln_keys.specs.Toy.{toy_signer};
 ghost use Rattle.ln_world.specs.Promises.{BringFit, OfEach, Headline, NoneRefused, AllTaken, OneFee, Agrees};
+ghost use Rattle.ln_world.specs.Promises.{AnswersShutdown};
+ghost use Rattle.ln_world.specs.Sending.{NoneAddsLate};
+ghost use Rattle.ln_world.specs.World.{empty};
 ghost use Rattle.ln_script.specs.Keys.{toy};
 ghost use Rattle.ln_script.specs.Step.{ToyStep};
 ghost use Rattle.ln_script.specs.Script.{lines, script_at, IsFirstBad};
@@ -10,7 +13,8 @@ ghost use Rattle.ln_script.specs.Report.{AfterEachScript};
 
 use ln_keys::ToyKeys;
 use ln_world::{
-    agreement, closed_at_one_fee, headline, never_refused, never_refused_where_fees_overlap,
+    a_shutdown_is_answered, agreement, closed_at_one_fee, headline, never_refused,
+    never_refused_where_fees_overlap, no_add_follows_a_shutdown,
 };
 
 /// A script is refused by the number of its first bad line, and only where there is one.
@@ -28,18 +32,24 @@ pub fn steps_bring_what_fits()
 /// end holds as irrevocably committed was covered by the other (`ln_world::headline`); the message in front of either
 /// end is taken, or refused for its closing fee, and no link has failed (`ln_world::never_refused`); where both ends
 /// take fees that overlap it is taken (`ln_world::never_refused_where_fees_overlap`); both close at one fee
-/// (`ln_world::closed_at_one_fee`); and at rest both ends hold every update and their commitments are worth the same
-/// (`ln_world::agreement`).
+/// (`ln_world::closed_at_one_fee`); a shutdown is answered (`ln_world::a_shutdown_is_answered`); at rest both ends hold
+/// every update and their commitments are worth the same (`ln_world::agreement`); and of all that an end sends no
+/// `update_add_htlc` stands behind its shutdown (`ln_world::no_add_follows_a_shutdown`).
 pub fn scripts_keep_the_promises()
     ensures headline { AfterEachScript (OfEach Headline) }
     ensures never_refused { AfterEachScript (OfEach (NoneRefused toy_signer)) }
     ensures never_refused_where_fees_overlap { AfterEachScript (OfEach (AllTaken toy_signer)) }
     ensures closed_at_one_fee { AfterEachScript (OfEach OneFee) }
+    ensures a_shutdown_is_answered { AfterEachScript (OfEach AnswersShutdown) }
     ensures agreement { AfterEachScript (OfEach Agrees) }
+    ensures no_add_follows_a_shutdown { (text : List ℕ) (steps : List ToyStep) (number : ℕ) → script_at text ≡ Ok steps
+        → NoneAddsLate toy number steps empty }
 {
     headline::<ToyKeys>();
     never_refused::<ToyKeys>();
     never_refused_where_fees_overlap::<ToyKeys>();
     closed_at_one_fee::<ToyKeys>();
+    a_shutdown_is_answered::<ToyKeys>();
     agreement::<ToyKeys>();
+    no_add_follows_a_shutdown::<ToyKeys>();
 }

@@ -7,9 +7,10 @@ ghost use Rattle.ln_msgs.specs.declared.refusals.refusal.Refusal.TheVariants.{Me
 ghost use Rattle.ln_msgs.specs.Pings.Counted.{HasRisen};
 ghost use Rattle.ln_msgs.specs.Pings.CountedView.{inner_of, failures_of};
 ghost use Rattle.ln_msgs.specs.Pings.Written.{IsPartlyWritten};
-ghost use Rattle.ln_world.specs.World.{happens, run, step_lines};
+ghost use Rattle.ln_world.specs.World.{empty, happens, run, step_lines};
 ghost use Rattle.ln_script.specs.Keys.{toy};
 ghost use Rattle.ln_script.specs.Report.{shown_line, shown_end, step_text, steps_text, ends_text, report_text};
+ghost use Rattle.ln_script.specs.Report.{StepFails, StepsFail};
 
 use crate::line::{put_end_line, put_line};
 use crate::print::print_all;
@@ -59,7 +60,7 @@ fn lines_of_step(
 ) -> Result<Vec<Line>, Refusal>
     ensures world { OnOk result (world.new ≡ happens toy step world.old) }
     ensures lines { IfOk result (λ v. v.items ≡ step_lines toy step world.old) }
-    ensures fails_for_memory_alone { IfErr result (λ e. e ≡ Memory) }
+    ensures fails { IfErr result (λ e. StepFails step e world.old) }
 {
     let mut lines = Vec::new(alloc);
     world.step(alloc, step, &mut lines)?;
@@ -74,7 +75,7 @@ fn text_of_step(
 ) -> Result<String, Refusal>
     ensures world { OnOk result (world.new ≡ happens toy step world.old) }
     ensures text { IfOk result (λ s. string_bytes s ≡ step_text step world.old) }
-    ensures fails_for_memory_alone { IfErr result (λ e. e ≡ Memory) }
+    ensures fails { IfErr result (λ e. StepFails step e world.old) }
 {
     let lines = lines_of_step(alloc, world, step)?;
     let mut text = String::new(alloc);
@@ -117,7 +118,7 @@ fn print_step<W: Write>(
         (step_text step world.old)) }
     ensures front { IsPartlyWritten (W.contents (inner_of writer.old)) (W.contents (inner_of writer.new))
         (step_text step world.old) }
-    ensures cause { IfErr result (λ e. (e ≡ Memory)
+    ensures cause { IfErr result (λ e. StepFails step e world.old
         ⊎ ((e ≡ Io) × HasRisen (failures_of writer.old) (failures_of writer.new))) }
     ensures no_fewer_failures { failures_of writer.old ≤ failures_of writer.new }
 {
@@ -137,7 +138,7 @@ fn print_steps<W: Write>(
         (steps_text steps.items world.old)) }
     ensures front { IsPartlyWritten (W.contents (inner_of writer.old)) (W.contents (inner_of writer.new))
         (steps_text steps.items world.old) }
-    ensures cause { IfErr result (λ e. (e ≡ Memory)
+    ensures cause { IfErr result (λ e. StepsFail steps.items e world.old
         ⊎ ((e ≡ Io) × HasRisen (failures_of writer.old) (failures_of writer.new))) }
     ensures no_fewer_failures { failures_of writer.old ≤ failures_of writer.new }
 {
@@ -168,8 +169,8 @@ fn print_ends<W: Write>(
 /// before the next is taken, and at last how the ends of each channel stand. Takes memory for the world and for the
 /// text of one step.
 ///
-/// Errors: 60 where there is no memory; 63 where a call of the writer fails. What was written by then is a beginning of
-/// the report.
+/// Errors: 60 where there is no memory; 70 where a node restarts and an end of it has no record; 63 where a call of the
+/// writer fails. What was written by then is a beginning of the report.
 pub fn print_report<W: Write>(
     alloc: Global,
     steps: Vec<Step<ToyKeys>>,
@@ -179,7 +180,7 @@ pub fn print_report<W: Write>(
         (report_text steps.items)) }
     ensures front { IsPartlyWritten (W.contents (inner_of writer.old)) (W.contents (inner_of writer.new))
         (report_text steps.items) }
-    ensures cause { IfErr result (λ e. (e ≡ Memory)
+    ensures cause { IfErr result (λ e. StepsFail steps.items e empty
         ⊎ ((e ≡ Io) × HasRisen (failures_of writer.old) (failures_of writer.new))) }
 {
     let mut world = World::new(alloc);

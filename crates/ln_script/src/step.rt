@@ -3,9 +3,9 @@
 ghost use Rattle.std.specs.Prelude.{◌≡◌, ◌++◌, IfOk, IfErr, OnOk};
 ghost use Rattle.ln_msgs.specs.declared.refusals.refusal.Refusal.TheVariants as refusal;
 ghost use Rattle.ln_script.specs.Step.{texts, fees_at, limits_at, fees_line, limits_line, setting_at, set_line};
-ghost use Rattle.ln_script.specs.Step.{opening_at, open_line, up_line, down_line, deliver_line, command_line};
-ghost use Rattle.ln_script.specs.Step.{step_at, confirms, delivers, ready_steps, ready_line, one_step, word_line};
-ghost use Rattle.ln_script.specs.Step.{steps_at, if_good, joined};
+ghost use Rattle.ln_script.specs.Step.{opening_at, open_line, up_line, down_line, restart_line, deliver_line};
+ghost use Rattle.ln_script.specs.Step.{command_line, step_at, confirms, delivers, ready_steps, ready_line, one_step};
+ghost use Rattle.ln_script.specs.Step.{word_line, steps_at, if_good, joined};
 
 use crate::command::command_of;
 use crate::keys::partners_of;
@@ -163,6 +163,16 @@ fn down_line(words: &[&str]) -> Option<Step<ToyKeys>>
     }
 }
 
+/// restart X
+fn restart_line(words: &[&str]) -> Option<Step<ToyKeys>>
+    ensures { result ≡ restart_line (texts words.now) }
+{
+    match words {
+        [node] => Some(Step::Restart(node_of(node)?)),
+        _ => None,
+    }
+}
+
 /// deliver E
 fn deliver_line(words: &[&str]) -> Option<Step<ToyKeys>>
     ensures { result ≡ deliver_line (texts words.now) }
@@ -202,6 +212,7 @@ fn step_of(alloc: Global, word: &str, words: &[&str]) -> Result<Option<Step<ToyK
         "open" => Ok(open_line(words)),
         "up" => Ok(up_line(words)),
         "down" => Ok(down_line(words)),
+        "restart" => Ok(restart_line(words)),
         "deliver" => Ok(deliver_line(words)),
         _ => command_line(alloc, word, words),
     }

@@ -42,6 +42,8 @@ use Rattle.ln_pair.proofs.Tellings.{in_append}
 use Rattle.ln_pair.proofs.Machines.{may_be_made}
 use Rattle.ln_pair.proofs.Recounts.{events_so}
 use Rattle.ln_pair.proofs.Fees.{one_fee, all_taken}
+use Rattle.ln_pair.specs.Answers.{HasAnswered}
+use Rattle.ln_pair.proofs.Answers.{all_answered}
 use Rattle.ln_pair.proofs.Deals.{run_fees}
 use Rattle.ln_close.specs.Closing.{AreOrdered}
 use Rattle.ln_log.specs.Machine.{Machine}
@@ -55,13 +57,16 @@ use Rattle.ln_world.specs.declared.step.Act.{Act}
 use Rattle.ln_world.specs.declared.step.Act.TheVariants as act
 use Rattle.ln_world.specs.declared.step.Node.{Node}
 use Rattle.ln_world.specs.Settings.{channel_id_of}
-use Rattle.ln_world.specs.Both.{Both, By, Falls, Meet, acts, swapped, moves, may_come_up}
+use Rattle.ln_world.specs.Both.{Both, By, Falls, Restarts, Meet, acts, swapped, moves, may_come_up}
 use Rattle.ln_world.specs.Both.{run as run_both}
-use Rattle.ln_world.specs.Channel.{Channel, by, side_of, moved, may_meet, act_moves, fall_moves, up_moves}
+use Rattle.ln_world.specs.Channel.{Channel, by, side_of, moved, may_meet, act_moves, fall_moves, restart_moves}
+use Rattle.ln_world.specs.Channel.{up_moves}
 use Rattle.ln_world.specs.Promises.{AtEnds, WithPeer, Headline, TakesFront, NoneRefused, AgreeOnceSigned, Agrees}
-use Rattle.ln_world.specs.Promises.{FeesOverlap, AcceptsFront, AllTaken, OneFee}
+use Rattle.ln_world.specs.Promises.{FeesOverlap, AcceptsFront, AllTaken, OneFee, HaveAnswered, AnswersShutdown}
 use Rattle.ln_world.proofs.Mirror.{link_of, without_warnings, IsInbox, Mirrors, flipped, plain}
-use Rattle.ln_world.proofs.Moves.{Goes, Out, out_of, handled_so, passed_so, delivered, given, fell, met, is_up}
+use Rattle.ln_world.proofs.Dropped.{are_dropped}
+use Rattle.ln_world.proofs.Moves.{Goes, Out, out_of, handled_so, passed_so, delivered, given, fell, restarted_so, met}
+use Rattle.ln_world.proofs.Moves.{is_up}
 
 -- ---- the pair's steps
 
@@ -377,6 +382,23 @@ module _ {K : Type 0} (signer : K → Signer) where
       (said.1 ∙ silently q.said_x [] refl) (said.0 ∙ silently q.said_y [] refl)
       (ap (λ (l : State K). moves_of_fall Fundee l.line) (sym r.mirrors.y_link)) refl refl
 
+  as_fallen : (id : List ℕ) (side : Role) (p : Both K) → IsRun id p
+      → moves signer id (Falls side) p ≡ moves signer id (Restarts side) p
+  unfolding moves
+  as_fallen id Funder p r =
+      let d = are_dropped (signer r.funders) (signer r.fundees) r.steps r.funder r.fundee in
+      sym (restarted_so signer id r.funders r.fundees p (ends_of id p r) d.x r.mirrors)
+  as_fallen id Fundee p r =
+      let q = ends_of id p r in
+      let d = are_dropped (signer r.funders) (signer r.fundees) r.steps r.funder r.fundee in
+      ap swapped (sym (restarted_so signer id r.fundees r.funders (swapped p) (pair.turned q) d.y
+      (flipped id r.funders r.fundees p q r.mirrors)))
+
+  restarted_went : (id : List ℕ) (side : Role) (p : Both K) (r : IsRun id p)
+      → Went id p (moves signer id (Restarts side) p) r (tale_of id (Restarts side) p)
+  restarted_went id side p r = subst (λ p'. Went id p p' r (tale_of id (Falls side) p)) (as_fallen id side p r)
+      (fallen_went id side p r)
+
   both_true : (b c : Bool) → (b && c) ≡ true → (b ≡ true) × (c ≡ true)
   both_true true true e = (refl, refl)
   both_true true false e = absurd (cc)
@@ -399,6 +421,7 @@ module _ {K : Type 0} (signer : K → Signer) where
   abbrev pub is_possible : Move → Both K → Bool
   is_possible (By side a) p = true
   is_possible (Falls side) p = true
+  is_possible (Restarts side) p = true
   is_possible Meet p = may_meet p
 
   abbrev pub ArePossible : List ℕ → List Move → Both K → Type 0
@@ -409,6 +432,7 @@ module _ {K : Type 0} (signer : K → Signer) where
       → Went id p (moves signer id m p) r (tale_of id m p)
   went id (By side a) p e r = acted_went id side a p r
   went id (Falls side) p e r = fallen_went id side p r
+  went id (Restarts side) p e r = restarted_went id side p r
   went id Meet p e r = came_up_went id p e r
 
   -- ---- a channel, and what has come of it since it was opened
@@ -507,6 +531,11 @@ module _ {K : Type 0} (signer : K → Signer) where
   fallen_by id None p r = r
   fallen_by id (Some side) p r = (fallen_went id side p r).run
 
+  restarted_by : (id : List ℕ) (o : Option Role) (p : Both K) → IsRun id p
+      → IsRun id (run_both signer id (by o Restarts) p)
+  restarted_by id None p r = r
+  restarted_by id (Some side) p r = (restarted_went id side p r).run
+
   up_by : (id : List ℕ) (b : Bool) (p : Both K) → may_meet p ≡ b → IsRun id p
       → IsRun id (run_both signer id (cond b (Meet ∷ []) []) p)
   up_by id true p e r = (came_up_went id p e r).run
@@ -520,6 +549,9 @@ module _ {K : Type 0} (signer : K → Signer) where
 
   pub fall_kept : (n : Node) (c : Channel K) → IsOpen c → IsOpen (moved signer (fall_moves n) c)
   fall_kept n c h = fallen_by (channel_id_of c.number) (side_of n c) c.both h
+
+  pub restart_kept : (n : Node) (c : Channel K) → IsOpen c → IsOpen (moved signer (restart_moves n) c)
+  restart_kept n c h = restarted_by (channel_id_of c.number) (side_of n c) c.both h
 
   pub up_kept : (c : Channel K) → IsOpen c → IsOpen (moved signer up_moves c)
   up_kept c h = up_by (channel_id_of c.number) (may_meet c.both) c.both refl h
@@ -648,6 +680,17 @@ module _ {K : Type 0} (signer : K → Signer) where
       }) in (
         accepted_by id r.funders p.x.link q.x_line q.x p.x.inbox q.to_x h.x_link h.x_in h.x_channel f.0,
         accepted_by id r.fundees p.y.link q.y_line q.y p.y.inbox q.to_y h.y_link h.y_in h.y_channel f.1,
+      )
+
+  pub answers_shutdown : (id : List ℕ) (p : Both K) → IsRun id p → AnswersShutdown p
+  answers_shutdown id p r =
+      let q = ends_of id p r in
+      let h = r.mirrors in
+      let both = all_answered (signer r.funders) (signer r.fundees) r.spec r.config r.funder r.fundee r.steps r.keys
+      r.opens in
+      at_links id r.funders r.fundees (HaveAnswered p.x.link.line p.y.link.line) p q h (
+        subst (λ l. HasAnswered l q.x) (ap (λ (l : State K). l.line) (sym h.x_link)) both.0,
+        subst (λ l. HasAnswered l q.y) (ap (λ (l : State K). l.line) (sym h.y_link)) both.1,
       )
 
   pub closes_at_one_fee : (id : List ℕ) (p : Both K) → IsRun id p → OneFee p

@@ -3,10 +3,12 @@ pub mod Moving
 pub mod Named
 pub mod Silent
 pub mod Mirror
+pub mod Dropped
 pub mod Moves
 pub mod Opened
 pub mod Kept
 pub mod Places
+pub mod Lacking
 pub mod Worlds
 pub mod Promised
 pub mod Told

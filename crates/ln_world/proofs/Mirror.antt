@@ -46,6 +46,8 @@ pub record Mirrors {K : Type 0} (id : List ℕ) (kx ky : K) (p : Both K) (q : En
   pub y_in : IsInbox id q.y_line p.y.inbox q.to_y
   pub x_channel : q.x.dance.channel ≡ id
   pub y_channel : q.y.dance.channel ≡ id
+  pub x_keys : p.x.keys ≡ kx
+  pub y_keys : p.y.keys ≡ ky
 
 pub flipped : {K : Type 0} (id : List ℕ) (kx ky : K) (p : Both K) (q : Ends) → Mirrors id kx ky p q
     → Mirrors id ky kx (swapped p) (pair.turned q)
@@ -56,6 +58,8 @@ flipped id kx ky p q h = record {
   y_in = h.x_in;
   x_channel = h.y_channel;
   y_channel = h.x_channel;
+  x_keys = h.y_keys;
+  y_keys = h.x_keys;
 }
 
 -- ---- what names a channel is a message of it
@@ -139,6 +143,14 @@ module _ {K : Type 0} (id : List ℕ) where
 
   pub reached_link : (ms : List Message) (p : Place K) → (reaches ms p).link ≡ p.link
   reached_link ms p = same_link (is_down p.link.line) ms p
+
+  same_keys : (b : Bool) (ms : List Message) (p : Place K)
+      → (cond b p (record p { inbox = p.inbox ++ ms })).keys ≡ p.keys
+  same_keys true ms p = refl
+  same_keys false ms p = refl
+
+  pub reached_keys : (ms : List Message) (p : Place K) → (reaches ms p).keys ≡ p.keys
+  reached_keys ms p = same_keys (is_down p.link.line) ms p
 
   reached_by : (b : Bool) (l : Line) (ms to : List Message) (p : Place K) → b ≡ is_down l → IsInbox id l p.inbox to
       → AreIn id ms

@@ -20,6 +20,7 @@ use Rattle.ln_link.specs.declared.output.Output.{Output}
 use Rattle.ln_link.specs.Outputs.{all_of}
 use Rattle.ln_link.specs.End.{End, Turn, end_dropped}
 use Rattle.ln_link.specs.Commands.{command_row, unready_fault}
+use Rattle.ln_link.specs.Record.{saved_end}
 use Rattle.ln_link.specs.State.{State, is_down, refused, drops}
 use Rattle.ln_link.specs.Step.{Done, handled, commanded, faulted, line_fault, is_passed_over, error_fault, stray_fault}
 use Rattle.ln_link.specs.Step.{message_fault, saved_at, at_hand, obeyed}
@@ -38,12 +39,13 @@ use Rattle.ln_world.specs.Machine.{moves_of_message, moves_delivered, moves_of_c
 use Rattle.ln_world.specs.Machine.{outputs_of, delivery_tells, act_tells}
 use Rattle.ln_world.specs.Lines.{replies}
 use Rattle.ln_world.specs.Both.{Both, Place, reaches, left, left_by, sent_by, unchanged, answers, delivers, acts, falls}
-use Rattle.ln_world.specs.Both.{greeting, greets, comes_up, meet}
+use Rattle.ln_world.specs.Both.{restarts, back, greeting, greets, comes_up, meet}
 use Rattle.ln_world.proofs.Named.{Names, IsFine, IsFineRow, fine_at, fine_command}
 use Rattle.ln_world.proofs.Named as sent
 use Rattle.ln_world.proofs.Silent.{IsSilentRow, silent_at}
 use Rattle.ln_world.proofs.Mirror.{link_of, is_warning, without_warnings, AreIn, IsInbox, Mirrors, plain}
-use Rattle.ln_world.proofs.Mirror.{all_plain, all_in, reached_link, reached, reached_aside}
+use Rattle.ln_world.proofs.Mirror.{all_plain, all_in, reached_link, reached_keys, reached, reached_aside}
+use Rattle.ln_world.proofs.Dropped.{IsDropped}
 
 -- ---- what a link answers is what its end's rows say
 
@@ -299,7 +301,7 @@ module _ {K : Type 0} (signer : K → Signer) (id : List ℕ) (kx ky : K) where
   turned_so : (after : Refusal → State K → State K) (row : Result Done Refusal) (t : Turn) (p : Both K) (q : Ends)
       (ms to : List Message) → row ≡ step.turned Met (Ok t) → IsFine id t → IsInbox id Met ms to
       → Mirrors id kx ky p q
-      → Mirrors id kx ky (answers after id row (record { x = record { link = p.x.link; inbox = ms }; y = p.y }))
+      → Mirrors id kx ky (answers after id row (record { x = record p.x { inbox = ms }; y = p.y }))
       (becomes t (record q { to_x = to }))
   turned_so after row t p q ms to is fine in_x h =
       let d : Done = record { line = Met; stage = stage.Saved t.end; outputs = all_of t.handed } in
@@ -307,7 +309,7 @@ module _ {K : Type 0} (signer : K → Signer) (id : List ℕ) (kx ky : K) where
       let names : Names id out = (out_names t fine).1 in
       let same : without_warnings out ≡ messages_in t.handed.sent = out_so t fine in
       subst (λ r. Mirrors id kx ky
-      (answers after id r (record { x = record { link = p.x.link; inbox = ms }; y = p.y }))
+      (answers after id r (record { x = record p.x { inbox = ms }; y = p.y }))
       (becomes t (record q { to_x = to }))) (sym is) (record {
         x_link = ap (left_by d) h.x_link;
         y_link = reached_link id out p.y ∙ h.y_link;
@@ -316,6 +318,8 @@ module _ {K : Type 0} (signer : K → Signer) (id : List ℕ) (kx ky : K) where
             (reached id q.y_line out q.to_y p.y (ap (λ (l : State K). l.line) h.y_link) h.y_in (all_in id out names));
         x_channel = fine.channel;
         y_channel = h.y_channel;
+        x_keys = h.x_keys;
+        y_keys = reached_keys id out p.y ∙ h.y_keys;
       })
 
   -- it stays as it was, and sends warnings or nothing
@@ -323,11 +327,11 @@ module _ {K : Type 0} (signer : K → Signer) (id : List ℕ) (kx ky : K) where
       (ms to : List Message) → row ≡ row' → left after row' (link_of kx q.x_line q.x) ≡ link_of kx q.x_line q.x
       → without_warnings (sent_by id row') ≡ [] → AreIn id (sent_by id row') → IsInbox id q.x_line ms to
       → Mirrors id kx ky p q
-      → Mirrors id kx ky (answers after id row (record { x = record { link = p.x.link; inbox = ms }; y = p.y }))
+      → Mirrors id kx ky (answers after id row (record { x = record p.x { inbox = ms }; y = p.y }))
       (record q { to_x = to })
   still_so after row row' p q ms to is stays none in_channel in_x h =
       subst (λ r. Mirrors id kx ky
-      (answers after id r (record { x = record { link = p.x.link; inbox = ms }; y = p.y }))
+      (answers after id r (record { x = record p.x { inbox = ms }; y = p.y }))
       (record q { to_x = to })) (sym is) (record {
         x_link = ap (left after row') h.x_link ∙ stays;
         y_link = reached_link id (sent_by id row') p.y ∙ h.y_link;
@@ -336,6 +340,8 @@ module _ {K : Type 0} (signer : K → Signer) (id : List ℕ) (kx ky : K) where
             h.y_in in_channel;
         x_channel = h.x_channel;
         y_channel = h.y_channel;
+        x_keys = h.x_keys;
+        y_keys = reached_keys id (sent_by id row') p.y ∙ h.y_keys;
       })
 
   -- ---- a message is delivered
@@ -379,7 +385,7 @@ module _ {K : Type 0} (signer : K → Signer) (id : List ℕ) (kx ky : K) where
       → named m ≡ Some id → without_warnings ms ≡ to → AreIn id ms → Mirrors id kx ky p q
       → Front (signer kx) q.x_line (m ∷ to) q.x
       → Mirrors id kx ky (answers refused id (handled (signer p.x.link.keys) p.x.link m)
-      (record { x = record { link = p.x.link; inbox = ms }; y = p.y })) (pair.delivers (signer kx) (m ∷ to) q)
+      (record { x = record p.x { inbox = ms }; y = p.y })) (pair.delivers (signer kx) (m ∷ to) q)
       × Says (sent_by id (handled (signer p.x.link.keys) p.x.link m)) q (pair.delivers (signer kx) (m ∷ to) q)
       × Tells (out_delivered signer id side (m ∷ ms) p.x.link)
       (pair_moves.moves_delivered (signer kx) side q.x_line (m ∷ to) q.x)
@@ -391,7 +397,7 @@ module _ {K : Type 0} (signer : K → Signer) (id : List ℕ) (kx ky : K) where
       ∙ handled_so keys kx id q.x_line m q.x up is h.x_channel ∙ ap (step.turned Met) f.1 in
       let fine = fine_of id (message_at keys q.x_line m q.x) f.0 f.1 (fine_at keys id q.x_line m q.x h.x_channel) in (
         subst (λ r. Mirrors id kx ky (answers refused id (handled (signer p.x.link.keys) p.x.link m)
-            (record { x = record { link = p.x.link; inbox = ms }; y = p.y })) (pair.answers r (record q { to_x = to })))
+            (record { x = record p.x { inbox = ms }; y = p.y })) (pair.answers r (record q { to_x = to })))
             (sym f.1)
             (turned_so refused (handled (signer p.x.link.keys) p.x.link m) f.0 p q ms to row fine
             (behind_it Met m ms to refl told named) h),
@@ -404,7 +410,7 @@ module _ {K : Type 0} (signer : K → Signer) (id : List ℕ) (kx ky : K) where
       ap (λ (l : State K). handled (signer l.keys) l m) h.x_link
       ∙ handled_so keys kx id q.x_line m q.x up is h.x_channel ∙ ap (step.turned Met) f.1 in (
         subst (λ r. Mirrors id kx ky (answers refused id (handled (signer p.x.link.keys) p.x.link m)
-            (record { x = record { link = p.x.link; inbox = ms }; y = p.y })) (pair.answers r (record q { to_x = to })))
+            (record { x = record p.x { inbox = ms }; y = p.y })) (pair.answers r (record q { to_x = to })))
             (sym f.1)
             (still_so refused (handled (signer p.x.link.keys) p.x.link m) (Err refusal.FeeOutside) p q ms to row refl
             refl (inl refl, tt) (behind_it q.x_line m ms to up told named) h),
@@ -536,6 +542,8 @@ module _ {K : Type 0} (signer : K → Signer) (id : List ℕ) (kx ky : K) where
     y_in = h.y_in;
     x_channel = h.x_channel;
     y_channel = h.y_channel;
+    x_keys = h.x_keys;
+    y_keys = h.y_keys;
   }
   falls_by false p q e h = record {
     x_link = ap drops h.x_link ∙ ap (λ b. cond b (link_of kx q.x_line q.x) (link_of kx Down (end_dropped q.x))) e;
@@ -544,11 +552,31 @@ module _ {K : Type 0} (signer : K → Signer) (id : List ℕ) (kx ky : K) where
     y_in = h.y_in;
     x_channel = h.x_channel;
     y_channel = h.y_channel;
+    x_keys = h.x_keys;
+    y_keys = h.y_keys;
   }
 
   pub fell : (p : Both K) (q : Ends) → Mirrors id kx ky p q
       → Mirrors id kx ky (falls p) (pair.acts (signer kx) Lose q)
   fell p q h = falls_by (is_down q.x_line) p q refl h
+
+  -- ---- the node of an end restarts: no link has halted, so that it comes back as a lost connection leaves it
+
+  back_by : (b : Bool) (l : Line) (e : End) → is_down l ≡ b → IsDropped l e
+      → link_of kx Down (end_dropped e) ≡ cond b (link_of kx l e) (link_of kx Down (end_dropped e))
+  back_by true Down e is d = ap (link_of kx Down) (d refl)
+  back_by true Awaiting e is d = absurd (cc)
+  back_by true Met e is d = absurd (cc)
+  back_by false l e is d = refl
+
+  pub restarted_so : (p : Both K) (q : Ends) → IsDropped q.x_line q.x → Mirrors id kx ky p q → restarts p ≡ falls p
+  restarted_so p q d h =
+      let came : back p.x.keys p.x.link (saved_end p.x.link.stage) ≡ drops p.x.link =
+      ap (λ k. back k p.x.link (saved_end p.x.link.stage)) h.x_keys
+      ∙ ap (λ (l : State K). back kx l (saved_end l.stage)) h.x_link
+      ∙ back_by (is_down q.x_line) q.x_line q.x refl d
+      ∙ sym (ap drops h.x_link) in
+      ap (λ (l : State K). record { x = record { keys = p.x.keys; link = l; inbox = [] }; y = p.y }) came
 
   -- ---- a connection comes up
 
@@ -595,6 +623,8 @@ module _ {K : Type 0} (signer : K → Signer) (id : List ℕ) (kx ky : K) where
         y_in = up_in ky q.y p.x.link p.y kx q.x y_is x_is h.x_channel (h.y_in.down (ap is_down ey));
         x_channel = h.x_channel;
         y_channel = h.y_channel;
+        x_keys = reached_keys id (greets (greeting signer p.y.link)) (comes_up signer p.x) ∙ h.x_keys;
+        y_keys = reached_keys id (greets (greeting signer p.x.link)) (comes_up signer p.y) ∙ h.y_keys;
       }
   meets_by p q Down Awaiting ex ey dx dy h = absurd (cc)
   meets_by p q Down Met ex ey dx dy h = absurd (cc)

@@ -41,8 +41,8 @@ at_stage k s = record { keys = k; line = Met; halted = false; failure = None; st
 
 abbrev two : {K : Type 0} → K → Stage → List Message → K → Stage → List Message → Both K
 two kx s ms ky t ns = record {
-  x = record { link = at_stage kx s; inbox = ms };
-  y = record { link = at_stage ky t; inbox = ns };
+  x = record { keys = kx; link = at_stage kx s; inbox = ms };
+  y = record { keys = ky; link = at_stage ky t; inbox = ns };
 }
 
 abbrev ok_or : {A : Type 0} → A → Result A Refusal → A
@@ -61,8 +61,8 @@ module _ {K : Type 0} (signer : K → Signer) (id : List ℕ) (kx ky : K) (s : O
     (funder fundee : Opened) (o : Opens (signer kx) (signer ky) s c funder fundee) where
   abbrev at_first : Both K
   at_first = record {
-    x = record { link = begun kx (stage.AwaitsAccept s); inbox = [] };
-    y = record { link = begun ky (stage.AwaitsOpen c); inbox = [] };
+    x = record { keys = kx; link = begun kx (stage.AwaitsAccept s); inbox = [] };
+    y = record { keys = ky; link = begun ky (stage.AwaitsOpen c); inbox = [] };
   }
 
   abbrev asked : Both K
@@ -158,6 +158,8 @@ module _ {K : Type 0} (signer : K → Signer) (id : List ℕ) (kx ky : K) (s : O
     y_in = record { told = refl; named = tt; down = λ d. refl };
     x_channel = funders_channel ∙ sym e;
     y_channel = of_both ∙ funders_channel ∙ sym e;
+    x_keys = refl;
+    y_keys = refl;
   })
 
   -- the closing fees that each was set up with

@@ -1,6 +1,6 @@
 -- The first place that passes a test, and the channel that is moved where it stands.
-use Rattle.std.proofs.Common.{◌≡◌, ℕ, zero, suc, ◌<◌, ◌≤◌, ◌==◌, List, [], ◌∷◌, ◌++◌, length, get_or, set}
-use Rattle.std.proofs.Common.{refl, sym, ap, ◌∙◌, subst, arith, Bool, true, false, cond, Option, Some, None}
+use Rattle.std.proofs.Common.{◌≡◌, ℕ, zero, suc, ◌+◌, ◌<◌, ◌≤◌, ◌==◌, List, [], ◌∷◌, ◌++◌, length, get_or, set, map}
+use Rattle.std.proofs.Common.{take, drop, refl, sym, ap, ◌∙◌, subst, arith, Bool, true, false, cond, Option, Some, None}
 use Rattle.std.proofs.Common.{position, is_none, is_some, ltb-false, nat_lt, not, eqb-true, eq-eqb, ne_eqb}
 use Rattle.std.specs.List.{position_or_len, find}
 use Rattle.std.proofs.lemmas.List.Folds.{find_at}
@@ -87,6 +87,35 @@ pub placed : {K : Type 0} (s : K → Signer) (n : ℕ) (f : Channel K → List M
     (d e : Channel K) → AreOnce cs → Some i ≡ position (λ c. c.number == n) cs → e ≡ moved s f (get_or cs i d)
     → set cs i e ≡ moved_at s n f cs
 placed s n f cs i d e once p h = ap (λ x. set cs i x) h ∙ placed_at s n f cs i d p once
+
+-- ---- each channel moves, one after the other
+
+one_more : {X : Type 0} (f : X → X) (cs : List X) (i : ℕ) (d e : X) → i < length cs
+    → e ≡ f (get_or (map f (take i cs) ++ drop i cs) i d)
+    → set (map f (take i cs) ++ drop i cs) i e ≡ map f (take (suc i) cs) ++ drop (suc i) cs
+one_more f [] i d e lt h = absurd (omega (arith, lt))
+one_more f (c ∷ cs) zero d e lt h = ap (λ x. x ∷ cs) h
+one_more f (c ∷ cs) (suc i) d e lt h = ap (λ l. f c ∷ l) (one_more f cs i d e (omega (arith, lt)) h)
+
+pub all_more : {X : Type 0} (f : X → X) (cs now : List X) (i : ℕ) (d e : X)
+    → now ≡ map f (take i cs) ++ drop i cs → i < length cs → e ≡ f (get_or now i d)
+    → set now i e ≡ map f (take (i + 1) cs) ++ drop (i + 1) cs
+all_more f cs now i d e same lt h =
+    let next : suc i ≡ i + 1 = omega arith in
+    ap (λ l. set l i e) same ∙ one_more f cs i d e lt (h ∙ ap (λ l. f (get_or l i d)) same)
+    ∙ ap (λ k. map f (take k cs) ++ drop k cs) next
+
+still_at : {X : Type 0} (f : X → X) (cs : List X) (i : ℕ) (d : X)
+    → get_or (map f (take i cs) ++ drop i cs) i d ≡ get_or cs i d
+still_at f [] zero d = refl
+still_at f [] (suc i) d = refl
+still_at f (c ∷ cs) zero d = refl
+still_at f (c ∷ cs) (suc i) d = still_at f cs i d
+
+-- the next one hasn't moved yet
+pub unmoved : {X : Type 0} (f : X → X) (cs now : List X) (i : ℕ) (d : X) → now ≡ map f (take i cs) ++ drop i cs
+    → get_or now i d ≡ get_or cs i d
+unmoved f cs now i d same = ap (λ l. get_or l i d) same ∙ still_at f cs i d
 
 -- ---- each number once
 

@@ -26,13 +26,14 @@ use Rattle.ln_world.specs.declared.settings.Setting.{Setting}
 use Rattle.ln_world.specs.Settings.{config_of, spec_of, txid_of, channel_id_of, opening_by, are_ordered}
 use Rattle.ln_world.specs.Settings.{may_bring, CanBring}
 use Rattle.ln_world.specs.Both.{Both, Move}
-use Rattle.ln_world.specs.Channel.{Channel, is_node, moved, opened_by, act_moves, fall_moves, up_moves}
-use Rattle.ln_world.specs.World.{World, settings_of, with_settings, channel, moved_at, may_open, happens}
+use Rattle.ln_world.specs.Channel.{Channel, is_node, moved, opened_by, act_moves, fall_moves, restart_moves, up_moves}
+use Rattle.ln_world.specs.World.{World, settings_of, with_settings, channel, moved_at, all_moved, may_open, happens}
 use Rattle.ln_world.specs.World.{empty, run}
 use Rattle.ln_world.specs.Promises.{Headline, NoneRefused, AllTaken, OneFee, Agrees, BringsFit, Each, BringFit, OfEach}
+use Rattle.ln_world.specs.Promises.{AnswersShutdown}
 use Rattle.ln_world.proofs.Fitting.{funders, fundees}
 use Rattle.ln_world.proofs.Opened.{mirrored, fees_so, opening_so}
-use Rattle.ln_world.proofs.Kept.{IsRun, IsOpen, act_kept, fall_kept, up_kept, Tale, IsTold}
+use Rattle.ln_world.proofs.Kept.{IsRun, IsOpen, act_kept, fall_kept, restart_kept, up_kept, Tale, IsTold}
 use Rattle.ln_world.proofs.Kept as channels
 
 -- ---- what nodes bring
@@ -188,6 +189,12 @@ module _ {K : Type 0} (k : Ghosts K) where
   moved_so n f keep [] h = tt
   moved_so n f keep (c ∷ cs) h = (one_moved (c.number == n) f keep c h.0, moved_so n f keep cs h.1)
 
+  all_so : (f : Channel K → List Move)
+      → ((c : Channel K) → IsOpen k.signer c → IsOpen k.signer (moved k.signer f c))
+      → (cs : List (Channel K)) → Each (IsOpen k.signer) cs → Each (IsOpen k.signer) (all_moved k.signer f cs)
+  all_so f keep [] h = tt
+  all_so f keep (c ∷ cs) h = (keep c h.0, all_so f keep cs h.1)
+
   joined_so : (cs : List (Channel K)) (c : Channel K) → Each (IsOpen k.signer) cs → IsOpen k.signer c
       → Each (IsOpen k.signer) (cs ++ c ∷ [])
   joined_so [] c h o = (o, tt)
@@ -240,6 +247,10 @@ module _ {K : Type 0} (k : Ghosts K) where
     settings = h.settings;
     channels = moved_so e.channel (fall_moves e.node) (fall_kept k.signer e.node) w.channels h.channels;
   }
+  happened (step.Restart n) w f h = record {
+    settings = h.settings;
+    channels = all_so (restart_moves n) (restart_kept k.signer n) w.channels h.channels;
+  }
   happened (step.Up n) w f h = record {
     settings = h.settings;
     channels = moved_so n up_moves (up_kept k.signer) w.channels h.channels;
@@ -275,3 +286,7 @@ module _ {K : Type 0} (k : Ghosts K) where
 
   pub one_fee : (ss : List (Step K k)) → BringFit k ss → OfEach OneFee (run k ss empty)
   one_fee ss f = of_each OneFee (channels.closes_at_one_fee k.signer) (run k ss empty).channels (kept ss f).channels
+
+  pub answered : (ss : List (Step K k)) → BringFit k ss → OfEach AnswersShutdown (run k ss empty)
+  answered ss f = of_each AnswersShutdown (channels.answers_shutdown k.signer) (run k ss empty).channels
+      (kept ss f).channels

@@ -22,10 +22,10 @@ use Rattle.ln_world.specs.declared.step.Step.{Step}
 use Rattle.ln_world.specs.declared.step.Step.TheVariants as step
 use Rattle.ln_world.specs.declared.settings.Settings.{Settings}
 use Rattle.ln_world.specs.Settings.{channel_id_of, opening_by, may_bring}
-use Rattle.ln_world.specs.Both.{Both, Move, By, Falls, Meet}
+use Rattle.ln_world.specs.Both.{Both, Move, By, Falls, Restarts, Meet}
 use Rattle.ln_world.specs.Channel.{Channel, is_node, by, side_of, moved, may_meet, opened_by, act_moves, fall_moves}
-use Rattle.ln_world.specs.Channel.{up_moves}
-use Rattle.ln_world.specs.World.{World, settings_of, channel, moved_if, moved_at, may_open, joined, happens}
+use Rattle.ln_world.specs.Channel.{restart_moves, up_moves}
+use Rattle.ln_world.specs.World.{World, settings_of, channel, moved_if, moved_at, all_moved, may_open, joined, happens}
 use Rattle.ln_world.specs.World.{empty, run}
 use Rattle.ln_world.specs.Promises.{BringsFit, BringFit}
 use Rattle.ln_world.specs.Course.{step_moves, in_channel, over}
@@ -63,6 +63,13 @@ module _ {K : Type 0} (k : Ghosts K) where
       (same_number (c.number == m) f c)
       ∙ found_by (c.number == n) (moved_if k.signer m f) c (channel n cs) (channel n (moved_at k.signer m f cs))
       (found_moved n m f cs)
+
+  found_in_all : (n : ℕ) (f : Channel K → List Move) (cs : List (Channel K))
+      → channel n (all_moved k.signer f cs) ≡ option_map (moved k.signer f) (channel n cs)
+  found_in_all n f [] = refl
+  found_in_all n f (c ∷ cs) =
+      found_by (c.number == n) (moved k.signer f) c (channel n cs) (channel n (all_moved k.signer f cs))
+      (found_in_all n f cs)
 
   found_behind : (b : Bool) (d : Channel K) (o extra o' : Option (Channel K)) → o' ≡ or_else o extra
       → cond b (Some d) o' ≡ or_else (cond b (Some d) o) extra
@@ -107,6 +114,9 @@ module _ {K : Type 0} (k : Ghosts K) where
 
   falls_possible : (n : Node) → MayMake (fall_moves n)
   falls_possible n c = by_possible (channel_id_of c.number) c.both (side_of n c) Falls (λ side. (refl, tt))
+
+  restarts_possible : (n : Node) → MayMake (restart_moves n)
+  restarts_possible n c = by_possible (channel_id_of c.number) c.both (side_of n c) Restarts (λ side. (refl, tt))
 
   up_by : (id : List ℕ) (p : Both K) (b : Bool) → may_meet p ≡ b
       → ArePossible k.signer id (cond b (Meet ∷ []) []) p
@@ -201,6 +211,21 @@ module _ {K : Type 0} (k : Ghosts K) where
       subst (λ o. Recounts o (then t (tale_for s [] (channel n cs)))) (sym (found_moved n m f cs))
       (moved_told s m f (channel n cs) t may is h)
 
+  all_told_of : (s : Step K k) (f : Channel K → List Move) (o : Option (Channel K)) (t : Tale) → MayMake f
+      → ((c : Channel K) → step_moves k s c ≡ f c) → Recounts o t
+      → Recounts (option_map (moved k.signer f) o) (then t (tale_for s [] o))
+  all_told_of s f None t may is h = then-untold t ∙ h
+  all_told_of s f (Some c) t may is h =
+      subst (λ ms. IsToldOf k (moved k.signer f c) (then t (tale_along k.signer (channel_id_of c.number) ms c.both)))
+      (sym (is c)) (one_told true f c t may h)
+
+  all_go_so : (s : Step K k) (f : Channel K → List Move) (n : ℕ) (cs : List (Channel K)) (t : Tale) → MayMake f
+      → ((c : Channel K) → step_moves k s c ≡ f c) → Recounts (channel n cs) t
+      → Recounts (channel n (all_moved k.signer f cs)) (then t (tale_for s [] (channel n cs)))
+  all_go_so s f n cs t may is h =
+      subst (λ o. Recounts o (then t (tale_for s [] (channel n cs)))) (sym (found_in_all n f cs))
+      (all_told_of s f (channel n cs) t may is h)
+
   step_told : (n : ℕ) (s : Step K k) (w : World K) (t : Tale) → BringsFit k s → Keeps k w
       → Recounts (channel n w.channels) t → Recounts (channel n (happens k s w).channels) (then t (tale_in n s w))
   step_told n (step.Fees m fees) w t f keeps h =
@@ -212,6 +237,8 @@ module _ {K : Type 0} (k : Ghosts K) where
       goes_so (step.Do e a) e.channel (act_moves e.node a) n w.channels t (acts_possible e.node a) (λ c. refl) h
   step_told n (step.Down e) w t f keeps h =
       goes_so (step.Down e) e.channel (fall_moves e.node) n w.channels t (falls_possible e.node) (λ c. refl) h
+  step_told n (step.Restart m) w t f keeps h =
+      all_go_so (step.Restart m) (restart_moves m) n w.channels t (restarts_possible m) (λ c. refl) h
   step_told n (step.Up m) w t f keeps h =
       goes_so (step.Up m) m up_moves n w.channels t ups_possible (λ c. refl) h
 

@@ -1,12 +1,15 @@
 -- The two ends of one channel, each a link of its own, and what is in flight to each (BOLT 2). What an end does is told
 -- from that end, as x, with the other at y: what a message, a command, a connection and its loss make of an end is what
 -- the rows of a link say.
-use Rattle.std.specs.Prelude.{ℕ, List, [], ◌∷◌, ◌++◌, Bool, not, ◌&&◌, Result, Ok, Err, if◌then◌else◌}
+use Rattle.std.specs.Prelude.{ℕ, List, [], ◌∷◌, ◌++◌, Bool, not, ◌&&◌, Option, Some, None, Result, Ok, Err}
+use Rattle.std.specs.Prelude.{if◌then◌else◌}
 use Rattle.ln_msgs.specs.declared.messages.message.Message.{Message}
 use Rattle.ln_msgs.specs.declared.refusals.refusal.Refusal.{Refusal}
 use Rattle.ln_keys.specs.declared.role.Role.{Role}
 use Rattle.ln_keys.specs.declared.role.Role.TheVariants.{Funder, Fundee}
 use Rattle.ln_keys.specs.Signer.{Signer}
+use Rattle.ln_link.specs.End.{End as ChannelEnd, end_dropped}
+use Rattle.ln_link.specs.Record.{saved_end, came_back}
 use Rattle.ln_link.specs.State.{State, is_down, refused, drops, numbers_of}
 use Rattle.ln_link.specs.Step.{Done, handled, commanded, connected}
 use Rattle.ln_world.specs.declared.step.Act.{Act}
@@ -19,8 +22,9 @@ use Rattle.ln_world.specs.declared.line.Line.TheVariants as line
 use Rattle.ln_pair.specs.Ends.{messages_in}
 use Rattle.ln_world.specs.Lines.{lines_of, replies, refused_lines}
 
--- an end, and the messages in flight to it, the oldest first
+-- an end with its keys, which outlive its link, and the messages in flight to it, the oldest first
 pub record Place (K : Type 0) : Type 0 where
+  pub keys : K
   pub link : State K
   pub inbox : List Message
 
@@ -67,7 +71,7 @@ unchanged r l = l
 -- x answers, in the channel of this id
 abbrev pub answers : {K : Type 0} → (Refusal → State K → State K) → List ℕ → Result Done Refusal → Both K → Both K
 answers after id row p = record {
-  x = record { link = left after row p.x.link; inbox = p.x.inbox };
+  x = record p.x { link = left after row p.x.link };
   y = reaches (sent_by id row) p.y;
 }
 
@@ -78,7 +82,7 @@ abbrev pub delivers : {K : Type 0} → (K → Signer) → List ℕ → List Mess
 delivers signer id [] p = p
 delivers signer id (m ∷ ms) p =
     answers refused id (handled (signer p.x.link.keys) p.x.link m)
-    (record { x = record { link = p.x.link; inbox = ms }; y = p.y })
+    (record { x = record p.x { inbox = ms }; y = p.y })
 
 abbrev pub delivered_lines : {K : Type 0} → (K → Signer) → End → List ℕ → List Message → State K → List Line
 delivered_lines signer e id [] l = line.Idle ∷ []
@@ -94,10 +98,24 @@ act_lines signer e id (act.Send c) p = answer_lines e id (commanded (signer p.li
 
 -- an end loses its connection, and what is in flight to it
 abbrev pub fallen : {K : Type 0} → Place K → Place K
-fallen p = record { link = drops p.link; inbox = [] }
+fallen p = record { keys = p.keys; link = drops p.link; inbox = [] }
 
 abbrev pub falls : {K : Type 0} → Both K → Both K
 falls p = record { x = fallen p.x; y = p.y }
+
+-- ---- the node of an end restarts
+
+-- it comes back from its record; one whose opening isn't signed by both has none, and loses its connection alone
+abbrev pub back : {K : Type 0} → K → State K → Option ChannelEnd → State K
+back keys l (Some e) = came_back keys l.failure (end_dropped e)
+back keys l None = drops l
+
+abbrev pub restarted : {K : Type 0} → Place K → Place K
+restarted p = record { keys = p.keys; link = back p.keys p.link (saved_end p.link.stage); inbox = [] }
+
+-- the other end isn't touched, nor is what is in flight to it
+abbrev pub restarts : {K : Type 0} → Both K → Both K
+restarts p = record { x = restarted p.x; y = p.y }
 
 -- ---- a connection: both ends have it before either sends, so that nothing is lost
 
@@ -114,7 +132,7 @@ greet_lines e (Ok d) = lines_of e (numbers_of d.stage) d.outputs
 greet_lines e (Err r) = []
 
 abbrev pub comes_up : {K : Type 0} → (K → Signer) → Place K → Place K
-comes_up signer p = record { link = left unchanged (greeting signer p.link) p.link; inbox = p.inbox }
+comes_up signer p = record p { link = left unchanged (greeting signer p.link) p.link }
 
 abbrev pub meet : {K : Type 0} → (K → Signer) → Both K → Both K
 meet signer p = record {
@@ -130,6 +148,7 @@ may_come_up l = is_down l.line && not l.halted
 pub data Move : Type 0 where
   By : (side : Role) (act : Act) → Move
   Falls : (side : Role) → Move
+  Restarts : (side : Role) → Move
   Meet : Move
 
 -- told from the funder's end or from the fundee's
@@ -140,6 +159,7 @@ from Fundee f p = swapped (f (swapped p))
 unfoldable pub moves : {K : Type 0} → (K → Signer) → List ℕ → Move → Both K → Both K
 moves signer id (By side act) p = from side (acts signer id act) p
 moves signer id (Falls side) p = from side falls p
+moves signer id (Restarts side) p = from side restarts p
 moves signer id Meet p = meet signer p
 
 abbrev pub run : {K : Type 0} → (K → Signer) → List ℕ → List Move → Both K → Both K

@@ -1,5 +1,5 @@
--- A channel between two nodes: which moves of its two ends an act, the loss of a connection and a new one are, how it
--- is opened, and what is told of it.
+-- A channel between two nodes: which moves of its two ends an act, the loss of a connection, a node's restart and a new
+-- connection are, how it is opened, and what is told of it.
 use Rattle.std.specs.Prelude.{ℕ, List, [], ◌∷◌, ◌++◌, Bool, ◌==◌, ◌&&◌, Option, Some, None, if◌then◌else◌}
 use Rattle.ln_keys.specs.declared.keys.ChannelKeys.{Ghosts}
 use Rattle.ln_keys.specs.declared.role.Role.{Role}
@@ -16,7 +16,8 @@ use Rattle.ln_world.specs.declared.settings.Settings.{Settings}
 use Rattle.ln_world.specs.declared.line.Line.{Line}
 use Rattle.ln_world.specs.declared.line.Line.TheVariants as line
 use Rattle.ln_world.specs.Settings.{config_of, spec_of, channel_id_of}
-use Rattle.ln_world.specs.Both.{Both, Place, Move, By, Falls, Meet, act_lines, may_come_up, greet_lines, greeting}
+use Rattle.ln_world.specs.Both.{Both, Place, Move, By, Falls, Restarts, Meet, act_lines, may_come_up, greet_lines}
+use Rattle.ln_world.specs.Both.{greeting}
 use Rattle.ln_world.specs.Both.{run as run_both}
 
 pub record Channel (K : Type 0) : Type 0 where
@@ -56,12 +57,15 @@ moved signer f c = record {
   both = run_both signer (channel_id_of c.number) (f c) c.both;
 }
 
--- the table: which moves of a channel an act, the loss of a connection and a new one are
+-- the table: which moves of a channel an act, the loss of a connection, a node's restart and a new connection are
 abbrev pub act_moves : {K : Type 0} → Node → Act → Channel K → List Move
 act_moves n a c = by (side_of n c) (λ side. By side a)
 
 abbrev pub fall_moves : {K : Type 0} → Node → Channel K → List Move
 fall_moves n c = by (side_of n c) Falls
+
+abbrev pub restart_moves : {K : Type 0} → Node → Channel K → List Move
+restart_moves n c = by (side_of n c) Restarts
 
 abbrev pub up_moves : {K : Type 0} → Channel K → List Move
 up_moves c = if may_meet c.both then Meet ∷ [] else []
@@ -76,11 +80,16 @@ begun_by k o funder fundee = record {
   fundee = o.fundee;
   both = record {
     x = record {
+      keys = o.keys.funder;
       link = begun o.keys.funder (stage.AwaitsAccept
           (spec_of o.channel (config_of o.funder funder) o.satoshis o.push));
       inbox = [];
     };
-    y = record { link = begun o.keys.fundee (stage.AwaitsOpen (config_of o.fundee fundee)); inbox = [] };
+    y = record {
+      keys = o.keys.fundee;
+      link = begun o.keys.fundee (stage.AwaitsOpen (config_of o.fundee fundee));
+      inbox = [];
+    };
   };
 }
 

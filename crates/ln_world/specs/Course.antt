@@ -6,7 +6,7 @@ use Rattle.ln_world.specs.declared.step.Step.{Step}
 use Rattle.ln_world.specs.declared.step.Step.TheVariants as step
 use Rattle.ln_world.specs.Settings.{channel_id_of}
 use Rattle.ln_world.specs.Both.{Both, Move, moves}
-use Rattle.ln_world.specs.Channel.{Channel, act_moves, fall_moves, up_moves}
+use Rattle.ln_world.specs.Channel.{Channel, act_moves, fall_moves, restart_moves, up_moves}
 use Rattle.ln_world.specs.World.{World, channel, happens}
 
 -- those of a channel that is there
@@ -16,6 +16,7 @@ step_moves k (step.Limits n limits) c = []
 step_moves k (step.Open o) c = []
 step_moves k (step.Do e a) c = if c.number == e.channel then act_moves e.node a c else []
 step_moves k (step.Down e) c = if c.number == e.channel then fall_moves e.node c else []
+step_moves k (step.Restart n) c = restart_moves n c
 step_moves k (step.Up n) c = if c.number == n then up_moves c else []
 
 -- what comes of each move of a channel, in the order of the moves

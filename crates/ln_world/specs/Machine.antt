@@ -23,7 +23,7 @@ use Rattle.ln_world.specs.declared.step.Act.TheVariants as act
 use Rattle.ln_world.specs.declared.step.Step.{Step}
 use Rattle.ln_world.specs.declared.step.Step.TheVariants as step
 use Rattle.ln_world.specs.Settings.{opening_by}
-use Rattle.ln_world.specs.Both.{Both, Place, Move, By, Falls, Meet, greeting}
+use Rattle.ln_world.specs.Both.{Both, Place, Move, By, Falls, Restarts, Meet, greeting}
 use Rattle.ln_world.specs.Channel.{Channel, place_of}
 use Rattle.ln_world.specs.World.{World, channel, settings_of, may_open}
 use Rattle.ln_world.specs.Course.{in_channel, over}
@@ -77,13 +77,14 @@ moves_of_act signer side act.Deliver p = moves_delivered signer side p.inbox p.l
 moves_of_act signer side (act.Send c) p =
     moves_of_command side c p.link.stage (commanded (signer p.link.keys) p.link c)
 
--- a lost connection drops what no signature covers
+-- a lost connection drops what no signature covers; a restart is one
 abbrev pub moves_of_fall : Role → Line → List machine.Move
 moves_of_fall side l = if is_down l then [] else Drop side ∷ []
 
 abbrev pub moves_of : {K : Type 0} → (K → Signer) → Move → Both K → List machine.Move
 moves_of signer (By side a) p = moves_of_act signer side a (place_of side p)
 moves_of signer (Falls side) p = moves_of_fall side (place_of side p).link.line
+moves_of signer (Restarts side) p = moves_of_fall side (place_of side p).link.line
 moves_of signer Meet p = []
 
 -- ---- all moves of the channel with this number, its opening first
@@ -120,10 +121,12 @@ abbrev pub tells : {K : Type 0} → (K → Signer) → Role → Move → Both K 
 tells signer Funder (By Funder a) p = act_tells signer a p.x
 tells signer Funder (By Fundee a) p = []
 tells signer Funder (Falls side) p = []
+tells signer Funder (Restarts side) p = []
 tells signer Funder Meet p = outputs_of (greeting signer p.x.link)
 tells signer Fundee (By Funder a) p = []
 tells signer Fundee (By Fundee a) p = act_tells signer a p.y
 tells signer Fundee (Falls side) p = []
+tells signer Fundee (Restarts side) p = []
 tells signer Fundee Meet p = outputs_of (greeting signer p.y.link)
 
 -- the end of this side of the channel with this number, since it was opened

@@ -5,6 +5,7 @@ use Rattle.ln_msgs.specs.declared.refusals.refusal.Refusal.TheVariants as refusa
 use Rattle.ln_keys.specs.declared.keys.ChannelKeys.{Ghosts}
 use Rattle.ln_keys.specs.Signer.{Signer}
 use Rattle.ln_dance.specs.Dance.{sign_fault}
+use Rattle.ln_link.specs.declared.link.Line.{Line}
 use Rattle.ln_link.specs.declared.link.Line.TheVariants.{Met}
 use Rattle.ln_link.specs.declared.link.Stage.{Stage}
 use Rattle.ln_link.specs.declared.link.Stage.TheVariants as stage
@@ -13,6 +14,7 @@ use Rattle.ln_link.specs.State.{State}
 use Rattle.ln_link.specs.Step.{handled}
 use Rattle.ln_pair.specs.Promises.{AreSent, FollowEachOther, IsTaken, IsTakenButForItsFee, Overlap, CloseAtOneFee}
 use Rattle.ln_pair.specs.Promises.{HoldTheSame}
+use Rattle.ln_pair.specs.Answers.{HasAnswered}
 use Rattle.ln_world.specs.declared.step.Step.{Step}
 use Rattle.ln_world.specs.declared.step.Step.TheVariants as step
 use Rattle.ln_world.specs.World.{World}
@@ -63,6 +65,14 @@ AllTaken signer p = AtEnds FeesOverlap p.x.link.stage p.y.link.stage
 abbrev pub OneFee : {K : Type 0} → Both K → Type 0
 OneFee p = AtEnds CloseAtOneFee p.x.link.stage p.y.link.stage
 
+-- ---- an end that has met its peer and has taken its shutdown has sent its own, once its updates are acknowledged
+
+abbrev pub HaveAnswered : Line → Line → End → End → Type 0
+HaveAnswered m n x y = HasAnswered m x × HasAnswered n y
+
+abbrev pub AnswersShutdown : {K : Type 0} → Both K → Type 0
+AnswersShutdown p = AtEnds (HaveAnswered p.x.link.line p.y.link.line) p.x.link.stage p.y.link.stage
+
 -- ---- at rest both hold every update of either side, and their commitments are worth the same
 
 -- both ends have met, and nothing is in flight
@@ -94,6 +104,7 @@ BringsFit k (step.Limits n limits) = Unit {0}
 BringsFit k (step.Open o) = HavePoints (k.signer o.keys.funder) × HavePoints (k.signer o.keys.fundee)
 BringsFit k (step.Do e a) = Unit {0}
 BringsFit k (step.Down e) = Unit {0}
+BringsFit k (step.Restart n) = Unit {0}
 BringsFit k (step.Up n) = Unit {0}
 
 abbrev pub Each : {A : Type 0} → (A → Type 0) → List A → Type 0

@@ -16,8 +16,8 @@ use Rattle.ln_world.specs.declared.line.Line.TheVariants as line
 use Rattle.ln_world.specs.declared.line.EndLine.{EndLine}
 use Rattle.ln_world.specs.Settings.{defaults, may_bring}
 use Rattle.ln_world.specs.Both.{Move}
-use Rattle.ln_world.specs.Channel.{Channel, is_node, moved, opened_by, act_moves, fall_moves, up_moves, end_of}
-use Rattle.ln_world.specs.Channel.{side_of, acted_lines, fallen_lines, met_lines}
+use Rattle.ln_world.specs.Channel.{Channel, is_node, moved, opened_by, act_moves, fall_moves, restart_moves, up_moves}
+use Rattle.ln_world.specs.Channel.{end_of, side_of, acted_lines, fallen_lines, met_lines}
 
 pub record World (K : Type 0) : Type 0 where
   pub settings : List Setting  -- a node that isn't among them has the defaults
@@ -62,6 +62,13 @@ moved_at signer n f cs = map (moved_if signer n f) cs
 abbrev pub at : {K : Type 0} → (K → Signer) → ℕ → (Channel K → List Move) → World K → World K
 at signer n f w = record { settings = w.settings; channels = moved_at signer n f w.channels }
 
+-- every channel moves so
+abbrev pub all_moved : {K : Type 0} → (K → Signer) → (Channel K → List Move) → List (Channel K) → List (Channel K)
+all_moved signer f cs = map (moved signer f) cs
+
+abbrev pub everywhere : {K : Type 0} → (K → Signer) → (Channel K → List Move) → World K → World K
+everywhere signer f w = record { settings = w.settings; channels = all_moved signer f w.channels }
+
 -- ---- a channel that is opened
 
 -- no channel has its number, its ends are at two nodes, and what both bring fits
@@ -87,6 +94,7 @@ happens k (step.Limits n limits) w = set_for n (record (settings_of n w.settings
 happens k (step.Open o) w = opens k o w
 happens k (step.Do e a) w = at k.signer e.channel (act_moves e.node a) w
 happens k (step.Down e) w = at k.signer e.channel (fall_moves e.node) w
+happens k (step.Restart n) w = everywhere k.signer (restart_moves n) w
 happens k (step.Up n) w = at k.signer n up_moves w
 
 abbrev pub run : {K : Type 0} → (k : Ghosts K) → List (Step K k) → World K → World K
@@ -110,6 +118,7 @@ step_lines k (step.Open o) w = opening_lines o w
 step_lines k (step.Do e a) w =
     if_there (λ c. acted_lines k.signer a c (side_of e.node c)) (channel e.channel w.channels)
 step_lines k (step.Down e) w = if_there (λ c. fallen_lines (side_of e.node c)) (channel e.channel w.channels)
+step_lines k (step.Restart n) w = []
 step_lines k (step.Up n) w = if_there (met_lines k.signer) (channel n w.channels)
 
 abbrev pub run_lines : {K : Type 0} → (k : Ghosts K) → List (Step K k) → World K → List Line

@@ -1,11 +1,12 @@
 //! The two ends of one channel, each a link of its own, and what is in flight to each (BOLT 2).
 
-ghost use Rattle.std.specs.Prelude.{◌≡◌, ◌++◌, IfOk, IfErr, OnOk};
+ghost use Rattle.std.specs.Prelude.{◌≡◌, ◌++◌, option_copied, IfOk, IfErr, OnOk};
 ghost use Rattle.ln_msgs.specs.declared.refusals.refusal.Refusal.TheVariants as refusal;
 ghost use Rattle.ln_world.specs.declared.step.Act.TheVariants as act;
 ghost use Rattle.ln_world.specs.Settings.{channel_id_of};
 ghost use Rattle.ln_pair.specs.Ends.{messages_in};
 ghost use Rattle.ln_world.specs.Lines.{lines_of, replies, refused_lines};
+ghost use Rattle.ln_link.specs.Record.{saved_end};
 ghost use Rattle.ln_link.specs.State.{numbers_of};
 ghost use Rattle.ln_world.specs.Both.{reaches, sent_by, answer_lines, said_by, delivers, delivered_lines, acts};
 ghost use Rattle.ln_world.specs.Both.{act_lines};
@@ -16,16 +17,18 @@ use crate::line::Line;
 use crate::settings::channel_id_of;
 use crate::step::{Act, End};
 use crate::tell::{reply_of, tell_outputs, tell_refusal};
+use ln_durable::restart;
 use ln_keys::{ChannelKeys, Role};
-use ln_link::{Command, Link, Output};
+use ln_link::{Channel, Command, Link, Output};
 use ln_msgs::{Message, Refusal};
 use std::alloc::Global;
 use std::collections::VecDeque;
 use std::marker::Model;
 
-/// An end of a channel, and the messages in flight to it.
+/// An end of a channel with its keys, and the messages in flight to it.
 #[derive(Drop)]
 pub struct Place<K: ChannelKeys + Copy> {
+    keys: K,
     link: Link<K>,
     inbox: VecDeque<Message>,
 }
@@ -35,7 +38,7 @@ impl<K: ChannelKeys + Copy> Model for Place<K> {
 
     ghost Value = { PlaceState K };
 
-    ghost view = { λ p. record { link = p.link; inbox = p.inbox.items } };
+    ghost view = { λ p. record { keys = p.keys; link = p.link; inbox = p.inbox.items } };
 }
 
 /// The messages among what is handed out join those in flight.
@@ -52,17 +55,32 @@ fn send_all(outputs: Vec<Output>, inbox: &mut VecDeque<Message>) -> Result<(), R
     Ok(())
 }
 
+fn failure_of<K: ChannelKeys + Copy>(link: &Link<K>) -> Option<Refusal>
+    ensures { result ≡ link.now.failure }
+{
+    link.failure()
+}
+
+/// The end of its channel, where both have signed the opening.
+fn end_of<K: ChannelKeys + Copy>(link: &Link<K>) -> Option<&Channel>
+    ensures { option_copied result ≡ saved_end link.now.stage }
+{
+    link.saved()
+}
+
 impl<K: ChannelKeys + Copy> Place<K> {
     ghost use Rattle.std.specs.Prelude.{◌≡◌, [], IfErr, OnOk};
     ghost use Rattle.ln_pair.specs.Ends.{messages_in};
     ghost use Rattle.ln_world.specs.Lines.{one_or_none};
-    ghost use Rattle.ln_world.specs.Both.{reaches, fallen, may_come_up};
+    ghost use Rattle.ln_world.specs.Both.{reaches, fallen, restarted, may_come_up};
+    ghost use Rattle.ln_world.specs.Failing.{ByRecord, LinkLacks};
 
     /// An end without a connection, and nothing in flight to it. Takes no memory.
-    pub(crate) fn new(alloc: Global, link: Link<K>) -> Place<K>
-        ensures { result ≡ record { link = link; inbox = [] } }
+    pub(crate) fn new(alloc: Global, keys: K, link: Link<K>) -> Place<K>
+        ensures { result ≡ record { keys = keys; link = link; inbox = [] } }
     {
         Place {
+            keys,
             link,
             inbox: VecDeque::new(alloc),
         }
@@ -112,6 +130,32 @@ impl<K: ChannelKeys + Copy> Place<K> {
         ensures { self.new ≡ fallen self.old }
     {
         self.link.drop_connection();
+        self.inbox.clear();
+    }
+
+    /// Its node restarts: it comes back from its record, and what is in flight to it is lost. Takes memory for the
+    /// record and for the end.
+    ///
+    /// Errors: 60 where there is no memory; 70 where the end has no record.
+    pub(crate) fn restart(&mut self, alloc: Global) -> Result<(), Refusal>
+        ensures restarted { OnOk result (self.new ≡ restarted self.old) }
+        ensures fails { IfErr result (λ e. ByRecord e (LinkLacks self.old.link)) }
+    {
+        let failure = failure_of(&self.link);
+        match end_of(&self.link) {
+            Some(channel) => {
+                let link = restart(alloc, self.keys, failure, channel)?;
+                self.come_back(link);
+            }
+            None => self.fall(),
+        }
+        Ok(())
+    }
+
+    fn come_back(&mut self, link: Link<K>)
+        ensures { self.new ≡ record { keys = self.old.keys; link = link; inbox = [] } }
+    {
+        self.link = link;
         self.inbox.clear();
     }
 }

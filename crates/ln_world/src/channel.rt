@@ -42,11 +42,12 @@ impl<K: ChannelKeys + Copy> Channel<K> {
     ghost use Rattle.std.specs.Prelude.{◌≡◌, ◌++◌, ◌∷◌, [], Some, OnOk, IfOk, IfErr, if◌then◌else◌};
     ghost use Rattle.ln_keys.specs.declared.role.Role.TheVariants.{Funder, Fundee};
     ghost use Rattle.ln_world.specs.Settings.{channel_id_of};
-    ghost use Rattle.ln_world.specs.Both.{By, Falls, Meet, act_lines, greet_lines, greeting};
+    ghost use Rattle.ln_world.specs.Both.{By, Falls, Restarts, Meet, act_lines, greet_lines, greeting};
     ghost use Rattle.ln_world.specs.Channel.{side_of, moved, act_moves, fall_moves, up_moves, acted_lines};
-    ghost use Rattle.ln_world.specs.Channel.{fallen_lines, place_of, end_of, opening_moves, met_lines};
+    ghost use Rattle.ln_world.specs.Channel.{restart_moves, fallen_lines, place_of, end_of, opening_moves, met_lines};
     ghost use Rattle.ln_link.specs.Standing.{standing};
     ghost use Rattle.ln_world.specs.World.{lines_of_ends};
+    ghost use Rattle.ln_world.specs.Failing.{ByRecord, SideLacks};
 
     /// Its number.
     pub fn number(&self) -> u8
@@ -165,6 +166,21 @@ impl<K: ChannelKeys + Copy> Channel<K> {
         Ok(())
     }
 
+    /// The node's end comes back from its record, where it has one. 60 where there is no memory, 70 where the end has
+    /// no record.
+    #[tactic(auto, unfolding(crate::specs::Both::moves))]
+    pub fn restart(&mut self, alloc: Global, node: Node) -> Result<(), Refusal>
+        ensures moved { OnOk result (self.new ≡ moved K.signer (restart_moves node) self.old) }
+        ensures number { self.new.number ≡ self.old.number }
+        ensures fails { IfErr result (λ e. ByRecord e (SideLacks (side_of node self.old) self.old.both)) }
+    {
+        match self.side_of(node) {
+            None => Ok(()),
+            Some(Role::Funder) => self.funder.restart(alloc),
+            Some(Role::Fundee) => self.fundee.restart(alloc),
+        }
+    }
+
     /// Its ends connect, and each of the four messages of the opening is taken by the other end. Nothing is told of it.
     /// 60 where there is no memory.
     fn open(&mut self, alloc: Global) -> Result<(), Refusal>
@@ -258,8 +274,16 @@ fn begin<K: ChannelKeys + Copy>(
         number: wish.channel,
         funder_node: wish.funder,
         fundee_node: wish.fundee,
-        funder: Place::new(alloc, Link::funder(wish.keys.funder, spec)),
-        fundee: Place::new(alloc, Link::fundee(wish.keys.fundee, config)),
+        funder: Place::new(
+            alloc,
+            wish.keys.funder,
+            Link::funder(wish.keys.funder, spec),
+        ),
+        fundee: Place::new(
+            alloc,
+            wish.keys.fundee,
+            Link::fundee(wish.keys.fundee, config),
+        ),
     })
 }
 

@@ -3,13 +3,14 @@
 ghost use Rattle.std.specs.Prelude.{◌≡◌, ◌++◌, ◌==◌, position, is_none, IfErr, OnOk};
 ghost use Rattle.ln_msgs.specs.declared.refusals.refusal.Refusal.TheVariants as refusal;
 ghost use Rattle.ln_world.specs.Channel.{side_of, acted_lines, fallen_lines, met_lines};
-ghost use Rattle.ln_world.specs.Channel.{act_moves, fall_moves, up_moves};
-ghost use Rattle.ln_world.specs.World.{channel, moved_at, if_there, lines_of_ends, AreOnce};
+ghost use Rattle.ln_world.specs.Channel.{act_moves, fall_moves, restart_moves, up_moves};
+ghost use Rattle.ln_world.specs.World.{channel, moved_at, all_moved, if_there, lines_of_ends, AreOnce};
+ghost use Rattle.ln_world.specs.Failing.{ByRecord, SomeLacks};
 
 use crate::channel::{Channel, open_channel};
 use crate::line::{EndLine, Line};
 use crate::settings::Settings;
-use crate::step::{Act, End, Open};
+use crate::step::{Act, End, Node, Open};
 use ln_keys::{ChannelKeys, Role};
 use ln_msgs::Refusal;
 use std::alloc::Global;
@@ -93,6 +94,23 @@ fn fall_at<K: ChannelKeys + Copy>(
     }
 }
 
+/// Each end of a node comes back from its record. 60 where there is no memory, 70 where an end has no record.
+fn restart_each<K: ChannelKeys + Copy>(
+    alloc: Global,
+    channels: &mut [Channel<K>],
+    node: Node,
+) -> Result<(), Refusal>
+    requires { AreOnce channels.old }
+    ensures moved { OnOk result (channels.new ≡ all_moved K.signer (restart_moves node) channels.old) }
+    ensures once { AreOnce channels.new }
+    ensures fails { IfErr result (λ e. ByRecord e (SomeLacks node channels.old)) }
+{
+    for i in 0..channels.len() {
+        channels[i].restart(alloc, node)?;
+    }
+    Ok(())
+}
+
 /// Both ends of a channel get a connection, where it is there and they may. 60 where there is no memory.
 fn come_up_at<K: ChannelKeys + Copy>(
     alloc: Global,
@@ -138,8 +156,9 @@ impl<K: ChannelKeys + Copy> Channels<K> {
     ghost use Rattle.std.specs.Prelude.{◌≡◌, ◌++◌, ◌∷◌, [], is_none, None, OnOk, IfErr};
     ghost use Rattle.ln_world.specs.Settings.{CanBring};
     ghost use Rattle.ln_world.specs.Channel.{side_of, acted_lines, fallen_lines, met_lines, opened_by};
-    ghost use Rattle.ln_world.specs.Channel.{act_moves, fall_moves, up_moves};
-    ghost use Rattle.ln_world.specs.World.{channel, moved_at, if_there, lines_of_ends};
+    ghost use Rattle.ln_world.specs.Channel.{act_moves, fall_moves, restart_moves, up_moves};
+    ghost use Rattle.ln_world.specs.World.{channel, moved_at, all_moved, if_there, lines_of_ends};
+    ghost use Rattle.ln_world.specs.Failing.{ByRecord, SomeLacks};
 
     /// No channel. Takes no memory.
     pub(crate) fn new(alloc: Global) -> Channels<K>
@@ -200,6 +219,14 @@ impl<K: ChannelKeys + Copy> Channels<K> {
         ensures fails_for_memory_alone { IfErr result (λ e. e ≡ Refusal.Memory) }
     {
         fall_at(&mut self.items, end, lines)
+    }
+
+    /// Each end of a node comes back from its record. 60 where there is no memory, 70 where an end has no record.
+    pub(crate) fn restart(&mut self, alloc: Global, node: Node) -> Result<(), Refusal>
+        ensures moved { OnOk result (self.new ≡ all_moved K.signer (restart_moves node) self.old) }
+        ensures fails { IfErr result (λ e. ByRecord e (SomeLacks node self.old)) }
+    {
+        restart_each(alloc, &mut self.items, node)
     }
 
     /// Both ends of a channel get a connection, where it is there and they may. 60 where there is no memory.

@@ -1,12 +1,14 @@
 //! What nodes and channels promise over every list of steps: what is set, channels that are opened, messages that are
-//! delivered one at a time, commands that are given, and connections that are lost, at each end by itself, and come
-//! back (BOLT 2). Told of each channel's two links as the code leaves them, whatever their keys are that are partners.
-//! What the steps bring fits: fees are below 2^64 and points have 33 bytes, as is so of every step in code.
+//! delivered one at a time, commands that are given, connections that are lost, at each end by itself, and come back,
+//! and nodes that restart from their records (BOLT 2). Told of each channel's two links as the code leaves them,
+//! whatever their keys are that are partners. What the steps bring fits: fees are below 2^64 and points have 33 bytes,
+//! as is so of every step in code.
 
 ghost use Rattle.std.specs.Prelude.{ℕ, List};
 ghost use Rattle.ln_world.specs.declared.step.Step.{Step};
 ghost use Rattle.ln_world.specs.World.{empty, run};
 ghost use Rattle.ln_world.specs.Promises.{BringFit, OfEach, Headline, NoneRefused, AllTaken, OneFee, Agrees};
+ghost use Rattle.ln_world.specs.Promises.{AnswersShutdown};
 ghost use Rattle.ln_world.specs.Sending.{NoneAddsLate};
 
 use ln_keys::ChannelKeys;
@@ -39,6 +41,13 @@ pub fn closed_at_one_fee<K: ChannelKeys + Copy>()
         → OfEach OneFee (run K.ChannelKeys steps empty) }
 {}
 
+/// A law: in each channel, an end that has met its peer and has taken the peer's `shutdown` has sent its own, once all
+/// its updates are acknowledged (BOLT 2, "Closing Initiation: shutdown").
+pub fn a_shutdown_is_answered<K: ChannelKeys + Copy>()
+    ensures { (steps : List (Step K K.ChannelKeys)) → BringFit K.ChannelKeys steps
+        → OfEach AnswersShutdown (run K.ChannelKeys steps empty) }
+{}
+
 /// A law: in each channel, where both ends have met, nothing is in flight and neither has anything to sign, both hold
 /// every update of either side, and their commitments are worth the same.
 pub fn agreement<K: ChannelKeys + Copy>()
@@ -47,7 +56,7 @@ pub fn agreement<K: ChannelKeys + Copy>()
 {}
 
 /// A law: of all that either end of the channel with this number sends in these steps since it was opened, over all its
-/// connections, no `update_add_htlc` stands behind a `shutdown`.
+/// connections and over restarts of its nodes, no `update_add_htlc` stands behind a `shutdown`.
 pub fn no_add_follows_a_shutdown<K: ChannelKeys + Copy>()
     ensures { (steps : List (Step K K.ChannelKeys)) (number : ℕ) → BringFit K.ChannelKeys steps
         → NoneAddsLate K.ChannelKeys number steps empty }

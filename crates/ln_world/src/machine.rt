@@ -20,7 +20,7 @@ use ln_keys::ChannelKeys;
 /// number there is no machine, and no step is a move. Of commands that aren't refused, an update is proposed, a
 /// signature or a shutdown sent. A `commitment_signed` that is taken is accepted, a `revoke_and_ack` learned from; a
 /// close, and a shutdown that an end owes and sends in its turn, are the move of that turn. A lost connection drops
-/// what no signature covers. All else is no move.
+/// what no signature covers, and so does a restart of an end that has a connection. All else is no move.
 pub fn moves_are_the_machines<K: ChannelKeys + Copy>()
     ensures { (steps : List (Step K K.ChannelKeys)) (number : ℕ) → BringFit K.ChannelKeys steps
         → after_all (history K.ChannelKeys number steps empty) None

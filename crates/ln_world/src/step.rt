@@ -72,6 +72,9 @@ pub enum Step<K: ChannelKeys + Copy> {
     Do(End, Act),
     /// An end loses its connection, and what is in flight to it.
     Down(End),
+    /// A node restarts: each of its ends comes back from its record, without a connection, and what is in flight to it
+    /// is lost.
+    Restart(Node),
     /// Both ends of the channel with this number get a connection.
     Up(u8),
 }

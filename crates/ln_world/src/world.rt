@@ -34,6 +34,7 @@ impl<K: ChannelKeys + Copy> World<K> {
     ghost use Rattle.ln_world.specs.declared.step.Step.TheVariants as step;
     ghost use Rattle.ln_world.specs.World.{empty, channel, settings_of, may_open, happens, step_lines};
     ghost use Rattle.ln_world.specs.World.{run, run_lines, end_lines};
+    ghost use Rattle.ln_world.specs.Failing.{MayFail, SomeMayFail};
 
     /// No channel, and nothing was set. Takes no memory.
     pub fn new(alloc: Global) -> World<K>
@@ -99,13 +100,16 @@ impl<K: ChannelKeys + Copy> World<K> {
         Ok(())
     }
 
-    /// What happens in a step, and what is told of it, which joins the lines. 60 where there is no memory.
+    /// What happens in a step, and what is told of it, which joins the lines.
     ///
     /// What was set for a node counts in the channels that are opened from then on. A channel opens (BOLT 2, "Channel
     /// Establishment v1") where no other has its number, its ends are at two nodes, and `may_bring` takes what both
     /// bring; an end acts or loses its connection where its channel is there and the node has an end of it, and takes a
     /// message where one is in flight to it; both ends of a channel get a connection where both are down and neither
-    /// has halted. Else nothing changes, and `Line::Idle` is told.
+    /// has halted. Else nothing changes, and `Line::Idle` is told. Where a node restarts, each of its ends has its
+    /// record written and comes back from it; nothing is told of that, nor where the node has no end.
+    ///
+    /// Errors: 60 where there is no memory; at a restart 70 where an end of the node has no record.
     pub fn step(
         &mut self,
         alloc: Global,
@@ -114,7 +118,7 @@ impl<K: ChannelKeys + Copy> World<K> {
     ) -> Result<(), Refusal>
         ensures world { OnOk result (self.new ≡ happens K.ChannelKeys step self.old) }
         ensures told { OnOk result (lines.new.items ≡ lines.old.items ++ step_lines K.ChannelKeys step self.old) }
-        ensures fails_for_memory_alone { IfErr result (λ e. e ≡ Refusal.Memory) }
+        ensures fails { IfErr result (λ e. MayFail K.ChannelKeys step e self.old) }
     {
         match step {
             Step::Fees(node, fees) => self.set_fees(node, fees),
@@ -122,11 +126,12 @@ impl<K: ChannelKeys + Copy> World<K> {
             Step::Open(wish) => self.open(alloc, &wish, lines),
             Step::Do(end, what) => self.channels.act(alloc, end, what, lines),
             Step::Down(end) => self.channels.fall(end, lines),
+            Step::Restart(node) => self.channels.restart(alloc, node),
             Step::Up(number) => self.channels.come_up(alloc, number, lines),
         }
     }
 
-    /// One step after the other. 60 where there is no memory.
+    /// One step after the other. Errors: those of `step`.
     pub fn run(
         &mut self,
         alloc: Global,
@@ -135,7 +140,7 @@ impl<K: ChannelKeys + Copy> World<K> {
     ) -> Result<(), Refusal>
         ensures world { OnOk result (self.new ≡ run K.ChannelKeys steps.items self.old) }
         ensures told { OnOk result (lines.new.items ≡ lines.old.items ++ run_lines K.ChannelKeys steps.items self.old) }
-        ensures fails_for_memory_alone { IfErr result (λ e. e ≡ Refusal.Memory) }
+        ensures fails { IfErr result (λ e. SomeMayFail K.ChannelKeys steps.items e self.old) }
     {
         for step in steps {
             self.step(alloc, step, lines)?;

@@ -1,21 +1,24 @@
 //! What each command does, over any reader and writer.
 
 ghost use Rattle.std.specs.Prelude.{◌≡◌, ◌⊎◌, ◌+◌, ℕ, Err, OnOk, OnErr, IfOk, IfErr, IfSome};
-ghost use Rattle.ln_msgs.specs.declared.refusals.refusal.Refusal.TheVariants.{Memory, Io, BadScript};
+ghost use Rattle.ln_msgs.specs.declared.refusals.refusal.Refusal.TheVariants.{Memory, Damaged, Io, BadScript};
 ghost use Rattle.ln_msgs.specs.Pings.Counted.{HasRisen};
 ghost use Rattle.ln_msgs.specs.Pings.CountedView.{inner_of, failures_of, calls_of};
+ghost use Rattle.ln_script.specs.Script.{script_at};
+ghost use Rattle.ln_script.specs.Report.{ScriptLacksRecord};
 ghost use Rattle.lnlink.specs.Printed.{Prints, PrintsPartly};
 ghost use Rattle.lnlink.specs.Text.{decoded};
 ghost use Rattle.lnlink.specs.Done.{simulated_bytes, Does, DoesPartly, StopsBy, HasFailed};
 
 use crate::choice::Choice;
 use crate::failure::Failure;
+use crate::input::read_all;
 use crate::simulation::{script_text, simulate};
 use crate::text::decode_text;
 use ln_msgs::{Counted, Refusal, answer_pings};
 use ln_script::print_all;
 use std::alloc::Global;
-use std::io::{ErrorKind, Read, Write};
+use std::io::{Read, Write};
 
 /// Answers the pings of its input (`ln_msgs::answer_pings`), and stops at the first message that can't be read.
 fn answer<R: Read, W: Write>(
@@ -55,21 +58,6 @@ fn print_decoded<W: Write>(alloc: Global, hex: &str, writer: &mut Counted<W>) ->
     Ok(())
 }
 
-/// All of a reader's bytes. 60 where there is no memory for them, 63 where a read fails.
-fn read_all<R: Read>(alloc: Global, reader: &mut R) -> Result<Vec<u8>, Failure>
-    ensures reads_all { IfOk result (λ bytes. IfSome (R.remaining reader.old) (λ all. bytes.items ≡ all)) }
-    ensures cause { IfErr result (λ f. (f ≡ Failure.Refused Memory) ⊎ (f ≡ Failure.Refused Io)) }
-{
-    let mut bytes = Vec::new(alloc);
-    match reader.read_to_end(&mut bytes) {
-        Ok(_) => Ok(bytes),
-        Err(error) if error.kind() == ErrorKind::OutOfMemory => {
-            Err(Failure::Refused(Refusal::Memory))
-        }
-        Err(_) => Err(Failure::Refused(Refusal::Io)),
-    }
-}
-
 /// Runs the script that these bytes are, and writes its report (`simulate`). 64 with line 0 where they aren't UTF-8.
 fn simulate_bytes<W: Write>(
     alloc: Global,
@@ -80,8 +68,10 @@ fn simulate_bytes<W: Write>(
         (simulated_bytes bytes.now)) }
     ensures front { PrintsPartly (W.contents (inner_of writer.old)) (W.contents (inner_of writer.new))
         (simulated_bytes bytes.now) }
-    ensures cause { IfErr result (λ f. (f ≡ Failure.Refused Memory) ⊎ (f ≡ Failure.Refused Io)
-        ⊎ ((line : ℕ) × (f ≡ Failure.Refused (BadScript line)) × (simulated_bytes bytes.now ≡ Err line))) }
+    ensures cause { IfErr result (λ f. (f ≡ Failure.Refused Memory)
+        ⊎ ((f ≡ Failure.Refused Io) × HasRisen (failures_of writer.old) (failures_of writer.new))
+        ⊎ ((line : ℕ) × (f ≡ Failure.Refused (BadScript line)) × (simulated_bytes bytes.now ≡ Err line))
+        ⊎ ((f ≡ Failure.Refused Damaged) × ScriptLacksRecord (script_at bytes.now))) }
 {
     match script_text(bytes) {
         Ok(text) => simulate(alloc, text, writer),
@@ -92,16 +82,20 @@ fn simulate_bytes<W: Write>(
 /// Runs the script that its input is, once all of it is read.
 fn simulate_input<R: Read, W: Write>(
     alloc: Global,
-    reader: &mut R,
+    reader: &mut Counted<R>,
     writer: &mut Counted<W>,
 ) -> Result<(), Failure>
-    ensures prints_it { OnOk result (IfSome (R.remaining reader.old) (λ bytes.
+    ensures prints_it { OnOk result (IfSome (R.remaining (inner_of reader.old)) (λ bytes.
         Prints (W.contents (inner_of writer.old)) (W.contents (inner_of writer.new)) (simulated_bytes bytes))) }
-    ensures front { OnErr result (IfSome (R.remaining reader.old) (λ bytes.
+    ensures front { OnErr result (IfSome (R.remaining (inner_of reader.old)) (λ bytes.
         PrintsPartly (W.contents (inner_of writer.old)) (W.contents (inner_of writer.new)) (simulated_bytes bytes))) }
-    ensures cause { IfErr result (λ f. (f ≡ Failure.Refused Memory) ⊎ (f ≡ Failure.Refused Io)
+    ensures cause { IfErr result (λ f. (f ≡ Failure.Refused Memory)
+        ⊎ ((f ≡ Failure.Refused Io) × (HasRisen (failures_of reader.old) (failures_of reader.new)
+        ⊎ HasRisen (failures_of writer.old) (failures_of writer.new)))
         ⊎ ((line : ℕ) × (f ≡ Failure.Refused (BadScript line))
-        × IfSome (R.remaining reader.old) (λ bytes. simulated_bytes bytes ≡ Err line))) }
+        × IfSome (R.remaining (inner_of reader.old)) (λ bytes. simulated_bytes bytes ≡ Err line))
+        ⊎ ((f ≡ Failure.Refused Damaged)
+        × IfSome (R.remaining (inner_of reader.old)) (λ bytes. ScriptLacksRecord (script_at bytes)))) }
 {
     let bytes = read_all(alloc, reader)?;
     simulate_bytes(alloc, bytes.as_slice(), writer)
@@ -110,7 +104,8 @@ fn simulate_input<R: Read, W: Write>(
 /// Does what a command is for, and flushes what it has written. Takes memory.
 ///
 /// Errors: those of `ln_msgs::answer_pings`, `decode_text` and `simulate` by the number of the refusal; 63 also where
-/// a script can't be read. What was written by then is a beginning.
+/// a script can't be read. 63 comes only where a call of the reader or the writer failed, or after 2^64 - 1 of them.
+/// What was written by then is a beginning.
 pub fn perform<R: Read, W: Write>(
     alloc: Global,
     choice: Choice,

@@ -4,6 +4,7 @@
 mod choice;
 mod commands;
 mod failure;
+mod input;
 mod simulation;
 mod text;
 

@@ -1,6 +1,7 @@
 use Rattle.ln_keys.specs.Toy.{toy_signer}
 use Rattle.ln_world.specs.Promises.{OfEach, Headline, NoneRefused, AllTaken, OneFee, Agrees}
-use Rattle.ln_script.proofs.Fits.{after_each}
+use Rattle.ln_world.specs.Promises.{AnswersShutdown}
+use Rattle.ln_script.proofs.Fits.{after_each, steps_fit}
 use Rattle.ln_script.proofs.laws.scripts_keep_the_promises.Goals as goal
 
 pub returns-clause-headline : goal.returns-clause-headline
@@ -15,6 +16,13 @@ returns-clause-never_refused_where_fees_overlap c =
 
 pub returns-clause-closed_at_one_fee : goal.returns-clause-closed_at_one_fee
 returns-clause-closed_at_one_fee c = after_each (OfEach OneFee) c.closed_at_one_fee.ensures
+
+pub returns-clause-a_shutdown_is_answered : goal.returns-clause-a_shutdown_is_answered
+returns-clause-a_shutdown_is_answered c = after_each (OfEach AnswersShutdown) c.a_shutdown_is_answered.ensures
+
+pub returns-clause-no_add_follows_a_shutdown : goal.returns-clause-no_add_follows_a_shutdown
+returns-clause-no_add_follows_a_shutdown c text steps number read =
+    c.no_add_follows_a_shutdown.ensures steps number (steps_fit text steps read)
 
 pub returns-clause-agreement : goal.returns-clause-agreement
 returns-clause-agreement c = after_each (OfEach Agrees) c.agreement.ensures

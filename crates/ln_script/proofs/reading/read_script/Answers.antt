@@ -1,4 +1,4 @@
-use Rattle.std.proofs.Common.{◌≡◌, ℕ, ◌<◌, ◌+◌, List, [], Bool, length, get_or, refl, sym, ap, ◌∙◌, inr}
+use Rattle.std.proofs.Common.{ℕ, ◌<◌, ◌+◌, List, [], Bool, length, get_or, refl, sym, ap, ◌∙◌, inr}
 use Rattle.std.specs.Borrow.{Bor}
 use Rattle.ln_script.specs.Step.{texts, if_good}
 use Rattle.ln_script.specs.Script.{script_at}
