@@ -1,11 +1,11 @@
 //! A link that saves before it hands out: what its store has behind each call, and a save that fails.
 
 use crate::code_of;
-use crate::link::{fit, spec};
+use crate::link::{fit, offer, spec};
 use crate::store::FailingStore;
-use crate::testing::{FUNDEE, FUNDER, htlc};
+use crate::testing::{FUNDEE, FUNDER};
 use ln_bytes::ShortId;
-use ln_durable::{Durable, from_record};
+use ln_durable::{Durable, from_record, restart};
 use ln_keys::{ToyKeys, sha256_32};
 use ln_link::{Command, FitConfig, FitSpec, Life, Link, Output, Standing};
 use ln_msgs::Refusal;
@@ -14,9 +14,9 @@ use std::alloc::Global;
 
 /// A link and its store.
 #[derive(Drop)]
-struct Side<S: RecordStore + Drop> {
-    link: Durable<ToyKeys>,
-    store: S,
+pub struct Side<S: RecordStore + Drop> {
+    pub link: Durable<ToyKeys>,
+    pub store: S,
 }
 
 /// What a side answers to all that it is sent.
@@ -96,7 +96,8 @@ fn recorded<S: RecordStore + Drop>(
     ))
 }
 
-fn played<S: RecordStore + Drop, T: RecordStore + Drop>(
+/// The channel is opened, and both ends are ready. Each end has saved three times.
+pub fn played<S: RecordStore + Drop, T: RecordStore + Drop>(
     alloc: Global,
     a: &mut Side<S>,
     b: &mut Side<T>,
@@ -161,25 +162,14 @@ fn saves(rt: HostRuntime) {
 
 /// The funder's end offers an HTLC and signs it; then it offers another one, which no signature covers.
 fn offered<S: RecordStore + Drop>(alloc: Global, a: &mut Side<S>) -> Result<(), Refusal> {
-    for id in 0..2 {
-        let add = htlc(id, 5000, 400);
-        let offer = Command::Add {
-            amount: add.amount,
-            hash: add.hash,
-            expiry: add.expiry,
-            onion: add.onion,
-            origin: None,
-        };
-        drop(a.link.command(alloc, &mut a.store, offer)?);
-        if id == 0 {
-            drop(a.link.command(alloc, &mut a.store, Command::Sign)?);
-        }
+    for command in [offer(), Command::Sign, offer()] {
+        drop(a.link.command(alloc, &mut a.store, command)?);
     }
     Ok(())
 }
 
 /// The bytes of the one record of a store.
-fn stored<S: RecordStore + Drop>(alloc: Global, a: &mut Side<S>) -> Result<Vec<u8>, Refusal> {
+pub fn stored<S: RecordStore + Drop>(alloc: Global, a: &mut Side<S>) -> Result<Vec<u8>, Refusal> {
     let ids = a.store.ids(alloc)?;
     let Some(id) = ids.as_slice().first() else {
         return Err(Refusal::NotReady);
@@ -198,24 +188,45 @@ fn standing_of(alloc: Global, bytes: &[u8]) -> Result<Standing, Refusal> {
     }
 }
 
-/// By what a record is refused with a changed bit, and as one of version 2.
-fn refused(alloc: Global, bytes: &mut [u8]) -> (u32, u32) {
+/// Where the link stands that comes back where its node restarts.
+fn restarted(alloc: Global, link: &Link<ToyKeys>) -> Result<Standing, Refusal> {
+    let Some(channel) = link.saved() else {
+        return Err(Refusal::NotReady);
+    };
+    match restart(alloc, FUNDER, link.failure(), channel) {
+        Ok(link) => link.standing(alloc),
+        Err(refusal) => Err(refusal),
+    }
+}
+
+/// By what the first bytes of a record are refused, so many of them.
+fn refused_of(alloc: Global, bytes: &[u8], len: usize) -> u32 {
+    match bytes.get(..len) {
+        Some(front) => code_of(standing_of(alloc, front).err()),
+        None => 0,
+    }
+}
+
+/// By what a record is refused that is cut to 45 bytes, with a changed bit, and as one of version 9.
+fn refused(alloc: Global, bytes: &mut [u8]) -> (u32, u32, u32) {
     let len = bytes.len();
     if len < 46 {
-        return (0, 0);
+        return (0, 0, 0);
     }
+    let cut = refused_of(alloc, bytes, 45);
     bytes[20] ^= 1;
     let damaged = code_of(standing_of(alloc, bytes).err());
     bytes[20] ^= 1;
-    bytes[5] = 2;
+    bytes[5] = 9;
     let digest = sha256_32(&bytes[..len - 32]);
     bytes[len - 32..].copy_from_slice(&digest);
     let other = code_of(standing_of(alloc, bytes).err());
-    (damaged, other)
+    (cut, damaged, other)
 }
 
-/// Where the funder's link stands once it has come back, and once it was dropped; by what a changed record is refused.
-type Loaded = (Standing, Standing, (u32, u32));
+/// Where the funder's link stands once it has come back from its store, and over a restart; where it does once its
+/// connection is lost; by what a changed record is refused.
+type Loaded = ((Standing, Standing), Standing, (u32, u32, u32));
 
 fn loaded<S: RecordStore + Drop, T: RecordStore + Drop>(
     alloc: Global,
@@ -226,10 +237,11 @@ fn loaded<S: RecordStore + Drop, T: RecordStore + Drop>(
     offered(alloc, a)?;
     let mut bytes = stored(alloc, a)?;
     let back = standing_of(alloc, bytes.as_slice())?;
+    let again = restarted(alloc, a.link.link())?;
     a.link.drop_connection();
     let dropped = a.link.link().standing(alloc)?;
     let faults = refused(alloc, bytes.as_mut_slice());
-    Ok((back, dropped, faults))
+    Ok(((back, again), dropped, faults))
 }
 
 fn loaded_of_new(alloc: Global, spec: FitSpec, config: FitConfig) -> Result<Loaded, Refusal> {
@@ -253,10 +265,11 @@ fn loads_of(alloc: Global) -> Result<Loaded, Refusal> {
 #[test]
 fn comes_back(rt: HostRuntime) {
     match loads_of(rt.alloc()) {
-        Ok((back, dropped, faults)) => {
+        Ok(((back, again), dropped, faults)) => {
             assert_eq!(rt; back, dropped);
+            assert_eq!(rt; again, dropped);
             assert_eq!(rt; (back.signed, back.live), (1, 0));
-            assert_eq!(rt; faults, (70, 71));
+            assert_eq!(rt; faults, (70, 70, 71));
             assert_eq!(rt; back.life, Life::Ready);
         }
         Err(refusal) => assert_eq!(rt; refusal.number(), 0),

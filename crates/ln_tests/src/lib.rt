@@ -2,8 +2,10 @@
 //! tests is proved twice, with them and without.
 #![tactic(auto)]
 
+mod narrow;
 mod refusal;
 
+pub use narrow::Narrow;
 pub use refusal::code_of;
 
 #[cfg(test)]
@@ -41,12 +43,10 @@ mod relay;
 #[cfg(test)]
 mod resume;
 #[cfg(test)]
-mod rows;
-#[cfg(test)]
-mod script;
-#[cfg(test)]
 mod store;
 #[cfg(test)]
 mod testing;
+#[cfg(test)]
+mod unsaved;
 #[cfg(test)]
 mod whole_fields;

@@ -252,7 +252,8 @@ fn answer(alloc: Global, one: Move) -> Command {
     }
 }
 
-fn offer() -> Command {
+/// The command by which an HTLC of 5000 msat is offered. Its preimage is 32 zero bytes.
+pub fn offer() -> Command {
     let add = htlc(0, 5000, 400);
     let hash = add.hash;
     let onion = add.onion;

@@ -1,5 +1,6 @@
 //! Streams of frames and the pongs that are owed for them, over readers and writers that give little at once or fail.
 
+use crate::narrow::Narrow;
 use ln_bytes::Fault;
 use ln_msgs::{Counted, answer_pings};
 use std::alloc::{AllocError, Global};
@@ -31,47 +32,6 @@ impl Read for Slow<'_> {
         buffer[..count].copy_from_slice(given);
         self.rest = rest;
         Ok(count)
-    }
-}
-
-/// A writer that takes at most so many bytes a call, and fails from a call on; flushes count too.
-#[derive(Drop)]
-pub struct Narrow {
-    pub bytes: Vec<u8>,
-    most: usize,
-    calls_left: u64,
-    flushed: usize,
-}
-
-impl Narrow {
-    pub fn new(alloc: Global, most: usize, calls_left: u64) -> Narrow {
-        Narrow {
-            bytes: Vec::new(alloc),
-            most,
-            calls_left,
-            flushed: 0,
-        }
-    }
-}
-
-impl Write for Narrow {
-    fn write(&mut self, bytes: &[u8]) -> io::Result<usize> {
-        if self.calls_left == 0 {
-            return Err(io::Error::from(ErrorKind::BrokenPipe));
-        }
-        self.calls_left -= 1;
-        let count = bytes.len().min(self.most);
-        self.bytes.extend_from_slice(&bytes[..count])?;
-        Ok(count)
-    }
-
-    fn flush(&mut self) -> io::Result<()> {
-        if self.calls_left == 0 {
-            return Err(io::Error::from(ErrorKind::BrokenPipe));
-        }
-        self.calls_left -= 1;
-        self.flushed = self.bytes.len();
-        Ok(())
     }
 }
 

@@ -6,7 +6,8 @@ use ln_msgs::Refusal;
 use ln_store::{MemoryStore, RecordStore};
 use std::alloc::Global;
 
-/// A store whose save of this number fails, counted from 0, with the old record left or the new one.
+/// A store whose save of this number fails, counted from 0, with the old record left or the new one. Those behind it
+/// don't.
 #[derive(Drop)]
 pub struct FailingStore {
     inner: MemoryStore,
@@ -40,6 +41,7 @@ impl RecordStore for FailingStore {
         if self.leaves_new {
             self.inner.save(alloc, id, bytes)?;
         }
+        self.saves_left = u64::MAX;
         self.failed = self.failed.saturating_add(1);
         Err(Refusal::Store)
     }

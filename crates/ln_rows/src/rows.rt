@@ -1,14 +1,14 @@
 //! Scripts and their reports: what each line of a script does, and what is told of it.
 
-use ln_msgs::{Counted, Refusal};
-use ln_script::{print_report, read_script};
+use crate::told::is_told;
+use ln_msgs::Refusal;
 use std::alloc::Global;
 
 /// A script and its report.
-type Row = (&'static str, &'static str);
+pub type Row = (&'static str, &'static str);
 
 /// How many of these scripts have another report.
-fn otherwise(alloc: Global, rows: &[Row]) -> Result<usize, Refusal> {
+pub fn otherwise(alloc: Global, rows: &[Row]) -> Result<usize, Refusal> {
     let mut count: usize = 0;
     for (script, report) in rows {
         if !is_told(alloc, script, report)? {
@@ -16,13 +16,6 @@ fn otherwise(alloc: Global, rows: &[Row]) -> Result<usize, Refusal> {
         }
     }
     Ok(count)
-}
-
-/// The report of a script is this text.
-pub fn is_told(alloc: Global, script: &str, report: &str) -> Result<bool, Refusal> {
-    let mut writer = Counted::new(Vec::new(alloc));
-    print_report(alloc, read_script(alloc, script)?, &mut writer)?;
-    Ok(writer.get_ref().as_slice() == report.as_bytes())
 }
 
 #[test]

@@ -1,9 +1,9 @@
 //! Scripts: their reports, which line is the first bad one, and writers that fail.
 
-use crate::pings::Narrow;
-use crate::rows::is_told;
+use crate::told::is_told;
 use ln_msgs::{Counted, Refusal, decode};
 use ln_script::{first_bad_line, message_text, print_all, read_script};
+use ln_tests::Narrow;
 use std::alloc::Global;
 
 #[test]
@@ -34,7 +34,10 @@ fn reports(rt: HostRuntime) {
              add Z99 18446744073709551615 4294967295 255\nup 99\ndown Z99\n",
             "idle\nidle\nidle\nidle\nidle\nidle\nidle\nidle\n",
         ),
-        ("set A fees 0 0 0\nset A limits 0 65535 0 0\n", ""),
+        (
+            "set A fees 0 0 0\nset A limits 0 65535 0 0\nrestart A\nrestart Z\n",
+            "",
+        ),
         ("", ""),
         ("# nothing\n\n", ""),
     ] {
@@ -84,7 +87,7 @@ fn bad_lines(rt: HostRuntime) {
     }
 }
 
-// Words that are missing, too many or too great behind each line's first; lines of nodes that decide by themselves.
+// Words that are missing, too many or too great behind each line's first; a line of nodes that decide by themselves.
 #[test]
 fn bad_words(rt: HostRuntime) {
     for (script, line) in [
@@ -102,9 +105,14 @@ fn bad_words(rt: HostRuntime) {
         ("set A fees 300 301 400\n", 1),
         ("set A fees 300 200 299\n", 1),
         ("set A limits 1 65536 1 0\n", 1),
-        // lines of nodes that decide by themselves are none
-        ("sign A0\nrestart A\n", 2),
-        ("height A 100\n", 1),
+        ("sign A0\nrestart A0\n", 2),
+        ("restart\n", 1),
+        ("restart 0\n", 1),
+        ("restart a\n", 1),
+        ("restart AB\n", 1),
+        ("restart A B\n", 1),
+        // a line of nodes that decide by themselves is none
+        ("sign A0\nheight A 100\n", 2),
     ] {
         let refused = read_script(rt.alloc(), script).err();
         assert_eq!(rt; refused, Some(Refusal::BadScript { line }), "{script}");
