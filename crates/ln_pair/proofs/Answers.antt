@@ -1,11 +1,10 @@
 -- Over every list of steps, a shutdown that an end has taken is answered once its own updates are acknowledged.
-use Rattle.std.proofs.Common.{◌≡◌, ℕ, ◌≤◌, ◌+◌, ◌==◌, List, [], ◌∷◌, ◌++◌, length, refl, sym, ap, ◌∙◌, subst, arith}
+use Rattle.std.proofs.Common.{◌≡◌, List, [], ◌∷◌, ◌++◌, length, refl, sym, ap, ◌∙◌, arith}
 use Rattle.std.proofs.Common.{Bool, true, false, cond, not, ◌&&◌, Option, Some, None, Result, Ok, Err, eqb-true}
 use Rattle.std.proofs.lemmas.List.{length_push}
 use Rattle.ln_msgs.specs.declared.messages.message.Message.{Message}
 use Rattle.ln_msgs.specs.declared.messages.message.Message.TheVariants as message
 use Rattle.ln_msgs.specs.declared.refusals.refusal.Refusal.{Refusal}
-use Rattle.ln_keys.specs.declared.role.Role.{Role}
 use Rattle.ln_keys.specs.declared.role.Role.TheVariants.{Funder, Fundee}
 use Rattle.ln_keys.specs.Signer.{Signer}
 use Rattle.ln_log.specs.declared.update.Update.{Update}
@@ -28,7 +27,7 @@ use Rattle.ln_link.specs.End.{End, Turn, has_begun, owes_shutdown, all_acknowled
 use Rattle.ln_link.specs.End.{completed, end_dropped, shutdown_message}
 use Rattle.ln_link.specs.Taking.{message_row, completed_row}
 use Rattle.ln_link.specs.Commands.{command_row, confirm_fault, confirmed, ready_message, propose_fault, propose_row}
-use Rattle.ln_link.specs.Commands.{proposes, sign_command_fault, signs_next, shut_fault, shuts_down, unready_fault}
+use Rattle.ln_link.specs.Commands.{proposes, sign_command_fault, shut_fault, shuts_down, unready_fault}
 use Rattle.ln_dance.specs.Resume.{resume_fault}
 use Rattle.ln_link.specs.Resume.{resumed}
 use Rattle.ln_link.specs.State.{is_down}
@@ -39,7 +38,7 @@ use Rattle.ln_pair.specs.Promises.{AreKeys}
 use Rattle.ln_pair.specs.Answers.{HasAnswered, BothHaveAnswered}
 use Rattle.ln_pair.proofs.Moving.{log_within}
 use Rattle.ln_pair.proofs.Opens.{opened_holds, opened_fresh}
-use Rattle.ln_pair.proofs.Runs.{Holds, flipped, flipped_keys, ran}
+use Rattle.ln_pair.proofs.Runs.{Holds, ran}
 
 abbrev Answered : End → Type 0
 Answered e = e.closing.peer_shut ≡ true → all_acknowledged e.dance.log ≡ true → e.closing.shut ≡ true

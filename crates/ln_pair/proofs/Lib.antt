@@ -30,3 +30,9 @@ pub mod Machines
 pub mod Tellings
 pub mod Recounts
 pub mod Answers
+pub mod Lasting
+pub mod Steady
+pub mod Counting
+pub mod Contents
+pub mod WideTurns
+pub mod Wide

@@ -3,6 +3,7 @@ pub mod Promises
 pub mod Moves
 pub mod Told
 pub mod Answers
+pub mod Widths
 pub use Rattle.ln_log.specs.Machine
 pub use Rattle.ln_log.specs.Log
 pub use Rattle.ln_link.specs.Opening

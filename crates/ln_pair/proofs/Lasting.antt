@@ -1,0 +1,60 @@
+-- What of an end goes into its record: how its numbers, its counts and its events fit together, and how wide its
+-- updates are.
+use Rattle.std.specs.Prelude.{◌≡◌, ◌+◌, ◌<◌, ◌≤◌, ◌^◌, ℕ, List, [], ◌∷◌, length, take, Option, Some, None}
+use Rattle.ln_log.specs.declared.log.TheConstants.{MOST_UPDATES}
+use Rattle.ln_log.specs.Log.{IsWithin}
+use Rattle.ln_dance.specs.Dance.{AreInStep}
+use Rattle.ln_link.specs.declared.ledger.EventRef.{EventRef}
+use Rattle.ln_link.specs.declared.ledger.EventRef.TheVariants as ref
+use Rattle.ln_link.specs.declared.opening.Opened.{Opened}
+use Rattle.ln_link.specs.End.{End}
+use Rattle.ln_pair.specs.Widths.{IsUpdate}
+
+abbrev pub All : {A : Type 0} → (A → Type 0) → List A → Type 0
+All P [] = Unit {0}
+All P (x ∷ xs) = P x × All P xs
+
+abbrev pub Where : {A : Type 0} → (A → Type 0) → Option A → Type 0
+Where P None = Unit {0}
+Where P (Some x) = P x
+
+-- an event of the own side's updates below own, of the peer's below peer, or the close
+abbrev pub IsHeld : ℕ → ℕ → EventRef → Type 0
+IsHeld own peer (ref.Own n) = n < own
+IsHeld own peer (ref.Peer n) = n < peer
+IsHeld own peer ref.Close = Unit {0}
+
+-- numbers, counts and events
+pub record IsCounted (e : End) : Type 0 where
+  pub step : AreInStep e.dance.numbers e.dance.log
+  pub within : IsWithin e.dance.log
+  pub first_own : e.dance.log.first.own ≡ 0
+  pub first_peer : e.dance.log.first.peer ≡ 0
+  pub decided : e.ledger.decided ≡ 0
+  pub undecided : All (IsHeld e.dance.log.current.own e.dance.log.acknowledged.peer) e.ledger.undecided
+  pub events : length e.ledger.undecided ≤ e.dance.log.current.own + e.dance.log.acknowledged.peer + 1
+  pub point : length e.dance.peer.point ≡ 33
+  pub next_point : length e.dance.peer.next_point ≡ 33
+  pub secret : Where (λ s. length s ≡ 32) e.dance.peer.secret
+  pub own_fee : Where (λ n. n < 2 ^ 64) e.closing.own_fee
+  pub peer_fee : Where (λ n. n < 2 ^ 64) e.closing.peer_fee
+  pub closed : Where (λ n. n < 2 ^ 64) e.closing.closed
+
+-- updates and scripts
+pub record IsWide (e : End) : Type 0 where
+  pub own : All IsUpdate e.dance.log.own
+  pub received : All IsUpdate (take e.dance.log.current.peer e.dance.log.received)
+  pub own_room : length e.dance.log.own ≤ MOST_UPDATES
+  pub received_room : length (take e.dance.log.current.peer e.dance.log.received) ≤ MOST_UPDATES
+  pub script : length e.terms.script ≤ 65499
+  pub peer_script : Where (λ s. length s ≤ 65499) e.terms.peer_script
+
+-- what an end keeps of how it was opened
+pub record IsOf (o : Opened) (e : End) : Type 0 where
+  pub channel : e.dance.channel ≡ o.dance.channel
+  pub opening : e.dance.log.opening ≡ o.dance.log.opening
+  pub role : e.dance.log.role ≡ o.dance.log.role
+  pub fees : e.closing.fees ≡ o.closing.fees
+  pub closing_role : e.closing.role ≡ o.closing.role
+  pub open_channel : e.terms.open_channel ≡ o.terms.open_channel
+  pub accept_channel : e.terms.accept_channel ≡ o.terms.accept_channel

@@ -1,0 +1,255 @@
+-- What every turn of an end keeps of its numbers, of its events and of what it knows of the peer.
+use Rattle.std.proofs.Common.{◌≡◌, ℕ, ◌+◌, ◌-◌, ◌<◌, ◌≤◌, ◌^◌, List, [], ◌∷◌, ◌++◌, length, drop, refl, ap, arith}
+use Rattle.std.proofs.Common.{length-append, Bool, true, false, cond, ◌||◌, Option, Some, None, option_map, Ok}
+use Rattle.std.specs.List.{cons_option}
+use Rattle.std.proofs.lemmas.List.{length-take}
+use Rattle.ln_msgs.specs.declared.messages.closing.ClosingSigned.{ClosingSigned}
+use Rattle.ln_msgs.specs.declared.messages.commitments.CommitmentSigned.{CommitmentSigned}
+use Rattle.ln_msgs.specs.declared.messages.commitments.RevokeAndAck.{RevokeAndAck}
+use Rattle.ln_msgs.specs.declared.messages.opening.ChannelReady.{ChannelReady}
+use Rattle.ln_keys.specs.Signer.{Signer}
+use Rattle.ln_log.specs.declared.update.Update.{Update as Change}
+use Rattle.ln_log.specs.Log as log
+use Rattle.ln_log.specs.Log.{Counts, between}
+use Rattle.ln_dance.specs.declared.dance.Peer.{Peer}
+use Rattle.ln_dance.specs.Dance.{with_next_point}
+use Rattle.ln_close.specs.declared.closing.Answer.{Answer}
+use Rattle.ln_close.specs.declared.closing.Answer.TheVariants as answer
+use Rattle.ln_close.specs.Closing.{after_shut, may_start, answer_to}
+use Rattle.ln_hooks.specs.declared.event.ChannelEvent.{ChannelEvent}
+use Rattle.ln_hooks.specs.Event.{event_of}
+use Rattle.ln_link.specs.declared.ledger.EventRef.{EventRef}
+use Rattle.ln_link.specs.declared.ledger.EventRef.TheVariants as ref
+use Rattle.ln_link.specs.Ledger.{Ledger, ref_of, refs_of}
+use Rattle.ln_link.specs.End.{End, is_closed, has_begun, owes_shutdown, answers_shutdown, settled}
+use Rattle.ln_link.specs.Taking.{answering, answered_end, range_in, shuts_by_peer}
+use Rattle.ln_pair.proofs.Sides.{Notice, Update, Sign, Revoke, Ready, Shutdown, Close, Again}
+use Rattle.ln_pair.proofs.Turns.{turn_of, is_close}
+use Rattle.ln_pair.proofs.Moving.{still_open}
+use Rattle.ln_pair.proofs.Lasting.{All, Where, IsHeld}
+
+-- ---- what every step keeps of an end
+
+-- a close is one event
+abbrev pub closes_in : Option ℕ → ℕ
+closes_in None = 0
+closes_in (Some fee) = 1
+
+abbrev pub IsFee : ℕ → Type 0
+IsFee n = n < 2 ^ 64
+
+-- current is how many of its own updates it holds, acknowledged how many of the peer's; ready says whether it has taken
+-- the peer's channel_ready
+pub record IsSteady (first : Counts) (current acknowledged : ℕ) (ledger : Ledger) (revoked : ℕ) (peer : Peer)
+    (ready : Bool) (peer_fee closed : Option ℕ) : Type 0 where
+  pub first_own : first.own ≡ 0
+  pub first_peer : first.peer ≡ 0
+  pub decided : ledger.decided ≡ 0
+  pub undecided : All (IsHeld current acknowledged) ledger.undecided
+  pub events : length ledger.undecided ≤ current + acknowledged + closes_in closed
+  pub secret : revoked ≡ 0 → peer.secret ≡ None
+  pub next_point : revoked ≡ 0 → ready ≡ false → length peer.next_point ≡ 33
+  pub heard : Where IsFee peer_fee
+
+abbrev pub Steady : End → Type 0
+Steady e = IsSteady e.dance.log.first e.dance.log.current.own e.dance.log.acknowledged.peer e.ledger
+    e.dance.numbers.revoked e.dance.peer e.marks.ready_received e.closing.peer_fee e.closing.closed
+
+-- ---- what the ledger names
+
+-- where more is held
+raised : (o p q r : ℕ) (rs : List EventRef) → o ≤ q → p ≤ r → All (IsHeld o p) rs → All (IsHeld q r) rs
+raised o p q r [] lo lp h = tt
+raised o p q r (ref.Own n ∷ rs) lo lp h = (let b = h.0 in omega (arith, lo, b), raised o p q r rs lo lp h.1)
+raised o p q r (ref.Peer n ∷ rs) lo lp h = (let b = h.0 in omega (arith, lp, b), raised o p q r rs lo lp h.1)
+raised o p q r (ref.Close ∷ rs) lo lp h = (tt, raised o p q r rs lo lp h.1)
+
+all-append : (o p : ℕ) (rs ss : List EventRef) → All (IsHeld o p) rs → All (IsHeld o p) ss
+    → All (IsHeld o p) (rs ++ ss)
+all-append o p [] ss h k = k
+all-append o p (r ∷ rs) ss h k = (h.0, all-append o p rs ss h.1 k)
+
+one_named : (o p : ℕ) (e : Option ChannelEvent) (r : EventRef) (rs : List EventRef) → IsHeld o p r
+    → All (IsHeld o p) rs → All (IsHeld o p) (cons_option (option_map (λ x. r) e) rs)
+one_named o p None r rs h k = k
+one_named o p (Some x) r rs h k = (h, k)
+
+own_named : (n o p : ℕ) (us : List Change) → n + length us ≤ o → All (IsHeld o p) (refs_of true n us)
+own_named n o p [] le = tt
+own_named n o p (u ∷ us) le =
+    one_named o p (event_of true u) (ref.Own n) (refs_of true (n + 1) us) (omega (arith, le))
+    (own_named (n + 1) o p us (omega (arith, le)))
+
+peer_named : (n o p : ℕ) (us : List Change) → n + length us ≤ p → All (IsHeld o p) (refs_of false n us)
+peer_named n o p [] le = tt
+peer_named n o p (u ∷ us) le =
+    one_named o p (event_of false u) (ref.Peer n) (refs_of false (n + 1) us) (omega (arith, le))
+    (peer_named (n + 1) o p us (omega (arith, le)))
+
+one_at_most : (e : Option ChannelEvent) (r : EventRef) (rs : List EventRef) (n : ℕ) → length rs ≤ n
+    → length (cons_option (option_map (λ x. r) e) rs) ≤ n + 1
+one_at_most None r rs n le = omega (arith, le)
+one_at_most (Some x) r rs n le = omega (arith, le)
+
+-- no more events than updates
+at_most : (own : Bool) (n : ℕ) (us : List Change) → length (refs_of own n us) ≤ length us
+at_most own n [] = omega arith
+at_most own n (u ∷ us) =
+    let rest = at_most own (n + 1) us in
+    let one = one_at_most (event_of own u) (ref_of own n) (refs_of own (n + 1) us) (length us) rest in
+    omega (arith, one)
+
+length-between : (c d : ℕ) (us : List Change) → length (between c d us) ≤ d - c
+length-between c d us = let is = length-take (d - c) (drop c us) in omega (arith, is)
+
+-- ---- turns
+
+either : (b : Bool) (e f : End) → Steady e → Steady f → Steady (cond b e f)
+either true e f h k = h
+either false e f h k = k
+
+pub settled_steady : (e : End) → Steady e → Steady (settled e)
+settled_steady e h =
+    let n = answers_shutdown e in
+    begun (has_begun n) (may_start n.closing) n
+    (either (owes_shutdown e) (record e { closing = after_shut e.closing }) e h h)
+  where
+    begun : (t s : Bool) (n : End) → Steady n → Steady
+        (cond t (record n { closing = cond s (record n.closing { own_fee = Some n.closing.fees.first }) n.closing }) n)
+    begun true true n k = k
+    begun true false n k = k
+    begun false s n k = k
+
+module _ (k : Signer) (x : End) (w : log.IsWithin x.dance.log) (s : Steady x) where
+  -- it holds more of its own updates
+  accepts_steady : (m : CommitmentSigned) → Steady (turn_of k (Sign m) x).end
+  accepts_steady m =
+      let l = x.dance.log in
+      let c = l.current.own in
+      let d = l.acknowledged.own in
+      let p = l.acknowledged.peer in
+      let us = between c d l.own in
+      let rs = refs_of true c us in
+      let grow : c ≤ d = w.own_current in
+      let many = length-between c d l.own in
+      let new = at_most true c us in
+      let all = length-append x.ledger.undecided rs in
+      let before = s.events in
+      record {
+        first_own = s.first_own;
+        first_peer = s.first_peer;
+        decided = s.decided;
+        undecided = all-append d p x.ledger.undecided rs
+            (raised c p d p x.ledger.undecided grow (omega arith) s.undecided)
+            (own_named c d p us (omega (arith, grow, many)));
+        events = omega (arith, grow, many, new, all, before);
+        secret = s.secret;
+        next_point = s.next_point;
+        heard = s.heard;
+      }
+
+  -- it holds more of the peer's
+  learns_steady : (m : RevokeAndAck) → Steady (turn_of k (Revoke m) x).end
+  learns_steady m =
+      let l = x.dance.log in
+      let o = l.current.own in
+      let c = l.acknowledged.peer in
+      let d = l.signed.peer in
+      let us = between c d l.received in
+      let rs = refs_of false c us in
+      let grow : c ≤ d = w.peer_acknowledged in
+      let many = length-between c d l.received in
+      let new = at_most false c us in
+      let all = length-append x.ledger.undecided rs in
+      let before = s.events in
+      record {
+        first_own = s.first_own;
+        first_peer = s.first_peer;
+        decided = s.decided;
+        undecided = all-append o d x.ledger.undecided rs
+            (raised o c o d x.ledger.undecided (omega arith) grow s.undecided)
+            (peer_named c o d us (omega (arith, grow, many)));
+        events = omega (arith, grow, many, new, all, before);
+        secret = λ e. absurd (omega (arith, e));
+        next_point = λ e g. absurd (omega (arith, e));
+        heard = s.heard;
+      }
+
+  ready_steady : (m : ChannelReady) → Steady (turn_of k (Ready m) x).end
+  ready_steady m =
+      let n : End = record x {
+        marks = record {
+          short_id = x.marks.short_id;
+          ready_sent = x.marks.ready_sent;
+          ready_received = true;
+        };
+        dance = with_next_point m.second_point x.dance;
+      } in
+      let now : Steady n = record {
+        first_own = s.first_own;
+        first_peer = s.first_peer;
+        decided = s.decided;
+        undecided = s.undecided;
+        events = s.events;
+        secret = s.secret;
+        next_point = λ e g. absurd (cc (g));
+        heard = s.heard;
+      } in
+      either (x.marks.ready_received || is_closed x) x n s now
+
+  pub turn_steady : (n : Notice) → is_close n ≡ false → Steady (turn_of k n x).end
+  turn_steady (Update u) other = s
+  turn_steady (Sign m) other = accepts_steady m
+  turn_steady (Revoke m) other = learns_steady m
+  turn_steady (Ready m) other = ready_steady m
+  turn_steady (Shutdown m) other = either x.closing.peer_shut x (shuts_by_peer m x) s s
+  turn_steady (Close m) other = absurd (cc)
+  turn_steady (Again m) other = s
+
+  -- a close is the last event, and there was none before
+  closed_events : (rs : List EventRef) → rs ≡ ref.Close ∷ [] → x.closing.closed ≡ None
+      → length (x.ledger.undecided ++ rs) ≤ x.dance.log.current.own + x.dance.log.acknowledged.peer + 1
+  closed_events rs is none =
+      let all = length-append x.ledger.undecided rs in
+      let one : length rs ≡ 1 = ap length is in
+      let no : closes_in x.closing.closed ≡ 0 = ap closes_in none in
+      let before = s.events in
+      omega (arith, all, one, no, before)
+
+  pub fee_steady : (m : ClosingSigned) (ans : Answer) → answer_to x.closing m.fee_satoshis (range_in m) ≡ Ok ans
+      → IsFee m.fee_satoshis → Steady (answering k ans (answered_end m ans x)).end
+  fee_steady m answer.Nothing e below = s
+  fee_steady m (answer.Propose fee) e below = record {
+    first_own = s.first_own;
+    first_peer = s.first_peer;
+    decided = s.decided;
+    undecided = s.undecided;
+    events = s.events;
+    secret = s.secret;
+    next_point = s.next_point;
+    heard = below;
+  }
+  fee_steady m (answer.Close fee) e below = record {
+    first_own = s.first_own;
+    first_peer = s.first_peer;
+    decided = s.decided;
+    undecided = all-append x.dance.log.current.own x.dance.log.acknowledged.peer x.ledger.undecided (ref.Close ∷ [])
+        s.undecided (tt, tt);
+    events = closed_events (ref.Close ∷ []) refl
+        (still_open x.closing.closed m.fee_satoshis _ (answer.Close fee) (λ q. absurd (cc)) e);
+    secret = s.secret;
+    next_point = s.next_point;
+    heard = below;
+  }
+  fee_steady m (answer.EchoAndClose fee) e below = record {
+    first_own = s.first_own;
+    first_peer = s.first_peer;
+    decided = s.decided;
+    undecided = all-append x.dance.log.current.own x.dance.log.acknowledged.peer x.ledger.undecided (ref.Close ∷ [])
+        s.undecided (tt, tt);
+    events = closed_events (ref.Close ∷ []) refl
+        (still_open x.closing.closed m.fee_satoshis _ (answer.EchoAndClose fee) (λ q. absurd (cc)) e);
+    secret = s.secret;
+    next_point = s.next_point;
+    heard = below;
+  }

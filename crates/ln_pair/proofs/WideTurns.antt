@@ -1,0 +1,370 @@
+-- What an end's rows make of what goes into its record: it stays as wide as in code, where the messages that it takes
+-- and the commands that it is given are.
+use Rattle.std.proofs.Common.{◌≡◌, ℕ, ◌<◌, ◌≤◌, ◌^◌, List, [], ◌∷◌, ◌++◌, length, take, refl}
+use Rattle.std.proofs.Common.{arith, length-append, Bool, true, false, cond, not, ◌||◌, ◌&&◌, nat_lt}
+use Rattle.std.proofs.Common.{Option, Some, None, Result, Ok, Err}
+use Rattle.std.proofs.lemmas.Bool.{ltb-false}
+use Rattle.std.proofs.lemmas.List.Sums.{count_by-le-length}
+use Rattle.ln_bytes.specs.Same.{are_same}
+use Rattle.ln_msgs.specs.declared.messages.message.Message.{Message}
+use Rattle.ln_msgs.specs.declared.messages.message.Message.TheVariants as message
+use Rattle.ln_msgs.specs.declared.messages.closing.ClosingSigned.{ClosingSigned}
+use Rattle.ln_msgs.specs.declared.messages.closing.Shutdown.{Shutdown as ShutdownMessage}
+use Rattle.ln_msgs.specs.declared.messages.commitments.ChannelReestablish.{ChannelReestablish}
+use Rattle.ln_msgs.specs.declared.messages.opening.ChannelReady.{ChannelReady}
+use Rattle.ln_msgs.specs.declared.refusals.refusal.Refusal.{Refusal}
+use Rattle.ln_msgs.specs.declared.refusals.refusal.Refusal.TheVariants as refusal
+use Rattle.ln_msgs.specs.declared.refusals.peer_rule.PeerRule.TheVariants as rule
+use Rattle.ln_keys.specs.Signer.{Signer}
+use Rattle.ln_log.specs.declared.log.TheConstants.{MOST_UPDATES}
+use Rattle.ln_log.specs.declared.update.Update.{Update as Change}
+use Rattle.ln_log.specs.declared.update.Update.TheVariants as update
+use Rattle.ln_log.specs.Log.{unacknowledged, taken_fault, proposal_fault}
+use Rattle.ln_log.specs.Updates.{is_add, next_id}
+use Rattle.ln_log.proofs.Grows.{may_propose, may_take}
+use Rattle.ln_dance.specs.declared.dance.Later.{Later}
+use Rattle.ln_dance.specs.declared.dance.Later.TheVariants.{Signature, Revocation}
+use Rattle.ln_dance.specs.declared.resume.Resend.{Resend}
+use Rattle.ln_dance.specs.declared.resume.Resend.TheVariants as resend
+use Rattle.ln_dance.specs.Dance.{signed_message, learn_fault, with_next_point}
+use Rattle.ln_dance.specs.Messages.{update_message, add_of, fulfil_of, fail_of, malformed_of, fee_of}
+use Rattle.ln_dance.specs.Resume.{resume_fault, lacks_signature, lacks_revocation, updates_again, signature_again}
+use Rattle.ln_dance.specs.Resume.{revocation_again, signature_owed, revocation_owed, owed_by, owed, is_before_the_first}
+use Rattle.ln_close.specs.declared.closing.Answer.{Answer}
+use Rattle.ln_close.specs.declared.closing.Answer.TheVariants as answer
+use Rattle.ln_close.specs.declared.closing.Closing.{Closing}
+use Rattle.ln_close.specs.Closing.{may_start, started, after_shut, answer_to}
+use Rattle.ln_link.specs.declared.command.Command.{Command}
+use Rattle.ln_link.specs.declared.command.Command.TheVariants as command
+use Rattle.ln_link.specs.declared.output.Output.TheVariants as output
+use Rattle.ln_link.specs.Opening.{unless}
+use Rattle.ln_link.specs.End.{End, Turn, quiet, sending, completed, settled, answers_shutdown, owes_shutdown, due_sent}
+use Rattle.ln_link.specs.End.{due_fee, fee_sent, shutdown_message, shutdown_sent, has_begun, is_closed}
+use Rattle.ln_link.specs.End.{all_acknowledged}
+use Rattle.ln_link.specs.Taking.{takes, update_fault, update_row, early_fault, signature_fault, accepting, accepts}
+use Rattle.ln_link.specs.Taking.{learning, revokes, shutdown_at, answered}
+use Rattle.ln_link.specs.Taking.{range_in, message_row, completed_row}
+use Rattle.ln_link.specs.Commands.{ready_message, confirmed, confirm_fault, own_fault, propose_fault, proposes}
+use Rattle.ln_link.specs.Commands.{propose_row, sign_command_fault, signs_next, script_fault, shut_fault, shuts_down}
+use Rattle.ln_link.specs.Commands.{command_row}
+use Rattle.ln_link.specs.Resume.{ready_again, one_again, owed_again, shutdown_again, fee_again, sent_again, resumed}
+use Rattle.ln_link.specs.Resume.{resume_row}
+use Rattle.ln_pair.specs.Widths.{IsUpdate, IsCommand}
+use Rattle.ln_pair.specs.Ends.{met_again}
+use Rattle.ln_pair.proofs.Lasting.{All}
+use Rattle.ln_pair.proofs.Steps.{first_none, otherwise, where_true}
+use Rattle.ln_pair.proofs.Rows.{no_fault}
+use Rattle.ln_pair.proofs.Contents.{all-append, all-take, all-drop, all-when, CarriesWide, SendsWide, update_wide}
+use Rattle.ln_pair.proofs.Contents.{updates_wide, longest_script, Origin, Fits}
+
+module _ (k : Signer) (o : Origin) where
+  abbrev pub TurnFits : Turn → Type 0
+  TurnFits t = Fits o t.end × All SendsWide t.handed.sent
+
+  abbrev pub AnswerFits : Result Turn Refusal → Type 0
+  AnswerFits (Ok t) = TurnFits t
+  AnswerFits (Err r) = Unit {0}
+
+  unless_fits : (f : Option Refusal) (t : Turn) → (f ≡ None → TurnFits t) → AnswerFits (unless f t)
+  unless_fits None t h = h refl
+  unless_fits (Some r) t h = tt
+
+  when_fits : (b : Bool) (p q : End) → Fits o p → Fits o q → Fits o (cond b p q)
+  when_fits true p q h g = h
+  when_fits false p q h g = g
+
+  -- ---- the end of a turn
+
+  closing_fits : (b : Bool) (c d : Closing) (e : End) → Fits o (record e { closing = c })
+      → Fits o (record e { closing = d }) → Fits o (record e { closing = cond b c d })
+  closing_fits true c d e h g = h
+  closing_fits false c d e h g = g
+
+  answers_fits : (e : End) → Fits o e → Fits o (answers_shutdown e)
+  answers_fits e h = when_fits (owes_shutdown e) (record e { closing = after_shut e.closing }) e h h
+
+  begins_fits : (e : End) → Fits o e → Fits o (record e { closing = started e.closing })
+  begins_fits e h = closing_fits (may_start e.closing) (record e.closing { own_fee = Some e.closing.fees.first })
+      e.closing e h h
+
+  settled_fits : (e : End) → Fits o e → Fits o (settled e)
+  settled_fits e h =
+      let n = answers_shutdown e in
+      let g = answers_fits e h in
+      when_fits (has_begun n) (record n { closing = started n.closing }) n (begins_fits n g) g
+
+  fee_wide : (e : End) (fee : Option ℕ) → All SendsWide (fee_sent k e fee)
+  fee_wide e None = tt
+  fee_wide e (Some fee) = (tt, tt)
+
+  due_wide : (e : End) → Fits o e → All SendsWide (due_sent k e)
+  due_wide e h =
+      let n = answers_shutdown e in
+      let shutdown = output.Send (message.Shutdown (shutdown_message e)) in
+      all-append SendsWide (shutdown_sent e) (fee_sent k n (due_fee n))
+      (all-when SendsWide (owes_shutdown e) (shutdown ∷ []) [] (h.script, tt) tt) (fee_wide n (due_fee n))
+
+  completed_fits : (t : Turn) → TurnFits t → TurnFits (completed k t)
+  completed_fits t h = (
+    settled_fits t.end h.0,
+    all-append SendsWide t.handed.sent (due_sent k t.end) h.1 (due_wide t.end h.0),
+  )
+
+  pub completes : (r : Result Turn Refusal) → AnswerFits r → AnswerFits (completed_row k r)
+  completes (Ok t) h = completed_fits t h
+  completes (Err r) h = tt
+
+  -- ---- a message is taken
+
+  takes_fits : (u : Change) (e : End) → IsUpdate u → Fits o e → AnswerFits (update_row u e)
+  takes_fits u e wide h = unless_fits (update_fault e u) (quiet (takes u e)) (λ none. (
+    record {
+      origin = h.origin;
+      own = h.own;
+      own_room = h.own_room;
+      received = all-append IsUpdate e.dance.log.received (u ∷ []) h.received (wide, tt);
+      received_room =
+          let few = (may_take e.dance.log u (first_none (early_fault e u) (taken_fault e.dance.log u) none).1).few in
+          omega (arith, few, length-append e.dance.log.received (u ∷ []));
+      script = h.script;
+      peer_script = h.peer_script;
+    },
+    tt,
+  ))
+
+  ready_fits : (m : ChannelReady) (e : End) → Fits o e → AnswerFits (message_row k (message.ChannelReady m) e)
+  ready_fits m e h = (
+    when_fits (e.marks.ready_received || is_closed e) e (record e {
+      marks = record {
+        short_id = e.marks.short_id;
+        ready_sent = e.marks.ready_sent;
+        ready_received = true;
+      };
+      dance = with_next_point m.second_point e.dance;
+    }) h h,
+    tt,
+  )
+
+  shutdown_fits : (known : Option (List ℕ)) (m : ShutdownMessage) (e : End) → length m.script ≤ longest_script
+      → Fits o e → AnswerFits (shutdown_at known m e)
+  shutdown_fits None m e short h = (
+    record {
+      origin = h.origin;
+      own = h.own;
+      own_room = h.own_room;
+      received = h.received;
+      received_room = h.received_room;
+      script = h.script;
+      peer_script = short;
+    },
+    tt,
+  )
+  shutdown_fits (Some script) m e short h = by (are_same script m.script)
+    where
+      by : (b : Bool) → AnswerFits (cond b (Ok (quiet e)) (Err refusal.OutOfPlace))
+      by true = (h, tt)
+      by false = tt
+
+  answered_fits : (m : ClosingSigned) (e : End) (r : Result Answer Refusal) → Fits o e → AnswerFits (answered k m e r)
+  answered_fits m e (Ok answer.Nothing) h = (h, tt)
+  answered_fits m e (Ok (answer.Close fee)) h = (h, tt)
+  answered_fits m e (Ok (answer.EchoAndClose fee)) h = (h, (tt, tt))
+  answered_fits m e (Ok (answer.Propose fee)) h = (h, (tt, tt))
+  answered_fits m e (Err r) h = tt
+
+  fee_fits : (m : ClosingSigned) (e : End) (begun right : Bool) (r : Result Answer Refusal) → Fits o e
+      → AnswerFits (cond (not begun) (Err refusal.OutOfPlace)
+      (cond right (answered k m e r) (Err refusal.SignatureWrong)))
+  fee_fits m e true true r h = answered_fits m e r h
+  fee_fits m e true false r h = tt
+  fee_fits m e false right r h = tt
+
+  pub row_fits : (m : Message) (e : End) → CarriesWide m → Fits o e → AnswerFits (message_row k m e)
+  row_fits (message.ChannelReady m) e wide h = ready_fits m e h
+  row_fits (message.UpdateAddHtlc m) e wide h = takes_fits (update.Add (add_of m)) e wide h
+  row_fits (message.UpdateFulfillHtlc m) e wide h = takes_fits (update.Fulfil (fulfil_of m)) e wide h
+  row_fits (message.UpdateFailHtlc m) e wide h = takes_fits (update.Fail (fail_of m)) e wide h
+  row_fits (message.UpdateFailMalformedHtlc m) e wide h = takes_fits (update.Malformed (malformed_of m)) e wide h
+  row_fits (message.UpdateFee m) e wide h = takes_fits (update.Fee (fee_of m)) e wide h
+  row_fits (message.CommitmentSigned m) e wide h =
+      unless_fits (signature_fault k m e) (accepting k e.dance.log.current.own e (accepts e)) (λ none. (h, (tt, tt)))
+  row_fits (message.RevokeAndAck m) e wide h =
+      unless_fits (learn_fault k m e.dance) (learning e.dance.log.acknowledged.peer (revokes m e)) (λ none. (h, tt))
+  row_fits (message.Shutdown m) e wide h = shutdown_fits e.terms.peer_script m e wide h
+  row_fits (message.ClosingSigned m) e wide h =
+      fee_fits m e (has_begun e) (k.accepts_close m.fee_satoshis m.signature)
+      (answer_to e.closing m.fee_satoshis (range_in m)) h
+  row_fits (message.Warning m) e wide h = tt
+  row_fits (message.Init m) e wide h = tt
+  row_fits (message.Error m) e wide h = tt
+  row_fits (message.Ping m) e wide h = tt
+  row_fits (message.Pong m) e wide h = tt
+  row_fits (message.OpenChannel m) e wide h = tt
+  row_fits (message.AcceptChannel m) e wide h = tt
+  row_fits (message.FundingCreated m) e wide h = tt
+  row_fits (message.FundingSigned m) e wide h = tt
+  row_fits (message.ChannelReestablish m) e wide h = tt
+
+  -- ---- what is sent again
+
+  abbrev ResendsWide : Resend → Type 0
+  ResendsWide r = All SendsWide (one_again r)
+
+  owed_wide : (rs : List Resend) → All ResendsWide rs → All SendsWide (owed_again rs)
+  owed_wide [] h = tt
+  owed_wide (r ∷ rs) h = all-append SendsWide (one_again r) (owed_again rs) h.0 (owed_wide rs h.1)
+
+  signature_wide : (m : ChannelReestablish) (e : End) → Fits o e → All ResendsWide (signature_owed k m e.dance)
+  signature_wide m e h =
+      let l = e.dance.log in
+      all-when ResendsWide (lacks_signature m e.dance)
+      (updates_again e.dance ++ resend.Signature (signature_again k e.dance) ∷ []) [] (
+        updates_wide e.dance.channel (unacknowledged l)
+            (all-drop IsUpdate l.acknowledged.own (take l.signed.own l.own)
+            (all-take IsUpdate l.signed.own l.own h.own)),
+        ((tt, tt), tt),
+      ) tt
+
+  revocation_wide : (m : ChannelReestablish) (e : End) → All ResendsWide (revocation_owed k m e.dance)
+  revocation_wide m e = all-when ResendsWide (lacks_revocation m e.dance)
+      (resend.Revocation (revocation_again k e.dance) ∷ []) [] ((tt, tt), tt) tt
+
+  owed_by_wide : (later : Later) (m : ChannelReestablish) (e : End) → Fits o e
+      → All ResendsWide (owed_by later k m e.dance)
+  owed_by_wide Signature m e h =
+      all-append ResendsWide (revocation_owed k m e.dance) (signature_owed k m e.dance)
+      (revocation_wide m e) (signature_wide m e h)
+  owed_by_wide Revocation m e h =
+      all-append ResendsWide (signature_owed k m e.dance) (revocation_owed k m e.dance)
+      (signature_wide m e h) (revocation_wide m e)
+
+  again_wide : (m : ChannelReestablish) (e : End) → Fits o e → All SendsWide (sent_again k m e)
+  again_wide m e h =
+      let ready = ready_again k m e in
+      let lacking = owed_again (owed k m e.dance) in
+      let shutdown = shutdown_again e in
+      all-append SendsWide ((ready ++ lacking) ++ shutdown) (fee_again k e)
+      (all-append SendsWide (ready ++ lacking) shutdown
+      (all-append SendsWide ready lacking
+      (all-when SendsWide (is_before_the_first m e.dance && e.marks.ready_sent)
+      (output.Send (message.ChannelReady (ready_message k e)) ∷ []) [] (tt, tt) tt)
+      (owed_wide (owed k m e.dance) (owed_by_wide e.dance.later m e h)))
+      (all-when SendsWide e.closing.shut (output.Send (message.Shutdown (shutdown_message e)) ∷ []) []
+      (h.script, tt) tt))
+      (fee_wide e e.closing.own_fee)
+
+  resumed_fits : (m : ChannelReestablish) (e : End) → Fits o e → AnswerFits (resume_row k m e)
+  resumed_fits m e h = unless_fits (resume_fault k m e.dance) (completed k (resumed k m e))
+      (λ none. completed_fits (resumed k m e) (h, again_wide m e h))
+
+  -- ---- a command
+
+  -- the id that is due
+  next_small : (us : List Change) → length us < MOST_UPDATES → next_id us < 2 ^ 64
+  next_small us few = omega (arith, few, count_by-le-length is_add us)
+
+  proposes_fits : (u : Change) (e : End) → (length e.dance.log.own < MOST_UPDATES → IsUpdate u) → Fits o e
+      → AnswerFits (propose_row u e)
+  proposes_fits u e wide h =
+      unless_fits (propose_fault e u) (sending (update_message e.dance.channel u) (proposes u e)) (λ none.
+      let few = (may_propose e.dance.log u (first_none (own_fault e u) (proposal_fault e.dance.log u) none).1).few in (
+        record {
+          origin = h.origin;
+          own = all-append IsUpdate e.dance.log.own (u ∷ []) h.own (wide few, tt);
+          own_room = omega (arith, few, length-append e.dance.log.own (u ∷ []));
+          received = h.received;
+          received_room = h.received_room;
+          script = h.script;
+          peer_script = h.peer_script;
+        },
+        (update_wide e.dance.channel u (wide few), tt),
+      ))
+
+  short : (script : List ℕ) → script_fault script ≡ None → length script ≤ longest_script
+  short script none = ltb-false longest_script (length script)
+      (no_fault (nat_lt longest_script (length script)) (refusal.PeerLimit rule.TooLong) none)
+
+  shuts_fits : (script : List ℕ) (e : End) → Fits o e → AnswerFits (command_row k (command.Shutdown script) e)
+  shuts_fits script e h =
+      let n = shuts_down script e in
+      let t = sending (message.Shutdown (shutdown_message n)) n in
+      unless_fits (shut_fault script e) (completed k t) (λ none.
+      let unshut = otherwise e.closing.shut refusal.Shut _ none in
+      let may = where_true (all_acknowledged e.dance.log) (script_fault script) refusal.UpdatesPending unshut.1 in
+      let le = short script may.1 in
+      completed_fits t (
+        record {
+          origin = h.origin;
+          own = h.own;
+          own_room = h.own_room;
+          received = h.received;
+          received_room = h.received_room;
+          script = le;
+          peer_script = h.peer_script;
+        },
+        (le, tt),
+      ))
+
+  pub command_fits : (c : Command) (e : End) → IsCommand c → Fits o e → AnswerFits (command_row k c e)
+  command_fits (command.Confirm id) e wide h =
+      unless_fits (confirm_fault e) (sending (message.ChannelReady (ready_message k e)) (confirmed id e))
+      (λ none. (h, (tt, tt)))
+  command_fits (command.Add amount hash expiry onion origin) e wide h =
+      proposes_fits (update.Add (record {
+        id = next_id e.dance.log.own;
+        amount = amount;
+        hash = hash;
+        expiry = expiry;
+        onion = onion;
+        origin = origin;
+      })) e (λ few. record {
+        id = next_small e.dance.log.own few;
+        amount = wide.amount_fits;
+        hash = wide.hash_fits;
+        expiry = wide.expiry_fits;
+        onion = wide.onion_fits;
+        origin = wide.origin_fits;
+      }) h
+  command_fits (command.Fulfil id preimage) e wide h =
+      proposes_fits (update.Fulfil (record { id = id; preimage = preimage })) e (λ few. wide) h
+  command_fits (command.Fail id reason) e wide h =
+      proposes_fits (update.Fail (record { id = id; reason = reason })) e (λ few. wide) h
+  command_fits (command.Malformed id sha code) e wide h =
+      proposes_fits (update.Malformed (record { id = id; sha256_of_onion = sha; failure_code = code })) e
+      (λ few. wide) h
+  command_fits (command.Fee feerate) e wide h =
+      proposes_fits (update.Fee (record { feerate = feerate })) e (λ few. wide) h
+  command_fits command.Sign e wide h = unless_fits (sign_command_fault e) (record {
+    end = signs_next e;
+    handed = record {
+      sent = output.Send (message.CommitmentSigned (signed_message k e.dance)) ∷ [];
+      told = output.Signed (length e.dance.log.own) ∷ [];
+    };
+  }) (λ none. (h, (tt, tt)))
+  command_fits (command.Shutdown script) e wide h = shuts_fits script e h
+  command_fits (command.Decide event mark) e wide h = tt
+  command_fits (command.Forget id) e wide h = tt
+
+  -- ---- by the connection
+
+  pub meets_fits : (m : Message) (e : End) → Fits o e → AnswerFits (met_again k m e)
+  meets_fits (message.ChannelReestablish m) e h = resumed_fits m e h
+  meets_fits (message.Warning m) e h = tt
+  meets_fits (message.Init m) e h = tt
+  meets_fits (message.Error m) e h = tt
+  meets_fits (message.Ping m) e h = tt
+  meets_fits (message.Pong m) e h = tt
+  meets_fits (message.OpenChannel m) e h = tt
+  meets_fits (message.AcceptChannel m) e h = tt
+  meets_fits (message.FundingCreated m) e h = tt
+  meets_fits (message.FundingSigned m) e h = tt
+  meets_fits (message.ChannelReady m) e h = tt
+  meets_fits (message.Shutdown m) e h = tt
+  meets_fits (message.ClosingSigned m) e h = tt
+  meets_fits (message.UpdateAddHtlc m) e h = tt
+  meets_fits (message.UpdateFulfillHtlc m) e h = tt
+  meets_fits (message.UpdateFailHtlc m) e h = tt
+  meets_fits (message.CommitmentSigned m) e h = tt
+  meets_fits (message.RevokeAndAck m) e h = tt
+  meets_fits (message.UpdateFee m) e h = tt
+  meets_fits (message.UpdateFailMalformedHtlc m) e h = tt
