@@ -10,7 +10,7 @@ use Rattle.ln_world.specs.Settings.{config_of, spec_of, CanBring}
 no_records : MayFollow open_form []
 no_records = record { valid = tt; lengths = refl }
 
-one_letter : 1 ≤ 65499
+pub one_letter : 1 ≤ 65499
 one_letter = omega arith
 
 no_bytes : 0 ≤ 65214

@@ -8,11 +8,11 @@ use Rattle.ln_link.specs.End.{end_dropped}
 use Rattle.ln_pair.specs.Promises.{is_add, is_shutdown, AddsBefore}
 use Rattle.ln_world.specs.Sending.{sends}
 use Rattle.ln_world.specs.Course.{along}
-use Rattle.ln_world.specs.Machine.{moves_of, moves_of_fall, tells, machine_with, machine_of_stages}
+use Rattle.ln_world.specs.Machine.{moves_of, moves_of_fall, tells, machine_of_stages}
 use Rattle.ln_world.proofs.Mirror.{without-append}
 use Rattle.ln_world.proofs.Moves.{met_says, met_tells, lost_says}
 use Rattle.std.proofs.Common.{◌≡◌, ℕ, List, [], ◌∷◌, ◌++◌, refl, sym, ap, ◌∙◌, subst, Bool, true, false, cond}
-use Rattle.std.proofs.Common.{◌&&◌}
+use Rattle.std.proofs.Common.{◌&&◌, ◌≤◌, length}
 use Rattle.std.proofs.Common.{Option, Some, None, inl, inr, not}
 use Rattle.ln_msgs.specs.declared.messages.message.Message.{Message}
 use Rattle.ln_keys.specs.declared.role.Role.{Role}
@@ -45,6 +45,9 @@ use Rattle.ln_pair.proofs.Fees.{one_fee, all_taken}
 use Rattle.ln_pair.specs.Answers.{HasAnswered}
 use Rattle.ln_pair.proofs.Answers.{all_answered}
 use Rattle.ln_pair.proofs.Deals.{run_fees}
+use Rattle.ln_pair.proofs.Lasting.{All}
+use Rattle.ln_pair.proofs.Contents.{all-append, longest_script}
+use Rattle.ln_pair.proofs.Wide.{StepIsWide}
 use Rattle.ln_close.specs.Closing.{AreOrdered}
 use Rattle.ln_log.specs.Machine.{Machine}
 use Rattle.ln_log.specs.Machine as machine
@@ -61,12 +64,14 @@ use Rattle.ln_world.specs.Both.{Both, By, Falls, Restarts, Meet, acts, swapped, 
 use Rattle.ln_world.specs.Both.{run as run_both}
 use Rattle.ln_world.specs.Channel.{Channel, by, side_of, moved, may_meet, act_moves, fall_moves, restart_moves}
 use Rattle.ln_world.specs.Channel.{up_moves}
-use Rattle.ln_world.specs.Promises.{AtEnds, WithPeer, Headline, TakesFront, NoneRefused, AgreeOnceSigned, Agrees}
+use Rattle.ln_world.specs.Promises.{AtEnds, Headline, TakesFront, NoneRefused, AgreeOnceSigned, Agrees}
 use Rattle.ln_world.specs.Promises.{FeesOverlap, AcceptsFront, AllTaken, OneFee, HaveAnswered, AnswersShutdown}
+use Rattle.ln_world.specs.Records.{HaveSecrets, IsAct}
 use Rattle.ln_world.proofs.Mirror.{link_of, without_warnings, IsInbox, Mirrors, flipped, plain}
 use Rattle.ln_world.proofs.Dropped.{are_dropped}
-use Rattle.ln_world.proofs.Moves.{Goes, Out, out_of, handled_so, passed_so, delivered, given, fell, restarted_so, met}
+use Rattle.ln_world.proofs.Moves.{Goes, out_of, handled_so, passed_so, delivered, given, fell, restarted_so, met}
 use Rattle.ln_world.proofs.Moves.{is_up}
+use Rattle.ln_world.proofs.Opening.{IsOpening}
 
 -- ---- the pair's steps
 
@@ -179,6 +184,33 @@ with_warnings : (shut : Bool) (ms : List Message) → AddsBefore shut (without_w
 with_warnings shut [] h = tt
 with_warnings shut (m ∷ ms) h = as_well (is_warning m) shut m ms refl (λ now. with_warnings now ms) h
 
+-- ---- what moves bring
+
+-- the pair's act that it is
+abbrev of_pair : Act → pair.Act
+of_pair act.Deliver = pair.Deliver
+of_pair (act.Send c) = pair.Give c
+
+as_wide : (side : Role) (a : Act) → IsAct a → StepIsWide (pair.By side (of_pair a))
+as_wide side act.Deliver h = tt
+as_wide side (act.Send c) h = h
+
+abbrev pub IsMove : Move → Type 0
+IsMove (By side a) = IsAct a
+IsMove (Falls side) = Unit {0}
+IsMove (Restarts side) = Unit {0}
+IsMove Meet = Unit {0}
+
+-- the steps of two ends, and how they were opened, bring what records have room for
+pub record AreWide (a b : Signer) (funder fundee : Opened) (steps : List Step) : Type 0 where
+  pub funders_secrets : HaveSecrets a
+  pub fundees_secrets : HaveSecrets b
+  pub funders_end : IsOpening funder
+  pub fundees_end : IsOpening fundee
+  pub funders_script : length funder.terms.script ≤ longest_script
+  pub fundees_script : length fundee.terms.script ≤ longest_script
+  pub commands : All StepIsWide steps
+
 -- ---- a channel whose links are at the ends of a pair
 
 module _ {K : Type 0} (signer : K → Signer) where
@@ -253,10 +285,9 @@ module _ {K : Type 0} (signer : K → Signer) where
 
   acts_so : (id : List ℕ) (side : Role) (a : Act) (kx ky : K) (p : Both K) (q : Ends) → Mirrors id kx ky p q
       → Front (signer kx) q.x_line q.to_x q.x
-      → Goes signer id kx ky side (out_of signer id side a p.x) (acts signer id a p) q
+      → Goes signer id kx ky side (of_pair a) (out_of signer id side a p.x) (acts signer id a p) q
   acts_so id side act.Deliver kx ky p q h f = delivered signer id kx ky side p q h f
-  acts_so id side (act.Send c) kx ky p q h f = let went = given signer id kx ky side c p q h in
-      inr (pair.Give c, went.0, went.1, went.2)
+  acts_so id side (act.Send c) kx ky p q h f = inr (given signer id kx ky side c p q h)
 
   -- what a move comes to
   abbrev pub tale_of : List ℕ → Move → Both K → Tale
@@ -276,9 +307,13 @@ module _ {K : Type 0} (signer : K → Signer) where
   told_until side id p r = events_in
       (pair_told.all_told (signer r.funders) (signer r.fundees) side r.steps (pair.opened r.funder r.fundee))
 
+  abbrev pub IsWideRun : (id : List ℕ) (p : Both K) → IsRun id p → Type 0
+  IsWideRun id p r = AreWide (signer r.funders) (signer r.fundees) r.funder r.fundee r.steps
+
   -- what a move makes of it, and what comes of it for the ends
-  pub record Went (id : List ℕ) (p p' : Both K) (r : IsRun id p) (t : Tale) : Type 0 where
+  pub record Went (id : List ℕ) (p p' : Both K) (r : IsRun id p) (t : Tale) (brings : Type 0) : Type 0 where
     pub run : IsRun id p'
+    pub wide : brings → IsWideRun id p r → IsWideRun id p' run
     pub x : (ends_of id p' run).said_x ≡ (ends_of id p r).said_x ++ without_warnings t.sent_x
     pub y : (ends_of id p' run).said_y ≡ (ends_of id p r).said_y ++ without_warnings t.sent_y
     pub moves : moves_until id p' run ≡ moves_until id p r ++ t.moves
@@ -291,7 +326,8 @@ module _ {K : Type 0} (signer : K → Signer) where
   nothing_more : {A : Type 0} (xs ys : List A) → ys ≡ [] → xs ≡ xs ++ ys
   nothing_more xs ys none = sym (ap (λ zs. xs ++ zs) none ∙ append-nil xs)
 
-  went_so : (id : List ℕ) (p p' : Both K) (r : IsRun id p) (s : Step) (t : Tale)
+  went_so : (id : List ℕ) (p p' : Both K) (r : IsRun id p) (s : Step) (t : Tale) (brings : Type 0)
+      → (brings → StepIsWide s)
       → Mirrors id r.funders r.fundees p' (pair.happens (signer r.funders) (signer r.fundees) s (ends_of id p r))
       → (pair.happens (signer r.funders) (signer r.fundees) s (ends_of id p r)).said_x
       ≡ (ends_of id p r).said_x ++ without_warnings t.sent_x
@@ -300,8 +336,8 @@ module _ {K : Type 0} (signer : K → Signer) where
       → pair_moves.moves_of (signer r.funders) (signer r.fundees) s (ends_of id p r) ≡ t.moves
       → events_in (pair_told.told (signer r.funders) (signer r.fundees) Funder s (ends_of id p r)) ≡ events_in t.told_x
       → events_in (pair_told.told (signer r.funders) (signer r.fundees) Fundee s (ends_of id p r)) ≡ events_in t.told_y
-      → Went id p p' r t
-  went_so id p p' r s t h x y ms ox oy =
+      → Went id p p' r t brings
+  went_so id p p' r s t brings wide h x y ms ox oy =
       let a = signer r.funders in
       let b = signer r.fundees in
       let first = pair.opened r.funder r.fundee in
@@ -309,6 +345,15 @@ module _ {K : Type 0} (signer : K → Signer) where
       let is = run-append a b r.steps s first in
       record {
         run = one_more id p p' r s h;
+        wide = λ is were. record {
+          funders_secrets = were.funders_secrets;
+          fundees_secrets = were.fundees_secrets;
+          funders_end = were.funders_end;
+          fundees_end = were.fundees_end;
+          funders_script = were.funders_script;
+          fundees_script = were.fundees_script;
+          commands = all-append StepIsWide r.steps (s ∷ []) were.commands (wide is, tt);
+        };
         x = ap (λ (w : Ends). w.said_x) is ∙ x;
         y = ap (λ (w : Ends). w.said_y) is ∙ y;
         moves = ap (λ ns. machine.Open r.funder.dance.log.opening ∷ ns)
@@ -321,12 +366,13 @@ module _ {K : Type 0} (signer : K → Signer) where
             ∙ ap (λ os. told_until Fundee id p r ++ os) oy;
       }
 
-  stayed_so : (id : List ℕ) (p p' : Both K) (r : IsRun id p) (t : Tale)
+  stayed_so : (id : List ℕ) (p p' : Both K) (r : IsRun id p) (t : Tale) (brings : Type 0)
       → Mirrors id r.funders r.fundees p' (ends_of id p r) → without_warnings t.sent_x ≡ []
       → without_warnings t.sent_y ≡ [] → t.moves ≡ [] → events_in t.told_x ≡ [] → events_in t.told_y ≡ []
-      → Went id p p' r t
-  stayed_so id p p' r t h x y ms ox oy = record {
+      → Went id p p' r t brings
+  stayed_so id p p' r t brings h x y ms ox oy = record {
     run = as_before id p p' r h;
+    wide = λ is were. were;
     x = silently (ends_of id p r).said_x t.sent_x x;
     y = silently (ends_of id p r).said_y t.sent_y y;
     moves = nothing_more (moves_until id p r) t.moves ms;
@@ -335,16 +381,16 @@ module _ {K : Type 0} (signer : K → Signer) where
   }
 
   acted_went : (id : List ℕ) (side : Role) (a : Act) (p : Both K) (r : IsRun id p)
-      → Went id p (moves signer id (By side a) p) r (tale_of id (By side a) p)
+      → Went id p (moves signer id (By side a) p) r (tale_of id (By side a) p) (IsAct a)
   unfolding moves
   acted_went id Funder a p r =
       let q = ends_of id p r in
       let t = tale_of id (By Funder a) p in
       elim (acts_so id Funder a r.funders r.fundees p q r.mirrors (fronts id p r).0) [
-        | inl h ↦ stayed_so id p _ r t h.0 h.1.sent refl h.1.moves (ap events_in h.1.told) refl
+        | inl h ↦ stayed_so id p _ r t (IsAct a) h.0 h.1.sent refl h.1.moves (ap events_in h.1.told) refl
         | inr h ↦
-            went_so id p _ r (pair.By Funder h.0) t h.1 h.2.x (h.2.y ∙ silently q.said_y [] refl) h.3.moves
-            (ap events_in h.3.told) refl
+            went_so id p _ r (pair.By Funder (of_pair a)) t (IsAct a) (as_wide Funder a) h.0 h.1.x
+            (h.1.y ∙ silently q.said_y [] refl) h.2.moves (ap events_in h.2.told) refl
       ]
   acted_went id Fundee a p r =
       let q = ends_of id p r in
@@ -352,22 +398,22 @@ module _ {K : Type 0} (signer : K → Signer) where
       elim (acts_so id Fundee a r.fundees r.funders (swapped p) (pair.turned q)
       (flipped id r.funders r.fundees p q r.mirrors) (fronts id p r).1) [
         | inl h ↦
-            stayed_so id p _ r t (flipped id r.fundees r.funders _ (pair.turned q) h.0) refl h.1.sent h.1.moves refl
-            (ap events_in h.1.told)
+            stayed_so id p _ r t (IsAct a) (flipped id r.fundees r.funders _ (pair.turned q) h.0) refl h.1.sent
+            h.1.moves refl (ap events_in h.1.told)
         | inr h ↦
-            went_so id p _ r (pair.By Fundee h.0) t
-            (flipped id r.fundees r.funders _ (pair.acts (signer r.fundees) h.0 (pair.turned q)) h.1)
-            (h.2.y ∙ silently q.said_x [] refl) h.2.x h.3.moves refl (ap events_in h.3.told)
+            went_so id p _ r (pair.By Fundee (of_pair a)) t (IsAct a) (as_wide Fundee a)
+            (flipped id r.fundees r.funders _ (pair.acts (signer r.fundees) (of_pair a) (pair.turned q)) h.0)
+            (h.1.y ∙ silently q.said_x [] refl) h.1.x h.2.moves refl (ap events_in h.2.told)
       ]
 
   fallen_went : (id : List ℕ) (side : Role) (p : Both K) (r : IsRun id p)
-      → Went id p (moves signer id (Falls side) p) r (tale_of id (Falls side) p)
+      → Went id p (moves signer id (Falls side) p) r (tale_of id (Falls side) p) (Unit {0})
   unfolding moves
   fallen_went id Funder p r =
       let q = ends_of id p r in
       let said = lost_says (is_down q.x_line) q (record q { x_line = Down; x = end_dropped q.x; to_x = [] }) refl
       refl in
-      went_so id p _ r (pair.By Funder pair.Lose) (tale_of id (Falls Funder) p)
+      went_so id p _ r (pair.By Funder pair.Lose) (tale_of id (Falls Funder) p) (Unit {0}) (λ is. tt)
       (fell signer id r.funders r.fundees p q r.mirrors)
       (said.0 ∙ silently q.said_x [] refl) (said.1 ∙ silently q.said_y [] refl)
       (ap (λ (l : State K). moves_of_fall Funder l.line) (sym r.mirrors.x_link)) refl refl
@@ -376,7 +422,7 @@ module _ {K : Type 0} (signer : K → Signer) where
       let t = pair.turned q in
       let said = lost_says (is_down t.x_line) t (record t { x_line = Down; x = end_dropped t.x; to_x = [] }) refl
       refl in
-      went_so id p _ r (pair.By Fundee pair.Lose) (tale_of id (Falls Fundee) p)
+      went_so id p _ r (pair.By Fundee pair.Lose) (tale_of id (Falls Fundee) p) (Unit {0}) (λ is. tt)
       (flipped id r.fundees r.funders _ _ (fell signer id r.fundees r.funders (swapped p) t
       (flipped id r.funders r.fundees p q r.mirrors)))
       (said.1 ∙ silently q.said_x [] refl) (said.0 ∙ silently q.said_y [] refl)
@@ -395,9 +441,9 @@ module _ {K : Type 0} (signer : K → Signer) where
       (flipped id r.funders r.fundees p q r.mirrors)))
 
   restarted_went : (id : List ℕ) (side : Role) (p : Both K) (r : IsRun id p)
-      → Went id p (moves signer id (Restarts side) p) r (tale_of id (Restarts side) p)
-  restarted_went id side p r = subst (λ p'. Went id p p' r (tale_of id (Falls side) p)) (as_fallen id side p r)
-      (fallen_went id side p r)
+      → Went id p (moves signer id (Restarts side) p) r (tale_of id (Restarts side) p) (Unit {0})
+  restarted_went id side p r = subst (λ p'. Went id p p' r (tale_of id (Falls side) p) (Unit {0}))
+      (as_fallen id side p r) (fallen_went id side p r)
 
   both_true : (b c : Bool) → (b && c) ≡ true → (b ≡ true) × (c ≡ true)
   both_true true true e = (refl, refl)
@@ -405,7 +451,7 @@ module _ {K : Type 0} (signer : K → Signer) where
   both_true false c e = absurd (cc)
 
   came_up_went : (id : List ℕ) (p : Both K) → may_meet p ≡ true → (r : IsRun id p)
-      → Went id p (moves signer id Meet p) r (tale_of id Meet p)
+      → Went id p (moves signer id Meet p) r (tale_of id Meet p) (Unit {0})
   unfolding moves
   came_up_went id p e r =
       let ends = both_true (may_come_up p.x.link) (may_come_up p.y.link) e in
@@ -414,7 +460,7 @@ module _ {K : Type 0} (signer : K → Signer) where
       let q = ends_of id p r in
       let said = met_says signer id r.funders r.fundees p q x.0 y.0 r.mirrors in
       let told = met_tells signer id r.funders r.fundees p q x.0 y.0 r.mirrors in
-      went_so id p _ r pair.Connect (tale_of id Meet p)
+      went_so id p _ r pair.Connect (tale_of id Meet p) (Unit {0}) (λ is. tt)
       (met signer id r.funders r.fundees p q x.0 y.0 r.mirrors) said.0 said.1 refl (sym told.0) (sym told.1)
 
   -- those that the table gives: a connection joins ends that are both down, and haven't halted
@@ -428,8 +474,8 @@ module _ {K : Type 0} (signer : K → Signer) where
   ArePossible id [] p = Unit {0}
   ArePossible id (m ∷ ms) p = (is_possible m p ≡ true) × ArePossible id ms (moves signer id m p)
 
-  went : (id : List ℕ) (m : Move) (p : Both K) → is_possible m p ≡ true → (r : IsRun id p)
-      → Went id p (moves signer id m p) r (tale_of id m p)
+  pub went : (id : List ℕ) (m : Move) (p : Both K) → is_possible m p ≡ true → (r : IsRun id p)
+      → Went id p (moves signer id m p) r (tale_of id m p) (IsMove m)
   went id (By side a) p e r = acted_went id side a p r
   went id (Falls side) p e r = fallen_went id side p r
   went id (Restarts side) p e r = restarted_went id side p r

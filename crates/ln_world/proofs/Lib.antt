@@ -12,3 +12,11 @@ pub mod Lacking
 pub mod Worlds
 pub mod Promised
 pub mod Told
+pub mod Opening
+pub mod OpeningForms
+pub mod UpdateForms
+pub mod ItemForms
+pub mod SoundForms
+pub mod Forms
+pub mod Openings
+pub mod Recorded

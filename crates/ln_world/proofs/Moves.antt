@@ -360,9 +360,10 @@ module _ {K : Type 0} (signer : K → Signer) (id : List ℕ) (kx ky : K) where
     down = λ e. absurd (let no : true ≡ false = sym e ∙ up in cc);
   }
 
-  abbrev pub Goes : Role → Out → Both K → Ends → Type 0
-  Goes side out p q = (Mirrors id kx ky p q × IsAside out)
-      ⊎ ((a : Act) × Mirrors id kx ky p (pair.acts (signer kx) a q) × Says out.sent q (pair.acts (signer kx) a q)
+  -- the ends do this, or nothing
+  abbrev pub Goes : Role → Act → Out → Both K → Ends → Type 0
+  Goes side a out p q = (Mirrors id kx ky p q × IsAside out)
+      ⊎ (Mirrors id kx ky p (pair.acts (signer kx) a q) × Says out.sent q (pair.acts (signer kx) a q)
       × Tells out (pair_moves.moves_of_act (signer kx) side a q) (told_in (signer kx) a q))
 
   tells_taken : (side : Role) (p : Both K) (q : Ends) (m : Message) (ms to : List Message) → is_down q.x_line ≡ false
@@ -421,7 +422,7 @@ module _ {K : Type 0} (signer : K → Signer) (id : List ℕ) (kx ky : K) where
 
   delivered_by : (side : Role) (p : Both K) (q : Ends) (ms : List Message) → IsInbox id q.x_line ms q.to_x
       → Mirrors id kx ky p q → p.x.inbox ≡ ms → Front (signer kx) q.x_line q.to_x q.x
-      → Goes side (out_delivered signer id side ms p.x.link) (delivers signer id ms p) q
+      → Goes side Deliver (out_delivered signer id side ms p.x.link) (delivers signer id ms p) q
   delivered_by side p q [] i h is f = inl (h, record { sent = refl; moves = refl; told = refl })
   delivered_by side p q (m ∷ ms) i h is f =
       let up = is_up q.x_line m ms i.down in
@@ -455,12 +456,12 @@ module _ {K : Type 0} (signer : K → Signer) (id : List ℕ) (kx ky : K) where
             (pair_moves.moves_delivered (signer kx) side q.x_line ws q.x) (told_on (signer kx) q.x_line ws q.x)) to
             (of_channel side p q m ms (without_warnings ms) up own refl i.named.1 h
             (subst (λ ws. Front (signer kx) q.x_line ws q.x) (sym to) f)) in
-            inr (Deliver, went.0, went.1, went.2)
+            inr went
       ]
 
   pub delivered : (side : Role) (p : Both K) (q : Ends) → Mirrors id kx ky p q
       → Front (signer kx) q.x_line q.to_x q.x
-      → Goes side (out_of signer id side act.Deliver p.x) (acts signer id act.Deliver p) q
+      → Goes side Deliver (out_of signer id side act.Deliver p.x) (acts signer id act.Deliver p) q
   delivered side p q h f = delivered_by side p q p.x.inbox h.x_in h refl f
 
   -- ---- a command

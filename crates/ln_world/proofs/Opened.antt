@@ -49,7 +49,7 @@ abbrev ok_or : {A : Type 0} → A → Result A Refusal → A
 ok_or x (Ok y) = y
 ok_or x (Err r) = x
 
-was_given : {A : Type 0} (f : Option Refusal) (x y : A) → unless f x ≡ Ok y → x ≡ y
+pub was_given : {A : Type 0} (f : Option Refusal) (x y : A) → unless f x ≡ Ok y → x ≡ y
 was_given None x y e = ap (ok_or x) e
 was_given (Some r) x y e = absurd (cc)
 

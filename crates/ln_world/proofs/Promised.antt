@@ -24,7 +24,7 @@ use Rattle.ln_world.specs.declared.step.Step.TheVariants as step
 use Rattle.ln_world.specs.declared.settings.Settings.{Settings}
 use Rattle.ln_world.specs.declared.settings.Setting.{Setting}
 use Rattle.ln_world.specs.Settings.{config_of, spec_of, txid_of, channel_id_of, opening_by, are_ordered}
-use Rattle.ln_world.specs.Settings.{may_bring, CanBring}
+use Rattle.ln_world.specs.Settings.{defaults, may_bring, CanBring}
 use Rattle.ln_world.specs.Both.{Both, Move}
 use Rattle.ln_world.specs.Channel.{Channel, is_node, moved, opened_by, act_moves, fall_moves, restart_moves, up_moves}
 use Rattle.ln_world.specs.World.{World, settings_of, with_settings, channel, moved_at, all_moved, may_open, happens}
@@ -61,33 +61,37 @@ brings_so satoshis push s t e =
 
 -- ---- what is set for nodes
 
-abbrev pub IsSet : Setting → Type 0
-IsSet s = AreSent s.settings.fees
+module _ (P : Settings → Type 0) where
+  abbrev pub AreSet : List Setting → Type 0
+  AreSet ss = Each (λ (s : Setting). P s.settings) ss
 
-found : (b : Bool) (s t : Settings) → AreSent s.fees → AreSent t.fees → AreSent (cond b s t).fees
-found true s t h k = h
-found false s t h k = k
+  found : (b : Bool) (s t : Settings) → P s → P t → P (cond b s t)
+  found true s t h k = h
+  found false s t h k = k
 
-either_list : (b : Bool) (new s : Setting) (ss ts : List Setting) → IsSet new → Each IsSet (s ∷ ss) → Each IsSet ts
-    → Each IsSet (cond b (new ∷ ss) (s ∷ ts))
-either_list true new s ss ts f h k = (f, h.1)
-either_list false new s ss ts f h k = (h.0, k)
+  either_list : (b : Bool) (new s : Setting) (ss ts : List Setting) → P new.settings → AreSet (s ∷ ss) → AreSet ts
+      → AreSet (cond b (new ∷ ss) (s ∷ ts))
+  either_list true new s ss ts f h k = (f, h.1)
+  either_list false new s ss ts f h k = (h.0, k)
 
-pub set_so : (n : Node) (ss : List Setting) → Each IsSet ss
-    → AreSent (settings_of n ss).fees
-set_so n [] h = record { first = omega arith; greatest = omega arith }
-set_so n (s ∷ ss) h = found (is_node s.node n) s.settings (settings_of n ss) h.0 (set_so n ss h.1)
+  pub set_of : P defaults → (n : Node) (ss : List Setting) → AreSet ss → P (settings_of n ss)
+  set_of d n [] h = d
+  set_of d n (s ∷ ss) h = found (is_node s.node n) s.settings (settings_of n ss) h.0 (set_of d n ss h.1)
 
-with_so : (n : Node) (new : Settings) (ss : List Setting) → AreSent new.fees
-    → Each IsSet ss
-    → Each IsSet (with_settings n new ss)
-with_so n new [] f h = (f, tt)
-with_so n new (s ∷ ss) f h = either_list (is_node s.node n) (record { node = n; settings = new }) s ss
-    (with_settings n new ss) f h (with_so n new ss f h.1)
+  pub set_with : (n : Node) (new : Settings) (ss : List Setting) → P new → AreSet ss → AreSet (with_settings n new ss)
+  set_with n new [] f h = (f, tt)
+  set_with n new (s ∷ ss) f h = either_list (is_node s.node n) (record { node = n; settings = new }) s ss
+      (with_settings n new ss) f h (set_with n new ss f h.1)
+
+abbrev pub HasFees : Settings → Type 0
+HasFees s = AreSent s.fees
+
+pub set_so : (n : Node) (ss : List Setting) → AreSet HasFees ss → AreSent (settings_of n ss).fees
+set_so n ss h = set_of HasFees (record { first = omega arith; greatest = omega arith }) n ss h
 
 -- ---- a channel that is opened
 
-id_so : (n : ℕ) → channel_id_of n ≡ id_of_channel (txid_of n) 0
+pub id_so : (n : ℕ) → channel_id_of n ≡ id_of_channel (txid_of n) 0
 unfolding channel_id_of
 id_so n = refl
 
@@ -118,11 +122,10 @@ module _ {K : Type 0} (k : Ghosts K) where
   abbrev pub opening_tale : Opening → Tale
   opening_tale o = record { sent_x = []; sent_y = []; moves = machine.Open o ∷ []; told_x = []; told_y = [] }
 
-  -- a channel that was opened, with nothing said since
-  pub opened_told : (o : Open K k) (s t : Settings) → AreKeys (k.signer o.keys.funder) (k.signer o.keys.fundee)
-      → CanBring o.satoshis o.push s t → AreSent s.fees → AreSent t.fees
-      → IsToldOf (opened_by k o s t) (opening_tale (opening_by o.satoshis o.push s t))
-  opened_told o s t keys brings fs ft =
+  -- a channel that was opened, with no step since
+  abbrev pub opened_run : (o : Open K k) (s t : Settings) → AreKeys (k.signer o.keys.funder) (k.signer o.keys.fundee)
+      → CanBring o.satoshis o.push s t → AreSent s.fees → AreSent t.fees → IsOpen k.signer (opened_by k o s t)
+  opened_run o s t keys brings fs ft =
       let a = k.signer o.keys.funder in
       let b = k.signer o.keys.fundee in
       let spec = spec_of o.channel (config_of o.funder s) o.satoshis o.push in
@@ -142,63 +145,64 @@ module _ {K : Type 0} (k : Ghosts K) where
       let id = channel_id_of o.channel in
       let fees = fees_so k.signer id o.keys.funder o.keys.fundee spec config funder fundee opens in
       record {
-        run = record {
-          funders = o.keys.funder;
-          fundees = o.keys.fundee;
-          spec = spec;
-          config = config;
-          funder = funder;
-          fundee = fundee;
-          steps = [];
-          keys = keys;
-          opens = opens;
-          funders_fees = subst AreSent (sym fees.0) fs;
-          fundees_fees = subst AreSent (sym fees.1) ft;
-          funders_order = subst AreOrdered (sym fees.0) brings.funder_fees;
-          fundees_order = subst AreOrdered (sym fees.1) brings.fundee_fees;
-          mirrors = mirrored k.signer id o.keys.funder o.keys.fundee spec config funder fundee opens
-              (id_so o.channel);
-        };
+        funders = o.keys.funder;
+        fundees = o.keys.fundee;
+        spec = spec;
+        config = config;
+        funder = funder;
+        fundee = fundee;
+        steps = [];
+        keys = keys;
+        opens = opens;
+        funders_fees = subst AreSent (sym fees.0) fs;
+        fundees_fees = subst AreSent (sym fees.1) ft;
+        funders_order = subst AreOrdered (sym fees.0) brings.funder_fees;
+        fundees_order = subst AreOrdered (sym fees.1) brings.fundee_fees;
+        mirrors = mirrored k.signer id o.keys.funder o.keys.fundee spec config funder fundee opens (id_so o.channel);
+      }
+
+  -- and with nothing said since
+  pub opened_told : (o : Open K k) (s t : Settings) → AreKeys (k.signer o.keys.funder) (k.signer o.keys.fundee)
+      → CanBring o.satoshis o.push s t → AreSent s.fees → AreSent t.fees
+      → IsToldOf (opened_by k o s t) (opening_tale (opening_by o.satoshis o.push s t))
+  opened_told o s t keys brings fs ft =
+      let r = opened_run o s t keys brings fs ft in
+      record {
+        run = r;
         x = refl;
         y = refl;
         moves = ap (λ q. machine.Open q ∷ [])
-            (opening_so k.signer id o.keys.funder o.keys.fundee spec config funder fundee opens);
+            (opening_so k.signer (channel_id_of o.channel) r.funders r.fundees r.spec r.config r.funder r.fundee
+            r.opens);
         told_x = refl;
         told_y = refl;
       }
 
-  opened_so : (o : Open K k) (s t : Settings) → AreKeys (k.signer o.keys.funder) (k.signer o.keys.fundee)
-      → CanBring o.satoshis o.push s t → AreSent s.fees → AreSent t.fees → IsOpen k.signer (opened_by k o s t)
-  opened_so o s t keys brings fs ft = (opened_told o s t keys brings fs ft).run
-
   -- ---- a world
 
   pub record Keeps (w : World K) : Type 0 where
-    pub settings : Each IsSet w.settings
+    pub settings : AreSet HasFees w.settings
     pub channels : Each (IsOpen k.signer) w.channels
 
-  one_moved : (b : Bool) (f : Channel K → List Move)
-      → ((c : Channel K) → IsOpen k.signer c → IsOpen k.signer (moved k.signer f c))
-      → (c : Channel K) → IsOpen k.signer c → IsOpen k.signer (cond b (moved k.signer f c) c)
-  one_moved true f keep c h = keep c h
-  one_moved false f keep c h = h
+  module _ (P : Channel K → Type 0) where
+    one_moved : (b : Bool) (f : Channel K → List Move) → ((c : Channel K) → P c → P (moved k.signer f c))
+        → (c : Channel K) → P c → P (cond b (moved k.signer f c) c)
+    one_moved true f keep c h = keep c h
+    one_moved false f keep c h = h
 
-  moved_so : (n : ℕ) (f : Channel K → List Move)
-      → ((c : Channel K) → IsOpen k.signer c → IsOpen k.signer (moved k.signer f c))
-      → (cs : List (Channel K)) → Each (IsOpen k.signer) cs → Each (IsOpen k.signer) (moved_at k.signer n f cs)
-  moved_so n f keep [] h = tt
-  moved_so n f keep (c ∷ cs) h = (one_moved (c.number == n) f keep c h.0, moved_so n f keep cs h.1)
+    pub moved_so : (n : ℕ) (f : Channel K → List Move) → ((c : Channel K) → P c → P (moved k.signer f c))
+        → (cs : List (Channel K)) → Each P cs → Each P (moved_at k.signer n f cs)
+    moved_so n f keep [] h = tt
+    moved_so n f keep (c ∷ cs) h = (one_moved (c.number == n) f keep c h.0, moved_so n f keep cs h.1)
 
-  all_so : (f : Channel K → List Move)
-      → ((c : Channel K) → IsOpen k.signer c → IsOpen k.signer (moved k.signer f c))
-      → (cs : List (Channel K)) → Each (IsOpen k.signer) cs → Each (IsOpen k.signer) (all_moved k.signer f cs)
-  all_so f keep [] h = tt
-  all_so f keep (c ∷ cs) h = (keep c h.0, all_so f keep cs h.1)
+    pub all_so : (f : Channel K → List Move) → ((c : Channel K) → P c → P (moved k.signer f c))
+        → (cs : List (Channel K)) → Each P cs → Each P (all_moved k.signer f cs)
+    all_so f keep [] h = tt
+    all_so f keep (c ∷ cs) h = (keep c h.0, all_so f keep cs h.1)
 
-  joined_so : (cs : List (Channel K)) (c : Channel K) → Each (IsOpen k.signer) cs → IsOpen k.signer c
-      → Each (IsOpen k.signer) (cs ++ c ∷ [])
-  joined_so [] c h o = (o, tt)
-  joined_so (d ∷ cs) c h o = (h.0, joined_so cs c h.1 o)
+    pub joined_so : (cs : List (Channel K)) (c : Channel K) → Each P cs → P c → Each P (cs ++ c ∷ [])
+    joined_so [] c h o = (o, tt)
+    joined_so (d ∷ cs) c h o = (h.0, joined_so cs c h.1 o)
 
   pub keys_so : (o : Open K k) → BringsFit k (step.Open o) → AreKeys (k.signer o.keys.funder) (k.signer o.keys.fundee)
   keys_so o f = record {
@@ -223,37 +227,39 @@ module _ {K : Type 0} (k : Ghosts K) where
       let q = both_true (is_none (channel o.channel w.channels)) (may_bring o.satoshis o.push s t) p.1 in
       record {
         settings = h.settings;
-        channels = joined_so w.channels (opened_by k o s t) h.channels
-            (opened_so o s t keys (brings_so o.satoshis o.push s t q.1) (set_so o.funder w.settings h.settings)
+        channels = joined_so (IsOpen k.signer) w.channels (opened_by k o s t) h.channels
+            (opened_run o s t keys (brings_so o.satoshis o.push s t q.1) (set_so o.funder w.settings h.settings)
             (set_so o.fundee w.settings h.settings));
       }
 
   pub happened : (s : Step K k) (w : World K) → BringsFit k s → Keeps w → Keeps (happens k s w)
   happened (step.Fees n fees) w f h = record {
-    settings = with_so n (record (settings_of n w.settings) { fees = fees }) w.settings f h.settings;
+    settings = set_with HasFees n (record (settings_of n w.settings) { fees = fees }) w.settings f h.settings;
     channels = h.channels;
   }
   happened (step.Limits n limits) w f h = record {
-    settings = with_so n (record (settings_of n w.settings) { limits = limits }) w.settings
+    settings = set_with HasFees n (record (settings_of n w.settings) { limits = limits }) w.settings
         (set_so n w.settings h.settings) h.settings;
     channels = h.channels;
   }
   happened (step.Open o) w f h = opens_by (may_open o w) o w refl (keys_so o f) h
   happened (step.Do e a) w f h = record {
     settings = h.settings;
-    channels = moved_so e.channel (act_moves e.node a) (act_kept k.signer e.node a) w.channels h.channels;
+    channels = moved_so (IsOpen k.signer) e.channel (act_moves e.node a) (act_kept k.signer e.node a) w.channels
+        h.channels;
   }
   happened (step.Down e) w f h = record {
     settings = h.settings;
-    channels = moved_so e.channel (fall_moves e.node) (fall_kept k.signer e.node) w.channels h.channels;
+    channels = moved_so (IsOpen k.signer) e.channel (fall_moves e.node) (fall_kept k.signer e.node) w.channels
+        h.channels;
   }
   happened (step.Restart n) w f h = record {
     settings = h.settings;
-    channels = all_so (restart_moves n) (restart_kept k.signer n) w.channels h.channels;
+    channels = all_so (IsOpen k.signer) (restart_moves n) (restart_kept k.signer n) w.channels h.channels;
   }
   happened (step.Up n) w f h = record {
     settings = h.settings;
-    channels = moved_so n up_moves (up_kept k.signer) w.channels h.channels;
+    channels = moved_so (IsOpen k.signer) n up_moves (up_kept k.signer) w.channels h.channels;
   }
 
   ran : (ss : List (Step K k)) (w : World K) → BringFit k ss → Keeps w → Keeps (run k ss w)

@@ -6,13 +6,12 @@ use Rattle.std.proofs.Common.{eqb-true}
 use Rattle.ln_keys.specs.declared.keys.ChannelKeys.{Ghosts}
 use Rattle.ln_keys.specs.declared.role.Role.{Role}
 use Rattle.ln_keys.specs.declared.role.Role.TheVariants.{Funder, Fundee}
-use Rattle.ln_keys.specs.Signer.{Signer}
 use Rattle.ln_log.specs.declared.opening.Opening.{Opening}
 use Rattle.ln_log.specs.Machine as machine
 use Rattle.ln_log.specs.Events.{events}
 use Rattle.ln_link.specs.Outputs.{numbered}
 use Rattle.ln_pair.specs.Moves.{after_all}
-use Rattle.ln_pair.specs.Promises.{AreKeys, AddsBefore}
+use Rattle.ln_pair.specs.Promises.{AddsBefore}
 use Rattle.ln_pair.specs.Told.{as_told, events_in}
 use Rattle.ln_pair.proofs.Machines.{run_after}
 use Rattle.ln_world.specs.declared.step.Act.{Act}
@@ -20,7 +19,6 @@ use Rattle.ln_world.specs.declared.step.Node.{Node}
 use Rattle.ln_world.specs.declared.step.Open.{Open}
 use Rattle.ln_world.specs.declared.step.Step.{Step}
 use Rattle.ln_world.specs.declared.step.Step.TheVariants as step
-use Rattle.ln_world.specs.declared.settings.Settings.{Settings}
 use Rattle.ln_world.specs.Settings.{channel_id_of, opening_by, may_bring}
 use Rattle.ln_world.specs.Both.{Both, Move, By, Falls, Restarts, Meet}
 use Rattle.ln_world.specs.Channel.{Channel, is_node, by, side_of, moved, may_meet, opened_by, act_moves, fall_moves}
@@ -30,7 +28,7 @@ use Rattle.ln_world.specs.World.{empty, run}
 use Rattle.ln_world.specs.Promises.{BringsFit, BringFit}
 use Rattle.ln_world.specs.Course.{step_moves, in_channel, over}
 use Rattle.ln_world.specs.Sending.{sends, sent_in, NoneAddsLate}
-use Rattle.ln_world.specs.Machine.{machine_of, moves_of, moves_of_opening, moves_in, history, tells, told_in, all_told}
+use Rattle.ln_world.specs.Machine.{machine_of, moves_of, moves_in, history, tells, told_in, all_told}
 use Rattle.ln_world.proofs.Kept.{Tale, untold, then, then-untold, then_assoc, IsTold, tale_along, ArePossible}
 use Rattle.ln_world.proofs.Kept as channels
 use Rattle.ln_world.proofs.Promised.{both_true, brings_so, set_so, Keeps, IsToldOf, opening_tale, opened_told, keys_so}
@@ -100,7 +98,7 @@ module _ {K : Type 0} (k : Ghosts K) where
     told_y = in_channel k (λ id. tells k.signer Fundee) s o;
   }
 
-  abbrev MayMake : (Channel K → List Move) → Type 0
+  abbrev pub MayMake : (Channel K → List Move) → Type 0
   MayMake f = (c : Channel K) → ArePossible k.signer (channel_id_of c.number) (f c) c.both
 
   by_possible : (id : List ℕ) (p : Both K) (o : Option Role) (f : Role → Move)
@@ -108,14 +106,14 @@ module _ {K : Type 0} (k : Ghosts K) where
   by_possible id p None f h = tt
   by_possible id p (Some side) f h = h side
 
-  acts_possible : (n : Node) (a : Act) → MayMake (act_moves n a)
+  pub acts_possible : (n : Node) (a : Act) → MayMake (act_moves n a)
   acts_possible n a c =
       by_possible (channel_id_of c.number) c.both (side_of n c) (λ side. By side a) (λ side. (refl, tt))
 
-  falls_possible : (n : Node) → MayMake (fall_moves n)
+  pub falls_possible : (n : Node) → MayMake (fall_moves n)
   falls_possible n c = by_possible (channel_id_of c.number) c.both (side_of n c) Falls (λ side. (refl, tt))
 
-  restarts_possible : (n : Node) → MayMake (restart_moves n)
+  pub restarts_possible : (n : Node) → MayMake (restart_moves n)
   restarts_possible n c = by_possible (channel_id_of c.number) c.both (side_of n c) Restarts (λ side. (refl, tt))
 
   up_by : (id : List ℕ) (p : Both K) (b : Bool) → may_meet p ≡ b
@@ -123,7 +121,7 @@ module _ {K : Type 0} (k : Ghosts K) where
   up_by id p true e = (e, tt)
   up_by id p false e = tt
 
-  ups_possible : MayMake up_moves
+  pub ups_possible : MayMake up_moves
   ups_possible c = up_by (channel_id_of c.number) c.both (may_meet c.both) refl
 
   one_told : (b : Bool) (f : Channel K → List Move) (c : Channel K) (t : Tale) → MayMake f → IsToldOf k c t

@@ -7,7 +7,7 @@ use Rattle.ln_world.specs.declared.step.Step.TheVariants as step
 use Rattle.ln_world.specs.Settings.{channel_id_of}
 use Rattle.ln_world.specs.Both.{Both, Move, moves}
 use Rattle.ln_world.specs.Channel.{Channel, act_moves, fall_moves, restart_moves, up_moves}
-use Rattle.ln_world.specs.World.{World, channel, happens}
+use Rattle.ln_world.specs.World.{World, happens}
 
 -- those of a channel that is there
 abbrev pub step_moves : {K : Type 0} → (k : Ghosts K) → Step K k → Channel K → List Move

@@ -5,6 +5,7 @@ pub mod Channel
 pub mod World
 pub mod Failing
 pub mod Promises
+pub mod Records
 pub mod Course
 pub mod Sending
 pub mod Machine

@@ -5,10 +5,13 @@
 //! as is so of every step in code.
 
 ghost use Rattle.std.specs.Prelude.{ℕ, List};
+ghost use Rattle.ln_msgs.specs.declared.refusals.refusal.Refusal.TheVariants as refusal;
 ghost use Rattle.ln_world.specs.declared.step.Step.{Step};
 ghost use Rattle.ln_world.specs.World.{empty, run};
+ghost use Rattle.ln_world.specs.Failing.{SomeMayFail};
 ghost use Rattle.ln_world.specs.Promises.{BringFit, OfEach, Headline, NoneRefused, AllTaken, OneFee, Agrees};
 ghost use Rattle.ln_world.specs.Promises.{AnswersShutdown};
+ghost use Rattle.ln_world.specs.Records.{AreSteps, HaveRecords};
 ghost use Rattle.ln_world.specs.Sending.{NoneAddsLate};
 
 use ln_keys::ChannelKeys;
@@ -60,4 +63,14 @@ pub fn agreement<K: ChannelKeys + Copy>()
 pub fn no_add_follows_a_shutdown<K: ChannelKeys + Copy>()
     ensures { (steps : List (Step K K.ChannelKeys)) (number : ℕ) → BringFit K.ChannelKeys steps
         → NoneAddsLate K.ChannelKeys number steps empty }
+{}
+
+/// A law: each end of a channel has a record, so that a node's restart never fails by 70 (BOLT 2, "Message
+/// Retransmission"). What the steps bring is as wide as it is in code: limits, and what commands bring, are numbers of
+/// 16, 32 and 64 bits, hashes and preimages of 32 bytes and onions of 1,366; secrets have 32 bytes.
+pub fn every_end_has_a_record<K: ChannelKeys + Copy>()
+    ensures records { (steps : List (Step K K.ChannelKeys)) → BringFit K.ChannelKeys steps
+        → AreSteps K.ChannelKeys steps → OfEach HaveRecords (run K.ChannelKeys steps empty) }
+    ensures never_damaged { (steps : List (Step K K.ChannelKeys)) → BringFit K.ChannelKeys steps
+        → AreSteps K.ChannelKeys steps → SomeMayFail K.ChannelKeys steps refusal.Damaged empty → ⊥ }
 {}

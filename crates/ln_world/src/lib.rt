@@ -17,8 +17,8 @@ mod world;
 pub use both::Place;
 pub use channel::{Channel, open_channel};
 pub use laws::{
-    a_shutdown_is_answered, agreement, closed_at_one_fee, headline, never_refused,
-    never_refused_where_fees_overlap, no_add_follows_a_shutdown,
+    a_shutdown_is_answered, agreement, closed_at_one_fee, every_end_has_a_record, headline,
+    never_refused, never_refused_where_fees_overlap, no_add_follows_a_shutdown,
 };
 pub use line::{EndLine, Ending, Line, Word};
 pub use machine::{each_move_may_be_made, events_are_told, moves_are_the_machines};
