@@ -3,6 +3,8 @@ pub mod Partners
 pub mod Onions
 pub mod Script
 pub mod FirstBad
+pub mod Walk
 pub mod Fits
+pub mod Widths
 pub mod Reports
 pub mod Shown

@@ -57,11 +57,6 @@ told_by (Err line) = Err line
 abbrev pub simulated : List ℕ → Result (List ℕ) ℕ
 simulated text = told_by (script_at text)
 
--- one of its steps restarts a node that has an end without a record
-abbrev pub ScriptLacksRecord : Result (List ToyStep) ℕ → Type 0
-ScriptLacksRecord (Ok steps) = SomeMayFail toy steps refusal.Damaged empty
-ScriptLacksRecord (Err line) = ⊥
-
 -- ---- the world that a script leaves
 
 -- it holds of the world that the steps of each script that is read make of the empty one

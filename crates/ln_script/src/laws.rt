@@ -4,6 +4,7 @@ ghost use Rattle.std.specs.Prelude.{◌≡◌, ℕ, List, Ok, Err};
 ghost use Rattle.ln_keys.specs.Toy.{toy_signer};
 ghost use Rattle.ln_world.specs.Promises.{BringFit, OfEach, Headline, NoneRefused, AllTaken, OneFee, Agrees};
 ghost use Rattle.ln_world.specs.Promises.{AnswersShutdown};
+ghost use Rattle.ln_world.specs.Records.{AreSteps, HaveRecords};
 ghost use Rattle.ln_world.specs.Sending.{NoneAddsLate};
 ghost use Rattle.ln_world.specs.World.{empty};
 ghost use Rattle.ln_script.specs.Keys.{toy};
@@ -13,8 +14,8 @@ ghost use Rattle.ln_script.specs.Report.{AfterEachScript};
 
 use ln_keys::ToyKeys;
 use ln_world::{
-    a_shutdown_is_answered, agreement, closed_at_one_fee, headline, never_refused,
-    never_refused_where_fees_overlap, no_add_follows_a_shutdown,
+    a_shutdown_is_answered, agreement, closed_at_one_fee, every_end_has_a_record, headline,
+    never_refused, never_refused_where_fees_overlap, no_add_follows_a_shutdown,
 };
 
 /// A script is refused by the number of its first bad line, and only where there is one.
@@ -24,8 +25,11 @@ pub fn first_bad_line()
 {}
 
 /// What a script's steps bring is what the laws of a world ask for: closing fees below 2^64, and points of 33 bytes.
+/// It is also as wide as it is in code: numbers of 16, 32 and 64 bits, secrets, hashes and preimages of 32 bytes,
+/// onions of 1,366.
 pub fn steps_bring_what_fits()
-    ensures { (text : List ℕ) (steps : List ToyStep) → script_at text ≡ Ok steps → BringFit toy steps }
+    ensures fits { (text : List ℕ) (steps : List ToyStep) → script_at text ≡ Ok steps → BringFit toy steps }
+    ensures widths { (text : List ℕ) (steps : List ToyStep) → script_at text ≡ Ok steps → AreSteps toy steps }
 {}
 
 /// The laws of a world hold after each script that is read, with nothing else asked for: in each channel, what either
@@ -33,8 +37,9 @@ pub fn steps_bring_what_fits()
 /// end is taken, or refused for its closing fee, and no link has failed (`ln_world::never_refused`); where both ends
 /// take fees that overlap it is taken (`ln_world::never_refused_where_fees_overlap`); both close at one fee
 /// (`ln_world::closed_at_one_fee`); a shutdown is answered (`ln_world::a_shutdown_is_answered`); at rest both ends hold
-/// every update and their commitments are worth the same (`ln_world::agreement`); and of all that an end sends no
-/// `update_add_htlc` stands behind its shutdown (`ln_world::no_add_follows_a_shutdown`).
+/// every update and their commitments are worth the same (`ln_world::agreement`); of all that an end sends no
+/// `update_add_htlc` stands behind its shutdown (`ln_world::no_add_follows_a_shutdown`); and each end has a record,
+/// from which it comes back where its node restarts (`ln_world::every_end_has_a_record`).
 pub fn scripts_keep_the_promises()
     ensures headline { AfterEachScript (OfEach Headline) }
     ensures never_refused { AfterEachScript (OfEach (NoneRefused toy_signer)) }
@@ -44,6 +49,7 @@ pub fn scripts_keep_the_promises()
     ensures agreement { AfterEachScript (OfEach Agrees) }
     ensures no_add_follows_a_shutdown { (text : List ℕ) (steps : List ToyStep) (number : ℕ) → script_at text ≡ Ok steps
         → NoneAddsLate toy number steps empty }
+    ensures every_end_has_a_record { AfterEachScript (OfEach HaveRecords) }
 {
     headline::<ToyKeys>();
     never_refused::<ToyKeys>();
@@ -52,4 +58,5 @@ pub fn scripts_keep_the_promises()
     a_shutdown_is_answered::<ToyKeys>();
     agreement::<ToyKeys>();
     no_add_follows_a_shutdown::<ToyKeys>();
+    every_end_has_a_record::<ToyKeys>();
 }

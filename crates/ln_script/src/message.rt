@@ -98,12 +98,12 @@ fn put_records(alloc: Global, out: &mut String, records: &[Record]) -> Result<()
     Ok(())
 }
 
-fn put_record(alloc: Global, out: &mut String, record: &Record) -> Result<(), AllocError>
-    ensures { OnOk result (string_bytes out.new ≡ string_bytes out.old ++ record_text record.now) }
+fn put_record(alloc: Global, out: &mut String, tlv: &Record) -> Result<(), AllocError>
+    ensures { OnOk result (string_bytes out.new ≡ string_bytes out.old ++ record_text tlv.now) }
 {
-    let typ = record.typ;
+    let typ = tlv.typ;
     let name = format!(in alloc; "tlv {typ}")?;
-    put_bytes(alloc, out, name.as_str(), record.value.as_slice())
+    put_bytes(alloc, out, name.as_str(), tlv.value.as_slice())
 }
 
 fn put_number(out: &mut String, name: &str, number: u64) -> Result<(), AllocError>

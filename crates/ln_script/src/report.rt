@@ -1,13 +1,15 @@
 //! The report of steps, to a writer.
 
-ghost use Rattle.std.specs.Prelude.{◌≡◌, ◌++◌, ◌⊎◌, ◌≤◌, OnOk, IfOk, IfErr, string_bytes};
+ghost use Rattle.std.specs.Prelude.{◌≡◌, ◌≢◌, ◌++◌, ◌⊎◌, ◌≤◌, OnOk, IfOk, IfErr, string_bytes};
 ghost use Rattle.std.specs.List.{flat_map};
 ghost use Rattle.std.specs.Io.KnownBytes.{Appends};
-ghost use Rattle.ln_msgs.specs.declared.refusals.refusal.Refusal.TheVariants.{Memory, Io};
+ghost use Rattle.ln_msgs.specs.declared.refusals.refusal.Refusal.TheVariants.{Memory, Damaged, Io};
 ghost use Rattle.ln_msgs.specs.Pings.Counted.{HasRisen};
 ghost use Rattle.ln_msgs.specs.Pings.CountedView.{inner_of, failures_of};
 ghost use Rattle.ln_msgs.specs.Pings.Written.{IsPartlyWritten};
 ghost use Rattle.ln_world.specs.World.{empty, happens, run, step_lines};
+ghost use Rattle.ln_world.specs.Promises.{BringFit};
+ghost use Rattle.ln_world.specs.Records.{AreSteps};
 ghost use Rattle.ln_script.specs.Keys.{toy};
 ghost use Rattle.ln_script.specs.Report.{shown_line, shown_end, step_text, steps_text, ends_text, report_text};
 ghost use Rattle.ln_script.specs.Report.{StepFails, StepsFail};
@@ -16,7 +18,7 @@ use crate::line::{put_end_line, put_line};
 use crate::print::print_all;
 use ln_keys::ToyKeys;
 use ln_msgs::{Counted, Refusal, write_out};
-use ln_world::{EndLine, Line, Step, World};
+use ln_world::{EndLine, Line, Step, World, every_end_has_a_record};
 use std::alloc::{AllocError, Global};
 use std::io::Write;
 
@@ -169,8 +171,9 @@ fn print_ends<W: Write>(
 /// before the next is taken, and at last how the ends of each channel stand. Takes memory for the world and for the
 /// text of one step.
 ///
-/// Errors: 60 where there is no memory; 70 where a node restarts and an end of it has no record; 63 where a call of the
-/// writer fails. What was written by then is a beginning of the report.
+/// Errors: 60 where there is no memory; 63 where a call of the writer fails; 70 where a node restarts and an end of it
+/// has no record, which is never so of steps that a script brings (`ln_world::every_end_has_a_record`). What was
+/// written by then is a beginning of the report.
 pub fn print_report<W: Write>(
     alloc: Global,
     steps: Vec<Step<ToyKeys>>,
@@ -182,7 +185,9 @@ pub fn print_report<W: Write>(
         (report_text steps.items) }
     ensures cause { IfErr result (λ e. StepsFail steps.items e empty
         ⊎ ((e ≡ Io) × HasRisen (failures_of writer.old) (failures_of writer.new))) }
+    ensures finds_each_record { BringFit toy steps.items → AreSteps toy steps.items → IfErr result (λ e. e ≢ Damaged) }
 {
+    every_end_has_a_record::<ToyKeys>();
     let mut world = World::new(alloc);
     print_steps(alloc, &mut world, steps, writer)?;
     print_ends(alloc, &world, writer)

@@ -4,12 +4,11 @@ use Rattle.std.specs.Prelude.{if◌then◌else◌}
 use Rattle.std.specs.Str.{is_utf8}
 use Rattle.ln_bytes.specs.declared.fault.Fault.{Fault}
 use Rattle.ln_bytes.specs.declared.fault.Fault.TheVariants as fault
-use Rattle.ln_msgs.specs.declared.refusals.refusal.Refusal.TheVariants.{Memory, Damaged, Io, BadScript}
+use Rattle.ln_msgs.specs.declared.refusals.refusal.Refusal.TheVariants.{Memory, Io, BadScript}
 use Rattle.ln_msgs.specs.Refusals.Refusal.{refusal_of}
 use Rattle.ln_msgs.specs.Pings.Counted.{HasRisen}
 use Rattle.ln_msgs.specs.Pings.Answered.{AnswersAll, AnswersUpTo, AnswersSome}
-use Rattle.ln_script.specs.Script.{script_at}
-use Rattle.ln_script.specs.Report.{simulated, ScriptLacksRecord}
+use Rattle.ln_script.specs.Report.{simulated}
 use Rattle.lnlink.specs.declared.choice.Choice.{Choice}
 use Rattle.lnlink.specs.declared.choice.Choice.TheVariants as choice
 use Rattle.lnlink.specs.declared.failure.Failure.{Failure}
@@ -35,7 +34,7 @@ module _ (input input_after output output_after : Option (List ℕ)) where
   DoesPartly choice.Simulate = IfSome input (λ bytes. PrintsPartly output output_after (simulated_bytes bytes))
 
   -- why it stops there: what was read is at fault, or there was no memory, or a call of the reader or the writer
-  -- failed, or a step of the script restarts a node that has an end without a record
+  -- failed
   abbrev pub StopsBy : (failed : Type 0) → Choice → Failure → Type 0
   StopsBy failed choice.Answer f = (e : Fault) × (f ≡ Refused (refusal_of e)) × (e ≡ fault.Io → failed)
       × (e ≢ fault.Memory → e ≢ fault.Io → AnswersUpTo input input_after output output_after e)
@@ -43,7 +42,6 @@ module _ (input input_after output output_after : Option (List ℕ)) where
       (f ≡ Refused Memory) ⊎ ((f ≡ Refused Io) × failed) ⊎ (decoded (string_bytes text) ≡ Err f)
   StopsBy failed choice.Simulate f = (f ≡ Refused Memory) ⊎ ((f ≡ Refused Io) × failed)
       ⊎ ((line : ℕ) × (f ≡ Refused (BadScript line)) × IfSome input (λ bytes. simulated_bytes bytes ≡ Err line))
-      ⊎ ((f ≡ Refused Damaged) × IfSome input (λ bytes. ScriptLacksRecord (script_at bytes)))
 
 -- a call of one of them failed, or they were called 2^64 - 1 times
 abbrev pub HasFailed : (reads reads_after writes writes_after calls : ℕ) → Type 0

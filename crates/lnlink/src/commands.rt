@@ -1,11 +1,9 @@
 //! What each command does, over any reader and writer.
 
 ghost use Rattle.std.specs.Prelude.{◌≡◌, ◌⊎◌, ◌+◌, ℕ, Err, OnOk, OnErr, IfOk, IfErr, IfSome};
-ghost use Rattle.ln_msgs.specs.declared.refusals.refusal.Refusal.TheVariants.{Memory, Damaged, Io, BadScript};
+ghost use Rattle.ln_msgs.specs.declared.refusals.refusal.Refusal.TheVariants.{Memory, Io, BadScript};
 ghost use Rattle.ln_msgs.specs.Pings.Counted.{HasRisen};
 ghost use Rattle.ln_msgs.specs.Pings.CountedView.{inner_of, failures_of, calls_of};
-ghost use Rattle.ln_script.specs.Script.{script_at};
-ghost use Rattle.ln_script.specs.Report.{ScriptLacksRecord};
 ghost use Rattle.lnlink.specs.Printed.{Prints, PrintsPartly};
 ghost use Rattle.lnlink.specs.Text.{decoded};
 ghost use Rattle.lnlink.specs.Done.{simulated_bytes, Does, DoesPartly, StopsBy, HasFailed};
@@ -70,8 +68,7 @@ fn simulate_bytes<W: Write>(
         (simulated_bytes bytes.now) }
     ensures cause { IfErr result (λ f. (f ≡ Failure.Refused Memory)
         ⊎ ((f ≡ Failure.Refused Io) × HasRisen (failures_of writer.old) (failures_of writer.new))
-        ⊎ ((line : ℕ) × (f ≡ Failure.Refused (BadScript line)) × (simulated_bytes bytes.now ≡ Err line))
-        ⊎ ((f ≡ Failure.Refused Damaged) × ScriptLacksRecord (script_at bytes.now))) }
+        ⊎ ((line : ℕ) × (f ≡ Failure.Refused (BadScript line)) × (simulated_bytes bytes.now ≡ Err line))) }
 {
     match script_text(bytes) {
         Ok(text) => simulate(alloc, text, writer),
@@ -93,9 +90,7 @@ fn simulate_input<R: Read, W: Write>(
         ⊎ ((f ≡ Failure.Refused Io) × (HasRisen (failures_of reader.old) (failures_of reader.new)
         ⊎ HasRisen (failures_of writer.old) (failures_of writer.new)))
         ⊎ ((line : ℕ) × (f ≡ Failure.Refused (BadScript line))
-        × IfSome (R.remaining (inner_of reader.old)) (λ bytes. simulated_bytes bytes ≡ Err line))
-        ⊎ ((f ≡ Failure.Refused Damaged)
-        × IfSome (R.remaining (inner_of reader.old)) (λ bytes. ScriptLacksRecord (script_at bytes)))) }
+        × IfSome (R.remaining (inner_of reader.old)) (λ bytes. simulated_bytes bytes ≡ Err line))) }
 {
     let bytes = read_all(alloc, reader)?;
     simulate_bytes(alloc, bytes.as_slice(), writer)

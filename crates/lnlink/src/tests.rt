@@ -122,3 +122,26 @@ fn command_lines(rt: HostRuntime) -> Result<(), Fail> {
     }
     Ok(())
 }
+
+// One of each command, for want of memory at any place.
+
+#[test]
+fn small_answer(rt: HostRuntime) -> Result<(), Failure> {
+    let got = answered(rt.alloc(), "answer", b"\0\x06\0\x12\0\x02\0\0")?;
+    assert_eq!(rt; got.as_str(), "\0\x06\0\x13\0\x02\0\0");
+    Ok(())
+}
+
+#[test]
+fn small_decode(rt: HostRuntime) -> Result<(), Failure> {
+    let got = answered(rt.alloc(), "decode 0015", b"")?;
+    assert_eq!(rt; got.as_str(), "type 21 ignored\n");
+    Ok(())
+}
+
+#[test]
+fn small_sim(rt: HostRuntime) -> Result<(), Failure> {
+    let got = answered(rt.alloc(), "sim", b"sign A0\n")?;
+    assert_eq!(rt; got.as_str(), "idle\n");
+    Ok(())
+}

@@ -1,7 +1,9 @@
 use Rattle.ln_keys.specs.Toy.{toy_signer}
 use Rattle.ln_world.specs.Promises.{OfEach, Headline, NoneRefused, AllTaken, OneFee, Agrees}
 use Rattle.ln_world.specs.Promises.{AnswersShutdown}
+use Rattle.ln_world.specs.Records.{HaveRecords}
 use Rattle.ln_script.proofs.Fits.{after_each, steps_fit}
+use Rattle.ln_script.proofs.Widths.{after_each_wide}
 use Rattle.ln_script.proofs.laws.scripts_keep_the_promises.Goals as goal
 
 pub returns-clause-headline : goal.returns-clause-headline
@@ -26,3 +28,7 @@ returns-clause-no_add_follows_a_shutdown c text steps number read =
 
 pub returns-clause-agreement : goal.returns-clause-agreement
 returns-clause-agreement c = after_each (OfEach Agrees) c.agreement.ensures
+
+pub returns-clause-every_end_has_a_record : goal.returns-clause-every_end_has_a_record
+returns-clause-every_end_has_a_record c =
+    after_each_wide (OfEach HaveRecords) c.every_end_has_a_record.ensures.records
