@@ -1,5 +1,5 @@
 -- Each turn but the last reads some bytes, and what is read and what is left are the input.
-use Rattle.std.proofs.Common.{◌≡◌, ◌≤◌, ◌-◌, ◌^◌, length}
+use Rattle.std.proofs.Common.{◌≤◌, ◌-◌, ◌^◌, length}
 use Rattle.std.specs.Io.KnownBytes.{Keeps, prepend_known}
 use Rattle.ln_msgs.specs.Pings.CountedView.{inner_of, failures_of}
 use Rattle.lnlink.proofs.input.read_all.Given as goal
