@@ -55,8 +55,11 @@ fn answered(alloc: Global, line: &str, input: &[u8]) -> Result<String, Failure> 
         words.push(String::from_str(alloc, word)?)?;
     }
     let choice = choose(alloc, words.as_slice())?;
+    // no write takes memory, as a writer's want of it is no answer of the program's
+    let mut output = Vec::new(alloc);
+    output.reserve(4096)?;
     let mut reader = Counted::new(input);
-    let mut writer = Counted::new(Vec::new(alloc));
+    let mut writer = Counted::new(output);
     perform(alloc, choice, &mut reader, &mut writer)?;
     match str::from_utf8(writer.get_ref().as_slice()) {
         Ok(text) => Ok(String::from_str(alloc, text)?),
