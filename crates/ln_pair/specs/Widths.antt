@@ -1,5 +1,5 @@
 -- What commands bring and updates have, as wide as their types: numbers of 16, 32 and 64 bits, hashes and preimages of
--- 32 bytes, onions of 1,366 (BOLT 2).
+-- 32 bytes, onions of 1,366 (BOLT 2). A failure's reason has fewer than 65,536 bytes, which no type says.
 use Rattle.std.specs.Prelude.{◌≡◌, ◌<◌, ◌^◌, ℕ, List, length, Option, Some, None}
 use Rattle.ln_log.specs.declared.update.Add.{Add}
 use Rattle.ln_log.specs.declared.update.Fulfil.{Fulfil}
