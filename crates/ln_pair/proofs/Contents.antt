@@ -1,6 +1,6 @@
 -- What of an end goes into its record beside numbers and counts, and what messages bring to it.
-use Rattle.std.proofs.Common.{◌≡◌, ℕ, zero, suc, ◌≤◌, List, [], ◌∷◌, ◌++◌, map, length, take, drop}
-use Rattle.std.proofs.Common.{arith, Bool, true, false, cond}
+use Rattle.std.proofs.Common.{◌≡◌, ℕ, zero, suc, ◌≤◌, List, [], ◌∷◌, map, length, take}
+use Rattle.std.proofs.Common.{arith}
 use Rattle.std.proofs.Common.{Option}
 use Rattle.ln_msgs.specs.declared.messages.message.Message.{Message}
 use Rattle.ln_msgs.specs.declared.messages.message.Message.TheVariants as message
@@ -18,33 +18,10 @@ use Rattle.ln_link.specs.declared.output.Output.TheVariants as output
 use Rattle.ln_link.specs.End.{End}
 use Rattle.ln_pair.specs.Widths.{IsAdd, IsFulfil, IsFail, IsMalformed, IsUpdate}
 use Rattle.ln_pair.specs.Ends.{messages_in}
-use Rattle.ln_pair.proofs.Lasting.{All, Where, IsWide}
-
--- ---- of every one of a list
-
-pub all-append : {A : Type 0} (P : A → Type 0) (xs ys : List A) → All P xs → All P ys → All P (xs ++ ys)
-all-append P [] ys h k = k
-all-append P (x ∷ xs) ys h k = (h.0, all-append P xs ys h.1 k)
-
-pub all-take : {A : Type 0} (P : A → Type 0) (n : ℕ) (xs : List A) → All P xs → All P (take n xs)
-all-take P zero xs h = tt
-all-take P (suc n) [] h = tt
-all-take P (suc n) (x ∷ xs) h = (h.0, all-take P n xs h.1)
-
-pub all-drop : {A : Type 0} (P : A → Type 0) (n : ℕ) (xs : List A) → All P xs → All P (drop n xs)
-all-drop P zero xs h = h
-all-drop P (suc n) [] h = tt
-all-drop P (suc n) (x ∷ xs) h = all-drop P n xs h.1
-
-pub all-when : {A : Type 0} (P : A → Type 0) (b : Bool) (xs ys : List A) → All P xs → All P ys → All P (cond b xs ys)
-all-when P true xs ys h k = h
-all-when P false xs ys h k = k
+use Rattle.ln_pair.proofs.All.{All, all-take}
+use Rattle.ln_pair.proofs.Lasting.{Where, longest_script, IsWide}
 
 -- ---- what a message carries
-
--- the most bytes that a script has in a shutdown
-abbrev pub longest_script : ℕ
-longest_script = 65499
 
 abbrev pub CarriesWide : Message → Type 0
 CarriesWide (message.UpdateAddHtlc m) = IsAdd (add_of m)

@@ -1,6 +1,6 @@
 -- What of an end goes into its record: how its numbers, its counts and its events fit together, and how wide its
 -- updates are.
-use Rattle.std.specs.Prelude.{◌≡◌, ◌+◌, ◌<◌, ◌≤◌, ◌^◌, ℕ, List, [], ◌∷◌, length, take, Option, Some, None}
+use Rattle.std.specs.Prelude.{◌≡◌, ◌+◌, ◌<◌, ◌≤◌, ◌^◌, ℕ, length, take, Option, Some, None}
 use Rattle.ln_log.specs.declared.log.TheConstants.{MOST_UPDATES}
 use Rattle.ln_log.specs.Log.{IsWithin}
 use Rattle.ln_dance.specs.Dance.{AreInStep}
@@ -9,10 +9,7 @@ use Rattle.ln_link.specs.declared.ledger.EventRef.TheVariants as ref
 use Rattle.ln_link.specs.declared.opening.Opened.{Opened}
 use Rattle.ln_link.specs.End.{End}
 use Rattle.ln_pair.specs.Widths.{IsUpdate}
-
-abbrev pub All : {A : Type 0} → (A → Type 0) → List A → Type 0
-All P [] = Unit {0}
-All P (x ∷ xs) = P x × All P xs
+use Rattle.ln_pair.proofs.All.{All}
 
 abbrev pub Where : {A : Type 0} → (A → Type 0) → Option A → Type 0
 Where P None = Unit {0}
@@ -40,14 +37,18 @@ pub record IsCounted (e : End) : Type 0 where
   pub peer_fee : Where (λ n. n < 2 ^ 64) e.closing.peer_fee
   pub closed : Where (λ n. n < 2 ^ 64) e.closing.closed
 
+-- the most bytes that a script has in a shutdown
+abbrev pub longest_script : ℕ
+longest_script = 65499
+
 -- updates and scripts
 pub record IsWide (e : End) : Type 0 where
   pub own : All IsUpdate e.dance.log.own
   pub received : All IsUpdate (take e.dance.log.current.peer e.dance.log.received)
   pub own_room : length e.dance.log.own ≤ MOST_UPDATES
   pub received_room : length (take e.dance.log.current.peer e.dance.log.received) ≤ MOST_UPDATES
-  pub script : length e.terms.script ≤ 65499
-  pub peer_script : Where (λ s. length s ≤ 65499) e.terms.peer_script
+  pub script : length e.terms.script ≤ longest_script
+  pub peer_script : Where (λ s. length s ≤ longest_script) e.terms.peer_script
 
 -- what an end keeps of how it was opened
 pub record IsOf (o : Opened) (e : End) : Type 0 where

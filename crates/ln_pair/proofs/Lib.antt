@@ -1,3 +1,4 @@
+pub mod All
 pub mod Sides
 pub mod Walk
 pub mod Marks

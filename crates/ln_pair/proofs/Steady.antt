@@ -20,13 +20,14 @@ use Rattle.ln_hooks.specs.declared.event.ChannelEvent.{ChannelEvent}
 use Rattle.ln_hooks.specs.Event.{event_of}
 use Rattle.ln_link.specs.declared.ledger.EventRef.{EventRef}
 use Rattle.ln_link.specs.declared.ledger.EventRef.TheVariants as ref
-use Rattle.ln_link.specs.Ledger.{Ledger, ref_of, refs_of}
+use Rattle.ln_link.specs.Ledger.{Ledger, ref_of, refs_of, entered}
 use Rattle.ln_link.specs.End.{End, is_closed, has_begun, owes_shutdown, answers_shutdown, settled}
 use Rattle.ln_link.specs.Taking.{answering, answered_end, range_in, shuts_by_peer}
 use Rattle.ln_pair.proofs.Sides.{Notice, Update, Sign, Revoke, Ready, Shutdown, Close, Again}
 use Rattle.ln_pair.proofs.Turns.{turn_of, is_close}
 use Rattle.ln_pair.proofs.Moving.{still_open}
-use Rattle.ln_pair.proofs.Lasting.{All, Where, IsHeld}
+use Rattle.ln_pair.proofs.All.{All, all-append}
+use Rattle.ln_pair.proofs.Lasting.{Where, IsHeld}
 
 -- ---- what every step keeps of an end
 
@@ -58,16 +59,11 @@ Steady e = IsSteady e.dance.log.first e.dance.log.current.own e.dance.log.acknow
 -- ---- what the ledger names
 
 -- where more is held
-raised : (o p q r : ℕ) (rs : List EventRef) → o ≤ q → p ≤ r → All (IsHeld o p) rs → All (IsHeld q r) rs
+pub raised : (o p q r : ℕ) (rs : List EventRef) → o ≤ q → p ≤ r → All (IsHeld o p) rs → All (IsHeld q r) rs
 raised o p q r [] lo lp h = tt
 raised o p q r (ref.Own n ∷ rs) lo lp h = (let b = h.0 in omega (arith, lo, b), raised o p q r rs lo lp h.1)
 raised o p q r (ref.Peer n ∷ rs) lo lp h = (let b = h.0 in omega (arith, lp, b), raised o p q r rs lo lp h.1)
 raised o p q r (ref.Close ∷ rs) lo lp h = (tt, raised o p q r rs lo lp h.1)
-
-all-append : (o p : ℕ) (rs ss : List EventRef) → All (IsHeld o p) rs → All (IsHeld o p) ss
-    → All (IsHeld o p) (rs ++ ss)
-all-append o p [] ss h k = k
-all-append o p (r ∷ rs) ss h k = (h.0, all-append o p rs ss h.1 k)
 
 one_named : (o p : ℕ) (e : Option ChannelEvent) (r : EventRef) (rs : List EventRef) → IsHeld o p r
     → All (IsHeld o p) rs → All (IsHeld o p) (cons_option (option_map (λ x. r) e) rs)
@@ -139,7 +135,7 @@ module _ (k : Signer) (x : End) (w : log.IsWithin x.dance.log) (s : Steady x) wh
         first_own = s.first_own;
         first_peer = s.first_peer;
         decided = s.decided;
-        undecided = all-append d p x.ledger.undecided rs
+        undecided = all-append (IsHeld d p) x.ledger.undecided rs
             (raised c p d p x.ledger.undecided grow (omega arith) s.undecided)
             (own_named c d p us (omega (arith, grow, many)));
         events = omega (arith, grow, many, new, all, before);
@@ -166,7 +162,7 @@ module _ (k : Signer) (x : End) (w : log.IsWithin x.dance.log) (s : Steady x) wh
         first_own = s.first_own;
         first_peer = s.first_peer;
         decided = s.decided;
-        undecided = all-append o d x.ledger.undecided rs
+        undecided = all-append (IsHeld o d) x.ledger.undecided rs
             (raised o c o d x.ledger.undecided (omega arith) grow s.undecided)
             (peer_named c o d us (omega (arith, grow, many)));
         events = omega (arith, grow, many, new, all, before);
@@ -216,6 +212,22 @@ module _ (k : Signer) (x : End) (w : log.IsWithin x.dance.log) (s : Steady x) wh
       let before = s.events in
       omega (arith, all, one, no, before)
 
+  closes_steady : (heard fee : ℕ) → x.closing.closed ≡ None → IsFee heard
+      → IsSteady x.dance.log.first x.dance.log.current.own x.dance.log.acknowledged.peer
+      (entered (ref.Close ∷ []) x.ledger) x.dance.numbers.revoked x.dance.peer x.marks.ready_received (Some heard)
+      (Some fee)
+  closes_steady heard fee unclosed below = record {
+    first_own = s.first_own;
+    first_peer = s.first_peer;
+    decided = s.decided;
+    undecided = all-append (IsHeld x.dance.log.current.own x.dance.log.acknowledged.peer) x.ledger.undecided
+        (ref.Close ∷ []) s.undecided (tt, tt);
+    events = closed_events (ref.Close ∷ []) refl unclosed;
+    secret = s.secret;
+    next_point = s.next_point;
+    heard = below;
+  }
+
   pub fee_steady : (m : ClosingSigned) (ans : Answer) → answer_to x.closing m.fee_satoshis (range_in m) ≡ Ok ans
       → IsFee m.fee_satoshis → Steady (answering k ans (answered_end m ans x)).end
   fee_steady m answer.Nothing e below = s
@@ -229,27 +241,9 @@ module _ (k : Signer) (x : End) (w : log.IsWithin x.dance.log) (s : Steady x) wh
     next_point = s.next_point;
     heard = below;
   }
-  fee_steady m (answer.Close fee) e below = record {
-    first_own = s.first_own;
-    first_peer = s.first_peer;
-    decided = s.decided;
-    undecided = all-append x.dance.log.current.own x.dance.log.acknowledged.peer x.ledger.undecided (ref.Close ∷ [])
-        s.undecided (tt, tt);
-    events = closed_events (ref.Close ∷ []) refl
-        (still_open x.closing.closed m.fee_satoshis _ (answer.Close fee) (λ q. absurd (cc)) e);
-    secret = s.secret;
-    next_point = s.next_point;
-    heard = below;
-  }
-  fee_steady m (answer.EchoAndClose fee) e below = record {
-    first_own = s.first_own;
-    first_peer = s.first_peer;
-    decided = s.decided;
-    undecided = all-append x.dance.log.current.own x.dance.log.acknowledged.peer x.ledger.undecided (ref.Close ∷ [])
-        s.undecided (tt, tt);
-    events = closed_events (ref.Close ∷ []) refl
-        (still_open x.closing.closed m.fee_satoshis _ (answer.EchoAndClose fee) (λ q. absurd (cc)) e);
-    secret = s.secret;
-    next_point = s.next_point;
-    heard = below;
-  }
+  fee_steady m (answer.Close fee) e below =
+      closes_steady m.fee_satoshis fee (still_open x.closing.closed m.fee_satoshis _ (answer.Close fee)
+      (λ q. absurd (cc)) e) below
+  fee_steady m (answer.EchoAndClose fee) e below =
+      closes_steady m.fee_satoshis fee (still_open x.closing.closed m.fee_satoshis _ (answer.EchoAndClose fee)
+      (λ q. absurd (cc)) e) below

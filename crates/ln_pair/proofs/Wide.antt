@@ -32,10 +32,11 @@ use Rattle.ln_pair.specs.Ends.{delivers, Act, Deliver, Give, Lose, acts, connect
 use Rattle.ln_pair.specs.Ends.{run}
 use Rattle.ln_pair.specs.Promises.{AreKeys}
 use Rattle.ln_pair.specs.Widths.{IsUpdate, IsCommand}
-use Rattle.ln_pair.proofs.Lasting.{All, Where, IsWide, IsOf}
+use Rattle.ln_pair.proofs.All.{All, all-append, all-take}
+use Rattle.ln_pair.proofs.Lasting.{Where, longest_script, IsWide, IsOf}
 use Rattle.ln_pair.proofs.Opens.{was_given}
-use Rattle.ln_pair.proofs.Contents.{all-append, all-take, CarriesWide, messages_wide, Origin, contents_of, Fits}
-use Rattle.ln_pair.proofs.Contents.{longest_script, length-front, wide_of}
+use Rattle.ln_pair.proofs.Contents.{CarriesWide, messages_wide, Origin, contents_of, Fits}
+use Rattle.ln_pair.proofs.Contents.{length-front, wide_of}
 use Rattle.ln_pair.proofs.WideTurns.{AnswerFits, row_fits, completes, meets_fits, command_fits}
 
 -- ---- steps whose commands are as wide as they are in code

@@ -2,7 +2,7 @@
 -- and the commands that it is given are.
 use Rattle.std.proofs.Common.{◌≡◌, ℕ, ◌<◌, ◌≤◌, ◌^◌, List, [], ◌∷◌, ◌++◌, length, take, refl}
 use Rattle.std.proofs.Common.{arith, length-append, Bool, true, false, cond, not, ◌||◌, ◌&&◌, nat_lt}
-use Rattle.std.proofs.Common.{Option, Some, None, Result, Ok, Err}
+use Rattle.std.proofs.Common.{Option, Some, None, option_map, if◌then◌else◌, Result, Ok, Err}
 use Rattle.std.proofs.lemmas.Bool.{ltb-false}
 use Rattle.std.proofs.lemmas.List.Sums.{count_by-le-length}
 use Rattle.ln_bytes.specs.Same.{are_same}
@@ -17,10 +17,13 @@ use Rattle.ln_msgs.specs.declared.refusals.refusal.Refusal.TheVariants as refusa
 use Rattle.ln_msgs.specs.declared.refusals.peer_rule.PeerRule.TheVariants as rule
 use Rattle.ln_keys.specs.Signer.{Signer}
 use Rattle.ln_log.specs.declared.log.TheConstants.{MOST_UPDATES}
+use Rattle.ln_log.specs.declared.update.Add.{Add}
+use Rattle.ln_log.specs.declared.update.Fail.{Fail}
 use Rattle.ln_log.specs.declared.update.Update.{Update as Change}
 use Rattle.ln_log.specs.declared.update.Update.TheVariants as update
-use Rattle.ln_log.specs.Log.{unacknowledged, taken_fault, proposal_fault}
-use Rattle.ln_log.specs.Updates.{is_add, next_id}
+use Rattle.ln_log.specs.Limits.{first_fault, is_at_update_limit, update_fault as rule_fault}
+use Rattle.ln_log.specs.Log.{Log, unacknowledged, taken_fault, peer_limit, removal_fault, length_fault, proposal_fault}
+use Rattle.ln_log.specs.Updates.{is_add, next_id, removed}
 use Rattle.ln_log.proofs.Grows.{may_propose, may_take}
 use Rattle.ln_dance.specs.declared.dance.Later.{Later}
 use Rattle.ln_dance.specs.declared.dance.Later.TheVariants.{Signature, Revocation}
@@ -51,11 +54,12 @@ use Rattle.ln_link.specs.Resume.{ready_again, one_again, owed_again, shutdown_ag
 use Rattle.ln_link.specs.Resume.{resume_row}
 use Rattle.ln_pair.specs.Widths.{IsUpdate, IsCommand}
 use Rattle.ln_pair.specs.Ends.{met_again}
-use Rattle.ln_pair.proofs.Lasting.{All}
+use Rattle.ln_pair.proofs.Lasting.{longest_script}
+use Rattle.ln_pair.proofs.All.{All, all-append, all-take, all-drop, all-when}
 use Rattle.ln_pair.proofs.Steps.{first_none, otherwise, where_true}
 use Rattle.ln_pair.proofs.Rows.{no_fault}
-use Rattle.ln_pair.proofs.Contents.{all-append, all-take, all-drop, all-when, CarriesWide, SendsWide, update_wide}
-use Rattle.ln_pair.proofs.Contents.{updates_wide, longest_script, Origin, Fits}
+use Rattle.ln_pair.proofs.Contents.{CarriesWide, SendsWide, update_wide}
+use Rattle.ln_pair.proofs.Contents.{updates_wide, Origin, Fits}
 
 module _ (k : Signer) (o : Origin) where
   abbrev pub TurnFits : Turn → Type 0
@@ -263,21 +267,37 @@ module _ (k : Signer) (o : Origin) where
   next_small : (us : List Change) → length us < MOST_UPDATES → next_id us < 2 ^ 64
   next_small us few = omega (arith, few, count_by-le-length is_add us)
 
-  proposes_fits : (u : Change) (e : End) → (length e.dance.log.own < MOST_UPDATES → IsUpdate u) → Fits o e
+  -- a reason that its message has room for
+  short_reason : (l : Log) (f : Fail) → proposal_fault l (update.Fail f) ≡ None → length f.reason < 2 ^ 16
+  short_reason l f none =
+      let u = update.Fail f in
+      let numbers = if is_at_update_limit l.own then Some refusal.NumbersSpent else None in
+      let removal = removal_fault l (removed u) in
+      let limits = option_map peer_limit (rule_fault l.opening l.role l.own (take l.current.peer l.received)
+      (take l.acknowledged.peer l.received) u) in
+      let at_removal = (first_none numbers (first_fault removal (first_fault limits (length_fault u))) none).1 in
+      let at_limits = (first_none removal (first_fault limits (length_fault u)) at_removal).1 in
+      let at_length = (first_none limits (length_fault u) at_limits).1 in
+      let most = ltb-false 65491 (length f.reason)
+      (no_fault (nat_lt 65491 (length f.reason)) (refusal.PeerLimit rule.TooLong) at_length) in
+      omega (arith, most)
+
+  proposes_fits : (u : Change) (e : End) → (proposal_fault e.dance.log u ≡ None → IsUpdate u) → Fits o e
       → AnswerFits (propose_row u e)
   proposes_fits u e wide h =
       unless_fits (propose_fault e u) (sending (update_message e.dance.channel u) (proposes u e)) (λ none.
-      let few = (may_propose e.dance.log u (first_none (own_fault e u) (proposal_fault e.dance.log u) none).1).few in (
+      let may = (first_none (own_fault e u) (proposal_fault e.dance.log u) none).1 in
+      let few = (may_propose e.dance.log u may).few in (
         record {
           origin = h.origin;
-          own = all-append IsUpdate e.dance.log.own (u ∷ []) h.own (wide few, tt);
+          own = all-append IsUpdate e.dance.log.own (u ∷ []) h.own (wide may, tt);
           own_room = omega (arith, few, length-append e.dance.log.own (u ∷ []));
           received = h.received;
           received_room = h.received_room;
           script = h.script;
           peer_script = h.peer_script;
         },
-        (update_wide e.dance.channel u (wide few), tt),
+        (update_wide e.dance.channel u (wide may), tt),
       ))
 
   short : (script : List ℕ) → script_fault script ≡ None → length script ≤ longest_script
@@ -310,15 +330,16 @@ module _ (k : Signer) (o : Origin) where
       unless_fits (confirm_fault e) (sending (message.ChannelReady (ready_message k e)) (confirmed id e))
       (λ none. (h, (tt, tt)))
   command_fits (command.Add amount hash expiry onion origin) e wide h =
-      proposes_fits (update.Add (record {
+      let add : Add = record {
         id = next_id e.dance.log.own;
         amount = amount;
         hash = hash;
         expiry = expiry;
         onion = onion;
         origin = origin;
-      })) e (λ few. record {
-        id = next_small e.dance.log.own few;
+      } in
+      proposes_fits (update.Add add) e (λ may. record {
+        id = next_small e.dance.log.own (may_propose e.dance.log (update.Add add) may).few;
         amount = wide.amount_fits;
         hash = wide.hash_fits;
         expiry = wide.expiry_fits;
@@ -326,14 +347,15 @@ module _ (k : Signer) (o : Origin) where
         origin = wide.origin_fits;
       }) h
   command_fits (command.Fulfil id preimage) e wide h =
-      proposes_fits (update.Fulfil (record { id = id; preimage = preimage })) e (λ few. wide) h
+      proposes_fits (update.Fulfil (record { id = id; preimage = preimage })) e (λ may. wide) h
   command_fits (command.Fail id reason) e wide h =
-      proposes_fits (update.Fail (record { id = id; reason = reason })) e (λ few. wide) h
+      let fail : Fail = record { id = id; reason = reason } in
+      proposes_fits (update.Fail fail) e (λ may. record { id = wide; reason = short_reason e.dance.log fail may }) h
   command_fits (command.Malformed id sha code) e wide h =
       proposes_fits (update.Malformed (record { id = id; sha256_of_onion = sha; failure_code = code })) e
-      (λ few. wide) h
+      (λ may. wide) h
   command_fits (command.Fee feerate) e wide h =
-      proposes_fits (update.Fee (record { feerate = feerate })) e (λ few. wide) h
+      proposes_fits (update.Fee (record { feerate = feerate })) e (λ may. wide) h
   command_fits command.Sign e wide h = unless_fits (sign_command_fault e) (record {
     end = signs_next e;
     handed = record {

@@ -1,5 +1,5 @@
 -- What commands bring and updates have, as wide as their types: numbers of 16, 32 and 64 bits, hashes and preimages of
--- 32 bytes, onions of 1,366 (BOLT 2). A failure's reason has fewer than 65,536 bytes, which no type says.
+-- 32 bytes, onions of 1,366 (BOLT 2). A failure's reason that a command brings may have any length.
 use Rattle.std.specs.Prelude.{◌≡◌, ◌<◌, ◌^◌, ℕ, List, length, Option, Some, None}
 use Rattle.ln_log.specs.declared.update.Add.{Add}
 use Rattle.ln_log.specs.declared.update.Fulfil.{Fulfil}
@@ -59,7 +59,7 @@ abbrev pub IsCommand : Command → Type 0
 IsCommand (command.Confirm id) = Unit {0}
 IsCommand (command.Add amount hash expiry onion origin) = BringsAdd amount hash expiry onion origin
 IsCommand (command.Fulfil id preimage) = IsFulfil (record { id = id; preimage = preimage })
-IsCommand (command.Fail id reason) = IsFail (record { id = id; reason = reason })
+IsCommand (command.Fail id reason) = id < 2 ^ 64
 IsCommand (command.Malformed id sha code) =
     IsMalformed (record { id = id; sha256_of_onion = sha; failure_code = code })
 IsCommand (command.Fee feerate) = feerate < 2 ^ 32

@@ -1,8 +1,8 @@
 -- What a script's lines bring is as wide as it is in code: numbers of 16, 32 and 64 bits, secrets, hashes and preimages
 -- of 32 bytes, onions of 1,366 (BOLT 2).
-use Rattle.std.proofs.Common.{◌≡◌, ℕ, ◌+◌, ◌-◌, ◌*◌, ◌/◌, ◌%◌, ◌<◌, ◌≤◌, ◌^◌, List, [], ◌∷◌, ◌++◌, length, replicate}
-use Rattle.std.proofs.Common.{Bool, true, false, ◌&&◌, ◌==◌, cond, codes, nat_le, nat_lt, None, Ok, refl}
-use Rattle.std.proofs.Common.{arith, length-append, lit<}
+use Rattle.std.proofs.Common.{◌≡◌, ℕ, ◌+◌, ◌-◌, ◌*◌, ◌<◌, ◌≤◌, ◌^◌, List, [], ◌∷◌, ◌++◌, length, replicate}
+use Rattle.std.proofs.Common.{true, ◌&&◌, codes, nat_le, nat_lt, None, Ok, refl}
+use Rattle.std.proofs.Common.{arith, length-append}
 use Rattle.std.specs.Str.{bytes_eq}
 use Rattle.std.specs.Int.{w64, to_be_bytes}
 use Rattle.std.proofs.lemmas.Bool.{leb-true, ltb-false, and_parts}
@@ -20,7 +20,7 @@ use Rattle.ln_world.specs.Records.{IsAct, IsStep, AreSteps, HaveSecrets}
 use Rattle.ln_script.specs.Word.{decimal_at, number_at, short_id_at, digit_at, code_at}
 use Rattle.ln_script.specs.Keys.{toy}
 use Rattle.ln_script.specs.Onion.{payloads_at}
-use Rattle.ln_script.specs.Command.{preimage_of, hash_of, reason_of, onion_at, add_at, fulfil_at, fail_at}
+use Rattle.ln_script.specs.Command.{preimage_of, hash_of, onion_at, add_at, fulfil_at, fail_at}
 use Rattle.ln_script.specs.Command.{malformed_at, fee_at, confirm_line, add_line, fulfil_line, fail_line}
 use Rattle.ln_script.specs.Command.{malformed_line, fee_line, sign_line, shutdown_line, update_at, command_at}
 use Rattle.ln_script.specs.Step.{ToyStep, fees_at, limits_at}
@@ -87,14 +87,6 @@ length-preimage payment = length-replicate 32 payment
 length-hash : (payment : ℕ) → length (hash_of payment) ≡ 32
 unfolding hash_of
 length-hash payment = length-sha256 (preimage_of payment)
-
-two_or_four : (b : Bool) (x y : ℕ) → length (x ∷ y ∷ cond b (0 ∷ 0 ∷ []) []) < 2 ^ 16
-two_or_four true x y = lit< tt
-two_or_four false x y = lit< tt
-
-reasons_are_short : (code : ℕ) → length (reason_of code) < 2 ^ 16
-unfolding reason_of
-reasons_are_short code = two_or_four ((code / 4096) % 2 == 1) (code / 256) (code % 256)
 
 -- an onion's version and key, its payloads, its hmac (BOLT 4, "Packet Structure")
 length-key : length toy_key ≡ 33
@@ -168,7 +160,7 @@ fulfil_wide id n =
 fail_wide : (id code : List ℕ) → Has IsCommand (fail_at id code)
 fail_wide id code =
     then_of IsShort IsCommand (decimal_at id) _ (decimals_are_short id) (λ htlc short.
-    then IsCommand (code_at code) _ (λ failure. record { id = short; reason = reasons_are_short failure }))
+    then IsCommand (code_at code) _ (λ failure. short))
 
 malformed_wide : (id code : List ℕ) → Has IsCommand (malformed_at id code)
 malformed_wide id code =

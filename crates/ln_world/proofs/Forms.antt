@@ -30,7 +30,9 @@ use Rattle.ln_durable.specs.Record.{flags_of, payload_of, place_of, agreement_of
 use Rattle.ln_durable.specs.Record.{event_of, events_of, fees_of, progress_of, header_of, items_of, IsUnwritable}
 use Rattle.ln_durable.specs.Record.{HasNoAgreement, HasNoUpdates, NoRecord}
 use Rattle.ln_pair.specs.Widths.{IsUpdate}
-use Rattle.ln_pair.proofs.Lasting.{All, IsHeld, IsCounted, IsWide, IsOf}
+use Rattle.ln_pair.proofs.All.{All}
+use Rattle.ln_pair.proofs.Steady.{raised}
+use Rattle.ln_pair.proofs.Lasting.{IsHeld, IsCounted, IsWide, IsOf}
 use Rattle.ln_world.proofs.Opening.{IsOpenChannel, IsAcceptChannel, AreFees, IsOpening}
 use Rattle.ln_world.proofs.OpeningForms.{open_written, open_short, open_read, accept_written, accept_short, accept_read}
 use Rattle.ln_world.proofs.UpdateForms.{also, list_fits}
@@ -62,15 +64,8 @@ opens o e h of = record {
   accept_channel = subst IsAcceptChannel (sym of.accept_channel) h.accept_channel;
 }
 
--- its funds are numbers of 64 bits
-funding_below : (m : OpenChannel) (a : AcceptChannel) → HasFundsBy m a → m.funding_satoshis < 2 ^ 64
-funding_below m a h = let most : m.funding_satoshis ≤ 2100000000000000 = h.funds in omega (arith, most)
-
-push_below : (m : OpenChannel) (a : AcceptChannel) → HasFundsBy m a → m.push_msat < 2 ^ 64
-push_below m a h =
-    let most : m.funding_satoshis ≤ 2100000000000000 = h.funds in
-    let push = h.push in
-    omega (arith, most, push)
+feerate_below : (m : OpenChannel) → IsOpenChannel m → m.feerate_per_kw < 2 ^ 32
+feerate_below m is = is.values.1.1.1.1.1.1.1.1.0
 
 -- ---- the agreement
 
@@ -82,9 +77,7 @@ both_written : (e : End) → Opens e → HasNoAgreement e → ⊥
 unfolding HasNoAgreement
 both_written e o (inl lack) =
     let m = e.terms.open_channel in
-    let funding = funding_below m e.terms.accept_channel o.funds in
-    let push = push_below m e.terms.accept_channel o.funds in
-    is_written (open_wire m) (open_written m o.open_channel) (open_short m o.open_channel funding push) lack
+    is_written (open_wire m) (open_written m o.open_channel) (open_short m o.open_channel) lack
 both_written e o (inr lack) =
     let m = e.terms.accept_channel in
     is_written (accept_wire m) (accept_written m o.accept_channel) (accept_short m o.accept_channel) lack
@@ -103,11 +96,11 @@ agreement_of_fits e o w =
     let m = e.terms.open_channel in
     let a = e.terms.accept_channel in
     agreement_fits (agreement_of e)
-    (payload_short (open_wire m) (open_short m o.open_channel (funding_below m a o.funds) (push_below m a o.funds)))
+    (payload_short (open_wire m) (open_short m o.open_channel))
     (payload_short (accept_wire a) (accept_short a o.accept_channel)) (place_fits e.marks.short_id)
     (fees_fit e.closing.fees o.fees.first o.fees.least o.fees.greatest) w.script w.peer_script
 
-open_is_read : (m : OpenChannel) → IsOpenChannel m → m.funding_satoshis < 2 ^ 64 → m.push_msat < 2 ^ 64
+open_is_read : (m : OpenChannel) → IsOpenChannel m
     → message_at (0 ∷ 32 ∷ payload_of (open_wire m)) ≡ Ok (Known (open_wire m))
 unfolding payload_of
 open_is_read = open_read
@@ -172,7 +165,7 @@ updates_of_fit e o i w =
     let received = c.received in
     let m = c.own_room in
     let n = c.received_room in
-    also (base_fits (opening_of e.terms) o.funds o.open_channel.feerate)
+    also (base_fits (opening_of e.terms) o.funds (feerate_below e.terms.open_channel o.open_channel))
     (also (window_fits e.closing.role (after_drop l).own (after_drop l).received (omega (arith, own, m))
     (omega (arith, received, n)) (front IsUpdate l.signed.own l.own w.own) w.received) (pairs_of_fit l i c))
 
@@ -201,18 +194,11 @@ named Fundee o l (link_ref.Peer n) h = in_window (length l.received) n h
 named Funder o l link_ref.Close h = refl
 named Fundee o l link_ref.Close h = refl
 
-held_by_more : (a b c d : ℕ) (r : link.EventRef) → a ≤ c → b ≤ d → IsHeld a b r → IsHeld c d r
-held_by_more a b c d (link_ref.Own n) p q h = omega (arith, p, h)
-held_by_more a b c d (link_ref.Peer n) p q h = omega (arith, q, h)
-held_by_more a b c d link_ref.Close p q h = tt
-
-all_named : (x : Role) (o : Opening) (l : Log) (a b : ℕ) (rs : List link.EventRef) → a ≤ length l.own
-    → b ≤ length l.received → All (IsHeld a b) rs
+all_named : (x : Role) (o : Opening) (l : Log) (rs : List link.EventRef)
+    → All (IsHeld (length l.own) (length l.received)) rs
     → list_all (names_an_update x (updates_of o x l)) (map event_of rs) ≡ true
-all_named x o l a b [] p q h = refl
-all_named x o l a b (r ∷ rs) p q h =
-    also (named x o l r (held_by_more a b (length l.own) (length l.received) r p q h.0))
-    (all_named x o l a b rs p q h.1)
+all_named x o l [] h = refl
+all_named x o l (r ∷ rs) h = also (named x o l r h.0) (all_named x o l rs h.1)
 
 events_of_fit : (e : End) → IsCounted e → AreCovered e.dance.log → it.events.fits (events_of e.ledger) ≡ true
 events_of_fit e k c =
@@ -278,14 +264,15 @@ items_sound e o k w =
     let decided = k.decided in
     also (also (also (also (also
     (open_sounds m (payload_of (open_wire m)) o.funds.some_funds o.funds.funds
-    (open_is_read m o.open_channel (funding_below m a o.funds) (push_below m a o.funds)))
+    (open_is_read m o.open_channel))
     (accept_sounds a (payload_of (accept_wire a)) (accept_is_read a o.accept_channel)))
     (in_step e.dance.numbers n.commitment n.signed n.revoked k.step.revoked k.step.one_unrevoked))
     (settled e.dance.numbers (pairs_of l) k.step.acknowledged))
     (le-leb e.ledger.decided (2 ^ 63 + 1) (omega (arith, decided))))
-    (all_named e.closing.role (opening_of e.terms) (after_drop l) l.current.own l.acknowledged.peer e.ledger.undecided
-    (omega (arith, own_current, own_acknowledged, own)) (omega (arith, peer_acknowledged, peer_signed, received))
-    k.undecided)
+    (all_named e.closing.role (opening_of e.terms) (after_drop l) e.ledger.undecided
+    (raised l.current.own l.acknowledged.peer (length (after_drop l).own) (length (after_drop l).received)
+    e.ledger.undecided (omega (arith, own_current, own_acknowledged, own))
+    (omega (arith, peer_acknowledged, peer_signed, received)) k.undecided))
 
 has_updates : (e : End) → Opens e → IsCounted e → HasNoUpdates e → ⊥
 unfolding HasNoUpdates

@@ -23,7 +23,8 @@ use Rattle.ln_store.specs.declared.record.ClosingFees.{ClosingFees}
 use Rattle.ln_store.specs.Format.{Format, number, fixed, sized, optional, is_some}
 use Rattle.ln_store.specs.Items as it
 use Rattle.ln_store.specs.Items.{bit, later_bit, flags_number}
-use Rattle.ln_pair.proofs.Lasting.{All, Where}
+use Rattle.ln_pair.proofs.All.{All}
+use Rattle.ln_pair.proofs.Lasting.{Where, longest_script}
 use Rattle.ln_world.proofs.UpdateForms.{also}
 
 where_fits : {A : Type 0} (f : Format A) (P : A → Type 0) → ((x : A) → P x → f.fits x ≡ true) → (o : Option A)
@@ -78,18 +79,18 @@ unfolding it.fees
 fees_fit f a b c =
     also (lt-ltb f.first (2 ^ 64) a) (also (lt-ltb f.least (2 ^ 64) b) (lt-ltb f.greatest (2 ^ 64) c))
 
-script_fits : (s : List ℕ) → length s ≤ 65499 → (sized 2).fits s ≡ true
+script_fits : (s : List ℕ) → length s ≤ longest_script → (sized 2).fits s ≡ true
 script_fits s h = lt-ltb (length s) 65536 (omega (arith, h))
 
 pub agreement_fits : (a : Agreement) → length a.open_payload ≤ 65535 → length a.accept_payload ≤ 65535
-    → (optional (fixed 8)).fits a.place ≡ true → it.fees.fits a.fees ≡ true → length a.script ≤ 65499
-    → Where (λ s. length s ≤ 65499) a.peer_script → it.agreement.fits a ≡ true
+    → (optional (fixed 8)).fits a.place ≡ true → it.fees.fits a.fees ≡ true → length a.script ≤ longest_script
+    → Where (λ s. length s ≤ longest_script) a.peer_script → it.agreement.fits a ≡ true
 unfolding it.agreement
 agreement_fits a asked accept place fees script peer =
     also (lt-ltb (length a.open_payload) (2 ^ 32) (omega (arith, asked)))
     (also (lt-ltb (length a.accept_payload) (2 ^ 32) (omega (arith, accept))) (also place (also fees
     (also (script_fits a.script script)
-    (where_fits (sized 2) (λ s. length s ≤ 65499) script_fits a.peer_script peer)))))
+    (where_fits (sized 2) (λ s. length s ≤ longest_script) script_fits a.peer_script peer)))))
 
 pub numbers_fit : (n : Numbers) → n.commitment < 2 ^ 48 → n.signed < 2 ^ 48 → n.revoked < 2 ^ 48
     → it.numbers.fits n ≡ true

@@ -12,7 +12,7 @@ use Rattle.ln_world.specs.Machine.{moves_of, moves_of_fall, tells, machine_of_st
 use Rattle.ln_world.proofs.Mirror.{without-append}
 use Rattle.ln_world.proofs.Moves.{met_says, met_tells, lost_says}
 use Rattle.std.proofs.Common.{◌≡◌, ℕ, List, [], ◌∷◌, ◌++◌, refl, sym, ap, ◌∙◌, subst, Bool, true, false, cond}
-use Rattle.std.proofs.Common.{◌&&◌, ◌≤◌, length}
+use Rattle.std.proofs.Common.{◌≤◌, length}
 use Rattle.std.proofs.Common.{Option, Some, None, inl, inr, not}
 use Rattle.ln_msgs.specs.declared.messages.message.Message.{Message}
 use Rattle.ln_keys.specs.declared.role.Role.{Role}
@@ -45,8 +45,9 @@ use Rattle.ln_pair.proofs.Fees.{one_fee, all_taken}
 use Rattle.ln_pair.specs.Answers.{HasAnswered}
 use Rattle.ln_pair.proofs.Answers.{all_answered}
 use Rattle.ln_pair.proofs.Deals.{run_fees}
-use Rattle.ln_pair.proofs.Lasting.{All}
-use Rattle.ln_pair.proofs.Contents.{all-append, longest_script}
+use Rattle.ln_store.proofs.Formats.{both_true}
+use Rattle.ln_pair.proofs.All.{All, all-append}
+use Rattle.ln_pair.proofs.Lasting.{longest_script}
 use Rattle.ln_pair.proofs.Wide.{StepIsWide}
 use Rattle.ln_close.specs.Closing.{AreOrdered}
 use Rattle.ln_log.specs.Machine.{Machine}
@@ -444,11 +445,6 @@ module _ {K : Type 0} (signer : K → Signer) where
       → Went id p (moves signer id (Restarts side) p) r (tale_of id (Restarts side) p) (Unit {0})
   restarted_went id side p r = subst (λ p'. Went id p p' r (tale_of id (Falls side) p) (Unit {0}))
       (as_fallen id side p r) (fallen_went id side p r)
-
-  both_true : (b c : Bool) → (b && c) ≡ true → (b ≡ true) × (c ≡ true)
-  both_true true true e = (refl, refl)
-  both_true true false e = absurd (cc)
-  both_true false c e = absurd (cc)
 
   came_up_went : (id : List ℕ) (p : Both K) → may_meet p ≡ true → (r : IsRun id p)
       → Went id p (moves signer id Meet p) r (tale_of id Meet p) (Unit {0})

@@ -1,21 +1,21 @@
 -- The two messages that tell how a channel opens can be written, and what is written is read as they are.
-use Rattle.std.proofs.Common.{◌≡◌, ℕ, zero, suc, ◌+◌, ◌<◌, ◌≤◌, ◌^◌, List, [], ◌∷◌, ◌++◌, length, drop, refl, sym}
-use Rattle.std.proofs.Common.{ap, subst, arith, Bool, true, false, None, Ok}
+use Rattle.std.proofs.Common.{◌≡◌, ℕ, zero, suc, ◌+◌, ◌<◌, ◌≤◌, List, [], ◌∷◌, ◌++◌, length, refl, sym}
+use Rattle.std.proofs.Common.{ap, subst, arith, Bool, true, false, None, Some, Ok, IsTrue}
 use Rattle.std.specs.List.{list_all}
 use Rattle.std.proofs.lemmas.List.{length-append}
 use Rattle.ln_bytes.specs.Endian.{big_bytes}
-use Rattle.ln_bytes.specs.Tlv.{stream_bytes, AreValid, AreFit}
+use Rattle.ln_bytes.specs.Tlv.{stream_bytes, AreValid, AreFit, have_lengths}
 use Rattle.ln_msgs.specs.declared.messages.opening.OpenChannel.{OpenChannel}
 use Rattle.ln_msgs.specs.declared.messages.opening.AcceptChannel.{AcceptChannel}
 use Rattle.ln_msgs.specs.Codec.Field.{Kind, Number, Fixed, Sized, Listed, Value, Num, Str, Many, IsOf, AreOf}
 use Rattle.ln_msgs.specs.Codec.Field.{value_bytes, fields_bytes}
-use Rattle.ln_msgs.specs.Codec.Writing.{CanBeWritten}
-use Rattle.ln_msgs.specs.Messages.Table.{kinds_of, open_form, accept_form}
-use Rattle.ln_msgs.specs.Messages.Message.{Known, IsFormed, wire_bytes, message_at}
+use Rattle.ln_msgs.specs.Codec.Writing.{CanBeWritten, MayFollowForm}
+use Rattle.ln_msgs.specs.Messages.Table.{Form, kinds_of, open_form, accept_form}
+use Rattle.ln_msgs.specs.Messages.Message.{Wire, Known, IsFormed, formed_bytes, wire_bytes, message_at}
 use Rattle.ln_msgs.specs.Messages.Typed.{open_wire, accept_wire}
 use Rattle.ln_msgs.proofs.Grammar.{message_again}
 use Rattle.ln_store.proofs.Formats.{both_true}
-use Rattle.ln_world.proofs.Opening.{IsOpenChannel, IsAcceptChannel}
+use Rattle.ln_world.proofs.Opening.{IsPlain, IsOpenChannel, IsAcceptChannel}
 
 -- ---- how long fields are
 
@@ -61,86 +61,80 @@ length-fields (k ∷ ks) (v ∷ vs) h are =
     let others = length-fields ks vs sized.1 are.1 in
     omega (arith, length-append (value_bytes k v) (fields_bytes ks vs), first, others)
 
--- one behind another
-infixr 10 ◌and◌
-◌and◌ : {A B : Type 0} → A → B → A × B
-x and y = (x, y)
+-- ---- a message without records, of fields that have one length each
 
--- the type is in front, in two bytes
-two_more : (n : ℕ) → n ≤ 65533 → suc (suc n) ≤ 65535
-two_more n le = omega (arith, le)
+-- its fields have one length each, and there is room for them behind the type
+pub record HasRoom (form : Form) : Type 0 where
+  pub typ : form.typ < 65536
+  pub sized : list_all has_size (kinds_of form) ≡ true
+  pub few : sizes_of (kinds_of form) ≤ 65533
+  pub lengths : IsTrue (have_lengths form.lengths [])
 
--- ---- open_channel
+module _ (form : Form) (room : HasRoom form) (w : Wire) (same : w.typ ≡ form.typ) (is : IsPlain form w) where
+  valid : AreValid form.known_even None w.records
+  valid = subst (AreValid form.known_even None) (sym is.no_records) tt
+
+  lengths : IsTrue (have_lengths form.lengths w.records)
+  lengths = subst (λ rs. IsTrue (have_lengths form.lengths rs)) (sym is.no_records) room.lengths
+
+  pub written : CanBeWritten w
+  written =
+      subst (λ f. MayFollowForm f w.records) (sym is.known) (record { valid = valid; lengths = lengths })
+
+  formed : IsFormed form w
+  formed = record {
+    typ = subst (λ n. n < 65536) (sym same) room.typ;
+    values = is.values;
+    valid = valid;
+    fit = subst AreFit (sym is.no_records) tt;
+    lengths = lengths;
+  }
+
+  bytes_are : wire_bytes w ≡ formed_bytes (Some form) w
+  bytes_are = ap (λ f. formed_bytes f w) is.known
+
+  length-formed : length (formed_bytes (Some form) w) ≤ 65535
+  length-formed =
+      let typ = big_bytes 2 w.typ in
+      let fields = fields_bytes (kinds_of form) w.values in
+      let rest = stream_bytes w.records in
+      let all = length-append (typ ++ fields) rest in
+      let front = length-append typ fields in
+      let two = length-number 2 w.typ in
+      let size = length-fields (kinds_of form) w.values room.sized is.values in
+      let none : length rest ≡ 0 = ap (λ rs. length (stream_bytes rs)) is.no_records in
+      let few = room.few in
+      omega (arith, all, front, two, size, none, few)
+
+  pub short : length (wire_bytes w) ≤ 65535
+  short = subst (λ bytes. length bytes ≤ 65535) (sym bytes_are) length-formed
+
+  pub again : message_at (wire_bytes w) ≡ Ok (Known w)
+  again = message_again (wire_bytes w) (Known w) (short, (form, is.known, formed, bytes_are))
+
+-- ---- the two messages
+
+open_room : HasRoom open_form
+open_room = record { typ = omega arith; sized = refl; few = omega arith; lengths = refl }
+
+accept_room : HasRoom accept_form
+accept_room = record { typ = omega arith; sized = refl; few = omega arith; lengths = refl }
 
 pub open_written : (m : OpenChannel) → IsOpenChannel m → CanBeWritten (open_wire m)
-open_written m o = record { valid = subst (AreValid (0 ∷ []) None) (sym o.no_records) tt; lengths = refl }
+open_written m is = written open_form open_room (open_wire m) refl is
 
-open_values : (m : OpenChannel) → IsOpenChannel m → m.funding_satoshis < 2 ^ 64 → m.push_msat < 2 ^ 64
-    → AreOf (kinds_of open_form) (open_wire m).values
-open_values m o funding push =
-    o.chain_hash and o.temporary_id and funding and push and o.dust_limit and o.in_flight and
-    o.reserve and o.minimum and o.feerate and o.delay and o.accepted and o.funding and
-    o.revocation and o.payment and o.delayed and o.htlc and o.point and o.flags and tt
+pub open_short : (m : OpenChannel) → IsOpenChannel m → length (wire_bytes (open_wire m)) ≤ 65535
+open_short m is = short open_form open_room (open_wire m) refl is
 
-open_formed : (m : OpenChannel) → IsOpenChannel m → m.funding_satoshis < 2 ^ 64 → m.push_msat < 2 ^ 64
-    → IsFormed open_form (open_wire m)
-open_formed m o funding push = record {
-  typ = omega arith;
-  values = open_values m o funding push;
-  valid = subst (AreValid (0 ∷ []) None) (sym o.no_records) tt;
-  fit = subst AreFit (sym o.no_records) tt;
-  lengths = refl;
-}
-
-pub open_short : (m : OpenChannel) → IsOpenChannel m → m.funding_satoshis < 2 ^ 64 → m.push_msat < 2 ^ 64
-    → length (wire_bytes (open_wire m)) ≤ 65535
-open_short m o funding push =
-    let fields = fields_bytes (kinds_of open_form) (open_wire m).values in
-    let both = length-append fields (stream_bytes m.records) in
-    let size : length fields ≡ 319 = length-fields (kinds_of open_form) (open_wire m).values refl
-    (open_values m o funding push) in
-    let none : length (stream_bytes m.records) ≡ 0 = ap (λ rs. length (stream_bytes rs)) o.no_records in
-    two_more (length (fields ++ stream_bytes m.records)) (omega (arith, both, size, none))
-
-pub open_read : (m : OpenChannel) → IsOpenChannel m → m.funding_satoshis < 2 ^ 64 → m.push_msat < 2 ^ 64
-    → message_at (0 ∷ 32 ∷ drop 2 (wire_bytes (open_wire m))) ≡ Ok (Known (open_wire m))
-open_read m o funding push = message_again (wire_bytes (open_wire m)) (Known (open_wire m)) (
-  open_short m o funding push,
-  (open_form, refl, open_formed m o funding push, refl),
-)
-
--- ---- accept_channel
+pub open_read : (m : OpenChannel) → IsOpenChannel m → message_at (wire_bytes (open_wire m)) ≡ Ok (Known (open_wire m))
+open_read m is = again open_form open_room (open_wire m) refl is
 
 pub accept_written : (m : AcceptChannel) → IsAcceptChannel m → CanBeWritten (accept_wire m)
-accept_written m o = record { valid = subst (AreValid (0 ∷ []) None) (sym o.no_records) tt; lengths = refl }
-
-accept_values : (m : AcceptChannel) → IsAcceptChannel m → AreOf (kinds_of accept_form) (accept_wire m).values
-accept_values m o =
-    o.temporary_id and o.dust_limit and o.in_flight and o.reserve and o.minimum and o.depth and
-    o.delay and o.accepted and o.funding and o.revocation and o.payment and o.delayed and o.htlc and
-    o.point and tt
-
-accept_formed : (m : AcceptChannel) → IsAcceptChannel m → IsFormed accept_form (accept_wire m)
-accept_formed m o = record {
-  typ = omega arith;
-  values = accept_values m o;
-  valid = subst (AreValid (0 ∷ []) None) (sym o.no_records) tt;
-  fit = subst AreFit (sym o.no_records) tt;
-  lengths = refl;
-}
+accept_written m is = written accept_form accept_room (accept_wire m) refl is
 
 pub accept_short : (m : AcceptChannel) → IsAcceptChannel m → length (wire_bytes (accept_wire m)) ≤ 65535
-accept_short m o =
-    let fields = fields_bytes (kinds_of accept_form) (accept_wire m).values in
-    let both = length-append fields (stream_bytes m.records) in
-    let size : length fields ≡ 270 = length-fields (kinds_of accept_form) (accept_wire m).values refl
-    (accept_values m o) in
-    let none : length (stream_bytes m.records) ≡ 0 = ap (λ rs. length (stream_bytes rs)) o.no_records in
-    two_more (length (fields ++ stream_bytes m.records)) (omega (arith, both, size, none))
+accept_short m is = short accept_form accept_room (accept_wire m) refl is
 
 pub accept_read : (m : AcceptChannel) → IsAcceptChannel m
-    → message_at (0 ∷ 33 ∷ drop 2 (wire_bytes (accept_wire m))) ≡ Ok (Known (accept_wire m))
-accept_read m o = message_again (wire_bytes (accept_wire m)) (Known (accept_wire m)) (
-  accept_short m o,
-  (accept_form, refl, accept_formed m o, refl),
-)
+    → message_at (wire_bytes (accept_wire m)) ≡ Ok (Known (accept_wire m))
+accept_read m is = again accept_form accept_room (accept_wire m) refl is

@@ -1,5 +1,5 @@
 -- What nodes bring to a channel that they open has room in the records of its ends.
-use Rattle.std.proofs.Common.{◌≡◌, ℕ, ◌≤◌, length, refl, ap, ◌∙◌, subst, arith}
+use Rattle.std.proofs.Common.{◌≡◌, ℕ, ◌≤◌, ◌<◌, ◌^◌, length, refl, ap, ◌∙◌, subst, arith}
 use Rattle.ln_msgs.specs.declared.messages.opening.OpenChannel.{OpenChannel}
 use Rattle.ln_msgs.specs.declared.messages.opening.AcceptChannel.{AcceptChannel}
 use Rattle.ln_msgs.specs.declared.messages.opening.FundingCreated.{FundingCreated}
@@ -15,7 +15,7 @@ use Rattle.ln_link.specs.Opening.{Agreement, open_message, open_fault, agreement
 use Rattle.ln_link.specs.Opening.{funder_end, created_message, created_fault, fundee_end, funding_message}
 use Rattle.ln_link.specs.Meeting.{Opens}
 use Rattle.ln_pair.specs.Promises.{AreSent}
-use Rattle.ln_pair.proofs.Contents.{longest_script}
+use Rattle.ln_pair.proofs.Lasting.{longest_script}
 use Rattle.ln_world.specs.declared.settings.Settings.{Settings}
 use Rattle.ln_world.specs.declared.step.Node.{Node}
 use Rattle.ln_world.specs.Settings.{config_of, spec_of, opening_by, CanBring}
@@ -70,6 +70,11 @@ module _ (a b : Signer) (s : OpenSpec) (c : Config) where
 
 -- ---- what nodes bring
 
+-- one behind another
+infixr 10 ◌and◌
+◌and◌ : {A B : Type 0} → A → B → A × B
+x and y = (x, y)
+
 are_fees : (f : Fees) → AreSent f → AreOrdered f → AreFees f
 are_fees f h o = record { first = h.first; least = omega (arith, h.first, o.0); greatest = h.greatest }
 
@@ -83,42 +88,24 @@ module _ (a b : Signer) (number satoshis push : ℕ) (n m : Node) (s t : Setting
   config_so = config_of m t
 
   open_so : IsOpenChannel (opened_with a b spec_so config_so)
-  open_so = record {
-    chain_hash = refl;
-    temporary_id = refl;
-    dust_limit = omega arith;
-    in_flight = l.in_flight;
-    reserve = l.reserve;
-    minimum = l.minimum;
-    feerate = omega arith;
-    delay = omega arith;
-    accepted = l.accepted;
-    funding = refl;
-    revocation = refl;
-    payment = refl;
-    delayed = refl;
-    htlc = refl;
-    point = a_point;
-    flags = omega arith;
-    no_records = refl;
-  }
+  open_so =
+      let funds = brings.opening.funds in
+      let put_in : satoshis < 2 ^ 64 = omega (arith, funds) in
+      let pushed : push < 2 ^ 64 = omega (arith, funds, brings.opening.push) in record {
+        known = refl;
+        values =
+            refl and refl and put_in and pushed and omega arith and l.in_flight and l.reserve and
+            l.minimum and omega arith and omega arith and l.accepted and refl and refl and refl and
+            refl and refl and a_point and omega arith and tt;
+        no_records = refl;
+      }
 
   accept_so : IsAcceptChannel (accepted_with a b spec_so config_so)
   accept_so = record {
-    temporary_id = refl;
-    dust_limit = omega arith;
-    in_flight = r.in_flight;
-    reserve = r.reserve;
-    minimum = r.minimum;
-    depth = omega arith;
-    delay = omega arith;
-    accepted = r.accepted;
-    funding = refl;
-    revocation = refl;
-    payment = refl;
-    delayed = refl;
-    htlc = refl;
-    point = b_point;
+    known = refl;
+    values =
+        refl and omega arith and r.in_flight and r.reserve and r.minimum and omega arith and
+        omega arith and r.accepted and refl and refl and refl and refl and refl and b_point and tt;
     no_records = refl;
   }
 

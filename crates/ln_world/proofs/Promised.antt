@@ -16,6 +16,7 @@ use Rattle.ln_log.proofs.Fits.{fit_is}
 use Rattle.ln_close.specs.Closing.{AreOrdered}
 use Rattle.ln_link.specs.Meeting.{CanOpen}
 use Rattle.ln_link.proofs.Meeting.{none_refused}
+use Rattle.ln_store.proofs.Formats.{both_true}
 use Rattle.ln_pair.specs.Promises.{AreKeys, AreSent}
 use Rattle.ln_world.specs.declared.step.Node.{Node}
 use Rattle.ln_world.specs.declared.step.Open.{Open}
@@ -37,11 +38,6 @@ use Rattle.ln_world.proofs.Kept.{IsRun, IsOpen, act_kept, fall_kept, restart_kep
 use Rattle.ln_world.proofs.Kept as channels
 
 -- ---- what nodes bring
-
-pub both_true : (b c : Bool) → (b && c) ≡ true → (b ≡ true) × (c ≡ true)
-both_true true true e = (refl, refl)
-both_true true false e = absurd (cc)
-both_true false c e = absurd (cc)
 
 ordered_so : (s : Settings) → are_ordered s ≡ true → AreOrdered s.fees
 ordered_so s e =

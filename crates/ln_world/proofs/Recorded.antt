@@ -11,6 +11,7 @@ use Rattle.ln_link.specs.declared.link.Line.{Line}
 use Rattle.ln_link.specs.declared.opening.Opened.{Opened}
 use Rattle.ln_link.specs.End.{End}
 use Rattle.ln_link.specs.State.{State}
+use Rattle.ln_store.proofs.Formats.{both_true}
 use Rattle.ln_pair.specs.Promises.{AreKeys, AreSent}
 use Rattle.ln_pair.proofs.Lasting.{IsCounted, IsWide, IsOf}
 use Rattle.ln_pair.proofs.Counting.{are_counted}
@@ -35,7 +36,7 @@ use Rattle.ln_world.proofs.Opening.{IsOpening}
 use Rattle.ln_world.proofs.Forms.{has_record}
 use Rattle.ln_world.proofs.Openings.{are_openings, short_scripts}
 use Rattle.ln_world.proofs.Kept.{IsRun, IsWideRun, ends_of, IsMove, ArePossible, went}
-use Rattle.ln_world.proofs.Promised.{both_true, brings_so, AreSet, set_of, set_with, set_so, opened_run, Keeps}
+use Rattle.ln_world.proofs.Promised.{brings_so, AreSet, set_of, set_with, set_so, opened_run, Keeps}
 use Rattle.ln_world.proofs.Promised.{moved_so, all_so, joined_so, keys_so, happened}
 use Rattle.ln_world.proofs.Told.{MayMake, acts_possible, falls_possible, restarts_possible, ups_possible}
 

@@ -10,6 +10,7 @@ use Rattle.ln_log.specs.declared.opening.Opening.{Opening}
 use Rattle.ln_log.specs.Machine as machine
 use Rattle.ln_log.specs.Events.{events}
 use Rattle.ln_link.specs.Outputs.{numbered}
+use Rattle.ln_store.proofs.Formats.{both_true}
 use Rattle.ln_pair.specs.Moves.{after_all}
 use Rattle.ln_pair.specs.Promises.{AddsBefore}
 use Rattle.ln_pair.specs.Told.{as_told, events_in}
@@ -31,7 +32,7 @@ use Rattle.ln_world.specs.Sending.{sends, sent_in, NoneAddsLate}
 use Rattle.ln_world.specs.Machine.{machine_of, moves_of, moves_in, history, tells, told_in, all_told}
 use Rattle.ln_world.proofs.Kept.{Tale, untold, then, then-untold, then_assoc, IsTold, tale_along, ArePossible}
 use Rattle.ln_world.proofs.Kept as channels
-use Rattle.ln_world.proofs.Promised.{both_true, brings_so, set_so, Keeps, IsToldOf, opening_tale, opened_told, keys_so}
+use Rattle.ln_world.proofs.Promised.{brings_so, set_so, Keeps, IsToldOf, opening_tale, opened_told, keys_so}
 use Rattle.ln_world.proofs.Promised.{happened}
 
 -- ---- a channel, where it is found

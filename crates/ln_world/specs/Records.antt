@@ -1,5 +1,5 @@
 -- That each end of a channel has a record, which it comes back from where its node restarts. What the steps bring is as
--- wide as it is in code, and a failure's reason has fewer than 65,536 bytes.
+-- wide as it is in code.
 use Rattle.std.specs.Prelude.{◌≡◌, ◌<◌, ◌≤◌, ◌^◌, ℕ, List, length}
 use Rattle.ln_keys.specs.declared.keys.ChannelKeys.{Ghosts}
 use Rattle.ln_keys.specs.Signer.{Signer}

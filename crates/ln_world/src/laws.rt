@@ -67,8 +67,7 @@ pub fn no_add_follows_a_shutdown<K: ChannelKeys + Copy>()
 
 /// A law: each end of a channel has a record, so that a node's restart never fails by 70 (BOLT 2, "Message
 /// Retransmission"). What the steps bring is as wide as it is in code: limits, and what commands bring, are numbers of
-/// 16, 32 and 64 bits, hashes and preimages of 32 bytes and onions of 1,366; secrets have 32 bytes. No type says that a
-/// failure's reason has fewer than 65,536 bytes, which is asked for too.
+/// 16, 32 and 64 bits, hashes and preimages of 32 bytes and onions of 1,366; secrets have 32 bytes.
 pub fn every_end_has_a_record<K: ChannelKeys + Copy>()
     ensures records { (steps : List (Step K K.ChannelKeys)) → BringFit K.ChannelKeys steps
         → AreSteps K.ChannelKeys steps → OfEach HaveRecords (run K.ChannelKeys steps empty) }
