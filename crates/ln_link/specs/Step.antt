@@ -63,6 +63,10 @@ signed_at keys l m (stage.AwaitsSigned e) =
     unless (first_fault keys e.dance m.signature) (record { line = l; stage = stage.Saved e; outputs = [] })
 signed_at keys l m s = Err refusal.OutOfPlace
 
+abbrev pub saved : Stage → Stage
+saved (stage.AwaitsSigned e) = stage.Saved e
+saved s = s
+
 abbrev pub opening_at : Signer → Line → Message → Stage → Result Done Refusal
 opening_at keys l (message.OpenChannel m) s = open_at keys l m s
 opening_at keys l (message.AcceptChannel m) s = accept_at keys l m s
@@ -228,7 +232,8 @@ MovesEnd said answer l l' e e' =
     Leaves Lacks (λ h. record { line = l'; stage = stage.Saved e'; outputs = all_of h }) (λ r. (l' ≡ l) × (e' ≡ e)) said
     answer
 
--- a stage of the opening, which is replaced
-abbrev pub Replaces : {V : Type 0} → (V → Stage) → (V → Handed) → Line → Result Done Refusal → Result V Refusal → Type 0
-Replaces to handed l said answer =
-    Leaves Lacks (λ v. record { line = l; stage = to v; outputs = all_of (handed v) }) (λ e. fails e ≡ true) said answer
+-- a stage of the opening, which is replaced; where it refuses, the channel fails
+abbrev pub Becomes : Line → Result Done Refusal → Result Handed Refusal → Stage → Type 0
+Becomes l said answer s' =
+    Leaves Lacks (λ h. record { line = l; stage = s'; outputs = all_of h }) (λ e. (fails e ≡ true) × (s' ≡ stage.Gone)) said
+    answer

@@ -27,10 +27,14 @@ impl<K: ChannelKeys + Drop> Link<K> {
             → AnsweredMessage (λ v. v.items) (handled (K.signer l.keys) l message) l result self.new }
     {
         if self.halted {
+            drop(message);
             return Err(Refusal::Halted);
         }
         match self.failure {
-            Some(failure) => return Err(failure),
+            Some(failure) => {
+                drop(message);
+                return Err(failure);
+            }
             None => {}
         }
         match self.take(alloc, message) {
@@ -58,10 +62,14 @@ impl<K: ChannelKeys + Drop> Link<K> {
             result self.old self.new }
     {
         if self.stage.is_passed_over(&message) {
+            drop(message);
             return Ok(Outbox::new(alloc));
         }
         match self.stage.message_refusal(self.line, &message) {
-            Some(refusal) => return Err(refusal),
+            Some(refusal) => {
+                drop(message);
+                return Err(refusal);
+            }
             None => {}
         }
         self.stage.take(alloc, &self.keys, &mut self.line, message)
@@ -79,13 +87,18 @@ impl<K: ChannelKeys + Drop> Link<K> {
             → Answered (λ v. v.items) (commanded (K.signer l.keys) l command) l result self.new }
     {
         if self.halted {
+            drop(command);
             return Err(Refusal::Halted);
         }
         if command.is_of_records() {
+            drop(command);
             return Err(Refusal::NotReady);
         }
         match self.failure {
-            Some(stored) => return Err(stored),
+            Some(stored) => {
+                drop(command);
+                return Err(stored);
+            }
             None => {}
         }
         match self.obey(alloc, command) {

@@ -6,6 +6,7 @@ mod channel;
 mod command;
 mod commands;
 mod config;
+mod deep;
 mod handle;
 mod ledger;
 mod link;

@@ -446,13 +446,21 @@ pub fn take_accept<K: ChannelKeys>(
 {
     let spec = spec.into_spec();
     if !spec.is_agreed(&accept) {
+        drop(spec);
+        drop(accept);
         return Err(Refusal::OutOfPlace);
     }
     let temporary_id = spec.temporary_id;
     let funding_txid = spec.txid;
     let output_index = spec.output;
     let end = funder_end(alloc, keys, spec, accept);
-    let signature = sign_first(alloc, keys, &end.dance)?;
+    let signature = match sign_first(alloc, keys, &end.dance) {
+        Ok(signature) => signature,
+        Err(refusal) => {
+            drop(end);
+            return Err(refusal);
+        }
+    };
     let message = FundingCreated {
         temporary_id,
         funding_txid,
@@ -482,14 +490,31 @@ pub fn take_created<K: ChannelKeys>(
 {
     let Agreed { fees, terms } = agreed;
     if created.temporary_id != terms.open_channel.temporary_id {
+        drop(terms);
+        drop(created);
         return Err(Refusal::OutOfPlace);
     }
     let channel = channel_id(&created.funding_txid, created.output_index);
     let end = opened_by(alloc, Role::Fundee, channel, fees, terms);
-    check_first(alloc, keys, &end.dance, &created.signature)?;
+    let checked = check_first(alloc, keys, &end.dance, &created.signature);
+    drop(created);
+    match checked {
+        Ok(()) => {}
+        Err(refusal) => {
+            drop(end);
+            return Err(refusal);
+        }
+    }
+    let signature = match sign_first(alloc, keys, &end.dance) {
+        Ok(signature) => signature,
+        Err(refusal) => {
+            drop(end);
+            return Err(refusal);
+        }
+    };
     let message = FundingSigned {
         channel_id: channel,
-        signature: sign_first(alloc, keys, &end.dance)?,
+        signature,
         records: Records::empty(alloc),
     };
     Ok((end, message))

@@ -1,17 +1,21 @@
 //! What a message makes of each stage of a link.
 
-ghost use Rattle.std.specs.Prelude.{◌≡◌};
+ghost use Rattle.std.specs.Prelude.{◌≡◌, false};
 ghost use Rattle.ln_link.specs.Naming.{named};
 ghost use Rattle.ln_link.specs.Failing.{fails};
 ghost use Rattle.ln_link.specs.Step.{opening_at, open_at, accept_at, created_at, signed_at, saved_at};
+ghost use Rattle.ln_link.specs.State.{is_saved};
 ghost use Rattle.ln_link.specs.declared.link.Line.TheVariants as lines;
+ghost use Rattle.ln_link.specs.declared.link.Stage.TheVariants as stages;
 ghost use Rattle.ln_link.specs.Resume.{resume_row};
-ghost use Rattle.ln_link.specs.Step.{error_fault, turned, obeyed_open, awaiting_at, Replaces, MovesEnd};
+ghost use Rattle.ln_link.specs.Step.{error_fault, turned, obeyed_open, awaiting_at, saved, Becomes, Moves, MovesEnd};
 
 use crate::channel::Channel;
 use crate::command::Command;
+use crate::config::{FitConfig, FitSpec};
+use crate::deep::put;
 use crate::link::{Line, Stage};
-use crate::opening::{take_accept, take_created, take_open};
+use crate::opening::{Agreed, take_accept, take_created, take_open};
 use crate::output::{Outbox, one};
 use ln_dance::Numbers;
 use ln_keys::ChannelKeys;
@@ -68,10 +72,10 @@ const NO_NUMBERS: Numbers = Numbers {
 };
 
 impl Stage {
-    ghost use Rattle.std.specs.Prelude.{◌≡◌, false};
+    ghost use Rattle.std.specs.Prelude.{◌≡◌};
     ghost use Rattle.ln_link.specs.Naming.{channel_of, temporary_of, is_meant, is_other};
     ghost use Rattle.ln_link.specs.State.{is_saved, lost, cut, numbers_of};
-    ghost use Rattle.ln_link.specs.Step.{is_passed_over, stray_fault, message_fault, stage_row, opening_at, Moves};
+    ghost use Rattle.ln_link.specs.Step.{is_passed_over, stray_fault, message_fault, stage_row, Moves};
 
     // The numbers of its end's commitments.
     pub(crate) fn numbers(&self) -> Numbers
@@ -99,7 +103,7 @@ impl Stage {
         ensures { self.new ≡ lost self.old }
     {
         if !self.is_saved() {
-            *self = Stage::Gone;
+            put(self, Stage::Gone);
         }
     }
 
@@ -109,7 +113,7 @@ impl Stage {
     {
         match self {
             Stage::Saved(channel) => channel.drop_unsigned(),
-            _ => *self = Stage::Gone,
+            _ => put(self, Stage::Gone),
         }
     }
 
@@ -191,24 +195,6 @@ impl Stage {
         }
     }
 
-    // A stage of the opening takes a message, and is replaced.
-    fn take_opening<K: ChannelKeys>(
-        &mut self,
-        alloc: Global,
-        keys: &K,
-        line: &mut Line,
-        message: Message,
-    ) -> Result<Outbox, Refusal>
-        requires { is_saved self.old ≡ false }
-        ensures { Moves (opening_at (K.signer keys.now) line.old message self.old)
-            result line.old line.new self.old self.new }
-    {
-        let stage = mem::replace(self, Stage::Gone);
-        let (next, outbox) = opened_by(alloc, keys, *line, stage, message)?;
-        *self = next;
-        Ok(outbox)
-    }
-
     /// Takes a message that is of the link's channel.
     pub(crate) fn take<K: ChannelKeys>(
         &mut self,
@@ -222,29 +208,33 @@ impl Stage {
     {
         match self {
             Stage::Saved(channel) => take_saved(alloc, keys, line, channel, message),
-            _ => self.take_opening(alloc, keys, line, message),
+            _ => opened_by(alloc, keys, *line, self, message),
         }
     }
 }
 
 // ---- a channel that is being opened
 
-// By message: each has its stage.
+// By message: each has its stage, which is replaced.
 fn opened_by<K: ChannelKeys>(
     alloc: Global,
     keys: &K,
     line: Line,
-    stage: Stage,
+    stage: &mut Stage,
     message: Message,
-) -> Result<(Stage, Outbox), Refusal>
-    ensures { Replaces (λ r. r.0) (λ r. r.1) line (opening_at (K.signer keys.now) line message stage) result }
+) -> Result<Outbox, Refusal>
+    requires { is_saved stage.old ≡ false }
+    ensures { Moves (opening_at (K.signer keys.now) line message stage.old) result line line stage.old stage.new }
 {
     match message {
         Message::OpenChannel(open) => opened_by_open(alloc, keys, line, stage, open),
         Message::AcceptChannel(accept) => opened_by_accept(alloc, keys, line, stage, accept),
         Message::FundingCreated(created) => opened_by_created(alloc, keys, line, stage, created),
-        Message::FundingSigned(signed) => opened_by_signed(alloc, keys, line, stage, signed),
-        _ => Err(Refusal::OutOfPlace),
+        Message::FundingSigned(signed) => opened_by_signed(alloc, keys, line, stage, &signed),
+        other => {
+            drop(other);
+            Err(Refusal::OutOfPlace)
+        }
     }
 }
 
@@ -252,74 +242,138 @@ fn opened_by_open<K: ChannelKeys>(
     alloc: Global,
     keys: &K,
     line: Line,
-    stage: Stage,
+    stage: &mut Stage,
     message: OpenChannel,
-) -> Result<(Stage, Outbox), Refusal>
-    ensures { Replaces (λ r. r.0) (λ r. r.1) line (open_at (K.signer keys.now) line message stage) result }
+) -> Result<Outbox, Refusal>
+    requires { is_saved stage.old ≡ false }
+    ensures { Moves (open_at (K.signer keys.now) line message stage.old) result line line stage.old stage.new }
 {
-    match stage {
-        Stage::AwaitsOpen(config) => {
-            let (agreed, accept) = take_open(alloc, keys, config, message)?;
-            let outbox = one(alloc, Message::AcceptChannel(accept))?;
-            Ok((Stage::AwaitsCreated(agreed), outbox))
+    match mem::replace(stage, Stage::Gone) {
+        Stage::AwaitsOpen(config) => agree(alloc, keys, line, stage, config, message),
+        other => {
+            drop(other);
+            Err(Refusal::OutOfPlace)
         }
-        _ => Err(Refusal::OutOfPlace),
     }
+}
+
+fn agree<K: ChannelKeys>(
+    alloc: Global,
+    keys: &K,
+    line: Line,
+    stage: &mut Stage,
+    config: FitConfig,
+    message: OpenChannel,
+) -> Result<Outbox, Refusal>
+    requires { stage.old ≡ stages.Gone }
+    ensures { Becomes line (open_at (K.signer keys.now) line message (stages.AwaitsOpen config)) result stage.new }
+{
+    let (agreed, accept) = take_open(alloc, keys, config, message)?;
+    put(stage, Stage::AwaitsCreated(agreed));
+    one(alloc, Message::AcceptChannel(accept))
 }
 
 fn opened_by_accept<K: ChannelKeys>(
     alloc: Global,
     keys: &K,
     line: Line,
-    stage: Stage,
+    stage: &mut Stage,
     message: AcceptChannel,
-) -> Result<(Stage, Outbox), Refusal>
-    ensures { Replaces (λ r. r.0) (λ r. r.1) line (accept_at (K.signer keys.now) line message stage) result }
+) -> Result<Outbox, Refusal>
+    requires { is_saved stage.old ≡ false }
+    ensures { Moves (accept_at (K.signer keys.now) line message stage.old) result line line stage.old stage.new }
 {
-    match stage {
-        Stage::AwaitsAccept(spec) => {
-            let (opened, created) = take_accept(alloc, keys, spec, message)?;
-            let outbox = one(alloc, Message::FundingCreated(created))?;
-            Ok((Stage::AwaitsSigned(Channel::new(alloc, opened)), outbox))
+    match mem::replace(stage, Stage::Gone) {
+        Stage::AwaitsAccept(spec) => fund(alloc, keys, line, stage, spec, message),
+        other => {
+            drop(other);
+            Err(Refusal::OutOfPlace)
         }
-        _ => Err(Refusal::OutOfPlace),
     }
+}
+
+fn fund<K: ChannelKeys>(
+    alloc: Global,
+    keys: &K,
+    line: Line,
+    stage: &mut Stage,
+    spec: FitSpec,
+    message: AcceptChannel,
+) -> Result<Outbox, Refusal>
+    requires { stage.old ≡ stages.Gone }
+    ensures { Becomes line (accept_at (K.signer keys.now) line message (stages.AwaitsAccept spec)) result stage.new }
+{
+    let (opened, created) = take_accept(alloc, keys, spec, message)?;
+    put(stage, Stage::AwaitsSigned(Channel::new(alloc, opened)));
+    one(alloc, Message::FundingCreated(created))
 }
 
 fn opened_by_created<K: ChannelKeys>(
     alloc: Global,
     keys: &K,
     line: Line,
-    stage: Stage,
+    stage: &mut Stage,
     message: FundingCreated,
-) -> Result<(Stage, Outbox), Refusal>
-    ensures { Replaces (λ r. r.0) (λ r. r.1) line (created_at (K.signer keys.now) line message stage) result }
+) -> Result<Outbox, Refusal>
+    requires { is_saved stage.old ≡ false }
+    ensures { Moves (created_at (K.signer keys.now) line message stage.old) result line line stage.old stage.new }
 {
-    match stage {
-        Stage::AwaitsCreated(agreed) => {
-            let (opened, signed) = take_created(alloc, keys, agreed, message)?;
-            let outbox = one(alloc, Message::FundingSigned(signed))?;
-            Ok((Stage::Saved(Channel::new(alloc, opened)), outbox))
+    match mem::replace(stage, Stage::Gone) {
+        Stage::AwaitsCreated(agreed) => sign(alloc, keys, line, stage, agreed, message),
+        other => {
+            drop(other);
+            Err(Refusal::OutOfPlace)
         }
-        _ => Err(Refusal::OutOfPlace),
     }
+}
+
+fn sign<K: ChannelKeys>(
+    alloc: Global,
+    keys: &K,
+    line: Line,
+    stage: &mut Stage,
+    agreed: Agreed,
+    message: FundingCreated,
+) -> Result<Outbox, Refusal>
+    requires { stage.old ≡ stages.Gone }
+    ensures { Becomes line (created_at (K.signer keys.now) line message (stages.AwaitsCreated agreed)) result stage.new }
+{
+    let (opened, signed) = take_created(alloc, keys, agreed, message)?;
+    put(stage, Stage::Saved(Channel::new(alloc, opened)));
+    one(alloc, Message::FundingSigned(signed))
 }
 
 fn opened_by_signed<K: ChannelKeys>(
     alloc: Global,
     keys: &K,
     line: Line,
-    stage: Stage,
-    message: FundingSigned,
-) -> Result<(Stage, Outbox), Refusal>
-    ensures { Replaces (λ r. r.0) (λ r. r.1) line (signed_at (K.signer keys.now) line message stage) result }
+    stage: &mut Stage,
+    message: &FundingSigned,
+) -> Result<Outbox, Refusal>
+    ensures { Moves (signed_at (K.signer keys.now) line message.now stage.old) result line line stage.old stage.new }
 {
     match stage {
-        Stage::AwaitsSigned(channel) => {
-            channel.check_funding(alloc, keys, &message)?;
-            Ok((Stage::Saved(channel), Outbox::new(alloc)))
-        }
-        _ => Err(Refusal::OutOfPlace),
+        Stage::AwaitsSigned(channel) => channel.check_funding(alloc, keys, message)?,
+        _ => return Err(Refusal::OutOfPlace),
+    }
+    save(stage);
+    Ok(Outbox::new(alloc))
+}
+
+// The opening is signed by both.
+fn save(stage: &mut Stage)
+    ensures { stage.new ≡ saved stage.old }
+{
+    let signed = mem::replace(stage, Stage::Gone);
+    put(stage, saved(signed));
+}
+
+fn saved(stage: Stage) -> Stage
+    ensures { result ≡ saved stage }
+{
+    match stage {
+        Stage::AwaitsSigned(channel) => Stage::Saved(channel),
+        other => other,
     }
 }
 
@@ -357,7 +411,10 @@ fn take_awaited<K: ChannelKeys>(
         Message::ChannelReestablish(reestablish) => {
             take_reestablish(alloc, keys, line, channel, &reestablish)
         }
-        _ => Err(Refusal::OutOfPlace),
+        other => {
+            drop(other);
+            Err(Refusal::OutOfPlace)
+        }
     }
 }
 
@@ -395,10 +452,14 @@ pub(crate) fn obey_open<K: ChannelKeys>(
         result line line channel.old channel.new }
 {
     match channel.unready_refusal(&command) {
-        Some(refusal) => return Err(refusal),
+        Some(refusal) => {
+            drop(command);
+            return Err(refusal);
+        }
         None => {}
     }
     if !line.is_met() {
+        drop(command);
         return Err(Refusal::Disconnected);
     }
     channel.command(alloc, keys, command)

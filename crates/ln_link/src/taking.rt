@@ -269,7 +269,10 @@ impl Channel {
             Message::RevokeAndAck(revocation) => self.take_revocation(alloc, keys, &revocation),
             Message::Shutdown(shutdown) => self.take_shutdown(alloc, &shutdown),
             Message::ClosingSigned(closing) => self.take_fee(alloc, keys, &closing),
-            _ => Err(Refusal::OutOfPlace),
+            other => {
+                drop(other);
+                Err(Refusal::OutOfPlace)
+            }
         }
     }
 
