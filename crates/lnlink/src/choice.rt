@@ -3,49 +3,32 @@
 ghost use Rattle.std.specs.Prelude.{◌≡◌, ◌⊎◌, IfErr};
 ghost use Rattle.ln_msgs.specs.declared.refusals.refusal.Refusal.TheVariants.{Memory};
 
-use crate::failure::Failure;
 use clap::error::ErrorKind;
-use clap::{Arg, ArgAction, Command};
+use clap::{Arg, ArgAction, ArgMatches, Command};
+use ln_commands::{Choice, Failure};
 use ln_msgs::Refusal;
-use std::alloc::Global;
+use std::alloc::{AllocError, Global};
 
-/// What to run.
-#[derive(Debug, Drop, PartialEq, Eq)]
-pub enum Choice {
-    /// Answer the pings on standard input.
-    Answer,
-    /// Print the message that this text spells in hexadecimal.
-    Decode(String),
-    /// Run the script on standard input.
-    Simulate,
-}
-
-/// The command that the words behind the program's name are: `answer`, `decode` and a text, or `sim`. Takes memory.
-///
-/// Other words, none at all and a call for help are usage; 60 where there is no memory for the parse.
-pub fn choose(alloc: Global, words: &[String]) -> Result<Choice, Failure>
-    ensures { IfErr result (λ e. (e ≡ Failure.Usage) ⊎ (e ≡ Failure.Refused Memory)) }
-{
+/// The program's commands, as the command line crate reads them.
+fn commands<'a>(alloc: Global) -> Result<Command<'a>, AllocError> {
     let hex = Arg::new(alloc, "hex")
         .required(true)
         .allow_hyphen_values(true)
         .action(ArgAction::Set);
-    let command = Command::new(alloc, "lnlink")
+    let decode = Command::new(alloc, "decode").arg(hex)?;
+    Command::new(alloc, "lnlink")
         .no_binary_name(true)
         .subcommand_required(true)
         .disable_help_subcommand(true)
+        .subcommand(decode)?
         .subcommand(Command::new(alloc, "answer"))?
-        .subcommand(Command::new(alloc, "decode").arg(hex)?)?
-        .subcommand(Command::new(alloc, "sim"))?;
-    let matches = match command.try_get_matches_from(words) {
-        Ok(matches) => matches,
-        Err(error) => {
-            return Err(match error.kind() {
-                ErrorKind::OutOfMemory => Failure::Refused(Refusal::Memory),
-                _ => Failure::Usage,
-            });
-        }
-    };
+        .subcommand(Command::new(alloc, "sim"))
+}
+
+/// What the words that were read choose.
+fn chosen(alloc: Global, matches: &ArgMatches) -> Result<Choice, Failure>
+    ensures { IfErr result (λ e. (e ≡ Failure.Usage) ⊎ (e ≡ Failure.Refused Memory)) }
+{
     match matches.subcommand() {
         Some(("answer", _)) => Ok(Choice::Answer),
         Some(("sim", _)) => Ok(Choice::Simulate),
@@ -54,5 +37,29 @@ pub fn choose(alloc: Global, words: &[String]) -> Result<Choice, Failure>
             None => Err(Failure::Usage),
         },
         _ => Err(Failure::Usage),
+    }
+}
+
+/// The command that the words behind the program's name are: `answer`, `decode` and a text, or `sim`. Takes memory.
+///
+/// Other words, none at all and a call for help are usage; 60 where there is no memory for the parse.
+pub fn choose(alloc: Global, words: &[String]) -> Result<Choice, Failure>
+    ensures { IfErr result (λ e. (e ≡ Failure.Usage) ⊎ (e ≡ Failure.Refused Memory)) }
+{
+    let command = commands(alloc)?;
+    match command.try_get_matches_from(words) {
+        Ok(matches) => {
+            let choice = chosen(alloc, &matches);
+            drop(matches);
+            choice
+        }
+        Err(error) => {
+            let kind = error.kind();
+            drop(error);
+            match kind {
+                ErrorKind::OutOfMemory => Err(Failure::Refused(Refusal::Memory)),
+                _ => Err(Failure::Usage),
+            }
+        }
     }
 }

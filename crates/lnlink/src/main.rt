@@ -2,15 +2,9 @@
 #![tactic(auto)]
 
 mod choice;
-mod commands;
-mod failure;
-mod input;
-mod simulation;
-mod text;
 
 use choice::choose;
-use commands::perform;
-use failure::Failure;
+use ln_commands::{Failure, perform};
 use ln_msgs::{Counted, Refusal};
 use std::env::Env;
 use std::io::ErrorKind;

@@ -1,7 +1,7 @@
 -- The exit status of each failure.
 use Rattle.std.specs.Prelude.{ℕ}
-use Rattle.lnlink.specs.declared.failure.Failure.{Failure}
-use Rattle.lnlink.specs.declared.failure.Failure.TheVariants.{Usage, NotHex, Refused}
+use Rattle.ln_commands.specs.declared.failure.Failure.{Failure}
+use Rattle.ln_commands.specs.declared.failure.Failure.TheVariants.{Usage, NotHex, Refused}
 
 abbrev pub status_of : Failure → ℕ
 status_of Usage = 2

@@ -1,7 +1,7 @@
 use Rattle.std.proofs.Common.{◌≡◌, ◌++◌, ℕ, List, [], Option, Some, None, Ok, IfSome, arith, sym, ap, ◌∙◌}
 use Rattle.std.proofs.lemmas.List.{append-nil}
 use Rattle.std.specs.Io.KnownBytes.{Keeps, IsAtEnd, prepend_known}
-use Rattle.lnlink.proofs.input.read_all.Goals as goal
+use Rattle.ln_commands.proofs.input.read_all.Goals as goal
 
 -- what is kept of what is kept
 kept_on : (a b c : Option (List ℕ)) → Keeps a b → Keeps b c → Keeps a c

@@ -2,7 +2,7 @@
 
 ghost use Rattle.std.specs.Prelude.{◌≡◌, ◌⊎◌, MatchResult, Ok, Err, string_bytes};
 ghost use Rattle.ln_msgs.specs.declared.refusals.refusal.Refusal.TheVariants.{Memory};
-ghost use Rattle.lnlink.specs.Text.{decoded};
+ghost use Rattle.ln_commands.specs.Text.{decoded};
 
 use crate::failure::Failure;
 use hex::FromHexError;

@@ -4,7 +4,7 @@ use Rattle.std.proofs.KnownBytes.{Appends-nil}
 use Rattle.std.specs.Str.{is_utf8, IsUtf8}
 use Rattle.std.proofs.lemmas.Bool.{cases_Bool}
 use Rattle.std.proofs.lemmas.Str.{IsUtf8-from_is_utf8}
-use Rattle.lnlink.specs.Printed.{PrintsPartly}
+use Rattle.ln_commands.specs.Printed.{PrintsPartly}
 
 -- where nothing was written, it is a beginning of any text
 pub nothing_printed : {E : Type 0} (writer : Option (List ℕ)) (r : Result (List ℕ) E) → PrintsPartly writer writer r

@@ -6,8 +6,8 @@ use Rattle.ln_bytes.specs.declared.fault.Fault.{Fault}
 use Rattle.ln_msgs.specs.Messages.Message.{Heard, message_at}
 use Rattle.ln_msgs.specs.Refusals.Refusal.{refusal_of}
 use Rattle.ln_script.specs.MessageText.{heard_text}
-use Rattle.lnlink.specs.declared.failure.Failure.{Failure}
-use Rattle.lnlink.specs.declared.failure.Failure.TheVariants.{NotHex, Refused}
+use Rattle.ln_commands.specs.declared.failure.Failure.{Failure}
+use Rattle.ln_commands.specs.declared.failure.Failure.TheVariants.{NotHex, Refused}
 
 abbrev pub read_text : Result Heard Fault → Result (List ℕ) Failure
 read_text (Ok h) = Ok (heard_text h)

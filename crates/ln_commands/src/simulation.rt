@@ -6,7 +6,7 @@ ghost use Rattle.ln_msgs.specs.declared.refusals.refusal.Refusal.TheVariants.{Me
 ghost use Rattle.ln_msgs.specs.Pings.Counted.{HasRisen};
 ghost use Rattle.ln_msgs.specs.Pings.CountedView.{inner_of, failures_of};
 ghost use Rattle.ln_script.specs.Report.{simulated};
-ghost use Rattle.lnlink.specs.Printed.{Prints, PrintsPartly};
+ghost use Rattle.ln_commands.specs.Printed.{Prints, PrintsPartly};
 
 use crate::failure::Failure;
 use ln_msgs::{Counted, Refusal};

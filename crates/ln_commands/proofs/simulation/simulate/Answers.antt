@@ -1,6 +1,6 @@
 use Rattle.ln_script.specs.Report.{simulated}
-use Rattle.lnlink.proofs.Printing.{nothing_printed}
-use Rattle.lnlink.proofs.simulation.simulate.Goals as goal
+use Rattle.ln_commands.proofs.Printing.{nothing_printed}
+use Rattle.ln_commands.proofs.simulation.simulate.Goals as goal
 
 pub returns-in_err-steps-clause-front : goal.returns-in_err-steps-clause-front
 returns-in_err-steps-clause-front g c =

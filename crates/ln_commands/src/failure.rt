@@ -20,7 +20,7 @@ pub enum Failure {
 
 impl Failure {
     ghost use Rattle.std.specs.Prelude.{◌≡◌};
-    ghost use Rattle.lnlink.specs.Failure.{status_of};
+    ghost use Rattle.ln_commands.specs.Failure.{status_of};
 
     /// The program's exit status.
     pub fn status(&self) -> u8
@@ -36,7 +36,7 @@ impl Failure {
 
 impl From<Refusal> for Failure {
     ghost use Rattle.std.specs.Prelude.{◌≡◌};
-    ghost use Rattle.lnlink.specs.declared.failure.Failure.TheVariants.{Refused};
+    ghost use Rattle.ln_commands.specs.declared.failure.Failure.TheVariants.{Refused};
 
     ghost from_gives = { λ refusal e. e ≡ Refused refusal };
 
@@ -47,7 +47,7 @@ impl From<Refusal> for Failure {
 
 impl From<AllocError> for Failure {
     ghost use Rattle.std.specs.Prelude.{◌≡◌};
-    ghost use Rattle.lnlink.specs.declared.failure.Failure.TheVariants.{Refused};
+    ghost use Rattle.ln_commands.specs.declared.failure.Failure.TheVariants.{Refused};
     ghost use Rattle.ln_msgs.specs.declared.refusals.refusal.Refusal.TheVariants.{Memory};
 
     ghost from_gives = { λ _ e. e ≡ Refused Memory };
@@ -59,7 +59,7 @@ impl From<AllocError> for Failure {
 
 impl<T: Drop> From<AllocFailed<T>> for Failure {
     ghost use Rattle.std.specs.Prelude.{◌≡◌};
-    ghost use Rattle.lnlink.specs.declared.failure.Failure.TheVariants.{Refused};
+    ghost use Rattle.ln_commands.specs.declared.failure.Failure.TheVariants.{Refused};
     ghost use Rattle.ln_msgs.specs.declared.refusals.refusal.Refusal.TheVariants.{Memory};
 
     ghost from_gives = { λ _ e. e ≡ Refused Memory };

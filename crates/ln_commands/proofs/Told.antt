@@ -8,10 +8,10 @@ use Rattle.ln_msgs.specs.declared.refusals.refusal.Refusal.{Refusal}
 use Rattle.ln_msgs.specs.declared.refusals.refusal.Refusal.TheVariants.{Memory}
 use Rattle.ln_msgs.specs.Messages.Message.{Heard, message_at}
 use Rattle.ln_msgs.specs.Refusals.Refusal.{refusal_of}
-use Rattle.lnlink.specs.declared.failure.Failure.{Failure}
-use Rattle.lnlink.specs.declared.failure.Failure.TheVariants.{NotHex, Refused}
+use Rattle.ln_commands.specs.declared.failure.Failure.{Failure}
+use Rattle.ln_commands.specs.declared.failure.Failure.TheVariants.{NotHex, Refused}
 use Rattle.ln_script.specs.MessageText.{heard_text}
-use Rattle.lnlink.specs.Text.{read_text, spelled_text, decoded}
+use Rattle.ln_commands.specs.Text.{read_text, spelled_text, decoded}
 
 pub is_memory : (f : Fault) → (f ≢ faults.Memory) ⊎ (f ≡ faults.Memory)
 is_memory faults.Memory = inr refl

@@ -2,7 +2,7 @@
 use Rattle.std.proofs.Common.{◌≤◌, ◌-◌, ◌^◌, length}
 use Rattle.std.specs.Io.KnownBytes.{Keeps, prepend_known}
 use Rattle.ln_msgs.specs.Pings.CountedView.{inner_of, failures_of}
-use Rattle.lnlink.proofs.input.read_all.Given as goal
+use Rattle.ln_commands.proofs.input.read_all.Given as goal
 
 abbrev pub invariant-reads : goal.invariant-reads
 invariant-reads g l = record {

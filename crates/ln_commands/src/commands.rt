@@ -4,9 +4,9 @@ ghost use Rattle.std.specs.Prelude.{◌≡◌, ◌⊎◌, ◌+◌, ℕ, Err, OnO
 ghost use Rattle.ln_msgs.specs.declared.refusals.refusal.Refusal.TheVariants.{Memory, Io, BadScript};
 ghost use Rattle.ln_msgs.specs.Pings.Counted.{HasRisen};
 ghost use Rattle.ln_msgs.specs.Pings.CountedView.{inner_of, failures_of, calls_of};
-ghost use Rattle.lnlink.specs.Printed.{Prints, PrintsPartly};
-ghost use Rattle.lnlink.specs.Text.{decoded};
-ghost use Rattle.lnlink.specs.Done.{simulated_bytes, Does, DoesPartly, StopsBy, HasFailed};
+ghost use Rattle.ln_commands.specs.Printed.{Prints, PrintsPartly};
+ghost use Rattle.ln_commands.specs.Text.{decoded};
+ghost use Rattle.ln_commands.specs.Done.{simulated_bytes, Does, DoesPartly, StopsBy, HasFailed};
 
 use crate::choice::Choice;
 use crate::failure::Failure;

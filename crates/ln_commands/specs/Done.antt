@@ -9,12 +9,12 @@ use Rattle.ln_msgs.specs.Refusals.Refusal.{refusal_of}
 use Rattle.ln_msgs.specs.Pings.Counted.{HasRisen}
 use Rattle.ln_msgs.specs.Pings.Answered.{AnswersAll, AnswersUpTo, AnswersSome}
 use Rattle.ln_script.specs.Report.{simulated}
-use Rattle.lnlink.specs.declared.choice.Choice.{Choice}
-use Rattle.lnlink.specs.declared.choice.Choice.TheVariants as choice
-use Rattle.lnlink.specs.declared.failure.Failure.{Failure}
-use Rattle.lnlink.specs.declared.failure.Failure.TheVariants.{Refused}
-use Rattle.lnlink.specs.Printed.{Prints, PrintsPartly}
-use Rattle.lnlink.specs.Text.{decoded}
+use Rattle.ln_commands.specs.declared.choice.Choice.{Choice}
+use Rattle.ln_commands.specs.declared.choice.Choice.TheVariants as choice
+use Rattle.ln_commands.specs.declared.failure.Failure.{Failure}
+use Rattle.ln_commands.specs.declared.failure.Failure.TheVariants.{Refused}
+use Rattle.ln_commands.specs.Printed.{Prints, PrintsPartly}
+use Rattle.ln_commands.specs.Text.{decoded}
 
 -- the report of a script's bytes, or the number of its first bad line; 0 where they aren't UTF-8
 abbrev pub simulated_bytes : List ℕ → Result (List ℕ) ℕ

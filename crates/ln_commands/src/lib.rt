@@ -1,0 +1,18 @@
+//! What each command of the program does, over any reader and writer.
+#![tactic(auto)]
+
+mod choice;
+mod commands;
+mod failure;
+mod input;
+mod simulation;
+mod text;
+
+pub use choice::Choice;
+pub use commands::perform;
+pub use failure::Failure;
+pub use simulation::{script_text, simulate};
+pub use text::decode_text;
+
+#[cfg(test)]
+mod tests;
