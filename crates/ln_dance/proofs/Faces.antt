@@ -12,9 +12,8 @@ use Rattle.ln_log.specs.declared.log.Pair.TheVariants as pair
 use Rattle.ln_log.specs.Updates.{all_sent}
 use Rattle.ln_log.specs.Log.{covered, counts_of, view_for}
 use Rattle.ln_log.specs.Machine.{Covered}
-use Rattle.ln_dance.specs.declared.dance.TheConstants.{LAST_NUMBER}
-use Rattle.ln_dance.specs.Dance.{Dancer, IsNumber, view_at, owes, is_last, signed_message, accept_fault}
-use Rattle.ln_dance.specs.Dance.{revoked_message, learn_fault, after_learn}
+use Rattle.ln_dance.specs.Dance.{Dancer, IsNumber, last_number, view_at, owes, is_last, signed_message}
+use Rattle.ln_dance.specs.Dance.{accept_fault, revoked_message, learn_fault, after_learn}
 use Rattle.ln_dance.specs.Exchange.{IsSignedFor, IsRevokedFor}
 use Rattle.ln_log.proofs.Sent.{turned_views}
 
@@ -30,7 +29,7 @@ view_faces k x y h =
     ∙ ap (λ o. view_for o y.log.role both) (sym h.opening)
 
 not_last : (n : ℕ) → IsNumber (n + 1) → is_last n ≡ false
-not_last n below = elim (eqb_tells n LAST_NUMBER) [
+not_last n below = elim (eqb_tells n last_number) [
   | inl g ↦
       absurd (let is = g.1 in omega (arith, below, is))
   | inr g ↦ g.0

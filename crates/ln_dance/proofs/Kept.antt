@@ -8,8 +8,7 @@ use Rattle.ln_msgs.specs.declared.refusals.refusal.Refusal.TheVariants as refusa
 use Rattle.ln_log.specs.Limits.{first_fault}
 use Rattle.ln_log.specs.Log.{Log, Counts, same_counts, after_accept, after_learn}
 use Rattle.ln_dance.specs.declared.dance.Numbers.{Numbers}
-use Rattle.ln_dance.specs.declared.dance.TheConstants.{LAST_NUMBER}
-use Rattle.ln_dance.specs.Dance.{Dancer, IsNumber, AreInStep, owes, is_last, sign_fault, with_log}
+use Rattle.ln_dance.specs.Dance.{Dancer, IsNumber, last_number, AreInStep, owes, is_last, sign_fault, with_log}
 
 -- ---- results
 
@@ -53,7 +52,7 @@ unless true r o e = absurd (cc)
 unless false r o e = (refl, e)
 
 not_last : (n : ℕ) → IsNumber n → is_last n ≡ false → IsNumber (n + 1)
-not_last n lt e = elim (eqb_tells n LAST_NUMBER) [
+not_last n lt e = elim (eqb_tells n last_number) [
   | inl g ↦ absurd (let is : true ≡ false = sym g.0 ∙ e in cc)
   | inr g ↦ (let differ = g.1 in omega (arith, lt, differ))
 ]
@@ -89,10 +88,10 @@ kept_signed d m n k e en =
 
 -- ---- accepting
 
-pub next_below : (n : ℕ) → IsNumber n → n ≢ LAST_NUMBER → IsNumber (n + 1)
+pub next_below : (n : ℕ) → IsNumber n → n ≢ last_number → IsNumber (n + 1)
 next_below n lt differ = omega (arith, lt, differ)
 
-pub kept_accepted : (n : Numbers) (l m : Log) → AreInStep n l → n.commitment ≢ LAST_NUMBER → m ≡ after_accept l
+pub kept_accepted : (n : Numbers) (l m : Log) → AreInStep n l → n.commitment ≢ last_number → m ≡ after_accept l
     → AreInStep (record n { commitment = n.commitment + 1 }) m
 kept_accepted n l m k differ em =
     subst (AreInStep (record n { commitment = n.commitment + 1 })) (sym em) (record {

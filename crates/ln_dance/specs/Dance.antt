@@ -1,5 +1,5 @@
 -- What one side of the dance keeps, and what each call makes of it (BOLT 2, "Normal Operation").
-use Rattle.std.specs.Prelude.{◌≡◌, ℕ, ◌+◌, ◌≤◌, List, [], Bool, true, not, ◌==◌, Option, Some, None}
+use Rattle.std.specs.Prelude.{◌≡◌, ℕ, ◌+◌, ◌-◌, ◌^◌, ◌≤◌, List, [], Bool, true, not, ◌==◌, Option, Some, None}
 use Rattle.std.specs.Prelude.{Result, Ok, Err, if◌then◌else◌}
 use Rattle.ln_bytes.specs.Answers.{Refuses}
 use Rattle.ln_msgs.specs.declared.messages.commitments.CommitmentSigned.{CommitmentSigned}
@@ -13,7 +13,6 @@ use Rattle.ln_log.specs.declared.log.Pair.TheVariants as pair
 use Rattle.ln_log.specs.Limits.{first_fault}
 use Rattle.ln_log.specs.Log as log
 use Rattle.ln_log.specs.Log.{Log, covered, counts_of, view_for, same_counts}
-use Rattle.ln_dance.specs.declared.dance.TheConstants.{LAST_NUMBER}
 use Rattle.ln_dance.specs.declared.dance.Later.{Later}
 use Rattle.ln_dance.specs.declared.dance.Later.TheVariants.{Signature, Revocation}
 use Rattle.ln_dance.specs.declared.dance.Numbers.{Numbers}
@@ -38,12 +37,15 @@ view_at p d = view_for d.log.opening d.log.role (covered d.log (counts_of p d.lo
 abbrev pub owes : Dancer → Bool
 owes d = not (d.numbers.signed == d.numbers.revoked)
 
--- a commitment may have this number (BOLT 3, "Per-commitment Secret Requirements")
+-- the last number that a commitment may have (BOLT 3, "Per-commitment Secret Requirements")
+abbrev pub last_number : ℕ
+last_number = 2 ^ 48 - 1
+
 abbrev pub IsNumber : ℕ → Type 0
-IsNumber n = n ≤ LAST_NUMBER
+IsNumber n = n ≤ last_number
 
 abbrev pub is_last : ℕ → Bool
-is_last n = n == LAST_NUMBER
+is_last n = n == last_number
 
 -- ---- signing
 

@@ -3,10 +3,9 @@
 use Rattle.std.specs.Prelude.{◌≡◌, ◌<◌, ◌⊎◌, ℕ, List, [], length, drop, map, Option, option_map, false}
 use Rattle.ln_bytes.specs.declared.short_id.ShortId.{ShortId}
 use Rattle.ln_bytes.specs.ShortId.{short_id_bytes}
-use Rattle.ln_msgs.specs.Messages.Message.{Wire, wire_bytes}
+use Rattle.ln_msgs.specs.Messages.Message.{Wire, wire_bytes, longest}
 use Rattle.ln_msgs.specs.Messages.Typed.{open_wire, accept_wire}
 use Rattle.ln_msgs.specs.Codec.Writing.{CanBeWritten}
-use Rattle.ln_msgs.specs.declared.codec.encoding.TheConstants.{LONGEST_MESSAGE}
 use Rattle.ln_msgs.specs.declared.refusals.refusal.Refusal.{Refusal}
 use Rattle.ln_keys.specs.declared.role.Role.{Role}
 use Rattle.ln_keys.specs.declared.role.Role.TheVariants.{Funder, Fundee}
@@ -145,7 +144,7 @@ items_of failure e = record {
 
 -- a message whose records may not stand behind its fields, or that is longer than a message may be
 abbrev pub IsUnwritable : Wire → Type 0
-IsUnwritable w = ¬ CanBeWritten w ⊎ (LONGEST_MESSAGE < length (wire_bytes w))
+IsUnwritable w = ¬ CanBeWritten w ⊎ (longest < length (wire_bytes w))
 
 -- a message of the opening can't be written
 unfoldable pub HasNoAgreement : End → Type 0

@@ -11,7 +11,7 @@ ghost use Rattle.ln_log.specs.Loading.{IsReadable};
 ghost use Rattle.ln_dance.specs.Dance.{AreInStep};
 ghost use Rattle.ln_close.specs.Closing.{AreOrdered};
 ghost use Rattle.ln_link.specs.Opening.{opening_of};
-ghost use Rattle.ln_link.specs.declared.ledger.TheConstants.{MOST_DECIDED};
+ghost use Rattle.ln_link.specs.Ledger.{most_decided};
 ghost use Rattle.ln_store.specs.Readable.{is_readable, is_open_payload, is_accept_payload};
 ghost use Rattle.ln_store.specs.Record.{record_at, record_bytes};
 ghost use Rattle.ln_store.specs.declared.record.Items.{Items};
@@ -247,7 +247,7 @@ fn events_in(alloc: Global, events: &[ln_store::EventRef]) -> Result<Vec<EventRe
 }
 
 fn ledger_of(alloc: Global, events: &Events) -> Result<EventLedger, Refusal>
-    requires { events.now.decided ≤ MOST_DECIDED }
+    requires { events.now.decided ≤ most_decided }
     ensures ledger { IfOk result (λ l. l ≡ ledger_of events.now) }
     ensures fails_for_memory_alone { IfErr result (λ r. r ≡ refusal.Memory) }
 {

@@ -16,10 +16,10 @@ use Rattle.ln_log.specs.Log.{after_propose, proposal_fault}
 use Rattle.ln_dance.specs.Dance.{sign_fault, after_sign, signed_message, with_log}
 use Rattle.ln_dance.specs.Messages.{update_message}
 use Rattle.ln_close.specs.Closing.{after_shut}
-use Rattle.ln_link.specs.declared.config.TheConstants.{LONGEST_SCRIPT}
 use Rattle.ln_link.specs.declared.command.Command.{Command}
 use Rattle.ln_link.specs.declared.command.Command.TheVariants as command
 use Rattle.ln_link.specs.declared.output.Output.TheVariants as output
+use Rattle.ln_link.specs.Config.{longest_script}
 use Rattle.ln_link.specs.Opening.{unless}
 use Rattle.ln_link.specs.End.{End, with_dance, is_ready, is_closed, all_acknowledged, Turn, sending, completed}
 use Rattle.ln_link.specs.End.{shutdown_message}
@@ -95,7 +95,7 @@ sign_row keys e = unless (sign_command_fault e) (record {
 
 -- the message has 36 bytes beside its script, and a message has 65,535 at most (7)
 abbrev pub script_fault : List ℕ → Option Refusal
-script_fault script = if nat_lt LONGEST_SCRIPT (length script) then Some (refusal.PeerLimit rule.TooLong) else None
+script_fault script = if nat_lt longest_script (length script) then Some (refusal.PeerLimit rule.TooLong) else None
 
 abbrev pub shut_fault : List ℕ → End → Option Refusal
 shut_fault script e =

@@ -1,15 +1,13 @@
 -- What an end is opened with, and which values may be used (BOLT 2, "Channel Establishment v1").
-use Rattle.std.specs.Prelude.{◌≤◌, length}
+use Rattle.std.specs.Prelude.{ℕ, ◌≤◌, length}
 use Rattle.ln_bytes.specs.Tlv.{stream_bytes}
 use Rattle.ln_msgs.specs.Messages.Table.{open_form}
 use Rattle.ln_msgs.specs.Codec.Writing.{MayFollow}
 use Rattle.ln_log.specs.declared.opening.Limits.{Limits}
 use Rattle.ln_log.specs.declared.opening.Opening.{Opening}
-use Rattle.ln_log.specs.Opening.{IsFit}
+use Rattle.ln_log.specs.Opening.{IsFit, most_htlcs}
 use Rattle.ln_close.specs.declared.closing.Fees.{Fees}
 use Rattle.ln_close.specs.Closing.{AreOrdered}
-use Rattle.ln_log.specs.declared.opening.TheConstants.{MOST_HTLCS}
-use Rattle.ln_link.specs.declared.config.TheConstants.{LONGEST_SCRIPT, LONGEST_RECORDS}
 use Rattle.ln_link.specs.declared.config.Config.{Config}
 use Rattle.ln_link.specs.declared.config.OpenSpec.{OpenSpec}
 
@@ -26,16 +24,23 @@ offered s fundee = record {
   fundee = fundee;
 }
 
--- No peer refuses it, and a shutdown with its script has 65,535 bytes at most: 36 of them beside the script.
-pub record IsFitConfig (c : Config) : Type 0 where
-  pub accepted : c.limits.accepted ≤ MOST_HTLCS
-  pub fees : AreOrdered (fees_of c)
-  pub script : length c.script ≤ LONGEST_SCRIPT
+-- The longest script that a shutdown can carry: a message has 65,535 bytes at most, and a shutdown 36 beside its script.
+abbrev pub longest_script : ℕ
+longest_script = 65499
 
--- No peer refuses it; the open_channel that it gives can be written and has 65,535 bytes at most: 321 of them beside
--- the records.
+-- The longest records that an open_channel can carry: it has 321 bytes beside them.
+abbrev pub longest_records : ℕ
+longest_records = 65214
+
+-- No peer refuses it, and a shutdown can carry its script.
+pub record IsFitConfig (c : Config) : Type 0 where
+  pub accepted : c.limits.accepted ≤ most_htlcs
+  pub fees : AreOrdered (fees_of c)
+  pub script : length c.script ≤ longest_script
+
+-- No peer refuses it, and the open_channel that it gives can be written.
 pub record IsFitSpec (s : OpenSpec) : Type 0 where
   pub config : IsFitConfig s.config
   pub opening : IsFit (offered s s.config.limits)
   pub records : MayFollow open_form s.records
-  pub length : length (stream_bytes s.records) ≤ LONGEST_RECORDS
+  pub length : length (stream_bytes s.records) ≤ longest_records

@@ -1,5 +1,5 @@
 -- The events of a channel end by number: those that were decided, and behind them the undecided ones in their order.
-use Rattle.std.specs.Prelude.{ℕ, ◌+◌, List, [], ◌∷◌, ◌++◌, length, Bool, true, false, option_map}
+use Rattle.std.specs.Prelude.{ℕ, ◌+◌, ◌^◌, List, [], ◌∷◌, ◌++◌, length, Bool, true, false, option_map}
 use Rattle.std.specs.List.{cons_option}
 use Rattle.ln_log.specs.declared.update.Update.{Update}
 use Rattle.ln_hooks.specs.Event.{event_of}
@@ -9,6 +9,10 @@ use Rattle.ln_link.specs.declared.ledger.EventRef.TheVariants as ref
 pub record Ledger : Type 0 where
   pub decided : ℕ
   pub undecided : List EventRef
+
+-- an end has no more events: 2^62 updates of either side, and the close
+abbrev pub most_decided : ℕ
+most_decided = 2 ^ 63 + 1
 
 abbrev pub no_events : Ledger
 no_events = record { decided = 0; undecided = [] }

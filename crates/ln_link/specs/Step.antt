@@ -235,5 +235,5 @@ MovesEnd said answer l l' e e' =
 -- a stage of the opening, which is replaced; where it refuses, the channel fails
 abbrev pub Becomes : Line → Result Done Refusal → Result Handed Refusal → Stage → Type 0
 Becomes l said answer s' =
-    Leaves Lacks (λ h. record { line = l; stage = s'; outputs = all_of h }) (λ e. (fails e ≡ true) × (s' ≡ stage.Gone)) said
-    answer
+    Leaves Lacks (λ h. record { line = l; stage = s'; outputs = all_of h }) (λ e. (fails e ≡ true) × (s' ≡ stage.Gone))
+    said answer

@@ -107,8 +107,7 @@ impl OpenSpec {
     ghost use Rattle.ln_bytes.specs.Tlv.{stream_bytes};
     ghost use Rattle.ln_msgs.specs.Messages.Table.{open_form};
     ghost use Rattle.ln_msgs.specs.Codec.Writing.{MayFollow};
-    ghost use Rattle.ln_link.specs.Config.{IsFitSpec, offered};
-    ghost use Rattle.ln_link.specs.declared.config.TheConstants.{LONGEST_RECORDS};
+    ghost use Rattle.ln_link.specs.Config.{IsFitSpec, longest_records, offered};
 
     /// Whether a funder may open a channel with it: its config fits, the funding is 1 to 2,100,000,000,000,000
     /// satoshis, no more is pushed than 1000 times that, and the records may stand in an `open_channel` and leave it
@@ -122,7 +121,7 @@ impl OpenSpec {
     // Whether the records may stand in an `open_channel`, and leave it short enough.
     fn can_be_written(&self) -> bool
         ensures { IsTrue result ↔ (MayFollow open_form self.now.records
-            × (length (stream_bytes self.now.records) ≤ LONGEST_RECORDS)) }
+            × (length (stream_bytes self.now.records) ≤ longest_records)) }
     {
         let records = self.records.as_slice();
         tlvs_are_valid(records, &[0]) && tlvs_len(records, LONGEST_RECORDS).is_some()

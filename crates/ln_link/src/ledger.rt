@@ -7,9 +7,6 @@ use ln_msgs::Refusal;
 use std::alloc::Global;
 use std::marker::Model;
 
-/// An end has no more events: 2^62 updates of either side, and the close.
-pub const MOST_DECIDED: u64 = (1 << 63) + 1;
-
 /// What an event tells of. Updates of a side count from 0.
 #[derive(Clone, Copy, Debug, PartialEq, Eq)]
 pub enum EventRef {
@@ -30,14 +27,13 @@ pub struct EventLedger {
 
 impl Model for EventLedger {
     ghost use Rattle.std.specs.Prelude.{◌≤◌};
-    ghost use Rattle.ln_link.specs.Ledger.{Ledger};
-    ghost use Rattle.ln_link.specs.declared.ledger.TheConstants.{MOST_DECIDED};
+    ghost use Rattle.ln_link.specs.Ledger.{Ledger, most_decided};
 
     ghost Value = { Ledger };
 
     ghost view = { λ l. record { decided = l.decided; undecided = l.undecided.items } };
 
-    ghost invariant = { λ l. l.decided ≤ MOST_DECIDED };
+    ghost invariant = { λ l. l.decided ≤ most_decided };
 }
 
 ghost use Rattle.std.specs.Prelude.{◌≡◌};
@@ -144,11 +140,11 @@ impl EventLedger {
 
 impl EventLedger {
     ghost use Rattle.std.specs.Prelude.{◌≡◌, ◌≤◌};
-    ghost use Rattle.ln_link.specs.declared.ledger.TheConstants.{MOST_DECIDED};
+    ghost use Rattle.ln_link.specs.Ledger.{most_decided};
 
     /// So many decided events, 2^63 + 1 at most, and these undecided ones behind them. Takes no memory.
     pub fn from_parts(decided: u64, undecided: Vec<EventRef>) -> EventLedger
-        requires { decided ≤ MOST_DECIDED }
+        requires { decided ≤ most_decided }
         ensures { result ≡ record { decided = decided; undecided = undecided.items } }
     {
         EventLedger { decided, undecided }

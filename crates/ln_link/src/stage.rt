@@ -336,7 +336,8 @@ fn sign<K: ChannelKeys>(
     message: FundingCreated,
 ) -> Result<Outbox, Refusal>
     requires { stage.old ≡ stages.Gone }
-    ensures { Becomes line (created_at (K.signer keys.now) line message (stages.AwaitsCreated agreed)) result stage.new }
+    ensures { Becomes line (created_at (K.signer keys.now) line message (stages.AwaitsCreated agreed)) result
+        stage.new }
 {
     let (opened, signed) = take_created(alloc, keys, agreed, message)?;
     put(stage, Stage::Saved(Channel::new(alloc, opened)));

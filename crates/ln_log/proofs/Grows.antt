@@ -11,7 +11,6 @@ use Rattle.ln_msgs.specs.declared.refusals.refusal.Refusal.{Refusal}
 use Rattle.ln_msgs.specs.declared.refusals.refusal.Refusal.TheVariants as refusal
 use Rattle.ln_keys.specs.declared.role.Role.{Role}
 use Rattle.ln_keys.specs.Role.{other_role}
-use Rattle.ln_log.specs.declared.log.TheConstants.{MOST_UPDATES}
 use Rattle.ln_log.specs.declared.opening.Limits.{Limits}
 use Rattle.ln_log.specs.declared.opening.Opening.{Opening}
 use Rattle.ln_log.specs.declared.standing.Standing.{Standing}
@@ -22,7 +21,7 @@ use Rattle.ln_log.specs.Opening.{HasFunds, limits_of, first_balance}
 use Rattle.ln_log.specs.Updates.{offered, removed, next_id, outcome}
 use Rattle.ln_log.specs.View.{Pays}
 use Rattle.ln_log.specs.Limits.{standing_of, fault_at, update_fault, HasNextId, id_fault, is_at_update_limit}
-use Rattle.ln_log.specs.Limits.{first_fault, Answers}
+use Rattle.ln_log.specs.Limits.{first_fault, most_updates, Answers}
 use Rattle.ln_log.specs.Standing.{with_own, OwnFits}
 use Rattle.ln_log.specs.Log.{Log, IsKept, HasId, AreRemovals, peer_limit, removal_fault, length_fault, proposal_fault}
 use Rattle.ln_log.specs.Log.{taken_fault, after_propose, after_receive}
@@ -47,13 +46,13 @@ unmapped None e = refl
 unmapped (Some r) e = absurd (cc)
 
 few_updates : (us : List Update) (r : Refusal) → cond (is_at_update_limit us) (Some r) None ≡ None
-    → length us < MOST_UPDATES
+    → length us < most_updates
 few_updates us r e =
-    let h = leb-false MOST_UPDATES (length us) (not_spent (is_at_update_limit us) r e) in
+    let h = leb-false most_updates (length us) (not_spent (is_at_update_limit us) r e) in
     omega (arith, h)
 
 pub record MayGrow (l : Log) (u : Update) : Type 0 where
-  pub few : length l.own < MOST_UPDATES
+  pub few : length l.own < most_updates
   pub none : update_fault l.opening l.role l.own (take l.current.peer l.received)
       (take l.acknowledged.peer l.received) u ≡ None
 
@@ -65,7 +64,7 @@ may_propose l u e =
     record { few = few_updates l.own refusal.NumbersSpent a.0; none = unmapped _ c.0 }
 
 pub record MayTake (l : Log) (u : Update) : Type 0 where
-  pub few : length l.received < MOST_UPDATES
+  pub few : length l.received < most_updates
   pub id : id_fault l.received u ≡ None
   pub none : update_fault l.opening (other_role l.role) l.received (take l.acknowledged.own l.own)
       (take l.current.own l.own) u ≡ None
@@ -116,7 +115,7 @@ due_live_back l s t p q k n =
     (above 0 (next_id l.received) (take l.signed.peer l.received) (numbered-take 0 l.signed.peer l.received k.peer_ids)
     (front_counts l.signed.peer l.received))
 
-pub growing : (l : Log) (s t p q : Standing) → IsKept l s t p q → length l.own < MOST_UPDATES
+pub growing : (l : Log) (s t p q : Standing) → IsKept l s t p q → length l.own < most_updates
     → Growing (limits_of l.opening l.role) (first_balance l.opening l.role)
     (first_balance l.opening (other_role l.role)) l.own (take l.current.peer l.received)
     (take l.acknowledged.peer l.received)
@@ -135,7 +134,7 @@ growing l s t p q k few =
       few = few;
     }
 
-pub growing_back : (l : Log) (s t p q : Standing) → IsKept l s t p q → length l.received < MOST_UPDATES
+pub growing_back : (l : Log) (s t p q : Standing) → IsKept l s t p q → length l.received < most_updates
     → Growing (limits_of l.opening (other_role l.role)) (first_balance l.opening (other_role l.role))
     (first_balance l.opening l.role) l.received (take l.acknowledged.own l.own) (take l.current.own l.own)
 growing_back l s t p q k few =
@@ -293,11 +292,11 @@ kept_received l s t p q b u vs k none ev eb =
 
 -- ---- what the code found is the fault by the lists
 
-few_is : (us : List Update) (n : ℕ) (r : Refusal) → n ≡ length us → n < MOST_UPDATES
+few_is : (us : List Update) (n : ℕ) (r : Refusal) → n ≡ length us → n < most_updates
     → cond (is_at_update_limit us) (Some r) None ≡ None
 few_is us n r e lt =
-    let not_ : nat_le MOST_UPDATES (length us) ≡ false =
-    lt-leb MOST_UPDATES (length us) (subst (λ m. m < MOST_UPDATES) e lt) in
+    let not_ : nat_le most_updates (length us) ≡ false =
+    lt-leb most_updates (length us) (subst (λ m. m < most_updates) e lt) in
     ap (λ b. cond b (Some r) None) not_
 
 fault_is : (lim lim' : Limits) (s s' : Standing) (r r' : Role) (os os' hs hs' : List Update) (u : Update) → lim ≡ lim'
@@ -308,7 +307,7 @@ fault_is lim lim' s s' r r' os os' hs hs' u el es er eo eh =
     ∙ ap (λ x. fault_at lim' s' r' os' x u) eh
 
 pub proposal_is : (l m : Log) (s t p q : Standing) (u : Update) (n : ℕ) (lim : Limits) (os hs : List Update)
-    (r : Option Refusal) → l ≡ m → IsKept l s t p q → n ≡ length l.own → n < MOST_UPDATES
+    (r : Option Refusal) → l ≡ m → IsKept l s t p q → n ≡ length l.own → n < most_updates
     → removal_fault m (removed u) ≡ None → lim ≡ limits_of l.opening l.role → os ≡ l.own
     → hs ≡ take l.acknowledged.peer l.received → r ≡ fault_at lim s l.role os hs u
     → proposal_fault m u ≡ first_fault (option_map peer_limit r) (length_fault u)
@@ -340,7 +339,7 @@ pub proposal_else : (m : Log) (u : Update) (r o : Option Refusal)
 proposal_else m u r o e is eo = eo ∙ ap (λ y. first_fault (option_map peer_limit y) (length_fault u)) (sym is) ∙ sym e
 
 pub taken_is : (l m : Log) (s t p q : Standing) (u : Update) (n : ℕ) (lim : Limits) (side : Role) (os hs : List Update)
-    (r : Option Refusal) → l ≡ m → IsKept l s t p q → n ≡ length l.received → n < MOST_UPDATES
+    (r : Option Refusal) → l ≡ m → IsKept l s t p q → n ≡ length l.received → n < most_updates
     → id_fault l.received u ≡ None → lim ≡ limits_of l.opening (other_role l.role) → side ≡ other_role l.role
     → os ≡ l.received → hs ≡ take l.current.own l.own → r ≡ fault_at lim p side os hs u
     → r ≡ taken_fault m u

@@ -10,7 +10,6 @@ use Rattle.ln_keys.specs.Role.{other_role}
 use Rattle.ln_log.specs.declared.opening.Limits.{Limits}
 use Rattle.ln_log.specs.declared.opening.Opening.{Opening}
 use Rattle.ln_log.specs.declared.log.Side.{Side}
-use Rattle.ln_log.specs.declared.log.TheConstants.{MOST_UPDATES}
 use Rattle.ln_log.specs.declared.log.Side.TheVariants as side
 use Rattle.ln_log.specs.declared.update.Add.{Add}
 use Rattle.ln_log.specs.declared.update.Removal.{Removal}
@@ -23,6 +22,7 @@ use Rattle.ln_log.specs.Opening.{HasFunds, first_balance}
 use Rattle.ln_log.specs.Updates.{offered, removed, is_some, next_id, add_with, outcome, is_live}
 use Rattle.ln_log.specs.View.{live_of, live_adds, balance, Pays}
 use Rattle.ln_log.specs.Limits.{standing_of, add_fault, fault_at, removable, fulfil_fault, fail_fault, malformed_fault}
+use Rattle.ln_log.specs.Limits.{most_updates}
 use Rattle.ln_log.specs.Standing.{with_own, with_all, paid_by, PaidFits, OwnFits, AllFit}
 use Rattle.ln_log.specs.Log.{Log, IsKept, between, updates_of, BothPay, HasAmount, AreWithin, number_after, HasId}
 use Rattle.ln_log.specs.Log.{AreNumbered, RemovesLive, AreRemovals, after_accept, after_learn, after_drop}
@@ -560,7 +560,7 @@ pub record Growing (lim : Limits) (f g : ℕ) (own seen held : List Update) : Ty
   pub pays : Pays f own seen
   pub back : Pays g seen own
   pub small : f + g < 2 ^ 64
-  pub few : length own < MOST_UPDATES
+  pub few : length own < most_updates
 
 pub seen_removes : (held seen own : List Update) (r : Option Removal)
     → ((i : ℕ) → is_some (add_with i held) ≡ true → add_with i seen ≡ add_with i held) → RemovesLive held own r

@@ -12,7 +12,6 @@ use Rattle.ln_keys.specs.Role.{other_role}
 use Rattle.ln_log.specs.declared.opening.Opening.{Opening}
 use Rattle.ln_log.specs.declared.log.Pair.TheVariants as pair
 use Rattle.ln_log.specs.declared.log.Side.TheVariants as side
-use Rattle.ln_log.specs.declared.log.TheConstants.{MOST_UPDATES}
 use Rattle.ln_log.specs.declared.standing.Standing.{Standing}
 use Rattle.ln_log.specs.declared.update.Add.{Add}
 use Rattle.ln_log.specs.declared.update.Removal.{Removal}
@@ -23,7 +22,7 @@ use Rattle.ln_log.specs.Opening.{HasFunds, first_balance}
 use Rattle.ln_log.specs.Updates.{offered, removed, is_some, next_id, found_or, add_with, is_live, total}
 use Rattle.ln_log.specs.Outcomes.{Tells, removals_in}
 use Rattle.ln_log.specs.View.{balance, Pays}
-use Rattle.ln_log.specs.Limits.{standing_of}
+use Rattle.ln_log.specs.Limits.{standing_of, most_updates}
 use Rattle.ln_log.specs.Log.{Log, covered, number_after, HasId, AreNumbered, RemovesLive, AreRemovals, IsKept}
 use Rattle.ln_log.specs.Log.{after_drop}
 use Rattle.ln_log.specs.Loading.{IsLawful, CoverAll, AreLawful, IsReadable}
@@ -276,8 +275,8 @@ kept_loaded l s p r es ep =
 -- ---- what a log keeps can be loaded again
 
 -- where signatures cover all of it
-covers_so : (l : Log) (s t p q : Standing) → IsKept l s t p q → CoverAll l → length l.own ≤ MOST_UPDATES
-    → length l.received ≤ MOST_UPDATES → IsReadable l
+covers_so : (l : Log) (s t p q : Standing) → IsKept l s t p q → CoverAll l → length l.own ≤ most_updates
+    → length l.received ≤ most_updates → IsReadable l
 covers_so l s t p q k all own peer =
     let w = k.within in
     record {
@@ -310,8 +309,8 @@ covers_so l s t p q k all own peer =
           });
     }
 
-pub loads_again : (l : Log) (s t p q : Standing) → IsKept l s t p q → length l.own ≤ MOST_UPDATES
-    → length l.received ≤ MOST_UPDATES → IsReadable (after_drop l)
+pub loads_again : (l : Log) (s t p q : Standing) → IsKept l s t p q → length l.own ≤ most_updates
+    → length l.received ≤ most_updates → IsReadable (after_drop l)
 loads_again l s t p q k own peer =
     let w = k.within in
     let d = kept_dropped l s t p q k in

@@ -1,6 +1,6 @@
 -- When an update may be proposed (BOLT 2, "Adding an HTLC", "Removing an HTLC", "Updating Fees",
 -- "Requirements").
-use Rattle.std.specs.Prelude.{◌≡◌, ℕ, ◌+◌, ◌*◌, List, length, Option, Some, None, Result, ◌||◌, ◌==◌, nat_le}
+use Rattle.std.specs.Prelude.{◌≡◌, ℕ, ◌+◌, ◌*◌, ◌^◌, List, length, Option, Some, None, Result, ◌||◌, ◌==◌, nat_le}
 use Rattle.std.specs.Prelude.{nat_lt, Bool, if◌then◌else◌}
 use Rattle.ln_bytes.specs.Answers.{Refuses}
 use Rattle.ln_bytes.specs.Same.{are_same}
@@ -11,7 +11,6 @@ use Rattle.ln_keys.specs.declared.role.Role.TheVariants.{Funder, Fundee}
 use Rattle.ln_keys.specs.Hash.{payment_hash}
 use Rattle.ln_log.specs.declared.opening.Limits.{Limits}
 use Rattle.ln_log.specs.declared.opening.Opening.{Opening}
-use Rattle.ln_log.specs.declared.log.TheConstants.{MOST_UPDATES}
 use Rattle.ln_log.specs.declared.standing.Standing.{Standing}
 use Rattle.ln_log.specs.declared.update.Add.{Add}
 use Rattle.ln_log.specs.declared.update.Update.{Update}
@@ -94,8 +93,11 @@ id_fault own (update.Malformed m) = None
 id_fault own (update.Fee f) = None
 
 -- a side proposes no more updates than these
+abbrev pub most_updates : ℕ
+most_updates = 2 ^ 62
+
 abbrev pub is_at_update_limit : List Update → Bool
-is_at_update_limit own = nat_le MOST_UPDATES (length own)
+is_at_update_limit own = nat_le most_updates (length own)
 
 -- the first of two faults
 abbrev pub first_fault : Option Refusal → Option Refusal → Option Refusal

@@ -4,7 +4,7 @@ use Rattle.std.specs.Prelude.{◌≡◌, ◌≤◌, ◌*◌, List, [], length}
 use Rattle.ln_keys.specs.declared.role.Role.{Role}
 use Rattle.ln_log.specs.declared.opening.Opening.{Opening}
 use Rattle.ln_log.specs.declared.log.Pair.{Pair}
-use Rattle.ln_log.specs.declared.log.TheConstants.{MOST_UPDATES}
+use Rattle.ln_log.specs.Limits.{most_updates}
 use Rattle.ln_log.specs.declared.loading.Coverage.{Coverage}
 use Rattle.ln_log.specs.declared.update.Update.{Update}
 use Rattle.ln_log.specs.Opening.{HasFunds}
@@ -34,7 +34,7 @@ pub record IsLawful (o : Opening) (x : Role) (c : Covered) : Type 0 where
 -- ids rise by one from 0, and no HTLC is of more than all the funds (a record of a further HTLC, which came back
 -- before any view had it live, would be told by no side that keeps the limits)
 pub record AreOffered (o : Opening) (us : List Update) : Type 0 where
-  pub few : length us ≤ MOST_UPDATES
+  pub few : length us ≤ most_updates
   pub ids : AreNumbered 0 us
   pub amounts : AreWithin (1000 * o.satoshis) us
 

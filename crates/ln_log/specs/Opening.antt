@@ -4,7 +4,14 @@ use Rattle.ln_keys.specs.declared.role.Role.{Role}
 use Rattle.ln_keys.specs.declared.role.Role.TheVariants.{Funder, Fundee}
 use Rattle.ln_log.specs.declared.opening.Limits.{Limits}
 use Rattle.ln_log.specs.declared.opening.Opening.{Opening}
-use Rattle.ln_log.specs.declared.opening.TheConstants.{MOST_SATOSHIS, MOST_HTLCS}
+
+-- the most that a channel is funded with, in satoshi: all 21 million bitcoin
+abbrev pub most_satoshis : ℕ
+most_satoshis = 2100000000000000
+
+-- the most HTLCs that a side may let the other one offer at once
+abbrev pub most_htlcs : ℕ
+most_htlcs = 483
 
 -- the limits that the HTLCs of a side have to meet are those that the other side sent
 abbrev pub limits_of : Opening → Role → Limits
@@ -19,18 +26,18 @@ first_balance o Fundee = o.push
 -- a channel with these funds can be, and neither side begins with less than nothing
 pub record HasFunds (o : Opening) : Type 0 where
   pub some_funds : 1 ≤ o.satoshis
-  pub funds : o.satoshis ≤ MOST_SATOSHIS
+  pub funds : o.satoshis ≤ most_satoshis
   pub push : o.push ≤ 1000 * o.satoshis
 
 -- a channel may open so
 pub record IsFit (o : Opening) : Type 0 where
   pub some_funds : 1 ≤ o.satoshis
-  pub funds : o.satoshis ≤ MOST_SATOSHIS
+  pub funds : o.satoshis ≤ most_satoshis
   pub push : o.push ≤ 1000 * o.satoshis
-  pub funder_accepts : o.funder.accepted ≤ MOST_HTLCS
-  pub fundee_accepts : o.fundee.accepted ≤ MOST_HTLCS
+  pub funder_accepts : o.funder.accepted ≤ most_htlcs
+  pub fundee_accepts : o.fundee.accepted ≤ most_htlcs
 
 -- the same, as a test
 abbrev pub is_fit : Opening → Bool
-is_fit o = nat_le 1 o.satoshis && nat_le o.satoshis MOST_SATOSHIS && nat_le o.push (1000 * o.satoshis)
-    && nat_le o.funder.accepted MOST_HTLCS && nat_le o.fundee.accepted MOST_HTLCS
+is_fit o = nat_le 1 o.satoshis && nat_le o.satoshis most_satoshis && nat_le o.push (1000 * o.satoshis)
+    && nat_le o.funder.accepted most_htlcs && nat_le o.fundee.accepted most_htlcs

@@ -109,7 +109,7 @@ impl UpdateLog {
     ghost use Rattle.std.specs.Prelude.{◌≡◌, ◌≤◌, ◌+◌, ◌*◌, ◌<◌, ◌^◌, length, IfSome, IfOk, OnOk, OnErr};
     ghost use Rattle.std.specs.Prelude.{option_copied};
     ghost use Rattle.std.specs.Result.{IsOkUnless};
-    ghost use Rattle.ln_log.specs.Opening.{IsFit};
+    ghost use Rattle.ln_log.specs.Opening.{IsFit, most_satoshis};
     ghost use Rattle.ln_log.specs.Updates.{next_id, offered, removed};
     ghost use Rattle.ln_log.specs.View.{AddsUp};
     ghost use Rattle.ln_log.specs.Limits.{HasNextId, Answers, is_at_update_limit};
@@ -384,7 +384,7 @@ impl UpdateLog {
             → option_copied result ≡ update_at (first_of side l) (updates_of side l) number }
         ensures amount { (l : Log) → StandsFor self.now l
             → IfSome (option_copied result) (λ u. HasAmount (1000 * l.opening.satoshis) (offered u)) }
-        ensures funds { (l : Log) → StandsFor self.now l → l.opening.satoshis ≤ MOST_SATOSHIS }
+        ensures funds { (l : Log) → StandsFor self.now l → l.opening.satoshis ≤ most_satoshis }
     {
         match side {
             Side::Own => nth(self.own.as_slice(), number),
@@ -401,7 +401,7 @@ impl UpdateLog {
         ensures updates { (l : Log) → StandsFor self.now l → result.now ≡ between from to (updates_of side l) }
         ensures count { from + length result.now ≡ to }
         ensures amounts { (l : Log) → StandsFor self.now l → AreWithin (1000 * l.opening.satoshis) result.now }
-        ensures funds { (l : Log) → StandsFor self.now l → l.opening.satoshis ≤ MOST_SATOSHIS }
+        ensures funds { (l : Log) → StandsFor self.now l → l.opening.satoshis ≤ most_satoshis }
     {
         // (what is kept bounds the amounts)
         let _ = self.own.len();

@@ -7,7 +7,7 @@ use Rattle.ln_msgs.specs.declared.messages.message.Message.TheVariants as messag
 use Rattle.ln_msgs.specs.declared.messages.opening.AcceptChannel.{AcceptChannel}
 use Rattle.ln_msgs.specs.declared.messages.opening.OpenChannel.{OpenChannel}
 use Rattle.ln_keys.specs.declared.role.Role.{Role}
-use Rattle.ln_log.specs.declared.log.TheConstants.{MOST_UPDATES}
+use Rattle.ln_log.specs.Limits.{most_updates}
 use Rattle.ln_log.specs.declared.opening.Opening.{Opening}
 use Rattle.ln_log.specs.declared.update.Update.{Update as Change}
 use Rattle.ln_log.specs.declared.update.Update.TheVariants as update
@@ -103,9 +103,9 @@ contents_of e = record {
 pub record AreWide (o : Origin) (c : Contents) : Type 0 where
   pub origin : c.origin ≡ o
   pub own : All IsUpdate c.own
-  pub own_room : length c.own ≤ MOST_UPDATES
+  pub own_room : length c.own ≤ most_updates
   pub received : All IsUpdate c.received
-  pub received_room : length c.received ≤ MOST_UPDATES
+  pub received_room : length c.received ≤ most_updates
   pub script : length c.script ≤ longest_script
   pub peer_script : Where (λ s. length s ≤ longest_script) c.peer_script
 

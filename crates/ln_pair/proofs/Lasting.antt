@@ -1,7 +1,7 @@
 -- What of an end goes into its record: how its numbers, its counts and its events fit together, and how wide its
 -- updates are.
 use Rattle.std.specs.Prelude.{◌≡◌, ◌+◌, ◌<◌, ◌≤◌, ◌^◌, ℕ, length, take, Option, Some, None}
-use Rattle.ln_log.specs.declared.log.TheConstants.{MOST_UPDATES}
+use Rattle.ln_log.specs.Limits.{most_updates}
 use Rattle.ln_log.specs.Log.{IsWithin}
 use Rattle.ln_dance.specs.Dance.{AreInStep}
 use Rattle.ln_link.specs.declared.ledger.EventRef.{EventRef}
@@ -45,8 +45,8 @@ longest_script = 65499
 pub record IsWide (e : End) : Type 0 where
   pub own : All IsUpdate e.dance.log.own
   pub received : All IsUpdate (take e.dance.log.current.peer e.dance.log.received)
-  pub own_room : length e.dance.log.own ≤ MOST_UPDATES
-  pub received_room : length (take e.dance.log.current.peer e.dance.log.received) ≤ MOST_UPDATES
+  pub own_room : length e.dance.log.own ≤ most_updates
+  pub received_room : length (take e.dance.log.current.peer e.dance.log.received) ≤ most_updates
   pub script : length e.terms.script ≤ longest_script
   pub peer_script : Where (λ s. length s ≤ longest_script) e.terms.peer_script
 

@@ -16,12 +16,11 @@ use Rattle.ln_msgs.specs.declared.refusals.refusal.Refusal.{Refusal}
 use Rattle.ln_msgs.specs.declared.refusals.refusal.Refusal.TheVariants as refusal
 use Rattle.ln_msgs.specs.declared.refusals.peer_rule.PeerRule.TheVariants as rule
 use Rattle.ln_keys.specs.Signer.{Signer}
-use Rattle.ln_log.specs.declared.log.TheConstants.{MOST_UPDATES}
 use Rattle.ln_log.specs.declared.update.Add.{Add}
 use Rattle.ln_log.specs.declared.update.Fail.{Fail}
 use Rattle.ln_log.specs.declared.update.Update.{Update as Change}
 use Rattle.ln_log.specs.declared.update.Update.TheVariants as update
-use Rattle.ln_log.specs.Limits.{first_fault, is_at_update_limit, update_fault as rule_fault}
+use Rattle.ln_log.specs.Limits.{first_fault, most_updates, is_at_update_limit, update_fault as rule_fault}
 use Rattle.ln_log.specs.Log.{Log, unacknowledged, taken_fault, peer_limit, removal_fault, length_fault, proposal_fault}
 use Rattle.ln_log.specs.Updates.{is_add, next_id, removed}
 use Rattle.ln_log.proofs.Grows.{may_propose, may_take}
@@ -264,7 +263,7 @@ module _ (k : Signer) (o : Origin) where
   -- ---- a command
 
   -- the id that is due
-  next_small : (us : List Change) → length us < MOST_UPDATES → next_id us < 2 ^ 64
+  next_small : (us : List Change) → length us < most_updates → next_id us < 2 ^ 64
   next_small us few = omega (arith, few, count_by-le-length is_add us)
 
   -- a reason that its message has room for
