@@ -14,7 +14,7 @@ use Rattle.ln_log.specs.declared.update.Update.TheVariants as update
 use Rattle.ln_log.specs.Opening.{limits_of, first_balance}
 use Rattle.ln_log.specs.Updates.{offered, found_or, add_with, outcome, is_live, is_some}
 use Rattle.ln_log.specs.View.{live_of, live_adds}
-use Rattle.ln_log.specs.Limits.{standing_of}
+use Rattle.ln_log.specs.Limits.{standing_of, update_fault}
 use Rattle.ln_log.specs.Log.{Counts}
 use Rattle.ln_log.proofs.Kept.{names_live}
 use Rattle.ln_link.specs.declared.link.Line.{Line}
@@ -90,21 +90,23 @@ gone id [] rs h e = absurd (cc)
 gone id (u ∷ us) rs h e = gone_by id (offered u) rs (live_adds us rs) (add_with id us) h (gone id us rs) e
 
 -- so nothing can be removed any more
+pub removes_none : (o : Opening) (r : Role) (own seen held : List Change) (u : Change) → live_adds held own ≡ []
+    → opens u ≡ false → update_fault o r own seen held u ≡ None → ⊥
+removes_none o r own seen held (update.Add a) e f h = absurd (cc)
+removes_none o r own seen held (update.Fee a) e f h = absurd (cc)
+removes_none o r own seen held (update.Fulfil a) e f h =
+    let n = names_live (limits_of o r) (standing_of (first_balance o r) own seen) r own held (update.Fulfil a) h in
+    let d : true ≡ false = ap is_live (sym n.1) ∙ gone a.id held own e n.0 in absurd (cc)
+removes_none o r own seen held (update.Fail a) e f h =
+    let n = names_live (limits_of o r) (standing_of (first_balance o r) own seen) r own held (update.Fail a) h in
+    let d : true ≡ false = ap is_live (sym n.1) ∙ gone a.id held own e n.0 in absurd (cc)
+removes_none o r own seen held (update.Malformed a) e f h =
+    let n = names_live (limits_of o r) (standing_of (first_balance o r) own seen) r own held (update.Malformed a) h in
+    let d : true ≡ false = ap is_live (sym n.1) ∙ gone a.id held own e n.0 in absurd (cc)
+
 pub no_removal : (o : Opening) (r : Role) (own seen held : List Change) (u : Change) → live_adds held own ≡ []
     → opens u ≡ false → Fits o r own seen held u → ⊥
-no_removal o r own seen held (update.Add a) e f h = absurd (cc)
-no_removal o r own seen held (update.Fee a) e f h = absurd (cc)
-no_removal o r own seen held (update.Fulfil a) e f h =
-    let n = names_live (limits_of o r) (standing_of (first_balance o r) own seen) r own held
-    (update.Fulfil a) h.within in
-    let d : true ≡ false = ap is_live (sym n.1) ∙ gone a.id held own e n.0 in absurd (cc)
-no_removal o r own seen held (update.Fail a) e f h =
-    let n = names_live (limits_of o r) (standing_of (first_balance o r) own seen) r own held (update.Fail a) h.within in
-    let d : true ≡ false = ap is_live (sym n.1) ∙ gone a.id held own e n.0 in absurd (cc)
-no_removal o r own seen held (update.Malformed a) e f h =
-    let n = names_live (limits_of o r) (standing_of (first_balance o r) own seen) r own held
-    (update.Malformed a) h.within in
-    let d : true ≡ false = ap is_live (sym n.1) ∙ gone a.id held own e n.0 in absurd (cc)
+no_removal o r own seen held u e f h = removes_none o r own seen held u e f h.within
 
 -- ---- what is in flight to an end that has begun
 

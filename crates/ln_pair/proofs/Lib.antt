@@ -29,7 +29,9 @@ pub mod Made
 pub mod Moving
 pub mod Machines
 pub mod Tellings
+pub mod Pending
 pub mod Recounts
+pub mod ClosesLast
 pub mod Answers
 pub mod Lasting
 pub mod Steady

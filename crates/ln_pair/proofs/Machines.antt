@@ -48,6 +48,7 @@ use Rattle.ln_link.specs.Step.{faulted, line_fault}
 use Rattle.ln_pair.specs.Ends.{Ends, turned, message_at, becomes, answers, delivers, Act, Deliver, Give, Lose, acts}
 use Rattle.ln_pair.specs.Ends.{opened, connects, Step, By, Connect, happens, run}
 use Rattle.ln_pair.specs.Promises.{AreKeys, party}
+use Rattle.ln_pair.specs.Setup.{setup_of, AreSetUp}
 use Rattle.ln_pair.specs.Moves.{machine_of, moves_asked, moves_of_command, moves_of_message, moves_delivered}
 use Rattle.ln_pair.specs.Moves.{moves_of_act, moves_of, all_moves, history, after_all}
 use Rattle.ln_pair.proofs.Sides.{Notice, Update, Sign, Revoke, Ready, Shutdown, Close, Again, has_bid}
@@ -55,6 +56,7 @@ use Rattle.ln_pair.proofs.Telling.{closing_sent}
 use Rattle.ln_pair.proofs.Images.{message_of, messages_of, side_of}
 use Rattle.ln_pair.proofs.Steps.{Hold, parts}
 use Rattle.ln_pair.proofs.Opens.{opened_holds}
+use Rattle.ln_pair.proofs.Deals.{run_fees}
 use Rattle.ln_pair.proofs.Turns.{is_close, begun_so}
 use Rattle.ln_pair.proofs.Runs.{Holds, flipped, flipped_keys, met_row, meeting_row, ran}
 use Rattle.ln_pair.proofs.Made as base
@@ -417,3 +419,20 @@ pub lead_there : (a b : Signer) (s : OpenSpec) (c : Config) (funder fundee : Ope
 lead_there a b s c funder fundee steps keys o =
     run_after (history a b funder fundee steps) None (Some (machine_of (run a b steps (opened funder fundee))))
     (may_be_made a b s c funder fundee steps keys o)
+
+pub set_up_so : (a b : Signer) (s : OpenSpec) (c : Config) (funder fundee : Opened) (steps : List Step) → AreKeys a b
+    → Opens a b s c funder fundee
+    → AreSetUp (setup_of funder fundee) (run a b steps (opened funder fundee)).x
+    (run a b steps (opened funder fundee)).y
+set_up_so a b s c funder fundee steps keys o =
+    let p = opened funder fundee in
+    let q = funder.dance.log.opening in
+    let kept = (runs_so a b keys steps q p (starts a b s c funder fundee o).keeps
+    (opened_holds a b s c funder fundee o)).1 in
+    let fees = run_fees a b steps p in
+    record {
+      funders_opening = kept.x.opening;
+      fundees_opening = kept.y.opening;
+      funders_fees = fees.x;
+      fundees_fees = fees.y;
+    }

@@ -1,6 +1,6 @@
 -- What every list of steps promises.
 use Rattle.std.proofs.Common.{◌≡◌, ℕ, ◌≤◌, List, [], ◌∷◌, ◌++◌, length, take, drop, refl, sym, ap, ◌∙◌, subst, arith}
-use Rattle.std.proofs.Common.{Bool, true, false, cond, ◌==◌, Some, None}
+use Rattle.std.proofs.Common.{Bool, true, false, cond, ◌==◌, Some, None, is_some}
 use Rattle.std.proofs.lemmas.List.{take-append-drop, take-take, take_all}
 use Rattle.std.proofs.lemmas.Bool.{eqb-true}
 use Rattle.ln_msgs.specs.declared.refusals.refusal.Refusal.TheVariants as refusal
@@ -19,12 +19,13 @@ use Rattle.ln_link.specs.Meeting.{Opens}
 use Rattle.ln_link.specs.End.{End, completed}
 use Rattle.ln_pair.specs.Ends.{Ends, Step, opened, turned, run}
 use Rattle.ln_pair.specs.Promises.{AreKeys, AreSent, party, Headline, TakesFront, NoneRefused, HoldsAll, Agrees}
-use Rattle.ln_pair.specs.Promises.{NoneAddsLate}
+use Rattle.ln_pair.specs.Promises.{NoneAddsLate, HasTakenMarks, MarksAgree}
 use Rattle.ln_link.specs.declared.link.Line.{Line}
 use Rattle.ln_link.specs.declared.link.Line.TheVariants.{Down, Awaiting, Met}
 use Rattle.ln_link.specs.Resume.{resumed}
 use Rattle.ln_pair.proofs.Sides.{Notice, Update, Sign, Revoke, Ready, Shutdown, Close, Again}
 use Rattle.ln_pair.proofs.Walk.{Phase, Idle, Sent, Answered, LacksNothing, Flows}
+use Rattle.ln_pair.proofs.Marks.{Speech, Told}
 use Rattle.ln_log.specs.Log.{covered, view_for}
 use Rattle.ln_log.proofs.Sent.{turned_views}
 use Rattle.ln_pair.specs.Promises.{worth}
@@ -263,6 +264,30 @@ agrees a b s c funder fundee steps keys o rest =
     let f = at_rest a b p.x p.y p.x_line p.y_line h.to_x h.to_y rest.x_met rest.y_met ny h.hold.kept.there in
     let g = at_rest b a p.y p.x p.y_line p.x_line h.to_y h.to_x rest.y_met rest.x_met nx h.hold.kept.back in
     (holds_all a b p.x p.y f g sx sy, holds_all b a p.y p.x g f sy sx, same_worth a b p.x p.y f g sx sy)
+
+-- ---- what was sent beside updates, where nothing is in flight
+
+taken_marks : (a b : Signer) (x y : End) (lx ly : Line) (ms : List Notice) → lx ≡ Met → ly ≡ Met → ms ≡ []
+    → Told lx ly (side_of a x) (side_of b y) ms → HasTakenMarks x y
+taken_marks a b x y lx ly ms ex ey none t =
+    let one : Speech Met ly (side_of a x) (side_of b y) ms =
+    subst (λ l. Speech l ly (side_of a x) (side_of b y) ms) ex t.speech in
+    let both : Speech Met Met (side_of a x) (side_of b y) ms =
+    subst (λ l. Speech Met l (side_of a x) (side_of b y) ms) ey one in
+    let last : Speech Met Met (side_of a x) (side_of b y) [] =
+    subst (λ ns. Speech Met Met (side_of a x) (side_of b y) ns) none both in
+    record { shutdown = last.1; ready = λ e. last.0 (ap is_some e) }
+
+pub marks_agree : (a b : Signer) (s : OpenSpec) (c : Config) (funder fundee : Opened) (steps : List Step) → AreKeys a b
+    → Opens a b s c funder fundee → MarksAgree (run a b steps (opened funder fundee))
+marks_agree a b s c funder fundee steps keys o quiet =
+    let p = run a b steps (opened funder fundee) in
+    let h = at_end a b s c funder fundee steps keys o in
+    let nx = nothing_in h.channel h.to_x (sym h.in_x ∙ quiet.to_x) in
+    let ny = nothing_in h.channel h.to_y (sym h.in_y ∙ quiet.to_y) in (
+      taken_marks a b p.x p.y p.x_line p.y_line h.to_y quiet.x_met quiet.y_met ny h.hold.told.there,
+      taken_marks b a p.y p.x p.y_line p.x_line h.to_x quiet.y_met quiet.x_met nx h.hold.told.back,
+    )
 
 -- ---- no add behind the own shutdown
 

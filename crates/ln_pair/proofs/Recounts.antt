@@ -31,7 +31,7 @@ use Rattle.ln_link.specs.Commands.{shut_fault, shuts_down, command_row, unready_
 use Rattle.ln_link.specs.State.{is_down}
 use Rattle.ln_link.specs.Step.{faulted, line_fault}
 use Rattle.ln_pair.specs.Ends.{Ends, turned, message_at, answers, delivers, Act, Deliver, Give, Lose, acts}
-use Rattle.ln_pair.specs.Ends.{opened, connects, Step, By, Connect, happens}
+use Rattle.ln_pair.specs.Ends.{opened, connects, Step, By, Connect, happens, run}
 use Rattle.ln_pair.specs.Promises.{AreKeys, party}
 use Rattle.ln_pair.specs.Moves.{moves_asked, moves_of_command, moves_of_message, moves_delivered}
 use Rattle.ln_pair.specs.Moves.{moves_of_act, moves_of, all_moves, history}
@@ -57,9 +57,22 @@ use Rattle.ln_link.specs.Outputs.{events_of, numbered}
 use Rattle.ln_link.specs.End.{is_closed, owes_shutdown, answers_shutdown, settled}
 use Rattle.ln_pair.specs.Moves.{moves_taken, closes, shuts}
 use Rattle.ln_pair.specs.Told.{as_told, events_in, told_by, told_on, told_in, told, all_told}
+use Rattle.ln_pair.specs.Pending.{end_of_role}
+use Rattle.std.specs.List.{cons_option}
+use Rattle.std.proofs.Common.{◌-◌, ◌≤◌, drop, option_map}
+use Rattle.std.proofs.lemmas.List.{take-append-drop}
+use Rattle.ln_log.specs.Log as log
+use Rattle.ln_dance.specs.Dance.{Dancer}
+use Rattle.ln_pair.proofs.All.{All}
+use Rattle.ln_pair.proofs.Steady.{length-between}
+use Rattle.ln_pair.proofs.Pending.{IsNamed, Named, KeepBy, Keep, Pends, enters, enters_none, own_pend, peer_pend}
+use Rattle.ln_pair.proofs.Pending.{own_named, peer_named, keep_same, keep_own, keep_peer, keep_dropped, keep_either}
+use Rattle.ln_pair.proofs.Pending.{same_pends}
+use Rattle.ln_link.specs.Commands.{signs_next}
+use Rattle.ln_pair.specs.Pending.{pending, IsInStep}
 use Rattle.ln_pair.proofs.Steps.{front_reads}
-use Rattle.ln_pair.proofs.Moving.{no_move, tells, settled_closed, still_open}
-use Rattle.std.proofs.Common.{◌&&◌}
+use Rattle.ln_pair.proofs.Moving.{no_move, tells, settled_closed, settled_dance, still_open}
+use Rattle.std.proofs.Common.{◌&&◌, length-append}
 use Rattle.ln_dance.specs.declared.resume.Resend.{Resend}
 use Rattle.ln_dance.specs.declared.resume.Resend.TheVariants as resend
 use Rattle.ln_dance.specs.Resume.{owed, is_before_the_first}
@@ -73,6 +86,7 @@ use Rattle.ln_pair.proofs.Tellings.{grown_so, refs_count, entered_next, tail_non
 use Rattle.ln_pair.proofs.Tellings.{accept_told, learn_told, accept_other, learn_other}
 use Rattle.ln_pair.proofs.Machines.{Keeps, acts_so, happens_so, run_after, starts}
 use Rattle.ln_pair.proofs.Moving.{log_within}
+use Rattle.std.proofs.Common.{append_assoc}
 
 settled_ledger : (e : End) → (settled e).ledger ≡ e.ledger
 settled_ledger e = begun (has_begun (answers_shutdown e)) (may_start (answers_shutdown e).closing) (answers_shutdown e)
@@ -95,23 +109,34 @@ pub record Tells (r : Role) (o : Opening) (x n : End) (y : Party) (ms : List Mov
   pub next : next_event n.ledger
       ≡ next_event x.ledger + length (as_told (events r ms (Some (made r o (party x) y))))
   pub other : events (other_role r) ms (Some (made r o (party x) y)) ≡ []
+  pub pends : log.IsWithin x.dance.log → Named x → Pends x n (as_told (events r ms (Some (made r o (party x) y))))
 
 module _ (r : Role) (o : Opening) (x n : End) (y : Party) where
   telling : (ms : List Move) (os : List Output) (es : List ChannelEvent)
       → as_told (events r ms (Some (made r o (party x) y))) ≡ es
       → events_in os ≡ numbered (next_event x.ledger) es → next_event n.ledger ≡ next_event x.ledger + length es
-      → events (other_role r) ms (Some (made r o (party x) y)) ≡ [] → Tells r o x n y ms os
-  telling ms os es e told next other = record {
+      → events (other_role r) ms (Some (made r o (party x) y)) ≡ []
+      → (log.IsWithin x.dance.log → Named x → Pends x n es) → Tells r o x n y ms os
+  telling ms os es e told next other pends = record {
     told = told ∙ ap (numbered (next_event x.ledger)) (sym e);
     next = next ∙ ap (λ fs. next_event x.ledger + length fs) (sym e);
     other = other;
+    pends = λ w named. subst (Pends x n) (sym e) (pends w named);
   }
 
   silent : (ms : List Move) (os : List Output) → events_in os ≡ [] → n.ledger ≡ x.ledger
-      → ((q : Role) → events q ms (Some (made r o (party x) y)) ≡ []) → Tells r o x n y ms os
-  silent ms os none same es = telling ms os [] (ap as_told (es r)) none
+      → ((q : Role) → events q ms (Some (made r o (party x) y)) ≡ []) → (log.IsWithin x.dance.log → Keep x n)
+      → Tells r o x n y ms os
+  silent ms os none same es keep = telling ms os [] (ap as_told (es r)) none
       (ap next_event same ∙ (let k : next_event x.ledger ≡ next_event x.ledger + 0 = omega arith in k))
-      (es (other_role r))
+      (es (other_role r)) (λ w named. enters_none x n (keep w) same named)
+
+-- settling changes neither what is held nor whether it is closed
+keep_settled : (r : Role) (o : Opening) (y : Party) (x t : End) → Keep x t → Keep x (settled t)
+keep_settled r o y x t k =
+    subst (λ (d : Dancer). KeepBy x.dance.log d.log x.closing.closed (settled t).closing.closed)
+    (sym (settled_dance r o y t))
+    (subst (λ c. KeepBy x.dance.log t.dance.log x.closing.closed c) (sym (settled_closed r o y t)) k)
 
 ready_ledger : (b : Bool) (x k n : End) → n ≡ cond b x k → k.ledger ≡ x.ledger → n.ledger ≡ x.ledger
 ready_ledger true x k n is e = ap (λ (q : End). q.ledger) is
@@ -134,6 +159,8 @@ module _ (a b : Signer) (keys : AreKeys a b) (r : Role) (o : Opening) (channel :
       (λ q. ap (λ ms. events q (ms ++ tail (Update u)) (Some (made r o (party x) (party y)))) (no_move r channel u)
       ∙ tail_none q r x.closing.closed n.closing.closed x.closing.shut n.closing.shut _
       (settled_closed r o (party y) (turn_of a (Update u) x).end))
+      (λ w. keep_settled r o (party y) x (turn_of a (Update u) x).end
+      (keep_peer x.dance.log x.closing.closed u w))
   turn_tells (Sign m) ns to_y other h =
       let t = (turn_of a (Sign m) x).end in
       let n = settled t in
@@ -154,6 +181,26 @@ module _ (a b : Signer) (keys : AreKeys a b) (r : Role) (o : Opening) (channel :
       ∙ ap (λ k. next_event x.ledger + k) (refs_count true l.current.own us))
       (accept_other o (party x) (party y) (party t) x.closing.closed n.closing.closed x.closing.shut
       n.closing.shut same r)
+      (λ z named.
+      let c = l.current.own in
+      let d = l.acknowledged.own in
+      let grow : c ≤ d = w.own_current in
+      let many = length-between c d l.own in
+      let dance = settled_dance r o (party y) t in
+      let rest = drop (d - c) (drop c l.own) in
+      enters x n (refs_of true c us) (events_of true us)
+      (keep_settled r o (party y) x t (record {
+        own = refl;
+        peer = refl;
+        own_le = w.own_current;
+        peer_le = omega arith;
+        closed = λ f e. e;
+      })) (settled_ledger t)
+      (own_pend n c us rest (ap (λ (q : Dancer). drop c q.log.own) dance
+      ∙ sym (take-append-drop (d - c) (drop c l.own))))
+      (subst (λ (q : Dancer). All (IsNamed q.log.current.own q.log.acknowledged.peer n.closing.closed)
+      (refs_of true c us)) (sym dance)
+      (own_named c d l.acknowledged.peer n.closing.closed us (omega (arith, grow, many)))) named)
   turn_tells (Revoke m) ns to_y other h =
       let t = (turn_of a (Revoke m) x).end in
       let n = settled t in
@@ -174,6 +221,26 @@ module _ (a b : Signer) (keys : AreKeys a b) (r : Role) (o : Opening) (channel :
       ∙ ap (λ k. next_event x.ledger + k) (refs_count false l.acknowledged.peer us))
       (learn_other o (party x) (party y) (party t) x.closing.closed n.closing.closed x.closing.shut
       n.closing.shut same r)
+      (λ z named.
+      let c = l.acknowledged.peer in
+      let d = l.signed.peer in
+      let grow : c ≤ d = w.peer_acknowledged in
+      let many = length-between c d l.received in
+      let dance = settled_dance r o (party y) t in
+      let rest = drop (d - c) (drop c l.received) in
+      enters x n (refs_of false c us) (events_of false us)
+      (keep_settled r o (party y) x t (record {
+        own = refl;
+        peer = refl;
+        own_le = omega arith;
+        peer_le = w.peer_acknowledged;
+        closed = λ f e. e;
+      })) (settled_ledger t)
+      (peer_pend n c us rest (ap (λ (q : Dancer). drop c q.log.received) dance
+      ∙ sym (take-append-drop (d - c) (drop c l.received))))
+      (subst (λ (q : Dancer). All (IsNamed q.log.current.own q.log.acknowledged.peer n.closing.closed)
+      (refs_of false c us)) (sym dance)
+      (peer_named c l.current.own d n.closing.closed us (omega (arith, grow, many)))) named)
   turn_tells (Ready m) ns to_y other h =
       let t = (turn_of a (Ready m) x).end in
       let n = settled t in
@@ -182,6 +249,7 @@ module _ (a b : Signer) (keys : AreKeys a b) (r : Role) (o : Opening) (channel :
       (settled_ledger t ∙ ready_ledger (x.marks.ready_received || is_closed x) x _ t refl refl)
       (λ q. tail_none q r x.closing.closed n.closing.closed x.closing.shut n.closing.shut _
       (settled_closed r o (party y) t ∙ s.closed))
+      (λ w. keep_settled r o (party y) x t (keep_either (x.marks.ready_received || is_closed x) x _ (keep_same x)))
   turn_tells (Shutdown m) ns to_y other h =
       let t = (turn_of a (Shutdown m) x).end in
       let n = settled t in
@@ -190,6 +258,7 @@ module _ (a b : Signer) (keys : AreKeys a b) (r : Role) (o : Opening) (channel :
       (settled_ledger t ∙ ready_ledger x.closing.peer_shut x _ t refl refl)
       (λ q. tail_none q r x.closing.closed n.closing.closed x.closing.shut n.closing.shut _
       (settled_closed r o (party y) t ∙ s.closed))
+      (λ w. keep_settled r o (party y) x t (keep_either x.closing.peer_shut x _ (keep_same x)))
   turn_tells (Close m) ns to_y other h = absurd (cc)
   turn_tells (Again m) ns to_y other h =
       absurd (front_reads ly (side_of a x) (side_of b y) (Again m) ns h.kept.back.flight)
@@ -197,11 +266,12 @@ module _ (a b : Signer) (keys : AreKeys a b) (r : Role) (o : Opening) (channel :
 -- ---- a closing fee
 
 closed_told : (k : Signer) (r : Role) (o : Opening) (fee : ℕ) (ans : Answer) (x t : End) (y : Party) (os : List Output)
-    → x.closing.closed ≡ None → t.closing.closed ≡ Some fee → t.ledger ≡ entered (ref.Close ∷ []) x.ledger
+    → x.closing.closed ≡ None → t.closing.closed ≡ Some fee → t.dance ≡ x.dance
+    → t.ledger ≡ entered (ref.Close ∷ []) x.ledger
     → events_in os ≡ numbered (next_event x.ledger) (event.Closed fee ∷ [])
     → Tells r o x (settled t) y ([] ++ (closes r x.closing.closed (settled t).closing.closed
     ++ shuts r x.closing.shut (settled t).closing.shut)) os
-closed_told k r o fee ans x t y os none is entry told =
+closed_told k r o fee ans x t y os none is held entry told =
     let n = settled t in
     let sh = shuts r x.closing.shut n.closing.shut in
     let m = Some (made r o (party x) y) in
@@ -214,6 +284,18 @@ closed_told k r o fee ans x t y os none is entry told =
     (ap as_told (so r ∙ tail_close r fee x.closing.shut n.closing.shut _)) told
     (ap next_event (settled_ledger t ∙ entry) ∙ entered_next x.ledger (ref.Close ∷ []))
     (so (other_role r) ∙ tail_other r fee x.closing.shut n.closing.shut _)
+    (λ w named. enters x n (ref.Close ∷ []) (event.Closed fee ∷ [])
+    (subst (λ (d : Dancer). KeepBy x.dance.log d.log x.closing.closed n.closing.closed)
+    (sym (settled_dance r o y t ∙ held)) (record {
+      own = refl;
+      peer = refl;
+      own_le = omega arith;
+      peer_le = omega arith;
+      closed = λ f e. absurd (let no : None ≡ Some f = sym none ∙ e in cc);
+    })) (settled_ledger t ∙ entry)
+    (ap (λ c. cons_option (option_map event.Closed c) []) now)
+    (subst (λ c. All (IsNamed n.dance.log.current.own n.dance.log.acknowledged.peer c) (ref.Close ∷ [])) (sym now)
+    (tt, tt)) named)
 
 fee_tells : (k : Signer) (r : Role) (o : Opening) (m : ClosingSigned) (ans : Answer) (x : End) (y : Party)
     → answer_to x.closing m.fee_satoshis (range_in m) ≡ Ok ans
@@ -226,19 +308,21 @@ fee_tells k r o m answer.Nothing x y e =
     let n = settled t in
     silent r o x n y _ [] refl (settled_ledger t)
     (λ q. tail_none q r x.closing.closed n.closing.closed x.closing.shut n.closing.shut _ (settled_closed r o y t))
+    (λ w. keep_settled r o y x t (keep_same x))
 fee_tells k r o m (answer.Propose fee) x y e =
     let t = (answering k (answer.Propose fee) (answered_end m (answer.Propose fee) x)).end in
     let n = settled t in
     silent r o x n y _ [] refl (settled_ledger t)
     (λ q. tail_none q r x.closing.closed n.closing.closed x.closing.shut n.closing.shut _ (settled_closed r o y t))
+    (λ w. keep_settled r o y x t (keep_same x))
 fee_tells k r o m (answer.Close fee) x y e =
     let t = (answering k (answer.Close fee) (answered_end m (answer.Close fee) x)).end in
     closed_told k r o fee (answer.Close fee) x t y _
-    (still_open x.closing.closed m.fee_satoshis _ (answer.Close fee) (λ q. absurd (cc)) e) refl refl refl
+    (still_open x.closing.closed m.fee_satoshis _ (answer.Close fee) (λ q. absurd (cc)) e) refl refl refl refl
 fee_tells k r o m (answer.EchoAndClose fee) x y e =
     let t = (answering k (answer.EchoAndClose fee) (answered_end m (answer.EchoAndClose fee) x)).end in
     closed_told k r o fee (answer.EchoAndClose fee) x t y _
-    (still_open x.closing.closed m.fee_satoshis _ (answer.EchoAndClose fee) (λ q. absurd (cc)) e) refl refl refl
+    (still_open x.closing.closed m.fee_satoshis _ (answer.EchoAndClose fee) (λ q. absurd (cc)) e) refl refl refl refl
 
 -- ---- no event is among the messages
 
@@ -302,9 +386,13 @@ with_sent r o x n y ms sent os none t = record {
   told = in_append sent os ∙ ap (λ z. z ++ events_in os) none ∙ t.told;
   next = t.next;
   other = t.other;
+  pends = t.pends;
 }
 
 -- ---- two ends
+
+keep_sign : (x : End) → Keep x (signs_next x)
+keep_sign x = record { own = refl; peer = refl; own_le = omega arith; peer_le = omega arith; closed = λ f e. e }
 
 asked_none : (q r : Role) (c : Command) (e : End) (m : Machine) → events q (moves_asked r c e) (Some m) ≡ []
 asked_none q r (command.Confirm id) e m = refl
@@ -321,6 +409,7 @@ asked_none q r (command.Forget id) e m = refl
 module _ (a b : Signer) (keys : AreKeys a b) (r : Role) (o : Opening) where
   rests : (p q : Ends) → q.x ≡ p.x → Tells r o p.x q.x (party p.y) [] []
   rests p q e = silent r o p.x q.x (party p.y) [] [] refl (ap (λ (z : End). z.ledger) e) (λ z. refl)
+      (λ w. subst (Keep p.x) (sym e) (keep_same p.x))
 
   met : (p : Ends) → p.x_line ≡ Met → (channel : List ℕ) (n : Notice) (ns to_y : List Notice) → is_close n ≡ false
       → Hold a b channel Met p.y_line p.x p.y (n ∷ ns) to_y p.said_x p.said_y
@@ -352,7 +441,8 @@ module _ (a b : Signer) (keys : AreKeys a b) (r : Role) (o : Opening) where
       (both_none (sent_again a m p.x) (due_sent a p.x) (again_none a m p.x) (due_none a p.x))
       (silent r o p.x n (party p.y) _ [] refl (settled_ledger p.x)
       (λ z. tail_none z r p.x.closing.closed n.closing.closed p.x.closing.shut n.closing.shut _
-      (settled_closed r o (party p.y) p.x))))
+      (settled_closed r o (party p.y) p.x))
+      (λ w. keep_settled r o (party p.y) p.x p.x (keep_same p.x))))
 
   fee_by : (begun right : Bool) (res : Result Answer Refusal) (p : Ends) (channel : List ℕ) (m : ClosingSigned)
       (ns : List Notice) → answer_to p.x.closing m.fee_satoshis (range_in m) ≡ res
@@ -408,28 +498,34 @@ module _ (a b : Signer) (keys : AreKeys a b) (r : Role) (o : Opening) where
   delivered_by Met p is channel (Again m ∷ ns) to_y h = met p is channel (Again m) ns to_y refl h
 
   given_by : (f : Option Refusal) (t : Turn) (c : Command) (p : Ends) → events_in (all_of t.handed) ≡ []
-      → t.end.ledger ≡ p.x.ledger
+      → t.end.ledger ≡ p.x.ledger → (log.IsWithin p.x.dance.log → Keep p.x t.end)
       → Tells r o p.x (answers (unless f t) p).x (party p.y) (moves_of_command r c p.x (unless f t))
       (told_by (unless f t))
-  given_by None t c p none same =
+  given_by None t c p none same keep =
       silent r o p.x t.end (party p.y) (moves_asked r c p.x) (all_of t.handed) none same
-      (λ q. asked_none q r c p.x (made r o (party p.x) (party p.y)))
-  given_by (Some z) t c p none same = rests p p refl
+      (λ q. asked_none q r c p.x (made r o (party p.x) (party p.y))) keep
+  given_by (Some z) t c p none same keep = rests p p refl
 
   given : (c : Command) (p : Ends)
       → Tells r o p.x (answers (command_row a c p.x) p).x (party p.y) (moves_of_command r c p.x (command_row a c p.x))
       (told_by (command_row a c p.x))
-  given (command.Confirm id) p = given_by (confirm_fault p.x) _ (command.Confirm id) p refl refl
+  given (command.Confirm id) p = given_by (confirm_fault p.x) _ (command.Confirm id) p refl refl (λ w. keep_same p.x)
   given (command.Add amount hash expiry onion origin) p =
       given_by _ _ (command.Add amount hash expiry onion origin) p refl refl
+      (λ w. keep_own p.x.dance.log p.x.closing.closed _ w)
   given (command.Fulfil id preimage) p = given_by _ _ (command.Fulfil id preimage) p refl refl
+      (λ w. keep_own p.x.dance.log p.x.closing.closed _ w)
   given (command.Fail id reason) p = given_by _ _ (command.Fail id reason) p refl refl
+      (λ w. keep_own p.x.dance.log p.x.closing.closed _ w)
   given (command.Malformed id sha code) p = given_by _ _ (command.Malformed id sha code) p refl refl
+      (λ w. keep_own p.x.dance.log p.x.closing.closed _ w)
   given (command.Fee feerate) p = given_by _ _ (command.Fee feerate) p refl refl
-  given command.Sign p = given_by (sign_command_fault p.x) _ command.Sign p refl refl
+      (λ w. keep_own p.x.dance.log p.x.closing.closed _ w)
+  given command.Sign p = given_by (sign_command_fault p.x) _ command.Sign p refl refl (λ w. keep_sign p.x)
   given (command.Shutdown script) p = given_by (shut_fault script p.x) _ (command.Shutdown script) p
       (both_none (due_sent a (shuts_down script p.x)) [] (due_none a (shuts_down script p.x)) refl)
       (settled_ledger (shuts_down script p.x))
+      (λ w. keep_settled r o (party p.y) p.x (shuts_down script p.x) (keep_same p.x))
   given (command.Decide event mark) p = rests p p refl
   given (command.Forget id) p = rests p p refl
 
@@ -447,6 +543,7 @@ module _ (a b : Signer) (keys : AreKeys a b) (r : Role) (o : Opening) where
       (cond down [] (Drop r ∷ [])) []
   lost_by true p = rests p p refl
   lost_by false p = silent r o p.x (end_dropped p.x) (party p.y) (Drop r ∷ []) [] refl refl (λ q. refl)
+      (λ w. keep_dropped p.x.dance.log p.x.closing.closed w)
 
   pub acts_told : (act : Act) (p : Ends) → Holds a b p
       → Tells r o p.x (acts a act p).x (party p.y) (moves_of_act a r act p) (told_in a act p)
@@ -549,3 +646,142 @@ events_so a b s c funder fundee steps r keys o =
     ∙ ap (λ n. numbered n (as_told (events r (all_moves a b steps p) (Some (machine_at q p)))))
     (first_next r funder fundee)
     ∙ ap (λ m. numbered 0 (as_told (events r (all_moves a b steps p) m))) st.first
+
+-- ---- what the ledger counts
+
+all_counted : (a b : Signer) → AreKeys a b → (r : Role) (ss : List Step) (o : Opening) (p : Ends) → Keeps o p
+    → Holds a b p → next_of r (run a b ss p)
+    ≡ next_of r p + length (as_told (events r (all_moves a b ss p) (Some (machine_at o p))))
+all_counted a b keys r [] o p k h = omega arith
+all_counted a b keys r (s ∷ ss) o p k h =
+    let q = happens a b s p in
+    let ms = moves_of a b s p in
+    let ns = all_moves a b ss q in
+    let m = happens_so a b keys s o p k h in
+    let t = step_told a b keys r s o p k h in
+    let rest = all_counted a b keys r ss o q m.1 (ran a b keys (s ∷ []) p h) in
+    let first = as_told (events r ms (Some (machine_at o p))) in
+    let then = as_told (events r ns (Some (machine_at o q))) in
+    let is : as_told (events r (ms ++ ns) (Some (machine_at o p))) ≡ first ++ then =
+    ap as_told (events_append r ms ns (Some (machine_at o p))
+    ∙ ap (λ z. events r ms (Some (machine_at o p)) ++ events r ns z)
+    (run_after ms (Some (machine_at o p)) (Some (machine_at o q)) m.0))
+    ∙ told_append (events r ms (Some (machine_at o p))) (events r ns (Some (machine_at o q))) in
+    let all : length (as_told (events r (ms ++ ns) (Some (machine_at o p)))) ≡ length first + length then =
+    ap length is ∙ length-append first then in
+    let next : next_of r q ≡ next_of r p + length first = t.next in
+    let last : next_of r (run a b ss q) ≡ next_of r q + length then = rest in
+    omega (arith, all, next, last)
+
+next_by : (r : Role) (p : Ends) → next_of r p ≡ next_event (end_of_role r p).ledger
+next_by Funder p = refl
+next_by Fundee p = refl
+
+entered_so : (a b : Signer) (s : OpenSpec) (c : Config) (funder fundee : Opened) (steps : List Step) (r : Role)
+    → AreKeys a b → Opens a b s c funder fundee
+    → next_event (end_of_role r (run a b steps (opened funder fundee))).ledger
+    ≡ length (as_told (events r (history a b funder fundee steps) None))
+entered_so a b s c funder fundee steps r keys o =
+    let p = opened funder fundee in
+    let q = funder.dance.log.opening in
+    let st = starts a b s c funder fundee o in
+    sym (next_by r (run a b steps p)) ∙ all_counted a b keys r steps q p st.keeps (opened_holds a b s c funder fundee o)
+    ∙ ap (λ n. n + length (as_told (events r (all_moves a b steps p) (Some (machine_at q p)))))
+    (first_next r funder fundee)
+    ∙ (let k : 0 + length (as_told (events r (all_moves a b steps p) (Some (machine_at q p))))
+    ≡ length (as_told (events r (all_moves a b steps p) (Some (machine_at q p)))) = omega arith in k)
+    ∙ ap (λ m. length (as_told (events r (all_moves a b steps p) m))) st.first
+
+-- ---- what the ledger names
+
+step_pends : (a b : Signer) → AreKeys a b → (r : Role) (s : Step) (o : Opening) (p : Ends) → Keeps o p → Holds a b p
+    → Named (end_of_role r p)
+    → Pends (end_of_role r p) (end_of_role r (happens a b s p))
+    (as_told (events r (moves_of a b s p) (Some (machine_at o p))))
+step_pends a b keys Funder (By Funder act) o p k h named =
+    (acts_told a b keys Funder o act p h).pends (log_within a p.x h.hold.kept.there.within) named
+step_pends a b keys Fundee (By Fundee act) o p k h named =
+    let g = flipped a b p h in
+    (acts_told b a (flipped_keys a b keys) Fundee o act (turned p) g).pends
+    (log_within b p.y g.hold.kept.there.within) named
+step_pends a b keys Fundee (By Funder act) o p k h named =
+    let t = acts_told a b keys Funder o act p h in
+    let m = acts_so a b keys Funder o act p k.x h in
+    subst (λ es. Pends p.y (happens a b (By Funder act) p).y (as_told es)) (sym t.other)
+    (same_pends p.y (happens a b (By Funder act) p).y m.other named)
+step_pends a b keys Funder (By Fundee act) o p k h named =
+    let t = acts_told b a (flipped_keys a b keys) Fundee o act (turned p) (flipped a b p h) in
+    let m = acts_so b a (flipped_keys a b keys) Fundee o act (turned p) k.y (flipped a b p h) in
+    subst (λ es. Pends p.x (happens a b (By Fundee act) p).x (as_told es)) (sym t.other)
+    (same_pends p.x (happens a b (By Fundee act) p).x m.other named)
+step_pends a b keys r Connect o p k h named =
+    same_pends (end_of_role r p) (end_of_role r (happens a b Connect p)) (same r p.x_line p.y_line) named
+  where
+    same : (q : Role) (lx ly : Line) → end_of_role q (connects a b lx ly p) ≡ end_of_role q p
+    same Funder Down Down = refl
+    same Fundee Down Down = refl
+    same q Down Awaiting = refl
+    same q Down Met = refl
+    same q Awaiting l = refl
+    same q Met l = refl
+
+all_pend : (a b : Signer) → AreKeys a b → (r : Role) (ss : List Step) (o : Opening) (p : Ends) → Keeps o p
+    → Holds a b p → Named (end_of_role r p)
+    → Pends (end_of_role r p) (end_of_role r (run a b ss p))
+    (as_told (events r (all_moves a b ss p) (Some (machine_at o p))))
+all_pend a b keys r [] o p k h named = same_pends (end_of_role r p) (end_of_role r p) refl named
+all_pend a b keys r (s ∷ ss) o p k h named =
+    let q = happens a b s p in
+    let ms = moves_of a b s p in
+    let ns = all_moves a b ss q in
+    let m = happens_so a b keys s o p k h in
+    let t = step_pends a b keys r s o p k h named in
+    let rest = all_pend a b keys r ss o q m.1 (ran a b keys (s ∷ []) p h) t.named in
+    let first = as_told (events r ms (Some (machine_at o p))) in
+    let then = as_told (events r ns (Some (machine_at o q))) in
+    let x = end_of_role r p in
+    let is : as_told (events r (ms ++ ns) (Some (machine_at o p))) ≡ first ++ then =
+    ap as_told (events_append r ms ns (Some (machine_at o p))
+    ∙ ap (λ z. events r ms (Some (machine_at o p)) ++ events r ns z)
+    (run_after ms (Some (machine_at o p)) (Some (machine_at o q)) m.0))
+    ∙ told_append (events r ms (Some (machine_at o p))) (events r ns (Some (machine_at o q))) in
+    record {
+      entries = rest.entries ∙ ap (λ es. es ++ then) t.entries
+          ∙ append_assoc (pending x.ledger.undecided x) first then
+          ∙ ap (λ es. pending x.ledger.undecided x ++ es) (sym is);
+      named = rest.named;
+      decided = rest.decided ∙ t.decided;
+    }
+
+pub in_step_so : (a b : Signer) (s : OpenSpec) (c : Config) (funder fundee : Opened) (steps : List Step) (r : Role)
+    → AreKeys a b → Opens a b s c funder fundee
+    → IsInStep (as_told (events r (history a b funder fundee steps) None))
+    (end_of_role r (run a b steps (opened funder fundee)))
+in_step_so a b s c funder fundee steps r keys o =
+    let p = opened funder fundee in
+    let q = funder.dance.log.opening in
+    let st = starts a b s c funder fundee o in
+    let n = end_of_role r (run a b steps p) in
+    let es = as_told (events r (history a b funder fundee steps) None) in
+    let t = all_pend a b keys r steps q p st.keeps (opened_holds a b s c funder fundee o) (none r) in
+    let so : as_told (events r (all_moves a b steps p) (Some (machine_at q p))) ≡ es =
+    ap (λ m. as_told (events r (all_moves a b steps p) m)) st.first in
+    let zero_decided : n.ledger.decided ≡ 0 = t.decided ∙ undecided_all r in
+    record {
+      pending = t.entries ∙ ap (λ z. z ++ as_told (events r (all_moves a b steps p) (Some (machine_at q p)))) (empty r)
+          ∙ so ∙ ap (λ i. drop i es) (sym zero_decided);
+      all = entered_so a b s c funder fundee steps r keys o;
+    }
+  where
+    none : (r : Role) → Named (end_of_role r (opened funder fundee))
+    none Funder = tt
+    none Fundee = tt
+
+    undecided_all : (r : Role) → (end_of_role r (opened funder fundee)).ledger.decided ≡ 0
+    undecided_all Funder = refl
+    undecided_all Fundee = refl
+
+    empty : (r : Role) → pending (end_of_role r (opened funder fundee)).ledger.undecided
+        (end_of_role r (opened funder fundee)) ≡ []
+    empty Funder = refl
+    empty Fundee = refl

@@ -95,7 +95,7 @@ at_most own n (u ∷ us) =
     let one = one_at_most (event_of own u) (ref_of own n) (refs_of own (n + 1) us) (length us) rest in
     omega (arith, one)
 
-length-between : (c d : ℕ) (us : List Change) → length (between c d us) ≤ d - c
+pub length-between : (c d : ℕ) (us : List Change) → length (between c d us) ≤ d - c
 length-between c d us = let is = length-take (d - c) (drop c us) in omega (arith, is)
 
 -- ---- turns

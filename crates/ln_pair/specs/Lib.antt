@@ -2,8 +2,10 @@ pub mod Ends
 pub mod Promises
 pub mod Moves
 pub mod Told
+pub mod Pending
 pub mod Answers
 pub mod Widths
+pub mod Setup
 pub use Rattle.ln_log.specs.Machine
 pub use Rattle.ln_log.specs.Log
 pub use Rattle.ln_link.specs.Opening

@@ -1,6 +1,6 @@
 -- What every list of steps of two ends promises.
 use Rattle.std.specs.Prelude.{◌≡◌, ◌⊎◌, ℕ, ◌<◌, ◌≤◌, ◌^◌, List, [], ◌∷◌, length, Bool, true, false, ◌||◌, Some}
-use Rattle.std.specs.Prelude.{Result, Ok, Err, min, max}
+use Rattle.std.specs.Prelude.{None, Result, Ok, Err, min, max}
 use Rattle.ln_msgs.specs.declared.messages.message.Message.{Message}
 use Rattle.ln_msgs.specs.declared.messages.message.Message.TheVariants as message
 use Rattle.ln_msgs.specs.declared.refusals.refusal.Refusal.{Refusal}
@@ -116,6 +116,25 @@ HoldTheSame x y = HoldsAll (party x) (party y) × HoldsAll (party y) (party x) �
 
 abbrev pub Agrees : Ends → Type 0
 Agrees p = IsAtRest p → HoldTheSame p.x p.y
+
+-- ---- where nothing is in flight
+
+pub record IsQuiet (p : Ends) : Type 0 where
+  pub x_met : p.x_line ≡ Met
+  pub y_met : p.y_line ≡ Met
+  pub to_x : p.to_x ≡ []
+  pub to_y : p.to_y ≡ []
+
+-- y has taken x's shutdown where x has sent one, and its channel_ready, which an end that has closed passes over
+pub record HasTakenMarks (x y : End) : Type 0 where
+  pub shutdown : y.closing.peer_shut ≡ x.closing.shut
+  pub ready : y.closing.closed ≡ None → y.marks.ready_received ≡ x.marks.ready_sent
+
+abbrev pub SameMarks : End → End → Type 0
+SameMarks x y = HasTakenMarks x y × HasTakenMarks y x
+
+abbrev pub MarksAgree : Ends → Type 0
+MarksAgree p = IsQuiet p → SameMarks p.x p.y
 
 -- ---- no add behind the own shutdown (BOLT 2, "Closing Initiation: shutdown")
 

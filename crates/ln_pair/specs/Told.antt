@@ -1,5 +1,5 @@
 -- The events that an end tells over a list of steps, and what the machine's moves tell its side.
-use Rattle.std.specs.Prelude.{List, [], ◌∷◌, ◌++◌, Option, Some, Result, Ok, Err}
+use Rattle.std.specs.Prelude.{◌≡◌, List, [], ◌∷◌, ◌++◌, Bool, true, false, Option, Some, Result, Ok, Err}
 use Rattle.std.specs.List.{cons_option}
 use Rattle.ln_msgs.specs.declared.messages.message.Message.{Message}
 use Rattle.ln_msgs.specs.declared.refusals.refusal.Refusal.{Refusal}
@@ -62,3 +62,24 @@ told a b Fundee Connect p = []
 abbrev pub all_told : Signer → Signer → Role → List Step → Ends → List Output
 all_told a b side [] p = []
 all_told a b side (s ∷ ss) p = told a b side s p ++ all_told a b side ss (happens a b s p)
+
+-- ---- nothing comes behind the close
+
+-- the events among what is handed out, without their numbers
+abbrev pub unnumbered : List Output → List ChannelEvent
+unnumbered [] = []
+unnumbered (output.Send m ∷ os) = unnumbered os
+unnumbered (output.Signed n ∷ os) = unnumbered os
+unnumbered (output.Committed own peer ∷ os) = unnumbered os
+unnumbered (output.Event n e ∷ os) = e ∷ unnumbered os
+unnumbered (output.Closed fee ∷ os) = unnumbered os
+
+abbrev pub is_closing : ChannelEvent → Bool
+is_closing (event.Added own id amount hash expiry onion) = false
+is_closing (event.Settled own id how) = false
+is_closing (event.Closed fee) = true
+
+-- of events in their order, nothing stands behind a close: it is the last, and there is one at most
+abbrev pub ClosesLast : List ChannelEvent → Type 0
+ClosesLast [] = Unit {0}
+ClosesLast (e ∷ es) = (is_closing e ≡ true → es ≡ []) × ClosesLast es

@@ -18,7 +18,8 @@ ghost use Rattle.ln_link.specs.Step.{turned, saved_at, obeyed};
 ghost use Rattle.ln_pair.specs.Ends.{Step, opened, message_at, command_at, run};
 ghost use Rattle.ln_pair.specs.Promises.{AreKeys, AreSent, AreAgreeable, Headline, NoneRefused, AllTaken};
 ghost use Rattle.ln_pair.specs.Answers.{BothHaveAnswered};
-ghost use Rattle.ln_pair.specs.Promises.{OneFee, Agrees, NoneAddsLate};
+ghost use Rattle.ln_pair.specs.Promises.{OneFee, Agrees, NoneAddsLate, MarksAgree};
+ghost use Rattle.ln_pair.specs.Setup.{setup_of, AreSetUp};
 
 /// A law: what either end holds as irrevocably committed is, each update once and in the order in which it was sent,
 /// a beginning of what the other end has covered by a signature.
@@ -57,6 +58,13 @@ pub fn both_agree_at_rest()
         → Opens a b s c funder fundee → Agrees (run a b steps (opened funder fundee)) }
 {}
 
+/// A law: where both ends have met and nothing is in flight, either has taken the other's `shutdown` exactly where one
+/// was sent, and its `channel_ready` likewise, unless it has closed: an end that has closed passes that over.
+pub fn marks_agree_at_rest()
+    ensures { (a b : Signer) (s : OpenSpec) (c : Config) (funder fundee : Opened) (steps : List Step) → AreKeys a b
+        → Opens a b s c funder fundee → MarksAgree (run a b steps (opened funder fundee)) }
+{}
+
 /// A law: of all that an end has sent, over all its connections, no `update_add_htlc` stands behind a `shutdown`.
 pub fn no_add_follows_a_shutdown()
     ensures { (a b : Signer) (s : OpenSpec) (c : Config) (funder fundee : Opened) (steps : List Step) → AreKeys a b
@@ -68,6 +76,14 @@ pub fn no_add_follows_a_shutdown()
 pub fn a_shutdown_is_answered()
     ensures { (a b : Signer) (s : OpenSpec) (c : Config) (funder fundee : Opened) (steps : List Step) → AreKeys a b
         → Opens a b s c funder fundee → BothHaveAnswered (run a b steps (opened funder fundee)) }
+{}
+
+/// A law: both ends keep the opening that they agreed to, and each the range of closing fees that it was set up with.
+pub fn ends_stay_as_set_up()
+    ensures { (a b : Signer) (s : OpenSpec) (c : Config) (funder fundee : Opened) (steps : List Step) → AreKeys a b
+        → Opens a b s c funder fundee
+        → AreSetUp (setup_of funder fundee) (run a b steps (opened funder fundee)).x
+        (run a b steps (opened funder fundee)).y }
 {}
 
 /// A law of rows, not of whole calls: behind a link's looks at what has halted or failed, at what is passed over and at

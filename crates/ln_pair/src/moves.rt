@@ -14,7 +14,8 @@ ghost use Rattle.ln_link.specs.Outputs.{numbered};
 ghost use Rattle.ln_pair.specs.Ends.{Step, opened, run};
 ghost use Rattle.ln_pair.specs.Promises.{AreKeys};
 ghost use Rattle.ln_pair.specs.Moves.{machine_of, history, after_all};
-ghost use Rattle.ln_pair.specs.Told.{as_told, events_in, all_told};
+ghost use Rattle.ln_pair.specs.Pending.{end_of_role, IsInStep};
+ghost use Rattle.ln_pair.specs.Told.{as_told, events_in, all_told, unnumbered, ClosesLast};
 
 /// A law: the opening, then the moves that the steps are, lead the machine to the opening and the two parties that the
 /// ends stand for. Of commands that aren't refused, an update is proposed, a signature or a shutdown sent. A
@@ -47,4 +48,27 @@ pub fn events_are_told()
         → AreKeys a b → Opens a b s c funder fundee
         → events_in (all_told a b side steps (opened funder fundee))
         ≡ numbered 0 (as_told (events side (history a b funder fundee steps) None)) }
+{}
+
+/// A law: the events that an end has yet to decide are those of the moves for its side, each once and in their order,
+/// from the count of those that it has decided on, and none is missing: what is decided and what is undecided together
+/// are as many. Each is read from the update that its entry in the ledger names, as the end has it now, or from the fee
+/// at which it closed.
+pub fn undecided_events_are_the_machines()
+    ensures { (a b : Signer) (s : OpenSpec) (c : Config) (funder fundee : Opened) (steps : List Step) (side : Role)
+        → AreKeys a b → Opens a b s c funder fundee
+        → IsInStep (as_told (events side (history a b funder fundee steps) None))
+        (end_of_role side (run a b steps (opened funder fundee))) }
+{}
+
+/// A law: behind the event that an end's channel is closed comes no event: it is the last of those of the moves for its
+/// side, and of those that the end hands out over all steps. So an end closes once at most, and comes to hold no update
+/// behind its close (BOLT 2, "Closing Negotiation: closing_signed").
+pub fn close_is_last()
+    ensures of_the_moves { (a b : Signer) (s : OpenSpec) (c : Config) (funder fundee : Opened) (steps : List Step)
+        (side : Role) → AreKeys a b → Opens a b s c funder fundee
+        → ClosesLast (as_told (events side (history a b funder fundee steps) None)) }
+    ensures of_what_is_handed_out { (a b : Signer) (s : OpenSpec) (c : Config) (funder fundee : Opened)
+        (steps : List Step) (side : Role) → AreKeys a b → Opens a b s c funder fundee
+        → ClosesLast (unnumbered (all_told a b side steps (opened funder fundee))) }
 {}

@@ -33,14 +33,17 @@ use Rattle.ln_link.specs.Step as step
 use Rattle.ln_pair.specs.Ends.{Ends, Step}
 use Rattle.ln_pair.specs.Ends as pair
 use Rattle.ln_pair.specs.Promises.{AreKeys, AreSent, IsTaken, Overlap, CloseAtOneFee, TakesFront as Front}
-use Rattle.ln_pair.specs.Promises.{AcceptsFront as Accepted, FollowEachOther}
+use Rattle.ln_pair.specs.Promises.{AcceptsFront as Accepted, FollowEachOther, SameMarks}
 use Rattle.ln_pair.specs.Moves.{history, after_all}
 use Rattle.ln_pair.specs.Moves as pair_moves
 use Rattle.ln_pair.specs.Told.{events_in, as_told}
 use Rattle.ln_pair.specs.Told as pair_told
+use Rattle.ln_pair.specs.Pending.{IsInStep, end_of_role}
+use Rattle.ln_pair.specs.Setup.{Setup, setup_of, AreSetUp}
 use Rattle.ln_pair.proofs.Tellings.{in_append}
 use Rattle.ln_pair.proofs.Machines.{may_be_made}
-use Rattle.ln_pair.proofs.Recounts.{events_so}
+use Rattle.ln_pair.proofs.Recounts.{events_so, in_step_so}
+use Rattle.ln_pair.proofs.Machines.{set_up_so}
 use Rattle.ln_pair.proofs.Fees.{one_fee, all_taken}
 use Rattle.ln_pair.specs.Answers.{HasAnswered}
 use Rattle.ln_pair.proofs.Answers.{all_answered}
@@ -64,9 +67,10 @@ use Rattle.ln_world.specs.Settings.{channel_id_of}
 use Rattle.ln_world.specs.Both.{Both, By, Falls, Restarts, Meet, acts, swapped, moves, may_come_up}
 use Rattle.ln_world.specs.Both.{run as run_both}
 use Rattle.ln_world.specs.Channel.{Channel, by, side_of, moved, may_meet, act_moves, fall_moves, restart_moves}
-use Rattle.ln_world.specs.Channel.{up_moves}
-use Rattle.ln_world.specs.Promises.{AtEnds, Headline, TakesFront, NoneRefused, AgreeOnceSigned, Agrees}
+use Rattle.ln_world.specs.Channel.{up_moves, place_of}
+use Rattle.ln_world.specs.Promises.{AtEnd, AtEnds, Headline, TakesFront, NoneRefused, AgreeOnceSigned, Agrees}
 use Rattle.ln_world.specs.Promises.{FeesOverlap, AcceptsFront, AllTaken, OneFee, HaveAnswered, AnswersShutdown}
+use Rattle.ln_world.specs.Promises.{MarksAgree}
 use Rattle.ln_world.specs.Records.{HaveSecrets, IsAct}
 use Rattle.ln_world.proofs.Mirror.{link_of, without_warnings, IsInbox, Mirrors, flipped, plain}
 use Rattle.ln_world.proofs.Dropped.{are_dropped}
@@ -308,6 +312,9 @@ module _ {K : Type 0} (signer : K → Signer) where
   told_until side id p r = events_in
       (pair_told.all_told (signer r.funders) (signer r.fundees) side r.steps (pair.opened r.funder r.fundee))
 
+  abbrev pub setup_at : (id : List ℕ) (p : Both K) → IsRun id p → Setup
+  setup_at id p r = setup_of r.funder r.fundee
+
   abbrev pub IsWideRun : (id : List ℕ) (p : Both K) → IsRun id p → Type 0
   IsWideRun id p r = AreWide (signer r.funders) (signer r.fundees) r.funder r.fundee r.steps
 
@@ -320,6 +327,7 @@ module _ {K : Type 0} (signer : K → Signer) where
     pub moves : moves_until id p' run ≡ moves_until id p r ++ t.moves
     pub told_x : told_until Funder id p' run ≡ told_until Funder id p r ++ events_in t.told_x
     pub told_y : told_until Fundee id p' run ≡ told_until Fundee id p r ++ events_in t.told_y
+    pub setup : setup_at id p' run ≡ setup_at id p r
 
   silently : (said out : List Message) → without_warnings out ≡ [] → said ≡ said ++ without_warnings out
   silently said out none = sym (ap (λ ws. said ++ ws) none ∙ append-nil said)
@@ -365,6 +373,7 @@ module _ {K : Type 0} (signer : K → Signer) where
         told_y = ap events_in (told-append a b Fundee r.steps s first)
             ∙ in_append (pair_told.all_told a b Fundee r.steps first) (pair_told.told a b Fundee s q)
             ∙ ap (λ os. told_until Fundee id p r ++ os) oy;
+        setup = refl;
       }
 
   stayed_so : (id : List ℕ) (p p' : Both K) (r : IsRun id p) (t : Tale) (brings : Type 0)
@@ -379,6 +388,7 @@ module _ {K : Type 0} (signer : K → Signer) where
     moves = nothing_more (moves_until id p r) t.moves ms;
     told_x = nothing_more (told_until Funder id p r) (events_in t.told_x) ox;
     told_y = nothing_more (told_until Fundee id p r) (events_in t.told_y) oy;
+    setup = refl;
   }
 
   acted_went : (id : List ℕ) (side : Role) (a : Act) (p : Both K) (r : IsRun id p)
@@ -562,6 +572,21 @@ module _ {K : Type 0} (signer : K → Signer) where
       → events_in t.told_y ≡ numbered 0 (as_told (events Fundee t.moves None))
   fundee_told id p t h = sym h.told_y ∙ events_told Fundee id p t h
 
+  -- ---- what it has yet to decide
+
+  at_link : (side : Role) (id : List ℕ) (p : Both K) (r : IsRun id p) (f : End → Type 0)
+      → f (end_of_role side (ends_of id p r)) → AtEnd f (place_of side p).link.stage
+  at_link Funder id p r f h = subst (λ (l : State K). AtEnd f l.stage) (sym r.mirrors.x_link) h
+  at_link Fundee id p r f h = subst (λ (l : State K). AtEnd f l.stage) (sym r.mirrors.y_link) h
+
+  pub in_step : (side : Role) (id : List ℕ) (p : Both K) (t : Tale) → IsTold id p t
+      → AtEnd (IsInStep (as_told (events side t.moves None))) (place_of side p).link.stage
+  in_step side id p t h =
+      let r = h.run in
+      at_link side id p r (IsInStep (as_told (events side t.moves None)))
+      (subst (λ ms. IsInStep (as_told (events side ms None)) (end_of_role side (ends_of id p r))) h.moves
+      (in_step_so (signer r.funders) (signer r.fundees) r.spec r.config r.funder r.fundee r.steps side r.keys r.opens))
+
   -- ---- by the table
 
   acted_by : (id : List ℕ) (o : Option Role) (a : Act) (p : Both K) → IsRun id p
@@ -607,6 +632,11 @@ module _ {K : Type 0} (signer : K → Signer) where
       let y : stage.Saved q.y ≡ p.y.link.stage = ap (λ (l : State K). l.stage) (sym h.y_link) in
       subst (λ s. AtEnds f p.x.link.stage s) y (subst (λ s. AtEnds f s (stage.Saved q.y)) x held)
 
+  pub as_set_up : (id : List ℕ) (p : Both K) (r : IsRun id p)
+      → AtEnds (AreSetUp (setup_at id p r)) p.x.link.stage p.y.link.stage
+  as_set_up id p r = at_links id r.funders r.fundees (AreSetUp (setup_at id p r)) p (ends_of id p r) r.mirrors
+      (set_up_so (signer r.funders) (signer r.fundees) r.spec r.config r.funder r.fundee r.steps r.keys r.opens)
+
   pub headline : (id : List ℕ) (p : Both K) → IsRun id p → Headline p
   headline id p r = at_links id r.funders r.fundees FollowEachOther p (ends_of id p r) r.mirrors
       (promised.headline (signer r.funders) (signer r.fundees) r.spec r.config r.funder r.fundee r.steps r.keys r.opens)
@@ -624,6 +654,18 @@ module _ {K : Type 0} (signer : K → Signer) where
         to_y = sym h.y_in.told ∙ ap without_warnings quiet.to_y;
         x = x;
         y = y;
+      }))
+
+  pub marks_agree : (id : List ℕ) (p : Both K) → IsRun id p → MarksAgree p
+  marks_agree id p r quiet =
+      let h = r.mirrors in
+      at_links id r.funders r.fundees SameMarks p (ends_of id p r) h
+      (promised.marks_agree (signer r.funders) (signer r.fundees) r.spec r.config r.funder r.fundee r.steps r.keys
+      r.opens (record {
+        x_met = ap (λ (l : State K). l.line) (sym h.x_link) ∙ quiet.x_met;
+        y_met = ap (λ (l : State K). l.line) (sym h.y_link) ∙ quiet.y_met;
+        to_x = sym h.x_in.told ∙ ap without_warnings quiet.to_x;
+        to_y = sym h.y_in.told ∙ ap without_warnings quiet.to_y;
       }))
 
   -- ---- none is refused

@@ -12,6 +12,7 @@ pub mod Lacking
 pub mod Worlds
 pub mod Promised
 pub mod Told
+pub mod SetUp
 pub mod Opening
 pub mod OpeningForms
 pub mod UpdateForms

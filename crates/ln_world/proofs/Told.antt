@@ -13,7 +13,8 @@ use Rattle.ln_link.specs.Outputs.{numbered}
 use Rattle.ln_store.proofs.Formats.{both_true}
 use Rattle.ln_pair.specs.Moves.{after_all}
 use Rattle.ln_pair.specs.Promises.{AddsBefore}
-use Rattle.ln_pair.specs.Told.{as_told, events_in}
+use Rattle.ln_pair.specs.Told.{as_told, events_in, unnumbered, ClosesLast}
+use Rattle.ln_pair.proofs.ClosesLast.{closes_last, handed_last}
 use Rattle.ln_pair.proofs.Machines.{run_after}
 use Rattle.ln_world.specs.declared.step.Act.{Act}
 use Rattle.ln_world.specs.declared.step.Node.{Node}
@@ -29,7 +30,7 @@ use Rattle.ln_world.specs.World.{empty, run}
 use Rattle.ln_world.specs.Promises.{BringsFit, BringFit}
 use Rattle.ln_world.specs.Course.{step_moves, in_channel, over}
 use Rattle.ln_world.specs.Sending.{sends, sent_in, NoneAddsLate}
-use Rattle.ln_world.specs.Machine.{machine_of, moves_of, moves_in, history, tells, told_in, all_told}
+use Rattle.ln_world.specs.Machine.{machine_of, moves_of, moves_in, history, tells, told_in, all_told, AreInStep}
 use Rattle.ln_world.proofs.Kept.{Tale, untold, then, then-untold, then_assoc, IsTold, tale_along, ArePossible}
 use Rattle.ln_world.proofs.Kept as channels
 use Rattle.ln_world.proofs.Promised.{brings_so, set_so, Keeps, IsToldOf, opening_tale, opened_told, keys_so}
@@ -37,12 +38,12 @@ use Rattle.ln_world.proofs.Promised.{happened}
 
 -- ---- a channel, where it is found
 
-abbrev or_else : {A : Type 0} → Option A → Option A → Option A
+abbrev pub or_else : {A : Type 0} → Option A → Option A → Option A
 or_else None o = o
 or_else (Some x) o = Some x
 
 module _ {K : Type 0} (k : Ghosts K) where
-  abbrev moved_or_not : Bool → (Channel K → List Move) → Channel K → Channel K
+  abbrev pub moved_or_not : Bool → (Channel K → List Move) → Channel K → Channel K
   moved_or_not b f c = cond b (moved k.signer f c) c
 
   same_number : (b : Bool) (f : Channel K → List Move) (c : Channel K) → (moved_or_not b f c).number ≡ c.number
@@ -54,7 +55,7 @@ module _ {K : Type 0} (k : Ghosts K) where
   found_by true f c o o' e = refl
   found_by false f c o o' e = e
 
-  found_moved : (n m : ℕ) (f : Channel K → List Move) (cs : List (Channel K))
+  pub found_moved : (n m : ℕ) (f : Channel K → List Move) (cs : List (Channel K))
       → channel n (moved_at k.signer m f cs) ≡ option_map (moved_if k.signer m f) (channel n cs)
   found_moved n m f [] = refl
   found_moved n m f (c ∷ cs) =
@@ -63,7 +64,7 @@ module _ {K : Type 0} (k : Ghosts K) where
       ∙ found_by (c.number == n) (moved_if k.signer m f) c (channel n cs) (channel n (moved_at k.signer m f cs))
       (found_moved n m f cs)
 
-  found_in_all : (n : ℕ) (f : Channel K → List Move) (cs : List (Channel K))
+  pub found_in_all : (n : ℕ) (f : Channel K → List Move) (cs : List (Channel K))
       → channel n (all_moved k.signer f cs) ≡ option_map (moved k.signer f) (channel n cs)
   found_in_all n f [] = refl
   found_in_all n f (c ∷ cs) =
@@ -75,7 +76,7 @@ module _ {K : Type 0} (k : Ghosts K) where
   found_behind true d o extra o' e = refl
   found_behind false d o extra o' e = e
 
-  found_joined : (n : ℕ) (c : Channel K) (cs : List (Channel K))
+  pub found_joined : (n : ℕ) (c : Channel K) (cs : List (Channel K))
       → channel n (cs ++ c ∷ []) ≡ or_else (channel n cs) (cond (c.number == n) (Some c) None)
   found_joined n c [] = refl
   found_joined n c (d ∷ cs) =
@@ -160,7 +161,7 @@ module _ {K : Type 0} (k : Ghosts K) where
   joined_told s (Some c) new true t q is only fresh h = absurd (let no : Some c ≡ None = only refl in cc)
   joined_told s (Some c) new false t q is only fresh h = still_told s (Some c) t is h
 
-  none_so : (o : Option (Channel K)) → is_none o ≡ true → o ≡ None
+  pub none_so : (o : Option (Channel K)) → is_none o ≡ true → o ≡ None
   none_so None e = refl
   none_so (Some c) e = absurd (cc)
 
@@ -302,3 +303,24 @@ module _ {K : Type 0} (k : Ghosts K) where
       → events_in (all_told k n side ss empty) ≡ numbered 0 (as_told (events side (history k n ss empty) None))
   events_so ss n Funder f = funder_so (channel n (run k ss empty).channels) (tale_over n ss empty) (told_of n ss f)
   events_so ss n Fundee f = fundee_so (channel n (run k ss empty).channels) (tale_over n ss empty) (told_of n ss f)
+
+  step_so : (side : Role) (o : Option (Channel K)) (t : Tale) → Recounts o t
+      → AreInStep side (as_told (events side t.moves None)) o
+  step_so side None t h = ap (λ (u : Tale). as_told (events side u.moves None)) h
+  step_so side (Some c) t h = channels.in_step k.signer side (channel_id_of c.number) c.both t h
+
+  pub in_step_so : (ss : List (Step K k)) (n : ℕ) (side : Role) → BringFit k ss
+      → AreInStep side (as_told (events side (history k n ss empty) None)) (channel n (run k ss empty).channels)
+  in_step_so ss n side f =
+      step_so side (channel n (run k ss empty).channels) (tale_over n ss empty) (told_of n ss f)
+
+  pub moves_last : (ss : List (Step K k)) (n : ℕ) (side : Role) → BringFit k ss
+      → ClosesLast (as_told (events side (history k n ss empty) None))
+  moves_last ss n side f = closes_last side (history k n ss empty)
+      (machine_of (channel n (run k ss empty).channels)) (may_be_made ss n f)
+
+  pub told_last : (ss : List (Step K k)) (n : ℕ) (side : Role) → BringFit k ss
+      → ClosesLast (unnumbered (all_told k n side ss empty))
+  told_last ss n side f =
+      handed_last (all_told k n side ss empty) (as_told (events side (history k n ss empty) None))
+      (events_so ss n side f) (moves_last ss n side f)

@@ -9,3 +9,4 @@ pub mod Records
 pub mod Course
 pub mod Sending
 pub mod Machine
+pub mod Setup

@@ -1,6 +1,7 @@
 -- Which moves of the channel's abstract machine the steps of a world are, and what the ends of a channel tell (BOLT 2,
 -- "Normal Operation").
-use Rattle.std.specs.Prelude.{ℕ, List, [], ◌∷◌, ◌++◌, Option, Some, None, Result, Ok, Err, ◌==◌, ◌&&◌, if◌then◌else◌}
+use Rattle.std.specs.Prelude.{◌≡◌, ℕ, List, [], ◌∷◌, ◌++◌, Option, Some, None, Result, Ok, Err, ◌==◌, ◌&&◌}
+use Rattle.std.specs.Prelude.{if◌then◌else◌}
 use Rattle.ln_msgs.specs.declared.messages.message.Message.{Message}
 use Rattle.ln_msgs.specs.declared.refusals.refusal.Refusal.{Refusal}
 use Rattle.ln_keys.specs.declared.keys.ChannelKeys.{Ghosts}
@@ -9,6 +10,7 @@ use Rattle.ln_keys.specs.declared.role.Role.TheVariants.{Funder, Fundee}
 use Rattle.ln_keys.specs.Signer.{Signer}
 use Rattle.ln_log.specs.Machine.{Machine, Drop, Open}
 use Rattle.ln_log.specs.Machine as machine
+use Rattle.ln_hooks.specs.declared.event.ChannelEvent.{ChannelEvent}
 use Rattle.ln_link.specs.declared.command.Command.{Command}
 use Rattle.ln_link.specs.declared.link.Line.{Line}
 use Rattle.ln_link.specs.declared.link.Stage.{Stage}
@@ -18,6 +20,7 @@ use Rattle.ln_link.specs.End.{End}
 use Rattle.ln_link.specs.State.{State, is_down}
 use Rattle.ln_link.specs.Step.{Done, handled, commanded}
 use Rattle.ln_pair.specs.Moves.{machine_by, moves_asked, moves_between}
+use Rattle.ln_pair.specs.Pending.{IsInStep}
 use Rattle.ln_world.specs.declared.step.Act.{Act}
 use Rattle.ln_world.specs.declared.step.Act.TheVariants as act
 use Rattle.ln_world.specs.declared.step.Step.{Step}
@@ -26,6 +29,7 @@ use Rattle.ln_world.specs.Settings.{opening_by}
 use Rattle.ln_world.specs.Both.{Both, Place, Move, By, Falls, Restarts, Meet, greeting}
 use Rattle.ln_world.specs.Channel.{Channel, place_of}
 use Rattle.ln_world.specs.World.{World, channel, settings_of, may_open}
+use Rattle.ln_world.specs.Promises.{AtEnd}
 use Rattle.ln_world.specs.Course.{in_channel, over}
 
 -- ---- the machine that a channel stands for: none where there is no channel, or where an end of it isn't open
@@ -135,3 +139,9 @@ told_in k n side s w = in_channel k (λ id. tells k.signer side) s (channel n w.
 
 abbrev pub all_told : {K : Type 0} → (k : Ghosts K) → ℕ → Role → List (Step K k) → World K → List Output
 all_told k n side ss w = over k (told_in k n side) ss w
+
+-- ---- what the end of this side of a channel has yet to decide is in step with these events; no channel has any
+
+abbrev pub AreInStep : {K : Type 0} → Role → List ChannelEvent → Option (Channel K) → Type 0
+AreInStep side events None = events ≡ []
+AreInStep side events (Some c) = AtEnd (IsInStep events) (place_of side c.both).link.stage

@@ -13,20 +13,21 @@ use Rattle.ln_link.specs.End.{End}
 use Rattle.ln_link.specs.State.{State}
 use Rattle.ln_link.specs.Step.{handled}
 use Rattle.ln_pair.specs.Promises.{AreSent, FollowEachOther, IsTaken, IsTakenButForItsFee, Overlap, CloseAtOneFee}
-use Rattle.ln_pair.specs.Promises.{HoldTheSame}
+use Rattle.ln_pair.specs.Promises.{HoldTheSame, SameMarks}
 use Rattle.ln_pair.specs.Answers.{HasAnswered}
 use Rattle.ln_world.specs.declared.step.Step.{Step}
 use Rattle.ln_world.specs.declared.step.Step.TheVariants as step
 use Rattle.ln_world.specs.World.{World}
 use Rattle.ln_world.specs.Both.{Both}
 
--- both links have their channel open, and of its two ends this holds
-abbrev pub WithPeer : (End → Type 0) → Stage → Type 0
-WithPeer f (stage.Saved y) = f y
-WithPeer f s = ⊥
+-- a link has its channel open, and of its end this holds
+abbrev pub AtEnd : (End → Type 0) → Stage → Type 0
+AtEnd f (stage.Saved e) = f e
+AtEnd f s = ⊥
 
+-- both links have their channel open, and of its two ends this holds
 abbrev pub AtEnds : (End → End → Type 0) → Stage → Stage → Type 0
-AtEnds f (stage.Saved x) s = WithPeer (f x) s
+AtEnds f (stage.Saved x) s = AtEnd (f x) s
 AtEnds f r s = ⊥
 
 -- ---- what each end holds as irrevocably committed begins what the other has covered by a signature
@@ -90,6 +91,11 @@ AgreeOnceSigned x y = HasSignedAll x → HasSignedAll y → HoldTheSame x y
 
 abbrev pub Agrees : {K : Type 0} → Both K → Type 0
 Agrees p = IsQuiet p → AtEnds AgreeOnceSigned p.x.link.stage p.y.link.stage
+
+-- ---- where nothing is in flight, either end has taken the other's shutdown and channel_ready where they were sent
+
+abbrev pub MarksAgree : {K : Type 0} → Both K → Type 0
+MarksAgree p = IsQuiet p → AtEnds SameMarks p.x.link.stage p.y.link.stage
 
 -- ---- what the steps bring
 

@@ -7,12 +7,13 @@
 ghost use Rattle.std.specs.Prelude.{ℕ, List};
 ghost use Rattle.ln_msgs.specs.declared.refusals.refusal.Refusal.TheVariants as refusal;
 ghost use Rattle.ln_world.specs.declared.step.Step.{Step};
-ghost use Rattle.ln_world.specs.World.{empty, run};
+ghost use Rattle.ln_world.specs.World.{empty, run, channel};
 ghost use Rattle.ln_world.specs.Failing.{SomeMayFail};
 ghost use Rattle.ln_world.specs.Promises.{BringFit, OfEach, Headline, NoneRefused, AllTaken, OneFee, Agrees};
-ghost use Rattle.ln_world.specs.Promises.{AnswersShutdown};
+ghost use Rattle.ln_world.specs.Promises.{AnswersShutdown, MarksAgree};
 ghost use Rattle.ln_world.specs.Records.{AreSteps, HaveRecords};
 ghost use Rattle.ln_world.specs.Sending.{NoneAddsLate};
+ghost use Rattle.ln_world.specs.Setup.{all_setups, OpensAsSet};
 
 use ln_keys::ChannelKeys;
 
@@ -58,11 +59,27 @@ pub fn agreement<K: ChannelKeys + Copy>()
         → OfEach Agrees (run K.ChannelKeys steps empty) }
 {}
 
+/// A law: in each channel, where both ends have met and nothing is in flight, either has taken the other's `shutdown`
+/// exactly where one was sent, and its `channel_ready` likewise, unless it has closed.
+pub fn marks_agree_at_rest<K: ChannelKeys + Copy>()
+    ensures { (steps : List (Step K K.ChannelKeys)) → BringFit K.ChannelKeys steps
+        → OfEach MarksAgree (run K.ChannelKeys steps empty) }
+{}
+
 /// A law: of all that either end of the channel with this number sends in these steps since it was opened, over all its
 /// connections and over restarts of its nodes, no `update_add_htlc` stands behind a `shutdown`.
 pub fn no_add_follows_a_shutdown<K: ChannelKeys + Copy>()
     ensures { (steps : List (Step K K.ChannelKeys)) (number : ℕ) → BringFit K.ChannelKeys steps
         → NoneAddsLate K.ChannelKeys number steps empty }
+{}
+
+/// A law: the channel with this number is there exactly where a step opened it, which is so once at most. Both its ends
+/// have the opening that was asked for, with the limits that were set for its nodes by then, and each has the closing
+/// fees that were set for its node by then, whatever is set or happens later.
+pub fn channels_open_as_set<K: ChannelKeys + Copy>()
+    ensures { (steps : List (Step K K.ChannelKeys)) (number : ℕ) → BringFit K.ChannelKeys steps
+        → OpensAsSet (all_setups K.ChannelKeys number steps empty)
+        (channel number (run K.ChannelKeys steps empty).channels) }
 {}
 
 /// A law: each end of a channel has a record, so that a node's restart never fails by 70 (BOLT 2, "Message

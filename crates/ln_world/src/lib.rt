@@ -17,11 +17,15 @@ mod world;
 pub use both::Place;
 pub use channel::{Channel, open_channel};
 pub use laws::{
-    a_shutdown_is_answered, agreement, closed_at_one_fee, every_end_has_a_record, headline,
-    never_refused, never_refused_where_fees_overlap, no_add_follows_a_shutdown,
+    a_shutdown_is_answered, agreement, channels_open_as_set, closed_at_one_fee,
+    every_end_has_a_record, headline, marks_agree_at_rest, never_refused,
+    never_refused_where_fees_overlap, no_add_follows_a_shutdown,
 };
 pub use line::{EndLine, Ending, Line, Word};
-pub use machine::{each_move_may_be_made, events_are_told, moves_are_the_machines};
+pub use machine::{
+    close_is_last, each_move_may_be_made, events_are_told, moves_are_the_machines,
+    undecided_events_are_the_machines,
+};
 pub use settings::{Setting, Settings, may_bring};
 pub use step::{Act, End, Node, Open, Partners, Step};
 pub use world::World;

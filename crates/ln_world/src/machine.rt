@@ -7,11 +7,11 @@ ghost use Rattle.ln_log.specs.Machine.{IsRun};
 ghost use Rattle.ln_log.specs.Events.{events};
 ghost use Rattle.ln_link.specs.Outputs.{numbered};
 ghost use Rattle.ln_pair.specs.Moves.{after_all};
-ghost use Rattle.ln_pair.specs.Told.{as_told, events_in};
+ghost use Rattle.ln_pair.specs.Told.{as_told, events_in, unnumbered, ClosesLast};
 ghost use Rattle.ln_world.specs.declared.step.Step.{Step};
 ghost use Rattle.ln_world.specs.World.{empty, run, channel};
 ghost use Rattle.ln_world.specs.Promises.{BringFit};
-ghost use Rattle.ln_world.specs.Machine.{machine_of, history, all_told};
+ghost use Rattle.ln_world.specs.Machine.{machine_of, history, all_told, AreInStep};
 
 use ln_keys::ChannelKeys;
 
@@ -40,4 +40,25 @@ pub fn events_are_told<K: ChannelKeys + Copy>()
     ensures { (steps : List (Step K K.ChannelKeys)) (number : ℕ) (side : Role) → BringFit K.ChannelKeys steps
         → events_in (all_told K.ChannelKeys number side steps empty)
         ≡ numbered 0 (as_told (events side (history K.ChannelKeys number steps empty) None)) }
+{}
+
+/// A law: the events that an end of the channel with this number has yet to decide are those of the moves for its side,
+/// each once and in their order, from the count of those that it has decided on, and none is missing, over all its
+/// connections and over restarts of its nodes. Each is read from the update that its entry in the ledger names, as the
+/// end has it now, or from the fee at which it closed.
+pub fn undecided_events_are_the_machines<K: ChannelKeys + Copy>()
+    ensures { (steps : List (Step K K.ChannelKeys)) (number : ℕ) (side : Role) → BringFit K.ChannelKeys steps
+        → AreInStep side (as_told (events side (history K.ChannelKeys number steps empty) None))
+        (channel number (run K.ChannelKeys steps empty).channels) }
+{}
+
+/// A law: behind the event that the channel with this number is closed comes no event: for either end it is the last of
+/// those of the moves for its side, and of those that the end hands out in these steps.
+pub fn close_is_last<K: ChannelKeys + Copy>()
+    ensures of_the_moves { (steps : List (Step K K.ChannelKeys)) (number : ℕ) (side : Role)
+        → BringFit K.ChannelKeys steps
+        → ClosesLast (as_told (events side (history K.ChannelKeys number steps empty) None)) }
+    ensures of_what_is_handed_out { (steps : List (Step K K.ChannelKeys)) (number : ℕ) (side : Role)
+        → BringFit K.ChannelKeys steps
+        → ClosesLast (unnumbered (all_told K.ChannelKeys number side steps empty)) }
 {}

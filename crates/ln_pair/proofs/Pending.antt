@@ -1,0 +1,222 @@
+-- What a step leaves of the events that an end has yet to decide.
+use Rattle.std.proofs.Common.{zero, suc, ◌≡◌, ℕ, ◌+◌, ◌<◌, ◌≤◌, List, [], ◌∷◌, ◌++◌, length, take, drop}
+use Rattle.std.proofs.Common.{refl, sym, ap, ◌∙◌, subst, arith, append-nil}
+use Rattle.std.proofs.Common.{Bool, true, false, cond, Option, Some, None, option_map}
+use Rattle.std.specs.List.{cons_option}
+use Rattle.std.proofs.lemmas.List.{take-take}
+use Rattle.ln_log.specs.declared.update.Update.{Update as Change}
+use Rattle.ln_log.specs.Log as log
+use Rattle.ln_log.specs.Log.{Log}
+use Rattle.ln_hooks.specs.declared.event.ChannelEvent.{ChannelEvent}
+use Rattle.ln_hooks.specs.declared.event.ChannelEvent.TheVariants as event
+use Rattle.ln_hooks.specs.Event.{event_of}
+use Rattle.ln_link.specs.declared.ledger.EventRef.{EventRef}
+use Rattle.ln_link.specs.declared.ledger.EventRef.TheVariants as ref
+use Rattle.ln_link.specs.Ledger.{Ledger, refs_of, entered}
+use Rattle.ln_link.specs.Outputs.{events_of}
+use Rattle.ln_link.specs.End.{End}
+use Rattle.ln_pair.specs.Pending.{first_event, named_by, pending}
+use Rattle.ln_pair.proofs.All.{All, all-append}
+
+-- an update that is held, or the close of an end that has closed
+abbrev pub IsNamed : ℕ → ℕ → Option ℕ → EventRef → Type 0
+IsNamed own peer c (ref.Own n) = n < own
+IsNamed own peer c (ref.Peer n) = n < peer
+IsNamed own peer None ref.Close = ⊥
+IsNamed own peer (Some fee) ref.Close = Unit {0}
+
+abbrev pub NamedIn : End → List EventRef → Type 0
+NamedIn e rs = All (IsNamed e.dance.log.current.own e.dance.log.acknowledged.peer e.closing.closed) rs
+
+abbrev pub Named : End → Type 0
+Named e = NamedIn e e.ledger.undecided
+
+pub record KeepBy (l m : Log) (c d : Option ℕ) : Type 0 where
+  pub own : take l.current.own m.own ≡ take l.current.own l.own
+  pub peer : take l.acknowledged.peer m.received ≡ take l.acknowledged.peer l.received
+  pub own_le : l.current.own ≤ m.current.own
+  pub peer_le : l.acknowledged.peer ≤ m.acknowledged.peer
+  pub closed : (fee : ℕ) → c ≡ Some fee → d ≡ Some fee
+
+abbrev pub Keep : End → End → Type 0
+Keep x n = KeepBy x.dance.log n.dance.log x.closing.closed n.closing.closed
+
+pub record Pends (x n : End) (es : List ChannelEvent) : Type 0 where
+  pub entries : pending n.ledger.undecided n ≡ pending x.ledger.undecided x ++ es
+  pub named : Named n
+  pub decided : n.ledger.decided ≡ x.ledger.decided
+
+first_taken : (own : Bool) (k m : ℕ) (us : List Change) → k < m
+    → first_event own (drop k (take m us)) ≡ first_event own (drop k us)
+first_taken own k zero us le = absurd (omega (arith, le))
+first_taken own zero (suc m) [] le = refl
+first_taken own zero (suc m) (u ∷ us) le = refl
+first_taken own (suc k) (suc m) [] le = refl
+first_taken own (suc k) (suc m) (u ∷ us) le = first_taken own k m us (omega (arith, le))
+
+first_same : (own : Bool) (k m : ℕ) (us vs : List Change) → k < m → take m us ≡ take m vs
+    → first_event own (drop k us) ≡ first_event own (drop k vs)
+first_same own k m us vs le e =
+    sym (first_taken own k m us le) ∙ ap (λ z. first_event own (drop k z)) e ∙ first_taken own k m vs le
+
+close_named : (c d : Option ℕ) (o p q s : ℕ) → ((fee : ℕ) → c ≡ Some fee → d ≡ Some fee) → IsNamed o p c ref.Close
+    → (d ≡ c) × IsNamed q s d ref.Close
+close_named None d o p q s f h = absurd h
+close_named (Some fee) d o p q s f h =
+    let e = f fee refl in (e, subst (λ z. IsNamed q s z ref.Close) (sym e) tt)
+
+one_kept : (x n : End) → Keep x n → (r : EventRef)
+    → IsNamed x.dance.log.current.own x.dance.log.acknowledged.peer x.closing.closed r
+    → (named_by r n ≡ named_by r x) × IsNamed n.dance.log.current.own n.dance.log.acknowledged.peer n.closing.closed r
+one_kept x n k (ref.Own i) h = (
+  first_same true i x.dance.log.current.own n.dance.log.own x.dance.log.own h k.own,
+  (let le = k.own_le in omega (arith, le, h)),
+)
+one_kept x n k (ref.Peer i) h = (
+  first_same false i x.dance.log.acknowledged.peer n.dance.log.received x.dance.log.received h k.peer,
+  (let le = k.peer_le in omega (arith, le, h)),
+)
+one_kept x n k ref.Close h =
+    let c = close_named x.closing.closed n.closing.closed x.dance.log.current.own x.dance.log.acknowledged.peer
+    n.dance.log.current.own n.dance.log.acknowledged.peer k.closed h in
+    (ap (option_map event.Closed) c.0, c.1)
+
+kept : (x n : End) → Keep x n → (rs : List EventRef) → NamedIn x rs → (pending rs n ≡ pending rs x) × NamedIn n rs
+kept x n k [] h = (refl, tt)
+kept x n k (r ∷ rs) h =
+    let one = one_kept x n k r h.0 in
+    let rest = kept x n k rs h.1 in
+    (ap (λ o. cons_option o (pending rs n)) one.0 ∙ ap (cons_option (named_by r x)) rest.0, (one.1, rest.1))
+
+one_append : (o : Option ChannelEvent) (es fs : List ChannelEvent) → cons_option o (es ++ fs) ≡ cons_option o es ++ fs
+one_append None es fs = refl
+one_append (Some e) es fs = refl
+
+pending_append : (rs ss : List EventRef) (e : End) → pending (rs ++ ss) e ≡ pending rs e ++ pending ss e
+pending_append [] ss e = refl
+pending_append (r ∷ rs) ss e =
+    ap (cons_option (named_by r e)) (pending_append rs ss e) ∙ one_append (named_by r e) (pending rs e) (pending ss e)
+
+-- new entries behind those that there were
+pub enters : (x n : End) (rs : List EventRef) (es : List ChannelEvent) → Keep x n → n.ledger ≡ entered rs x.ledger
+    → pending rs n ≡ es → NamedIn n rs → Named x → Pends x n es
+enters x n rs es k is e h named =
+    let old = kept x n k x.ledger.undecided named in
+    record {
+      entries = ap (λ (l : Ledger). pending l.undecided n) is ∙ pending_append x.ledger.undecided rs n
+          ∙ ap (λ z. z ++ pending rs n) old.0 ∙ ap (λ z. pending x.ledger.undecided x ++ z) e;
+      named = subst (λ (l : Ledger). NamedIn n l.undecided) (sym is)
+          (all-append (IsNamed n.dance.log.current.own n.dance.log.acknowledged.peer n.closing.closed)
+          x.ledger.undecided rs old.1 h);
+      decided = ap (λ (l : Ledger). l.decided) is;
+    }
+
+pub enters_none : (x n : End) → Keep x n → n.ledger ≡ x.ledger → Named x → Pends x n []
+enters_none x n k is named =
+    let old = kept x n k x.ledger.undecided named in
+    record {
+      entries = ap (λ (l : Ledger). pending l.undecided n) is ∙ old.0 ∙ sym (append-nil (pending x.ledger.undecided x));
+      named = subst (λ (l : Ledger). NamedIn n l.undecided) (sym is) old.1;
+      decided = ap (λ (l : Ledger). l.decided) is;
+    }
+
+-- ---- new entries
+
+drop_next : (c : ℕ) (us : List Change) (u : Change) (zs : List Change) → drop c us ≡ u ∷ zs → drop (suc c) us ≡ zs
+drop_next zero [] u zs e = absurd (cc)
+drop_next zero (v ∷ us) u zs e = ap (drop 1) e
+drop_next (suc c) [] u zs e = absurd (cc)
+drop_next (suc c) (v ∷ us) u zs e = drop_next c us u zs e
+
+one_pend : (o : Option ChannelEvent) (r : EventRef) (rs : List EventRef) (e : End) → named_by r e ≡ o
+    → pending (cons_option (option_map (λ z. r) o) rs) e ≡ cons_option o (pending rs e)
+one_pend None r rs e is = refl
+one_pend (Some z) r rs e is = ap (λ o. cons_option o (pending rs e)) is
+
+pub own_pend : (e : End) (c : ℕ) (us rest : List Change) → drop c e.dance.log.own ≡ us ++ rest
+    → pending (refs_of true c us) e ≡ events_of true us
+own_pend e c [] rest is = refl
+own_pend e c (u ∷ us) rest is =
+    let n : c + 1 ≡ suc c = omega arith in
+    one_pend (event_of true u) (ref.Own c) (refs_of true (c + 1) us) e (ap (first_event true) is)
+    ∙ ap (cons_option (event_of true u)) (own_pend e (c + 1) us rest
+    (ap (λ k. drop k e.dance.log.own) n ∙ drop_next c e.dance.log.own u (us ++ rest) is))
+
+pub peer_pend : (e : End) (c : ℕ) (us rest : List Change) → drop c e.dance.log.received ≡ us ++ rest
+    → pending (refs_of false c us) e ≡ events_of false us
+peer_pend e c [] rest is = refl
+peer_pend e c (u ∷ us) rest is =
+    let n : c + 1 ≡ suc c = omega arith in
+    one_pend (event_of false u) (ref.Peer c) (refs_of false (c + 1) us) e (ap (first_event false) is)
+    ∙ ap (cons_option (event_of false u)) (peer_pend e (c + 1) us rest
+    (ap (λ k. drop k e.dance.log.received) n ∙ drop_next c e.dance.log.received u (us ++ rest) is))
+
+one_named : (o p : ℕ) (d : Option ℕ) (e : Option ChannelEvent) (r : EventRef) (rs : List EventRef) → IsNamed o p d r
+    → All (IsNamed o p d) rs → All (IsNamed o p d) (cons_option (option_map (λ x. r) e) rs)
+one_named o p d None r rs h k = k
+one_named o p d (Some x) r rs h k = (h, k)
+
+pub own_named : (n o p : ℕ) (d : Option ℕ) (us : List Change) → n + length us ≤ o
+    → All (IsNamed o p d) (refs_of true n us)
+own_named n o p d [] le = tt
+own_named n o p d (u ∷ us) le =
+    one_named o p d (event_of true u) (ref.Own n) (refs_of true (n + 1) us) (omega (arith, le))
+    (own_named (n + 1) o p d us (omega (arith, le)))
+
+pub peer_named : (n o p : ℕ) (d : Option ℕ) (us : List Change) → n + length us ≤ p
+    → All (IsNamed o p d) (refs_of false n us)
+peer_named n o p d [] le = tt
+peer_named n o p d (u ∷ us) le =
+    one_named o p d (event_of false u) (ref.Peer n) (refs_of false (n + 1) us) (omega (arith, le))
+    (peer_named (n + 1) o p d us (omega (arith, le)))
+
+-- ---- what is kept
+
+pub keep_same : (x : End) → Keep x x
+keep_same x = record { own = refl; peer = refl; own_le = omega arith; peer_le = omega arith; closed = λ f e. e }
+
+pub take_front : (k : ℕ) (us vs : List Change) → k ≤ length us → take k (us ++ vs) ≡ take k us
+take_front zero us vs le = refl
+take_front (suc k) [] vs le = absurd (omega (arith, le))
+take_front (suc k) (u ∷ us) vs le = ap (λ z. u ∷ z) (take_front k us vs (omega (arith, le)))
+
+pub keep_own : (l : Log) (c : Option ℕ) (u : Change) → log.IsWithin l
+    → KeepBy l (record l { own = l.own ++ u ∷ [] }) c c
+keep_own l c u w = record {
+  own = take_front l.current.own l.own (u ∷ [])
+      (let a = w.own_current in let b = w.own_acknowledged in let d = w.own_signed in omega (arith, a, b, d));
+  peer = refl;
+  own_le = omega arith;
+  peer_le = omega arith;
+  closed = λ f e. e;
+}
+
+pub keep_peer : (l : Log) (c : Option ℕ) (u : Change) → log.IsWithin l
+    → KeepBy l (record l { received = l.received ++ u ∷ [] }) c c
+keep_peer l c u w = record {
+  own = refl;
+  peer = take_front l.acknowledged.peer l.received (u ∷ [])
+      (let a = w.peer_acknowledged in let b = w.peer_signed in let d = w.peer_current in omega (arith, a, b, d));
+  own_le = omega arith;
+  peer_le = omega arith;
+  closed = λ f e. e;
+}
+
+pub keep_dropped : (l : Log) (c : Option ℕ) → log.IsWithin l → KeepBy l (log.after_drop l) c c
+keep_dropped l c w = record {
+  own = take-take l.current.own l.signed.own l.own
+      (let a = w.own_current in let b = w.own_acknowledged in omega (arith, a, b));
+  peer = take-take l.acknowledged.peer l.current.peer l.received
+      (let a = w.peer_acknowledged in let b = w.peer_signed in omega (arith, a, b));
+  own_le = omega arith;
+  peer_le = omega arith;
+  closed = λ f e. e;
+}
+
+pub keep_either : (b : Bool) (x k : End) → Keep x k → Keep x (cond b x k)
+keep_either true x k h = keep_same x
+keep_either false x k h = h
+
+pub same_pends : (x n : End) → n ≡ x → Named x → Pends x n []
+same_pends x n e named =
+    enters_none x n (subst (Keep x) (sym e) (keep_same x)) (ap (λ (z : End). z.ledger) e) named
