@@ -43,7 +43,14 @@ fn save_end<S: RecordStore>(
         (record { records = S.records store.new; failed = S.failed store.new }) }
 {
     let record = to_record(alloc, failure, channel)?;
-    let bytes = encode_record(alloc, &record)?;
+    let bytes = match encode_record(alloc, &record) {
+        Ok(bytes) => bytes,
+        Err(refusal) => {
+            drop(record);
+            return Err(refusal);
+        }
+    };
+    drop(record);
     store.save(alloc, &channel.id(), &bytes)
 }
 
@@ -137,7 +144,10 @@ impl<K: ChannelKeys + Drop> Durable<K> {
         match self.link.handle(alloc, message) {
             Ok(outputs) => match self.save(alloc, store) {
                 Ok(()) => Ok(outputs),
-                Err(refusal) => Err(refusal),
+                Err(refusal) => {
+                    drop(outputs);
+                    Err(refusal)
+                }
             },
             Err(refusal) => Err(self.refuse(alloc, store, healthy, refusal)),
         }
@@ -182,7 +192,10 @@ impl<K: ChannelKeys + Drop> Durable<K> {
         match self.link.command(alloc, command) {
             Ok(outputs) => match self.save(alloc, store) {
                 Ok(()) => Ok(outputs),
-                Err(refusal) => Err(refusal),
+                Err(refusal) => {
+                    drop(outputs);
+                    Err(refusal)
+                }
             },
             Err(refusal) => Err(refusal),
         }

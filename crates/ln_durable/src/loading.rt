@@ -75,23 +75,19 @@ fn accept_in(alloc: Global, payload: &[u8]) -> Result<AcceptChannel, Refusal>
     }
 }
 
-fn terms_of(
-    alloc: Global,
-    open_payload: Bytes,
-    accept_payload: Bytes,
-    script: Bytes,
-    peer_script: Option<Bytes>,
-) -> Result<Terms, Refusal>
-    requires is_an_open_channel { is_open_payload open_payload ≡ true }
-    requires is_an_accept_channel { is_accept_payload accept_payload ≡ true }
-    ensures terms { IfOk result (λ t. t ≡ record {
-      open_channel = open_in open_payload;
-      accept_channel = accept_in accept_payload;
-      script = script;
-      peer_script = peer_script;
-    }) }
+fn terms_of(alloc: Global, agreement: Agreement) -> Result<Terms, Refusal>
+    requires is_an_open_channel { is_open_payload agreement.open_payload ≡ true }
+    requires is_an_accept_channel { is_accept_payload agreement.accept_payload ≡ true }
+    ensures terms { IfOk result (λ t. t ≡ terms_of agreement) }
     ensures fails_for_memory_alone { IfErr result (λ r. r ≡ refusal.Memory) }
 {
+    let Agreement {
+        open_payload,
+        accept_payload,
+        script,
+        peer_script,
+        ..
+    } = agreement;
     Ok(Terms {
         open_channel: open_in(alloc, open_payload.as_slice())?,
         accept_channel: accept_in(alloc, accept_payload.as_slice())?,
@@ -306,8 +302,16 @@ fn channel_of(alloc: Global, items: Items) -> Result<Channel, Refusal>
     ensures fails { IfErr result (λ r. (r ≡ refusal.Memory) ⊎ ((r ≡ refusal.Damaged) × ¬ IsLoadable items)) }
 {
     if !are_loadable(&items) {
+        drop(items);
         return Err(Refusal::Damaged);
     }
+    let ledger = match ledger_of(alloc, &items.progress.events) {
+        Ok(ledger) => ledger,
+        Err(refusal) => {
+            drop(items);
+            return Err(refusal);
+        }
+    };
     let Items {
         header,
         agreement,
@@ -316,16 +320,24 @@ fn channel_of(alloc: Global, items: Items) -> Result<Channel, Refusal>
         progress,
     } = items;
     let marks = marks_of(header.flags, &agreement.place);
-    let ledger = ledger_of(alloc, &progress.events)?;
     let closing = closing_of(header, agreement.fees, progress.fees);
-    let terms = terms_of(
-        alloc,
-        agreement.open_payload,
-        agreement.accept_payload,
-        agreement.script,
-        agreement.peer_script,
-    )?;
-    let log = log_of(alloc, opening_of(&terms), header.role, updates)?;
+    drop(progress);
+    let terms = match terms_of(alloc, agreement) {
+        Ok(terms) => terms,
+        Err(refusal) => {
+            drop(updates);
+            drop(ledger);
+            return Err(refusal);
+        }
+    };
+    let log = match log_of(alloc, opening_of(&terms), header.role, updates) {
+        Ok(log) => log,
+        Err(refusal) => {
+            drop(terms);
+            drop(ledger);
+            return Err(refusal);
+        }
+    };
     let dance = dance_of(header, commitments, log);
     Ok(Channel::from_parts(dance, closing, terms, marks, ledger))
 }

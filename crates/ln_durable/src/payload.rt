@@ -111,7 +111,10 @@ fn payload_of_open(alloc: Global, message: OpenChannel) -> Result<Bytes, Refusal
     ensures fails { IfErr result (λ r. (r ≡ refusal.Memory)
         ⊎ ((r ≡ refusal.Damaged) × IsUnwritable (open_wire message))) }
 {
-    payload(alloc, &Message::OpenChannel(message))
+    let message = Message::OpenChannel(message);
+    let written = payload(alloc, &message);
+    drop(message);
+    written
 }
 
 fn payload_of_accept(alloc: Global, message: AcceptChannel) -> Result<Bytes, Refusal>
@@ -120,7 +123,10 @@ fn payload_of_accept(alloc: Global, message: AcceptChannel) -> Result<Bytes, Ref
     ensures fails { IfErr result (λ r. (r ≡ refusal.Memory)
         ⊎ ((r ≡ refusal.Damaged) × IsUnwritable (accept_wire message))) }
 {
-    payload(alloc, &Message::AcceptChannel(message))
+    let message = Message::AcceptChannel(message);
+    let written = payload(alloc, &message);
+    drop(message);
+    written
 }
 
 /// The `open_channel` without its type; 70 where it can't be written.

@@ -317,10 +317,15 @@ pub fn to_record(
     ensures fails { IfErr result (λ r. (r ≡ refusal.Memory) ⊎ ((r ≡ refusal.Damaged) × NoRecord failure channel.now)) }
 {
     let items = items_of(alloc, failure, channel)?;
-    let readable = is_readable(alloc, &items)?;
-    if readable {
-        Ok(LinkRecord::new(items))
-    } else {
-        Err(Refusal::Damaged)
+    match is_readable(alloc, &items) {
+        Ok(true) => Ok(LinkRecord::new(items)),
+        Ok(false) => {
+            drop(items);
+            Err(Refusal::Damaged)
+        }
+        Err(refusal) => {
+            drop(items);
+            Err(refusal)
+        }
     }
 }

@@ -31,6 +31,14 @@ pub fn restart<K: ChannelKeys + Drop>(
         ⊎ ((r ≡ refusal.Damaged) × NoRecord failure channel.now)) }
 {
     let record = to_record(alloc, failure, channel)?;
-    let bytes = encode_record(alloc, &record)?;
-    from_record(alloc, keys, bytes.as_slice())
+    match encode_record(alloc, &record) {
+        Ok(bytes) => {
+            drop(record);
+            from_record(alloc, keys, bytes.as_slice())
+        }
+        Err(refusal) => {
+            drop(record);
+            Err(refusal)
+        }
+    }
 }

@@ -24,6 +24,7 @@ use ln_msgs::{Message, Refusal};
 use std::alloc::Global;
 use std::collections::VecDeque;
 use std::marker::Model;
+use std::mem;
 
 /// An end of a channel with its keys, and the messages in flight to it.
 #[derive(Drop)]
@@ -49,7 +50,7 @@ fn send_all(outputs: Vec<Output>, inbox: &mut VecDeque<Message>) -> Result<(), R
     for output in outputs {
         match output {
             Output::Send(message) => inbox.push_back(message)?,
-            _ => {}
+            other => drop(other),
         }
     }
     Ok(())
@@ -99,6 +100,7 @@ impl<K: ChannelKeys + Copy> Place<K> {
         ensures fails_for_memory_alone { IfErr result (λ e. e ≡ Refusal.Memory) }
     {
         if self.link.line().is_down() {
+            drop(outputs);
             return Ok(());
         }
         send_all(outputs, &mut self.inbox)
@@ -109,6 +111,7 @@ impl<K: ChannelKeys + Copy> Place<K> {
         ensures fails_for_memory_alone { IfErr result (λ e. e ≡ Refusal.Memory) }
     {
         if self.link.line().is_down() {
+            drop(reply);
             return Ok(());
         }
         match reply {
@@ -155,7 +158,7 @@ impl<K: ChannelKeys + Copy> Place<K> {
     fn come_back(&mut self, link: Link<K>)
         ensures { self.new ≡ record { keys = self.old.keys; link = link; inbox = [] } }
     {
-        self.link = link;
+        drop(mem::replace(&mut self.link, link));
         self.inbox.clear();
     }
 }
@@ -174,7 +177,13 @@ fn hand_out<K: ChannelKeys + Copy>(
     ensures fails_for_memory_alone { IfErr result (λ e. e ≡ refusal.Memory) }
 {
     let numbers = link.numbers();
-    tell_outputs(end, numbers, &outputs, lines)?;
+    match tell_outputs(end, numbers, &outputs, lines) {
+        Ok(()) => {}
+        Err(refusal) => {
+            drop(outputs);
+            return Err(refusal);
+        }
+    }
     other.take_in(outputs)
 }
 
@@ -192,7 +201,13 @@ fn refuse<K: ChannelKeys + Copy>(
     ensures fails_for_memory_alone { IfErr result (λ e. e ≡ refusal.Memory) }
 {
     let reply = reply_of(alloc, &channel_id_of(end.channel), why)?;
-    tell_refusal(end, why, &reply, lines)?;
+    match tell_refusal(end, why, &reply, lines) {
+        Ok(()) => {}
+        Err(refusal) => {
+            drop(reply);
+            return Err(refusal);
+        }
+    }
     other.take_reply(reply)
 }
 
@@ -315,7 +330,19 @@ pub(crate) fn meet<K: ChannelKeys + Copy>(
     ensures fails_for_memory_alone { IfErr result (λ e. e ≡ refusal.Memory) }
 {
     let from_x = connect(alloc, &mut x.link)?;
-    let from_y = connect(alloc, &mut y.link)?;
-    greet(ends.0, &x.link, from_x, y, lines)?;
+    let from_y = match connect(alloc, &mut y.link) {
+        Ok(answer) => answer,
+        Err(refusal) => {
+            drop(from_x);
+            return Err(refusal);
+        }
+    };
+    match greet(ends.0, &x.link, from_x, y, lines) {
+        Ok(()) => {}
+        Err(refusal) => {
+            drop(from_y);
+            return Err(refusal);
+        }
+    }
     greet(ends.1, &y.link, from_y, x, lines)
 }

@@ -143,6 +143,7 @@ impl<K: ChannelKeys + Copy> Channel<K> {
     {
         match self.side_of(node) {
             None => {
+                drop(what);
                 lines.push(Line::Idle)?;
                 Ok(())
             }
@@ -269,7 +270,13 @@ fn begin<K: ChannelKeys + Copy>(
         wish.satoshis,
         wish.push,
     )?;
-    let config = fit_config(alloc, wish.fundee, fundee)?;
+    let config = match fit_config(alloc, wish.fundee, fundee) {
+        Ok(config) => config,
+        Err(refusal) => {
+            drop(spec);
+            return Err(refusal);
+        }
+    };
     Ok(Channel {
         number: wish.channel,
         funder_node: wish.funder,
@@ -299,6 +306,11 @@ pub fn open_channel<K: ChannelKeys + Copy>(
     ensures fails_for_memory_alone { IfErr result (λ e. e ≡ refusal.Memory) }
 {
     let mut channel = begin(alloc, wish, funder, fundee)?;
-    channel.open(alloc)?;
-    Ok(channel)
+    match channel.open(alloc) {
+        Ok(()) => Ok(channel),
+        Err(refusal) => {
+            drop(channel);
+            Err(refusal)
+        }
+    }
 }

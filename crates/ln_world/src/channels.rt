@@ -65,6 +65,7 @@ fn act_at<K: ChannelKeys + Copy>(
 {
     match place_of(channels, end.channel) {
         None => {
+            drop(what);
             lines.push(Line::Idle)?;
             Ok(())
         }

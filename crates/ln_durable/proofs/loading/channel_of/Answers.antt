@@ -10,6 +10,6 @@ ledger_of-requires c = (parts c.args.items c.requires).decided
 pub dance_of-dance-requires : goal.dance_of-dance-requires
 dance_of-dance-requires c =
     let p = parts c.args.items c.requires in
-    subst (λ (l : Log). AreInStep c.args.items.commitments.numbers l) (sym c.in_ok-log.ensures.log.1)
+    subst (λ (l : Log). AreInStep c.args.items.commitments.numbers l) (sym c.in-Ok-log_of.ensures.log.1)
     (stepping c.args.items.commitments.numbers c.opening_of.result c.args.items.header.role c.args.items.updates
     p.in_step p.settled)

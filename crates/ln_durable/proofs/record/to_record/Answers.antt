@@ -4,17 +4,17 @@ use Rattle.ln_durable.specs.Record.{NoRecord}
 use Rattle.ln_durable.proofs.record.to_record.Goals as goal
 
 -- the items are readable
-pub returns-then-readable-clause-has_record : goal.returns-then-readable-clause-has_record
-returns-then-readable-clause-has_record c =
+pub returns-in-Ok-true-clause-has_record : goal.returns-in-Ok-true-clause-has_record
+returns-in-Ok-true-clause-has_record c =
     c.in_ok-items.ensures.has_record_if_readable
-    (ap is_readable (sym c.in_ok-items.ensures.items) ∙ sym c.in_ok-readable.ensures.tells_it ∙ c.if-readable.true)
+    (ap is_readable (sym c.in_ok-items.ensures.items) ∙ sym c.in-Ok-true.ensures.tells_it ∙ c.in-Ok-true.field-0-test)
 
 -- the items aren't readable
-pub returns-else-readable-clause-fails : goal.returns-else-readable-clause-fails
+pub returns-in-Ok-false-clause-fails : goal.returns-in-Ok-false-clause-fails
 unfolding NoRecord
-returns-else-readable-clause-fails c =
+returns-in-Ok-false-clause-fails c =
     inr (
       refl,
       inr (inr (ap is_readable (sym c.in_ok-items.ensures.items)
-          ∙ sym c.in_ok-readable.ensures.tells_it ∙ c.if-readable.false)),
+          ∙ sym c.in-Ok-false.ensures.tells_it ∙ c.in-Ok-false.field-0-test)),
     )

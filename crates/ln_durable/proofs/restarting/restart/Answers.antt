@@ -5,19 +5,19 @@ use Rattle.ln_durable.specs.Record.{items_of}
 use Rattle.ln_durable.proofs.Restarted.{comes_back, for_memory_alone}
 use Rattle.ln_durable.proofs.restarting.restart.Goals as goal
 
-pub returns-clause-comes_back : goal.returns-clause-comes_back
-returns-clause-comes_back g c =
+pub returns-in-Ok-clause-comes_back : goal.returns-in-Ok-clause-comes_back
+returns-in-Ok-clause-comes_back g c =
     let h = c.in_ok-record.ensures.has_record in
     comes_back c.args.keys c.args.failure c.args.channel.now c.from_record.result h
     (c.from_record.ensures.loads_each_record (items_of c.args.failure c.args.channel.now) h.items
-    (c.as_slice.ensures.value ∙ c.in_ok-bytes.ensures.writes_the_record
+    (c.as_slice.ensures.value ∙ c.in-Ok.ensures.writes_the_record
     ∙ ap record_bytes c.in_ok-record.ensures.record))
 
-pub returns-clause-fails : goal.returns-clause-fails
-returns-clause-fails g c =
+pub returns-in-Ok-clause-fails : goal.returns-in-Ok-clause-fails
+returns-in-Ok-clause-fails g c =
     let h = c.in_ok-record.ensures.has_record in
     IfErr-weaker c.from_record.result _ _ (λ r m. inl m)
     (for_memory_alone c.args.keys c.args.failure c.args.channel.now c.from_record.result h
     (c.from_record.ensures.loads_each_record (items_of c.args.failure c.args.channel.now) h.items
-    (c.as_slice.ensures.value ∙ c.in_ok-bytes.ensures.writes_the_record
+    (c.as_slice.ensures.value ∙ c.in-Ok.ensures.writes_the_record
     ∙ ap record_bytes c.in_ok-record.ensures.record)))
