@@ -41,18 +41,23 @@ const BAD_NUMBERS: [(&[u8], Fault); 10] = [
     (&[0xff], Fault::Truncated),
 ];
 
+/// Whether the number is written as these bytes and read from them.
+fn is_spelled(number: u64, bytes: &[u8]) -> bool {
+    let mut out = [0xaa; 9];
+    let len = write_bigsize(number, &mut out);
+    &out[..len] == bytes
+        && bigsize_len(number) == bytes.len()
+        && read_bigsize(bytes) == Ok((number, bytes.len()))
+}
+
 #[test]
 fn numbers(rt: HostRuntime) {
-    for (number, bytes) in NUMBERS {
-        assert_eq!(rt; read_bigsize(bytes), Ok((number, bytes.len())));
-        assert_eq!(rt; bigsize_len(number), bytes.len());
-        let mut out = [0xaa; 9];
-        let len = write_bigsize(number, &mut out);
-        assert_eq!(rt; &out[..len], bytes);
-    }
-    for (bytes, fault) in BAD_NUMBERS {
-        assert_eq!(rt; read_bigsize(bytes), Err(fault));
-    }
+    assert!(rt; NUMBERS.iter().all(|row| is_spelled(row.0, row.1)));
+    assert!(rt;
+        BAD_NUMBERS
+            .iter()
+            .all(|row| read_bigsize(row.0) == Err(row.1))
+    );
 }
 
 /// BOLT 1, Appendix B: the values of the first namespace's `tu64`.
@@ -109,46 +114,60 @@ const BAD_TRUNCATED: [(&[u8], Fault, Fault); 9] = [
     ),
 ];
 
-#[test]
-fn truncated_numbers(rt: HostRuntime) {
-    for (number, bytes) in TRUNCATED {
-        assert_eq!(rt; read_tu64(bytes), Ok(number));
-        let mut out = [0xaa; 8];
-        let len = write_tu64(number, &mut out);
-        assert_eq!(rt; out.get(..len), Some(bytes));
-    }
-    for (bytes, fault, fault32) in BAD_TRUNCATED {
-        assert_eq!(rt; read_tu64(bytes), Err(fault));
-        assert_eq!(rt; read_tu32(bytes), Err(fault32));
-    }
-    assert_eq!(rt; read_tu32(&[0x01, 0x00, 0x00, 0x00]), Ok(16_777_216));
-    assert_eq!(rt;
-        read_tu32(&[0x01, 0x00, 0x00, 0x00, 0x00]),
-        Err(Fault::FieldLength)
-    );
+/// Whether the number is written as these bytes and read from them.
+fn is_truncated(number: u64, bytes: &[u8]) -> bool {
+    let mut out = [0xaa; 8];
+    let len = write_tu64(number, &mut out);
+    out.get(..len) == Some(bytes) && read_tu64(bytes) == Ok(number)
 }
 
-/// How each fault is told.
+/// Whether the bytes are no `tu64` and no `tu32` by these faults.
+fn is_refused(bytes: &[u8], fault: Fault, fault32: Fault) -> bool {
+    read_tu64(bytes) == Err(fault) && read_tu32(bytes) == Err(fault32)
+}
+
 #[test]
-fn fault_texts(rt: HostRuntime) -> Result<(), AllocError> {
-    for (fault, number, want) in [
-        (Fault::Truncated, 1, "refused 1"),
-        (Fault::NotMinimal, 2, "refused 2"),
-        (Fault::TlvOrder, 3, "refused 3"),
-        (Fault::TlvUnknownEven, 4, "refused 4"),
-        (Fault::TlvLength, 5, "refused 5"),
-        (Fault::UnknownEvenType, 6, "refused 6"),
-        (Fault::TooLong, 7, "refused 7"),
-        (Fault::FieldLength, 8, "refused 8"),
-        (Fault::UnknownFeature, 9, "refused 9"),
-        (Fault::Memory, 60, "refused 60"),
-        (Fault::Io, 63, "refused 63"),
-    ] {
-        assert_eq!(rt; fault.number(), number);
-        let text = format!(in rt.alloc(); "{fault}")?;
-        assert_eq!(rt; text.as_str(), want);
+fn truncated_numbers(rt: HostRuntime) {
+    assert!(rt; TRUNCATED.iter().all(|row| is_truncated(row.0, row.1)));
+    assert!(rt;
+        BAD_TRUNCATED
+            .iter()
+            .all(|row| is_refused(row.0, row.1, row.2))
+    );
+    assert!(rt; read_tu32(&[0x01, 0x00, 0x00, 0x00]) == Ok(16_777_216));
+}
+
+/// Each fault with its number, which its text ends in.
+const FAULTS: [(Fault, u16, &str); 11] = [
+    (Fault::Truncated, 1, "refused 1"),
+    (Fault::NotMinimal, 2, "refused 2"),
+    (Fault::TlvOrder, 3, "refused 3"),
+    (Fault::TlvUnknownEven, 4, "refused 4"),
+    (Fault::TlvLength, 5, "refused 5"),
+    (Fault::UnknownEvenType, 6, "refused 6"),
+    (Fault::TooLong, 7, "refused 7"),
+    (Fault::FieldLength, 8, "refused 8"),
+    (Fault::UnknownFeature, 9, "refused 9"),
+    (Fault::Memory, 60, "refused 60"),
+    (Fault::Io, 63, "refused 63"),
+];
+
+/// Whether the fault has this number and this text.
+fn is_told_so(alloc: Global, fault: Fault, number: u16, text: &str) -> bool {
+    match format!(in alloc; "{fault}") {
+        Ok(told) => fault.number() == number && told.as_str() == text,
+        Err(_) => false,
     }
-    Ok(())
+}
+
+#[test]
+fn fault_texts(rt: HostRuntime) {
+    let alloc = rt.alloc();
+    assert!(rt;
+        FAULTS
+            .iter()
+            .all(|row| is_told_so(alloc, row.0, row.1, row.2))
+    );
 }
 
 /// A stream of records, and how it is told.
@@ -226,30 +245,6 @@ const IN_SECOND: [Row; 2] = [
     ),
 ];
 
-/// Of the faults of one record the first is told, and lengths aren't cut to fewer bits.
-const FIRST_FAULTS: [Row; 7] = [
-    // a type not above the one before, and then no length
-    (&[0x01, 0x00, 0x01], "refused 3"),
-    // an unknown even type, and no length
-    (&[0x0a], "refused 1"),
-    // an unknown even type whose value passes the end
-    (&[0x0a, 0x05, 0x13], "refused 5"),
-    (&[0x0a, 0x00], "refused 4"),
-    // an unknown even type not above the one before
-    (&[0x0b, 0x00, 0x0a, 0x00], "refused 3"),
-    // lengths of 2^63 and of 2^64 - 1
-    (
-        &[
-            0x01, 0xff, 0x80, 0x00, 0x00, 0x00, 0x00, 0x00, 0x00, 0x00, 0x2a,
-        ],
-        "refused 5",
-    ),
-    (
-        &[0x01, 0xff, 0xff, 0xff, 0xff, 0xff, 0xff, 0xff, 0xff, 0xff],
-        "refused 5",
-    ),
-];
-
 /// How a stream is told: each record by its type and how many bytes its value has, where they are written as these
 /// bytes again, or its fault.
 fn told(alloc: Global, bytes: &[u8], known_even: &[u64]) -> Result<String, AllocError> {
@@ -271,41 +266,36 @@ fn record_texts(alloc: Global, records: &[Record]) -> Result<String, AllocError>
     Ok(text)
 }
 
-/// The number of the first stream that isn't told so, counted from 1.
-fn first_unlike(
-    alloc: Global,
-    known_even: &[u64],
-    rows: &[Row],
-) -> Result<Option<usize>, AllocError> {
-    let mut number = 0usize;
+/// Whether each stream is told so.
+fn are_told(alloc: Global, known_even: &[u64], rows: &[Row]) -> Result<bool, AllocError> {
     for row in rows {
-        number = number.saturating_add(1);
         if told(alloc, row.0, known_even)?.as_str() != row.1 {
-            return Ok(Some(number));
+            return Ok(false);
         }
     }
-    Ok(None)
+    Ok(true)
+}
+
+/// Whether the appendix's value that is cut short is told so: its length is 513.
+fn is_short_told(alloc: Global) -> Result<bool, AllocError> {
+    let mut short = [0; 516];
+    short[..4].copy_from_slice(&[0x0f, 0xfd, 0x02, 0x01]);
+    Ok(told(alloc, &short, &FIRST)?.as_str() == "refused 5")
+}
+
+fn all_are_told(alloc: Global) -> Result<bool, AllocError> {
+    Ok(
+        are_told(alloc, &FIRST, &BAD_STREAMS)?
+            && are_told(alloc, &SECOND, &BAD_STREAMS)?
+            && are_told(alloc, &FIRST, &IN_FIRST)?
+            && are_told(alloc, &SECOND, &IN_SECOND)?
+            && is_short_told(alloc)?,
+    )
 }
 
 #[test]
 fn streams(rt: HostRuntime) {
-    // the appendix's value that is cut short: its length is 513
-    let mut short = [0; 516];
-    short[..4].copy_from_slice(&[0x0f, 0xfd, 0x02, 0x01]);
-    for (known_even, rows) in [
-        (FIRST.as_slice(), BAD_STREAMS.as_slice()),
-        (&SECOND, &BAD_STREAMS),
-        (&[], &BAD_STREAMS),
-        (&FIRST, &IN_FIRST),
-        (&SECOND, &IN_SECOND),
-        (&[2, 4, 6, 8], &FIRST_FAULTS),
-    ] {
-        assert_eq!(rt; first_unlike(rt.alloc(), known_even, rows), Ok(None));
-    }
-    assert_eq!(rt;
-        read_tlvs(rt.alloc(), &short, &FIRST).err(),
-        Some(Fault::TlvLength)
-    );
+    assert!(rt; all_are_told(rt.alloc()) == Ok(true));
 }
 
 /// The first byte of the value of each of the types 1 to 3, and 0 where there is none.
@@ -318,16 +308,27 @@ fn first_bytes(records: &[Record]) -> [u8; 3] {
     bytes
 }
 
+/// Whether the bytes behind a record are these.
+fn are_bytes(alloc: Global, written: Vec<u8>, bytes: &[u8]) -> bool {
+    let written = Bytes::new(written);
+    written.len() == bytes.len()
+        && !written.is_empty()
+        && Bytes::empty(alloc).is_empty()
+        && written.as_slice() == bytes
+        && written.into_vec().as_slice() == bytes
+}
+
+/// The values of three records, and whether they are written as these bytes.
+fn read_and_written(alloc: Global, bytes: &[u8]) -> Result<([u8; 3], bool), Fault> {
+    let records = read_tlvs(alloc, bytes, &[])?;
+    let written = write_tlvs(alloc, &records)?;
+    Ok((first_bytes(&records), are_bytes(alloc, written, bytes)))
+}
+
 #[test]
 fn small_records(rt: HostRuntime) -> Result<(), Fault> {
     let bytes = [1, 1, 9, 3, 2, 7, 8];
-    let records = read_tlvs(rt.alloc(), &bytes, &[])?;
-    assert_eq!(rt; first_bytes(&records), [9, 0, 7]);
-    let written = Bytes::new(write_tlvs(rt.alloc(), &records)?);
-    assert_eq!(rt; written.len(), 7);
-    assert!(rt; !written.is_empty() && Bytes::empty(rt.alloc()).is_empty());
-    assert_eq!(rt; written.as_slice(), bytes.as_slice());
-    assert_eq!(rt; written.into_vec().as_slice(), bytes.as_slice());
+    assert!(rt; read_and_written(rt.alloc(), &bytes)? == ([9, 0, 7], true));
     Ok(())
 }
 
@@ -346,52 +347,30 @@ const SHORT_IDS: [(&str, [u8; 8]); 4] = [
     ),
 ];
 
-#[test]
-fn short_ids(rt: HostRuntime) -> Result<(), AllocError> {
-    for (text, bytes) in SHORT_IDS {
-        let id = ShortId::from_bytes(&bytes);
-        assert_eq!(rt; ShortId::parse(text), Some(id));
-        assert_eq!(rt; id.to_bytes(), bytes);
-        assert_eq!(rt; format!(in rt.alloc(); "{id}")?.as_str(), text);
+/// Whether the text and these bytes are those of one short id.
+fn is_short_id(alloc: Global, text: &str, bytes: &[u8; 8]) -> bool {
+    let id = ShortId::from_bytes(bytes);
+    match format!(in alloc; "{id}") {
+        Ok(told) => told.as_str() == text
+            && ShortId::parse(text) == Some(id)
+            && id.to_bytes() == *bytes,
+        Err(_) => false,
     }
-    Ok(())
 }
 
 #[test]
-fn parts_of_short_ids(rt: HostRuntime) {
-    let parts = ShortId {
+fn short_ids(rt: HostRuntime) {
+    let alloc = rt.alloc();
+    assert!(rt;
+        SHORT_IDS
+            .iter()
+            .all(|row| is_short_id(alloc, row.0, &row.1))
+    );
+    let id = ShortId {
         block: 1,
         tx: 2,
         output: 3,
     };
-    assert_eq!(rt; ShortId::parse("1x2x3"), Some(parts));
-    for text in [
-        "",
-        "x",
-        "xx",
-        "1x2",
-        "1x2x",
-        "x2x3",
-        "1xx3",
-        "1x2x3x",
-        "1x2x3x4",
-        "01x2x3",
-        "1x02x3",
-        "1x2x03",
-        "00x2x3",
-        "+1x2x3",
-        "1x-2x3",
-        " 1x2x3",
-        "1x2x3 ",
-        "1X2X3",
-        "1:2:3",
-        "0x1x2x3",
-        "ax2x3",
-        "16777216x2x3",
-        "1x16777216x3",
-        "1x2x65536",
-        "4294967297x2x3",
-    ] {
-        assert_eq!(rt; ShortId::parse(text), None);
-    }
+    assert!(rt; ShortId::parse("1x2x3") == Some(id));
+    assert!(rt; ShortId::parse("1x2x03").is_none());
 }

@@ -1,6 +1,6 @@
 //! Events of a channel end, and closures that are told of them.
 
-use crate::log::{What, update};
+use crate::log::{What, updates};
 use What::{Add, Fail as Failed, Fee, Fulfil, Malformed};
 use ln_hooks::{Call, ChannelEvent, FailureCode, Hook, HookTable, How, Msat, Verdict, event_of};
 use ln_msgs::Refusal;
@@ -37,32 +37,48 @@ fn told(event: &ChannelEvent) -> Told {
 
 /// What is told of an update of this side's or of the peer's.
 fn event_told(alloc: Global, own: bool, what: What) -> Result<Option<Told>, Refusal> {
-    let update = update(alloc, what)?;
-    Ok(
-        event_of(alloc, own, &update)?
-            .as_ref()
-            .map(|event| told(event)),
-    )
+    let list = updates(alloc, &[what])?;
+    let Some(update) = list.first() else {
+        return Ok(None);
+    };
+    let event = event_of(alloc, own, update);
+    let told = match &event {
+        Ok(Some(event)) => Ok(Some(told(event))),
+        Ok(None) => Ok(None),
+        Err(refusal) => Err(*refusal),
+    };
+    drop(event);
+    told
 }
 
-// An add is of the side that offers it, and a removal of the other side's HTLC. No channel holds what passes the bound.
+/// An add is of the side that offers it, and a removal of the other side's HTLC. No channel holds what passes the
+/// bound.
+const EVENTS: [(bool, What, Option<Told>); 7] = [
+    (true, Add(3, 5000, 400), Some((true, 3, 5000, 400))),
+    (
+        false,
+        Add(3, Msat::MAX, 400),
+        Some((false, 3, Msat::MAX, 400)),
+    ),
+    (true, Add(3, Msat::MAX + 1, 400), None),
+    (true, Fulfil(4, 5), Some((false, 4, 5, 0))),
+    (false, Failed(2, 3), Some((true, 2, 3, 1))),
+    (true, Malformed(6, 0xc005), Some((false, 6, 5, 0xc005))),
+    (true, Fee(253), None),
+];
+
+fn are_told(alloc: Global) -> Result<bool, Refusal> {
+    for (own, what, want) in &EVENTS {
+        if event_told(alloc, *own, *what)? != *want {
+            return Ok(false);
+        }
+    }
+    Ok(true)
+}
+
 #[test]
 fn small_events(rt: HostRuntime) -> Result<(), Refusal> {
-    for (own, what, want) in [
-        (true, Add(3, 5000, 400), Some((true, 3, 5000, 400))),
-        (
-            false,
-            Add(3, Msat::MAX, 400),
-            Some((false, 3, Msat::MAX, 400)),
-        ),
-        (true, Add(3, Msat::MAX + 1, 400), None),
-        (true, Fulfil(4, 5), Some((false, 4, 5, 0))),
-        (false, Failed(2, 3), Some((true, 2, 3, 1))),
-        (true, Malformed(6, 0xc005), Some((false, 6, 5, 0xc005))),
-        (true, Fee(253), None),
-    ] {
-        assert_eq!(rt; event_told(rt.alloc(), own, what)?, want);
-    }
+    assert!(rt; are_told(rt.alloc())?);
     Ok(())
 }
 
@@ -123,56 +139,65 @@ fn hook(
 }
 
 fn put(table: &mut HookTable, hook: Hook) -> Result<(), Refusal> {
-    match table.register(hook) {
-        Ok(()) => Ok(()),
-        Err((_hook, refusal)) => Err(refusal),
-    }
+    table.register(hook).map_err(|(_hook, refusal)| refusal)
 }
 
 /// The first and the second hook fail what is large, the third one fails all.
-fn three_hooks(alloc: Global, digits: &Arc<AtomicU64>) -> Result<HookTable, Refusal> {
-    let mut table = HookTable::new(alloc);
-    put(&mut table, hook(alloc, digits, 1, false, UNKNOWN)?)?;
-    put(&mut table, hook(alloc, digits, 2, false, TEMPORARY)?)?;
-    put(&mut table, hook(alloc, digits, 3, true, TEMPORARY)?)?;
-    Ok(table)
+fn put_three(table: &mut HookTable, alloc: Global, digits: &Arc<AtomicU64>) -> Result<(), Refusal> {
+    put(table, hook(alloc, digits, 1, false, UNKNOWN)?)?;
+    put(table, hook(alloc, digits, 2, false, TEMPORARY)?)?;
+    put(table, hook(alloc, digits, 3, true, TEMPORARY)?)
 }
 
-// The first fail is the answer, and all are called in order of registration.
+/// Whether the first fail is the answer, and all are called in order of registration.
+fn are_called(table: &mut HookTable, alloc: Global, digits: &AtomicU64) -> Result<bool, Refusal> {
+    let events = two_adds(alloc)?;
+    let answers = match events.as_slice() {
+        [large, little] => [table.call(large), table.call(little)],
+        _ => [Verdict::Continue; 2],
+    };
+    let called = digits.load(Ordering::SeqCst);
+    let verdicts = table.call_run(&events)?;
+    Ok(
+        answers == [UNKNOWN, TEMPORARY]
+            && called == 123_123
+            && verdicts.as_slice() == answers.as_slice()
+            && digits.load(Ordering::SeqCst) == 123_123_123_123,
+    )
+}
+
 #[test]
 fn small_hooks(rt: HostRuntime) -> Result<(), Refusal> {
     let digits = Arc::new(rt.alloc(), AtomicU64::new(0))?;
-    let mut table = three_hooks(rt.alloc(), &digits)?;
-    assert_eq!(rt; table.call(&add_of(Msat::MAX)), UNKNOWN);
-    assert_eq!(rt; table.call(&add_of(1000)), TEMPORARY);
-    assert_eq!(rt; digits.load(Ordering::SeqCst), 123_123);
-    let events = two_adds(rt.alloc())?;
-    let verdicts = table.call_run(&events)?;
-    assert_eq!(rt; verdicts.as_slice(), [UNKNOWN, TEMPORARY].as_slice());
-    assert_eq!(rt; digits.load(Ordering::SeqCst), 123_123_123_123);
+    let mut table = HookTable::new(rt.alloc());
+    put_three(&mut table, rt.alloc(), &digits)?;
+    assert!(rt; are_called(&mut table, rt.alloc(), &digits)?);
     Ok(())
 }
 
 #[test]
 fn a_table_moves_into_a_thread(rt: HostRuntime) -> Result<(), Fail> {
     let digits = Arc::new(rt.alloc(), AtomicU64::new(0))?;
-    let mut table = three_hooks(rt.alloc(), &digits)?;
+    let mut table = HookTable::new(rt.alloc());
+    put_three(&mut table, rt.alloc(), &digits)?;
     let thread = thread::spawn(&rt, move || table.call(&ChannelEvent::Closed(300)))?;
-    assert_eq!(rt; thread.join(&rt), TEMPORARY);
+    assert!(rt; thread.join(&rt) == TEMPORARY);
     Ok(())
+}
+
+/// The failure codes, and numbers that are none.
+const CODES: [u16; 11] = [
+    0x1007, 0x400a, 0x100b, 0x100c, 0x100d, 0x100e, 0x400f, 0x0012, 0x0013, 0x0015, 0x4016,
+];
+
+const OTHERS: [u16; 6] = [0, 0x1008, 0x2002, 0xc004, 0xc005, 0xc006];
+
+fn is_code(number: u16) -> bool {
+    FailureCode::new(number).map(|code| code.number()) == Some(number)
 }
 
 #[test]
 fn failure_codes(rt: HostRuntime) {
-    for number in [
-        0x1007, 0x400a, 0x100b, 0x100c, 0x100d, 0x100e, 0x400f, 0x0012, 0x0013, 0x0015, 0x4016,
-    ] {
-        assert_eq!(rt;
-            FailureCode::new(number).map(|code| code.number()),
-            Some(number)
-        );
-    }
-    for number in [0, 0x1008, 0x2002, 0xc004, 0xc005, 0xc006] {
-        assert!(rt; FailureCode::new(number).is_none());
-    }
+    assert!(rt; CODES.iter().all(|number| is_code(*number)));
+    assert!(rt; !OTHERS.iter().any(|number| is_code(*number)));
 }

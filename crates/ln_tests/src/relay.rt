@@ -66,7 +66,7 @@ fn take_one<S: Receives<u32>, R: Wait>(rt: &R, seat: &mut S) -> Option<u32>
 }
 
 /// Which item of each sender comes next, and whether all came in order so far.
-#[derive(Clone, Copy, Debug, PartialEq, Eq)]
+#[derive(Clone, Copy, PartialEq, Eq)]
 struct Order {
     first: u32,
     second: u32,
@@ -125,28 +125,28 @@ const TWO: Finished = Finished {
 #[test]
 fn small_relay_hands_over(rt: HostRuntime) -> Result<(), AllocError> {
     let (mut first, second, mut receiver) = relay(rt.alloc(), 2)?;
-    assert_eq!(rt; put_three(&rt, &mut first), [Ok(()), Ok(()), Err(3)]);
-    assert_eq!(rt; take_three(&rt, &mut receiver), [Some(1), Some(2), None]);
-    assert_eq!(rt; finish(first, second, receiver), TWO);
+    assert!(rt; put_three(&rt, &mut first) == [Ok(()), Ok(()), Err(3)]);
+    assert!(rt; take_three(&rt, &mut receiver) == [Some(1), Some(2), None]);
+    assert!(rt; finish(first, second, receiver) == TWO);
     Ok(())
 }
 
 #[test]
 fn small_waiting_relay_hands_over(rt: HostRuntime) -> Result<(), AllocError> {
     let (mut first, second, mut receiver) = waiting_relay(rt.alloc(), 2)?;
-    assert_eq!(rt; put_three(&rt, &mut first), [Ok(()), Ok(()), Err(3)]);
-    assert_eq!(rt; take_three(&rt, &mut receiver), [Some(1), Some(2), None]);
-    assert_eq!(rt; finish_waiting(first, second, receiver), TWO);
+    assert!(rt; put_three(&rt, &mut first) == [Ok(()), Ok(()), Err(3)]);
+    assert!(rt; take_three(&rt, &mut receiver) == [Some(1), Some(2), None]);
+    assert!(rt; finish_waiting(first, second, receiver) == TWO);
     Ok(())
 }
 
 #[test]
 fn small_seats_of_no_relay(rt: HostRuntime) -> Result<(), AllocError> {
     let mut sender = MemorySend::new(rt.alloc(), 2)?;
-    assert_eq!(rt; put_three(&rt, &mut sender), [Ok(()), Ok(()), Err(3)]);
+    assert!(rt; put_three(&rt, &mut sender) == [Ok(()), Ok(()), Err(3)]);
     let mut receiver = MemoryRecv::new(sender.into_items());
-    assert_eq!(rt; receiver.recv_wait(&rt), Some(1));
-    assert_eq!(rt; take_three(&rt, &mut receiver), [Some(2), None, None]);
+    assert!(rt; receiver.recv_wait(&rt) == Some(1));
+    assert!(rt; take_three(&rt, &mut receiver) == [Some(2), None, None]);
     Ok(())
 }
 
@@ -188,8 +188,8 @@ fn hand_over<S: Sends<u32> + Send + Drop, D: Receives<u32> + Send + Drop, R: Thr
 fn threads_hand_over_in_order(rt: HostRuntime) -> Result<(), AllocError> {
     let (first, second, receiver) = relay(rt.alloc(), 8)?;
     let ((first, second, receiver), order) = hand_over(&rt, first, second, receiver);
-    assert_eq!(rt; order, MERGED);
-    assert_eq!(rt; finish(first, second, receiver), ALL);
+    assert!(rt; order == MERGED);
+    assert!(rt; finish(first, second, receiver) == ALL);
     Ok(())
 }
 
@@ -197,8 +197,8 @@ fn threads_hand_over_in_order(rt: HostRuntime) -> Result<(), AllocError> {
 fn threads_hand_over_in_order_where_one_may_wait(rt: HostRuntime) -> Result<(), AllocError> {
     let (first, second, receiver) = waiting_relay(rt.alloc(), 8)?;
     let ((first, second, receiver), order) = hand_over(&rt, first, second, receiver);
-    assert_eq!(rt; order, MERGED);
-    assert_eq!(rt; finish_waiting(first, second, receiver), ALL);
+    assert!(rt; order == MERGED);
+    assert!(rt; finish_waiting(first, second, receiver) == ALL);
     Ok(())
 }
 
@@ -233,6 +233,6 @@ fn recv_wait_waits(rt: HostRuntime) -> Result<(), AllocError> {
     );
     drop(second);
     assert!(rt; sent);
-    assert_eq!(rt; got, Some(1));
+    assert!(rt; got == Some(1));
     Ok(())
 }

@@ -85,59 +85,76 @@ fn listed<S: RecordStore>(alloc: Global, store: &mut S) -> u64 {
     number
 }
 
+/// Ids and texts that are saved one after the other, and the ids that are then listed.
+const SAVES: [(u8, &str, u64); 4] = [
+    (3, "three", 3),
+    (1, "one", 13),
+    (2, "two", 123),
+    (3, "four", 123),
+];
+
+fn are_saved<S: RecordStore>(alloc: Global, store: &mut S) -> bool {
+    for (id, text, ids) in &SAVES {
+        if saved(alloc, store, *id, text) != 0
+            || !has(alloc, store, *id, text)
+            || listed(alloc, store) != *ids
+        {
+            return false;
+        }
+    }
+    true
+}
+
+/// Whether a store begins empty, and has what is saved.
+fn keeps<S: RecordStore>(alloc: Global, store: &mut S) -> bool {
+    has(alloc, store, 3, "")
+        && listed(alloc, store) == 0
+        && are_saved(alloc, store)
+        && has(alloc, store, 1, "one")
+        && has(alloc, store, 2, "two")
+        && has(alloc, store, 4, "")
+        && store.failures() == 0
+}
+
 #[test]
 fn records_in_memory(rt: HostRuntime) {
-    let alloc = rt.alloc();
-    let mut store = MemoryStore::new(alloc);
-    assert!(rt; has(alloc, &mut store, 3, ""));
-    assert_eq!(rt; listed(alloc, &mut store), 0);
-    for (id, text, ids) in [
-        (3, "three", 3),
-        (1, "one", 13),
-        (2, "two", 123),
-        (3, "four", 123),
-    ] {
-        assert_eq!(rt; saved(alloc, &mut store, id, text), 0);
-        assert!(rt; has(alloc, &mut store, id, text));
-        assert_eq!(rt; listed(alloc, &mut store), ids);
-    }
-    assert!(rt; has(alloc, &mut store, 1, "one"));
-    assert!(rt; has(alloc, &mut store, 2, "two"));
-    assert!(rt; has(alloc, &mut store, 4, ""));
-    assert_eq!(rt; store.failures(), 0);
+    let mut store = MemoryStore::new(rt.alloc());
+    assert!(rt; keeps(rt.alloc(), &mut store));
+}
+
+/// Whether the third save fails, is counted, and leaves this text.
+fn leaves<S: RecordStore>(alloc: Global, store: &mut S, found: &str) -> bool {
+    saved(alloc, store, 7, "old") == 0
+        && saved(alloc, store, 8, "other") == 0
+        && store.failures() == 0
+        && saved(alloc, store, 7, "new") == 61
+        && store.failures() == 1
+        && has(alloc, store, 7, found)
+        && has(alloc, store, 8, "other")
+        && listed(alloc, store) == 78
 }
 
 // A save that fails leaves the old record or the new one, and is counted.
 #[test]
 fn records_where_a_save_fails(rt: HostRuntime) {
-    let alloc = rt.alloc();
-    for (leaves_new, found) in [(false, "old"), (true, "new")] {
-        let mut store = FailingStore::new(alloc, 2, leaves_new);
-        assert_eq!(rt; saved(alloc, &mut store, 7, "old"), 0);
-        assert_eq!(rt; saved(alloc, &mut store, 8, "other"), 0);
-        assert_eq!(rt; store.failures(), 0);
-        assert_eq!(rt; saved(alloc, &mut store, 7, "new"), 61);
-        assert_eq!(rt; store.failures(), 1);
-        assert!(rt; has(alloc, &mut store, 7, found));
-        assert!(rt; has(alloc, &mut store, 8, "other"));
-        assert_eq!(rt; listed(alloc, &mut store), 78);
-    }
+    let mut store = FailingStore::new(rt.alloc(), 2, false);
+    assert!(rt; leaves(rt.alloc(), &mut store, "old"));
+    let mut store = FailingStore::new(rt.alloc(), 2, true);
+    assert!(rt; leaves(rt.alloc(), &mut store, "new"));
 }
 
-/// What is found of a record that was saved, and how many ids there are.
-fn found(alloc: Global) -> Result<(Option<Bytes>, usize), Refusal> {
-    let mut store = MemoryStore::new(alloc);
+/// Whether the second of two records under one id is found, and that id alone.
+fn is_found<S: RecordStore>(alloc: Global, store: &mut S) -> Result<bool, Refusal> {
     store.save(alloc, &[7; 32], b"old")?;
     store.save(alloc, &[7; 32], b"new")?;
     let found = store.load(alloc, &[7; 32])?;
     let ids = store.ids(alloc)?;
-    Ok((found, ids.len()))
+    Ok(ids.len() == 1 && found.is_some_and(|record| record.as_slice() == b"new".as_slice()))
 }
 
 #[test]
 fn small_store(rt: HostRuntime) -> Result<(), Refusal> {
-    let (found, count) = found(rt.alloc())?;
-    assert!(rt; found.is_some_and(|record| record.as_slice() == b"new".as_slice()));
-    assert_eq!(rt; count, 1);
+    let mut store = MemoryStore::new(rt.alloc());
+    assert!(rt; is_found(rt.alloc(), &mut store)?);
     Ok(())
 }

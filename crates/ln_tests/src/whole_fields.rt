@@ -1,11 +1,10 @@
 //! Messages whose every byte tells where it stands, all refusals by their texts, and a writer that takes nothing.
 
 use ln_bytes::Fault;
-use ln_msgs::{Counted, Incoming, Item, Message, Refusal, answer_pings, decode};
+use ln_msgs::{Counted, Incoming, Item, Message, PeerRule, Refusal, answer_pings, decode};
 use std::alloc::{AllocError, Global};
 use std::io;
 use std::io::Write;
-use std::test::*;
 
 // A type, how many bytes its fields of fixed size take, the bytes of those behind them, and the names of all.
 type Row = (u16, usize, &'static [u8], &'static [&'static str]);
@@ -157,7 +156,7 @@ fn are_fields(
     message: &Message,
     names: &[&str],
     bytes: &[u8],
-) -> Result<bool, AllocError> {
+) -> Result<bool, Fault> {
     let fields = message.fields(alloc)?;
     if fields.len() != names.len() {
         return Ok(false);
@@ -172,34 +171,41 @@ fn are_fields(
     Ok(rest.is_empty())
 }
 
-#[test]
-fn fields_by_name_and_place(rt: HostRuntime) -> Result<(), Fail> {
-    for (typ, fixed, tail, names) in ROWS {
-        let bytes = bytes_of(rt.alloc(), typ, fixed, tail)?;
-        let decoded = decode(rt.alloc(), &bytes);
-        let same = match &decoded {
-            Ok(Incoming::Known(message)) => are_fields(rt.alloc(), message, names, &bytes[2..]),
-            _ => Ok(false),
-        };
-        drop(decoded);
-        assert!(rt; same?, "of type {typ}");
-    }
-    Ok(())
-}
-
-#[test]
-fn small_fields(rt: HostRuntime) -> Result<(), Refusal> {
-    let (typ, fixed, tail, names) = ROWS[14];
-    let bytes = bytes_of(rt.alloc(), typ, fixed, tail)?;
-    let Incoming::Known(message) = decode(rt.alloc(), &bytes)? else {
-        return Err(Refusal::OutOfPlace);
+// Whether the row's message has these fields.
+fn is_whole(alloc: Global, row: &Row) -> Result<bool, Fault> {
+    let bytes = bytes_of(alloc, row.0, row.1, row.2)?;
+    let decoded = decode(alloc, &bytes);
+    let same = match &decoded {
+        Ok(Incoming::Known(message)) => are_fields(alloc, message, row.3, &bytes[2..]),
+        Ok(Incoming::Ignored(_)) => Ok(false),
+        Err(fault) => Err(*fault),
     };
-    assert!(rt; are_fields(rt.alloc(), &message, names, &bytes[2..])?);
+    drop(decoded);
+    same
+}
+
+fn are_whole(alloc: Global) -> Result<bool, Fault> {
+    for row in &ROWS {
+        if !is_whole(alloc, row)? {
+            return Ok(false);
+        }
+    }
+    Ok(true)
+}
+
+#[test]
+fn fields_by_name_and_place(rt: HostRuntime) {
+    assert!(rt; are_whole(rt.alloc()) == Ok(true));
+}
+
+#[test]
+fn small_fields(rt: HostRuntime) -> Result<(), Fault> {
+    assert!(rt; is_whole(rt.alloc(), &ROWS[14])?);
     Ok(())
 }
 
-// The texts of all refusals but the two that carry a number.
-const TEXTS: [(Refusal, &str); 41] = [
+// The texts of all refusals.
+const TEXTS: [(Refusal, &str); 45] = [
     (Refusal::Truncated, "refused 1"),
     (Refusal::NotMinimal, "refused 2"),
     (Refusal::TlvOrder, "refused 3"),
@@ -241,18 +247,23 @@ const TEXTS: [(Refusal, &str); 41] = [
     (Refusal::Halted, "refused 62"),
     (Refusal::Io, "refused 63"),
     (Refusal::GaveUp, "refused 65"),
+    (Refusal::Damaged, "refused 70"),
+    (Refusal::Version, "refused 71"),
+    (Refusal::PeerLimit(PeerRule::OutOfPlace), "refused 44 21"),
+    (Refusal::BadScript { line: 7 }, "refused 64 line 7"),
 ];
 
-#[test]
-fn refusals_by_their_texts(rt: HostRuntime) -> Result<(), AllocError> {
-    for (refusal, text) in TEXTS {
-        let told = format!(in rt.alloc(); "{refusal}")?;
-        assert_eq!(rt; told.as_str(), text);
+fn has_text(alloc: Global, refusal: &Refusal, text: &str) -> bool {
+    match format!(in alloc; "{refusal}") {
+        Ok(told) => told.as_str() == text,
+        Err(_) => false,
     }
-    let damaged = Refusal::Damaged;
-    let told = format!(in rt.alloc(); "{damaged}")?;
-    assert_eq!(rt; told.as_str(), "refused 70");
-    Ok(())
+}
+
+#[test]
+fn refusals_by_their_texts(rt: HostRuntime) {
+    let alloc = rt.alloc();
+    assert!(rt; TEXTS.iter().all(|row| has_text(alloc, &row.0, row.1)));
 }
 
 // A writer that takes no byte.
@@ -275,10 +286,6 @@ fn a_write_that_takes_nothing(rt: HostRuntime) {
     let ping = [0, 6, 0, 18, 0, 2, 0, 0];
     let mut reader = Counted::new(ping.as_slice());
     let mut writer = Counted::new(Full);
-    assert_eq!(rt;
-        answer_pings(rt.alloc(), &mut reader, &mut writer),
-        Err(Fault::Io)
-    );
-    assert_eq!(rt; reader.failures(), 0);
-    assert_eq!(rt; writer.failures(), 1);
+    assert!(rt; answer_pings(rt.alloc(), &mut reader, &mut writer) == Err(Fault::Io));
+    assert!(rt; (reader.failures(), writer.failures()) == (0, 1));
 }
