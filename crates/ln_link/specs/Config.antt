@@ -24,7 +24,7 @@ offered s fundee = record {
   fundee = fundee;
 }
 
--- The longest script that a shutdown can carry: a message has 65,535 bytes at most, and a shutdown 36 beside its script.
+-- The longest script that a shutdown can carry: a message has 65,535 bytes at most, and a shutdown 36 beside it.
 abbrev pub longest_script : ℕ
 longest_script = 65499
 
