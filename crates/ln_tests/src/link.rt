@@ -79,6 +79,11 @@ fn config(alloc: Global, fees: Range) -> Config {
     }
 }
 
+/// In a box: a function that owns a link pays for its whole depth at each way out, one that owns a box doesn't.
+pub fn boxed<T: Drop>(alloc: Global, value: T) -> Result<Box<T>, Refusal> {
+    Ok(Box::new(alloc, value)?)
+}
+
 pub fn spec(alloc: Global) -> Result<FitSpec, Refusal> {
     let spec = OpenSpec {
         config: config(alloc, (200, 300, 400)),

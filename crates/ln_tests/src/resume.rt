@@ -1,11 +1,12 @@
 //! Two sides whose connection is lost while something is on its way, and what each sends again, over toy keys.
 
 use crate::code_of;
+use crate::link::boxed;
 use crate::testing::{CHANNEL, FUNDEE, FUNDER, htlc, side};
 use ln_dance::{Dance, Resend, update_of};
 use ln_keys::{ChannelKeys, Role, ToyKeys};
 use ln_log::Update;
-use ln_msgs::{ChannelReestablish, Message, Records, Refusal};
+use ln_msgs::{ChannelReestablish, CommitmentSigned, Message, Records, Refusal};
 use std::alloc::Global;
 
 /// What a side does, and how far it comes before the connection is lost.
@@ -55,22 +56,34 @@ fn go(
             Ok(())
         }
         RevokeLost => {
-            let signed = x.sign(alloc, x_keys)?;
+            let signed = boxed(alloc, x.sign(alloc, x_keys)?)?;
             drop(y.accept(alloc, y_keys, &signed)?);
             Ok(())
         }
         Turn => {
-            let signed = x.sign(alloc, x_keys)?;
-            let revocation = y.accept(alloc, y_keys, &signed)?;
-            x.learn(x_keys, &revocation)
+            let signed = boxed(alloc, x.sign(alloc, x_keys)?)?;
+            turn(alloc, &signed, x, x_keys, y, y_keys)
         }
     }
 }
 
-/// The funder steps, or the fundee.
-fn play(alloc: Global, steps: &[(Role, Step)]) -> Result<(Dance, Dance), Refusal> {
-    let mut a = side(alloc, Role::Funder, &FUNDEE, 0);
-    let mut b = side(alloc, Role::Fundee, &FUNDER, 0);
+/// The other side, y, takes what x has signed, and x its revocation.
+fn turn(
+    alloc: Global,
+    signed: &CommitmentSigned,
+    x: &mut Dance,
+    x_keys: &ToyKeys,
+    y: &mut Dance,
+    y_keys: &ToyKeys,
+) -> Result<(), Refusal> {
+    let revocation = boxed(alloc, y.accept(alloc, y_keys, signed)?)?;
+    x.learn(x_keys, &revocation)
+}
+
+/// The funder steps, or the fundee. Both are given in boxes: what holds a side itself pays for its whole depth.
+fn play(alloc: Global, steps: &[(Role, Step)]) -> Result<(Box<Dance>, Box<Dance>), Refusal> {
+    let mut a = boxed(alloc, side(alloc, Role::Funder, &FUNDEE, 0))?;
+    let mut b = boxed(alloc, side(alloc, Role::Fundee, &FUNDER, 0))?;
     for (who, one) in steps {
         match who {
             Role::Funder => go(alloc, &mut a, &FUNDER, &mut b, &FUNDEE, *one)?,
@@ -99,14 +112,42 @@ fn told(alloc: Global, resends: &[Resend]) -> Result<String, Refusal> {
     Ok(text)
 }
 
+fn receive_one(x: &mut Dance, message: Message) -> Result<(), Refusal> {
+    match update_of(message) {
+        Some(update) => x.receive(update),
+        None => Err(Refusal::OutOfPlace),
+    }
+}
+
 fn receive(x: &mut Dance, messages: Vec<Message>) -> Result<(), Refusal> {
     for message in messages {
-        match update_of(message) {
-            Some(update) => x.receive(update)?,
-            None => return Err(Refusal::OutOfPlace),
-        }
+        receive_one(x, message)?;
     }
     Ok(())
+}
+
+/// One side, y, takes this of what x sends again, and x what y answers.
+fn deliver_one(
+    alloc: Global,
+    resend: Resend,
+    x: &mut Dance,
+    x_keys: &ToyKeys,
+    y: &mut Dance,
+    y_keys: &ToyKeys,
+) -> Result<(), Refusal> {
+    match resend {
+        Resend::Updates(messages) => receive(y, messages.into_vec()),
+        Resend::Signature(signed) => {
+            let told = turn(alloc, &signed, x, x_keys, y, y_keys);
+            drop(signed);
+            told
+        }
+        Resend::Revocation(revocation) => {
+            let told = y.learn(y_keys, &revocation);
+            drop(revocation);
+            told
+        }
+    }
 }
 
 /// One side, y, takes all that x sends again, and x what y answers.
@@ -119,14 +160,7 @@ fn deliver(
     y_keys: &ToyKeys,
 ) -> Result<(), Refusal> {
     for resend in resends {
-        match resend {
-            Resend::Updates(messages) => receive(y, messages.into_vec())?,
-            Resend::Signature(signed) => {
-                let revocation = y.accept(alloc, y_keys, &signed)?;
-                x.learn(x_keys, &revocation)?;
-            }
-            Resend::Revocation(revocation) => y.learn(y_keys, &revocation)?,
-        }
+        deliver_one(alloc, resend, x, x_keys, y, y_keys)?;
     }
     Ok(())
 }
@@ -136,25 +170,45 @@ fn numbers(x: &Dance) -> [u64; 3] {
     [numbers.commitment, numbers.signed, numbers.revoked]
 }
 
-/// The connection comes back: what either tells of its numbers, what either sends again, and both's numbers behind.
-type Back = ([u64; 4], String, String, [[u64; 3]; 2]);
-
-fn come_back(alloc: Global, steps: &[(Role, Step)]) -> Result<Back, Refusal> {
-    let (mut a, mut b) = play(alloc, steps)?;
+/// What either tells of its numbers as the connection comes back.
+fn words(alloc: Global, a: &Dance, b: &Dance) -> [u64; 4] {
     let by_a = a.reestablish(alloc, &FUNDER);
     let by_b = b.reestablish(alloc, &FUNDEE);
-    let again_a = a.resume(alloc, &FUNDER, &by_b)?;
-    let again_b = b.resume(alloc, &FUNDEE, &by_a)?;
-    let text_a = told(alloc, again_a.as_slice())?;
-    let text_b = told(alloc, again_b.as_slice())?;
-    deliver(alloc, again_a, &mut a, &FUNDER, &mut b, &FUNDEE)?;
-    deliver(alloc, again_b, &mut b, &FUNDEE, &mut a, &FUNDER)?;
     let words = [
         by_a.next_commitment_number,
         by_a.next_revocation_number,
         by_b.next_commitment_number,
         by_b.next_revocation_number,
     ];
+    drop(by_a);
+    drop(by_b);
+    words
+}
+
+/// What one side, x, sends again by what y tells.
+fn again(
+    alloc: Global,
+    x: &Dance,
+    x_keys: &ToyKeys,
+    y: &Dance,
+    y_keys: &ToyKeys,
+) -> Result<Vec<Resend>, Refusal> {
+    let by_y = boxed(alloc, y.reestablish(alloc, y_keys))?;
+    x.resume(alloc, x_keys, &by_y)
+}
+
+/// The connection comes back: what either tells of its numbers, what either sends again, and both's numbers behind.
+type Back = ([u64; 4], String, String, [[u64; 3]; 2]);
+
+fn come_back(alloc: Global, steps: &[(Role, Step)]) -> Result<Back, Refusal> {
+    let (mut a, mut b) = play(alloc, steps)?;
+    let words = words(alloc, &a, &b);
+    let again_a = again(alloc, &a, &FUNDER, &b, &FUNDEE)?;
+    let again_b = again(alloc, &b, &FUNDEE, &a, &FUNDER)?;
+    let text_a = told(alloc, again_a.as_slice())?;
+    let text_b = told(alloc, again_b.as_slice())?;
+    deliver(alloc, again_a, &mut a, &FUNDER, &mut b, &FUNDEE)?;
+    deliver(alloc, again_b, &mut b, &FUNDEE, &mut a, &FUNDER)?;
     Ok((words, text_a, text_b, [numbers(&a), numbers(&b)]))
 }
 
@@ -238,22 +292,19 @@ fn refused(
 ) -> Result<(u32, bool), Refusal> {
     let (a, b) = play(alloc, steps)?;
     drop(a);
-    let message = ChannelReestablish {
-        channel_id: CHANNEL,
-        next_commitment_number: next,
-        next_revocation_number: revoked,
-        last_secret,
-        current_point: [0; 33],
-        records: Records::empty(alloc),
-    };
+    let message = boxed(
+        alloc,
+        ChannelReestablish {
+            channel_id: CHANNEL,
+            next_commitment_number: next,
+            next_revocation_number: revoked,
+            last_secret,
+            current_point: [0; 33],
+            records: Records::empty(alloc),
+        },
+    )?;
     let first = b.is_before_the_first(&message);
-    match b.resume(alloc, &FUNDEE, &message) {
-        Ok(resends) => {
-            drop(resends);
-            Ok((0, first))
-        }
-        Err(refusal) => Ok((code_of(Some(refusal)), first)),
-    }
+    Ok((code_of(b.resume(alloc, &FUNDEE, &message).err()), first))
 }
 
 const ZEROS: [u8; 32] = [0; 32];
