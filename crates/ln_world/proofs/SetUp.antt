@@ -7,7 +7,7 @@ use Rattle.ln_log.specs.declared.opening.Opening.{Opening}
 use Rattle.ln_close.specs.declared.closing.Fees.{Fees}
 use Rattle.ln_store.proofs.Formats.{both_true}
 use Rattle.ln_pair.specs.Promises.{AreKeys, AreSent}
-use Rattle.ln_pair.specs.Setup.{Setup, AreSetUp}
+use Rattle.ln_pair.specs.Setup.{Setup}
 use Rattle.ln_world.specs.declared.settings.Settings.{Settings}
 use Rattle.ln_world.specs.declared.step.Open.{Open}
 use Rattle.ln_world.specs.declared.step.Step.{Step}
@@ -19,7 +19,6 @@ use Rattle.ln_world.specs.Channel.{Channel, is_node, moved, opened_by, act_moves
 use Rattle.ln_world.specs.World.{World, settings_of, channel, moved_if, moved_at, all_moved, may_open, joined, happens}
 use Rattle.ln_world.specs.World.{empty, run}
 use Rattle.ln_world.specs.Promises.{BringsFit, BringFit}
-use Rattle.ln_world.specs.Course.{over}
 use Rattle.ln_world.specs.Setup.{setup_by, setup_in, all_setups, OpensAsSet}
 use Rattle.ln_world.proofs.Opened.{fees_so, opening_so}
 use Rattle.ln_world.proofs.Kept.{IsRun, ArePossible, went, setup_at, as_set_up}
