@@ -168,7 +168,8 @@ module _ {K : Type 0} (k : Ghosts K) where
   opens_so : (o : Option (Channel K)) (ds : List Setup) → Stands o ds → OpensAsSet ds o
   opens_so None ds h = subst (λ ls. OpensAsSet {K = K} ls None) (sym h) none_there
   opens_so (Some c) ds h =
-      subst (λ ls. OpensAsSet {K = K} ls (Some c)) (sym h.set) (as_set_up k.signer (channel_id_of c.number) c.both h.run)
+      subst (λ ls. OpensAsSet {K = K} ls (Some c)) (sym h.set)
+      (as_set_up k.signer (channel_id_of c.number) c.both h.run)
 
   pub open_as_set : (ss : List (Step K k)) (n : ℕ) → BringFit k ss
       → OpensAsSet (all_setups k n ss empty) (channel n (run k ss empty).channels)
