@@ -1,22 +1,43 @@
 //! A link that saves before it hands out: what its store has behind each call, and a save that fails.
 
 use crate::code_of;
-use crate::link::{fit, offer, spec};
+use crate::link::{DEAR, boxed, fundee, funder, messages_of, offer};
 use crate::store::FailingStore;
-use crate::testing::{FUNDEE, FUNDER};
+use crate::testing::FUNDER;
 use ln_bytes::ShortId;
 use ln_durable::{Durable, from_record, restart};
 use ln_keys::{ToyKeys, sha256_32};
-use ln_link::{Command, FitConfig, FitSpec, Life, Link, Output, Standing};
-use ln_msgs::Refusal;
+use ln_link::{Command, Life, Link, Output, Standing};
+use ln_msgs::{Message, Refusal};
 use ln_store::{MemoryStore, RecordStore, decode_record};
 use std::alloc::Global;
 
 /// A link and its store.
 #[derive(Drop)]
 pub struct Side<S: RecordStore + Drop> {
-    pub link: Durable<ToyKeys>,
+    pub link: Box<Durable<ToyKeys>>,
     pub store: S,
+}
+
+/// A side of a new link, which saves in this store.
+pub fn side_of<S: RecordStore + Drop>(
+    alloc: Global,
+    link: Box<Link<ToyKeys>>,
+    store: S,
+) -> Result<Side<S>, Refusal> {
+    let link = boxed(alloc, Durable::new(Box::into_inner(link)))?;
+    Ok(Side { link, store })
+}
+
+/// What a side answers to a message, behind others.
+fn take<S: RecordStore + Drop>(
+    alloc: Global,
+    message: Message,
+    side: &mut Side<S>,
+    all: &mut Vec<Output>,
+) -> Result<(), Refusal> {
+    let mut answers = side.link.handle(alloc, &mut side.store, message)?;
+    Ok(all.append(&mut answers)?)
 }
 
 /// What a side answers to all that it is sent.
@@ -26,12 +47,8 @@ fn taken<S: RecordStore + Drop>(
     side: &mut Side<S>,
 ) -> Result<Vec<Output>, Refusal> {
     let mut all = Vec::new(alloc);
-    for output in outputs {
-        if let Output::Send(message) = output {
-            for answer in side.link.handle(alloc, &mut side.store, message)? {
-                all.push(answer)?;
-            }
-        }
+    for message in messages_of(alloc, outputs)? {
+        take(alloc, message, side, &mut all)?;
     }
     Ok(all)
 }
@@ -86,7 +103,7 @@ fn recorded<S: RecordStore + Drop>(
     let Some(bytes) = side.store.load(alloc, id)? else {
         return Err(Refusal::NotReady);
     };
-    let record = decode_record(alloc, bytes.as_slice())?;
+    let record = boxed(alloc, decode_record(alloc, bytes.as_slice())?)?;
     let items = record.items();
     let flags = items.header.flags;
     Ok((
@@ -121,29 +138,12 @@ fn told<S: RecordStore + Drop, T: RecordStore + Drop>(
     Ok((before, answers, behind))
 }
 
-fn told_of_new(
-    alloc: Global,
-    store: FailingStore,
-    spec: FitSpec,
-    config: FitConfig,
-) -> Result<Told, Refusal> {
-    let mut a = Side {
-        link: Durable::new(Link::funder(FUNDER, spec)),
-        store,
-    };
-    let mut b = Side {
-        link: Durable::new(Link::fundee(FUNDEE, config)),
-        store: MemoryStore::new(alloc),
-    };
-    told(alloc, &mut a, &mut b)
-}
-
 /// The same where the funder's store fails at its save of this number, counted from 0.
 fn told_where_a_save_fails(alloc: Global, saves: u64, leaves_new: bool) -> Result<Told, Refusal> {
-    let spec = spec(alloc)?;
-    let config = fit(alloc, (350, 400, 500))?;
     let store = FailingStore::new(alloc, saves, leaves_new);
-    told_of_new(alloc, store, spec, config)
+    let mut a = side_of(alloc, funder(alloc)?, store)?;
+    let mut b = side_of(alloc, fundee(alloc, DEAR)?, MemoryStore::new(alloc))?;
+    told(alloc, &mut a, &mut b)
 }
 
 #[test]
@@ -162,9 +162,9 @@ fn saves(rt: HostRuntime) {
 
 /// The funder's end offers an HTLC and signs it; then it offers another one, which no signature covers.
 fn offered<S: RecordStore + Drop>(alloc: Global, a: &mut Side<S>) -> Result<(), Refusal> {
-    for command in [offer(), Command::Sign, offer()] {
-        drop(a.link.command(alloc, &mut a.store, command)?);
-    }
+    drop(a.link.command(alloc, &mut a.store, offer())?);
+    drop(a.link.command(alloc, &mut a.store, Command::Sign)?);
+    drop(a.link.command(alloc, &mut a.store, offer())?);
     Ok(())
 }
 
@@ -182,10 +182,8 @@ pub fn stored<S: RecordStore + Drop>(alloc: Global, a: &mut Side<S>) -> Result<V
 
 /// Where the link stands that comes back from these bytes.
 fn standing_of(alloc: Global, bytes: &[u8]) -> Result<Standing, Refusal> {
-    match from_record(alloc, FUNDER, bytes) {
-        Ok(link) => link.standing(alloc),
-        Err(refusal) => Err(refusal),
-    }
+    let link = boxed(alloc, from_record(alloc, FUNDER, bytes)?)?;
+    link.standing(alloc)
 }
 
 /// Where the link stands that comes back where its node restarts.
@@ -193,10 +191,8 @@ fn restarted(alloc: Global, link: &Link<ToyKeys>) -> Result<Standing, Refusal> {
     let Some(channel) = link.saved() else {
         return Err(Refusal::NotReady);
     };
-    match restart(alloc, FUNDER, link.failure(), channel) {
-        Ok(link) => link.standing(alloc),
-        Err(refusal) => Err(refusal),
-    }
+    let again = boxed(alloc, restart(alloc, FUNDER, link.failure(), channel)?)?;
+    again.standing(alloc)
 }
 
 /// By what the first bytes of a record are refused, so many of them.
@@ -244,22 +240,10 @@ fn loaded<S: RecordStore + Drop, T: RecordStore + Drop>(
     Ok(((back, again), dropped, faults))
 }
 
-fn loaded_of_new(alloc: Global, spec: FitSpec, config: FitConfig) -> Result<Loaded, Refusal> {
-    let mut a = Side {
-        link: Durable::new(Link::funder(FUNDER, spec)),
-        store: MemoryStore::new(alloc),
-    };
-    let mut b = Side {
-        link: Durable::new(Link::fundee(FUNDEE, config)),
-        store: MemoryStore::new(alloc),
-    };
-    loaded(alloc, &mut a, &mut b)
-}
-
 fn loads_of(alloc: Global) -> Result<Loaded, Refusal> {
-    let spec = spec(alloc)?;
-    let config = fit(alloc, (350, 400, 500))?;
-    loaded_of_new(alloc, spec, config)
+    let mut a = side_of(alloc, funder(alloc)?, MemoryStore::new(alloc))?;
+    let mut b = side_of(alloc, fundee(alloc, DEAR)?, MemoryStore::new(alloc))?;
+    loaded(alloc, &mut a, &mut b)
 }
 
 #[test]

@@ -1,8 +1,8 @@
 //! Messages that no honest peer sends: by which number a link refuses each, and how it stands behind that.
 
 use crate::code_of;
-use crate::link::{DEAR, Move, begin, fit, spec};
-use crate::testing::{FUNDEE, FUNDER, message_of};
+use crate::link::{DEAR, Move, begin, fundee, funder};
+use crate::testing::message_of;
 use Move::{Back, Confirm, Down, Lost, Offer, Out, Shut, Up};
 use ln_keys::{Role, ToyKeys};
 use ln_link::{Command, Link};
@@ -50,22 +50,10 @@ fn told(
 }
 
 /// The same for new links.
-fn linked(
-    alloc: Global,
-    mut a: Link<ToyKeys>,
-    mut b: Link<ToyKeys>,
-    past: Past,
-    at: Role,
-    strange: Strange,
-) -> Result<(u32, u32), Refusal> {
-    told(alloc, &mut a, &mut b, past, at, strange)
-}
-
 fn met(alloc: Global, past: Past, at: Role, strange: Strange) -> Result<(u32, u32), Refusal> {
-    let spec = spec(alloc)?;
-    let config = fit(alloc, DEAR)?;
-    let a = Link::funder(FUNDER, spec);
-    linked(alloc, a, Link::fundee(FUNDEE, config), past, at, strange)
+    let mut a = funder(alloc)?;
+    let mut b = fundee(alloc, DEAR)?;
+    told(alloc, &mut a, &mut b, past, at, strange)
 }
 
 const A: Role = Role::Funder;
@@ -224,15 +212,14 @@ fn messages_that_change_nothing(rt: HostRuntime) {
 }
 
 /// By which number a new fundee's end refuses the funding of a channel of which nothing was said.
-fn unasked(alloc: Global, mut end: Link<ToyKeys>) -> Result<u32, Refusal> {
+fn unasked(alloc: Global) -> Result<u32, Refusal> {
+    let mut end = fundee(alloc, DEAR)?;
     drop(end.connect(alloc)?);
     let created = message_of(alloc, 34, &[(130, 0)])?;
     Ok(answered(alloc, &mut end, created).0)
 }
 
 #[test]
-fn a_funding_that_nothing_came_before(rt: HostRuntime) -> Result<(), Refusal> {
-    let end = Link::fundee(FUNDEE, fit(rt.alloc(), DEAR)?);
-    assert_eq!(rt; unasked(rt.alloc(), end), Ok(21));
-    Ok(())
+fn a_funding_that_nothing_came_before(rt: HostRuntime) {
+    assert_eq!(rt; unasked(rt.alloc()), Ok(21));
 }

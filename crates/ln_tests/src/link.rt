@@ -84,8 +84,8 @@ pub fn boxed<T: Drop>(alloc: Global, value: T) -> Result<Box<T>, Refusal> {
     Ok(Box::new(alloc, value)?)
 }
 
-pub fn spec(alloc: Global) -> Result<FitSpec, Refusal> {
-    let spec = OpenSpec {
+fn open_spec(alloc: Global) -> OpenSpec {
+    OpenSpec {
         config: config(alloc, (200, 300, 400)),
         funding: 1_000_000,
         push: 0,
@@ -95,19 +95,27 @@ pub fn spec(alloc: Global) -> Result<FitSpec, Refusal> {
         txid: [9; 32],
         output: 0,
         records: Records::empty(alloc),
-    };
+    }
+}
+
+/// A new end of the funder.
+pub fn funder(alloc: Global) -> Result<Box<Link<ToyKeys>>, Refusal> {
+    let spec = open_spec(alloc);
     if spec.fits() {
-        Ok(FitSpec::new(spec))
+        boxed(alloc, Link::funder(FUNDER, FitSpec::new(spec)))
     } else {
+        drop(spec);
         Err(Refusal::NotReady)
     }
 }
 
-pub fn fit(alloc: Global, fees: Range) -> Result<FitConfig, Refusal> {
+/// A new end of the fundee, with these closing fees.
+pub fn fundee(alloc: Global, fees: Range) -> Result<Box<Link<ToyKeys>>, Refusal> {
     let config = config(alloc, fees);
     if config.fits() {
-        Ok(FitConfig::new(config))
+        boxed(alloc, Link::fundee(FUNDEE, FitConfig::new(config)))
     } else {
+        drop(config);
         Err(Refusal::NotReady)
     }
 }
@@ -161,6 +169,31 @@ fn noted(outputs: Vec<Output>, seen: &mut Vec<u64>) -> Result<Vec<Output>, Refus
     Ok(outputs)
 }
 
+/// Puts the message of an output behind others.
+fn collect(output: Output, messages: &mut Vec<Message>) -> Result<(), Refusal> {
+    match output {
+        Output::Send(message) => push(messages, message),
+        other => {
+            drop(other);
+            Ok(())
+        }
+    }
+}
+
+/// Puts an item behind others.
+pub fn push<T: Drop>(items: &mut Vec<T>, item: T) -> Result<(), Refusal> {
+    Ok(items.push(item)?)
+}
+
+/// The messages among outputs.
+pub fn messages_of(alloc: Global, outputs: Vec<Output>) -> Result<Vec<Message>, Refusal> {
+    let mut messages = Vec::new(alloc);
+    for output in outputs {
+        collect(output, &mut messages)?;
+    }
+    Ok(messages)
+}
+
 /// Hands all messages that were handed out to the other end, and gives what that one hands out last.
 fn pass(
     alloc: Global,
@@ -169,13 +202,8 @@ fn pass(
     seen: &mut Vec<u64>,
 ) -> Result<Vec<Output>, Refusal> {
     let mut last = Vec::new(alloc);
-    for output in outputs {
-        match output {
-            Output::Send(message) => {
-                last = noted(end.handle(alloc, message)?, seen)?;
-            }
-            _ => {}
-        }
+    for message in messages_of(alloc, outputs)? {
+        last = noted(end.handle(alloc, message)?, seen)?;
     }
     Ok(last)
 }
@@ -423,26 +451,15 @@ fn is_seen(seen: &[u64], outputs: &[u64]) -> bool {
 }
 
 /// The same for new links.
-fn linked(
-    alloc: Global,
-    mut a: Link<ToyKeys>,
-    mut b: Link<ToyKeys>,
-    table: &[(Move, u32)],
-    outputs: &[u64],
-) -> Result<(usize, bool), Refusal> {
-    moved(alloc, &mut a, &mut b, table, outputs)
-}
-
 fn played(
     alloc: Global,
     fees: Range,
     table: &[(Move, u32)],
     outputs: &[u64],
 ) -> Result<(usize, bool), Refusal> {
-    let spec = spec(alloc)?;
-    let config = fit(alloc, fees)?;
-    let a = Link::funder(FUNDER, spec);
-    linked(alloc, a, Link::fundee(FUNDEE, config), table, outputs)
+    let mut a = funder(alloc)?;
+    let mut b = fundee(alloc, fees)?;
+    moved(alloc, &mut a, &mut b, table, outputs)
 }
 
 pub const DEAR: Range = (350, 400, 500);
@@ -581,7 +598,9 @@ fn moves(rt: HostRuntime) -> Result<(), Refusal> {
 }
 
 /// What is handed out behind an opening, where an HTLC is offered and signed.
-fn offered(alloc: Global, mut a: Link<ToyKeys>, mut b: Link<ToyKeys>) -> Result<Vec<u64>, Refusal> {
+fn offered(alloc: Global) -> Result<Vec<u64>, Refusal> {
+    let mut a = funder(alloc)?;
+    let mut b = fundee(alloc, DEAR)?;
     let mut seen = Vec::new(alloc);
     begin(alloc, &mut a, &mut b, &[Confirm, Offer, Out], &mut seen)?;
     Ok(seen)
@@ -589,16 +608,14 @@ fn offered(alloc: Global, mut a: Link<ToyKeys>, mut b: Link<ToyKeys>) -> Result<
 
 #[test]
 fn small_link(rt: HostRuntime) -> Result<(), Refusal> {
-    let alloc = rt.alloc();
-    let a = Link::funder(FUNDER, spec(alloc)?);
-    let seen = offered(alloc, a, Link::fundee(FUNDEE, fit(alloc, DEAR)?))?;
+    let seen = offered(rt.alloc())?;
     assert!(rt; is_seen(&seen, &[36, 36, 128, 132, 1001, 133, 2000, 2000]));
     Ok(())
 }
 
 /// What a link that isn't opened yet answers: to a command, a connection, a connection behind a lost one, an error for
 /// all, and a command behind that.
-fn unopened(alloc: Global, mut link: Link<ToyKeys>) -> [u32; 5] {
+fn unopened(alloc: Global, link: &mut Link<ToyKeys>) -> [u32; 5] {
     let command = code_of(link.command(alloc, Command::Sign).err());
     let connection = code_of(link.connect(alloc).err());
     link.drop_connection();
@@ -617,10 +634,9 @@ fn unopened(alloc: Global, mut link: Link<ToyKeys>) -> [u32; 5] {
 fn lost_openings(rt: HostRuntime) -> Result<(), Refusal> {
     let alloc = rt.alloc();
     let told = [40, 0, 40, 37, 37];
-    assert_eq!(rt; unopened(alloc, Link::funder(FUNDER, spec(alloc)?)), told);
-    assert_eq!(rt;
-        unopened(alloc, Link::fundee(FUNDEE, fit(alloc, DEAR)?)),
-        told
-    );
+    let mut a = funder(alloc)?;
+    let mut b = fundee(alloc, DEAR)?;
+    assert_eq!(rt; unopened(alloc, &mut a), told);
+    assert_eq!(rt; unopened(alloc, &mut b), told);
     Ok(())
 }

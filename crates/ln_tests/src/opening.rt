@@ -1,6 +1,7 @@
 //! The opening of a channel, message by message.
 
 use crate::code_of;
+use crate::link::{boxed, messages_of};
 use crate::testing::{FUNDEE, FUNDER, bytes_of};
 use ln_bytes::{Bytes, Record};
 use ln_keys::{ToyKeys, sha256_32};
@@ -98,6 +99,10 @@ fn spec(alloc: Global, records: Records) -> OpenSpec {
     }
 }
 
+fn put<T: Drop>(place: &mut T, value: T) {
+    *place = value;
+}
+
 /// A change to a message on its way.
 fn change_open(message: &mut OpenChannel, change: &str) {
     if change == "open: another chain" {
@@ -129,7 +134,7 @@ fn change_accept(alloc: Global, message: &mut AcceptChannel, change: &str) {
         message.max_accepted_htlcs = 484;
     }
     if change == "accept: no type" {
-        message.records = Records::empty(alloc);
+        put(&mut message.records, Records::empty(alloc));
     }
 }
 
@@ -149,44 +154,31 @@ fn change_signed(message: &mut FundingSigned, change: &str) {
 }
 
 /// The SHA-256 of a message's bytes.
-fn digest(alloc: Global, message: Message) -> Result<[u8; 32], Refusal> {
-    if !fits(&message) {
+fn digest(alloc: Global, message: &Message) -> Result<[u8; 32], Refusal> {
+    if !fits(message) {
         return Err(Refusal::TlvOrder);
     }
-    let bytes = encode(alloc, &message)?;
+    let bytes = encode(alloc, message)?;
     Ok(sha256_32(bytes.as_slice()))
 }
 
-/// A message on its way, changed so.
-fn changed(alloc: Global, message: Message, change: &str) -> Message {
+/// Changes a message on its way.
+fn change_message(alloc: Global, message: &mut Message, change: &str) {
     match message {
-        Message::OpenChannel(mut open) => {
-            change_open(&mut open, change);
-            Message::OpenChannel(open)
-        }
-        Message::AcceptChannel(mut accept) => {
-            change_accept(alloc, &mut accept, change);
-            Message::AcceptChannel(accept)
-        }
-        Message::FundingCreated(mut created) => {
-            change_created(&mut created, change);
-            Message::FundingCreated(created)
-        }
-        Message::FundingSigned(mut signed) => {
-            change_signed(&mut signed, change);
-            Message::FundingSigned(signed)
-        }
-        other => other,
+        Message::OpenChannel(open) => change_open(open, change),
+        Message::AcceptChannel(accept) => change_accept(alloc, accept, change),
+        Message::FundingCreated(created) => change_created(created, change),
+        Message::FundingSigned(signed) => change_signed(signed, change),
+        _ => {}
     }
 }
 
-/// The first message that is handed out.
-fn sent(outputs: Vec<Output>) -> Result<Message, Refusal> {
-    for output in outputs {
-        match output {
-            Output::Send(message) => return Ok(message),
-            _ => {}
-        }
+/// The first message that is handed out, changed so, in a box.
+fn sent(alloc: Global, outputs: Vec<Output>, change: &str) -> Result<Box<Message>, Refusal> {
+    for message in messages_of(alloc, outputs)? {
+        let mut message = boxed(alloc, message)?;
+        change_message(alloc, &mut message, change);
+        return Ok(message);
     }
     Err(Refusal::NotReady)
 }
@@ -200,55 +192,57 @@ fn passed(
     change: &str,
 ) -> Result<[u8; 32], Refusal> {
     drop(b.connect(alloc)?);
-    let open = changed(alloc, sent(a.connect(alloc)?)?, change);
+    let open = sent(alloc, a.connect(alloc)?, change)?;
     if change == "open" {
-        return digest(alloc, open);
+        return digest(alloc, &open);
     }
-    let accept = changed(alloc, sent(b.handle(alloc, open)?)?, change);
+    let accept = sent(alloc, b.handle(alloc, Box::into_inner(open))?, change)?;
     if change == "accept" {
-        return digest(alloc, accept);
+        return digest(alloc, &accept);
     }
-    let created = changed(alloc, sent(a.handle(alloc, accept)?)?, change);
+    let created = sent(alloc, a.handle(alloc, Box::into_inner(accept))?, change)?;
     if change == "created" {
-        return digest(alloc, created);
+        return digest(alloc, &created);
     }
-    let signed = changed(alloc, sent(b.handle(alloc, created)?)?, change);
+    let signed = sent(alloc, b.handle(alloc, Box::into_inner(created))?, change)?;
     if change == "signed" {
-        return digest(alloc, signed);
+        return digest(alloc, &signed);
     }
-    drop(a.handle(alloc, signed)?);
+    drop(a.handle(alloc, Box::into_inner(signed))?);
     Ok([0; 32])
 }
 
-/// The same between new links.
-fn linked(
-    alloc: Global,
-    mut a: Link<ToyKeys>,
-    mut b: Link<ToyKeys>,
-    change: &str,
-) -> Result<[u8; 32], Refusal> {
-    passed(alloc, &mut a, &mut b, change)
-}
-
-/// The same for a channel with records or without.
-fn opening(alloc: Global, typed: bool, change: &str) -> Result<[u8; 32], Refusal> {
+/// A new end of the funder, for a channel with records or without.
+fn new_funder(alloc: Global, typed: bool) -> Result<Box<Link<ToyKeys>>, Refusal> {
     let records = if typed {
         records(alloc)?
     } else {
         Records::empty(alloc)
     };
     let spec = spec(alloc, records);
-    let config = fundee(alloc);
-    if !spec.fits() || !config.fits() {
-        return Err(Refusal::NotReady);
+    if spec.fits() {
+        boxed(alloc, Link::funder(FUNDER, FitSpec::new(spec)))
+    } else {
+        drop(spec);
+        Err(Refusal::NotReady)
     }
-    let a = Link::funder(FUNDER, FitSpec::new(spec));
-    linked(
-        alloc,
-        a,
-        Link::fundee(FUNDEE, FitConfig::new(config)),
-        change,
-    )
+}
+
+fn new_fundee(alloc: Global) -> Result<Box<Link<ToyKeys>>, Refusal> {
+    let config = fundee(alloc);
+    if config.fits() {
+        boxed(alloc, Link::fundee(FUNDEE, FitConfig::new(config)))
+    } else {
+        drop(config);
+        Err(Refusal::NotReady)
+    }
+}
+
+/// The same between new links, for a channel with records or without.
+fn opening(alloc: Global, typed: bool, change: &str) -> Result<[u8; 32], Refusal> {
+    let mut a = new_funder(alloc, typed)?;
+    let mut b = new_fundee(alloc)?;
+    passed(alloc, &mut a, &mut b, change)
 }
 
 // Expected bytes come from a computation apart from this program.
@@ -344,7 +338,9 @@ fn fits_with(alloc: Global, change: &str) -> bool {
     if change == "more pushed" {
         spec.push = 20_001;
     }
-    spec.fits()
+    let fits = spec.fits();
+    drop(spec);
+    fits
 }
 
 #[test]

@@ -2,13 +2,13 @@
 //! what its store has, and the payment is completed, with each update once.
 
 use crate::code_of;
-use crate::durable::{Side, played, stored};
-use crate::link::{fit, offer, spec};
+use crate::durable::{Side, played, side_of, stored};
+use crate::link::{DEAR, boxed, fundee, funder, messages_of, offer};
 use crate::store::FailingStore;
 use crate::testing::{FUNDEE, FUNDER};
 use ln_durable::{Durable, from_record};
 use ln_keys::{Role, ToyKeys};
-use ln_link::{Command, FitConfig, FitSpec, Link, Output, Standing};
+use ln_link::{Command, Output, Standing};
 use ln_msgs::{Message, Refusal};
 use ln_store::RecordStore;
 use std::alloc::Global;
@@ -43,6 +43,18 @@ impl Place {
         self.side.link.link().standing(alloc)
     }
 
+    /// What it does next, and its record before that.
+    fn begins(
+        &mut self,
+        alloc: Global,
+        verb: &'static str,
+        word: &'static str,
+    ) -> Result<(), Refusal> {
+        self.act = (verb, word);
+        self.record = stored(alloc, &mut self.side)?;
+        Ok(())
+    }
+
     /// It does what it is told, and gives what it hands out.
     fn obey(
         &mut self,
@@ -50,19 +62,31 @@ impl Place {
         word: &'static str,
         command: Command,
     ) -> Result<Vec<Output>, Refusal> {
-        self.act = ("sends", word);
-        self.record = stored(alloc, &mut self.side)?;
-        self.side.link.command(alloc, &mut self.side.store, command)
+        match self.begins(alloc, "sends", word) {
+            Ok(()) => self.side.link.command(alloc, &mut self.side.store, command),
+            Err(refusal) => {
+                drop(command);
+                Err(refusal)
+            }
+        }
     }
 
     /// It takes the oldest message in flight to it, where there is one, and gives what it hands out.
     fn take(&mut self, alloc: Global) -> Result<Vec<Output>, Refusal> {
-        let Some(message) = self.inbox.pop_front() else {
-            return Ok(Vec::new(alloc));
-        };
-        self.act = ("takes", word_of(&message));
-        self.record = stored(alloc, &mut self.side)?;
-        self.side.link.handle(alloc, &mut self.side.store, message)
+        match self.inbox.pop_front() {
+            Some(message) => self.heed(alloc, message),
+            None => Ok(Vec::new(alloc)),
+        }
+    }
+
+    fn heed(&mut self, alloc: Global, message: Message) -> Result<Vec<Output>, Refusal> {
+        match self.begins(alloc, "takes", word_of(&message)) {
+            Ok(()) => self.side.link.handle(alloc, &mut self.side.store, message),
+            Err(refusal) => {
+                drop(message);
+                Err(refusal)
+            }
+        }
     }
 
     /// How it is behind a save that failed: what a command is refused by, how many saves have failed, and whether its
@@ -83,7 +107,8 @@ impl Place {
     /// It comes back from its record.
     fn restart(&mut self, alloc: Global) -> Result<(), Refusal> {
         let bytes = stored(alloc, &mut self.side)?;
-        self.side.link = Durable::new(from_record(alloc, self.keys, bytes.as_slice())?);
+        let link = from_record(alloc, self.keys, bytes.as_slice())?;
+        self.side.link = boxed(alloc, Durable::new(link))?;
         self.inbox.clear();
         Ok(())
     }
@@ -102,14 +127,26 @@ fn word_of(message: &Message) -> &'static str {
 }
 
 /// What an end hands out is told, and is in flight to the other.
-fn pass(outputs: Vec<Output>, x: &Place, y: &mut Place, story: &mut String) -> Result<(), Refusal> {
-    for output in outputs {
-        if let Output::Send(message) = output {
-            let name = x.name;
-            let word = word_of(&message);
-            write!(story, ", {name} {word}")?;
-            y.inbox.push_back(message)?;
-        }
+fn pass(
+    alloc: Global,
+    outputs: Vec<Output>,
+    x: &Place,
+    y: &mut Place,
+    story: &mut String,
+) -> Result<(), Refusal> {
+    let messages = messages_of(alloc, outputs)?;
+    for message in &messages {
+        let name = x.name;
+        let word = word_of(message);
+        write!(story, ", {name} {word}")?;
+    }
+    queue(messages, &mut y.inbox)
+}
+
+/// Puts items behind others.
+fn queue<T: Drop>(items: Vec<T>, others: &mut VecDeque<T>) -> Result<(), Refusal> {
+    for item in items {
+        others.push_back(item)?;
     }
     Ok(())
 }
@@ -123,12 +160,12 @@ fn tells(
     story: &mut String,
 ) -> Result<(), Refusal> {
     let outputs = x.obey(alloc, word, command)?;
-    pass(outputs, x, y, story)
+    pass(alloc, outputs, x, y, story)
 }
 
 fn takes(alloc: Global, x: &mut Place, y: &mut Place, story: &mut String) -> Result<(), Refusal> {
     let outputs = x.take(alloc)?;
-    pass(outputs, x, y, story)
+    pass(alloc, outputs, x, y, story)
 }
 
 /// Both take what is in flight, and what that brings.
@@ -178,8 +215,8 @@ fn meet(alloc: Global, x: &mut Place, y: &mut Place, story: &mut String) -> Resu
     y.inbox.clear();
     let from_x = x.side.link.connect(alloc)?;
     let from_y = y.side.link.connect(alloc)?;
-    pass(from_x, x, y, story)?;
-    pass(from_y, y, x, story)?;
+    pass(alloc, from_x, x, y, story)?;
+    pass(alloc, from_y, y, x, story)?;
     settle(alloc, x, y, story)
 }
 
@@ -206,16 +243,16 @@ fn is_paid(alloc: Global, a: &Place, b: &Place) -> Result<bool, Refusal> {
 }
 
 /// A payment over a save of this end that fails, and whether it is completed.
-fn told(alloc: Global, mut a: Place, mut b: Place, at: Role) -> Result<String, Refusal> {
+fn told(alloc: Global, a: &mut Place, b: &mut Place, at: Role) -> Result<String, Refusal> {
     played(alloc, &mut a.side, &mut b.side)?;
     let mut unheard = String::new(alloc);
-    let stop = code_of(pays(alloc, &mut a, &mut b, &mut unheard).err());
+    let stop = code_of(pays(alloc, a, b, &mut unheard).err());
     let mut story = match at {
-        Role::Funder => came_back(alloc, &mut a, &mut b, stop)?,
-        Role::Fundee => came_back(alloc, &mut b, &mut a, stop)?,
+        Role::Funder => came_back(alloc, a, b, stop)?,
+        Role::Fundee => came_back(alloc, b, a, stop)?,
     };
-    pays(alloc, &mut a, &mut b, &mut unheard)?;
-    let paid = if is_paid(alloc, &a, &b)? {
+    pays(alloc, a, b, &mut unheard)?;
+    let paid = if is_paid(alloc, a, b)? {
         "paid"
     } else {
         "not paid"
@@ -226,34 +263,25 @@ fn told(alloc: Global, mut a: Place, mut b: Place, at: Role) -> Result<String, R
 
 fn told_of_new(
     alloc: Global,
-    spec: FitSpec,
-    config: FitConfig,
     at: Role,
-    stores: (FailingStore, FailingStore),
+    of_a: FailingStore,
+    of_b: FailingStore,
 ) -> Result<String, Refusal> {
-    let a = Side {
-        link: Durable::new(Link::funder(FUNDER, spec)),
-        store: stores.0,
-    };
-    let b = Side {
-        link: Durable::new(Link::fundee(FUNDEE, config)),
-        store: stores.1,
-    };
-    let a = Place::new(alloc, "A", FUNDER, a);
-    told(alloc, a, Place::new(alloc, "B", FUNDEE, b), at)
+    let a = side_of(alloc, funder(alloc)?, of_a)?;
+    let mut a = boxed(alloc, Place::new(alloc, "A", FUNDER, a))?;
+    let b = side_of(alloc, fundee(alloc, DEAR)?, of_b)?;
+    let mut b = boxed(alloc, Place::new(alloc, "B", FUNDEE, b))?;
+    told(alloc, &mut a, &mut b, at)
 }
 
 /// The same where the store of an end fails at the payment's save of this number, counted from 0.
 fn told_where(alloc: Global, at: Role, save: u64, leaves_new: bool) -> Result<String, Refusal> {
-    let spec = spec(alloc)?;
-    let config = fit(alloc, (350, 400, 500))?;
     let failing = FailingStore::new(alloc, save.saturating_add(3), leaves_new);
     let other = FailingStore::new(alloc, 1000, false);
-    let stores = match at {
-        Role::Funder => (failing, other),
-        Role::Fundee => (other, failing),
-    };
-    told_of_new(alloc, spec, config, at, stores)
+    match at {
+        Role::Funder => told_of_new(alloc, at, failing, other),
+        Role::Fundee => told_of_new(alloc, at, other, failing),
+    }
 }
 
 /// Whether these are told where its store has the record of before, and where it has the one that was to be saved.
