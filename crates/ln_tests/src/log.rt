@@ -264,20 +264,23 @@ fn is_fulfilment(update: Option<&Update>, id: u64) -> bool {
     }
 }
 
+/// Whether the plain programs tell of these updates what they should.
+fn is_told(funder: &[Update], fundee: &[Update]) -> bool {
+    outcome_of(0, fundee) == Outcome::Live
+        && outcome_of(1, fundee) == Outcome::Fulfilled
+        && is_fulfilment(fundee.first(), 1)
+        && !is_fulfilment(funder.first(), 0)
+        && find_add(1, funder).map(|add| add.amount) == Some(3000)
+        && live_count(funder, fundee) == 1
+        && last_feerate(253, funder) == 280
+}
+
 /// Of two removals the first counts, and of two feerates the last.
 fn plain_programs_tell(alloc: Global) -> Result<bool, Refusal> {
     let whats = [Add(0, 5000, 400), Fee(300), Add(1, 3000, 400), Fee(280)];
     let funder = updates(alloc, &whats)?;
     let fundee = updates(alloc, &[Fulfil(1, 0), Malformed(1, 0xc005), Fail(2, 3)])?;
-    Ok(
-        outcome_of(0, &fundee) == Outcome::Live
-            && outcome_of(1, &fundee) == Outcome::Fulfilled
-            && is_fulfilment(fundee.first(), 1)
-            && !is_fulfilment(funder.first(), 0)
-            && find_add(1, &funder).map(|add| add.amount) == Some(3000)
-            && live_count(&funder, &fundee) == 1
-            && last_feerate(253, &funder) == 280,
-    )
+    Ok(is_told(&funder, &fundee))
 }
 
 /// Whether the plain program makes of an opening what the log does.
