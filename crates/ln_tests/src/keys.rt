@@ -236,6 +236,41 @@ fn an_onion_of_another_payment(rt: HostRuntime) {
     assert!(rt; fault_of_another(rt.alloc()) == Some(OpenFault::Hmac));
 }
 
+/// The fault of an onion whose payload's length is told by these bytes, and whose HMAC is this: that of no payload, of 5
+/// bytes in three bytes of length, of 1,300 bytes, and of 1,297.
+fn fault_of_length(alloc: Global, front: [u8; 3], hmac: &str) -> Option<OpenFault> {
+    let onion = onion_of([front[0], front[1], front[2], 0, 0, 0, 0], 0, hmac);
+    ToyOnion.open(alloc, &onion, &HASH).err()
+}
+
+#[test]
+fn lengths_of_a_payload(rt: HostRuntime) {
+    for (front, hmac, fault) in [
+        (
+            [0; 3],
+            "f5257ca68b8795ad5b5e747c387943167d4aa2fdf00789f4275edcb90d9e5e00",
+            Some(OpenFault::Payload),
+        ),
+        (
+            [0xfd, 0, 5],
+            "c42c1a1a924214ee3820b0590aaa53880e864208321106b885aa64579ff19801",
+            Some(OpenFault::Payload),
+        ),
+        (
+            [0xfd, 5, 20],
+            "961883fa2b97b6d7eca852d051e198dff5f3cbaff60fc488d54e16b62cb88181",
+            Some(OpenFault::Payload),
+        ),
+        (
+            [0xfd, 5, 17],
+            "e727cad4aa2f5e4f5b1957f6fa9560d1835312407ea1468ef948a5de73b049e6",
+            None,
+        ),
+    ] {
+        assert!(rt; fault_of_length(rt.alloc(), front, hmac) == fault);
+    }
+}
+
 #[test]
 fn small_wrap(rt: HostRuntime) -> Result<(), Refusal> {
     let wrapped = ToyOnion.wrap_failure(rt.alloc(), &[0x20, 2])?;
