@@ -236,8 +236,8 @@ fn an_onion_of_another_payment(rt: HostRuntime) {
     assert!(rt; fault_of_another(rt.alloc()) == Some(OpenFault::Hmac));
 }
 
-/// The fault of an onion whose payload's length is told by these bytes, and whose HMAC is this: that of no payload, of 5
-/// bytes in three bytes of length, of 1,300 bytes, and of 1,297.
+/// The fault of an onion whose payload's length is told by these bytes, and whose HMAC is this: that of no payload, of
+/// 5 bytes in three bytes of length, of 1,300 bytes, and of 1,297.
 fn fault_of_length(alloc: Global, front: [u8; 3], hmac: &str) -> Option<OpenFault> {
     let onion = onion_of([front[0], front[1], front[2], 0, 0, 0, 0], 0, hmac);
     ToyOnion.open(alloc, &onion, &HASH).err()
