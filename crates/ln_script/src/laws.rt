@@ -1,12 +1,17 @@
 //! Laws of scripts, over every text.
 
-ghost use Rattle.std.specs.Prelude.{◌≡◌, ℕ, List, Ok, Err};
+ghost use Rattle.std.specs.Prelude.{◌≡◌, ℕ, List, Ok, Err, None};
+ghost use Rattle.ln_keys.specs.declared.role.Role.{Role};
 ghost use Rattle.ln_keys.specs.Toy.{toy_signer};
+ghost use Rattle.ln_log.specs.Events.{events};
+ghost use Rattle.ln_pair.specs.Told.{as_told, unnumbered, ClosesLast};
 ghost use Rattle.ln_world.specs.Promises.{BringFit, OfEach, Headline, NoneRefused, AllTaken, OneFee, Agrees};
-ghost use Rattle.ln_world.specs.Promises.{AnswersShutdown};
+ghost use Rattle.ln_world.specs.Promises.{AnswersShutdown, MarksAgree};
 ghost use Rattle.ln_world.specs.Records.{AreSteps, HaveRecords};
+ghost use Rattle.ln_world.specs.Machine.{history, all_told, AreInStep};
 ghost use Rattle.ln_world.specs.Sending.{NoneAddsLate};
-ghost use Rattle.ln_world.specs.World.{empty};
+ghost use Rattle.ln_world.specs.Setup.{all_setups, OpensAsSet};
+ghost use Rattle.ln_world.specs.World.{empty, run, channel};
 ghost use Rattle.ln_script.specs.Keys.{toy};
 ghost use Rattle.ln_script.specs.Step.{ToyStep};
 ghost use Rattle.ln_script.specs.Script.{lines, script_at, IsFirstBad};
@@ -14,8 +19,9 @@ ghost use Rattle.ln_script.specs.Report.{AfterEachScript};
 
 use ln_keys::ToyKeys;
 use ln_world::{
-    a_shutdown_is_answered, agreement, closed_at_one_fee, every_end_has_a_record, headline,
-    never_refused, never_refused_where_fees_overlap, no_add_follows_a_shutdown,
+    a_shutdown_is_answered, agreement, channels_open_as_set, close_is_last, closed_at_one_fee,
+    every_end_has_a_record, headline, marks_agree_at_rest, never_refused,
+    never_refused_where_fees_overlap, no_add_follows_a_shutdown, undecided_events_are_the_machines,
 };
 
 /// A script is refused by the number of its first bad line, and only where there is one.
@@ -37,9 +43,12 @@ pub fn steps_bring_what_fits()
 /// end is taken, or refused for its closing fee, and no link has failed (`ln_world::never_refused`); where both ends
 /// take fees that overlap it is taken (`ln_world::never_refused_where_fees_overlap`); both close at one fee
 /// (`ln_world::closed_at_one_fee`); a shutdown is answered (`ln_world::a_shutdown_is_answered`); at rest both ends hold
-/// every update and their commitments are worth the same (`ln_world::agreement`); of all that an end sends no
-/// `update_add_htlc` stands behind its shutdown (`ln_world::no_add_follows_a_shutdown`); and each end has a record,
-/// from which it comes back where its node restarts (`ln_world::every_end_has_a_record`).
+/// every update and their commitments are worth the same (`ln_world::agreement`); where nothing is in flight each has
+/// taken the other's marks (`ln_world::marks_agree_at_rest`); of all that an end sends no `update_add_htlc` stands
+/// behind its shutdown (`ln_world::no_add_follows_a_shutdown`); a channel is there as it was set up
+/// (`ln_world::channels_open_as_set`); what an end has yet to decide are the machine's events
+/// (`ln_world::undecided_events_are_the_machines`), and the close is the last one (`ln_world::close_is_last`); and each
+/// end has a record, from which it comes back where its node restarts (`ln_world::every_end_has_a_record`).
 pub fn scripts_keep_the_promises()
     ensures headline { AfterEachScript (OfEach Headline) }
     ensures never_refused { AfterEachScript (OfEach (NoneRefused toy_signer)) }
@@ -47,8 +56,16 @@ pub fn scripts_keep_the_promises()
     ensures closed_at_one_fee { AfterEachScript (OfEach OneFee) }
     ensures a_shutdown_is_answered { AfterEachScript (OfEach AnswersShutdown) }
     ensures agreement { AfterEachScript (OfEach Agrees) }
+    ensures marks_agree_at_rest { AfterEachScript (OfEach MarksAgree) }
     ensures no_add_follows_a_shutdown { (text : List ℕ) (steps : List ToyStep) (number : ℕ) → script_at text ≡ Ok steps
         → NoneAddsLate toy number steps empty }
+    ensures channels_open_as_set { (text : List ℕ) (steps : List ToyStep) (number : ℕ) → script_at text ≡ Ok steps
+        → OpensAsSet (all_setups toy number steps empty) (channel number (run toy steps empty).channels) }
+    ensures undecided_events_are_the_machines { (text : List ℕ) (steps : List ToyStep) (number : ℕ) (side : Role)
+        → script_at text ≡ Ok steps → AreInStep side (as_told (events side (history toy number steps empty) None))
+        (channel number (run toy steps empty).channels) }
+    ensures close_is_last { (text : List ℕ) (steps : List ToyStep) (number : ℕ) (side : Role)
+        → script_at text ≡ Ok steps → ClosesLast (unnumbered (all_told toy number side steps empty)) }
     ensures every_end_has_a_record { AfterEachScript (OfEach HaveRecords) }
 {
     headline::<ToyKeys>();
@@ -57,6 +74,10 @@ pub fn scripts_keep_the_promises()
     closed_at_one_fee::<ToyKeys>();
     a_shutdown_is_answered::<ToyKeys>();
     agreement::<ToyKeys>();
+    marks_agree_at_rest::<ToyKeys>();
     no_add_follows_a_shutdown::<ToyKeys>();
+    channels_open_as_set::<ToyKeys>();
+    undecided_events_are_the_machines::<ToyKeys>();
+    close_is_last::<ToyKeys>();
     every_end_has_a_record::<ToyKeys>();
 }

@@ -1,6 +1,6 @@
 use Rattle.ln_keys.specs.Toy.{toy_signer}
 use Rattle.ln_world.specs.Promises.{OfEach, Headline, NoneRefused, AllTaken, OneFee, Agrees}
-use Rattle.ln_world.specs.Promises.{AnswersShutdown}
+use Rattle.ln_world.specs.Promises.{AnswersShutdown, MarksAgree}
 use Rattle.ln_world.specs.Records.{HaveRecords}
 use Rattle.ln_script.proofs.Fits.{after_each, steps_fit}
 use Rattle.ln_script.proofs.Widths.{after_each_wide}
@@ -28,6 +28,21 @@ returns-clause-no_add_follows_a_shutdown c text steps number read =
 
 pub returns-clause-agreement : goal.returns-clause-agreement
 returns-clause-agreement c = after_each (OfEach Agrees) c.agreement.ensures
+
+pub returns-clause-marks_agree_at_rest : goal.returns-clause-marks_agree_at_rest
+returns-clause-marks_agree_at_rest c = after_each (OfEach MarksAgree) c.marks_agree_at_rest.ensures
+
+pub returns-clause-channels_open_as_set : goal.returns-clause-channels_open_as_set
+returns-clause-channels_open_as_set c text steps number read =
+    c.channels_open_as_set.ensures steps number (steps_fit text steps read)
+
+pub returns-clause-undecided_events_are_the_machines : goal.returns-clause-undecided_events_are_the_machines
+returns-clause-undecided_events_are_the_machines c text steps number side read =
+    c.undecided_events_are_the_machines.ensures steps number side (steps_fit text steps read)
+
+pub returns-clause-close_is_last : goal.returns-clause-close_is_last
+returns-clause-close_is_last c text steps number side read =
+    c.close_is_last.ensures.of_what_is_handed_out steps number side (steps_fit text steps read)
 
 pub returns-clause-every_end_has_a_record : goal.returns-clause-every_end_has_a_record
 returns-clause-every_end_has_a_record c =
