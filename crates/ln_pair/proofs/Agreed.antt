@@ -365,7 +365,7 @@ last_is d e fee m os qs h own a first = by (a.bid m h) own
     by (inr k) (inl o) = h ∙ sym (a.closed m k).1 ∙ o
     by (inr k) (inr o) = absurd (o.0 m (a.closed m k).1)
 
-some_of : (o : Option ℕ) → is_some o ≡ true → (n : ℕ) × (o ≡ Some n)
+pub some_of : (o : Option ℕ) → is_some o ≡ true → (n : ℕ) × (o ≡ Some n)
 some_of None e = absurd (cc)
 some_of (Some n) e = (n, refl)
 

@@ -33,6 +33,10 @@ pub mod Pending
 pub mod Recounts
 pub mod ClosesLast
 pub mod Answers
+pub mod Firm
+pub mod Bids
+pub mod Hearing
+pub mod Closed
 pub mod Lasting
 pub mod Steady
 pub mod Counting

@@ -54,7 +54,7 @@ At p = Priced (deal_of p.x.closing) (deal_of p.y.closing) (offers_in p.to_y) (of
 
 -- ---- what is in flight
 
-offers-append : (ms ns : List Message) → offers_in (ms ++ ns) ≡ offers_in ms ++ offers_in ns
+pub offers-append : (ms ns : List Message) → offers_in (ms ++ ns) ≡ offers_in ms ++ offers_in ns
 offers-append [] ns = refl
 offers-append (m ∷ ms) ns = ap (λ os. offer_in m ++ os) (offers-append ms ns)
     ∙ sym (append_assoc (offer_in m) (offers_in ms) (offers_in ns))
@@ -97,7 +97,7 @@ arrive_twice Down ms ns os = refl
 arrive_twice Awaiting ms ns os = sym (append_assoc os ms ns)
 arrive_twice Met ms ns os = sym (append_assoc os ms ns)
 
-arrive_both : (l : Line) (ps qs : List Output) (os : List Message)
+pub arrive_both : (l : Line) (ps qs : List Output) (os : List Message)
     → arrive l (messages_in (ps ++ qs)) os ≡ arrive l (messages_in qs) (arrive l (messages_in ps) os)
 arrive_both l ps qs os = ap (λ ms. arrive l ms os) (in-append ps qs)
     ∙ arrive_twice l (messages_in ps) (messages_in qs) os
@@ -111,11 +111,11 @@ shut_by : (l : Line) (o : Bool) (n : End) (e : Deal) (old : List Message) (q : L
 shut_by l true n e old q h = quietly l (deal_of n.closing) e (message.Shutdown (shutdown_message n) ∷ []) old q refl h
 shut_by l false n e old q h = quietly l (deal_of n.closing) e [] old q refl h
 
-and_left : (a b : Bool) → (a && b) ≡ true → a ≡ true
+pub and_left : (a b : Bool) → (a && b) ≡ true → a ≡ true
 and_left true b h = refl
 and_left false b h = absurd (cc)
 
-and_right : (a b : Bool) → (a && b) ≡ true → b ≡ true
+pub and_right : (a b : Bool) → (a && b) ≡ true → b ≡ true
 and_right true b h = h
 and_right false b h = absurd (cc)
 
@@ -227,7 +227,7 @@ skip : (c : List ℕ) (ms ns : List Notice) → NoCloses ms
 skip c ms ns h = ap offers_in (messages-append c ms ns) ∙ offers-append (messages_of c ms) (messages_of c ns)
     ∙ ap (λ os. os ++ offers_in (messages_of c ns)) (notices_none c ms h)
 
-again_offers : (k : Signer) (m : ChannelReestablish) (n : End) → offers_in (messages_in (sent_again k m n))
+pub again_offers : (k : Signer) (m : ChannelReestablish) (n : End) → offers_in (messages_in (sent_again k m n))
     ≡ offers_in (messages_of n.dance.channel (closes_of (option_map (closing_message k n) n.closing.own_fee)))
 again_offers k m n =
     let c = n.dance.channel in

@@ -15,12 +15,12 @@ abbrev pub Says : Deal → ℕ → Option (ℕ × ℕ) → Result Answer Refusal
 Says d fee rg (Ok a) = Fair d fee rg a
 Says d fee rg (Err r) = Refused d fee rg
 
-either : (P : Result Answer Refusal → Type 0) (t : Bool) (a b : Result Answer Refusal) → (t ≡ true → P a)
+pub either : (P : Result Answer Refusal → Type 0) (t : Bool) (a b : Result Answer Refusal) → (t ≡ true → P a)
     → (t ≡ false → P b) → P (cond t a b)
 either P true a b f g = f refl
 either P false a b f g = g refl
 
-is_fee_so : (fee : ℕ) (o : Option ℕ) → is_fee o fee ≡ true → o ≡ Some fee
+pub is_fee_so : (fee : ℕ) (o : Option ℕ) → is_fee o fee ≡ true → o ≡ Some fee
 is_fee_so fee None e = absurd (cc)
 is_fee_so fee (Some n) e = ap Some (eqb-true n fee e)
 
@@ -34,7 +34,7 @@ le_not a b e h = let d : true ≡ false = sym (le-leb a b h) ∙ e in absurd (cc
 eq_not : (a b : ℕ) → (a == b) ≡ false → a ≡ b → ⊥
 eq_not a b e h = let d : true ≡ false = sym (eq-eqb a b h) ∙ e in absurd (cc)
 
-both_not : (a b c d : ℕ) → (nat_le a b && nat_le c d) ≡ false → a ≤ b → c ≤ d → ⊥
+pub both_not : (a b c d : ℕ) → (nat_le a b && nat_le c d) ≡ false → a ≤ b → c ≤ d → ⊥
 both_not a b c d e h k =
     let f : true ≡ false = sym (ap (λ t. t && nat_le c d) (le-leb a b h) ∙ le-leb c d k) ∙ e in absurd (cc)
 

@@ -4,6 +4,7 @@ pub mod Moves
 pub mod Told
 pub mod Pending
 pub mod Answers
+pub mod Closes
 pub mod Widths
 pub mod Setup
 pub use Rattle.ln_log.specs.Machine

@@ -18,6 +18,7 @@ ghost use Rattle.ln_link.specs.Step.{turned, saved_at, obeyed};
 ghost use Rattle.ln_pair.specs.Ends.{Step, opened, message_at, command_at, run};
 ghost use Rattle.ln_pair.specs.Promises.{AreKeys, AreSent, AreAgreeable, Headline, NoneRefused, AllTaken};
 ghost use Rattle.ln_pair.specs.Answers.{BothHaveAnswered};
+ghost use Rattle.ln_pair.specs.Closes.{BothClose};
 ghost use Rattle.ln_pair.specs.Promises.{OneFee, Agrees, NoneAddsLate, MarksAgree};
 ghost use Rattle.ln_pair.specs.Setup.{setup_of, AreSetUp};
 
@@ -76,6 +77,15 @@ pub fn no_add_follows_a_shutdown()
 pub fn a_shutdown_is_answered()
     ensures { (a b : Signer) (s : OpenSpec) (c : Config) (funder fundee : Opened) (steps : List Step) → AreKeys a b
         → Opens a b s c funder fundee → BothHaveAnswered (run a b steps (opened funder fundee)) }
+{}
+
+/// A law: where both sides' ranges of closing fees overlap, two ends that have met and have sent their `shutdown`, with
+/// nothing in flight, every HTLC settled and every update acknowledged, have closed (BOLT 2, "Closing Negotiation:
+/// closing_signed"). Of both ranges, `least` <= `first` <= `greatest`, and all below 2^64.
+pub fn closing_ends()
+    ensures { (a b : Signer) (s : OpenSpec) (c : Config) (funder fundee : Opened) (steps : List Step) → AreKeys a b
+        → Opens a b s c funder fundee → AreAgreeable funder.closing.fees fundee.closing.fees
+        → BothClose (run a b steps (opened funder fundee)) }
 {}
 
 /// A law: both ends keep the opening that they agreed to, and each the range of closing fees that it was set up with.

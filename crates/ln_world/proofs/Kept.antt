@@ -60,6 +60,8 @@ use Rattle.ln_link.specs.declared.output.Output.{Output}
 use Rattle.ln_link.specs.Outputs.{all_of, numbered}
 use Rattle.ln_pair.specs.Promises as promise
 use Rattle.ln_pair.proofs.Promised as promised
+use Rattle.ln_pair.proofs.Closed as closed
+use Rattle.ln_pair.specs.Closes.{CloseOnceDone}
 use Rattle.ln_world.specs.declared.step.Act.{Act}
 use Rattle.ln_world.specs.declared.step.Act.TheVariants as act
 use Rattle.ln_world.specs.declared.step.Node.{Node}
@@ -70,7 +72,7 @@ use Rattle.ln_world.specs.Channel.{Channel, by, side_of, moved, may_meet, act_mo
 use Rattle.ln_world.specs.Channel.{up_moves, place_of}
 use Rattle.ln_world.specs.Promises.{AtEnd, AtEnds, Headline, TakesFront, NoneRefused, AgreeOnceSigned, Agrees}
 use Rattle.ln_world.specs.Promises.{FeesOverlap, AcceptsFront, AllTaken, OneFee, HaveAnswered, AnswersShutdown}
-use Rattle.ln_world.specs.Promises.{MarksAgree}
+use Rattle.ln_world.specs.Promises.{MarksAgree, BothClose}
 use Rattle.ln_world.specs.Records.{HaveSecrets, IsAct}
 use Rattle.ln_world.proofs.Mirror.{link_of, without_warnings, IsInbox, Mirrors, flipped, plain}
 use Rattle.ln_world.proofs.Dropped.{are_dropped}
@@ -765,6 +767,25 @@ module _ {K : Type 0} (signer : K → Signer) where
         accepted_by id r.funders p.x.link q.x_line q.x p.x.inbox q.to_x h.x_link h.x_in h.x_channel f.0,
         accepted_by id r.fundees p.y.link q.y_line q.y p.y.inbox q.to_y h.y_link h.y_in h.y_channel f.1,
       )
+
+  pub both_close : (id : List ℕ) (p : Both K) → IsRun id p → BothClose p
+  both_close id p r over quiet =
+      let h = r.mirrors in
+      at_links id r.funders r.fundees CloseOnceDone p (ends_of id p r) h
+      (closed.both_close (signer r.funders) (signer r.fundees) r.spec r.config r.funder r.fundee r.steps r.keys r.opens
+      (record {
+        funder = r.funders_order;
+        fundee = r.fundees_order;
+        funder_sent = r.funders_fees;
+        fundee_sent = r.fundees_fees;
+        overlap = overlap_so id p r over;
+      })
+      (record {
+        x_met = ap (λ (l : State K). l.line) (sym h.x_link) ∙ quiet.x_met;
+        y_met = ap (λ (l : State K). l.line) (sym h.y_link) ∙ quiet.y_met;
+        to_x = sym h.x_in.told ∙ ap without_warnings quiet.to_x;
+        to_y = sym h.y_in.told ∙ ap without_warnings quiet.to_y;
+      }))
 
   pub answers_shutdown : (id : List ℕ) (p : Both K) → IsRun id p → AnswersShutdown p
   answers_shutdown id p r =

@@ -31,7 +31,7 @@ use Rattle.ln_world.specs.Channel.{Channel, is_node, moved, opened_by, act_moves
 use Rattle.ln_world.specs.World.{World, settings_of, with_settings, channel, moved_at, all_moved, may_open, happens}
 use Rattle.ln_world.specs.World.{empty, run}
 use Rattle.ln_world.specs.Promises.{Headline, NoneRefused, AllTaken, OneFee, Agrees, BringsFit, Each, BringFit, OfEach}
-use Rattle.ln_world.specs.Promises.{AnswersShutdown, MarksAgree}
+use Rattle.ln_world.specs.Promises.{AnswersShutdown, MarksAgree, BothClose}
 use Rattle.ln_world.proofs.Fitting.{funders, fundees}
 use Rattle.ln_world.proofs.Opened.{mirrored, fees_so, opening_so}
 use Rattle.ln_world.proofs.Kept.{IsRun, IsOpen, act_kept, fall_kept, restart_kept, up_kept, Tale, IsTold}
@@ -281,6 +281,9 @@ module _ {K : Type 0} (k : Ghosts K) where
 
   pub agrees : (ss : List (Step K k)) → BringFit k ss → OfEach Agrees (run k ss empty)
   agrees ss f = of_each Agrees (channels.agrees k.signer) (run k ss empty).channels (kept ss f).channels
+
+  pub both_close : (ss : List (Step K k)) → BringFit k ss → OfEach BothClose (run k ss empty)
+  both_close ss f = of_each BothClose (channels.both_close k.signer) (run k ss empty).channels (kept ss f).channels
 
   pub marks_agree : (ss : List (Step K k)) → BringFit k ss → OfEach MarksAgree (run k ss empty)
   marks_agree ss f = of_each MarksAgree (channels.marks_agree k.signer) (run k ss empty).channels (kept ss f).channels

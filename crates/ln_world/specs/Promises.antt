@@ -15,6 +15,7 @@ use Rattle.ln_link.specs.Step.{handled}
 use Rattle.ln_pair.specs.Promises.{AreSent, FollowEachOther, IsTaken, IsTakenButForItsFee, Overlap, CloseAtOneFee}
 use Rattle.ln_pair.specs.Promises.{HoldTheSame, SameMarks}
 use Rattle.ln_pair.specs.Answers.{HasAnswered}
+use Rattle.ln_pair.specs.Closes.{CloseOnceDone}
 use Rattle.ln_world.specs.declared.step.Step.{Step}
 use Rattle.ln_world.specs.declared.step.Step.TheVariants as step
 use Rattle.ln_world.specs.World.{World}
@@ -96,6 +97,13 @@ Agrees p = IsQuiet p → AtEnds AgreeOnceSigned p.x.link.stage p.y.link.stage
 
 abbrev pub MarksAgree : {K : Type 0} → Both K → Type 0
 MarksAgree p = IsQuiet p → AtEnds SameMarks p.x.link.stage p.y.link.stage
+
+-- ---- where the closing fees of both ends overlap, nothing is in flight, both have shut down and nothing is left to
+-- settle, both have closed
+
+abbrev pub BothClose : {K : Type 0} → Both K → Type 0
+BothClose p = AtEnds FeesOverlap p.x.link.stage p.y.link.stage → IsQuiet p
+    → AtEnds CloseOnceDone p.x.link.stage p.y.link.stage
 
 -- ---- what the steps bring
 

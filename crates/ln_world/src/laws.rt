@@ -10,7 +10,7 @@ ghost use Rattle.ln_world.specs.declared.step.Step.{Step};
 ghost use Rattle.ln_world.specs.World.{empty, run, channel};
 ghost use Rattle.ln_world.specs.Failing.{SomeMayFail};
 ghost use Rattle.ln_world.specs.Promises.{BringFit, OfEach, Headline, NoneRefused, AllTaken, OneFee, Agrees};
-ghost use Rattle.ln_world.specs.Promises.{AnswersShutdown, MarksAgree};
+ghost use Rattle.ln_world.specs.Promises.{AnswersShutdown, MarksAgree, BothClose};
 ghost use Rattle.ln_world.specs.Records.{AreSteps, HaveRecords};
 ghost use Rattle.ln_world.specs.Sending.{NoneAddsLate};
 ghost use Rattle.ln_world.specs.Setup.{all_setups, OpensAsSet};
@@ -64,6 +64,14 @@ pub fn agreement<K: ChannelKeys + Copy>()
 pub fn marks_agree_at_rest<K: ChannelKeys + Copy>()
     ensures { (steps : List (Step K K.ChannelKeys)) → BringFit K.ChannelKeys steps
         → OfEach MarksAgree (run K.ChannelKeys steps empty) }
+{}
+
+/// A law: in each channel whose two ends take closing fees that overlap, where both have met and nothing is in flight,
+/// both have shut down, no HTLC is live and all updates are acknowledged, both have closed (BOLT 2, "Closing
+/// Negotiation: closing_signed"). Ends whose fees don't overlap may stay open.
+pub fn closing_ends<K: ChannelKeys + Copy>()
+    ensures { (steps : List (Step K K.ChannelKeys)) → BringFit K.ChannelKeys steps
+        → OfEach BothClose (run K.ChannelKeys steps empty) }
 {}
 
 /// A law: of all that either end of the channel with this number sends in these steps since it was opened, over all its
