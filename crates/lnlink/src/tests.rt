@@ -27,7 +27,6 @@ fn command_lines(rt: HostRuntime) -> Result<(), Fail> {
         (["decode", " 0015"].as_slice(), " 0015"),
         (["decode", ""].as_slice(), ""),
         (["decode", "-"].as_slice(), "-"),
-        (["decode", "-h"].as_slice(), "-h"),
         (["decode"].as_slice(), "usage, 2"),
         (["decode", "00", "11"].as_slice(), "usage, 2"),
         (["sim", "more"].as_slice(), "usage, 2"),
@@ -40,6 +39,7 @@ fn command_lines(rt: HostRuntime) -> Result<(), Fail> {
         (["-h"].as_slice(), "usage, 2"),
         (["help"].as_slice(), "usage, 2"),
         (["answer", "--help"].as_slice(), "usage, 2"),
+        (["decode", "-h"].as_slice(), "usage, 2"),
         (["--version"].as_slice(), "usage, 2"),
     ] {
         let got = told(rt.alloc(), words)?;
