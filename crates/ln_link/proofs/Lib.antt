@@ -1,2 +1,6 @@
-pub mod Accepting
-pub mod Meeting
+pub mod Recorded
+pub mod Refusing
+pub mod Again
+pub mod Loaded
+pub mod Coverage
+pub mod Restarted

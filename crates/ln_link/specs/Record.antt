@@ -1,18 +1,154 @@
--- What of a link outlives a restart.
-use Rattle.std.specs.Prelude.{Option, Some, None, false}
+-- The record of an end of a channel: what of it outlives a lost connection, in the form in which it is stored. Its
+-- updates are those that signatures cover (BOLT 2, "Message Retransmission").
+use Rattle.std.specs.Prelude.{◌≡◌, ◌<◌, ◌⊎◌, ℕ, List, [], length, drop, Option, option_map, false}
+use Rattle.ln_bytes.specs.declared.short_id.ShortId.{ShortId}
+use Rattle.ln_bytes.specs.ShortId.{short_id_bytes}
+use Rattle.ln_msgs.specs.Messages.Message.{Wire, wire_bytes, longest}
+use Rattle.ln_msgs.specs.Messages.Typed.{open_wire, accept_wire}
+use Rattle.ln_msgs.specs.Codec.Writing.{CanBeWritten}
 use Rattle.ln_msgs.specs.declared.refusals.refusal.Refusal.{Refusal}
-use Rattle.ln_link.specs.declared.link.Line.TheVariants as line
-use Rattle.ln_link.specs.declared.link.Stage.{Stage}
-use Rattle.ln_link.specs.declared.link.Stage.TheVariants as stage
-use Rattle.ln_link.specs.End.{End}
-use Rattle.ln_link.specs.State.{State}
+use Rattle.ln_keys.specs.declared.role.Role.{Role}
+use Rattle.ln_keys.specs.declared.role.Role.TheVariants.{Funder, Fundee}
+use Rattle.ln_log.specs.declared.log.Counts.{Counts}
+use Rattle.ln_log.specs.declared.opening.Opening.{Opening}
+use Rattle.ln_log.specs.declared.update.Update.{Update}
+use Rattle.ln_log.specs.Opening.{HasFunds, first_balance}
+use Rattle.ln_log.specs.Log.{Log, after_drop}
+use Rattle.ln_dance.specs.Dance.{Dancer}
+use Rattle.ln_close.specs.declared.closing.Closing.{Closing}
+use Rattle.ln_channel.specs.Opening.{opening_of}
+use Rattle.ln_channel.specs.Ledger.{Ledger}
+use Rattle.ln_channel.specs.End.{End}
+use Rattle.ln_store.specs.declared.record.Flags.{Flags}
+use Rattle.ln_store.specs.declared.record.Agreement.{Agreement}
+use Rattle.ln_store.specs.declared.record.Sides.{Sides}
+use Rattle.ln_store.specs.declared.record.Base.{Base}
+use Rattle.ln_store.specs.declared.record.Window.{Window}
+use Rattle.ln_store.specs.declared.record.Covered.{Covered}
+use Rattle.ln_store.specs.declared.record.Pairs.{Pairs}
+use Rattle.ln_store.specs.declared.record.Events.{Events}
+use Rattle.ln_store.specs.declared.record.Forwards.{Forwards}
+use Rattle.ln_store.specs.declared.record.ClosingFees.{ClosingFees}
+use Rattle.ln_store.specs.declared.record.Header.{Header}
+use Rattle.ln_store.specs.declared.record.Commitments.{Commitments}
+use Rattle.ln_store.specs.declared.record.Updates.{Updates}
+use Rattle.ln_store.specs.declared.record.Progress.{Progress}
+use Rattle.ln_store.specs.declared.record.Items.{Items}
+use Rattle.ln_store.specs.Readable.{is_readable}
 
--- the end of a channel whose opening both have signed
-abbrev pub saved_end : Stage → Option End
-saved_end (stage.Saved e) = Some e
-saved_end s = None
+-- ---- which channel and end it is, and how far it is
 
--- a link that has its end again, and the failure of its channel, and no connection
-abbrev pub came_back : {K : Type 0} → K → Option Refusal → End → State K
-came_back keys failure e =
-    record { keys = keys; line = line.Down; halted = false; failure = failure; stage = stage.Saved e }
+abbrev pub flags_of : End → Flags
+flags_of e = record {
+  ready_sent = e.marks.ready_sent;
+  ready_received = e.marks.ready_received;
+  shut_sent = e.closing.shut;
+  shut_received = e.closing.peer_shut;
+  later = e.dance.later;
+}
+
+unfoldable pub header_of : Option Refusal → End → Header
+header_of failure e =
+    record { channel = e.dance.channel; role = e.closing.role; flags = flags_of e; failure = failure }
+
+-- ---- what both sides agreed on
+
+-- the bytes of a message behind its type
+unfoldable pub payload_of : Wire → List ℕ
+payload_of w = drop 2 (wire_bytes w)
+
+abbrev pub place_of : ShortId → List ℕ
+place_of id = short_id_bytes id.block id.tx id.output
+
+unfoldable pub agreement_of : End → Agreement
+agreement_of e = record {
+  open_payload = payload_of (open_wire e.terms.open_channel);
+  accept_payload = payload_of (accept_wire e.terms.accept_channel);
+  place = option_map place_of e.marks.short_id;
+  fees = e.closing.fees;
+  script = e.terms.script;
+  peer_script = e.terms.peer_script;
+}
+
+-- ---- the updates
+
+abbrev pub no_sides : Sides
+no_sides = record { funder = 0; fundee = 0 }
+
+-- no update is in the base
+abbrev pub base_of : Opening → Base
+base_of o = record {
+  updates = no_sides;
+  next_ids = no_sides;
+  balances = record { funder = first_balance o Funder; fundee = first_balance o Fundee };
+  feerate = o.feerate;
+  live = [];
+}
+
+abbrev pub window_of : Role → List Update → List Update → Window
+window_of Funder own received = record { funder = own; fundee = received }
+window_of Fundee own received = record { funder = received; fundee = own }
+
+abbrev pub covered_of : Counts → Covered
+covered_of c = record { own = c.own; peer = c.peer }
+
+abbrev pub pairs_of : Log → Pairs
+pairs_of l = record {
+  signed = covered_of l.signed;
+  acknowledged = covered_of l.acknowledged;
+  current = covered_of l.current;
+}
+
+unfoldable pub updates_of : Opening → Role → Log → Updates
+updates_of o role l = record { base = base_of o; window = window_of role l.own l.received; pairs = pairs_of l }
+
+-- ---- what became of them
+
+abbrev pub events_of : Ledger → Events
+events_of l = record { decided = l.decided; undecided = l.undecided }
+
+-- there are no decisions yet
+abbrev pub no_forwards : Forwards
+no_forwards = record { decisions = []; results = [] }
+
+abbrev pub fees_of : Closing → ClosingFees
+fees_of c = record { own = c.own_fee; peer = c.peer_fee; closed = c.closed }
+
+unfoldable pub progress_of : End → Progress
+progress_of e = record { events = events_of e.ledger; forwards = no_forwards; fees = fees_of e.closing }
+
+-- ---- all of it
+
+abbrev pub commitments_of : Dancer → Commitments
+commitments_of d = record { numbers = d.numbers; peer = d.peer }
+
+unfoldable pub items_of : Option Refusal → End → Items
+items_of failure e = record {
+  header = header_of failure e;
+  agreement = agreement_of e;
+  commitments = commitments_of e.dance;
+  updates = updates_of (opening_of e.terms) e.closing.role (after_drop e.dance.log);
+  progress = progress_of e;
+}
+
+-- ---- which ends have no record
+
+-- a message whose records may not stand behind its fields, or that is longer than a message may be
+abbrev pub IsUnwritable : Wire → Type 0
+IsUnwritable w = ¬ CanBeWritten w ⊎ (longest < length (wire_bytes w))
+
+-- a message of the opening can't be written
+unfoldable pub HasNoAgreement : End → Type 0
+HasNoAgreement e = IsUnwritable (open_wire e.terms.open_channel) ⊎ IsUnwritable (accept_wire e.terms.accept_channel)
+
+-- the first updates of a side aren't had one by one any more
+abbrev pub LacksUpdates : Log → Type 0
+LacksUpdates l = (0 < l.first.own) ⊎ (0 < l.first.peer)
+
+-- updates are gone that a record needs, or there can be no channel with these funds
+unfoldable pub HasNoUpdates : End → Type 0
+HasNoUpdates e = LacksUpdates e.dance.log ⊎ ¬ HasFunds (opening_of e.terms)
+
+-- an end without a record: its items can't be had, or aren't readable
+unfoldable pub NoRecord : Option Refusal → End → Type 0
+NoRecord failure e = HasNoAgreement e ⊎ (HasNoUpdates e ⊎ (is_readable (items_of failure e) ≡ false))

@@ -1,28 +1,15 @@
-//! One link: one end of a channel from its opening to its close. What each message of the peer and each command makes
-//! of it, and what it hands out (BOLT 2).
+//! One link: one end of a channel that saves before it hands out, and comes back from its record.
 #![tactic(auto)]
 
-mod channel;
-mod command;
-mod commands;
-mod config;
-mod deep;
-mod handle;
-mod ledger;
+mod copy;
+mod laws;
 mod link;
-mod opening;
-mod output;
+mod loading;
+mod payload;
 mod record;
-mod resume;
-mod stage;
-mod standing;
-mod taking;
+mod restarting;
 
-pub use channel::{Channel, Marks};
-pub use command::{Command, Mark};
-pub use config::{Config, FitConfig, FitSpec, OpenSpec, Points};
-pub use ledger::{EventLedger, EventRef};
-pub use link::{Line, Link};
-pub use opening::{Terms, opening_is_agreed};
-pub use output::Output;
-pub use standing::{Life, Standing};
+pub use laws::{lost_connection_is_recorded, saved_is_loaded};
+pub use link::Link;
+pub use record::to_record;
+pub use restarting::restart;

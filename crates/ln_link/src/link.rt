@@ -1,115 +1,114 @@
-//! One link: one end of a channel from its opening to its close, with the connection that it has.
+//! One link: one end of a channel that saves before it hands out.
 
-use crate::channel::Channel;
-use crate::config::{FitConfig, FitSpec};
-use crate::opening::{Agreed, open_channel};
-use crate::output::{Outbox, Output, one};
-use ln_dance::Numbers;
+ghost use Rattle.std.specs.Prelude.{◌≡◌, Some, is_none, option_copied};
+ghost use Rattle.ln_channel.specs.Record.{saved_end};
+ghost use Rattle.ln_link.specs.Saving.{Saves};
+
+use crate::loading::loaded;
+use crate::record::to_record;
+use ln_channel::{Channel, Command, FitConfig, FitSpec, Output, Unsaved};
 use ln_keys::ChannelKeys;
 use ln_msgs::{Message, Refusal};
+use ln_store::{RecordStore, encode_record};
 use std::alloc::Global;
 use std::marker::Model;
 
-/// Whether a link has a connection.
-#[derive(Clone, Copy, Debug, PartialEq, Eq)]
-pub enum Line {
-    /// It has none.
-    Down,
-    /// It has one, and awaits the peer's `channel_reestablish`.
-    Awaiting,
-    /// It has one, and the peer is there.
-    Met,
-}
-
-/// How far a link is with its channel.
-#[derive(Drop)]
-pub enum Stage {
-    /// A fundee awaits `open_channel`.
-    AwaitsOpen(FitConfig),
-    /// A funder awaits `accept_channel`; without a connection it hasn't sent its `open_channel` yet.
-    AwaitsAccept(FitSpec),
-    /// A fundee awaits `funding_created`.
-    AwaitsCreated(Agreed),
-    /// A funder awaits `funding_signed`.
-    AwaitsSigned(Channel),
-    /// Both have signed the opening.
-    Saved(Channel),
-    /// The opening failed, or its connection was lost.
-    Gone,
-}
-
-/// One link: one end of a channel from its opening to its close, with the connection that it has.
+/// One link: one end of a channel from its opening to its close, with the connection that it has. It begins as a funder's,
+/// as a fundee's, or from its record.
 ///
-/// It is new and without a connection at first; `connect` begins. A refusal by which a channel fails, 21 to 35 and 37,
-/// is kept, and answered from then on to all messages, and to all commands but `Decide` and `Forget`. Where memory is
-/// refused (60) it halts, and answers 62 to everything.
+/// What a call made of the channel is in the store before any message that tells it leaves this side: a restart finds
+/// what the peer may know of. Where a save fails, by 60 for want of memory, by 61 where the store failed, by 70 where
+/// no record has these items, the link halts and answers 62 from then on; the store then has the record that it had,
+/// or the one that was to be saved.
 #[derive(Drop)]
 pub struct Link<K: ChannelKeys + Drop> {
-    pub(crate) keys: K,
-    pub(crate) line: Line,
-    pub(crate) halted: bool,
-    pub(crate) failure: Option<Refusal>,
-    pub(crate) stage: Stage,
+    unsaved: Unsaved<K>,
 }
 
 impl<K: ChannelKeys + Drop> Model for Link<K> {
-    ghost use Rattle.ln_link.specs.State.{State};
+    ghost use Rattle.ln_channel.specs.State.{State};
 
     ghost Value = { State K };
 
-    ghost view = { λ l. record {
-      keys = l.keys;
-      line = l.line;
-      halted = l.halted;
-      failure = l.failure;
-      stage = l.stage;
-    } };
+    ghost view = { λ l. l.unsaved };
 }
 
-impl Line {
-    ghost use Rattle.std.specs.Prelude.{◌≡◌};
-    ghost use Rattle.ln_link.specs.State.{is_down, is_met};
-
-    /// Whether there is no connection.
-    pub fn is_down(&self) -> bool
-        ensures { result ≡ is_down self.now }
-    {
-        match self {
-            Line::Down => true,
-            Line::Awaiting => false,
-            Line::Met => false,
+// Saves the record of an end.
+fn save_end<S: RecordStore>(
+    alloc: Global,
+    store: &mut S,
+    failure: Option<Refusal>,
+    channel: &Channel,
+) -> Result<(), Refusal>
+    ensures { Saves failure (Some channel.now) result
+        (record { records = S.records store.old; failed = S.failed store.old })
+        (record { records = S.records store.new; failed = S.failed store.new }) }
+{
+    let record = to_record(alloc, failure, channel)?;
+    let bytes = match encode_record(alloc, &record) {
+        Ok(bytes) => bytes,
+        Err(refusal) => {
+            drop(record);
+            return Err(refusal);
         }
-    }
+    };
+    drop(record);
+    store.save(alloc, &channel.id(), &bytes)
+}
 
-    /// Whether the peer is there.
-    pub fn is_met(&self) -> bool
-        ensures { result ≡ is_met self.now }
-    {
-        match self {
-            Line::Down => false,
-            Line::Awaiting => false,
-            Line::Met => true,
-        }
+fn failure_of<K: ChannelKeys + Drop>(link: &Unsaved<K>) -> Option<Refusal>
+    ensures { result ≡ link.now.failure }
+{
+    link.failure()
+}
+
+// Whether its channel hasn't failed.
+fn is_healthy<K: ChannelKeys + Drop>(link: &Unsaved<K>) -> bool
+    ensures { result ≡ is_none link.now.failure }
+{
+    failure_of(link).is_none()
+}
+
+fn end_of<K: ChannelKeys + Drop>(link: &Unsaved<K>) -> Option<&Channel>
+    ensures { option_copied result ≡ saved_end link.now.stage }
+{
+    link.saved()
+}
+
+// Saves the record of a link whose opening both have signed.
+fn save_link<K: ChannelKeys + Drop, S: RecordStore>(
+    alloc: Global,
+    store: &mut S,
+    link: &Unsaved<K>,
+) -> Result<(), Refusal>
+    ensures { Saves link.now.failure (saved_end link.now.stage) result
+        (record { records = S.records store.old; failed = S.failed store.old })
+        (record { records = S.records store.new; failed = S.failed store.new }) }
+{
+    let failure = failure_of(link);
+    match end_of(link) {
+        None => Ok(()),
+        Some(channel) => save_end(alloc, store, failure, channel),
     }
 }
 
 impl<K: ChannelKeys + Drop> Link<K> {
-    ghost use Rattle.std.specs.Prelude.{◌≡◌, OnOk, IfOk, IfErr, OnErr};
-    ghost use Rattle.ln_link.specs.declared.link.Stage.TheVariants as stage;
-    ghost use Rattle.ln_link.specs.Outputs.{all_of};
-    ghost use Rattle.ln_link.specs.State.{State, StandsFor, begun, drops, halts, numbers_of};
-    ghost use Rattle.ln_link.specs.Step.{Answered, connected, MovesBy, connects};
+    ghost use Rattle.std.specs.Prelude.{◌≡◌, ◌&&◌, Ok, true};
+    ghost use Rattle.ln_channel.specs.declared.unsaved.Stage.TheVariants as stage;
+    ghost use Rattle.ln_channel.specs.State.{State, StandsFor, begun, drops, halts};
+    ghost use Rattle.ln_channel.specs.Step.{Answered, connected, handled, commanded};
+    ghost use Rattle.ln_store.specs.Readable.{is_readable};
+    ghost use Rattle.ln_store.specs.Record.{record_at, record_bytes};
+    ghost use Rattle.ln_store.specs.declared.record.Items.{Items};
+    ghost use Rattle.ln_link.specs.Loading.{Loads};
+    ghost use Rattle.ln_link.specs.Saving.{Keeps, Refuses, is_failing, AnswersMessage, AnswersCommand};
 
     /// A new link of a funder, which opens a channel by this spec. Takes no memory.
     pub fn funder(keys: K, spec: FitSpec) -> Link<K>
         ensures { StandsFor result (begun keys (stage.AwaitsAccept spec)) }
     {
         Link {
-            keys,
-            line: Line::Down,
-            halted: false,
-            failure: None,
-            stage: Stage::AwaitsAccept(spec),
+            unsaved: Unsaved::funder(keys, spec),
         }
     }
 
@@ -118,126 +117,146 @@ impl<K: ChannelKeys + Drop> Link<K> {
         ensures { StandsFor result (begun keys (stage.AwaitsOpen config)) }
     {
         Link {
-            keys,
-            line: Line::Down,
-            halted: false,
-            failure: None,
-            stage: Stage::AwaitsOpen(config),
+            unsaved: Unsaved::fundee(keys, config),
         }
     }
 
-    /// The connection is lost (BOLT 2, "Message Retransmission"): updates that no signature covers are gone, and so is
-    /// a channel whose opening isn't signed by both. Without a connection nothing changes. Takes no memory.
-    pub fn drop_connection(&mut self)
-        ensures { (l : State K) → StandsFor self.old l → StandsFor self.new (drops l) }
-    {
-        if !self.line.is_down() {
-            self.line = Line::Down;
-            self.stage.cut();
-        }
-    }
-
-    /// The connection is lost, and the link answers 62 from now on. Takes no memory.
-    pub fn halt(&mut self)
-        ensures { (l : State K) → StandsFor self.old l → StandsFor self.new (halts l) }
-    {
-        self.drop_connection();
-        self.halted = true;
-    }
-
-    /// Whether it has a connection, and whether the peer is there. Takes no memory.
-    pub fn line(&self) -> Line
-        ensures { (l : State K) → StandsFor self.now l → result ≡ l.line }
-    {
-        self.line
-    }
-
-    /// Whether it has halted, and answers 62 to everything. Takes no memory.
-    pub fn is_halted(&self) -> bool
-        ensures { (l : State K) → StandsFor self.now l → result ≡ l.halted }
-    {
-        self.halted
-    }
-
-    /// By what the channel has failed. Takes no memory.
-    pub fn failure(&self) -> Option<Refusal>
-        ensures { (l : State K) → StandsFor self.now l → result ≡ l.failure }
-    {
-        self.failure
-    }
-
-    /// The numbers of its commitments; 0 before an opening is agreed to. Takes no memory.
-    pub fn numbers(&self) -> Numbers
-        ensures { (l : State K) → StandsFor self.now l → result ≡ numbers_of l.stage }
-    {
-        self.stage.numbers()
-    }
-
-    // There was no memory.
-    pub(crate) fn halted_by_memory(&mut self) -> Refusal
-        ensures fails_for_memory_alone { result ≡ Refusal.Memory }
-        ensures halted { self.new ≡ halts self.old }
-    {
-        self.halt();
-        Refusal::Memory
-    }
-
-    // Hands out what there is, or halts.
-    pub(crate) fn hand_out(&mut self, outbox: Outbox) -> Result<Vec<Output>, Refusal>
-        ensures outputs { IfOk result (λ v. v.items ≡ all_of outbox) }
-        ensures same { OnOk result (self.new ≡ self.old) }
-        ensures halted { OnErr result (self.new ≡ halts self.old) }
-        ensures fails_for_memory_alone { IfErr result (λ r. r ≡ Refusal.Memory) }
-    {
-        match outbox.into_outputs() {
-            Ok(outputs) => Ok(outputs),
-            Err(_) => Err(self.halted_by_memory()),
-        }
-    }
-
-    /// There is a connection to the peer. A funder's new link sends `open_channel`, a fundee's nothing; where both have
-    /// signed the opening, it sends `channel_reestablish` (BOLT 2, "Channel Establishment v1" and "Message
-    /// Retransmission"), also where the channel has failed.
+    /// The link that comes back from the bytes of its record, without a connection: what a lost connection leaves of its
+    /// end, and by what its channel has failed. Takes memory for the end, and time that grows linearly with the updates.
     ///
-    /// Errors: 62 where it has halted; 40 where it has a connection, or its opening failed or was broken off; 60, which
-    /// halts it.
-    pub fn connect(&mut self, alloc: Global) -> Result<Vec<Output>, Refusal>
-        ensures { (l : State K) → StandsFor self.old l
-            → Answered (λ v. v.items) (connected (K.signer l.keys) l) l result self.new }
+    /// Errors: those of `decode_record` (70, 71); 70 where the items can't be loaded: an update is in the base, no log
+    /// has these updates and counts (`UpdateLog::can_be_loaded`), something was decided about an HTLC, the closing fees
+    /// aren't in order, or the peer's script isn't there exactly where the peer has shut down. 60 where there is no
+    /// memory.
+    pub fn from_record(alloc: Global, keys: K, bytes: &[u8]) -> Result<Link<K>, Refusal>
+        // The link, or the first fault.
+        ensures loads_as_defined { Loads keys (record_at bytes.now) result }
+
+        // What is written of readable items is loaded as they tell.
+        ensures loads_each_record { (i : Items) → is_readable i ≡ true → bytes.now ≡ record_bytes i
+            → Loads keys (Ok i) result }
     {
-        if self.halted {
-            return Err(Refusal::Halted);
+        let unsaved = loaded(alloc, keys, bytes)?;
+        Ok(Link { unsaved })
+    }
+
+    /// What the link is; it saves nothing, so only to be looked at. Takes no memory.
+    pub fn unsaved(&self) -> &Unsaved<K>
+        ensures { result.now ≡ self.now }
+    {
+        &self.unsaved
+    }
+
+    // Saves the link, or halts it.
+    fn save<S: RecordStore>(&mut self, alloc: Global, store: &mut S) -> Result<(), Refusal>
+        ensures { Keeps result self.old self.new
+            (record { records = S.records store.old; failed = S.failed store.old })
+            (record { records = S.records store.new; failed = S.failed store.new }) }
+    {
+        match save_link(alloc, store, &self.unsaved) {
+            Ok(()) => Ok(()),
+            Err(refusal) => {
+                self.unsaved.halt();
+                Err(refusal)
+            }
         }
-        if !self.line.is_down() {
-            return Err(Refusal::NotReady);
+    }
+
+    /// Takes a message, and saves what it made of the channel before anything is handed out. A refusal by which the
+    /// channel fails is saved too.
+    ///
+    /// Errors: those of `Unsaved::handle`; 60, 61 and 70 where it can't be saved, by which the link halts.
+    pub fn handle<S: RecordStore>(
+        &mut self,
+        alloc: Global,
+        store: &mut S,
+        message: Message,
+    ) -> Result<Vec<Output>, Refusal>
+        ensures { (l : State K) → StandsFor self.old l
+            → AnswersMessage (λ v. v.items) (handled (K.signer l.keys) l message) l result self.new
+            (record { records = S.records store.old; failed = S.failed store.old })
+            (record { records = S.records store.new; failed = S.failed store.new }) }
+    {
+        let healthy = is_healthy(&self.unsaved);
+        match self.unsaved.handle(alloc, message) {
+            Ok(outputs) => match self.save(alloc, store) {
+                Ok(()) => Ok(outputs),
+                Err(refusal) => {
+                    drop(outputs);
+                    Err(refusal)
+                }
+            },
+            Err(refusal) => Err(self.refuse(alloc, store, healthy, refusal)),
         }
-        match self.greet(alloc) {
-            Ok(outbox) => self.hand_out(outbox),
-            Err(Refusal::Memory) => Err(self.halted_by_memory()),
+    }
+
+    // A failure that is new is saved.
+    fn refuse<S: RecordStore>(
+        &mut self,
+        alloc: Global,
+        store: &mut S,
+        healthy: bool,
+        refusal: Refusal,
+    ) -> Refusal
+        ensures { Refuses (is_failing self.old && healthy) refusal result self.old self.new
+            (record { records = S.records store.old; failed = S.failed store.old })
+            (record { records = S.records store.new; failed = S.failed store.new }) }
+    {
+        if !healthy || self.unsaved.is_halted() || self.unsaved.failure().is_none() {
+            return refusal;
+        }
+        match self.save(alloc, store) {
+            Ok(()) => refusal,
+            Err(unsaved) => unsaved,
+        }
+    }
+
+    /// Does what it is told, as `Unsaved::command` does, and saves what that made of the channel before anything is handed
+    /// out. Where the command is refused nothing is saved.
+    ///
+    /// Errors: those of `Unsaved::command`; 60, 61 and 70 where it can't be saved, by which the link halts.
+    pub fn command<S: RecordStore>(
+        &mut self,
+        alloc: Global,
+        store: &mut S,
+        command: Command,
+    ) -> Result<Vec<Output>, Refusal>
+        ensures { (l : State K) → StandsFor self.old l
+            → AnswersCommand (λ v. v.items) (commanded (K.signer l.keys) l command) l result self.new
+            (record { records = S.records store.old; failed = S.failed store.old })
+            (record { records = S.records store.new; failed = S.failed store.new }) }
+    {
+        match self.unsaved.command(alloc, command) {
+            Ok(outputs) => match self.save(alloc, store) {
+                Ok(()) => Ok(outputs),
+                Err(refusal) => {
+                    drop(outputs);
+                    Err(refusal)
+                }
+            },
             Err(refusal) => Err(refusal),
         }
     }
 
-    // What it sends first over a connection.
-    fn greet(&mut self, alloc: Global) -> Result<Outbox, Refusal>
-        ensures { MovesBy (connects (K.signer self.old.keys) self.old.stage) result self.old self.new }
+    /// There is a connection to the peer: `Unsaved::connect`. Nothing is saved.
+    pub fn connect(&mut self, alloc: Global) -> Result<Vec<Output>, Refusal>
+        ensures { (l : State K) → StandsFor self.old l
+            → Answered (λ v. v.items) (connected (K.signer l.keys) l) l result self.new }
     {
-        match &self.stage {
-            Stage::AwaitsOpen(_) => {
-                self.line = Line::Met;
-                Ok(Outbox::new(alloc))
-            }
-            Stage::AwaitsAccept(spec) => {
-                let message = open_channel(alloc, &self.keys, spec)?;
-                self.line = Line::Met;
-                one(alloc, Message::OpenChannel(message))
-            }
-            Stage::Saved(channel) => {
-                let message = channel.reestablish(alloc, &self.keys);
-                self.line = Line::Awaiting;
-                one(alloc, Message::ChannelReestablish(message))
-            }
-            _ => Err(Refusal::NotReady),
-        }
+        self.unsaved.connect(alloc)
+    }
+
+    /// The connection is lost: `Unsaved::drop_connection`. Nothing is saved: a record has what a lost connection leaves.
+    pub fn drop_connection(&mut self)
+        ensures { (l : State K) → StandsFor self.old l → StandsFor self.new (drops l) }
+    {
+        self.unsaved.drop_connection();
+    }
+
+    /// The connection is lost, and the link answers 62 from now on: `Unsaved::halt`. Nothing is saved.
+    pub fn halt(&mut self)
+        ensures { (l : State K) → StandsFor self.old l → StandsFor self.new (halts l) }
+    {
+        self.unsaved.halt();
     }
 }

@@ -1,102 +1,331 @@
-//! What of a link outlives a restart: the end of its channel, and by what the channel has failed.
+//! The record of an end of a channel.
 
-use crate::channel::{Channel, Marks};
-use crate::ledger::EventLedger;
-use crate::link::{Line, Link, Stage};
-use crate::opening::Terms;
+ghost use Rattle.std.specs.Prelude.{◌≡◌, ◌≤◌, ◌<◌, ◌^◌, ◌⊎◌, IfOk, IfErr, IfSome, OnOk, length, take, option_map, true};
+ghost use Rattle.ln_msgs.specs.declared.refusals.refusal.Refusal.TheVariants as refusal;
+ghost use Rattle.ln_msgs.specs.Messages.Typed.{open_wire, accept_wire};
+ghost use Rattle.ln_log.specs.Log.{none, after_drop, first_of, updates_of as sent_by};
+ghost use Rattle.ln_log.specs.Loading.{IsReadable};
+ghost use Rattle.ln_log.specs.Opening.{HasFunds};
+ghost use Rattle.ln_channel.specs.Opening.{opening_of};
+ghost use Rattle.ln_link.specs.Record.{flags_of, header_of, place_of, agreement_of, base_of, window_of, covered_of};
+ghost use Rattle.ln_link.specs.Record.{pairs_of, updates_of, events_of};
+ghost use Rattle.ln_link.specs.Record.{fees_of, progress_of, commitments_of, items_of};
+ghost use Rattle.ln_link.specs.Record.{HasNoAgreement, HasNoUpdates, NoRecord};
+ghost use Rattle.ln_link.specs.Loading.{IsSaid, HasRecord};
+ghost use Rattle.ln_store.specs.Readable.{is_readable};
+
+use crate::copy::{copy_bytes, copy_updates};
+use crate::payload::{accept_payload, open_payload};
+use ln_bytes::{Bytes, ShortId};
+use ln_channel::{Channel, EventLedger, Terms};
 use ln_close::Closing;
 use ln_dance::Dance;
-use ln_keys::ChannelKeys;
+use ln_keys::Role;
+use ln_log::{Counts, Limits, Opening, Pair, Side, Update, UpdateLog};
 use ln_msgs::Refusal;
+use ln_store::{
+    Agreement, Base, ChainPlace, ClosingFees, Commitments, Covered, Events, Flags, Forwards,
+    Header, Items, LinkRecord, Listed, Pairs, Progress, Sides, Updates, Window, is_readable,
+};
+use std::alloc::Global;
 
-impl<K: ChannelKeys + Drop> Link<K> {
-    ghost use Rattle.std.specs.Prelude.{◌≡◌, option_copied};
-    ghost use Rattle.ln_link.specs.State.{State, StandsFor};
-    ghost use Rattle.ln_link.specs.Record.{saved_end, came_back};
-
-    /// The end of its channel, where both have signed the opening. Takes no memory.
-    pub fn saved(&self) -> Option<&Channel>
-        ensures { (l : State K) → StandsFor self.now l → option_copied result ≡ saved_end l.stage }
-    {
-        match &self.stage {
-            Stage::Saved(channel) => Some(channel),
-            _ => None,
-        }
-    }
-
-    /// A link without a connection, as it comes back from what was kept of it. Takes no memory.
-    pub fn come_back(keys: K, failure: Option<Refusal>, channel: Channel) -> Link<K>
-        ensures { StandsFor result (came_back keys failure channel) }
-    {
-        Link {
-            keys,
-            line: Line::Down,
-            halted: false,
-            failure,
-            stage: Stage::Saved(channel),
-        }
+fn flags_of(channel: &Channel) -> Flags
+    ensures { result ≡ flags_of channel.now }
+{
+    let marks = channel.marks();
+    let closing = channel.closing();
+    Flags {
+        ready_sent: marks.ready_sent,
+        ready_received: marks.ready_received,
+        shut_sent: closing.shut,
+        shut_received: closing.peer_shut,
+        later: channel.dance().later(),
     }
 }
 
-impl Channel {
-    ghost use Rattle.std.specs.Prelude.{◌≡◌};
-    ghost use Rattle.ln_link.specs.End.{IsSound};
-    ghost use Rattle.ln_link.specs.Parts.{end_with};
+#[tactic(auto, unfolding(crate::specs::Record::header_of))]
+fn header_of(failure: Option<Refusal>, channel: &Channel) -> Header
+    ensures { result ≡ header_of failure channel.now }
+{
+    Header {
+        channel: channel.id(),
+        role: channel.closing().role,
+        flags: flags_of(channel),
+        failure,
+    }
+}
 
-    /// An end of these parts: of one role, with the opening that its terms say, with ordered fees, and with the peer's
-    /// script where the peer has shut down. Takes no memory.
-    pub fn from_parts(
-        dance: Dance,
-        closing: Closing,
-        terms: Terms,
-        marks: Marks,
-        ledger: EventLedger,
-    ) -> Channel
-        requires { IsSound (end_with dance closing terms marks ledger) }
-        ensures { result ≡ end_with dance closing terms marks ledger }
-    {
-        Channel {
-            dance,
-            closing,
-            terms,
-            marks,
-            ledger,
+fn place_of(id: Option<ShortId>) -> Option<ChainPlace>
+    ensures place { result ≡ option_map place_of id }
+    ensures output_fits_16_bits { IfSome id (λ id. id.output < 2 ^ 16) }
+{
+    match id {
+        None => None,
+        Some(id) => Some(ChainPlace::new(id)),
+    }
+}
+
+fn copy_script(alloc: Global, script: &Option<Bytes>) -> Result<Option<Bytes>, Refusal>
+    ensures copy { IfOk result (λ s. s ≡ script.now) }
+    ensures fails_for_memory_alone { IfErr result (λ r. r ≡ refusal.Memory) }
+{
+    match script {
+        None => Ok(None),
+        Some(script) => Ok(Some(copy_bytes(alloc, script)?)),
+    }
+}
+
+#[tactic(auto, unfolding(crate::specs::Record::agreement_of, crate::specs::Record::HasNoAgreement))]
+fn agreement_of(alloc: Global, channel: &Channel) -> Result<Agreement, Refusal>
+    ensures agreement { IfOk result (λ a. a ≡ agreement_of channel.now) }
+    ensures open_can_be_read { OnOk result (IsSaid (open_wire channel.now.terms.open_channel)) }
+    ensures accept_can_be_read { OnOk result (IsSaid (accept_wire channel.now.terms.accept_channel)) }
+    ensures output_fits_16_bits { OnOk result (IfSome channel.now.marks.short_id (λ id. id.output < 2 ^ 16)) }
+    ensures fails { IfErr result (λ r. (r ≡ refusal.Memory) ⊎ ((r ≡ refusal.Damaged) × HasNoAgreement channel.now)) }
+{
+    let terms = channel.terms();
+    Ok(Agreement {
+        open_payload: open_payload(alloc, &terms.open_channel)?,
+        accept_payload: accept_payload(alloc, &terms.accept_channel)?,
+        place: place_of(channel.marks().short_id),
+        fees: channel.closing().fees,
+        script: copy_bytes(alloc, &terms.script)?,
+        peer_script: copy_script(alloc, &terms.peer_script)?,
+    })
+}
+
+pub(crate) fn opening_of(terms: &Terms) -> Opening
+    ensures { result ≡ opening_of terms.now }
+{
+    let open = &terms.open_channel;
+    let accept = &terms.accept_channel;
+    Opening {
+        satoshis: open.funding_satoshis,
+        push: open.push_msat,
+        feerate: open.feerate_per_kw,
+        funder: Limits {
+            minimum: open.htlc_minimum_msat,
+            accepted: open.max_accepted_htlcs,
+            in_flight: open.max_htlc_value_in_flight_msat,
+            reserve: open.channel_reserve_satoshis,
+        },
+        fundee: Limits {
+            minimum: accept.htlc_minimum_msat,
+            accepted: accept.max_accepted_htlcs,
+            in_flight: accept.max_htlc_value_in_flight_msat,
+            reserve: accept.channel_reserve_satoshis,
+        },
+    }
+}
+
+// No update is in the base; 70 where there can be no channel with these funds.
+fn base_of(alloc: Global, opening: &Opening) -> Result<Base, Refusal>
+    ensures base { IfOk result (λ b. b ≡ base_of opening.now) }
+    ensures fails { IfErr result (λ r. (r ≡ refusal.Damaged) × (¬ HasFunds opening.now)) }
+{
+    if !opening.has_funds() {
+        return Err(Refusal::Damaged);
+    }
+    let none = Sides {
+        funder: 0,
+        fundee: 0,
+    };
+    Ok(Base {
+        updates: none,
+        next_ids: none,
+        balances: Sides {
+            funder: opening.first_balance(Role::Funder),
+            fundee: opening.first_balance(Role::Fundee),
+        },
+        feerate: opening.feerate,
+        live: Listed::empty(alloc),
+    })
+}
+
+fn window_of(role: Role, own: Vec<Update>, received: Vec<Update>) -> Window
+    ensures { result ≡ window_of role own.items received.items }
+{
+    match role {
+        Role::Funder => Window {
+            funder: Listed::new(own),
+            fundee: Listed::new(received),
+        },
+        Role::Fundee => Window {
+            funder: Listed::new(received),
+            fundee: Listed::new(own),
+        },
+    }
+}
+
+fn covered_of(counts: Counts) -> Covered
+    ensures { result ≡ covered_of counts }
+{
+    Covered {
+        own: counts.own as u64,
+        peer: counts.peer as u64,
+    }
+}
+
+fn pairs_of(log: &UpdateLog) -> Pairs
+    ensures pairs { result ≡ pairs_of log.now }
+    ensures can_be_loaded { log.now.first ≡ none → IsReadable (after_drop log.now) }
+{
+    let coverage = log.coverage();
+    Pairs {
+        signed: covered_of(coverage.signed),
+        acknowledged: covered_of(coverage.acknowledged),
+        current: covered_of(coverage.current),
+    }
+}
+
+fn log_of(channel: &Channel) -> &UpdateLog
+    ensures { result.now ≡ channel.now.dance.log }
+{
+    channel.dance().log()
+}
+
+// The first updates of a side, as long as each is had one by one; else 70.
+fn first_updates(log: &UpdateLog, side: Side, count: usize) -> Result<&[Update], Refusal>
+    requires { count ≤ length (sent_by side log.now) }
+    ensures updates { IfOk result (λ us. us.now ≡ take count (sent_by side log.now)) }
+    ensures from_the_first { OnOk result (first_of side log.now ≡ 0) }
+    ensures fails { IfErr result (λ r. (r ≡ refusal.Damaged) × (0 < first_of side log.now)) }
+{
+    if log.first(side) == 0 {
+        Ok(log.between(side, 0, count))
+    } else {
+        Err(Refusal::Damaged)
+    }
+}
+
+fn own_updates(alloc: Global, log: &UpdateLog) -> Result<Vec<Update>, Refusal>
+    ensures updates { IfOk result (λ us. us.items ≡ (after_drop log.now).own) }
+    ensures from_the_first { OnOk result (log.now.first.own ≡ 0) }
+    ensures fails { IfErr result (λ r. (r ≡ refusal.Memory) ⊎ ((r ≡ refusal.Damaged) × (0 < log.now.first.own))) }
+{
+    let updates = first_updates(log, Side::Own, log.counts(Pair::Signed).own)?;
+    copy_updates(alloc, updates)
+}
+
+fn peer_updates(alloc: Global, log: &UpdateLog) -> Result<Vec<Update>, Refusal>
+    ensures updates { IfOk result (λ us. us.items ≡ (after_drop log.now).received) }
+    ensures from_the_first { OnOk result (log.now.first.peer ≡ 0) }
+    ensures fails { IfErr result (λ r. (r ≡ refusal.Memory) ⊎ ((r ≡ refusal.Damaged) × (0 < log.now.first.peer))) }
+{
+    let count = log.counts(Pair::Current(Side::Own)).peer;
+    let updates = first_updates(log, Side::Peer, count)?;
+    copy_updates(alloc, updates)
+}
+
+// The updates that signatures cover.
+#[tactic(auto, unfolding(crate::specs::Record::updates_of, crate::specs::Record::HasNoUpdates))]
+fn updates_of(alloc: Global, channel: &Channel) -> Result<Updates, Refusal>
+    ensures updates { IfOk result (λ u. u ≡ updates_of (opening_of channel.now.terms) channel.now.closing.role
+        (after_drop channel.now.dance.log)) }
+    ensures from_the_first { OnOk result (channel.now.dance.log.first ≡ none) }
+    ensures can_be_loaded { OnOk result (IsReadable (after_drop channel.now.dance.log)) }
+    ensures fails { IfErr result (λ r. (r ≡ refusal.Memory) ⊎ ((r ≡ refusal.Damaged) × HasNoUpdates channel.now)) }
+{
+    let log = log_of(channel);
+    let own = own_updates(alloc, log)?;
+    let received = peer_updates(alloc, log)?;
+    Ok(Updates {
+        base: base_of(alloc, &opening_of(channel.terms()))?,
+        window: window_of(channel.closing().role, own, received),
+        pairs: pairs_of(log),
+    })
+}
+
+fn commitments_of(dance: &Dance) -> Commitments
+    ensures { result ≡ commitments_of dance.now }
+{
+    Commitments {
+        numbers: dance.numbers(),
+        peer: dance.peer(),
+    }
+}
+
+fn events_of(alloc: Global, ledger: &EventLedger) -> Result<Events, Refusal>
+    ensures events { IfOk result (λ e. e ≡ events_of ledger.now) }
+    ensures fails_for_memory_alone { IfErr result (λ r. r ≡ refusal.Memory) }
+{
+    Ok(Events {
+        decided: ledger.decided(),
+        undecided: Listed::new(Vec::from_slice(alloc, ledger.undecided())?),
+    })
+}
+
+fn fees_of(closing: Closing) -> ClosingFees
+    ensures { result ≡ fees_of closing }
+{
+    ClosingFees {
+        own: closing.own_fee,
+        peer: closing.peer_fee,
+        closed: closing.closed,
+    }
+}
+
+#[tactic(auto, unfolding(crate::specs::Record::progress_of))]
+fn progress_of(alloc: Global, channel: &Channel) -> Result<Progress, Refusal>
+    ensures progress { IfOk result (λ p. p ≡ progress_of channel.now) }
+    ensures fails_for_memory_alone { IfErr result (λ r. r ≡ refusal.Memory) }
+{
+    Ok(Progress {
+        events: events_of(alloc, channel.ledger())?,
+        forwards: Forwards {
+            decisions: Listed::empty(alloc),
+            results: Listed::empty(alloc),
+        },
+        fees: fees_of(channel.closing()),
+    })
+}
+
+#[tactic(auto, unfolding(crate::specs::Record::items_of))]
+fn items_of(alloc: Global, failure: Option<Refusal>, channel: &Channel) -> Result<Items, Refusal>
+    ensures items { IfOk result (λ i. i ≡ items_of failure channel.now) }
+    ensures has_record_if_readable { OnOk result (is_readable (items_of failure channel.now) ≡ true
+        → HasRecord failure channel.now) }
+    ensures fails { IfErr result (λ r. (r ≡ refusal.Memory)
+        ⊎ ((r ≡ refusal.Damaged) × (HasNoAgreement channel.now ⊎ HasNoUpdates channel.now))) }
+{
+    let agreement = agreement_of(alloc, channel)?;
+    let updates = updates_of(alloc, channel)?;
+    let progress = progress_of(alloc, channel)?;
+    Ok(Items {
+        header: header_of(failure, channel),
+        agreement,
+        commitments: commitments_of(channel.dance()),
+        updates,
+        progress,
+    })
+}
+
+/// The record of an end of a channel that has failed by this, or hasn't: what of it outlives a lost connection, which
+/// is what can be loaded of it again. Takes memory for it.
+///
+/// Errors: 60 where there is no memory; 70 where no record has these items: a message of the opening can't be written,
+/// the first updates aren't had one by one any more, there can be no channel with these funds, or the items aren't
+/// readable.
+#[tactic(auto, unfolding(crate::specs::Record::NoRecord))]
+pub fn to_record(
+    alloc: Global,
+    failure: Option<Refusal>,
+    channel: &Channel,
+) -> Result<LinkRecord, Refusal>
+    ensures record { IfOk result (λ r. r ≡ items_of failure channel.now) }
+    ensures has_record { IfOk result (λ r. HasRecord failure channel.now) }
+    ensures fails { IfErr result (λ r. (r ≡ refusal.Memory) ⊎ ((r ≡ refusal.Damaged) × NoRecord failure channel.now)) }
+{
+    let items = items_of(alloc, failure, channel)?;
+    match is_readable(alloc, &items) {
+        Ok(true) => Ok(LinkRecord::new(items)),
+        Ok(false) => {
+            drop(items);
+            Err(Refusal::Damaged)
         }
-    }
-
-    /// The updates, numbers and points of its commitments.
-    pub fn dance(&self) -> &Dance
-        ensures dance { result.now ≡ self.now.dance }
-        ensures fits_together { IsSound self.now }
-    {
-        &self.dance
-    }
-
-    /// How far it is with closing.
-    pub fn closing(&self) -> Closing
-        ensures { result ≡ self.now.closing }
-    {
-        self.closing
-    }
-
-    /// What both sides told as they opened the channel.
-    pub fn terms(&self) -> &Terms
-        ensures { result.now ≡ self.now.terms }
-    {
-        &self.terms
-    }
-
-    /// How far it is with being ready.
-    pub fn marks(&self) -> Marks
-        ensures { result ≡ self.now.marks }
-    {
-        self.marks
-    }
-
-    /// Its events by number.
-    pub fn ledger(&self) -> &EventLedger
-        ensures { result.now ≡ self.now.ledger }
-    {
-        &self.ledger
+        Err(refusal) => {
+            drop(items);
+            Err(refusal)
+        }
     }
 }

@@ -5,6 +5,7 @@
 mod laws;
 mod loading;
 mod log;
+mod mark;
 mod opening;
 mod outcome;
 mod plain;
@@ -18,6 +19,7 @@ pub use laws::{
 pub use ln_keys::{Htlc, Htlcs, Role, View};
 pub use loading::Coverage;
 pub use log::{Counts, MOST_UPDATES, Pair, Side, UpdateLog};
+pub use mark::{EventRef, Mark};
 pub use opening::{Limits, MOST_HTLCS, MOST_SATOSHIS, Opening};
 pub use outcome::Outcome;
 pub use plain::{conservation, find_add, last_feerate, live_count, plain_view};

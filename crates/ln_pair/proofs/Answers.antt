@@ -14,24 +14,24 @@ use Rattle.ln_log.specs.Log.{IsWithin}
 use Rattle.ln_close.specs.declared.closing.Closing.{Closing}
 use Rattle.ln_close.specs.Closing.{after_shut, may_start}
 use Rattle.ln_dance.specs.Messages.{update_message}
-use Rattle.ln_link.specs.declared.command.Command.{Command}
-use Rattle.ln_link.specs.declared.command.Command.TheVariants as command
-use Rattle.ln_link.specs.declared.config.Config.{Config}
-use Rattle.ln_link.specs.declared.config.OpenSpec.{OpenSpec}
-use Rattle.ln_link.specs.declared.link.Line.{Line}
-use Rattle.ln_link.specs.declared.link.Line.TheVariants.{Down, Awaiting, Met}
-use Rattle.ln_link.specs.declared.opening.Opened.{Opened}
-use Rattle.ln_link.specs.Opening.{unless}
-use Rattle.ln_link.specs.Meeting.{Opens}
-use Rattle.ln_link.specs.End.{End, Turn, has_begun, owes_shutdown, all_acknowledged, answers_shutdown, settled, sending}
-use Rattle.ln_link.specs.End.{completed, end_dropped, shutdown_message}
-use Rattle.ln_link.specs.Taking.{message_row, completed_row}
-use Rattle.ln_link.specs.Commands.{command_row, confirm_fault, confirmed, ready_message, propose_fault, propose_row}
-use Rattle.ln_link.specs.Commands.{proposes, sign_command_fault, shut_fault, shuts_down, unready_fault}
+use Rattle.ln_channel.specs.declared.command.Command.{Command}
+use Rattle.ln_channel.specs.declared.command.Command.TheVariants as command
+use Rattle.ln_channel.specs.declared.config.Config.{Config}
+use Rattle.ln_channel.specs.declared.config.OpenSpec.{OpenSpec}
+use Rattle.ln_channel.specs.declared.unsaved.Line.{Line}
+use Rattle.ln_channel.specs.declared.unsaved.Line.TheVariants.{Down, Awaiting, Met}
+use Rattle.ln_channel.specs.declared.opening.Opened.{Opened}
+use Rattle.ln_channel.specs.Opening.{unless}
+use Rattle.ln_channel.specs.Meeting.{Opens}
+use Rattle.ln_channel.specs.End.{End, Turn, has_begun, owes_shutdown, all_acknowledged, answers_shutdown, settled, sending}
+use Rattle.ln_channel.specs.End.{completed, end_dropped, shutdown_message}
+use Rattle.ln_channel.specs.Taking.{message_row, completed_row}
+use Rattle.ln_channel.specs.Commands.{command_row, confirm_fault, confirmed, ready_message, propose_fault, propose_row}
+use Rattle.ln_channel.specs.Commands.{proposes, sign_command_fault, shut_fault, shuts_down, unready_fault}
 use Rattle.ln_dance.specs.Resume.{resume_fault}
-use Rattle.ln_link.specs.Resume.{resumed}
-use Rattle.ln_link.specs.State.{is_down}
-use Rattle.ln_link.specs.Step.{faulted, line_fault}
+use Rattle.ln_channel.specs.Resume.{resumed}
+use Rattle.ln_channel.specs.State.{is_down}
+use Rattle.ln_channel.specs.Step.{faulted, line_fault}
 use Rattle.ln_pair.specs.Ends.{Ends, opened, turned, message_at, command_at, answers, delivers, connects, Act, Deliver}
 use Rattle.ln_pair.specs.Ends.{Give, Lose, acts, Step, By, Connect, happens, run}
 use Rattle.ln_pair.specs.Promises.{AreKeys}

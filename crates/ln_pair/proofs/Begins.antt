@@ -20,10 +20,10 @@ use Rattle.ln_log.proofs.Sent.{standing_sent}
 use Rattle.ln_close.specs.declared.closing.Answer.{Answer}
 use Rattle.ln_close.specs.declared.closing.Fees.{Fees}
 use Rattle.ln_close.specs.Closing.{answer_to}
-use Rattle.ln_link.specs.declared.link.Line.{Line}
-use Rattle.ln_link.specs.declared.link.Line.TheVariants.{Met}
-use Rattle.ln_link.specs.End.{End, Turn, has_begun, is_settled}
-use Rattle.ln_link.specs.Taking.{answered, completed_row, fee_row, range_in}
+use Rattle.ln_channel.specs.declared.unsaved.Line.{Line}
+use Rattle.ln_channel.specs.declared.unsaved.Line.TheVariants.{Met}
+use Rattle.ln_channel.specs.End.{End, Turn, has_begun, is_settled}
+use Rattle.ln_channel.specs.Taking.{answered, completed_row, fee_row, range_in}
 use Rattle.ln_pair.specs.Promises.{AreKeys, IsTaken, AreSent}
 use Rattle.ln_pair.proofs.Sides.{Notice, Close, Side}
 use Rattle.ln_pair.proofs.Walk.{AllFit, Phase, Idle, Sent, Answered, LacksNothing, Flows}

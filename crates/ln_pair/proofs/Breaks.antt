@@ -9,11 +9,11 @@ use Rattle.ln_log.specs.Log.{Counts}
 use Rattle.ln_dance.specs.Resume.{reestablish_message, resume_fault}
 use Rattle.ln_dance.specs.Reconnect.{KeepsUp, HaveParted}
 use Rattle.ln_dance.proofs.Parted.{served}
-use Rattle.ln_link.specs.declared.link.Line.{Line}
-use Rattle.ln_link.specs.declared.link.Line.TheVariants.{Down, Awaiting, Met}
-use Rattle.ln_link.specs.Opening.{unless}
-use Rattle.ln_link.specs.End.{End, end_dropped, completed}
-use Rattle.ln_link.specs.Resume.{sent_again, resumed, resume_row}
+use Rattle.ln_channel.specs.declared.unsaved.Line.{Line}
+use Rattle.ln_channel.specs.declared.unsaved.Line.TheVariants.{Down, Awaiting, Met}
+use Rattle.ln_channel.specs.Opening.{unless}
+use Rattle.ln_channel.specs.End.{End, end_dropped, completed}
+use Rattle.ln_channel.specs.Resume.{sent_again, resumed, resume_row}
 use Rattle.ln_pair.specs.Ends.{messages_in}
 use Rattle.ln_pair.proofs.Sides.{Notice, Again, posts, all_owed}
 use Rattle.ln_pair.proofs.Walk.{Phase, Idle, Sent, Answered, Kept}

@@ -7,13 +7,13 @@ use Rattle.ln_log.specs.Log.{IsWithin}
 use Rattle.ln_close.specs.declared.closing.Closing.{Closing}
 use Rattle.ln_close.specs.Closing.{is_funder}
 use Rattle.ln_close.specs.Closing as closing
-use Rattle.ln_link.specs.declared.config.Config.{Config}
-use Rattle.ln_link.specs.declared.config.OpenSpec.{OpenSpec}
-use Rattle.ln_link.specs.declared.link.Line.{Line}
-use Rattle.ln_link.specs.declared.link.Line.TheVariants.{Down, Met}
-use Rattle.ln_link.specs.declared.opening.Opened.{Opened}
-use Rattle.ln_link.specs.Meeting.{Opens}
-use Rattle.ln_link.specs.End.{is_settled}
+use Rattle.ln_channel.specs.declared.config.Config.{Config}
+use Rattle.ln_channel.specs.declared.config.OpenSpec.{OpenSpec}
+use Rattle.ln_channel.specs.declared.unsaved.Line.{Line}
+use Rattle.ln_channel.specs.declared.unsaved.Line.TheVariants.{Down, Met}
+use Rattle.ln_channel.specs.declared.opening.Opened.{Opened}
+use Rattle.ln_channel.specs.Meeting.{Opens}
+use Rattle.ln_channel.specs.End.{is_settled}
 use Rattle.ln_pair.specs.Ends.{Ends, Step, opened, happens, run}
 use Rattle.ln_pair.specs.Promises.{AreKeys, AreAgreeable, AllTaken}
 use Rattle.ln_pair.specs.Closes.{BothClose}

@@ -22,13 +22,13 @@ use Rattle.ln_log.specs.View.{live_adds}
 use Rattle.ln_hooks.specs.Amount.{bounded}
 use Rattle.ln_hooks.specs.declared.event.ChannelEvent.{ChannelEvent}
 use Rattle.ln_hooks.specs.declared.event.ChannelEvent.TheVariants as event
-use Rattle.ln_link.specs.declared.config.Config.{Config}
-use Rattle.ln_link.specs.declared.config.OpenSpec.{OpenSpec}
-use Rattle.ln_link.specs.declared.opening.Opened.{Opened}
-use Rattle.ln_link.specs.declared.output.Output.{Output}
-use Rattle.ln_link.specs.declared.output.Output.TheVariants as output
-use Rattle.ln_link.specs.Meeting.{Opens}
-use Rattle.ln_link.specs.Outputs.{numbered}
+use Rattle.ln_channel.specs.declared.config.Config.{Config}
+use Rattle.ln_channel.specs.declared.config.OpenSpec.{OpenSpec}
+use Rattle.ln_channel.specs.declared.opening.Opened.{Opened}
+use Rattle.ln_channel.specs.declared.output.Output.{Output}
+use Rattle.ln_channel.specs.declared.output.Output.TheVariants as output
+use Rattle.ln_channel.specs.Meeting.{Opens}
+use Rattle.ln_channel.specs.Outputs.{numbered}
 use Rattle.ln_pair.specs.Ends.{Step, opened, run}
 use Rattle.ln_pair.specs.Promises.{AreKeys}
 use Rattle.ln_pair.specs.Moves.{machine_of, history}

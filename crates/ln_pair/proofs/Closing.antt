@@ -7,8 +7,8 @@ use Rattle.ln_msgs.specs.declared.messages.closing.ClosingSigned.{ClosingSigned}
 use Rattle.ln_keys.specs.Signer.{Signer}
 use Rattle.ln_log.specs.declared.update.Update.{Update as Change}
 use Rattle.ln_close.specs.declared.closing.Fees.{Fees}
-use Rattle.ln_link.specs.declared.link.Line.{Line}
-use Rattle.ln_link.specs.declared.link.Line.TheVariants.{Down, Awaiting, Met}
+use Rattle.ln_channel.specs.declared.unsaved.Line.{Line}
+use Rattle.ln_channel.specs.declared.unsaved.Line.TheVariants.{Down, Awaiting, Met}
 use Rattle.ln_pair.proofs.Sides.{has_bid, dealt, closes_of, posts, Notice, Update, Sign, Revoke, Ready, Shutdown, Close}
 use Rattle.ln_pair.proofs.Sides.{Again, Side, updates_of, again_signed, signature_owed, revocation_owed, owed}
 use Rattle.ln_pair.proofs.Sides.{ready_again, shutdown_again, all_owed}

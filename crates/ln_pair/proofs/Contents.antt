@@ -13,9 +13,9 @@ use Rattle.ln_log.specs.declared.update.Update.{Update as Change}
 use Rattle.ln_log.specs.declared.update.Update.TheVariants as update
 use Rattle.ln_dance.specs.Messages.{update_message, add_of, fulfil_of, fail_of, malformed_of, fee_of}
 use Rattle.ln_close.specs.declared.closing.Fees.{Fees}
-use Rattle.ln_link.specs.declared.output.Output.{Output}
-use Rattle.ln_link.specs.declared.output.Output.TheVariants as output
-use Rattle.ln_link.specs.End.{End}
+use Rattle.ln_channel.specs.declared.output.Output.{Output}
+use Rattle.ln_channel.specs.declared.output.Output.TheVariants as output
+use Rattle.ln_channel.specs.End.{End}
 use Rattle.ln_pair.specs.Widths.{IsAdd, IsFulfil, IsFail, IsMalformed, IsUpdate}
 use Rattle.ln_pair.specs.Ends.{messages_in}
 use Rattle.ln_pair.proofs.All.{All, all-take}

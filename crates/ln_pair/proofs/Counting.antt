@@ -18,23 +18,23 @@ use Rattle.ln_log.specs.Log.{Counts, same_counts}
 use Rattle.ln_close.specs.declared.closing.Answer.{Answer}
 use Rattle.ln_close.specs.declared.closing.Fees.{Fees}
 use Rattle.ln_close.specs.Closing.{answer_to}
-use Rattle.ln_link.specs.declared.command.Command.{Command}
-use Rattle.ln_link.specs.declared.command.Command.TheVariants as command
-use Rattle.ln_link.specs.declared.config.Config.{Config}
-use Rattle.ln_link.specs.declared.config.OpenSpec.{OpenSpec}
-use Rattle.ln_link.specs.declared.link.Line.{Line}
-use Rattle.ln_link.specs.declared.link.Line.TheVariants.{Down, Awaiting, Met}
-use Rattle.ln_link.specs.declared.opening.Opened.{Opened}
-use Rattle.ln_link.specs.declared.opening.Terms.{Terms}
-use Rattle.ln_link.specs.Opening.{unless, opened_by, accept_fault, funder_end, created_message, created_fault}
-use Rattle.ln_link.specs.Opening.{fundee_end}
-use Rattle.ln_link.specs.Meeting.{Opens}
-use Rattle.ln_link.specs.End.{End, Turn, end_of, end_dropped, has_begun, closing_message}
-use Rattle.ln_link.specs.Taking.{answering, answered_end, answered, range_in, completed_row}
-use Rattle.ln_link.specs.Commands.{confirm_fault, sign_command_fault, shut_fault, shuts_down, command_row}
-use Rattle.ln_link.specs.Commands.{unready_fault}
-use Rattle.ln_link.specs.State.{is_down}
-use Rattle.ln_link.specs.Step.{faulted, line_fault}
+use Rattle.ln_channel.specs.declared.command.Command.{Command}
+use Rattle.ln_channel.specs.declared.command.Command.TheVariants as command
+use Rattle.ln_channel.specs.declared.config.Config.{Config}
+use Rattle.ln_channel.specs.declared.config.OpenSpec.{OpenSpec}
+use Rattle.ln_channel.specs.declared.unsaved.Line.{Line}
+use Rattle.ln_channel.specs.declared.unsaved.Line.TheVariants.{Down, Awaiting, Met}
+use Rattle.ln_channel.specs.declared.opening.Opened.{Opened}
+use Rattle.ln_channel.specs.declared.opening.Terms.{Terms}
+use Rattle.ln_channel.specs.Opening.{unless, opened_by, accept_fault, funder_end, created_message, created_fault}
+use Rattle.ln_channel.specs.Opening.{fundee_end}
+use Rattle.ln_channel.specs.Meeting.{Opens}
+use Rattle.ln_channel.specs.End.{End, Turn, end_of, end_dropped, has_begun, closing_message}
+use Rattle.ln_channel.specs.Taking.{answering, answered_end, answered, range_in, completed_row}
+use Rattle.ln_channel.specs.Commands.{confirm_fault, sign_command_fault, shut_fault, shuts_down, command_row}
+use Rattle.ln_channel.specs.Commands.{unready_fault}
+use Rattle.ln_channel.specs.State.{is_down}
+use Rattle.ln_channel.specs.Step.{faulted, line_fault}
 use Rattle.ln_pair.specs.Ends.{Ends, turned, opened, message_at, answers, delivers, Act, Deliver, Give, Lose, acts}
 use Rattle.ln_pair.specs.Ends.{connects, Step, By, Connect, happens, run}
 use Rattle.ln_pair.specs.Promises.{AreKeys, AreSent}

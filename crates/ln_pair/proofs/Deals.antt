@@ -15,29 +15,29 @@ use Rattle.ln_log.specs.Updates.{next_id}
 use Rattle.ln_dance.specs.Dance.{with_next_point}
 use Rattle.ln_dance.specs.Messages.{update_message}
 use Rattle.ln_close.specs.declared.closing.Closing.{Closing}
-use Rattle.ln_link.specs.declared.command.Command.{Command}
-use Rattle.ln_link.specs.declared.command.Command.TheVariants as command
-use Rattle.ln_link.specs.Opening.{unless}
-use Rattle.ln_link.specs.End.{End, Turn, quiet, is_closed, sending}
-use Rattle.ln_link.specs.Taking.{message_row, shutdown_at}
-use Rattle.ln_link.specs.Commands.{command_row, propose_row, propose_fault, proposes}
-use Rattle.ln_link.specs.declared.link.Line.{Line}
-use Rattle.ln_link.specs.declared.link.Line.TheVariants.{Down, Awaiting, Met}
-use Rattle.ln_link.specs.State.{is_down}
-use Rattle.ln_link.specs.Step.{faulted, line_fault}
+use Rattle.ln_channel.specs.declared.command.Command.{Command}
+use Rattle.ln_channel.specs.declared.command.Command.TheVariants as command
+use Rattle.ln_channel.specs.Opening.{unless}
+use Rattle.ln_channel.specs.End.{End, Turn, quiet, is_closed, sending}
+use Rattle.ln_channel.specs.Taking.{message_row, shutdown_at}
+use Rattle.ln_channel.specs.Commands.{command_row, propose_row, propose_fault, proposes}
+use Rattle.ln_channel.specs.declared.unsaved.Line.{Line}
+use Rattle.ln_channel.specs.declared.unsaved.Line.TheVariants.{Down, Awaiting, Met}
+use Rattle.ln_channel.specs.State.{is_down}
+use Rattle.ln_channel.specs.Step.{faulted, line_fault}
 use Rattle.ln_dance.specs.Resume.{resume_fault}
-use Rattle.ln_link.specs.Resume.{resumed}
+use Rattle.ln_channel.specs.Resume.{resumed}
 use Rattle.ln_close.specs.declared.closing.Answer.{Answer}
 use Rattle.ln_close.specs.declared.closing.Answer.TheVariants as answer
 use Rattle.ln_close.specs.Closing.{may_start, started, after_shut, after, answer_to}
-use Rattle.ln_link.specs.End.{has_begun, settled, answers_shutdown, owes_shutdown, completed, end_dropped}
-use Rattle.ln_link.specs.End.{shutdown_message}
+use Rattle.ln_channel.specs.End.{has_begun, settled, answers_shutdown, owes_shutdown, completed, end_dropped}
+use Rattle.ln_channel.specs.End.{shutdown_message}
 use Rattle.ln_bytes.specs.Tlv.{value_of}
 use Rattle.ln_close.specs.Closing.{is_funder}
-use Rattle.ln_link.specs.End.{fee_range}
-use Rattle.ln_link.specs.Taking.{answered, range_of, range_in, completed_row}
+use Rattle.ln_channel.specs.End.{fee_range}
+use Rattle.ln_channel.specs.Taking.{answered, range_of, range_in, completed_row}
 use Rattle.ln_pair.proofs.Agreed.{Deal, Offer}
-use Rattle.ln_link.specs.Commands.{shuts_down, shut_fault, unready_fault}
+use Rattle.ln_channel.specs.Commands.{shuts_down, shut_fault, unready_fault}
 use Rattle.ln_keys.specs.declared.role.Role.TheVariants.{Funder, Fundee}
 use Rattle.ln_pair.specs.Ends.{messages_in, met_again, message_at, command_at, Ends, turned, answers, delivers, Act}
 use Rattle.ln_pair.specs.Ends.{Deliver}

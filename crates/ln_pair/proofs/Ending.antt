@@ -17,8 +17,8 @@ use Rattle.ln_log.specs.View.{live_of, live_adds}
 use Rattle.ln_log.specs.Limits.{standing_of, update_fault}
 use Rattle.ln_log.specs.Log.{Counts}
 use Rattle.ln_log.proofs.Kept.{names_live}
-use Rattle.ln_link.specs.declared.link.Line.{Line}
-use Rattle.ln_link.specs.declared.link.Line.TheVariants.{Down, Awaiting, Met}
+use Rattle.ln_channel.specs.declared.unsaved.Line.{Line}
+use Rattle.ln_channel.specs.declared.unsaved.Line.TheVariants.{Down, Awaiting, Met}
 use Rattle.ln_pair.proofs.Sides.{opens, has_bid, Notice, Update, Sign, Revoke, Ready, Shutdown, Close, Again, Side}
 use Rattle.ln_pair.proofs.Sides.{dropped}
 use Rattle.ln_pair.proofs.Walk.{Fits, Phase, Idle, Sent, Answered, Sender, sender, IsDue, IsNext, Reads, LacksNothing}

@@ -15,14 +15,14 @@ use Rattle.ln_close.specs.declared.closing.Answer.{Answer}
 use Rattle.ln_close.specs.declared.closing.Closing.{Closing}
 use Rattle.ln_close.specs.declared.closing.Fees.{Fees}
 use Rattle.ln_close.specs.Closing.{AreOrdered, answer_to}
-use Rattle.ln_link.specs.declared.config.Config.{Config}
-use Rattle.ln_link.specs.declared.config.OpenSpec.{OpenSpec}
-use Rattle.ln_link.specs.declared.link.Line.{Line}
-use Rattle.ln_link.specs.declared.link.Line.TheVariants.{Down, Awaiting, Met}
-use Rattle.ln_link.specs.declared.opening.Opened.{Opened}
-use Rattle.ln_link.specs.Meeting.{Opens}
-use Rattle.ln_link.specs.End.{End, has_begun}
-use Rattle.ln_link.specs.Taking.{answered, completed_row, range_of, range_in}
+use Rattle.ln_channel.specs.declared.config.Config.{Config}
+use Rattle.ln_channel.specs.declared.config.OpenSpec.{OpenSpec}
+use Rattle.ln_channel.specs.declared.unsaved.Line.{Line}
+use Rattle.ln_channel.specs.declared.unsaved.Line.TheVariants.{Down, Awaiting, Met}
+use Rattle.ln_channel.specs.declared.opening.Opened.{Opened}
+use Rattle.ln_channel.specs.Meeting.{Opens}
+use Rattle.ln_channel.specs.End.{End, has_begun}
+use Rattle.ln_channel.specs.Taking.{answered, completed_row, range_of, range_in}
 use Rattle.ln_pair.specs.Ends.{Ends, Step, opened, turned, message_at, run}
 use Rattle.ln_pair.specs.Promises.{AreKeys, AreSent, AreAgreeable, Overlap, TakesFront, AcceptsFront, AllTaken}
 use Rattle.ln_pair.specs.Promises.{OneFee, is_closing_signed}

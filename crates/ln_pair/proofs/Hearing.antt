@@ -15,20 +15,20 @@ use Rattle.ln_dance.specs.Resume.{resume_fault}
 use Rattle.ln_close.specs.declared.closing.Answer.{Answer}
 use Rattle.ln_close.specs.declared.closing.Answer.TheVariants as answer
 use Rattle.ln_close.specs.Closing.{is_funder, may_start, after_shut, answer_to}
-use Rattle.ln_link.specs.declared.command.Command.{Command}
-use Rattle.ln_link.specs.declared.command.Command.TheVariants as command
-use Rattle.ln_link.specs.declared.link.Line.{Line}
-use Rattle.ln_link.specs.declared.link.Line.TheVariants.{Down, Awaiting, Met}
-use Rattle.ln_link.specs.declared.output.Output.TheVariants as output
-use Rattle.ln_link.specs.Opening.{unless}
-use Rattle.ln_link.specs.End.{End, Turn, sending, has_begun, completed, settled, answers_shutdown, owes_shutdown}
-use Rattle.ln_link.specs.End.{due_fee, due_sent, fee_sent, shutdown_sent, shutdown_message, end_dropped}
-use Rattle.ln_link.specs.End.{closing_message}
-use Rattle.ln_link.specs.State.{is_down}
-use Rattle.ln_link.specs.Step.{faulted, line_fault}
-use Rattle.ln_link.specs.Taking.{answering, answered, answered_end, range_in, message_row, completed_row}
-use Rattle.ln_link.specs.Commands.{command_row, shuts_down, shut_fault, unready_fault}
-use Rattle.ln_link.specs.Resume.{resumed, sent_again}
+use Rattle.ln_channel.specs.declared.command.Command.{Command}
+use Rattle.ln_channel.specs.declared.command.Command.TheVariants as command
+use Rattle.ln_channel.specs.declared.unsaved.Line.{Line}
+use Rattle.ln_channel.specs.declared.unsaved.Line.TheVariants.{Down, Awaiting, Met}
+use Rattle.ln_channel.specs.declared.output.Output.TheVariants as output
+use Rattle.ln_channel.specs.Opening.{unless}
+use Rattle.ln_channel.specs.End.{End, Turn, sending, has_begun, completed, settled, answers_shutdown, owes_shutdown}
+use Rattle.ln_channel.specs.End.{due_fee, due_sent, fee_sent, shutdown_sent, shutdown_message, end_dropped}
+use Rattle.ln_channel.specs.End.{closing_message}
+use Rattle.ln_channel.specs.State.{is_down}
+use Rattle.ln_channel.specs.Step.{faulted, line_fault}
+use Rattle.ln_channel.specs.Taking.{answering, answered, answered_end, range_in, message_row, completed_row}
+use Rattle.ln_channel.specs.Commands.{command_row, shuts_down, shut_fault, unready_fault}
+use Rattle.ln_channel.specs.Resume.{resumed, sent_again}
 use Rattle.ln_pair.specs.Ends.{Ends, turned, message_at, met_again, messages_in, arrive, becomes, answers}
 use Rattle.ln_pair.specs.Ends.{delivers, Act, Deliver, Give, Lose, acts, connects, Step, By, Connect, happens}
 use Rattle.ln_pair.specs.Promises.{is_closing_signed, IsTaken, AcceptsFront, AllTaken}

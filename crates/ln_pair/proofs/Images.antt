@@ -17,11 +17,11 @@ use Rattle.ln_dance.specs.declared.dance.Later.TheVariants.{Signature, Revocatio
 use Rattle.ln_dance.specs.Dance.{Dancer, signed_message, revoked_message}
 use Rattle.ln_dance.specs.Messages.{update_message}
 use Rattle.ln_dance.specs.Resume.{reestablish_message, signature_again, revocation_again}
-use Rattle.ln_link.specs.End.{End, end_dropped, shutdown_message}
-use Rattle.ln_link.specs.Commands.{ready_message, proposes, signs_next}
-use Rattle.ln_link.specs.Taking.{takes, accepts}
+use Rattle.ln_channel.specs.End.{End, end_dropped, shutdown_message}
+use Rattle.ln_channel.specs.Commands.{ready_message, proposes, signs_next}
+use Rattle.ln_channel.specs.Taking.{takes, accepts}
 use Rattle.std.specs.Prelude.{is_some, option_map}
-use Rattle.ln_link.specs.End.{closing_message}
+use Rattle.ln_channel.specs.End.{closing_message}
 use Rattle.ln_pair.proofs.Sides.{Close, Notice, Update, Sign, Revoke, Ready, Shutdown, Again, Side, proposed, received}
 use Rattle.ln_pair.proofs.Sides.{signed_all, accepted_all, dropped}
 

@@ -4,10 +4,10 @@ use Rattle.std.specs.Prelude.{◌≡◌, ◌+◌, ◌<◌, ◌≤◌, ◌^◌, �
 use Rattle.ln_log.specs.Limits.{most_updates}
 use Rattle.ln_log.specs.Log.{IsWithin}
 use Rattle.ln_dance.specs.Dance.{AreInStep}
-use Rattle.ln_link.specs.declared.ledger.EventRef.{EventRef}
-use Rattle.ln_link.specs.declared.ledger.EventRef.TheVariants as ref
-use Rattle.ln_link.specs.declared.opening.Opened.{Opened}
-use Rattle.ln_link.specs.End.{End}
+use Rattle.ln_log.specs.declared.mark.EventRef.{EventRef}
+use Rattle.ln_log.specs.declared.mark.EventRef.TheVariants as ref
+use Rattle.ln_channel.specs.declared.opening.Opened.{Opened}
+use Rattle.ln_channel.specs.End.{End}
 use Rattle.ln_pair.specs.Widths.{IsUpdate}
 use Rattle.ln_pair.proofs.All.{All}
 

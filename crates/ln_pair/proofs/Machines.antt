@@ -22,29 +22,29 @@ use Rattle.ln_dance.specs.Dance.{signed_message}
 use Rattle.ln_dance.specs.Messages.{update_message}
 use Rattle.ln_close.specs.declared.closing.Answer.{Answer}
 use Rattle.ln_close.specs.Closing.{answer_to}
-use Rattle.ln_link.specs.declared.command.Command.{Command}
-use Rattle.ln_link.specs.declared.command.Command.TheVariants as command
-use Rattle.ln_link.specs.declared.link.Line.{Line}
-use Rattle.ln_link.specs.declared.link.Line.TheVariants.{Down, Awaiting, Met}
-use Rattle.ln_link.specs.declared.output.Output.TheVariants as output
-use Rattle.ln_link.specs.declared.config.Config.{Config}
-use Rattle.ln_link.specs.declared.config.OpenSpec.{OpenSpec}
-use Rattle.ln_link.specs.declared.opening.Opened.{Opened}
-use Rattle.ln_link.specs.Opening.{Agreement, unless, opening_of, asked_with, open_message, open_fault, agreement}
-use Rattle.ln_link.specs.Opening.{accept_message, accept_fault, funder_end, created_message, created_fault, fundee_end}
-use Rattle.ln_link.specs.Opening.{funding_message}
-use Rattle.ln_link.specs.Meeting.{Opens}
-use Rattle.ln_link.proofs.Meeting.{are_ends}
+use Rattle.ln_channel.specs.declared.command.Command.{Command}
+use Rattle.ln_channel.specs.declared.command.Command.TheVariants as command
+use Rattle.ln_channel.specs.declared.unsaved.Line.{Line}
+use Rattle.ln_channel.specs.declared.unsaved.Line.TheVariants.{Down, Awaiting, Met}
+use Rattle.ln_channel.specs.declared.output.Output.TheVariants as output
+use Rattle.ln_channel.specs.declared.config.Config.{Config}
+use Rattle.ln_channel.specs.declared.config.OpenSpec.{OpenSpec}
+use Rattle.ln_channel.specs.declared.opening.Opened.{Opened}
+use Rattle.ln_channel.specs.Opening.{Agreement, unless, opening_of, asked_with, open_message, open_fault, agreement}
+use Rattle.ln_channel.specs.Opening.{accept_message, accept_fault, funder_end, created_message, created_fault, fundee_end}
+use Rattle.ln_channel.specs.Opening.{funding_message}
+use Rattle.ln_channel.specs.Meeting.{Opens}
+use Rattle.ln_channel.proofs.Meeting.{are_ends}
 use Rattle.ln_log.specs.Opening.{IsFit, is_fit}
 use Rattle.ln_msgs.specs.declared.messages.opening.AcceptChannel.{AcceptChannel}
 use Rattle.ln_msgs.specs.declared.messages.opening.FundingCreated.{FundingCreated}
 use Rattle.ln_msgs.specs.declared.messages.opening.FundingSigned.{FundingSigned}
-use Rattle.ln_link.specs.End.{End, Turn, end_of, end_dropped, has_begun, sending, completed, shutdown_message}
-use Rattle.ln_link.specs.Taking.{answered, range_in, completed_row}
-use Rattle.ln_link.specs.Commands.{ready_message, confirmed, confirm_fault, propose_fault, proposes, sign_command_fault}
-use Rattle.ln_link.specs.Commands.{signs_next, shut_fault, shuts_down, command_row, unready_fault}
-use Rattle.ln_link.specs.State.{is_down}
-use Rattle.ln_link.specs.Step.{faulted, line_fault}
+use Rattle.ln_channel.specs.End.{End, Turn, end_of, end_dropped, has_begun, sending, completed, shutdown_message}
+use Rattle.ln_channel.specs.Taking.{answered, range_in, completed_row}
+use Rattle.ln_channel.specs.Commands.{ready_message, confirmed, confirm_fault, propose_fault, proposes, sign_command_fault}
+use Rattle.ln_channel.specs.Commands.{signs_next, shut_fault, shuts_down, command_row, unready_fault}
+use Rattle.ln_channel.specs.State.{is_down}
+use Rattle.ln_channel.specs.Step.{faulted, line_fault}
 use Rattle.ln_pair.specs.Ends.{Ends, turned, message_at, becomes, answers, delivers, Act, Deliver, Give, Lose, acts}
 use Rattle.ln_pair.specs.Ends.{opened, connects, Step, By, Connect, happens, run}
 use Rattle.ln_pair.specs.Promises.{AreKeys, party}

@@ -27,13 +27,13 @@ use Rattle.ln_dance.specs.Dance.{Dancer, with_next_point, sign_fault, owes}
 use Rattle.ln_close.specs.declared.closing.Answer.{Answer}
 use Rattle.ln_close.specs.declared.closing.Answer.TheVariants as answer
 use Rattle.ln_close.specs.Closing.{after_shut, may_start, answer_to, behind_close}
-use Rattle.ln_link.specs.declared.link.Line.{Line}
-use Rattle.ln_link.specs.declared.link.Line.TheVariants.{Met}
-use Rattle.ln_link.specs.End.{End, has_begun, is_ready, is_closed, owes_shutdown, all_acknowledged}
-use Rattle.ln_link.specs.End.{answers_shutdown, begins, settled}
-use Rattle.ln_link.specs.Taking.{takes, takes_ready, shuts_by_peer, answering, answered_end, range_in}
-use Rattle.ln_link.specs.Commands.{closed_fault, own_fault, propose_fault, proposes, sign_command_fault, signs_next}
-use Rattle.ln_link.specs.Commands.{shut_fault, shuts_down, script_fault}
+use Rattle.ln_channel.specs.declared.unsaved.Line.{Line}
+use Rattle.ln_channel.specs.declared.unsaved.Line.TheVariants.{Met}
+use Rattle.ln_channel.specs.End.{End, has_begun, is_ready, is_closed, owes_shutdown, all_acknowledged}
+use Rattle.ln_channel.specs.End.{answers_shutdown, begins, settled}
+use Rattle.ln_channel.specs.Taking.{takes, takes_ready, shuts_by_peer, answering, answered_end, range_in}
+use Rattle.ln_channel.specs.Commands.{closed_fault, own_fault, propose_fault, proposes, sign_command_fault, signs_next}
+use Rattle.ln_channel.specs.Commands.{shut_fault, shuts_down, script_fault}
 use Rattle.ln_pair.specs.Promises.{AreKeys, party}
 use Rattle.ln_pair.specs.Moves.{moves_taken, closes, shuts}
 use Rattle.ln_pair.proofs.Sides.{Notice, Update, Sign as Signs, Revoke, Ready, Shutdown, Close as Fee, Again}

@@ -10,17 +10,17 @@ use Rattle.ln_keys.specs.Role.{other_role}
 use Rattle.ln_keys.specs.Signer.{Signer}
 use Rattle.ln_close.specs.declared.closing.Fees.{Fees}
 use Rattle.ln_close.specs.Closing as closing
-use Rattle.ln_link.specs.declared.config.Config.{Config}
-use Rattle.ln_link.specs.declared.config.OpenSpec.{OpenSpec}
-use Rattle.ln_link.specs.declared.opening.Opened.{Opened}
-use Rattle.ln_link.specs.declared.opening.Terms.{Terms}
-use Rattle.ln_link.specs.Opening.{Agreement, unless, opening_of, opened_by, open_message, open_fault, agreement}
-use Rattle.ln_link.specs.Opening.{accept_message, accept_fault, funder_end, created_message, created_fault, fundee_end}
-use Rattle.ln_link.specs.Meeting.{Opens}
-use Rattle.ln_link.specs.End.{End, end_of}
-use Rattle.ln_link.proofs.Meeting.{are_ends}
+use Rattle.ln_channel.specs.declared.config.Config.{Config}
+use Rattle.ln_channel.specs.declared.config.OpenSpec.{OpenSpec}
+use Rattle.ln_channel.specs.declared.opening.Opened.{Opened}
+use Rattle.ln_channel.specs.declared.opening.Terms.{Terms}
+use Rattle.ln_channel.specs.Opening.{Agreement, unless, opening_of, opened_by, open_message, open_fault, agreement}
+use Rattle.ln_channel.specs.Opening.{accept_message, accept_fault, funder_end, created_message, created_fault, fundee_end}
+use Rattle.ln_channel.specs.Meeting.{Opens}
+use Rattle.ln_channel.specs.End.{End, end_of}
+use Rattle.ln_channel.proofs.Meeting.{are_ends}
 use Rattle.ln_pair.specs.Ends.{opened}
-use Rattle.ln_link.specs.declared.link.Line.TheVariants.{Met}
+use Rattle.ln_channel.specs.declared.unsaved.Line.TheVariants.{Met}
 use Rattle.ln_pair.proofs.Walk.{Idle, Flows}
 use Rattle.ln_pair.proofs.Ending.{Ending}
 use Rattle.ln_pair.proofs.Marks.{Told}

@@ -10,11 +10,11 @@ use Rattle.ln_log.specs.Log.{Log}
 use Rattle.ln_hooks.specs.declared.event.ChannelEvent.{ChannelEvent}
 use Rattle.ln_hooks.specs.declared.event.ChannelEvent.TheVariants as event
 use Rattle.ln_hooks.specs.Event.{event_of}
-use Rattle.ln_link.specs.declared.ledger.EventRef.{EventRef}
-use Rattle.ln_link.specs.declared.ledger.EventRef.TheVariants as ref
-use Rattle.ln_link.specs.Ledger.{Ledger, refs_of, entered}
-use Rattle.ln_link.specs.Outputs.{events_of}
-use Rattle.ln_link.specs.End.{End}
+use Rattle.ln_log.specs.declared.mark.EventRef.{EventRef}
+use Rattle.ln_log.specs.declared.mark.EventRef.TheVariants as ref
+use Rattle.ln_channel.specs.Ledger.{Ledger, refs_of, entered}
+use Rattle.ln_channel.specs.Outputs.{events_of}
+use Rattle.ln_channel.specs.End.{End}
 use Rattle.ln_pair.specs.Pending.{first_event, named_by, pending}
 use Rattle.ln_pair.proofs.All.{All, all-append}
 

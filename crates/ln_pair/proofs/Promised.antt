@@ -12,17 +12,17 @@ use Rattle.ln_log.specs.Limits.{first_fault}
 use Rattle.ln_log.specs.Log.{Log, Counts, same_counts, after_sign}
 use Rattle.ln_log.specs.Machine.{Follows}
 use Rattle.ln_dance.specs.Dance.{Dancer, owes, is_last, sign_fault}
-use Rattle.ln_link.specs.declared.config.Config.{Config}
-use Rattle.ln_link.specs.declared.config.OpenSpec.{OpenSpec}
-use Rattle.ln_link.specs.declared.opening.Opened.{Opened}
-use Rattle.ln_link.specs.Meeting.{Opens}
-use Rattle.ln_link.specs.End.{End, completed}
+use Rattle.ln_channel.specs.declared.config.Config.{Config}
+use Rattle.ln_channel.specs.declared.config.OpenSpec.{OpenSpec}
+use Rattle.ln_channel.specs.declared.opening.Opened.{Opened}
+use Rattle.ln_channel.specs.Meeting.{Opens}
+use Rattle.ln_channel.specs.End.{End, completed}
 use Rattle.ln_pair.specs.Ends.{Ends, Step, opened, turned, run}
 use Rattle.ln_pair.specs.Promises.{AreKeys, AreSent, party, Headline, TakesFront, NoneRefused, HoldsAll, Agrees}
 use Rattle.ln_pair.specs.Promises.{NoneAddsLate, HasTakenMarks, MarksAgree}
-use Rattle.ln_link.specs.declared.link.Line.{Line}
-use Rattle.ln_link.specs.declared.link.Line.TheVariants.{Down, Awaiting, Met}
-use Rattle.ln_link.specs.Resume.{resumed}
+use Rattle.ln_channel.specs.declared.unsaved.Line.{Line}
+use Rattle.ln_channel.specs.declared.unsaved.Line.TheVariants.{Down, Awaiting, Met}
+use Rattle.ln_channel.specs.Resume.{resumed}
 use Rattle.ln_pair.proofs.Sides.{Notice, Update, Sign, Revoke, Ready, Shutdown, Close, Again}
 use Rattle.ln_pair.proofs.Walk.{Phase, Idle, Sent, Answered, LacksNothing, Flows}
 use Rattle.ln_pair.proofs.Marks.{Speech, Told}
@@ -40,7 +40,7 @@ use Rattle.ln_pair.proofs.Deals.{run_fees}
 use Rattle.ln_msgs.specs.declared.messages.message.Message.{Message}
 use Rattle.ln_msgs.specs.declared.messages.message.Message.TheVariants as message
 use Rattle.ln_msgs.specs.declared.messages.closing.ClosingSigned.{ClosingSigned}
-use Rattle.ln_link.specs.Taking.{taken}
+use Rattle.ln_channel.specs.Taking.{taken}
 use Rattle.std.proofs.Common.{inl, inr}
 
 -- at every end of a run

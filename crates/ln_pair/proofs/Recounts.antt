@@ -15,21 +15,21 @@ use Rattle.ln_log.specs.Machine.{Machine, Move, Drop}
 use Rattle.ln_close.specs.declared.closing.Answer.{Answer}
 use Rattle.ln_close.specs.declared.closing.Answer.TheVariants as answer
 use Rattle.ln_close.specs.Closing.{answer_to}
-use Rattle.ln_link.specs.declared.command.Command.{Command}
-use Rattle.ln_link.specs.declared.command.Command.TheVariants as command
-use Rattle.ln_link.specs.declared.link.Line.{Line}
-use Rattle.ln_link.specs.declared.link.Line.TheVariants.{Down, Awaiting, Met}
-use Rattle.ln_link.specs.declared.config.Config.{Config}
-use Rattle.ln_link.specs.declared.config.OpenSpec.{OpenSpec}
-use Rattle.ln_link.specs.declared.opening.Opened.{Opened}
-use Rattle.ln_link.specs.Opening.{unless}
-use Rattle.ln_link.specs.Meeting.{Opens}
-use Rattle.ln_link.specs.End.{End, Turn, end_dropped, has_begun}
-use Rattle.ln_link.specs.Taking.{answering, answered_end, answered, range_in, completed_row}
-use Rattle.ln_link.specs.Commands.{confirm_fault, sign_command_fault}
-use Rattle.ln_link.specs.Commands.{shut_fault, shuts_down, command_row, unready_fault}
-use Rattle.ln_link.specs.State.{is_down}
-use Rattle.ln_link.specs.Step.{faulted, line_fault}
+use Rattle.ln_channel.specs.declared.command.Command.{Command}
+use Rattle.ln_channel.specs.declared.command.Command.TheVariants as command
+use Rattle.ln_channel.specs.declared.unsaved.Line.{Line}
+use Rattle.ln_channel.specs.declared.unsaved.Line.TheVariants.{Down, Awaiting, Met}
+use Rattle.ln_channel.specs.declared.config.Config.{Config}
+use Rattle.ln_channel.specs.declared.config.OpenSpec.{OpenSpec}
+use Rattle.ln_channel.specs.declared.opening.Opened.{Opened}
+use Rattle.ln_channel.specs.Opening.{unless}
+use Rattle.ln_channel.specs.Meeting.{Opens}
+use Rattle.ln_channel.specs.End.{End, Turn, end_dropped, has_begun}
+use Rattle.ln_channel.specs.Taking.{answering, answered_end, answered, range_in, completed_row}
+use Rattle.ln_channel.specs.Commands.{confirm_fault, sign_command_fault}
+use Rattle.ln_channel.specs.Commands.{shut_fault, shuts_down, command_row, unready_fault}
+use Rattle.ln_channel.specs.State.{is_down}
+use Rattle.ln_channel.specs.Step.{faulted, line_fault}
 use Rattle.ln_pair.specs.Ends.{Ends, turned, message_at, answers, delivers, Act, Deliver, Give, Lose, acts}
 use Rattle.ln_pair.specs.Ends.{opened, connects, Step, By, Connect, happens, run}
 use Rattle.ln_pair.specs.Promises.{AreKeys, party}
@@ -50,11 +50,11 @@ use Rattle.ln_log.specs.Events.{held_events, events}
 use Rattle.ln_hooks.specs.declared.event.ChannelEvent.{ChannelEvent}
 use Rattle.ln_hooks.specs.declared.event.ChannelEvent.TheVariants as event
 use Rattle.ln_close.specs.Closing.{after_shut, may_start}
-use Rattle.ln_link.specs.declared.ledger.EventRef.TheVariants as ref
-use Rattle.ln_link.specs.declared.output.Output.{Output}
-use Rattle.ln_link.specs.Ledger.{next_event, refs_of, entered}
-use Rattle.ln_link.specs.Outputs.{events_of, numbered}
-use Rattle.ln_link.specs.End.{is_closed, owes_shutdown, answers_shutdown, settled}
+use Rattle.ln_log.specs.declared.mark.EventRef.TheVariants as ref
+use Rattle.ln_channel.specs.declared.output.Output.{Output}
+use Rattle.ln_channel.specs.Ledger.{next_event, refs_of, entered}
+use Rattle.ln_channel.specs.Outputs.{events_of, numbered}
+use Rattle.ln_channel.specs.End.{is_closed, owes_shutdown, answers_shutdown, settled}
 use Rattle.ln_pair.specs.Moves.{moves_taken, closes, shuts}
 use Rattle.ln_pair.specs.Told.{as_told, events_in, told_by, told_on, told_in, told, all_told}
 use Rattle.ln_pair.specs.Pending.{end_of_role}
@@ -68,7 +68,7 @@ use Rattle.ln_pair.proofs.Steady.{length-between}
 use Rattle.ln_pair.proofs.Pending.{IsNamed, Named, KeepBy, Keep, Pends, enters, enters_none, own_pend, peer_pend}
 use Rattle.ln_pair.proofs.Pending.{own_named, peer_named, keep_same, keep_own, keep_peer, keep_dropped, keep_either}
 use Rattle.ln_pair.proofs.Pending.{same_pends}
-use Rattle.ln_link.specs.Commands.{signs_next}
+use Rattle.ln_channel.specs.Commands.{signs_next}
 use Rattle.ln_pair.specs.Pending.{pending, IsInStep}
 use Rattle.ln_pair.proofs.Steps.{front_reads}
 use Rattle.ln_pair.proofs.Moving.{no_move, tells, settled_closed, settled_dance, still_open}
@@ -76,11 +76,11 @@ use Rattle.std.proofs.Common.{◌&&◌, length-append}
 use Rattle.ln_dance.specs.declared.resume.Resend.{Resend}
 use Rattle.ln_dance.specs.declared.resume.Resend.TheVariants as resend
 use Rattle.ln_dance.specs.Resume.{owed, is_before_the_first}
-use Rattle.ln_link.specs.declared.output.Output.TheVariants as output
-use Rattle.ln_link.specs.Outputs.{all_of}
-use Rattle.ln_link.specs.End.{fee_sent, due_sent, due_fee, shutdown_sent, shutdown_message}
-use Rattle.ln_link.specs.Commands.{ready_message}
-use Rattle.ln_link.specs.Resume.{all_sent, one_again, owed_again, shutdown_again, fee_again, sent_again, ready_again}
+use Rattle.ln_channel.specs.declared.output.Output.TheVariants as output
+use Rattle.ln_channel.specs.Outputs.{all_of}
+use Rattle.ln_channel.specs.End.{fee_sent, due_sent, due_fee, shutdown_sent, shutdown_message}
+use Rattle.ln_channel.specs.Commands.{ready_message}
+use Rattle.ln_channel.specs.Resume.{all_sent, one_again, owed_again, shutdown_again, fee_again, sent_again, ready_again}
 use Rattle.ln_pair.proofs.Tellings.{in_numbered, in_append, numbered_append, told_append, events_append, held_told}
 use Rattle.ln_pair.proofs.Tellings.{grown_so, refs_count, entered_next, tail_none, tail_close, tail_other}
 use Rattle.ln_pair.proofs.Tellings.{accept_told, learn_told, accept_other, learn_other}

@@ -18,17 +18,17 @@ use Rattle.ln_dance.specs.Messages.{update_message}
 use Rattle.ln_dance.specs.Resume.{lacks_signature, lacks_revocation, is_before_the_first, updates_again}
 use Rattle.ln_dance.specs.Resume.{signature_again, revocation_again, owed_by}
 use Rattle.ln_dance.specs.Resume as dance
-use Rattle.ln_link.specs.declared.output.Output.{Output}
-use Rattle.ln_link.specs.declared.output.Output.TheVariants as output
-use Rattle.ln_link.specs.End.{End, shutdown_message, fee_sent}
-use Rattle.ln_link.specs.Commands.{ready_message}
-use Rattle.ln_link.specs.Resume.{one_again, owed_again, sent_again}
-use Rattle.ln_link.specs.Resume as link
+use Rattle.ln_channel.specs.declared.output.Output.{Output}
+use Rattle.ln_channel.specs.declared.output.Output.TheVariants as output
+use Rattle.ln_channel.specs.End.{End, shutdown_message, fee_sent}
+use Rattle.ln_channel.specs.Commands.{ready_message}
+use Rattle.ln_channel.specs.Resume.{one_again, owed_again, sent_again}
+use Rattle.ln_channel.specs.Resume as link
 use Rattle.ln_pair.specs.Ends.{messages_in}
 use Rattle.ln_pair.specs.Promises.{is_add, is_shutdown, AddsBefore}
 use Rattle.std.specs.Prelude.{Option, Some, option_map}
 use Rattle.ln_msgs.specs.declared.messages.closing.ClosingSigned.{ClosingSigned}
-use Rattle.ln_link.specs.End.{closing_message}
+use Rattle.ln_channel.specs.End.{closing_message}
 use Rattle.ln_pair.proofs.Sides.{closes_of}
 use Rattle.ln_pair.proofs.Sides.{Notice, Sign, Revoke, Ready, Shutdown, Side, opens, updates_of, again_signed}
 use Rattle.ln_pair.proofs.Sides.{signature_owed, revocation_owed, owed, ready_again, shutdown_again, all_owed}

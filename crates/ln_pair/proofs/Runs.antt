@@ -16,22 +16,22 @@ use Rattle.ln_log.specs.Limits.{id_fault}
 use Rattle.ln_dance.specs.Dance.{signed_message}
 use Rattle.ln_dance.specs.Messages.{update_message}
 use Rattle.ln_close.specs.Closing.{may_start}
-use Rattle.ln_link.specs.declared.command.Command.{Command}
-use Rattle.ln_link.specs.declared.command.Command.TheVariants as command
-use Rattle.ln_link.specs.declared.output.Output.TheVariants as output
-use Rattle.ln_link.specs.Opening.{unless}
-use Rattle.ln_link.specs.End.{End, Turn, has_begun, sending, completed, settled, answers_shutdown}
-use Rattle.ln_link.specs.End.{owes_shutdown, due_fee, fee_sent, due_sent, end_dropped, shutdown_sent, shutdown_message}
-use Rattle.ln_link.specs.Taking.{completed_row}
-use Rattle.ln_link.specs.Commands.{ready_message, confirmed, confirm_fault, propose_fault, proposes, sign_command_fault}
-use Rattle.ln_link.specs.Commands.{signs_next, shut_fault, shuts_down, command_row, unready_fault}
+use Rattle.ln_channel.specs.declared.command.Command.{Command}
+use Rattle.ln_channel.specs.declared.command.Command.TheVariants as command
+use Rattle.ln_channel.specs.declared.output.Output.TheVariants as output
+use Rattle.ln_channel.specs.Opening.{unless}
+use Rattle.ln_channel.specs.End.{End, Turn, has_begun, sending, completed, settled, answers_shutdown}
+use Rattle.ln_channel.specs.End.{owes_shutdown, due_fee, fee_sent, due_sent, end_dropped, shutdown_sent, shutdown_message}
+use Rattle.ln_channel.specs.Taking.{completed_row}
+use Rattle.ln_channel.specs.Commands.{ready_message, confirmed, confirm_fault, propose_fault, proposes, sign_command_fault}
+use Rattle.ln_channel.specs.Commands.{signs_next, shut_fault, shuts_down, command_row, unready_fault}
 use Rattle.ln_msgs.specs.declared.messages.commitments.ChannelReestablish.{ChannelReestablish}
 use Rattle.ln_dance.specs.Resume.{reestablish_message}
-use Rattle.ln_link.specs.declared.link.Line.{Line}
-use Rattle.ln_link.specs.declared.link.Line.TheVariants.{Down, Awaiting, Met}
-use Rattle.ln_link.specs.State.{is_down}
-use Rattle.ln_link.specs.Step.{faulted, line_fault}
-use Rattle.ln_link.specs.Resume.{resumed}
+use Rattle.ln_channel.specs.declared.unsaved.Line.{Line}
+use Rattle.ln_channel.specs.declared.unsaved.Line.TheVariants.{Down, Awaiting, Met}
+use Rattle.ln_channel.specs.State.{is_down}
+use Rattle.ln_channel.specs.Step.{faulted, line_fault}
+use Rattle.ln_channel.specs.Resume.{resumed}
 use Rattle.ln_pair.specs.Ends.{Ends, turned, message_at, messages_in, arrive, becomes, answers, delivers, Act, Deliver}
 use Rattle.ln_pair.specs.Ends.{Give, Lose, acts, connects, Step, By, Connect, happens, run}
 use Rattle.ln_pair.specs.Promises.{AreKeys}
@@ -41,8 +41,8 @@ use Rattle.ln_msgs.specs.declared.messages.closing.ClosingSigned.{ClosingSigned}
 use Rattle.ln_close.specs.declared.closing.Answer.{Answer}
 use Rattle.ln_close.specs.declared.closing.Answer.TheVariants as answer
 use Rattle.ln_close.specs.Closing.{answer_to}
-use Rattle.ln_link.specs.End.{closing_message}
-use Rattle.ln_link.specs.Taking.{answering, answered, answered_end, range_in}
+use Rattle.ln_channel.specs.End.{closing_message}
+use Rattle.ln_channel.specs.Taking.{answering, answered, answered_end, range_in}
 use Rattle.ln_pair.proofs.Ending.{HasBegun}
 use Rattle.ln_pair.proofs.Telling.{closing_sent}
 use Rattle.ln_pair.proofs.Answering.{Offers, IsFair, fair}

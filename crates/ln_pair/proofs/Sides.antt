@@ -5,8 +5,8 @@ use Rattle.ln_log.specs.declared.update.Update.TheVariants as update
 use Rattle.ln_log.specs.declared.opening.Opening.{Opening}
 use Rattle.ln_keys.specs.declared.role.Role.{Role}
 use Rattle.ln_log.specs.Log.{Counts}
-use Rattle.ln_link.specs.declared.link.Line.{Line}
-use Rattle.ln_link.specs.declared.link.Line.TheVariants.{Down, Awaiting, Met}
+use Rattle.ln_channel.specs.declared.unsaved.Line.{Line}
+use Rattle.ln_channel.specs.declared.unsaved.Line.TheVariants.{Down, Awaiting, Met}
 use Rattle.ln_msgs.specs.declared.messages.commitments.CommitmentSigned.{CommitmentSigned}
 use Rattle.ln_msgs.specs.declared.messages.commitments.RevokeAndAck.{RevokeAndAck}
 use Rattle.ln_msgs.specs.declared.messages.commitments.ChannelReestablish.{ChannelReestablish}

@@ -18,11 +18,11 @@ use Rattle.ln_close.specs.declared.closing.Answer.TheVariants as answer
 use Rattle.ln_close.specs.Closing.{after_shut, may_start, answer_to}
 use Rattle.ln_hooks.specs.declared.event.ChannelEvent.{ChannelEvent}
 use Rattle.ln_hooks.specs.Event.{event_of}
-use Rattle.ln_link.specs.declared.ledger.EventRef.{EventRef}
-use Rattle.ln_link.specs.declared.ledger.EventRef.TheVariants as ref
-use Rattle.ln_link.specs.Ledger.{Ledger, ref_of, refs_of, entered}
-use Rattle.ln_link.specs.End.{End, is_closed, has_begun, owes_shutdown, answers_shutdown, settled}
-use Rattle.ln_link.specs.Taking.{answering, answered_end, range_in, shuts_by_peer}
+use Rattle.ln_log.specs.declared.mark.EventRef.{EventRef}
+use Rattle.ln_log.specs.declared.mark.EventRef.TheVariants as ref
+use Rattle.ln_channel.specs.Ledger.{Ledger, ref_of, refs_of, entered}
+use Rattle.ln_channel.specs.End.{End, is_closed, has_begun, owes_shutdown, answers_shutdown, settled}
+use Rattle.ln_channel.specs.Taking.{answering, answered_end, range_in, shuts_by_peer}
 use Rattle.ln_pair.proofs.Sides.{Notice, Update, Sign, Revoke, Ready, Shutdown, Close, Again}
 use Rattle.ln_pair.proofs.Turns.{turn_of, is_close}
 use Rattle.ln_pair.proofs.Moving.{still_open}

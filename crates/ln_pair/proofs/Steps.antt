@@ -25,14 +25,14 @@ use Rattle.ln_close.specs.Closing.{after_shut}
 use Rattle.ln_dance.specs.Dance.{with_next_point, owes, is_last, sign_fault, signed_message, revoked_message}
 use Rattle.ln_dance.specs.Messages.{update_message}
 use Rattle.ln_dance.specs.Resume.{reestablish_message, signature_again}
-use Rattle.ln_link.specs.Ledger.{Ledger}
-use Rattle.ln_link.specs.End.{End, is_ready, is_closed, all_acknowledged, shutdown_message}
-use Rattle.ln_link.specs.Taking.{takes, takes_ready, accepts, revokes, shuts_by_peer}
-use Rattle.ln_link.specs.Commands.{ready_message, confirmed, closed_fault, own_fault, propose_fault, proposes}
-use Rattle.ln_link.specs.Commands.{sign_command_fault, signs_next, shut_fault, shuts_down, script_fault}
+use Rattle.ln_channel.specs.Ledger.{Ledger}
+use Rattle.ln_channel.specs.End.{End, is_ready, is_closed, all_acknowledged, shutdown_message}
+use Rattle.ln_channel.specs.Taking.{takes, takes_ready, accepts, revokes, shuts_by_peer}
+use Rattle.ln_channel.specs.Commands.{ready_message, confirmed, closed_fault, own_fault, propose_fault, proposes}
+use Rattle.ln_channel.specs.Commands.{sign_command_fault, signs_next, shut_fault, shuts_down, script_fault}
 use Rattle.ln_pair.specs.Promises.{AreKeys, is_add, is_shutdown, AddsBefore}
-use Rattle.ln_link.specs.declared.link.Line.{Line}
-use Rattle.ln_link.specs.declared.link.Line.TheVariants.{Down, Awaiting, Met}
+use Rattle.ln_channel.specs.declared.unsaved.Line.{Line}
+use Rattle.ln_channel.specs.declared.unsaved.Line.TheVariants.{Down, Awaiting, Met}
 use Rattle.std.proofs.lemmas.Bool.{eq-eqb}
 use Rattle.ln_msgs.specs.declared.messages.closing.ClosingSigned.{ClosingSigned}
 use Rattle.ln_log.specs.Log.{same_counts}

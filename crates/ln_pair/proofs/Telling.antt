@@ -8,8 +8,8 @@ use Rattle.ln_msgs.specs.declared.messages.commitments.ChannelReestablish.{Chann
 use Rattle.ln_msgs.specs.declared.messages.opening.ChannelReady.{ChannelReady}
 use Rattle.ln_msgs.specs.declared.messages.closing.ClosingSigned.{ClosingSigned}
 use Rattle.ln_msgs.specs.declared.messages.closing.Shutdown.{Shutdown as ShutdownMessage}
-use Rattle.ln_link.specs.declared.link.Line.{Line}
-use Rattle.ln_link.specs.declared.link.Line.TheVariants.{Down, Awaiting, Met}
+use Rattle.ln_channel.specs.declared.unsaved.Line.{Line}
+use Rattle.ln_channel.specs.declared.unsaved.Line.TheVariants.{Down, Awaiting, Met}
 use Rattle.std.specs.Prelude.{Option, Some, None, is_some}
 use Rattle.ln_pair.proofs.Sides.{has_bid, dealt, closes_of}
 use Rattle.ln_pair.proofs.Sides.{opens, Notice, Update, Sign, Revoke, Ready, Shutdown, Close, Again}

@@ -18,11 +18,11 @@ use Rattle.ln_log.specs.Events.{Event, ClosedAt, held_events, grown, accept_even
 use Rattle.ln_log.specs.Events.{events_of as move_told}
 use Rattle.ln_hooks.specs.declared.event.ChannelEvent.{ChannelEvent}
 use Rattle.ln_hooks.specs.Event.{event_of}
-use Rattle.ln_link.specs.declared.ledger.EventRef.{EventRef}
-use Rattle.ln_link.specs.declared.output.Output.{Output}
-use Rattle.ln_link.specs.declared.output.Output.TheVariants as output
-use Rattle.ln_link.specs.Ledger.{Ledger, next_event, refs_of, ref_of, entered}
-use Rattle.ln_link.specs.Outputs.{events_of, numbered}
+use Rattle.ln_log.specs.declared.mark.EventRef.{EventRef}
+use Rattle.ln_channel.specs.declared.output.Output.{Output}
+use Rattle.ln_channel.specs.declared.output.Output.TheVariants as output
+use Rattle.ln_channel.specs.Ledger.{Ledger, next_event, refs_of, ref_of, entered}
+use Rattle.ln_channel.specs.Outputs.{events_of, numbered}
 use Rattle.ln_pair.specs.Moves.{closes, shuts, after_all}
 use Rattle.ln_pair.specs.Told.{as_told, event_at, events_in}
 use Rattle.ln_pair.proofs.Images.{length-sent}

@@ -13,14 +13,14 @@ use Rattle.ln_log.specs.declared.update.Update.{Update as Change}
 use Rattle.ln_log.specs.Updates.{all_sent}
 use Rattle.ln_dance.specs.Dance.{revoked_message}
 use Rattle.ln_close.specs.Closing.{after_shut}
-use Rattle.ln_link.specs.declared.output.Output.TheVariants as output
-use Rattle.ln_link.specs.End.{End, Turn, has_begun, quiet, owes_shutdown, all_acknowledged, shutdown_message}
-use Rattle.ln_link.specs.Taking.{takes, takes_ready, accepts, accepting, revokes, learning, update_row}
-use Rattle.ln_link.specs.Taking.{shutdown_at, shuts_by_peer, message_row}
+use Rattle.ln_channel.specs.declared.output.Output.TheVariants as output
+use Rattle.ln_channel.specs.End.{End, Turn, has_begun, quiet, owes_shutdown, all_acknowledged, shutdown_message}
+use Rattle.ln_channel.specs.Taking.{takes, takes_ready, accepts, accepting, revokes, learning, update_row}
+use Rattle.ln_channel.specs.Taking.{shutdown_at, shuts_by_peer, message_row}
 use Rattle.ln_pair.specs.Ends.{messages_in}
 use Rattle.ln_pair.specs.Promises.{AreKeys}
-use Rattle.ln_link.specs.declared.link.Line.{Line}
-use Rattle.ln_link.specs.declared.link.Line.TheVariants.{Down, Awaiting, Met}
+use Rattle.ln_channel.specs.declared.unsaved.Line.{Line}
+use Rattle.ln_channel.specs.declared.unsaved.Line.TheVariants.{Down, Awaiting, Met}
 use Rattle.std.specs.Prelude.{option_map}
 use Rattle.std.proofs.lemmas.List.{take_all, nil_from_length}
 use Rattle.std.proofs.lemmas.Bool.{eqb-true}
@@ -30,7 +30,7 @@ use Rattle.ln_log.specs.View.{live_adds}
 use Rattle.ln_log.specs.Log.{covered, live_in}
 use Rattle.ln_log.proofs.Sent.{standing_sent}
 use Rattle.ln_close.specs.Closing.{may_start}
-use Rattle.ln_link.specs.End.{has_begun, is_settled, closing_message, fee_sent}
+use Rattle.ln_channel.specs.End.{has_begun, is_settled, closing_message, fee_sent}
 use Rattle.ln_pair.proofs.Ending.{HasBegun}
 use Rattle.ln_pair.proofs.Images.{length-sent}
 use Rattle.ln_pair.proofs.Steps.{Knows, said_more, dealt_so}

@@ -11,22 +11,22 @@ use Rattle.ln_keys.specs.declared.role.Role.{Role}
 use Rattle.ln_keys.specs.declared.role.Role.TheVariants.{Funder, Fundee}
 use Rattle.ln_keys.specs.Signer.{Signer}
 use Rattle.ln_close.specs.declared.closing.Fees.{Fees}
-use Rattle.ln_link.specs.declared.config.Config.{Config}
-use Rattle.ln_link.specs.declared.config.OpenSpec.{OpenSpec}
-use Rattle.ln_link.specs.declared.link.Line.{Line}
-use Rattle.ln_link.specs.declared.link.Line.TheVariants.{Down, Awaiting, Met}
-use Rattle.ln_link.specs.declared.opening.Opened.{Opened}
-use Rattle.ln_link.specs.declared.opening.Terms.{Terms}
-use Rattle.ln_link.specs.Opening.{Agreement, opened_by, open_message, open_fault, agreement, accept_message}
-use Rattle.ln_link.specs.Opening.{accept_fault, funder_end, created_message, created_fault, fundee_end}
-use Rattle.ln_link.specs.Opening.{funder_terms}
-use Rattle.ln_link.specs.Config.{fees_of}
-use Rattle.ln_link.specs.Meeting.{Opens}
-use Rattle.ln_link.specs.End.{End, Turn, end_of, end_dropped}
-use Rattle.ln_link.specs.Taking.{message_row}
-use Rattle.ln_link.specs.Commands.{command_row, unready_fault}
-use Rattle.ln_link.specs.State.{is_down}
-use Rattle.ln_link.specs.Step.{faulted, line_fault}
+use Rattle.ln_channel.specs.declared.config.Config.{Config}
+use Rattle.ln_channel.specs.declared.config.OpenSpec.{OpenSpec}
+use Rattle.ln_channel.specs.declared.unsaved.Line.{Line}
+use Rattle.ln_channel.specs.declared.unsaved.Line.TheVariants.{Down, Awaiting, Met}
+use Rattle.ln_channel.specs.declared.opening.Opened.{Opened}
+use Rattle.ln_channel.specs.declared.opening.Terms.{Terms}
+use Rattle.ln_channel.specs.Opening.{Agreement, opened_by, open_message, open_fault, agreement, accept_message}
+use Rattle.ln_channel.specs.Opening.{accept_fault, funder_end, created_message, created_fault, fundee_end}
+use Rattle.ln_channel.specs.Opening.{funder_terms}
+use Rattle.ln_channel.specs.Config.{fees_of}
+use Rattle.ln_channel.specs.Meeting.{Opens}
+use Rattle.ln_channel.specs.End.{End, Turn, end_of, end_dropped}
+use Rattle.ln_channel.specs.Taking.{message_row}
+use Rattle.ln_channel.specs.Commands.{command_row, unready_fault}
+use Rattle.ln_channel.specs.State.{is_down}
+use Rattle.ln_channel.specs.Step.{faulted, line_fault}
 use Rattle.ln_pair.specs.Ends.{Ends, turned, opened, messages_in, message_at, command_at, arrive, answers}
 use Rattle.ln_pair.specs.Ends.{delivers, Act, Deliver, Give, Lose, acts, connects, Step, By, Connect, happens}
 use Rattle.ln_pair.specs.Ends.{run}

@@ -36,21 +36,21 @@ use Rattle.ln_close.specs.declared.closing.Answer.{Answer}
 use Rattle.ln_close.specs.declared.closing.Answer.TheVariants as answer
 use Rattle.ln_close.specs.declared.closing.Closing.{Closing}
 use Rattle.ln_close.specs.Closing.{may_start, started, after_shut, answer_to}
-use Rattle.ln_link.specs.declared.command.Command.{Command}
-use Rattle.ln_link.specs.declared.command.Command.TheVariants as command
-use Rattle.ln_link.specs.declared.output.Output.TheVariants as output
-use Rattle.ln_link.specs.Opening.{unless}
-use Rattle.ln_link.specs.End.{End, Turn, quiet, sending, completed, settled, answers_shutdown, owes_shutdown, due_sent}
-use Rattle.ln_link.specs.End.{due_fee, fee_sent, shutdown_message, shutdown_sent, has_begun, is_closed}
-use Rattle.ln_link.specs.End.{all_acknowledged}
-use Rattle.ln_link.specs.Taking.{takes, update_fault, update_row, early_fault, signature_fault, accepting, accepts}
-use Rattle.ln_link.specs.Taking.{learning, revokes, shutdown_at, answered}
-use Rattle.ln_link.specs.Taking.{range_in, message_row, completed_row}
-use Rattle.ln_link.specs.Commands.{ready_message, confirmed, confirm_fault, own_fault, propose_fault, proposes}
-use Rattle.ln_link.specs.Commands.{propose_row, sign_command_fault, signs_next, script_fault, shut_fault, shuts_down}
-use Rattle.ln_link.specs.Commands.{command_row}
-use Rattle.ln_link.specs.Resume.{ready_again, one_again, owed_again, shutdown_again, fee_again, sent_again, resumed}
-use Rattle.ln_link.specs.Resume.{resume_row}
+use Rattle.ln_channel.specs.declared.command.Command.{Command}
+use Rattle.ln_channel.specs.declared.command.Command.TheVariants as command
+use Rattle.ln_channel.specs.declared.output.Output.TheVariants as output
+use Rattle.ln_channel.specs.Opening.{unless}
+use Rattle.ln_channel.specs.End.{End, Turn, quiet, sending, completed, settled, answers_shutdown, owes_shutdown, due_sent}
+use Rattle.ln_channel.specs.End.{due_fee, fee_sent, shutdown_message, shutdown_sent, has_begun, is_closed}
+use Rattle.ln_channel.specs.End.{all_acknowledged}
+use Rattle.ln_channel.specs.Taking.{takes, update_fault, update_row, early_fault, signature_fault, accepting, accepts}
+use Rattle.ln_channel.specs.Taking.{learning, revokes, shutdown_at, answered}
+use Rattle.ln_channel.specs.Taking.{range_in, message_row, completed_row}
+use Rattle.ln_channel.specs.Commands.{ready_message, confirmed, confirm_fault, own_fault, propose_fault, proposes}
+use Rattle.ln_channel.specs.Commands.{propose_row, sign_command_fault, signs_next, script_fault, shut_fault, shuts_down}
+use Rattle.ln_channel.specs.Commands.{command_row}
+use Rattle.ln_channel.specs.Resume.{ready_again, one_again, owed_again, shutdown_again, fee_again, sent_again, resumed}
+use Rattle.ln_channel.specs.Resume.{resume_row}
 use Rattle.ln_pair.specs.Widths.{IsUpdate, IsCommand}
 use Rattle.ln_pair.specs.Ends.{met_again}
 use Rattle.ln_pair.proofs.Lasting.{longest_script}

@@ -1,8 +1,8 @@
 -- A shutdown that an end has taken is answered (BOLT 2, "Closing Initiation: shutdown").
 use Rattle.std.specs.Prelude.{◌≡◌, true}
-use Rattle.ln_link.specs.declared.link.Line.{Line}
-use Rattle.ln_link.specs.declared.link.Line.TheVariants.{Met}
-use Rattle.ln_link.specs.End.{End, all_acknowledged}
+use Rattle.ln_channel.specs.declared.unsaved.Line.{Line}
+use Rattle.ln_channel.specs.declared.unsaved.Line.TheVariants.{Met}
+use Rattle.ln_channel.specs.End.{End, all_acknowledged}
 use Rattle.ln_pair.specs.Ends.{Ends}
 
 -- an end that has met its peer and has taken its shutdown has sent its own, once all its updates are acknowledged

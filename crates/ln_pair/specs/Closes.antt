@@ -1,7 +1,7 @@
 -- Where nothing is in flight and nothing is left to settle, two ends that have shut down have closed (BOLT 2, "Closing
 -- Negotiation: closing_signed").
 use Rattle.std.specs.Prelude.{◌≡◌, true}
-use Rattle.ln_link.specs.End.{End, is_closed, is_settled}
+use Rattle.ln_channel.specs.End.{End, is_closed, is_settled}
 use Rattle.ln_pair.specs.Ends.{Ends}
 use Rattle.ln_pair.specs.Promises.{IsQuiet}
 

@@ -10,18 +10,18 @@ use Rattle.ln_keys.specs.declared.role.Role.{Role}
 use Rattle.ln_keys.specs.declared.role.Role.TheVariants.{Funder, Fundee}
 use Rattle.ln_keys.specs.Signer.{Signer}
 use Rattle.ln_dance.specs.Resume.{reestablish_message}
-use Rattle.ln_link.specs.declared.command.Command.{Command}
-use Rattle.ln_link.specs.declared.link.Line.{Line}
-use Rattle.ln_link.specs.declared.link.Line.TheVariants.{Down, Awaiting, Met}
-use Rattle.ln_link.specs.declared.opening.Opened.{Opened}
-use Rattle.ln_link.specs.declared.output.Output.{Output}
-use Rattle.ln_link.specs.declared.output.Output.TheVariants as output
-use Rattle.ln_link.specs.End.{End, Turn, end_of, end_dropped}
-use Rattle.ln_link.specs.Taking.{taken}
-use Rattle.ln_link.specs.Commands.{command_row, unready_fault}
-use Rattle.ln_link.specs.Resume.{resume_row}
-use Rattle.ln_link.specs.State.{is_down}
-use Rattle.ln_link.specs.Step.{faulted, line_fault}
+use Rattle.ln_channel.specs.declared.command.Command.{Command}
+use Rattle.ln_channel.specs.declared.unsaved.Line.{Line}
+use Rattle.ln_channel.specs.declared.unsaved.Line.TheVariants.{Down, Awaiting, Met}
+use Rattle.ln_channel.specs.declared.opening.Opened.{Opened}
+use Rattle.ln_channel.specs.declared.output.Output.{Output}
+use Rattle.ln_channel.specs.declared.output.Output.TheVariants as output
+use Rattle.ln_channel.specs.End.{End, Turn, end_of, end_dropped}
+use Rattle.ln_channel.specs.Taking.{taken}
+use Rattle.ln_channel.specs.Commands.{command_row, unready_fault}
+use Rattle.ln_channel.specs.Resume.{resume_row}
+use Rattle.ln_channel.specs.State.{is_down}
+use Rattle.ln_channel.specs.Step.{faulted, line_fault}
 
 pub record Ends : Type 0 where
   pub x_line : Line

@@ -9,8 +9,8 @@ pub mod Widths
 pub mod Setup
 pub use Rattle.ln_log.specs.Machine
 pub use Rattle.ln_log.specs.Log
-pub use Rattle.ln_link.specs.Opening
-pub use Rattle.ln_link.specs.Meeting
-pub use Rattle.ln_link.specs.End
-pub use Rattle.ln_link.specs.Taking
-pub use Rattle.ln_link.specs.Commands
+pub use Rattle.ln_channel.specs.Opening
+pub use Rattle.ln_channel.specs.Meeting
+pub use Rattle.ln_channel.specs.End
+pub use Rattle.ln_channel.specs.Taking
+pub use Rattle.ln_channel.specs.Commands

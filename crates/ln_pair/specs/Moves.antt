@@ -11,12 +11,12 @@ use Rattle.ln_keys.specs.Signer.{Signer}
 use Rattle.ln_log.specs.declared.update.Update.TheVariants as update
 use Rattle.ln_log.specs.Updates.{next_id}
 use Rattle.ln_log.specs.Machine.{Machine, Move, Open, Propose, Sign, Accept, Learn, Drop, Shut, Close, after}
-use Rattle.ln_link.specs.declared.command.Command.{Command}
-use Rattle.ln_link.specs.declared.command.Command.TheVariants as command
-use Rattle.ln_link.specs.declared.link.Line.{Line}
-use Rattle.ln_link.specs.declared.opening.Opened.{Opened}
-use Rattle.ln_link.specs.End.{End, Turn}
-use Rattle.ln_link.specs.State.{is_down}
+use Rattle.ln_channel.specs.declared.command.Command.{Command}
+use Rattle.ln_channel.specs.declared.command.Command.TheVariants as command
+use Rattle.ln_channel.specs.declared.unsaved.Line.{Line}
+use Rattle.ln_channel.specs.declared.opening.Opened.{Opened}
+use Rattle.ln_channel.specs.End.{End, Turn}
+use Rattle.ln_channel.specs.State.{is_down}
 use Rattle.ln_pair.specs.Ends.{Ends, opened, turned, message_at, command_at, Act, Deliver, Give, Lose, Step, By}
 use Rattle.ln_pair.specs.Ends.{Connect, happens}
 use Rattle.ln_pair.specs.Promises.{party}

@@ -7,9 +7,9 @@ use Rattle.ln_log.specs.declared.update.Update.{Update}
 use Rattle.ln_hooks.specs.declared.event.ChannelEvent.{ChannelEvent}
 use Rattle.ln_hooks.specs.declared.event.ChannelEvent.TheVariants as event
 use Rattle.ln_hooks.specs.Event.{event_of}
-use Rattle.ln_link.specs.declared.ledger.EventRef.{EventRef}
-use Rattle.ln_link.specs.declared.ledger.EventRef.TheVariants as ref
-use Rattle.ln_link.specs.End.{End}
+use Rattle.ln_log.specs.declared.mark.EventRef.{EventRef}
+use Rattle.ln_log.specs.declared.mark.EventRef.TheVariants as ref
+use Rattle.ln_channel.specs.End.{End}
 use Rattle.ln_pair.specs.Ends.{Ends}
 
 -- the end of this role, the funder being x

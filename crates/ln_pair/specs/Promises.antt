@@ -15,9 +15,9 @@ use Rattle.ln_log.specs.declared.log.Side.TheVariants as side
 use Rattle.ln_dance.specs.Dance.{sign_fault, view_at}
 use Rattle.ln_close.specs.declared.closing.Fees.{Fees}
 use Rattle.ln_close.specs.Closing.{AreOrdered}
-use Rattle.ln_link.specs.End.{End}
-use Rattle.ln_link.specs.declared.link.Line.{Line}
-use Rattle.ln_link.specs.declared.link.Line.TheVariants.{Met}
+use Rattle.ln_channel.specs.End.{End}
+use Rattle.ln_channel.specs.declared.unsaved.Line.{Line}
+use Rattle.ln_channel.specs.declared.unsaved.Line.TheVariants.{Met}
 use Rattle.ln_pair.specs.Ends.{Ends, message_at}
 
 -- the keys of both ends: partners, and every point has 33 bytes

@@ -2,8 +2,8 @@
 use Rattle.std.specs.Prelude.{◌≡◌}
 use Rattle.ln_log.specs.declared.opening.Opening.{Opening}
 use Rattle.ln_close.specs.declared.closing.Fees.{Fees}
-use Rattle.ln_link.specs.declared.opening.Opened.{Opened}
-use Rattle.ln_link.specs.End.{End}
+use Rattle.ln_channel.specs.declared.opening.Opened.{Opened}
+use Rattle.ln_channel.specs.End.{End}
 
 -- the opening, and the closing fees that the funder and the fundee take
 pub record Setup : Type 0 where

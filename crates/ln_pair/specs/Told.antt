@@ -10,11 +10,11 @@ use Rattle.ln_log.specs.Events.{Event, Held, ClosedAt}
 use Rattle.ln_hooks.specs.declared.event.ChannelEvent.{ChannelEvent}
 use Rattle.ln_hooks.specs.declared.event.ChannelEvent.TheVariants as event
 use Rattle.ln_hooks.specs.Event.{event_of}
-use Rattle.ln_link.specs.declared.link.Line.{Line}
-use Rattle.ln_link.specs.declared.output.Output.{Output}
-use Rattle.ln_link.specs.declared.output.Output.TheVariants as output
-use Rattle.ln_link.specs.Outputs.{all_of}
-use Rattle.ln_link.specs.End.{End, Turn}
+use Rattle.ln_channel.specs.declared.unsaved.Line.{Line}
+use Rattle.ln_channel.specs.declared.output.Output.{Output}
+use Rattle.ln_channel.specs.declared.output.Output.TheVariants as output
+use Rattle.ln_channel.specs.Outputs.{all_of}
+use Rattle.ln_channel.specs.End.{End, Turn}
 use Rattle.ln_pair.specs.Ends.{Ends, turned, message_at, command_at, Act, Deliver, Give, Lose, Step, By, Connect}
 use Rattle.ln_pair.specs.Ends.{happens}
 

@@ -7,8 +7,8 @@ use Rattle.ln_log.specs.declared.update.Fail.{Fail}
 use Rattle.ln_log.specs.declared.update.Malformed.{Malformed}
 use Rattle.ln_log.specs.declared.update.Update.{Update}
 use Rattle.ln_log.specs.declared.update.Update.TheVariants as update
-use Rattle.ln_link.specs.declared.command.Command.{Command}
-use Rattle.ln_link.specs.declared.command.Command.TheVariants as command
+use Rattle.ln_channel.specs.declared.command.Command.{Command}
+use Rattle.ln_channel.specs.declared.command.Command.TheVariants as command
 
 -- the incoming channel and HTLC that an own add forwards
 abbrev pub IsOrigin : Option (List ℕ × ℕ) → Type 0

@@ -5,16 +5,16 @@
 ghost use Rattle.std.specs.Prelude.{◌≡◌, List};
 ghost use Rattle.ln_msgs.specs.declared.messages.message.Message.{Message};
 ghost use Rattle.ln_keys.specs.Signer.{Signer};
-ghost use Rattle.ln_link.specs.declared.command.Command.{Command};
-ghost use Rattle.ln_link.specs.declared.config.Config.{Config};
-ghost use Rattle.ln_link.specs.declared.config.OpenSpec.{OpenSpec};
-ghost use Rattle.ln_link.specs.declared.link.Line.{Line};
-ghost use Rattle.ln_link.specs.declared.link.Line.TheVariants.{Awaiting, Met};
-ghost use Rattle.ln_link.specs.declared.link.Stage.TheVariants as stage;
-ghost use Rattle.ln_link.specs.declared.opening.Opened.{Opened};
-ghost use Rattle.ln_link.specs.End.{End};
-ghost use Rattle.ln_link.specs.Meeting.{Opens};
-ghost use Rattle.ln_link.specs.Step.{turned, saved_at, obeyed};
+ghost use Rattle.ln_channel.specs.declared.command.Command.{Command};
+ghost use Rattle.ln_channel.specs.declared.config.Config.{Config};
+ghost use Rattle.ln_channel.specs.declared.config.OpenSpec.{OpenSpec};
+ghost use Rattle.ln_channel.specs.declared.unsaved.Line.{Line};
+ghost use Rattle.ln_channel.specs.declared.unsaved.Line.TheVariants.{Awaiting, Met};
+ghost use Rattle.ln_channel.specs.declared.unsaved.Stage.TheVariants as stage;
+ghost use Rattle.ln_channel.specs.declared.opening.Opened.{Opened};
+ghost use Rattle.ln_channel.specs.End.{End};
+ghost use Rattle.ln_channel.specs.Meeting.{Opens};
+ghost use Rattle.ln_channel.specs.Step.{turned, saved_at, obeyed};
 ghost use Rattle.ln_pair.specs.Ends.{Step, opened, message_at, command_at, run};
 ghost use Rattle.ln_pair.specs.Promises.{AreKeys, AreSent, AreAgreeable, Headline, NoneRefused, AllTaken};
 ghost use Rattle.ln_pair.specs.Answers.{BothHaveAnswered};
@@ -97,7 +97,7 @@ pub fn ends_stay_as_set_up()
 {}
 
 /// A law of rows, not of whole calls: behind a link's looks at what has halted or failed, at what is passed over and at
-/// what is of another channel, what ln_link's rows of an open channel with a connection answer to a message
+/// what is of another channel, what ln_channel's rows of an open channel with a connection answer to a message
 /// (`saved_at`), and to a command that isn't about records (`obeyed`), is what the steps say of the end
 /// (`message_at`, `command_at`). That `handled` and `commanded` of a link answer so is shown in ln_world.
 pub fn steps_are_those_of_a_link()

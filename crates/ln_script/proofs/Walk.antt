@@ -4,7 +4,7 @@ use Rattle.std.proofs.Common.{None, Result, Ok, Err, nat_le, refl, subst}
 use Rattle.std.specs.Str.{bytes_eq}
 use Rattle.ln_keys.specs.declared.toy_keys.ToyKeys.{ToyKeys}
 use Rattle.ln_bytes.specs.declared.short_id.ShortId.{ShortId}
-use Rattle.ln_link.specs.declared.command.Command.TheVariants as command
+use Rattle.ln_channel.specs.declared.command.Command.TheVariants as command
 use Rattle.ln_world.specs.declared.step.Act.TheVariants as act
 use Rattle.ln_world.specs.declared.step.End.{End}
 use Rattle.ln_world.specs.declared.step.Node.{Node}

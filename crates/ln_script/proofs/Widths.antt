@@ -11,7 +11,7 @@ use Rattle.sha2.proofs.Facts256.{length-sha256}
 use Rattle.ln_keys.specs.declared.toy_keys.ToyKeys.{ToyKeys}
 use Rattle.ln_keys.specs.Toy.{toy_secret, toy_signer}
 use Rattle.ln_keys.specs.ToyOnion.{toy_key, toy_hmac, filled, toy_packet, payload_bytes, toy_made}
-use Rattle.ln_link.specs.declared.command.Command.{Command}
+use Rattle.ln_channel.specs.declared.command.Command.{Command}
 use Rattle.ln_world.specs.declared.step.Act.TheVariants as act
 use Rattle.ln_world.specs.declared.step.Node.{Node}
 use Rattle.ln_world.specs.World.{World, empty, run}

@@ -5,9 +5,9 @@ use Rattle.std.specs.Fmt.{decimal}
 use Rattle.ln_msgs.specs.declared.refusals.refusal.Refusal.{Refusal}
 use Rattle.ln_msgs.specs.Refusals.Refusal.{refusal_number}
 use Rattle.ln_msgs.specs.Refusals.RefusalText.{refusal_text}
-use Rattle.ln_link.specs.declared.standing.Life.{Life}
-use Rattle.ln_link.specs.declared.standing.Life.TheVariants as life
-use Rattle.ln_link.specs.declared.standing.Standing.{Standing}
+use Rattle.ln_channel.specs.declared.standing.Life.{Life}
+use Rattle.ln_channel.specs.declared.standing.Life.TheVariants as life
+use Rattle.ln_channel.specs.declared.standing.Standing.{Standing}
 use Rattle.ln_world.specs.declared.step.End.{End}
 use Rattle.ln_world.specs.declared.line.Word.{Word}
 use Rattle.ln_world.specs.declared.line.Word.TheVariants as word

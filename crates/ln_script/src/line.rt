@@ -5,7 +5,7 @@ ghost use Rattle.ln_script.specs.LineText.{end_text, word_text, owner_text, endi
 ghost use Rattle.ln_script.specs.LineText.{settled_text, closed_text, line_text, life_text, counts_text, worth_text};
 ghost use Rattle.ln_script.specs.LineText.{event_text, refused_text, end_line_text, with_number};
 
-use ln_link::{Life, Standing};
+use ln_channel::{Life, Standing};
 use ln_msgs::Refusal;
 use ln_world::{End, EndLine, Ending, Line, Word};
 use std::alloc::AllocError;

@@ -13,7 +13,7 @@ use crate::word::{channel_of, decimal_of, end_of, node_of, number_of, short_id_o
 use ln_bytes::ShortId;
 use ln_close::Fees;
 use ln_keys::ToyKeys;
-use ln_link::Command;
+use ln_channel::Command;
 use ln_log::Limits;
 use ln_msgs::Refusal;
 use ln_world::{Act, End, Node, Open, Step};

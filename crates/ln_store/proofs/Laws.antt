@@ -18,10 +18,10 @@ use Rattle.ln_log.specs.declared.update.Update.TheVariants as kinds
 use Rattle.ln_log.specs.Updates.{offered}
 use Rattle.ln_dance.specs.declared.dance.Later.{Later}
 use Rattle.ln_dance.specs.declared.dance.Later.TheVariants.{Signature, Revocation}
-use Rattle.ln_store.specs.declared.mark.Mark.{Mark}
-use Rattle.ln_store.specs.declared.mark.Mark.TheVariants as mark
-use Rattle.ln_store.specs.declared.mark.EventRef.{EventRef}
-use Rattle.ln_store.specs.declared.mark.EventRef.TheVariants as ref
+use Rattle.ln_log.specs.declared.mark.Mark.{Mark}
+use Rattle.ln_log.specs.declared.mark.Mark.TheVariants as mark
+use Rattle.ln_log.specs.declared.mark.EventRef.{EventRef}
+use Rattle.ln_log.specs.declared.mark.EventRef.TheVariants as ref
 use Rattle.ln_store.specs.declared.record.Flags.{Flags}
 use Rattle.ln_store.specs.Format.{Format, number, fixed, sized, ◌&◌, kind}
 use Rattle.ln_store.specs.Items as it

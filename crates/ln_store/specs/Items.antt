@@ -19,10 +19,10 @@ use Rattle.ln_dance.specs.declared.dance.Later.TheVariants.{Signature, Revocatio
 use Rattle.ln_dance.specs.declared.dance.Numbers.{Numbers}
 use Rattle.ln_dance.specs.declared.dance.Peer.{Peer}
 use Rattle.ln_close.specs.declared.closing.Fees.{Fees}
-use Rattle.ln_store.specs.declared.mark.Mark.{Mark}
-use Rattle.ln_store.specs.declared.mark.Mark.TheVariants as mark
-use Rattle.ln_store.specs.declared.mark.EventRef.{EventRef}
-use Rattle.ln_store.specs.declared.mark.EventRef.TheVariants as ref
+use Rattle.ln_log.specs.declared.mark.Mark.{Mark}
+use Rattle.ln_log.specs.declared.mark.Mark.TheVariants as mark
+use Rattle.ln_log.specs.declared.mark.EventRef.{EventRef}
+use Rattle.ln_log.specs.declared.mark.EventRef.TheVariants as ref
 use Rattle.ln_store.specs.declared.record.Flags.{Flags}
 use Rattle.ln_store.specs.declared.record.Agreement.{Agreement}
 use Rattle.ln_store.specs.declared.record.LiveHtlc.{LiveHtlc}

@@ -8,8 +8,8 @@ use Rattle.ln_msgs.specs.Messages.Message.{Heard, Known, Ignored, message_at}
 use Rattle.ln_keys.specs.declared.role.Role.{Role}
 use Rattle.ln_keys.specs.declared.role.Role.TheVariants.{Funder, Fundee}
 use Rattle.ln_dance.specs.declared.dance.Numbers.{Numbers}
-use Rattle.ln_store.specs.declared.mark.EventRef.{EventRef}
-use Rattle.ln_store.specs.declared.mark.EventRef.TheVariants as ref
+use Rattle.ln_log.specs.declared.mark.EventRef.{EventRef}
+use Rattle.ln_log.specs.declared.mark.EventRef.TheVariants as ref
 use Rattle.ln_store.specs.declared.record.Covered.{Covered}
 use Rattle.ln_store.specs.declared.record.Pairs.{Pairs}
 use Rattle.ln_store.specs.declared.record.Updates.{Updates}

@@ -5,14 +5,13 @@ ghost use Rattle.ln_store.specs.Format.{fixed, number, ◌&◌};
 ghost use Rattle.ln_store.specs.Items as it;
 
 use crate::lists::{list_at, list_fits, optional_at, optional_fits, put_list, put_optional};
-use crate::mark::{EventRef, Mark};
 use crate::record::{ClosingFees, Decision, Events, Forwards, Origin, Progress, Settlement};
 use crate::stored::{
     Stored, array_at, array_fits, long_at, put, put_long, put_u8, put_u16, put_u32, put_u64,
     u16_at, u16_fits, u32_at, u32_fits, u64_at, u64_fits,
 };
 use crate::updates::removal_at;
-use ln_log::{ChannelId, removal_of};
+use ln_log::{ChannelId, EventRef, Mark, removal_of};
 use ln_msgs::Refusal;
 use std::alloc::Global;
 

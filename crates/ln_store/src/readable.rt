@@ -9,12 +9,12 @@ ghost use Rattle.std.specs.List.{list_all};
 ghost use Rattle.ln_store.specs.Readable.{is_open_payload, is_accept_payload, are_in_step, cover_the_same, are_settled};
 ghost use Rattle.ln_store.specs.Readable.{is_of, is_of_other, names_an_update, is_sound, is_in_window};
 
-use crate::mark::EventRef;
 use crate::record::{Covered, Items, Pairs, Updates};
 use crate::stored::Stored;
 use ln_bytes::Fault;
 use ln_dance::Numbers;
 use ln_keys::Role;
+use ln_log::EventRef;
 use ln_msgs::{Incoming, Message, Refusal, decode};
 use std::alloc::Global;
 

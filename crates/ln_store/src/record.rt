@@ -1,13 +1,12 @@
 //! What is stored of one end of a channel.
 
 use crate::list::Listed;
-use crate::mark::{EventRef, Mark};
 use crate::place::ChainPlace;
 use ln_bytes::Bytes;
 use ln_close::Fees;
 use ln_dance::{Later, Numbers, Peer};
 use ln_keys::Role;
-use ln_log::{Add, ChannelId, Update};
+use ln_log::{Add, ChannelId, EventRef, Mark, Update};
 use ln_msgs::Refusal;
 
 /// What a side has sent and taken beside updates and signatures.

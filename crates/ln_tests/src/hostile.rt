@@ -4,19 +4,19 @@ use crate::code_of;
 use crate::link::{DEAR, Move, begin, fundee, funder};
 use crate::testing::message_of;
 use Move::{Back, Confirm, Down, Lost, Offer, Out, Shut, Up};
+use ln_channel::{Command, Unsaved};
 use ln_keys::{Role, ToyKeys};
-use ln_link::{Command, Link};
 use ln_msgs::{Message, Refusal};
 use std::alloc::Global;
 
 /// The number by which an end refuses a message, and that by which it then refuses to sign.
-fn answered(alloc: Global, end: &mut Link<ToyKeys>, message: Message) -> (u32, u32) {
+fn answered(alloc: Global, end: &mut Unsaved<ToyKeys>, message: Message) -> (u32, u32) {
     let told = code_of(end.handle(alloc, message).err());
     (told, code_of(end.command(alloc, Command::Sign).err()))
 }
 
 /// The connection is lost and comes back, and neither end has taken anything yet.
-fn join(alloc: Global, a: &mut Link<ToyKeys>, b: &mut Link<ToyKeys>) -> Result<(), Refusal> {
+fn join(alloc: Global, a: &mut Unsaved<ToyKeys>, b: &mut Unsaved<ToyKeys>) -> Result<(), Refusal> {
     a.drop_connection();
     b.drop_connection();
     drop(a.connect(alloc)?);
@@ -32,8 +32,8 @@ type Strange = (u16, &'static [(usize, u8)]);
 
 fn told(
     alloc: Global,
-    a: &mut Link<ToyKeys>,
-    b: &mut Link<ToyKeys>,
+    a: &mut Unsaved<ToyKeys>,
+    b: &mut Unsaved<ToyKeys>,
     past: Past,
     at: Role,
     strange: Strange,

@@ -15,7 +15,7 @@ mod close;
 #[cfg(test)]
 mod dance;
 #[cfg(test)]
-mod durable;
+mod failing_saves;
 #[cfg(test)]
 mod forward;
 #[cfg(test)]
@@ -43,10 +43,10 @@ mod relay;
 #[cfg(test)]
 mod resume;
 #[cfg(test)]
+mod saving;
+#[cfg(test)]
 mod store;
 #[cfg(test)]
 mod testing;
-#[cfg(test)]
-mod unsaved;
 #[cfg(test)]
 mod whole_fields;

@@ -3,11 +3,11 @@
 use crate::code_of;
 use crate::testing::{FUNDEE, FUNDER, htlc};
 use ln_bytes::{Bytes, ShortId};
+use ln_channel::{Command, Config, FitConfig, FitSpec, OpenSpec, Output, Points, Unsaved};
 use ln_dance::add_message;
 use ln_hooks::ChannelEvent;
 use ln_keys::ToyKeys;
-use ln_link::{Command, Config, FitConfig, FitSpec, Link, Mark, OpenSpec, Output, Points};
-use ln_log::Limits;
+use ln_log::{Limits, Mark};
 use ln_msgs::{Error, Message, Records, Refusal};
 use std::alloc::Global;
 
@@ -59,7 +59,7 @@ const POINTS: Points = Points {
     htlc_basepoint: [2; 33],
 };
 
-fn config(alloc: Global, fees: Range) -> Config {
+pub fn config(alloc: Global, fees: Range) -> Config {
     Config {
         limits: Limits {
             minimum: 1,
@@ -84,7 +84,7 @@ pub fn boxed<T: Drop>(alloc: Global, value: T) -> Result<Box<T>, Refusal> {
     Ok(Box::new(alloc, value)?)
 }
 
-fn open_spec(alloc: Global) -> OpenSpec {
+pub fn open_spec(alloc: Global) -> OpenSpec {
     OpenSpec {
         config: config(alloc, (200, 300, 400)),
         funding: 1_000_000,
@@ -99,10 +99,10 @@ fn open_spec(alloc: Global) -> OpenSpec {
 }
 
 /// A new end of the funder.
-pub fn funder(alloc: Global) -> Result<Box<Link<ToyKeys>>, Refusal> {
+pub fn funder(alloc: Global) -> Result<Box<Unsaved<ToyKeys>>, Refusal> {
     let spec = open_spec(alloc);
     if spec.fits() {
-        boxed(alloc, Link::funder(FUNDER, FitSpec::new(spec)))
+        boxed(alloc, Unsaved::funder(FUNDER, FitSpec::new(spec)))
     } else {
         drop(spec);
         Err(Refusal::NotReady)
@@ -110,10 +110,10 @@ pub fn funder(alloc: Global) -> Result<Box<Link<ToyKeys>>, Refusal> {
 }
 
 /// A new end of the fundee, with these closing fees.
-pub fn fundee(alloc: Global, fees: Range) -> Result<Box<Link<ToyKeys>>, Refusal> {
+pub fn fundee(alloc: Global, fees: Range) -> Result<Box<Unsaved<ToyKeys>>, Refusal> {
     let config = config(alloc, fees);
     if config.fits() {
-        boxed(alloc, Link::fundee(FUNDEE, FitConfig::new(config)))
+        boxed(alloc, Unsaved::fundee(FUNDEE, FitConfig::new(config)))
     } else {
         drop(config);
         Err(Refusal::NotReady)
@@ -123,8 +123,8 @@ pub fn fundee(alloc: Global, fees: Range) -> Result<Box<Link<ToyKeys>>, Refusal>
 /// The four messages of an opening pass.
 fn open(
     alloc: Global,
-    a: &mut Link<ToyKeys>,
-    b: &mut Link<ToyKeys>,
+    a: &mut Unsaved<ToyKeys>,
+    b: &mut Unsaved<ToyKeys>,
     seen: &mut Vec<u64>,
 ) -> Result<(), Refusal> {
     drop(b.connect(alloc)?);
@@ -198,7 +198,7 @@ pub fn messages_of(alloc: Global, outputs: Vec<Output>) -> Result<Vec<Message>, 
 fn pass(
     alloc: Global,
     outputs: Vec<Output>,
-    end: &mut Link<ToyKeys>,
+    end: &mut Unsaved<ToyKeys>,
     seen: &mut Vec<u64>,
 ) -> Result<Vec<Output>, Refusal> {
     let mut last = Vec::new(alloc);
@@ -212,8 +212,8 @@ fn pass(
 fn exchanged(
     alloc: Global,
     outputs: Vec<Output>,
-    x: &mut Link<ToyKeys>,
-    y: &mut Link<ToyKeys>,
+    x: &mut Unsaved<ToyKeys>,
+    y: &mut Unsaved<ToyKeys>,
     turns: u8,
     seen: &mut Vec<u64>,
 ) -> Result<(), Refusal> {
@@ -229,8 +229,8 @@ fn exchanged(
 /// One end does what it is told, and the other takes what it hands out.
 fn told(
     alloc: Global,
-    x: &mut Link<ToyKeys>,
-    y: &mut Link<ToyKeys>,
+    x: &mut Unsaved<ToyKeys>,
+    y: &mut Unsaved<ToyKeys>,
     command: Command,
     turns: u8,
     seen: &mut Vec<u64>,
@@ -241,8 +241,8 @@ fn told(
 
 fn confirm(
     alloc: Global,
-    a: &mut Link<ToyKeys>,
-    b: &mut Link<ToyKeys>,
+    a: &mut Unsaved<ToyKeys>,
+    b: &mut Unsaved<ToyKeys>,
     seen: &mut Vec<u64>,
 ) -> Result<(), Refusal> {
     let Some(id) = ShortId::parse("1x1x0") else {
@@ -302,7 +302,7 @@ pub fn offer() -> Command {
 /// The fundee's end takes this.
 fn take(
     alloc: Global,
-    b: &mut Link<ToyKeys>,
+    b: &mut Unsaved<ToyKeys>,
     message: Message,
     seen: &mut Vec<u64>,
 ) -> Result<(), Refusal> {
@@ -313,8 +313,8 @@ fn take(
 /// A connection comes back: the funder's end sends first.
 fn up(
     alloc: Global,
-    a: &mut Link<ToyKeys>,
-    b: &mut Link<ToyKeys>,
+    a: &mut Unsaved<ToyKeys>,
+    b: &mut Unsaved<ToyKeys>,
     seen: &mut Vec<u64>,
 ) -> Result<(), Refusal> {
     let to_b = noted(a.connect(alloc)?, seen)?;
@@ -324,8 +324,8 @@ fn up(
 /// The other end, x, sends too before it takes what came.
 fn meet(
     alloc: Global,
-    x: &mut Link<ToyKeys>,
-    y: &mut Link<ToyKeys>,
+    x: &mut Unsaved<ToyKeys>,
+    y: &mut Unsaved<ToyKeys>,
     to_x: Vec<Output>,
     seen: &mut Vec<u64>,
 ) -> Result<(), Refusal> {
@@ -336,8 +336,8 @@ fn meet(
 /// Each takes what the other has sent.
 fn cross(
     alloc: Global,
-    x: &mut Link<ToyKeys>,
-    y: &mut Link<ToyKeys>,
+    x: &mut Unsaved<ToyKeys>,
+    y: &mut Unsaved<ToyKeys>,
     to_x: Vec<Output>,
     to_y: Vec<Output>,
     seen: &mut Vec<u64>,
@@ -350,8 +350,8 @@ fn cross(
 /// And what the other answers.
 fn answered(
     alloc: Global,
-    x: &mut Link<ToyKeys>,
-    y: &mut Link<ToyKeys>,
+    x: &mut Unsaved<ToyKeys>,
+    y: &mut Unsaved<ToyKeys>,
     to_y: Vec<Output>,
     to_x: Vec<Output>,
     seen: &mut Vec<u64>,
@@ -373,8 +373,8 @@ fn error(alloc: Global, channel_id: [u8; 32]) -> Message {
 
 fn play(
     alloc: Global,
-    a: &mut Link<ToyKeys>,
-    b: &mut Link<ToyKeys>,
+    a: &mut Unsaved<ToyKeys>,
+    b: &mut Unsaved<ToyKeys>,
     one: Move,
     seen: &mut Vec<u64>,
 ) -> Result<(), Refusal> {
@@ -411,8 +411,8 @@ fn play(
 /// outputs were handed out behind the opening's.
 fn moved(
     alloc: Global,
-    a: &mut Link<ToyKeys>,
-    b: &mut Link<ToyKeys>,
+    a: &mut Unsaved<ToyKeys>,
+    b: &mut Unsaved<ToyKeys>,
     table: &[(Move, u32)],
     outputs: &[u64],
 ) -> Result<(usize, bool), Refusal> {
@@ -431,8 +431,8 @@ fn moved(
 /// The same for moves of which none is refused.
 pub fn begin(
     alloc: Global,
-    a: &mut Link<ToyKeys>,
-    b: &mut Link<ToyKeys>,
+    a: &mut Unsaved<ToyKeys>,
+    b: &mut Unsaved<ToyKeys>,
     moves: &[Move],
     seen: &mut Vec<u64>,
 ) -> Result<(), Refusal> {
@@ -615,7 +615,7 @@ fn small_link(rt: HostRuntime) -> Result<(), Refusal> {
 
 /// What a link that isn't opened yet answers: to a command, a connection, a connection behind a lost one, an error for
 /// all, and a command behind that.
-fn unopened(alloc: Global, link: &mut Link<ToyKeys>) -> [u32; 5] {
+fn unopened(alloc: Global, link: &mut Unsaved<ToyKeys>) -> [u32; 5] {
     let command = code_of(link.command(alloc, Command::Sign).err());
     let connection = code_of(link.connect(alloc).err());
     link.drop_connection();

@@ -4,8 +4,8 @@ use crate::code_of;
 use crate::link::{boxed, messages_of};
 use crate::testing::{FUNDEE, FUNDER, bytes_of};
 use ln_bytes::{Bytes, Record};
+use ln_channel::{Config, FitConfig, FitSpec, OpenSpec, Output, Points, Unsaved};
 use ln_keys::{ToyKeys, sha256_32};
-use ln_link::{Config, FitConfig, FitSpec, Link, OpenSpec, Output, Points};
 use ln_log::Limits;
 use ln_msgs::{
     AcceptChannel, FundingCreated, FundingSigned, Message, OpenChannel, Records, Refusal, encode,
@@ -187,8 +187,8 @@ fn sent(alloc: Global, outputs: Vec<Output>, change: &str) -> Result<Box<Message
 /// through.
 fn passed(
     alloc: Global,
-    a: &mut Link<ToyKeys>,
-    b: &mut Link<ToyKeys>,
+    a: &mut Unsaved<ToyKeys>,
+    b: &mut Unsaved<ToyKeys>,
     change: &str,
 ) -> Result<[u8; 32], Refusal> {
     drop(b.connect(alloc)?);
@@ -213,7 +213,7 @@ fn passed(
 }
 
 /// A new end of the funder, for a channel with records or without.
-fn new_funder(alloc: Global, typed: bool) -> Result<Box<Link<ToyKeys>>, Refusal> {
+fn new_funder(alloc: Global, typed: bool) -> Result<Box<Unsaved<ToyKeys>>, Refusal> {
     let records = if typed {
         records(alloc)?
     } else {
@@ -221,17 +221,17 @@ fn new_funder(alloc: Global, typed: bool) -> Result<Box<Link<ToyKeys>>, Refusal>
     };
     let spec = spec(alloc, records);
     if spec.fits() {
-        boxed(alloc, Link::funder(FUNDER, FitSpec::new(spec)))
+        boxed(alloc, Unsaved::funder(FUNDER, FitSpec::new(spec)))
     } else {
         drop(spec);
         Err(Refusal::NotReady)
     }
 }
 
-fn new_fundee(alloc: Global) -> Result<Box<Link<ToyKeys>>, Refusal> {
+fn new_fundee(alloc: Global) -> Result<Box<Unsaved<ToyKeys>>, Refusal> {
     let config = fundee(alloc);
     if config.fits() {
-        boxed(alloc, Link::fundee(FUNDEE, FitConfig::new(config)))
+        boxed(alloc, Unsaved::fundee(FUNDEE, FitConfig::new(config)))
     } else {
         drop(config);
         Err(Refusal::NotReady)

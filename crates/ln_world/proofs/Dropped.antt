@@ -7,11 +7,11 @@ use Rattle.ln_keys.specs.declared.role.Role.TheVariants.{Funder, Fundee}
 use Rattle.ln_keys.specs.Signer.{Signer}
 use Rattle.ln_log.specs.Log.{Log, after_drop}
 use Rattle.ln_dance.specs.Dance.{with_log}
-use Rattle.ln_link.specs.declared.link.Line.{Line}
-use Rattle.ln_link.specs.declared.link.Line.TheVariants.{Down, Awaiting, Met}
-use Rattle.ln_link.specs.declared.opening.Opened.{Opened}
-use Rattle.ln_link.specs.End.{End, Turn, with_dance, end_dropped}
-use Rattle.ln_link.specs.State.{is_down}
+use Rattle.ln_channel.specs.declared.unsaved.Line.{Line}
+use Rattle.ln_channel.specs.declared.unsaved.Line.TheVariants.{Down, Awaiting, Met}
+use Rattle.ln_channel.specs.declared.opening.Opened.{Opened}
+use Rattle.ln_channel.specs.End.{End, Turn, with_dance, end_dropped}
+use Rattle.ln_channel.specs.State.{is_down}
 use Rattle.ln_pair.specs.Ends.{Ends, Step, By, Connect, Act, Deliver, Give, Lose, message_at, command_at}
 use Rattle.ln_pair.specs.Ends as pair
 

@@ -2,7 +2,7 @@
 use Rattle.std.proofs.Common.{◌≤◌, ℕ, [], refl, arith}
 use Rattle.ln_msgs.specs.Codec.Writing.{MayFollow}
 use Rattle.ln_msgs.specs.Messages.Table.{open_form}
-use Rattle.ln_link.specs.Config.{IsFitConfig, IsFitSpec}
+use Rattle.ln_channel.specs.Config.{IsFitConfig, IsFitSpec}
 use Rattle.ln_world.specs.declared.settings.Settings.{Settings}
 use Rattle.ln_world.specs.declared.step.Node.{Node}
 use Rattle.ln_world.specs.Settings.{config_of, spec_of, CanBring}

@@ -1,10 +1,10 @@
 -- An end of an open channel has a record: its messages can be written, its updates are had from the first on, and its
 -- items are readable.
-use Rattle.std.proofs.Common.{◌≡◌, ◌<◌, ◌≤◌, ◌+◌, ◌^◌, ◌∙◌, ℕ, zero, suc, List, [], ◌∷◌, length, take, map, refl, sym}
+use Rattle.std.proofs.Common.{◌≡◌, ◌<◌, ◌≤◌, ◌+◌, ◌^◌, ◌∙◌, ℕ, zero, suc, List, [], ◌∷◌, length, take, refl, sym}
 use Rattle.std.proofs.Common.{ap, subst, arith, inl, inr, Bool, true, false, nat_le, nat_lt, ◌&&◌, Option, Some, None}
 use Rattle.std.proofs.Common.{option_map, Ok}
 use Rattle.std.proofs.lemmas.Bool.{lt-ltb, le-leb}
-use Rattle.std.proofs.lemmas.List.{length-take-le, length-map, length-drop}
+use Rattle.std.proofs.lemmas.List.{length-take-le, length-drop}
 use Rattle.std.specs.List.{list_all}
 use Rattle.ln_bytes.specs.declared.short_id.ShortId.{ShortId}
 use Rattle.ln_msgs.specs.declared.messages.opening.OpenChannel.{OpenChannel}
@@ -18,17 +18,17 @@ use Rattle.ln_log.specs.declared.opening.Opening.{Opening}
 use Rattle.ln_log.specs.declared.update.Update.{Update}
 use Rattle.ln_log.specs.Opening.{HasFunds}
 use Rattle.ln_log.specs.Log.{Log, IsWithin, after_drop}
-use Rattle.ln_link.specs.declared.ledger.EventRef as link
-use Rattle.ln_link.specs.declared.ledger.EventRef.TheVariants as link_ref
-use Rattle.ln_link.specs.declared.opening.Opened.{Opened}
-use Rattle.ln_link.specs.Opening.{opening_of, asked_with, asked_by_accept}
-use Rattle.ln_link.specs.End.{End}
+use Rattle.ln_log.specs.declared.mark.EventRef.{EventRef}
+use Rattle.ln_log.specs.declared.mark.EventRef.TheVariants as ref
+use Rattle.ln_channel.specs.declared.opening.Opened.{Opened}
+use Rattle.ln_channel.specs.Opening.{opening_of, asked_with, asked_by_accept}
+use Rattle.ln_channel.specs.End.{End}
 use Rattle.ln_store.specs.Format.{fixed, optional}
 use Rattle.ln_store.specs.Items as it
 use Rattle.ln_store.specs.Readable.{names_an_update, is_sound, is_readable}
-use Rattle.ln_durable.specs.Record.{flags_of, payload_of, place_of, agreement_of, window_of, pairs_of, updates_of}
-use Rattle.ln_durable.specs.Record.{event_of, events_of, fees_of, progress_of, header_of, items_of, IsUnwritable}
-use Rattle.ln_durable.specs.Record.{HasNoAgreement, HasNoUpdates, NoRecord}
+use Rattle.ln_link.specs.Record.{flags_of, payload_of, place_of, agreement_of, window_of, pairs_of, updates_of}
+use Rattle.ln_link.specs.Record.{events_of, fees_of, progress_of, header_of, items_of, IsUnwritable}
+use Rattle.ln_link.specs.Record.{HasNoAgreement, HasNoUpdates, NoRecord}
 use Rattle.ln_pair.specs.Widths.{IsUpdate}
 use Rattle.ln_pair.proofs.All.{All}
 use Rattle.ln_pair.proofs.Steady.{raised}
@@ -171,32 +171,32 @@ updates_of_fit e o i w =
 
 -- ---- events
 
-held_numbered : (a b : ℕ) (r : link.EventRef) → a ≤ 2 ^ 62 → b ≤ 2 ^ 62 → IsHeld a b r → IsNumbered (event_of r)
-held_numbered a b (link_ref.Own n) p q h = omega (arith, p, h)
-held_numbered a b (link_ref.Peer n) p q h = omega (arith, q, h)
-held_numbered a b link_ref.Close p q h = tt
+held_numbered : (a b : ℕ) (r : EventRef) → a ≤ 2 ^ 62 → b ≤ 2 ^ 62 → IsHeld a b r → IsNumbered r
+held_numbered a b (ref.Own n) p q h = omega (arith, p, h)
+held_numbered a b (ref.Peer n) p q h = omega (arith, q, h)
+held_numbered a b ref.Close p q h = tt
 
-all_numbered : (a b : ℕ) (rs : List link.EventRef) → a ≤ 2 ^ 62 → b ≤ 2 ^ 62 → All (IsHeld a b) rs
-    → All IsNumbered (map event_of rs)
+all_numbered : (a b : ℕ) (rs : List EventRef) → a ≤ 2 ^ 62 → b ≤ 2 ^ 62 → All (IsHeld a b) rs
+    → All IsNumbered rs
 all_numbered a b [] p q h = tt
 all_numbered a b (r ∷ rs) p q h = (held_numbered a b r p q h.0, all_numbered a b rs p q h.1)
 
 in_window : (windowed n : ℕ) → n < windowed → (nat_le 0 n && nat_lt n (0 + windowed)) ≡ true
 in_window windowed n h = also (le-leb 0 n (omega arith)) (lt-ltb n (0 + windowed) (omega (arith, h)))
 
-named : (x : Role) (o : Opening) (l : Log) (r : link.EventRef) → IsHeld (length l.own) (length l.received) r
-    → names_an_update x (updates_of o x l) (event_of r) ≡ true
+named : (x : Role) (o : Opening) (l : Log) (r : EventRef) → IsHeld (length l.own) (length l.received) r
+    → names_an_update x (updates_of o x l) r ≡ true
 unfolding updates_of
-named Funder o l (link_ref.Own n) h = in_window (length l.own) n h
-named Funder o l (link_ref.Peer n) h = in_window (length l.received) n h
-named Fundee o l (link_ref.Own n) h = in_window (length l.own) n h
-named Fundee o l (link_ref.Peer n) h = in_window (length l.received) n h
-named Funder o l link_ref.Close h = refl
-named Fundee o l link_ref.Close h = refl
+named Funder o l (ref.Own n) h = in_window (length l.own) n h
+named Funder o l (ref.Peer n) h = in_window (length l.received) n h
+named Fundee o l (ref.Own n) h = in_window (length l.own) n h
+named Fundee o l (ref.Peer n) h = in_window (length l.received) n h
+named Funder o l ref.Close h = refl
+named Fundee o l ref.Close h = refl
 
-all_named : (x : Role) (o : Opening) (l : Log) (rs : List link.EventRef)
+all_named : (x : Role) (o : Opening) (l : Log) (rs : List EventRef)
     → All (IsHeld (length l.own) (length l.received)) rs
-    → list_all (names_an_update x (updates_of o x l)) (map event_of rs) ≡ true
+    → list_all (names_an_update x (updates_of o x l)) rs ≡ true
 all_named x o l [] h = refl
 all_named x o l (r ∷ rs) h = also (named x o l r h.0) (all_named x o l rs h.1)
 
@@ -214,8 +214,7 @@ events_of_fit e k c =
     let peer : l.acknowledged.peer ≤ 2 ^ 62 = omega (arith, s, t, n) in
     let decided = k.decided in
     let events = k.events in
-    let same = length-map e.ledger.undecided event_of in
-    events_fit (events_of e.ledger) (omega (arith, decided)) (omega (arith, same, events, own, peer))
+    events_fit (events_of e.ledger) (omega (arith, decided)) (omega (arith, events, own, peer))
     (all_numbered l.current.own l.acknowledged.peer e.ledger.undecided own peer k.undecided)
 
 -- ---- all items

@@ -3,8 +3,8 @@ use Rattle.ln_world.proofs.Mirror.{is_warning}
 use Rattle.ln_world.specs.Both.{Move}
 use Rattle.std.proofs.Common.{append-nil, append_assoc, ◌||◌}
 use Rattle.ln_msgs.specs.declared.messages.message.Message.TheVariants as message
-use Rattle.ln_link.specs.declared.link.Line.TheVariants.{Down}
-use Rattle.ln_link.specs.End.{end_dropped}
+use Rattle.ln_channel.specs.declared.unsaved.Line.TheVariants.{Down}
+use Rattle.ln_channel.specs.End.{end_dropped}
 use Rattle.ln_pair.specs.Promises.{is_add, is_shutdown, AddsBefore}
 use Rattle.ln_world.specs.Sending.{sends}
 use Rattle.ln_world.specs.Course.{along}
@@ -18,18 +18,18 @@ use Rattle.ln_msgs.specs.declared.messages.message.Message.{Message}
 use Rattle.ln_keys.specs.declared.role.Role.{Role}
 use Rattle.ln_keys.specs.declared.role.Role.TheVariants.{Funder, Fundee}
 use Rattle.ln_keys.specs.Signer.{Signer}
-use Rattle.ln_link.specs.declared.config.Config.{Config}
-use Rattle.ln_link.specs.declared.config.OpenSpec.{OpenSpec}
-use Rattle.ln_link.specs.declared.link.Line.{Line}
-use Rattle.ln_link.specs.declared.link.Line.TheVariants.{Met}
-use Rattle.ln_link.specs.Naming.{named}
-use Rattle.ln_link.specs.declared.link.Stage.TheVariants as stage
-use Rattle.ln_link.specs.declared.opening.Opened.{Opened}
-use Rattle.ln_link.specs.Meeting.{Opens}
-use Rattle.ln_link.specs.End.{End}
-use Rattle.ln_link.specs.State.{State, is_down}
-use Rattle.ln_link.specs.Step.{Done, handled}
-use Rattle.ln_link.specs.Step as step
+use Rattle.ln_channel.specs.declared.config.Config.{Config}
+use Rattle.ln_channel.specs.declared.config.OpenSpec.{OpenSpec}
+use Rattle.ln_channel.specs.declared.unsaved.Line.{Line}
+use Rattle.ln_channel.specs.declared.unsaved.Line.TheVariants.{Met}
+use Rattle.ln_channel.specs.Naming.{named}
+use Rattle.ln_channel.specs.declared.unsaved.Stage.TheVariants as stage
+use Rattle.ln_channel.specs.declared.opening.Opened.{Opened}
+use Rattle.ln_channel.specs.Meeting.{Opens}
+use Rattle.ln_channel.specs.End.{End}
+use Rattle.ln_channel.specs.State.{State, is_down}
+use Rattle.ln_channel.specs.Step.{Done, handled}
+use Rattle.ln_channel.specs.Step as step
 use Rattle.ln_pair.specs.Ends.{Ends, Step}
 use Rattle.ln_pair.specs.Ends as pair
 use Rattle.ln_pair.specs.Promises.{AreKeys, AreSent, IsTaken, Overlap, CloseAtOneFee, TakesFront as Front}
@@ -56,8 +56,8 @@ use Rattle.ln_close.specs.Closing.{AreOrdered}
 use Rattle.ln_log.specs.Machine.{Machine}
 use Rattle.ln_log.specs.Machine as machine
 use Rattle.ln_log.specs.Events.{events}
-use Rattle.ln_link.specs.declared.output.Output.{Output}
-use Rattle.ln_link.specs.Outputs.{all_of, numbered}
+use Rattle.ln_channel.specs.declared.output.Output.{Output}
+use Rattle.ln_channel.specs.Outputs.{all_of, numbered}
 use Rattle.ln_pair.specs.Promises as promise
 use Rattle.ln_pair.proofs.Promised as promised
 use Rattle.ln_pair.proofs.Closed as closed

@@ -4,14 +4,14 @@ use Rattle.std.proofs.Common.{◌≡◌, ◌⊎◌, ℕ, List, [], ◌∷◌, �
 use Rattle.std.proofs.Common.{Some, None, inr, append-nil}
 use Rattle.ln_msgs.specs.declared.messages.message.Message.{Message}
 use Rattle.ln_msgs.specs.declared.messages.message.Message.TheVariants as message
-use Rattle.ln_link.specs.declared.link.Line.{Line}
-use Rattle.ln_link.specs.declared.link.Line.TheVariants.{Down, Awaiting, Met}
-use Rattle.ln_link.specs.declared.link.Stage.{Stage}
-use Rattle.ln_link.specs.declared.link.Stage.TheVariants as stage
-use Rattle.ln_link.specs.Naming.{named}
-use Rattle.ln_link.specs.End.{End}
-use Rattle.ln_link.specs.State.{State, is_down}
-use Rattle.ln_link.specs.Step.{is_passed_over, error_fault}
+use Rattle.ln_channel.specs.declared.unsaved.Line.{Line}
+use Rattle.ln_channel.specs.declared.unsaved.Line.TheVariants.{Down, Awaiting, Met}
+use Rattle.ln_channel.specs.declared.unsaved.Stage.{Stage}
+use Rattle.ln_channel.specs.declared.unsaved.Stage.TheVariants as stage
+use Rattle.ln_channel.specs.Naming.{named}
+use Rattle.ln_channel.specs.End.{End}
+use Rattle.ln_channel.specs.State.{State, is_down}
+use Rattle.ln_channel.specs.Step.{is_passed_over, error_fault}
 use Rattle.ln_pair.specs.Ends.{Ends, arrive}
 use Rattle.ln_pair.specs.Ends as pair
 use Rattle.ln_world.specs.Both.{Both, Place, reaches, swapped}

@@ -10,21 +10,21 @@ use Rattle.ln_keys.specs.declared.role.Role.{Role}
 use Rattle.ln_keys.specs.Signer.{Signer}
 use Rattle.ln_log.specs.Machine as machine
 use Rattle.ln_dance.specs.Resume.{reestablish_message}
-use Rattle.ln_link.specs.declared.command.Command.{Command}
-use Rattle.ln_link.specs.declared.command.Command.TheVariants as command
-use Rattle.ln_link.specs.declared.link.Line.{Line}
-use Rattle.ln_link.specs.declared.link.Line.TheVariants.{Down, Awaiting, Met}
-use Rattle.ln_link.specs.declared.link.Stage.TheVariants as stage
-use Rattle.ln_link.specs.Naming.{named, is_other}
-use Rattle.ln_link.specs.declared.output.Output.{Output}
-use Rattle.ln_link.specs.Outputs.{all_of}
-use Rattle.ln_link.specs.End.{End, Turn, end_dropped}
-use Rattle.ln_link.specs.Commands.{command_row, unready_fault}
-use Rattle.ln_link.specs.Record.{saved_end}
-use Rattle.ln_link.specs.State.{State, is_down, refused, drops}
-use Rattle.ln_link.specs.Step.{Done, handled, commanded, faulted, line_fault, is_passed_over, error_fault, stray_fault}
-use Rattle.ln_link.specs.Step.{message_fault, saved_at, at_hand, obeyed}
-use Rattle.ln_link.specs.Step as step
+use Rattle.ln_channel.specs.declared.command.Command.{Command}
+use Rattle.ln_channel.specs.declared.command.Command.TheVariants as command
+use Rattle.ln_channel.specs.declared.unsaved.Line.{Line}
+use Rattle.ln_channel.specs.declared.unsaved.Line.TheVariants.{Down, Awaiting, Met}
+use Rattle.ln_channel.specs.declared.unsaved.Stage.TheVariants as stage
+use Rattle.ln_channel.specs.Naming.{named, is_other}
+use Rattle.ln_channel.specs.declared.output.Output.{Output}
+use Rattle.ln_channel.specs.Outputs.{all_of}
+use Rattle.ln_channel.specs.End.{End, Turn, end_dropped}
+use Rattle.ln_channel.specs.Commands.{command_row, unready_fault}
+use Rattle.ln_channel.specs.Record.{saved_end}
+use Rattle.ln_channel.specs.State.{State, is_down, refused, drops}
+use Rattle.ln_channel.specs.Step.{Done, handled, commanded, faulted, line_fault, is_passed_over, error_fault, stray_fault}
+use Rattle.ln_channel.specs.Step.{message_fault, saved_at, at_hand, obeyed}
+use Rattle.ln_channel.specs.Step as step
 use Rattle.ln_log.specs.Limits.{first_fault}
 use Rattle.ln_pair.specs.Ends.{Ends, arrive, messages_in, message_at, command_at, becomes, Act, Deliver, Give, Lose}
 use Rattle.ln_pair.specs.Ends as pair

@@ -3,7 +3,7 @@ use Rattle.ln_bytes.specs.Same.{are_same}
 use Rattle.ln_dance.specs.Resume.{signature_again}
 use Rattle.std.proofs.Common.{◌||◌}
 use Rattle.std.proofs.Common.{sym}
-use Rattle.ln_link.specs.Commands.{propose_row}
+use Rattle.ln_channel.specs.Commands.{propose_row}
 use Rattle.ln_dance.specs.Resume.{updates_again}
 use Rattle.ln_dance.specs.Resume.{revocation_again}
 use Rattle.std.proofs.Common.{◌≡◌, ℕ, ◌+◌, List, [], ◌∷◌, ◌++◌, map, refl, ap, ◌∙◌, subst, Bool, true, false, cond, not}
@@ -33,28 +33,28 @@ use Rattle.ln_close.specs.declared.closing.Answer.{Answer}
 use Rattle.ln_close.specs.declared.closing.Answer.TheVariants as answer
 use Rattle.ln_close.specs.Closing.{answer_to}
 use Rattle.ln_hooks.specs.declared.event.ChannelEvent.{ChannelEvent}
-use Rattle.ln_link.specs.declared.command.Command.{Command}
-use Rattle.ln_link.specs.declared.command.Command.TheVariants as command
-use Rattle.ln_link.specs.declared.link.Line.{Line}
-use Rattle.ln_link.specs.declared.link.Line.TheVariants.{Down, Awaiting, Met}
-use Rattle.ln_link.specs.declared.output.Output.{Output}
-use Rattle.ln_link.specs.declared.output.Output.TheVariants as output
-use Rattle.ln_link.specs.Naming.{named}
-use Rattle.ln_link.specs.Opening.{unless}
-use Rattle.ln_link.specs.Outputs.{numbered, events_of}
-use Rattle.ln_link.specs.Ledger.{next_event}
-use Rattle.ln_link.specs.Since.{own_since, peer_since}
-use Rattle.ln_link.specs.End.{End, Turn, completed, quiet, sending, owes_shutdown, answers_shutdown, due_fee, fee_sent}
-use Rattle.ln_link.specs.End.{has_begun, is_closed, shutdown_message, shutdown_sent, due_sent}
-use Rattle.ln_link.specs.Taking.{message_row, takes_ready, takes, update_row, update_fault, signature_fault}
-use Rattle.ln_link.specs.Taking.{accepting, accepts, learning, revokes, shutdown_at}
-use Rattle.ln_link.specs.Taking.{shuts_by_peer, answering, answered, answered_end, range_in}
-use Rattle.ln_link.specs.Taking.{completed_row}
-use Rattle.ln_link.specs.Commands.{command_row, confirm_fault, ready_message, propose_fault, proposes}
-use Rattle.ln_link.specs.Commands.{sign_command_fault, shut_fault, shuts_down, unready_fault}
-use Rattle.ln_link.specs.Resume.{resume_row, resumed, ready_again, all_sent, one_again, owed_again, shutdown_again}
-use Rattle.ln_link.specs.Resume.{fee_again}
-use Rattle.ln_link.specs.Step.{faulted, line_fault}
+use Rattle.ln_channel.specs.declared.command.Command.{Command}
+use Rattle.ln_channel.specs.declared.command.Command.TheVariants as command
+use Rattle.ln_channel.specs.declared.unsaved.Line.{Line}
+use Rattle.ln_channel.specs.declared.unsaved.Line.TheVariants.{Down, Awaiting, Met}
+use Rattle.ln_channel.specs.declared.output.Output.{Output}
+use Rattle.ln_channel.specs.declared.output.Output.TheVariants as output
+use Rattle.ln_channel.specs.Naming.{named}
+use Rattle.ln_channel.specs.Opening.{unless}
+use Rattle.ln_channel.specs.Outputs.{numbered, events_of}
+use Rattle.ln_channel.specs.Ledger.{next_event}
+use Rattle.ln_channel.specs.Since.{own_since, peer_since}
+use Rattle.ln_channel.specs.End.{End, Turn, completed, quiet, sending, owes_shutdown, answers_shutdown, due_fee, fee_sent}
+use Rattle.ln_channel.specs.End.{has_begun, is_closed, shutdown_message, shutdown_sent, due_sent}
+use Rattle.ln_channel.specs.Taking.{message_row, takes_ready, takes, update_row, update_fault, signature_fault}
+use Rattle.ln_channel.specs.Taking.{accepting, accepts, learning, revokes, shutdown_at}
+use Rattle.ln_channel.specs.Taking.{shuts_by_peer, answering, answered, answered_end, range_in}
+use Rattle.ln_channel.specs.Taking.{completed_row}
+use Rattle.ln_channel.specs.Commands.{command_row, confirm_fault, ready_message, propose_fault, proposes}
+use Rattle.ln_channel.specs.Commands.{sign_command_fault, shut_fault, shuts_down, unready_fault}
+use Rattle.ln_channel.specs.Resume.{resume_row, resumed, ready_again, all_sent, one_again, owed_again, shutdown_again}
+use Rattle.ln_channel.specs.Resume.{fee_again}
+use Rattle.ln_channel.specs.Step.{faulted, line_fault}
 use Rattle.ln_pair.specs.Ends.{message_at, command_at, messages_in}
 
 -- each message names this channel

@@ -12,22 +12,22 @@ use Rattle.ln_msgs.specs.declared.refusals.refusal.Refusal.TheVariants as refusa
 use Rattle.ln_msgs.specs.Messages.Channel.{id_of_channel}
 use Rattle.ln_keys.specs.declared.role.Role.TheVariants.{Funder, Fundee}
 use Rattle.ln_keys.specs.Signer.{Signer}
-use Rattle.ln_link.specs.declared.config.Config.{Config}
-use Rattle.ln_link.specs.declared.config.OpenSpec.{OpenSpec}
-use Rattle.ln_link.specs.declared.link.Line.TheVariants.{Met}
-use Rattle.ln_link.specs.declared.link.Stage.{Stage}
-use Rattle.ln_link.specs.declared.link.Stage.TheVariants as stage
-use Rattle.ln_link.specs.declared.opening.Opened.{Opened}
-use Rattle.ln_link.specs.Opening.{unless, open_message, accept_fault, created_fault, first_fault, funder_end}
-use Rattle.ln_link.specs.Opening.{fundee_end, created_message, funding_message}
-use Rattle.ln_link.specs.Opening.{Agreement, agreement, accept_message, open_fault}
-use Rattle.ln_link.specs.Config.{fees_of, offered}
-use Rattle.ln_link.specs.Opening.{asked_with, asked_by_accept}
-use Rattle.ln_link.specs.Meeting.{Opens}
-use Rattle.ln_link.specs.End.{end_of}
-use Rattle.ln_link.specs.State.{State, begun, refused}
-use Rattle.ln_link.specs.Step.{Done, replied, faulted}
-use Rattle.ln_link.proofs.Meeting.{are_ends}
+use Rattle.ln_channel.specs.declared.config.Config.{Config}
+use Rattle.ln_channel.specs.declared.config.OpenSpec.{OpenSpec}
+use Rattle.ln_channel.specs.declared.unsaved.Line.TheVariants.{Met}
+use Rattle.ln_channel.specs.declared.unsaved.Stage.{Stage}
+use Rattle.ln_channel.specs.declared.unsaved.Stage.TheVariants as stage
+use Rattle.ln_channel.specs.declared.opening.Opened.{Opened}
+use Rattle.ln_channel.specs.Opening.{unless, open_message, accept_fault, created_fault, first_fault, funder_end}
+use Rattle.ln_channel.specs.Opening.{fundee_end, created_message, funding_message}
+use Rattle.ln_channel.specs.Opening.{Agreement, agreement, accept_message, open_fault}
+use Rattle.ln_channel.specs.Config.{fees_of, offered}
+use Rattle.ln_channel.specs.Opening.{asked_with, asked_by_accept}
+use Rattle.ln_channel.specs.Meeting.{Opens}
+use Rattle.ln_channel.specs.End.{end_of}
+use Rattle.ln_channel.specs.State.{State, begun, refused}
+use Rattle.ln_channel.specs.Step.{Done, replied, faulted}
+use Rattle.ln_channel.proofs.Meeting.{are_ends}
 use Rattle.ln_pair.specs.Ends as pair
 use Rattle.ln_world.specs.declared.step.Act.TheVariants as act
 use Rattle.ln_world.specs.Both.{Both, Move, By, Meet, answers, swapped, moves}

@@ -9,8 +9,8 @@ use Rattle.ln_msgs.specs.Messages.Message.{Wire}
 use Rattle.ln_msgs.specs.Messages.Typed.{open_wire, accept_wire}
 use Rattle.ln_log.specs.Opening.{HasFunds}
 use Rattle.ln_close.specs.declared.closing.Fees.{Fees}
-use Rattle.ln_link.specs.declared.opening.Opened.{Opened}
-use Rattle.ln_link.specs.Opening.{opening_of}
+use Rattle.ln_channel.specs.declared.opening.Opened.{Opened}
+use Rattle.ln_channel.specs.Opening.{opening_of}
 
 -- the fields are as wide as the form has them, and no records follow
 pub record IsPlain (form : Form) (w : Wire) : Type 0 where

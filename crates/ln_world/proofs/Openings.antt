@@ -8,12 +8,12 @@ use Rattle.ln_keys.specs.Signer.{Signer}
 use Rattle.ln_log.specs.Opening.{HasFunds}
 use Rattle.ln_close.specs.Closing.{AreOrdered}
 use Rattle.ln_close.specs.declared.closing.Fees.{Fees}
-use Rattle.ln_link.specs.declared.config.Config.{Config}
-use Rattle.ln_link.specs.declared.config.OpenSpec.{OpenSpec}
-use Rattle.ln_link.specs.declared.opening.Opened.{Opened}
-use Rattle.ln_link.specs.Opening.{Agreement, open_message, open_fault, agreement, accept_message, accept_fault}
-use Rattle.ln_link.specs.Opening.{funder_end, created_message, created_fault, fundee_end, funding_message}
-use Rattle.ln_link.specs.Meeting.{Opens}
+use Rattle.ln_channel.specs.declared.config.Config.{Config}
+use Rattle.ln_channel.specs.declared.config.OpenSpec.{OpenSpec}
+use Rattle.ln_channel.specs.declared.opening.Opened.{Opened}
+use Rattle.ln_channel.specs.Opening.{Agreement, open_message, open_fault, agreement, accept_message, accept_fault}
+use Rattle.ln_channel.specs.Opening.{funder_end, created_message, created_fault, fundee_end, funding_message}
+use Rattle.ln_channel.specs.Meeting.{Opens}
 use Rattle.ln_pair.specs.Promises.{AreSent}
 use Rattle.ln_pair.proofs.Lasting.{longest_script}
 use Rattle.ln_world.specs.declared.settings.Settings.{Settings}

@@ -14,8 +14,8 @@ use Rattle.ln_log.specs.Machine as machine
 use Rattle.ln_log.specs.Opening.{is_fit}
 use Rattle.ln_log.proofs.Fits.{fit_is}
 use Rattle.ln_close.specs.Closing.{AreOrdered}
-use Rattle.ln_link.specs.Meeting.{CanOpen}
-use Rattle.ln_link.proofs.Meeting.{none_refused}
+use Rattle.ln_channel.specs.Meeting.{CanOpen}
+use Rattle.ln_channel.proofs.Meeting.{none_refused}
 use Rattle.ln_store.proofs.Formats.{both_true}
 use Rattle.ln_pair.specs.Promises.{AreKeys, AreSent}
 use Rattle.ln_world.specs.declared.step.Node.{Node}

@@ -7,10 +7,10 @@ use Rattle.ln_keys.specs.declared.keys.ChannelKeys.{Ghosts}
 use Rattle.ln_keys.specs.declared.role.Role.{Role}
 use Rattle.ln_keys.specs.declared.role.Role.TheVariants.{Funder, Fundee}
 use Rattle.ln_keys.specs.Signer.{Signer}
-use Rattle.ln_link.specs.declared.link.Line.{Line}
-use Rattle.ln_link.specs.declared.opening.Opened.{Opened}
-use Rattle.ln_link.specs.End.{End}
-use Rattle.ln_link.specs.State.{State}
+use Rattle.ln_channel.specs.declared.unsaved.Line.{Line}
+use Rattle.ln_channel.specs.declared.opening.Opened.{Opened}
+use Rattle.ln_channel.specs.End.{End}
+use Rattle.ln_channel.specs.State.{State}
 use Rattle.ln_store.proofs.Formats.{both_true}
 use Rattle.ln_pair.specs.Promises.{AreKeys, AreSent}
 use Rattle.ln_pair.proofs.Lasting.{IsCounted, IsWide, IsOf}

@@ -13,15 +13,15 @@ use Rattle.ln_log.specs.Limits.{first_fault, is_at_update_limit, update_fault}
 use Rattle.ln_log.specs.Log.{Log, peer_limit, removal_fault, length_fault, proposal_fault, same_counts, after_sign}
 use Rattle.ln_log.specs.Log as log
 use Rattle.ln_dance.specs.Dance.{Dancer, owes, is_last, sign_fault}
-use Rattle.ln_link.specs.declared.command.Command.{Command}
-use Rattle.ln_link.specs.declared.command.Command.TheVariants as command
-use Rattle.ln_link.specs.declared.link.Line.{Line}
-use Rattle.ln_link.specs.declared.link.Line.TheVariants.{Down, Awaiting, Met}
-use Rattle.ln_link.specs.Opening.{unless}
-use Rattle.ln_link.specs.End.{End, Turn, is_ready, is_closed, all_acknowledged}
-use Rattle.ln_link.specs.Commands.{command_row, confirm_fault, shut_by_either, closed_fault, own_fault, propose_fault}
-use Rattle.ln_link.specs.Commands.{propose_row, sign_command_fault, script_fault, shut_fault, unready_fault}
-use Rattle.ln_link.specs.Step.{faulted, line_fault}
+use Rattle.ln_channel.specs.declared.command.Command.{Command}
+use Rattle.ln_channel.specs.declared.command.Command.TheVariants as command
+use Rattle.ln_channel.specs.declared.unsaved.Line.{Line}
+use Rattle.ln_channel.specs.declared.unsaved.Line.TheVariants.{Down, Awaiting, Met}
+use Rattle.ln_channel.specs.Opening.{unless}
+use Rattle.ln_channel.specs.End.{End, Turn, is_ready, is_closed, all_acknowledged}
+use Rattle.ln_channel.specs.Commands.{command_row, confirm_fault, shut_by_either, closed_fault, own_fault, propose_fault}
+use Rattle.ln_channel.specs.Commands.{propose_row, sign_command_fault, script_fault, shut_fault, unready_fault}
+use Rattle.ln_channel.specs.Step.{faulted, line_fault}
 use Rattle.ln_pair.specs.Ends.{command_at}
 use Rattle.ln_world.specs.Lines.{replies}
 

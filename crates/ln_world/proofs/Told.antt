@@ -9,7 +9,7 @@ use Rattle.ln_keys.specs.declared.role.Role.TheVariants.{Funder, Fundee}
 use Rattle.ln_log.specs.declared.opening.Opening.{Opening}
 use Rattle.ln_log.specs.Machine as machine
 use Rattle.ln_log.specs.Events.{events}
-use Rattle.ln_link.specs.Outputs.{numbered}
+use Rattle.ln_channel.specs.Outputs.{numbered}
 use Rattle.ln_store.proofs.Formats.{both_true}
 use Rattle.ln_pair.specs.Moves.{after_all}
 use Rattle.ln_pair.specs.Promises.{AddsBefore}

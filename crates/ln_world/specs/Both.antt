@@ -8,10 +8,10 @@ use Rattle.ln_msgs.specs.declared.refusals.refusal.Refusal.{Refusal}
 use Rattle.ln_keys.specs.declared.role.Role.{Role}
 use Rattle.ln_keys.specs.declared.role.Role.TheVariants.{Funder, Fundee}
 use Rattle.ln_keys.specs.Signer.{Signer}
-use Rattle.ln_link.specs.End.{End as ChannelEnd, end_dropped}
-use Rattle.ln_link.specs.Record.{saved_end, came_back}
-use Rattle.ln_link.specs.State.{State, is_down, refused, drops, numbers_of}
-use Rattle.ln_link.specs.Step.{Done, handled, commanded, connected}
+use Rattle.ln_channel.specs.End.{End as ChannelEnd, end_dropped}
+use Rattle.ln_channel.specs.Record.{saved_end, came_back}
+use Rattle.ln_channel.specs.State.{State, is_down, refused, drops, numbers_of}
+use Rattle.ln_channel.specs.Step.{Done, handled, commanded, connected}
 use Rattle.ln_world.specs.declared.step.Act.{Act}
 use Rattle.ln_world.specs.declared.step.Act.TheVariants as act
 use Rattle.ln_world.specs.declared.step.End.{End}

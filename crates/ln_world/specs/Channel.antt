@@ -5,8 +5,8 @@ use Rattle.ln_keys.specs.declared.keys.ChannelKeys.{Ghosts}
 use Rattle.ln_keys.specs.declared.role.Role.{Role}
 use Rattle.ln_keys.specs.declared.role.Role.TheVariants.{Funder, Fundee}
 use Rattle.ln_keys.specs.Signer.{Signer}
-use Rattle.ln_link.specs.declared.link.Stage.TheVariants as stage
-use Rattle.ln_link.specs.State.{begun}
+use Rattle.ln_channel.specs.declared.unsaved.Stage.TheVariants as stage
+use Rattle.ln_channel.specs.State.{begun}
 use Rattle.ln_world.specs.declared.step.Act.{Act}
 use Rattle.ln_world.specs.declared.step.Act.TheVariants as act
 use Rattle.ln_world.specs.declared.step.End.{End}

@@ -4,10 +4,10 @@ use Rattle.ln_msgs.specs.declared.refusals.refusal.Refusal.{Refusal}
 use Rattle.ln_msgs.specs.declared.refusals.refusal.Refusal.TheVariants as refusal
 use Rattle.ln_keys.specs.declared.keys.ChannelKeys.{Ghosts}
 use Rattle.ln_keys.specs.declared.role.Role.{Role}
-use Rattle.ln_link.specs.End.{End}
-use Rattle.ln_link.specs.Record.{saved_end}
-use Rattle.ln_link.specs.State.{State}
-use Rattle.ln_durable.specs.Record.{NoRecord}
+use Rattle.ln_channel.specs.End.{End}
+use Rattle.ln_channel.specs.Record.{saved_end}
+use Rattle.ln_channel.specs.State.{State}
+use Rattle.ln_link.specs.Record.{NoRecord}
 use Rattle.ln_world.specs.declared.step.Node.{Node}
 use Rattle.ln_world.specs.declared.step.Step.{Step}
 use Rattle.ln_world.specs.declared.step.Step.TheVariants as step

@@ -10,9 +10,9 @@ use Rattle.ln_hooks.specs.declared.event.ChannelEvent.{ChannelEvent}
 use Rattle.ln_hooks.specs.declared.event.ChannelEvent.TheVariants as event
 use Rattle.ln_hooks.specs.declared.event.How.{How}
 use Rattle.ln_hooks.specs.declared.event.How.TheVariants as how
-use Rattle.ln_link.specs.State.{no_numbers}
-use Rattle.ln_link.specs.declared.output.Output.{Output}
-use Rattle.ln_link.specs.declared.output.Output.TheVariants as output
+use Rattle.ln_channel.specs.State.{no_numbers}
+use Rattle.ln_channel.specs.declared.output.Output.{Output}
+use Rattle.ln_channel.specs.declared.output.Output.TheVariants as output
 use Rattle.ln_world.specs.declared.step.End.{End}
 use Rattle.ln_world.specs.declared.line.Word.{Word}
 use Rattle.ln_world.specs.declared.line.Word.TheVariants as word

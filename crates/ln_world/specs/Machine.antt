@@ -11,14 +11,14 @@ use Rattle.ln_keys.specs.Signer.{Signer}
 use Rattle.ln_log.specs.Machine.{Machine, Drop, Open}
 use Rattle.ln_log.specs.Machine as machine
 use Rattle.ln_hooks.specs.declared.event.ChannelEvent.{ChannelEvent}
-use Rattle.ln_link.specs.declared.command.Command.{Command}
-use Rattle.ln_link.specs.declared.link.Line.{Line}
-use Rattle.ln_link.specs.declared.link.Stage.{Stage}
-use Rattle.ln_link.specs.declared.link.Stage.TheVariants as stage
-use Rattle.ln_link.specs.declared.output.Output.{Output}
-use Rattle.ln_link.specs.End.{End}
-use Rattle.ln_link.specs.State.{State, is_down}
-use Rattle.ln_link.specs.Step.{Done, handled, commanded}
+use Rattle.ln_channel.specs.declared.command.Command.{Command}
+use Rattle.ln_channel.specs.declared.unsaved.Line.{Line}
+use Rattle.ln_channel.specs.declared.unsaved.Stage.{Stage}
+use Rattle.ln_channel.specs.declared.unsaved.Stage.TheVariants as stage
+use Rattle.ln_channel.specs.declared.output.Output.{Output}
+use Rattle.ln_channel.specs.End.{End}
+use Rattle.ln_channel.specs.State.{State, is_down}
+use Rattle.ln_channel.specs.Step.{Done, handled, commanded}
 use Rattle.ln_pair.specs.Moves.{machine_by, moves_asked, moves_between}
 use Rattle.ln_pair.specs.Pending.{IsInStep}
 use Rattle.ln_world.specs.declared.step.Act.{Act}

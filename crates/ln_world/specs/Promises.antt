@@ -5,13 +5,13 @@ use Rattle.ln_msgs.specs.declared.refusals.refusal.Refusal.TheVariants as refusa
 use Rattle.ln_keys.specs.declared.keys.ChannelKeys.{Ghosts}
 use Rattle.ln_keys.specs.Signer.{Signer}
 use Rattle.ln_dance.specs.Dance.{sign_fault}
-use Rattle.ln_link.specs.declared.link.Line.{Line}
-use Rattle.ln_link.specs.declared.link.Line.TheVariants.{Met}
-use Rattle.ln_link.specs.declared.link.Stage.{Stage}
-use Rattle.ln_link.specs.declared.link.Stage.TheVariants as stage
-use Rattle.ln_link.specs.End.{End}
-use Rattle.ln_link.specs.State.{State}
-use Rattle.ln_link.specs.Step.{handled}
+use Rattle.ln_channel.specs.declared.unsaved.Line.{Line}
+use Rattle.ln_channel.specs.declared.unsaved.Line.TheVariants.{Met}
+use Rattle.ln_channel.specs.declared.unsaved.Stage.{Stage}
+use Rattle.ln_channel.specs.declared.unsaved.Stage.TheVariants as stage
+use Rattle.ln_channel.specs.End.{End}
+use Rattle.ln_channel.specs.State.{State}
+use Rattle.ln_channel.specs.Step.{handled}
 use Rattle.ln_pair.specs.Promises.{AreSent, FollowEachOther, IsTaken, IsTakenButForItsFee, Overlap, CloseAtOneFee}
 use Rattle.ln_pair.specs.Promises.{HoldTheSame, SameMarks}
 use Rattle.ln_pair.specs.Answers.{HasAnswered}

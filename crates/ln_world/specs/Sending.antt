@@ -6,8 +6,8 @@ use Rattle.ln_keys.specs.declared.keys.ChannelKeys.{Ghosts}
 use Rattle.ln_keys.specs.declared.role.Role.{Role}
 use Rattle.ln_keys.specs.declared.role.Role.TheVariants.{Funder, Fundee}
 use Rattle.ln_keys.specs.Signer.{Signer}
-use Rattle.ln_link.specs.State.{State}
-use Rattle.ln_link.specs.Step.{handled, commanded}
+use Rattle.ln_channel.specs.State.{State}
+use Rattle.ln_channel.specs.Step.{handled, commanded}
 use Rattle.ln_pair.specs.Promises.{AddsBefore}
 use Rattle.ln_world.specs.declared.step.Act.{Act}
 use Rattle.ln_world.specs.declared.step.Act.TheVariants as act

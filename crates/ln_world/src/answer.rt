@@ -2,12 +2,12 @@
 
 ghost use Rattle.std.specs.Prelude.{◌≡◌, IfOk, IfErr, OnOk};
 ghost use Rattle.ln_msgs.specs.declared.refusals.refusal.Refusal.TheVariants as refusal;
-ghost use Rattle.ln_link.specs.State.{refused};
-ghost use Rattle.ln_link.specs.Step.{handled, commanded};
+ghost use Rattle.ln_channel.specs.State.{refused};
+ghost use Rattle.ln_channel.specs.Step.{handled, commanded};
 ghost use Rattle.ln_world.specs.Both.{said_by, left, unchanged, greeting};
 
+use ln_channel::{Command, Output, Unsaved};
 use ln_keys::ChannelKeys;
-use ln_link::{Command, Link, Output};
 use ln_msgs::{Message, Refusal};
 use std::alloc::Global;
 
@@ -23,7 +23,7 @@ pub enum Answer {
 /// A link takes a message. 60 where there is no memory, which halts it.
 pub(crate) fn handle<K: ChannelKeys + Copy>(
     alloc: Global,
-    link: &mut Link<K>,
+    link: &mut Unsaved<K>,
     message: Message,
 ) -> Result<Answer, Refusal>
     ensures said { IfOk result (λ a. handled (K.signer link.old.keys) link.old message ≡ said_by a link.new) }
@@ -40,7 +40,7 @@ pub(crate) fn handle<K: ChannelKeys + Copy>(
 /// A link is given a command. 60 where there is no memory, which halts it.
 pub(crate) fn command<K: ChannelKeys + Copy>(
     alloc: Global,
-    link: &mut Link<K>,
+    link: &mut Unsaved<K>,
     command: Command,
 ) -> Result<Answer, Refusal>
     ensures said { IfOk result (λ a. commanded (K.signer link.old.keys) link.old command ≡ said_by a link.new) }
@@ -58,7 +58,7 @@ pub(crate) fn command<K: ChannelKeys + Copy>(
 /// A link gets a connection. 60 where there is no memory, which halts it.
 pub(crate) fn connect<K: ChannelKeys + Copy>(
     alloc: Global,
-    link: &mut Link<K>,
+    link: &mut Unsaved<K>,
 ) -> Result<Answer, Refusal>
     ensures said { IfOk result (λ a. greeting K.signer link.old ≡ said_by a link.new) }
     ensures link { OnOk result (link.new ≡ left unchanged (greeting K.signer link.old) link.old) }

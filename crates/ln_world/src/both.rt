@@ -6,8 +6,8 @@ ghost use Rattle.ln_world.specs.declared.step.Act.TheVariants as act;
 ghost use Rattle.ln_world.specs.Settings.{channel_id_of};
 ghost use Rattle.ln_pair.specs.Ends.{messages_in};
 ghost use Rattle.ln_world.specs.Lines.{lines_of, replies, refused_lines};
-ghost use Rattle.ln_link.specs.Record.{saved_end};
-ghost use Rattle.ln_link.specs.State.{numbers_of};
+ghost use Rattle.ln_channel.specs.Record.{saved_end};
+ghost use Rattle.ln_channel.specs.State.{numbers_of};
 ghost use Rattle.ln_world.specs.Both.{reaches, sent_by, answer_lines, said_by, delivers, delivered_lines, acts};
 ghost use Rattle.ln_world.specs.Both.{act_lines};
 ghost use Rattle.ln_world.specs.Both.{greeting, greets, greet_lines, meet};
@@ -17,9 +17,9 @@ use crate::line::Line;
 use crate::settings::channel_id_of;
 use crate::step::{Act, End};
 use crate::tell::{reply_of, tell_outputs, tell_refusal};
-use ln_durable::restart;
+use ln_channel::{Channel, Command, Output, Unsaved};
 use ln_keys::{ChannelKeys, Role};
-use ln_link::{Channel, Command, Link, Output};
+use ln_link::restart;
 use ln_msgs::{Message, Refusal};
 use std::alloc::Global;
 use std::collections::VecDeque;
@@ -30,7 +30,7 @@ use std::mem;
 #[derive(Drop)]
 pub struct Place<K: ChannelKeys + Copy> {
     keys: K,
-    link: Link<K>,
+    link: Unsaved<K>,
     inbox: VecDeque<Message>,
 }
 
@@ -56,14 +56,14 @@ fn send_all(outputs: Vec<Output>, inbox: &mut VecDeque<Message>) -> Result<(), R
     Ok(())
 }
 
-fn failure_of<K: ChannelKeys + Copy>(link: &Link<K>) -> Option<Refusal>
+fn failure_of<K: ChannelKeys + Copy>(link: &Unsaved<K>) -> Option<Refusal>
     ensures { result ≡ link.now.failure }
 {
     link.failure()
 }
 
 /// The end of its channel, where both have signed the opening.
-fn end_of<K: ChannelKeys + Copy>(link: &Link<K>) -> Option<&Channel>
+fn end_of<K: ChannelKeys + Copy>(link: &Unsaved<K>) -> Option<&Channel>
     ensures { option_copied result ≡ saved_end link.now.stage }
 {
     link.saved()
@@ -77,7 +77,7 @@ impl<K: ChannelKeys + Copy> Place<K> {
     ghost use Rattle.ln_world.specs.Failing.{ByRecord, LinkLacks};
 
     /// An end without a connection, and nothing in flight to it. Takes no memory.
-    pub(crate) fn new(alloc: Global, keys: K, link: Link<K>) -> Place<K>
+    pub(crate) fn new(alloc: Global, keys: K, link: Unsaved<K>) -> Place<K>
         ensures { result ≡ record { keys = keys; link = link; inbox = [] } }
     {
         Place {
@@ -88,7 +88,7 @@ impl<K: ChannelKeys + Copy> Place<K> {
     }
 
     /// The link.
-    pub fn link(&self) -> &Link<K>
+    pub fn link(&self) -> &Unsaved<K>
         ensures { result.now ≡ self.now.link }
     {
         &self.link
@@ -155,7 +155,7 @@ impl<K: ChannelKeys + Copy> Place<K> {
         Ok(())
     }
 
-    fn come_back(&mut self, link: Link<K>)
+    fn come_back(&mut self, link: Unsaved<K>)
         ensures { self.new ≡ record { keys = self.old.keys; link = link; inbox = [] } }
     {
         drop(mem::replace(&mut self.link, link));
@@ -166,7 +166,7 @@ impl<K: ChannelKeys + Copy> Place<K> {
 /// What a link hands out is told, and joins what is in flight to the other end. 60 where there is no memory.
 fn hand_out<K: ChannelKeys + Copy>(
     end: End,
-    link: &Link<K>,
+    link: &Unsaved<K>,
     outputs: Vec<Output>,
     other: &mut Place<K>,
     lines: &mut Vec<Line>,
@@ -215,7 +215,7 @@ fn refuse<K: ChannelKeys + Copy>(
 fn pass_on<K: ChannelKeys + Copy>(
     alloc: Global,
     end: End,
-    link: &Link<K>,
+    link: &Unsaved<K>,
     answer: Answer,
     other: &mut Place<K>,
     lines: &mut Vec<Line>,
@@ -301,7 +301,7 @@ pub(crate) fn act<K: ChannelKeys + Copy>(
 /// What a link sends over its new connection is told, and in flight to the other end. 60 where there is no memory.
 fn greet<K: ChannelKeys + Copy>(
     end: End,
-    link: &Link<K>,
+    link: &Unsaved<K>,
     answer: Answer,
     other: &mut Place<K>,
     lines: &mut Vec<Line>,

@@ -9,8 +9,8 @@ use crate::both::{Place, act, meet};
 use crate::line::{EndLine, Line};
 use crate::settings::{Settings, fit_config, fit_spec};
 use crate::step::{Act, End, Node, Open};
+use ln_channel::Unsaved;
 use ln_keys::{ChannelKeys, Role};
-use ln_link::Link;
 use ln_msgs::Refusal;
 use std::alloc::Global;
 use std::marker::Model;
@@ -45,7 +45,7 @@ impl<K: ChannelKeys + Copy> Channel<K> {
     ghost use Rattle.ln_world.specs.Both.{By, Falls, Restarts, Meet, act_lines, greet_lines, greeting};
     ghost use Rattle.ln_world.specs.Channel.{side_of, moved, act_moves, fall_moves, up_moves, acted_lines};
     ghost use Rattle.ln_world.specs.Channel.{restart_moves, fallen_lines, place_of, end_of, opening_moves, met_lines};
-    ghost use Rattle.ln_link.specs.Standing.{standing};
+    ghost use Rattle.ln_channel.specs.Standing.{standing};
     ghost use Rattle.ln_world.specs.World.{lines_of_ends};
     ghost use Rattle.ln_world.specs.Failing.{ByRecord, SideLacks};
 
@@ -284,12 +284,12 @@ fn begin<K: ChannelKeys + Copy>(
         funder: Place::new(
             alloc,
             wish.keys.funder,
-            Link::funder(wish.keys.funder, spec),
+            Unsaved::funder(wish.keys.funder, spec),
         ),
         fundee: Place::new(
             alloc,
             wish.keys.fundee,
-            Link::fundee(wish.keys.fundee, config),
+            Unsaved::fundee(wish.keys.fundee, config),
         ),
     })
 }

@@ -1,7 +1,7 @@
 //! What a step did, line by line.
 
 use crate::step::End;
-use ln_link::Standing;
+use ln_channel::Standing;
 use ln_msgs::Refusal;
 
 /// A message, by what a report tells of it.

@@ -5,7 +5,7 @@ ghost use Rattle.std.specs.Prelude.{◌≡◌, ℕ, List, None};
 ghost use Rattle.ln_keys.specs.declared.role.Role.{Role};
 ghost use Rattle.ln_log.specs.Machine.{IsRun};
 ghost use Rattle.ln_log.specs.Events.{events};
-ghost use Rattle.ln_link.specs.Outputs.{numbered};
+ghost use Rattle.ln_channel.specs.Outputs.{numbered};
 ghost use Rattle.ln_pair.specs.Moves.{after_all};
 ghost use Rattle.ln_pair.specs.Told.{as_told, events_in, unnumbered, ClosesLast};
 ghost use Rattle.ln_world.specs.declared.step.Step.{Step};

@@ -6,12 +6,12 @@ ghost use Rattle.ln_world.specs.Settings.{defaults, config_of, txid_of, channel_
 ghost use Rattle.ln_world.specs.Settings.{CanBring};
 ghost use Rattle.ln_world.specs.Channel.{is_node};
 ghost use Rattle.ln_world.specs.World.{settings_of, with_settings};
-ghost use Rattle.ln_link.specs.Config.{IsFitConfig, IsFitSpec};
+ghost use Rattle.ln_channel.specs.Config.{IsFitConfig, IsFitSpec};
 
 use crate::step::Node;
 use ln_bytes::Bytes;
+use ln_channel::{Config, FitConfig, FitSpec, OpenSpec, Points};
 use ln_close::Fees;
-use ln_link::{Config, FitConfig, FitSpec, OpenSpec, Points};
 use ln_log::{Limits, Opening};
 use ln_msgs::{Records, Refusal, channel_id};
 use std::alloc::Global;

@@ -2,9 +2,9 @@
 
 ghost use Rattle.ln_keys.specs.Partners.{ArePartners};
 
+use ln_channel::Command;
 use ln_close::Fees;
 use ln_keys::ChannelKeys;
-use ln_link::Command;
 use ln_log::Limits;
 
 /// A node, by its letter.

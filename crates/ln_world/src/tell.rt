@@ -9,9 +9,9 @@ ghost use Rattle.ln_world.specs.declared.line.Line.TheVariants as line;
 
 use crate::line::{Ending, Line, Word};
 use crate::step::End;
+use ln_channel::Output;
 use ln_dance::Numbers;
 use ln_hooks::{ChannelEvent, How};
-use ln_link::Output;
 use ln_msgs::{Message, Refusal};
 use std::alloc::Global;
 

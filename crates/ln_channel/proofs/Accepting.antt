@@ -1,0 +1,55 @@
+-- What an end keeps as its dance moves on.
+use Rattle.std.proofs.Common.{refl, ap, sym, ◌∙◌, inl, inr, Option, Some, None, ◌≡◌, Result, Ok, Err, OnOk, OnErr}
+use Rattle.std.proofs.Common.{Bool, true, false, IsTrue, IsErrOf, ◌↔◌, if◌then◌else◌}
+use Rattle.ln_msgs.specs.declared.refusals.refusal.Refusal.{Refusal}
+use Rattle.ln_log.specs.Limits.{Answers}
+use Rattle.ln_dance.specs.Dance.{Dancer, AnswersWithin}
+use Rattle.ln_msgs.specs.declared.refusals.refusal.Refusal.TheVariants as refusal
+use Rattle.ln_channel.specs.Opening.{AnswersFault}
+use Rattle.ln_channel.specs.End.{End, IsSound, with_dance}
+
+pub on_ok : {A : Type 0} (r : Result A Refusal) {P Q : Type 0} → (P → Q) → OnOk r P → OnOk r Q
+on_ok (Ok x) f p = f p
+on_ok (Err x) f p = tt
+
+-- one that keeps its role and opening
+pub sound : {A : Type 0} (r : Result A Refusal) (e : End) (new moved : Dancer) → OnOk r (new ≡ moved)
+    → OnErr r (new ≡ e.dance) → moved.log.role ≡ e.dance.log.role → moved.log.opening ≡ e.dance.log.opening
+    → IsSound e → IsSound (with_dance new e)
+sound (Ok x) e new moved ok err role opening s = record {
+  one_role = ap (λ (d : Dancer). d.log.role) ok ∙ role ∙ s.one_role;
+  opening = ap (λ (d : Dancer). d.log.opening) ok ∙ opening ∙ s.opening;
+  fees = s.fees;
+  scripts = s.scripts;
+}
+sound (Err x) e new moved ok err role opening s = record {
+  one_role = ap (λ (d : Dancer). d.log.role) err ∙ s.one_role;
+  opening = ap (λ (d : Dancer). d.log.opening) err ∙ s.opening;
+  fees = s.fees;
+  scripts = s.scripts;
+}
+
+abbrev pub unless_last : Bool → Bool → Option Refusal
+unless_last last right = if last then Some refusal.OutOfPlace else (if right then None else Some refusal.SignatureWrong)
+
+pub within : {A : Type 0} (fault : Option Refusal) (r : Result A Refusal) → Answers fault r → AnswersFault fault r
+within fault (Ok x) a = a
+within fault (Err e) (inl m) = inl (m.0, inl m.1)
+within fault (Err e) (inr n) = inr n
+
+-- the same, behind a test that passed
+pub within_if : {A : Type 0} (b : Bool) (other : Refusal) (fault : Option Refusal) (r : Result A Refusal) → b ≡ true
+    → Answers fault r → AnswersFault (if b then fault else Some other) r
+within_if true other fault r e a = within fault r a
+within_if false other fault r e a = absurd (cc)
+
+-- where a view is made before a signature is looked at
+pub viewed : {A : Type 0} (last right : Bool) (r : Result A Refusal) → AnswersWithin (unless_last last right) r
+    → (IsErrOf r refusal.OutOfPlace ↔ IsTrue last) → AnswersFault (unless_last last right) r
+viewed last right (Ok x) a h = a
+viewed true right (Err e) a h =
+    let q : Err e ≡ Err refusal.OutOfPlace = h.1 refl in let p : e ≡ refusal.OutOfPlace = cc in inr (ap Some (sym p))
+viewed false true (Err e) (inl m) h = inl (m, inl refl)
+viewed false true (Err e) (inr n) h = inr n
+viewed false false (Err e) (inl m) h = inl (m, inr (inl refl))
+viewed false false (Err e) (inr n) h = inr n

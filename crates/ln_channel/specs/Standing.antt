@@ -1,0 +1,63 @@
+-- Where a link stands with its channel.
+use Rattle.std.specs.Prelude.{Option, Some, None, length, if◌then◌else◌, ℕ}
+use Rattle.ln_msgs.specs.declared.refusals.refusal.Refusal.{Refusal}
+use Rattle.ln_keys.specs.declared.role.Role.{Role}
+use Rattle.ln_keys.specs.declared.role.Role.TheVariants.{Funder, Fundee}
+use Rattle.ln_keys.specs.declared.view.View.{View}
+use Rattle.ln_log.specs.declared.log.Pair.TheVariants as pair
+use Rattle.ln_log.specs.declared.log.Side.TheVariants as side
+use Rattle.ln_dance.specs.Dance.{view_at}
+use Rattle.ln_channel.specs.declared.standing.Life.{Life}
+use Rattle.ln_channel.specs.declared.standing.Life.TheVariants as life
+use Rattle.ln_channel.specs.declared.standing.Standing.{Standing}
+use Rattle.ln_channel.specs.declared.unsaved.Stage.{Stage}
+use Rattle.ln_channel.specs.declared.unsaved.Stage.TheVariants as stage
+use Rattle.ln_channel.specs.End.{End, is_ready}
+use Rattle.ln_channel.specs.State.{State}
+
+-- what a commitment gives to a side
+abbrev pub balance_of : Role → View → ℕ
+balance_of Funder v = v.funder
+balance_of Fundee v = v.fundee
+
+abbrev pub other_balance : Role → View → ℕ
+other_balance Funder v = v.fundee
+other_balance Fundee v = v.funder
+
+abbrev pub closed_or : Option ℕ → Life → Life
+closed_or None l = l
+closed_or (Some fee) l = life.Closed fee
+
+abbrev pub failed_or : Option Refusal → Life → Life
+failed_or None l = l
+failed_or (Some r) l = life.Failed r
+
+-- the last that fits: open, ready, its own shutdown sent, closed
+abbrev pub life_of : End → Life
+life_of e =
+    closed_or e.closing.closed
+    (if e.closing.shut then life.Shut else (if is_ready e then life.Ready else life.Open))
+
+abbrev pub standing_of : Life → View → End → Standing
+standing_of l v e = record {
+  signed = e.dance.log.signed.own;
+  own_held = e.dance.log.current.own;
+  peer_held = e.dance.log.acknowledged.peer;
+  own = balance_of e.closing.role v;
+  peer = other_balance e.closing.role v;
+  live = length v.htlcs;
+  life = l;
+}
+
+-- where the opening isn't signed by both
+abbrev pub unsigned : Life → Standing
+unsigned l = record { signed = 0; own_held = 0; peer_held = 0; own = 0; peer = 0; live = 0; life = l }
+
+abbrev pub stands_at : Option Refusal → Stage → Standing
+stands_at failure (stage.Saved e) =
+    standing_of (failed_or failure (life_of e)) (view_at (pair.Current side.Own) e.dance) e
+stands_at failure s = unsigned (failed_or failure life.Open)
+
+-- where a link stands: what its last signature covers, what it holds, and what its own commitment is worth
+abbrev pub standing : {K : Type 0} → State K → Standing
+standing l = stands_at l.failure l.stage

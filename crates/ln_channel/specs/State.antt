@@ -1,0 +1,89 @@
+-- One link: one end of a channel from its opening to its close, with the connection that it has (BOLT 2).
+use Rattle.std.specs.Prelude.{◌≡◌, Bool, true, false, Option, Some, None, if◌then◌else◌}
+use Rattle.ln_msgs.specs.declared.refusals.refusal.Refusal.{Refusal}
+use Rattle.ln_dance.specs.declared.dance.Numbers.{Numbers}
+use Rattle.ln_channel.specs.declared.unsaved.Line.{Line}
+use Rattle.ln_channel.specs.declared.unsaved.Line.TheVariants as line
+use Rattle.ln_channel.specs.declared.unsaved.Stage.{Stage}
+use Rattle.ln_channel.specs.declared.unsaved.Stage.TheVariants as stage
+use Rattle.ln_channel.specs.Failing.{fails}
+use Rattle.ln_channel.specs.End.{end_dropped}
+
+pub record State (K : Type 0) : Type 0 where
+  pub keys : K
+  pub line : Line
+  pub halted : Bool
+  pub failure : Option Refusal
+  pub stage : Stage
+
+-- what is kept stands for this link: today it has all of it whole
+abbrev pub StandsFor : {K : Type 0} → State K → State K → Type 0
+StandsFor kept l = kept ≡ l
+
+-- ---- how a link begins: it has no connection yet
+
+abbrev pub begun : {K : Type 0} → K → Stage → State K
+begun keys s = record { keys = keys; line = line.Down; halted = false; failure = None; stage = s }
+
+-- ---- where it stands
+
+abbrev pub is_down : Line → Bool
+is_down line.Down = true
+is_down line.Awaiting = false
+is_down line.Met = false
+
+abbrev pub is_met : Line → Bool
+is_met line.Down = false
+is_met line.Awaiting = false
+is_met line.Met = true
+
+-- the opening is signed by both, and kept
+abbrev pub is_saved : Stage → Bool
+is_saved (stage.Saved e) = true
+is_saved s = false
+
+-- ---- a channel that fails
+
+-- an opening that isn't signed is gone
+abbrev pub lost : Stage → Stage
+lost s = if is_saved s then s else stage.Gone
+
+-- the refusal is kept, and answered from then on
+abbrev pub failed : {K : Type 0} → Refusal → State K → State K
+failed r l = record l { failure = Some r; stage = lost l.stage }
+
+-- a link that had halted or failed before stays as it is
+abbrev pub fails_by : {K : Type 0} → Refusal → State K → State K
+fails_by r l = if fails r then failed r l else l
+
+abbrev pub unless_failed : {K : Type 0} → Option Refusal → State K → State K → State K
+unless_failed None l fresh = fresh
+unless_failed (Some r) l fresh = l
+
+abbrev pub refused : {K : Type 0} → Refusal → State K → State K
+refused r l = if l.halted then l else unless_failed l.failure l (fails_by r l)
+
+-- ---- a connection that is lost (BOLT 2, "Message Retransmission")
+
+-- updates that no signature covers are gone, and so is an opening that isn't signed by both
+abbrev pub cut : Stage → Stage
+cut (stage.Saved e) = stage.Saved (end_dropped e)
+cut s = stage.Gone
+
+abbrev pub drops : {K : Type 0} → State K → State K
+drops l = if is_down l.line then l else record l { line = line.Down; stage = cut l.stage }
+
+-- it answers nothing any more
+abbrev pub halts : {K : Type 0} → State K → State K
+halts l = record (drops l) { halted = true }
+
+-- ---- what is told of it
+
+-- the numbers of an end's commitments; none before an opening is agreed to
+abbrev pub no_numbers : Numbers
+no_numbers = record { commitment = 0; signed = 0; revoked = 0 }
+
+abbrev pub numbers_of : Stage → Numbers
+numbers_of (stage.AwaitsSigned e) = e.dance.numbers
+numbers_of (stage.Saved e) = e.dance.numbers
+numbers_of s = no_numbers

@@ -1,0 +1,239 @@
+-- What a call makes of a link (BOLT 1 and 2).
+use Rattle.std.specs.Prelude.{◌≡◌, ◌⊎◌, List, [], ◌∷◌, Bool, true, false, not, Option, Some, None, Result, Ok, Err}
+use Rattle.std.specs.Prelude.{if◌then◌else◌}
+use Rattle.ln_bytes.specs.Answers.{fault_of, Leaves}
+use Rattle.ln_msgs.specs.declared.messages.message.Message.{Message}
+use Rattle.ln_msgs.specs.declared.messages.message.Message.TheVariants as message
+use Rattle.ln_msgs.specs.declared.messages.opening.OpenChannel.{OpenChannel}
+use Rattle.ln_msgs.specs.declared.messages.opening.AcceptChannel.{AcceptChannel}
+use Rattle.ln_msgs.specs.declared.messages.opening.FundingCreated.{FundingCreated}
+use Rattle.ln_msgs.specs.declared.messages.opening.FundingSigned.{FundingSigned}
+use Rattle.ln_msgs.specs.declared.refusals.refusal.Refusal.{Refusal}
+use Rattle.ln_msgs.specs.declared.refusals.refusal.Refusal.TheVariants as refusal
+use Rattle.ln_keys.specs.Signer.{Signer}
+use Rattle.ln_log.specs.Limits.{first_fault as first_of}
+use Rattle.ln_dance.specs.Resume.{reestablish_message}
+use Rattle.ln_channel.specs.declared.command.Command.{Command}
+use Rattle.ln_channel.specs.declared.command.Command.TheVariants as command
+use Rattle.ln_channel.specs.declared.unsaved.Line.{Line}
+use Rattle.ln_channel.specs.declared.unsaved.Line.TheVariants as line
+use Rattle.ln_channel.specs.declared.unsaved.Stage.{Stage}
+use Rattle.ln_channel.specs.declared.unsaved.Stage.TheVariants as stage
+use Rattle.ln_channel.specs.declared.output.Output.{Output}
+use Rattle.ln_channel.specs.declared.output.Output.TheVariants as output
+use Rattle.ln_channel.specs.Outputs.{Handed, all_of}
+use Rattle.ln_channel.specs.Opening.{unless, open_message, open_taken, accept_taken, created_taken}
+use Rattle.ln_channel.specs.Opening.{first_fault, MayLack, Lacks}
+use Rattle.ln_channel.specs.End.{End, Turn, end_of}
+use Rattle.ln_channel.specs.Taking.{taken}
+use Rattle.ln_channel.specs.Resume.{resume_row}
+use Rattle.ln_channel.specs.Commands.{command_row, unready_fault}
+use Rattle.ln_channel.specs.Naming.{named, is_meant, is_other}
+use Rattle.ln_channel.specs.Failing.{fails}
+use Rattle.ln_channel.specs.State.{State, is_down, is_met, lost, refused}
+
+-- what a call leaves, and what it hands out
+pub record Done : Type 0 where
+  pub line : Line
+  pub stage : Stage
+  pub outputs : List Output
+
+-- ---- a channel that is being opened: each message has its stage (BOLT 2, "Channel Establishment v1")
+
+abbrev pub replied : {A M : Type 0} → Line → (A → Stage) → (M → Message) → Result (A × M) Refusal → Result Done Refusal
+replied l to by (Ok r) = Ok (record { line = l; stage = to r.0; outputs = output.Send (by r.1) ∷ [] })
+replied l to by (Err r) = Err r
+
+abbrev pub open_at : Signer → Line → OpenChannel → Stage → Result Done Refusal
+open_at keys l m (stage.AwaitsOpen c) = replied l stage.AwaitsCreated message.AcceptChannel (open_taken keys c m)
+open_at keys l m s = Err refusal.OutOfPlace
+
+abbrev pub accept_at : Signer → Line → AcceptChannel → Stage → Result Done Refusal
+accept_at keys l m (stage.AwaitsAccept s) =
+    replied l (λ o. stage.AwaitsSigned (end_of o)) message.FundingCreated (accept_taken keys s m)
+accept_at keys l m s = Err refusal.OutOfPlace
+
+abbrev pub created_at : Signer → Line → FundingCreated → Stage → Result Done Refusal
+created_at keys l m (stage.AwaitsCreated a) =
+    replied l (λ o. stage.Saved (end_of o)) message.FundingSigned (created_taken keys a m)
+created_at keys l m s = Err refusal.OutOfPlace
+
+abbrev pub signed_at : Signer → Line → FundingSigned → Stage → Result Done Refusal
+signed_at keys l m (stage.AwaitsSigned e) =
+    unless (first_fault keys e.dance m.signature) (record { line = l; stage = stage.Saved e; outputs = [] })
+signed_at keys l m s = Err refusal.OutOfPlace
+
+abbrev pub saved : Stage → Stage
+saved (stage.AwaitsSigned e) = stage.Saved e
+saved s = s
+
+abbrev pub opening_at : Signer → Line → Message → Stage → Result Done Refusal
+opening_at keys l (message.OpenChannel m) s = open_at keys l m s
+opening_at keys l (message.AcceptChannel m) s = accept_at keys l m s
+opening_at keys l (message.FundingCreated m) s = created_at keys l m s
+opening_at keys l (message.FundingSigned m) s = signed_at keys l m s
+opening_at keys l m s = Err refusal.OutOfPlace
+
+-- ---- an open channel: until the peer's channel_reestablish has come, nothing else may (BOLT 2, "Message
+-- Retransmission")
+
+abbrev pub turned : Line → Result Turn Refusal → Result Done Refusal
+turned l (Ok t) = Ok (record { line = l; stage = stage.Saved t.end; outputs = all_of t.handed })
+turned l (Err r) = Err r
+
+abbrev pub awaiting_at : Signer → Message → End → Result Done Refusal
+awaiting_at keys (message.ChannelReestablish m) e = turned line.Met (resume_row keys m e)
+awaiting_at keys m e = Err refusal.OutOfPlace
+
+abbrev pub saved_at : Signer → Line → Message → End → Result Done Refusal
+saved_at keys l m e = if is_met l then turned l (taken keys m e) else awaiting_at keys m e
+
+abbrev pub stage_row : Signer → Line → Message → Stage → Result Done Refusal
+stage_row keys l m (stage.Saved e) = saved_at keys l m e
+stage_row keys l m s = opening_at keys l m s
+
+-- ---- what is looked at before the channel
+
+-- a warning, an error for another channel, and what is of no channel
+abbrev pub is_passed_over : Stage → Message → Bool
+is_passed_over s (message.Warning m) = true
+is_passed_over s (message.Init m) = true
+is_passed_over s (message.Ping m) = true
+is_passed_over s (message.Pong m) = true
+is_passed_over s (message.Error m) = not (is_meant s m.channel_id)
+is_passed_over s m = false
+
+-- another channel's message (20), and one that comes without a connection (21)
+abbrev pub stray_fault : Line → Stage → Message → Option Refusal
+stray_fault l s m =
+    if is_other (named m) s then Some refusal.UnknownChannel else (if is_down l then Some refusal.OutOfPlace else None)
+
+-- an error for the channel (37)
+abbrev pub error_fault : Message → Option Refusal
+error_fault (message.Error m) = Some refusal.PeerError
+error_fault m = None
+
+-- the first of them
+abbrev pub message_fault : Line → Stage → Message → Option Refusal
+message_fault l s m = first_of (error_fault m) (stray_fault l s m)
+
+abbrev pub faulted : {A : Type 0} → Option Refusal → Result A Refusal → Result A Refusal
+faulted None row = row
+faulted (Some r) row = Err r
+
+abbrev pub at_hand : Signer → Line → Message → Stage → Result Done Refusal
+at_hand keys l m s =
+    if is_passed_over s m then Ok (record { line = l; stage = s; outputs = [] })
+    else faulted (message_fault l s m) (stage_row keys l m s)
+
+-- a message: 62, then the number by which the channel has failed
+abbrev pub handled : {K : Type 0} → Signer → State K → Message → Result Done Refusal
+handled keys l m = if l.halted then Err refusal.Halted else faulted l.failure (at_hand keys l.line m l.stage)
+
+-- ---- a command
+
+-- those about records are for later, and 40
+abbrev pub is_of_records : Command → Bool
+is_of_records (command.Decide event mark) = true
+is_of_records (command.Forget id) = true
+is_of_records c = false
+
+-- what sends needs a connection on which the peer was met (47)
+abbrev pub line_fault : Line → Option Refusal
+line_fault l = if is_met l then None else Some refusal.Disconnected
+
+abbrev pub obeyed_open : Signer → Line → Command → End → Result Done Refusal
+obeyed_open keys l c e = faulted (unready_fault c e) (faulted (line_fault l) (turned l (command_row keys c e)))
+
+abbrev pub obeyed : Signer → Line → Command → Stage → Result Done Refusal
+obeyed keys l c (stage.Saved e) = obeyed_open keys l c e
+obeyed keys l c s = Err refusal.NotReady
+
+abbrev pub commanded : {K : Type 0} → Signer → State K → Command → Result Done Refusal
+commanded keys l c =
+    if l.halted then Err refusal.Halted
+    else (if is_of_records c then Err refusal.NotReady else faulted l.failure (obeyed keys l.line c l.stage))
+
+-- ---- a connection
+
+abbrev pub connects : Signer → Stage → Result Done Refusal
+connects keys (stage.AwaitsOpen c) = Ok (record { line = line.Met; stage = stage.AwaitsOpen c; outputs = [] })
+connects keys (stage.AwaitsAccept s) =
+    Ok (record {
+      line = line.Met;
+      stage = stage.AwaitsAccept s;
+      outputs = output.Send (message.OpenChannel (open_message keys s)) ∷ [];
+    })
+connects keys (stage.Saved e) =
+    Ok (record {
+      line = line.Awaiting;
+      stage = stage.Saved e;
+      outputs = output.Send (message.ChannelReestablish (reestablish_message keys e.dance)) ∷ [];
+    })
+connects keys s = Err refusal.NotReady
+
+abbrev pub connected : {K : Type 0} → Signer → State K → Result Done Refusal
+connected keys l =
+    if l.halted then Err refusal.Halted
+    else (if is_down l.line then connects keys l.stage else Err refusal.NotReady)
+
+-- ---- answers
+
+-- want of memory halts; else a call answers what is said of it, and leaves the link so, or as it leaves it where it
+-- refuses
+abbrev pub AnsweredBy : {K V : Type 0} → (V → List Output) → Result Done Refusal → State K → (Refusal → State K)
+    → Result V Refusal → State K → Type 0
+AnsweredBy outs said l after (Ok v) new =
+    (said ≡ Ok (record { line = new.line; stage = new.stage; outputs = outs v }))
+    × (new ≡ record l { line = new.line; stage = new.stage })
+AnsweredBy outs said l after (Err e) new =
+    ((e ≡ refusal.Memory) × (new.halted ≡ true) × MayLack (fault_of said))
+    ⊎ ((said ≡ Err e) × (new ≡ after e))
+
+-- a message: a refusal by which a channel fails is kept
+abbrev pub AnsweredMessage : {K V : Type 0} → (V → List Output) → Result Done Refusal → State K → Result V Refusal
+    → State K → Type 0
+AnsweredMessage outs said l result new = AnsweredBy outs said l (λ e. refused e l) result new
+
+-- a command, or a connection: refused, nothing has changed
+abbrev pub Answered : {K V : Type 0} → (V → List Output) → Result Done Refusal → State K → Result V Refusal
+    → State K → Type 0
+Answered outs said l result new = AnsweredBy outs said l (λ e. l) result new
+
+-- ---- the parts of an answer
+
+-- what is left of a stage behind a refusal: all of it, or nothing of an opening that fails
+pub record IsLeft (r : Refusal) (s s' : Stage) : Type 0 where
+  pub unless_it_fails : fails r ≡ false → s' ≡ s
+  pub then_lost : lost s' ≡ lost s
+
+-- a stage and a line, by what is said of them
+abbrev pub Moves : Result Done Refusal → Result Handed Refusal → Line → Line → Stage → Stage → Type 0
+Moves said answer l l' s s' =
+    Leaves Lacks (λ h. record { line = l'; stage = s'; outputs = all_of h }) (λ e. (l' ≡ l) × IsLeft e s s') said answer
+
+-- a link that leaves its line and stage so, or as they were
+abbrev pub MovesBy : {K : Type 0} → Result Done Refusal → Result Handed Refusal → State K → State K → Type 0
+MovesBy said (Ok h) l new =
+    (said ≡ Ok (record { line = new.line; stage = new.stage; outputs = all_of h }))
+    × (new ≡ record l { line = new.line; stage = new.stage })
+MovesBy said (Err e) l new = Lacks e (fault_of said) ⊎ ((said ≡ Err e) × (new ≡ l))
+
+abbrev pub Takes : {K : Type 0} → Result Done Refusal → Result Handed Refusal → State K → State K → Type 0
+Takes said (Ok h) l new =
+    (said ≡ Ok (record { line = new.line; stage = new.stage; outputs = all_of h }))
+    × (new ≡ record l { line = new.line; stage = new.stage })
+Takes said (Err e) l new =
+    Lacks e (fault_of said) ⊎ ((said ≡ Err e) × (new ≡ record l { stage = new.stage }) × IsLeft e l.stage new.stage)
+
+-- an end that isn't replaced, with its line
+abbrev pub MovesEnd : Result Done Refusal → Result Handed Refusal → Line → Line → End → End → Type 0
+MovesEnd said answer l l' e e' =
+    Leaves Lacks (λ h. record { line = l'; stage = stage.Saved e'; outputs = all_of h }) (λ r. (l' ≡ l) × (e' ≡ e)) said
+    answer
+
+-- a stage of the opening, which is replaced; where it refuses, the channel fails
+abbrev pub Becomes : Line → Result Done Refusal → Result Handed Refusal → Stage → Type 0
+Becomes l said answer s' =
+    Leaves Lacks (λ h. record { line = l; stage = s'; outputs = all_of h }) (λ e. (fails e ≡ true) × (s' ≡ stage.Gone))
+    said answer

@@ -1,0 +1,327 @@
+//! What each command makes of an end.
+
+use crate::channel::Channel;
+use crate::command::Command;
+use crate::config::LONGEST_SCRIPT;
+use crate::output::{Outbox, Output, one};
+use ln_bytes::{Bytes, ShortId};
+use ln_dance::{add_message, fail_message, fee_message, fulfil_message, malformed_message};
+use ln_keys::ChannelKeys;
+use ln_log::{Add, Fail, Fee, Fulfil, Malformed, Side, Update};
+use ln_msgs::{ChannelReady, CommitmentSigned, Message, PeerRule, Records, Refusal};
+use std::alloc::Global;
+
+impl Channel {
+    ghost use Rattle.std.specs.Prelude.{◌≡◌, length, OnOk, IfOk, OnErr};
+    ghost use Rattle.ln_log.specs.declared.update.Update.TheVariants as update;
+    ghost use Rattle.ln_log.specs.Updates.{next_id};
+    ghost use Rattle.ln_log.specs.Limits.{HasNextId};
+    ghost use Rattle.ln_log.specs.Log.{proposal_fault};
+    ghost use Rattle.ln_dance.specs.Dance.{signed_message};
+    ghost use Rattle.ln_channel.specs.Opening.{AnswersFault};
+    ghost use Rattle.ln_channel.specs.End.{Makes};
+    ghost use Rattle.ln_channel.specs.Commands.{confirm_row, ready_message, shut_by_either, closed_fault, own_fault};
+    ghost use Rattle.ln_channel.specs.Commands.{propose_fault, proposes, propose_row, sign_command_fault, signs_next};
+    ghost use Rattle.ln_channel.specs.Commands.{sign_row, shut_fault, shut_row, command_row, unready_fault};
+
+    /// The funding is deep enough: sends `channel_ready` (BOLT 2, "The `channel_ready` Message"). 40 where it was sent,
+    /// or the channel is closed.
+    fn confirm<K: ChannelKeys>(
+        &mut self,
+        alloc: Global,
+        keys: &K,
+        short_id: ShortId,
+    ) -> Result<Outbox, Refusal>
+        ensures { Makes (confirm_row (K.signer keys.now) short_id self.old) result self.old self.new }
+    {
+        if self.marks.ready_sent || self.is_closed() {
+            return Err(Refusal::NotReady);
+        }
+        let ready = self.ready_message(alloc, keys);
+        self.marks.short_id = Some(short_id);
+        self.marks.ready_sent = true;
+        one(alloc, Message::ChannelReady(ready))
+    }
+
+    pub(crate) fn ready_message<K: ChannelKeys>(&self, alloc: Global, keys: &K) -> ChannelReady
+        ensures { result ≡ ready_message (K.signer keys.now) self.now }
+    {
+        ChannelReady {
+            channel_id: self.dance.channel(),
+            second_point: keys.point(1),
+            records: Records::empty(alloc),
+        }
+    }
+
+    // Whether neither side has shut down.
+    fn shut_refusal(&self) -> Option<Refusal>
+        ensures { result ≡ shut_by_either self.now }
+    {
+        if self.closing.shut || self.closing.peer_shut {
+            Some(Refusal::Shut)
+        } else {
+            None
+        }
+    }
+
+    fn closed_refusal(&self, update: &Update) -> Option<Refusal>
+        ensures { result ≡ closed_fault self.now update.now }
+    {
+        match update {
+            Update::Add(_) => self.shut_refusal(),
+            Update::Fulfil(_) => None,
+            Update::Fail(_) => None,
+            Update::Malformed(_) => None,
+            Update::Fee(_) => self.shut_refusal(),
+        }
+    }
+
+    // What keeps this side from an update that the log doesn't know of.
+    fn own_refusal(&self, update: &Update) -> Option<Refusal>
+        ensures { result ≡ own_fault self.now update.now }
+    {
+        if !self.is_ready() {
+            return Some(Refusal::NotReady);
+        }
+        if self.dance.log().is_at_update_limit(Side::Own) {
+            return Some(Refusal::NumbersSpent);
+        }
+        self.closed_refusal(update)
+    }
+
+    // Proposes an update to the log.
+    fn propose_next(&mut self, update: Update) -> Result<(), Refusal>
+        requires { HasNextId self.old.dance.log.own update }
+        ensures refuses_exactly { AnswersFault (proposal_fault self.old.dance.log update) result }
+        ensures state { OnOk result (self.new ≡ proposes update self.old) }
+        ensures changes_nothing_if_refused { OnErr result (self.new ≡ self.old) }
+    {
+        self.dance.propose(update)
+    }
+
+    // Proposes an update, which has the next id where it is an add.
+    fn propose(&mut self, update: Update) -> Result<(), Refusal>
+        requires { HasNextId self.old.dance.log.own update }
+        ensures refuses_exactly { AnswersFault (propose_fault self.old update) result }
+        ensures state { OnOk result (self.new ≡ proposes update self.old) }
+        ensures changes_nothing_if_refused { OnErr result (self.new ≡ self.old) }
+    {
+        match self.own_refusal(&update) {
+            Some(refusal) => Err(refusal),
+            None => self.propose_next(update),
+        }
+    }
+
+    /// Offers an HTLC with the next id (BOLT 2, "Adding an HTLC: `update_add_htlc`").
+    ///
+    /// Errors: 40 before both sides have confirmed; 46 where this side has 2^62 updates; 43 where either side has shut
+    /// down; 44 with the number by which the peer would refuse it, 23 to 27; 60.
+    fn offer(&mut self, alloc: Global, add: Add) -> Result<Outbox, Refusal>
+        requires { add.id ≡ next_id self.old.dance.log.own }
+        ensures { Makes (propose_row (update.Add add) self.old) result self.old self.new }
+    {
+        self.propose(Update::Add(add))?;
+        let message = add_message(alloc, self.dance.channel(), &add);
+        one(alloc, Message::UpdateAddHtlc(message))
+    }
+
+    /// Fulfils an HTLC of the peer's (BOLT 2, "Removing an HTLC: `update_fulfill_htlc`").
+    ///
+    /// Errors: 40 and 46 as for an offer; 44 with 28 where there is no such HTLC, 49 where it is removed, 48
+    /// where it isn't held as irrevocably committed; 44 with 29 for a wrong preimage; 60.
+    fn fulfil(&mut self, alloc: Global, fulfil: Fulfil) -> Result<Outbox, Refusal>
+        ensures { Makes (propose_row (update.Fulfil fulfil) self.old) result self.old self.new }
+    {
+        self.propose(Update::Fulfil(fulfil))?;
+        let message = fulfil_message(alloc, self.dance.channel(), &fulfil);
+        one(alloc, Message::UpdateFulfillHtlc(message))
+    }
+
+    /// Fails an HTLC of the peer's (BOLT 2, "Removing an HTLC: `update_fail_htlc`").
+    ///
+    /// Errors: as for a fulfilment, but 44 with 7 for a reason of more than 65,491 bytes in place of 44 with 29.
+    fn fail(&mut self, alloc: Global, fail: Fail) -> Result<Outbox, Refusal>
+        ensures { Makes (propose_row (update.Fail fail) self.old) result self.old self.new }
+    {
+        let message = fail_message(alloc, self.dance.channel(), &fail);
+        self.propose(Update::Fail(fail))?;
+        one(alloc, Message::UpdateFailHtlc(message?))
+    }
+
+    /// Fails an HTLC of the peer's whose onion can't be read (BOLT 2, "Removing an HTLC:
+    /// `update_fail_malformed_htlc`").
+    ///
+    /// Errors: as for a fulfilment, but 44 with 21 for a code without the BADONION bit, 0x8000, in place of 44 with 29.
+    fn fail_malformed(&mut self, alloc: Global, malformed: Malformed) -> Result<Outbox, Refusal>
+        ensures { Makes (propose_row (update.Malformed malformed) self.old) result self.old self.new }
+    {
+        self.propose(Update::Malformed(malformed))?;
+        let message = malformed_message(alloc, self.dance.channel(), &malformed);
+        one(alloc, Message::UpdateFailMalformedHtlc(message))
+    }
+
+    /// Changes the feerate, in satoshi per 1000 weight (BOLT 2, "Updating Fees: `update_fee`").
+    ///
+    /// Errors: 40, 46 and 43 as for an offer; 44 with 30 at the fundee; 60.
+    fn change_fee(&mut self, alloc: Global, fee: Fee) -> Result<Outbox, Refusal>
+        ensures { Makes (propose_row (update.Fee fee) self.old) result self.old self.new }
+    {
+        self.propose(Update::Fee(fee))?;
+        let message = fee_message(alloc, self.dance.channel(), &fee);
+        one(alloc, Message::UpdateFee(message))
+    }
+
+    // The id of the next HTLC that it offers.
+    fn next_id(&self) -> u64
+        ensures { result ≡ next_id self.now.dance.log.own }
+    {
+        self.dance.log().next_id()
+    }
+
+    // Signs the peer's next commitment.
+    fn sign_next<K: ChannelKeys>(
+        &mut self,
+        alloc: Global,
+        keys: &K,
+    ) -> Result<CommitmentSigned, Refusal>
+        ensures refuses_exactly { AnswersFault (sign_command_fault self.old) result }
+        ensures message { IfOk result (λ m. m ≡ signed_message (K.signer keys.now) self.old.dance) }
+        ensures state { OnOk result (self.new ≡ signs_next self.old) }
+        ensures changes_nothing_if_refused { OnErr result (self.new ≡ self.old) }
+    {
+        if !self.is_ready() {
+            return Err(Refusal::NotReady);
+        }
+        self.dance.sign(alloc, keys)
+    }
+
+    /// Signs the peer's next commitment (BOLT 2, "Committing Updates So Far: `commitment_signed`").
+    ///
+    /// Errors: 40 before both sides have confirmed; 41 where a signature is unrevoked, 42 where nothing would be
+    /// new, 46 behind the last number; 60.
+    fn sign<K: ChannelKeys>(&mut self, alloc: Global, keys: &K) -> Result<Outbox, Refusal>
+        ensures { Makes (sign_row (K.signer keys.now) self.old) result self.old self.new }
+    {
+        let covered = self.own_len();
+        let message = self.sign_next(alloc, keys)?;
+        let mut outbox = Outbox::new(alloc);
+        outbox.send(Message::CommitmentSigned(message))?;
+        outbox.tell(Output::Signed(covered as u64))?;
+        Ok(outbox)
+    }
+
+    // How many own updates there are.
+    fn own_len(&self) -> usize
+        ensures { result ≡ length self.now.dance.log.own }
+    {
+        self.dance.log().len(Side::Own)
+    }
+
+    // What keeps this side from shutting down.
+    fn shutdown_refusal(&self, script: &Bytes) -> Option<Refusal>
+        ensures { result ≡ shut_fault script.now self.now }
+    {
+        if self.closing.shut {
+            return Some(Refusal::Shut);
+        }
+        if !self.all_acknowledged() {
+            return Some(Refusal::UpdatesPending);
+        }
+        if script.len() > LONGEST_SCRIPT {
+            return Some(Refusal::PeerLimit(PeerRule::TooLong));
+        }
+        None
+    }
+
+    /// Sends shutdown with this script (BOLT 2, "Closing Initiation: `shutdown`"): 43 where it was sent, 45 where own
+    /// updates are pending, 44 with 7 for a script of more than 65,499 bytes.
+    fn shut<K: ChannelKeys>(
+        &mut self,
+        alloc: Global,
+        keys: &K,
+        script: Bytes,
+    ) -> Result<Outbox, Refusal>
+        ensures { Makes (shut_row (K.signer keys.now) script self.old) result self.old self.new }
+    {
+        match self.shutdown_refusal(&script) {
+            Some(refusal) => return Err(refusal),
+            None => {}
+        }
+        self.terms.script = script;
+        self.closing.shut();
+        let message = self.shutdown_message(alloc)?;
+        let mut outbox = one(alloc, Message::Shutdown(message))?;
+        self.settle(alloc, keys, &mut outbox)?;
+        Ok(outbox)
+    }
+
+    /// What isn't ready for a command, which is told before that the peer isn't there.
+    pub fn unready_refusal(&self, command: &Command) -> Option<Refusal>
+        ensures { result ≡ unready_fault command.now self.now }
+    {
+        match command {
+            Command::Confirm(_) => {
+                if self.marks.ready_sent || self.is_closed() {
+                    Some(Refusal::NotReady)
+                } else {
+                    None
+                }
+            }
+            Command::Shutdown(_) => None,
+            _ => {
+                if self.is_ready() {
+                    None
+                } else {
+                    Some(Refusal::NotReady)
+                }
+            }
+        }
+    }
+
+    /// What a command makes of the end.
+    pub fn command<K: ChannelKeys>(
+        &mut self,
+        alloc: Global,
+        keys: &K,
+        command: Command,
+    ) -> Result<Outbox, Refusal>
+        ensures { Makes (command_row (K.signer keys.now) command self.old) result self.old self.new }
+    {
+        match command {
+            Command::Confirm(short_id) => self.confirm(alloc, keys, short_id),
+            Command::Add {
+                amount,
+                hash,
+                expiry,
+                onion,
+                origin,
+            } => {
+                let id = self.next_id();
+                let add = Add {
+                    id,
+                    amount,
+                    hash,
+                    expiry,
+                    onion,
+                    origin,
+                };
+                self.offer(alloc, add)
+            }
+            Command::Fulfil { id, preimage } => self.fulfil(alloc, Fulfil { id, preimage }),
+            Command::Fail { id, reason } => self.fail(alloc, Fail { id, reason }),
+            Command::Malformed { id, sha, code } => {
+                let malformed = Malformed {
+                    id,
+                    sha256_of_onion: sha,
+                    failure_code: code,
+                };
+                self.fail_malformed(alloc, malformed)
+            }
+            Command::Fee(feerate) => self.change_fee(alloc, Fee { feerate }),
+            Command::Sign => self.sign(alloc, keys),
+            Command::Shutdown(script) => self.shut(alloc, keys, script),
+            Command::Decide { .. } => Err(Refusal::NotReady),
+            Command::Forget(_) => Err(Refusal::NotReady),
+        }
+    }
+}

@@ -1,0 +1,121 @@
+//! What a message and a command make of a link.
+
+use crate::command::Command;
+use crate::output::{Outbox, Output};
+use crate::stage::{fails, obey_open};
+use crate::unsaved::{Stage, Unsaved};
+use ln_keys::ChannelKeys;
+use ln_msgs::{Message, Refusal};
+use std::alloc::Global;
+
+impl<K: ChannelKeys + Drop> Unsaved<K> {
+    ghost use Rattle.std.specs.Prelude.{◌≡◌};
+    ghost use Rattle.ln_channel.specs.State.{State, StandsFor, fails_by};
+    ghost use Rattle.ln_channel.specs.Step.{AnsweredMessage, Answered, handled, commanded, at_hand, obeyed, MovesBy};
+    ghost use Rattle.ln_channel.specs.Step.{Takes};
+
+    /// Takes a message: what it makes of the link, and what is handed out.
+    ///
+    /// Errors, the first that holds: 62 where the link has halted; the number by which it has failed; 37 for an error
+    /// for its channel or for all; 20 for another channel's message; 21 where there is no connection; then those of the
+    /// message, with 21 for one that may not come now. By 21 to 35 and 37 the channel has failed; an opening that isn't
+    /// signed by both is gone then. By 20 and 36 nothing has changed. 60 where there is no memory, which halts it.
+    ///
+    /// A warning is passed over, and so are an error for another channel, `init`, `ping` and `pong`.
+    pub fn handle(&mut self, alloc: Global, message: Message) -> Result<Vec<Output>, Refusal>
+        ensures { (l : State K) → StandsFor self.old l
+            → AnsweredMessage (λ v. v.items) (handled (K.signer l.keys) l message) l result self.new }
+    {
+        if self.halted {
+            drop(message);
+            return Err(Refusal::Halted);
+        }
+        match self.failure {
+            Some(failure) => {
+                drop(message);
+                return Err(failure);
+            }
+            None => {}
+        }
+        match self.take(alloc, message) {
+            Ok(outbox) => self.hand_out(outbox),
+            Err(Refusal::Memory) => Err(self.halted_by_memory()),
+            Err(refusal) => Err(self.refused_by(refusal)),
+        }
+    }
+
+    // A refusal is kept, where the channel fails by it.
+    fn refused_by(&mut self, refusal: Refusal) -> Refusal
+        ensures refusal { result ≡ refusal }
+        ensures state { self.new ≡ fails_by refusal self.old }
+    {
+        if fails(refusal) {
+            self.failure = Some(refusal);
+            self.stage.lose();
+        }
+        refusal
+    }
+
+    // Takes a message, unless it is passed over.
+    fn take(&mut self, alloc: Global, message: Message) -> Result<Outbox, Refusal>
+        ensures { Takes (at_hand (K.signer self.old.keys) self.old.line message self.old.stage)
+            result self.old self.new }
+    {
+        if self.stage.is_passed_over(&message) {
+            drop(message);
+            return Ok(Outbox::new(alloc));
+        }
+        match self.stage.message_refusal(self.line, &message) {
+            Some(refusal) => {
+                drop(message);
+                return Err(refusal);
+            }
+            None => {}
+        }
+        self.stage.take(alloc, &self.keys, &mut self.line, message)
+    }
+
+    /// Does what it is told: what it makes of the link, and what is handed out. Where it refuses nothing has changed,
+    /// but for 60.
+    ///
+    /// Errors, the first that holds: 62 where the link has halted; 40 for what is about decisions, as it keeps none
+    /// yet; the number by which it has failed; 40 where its opening isn't signed by both, or the channel isn't ready
+    /// for the command; 47 where there is no connection, or the peer's `channel_reestablish` hasn't come; then those of
+    /// the command, 41 to 46, 48 and 49. 60 where there is no memory, which halts it.
+    pub fn command(&mut self, alloc: Global, command: Command) -> Result<Vec<Output>, Refusal>
+        ensures { (l : State K) → StandsFor self.old l
+            → Answered (λ v. v.items) (commanded (K.signer l.keys) l command) l result self.new }
+    {
+        if self.halted {
+            drop(command);
+            return Err(Refusal::Halted);
+        }
+        if command.is_of_records() {
+            drop(command);
+            return Err(Refusal::NotReady);
+        }
+        match self.failure {
+            Some(stored) => {
+                drop(command);
+                return Err(stored);
+            }
+            None => {}
+        }
+        match self.obey(alloc, command) {
+            Ok(outbox) => self.hand_out(outbox),
+            Err(Refusal::Memory) => Err(self.halted_by_memory()),
+            Err(refusal) => Err(refusal),
+        }
+    }
+
+    // What it does at its stage.
+    fn obey(&mut self, alloc: Global, command: Command) -> Result<Outbox, Refusal>
+        ensures { MovesBy (obeyed (K.signer self.old.keys) self.old.line command self.old.stage)
+            result self.old self.new }
+    {
+        match &mut self.stage {
+            Stage::Saved(channel) => obey_open(alloc, &self.keys, self.line, channel, command),
+            _ => Err(Refusal::NotReady),
+        }
+    }
+}

@@ -1,0 +1,28 @@
+//! One link: one end of a channel from its opening to its close. What each message of the peer and each command makes
+//! of it, and what it hands out (BOLT 2).
+#![tactic(auto)]
+
+mod channel;
+mod command;
+mod commands;
+mod config;
+mod deep;
+mod handle;
+mod ledger;
+mod opening;
+mod output;
+mod record;
+mod resume;
+mod stage;
+mod standing;
+mod taking;
+mod unsaved;
+
+pub use channel::{Channel, Marks};
+pub use command::Command;
+pub use config::{Config, FitConfig, FitSpec, OpenSpec, Points};
+pub use ledger::EventLedger;
+pub use opening::{Terms, opening_is_agreed};
+pub use output::Output;
+pub use standing::{Life, Standing};
+pub use unsaved::{Line, Unsaved};

@@ -1,0 +1,102 @@
+//! What of a link outlives a restart: the end of its channel, and by what the channel has failed.
+
+use crate::channel::{Channel, Marks};
+use crate::ledger::EventLedger;
+use crate::opening::Terms;
+use crate::unsaved::{Line, Stage, Unsaved};
+use ln_close::Closing;
+use ln_dance::Dance;
+use ln_keys::ChannelKeys;
+use ln_msgs::Refusal;
+
+impl<K: ChannelKeys + Drop> Unsaved<K> {
+    ghost use Rattle.std.specs.Prelude.{◌≡◌, option_copied};
+    ghost use Rattle.ln_channel.specs.State.{State, StandsFor};
+    ghost use Rattle.ln_channel.specs.Record.{saved_end, came_back};
+
+    /// The end of its channel, where both have signed the opening. Takes no memory.
+    pub fn saved(&self) -> Option<&Channel>
+        ensures { (l : State K) → StandsFor self.now l → option_copied result ≡ saved_end l.stage }
+    {
+        match &self.stage {
+            Stage::Saved(channel) => Some(channel),
+            _ => None,
+        }
+    }
+
+    /// A link without a connection, as it comes back from what was kept of it. Takes no memory.
+    pub fn come_back(keys: K, failure: Option<Refusal>, channel: Channel) -> Unsaved<K>
+        ensures { StandsFor result (came_back keys failure channel) }
+    {
+        Unsaved {
+            keys,
+            line: Line::Down,
+            halted: false,
+            failure,
+            stage: Stage::Saved(channel),
+        }
+    }
+}
+
+impl Channel {
+    ghost use Rattle.std.specs.Prelude.{◌≡◌};
+    ghost use Rattle.ln_channel.specs.End.{IsSound};
+    ghost use Rattle.ln_channel.specs.Parts.{end_with};
+
+    /// An end of these parts: of one role, with the opening that its terms say, with ordered fees, and with the peer's
+    /// script where the peer has shut down. Takes no memory.
+    pub fn from_parts(
+        dance: Dance,
+        closing: Closing,
+        terms: Terms,
+        marks: Marks,
+        ledger: EventLedger,
+    ) -> Channel
+        requires { IsSound (end_with dance closing terms marks ledger) }
+        ensures { result ≡ end_with dance closing terms marks ledger }
+    {
+        Channel {
+            dance,
+            closing,
+            terms,
+            marks,
+            ledger,
+        }
+    }
+
+    /// The updates, numbers and points of its commitments.
+    pub fn dance(&self) -> &Dance
+        ensures dance { result.now ≡ self.now.dance }
+        ensures fits_together { IsSound self.now }
+    {
+        &self.dance
+    }
+
+    /// How far it is with closing.
+    pub fn closing(&self) -> Closing
+        ensures { result ≡ self.now.closing }
+    {
+        self.closing
+    }
+
+    /// What both sides told as they opened the channel.
+    pub fn terms(&self) -> &Terms
+        ensures { result.now ≡ self.now.terms }
+    {
+        &self.terms
+    }
+
+    /// How far it is with being ready.
+    pub fn marks(&self) -> Marks
+        ensures { result ≡ self.now.marks }
+    {
+        self.marks
+    }
+
+    /// Its events by number.
+    pub fn ledger(&self) -> &EventLedger
+        ensures { result.now ≡ self.now.ledger }
+    {
+        &self.ledger
+    }
+}

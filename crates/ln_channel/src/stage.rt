@@ -1,0 +1,467 @@
+//! What a message makes of each stage of a link.
+
+ghost use Rattle.std.specs.Prelude.{◌≡◌, false};
+ghost use Rattle.ln_channel.specs.Naming.{named};
+ghost use Rattle.ln_channel.specs.Failing.{fails};
+ghost use Rattle.ln_channel.specs.Step.{opening_at, open_at, accept_at, created_at, signed_at, saved_at};
+ghost use Rattle.ln_channel.specs.State.{is_saved};
+ghost use Rattle.ln_channel.specs.declared.unsaved.Line.TheVariants as lines;
+ghost use Rattle.ln_channel.specs.declared.unsaved.Stage.TheVariants as stages;
+ghost use Rattle.ln_channel.specs.Resume.{resume_row};
+ghost use Rattle.ln_channel.specs.Step.{error_fault, turned, obeyed_open, awaiting_at, saved, Becomes, Moves, MovesEnd};
+
+use crate::channel::Channel;
+use crate::command::Command;
+use crate::config::{FitConfig, FitSpec};
+use crate::deep::put;
+use crate::opening::{Agreed, take_accept, take_created, take_open};
+use crate::output::{Outbox, one};
+use crate::unsaved::{Line, Stage};
+use ln_dance::Numbers;
+use ln_keys::ChannelKeys;
+use ln_msgs::{
+    AcceptChannel, ChannelReestablish, FundingCreated, FundingSigned, Message, OpenChannel, Refusal,
+};
+use std::alloc::Global;
+use std::mem;
+
+// The channel that a message is about.
+fn named(message: &Message) -> Option<[u8; 32]>
+    ensures { result ≡ named message.now }
+{
+    match message {
+        Message::FundingSigned(m) => Some(m.channel_id),
+        Message::ChannelReady(m) => Some(m.channel_id),
+        Message::Shutdown(m) => Some(m.channel_id),
+        Message::ClosingSigned(m) => Some(m.channel_id),
+        Message::UpdateAddHtlc(m) => Some(m.channel_id),
+        Message::UpdateFulfillHtlc(m) => Some(m.channel_id),
+        Message::UpdateFailHtlc(m) => Some(m.channel_id),
+        Message::UpdateFailMalformedHtlc(m) => Some(m.channel_id),
+        Message::UpdateFee(m) => Some(m.channel_id),
+        Message::CommitmentSigned(m) => Some(m.channel_id),
+        Message::RevokeAndAck(m) => Some(m.channel_id),
+        Message::ChannelReestablish(m) => Some(m.channel_id),
+        _ => None,
+    }
+}
+
+// An error fails the channel.
+fn error_refusal(message: &Message) -> Option<Refusal>
+    ensures { result ≡ error_fault message.now }
+{
+    match message {
+        Message::Error(_) => Some(Refusal::PeerError),
+        _ => None,
+    }
+}
+
+// Whether a refusal fails a channel: 21 to 35 and 37.
+pub(crate) fn fails(refusal: Refusal) -> bool
+    ensures { result ≡ fails refusal }
+{
+    let number = refusal.number();
+    (21 <= number && number <= 35) || number == 37
+}
+
+// Before an opening is agreed to.
+const NO_NUMBERS: Numbers = Numbers {
+    commitment: 0,
+    signed: 0,
+    revoked: 0,
+};
+
+impl Stage {
+    ghost use Rattle.std.specs.Prelude.{◌≡◌};
+    ghost use Rattle.ln_channel.specs.Naming.{channel_of, temporary_of, is_meant, is_other};
+    ghost use Rattle.ln_channel.specs.State.{is_saved, lost, cut, numbers_of};
+    ghost use Rattle.ln_channel.specs.Step.{is_passed_over, stray_fault, message_fault, stage_row, Moves};
+
+    // The numbers of its end's commitments.
+    pub(crate) fn numbers(&self) -> Numbers
+        ensures { result ≡ numbers_of self.now }
+    {
+        match self {
+            Stage::AwaitsSigned(channel) => channel.dance.numbers(),
+            Stage::Saved(channel) => channel.dance.numbers(),
+            _ => NO_NUMBERS,
+        }
+    }
+
+    // Whether both have signed the opening.
+    fn is_saved(&self) -> bool
+        ensures { result ≡ is_saved self.now }
+    {
+        match self {
+            Stage::Saved(_) => true,
+            _ => false,
+        }
+    }
+
+    // An opening that isn't signed by both is gone.
+    pub(crate) fn lose(&mut self)
+        ensures { self.new ≡ lost self.old }
+    {
+        if !self.is_saved() {
+            put(self, Stage::Gone);
+        }
+    }
+
+    // Its connection is lost.
+    pub(crate) fn cut(&mut self)
+        ensures { self.new ≡ cut self.old }
+    {
+        match self {
+            Stage::Saved(channel) => channel.drop_unsigned(),
+            _ => put(self, Stage::Gone),
+        }
+    }
+
+    // The channel's id, once its funding is known to both.
+    fn channel(&self) -> Option<[u8; 32]>
+        ensures { result ≡ channel_of self.now }
+    {
+        match self {
+            Stage::AwaitsSigned(channel) => Some(channel.id()),
+            Stage::Saved(channel) => Some(channel.id()),
+            _ => None,
+        }
+    }
+
+    // Its temporary id, while it is being opened.
+    fn temporary(&self) -> Option<[u8; 32]>
+        ensures { result ≡ temporary_of self.now }
+    {
+        match self {
+            Stage::AwaitsAccept(spec) => Some(spec.get().temporary_id),
+            Stage::AwaitsCreated(agreed) => Some(agreed.temporary_id()),
+            Stage::AwaitsSigned(channel) => Some(channel.temporary_id()),
+            _ => None,
+        }
+    }
+
+    // Whether an error with this id is meant for the link.
+    fn is_meant(&self, id: &[u8; 32]) -> bool
+        ensures { result ≡ is_meant self.now id.now }
+    {
+        *id == [0; 32] || self.channel() == Some(*id) || self.temporary() == Some(*id)
+    }
+
+    // Whether a message is about another channel.
+    fn is_other(&self, id: Option<[u8; 32]>) -> bool
+        ensures { result ≡ is_other id self.now }
+    {
+        match id {
+            None => false,
+            Some(id) => self.channel() != Some(id),
+        }
+    }
+
+    /// Whether a message is passed over: a warning, an error for another channel, and what is of no channel.
+    pub(crate) fn is_passed_over(&self, message: &Message) -> bool
+        ensures { result ≡ is_passed_over self.now message.now }
+    {
+        match message {
+            Message::Warning(_) => true,
+            Message::Init(_) => true,
+            Message::Ping(_) => true,
+            Message::Pong(_) => true,
+            Message::Error(error) => !self.is_meant(&error.channel_id),
+            _ => false,
+        }
+    }
+
+    // Another channel's message, or one that comes without a connection.
+    fn stray_refusal(&self, line: Line, message: &Message) -> Option<Refusal>
+        ensures { result ≡ stray_fault line self.now message.now }
+    {
+        if self.is_other(named(message)) {
+            Some(Refusal::UnknownChannel)
+        } else if line.is_down() {
+            Some(Refusal::OutOfPlace)
+        } else {
+            None
+        }
+    }
+
+    /// What is wrong with a message before the channel is asked: an error, another channel's message, or one that comes
+    /// without a connection.
+    pub(crate) fn message_refusal(&self, line: Line, message: &Message) -> Option<Refusal>
+        ensures { result ≡ message_fault line self.now message.now }
+    {
+        match error_refusal(message) {
+            Some(refusal) => Some(refusal),
+            None => self.stray_refusal(line, message),
+        }
+    }
+
+    /// Takes a message that is of the link's channel.
+    pub(crate) fn take<K: ChannelKeys>(
+        &mut self,
+        alloc: Global,
+        keys: &K,
+        line: &mut Line,
+        message: Message,
+    ) -> Result<Outbox, Refusal>
+        ensures { Moves (stage_row (K.signer keys.now) line.old message self.old)
+            result line.old line.new self.old self.new }
+    {
+        match self {
+            Stage::Saved(channel) => take_saved(alloc, keys, line, channel, message),
+            _ => opened_by(alloc, keys, *line, self, message),
+        }
+    }
+}
+
+// ---- a channel that is being opened
+
+// By message: each has its stage, which is replaced.
+fn opened_by<K: ChannelKeys>(
+    alloc: Global,
+    keys: &K,
+    line: Line,
+    stage: &mut Stage,
+    message: Message,
+) -> Result<Outbox, Refusal>
+    requires { is_saved stage.old ≡ false }
+    ensures { Moves (opening_at (K.signer keys.now) line message stage.old) result line line stage.old stage.new }
+{
+    match message {
+        Message::OpenChannel(open) => opened_by_open(alloc, keys, line, stage, open),
+        Message::AcceptChannel(accept) => opened_by_accept(alloc, keys, line, stage, accept),
+        Message::FundingCreated(created) => opened_by_created(alloc, keys, line, stage, created),
+        Message::FundingSigned(signed) => opened_by_signed(alloc, keys, line, stage, &signed),
+        other => {
+            drop(other);
+            Err(Refusal::OutOfPlace)
+        }
+    }
+}
+
+fn opened_by_open<K: ChannelKeys>(
+    alloc: Global,
+    keys: &K,
+    line: Line,
+    stage: &mut Stage,
+    message: OpenChannel,
+) -> Result<Outbox, Refusal>
+    requires { is_saved stage.old ≡ false }
+    ensures { Moves (open_at (K.signer keys.now) line message stage.old) result line line stage.old stage.new }
+{
+    match mem::replace(stage, Stage::Gone) {
+        Stage::AwaitsOpen(config) => agree(alloc, keys, line, stage, config, message),
+        other => {
+            drop(other);
+            Err(Refusal::OutOfPlace)
+        }
+    }
+}
+
+fn agree<K: ChannelKeys>(
+    alloc: Global,
+    keys: &K,
+    line: Line,
+    stage: &mut Stage,
+    config: FitConfig,
+    message: OpenChannel,
+) -> Result<Outbox, Refusal>
+    requires { stage.old ≡ stages.Gone }
+    ensures { Becomes line (open_at (K.signer keys.now) line message (stages.AwaitsOpen config)) result stage.new }
+{
+    let (agreed, accept) = take_open(alloc, keys, config, message)?;
+    put(stage, Stage::AwaitsCreated(agreed));
+    one(alloc, Message::AcceptChannel(accept))
+}
+
+fn opened_by_accept<K: ChannelKeys>(
+    alloc: Global,
+    keys: &K,
+    line: Line,
+    stage: &mut Stage,
+    message: AcceptChannel,
+) -> Result<Outbox, Refusal>
+    requires { is_saved stage.old ≡ false }
+    ensures { Moves (accept_at (K.signer keys.now) line message stage.old) result line line stage.old stage.new }
+{
+    match mem::replace(stage, Stage::Gone) {
+        Stage::AwaitsAccept(spec) => fund(alloc, keys, line, stage, spec, message),
+        other => {
+            drop(other);
+            Err(Refusal::OutOfPlace)
+        }
+    }
+}
+
+fn fund<K: ChannelKeys>(
+    alloc: Global,
+    keys: &K,
+    line: Line,
+    stage: &mut Stage,
+    spec: FitSpec,
+    message: AcceptChannel,
+) -> Result<Outbox, Refusal>
+    requires { stage.old ≡ stages.Gone }
+    ensures { Becomes line (accept_at (K.signer keys.now) line message (stages.AwaitsAccept spec)) result stage.new }
+{
+    let (opened, created) = take_accept(alloc, keys, spec, message)?;
+    put(stage, Stage::AwaitsSigned(Channel::new(alloc, opened)));
+    one(alloc, Message::FundingCreated(created))
+}
+
+fn opened_by_created<K: ChannelKeys>(
+    alloc: Global,
+    keys: &K,
+    line: Line,
+    stage: &mut Stage,
+    message: FundingCreated,
+) -> Result<Outbox, Refusal>
+    requires { is_saved stage.old ≡ false }
+    ensures { Moves (created_at (K.signer keys.now) line message stage.old) result line line stage.old stage.new }
+{
+    match mem::replace(stage, Stage::Gone) {
+        Stage::AwaitsCreated(agreed) => sign(alloc, keys, line, stage, agreed, message),
+        other => {
+            drop(other);
+            Err(Refusal::OutOfPlace)
+        }
+    }
+}
+
+fn sign<K: ChannelKeys>(
+    alloc: Global,
+    keys: &K,
+    line: Line,
+    stage: &mut Stage,
+    agreed: Agreed,
+    message: FundingCreated,
+) -> Result<Outbox, Refusal>
+    requires { stage.old ≡ stages.Gone }
+    ensures { Becomes line (created_at (K.signer keys.now) line message (stages.AwaitsCreated agreed)) result
+        stage.new }
+{
+    let (opened, signed) = take_created(alloc, keys, agreed, message)?;
+    put(stage, Stage::Saved(Channel::new(alloc, opened)));
+    one(alloc, Message::FundingSigned(signed))
+}
+
+fn opened_by_signed<K: ChannelKeys>(
+    alloc: Global,
+    keys: &K,
+    line: Line,
+    stage: &mut Stage,
+    message: &FundingSigned,
+) -> Result<Outbox, Refusal>
+    ensures { Moves (signed_at (K.signer keys.now) line message.now stage.old) result line line stage.old stage.new }
+{
+    match stage {
+        Stage::AwaitsSigned(channel) => channel.check_funding(alloc, keys, message)?,
+        _ => return Err(Refusal::OutOfPlace),
+    }
+    save(stage);
+    Ok(Outbox::new(alloc))
+}
+
+// The opening is signed by both.
+fn save(stage: &mut Stage)
+    ensures { stage.new ≡ saved stage.old }
+{
+    let signed = mem::replace(stage, Stage::Gone);
+    put(stage, saved(signed));
+}
+
+fn saved(stage: Stage) -> Stage
+    ensures { result ≡ saved stage }
+{
+    match stage {
+        Stage::AwaitsSigned(channel) => Stage::Saved(channel),
+        other => other,
+    }
+}
+
+// ---- an open channel
+
+// Once the peer is there, all but its channel_reestablish; until then, that alone.
+fn take_saved<K: ChannelKeys>(
+    alloc: Global,
+    keys: &K,
+    line: &mut Line,
+    channel: &mut Channel,
+    message: Message,
+) -> Result<Outbox, Refusal>
+    ensures { MovesEnd (saved_at (K.signer keys.now) line.old message channel.old)
+        result line.old line.new channel.old channel.new }
+{
+    if line.is_met() {
+        channel.take(alloc, keys, message)
+    } else {
+        take_awaited(alloc, keys, line, channel, message)
+    }
+}
+
+fn take_awaited<K: ChannelKeys>(
+    alloc: Global,
+    keys: &K,
+    line: &mut Line,
+    channel: &mut Channel,
+    message: Message,
+) -> Result<Outbox, Refusal>
+    ensures { MovesEnd (awaiting_at (K.signer keys.now) message channel.old)
+        result line.old line.new channel.old channel.new }
+{
+    match message {
+        Message::ChannelReestablish(reestablish) => {
+            take_reestablish(alloc, keys, line, channel, &reestablish)
+        }
+        other => {
+            drop(other);
+            Err(Refusal::OutOfPlace)
+        }
+    }
+}
+
+// The peer is there.
+fn take_reestablish<K: ChannelKeys>(
+    alloc: Global,
+    keys: &K,
+    line: &mut Line,
+    channel: &mut Channel,
+    message: &ChannelReestablish,
+) -> Result<Outbox, Refusal>
+    ensures { MovesEnd (turned lines.Met (resume_row (K.signer keys.now) message.now channel.old))
+        result line.old line.new channel.old channel.new }
+{
+    match channel.resume(alloc, keys, message) {
+        Ok(outbox) => {
+            *line = Line::Met;
+            Ok(outbox)
+        }
+        Err(refusal) => Err(refusal),
+    }
+}
+
+// ---- a command
+
+// What an open channel does by a command: what sends needs a connection on which the peer is there.
+pub(crate) fn obey_open<K: ChannelKeys>(
+    alloc: Global,
+    keys: &K,
+    line: Line,
+    channel: &mut Channel,
+    command: Command,
+) -> Result<Outbox, Refusal>
+    ensures { MovesEnd (obeyed_open (K.signer keys.now) line command channel.old)
+        result line line channel.old channel.new }
+{
+    match channel.unready_refusal(&command) {
+        Some(refusal) => {
+            drop(command);
+            return Err(refusal);
+        }
+        None => {}
+    }
+    if !line.is_met() {
+        drop(command);
+        return Err(Refusal::Disconnected);
+    }
+    channel.command(alloc, keys, command)
+}

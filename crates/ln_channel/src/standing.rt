@@ -1,0 +1,124 @@
+//! Where a link stands with its channel.
+
+use crate::channel::Channel;
+use crate::unsaved::{Stage, Unsaved};
+use ln_keys::{ChannelKeys, Role};
+use ln_log::{Pair, Side};
+use ln_msgs::Refusal;
+use std::alloc::Global;
+
+/// How far a channel is, for one of its ends.
+#[derive(Clone, Copy, Debug, PartialEq, Eq)]
+pub enum Life {
+    /// None of those below.
+    Open,
+    /// This end has sent `channel_ready`, and taken the peer's.
+    Ready,
+    /// This end has sent `shutdown`.
+    Shut,
+    /// It is closed at this fee, in satoshis.
+    Closed(u64),
+    /// It failed by this refusal.
+    Failed(Refusal),
+}
+
+/// Where a link stands with its channel; all is 0 where its opening isn't signed by both.
+#[derive(Clone, Copy, Debug, PartialEq, Eq)]
+pub struct Standing {
+    /// How many of its own updates its last signature covers.
+    pub signed: usize,
+    /// How many of its own updates it holds as irrevocably committed.
+    pub own_held: usize,
+    /// How many of the peer's updates it holds as irrevocably committed.
+    pub peer_held: usize,
+    /// Its balance in its own commitment, in msat.
+    pub own: u64,
+    /// The peer's balance in that commitment, in msat.
+    pub peer: u64,
+    /// How many HTLCs are live in that commitment.
+    pub live: usize,
+    /// The last that fits.
+    pub life: Life,
+}
+
+impl Channel {
+    ghost use Rattle.std.specs.Prelude.{◌≡◌, IfOk, IfErr};
+    ghost use Rattle.ln_dance.specs.Dance.{view_at};
+    ghost use Rattle.ln_log.specs.declared.log.Pair.TheVariants as pair;
+    ghost use Rattle.ln_log.specs.declared.log.Side.TheVariants as side;
+    ghost use Rattle.ln_channel.specs.Standing.{life_of, failed_or, standing_of};
+
+    // How far it is: the last that fits.
+    fn life(&self) -> Life
+        ensures { result ≡ life_of self.now }
+    {
+        if let Some(fee) = self.closing.closed {
+            return Life::Closed(fee);
+        }
+        if self.closing.shut {
+            Life::Shut
+        } else if self.is_ready() {
+            Life::Ready
+        } else {
+            Life::Open
+        }
+    }
+
+    // Where it stands. 60 where there is no memory for the HTLCs of its own commitment.
+    fn standing(&self, alloc: Global, failure: Option<Refusal>) -> Result<Standing, Refusal>
+        ensures standing { IfOk result (λ s. s ≡ standing_of (failed_or failure (life_of self.now))
+            (view_at (pair.Current side.Own) self.now.dance) self.now) }
+        ensures fails_for_memory_alone { IfErr result (λ e. e ≡ Refusal.Memory) }
+    {
+        let life = match failure {
+            Some(refusal) => Life::Failed(refusal),
+            None => self.life(),
+        };
+        let log = self.dance.log();
+        let view = log.view(alloc, Pair::Current(Side::Own))?;
+        let (own, peer) = match self.closing.role {
+            Role::Funder => (view.funder, view.fundee),
+            Role::Fundee => (view.fundee, view.funder),
+        };
+        Ok(Standing {
+            signed: log.counts(Pair::Signed).own,
+            own_held: log.counts(Pair::Current(Side::Own)).own,
+            peer_held: log.counts(Pair::Current(Side::Peer)).peer,
+            own,
+            peer,
+            live: view.htlcs.len(),
+            life,
+        })
+    }
+}
+
+impl<K: ChannelKeys + Drop> Unsaved<K> {
+    ghost use Rattle.std.specs.Prelude.{◌≡◌, IfOk, IfErr};
+    ghost use Rattle.ln_channel.specs.State.{State, StandsFor};
+    ghost use Rattle.ln_channel.specs.Standing.{standing};
+
+    /// Where it stands with its channel. 60 where there is no memory for the HTLCs of its own commitment.
+    pub fn standing(&self, alloc: Global) -> Result<Standing, Refusal>
+        ensures standing { (l : State K) → StandsFor self.now l → IfOk result (λ s. s ≡ standing l) }
+        ensures fails_for_memory_alone { IfErr result (λ e. e ≡ Refusal.Memory) }
+    {
+        match &self.stage {
+            Stage::Saved(channel) => channel.standing(alloc, self.failure),
+            _ => {
+                let life = match self.failure {
+                    Some(refusal) => Life::Failed(refusal),
+                    None => Life::Open,
+                };
+                Ok(Standing {
+                    signed: 0,
+                    own_held: 0,
+                    peer_held: 0,
+                    own: 0,
+                    peer: 0,
+                    live: 0,
+                    life,
+                })
+            }
+        }
+    }
+}

@@ -1,0 +1,243 @@
+//! One link: one end of a channel from its opening to its close, with the connection that it has.
+
+use crate::channel::Channel;
+use crate::config::{FitConfig, FitSpec};
+use crate::opening::{Agreed, open_channel};
+use crate::output::{Outbox, Output, one};
+use ln_dance::Numbers;
+use ln_keys::ChannelKeys;
+use ln_msgs::{Message, Refusal};
+use std::alloc::Global;
+use std::marker::Model;
+
+/// Whether a link has a connection.
+#[derive(Clone, Copy, Debug, PartialEq, Eq)]
+pub enum Line {
+    /// It has none.
+    Down,
+    /// It has one, and awaits the peer's `channel_reestablish`.
+    Awaiting,
+    /// It has one, and the peer is there.
+    Met,
+}
+
+/// How far a link is with its channel.
+#[derive(Drop)]
+pub enum Stage {
+    /// A fundee awaits `open_channel`.
+    AwaitsOpen(FitConfig),
+    /// A funder awaits `accept_channel`; without a connection it hasn't sent its `open_channel` yet.
+    AwaitsAccept(FitSpec),
+    /// A fundee awaits `funding_created`.
+    AwaitsCreated(Agreed),
+    /// A funder awaits `funding_signed`.
+    AwaitsSigned(Channel),
+    /// Both have signed the opening.
+    Saved(Channel),
+    /// The opening failed, or its connection was lost.
+    Gone,
+}
+
+/// One link: one end of a channel from its opening to its close, with the connection that it has.
+///
+/// It is new and without a connection at first; `connect` begins. A refusal by which a channel fails, 21 to 35 and 37,
+/// is kept, and answered from then on to all messages, and to all commands but `Decide` and `Forget`. Where memory is
+/// refused (60) it halts, and answers 62 to everything.
+#[derive(Drop)]
+pub struct Unsaved<K: ChannelKeys + Drop> {
+    pub(crate) keys: K,
+    pub(crate) line: Line,
+    pub(crate) halted: bool,
+    pub(crate) failure: Option<Refusal>,
+    pub(crate) stage: Stage,
+}
+
+impl<K: ChannelKeys + Drop> Model for Unsaved<K> {
+    ghost use Rattle.ln_channel.specs.State.{State};
+
+    ghost Value = { State K };
+
+    ghost view = { λ l. record {
+      keys = l.keys;
+      line = l.line;
+      halted = l.halted;
+      failure = l.failure;
+      stage = l.stage;
+    } };
+}
+
+impl Line {
+    ghost use Rattle.std.specs.Prelude.{◌≡◌};
+    ghost use Rattle.ln_channel.specs.State.{is_down, is_met};
+
+    /// Whether there is no connection.
+    pub fn is_down(&self) -> bool
+        ensures { result ≡ is_down self.now }
+    {
+        match self {
+            Line::Down => true,
+            Line::Awaiting => false,
+            Line::Met => false,
+        }
+    }
+
+    /// Whether the peer is there.
+    pub fn is_met(&self) -> bool
+        ensures { result ≡ is_met self.now }
+    {
+        match self {
+            Line::Down => false,
+            Line::Awaiting => false,
+            Line::Met => true,
+        }
+    }
+}
+
+impl<K: ChannelKeys + Drop> Unsaved<K> {
+    ghost use Rattle.std.specs.Prelude.{◌≡◌, OnOk, IfOk, IfErr, OnErr};
+    ghost use Rattle.ln_channel.specs.declared.unsaved.Stage.TheVariants as stage;
+    ghost use Rattle.ln_channel.specs.Outputs.{all_of};
+    ghost use Rattle.ln_channel.specs.State.{State, StandsFor, begun, drops, halts, numbers_of};
+    ghost use Rattle.ln_channel.specs.Step.{Answered, connected, MovesBy, connects};
+
+    /// A new link of a funder, which opens a channel by this spec. Takes no memory.
+    pub fn funder(keys: K, spec: FitSpec) -> Unsaved<K>
+        ensures { StandsFor result (begun keys (stage.AwaitsAccept spec)) }
+    {
+        Unsaved {
+            keys,
+            line: Line::Down,
+            halted: false,
+            failure: None,
+            stage: Stage::AwaitsAccept(spec),
+        }
+    }
+
+    /// A new link of a fundee, which takes a channel with this config. Takes no memory.
+    pub fn fundee(keys: K, config: FitConfig) -> Unsaved<K>
+        ensures { StandsFor result (begun keys (stage.AwaitsOpen config)) }
+    {
+        Unsaved {
+            keys,
+            line: Line::Down,
+            halted: false,
+            failure: None,
+            stage: Stage::AwaitsOpen(config),
+        }
+    }
+
+    /// The connection is lost (BOLT 2, "Message Retransmission"): updates that no signature covers are gone, and so is
+    /// a channel whose opening isn't signed by both. Without a connection nothing changes. Takes no memory.
+    pub fn drop_connection(&mut self)
+        ensures { (l : State K) → StandsFor self.old l → StandsFor self.new (drops l) }
+    {
+        if !self.line.is_down() {
+            self.line = Line::Down;
+            self.stage.cut();
+        }
+    }
+
+    /// The connection is lost, and the link answers 62 from now on. Takes no memory.
+    pub fn halt(&mut self)
+        ensures { (l : State K) → StandsFor self.old l → StandsFor self.new (halts l) }
+    {
+        self.drop_connection();
+        self.halted = true;
+    }
+
+    /// Whether it has a connection, and whether the peer is there. Takes no memory.
+    pub fn line(&self) -> Line
+        ensures { (l : State K) → StandsFor self.now l → result ≡ l.line }
+    {
+        self.line
+    }
+
+    /// Whether it has halted, and answers 62 to everything. Takes no memory.
+    pub fn is_halted(&self) -> bool
+        ensures { (l : State K) → StandsFor self.now l → result ≡ l.halted }
+    {
+        self.halted
+    }
+
+    /// By what the channel has failed. Takes no memory.
+    pub fn failure(&self) -> Option<Refusal>
+        ensures { (l : State K) → StandsFor self.now l → result ≡ l.failure }
+    {
+        self.failure
+    }
+
+    /// The numbers of its commitments; 0 before an opening is agreed to. Takes no memory.
+    pub fn numbers(&self) -> Numbers
+        ensures { (l : State K) → StandsFor self.now l → result ≡ numbers_of l.stage }
+    {
+        self.stage.numbers()
+    }
+
+    // There was no memory.
+    pub(crate) fn halted_by_memory(&mut self) -> Refusal
+        ensures fails_for_memory_alone { result ≡ Refusal.Memory }
+        ensures halted { self.new ≡ halts self.old }
+    {
+        self.halt();
+        Refusal::Memory
+    }
+
+    // Hands out what there is, or halts.
+    pub(crate) fn hand_out(&mut self, outbox: Outbox) -> Result<Vec<Output>, Refusal>
+        ensures outputs { IfOk result (λ v. v.items ≡ all_of outbox) }
+        ensures same { OnOk result (self.new ≡ self.old) }
+        ensures halted { OnErr result (self.new ≡ halts self.old) }
+        ensures fails_for_memory_alone { IfErr result (λ r. r ≡ Refusal.Memory) }
+    {
+        match outbox.into_outputs() {
+            Ok(outputs) => Ok(outputs),
+            Err(_) => Err(self.halted_by_memory()),
+        }
+    }
+
+    /// There is a connection to the peer. A funder's new link sends `open_channel`, a fundee's nothing; where both have
+    /// signed the opening, it sends `channel_reestablish` (BOLT 2, "Channel Establishment v1" and "Message
+    /// Retransmission"), also where the channel has failed.
+    ///
+    /// Errors: 62 where it has halted; 40 where it has a connection, or its opening failed or was broken off; 60, which
+    /// halts it.
+    pub fn connect(&mut self, alloc: Global) -> Result<Vec<Output>, Refusal>
+        ensures { (l : State K) → StandsFor self.old l
+            → Answered (λ v. v.items) (connected (K.signer l.keys) l) l result self.new }
+    {
+        if self.halted {
+            return Err(Refusal::Halted);
+        }
+        if !self.line.is_down() {
+            return Err(Refusal::NotReady);
+        }
+        match self.greet(alloc) {
+            Ok(outbox) => self.hand_out(outbox),
+            Err(Refusal::Memory) => Err(self.halted_by_memory()),
+            Err(refusal) => Err(refusal),
+        }
+    }
+
+    // What it sends first over a connection.
+    fn greet(&mut self, alloc: Global) -> Result<Outbox, Refusal>
+        ensures { MovesBy (connects (K.signer self.old.keys) self.old.stage) result self.old self.new }
+    {
+        match &self.stage {
+            Stage::AwaitsOpen(_) => {
+                self.line = Line::Met;
+                Ok(Outbox::new(alloc))
+            }
+            Stage::AwaitsAccept(spec) => {
+                let message = open_channel(alloc, &self.keys, spec)?;
+                self.line = Line::Met;
+                one(alloc, Message::OpenChannel(message))
+            }
+            Stage::Saved(channel) => {
+                let message = channel.reestablish(alloc, &self.keys);
+                self.line = Line::Awaiting;
+                one(alloc, Message::ChannelReestablish(message))
+            }
+            _ => Err(Refusal::NotReady),
+        }
+    }
+}

@@ -1,6 +1,0 @@
-pub mod Recorded
-pub mod Refusing
-pub mod Again
-pub mod Loaded
-pub mod Coverage
-pub mod Restarted

@@ -1,0 +1,141 @@
+-- What is saved of an end is read as a lost connection leaves it.
+use Rattle.std.proofs.Common.{◌≡◌, ◌∙◌, ◌<◌, ◌^◌, refl, sym, ap, subst, Option, Some, None}
+use Rattle.std.proofs.Common.{option_map, IfSome, Result}
+use Rattle.ln_bytes.specs.declared.fault.Fault.{Fault}
+use Rattle.ln_bytes.specs.declared.short_id.ShortId.{ShortId}
+use Rattle.ln_msgs.specs.Messages.Message.{Heard, Known, wire_bytes}
+use Rattle.ln_msgs.specs.Messages.Typed.{open_wire, accept_wire}
+use Rattle.ln_msgs.specs.declared.messages.opening.OpenChannel.{OpenChannel}
+use Rattle.ln_msgs.specs.declared.messages.opening.AcceptChannel.{AcceptChannel}
+use Rattle.ln_msgs.specs.declared.refusals.refusal.Refusal.{Refusal}
+use Rattle.ln_msgs.proofs.Grammar.{message_again}
+use Rattle.ln_keys.specs.declared.role.Role.{Role}
+use Rattle.ln_keys.specs.declared.role.Role.TheVariants.{Funder, Fundee}
+use Rattle.ln_log.specs.declared.log.Counts.{Counts}
+use Rattle.ln_log.specs.declared.opening.Opening.{Opening}
+use Rattle.ln_log.specs.Loading.{IsReadable}
+use Rattle.ln_log.specs.Log.{Log, none, after_drop}
+use Rattle.ln_channel.specs.declared.opening.Terms.{Terms}
+use Rattle.ln_channel.specs.Opening.{opening_of}
+use Rattle.ln_channel.specs.End.{End, end_dropped}
+use Rattle.ln_channel.specs.Parts.{end_with}
+use Rattle.ln_link.specs.Record.{payload_of, place_of, agreement_of, updates_of, base_of}
+use Rattle.ln_link.specs.Record.{header_of, progress_of, items_of, commitments_of}
+use Rattle.ln_link.specs.Loading.{open_of, accept_of, said, open_in, accept_in, terms_of, short_id_of}
+use Rattle.ln_link.specs.Loading.{log_of, log_in, dance_of, end_of, IsSaid}
+use Rattle.ln_link.specs.Loading.{IsLoadable, HasRecord}
+use Rattle.ln_link.proofs.Again.{id_again}
+
+-- ---- the opening
+
+open_again : (m : OpenChannel) → IsSaid (open_wire m) → open_in (payload_of (open_wire m)) ≡ m
+unfolding open_in payload_of IsSaid
+open_again m s =
+    ap (λ (r : Result Heard Fault). open_of (said r)) (message_again (wire_bytes (open_wire m)) (Known (open_wire m)) s)
+
+accept_again : (m : AcceptChannel) → IsSaid (accept_wire m) → accept_in (payload_of (accept_wire m)) ≡ m
+unfolding accept_in payload_of IsSaid
+accept_again m s =
+    ap (λ (r : Result Heard Fault). accept_of (said r))
+    (message_again (wire_bytes (accept_wire m)) (Known (accept_wire m)) s)
+
+terms_again : (failure : Option Refusal) (e : End) → HasRecord failure e → terms_of (agreement_of e) ≡ e.terms
+unfolding agreement_of
+terms_again failure e h =
+    ap (λ (o : OpenChannel). record {
+      open_channel = o;
+      accept_channel = accept_in (payload_of (accept_wire e.terms.accept_channel));
+      script = e.terms.script;
+      peer_script = e.terms.peer_script;
+    }) (open_again e.terms.open_channel h.open_channel)
+    ∙ ap (λ (a : AcceptChannel). record {
+      open_channel = e.terms.open_channel;
+      accept_channel = a;
+      script = e.terms.script;
+      peer_script = e.terms.peer_script;
+    }) (accept_again e.terms.accept_channel h.accept_channel)
+
+-- ---- how far it is
+
+place_again : (s : Option ShortId) → IfSome s (λ id. id.output < 2 ^ 16)
+    → option_map short_id_of (option_map place_of s) ≡ s
+place_again None f = refl
+place_again (Some id) f = ap Some (id_again id.block id.tx id.output id.block_fits id.tx_fits f)
+
+-- ---- the updates
+
+by_role : (x : Role) (o p : Opening) (l : Log) → log_of o x (updates_of p x l) ≡ record {
+  opening = o;
+  role = x;
+  own = l.own;
+  received = l.received;
+  first = none;
+  signed = l.signed;
+  acknowledged = l.acknowledged;
+  current = l.current;
+}
+unfolding updates_of
+by_role Funder o p l = refl
+by_role Fundee o p l = refl
+
+log_again : (l : Log) (o p : Opening) (x : Role) → l.opening ≡ o → l.role ≡ x → l.first ≡ none
+    → log_of o x (updates_of p x l) ≡ l
+log_again l o p x opening role first =
+    by_role x o p l
+    ∙ ap (λ (z : Opening). record {
+      opening = z;
+      role = x;
+      own = l.own;
+      received = l.received;
+      first = none;
+      signed = l.signed;
+      acknowledged = l.acknowledged;
+      current = l.current;
+    }) (sym opening)
+    ∙ ap (λ (z : Role). record {
+      opening = l.opening;
+      role = z;
+      own = l.own;
+      received = l.received;
+      first = none;
+      signed = l.signed;
+      acknowledged = l.acknowledged;
+      current = l.current;
+    }) (sym role)
+    ∙ ap (λ (z : Counts). record l { first = z }) (sym first)
+
+-- ---- all of it
+
+loaded_log : (failure : Option Refusal) (e : End) → HasRecord failure e
+    → log_in (items_of failure e) ≡ after_drop e.dance.log
+unfolding items_of header_of
+loaded_log failure e h =
+    log_again (after_drop e.dance.log) (opening_of (terms_of (agreement_of e))) (opening_of e.terms) e.closing.role
+    (h.sound.opening ∙ ap opening_of (sym (terms_again failure e h))) h.sound.one_role h.first
+
+pub loaded : (failure : Option Refusal) (e : End) → HasRecord failure e
+    → end_of (items_of failure e) ≡ end_dropped e
+unfolding end_of items_of header_of progress_of agreement_of
+loaded failure e h =
+    let d = after_drop e.dance.log in
+    let made : Log → Terms → Option ShortId → End = λ l t s.
+    end_with (dance_of (header_of failure e) (commitments_of e.dance) l) e.closing t
+    (record { short_id = s; ready_sent = e.marks.ready_sent; ready_received = e.marks.ready_received })
+    (record { decided = e.ledger.decided; undecided = e.ledger.undecided }) in
+    let t = terms_of (agreement_of e) in
+    let s = option_map short_id_of (option_map place_of e.marks.short_id) in
+    ap (λ (l : Log). made l t s) (loaded_log failure e h)
+    ∙ ap (λ (u : Terms). made d u s) (terms_again failure e h)
+    ∙ ap (λ (u : Option ShortId). made d e.terms u) (place_again e.marks.short_id h.output)
+
+pub loadable : (failure : Option Refusal) (e : End) → HasRecord failure e → IsLoadable (items_of failure e)
+unfolding items_of header_of progress_of updates_of agreement_of
+loadable failure e h = record {
+  updates = record {
+    log = subst IsReadable (sym (loaded_log failure e h)) h.log;
+    base = ap base_of (ap opening_of (sym (terms_again failure e h)));
+  };
+  forwards = refl;
+  fees = h.sound.fees;
+  scripts = h.sound.scripts;
+}

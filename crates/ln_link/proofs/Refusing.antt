@@ -1,0 +1,90 @@
+-- A refusal that is answered to a message: what of it is saved.
+use Rattle.std.proofs.Common.{refl, sym, ◌∙◌, ap, subst, inl, inr, Option}
+use Rattle.std.proofs.Common.{Some, None, is_none, Bool, true, false, not, ◌&&◌, ◌≡◌}
+use Rattle.std.proofs.Common.{List, Result, Err, if◌then◌else◌}
+use Rattle.ln_msgs.specs.declared.refusals.refusal.Refusal.{Refusal}
+use Rattle.ln_channel.specs.declared.unsaved.Line.{Line}
+use Rattle.ln_channel.specs.declared.unsaved.Stage.{Stage}
+use Rattle.ln_channel.specs.declared.output.Output.{Output}
+use Rattle.ln_channel.specs.Failing.{fails}
+use Rattle.ln_channel.specs.State.{State, failed, refused}
+use Rattle.ln_channel.specs.Step.{Done, AnsweredMessage}
+use Rattle.ln_channel.specs.State.{halts}
+use Rattle.ln_channel.specs.Record.{saved_end}
+use Rattle.ln_link.specs.Saving.{Shelf, Refuses, IsUnsaved, HaltsRefused}
+use Rattle.ln_link.specs.Saving.{is_failing, fails_now, saved, AnswersMessage}
+
+-- a link without a failure, by whether the refusal is one
+by_refusal : {K : Type 0} (r : Refusal) (keys : K) (line : Line) (s : Stage) (b : Bool)
+    → let l : State K = record { keys = keys; line = line; halted = false; failure = None; stage = s } in
+    (is_failing (if b then failed r l else l) && true) ≡ b
+by_refusal r keys line s true = refl
+by_refusal r keys line s false = refl
+
+by_parts : {K : Type 0} (r : Refusal) (keys : K) (line : Line) (halted : Bool) (failure : Option Refusal) (s : Stage)
+    → let l : State K = record { keys = keys; line = line; halted = halted; failure = failure; stage = s } in
+    (is_failing (refused r l) && is_none failure) ≡ fails_now r l
+by_parts r keys line true failure s = refl
+by_parts r keys line false (Some x) s = refl
+by_parts r keys line false None s = by_refusal r keys line s (fails r)
+
+-- a link fails now where it has failed behind the refusal, and had not before
+pub failing : {K : Type 0} (r : Refusal) (l : State K)
+    → (is_failing (refused r l) && is_none l.failure) ≡ fails_now r l
+failing r l = by_parts r l.keys l.line l.halted l.failure l.stage
+
+-- a link that has halted saves nothing
+pub halted : {K : Type 0} (m : State K) (b : Bool) → m.halted ≡ true → (is_failing m && b) ≡ false
+halted m b h = ap (λ (x : Bool). (not x && not (is_none m.failure)) && b) h
+
+settled : {K V : Type 0} (outs : V → List Output) (said : Result Done Refusal) (l m n : State K) (e e' : Refusal)
+    (before behind : Shelf) (b : Bool) → fails_now e l ≡ b → said ≡ Err e → m ≡ refused e l
+    → Refuses b e e' m n before behind → AnswersMessage outs said l (Err e') n before behind
+settled outs said l m n e e' before behind false w s p x =
+    let k : fails_now e' l ≡ false = ap (λ (r : Refusal). fails_now r l) x.0 ∙ w in
+    inr (inr (inr (
+      s ∙ ap Err (sym x.0),
+      x.1 ∙ p ∙ ap (λ (r : Refusal). refused r l) (sym x.0),
+      x.2 ∙ sym (ap (λ (b : Bool). if b then saved (refused e' l).failure (refused e' l).stage before else before) k),
+    )))
+settled outs said l m n e e' before behind true w s p (inl x) =
+    let k : fails_now e' l ≡ true = ap (λ (r : Refusal). fails_now r l) x.0 ∙ w in
+    let q : m ≡ refused e' l = p ∙ ap (λ (r : Refusal). refused r l) (sym x.0) in
+    inr (inr (inr (
+      s ∙ ap Err (sym x.0),
+      x.1 ∙ q,
+      x.2 ∙ ap (λ (y : State _). saved y.failure y.stage before) q
+          ∙ sym (ap (λ (b : Bool). if b then saved (refused e' l).failure (refused e' l).stage before else before) k),
+    )))
+settled outs said l m n e e' before behind true w s p (inr x) =
+    inr (inr (inl (subst (λ z. HaltsRefused e' z l n before behind) (sym s) (
+      w,
+      (
+        x.0 ∙ ap halts p,
+        subst (λ (y : State _). IsUnsaved e' y.failure (saved_end y.stage) before behind) p x.1,
+      ),
+    ))))
+
+-- what is answered to a message that is refused
+pub after_refusal : {K V : Type 0} (outs : V → List Output) (said : Result Done Refusal) (l m n : State K)
+    (e e' : Refusal) (before behind : Shelf) → AnsweredMessage outs said l (Err e) m
+    → Refuses (is_failing m && is_none l.failure) e e' m n before behind
+    → AnswersMessage outs said l (Err e') n before behind
+after_refusal outs said l m n e e' before behind (inl h) r =
+    let q : Refuses false e e' m n before behind =
+    subst (λ b. Refuses b e e' m n before behind) (halted m (is_none l.failure) h.1) r in
+    inl (q.0 ∙ h.0, ap (λ (x : State _). x.halted) q.1 ∙ h.1, h.2, q.2)
+after_refusal outs said l m n e e' before behind (inr h) r =
+    let q : Refuses (fails_now e l) e e' m n before behind =
+    subst (λ b. Refuses b e e' m n before behind)
+    (ap (λ (x : State _). is_failing x && is_none l.failure) h.1 ∙ failing e l) r in
+    settled outs said l m n e e' before behind (fails_now e l) refl h.0 h.1 q
+
+-- the same, where the link is told to have had no failure
+pub after_refusal_of : {K V : Type 0} (outs : V → List Output) (said : Result Done Refusal) (l m n : State K)
+    (e e' : Refusal) (before behind : Shelf) (healthy : Bool) → healthy ≡ is_none l.failure
+    → AnsweredMessage outs said l (Err e) m → Refuses (is_failing m && healthy) e e' m n before behind
+    → AnswersMessage outs said l (Err e') n before behind
+after_refusal_of outs said l m n e e' before behind healthy h a r =
+    after_refusal outs said l m n e e' before behind a
+    (subst (λ (b : Bool). Refuses (is_failing m && b) e e' m n before behind) h r)

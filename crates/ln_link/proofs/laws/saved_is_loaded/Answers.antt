@@ -1,0 +1,8 @@
+use Rattle.ln_link.proofs.Loaded.{loaded, loadable}
+use Rattle.ln_link.proofs.laws.saved_is_loaded.Goals as goal
+
+pub returns-clause-can_be_loaded : goal.returns-clause-can_be_loaded
+returns-clause-can_be_loaded c = loadable
+
+pub returns-clause-as_dropped : goal.returns-clause-as_dropped
+returns-clause-as_dropped c = loaded

@@ -1,0 +1,15 @@
+use Rattle.std.proofs.Common.{sym, subst}
+use Rattle.ln_log.specs.Log.{Log}
+use Rattle.ln_dance.specs.Dance.{AreInStep}
+use Rattle.ln_link.proofs.Again.{parts, stepping}
+use Rattle.ln_link.proofs.loading.channel_of.Goals as goal
+
+pub ledger_of-requires : goal.ledger_of-requires
+ledger_of-requires c = (parts c.args.items c.requires).decided
+
+pub dance_of-dance-requires : goal.dance_of-dance-requires
+dance_of-dance-requires c =
+    let p = parts c.args.items c.requires in
+    subst (λ (l : Log). AreInStep c.args.items.commitments.numbers l) (sym c.in-Ok-log_of.ensures.log.1)
+    (stepping c.args.items.commitments.numbers c.opening_of.result c.args.items.header.role c.args.items.updates
+    p.in_step p.settled)

@@ -1,0 +1,342 @@
+//! What is loaded from the bytes of a record.
+
+ghost use Rattle.std.specs.Prelude.{◌≡◌, ◌∷◌, ◌≤◌, ◌⊎◌, ◌↔◌, IsTrue, IfOk, IfErr, Ok, true};
+ghost use Rattle.std.specs.Prelude.{is_some};
+ghost use Rattle.ln_msgs.specs.declared.refusals.refusal.Refusal.TheVariants as refusal;
+ghost use Rattle.ln_msgs.specs.Messages.Message.{message_at};
+ghost use Rattle.ln_msgs.specs.Messages.Typed.{heard};
+ghost use Rattle.ln_bytes.specs.Reading.{Gives};
+ghost use Rattle.ln_log.specs.Opening.{HasFunds};
+ghost use Rattle.ln_log.specs.Loading.{IsReadable};
+ghost use Rattle.ln_dance.specs.Dance.{AreInStep};
+ghost use Rattle.ln_close.specs.Closing.{AreOrdered};
+ghost use Rattle.ln_channel.specs.Opening.{opening_of};
+ghost use Rattle.ln_channel.specs.Ledger.{most_decided};
+ghost use Rattle.ln_store.specs.Readable.{is_readable, is_open_payload, is_accept_payload};
+ghost use Rattle.ln_store.specs.Record.{record_at, record_bytes};
+ghost use Rattle.ln_store.specs.declared.record.Items.{Items};
+ghost use Rattle.ln_link.specs.Record.{base_of, no_sides, no_forwards};
+ghost use Rattle.ln_link.specs.Loading.{open_in, accept_in, terms_of, marks_of, closing_of, own_in, received_in};
+ghost use Rattle.ln_link.specs.Loading.{counts_in, coverage_in, log_of, dance_of, ledger_of, end_of};
+ghost use Rattle.ln_link.specs.Loading.{short_id_of, TellsLog, IsLoadable, Loads};
+
+use crate::record::opening_of;
+use ln_bytes::{Bytes, Fault, ShortId};
+use ln_channel::{Channel, EventLedger, Marks, Terms, Unsaved};
+use ln_close::{Closing, Fees};
+use ln_dance::Dance;
+use ln_keys::{ChannelKeys, Role};
+use ln_log::{Counts, Coverage, Opening, Update, UpdateLog};
+use ln_msgs::{AcceptChannel, Incoming, Message, OpenChannel, Refusal, decode};
+use ln_store::{
+    Agreement, Base, ChainPlace, ClosingFees, Commitments, Covered, Events, Flags, Forwards,
+    Header, Items, Pairs, Progress, Sides, Updates, Window, decode_record,
+};
+use std::alloc::Global;
+
+// ---- what both sides agreed on
+
+// What a message of this type with this payload says.
+fn said_by(alloc: Global, typ: u8, payload: &[u8]) -> Result<Incoming, Fault>
+    ensures { Gives heard result (message_at (0 ∷ typ ∷ payload.now)) }
+{
+    let mut bytes = Vec::with_capacity(alloc, 2)?;
+    bytes.push(0)?;
+    bytes.push(typ)?;
+    bytes.extend_from_slice(payload)?;
+    decode(alloc, bytes.as_slice())
+}
+
+#[tactic(auto, unfolding(crate::specs::Loading::open_in))]
+fn open_in(alloc: Global, payload: &[u8]) -> Result<OpenChannel, Refusal>
+    requires { is_open_payload payload.now ≡ true }
+    ensures message { IfOk result (λ m. m ≡ open_in payload.now) }
+    ensures fails_for_memory_alone { IfErr result (λ r. r ≡ refusal.Memory) }
+{
+    match said_by(alloc, 32, payload) {
+        Ok(Incoming::Known(Message::OpenChannel(open))) => Ok(open),
+        Err(Fault::Memory) => Err(Refusal::Memory),
+        // (the payload is readable: it has no other fault, and says no other message)
+        _ => unreachable!(),
+    }
+}
+
+#[tactic(auto, unfolding(crate::specs::Loading::accept_in))]
+fn accept_in(alloc: Global, payload: &[u8]) -> Result<AcceptChannel, Refusal>
+    requires { is_accept_payload payload.now ≡ true }
+    ensures message { IfOk result (λ m. m ≡ accept_in payload.now) }
+    ensures fails_for_memory_alone { IfErr result (λ r. r ≡ refusal.Memory) }
+{
+    match said_by(alloc, 33, payload) {
+        Ok(Incoming::Known(Message::AcceptChannel(accept))) => Ok(accept),
+        Err(Fault::Memory) => Err(Refusal::Memory),
+        // (the payload is readable: it has no other fault, and says no other message)
+        _ => unreachable!(),
+    }
+}
+
+fn terms_of(alloc: Global, agreement: Agreement) -> Result<Terms, Refusal>
+    requires is_an_open_channel { is_open_payload agreement.open_payload ≡ true }
+    requires is_an_accept_channel { is_accept_payload agreement.accept_payload ≡ true }
+    ensures terms { IfOk result (λ t. t ≡ terms_of agreement) }
+    ensures fails_for_memory_alone { IfErr result (λ r. r ≡ refusal.Memory) }
+{
+    let Agreement {
+        open_payload,
+        accept_payload,
+        script,
+        peer_script,
+        ..
+    } = agreement;
+    Ok(Terms {
+        open_channel: open_in(alloc, open_payload.as_slice())?,
+        accept_channel: accept_in(alloc, accept_payload.as_slice())?,
+        script,
+        peer_script,
+    })
+}
+
+// ---- how far it is
+
+fn short_id_of(place: &ChainPlace) -> ShortId
+    ensures { result ≡ short_id_of place.now }
+{
+    place.id()
+}
+
+fn marks_of(flags: Flags, place: &Option<ChainPlace>) -> Marks
+    ensures { result ≡ marks_of flags place.now }
+{
+    let short_id = match place {
+        None => None,
+        Some(place) => Some(short_id_of(place)),
+    };
+    Marks {
+        short_id,
+        ready_sent: flags.ready_sent,
+        ready_received: flags.ready_received,
+    }
+}
+
+fn closing_of(header: Header, fees: Fees, passed: ClosingFees) -> Closing
+    ensures { result ≡ record {
+      role = header.role;
+      fees = fees;
+      shut = header.flags.shut_sent;
+      peer_shut = header.flags.shut_received;
+      own_fee = passed.own;
+      peer_fee = passed.peer;
+      closed = passed.closed;
+    } }
+{
+    Closing {
+        role: header.role,
+        fees,
+        shut: header.flags.shut_sent,
+        peer_shut: header.flags.shut_received,
+        own_fee: passed.own,
+        peer_fee: passed.peer,
+        closed: passed.closed,
+    }
+}
+
+// ---- the updates
+
+// This side's, and the peer's.
+fn parted(role: Role, window: Window) -> (Vec<Update>, Vec<Update>)
+    ensures own { result.0.items ≡ own_in role window }
+    ensures received { result.1.items ≡ received_in role window }
+{
+    let Window { funder, fundee } = window;
+    match role {
+        Role::Funder => (funder.into_vec(), fundee.into_vec()),
+        Role::Fundee => (fundee.into_vec(), funder.into_vec()),
+    }
+}
+
+fn counts_in(covered: Covered) -> Counts
+    ensures { result ≡ counts_in covered }
+{
+    Counts {
+        own: covered.own as usize,
+        peer: covered.peer as usize,
+    }
+}
+
+fn coverage_in(pairs: Pairs) -> Coverage
+    ensures { result ≡ coverage_in pairs }
+{
+    Coverage {
+        signed: counts_in(pairs.signed),
+        acknowledged: counts_in(pairs.acknowledged),
+        current: counts_in(pairs.current),
+    }
+}
+
+fn are_none(sides: Sides) -> bool
+    ensures { IsTrue result ↔ (sides ≡ no_sides) }
+{
+    sides.funder == 0 && sides.fundee == 0
+}
+
+// Whether no update is in the base.
+fn is_first(base: &Base, opening: &Opening) -> bool
+    requires { HasFunds opening.now }
+    ensures { IsTrue result ↔ (base.now ≡ base_of opening.now) }
+{
+    are_none(base.updates)
+        && are_none(base.next_ids)
+        && base.balances.funder == opening.first_balance(Role::Funder)
+        && base.balances.fundee == opening.first_balance(Role::Fundee)
+        && base.feerate == opening.feerate
+        && base.live.as_slice().is_empty()
+}
+
+// The log of these updates; 70 where they tell none.
+fn log_of(
+    alloc: Global,
+    opening: Opening,
+    role: Role,
+    updates: Updates,
+) -> Result<UpdateLog, Refusal>
+    ensures log { IfOk result (λ l. TellsLog opening role updates × (l ≡ log_of opening role updates)) }
+    ensures fails { IfErr result (λ r. (r ≡ refusal.Memory)
+        ⊎ ((r ≡ refusal.Damaged) × ¬ TellsLog opening role updates)) }
+{
+    let Updates {
+        base,
+        window,
+        pairs,
+    } = updates;
+    let coverage = coverage_in(pairs);
+    let (own, received) = parted(role, window);
+    if !UpdateLog::can_be_loaded(alloc, &opening, role, &own, &received, &coverage)? {
+        return Err(Refusal::Damaged);
+    }
+    if !is_first(&base, &opening) {
+        return Err(Refusal::Damaged);
+    }
+    UpdateLog::load(alloc, opening, role, own, received, coverage)
+}
+
+// ---- what became of them
+
+// The events, without what was decided about them.
+fn ledger_of(progress: Progress) -> EventLedger
+    requires { progress.events.decided ≤ most_decided }
+    ensures { result ≡ ledger_of progress.events }
+{
+    let Progress {
+        events,
+        forwards,
+        ..
+    } = progress;
+    drop(forwards);
+    EventLedger::from_parts(events.decided, events.undecided.into_vec())
+}
+
+// ---- all of it
+
+fn are_ordered(fees: Fees) -> bool
+    ensures { IsTrue result ↔ AreOrdered fees }
+{
+    fees.least <= fees.first && fees.first <= fees.greatest
+}
+
+fn are_none_decided(forwards: &Forwards) -> bool
+    ensures { IsTrue result ↔ (forwards.now ≡ no_forwards) }
+{
+    forwards.decisions.as_slice().is_empty() && forwards.results.as_slice().is_empty()
+}
+
+fn is_named(script: &Option<Bytes>) -> bool
+    ensures { result ≡ is_some script.now }
+{
+    script.is_some()
+}
+
+// Whether the items can be loaded, but for their updates.
+fn are_loadable(items: &Items) -> bool
+    ensures { IsTrue result ↔ ((items.now.progress.forwards ≡ no_forwards) × AreOrdered items.now.agreement.fees
+        × (is_some items.now.agreement.peer_script ≡ items.now.header.flags.shut_received)) }
+{
+    are_none_decided(&items.progress.forwards)
+        && are_ordered(items.agreement.fees)
+        && is_named(&items.agreement.peer_script) == items.header.flags.shut_received
+}
+
+fn dance_of(header: Header, commitments: Commitments, log: UpdateLog) -> Dance
+    requires { AreInStep commitments.numbers log }
+    ensures { result ≡ dance_of header commitments log }
+{
+    Dance::new(
+        header.channel,
+        log,
+        commitments.numbers,
+        commitments.peer,
+        header.flags.later,
+    )
+}
+
+// The end that the items tell; 70 where they can't be loaded.
+#[tactic(auto, unfolding(crate::specs::Loading::end_of))]
+fn channel_of(alloc: Global, items: Items) -> Result<Channel, Refusal>
+    requires { is_readable items ≡ true }
+    ensures channel { IfOk result (λ c. IsLoadable items × (c ≡ end_of items)) }
+    ensures fails { IfErr result (λ r. (r ≡ refusal.Memory) ⊎ ((r ≡ refusal.Damaged) × ¬ IsLoadable items)) }
+{
+    if !are_loadable(&items) {
+        drop(items);
+        return Err(Refusal::Damaged);
+    }
+    let Items {
+        header,
+        agreement,
+        commitments,
+        updates,
+        progress,
+    } = items;
+    let marks = marks_of(header.flags, &agreement.place);
+    let closing = closing_of(header, agreement.fees, progress.fees);
+    let ledger = ledger_of(progress);
+    let terms = match terms_of(alloc, agreement) {
+        Ok(terms) => terms,
+        Err(refusal) => {
+            drop(updates);
+            drop(ledger);
+            return Err(refusal);
+        }
+    };
+    let log = match log_of(alloc, opening_of(&terms), header.role, updates) {
+        Ok(log) => log,
+        Err(refusal) => {
+            drop(terms);
+            drop(ledger);
+            return Err(refusal);
+        }
+    };
+    let dance = dance_of(header, commitments, log);
+    Ok(Channel::from_parts(dance, closing, terms, marks, ledger))
+}
+
+/// What comes back from the bytes of a record, without a connection.
+///
+/// Errors: those of `Link::from_record`.
+pub(crate) fn loaded<K: ChannelKeys + Drop>(
+    alloc: Global,
+    keys: K,
+    bytes: &[u8],
+) -> Result<Unsaved<K>, Refusal>
+    // The link, or the first fault.
+    ensures loads_as_defined { Loads keys (record_at bytes.now) result }
+
+    // What is written of readable items is loaded as they tell.
+    ensures loads_each_record { (i : Items) → is_readable i ≡ true → bytes.now ≡ record_bytes i
+        → Loads keys (Ok i) result }
+{
+    let record = decode_record(alloc, bytes)?;
+    let items = record.into_items();
+    let failure = items.header.failure;
+    let channel = channel_of(alloc, items)?;
+    Ok(Unsaved::come_back(keys, failure, channel))
+}
