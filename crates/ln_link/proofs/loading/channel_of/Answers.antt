@@ -4,7 +4,7 @@ use Rattle.ln_dance.specs.Dance.{AreInStep}
 use Rattle.ln_link.proofs.Again.{parts, stepping}
 use Rattle.ln_link.proofs.loading.channel_of.Goals as goal
 
-pub ledger_of-ledger-requires : goal.ledger_of-requires
+pub ledger_of-ledger-requires : goal.ledger_of-ledger-requires
 ledger_of-ledger-requires c = (parts c.args.items c.requires).decided
 
 pub dance_of-dance-requires : goal.dance_of-dance-requires
