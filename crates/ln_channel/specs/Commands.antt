@@ -1,6 +1,6 @@
 -- What each command makes of an end (BOLT 2).
 use Rattle.std.specs.Prelude.{ℕ, List, [], ◌∷◌, length, true, not, ◌||◌, nat_lt, Option, Some, None}
-use Rattle.std.specs.Prelude.{Result, Err, if◌then◌else◌}
+use Rattle.std.specs.Prelude.{Result, Ok, Err, if◌then◌else◌}
 use Rattle.ln_bytes.specs.declared.short_id.ShortId.{ShortId}
 use Rattle.ln_msgs.specs.declared.messages.message.Message.TheVariants as message
 use Rattle.ln_msgs.specs.declared.messages.opening.ChannelReady.{ChannelReady}
@@ -21,7 +21,9 @@ use Rattle.ln_channel.specs.declared.command.Command.TheVariants as command
 use Rattle.ln_channel.specs.declared.output.Output.TheVariants as output
 use Rattle.ln_channel.specs.Config.{longest_script}
 use Rattle.ln_channel.specs.Opening.{unless}
-use Rattle.ln_channel.specs.End.{End, with_dance, is_ready, is_closed, all_acknowledged, Turn, sending, completed}
+use Rattle.ln_channel.specs.Ledger.{Ledger, first_htlc, decide_row, forgotten}
+use Rattle.ln_channel.specs.End.{End, with_dance, is_ready, is_closed, all_acknowledged, Turn, quiet, sending}
+use Rattle.ln_channel.specs.End.{completed}
 use Rattle.ln_channel.specs.End.{shutdown_message}
 
 -- ---- Confirm: the funding is deep enough (BOLT 2, "The channel_ready Message")
@@ -110,6 +112,21 @@ abbrev pub shut_row : Signer → List ℕ → End → Result Turn Refusal
 shut_row keys script e =
     unless (shut_fault script e)
     (completed keys (sending (message.Shutdown (shutdown_message (shuts_down script e))) (shuts_down script e)))
+
+-- ---- Decide and Forget
+
+abbrev pub ledgered : Command → End → Result Ledger Refusal
+ledgered (command.Decide event m) e = decide_row event m (first_htlc e.dance.log e.ledger.undecided) e.ledger
+ledgered (command.Forget id) e = Ok (forgotten id e.ledger)
+ledgered c e = Err refusal.NotReady
+
+abbrev pub with_ledger : Result Ledger Refusal → End → Result Turn Refusal
+with_ledger (Ok l) e = Ok (quiet (record e { ledger = l }))
+with_ledger (Err r) e = Err r
+
+-- what is about decisions changes the ledger, and sends nothing
+abbrev pub note_row : Command → End → Result Turn Refusal
+note_row c e = with_ledger (ledgered c e) e
 
 -- ---- by command
 

@@ -20,7 +20,7 @@ use Rattle.ln_channel.specs.declared.opening.Opened.{Opened}
 use Rattle.ln_channel.specs.declared.channel.Marks.{Marks}
 use Rattle.ln_channel.specs.declared.output.Output.{Output}
 use Rattle.ln_channel.specs.declared.output.Output.TheVariants as output
-use Rattle.ln_channel.specs.Ledger.{Ledger, no_events, next_event, refs_of, entered}
+use Rattle.ln_channel.specs.Ledger.{Ledger, no_events, next_event, refs_of, entered, resulted}
 use Rattle.ln_channel.specs.Opening.{Lacks, opening_of}
 use Rattle.ln_channel.specs.Outputs.{Handed, nothing, sends, events_of, numbered}
 
@@ -107,6 +107,10 @@ told_of own us e = committed e ∷ numbered (next_event e.ledger) (events_of own
 
 abbrev pub telling : Bool → ℕ → List Update → End → End
 telling own before us e = record e { ledger = entered (refs_of own before us) e.ledger }
+
+-- what became of the own HTLCs that these updates of the peer's remove is kept
+abbrev pub settling : List Update → End → End
+settling us e = record e { ledger = resulted e.dance.log.own us e.ledger }
 
 -- ---- shutdown (BOLT 2, "Closing Initiation: shutdown")
 

@@ -27,7 +27,7 @@ use Rattle.ln_channel.specs.Opening.{first_fault, MayLack, Lacks}
 use Rattle.ln_channel.specs.End.{End, Turn, end_of}
 use Rattle.ln_channel.specs.Taking.{taken}
 use Rattle.ln_channel.specs.Resume.{resume_row}
-use Rattle.ln_channel.specs.Commands.{command_row, unready_fault}
+use Rattle.ln_channel.specs.Commands.{command_row, note_row, unready_fault}
 use Rattle.ln_channel.specs.Naming.{named, is_meant, is_other}
 use Rattle.ln_channel.specs.Failing.{fails}
 use Rattle.ln_channel.specs.State.{State, is_down, is_met, lost, refused}
@@ -132,7 +132,7 @@ handled keys l m = if l.halted then Err refusal.Halted else faulted l.failure (a
 
 -- ---- a command
 
--- those about records are for later, and 40
+-- those about what a record keeps of decisions
 abbrev pub is_of_records : Command → Bool
 is_of_records (command.Decide event mark) = true
 is_of_records (command.Forget id) = true
@@ -149,10 +149,18 @@ abbrev pub obeyed : Signer → Line → Command → Stage → Result Done Refusa
 obeyed keys l c (stage.Saved e) = obeyed_open keys l c e
 obeyed keys l c s = Err refusal.NotReady
 
+-- decisions are taken without a connection too
+abbrev pub noted : Line → Command → Stage → Result Done Refusal
+noted l c (stage.Saved e) = turned l (note_row c e)
+noted l c s = Err refusal.NotReady
+
+-- and by a channel that has failed
+abbrev pub asked : {K : Type 0} → Signer → State K → Command → Result Done Refusal
+asked keys l c =
+    if is_of_records c then noted l.line c l.stage else faulted l.failure (obeyed keys l.line c l.stage)
+
 abbrev pub commanded : {K : Type 0} → Signer → State K → Command → Result Done Refusal
-commanded keys l c =
-    if l.halted then Err refusal.Halted
-    else (if is_of_records c then Err refusal.NotReady else faulted l.failure (obeyed keys l.line c l.stage))
+commanded keys l c = if l.halted then Err refusal.Halted else asked keys l c
 
 -- ---- a connection
 

@@ -33,7 +33,7 @@ use Rattle.ln_channel.specs.Outputs.{Handed, nothing}
 use Rattle.ln_channel.specs.Opening.{unless}
 use Rattle.ln_channel.specs.Since.{own_since, peer_since}
 use Rattle.ln_channel.specs.End.{End, with_dance, is_ready, is_closed, has_begun, Turn, quiet, completed, told_of, telling}
-use Rattle.ln_channel.specs.End.{fee_sent}
+use Rattle.ln_channel.specs.End.{settling, fee_sent}
 
 -- ---- channel_ready (BOLT 2, "The channel_ready Message")
 
@@ -100,10 +100,10 @@ signature_row keys m e = unless (signature_fault keys m e) (accepting keys e.dan
 abbrev pub revokes : RevokeAndAck → End → End
 revokes m e = with_dance (after_learn m e.dance) e
 
--- the peer's updates that are newly held are told
+-- the peer's updates that are newly held are told, and what became of forwarded HTLCs by them is kept
 abbrev pub learning : ℕ → End → Turn
 learning before now = record {
-  end = telling false before (peer_since before now.dance.log) now;
+  end = settling (peer_since before now.dance.log) (telling false before (peer_since before now.dance.log) now);
   handed = record { sent = []; told = told_of false (peer_since before now.dance.log) now };
 }
 

@@ -67,7 +67,8 @@ impl Channel {
     ghost use Rattle.ln_channel.specs.Since.{own_since, peer_since};
     ghost use Rattle.ln_channel.specs.End.{End, end_of, end_dropped, is_ready, is_closed, all_acknowledged, is_settled};
     ghost use Rattle.ln_channel.specs.End.{has_begun, fee_range, closing_message, due_fee, fee_sent, begins, committed};
-    ghost use Rattle.ln_channel.specs.End.{telling, shutdown_message, shutdown_sent, answers_shutdown, due_sent, settled};
+    ghost use Rattle.ln_channel.specs.End.{telling, settling, shutdown_message, shutdown_sent, answers_shutdown};
+    ghost use Rattle.ln_channel.specs.End.{due_sent, settled};
 
     /// An end whose opening both sides agree to. Takes no memory.
     pub fn new(alloc: Global, opened: Opened) -> Channel
@@ -212,6 +213,17 @@ impl Channel {
         outbox.tell(self.committed())?;
         let updates = peer_since(&self.dance, before);
         self.ledger.enter_all(alloc, false, before, updates, outbox)
+    }
+
+    // Keeps what became of the own HTLCs that the peer's updates remove which are held from this one on.
+    pub(crate) fn keep_results(&mut self, alloc: Global, before: usize) -> Result<(), Refusal>
+        requires start { before ≤ self.old.dance.log.acknowledged.peer }
+        requires kept { self.old.dance.log.first.peer ≤ before }
+        ensures state { OnOk result (self.new ≡ settling (peer_since before self.old.dance.log) self.old) }
+        ensures fails_for_memory_alone { IfErr result (λ r. r ≡ Refusal.Memory) }
+    {
+        let updates = peer_since(&self.dance, before);
+        self.ledger.keep_results(alloc, self.dance.log(), updates)
     }
 
     // ---- what it owes the peer

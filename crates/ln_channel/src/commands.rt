@@ -7,7 +7,7 @@ use crate::output::{Outbox, Output, one};
 use ln_bytes::{Bytes, ShortId};
 use ln_dance::{add_message, fail_message, fee_message, fulfil_message, malformed_message};
 use ln_keys::ChannelKeys;
-use ln_log::{Add, Fail, Fee, Fulfil, Malformed, Side, Update};
+use ln_log::{Add, EventRef, Fail, Fee, Fulfil, Malformed, Side, Update, add_of};
 use ln_msgs::{ChannelReady, CommitmentSigned, Message, PeerRule, Records, Refusal};
 use std::alloc::Global;
 
@@ -22,7 +22,9 @@ impl Channel {
     ghost use Rattle.ln_channel.specs.End.{Makes};
     ghost use Rattle.ln_channel.specs.Commands.{confirm_row, ready_message, shut_by_either, closed_fault, own_fault};
     ghost use Rattle.ln_channel.specs.Commands.{propose_fault, proposes, propose_row, sign_command_fault, signs_next};
-    ghost use Rattle.ln_channel.specs.Commands.{sign_row, shut_fault, shut_row, command_row, unready_fault};
+    ghost use Rattle.ln_channel.specs.Commands.{sign_row, shut_fault, shut_row, note_row, command_row, unready_fault};
+    ghost use Rattle.ln_log.specs.declared.mark.EventRef.TheVariants as ref;
+    ghost use Rattle.ln_channel.specs.Ledger.{htlc_of, first_htlc};
 
     /// The funding is deep enough: sends `channel_ready` (BOLT 2, "The `channel_ready` Message"). 40 where it was sent,
     /// or the channel is closed.
@@ -276,6 +278,46 @@ impl Channel {
                 }
             }
         }
+    }
+
+    // The HTLC that the peer's update of this number offers.
+    fn peer_htlc(&self, number: u64) -> Option<u64>
+        ensures { result ≡ htlc_of self.now.dance.log (ref.Peer number) }
+    {
+        let update = self.dance.log().update(Side::Peer, number as usize)?;
+        Some(add_of(update)?.id)
+    }
+
+    // The peer's HTLC that the first undecided event tells of.
+    fn first_htlc(&self) -> Option<u64>
+        ensures { result ≡ first_htlc self.now.dance.log self.now.ledger.undecided }
+    {
+        match self.ledger.undecided() {
+            [EventRef::Peer(number), ..] => self.peer_htlc(*number),
+            _ => None,
+        }
+    }
+
+    /// What a command about decisions makes of the end: the first undecided event is decided, or a result goes that
+    /// has been passed on. Nothing is sent.
+    ///
+    /// Errors: 40 where another event is decided than the first undecided one, or a mark other than `None` is for none
+    /// of the peer's adds; 60.
+    pub(crate) fn note(&mut self, alloc: Global, command: Command) -> Result<Outbox, Refusal>
+        ensures { Makes (note_row command self.old) result self.old self.new }
+    {
+        match command {
+            Command::Decide { event, mark } => {
+                let htlc = self.first_htlc();
+                self.ledger.decide(event, mark, htlc)?;
+            }
+            Command::Forget(id) => self.ledger.forget(id),
+            other => {
+                drop(other);
+                return Err(Refusal::NotReady);
+            }
+        }
+        Ok(Outbox::new(alloc))
     }
 
     /// What a command makes of the end.

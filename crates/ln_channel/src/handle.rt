@@ -2,7 +2,7 @@
 
 use crate::command::Command;
 use crate::output::{Outbox, Output};
-use crate::stage::{fails, obey_open};
+use crate::stage::{fails, note_open, obey_open};
 use crate::unsaved::{Stage, Unsaved};
 use ln_keys::ChannelKeys;
 use ln_msgs::{Message, Refusal};
@@ -11,8 +11,8 @@ use std::alloc::Global;
 impl<K: ChannelKeys + Drop> Unsaved<K> {
     ghost use Rattle.std.specs.Prelude.{◌≡◌};
     ghost use Rattle.ln_channel.specs.State.{State, StandsFor, fails_by};
-    ghost use Rattle.ln_channel.specs.Step.{AnsweredMessage, Answered, handled, commanded, at_hand, obeyed, MovesBy};
-    ghost use Rattle.ln_channel.specs.Step.{Takes};
+    ghost use Rattle.ln_channel.specs.Step.{AnsweredMessage, Answered, handled, commanded, asked, noted, at_hand};
+    ghost use Rattle.ln_channel.specs.Step.{obeyed, MovesBy, Takes};
 
     /// Takes a message: what it makes of the link, and what is handed out.
     ///
@@ -78,10 +78,12 @@ impl<K: ChannelKeys + Drop> Unsaved<K> {
     /// Does what it is told: what it makes of the link, and what is handed out. Where it refuses nothing has changed,
     /// but for 60.
     ///
-    /// Errors, the first that holds: 62 where the link has halted; 40 for what is about decisions, as it keeps none
-    /// yet; the number by which it has failed; 40 where its opening isn't signed by both, or the channel isn't ready
-    /// for the command; 47 where there is no connection, or the peer's `channel_reestablish` hasn't come; then those of
-    /// the command, 41 to 46, 48 and 49. 60 where there is no memory, which halts it.
+    /// Errors, the first that holds: 62 where the link has halted. Of `Decide` and `Forget`, which are taken without a
+    /// connection too, and by a channel that has failed: 40 where the opening isn't signed by both, where another event
+    /// is decided than the first undecided one, or where a mark other than `None` is for none of the peer's adds. Of the
+    /// others: the number by which the channel has failed; 40 where its opening isn't signed by both, or the channel
+    /// isn't ready for the command; 47 where there is no connection, or the peer's `channel_reestablish` hasn't come;
+    /// then those of the command, 41 to 46, 48 and 49. 60 where there is no memory, which halts it.
     pub fn command(&mut self, alloc: Global, command: Command) -> Result<Vec<Output>, Refusal>
         ensures { (l : State K) → StandsFor self.old l
             → Answered (λ v. v.items) (commanded (K.signer l.keys) l command) l result self.new }
@@ -90,21 +92,36 @@ impl<K: ChannelKeys + Drop> Unsaved<K> {
             drop(command);
             return Err(Refusal::Halted);
         }
+        match self.work(alloc, command) {
+            Ok(outbox) => self.hand_out(outbox),
+            Err(Refusal::Memory) => Err(self.halted_by_memory()),
+            Err(refusal) => Err(refusal),
+        }
+    }
+
+    // What it does unless it has halted.
+    fn work(&mut self, alloc: Global, command: Command) -> Result<Outbox, Refusal>
+        ensures { MovesBy (asked (K.signer self.old.keys) self.old command) result self.old self.new }
+    {
         if command.is_of_records() {
-            drop(command);
-            return Err(Refusal::NotReady);
+            return self.note(alloc, command);
         }
         match self.failure {
             Some(stored) => {
                 drop(command);
-                return Err(stored);
+                Err(stored)
             }
-            None => {}
+            None => self.obey(alloc, command),
         }
-        match self.obey(alloc, command) {
-            Ok(outbox) => self.hand_out(outbox),
-            Err(Refusal::Memory) => Err(self.halted_by_memory()),
-            Err(refusal) => Err(refusal),
+    }
+
+    // What it makes of a command about decisions at its stage.
+    fn note(&mut self, alloc: Global, command: Command) -> Result<Outbox, Refusal>
+        ensures { MovesBy (noted self.old.line command self.old.stage) result self.old self.new }
+    {
+        match &mut self.stage {
+            Stage::Saved(channel) => note_open(alloc, self.line, channel, command),
+            _ => Err(Refusal::NotReady),
         }
     }
 

@@ -1,17 +1,26 @@
-//! The events of a channel end, by number.
+//! The events of a channel end by number, what was decided about HTLCs, and what became of those that were forwarded.
 
 use crate::output::{Outbox, Output};
 use ln_hooks::{ChannelEvent, event_of};
-use ln_log::{EventRef, Update};
+use ln_log::{
+    Add, ChannelId, Decision, EventRef, Mark, Settlement, Update, UpdateLog, copy_update,
+    removal_of,
+};
 use ln_msgs::Refusal;
 use std::alloc::Global;
 use std::marker::Model;
 
-/// The events of a channel end by number: how many were decided, and the undecided ones behind them in their order.
+/// The most events that a channel end has: 2^62 updates of either side, and the close.
+const MOST_DECIDED: u64 = (1 << 63) + 1;
+
+/// The events of a channel end by number: how many were decided, and the undecided ones behind them in their order;
+/// what was decided about HTLCs of the peer's, and what became of own ones that forward others.
 #[derive(Debug, Drop)]
 pub struct EventLedger {
     decided: u64,
     undecided: Vec<EventRef>,
+    decisions: Vec<Decision>,
+    results: Vec<Settlement>,
 }
 
 impl Model for EventLedger {
@@ -20,13 +29,18 @@ impl Model for EventLedger {
 
     ghost Value = { Ledger };
 
-    ghost view = { λ l. record { decided = l.decided; undecided = l.undecided.items } };
+    ghost view = { λ l. record {
+      decided = l.decided;
+      undecided = l.undecided.items;
+      decisions = l.decisions.items;
+      results = l.results.items;
+    } };
 
     ghost invariant = { λ l. l.decided ≤ most_decided };
 }
 
-ghost use Rattle.std.specs.Prelude.{◌≡◌};
-ghost use Rattle.ln_channel.specs.Ledger.{ref_of};
+ghost use Rattle.std.specs.Prelude.{◌≡◌, IfOk, IfErr, option_copied, filter};
+ghost use Rattle.ln_channel.specs.Ledger.{ref_of, origin_of, settlement_by, is_not_of};
 
 // The update of this number, of this side's own or of the peer's.
 fn ref_of(own: bool, number: u64) -> EventRef
@@ -37,6 +51,45 @@ fn ref_of(own: bool, number: u64) -> EventRef
     } else {
         EventRef::Peer(number)
     }
+}
+
+// The HTLC that an own one forwards.
+fn origin_of(add: Option<&Add>) -> Option<(ChannelId, u64)>
+    ensures { result ≡ origin_of (option_copied add) }
+{
+    match add {
+        None => None,
+        Some(add) => add.origin,
+    }
+}
+
+// What became of the own HTLC that this update of the peer's removes, where it forwards another one.
+fn settlement_by(
+    alloc: Global,
+    log: &UpdateLog,
+    update: &Update,
+) -> Result<Option<Settlement>, Refusal>
+    ensures settlement { IfOk result (λ s. s ≡ settlement_by log.now.own update.now) }
+    ensures fails_for_memory_alone { IfErr result (λ r. r ≡ Refusal.Memory) }
+{
+    let Some(removal) = removal_of(update) else {
+        return Ok(None);
+    };
+    let Some(origin) = origin_of(log.own_htlc(removal.id)) else {
+        return Ok(None);
+    };
+    Ok(Some(Settlement {
+        id: removal.id,
+        origin,
+        removal: copy_update(alloc, update)?,
+    }))
+}
+
+// Whether a result is of another HTLC than this own one.
+fn is_not_of(id: u64, settlement: &Settlement) -> bool
+    ensures { result ≡ is_not_of id settlement.now }
+{
+    settlement.id != id
 }
 
 impl EventLedger {
@@ -55,6 +108,8 @@ impl EventLedger {
         EventLedger {
             decided: 0,
             undecided: Vec::new(alloc),
+            decisions: Vec::new(alloc),
+            results: Vec::new(alloc),
         }
     }
 
@@ -128,15 +183,135 @@ impl EventLedger {
 }
 
 impl EventLedger {
+    ghost use Rattle.std.specs.Prelude.{◌≡◌, ◌<◌, ◌×◌, ◌∷◌, [], length, Ok, OnOk, IfErr};
+    ghost use Rattle.ln_bytes.specs.Answers.{Leaves};
+    ghost use Rattle.ln_channel.specs.Opening.{Lacks};
+    ghost use Rattle.ln_channel.specs.Ledger.{most_decided, resulted, marked, decided_first, is_in_turn, decide_row};
+    ghost use Rattle.ln_channel.specs.Ledger.{forgotten};
+
+    // Keeps what became of the own HTLC that this update removes.
+    fn keep_result(
+        &mut self,
+        alloc: Global,
+        log: &UpdateLog,
+        update: &Update,
+    ) -> Result<(), Refusal>
+        ensures kept { OnOk result (self.new ≡ resulted log.now.own (update.now ∷ []) self.old) }
+        ensures fails_for_memory_alone { IfErr result (λ r. r ≡ Refusal.Memory) }
+    {
+        match settlement_by(alloc, log, update)? {
+            None => {}
+            Some(settlement) => self.results.push(settlement)?,
+        }
+        Ok(())
+    }
+
+    /// Keeps what became of the own HTLCs that these updates of the peer's remove.
+    pub(crate) fn keep_results(
+        &mut self,
+        alloc: Global,
+        log: &UpdateLog,
+        updates: &[Update],
+    ) -> Result<(), Refusal>
+        ensures kept { OnOk result (self.new ≡ resulted log.now.own updates.now self.old) }
+        ensures fails_for_memory_alone { IfErr result (λ r. r ≡ Refusal.Memory) }
+    {
+        for update in updates {
+            self.keep_result(alloc, log, update)?;
+        }
+        Ok(())
+    }
+
+    // Whether this is the number of the first undecided event.
+    fn is_in_turn(&self, event: u64) -> bool
+        ensures { result ≡ is_in_turn event self.now }
+    {
+        event == self.decided && event < MOST_DECIDED && !self.undecided.as_slice().is_empty()
+    }
+
+    // Keeps a mark other than `None`, with its HTLC; 40 where it has none.
+    fn keep_mark(&mut self, mark: Mark, htlc: Option<u64>) -> Result<(), Refusal>
+        ensures marked { Leaves Lacks (λ x. self.new) (λ r. self.new ≡ self.old) (marked mark htlc self.old) result }
+        ensures same_events { (self.new.decided ≡ self.old.decided) × (self.new.undecided ≡ self.old.undecided) }
+    {
+        match mark {
+            Mark::None => Ok(()),
+            mark => {
+                let Some(id) = htlc else {
+                    drop(mark);
+                    return Err(Refusal::NotReady);
+                };
+                self.decisions.push(Decision { id, mark })?;
+                Ok(())
+            }
+        }
+    }
+
+    // The first undecided event, of which there is one, is decided.
+    fn decide_first(&mut self)
+        requires count { self.old.decided < most_decided }
+        requires some { 0 < length self.old.undecided }
+        ensures { Ok self.new ≡ decided_first (Ok self.old) }
+    {
+        self.undecided.remove(0);
+        self.decided += 1;
+    }
+
+    /// The event of this number, which tells of this HTLC of the peer's, if of one, is decided so. Errors: 40 where
+    /// it isn't the first undecided event, or a mark other than `None` has no HTLC; 60. Where it refuses nothing has
+    /// changed.
+    pub(crate) fn decide(
+        &mut self,
+        event: u64,
+        mark: Mark,
+        htlc: Option<u64>,
+    ) -> Result<(), Refusal>
+        ensures { Leaves Lacks (λ x. self.new) (λ r. self.new ≡ self.old) (decide_row event mark htlc self.old)
+            result }
+    {
+        if !self.is_in_turn(event) {
+            drop(mark);
+            return Err(Refusal::NotReady);
+        }
+        self.keep_mark(mark, htlc)?;
+        self.decide_first();
+        Ok(())
+    }
+
+    /// The results of this own HTLC are left out. Takes no memory.
+    pub(crate) fn forget(&mut self, id: u64)
+        ensures { self.new ≡ forgotten id self.old }
+    {
+        leave_out(&mut self.results, id);
+    }
+}
+
+impl EventLedger {
     ghost use Rattle.std.specs.Prelude.{◌≡◌, ◌≤◌};
     ghost use Rattle.ln_channel.specs.Ledger.{most_decided};
 
-    /// So many decided events, 2^63 + 1 at most, and these undecided ones behind them. Takes no memory.
-    pub fn from_parts(decided: u64, undecided: Vec<EventRef>) -> EventLedger
+    /// So many decided events, 2^63 + 1 at most, and these undecided ones behind them; these decisions and results.
+    /// Takes no memory.
+    pub fn from_parts(
+        decided: u64,
+        undecided: Vec<EventRef>,
+        decisions: Vec<Decision>,
+        results: Vec<Settlement>,
+    ) -> EventLedger
         requires { decided ≤ most_decided }
-        ensures { result ≡ record { decided = decided; undecided = undecided.items } }
+        ensures { result ≡ record {
+          decided = decided;
+          undecided = undecided.items;
+          decisions = decisions.items;
+          results = results.items;
+        } }
     {
-        EventLedger { decided, undecided }
+        EventLedger {
+            decided,
+            undecided,
+            decisions,
+            results,
+        }
     }
 
     /// How many were decided.
@@ -152,4 +327,25 @@ impl EventLedger {
     {
         self.undecided.as_slice()
     }
+
+    /// What was decided about HTLCs of the peer's, in the order of deciding.
+    pub fn decisions(&self) -> &[Decision]
+        ensures { result.now ≡ self.now.decisions }
+    {
+        self.decisions.as_slice()
+    }
+
+    /// What became of own HTLCs that forward others, in the order in which it came.
+    pub fn results(&self) -> &[Settlement]
+        ensures { result.now ≡ self.now.results }
+    {
+        self.results.as_slice()
+    }
+}
+
+// All results but those of this own HTLC. Takes no memory.
+fn leave_out(results: &mut Vec<Settlement>, id: u64)
+    ensures { results.new.items ≡ filter (is_not_of id) results.old.items }
+{
+    results.retain(|settlement| is_not_of(id, settlement));
 }

@@ -8,6 +8,7 @@ ghost use Rattle.ln_channel.specs.State.{is_saved};
 ghost use Rattle.ln_channel.specs.declared.unsaved.Line.TheVariants as lines;
 ghost use Rattle.ln_channel.specs.declared.unsaved.Stage.TheVariants as stages;
 ghost use Rattle.ln_channel.specs.Resume.{resume_row};
+ghost use Rattle.ln_channel.specs.Commands.{note_row};
 ghost use Rattle.ln_channel.specs.Step.{error_fault, turned, obeyed_open, awaiting_at, saved, Becomes, Moves, MovesEnd};
 
 use crate::channel::Channel;
@@ -464,4 +465,16 @@ pub(crate) fn obey_open<K: ChannelKeys>(
         return Err(Refusal::Disconnected);
     }
     channel.command(alloc, keys, command)
+}
+
+// What an open channel makes of a command about decisions.
+pub(crate) fn note_open(
+    alloc: Global,
+    line: Line,
+    channel: &mut Channel,
+    command: Command,
+) -> Result<Outbox, Refusal>
+    ensures { MovesEnd (turned line (note_row command channel.old)) result line line channel.old channel.new }
+{
+    channel.note(alloc, command)
 }

@@ -152,7 +152,7 @@ impl Channel {
     }
 
     /// Takes a revocation (BOLT 2, "Completing the Transition to the Updated State: `revoke_and_ack`"): what is newly
-    /// held is told.
+    /// held is told, and what became of forwarded HTLCs by it is kept.
     ///
     /// Errors: 33 where no signature is unrevoked, 32 for a wrong secret, 60.
     fn take_revocation<K: ChannelKeys>(
@@ -167,6 +167,7 @@ impl Channel {
         self.learn(keys, message)?;
         let mut outbox = Outbox::new(alloc);
         self.tell_peer(alloc, before, &mut outbox)?;
+        self.keep_results(alloc, before)?;
         Ok(outbox)
     }
 

@@ -121,7 +121,7 @@ loaded failure e h =
     let made : Log → Terms → Option ShortId → End = λ l t s.
     end_with (dance_of (header_of failure e) (commitments_of e.dance) l) e.closing t
     (record { short_id = s; ready_sent = e.marks.ready_sent; ready_received = e.marks.ready_received })
-    (record { decided = e.ledger.decided; undecided = e.ledger.undecided }) in
+    e.ledger in
     let t = terms_of (agreement_of e) in
     let s = option_map short_id_of (option_map place_of e.marks.short_id) in
     ap (λ (l : Log). made l t s) (loaded_log failure e h)
@@ -135,7 +135,6 @@ loadable failure e h = record {
     log = subst IsReadable (sym (loaded_log failure e h)) h.log;
     base = ap base_of (ap opening_of (sym (terms_again failure e h)));
   };
-  forwards = refl;
   fees = h.sound.fees;
   scripts = h.sound.scripts;
 }

@@ -39,13 +39,13 @@ use Rattle.ln_store.specs.declared.record.Agreement.{Agreement}
 use Rattle.ln_store.specs.declared.record.Window.{Window}
 use Rattle.ln_store.specs.declared.record.Covered.{Covered}
 use Rattle.ln_store.specs.declared.record.Pairs.{Pairs}
-use Rattle.ln_store.specs.declared.record.Events.{Events}
+use Rattle.ln_store.specs.declared.record.Progress.{Progress}
 use Rattle.ln_store.specs.declared.record.ClosingFees.{ClosingFees}
 use Rattle.ln_store.specs.declared.record.Commitments.{Commitments}
 use Rattle.ln_store.specs.declared.record.Updates.{Updates}
 use Rattle.ln_store.specs.declared.record.Items.{Items}
 use Rattle.ln_store.specs.Readable.{is_readable}
-use Rattle.ln_link.specs.Record.{base_of, no_forwards, items_of}
+use Rattle.ln_link.specs.Record.{base_of, items_of}
 
 -- ---- what both sides agreed on
 
@@ -199,8 +199,13 @@ dance_of h c l = record {
 
 -- ---- what became of them
 
-abbrev pub ledger_of : Events → Ledger
-ledger_of e = record { decided = e.decided; undecided = e.undecided }
+abbrev pub ledger_of : Progress → Ledger
+ledger_of p = record {
+  decided = p.events.decided;
+  undecided = p.events.undecided;
+  decisions = p.forwards.decisions;
+  results = p.forwards.results;
+}
 
 -- ---- all of it
 
@@ -210,7 +215,7 @@ log_in i = log_of (opening_of (terms_of i.agreement)) i.header.role i.updates
 unfoldable pub end_of : Items → End
 end_of i =
     end_with (dance_of i.header i.commitments (log_in i)) (closing_of i.header i.agreement i.progress.fees)
-    (terms_of i.agreement) (marks_of i.header.flags i.agreement.place) (ledger_of i.progress.events)
+    (terms_of i.agreement) (marks_of i.header.flags i.agreement.place) (ledger_of i.progress)
 
 -- ---- which items can be loaded
 
@@ -219,11 +224,9 @@ pub record TellsLog (o : Opening) (x : Role) (u : Updates) : Type 0 where
   pub log : IsReadable (log_of o x u)
   pub base : u.base ≡ base_of o
 
--- The updates tell a log, nothing was decided about an HTLC, the closing fees are in order, and the peer's script is
--- there where the peer has shut down.
+-- The updates tell a log, the closing fees are in order, and the peer's script is there where the peer has shut down.
 pub record IsLoadable (i : Items) : Type 0 where
   pub updates : TellsLog (opening_of (terms_of i.agreement)) i.header.role i.updates
-  pub forwards : i.progress.forwards ≡ no_forwards
   pub fees : AreOrdered i.agreement.fees
   pub scripts : is_some i.agreement.peer_script ≡ i.header.flags.shut_received
 

@@ -107,15 +107,15 @@ updates_of o role l = record { base = base_of o; window = window_of role l.own l
 abbrev pub events_of : Ledger → Events
 events_of l = record { decided = l.decided; undecided = l.undecided }
 
--- there are no decisions yet
-abbrev pub no_forwards : Forwards
-no_forwards = record { decisions = []; results = [] }
+abbrev pub forwards_of : Ledger → Forwards
+forwards_of l = record { decisions = l.decisions; results = l.results }
 
 abbrev pub fees_of : Closing → ClosingFees
 fees_of c = record { own = c.own_fee; peer = c.peer_fee; closed = c.closed }
 
 unfoldable pub progress_of : End → Progress
-progress_of e = record { events = events_of e.ledger; forwards = no_forwards; fees = fees_of e.closing }
+progress_of e =
+    record { events = events_of e.ledger; forwards = forwards_of e.ledger; fees = fees_of e.closing }
 
 -- ---- all of it
 

@@ -4,7 +4,7 @@ ghost use Rattle.std.specs.Prelude.{◌≡◌, IfOk, IfErr};
 ghost use Rattle.ln_msgs.specs.declared.refusals.refusal.Refusal.TheVariants as refusal;
 
 use ln_bytes::{Bytes, Record};
-use ln_log::{Fail, Update};
+use ln_log::{Decision, Mark, Settlement, Update, copy_update};
 use ln_msgs::{Records, Refusal};
 use std::alloc::Global;
 
@@ -38,25 +38,6 @@ pub(crate) fn copy_records(alloc: Global, records: &Records) -> Result<Records, 
     Ok(Records::new(copies))
 }
 
-fn copy_update(alloc: Global, update: &Update) -> Result<Update, Refusal>
-    ensures copy { IfOk result (λ u. u ≡ update.now) }
-    ensures fails_for_memory_alone { IfErr result (λ r. r ≡ refusal.Memory) }
-{
-    match update {
-        Update::Add(add) => Ok(Update::Add(*add)),
-        Update::Fulfil(fulfil) => Ok(Update::Fulfil(*fulfil)),
-        Update::Fail(fail) => {
-            let reason = copy_bytes(alloc, &fail.reason)?;
-            Ok(Update::Fail(Fail {
-                id: fail.id,
-                reason,
-            }))
-        }
-        Update::Malformed(malformed) => Ok(Update::Malformed(*malformed)),
-        Update::Fee(fee) => Ok(Update::Fee(*fee)),
-    }
-}
-
 /// The same updates.
 pub(crate) fn copy_updates(alloc: Global, updates: &[Update]) -> Result<Vec<Update>, Refusal>
     ensures copies { IfOk result (λ us. us.items ≡ updates.now) }
@@ -65,6 +46,78 @@ pub(crate) fn copy_updates(alloc: Global, updates: &[Update]) -> Result<Vec<Upda
     let mut copies = Vec::new(alloc);
     for update in updates {
         copies.push(copy_update(alloc, update)?)?;
+    }
+    Ok(copies)
+}
+
+fn copy_mark(alloc: Global, mark: &Mark) -> Result<Mark, Refusal>
+    ensures copy { IfOk result (λ m. m ≡ mark.now) }
+    ensures fails_for_memory_alone { IfErr result (λ r. r ≡ refusal.Memory) }
+{
+    match mark {
+        Mark::None => Ok(Mark::None),
+        Mark::Forward {
+            channel,
+            amount,
+            expiry,
+        } => Ok(Mark::Forward {
+            channel: *channel,
+            amount: *amount,
+            expiry: *expiry,
+        }),
+        Mark::Fail(reason) => Ok(Mark::Fail(copy_bytes(alloc, reason)?)),
+        Mark::Malformed(code) => Ok(Mark::Malformed(*code)),
+        Mark::Fulfil(preimage) => Ok(Mark::Fulfil(*preimage)),
+    }
+}
+
+fn copy_decision(alloc: Global, decision: &Decision) -> Result<Decision, Refusal>
+    ensures copy { IfOk result (λ d. d ≡ decision.now) }
+    ensures fails_for_memory_alone { IfErr result (λ r. r ≡ refusal.Memory) }
+{
+    Ok(Decision {
+        id: decision.id,
+        mark: copy_mark(alloc, &decision.mark)?,
+    })
+}
+
+/// The same decisions.
+pub(crate) fn copy_decisions(
+    alloc: Global,
+    decisions: &[Decision],
+) -> Result<Vec<Decision>, Refusal>
+    ensures copies { IfOk result (λ ds. ds.items ≡ decisions.now) }
+    ensures fails_for_memory_alone { IfErr result (λ r. r ≡ refusal.Memory) }
+{
+    let mut copies = Vec::new(alloc);
+    for decision in decisions {
+        copies.push(copy_decision(alloc, decision)?)?;
+    }
+    Ok(copies)
+}
+
+fn copy_result(alloc: Global, settlement: &Settlement) -> Result<Settlement, Refusal>
+    ensures copy { IfOk result (λ s. s ≡ settlement.now) }
+    ensures fails_for_memory_alone { IfErr result (λ r. r ≡ refusal.Memory) }
+{
+    Ok(Settlement {
+        id: settlement.id,
+        origin: settlement.origin,
+        removal: copy_update(alloc, &settlement.removal)?,
+    })
+}
+
+/// The same results.
+pub(crate) fn copy_results(
+    alloc: Global,
+    results: &[Settlement],
+) -> Result<Vec<Settlement>, Refusal>
+    ensures copies { IfOk result (λ ss. ss.items ≡ results.now) }
+    ensures fails_for_memory_alone { IfErr result (λ r. r ≡ refusal.Memory) }
+{
+    let mut copies = Vec::new(alloc);
+    for settlement in results {
+        copies.push(copy_result(alloc, settlement)?)?;
     }
     Ok(copies)
 }

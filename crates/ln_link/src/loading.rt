@@ -15,7 +15,7 @@ ghost use Rattle.ln_channel.specs.Ledger.{most_decided};
 ghost use Rattle.ln_store.specs.Readable.{is_readable, is_open_payload, is_accept_payload};
 ghost use Rattle.ln_store.specs.Record.{record_at, record_bytes};
 ghost use Rattle.ln_store.specs.declared.record.Items.{Items};
-ghost use Rattle.ln_link.specs.Record.{base_of, no_sides, no_forwards};
+ghost use Rattle.ln_link.specs.Record.{base_of, no_sides};
 ghost use Rattle.ln_link.specs.Loading.{open_in, accept_in, terms_of, marks_of, closing_of, own_in, received_in};
 ghost use Rattle.ln_link.specs.Loading.{counts_in, coverage_in, log_of, dance_of, ledger_of, end_of};
 ghost use Rattle.ln_link.specs.Loading.{short_id_of, TellsLog, IsLoadable, Loads};
@@ -221,18 +221,23 @@ fn log_of(
 
 // ---- what became of them
 
-// The events, without what was decided about them.
+// The events, what was decided, and what became of forwarded HTLCs.
 fn ledger_of(progress: Progress) -> EventLedger
     requires { progress.events.decided ≤ most_decided }
-    ensures { result ≡ ledger_of progress.events }
+    ensures { result ≡ ledger_of progress }
 {
     let Progress {
         events,
         forwards,
         ..
     } = progress;
-    drop(forwards);
-    EventLedger::from_parts(events.decided, events.undecided.into_vec())
+    let Forwards { decisions, results } = forwards;
+    EventLedger::from_parts(
+        events.decided,
+        events.undecided.into_vec(),
+        decisions.into_vec(),
+        results.into_vec(),
+    )
 }
 
 // ---- all of it
@@ -243,12 +248,6 @@ fn are_ordered(fees: Fees) -> bool
     fees.least <= fees.first && fees.first <= fees.greatest
 }
 
-fn are_none_decided(forwards: &Forwards) -> bool
-    ensures { IsTrue result ↔ (forwards.now ≡ no_forwards) }
-{
-    forwards.decisions.as_slice().is_empty() && forwards.results.as_slice().is_empty()
-}
-
 fn is_named(script: &Option<Bytes>) -> bool
     ensures { result ≡ is_some script.now }
 {
@@ -257,11 +256,10 @@ fn is_named(script: &Option<Bytes>) -> bool
 
 // Whether the items can be loaded, but for their updates.
 fn are_loadable(items: &Items) -> bool
-    ensures { IsTrue result ↔ ((items.now.progress.forwards ≡ no_forwards) × AreOrdered items.now.agreement.fees
+    ensures { IsTrue result ↔ (AreOrdered items.now.agreement.fees
         × (is_some items.now.agreement.peer_script ≡ items.now.header.flags.shut_received)) }
 {
-    are_none_decided(&items.progress.forwards)
-        && are_ordered(items.agreement.fees)
+    are_ordered(items.agreement.fees)
         && is_named(&items.agreement.peer_script) == items.header.flags.shut_received
 }
 

@@ -8,13 +8,13 @@ ghost use Rattle.ln_log.specs.Loading.{IsReadable};
 ghost use Rattle.ln_log.specs.Opening.{HasFunds};
 ghost use Rattle.ln_channel.specs.Opening.{opening_of};
 ghost use Rattle.ln_link.specs.Record.{flags_of, header_of, place_of, agreement_of, base_of, window_of, covered_of};
-ghost use Rattle.ln_link.specs.Record.{pairs_of, updates_of, events_of};
+ghost use Rattle.ln_link.specs.Record.{pairs_of, updates_of, events_of, forwards_of};
 ghost use Rattle.ln_link.specs.Record.{fees_of, progress_of, commitments_of, items_of};
 ghost use Rattle.ln_link.specs.Record.{HasNoAgreement, HasNoUpdates, NoRecord};
 ghost use Rattle.ln_link.specs.Loading.{IsSaid, HasRecord};
 ghost use Rattle.ln_store.specs.Readable.{is_readable};
 
-use crate::copy::{copy_bytes, copy_updates};
+use crate::copy::{copy_bytes, copy_decisions, copy_results, copy_updates};
 use crate::payload::{accept_payload, open_payload};
 use ln_bytes::{Bytes, ShortId};
 use ln_channel::{Channel, EventLedger, Terms};
@@ -255,6 +255,16 @@ fn events_of(alloc: Global, ledger: &EventLedger) -> Result<Events, Refusal>
     })
 }
 
+fn forwards_of(alloc: Global, ledger: &EventLedger) -> Result<Forwards, Refusal>
+    ensures forwards { IfOk result (λ f. f ≡ forwards_of ledger.now) }
+    ensures fails_for_memory_alone { IfErr result (λ r. r ≡ refusal.Memory) }
+{
+    Ok(Forwards {
+        decisions: Listed::new(copy_decisions(alloc, ledger.decisions())?),
+        results: Listed::new(copy_results(alloc, ledger.results())?),
+    })
+}
+
 fn fees_of(closing: Closing) -> ClosingFees
     ensures { result ≡ fees_of closing }
 {
@@ -272,10 +282,7 @@ fn progress_of(alloc: Global, channel: &Channel) -> Result<Progress, Refusal>
 {
     Ok(Progress {
         events: events_of(alloc, channel.ledger())?,
-        forwards: Forwards {
-            decisions: Listed::empty(alloc),
-            results: Listed::empty(alloc),
-        },
+        forwards: forwards_of(alloc, channel.ledger())?,
         fees: fees_of(channel.closing()),
     })
 }

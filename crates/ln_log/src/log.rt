@@ -13,7 +13,7 @@ use crate::outcome::Outcome;
 use crate::plain::{count_adds, find_add, plain_view};
 use crate::removals::{count_removals, outcome_of};
 use crate::standing::{Standing, update_refusal};
-use crate::update::{Update, removal_of};
+use crate::update::{Add, Update, removal_of};
 use ln_keys::{Role, View};
 use ln_msgs::{PeerRule, Refusal};
 use std::alloc::Global;
@@ -110,7 +110,7 @@ impl UpdateLog {
     ghost use Rattle.std.specs.Prelude.{option_copied};
     ghost use Rattle.std.specs.Result.{IsOkUnless};
     ghost use Rattle.ln_log.specs.Opening.{IsFit, most_satoshis};
-    ghost use Rattle.ln_log.specs.Updates.{next_id, offered, removed};
+    ghost use Rattle.ln_log.specs.Updates.{next_id, offered, removed, add_with};
     ghost use Rattle.ln_log.specs.View.{AddsUp};
     ghost use Rattle.ln_log.specs.Limits.{HasNextId, Answers, is_at_update_limit};
     ghost use Rattle.ln_log.specs.Log.{StandsFor, IsWithin, updates_of, first_of, update_at, unacknowledged, HasAmount};
@@ -390,6 +390,13 @@ impl UpdateLog {
             Side::Own => nth(self.own.as_slice(), number),
             Side::Peer => nth(self.received.as_slice(), number),
         }
+    }
+
+    /// The HTLC of this id among those that this side has offered. Takes no memory.
+    pub fn own_htlc(&self, id: u64) -> Option<&Add>
+        ensures { (l : Log) → StandsFor self.now l → option_copied result ≡ add_with id l.own }
+    {
+        find_add(id, self.own.as_slice())
     }
 
     /// The updates of a side from one number up to another, from `first` on. No HTLC that they offer is of more than

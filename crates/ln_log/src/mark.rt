@@ -1,6 +1,6 @@
 //! What an event of a channel end tells of, and what is done about it.
 
-use crate::update::ChannelId;
+use crate::update::{ChannelId, Update};
 use ln_bytes::Bytes;
 
 /// What is done about an event.
@@ -34,4 +34,24 @@ pub enum EventRef {
     Peer(u64),
     /// The close.
     Close,
+}
+
+/// What was decided about an HTLC of the peer's.
+#[derive(Debug, Drop)]
+pub struct Decision {
+    /// The HTLC.
+    pub id: u64,
+    /// What is done about it; never `None`.
+    pub mark: Mark,
+}
+
+/// What became of an own HTLC that forwards another one.
+#[derive(Debug, Drop)]
+pub struct Settlement {
+    /// The own HTLC.
+    pub id: u64,
+    /// The HTLC that it forwards: the channel by which it came, and its id there.
+    pub origin: (ChannelId, u64),
+    /// The update that removed it.
+    pub removal: Update,
 }

@@ -53,7 +53,7 @@ pub fn last_feerate(opening: u32, funder: &[Update]) -> u32
     rate
 }
 
-// The HTLC that an update offers.
+/// The HTLC that an update offers (BOLT 2, "Adding an HTLC").
 pub fn add_of(update: &Update) -> Option<&Add>
     ensures { option_copied result ≡ offered update.now }
 {

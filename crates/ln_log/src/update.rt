@@ -1,10 +1,12 @@
 //! What a side proposes.
 
-ghost use Rattle.std.specs.Prelude.{◌≡◌};
+ghost use Rattle.std.specs.Prelude.{◌≡◌, IfOk, IfErr};
 ghost use Rattle.ln_log.specs.Updates.{removed};
 
 use crate::outcome::Outcome;
 use ln_bytes::Bytes;
+use ln_msgs::Refusal;
+use std::alloc::Global;
 
 /// A channel's id (BOLT 2, "Definition of `channel_id`").
 pub type ChannelId = [u8; 32];
@@ -107,5 +109,25 @@ pub fn removal_of(update: &Update) -> Option<Removal>
             outcome: Outcome::Failed,
         }),
         Update::Fee(_) => None,
+    }
+}
+
+/// The same update. Error: 60 alone, where there is no memory for a reason.
+pub fn copy_update(alloc: Global, update: &Update) -> Result<Update, Refusal>
+    ensures copy { IfOk result (λ u. u ≡ update.now) }
+    ensures fails_for_memory_alone { IfErr result (λ r. r ≡ Refusal.Memory) }
+{
+    match update {
+        Update::Add(add) => Ok(Update::Add(*add)),
+        Update::Fulfil(fulfil) => Ok(Update::Fulfil(*fulfil)),
+        Update::Fail(fail) => {
+            let reason = Bytes::new(Vec::from_slice(alloc, fail.reason.as_slice())?);
+            Ok(Update::Fail(Fail {
+                id: fail.id,
+                reason,
+            }))
+        }
+        Update::Malformed(malformed) => Ok(Update::Malformed(*malformed)),
+        Update::Fee(fee) => Ok(Update::Fee(*fee)),
     }
 }

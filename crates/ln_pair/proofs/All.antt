@@ -1,5 +1,5 @@
 -- Of every one of a list.
-use Rattle.std.proofs.Common.{ℕ, zero, suc, List, [], ◌∷◌, ◌++◌, take, drop, Bool, true, false, cond}
+use Rattle.std.proofs.Common.{ℕ, zero, suc, List, [], ◌∷◌, ◌++◌, take, drop, filter, Bool, true, false, cond}
 
 abbrev pub All : {A : Type 0} → (A → Type 0) → List A → Type 0
 All P [] = Unit {0}
@@ -18,6 +18,14 @@ pub all-drop : {A : Type 0} (P : A → Type 0) (n : ℕ) (xs : List A) → All P
 all-drop P zero xs h = h
 all-drop P (suc n) [] h = tt
 all-drop P (suc n) (x ∷ xs) h = all-drop P n xs h.1
+
+pub all-filter : {A : Type 0} (P : A → Type 0) (f : A → Bool) (xs : List A) → All P xs → All P (filter f xs)
+all-filter P f [] h = tt
+all-filter P f (x ∷ xs) h = kept (f x) (all-filter P f xs h.1)
+  where
+    kept : (b : Bool) → All P (filter f xs) → All P (cond b (x ∷ filter f xs) (filter f xs))
+    kept true k = (h.0, k)
+    kept false k = k
 
 pub all-when : {A : Type 0} (P : A → Type 0) (b : Bool) (xs ys : List A) → All P xs → All P ys → All P (cond b xs ys)
 all-when P true xs ys h k = h

@@ -33,7 +33,7 @@ use Rattle.ln_channel.specs.Resume.{resumed}
 use Rattle.ln_channel.specs.State.{is_down}
 use Rattle.ln_channel.specs.Step.{faulted, line_fault}
 use Rattle.ln_pair.specs.Ends.{Ends, opened, turned, message_at, command_at, answers, delivers, connects, Act, Deliver}
-use Rattle.ln_pair.specs.Ends.{Give, Lose, acts, Step, By, Connect, happens, run}
+use Rattle.ln_pair.specs.Ends.{Give, Note, Lose, acts, Step, By, Connect, happens, run}
 use Rattle.ln_pair.specs.Promises.{AreKeys}
 use Rattle.ln_pair.specs.Answers.{HasAnswered, BothHaveAnswered}
 use Rattle.ln_pair.proofs.Moving.{log_within}
@@ -175,6 +175,7 @@ module _ (keys : Signer) where
   acts_so Deliver p w both = delivered_so p.to_x p both
   acts_so (Give c) p w both =
       answering_so (command_at keys p.x_line c p.x) p (command_so p.x_line c p.x w both.0) both
+  acts_so (Note c) p w both = both
   acts_so Lose p w both = lost_so (is_down p.x_line) p both
 
 connects_so : (a b : Signer) (lx ly : Line) (p : Ends) → BothHaveAnswered p → BothHaveAnswered (connects a b lx ly p)

@@ -29,7 +29,7 @@ use Rattle.ln_channel.specs.Resume.{resumed}
 use Rattle.ln_channel.specs.State.{is_down}
 use Rattle.ln_channel.specs.Step.{faulted, line_fault}
 use Rattle.ln_pair.specs.Ends.{Ends, turned, message_at, command_at, answers, delivers, connects, Act, Deliver}
-use Rattle.ln_pair.specs.Ends.{Give, Lose, acts, Step, By, Connect, happens}
+use Rattle.ln_pair.specs.Ends.{Give, Note, Lose, acts, Step, By, Connect, happens}
 use Rattle.ln_pair.proofs.Prices.{and_left, and_right}
 
 -- a funder at which closing has begun has sent one
@@ -194,6 +194,7 @@ module _ (keys : Signer) where
   acts_so : (act : Act) (p : Ends) → IsWithin p.x.dance.log → BothBid p → BothBid (acts keys act p)
   acts_so Deliver p w both = delivered_so p.to_x p both
   acts_so (Give c) p w both = answering_so (command_at keys p.x_line c p.x) p (command_so p.x_line c p.x w both.x) both
+  acts_so (Note c) p w both = record { x = both.x; y = both.y }
   acts_so Lose p w both = lost_so (is_down p.x_line) p both
 
 connects_so : (a b : Signer) (lx ly : Line) (p : Ends) → BothBid p → BothBid (connects a b lx ly p)

@@ -9,6 +9,8 @@ use Rattle.ln_msgs.specs.declared.messages.opening.OpenChannel.{OpenChannel}
 use Rattle.ln_keys.specs.declared.role.Role.{Role}
 use Rattle.ln_log.specs.Limits.{most_updates}
 use Rattle.ln_log.specs.declared.opening.Opening.{Opening}
+use Rattle.ln_log.specs.declared.mark.Decision.{Decision}
+use Rattle.ln_log.specs.declared.mark.Settlement.{Settlement}
 use Rattle.ln_log.specs.declared.update.Update.{Update as Change}
 use Rattle.ln_log.specs.declared.update.Update.TheVariants as update
 use Rattle.ln_dance.specs.Messages.{update_message, add_of, fulfil_of, fail_of, malformed_of, fee_of}
@@ -19,7 +21,7 @@ use Rattle.ln_channel.specs.End.{End}
 use Rattle.ln_pair.specs.Widths.{IsAdd, IsFulfil, IsFail, IsMalformed, IsUpdate}
 use Rattle.ln_pair.specs.Ends.{messages_in}
 use Rattle.ln_pair.proofs.All.{All, all-take}
-use Rattle.ln_pair.proofs.Lasting.{Where, longest_script, IsWide}
+use Rattle.ln_pair.proofs.Lasting.{Where, longest_script, IsDecision, IsSettlement, IsWide}
 
 -- ---- what a message carries
 
@@ -82,6 +84,8 @@ pub record Contents : Type 0 where
   pub received : List Change
   pub script : List ℕ
   pub peer_script : Option (List ℕ)
+  pub decisions : List Decision
+  pub results : List Settlement
 
 abbrev pub contents_of : End → Contents
 contents_of e = record {
@@ -98,6 +102,8 @@ contents_of e = record {
   received = e.dance.log.received;
   script = e.terms.script;
   peer_script = e.terms.peer_script;
+  decisions = e.ledger.decisions;
+  results = e.ledger.results;
 }
 
 pub record AreWide (o : Origin) (c : Contents) : Type 0 where
@@ -108,6 +114,8 @@ pub record AreWide (o : Origin) (c : Contents) : Type 0 where
   pub received_room : length c.received ≤ most_updates
   pub script : length c.script ≤ longest_script
   pub peer_script : Where (λ s. length s ≤ longest_script) c.peer_script
+  pub decisions : All IsDecision c.decisions
+  pub results : All IsSettlement c.results
 
 abbrev pub Fits : Origin → End → Type 0
 Fits o e = AreWide o (contents_of e)
@@ -128,4 +136,6 @@ wide_of o e h =
       received_room = omega (arith, front, most);
       script = h.script;
       peer_script = h.peer_script;
+      decisions = h.decisions;
+      results = h.results;
     }

@@ -35,7 +35,8 @@ use Rattle.ln_channel.specs.Commands.{confirm_fault, sign_command_fault, shut_fa
 use Rattle.ln_channel.specs.Commands.{unready_fault}
 use Rattle.ln_channel.specs.State.{is_down}
 use Rattle.ln_channel.specs.Step.{faulted, line_fault}
-use Rattle.ln_pair.specs.Ends.{Ends, turned, opened, message_at, answers, delivers, Act, Deliver, Give, Lose, acts}
+use Rattle.ln_pair.specs.Ends.{Ends, turned, opened, message_at, answers, delivers, notes, Act, Deliver, Give}
+use Rattle.ln_pair.specs.Ends.{Note, Lose, acts}
 use Rattle.ln_pair.specs.Ends.{connects, Step, By, Connect, happens, run}
 use Rattle.ln_pair.specs.Promises.{AreKeys, AreSent}
 use Rattle.ln_pair.proofs.Sides.{Notice, Update, Sign, Revoke, Ready, Shutdown, Close, Again}
@@ -51,7 +52,8 @@ use Rattle.ln_pair.proofs.Opens.{was_given, opened_holds, opened_fresh}
 use Rattle.ln_pair.proofs.Prices.{At, turned_at, priced_at}
 use Rattle.ln_pair.proofs.Moving.{log_within}
 use Rattle.ln_pair.proofs.Lasting.{Where, IsCounted}
-use Rattle.ln_pair.proofs.Steady.{closes_in, IsFee, Steady, settled_steady, turn_steady, fee_steady}
+use Rattle.ln_pair.proofs.Steady.{closes_in, IsFee, Steady, settled_steady, turn_steady, fee_steady, noted_steady}
+use Rattle.ln_pair.proofs.Noting.{noted}
 
 -- secrets have 32 bytes, as those that keys answer in code
 abbrev pub HaveSecrets : Signer → Type 0
@@ -166,6 +168,8 @@ module _ (a b : Signer) (keys : AreKeys a b) where
       subst (λ ms. Stays p (delivers a ms p)) (sym is)
       (delivered_by p.x_line p refl s sent h.channel h.to_x h.to_y h.hold)
   acts_steady (Give c) p s sent h = commanded_by (unready_fault c p.x) p.x_line c p s
+  acts_steady (Note c) p s sent h =
+      record { x = noted_steady p.x (notes c p).x.ledger (noted c p.x) s; y = refl }
   acts_steady Lose p s sent h = lost_by (is_down p.x_line) p s
 
 -- ---- steps
@@ -212,7 +216,6 @@ first_steady : (r : Role) (c : List ℕ) (f : Fees) (t : Terms) → Steady (end_
 first_steady r c f t = record {
   first_own = refl;
   first_peer = refl;
-  decided = refl;
   undecided = tt;
   events = omega arith;
   secret = λ e. refl;
@@ -327,7 +330,6 @@ counted a b keys secrets p s sent h at =
       within = log_within a x f.within;
       first_own = s.first_own;
       first_peer = s.first_peer;
-      decided = s.decided;
       undecided = s.undecided;
       events = omega (arith, events, one);
       point = ap length h.hold.x_knows.point ∙ keys.b_points n.revoked (omega (arith, few, below));

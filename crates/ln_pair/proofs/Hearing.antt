@@ -30,7 +30,7 @@ use Rattle.ln_channel.specs.Taking.{answering, answered, answered_end, range_in,
 use Rattle.ln_channel.specs.Commands.{command_row, shuts_down, shut_fault, unready_fault}
 use Rattle.ln_channel.specs.Resume.{resumed, sent_again}
 use Rattle.ln_pair.specs.Ends.{Ends, turned, message_at, met_again, messages_in, arrive, becomes, answers}
-use Rattle.ln_pair.specs.Ends.{delivers, Act, Deliver, Give, Lose, acts, connects, Step, By, Connect, happens}
+use Rattle.ln_pair.specs.Ends.{delivers, Act, Deliver, Give, Note, Lose, acts, connects, Step, By, Connect, happens}
 use Rattle.ln_pair.specs.Promises.{is_closing_signed, IsTaken, AcceptsFront, AllTaken}
 use Rattle.ln_pair.proofs.Sides.{closes_of}
 use Rattle.ln_pair.proofs.Agreed.{Deal, Offer, Priced, AllAre, Offers, Fair, dealt, swap}
@@ -470,6 +470,7 @@ acts_by : (k : Signer) (act : Act) (p : Ends) → AcceptsFront k p.x_line p.to_x
     → IsHeard (acts k act p)
 acts_by k Deliver p is c h = delivers_by k p.to_x p is c h h
 acts_by k (Give c) p is q h = given_by (unready_fault c p.x) p.x_line k c p refl h
+acts_by k (Note d) p is c h = h
 acts_by k Lose p is c h = loses_by (is_down p.x_line) p h
 
 turned_by : (p : Ends) → IsHeard p → IsHeard (turned p)

@@ -37,9 +37,11 @@ pub mod Firm
 pub mod Bids
 pub mod Hearing
 pub mod Closed
+pub mod Noting
 pub mod Lasting
 pub mod Steady
 pub mod Counting
 pub mod Contents
 pub mod WideTurns
+pub mod WideNotes
 pub mod Wide

@@ -45,7 +45,7 @@ use Rattle.ln_channel.specs.Commands.{ready_message, confirmed, confirm_fault, p
 use Rattle.ln_channel.specs.Commands.{signs_next, shut_fault, shuts_down, command_row, unready_fault}
 use Rattle.ln_channel.specs.State.{is_down}
 use Rattle.ln_channel.specs.Step.{faulted, line_fault}
-use Rattle.ln_pair.specs.Ends.{Ends, turned, message_at, becomes, answers, delivers, Act, Deliver, Give, Lose, acts}
+use Rattle.ln_pair.specs.Ends.{Ends, turned, message_at, becomes, answers, delivers, Act, Deliver, Give, Note, Lose, acts}
 use Rattle.ln_pair.specs.Ends.{opened, connects, Step, By, Connect, happens, run}
 use Rattle.ln_pair.specs.Promises.{AreKeys, party}
 use Rattle.ln_pair.specs.Setup.{setup_of, AreSetUp}
@@ -269,6 +269,11 @@ module _ (a b : Signer) (keys : AreKeys a b) (r : Role) (o : Opening) where
       → Moved r o (moves_of_act a r act p) p (acts a act p)
   acts_so Deliver p s h = delivered p s h
   acts_so (Give c) p s h = commanded_by (unready_fault c p.x) p.x_line c p s h
+  acts_so (Note c) p s h = record {
+    run = refl;
+    stands = record { role = s.role; opening = s.opening };
+    other = refl;
+  }
   acts_so Lose p s h = lost_by (is_down p.x_line) p s h
 
 -- ---- steps

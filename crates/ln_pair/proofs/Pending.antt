@@ -1,6 +1,7 @@
 -- What a step leaves of the events that an end has yet to decide.
-use Rattle.std.proofs.Common.{zero, suc, ◌≡◌, ℕ, ◌+◌, ◌<◌, ◌≤◌, List, [], ◌∷◌, ◌++◌, length, take, drop}
-use Rattle.std.proofs.Common.{refl, sym, ap, ◌∙◌, subst, arith, append-nil}
+use Rattle.std.proofs.Common.{zero, suc, ◌≡◌, ℕ, ◌+◌, ◌-◌, ◌<◌, ◌≤◌, List, [], ◌∷◌, ◌++◌, length, take, drop}
+use Rattle.std.proofs.Common.{refl, sym, ap, ◌∙◌, subst, arith, append-nil, append_assoc, length-append}
+use Rattle.std.proofs.Common.{length-drop}
 use Rattle.std.proofs.Common.{Bool, true, false, cond, Option, Some, None, option_map}
 use Rattle.std.specs.List.{cons_option}
 use Rattle.std.proofs.lemmas.List.{take-take}
@@ -12,11 +13,12 @@ use Rattle.ln_hooks.specs.declared.event.ChannelEvent.TheVariants as event
 use Rattle.ln_hooks.specs.Event.{event_of}
 use Rattle.ln_log.specs.declared.mark.EventRef.{EventRef}
 use Rattle.ln_log.specs.declared.mark.EventRef.TheVariants as ref
-use Rattle.ln_channel.specs.Ledger.{Ledger, refs_of, entered}
+use Rattle.ln_channel.specs.Ledger.{Ledger, refs_of}
 use Rattle.ln_channel.specs.Outputs.{events_of}
 use Rattle.ln_channel.specs.End.{End}
 use Rattle.ln_pair.specs.Pending.{first_event, named_by, pending}
-use Rattle.ln_pair.proofs.All.{All, all-append}
+use Rattle.ln_pair.proofs.All.{All, all-append, all-drop}
+use Rattle.ln_pair.proofs.Noting.{Behind}
 
 -- an update that is held, or the close of an end that has closed
 abbrev pub IsNamed : ℕ → ℕ → Option ℕ → EventRef → Type 0
@@ -28,8 +30,10 @@ IsNamed own peer (Some fee) ref.Close = Unit {0}
 abbrev pub NamedIn : End → List EventRef → Type 0
 NamedIn e rs = All (IsNamed e.dance.log.current.own e.dance.log.acknowledged.peer e.closing.closed) rs
 
-abbrev pub Named : End → Type 0
-Named e = NamedIn e e.ledger.undecided
+-- the undecided entries, each of which names an event
+pub record Named (e : End) : Type 0 where
+  pub held : NamedIn e e.ledger.undecided
+  pub full : length (pending e.ledger.undecided e) ≡ length e.ledger.undecided
 
 pub record KeepBy (l m : Log) (c d : Option ℕ) : Type 0 where
   pub own : take l.current.own m.own ≡ take l.current.own l.own
@@ -41,10 +45,13 @@ pub record KeepBy (l m : Log) (c d : Option ℕ) : Type 0 where
 abbrev pub Keep : End → End → Type 0
 Keep x n = KeepBy x.dance.log n.dance.log x.closing.closed n.closing.closed
 
+-- new events stand behind those that were pending, and a first part of them all may have been decided
 pub record Pends (x n : End) (es : List ChannelEvent) : Type 0 where
-  pub entries : pending n.ledger.undecided n ≡ pending x.ledger.undecided x ++ es
+  pub gone : ℕ
+  pub within : gone ≤ length (pending x.ledger.undecided x ++ es)
+  pub entries : pending n.ledger.undecided n ≡ drop gone (pending x.ledger.undecided x ++ es)
   pub named : Named n
-  pub decided : n.ledger.decided ≡ x.ledger.decided
+  pub decided : n.ledger.decided ≡ x.ledger.decided + gone
 
 first_taken : (own : Bool) (k m : ℕ) (us : List Change) → k < m
     → first_event own (drop k (take m us)) ≡ first_event own (drop k us)
@@ -98,26 +105,120 @@ pending_append (r ∷ rs) ss e =
     ap (cons_option (named_by r e)) (pending_append rs ss e) ∙ one_append (named_by r e) (pending rs e) (pending ss e)
 
 -- new entries behind those that there were
-pub enters : (x n : End) (rs : List EventRef) (es : List ChannelEvent) → Keep x n → n.ledger ≡ entered rs x.ledger
-    → pending rs n ≡ es → NamedIn n rs → Named x → Pends x n es
-enters x n rs es k is e h named =
-    let old = kept x n k x.ledger.undecided named in
+pub enters : (x n : End) (rs : List EventRef) (es : List ChannelEvent) → Keep x n
+    → n.ledger.undecided ≡ x.ledger.undecided ++ rs → n.ledger.decided ≡ x.ledger.decided
+    → pending rs n ≡ es → length rs ≡ length es → NamedIn n rs → Named x → Pends x n es
+enters x n rs es k undecided decided e count h named =
+    let us = x.ledger.undecided in
+    let old = kept x n k us named.held in
+    let entries : pending n.ledger.undecided n ≡ pending us x ++ es =
+    ap (λ vs. pending vs n) undecided ∙ pending_append us rs n
+    ∙ ap (λ z. z ++ pending rs n) old.0 ∙ ap (λ z. pending us x ++ z) e in
+    let now : length (pending n.ledger.undecided n) ≡ length (pending us x ++ es) = ap length entries in
+    let all = length-append (pending us x) es in
+    let full = named.full in
+    let entered : length n.ledger.undecided ≡ length (us ++ rs) = ap length undecided in
+    let both = length-append us rs in
     record {
-      entries = ap (λ (l : Ledger). pending l.undecided n) is ∙ pending_append x.ledger.undecided rs n
-          ∙ ap (λ z. z ++ pending rs n) old.0 ∙ ap (λ z. pending x.ledger.undecided x ++ z) e;
-      named = subst (λ (l : Ledger). NamedIn n l.undecided) (sym is)
-          (all-append (IsNamed n.dance.log.current.own n.dance.log.acknowledged.peer n.closing.closed)
-          x.ledger.undecided rs old.1 h);
-      decided = ap (λ (l : Ledger). l.decided) is;
+      gone = 0;
+      within = omega arith;
+      entries = entries;
+      named = record {
+        held = subst (NamedIn n) (sym undecided)
+            (all-append (IsNamed n.dance.log.current.own n.dance.log.acknowledged.peer n.closing.closed) us rs old.1 h);
+        full = omega (arith, now, all, full, count, entered, both);
+      };
+      decided = omega (arith, decided);
     }
 
 pub enters_none : (x n : End) → Keep x n → n.ledger ≡ x.ledger → Named x → Pends x n []
 enters_none x n k is named =
-    let old = kept x n k x.ledger.undecided named in
+    let undecided : n.ledger.undecided ≡ x.ledger.undecided = ap (λ (l : Ledger). l.undecided) is in
+    enters x n [] [] k (undecided ∙ sym (append-nil x.ledger.undecided)) (ap (λ (l : Ledger). l.decided) is) refl refl
+    tt named
+
+-- ---- entries that are decided
+
+-- an entry that names an event, and the events behind it
+first_gone : (g : ℕ) (o : Option ChannelEvent) (es : List ChannelEvent) (n : ℕ)
+    → length (cons_option o es) ≡ suc n → length es ≤ n
+    → (drop g es ≡ drop (suc g) (cons_option o es)) × (length es ≡ n)
+first_gone g None es n e le = absurd (omega (arith, e, le))
+first_gone g (Some x) es n e le = (refl, omega (arith, e))
+
+no_more : (rs : List EventRef) (e : End) → length (pending rs e) ≤ length rs
+no_more [] e = omega arith
+no_more (r ∷ rs) e = by (named_by r e) (no_more rs e)
+  where
+    by : (o : Option ChannelEvent) → length (pending rs e) ≤ length rs
+        → length (cons_option o (pending rs e)) ≤ suc (length rs)
+    by None le = omega (arith, le)
+    by (Some x) le = omega (arith, le)
+
+pending_drop : (g : ℕ) (rs : List EventRef) (e : End) → length (pending rs e) ≡ length rs
+    → (pending (drop g rs) e ≡ drop g (pending rs e)) × (length (pending (drop g rs) e) ≡ length (drop g rs))
+pending_drop zero rs e full = (refl, full)
+pending_drop (suc g) [] e full = (refl, refl)
+pending_drop (suc g) (r ∷ rs) e full =
+    let first = first_gone g (named_by r e) (pending rs e) (length rs) full (no_more rs e) in
+    let rest = pending_drop g rs e first.1 in
+    (rest.0 ∙ first.0, rest.1)
+
+-- a first part of the entries is decided
+pub leaves : (x : End) (l : Ledger) → Behind x.ledger l → Named x → Pends x (record x { ledger = l }) []
+leaves x l b named =
+    let us = x.ledger.undecided in
+    let part = pending_drop b.gone us x named.full in
+    let le = b.within in
+    let full = named.full in
+    let all = length-append (pending us x) [] in
     record {
-      entries = ap (λ (l : Ledger). pending l.undecided n) is ∙ old.0 ∙ sym (append-nil (pending x.ledger.undecided x));
-      named = subst (λ (l : Ledger). NamedIn n l.undecided) (sym is) old.1;
-      decided = ap (λ (l : Ledger). l.decided) is;
+      gone = b.gone;
+      within = omega (arith, le, full, all);
+      entries = ap (λ vs. pending vs x) b.undecided ∙ part.0 ∙ ap (drop b.gone) (sym (append-nil (pending us x)));
+      named = record {
+        held = subst (NamedIn x) (sym b.undecided)
+            (all-drop (IsNamed x.dance.log.current.own x.dance.log.acknowledged.peer x.closing.closed) b.gone us
+            named.held);
+        full = subst (λ vs. length (pending vs x) ≡ length vs) (sym b.undecided) part.1;
+      };
+      decided = b.decided;
+    }
+
+drop_front : (g : ℕ) (es fs : List ChannelEvent) → g ≤ length es → drop g (es ++ fs) ≡ drop g es ++ fs
+drop_front zero es fs le = refl
+drop_front (suc g) [] fs le = absurd (omega (arith, le))
+drop_front (suc g) (e ∷ es) fs le = drop_front g es fs (omega (arith, le))
+
+drop_both : (g h : ℕ) (es : List ChannelEvent) → drop h (drop g es) ≡ drop (g + h) es
+drop_both zero h es = refl
+drop_both (suc g) zero [] = refl
+drop_both (suc g) (suc h) [] = refl
+drop_both (suc g) h (e ∷ es) = drop_both g h es
+
+-- one after the other
+pub pends_both : (x m n : End) (es fs : List ChannelEvent) → Pends x m es → Pends m n fs → Pends x n (es ++ fs)
+pends_both x m n es fs first then =
+    let ps = pending x.ledger.undecided x in
+    let qs = pending m.ledger.undecided m in
+    let whole : (ps ++ es) ++ fs ≡ ps ++ (es ++ fs) = append_assoc ps es fs in
+    let left : qs ++ fs ≡ drop first.gone ((ps ++ es) ++ fs) =
+    ap (λ z. z ++ fs) first.entries ∙ sym (drop_front first.gone (ps ++ es) fs first.within) in
+    let some = first.within in
+    let more = then.within in
+    let count : length (qs ++ fs) ≡ length ((ps ++ es) ++ fs) - first.gone =
+    ap length left ∙ length-drop first.gone ((ps ++ es) ++ fs) in
+    let all : length ((ps ++ es) ++ fs) ≡ length (ps ++ (es ++ fs)) = ap length whole in
+    let parts = length-append (ps ++ es) fs in
+    let decided = first.decided in
+    let later = then.decided in
+    record {
+      gone = first.gone + then.gone;
+      within = omega (arith, some, more, count, all, parts);
+      entries = then.entries ∙ ap (drop then.gone) left ∙ drop_both first.gone then.gone ((ps ++ es) ++ fs)
+          ∙ ap (drop (first.gone + then.gone)) whole;
+      named = then.named;
+      decided = omega (arith, decided, later);
     }
 
 -- ---- new entries

@@ -34,7 +34,7 @@ use Rattle.ln_channel.specs.Taking.{answering, answered, answered_end, range_in,
 use Rattle.ln_channel.specs.Commands.{command_row, shuts_down, shut_fault, unready_fault}
 use Rattle.ln_channel.specs.Resume.{resumed, sent_again}
 use Rattle.ln_pair.specs.Ends.{Ends, turned, message_at, met_again, messages_in, arrive, becomes, answers}
-use Rattle.ln_pair.specs.Ends.{delivers, Act, Deliver, Give, Lose, acts, connects, Step, By, Connect, happens, run}
+use Rattle.ln_pair.specs.Ends.{delivers, Act, Deliver, Give, Note, Lose, acts, connects, Step, By, Connect, happens, run}
 use Rattle.ln_pair.specs.Ends.{opened}
 use Rattle.ln_pair.specs.Promises.{is_closing_signed}
 use Rattle.ln_pair.proofs.Sides.{Notice, Update, Sign, Revoke, Ready, Shutdown, Close, Again, closes_of, owed}
@@ -366,6 +366,7 @@ acts_at k Deliver p h = delivers_at k p.to_x p h h
 acts_at k (Give c) p h =
     faulted_at (unready_fault c p.x) (faulted (line_fault p.x_line) (command_row k c p.x)) p
     (faulted_at (line_fault p.x_line) (command_row k c p.x) p (command_by k c (is_shutdown c) p refl h) h) h
+acts_at k (Note c) p h = h
 acts_at k Lose p h = loses_at (is_down p.x_line) p h
 
 pub turned_at : (p : Ends) → At p → At (turned p)

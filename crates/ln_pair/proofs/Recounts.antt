@@ -26,11 +26,12 @@ use Rattle.ln_channel.specs.Opening.{unless}
 use Rattle.ln_channel.specs.Meeting.{Opens}
 use Rattle.ln_channel.specs.End.{End, Turn, end_dropped, has_begun}
 use Rattle.ln_channel.specs.Taking.{answering, answered_end, answered, range_in, completed_row}
-use Rattle.ln_channel.specs.Commands.{confirm_fault, sign_command_fault}
+use Rattle.ln_channel.specs.Commands.{confirm_fault, sign_command_fault, ledgered}
 use Rattle.ln_channel.specs.Commands.{shut_fault, shuts_down, command_row, unready_fault}
 use Rattle.ln_channel.specs.State.{is_down}
 use Rattle.ln_channel.specs.Step.{faulted, line_fault}
-use Rattle.ln_pair.specs.Ends.{Ends, turned, message_at, answers, delivers, Act, Deliver, Give, Lose, acts}
+use Rattle.ln_pair.specs.Ends.{Ends, turned, message_at, answers, delivers, ledger_behind, notes, Act, Deliver, Give}
+use Rattle.ln_pair.specs.Ends.{Note, Lose, acts}
 use Rattle.ln_pair.specs.Ends.{opened, connects, Step, By, Connect, happens, run}
 use Rattle.ln_pair.specs.Promises.{AreKeys, party}
 use Rattle.ln_pair.specs.Moves.{moves_asked, moves_of_command, moves_of_message, moves_delivered}
@@ -52,7 +53,7 @@ use Rattle.ln_hooks.specs.declared.event.ChannelEvent.TheVariants as event
 use Rattle.ln_close.specs.Closing.{after_shut, may_start}
 use Rattle.ln_log.specs.declared.mark.EventRef.TheVariants as ref
 use Rattle.ln_channel.specs.declared.output.Output.{Output}
-use Rattle.ln_channel.specs.Ledger.{next_event, refs_of, entered}
+use Rattle.ln_channel.specs.Ledger.{Ledger, next_event, refs_of, entered}
 use Rattle.ln_channel.specs.Outputs.{events_of, numbered}
 use Rattle.ln_channel.specs.End.{is_closed, owes_shutdown, answers_shutdown, settled}
 use Rattle.ln_pair.specs.Moves.{moves_taken, closes, shuts}
@@ -65,9 +66,10 @@ use Rattle.ln_log.specs.Log as log
 use Rattle.ln_dance.specs.Dance.{Dancer}
 use Rattle.ln_pair.proofs.All.{All}
 use Rattle.ln_pair.proofs.Steady.{length-between}
-use Rattle.ln_pair.proofs.Pending.{IsNamed, Named, KeepBy, Keep, Pends, enters, enters_none, own_pend, peer_pend}
+use Rattle.ln_pair.proofs.Pending.{IsNamed, Named, KeepBy, Keep, Pends, enters, enters_none, leaves}
 use Rattle.ln_pair.proofs.Pending.{own_named, peer_named, keep_same, keep_own, keep_peer, keep_dropped, keep_either}
-use Rattle.ln_pair.proofs.Pending.{same_pends}
+use Rattle.ln_pair.proofs.Pending.{own_pend, peer_pend, pends_both, same_pends}
+use Rattle.ln_pair.proofs.Noting.{noted, next_behind}
 use Rattle.ln_channel.specs.Commands.{signs_next}
 use Rattle.ln_pair.specs.Pending.{pending, IsInStep}
 use Rattle.ln_pair.proofs.Steps.{front_reads}
@@ -102,6 +104,13 @@ settled_ledger e = begun (has_begun (answers_shutdown e)) (may_start (answers_sh
     owed : (b : Bool) → (cond b (record e { closing = after_shut e.closing }) e).ledger ≡ e.ledger
     owed true = refl
     owed false = refl
+
+-- behind the end of a turn
+undecided_so : (e : End) → (settled e).ledger.undecided ≡ e.ledger.undecided
+undecided_so e = ap (λ (l : Ledger). l.undecided) (settled_ledger e)
+
+decided_so : (e : End) → (settled e).ledger.decided ≡ e.ledger.decided
+decided_so e = ap (λ (l : Ledger). l.decided) (settled_ledger e)
 
 -- what x tells are the events of its moves, and none of them is the other side's
 pub record Tells (r : Role) (o : Opening) (x n : End) (y : Party) (ms : List Move) (os : List Output) : Type 0 where
@@ -195,9 +204,9 @@ module _ (a b : Signer) (keys : AreKeys a b) (r : Role) (o : Opening) (channel :
         own_le = w.own_current;
         peer_le = omega arith;
         closed = λ f e. e;
-      })) (settled_ledger t)
+      })) (undecided_so t) (decided_so t)
       (own_pend n c us rest (ap (λ (q : Dancer). drop c q.log.own) dance
-      ∙ sym (take-append-drop (d - c) (drop c l.own))))
+      ∙ sym (take-append-drop (d - c) (drop c l.own)))) (refs_count true c us)
       (subst (λ (q : Dancer). All (IsNamed q.log.current.own q.log.acknowledged.peer n.closing.closed)
       (refs_of true c us)) (sym dance)
       (own_named c d l.acknowledged.peer n.closing.closed us (omega (arith, grow, many)))) named)
@@ -235,9 +244,9 @@ module _ (a b : Signer) (keys : AreKeys a b) (r : Role) (o : Opening) (channel :
         own_le = omega arith;
         peer_le = w.peer_acknowledged;
         closed = λ f e. e;
-      })) (settled_ledger t)
+      })) (undecided_so t) (decided_so t)
       (peer_pend n c us rest (ap (λ (q : Dancer). drop c q.log.received) dance
-      ∙ sym (take-append-drop (d - c) (drop c l.received))))
+      ∙ sym (take-append-drop (d - c) (drop c l.received)))) (refs_count false c us)
       (subst (λ (q : Dancer). All (IsNamed q.log.current.own q.log.acknowledged.peer n.closing.closed)
       (refs_of false c us)) (sym dance)
       (peer_named c l.current.own d n.closing.closed us (omega (arith, grow, many)))) named)
@@ -292,8 +301,8 @@ closed_told k r o fee ans x t y os none is held entry told =
       own_le = omega arith;
       peer_le = omega arith;
       closed = λ f e. absurd (let no : None ≡ Some f = sym none ∙ e in cc);
-    })) (settled_ledger t ∙ entry)
-    (ap (λ c. cons_option (option_map event.Closed c) []) now)
+    })) (undecided_so t ∙ ap (λ (l : Ledger). l.undecided) entry) (decided_so t ∙ ap (λ (l : Ledger). l.decided) entry)
+    (ap (λ c. cons_option (option_map event.Closed c) []) now) refl
     (subst (λ c. All (IsNamed n.dance.log.current.own n.dance.log.acknowledged.peer c) (ref.Close ∷ [])) (sym now)
     (tt, tt)) named)
 
@@ -545,6 +554,17 @@ module _ (a b : Signer) (keys : AreKeys a b) (r : Role) (o : Opening) where
   lost_by false p = silent r o p.x (end_dropped p.x) (party p.y) (Drop r ∷ []) [] refl refl (λ q. refl)
       (λ w. keep_dropped p.x.dance.log p.x.closing.closed w)
 
+  noted_told : (c : Command) (p : Ends) → Tells r o p.x (notes c p).x (party p.y) [] []
+  noted_told c p =
+      let l = ledger_behind (ledgered c p.x) p.x.ledger in
+      let b = noted c p.x in
+      record {
+        told = refl;
+        next = next_behind p.x.ledger l b;
+        other = refl;
+        pends = λ w named. leaves p.x l b named;
+      }
+
   pub acts_told : (act : Act) (p : Ends) → Holds a b p
       → Tells r o p.x (acts a act p).x (party p.y) (moves_of_act a r act p) (told_in a act p)
   acts_told Deliver p h =
@@ -552,6 +572,7 @@ module _ (a b : Signer) (keys : AreKeys a b) (r : Role) (o : Opening) where
       subst (λ ms. Tells r o p.x (delivers a ms p).x (party p.y) (moves_delivered a r p.x_line ms p.x)
       (told_on a p.x_line ms p.x)) (sym is) (delivered_by p.x_line p refl h.channel h.to_x h.to_y h.hold)
   acts_told (Give c) p h = commanded_by (unready_fault c p.x) p.x_line c p
+  acts_told (Note c) p h = noted_told c p
   acts_told Lose p h = lost_by (is_down p.x_line) p
 
 -- ---- steps
@@ -745,13 +766,8 @@ all_pend a b keys r (s ∷ ss) o p k h named =
     ∙ ap (λ z. events r ms (Some (machine_at o p)) ++ events r ns z)
     (run_after ms (Some (machine_at o p)) (Some (machine_at o q)) m.0))
     ∙ told_append (events r ms (Some (machine_at o p))) (events r ns (Some (machine_at o q))) in
-    record {
-      entries = rest.entries ∙ ap (λ es. es ++ then) t.entries
-          ∙ append_assoc (pending x.ledger.undecided x) first then
-          ∙ ap (λ es. pending x.ledger.undecided x ++ es) (sym is);
-      named = rest.named;
-      decided = rest.decided ∙ t.decided;
-    }
+    subst (Pends x (end_of_role r (run a b ss q))) (sym is)
+    (pends_both x (end_of_role r q) (end_of_role r (run a b ss q)) first then t rest)
 
 pub in_step_so : (a b : Signer) (s : OpenSpec) (c : Config) (funder fundee : Opened) (steps : List Step) (r : Role)
     → AreKeys a b → Opens a b s c funder fundee
@@ -766,16 +782,17 @@ in_step_so a b s c funder fundee steps r keys o =
     let t = all_pend a b keys r steps q p st.keeps (opened_holds a b s c funder fundee o) (none r) in
     let so : as_told (events r (all_moves a b steps p) (Some (machine_at q p))) ≡ es =
     ap (λ m. as_told (events r (all_moves a b steps p) m)) st.first in
-    let zero_decided : n.ledger.decided ≡ 0 = t.decided ∙ undecided_all r in
+    let all_gone : n.ledger.decided ≡ t.gone = t.decided ∙ ap (λ i. i + t.gone) (undecided_all r) in
     record {
-      pending = t.entries ∙ ap (λ z. z ++ as_told (events r (all_moves a b steps p) (Some (machine_at q p)))) (empty r)
-          ∙ so ∙ ap (λ i. drop i es) (sym zero_decided);
+      pending = t.entries
+          ∙ ap (λ z. drop t.gone (z ++ as_told (events r (all_moves a b steps p) (Some (machine_at q p))))) (empty r)
+          ∙ ap (drop t.gone) so ∙ ap (λ i. drop i es) (sym all_gone);
       all = entered_so a b s c funder fundee steps r keys o;
     }
   where
     none : (r : Role) → Named (end_of_role r (opened funder fundee))
-    none Funder = tt
-    none Fundee = tt
+    none Funder = record { held = tt; full = refl }
+    none Fundee = record { held = tt; full = refl }
 
     undecided_all : (r : Role) → (end_of_role r (opened funder fundee)).ledger.decided ≡ 0
     undecided_all Funder = refl

@@ -1,6 +1,6 @@
 -- What every turn of an end keeps of its numbers, of its events and of what it knows of the peer.
-use Rattle.std.proofs.Common.{◌≡◌, ℕ, ◌+◌, ◌-◌, ◌<◌, ◌≤◌, ◌^◌, List, [], ◌∷◌, ◌++◌, length, drop, refl, ap, arith}
-use Rattle.std.proofs.Common.{length-append, Bool, true, false, cond, ◌||◌, Option, Some, None, option_map, Ok}
+use Rattle.std.proofs.Common.{◌≡◌, ℕ, ◌+◌, ◌-◌, ◌<◌, ◌≤◌, ◌^◌, List, [], ◌∷◌, ◌++◌, length, drop, refl, sym, ap, ◌∙◌}
+use Rattle.std.proofs.Common.{subst, arith, length-append, length-drop, Bool, true, false, cond, ◌||◌, Option, Some, None, option_map, Ok}
 use Rattle.std.specs.List.{cons_option}
 use Rattle.std.proofs.lemmas.List.{length-take}
 use Rattle.ln_msgs.specs.declared.messages.closing.ClosingSigned.{ClosingSigned}
@@ -26,8 +26,9 @@ use Rattle.ln_channel.specs.Taking.{answering, answered_end, range_in, shuts_by_
 use Rattle.ln_pair.proofs.Sides.{Notice, Update, Sign, Revoke, Ready, Shutdown, Close, Again}
 use Rattle.ln_pair.proofs.Turns.{turn_of, is_close}
 use Rattle.ln_pair.proofs.Moving.{still_open}
-use Rattle.ln_pair.proofs.All.{All, all-append}
+use Rattle.ln_pair.proofs.All.{All, all-append, all-drop}
 use Rattle.ln_pair.proofs.Lasting.{Where, IsHeld}
+use Rattle.ln_pair.proofs.Noting.{Behind}
 
 -- ---- what every step keeps of an end
 
@@ -45,9 +46,8 @@ pub record IsSteady (first : Counts) (current acknowledged : ℕ) (ledger : Ledg
     (ready : Bool) (peer_fee closed : Option ℕ) : Type 0 where
   pub first_own : first.own ≡ 0
   pub first_peer : first.peer ≡ 0
-  pub decided : ledger.decided ≡ 0
   pub undecided : All (IsHeld current acknowledged) ledger.undecided
-  pub events : length ledger.undecided ≤ current + acknowledged + closes_in closed
+  pub events : ledger.decided + length ledger.undecided ≤ current + acknowledged + closes_in closed
   pub secret : revoked ≡ 0 → peer.secret ≡ None
   pub next_point : revoked ≡ 0 → ready ≡ false → length peer.next_point ≡ 33
   pub heard : Where IsFee peer_fee
@@ -134,7 +134,6 @@ module _ (k : Signer) (x : End) (w : log.IsWithin x.dance.log) (s : Steady x) wh
       record {
         first_own = s.first_own;
         first_peer = s.first_peer;
-        decided = s.decided;
         undecided = all-append (IsHeld d p) x.ledger.undecided rs
             (raised c p d p x.ledger.undecided grow (omega arith) s.undecided)
             (own_named c d p us (omega (arith, grow, many)));
@@ -161,7 +160,6 @@ module _ (k : Signer) (x : End) (w : log.IsWithin x.dance.log) (s : Steady x) wh
       record {
         first_own = s.first_own;
         first_peer = s.first_peer;
-        decided = s.decided;
         undecided = all-append (IsHeld o d) x.ledger.undecided rs
             (raised o c o d x.ledger.undecided (omega arith) grow s.undecided)
             (peer_named c o d us (omega (arith, grow, many)));
@@ -184,7 +182,6 @@ module _ (k : Signer) (x : End) (w : log.IsWithin x.dance.log) (s : Steady x) wh
       let now : Steady n = record {
         first_own = s.first_own;
         first_peer = s.first_peer;
-        decided = s.decided;
         undecided = s.undecided;
         events = s.events;
         secret = s.secret;
@@ -204,7 +201,8 @@ module _ (k : Signer) (x : End) (w : log.IsWithin x.dance.log) (s : Steady x) wh
 
   -- a close is the last event, and there was none before
   closed_events : (rs : List EventRef) → rs ≡ ref.Close ∷ [] → x.closing.closed ≡ None
-      → length (x.ledger.undecided ++ rs) ≤ x.dance.log.current.own + x.dance.log.acknowledged.peer + 1
+      → x.ledger.decided + length (x.ledger.undecided ++ rs)
+      ≤ x.dance.log.current.own + x.dance.log.acknowledged.peer + 1
   closed_events rs is none =
       let all = length-append x.ledger.undecided rs in
       let one : length rs ≡ 1 = ap length is in
@@ -219,7 +217,6 @@ module _ (k : Signer) (x : End) (w : log.IsWithin x.dance.log) (s : Steady x) wh
   closes_steady heard fee unclosed below = record {
     first_own = s.first_own;
     first_peer = s.first_peer;
-    decided = s.decided;
     undecided = all-append (IsHeld x.dance.log.current.own x.dance.log.acknowledged.peer) x.ledger.undecided
         (ref.Close ∷ []) s.undecided (tt, tt);
     events = closed_events (ref.Close ∷ []) refl unclosed;
@@ -234,7 +231,6 @@ module _ (k : Signer) (x : End) (w : log.IsWithin x.dance.log) (s : Steady x) wh
   fee_steady m (answer.Propose fee) e below = record {
     first_own = s.first_own;
     first_peer = s.first_peer;
-    decided = s.decided;
     undecided = s.undecided;
     events = s.events;
     secret = s.secret;
@@ -247,3 +243,22 @@ module _ (k : Signer) (x : End) (w : log.IsWithin x.dance.log) (s : Steady x) wh
   fee_steady m (answer.EchoAndClose fee) e below =
       closes_steady m.fee_satoshis fee (still_open x.closing.closed m.fee_satoshis _ (answer.EchoAndClose fee)
       (λ q. absurd (cc)) e) below
+
+-- what is decided leaves fewer undecided events, and as many in all
+pub noted_steady : (x : End) (l : Ledger) → Behind x.ledger l → Steady x → Steady (record x { ledger = l })
+noted_steady x l b s =
+    let within = b.within in
+    let more = b.decided in
+    let before = s.events in
+    let fewer : length l.undecided ≡ length x.ledger.undecided - b.gone =
+    ap length b.undecided ∙ length-drop b.gone x.ledger.undecided in
+    record {
+      first_own = s.first_own;
+      first_peer = s.first_peer;
+      undecided = subst (All (IsHeld x.dance.log.current.own x.dance.log.acknowledged.peer)) (sym b.undecided)
+          (all-drop (IsHeld x.dance.log.current.own x.dance.log.acknowledged.peer) b.gone x.ledger.undecided s.undecided);
+      events = omega (arith, within, more, before, fewer);
+      secret = s.secret;
+      next_point = s.next_point;
+      heard = s.heard;
+    }

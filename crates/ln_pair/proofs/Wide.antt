@@ -28,8 +28,8 @@ use Rattle.ln_channel.specs.Commands.{command_row, unready_fault}
 use Rattle.ln_channel.specs.State.{is_down}
 use Rattle.ln_channel.specs.Step.{faulted, line_fault}
 use Rattle.ln_pair.specs.Ends.{Ends, turned, opened, messages_in, message_at, command_at, arrive, answers}
-use Rattle.ln_pair.specs.Ends.{delivers, Act, Deliver, Give, Lose, acts, connects, Step, By, Connect, happens}
-use Rattle.ln_pair.specs.Ends.{run}
+use Rattle.ln_pair.specs.Ends.{delivers, Act, Deliver, Give, Note, Lose, acts, connects, Step, By, Connect}
+use Rattle.ln_pair.specs.Ends.{happens, run}
 use Rattle.ln_pair.specs.Promises.{AreKeys}
 use Rattle.ln_pair.specs.Widths.{IsUpdate, IsCommand}
 use Rattle.ln_pair.proofs.All.{All, all-append, all-take}
@@ -37,6 +37,7 @@ use Rattle.ln_pair.proofs.Lasting.{Where, longest_script, IsWide, IsOf}
 use Rattle.ln_pair.proofs.Opens.{was_given}
 use Rattle.ln_pair.proofs.Contents.{CarriesWide, messages_wide, Origin, contents_of, Fits}
 use Rattle.ln_pair.proofs.Contents.{length-front, wide_of}
+use Rattle.ln_pair.proofs.WideNotes.{noted_fits}
 use Rattle.ln_pair.proofs.WideTurns.{AnswerFits, row_fits, completes, meets_fits, command_fits}
 
 -- ---- steps whose commands are as wide as they are in code
@@ -44,6 +45,7 @@ use Rattle.ln_pair.proofs.WideTurns.{AnswerFits, row_fits, completes, meets_fits
 abbrev pub ActIsWide : Act → Type 0
 ActIsWide Deliver = Unit {0}
 ActIsWide (Give c) = IsCommand c
+ActIsWide (Note c) = IsCommand c
 ActIsWide Lose = Unit {0}
 
 abbrev pub StepIsWide : Step → Type 0
@@ -109,6 +111,8 @@ module _ (k : Signer) (o q : Origin) where
         received_room = omega (arith, front, most);
         script = h.script;
         peer_script = h.peer_script;
+        decisions = h.decisions;
+        results = h.results;
       }
 
   loses_fit : (down : Bool) (p : Ends) → BothFit o q p
@@ -123,6 +127,7 @@ module _ (k : Signer) (o q : Origin) where
       answers_fit (command_at k p.x_line c p.x) p
       (faulted_fits (unready_fault c p.x) (faulted (line_fault p.x_line) row)
       (faulted_fits (line_fault p.x_line) row (command_fits k o c p.x wide h.x))) h
+  acts_fit (Note c) p wide h = record { x = noted_fits o c p.x wide h.x; y = h.y; to_x = h.to_x; to_y = h.to_y }
   acts_fit Lose p wide h = loses_fit (is_down p.x_line) p h
 
 -- ---- steps
@@ -166,6 +171,8 @@ first_fits r channel f t none short = record {
   received_room = omega arith;
   script = short;
   peer_script = subst (Where (λ s. length s ≤ longest_script)) (sym none) tt;
+  decisions = tt;
+  results = tt;
 }
 
 opened_fit : (a b : Signer) (s : OpenSpec) (c : Config) (funder fundee : Opened) → Opens a b s c funder fundee

@@ -1,7 +1,8 @@
 -- What an end's rows make of what goes into its record: it stays as wide as in code, where the messages that it takes
 -- and the commands that it is given are.
-use Rattle.std.proofs.Common.{◌≡◌, ℕ, ◌<◌, ◌≤◌, ◌^◌, List, [], ◌∷◌, ◌++◌, length, take, refl}
-use Rattle.std.proofs.Common.{arith, length-append, Bool, true, false, cond, not, ◌||◌, ◌&&◌, nat_lt}
+use Rattle.std.proofs.Common.{◌≡◌, ℕ, ◌-◌, ◌<◌, ◌≤◌, ◌^◌, List, [], ◌∷◌, ◌++◌, length, take, drop, refl}
+use Rattle.std.proofs.Common.{arith, length-append, Bool, true, false, cond, not, ◌||◌, ◌&&◌, ◌==◌, nat_lt}
+use Rattle.std.specs.List.{cons_option}
 use Rattle.std.proofs.Common.{Option, Some, None, option_map, if◌then◌else◌, Result, Ok, Err}
 use Rattle.std.proofs.lemmas.Bool.{ltb-false}
 use Rattle.std.proofs.lemmas.List.Sums.{count_by-le-length}
@@ -11,18 +12,20 @@ use Rattle.ln_msgs.specs.declared.messages.message.Message.TheVariants as messag
 use Rattle.ln_msgs.specs.declared.messages.closing.ClosingSigned.{ClosingSigned}
 use Rattle.ln_msgs.specs.declared.messages.closing.Shutdown.{Shutdown as ShutdownMessage}
 use Rattle.ln_msgs.specs.declared.messages.commitments.ChannelReestablish.{ChannelReestablish}
+use Rattle.ln_msgs.specs.declared.messages.commitments.RevokeAndAck.{RevokeAndAck}
 use Rattle.ln_msgs.specs.declared.messages.opening.ChannelReady.{ChannelReady}
 use Rattle.ln_msgs.specs.declared.refusals.refusal.Refusal.{Refusal}
 use Rattle.ln_msgs.specs.declared.refusals.refusal.Refusal.TheVariants as refusal
 use Rattle.ln_msgs.specs.declared.refusals.peer_rule.PeerRule.TheVariants as rule
 use Rattle.ln_keys.specs.Signer.{Signer}
 use Rattle.ln_log.specs.declared.update.Add.{Add}
+use Rattle.ln_log.specs.declared.mark.Settlement.{Settlement}
 use Rattle.ln_log.specs.declared.update.Fail.{Fail}
 use Rattle.ln_log.specs.declared.update.Update.{Update as Change}
 use Rattle.ln_log.specs.declared.update.Update.TheVariants as update
 use Rattle.ln_log.specs.Limits.{first_fault, most_updates, is_at_update_limit, update_fault as rule_fault}
-use Rattle.ln_log.specs.Log.{Log, unacknowledged, taken_fault, peer_limit, removal_fault, length_fault, proposal_fault}
-use Rattle.ln_log.specs.Updates.{is_add, next_id, removed}
+use Rattle.ln_log.specs.Log.{Log, between, unacknowledged, taken_fault, peer_limit, removal_fault, length_fault, proposal_fault}
+use Rattle.ln_log.specs.Updates.{is_add, is_some, next_id, removed, add_with}
 use Rattle.ln_log.proofs.Grows.{may_propose, may_take}
 use Rattle.ln_dance.specs.declared.dance.Later.{Later}
 use Rattle.ln_dance.specs.declared.dance.Later.TheVariants.{Signature, Revocation}
@@ -40,6 +43,7 @@ use Rattle.ln_channel.specs.declared.command.Command.{Command}
 use Rattle.ln_channel.specs.declared.command.Command.TheVariants as command
 use Rattle.ln_channel.specs.declared.output.Output.TheVariants as output
 use Rattle.ln_channel.specs.Opening.{unless}
+use Rattle.ln_channel.specs.Ledger.{origin_of, settlement_from, settlement_by, settlements}
 use Rattle.ln_channel.specs.End.{End, Turn, quiet, sending, completed, settled, answers_shutdown, owes_shutdown, due_sent}
 use Rattle.ln_channel.specs.End.{due_fee, fee_sent, shutdown_message, shutdown_sent, has_begun, is_closed}
 use Rattle.ln_channel.specs.End.{all_acknowledged}
@@ -51,14 +55,68 @@ use Rattle.ln_channel.specs.Commands.{propose_row, sign_command_fault, signs_nex
 use Rattle.ln_channel.specs.Commands.{command_row}
 use Rattle.ln_channel.specs.Resume.{ready_again, one_again, owed_again, shutdown_again, fee_again, sent_again, resumed}
 use Rattle.ln_channel.specs.Resume.{resume_row}
-use Rattle.ln_pair.specs.Widths.{IsUpdate, IsCommand}
+use Rattle.ln_pair.specs.Widths.{IsOrigin, IsAdd, IsUpdate, IsCommand}
 use Rattle.ln_pair.specs.Ends.{met_again}
-use Rattle.ln_pair.proofs.Lasting.{longest_script}
+use Rattle.ln_pair.proofs.Lasting.{Where, longest_script, IsSettlement}
 use Rattle.ln_pair.proofs.All.{All, all-append, all-take, all-drop, all-when}
 use Rattle.ln_pair.proofs.Steps.{first_none, otherwise, where_true}
 use Rattle.ln_pair.proofs.Rows.{no_fault}
 use Rattle.ln_pair.proofs.Contents.{CarriesWide, SendsWide, update_wide}
 use Rattle.ln_pair.proofs.Contents.{updates_wide, Origin, Fits}
+
+-- ---- what became of forwarded HTLCs
+
+origin_by : (b : Bool) (a : Add) (rest : Option Add) → IsAdd a → IsOrigin (origin_of rest)
+    → IsOrigin (origin_of (cond b (Some a) rest))
+origin_by true a rest h k = h.origin
+origin_by false a rest h k = k
+
+origin_wide : (id : ℕ) (own : List Change) → All IsUpdate own → IsOrigin (origin_of (add_with id own))
+origin_wide id [] h = tt
+origin_wide id (update.Add a ∷ us) h = origin_by (a.id == id) a (add_with id us) h.0 (origin_wide id us h.1)
+origin_wide id (update.Fulfil f ∷ us) h = origin_wide id us h.1
+origin_wide id (update.Fail f ∷ us) h = origin_wide id us h.1
+origin_wide id (update.Malformed m ∷ us) h = origin_wide id us h.1
+origin_wide id (update.Fee f ∷ us) h = origin_wide id us h.1
+
+settlement_wide : (id : ℕ) (u : Change) (from : Option (List ℕ × ℕ)) → id < 2 ^ 64 → IsUpdate u
+    → is_some (removed u) ≡ true → IsOrigin from → Where IsSettlement (settlement_from id u from)
+settlement_wide id u None small wide removes h = tt
+settlement_wide id u (Some from) small wide removes h =
+    record { id = small; origin = h; update = wide; removal = removes }
+
+settled_by : (own : List Change) (u : Change) → All IsUpdate own → IsUpdate u
+    → Where IsSettlement (settlement_by own u)
+settled_by own (update.Add a) h wide = tt
+settled_by own (update.Fulfil f) h wide =
+    settlement_wide f.id (update.Fulfil f) _ wide.id wide refl (origin_wide f.id own h)
+settled_by own (update.Fail f) h wide =
+    settlement_wide f.id (update.Fail f) _ wide.id wide refl (origin_wide f.id own h)
+settled_by own (update.Malformed m) h wide =
+    settlement_wide m.id (update.Malformed m) _ wide.id wide refl (origin_wide m.id own h)
+settled_by own (update.Fee f) h wide = tt
+
+one_more : (s : Option Settlement) (ss : List Settlement) → Where IsSettlement s → All IsSettlement ss
+    → All IsSettlement (cons_option s ss)
+one_more None ss h k = k
+one_more (Some s) ss h k = (h, k)
+
+settlements_wide : (own us : List Change) → All IsUpdate own → All IsUpdate us → All IsSettlement (settlements own us)
+settlements_wide own [] h wide = tt
+settlements_wide own (u ∷ us) h wide =
+    one_more (settlement_by own u) (settlements own us) (settled_by own u h wide.0)
+    (settlements_wide own us h wide.1)
+
+resulted_wide : (e : End) (m : RevokeAndAck) → All IsUpdate e.dance.log.own → All IsUpdate e.dance.log.received
+    → All IsSettlement e.ledger.results
+    → All IsSettlement (learning e.dance.log.acknowledged.peer (revokes m e)).end.ledger.results
+resulted_wide e m own received results =
+    let l = e.dance.log in
+    let c = l.acknowledged.peer in
+    let us = between c l.signed.peer l.received in
+    all-append IsSettlement e.ledger.results (settlements l.own us) results
+    (settlements_wide l.own us own
+    (all-take IsUpdate (l.signed.peer - c) (drop c l.received) (all-drop IsUpdate c l.received received)))
 
 module _ (k : Signer) (o : Origin) where
   abbrev pub TurnFits : Turn → Type 0
@@ -131,6 +189,8 @@ module _ (k : Signer) (o : Origin) where
           omega (arith, few, length-append e.dance.log.received (u ∷ []));
       script = h.script;
       peer_script = h.peer_script;
+      decisions = h.decisions;
+      results = h.results;
     },
     tt,
   ))
@@ -159,6 +219,8 @@ module _ (k : Signer) (o : Origin) where
       received_room = h.received_room;
       script = h.script;
       peer_script = short;
+      decisions = h.decisions;
+      results = h.results;
     },
     tt,
   )
@@ -192,7 +254,20 @@ module _ (k : Signer) (o : Origin) where
   row_fits (message.CommitmentSigned m) e wide h =
       unless_fits (signature_fault k m e) (accepting k e.dance.log.current.own e (accepts e)) (λ none. (h, (tt, tt)))
   row_fits (message.RevokeAndAck m) e wide h =
-      unless_fits (learn_fault k m e.dance) (learning e.dance.log.acknowledged.peer (revokes m e)) (λ none. (h, tt))
+      unless_fits (learn_fault k m e.dance) (learning e.dance.log.acknowledged.peer (revokes m e)) (λ none. (
+        record {
+          origin = h.origin;
+          own = h.own;
+          own_room = h.own_room;
+          received = h.received;
+          received_room = h.received_room;
+          script = h.script;
+          peer_script = h.peer_script;
+          decisions = h.decisions;
+          results = resulted_wide e m h.own h.received h.results;
+        },
+        tt,
+      ))
   row_fits (message.Shutdown m) e wide h = shutdown_fits e.terms.peer_script m e wide h
   row_fits (message.ClosingSigned m) e wide h =
       fee_fits m e (has_begun e) (k.accepts_close m.fee_satoshis m.signature)
@@ -295,6 +370,8 @@ module _ (k : Signer) (o : Origin) where
           received_room = h.received_room;
           script = h.script;
           peer_script = h.peer_script;
+          decisions = h.decisions;
+          results = h.results;
         },
         (update_wide e.dance.channel u (wide may), tt),
       ))
@@ -320,6 +397,8 @@ module _ (k : Signer) (o : Origin) where
           received_room = h.received_room;
           script = le;
           peer_script = h.peer_script;
+          decisions = h.decisions;
+          results = h.results;
         },
         (le, tt),
       ))

@@ -18,7 +18,8 @@ use Rattle.ln_channel.specs.declared.output.Output.{Output}
 use Rattle.ln_channel.specs.declared.output.Output.TheVariants as output
 use Rattle.ln_channel.specs.End.{End, Turn, end_of, end_dropped}
 use Rattle.ln_channel.specs.Taking.{taken}
-use Rattle.ln_channel.specs.Commands.{command_row, unready_fault}
+use Rattle.ln_channel.specs.Ledger.{Ledger}
+use Rattle.ln_channel.specs.Commands.{ledgered, command_row, unready_fault}
 use Rattle.ln_channel.specs.Resume.{resume_row}
 use Rattle.ln_channel.specs.State.{is_down}
 use Rattle.ln_channel.specs.Step.{faulted, line_fault}
@@ -117,14 +118,24 @@ delivers keys (m ∷ ms) p = answers (message_at keys p.x_line m p.x) (record p 
 abbrev pub loses : Ends → Ends
 loses p = if is_down p.x_line then p else record p { x_line = Down; x = end_dropped p.x; to_x = [] }
 
+-- a decision changes x's ledger alone, with a connection or without; where it is refused, nothing
+abbrev pub ledger_behind : Result Ledger Refusal → Ledger → Ledger
+ledger_behind (Ok l) old = l
+ledger_behind (Err r) old = old
+
+abbrev pub notes : Command → Ends → Ends
+notes c p = record p { x = record p.x { ledger = ledger_behind (ledgered c p.x) p.x.ledger } }
+
 pub data Act : Type 0 where
   Deliver : Act
   Give : (c : Command) → Act
+  Note : (c : Command) → Act
   Lose : Act
 
 abbrev pub acts : Signer → Act → Ends → Ends
 acts keys Deliver p = delivers keys p.to_x p
 acts keys (Give c) p = answers (command_at keys p.x_line c p.x) p
+acts keys (Note c) p = notes c p
 acts keys Lose p = loses p
 
 -- ---- steps, where the funder, of keys a, is x, and the fundee, of keys b, is y

@@ -17,7 +17,7 @@ use Rattle.ln_channel.specs.declared.unsaved.Line.{Line}
 use Rattle.ln_channel.specs.declared.opening.Opened.{Opened}
 use Rattle.ln_channel.specs.End.{End, Turn}
 use Rattle.ln_channel.specs.State.{is_down}
-use Rattle.ln_pair.specs.Ends.{Ends, opened, turned, message_at, command_at, Act, Deliver, Give, Lose, Step, By}
+use Rattle.ln_pair.specs.Ends.{Ends, opened, turned, message_at, command_at, Act, Deliver, Give, Note, Lose, Step, By}
 use Rattle.ln_pair.specs.Ends.{Connect, happens}
 use Rattle.ln_pair.specs.Promises.{party}
 
@@ -97,6 +97,7 @@ moves_delivered keys side l (m ∷ ms) e = moves_of_message side m e (message_at
 abbrev pub moves_of_act : Signer → Role → Act → Ends → List Move
 moves_of_act keys side Deliver p = moves_delivered keys side p.x_line p.to_x p.x
 moves_of_act keys side (Give c) p = moves_of_command side c p.x (command_at keys p.x_line c p.x)
+moves_of_act keys side (Note c) p = []
 moves_of_act keys side Lose p = if is_down p.x_line then [] else Drop side ∷ []
 
 abbrev pub moves_of : Signer → Signer → Step → Ends → List Move

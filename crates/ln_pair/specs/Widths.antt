@@ -1,5 +1,5 @@
 -- What commands bring and updates have, as wide as their types: numbers of 16, 32 and 64 bits, hashes and preimages of
--- 32 bytes, onions of 1,366 (BOLT 2). A failure's reason that a command brings may have any length.
+-- 32 bytes, onions of 1,366 (BOLT 2). The reason of a failure that a command proposes may have any length.
 use Rattle.std.specs.Prelude.{◌≡◌, ◌<◌, ◌^◌, ℕ, List, length, Option, Some, None}
 use Rattle.ln_log.specs.declared.update.Add.{Add}
 use Rattle.ln_log.specs.declared.update.Fulfil.{Fulfil}
@@ -7,6 +7,8 @@ use Rattle.ln_log.specs.declared.update.Fail.{Fail}
 use Rattle.ln_log.specs.declared.update.Malformed.{Malformed}
 use Rattle.ln_log.specs.declared.update.Update.{Update}
 use Rattle.ln_log.specs.declared.update.Update.TheVariants as update
+use Rattle.ln_log.specs.declared.mark.Mark.{Mark}
+use Rattle.ln_log.specs.declared.mark.Mark.TheVariants as mark
 use Rattle.ln_channel.specs.declared.command.Command.{Command}
 use Rattle.ln_channel.specs.declared.command.Command.TheVariants as command
 
@@ -45,6 +47,21 @@ IsUpdate (update.Fail f) = IsFail f
 IsUpdate (update.Malformed m) = IsMalformed m
 IsUpdate (update.Fee f) = f.feerate < 2 ^ 32
 
+-- ---- marks
+
+pub record IsForward (channel : List ℕ) (amount expiry : ℕ) : Type 0 where
+  pub channel_fits : length channel ≡ 32
+  pub amount_fits : amount < 2 ^ 64
+  pub expiry_fits : expiry < 2 ^ 32
+
+-- a reason's length has 64 bits
+abbrev pub IsMark : Mark → Type 0
+IsMark mark.None = Unit {0}
+IsMark (mark.Forward channel amount expiry) = IsForward channel amount expiry
+IsMark (mark.Fail reason) = length reason < 2 ^ 64
+IsMark (mark.Malformed failure_code) = failure_code < 2 ^ 16
+IsMark (mark.Fulfil preimage) = length preimage ≡ 32
+
 -- ---- commands
 
 pub record BringsAdd (amount : ℕ) (hash : List ℕ) (expiry : ℕ) (onion : List ℕ) (origin : Option (List ℕ × ℕ)) : Type 0
@@ -65,5 +82,5 @@ IsCommand (command.Malformed id sha code) =
 IsCommand (command.Fee feerate) = feerate < 2 ^ 32
 IsCommand command.Sign = Unit {0}
 IsCommand (command.Shutdown script) = Unit {0}
-IsCommand (command.Decide event mark) = Unit {0}
+IsCommand (command.Decide event m) = IsMark m
 IsCommand (command.Forget id) = Unit {0}

@@ -31,9 +31,8 @@ use Rattle.ln_store.specs.declared.record.Window.{Window}
 use Rattle.ln_store.specs.declared.record.Covered.{Covered}
 use Rattle.ln_store.specs.declared.record.Pairs.{Pairs}
 use Rattle.ln_store.specs.declared.record.Events.{Events}
-use Rattle.ln_store.specs.declared.record.Decision.{Decision}
-use Rattle.ln_store.specs.declared.record.Origin.{Origin}
-use Rattle.ln_store.specs.declared.record.Settlement.{Settlement}
+use Rattle.ln_log.specs.declared.mark.Decision.{Decision}
+use Rattle.ln_log.specs.declared.mark.Settlement.{Settlement}
 use Rattle.ln_store.specs.declared.record.Forwards.{Forwards}
 use Rattle.ln_store.specs.declared.record.ClosingFees.{ClosingFees}
 use Rattle.ln_store.specs.declared.record.Sides.{Sides}
@@ -341,12 +340,9 @@ stored_mark = tagged mark_tag mark_form
 unfoldable pub decision : Format Decision
 decision = made (λ p. record { id = p.0; mark = p.1 }) (λ d. (d.id, d.mark)) (number 8 & stored_mark)
 
-unfoldable pub origin : Format Origin
-origin = made (λ p. record { channel = p.0; id = p.1 }) (λ o. (o.channel, o.id)) (fixed 32 & number 8)
-
 unfoldable pub settlement : Format Settlement
 settlement = made (λ p. record { id = p.0; origin = p.1.0; removal = p.1.1 }) (λ s. (s.id, (s.origin, s.removal)))
-    (number 8 & origin & only is_removal update)
+    (number 8 & (fixed 32 & number 8) & only is_removal update)
 
 unfoldable pub forwards : Format Forwards
 forwards = made (λ p. record { decisions = p.0; results = p.1 }) (λ f. (f.decisions, f.results))

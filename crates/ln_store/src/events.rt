@@ -5,13 +5,13 @@ ghost use Rattle.ln_store.specs.Format.{fixed, number, ◌&◌};
 ghost use Rattle.ln_store.specs.Items as it;
 
 use crate::lists::{list_at, list_fits, optional_at, optional_fits, put_list, put_optional};
-use crate::record::{ClosingFees, Decision, Events, Forwards, Origin, Progress, Settlement};
+use crate::record::{ClosingFees, Events, Forwards, Progress};
 use crate::stored::{
     Stored, array_at, array_fits, long_at, put, put_long, put_u8, put_u16, put_u32, put_u64,
     u16_at, u16_fits, u32_at, u32_fits, u64_at, u64_fits,
 };
 use crate::updates::removal_at;
-use ln_log::{ChannelId, EventRef, Mark, removal_of};
+use ln_log::{ChannelId, Decision, EventRef, Mark, Settlement, removal_of};
 use ln_msgs::Refusal;
 use std::alloc::Global;
 
@@ -198,35 +198,13 @@ impl Stored for Decision {
     }
 }
 
-impl Stored for Origin {
-    ghost format = { it.origin };
-
-    #[tactic(auto, unfolding(crate::specs::Items::origin))]
-    fn read(_alloc: Global, bytes: &[u8]) -> Result<(Origin, &[u8]), Refusal> {
-        let (channel, rest) = array_at(bytes)?;
-        let (id, rest) = u64_at(rest)?;
-        Ok((Origin { channel, id }, rest))
-    }
-
-    #[tactic(auto, unfolding(crate::specs::Items::origin))]
-    fn fits(&self) -> bool {
-        array_fits(&self.channel) && u64_fits(self.id)
-    }
-
-    #[tactic(auto, unfolding(crate::specs::Items::origin))]
-    fn write(&self, out: &mut Vec<u8>) -> Result<(), Refusal> {
-        put(out, &self.channel)?;
-        put_u64(out, self.id)
-    }
-}
-
 impl Stored for Settlement {
     ghost format = { it.settlement };
 
     #[tactic(auto, unfolding(crate::specs::Items::settlement))]
     fn read(alloc: Global, bytes: &[u8]) -> Result<(Settlement, &[u8]), Refusal> {
         let (id, rest) = u64_at(bytes)?;
-        let (origin, rest) = Origin::read(alloc, rest)?;
+        let (origin, rest) = <(ChannelId, u64)>::read(alloc, rest)?;
         let (removal, rest) = removal_at(alloc, rest)?;
         let settlement = Settlement {
             id,

@@ -23,7 +23,7 @@ pub use memory_store::MemoryStore;
 pub use place::ChainPlace;
 pub use readable::is_readable;
 pub use record::{
-    Agreement, Base, ClosingFees, Commitments, Covered, Decision, Events, Flags, Forwards, Header,
-    Items, LiveHtlc, Origin, Pairs, Progress, Settlement, Sides, Updates, Window,
+    Agreement, Base, ClosingFees, Commitments, Covered, Events, Flags, Forwards, Header, Items,
+    LiveHtlc, Pairs, Progress, Sides, Updates, Window,
 };
 pub use record_store::RecordStore;

@@ -6,7 +6,7 @@ use ln_bytes::Bytes;
 use ln_close::Fees;
 use ln_dance::{Later, Numbers, Peer};
 use ln_keys::Role;
-use ln_log::{Add, ChannelId, EventRef, Mark, Update};
+use ln_log::{Add, ChannelId, Decision, EventRef, Settlement, Update};
 use ln_msgs::Refusal;
 
 /// What a side has sent and taken beside updates and signatures.
@@ -110,35 +110,6 @@ pub struct Events {
     pub decided: u64,
     /// The undecided ones in their order.
     pub undecided: Listed<EventRef>,
-}
-
-/// What was decided about an HTLC of the peer's.
-#[derive(Drop)]
-pub struct Decision {
-    /// The HTLC.
-    pub id: u64,
-    /// What is done about it; never `None`.
-    pub mark: Mark,
-}
-
-/// The HTLC that an own one forwards.
-#[derive(Clone, Copy, Debug, PartialEq, Eq)]
-pub struct Origin {
-    /// The channel by which it came.
-    pub channel: ChannelId,
-    /// Its id there.
-    pub id: u64,
-}
-
-/// What became of an own HTLC that forwards another one.
-#[derive(Drop)]
-pub struct Settlement {
-    /// The own HTLC.
-    pub id: u64,
-    /// What it forwards.
-    pub origin: Origin,
-    /// The update that removed it.
-    pub removal: Update,
 }
 
 /// What was decided about HTLCs, and what became of those that were forwarded.

@@ -5,7 +5,7 @@ ghost use Rattle.ln_store.specs.Format.{Finds, only_at, only};
 ghost use Rattle.ln_store.specs.Items as it;
 
 use crate::lists::{optional_at, optional_fits, put_optional};
-use crate::record::{LiveHtlc, Origin};
+use crate::record::LiveHtlc;
 use crate::stored::{
     Stored, array_at, array_fits, put, put_short, put_u8, put_u16, put_u32, put_u64, short_at,
     u8_at, u16_at, u16_fits, u32_at, u32_fits, u64_at, u64_fits,
