@@ -3,8 +3,7 @@
 use crate::output::{Outbox, Output};
 use ln_hooks::{ChannelEvent, event_of};
 use ln_log::{
-    Add, ChannelId, Decision, EventRef, Mark, Settlement, Update, UpdateLog, copy_update,
-    removal_of,
+    ChannelId, Decision, EventRef, Mark, Settlement, Update, UpdateLog, copy_update, removal_of,
 };
 use ln_msgs::Refusal;
 use std::alloc::Global;
@@ -39,7 +38,8 @@ impl Model for EventLedger {
     ghost invariant = { λ l. l.decided ≤ most_decided };
 }
 
-ghost use Rattle.std.specs.Prelude.{◌≡◌, IfOk, IfErr, option_copied, filter};
+ghost use Rattle.std.specs.Prelude.{◌≡◌, IfOk, IfErr, filter};
+ghost use Rattle.ln_log.specs.Updates.{add_with};
 ghost use Rattle.ln_channel.specs.Ledger.{ref_of, origin_of, settlement_by, is_not_of};
 
 // The update of this number, of this side's own or of the peer's.
@@ -53,11 +53,11 @@ fn ref_of(own: bool, number: u64) -> EventRef
     }
 }
 
-// The HTLC that an own one forwards.
-fn origin_of(add: Option<&Add>) -> Option<(ChannelId, u64)>
-    ensures { result ≡ origin_of (option_copied add) }
+// The HTLC that the own one of this id forwards.
+fn origin_of(log: &UpdateLog, id: u64) -> Option<(ChannelId, u64)>
+    ensures { result ≡ origin_of (add_with id log.now.own) }
 {
-    match add {
+    match log.own_htlc(id) {
         None => None,
         Some(add) => add.origin,
     }
@@ -75,7 +75,7 @@ fn settlement_by(
     let Some(removal) = removal_of(update) else {
         return Ok(None);
     };
-    let Some(origin) = origin_of(log.own_htlc(removal.id)) else {
+    let Some(origin) = origin_of(log, removal.id) else {
         return Ok(None);
     };
     Ok(Some(Settlement {
@@ -183,7 +183,7 @@ impl EventLedger {
 }
 
 impl EventLedger {
-    ghost use Rattle.std.specs.Prelude.{◌≡◌, ◌<◌, ◌×◌, ◌∷◌, [], length, Ok, OnOk, IfErr};
+    ghost use Rattle.std.specs.Prelude.{◌≡◌, ◌<◌, ◌∷◌, [], length, Ok, OnOk, IfErr};
     ghost use Rattle.ln_bytes.specs.Answers.{Leaves};
     ghost use Rattle.ln_channel.specs.Opening.{Lacks};
     ghost use Rattle.ln_channel.specs.Ledger.{most_decided, resulted, marked, decided_first, is_in_turn, decide_row};
