@@ -1,6 +1,6 @@
 -- What of an end goes into its record: how its numbers, its counts and its events fit together, and how wide its
 -- updates, decisions and results are.
-use Rattle.std.specs.Prelude.{◌≡◌, ◌+◌, ◌<◌, ◌≤◌, ◌^◌, ℕ, length, take, true, Option, Some, None, ⊥}
+use Rattle.std.specs.Prelude.{◌≡◌, ◌+◌, ◌<◌, ◌≤◌, ◌^◌, ℕ, length, take, true, Option, Some, None}
 use Rattle.ln_log.specs.Limits.{most_updates}
 use Rattle.ln_log.specs.Log.{IsWithin}
 use Rattle.ln_dance.specs.Dance.{AreInStep}

@@ -137,90 +137,6 @@ enters_none x n k is named =
     enters x n [] [] k (undecided ∙ sym (append-nil x.ledger.undecided)) (ap (λ (l : Ledger). l.decided) is) refl refl
     tt named
 
--- ---- entries that are decided
-
--- an entry that names an event, and the events behind it
-first_gone : (g : ℕ) (o : Option ChannelEvent) (es : List ChannelEvent) (n : ℕ)
-    → length (cons_option o es) ≡ suc n → length es ≤ n
-    → (drop g es ≡ drop (suc g) (cons_option o es)) × (length es ≡ n)
-first_gone g None es n e le = absurd (omega (arith, e, le))
-first_gone g (Some x) es n e le = (refl, omega (arith, e))
-
-no_more : (rs : List EventRef) (e : End) → length (pending rs e) ≤ length rs
-no_more [] e = omega arith
-no_more (r ∷ rs) e = by (named_by r e) (no_more rs e)
-  where
-    by : (o : Option ChannelEvent) → length (pending rs e) ≤ length rs
-        → length (cons_option o (pending rs e)) ≤ suc (length rs)
-    by None le = omega (arith, le)
-    by (Some x) le = omega (arith, le)
-
-pending_drop : (g : ℕ) (rs : List EventRef) (e : End) → length (pending rs e) ≡ length rs
-    → (pending (drop g rs) e ≡ drop g (pending rs e)) × (length (pending (drop g rs) e) ≡ length (drop g rs))
-pending_drop zero rs e full = (refl, full)
-pending_drop (suc g) [] e full = (refl, refl)
-pending_drop (suc g) (r ∷ rs) e full =
-    let first = first_gone g (named_by r e) (pending rs e) (length rs) full (no_more rs e) in
-    let rest = pending_drop g rs e first.1 in
-    (rest.0 ∙ first.0, rest.1)
-
--- a first part of the entries is decided
-pub leaves : (x : End) (l : Ledger) → Behind x.ledger l → Named x → Pends x (record x { ledger = l }) []
-leaves x l b named =
-    let us = x.ledger.undecided in
-    let part = pending_drop b.gone us x named.full in
-    let le = b.within in
-    let full = named.full in
-    let all = length-append (pending us x) [] in
-    record {
-      gone = b.gone;
-      within = omega (arith, le, full, all);
-      entries = ap (λ vs. pending vs x) b.undecided ∙ part.0 ∙ ap (drop b.gone) (sym (append-nil (pending us x)));
-      named = record {
-        held = subst (NamedIn x) (sym b.undecided)
-            (all-drop (IsNamed x.dance.log.current.own x.dance.log.acknowledged.peer x.closing.closed) b.gone us
-            named.held);
-        full = subst (λ vs. length (pending vs x) ≡ length vs) (sym b.undecided) part.1;
-      };
-      decided = b.decided;
-    }
-
-drop_front : (g : ℕ) (es fs : List ChannelEvent) → g ≤ length es → drop g (es ++ fs) ≡ drop g es ++ fs
-drop_front zero es fs le = refl
-drop_front (suc g) [] fs le = absurd (omega (arith, le))
-drop_front (suc g) (e ∷ es) fs le = drop_front g es fs (omega (arith, le))
-
-drop_both : (g h : ℕ) (es : List ChannelEvent) → drop h (drop g es) ≡ drop (g + h) es
-drop_both zero h es = refl
-drop_both (suc g) zero [] = refl
-drop_both (suc g) (suc h) [] = refl
-drop_both (suc g) h (e ∷ es) = drop_both g h es
-
--- one after the other
-pub pends_both : (x m n : End) (es fs : List ChannelEvent) → Pends x m es → Pends m n fs → Pends x n (es ++ fs)
-pends_both x m n es fs first then =
-    let ps = pending x.ledger.undecided x in
-    let qs = pending m.ledger.undecided m in
-    let whole : (ps ++ es) ++ fs ≡ ps ++ (es ++ fs) = append_assoc ps es fs in
-    let left : qs ++ fs ≡ drop first.gone ((ps ++ es) ++ fs) =
-    ap (λ z. z ++ fs) first.entries ∙ sym (drop_front first.gone (ps ++ es) fs first.within) in
-    let some = first.within in
-    let more = then.within in
-    let count : length (qs ++ fs) ≡ length ((ps ++ es) ++ fs) - first.gone =
-    ap length left ∙ length-drop first.gone ((ps ++ es) ++ fs) in
-    let all : length ((ps ++ es) ++ fs) ≡ length (ps ++ (es ++ fs)) = ap length whole in
-    let parts = length-append (ps ++ es) fs in
-    let decided = first.decided in
-    let later = then.decided in
-    record {
-      gone = first.gone + then.gone;
-      within = omega (arith, some, more, count, all, parts);
-      entries = then.entries ∙ ap (drop then.gone) left ∙ drop_both first.gone then.gone ((ps ++ es) ++ fs)
-          ∙ ap (drop (first.gone + then.gone)) whole;
-      named = then.named;
-      decided = omega (arith, decided, later);
-    }
-
 -- ---- new entries
 
 drop_next : (c : ℕ) (us : List Change) (u : Change) (zs : List Change) → drop c us ≡ u ∷ zs → drop (suc c) us ≡ zs
@@ -321,3 +237,95 @@ keep_either false x k h = h
 pub same_pends : (x n : End) → n ≡ x → Named x → Pends x n []
 same_pends x n e named =
     enters_none x n (subst (Keep x) (sym e) (keep_same x)) (ap (λ (z : End). z.ledger) e) named
+
+-- ---- entries that are decided
+
+-- an entry that names an event, and the events behind it
+first_gone : (g : ℕ) (o : Option ChannelEvent) (es : List ChannelEvent) (n : ℕ)
+    → length (cons_option o es) ≡ suc n → length es ≤ n
+    → (drop g es ≡ drop (suc g) (cons_option o es)) × (length es ≡ n)
+first_gone g None es n e le = absurd (omega (arith, e, le))
+first_gone g (Some x) es n e le = (refl, omega (arith, e))
+
+no_more : (rs : List EventRef) (e : End) → length (pending rs e) ≤ length rs
+no_more [] e = omega arith
+no_more (r ∷ rs) e = by (named_by r e) (no_more rs e)
+  where
+    by : (o : Option ChannelEvent) → length (pending rs e) ≤ length rs
+        → length (cons_option o (pending rs e)) ≤ suc (length rs)
+    by None le = omega (arith, le)
+    by (Some x) le = omega (arith, le)
+
+pending_drop : (g : ℕ) (rs : List EventRef) (e : End) → length (pending rs e) ≡ length rs
+    → (pending (drop g rs) e ≡ drop g (pending rs e)) × (length (pending (drop g rs) e) ≡ length (drop g rs))
+pending_drop zero rs e full = (refl, full)
+pending_drop (suc g) [] e full = (refl, refl)
+pending_drop (suc g) (r ∷ rs) e full =
+    let first = first_gone g (named_by r e) (pending rs e) (length rs) full (no_more rs e) in
+    let rest = pending_drop g rs e first.1 in
+    (rest.0 ∙ first.0, rest.1)
+
+-- a first part of the entries is decided
+pub leaves : (x : End) (l : Ledger) → Behind x.ledger l → Named x → Pends x (record x { ledger = l }) []
+leaves x l b named =
+    let n : End = record x { ledger = l } in
+    let us = x.ledger.undecided in
+    let part = pending_drop b.gone us x named.full in
+    let held : NamedIn x l.undecided = subst (NamedIn x) (sym b.undecided)
+    (all-drop (IsNamed x.dance.log.current.own x.dance.log.acknowledged.peer x.closing.closed) b.gone us named.held) in
+    let same : pending l.undecided n ≡ pending l.undecided x = (kept x n (keep_same x) l.undecided held).0 in
+    let le = b.within in
+    let full = named.full in
+    let all = length-append (pending us x) [] in
+    record {
+      gone = b.gone;
+      within = omega (arith, le, full, all);
+      entries = same ∙ ap (λ vs. pending vs x) b.undecided ∙ part.0
+          ∙ ap (drop b.gone) (sym (append-nil (pending us x)));
+      named = record {
+        held = held;
+        full = ap length same ∙ subst (λ vs. length (pending vs x) ≡ length vs) (sym b.undecided) part.1;
+      };
+      decided = b.decided;
+    }
+
+drop_front : (g : ℕ) (es fs : List ChannelEvent) → g ≤ length es → drop g (es ++ fs) ≡ drop g es ++ fs
+drop_front zero es fs le = refl
+drop_front (suc g) [] fs le = absurd (omega (arith, le))
+drop_front (suc g) (e ∷ es) fs le = drop_front g es fs (omega (arith, le))
+
+drop_none : (n : ℕ) (es : List ChannelEvent) → es ≡ [] → drop n es ≡ []
+drop_none zero es e = e
+drop_none (suc n) [] e = refl
+drop_none (suc n) (x ∷ es) e = absurd (cc)
+
+drop_both : (g h n : ℕ) (es : List ChannelEvent) → n ≡ g + h → drop h (drop g es) ≡ drop n es
+drop_both zero h n es e = ap (λ k. drop k es) (omega (arith, e))
+drop_both (suc g) h n [] e = drop_none h [] refl ∙ sym (drop_none n [] refl)
+drop_both (suc g) h zero (x ∷ es) e = absurd (omega (arith, e))
+drop_both (suc g) h (suc n) (x ∷ es) e = drop_both g h n es (omega (arith, e))
+
+-- one after the other
+pub pends_both : (x m n : End) (es fs : List ChannelEvent) → Pends x m es → Pends m n fs → Pends x n (es ++ fs)
+pends_both x m n es fs first then =
+    let ps = pending x.ledger.undecided x in
+    let qs = pending m.ledger.undecided m in
+    let whole : (ps ++ es) ++ fs ≡ ps ++ (es ++ fs) = append_assoc ps es fs in
+    let left : qs ++ fs ≡ drop first.gone ((ps ++ es) ++ fs) =
+    ap (λ z. z ++ fs) first.entries ∙ sym (drop_front first.gone (ps ++ es) fs first.within) in
+    let some = first.within in
+    let more = then.within in
+    let count : length (qs ++ fs) ≡ length ((ps ++ es) ++ fs) - first.gone =
+    ap length left ∙ length-drop first.gone ((ps ++ es) ++ fs) in
+    let all : length ((ps ++ es) ++ fs) ≡ length (ps ++ (es ++ fs)) = ap length whole in
+    let parts = length-append (ps ++ es) fs in
+    let decided = first.decided in
+    let later = then.decided in
+    record {
+      gone = first.gone + then.gone;
+      within = omega (arith, some, more, count, all, parts);
+      entries = then.entries ∙ ap (drop then.gone) left ∙ drop_both first.gone then.gone (first.gone + then.gone) ((ps ++ es) ++ fs) refl
+          ∙ ap (drop (first.gone + then.gone)) whole;
+      named = then.named;
+      decided = omega (arith, decided, later);
+    }

@@ -88,7 +88,6 @@ use Rattle.ln_pair.proofs.Tellings.{grown_so, refs_count, entered_next, tail_non
 use Rattle.ln_pair.proofs.Tellings.{accept_told, learn_told, accept_other, learn_other}
 use Rattle.ln_pair.proofs.Machines.{Keeps, acts_so, happens_so, run_after, starts}
 use Rattle.ln_pair.proofs.Moving.{log_within}
-use Rattle.std.proofs.Common.{append_assoc}
 
 settled_ledger : (e : End) → (settled e).ledger ≡ e.ledger
 settled_ledger e = begun (has_begun (answers_shutdown e)) (may_start (answers_shutdown e).closing) (answers_shutdown e)
@@ -782,7 +781,10 @@ in_step_so a b s c funder fundee steps r keys o =
     let t = all_pend a b keys r steps q p st.keeps (opened_holds a b s c funder fundee o) (none r) in
     let so : as_told (events r (all_moves a b steps p) (Some (machine_at q p))) ≡ es =
     ap (λ m. as_told (events r (all_moves a b steps p) m)) st.first in
-    let all_gone : n.ledger.decided ≡ t.gone = t.decided ∙ ap (λ i. i + t.gone) (undecided_all r) in
+    let gone = t.gone in
+    let decided = t.decided in
+    let none_first = undecided_all r in
+    let all_gone : n.ledger.decided ≡ gone = omega (arith, decided, none_first) in
     record {
       pending = t.entries
           ∙ ap (λ z. drop t.gone (z ++ as_told (events r (all_moves a b steps p) (Some (machine_at q p))))) (empty r)

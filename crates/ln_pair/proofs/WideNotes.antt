@@ -1,5 +1,5 @@
 -- What a decision makes of what goes into an end's record: it stays as wide as in code, where the mark is.
-use Rattle.std.proofs.Common.{◌≡◌, ℕ, zero, suc, ◌<◌, ◌^◌, List, [], ◌∷◌, length, Bool, true, false, cond, ◌&&◌}
+use Rattle.std.proofs.Common.{ℕ, zero, suc, ◌<◌, ◌^◌, List, [], ◌∷◌, length, Bool, true, false, cond, ◌&&◌}
 use Rattle.std.proofs.Common.{◌==◌, nat_lt, Option, Some, None, Result, Ok, Err}
 use Rattle.std.specs.List.{slice_get}
 use Rattle.ln_msgs.specs.declared.refusals.refusal.Refusal.{Refusal}
