@@ -218,6 +218,8 @@ first_steady r c f t = record {
   first_peer = refl;
   undecided = tt;
   events = omega arith;
+  decisions = omega arith;
+  results = omega arith;
   secret = λ e. refl;
   next_point = λ e g. refl;
   heard = tt;
@@ -332,6 +334,8 @@ counted a b keys secrets p s sent h at =
       first_peer = s.first_peer;
       undecided = s.undecided;
       events = omega (arith, events, one);
+      decisions = s.decisions;
+      results = s.results;
       point = ap length h.hold.x_knows.point ∙ keys.b_points n.revoked (omega (arith, few, below));
       next_point = next_by x.marks.ready_received b n.revoked n.signed x.dance.peer.next_point keys.b_points few
           below (λ e. (h.hold.told.there.used_signature e).taken) h.hold.x_knows.next_point s.next_point;

@@ -35,6 +35,8 @@ pub record IsCounted (e : End) : Type 0 where
   pub undecided : All (IsHeld e.dance.log.current.own e.dance.log.acknowledged.peer) e.ledger.undecided
   pub events : e.ledger.decided + length e.ledger.undecided
       ≤ e.dance.log.current.own + e.dance.log.acknowledged.peer + 1
+  pub decisions : length e.ledger.decisions ≤ e.ledger.decided
+  pub results : length e.ledger.results ≤ e.dance.log.acknowledged.peer
   pub point : length e.dance.peer.point ≡ 33
   pub next_point : length e.dance.peer.next_point ≡ 33
   pub secret : Where (λ s. length s ≡ 32) e.dance.peer.secret

@@ -1,15 +1,18 @@
--- What a decision makes of an end's ledger: a first part of the undecided events goes, and is counted as decided.
-use Rattle.std.proofs.Common.{◌≡◌, ℕ, ◌+◌, ◌-◌, ◌<◌, ◌≤◌, length, drop, refl, ap, ◌∙◌, arith, length-drop}
-use Rattle.std.proofs.Common.{Bool, true, false, cond, ◌&&◌, ◌==◌}
-use Rattle.std.proofs.Common.{nat_lt, Option, Some, None, Result, Ok, Err}
+-- What a decision makes of an end's ledger: a first part of the undecided events goes, and is counted as decided; no
+-- more decisions come than these, and no results.
+use Rattle.std.proofs.Common.{◌≡◌, ℕ, suc, ◌+◌, ◌-◌, ◌<◌, ◌≤◌, List, [], ◌∷◌, ◌++◌, length, drop, filter, refl, ap, ◌∙◌, arith}
+use Rattle.std.proofs.Common.{length-append, length-drop, Bool, true, false, cond, ◌&&◌, ◌==◌, nat_lt, Option, Some, None}
+use Rattle.std.proofs.Common.{Result, Ok, Err}
 use Rattle.std.proofs.lemmas.Bool.{ltb-true}
 use Rattle.ln_msgs.specs.declared.refusals.refusal.Refusal.{Refusal}
 use Rattle.ln_msgs.specs.declared.refusals.refusal.Refusal.TheVariants as refusal
 use Rattle.ln_log.specs.declared.mark.Mark.{Mark}
 use Rattle.ln_log.specs.declared.mark.Mark.TheVariants as mark
+use Rattle.ln_log.specs.declared.mark.Decision.{Decision}
+use Rattle.ln_log.specs.declared.mark.Settlement.{Settlement}
 use Rattle.ln_channel.specs.declared.command.Command.{Command}
 use Rattle.ln_channel.specs.declared.command.Command.TheVariants as command
-use Rattle.ln_channel.specs.Ledger.{Ledger, most_decided, first_htlc, marked, decided_first, forgotten, next_event}
+use Rattle.ln_channel.specs.Ledger.{Ledger, most_decided, first_htlc, marked, decided_first, is_not_of, next_event}
 use Rattle.ln_channel.specs.Commands.{ledgered}
 use Rattle.ln_channel.specs.End.{End}
 use Rattle.ln_pair.specs.Ends.{ledger_behind}
@@ -19,27 +22,50 @@ pub record Behind (l n : Ledger) : Type 0 where
   pub within : gone ≤ length l.undecided
   pub undecided : n.undecided ≡ drop gone l.undecided
   pub decided : n.decided ≡ l.decided + gone
+  pub decisions : length n.decisions ≤ length l.decisions + gone
+  pub results : length n.results ≤ length l.results
 
 abbrev IfBehind : Ledger → Result Ledger Refusal → Type 0
 IfBehind l (Ok n) = Behind l n
 IfBehind l (Err r) = Unit {0}
 
+one_behind : (l : Ledger) → 0 < length l.undecided → Behind l (record l
+    { decided = l.decided + 1; undecided = drop 1 l.undecided })
+one_behind l some = record {
+  gone = 1;
+  within = omega (arith, some);
+  undecided = refl;
+  decided = refl;
+  decisions = omega arith;
+  results = omega arith;
+}
+
+one_kept : (l : Ledger) (d : Decision) → 0 < length l.undecided → Behind l (record {
+  decided = l.decided + 1;
+  undecided = drop 1 l.undecided;
+  decisions = l.decisions ++ d ∷ [];
+  results = l.results;
+})
+one_kept l d some = let all = length-append l.decisions (d ∷ []) in record {
+  gone = 1;
+  within = omega (arith, some);
+  undecided = refl;
+  decided = refl;
+  decisions = omega (arith, all);
+  results = omega arith;
+}
+
 marked_behind : (m : Mark) (htlc : Option ℕ) (l : Ledger) → 0 < length l.undecided
     → IfBehind l (decided_first (marked m htlc l))
-marked_behind mark.None htlc l some =
-    record { gone = 1; within = omega (arith, some); undecided = refl; decided = refl }
+marked_behind mark.None htlc l some = one_behind l some
 marked_behind (mark.Forward channel amount expiry) None l some = tt
-marked_behind (mark.Forward channel amount expiry) (Some id) l some =
-    record { gone = 1; within = omega (arith, some); undecided = refl; decided = refl }
+marked_behind (mark.Forward channel amount expiry) (Some id) l some = one_kept l _ some
 marked_behind (mark.Fail reason) None l some = tt
-marked_behind (mark.Fail reason) (Some id) l some =
-    record { gone = 1; within = omega (arith, some); undecided = refl; decided = refl }
+marked_behind (mark.Fail reason) (Some id) l some = one_kept l _ some
 marked_behind (mark.Malformed code) None l some = tt
-marked_behind (mark.Malformed code) (Some id) l some =
-    record { gone = 1; within = omega (arith, some); undecided = refl; decided = refl }
+marked_behind (mark.Malformed code) (Some id) l some = one_kept l _ some
 marked_behind (mark.Fulfil preimage) None l some = tt
-marked_behind (mark.Fulfil preimage) (Some id) l some =
-    record { gone = 1; within = omega (arith, some); undecided = refl; decided = refl }
+marked_behind (mark.Fulfil preimage) (Some id) l some = one_kept l _ some
 
 decide_behind : (t u v : Bool) (m : Mark) (htlc : Option ℕ) (l : Ledger) → nat_lt 0 (length l.undecided) ≡ v
     → IfBehind l (cond (t && (u && v)) (decided_first (marked m htlc l)) (Err refusal.NotReady))
@@ -48,13 +74,31 @@ decide_behind true true false m htlc l e = tt
 decide_behind true false v m htlc l e = tt
 decide_behind false u v m htlc l e = tt
 
-all_of : (l n : Ledger) → n.undecided ≡ l.undecided → n.decided ≡ l.decided → Behind l n
-all_of l n undecided decided =
-    record { gone = 0; within = omega arith; undecided = undecided; decided = omega (arith, decided) }
+no_more : (f : Settlement → Bool) (ss : List Settlement) → length (filter f ss) ≤ length ss
+no_more f [] = omega arith
+no_more f (s ∷ ss) = by (f s) (no_more f ss)
+  where
+    by : (b : Bool) → length (filter f ss) ≤ length ss
+        → length (cond b (s ∷ filter f ss) (filter f ss)) ≤ suc (length ss)
+    by true le = omega (arith, le)
+    by false le = omega (arith, le)
+
+all_left : (l : Ledger) (ss : List Settlement) → length ss ≤ length l.results → Behind l (record l { results = ss })
+all_left l ss le = record {
+  gone = 0;
+  within = omega arith;
+  undecided = refl;
+  decided = omega arith;
+  decisions = omega arith;
+  results = le;
+}
+
+same : (l : Ledger) → Behind l l
+same l = all_left l l.results (omega arith)
 
 ledger_so : (l : Ledger) (row : Result Ledger Refusal) → IfBehind l row → Behind l (ledger_behind row l)
 ledger_so l (Ok n) h = h
-ledger_so l (Err r) h = all_of l l refl refl
+ledger_so l (Err r) h = same l
 
 pub noted : (c : Command) (e : End) → Behind e.ledger (ledger_behind (ledgered c e) e.ledger)
 noted (command.Decide event m) e =
@@ -62,15 +106,51 @@ noted (command.Decide event m) e =
     let htlc = first_htlc e.dance.log l.undecided in
     ledger_so l (ledgered (command.Decide event m) e)
     (decide_behind (event == l.decided) (nat_lt event most_decided) (nat_lt 0 (length l.undecided)) m htlc l refl)
-noted (command.Forget id) e = all_of e.ledger (forgotten id e.ledger) refl refl
-noted (command.Confirm id) e = all_of e.ledger e.ledger refl refl
-noted (command.Add amount hash expiry onion origin) e = all_of e.ledger e.ledger refl refl
-noted (command.Fulfil id preimage) e = all_of e.ledger e.ledger refl refl
-noted (command.Fail id reason) e = all_of e.ledger e.ledger refl refl
-noted (command.Malformed id sha code) e = all_of e.ledger e.ledger refl refl
-noted (command.Fee feerate) e = all_of e.ledger e.ledger refl refl
-noted command.Sign e = all_of e.ledger e.ledger refl refl
-noted (command.Shutdown script) e = all_of e.ledger e.ledger refl refl
+noted (command.Forget id) e = all_left e.ledger (filter (is_not_of id) e.ledger.results) (no_more (is_not_of id) e.ledger.results)
+noted (command.Confirm id) e = same e.ledger
+noted (command.Add amount hash expiry onion origin) e = same e.ledger
+noted (command.Fulfil id preimage) e = same e.ledger
+noted (command.Fail id reason) e = same e.ledger
+noted (command.Malformed id sha code) e = same e.ledger
+noted (command.Fee feerate) e = same e.ledger
+noted command.Sign e = same e.ledger
+noted (command.Shutdown script) e = same e.ledger
+
+-- what isn't done is refused as not ready
+abbrev pub IsNotReady : Result Ledger Refusal → Type 0
+IsNotReady (Ok l) = Unit {0}
+IsNotReady (Err r) = r ≡ refusal.NotReady
+
+marked_not : (m : Mark) (htlc : Option ℕ) (l : Ledger) → IsNotReady (decided_first (marked m htlc l))
+marked_not mark.None htlc l = tt
+marked_not (mark.Forward channel amount expiry) None l = refl
+marked_not (mark.Forward channel amount expiry) (Some id) l = tt
+marked_not (mark.Fail reason) None l = refl
+marked_not (mark.Fail reason) (Some id) l = tt
+marked_not (mark.Malformed code) None l = refl
+marked_not (mark.Malformed code) (Some id) l = tt
+marked_not (mark.Fulfil preimage) None l = refl
+marked_not (mark.Fulfil preimage) (Some id) l = tt
+
+decide_not : (b : Bool) (m : Mark) (htlc : Option ℕ) (l : Ledger)
+    → IsNotReady (cond b (decided_first (marked m htlc l)) (Err refusal.NotReady))
+decide_not true m htlc l = marked_not m htlc l
+decide_not false m htlc l = refl
+
+pub not_ready : (c : Command) (e : End) → IsNotReady (ledgered c e)
+not_ready (command.Decide event m) e =
+    let l = e.ledger in
+    decide_not ((event == l.decided) && (nat_lt event most_decided && nat_lt 0 (length l.undecided))) m
+    (first_htlc e.dance.log l.undecided) l
+not_ready (command.Forget id) e = tt
+not_ready (command.Confirm id) e = refl
+not_ready (command.Add amount hash expiry onion origin) e = refl
+not_ready (command.Fulfil id preimage) e = refl
+not_ready (command.Fail id reason) e = refl
+not_ready (command.Malformed id sha code) e = refl
+not_ready (command.Fee feerate) e = refl
+not_ready command.Sign e = refl
+not_ready (command.Shutdown script) e = refl
 
 -- as many events have been entered
 pub next_behind : (l n : Ledger) → Behind l n → next_event n ≡ next_event l + 0

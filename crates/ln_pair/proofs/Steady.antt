@@ -20,7 +20,8 @@ use Rattle.ln_hooks.specs.declared.event.ChannelEvent.{ChannelEvent}
 use Rattle.ln_hooks.specs.Event.{event_of}
 use Rattle.ln_log.specs.declared.mark.EventRef.{EventRef}
 use Rattle.ln_log.specs.declared.mark.EventRef.TheVariants as ref
-use Rattle.ln_channel.specs.Ledger.{Ledger, ref_of, refs_of, entered}
+use Rattle.ln_log.specs.declared.mark.Settlement.{Settlement}
+use Rattle.ln_channel.specs.Ledger.{Ledger, ref_of, refs_of, entered, settlement_by, settlements}
 use Rattle.ln_channel.specs.End.{End, is_closed, has_begun, owes_shutdown, answers_shutdown, settled}
 use Rattle.ln_channel.specs.Taking.{answering, answered_end, range_in, shuts_by_peer}
 use Rattle.ln_pair.proofs.Sides.{Notice, Update, Sign, Revoke, Ready, Shutdown, Close, Again}
@@ -48,6 +49,8 @@ pub record IsSteady (first : Counts) (current acknowledged : ℕ) (ledger : Ledg
   pub first_peer : first.peer ≡ 0
   pub undecided : All (IsHeld current acknowledged) ledger.undecided
   pub events : ledger.decided + length ledger.undecided ≤ current + acknowledged + closes_in closed
+  pub decisions : length ledger.decisions ≤ ledger.decided
+  pub results : length ledger.results ≤ acknowledged
   pub secret : revoked ≡ 0 → peer.secret ≡ None
   pub next_point : revoked ≡ 0 → ready ≡ false → length peer.next_point ≡ 33
   pub heard : Where IsFee peer_fee
@@ -95,6 +98,19 @@ at_most own n (u ∷ us) =
     let one = one_at_most (event_of own u) (ref_of own n) (refs_of own (n + 1) us) (length us) rest in
     omega (arith, one)
 
+one_settlement : (s : Option Settlement) (ss : List Settlement) (n : ℕ) → length ss ≤ n
+    → length (cons_option s ss) ≤ n + 1
+one_settlement None ss n le = omega (arith, le)
+one_settlement (Some s) ss n le = omega (arith, le)
+
+-- no more results than updates
+few_settlements : (own us : List Change) → length (settlements own us) ≤ length us
+few_settlements own [] = omega arith
+few_settlements own (u ∷ us) =
+    let rest = few_settlements own us in
+    let one = one_settlement (settlement_by own u) (settlements own us) (length us) rest in
+    omega (arith, one)
+
 pub length-between : (c d : ℕ) (us : List Change) → length (between c d us) ≤ d - c
 length-between c d us = let is = length-take (d - c) (drop c us) in omega (arith, is)
 
@@ -138,6 +154,8 @@ module _ (k : Signer) (x : End) (w : log.IsWithin x.dance.log) (s : Steady x) wh
             (raised c p d p x.ledger.undecided grow (omega arith) s.undecided)
             (own_named c d p us (omega (arith, grow, many)));
         events = omega (arith, grow, many, new, all, before);
+        decisions = s.decisions;
+        results = s.results;
         secret = s.secret;
         next_point = s.next_point;
         heard = s.heard;
@@ -157,6 +175,9 @@ module _ (k : Signer) (x : End) (w : log.IsWithin x.dance.log) (s : Steady x) wh
       let new = at_most false c us in
       let all = length-append x.ledger.undecided rs in
       let before = s.events in
+      let few = few_settlements l.own us in
+      let more = length-append x.ledger.results (settlements l.own us) in
+      let had = s.results in
       record {
         first_own = s.first_own;
         first_peer = s.first_peer;
@@ -164,6 +185,8 @@ module _ (k : Signer) (x : End) (w : log.IsWithin x.dance.log) (s : Steady x) wh
             (raised o c o d x.ledger.undecided (omega arith) grow s.undecided)
             (peer_named c o d us (omega (arith, grow, many)));
         events = omega (arith, grow, many, new, all, before);
+        decisions = s.decisions;
+        results = omega (arith, grow, many, few, more, had);
         secret = λ e. absurd (omega (arith, e));
         next_point = λ e g. absurd (omega (arith, e));
         heard = s.heard;
@@ -184,6 +207,8 @@ module _ (k : Signer) (x : End) (w : log.IsWithin x.dance.log) (s : Steady x) wh
         first_peer = s.first_peer;
         undecided = s.undecided;
         events = s.events;
+        decisions = s.decisions;
+        results = s.results;
         secret = s.secret;
         next_point = λ e g. absurd (cc (g));
         heard = s.heard;
@@ -220,6 +245,8 @@ module _ (k : Signer) (x : End) (w : log.IsWithin x.dance.log) (s : Steady x) wh
     undecided = all-append (IsHeld x.dance.log.current.own x.dance.log.acknowledged.peer) x.ledger.undecided
         (ref.Close ∷ []) s.undecided (tt, tt);
     events = closed_events (ref.Close ∷ []) refl unclosed;
+    decisions = s.decisions;
+    results = s.results;
     secret = s.secret;
     next_point = s.next_point;
     heard = below;
@@ -233,6 +260,8 @@ module _ (k : Signer) (x : End) (w : log.IsWithin x.dance.log) (s : Steady x) wh
     first_peer = s.first_peer;
     undecided = s.undecided;
     events = s.events;
+    decisions = s.decisions;
+    results = s.results;
     secret = s.secret;
     next_point = s.next_point;
     heard = below;
@@ -250,6 +279,10 @@ noted_steady x l b s =
     let within = b.within in
     let more = b.decided in
     let before = s.events in
+    let made = b.decisions in
+    let had = s.decisions in
+    let kept = b.results in
+    let come = s.results in
     let fewer : length l.undecided ≡ length x.ledger.undecided - b.gone =
     ap length b.undecided ∙ length-drop b.gone x.ledger.undecided in
     record {
@@ -258,6 +291,8 @@ noted_steady x l b s =
       undecided = subst (All (IsHeld x.dance.log.current.own x.dance.log.acknowledged.peer)) (sym b.undecided)
           (all-drop (IsHeld x.dance.log.current.own x.dance.log.acknowledged.peer) b.gone x.ledger.undecided s.undecided);
       events = omega (arith, within, more, before, fewer);
+      decisions = omega (arith, more, made, had);
+      results = omega (arith, kept, come);
       secret = s.secret;
       next_point = s.next_point;
       heard = s.heard;

@@ -12,7 +12,9 @@ use Rattle.ln_channel.specs.declared.unsaved.Line.TheVariants.{Down, Awaiting, M
 use Rattle.ln_channel.specs.declared.opening.Opened.{Opened}
 use Rattle.ln_channel.specs.End.{End, Turn, with_dance, end_dropped}
 use Rattle.ln_channel.specs.State.{is_down}
-use Rattle.ln_pair.specs.Ends.{Ends, Step, By, Connect, Act, Deliver, Give, Lose, message_at, command_at}
+use Rattle.ln_pair.specs.Ends.{Ends, Step, By, Connect, Act, Deliver, Give, Note, Lose, message_at, command_at}
+use Rattle.ln_pair.specs.Ends.{ledger_behind}
+use Rattle.ln_channel.specs.Commands.{ledgered}
 use Rattle.ln_pair.specs.Ends as pair
 
 -- what is lost twice is lost once
@@ -55,6 +57,10 @@ lost_so false q h = record { x = λ e. dropped_twice q.x; y = h.y }
 acted_so : (keys : Signer) (a : Act) (q : Ends) → AreDropped q → AreDropped (pair.acts keys a q)
 acted_so keys Deliver q h = delivered_so keys q.to_x q h
 acted_so keys (Give c) q h = answered_so (command_at keys q.x_line c q.x) q h
+acted_so keys (Note c) q h = record {
+  x = λ down. ap (λ (e : End). record e { ledger = ledger_behind (ledgered c q.x) q.x.ledger }) (h.x down);
+  y = h.y;
+}
 acted_so keys Lose q h = lost_so (is_down q.x_line) q h
 
 module _ (a b : Signer) where

@@ -27,7 +27,7 @@ use Rattle.ln_store.specs.Format.{fixed, optional}
 use Rattle.ln_store.specs.Items as it
 use Rattle.ln_store.specs.Readable.{names_an_update, is_sound, is_readable}
 use Rattle.ln_link.specs.Record.{flags_of, payload_of, place_of, agreement_of, window_of, pairs_of, updates_of}
-use Rattle.ln_link.specs.Record.{events_of, fees_of, progress_of, header_of, items_of, IsUnwritable}
+use Rattle.ln_link.specs.Record.{events_of, forwards_of, fees_of, progress_of, header_of, items_of, IsUnwritable}
 use Rattle.ln_link.specs.Record.{HasNoAgreement, HasNoUpdates, NoRecord}
 use Rattle.ln_pair.specs.Widths.{IsUpdate}
 use Rattle.ln_pair.proofs.All.{All}
@@ -37,7 +37,7 @@ use Rattle.ln_world.proofs.Opening.{IsOpenChannel, IsAcceptChannel, AreFees, IsO
 use Rattle.ln_world.proofs.OpeningForms.{open_written, open_short, open_read, accept_written, accept_short, accept_read}
 use Rattle.ln_world.proofs.UpdateForms.{also, list_fits}
 use Rattle.ln_world.proofs.ItemForms.{header_fits, fees_fit, agreement_fits, numbers_fit, peer_fits, base_fits}
-use Rattle.ln_world.proofs.ItemForms.{pairs_fit, IsNumbered, events_fit, no_forwards_fit, closing_fits}
+use Rattle.ln_world.proofs.ItemForms.{pairs_fit, IsNumbered, events_fit, forwards_fit, closing_fits}
 use Rattle.ln_world.proofs.SoundForms.{open_sounds, accept_sounds, in_step, settled}
 
 -- ---- what an end keeps of its opening
@@ -212,17 +212,34 @@ events_of_fit e k c =
     let n = c.received_room in
     let own : l.current.own ≤ 2 ^ 62 = omega (arith, a, b, m) in
     let peer : l.acknowledged.peer ≤ 2 ^ 62 = omega (arith, s, t, n) in
-    let decided = k.decided in
     let events = k.events in
-    events_fit (events_of e.ledger) (omega (arith, decided)) (omega (arith, events, own, peer))
+    events_fit (events_of e.ledger) (omega (arith, events, own, peer)) (omega (arith, events, own, peer))
     (all_numbered l.current.own l.acknowledged.peer e.ledger.undecided own peer k.undecided)
 
 -- ---- all items
 
-progress_of_fits : (e : End) → IsCounted e → AreCovered e.dance.log → it.progress.fits (progress_of e) ≡ true
+forwards_of_fit : (e : End) → IsCounted e → AreCovered e.dance.log → IsWide e
+    → it.forwards.fits (forwards_of e.ledger) ≡ true
+forwards_of_fit e k c w =
+    let i = k.within in
+    let a = i.own_current in
+    let b = i.own_acknowledged in
+    let s = i.peer_acknowledged in
+    let t = i.peer_signed in
+    let m = c.own_room in
+    let n = c.received_room in
+    let events = k.events in
+    let decisions = k.decisions in
+    let results = k.results in
+    forwards_fit (forwards_of e.ledger) (omega (arith, decisions, events, a, b, m, s, t, n))
+    (omega (arith, results, s, t, n)) w.decisions w.results
+
+progress_of_fits : (e : End) → IsCounted e → AreCovered e.dance.log → IsWide e
+    → it.progress.fits (progress_of e) ≡ true
 unfolding it.progress progress_of
-progress_of_fits e k c =
-    also (events_of_fit e k c) (also no_forwards_fit (closing_fits (fees_of e.closing) k.own_fee k.peer_fee k.closed))
+progress_of_fits e k c w =
+    also (events_of_fit e k c)
+    (also (forwards_of_fit e k c w) (closing_fits (fees_of e.closing) k.own_fee k.peer_fee k.closed))
 
 record AreBelow (e : End) : Type 0 where
   commitment : e.dance.numbers.commitment < 2 ^ 48
@@ -243,7 +260,7 @@ items_fit e o k w =
     also (header_fits e.dance.channel e.closing.role (flags_of e) o.channel) (also (agreement_of_fits e o w)
     (also (also (numbers_fit e.dance.numbers n.commitment n.signed n.revoked)
     (peer_fits e.dance.peer k.point k.next_point k.secret)) (also (updates_of_fit e o k.within w)
-    (progress_of_fits e k (are_covered e k.within w)))))
+    (progress_of_fits e k (are_covered e k.within w) w))))
 
 items_sound : (e : End) → Opens e → IsCounted e → IsWide e → is_sound (items_of None e) ≡ true
 unfolding items_of header_of agreement_of progress_of updates_of
@@ -260,14 +277,18 @@ items_sound e o k w =
     let peer_signed = i.peer_signed in
     let own = c.own in
     let received = c.received in
-    let decided = k.decided in
+    let own_room = c.own_room in
+    let received_room = c.received_room in
+    let events = k.events in
+    let decided : e.ledger.decided ≤ 2 ^ 63 + 1 =
+    omega (arith, events, own_current, own_acknowledged, peer_acknowledged, peer_signed, own_room, received_room) in
     also (also (also (also (also
     (open_sounds m (payload_of (open_wire m)) o.funds.some_funds o.funds.funds
     (open_is_read m o.open_channel))
     (accept_sounds a (payload_of (accept_wire a)) (accept_is_read a o.accept_channel)))
     (in_step e.dance.numbers n.commitment n.signed n.revoked k.step.revoked k.step.one_unrevoked))
     (settled e.dance.numbers (pairs_of l) k.step.acknowledged))
-    (le-leb e.ledger.decided (2 ^ 63 + 1) (omega (arith, decided))))
+    (le-leb e.ledger.decided (2 ^ 63 + 1) decided))
     (all_named e.closing.role (opening_of e.terms) (after_drop l) e.ledger.undecided
     (raised l.current.own l.acknowledged.peer (length (after_drop l).own) (length (after_drop l).received)
     e.ledger.undecided (omega (arith, own_current, own_acknowledged, own))

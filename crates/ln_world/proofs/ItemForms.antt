@@ -12,7 +12,14 @@ use Rattle.ln_dance.specs.declared.dance.Later.TheVariants.{Signature, Revocatio
 use Rattle.ln_dance.specs.declared.dance.Numbers.{Numbers}
 use Rattle.ln_dance.specs.declared.dance.Peer.{Peer}
 use Rattle.ln_close.specs.declared.closing.Fees.{Fees}
+use Rattle.ln_log.specs.declared.mark.Decision.{Decision}
 use Rattle.ln_log.specs.declared.mark.EventRef.{EventRef}
+use Rattle.ln_log.specs.declared.mark.Mark.{Mark}
+use Rattle.ln_log.specs.declared.mark.Mark.TheVariants as mark
+use Rattle.ln_log.specs.declared.mark.Settlement.{Settlement}
+use Rattle.ln_log.specs.declared.update.Update.{Update}
+use Rattle.ln_log.specs.declared.update.Update.TheVariants as kinds
+use Rattle.ln_log.specs.Updates.{removed, is_some as removes_one}
 use Rattle.ln_log.specs.declared.mark.EventRef.TheVariants as ref
 use Rattle.ln_store.specs.declared.record.Flags.{Flags}
 use Rattle.ln_store.specs.declared.record.Agreement.{Agreement}
@@ -20,12 +27,13 @@ use Rattle.ln_store.specs.declared.record.Covered.{Covered}
 use Rattle.ln_store.specs.declared.record.Pairs.{Pairs}
 use Rattle.ln_store.specs.declared.record.Events.{Events}
 use Rattle.ln_store.specs.declared.record.ClosingFees.{ClosingFees}
+use Rattle.ln_store.specs.declared.record.Forwards.{Forwards}
 use Rattle.ln_store.specs.Format.{Format, number, fixed, sized, optional, is_some}
 use Rattle.ln_store.specs.Items as it
 use Rattle.ln_store.specs.Items.{bit, later_bit, flags_number}
 use Rattle.ln_pair.proofs.All.{All}
-use Rattle.ln_pair.proofs.Lasting.{Where, longest_script}
-use Rattle.ln_world.proofs.UpdateForms.{also}
+use Rattle.ln_pair.proofs.Lasting.{Where, Does, IsDecision, IsSettlement, longest_script}
+use Rattle.ln_world.proofs.UpdateForms.{also, update_fits}
 
 where_fits : {A : Type 0} (f : Format A) (P : A → Type 0) → ((x : A) → P x → f.fits x ≡ true) → (o : Option A)
     → Where P o → (optional f).fits o ≡ true
@@ -171,9 +179,48 @@ events_fit e decided short h =
     also (lt-ltb e.decided (2 ^ 64) decided)
     (also (lt-ltb (length e.undecided) (2 ^ 64) short) (each_event_fits e.undecided h))
 
-pub no_forwards_fit : it.forwards.fits (record { decisions = []; results = [] }) ≡ true
+mark_fits : (m : Mark) → Does m → it.stored_mark.fits m ≡ true
+unfolding it.stored_mark
+mark_fits mark.None h = absurd h
+mark_fits (mark.Forward channel amount expiry) h =
+    also (eq-eqb (length channel) 32 h.channel_fits)
+    (also (lt-ltb amount (2 ^ 64) h.amount_fits) (lt-ltb expiry (2 ^ 32) h.expiry_fits))
+mark_fits (mark.Fail reason) h = lt-ltb (length reason) (2 ^ 64) h
+mark_fits (mark.Malformed code) h = lt-ltb code (2 ^ 16) h
+mark_fits (mark.Fulfil preimage) h = eq-eqb (length preimage) 32 h
+
+decision_fits : (d : Decision) → IsDecision d → it.decision.fits d ≡ true
+unfolding it.decision
+decision_fits d h = also (lt-ltb d.id (2 ^ 64) h.id) (mark_fits d.mark h.mark)
+
+each_decision_fits : (ds : List Decision) → All IsDecision ds → list_all it.decision.fits ds ≡ true
+each_decision_fits [] h = refl
+each_decision_fits (d ∷ ds) h = also (decision_fits d h.0) (each_decision_fits ds h.1)
+
+removes : (u : Update) → removes_one (removed u) ≡ true → it.is_removal u ≡ true
+removes (kinds.Add a) e = absurd (cc)
+removes (kinds.Fulfil f) e = refl
+removes (kinds.Fail f) e = refl
+removes (kinds.Malformed m) e = refl
+removes (kinds.Fee f) e = absurd (cc)
+
+settlement_fits : (s : Settlement) → IsSettlement s → it.settlement.fits s ≡ true
+unfolding it.settlement
+settlement_fits s h =
+    also (lt-ltb s.id (2 ^ 64) h.id)
+    (also (also (eq-eqb (length s.origin.0) 32 h.origin.0) (lt-ltb s.origin.1 (2 ^ 64) h.origin.1))
+    (also (update_fits s.removal h.update) (removes s.removal h.removal)))
+
+each_settlement_fits : (ss : List Settlement) → All IsSettlement ss → list_all it.settlement.fits ss ≡ true
+each_settlement_fits [] h = refl
+each_settlement_fits (s ∷ ss) h = also (settlement_fits s h.0) (each_settlement_fits ss h.1)
+
+pub forwards_fit : (f : Forwards) → length f.decisions < 2 ^ 64 → length f.results < 2 ^ 64
+    → All IsDecision f.decisions → All IsSettlement f.results → it.forwards.fits f ≡ true
 unfolding it.forwards
-no_forwards_fit = refl
+forwards_fit f few some decisions results =
+    also (also (lt-ltb (length f.decisions) (2 ^ 64) few) (each_decision_fits f.decisions decisions))
+    (also (lt-ltb (length f.results) (2 ^ 64) some) (each_settlement_fits f.results results))
 
 fee_fits : (o : Option ℕ) → Where (λ n. n < 2 ^ 64) o → (optional (number 8)).fits o ≡ true
 fee_fits o h = where_fits (number 8) (λ n. n < 2 ^ 64) (λ n lt. lt-ltb n (2 ^ 64) lt) o h

@@ -30,6 +30,7 @@ use Rattle.ln_channel.specs.End.{End}
 use Rattle.ln_channel.specs.State.{State, is_down}
 use Rattle.ln_channel.specs.Step.{Done, handled}
 use Rattle.ln_channel.specs.Step as step
+use Rattle.ln_channel.specs.declared.command.Command.TheVariants as command
 use Rattle.ln_pair.specs.Ends.{Ends, Step}
 use Rattle.ln_pair.specs.Ends as pair
 use Rattle.ln_pair.specs.Promises.{AreKeys, AreSent, IsTaken, Overlap, CloseAtOneFee, TakesFront as Front}
@@ -77,7 +78,7 @@ use Rattle.ln_world.specs.Records.{HaveSecrets, IsAct}
 use Rattle.ln_world.proofs.Mirror.{link_of, without_warnings, IsInbox, Mirrors, flipped, plain}
 use Rattle.ln_world.proofs.Dropped.{are_dropped}
 use Rattle.ln_world.proofs.Moves.{Goes, out_of, handled_so, passed_so, delivered, given, fell, restarted_so, met}
-use Rattle.ln_world.proofs.Moves.{is_up}
+use Rattle.ln_world.proofs.Moves.{is_up, obeyed_so, noted}
 use Rattle.ln_world.proofs.Opening.{IsOpening}
 
 -- ---- the pair's steps
@@ -196,11 +197,22 @@ with_warnings shut (m ∷ ms) h = as_well (is_warning m) shut m ms refl (λ now.
 -- the pair's act that it is
 abbrev of_pair : Act → pair.Act
 of_pair act.Deliver = pair.Deliver
+of_pair (act.Send (command.Decide event mark)) = pair.Note (command.Decide event mark)
+of_pair (act.Send (command.Forget i)) = pair.Note (command.Forget i)
 of_pair (act.Send c) = pair.Give c
 
 as_wide : (side : Role) (a : Act) → IsAct a → StepIsWide (pair.By side (of_pair a))
 as_wide side act.Deliver h = tt
-as_wide side (act.Send c) h = h
+as_wide side (act.Send (command.Confirm i)) h = h
+as_wide side (act.Send (command.Add amount hash expiry onion origin)) h = h
+as_wide side (act.Send (command.Fulfil i preimage)) h = h
+as_wide side (act.Send (command.Fail i reason)) h = h
+as_wide side (act.Send (command.Malformed i sha code)) h = h
+as_wide side (act.Send (command.Fee feerate)) h = h
+as_wide side (act.Send command.Sign) h = h
+as_wide side (act.Send (command.Shutdown script)) h = h
+as_wide side (act.Send (command.Decide event mark)) h = h
+as_wide side (act.Send (command.Forget i)) h = h
 
 abbrev pub IsMove : Move → Type 0
 IsMove (By side a) = IsAct a
@@ -294,7 +306,26 @@ module _ {K : Type 0} (signer : K → Signer) where
       → Front (signer kx) q.x_line q.to_x q.x
       → Goes signer id kx ky side (of_pair a) (out_of signer id side a p.x) (acts signer id a p) q
   acts_so id side act.Deliver kx ky p q h f = delivered signer id kx ky side p q h f
-  acts_so id side (act.Send c) kx ky p q h f = inr (given signer id kx ky side c p q h)
+  acts_so id side (act.Send (command.Confirm i)) kx ky p q h f =
+      inr (given signer id kx ky side (command.Confirm i) p q (obeyed_so (signer kx) kx id q.x_line (command.Confirm i) q.x) h)
+  acts_so id side (act.Send (command.Add amount hash expiry onion origin)) kx ky p q h f =
+      inr (given signer id kx ky side (command.Add amount hash expiry onion origin) p q (obeyed_so (signer kx) kx id q.x_line (command.Add amount hash expiry onion origin) q.x) h)
+  acts_so id side (act.Send (command.Fulfil i preimage)) kx ky p q h f =
+      inr (given signer id kx ky side (command.Fulfil i preimage) p q (obeyed_so (signer kx) kx id q.x_line (command.Fulfil i preimage) q.x) h)
+  acts_so id side (act.Send (command.Fail i reason)) kx ky p q h f =
+      inr (given signer id kx ky side (command.Fail i reason) p q (obeyed_so (signer kx) kx id q.x_line (command.Fail i reason) q.x) h)
+  acts_so id side (act.Send (command.Malformed i sha code)) kx ky p q h f =
+      inr (given signer id kx ky side (command.Malformed i sha code) p q (obeyed_so (signer kx) kx id q.x_line (command.Malformed i sha code) q.x) h)
+  acts_so id side (act.Send (command.Fee feerate)) kx ky p q h f =
+      inr (given signer id kx ky side (command.Fee feerate) p q (obeyed_so (signer kx) kx id q.x_line (command.Fee feerate) q.x) h)
+  acts_so id side (act.Send command.Sign) kx ky p q h f =
+      inr (given signer id kx ky side command.Sign p q (obeyed_so (signer kx) kx id q.x_line command.Sign q.x) h)
+  acts_so id side (act.Send (command.Shutdown script)) kx ky p q h f =
+      inr (given signer id kx ky side (command.Shutdown script) p q (obeyed_so (signer kx) kx id q.x_line (command.Shutdown script) q.x) h)
+  acts_so id side (act.Send (command.Decide event mark)) kx ky p q h f =
+      inr (noted signer id kx ky side (command.Decide event mark) p q refl refl h)
+  acts_so id side (act.Send (command.Forget i)) kx ky p q h f =
+      inr (noted signer id kx ky side (command.Forget i) p q refl refl h)
 
   -- what a move comes to
   abbrev pub tale_of : List ℕ → Move → Both K → Tale

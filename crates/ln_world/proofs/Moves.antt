@@ -19,16 +19,19 @@ use Rattle.ln_channel.specs.Naming.{named, is_other}
 use Rattle.ln_channel.specs.declared.output.Output.{Output}
 use Rattle.ln_channel.specs.Outputs.{all_of}
 use Rattle.ln_channel.specs.End.{End, Turn, end_dropped}
-use Rattle.ln_channel.specs.Commands.{command_row, unready_fault}
+use Rattle.ln_channel.specs.Ledger.{Ledger}
+use Rattle.ln_channel.specs.Commands.{ledgered, with_ledger, command_row, unready_fault}
 use Rattle.ln_channel.specs.Record.{saved_end}
 use Rattle.ln_channel.specs.State.{State, is_down, refused, drops}
 use Rattle.ln_channel.specs.Step.{Done, handled, commanded, faulted, line_fault, is_passed_over, error_fault, stray_fault}
 use Rattle.ln_channel.specs.Step.{message_fault, saved_at, at_hand, obeyed}
 use Rattle.ln_channel.specs.Step as step
 use Rattle.ln_log.specs.Limits.{first_fault}
-use Rattle.ln_pair.specs.Ends.{Ends, arrive, messages_in, message_at, command_at, becomes, Act, Deliver, Give, Lose}
+use Rattle.ln_pair.specs.Ends.{Ends, arrive, messages_in, message_at, command_at, becomes, ledger_behind, Act, Deliver}
+use Rattle.ln_pair.specs.Ends.{Give, Note, Lose}
+use Rattle.ln_pair.proofs.Noting.{IsNotReady, not_ready}
 use Rattle.ln_pair.specs.Ends as pair
-use Rattle.ln_pair.specs.Moves.{moves_between, closes, shuts}
+use Rattle.ln_pair.specs.Moves.{moves_asked, moves_between, closes, shuts}
 use Rattle.ln_pair.specs.Moves as pair_moves
 use Rattle.ln_pair.specs.Told.{events_in, told_by, told_on, told_in}
 use Rattle.ln_pair.specs.Promises.{TakesFront as Front}
@@ -122,50 +125,11 @@ module _ {K : Type 0} (keys : Signer) (k : K) (id : List ℕ) where
   turned_faulted l None r = refl
   turned_faulted l (Some f) r = refl
 
-  obeyed_so : (l : Line) (c : Command) (e : End)
+  pub obeyed_so : (l : Line) (c : Command) (e : End)
       → obeyed keys l c (stage.Saved e) ≡ step.turned l (command_at keys l c e)
   obeyed_so l c e =
       ap (faulted (unready_fault c e)) (turned_faulted l (line_fault l) (command_row keys c e))
       ∙ turned_faulted l (unready_fault c e) (faulted (line_fault l) (command_row keys c e))
-
-  -- one about records is refused by both
-  pub record AreRefused (l : Line) (c : Command) (e : End) : Type 0 where
-    pub by_link : commanded keys (link_of k l e) c ≡ Err refusal.NotReady
-    pub why : Refusal
-    pub by_row : command_at keys l c e ≡ Err why
-
-  abbrev first_why : Option Refusal → Refusal → Refusal
-  first_why None r = r
-  first_why (Some f) r = f
-
-  faulted_err : (f : Option Refusal) (r : Refusal)
-      → ◌≡◌ {A = Result Turn Refusal} (faulted f (Err r)) (Err (first_why f r))
-  faulted_err None r = refl
-  faulted_err (Some f) r = refl
-
-  of_records : (l : Line) (c : Command) (e : End) → commanded keys (link_of k l e) c ≡ Err refusal.NotReady
-      → command_row keys c e ≡ Err refusal.NotReady → AreRefused l c e
-  of_records l c e is row = record {
-    by_link = is;
-    why = first_why (unready_fault c e) (first_why (line_fault l) refusal.NotReady);
-    by_row = ap (λ r. faulted (unready_fault c e) (faulted (line_fault l) r)) row
-        ∙ ap (faulted (unready_fault c e)) (faulted_err (line_fault l) refusal.NotReady)
-        ∙ faulted_err (unready_fault c e) (first_why (line_fault l) refusal.NotReady);
-  }
-
-  pub commanded_so : (l : Line) (c : Command) (e : End)
-      → AreRefused l c e ⊎ (commanded keys (link_of k l e) c ≡ step.turned l (command_at keys l c e))
-  commanded_so l (command.Confirm i) e = inr (obeyed_so l (command.Confirm i) e)
-  commanded_so l (command.Add amount hash expiry onion origin) e =
-      inr (obeyed_so l (command.Add amount hash expiry onion origin) e)
-  commanded_so l (command.Fulfil i preimage) e = inr (obeyed_so l (command.Fulfil i preimage) e)
-  commanded_so l (command.Fail i reason) e = inr (obeyed_so l (command.Fail i reason) e)
-  commanded_so l (command.Malformed i sha code) e = inr (obeyed_so l (command.Malformed i sha code) e)
-  commanded_so l (command.Fee feerate) e = inr (obeyed_so l (command.Fee feerate) e)
-  commanded_so l command.Sign e = inr (obeyed_so l command.Sign e)
-  commanded_so l (command.Shutdown script) e = inr (obeyed_so l (command.Shutdown script) e)
-  commanded_so l (command.Decide event mark) e = inl (of_records l (command.Decide event mark) e refl refl)
-  commanded_so l (command.Forget i) e = inl (of_records l (command.Forget i) e refl refl)
 
 -- a command that is obeyed is obeyed by an end that has met its peer
 obeyed_met : (f : Option Refusal) (l : Line) (r : Result Turn Refusal) (t : Turn)
@@ -322,7 +286,29 @@ module _ {K : Type 0} (signer : K → Signer) (id : List ℕ) (kx ky : K) where
         y_keys = reached_keys id out p.y ∙ h.y_keys;
       })
 
-  -- it stays as it was, and sends warnings or nothing
+  -- it is this end of its channel now, on the same line, and sends warnings or nothing
+  kept_so : (after : Refusal → State K → State K) (row row' : Result Done Refusal) (p : Both K) (q : Ends) (x : End)
+      (ms to : List Message) → row ≡ row' → left after row' (link_of kx q.x_line q.x) ≡ link_of kx q.x_line x
+      → x.dance.channel ≡ id → without_warnings (sent_by id row') ≡ [] → AreIn id (sent_by id row')
+      → IsInbox id q.x_line ms to → Mirrors id kx ky p q
+      → Mirrors id kx ky (answers after id row (record { x = record p.x { inbox = ms }; y = p.y }))
+      (record q { x = x; to_x = to })
+  kept_so after row row' p q x ms to is stays channel none in_channel in_x h =
+      subst (λ r. Mirrors id kx ky
+      (answers after id r (record { x = record p.x { inbox = ms }; y = p.y }))
+      (record q { x = x; to_x = to })) (sym is) (record {
+        x_link = ap (left after row') h.x_link ∙ stays;
+        y_link = reached_link id (sent_by id row') p.y ∙ h.y_link;
+        x_in = in_x;
+        y_in = reached_aside id q.y_line (sent_by id row') q.to_y p.y (ap (λ (l : State K). l.line) h.y_link) none
+            h.y_in in_channel;
+        x_channel = channel;
+        y_channel = h.y_channel;
+        x_keys = h.x_keys;
+        y_keys = reached_keys id (sent_by id row') p.y ∙ h.y_keys;
+      })
+
+  -- it stays as it was
   still_so : (after : Refusal → State K → State K) (row row' : Result Done Refusal) (p : Both K) (q : Ends)
       (ms to : List Message) → row ≡ row' → left after row' (link_of kx q.x_line q.x) ≡ link_of kx q.x_line q.x
       → without_warnings (sent_by id row') ≡ [] → AreIn id (sent_by id row') → IsInbox id q.x_line ms to
@@ -330,19 +316,7 @@ module _ {K : Type 0} (signer : K → Signer) (id : List ℕ) (kx ky : K) where
       → Mirrors id kx ky (answers after id row (record { x = record p.x { inbox = ms }; y = p.y }))
       (record q { to_x = to })
   still_so after row row' p q ms to is stays none in_channel in_x h =
-      subst (λ r. Mirrors id kx ky
-      (answers after id r (record { x = record p.x { inbox = ms }; y = p.y }))
-      (record q { to_x = to })) (sym is) (record {
-        x_link = ap (left after row') h.x_link ∙ stays;
-        y_link = reached_link id (sent_by id row') p.y ∙ h.y_link;
-        x_in = in_x;
-        y_in = reached_aside id q.y_line (sent_by id row') q.to_y p.y (ap (λ (l : State K). l.line) h.y_link) none
-            h.y_in in_channel;
-        x_channel = h.x_channel;
-        y_channel = h.y_channel;
-        x_keys = h.x_keys;
-        y_keys = reached_keys id (sent_by id row') p.y ∙ h.y_keys;
-      })
+      kept_so after row row' p q q.x ms to is stays h.x_channel none in_channel in_x h
 
   -- ---- a message is delivered
 
@@ -494,39 +468,82 @@ module _ {K : Type 0} (signer : K → Signer) (id : List ℕ) (kx ky : K) where
             (ap (λ d. without_warnings (sent_by id d)) row ∙ ap without_warnings none),
       )
 
-  pub given : (side : Role) (c : Command) (p : Both K) (q : Ends) → Mirrors id kx ky p q
+  -- a command that is obeyed by its row
+  pub given : (side : Role) (c : Command) (p : Both K) (q : Ends)
+      → commanded (signer kx) (link_of kx q.x_line q.x) c ≡ step.turned q.x_line (command_at (signer kx) q.x_line c q.x)
+      → Mirrors id kx ky p q
       → Mirrors id kx ky (acts signer id (act.Send c) p) (pair.acts (signer kx) (Give c) q)
       × Says (act_sends signer id (act.Send c) p.x) q (pair.acts (signer kx) (Give c) q)
       × Tells (out_of signer id side (act.Send c) p.x) (pair_moves.moves_of_act (signer kx) side (Give c) q)
       (told_in (signer kx) (Give c) q)
-  given side c p q h = elim (commanded_so (signer kx) kx id q.x_line c q.x) [
-    | inl refused_so ↦
-        let row : commanded (signer p.x.link.keys) p.x.link c ≡ Err refusal.NotReady =
-        ap (λ (l : State K). commanded (signer l.keys) l c) h.x_link ∙ refused_so.by_link in (
-          subst (λ r. Mirrors id kx ky (acts signer id (act.Send c) p) (pair.answers r q)) (sym refused_so.by_row)
-              (still_so unchanged (commanded (signer p.x.link.keys) p.x.link c) (Err refusal.NotReady) p q p.x.inbox
-              q.to_x row refl refl tt h.x_in h),
-          says_refused (act_sends signer id (act.Send c) p.x) (command_at (signer kx) q.x_line c q.x) refused_so.why q
-              q.to_x refused_so.by_row (ap (λ d. without_warnings (sent_by id d)) row),
-          record {
-            moves = ap (pair_moves.moves_of_command side c q.x) refused_so.by_row
-                ∙ sym (ap (moves_of_command side c p.x.link.stage) row);
-            told = ap told_by refused_so.by_row ∙ sym (ap outputs_of row);
-          },
-        )
-    | inr is ↦
-        let at_row = command_at (signer kx) q.x_line c q.x in
-        let went = given_by c at_row p q refl is h in (
-          went.0,
-          went.1,
-          record {
-            moves = sym (ap (λ (l : State K). moves_of_command side c l.stage (commanded (signer l.keys) l c)) h.x_link
-                ∙ ap (moves_of_command side c (stage.Saved q.x)) is ∙ same_asked side c q.x q.x_line at_row);
-            told = sym (ap (λ (l : State K). outputs_of (commanded (signer l.keys) l c)) h.x_link
-                ∙ ap outputs_of is ∙ same_told q.x_line at_row);
-          },
-        )
-  ]
+  given side c p q is h =
+      let at_row = command_at (signer kx) q.x_line c q.x in
+      let went = given_by c at_row p q refl is h in (
+        went.0,
+        went.1,
+        record {
+          moves = sym (ap (λ (l : State K). moves_of_command side c l.stage (commanded (signer l.keys) l c)) h.x_link
+              ∙ ap (moves_of_command side c (stage.Saved q.x)) is ∙ same_asked side c q.x q.x_line at_row);
+          told = sym (ap (λ (l : State K). outputs_of (commanded (signer l.keys) l c)) h.x_link
+              ∙ ap outputs_of is ∙ same_told q.x_line at_row);
+        },
+      )
+
+  -- a decision, which changes the ledger alone
+  noted_by : (side : Role) (c : Command) (r : Result Ledger Refusal) (p : Both K) (q : Ends) → ledgered c q.x ≡ r
+      → IsNotReady r
+      → commanded (signer kx) (link_of kx q.x_line q.x) c ≡ step.turned q.x_line (with_ledger (ledgered c q.x) q.x)
+      → moves_asked side c q.x ≡ [] → Mirrors id kx ky p q
+      → Mirrors id kx ky (acts signer id (act.Send c) p) (pair.acts (signer kx) (Note c) q)
+      × Says (act_sends signer id (act.Send c) p.x) q (pair.acts (signer kx) (Note c) q)
+      × Tells (out_of signer id side (act.Send c) p.x) [] []
+  noted_by side c (Ok l) p q e ready is none h =
+      let x : End = record q.x { ledger = l } in
+      let done : Result Done Refusal =
+      Ok (record { line = q.x_line; stage = stage.Saved x; outputs = [] }) in
+      let row : commanded (signer p.x.link.keys) p.x.link c ≡ done =
+      ap (λ (k : State K). commanded (signer k.keys) k c) h.x_link ∙ is
+      ∙ ap (λ z. step.turned q.x_line (with_ledger z q.x)) e in (
+        subst (λ z. Mirrors id kx ky (acts signer id (act.Send c) p)
+            (record q { x = record q.x { ledger = ledger_behind z q.x.ledger } })) (sym e)
+            (kept_so unchanged (commanded (signer p.x.link.keys) p.x.link c) done p q x p.x.inbox q.to_x row refl
+            h.x_channel refl tt h.x_in h),
+        record {
+          x = sym (ap (λ d. q.said_x ++ without_warnings (sent_by id d)) row ∙ append-nil q.said_x);
+          y = refl;
+        },
+        record {
+          moves = sym (ap (λ (k : State K). moves_of_command side c k.stage (commanded (signer p.x.link.keys) p.x.link c))
+              h.x_link ∙ ap (moves_of_command side c (stage.Saved q.x)) row ∙ none);
+          told = sym (ap outputs_of row);
+        },
+      )
+  noted_by side c (Err r) p q e ready is none h =
+      let row : commanded (signer p.x.link.keys) p.x.link c ≡ Err refusal.NotReady =
+      ap (λ (k : State K). commanded (signer k.keys) k c) h.x_link ∙ is
+      ∙ ap (λ z. step.turned q.x_line (with_ledger z q.x)) e ∙ ap Err ready in (
+        subst (λ z. Mirrors id kx ky (acts signer id (act.Send c) p)
+            (record q { x = record q.x { ledger = ledger_behind z q.x.ledger } })) (sym e)
+            (still_so unchanged (commanded (signer p.x.link.keys) p.x.link c) (Err refusal.NotReady) p q p.x.inbox
+            q.to_x row refl refl tt h.x_in h),
+        record {
+          x = sym (ap (λ d. q.said_x ++ without_warnings (sent_by id d)) row ∙ append-nil q.said_x);
+          y = refl;
+        },
+        record {
+          moves = sym (ap (λ (k : State K). moves_of_command side c k.stage (commanded (signer p.x.link.keys) p.x.link c))
+              h.x_link ∙ ap (moves_of_command side c (stage.Saved q.x)) row);
+          told = sym (ap outputs_of row);
+        },
+      )
+
+  pub noted : (side : Role) (c : Command) (p : Both K) (q : Ends)
+      → commanded (signer kx) (link_of kx q.x_line q.x) c ≡ step.turned q.x_line (with_ledger (ledgered c q.x) q.x)
+      → moves_asked side c q.x ≡ [] → Mirrors id kx ky p q
+      → Mirrors id kx ky (acts signer id (act.Send c) p) (pair.acts (signer kx) (Note c) q)
+      × Says (act_sends signer id (act.Send c) p.x) q (pair.acts (signer kx) (Note c) q)
+      × Tells (out_of signer id side (act.Send c) p.x) [] []
+  noted side c p q is none h = noted_by side c (ledgered c q.x) p q refl (not_ready c q.x) is none h
 
   -- ---- a connection is lost
 
