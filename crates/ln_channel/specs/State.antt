@@ -1,4 +1,5 @@
--- One link: one end of a channel from its opening to its close, with the connection that it has (BOLT 2).
+-- One link, whether it is saved or not: one end of a channel from its opening to its close, with the connection that it
+-- has (BOLT 2).
 use Rattle.std.specs.Prelude.{◌≡◌, Bool, true, false, Option, Some, None, if◌then◌else◌}
 use Rattle.ln_msgs.specs.declared.refusals.refusal.Refusal.{Refusal}
 use Rattle.ln_dance.specs.declared.dance.Numbers.{Numbers}

@@ -1,5 +1,5 @@
-//! One link: one end of a channel from its opening to its close. What each message of the peer and each command makes
-//! of it, and what it hands out (BOLT 2).
+//! One end of a channel from its opening to its close, as a link that nothing saves: what each message of the peer and
+//! each command makes of it, and what it hands out (BOLT 2). The link that saves is ln_link's.
 #![tactic(auto)]
 
 mod channel;

@@ -1,4 +1,4 @@
-//! One link: one end of a channel from its opening to its close, with the connection that it has.
+//! A link that nothing saves: one end of a channel from its opening to its close, with the connection that it has.
 
 use crate::channel::Channel;
 use crate::config::{FitConfig, FitSpec};
@@ -38,7 +38,8 @@ pub enum Stage {
     Gone,
 }
 
-/// One link: one end of a channel from its opening to its close, with the connection that it has.
+/// A link that nothing saves: one end of a channel from its opening to its close, with the connection that it has. What
+/// a call makes of it is lost where its node stops; ln_link's `Link` saves that before anything is handed out.
 ///
 /// It is new and without a connection at first; `connect` begins. A refusal by which a channel fails, 21 to 35 and 37,
 /// is kept, and answered from then on to all messages, and to all commands but `Decide` and `Forget`. Where memory is

@@ -1,4 +1,4 @@
--- A link that saves before it hands out: what each call leaves in its store.
+-- A link saves before it hands out: what each call leaves in its store.
 use Rattle.std.specs.Prelude.{◌≡◌, ◌⊎◌, ℕ, List, Bool, true, false, not, ◌&&◌, Option, Some, None, is_none, Result, Ok}
 use Rattle.std.specs.Prelude.{Err, if◌then◌else◌}
 use Rattle.std.specs.FinMap as map

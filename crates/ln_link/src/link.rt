@@ -13,8 +13,8 @@ use ln_store::{RecordStore, encode_record};
 use std::alloc::Global;
 use std::marker::Model;
 
-/// One link: one end of a channel from its opening to its close, with the connection that it has. It begins as a funder's,
-/// as a fundee's, or from its record.
+/// One link: one end of a channel from its opening to its close, with the connection that it has. It begins as a
+/// funder's, as a fundee's, or from its record.
 ///
 /// What a call made of the channel is in the store before any message that tells it leaves this side: a restart finds
 /// what the peer may know of. Where a save fails, by 60 for want of memory, by 61 where the store failed, by 70 where
@@ -121,8 +121,9 @@ impl<K: ChannelKeys + Drop> Link<K> {
         }
     }
 
-    /// The link that comes back from the bytes of its record, without a connection: what a lost connection leaves of its
-    /// end, and by what its channel has failed. Takes memory for the end, and time that grows linearly with the updates.
+    /// The link that comes back from the bytes of its record, without a connection: what a lost connection leaves of
+    /// its end, and by what its channel has failed. Takes memory for the end, and time that grows linearly with the
+    /// updates.
     ///
     /// Errors: those of `decode_record` (70, 71); 70 where the items can't be loaded: an update is in the base, no log
     /// has these updates and counts (`UpdateLog::can_be_loaded`), something was decided about an HTLC, the closing fees
@@ -211,8 +212,8 @@ impl<K: ChannelKeys + Drop> Link<K> {
         }
     }
 
-    /// Does what it is told, as `Unsaved::command` does, and saves what that made of the channel before anything is handed
-    /// out. Where the command is refused nothing is saved.
+    /// Does what it is told, as `Unsaved::command` does, and saves what that made of the channel before anything is
+    /// handed out. Where the command is refused nothing is saved.
     ///
     /// Errors: those of `Unsaved::command`; 60, 61 and 70 where it can't be saved, by which the link halts.
     pub fn command<S: RecordStore>(
@@ -246,7 +247,8 @@ impl<K: ChannelKeys + Drop> Link<K> {
         self.unsaved.connect(alloc)
     }
 
-    /// The connection is lost: `Unsaved::drop_connection`. Nothing is saved: a record has what a lost connection leaves.
+    /// The connection is lost: `Unsaved::drop_connection`. Nothing is saved, as a record has what a lost connection
+    /// leaves.
     pub fn drop_connection(&mut self)
         ensures { (l : State K) → StandsFor self.old l → StandsFor self.new (drops l) }
     {

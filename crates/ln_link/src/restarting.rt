@@ -1,4 +1,4 @@
-//! A link over the restart of its node.
+//! A link that nothing else saves, over the restart of its node.
 
 ghost use Rattle.std.specs.Prelude.{◌≡◌, ◌⊎◌, IfOk, IfErr};
 ghost use Rattle.ln_msgs.specs.declared.refusals.refusal.Refusal.TheVariants as refusal;
