@@ -244,6 +244,16 @@ abbrev pub AreWithin : ℕ → List Update → Type 0
 AreWithin most [] = Unit {0}
 AreWithin most (u ∷ us) = HasAmount most (offered u) × AreWithin most us
 
+-- all counts of a log
+pub record AllCounts : Type 0 where
+  pub first : Counts
+  pub signed : Counts
+  pub acknowledged : Counts
+  pub current : Counts
+
+abbrev pub all_counts : Log → AllCounts
+all_counts l = record { first = l.first; signed = l.signed; acknowledged = l.acknowledged; current = l.current }
+
 -- what holds of every log by what it keeps alone, whatever lists it stands for: what isn't had one by one any more is
 -- held as irrevocably committed, the counts lie within one another and within what there is, and no HTLC is of more
 -- than all funds

@@ -115,7 +115,7 @@ impl UpdateLog {
     ghost use Rattle.ln_log.specs.View.{AddsUp};
     ghost use Rattle.ln_log.specs.Limits.{HasNextId, Answers, most_updates, is_at_update_limit};
     ghost use Rattle.ln_log.specs.Log.{StandsFor, IsWithin, IsInOrder, updates_of, count_of, first_of, update_at};
-    ghost use Rattle.ln_log.specs.Log.{unacknowledged};
+    ghost use Rattle.ln_log.specs.Log.{unacknowledged, all_counts};
     ghost use Rattle.ln_log.specs.Log.{AreWithin, opened, after_propose, after_receive, after_sign, after_accept};
     ghost use Rattle.ln_log.specs.Log.{after_learn, after_drop, sign_fault, removal_fault, proposal_fault, taken_fault};
     ghost use Rattle.ln_log.specs.Log.{covered, counts_of, live_in, view_for};
@@ -174,6 +174,7 @@ impl UpdateLog {
         ensures moves_as_stated { (l : Log) → StandsFor self.old l
             → OnOk result (StandsFor self.new (after_propose update l)) }
         ensures changes_nothing_if_refused { OnErr result (self.new ≡ self.old) }
+        ensures changes_no_count { all_counts self.new ≡ all_counts self.old }
     {
         match self.proposal_refusal(&update) {
             Some(refusal) => Err(refusal),
@@ -252,6 +253,7 @@ impl UpdateLog {
         ensures moves_as_stated { (l : Log) → StandsFor self.old l
             → OnOk result (StandsFor self.new (after_receive update l)) }
         ensures changes_nothing_if_refused { OnErr result (self.new ≡ self.old) }
+        ensures changes_no_count { all_counts self.new ≡ all_counts self.old }
     {
         match self.taken_refusal(&update) {
             Some(refusal) => Err(refusal),
@@ -310,7 +312,9 @@ impl UpdateLog {
     /// This side has signed: all own updates, and those of the peer that stand in its own commitment.
     /// Takes no memory.
     pub fn signed(&mut self)
-        ensures { (l : Log) → StandsFor self.old l → StandsFor self.new (after_sign l) }
+        ensures moves_as_stated { (l : Log) → StandsFor self.old l → StandsFor self.new (after_sign l) }
+        ensures counts { all_counts self.new
+            ≡ record (all_counts self.old) { signed = counts_of Pair.ToSign self.old } }
     {
         let next = self.counts(Pair::ToSign);
         self.signed = next;
@@ -320,7 +324,9 @@ impl UpdateLog {
     /// The peer's signature was taken: this side's commitment covers what was taken of the peer's, and
     /// the own updates that the peer has acknowledged. Takes no memory.
     pub fn accepted(&mut self)
-        ensures { (l : Log) → StandsFor self.old l → StandsFor self.new (after_accept l) }
+        ensures moves_as_stated { (l : Log) → StandsFor self.old l → StandsFor self.new (after_accept l) }
+        ensures counts { all_counts self.new
+            ≡ record (all_counts self.old) { current = counts_of Pair.ToAccept self.old } }
     {
         let next = self.counts(Pair::ToAccept);
         let updates = &self.received[self.current.peer..];
@@ -334,7 +340,8 @@ impl UpdateLog {
     /// The peer's revocation was taken: the peer's commitment is the one that was signed last. Takes no
     /// memory.
     pub fn acknowledged(&mut self)
-        ensures { (l : Log) → StandsFor self.old l → StandsFor self.new (after_learn l) }
+        ensures moves_as_stated { (l : Log) → StandsFor self.old l → StandsFor self.new (after_learn l) }
+        ensures counts { all_counts self.new ≡ record (all_counts self.old) { acknowledged = self.old.signed } }
     {
         let updates = &self.own[self.acknowledged.own..self.signed.own];
         let htlcs = &self.received[..self.signed.peer];
@@ -347,7 +354,8 @@ impl UpdateLog {
     /// no own signature covers; their ids are used again (BOLT 2, "Message Retransmission"). Takes no
     /// memory.
     pub fn drop_unsigned(&mut self)
-        ensures { (l : Log) → StandsFor self.old l → StandsFor self.new (after_drop l) }
+        ensures moves_as_stated { (l : Log) → StandsFor self.old l → StandsFor self.new (after_drop l) }
+        ensures changes_no_count { all_counts self.new ≡ all_counts self.old }
     {
         self.own.truncate(self.signed.own);
         self.received.truncate(self.current.peer);

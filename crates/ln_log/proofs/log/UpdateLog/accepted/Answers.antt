@@ -17,6 +17,6 @@ invariant_of-self c =
     (may_move _ _ _ _ _ _ _ _ _ _ (accepting_signed _ _ _ _ _ c.self.invariant) c.self.invariant.own_signed_stands
     updates htlcs))
 
-pub returns : goal.returns
-returns c = λ l e. accepted_is _ l _ _ (c.self.view_is
+pub returns-clause-moves_as_stated : goal.returns-clause-moves_as_stated
+returns-clause-moves_as_stated c = λ l e. accepted_is _ l _ _ (c.self.view_is
     ∙ e) (c.counts-next.ensures.own l e) (c.counts-next.ensures.peer l e)
