@@ -1,12 +1,12 @@
 -- What each call of the dance keeps.
 use Rattle.std.proofs.Common.{◌≡◌, ◌≢◌, ℕ, ◌+◌, refl, sym, ap, ◌∙◌, subst, arith, Bool, true, false}
-use Rattle.std.proofs.Common.{cond, not, ◌&&◌, ◌==◌, Option, Some, None, Result, Ok, Err, OnOk, OnErr, inl, inr}
+use Rattle.std.proofs.Common.{cond, not, ◌&&◌, ◌==◌, Option, Some, None, Result, Ok, Err, OnOk, inl, inr}
 use Rattle.std.proofs.lemmas.Bool.{eq-eqb}
 use Rattle.std.proofs.lemmas.Bool.Decides.{eqb_tells}
 use Rattle.ln_msgs.specs.declared.refusals.refusal.Refusal.{Refusal}
 use Rattle.ln_msgs.specs.declared.refusals.refusal.Refusal.TheVariants as refusal
 use Rattle.ln_log.specs.Limits.{first_fault}
-use Rattle.ln_log.specs.Log.{Log, Counts, same_counts, after_accept, after_learn}
+use Rattle.ln_log.specs.Log.{Log, Counts, AllCounts, all_counts, same_counts}
 use Rattle.ln_dance.specs.declared.dance.Numbers.{Numbers}
 use Rattle.ln_dance.specs.Dance.{Dancer, IsNumber, last_number, AreInStep, owes, is_last, sign_fault, with_log}
 
@@ -16,23 +16,16 @@ pub map_ok : {P Q : Type 0} (r : Result (Unit {0}) Refusal) → (P → Q) → On
 map_ok (Ok x) f h = f h
 map_ok (Err e) f h = h
 
-pub either_way : {P Q R : Type 0} (r : Result (Unit {0}) Refusal) → OnOk r P → OnErr r Q → (P → R) → (Q → R) → R
-either_way (Ok x) h k f g = f h
-either_way (Err e) h k f g = g k
-
 -- ---- a log that was changed in another way
 
-pub kept_by : (n : Numbers) (l m x : Log) → AreInStep n l → m ≡ x → x.acknowledged ≡ l.acknowledged
-    → x.signed ≡ l.signed → AreInStep n m
-kept_by n l m x k e a s =
-    subst (AreInStep n) (sym e) (record {
-      commitment = k.commitment;
-      signed = k.signed;
-      revoked = k.revoked;
-      one_unrevoked = k.one_unrevoked;
-      acknowledged = λ same. ap (λ c. same_counts c x.signed) a
-          ∙ ap (same_counts l.acknowledged) s ∙ k.acknowledged same;
-    })
+pub kept_by : (n : Numbers) (l m : Log) → AreInStep n l → all_counts m ≡ all_counts l → AreInStep n m
+kept_by n l m k e = record {
+  commitment = k.commitment;
+  signed = k.signed;
+  revoked = k.revoked;
+  one_unrevoked = k.one_unrevoked;
+  acknowledged = λ same. ap (λ (c : AllCounts). same_counts c.acknowledged c.signed) e ∙ k.acknowledged same;
+}
 
 pub log_becomes : (v d : Dancer) (f : Log → Log) (m : Log) → v ≡ d → m ≡ f v.log → with_log m v ≡ with_log (f d.log) d
 log_becomes v d f m e h = ap (λ x. with_log x v) h ∙ ap (λ (x : Dancer). with_log (f x.log) x) e
@@ -91,30 +84,31 @@ kept_signed d m n k e en =
 pub next_below : (n : ℕ) → IsNumber n → n ≢ last_number → IsNumber (n + 1)
 next_below n lt differ = omega (arith, lt, differ)
 
-pub kept_accepted : (n : Numbers) (l m : Log) → AreInStep n l → n.commitment ≢ last_number → m ≡ after_accept l
+pub kept_accepted : (n : Numbers) (l m : Log) (c : Counts) → AreInStep n l → n.commitment ≢ last_number
+    → all_counts m ≡ record (all_counts l) { current = c }
     → AreInStep (record n { commitment = n.commitment + 1 }) m
-kept_accepted n l m k differ em =
-    subst (AreInStep (record n { commitment = n.commitment + 1 })) (sym em) (record {
-      commitment = next_below n.commitment k.commitment differ;
-      signed = k.signed;
-      revoked = k.revoked;
-      one_unrevoked = k.one_unrevoked;
-      acknowledged = k.acknowledged;
-    })
+kept_accepted n l m c k differ e = record {
+  commitment = next_below n.commitment k.commitment differ;
+  signed = k.signed;
+  revoked = k.revoked;
+  one_unrevoked = k.one_unrevoked;
+  acknowledged = λ same. ap (λ (a : AllCounts). same_counts a.acknowledged a.signed) e ∙ k.acknowledged same;
+}
 
 -- ---- learning
 
 same_self : (c : Counts) → same_counts c c ≡ true
 same_self c = ap (λ b. b && (c.peer == c.peer)) (eq-eqb c.own c.own refl) ∙ eq-eqb c.peer c.peer refl
 
-pub kept_learned : (n : Numbers) (l m : Log) → AreInStep n l → not (n.signed == n.revoked) ≡ true → m ≡ after_learn l
+pub kept_learned : (n : Numbers) (l m : Log) → AreInStep n l → not (n.signed == n.revoked) ≡ true
+    → all_counts m ≡ record (all_counts l) { acknowledged = l.signed }
     → AreInStep (record n { revoked = n.revoked + 1 }) m
-kept_learned n l m k o em =
+kept_learned n l m k o e =
     let differ = other_number n.signed n.revoked o in
-    subst (AreInStep (record n { revoked = n.revoked + 1 })) (sym em) (record {
+    record {
       commitment = k.commitment;
       signed = k.signed;
       revoked = (let less = k.revoked in omega (arith, less, differ));
       one_unrevoked = (let one = k.one_unrevoked in omega (arith, one));
-      acknowledged = λ _. same_self l.signed;
-    })
+      acknowledged = λ _. ap (λ (a : AllCounts). same_counts a.acknowledged a.signed) e ∙ same_self l.signed;
+    }

@@ -68,9 +68,10 @@ impl Model for Dance {
 }
 
 impl Dance {
-    ghost use Rattle.std.specs.Prelude.{◌≡◌, ◌↔◌, ◌+◌, ◌<◌, ◌≤◌, IsTrue, IsErrOf, IfOk, OnOk, OnErr};
+    ghost use Rattle.std.specs.Prelude.{◌≡◌, ◌↔◌, ◌+◌, ◌<◌, ◌≤◌, ◌==◌, not, None, IsTrue, IsErrOf, IfOk, OnOk, OnErr};
     ghost use Rattle.ln_log.specs.Log as log;
     ghost use Rattle.ln_log.specs.Log.{Log, after_propose, after_receive, after_drop, proposal_fault, taken_fault};
+    ghost use Rattle.ln_log.specs.Log.{all_counts, counts_of};
     ghost use Rattle.ln_log.specs.Limits.{HasNextId, Answers};
     ghost use Rattle.ln_dance.specs.Dance.{Dancer, StandsFor, AreInStep, IsNumber, is_last, owes, sign_fault};
     ghost use Rattle.ln_dance.specs.Dance.{after_sign};
@@ -81,7 +82,8 @@ impl Dance {
     /// signature is unrevoked, and where none is, the peer's acknowledged commitment covers what the last
     /// signature does. Takes no memory.
     pub fn are_in_step(numbers: &Numbers, updates: &UpdateLog) -> bool
-        ensures { (l : Log) → log.StandsFor updates.now l → (IsTrue result ↔ AreInStep numbers.now l) }
+        ensures in_step { (l : Log) → log.StandsFor updates.now l → (IsTrue result ↔ AreInStep numbers.now l) }
+        ensures in_step_with_what_is_kept { IsTrue result ↔ AreInStep numbers.now updates.now }
     {
         let covered = updates.counts(Pair::Signed);
         let acknowledged = updates.counts(Pair::Current(Side::Peer));
@@ -160,6 +162,7 @@ impl Dance {
         ensures moves_as_stated { (d : Dancer) → StandsFor self.old d
             → OnOk result (StandsFor self.new (with_log (after_propose update d.log) d)) }
         ensures changes_nothing_if_refused { OnErr result (self.new ≡ self.old) }
+        ensures changes_no_count { all_counts self.new.log ≡ all_counts self.old.log }
     {
         self.log.propose(update)
     }
@@ -170,6 +173,7 @@ impl Dance {
         ensures moves_as_stated { (d : Dancer) → StandsFor self.old d
             → OnOk result (StandsFor self.new (with_log (after_receive update d.log) d)) }
         ensures changes_nothing_if_refused { OnErr result (self.new ≡ self.old) }
+        ensures changes_no_count { all_counts self.new.log ≡ all_counts self.old.log }
     {
         self.log.receive(update)
     }
@@ -190,14 +194,17 @@ impl Dance {
 
     /// Whether a signature of this side is unrevoked.
     pub fn owes(&self) -> bool
-        ensures { (d : Dancer) → StandsFor self.now d → result ≡ owes d }
+        ensures owes { (d : Dancer) → StandsFor self.now d → result ≡ owes d }
+        ensures by_numbers { result ≡ not (self.now.numbers.signed == self.now.numbers.revoked) }
     {
         self.numbers.signed != self.numbers.revoked
     }
 
     // What keeps this side from signing.
     fn sign_refusal(&self) -> Option<Refusal>
-        ensures { result ≡ sign_fault self.now }
+        ensures refuses_exactly { (d : Dancer) → StandsFor self.now d → result ≡ sign_fault d }
+        ensures all_revoked { result ≡ None → self.now.numbers.signed ≡ self.now.numbers.revoked }
+        ensures numbered { result ≡ None → IsNumber (self.now.numbers.signed + 1) }
     {
         if self.owes() {
             return Some(Refusal::SignatureOutstanding);
@@ -232,6 +239,8 @@ impl Dance {
         ensures numbered { (d : Dancer) → StandsFor self.old d → OnOk result (IsNumber (d.numbers.signed + 1)) }
         ensures owes { (d : Dancer) → StandsFor self.old d → OnOk result (IsTrue (owes (after_sign d))) }
         ensures changes_nothing_if_refused { OnErr result (self.new ≡ self.old) }
+        ensures counts { OnOk result (all_counts self.new.log
+            ≡ record (all_counts self.old.log) { signed = counts_of Pair.ToSign self.old.log }) }
     {
         match self.sign_refusal() {
             Some(refusal) => return Err(refusal),
@@ -273,6 +282,8 @@ impl Dance {
         ensures moves_as_stated { (d : Dancer) → StandsFor self.old d
             → OnOk result (StandsFor self.new (after_accept d)) }
         ensures changes_nothing_if_refused { OnErr result (self.new ≡ self.old) }
+        ensures counts { OnOk result (all_counts self.new.log
+            ≡ record (all_counts self.old.log) { current = counts_of Pair.ToAccept self.old.log }) }
     {
         let last = self.numbers.commitment;
         if last == LAST_NUMBER {
@@ -306,6 +317,8 @@ impl Dance {
         ensures moves_as_stated { (d : Dancer) → StandsFor self.old d
             → OnOk result (StandsFor self.new (after_learn message.now d)) }
         ensures changes_nothing_if_refused { OnErr result (self.new ≡ self.old) }
+        ensures counts { OnOk result (all_counts self.new.log
+            ≡ record (all_counts self.old.log) { acknowledged = self.old.log.signed }) }
     {
         if !self.owes() {
             return Err(Refusal::NothingToRevoke);

@@ -24,12 +24,12 @@ use Rattle.ln_log.specs.Limits.{standing_of, fault_at, update_fault, HasNextId, 
 use Rattle.ln_log.specs.Limits.{first_fault, most_updates, Answers}
 use Rattle.ln_log.specs.Standing.{with_own, OwnFits}
 use Rattle.ln_log.specs.Log.{Log, IsKept, HasId, AreRemovals, peer_limit, removal_fault, length_fault, proposal_fault}
-use Rattle.ln_log.specs.Log.{taken_fault, after_propose, after_receive}
+use Rattle.ln_log.specs.Log.{taken_fault, after_propose, after_receive, HasAmount}
 use Rattle.ln_log.proofs.Outcomes.{above, next-front, numbered-take, numbered-push, removals-push, removals-take}
 use Rattle.ln_log.proofs.Outcomes.{untouched}
 use Rattle.ln_log.proofs.Sums.{pays_all, first_sum}
 use Rattle.ln_log.proofs.Kept.{small, small_back, found_in, both_same, Growing, Grown, grown, seen_removes, within-push}
-use Rattle.ln_log.proofs.Kept.{has_amount}
+use Rattle.ln_log.proofs.Kept.{has_amount, amount_is}
 
 -- ---- what an answer of no fault says
 
@@ -306,6 +306,44 @@ fault_is lim lim' s s' r r' os os' hs hs' u el es er eo eh =
     ∙ ap (λ x. fault_at lim' s' x os hs u) er ∙ ap (λ x. fault_at lim' s' r' x hs u) eo
     ∙ ap (λ x. fault_at lim' s' r' os' x u) eh
 
+-- by the code, no fault of the lists
+pub own_fault_is : (l : Log) (s t p q : Standing) (u : Update) (lim : Limits) (os hs : List Update)
+    (r : Option Refusal) → IsKept l s t p q → lim ≡ limits_of l.opening l.role → os ≡ l.own
+    → hs ≡ take l.acknowledged.peer l.received → r ≡ fault_at lim s l.role os hs u
+    → r ≡ update_fault l.opening l.role l.own (take l.current.peer l.received)
+    (take l.acknowledged.peer l.received) u
+own_fault_is l s t p q u lim os hs r k el eo eh er =
+    er ∙ fault_is lim (limits_of l.opening l.role) s
+    (standing_of (first_balance l.opening l.role) l.own (take l.current.peer l.received)) l.role l.role os l.own hs
+    (take l.acknowledged.peer l.received) u el k.own_stands refl eo eh
+
+pub got_fault_is : (l : Log) (s t p q : Standing) (u : Update) (lim : Limits) (side : Role) (os hs : List Update)
+    (r : Option Refusal) → IsKept l s t p q → lim ≡ limits_of l.opening (other_role l.role)
+    → side ≡ other_role l.role → os ≡ l.received → hs ≡ take l.current.own l.own → r ≡ fault_at lim p side os hs u
+    → r ≡ update_fault l.opening (other_role l.role) l.received (take l.acknowledged.own l.own)
+    (take l.current.own l.own) u
+got_fault_is l s t p q u lim side os hs r k el es eo eh er =
+    er ∙ fault_is lim (limits_of l.opening (other_role l.role)) p
+    (standing_of (first_balance l.opening (other_role l.role)) l.received (take l.acknowledged.own l.own)) side
+    (other_role l.role) os l.received hs (take l.current.own l.own) u el k.peer_stands es eo eh
+
+-- what the limits let through is of no more than all funds
+pub own_amount : (l : Log) (s t p q : Standing) (u : Update) (r : Option Refusal) → IsKept l s t p q
+    → length l.own < most_updates
+    → r ≡ update_fault l.opening l.role l.own (take l.current.peer l.received)
+    (take l.acknowledged.peer l.received) u → r ≡ None → HasAmount (1000 * l.opening.satoshis) (offered u)
+own_amount l s t p q u r k few e none =
+    has_amount _ _ (offered u) (first_sum l.opening l.role k.funds)
+    (amount_is _ _ _ l.role _ _ _ u (growing l s t p q k few) (sym e ∙ none))
+
+pub got_amount : (l : Log) (s t p q : Standing) (u : Update) (r : Option Refusal) → IsKept l s t p q
+    → length l.received < most_updates
+    → r ≡ update_fault l.opening (other_role l.role) l.received (take l.acknowledged.own l.own)
+    (take l.current.own l.own) u → r ≡ None → HasAmount (1000 * l.opening.satoshis) (offered u)
+got_amount l s t p q u r k few e none =
+    has_amount _ _ (offered u) (first_sum_back l.opening l.role k.funds)
+    (amount_is _ _ _ (other_role l.role) _ _ _ u (growing_back l s t p q k few) (sym e ∙ none))
+
 pub proposal_is : (l m : Log) (s t p q : Standing) (u : Update) (n : ℕ) (lim : Limits) (os hs : List Update)
     (r : Option Refusal) → l ≡ m → IsKept l s t p q → n ≡ length l.own → n < most_updates
     → removal_fault m (removed u) ≡ None → lim ≡ limits_of l.opening l.role → os ≡ l.own
@@ -314,9 +352,7 @@ pub proposal_is : (l m : Log) (s t p q : Standing) (u : Update) (n : ℕ) (lim :
 proposal_is l m s t p q u n lim os hs r v k en lt none el eo eh er =
     let found : r ≡ update_fault l.opening l.role l.own (take l.current.peer l.received)
     (take l.acknowledged.peer l.received) u
-    = er ∙ fault_is lim (limits_of l.opening l.role) s
-    (standing_of (first_balance l.opening l.role) l.own (take l.current.peer l.received)) l.role l.role os l.own hs
-    (take l.acknowledged.peer l.received) u el k.own_stands refl eo eh in
+    = own_fault_is l s t p q u lim os hs r k el eo eh er in
     let here : removal_fault l (removed u) ≡ None = ap (λ (x : Log). removal_fault x (removed u)) v ∙ none in
     ap (λ (x : Log). proposal_fault x u) (sym v)
     ∙ ap (λ x. first_fault x (first_fault (removal_fault l (removed u))
@@ -347,9 +383,7 @@ taken_is l m s t p q u n lim side os hs r v k en lt none el es eo eh er =
     let f = update_fault l.opening (other_role l.role) l.received (take l.acknowledged.own l.own)
     (take l.current.own l.own) u in
     let found : r ≡ f
-    = er ∙ fault_is lim (limits_of l.opening (other_role l.role)) p
-    (standing_of (first_balance l.opening (other_role l.role)) l.received (take l.acknowledged.own l.own)) side
-    (other_role l.role) os l.received hs (take l.current.own l.own) u el k.peer_stands es eo eh in
+    = got_fault_is l s t p q u lim side os hs r k el es eo eh er in
     found
     ∙ ap (λ x. first_fault x f) (sym none)
     ∙ ap (λ x. first_fault x (first_fault (id_fault l.received u) f))

@@ -87,19 +87,16 @@ within-drop most us zero h = h
 within-drop most [] (suc k) h = tt
 within-drop most (u ∷ us) (suc k) h = within-drop most us k h.1
 
-side_within : (l : Log) (s t p q : Standing) (x : Side) → IsKept l s t p q
+pub side_within : (l : Log) (s t p q : Standing) (x : Side) → IsKept l s t p q
     → AreWithin (1000 * l.opening.satoshis) (updates_of x l)
 side_within l s t p q side.Own k = k.own_amounts
 side_within l s t p q side.Peer k = k.peer_amounts
 
--- a part of either list
-pub part_within : (l m : Log) (s t p q : Standing) (x : Side) (from to : ℕ) (us : List Update) → IsKept l s t p q
-    → l ≡ m → us ≡ between from to (updates_of x l) → AreWithin (1000 * m.opening.satoshis) us
-part_within l m s t p q x from to us k e eu =
-    subst (λ (n : Log). AreWithin (1000 * n.opening.satoshis) us) e
-    (subst (AreWithin (1000 * l.opening.satoshis)) (sym eu)
-    (within-take (1000 * l.opening.satoshis) (drop from (updates_of x l)) (to - from)
-    (within-drop (1000 * l.opening.satoshis) (updates_of x l) from (side_within l s t p q x k))))
+-- a part of a list
+pub part_within : (most from to : ℕ) (us vs : List Update) → AreWithin most vs → us ≡ between from to vs
+    → AreWithin most us
+part_within most from to us vs h e =
+    subst (AreWithin most) (sym e) (within-take most (drop from vs) (to - from) (within-drop most vs from h))
 
 pub within-push : (most : ℕ) (us : List Update) (u : Update) → AreWithin most us → HasAmount most (offered u)
     → AreWithin most (us ++ u ∷ [])
@@ -112,12 +109,10 @@ amount_in most [] n h = tt
 amount_in most (u ∷ us) zero h = h.0
 amount_in most (u ∷ us) (suc n) h = amount_in most us n h.1
 
-pub amount_found : (l m : Log) (us vs : List Update) (n : ℕ) (o : Option Update) → l ≡ m → o ≡ slice_get vs n → vs ≡ us
-    → AreWithin (1000 * l.opening.satoshis) us → IfSome o (λ u. HasAmount (1000 * m.opening.satoshis) (offered u))
-amount_found l m us vs n o el eo ev h =
-    subst (λ (x : Log). IfSome o (λ u. HasAmount (1000 * x.opening.satoshis) (offered u))) el
-    (subst (λ x. IfSome x (λ u. HasAmount (1000 * l.opening.satoshis) (offered u)))
-    (sym (eo ∙ ap (λ w. slice_get w n) ev)) (amount_in (1000 * l.opening.satoshis) us n h))
+pub amount_found : (most : ℕ) (us vs : List Update) (n : ℕ) (o : Option Update) → o ≡ slice_get vs n → vs ≡ us
+    → AreWithin most us → IfSome o (λ u. HasAmount most (offered u))
+amount_found most us vs n o eo ev h = subst (λ x. IfSome x (λ u. HasAmount most (offered u)))
+    (sym (eo ∙ ap (λ w. slice_get w n) ev)) (amount_in most us n h)
 
 pub has_amount : (most most' : ℕ) (o : Option Add) → most ≡ most' → HasAmount most o → HasAmount most' o
 has_amount most most' o e h = subst (λ m. HasAmount m o) e h
@@ -604,7 +599,7 @@ own_fits lim f g side own seen held (update.Fail x) h e moves pays = tt
 own_fits lim f g side own seen held (update.Malformed x) h e moves pays = tt
 own_fits lim f g side own seen held (update.Fee x) h e moves pays = tt
 
-amount_is : (lim : Limits) (f g : ℕ) (side : Role) (own seen held : List Update) (u : Update)
+pub amount_is : (lim : Limits) (f g : ℕ) (side : Role) (own seen held : List Update) (u : Update)
     → Growing lim f g own seen held → fault_at lim (standing_of f own seen) side own held u ≡ None
     → HasAmount (f + g) (offered u)
 amount_is lim f g side own seen held (update.Add a) h e =

@@ -13,3 +13,4 @@ pub mod Moves
 pub mod Readable
 pub mod Rules
 pub mod More
+pub mod Behind

@@ -9,4 +9,5 @@ pub mod Machine
 pub mod Events
 pub mod Log
 pub mod Loading
+pub mod Window
 pub use Rattle.ln_msgs.specs.Refusals.Refusal

@@ -169,6 +169,10 @@ abbrev pub updates_of : Side → Log → List Update
 updates_of side.Own l = l.own
 updates_of side.Peer l = l.received
 
+-- how many updates of a side there are
+abbrev pub count_of : Side → Log → ℕ
+count_of x l = length (updates_of x l)
+
 -- the number of the first update that is had one by one
 abbrev pub first_of : Side → Log → ℕ
 first_of side.Own l = l.first.own
@@ -239,6 +243,32 @@ HasAmount most (Some a) = a.amount ≤ most
 abbrev pub AreWithin : ℕ → List Update → Type 0
 AreWithin most [] = Unit {0}
 AreWithin most (u ∷ us) = HasAmount most (offered u) × AreWithin most us
+
+-- all counts of a log
+pub record AllCounts : Type 0 where
+  pub first : Counts
+  pub signed : Counts
+  pub acknowledged : Counts
+  pub current : Counts
+
+abbrev pub all_counts : Log → AllCounts
+all_counts l = record { first = l.first; signed = l.signed; acknowledged = l.acknowledged; current = l.current }
+
+-- what holds of every log by what it keeps alone, whatever lists it stands for: what isn't had one by one any more is
+-- held as irrevocably committed, the counts lie within one another and within what there is, and no HTLC is of more
+-- than all funds
+pub record IsInOrder (kept : Log) : Type 0 where
+  pub funds : HasFunds kept.opening
+  pub own_first : kept.first.own ≤ kept.current.own
+  pub own_current : kept.current.own ≤ kept.acknowledged.own
+  pub own_acknowledged : kept.acknowledged.own ≤ kept.signed.own
+  pub own_signed : kept.signed.own ≤ count_of side.Own kept
+  pub peer_first : kept.first.peer ≤ kept.acknowledged.peer
+  pub peer_acknowledged : kept.acknowledged.peer ≤ kept.signed.peer
+  pub peer_signed : kept.signed.peer ≤ kept.current.peer
+  pub peer_current : kept.current.peer ≤ count_of side.Peer kept
+  pub own_amounts : AreWithin (1000 * kept.opening.satoshis) kept.own
+  pub peer_amounts : AreWithin (1000 * kept.opening.satoshis) kept.received
 
 abbrev pub BothPay : Opening → Role → Covered → Type 0
 BothPay o role c = Pays (first_balance o role) c.own c.peer × Pays (first_balance o (other_role role)) c.peer c.own

@@ -12,6 +12,7 @@ mod plain;
 mod removals;
 mod standing;
 mod update;
+mod window;
 
 pub use laws::{
     limits_are_rules, moves_exactly, propose_exactly, shut_exactly, sign_exactly, views_as_sent,
@@ -28,3 +29,4 @@ pub use standing::{Standing, add_refusal, update_refusal};
 pub use update::{
     Add, ChannelId, Fail, Fee, Fulfil, Malformed, Removal, Update, copy_update, removal_of,
 };
+pub use window::{base_and_window_tell_all, removals_look_at_live_htlcs};

@@ -1,12 +1,13 @@
 //! The updates of a channel as one side has them.
 
-ghost use Rattle.std.specs.Prelude.{◌≡◌, ◌≤◌, ◌+◌, List, length, Option, Some, None, option_copied};
+ghost use Rattle.std.specs.Prelude.{◌≡◌, ◌≤◌, ◌+◌, ◌*◌, List, length, Option, Some, None, option_copied};
 ghost use Rattle.std.specs.Prelude.{if◌then◌else◌};
 ghost use Rattle.std.specs.List.{slice_get};
+ghost use Rattle.ln_log.specs.declared.opening.Opening.{Opening};
 ghost use Rattle.ln_log.specs.declared.update.Update.{Update};
-ghost use Rattle.ln_log.specs.Updates.{next_id};
+ghost use Rattle.ln_log.specs.Updates.{next_id, offered};
 ghost use Rattle.ln_log.specs.Limits.{id_fault};
-ghost use Rattle.ln_log.specs.Log.{Log, IsWithin, between, sign_fault, length_fault};
+ghost use Rattle.ln_log.specs.Log.{Log, IsWithin, between, sign_fault, length_fault, HasAmount};
 
 use crate::opening::{MOST_SATOSHIS, Opening};
 use crate::outcome::Outcome;
@@ -112,8 +113,9 @@ impl UpdateLog {
     ghost use Rattle.ln_log.specs.Opening.{IsFit, most_satoshis};
     ghost use Rattle.ln_log.specs.Updates.{next_id, offered, removed, add_with};
     ghost use Rattle.ln_log.specs.View.{AddsUp};
-    ghost use Rattle.ln_log.specs.Limits.{HasNextId, Answers, is_at_update_limit};
-    ghost use Rattle.ln_log.specs.Log.{StandsFor, IsWithin, updates_of, first_of, update_at, unacknowledged, HasAmount};
+    ghost use Rattle.ln_log.specs.Limits.{HasNextId, Answers, most_updates, is_at_update_limit};
+    ghost use Rattle.ln_log.specs.Log.{StandsFor, IsWithin, IsInOrder, updates_of, count_of, first_of, update_at};
+    ghost use Rattle.ln_log.specs.Log.{unacknowledged, all_counts};
     ghost use Rattle.ln_log.specs.Log.{AreWithin, opened, after_propose, after_receive, after_sign, after_accept};
     ghost use Rattle.ln_log.specs.Log.{after_learn, after_drop, sign_fault, removal_fault, proposal_fault, taken_fault};
     ghost use Rattle.ln_log.specs.Log.{covered, counts_of, live_in, view_for};
@@ -172,6 +174,7 @@ impl UpdateLog {
         ensures moves_as_stated { (l : Log) → StandsFor self.old l
             → OnOk result (StandsFor self.new (after_propose update l)) }
         ensures changes_nothing_if_refused { OnErr result (self.new ≡ self.old) }
+        ensures changes_no_count { all_counts self.new ≡ all_counts self.old }
     {
         match self.proposal_refusal(&update) {
             Some(refusal) => Err(refusal),
@@ -187,7 +190,7 @@ impl UpdateLog {
 
     // What keeps this side from removing an HTLC of the peer's.
     fn removal_refusal(&self, update: &Update) -> Option<Refusal>
-        ensures { result ≡ removal_fault self.now (removed update.now) }
+        ensures { (l : Log) → StandsFor self.now l → result ≡ removal_fault l (removed update.now) }
     {
         match removal_of(update) {
             None => None,
@@ -208,7 +211,9 @@ impl UpdateLog {
 
     // What keeps this side from proposing an update.
     fn proposal_refusal(&self, update: &Update) -> Option<Refusal>
-        ensures { result ≡ proposal_fault self.now update.now }
+        ensures refuses_exactly { (l : Log) → StandsFor self.now l → result ≡ proposal_fault l update.now }
+        ensures leaves_room { result ≡ None → count_of Side.Own self.now < most_updates }
+        ensures within_funds { result ≡ None → HasAmount (1000 * self.now.opening.satoshis) (offered update.now) }
     {
         if self.own.len() as u64 >= MOST_UPDATES {
             return Some(Refusal::NumbersSpent);
@@ -227,6 +232,10 @@ impl UpdateLog {
             held,
             update,
         ) {
+            Some(refusal) => return Some(Refusal::PeerLimit(refusal.peer_rule())),
+            None => {}
+        }
+        match funds_refusal(&self.opening, update) {
             Some(refusal) => Some(Refusal::PeerLimit(refusal.peer_rule())),
             None => length_refusal(update),
         }
@@ -244,6 +253,7 @@ impl UpdateLog {
         ensures moves_as_stated { (l : Log) → StandsFor self.old l
             → OnOk result (StandsFor self.new (after_receive update l)) }
         ensures changes_nothing_if_refused { OnErr result (self.new ≡ self.old) }
+        ensures changes_no_count { all_counts self.new ≡ all_counts self.old }
     {
         match self.taken_refusal(&update) {
             Some(refusal) => Err(refusal),
@@ -259,7 +269,9 @@ impl UpdateLog {
 
     // What is wrong with an update of the peer.
     fn taken_refusal(&self, update: &Update) -> Option<Refusal>
-        ensures { result ≡ taken_fault self.now update.now }
+        ensures refuses_exactly { (l : Log) → StandsFor self.now l → result ≡ taken_fault l update.now }
+        ensures leaves_room { result ≡ None → count_of Side.Peer self.now < most_updates }
+        ensures within_funds { result ≡ None → HasAmount (1000 * self.now.opening.satoshis) (offered update.now) }
     {
         if self.received.len() as u64 >= MOST_UPDATES {
             return Some(Refusal::OutOfPlace);
@@ -269,14 +281,17 @@ impl UpdateLog {
         }
         let limits = self.opening.limits_of(self.role.other());
         let held = &self.own[..self.current.own];
-        update_refusal(
+        match update_refusal(
             &limits,
             &self.peer_standing,
             self.role.other(),
             self.received.as_slice(),
             held,
             update,
-        )
+        ) {
+            Some(refusal) => Some(refusal),
+            None => funds_refusal(&self.opening, update),
+        }
     }
 
     /// What keeps this side from signing: 41 where its last signature isn't revoked for yet, 42 where a
@@ -297,7 +312,9 @@ impl UpdateLog {
     /// This side has signed: all own updates, and those of the peer that stand in its own commitment.
     /// Takes no memory.
     pub fn signed(&mut self)
-        ensures { (l : Log) → StandsFor self.old l → StandsFor self.new (after_sign l) }
+        ensures moves_as_stated { (l : Log) → StandsFor self.old l → StandsFor self.new (after_sign l) }
+        ensures counts { all_counts self.new
+            ≡ record (all_counts self.old) { signed = counts_of Pair.ToSign self.old } }
     {
         let next = self.counts(Pair::ToSign);
         self.signed = next;
@@ -307,7 +324,9 @@ impl UpdateLog {
     /// The peer's signature was taken: this side's commitment covers what was taken of the peer's, and
     /// the own updates that the peer has acknowledged. Takes no memory.
     pub fn accepted(&mut self)
-        ensures { (l : Log) → StandsFor self.old l → StandsFor self.new (after_accept l) }
+        ensures moves_as_stated { (l : Log) → StandsFor self.old l → StandsFor self.new (after_accept l) }
+        ensures counts { all_counts self.new
+            ≡ record (all_counts self.old) { current = counts_of Pair.ToAccept self.old } }
     {
         let next = self.counts(Pair::ToAccept);
         let updates = &self.received[self.current.peer..];
@@ -321,7 +340,8 @@ impl UpdateLog {
     /// The peer's revocation was taken: the peer's commitment is the one that was signed last. Takes no
     /// memory.
     pub fn acknowledged(&mut self)
-        ensures { (l : Log) → StandsFor self.old l → StandsFor self.new (after_learn l) }
+        ensures moves_as_stated { (l : Log) → StandsFor self.old l → StandsFor self.new (after_learn l) }
+        ensures counts { all_counts self.new ≡ record (all_counts self.old) { acknowledged = self.old.signed } }
     {
         let updates = &self.own[self.acknowledged.own..self.signed.own];
         let htlcs = &self.received[..self.signed.peer];
@@ -334,7 +354,8 @@ impl UpdateLog {
     /// no own signature covers; their ids are used again (BOLT 2, "Message Retransmission"). Takes no
     /// memory.
     pub fn drop_unsigned(&mut self)
-        ensures { (l : Log) → StandsFor self.old l → StandsFor self.new (after_drop l) }
+        ensures moves_as_stated { (l : Log) → StandsFor self.old l → StandsFor self.new (after_drop l) }
+        ensures changes_no_count { all_counts self.new ≡ all_counts self.old }
     {
         self.own.truncate(self.signed.own);
         self.received.truncate(self.current.peer);
@@ -354,7 +375,8 @@ impl UpdateLog {
 
     /// How many updates a side has proposed, as far as this side knows them.
     pub fn len(&self, side: Side) -> usize
-        ensures { (l : Log) → StandsFor self.now l → result ≡ length (updates_of side l) }
+        ensures length { (l : Log) → StandsFor self.now l → result ≡ length (updates_of side l) }
+        ensures counted { result ≡ count_of side self.now }
     {
         match side {
             Side::Own => self.own.len(),
@@ -365,9 +387,9 @@ impl UpdateLog {
     /// The number of the first update of a side that `update` still gives; updates count from 0. It is none
     /// that this side doesn't hold as irrevocably committed.
     pub fn first(&self, side: Side) -> usize
-        ensures is_the_first { (l : Log) → StandsFor self.now l → result ≡ first_of side l }
-        ensures committed { (l : Log) → StandsFor self.now l
-            → (l.first.own ≤ l.current.own) × (l.first.peer ≤ l.acknowledged.peer) }
+        ensures is_the_first { result ≡ first_of side self.now }
+        ensures committed { (self.now.first.own ≤ self.now.current.own)
+            × (self.now.first.peer ≤ self.now.acknowledged.peer) }
     {
         // (nothing is gone: both lists are whole)
         let _ = self.own.len();
@@ -381,10 +403,10 @@ impl UpdateLog {
     /// offers is of no more than 1000 * funding_satoshis, in millisatoshi.
     pub fn update(&self, side: Side, number: usize) -> Option<&Update>
         ensures update { (l : Log) → StandsFor self.now l
-            → option_copied result ≡ update_at (first_of side l) (updates_of side l) number }
-        ensures amount { (l : Log) → StandsFor self.now l
-            → IfSome (option_copied result) (λ u. HasAmount (1000 * l.opening.satoshis) (offered u)) }
-        ensures funds { (l : Log) → StandsFor self.now l → l.opening.satoshis ≤ most_satoshis }
+            → option_copied result ≡ update_at (first_of side self.now) (updates_of side l) number }
+        ensures amount { IfSome (option_copied result)
+            (λ u. HasAmount (1000 * self.now.opening.satoshis) (offered u)) }
+        ensures funds { self.now.opening.satoshis ≤ most_satoshis }
     {
         match side {
             Side::Own => nth(self.own.as_slice(), number),
@@ -402,13 +424,13 @@ impl UpdateLog {
     /// The updates of a side from one number up to another, from `first` on. No HTLC that they offer is of more than
     /// 1000 * funding_satoshis, in millisatoshi.
     pub fn between(&self, side: Side, from: usize, to: usize) -> &[Update]
-        requires not_before_the_first { (l : Log) → StandsFor self.now l → first_of side l ≤ from }
-        requires ordered { (l : Log) → StandsFor self.now l → from ≤ to }
-        requires not_behind_the_last { (l : Log) → StandsFor self.now l → to ≤ length (updates_of side l) }
+        requires not_before_the_first { first_of side self.now ≤ from }
+        requires ordered { from ≤ to }
+        requires not_behind_the_last { to ≤ count_of side self.now }
         ensures updates { (l : Log) → StandsFor self.now l → result.now ≡ between from to (updates_of side l) }
         ensures count { from + length result.now ≡ to }
-        ensures amounts { (l : Log) → StandsFor self.now l → AreWithin (1000 * l.opening.satoshis) result.now }
-        ensures funds { (l : Log) → StandsFor self.now l → l.opening.satoshis ≤ most_satoshis }
+        ensures amounts { AreWithin (1000 * self.now.opening.satoshis) result.now }
+        ensures funds { self.now.opening.satoshis ≤ most_satoshis }
     {
         // (what is kept bounds the amounts)
         let _ = self.own.len();
@@ -438,6 +460,9 @@ impl UpdateLog {
         ensures peer_within { (l : Log) → StandsFor self.now l → result.peer ≤ length l.received }
         ensures ordered { (l : Log) → StandsFor self.now l → IsWithin l }
         ensures lengths_fit { (l : Log) → StandsFor self.now l → length l.own + length l.received + 1 < 2 ^ 64 }
+        ensures counted { result ≡ counts_of pair self.now }
+        ensures in_order { IsInOrder self.now }
+        ensures counts_fit { count_of Side.Own self.now + count_of Side.Peer self.now + 1 < 2 ^ 64 }
     {
         match pair {
             Pair::Current(Side::Own) => self.current,
@@ -510,6 +535,27 @@ fn has_id(update: &Update, id: u64) -> bool
         Update::Fail(_) => true,
         Update::Malformed(_) => true,
         Update::Fee(_) => true,
+    }
+}
+
+// No HTLC is of more than all funds. Where a log stands for the lists of a channel, the limits have refused it before:
+// no side has more than all funds left.
+fn funds_refusal(opening: &Opening, update: &Update) -> Option<Refusal>
+    ensures within_funds { result ≡ None → HasAmount (1000 * opening.now.satoshis) (offered update.now) }
+    ensures nothing_within_funds { HasAmount (1000 * opening.now.satoshis) (offered update.now) → result ≡ None }
+{
+    match update {
+        Update::Add(add) => {
+            if u128::from(add.amount) > 1000 * u128::from(opening.satoshis) {
+                Some(Refusal::CannotAfford)
+            } else {
+                None
+            }
+        }
+        Update::Fulfil(_) => None,
+        Update::Fail(_) => None,
+        Update::Malformed(_) => None,
+        Update::Fee(_) => None,
     }
 }
 

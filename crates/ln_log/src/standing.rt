@@ -29,24 +29,24 @@ impl Standing {
     ghost use Rattle.ln_log.specs.Standing.{with_own, with_peer, OwnFits, PeerFits, AllFit, with_all};
 
     /// How it stands once it has proposed a further update, where its commitment covers these updates of
-    /// the other side's.
+    /// the other side's. A number that would pass 64 bits, or fall below 0, stays at that bound.
     pub fn with_own(&self, update: &Update, seen: &[Update]) -> Standing
-        requires { OwnFits self.now seen.now update.now }
-        ensures { result ≡ with_own self.now seen.now update.now }
+        ensures exact_where_it_fits { OwnFits self.now seen.now update.now
+            → result ≡ with_own self.now seen.now update.now }
     {
         match update {
             Update::Add(add) => Standing {
-                next_id: self.next_id + 1,
-                live: self.live + 1,
-                in_flight: self.in_flight + add.amount,
-                balance: self.balance - add.amount,
+                next_id: self.next_id.saturating_add(1),
+                live: self.live.saturating_add(1),
+                in_flight: self.in_flight.saturating_add(add.amount),
+                balance: self.balance.saturating_sub(add.amount),
             },
             Update::Fulfil(fulfil) => match find_add(fulfil.id, seen) {
                 Some(add) => Standing {
                     next_id: self.next_id,
                     live: self.live,
                     in_flight: self.in_flight,
-                    balance: self.balance + add.amount,
+                    balance: self.balance.saturating_add(add.amount),
                 },
                 None => *self,
             },
@@ -56,10 +56,10 @@ impl Standing {
         }
     }
 
-    // How it stands once its commitment covers a further update of the other side's.
+    // How it stands once its commitment covers a further update of the other side's; at a bound as above.
     fn with_peer(&self, update: &Update, own: &[Update]) -> Standing
-        requires { PeerFits self.now own.now update.now }
-        ensures { result ≡ with_peer self.now own.now update.now }
+        ensures exact_where_it_fits { PeerFits self.now own.now update.now
+            → result ≡ with_peer self.now own.now update.now }
     {
         match removal_of(update) {
             None => *self,
@@ -73,9 +73,9 @@ impl Standing {
                     };
                     Standing {
                         next_id: self.next_id,
-                        live: self.live - 1,
-                        in_flight: self.in_flight - add.amount,
-                        balance: self.balance + back,
+                        live: self.live.saturating_sub(1),
+                        in_flight: self.in_flight.saturating_sub(add.amount),
+                        balance: self.balance.saturating_add(back),
                     }
                 }
             },
@@ -83,10 +83,11 @@ impl Standing {
     }
 
     /// How it stands once its commitment covers further updates of the other side's, each of which that
-    /// removes an HTLC removes one of these own ones.
+    /// removes an HTLC removes one of these own ones. A number that would pass 64 bits, or fall below 0, stays at that
+    /// bound.
     pub fn with_all(&self, updates: &[Update], own: &[Update]) -> Standing
-        requires { AllFit self.now own.now updates.now }
-        ensures { result ≡ with_all self.now own.now updates.now }
+        ensures exact_where_they_fit { AllFit self.now own.now updates.now
+            → result ≡ with_all self.now own.now updates.now }
     {
         let mut standing = *self;
         for update in updates {

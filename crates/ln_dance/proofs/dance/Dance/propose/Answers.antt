@@ -2,16 +2,14 @@ use Rattle.std.proofs.Common.{refl, sym, ◌∙◌, subst}
 use Rattle.ln_log.specs.Log.{Log, after_propose, proposal_fault}
 use Rattle.ln_log.specs.Limits.{HasNextId, Answers}
 use Rattle.ln_dance.specs.Dance.{Dancer}
-use Rattle.ln_dance.proofs.Kept.{map_ok, either_way, kept_by, log_becomes}
+use Rattle.ln_dance.proofs.Kept.{map_ok, kept_by, log_becomes}
 use Rattle.ln_dance.proofs.dance.Dance.propose.Goals as goal
 
 pub propose-requires : goal.propose-requires
 propose-requires c = λ l e. subst (λ (x : Log). HasNextId x.own c.args.update) e (c.requires _ (sym c.self.view_is))
 
 pub invariant_of-self : goal.invariant_of-self
-invariant_of-self c = either_way c.propose.result (c.propose.ensures.moves_as_stated _ refl)
-    c.propose.ensures.changes_nothing_if_refused
-    (λ e. kept_by _ _ _ _ c.self.invariant e refl refl) (λ e. kept_by _ _ _ _ c.self.invariant e refl refl)
+invariant_of-self c = kept_by _ _ _ c.self.invariant c.propose.ensures.changes_no_count
 
 pub returns-clause-moves_as_stated : goal.returns-clause-moves_as_stated
 returns-clause-moves_as_stated c = λ d e.

@@ -2,13 +2,11 @@ use Rattle.std.proofs.Common.{refl, ◌∙◌, subst}
 use Rattle.ln_log.specs.Log.{after_receive, taken_fault}
 use Rattle.ln_log.specs.Limits.{Answers}
 use Rattle.ln_dance.specs.Dance.{Dancer}
-use Rattle.ln_dance.proofs.Kept.{map_ok, either_way, kept_by, log_becomes}
+use Rattle.ln_dance.proofs.Kept.{map_ok, kept_by, log_becomes}
 use Rattle.ln_dance.proofs.dance.Dance.receive.Goals as goal
 
 pub invariant_of-self : goal.invariant_of-self
-invariant_of-self c = either_way c.receive.result (c.receive.ensures.moves_as_stated _ refl)
-    c.receive.ensures.changes_nothing_if_refused
-    (λ e. kept_by _ _ _ _ c.self.invariant e refl refl) (λ e. kept_by _ _ _ _ c.self.invariant e refl refl)
+invariant_of-self c = kept_by _ _ _ c.self.invariant c.receive.ensures.changes_no_count
 
 pub returns-clause-moves_as_stated : goal.returns-clause-moves_as_stated
 returns-clause-moves_as_stated c = λ d e.

@@ -1,29 +1,24 @@
-use Rattle.std.proofs.Common.{sym, ap, ◌∙◌}
-use Rattle.ln_log.specs.Log.{Log, taken_fault}
+use Rattle.std.proofs.Common.{sym, ◌∙◌}
 use Rattle.ln_log.proofs.Kept.{front_is}
 use Rattle.ln_log.proofs.Grows.{got_call, kept_received, refused_as, goes_as, no_memory}
 use Rattle.ln_log.proofs.log.UpdateLog.receive.Goals as goal
 
-pub with_own-standing-requires : goal.with_own-standing-requires
-with_own-standing-requires c = got_call _ _ _ _ _ c.args.update _ c.self.invariant
-    (ap (λ (l : Log). taken_fault l c.args.update) c.self.view_is ∙ sym c.taken_refusal.ensures
-    ∙ c.in-None.is) (front_is _ _ _ c.deref.ensures.value)
-
 pub returns-in_err-push-in-None-clause-refuses_exactly : goal.returns-in_err-push-in-None-clause-refuses_exactly
 returns-in_err-push-in-None-clause-refuses_exactly c =
-    λ l e. no_memory _ _ _ (c.taken_refusal.ensures ∙ ap (λ (x : Log). taken_fault x c.args.update) e) c.in-None.is
+    λ l e. no_memory _ _ _ (c.taken_refusal.ensures.refuses_exactly l e) c.in-None.is
     c.from_residual.ensures.1
 
 pub invariant_of-self-in-None : goal.invariant_of-self-in-None
 invariant_of-self-in-None c =
-    rw c.in_ok-push-in-None.ensures.items (kept_received _ _ _ _ _ _ c.args.update _ c.self.invariant
-    (ap (λ (l : Log). taken_fault l c.args.update) c.self.view_is ∙ sym c.taken_refusal.ensures ∙ c.in-None.is)
-    (front_is _ _ _ c.deref.ensures.value) c.with_own-standing.ensures)
+    let none = sym (c.taken_refusal.ensures.refuses_exactly _ (sym c.self.view_is)) ∙ c.in-None.is in
+    let seen = front_is _ _ _ c.deref.ensures.value in
+    rw c.in_ok-push-in-None.ensures.items (kept_received _ _ _ _ _ _ c.args.update _ c.self.invariant none seen
+    (c.with_own-standing.ensures.exact_where_it_fits (got_call _ _ _ _ _ c.args.update _ c.self.invariant none seen)))
 
 pub returns-in-Some-clause-refuses_exactly : goal.returns-in-Some-clause-refuses_exactly
-returns-in-Some-clause-refuses_exactly c = λ l e. refused_as _ _ _ (c.taken_refusal.ensures
-    ∙ ap (λ (x : Log). taken_fault x c.args.update) e) c.in-Some.is
+returns-in-Some-clause-refuses_exactly c = λ l e.
+    refused_as _ _ _ (c.taken_refusal.ensures.refuses_exactly l e) c.in-Some.is
 
 pub returns-in_ok-push-in-None-clause-refuses_exactly : goal.returns-in_ok-push-in-None-clause-refuses_exactly
-returns-in_ok-push-in-None-clause-refuses_exactly c = λ l e. goes_as _ _ (c.taken_refusal.ensures
-    ∙ ap (λ (x : Log). taken_fault x c.args.update) e) c.in-None.is
+returns-in_ok-push-in-None-clause-refuses_exactly c = λ l e.
+    goes_as _ _ (c.taken_refusal.ensures.refuses_exactly l e) c.in-None.is
