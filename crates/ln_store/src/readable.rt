@@ -42,8 +42,7 @@ fn funding_of(said: &Incoming) -> Option<u64>
 {
     match said {
         Incoming::Known(Message::OpenChannel(open))
-            if 1 <= open.funding_satoshis && open.funding_satoshis <= MOST_SATOSHIS =>
-        {
+            if 1 <= open.funding_satoshis && open.funding_satoshis <= MOST_SATOSHIS => {
             Some(open.funding_satoshis)
         }
         _ => None,
