@@ -9,9 +9,9 @@ use Rattle.ln_log.specs.declared.update.Add.{Add}
 use Rattle.ln_log.specs.declared.update.Update.{Update}
 use Rattle.ln_log.specs.Opening.{HasFunds}
 use Rattle.ln_log.specs.Updates.{offered}
-use Rattle.ln_log.specs.Loading.{IsReadable, CoverAll, AreOffered}
+use Rattle.ln_log.specs.Loading.{IsReadable}
 use Rattle.ln_log.specs.Log.{Log, HasId, AreNumbered, number_after}
-use Rattle.ln_store.specs.Window.{rise, has_id, are_numbered, covers_all, counts_fit, ids_fit, funds_in, updates_fit}
+use Rattle.ln_store.specs.Window.{rise, has_id, are_numbered, counts_fit, ids_fit, funds_in, updates_fit}
 use Rattle.ln_link.specs.Record.{base_of, updates_of}
 
 -- ---- counts
