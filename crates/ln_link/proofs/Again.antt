@@ -30,7 +30,7 @@ pub record Parts (i : Items) : Type 0 where
 pub parts : (i : Items) → is_readable i ≡ true → Parts i
 parts i h =
     let a = (and_parts (it.items.fits i) (is_sound i) h).1 in
-    let b = (and_parts _ _ a).0 in
+    let b = (and_parts _ _ (and_parts _ _ a).0).0 in
     let c = and_parts _ _ b in
     let d = and_parts _ _ c.0 in
     let e = and_parts _ _ d.0 in

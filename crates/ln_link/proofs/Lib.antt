@@ -4,3 +4,4 @@ pub mod Again
 pub mod Loaded
 pub mod Coverage
 pub mod Restarted
+pub mod Window

@@ -14,6 +14,7 @@ use Rattle.ln_log.specs.declared.opening.Opening.{Opening}
 use Rattle.ln_log.specs.declared.update.Update.{Update}
 use Rattle.ln_log.specs.Opening.{HasFunds, first_balance}
 use Rattle.ln_log.specs.Log.{Log, after_drop}
+use Rattle.ln_log.specs.Loading.{IsReadable}
 use Rattle.ln_dance.specs.Dance.{Dancer}
 use Rattle.ln_close.specs.declared.closing.Closing.{Closing}
 use Rattle.ln_channel.specs.Opening.{opening_of}
@@ -149,6 +150,10 @@ LacksUpdates l = (0 < l.first.own) ⊎ (0 < l.first.peer)
 unfoldable pub HasNoUpdates : End → Type 0
 HasNoUpdates e = LacksUpdates e.dance.log ⊎ ¬ HasFunds (opening_of e.terms)
 
+-- its items aren't readable, though a log can be made again of its updates
+abbrev pub IsUnreadable : Option Refusal → End → Type 0
+IsUnreadable failure e = IsReadable (after_drop e.dance.log) × (is_readable (items_of failure e) ≡ false)
+
 -- an end without a record: its items can't be had, or aren't readable
 unfoldable pub NoRecord : Option Refusal → End → Type 0
-NoRecord failure e = HasNoAgreement e ⊎ (HasNoUpdates e ⊎ (is_readable (items_of failure e) ≡ false))
+NoRecord failure e = HasNoAgreement e ⊎ (HasNoUpdates e ⊎ IsUnreadable failure e)

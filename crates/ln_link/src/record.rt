@@ -292,6 +292,7 @@ fn items_of(alloc: Global, failure: Option<Refusal>, channel: &Channel) -> Resul
     ensures items { IfOk result (λ i. i ≡ items_of failure channel.now) }
     ensures has_record_if_readable { OnOk result (is_readable (items_of failure channel.now) ≡ true
         → HasRecord failure channel.now) }
+    ensures log_can_be_loaded { OnOk result (IsReadable (after_drop channel.now.dance.log)) }
     ensures fails { IfErr result (λ r. (r ≡ refusal.Memory)
         ⊎ ((r ≡ refusal.Damaged) × (HasNoAgreement channel.now ⊎ HasNoUpdates channel.now))) }
 {

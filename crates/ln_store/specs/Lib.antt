@@ -2,4 +2,5 @@ pub mod Store
 pub mod Format
 pub mod Items
 pub mod Readable
+pub mod Window
 pub mod Record

@@ -15,6 +15,7 @@ use Rattle.ln_store.specs.declared.record.Pairs.{Pairs}
 use Rattle.ln_store.specs.declared.record.Updates.{Updates}
 use Rattle.ln_store.specs.declared.record.Items.{Items}
 use Rattle.ln_store.specs.Items as it
+use Rattle.ln_store.specs.Window.{updates_fit}
 
 -- ---- the opening (BOLT 2, "Channel Establishment v1")
 
@@ -34,6 +35,21 @@ abbrev pub is_open : Result Heard Fault → Bool
 is_open (Ok (Known w)) = (w.typ == 32) && has_funds (slice_get w.values 2)
 is_open (Ok (Ignored typ)) = false
 is_open (Err f) = false
+
+abbrev pub satoshis_of : Option Value → ℕ
+satoshis_of (Some (Num satoshis)) = satoshis
+satoshis_of (Some (Str bytes)) = 0
+satoshis_of (Some (Many items)) = 0
+satoshis_of None = 0
+
+abbrev pub funding_of : Result Heard Fault → ℕ
+funding_of (Ok (Known w)) = satoshis_of (slice_get w.values 2)
+funding_of (Ok (Ignored typ)) = 0
+funding_of (Err f) = 0
+
+-- what the payload of an open_channel tells of the funding, in satoshi
+abbrev pub funding_in : List ℕ → ℕ
+funding_in payload = funding_of (message_at (0 ∷ 32 ∷ payload))
 
 -- the payload of an open_channel whose funding is 1 to 2,100,000,000,000,000 satoshi
 abbrev pub is_open_payload : List ℕ → Bool
@@ -93,6 +109,7 @@ is_sound i =
     && are_settled i.commitments.numbers i.updates.pairs
     && nat_le i.progress.events.decided (2 ^ 63 + 1)
     && list_all (names_an_update i.header.role i.updates) i.progress.events.undecided
+    && updates_fit i.header.role (funding_in i.agreement.open_payload) i.updates
 
 -- the items have their forms, and fit together
 abbrev pub is_readable : Items → Bool

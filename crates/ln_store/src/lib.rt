@@ -15,6 +15,7 @@ mod record;
 mod record_store;
 mod stored;
 mod updates;
+mod window;
 
 pub use codec::{decode_record, encode_record, one_record};
 pub use link_record::LinkRecord;

@@ -1,16 +1,17 @@
 //! Whether items may stand in a record.
 
-ghost use Rattle.std.specs.Prelude.{◌≡◌, ◌∷◌, Ok, IfOk, IfErr};
+ghost use Rattle.std.specs.Prelude.{◌≡◌, ◌∷◌, Ok, Some, None, IfOk, IfErr, if◌then◌else◌};
 ghost use Rattle.ln_bytes.specs.Reading.{Gives};
 ghost use Rattle.ln_msgs.specs.Messages.Message.{message_at};
 ghost use Rattle.ln_msgs.specs.Messages.Typed.{heard};
-ghost use Rattle.ln_store.specs.Readable.{is_open, is_of_type, is_readable};
+ghost use Rattle.ln_store.specs.Readable.{is_open, is_of_type, is_readable, funding_of, funding_in};
 ghost use Rattle.std.specs.List.{list_all};
 ghost use Rattle.ln_store.specs.Readable.{is_open_payload, is_accept_payload, are_in_step, cover_the_same, are_settled};
 ghost use Rattle.ln_store.specs.Readable.{is_of, is_of_other, names_an_update, is_sound, is_in_window};
 
 use crate::record::{Covered, Items, Pairs, Updates};
 use crate::stored::Stored;
+use crate::window::updates_fit;
 use ln_bytes::Fault;
 use ln_dance::Numbers;
 use ln_keys::Role;
@@ -35,15 +36,16 @@ fn said_by(alloc: Global, typ: u8, payload: &[u8]) -> Result<Incoming, Fault>
     decode(alloc, bytes.as_slice())
 }
 
-// Whether it is an `open_channel` whose funding is in its range.
-fn is_open(said: &Incoming) -> bool
-    ensures { result ≡ is_open (Ok (heard said.now)) }
+// The funding, in satoshi, where it is an `open_channel` and that is in its range.
+fn funding_of(said: &Incoming) -> Option<u64>
+    ensures { result ≡ (if is_open (Ok (heard said.now)) then Some (funding_of (Ok (heard said.now))) else None) }
 {
     match said {
-        Incoming::Known(Message::OpenChannel(open)) => {
-            1 <= open.funding_satoshis && open.funding_satoshis <= MOST_SATOSHIS
+        Incoming::Known(Message::OpenChannel(open))
+            if 1 <= open.funding_satoshis && open.funding_satoshis <= MOST_SATOSHIS => {
+            Some(open.funding_satoshis)
         }
-        _ => false,
+        _ => None,
     }
 }
 
@@ -54,14 +56,16 @@ fn is_accept(said: &Incoming) -> bool
     matches!(said, Incoming::Known(Message::AcceptChannel(_)))
 }
 
-fn is_open_payload(alloc: Global, payload: &[u8]) -> Result<bool, Refusal>
-    ensures tells_it { IfOk result (λ b. b ≡ is_open_payload payload.now) }
+// The funding that the payload of an `open_channel` tells, in satoshi; nothing where it is no such payload.
+fn funding_in(alloc: Global, payload: &[u8]) -> Result<Option<u64>, Refusal>
+    ensures tells_it { IfOk result (λ o. o ≡ (if is_open_payload payload.now then Some (funding_in payload.now)
+        else None)) }
     ensures fails_for_memory_alone { IfErr result (λ e. e ≡ Refusal.Memory) }
 {
     match said_by(alloc, 32, payload) {
-        Ok(said) => Ok(is_open(&said)),
+        Ok(said) => Ok(funding_of(&said)),
         Err(Fault::Memory) => Err(Refusal::Memory),
-        Err(_) => Ok(false),
+        Err(_) => Ok(None),
     }
 }
 
@@ -154,9 +158,11 @@ pub(crate) fn is_sound(alloc: Global, items: &Items) -> Result<bool, Refusal>
     ensures fails_for_memory_alone { IfErr result (λ e. e ≡ Refusal.Memory) }
 {
     let events = &items.progress.events;
+    let Some(satoshis) = funding_in(alloc, items.agreement.open_payload.as_slice())? else {
+        return Ok(false);
+    };
     Ok(
-        is_open_payload(alloc, items.agreement.open_payload.as_slice())?
-            && is_accept_payload(alloc, items.agreement.accept_payload.as_slice())?
+        is_accept_payload(alloc, items.agreement.accept_payload.as_slice())?
             && are_in_step(&items.commitments.numbers)
             && are_settled(&items.commitments.numbers, &items.updates.pairs)
             && events.decided <= MOST_EVENTS
@@ -164,7 +170,8 @@ pub(crate) fn is_sound(alloc: Global, items: &Items) -> Result<bool, Refusal>
                 items.header.role,
                 &items.updates,
                 events.undecided.as_slice(),
-            ),
+            )
+            && updates_fit(items.header.role, satoshis, &items.updates),
     )
 }
 

@@ -7,7 +7,7 @@ use ln_store::{LinkRecord, decode_record, encode_record, one_record};
 use std::alloc::Global;
 
 /// The body of a record with each kind of item, as pieces that are written so many times.
-const FULL: [(&str, u32); 93] = [
+const FULL: [(&str, u32); 92] = [
     ("09", 32), // channel
     ("00", 1), // role
     ("17", 1), // flags
@@ -86,19 +86,19 @@ const FULL: [(&str, u32); 93] = [
     ("08", 32),
     ("00000000000000010000000000000002", 1), // base counts
     ("00000000000000010000000000000000", 1), // next ids
-    ("00000000000003840000000000000064", 1), // balances
+    ("000000003b9ac94f0000000000000064", 1), // balances
     ("000000fd", 1), // feerate
     ("0000000000000001", 1), // live count
     ("00", 1), // owner
     ("00", 1), // live tag
-    ("0000000000000000000000000000004d", 1),
+    ("0000000000000000000000000000004d", 1), // live id and amount
     ("07", 32),
     ("00000190", 1),
     ("05", 1366),
     ("00", 1), // origin tag
     ("0000000000000002", 1), // window
     ("00", 1), // tag
-    ("00000000000000010000000000001388", 1),
+    ("000000000000000100000000000001f4", 1), // id and amount
     ("07", 32),
     ("00000190", 1),
     ("05", 1366),
@@ -106,20 +106,19 @@ const FULL: [(&str, u32); 93] = [
     ("09", 32),
     ("0000000000000006", 1),
     ("040000012c", 1), // fee update
-    ("0000000000000003", 1), // peer's window
+    ("0000000000000002", 1), // peer's window
     ("010000000000000000", 1),
     ("01", 32),
-    ("0200000000000000010003626164", 1),
-    ("030000000000000001", 1),
+    ("030000000000000001", 1), // malformed
     ("04", 32),
-    ("c005", 1),
-    ("00000000000000030000000000000004", 1), // covered
-    ("00000000000000020000000000000003", 1), // acknowledged
-    ("00000000000000050000000000000002", 1), // current
+    ("c005", 1), // failure code
+    ("00000000000000030000000000000003", 1), // covered
+    ("00000000000000020000000000000002", 1), // acknowledged
+    ("00000000000000040000000000000002", 1), // current
     ("0000000000000007", 1), // decided
     ("0000000000000003", 1), // undecided
     ("000000000000000001", 1), // own event
-    ("010000000000000004", 1), // peer event
+    ("010000000000000003", 1), // peer event
     ("020000000000000000", 1), // close event
     ("0000000000000004", 1), // decisions
     ("0000000000000004", 1),
@@ -143,30 +142,55 @@ const FULL: [(&str, u32); 93] = [
 ];
 
 /// A place in it, and what stands there in another record.
-const READABLE: [(usize, &str); 14] = [
+type Change = (usize, &'static str);
+
+const READABLE: [Change; 15] = [
     (3, "0025"), // failure
     (3, "0015"), // failure
     (3, "0023"), // failure
     (2, "00"), // flags
     (2, "1f"), // flags
-    (7, "0000000000000001"), // funding
-    (7, "000775f05a074000"), // funding
-    (69, "8000000000000001"), // decided
-    (72, "010000000000000002"), // peer event
-    (71, "000000000000000002"), // own event
+    (39, "000000003b9ac9500000000000000063"), // balances
+    (39, "000000003b9ac9b30000000000000000"), // balances
+    (68, "8000000000000001"), // decided
+    (71, "010000000000000002"), // peer event
+    (70, "000000000000000002"), // own event
     (26, "00"), // place
     (29, "00"), // peer script
-    (91, "010000000000000007"), // closed
+    (90, "010000000000000007"), // closed
     (30, "0000ffffffffffff"), // commitment
+    (66, "00000000000000030000000000000003"), // acknowledged
 ];
 
-const UNREADABLE: [(usize, &str); 28] = [
+/// What stands at several places in another record: an HTLC that is failed, the least funding and the greatest.
+const CHANGED: [[Change; 3]; 3] = [
+    [(62, "0200000000000000010003626164"), (63, ""), (64, "")],
+    [
+        (7, "0000000000000001"),
+        (39, "00000000000003370000000000000064"),
+        (
+            0,
+            "0909090909090909090909090909090909090909090909090909090909090909",
+        ),
+    ],
+    [
+        (7, "000775f05a074000"),
+        (39, "1d24b2dfac51ff4f0000000000000064"),
+        (
+            0,
+            "0909090909090909090909090909090909090909090909090909090909090909",
+        ),
+    ],
+];
+
+const UNREADABLE: [Change; 50] = [
     (1, "02"), // role
     (2, "37"), // flags
     (3, "0024"), // failure
     (3, "0014"), // failure
     (7, "0000000000000000"), // funding
     (7, "000775f05a074001"), // funding
+    (7, "00000000000f4241"), // funding
     (4, "0000013e"), // open_len
     (17, "0000010f"), // accept_len
     (26, "020000010000020003"), // place
@@ -174,21 +198,42 @@ const UNREADABLE: [(usize, &str); 28] = [
     (31, "0000000000000003"), // signed
     (31, "0000000000000004"), // signed
     (30, "0001000000000000"), // commitment
+    (37, "00000000000000020000000000000002"), // base counts
+    (37, "00000000000000010000000000000003"), // base counts
+    (38, "00000000000000020000000000000000"), // next ids
+    (38, "00000000000000000000000000000000"), // next ids
+    (38, "00000000000000010000000000000003"), // next ids
+    (39, "000000003b9ac9500000000000000064"), // balances
+    (39, "000000003b9ac94f0000000000000063"), // balances
     (42, "02"), // owner
     (43, "01"), // live tag
+    (44, "0000000000000000000000000000004e"), // live amount
     (48, "02"), // origin tag
     (49, "0000000000000001"), // window
     (50, "05"), // tag
-    (69, "8000000000000002"), // decided
-    (71, "000000000000000000"), // own event
-    (71, "000000000000000003"), // own event
-    (72, "010000000000000005"), // peer event
-    (73, "020000000000000001"), // close event
-    (73, "030000000000000000"), // close event
-    (76, "00"), // forward tag
-    (87, "04"), // result tag
-    (91, "03"), // closed
-    (92, "00"), // end
+    (51, "000000000000000000000000000001f4"), // id
+    (51, "000000000000000200000000000001f4"), // id
+    (65, "00000000000000020000000000000003"), // covered
+    (65, "00000000000000040000000000000003"), // covered
+    (65, "00000000000000030000000000000001"), // covered
+    (65, "00000000000000030000000000000005"), // covered
+    (66, "00000000000000010000000000000002"), // acknowledged
+    (66, "00000000000000040000000000000002"), // acknowledged
+    (66, "00000000000000020000000000000001"), // acknowledged
+    (66, "00000000000000020000000000000004"), // acknowledged
+    (67, "00000000000000030000000000000002"), // current
+    (67, "00000000000000050000000000000002"), // current
+    (67, "00000000000000040000000000000000"), // current
+    (67, "00000000000000040000000000000003"), // current
+    (68, "8000000000000002"), // decided
+    (70, "000000000000000000"), // own event
+    (70, "000000000000000003"), // own event
+    (71, "010000000000000004"), // peer event
+    (72, "020000000000000001"), // close event
+    (72, "030000000000000000"), // close event
+    (75, "00"), // forward tag
+    (86, "04"), // result tag
+    (91, "00"), // end
 ];
 
 /// The value of a hex digit.
@@ -215,15 +260,26 @@ fn put_hex(out: &mut Vec<u8>, digits: &[u8]) -> Result<(), Refusal> {
     Ok(())
 }
 
-/// The record of this version with the full body, in which this stands at one place.
-fn record_with(alloc: Global, version: u8, place: usize, other: &str) -> Result<Vec<u8>, Refusal> {
+/// What stands at this place instead.
+fn changed(changes: &[Change], place: usize) -> Option<&'static str> {
+    for change in changes {
+        if change.0 == place {
+            return Some(change.1);
+        }
+    }
+    None
+}
+
+/// The record of this version with the full body, but for these changes.
+fn record_with(alloc: Global, version: u8, changes: &[Change]) -> Result<Vec<u8>, Refusal> {
     let mut body = Vec::with_capacity(alloc, 4200)?;
-    for (number, (digits, times)) in FULL.iter().enumerate() {
-        if number == place {
-            put_hex(&mut body, other.as_bytes())?;
-        } else {
-            for _ in 0..*times {
-                put_hex(&mut body, digits.as_bytes())?;
+    for (place, (digits, times)) in FULL.iter().enumerate() {
+        match changed(changes, place) {
+            Some(other) => put_hex(&mut body, other.as_bytes())?,
+            None => {
+                for _ in 0..*times {
+                    put_hex(&mut body, digits.as_bytes())?;
+                }
             }
         }
     }
@@ -262,8 +318,8 @@ fn code_of_bytes(alloc: Global, bytes: &[u8]) -> u32 {
     }
 }
 
-fn code_with(alloc: Global, version: u8, place: usize, other: &str) -> u32 {
-    match record_with(alloc, version, place, other) {
+fn code_with(alloc: Global, version: u8, changes: &[Change]) -> u32 {
+    match record_with(alloc, version, changes) {
         Err(refusal) => code_of(Some(refusal)),
         Ok(bytes) => code_of_bytes(alloc, bytes.as_slice()),
     }
@@ -293,11 +349,9 @@ fn changes_taken(alloc: Global, bytes: &mut [u8]) -> u32 {
     taken
 }
 
-const NOWHERE: usize = 1000;
-
 #[test]
 fn small_record(rt: HostRuntime) -> Result<(), Refusal> {
-    let bytes = record_with(rt.alloc(), 1, NOWHERE, "")?;
+    let bytes = record_with(rt.alloc(), 1, &[])?;
     assert!(rt; is_written_again(rt.alloc(), bytes.as_slice())?);
     Ok(())
 }
@@ -306,23 +360,20 @@ fn small_record(rt: HostRuntime) -> Result<(), Refusal> {
 fn records_that_are_read(rt: HostRuntime) {
     let alloc = rt.alloc();
     one_record();
-    assert!(rt; code_with(alloc, 1, NOWHERE, "") == 0);
-    assert!(rt; code_with(alloc, 9, NOWHERE, "") == 71);
-    assert!(rt; code_with(alloc, 0, NOWHERE, "") == 71);
+    assert!(rt; code_with(alloc, 1, &[]) == 0);
+    assert!(rt; code_with(alloc, 9, &[]) == 71);
+    assert!(rt; code_with(alloc, 0, &[]) == 71);
+    assert!(rt; READABLE.iter().all(|row| code_with(alloc, 1, &[*row]) == 0));
+    assert!(rt; CHANGED.iter().all(|rows| code_with(alloc, 1, rows) == 0));
     assert!(rt;
-        READABLE
+        UNREADABLE
             .iter()
-            .all(|row| code_with(alloc, 1, row.0, row.1) == 0)
+            .all(|row| code_with(alloc, 1, &[*row]) == 70)
     );
     assert!(rt;
         UNREADABLE
             .iter()
-            .all(|row| code_with(alloc, 1, row.0, row.1) == 70)
-    );
-    assert!(rt;
-        UNREADABLE
-            .iter()
-            .all(|row| code_with(alloc, 2, row.0, row.1) == 71)
+            .all(|row| code_with(alloc, 2, &[*row]) == 71)
     );
 }
 
@@ -330,10 +381,10 @@ fn records_that_are_read(rt: HostRuntime) {
 fn damaged_records(rt: HostRuntime) {
     let alloc = rt.alloc();
     assert!(rt; code_of_bytes(alloc, &[]) == 70);
-    let Ok(mut bytes) = record_with(alloc, 1, NOWHERE, "") else {
+    let Ok(mut bytes) = record_with(alloc, 1, &[]) else {
         return;
     };
-    assert!(rt; bytes.len() == 4213);
+    assert!(rt; bytes.len() == 4199);
     assert!(rt; cuts_taken(alloc, bytes.as_slice()) == 0);
     assert!(rt; changes_taken(alloc, bytes.as_mut_slice()) == 0);
 }

@@ -18,6 +18,7 @@ use Rattle.ln_log.specs.declared.opening.Opening.{Opening}
 use Rattle.ln_log.specs.declared.update.Update.{Update}
 use Rattle.ln_log.specs.Opening.{HasFunds}
 use Rattle.ln_log.specs.Log.{Log, IsWithin, after_drop}
+use Rattle.ln_log.specs.Loading.{IsReadable}
 use Rattle.ln_log.specs.declared.mark.EventRef.{EventRef}
 use Rattle.ln_log.specs.declared.mark.EventRef.TheVariants as ref
 use Rattle.ln_channel.specs.declared.opening.Opened.{Opened}
@@ -25,10 +26,12 @@ use Rattle.ln_channel.specs.Opening.{opening_of, asked_with, asked_by_accept}
 use Rattle.ln_channel.specs.End.{End}
 use Rattle.ln_store.specs.Format.{fixed, optional}
 use Rattle.ln_store.specs.Items as it
-use Rattle.ln_store.specs.Readable.{names_an_update, is_sound, is_readable}
+use Rattle.ln_store.specs.Readable.{names_an_update, is_sound, is_readable, funding_in}
+use Rattle.ln_store.specs.Window.{updates_fit}
 use Rattle.ln_link.specs.Record.{flags_of, payload_of, place_of, agreement_of, window_of, pairs_of, updates_of}
 use Rattle.ln_link.specs.Record.{events_of, forwards_of, fees_of, progress_of, header_of, items_of, IsUnwritable}
 use Rattle.ln_link.specs.Record.{HasNoAgreement, HasNoUpdates, NoRecord}
+use Rattle.ln_link.proofs.Window.{fit_so}
 use Rattle.ln_pair.specs.Widths.{IsUpdate}
 use Rattle.ln_pair.proofs.All.{All}
 use Rattle.ln_pair.proofs.Steady.{raised}
@@ -38,7 +41,7 @@ use Rattle.ln_world.proofs.OpeningForms.{open_written, open_short, open_read, ac
 use Rattle.ln_world.proofs.UpdateForms.{also, list_fits}
 use Rattle.ln_world.proofs.ItemForms.{header_fits, fees_fit, agreement_fits, numbers_fit, peer_fits, base_fits}
 use Rattle.ln_world.proofs.ItemForms.{pairs_fit, IsNumbered, events_fit, forwards_fit, closing_fits}
-use Rattle.ln_world.proofs.SoundForms.{open_sounds, accept_sounds, in_step, settled}
+use Rattle.ln_world.proofs.SoundForms.{open_sounds, funding_told, accept_sounds, in_step, settled}
 
 -- ---- what an end keeps of its opening
 
@@ -262,9 +265,21 @@ items_fit e o k w =
     (peer_fits e.dance.peer k.point k.next_point k.secret)) (also (updates_of_fit e o k.within w)
     (progress_of_fits e k (are_covered e k.within w) w))))
 
-items_sound : (e : End) → Opens e → IsCounted e → IsWide e → is_sound (items_of None e) ≡ true
-unfolding items_of header_of agreement_of progress_of updates_of
-items_sound e o k w =
+-- the updates fit together, in a channel of what its opening tells of the funding
+updates_sound : (e : End) → Opens e → IsReadable (after_drop e.dance.log)
+    → updates_fit e.closing.role (funding_in (payload_of (open_wire e.terms.open_channel)))
+    (updates_of (opening_of e.terms) e.closing.role (after_drop e.dance.log)) ≡ true
+updates_sound e o r =
+    let m = e.terms.open_channel in
+    let u = updates_of (opening_of e.terms) e.closing.role (after_drop e.dance.log) in
+    ap (λ n. updates_fit e.closing.role n u)
+    (funding_told m (payload_of (open_wire m)) (open_is_read m o.open_channel))
+    ∙ fit_so (opening_of e.terms) e.closing.role (after_drop e.dance.log) o.funds r
+
+items_sound : (e : End) → Opens e → IsCounted e → IsWide e → IsReadable (after_drop e.dance.log)
+    → is_sound (items_of None e) ≡ true
+unfolding items_of header_of agreement_of progress_of
+items_sound e o k w r =
     let m = e.terms.open_channel in
     let a = e.terms.accept_channel in
     let l = e.dance.log in
@@ -282,7 +297,7 @@ items_sound e o k w =
     let events = k.events in
     let decided : e.ledger.decided ≤ 2 ^ 63 + 1 =
     omega (arith, events, own_current, own_acknowledged, peer_acknowledged, peer_signed, own_room, received_room) in
-    also (also (also (also (also
+    also (also (also (also (also (also
     (open_sounds m (payload_of (open_wire m)) o.funds.some_funds o.funds.funds
     (open_is_read m o.open_channel))
     (accept_sounds a (payload_of (accept_wire a)) (accept_is_read a o.accept_channel)))
@@ -292,7 +307,8 @@ items_sound e o k w =
     (all_named e.closing.role (opening_of e.terms) (after_drop l) e.ledger.undecided
     (raised l.current.own l.acknowledged.peer (length (after_drop l).own) (length (after_drop l).received)
     e.ledger.undecided (omega (arith, own_current, own_acknowledged, own))
-    (omega (arith, peer_acknowledged, peer_signed, received)) k.undecided))
+    (omega (arith, peer_acknowledged, peer_signed, received)) k.undecided)))
+    (updates_sound e o r)
 
 has_updates : (e : End) → Opens e → IsCounted e → HasNoUpdates e → ⊥
 unfolding HasNoUpdates
@@ -309,7 +325,7 @@ unfolding NoRecord
 record_so e o k w (inl lack) = both_written e o lack
 record_so e o k w (inr (inl lack)) = has_updates e o k lack
 record_so e o k w (inr (inr lack)) =
-    unreadable (is_readable (items_of None e)) (also (items_fit e o k w) (items_sound e o k w)) lack
+    unreadable (is_readable (items_of None e)) (also (items_fit e o k w) (items_sound e o k w lack.0)) lack.1
 
 -- an end of a channel that was opened so, whose counts fit together and whose updates are as wide as their types
 pub has_record : (o : Opened) (e : End) → IsOpening o → IsOf o e → IsCounted e → IsWide e → NoRecord None e → ⊥

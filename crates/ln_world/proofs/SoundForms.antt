@@ -11,7 +11,7 @@ use Rattle.ln_msgs.specs.Messages.Typed.{open_wire, accept_wire}
 use Rattle.ln_dance.specs.declared.dance.Numbers.{Numbers}
 use Rattle.ln_store.specs.declared.record.Pairs.{Pairs}
 use Rattle.ln_store.specs.Readable.{is_open, is_open_payload, is_of_type, is_accept_payload, are_in_step, are_settled}
-use Rattle.ln_store.specs.Readable.{cover_the_same}
+use Rattle.ln_store.specs.Readable.{cover_the_same, funding_in, funding_of}
 use Rattle.ln_world.proofs.UpdateForms.{also}
 
 -- ---- the opening
@@ -26,6 +26,10 @@ open_sounds m payload some most e =
     let funds : is_open (heard (Known (open_wire m))) ≡ true =
     also refl (also (le-leb 1 m.funding_satoshis some) (le-leb m.funding_satoshis 2100000000000000 most)) in
     ap is_open e ∙ funds
+
+pub funding_told : (m : OpenChannel) (payload : List ℕ) → message_at (0 ∷ 32 ∷ payload) ≡ Ok (Known (open_wire m))
+    → funding_in payload ≡ m.funding_satoshis
+funding_told m payload e = ap funding_of e
 
 pub accept_sounds : (m : AcceptChannel) (payload : List ℕ)
     → message_at (0 ∷ 33 ∷ payload) ≡ Ok (Known (accept_wire m)) → is_accept_payload payload ≡ true

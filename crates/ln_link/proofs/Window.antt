@@ -1,0 +1,71 @@
+-- The updates that a record has of a log that can be made again fit together.
+use Rattle.std.proofs.Common.{◌≡◌, ◌≤◌, ◌+◌, ◌*◌, ◌^◌, ℕ, List, [], ◌∷◌, length, refl, arith, true, nat_le, ◌==◌}
+use Rattle.std.proofs.Common.{◌&&◌, Option, Some, None}
+use Rattle.std.proofs.lemmas.Bool.{and_from, le-leb, eq-eqb}
+use Rattle.ln_keys.specs.declared.role.Role.{Role}
+use Rattle.ln_keys.specs.declared.role.Role.TheVariants.{Funder, Fundee}
+use Rattle.ln_log.specs.declared.opening.Opening.{Opening}
+use Rattle.ln_log.specs.declared.update.Add.{Add}
+use Rattle.ln_log.specs.declared.update.Update.{Update}
+use Rattle.ln_log.specs.Opening.{HasFunds}
+use Rattle.ln_log.specs.Updates.{offered}
+use Rattle.ln_log.specs.Loading.{IsReadable}
+use Rattle.ln_log.specs.Log.{Log, HasId, AreNumbered, number_after}
+use Rattle.ln_store.specs.Window.{rise, has_id, are_numbered, counts_fit, ids_fit, funds_in, updates_fit}
+use Rattle.ln_link.specs.Record.{base_of, updates_of}
+
+-- ---- counts
+
+rising : (a b c : ℕ) → a ≤ b → b ≤ c → rise 0 a b c ≡ true
+rising a b c p q = and_from _ _ (and_from _ _ (le-leb 0 a (omega arith)) (le-leb a b p)) (le-leb b c q)
+
+ended : (n : ℕ) (us : List Update) → n ≡ length us → length us ≤ 2 ^ 62
+    → ((n == 0 + length us) && nat_le n (2 ^ 62)) ≡ true
+ended n us e few =
+    and_from _ _ (eq-eqb n (0 + length us) (omega (arith, e))) (le-leb n (2 ^ 62) (omega (arith, e, few)))
+
+counts_so : (o : Opening) (x : Role) (l : Log) → IsReadable l → counts_fit x (updates_of o x l) ≡ true
+unfolding updates_of
+counts_so o Funder l r =
+    let k = r.lists.covered_all in
+    and_from _ _ (and_from _ _ (and_from _ _
+    (rising l.current.own l.acknowledged.own l.signed.own k.within.own_current k.within.own_acknowledged)
+    (rising l.acknowledged.peer l.signed.peer l.current.peer k.within.peer_acknowledged k.within.peer_signed))
+    (ended l.signed.own l.own k.own r.lists.own_offered.few))
+    (ended l.current.peer l.received k.peer r.lists.peer_offered.few)
+counts_so o Fundee l r =
+    let k = r.lists.covered_all in
+    and_from _ _ (and_from _ _ (and_from _ _
+    (rising l.current.own l.acknowledged.own l.signed.own k.within.own_current k.within.own_acknowledged)
+    (rising l.acknowledged.peer l.signed.peer l.current.peer k.within.peer_acknowledged k.within.peer_signed))
+    (ended l.signed.own l.own k.own r.lists.own_offered.few))
+    (ended l.current.peer l.received k.peer r.lists.peer_offered.few)
+
+-- ---- ids
+
+has_it : (n : ℕ) (a : Option Add) → HasId n a → has_id n a ≡ true
+has_it n None h = refl
+has_it n (Some a) h = eq-eqb a.id n h
+
+numbered : (n : ℕ) (us : List Update) → AreNumbered n us → are_numbered n us ≡ true
+numbered n [] h = refl
+numbered n (u ∷ us) h = and_from _ _ (has_it n (offered u) h.0) (numbered (number_after n (offered u)) us h.1)
+
+ids_so : (o : Opening) (x y : Role) (l : Log) → IsReadable l → ids_fit y (updates_of o x l) ≡ true
+unfolding updates_of
+ids_so o Funder Funder l r = and_from _ _ refl (numbered 0 l.own r.lists.own_offered.ids)
+ids_so o Funder Fundee l r = and_from _ _ refl (numbered 0 l.received r.lists.peer_offered.ids)
+ids_so o Fundee Funder l r = and_from _ _ refl (numbered 0 l.received r.lists.peer_offered.ids)
+ids_so o Fundee Fundee l r = and_from _ _ refl (numbered 0 l.own r.lists.own_offered.ids)
+
+-- ---- sums
+
+funds_so : (o : Opening) → HasFunds o → funds_in (base_of o) ≡ 1000 * o.satoshis
+funds_so o h = let push = h.push in omega (arith, push)
+
+pub fit_so : (o : Opening) (x : Role) (l : Log) → HasFunds o → IsReadable l
+    → updates_fit x o.satoshis (updates_of o x l) ≡ true
+unfolding updates_of
+fit_so o x l h r =
+    and_from _ _ (and_from _ _ (and_from _ _ (counts_so o x l r) (ids_so o x Funder l r)) (ids_so o x Fundee l r))
+    (eq-eqb (funds_in (base_of o)) (1000 * o.satoshis) (funds_so o h))
