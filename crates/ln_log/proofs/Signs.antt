@@ -11,6 +11,7 @@ use Rattle.ln_keys.specs.Role.{other_role}
 use Rattle.ln_log.specs.declared.opening.Opening.{Opening}
 use Rattle.ln_log.specs.declared.log.Pair.{Pair}
 use Rattle.ln_log.specs.declared.log.Pair.TheVariants as pair
+use Rattle.ln_log.specs.declared.log.Side.{Side}
 use Rattle.ln_log.specs.declared.log.Side.TheVariants as side
 use Rattle.ln_log.specs.declared.standing.Standing.{Standing}
 use Rattle.ln_log.specs.declared.update.Update.{Update}
@@ -19,7 +20,7 @@ use Rattle.ln_log.specs.Updates.{as_sent, all_sent}
 use Rattle.ln_log.specs.View.{view_of, Pays, IsFunded}
 use Rattle.ln_log.specs.Machine.{Covered, MaySign, to_sign}
 use Rattle.ln_log.specs.Log.{Counts, Log, covered, sent_pair, party_of, IsWithin, IsKept, BothPay, after_sign}
-use Rattle.ln_log.specs.Log.{same_counts, sign_fault, counts_of, view_for}
+use Rattle.ln_log.specs.Log.{same_counts, sign_fault, counts_of, view_for, updates_of, count_of}
 use Rattle.ln_log.proofs.Sums.{pays_all}
 
 both_hold : (a b : Bool) → (a && b) ≡ true → (a ≡ true) × (b ≡ true)
@@ -187,3 +188,8 @@ fundee_funded l s t p q w n k os ps h r en ek eo ep =
 -- a slice that ends within a list
 pub cut_length : (n : ℕ) (us vs : List Update) → n ≤ length us → vs ≡ us → n ≡ length (take n vs)
 cut_length n us vs le e = sym (ap (λ x. length (take n x)) e ∙ length-take-le n us le)
+
+-- of a list that is kept
+pub cut_part : (x : Side) (l m : Log) (n : ℕ) (vs : List Update) → l ≡ m → n ≤ count_of x m → vs ≡ updates_of x l
+    → n ≡ length (take n vs)
+cut_part x l m n vs e le ev = cut_length n (updates_of x l) vs (subst (λ k. n ≤ count_of x k) (sym e) le) ev

@@ -244,6 +244,13 @@ abbrev pub AreWithin : ℕ → List Update → Type 0
 AreWithin most [] = Unit {0}
 AreWithin most (u ∷ us) = HasAmount most (offered u) × AreWithin most us
 
+-- from the first update that is had one by one up to the last
+pub record IsInRange (kept : Log) (c : Counts) : Type 0 where
+  pub own_first : kept.first.own ≤ c.own
+  pub own_last : c.own ≤ count_of side.Own kept
+  pub peer_first : kept.first.peer ≤ c.peer
+  pub peer_last : c.peer ≤ count_of side.Peer kept
+
 -- all counts of a log
 pub record AllCounts : Type 0 where
   pub first : Counts

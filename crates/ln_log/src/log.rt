@@ -115,7 +115,7 @@ impl UpdateLog {
     ghost use Rattle.ln_log.specs.View.{AddsUp};
     ghost use Rattle.ln_log.specs.Limits.{HasNextId, Answers, most_updates, is_at_update_limit};
     ghost use Rattle.ln_log.specs.Log.{StandsFor, IsWithin, IsInOrder, updates_of, count_of, first_of, update_at};
-    ghost use Rattle.ln_log.specs.Log.{unacknowledged, all_counts};
+    ghost use Rattle.ln_log.specs.Log.{unacknowledged, all_counts, IsInRange};
     ghost use Rattle.ln_log.specs.Log.{AreWithin, opened, after_propose, after_receive, after_sign, after_accept};
     ghost use Rattle.ln_log.specs.Log.{after_learn, after_drop, sign_fault, removal_fault, proposal_fault, taken_fault};
     ghost use Rattle.ln_log.specs.Log.{covered, counts_of, live_in, view_for};
@@ -461,6 +461,7 @@ impl UpdateLog {
         ensures ordered { (l : Log) → StandsFor self.now l → IsWithin l }
         ensures lengths_fit { (l : Log) → StandsFor self.now l → length l.own + length l.received + 1 < 2 ^ 64 }
         ensures counted { result ≡ counts_of pair self.now }
+        ensures in_range { IsInRange self.now result }
         ensures in_order { IsInOrder self.now }
         ensures counts_fit { count_of Side.Own self.now + count_of Side.Peer self.now + 1 < 2 ^ 64 }
     {

@@ -1,15 +1,16 @@
 use Rattle.std.proofs.Common.{arith, refl, sym, ◌∙◌}
 use Rattle.ln_log.proofs.Live.{live_by}
-use Rattle.ln_log.proofs.Signs.{cut_length}
+use Rattle.ln_log.specs.declared.log.Side.TheVariants as side
+use Rattle.ln_log.proofs.Signs.{cut_part}
 use Rattle.ln_log.proofs.log.UpdateLog.live_htlcs.Goals as goal
 
 pub slice_bounds-own-end : goal.slice_bounds-own-end
-slice_bounds-own-end c = cut_length _ _ _ (c.counts-counts.ensures.own_within _
-    (sym c.self.view_is)) c.deref.ensures.value
+slice_bounds-own-end c = cut_part side.Own _ _ _ _ c.self.view_is
+    c.counts-counts.ensures.in_range.own_last c.deref.ensures.value
 
 pub slice_bounds-peer-end : goal.slice_bounds-peer-end
-slice_bounds-peer-end c = cut_length _ _ _ (c.counts-counts.ensures.peer_within _
-    (sym c.self.view_is)) c.deref-2.ensures.value
+slice_bounds-peer-end c = cut_part side.Peer _ _ _ _ c.self.view_is
+    c.counts-counts.ensures.in_range.peer_last c.deref-2.ensures.value
 
 pub overflow_sub-result : goal.overflow_sub-result
 overflow_sub-result c =

@@ -1,6 +1,7 @@
 use Rattle.std.proofs.Common.{◌≡◌, IfOk, subst, sym, ◌∙◌}
 use Rattle.ln_keys.specs.declared.view.View.{View}
-use Rattle.ln_log.proofs.Signs.{cut_length, funder_view, fundee_view, funder_funded, fundee_funded}
+use Rattle.ln_log.specs.declared.log.Side.TheVariants as side
+use Rattle.ln_log.proofs.Signs.{cut_part, funder_view, fundee_view, funder_funded, fundee_funded}
 use Rattle.ln_log.proofs.log.UpdateLog.view.Goals as goal
 
 pub plain_view-requires-clause-funded : goal.plain_view-requires-clause-funded
@@ -16,12 +17,12 @@ plain_view-requires-in-Fundee-clause-funded c =
     c.deref.ensures.value c.deref-2.ensures.value
 
 pub slice_bounds-own-end : goal.slice_bounds-own-end
-slice_bounds-own-end c = cut_length _ _ _ (c.counts-counts.ensures.own_within _
-    (sym c.self.view_is)) c.deref.ensures.value
+slice_bounds-own-end c = cut_part side.Own _ _ _ _ c.self.view_is
+    c.counts-counts.ensures.in_range.own_last c.deref.ensures.value
 
 pub slice_bounds-peer-end : goal.slice_bounds-peer-end
-slice_bounds-peer-end c = cut_length _ _ _ (c.counts-counts.ensures.peer_within _
-    (sym c.self.view_is)) c.deref-2.ensures.value
+slice_bounds-peer-end c = cut_part side.Peer _ _ _ _ c.self.view_is
+    c.counts-counts.ensures.in_range.peer_last c.deref-2.ensures.value
 
 pub returns-in-Funder-clause-view : goal.returns-in-Funder-clause-view
 returns-in-Funder-clause-view c = λ l e.
