@@ -32,7 +32,8 @@ use Rattle.ln_channel.specs.Ledger.{Ledger, next_event, entered}
 use Rattle.ln_channel.specs.Outputs.{Handed, nothing}
 use Rattle.ln_channel.specs.Opening.{unless}
 use Rattle.ln_channel.specs.Since.{own_since, peer_since}
-use Rattle.ln_channel.specs.End.{End, with_dance, is_ready, is_closed, has_begun, Turn, quiet, completed, told_of, telling}
+use Rattle.ln_channel.specs.End.{End, with_dance, is_ready, is_closed, has_begun, Turn, quiet, completed, told_of}
+use Rattle.ln_channel.specs.End.{telling}
 use Rattle.ln_channel.specs.End.{settling, fee_sent}
 
 -- ---- channel_ready (BOLT 2, "The channel_ready Message")

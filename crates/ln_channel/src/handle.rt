@@ -80,10 +80,10 @@ impl<K: ChannelKeys + Drop> Unsaved<K> {
     ///
     /// Errors, the first that holds: 62 where the link has halted. Of `Decide` and `Forget`, which are taken without a
     /// connection too, and by a channel that has failed: 40 where the opening isn't signed by both, where another event
-    /// is decided than the first undecided one, or where a mark other than `None` is for none of the peer's adds. Of the
-    /// others: the number by which the channel has failed; 40 where its opening isn't signed by both, or the channel
-    /// isn't ready for the command; 47 where there is no connection, or the peer's `channel_reestablish` hasn't come;
-    /// then those of the command, 41 to 46, 48 and 49. 60 where there is no memory, which halts it.
+    /// is decided than the first undecided one, or where a mark other than `None` isn't for an add of the peer's. Of
+    /// the others: the number by which the channel has failed; 40 where its opening isn't signed by both, or the
+    /// channel isn't ready for the command; 47 where there is no connection, or the peer's `channel_reestablish` hasn't
+    /// come; then those of the command, 41 to 46, 48 and 49. 60 where there is no memory, which halts it.
     pub fn command(&mut self, alloc: Global, command: Command) -> Result<Vec<Output>, Refusal>
         ensures { (l : State K) → StandsFor self.old l
             → Answered (λ v. v.items) (commanded (K.signer l.keys) l command) l result self.new }

@@ -23,7 +23,8 @@ use Rattle.ln_channel.specs.declared.unsaved.Line.TheVariants.{Down, Awaiting, M
 use Rattle.ln_channel.specs.declared.opening.Opened.{Opened}
 use Rattle.ln_channel.specs.Opening.{unless}
 use Rattle.ln_channel.specs.Meeting.{Opens}
-use Rattle.ln_channel.specs.End.{End, Turn, has_begun, owes_shutdown, all_acknowledged, answers_shutdown, settled, sending}
+use Rattle.ln_channel.specs.End.{End, Turn, has_begun, owes_shutdown, all_acknowledged, answers_shutdown, settled}
+use Rattle.ln_channel.specs.End.{sending}
 use Rattle.ln_channel.specs.End.{completed, end_dropped, shutdown_message}
 use Rattle.ln_channel.specs.Taking.{message_row, completed_row}
 use Rattle.ln_channel.specs.Commands.{command_row, confirm_fault, confirmed, ready_message, propose_fault, propose_row}

@@ -31,7 +31,8 @@ use Rattle.ln_channel.specs.declared.config.Config.{Config}
 use Rattle.ln_channel.specs.declared.config.OpenSpec.{OpenSpec}
 use Rattle.ln_channel.specs.declared.opening.Opened.{Opened}
 use Rattle.ln_channel.specs.Opening.{Agreement, unless, opening_of, asked_with, open_message, open_fault, agreement}
-use Rattle.ln_channel.specs.Opening.{accept_message, accept_fault, funder_end, created_message, created_fault, fundee_end}
+use Rattle.ln_channel.specs.Opening.{accept_message, accept_fault, funder_end, created_message, created_fault}
+use Rattle.ln_channel.specs.Opening.{fundee_end}
 use Rattle.ln_channel.specs.Opening.{funding_message}
 use Rattle.ln_channel.specs.Meeting.{Opens}
 use Rattle.ln_channel.proofs.Meeting.{are_ends}
@@ -41,11 +42,13 @@ use Rattle.ln_msgs.specs.declared.messages.opening.FundingCreated.{FundingCreate
 use Rattle.ln_msgs.specs.declared.messages.opening.FundingSigned.{FundingSigned}
 use Rattle.ln_channel.specs.End.{End, Turn, end_of, end_dropped, has_begun, sending, completed, shutdown_message}
 use Rattle.ln_channel.specs.Taking.{answered, range_in, completed_row}
-use Rattle.ln_channel.specs.Commands.{ready_message, confirmed, confirm_fault, propose_fault, proposes, sign_command_fault}
+use Rattle.ln_channel.specs.Commands.{ready_message, confirmed, confirm_fault, propose_fault, proposes}
+use Rattle.ln_channel.specs.Commands.{sign_command_fault}
 use Rattle.ln_channel.specs.Commands.{signs_next, shut_fault, shuts_down, command_row, unready_fault}
 use Rattle.ln_channel.specs.State.{is_down}
 use Rattle.ln_channel.specs.Step.{faulted, line_fault}
-use Rattle.ln_pair.specs.Ends.{Ends, turned, message_at, becomes, answers, delivers, Act, Deliver, Give, Note, Lose, acts}
+use Rattle.ln_pair.specs.Ends.{Ends, turned, message_at, becomes, answers, delivers, Act, Deliver, Give, Note, Lose}
+use Rattle.ln_pair.specs.Ends.{acts}
 use Rattle.ln_pair.specs.Ends.{opened, connects, Step, By, Connect, happens, run}
 use Rattle.ln_pair.specs.Promises.{AreKeys, party}
 use Rattle.ln_pair.specs.Setup.{setup_of, AreSetUp}

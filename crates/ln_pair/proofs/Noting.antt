@@ -1,7 +1,9 @@
 -- What a decision makes of an end's ledger: a first part of the undecided events goes, and is counted as decided; no
 -- more decisions come than these, and no results.
-use Rattle.std.proofs.Common.{◌≡◌, ℕ, suc, ◌+◌, ◌-◌, ◌<◌, ◌≤◌, List, [], ◌∷◌, ◌++◌, length, drop, filter, refl, ap, ◌∙◌, arith}
-use Rattle.std.proofs.Common.{length-append, length-drop, Bool, true, false, cond, ◌&&◌, ◌==◌, nat_lt, Option, Some, None}
+use Rattle.std.proofs.Common.{◌≡◌, ℕ, suc, ◌+◌, ◌-◌, ◌<◌, ◌≤◌, List, [], ◌∷◌, ◌++◌, length, drop, filter, refl, ap, ◌∙◌}
+use Rattle.std.proofs.Common.{arith}
+use Rattle.std.proofs.Common.{length-append, length-drop, Bool, true, false, cond, ◌&&◌, ◌==◌, nat_lt, Option, Some}
+use Rattle.std.proofs.Common.{None}
 use Rattle.std.proofs.Common.{Result, Ok, Err}
 use Rattle.std.proofs.lemmas.Bool.{ltb-true}
 use Rattle.ln_msgs.specs.declared.refusals.refusal.Refusal.{Refusal}
@@ -106,7 +108,9 @@ noted (command.Decide event m) e =
     let htlc = first_htlc e.dance.log l.undecided in
     ledger_so l (ledgered (command.Decide event m) e)
     (decide_behind (event == l.decided) (nat_lt event most_decided) (nat_lt 0 (length l.undecided)) m htlc l refl)
-noted (command.Forget id) e = all_left e.ledger (filter (is_not_of id) e.ledger.results) (no_more (is_not_of id) e.ledger.results)
+noted (command.Forget id) e =
+    let rs = e.ledger.results in
+    all_left e.ledger (filter (is_not_of id) rs) (no_more (is_not_of id) rs)
 noted (command.Confirm id) e = same e.ledger
 noted (command.Add amount hash expiry onion origin) e = same e.ledger
 noted (command.Fulfil id preimage) e = same e.ledger

@@ -15,7 +15,8 @@ use Rattle.ln_channel.specs.declared.config.OpenSpec.{OpenSpec}
 use Rattle.ln_channel.specs.declared.opening.Opened.{Opened}
 use Rattle.ln_channel.specs.declared.opening.Terms.{Terms}
 use Rattle.ln_channel.specs.Opening.{Agreement, unless, opening_of, opened_by, open_message, open_fault, agreement}
-use Rattle.ln_channel.specs.Opening.{accept_message, accept_fault, funder_end, created_message, created_fault, fundee_end}
+use Rattle.ln_channel.specs.Opening.{accept_message, accept_fault, funder_end, created_message, created_fault}
+use Rattle.ln_channel.specs.Opening.{fundee_end}
 use Rattle.ln_channel.specs.Meeting.{Opens}
 use Rattle.ln_channel.specs.End.{End, end_of}
 use Rattle.ln_channel.proofs.Meeting.{are_ends}

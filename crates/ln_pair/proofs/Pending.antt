@@ -324,7 +324,8 @@ pends_both x m n es fs first then =
     record {
       gone = first.gone + then.gone;
       within = omega (arith, some, more, count, all, parts);
-      entries = then.entries ∙ ap (drop then.gone) left ∙ drop_both first.gone then.gone (first.gone + then.gone) ((ps ++ es) ++ fs) refl
+      entries = then.entries ∙ ap (drop then.gone) left
+          ∙ drop_both first.gone then.gone (first.gone + then.gone) ((ps ++ es) ++ fs) refl
           ∙ ap (drop (first.gone + then.gone)) whole;
       named = then.named;
       decided = omega (arith, decided, later);

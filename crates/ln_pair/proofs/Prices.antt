@@ -34,7 +34,8 @@ use Rattle.ln_channel.specs.Taking.{answering, answered, answered_end, range_in,
 use Rattle.ln_channel.specs.Commands.{command_row, shuts_down, shut_fault, unready_fault}
 use Rattle.ln_channel.specs.Resume.{resumed, sent_again}
 use Rattle.ln_pair.specs.Ends.{Ends, turned, message_at, met_again, messages_in, arrive, becomes, answers}
-use Rattle.ln_pair.specs.Ends.{delivers, Act, Deliver, Give, Note, Lose, acts, connects, Step, By, Connect, happens, run}
+use Rattle.ln_pair.specs.Ends.{delivers, Act, Deliver, Give, Note, Lose, acts, connects, Step, By, Connect, happens}
+use Rattle.ln_pair.specs.Ends.{run}
 use Rattle.ln_pair.specs.Ends.{opened}
 use Rattle.ln_pair.specs.Promises.{is_closing_signed}
 use Rattle.ln_pair.proofs.Sides.{Notice, Update, Sign, Revoke, Ready, Shutdown, Close, Again, closes_of, owed}

@@ -21,9 +21,11 @@ use Rattle.ln_channel.specs.declared.command.Command.TheVariants as command
 use Rattle.ln_channel.specs.declared.output.Output.TheVariants as output
 use Rattle.ln_channel.specs.Opening.{unless}
 use Rattle.ln_channel.specs.End.{End, Turn, has_begun, sending, completed, settled, answers_shutdown}
-use Rattle.ln_channel.specs.End.{owes_shutdown, due_fee, fee_sent, due_sent, end_dropped, shutdown_sent, shutdown_message}
+use Rattle.ln_channel.specs.End.{owes_shutdown, due_fee, fee_sent, due_sent, end_dropped, shutdown_sent}
+use Rattle.ln_channel.specs.End.{shutdown_message}
 use Rattle.ln_channel.specs.Taking.{completed_row}
-use Rattle.ln_channel.specs.Commands.{ready_message, confirmed, confirm_fault, propose_fault, proposes, sign_command_fault}
+use Rattle.ln_channel.specs.Commands.{ready_message, confirmed, confirm_fault, propose_fault, proposes}
+use Rattle.ln_channel.specs.Commands.{sign_command_fault}
 use Rattle.ln_channel.specs.Commands.{signs_next, shut_fault, shuts_down, command_row, unready_fault}
 use Rattle.ln_msgs.specs.declared.messages.commitments.ChannelReestablish.{ChannelReestablish}
 use Rattle.ln_dance.specs.Resume.{reestablish_message}

@@ -1,6 +1,7 @@
 -- What every turn of an end keeps of its numbers, of its events and of what it knows of the peer.
 use Rattle.std.proofs.Common.{◌≡◌, ℕ, ◌+◌, ◌-◌, ◌<◌, ◌≤◌, ◌^◌, List, [], ◌∷◌, ◌++◌, length, drop, refl, sym, ap, ◌∙◌}
-use Rattle.std.proofs.Common.{subst, arith, length-append, length-drop, Bool, true, false, cond, ◌||◌, Option, Some, None, option_map, Ok}
+use Rattle.std.proofs.Common.{subst, arith, length-append, length-drop, Bool, true, false, cond, ◌||◌, Option, Some}
+use Rattle.std.proofs.Common.{None, option_map, Ok}
 use Rattle.std.specs.List.{cons_option}
 use Rattle.std.proofs.lemmas.List.{length-take}
 use Rattle.ln_msgs.specs.declared.messages.closing.ClosingSigned.{ClosingSigned}
@@ -289,7 +290,8 @@ noted_steady x l b s =
       first_own = s.first_own;
       first_peer = s.first_peer;
       undecided = subst (All (IsHeld x.dance.log.current.own x.dance.log.acknowledged.peer)) (sym b.undecided)
-          (all-drop (IsHeld x.dance.log.current.own x.dance.log.acknowledged.peer) b.gone x.ledger.undecided s.undecided);
+          (all-drop (IsHeld x.dance.log.current.own x.dance.log.acknowledged.peer) b.gone x.ledger.undecided
+          s.undecided);
       events = omega (arith, within, more, before, fewer);
       decisions = omega (arith, more, made, had);
       results = omega (arith, kept, come);

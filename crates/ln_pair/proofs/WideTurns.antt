@@ -24,7 +24,8 @@ use Rattle.ln_log.specs.declared.update.Fail.{Fail}
 use Rattle.ln_log.specs.declared.update.Update.{Update as Change}
 use Rattle.ln_log.specs.declared.update.Update.TheVariants as update
 use Rattle.ln_log.specs.Limits.{first_fault, most_updates, is_at_update_limit, update_fault as rule_fault}
-use Rattle.ln_log.specs.Log.{Log, between, unacknowledged, taken_fault, peer_limit, removal_fault, length_fault, proposal_fault}
+use Rattle.ln_log.specs.Log.{Log, between, unacknowledged, taken_fault, peer_limit, removal_fault, length_fault}
+use Rattle.ln_log.specs.Log.{proposal_fault}
 use Rattle.ln_log.specs.Updates.{is_add, is_some, next_id, removed, add_with}
 use Rattle.ln_log.proofs.Grows.{may_propose, may_take}
 use Rattle.ln_dance.specs.declared.dance.Later.{Later}
@@ -44,7 +45,8 @@ use Rattle.ln_channel.specs.declared.command.Command.TheVariants as command
 use Rattle.ln_channel.specs.declared.output.Output.TheVariants as output
 use Rattle.ln_channel.specs.Opening.{unless}
 use Rattle.ln_channel.specs.Ledger.{origin_of, settlement_from, settlement_by, settlements}
-use Rattle.ln_channel.specs.End.{End, Turn, quiet, sending, completed, settled, answers_shutdown, owes_shutdown, due_sent}
+use Rattle.ln_channel.specs.End.{End, Turn, quiet, sending, completed, settled, answers_shutdown, owes_shutdown}
+use Rattle.ln_channel.specs.End.{due_sent}
 use Rattle.ln_channel.specs.End.{due_fee, fee_sent, shutdown_message, shutdown_sent, has_begun, is_closed}
 use Rattle.ln_channel.specs.End.{all_acknowledged}
 use Rattle.ln_channel.specs.Taking.{takes, update_fault, update_row, early_fault, signature_fault, accepting, accepts}

@@ -562,8 +562,8 @@ decision_is_lawful = made_is_lawful _ _ _ (also n8 stored_mark_is_lawful) (λ y.
 
 settlement_is_lawful : IsLawful it.settlement
 unfolding it.settlement
-settlement_is_lawful = made_is_lawful _ _ _ (also n8 (also (also (fixed_is_lawful 32) n8) (only_is_lawful _ _ update_is_lawful)))
-    (λ y. refl) (λ x. refl)
+settlement_is_lawful = made_is_lawful _ _ _
+    (also n8 (also (also (fixed_is_lawful 32) n8) (only_is_lawful _ _ update_is_lawful))) (λ y. refl) (λ x. refl)
 
 pub forwards_are_lawful : IsLawful it.forwards
 unfolding it.forwards

@@ -25,6 +25,8 @@ mod hostile;
 #[cfg(test)]
 mod keys;
 #[cfg(test)]
+mod ledger;
+#[cfg(test)]
 mod link;
 #[cfg(test)]
 mod loading;

@@ -363,7 +363,7 @@ fn answered(
 }
 
 /// An error for this channel.
-fn error(alloc: Global, channel_id: [u8; 32]) -> Message {
+pub fn error(alloc: Global, channel_id: [u8; 32]) -> Message {
     Message::Error(Error {
         channel_id,
         bytes: Bytes::empty(alloc),
@@ -475,7 +475,7 @@ fn moves(rt: HostRuntime) -> Result<(), Refusal> {
                 (Confirm, 0),
                 (Confirm, 40),
                 (Decide, 40),
-                (Forget, 40),
+                (Forget, 0),
                 (Offer, 0),
                 (Pay, 48),
                 (Out, 0),
@@ -505,6 +505,7 @@ fn moves(rt: HostRuntime) -> Result<(), Refusal> {
                 (Take(8), 22),
                 (Hear(9), 22),
                 (Pay, 22),
+                (Decide, 0),
                 (Decide, 40),
             ],
             &[
@@ -523,7 +524,7 @@ fn moves(rt: HostRuntime) -> Result<(), Refusal> {
                 (Hear(9), 37),
                 (Take(8), 37),
                 (Pay, 37),
-                (Forget, 40),
+                (Forget, 0),
             ],
             &[36, 36],
         ),

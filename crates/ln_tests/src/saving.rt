@@ -72,7 +72,7 @@ fn take<S: RecordStore + Drop>(
 }
 
 /// What a side answers to all that it is sent.
-fn taken<S: RecordStore + Drop>(
+pub fn taken<S: RecordStore + Drop>(
     alloc: Global,
     outputs: Vec<Output>,
     side: &mut Side<S>,

@@ -78,7 +78,7 @@ use Rattle.ln_world.specs.Records.{HaveSecrets, IsAct}
 use Rattle.ln_world.proofs.Mirror.{link_of, without_warnings, IsInbox, Mirrors, flipped, plain}
 use Rattle.ln_world.proofs.Dropped.{are_dropped}
 use Rattle.ln_world.proofs.Moves.{Goes, out_of, handled_so, passed_so, delivered, given, fell, restarted_so, met}
-use Rattle.ln_world.proofs.Moves.{is_up, obeyed_so, noted}
+use Rattle.ln_world.proofs.Moves.{is_up, noted}
 use Rattle.ln_world.proofs.Opening.{IsOpening}
 
 -- ---- the pair's steps
@@ -307,21 +307,21 @@ module _ {K : Type 0} (signer : K → Signer) where
       → Goes signer id kx ky side (of_pair a) (out_of signer id side a p.x) (acts signer id a p) q
   acts_so id side act.Deliver kx ky p q h f = delivered signer id kx ky side p q h f
   acts_so id side (act.Send (command.Confirm i)) kx ky p q h f =
-      inr (given signer id kx ky side (command.Confirm i) p q (obeyed_so (signer kx) kx id q.x_line (command.Confirm i) q.x) h)
+      inr (given signer id kx ky side (command.Confirm i) p q refl h)
   acts_so id side (act.Send (command.Add amount hash expiry onion origin)) kx ky p q h f =
-      inr (given signer id kx ky side (command.Add amount hash expiry onion origin) p q (obeyed_so (signer kx) kx id q.x_line (command.Add amount hash expiry onion origin) q.x) h)
+      inr (given signer id kx ky side (command.Add amount hash expiry onion origin) p q refl h)
   acts_so id side (act.Send (command.Fulfil i preimage)) kx ky p q h f =
-      inr (given signer id kx ky side (command.Fulfil i preimage) p q (obeyed_so (signer kx) kx id q.x_line (command.Fulfil i preimage) q.x) h)
+      inr (given signer id kx ky side (command.Fulfil i preimage) p q refl h)
   acts_so id side (act.Send (command.Fail i reason)) kx ky p q h f =
-      inr (given signer id kx ky side (command.Fail i reason) p q (obeyed_so (signer kx) kx id q.x_line (command.Fail i reason) q.x) h)
+      inr (given signer id kx ky side (command.Fail i reason) p q refl h)
   acts_so id side (act.Send (command.Malformed i sha code)) kx ky p q h f =
-      inr (given signer id kx ky side (command.Malformed i sha code) p q (obeyed_so (signer kx) kx id q.x_line (command.Malformed i sha code) q.x) h)
+      inr (given signer id kx ky side (command.Malformed i sha code) p q refl h)
   acts_so id side (act.Send (command.Fee feerate)) kx ky p q h f =
-      inr (given signer id kx ky side (command.Fee feerate) p q (obeyed_so (signer kx) kx id q.x_line (command.Fee feerate) q.x) h)
+      inr (given signer id kx ky side (command.Fee feerate) p q refl h)
   acts_so id side (act.Send command.Sign) kx ky p q h f =
-      inr (given signer id kx ky side command.Sign p q (obeyed_so (signer kx) kx id q.x_line command.Sign q.x) h)
+      inr (given signer id kx ky side command.Sign p q refl h)
   acts_so id side (act.Send (command.Shutdown script)) kx ky p q h f =
-      inr (given signer id kx ky side (command.Shutdown script) p q (obeyed_so (signer kx) kx id q.x_line (command.Shutdown script) q.x) h)
+      inr (given signer id kx ky side (command.Shutdown script) p q refl h)
   acts_so id side (act.Send (command.Decide event mark)) kx ky p q h f =
       inr (noted signer id kx ky side (command.Decide event mark) p q refl refl h)
   acts_so id side (act.Send (command.Forget i)) kx ky p q h f =

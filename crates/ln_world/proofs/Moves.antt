@@ -23,7 +23,8 @@ use Rattle.ln_channel.specs.Ledger.{Ledger}
 use Rattle.ln_channel.specs.Commands.{ledgered, with_ledger, command_row, unready_fault}
 use Rattle.ln_channel.specs.Record.{saved_end}
 use Rattle.ln_channel.specs.State.{State, is_down, refused, drops}
-use Rattle.ln_channel.specs.Step.{Done, handled, commanded, faulted, line_fault, is_passed_over, error_fault, stray_fault}
+use Rattle.ln_channel.specs.Step.{Done, handled, commanded, faulted, line_fault, is_passed_over, error_fault}
+use Rattle.ln_channel.specs.Step.{stray_fault}
 use Rattle.ln_channel.specs.Step.{message_fault, saved_at, at_hand, obeyed}
 use Rattle.ln_channel.specs.Step as step
 use Rattle.ln_log.specs.Limits.{first_fault}
@@ -125,7 +126,7 @@ module _ {K : Type 0} (keys : Signer) (k : K) (id : List ℕ) where
   turned_faulted l None r = refl
   turned_faulted l (Some f) r = refl
 
-  pub obeyed_so : (l : Line) (c : Command) (e : End)
+  obeyed_so : (l : Line) (c : Command) (e : End)
       → obeyed keys l c (stage.Saved e) ≡ step.turned l (command_at keys l c e)
   obeyed_so l c e =
       ap (faulted (unready_fault c e)) (turned_faulted l (line_fault l) (command_row keys c e))
@@ -470,14 +471,15 @@ module _ {K : Type 0} (signer : K → Signer) (id : List ℕ) (kx ky : K) where
 
   -- a command that is obeyed by its row
   pub given : (side : Role) (c : Command) (p : Both K) (q : Ends)
-      → commanded (signer kx) (link_of kx q.x_line q.x) c ≡ step.turned q.x_line (command_at (signer kx) q.x_line c q.x)
+      → commanded (signer kx) (link_of kx q.x_line q.x) c ≡ obeyed (signer kx) q.x_line c (stage.Saved q.x)
       → Mirrors id kx ky p q
       → Mirrors id kx ky (acts signer id (act.Send c) p) (pair.acts (signer kx) (Give c) q)
       × Says (act_sends signer id (act.Send c) p.x) q (pair.acts (signer kx) (Give c) q)
       × Tells (out_of signer id side (act.Send c) p.x) (pair_moves.moves_of_act (signer kx) side (Give c) q)
       (told_in (signer kx) (Give c) q)
-  given side c p q is h =
+  given side c p q plain h =
       let at_row = command_at (signer kx) q.x_line c q.x in
+      let is = plain ∙ obeyed_so (signer kx) kx id q.x_line c q.x in
       let went = given_by c at_row p q refl is h in (
         went.0,
         went.1,
@@ -513,8 +515,9 @@ module _ {K : Type 0} (signer : K → Signer) (id : List ℕ) (kx ky : K) where
           y = refl;
         },
         record {
-          moves = sym (ap (λ (k : State K). moves_of_command side c k.stage (commanded (signer p.x.link.keys) p.x.link c))
-              h.x_link ∙ ap (moves_of_command side c (stage.Saved q.x)) row ∙ none);
+          moves = sym (ap (λ (k : State K). moves_of_command side c k.stage
+              (commanded (signer p.x.link.keys) p.x.link c)) h.x_link
+              ∙ ap (moves_of_command side c (stage.Saved q.x)) row ∙ none);
           told = sym (ap outputs_of row);
         },
       )
@@ -531,8 +534,9 @@ module _ {K : Type 0} (signer : K → Signer) (id : List ℕ) (kx ky : K) where
           y = refl;
         },
         record {
-          moves = sym (ap (λ (k : State K). moves_of_command side c k.stage (commanded (signer p.x.link.keys) p.x.link c))
-              h.x_link ∙ ap (moves_of_command side c (stage.Saved q.x)) row);
+          moves = sym (ap (λ (k : State K). moves_of_command side c k.stage
+              (commanded (signer p.x.link.keys) p.x.link c)) h.x_link
+              ∙ ap (moves_of_command side c (stage.Saved q.x)) row);
           told = sym (ap outputs_of row);
         },
       )

@@ -44,7 +44,8 @@ use Rattle.ln_channel.specs.Opening.{unless}
 use Rattle.ln_channel.specs.Outputs.{numbered, events_of}
 use Rattle.ln_channel.specs.Ledger.{next_event}
 use Rattle.ln_channel.specs.Since.{own_since, peer_since}
-use Rattle.ln_channel.specs.End.{End, Turn, completed, quiet, sending, owes_shutdown, answers_shutdown, due_fee, fee_sent}
+use Rattle.ln_channel.specs.End.{End, Turn, completed, quiet, sending, owes_shutdown, answers_shutdown, due_fee}
+use Rattle.ln_channel.specs.End.{fee_sent}
 use Rattle.ln_channel.specs.End.{has_begun, is_closed, shutdown_message, shutdown_sent, due_sent}
 use Rattle.ln_channel.specs.Taking.{message_row, takes_ready, takes, update_row, update_fault, signature_fault}
 use Rattle.ln_channel.specs.Taking.{accepting, accepts, learning, revokes, shutdown_at}

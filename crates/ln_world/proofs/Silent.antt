@@ -19,7 +19,8 @@ use Rattle.ln_channel.specs.declared.unsaved.Line.{Line}
 use Rattle.ln_channel.specs.declared.unsaved.Line.TheVariants.{Down, Awaiting, Met}
 use Rattle.ln_channel.specs.Opening.{unless}
 use Rattle.ln_channel.specs.End.{End, Turn, is_ready, is_closed, all_acknowledged}
-use Rattle.ln_channel.specs.Commands.{command_row, confirm_fault, shut_by_either, closed_fault, own_fault, propose_fault}
+use Rattle.ln_channel.specs.Commands.{command_row, confirm_fault, shut_by_either, closed_fault, own_fault}
+use Rattle.ln_channel.specs.Commands.{propose_fault}
 use Rattle.ln_channel.specs.Commands.{propose_row, sign_command_fault, script_fault, shut_fault, unready_fault}
 use Rattle.ln_channel.specs.Step.{faulted, line_fault}
 use Rattle.ln_pair.specs.Ends.{command_at}
