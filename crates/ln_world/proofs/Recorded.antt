@@ -25,7 +25,7 @@ use Rattle.ln_world.specs.declared.settings.Setting.{Setting}
 use Rattle.ln_world.specs.Settings.{defaults, channel_id_of, may_bring, CanBring}
 use Rattle.ln_world.specs.Both.{Both, Move, By, Falls, Restarts, Meet, moves}
 use Rattle.ln_world.specs.Both.{run as run_both}
-use Rattle.ln_world.specs.Channel.{Channel, is_node, by, side_of, moved, may_meet, opened_by, act_moves}
+use Rattle.ln_world.specs.Channel.{Channel, is_node, by, side_of, actor, moved, may_meet, opened_by, act_moves}
 use Rattle.ln_world.specs.Channel.{fall_moves, restart_moves, up_moves}
 use Rattle.ln_world.specs.World.{World, settings_of, channel, may_open, joined, happens, empty, run}
 use Rattle.ln_world.specs.Failing.{LinkLacks, SideLacks, SomeLacks, MayFail, SomeMayFail}
@@ -158,7 +158,7 @@ module _ {K : Type 0} (k : Ghosts K) where
   happens_so (step.Do e a) w f is h = (
     h.limits,
     moved_so k IsFitChannel e.channel (act_moves e.node a) (kept_by (act_moves e.node a) (acts_possible k e.node a)
-        (λ c. bring_by (side_of e.node c) (λ side. By side a) (λ side. is))) w.channels h.channels,
+        (λ c. bring_by (actor e.node a c) (λ side. By side a) (λ side. is))) w.channels h.channels,
   )
   happens_so (step.Down e) w f is h = (
     h.limits,

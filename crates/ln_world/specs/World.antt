@@ -17,7 +17,7 @@ use Rattle.ln_world.specs.declared.line.EndLine.{EndLine}
 use Rattle.ln_world.specs.Settings.{defaults, may_bring}
 use Rattle.ln_world.specs.Both.{Move}
 use Rattle.ln_world.specs.Channel.{Channel, is_node, moved, opened_by, act_moves, fall_moves, restart_moves, up_moves}
-use Rattle.ln_world.specs.Channel.{end_of, side_of, acted_lines, fallen_lines, met_lines}
+use Rattle.ln_world.specs.Channel.{end_of, side_of, actor, acted_lines, fallen_lines, met_lines}
 
 pub record World (K : Type 0) : Type 0 where
   pub settings : List Setting  -- a node that isn't among them has the defaults
@@ -116,7 +116,7 @@ step_lines k (step.Fees n fees) w = []
 step_lines k (step.Limits n limits) w = []
 step_lines k (step.Open o) w = opening_lines o w
 step_lines k (step.Do e a) w =
-    if_there (λ c. acted_lines k.signer a c (side_of e.node c)) (channel e.channel w.channels)
+    if_there (λ c. acted_lines k.signer a c (actor e.node a c)) (channel e.channel w.channels)
 step_lines k (step.Down e) w = if_there (λ c. fallen_lines (side_of e.node c)) (channel e.channel w.channels)
 step_lines k (step.Restart n) w = []
 step_lines k (step.Up n) w = if_there (met_lines k.signer) (channel n w.channels)

@@ -9,7 +9,7 @@ use crate::both::{Place, act, meet};
 use crate::line::{EndLine, Line};
 use crate::settings::{Settings, fit_config, fit_spec};
 use crate::step::{Act, End, Node, Open};
-use ln_channel::Unsaved;
+use ln_channel::{Command, Unsaved};
 use ln_keys::{ChannelKeys, Role};
 use ln_msgs::Refusal;
 use std::alloc::Global;
@@ -43,7 +43,7 @@ impl<K: ChannelKeys + Copy> Channel<K> {
     ghost use Rattle.ln_keys.specs.declared.role.Role.TheVariants.{Funder, Fundee};
     ghost use Rattle.ln_world.specs.Settings.{channel_id_of};
     ghost use Rattle.ln_world.specs.Both.{By, Falls, Restarts, Meet, act_lines, greet_lines, greeting};
-    ghost use Rattle.ln_world.specs.Channel.{side_of, moved, act_moves, fall_moves, up_moves, acted_lines};
+    ghost use Rattle.ln_world.specs.Channel.{side_of, actor, moved, act_moves, fall_moves, up_moves, acted_lines};
     ghost use Rattle.ln_world.specs.Channel.{restart_moves, fallen_lines, place_of, end_of, opening_moves, met_lines};
     ghost use Rattle.ln_channel.specs.Standing.{standing};
     ghost use Rattle.ln_world.specs.World.{lines_of_ends};
@@ -126,7 +126,18 @@ impl<K: ChannelKeys + Copy> Channel<K> {
         }
     }
 
-    /// The node's end acts, where it has one. 60 where there is no memory.
+    // Which of its ends acts. A decision is no act of a step.
+    fn actor(&self, node: Node, what: &Act) -> Option<Role>
+        ensures { result ≡ actor node what.now self.now }
+    {
+        match what {
+            Act::Send(Command::Decide { .. }) => None,
+            Act::Send(Command::Forget(_)) => None,
+            _ => self.side_of(node),
+        }
+    }
+
+    /// The node's end acts, where it has one; nobody does where a decision is sent. 60 where there is no memory.
     #[tactic(auto, unfolding(crate::specs::Channel::acted_lines))]
     pub fn act(
         &mut self,
@@ -137,11 +148,11 @@ impl<K: ChannelKeys + Copy> Channel<K> {
     ) -> Result<(), Refusal>
         ensures moved { OnOk result (self.new ≡ moved K.signer (act_moves node what) self.old) }
         ensures told { OnOk result (lines.new.items
-            ≡ lines.old.items ++ acted_lines K.signer what self.old (side_of node self.old)) }
+            ≡ lines.old.items ++ acted_lines K.signer what self.old (actor node what self.old)) }
         ensures number { self.new.number ≡ self.old.number }
         ensures fails_for_memory_alone { IfErr result (λ e. e ≡ Refusal.Memory) }
     {
-        match self.side_of(node) {
+        match self.actor(node, &what) {
             None => {
                 drop(what);
                 lines.push(Line::Idle)?;

@@ -2,7 +2,7 @@
 
 ghost use Rattle.std.specs.Prelude.{◌≡◌, ◌++◌, ◌==◌, position, is_none, IfErr, OnOk};
 ghost use Rattle.ln_msgs.specs.declared.refusals.refusal.Refusal.TheVariants as refusal;
-ghost use Rattle.ln_world.specs.Channel.{side_of, acted_lines, fallen_lines, met_lines};
+ghost use Rattle.ln_world.specs.Channel.{side_of, actor, acted_lines, fallen_lines, met_lines};
 ghost use Rattle.ln_world.specs.Channel.{act_moves, fall_moves, restart_moves, up_moves};
 ghost use Rattle.ln_world.specs.World.{channel, moved_at, all_moved, if_there, lines_of_ends, AreOnce};
 ghost use Rattle.ln_world.specs.Failing.{ByRecord, SomeLacks};
@@ -59,7 +59,7 @@ fn act_at<K: ChannelKeys + Copy>(
     requires { AreOnce channels.old }
     ensures moved { OnOk result (channels.new ≡ moved_at K.signer end.channel (act_moves end.node what) channels.old) }
     ensures told { OnOk result (lines.new.items ≡ lines.old.items
-        ++ if_there (λ c. acted_lines K.signer what c (side_of end.node c)) (channel end.channel channels.old)) }
+        ++ if_there (λ c. acted_lines K.signer what c (actor end.node what c)) (channel end.channel channels.old)) }
     ensures once { AreOnce channels.new }
     ensures fails_for_memory_alone { IfErr result (λ e. e ≡ refusal.Memory) }
 {
@@ -156,7 +156,7 @@ impl<K: ChannelKeys + Copy> Model for Channels<K> {
 impl<K: ChannelKeys + Copy> Channels<K> {
     ghost use Rattle.std.specs.Prelude.{◌≡◌, ◌++◌, ◌∷◌, [], is_none, None, OnOk, IfErr};
     ghost use Rattle.ln_world.specs.Settings.{CanBring};
-    ghost use Rattle.ln_world.specs.Channel.{side_of, acted_lines, fallen_lines, met_lines, opened_by};
+    ghost use Rattle.ln_world.specs.Channel.{side_of, actor, acted_lines, fallen_lines, met_lines, opened_by};
     ghost use Rattle.ln_world.specs.Channel.{act_moves, fall_moves, restart_moves, up_moves};
     ghost use Rattle.ln_world.specs.World.{channel, moved_at, all_moved, if_there, lines_of_ends};
     ghost use Rattle.ln_world.specs.Failing.{ByRecord, SomeLacks};
@@ -206,7 +206,7 @@ impl<K: ChannelKeys + Copy> Channels<K> {
     ) -> Result<(), Refusal>
         ensures moved { OnOk result (self.new ≡ moved_at K.signer end.channel (act_moves end.node what) self.old) }
         ensures told { OnOk result (lines.new.items ≡ lines.old.items
-            ++ if_there (λ c. acted_lines K.signer what c (side_of end.node c)) (channel end.channel self.old)) }
+            ++ if_there (λ c. acted_lines K.signer what c (actor end.node what c)) (channel end.channel self.old)) }
         ensures fails_for_memory_alone { IfErr result (λ e. e ≡ Refusal.Memory) }
     {
         act_at(alloc, &mut self.items, end, what, lines)
