@@ -278,7 +278,7 @@ updates_sound e o r =
 
 items_sound : (e : End) → Opens e → IsCounted e → IsWide e → IsReadable (after_drop e.dance.log)
     → is_sound (items_of None e) ≡ true
-unfolding items_of header_of agreement_of progress_of
+unfolding items_of header_of agreement_of progress_of updates_of
 items_sound e o k w r =
     let m = e.terms.open_channel in
     let a = e.terms.accept_channel in
