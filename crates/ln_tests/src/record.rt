@@ -183,7 +183,7 @@ const CHANGED: [[Change; 3]; 3] = [
     ],
 ];
 
-const UNREADABLE: [Change; 50] = [
+const UNREADABLE: [Change; 51] = [
     (1, "02"), // role
     (2, "37"), // flags
     (3, "0024"), // failure
@@ -233,6 +233,7 @@ const UNREADABLE: [Change; 50] = [
     (72, "030000000000000000"), // close event
     (75, "00"), // forward tag
     (86, "04"), // result tag
+    (90, "03"), // closed
     (91, "00"), // end
 ];
 
