@@ -16,8 +16,8 @@ returns-in-Ok-false-clause-fails c =
     inr (
       refl,
       inr (inr (
-          c.in_ok-items.ensures.log_can_be_loaded,
-          ap is_readable (sym c.in_ok-items.ensures.items)
-              ∙ sym c.in-Ok-false.ensures.tells_it ∙ c.in-Ok-false.field-0-test,
-        )),
+        c.in_ok-items.ensures.log_can_be_loaded,
+        ap is_readable (sym c.in_ok-items.ensures.items)
+            ∙ sym c.in-Ok-false.ensures.tells_it ∙ c.in-Ok-false.field-0-test,
+      )),
     )
