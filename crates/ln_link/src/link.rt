@@ -126,8 +126,8 @@ impl<K: ChannelKeys + Drop> Link<K> {
     /// updates.
     ///
     /// Errors: those of `decode_record` (70, 71); 70 where the items can't be loaded: an update is in the base, no log
-    /// has these updates and counts (`UpdateLog::can_be_loaded`), the closing fees aren't in order, or the peer's script
-    /// isn't there exactly where the peer has shut down. 60 where there is no memory.
+    /// has these updates and counts (`UpdateLog::can_be_loaded`), the closing fees aren't in order, or the peer's
+    /// script isn't there exactly where the peer has shut down. 60 where there is no memory.
     pub fn from_record(alloc: Global, keys: K, bytes: &[u8]) -> Result<Link<K>, Refusal>
         // The link, or the first fault.
         ensures loads_as_defined { Loads keys (record_at bytes.now) result }
