@@ -5,12 +5,18 @@ use Rattle.ln_msgs.specs.declared.refusals.refusal.Refusal.{Refusal}
 use Rattle.ln_log.specs.Limits.{Answers}
 use Rattle.ln_dance.specs.Dance.{Dancer, AnswersWithin}
 use Rattle.ln_msgs.specs.declared.refusals.refusal.Refusal.TheVariants as refusal
-use Rattle.ln_channel.specs.Opening.{AnswersFault}
+use Rattle.ln_channel.specs.Opening.{AnswersFault, AnswersSignature}
 use Rattle.ln_channel.specs.End.{End, IsSound, with_dance}
 
 pub on_ok : {A : Type 0} (r : Result A Refusal) {P Q : Type 0} → (P → Q) → OnOk r P → OnOk r Q
 on_ok (Ok x) f p = f p
 on_ok (Err x) f p = tt
+
+-- the channel of a dance that moves as stated, or not at all
+pub same_channel : {A : Type 0} (r : Result A Refusal) (old new moved : Dancer) → OnOk r (new ≡ moved)
+    → OnErr r (new ≡ old) → moved.channel ≡ old.channel → new.channel ≡ old.channel
+same_channel (Ok x) old new moved ok err s = ap (λ (d : Dancer). d.channel) ok ∙ s
+same_channel (Err x) old new moved ok err s = ap (λ (d : Dancer). d.channel) err
 
 -- one that keeps its role and opening
 pub sound : {A : Type 0} (r : Result A Refusal) (e : End) (new moved : Dancer) → OnOk r (new ≡ moved)
@@ -45,11 +51,11 @@ within_if false other fault r e a = absurd (cc)
 
 -- where a view is made before a signature is looked at
 pub viewed : {A : Type 0} (last right : Bool) (r : Result A Refusal) → AnswersWithin (unless_last last right) r
-    → (IsErrOf r refusal.OutOfPlace ↔ IsTrue last) → AnswersFault (unless_last last right) r
+    → (IsErrOf r refusal.OutOfPlace ↔ IsTrue last) → AnswersSignature (unless_last last right) r
 viewed last right (Ok x) a h = a
 viewed true right (Err e) a h =
     let q : Err e ≡ Err refusal.OutOfPlace = h.1 refl in let p : e ≡ refusal.OutOfPlace = cc in inr (ap Some (sym p))
 viewed false true (Err e) (inl m) h = inl (m, inl refl)
 viewed false true (Err e) (inr n) h = inr n
-viewed false false (Err e) (inl m) h = inl (m, inr (inl refl))
+viewed false false (Err e) (inl m) h = inl (m, inr (inr (refl, refl)))
 viewed false false (Err e) (inr n) h = inr n

@@ -21,7 +21,7 @@ use Rattle.ln_channel.specs.declared.channel.Marks.{Marks}
 use Rattle.ln_channel.specs.declared.output.Output.{Output}
 use Rattle.ln_channel.specs.declared.output.Output.TheVariants as output
 use Rattle.ln_channel.specs.Ledger.{Ledger, no_events, next_event, refs_of, entered, resulted}
-use Rattle.ln_channel.specs.Opening.{Lacks, opening_of}
+use Rattle.ln_channel.specs.Opening.{LacksBy, opening_of}
 use Rattle.ln_channel.specs.Outputs.{Handed, nothing, sends, events_of, numbered}
 
 pub record End : Type 0 where
@@ -92,8 +92,13 @@ abbrev pub sending : Message → End → Turn
 sending m e = record { end = e; handed = sends (m ∷ []) nothing }
 
 -- an end answers what a row says, but for want of memory: where it refuses, it is as it was
+abbrev pub MakesBy : Bool → Result Turn Refusal → Result Handed Refusal → End → End → Type 0
+MakesBy views row answer old new =
+    Leaves (LacksBy views) (λ h. record { end = new; handed = h }) (λ e. new ≡ old) row answer
+
+-- where no view is made for it
 abbrev pub Makes : Result Turn Refusal → Result Handed Refusal → End → End → Type 0
-Makes row answer old new = Leaves Lacks (λ h. record { end = new; handed = h }) (λ e. new ≡ old) row answer
+Makes row answer old new = MakesBy false row answer old new
 
 -- ---- what it comes to hold as irrevocably committed (BOLT 2, "Normal Operation")
 

@@ -10,6 +10,7 @@ pub mod Commands
 pub mod Resume
 pub mod Failing
 pub mod State
+pub mod Pending
 pub mod Parts
 pub mod Record
 pub mod Naming

@@ -93,21 +93,30 @@ abbrev pub unless : {A : Type 0} → Option Refusal → A → Result A Refusal
 unless None x = Ok x
 unless (Some r) x = Err r
 
--- want of memory may stand in place of what isn't refused, and of a wrong signature, as a view is made before it is
--- looked at; else only of itself
-abbrev pub MayLack : Option Refusal → Type 0
-MayLack fault = (fault ≡ None) ⊎ ((fault ≡ Some refusal.SignatureWrong) ⊎ (fault ≡ Some refusal.Memory))
+-- want of memory may stand in place of what isn't refused, and, where a view is made before a signature is looked at,
+-- of a wrong one; else only of itself
+abbrev pub MayLackBy : Bool → Option Refusal → Type 0
+MayLackBy views fault =
+    (fault ≡ None) ⊎ ((fault ≡ Some refusal.Memory) ⊎ ((views ≡ true) × (fault ≡ Some refusal.SignatureWrong)))
 
+abbrev pub LacksBy : Bool → Refusal → Option Refusal → Type 0
+LacksBy views e fault = (e ≡ refusal.Memory) × MayLackBy views fault
+
+-- where no view is made
 abbrev pub Lacks : Refusal → Option Refusal → Type 0
-Lacks e fault = (e ≡ refusal.Memory) × MayLack fault
+Lacks e fault = LacksBy false e fault
 
 -- refused exactly by the fault that there is, but for want of memory
 abbrev pub AnswersFault : {A : Type 0} → Option Refusal → Result A Refusal → Type 0
 AnswersFault fault answer = answers.Refuses Lacks fault answer
 
+-- the same, where the fault may be a wrong signature, and a view is made to look at it
+abbrev pub AnswersSignature : {A : Type 0} → Option Refusal → Result A Refusal → Type 0
+AnswersSignature fault answer = answers.Refuses (LacksBy true) fault answer
+
 -- what a row says is answered, but for want of memory
-abbrev pub Gives : {A : Type 0} → Result A Refusal → Result A Refusal → Type 0
-Gives row answer = answers.Gives Lacks (λ x. x) row answer
+abbrev pub Gives : {A : Type 0} → Bool → Result A Refusal → Result A Refusal → Type 0
+Gives views row answer = answers.Gives (LacksBy views) (λ x. x) row answer
 
 -- ---- signatures over commitment 0, which has no HTLCs
 

@@ -1,6 +1,6 @@
 -- One link, whether it is saved or not: one end of a channel from its opening to its close, with the connection that it
 -- has (BOLT 2).
-use Rattle.std.specs.Prelude.{◌≡◌, Bool, true, false, Option, Some, None, if◌then◌else◌}
+use Rattle.std.specs.Prelude.{◌≡◌, ℕ, List, Bool, true, false, Option, Some, None, if◌then◌else◌}
 use Rattle.ln_msgs.specs.declared.refusals.refusal.Refusal.{Refusal}
 use Rattle.ln_dance.specs.declared.dance.Numbers.{Numbers}
 use Rattle.ln_channel.specs.declared.unsaved.Line.{Line}
@@ -43,6 +43,15 @@ abbrev pub is_saved : Stage → Bool
 is_saved (stage.Saved e) = true
 is_saved s = false
 
+-- the channel of an end that is kept
+abbrev pub kept_channel : Stage → Option (List ℕ)
+kept_channel (stage.Saved e) = Some e.dance.channel
+kept_channel s = None
+
+-- where there was such an end, there still is one, of the same channel
+abbrev pub KeepsChannel : Stage → Stage → Type 0
+KeepsChannel s s' = (channel : List ℕ) → kept_channel s ≡ Some channel → kept_channel s' ≡ Some channel
+
 -- ---- a channel that fails
 
 -- an opening that isn't signed is gone
@@ -77,6 +86,18 @@ drops l = if is_down l.line then l else record l { line = line.Down; stage = cut
 -- it answers nothing any more
 abbrev pub halts : {K : Type 0} → State K → State K
 halts l = record (drops l) { halted = true }
+
+-- what want of memory leaves, whatever was done before
+pub record IsHalted {K : Type 0} (l new : State K) : Type 0 where
+  pub halted : new.halted ≡ true
+  pub line : new.line ≡ line.Down
+  pub keys : new.keys ≡ l.keys
+  pub failure : new.failure ≡ l.failure
+
+-- what of a link stays whatever becomes of its line and its end
+pub record IsSameLink {K : Type 0} (l new : State K) : Type 0 where
+  pub keys : new.keys ≡ l.keys
+  pub failure : new.failure ≡ l.failure
 
 -- ---- what is told of it
 

@@ -1,6 +1,6 @@
 -- What a call makes of a link (BOLT 1 and 2).
-use Rattle.std.specs.Prelude.{◌≡◌, ◌⊎◌, List, [], ◌∷◌, Bool, true, false, not, Option, Some, None, Result, Ok, Err}
-use Rattle.std.specs.Prelude.{if◌then◌else◌}
+use Rattle.std.specs.Prelude.{◌≡◌, ◌⊎◌, List, [], ◌∷◌, Bool, true, false, not, ◌&&◌, Option, Some, None, is_none}
+use Rattle.std.specs.Prelude.{Result, Ok, Err, if◌then◌else◌}
 use Rattle.ln_bytes.specs.Answers.{fault_of, Leaves}
 use Rattle.ln_msgs.specs.declared.messages.message.Message.{Message}
 use Rattle.ln_msgs.specs.declared.messages.message.Message.TheVariants as message
@@ -23,14 +23,14 @@ use Rattle.ln_channel.specs.declared.output.Output.{Output}
 use Rattle.ln_channel.specs.declared.output.Output.TheVariants as output
 use Rattle.ln_channel.specs.Outputs.{Handed, all_of}
 use Rattle.ln_channel.specs.Opening.{unless, open_message, open_taken, accept_taken, created_taken}
-use Rattle.ln_channel.specs.Opening.{first_fault, MayLack, Lacks}
+use Rattle.ln_channel.specs.Opening.{first_fault, LacksBy, Lacks}
 use Rattle.ln_channel.specs.End.{End, Turn, end_of}
-use Rattle.ln_channel.specs.Taking.{taken}
+use Rattle.ln_channel.specs.Taking.{is_viewed, taken}
 use Rattle.ln_channel.specs.Resume.{resume_row}
 use Rattle.ln_channel.specs.Commands.{command_row, note_row, unready_fault}
 use Rattle.ln_channel.specs.Naming.{named, is_meant, is_other}
 use Rattle.ln_channel.specs.Failing.{fails}
-use Rattle.ln_channel.specs.State.{State, is_down, is_met, lost, refused}
+use Rattle.ln_channel.specs.State.{State, is_down, is_met, lost, refused, IsHalted}
 
 -- what a call leaves, and what it hands out
 pub record Done : Type 0 where
@@ -187,26 +187,29 @@ connected keys l =
 
 -- ---- answers
 
+-- a channel that has failed looks at none
+abbrev pub makes_view : {K : Type 0} → State K → Message → Bool
+makes_view l m = is_none l.failure && is_viewed m
+
 -- want of memory halts; else a call answers what is said of it, and leaves the link so, or as it leaves it where it
 -- refuses
-abbrev pub AnsweredBy : {K V : Type 0} → (V → List Output) → Result Done Refusal → State K → (Refusal → State K)
+abbrev pub AnsweredBy : {K V : Type 0} → Bool → (V → List Output) → Result Done Refusal → State K → (Refusal → State K)
     → Result V Refusal → State K → Type 0
-AnsweredBy outs said l after (Ok v) new =
+AnsweredBy views outs said l after (Ok v) new =
     (said ≡ Ok (record { line = new.line; stage = new.stage; outputs = outs v }))
     × (new ≡ record l { line = new.line; stage = new.stage })
-AnsweredBy outs said l after (Err e) new =
-    ((e ≡ refusal.Memory) × (new.halted ≡ true) × MayLack (fault_of said))
-    ⊎ ((said ≡ Err e) × (new ≡ after e))
+AnsweredBy views outs said l after (Err e) new =
+    (LacksBy views e (fault_of said) × IsHalted l new) ⊎ ((said ≡ Err e) × (new ≡ after e))
 
 -- a message: a refusal by which a channel fails is kept
-abbrev pub AnsweredMessage : {K V : Type 0} → (V → List Output) → Result Done Refusal → State K → Result V Refusal
-    → State K → Type 0
-AnsweredMessage outs said l result new = AnsweredBy outs said l (λ e. refused e l) result new
+abbrev pub AnsweredMessage : {K V : Type 0} → (V → List Output) → Result Done Refusal → State K → Message
+    → Result V Refusal → State K → Type 0
+AnsweredMessage outs said l m result new = AnsweredBy (makes_view l m) outs said l (λ e. refused e l) result new
 
 -- a command, or a connection: refused, nothing has changed
 abbrev pub Answered : {K V : Type 0} → (V → List Output) → Result Done Refusal → State K → Result V Refusal
     → State K → Type 0
-Answered outs said l result new = AnsweredBy outs said l (λ e. l) result new
+Answered outs said l result new = AnsweredBy false outs said l (λ e. l) result new
 
 -- ---- the parts of an answer
 
@@ -216,9 +219,10 @@ pub record IsLeft (r : Refusal) (s s' : Stage) : Type 0 where
   pub then_lost : lost s' ≡ lost s
 
 -- a stage and a line, by what is said of them
-abbrev pub Moves : Result Done Refusal → Result Handed Refusal → Line → Line → Stage → Stage → Type 0
-Moves said answer l l' s s' =
-    Leaves Lacks (λ h. record { line = l'; stage = s'; outputs = all_of h }) (λ e. (l' ≡ l) × IsLeft e s s') said answer
+abbrev pub Moves : Bool → Result Done Refusal → Result Handed Refusal → Line → Line → Stage → Stage → Type 0
+Moves views said answer l l' s s' =
+    Leaves (LacksBy views) (λ h. record { line = l'; stage = s'; outputs = all_of h })
+    (λ e. (l' ≡ l) × IsLeft e s s') said answer
 
 -- a link that leaves its line and stage so, or as they were
 abbrev pub MovesBy : {K : Type 0} → Result Done Refusal → Result Handed Refusal → State K → State K → Type 0
@@ -227,21 +231,22 @@ MovesBy said (Ok h) l new =
     × (new ≡ record l { line = new.line; stage = new.stage })
 MovesBy said (Err e) l new = Lacks e (fault_of said) ⊎ ((said ≡ Err e) × (new ≡ l))
 
-abbrev pub Takes : {K : Type 0} → Result Done Refusal → Result Handed Refusal → State K → State K → Type 0
-Takes said (Ok h) l new =
+abbrev pub Takes : {K : Type 0} → Bool → Result Done Refusal → Result Handed Refusal → State K → State K → Type 0
+Takes views said (Ok h) l new =
     (said ≡ Ok (record { line = new.line; stage = new.stage; outputs = all_of h }))
     × (new ≡ record l { line = new.line; stage = new.stage })
-Takes said (Err e) l new =
-    Lacks e (fault_of said) ⊎ ((said ≡ Err e) × (new ≡ record l { stage = new.stage }) × IsLeft e l.stage new.stage)
+Takes views said (Err e) l new =
+    LacksBy views e (fault_of said)
+    ⊎ ((said ≡ Err e) × (new ≡ record l { stage = new.stage }) × IsLeft e l.stage new.stage)
 
 -- an end that isn't replaced, with its line
-abbrev pub MovesEnd : Result Done Refusal → Result Handed Refusal → Line → Line → End → End → Type 0
-MovesEnd said answer l l' e e' =
-    Leaves Lacks (λ h. record { line = l'; stage = stage.Saved e'; outputs = all_of h }) (λ r. (l' ≡ l) × (e' ≡ e)) said
-    answer
+abbrev pub MovesEnd : Bool → Result Done Refusal → Result Handed Refusal → Line → Line → End → End → Type 0
+MovesEnd views said answer l l' e e' =
+    Leaves (LacksBy views) (λ h. record { line = l'; stage = stage.Saved e'; outputs = all_of h })
+    (λ r. (l' ≡ l) × (e' ≡ e)) said answer
 
 -- a stage of the opening, which is replaced; where it refuses, the channel fails
-abbrev pub Becomes : Line → Result Done Refusal → Result Handed Refusal → Stage → Type 0
-Becomes l said answer s' =
-    Leaves Lacks (λ h. record { line = l; stage = s'; outputs = all_of h }) (λ e. (fails e ≡ true) × (s' ≡ stage.Gone))
-    said answer
+abbrev pub Becomes : Bool → Line → Result Done Refusal → Result Handed Refusal → Stage → Type 0
+Becomes views l said answer s' =
+    Leaves (LacksBy views) (λ h. record { line = l; stage = s'; outputs = all_of h })
+    (λ e. (fails e ≡ true) × (s' ≡ stage.Gone)) said answer

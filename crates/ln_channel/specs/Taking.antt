@@ -1,5 +1,5 @@
 -- What each message of the peer makes of an end (BOLT 2).
-use Rattle.std.specs.Prelude.{ℕ, List, [], ◌∷◌, length, drop, true, false, not, ◌||◌, ◌==◌, Option, Some}
+use Rattle.std.specs.Prelude.{ℕ, List, [], ◌∷◌, length, drop, Bool, true, false, not, ◌||◌, ◌==◌, Option, Some}
 use Rattle.std.specs.Prelude.{None, Result, Ok, Err, if◌then◌else◌}
 use Rattle.ln_bytes.specs.Endian.{big_number}
 use Rattle.ln_bytes.specs.Same.{are_same}
@@ -170,6 +170,13 @@ fee_row keys m e =
     else (if keys.accepts_close m.fee_satoshis m.signature
     then answered keys m e (answer_to e.closing m.fee_satoshis (range_in m))
     else Err refusal.SignatureWrong)
+
+-- a message with a signature over a commitment: a view is made before it is looked at
+abbrev pub is_viewed : Message → Bool
+is_viewed (message.FundingCreated m) = true
+is_viewed (message.FundingSigned m) = true
+is_viewed (message.CommitmentSigned m) = true
+is_viewed m = false
 
 -- ---- by message: those that aren't of a channel, and those that open one, are out of place
 

@@ -187,6 +187,7 @@ impl Channel {
         }) }
         ensures state { OnOk result (self.new ≡ telling true before (own_since before self.old.dance.log) self.old) }
         ensures fails_for_memory_alone { IfErr result (λ r. r ≡ Refusal.Memory) }
+        ensures same_channel { self.new.dance.channel ≡ self.old.dance.channel }
     {
         outbox.tell(self.committed())?;
         let updates = own_since(&self.dance, before);
@@ -209,6 +210,7 @@ impl Channel {
         }) }
         ensures state { OnOk result (self.new ≡ telling false before (peer_since before self.old.dance.log) self.old) }
         ensures fails_for_memory_alone { IfErr result (λ r. r ≡ Refusal.Memory) }
+        ensures same_channel { self.new.dance.channel ≡ self.old.dance.channel }
     {
         outbox.tell(self.committed())?;
         let updates = peer_since(&self.dance, before);
@@ -221,6 +223,7 @@ impl Channel {
         requires kept { self.old.dance.log.first.peer ≤ before }
         ensures state { OnOk result (self.new ≡ settling (peer_since before self.old.dance.log) self.old) }
         ensures fails_for_memory_alone { IfErr result (λ r. r ≡ Refusal.Memory) }
+        ensures same_channel { self.new.dance.channel ≡ self.old.dance.channel }
     {
         let updates = peer_since(&self.dance, before);
         self.ledger.keep_results(alloc, self.dance.log(), updates)
@@ -248,6 +251,7 @@ impl Channel {
         }) }
         ensures state { OnOk result (self.new ≡ answers_shutdown self.old) }
         ensures fails_for_memory_alone { IfErr result (λ r. r ≡ Refusal.Memory) }
+        ensures same_channel { self.new.dance.channel ≡ self.old.dance.channel }
     {
         if !self.closing.peer_shut || self.closing.shut || !self.all_acknowledged() {
             return Ok(());
@@ -320,6 +324,7 @@ impl Channel {
         }) }
         ensures state { OnOk result (self.new ≡ begins self.old) }
         ensures fails_for_memory_alone { IfErr result (λ r. r ≡ Refusal.Memory) }
+        ensures same_channel { self.new.dance.channel ≡ self.old.dance.channel }
     {
         if !self.has_begun() {
             return Ok(());
@@ -341,6 +346,7 @@ impl Channel {
             { sent = outbox.old.sent ++ due_sent (K.signer keys.now) self.old; told = outbox.old.told }) }
         ensures state { OnOk result (self.new ≡ settled self.old) }
         ensures fails_for_memory_alone { IfErr result (λ r. r ≡ Refusal.Memory) }
+        ensures same_channel { self.new.dance.channel ≡ self.old.dance.channel }
     {
         self.answer_shutdown(alloc, outbox)?;
         self.begin(alloc, keys, outbox)

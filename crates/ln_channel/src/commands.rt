@@ -34,7 +34,8 @@ impl Channel {
         keys: &K,
         short_id: ShortId,
     ) -> Result<Outbox, Refusal>
-        ensures { Makes (confirm_row (K.signer keys.now) short_id self.old) result self.old self.new }
+        ensures makes { Makes (confirm_row (K.signer keys.now) short_id self.old) result self.old self.new }
+        ensures same_channel { self.new.dance.channel ≡ self.old.dance.channel }
     {
         if self.marks.ready_sent || self.is_closed() {
             return Err(Refusal::NotReady);
@@ -97,6 +98,7 @@ impl Channel {
         ensures refuses_exactly { AnswersFault (proposal_fault self.old.dance.log update) result }
         ensures state { OnOk result (self.new ≡ proposes update self.old) }
         ensures changes_nothing_if_refused { OnErr result (self.new ≡ self.old) }
+        ensures same_channel { self.new.dance.channel ≡ self.old.dance.channel }
     {
         self.dance.propose(update)
     }
@@ -107,6 +109,7 @@ impl Channel {
         ensures refuses_exactly { AnswersFault (propose_fault self.old update) result }
         ensures state { OnOk result (self.new ≡ proposes update self.old) }
         ensures changes_nothing_if_refused { OnErr result (self.new ≡ self.old) }
+        ensures same_channel { self.new.dance.channel ≡ self.old.dance.channel }
     {
         match self.own_refusal(&update) {
             Some(refusal) => Err(refusal),
@@ -120,7 +123,8 @@ impl Channel {
     /// down; 44 with the number by which the peer would refuse it, 23 to 27; 60.
     fn offer(&mut self, alloc: Global, add: Add) -> Result<Outbox, Refusal>
         requires { add.id ≡ next_id self.old.dance.log.own }
-        ensures { Makes (propose_row (update.Add add) self.old) result self.old self.new }
+        ensures makes { Makes (propose_row (update.Add add) self.old) result self.old self.new }
+        ensures same_channel { self.new.dance.channel ≡ self.old.dance.channel }
     {
         self.propose(Update::Add(add))?;
         let message = add_message(alloc, self.dance.channel(), &add);
@@ -132,7 +136,8 @@ impl Channel {
     /// Errors: 40 and 46 as for an offer; 44 with 28 where there is no such HTLC, 49 where it is removed, 48
     /// where it isn't held as irrevocably committed; 44 with 29 for a wrong preimage; 60.
     fn fulfil(&mut self, alloc: Global, fulfil: Fulfil) -> Result<Outbox, Refusal>
-        ensures { Makes (propose_row (update.Fulfil fulfil) self.old) result self.old self.new }
+        ensures makes { Makes (propose_row (update.Fulfil fulfil) self.old) result self.old self.new }
+        ensures same_channel { self.new.dance.channel ≡ self.old.dance.channel }
     {
         self.propose(Update::Fulfil(fulfil))?;
         let message = fulfil_message(alloc, self.dance.channel(), &fulfil);
@@ -143,7 +148,8 @@ impl Channel {
     ///
     /// Errors: as for a fulfilment, but 44 with 7 for a reason of more than 65,491 bytes in place of 44 with 29.
     fn fail(&mut self, alloc: Global, fail: Fail) -> Result<Outbox, Refusal>
-        ensures { Makes (propose_row (update.Fail fail) self.old) result self.old self.new }
+        ensures makes { Makes (propose_row (update.Fail fail) self.old) result self.old self.new }
+        ensures same_channel { self.new.dance.channel ≡ self.old.dance.channel }
     {
         let message = fail_message(alloc, self.dance.channel(), &fail);
         self.propose(Update::Fail(fail))?;
@@ -155,7 +161,8 @@ impl Channel {
     ///
     /// Errors: as for a fulfilment, but 44 with 21 for a code without the BADONION bit, 0x8000, in place of 44 with 29.
     fn fail_malformed(&mut self, alloc: Global, malformed: Malformed) -> Result<Outbox, Refusal>
-        ensures { Makes (propose_row (update.Malformed malformed) self.old) result self.old self.new }
+        ensures makes { Makes (propose_row (update.Malformed malformed) self.old) result self.old self.new }
+        ensures same_channel { self.new.dance.channel ≡ self.old.dance.channel }
     {
         self.propose(Update::Malformed(malformed))?;
         let message = malformed_message(alloc, self.dance.channel(), &malformed);
@@ -166,7 +173,8 @@ impl Channel {
     ///
     /// Errors: 40, 46 and 43 as for an offer; 44 with 30 at the fundee; 60.
     fn change_fee(&mut self, alloc: Global, fee: Fee) -> Result<Outbox, Refusal>
-        ensures { Makes (propose_row (update.Fee fee) self.old) result self.old self.new }
+        ensures makes { Makes (propose_row (update.Fee fee) self.old) result self.old self.new }
+        ensures same_channel { self.new.dance.channel ≡ self.old.dance.channel }
     {
         self.propose(Update::Fee(fee))?;
         let message = fee_message(alloc, self.dance.channel(), &fee);
@@ -190,6 +198,7 @@ impl Channel {
         ensures message { IfOk result (λ m. m ≡ signed_message (K.signer keys.now) self.old.dance) }
         ensures state { OnOk result (self.new ≡ signs_next self.old) }
         ensures changes_nothing_if_refused { OnErr result (self.new ≡ self.old) }
+        ensures same_channel { self.new.dance.channel ≡ self.old.dance.channel }
     {
         if !self.is_ready() {
             return Err(Refusal::NotReady);
@@ -202,7 +211,8 @@ impl Channel {
     /// Errors: 40 before both sides have confirmed; 41 where a signature is unrevoked, 42 where nothing would be
     /// new, 46 behind the last number; 60.
     fn sign<K: ChannelKeys>(&mut self, alloc: Global, keys: &K) -> Result<Outbox, Refusal>
-        ensures { Makes (sign_row (K.signer keys.now) self.old) result self.old self.new }
+        ensures makes { Makes (sign_row (K.signer keys.now) self.old) result self.old self.new }
+        ensures same_channel { self.new.dance.channel ≡ self.old.dance.channel }
     {
         let covered = self.own_len();
         let message = self.sign_next(alloc, keys)?;
@@ -243,7 +253,8 @@ impl Channel {
         keys: &K,
         script: Bytes,
     ) -> Result<Outbox, Refusal>
-        ensures { Makes (shut_row (K.signer keys.now) script self.old) result self.old self.new }
+        ensures makes { Makes (shut_row (K.signer keys.now) script self.old) result self.old self.new }
+        ensures same_channel { self.new.dance.channel ≡ self.old.dance.channel }
     {
         match self.shutdown_refusal(&script) {
             Some(refusal) => return Err(refusal),
@@ -304,7 +315,8 @@ impl Channel {
     /// Errors: 40 where another event is decided than the first undecided one, or a mark other than `None` is for none
     /// of the peer's adds; 60.
     pub(crate) fn note(&mut self, alloc: Global, command: Command) -> Result<Outbox, Refusal>
-        ensures { Makes (note_row command self.old) result self.old self.new }
+        ensures makes { Makes (note_row command self.old) result self.old self.new }
+        ensures same_channel { self.new.dance.channel ≡ self.old.dance.channel }
     {
         match command {
             Command::Decide { event, mark } => {
@@ -327,7 +339,8 @@ impl Channel {
         keys: &K,
         command: Command,
     ) -> Result<Outbox, Refusal>
-        ensures { Makes (command_row (K.signer keys.now) command self.old) result self.old self.new }
+        ensures makes { Makes (command_row (K.signer keys.now) command self.old) result self.old self.new }
+        ensures same_channel { self.new.dance.channel ≡ self.old.dance.channel }
     {
         match command {
             Command::Confirm(short_id) => self.confirm(alloc, keys, short_id),

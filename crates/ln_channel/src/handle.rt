@@ -10,9 +10,10 @@ use std::alloc::Global;
 
 impl<K: ChannelKeys + Drop> Unsaved<K> {
     ghost use Rattle.std.specs.Prelude.{◌≡◌};
-    ghost use Rattle.ln_channel.specs.State.{State, StandsFor, fails_by};
+    ghost use Rattle.ln_channel.specs.State.{State, StandsFor, KeepsChannel, IsSameLink, fails_by};
     ghost use Rattle.ln_channel.specs.Step.{AnsweredMessage, Answered, handled, commanded, asked, noted, at_hand};
     ghost use Rattle.ln_channel.specs.Step.{obeyed, MovesBy, Takes};
+    ghost use Rattle.ln_channel.specs.Taking.{is_viewed};
 
     /// Takes a message: what it makes of the link, and what is handed out.
     ///
@@ -23,8 +24,9 @@ impl<K: ChannelKeys + Drop> Unsaved<K> {
     ///
     /// A warning is passed over, and so are an error for another channel, `init`, `ping` and `pong`.
     pub fn handle(&mut self, alloc: Global, message: Message) -> Result<Vec<Output>, Refusal>
-        ensures { (l : State K) → StandsFor self.old l
-            → AnsweredMessage (λ v. v.items) (handled (K.signer l.keys) l message) l result self.new }
+        ensures answers { (l : State K) → StandsFor self.old l
+            → AnsweredMessage (λ v. v.items) (handled (K.signer l.keys) l message) l message result self.new }
+        ensures same_channel { KeepsChannel self.old.stage self.new.stage }
     {
         if self.halted {
             drop(message);
@@ -48,6 +50,7 @@ impl<K: ChannelKeys + Drop> Unsaved<K> {
     fn refused_by(&mut self, refusal: Refusal) -> Refusal
         ensures refusal { result ≡ refusal }
         ensures state { self.new ≡ fails_by refusal self.old }
+        ensures same_channel { KeepsChannel self.old.stage self.new.stage }
     {
         if fails(refusal) {
             self.failure = Some(refusal);
@@ -58,8 +61,10 @@ impl<K: ChannelKeys + Drop> Unsaved<K> {
 
     // Takes a message, unless it is passed over.
     fn take(&mut self, alloc: Global, message: Message) -> Result<Outbox, Refusal>
-        ensures { Takes (at_hand (K.signer self.old.keys) self.old.line message self.old.stage)
+        ensures takes { Takes (is_viewed message) (at_hand (K.signer self.old.keys) self.old.line message self.old.stage)
             result self.old self.new }
+        ensures same_link { IsSameLink self.old self.new }
+        ensures same_channel { KeepsChannel self.old.stage self.new.stage }
     {
         if self.stage.is_passed_over(&message) {
             drop(message);
@@ -85,8 +90,9 @@ impl<K: ChannelKeys + Drop> Unsaved<K> {
     /// channel isn't ready for the command; 47 where there is no connection, or the peer's `channel_reestablish` hasn't
     /// come; then those of the command, 41 to 46, 48 and 49. 60 where there is no memory, which halts it.
     pub fn command(&mut self, alloc: Global, command: Command) -> Result<Vec<Output>, Refusal>
-        ensures { (l : State K) → StandsFor self.old l
+        ensures answers { (l : State K) → StandsFor self.old l
             → Answered (λ v. v.items) (commanded (K.signer l.keys) l command) l result self.new }
+        ensures same_channel { KeepsChannel self.old.stage self.new.stage }
     {
         if self.halted {
             drop(command);
@@ -101,7 +107,9 @@ impl<K: ChannelKeys + Drop> Unsaved<K> {
 
     // What it does unless it has halted.
     fn work(&mut self, alloc: Global, command: Command) -> Result<Outbox, Refusal>
-        ensures { MovesBy (asked (K.signer self.old.keys) self.old command) result self.old self.new }
+        ensures moves { MovesBy (asked (K.signer self.old.keys) self.old command) result self.old self.new }
+        ensures same_link { IsSameLink self.old self.new }
+        ensures same_channel { KeepsChannel self.old.stage self.new.stage }
     {
         if command.is_of_records() {
             return self.note(alloc, command);
@@ -117,7 +125,9 @@ impl<K: ChannelKeys + Drop> Unsaved<K> {
 
     // What it makes of a command about decisions at its stage.
     fn note(&mut self, alloc: Global, command: Command) -> Result<Outbox, Refusal>
-        ensures { MovesBy (noted self.old.line command self.old.stage) result self.old self.new }
+        ensures moves { MovesBy (noted self.old.line command self.old.stage) result self.old self.new }
+        ensures same_link { IsSameLink self.old self.new }
+        ensures same_channel { KeepsChannel self.old.stage self.new.stage }
     {
         match &mut self.stage {
             Stage::Saved(channel) => note_open(alloc, self.line, channel, command),
@@ -127,8 +137,10 @@ impl<K: ChannelKeys + Drop> Unsaved<K> {
 
     // What it does at its stage.
     fn obey(&mut self, alloc: Global, command: Command) -> Result<Outbox, Refusal>
-        ensures { MovesBy (obeyed (K.signer self.old.keys) self.old.line command self.old.stage)
+        ensures moves { MovesBy (obeyed (K.signer self.old.keys) self.old.line command self.old.stage)
             result self.old self.new }
+        ensures same_link { IsSameLink self.old self.new }
+        ensures same_channel { KeepsChannel self.old.stage self.new.stage }
     {
         match &mut self.stage {
             Stage::Saved(channel) => obey_open(alloc, &self.keys, self.line, channel, command),

@@ -113,8 +113,8 @@ impl EventLedger {
         }
     }
 
-    // The number of the next event.
-    fn next(&self) -> u64
+    /// The number of the next event.
+    pub(crate) fn next(&self) -> u64
         ensures { result ≡ next_event self.now }
     {
         self.decided + self.undecided.as_slice().len() as u64

@@ -11,6 +11,7 @@ mod handle;
 mod ledger;
 mod opening;
 mod output;
+mod pending;
 mod record;
 mod resume;
 mod stage;

@@ -1,6 +1,6 @@
 //! The four messages that open a channel.
 
-ghost use Rattle.std.specs.Prelude.{◌≡◌, ◌⊎◌, true, Some, None, IfOk, IfErr, if◌then◌else◌};
+ghost use Rattle.std.specs.Prelude.{◌≡◌, ◌⊎◌, true, false, Some, None, IfOk, IfErr, if◌then◌else◌};
 ghost use Rattle.ln_bytes.specs.Tlv.{value_of};
 ghost use Rattle.ln_msgs.specs.declared.refusals.refusal.Refusal.TheVariants as refusal;
 ghost use Rattle.ln_keys.specs.Signer.{Signer};
@@ -10,7 +10,7 @@ ghost use Rattle.ln_channel.specs.declared.config.OpenSpec.{OpenSpec};
 ghost use Rattle.ln_channel.specs.declared.opening.Opened.{Opened};
 ghost use Rattle.ln_channel.specs.Failing.{fails};
 ghost use Rattle.ln_channel.specs.Meeting.{CanOpen, Opens, AreEnds};
-ghost use Rattle.ln_channel.specs.Opening.{AnswersFault, Gives, HasBegun, asked_by_open, asked_by_accept};
+ghost use Rattle.ln_channel.specs.Opening.{AnswersSignature, Gives, HasBegun, asked_by_open, asked_by_accept};
 ghost use Rattle.ln_channel.specs.Opening.{asked_with, opening_of};
 ghost use Rattle.ln_channel.specs.Opening.{first_point, first_dance, opened_by, first_signature, first_fault};
 ghost use Rattle.ln_channel.specs.Opening.{open_message, open_fault, typed, accept_message, open_taken, repeats};
@@ -182,7 +182,7 @@ pub(crate) fn check_first<K: ChannelKeys>(
     dance: &Dance,
     signature: &[u8; 64],
 ) -> Result<(), Refusal>
-    ensures refuses_exactly { AnswersFault (first_fault (K.signer keys.now) dance.now signature.now) result }
+    ensures refuses_exactly { AnswersSignature (first_fault (K.signer keys.now) dance.now signature.now) result }
     ensures refused { IfErr result (λ r. (r ≡ refusal.Memory) ⊎ (fails r ≡ true)) }
 {
     let view = dance.log().view(alloc, Pair::Current(Side::Own))?;
@@ -342,7 +342,7 @@ pub fn take_open<K: ChannelKeys>(
     config: FitConfig,
     message: OpenChannel,
 ) -> Result<(Agreed, AcceptChannel), Refusal>
-    ensures gives_its_row { Gives (open_taken (K.signer keys.now) config message) result }
+    ensures gives_its_row { Gives false (open_taken (K.signer keys.now) config message) result }
     ensures refused { IfErr result (λ r. (r ≡ refusal.Memory) ⊎ (fails r ≡ true)) }
 {
     let config = config.into_config();
@@ -440,7 +440,7 @@ pub fn take_accept<K: ChannelKeys>(
     spec: FitSpec,
     accept: AcceptChannel,
 ) -> Result<(Opened, FundingCreated), Refusal>
-    ensures gives_its_row { Gives (accept_taken (K.signer keys.now) spec accept) result }
+    ensures gives_its_row { Gives false (accept_taken (K.signer keys.now) spec accept) result }
     ensures refused { IfErr result (λ r. (r ≡ refusal.Memory) ⊎ (fails r ≡ true)) }
     ensures begun { IfOk result (λ r. HasBegun r.0) }
 {
@@ -484,7 +484,7 @@ pub fn take_created<K: ChannelKeys>(
     agreed: Agreed,
     created: FundingCreated,
 ) -> Result<(Opened, FundingSigned), Refusal>
-    ensures gives_its_row { Gives (created_taken (K.signer keys.now) agreed created) result }
+    ensures gives_its_row { Gives true (created_taken (K.signer keys.now) agreed created) result }
     ensures refused { IfErr result (λ r. (r ≡ refusal.Memory) ⊎ (fails r ≡ true)) }
     ensures begun { IfOk result (λ r. HasBegun r.0) }
 {

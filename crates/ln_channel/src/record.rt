@@ -16,7 +16,8 @@ impl<K: ChannelKeys + Drop> Unsaved<K> {
 
     /// The end of its channel, where both have signed the opening. Takes no memory.
     pub fn saved(&self) -> Option<&Channel>
-        ensures { (l : State K) → StandsFor self.now l → option_copied result ≡ saved_end l.stage }
+        ensures end { (l : State K) → StandsFor self.now l → option_copied result ≡ saved_end l.stage }
+        ensures as_kept { option_copied result ≡ saved_end self.now.stage }
     {
         match &self.stage {
             Stage::Saved(channel) => Some(channel),

@@ -12,7 +12,7 @@ impl Channel {
     ghost use Rattle.std.specs.Prelude.{◌≡◌, ◌⊎◌, true, ◌++◌, OnOk, IfOk, IfErr};
     ghost use Rattle.ln_channel.specs.Failing.{fails};
     ghost use Rattle.ln_dance.specs.Resume.{reestablish_message, resume_fault, owed};
-    ghost use Rattle.ln_channel.specs.Opening.{first_fault, AnswersFault};
+    ghost use Rattle.ln_channel.specs.Opening.{first_fault, AnswersFault, AnswersSignature};
     ghost use Rattle.ln_channel.specs.End.{Makes};
     ghost use Rattle.ln_channel.specs.Resume.{resume_row, ready_again, shutdown_again, fee_again, sent_again};
 
@@ -30,8 +30,8 @@ impl Channel {
         keys: &K,
         message: &FundingSigned,
     ) -> Result<(), Refusal>
-        ensures refuses_exactly { AnswersFault (first_fault (K.signer keys.now) self.now.dance message.now.signature)
-            result }
+        ensures refuses_exactly { AnswersSignature
+            (first_fault (K.signer keys.now) self.now.dance message.now.signature) result }
         ensures refused { IfErr result (λ r. (r ≡ Refusal.Memory) ⊎ (fails r ≡ true)) }
     {
         check_first(alloc, keys, &self.dance, &message.signature)
@@ -133,7 +133,8 @@ impl Channel {
         keys: &K,
         message: &ChannelReestablish,
     ) -> Result<Outbox, Refusal>
-        ensures { Makes (resume_row (K.signer keys.now) message.now self.old) result self.old self.new }
+        ensures makes { Makes (resume_row (K.signer keys.now) message.now self.old) result self.old self.new }
+        ensures same_channel { self.new.dance.channel ≡ self.old.dance.channel }
     {
         let resends = self.owed(alloc, keys, message)?;
         let mut outbox = Outbox::new(alloc);

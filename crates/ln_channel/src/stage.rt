@@ -1,10 +1,11 @@
 //! What a message makes of each stage of a link.
 
-ghost use Rattle.std.specs.Prelude.{◌≡◌, false};
+ghost use Rattle.std.specs.Prelude.{◌≡◌, true, false};
 ghost use Rattle.ln_channel.specs.Naming.{named};
 ghost use Rattle.ln_channel.specs.Failing.{fails};
 ghost use Rattle.ln_channel.specs.Step.{opening_at, open_at, accept_at, created_at, signed_at, saved_at};
 ghost use Rattle.ln_channel.specs.State.{is_saved};
+ghost use Rattle.ln_channel.specs.Taking.{is_viewed};
 ghost use Rattle.ln_channel.specs.declared.unsaved.Line.TheVariants as lines;
 ghost use Rattle.ln_channel.specs.declared.unsaved.Stage.TheVariants as stages;
 ghost use Rattle.ln_channel.specs.Resume.{resume_row};
@@ -75,7 +76,8 @@ const NO_NUMBERS: Numbers = Numbers {
 impl Stage {
     ghost use Rattle.std.specs.Prelude.{◌≡◌};
     ghost use Rattle.ln_channel.specs.Naming.{channel_of, temporary_of, is_meant, is_other};
-    ghost use Rattle.ln_channel.specs.State.{is_saved, lost, cut, numbers_of};
+    ghost use Rattle.ln_channel.specs.State.{is_saved, KeepsChannel, lost, cut, numbers_of};
+    ghost use Rattle.ln_channel.specs.Taking.{is_viewed};
     ghost use Rattle.ln_channel.specs.Step.{is_passed_over, stray_fault, message_fault, stage_row, Moves};
 
     // The numbers of its end's commitments.
@@ -101,7 +103,8 @@ impl Stage {
 
     // An opening that isn't signed by both is gone.
     pub(crate) fn lose(&mut self)
-        ensures { self.new ≡ lost self.old }
+        ensures state { self.new ≡ lost self.old }
+        ensures same_channel { KeepsChannel self.old self.new }
     {
         if !self.is_saved() {
             put(self, Stage::Gone);
@@ -110,7 +113,8 @@ impl Stage {
 
     // Its connection is lost.
     pub(crate) fn cut(&mut self)
-        ensures { self.new ≡ cut self.old }
+        ensures state { self.new ≡ cut self.old }
+        ensures same_channel { KeepsChannel self.old self.new }
     {
         match self {
             Stage::Saved(channel) => channel.drop_unsigned(),
@@ -204,8 +208,9 @@ impl Stage {
         line: &mut Line,
         message: Message,
     ) -> Result<Outbox, Refusal>
-        ensures { Moves (stage_row (K.signer keys.now) line.old message self.old)
+        ensures moves { Moves (is_viewed message) (stage_row (K.signer keys.now) line.old message self.old)
             result line.old line.new self.old self.new }
+        ensures same_channel { KeepsChannel self.old self.new }
     {
         match self {
             Stage::Saved(channel) => take_saved(alloc, keys, line, channel, message),
@@ -225,7 +230,7 @@ fn opened_by<K: ChannelKeys>(
     message: Message,
 ) -> Result<Outbox, Refusal>
     requires { is_saved stage.old ≡ false }
-    ensures { Moves (opening_at (K.signer keys.now) line message stage.old) result line line stage.old stage.new }
+    ensures { Moves (is_viewed message) (opening_at (K.signer keys.now) line message stage.old) result line line stage.old stage.new }
 {
     match message {
         Message::OpenChannel(open) => opened_by_open(alloc, keys, line, stage, open),
@@ -247,7 +252,7 @@ fn opened_by_open<K: ChannelKeys>(
     message: OpenChannel,
 ) -> Result<Outbox, Refusal>
     requires { is_saved stage.old ≡ false }
-    ensures { Moves (open_at (K.signer keys.now) line message stage.old) result line line stage.old stage.new }
+    ensures { Moves false (open_at (K.signer keys.now) line message stage.old) result line line stage.old stage.new }
 {
     match mem::replace(stage, Stage::Gone) {
         Stage::AwaitsOpen(config) => agree(alloc, keys, line, stage, config, message),
@@ -267,7 +272,7 @@ fn agree<K: ChannelKeys>(
     message: OpenChannel,
 ) -> Result<Outbox, Refusal>
     requires { stage.old ≡ stages.Gone }
-    ensures { Becomes line (open_at (K.signer keys.now) line message (stages.AwaitsOpen config)) result stage.new }
+    ensures { Becomes false line (open_at (K.signer keys.now) line message (stages.AwaitsOpen config)) result stage.new }
 {
     let (agreed, accept) = take_open(alloc, keys, config, message)?;
     put(stage, Stage::AwaitsCreated(agreed));
@@ -282,7 +287,7 @@ fn opened_by_accept<K: ChannelKeys>(
     message: AcceptChannel,
 ) -> Result<Outbox, Refusal>
     requires { is_saved stage.old ≡ false }
-    ensures { Moves (accept_at (K.signer keys.now) line message stage.old) result line line stage.old stage.new }
+    ensures { Moves false (accept_at (K.signer keys.now) line message stage.old) result line line stage.old stage.new }
 {
     match mem::replace(stage, Stage::Gone) {
         Stage::AwaitsAccept(spec) => fund(alloc, keys, line, stage, spec, message),
@@ -302,7 +307,7 @@ fn fund<K: ChannelKeys>(
     message: AcceptChannel,
 ) -> Result<Outbox, Refusal>
     requires { stage.old ≡ stages.Gone }
-    ensures { Becomes line (accept_at (K.signer keys.now) line message (stages.AwaitsAccept spec)) result stage.new }
+    ensures { Becomes false line (accept_at (K.signer keys.now) line message (stages.AwaitsAccept spec)) result stage.new }
 {
     let (opened, created) = take_accept(alloc, keys, spec, message)?;
     put(stage, Stage::AwaitsSigned(Channel::new(alloc, opened)));
@@ -317,7 +322,7 @@ fn opened_by_created<K: ChannelKeys>(
     message: FundingCreated,
 ) -> Result<Outbox, Refusal>
     requires { is_saved stage.old ≡ false }
-    ensures { Moves (created_at (K.signer keys.now) line message stage.old) result line line stage.old stage.new }
+    ensures { Moves true (created_at (K.signer keys.now) line message stage.old) result line line stage.old stage.new }
 {
     match mem::replace(stage, Stage::Gone) {
         Stage::AwaitsCreated(agreed) => sign(alloc, keys, line, stage, agreed, message),
@@ -337,7 +342,7 @@ fn sign<K: ChannelKeys>(
     message: FundingCreated,
 ) -> Result<Outbox, Refusal>
     requires { stage.old ≡ stages.Gone }
-    ensures { Becomes line (created_at (K.signer keys.now) line message (stages.AwaitsCreated agreed)) result
+    ensures { Becomes true line (created_at (K.signer keys.now) line message (stages.AwaitsCreated agreed)) result
         stage.new }
 {
     let (opened, signed) = take_created(alloc, keys, agreed, message)?;
@@ -352,7 +357,7 @@ fn opened_by_signed<K: ChannelKeys>(
     stage: &mut Stage,
     message: &FundingSigned,
 ) -> Result<Outbox, Refusal>
-    ensures { Moves (signed_at (K.signer keys.now) line message.now stage.old) result line line stage.old stage.new }
+    ensures { Moves true (signed_at (K.signer keys.now) line message.now stage.old) result line line stage.old stage.new }
 {
     match stage {
         Stage::AwaitsSigned(channel) => channel.check_funding(alloc, keys, message)?,
@@ -389,8 +394,9 @@ fn take_saved<K: ChannelKeys>(
     channel: &mut Channel,
     message: Message,
 ) -> Result<Outbox, Refusal>
-    ensures { MovesEnd (saved_at (K.signer keys.now) line.old message channel.old)
+    ensures moves { MovesEnd (is_viewed message) (saved_at (K.signer keys.now) line.old message channel.old)
         result line.old line.new channel.old channel.new }
+    ensures same_channel { channel.new.dance.channel ≡ channel.old.dance.channel }
 {
     if line.is_met() {
         channel.take(alloc, keys, message)
@@ -406,8 +412,9 @@ fn take_awaited<K: ChannelKeys>(
     channel: &mut Channel,
     message: Message,
 ) -> Result<Outbox, Refusal>
-    ensures { MovesEnd (awaiting_at (K.signer keys.now) message channel.old)
+    ensures moves { MovesEnd (is_viewed message) (awaiting_at (K.signer keys.now) message channel.old)
         result line.old line.new channel.old channel.new }
+    ensures same_channel { channel.new.dance.channel ≡ channel.old.dance.channel }
 {
     match message {
         Message::ChannelReestablish(reestablish) => {
@@ -428,8 +435,9 @@ fn take_reestablish<K: ChannelKeys>(
     channel: &mut Channel,
     message: &ChannelReestablish,
 ) -> Result<Outbox, Refusal>
-    ensures { MovesEnd (turned lines.Met (resume_row (K.signer keys.now) message.now channel.old))
+    ensures moves { MovesEnd false (turned lines.Met (resume_row (K.signer keys.now) message.now channel.old))
         result line.old line.new channel.old channel.new }
+    ensures same_channel { channel.new.dance.channel ≡ channel.old.dance.channel }
 {
     match channel.resume(alloc, keys, message) {
         Ok(outbox) => {
@@ -450,8 +458,9 @@ pub(crate) fn obey_open<K: ChannelKeys>(
     channel: &mut Channel,
     command: Command,
 ) -> Result<Outbox, Refusal>
-    ensures { MovesEnd (obeyed_open (K.signer keys.now) line command channel.old)
+    ensures moves { MovesEnd false (obeyed_open (K.signer keys.now) line command channel.old)
         result line line channel.old channel.new }
+    ensures same_channel { channel.new.dance.channel ≡ channel.old.dance.channel }
 {
     match channel.unready_refusal(&command) {
         Some(refusal) => {
@@ -474,7 +483,8 @@ pub(crate) fn note_open(
     channel: &mut Channel,
     command: Command,
 ) -> Result<Outbox, Refusal>
-    ensures { MovesEnd (turned line (note_row command channel.old)) result line line channel.old channel.new }
+    ensures moves { MovesEnd false (turned line (note_row command channel.old)) result line line channel.old channel.new }
+    ensures same_channel { channel.new.dance.channel ≡ channel.old.dance.channel }
 {
     channel.note(alloc, command)
 }

@@ -17,11 +17,12 @@ use ln_msgs::{
 use std::alloc::Global;
 
 impl Channel {
-    ghost use Rattle.std.specs.Prelude.{◌≡◌, ◌≤◌, OnOk, IfOk, IfErr, OnErr};
+    ghost use Rattle.std.specs.Prelude.{◌≡◌, ◌≤◌, true, OnOk, IfOk, IfErr, OnErr};
     ghost use Rattle.ln_log.specs.Log.{taken_fault};
     ghost use Rattle.ln_dance.specs.Dance.{accept_fault, answer_of, revoked_message, learn_fault};
-    ghost use Rattle.ln_channel.specs.Opening.{AnswersFault};
-    ghost use Rattle.ln_channel.specs.End.{Makes};
+    ghost use Rattle.ln_channel.specs.Opening.{AnswersFault, AnswersSignature};
+    ghost use Rattle.ln_channel.specs.End.{Makes, MakesBy};
+    ghost use Rattle.ln_channel.specs.Taking.{is_viewed};
     ghost use Rattle.ln_channel.specs.Taking.{takes_ready, late_fault, early_fault, update_row, takes};
     ghost use Rattle.ln_channel.specs.Taking.{accepts, signature_row, revokes, revocation_row};
     ghost use Rattle.ln_channel.specs.Taking.{shutdown_row, shuts_by_peer, answering};
@@ -30,7 +31,8 @@ impl Channel {
     /// Takes `channel_ready` (BOLT 2, "The `channel_ready` Message"): a second one, or one behind the close, does
     /// nothing.
     fn take_ready(&mut self, message: &ChannelReady)
-        ensures { self.new ≡ takes_ready message.now self.old }
+        ensures ready { self.new ≡ takes_ready message.now self.old }
+        ensures same_channel { self.new.dance.channel ≡ self.old.dance.channel }
     {
         if self.marks.ready_received || self.is_closed() {
             return;
@@ -79,6 +81,7 @@ impl Channel {
         ensures refuses_exactly { AnswersFault (taken_fault self.old.dance.log update) result }
         ensures state { OnOk result (self.new ≡ takes update self.old) }
         ensures changes_nothing_if_refused { OnErr result (self.new ≡ self.old) }
+        ensures same_channel { self.new.dance.channel ≡ self.old.dance.channel }
     {
         self.dance.receive(update)
     }
@@ -88,7 +91,8 @@ impl Channel {
     /// Errors: 21 before both sides have confirmed, where the peer has 2^62 updates, or for a fee once closing has
     /// begun; 35 for an add behind the peer's shutdown; else those of `UpdateLog::receive`.
     fn take_update(&mut self, alloc: Global, update: Update) -> Result<Outbox, Refusal>
-        ensures { Makes (update_row update self.old) result self.old self.new }
+        ensures makes { Makes (update_row update self.old) result self.old self.new }
+        ensures same_channel { self.new.dance.channel ≡ self.old.dance.channel }
     {
         match self.early_refusal(&update) {
             Some(refusal) => return Err(refusal),
@@ -105,12 +109,14 @@ impl Channel {
         keys: &K,
         message: &CommitmentSigned,
     ) -> Result<RevokeAndAck, Refusal>
-        ensures refuses_exactly { AnswersFault (accept_fault (K.signer keys.now) message.now self.old.dance) result }
+        ensures refuses_exactly { AnswersSignature (accept_fault (K.signer keys.now) message.now self.old.dance)
+            result }
         ensures message { IfOk result (λ m. m ≡ revoked_message (K.signer keys.now) self.old.dance) }
         ensures state { OnOk result (self.new ≡ accepts self.old) }
         ensures grows { OnOk result (self.old.dance.log.current.own ≤ self.new.dance.log.current.own) }
         ensures first_stays_below { OnOk result (self.new.dance.log.first.own ≤ self.old.dance.log.current.own) }
         ensures changes_nothing_if_refused { OnErr result (self.new ≡ self.old) }
+        ensures same_channel { self.new.dance.channel ≡ self.old.dance.channel }
     {
         let _ = own_held(&self.dance);
         self.dance.accept(alloc, keys, message)
@@ -126,7 +132,8 @@ impl Channel {
         keys: &K,
         message: &CommitmentSigned,
     ) -> Result<Outbox, Refusal>
-        ensures { Makes (signature_row (K.signer keys.now) message.now self.old) result self.old self.new }
+        ensures makes { MakesBy true (signature_row (K.signer keys.now) message.now self.old) result self.old self.new }
+        ensures same_channel { self.new.dance.channel ≡ self.old.dance.channel }
     {
         if !self.is_ready() {
             return Err(Refusal::OutOfPlace);
@@ -146,6 +153,7 @@ impl Channel {
         ensures grows { OnOk result (self.old.dance.log.acknowledged.peer ≤ self.new.dance.log.acknowledged.peer) }
         ensures first_stays_below { OnOk result (self.new.dance.log.first.peer ≤ self.old.dance.log.acknowledged.peer) }
         ensures changes_nothing_if_refused { OnErr result (self.new ≡ self.old) }
+        ensures same_channel { self.new.dance.channel ≡ self.old.dance.channel }
     {
         let _ = peer_held(&self.dance);
         self.dance.learn(keys, message)
@@ -161,7 +169,8 @@ impl Channel {
         keys: &K,
         message: &RevokeAndAck,
     ) -> Result<Outbox, Refusal>
-        ensures { Makes (revocation_row (K.signer keys.now) message.now self.old) result self.old self.new }
+        ensures makes { Makes (revocation_row (K.signer keys.now) message.now self.old) result self.old self.new }
+        ensures same_channel { self.new.dance.channel ≡ self.old.dance.channel }
     {
         let before = peer_held(&self.dance);
         self.learn(keys, message)?;
@@ -174,7 +183,8 @@ impl Channel {
     /// Takes a shutdown (BOLT 2, "Closing Initiation: `shutdown`"). A repeated one does nothing; 21 where it names
     /// another script.
     fn take_shutdown(&mut self, alloc: Global, message: &Shutdown) -> Result<Outbox, Refusal>
-        ensures { Makes (shutdown_row message.now self.old) result self.old self.new }
+        ensures makes { Makes (shutdown_row message.now self.old) result self.old self.new }
+        ensures same_channel { self.new.dance.channel ≡ self.old.dance.channel }
     {
         match &self.terms.peer_script {
             Some(script) => {
@@ -191,6 +201,7 @@ impl Channel {
     fn note_shutdown(&mut self, alloc: Global, message: &Shutdown) -> Result<(), Refusal>
         ensures state { OnOk result (self.new ≡ shuts_by_peer message.now self.old) }
         ensures fails_for_memory_alone { IfErr result (λ r. r ≡ Refusal.Memory) }
+        ensures same_channel { self.new.dance.channel ≡ self.old.dance.channel }
     {
         let script = Vec::from_slice(alloc, message.script.as_slice())?;
         self.terms.peer_script = Some(Bytes::new(script));
@@ -206,7 +217,8 @@ impl Channel {
         keys: &K,
         message: &ClosingSigned,
     ) -> Result<Outbox, Refusal>
-        ensures { Makes (fee_row (K.signer keys.now) message.now self.old) result self.old self.new }
+        ensures makes { Makes (fee_row (K.signer keys.now) message.now self.old) result self.old self.new }
+        ensures same_channel { self.new.dance.channel ≡ self.old.dance.channel }
     {
         if !self.has_begun() {
             return Err(Refusal::OutOfPlace);
@@ -229,6 +241,7 @@ impl Channel {
         ensures handed { IfOk result (λ h. h ≡ (answering (K.signer keys.now) answer self.old).handed) }
         ensures state { OnOk result (self.new ≡ (answering (K.signer keys.now) answer self.old).end) }
         ensures fails_for_memory_alone { IfErr result (λ r. r ≡ Refusal.Memory) }
+        ensures same_channel { self.new.dance.channel ≡ self.old.dance.channel }
     {
         let mut outbox = Outbox::new(alloc);
         match answer {
@@ -250,7 +263,9 @@ impl Channel {
         keys: &K,
         message: Message,
     ) -> Result<Outbox, Refusal>
-        ensures { Makes (message_row (K.signer keys.now) message self.old) result self.old self.new }
+        ensures makes { MakesBy (is_viewed message) (message_row (K.signer keys.now) message self.old) result
+            self.old self.new }
+        ensures same_channel { self.new.dance.channel ≡ self.old.dance.channel }
     {
         match message {
             Message::ChannelReady(ready) => {
@@ -285,7 +300,8 @@ impl Channel {
         keys: &K,
         message: Message,
     ) -> Result<Outbox, Refusal>
-        ensures { Makes (taken (K.signer keys.now) message self.old) result self.old self.new }
+        ensures makes { MakesBy (is_viewed message) (taken (K.signer keys.now) message self.old) result self.old self.new }
+        ensures same_channel { self.new.dance.channel ≡ self.old.dance.channel }
     {
         let mut outbox = self.take_message(alloc, keys, message)?;
         self.settle(alloc, keys, &mut outbox)?;

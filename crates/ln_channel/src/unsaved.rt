@@ -98,7 +98,8 @@ impl<K: ChannelKeys + Drop> Unsaved<K> {
     ghost use Rattle.std.specs.Prelude.{◌≡◌, OnOk, IfOk, IfErr, OnErr};
     ghost use Rattle.ln_channel.specs.declared.unsaved.Stage.TheVariants as stage;
     ghost use Rattle.ln_channel.specs.Outputs.{all_of};
-    ghost use Rattle.ln_channel.specs.State.{State, StandsFor, begun, drops, halts, numbers_of};
+    ghost use Rattle.ln_channel.specs.State.{State, StandsFor, KeepsChannel, begun, drops, halts};
+    ghost use Rattle.ln_channel.specs.State.{IsSameLink, IsHalted, numbers_of};
     ghost use Rattle.ln_channel.specs.Step.{Answered, connected, MovesBy, connects};
 
     /// A new link of a funder, which opens a channel by this spec. Takes no memory.
@@ -130,7 +131,8 @@ impl<K: ChannelKeys + Drop> Unsaved<K> {
     /// The connection is lost (BOLT 2, "Message Retransmission"): updates that no signature covers are gone, and so is
     /// a channel whose opening isn't signed by both. Without a connection nothing changes. Takes no memory.
     pub fn drop_connection(&mut self)
-        ensures { (l : State K) → StandsFor self.old l → StandsFor self.new (drops l) }
+        ensures state { (l : State K) → StandsFor self.old l → StandsFor self.new (drops l) }
+        ensures same_channel { KeepsChannel self.old.stage self.new.stage }
     {
         if !self.line.is_down() {
             self.line = Line::Down;
@@ -140,7 +142,8 @@ impl<K: ChannelKeys + Drop> Unsaved<K> {
 
     /// The connection is lost, and the link answers 62 from now on. Takes no memory.
     pub fn halt(&mut self)
-        ensures { (l : State K) → StandsFor self.old l → StandsFor self.new (halts l) }
+        ensures state { (l : State K) → StandsFor self.old l → StandsFor self.new (halts l) }
+        ensures same_channel { KeepsChannel self.old.stage self.new.stage }
     {
         self.drop_connection();
         self.halted = true;
@@ -162,7 +165,8 @@ impl<K: ChannelKeys + Drop> Unsaved<K> {
 
     /// By what the channel has failed. Takes no memory.
     pub fn failure(&self) -> Option<Refusal>
-        ensures { (l : State K) → StandsFor self.now l → result ≡ l.failure }
+        ensures failure { (l : State K) → StandsFor self.now l → result ≡ l.failure }
+        ensures as_kept { result ≡ self.now.failure }
     {
         self.failure
     }
@@ -177,7 +181,8 @@ impl<K: ChannelKeys + Drop> Unsaved<K> {
     // There was no memory.
     pub(crate) fn halted_by_memory(&mut self) -> Refusal
         ensures fails_for_memory_alone { result ≡ Refusal.Memory }
-        ensures halted { self.new ≡ halts self.old }
+        ensures halted { (l : State K) → IsSameLink l self.old → IsHalted l self.new }
+        ensures same_channel { KeepsChannel self.old.stage self.new.stage }
     {
         self.halt();
         Refusal::Memory
@@ -187,7 +192,8 @@ impl<K: ChannelKeys + Drop> Unsaved<K> {
     pub(crate) fn hand_out(&mut self, outbox: Outbox) -> Result<Vec<Output>, Refusal>
         ensures outputs { IfOk result (λ v. v.items ≡ all_of outbox) }
         ensures same { OnOk result (self.new ≡ self.old) }
-        ensures halted { OnErr result (self.new ≡ halts self.old) }
+        ensures halted { OnErr result ((l : State K) → IsSameLink l self.old → IsHalted l self.new) }
+        ensures same_channel { KeepsChannel self.old.stage self.new.stage }
         ensures fails_for_memory_alone { IfErr result (λ r. r ≡ Refusal.Memory) }
     {
         match outbox.into_outputs() {
@@ -203,8 +209,9 @@ impl<K: ChannelKeys + Drop> Unsaved<K> {
     /// Errors: 62 where it has halted; 40 where it has a connection, or its opening failed or was broken off; 60, which
     /// halts it.
     pub fn connect(&mut self, alloc: Global) -> Result<Vec<Output>, Refusal>
-        ensures { (l : State K) → StandsFor self.old l
+        ensures answers { (l : State K) → StandsFor self.old l
             → Answered (λ v. v.items) (connected (K.signer l.keys) l) l result self.new }
+        ensures same_channel { KeepsChannel self.old.stage self.new.stage }
     {
         if self.halted {
             return Err(Refusal::Halted);
@@ -221,7 +228,9 @@ impl<K: ChannelKeys + Drop> Unsaved<K> {
 
     // What it sends first over a connection.
     fn greet(&mut self, alloc: Global) -> Result<Outbox, Refusal>
-        ensures { MovesBy (connects (K.signer self.old.keys) self.old.stage) result self.old self.new }
+        ensures moves { MovesBy (connects (K.signer self.old.keys) self.old.stage) result self.old self.new }
+        ensures same_link { IsSameLink self.old self.new }
+        ensures same_channel { KeepsChannel self.old.stage self.new.stage }
     {
         match &self.stage {
             Stage::AwaitsOpen(_) => {

@@ -2,17 +2,18 @@
 use Rattle.std.proofs.Common.{refl, sym, ◌∙◌, ap, subst, inl, inr, Option}
 use Rattle.std.proofs.Common.{Some, None, is_none, Bool, true, false, not, ◌&&◌, ◌≡◌}
 use Rattle.std.proofs.Common.{List, Result, Err, if◌then◌else◌}
+use Rattle.ln_msgs.specs.declared.messages.message.Message.{Message}
 use Rattle.ln_msgs.specs.declared.refusals.refusal.Refusal.{Refusal}
 use Rattle.ln_channel.specs.declared.unsaved.Line.{Line}
 use Rattle.ln_channel.specs.declared.unsaved.Stage.{Stage}
 use Rattle.ln_channel.specs.declared.output.Output.{Output}
 use Rattle.ln_channel.specs.Failing.{fails}
-use Rattle.ln_channel.specs.State.{State, failed, refused}
+use Rattle.ln_channel.specs.State.{State, failed, refused, IsHalted}
 use Rattle.ln_channel.specs.Step.{Done, AnsweredMessage}
 use Rattle.ln_channel.specs.State.{halts}
 use Rattle.ln_channel.specs.Record.{saved_end}
-use Rattle.ln_link.specs.Saving.{Shelf, Refuses, IsUnsaved, HaltsRefused}
-use Rattle.ln_link.specs.Saving.{is_failing, fails_now, saved, AnswersMessage}
+use Rattle.ln_link.specs.Saving.{Shelf, Refuses, IsSaved, IsUnsaved, HaltsRefused}
+use Rattle.ln_link.specs.Saving.{is_failing, fails_now, AnswersMessage}
 
 -- a link without a failure, by whether the refusal is one
 by_refusal : {K : Type 0} (r : Refusal) (keys : K) (line : Line) (s : Stage) (b : Bool)
@@ -37,26 +38,28 @@ failing r l = by_parts r l.keys l.line l.halted l.failure l.stage
 pub halted : {K : Type 0} (m : State K) (b : Bool) → m.halted ≡ true → (is_failing m && b) ≡ false
 halted m b h = ap (λ (x : Bool). (not x && not (is_none m.failure)) && b) h
 
-settled : {K V : Type 0} (outs : V → List Output) (said : Result Done Refusal) (l m n : State K) (e e' : Refusal)
-    (before behind : Shelf) (b : Bool) → fails_now e l ≡ b → said ≡ Err e → m ≡ refused e l
-    → Refuses b e e' m n before behind → AnswersMessage outs said l (Err e') n before behind
-settled outs said l m n e e' before behind false w s p x =
+settled : {K V : Type 0} (outs : V → List Output) (said : Result Done Refusal) (l m n : State K) (msg : Message)
+    (e e' : Refusal) (before behind : Shelf) (b : Bool) → fails_now e l ≡ b → said ≡ Err e → m ≡ refused e l
+    → Refuses b e e' m n before behind → AnswersMessage outs said l msg (Err e') n before behind
+settled outs said l m n msg e e' before behind false w s p x =
     let k : fails_now e' l ≡ false = ap (λ (r : Refusal). fails_now r l) x.0 ∙ w in
     inr (inr (inr (
       s ∙ ap Err (sym x.0),
       x.1 ∙ p ∙ ap (λ (r : Refusal). refused r l) (sym x.0),
-      x.2 ∙ sym (ap (λ (b : Bool). if b then saved (refused e' l).failure (refused e' l).stage before else before) k),
+      subst (λ (b : Bool). if b then IsSaved (refused e' l).failure (saved_end (refused e' l).stage) before behind
+        else behind ≡ before) (sym k) x.2,
     )))
-settled outs said l m n e e' before behind true w s p (inl x) =
+settled outs said l m n msg e e' before behind true w s p (inl x) =
     let k : fails_now e' l ≡ true = ap (λ (r : Refusal). fails_now r l) x.0 ∙ w in
     let q : m ≡ refused e' l = p ∙ ap (λ (r : Refusal). refused r l) (sym x.0) in
     inr (inr (inr (
       s ∙ ap Err (sym x.0),
       x.1 ∙ q,
-      x.2 ∙ ap (λ (y : State _). saved y.failure y.stage before) q
-          ∙ sym (ap (λ (b : Bool). if b then saved (refused e' l).failure (refused e' l).stage before else before) k),
+      subst (λ (b : Bool). if b then IsSaved (refused e' l).failure (saved_end (refused e' l).stage) before behind
+        else behind ≡ before) (sym k)
+        (subst (λ (y : State _). IsSaved y.failure (saved_end y.stage) before behind) q x.2),
     )))
-settled outs said l m n e e' before behind true w s p (inr x) =
+settled outs said l m n msg e e' before behind true w s p (inr x) =
     inr (inr (inl (subst (λ z. HaltsRefused e' z l n before behind) (sym s) (
       w,
       (
@@ -67,24 +70,24 @@ settled outs said l m n e e' before behind true w s p (inr x) =
 
 -- what is answered to a message that is refused
 pub after_refusal : {K V : Type 0} (outs : V → List Output) (said : Result Done Refusal) (l m n : State K)
-    (e e' : Refusal) (before behind : Shelf) → AnsweredMessage outs said l (Err e) m
+    (msg : Message) (e e' : Refusal) (before behind : Shelf) → AnsweredMessage outs said l msg (Err e) m
     → Refuses (is_failing m && is_none l.failure) e e' m n before behind
-    → AnswersMessage outs said l (Err e') n before behind
-after_refusal outs said l m n e e' before behind (inl h) r =
+    → AnswersMessage outs said l msg (Err e') n before behind
+after_refusal outs said l m n msg e e' before behind (inl h) r =
     let q : Refuses false e e' m n before behind =
-    subst (λ b. Refuses b e e' m n before behind) (halted m (is_none l.failure) h.1) r in
-    inl (q.0 ∙ h.0, ap (λ (x : State _). x.halted) q.1 ∙ h.1, h.2, q.2)
-after_refusal outs said l m n e e' before behind (inr h) r =
+    subst (λ b. Refuses b e e' m n before behind) (halted m (is_none l.failure) h.1.halted) r in
+    inl ((q.0 ∙ h.0.0, h.0.1), (subst (λ (x : State _). IsHalted l x) (sym q.1) h.1, q.2))
+after_refusal outs said l m n msg e e' before behind (inr h) r =
     let q : Refuses (fails_now e l) e e' m n before behind =
     subst (λ b. Refuses b e e' m n before behind)
     (ap (λ (x : State _). is_failing x && is_none l.failure) h.1 ∙ failing e l) r in
-    settled outs said l m n e e' before behind (fails_now e l) refl h.0 h.1 q
+    settled outs said l m n msg e e' before behind (fails_now e l) refl h.0 h.1 q
 
 -- the same, where the link is told to have had no failure
 pub after_refusal_of : {K V : Type 0} (outs : V → List Output) (said : Result Done Refusal) (l m n : State K)
-    (e e' : Refusal) (before behind : Shelf) (healthy : Bool) → healthy ≡ is_none l.failure
-    → AnsweredMessage outs said l (Err e) m → Refuses (is_failing m && healthy) e e' m n before behind
-    → AnswersMessage outs said l (Err e') n before behind
-after_refusal_of outs said l m n e e' before behind healthy h a r =
-    after_refusal outs said l m n e e' before behind a
+    (msg : Message) (e e' : Refusal) (before behind : Shelf) (healthy : Bool) → healthy ≡ is_none l.failure
+    → AnsweredMessage outs said l msg (Err e) m → Refuses (is_failing m && healthy) e e' m n before behind
+    → AnswersMessage outs said l msg (Err e') n before behind
+after_refusal_of outs said l m n msg e e' before behind healthy h a r =
+    after_refusal outs said l m n msg e e' before behind a
     (subst (λ (b : Bool). Refuses (is_failing m && b) e e' m n before behind) h r)

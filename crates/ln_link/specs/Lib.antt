@@ -1,3 +1,3 @@
 pub mod Record
-pub mod Saving
 pub mod Loading
+pub mod Saving

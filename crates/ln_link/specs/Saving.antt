@@ -4,6 +4,7 @@ use Rattle.std.specs.Prelude.{Err, if◌then◌else◌}
 use Rattle.std.specs.FinMap as map
 use Rattle.ln_bytes.specs.Answers.{fault_of}
 use Rattle.ln_msgs.specs.Pings.Counted.{HasRisen}
+use Rattle.ln_msgs.specs.declared.messages.message.Message.{Message}
 use Rattle.ln_msgs.specs.declared.refusals.refusal.Refusal.{Refusal}
 use Rattle.ln_msgs.specs.declared.refusals.refusal.Refusal.TheVariants as refusal
 use Rattle.ln_channel.specs.declared.unsaved.Stage.{Stage}
@@ -11,12 +12,13 @@ use Rattle.ln_channel.specs.declared.output.Output.{Output}
 use Rattle.ln_channel.specs.End.{End}
 use Rattle.ln_channel.specs.Record.{saved_end}
 use Rattle.ln_channel.specs.Failing.{fails}
-use Rattle.ln_channel.specs.Opening.{MayLack}
-use Rattle.ln_channel.specs.State.{State, refused, halts}
-use Rattle.ln_channel.specs.Step.{Done}
+use Rattle.ln_channel.specs.Opening.{LacksBy}
+use Rattle.ln_channel.specs.State.{State, refused, halts, IsHalted}
+use Rattle.ln_channel.specs.Step.{Done, makes_view}
 use Rattle.ln_store.specs.Store.{Records, IsOneOf}
 use Rattle.ln_store.specs.Record.{record_bytes}
 use Rattle.ln_link.specs.Record.{items_of, NoRecord}
+use Rattle.ln_link.specs.Loading.{HasRecord}
 
 -- a store as a call finds it or leaves it: its records, and how many of its calls have failed
 pub record Shelf : Type 0 where
@@ -28,14 +30,13 @@ abbrev pub stored_end : Option Refusal → Option End → Records → Records
 stored_end failure (Some e) rs = map.insert rs e.dance.channel (record_bytes (items_of failure e))
 stored_end failure None rs = rs
 
-abbrev pub stored : Option Refusal → Stage → Records → Records
-stored failure s rs = stored_end failure (saved_end s) rs
-
 abbrev pub with_records : Records → Shelf → Shelf
 with_records rs s = record { records = rs; failed = s.failed }
 
-abbrev pub saved : Option Refusal → Stage → Shelf → Shelf
-saved failure s shelf = with_records (stored failure s shelf.records) shelf
+-- the end that is saved has a record
+abbrev pub HasSaved : Option Refusal → Option End → Type 0
+HasSaved failure (Some e) = HasRecord failure e
+HasSaved failure None = Unit {0}
 
 -- there is an end to be saved, and it has no record
 abbrev pub CannotBeStored : Option Refusal → Option End → Type 0
@@ -49,13 +50,18 @@ FailsBy r failure o before behind =
     ⊎ (((r ≡ refusal.Damaged) × CannotBeStored failure o × (behind ≡ before))
     ⊎ ((r ≡ refusal.Store) × HasRisen before behind))
 
--- the store has the record that it had, or the one that was to be saved
+-- the store has the record that it had, or, where it failed itself, perhaps the one that was to be saved
 pub record IsUnsaved (e : Refusal) (failure : Option Refusal) (o : Option End) (before behind : Shelf) : Type 0 where
   pub cause : FailsBy e failure o before.failed behind.failed
-  pub one_of_both : IsOneOf before.records (stored_end failure o before.records) behind.records
+  pub one_of_both : IsOneOf e before.records (stored_end failure o before.records) behind.records
+
+-- the end has a record, and the store has it
+abbrev pub IsSaved : Option Refusal → Option End → Shelf → Shelf → Type 0
+IsSaved failure o before behind =
+    HasSaved failure o × (behind ≡ with_records (stored_end failure o before.records) before)
 
 abbrev pub Saves : Option Refusal → Option End → Result (Unit {0}) Refusal → Shelf → Shelf → Type 0
-Saves failure o (Ok u) before behind = behind ≡ with_records (stored_end failure o before.records) before
+Saves failure o (Ok u) before behind = IsSaved failure o before behind
 Saves failure o (Err e) before behind = IsUnsaved e failure o before behind
 
 -- the link halts, as what was done, or the failure of its channel, couldn't be saved
@@ -64,7 +70,7 @@ HaltsUnsaved e l new before behind = (new ≡ halts l) × IsUnsaved e l.failure 
 
 -- what is saved, or else the link halts
 abbrev pub Keeps : {K : Type 0} → Result (Unit {0}) Refusal → State K → State K → Shelf → Shelf → Type 0
-Keeps (Ok u) old new before behind = (new ≡ old) × (behind ≡ saved old.failure old.stage before)
+Keeps (Ok u) old new before behind = (new ≡ old) × IsSaved old.failure (saved_end old.stage) before behind
 Keeps (Err e) old new before behind = HaltsUnsaved e old new before behind
 
 -- it has failed, and hasn't halted
@@ -75,7 +81,8 @@ is_failing l = not l.halted && not (is_none l.failure)
 abbrev pub Refuses : {K : Type 0} → Bool → Refusal → Refusal → State K → State K → Shelf → Shelf → Type 0
 Refuses false r e old new before behind = (e ≡ r) × (new ≡ old) × (behind ≡ before)
 Refuses true r e old new before behind =
-    ((e ≡ r) × (new ≡ old) × (behind ≡ saved old.failure old.stage before)) ⊎ HaltsUnsaved e old new before behind
+    ((e ≡ r) × (new ≡ old) × IsSaved old.failure (saved_end old.stage) before behind)
+    ⊎ HaltsUnsaved e old new before behind
 
 -- ---- answers
 
@@ -87,13 +94,14 @@ reached d l = record l { line = d.line; stage = d.stage }
 abbrev pub HandsOut : {K V : Type 0} → (V → List Output) → Result Done Refusal → State K → V → State K → Shelf → Shelf
     → Type 0
 HandsOut outs (Ok d) l v new before behind =
-    (outs v ≡ d.outputs) × (new ≡ reached d l) × (behind ≡ saved l.failure d.stage before)
+    (outs v ≡ d.outputs) × (new ≡ reached d l) × IsSaved l.failure (saved_end d.stage) before behind
 HandsOut outs (Err r) l v new before behind = ⊥
 
 -- it halts for want of memory before anything was to be saved
-abbrev pub HaltsEarly : {K : Type 0} → Refusal → Result Done Refusal → State K → Shelf → Shelf → Type 0
-HaltsEarly e said new before behind =
-    (e ≡ refusal.Memory) × (new.halted ≡ true) × MayLack (fault_of said) × (behind ≡ before)
+abbrev pub HaltsEarly : {K : Type 0} → Bool → Refusal → Result Done Refusal → State K → State K → Shelf → Shelf
+    → Type 0
+HaltsEarly views e said l new before behind =
+    LacksBy views e (fault_of said) × IsHalted l new × (behind ≡ before)
 
 -- by want of memory, or of a save, it halts behind what was done
 abbrev pub HaltsBehind : {K : Type 0} → Refusal → Result Done Refusal → State K → State K → Shelf → Shelf → Type 0
@@ -105,7 +113,7 @@ abbrev pub AnswersCommand : {K V : Type 0} → (V → List Output) → Result Do
     → State K → Shelf → Shelf → Type 0
 AnswersCommand outs said l (Ok v) new before behind = HandsOut outs said l v new before behind
 AnswersCommand outs said l (Err e) new before behind =
-    HaltsEarly e said new before behind
+    HaltsEarly false e said l new before behind
     ⊎ (HaltsBehind e said l new before behind
     ⊎ ((said ≡ Err e) × (new ≡ l) × (behind ≡ before)))
 
@@ -114,9 +122,10 @@ abbrev pub fails_now : {K : Type 0} → Refusal → State K → Bool
 fails_now r l = not l.halted && (is_none l.failure && fails r)
 
 -- a failure of the channel is saved
-abbrev pub saved_refused : {K : Type 0} → Refusal → State K → Shelf → Shelf
-saved_refused r l shelf =
-    if fails_now r l then saved (refused r l).failure (refused r l).stage shelf else shelf
+abbrev pub SavesFailure : {K : Type 0} → Refusal → State K → Shelf → Shelf → Type 0
+SavesFailure r l before behind =
+    if fails_now r l then IsSaved (refused r l).failure (saved_end (refused r l).stage) before behind
+    else behind ≡ before
 
 -- or else the link halts
 abbrev pub HaltsRefused : {K : Type 0} → Refusal → Result Done Refusal → State K → State K → Shelf → Shelf → Type 0
@@ -125,11 +134,11 @@ HaltsRefused e (Err r) l new before behind =
     (fails_now r l ≡ true) × HaltsUnsaved e (refused r l) new before behind
 
 -- a message: a refusal by which the channel fails is kept and saved
-abbrev pub AnswersMessage : {K V : Type 0} → (V → List Output) → Result Done Refusal → State K → Result V Refusal
-    → State K → Shelf → Shelf → Type 0
-AnswersMessage outs said l (Ok v) new before behind = HandsOut outs said l v new before behind
-AnswersMessage outs said l (Err e) new before behind =
-    HaltsEarly e said new before behind
+abbrev pub AnswersMessage : {K V : Type 0} → (V → List Output) → Result Done Refusal → State K → Message
+    → Result V Refusal → State K → Shelf → Shelf → Type 0
+AnswersMessage outs said l m (Ok v) new before behind = HandsOut outs said l v new before behind
+AnswersMessage outs said l m (Err e) new before behind =
+    HaltsEarly (makes_view l m) e said l new before behind
     ⊎ (HaltsBehind e said l new before behind
     ⊎ (HaltsRefused e said l new before behind
-    ⊎ ((said ≡ Err e) × (new ≡ refused e l) × (behind ≡ saved_refused e l before))))
+    ⊎ ((said ≡ Err e) × (new ≡ refused e l) × SavesFailure e l before behind)))

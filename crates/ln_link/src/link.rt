@@ -19,7 +19,7 @@ use std::marker::Model;
 /// What a call made of the channel is in the store before any message that tells it leaves this side: a restart finds
 /// what the peer may know of. Where a save fails, by 60 for want of memory, by 61 where the store failed, by 70 where
 /// no record has these items, the link halts and answers 62 from then on; the store then has the record that it had,
-/// or the one that was to be saved.
+/// or, by 61, perhaps the one that was to be saved.
 #[derive(Drop)]
 pub struct Link<K: ChannelKeys + Drop> {
     unsaved: Unsaved<K>,
@@ -56,23 +56,11 @@ fn save_end<S: RecordStore>(
     store.save(alloc, &channel.id(), &bytes)
 }
 
-fn failure_of<K: ChannelKeys + Drop>(link: &Unsaved<K>) -> Option<Refusal>
-    ensures { result ≡ link.now.failure }
-{
-    link.failure()
-}
-
 // Whether its channel hasn't failed.
 fn is_healthy<K: ChannelKeys + Drop>(link: &Unsaved<K>) -> bool
     ensures { result ≡ is_none link.now.failure }
 {
-    failure_of(link).is_none()
-}
-
-fn end_of<K: ChannelKeys + Drop>(link: &Unsaved<K>) -> Option<&Channel>
-    ensures { option_copied result ≡ saved_end link.now.stage }
-{
-    link.saved()
+    link.failure().is_none()
 }
 
 // Saves the record of a link whose opening both have signed.
@@ -85,8 +73,8 @@ fn save_link<K: ChannelKeys + Drop, S: RecordStore>(
         (record { records = S.records store.old; failed = S.failed store.old })
         (record { records = S.records store.new; failed = S.failed store.new }) }
 {
-    let failure = failure_of(link);
-    match end_of(link) {
+    let failure = link.failure();
+    match link.saved() {
         None => Ok(()),
         Some(channel) => save_end(alloc, store, failure, channel),
     }
@@ -173,7 +161,7 @@ impl<K: ChannelKeys + Drop> Link<K> {
         message: Message,
     ) -> Result<Vec<Output>, Refusal>
         ensures { (l : State K) → StandsFor self.old l
-            → AnswersMessage (λ v. v.items) (handled (K.signer l.keys) l message) l result self.new
+            → AnswersMessage (λ v. v.items) (handled (K.signer l.keys) l message) l message result self.new
             (record { records = S.records store.old; failed = S.failed store.old })
             (record { records = S.records store.new; failed = S.failed store.new }) }
     {

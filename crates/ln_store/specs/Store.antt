@@ -16,9 +16,10 @@ Records = FinMap (slice_cmp nat_cmp) (List ℕ)
 abbrev pub records_code : Coded Records
 records_code = code (coded_list coded_ℕ) (coded_list coded_ℕ)
 
--- the records are those before a save or those behind it, and nothing between the two
-abbrev pub IsOneOf : Records → Records → Records → Type 0
-IsOneOf before behind records = (records ≡ before) ⊎ (records ≡ behind)
+-- what a save that fails leaves: the records before it, or, where the store itself failed, perhaps those behind it; and
+-- nothing between the two
+abbrev pub IsOneOf : Refusal → Records → Records → Records → Type 0
+IsOneOf e before behind records = (records ≡ before) ⊎ ((e ≡ refusal.Store) × (records ≡ behind))
 
 -- A call fails for want of memory or because the store failed. Its count of failures rises where the store failed,
 -- and stays else.

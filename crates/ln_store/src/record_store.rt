@@ -1,6 +1,6 @@
 //! What every store of records promises.
 
-ghost use Rattle.std.specs.Prelude.{◌≡◌, IfOk, OnOk, OnErr};
+ghost use Rattle.std.specs.Prelude.{◌≡◌, IfOk, IfErr, OnOk};
 ghost use Rattle.std.specs.FinMap as map;
 ghost use Rattle.ln_store.specs.Store.{IsOneOf, CountsFailures};
 
@@ -25,12 +25,12 @@ pub trait RecordStore {
 
     /// Makes the bytes the record of this id, in place of the one that there was. No other record changes.
     ///
-    /// Errors: 60 where there is no memory, 61 where the store failed. Then the record of this id is the old one or
-    /// the new one, whole.
+    /// Errors: 60 where there is no memory, and no record has changed; 61 where the store failed, and the record of
+    /// this id is the old one or the new one, whole.
     fn save(&mut self, alloc: Global, id: &[u8; 32], bytes: &[u8]) -> Result<(), Refusal>
         ensures replaces_the_record { OnOk result (records self.new ≡ map.insert (records self.old) id.now bytes.now) }
-        ensures leaves_the_old_or_the_new { OnErr result
-            (IsOneOf (records self.old) (map.insert (records self.old) id.now bytes.now) (records self.new)) }
+        ensures leaves_the_old_or_the_new { IfErr result (λ e.
+            IsOneOf e (records self.old) (map.insert (records self.old) id.now bytes.now) (records self.new)) }
         ensures counts_failures { CountsFailures result (failed self.old) (failed self.new) };
 
     /// The record of this id, or none where there is none. No record changes.

@@ -1,7 +1,7 @@
 use Rattle.std.proofs.Common.{refl, ap, sym, subst, ◌≤◌}
 use Rattle.ln_dance.specs.Dance.{Dancer, after_accept, is_last, is_right}
 use Rattle.ln_channel.specs.End.{End, with_dance}
-use Rattle.ln_channel.proofs.Accepting.{sound, on_ok, viewed}
+use Rattle.ln_channel.proofs.Accepting.{sound, same_channel, on_ok, viewed}
 use Rattle.ln_channel.proofs.channel.Channel.accept.Goals as goal
 
 pub invariant_of-self : goal.invariant_of-self
@@ -45,3 +45,8 @@ pub returns-clause-first_stays_below : goal.returns-clause-first_stays_below
 returns-clause-first_stays_below g c = rw (← c.self.view_is)
     (on_ok c.accept.result (λ s. subst (λ (d : Dancer). d.log.first.own ≤ c.self.inside.dance.log.current.own) (sym s)
     c.own_held.ensures.first) (c.accept.ensures.moves_as_stated _ refl))
+
+pub returns-clause-same_channel : goal.returns-clause-same_channel
+returns-clause-same_channel g c = rw (← c.self.view_is)
+    (same_channel c.accept.result c.self.inside.dance c.accept.new.self (after_accept c.self.inside.dance)
+    (c.accept.ensures.moves_as_stated _ refl) c.accept.ensures.changes_nothing_if_refused refl)

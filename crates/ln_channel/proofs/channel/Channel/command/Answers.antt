@@ -5,8 +5,8 @@ use Rattle.ln_channel.specs.End.{Makes}
 use Rattle.ln_channel.specs.Commands.{propose_row, command_row}
 use Rattle.ln_channel.proofs.channel.Channel.command.Goals as goal
 
-pub returns-in-Add : goal.returns-in-Add
-returns-in-Add g c =
+pub returns-in-Add-clause-makes : goal.returns-in-Add-clause-makes
+returns-in-Add-clause-makes g c =
     let offered = subst (λ (n : ℕ). Makes (propose_row
     (update.Add (record {
       id = n;
@@ -16,6 +16,6 @@ returns-in-Add g c =
       onion = c.in-Add.onion;
       origin = c.in-Add.origin;
     })) c.args.self.now) c.offer.result c.args.self.now
-    c.offer.new.self) c.next_id-id.ensures c.offer.ensures in
+    c.offer.new.self) c.next_id-id.ensures c.offer.ensures.makes in
     subst (λ (k : Command). Makes (command_row (g.K.ChannelKeys.signer c.args.keys.now) k c.args.self.now)
     c.offer.result c.args.self.now c.offer.new.self) (sym c.in-Add.is) offered

@@ -1,7 +1,7 @@
 use Rattle.std.proofs.Common.{refl, ap, sym, subst, ◌≤◌}
 use Rattle.ln_dance.specs.Dance.{Dancer, after_learn}
 use Rattle.ln_channel.specs.End.{End, with_dance}
-use Rattle.ln_channel.proofs.Accepting.{sound, on_ok}
+use Rattle.ln_channel.proofs.Accepting.{sound, same_channel, on_ok}
 use Rattle.ln_channel.proofs.channel.Channel.learn.Goals as goal
 
 pub invariant_of-self : goal.invariant_of-self
@@ -37,3 +37,8 @@ pub returns-clause-first_stays_below : goal.returns-clause-first_stays_below
 returns-clause-first_stays_below g c = rw (← c.self.view_is)
     (on_ok c.learn.result (λ s. subst (λ (d : Dancer). d.log.first.peer ≤ c.self.inside.dance.log.acknowledged.peer)
     (sym s) c.peer_held.ensures.first) (c.learn.ensures.moves_as_stated _ refl))
+
+pub returns-clause-same_channel : goal.returns-clause-same_channel
+returns-clause-same_channel g c = rw (← c.self.view_is)
+    (same_channel c.learn.result c.self.inside.dance c.learn.new.self (after_learn c.args.message.now c.self.inside.dance)
+    (c.learn.ensures.moves_as_stated _ refl) c.learn.ensures.changes_nothing_if_refused refl)

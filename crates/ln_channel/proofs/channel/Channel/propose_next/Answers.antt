@@ -2,7 +2,7 @@ use Rattle.std.proofs.Common.{refl, ap}
 use Rattle.ln_log.specs.Log.{after_propose, proposal_fault}
 use Rattle.ln_dance.specs.Dance.{Dancer, with_log}
 use Rattle.ln_channel.specs.End.{End, with_dance}
-use Rattle.ln_channel.proofs.Accepting.{sound, on_ok, within}
+use Rattle.ln_channel.proofs.Accepting.{sound, same_channel, on_ok, within}
 use Rattle.ln_channel.proofs.channel.Channel.propose_next.Goals as goal
 
 pub invariant_of-self : goal.invariant_of-self
@@ -34,3 +34,8 @@ pub returns-clause-refuses_exactly : goal.returns-clause-refuses_exactly
 returns-clause-refuses_exactly c = rw (← c.self.view_is)
     (within (proposal_fault c.self.inside.dance.log c.args.update) c.propose.result (c.propose.ensures.refuses_exactly
     _ refl))
+
+pub returns-clause-same_channel : goal.returns-clause-same_channel
+returns-clause-same_channel c = rw (← c.self.view_is)
+    (same_channel c.propose.result c.self.inside.dance c.propose.new.self (with_log (after_propose c.args.update c.self.inside.dance.log) c.self.inside.dance)
+    (c.propose.ensures.moves_as_stated _ refl) c.propose.ensures.changes_nothing_if_refused refl)

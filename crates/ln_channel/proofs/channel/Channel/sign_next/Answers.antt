@@ -2,7 +2,7 @@ use Rattle.std.proofs.Common.{refl, ap, sym}
 use Rattle.ln_msgs.specs.declared.refusals.refusal.Refusal.TheVariants as refusal
 use Rattle.ln_dance.specs.Dance.{Dancer, after_sign, sign_fault}
 use Rattle.ln_channel.specs.End.{End, with_dance, is_ready}
-use Rattle.ln_channel.proofs.Accepting.{sound, on_ok, within_if}
+use Rattle.ln_channel.proofs.Accepting.{sound, same_channel, on_ok, within_if}
 use Rattle.ln_channel.proofs.channel.Channel.sign_next.Goals as goal
 
 pub invariant_of-self : goal.invariant_of-self
@@ -33,3 +33,8 @@ pub returns-clause-refuses_exactly : goal.returns-clause-refuses_exactly
 returns-clause-refuses_exactly g c =
     within_if (is_ready c.args.self.now) refusal.NotReady (sign_fault c.args.self.now.dance) c.sign.result
     (sym c.if-not-is_ready.ensures) (c.sign.ensures.refuses_exactly _ (ap (λ (e : End). e.dance) c.self.view_is))
+
+pub returns-clause-same_channel : goal.returns-clause-same_channel
+returns-clause-same_channel g c = rw (← c.self.view_is)
+    (same_channel c.sign.result c.self.inside.dance c.sign.new.self (after_sign c.self.inside.dance)
+    (c.sign.ensures.moves_as_stated _ refl) c.sign.ensures.changes_nothing_if_refused refl)

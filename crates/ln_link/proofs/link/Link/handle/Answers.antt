@@ -8,7 +8,7 @@ use Rattle.ln_link.proofs.link.Link.handle.Goals as goal
 pub returns-in-Err : goal.returns-in-Err
 returns-in-Err g c = λ l s.
     after_refusal_of {V = List Output} (λ v. v) (handled (g.K.ChannelKeys.signer l.keys) l c.args.message) l
-    c.handle.new.self c.refuse.new.self c.in-Err.refusal c.refuse.result
+    c.handle.new.self c.refuse.new.self c.args.message c.in-Err.refusal c.refuse.result
     (record {
       records = g.S.RecordStore.records c.args.store.now;
       failed = g.S.RecordStore.failed c.args.store.now;
