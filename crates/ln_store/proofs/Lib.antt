@@ -2,5 +2,6 @@ mod Maps
 pub mod Formats
 pub mod Laws
 pub mod Loops
+pub mod Removing
 mod Appends
 mod Records

@@ -13,6 +13,7 @@ use Rattle.ln_store.specs.declared.record.Sides.{Sides}
 use Rattle.ln_store.specs.declared.record.Base.{Base}
 use Rattle.ln_store.specs.declared.record.Window.{Window}
 use Rattle.ln_store.specs.declared.record.Updates.{Updates}
+use Rattle.ln_store.specs.Removals.{is_there, are_removals}
 
 -- ---- what is a side's
 
@@ -68,6 +69,14 @@ ids_fit side u =
     nat_le (count_of side u.base.next_ids) (count_of side u.base.updates)
     && are_numbered (count_of side u.base.next_ids) (window_of side u.window)
 
+-- ---- removals (BOLT 2, "Removing an HTLC")
+
+-- each removal of a side's window names an HTLC of the other side that is there, and no two name the same
+abbrev pub removals_fit : Role → Updates → Bool
+removals_fit side u =
+    are_removals (is_there (other_role side) u.base.live (window_of (other_role side) u.window)) []
+    (window_of side u.window)
+
 -- ---- sums (BOLT 3, "Commitment Transaction Outputs")
 
 abbrev pub live_amount : LiveHtlc → ℕ
@@ -83,3 +92,4 @@ funds_in b = b.balances.funder + b.balances.fundee + sum_by live_amount b.live
 abbrev pub updates_fit : Role → ℕ → Updates → Bool
 updates_fit own satoshis u =
     counts_fit own u && ids_fit Funder u && ids_fit Fundee u && (funds_in u.base == 1000 * satoshis)
+    && removals_fit Funder u && removals_fit Fundee u

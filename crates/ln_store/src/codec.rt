@@ -1,7 +1,7 @@
 //! Records as bytes.
 
 ghost use Rattle.std.specs.Prelude.{◌≡◌, IsTrue, ◌<◌, ◌≤◌, ◌++◌, ℕ, List, Ok, Err, true, false, IfOk, IfErr, OnOk};
-ghost use Rattle.std.specs.Prelude.{slice_index, length, ◌&&◌, ◌==◌, ◌^◌};
+ghost use Rattle.std.specs.Prelude.{slice_index, length, ◌&&◌, ◌==◌, ◌^◌, IsErrOf};
 ghost use Rattle.ln_keys.specs.Hash.{payment_hash as digest};
 ghost use Rattle.ln_store.specs.declared.record.Items.{Items};
 ghost use Rattle.ln_store.specs.Items as it;
@@ -91,7 +91,7 @@ fn items_of(alloc: Global, body: &[u8]) -> Result<Items, Refusal>
 ///
 /// Errors, the first one: 70 (`Damaged`) where there are fewer than 46 bytes, where the first four, the length or
 /// the digest are others; 71 (`Version`) where the version is another; 70 where the body isn't readable. 60 where
-/// there is no memory.
+/// there is no memory for a body of this version with its length and digest: what is told before takes none.
 pub fn decode_record(alloc: Global, bytes: &[u8]) -> Result<LinkRecord, Refusal>
     // What is read is spelled so, and readable by its type.
     ensures is_spelled_so { IfOk result (λ r. bytes.now ≡ record_bytes r) }
@@ -102,6 +102,10 @@ pub fn decode_record(alloc: Global, bytes: &[u8]) -> Result<LinkRecord, Refusal>
 
     // Which answer it is, and which fault comes first.
     ensures reads_as_defined { Gives (λ r. r) result (record_at bytes.now) }
+
+    // Memory is taken for the body alone.
+    ensures takes_memory_for_the_body { IsErrOf result Refusal.Memory
+        → (is_sealed bytes.now ≡ true) × (version_of bytes.now ≡ 1) }
 {
     read_record(alloc, bytes)
 }
@@ -109,6 +113,8 @@ pub fn decode_record(alloc: Global, bytes: &[u8]) -> Result<LinkRecord, Refusal>
 fn read_record(alloc: Global, bytes: &[u8]) -> Result<LinkRecord, Refusal>
     ensures reads_as_defined { Gives (λ r. r) result (record_at bytes.now) }
     ensures is_in_memory { length bytes.now < 2 ^ 63 }
+    ensures takes_memory_for_the_body { IsErrOf result Refusal.Memory
+        → (is_sealed bytes.now ≡ true) × (version_of bytes.now ≡ 1) }
 {
     if !is_sealed(bytes) {
         return Err(Refusal::Damaged);

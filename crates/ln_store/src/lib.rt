@@ -13,6 +13,7 @@ mod place;
 mod readable;
 mod record;
 mod record_store;
+mod removals;
 mod stored;
 mod updates;
 mod window;

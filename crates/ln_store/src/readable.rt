@@ -101,7 +101,7 @@ fn are_settled(numbers: &Numbers, pairs: &Pairs) -> bool
     numbers.signed != numbers.revoked || cover_the_same(&pairs.acknowledged, &pairs.signed)
 }
 
-fn is_in_window(based: u64, windowed: usize, number: u64) -> bool
+pub(crate) fn is_in_window(based: u64, windowed: usize, number: u64) -> bool
     ensures { result ≡ is_in_window based windowed number }
 {
     based <= number && u128::from(number) < u128::from(based) + windowed as u128
@@ -171,7 +171,7 @@ pub(crate) fn is_sound(alloc: Global, items: &Items) -> Result<bool, Refusal>
                 &items.updates,
                 events.undecided.as_slice(),
             )
-            && updates_fit(items.header.role, satoshis, &items.updates),
+            && updates_fit(alloc, items.header.role, satoshis, &items.updates)?,
     )
 }
 
@@ -181,8 +181,10 @@ pub(crate) fn is_sound(alloc: Global, items: &Items) -> Result<bool, Refusal>
 /// a removal, a failure is one by which a channel fails (21 to 35 or 37). The payloads say an `open_channel` whose
 /// funding is 1 to 2,100,000,000,000,000 satoshi and an `accept_channel`; the numbers of commitments are below 2^48
 /// with at most one signature unrevoked, and where none is, what was acknowledged is what was signed; at most
-/// 2^63 + 1 events were decided; each undecided event names an update of the window or the close. Takes memory for
-/// the two payloads.
+/// 2^63 + 1 events were decided; each undecided event names an update of the window or the close. The counts of updates
+/// rise and cover all of them, ids go on from the base's, and the base adds up to the funding (specs/Window.antt); each
+/// fulfil, fail and malformed fail names an HTLC of the other side that is live in the base or added in the window, and
+/// no two the same. Takes memory for the two payloads and for the ids of the HTLCs that are removed.
 ///
 /// Error: 60 alone, where there is no memory.
 pub fn is_readable(alloc: Global, items: &Items) -> Result<bool, Refusal>

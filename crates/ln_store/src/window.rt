@@ -1,14 +1,17 @@
 //! Whether a record may tell these updates.
 
-ghost use Rattle.std.specs.Prelude.{◌≡◌, ◌≤◌, ◌*◌, ◌^◌, length, sum_by};
+ghost use Rattle.std.specs.Prelude.{◌≡◌, ◌≤◌, ◌*◌, ◌^◌, length, sum_by, IfOk, IfErr};
 ghost use Rattle.ln_store.specs.Window.{count_of, window_of, rise, own_counts_rise, peer_counts_rise, covers_all};
 ghost use Rattle.ln_store.specs.Window.{counts_fit, are_numbered, ids_fit, live_amount, funds_in, updates_fit};
 
 use crate::record::{Base, LiveHtlc, Sides, Updates, Window};
+use crate::removals::removals_fit;
 use ln_keys::Role;
 use ln_log::{MOST_UPDATES, Update};
+use ln_msgs::Refusal;
+use std::alloc::Global;
 
-fn count_of(side: Role, sides: &Sides) -> u64
+pub(crate) fn count_of(side: Role, sides: &Sides) -> u64
     ensures { result ≡ count_of side sides.now }
 {
     match side {
@@ -17,7 +20,7 @@ fn count_of(side: Role, sides: &Sides) -> u64
     }
 }
 
-fn window_of(side: Role, window: &Window) -> &[Update]
+pub(crate) fn window_of(side: Role, window: &Window) -> &[Update]
     ensures { result.now ≡ window_of side window.now }
 {
     match side {
@@ -120,13 +123,23 @@ fn funds_in(base: &Base) -> u128
         + live_amounts(base.live.as_slice())
 }
 
-/// Whether a record of this end, in a channel of so many satoshi, may tell these updates. Takes no memory, and time
-/// that grows linearly with the updates.
-pub(crate) fn updates_fit(own: Role, satoshis: u64, updates: &Updates) -> bool
-    ensures { result ≡ updates_fit own satoshis updates.now }
+/// Whether a record of this end, in a channel of so many satoshi, may tell these updates. Takes memory where all but
+/// removals fits, for these alone, and time that grows with the updates as to sort them does.
+pub(crate) fn updates_fit(
+    alloc: Global,
+    own: Role,
+    satoshis: u64,
+    updates: &Updates,
+) -> Result<bool, Refusal>
+    ensures tells_it { IfOk result (λ b. b ≡ updates_fit own satoshis updates.now) }
+    ensures fails_for_memory_alone { IfErr result (λ e. e ≡ Refusal.Memory) }
 {
-    counts_fit(own, updates)
-        && ids_fit(Role::Funder, updates)
-        && ids_fit(Role::Fundee, updates)
-        && funds_in(&updates.base) == 1000 * u128::from(satoshis)
+    Ok(
+        counts_fit(own, updates)
+            && ids_fit(Role::Funder, updates)
+            && ids_fit(Role::Fundee, updates)
+            && funds_in(&updates.base) == 1000 * u128::from(satoshis)
+            && removals_fit(alloc, Role::Funder, updates)?
+            && removals_fit(alloc, Role::Fundee, updates)?,
+    )
 }
