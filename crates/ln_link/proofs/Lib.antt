@@ -5,3 +5,4 @@ pub mod Loaded
 pub mod Coverage
 pub mod Restarted
 pub mod Window
+pub mod Calls

@@ -8,7 +8,7 @@ use Rattle.ln_channel.specs.Opening.{opening_of}
 use Rattle.ln_link.specs.Record.{header_of, agreement_of, commitments_of, updates_of, progress_of, items_of}
 
 -- what is lost twice is lost once
-lost_twice : (l : Log) → after_drop (after_drop l) ≡ after_drop l
+pub lost_twice : (l : Log) → after_drop (after_drop l) ≡ after_drop l
 lost_twice l =
     ap (λ us. record l { own = us; received = take l.current.peer (take l.current.peer l.received) })
     (take-take l.signed.own l.signed.own l.own (omega arith))

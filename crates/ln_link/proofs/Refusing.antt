@@ -12,7 +12,7 @@ use Rattle.ln_channel.specs.State.{State, failed, refused, IsHalted}
 use Rattle.ln_channel.specs.Step.{Done, AnsweredMessage}
 use Rattle.ln_channel.specs.State.{halts}
 use Rattle.ln_channel.specs.Record.{saved_end}
-use Rattle.ln_link.specs.Saving.{Shelf, Refuses, IsSaved, IsUnsaved, HaltsRefused}
+use Rattle.ln_link.specs.Saving.{Shelf, Refuses, IsSaved, IsUnsaved, HaltsRefused, SavesIf}
 use Rattle.ln_link.specs.Saving.{is_failing, fails_now, AnswersMessage}
 
 -- a link without a failure, by whether the refusal is one
@@ -46,8 +46,7 @@ settled outs said l m n msg e e' before behind false w s p x =
     inr (inr (inr (
       s ∙ ap Err (sym x.0),
       x.1 ∙ p ∙ ap (λ (r : Refusal). refused r l) (sym x.0),
-      subst (λ (b : Bool). if b then IsSaved (refused e' l).failure (saved_end (refused e' l).stage) before behind
-        else behind ≡ before) (sym k) x.2,
+      subst (λ b. SavesIf b (refused e' l).failure (saved_end (refused e' l).stage) before behind) (sym k) x.2,
     )))
 settled outs said l m n msg e e' before behind true w s p (inl x) =
     let k : fails_now e' l ≡ true = ap (λ (r : Refusal). fails_now r l) x.0 ∙ w in
@@ -55,8 +54,7 @@ settled outs said l m n msg e e' before behind true w s p (inl x) =
     inr (inr (inr (
       s ∙ ap Err (sym x.0),
       x.1 ∙ q,
-      subst (λ (b : Bool). if b then IsSaved (refused e' l).failure (saved_end (refused e' l).stage) before behind
-        else behind ≡ before) (sym k)
+      subst (λ b. SavesIf b (refused e' l).failure (saved_end (refused e' l).stage) before behind) (sym k)
         (subst (λ (y : State _). IsSaved y.failure (saved_end y.stage) before behind) q x.2),
     )))
 settled outs said l m n msg e e' before behind true w s p (inr x) =

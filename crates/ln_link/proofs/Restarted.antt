@@ -18,7 +18,7 @@ same_items : (i j : Items) → read i ≡ read j → i ≡ j
 same_items i j e = cc
 
 -- the failure is read again
-same_failure : (failure : Option Refusal) (e : End) → (items_of failure e).header.failure ≡ failure
+pub same_failure : (failure : Option Refusal) (e : End) → (items_of failure e).header.failure ≡ failure
 unfolding items_of header_of
 same_failure failure e = refl
 

@@ -1,3 +1,4 @@
 pub mod Record
 pub mod Loading
 pub mod Saving
+pub mod Calls

@@ -43,12 +43,12 @@ abbrev pub CannotBeStored : Option Refusal → Option End → Type 0
 CannotBeStored failure (Some e) = NoRecord failure e
 CannotBeStored failure None = ⊥
 
--- no memory, no record that has these items, or the store failed, which it counts
+-- no memory, no record that has these items, or the store failed to take the record, which it counts
 abbrev pub FailsBy : Refusal → Option Refusal → Option End → ℕ → ℕ → Type 0
 FailsBy r failure o before behind =
     ((r ≡ refusal.Memory) × (behind ≡ before))
     ⊎ (((r ≡ refusal.Damaged) × CannotBeStored failure o × (behind ≡ before))
-    ⊎ ((r ≡ refusal.Store) × HasRisen before behind))
+    ⊎ ((r ≡ refusal.Store) × HasSaved failure o × HasRisen before behind))
 
 -- the store has the record that it had, or, where it failed itself, perhaps the one that was to be saved
 pub record IsUnsaved (e : Refusal) (failure : Option Refusal) (o : Option End) (before behind : Shelf) : Type 0 where
@@ -121,11 +121,15 @@ AnswersCommand outs said l (Err e) new before behind =
 abbrev pub fails_now : {K : Type 0} → Refusal → State K → Bool
 fails_now r l = not l.halted && (is_none l.failure && fails r)
 
+-- saved where it has to be
+abbrev pub SavesIf : Bool → Option Refusal → Option End → Shelf → Shelf → Type 0
+SavesIf true failure o before behind = IsSaved failure o before behind
+SavesIf false failure o before behind = behind ≡ before
+
 -- a failure of the channel is saved
 abbrev pub SavesFailure : {K : Type 0} → Refusal → State K → Shelf → Shelf → Type 0
 SavesFailure r l before behind =
-    if fails_now r l then IsSaved (refused r l).failure (saved_end (refused r l).stage) before behind
-    else behind ≡ before
+    SavesIf (fails_now r l) (refused r l).failure (saved_end (refused r l).stage) before behind
 
 -- or else the link halts
 abbrev pub HaltsRefused : {K : Type 0} → Refusal → Result Done Refusal → State K → State K → Shelf → Shelf → Type 0

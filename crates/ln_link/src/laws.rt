@@ -1,20 +1,39 @@
 //! What a record has of an end.
 
-ghost use Rattle.std.specs.Prelude.{◌≡◌, Option};
+ghost use Rattle.std.specs.Prelude.{◌≡◌, ℕ, List, Option, Some, false};
 ghost use Rattle.ln_msgs.specs.declared.refusals.refusal.Refusal.{Refusal};
+ghost use Rattle.ln_keys.specs.Signer.{Signer};
 ghost use Rattle.ln_channel.specs.End.{End, end_dropped};
+ghost use Rattle.ln_channel.specs.State.{State, kept_channel};
 ghost use Rattle.ln_link.specs.Record.{items_of};
 ghost use Rattle.ln_link.specs.Loading.{IsLoadable, HasRecord, end_of};
+ghost use Rattle.ln_link.specs.Saving.{Shelf};
+ghost use Rattle.ln_link.specs.Calls.{Call, Lead, HasLink, HasChannel};
+
+use ln_keys::ChannelKeys;
 
 /// An end has the same record before and behind a lost connection.
 pub fn lost_connection_is_recorded()
     ensures { (failure : Option Refusal) (e : End) → items_of failure (end_dropped e) ≡ items_of failure e }
 {}
 
-/// A law: what is saved of an end is read as a lost connection leaves it.
+/// A law: what is saved of an end is read as a lost connection leaves it, and a channel that has failed has failed as
+/// it had.
 pub fn saved_is_loaded()
     ensures can_be_loaded { (failure : Option Refusal) (e : End) → HasRecord failure e
         → IsLoadable (items_of failure e) }
     ensures as_dropped { (failure : Option Refusal) (e : End) → HasRecord failure e
         → end_of (items_of failure e) ≡ end_dropped e }
+    ensures failed_as_it_had { (failure : Option Refusal) (e : End) → (items_of failure e).header.failure ≡ failure }
+{}
+
+/// A law: over any calls of one link whose record its store has, as that of a new link, which needs none, and of one
+/// that was loaded: a link that hasn't halted has its record in the store, as a lost connection leaves it and with its
+/// failure, and it can be loaded; and whatever was answered, also by 60, 61 or 70, from the saved opening on the store
+/// has a record of the channel that can be loaded.
+pub fn store_has_the_record<K: ChannelKeys>()
+    ensures of_the_link { (keys : Signer) (calls : List Call) (l l' : State K) (s s' : Shelf) → HasLink l s
+        → Lead keys calls l s l' s' → l'.halted ≡ false → HasLink l' s' }
+    ensures of_the_channel { (keys : Signer) (channel : List ℕ) (calls : List Call) (l l' : State K) (s s' : Shelf)
+        → HasLink l s → kept_channel l.stage ≡ Some channel → Lead keys calls l s l' s' → HasChannel channel s' }
 {}

@@ -7,6 +7,7 @@ ghost use Rattle.ln_link.specs.Saving.{Saves};
 use crate::loading::loaded;
 use crate::record::to_record;
 use ln_channel::{Channel, Command, FitConfig, FitSpec, Output, Unsaved};
+use ln_hooks::ChannelEvent;
 use ln_keys::ChannelKeys;
 use ln_msgs::{Message, Refusal};
 use ln_store::{RecordStore, encode_record};
@@ -81,9 +82,10 @@ fn save_link<K: ChannelKeys + Drop, S: RecordStore>(
 }
 
 impl<K: ChannelKeys + Drop> Link<K> {
-    ghost use Rattle.std.specs.Prelude.{◌≡◌, ◌&&◌, Ok, true};
+    ghost use Rattle.std.specs.Prelude.{◌≡◌, ◌&&◌, Ok, true, IfOk, IfErr};
+    ghost use Rattle.ln_channel.specs.Pending.{pending_at};
     ghost use Rattle.ln_channel.specs.declared.unsaved.Stage.TheVariants as stage;
-    ghost use Rattle.ln_channel.specs.State.{State, StandsFor, begun, drops, halts};
+    ghost use Rattle.ln_channel.specs.State.{State, StandsFor, KeepsChannel, begun, drops, halts};
     ghost use Rattle.ln_channel.specs.Step.{Answered, connected, handled, commanded};
     ghost use Rattle.ln_store.specs.Readable.{is_readable};
     ghost use Rattle.ln_store.specs.Record.{record_at, record_bytes};
@@ -135,11 +137,22 @@ impl<K: ChannelKeys + Drop> Link<K> {
         &self.unsaved
     }
 
+    /// The events that its end hasn't decided, each with its number, in their order: `Unsaved::pending_events`. They
+    /// are what a dispatcher begins with, also behind a restart. Takes memory for them; 60 where there is none, and
+    /// nothing has changed.
+    pub fn pending_events(&self, alloc: Global) -> Result<Vec<(u64, ChannelEvent)>, Refusal>
+        ensures events { (l : State K) → StandsFor self.now l → IfOk result (λ v. v.items ≡ pending_at l.stage) }
+        ensures fails_for_memory_alone { IfErr result (λ r. r ≡ Refusal.Memory) }
+    {
+        self.unsaved.pending_events(alloc)
+    }
+
     // Saves the link, or halts it.
     fn save<S: RecordStore>(&mut self, alloc: Global, store: &mut S) -> Result<(), Refusal>
-        ensures { Keeps result self.old self.new
+        ensures keeps { Keeps result self.old self.new
             (record { records = S.records store.old; failed = S.failed store.old })
             (record { records = S.records store.new; failed = S.failed store.new }) }
+        ensures same_channel { KeepsChannel self.old.stage self.new.stage }
     {
         match save_link(alloc, store, &self.unsaved) {
             Ok(()) => Ok(()),
@@ -160,10 +173,11 @@ impl<K: ChannelKeys + Drop> Link<K> {
         store: &mut S,
         message: Message,
     ) -> Result<Vec<Output>, Refusal>
-        ensures { (l : State K) → StandsFor self.old l
+        ensures answers { (l : State K) → StandsFor self.old l
             → AnswersMessage (λ v. v.items) (handled (K.signer l.keys) l message) l message result self.new
             (record { records = S.records store.old; failed = S.failed store.old })
             (record { records = S.records store.new; failed = S.failed store.new }) }
+        ensures same_channel { KeepsChannel self.old.stage self.new.stage }
     {
         let healthy = is_healthy(&self.unsaved);
         match self.unsaved.handle(alloc, message) {
@@ -186,9 +200,10 @@ impl<K: ChannelKeys + Drop> Link<K> {
         healthy: bool,
         refusal: Refusal,
     ) -> Refusal
-        ensures { Refuses (is_failing self.old && healthy) refusal result self.old self.new
+        ensures refuses { Refuses (is_failing self.old && healthy) refusal result self.old self.new
             (record { records = S.records store.old; failed = S.failed store.old })
             (record { records = S.records store.new; failed = S.failed store.new }) }
+        ensures same_channel { KeepsChannel self.old.stage self.new.stage }
     {
         if !healthy || self.unsaved.is_halted() || self.unsaved.failure().is_none() {
             return refusal;
@@ -209,10 +224,11 @@ impl<K: ChannelKeys + Drop> Link<K> {
         store: &mut S,
         command: Command,
     ) -> Result<Vec<Output>, Refusal>
-        ensures { (l : State K) → StandsFor self.old l
+        ensures answers { (l : State K) → StandsFor self.old l
             → AnswersCommand (λ v. v.items) (commanded (K.signer l.keys) l command) l result self.new
             (record { records = S.records store.old; failed = S.failed store.old })
             (record { records = S.records store.new; failed = S.failed store.new }) }
+        ensures same_channel { KeepsChannel self.old.stage self.new.stage }
     {
         match self.unsaved.command(alloc, command) {
             Ok(outputs) => match self.save(alloc, store) {
@@ -228,8 +244,9 @@ impl<K: ChannelKeys + Drop> Link<K> {
 
     /// There is a connection to the peer: `Unsaved::connect`. Nothing is saved.
     pub fn connect(&mut self, alloc: Global) -> Result<Vec<Output>, Refusal>
-        ensures { (l : State K) → StandsFor self.old l
+        ensures answers { (l : State K) → StandsFor self.old l
             → Answered (λ v. v.items) (connected (K.signer l.keys) l) l result self.new }
+        ensures same_channel { KeepsChannel self.old.stage self.new.stage }
     {
         self.unsaved.connect(alloc)
     }
@@ -237,14 +254,16 @@ impl<K: ChannelKeys + Drop> Link<K> {
     /// The connection is lost: `Unsaved::drop_connection`. Nothing is saved, as a record has what a lost connection
     /// leaves.
     pub fn drop_connection(&mut self)
-        ensures { (l : State K) → StandsFor self.old l → StandsFor self.new (drops l) }
+        ensures state { (l : State K) → StandsFor self.old l → StandsFor self.new (drops l) }
+        ensures same_channel { KeepsChannel self.old.stage self.new.stage }
     {
         self.unsaved.drop_connection();
     }
 
     /// The connection is lost, and the link answers 62 from now on: `Unsaved::halt`. Nothing is saved.
     pub fn halt(&mut self)
-        ensures { (l : State K) → StandsFor self.old l → StandsFor self.new (halts l) }
+        ensures state { (l : State K) → StandsFor self.old l → StandsFor self.new (halts l) }
+        ensures same_channel { KeepsChannel self.old.stage self.new.stage }
     {
         self.unsaved.halt();
     }

@@ -6,6 +6,7 @@ use Rattle.std.proofs.Common.{Bool, true, false, cond, Option, Some, None, optio
 use Rattle.std.specs.List.{cons_option}
 use Rattle.std.proofs.lemmas.List.{take-take}
 use Rattle.ln_log.specs.declared.update.Update.{Update as Change}
+use Rattle.ln_log.specs.declared.log.Counts.{Counts}
 use Rattle.ln_log.specs.Log as log
 use Rattle.ln_log.specs.Log.{Log}
 use Rattle.ln_hooks.specs.declared.event.ChannelEvent.{ChannelEvent}
@@ -16,9 +17,30 @@ use Rattle.ln_log.specs.declared.mark.EventRef.TheVariants as ref
 use Rattle.ln_channel.specs.Ledger.{Ledger, refs_of}
 use Rattle.ln_channel.specs.Outputs.{events_of}
 use Rattle.ln_channel.specs.End.{End}
-use Rattle.ln_pair.specs.Pending.{first_event, named_by, pending}
+use Rattle.ln_channel.specs.Pending.{event_in, pending_from, pending_events}
+use Rattle.ln_channel.specs.Pending as channel
+use Rattle.ln_pair.specs.Pending.{counted}
 use Rattle.ln_pair.proofs.All.{All, all-append, all-drop}
 use Rattle.ln_pair.proofs.Noting.{Behind}
+
+-- ---- entries by their place in whole lists
+
+-- of the first of these updates
+abbrev pub first_event : Bool → List Change → Option ChannelEvent
+first_event own [] = None
+first_event own (u ∷ us) = event_of own u
+
+-- the event that an entry of the ledger names
+abbrev pub named_by : EventRef → End → Option ChannelEvent
+named_by (ref.Own n) e = first_event true (drop n e.dance.log.own)
+named_by (ref.Peer n) e = first_event false (drop n e.dance.log.received)
+named_by ref.Close e = option_map event.Closed e.closing.closed
+
+abbrev pub pending : List EventRef → End → List ChannelEvent
+pending [] e = []
+pending (r ∷ rs) e = cons_option (named_by r e) (pending rs e)
+
+-- ---- what is named
 
 -- an update that is held, or the close of an end that has closed
 abbrev pub IsNamed : ℕ → ℕ → Option ℕ → EventRef → Type 0
@@ -34,6 +56,7 @@ NamedIn e rs = All (IsNamed e.dance.log.current.own e.dance.log.acknowledged.pee
 pub record Named (e : End) : Type 0 where
   pub held : NamedIn e e.ledger.undecided
   pub full : length (pending e.ledger.undecided e) ≡ length e.ledger.undecided
+  pub first : e.dance.log.first ≡ log.none
 
 pub record KeepBy (l m : Log) (c d : Option ℕ) : Type 0 where
   pub own : take l.current.own m.own ≡ take l.current.own l.own
@@ -41,6 +64,7 @@ pub record KeepBy (l m : Log) (c d : Option ℕ) : Type 0 where
   pub own_le : l.current.own ≤ m.current.own
   pub peer_le : l.acknowledged.peer ≤ m.acknowledged.peer
   pub closed : (fee : ℕ) → c ≡ Some fee → d ≡ Some fee
+  pub first : m.first ≡ l.first
 
 abbrev pub Keep : End → End → Type 0
 Keep x n = KeepBy x.dance.log n.dance.log x.closing.closed n.closing.closed
@@ -127,6 +151,7 @@ enters x n rs es k undecided decided e count h named =
         held = subst (NamedIn n) (sym undecided)
             (all-append (IsNamed n.dance.log.current.own n.dance.log.acknowledged.peer n.closing.closed) us rs old.1 h);
         full = omega (arith, now, all, full, count, entered, both);
+        first = k.first ∙ named.first;
       };
       decided = omega (arith, decided);
     }
@@ -190,7 +215,14 @@ peer_named n o p d (u ∷ us) le =
 -- ---- what is kept
 
 pub keep_same : (x : End) → Keep x x
-keep_same x = record { own = refl; peer = refl; own_le = omega arith; peer_le = omega arith; closed = λ f e. e }
+keep_same x = record {
+  own = refl;
+  peer = refl;
+  own_le = omega arith;
+  peer_le = omega arith;
+  closed = λ f e. e;
+  first = refl;
+}
 
 pub take_front : (k : ℕ) (us vs : List Change) → k ≤ length us → take k (us ++ vs) ≡ take k us
 take_front zero us vs le = refl
@@ -206,6 +238,7 @@ keep_own l c u w = record {
   own_le = omega arith;
   peer_le = omega arith;
   closed = λ f e. e;
+  first = refl;
 }
 
 pub keep_peer : (l : Log) (c : Option ℕ) (u : Change) → log.IsWithin l
@@ -217,6 +250,7 @@ keep_peer l c u w = record {
   own_le = omega arith;
   peer_le = omega arith;
   closed = λ f e. e;
+  first = refl;
 }
 
 pub keep_dropped : (l : Log) (c : Option ℕ) → log.IsWithin l → KeepBy l (log.after_drop l) c c
@@ -228,6 +262,7 @@ keep_dropped l c w = record {
   own_le = omega arith;
   peer_le = omega arith;
   closed = λ f e. e;
+  first = refl;
 }
 
 pub keep_either : (b : Bool) (x k : End) → Keep x k → Keep x (cond b x k)
@@ -285,6 +320,7 @@ leaves x l b named =
       named = record {
         held = held;
         full = ap length same ∙ subst (λ vs. length (pending vs x) ≡ length vs) (sym b.undecided) part.1;
+        first = named.first;
       };
       decided = b.decided;
     }
@@ -330,3 +366,39 @@ pends_both x m n es fs first then =
       named = then.named;
       decided = omega (arith, decided, later);
     }
+
+-- ---- entries as an end has them
+
+found_at : (own : Bool) (n : ℕ) (us : List Change)
+    → event_in own (log.update_at 0 us n) ≡ first_event own (drop n us)
+found_at own zero [] = refl
+found_at own zero (u ∷ us) = refl
+found_at own (suc n) [] = refl
+found_at own (suc n) (u ∷ us) = found_at own n us
+
+found : (r : EventRef) (e : End) → e.dance.log.first ≡ log.none → channel.named_by r e ≡ named_by r e
+found (ref.Own n) e first =
+    ap (λ (c : Counts). event_in true (log.update_at c.own e.dance.log.own n)) first ∙ found_at true n e.dance.log.own
+found (ref.Peer n) e first =
+    ap (λ (c : Counts). event_in false (log.update_at c.peer e.dance.log.received n)) first
+    ∙ found_at false n e.dance.log.received
+found ref.Close e first = refl
+
+-- where each entry names an event, they have its numbers
+pub numbered_so : (n : ℕ) (rs : List EventRef) (e : End) → e.dance.log.first ≡ log.none
+    → length (pending rs e) ≡ length rs → pending_from n rs e ≡ counted n (pending rs e)
+numbered_so n [] e first full = refl
+numbered_so n (r ∷ rs) e first full =
+    ap (λ o. cons_option (option_map (λ v. (n, v)) o) (pending_from (n + 1) rs e)) (found r e first)
+    ∙ by (named_by r e) full (no_more rs e)
+  where
+    by : (o : Option ChannelEvent) → length (cons_option o (pending rs e)) ≡ suc (length rs)
+        → length (pending rs e) ≤ length rs
+        → cons_option (option_map (λ v. (n, v)) o) (pending_from (n + 1) rs e)
+        ≡ counted n (cons_option o (pending rs e))
+    by None is le = absurd (omega (arith, is, le))
+    by (Some v) is le = ap (λ vs. (n, v) ∷ vs) (numbered_so (n + 1) rs e first (omega (arith, is)))
+
+pub pending_so : (e : End) → Named e
+    → pending_events e ≡ counted e.ledger.decided (pending e.ledger.undecided e)
+pending_so e named = numbered_so e.ledger.decided e.ledger.undecided e named.first named.full

@@ -39,7 +39,7 @@ use Rattle.ln_pair.specs.Moves.{moves_of_act, moves_of, all_moves, history}
 use Rattle.ln_pair.proofs.Sides.{Notice, Update, Sign, Revoke, Ready, Shutdown, Close, Again}
 use Rattle.ln_pair.proofs.Images.{message_of, messages_of, side_of}
 use Rattle.ln_pair.proofs.Steps.{Hold}
-use Rattle.ln_pair.proofs.Opens.{opened_holds}
+use Rattle.ln_pair.proofs.Opens.{opened_holds, opened_fresh}
 use Rattle.ln_pair.proofs.Turns.{turn_of, is_close}
 use Rattle.ln_pair.proofs.Runs.{Holds, flipped, flipped_keys, met_row, meeting_row, ran}
 use Rattle.ln_pair.proofs.Made.{made}
@@ -68,10 +68,10 @@ use Rattle.ln_pair.proofs.All.{All}
 use Rattle.ln_pair.proofs.Steady.{length-between}
 use Rattle.ln_pair.proofs.Pending.{IsNamed, Named, KeepBy, Keep, Pends, enters, enters_none, leaves}
 use Rattle.ln_pair.proofs.Pending.{own_named, peer_named, keep_same, keep_own, keep_peer, keep_dropped, keep_either}
-use Rattle.ln_pair.proofs.Pending.{own_pend, peer_pend, pends_both, same_pends}
+use Rattle.ln_pair.proofs.Pending.{pending, own_pend, peer_pend, pends_both, same_pends, pending_so}
 use Rattle.ln_pair.proofs.Noting.{noted, next_behind}
 use Rattle.ln_channel.specs.Commands.{signs_next}
-use Rattle.ln_pair.specs.Pending.{pending, IsInStep}
+use Rattle.ln_pair.specs.Pending.{counted, IsInStep}
 use Rattle.ln_pair.proofs.Steps.{front_reads}
 use Rattle.ln_pair.proofs.Moving.{no_move, tells, settled_closed, settled_dance, still_open}
 use Rattle.std.proofs.Common.{◌&&◌, length-append}
@@ -203,6 +203,7 @@ module _ (a b : Signer) (keys : AreKeys a b) (r : Role) (o : Opening) (channel :
         own_le = w.own_current;
         peer_le = omega arith;
         closed = λ f e. e;
+        first = refl;
       })) (undecided_so t) (decided_so t)
       (own_pend n c us rest (ap (λ (q : Dancer). drop c q.log.own) dance
       ∙ sym (take-append-drop (d - c) (drop c l.own)))) (refs_count true c us)
@@ -243,6 +244,7 @@ module _ (a b : Signer) (keys : AreKeys a b) (r : Role) (o : Opening) (channel :
         own_le = omega arith;
         peer_le = w.peer_acknowledged;
         closed = λ f e. e;
+        first = refl;
       })) (undecided_so t) (decided_so t)
       (peer_pend n c us rest (ap (λ (q : Dancer). drop c q.log.received) dance
       ∙ sym (take-append-drop (d - c) (drop c l.received)))) (refs_count false c us)
@@ -300,6 +302,7 @@ closed_told k r o fee ans x t y os none is held entry told =
       own_le = omega arith;
       peer_le = omega arith;
       closed = λ f e. absurd (let no : None ≡ Some f = sym none ∙ e in cc);
+      first = refl;
     })) (undecided_so t ∙ ap (λ (l : Ledger). l.undecided) entry) (decided_so t ∙ ap (λ (l : Ledger). l.decided) entry)
     (ap (λ c. cons_option (option_map event.Closed c) []) now) refl
     (subst (λ c. All (IsNamed n.dance.log.current.own n.dance.log.acknowledged.peer c) (ref.Close ∷ [])) (sym now)
@@ -400,7 +403,14 @@ with_sent r o x n y ms sent os none t = record {
 -- ---- two ends
 
 keep_sign : (x : End) → Keep x (signs_next x)
-keep_sign x = record { own = refl; peer = refl; own_le = omega arith; peer_le = omega arith; closed = λ f e. e }
+keep_sign x = record {
+  own = refl;
+  peer = refl;
+  own_le = omega arith;
+  peer_le = omega arith;
+  closed = λ f e. e;
+  first = refl;
+}
 
 asked_none : (q r : Role) (c : Command) (e : End) (m : Machine) → events q (moves_asked r c e) (Some m) ≡ []
 asked_none q r (command.Confirm id) e m = refl
@@ -786,15 +796,17 @@ in_step_so a b s c funder fundee steps r keys o =
     let none_first = undecided_all r in
     let all_gone : n.ledger.decided ≡ gone = omega (arith, decided, none_first) in
     record {
-      pending = t.entries
+      pending = pending_so n t.named ∙ ap (counted n.ledger.decided) (t.entries
           ∙ ap (λ z. drop t.gone (z ++ as_told (events r (all_moves a b steps p) (Some (machine_at q p))))) (empty r)
-          ∙ ap (drop t.gone) so ∙ ap (λ i. drop i es) (sym all_gone);
+          ∙ ap (drop t.gone) so ∙ ap (λ i. drop i es) (sym all_gone));
       all = entered_so a b s c funder fundee steps r keys o;
     }
   where
     none : (r : Role) → Named (end_of_role r (opened funder fundee))
-    none Funder = record { held = tt; full = refl }
-    none Fundee = record { held = tt; full = refl }
+    none Funder =
+        record { held = tt; full = refl; first = (opened_fresh a b s c funder fundee o).funder_first }
+    none Fundee =
+        record { held = tt; full = refl; first = (opened_fresh a b s c funder fundee o).fundee_first }
 
     undecided_all : (r : Role) → (end_of_role r (opened funder fundee)).ledger.decided ≡ 0
     undecided_all Funder = refl

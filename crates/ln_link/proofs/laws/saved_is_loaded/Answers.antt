@@ -1,4 +1,5 @@
 use Rattle.ln_link.proofs.Loaded.{loaded, loadable}
+use Rattle.ln_link.proofs.Restarted.{same_failure}
 use Rattle.ln_link.proofs.laws.saved_is_loaded.Goals as goal
 
 pub returns-clause-can_be_loaded : goal.returns-clause-can_be_loaded
@@ -6,3 +7,6 @@ returns-clause-can_be_loaded c = loadable
 
 pub returns-clause-as_dropped : goal.returns-clause-as_dropped
 returns-clause-as_dropped c = loaded
+
+pub returns-clause-failed_as_it_had : goal.returns-clause-failed_as_it_had
+returns-clause-failed_as_it_had c = same_failure

@@ -5,8 +5,8 @@ use Rattle.ln_channel.specs.Step.{handled}
 use Rattle.ln_link.proofs.Refusing.{after_refusal_of}
 use Rattle.ln_link.proofs.link.Link.handle.Goals as goal
 
-pub returns-in-Err : goal.returns-in-Err
-returns-in-Err g c = λ l s.
+pub returns-in-Err-clause-answers : goal.returns-in-Err-clause-answers
+returns-in-Err-clause-answers g c = λ l s.
     after_refusal_of {V = List Output} (λ v. v) (handled (g.K.ChannelKeys.signer l.keys) l c.args.message) l
     c.handle.new.self c.refuse.new.self c.args.message c.in-Err.refusal c.refuse.result
     (record {
@@ -19,4 +19,4 @@ returns-in-Err g c = λ l s.
     })
     c.is_healthy-healthy.result
     (c.is_healthy-healthy.ensures ∙ ap (λ (x : State _). is_none x.failure) (c.self.view_is ∙ s))
-    (c.in-Err.ensures l (c.self.view_is ∙ s)) c.refuse.ensures
+    (c.in-Err.ensures.answers l (c.self.view_is ∙ s)) c.refuse.ensures.refuses

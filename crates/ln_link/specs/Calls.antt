@@ -1,0 +1,54 @@
+-- The calls of one link over one store, one behind the other, and what the store has of it.
+use Rattle.std.specs.Prelude.{◌≡◌, List, [], ◌∷◌, Option, Some, None, Result}
+use Rattle.std.specs.FinMap as map
+use Rattle.ln_msgs.specs.declared.messages.message.Message.{Message}
+use Rattle.ln_msgs.specs.declared.refusals.refusal.Refusal.{Refusal}
+use Rattle.ln_keys.specs.Signer.{Signer}
+use Rattle.ln_channel.specs.declared.command.Command.{Command}
+use Rattle.ln_channel.specs.declared.output.Output.{Output}
+use Rattle.ln_channel.specs.End.{End}
+use Rattle.ln_channel.specs.Record.{saved_end}
+use Rattle.ln_channel.specs.State.{State, KeepsChannel, drops, halts}
+use Rattle.ln_channel.specs.Step.{handled, commanded, connected, Answered}
+use Rattle.ln_store.specs.Store.{Records}
+use Rattle.ln_store.specs.Record.{record_bytes}
+use Rattle.ln_link.specs.Record.{items_of}
+use Rattle.ln_link.specs.Loading.{HasRecord}
+use Rattle.ln_link.specs.Saving.{Shelf, AnswersMessage, AnswersCommand}
+
+pub data Call : Type 0 where
+  Handle : (m : Message) → Call
+  Command : (c : Command) → Call
+  Connect : Call
+  DropConnection : Call
+  Halt : Call
+
+-- whatever a call answers, it leaves the link and its store so
+abbrev pub Leads : {K : Type 0} → Signer → Call → State K → Shelf → State K → Shelf → Type 0
+Leads keys (Handle m) l s l' s' = (answer : Result (List Output) Refusal)
+    × AnswersMessage (λ os. os) (handled keys l m) l m answer l' s s'
+Leads keys (Command c) l s l' s' = (answer : Result (List Output) Refusal)
+    × AnswersCommand (λ os. os) (commanded keys l c) l answer l' s s'
+Leads keys Connect l s l' s' = (answer : Result (List Output) Refusal)
+    × Answered (λ os. os) (connected keys l) l answer l' × (s' ≡ s)
+Leads keys DropConnection l s l' s' = (l' ≡ drops l) × (s' ≡ s)
+Leads keys Halt l s l' s' = (l' ≡ halts l) × (s' ≡ s)
+
+abbrev pub Lead : {K : Type 0} → Signer → List Call → State K → Shelf → State K → Shelf → Type 0
+Lead keys [] l s l' s' = (l' ≡ l) × (s' ≡ s)
+Lead keys (c ∷ cs) l s l' s' =
+    (k : State _) × (t : Shelf) × Leads keys c l s k t × KeepsChannel l.stage k.stage × Lead keys cs k t l' s'
+
+-- these records have that of this end, and it can be loaded
+abbrev pub Has : Option Refusal → Option End → Records → Type 0
+Has failure (Some e) rs =
+    (map.get rs e.dance.channel ≡ Some (record_bytes (items_of failure e))) × HasRecord failure e
+Has failure None rs = Unit {0}
+
+-- the store has the record of a link
+abbrev pub HasLink : {K : Type 0} → State K → Shelf → Type 0
+HasLink l s = Has l.failure (saved_end l.stage) s.records
+
+-- and one of its channel, whatever it tells
+abbrev pub HasChannel : List ℕ → Shelf → Type 0
+HasChannel channel s = (failure : Option Refusal) × (e : End) × (e.dance.channel ≡ channel) × Has failure (Some e) s.records
