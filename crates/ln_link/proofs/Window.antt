@@ -11,7 +11,9 @@ use Rattle.ln_log.specs.Opening.{HasFunds}
 use Rattle.ln_log.specs.Updates.{offered}
 use Rattle.ln_log.specs.Loading.{IsReadable}
 use Rattle.ln_log.specs.Log.{Log, HasId, AreNumbered, number_after}
-use Rattle.ln_store.specs.Window.{rise, has_id, are_numbered, counts_fit, ids_fit, funds_in, updates_fit}
+use Rattle.ln_log.proofs.Readable.{signs_all}
+use Rattle.ln_store.specs.Window.{rise, has_id, are_numbered, counts_fit, ids_fit, funds_in, updates_fit, removals_fit}
+use Rattle.ln_store.proofs.Removing.{removals_of}
 use Rattle.ln_link.specs.Record.{base_of, updates_of}
 
 -- ---- counts
@@ -63,9 +65,22 @@ ids_so o Fundee Fundee l r = and_from _ _ refl (numbered 0 l.own r.lists.own_off
 funds_so : (o : Opening) → HasFunds o → funds_in (base_of o) ≡ 1000 * o.satoshis
 funds_so o h = let push = h.push in omega (arith, push)
 
+-- ---- removals
+
+removals_so : (o : Opening) (x y : Role) (l : Log) → IsReadable l → removals_fit y (updates_of o x l) ≡ true
+unfolding updates_of
+removals_so o Funder Funder l r = removals_of Funder (updates_of o Funder l) (signs_all l r).own_removals
+removals_so o Funder Fundee l r = removals_of Fundee (updates_of o Funder l) (signs_all l r).peer_removals
+removals_so o Fundee Funder l r = removals_of Funder (updates_of o Fundee l) (signs_all l r).peer_removals
+removals_so o Fundee Fundee l r = removals_of Fundee (updates_of o Fundee l) (signs_all l r).own_removals
+
+-- ---- all of it
+
 pub fit_so : (o : Opening) (x : Role) (l : Log) → HasFunds o → IsReadable l
     → updates_fit x o.satoshis (updates_of o x l) ≡ true
 unfolding updates_of
 fit_so o x l h r =
-    and_from _ _ (and_from _ _ (and_from _ _ (counts_so o x l r) (ids_so o x Funder l r)) (ids_so o x Fundee l r))
-    (eq-eqb (funds_in (base_of o)) (1000 * o.satoshis) (funds_so o h))
+    and_from _ _ (and_from _ _
+    (and_from _ _ (and_from _ _ (and_from _ _ (counts_so o x l r) (ids_so o x Funder l r)) (ids_so o x Fundee l r))
+    (eq-eqb (funds_in (base_of o)) (1000 * o.satoshis) (funds_so o h)))
+    (removals_so o x Funder l r)) (removals_so o x Fundee l r)

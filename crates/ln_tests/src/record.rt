@@ -183,7 +183,7 @@ const CHANGED: [[Change; 3]; 3] = [
     ],
 ];
 
-const UNREADABLE: [Change; 51] = [
+const UNREADABLE: [Change; 55] = [
     (1, "02"), // role
     (2, "37"), // flags
     (3, "0024"), // failure
@@ -213,6 +213,10 @@ const UNREADABLE: [Change; 51] = [
     (50, "05"), // tag
     (51, "000000000000000000000000000001f4"), // id
     (51, "000000000000000200000000000001f4"), // id
+    (60, "010000000000000001"), // fulfil of an HTLC that is removed again
+    (60, "010000000000000002"), // fulfil of none
+    (62, "030000000000000000"), // malformed of an HTLC that was removed
+    (42, "01"), // owner of the HTLC that the peer removes
     (65, "00000000000000020000000000000003"), // covered
     (65, "00000000000000040000000000000003"), // covered
     (65, "00000000000000030000000000000001"), // covered
