@@ -2,24 +2,21 @@
 use Rattle.std.proofs.Common.{refl, sym, ◌∙◌, ap, subst, inl, inr, ◌≡◌, ◌⊎◌, ℕ, List, [], ◌∷◌, Bool, true, false, cond, ◌&&◌}
 use Rattle.std.proofs.Common.{Option, Some, None, is_none, not, Result, Ok, Err, if◌then◌else◌}
 use Rattle.std.specs.FinMap as map
-use Rattle.std.specs.Ordering.{eq_by_cmp, nat_cmp}
-use Rattle.std.specs.Cmp.Lexicographic.{slice_cmp}
 use Rattle.std.proofs.lemmas.Cmp.{eq_by_cmp_equiv, nat_list_cmp_total}
 use Rattle.ln_msgs.specs.declared.messages.message.Message.{Message}
 use Rattle.ln_msgs.specs.declared.refusals.refusal.Refusal.{Refusal}
 use Rattle.ln_msgs.specs.declared.refusals.refusal.Refusal.TheVariants as refusal
 use Rattle.ln_keys.specs.Signer.{Signer}
-use Rattle.ln_log.specs.Log.{after_drop}
 use Rattle.ln_log.specs.Loading.{IsReadable}
 use Rattle.ln_channel.specs.declared.output.Output.{Output}
 use Rattle.ln_channel.specs.declared.unsaved.Line.{Line}
-use Rattle.ln_channel.specs.declared.unsaved.Line.TheVariants.{Down, Awaiting, Met}
+use Rattle.ln_channel.specs.declared.unsaved.Line.TheVariants.{Down}
 use Rattle.ln_channel.specs.declared.unsaved.Stage.{Stage}
 use Rattle.ln_channel.specs.declared.unsaved.Stage.TheVariants as stage
 use Rattle.ln_channel.specs.Failing.{fails}
 use Rattle.ln_channel.specs.End.{End, end_dropped}
 use Rattle.ln_channel.specs.Record.{saved_end}
-use Rattle.ln_channel.specs.State.{State, KeepsChannel, kept_channel, cut, drops, halts, failed, fails_by, refused}
+use Rattle.ln_channel.specs.State.{State, kept_channel, cut, drops, halts, failed, refused}
 use Rattle.ln_channel.specs.State.{is_down}
 use Rattle.ln_channel.specs.Step.{Done, Answered, handled, commanded, connected, connects}
 use Rattle.ln_store.specs.Readable.{is_readable}
@@ -84,7 +81,7 @@ cut_has f stage.Gone rs h = tt
 drops_by : {K : Type 0} (keys : K) (b : Bool) (l : Line) (halted : Bool) (f : Option Refusal) (s : Stage) (t : Shelf)
     → Has f (saved_end s) t.records
     → HasLink (if b then record { keys = keys; line = l; halted = halted; failure = f; stage = s }
-      else record { keys = keys; line = Down; halted = halted; failure = f; stage = cut s }) t
+    else record { keys = keys; line = Down; halted = halted; failure = f; stage = cut s }) t
 drops_by keys true l halted f s t h = h
 drops_by keys false l halted f s t h = cut_has f s t.records h
 
@@ -100,8 +97,8 @@ unchanged e keys line true f s h = refl
 unchanged e keys line false (Some r) s h = refl
 unchanged e keys line false None s h =
     ap (λ (b : Bool). if b then failed e (record
-      { keys = keys; line = line; halted = false; failure = None; stage = s })
-      else record { keys = keys; line = line; halted = false; failure = None; stage = s }) h
+    { keys = keys; line = line; halted = false; failure = None; stage = s })
+    else record { keys = keys; line = line; halted = false; failure = None; stage = s }) h
 
 refused_by : {K : Type 0} (e : Refusal) (l : State K) (s t : Shelf) (b : Bool) → fails_now e l ≡ b
     → SavesIf b (refused e l).failure (saved_end (refused e l).stage) s t → HasLink l s
@@ -116,8 +113,8 @@ refused_by e l s t false is same h =
 abbrev Stays : {K : Type 0} → State K → Shelf → Type 0
 Stays l s = (l.halted ≡ true) ⊎ HasLink l s
 
-as : {K : Type 0} (n m : State K) (s : Shelf) → n ≡ m → Stays m s → Stays n s
-as n m s e = subst (λ (x : State _). Stays x s) (sym e)
+moved : {K : Type 0} (n m : State K) (s : Shelf) → n ≡ m → Stays m s → Stays n s
+moved n m s e = subst (λ (x : State _). Stays x s) (sym e)
 
 handed : {K : Type 0} (said : Result Done Refusal) (l n : State K) (os : List Output) (s t : Shelf)
     → HandsOut (λ x. x) said l os n s t → HasLink n t
@@ -143,17 +140,17 @@ message_stays said l n m (Err e) s t (inl h) has = inl h.1.halted
 message_stays said l n m (Err e) s t (inr (inl h)) has = inl (behind e said l n s t h)
 message_stays said l n m (Err e) s t (inr (inr (inl h))) has = inl (refusing e said l n s t h)
 message_stays said l n m (Err e) s t (inr (inr (inr h))) has =
-    as n (refused e l) t h.1 (inr (refused_by e l s t (fails_now e l) refl h.2 has))
+    moved n (refused e l) t h.1 (inr (refused_by e l s t (fails_now e l) refl h.2 has))
 
 command_stays : {K : Type 0} (said : Result Done Refusal) (l n : State K) (answer : Result (List Output) Refusal)
     (s t : Shelf) → AnswersCommand (λ x. x) said l answer n s t → HasLink l s → Stays n t
 command_stays said l n (Ok os) s t h has = inr (handed said l n os s t h)
 command_stays said l n (Err e) s t (inl h) has = inl h.1.halted
 command_stays said l n (Err e) s t (inr (inl h)) has = inl (behind e said l n s t h)
-command_stays said l n (Err e) s t (inr (inr h)) has = as n l t h.1 (inr (subst (HasLink l) (sym h.2) has))
+command_stays said l n (Err e) s t (inr (inr h)) has = moved n l t h.1 (inr (subst (HasLink l) (sym h.2) has))
 
 -- a connection that comes keeps the end
-end_in : Result Done Refusal → Option End
+abbrev end_in : Result Done Refusal → Option End
 end_in (Ok d) = saved_end d.stage
 end_in (Err r) = None
 
@@ -180,7 +177,7 @@ connect_stays keys l n (Ok os) s h has =
     inr (subst (λ f. Has f (saved_end n.stage) s.records) (sym (ap (λ (x : State _). x.failure) h.1))
     (subst (λ o. Has l.failure o s.records) (sym same) has))
 connect_stays keys l n (Err e) s (inl h) has = inl h.1.halted
-connect_stays keys l n (Err e) s (inr h) has = as n l s h.1 (inr has)
+connect_stays keys l n (Err e) s (inr h) has = moved n l s h.1 (inr has)
 
 call_stays : {K : Type 0} (keys : Signer) (c : Call) (l k : State K) (s t : Shelf) → Leads keys c l s k t → HasLink l s
     → Stays k t
@@ -189,7 +186,7 @@ call_stays keys (Command c) l k s t h has = command_stays (commanded keys l c) l
 call_stays keys Connect l k s t h has =
     subst (Stays k) (sym h.2) (connect_stays keys l k h.0 s h.1 has)
 call_stays keys DropConnection l k s t h has =
-    subst (Stays k) (sym h.1) (as k (drops l) s h.0 (inr (drops_has l s has)))
+    subst (Stays k) (sym h.1) (moved k (drops l) s h.0 (inr (drops_has l s has)))
 call_stays keys Halt l k s t h has = inl (ap (λ (x : State _). x.halted) h.0)
 
 -- ---- a link that has halted
@@ -222,7 +219,7 @@ message_still said l n m (Err e) s t is h (inr (inr (inl a))) =
     let f : HaltsRefused e (Err refusal.Halted) l n s t =
     subst (λ r. HaltsRefused e r l n s t) is a in
     let no : false ≡ true =
-    sym (ap (λ (b : Bool). not b && (is_none l.failure && fails e)) h) ∙ f.0 in
+    sym (ap (λ (b : Bool). not b && (is_none l.failure && fails refusal.Halted)) h) ∙ f.0 in
     absurd (cc)
 message_still said l n m (Err e) s t is h (inr (inr (inr a))) =
     still n l s t (a.1 ∙ refused_halted e l h) h (no_failure e l s t h a.2)
@@ -270,7 +267,7 @@ call_still keys Halt l k s t h halted = (ap (λ (x : State _). x.halted) h.0, h.
 
 stays : {K : Type 0} (keys : Signer) (cs : List Call) (l n : State K) (s t : Shelf) → Lead keys cs l s n t
     → Stays l s → Stays n t
-stays keys [] l n s t h has = as n l t h.0 (subst (Stays l) (sym h.1) has)
+stays keys [] l n s t h has = moved n l t h.0 (subst (Stays l) (sym h.1) has)
 stays keys (c ∷ cs) l n s t h (inl halted) =
     stays keys cs h.0 n h.1 t h.4 (inl (call_still keys c l h.0 s h.1 h.2 halted).0)
 stays keys (c ∷ cs) l n s t h (inr has) =
@@ -349,7 +346,7 @@ behind_channel c e (Err r) l n s t h kept has = absurd h
 refusing_channel : {K : Type 0} (c : List ℕ) (e : Refusal) (said : Result Done Refusal) (l n : State K) (s t : Shelf)
     → HaltsRefused e said l n s t → kept_channel n.stage ≡ Some c → HasChannel c s → HasChannel c t
 refusing_channel c e (Ok d) l n s t h kept has = absurd h
-refusing_channel c e (Err r) l n s t h kept has = unsaved_channel c e (refused e l) n s t h.1 kept has
+refusing_channel c e (Err r) l n s t h kept has = unsaved_channel c e (refused r l) n s t h.1 kept has
 
 -- a shelf that a call left as it was
 as_it_was : (c : List ℕ) (s t : Shelf) → t ≡ s → HasChannel c s → HasChannel c t

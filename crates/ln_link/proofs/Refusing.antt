@@ -55,7 +55,7 @@ settled outs said l m n msg e e' before behind true w s p (inl x) =
       s ∙ ap Err (sym x.0),
       x.1 ∙ q,
       subst (λ b. SavesIf b (refused e' l).failure (saved_end (refused e' l).stage) before behind) (sym k)
-        (subst (λ (y : State _). IsSaved y.failure (saved_end y.stage) before behind) q x.2),
+          (subst (λ (y : State _). IsSaved y.failure (saved_end y.stage) before behind) q x.2),
     )))
 settled outs said l m n msg e e' before behind true w s p (inr x) =
     inr (inr (inl (subst (λ z. HaltsRefused e' z l n before behind) (sym s) (
@@ -74,7 +74,7 @@ pub after_refusal : {K V : Type 0} (outs : V → List Output) (said : Result Don
 after_refusal outs said l m n msg e e' before behind (inl h) r =
     let q : Refuses false e e' m n before behind =
     subst (λ b. Refuses b e e' m n before behind) (halted m (is_none l.failure) h.1.halted) r in
-    inl ((q.0 ∙ h.0.0, h.0.1), (subst (λ (x : State _). IsHalted l x) (sym q.1) h.1, q.2))
+    inl ((q.0 ∙ h.0.0, h.0.1), subst (λ (x : State _). IsHalted l x) (sym q.1) h.1, q.2)
 after_refusal outs said l m n msg e e' before behind (inr h) r =
     let q : Refuses (fails_now e l) e e' m n before behind =
     subst (λ b. Refuses b e e' m n before behind)

@@ -1,10 +1,10 @@
 -- The calls of one link over one store, one behind the other, and what the store has of it.
-use Rattle.std.specs.Prelude.{◌≡◌, List, [], ◌∷◌, Option, Some, None, Result}
+use Rattle.std.specs.Prelude.{◌≡◌, ℕ, List, [], ◌∷◌, Option, Some, None, Result}
 use Rattle.std.specs.FinMap as map
 use Rattle.ln_msgs.specs.declared.messages.message.Message.{Message}
 use Rattle.ln_msgs.specs.declared.refusals.refusal.Refusal.{Refusal}
 use Rattle.ln_keys.specs.Signer.{Signer}
-use Rattle.ln_channel.specs.declared.command.Command.{Command}
+use Rattle.ln_channel.specs.declared.command.Command as command
 use Rattle.ln_channel.specs.declared.output.Output.{Output}
 use Rattle.ln_channel.specs.End.{End}
 use Rattle.ln_channel.specs.Record.{saved_end}
@@ -18,7 +18,7 @@ use Rattle.ln_link.specs.Saving.{Shelf, AnswersMessage, AnswersCommand}
 
 pub data Call : Type 0 where
   Handle : (m : Message) → Call
-  Command : (c : Command) → Call
+  Command : (c : command.Command) → Call
   Connect : Call
   DropConnection : Call
   Halt : Call

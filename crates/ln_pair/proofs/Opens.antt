@@ -8,7 +8,7 @@ use Rattle.ln_keys.specs.declared.role.Role.{Role}
 use Rattle.ln_keys.specs.declared.role.Role.TheVariants.{Funder, Fundee}
 use Rattle.ln_keys.specs.Role.{other_role}
 use Rattle.ln_keys.specs.Signer.{Signer}
-use Rattle.ln_log.specs.Log.{none}
+use Rattle.ln_log.specs.Log as log
 use Rattle.ln_close.specs.declared.closing.Fees.{Fees}
 use Rattle.ln_close.specs.Closing as closing
 use Rattle.ln_channel.specs.declared.config.Config.{Config}
@@ -176,8 +176,8 @@ opened_holds a b s c funder fundee o =
 pub record AreFresh (funder fundee : Opened) : Type 0 where
   pub funder_is : funder.closing ≡ closing.opened Funder funder.closing.fees
   pub fundee_is : fundee.closing ≡ closing.opened Fundee fundee.closing.fees
-  pub funder_first : funder.dance.log.first ≡ none
-  pub fundee_first : fundee.dance.log.first ≡ none
+  pub funder_first : funder.dance.log.first ≡ log.none
+  pub fundee_first : fundee.dance.log.first ≡ log.none
 
 pub opened_fresh : (a b : Signer) (s : OpenSpec) (c : Config) (funder fundee : Opened) → Opens a b s c funder fundee
     → AreFresh funder fundee
@@ -192,6 +192,6 @@ opened_fresh a b s c funder fundee o =
     record {
       funder_is = subst (λ (x : Opened). x.closing ≡ closing.opened Funder x.closing.fees) funder_so refl;
       fundee_is = subst (λ (x : Opened). x.closing ≡ closing.opened Fundee x.closing.fees) fundee_so refl;
-      funder_first = subst (λ (x : Opened). x.dance.log.first ≡ none) funder_so refl;
-      fundee_first = subst (λ (x : Opened). x.dance.log.first ≡ none) fundee_so refl;
+      funder_first = subst (λ (x : Opened). x.dance.log.first ≡ log.none) funder_so refl;
+      fundee_first = subst (λ (x : Opened). x.dance.log.first ≡ log.none) fundee_so refl;
     }

@@ -2,8 +2,9 @@
 use Rattle.std.proofs.Common.{zero, suc, ◌≡◌, ℕ, ◌+◌, ◌-◌, ◌<◌, ◌≤◌, List, [], ◌∷◌, ◌++◌, length, take, drop}
 use Rattle.std.proofs.Common.{refl, sym, ap, ◌∙◌, subst, arith, append-nil, append_assoc, length-append}
 use Rattle.std.proofs.Common.{length-drop}
-use Rattle.std.proofs.Common.{Bool, true, false, cond, Option, Some, None, option_map}
+use Rattle.std.proofs.Common.{Bool, true, false, cond, Option, Some, None, option_map, slice_get}
 use Rattle.std.specs.List.{cons_option}
+use Rattle.std.proofs.lemmas.Bool.{le-ltb}
 use Rattle.std.proofs.lemmas.List.{take-take}
 use Rattle.ln_log.specs.declared.update.Update.{Update as Change}
 use Rattle.ln_log.specs.declared.log.Counts.{Counts}
@@ -369,12 +370,17 @@ pends_both x m n es fs first then =
 
 -- ---- entries as an end has them
 
+got_at : (own : Bool) (n : ℕ) (us : List Change) → event_in own (slice_get us n) ≡ first_event own (drop n us)
+got_at own zero [] = refl
+got_at own zero (u ∷ us) = refl
+got_at own (suc n) [] = refl
+got_at own (suc n) (u ∷ us) = got_at own n us
+
 found_at : (own : Bool) (n : ℕ) (us : List Change)
     → event_in own (log.update_at 0 us n) ≡ first_event own (drop n us)
-found_at own zero [] = refl
-found_at own zero (u ∷ us) = refl
-found_at own (suc n) [] = refl
-found_at own (suc n) (u ∷ us) = found_at own n us
+found_at own n us =
+    ap (λ (b : Bool). event_in own (cond b None (slice_get us n))) (le-ltb n 0 (omega arith))
+    ∙ got_at own n us
 
 found : (r : EventRef) (e : End) → e.dance.log.first ≡ log.none → channel.named_by r e ≡ named_by r e
 found (ref.Own n) e first =
@@ -384,20 +390,20 @@ found (ref.Peer n) e first =
     ∙ found_at false n e.dance.log.received
 found ref.Close e first = refl
 
+one_numbered : (n : ℕ) (o : Option ChannelEvent) (es : List ChannelEvent) (ps : List (ℕ × ChannelEvent)) (m : ℕ)
+    → length (cons_option o es) ≡ suc m → length es ≤ m → ((length es ≡ m) → ps ≡ counted (n + 1) es)
+    → cons_option (option_map (λ v. (n, v)) o) ps ≡ counted n (cons_option o es)
+one_numbered n None es ps m is le rest = absurd (omega (arith, is, le))
+one_numbered n (Some v) es ps m is le rest = ap (λ vs. (n, v) ∷ vs) (rest (omega (arith, is)))
+
 -- where each entry names an event, they have its numbers
-pub numbered_so : (n : ℕ) (rs : List EventRef) (e : End) → e.dance.log.first ≡ log.none
+numbered_so : (n : ℕ) (rs : List EventRef) (e : End) → e.dance.log.first ≡ log.none
     → length (pending rs e) ≡ length rs → pending_from n rs e ≡ counted n (pending rs e)
 numbered_so n [] e first full = refl
 numbered_so n (r ∷ rs) e first full =
     ap (λ o. cons_option (option_map (λ v. (n, v)) o) (pending_from (n + 1) rs e)) (found r e first)
-    ∙ by (named_by r e) full (no_more rs e)
-  where
-    by : (o : Option ChannelEvent) → length (cons_option o (pending rs e)) ≡ suc (length rs)
-        → length (pending rs e) ≤ length rs
-        → cons_option (option_map (λ v. (n, v)) o) (pending_from (n + 1) rs e)
-        ≡ counted n (cons_option o (pending rs e))
-    by None is le = absurd (omega (arith, is, le))
-    by (Some v) is le = ap (λ vs. (n, v) ∷ vs) (numbered_so (n + 1) rs e first (omega (arith, is)))
+    ∙ one_numbered n (named_by r e) (pending rs e) (pending_from (n + 1) rs e) (length rs) full (no_more rs e)
+    (λ all. numbered_so (n + 1) rs e first all)
 
 pub pending_so : (e : End) → Named e
     → pending_events e ≡ counted e.ledger.decided (pending e.ledger.undecided e)
