@@ -128,7 +128,8 @@ again_back Forward c i Settled r a = tt
 again_back Hold c i l r a = tt
 again_back (Answer k) c i l r a = tt
 
-pub again_offered : (m : Mark) (c i : ℕ) (l : Back) (r : Removal) → NotAgain m Nowhere l r → NotAgain m (Offered c i) l r
+pub again_offered : (m : Mark) (c i : ℕ) (l : Back) (r : Removal) → NotAgain m Nowhere l r
+    → NotAgain m (Offered c i) l r
 again_offered Forward c i Open r a = a
 again_offered Forward c i Sent r a = a
 again_offered Forward c i Gone r a = a

@@ -21,12 +21,14 @@ offer : (c i : ℕ) (d : Decision) (r : Removal) (os : List Out) (e : Option Not
 offer c i d r os None h a k = absurd a
 offer c i d r os (Some f) h a k = moves.kept_offer c i d r os f.mark f.way f.back h a k
 
-refuse : (d : Decision) (r : Removal) (os : List Out) (e : Option Note) (h : ℕ → Bool) → machine.Offers e → Kept d r os e h
+refuse : (d : Decision) (r : Removal) (os : List Out) (e : Option Note) (h : ℕ → Bool) → machine.Offers e
+    → Kept d r os e h
     → Kept d r os (machine.with_way Refused e) h
 refuse d r os None h a k = absurd a
 refuse d r os (Some f) h a k = moves.kept_refuse d r os f.mark f.way f.back h a k
 
-leave : (d : Decision) (r : Removal) (os : List Out) (e : Option Note) (h : ℕ → Bool) → machine.Offers e → Kept d r os e h
+leave : (d : Decision) (r : Removal) (os : List Out) (e : Option Note) (h : ℕ → Bool) → machine.Offers e
+    → Kept d r os e h
     → Kept d r os None h
 leave d r os None h a k = absurd a
 leave d r os (Some f) h a k = moves.kept_leave d r os f.mark f.way f.back h a k
@@ -65,7 +67,8 @@ close d r os None h a k = absurd a
 close d r os (Some f) h a k = moves.kept_close d r os f h a k
 
 drop : (c : ℕ) (d : Decision) (r : Removal) (os : List Out) (e : Option Note) (h : ℕ → Bool)
-    → machine.Stays c e (kept_outs (machine.is_of c) os) → Kept d r os e h → Kept d r (kept_outs (machine.is_of c) os) e h
+    → machine.Stays c e (kept_outs (machine.is_of c) os) → Kept d r os e h
+    → Kept d r (kept_outs (machine.is_of c) os) e h
 drop c d r os None h a k = moves.kept_drop_none c d r os h k
 drop c d r os (Some f) h a k = moves.kept_drop c d r os f h a k
 

@@ -549,7 +549,8 @@ dropped_here : (c b j : ℕ) (os : List Out) (h : ℕ → Bool) → (b ≡ c →
 dropped_here c b j os h a n (inl t) = inr (a (eqb-true b c t))
 dropped_here c b j os h a n (inr f) = inr (lists.elsewhere_kept (is_of c) b j os f n)
 
-dropped_way : (c : ℕ) (w : Way) (os : List Out) (h : ℕ → Bool) → WayStays c w (kept_outs (is_of c) os) → IsOffered w os h
+dropped_way : (c : ℕ) (w : Way) (os : List Out) (h : ℕ → Bool) → WayStays c w (kept_outs (is_of c) os)
+    → IsOffered w os h
     → IsOffered w (kept_outs (is_of c) os) h
 dropped_way c Nowhere os h a k = tt
 dropped_way c Refused os h a k = tt

@@ -99,7 +99,8 @@ read_none t (Answer n) (By j Held) p = reads (Decided (Answer n)) (By j Held) []
 
 -- an add is there
 read_open : (t : Bool) (c i : ℕ) (s : Course) → Records (Decided Forward) NoRemoval (made c i s)
-    → Kept (Decided Forward) NoRemoval (made c i s) (note_read (Decided Forward) (way_of t (made c i s)) NoRemoval) nowhere
+    → Kept (Decided Forward) NoRemoval (made c i s)
+    (note_read (Decided Forward) (way_of t (made c i s)) NoRemoval) nowhere
 read_open t c i Uncovered p = absurd (cc (p.covered.0))
 read_open t c i Covered p =
     reads (Decided Forward) NoRemoval (made c i Covered) (Some (noted Forward (Offered c i) Open)) tt
