@@ -24,7 +24,7 @@ again_none Forward (Over c i k) l = tt
 again_none Hold w l = tt
 again_none (Answer k) w l = tt
 
--- what has an noted has been decided
+-- what has a note has been decided
 pub early_note : (d : Decision) (r s : Removal) (os ps : List Out) (f : Note) (e : Option Note)
     → IsEarly d r os (Some f) → IsEarly d s ps e
 early_note Undecided r s os ps f e a = absurd (cc (a.2))

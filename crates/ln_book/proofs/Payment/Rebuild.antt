@@ -49,7 +49,7 @@ all_covered (o ∷ os) =
     covered_if (is_uncovered o.course && true) true o (kept_outs everywhere os) (λ e. ap (λ b. b && true) e)
     (either_way o.course) (all_covered os)
 
--- with an noted
+-- with a note
 reads : (d : Decision) (r : Removal) (os : List Out) (e : Option Note) → IsEarly d r os e → IsHeld r ⊎ IsKnown e os
     → ForNote (λ f. IsOffered f.way os nowhere) e → ForNote (λ f. IsOver f.way os) e
     → ForNote (λ f. NotAgain f.mark f.way f.back r) e → ForNote (λ f. IsSettledOnly f.back r) e
