@@ -1,8 +1,8 @@
 -- An end does what a command asks for exactly where its marks let it and the machine may make the move.
-use Rattle.std.proofs.Common.{◌≡◌, ◌↔◌, ℕ, ◌+◌, ◌≤◌, List, [], ◌∷◌, length, refl, sym, ap, ◌∙◌, subst, arith}
-use Rattle.std.proofs.Common.{Bool, true, false, cond, not, ◌||◌, ◌==◌, nat_lt, Option, Some, None, Ok, Err}
+use Rattle.std.proofs.Common.{◌≡◌, ◌↔◌, ℕ, ◌+◌, ◌-◌, ◌^◌, ◌<◌, ◌≤◌, List, [], ◌∷◌, length, refl, sym, ap, ◌∙◌, subst, arith}
+use Rattle.std.proofs.Common.{Bool, true, false, cond, not, ◌||◌, ◌&&◌, ◌==◌, nat_lt, nat_le, ◌≢◌, Option, Some, None, Ok, Err}
 use Rattle.std.specs.Prelude.{is_some}
-use Rattle.std.proofs.lemmas.Bool.{eqb-true, eq-eqb, ltb-true, ltb-false}
+use Rattle.std.proofs.lemmas.Bool.{eqb-true, eq-eqb, ltb-true, ltb-false, leb-true, leb-false}
 use Rattle.ln_msgs.specs.declared.refusals.refusal.Refusal.{Refusal}
 use Rattle.ln_msgs.specs.declared.refusals.refusal.Refusal.TheVariants as refusal
 use Rattle.ln_msgs.specs.declared.refusals.peer_rule.PeerRule.TheVariants as rule
@@ -38,7 +38,7 @@ use Rattle.ln_channel.specs.Step.{faulted, line_fault}
 use Rattle.ln_pair.specs.Ends.{Ends, Step, opened, turned, run}
 use Rattle.ln_pair.specs.Promises.{AreKeys, IsTaken, party}
 use Rattle.ln_pair.specs.Moves.{machine_by, machine_of, moves_asked}
-use Rattle.ln_pair.specs.Doing.{HasRoom, IsReadyFor, MayMake, MayDo, Does, BothDo}
+use Rattle.ln_pair.specs.Doing.{IsReady, HasRoom, IsReadyFor, MayMake, MayDo, Does, BothDo}
 use Rattle.ln_pair.proofs.Walk.{Phase, Idle, Sent, Answered}
 use Rattle.ln_pair.proofs.Moving.{log_within}
 use Rattle.ln_pair.proofs.Runs.{Holds, flipped}
@@ -117,6 +117,21 @@ met_so Down = ((λ e. absurd (some_none refusal.Disconnected e)), (λ e. absurd 
 met_so Awaiting = ((λ e. absurd (some_none refusal.Disconnected e)), (λ e. absurd (let no : Awaiting ≡ Met = e in cc)))
 met_so Met = ((λ e. refl), (λ e. refl))
 
+both_so : (p q : Bool) → ((p && q) ≡ true) ↔ ((p ≡ true) × (q ≡ true))
+both_so true q = ((λ e. (refl, e)), (λ e. e.1))
+both_so false q = ((λ e. absurd (let no : false ≡ true = e in cc)), (λ e. absurd (let no : false ≡ true = e.0 in cc)))
+
+below_by : (b : Bool) (n m : ℕ) → nat_le n m ≡ b → (b ≡ false) ↔ (m < n)
+below_by true n m is = (
+  (λ e. absurd (let no : true ≡ false = e in cc)),
+  (λ lt. absurd (let le = leb-true n m is in omega (arith, lt, le))),
+)
+below_by false n m is = ((λ e. let lt = leb-false n m is in omega (arith, lt)), (λ lt. refl))
+
+differ_by : (b : Bool) (n m : ℕ) → (n == m) ≡ b → (b ≡ false) ↔ (n ≢ m)
+differ_by true n m is = ((λ e. absurd (let no : true ≡ false = e in cc)), (λ f. absurd (f (eqb-true n m is))))
+differ_by false n m is = ((λ e same. absurd (let no : true ≡ false = sym (eq-eqb n m same) ∙ is in cc)), (λ f. refl))
+
 not_true : (b : Bool) → (b ≡ true → ⊥) → b ≡ false
 not_true true f = absurd (f refl)
 not_true false f = refl
@@ -148,6 +163,19 @@ IsFresh e =
 
 module _ (r : Role) (e : End) (m : Machine) (is : IsMachine r e m) (w : log.IsWithin e.dance.log) (fresh : IsFresh e)
     (l : Line) where
+  ready_so : (is_ready e ≡ true) ↔ IsReady e
+  ready_so = both_so e.marks.ready_sent e.marks.ready_received
+
+  room_so : (is_at_update_limit e.dance.log.own ≡ false) ↔ (length e.dance.log.own < 2 ^ 62)
+  room_so =
+      let n = length e.dance.log.own in
+      below_by (nat_le (2 ^ 62) n) (2 ^ 62) n refl
+
+  last_so : (is_last e.dance.numbers.signed ≡ false) ↔ (e.dance.numbers.signed ≢ 2 ^ 48 - 1)
+  last_so =
+      let n = e.dance.numbers.signed in
+      differ_by (n == 2 ^ 48 - 1) n (2 ^ 48 - 1) refl
+
   -- ---- an update
 
   -- the peer's shutdown doesn't forbid it
@@ -199,10 +227,11 @@ module _ (r : Role) (e : End) (m : Machine) (is : IsMachine r e m) (w : log.IsWi
             let p = f.0 none in
             let q = g.0 p.0 in
             let can = may e.closing.shut e.closing.closed e.dance.log u id q.2.0 p.1 in
-            (((q.0, q.1), q.2.1, can.2), can.0)),
+            (((ready_so.0 q.0, room_so.0 q.1), q.2.1, can.2), can.0)),
         (λ h.
-            let can = may_so e.closing.shut e.closing.closed e.dance.log u (h.1, h.0.0.1, h.0.2) in
-            f.1 (g.1 (h.0.0.0, h.0.0.1, (can.0, h.0.1)), can.1)),
+            let room = room_so.1 h.0.0.1 in
+            let can = may_so e.closing.shut e.closing.closed e.dance.log u (h.1, room, h.0.2) in
+            f.1 (g.1 (ready_so.1 h.0.0.0, room, (can.0, h.0.1)), can.1)),
       )
 
   -- ---- each command
@@ -239,7 +268,7 @@ module _ (r : Role) (e : End) (m : Machine) (is : IsMachine r e m) (w : log.IsWi
             (ready.1 h.0, (p.1 h.1, tt))),
         (λ x.
             let h = ready.0 x.0 in
-            (n.1 (h.0.0, refl), g.1 (h, p.0 x.1.0))),
+            (n.1 (ready_so.1 h.0.0, refl), g.1 (h, p.0 x.1.0))),
       )
 
   confirm_none : (confirm_fault e ≡ None) ↔ ((e.marks.ready_sent ≡ false) × (e.closing.closed ≡ None))
@@ -271,14 +300,14 @@ module _ (r : Role) (e : End) (m : Machine) (is : IsMachine r e m) (w : log.IsWi
       )
 
   sign_command_none : (sign_command_fault e ≡ None)
-      ↔ (((is_ready e ≡ true) × (is_last e.dance.numbers.signed ≡ false)) × MaySign (party e))
+      ↔ ((IsReady e × (e.dance.numbers.signed ≢ 2 ^ 48 - 1)) × MaySign (party e))
   sign_command_none =
       let f = when_so (is_ready e) refusal.NotReady (sign_fault e.dance) in (
         (λ x.
             let a = f.0 x in
             let b = sign_none.0 a.1 in
-            ((a.0, b.0), b.1)),
-        (λ x. f.1 (x.0.0, sign_none.1 (x.0.1, x.1))),
+            ((ready_so.0 a.0, last_so.0 b.0), b.1)),
+        (λ x. f.1 (ready_so.1 x.0.0, sign_none.1 (last_so.1 x.0.1, x.1))),
       )
 
   acked_so : (all_acknowledged e.dance.log ≡ true) ↔ MayShut (party e)
@@ -356,7 +385,7 @@ module _ (r : Role) (e : End) (m : Machine) (is : IsMachine r e m) (w : log.IsWi
         (λ x.
             let h = k.0 x.1 in
             (h.0, (is.signs.1 h.1, tt))),
-        (λ x. (n.1 (x.0.0, refl), k.1 (x.0, is.signs.0 x.1.0))),
+        (λ x. (n.1 (ready_so.1 x.0.0, refl), k.1 (x.0, is.signs.0 x.1.0))),
       )) (as_told command.Sign)
   does keys (command.Shutdown script) =
       let n = shuts_down script e in
