@@ -54,7 +54,8 @@ module _ {K : Type 0} (signer : K → Signer) where
       let q = ends_of signer id p r in
       let h = r.mirrors in
       let m = machine_of q in
-      let d = both_do (signer r.funders) (signer r.fundees) r.spec r.config r.funder r.fundee r.steps c r.keys r.opens in
+      let d = both_do (signer r.funders) (signer r.fundees) r.spec r.config r.funder r.fundee r.steps c r.keys
+      r.opens in
       at_links signer id r.funders r.fundees (BothObey signer c p) p q h (
         obeys_so Funder c r.funders q.x_line q.x m p.x.link h.x_link plain d.funder,
         obeys_so Fundee c r.fundees q.y_line q.y m p.y.link h.y_link plain d.fundee,
