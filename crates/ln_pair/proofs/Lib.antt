@@ -37,6 +37,7 @@ pub mod Firm
 pub mod Bids
 pub mod Hearing
 pub mod Closed
+pub mod Doing
 pub mod Noting
 pub mod Lasting
 pub mod Steady

@@ -428,16 +428,20 @@ lead_there a b s c funder fundee steps keys o =
     run_after (history a b funder fundee steps) None (Some (machine_of (run a b steps (opened funder fundee))))
     (may_be_made a b s c funder fundee steps keys o)
 
+pub keep_roles : (a b : Signer) (s : OpenSpec) (c : Config) (funder fundee : Opened) (steps : List Step) → AreKeys a b
+    → Opens a b s c funder fundee → Keeps funder.dance.log.opening (run a b steps (opened funder fundee))
+keep_roles a b s c funder fundee steps keys o =
+    let begun = starts a b s c funder fundee o in
+    (runs_so a b keys steps funder.dance.log.opening (opened funder fundee) begun.keeps
+    (opened_holds a b s c funder fundee o)).1
+
 pub set_up_so : (a b : Signer) (s : OpenSpec) (c : Config) (funder fundee : Opened) (steps : List Step) → AreKeys a b
     → Opens a b s c funder fundee
     → AreSetUp (setup_of funder fundee) (run a b steps (opened funder fundee)).x
     (run a b steps (opened funder fundee)).y
 set_up_so a b s c funder fundee steps keys o =
-    let p = opened funder fundee in
-    let q = funder.dance.log.opening in
-    let kept = (runs_so a b keys steps q p (starts a b s c funder fundee o).keeps
-    (opened_holds a b s c funder fundee o)).1 in
-    let fees = run_fees a b steps p in
+    let kept = keep_roles a b s c funder fundee steps keys o in
+    let fees = run_fees a b steps (opened funder fundee) in
     record {
       funders_opening = kept.x.opening;
       fundees_opening = kept.y.opening;

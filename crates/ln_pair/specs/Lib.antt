@@ -7,6 +7,7 @@ pub mod Answers
 pub mod Closes
 pub mod Widths
 pub mod Setup
+pub mod Doing
 pub use Rattle.ln_log.specs.Machine
 pub use Rattle.ln_log.specs.Log
 pub use Rattle.ln_channel.specs.Opening

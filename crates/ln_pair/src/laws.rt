@@ -19,6 +19,7 @@ ghost use Rattle.ln_pair.specs.Ends.{Step, opened, message_at, command_at, run};
 ghost use Rattle.ln_pair.specs.Promises.{AreKeys, AreSent, AreAgreeable, Headline, NoneRefused, AllTaken};
 ghost use Rattle.ln_pair.specs.Answers.{BothHaveAnswered};
 ghost use Rattle.ln_pair.specs.Closes.{BothClose};
+ghost use Rattle.ln_pair.specs.Doing.{BothDo};
 ghost use Rattle.ln_pair.specs.Promises.{OneFee, Agrees, NoneAddsLate, MarksAgree};
 ghost use Rattle.ln_pair.specs.Setup.{setup_of, AreSetUp};
 
@@ -107,4 +108,12 @@ pub fn steps_are_those_of_a_link()
         → saved_at keys Awaiting m e ≡ turned Met (message_at keys Awaiting m e) }
     ensures command { (keys : Signer) (l : Line) (c : Command) (e : End)
         → obeyed keys l c (stage.Saved e) ≡ turned l (command_at keys l c e) }
+{}
+
+/// A law: either end does what a command asks for exactly where it has met its peer, its own marks let it (both
+/// `channel_ready` were sent, the peer hasn't shut down, a number is left, no message is too long), and the channel's
+/// machine may make the move. So no end refuses an update, a signature or a shutdown that it may send.
+pub fn commands_are_done_exactly()
+    ensures { (a b : Signer) (s : OpenSpec) (c : Config) (funder fundee : Opened) (steps : List Step) (asked : Command)
+        → AreKeys a b → Opens a b s c funder fundee → BothDo a b asked (run a b steps (opened funder fundee)) }
 {}

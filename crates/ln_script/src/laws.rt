@@ -6,7 +6,7 @@ ghost use Rattle.ln_keys.specs.Toy.{toy_signer};
 ghost use Rattle.ln_log.specs.Events.{events};
 ghost use Rattle.ln_pair.specs.Told.{as_told, unnumbered, ClosesLast};
 ghost use Rattle.ln_world.specs.Promises.{BringFit, OfEach, Headline, NoneRefused, AllTaken, OneFee, Agrees};
-ghost use Rattle.ln_world.specs.Promises.{AnswersShutdown, MarksAgree};
+ghost use Rattle.ln_world.specs.Promises.{AnswersShutdown, MarksAgree, DoExactly};
 ghost use Rattle.ln_world.specs.Records.{AreSteps, HaveRecords};
 ghost use Rattle.ln_world.specs.Machine.{history, all_told, AreInStep};
 ghost use Rattle.ln_world.specs.Sending.{NoneAddsLate};
@@ -20,7 +20,7 @@ ghost use Rattle.ln_script.specs.Report.{AfterEachScript};
 use ln_keys::ToyKeys;
 use ln_world::{
     a_shutdown_is_answered, agreement, channels_open_as_set, close_is_last, closed_at_one_fee,
-    every_end_has_a_record, headline, marks_agree_at_rest, never_refused,
+    commands_are_done_exactly, every_end_has_a_record, headline, marks_agree_at_rest, never_refused,
     never_refused_where_fees_overlap, no_add_follows_a_shutdown, undecided_events_are_the_machines,
 };
 
@@ -44,7 +44,8 @@ pub fn steps_bring_what_fits()
 /// take fees that overlap it is taken (`ln_world::never_refused_where_fees_overlap`); both close at one fee
 /// (`ln_world::closed_at_one_fee`); a shutdown is answered (`ln_world::a_shutdown_is_answered`); at rest both ends hold
 /// every update and their commitments are worth the same (`ln_world::agreement`); where nothing is in flight each has
-/// taken the other's marks (`ln_world::marks_agree_at_rest`); of all that an end sends no `update_add_htlc` stands
+/// taken the other's marks (`ln_world::marks_agree_at_rest`); a command is done exactly where its end's marks and the
+/// machine let it (`ln_world::commands_are_done_exactly`); of all that an end sends no `update_add_htlc` stands
 /// behind its shutdown (`ln_world::no_add_follows_a_shutdown`); a channel is there as it was set up
 /// (`ln_world::channels_open_as_set`); what an end has yet to decide are the machine's events
 /// (`ln_world::undecided_events_are_the_machines`), and the close is the last one (`ln_world::close_is_last`); and each
@@ -57,6 +58,7 @@ pub fn scripts_keep_the_promises()
     ensures a_shutdown_is_answered { AfterEachScript (OfEach AnswersShutdown) }
     ensures agreement { AfterEachScript (OfEach Agrees) }
     ensures marks_agree_at_rest { AfterEachScript (OfEach MarksAgree) }
+    ensures commands_are_done_exactly { AfterEachScript (OfEach (DoExactly toy_signer)) }
     ensures no_add_follows_a_shutdown { (text : List ℕ) (steps : List ToyStep) (number : ℕ) → script_at text ≡ Ok steps
         → NoneAddsLate toy number steps empty }
     ensures channels_open_as_set { (text : List ℕ) (steps : List ToyStep) (number : ℕ) → script_at text ≡ Ok steps
@@ -75,6 +77,7 @@ pub fn scripts_keep_the_promises()
     a_shutdown_is_answered::<ToyKeys>();
     agreement::<ToyKeys>();
     marks_agree_at_rest::<ToyKeys>();
+    commands_are_done_exactly::<ToyKeys>();
     no_add_follows_a_shutdown::<ToyKeys>();
     channels_open_as_set::<ToyKeys>();
     undecided_events_are_the_machines::<ToyKeys>();

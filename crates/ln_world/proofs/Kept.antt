@@ -658,7 +658,7 @@ module _ {K : Type 0} (signer : K → Signer) where
 
   -- ---- what the pair promises, told of the links
 
-  at_links : (id : List ℕ) (kx ky : K) (f : End → End → Type 0) (p : Both K) (q : Ends) → Mirrors id kx ky p q
+  pub at_links : (id : List ℕ) (kx ky : K) (f : End → End → Type 0) (p : Both K) (q : Ends) → Mirrors id kx ky p q
       → f q.x q.y → AtEnds f p.x.link.stage p.y.link.stage
   at_links id kx ky f p q h held =
       let x : stage.Saved q.x ≡ p.x.link.stage = ap (λ (l : State K). l.stage) (sym h.x_link) in

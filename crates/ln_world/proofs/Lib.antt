@@ -7,6 +7,7 @@ pub mod Dropped
 pub mod Moves
 pub mod Opened
 pub mod Kept
+pub mod Doing
 pub mod Places
 pub mod Lacking
 pub mod Worlds

@@ -126,7 +126,7 @@ module _ {K : Type 0} (keys : Signer) (k : K) (id : List ℕ) where
   turned_faulted l None r = refl
   turned_faulted l (Some f) r = refl
 
-  obeyed_so : (l : Line) (c : Command) (e : End)
+  pub obeyed_so : (l : Line) (c : Command) (e : End)
       → obeyed keys l c (stage.Saved e) ≡ step.turned l (command_at keys l c e)
   obeyed_so l c e =
       ap (faulted (unready_fault c e)) (turned_faulted l (line_fault l) (command_row keys c e))

@@ -31,11 +31,12 @@ use Rattle.ln_world.specs.Channel.{Channel, is_node, moved, opened_by, act_moves
 use Rattle.ln_world.specs.World.{World, settings_of, with_settings, channel, moved_at, all_moved, may_open, happens}
 use Rattle.ln_world.specs.World.{empty, run}
 use Rattle.ln_world.specs.Promises.{Headline, NoneRefused, AllTaken, OneFee, Agrees, BringsFit, Each, BringFit, OfEach}
-use Rattle.ln_world.specs.Promises.{AnswersShutdown, MarksAgree, BothClose}
+use Rattle.ln_world.specs.Promises.{AnswersShutdown, MarksAgree, BothClose, DoExactly}
 use Rattle.ln_world.proofs.Fitting.{funders, fundees}
 use Rattle.ln_world.proofs.Opened.{mirrored, fees_so, opening_so}
 use Rattle.ln_world.proofs.Kept.{IsRun, IsOpen, act_kept, fall_kept, restart_kept, up_kept, Tale, IsTold}
 use Rattle.ln_world.proofs.Kept as channels
+use Rattle.ln_world.proofs.Doing as doing
 
 -- ---- what nodes bring
 
@@ -297,4 +298,8 @@ module _ {K : Type 0} (k : Ghosts K) where
 
   pub answered : (ss : List (Step K k)) → BringFit k ss → OfEach AnswersShutdown (run k ss empty)
   answered ss f = of_each AnswersShutdown (channels.answers_shutdown k.signer) (run k ss empty).channels
+      (kept ss f).channels
+
+  pub do_exactly : (ss : List (Step K k)) → BringFit k ss → OfEach (DoExactly k.signer) (run k ss empty)
+  do_exactly ss f = of_each (DoExactly k.signer) (doing.do_exactly k.signer) (run k ss empty).channels
       (kept ss f).channels

@@ -1,21 +1,27 @@
 -- What the two links of each channel of a world promise, whatever has happened to them.
-use Rattle.std.specs.Prelude.{◌≡◌, ℕ, ◌≤◌, ◌^◌, length, List, [], ◌∷◌, Some, None}
+use Rattle.std.specs.Prelude.{◌≡◌, ◌↔◌, ℕ, ◌≤◌, ◌^◌, length, List, [], ◌∷◌, false, Some, None}
 use Rattle.ln_msgs.specs.declared.messages.message.Message.{Message}
 use Rattle.ln_msgs.specs.declared.refusals.refusal.Refusal.TheVariants as refusal
 use Rattle.ln_keys.specs.declared.keys.ChannelKeys.{Ghosts}
+use Rattle.ln_keys.specs.declared.role.Role.{Role}
+use Rattle.ln_keys.specs.declared.role.Role.TheVariants.{Funder, Fundee}
 use Rattle.ln_keys.specs.Signer.{Signer}
+use Rattle.ln_log.specs.Machine.{Machine}
 use Rattle.ln_dance.specs.Dance.{sign_fault}
+use Rattle.ln_channel.specs.declared.command.Command.{Command}
 use Rattle.ln_channel.specs.declared.unsaved.Line.{Line}
 use Rattle.ln_channel.specs.declared.unsaved.Line.TheVariants.{Met}
 use Rattle.ln_channel.specs.declared.unsaved.Stage.{Stage}
 use Rattle.ln_channel.specs.declared.unsaved.Stage.TheVariants as stage
 use Rattle.ln_channel.specs.End.{End}
 use Rattle.ln_channel.specs.State.{State}
-use Rattle.ln_channel.specs.Step.{handled}
+use Rattle.ln_channel.specs.Step.{handled, commanded, is_of_records}
 use Rattle.ln_pair.specs.Promises.{AreSent, FollowEachOther, IsTaken, IsTakenButForItsFee, Overlap, CloseAtOneFee}
 use Rattle.ln_pair.specs.Promises.{HoldTheSame, SameMarks}
 use Rattle.ln_pair.specs.Answers.{HasAnswered}
 use Rattle.ln_pair.specs.Closes.{CloseOnceDone}
+use Rattle.ln_pair.specs.Moves.{machine_by}
+use Rattle.ln_pair.specs.Doing.{MayDo}
 use Rattle.ln_world.specs.declared.step.Step.{Step}
 use Rattle.ln_world.specs.declared.step.Step.TheVariants as step
 use Rattle.ln_world.specs.World.{World}
@@ -104,6 +110,26 @@ MarksAgree p = IsQuiet p → AtEnds SameMarks p.x.link.stage p.y.link.stage
 abbrev pub BothClose : {K : Type 0} → Both K → Type 0
 BothClose p = AtEnds FeesOverlap p.x.link.stage p.y.link.stage → IsQuiet p
     → AtEnds CloseOnceDone p.x.link.stage p.y.link.stage
+
+-- ---- a command that isn't about decisions is done exactly where the link works, its end's marks let it, and the
+-- machine that the two ends stand for may make the move
+
+-- the end of this side, in a channel that this is the machine of
+pub record MayObey {K : Type 0} (side : Role) (c : Command) (l : State K) (e : End) (m : Machine) : Type 0 where
+  pub works : l.halted ≡ false
+  pub stands : l.failure ≡ None
+  pub may : MayDo side l.line c e m
+
+abbrev pub Obeys : {K : Type 0} → (K → Signer) → Role → Command → State K → End → Machine → Type 0
+Obeys signer side c l e m = IsTaken (commanded (signer l.keys) l c) ↔ MayObey side c l e m
+
+abbrev pub BothObey : {K : Type 0} → (K → Signer) → Command → Both K → End → End → Type 0
+BothObey signer c p x y =
+    Obeys signer Funder c p.x.link x (machine_by x y) × Obeys signer Fundee c p.y.link y (machine_by x y)
+
+abbrev pub DoExactly : {K : Type 0} → (K → Signer) → Both K → Type 0
+DoExactly signer p =
+    (c : Command) → is_of_records c ≡ false → AtEnds (BothObey signer c p) p.x.link.stage p.y.link.stage
 
 -- ---- what the steps bring
 

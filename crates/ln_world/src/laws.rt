@@ -10,7 +10,7 @@ ghost use Rattle.ln_world.specs.declared.step.Step.{Step};
 ghost use Rattle.ln_world.specs.World.{empty, run, channel};
 ghost use Rattle.ln_world.specs.Failing.{SomeMayFail};
 ghost use Rattle.ln_world.specs.Promises.{BringFit, OfEach, Headline, NoneRefused, AllTaken, OneFee, Agrees};
-ghost use Rattle.ln_world.specs.Promises.{AnswersShutdown, MarksAgree, BothClose};
+ghost use Rattle.ln_world.specs.Promises.{AnswersShutdown, MarksAgree, BothClose, DoExactly};
 ghost use Rattle.ln_world.specs.Records.{AreSteps, HaveRecords};
 ghost use Rattle.ln_world.specs.Sending.{NoneAddsLate};
 ghost use Rattle.ln_world.specs.Setup.{all_setups, OpensAsSet};
@@ -72,6 +72,14 @@ pub fn marks_agree_at_rest<K: ChannelKeys + Copy>()
 pub fn closing_ends<K: ChannelKeys + Copy>()
     ensures { (steps : List (Step K K.ChannelKeys)) → BringFit K.ChannelKeys steps
         → OfEach BothClose (run K.ChannelKeys steps empty) }
+{}
+
+/// A law: in each channel, either link does what a command asks for, where that isn't about decisions, exactly where
+/// the link works and has met its peer, its end's marks let it (both `channel_ready` were sent, the peer hasn't shut
+/// down, a number is left, no message is too long), and the machine that both ends stand for may make the move.
+pub fn commands_are_done_exactly<K: ChannelKeys + Copy>()
+    ensures { (steps : List (Step K K.ChannelKeys)) → BringFit K.ChannelKeys steps
+        → OfEach (DoExactly K.signer) (run K.ChannelKeys steps empty) }
 {}
 
 /// A law: of all that either end of the channel with this number sends in these steps since it was opened, over all its

@@ -18,8 +18,8 @@ pub use both::Place;
 pub use channel::{Channel, open_channel};
 pub use laws::{
     a_shutdown_is_answered, agreement, channels_open_as_set, closed_at_one_fee, closing_ends,
-    every_end_has_a_record, headline, marks_agree_at_rest, never_refused,
-    never_refused_where_fees_overlap, no_add_follows_a_shutdown,
+    commands_are_done_exactly, every_end_has_a_record, headline, marks_agree_at_rest,
+    never_refused, never_refused_where_fees_overlap, no_add_follows_a_shutdown,
 };
 pub use line::{EndLine, Ending, Line, Word};
 pub use machine::{

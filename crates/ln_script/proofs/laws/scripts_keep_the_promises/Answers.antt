@@ -1,6 +1,6 @@
 use Rattle.ln_keys.specs.Toy.{toy_signer}
 use Rattle.ln_world.specs.Promises.{OfEach, Headline, NoneRefused, AllTaken, OneFee, Agrees}
-use Rattle.ln_world.specs.Promises.{AnswersShutdown, MarksAgree}
+use Rattle.ln_world.specs.Promises.{AnswersShutdown, MarksAgree, DoExactly}
 use Rattle.ln_world.specs.Records.{HaveRecords}
 use Rattle.ln_script.proofs.Fits.{after_each, steps_fit}
 use Rattle.ln_script.proofs.Widths.{after_each_wide}
@@ -31,6 +31,10 @@ returns-clause-agreement c = after_each (OfEach Agrees) c.agreement.ensures
 
 pub returns-clause-marks_agree_at_rest : goal.returns-clause-marks_agree_at_rest
 returns-clause-marks_agree_at_rest c = after_each (OfEach MarksAgree) c.marks_agree_at_rest.ensures
+
+pub returns-clause-commands_are_done_exactly : goal.returns-clause-commands_are_done_exactly
+returns-clause-commands_are_done_exactly c =
+    after_each (OfEach (DoExactly toy_signer)) c.commands_are_done_exactly.ensures
 
 pub returns-clause-channels_open_as_set : goal.returns-clause-channels_open_as_set
 returns-clause-channels_open_as_set c text steps number read =

@@ -1,0 +1,7 @@
+pub mod Invariant
+pub mod Clauses
+pub mod Lists
+pub mod Moves
+pub mod Rebuild
+pub mod Law
+pub mod Runs

@@ -1,0 +1,4 @@
+pub mod Parts
+pub mod Rebuild
+pub mod Moves
+pub mod Promises
