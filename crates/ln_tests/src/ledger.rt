@@ -6,6 +6,7 @@ use crate::saving::{Side, fundee_side, funder_side, played, stored, taken};
 use crate::testing::{FUNDER, htlc};
 use ln_bytes::Bytes;
 use ln_channel::{Command, Output};
+use ln_hooks::ChannelEvent;
 use ln_link::Link;
 use ln_log::Mark;
 use ln_msgs::Refusal;
@@ -71,6 +72,18 @@ fn kept(alloc: Global, side: &mut Saving) -> Result<Kept, Refusal> {
     ))
 }
 
+/// Of the events that a side hasn't decided: how many they are, the first one's number, and where it is an add, whether
+/// of this side's own.
+fn pending(alloc: Global, side: &Saving) -> Result<(usize, u64, Option<bool>), Refusal> {
+    let events = side.link.pending_events(alloc)?;
+    let first = match events.first() {
+        None => (0, None),
+        Some((number, ChannelEvent::Added { own, .. })) => (*number, Some(*own)),
+        Some((number, _)) => (*number, None),
+    };
+    Ok((events.len(), first.0, first.1))
+}
+
 /// An HTLC that forwards another one is offered, and signed by both.
 fn offered(alloc: Global, a: &mut Saving, b: &mut Saving) -> Result<(), Refusal> {
     let add = htlc(0, 5000, 400);
@@ -113,6 +126,8 @@ fn events_are_decided_in_turn(rt: HostRuntime) -> Result<(), Refusal> {
     let (mut a, mut b) = both(alloc)?;
     assert_eq!(rt; kept(alloc, &mut a), Ok((0, 1, 0, 0, None)));
     assert_eq!(rt; kept(alloc, &mut b), Ok((0, 1, 0, 0, None)));
+    assert_eq!(rt; pending(alloc, &a), Ok((1, 0, Some(true))));
+    assert_eq!(rt; pending(alloc, &b), Ok((1, 0, Some(false))));
     // its own add can have no mark
     assert_eq!(rt; decided(alloc, &mut a, 0, Mark::Malformed(5)), 40);
     assert_eq!(rt; decided(alloc, &mut a, 1, Mark::None), 40);
@@ -123,6 +138,7 @@ fn events_are_decided_in_turn(rt: HostRuntime) -> Result<(), Refusal> {
     assert_eq!(rt; decided(alloc, &mut b, 0, Mark::Malformed(5)), 0);
     assert_eq!(rt; decided(alloc, &mut b, 0, Mark::Malformed(5)), 40);
     assert_eq!(rt; kept(alloc, &mut b), Ok((1, 0, 1, 0, None)));
+    assert_eq!(rt; pending(alloc, &b), Ok((0, 0, None)));
     Ok(())
 }
 
@@ -142,6 +158,7 @@ fn results_stay_until_they_are_forgotten(rt: HostRuntime) -> Result<(), Refusal>
     // and by a link that has come back from its record
     let bytes = stored(alloc, &mut a)?;
     a.link = boxed(alloc, Link::from_record(alloc, FUNDER, bytes.as_slice())?)?;
+    assert_eq!(rt; pending(alloc, &a), Ok((1, 1, None)));
     assert_eq!(rt; decided(alloc, &mut a, 1, Mark::Malformed(5)), 40);
     assert_eq!(rt; decided(alloc, &mut a, 1, Mark::None), 0);
     assert_eq!(rt; kept(alloc, &mut a), Ok((2, 0, 0, 1, result)));

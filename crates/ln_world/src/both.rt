@@ -56,19 +56,6 @@ fn send_all(outputs: Vec<Output>, inbox: &mut VecDeque<Message>) -> Result<(), R
     Ok(())
 }
 
-fn failure_of<K: ChannelKeys + Copy>(link: &Unsaved<K>) -> Option<Refusal>
-    ensures { result ≡ link.now.failure }
-{
-    link.failure()
-}
-
-/// The end of its channel, where both have signed the opening.
-fn end_of<K: ChannelKeys + Copy>(link: &Unsaved<K>) -> Option<&Channel>
-    ensures { option_copied result ≡ saved_end link.now.stage }
-{
-    link.saved()
-}
-
 impl<K: ChannelKeys + Copy> Place<K> {
     ghost use Rattle.std.specs.Prelude.{◌≡◌, [], IfErr, OnOk};
     ghost use Rattle.ln_pair.specs.Ends.{messages_in};
@@ -144,8 +131,8 @@ impl<K: ChannelKeys + Copy> Place<K> {
         ensures restarted { OnOk result (self.new ≡ restarted self.old) }
         ensures fails { IfErr result (λ e. ByRecord e (LinkLacks self.old.link)) }
     {
-        let failure = failure_of(&self.link);
-        match end_of(&self.link) {
+        let failure = self.link.failure();
+        match self.link.saved() {
             Some(channel) => {
                 let link = restart(alloc, self.keys, failure, channel)?;
                 self.come_back(link);

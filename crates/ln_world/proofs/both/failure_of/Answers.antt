@@ -1,5 +1,0 @@
-use Rattle.std.proofs.Common.{refl}
-use Rattle.ln_world.proofs.both.failure_of.Goals as goal
-
-pub returns : goal.returns
-returns g c = c.failure.ensures c.args.link.now refl
