@@ -1,5 +1,6 @@
 -- A link that halts for want of memory, or hands out what a call has made.
-use Rattle.std.proofs.Common.{refl, sym, ◌∙◌, ap, inl, inr, ◌≡◌, ◌⊎◌, Bool, true, false, ◌&&◌, Option, None, Some, is_none}
+use Rattle.std.proofs.Common.{refl, sym, ◌∙◌, ap, inl, inr, ◌≡◌, ◌⊎◌, Bool, true, false, ◌&&◌}
+use Rattle.std.proofs.Common.{Option, None, Some, is_none}
 use Rattle.std.proofs.Common.{List}
 use Rattle.std.proofs.Common.{Result, Ok, Err, OnOk, OnErr, IfOk, IfErr, if◌then◌else◌}
 use Rattle.ln_bytes.specs.Answers.{fault_of}
@@ -16,7 +17,8 @@ use Rattle.ln_channel.specs.Opening.{LacksBy, MayLackBy}
 use Rattle.ln_channel.specs.Outputs.{Handed, all_of}
 use Rattle.ln_channel.specs.State.{State, halts, is_down, IsSameLink, IsHalted}
 use Rattle.ln_channel.specs.Taking.{is_viewed}
-use Rattle.ln_channel.specs.Step.{Done, AnsweredBy, makes_view, handled, at_hand, faulted, commanded, asked, connected, connects}
+use Rattle.ln_channel.specs.Step.{Done, AnsweredBy, makes_view, handled, at_hand, faulted, commanded, asked}
+use Rattle.ln_channel.specs.Step.{connected, connects}
 
 by_line : {K : Type 0} (keys : K) (line : Line) (halted : Bool) (failure : Option Refusal) (s : Stage)
     → let m : State K = record { keys = keys; line = line; halted = halted; failure = failure; stage = s } in

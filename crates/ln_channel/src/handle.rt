@@ -61,8 +61,8 @@ impl<K: ChannelKeys + Drop> Unsaved<K> {
 
     // Takes a message, unless it is passed over.
     fn take(&mut self, alloc: Global, message: Message) -> Result<Outbox, Refusal>
-        ensures takes { Takes (is_viewed message) (at_hand (K.signer self.old.keys) self.old.line message self.old.stage)
-            result self.old self.new }
+        ensures takes { Takes (is_viewed message)
+            (at_hand (K.signer self.old.keys) self.old.line message self.old.stage) result self.old self.new }
         ensures same_link { IsSameLink self.old self.new }
         ensures same_channel { KeepsChannel self.old.stage self.new.stage }
     {

@@ -230,7 +230,8 @@ fn opened_by<K: ChannelKeys>(
     message: Message,
 ) -> Result<Outbox, Refusal>
     requires { is_saved stage.old ≡ false }
-    ensures { Moves (is_viewed message) (opening_at (K.signer keys.now) line message stage.old) result line line stage.old stage.new }
+    ensures { Moves (is_viewed message) (opening_at (K.signer keys.now) line message stage.old)
+        result line line stage.old stage.new }
 {
     match message {
         Message::OpenChannel(open) => opened_by_open(alloc, keys, line, stage, open),
@@ -272,7 +273,8 @@ fn agree<K: ChannelKeys>(
     message: OpenChannel,
 ) -> Result<Outbox, Refusal>
     requires { stage.old ≡ stages.Gone }
-    ensures { Becomes false line (open_at (K.signer keys.now) line message (stages.AwaitsOpen config)) result stage.new }
+    ensures { Becomes false line (open_at (K.signer keys.now) line message (stages.AwaitsOpen config)) result
+        stage.new }
 {
     let (agreed, accept) = take_open(alloc, keys, config, message)?;
     put(stage, Stage::AwaitsCreated(agreed));
@@ -307,7 +309,8 @@ fn fund<K: ChannelKeys>(
     message: AcceptChannel,
 ) -> Result<Outbox, Refusal>
     requires { stage.old ≡ stages.Gone }
-    ensures { Becomes false line (accept_at (K.signer keys.now) line message (stages.AwaitsAccept spec)) result stage.new }
+    ensures { Becomes false line (accept_at (K.signer keys.now) line message (stages.AwaitsAccept spec)) result
+        stage.new }
 {
     let (opened, created) = take_accept(alloc, keys, spec, message)?;
     put(stage, Stage::AwaitsSigned(Channel::new(alloc, opened)));
@@ -357,7 +360,8 @@ fn opened_by_signed<K: ChannelKeys>(
     stage: &mut Stage,
     message: &FundingSigned,
 ) -> Result<Outbox, Refusal>
-    ensures { Moves true (signed_at (K.signer keys.now) line message.now stage.old) result line line stage.old stage.new }
+    ensures { Moves true (signed_at (K.signer keys.now) line message.now stage.old)
+        result line line stage.old stage.new }
 {
     match stage {
         Stage::AwaitsSigned(channel) => channel.check_funding(alloc, keys, message)?,
@@ -483,7 +487,8 @@ pub(crate) fn note_open(
     channel: &mut Channel,
     command: Command,
 ) -> Result<Outbox, Refusal>
-    ensures moves { MovesEnd false (turned line (note_row command channel.old)) result line line channel.old channel.new }
+    ensures moves { MovesEnd false (turned line (note_row command channel.old))
+        result line line channel.old channel.new }
     ensures same_channel { channel.new.dance.channel ≡ channel.old.dance.channel }
 {
     channel.note(alloc, command)

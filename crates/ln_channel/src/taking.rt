@@ -300,7 +300,8 @@ impl Channel {
         keys: &K,
         message: Message,
     ) -> Result<Outbox, Refusal>
-        ensures makes { MakesBy (is_viewed message) (taken (K.signer keys.now) message self.old) result self.old self.new }
+        ensures makes { MakesBy (is_viewed message) (taken (K.signer keys.now) message self.old) result
+            self.old self.new }
         ensures same_channel { self.new.dance.channel ≡ self.old.dance.channel }
     {
         let mut outbox = self.take_message(alloc, keys, message)?;

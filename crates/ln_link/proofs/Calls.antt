@@ -1,5 +1,6 @@
 -- What a store has of a link, over the link's calls.
-use Rattle.std.proofs.Common.{refl, sym, ◌∙◌, ap, subst, inl, inr, ◌≡◌, ◌⊎◌, ℕ, List, [], ◌∷◌, Bool, true, false, cond, ◌&&◌}
+use Rattle.std.proofs.Common.{refl, sym, ◌∙◌, ap, subst, inl, inr, ◌≡◌, ◌⊎◌, ℕ, List, [], ◌∷◌}
+use Rattle.std.proofs.Common.{Bool, true, false, cond, ◌&&◌}
 use Rattle.std.proofs.Common.{Option, Some, None, is_none, not, Result, Ok, Err, if◌then◌else◌}
 use Rattle.std.specs.FinMap as map
 use Rattle.std.proofs.lemmas.Cmp.{eq_by_cmp_equiv, nat_list_cmp_total}
@@ -24,10 +25,12 @@ use Rattle.ln_store.specs.Record.{record_bytes}
 use Rattle.ln_store.specs.Store.{Records, IsOneOf}
 use Rattle.ln_link.specs.Record.{items_of}
 use Rattle.ln_link.specs.Loading.{HasRecord}
-use Rattle.ln_link.specs.Saving.{Shelf, HasSaved, IsSaved, IsUnsaved, HandsOut, HaltsUnsaved, SavesFailure, SavesIf, fails_now}
+use Rattle.ln_link.specs.Saving.{Shelf, HasSaved, IsSaved, IsUnsaved, HandsOut, HaltsUnsaved, SavesFailure}
+use Rattle.ln_link.specs.Saving.{SavesIf, fails_now}
 use Rattle.ln_link.specs.Saving.{HaltsBehind, HaltsRefused, FailsBy}
 use Rattle.ln_link.specs.Saving.{stored_end, reached, AnswersMessage, AnswersCommand}
-use Rattle.ln_link.specs.Calls.{Call, Handle, Command, Connect, DropConnection, Halt, Leads, Lead, Has, HasLink, HasChannel}
+use Rattle.ln_link.specs.Calls.{Call, Handle, Command, Connect, DropConnection, Halt, Leads, Lead}
+use Rattle.ln_link.specs.Calls.{Has, HasLink, HasChannel}
 use Rattle.ln_link.proofs.Recorded.{recorded, lost_twice}
 
 -- ---- what was saved is there

@@ -51,4 +51,5 @@ HasLink l s = Has l.failure (saved_end l.stage) s.records
 
 -- and one of its channel, whatever it tells
 abbrev pub HasChannel : List ℕ → Shelf → Type 0
-HasChannel channel s = (failure : Option Refusal) × (e : End) × (e.dance.channel ≡ channel) × Has failure (Some e) s.records
+HasChannel channel s =
+    (failure : Option Refusal) × (e : End) × (e.dance.channel ≡ channel) × Has failure (Some e) s.records

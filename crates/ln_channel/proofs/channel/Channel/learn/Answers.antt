@@ -40,5 +40,6 @@ returns-clause-first_stays_below g c = rw (← c.self.view_is)
 
 pub returns-clause-same_channel : goal.returns-clause-same_channel
 returns-clause-same_channel g c = rw (← c.self.view_is)
-    (same_channel c.learn.result c.self.inside.dance c.learn.new.self (after_learn c.args.message.now c.self.inside.dance)
+    (same_channel c.learn.result c.self.inside.dance c.learn.new.self
+    (after_learn c.args.message.now c.self.inside.dance)
     (c.learn.ensures.moves_as_stated _ refl) c.learn.ensures.changes_nothing_if_refused refl)

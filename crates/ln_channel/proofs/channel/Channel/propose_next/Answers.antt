@@ -37,5 +37,6 @@ returns-clause-refuses_exactly c = rw (← c.self.view_is)
 
 pub returns-clause-same_channel : goal.returns-clause-same_channel
 returns-clause-same_channel c = rw (← c.self.view_is)
-    (same_channel c.propose.result c.self.inside.dance c.propose.new.self (with_log (after_propose c.args.update c.self.inside.dance.log) c.self.inside.dance)
+    (same_channel c.propose.result c.self.inside.dance c.propose.new.self
+    (with_log (after_propose c.args.update c.self.inside.dance.log) c.self.inside.dance)
     (c.propose.ensures.moves_as_stated _ refl) c.propose.ensures.changes_nothing_if_refused refl)

@@ -29,5 +29,6 @@ returns-in-Err-Memory-clause-answers g c = λ l s.
     (subst (λ said. Answered {V = Vec Output Global} (λ v. v.items) said k (Err c.halted_by_memory.result)
     c.halted_by_memory.new.self) (sym is)
     (inl (lacked false _ k c.work.new.self c.halted_by_memory.new.self c.in-Err-Memory.field-0
-    c.halted_by_memory.result (λ x. x.0) made.moves c.in-Err-Memory.field-0-is made.same_link c.halted_by_memory.ensures.halted
+    c.halted_by_memory.result (λ x. x.0) made.moves c.in-Err-Memory.field-0-is made.same_link
+    c.halted_by_memory.ensures.halted
     c.halted_by_memory.ensures.fails_for_memory_alone)))

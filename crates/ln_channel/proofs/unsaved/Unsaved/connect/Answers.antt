@@ -25,10 +25,12 @@ returns-in-Err-Memory-clause-answers g c = λ l s.
     (ap (λ (x : State _). x.halted) (sym c.self.view_is) ∙ c.if-self.false)
     (ap (λ (x : State _). is_down x.line) (sym c.self.view_is) ∙ sym c.if-not-is_down.ensures) in
     let made = c.in-Err-Memory.ensures in
-    subst (λ (x : State _). Answered {V = Vec Output Global} (λ v. v.items) (connected (g.K.ChannelKeys.signer x.keys) x) x
+    subst (λ (x : State _). Answered {V = Vec Output Global} (λ v. v.items)
+      (connected (g.K.ChannelKeys.signer x.keys) x) x
     (Err c.halted_by_memory.result) c.halted_by_memory.new.self) s
     (subst (λ said. Answered {V = Vec Output Global} (λ v. v.items) said k (Err c.halted_by_memory.result)
     c.halted_by_memory.new.self) (sym is)
     (inl (lacked false _ k c.greet.new.self c.halted_by_memory.new.self c.in-Err-Memory.field-0
-    c.halted_by_memory.result (λ x. x.0) made.moves c.in-Err-Memory.field-0-is made.same_link c.halted_by_memory.ensures.halted
+    c.halted_by_memory.result (λ x. x.0) made.moves c.in-Err-Memory.field-0-is made.same_link
+    c.halted_by_memory.ensures.halted
     c.halted_by_memory.ensures.fails_for_memory_alone)))
