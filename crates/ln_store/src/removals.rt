@@ -1,6 +1,6 @@
 //! Whether a record may tell these removals.
 
-ghost use Rattle.std.specs.Prelude.{◌≡◌, ◌≤◌, ◌++◌, [], ◌∷◌, List, length, true, IfOk, IfErr, OnOk};
+ghost use Rattle.std.specs.Prelude.{◌≡◌, ◌++◌, [], ◌∷◌, List, true, IfOk, IfErr, OnOk};
 ghost use Rattle.std.specs.List.{list_any};
 ghost use Rattle.ln_keys.specs.Role.{other_role};
 ghost use Rattle.ln_log.specs.declared.update.Update.{Update};
