@@ -1,0 +1,7 @@
+//! The book of a node's forwarded payments: what was decided about each HTLC that came in, what was commanded for it,
+//! and what has become of it (BOLT 2, "Forwarding HTLCs").
+#![tactic(auto)]
+
+mod log;
+
+pub use log::Log;
