@@ -2,6 +2,10 @@
 //! and what has become of it (BOLT 2, "Forwarding HTLCs").
 #![tactic(auto)]
 
+mod entry;
+mod htlc;
 mod log;
 
+pub use entry::{Decided, Desk, Entry, Ids, Invoice, Line, Out, Queued, Told};
+pub use htlc::{Back, Htlc, Key, Offer, Way};
 pub use log::Log;
