@@ -2,10 +2,13 @@
 //! and what has become of it (BOLT 2, "Forwarding HTLCs").
 #![tactic(auto)]
 
+mod book;
 mod entry;
 mod htlc;
 mod log;
+mod tables;
 
+pub use book::Book;
 pub use entry::{Decided, Desk, Entry, Ids, Invoice, Line, Out, Queued, Told};
 pub use htlc::{Back, Htlc, Key, Offer, Way};
 pub use log::Log;
