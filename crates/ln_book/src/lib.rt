@@ -5,6 +5,7 @@
 mod book;
 mod entry;
 mod htlc;
+mod lists;
 mod log;
 mod tables;
 
