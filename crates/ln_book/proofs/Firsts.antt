@@ -19,10 +19,10 @@ unchanged p f (x ∷ xs) out = ap (λ b. cond b (f x ∷ xs) (x ∷ changed_firs
 pub changed_none : {A : Type 0} (p : A → Bool) (f : A → A) (xs : List A) → position p xs ≡ None
     → xs ≡ changed_first p f xs
 changed_none p f xs e = elim (leb_tells (suc (position_or_len p xs)) (length xs)) [
-    inl g ↦ absurd (let is : Some (position_or_len p xs) ≡ None =
-        sym (ap (λ t. cond t (Some (position_or_len p xs)) None) g.0) ∙ e in cc)
+  | inl g ↦ absurd (let is : Some (position_or_len p xs) ≡ None =
+      sym (ap (λ t. cond t (Some (position_or_len p xs)) None) g.0) ∙ e in cc)
   | inr g ↦ sym (unchanged p f xs (λ k d lt. fails_before_first p xs k d (omega (arith, lt, g.1))))
-  ]
+]
 
 at_place : {A : Type 0} (p : A → Bool) (f : A → A) (xs : List A) (i : ℕ) (d : A) → i < length xs
     → p (get_or xs i d) ≡ true → ((k : ℕ) → k < i → p (get_or xs k d) ≡ false)

@@ -248,17 +248,17 @@ with_removed k t = with_htlcs (left_out (is_finished k) (with_back k back.Settle
 
 -- ---- a lost connection, or a load
 
--- the outgoing HTLC is lost where the channel hasn't kept it
-abbrev pub way_kept : List ℕ → ℕ → Way → Way
-way_kept c next way.Nowhere = way.Nowhere
-way_kept c next way.Refused = way.Refused
-way_kept c next (way.Offered k) = if same c k.channel && nat_le next k.id then way.Nowhere else way.Offered k
-way_kept c next (way.Over k how) = way.Over k how
+-- a channel that has kept its HTLCs below this id has lost the outgoing HTLC
+abbrev pub is_way_lost : List ℕ → ℕ → Way → Bool
+is_way_lost c next way.Nowhere = false
+is_way_lost c next way.Refused = false
+is_way_lost c next (way.Offered k) = same c k.channel && nat_le next k.id
+is_way_lost c next (way.Over k how) = false
 
 abbrev pub is_among : ℕ → List ℕ → Bool
 is_among id ids = list_any (λ i. id == i) ids
 
--- so is the removal
+-- and so a removal that it hasn't kept
 abbrev pub back_kept : Bool → Back → Back
 back_kept kept back.Open = back.Open
 back_kept kept back.Sent = if kept then back.Sent else back.Open
@@ -267,7 +267,7 @@ back_kept kept back.Settled = back.Settled
 
 abbrev pub htlc_kept : List ℕ → Told → Htlc → Htlc
 htlc_kept c told h = record h {
-  way = way_kept c told.next h.way;
+  way = if is_way_lost c told.next h.way then way.Nowhere else h.way;
   back = back_kept (not (same c h.key.channel) || is_among h.key.id told.removes) h.back;
 }
 

@@ -88,6 +88,24 @@ impl Model for Ids {
     ghost view = { λ i. i.items.items };
 }
 
+impl Ids {
+    ghost use Rattle.std.specs.Prelude.{◌≡◌};
+
+    /// The ids of a vector. Takes no memory.
+    pub(crate) fn of(items: Vec<u64>) -> Ids
+        ensures { result ≡ items.items }
+    {
+        Ids { items }
+    }
+
+    /// The ids in order.
+    pub fn as_slice(&self) -> &[u64]
+        ensures { result.now ≡ self.now }
+    {
+        self.items.as_slice()
+    }
+}
+
 /// What a channel has kept behind a lost connection or a load.
 #[derive(Debug, Drop)]
 pub struct Told {

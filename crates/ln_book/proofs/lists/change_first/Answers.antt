@@ -11,7 +11,7 @@ returns-in-None c = changed_none (picks c.args.which.now) (changed_by c.args.cha
 pub returns-in-Some : goal.returns-in-Some
 returns-in-Some c =
     ap (slice_set c.args.htlcs.now.items c.in-Some.place)
-        (c.change.ensures ∙ ap (changed_by c.args.change) c.index_mut-htlc.ensures.value)
+    (c.change.ensures ∙ ap (changed_by c.args.change) c.index_mut-htlc.ensures.value)
     ∙ changed_at (picks c.args.which.now) (changed_by c.args.change) c.args.htlcs.now.items c.in-Some.place
-        c.index_mut-htlc.result.now
-        (ap (position (picks c.args.which.now)) (sym c.as_slice.ensures.value) ∙ sym c.place_of.ensures ∙ c.in-Some.is)
+    c.index_mut-htlc.result.now
+    (ap (position (picks c.args.which.now)) (sym c.as_slice.ensures.value) ∙ sym c.place_of.ensures ∙ c.in-Some.is)

@@ -6,4 +6,6 @@ use Rattle.ln_book.specs.Lists.{picks}
 use Rattle.ln_book.proofs.lists.leave_out.Goals as goal
 
 pub returns-clause-left : goal.returns-clause-left
-returns-clause-left c = filter_same _ (λ h. not (picks c.args.which.now h)) _ (λ x b f' k. search rules) _ _ c.retain.ensures.filtered
+returns-clause-left c =
+    filter_same _ (λ h. not (picks c.args.which.now h)) _ (λ x b f' k. search rules) _ _
+    c.retain.ensures.filtered
