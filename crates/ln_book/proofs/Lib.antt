@@ -1,1 +1,4 @@
+pub mod Firsts
+pub mod Each
+pub mod Rows
 pub mod Payment

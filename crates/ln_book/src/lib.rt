@@ -1,6 +1,21 @@
-//! What becomes of the payments that a node forwards.
+//! The book of a node's forwarded payments: what was decided about each HTLC that came in, what was commanded for it,
+//! and what has become of it (BOLT 2, "Forwarding HTLCs").
 #![tactic(auto)]
 
+mod book;
+mod commands;
+mod entry;
+mod htlc;
+mod kept;
 mod laws;
+mod lists;
+mod log;
+mod marks;
+mod tables;
 
+pub use book::Book;
+pub use entry::{Decided, Desk, Entry, Ids, Invoice, Line, Out, Queued, Told};
+pub use htlc::{Back, Htlc, Key, Offer, Way};
+pub use kept::Kept;
 pub use laws::one_payment_out;
+pub use log::Log;

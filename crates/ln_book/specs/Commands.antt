@@ -1,0 +1,196 @@
+-- What each HTLC of a book has to be commanded, and the first command that can be taken.
+use Rattle.std.specs.Prelude.{ℕ, List, [], ◌∷◌, ◌++◌, Bool, true, false, not, ◌&&◌, Option, Some, None, option_map}
+use Rattle.std.specs.Prelude.{Result, Ok, Err, if◌then◌else◌}
+use Rattle.std.specs.List.{find}
+use Rattle.sha2.specs.Sha256.{sha256}
+use Rattle.ln_bytes.specs.Endian.{big_bytes}
+use Rattle.ln_keys.specs.declared.onion.Opened.{Opened}
+use Rattle.ln_keys.specs.declared.onion.OpenFault.{OpenFault}
+use Rattle.ln_log.specs.declared.mark.Mark.{Mark}
+use Rattle.ln_log.specs.declared.mark.Mark.TheVariants as mark
+use Rattle.ln_hooks.specs.declared.event.How.{How}
+use Rattle.ln_hooks.specs.declared.event.How.TheVariants as how
+use Rattle.ln_forward.specs.declared.failure.Failure.TheVariants as failure
+use Rattle.ln_forward.specs.Failure.{failure_bytes}
+use Rattle.ln_channel.specs.declared.command.Command.{Command}
+use Rattle.ln_channel.specs.declared.command.Command.TheVariants as command
+use Rattle.ln_book.specs.declared.htlc.Way.{Way}
+use Rattle.ln_book.specs.declared.htlc.Way.TheVariants as way
+use Rattle.ln_book.specs.declared.htlc.Back.{Back}
+use Rattle.ln_book.specs.declared.htlc.Back.TheVariants as back
+use Rattle.ln_book.specs.declared.htlc.Htlc.{Htlc}
+use Rattle.ln_book.specs.declared.entry.Queued.{Queued}
+use Rattle.ln_book.specs.declared.entry.Out.{Out}
+use Rattle.ln_book.specs.declared.entry.Out.TheVariants as out
+use Rattle.ln_book.specs.declared.entry.Desk.{Desk}
+use Rattle.ln_book.specs.declared.entry.Desk.TheVariants as desk
+use Rattle.ln_book.specs.declared.entry.Entry.{Entry}
+use Rattle.ln_book.specs.declared.entry.Entry.TheVariants as entry
+use Rattle.ln_book.specs.History.{History, with_entry}
+use Rattle.ln_book.specs.Replay.{Table, same, desk_at, is_settled}
+
+-- a node's service that opens onions and wraps failures (BOLT 4)
+pub record Services : Type 0 where
+  pub opened : List ℕ → List ℕ → Result Opened OpenFault
+  pub wrapped : List ℕ → List ℕ
+
+abbrev pub services_of : {O : Type 0} → (O → List ℕ → List ℕ → Result Opened OpenFault) → (O → List ℕ → List ℕ) → O
+    → Services
+services_of opened wrapped o = record { opened = opened o; wrapped = wrapped o }
+
+-- ---- what an HTLC is due
+
+abbrev pub is_open : Back → Bool
+is_open back.Open = true
+is_open back.Sent = false
+is_open back.Gone = false
+is_open back.Settled = false
+
+abbrev pub is_nowhere : Way → Bool
+is_nowhere way.Nowhere = true
+is_nowhere way.Refused = false
+is_nowhere (way.Offered k) = false
+is_nowhere (way.Over k h) = false
+
+-- what has become of it in this channel is known
+abbrev pub is_over_in : List ℕ → Way → Bool
+is_over_in c way.Nowhere = false
+is_over_in c way.Refused = false
+is_over_in c (way.Offered k) = false
+is_over_in c (way.Over k h) = same c k.channel
+
+abbrev pub forwards_in : List ℕ → Mark → Bool
+forwards_in c mark.None = false
+forwards_in c (mark.Forward d amount expiry) = same c d
+forwards_in c (mark.Fail reason) = false
+forwards_in c (mark.Malformed code) = false
+forwards_in c (mark.Fulfil preimage) = false
+
+-- the outgoing channel has told what becomes of it
+abbrev pub is_told_by : Way → Bool
+is_told_by way.Nowhere = false
+is_told_by way.Refused = true
+is_told_by (way.Offered k) = false
+is_told_by (way.Over k h) = true
+
+-- it is known how it is to be removed
+abbrev pub has_removal : Mark → Way → Bool
+has_removal mark.None w = false
+has_removal (mark.Forward d amount expiry) w = is_told_by w
+has_removal (mark.Fail reason) w = true
+has_removal (mark.Malformed code) w = true
+has_removal (mark.Fulfil preimage) w = true
+
+-- what it is due in this channel, once it is decided: what became of the outgoing HTLC is forgotten when the incoming
+-- one is settled, and not before
+abbrev pub due : List ℕ → Htlc → Option Out
+due c h =
+    if not h.decided then None
+    else (if is_settled h.back then (if is_over_in c h.way then Some (out.Forgetting h.key) else None)
+    else (if is_nowhere h.way && forwards_in c h.mark then Some (out.Adding h.key)
+    else (if is_open h.back && (same c h.key.channel && has_removal h.mark h.way) then Some (out.Removing h.key)
+    else None)))
+
+-- ---- its command
+
+abbrev pub next_of : Result Opened OpenFault → Option (List ℕ)
+next_of (Ok o) = o.next
+next_of (Err f) = None
+
+-- the onion goes on as its next one: where there is none, no HTLC is offered
+abbrev pub add_with : Htlc → Mark → Option (List ℕ) → Option Command
+add_with h m None = None
+add_with h mark.None (Some onion) = None
+add_with h (mark.Forward d amount expiry) (Some onion) =
+    Some (command.Add amount h.offer.hash expiry onion (Some (h.key.channel, h.key.id)))
+add_with h (mark.Fail reason) (Some onion) = None
+add_with h (mark.Malformed code) (Some onion) = None
+add_with h (mark.Fulfil preimage) (Some onion) = None
+
+abbrev pub add_of : Services → Htlc → Option Command
+add_of s h = add_with h h.mark (next_of (s.opened h.offer.onion h.offer.hash))
+
+-- a failure that says why its onion couldn't be read is passed on with the hash of that onion
+abbrev pub malformed_bytes : List ℕ → ℕ → List ℕ
+malformed_bytes sha code = big_bytes 2 code ++ sha
+
+-- what has become of the outgoing HTLC is passed back
+abbrev pub removal_over : Services → ℕ → How → Command
+removal_over s id (how.Fulfilled preimage) = command.Fulfil id preimage
+removal_over s id (how.Failed reason) = command.Fail id reason
+removal_over s id (how.Malformed sha code) = command.Fail id (s.wrapped (malformed_bytes sha code))
+
+-- one that its channel has refused fails by temporary_channel_failure, 0x1007
+abbrev pub removal_by_way : Services → ℕ → Way → Option Command
+removal_by_way s id way.Nowhere = None
+removal_by_way s id way.Refused = Some (command.Fail id (s.wrapped (failure_bytes failure.TemporaryChannelFailure)))
+removal_by_way s id (way.Offered k) = None
+removal_by_way s id (way.Over k h) = Some (removal_over s id h)
+
+abbrev pub removal_by : Services → Htlc → Mark → Option Command
+removal_by s h mark.None = None
+removal_by s h (mark.Forward d amount expiry) = removal_by_way s h.key.id h.way
+removal_by s h (mark.Fail reason) = Some (command.Fail h.key.id reason)
+removal_by s h (mark.Malformed code) = Some (command.Malformed h.key.id (sha256 h.offer.onion) code)
+removal_by s h (mark.Fulfil preimage) = Some (command.Fulfil h.key.id preimage)
+
+abbrev pub forget_by : Way → Option Command
+forget_by way.Nowhere = None
+forget_by way.Refused = None
+forget_by (way.Offered k) = None
+forget_by (way.Over k h) = Some (command.Forget k.id)
+
+abbrev pub command_of : Services → Htlc → Out → Option Command
+command_of s h (out.Deciding n) = None
+command_of s h (out.Adding k) = add_of s h
+command_of s h (out.Removing k) = removal_by s h h.mark
+command_of s h (out.Forgetting k) = forget_by h.way
+
+abbrev pub with_out : Out → Option Command → Option (Out × Command)
+with_out o None = None
+with_out o (Some x) = Some (o, x)
+
+abbrev pub command_by : Services → Htlc → Option Out → Option (Out × Command)
+command_by s h None = None
+command_by s h (Some o) = with_out o (command_of s h o)
+
+abbrev pub or_next : Option (Out × Command) → Option (Out × Command) → Option (Out × Command)
+or_next None y = y
+or_next (Some x) y = Some x
+
+-- ---- the first command that can be taken
+
+-- that of the first HTLC, in order of deciding, that has one
+abbrev pub first_due : Services → List ℕ → List Htlc → Option (Out × Command)
+first_due s c [] = None
+first_due s c (h ∷ hs) = or_next (command_by s h (due c h)) (first_due s c hs)
+
+abbrev pub is_queued_in : List ℕ → Queued → Bool
+is_queued_in c q = same c q.channel
+
+-- a decision goes before all others
+abbrev pub first_of : Services → List ℕ → Option Queued → List Htlc → Option (Out × Command)
+first_of s c (Some q) hs = Some (out.Deciding q.event, command.Decide q.event q.mark)
+first_of s c None hs = first_due s c hs
+
+-- none while one is out
+abbrev pub first_at : Services → List ℕ → Desk → Table → Option (Out × Command)
+first_at s c desk.Idle t = first_of s c (find (is_queued_in c) t.queue) t.htlcs
+first_at s c (desk.Out o) t = None
+first_at s c (desk.Unsure o) t = None
+
+abbrev pub first_command : Services → List ℕ → Table → Option (Out × Command)
+first_command s c t = first_at s c (desk_at c t) t
+
+-- ---- what is entered
+
+-- what was taken
+abbrev pub with_taken : List ℕ → Option (Out × Command) → History Table Entry → History Table Entry
+with_taken c None h = h
+with_taken c (Some x) h = with_entry (entry.Taken c (x.0)) h
+
+-- the answer of a command that is out; nothing where none is
+abbrev pub with_answered : List ℕ → Result ℕ ℕ → Desk → History Table Entry → History Table Entry
+with_answered c a desk.Idle h = h
+with_answered c a (desk.Out o) h = with_entry (entry.Answered c a) h
+with_answered c a (desk.Unsure o) h = h

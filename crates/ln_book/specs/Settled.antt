@@ -1,0 +1,21 @@
+-- What a channel tells of an HTLC whose removal is irrevocably committed.
+use Rattle.std.specs.Prelude.{ℕ, List, Bool, true, false}
+use Rattle.ln_hooks.specs.declared.event.ChannelEvent.{ChannelEvent}
+use Rattle.ln_hooks.specs.declared.event.ChannelEvent.TheVariants as event
+use Rattle.ln_hooks.specs.declared.event.How.{How}
+use Rattle.ln_book.specs.declared.htlc.Key.{Key}
+use Rattle.ln_book.specs.declared.entry.Entry.{Entry}
+use Rattle.ln_book.specs.declared.entry.Entry.TheVariants as entry
+use Rattle.ln_book.specs.History.{History, with_entry}
+use Rattle.ln_book.specs.Replay.{Table}
+
+-- of an own HTLC what has become of it; of a peer's that it is removed
+abbrev pub settled_entry : Bool → Key → How → Entry
+settled_entry true k how = entry.Over k how
+settled_entry false k how = entry.Removed k
+
+-- any other event is none of an HTLC's removal
+abbrev pub with_settled : List ℕ → ChannelEvent → History Table Entry → History Table Entry
+with_settled c (event.Added own id amount hash expiry onion) h = h
+with_settled c (event.Settled own id how) h = with_entry (settled_entry own (record { channel = c; id = id }) how) h
+with_settled c (event.Closed fee) h = h

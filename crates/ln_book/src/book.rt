@@ -1,0 +1,335 @@
+//! The book of a node's forwarded payments.
+
+use crate::commands::{copy_how, copy_mark, first_command};
+use crate::entry::{Decided, Desk, Entry, Invoice, Line, Out, Told};
+use crate::htlc::Key;
+use crate::kept::{Kept, told_by};
+use crate::log::Log;
+use crate::marks::{mark_of, offer_of};
+use crate::tables::Tables;
+use ln_bytes::ShortId;
+use ln_channel::Command;
+use ln_forward::{Expected, Policy};
+use ln_hooks::{ChannelEvent, How, Verdict};
+use ln_keys::Onion;
+use ln_log::{ChannelId, Mark};
+use ln_msgs::Refusal;
+use std::alloc::Global;
+use std::marker::Model;
+
+/// The book of a node's forwarded payments. Contracts see it as what it began with and what was entered since, of
+/// which its tables are the replay. The history takes no memory: only proofs read it.
+#[derive(Drop)]
+pub struct Book {
+    tables: Tables,
+    history: Log<Tables, Entry>,
+}
+
+impl Model for Book {
+    ghost use Rattle.std.specs.Prelude.{◌≡◌};
+    ghost use Rattle.ln_book.specs.declared.entry.Entry.{Entry};
+    ghost use Rattle.ln_book.specs.History.{History};
+    ghost use Rattle.ln_book.specs.Replay.{Table, table_of};
+
+    ghost Value = { History Table Entry };
+
+    ghost view = { λ b. b.history.told };
+
+    ghost invariant = { λ b. b.tables ≡ table_of b.history.told };
+}
+
+impl Book {
+    ghost use Rattle.std.specs.Prelude.{◌≡◌, ◌≤◌, OnOk, OnErr, IfErr};
+    ghost use Rattle.ln_bytes.specs.ShortId.{short_id_bytes};
+    ghost use Rattle.ln_book.specs.declared.entry.Entry.TheVariants as entry;
+    ghost use Rattle.ln_book.specs.History.{begun_with, with_entry};
+    ghost use Rattle.ln_book.specs.Replay.{no_table, table_of, is_usable};
+
+    /// A book in which nothing stands. Takes no memory.
+    pub fn new(alloc: Global) -> Book
+        ensures { result ≡ begun_with no_table }
+    {
+        let tables = Tables::new(alloc);
+        let history = Log::begun(&tables);
+        Book { tables, history }
+    }
+
+    /// A short channel id names this channel from now on (BOLT 7, "Definition of `short_channel_id`"), by which the
+    /// node forwards for what its policy asks (BOLT 7, "HTLC Fees"). `minimum`, in millisatoshi, is the least that the
+    /// channel's other end takes. Error: 60 alone, which changes nothing.
+    pub fn set_route(
+        &mut self,
+        id: ShortId,
+        channel: ChannelId,
+        policy: Policy,
+        minimum: u64,
+    ) -> Result<(), Refusal>
+        ensures enters_the_route { OnOk result (self.new ≡ with_entry (entry.Route (short_id_bytes id.block id.tx
+            id.output) (record { channel = channel; policy = policy; minimum = minimum })) self.old) }
+        ensures changes_nothing_if_refused { OnErr result (self.new ≡ self.old) }
+        ensures fails_for_memory_alone { IfErr result (λ r. r ≡ Refusal.Memory) }
+    {
+        let id = id.to_bytes();
+        let line = Line {
+            channel,
+            policy,
+            minimum,
+        };
+        self.tables.set_route(id, line)?;
+        self.history = self.history.and(&Entry::Route(id, line));
+        Ok(())
+    }
+
+    /// Whether this channel takes payments from now on. Error: 60 alone, which changes nothing.
+    pub fn set_usable(&mut self, channel: ChannelId, usable: bool) -> Result<(), Refusal>
+        ensures enters_the_use { OnOk result (self.new ≡ with_entry (entry.Use channel usable) self.old) }
+        ensures changes_nothing_if_refused { OnErr result (self.new ≡ self.old) }
+        ensures fails_for_memory_alone { IfErr result (λ r. r ≡ Refusal.Memory) }
+    {
+        self.tables.set_usable(channel, usable)?;
+        self.history = self.history.and(&Entry::Use(channel, usable));
+        Ok(())
+    }
+
+    /// Whether this channel takes payments: as it was said last, and false where nothing was said. Takes no memory.
+    pub fn usable(&self, channel: &ChannelId) -> bool
+        ensures { result ≡ is_usable channel.now (table_of self.now) }
+    {
+        self.tables.usable(channel)
+    }
+
+    /// The block height from now on, at most 400,000,000. Takes no memory.
+    pub fn set_height(&mut self, height: u32)
+        requires { height ≤ 400000000 }
+        ensures { self.new ≡ with_entry (entry.Height height) self.old }
+    {
+        self.history = self.history.and(&Entry::Height(height));
+        self.tables.set_height(height);
+    }
+
+    /// A payment is waited for: by its preimage, with this payment secret (BOLT 4, "Basic Multi-Part Payments") and of
+    /// this amount, in millisatoshi. It takes the place of an earlier one with the same payment hash. Error: 60 alone,
+    /// which changes nothing.
+    pub fn expect(
+        &mut self,
+        preimage: [u8; 32],
+        secret: [u8; 32],
+        amount: u64,
+    ) -> Result<(), Refusal>
+        ensures enters_the_invoice { OnOk result (self.new ≡ with_entry (entry.Expect (record {
+          preimage = preimage;
+          expected = record { secret = secret; amount = amount };
+        })) self.old) }
+        ensures changes_nothing_if_refused { OnErr result (self.new ≡ self.old) }
+        ensures fails_for_memory_alone { IfErr result (λ r. r ≡ Refusal.Memory) }
+    {
+        let expected = Expected { secret, amount };
+        let invoice = Invoice { preimage, expected };
+        self.tables.expect(invoice)?;
+        self.history = self.history.and(&Entry::Expect(invoice));
+        Ok(())
+    }
+}
+
+impl Book {
+    ghost use Rattle.std.specs.Prelude.{◌≡◌, OnOk, OnErr, IfOk, IfErr, option_map};
+    ghost use Rattle.ln_book.specs.declared.entry.Entry.TheVariants as entry;
+    ghost use Rattle.ln_book.specs.History.{with_entry};
+    ghost use Rattle.ln_book.specs.Replay.{table_of, desk_at};
+    ghost use Rattle.ln_book.specs.Commands.{services_of, first_command, with_taken, with_answered};
+    ghost use Rattle.ln_book.specs.Marks.{offer_of, mark_of, decision};
+    ghost use Rattle.ln_book.specs.Settled.{with_settled};
+
+    /// Decides the event of this number by what the hooks say of it, and queues the decision for its channel: answers
+    /// what is done about the event.
+    ///
+    /// Of an HTLC of the peer's: a hook's failure comes first; then the onion is opened, by which it is forwarded or
+    /// taken (BOLT 4, "Accepting and Forwarding a Payment"), or failed by the first of the failures of
+    /// `check_forward` or `check_final`; by 0x4016 where its payload can't be read; as malformed, by 0xc004, 0xc005 or
+    /// 0xc006, where the onion can't be. Of any other event: nothing. An HTLC that its channel has decided stays as it
+    /// is in the book. Takes memory. Error: 60 alone, which changes nothing.
+    pub fn decide<O: Onion>(
+        &mut self,
+        alloc: Global,
+        onion: &O,
+        channel: ChannelId,
+        event: u64,
+        told: &ChannelEvent,
+        verdict: Verdict,
+    ) -> Result<Mark, Refusal>
+        ensures answers_the_mark { IfOk result (λ m. m ≡ mark_of (services_of O.opened O.wrapped onion.now)
+            (table_of self.old) (offer_of told.now) verdict) }
+        ensures enters_the_decision { OnOk result (self.new ≡ with_entry (entry.Decided (decision (services_of
+            O.opened O.wrapped onion.now) (table_of self.old) channel event (offer_of told.now) verdict)) self.old) }
+        ensures changes_nothing_if_refused { OnErr result (self.new ≡ self.old) }
+        ensures fails_for_memory_alone { IfErr result (λ r. r ≡ Refusal.Memory) }
+    {
+        let offer = offer_of(told);
+        let mark = mark_of(alloc, onion, &self.tables, offer.as_ref(), verdict)?;
+        let queued = copy_mark(alloc, &mark)?;
+        let noted = copy_mark(alloc, &mark)?;
+        let answer = copy_mark(alloc, &mark)?;
+        let decided = Decided {
+            channel,
+            event,
+            offer,
+            mark,
+        };
+        self.note_decided(decided, queued, noted)?;
+        Ok(answer)
+    }
+
+    // An event was decided; the other marks are copies of its mark.
+    fn note_decided(&mut self, decided: Decided, queued: Mark, noted: Mark) -> Result<(), Refusal>
+        requires same { (queued ≡ decided.mark) × (noted ≡ decided.mark) }
+        ensures done { OnOk result (self.new ≡ with_entry (entry.Decided decided) self.old) }
+        ensures changes_nothing_if_refused { OnErr result (self.new ≡ self.old) }
+        ensures fails_for_memory_alone { IfErr result (λ r. r ≡ Refusal.Memory) }
+    {
+        let channel = decided.channel;
+        let event = decided.event;
+        let offer = decided.offer;
+        self.tables.decide(decided, queued)?;
+        let entry = Entry::Decided(Decided {
+            channel,
+            event,
+            offer,
+            mark: noted,
+        });
+        self.history = self.history.and(&entry);
+        Ok(())
+    }
+
+    /// What a channel has told: what has become of an own HTLC, or that a removal of a peer's one is irrevocably
+    /// committed. Any other event changes nothing. Takes memory for a reason. Error: 60 alone, which changes nothing.
+    pub fn settled(
+        &mut self,
+        alloc: Global,
+        channel: ChannelId,
+        told: &ChannelEvent,
+    ) -> Result<(), Refusal>
+        ensures enters_what_is_settled { OnOk result (self.new ≡ with_settled channel told.now self.old) }
+        ensures changes_nothing_if_refused { OnErr result (self.new ≡ self.old) }
+        ensures fails_for_memory_alone { IfErr result (λ r. r ≡ Refusal.Memory) }
+    {
+        match told {
+            ChannelEvent::Added { .. } | ChannelEvent::Closed(_) => {}
+            ChannelEvent::Settled { own, id, how } => {
+                let id = *id;
+                let key = Key { channel, id };
+                if *own {
+                    let noted = copy_how(alloc, how)?;
+                    let how = copy_how(alloc, how)?;
+                    self.note_over(key, how, noted);
+                } else {
+                    self.note_removed(key);
+                }
+            }
+        }
+        Ok(())
+    }
+
+    // What has become of an outgoing HTLC; the second one is a copy of the first.
+    fn note_over(&mut self, key: Key, how: How, noted: How)
+        requires { noted ≡ how }
+        ensures { self.new ≡ with_entry (entry.Over key how) self.old }
+    {
+        self.tables.over(key, how);
+        let entry = Entry::Over(key, noted);
+        self.history = self.history.and(&entry);
+    }
+
+    // The removal of an incoming HTLC is irrevocably committed.
+    fn note_removed(&mut self, key: Key)
+        ensures { self.new ≡ with_entry (entry.Removed key) self.old }
+    {
+        self.history = self.history.and(&Entry::Removed(key));
+        self.tables.removed(key);
+    }
+
+    /// The first command of this channel that can be taken, which is then out until it is answered: a decision before
+    /// all others; then that of the HTLC that was decided first. None where there is none, or one is out, and then
+    /// nothing has changed. Takes memory. Error: 60 alone, which changes nothing.
+    pub fn take_commands<O: Onion>(
+        &mut self,
+        alloc: Global,
+        onion: &O,
+        channel: ChannelId,
+    ) -> Result<Option<Command>, Refusal>
+        ensures answers_the_first { IfOk result (λ c. c ≡ option_map (λ x. x.1) (first_command (services_of O.opened
+            O.wrapped onion.now) channel (table_of self.old))) }
+        ensures enters_what_is_taken { OnOk result (self.new ≡ with_taken channel (first_command (services_of O.opened
+            O.wrapped onion.now) channel (table_of self.old)) self.old) }
+        ensures changes_nothing_if_refused { OnErr result (self.new ≡ self.old) }
+        ensures fails_for_memory_alone { IfErr result (λ r. r ≡ Refusal.Memory) }
+    {
+        match first_command(alloc, onion, &channel, &self.tables)? {
+            None => Ok(None),
+            Some((out, command)) => {
+                self.note_taken(channel, out)?;
+                Ok(Some(command))
+            }
+        }
+    }
+
+    // A command was handed out.
+    fn note_taken(&mut self, channel: ChannelId, out: Out) -> Result<(), Refusal>
+        ensures done { OnOk result (self.new ≡ with_entry (entry.Taken channel out) self.old) }
+        ensures changes_nothing_if_refused { OnErr result (self.new ≡ self.old) }
+        ensures fails_for_memory_alone { IfErr result (λ r. r ≡ Refusal.Memory) }
+    {
+        self.tables.take(channel, out)?;
+        self.history = self.history.and(&Entry::Taken(channel, out));
+        Ok(())
+    }
+
+    /// What a channel has answered to the command that is out: the HTLC's id or the event's number, or the number of
+    /// its refusal. A refusal by 47 or 62 leaves the command to be taken again; behind 60 or 61 nothing can be taken
+    /// until the channel was dropped; by any other number the command goes, and an HTLC whose offer was refused below
+    /// 47 is failed by 0x1007. Where nothing is out nothing changes. Takes no memory.
+    pub fn answered(&mut self, channel: ChannelId, answer: Result<u64, u16>)
+        ensures { self.new ≡ with_answered channel answer (desk_at channel (table_of self.old)) self.old }
+    {
+        if let Desk::Out(_) = self.tables.desk(&channel) {
+            self.history = self.history.and(&Entry::Answered(channel, answer));
+            self.tables.answered(&channel, answer);
+        }
+    }
+}
+
+impl Book {
+    ghost use Rattle.std.specs.Prelude.{◌≡◌, OnOk, OnErr, IfErr};
+    ghost use Rattle.ln_book.specs.declared.entry.Entry.TheVariants as entry;
+    ghost use Rattle.ln_book.specs.History.{with_entry};
+    ghost use Rattle.ln_book.specs.Replay.{table_of};
+    ghost use Rattle.ln_book.specs.Kept.{told_by};
+
+    /// A channel's connection was lost, or the channel was loaded from its record; of one that has halted this is
+    /// called behind the load alone. Nothing is out in it any more. A command that the channel has kept was taken; what
+    /// it has lost can be taken again: of what it has sent and not signed for, an HTLC that it doesn't count any more,
+    /// and a removal. Takes memory for what the channel is asked. Error: 60 alone, which changes nothing.
+    pub fn dropped<T: Kept>(
+        &mut self,
+        alloc: Global,
+        channel: ChannelId,
+        kept: &T,
+    ) -> Result<(), Refusal>
+        ensures enters_what_is_kept { OnOk result (self.new ≡ with_entry (entry.Dropped channel (told_by (T.next
+            kept.now) (T.removes kept.now) (T.decides kept.now) channel (table_of self.old))) self.old) }
+        ensures changes_nothing_if_refused { OnErr result (self.new ≡ self.old) }
+        ensures fails_for_memory_alone { IfErr result (λ r. r ≡ Refusal.Memory) }
+    {
+        let told = told_by(alloc, kept, &channel, &self.tables)?;
+        self.note_dropped(channel, told);
+        Ok(())
+    }
+
+    // A channel has told what it has kept.
+    fn note_dropped(&mut self, channel: ChannelId, told: Told)
+        ensures { self.new ≡ with_entry (entry.Dropped channel told) self.old }
+    {
+        self.tables.dropped(&channel, &told);
+        let entry = Entry::Dropped(channel, told);
+        self.history = self.history.and(&entry);
+    }
+}

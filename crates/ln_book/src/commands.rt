@@ -1,0 +1,407 @@
+//! What each HTLC of a book has to be commanded, and the first command that can be taken.
+
+ghost use Rattle.std.specs.Prelude.{◌≡◌, IfOk, IfErr, IfSome, length, option_copied};
+ghost use Rattle.std.specs.List.{find};
+ghost use Rattle.ln_forward.specs.Failure.{failure_bytes};
+ghost use Rattle.ln_book.specs.Commands.{services_of, next_of, add_of, malformed_bytes, removal_over, removal_by_way};
+ghost use Rattle.ln_book.specs.Commands.{removal_by, forget_by, command_of, command_by, due, first_due, is_queued_in};
+ghost use Rattle.ln_book.specs.Commands.{is_open, forwards_in, has_removal, first_of, first_command};
+
+use crate::entry::{Desk, Out, Queued};
+use crate::htlc::{Back, Htlc, Way};
+use crate::tables::Tables;
+use byteorder::{BigEndian, ByteOrder};
+use ln_bytes::Bytes;
+use ln_channel::Command;
+use ln_forward::Failure;
+use ln_hooks::How;
+use ln_keys::{Onion, OpenFault, Opened, sha256_32};
+use ln_log::{ChannelId, Mark};
+use ln_msgs::Refusal;
+use std::alloc::Global;
+
+/// The same bytes. Error: 60 alone.
+pub(crate) fn copied(alloc: Global, bytes: &Bytes) -> Result<Bytes, Refusal>
+    ensures copy { IfOk result (λ b. b ≡ bytes.now) }
+    ensures fails_for_memory_alone { IfErr result (λ r. r ≡ Refusal.Memory) }
+{
+    Ok(Bytes::new(Vec::from_slice(alloc, bytes.as_slice())?))
+}
+
+/// The same mark. Error: 60 alone.
+pub(crate) fn copy_mark(alloc: Global, mark: &Mark) -> Result<Mark, Refusal>
+    ensures copy { IfOk result (λ m. m ≡ mark.now) }
+    ensures fails_for_memory_alone { IfErr result (λ r. r ≡ Refusal.Memory) }
+{
+    match mark {
+        Mark::None => Ok(Mark::None),
+        Mark::Forward {
+            channel,
+            amount,
+            expiry,
+        } => Ok(Mark::Forward {
+            channel: *channel,
+            amount: *amount,
+            expiry: *expiry,
+        }),
+        Mark::Fail(reason) => Ok(Mark::Fail(copied(alloc, reason)?)),
+        Mark::Malformed(code) => Ok(Mark::Malformed(*code)),
+        Mark::Fulfil(preimage) => Ok(Mark::Fulfil(*preimage)),
+    }
+}
+
+/// The same outcome. Error: 60 alone.
+pub(crate) fn copy_how(alloc: Global, how: &How) -> Result<How, Refusal>
+    ensures copy { IfOk result (λ h. h ≡ how.now) }
+    ensures fails_for_memory_alone { IfErr result (λ r. r ≡ Refusal.Memory) }
+{
+    match how {
+        How::Fulfilled(preimage) => Ok(How::Fulfilled(*preimage)),
+        How::Failed(reason) => Ok(How::Failed(copied(alloc, reason)?)),
+        How::Malformed(sha, code) => Ok(How::Malformed(*sha, *code)),
+    }
+}
+
+/// A failure as it goes back (BOLT 4, "Returning Errors"). Error: 60 alone.
+pub(crate) fn wrapped<O: Onion>(
+    alloc: Global,
+    onion: &O,
+    failure: &Failure,
+) -> Result<Bytes, Refusal>
+    ensures wrapped { IfOk result (λ b. b ≡ O.wrapped onion.now (failure_bytes failure.now)) }
+    ensures fails_for_memory_alone { IfErr result (λ r. r ≡ Refusal.Memory) }
+{
+    match failure.to_bytes(alloc) {
+        Ok(bytes) => onion.wrap_failure(alloc, bytes.as_slice()),
+        Err(_) => Err(Refusal::Memory),
+    }
+}
+
+impl Way {
+    ghost use Rattle.std.specs.Prelude.{◌≡◌};
+    ghost use Rattle.ln_book.specs.Commands.{is_nowhere, is_over_in, is_told_by};
+
+    // Whether nothing was offered, and nothing was refused.
+    fn is_nowhere(&self) -> bool
+        ensures { result ≡ is_nowhere self.now }
+    {
+        match self {
+            Way::Nowhere => true,
+            Way::Refused | Way::Offered(_) | Way::Over(_, _) => false,
+        }
+    }
+
+    // Whether it is known what has become of it in this channel.
+    fn is_over_in(&self, channel: &ChannelId) -> bool
+        ensures { result ≡ is_over_in channel.now self.now }
+    {
+        match self {
+            Way::Nowhere | Way::Refused | Way::Offered(_) => false,
+            Way::Over(key, _) => channel == &key.channel,
+        }
+    }
+
+    // Whether the outgoing channel has told what becomes of it.
+    fn is_told(&self) -> bool
+        ensures { result ≡ is_told_by self.now }
+    {
+        match self {
+            Way::Nowhere | Way::Offered(_) => false,
+            Way::Refused | Way::Over(_, _) => true,
+        }
+    }
+}
+
+fn is_open(back: Back) -> bool
+    ensures { result ≡ is_open back }
+{
+    match back {
+        Back::Open => true,
+        Back::Sent | Back::Gone | Back::Settled => false,
+    }
+}
+
+fn forwards_in(channel: &ChannelId, mark: &Mark) -> bool
+    ensures { result ≡ forwards_in channel.now mark.now }
+{
+    match mark {
+        Mark::Forward { channel: to, .. } => channel == to,
+        Mark::None | Mark::Fail(_) | Mark::Malformed(_) | Mark::Fulfil(_) => false,
+    }
+}
+
+fn has_removal(mark: &Mark, way: &Way) -> bool
+    ensures { result ≡ has_removal mark.now way.now }
+{
+    match mark {
+        Mark::None => false,
+        Mark::Forward { .. } => way.is_told(),
+        Mark::Fail(_) | Mark::Malformed(_) | Mark::Fulfil(_) => true,
+    }
+}
+
+// What an HTLC is due in this channel.
+fn due(channel: &ChannelId, htlc: &Htlc) -> Option<Out>
+    ensures { result ≡ due channel.now htlc.now }
+{
+    if !htlc.decided {
+        None
+    } else if htlc.back.is_settled() {
+        htlc.way
+            .is_over_in(channel)
+            .then_some(Out::Forgetting(htlc.key))
+    } else if htlc.way.is_nowhere() && forwards_in(channel, &htlc.mark) {
+        Some(Out::Adding(htlc.key))
+    } else if is_open(htlc.back)
+        && channel == &htlc.key.channel
+        && has_removal(&htlc.mark, &htlc.way)
+    {
+        Some(Out::Removing(htlc.key))
+    } else {
+        None
+    }
+}
+
+// The onion for the next hop.
+fn packet_of(opened: &Opened) -> Option<[u8; 1366]>
+    requires { IfSome opened.now.next (λ n. length n ≡ 1366) }
+    ensures { result ≡ opened.now.next }
+{
+    match &opened.next {
+        None => None,
+        Some(bytes) => {
+            let mut next = [0; 1366];
+            next.copy_from_slice(bytes.as_slice());
+            Some(next)
+        }
+    }
+}
+
+// The onion that goes on. Error: 60 alone.
+fn next_onion<O: Onion>(
+    alloc: Global,
+    onion: &O,
+    htlc: &Htlc,
+) -> Result<Option<[u8; 1366]>, Refusal>
+    ensures next { IfOk result (λ n. n ≡ next_of (O.opened onion.now htlc.now.offer.onion htlc.now.offer.hash)) }
+    ensures fails_for_memory_alone { IfErr result (λ r. r ≡ Refusal.Memory) }
+{
+    match onion.open(alloc, &htlc.offer.onion, &htlc.offer.hash) {
+        Ok(opened) => Ok(packet_of(&opened)),
+        Err(OpenFault::Memory) => Err(Refusal::Memory),
+        Err(_) => Ok(None),
+    }
+}
+
+// The command that offers it. Error: 60 alone.
+fn add_of<O: Onion>(alloc: Global, onion: &O, htlc: &Htlc) -> Result<Option<Command>, Refusal>
+    ensures command { IfOk result (λ c. c ≡ add_of (services_of O.opened O.wrapped onion.now) htlc.now) }
+    ensures fails_for_memory_alone { IfErr result (λ r. r ≡ Refusal.Memory) }
+{
+    let Some(next) = next_onion(alloc, onion, htlc)? else {
+        return Ok(None);
+    };
+    match &htlc.mark {
+        Mark::Forward { amount, expiry, .. } => Ok(Some(Command::Add {
+            amount: *amount,
+            hash: htlc.offer.hash,
+            expiry: *expiry,
+            onion: next,
+            origin: Some((htlc.key.channel, htlc.key.id)),
+        })),
+        Mark::None | Mark::Fail(_) | Mark::Malformed(_) | Mark::Fulfil(_) => Ok(None),
+    }
+}
+
+// A failure that says why an onion couldn't be read. Error: 60 alone.
+fn malformed_bytes(alloc: Global, sha: &[u8; 32], code: u16) -> Result<Vec<u8>, Refusal>
+    ensures bytes { IfOk result (λ v. v.items ≡ malformed_bytes sha.now code) }
+    ensures fails_for_memory_alone { IfErr result (λ r. r ≡ Refusal.Memory) }
+{
+    let mut spelling = [0; 2];
+    BigEndian::write_u16(&mut spelling, code);
+    let mut bytes = Vec::from_slice(alloc, &spelling)?;
+    bytes.extend_from_slice(sha)?;
+    Ok(bytes)
+}
+
+// The command that passes back what has become of it. Error: 60 alone.
+fn removal_over<O: Onion>(alloc: Global, onion: &O, id: u64, how: &How) -> Result<Command, Refusal>
+    ensures command { IfOk result (λ c. c ≡ removal_over (services_of O.opened O.wrapped onion.now) id how.now) }
+    ensures fails_for_memory_alone { IfErr result (λ r. r ≡ Refusal.Memory) }
+{
+    match how {
+        How::Fulfilled(preimage) => Ok(Command::Fulfil {
+            id,
+            preimage: *preimage,
+        }),
+        How::Failed(reason) => {
+            let reason = copied(alloc, reason)?;
+            Ok(Command::Fail { id, reason })
+        }
+        How::Malformed(sha, code) => {
+            let bytes = malformed_bytes(alloc, sha, *code)?;
+            let reason = onion.wrap_failure(alloc, bytes.as_slice())?;
+            Ok(Command::Fail { id, reason })
+        }
+    }
+}
+
+// The command that removes it, by its way. Error: 60 alone.
+fn removal_by_way<O: Onion>(
+    alloc: Global,
+    onion: &O,
+    id: u64,
+    way: &Way,
+) -> Result<Option<Command>, Refusal>
+    ensures command { IfOk result (λ c. c ≡ removal_by_way (services_of O.opened O.wrapped onion.now) id way.now) }
+    ensures fails_for_memory_alone { IfErr result (λ r. r ≡ Refusal.Memory) }
+{
+    match way {
+        Way::Nowhere | Way::Offered(_) => Ok(None),
+        Way::Refused => {
+            let reason = wrapped(alloc, onion, &Failure::TemporaryChannelFailure)?;
+            Ok(Some(Command::Fail { id, reason }))
+        }
+        Way::Over(_, how) => Ok(Some(removal_over(alloc, onion, id, how)?)),
+    }
+}
+
+// The command that removes it. Error: 60 alone.
+fn removal_of<O: Onion>(alloc: Global, onion: &O, htlc: &Htlc) -> Result<Option<Command>, Refusal>
+    ensures command { IfOk result (λ c. c ≡ removal_by (services_of O.opened O.wrapped onion.now) htlc.now
+        htlc.now.mark) }
+    ensures fails_for_memory_alone { IfErr result (λ r. r ≡ Refusal.Memory) }
+{
+    let id = htlc.key.id;
+    match &htlc.mark {
+        Mark::None => Ok(None),
+        Mark::Forward { .. } => removal_by_way(alloc, onion, id, &htlc.way),
+        Mark::Fail(reason) => {
+            let reason = copied(alloc, reason)?;
+            Ok(Some(Command::Fail { id, reason }))
+        }
+        Mark::Malformed(code) => {
+            let sha = sha256_32(&htlc.offer.onion);
+            let code = *code;
+            Ok(Some(Command::Malformed { id, sha, code }))
+        }
+        Mark::Fulfil(preimage) => Ok(Some(Command::Fulfil {
+            id,
+            preimage: *preimage,
+        })),
+    }
+}
+
+// The command that forgets what has become of it.
+fn forget_of(way: &Way) -> Option<Command>
+    ensures { result ≡ forget_by way.now }
+{
+    match way {
+        Way::Nowhere | Way::Refused | Way::Offered(_) => None,
+        Way::Over(key, _) => Some(Command::Forget(key.id)),
+    }
+}
+
+// The command of an HTLC. Error: 60 alone.
+fn command_of<O: Onion>(
+    alloc: Global,
+    onion: &O,
+    htlc: &Htlc,
+    out: Out,
+) -> Result<Option<Command>, Refusal>
+    ensures command { IfOk result (λ c. c ≡ command_of (services_of O.opened O.wrapped onion.now) htlc.now out) }
+    ensures fails_for_memory_alone { IfErr result (λ r. r ≡ Refusal.Memory) }
+{
+    match out {
+        Out::Deciding(_) => Ok(None),
+        Out::Adding(_) => add_of(alloc, onion, htlc),
+        Out::Removing(_) => removal_of(alloc, onion, htlc),
+        Out::Forgetting(_) => Ok(forget_of(&htlc.way)),
+    }
+}
+
+// What an HTLC is due, with its command. Error: 60 alone.
+fn command_by<O: Onion>(
+    alloc: Global,
+    onion: &O,
+    htlc: &Htlc,
+    out: Option<Out>,
+) -> Result<Option<(Out, Command)>, Refusal>
+    ensures command { IfOk result (λ c. c ≡ command_by (services_of O.opened O.wrapped onion.now) htlc.now out) }
+    ensures fails_for_memory_alone { IfErr result (λ r. r ≡ Refusal.Memory) }
+{
+    let Some(out) = out else {
+        return Ok(None);
+    };
+    match command_of(alloc, onion, htlc, out)? {
+        None => Ok(None),
+        Some(command) => Ok(Some((out, command))),
+    }
+}
+
+// The command in this channel of the first HTLC that has one. Error: 60 alone.
+fn first_due<O: Onion>(
+    alloc: Global,
+    onion: &O,
+    channel: &ChannelId,
+    htlcs: &[Htlc],
+) -> Result<Option<(Out, Command)>, Refusal>
+    ensures command { IfOk result (λ c. c ≡ first_due (services_of O.opened O.wrapped onion.now) channel.now
+        htlcs.now) }
+    ensures fails_for_memory_alone { IfErr result (λ r. r ≡ Refusal.Memory) }
+{
+    for htlc in htlcs {
+        if let Some(found) = command_by(alloc, onion, htlc, due(channel, htlc))? {
+            return Ok(Some(found));
+        }
+    }
+    Ok(None)
+}
+
+// The first decision that a channel is yet to take.
+fn first_queued<'a>(channel: &ChannelId, queue: &'a [Queued]) -> Option<&'a Queued>
+    ensures { option_copied result ≡ find (is_queued_in channel.now) queue.now }
+{
+    queue.iter().find(|queued| channel == &queued.channel)
+}
+
+// A decision, or else the command of the first HTLC that has one. Error: 60 alone.
+fn first_of<O: Onion>(
+    alloc: Global,
+    onion: &O,
+    channel: &ChannelId,
+    queued: Option<&Queued>,
+    htlcs: &[Htlc],
+) -> Result<Option<(Out, Command)>, Refusal>
+    ensures command { IfOk result (λ c. c ≡ first_of (services_of O.opened O.wrapped onion.now) channel.now
+        (option_copied queued.entry) htlcs.now) }
+    ensures fails_for_memory_alone { IfErr result (λ r. r ≡ Refusal.Memory) }
+{
+    let Some(queued) = queued else {
+        return first_due(alloc, onion, channel, htlcs);
+    };
+    let event = queued.event;
+    let mark = copy_mark(alloc, &queued.mark)?;
+    Ok(Some((Out::Deciding(event), Command::Decide { event, mark })))
+}
+
+/// The first command of a channel that can be taken. Error: 60 alone.
+pub(crate) fn first_command<O: Onion>(
+    alloc: Global,
+    onion: &O,
+    channel: &ChannelId,
+    tables: &Tables,
+) -> Result<Option<(Out, Command)>, Refusal>
+    ensures command { IfOk result (λ c. c ≡ first_command (services_of O.opened O.wrapped onion.now) channel.now
+        tables.now) }
+    ensures fails_for_memory_alone { IfErr result (λ r. r ≡ Refusal.Memory) }
+{
+    match tables.desk(channel) {
+        Desk::Out(_) | Desk::Unsure(_) => Ok(None),
+        Desk::Idle => {
+            let queued = first_queued(channel, tables.queue());
+            first_of(alloc, onion, channel, queued, tables.htlcs())
+        }
+    }
+}
