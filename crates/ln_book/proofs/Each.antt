@@ -1,6 +1,6 @@
 -- A list whose elements are changed one after the other.
 use Rattle.std.proofs.Common.{◌≡◌, ℕ, ◌+◌, ◌<◌, List, [], ◌∷◌, ◌++◌, zero, suc, length, take, drop, get_or, set}
-use Rattle.std.proofs.Common.{refl, sym, ap, ◌∙◌, arith, subst, add-one}
+use Rattle.std.proofs.Common.{refl, sym, ap, ◌∙◌, arith, add-one}
 use Rattle.std.specs.Prelude.{map}
 
 -- the first ones are changed

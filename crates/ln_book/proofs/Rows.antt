@@ -1,6 +1,6 @@
 -- Worked rows: what a book says of one payment that is forwarded from channel a to channel b, entry by entry, and what
 -- each channel is commanded then.
-use Rattle.std.proofs.Common.{◌≡◌, ℕ, List, [], ◌∷◌, Bool, true, false, Option, Some, None, Ok, Err, refl}
+use Rattle.std.proofs.Common.{◌≡◌, ℕ, List, [], ◌∷◌, Bool, true, false, Some, None, Ok, Err, refl}
 use Rattle.ln_log.specs.declared.mark.Mark.TheVariants as mark
 use Rattle.ln_hooks.specs.declared.event.How.TheVariants as how
 use Rattle.ln_channel.specs.declared.command.Command.TheVariants as command
@@ -15,12 +15,11 @@ use Rattle.ln_book.specs.declared.htlc.Back.TheVariants as back
 use Rattle.ln_book.specs.declared.htlc.Htlc.{Htlc}
 use Rattle.ln_book.specs.declared.entry.Queued.{Queued}
 use Rattle.ln_book.specs.declared.entry.Decided.{Decided}
-use Rattle.ln_book.specs.declared.entry.Out.{Out}
 use Rattle.ln_book.specs.declared.entry.Out.TheVariants as out
 use Rattle.ln_book.specs.declared.entry.Desk.{Desk}
 use Rattle.ln_book.specs.declared.entry.Desk.TheVariants as desk
 use Rattle.ln_book.specs.declared.entry.Entry.TheVariants as entry
-use Rattle.ln_book.specs.Replay.{Table, no_table, queued_of, after}
+use Rattle.ln_book.specs.Replay.{Table, queued_of, after}
 use Rattle.ln_book.specs.Commands.{Services, first_command}
 
 abbrev a : List ℕ
@@ -180,3 +179,38 @@ is_kept : after (idle [] (htlc true (way.Offered went) back.Open ∷ []))
     (entry.Dropped b (record { next = 9; removes = []; decides = false }))
     ≡ idle [] (htlc true (way.Offered went) back.Open ∷ [])
 is_kept = refl
+
+-- of two it has kept one, and only the other one is put back
+abbrev other : Way → Htlc
+other w = record {
+  key = record { channel = a; id = 4 };
+  event = 2;
+  offer = offer;
+  mark = mark.Forward b 900 350;
+  decided = true;
+  way = w;
+  back = back.Open;
+}
+
+one_is_put_back : after (idle [] (other (way.Offered (record { channel = b; id = 7 }))
+    ∷ htlc true (way.Offered went) back.Open ∷ []))
+    (entry.Dropped b (record { next = 8; removes = []; decides = false }))
+    ≡ idle [] (other (way.Offered (record { channel = b; id = 7 })) ∷ htlc true way.Nowhere back.Open ∷ [])
+one_is_put_back = refl
+
+-- a removal that channel a hasn't kept is sent again, and one that it has kept isn't
+removal_is_put_back : after (idle [] (htlc true way.Refused back.Sent ∷ []))
+    (entry.Dropped a (record { next = 0; removes = []; decides = false }))
+    ≡ idle [] (htlc true way.Refused back.Open ∷ [])
+removal_is_put_back = refl
+
+removal_is_kept : after (table [] (htlc true way.Refused back.Open ∷ []) (desk.Unsure (out.Removing came)) desk.Idle)
+    (entry.Dropped a (record { next = 0; removes = 5 ∷ []; decides = false }))
+    ≡ idle [] (htlc true way.Refused back.Sent ∷ [])
+removal_is_kept = refl
+
+-- ---- one that is decided again stays as it is
+
+decided_again : after (idle [] (htlc true (way.Offered went) back.Open ∷ [])) (entry.Decided decided)
+    ≡ idle (queued_of decided ∷ []) (htlc true (way.Offered went) back.Open ∷ [])
+decided_again = refl

@@ -1,5 +1,5 @@
 -- What a book asks of a channel, once its connection was lost or it was loaded.
-use Rattle.std.specs.Prelude.{ℕ, List, [], ◌∷◌, Bool, true, false, ◌&&◌, Option, Some, None, if◌then◌else◌}
+use Rattle.std.specs.Prelude.{ℕ, List, [], ◌∷◌, Bool, false, ◌&&◌, Option, Some, None, if◌then◌else◌}
 use Rattle.std.specs.List.{find}
 use Rattle.ln_log.specs.declared.mark.Mark.{Mark}
 use Rattle.ln_book.specs.declared.htlc.Htlc.{Htlc}

@@ -1,6 +1,5 @@
 -- The tests and changes of the book's HTLCs, by name.
-use Rattle.std.specs.Prelude.{ℕ, List, Bool}
-use Rattle.ln_book.specs.declared.htlc.Key.{Key}
+use Rattle.std.specs.Prelude.{Bool}
 use Rattle.ln_book.specs.declared.htlc.Htlc.{Htlc}
 use Rattle.ln_book.specs.declared.lists.Which.{Which}
 use Rattle.ln_book.specs.declared.lists.Which.TheVariants as which

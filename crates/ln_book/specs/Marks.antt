@@ -1,6 +1,6 @@
 -- What is done about an event: of a peer's HTLC by the verdict of the hooks and, where they say nothing against it, by
 -- its onion (BOLT 4, "Accepting and Forwarding a Payment").
-use Rattle.std.specs.Prelude.{ℕ, List, Bool, true, false, Option, Some, None, is_none, option_map, Result, Ok, Err}
+use Rattle.std.specs.Prelude.{ℕ, List, Bool, true, false, Option, Some, None, is_none, Result, Ok, Err}
 use Rattle.std.specs.Prelude.{if◌then◌else◌}
 use Rattle.std.specs.Map.{lookup}
 use Rattle.ln_bytes.specs.declared.fault.Fault.{Fault}

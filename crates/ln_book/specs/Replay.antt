@@ -1,14 +1,12 @@
 -- The book of a node's forwarded payments: what was entered, one after the other, and what that leaves.
 use Rattle.std.specs.Prelude.{ℕ, List, [], ◌∷◌, ◌++◌, map, filter, fold, Bool, true, false, not, ◌&&◌, ◌||◌}
-use Rattle.std.specs.Prelude.{◌==◌, nat_eq, nat_lt, nat_le, Option, Some, None, option_map, Result, Ok, Err}
+use Rattle.std.specs.Prelude.{◌==◌, nat_eq, nat_lt, nat_le, Option, Some, None, Result, Ok, Err}
 use Rattle.std.specs.Prelude.{if◌then◌else◌}
 use Rattle.std.specs.List.{list_any}
 use Rattle.std.specs.Map.{lookup}
 use Rattle.std.specs.Cmp.Lexicographic.{pointwise}
 use Rattle.indexmap.specs.IndexMap.{insert_entry}
 use Rattle.ln_keys.specs.Hash.{payment_hash}
-use Rattle.ln_log.specs.declared.mark.Mark.{Mark}
-use Rattle.ln_log.specs.declared.mark.Mark.TheVariants as mark
 use Rattle.ln_hooks.specs.declared.event.How.{How}
 use Rattle.ln_book.specs.declared.htlc.Key.{Key}
 use Rattle.ln_book.specs.declared.htlc.Offer.{Offer}

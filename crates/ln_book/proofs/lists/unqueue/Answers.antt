@@ -2,7 +2,6 @@ use Rattle.std.proofs.Common.{rules}
 use Rattle.std.specs.Prelude.{not}
 use Rattle.std.proofs.lemmas.Fn.{filter_same}
 use Rattle.ln_book.specs.Replay.{is_queued}
-use Rattle.ln_book.specs.Lists.{picks}
 use Rattle.ln_book.proofs.lists.unqueue.Goals as goal
 
 pub returns-clause-left : goal.returns-clause-left

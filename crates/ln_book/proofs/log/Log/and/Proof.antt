@@ -33,7 +33,7 @@ use denote.Triple.Table.{entered}
 use denote.Triple.Walked.{says, Stays, stay_dropped, walk_of, ends_at, walk_Meets, Goes-dropped}
 use Rattle.std.specs.contracts.marker.PhantomData as Mark
 use Rattle.bytes.proofs.Walks.{none, one, one_made}
-use Rattle.ln_book.specs.History.{begun_with, with_entry}
+use Rattle.ln_book.specs.History.{with_entry}
 use Rattle.ln_book.specs.contracts.log.Log as Log
 use Rattle.ln_book.specs.contracts.log.Log.and as F
 use Rattle.ln_book.specs.contracts.log.Log.and.Key.{name as #self}
