@@ -26,7 +26,7 @@ returns-in-Err-Memory-clause-answers g c = λ l s.
     (ap (λ (x : State _). is_down x.line) (sym c.self.view_is) ∙ sym c.if-not-is_down.ensures) in
     let made = c.in-Err-Memory.ensures in
     subst (λ (x : State _). Answered {V = Vec Output Global} (λ v. v.items)
-      (connected (g.K.ChannelKeys.signer x.keys) x) x
+    (connected (g.K.ChannelKeys.signer x.keys) x) x
     (Err c.halted_by_memory.result) c.halted_by_memory.new.self) s
     (subst (λ said. Answered {V = Vec Output Global} (λ v. v.items) said k (Err c.halted_by_memory.result)
     c.halted_by_memory.new.self) (sym is)

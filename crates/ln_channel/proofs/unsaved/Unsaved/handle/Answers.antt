@@ -15,7 +15,7 @@ returns-in-Ok-clause-answers g c = λ l s.
     (ap (λ (x : State _). x.halted) (sym c.self.view_is) ∙ c.if-self.false)
     (ap (λ (x : State _). x.failure) (sym c.self.view_is) ∙ c.in-None.is) in
     subst (λ (x : State _). AnsweredMessage (λ v. v.items)
-      (handled (g.K.ChannelKeys.signer x.keys) x c.args.message) x c.args.message c.hand_out.result
+    (handled (g.K.ChannelKeys.signer x.keys) x c.args.message) x c.args.message c.hand_out.result
     c.hand_out.new.self) s
     (subst (λ said. AnsweredMessage (λ v. v.items) said k c.args.message c.hand_out.result c.hand_out.new.self) (sym is)
     (handed_out _ _ _ k c.take.new.self c.hand_out.new.self _ c.in-Ok.outbox c.hand_out.result
@@ -30,10 +30,10 @@ returns-in-Err-Memory-clause-answers g c = λ l s.
     (ap (λ (x : State _). x.halted) (sym c.self.view_is) ∙ c.if-self.false) failure in
     let made = c.in-Err-Memory.ensures in
     subst (λ (x : State _). AnsweredMessage {V = Vec Output Global} (λ v. v.items)
-      (handled (g.K.ChannelKeys.signer x.keys) x c.args.message) x c.args.message
+    (handled (g.K.ChannelKeys.signer x.keys) x c.args.message) x c.args.message
     (Err c.halted_by_memory.result) c.halted_by_memory.new.self) s
     (subst (λ said. AnsweredMessage {V = Vec Output Global} (λ v. v.items) said k c.args.message
-      (Err c.halted_by_memory.result)
+    (Err c.halted_by_memory.result)
     c.halted_by_memory.new.self) (sym is)
     (inl (
     let lack = lacked (is_viewed c.args.message) _ k c.take.new.self c.halted_by_memory.new.self c.in-Err-Memory.field-0
