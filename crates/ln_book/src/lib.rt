@@ -3,6 +3,7 @@
 #![tactic(auto)]
 
 mod book;
+mod channel;
 mod commands;
 mod entry;
 mod htlc;
