@@ -12,6 +12,8 @@ mod laws;
 mod lists;
 mod log;
 mod marks;
+mod reading;
+mod rebuild;
 mod tables;
 
 pub use book::Book;
@@ -20,3 +22,4 @@ pub use htlc::{Back, Htlc, Key, Offer, Way};
 pub use kept::Kept;
 pub use laws::one_payment_out;
 pub use log::Log;
+pub use reading::{Leg, Reading};
