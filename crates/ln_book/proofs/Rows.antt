@@ -1,7 +1,13 @@
 -- Worked rows: what a book says of one payment that is forwarded from channel a to channel b, entry by entry, and what
 -- each channel is commanded then.
 use Rattle.std.proofs.Common.{◌≡◌, ℕ, List, [], ◌∷◌, Bool, true, false, Some, None, Ok, Err, refl}
+use Rattle.ln_log.specs.declared.mark.Decision.{Decision}
 use Rattle.ln_log.specs.declared.mark.Mark.TheVariants as mark
+use Rattle.ln_log.specs.declared.mark.Settlement.{Settlement}
+use Rattle.ln_log.specs.declared.update.Add.{Add}
+use Rattle.ln_log.specs.declared.update.Update.{Update}
+use Rattle.ln_log.specs.declared.update.Update.TheVariants as update
+use Rattle.ln_log.specs.Log.{Log, none}
 use Rattle.ln_hooks.specs.declared.event.How.TheVariants as how
 use Rattle.ln_channel.specs.declared.command.Command.TheVariants as command
 use Rattle.ln_forward.specs.declared.failure.Failure.TheVariants as failure
@@ -19,7 +25,10 @@ use Rattle.ln_book.specs.declared.entry.Out.TheVariants as out
 use Rattle.ln_book.specs.declared.entry.Desk.{Desk}
 use Rattle.ln_book.specs.declared.entry.Desk.TheVariants as desk
 use Rattle.ln_book.specs.declared.entry.Entry.TheVariants as entry
-use Rattle.ln_book.specs.Replay.{Table, queued_of, after}
+use Rattle.ln_book.specs.declared.reading.Leg.{Leg}
+use Rattle.ln_book.specs.Replay.{Table, no_table, queued_of, after}
+use Rattle.ln_book.specs.Rebuild.{Reading, no_event, legs_offered, legs_over, decided_in, htlc_left, rebuilt}
+use Rattle.ln_book.specs.Rebuild.{rebuilt_htlcs}
 use Rattle.ln_book.specs.Commands.{Services, first_command}
 
 abbrev a : List ℕ
@@ -214,3 +223,108 @@ removal_is_kept = refl
 decided_again : after (idle [] (htlc true (way.Offered went) back.Open ∷ [])) (entry.Decided decided)
     ≡ idle (queued_of decided ∷ []) (htlc true (way.Offered went) back.Open ∷ [])
 decided_again = refl
+
+-- ---- a restart: what channel a has decided, and what channel b has of the HTLC that went out
+
+abbrev from_a : List Htlc → Reading
+from_a hs = record { offered = []; results = []; decided = hs }
+
+abbrev from_b : List Leg → List Leg → Reading
+from_b adds results = record { offered = adds; results = results; decided = [] }
+
+abbrev leg : Way → Leg
+leg w = record { origin = came; way = w }
+
+-- it goes where the add does; and where there is none it is offered
+goes_with_its_add : rebuilt_htlcs (from_a (htlc true way.Nowhere back.Open ∷ [])
+    ∷ from_b (leg (way.Offered went) ∷ []) [] ∷ []) ≡ htlc true (way.Offered went) back.Open ∷ []
+goes_with_its_add = refl
+
+is_offered_still : rebuilt_htlcs (from_a (htlc true way.Nowhere back.Open ∷ []) ∷ from_b [] [] ∷ [])
+    ≡ htlc true way.Nowhere back.Open ∷ []
+is_offered_still = refl
+
+-- a result goes before its add
+goes_with_its_result : rebuilt_htlcs (from_b (leg (way.Offered went) ∷ []) (leg (way.Over went (how.Failed [])) ∷ [])
+    ∷ from_a (htlc true way.Nowhere back.Sent ∷ []) ∷ [])
+    ≡ htlc true (way.Over went (how.Failed [])) back.Sent ∷ []
+goes_with_its_result = refl
+
+-- what is failed already isn't offered again
+is_refused_still : rebuilt_htlcs (from_a (htlc true way.Nowhere back.Sent ∷ []) ∷ from_b [] [] ∷ [])
+    ≡ htlc true way.Refused back.Sent ∷ []
+is_refused_still = refl
+
+-- what is removed for good is left out, but not before its result is forgotten
+is_left_out : rebuilt_htlcs (from_a (htlc true way.Nowhere back.Settled ∷ []) ∷ from_b [] [] ∷ []) ≡ []
+is_left_out = refl
+
+is_yet_to_forget : rebuilt_htlcs (from_a (htlc true way.Nowhere back.Settled ∷ [])
+    ∷ from_b [] (leg (way.Over went (how.Failed [])) ∷ []) ∷ [])
+    ≡ htlc true (way.Over went (how.Failed [])) back.Settled ∷ []
+is_yet_to_forget = refl
+
+-- so is a result whose decision is gone, and it is forgotten next
+is_there_to_forget : rebuilt_htlcs (from_a [] ∷ from_b [] (leg (way.Over went (how.Failed [])) ∷ []) ∷ [])
+    ≡ htlc_left (leg (way.Over went (how.Failed []))) ∷ []
+is_there_to_forget = refl
+
+is_forgotten_next : first_command service b (idle [] (htlc_left (leg (way.Over went (how.Failed []))) ∷ []))
+    ≡ Some (out.Forgetting came, command.Forget 8)
+is_forgotten_next = refl
+
+-- nothing is queued, and nothing is out
+begins_empty : rebuilt (table (queued_of decided ∷ []) (htlc false way.Nowhere back.Open ∷ [])
+    (desk.Out (out.Deciding 3)) desk.Idle) [] ≡ no_table
+begins_empty = refl
+
+-- what is read of channel a: the HTLC as it came, and how far its removal is
+abbrev taken : Add
+taken = record { id = 5; amount = 1000; hash = 7 ∷ []; expiry = 400; onion = 1 ∷ []; origin = None }
+
+abbrev lists : List Update → ℕ → Log → Log
+lists own held l = record l {
+  own = own;
+  received = update.Add taken ∷ [];
+  first = none;
+  current = record { own = held; peer = 1 };
+}
+
+abbrev made : List Decision
+made = record { id = 5; mark = mark.Forward b 900 350 } ∷ []
+
+abbrev removal : List Update
+removal = update.Fail (record { id = 5; reason = [] }) ∷ []
+
+abbrev read : Back → Htlc
+read k = record {
+  key = came;
+  event = no_event;
+  offer = offer;
+  mark = mark.Forward b 900 350;
+  decided = true;
+  way = way.Nowhere;
+  back = k;
+}
+
+reads_none : (l : Log) → decided_in a (lists [] 0 l) made ≡ read back.Open ∷ []
+reads_none l = refl
+
+reads_an_unheld_one : (l : Log) → decided_in a (lists removal 0 l) made ≡ read back.Sent ∷ []
+reads_an_unheld_one l = refl
+
+reads_a_held_one : (l : Log) → decided_in a (lists removal 1 l) made ≡ read back.Settled ∷ []
+reads_a_held_one l = refl
+
+-- what is read of channel b: the adds that forward others, and their results
+abbrev gone_out : Add
+gone_out = record { id = 8; amount = 900; hash = 7 ∷ []; expiry = 350; onion = 2 ∷ []; origin = Some (a, 5) }
+
+reads_what_forwards : legs_offered b (update.Add taken ∷ update.Add gone_out ∷ []) ≡ leg (way.Offered went) ∷ []
+reads_what_forwards = refl
+
+abbrev result : Settlement
+result = record { id = 8; origin = (a, 5); removal = update.Fail (record { id = 8; reason = 9 ∷ [] }) }
+
+reads_results : legs_over b (result ∷ []) ≡ leg (way.Over went (how.Failed (9 ∷ []))) ∷ []
+reads_results = refl

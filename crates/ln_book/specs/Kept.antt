@@ -1,7 +1,12 @@
 -- What a book asks of a channel, once its connection was lost or it was loaded.
-use Rattle.std.specs.Prelude.{ℕ, List, [], ◌∷◌, Bool, false, ◌&&◌, Option, Some, None, if◌then◌else◌}
+use Rattle.std.specs.Prelude.{ℕ, List, [], ◌∷◌, length, Bool, false, not, ◌&&◌, nat_lt, Option, Some, None}
+use Rattle.std.specs.Prelude.{if◌then◌else◌}
 use Rattle.std.specs.List.{find}
 use Rattle.ln_log.specs.declared.mark.Mark.{Mark}
+use Rattle.ln_log.specs.declared.update.Update.{Update}
+use Rattle.ln_log.specs.Updates.{next_id, outcome, is_live}
+use Rattle.ln_log.specs.Log.{Log, between}
+use Rattle.ln_channel.specs.End.{End}
 use Rattle.ln_book.specs.declared.htlc.Htlc.{Htlc}
 use Rattle.ln_book.specs.declared.entry.Queued.{Queued}
 use Rattle.ln_book.specs.declared.entry.Out.{Out}
@@ -40,3 +45,21 @@ told_by next removes decides c t = record {
   removes = kept_ids removes c t.htlcs;
   decides = is_desk_kept decides c (desk_at c t) t.queue;
 }
+
+-- ---- what the end of a channel answers, by the lists that it has
+
+-- the own updates, from the first one that it still has one by one
+abbrev pub own_updates : Log → List Update
+own_updates l = between l.first.own (length l.own) l.own
+
+-- each HTLC that it has offered has an id below this
+abbrev pub next_own_id : End → ℕ
+next_own_id e = next_id e.dance.log.own
+
+-- an own update removes the peer's HTLC of this id
+abbrev pub has_own_removal : ℕ → Log → Bool
+has_own_removal id l = not (is_live (outcome id (own_updates l)))
+
+-- events are decided in turn: those below the count are
+abbrev pub has_decided : ℕ → End → Bool
+has_decided n e = nat_lt n e.ledger.decided

@@ -5,4 +5,5 @@ pub mod Commands
 pub mod Marks
 pub mod Settled
 pub mod Kept
+pub mod Rebuild
 pub mod Payment

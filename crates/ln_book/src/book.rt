@@ -6,6 +6,8 @@ use crate::htlc::Key;
 use crate::kept::{Kept, told_by};
 use crate::log::Log;
 use crate::marks::{mark_of, offer_of};
+use crate::reading::Reading;
+use crate::rebuild::rebuilt_htlcs;
 use crate::tables::Tables;
 use ln_bytes::ShortId;
 use ln_channel::Command;
@@ -331,5 +333,29 @@ impl Book {
         self.tables.dropped(&channel, &told);
         let entry = Entry::Dropped(channel, told);
         self.history = self.history.and(&entry);
+    }
+}
+
+impl Book {
+    ghost use Rattle.std.specs.Prelude.{◌≡◌, OnOk, OnErr, IfErr};
+    ghost use Rattle.ln_book.specs.History.{begun_with};
+    ghost use Rattle.ln_book.specs.Replay.{table_of};
+    ghost use Rattle.ln_book.specs.Rebuild.{rebuilt};
+
+    /// Begins anew with what these channels have, those of the node in the order of their numbers: each is there as it
+    /// was loaded, without what no signature covered. Settings stay; nothing is queued, and nothing is out. An HTLC of
+    /// a peer's that its channel has decided goes where a result says, else where an own add does; one to be forwarded
+    /// that has a removal and goes nowhere was refused, and isn't offered again; one that is finished is left out. A
+    /// result whose decision is gone is left to be forgotten (BOLT 2, "Forwarding HTLCs"). Takes memory. Error: 60
+    /// alone, which changes nothing.
+    pub fn rebuild(&mut self, alloc: Global, readings: &[Reading]) -> Result<(), Refusal>
+        ensures begins_anew { OnOk result (self.new ≡ begun_with (rebuilt (table_of self.old) readings.now)) }
+        ensures changes_nothing_if_refused { OnErr result (self.new ≡ self.old) }
+        ensures fails_for_memory_alone { IfErr result (λ r. r ≡ Refusal.Memory) }
+    {
+        let htlcs = rebuilt_htlcs(alloc, readings)?;
+        self.tables.begin(alloc, htlcs);
+        self.history = Log::begun(&self.tables);
+        Ok(())
     }
 }

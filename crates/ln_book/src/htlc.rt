@@ -58,7 +58,7 @@ pub enum Back {
 pub struct Htlc {
     /// The channel by which it came, and its id there.
     pub key: Key,
-    /// The number of the event that told of it.
+    /// The number of the event that told of it; 2^64 - 1 where the HTLC was read off the end of a channel.
     pub event: u64,
     /// What was offered.
     pub offer: Offer,

@@ -3,6 +3,7 @@
 #![tactic(auto)]
 
 mod book;
+mod channel;
 mod commands;
 mod entry;
 mod htlc;
@@ -11,6 +12,8 @@ mod laws;
 mod lists;
 mod log;
 mod marks;
+mod reading;
+mod rebuild;
 mod tables;
 
 pub use book::Book;
@@ -19,3 +22,4 @@ pub use htlc::{Back, Htlc, Key, Offer, Way};
 pub use kept::Kept;
 pub use laws::one_payment_out;
 pub use log::Log;
+pub use reading::{Leg, Reading};

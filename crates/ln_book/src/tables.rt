@@ -338,6 +338,19 @@ impl Tables {
     }
 }
 
+impl Tables {
+    ghost use Rattle.std.specs.Prelude.{◌≡◌, []};
+
+    /// These are the HTLCs; nothing is queued, and nothing is out. Takes no memory.
+    pub(crate) fn begin(&mut self, alloc: Global, htlcs: Vec<Htlc>)
+        ensures { self.new ≡ record self.old { queue = []; htlcs = htlcs.items; desks = [] } }
+    {
+        self.queue = Vec::new(alloc);
+        self.htlcs = htlcs;
+        self.desks = IndexMap::new(alloc);
+    }
+}
+
 ghost use Rattle.std.specs.Prelude.{◌≡◌, ◌<◌, IsTrue};
 ghost use Rattle.std.specs.Vec.{vec_capacity, vec_len};
 ghost use Rattle.ln_book.specs.Replay.{with_queued, with_offer};
