@@ -10,9 +10,6 @@ use Rattle.ln_msgs.specs.declared.refusals.refusal.Refusal.TheVariants as refusa
 use Rattle.ln_keys.specs.Signer.{Signer}
 use Rattle.ln_channel.specs.declared.command.Command.{Command}
 use Rattle.ln_channel.specs.declared.output.Output.{Output}
-use Rattle.ln_channel.specs.declared.unsaved.Line.{Line}
-use Rattle.ln_channel.specs.declared.unsaved.Line.TheVariants.{Down, Awaiting, Met}
-use Rattle.ln_channel.specs.declared.unsaved.Stage.{Stage}
 use Rattle.ln_channel.specs.Opening.{LacksBy, MayLackBy}
 use Rattle.ln_channel.specs.Outputs.{Handed, all_of}
 use Rattle.ln_channel.specs.State.{State, halts, is_down, IsSameLink, IsHalted}
@@ -20,23 +17,9 @@ use Rattle.ln_channel.specs.Taking.{is_viewed}
 use Rattle.ln_channel.specs.Step.{Done, AnsweredBy, makes_view, handled, at_hand, faulted, commanded, asked}
 use Rattle.ln_channel.specs.Step.{connected, connects}
 
-by_line : {K : Type 0} (keys : K) (line : Line) (halted : Bool) (failure : Option Refusal) (s : Stage)
-    → let m : State K = record { keys = keys; line = line; halted = halted; failure = failure; stage = s } in
-    IsHalted m (halts m)
-by_line keys Down halted failure s = record { halted = refl; line = refl; keys = refl; failure = refl }
-by_line keys Awaiting halted failure s = record { halted = refl; line = refl; keys = refl; failure = refl }
-by_line keys Met halted failure s = record { halted = refl; line = refl; keys = refl; failure = refl }
-
--- behind whatever kept its keys and its failure
+-- behind whatever kept its keys, its failure and its connection
 pub halted_behind : {K : Type 0} (l m n : State K) → n ≡ halts m → IsSameLink l m → IsHalted l n
-halted_behind l m n e same =
-    let h : IsHalted m (halts m) = by_line m.keys m.line m.halted m.failure m.stage in
-    record {
-      halted = ap (λ (x : State _). x.halted) e ∙ h.halted;
-      line = ap (λ (x : State _). x.line) e ∙ h.line;
-      keys = ap (λ (x : State _). x.keys) e ∙ h.keys ∙ same.keys;
-      failure = ap (λ (x : State _). x.failure) e ∙ h.failure ∙ same.failure;
-    }
+halted_behind l m n e same = record { reached = m; same = same; halts = e }
 
 -- what was made is handed out, or there is no memory for that
 pub handed_out : {K V : Type 0} (views : Bool) (outs : V → List Output) (said : Result Done Refusal)

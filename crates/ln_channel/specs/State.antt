@@ -87,17 +87,21 @@ drops l = if is_down l.line then l else record l { line = line.Down; stage = cut
 abbrev pub halts : {K : Type 0} → State K → State K
 halts l = record (drops l) { halted = true }
 
--- what want of memory leaves, whatever was done before
-pub record IsHalted {K : Type 0} (l new : State K) : Type 0 where
-  pub halted : new.halted ≡ true
-  pub line : new.line ≡ line.Down
-  pub keys : new.keys ≡ l.keys
-  pub failure : new.failure ≡ l.failure
+-- a connection that was there still is
+abbrev pub StaysUp : Line → Line → Type 0
+StaysUp l new = is_down l ≡ false → is_down new ≡ false
 
--- what of a link stays whatever becomes of its line and its end
+-- what of a link stays until its connection is lost, whatever becomes of its end
 pub record IsSameLink {K : Type 0} (l new : State K) : Type 0 where
   pub keys : new.keys ≡ l.keys
   pub failure : new.failure ≡ l.failure
+  pub line : StaysUp l.line new.line
+
+-- what want of memory leaves: the link halts, wherever it was with what it was to do
+pub record IsHalted {K : Type 0} (l new : State K) : Type 0 where
+  pub reached : State K
+  pub same : IsSameLink l reached
+  pub halts : new ≡ halts reached
 
 -- ---- what is told of it
 

@@ -4,7 +4,7 @@ ghost use Rattle.std.specs.Prelude.{◌≡◌, true, false};
 ghost use Rattle.ln_channel.specs.Naming.{named};
 ghost use Rattle.ln_channel.specs.Failing.{fails};
 ghost use Rattle.ln_channel.specs.Step.{opening_at, open_at, accept_at, created_at, signed_at, saved_at};
-ghost use Rattle.ln_channel.specs.State.{is_saved};
+ghost use Rattle.ln_channel.specs.State.{is_saved, StaysUp};
 ghost use Rattle.ln_channel.specs.Taking.{is_viewed};
 ghost use Rattle.ln_channel.specs.declared.unsaved.Line.TheVariants as lines;
 ghost use Rattle.ln_channel.specs.declared.unsaved.Stage.TheVariants as stages;
@@ -76,7 +76,7 @@ const NO_NUMBERS: Numbers = Numbers {
 impl Stage {
     ghost use Rattle.std.specs.Prelude.{◌≡◌};
     ghost use Rattle.ln_channel.specs.Naming.{channel_of, temporary_of, is_meant, is_other};
-    ghost use Rattle.ln_channel.specs.State.{is_saved, KeepsChannel, lost, cut, numbers_of};
+    ghost use Rattle.ln_channel.specs.State.{is_saved, KeepsChannel, StaysUp, lost, cut, numbers_of};
     ghost use Rattle.ln_channel.specs.Taking.{is_viewed};
     ghost use Rattle.ln_channel.specs.Step.{is_passed_over, stray_fault, message_fault, stage_row, Moves};
 
@@ -210,6 +210,7 @@ impl Stage {
     ) -> Result<Outbox, Refusal>
         ensures moves { Moves (is_viewed message) (stage_row (K.signer keys.now) line.old message self.old)
             result line.old line.new self.old self.new }
+        ensures stays_up { StaysUp line.old line.new }
         ensures same_channel { KeepsChannel self.old self.new }
     {
         match self {
@@ -400,6 +401,7 @@ fn take_saved<K: ChannelKeys>(
 ) -> Result<Outbox, Refusal>
     ensures moves { MovesEnd (is_viewed message) (saved_at (K.signer keys.now) line.old message channel.old)
         result line.old line.new channel.old channel.new }
+    ensures stays_up { StaysUp line.old line.new }
     ensures same_channel { channel.new.dance.channel ≡ channel.old.dance.channel }
 {
     if line.is_met() {
@@ -418,6 +420,7 @@ fn take_awaited<K: ChannelKeys>(
 ) -> Result<Outbox, Refusal>
     ensures moves { MovesEnd (is_viewed message) (awaiting_at (K.signer keys.now) message channel.old)
         result line.old line.new channel.old channel.new }
+    ensures stays_up { StaysUp line.old line.new }
     ensures same_channel { channel.new.dance.channel ≡ channel.old.dance.channel }
 {
     match message {
@@ -441,6 +444,7 @@ fn take_reestablish<K: ChannelKeys>(
 ) -> Result<Outbox, Refusal>
     ensures moves { MovesEnd false (turned lines.Met (resume_row (K.signer keys.now) message.now channel.old))
         result line.old line.new channel.old channel.new }
+    ensures stays_up { StaysUp line.old line.new }
     ensures same_channel { channel.new.dance.channel ≡ channel.old.dance.channel }
 {
     match channel.resume(alloc, keys, message) {

@@ -23,6 +23,7 @@ use Rattle.ln_channel.specs.Step.{Done, Answered, handled, commanded, connected,
 use Rattle.ln_store.specs.Readable.{is_readable}
 use Rattle.ln_store.specs.Record.{record_bytes}
 use Rattle.ln_store.specs.Store.{Records, IsOneOf}
+use Rattle.ln_link.proofs.Refusing.{has_halted}
 use Rattle.ln_link.specs.Record.{items_of}
 use Rattle.ln_link.specs.Loading.{HasRecord}
 use Rattle.ln_link.specs.Saving.{Shelf, HasSaved, IsSaved, IsUnsaved, HandsOut, HaltsUnsaved, SavesFailure}
@@ -139,7 +140,7 @@ message_stays : {K : Type 0} (said : Result Done Refusal) (l n : State K) (m : M
     (answer : Result (List Output) Refusal) (s t : Shelf)
     → AnswersMessage (λ x. x) said l m answer n s t → HasLink l s → Stays n t
 message_stays said l n m (Ok os) s t h has = inr (handed said l n os s t h)
-message_stays said l n m (Err e) s t (inl h) has = inl h.1.halted
+message_stays said l n m (Err e) s t (inl h) has = inl (has_halted l n h.1)
 message_stays said l n m (Err e) s t (inr (inl h)) has = inl (behind e said l n s t h)
 message_stays said l n m (Err e) s t (inr (inr (inl h))) has = inl (refusing e said l n s t h)
 message_stays said l n m (Err e) s t (inr (inr (inr h))) has =
@@ -148,7 +149,7 @@ message_stays said l n m (Err e) s t (inr (inr (inr h))) has =
 command_stays : {K : Type 0} (said : Result Done Refusal) (l n : State K) (answer : Result (List Output) Refusal)
     (s t : Shelf) → AnswersCommand (λ x. x) said l answer n s t → HasLink l s → Stays n t
 command_stays said l n (Ok os) s t h has = inr (handed said l n os s t h)
-command_stays said l n (Err e) s t (inl h) has = inl h.1.halted
+command_stays said l n (Err e) s t (inl h) has = inl (has_halted l n h.1)
 command_stays said l n (Err e) s t (inr (inl h)) has = inl (behind e said l n s t h)
 command_stays said l n (Err e) s t (inr (inr h)) has = moved n l t h.1 (inr (subst (HasLink l) (sym h.2) has))
 
@@ -179,7 +180,7 @@ connect_stays keys l n (Ok os) s h has =
     let same = connected_end keys l.halted (is_down l.line) l.stage d h.0 in
     inr (subst (λ f. Has f (saved_end n.stage) s.records) (sym (ap (λ (x : State _). x.failure) h.1))
     (subst (λ o. Has l.failure o s.records) (sym same) has))
-connect_stays keys l n (Err e) s (inl h) has = inl h.1.halted
+connect_stays keys l n (Err e) s (inl h) has = inl (has_halted l n h.1)
 connect_stays keys l n (Err e) s (inr h) has = moved n l s h.1 (inr has)
 
 call_stays : {K : Type 0} (keys : Signer) (c : Call) (l k : State K) (s t : Shelf) → Leads keys c l s k t → HasLink l s
@@ -215,7 +216,7 @@ message_still : {K : Type 0} (said : Result Done Refusal) (l n : State K) (m : M
     → AnswersMessage (λ x. x) said l m answer n s t → IsStill n s t
 message_still said l n m (Ok os) s t is h a =
     absurd (subst (λ r. HandsOut (λ x. x) r l os n s t) is a)
-message_still said l n m (Err e) s t is h (inl a) = (a.1.halted, a.2)
+message_still said l n m (Err e) s t is h (inl a) = (has_halted l n a.1, a.2)
 message_still said l n m (Err e) s t is h (inr (inl a)) =
     absurd (subst (λ r. HaltsBehind e r l n s t) is a)
 message_still said l n m (Err e) s t is h (inr (inr (inl a))) =
@@ -231,7 +232,7 @@ command_still : {K : Type 0} (said : Result Done Refusal) (l n : State K) (answe
     (s t : Shelf) → said ≡ Err refusal.Halted → l.halted ≡ true → AnswersCommand (λ x. x) said l answer n s t
     → IsStill n s t
 command_still said l n (Ok os) s t is h a = absurd (subst (λ r. HandsOut (λ x. x) r l os n s t) is a)
-command_still said l n (Err e) s t is h (inl a) = (a.1.halted, a.2)
+command_still said l n (Err e) s t is h (inl a) = (has_halted l n a.1, a.2)
 command_still said l n (Err e) s t is h (inr (inl a)) =
     absurd (subst (λ r. HaltsBehind e r l n s t) is a)
 command_still said l n (Err e) s t is h (inr (inr a)) = still n l s t a.1 h a.2
@@ -239,7 +240,7 @@ command_still said l n (Err e) s t is h (inr (inr a)) = still n l s t a.1 h a.2
 connect_still : {K : Type 0} (keys : Signer) (l n : State K) (answer : Result (List Output) Refusal) (s : Shelf)
     → l.halted ≡ true → Answered (λ x. x) (connected keys l) l answer n → n.halted ≡ true
 connect_still keys l n (Ok os) s h a = ap (λ (x : State _). x.halted) a.1 ∙ h
-connect_still keys l n (Err e) s h (inl a) = a.1.halted
+connect_still keys l n (Err e) s h (inl a) = has_halted l n a.1
 connect_still keys l n (Err e) s h (inr a) = ap (λ (x : State _). x.halted) a.1 ∙ h
 
 drops_still : {K : Type 0} (l : State K) → l.halted ≡ true → (drops l).halted ≡ true

@@ -66,6 +66,9 @@ settled outs said l m n msg e e' before behind true w s p (inr x) =
       ),
     ))))
 
+pub has_halted : {K : Type 0} (l n : State K) → IsHalted l n → n.halted ≡ true
+has_halted l n h = ap (λ (x : State _). x.halted) h.halts
+
 -- what is answered to a message that is refused
 pub after_refusal : {K V : Type 0} (outs : V → List Output) (said : Result Done Refusal) (l m n : State K)
     (msg : Message) (e e' : Refusal) (before behind : Shelf) → AnsweredMessage outs said l msg (Err e) m
@@ -73,7 +76,7 @@ pub after_refusal : {K V : Type 0} (outs : V → List Output) (said : Result Don
     → AnswersMessage outs said l msg (Err e') n before behind
 after_refusal outs said l m n msg e e' before behind (inl h) r =
     let q : Refuses false e e' m n before behind =
-    subst (λ b. Refuses b e e' m n before behind) (halted m (is_none l.failure) h.1.halted) r in
+    subst (λ b. Refuses b e e' m n before behind) (halted m (is_none l.failure) (has_halted l m h.1)) r in
     inl ((q.0 ∙ h.0.0, h.0.1), subst (λ (x : State _). IsHalted l x) (sym q.1) h.1, q.2)
 after_refusal outs said l m n msg e e' before behind (inr h) r =
     let q : Refuses (fails_now e l) e e' m n before behind =

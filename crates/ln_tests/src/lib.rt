@@ -1,23 +1,15 @@
-//! The tests of the crates below by their public calls alone. They stand in a crate of their own because a crate with
+//! The tests of a channel and of the crates that it stands on, by their public calls alone. They stand in a crate of their own because a crate with
 //! tests is proved twice, with them and without.
 #![tactic(auto)]
 
-mod narrow;
 mod refusal;
 
-pub use narrow::Narrow;
 pub use refusal::code_of;
 
-#[cfg(test)]
-mod bytes;
-#[cfg(test)]
-mod close;
 #[cfg(test)]
 mod dance;
 #[cfg(test)]
 mod failing_saves;
-#[cfg(test)]
-mod forward;
 #[cfg(test)]
 mod hooks;
 #[cfg(test)]
@@ -33,15 +25,9 @@ mod loading;
 #[cfg(test)]
 mod log;
 #[cfg(test)]
-mod messages;
-#[cfg(test)]
 mod opening;
 #[cfg(test)]
-mod pings;
-#[cfg(test)]
 mod record;
-#[cfg(test)]
-mod relay;
 #[cfg(test)]
 mod resume;
 #[cfg(test)]
@@ -50,5 +36,3 @@ mod saving;
 mod store;
 #[cfg(test)]
 mod testing;
-#[cfg(test)]
-mod whole_fields;

@@ -1,5 +1,5 @@
 use Rattle.std.proofs.Common.{◌≡◌}
-use Rattle.ln_tests.proofs.relay.put_one.Given as goal
+use Rattle.ln_part_tests.proofs.relay.put_one.Given as goal
 
 abbrev pub invariant-loop : goal.invariant-loop
 invariant-loop g l = g.S.Sends.place l.seat ≡ g.S.Sends.place l.initial.seat
