@@ -1,8 +1,10 @@
 -- Which channel a message names, and whether that is the link's (BOLT 1, "The error and warning Messages"; BOLT 2).
 use Rattle.std.specs.Prelude.{ℕ, List, Bool, false, not, ◌||◌, Option, Some, None, replicate}
 use Rattle.ln_bytes.specs.Same.{are_same}
+use Rattle.ln_msgs.specs.Messages.Channel.{id_of_channel}
 use Rattle.ln_msgs.specs.declared.messages.message.Message.{Message}
 use Rattle.ln_msgs.specs.declared.messages.message.Message.TheVariants as message
+use Rattle.ln_channel.specs.declared.config.OpenSpec.{OpenSpec}
 use Rattle.ln_channel.specs.declared.unsaved.Stage.{Stage}
 use Rattle.ln_channel.specs.declared.unsaved.Stage.TheVariants as stage
 
@@ -51,3 +53,20 @@ is_meant s id = is_all id || (is_id id (channel_of s) || is_id id (temporary_of 
 abbrev pub is_other : Option (List ℕ) → Stage → Bool
 is_other None s = false
 is_other (Some id) s = not (is_id id (channel_of s))
+
+-- ---- the channel that a message opens (BOLT 2, "Channel Establishment v1")
+
+-- a funder knows its funding, and names it once the fundee has agreed
+abbrev pub opens_agreed : OpenSpec → Message → Option (List ℕ)
+opens_agreed s (message.AcceptChannel m) = Some (id_of_channel s.txid s.output)
+opens_agreed s m = None
+
+-- a fundee is told
+abbrev pub opens_told : Message → Option (List ℕ)
+opens_told (message.FundingCreated m) = Some (id_of_channel m.funding_txid m.output_index)
+opens_told m = None
+
+abbrev pub opens : Stage → Message → Option (List ℕ)
+opens (stage.AwaitsAccept s) m = opens_agreed s m
+opens (stage.AwaitsCreated a) m = opens_told m
+opens s m = None

@@ -1,6 +1,6 @@
 -- What a call makes of a link (BOLT 1 and 2).
-use Rattle.std.specs.Prelude.{◌≡◌, ◌⊎◌, List, [], ◌∷◌, Bool, true, false, not, ◌&&◌, Option, Some, None, is_none}
-use Rattle.std.specs.Prelude.{Result, Ok, Err, if◌then◌else◌}
+use Rattle.std.specs.Prelude.{◌≡◌, ◌⊎◌, ℕ, List, [], ◌∷◌, Bool, true, false, not, ◌&&◌, ◌||◌, Option, Some, None}
+use Rattle.std.specs.Prelude.{is_none, Result, Ok, Err, if◌then◌else◌}
 use Rattle.ln_bytes.specs.Answers.{fault_of, Leaves}
 use Rattle.ln_msgs.specs.declared.messages.message.Message.{Message}
 use Rattle.ln_msgs.specs.declared.messages.message.Message.TheVariants as message
@@ -28,7 +28,7 @@ use Rattle.ln_channel.specs.End.{End, Turn, end_of}
 use Rattle.ln_channel.specs.Taking.{is_viewed, taken}
 use Rattle.ln_channel.specs.Resume.{resume_row}
 use Rattle.ln_channel.specs.Commands.{command_row, note_row, unready_fault}
-use Rattle.ln_channel.specs.Naming.{named, is_meant, is_other}
+use Rattle.ln_channel.specs.Naming.{named, is_meant, is_other, opens}
 use Rattle.ln_channel.specs.Failing.{fails}
 use Rattle.ln_channel.specs.State.{State, is_down, is_met, lost, refused, IsHalted}
 
@@ -129,6 +129,10 @@ at_hand keys l m s =
 -- a message: 62, then the number by which the channel has failed
 abbrev pub handled : {K : Type 0} → Signer → State K → Message → Result Done Refusal
 handled keys l m = if l.halted then Err refusal.Halted else faulted l.failure (at_hand keys l.line m l.stage)
+
+-- the channel that a message opens; none of a link that has halted or failed
+abbrev pub opened : {K : Type 0} → State K → Message → Option (List ℕ)
+opened l m = if l.halted || not (is_none l.failure) then None else opens l.stage m
 
 -- ---- a command
 

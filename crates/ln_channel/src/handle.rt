@@ -42,14 +42,15 @@ impl<K: ChannelKeys + Drop> Unsaved<K> {
         match self.take(alloc, message) {
             Ok(outbox) => self.hand_out(outbox),
             Err(Refusal::Memory) => Err(self.halted_by_memory()),
-            Err(refusal) => Err(self.refused_by(refusal)),
+            Err(refusal) => Err(self.fail_by(refusal)),
         }
     }
 
-    // A refusal is kept, where the channel fails by it.
-    fn refused_by(&mut self, refusal: Refusal) -> Refusal
+    /// Keeps a refusal by which the channel fails, 21 to 35 and 37: an opening that isn't signed by both is gone then.
+    /// By any other nothing changes. Takes no memory.
+    pub fn fail_by(&mut self, refusal: Refusal) -> Refusal
         ensures refusal { result ≡ refusal }
-        ensures state { self.new ≡ fails_by refusal self.old }
+        ensures state { (l : State K) → StandsFor self.old l → StandsFor self.new (fails_by refusal l) }
         ensures same_channel { KeepsChannel self.old.stage self.new.stage }
     {
         if fails(refusal) {

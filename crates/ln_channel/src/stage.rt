@@ -1,7 +1,7 @@
 //! What a message makes of each stage of a link.
 
 ghost use Rattle.std.specs.Prelude.{◌≡◌, true, false};
-ghost use Rattle.ln_channel.specs.Naming.{named};
+ghost use Rattle.ln_channel.specs.Naming.{named, opens_agreed, opens_told};
 ghost use Rattle.ln_channel.specs.Failing.{fails};
 ghost use Rattle.ln_channel.specs.Step.{opening_at, open_at, accept_at, created_at, signed_at, saved_at};
 ghost use Rattle.ln_channel.specs.State.{is_saved, StaysUp};
@@ -14,7 +14,7 @@ ghost use Rattle.ln_channel.specs.Step.{error_fault, turned, obeyed_open, awaiti
 
 use crate::channel::Channel;
 use crate::command::Command;
-use crate::config::{FitConfig, FitSpec};
+use crate::config::{FitConfig, FitSpec, OpenSpec};
 use crate::deep::put;
 use crate::opening::{Agreed, take_accept, take_created, take_open};
 use crate::output::{Outbox, one};
@@ -23,6 +23,7 @@ use ln_dance::Numbers;
 use ln_keys::ChannelKeys;
 use ln_msgs::{
     AcceptChannel, ChannelReestablish, FundingCreated, FundingSigned, Message, OpenChannel, Refusal,
+    channel_id,
 };
 use std::alloc::Global;
 use std::mem;
@@ -44,6 +45,26 @@ fn named(message: &Message) -> Option<[u8; 32]>
         Message::CommitmentSigned(m) => Some(m.channel_id),
         Message::RevokeAndAck(m) => Some(m.channel_id),
         Message::ChannelReestablish(m) => Some(m.channel_id),
+        _ => None,
+    }
+}
+
+// The channel that a message opens at a funder.
+fn opens_agreed(spec: &OpenSpec, message: &Message) -> Option<[u8; 32]>
+    ensures { result ≡ opens_agreed spec.now message.now }
+{
+    match message {
+        Message::AcceptChannel(_) => Some(channel_id(&spec.txid, spec.output)),
+        _ => None,
+    }
+}
+
+// The channel that a message opens at a fundee.
+fn opens_told(message: &Message) -> Option<[u8; 32]>
+    ensures { result ≡ opens_told message.now }
+{
+    match message {
+        Message::FundingCreated(m) => Some(channel_id(&m.funding_txid, m.output_index)),
         _ => None,
     }
 }
@@ -75,7 +96,7 @@ const NO_NUMBERS: Numbers = Numbers {
 
 impl Stage {
     ghost use Rattle.std.specs.Prelude.{◌≡◌};
-    ghost use Rattle.ln_channel.specs.Naming.{channel_of, temporary_of, is_meant, is_other};
+    ghost use Rattle.ln_channel.specs.Naming.{channel_of, temporary_of, is_meant, is_other, opens};
     ghost use Rattle.ln_channel.specs.State.{is_saved, KeepsChannel, StaysUp, lost, cut, numbers_of};
     ghost use Rattle.ln_channel.specs.Taking.{is_viewed};
     ghost use Rattle.ln_channel.specs.Step.{is_passed_over, stray_fault, message_fault, stage_row, Moves};
@@ -159,6 +180,17 @@ impl Stage {
         match id {
             None => false,
             Some(id) => self.channel() != Some(id),
+        }
+    }
+
+    // The channel that a message opens.
+    pub(crate) fn opens(&self, message: &Message) -> Option<[u8; 32]>
+        ensures { result ≡ opens self.now message.now }
+    {
+        match self {
+            Stage::AwaitsAccept(spec) => opens_agreed(spec.get(), message),
+            Stage::AwaitsCreated(_) => opens_told(message),
+            _ => None,
         }
     }
 

@@ -100,7 +100,7 @@ impl<K: ChannelKeys + Drop> Unsaved<K> {
     ghost use Rattle.ln_channel.specs.Outputs.{all_of};
     ghost use Rattle.ln_channel.specs.State.{State, StandsFor, KeepsChannel, begun, drops, halts};
     ghost use Rattle.ln_channel.specs.State.{IsSameLink, IsHalted, numbers_of};
-    ghost use Rattle.ln_channel.specs.Step.{Answered, connected, MovesBy, connects};
+    ghost use Rattle.ln_channel.specs.Step.{Answered, connected, MovesBy, connects, opened};
 
     /// A new link of a funder, which opens a channel by this spec. Takes no memory.
     pub fn funder(keys: K, spec: FitSpec) -> Unsaved<K>
@@ -176,6 +176,18 @@ impl<K: ChannelKeys + Drop> Unsaved<K> {
         ensures { (l : State K) → StandsFor self.now l → result ≡ numbers_of l.stage }
     {
         self.stage.numbers()
+    }
+
+    /// The id of the channel that a message opens: of `accept_channel` at a funder that awaits it, which then names its
+    /// funding, and of `funding_created` at a fundee that awaits it. None of a link that has halted or failed. Takes no
+    /// memory.
+    pub fn opens(&self, message: &Message) -> Option<[u8; 32]>
+        ensures { (l : State K) → StandsFor self.now l → result ≡ opened l message.now }
+    {
+        if self.halted || self.failure.is_some() {
+            return None;
+        }
+        self.stage.opens(message)
     }
 
     // There was no memory.

@@ -1,6 +1,6 @@
 -- What a store has of a link, over the link's calls.
 use Rattle.std.proofs.Common.{refl, sym, ◌∙◌, ap, subst, inl, inr, ◌≡◌, ◌⊎◌, ℕ, List, [], ◌∷◌}
-use Rattle.std.proofs.Common.{Bool, true, false, cond, ◌&&◌}
+use Rattle.std.proofs.Common.{Bool, true, false, cond, ◌&&◌, ◌||◌}
 use Rattle.std.proofs.Common.{Option, Some, None, is_none, not, Result, Ok, Err, if◌then◌else◌}
 use Rattle.std.specs.FinMap as map
 use Rattle.std.proofs.lemmas.Cmp.{eq_by_cmp_equiv, nat_list_cmp_total}
@@ -14,12 +14,13 @@ use Rattle.ln_channel.specs.declared.unsaved.Line.{Line}
 use Rattle.ln_channel.specs.declared.unsaved.Line.TheVariants.{Down}
 use Rattle.ln_channel.specs.declared.unsaved.Stage.{Stage}
 use Rattle.ln_channel.specs.declared.unsaved.Stage.TheVariants as stage
+use Rattle.ln_channel.specs.Naming.{opens}
 use Rattle.ln_channel.specs.Failing.{fails}
 use Rattle.ln_channel.specs.End.{End, end_dropped}
 use Rattle.ln_channel.specs.Record.{saved_end}
 use Rattle.ln_channel.specs.State.{State, kept_channel, cut, drops, halts, failed, refused}
 use Rattle.ln_channel.specs.State.{is_down}
-use Rattle.ln_channel.specs.Step.{Done, Answered, handled, commanded, connected, connects}
+use Rattle.ln_channel.specs.Step.{Done, Answered, handled, opened, commanded, connected, connects}
 use Rattle.ln_store.specs.Readable.{is_readable}
 use Rattle.ln_store.specs.Record.{record_bytes}
 use Rattle.ln_store.specs.Store.{Records, IsOneOf}
@@ -27,7 +28,7 @@ use Rattle.ln_link.proofs.Refusing.{has_halted}
 use Rattle.ln_link.specs.Record.{items_of}
 use Rattle.ln_link.specs.Loading.{HasRecord}
 use Rattle.ln_link.specs.Saving.{Shelf, HasSaved, IsSaved, IsUnsaved, HandsOut, HaltsUnsaved, SavesFailure}
-use Rattle.ln_link.specs.Saving.{SavesIf, fails_now}
+use Rattle.ln_link.specs.Saving.{SavesIf, fails_now, is_known, handled_beside, CannotTell, AnswersOver}
 use Rattle.ln_link.specs.Saving.{HaltsBehind, HaltsRefused, FailsBy}
 use Rattle.ln_link.specs.Saving.{stored_end, reached, AnswersMessage, AnswersCommand}
 use Rattle.ln_link.specs.Calls.{Call, Handle, Command, Connect, DropConnection, Halt, Leads, Lead}
@@ -183,9 +184,17 @@ connect_stays keys l n (Ok os) s h has =
 connect_stays keys l n (Err e) s (inl h) has = inl (has_halted l n h.1)
 connect_stays keys l n (Err e) s (inr h) has = moved n l s h.1 (inr has)
 
+-- a message over a store
+over_stays : {K : Type 0} (keys : Signer) (l n : State K) (m : Message) (answer : Result (List Output) Refusal)
+    (s t : Shelf) → AnswersOver (λ x. x) keys l m answer n s t → HasLink l s → Stays n t
+over_stays keys l n m (Ok os) s t h has = message_stays (handled_beside s.records keys l m) l n m (Ok os) s t h has
+over_stays keys l n m (Err e) s t (inl h) has = inl (ap (λ (x : State _). x.halted) h.halts)
+over_stays keys l n m (Err e) s t (inr h) has =
+    message_stays (handled_beside s.records keys l m) l n m (Err e) s t h has
+
 call_stays : {K : Type 0} (keys : Signer) (c : Call) (l k : State K) (s t : Shelf) → Leads keys c l s k t → HasLink l s
     → Stays k t
-call_stays keys (Handle m) l k s t h has = message_stays (handled keys l m) l k m h.0 s t h.1 has
+call_stays keys (Handle m) l k s t h has = over_stays keys l k m h.0 s t h.1 has
 call_stays keys (Command c) l k s t h has = command_stays (commanded keys l c) l k h.0 s t h.1 has
 call_stays keys Connect l k s t h has =
     subst (Stays k) (sym h.2) (connect_stays keys l k h.0 s h.1 has)
@@ -256,10 +265,30 @@ said_halted : {A : Type 0} (b : Bool) (row : Result A Refusal) → b ≡ true
 said_halted true row h = refl
 said_halted false row h = absurd (cc)
 
+-- a link that has halted opens no channel
+opens_none : {K : Type 0} (l : State K) (m : Message) → l.halted ≡ true → opened l m ≡ None
+opens_none l m h = ap (λ (b : Bool). if b || not (is_none l.failure) then None else opens l.stage m) h
+
+over_still : {K : Type 0} (keys : Signer) (l n : State K) (m : Message) (answer : Result (List Output) Refusal)
+    (s t : Shelf) → l.halted ≡ true → AnswersOver (λ x. x) keys l m answer n s t → IsStill n s t
+over_still keys l n m answer s t halted h = by answer h
+  where
+    says : handled_beside s.records keys l m ≡ Err refusal.Halted
+    says =
+        ap (λ (o : Option (List ℕ)). if is_known o s.records then Err refusal.OutOfPlace else handled keys l m)
+        (opens_none l m halted)
+        ∙ said_halted l.halted _ halted
+
+    by : (r : Result (List Output) Refusal) → AnswersOver (λ x. x) keys l m r n s t → IsStill n s t
+    by (Ok os) a = message_still (handled_beside s.records keys l m) l n m (Ok os) s t says halted a
+    by (Err e) (inl a) =
+        absurd (subst (λ o. CannotTell e o s.failed t.failed) (opens_none l m halted) a.cause)
+    by (Err e) (inr a) = message_still (handled_beside s.records keys l m) l n m (Err e) s t says halted a
+
 call_still : {K : Type 0} (keys : Signer) (c : Call) (l k : State K) (s t : Shelf) → Leads keys c l s k t
     → l.halted ≡ true → IsStill k s t
 call_still keys (Handle m) l k s t h halted =
-    message_still (handled keys l m) l k m h.0 s t (said_halted l.halted _ halted) halted h.1
+    over_still keys l k m h.0 s t halted h.1
 call_still keys (Command c) l k s t h halted =
     command_still (commanded keys l c) l k h.0 s t (said_halted l.halted _ halted) halted h.1
 call_still keys Connect l k s t h halted = (connect_still keys l k h.0 s halted h.1, h.2)
@@ -381,10 +410,19 @@ command_channel c said l n (Err e) s t (inl h) kept old = as_it_was c s t h.2 ol
 command_channel c said l n (Err e) s t (inr (inl h)) kept old = behind_channel c e said l n s t h kept old
 command_channel c said l n (Err e) s t (inr (inr h)) kept old = as_it_was c s t h.2 old
 
+over_channel : {K : Type 0} (c : List ℕ) (keys : Signer) (l n : State K) (m : Message)
+    (answer : Result (List Output) Refusal) (s t : Shelf) → AnswersOver (λ x. x) keys l m answer n s t → HasLink l s
+    → kept_channel n.stage ≡ Some c → HasChannel c s → HasChannel c t
+over_channel c keys l n m (Ok os) s t h has kept old =
+    message_channel c (handled_beside s.records keys l m) l n m (Ok os) s t h has kept old
+over_channel c keys l n m (Err e) s t (inl h) has kept old = same_records c s t h.records old
+over_channel c keys l n m (Err e) s t (inr h) has kept old =
+    message_channel c (handled_beside s.records keys l m) l n m (Err e) s t h has kept old
+
 call_channel : {K : Type 0} (keys : Signer) (c : List ℕ) (x : Call) (l k : State K) (s t : Shelf)
     → Leads keys x l s k t → HasLink l s → kept_channel k.stage ≡ Some c → HasChannel c s → HasChannel c t
 call_channel keys c (Handle m) l k s t h has kept old =
-    message_channel c (handled keys l m) l k m h.0 s t h.1 has kept old
+    over_channel c keys l k m h.0 s t h.1 has kept old
 call_channel keys c (Command x) l k s t h has kept old =
     command_channel c (commanded keys l x) l k h.0 s t h.1 kept old
 call_channel keys c Connect l k s t h has kept old = as_it_was c s t h.2 old

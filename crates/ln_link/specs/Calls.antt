@@ -9,12 +9,12 @@ use Rattle.ln_channel.specs.declared.output.Output.{Output}
 use Rattle.ln_channel.specs.End.{End}
 use Rattle.ln_channel.specs.Record.{saved_end}
 use Rattle.ln_channel.specs.State.{State, KeepsChannel, drops, halts}
-use Rattle.ln_channel.specs.Step.{handled, commanded, connected, Answered}
+use Rattle.ln_channel.specs.Step.{commanded, connected, Answered}
 use Rattle.ln_store.specs.Store.{Records}
 use Rattle.ln_store.specs.Record.{record_bytes}
 use Rattle.ln_link.specs.Record.{items_of}
 use Rattle.ln_link.specs.Loading.{HasRecord}
-use Rattle.ln_link.specs.Saving.{Shelf, AnswersMessage, AnswersCommand}
+use Rattle.ln_link.specs.Saving.{Shelf, AnswersOver, AnswersCommand}
 
 pub data Call : Type 0 where
   Handle : (m : Message) → Call
@@ -26,7 +26,7 @@ pub data Call : Type 0 where
 -- whatever a call answers, it leaves the link and its store so
 abbrev pub Leads : {K : Type 0} → Signer → Call → State K → Shelf → State K → Shelf → Type 0
 Leads keys (Handle m) l s l' s' = (answer : Result (List Output) Refusal)
-    × AnswersMessage (λ os. os) (handled keys l m) l m answer l' s s'
+    × AnswersOver (λ os. os) keys l m answer l' s s'
 Leads keys (Command c) l s l' s' = (answer : Result (List Output) Refusal)
     × AnswersCommand (λ os. os) (commanded keys l c) l answer l' s s'
 Leads keys Connect l s l' s' = (answer : Result (List Output) Refusal)

@@ -1,19 +1,20 @@
 -- A link saves before it hands out: what each call leaves in its store.
 use Rattle.std.specs.Prelude.{◌≡◌, ◌⊎◌, ℕ, List, Bool, true, false, not, ◌&&◌, Option, Some, None, is_none, Result, Ok}
-use Rattle.std.specs.Prelude.{Err}
+use Rattle.std.specs.Prelude.{Err, is_some, if◌then◌else◌}
 use Rattle.std.specs.FinMap as map
 use Rattle.ln_bytes.specs.Answers.{fault_of}
 use Rattle.ln_msgs.specs.Pings.Counted.{HasRisen}
 use Rattle.ln_msgs.specs.declared.messages.message.Message.{Message}
 use Rattle.ln_msgs.specs.declared.refusals.refusal.Refusal.{Refusal}
 use Rattle.ln_msgs.specs.declared.refusals.refusal.Refusal.TheVariants as refusal
+use Rattle.ln_keys.specs.Signer.{Signer}
 use Rattle.ln_channel.specs.declared.output.Output.{Output}
 use Rattle.ln_channel.specs.End.{End}
 use Rattle.ln_channel.specs.Record.{saved_end}
 use Rattle.ln_channel.specs.Failing.{fails}
 use Rattle.ln_channel.specs.Opening.{LacksBy}
 use Rattle.ln_channel.specs.State.{State, refused, halts, IsHalted}
-use Rattle.ln_channel.specs.Step.{Done, makes_view}
+use Rattle.ln_channel.specs.Step.{Done, makes_view, handled, opened}
 use Rattle.ln_store.specs.Store.{Records, IsOneOf}
 use Rattle.ln_store.specs.Record.{record_bytes}
 use Rattle.ln_link.specs.Record.{items_of, NoRecord}
@@ -136,7 +137,7 @@ HaltsRefused e (Ok d) l new before behind = ⊥
 HaltsRefused e (Err r) l new before behind =
     (fails_now r l ≡ true) × HaltsUnsaved e (refused r l) new before behind
 
--- a message: a refusal by which the channel fails is kept and saved
+-- a message, by what is said of it: a refusal by which the channel fails is kept and saved
 abbrev pub AnswersMessage : {K V : Type 0} → (V → List Output) → Result Done Refusal → State K → Message
     → Result V Refusal → State K → Shelf → Shelf → Type 0
 AnswersMessage outs said l m (Ok v) new before behind = HandsOut outs said l v new before behind
@@ -145,3 +146,36 @@ AnswersMessage outs said l m (Err e) new before behind =
     ⊎ (HaltsBehind e said l new before behind
     ⊎ (HaltsRefused e said l new before behind
     ⊎ ((said ≡ Err e) × (new ≡ refused e l) × SavesFailure e l before behind)))
+
+-- ---- a channel that the store knows
+
+-- the store has a record of it
+abbrev pub is_known : Option (List ℕ) → Records → Bool
+is_known None rs = false
+is_known (Some channel) rs = is_some (map.get rs channel)
+
+-- 21 to a message that opens such a channel
+abbrev pub handled_beside : {K : Type 0} → Records → Signer → State K → Message → Result Done Refusal
+handled_beside rs keys l m = if is_known (opened l m) rs then Err refusal.OutOfPlace else handled keys l m
+
+-- the store can't tell: no memory, or it failed, which it counts
+abbrev pub CannotTell : Refusal → Option (List ℕ) → ℕ → ℕ → Type 0
+CannotTell e None before behind = ⊥
+CannotTell e (Some channel) before behind =
+    ((e ≡ refusal.Memory) × (behind ≡ before)) ⊎ ((e ≡ refusal.Store) × HasRisen before behind)
+
+-- the link halts then
+pub record IsUntold {K : Type 0} (e : Refusal) (channel : Option (List ℕ)) (l new : State K) (before behind : Shelf)
+    : Type 0 where
+  pub cause : CannotTell e channel before.failed behind.failed
+  pub halts : new ≡ halts l
+  pub records : behind.records ≡ before.records
+
+-- a message, over a store
+abbrev pub AnswersOver : {K V : Type 0} → (V → List Output) → Signer → State K → Message → Result V Refusal → State K
+    → Shelf → Shelf → Type 0
+AnswersOver outs keys l m (Ok v) new before behind =
+    AnswersMessage outs (handled_beside before.records keys l m) l m (Ok v) new before behind
+AnswersOver outs keys l m (Err e) new before behind =
+    IsUntold e (opened l m) l new before behind
+    ⊎ AnswersMessage outs (handled_beside before.records keys l m) l m (Err e) new before behind

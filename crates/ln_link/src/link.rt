@@ -1,8 +1,8 @@
 //! One link: one end of a channel that saves before it hands out.
 
-ghost use Rattle.std.specs.Prelude.{◌≡◌, Some, is_none, option_copied};
+ghost use Rattle.std.specs.Prelude.{◌≡◌, Some, is_none, option_copied, IfOk, IfErr, OnOk};
 ghost use Rattle.ln_channel.specs.Record.{saved_end};
-ghost use Rattle.ln_link.specs.Saving.{Saves};
+ghost use Rattle.ln_link.specs.Saving.{Saves, is_known, CannotTell};
 
 use crate::loading::loaded;
 use crate::record::to_record;
@@ -81,8 +81,28 @@ fn save_link<K: ChannelKeys + Drop, S: RecordStore>(
     }
 }
 
+// Whether a store has a record of this channel.
+fn is_known<S: RecordStore>(
+    alloc: Global,
+    store: &mut S,
+    channel: Option<[u8; 32]>,
+) -> Result<bool, Refusal>
+    ensures known { IfOk result (λ b. b ≡ is_known channel (S.records store.old)) }
+    ensures changes_no_record { S.records store.new ≡ S.records store.old }
+    ensures counts_no_failure { OnOk result (S.failed store.new ≡ S.failed store.old) }
+    ensures fails_by_the_store { IfErr result (λ e. CannotTell e channel (S.failed store.old) (S.failed store.new)) }
+{
+    match channel {
+        None => Ok(false),
+        Some(channel) => {
+            let found = store.load(alloc, &channel)?;
+            Ok(found.is_some())
+        }
+    }
+}
+
 impl<K: ChannelKeys + Drop> Link<K> {
-    ghost use Rattle.std.specs.Prelude.{◌≡◌, ◌&&◌, Ok, true, IfOk, IfErr};
+    ghost use Rattle.std.specs.Prelude.{◌&&◌, Ok, true};
     ghost use Rattle.ln_channel.specs.Pending.{pending_at};
     ghost use Rattle.ln_channel.specs.declared.unsaved.Stage.TheVariants as stage;
     ghost use Rattle.ln_channel.specs.State.{State, StandsFor, KeepsChannel, begun, drops, halts};
@@ -91,7 +111,7 @@ impl<K: ChannelKeys + Drop> Link<K> {
     ghost use Rattle.ln_store.specs.Record.{record_at, record_bytes};
     ghost use Rattle.ln_store.specs.declared.record.Items.{Items};
     ghost use Rattle.ln_link.specs.Loading.{Loads};
-    ghost use Rattle.ln_link.specs.Saving.{Keeps, Refuses, is_failing, AnswersMessage, AnswersCommand};
+    ghost use Rattle.ln_link.specs.Saving.{Keeps, Refuses, is_failing, AnswersMessage, AnswersOver, AnswersCommand};
 
     /// A new link of a funder, which opens a channel by this spec. Takes no memory.
     pub fn funder(keys: K, spec: FitSpec) -> Link<K>
@@ -164,10 +184,38 @@ impl<K: ChannelKeys + Drop> Link<K> {
     }
 
     /// Takes a message, and saves what it made of the channel before anything is handed out. A refusal by which the
-    /// channel fails is saved too.
+    /// channel fails is saved too. Where the message opens a channel that the store has a record of, it is refused.
     ///
-    /// Errors: those of `Unsaved::handle`; 60, 61 and 70 where it can't be saved, by which the link halts.
+    /// Errors: those of `Unsaved::handle`, and 21 for a channel that the store has a record of; 60, 61 and 70 where it
+    /// can't be saved, or the store can't tell whether it has that channel, by which the link halts.
     pub fn handle<S: RecordStore>(
+        &mut self,
+        alloc: Global,
+        store: &mut S,
+        message: Message,
+    ) -> Result<Vec<Output>, Refusal>
+        ensures answers { (l : State K) → StandsFor self.old l
+            → AnswersOver (λ v. v.items) (K.signer l.keys) l message result self.new
+            (record { records = S.records store.old; failed = S.failed store.old })
+            (record { records = S.records store.new; failed = S.failed store.new }) }
+        ensures same_channel { KeepsChannel self.old.stage self.new.stage }
+    {
+        match is_known(alloc, store, self.unsaved.opens(&message)) {
+            Ok(false) => self.take(alloc, store, message),
+            Ok(true) => {
+                drop(message);
+                Err(self.unsaved.fail_by(Refusal::OutOfPlace))
+            }
+            Err(refusal) => {
+                drop(message);
+                self.unsaved.halt();
+                Err(refusal)
+            }
+        }
+    }
+
+    // Takes a message that opens no channel that the store knows.
+    fn take<S: RecordStore>(
         &mut self,
         alloc: Global,
         store: &mut S,

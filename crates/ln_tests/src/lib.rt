@@ -29,6 +29,8 @@ mod opening;
 #[cfg(test)]
 mod record;
 #[cfg(test)]
+mod reopening;
+#[cfg(test)]
 mod resume;
 #[cfg(test)]
 mod saving;
