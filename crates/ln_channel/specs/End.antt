@@ -31,6 +31,10 @@ pub record End : Type 0 where
   pub marks : Marks
   pub ledger : Ledger
 
+-- what is kept stands for this end: today it has all of it whole
+abbrev pub StandsFor : End → End → Type 0
+StandsFor kept e = kept ≡ e
+
 -- behind the opening
 abbrev pub no_marks : Marks
 no_marks = record { short_id = None; ready_sent = false; ready_received = false }

@@ -40,9 +40,12 @@ shutdown_again e = if e.closing.shut then output.Send (message.Shutdown (shutdow
 abbrev pub fee_again : Signer → End → List Output
 fee_again keys e = fee_sent keys e e.closing.own_fee
 
+-- with this in place of what the peer lacks
+abbrev pub sent_with : Signer → ChannelReestablish → List Resend → End → List Output
+sent_with keys m lacked e = ((ready_again keys m e ++ owed_again lacked) ++ shutdown_again e) ++ fee_again keys e
+
 abbrev pub sent_again : Signer → ChannelReestablish → End → List Output
-sent_again keys m e =
-    ((ready_again keys m e ++ owed_again (owed keys m e.dance)) ++ shutdown_again e) ++ fee_again keys e
+sent_again keys m e = sent_with keys m (owed keys m e.dance) e
 
 abbrev pub resumed : Signer → ChannelReestablish → End → Turn
 resumed keys m e = record { end = e; handed = record { sent = sent_again keys m e; told = [] } }

@@ -1,6 +1,8 @@
 //! One end of a channel from its opening on.
 
 ghost use Rattle.std.specs.Prelude.{◌≡◌, ◌≤◌, ◌<◌, ◌+◌, ◌^◌, length};
+ghost use Rattle.ln_dance.specs.Dance as dancing;
+ghost use Rattle.ln_dance.specs.Dance.{Dancer};
 ghost use Rattle.ln_channel.specs.Since.{own_since, peer_since};
 
 use crate::ledger::EventLedger;
@@ -65,6 +67,7 @@ impl Channel {
     ghost use Rattle.ln_channel.specs.Ledger.{next_event};
     ghost use Rattle.ln_channel.specs.Outputs.{events_of, numbered};
     ghost use Rattle.ln_channel.specs.Since.{own_since, peer_since};
+    ghost use Rattle.ln_channel.specs.End.{StandsFor};
     ghost use Rattle.ln_channel.specs.End.{End, end_of, end_dropped, is_ready, is_closed, all_acknowledged, is_settled};
     ghost use Rattle.ln_channel.specs.End.{has_begun, fee_range, closing_message, due_fee, fee_sent, begins, committed};
     ghost use Rattle.ln_channel.specs.End.{telling, settling, shutdown_message, shutdown_sent, answers_shutdown};
@@ -110,34 +113,35 @@ impl Channel {
 
     /// The connection is lost: updates that no signature covers are gone (BOLT 2, "Message Retransmission").
     pub fn drop_unsigned(&mut self)
-        ensures { self.new ≡ end_dropped self.old }
+        ensures state { (e : End) → StandsFor self.old e → StandsFor self.new (end_dropped e) }
+        ensures same_channel { self.new.dance.channel ≡ self.old.dance.channel }
     {
         self.dance.drop_unsigned();
     }
 
     /// Whether it has sent `channel_ready`, and taken the peer's.
     pub fn is_ready(&self) -> bool
-        ensures { result ≡ is_ready self.now }
+        ensures { (e : End) → StandsFor self.now e → result ≡ is_ready e }
     {
         self.marks.ready_sent && self.marks.ready_received
     }
 
     /// Whether it is closed.
     pub fn is_closed(&self) -> bool
-        ensures { result ≡ is_closed self.now }
+        ensures { (e : End) → StandsFor self.now e → result ≡ is_closed e }
     {
         self.closing.closed.is_some()
     }
 
     /// Whether closing has begun.
     pub(crate) fn has_begun(&self) -> bool
-        ensures { result ≡ has_begun self.now }
+        ensures { (e : End) → StandsFor self.now e → result ≡ has_begun e }
     {
         self.closing.shut && self.closing.peer_shut && self.is_settled()
     }
 
     fn is_settled(&self) -> bool
-        ensures { result ≡ is_settled self.now.dance.log }
+        ensures { (e : End) → StandsFor self.now e → result ≡ is_settled e.dance.log }
     {
         let log = self.dance.log();
         let own = log.counts(Pair::Current(Side::Own));
@@ -153,7 +157,7 @@ impl Channel {
 
     // Whether the peer has acknowledged every own update.
     pub(crate) fn all_acknowledged(&self) -> bool
-        ensures { result ≡ all_acknowledged self.now.dance.log }
+        ensures { (e : End) → StandsFor self.now e → result ≡ all_acknowledged e.dance.log }
     {
         let log = self.dance.log();
         log.counts(Pair::Current(Side::Peer)).own == log.len(Side::Own)
@@ -163,7 +167,7 @@ impl Channel {
 
     // How many updates this side holds as irrevocably committed.
     fn committed(&self) -> Output
-        ensures { result ≡ committed self.now }
+        ensures { (e : End) → StandsFor self.now e → result ≡ committed e }
     {
         Output::Committed {
             own: own_held(&self.dance) as u64,
@@ -180,13 +184,15 @@ impl Channel {
     ) -> Result<(), Refusal>
         requires start { before ≤ self.old.dance.log.current.own }
         requires kept { self.old.dance.log.first.own ≤ before }
-        ensures told { OnOk result (outbox.new ≡ record {
+        ensures told { (e : End) → StandsFor self.old e → OnOk result (outbox.new ≡ record {
           sent = outbox.old.sent;
-          told = (outbox.old.told ++ committed self.old ∷ [])
-              ++ numbered (next_event self.old.ledger) (events_of true (own_since before self.old.dance.log));
+          told = (outbox.old.told ++ committed e ∷ [])
+              ++ numbered (next_event e.ledger) (events_of true (own_since before e.dance.log));
         }) }
-        ensures state { OnOk result (self.new ≡ telling true before (own_since before self.old.dance.log) self.old) }
+        ensures state { (e : End) → StandsFor self.old e
+            → OnOk result (StandsFor self.new (telling true before (own_since before e.dance.log) e)) }
         ensures fails_for_memory_alone { IfErr result (λ r. r ≡ Refusal.Memory) }
+        ensures same_dance { self.new.dance ≡ self.old.dance }
         ensures same_channel { self.new.dance.channel ≡ self.old.dance.channel }
     {
         outbox.tell(self.committed())?;
@@ -203,13 +209,15 @@ impl Channel {
     ) -> Result<(), Refusal>
         requires start { before ≤ self.old.dance.log.acknowledged.peer }
         requires kept { self.old.dance.log.first.peer ≤ before }
-        ensures told { OnOk result (outbox.new ≡ record {
+        ensures told { (e : End) → StandsFor self.old e → OnOk result (outbox.new ≡ record {
           sent = outbox.old.sent;
-          told = (outbox.old.told ++ committed self.old ∷ [])
-              ++ numbered (next_event self.old.ledger) (events_of false (peer_since before self.old.dance.log));
+          told = (outbox.old.told ++ committed e ∷ [])
+              ++ numbered (next_event e.ledger) (events_of false (peer_since before e.dance.log));
         }) }
-        ensures state { OnOk result (self.new ≡ telling false before (peer_since before self.old.dance.log) self.old) }
+        ensures state { (e : End) → StandsFor self.old e
+            → OnOk result (StandsFor self.new (telling false before (peer_since before e.dance.log) e)) }
         ensures fails_for_memory_alone { IfErr result (λ r. r ≡ Refusal.Memory) }
+        ensures same_dance { self.new.dance ≡ self.old.dance }
         ensures same_channel { self.new.dance.channel ≡ self.old.dance.channel }
     {
         outbox.tell(self.committed())?;
@@ -221,7 +229,8 @@ impl Channel {
     pub(crate) fn keep_results(&mut self, alloc: Global, before: usize) -> Result<(), Refusal>
         requires start { before ≤ self.old.dance.log.acknowledged.peer }
         requires kept { self.old.dance.log.first.peer ≤ before }
-        ensures state { OnOk result (self.new ≡ settling (peer_since before self.old.dance.log) self.old) }
+        ensures state { (e : End) → StandsFor self.old e
+            → OnOk result (StandsFor self.new (settling (peer_since before e.dance.log) e)) }
         ensures fails_for_memory_alone { IfErr result (λ r. r ≡ Refusal.Memory) }
         ensures same_channel { self.new.dance.channel ≡ self.old.dance.channel }
     {
@@ -232,7 +241,7 @@ impl Channel {
     // ---- what it owes the peer
 
     pub(crate) fn shutdown_message(&self, alloc: Global) -> Result<Shutdown, Refusal>
-        ensures message { IfOk result (λ m. m ≡ shutdown_message self.now) }
+        ensures message { (e : End) → StandsFor self.now e → IfOk result (λ m. m ≡ shutdown_message e) }
         ensures fails_for_memory_alone { IfErr result (λ r. r ≡ Refusal.Memory) }
     {
         let script = Vec::from_slice(alloc, self.terms.script.as_slice())?;
@@ -245,11 +254,11 @@ impl Channel {
 
     // Answers the peer's shutdown, where it is owed and may be.
     fn answer_shutdown(&mut self, alloc: Global, outbox: &mut Outbox) -> Result<(), Refusal>
-        ensures sent { OnOk result (outbox.new ≡ record {
-          sent = outbox.old.sent ++ shutdown_sent self.old;
+        ensures sent { (e : End) → StandsFor self.old e → OnOk result (outbox.new ≡ record {
+          sent = outbox.old.sent ++ shutdown_sent e;
           told = outbox.old.told;
         }) }
-        ensures state { OnOk result (self.new ≡ answers_shutdown self.old) }
+        ensures state { (e : End) → StandsFor self.old e → OnOk result (StandsFor self.new (answers_shutdown e)) }
         ensures fails_for_memory_alone { IfErr result (λ r. r ≡ Refusal.Memory) }
         ensures same_channel { self.new.dance.channel ≡ self.old.dance.channel }
     {
@@ -284,7 +293,8 @@ impl Channel {
         keys: &K,
         fee: u64,
     ) -> Result<ClosingSigned, Refusal>
-        ensures message { IfOk result (λ m. m ≡ closing_message (K.signer keys.now) self.now fee) }
+        ensures message { (e : End) → StandsFor self.now e
+            → IfOk result (λ m. m ≡ closing_message (K.signer keys.now) e fee) }
         ensures fails_for_memory_alone { IfErr result (λ r. r ≡ Refusal.Memory) }
     {
         let range = self.fee_range(alloc)?;
@@ -303,8 +313,8 @@ impl Channel {
         fee: u64,
         outbox: &mut Outbox,
     ) -> Result<(), Refusal>
-        ensures sent { OnOk result (outbox.new ≡ record
-            { sent = outbox.old.sent ++ fee_sent (K.signer keys.now) self.now (Some fee); told = outbox.old.told }) }
+        ensures sent { (e : End) → StandsFor self.now e → OnOk result (outbox.new ≡ record
+            { sent = outbox.old.sent ++ fee_sent (K.signer keys.now) e (Some fee); told = outbox.old.told }) }
         ensures fails_for_memory_alone { IfErr result (λ r. r ≡ Refusal.Memory) }
     {
         let message = self.closing_message(alloc, keys, fee)?;
@@ -318,11 +328,11 @@ impl Channel {
         keys: &K,
         outbox: &mut Outbox,
     ) -> Result<(), Refusal>
-        ensures sent { OnOk result (outbox.new ≡ record {
-          sent = outbox.old.sent ++ fee_sent (K.signer keys.now) self.old (due_fee self.old);
+        ensures sent { (e : End) → StandsFor self.old e → OnOk result (outbox.new ≡ record {
+          sent = outbox.old.sent ++ fee_sent (K.signer keys.now) e (due_fee e);
           told = outbox.old.told;
         }) }
-        ensures state { OnOk result (self.new ≡ begins self.old) }
+        ensures state { (e : End) → StandsFor self.old e → OnOk result (StandsFor self.new (begins e)) }
         ensures fails_for_memory_alone { IfErr result (λ r. r ≡ Refusal.Memory) }
         ensures same_channel { self.new.dance.channel ≡ self.old.dance.channel }
     {
@@ -342,9 +352,9 @@ impl Channel {
         keys: &K,
         outbox: &mut Outbox,
     ) -> Result<(), Refusal>
-        ensures sent { OnOk result (outbox.new ≡ record
-            { sent = outbox.old.sent ++ due_sent (K.signer keys.now) self.old; told = outbox.old.told }) }
-        ensures state { OnOk result (self.new ≡ settled self.old) }
+        ensures sent { (e : End) → StandsFor self.old e → OnOk result (outbox.new ≡ record
+            { sent = outbox.old.sent ++ due_sent (K.signer keys.now) e; told = outbox.old.told }) }
+        ensures state { (e : End) → StandsFor self.old e → OnOk result (StandsFor self.new (settled e)) }
         ensures fails_for_memory_alone { IfErr result (λ r. r ≡ Refusal.Memory) }
         ensures same_channel { self.new.dance.channel ≡ self.old.dance.channel }
     {
@@ -383,7 +393,7 @@ pub(crate) fn peer_held(dance: &Dance) -> usize
 fn own_since(dance: &Dance, before: usize) -> &[Update]
     requires start { before ≤ dance.now.log.current.own }
     requires kept { dance.now.log.first.own ≤ before }
-    ensures updates { result.now ≡ own_since before dance.now.log }
+    ensures updates { (d : Dancer) → dancing.StandsFor dance.now d → result.now ≡ own_since before d.log }
     ensures fits_64_bits { before + length result.now < 2 ^ 64 }
 {
     dance.log().between(Side::Own, before, own_held(dance))
@@ -393,7 +403,7 @@ fn own_since(dance: &Dance, before: usize) -> &[Update]
 fn peer_since(dance: &Dance, before: usize) -> &[Update]
     requires start { before ≤ dance.now.log.acknowledged.peer }
     requires kept { dance.now.log.first.peer ≤ before }
-    ensures updates { result.now ≡ peer_since before dance.now.log }
+    ensures updates { (d : Dancer) → dancing.StandsFor dance.now d → result.now ≡ peer_since before d.log }
     ensures fits_64_bits { before + length result.now < 2 ^ 64 }
 {
     dance.log().between(Side::Peer, before, peer_held(dance))

@@ -19,7 +19,7 @@ impl Channel {
     ghost use Rattle.ln_log.specs.Log.{proposal_fault};
     ghost use Rattle.ln_dance.specs.Dance.{signed_message};
     ghost use Rattle.ln_channel.specs.Opening.{AnswersFault};
-    ghost use Rattle.ln_channel.specs.End.{Makes};
+    ghost use Rattle.ln_channel.specs.End.{End, StandsFor, Makes};
     ghost use Rattle.ln_channel.specs.Commands.{confirm_row, ready_message, shut_by_either, closed_fault, own_fault};
     ghost use Rattle.ln_channel.specs.Commands.{propose_fault, proposes, propose_row, sign_command_fault, signs_next};
     ghost use Rattle.ln_channel.specs.Commands.{sign_row, shut_fault, shut_row, note_row, command_row, unready_fault};
@@ -47,7 +47,7 @@ impl Channel {
     }
 
     pub(crate) fn ready_message<K: ChannelKeys>(&self, alloc: Global, keys: &K) -> ChannelReady
-        ensures { result ≡ ready_message (K.signer keys.now) self.now }
+        ensures { (e : End) → StandsFor self.now e → result ≡ ready_message (K.signer keys.now) e }
     {
         ChannelReady {
             channel_id: self.dance.channel(),
@@ -58,7 +58,7 @@ impl Channel {
 
     // Whether neither side has shut down.
     fn shut_refusal(&self) -> Option<Refusal>
-        ensures { result ≡ shut_by_either self.now }
+        ensures { (e : End) → StandsFor self.now e → result ≡ shut_by_either e }
     {
         if self.closing.shut || self.closing.peer_shut {
             Some(Refusal::Shut)
@@ -68,7 +68,7 @@ impl Channel {
     }
 
     fn closed_refusal(&self, update: &Update) -> Option<Refusal>
-        ensures { result ≡ closed_fault self.now update.now }
+        ensures { (e : End) → StandsFor self.now e → result ≡ closed_fault e update.now }
     {
         match update {
             Update::Add(_) => self.shut_refusal(),
@@ -81,7 +81,7 @@ impl Channel {
 
     // What keeps this side from an update that the log doesn't know of.
     fn own_refusal(&self, update: &Update) -> Option<Refusal>
-        ensures { result ≡ own_fault self.now update.now }
+        ensures { (e : End) → StandsFor self.now e → result ≡ own_fault e update.now }
     {
         if !self.is_ready() {
             return Some(Refusal::NotReady);
@@ -183,7 +183,7 @@ impl Channel {
 
     // The id of the next HTLC that it offers.
     fn next_id(&self) -> u64
-        ensures { result ≡ next_id self.now.dance.log.own }
+        ensures { (e : End) → StandsFor self.now e → result ≡ next_id e.dance.log.own }
     {
         self.dance.log().next_id()
     }
@@ -224,14 +224,14 @@ impl Channel {
 
     // How many own updates there are.
     fn own_len(&self) -> usize
-        ensures { result ≡ length self.now.dance.log.own }
+        ensures { (e : End) → StandsFor self.now e → result ≡ length e.dance.log.own }
     {
         self.dance.log().len(Side::Own)
     }
 
     // What keeps this side from shutting down.
     fn shutdown_refusal(&self, script: &Bytes) -> Option<Refusal>
-        ensures { result ≡ shut_fault script.now self.now }
+        ensures { (e : End) → StandsFor self.now e → result ≡ shut_fault script.now e }
     {
         if self.closing.shut {
             return Some(Refusal::Shut);
@@ -270,7 +270,7 @@ impl Channel {
 
     /// What isn't ready for a command, which is told before that the peer isn't there.
     pub fn unready_refusal(&self, command: &Command) -> Option<Refusal>
-        ensures { result ≡ unready_fault command.now self.now }
+        ensures { (e : End) → StandsFor self.now e → result ≡ unready_fault command.now e }
     {
         match command {
             Command::Confirm(_) => {
@@ -293,7 +293,7 @@ impl Channel {
 
     // The HTLC that the peer's update of this number offers.
     fn peer_htlc(&self, number: u64) -> Option<u64>
-        ensures { result ≡ htlc_of self.now.dance.log (ref.Peer number) }
+        ensures { (e : End) → StandsFor self.now e → result ≡ htlc_of e.dance.log (ref.Peer number) }
     {
         let update = self.dance.log().update(Side::Peer, number as usize)?;
         Some(add_of(update)?.id)
@@ -301,7 +301,7 @@ impl Channel {
 
     // The peer's HTLC that the first undecided event tells of.
     fn first_htlc(&self) -> Option<u64>
-        ensures { result ≡ first_htlc self.now.dance.log self.now.ledger.undecided }
+        ensures { (e : End) → StandsFor self.now e → result ≡ first_htlc e.dance.log e.ledger.undecided }
     {
         match self.ledger.undecided() {
             [EventRef::Peer(number), ..] => self.peer_htlc(*number),

@@ -1,7 +1,8 @@
 //! The events that a channel end has yet to decide.
 
 ghost use Rattle.std.specs.Prelude.{◌≡◌, IfOk, IfErr};
-ghost use Rattle.ln_log.specs.Log.{first_of, updates_of, update_at};
+ghost use Rattle.ln_log.specs.Log as logs;
+ghost use Rattle.ln_log.specs.Log.{Log, first_of, updates_of, update_at};
 ghost use Rattle.ln_channel.specs.Pending.{event_in};
 
 use crate::channel::Channel;
@@ -20,8 +21,8 @@ fn event_at(
     own: bool,
     number: u64,
 ) -> Result<Option<ChannelEvent>, Refusal>
-    ensures event { IfOk result
-        (λ e. e ≡ event_in own (update_at (first_of side log.now) (updates_of side log.now) number)) }
+    ensures event { (l : Log) → logs.StandsFor log.now l → IfOk result
+        (λ e. e ≡ event_in own (update_at (first_of side l) (updates_of side l) number)) }
     ensures fails_for_memory_alone { IfErr result (λ r. r ≡ Refusal.Memory) }
 {
     match log.update(side, number as usize) {
@@ -32,11 +33,14 @@ fn event_at(
 
 impl Channel {
     ghost use Rattle.std.specs.Prelude.{◌≡◌, IfOk, IfErr};
+    ghost use Rattle.ln_channel.specs.End as end;
+    ghost use Rattle.ln_channel.specs.End.{End};
     ghost use Rattle.ln_channel.specs.Pending.{named_by, pending_events};
 
     // The event that an entry of the ledger names.
     fn event_named(&self, alloc: Global, entry: EventRef) -> Result<Option<ChannelEvent>, Refusal>
-        ensures event { IfOk result (λ e. e ≡ named_by entry self.now) }
+        ensures event { (e : End) → end.StandsFor self.now e
+            → IfOk result (λ event. event ≡ named_by entry e) }
         ensures fails_for_memory_alone { IfErr result (λ r. r ≡ Refusal.Memory) }
     {
         match entry {
@@ -52,7 +56,8 @@ impl Channel {
     /// The events that aren't decided, each with its number, in their order. Takes memory for them; 60 where there is
     /// none.
     pub fn pending_events(&self, alloc: Global) -> Result<Vec<(u64, ChannelEvent)>, Refusal>
-        ensures events { IfOk result (λ v. v.items ≡ pending_events self.now) }
+        ensures events { (e : End) → end.StandsFor self.now e
+            → IfOk result (λ v. v.items ≡ pending_events e) }
         ensures fails_for_memory_alone { IfErr result (λ r. r ≡ Refusal.Memory) }
     {
         let mut events = Vec::new(alloc);

@@ -13,12 +13,12 @@ impl Channel {
     ghost use Rattle.ln_channel.specs.Failing.{fails};
     ghost use Rattle.ln_dance.specs.Resume.{reestablish_message, resume_fault, owed};
     ghost use Rattle.ln_channel.specs.Opening.{first_fault, AnswersFault, AnswersSignature};
-    ghost use Rattle.ln_channel.specs.End.{Makes};
-    ghost use Rattle.ln_channel.specs.Resume.{resume_row, ready_again, shutdown_again, fee_again, sent_again};
+    ghost use Rattle.ln_channel.specs.End.{End, StandsFor, Makes};
+    ghost use Rattle.ln_channel.specs.Resume.{resume_row, ready_again, shutdown_again, fee_again, sent_with};
 
     /// What this side tells as a connection comes back. Takes no memory.
     pub(crate) fn reestablish<K: ChannelKeys>(&self, alloc: Global, keys: &K) -> ChannelReestablish
-        ensures { result ≡ reestablish_message (K.signer keys.now) self.now.dance }
+        ensures { (e : End) → StandsFor self.now e → result ≡ reestablish_message (K.signer keys.now) e.dance }
     {
         self.dance.reestablish(alloc, keys)
     }
@@ -30,8 +30,8 @@ impl Channel {
         keys: &K,
         message: &FundingSigned,
     ) -> Result<(), Refusal>
-        ensures refuses_exactly { AnswersSignature
-            (first_fault (K.signer keys.now) self.now.dance message.now.signature) result }
+        ensures refuses_exactly { (e : End) → StandsFor self.now e
+            → AnswersSignature (first_fault (K.signer keys.now) e.dance message.now.signature) result }
         ensures refused { IfErr result (λ r. (r ≡ Refusal.Memory) ⊎ (fails r ≡ true)) }
     {
         check_first(alloc, keys, &self.dance, &message.signature)
@@ -44,8 +44,8 @@ impl Channel {
         message: &ChannelReestablish,
         outbox: &mut Outbox,
     ) -> Result<(), Refusal>
-        ensures sent { OnOk result (outbox.new ≡ record {
-          sent = outbox.old.sent ++ ready_again (K.signer keys.now) message.now self.now;
+        ensures sent { (e : End) → StandsFor self.now e → OnOk result (outbox.new ≡ record {
+          sent = outbox.old.sent ++ ready_again (K.signer keys.now) message.now e;
           told = outbox.old.told;
         }) }
         ensures fails_for_memory_alone { IfErr result (λ r. r ≡ Refusal.Memory) }
@@ -57,8 +57,8 @@ impl Channel {
     }
 
     fn send_shutdown_again(&self, alloc: Global, outbox: &mut Outbox) -> Result<(), Refusal>
-        ensures sent { OnOk result (outbox.new ≡ record {
-          sent = outbox.old.sent ++ shutdown_again self.now;
+        ensures sent { (e : End) → StandsFor self.now e → OnOk result (outbox.new ≡ record {
+          sent = outbox.old.sent ++ shutdown_again e;
           told = outbox.old.told;
         }) }
         ensures fails_for_memory_alone { IfErr result (λ r. r ≡ Refusal.Memory) }
@@ -76,8 +76,8 @@ impl Channel {
         keys: &K,
         outbox: &mut Outbox,
     ) -> Result<(), Refusal>
-        ensures sent { OnOk result (outbox.new ≡ record {
-          sent = outbox.old.sent ++ fee_again (K.signer keys.now) self.now;
+        ensures sent { (e : End) → StandsFor self.now e → OnOk result (outbox.new ≡ record {
+          sent = outbox.old.sent ++ fee_again (K.signer keys.now) e;
           told = outbox.old.told;
         }) }
         ensures fails_for_memory_alone { IfErr result (λ r. r ≡ Refusal.Memory) }
@@ -97,9 +97,8 @@ impl Channel {
         resends: Vec<Resend>,
         outbox: &mut Outbox,
     ) -> Result<(), Refusal>
-        requires { resends.items ≡ owed (K.signer keys.now) message.now self.now.dance }
-        ensures sent { OnOk result (outbox.new ≡ record {
-          sent = outbox.old.sent ++ sent_again (K.signer keys.now) message.now self.now;
+        ensures sent { (e : End) → StandsFor self.now e → OnOk result (outbox.new ≡ record {
+          sent = outbox.old.sent ++ sent_with (K.signer keys.now) message.now resends.items e;
           told = outbox.old.told;
         }) }
         ensures fails_for_memory_alone { IfErr result (λ r. r ≡ Refusal.Memory) }
@@ -117,8 +116,10 @@ impl Channel {
         keys: &K,
         message: &ChannelReestablish,
     ) -> Result<Vec<Resend>, Refusal>
-        ensures refuses_exactly { AnswersFault (resume_fault (K.signer keys.now) message.now self.now.dance) result }
-        ensures owed { IfOk result (λ v. v.items ≡ owed (K.signer keys.now) message.now self.now.dance) }
+        ensures refuses_exactly { (e : End) → StandsFor self.now e
+            → AnswersFault (resume_fault (K.signer keys.now) message.now e.dance) result }
+        ensures owed { (e : End) → StandsFor self.now e
+            → IfOk result (λ v. v.items ≡ owed (K.signer keys.now) message.now e.dance) }
     {
         self.dance.resume(alloc, keys, message)
     }

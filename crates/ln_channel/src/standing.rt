@@ -46,11 +46,13 @@ impl Channel {
     ghost use Rattle.ln_dance.specs.Dance.{view_at};
     ghost use Rattle.ln_log.specs.declared.log.Pair.TheVariants as pair;
     ghost use Rattle.ln_log.specs.declared.log.Side.TheVariants as side;
+    ghost use Rattle.ln_channel.specs.End as end;
+    ghost use Rattle.ln_channel.specs.End.{End};
     ghost use Rattle.ln_channel.specs.Standing.{life_of, failed_or, standing_of};
 
     // How far it is: the last that fits.
     fn life(&self) -> Life
-        ensures { result ≡ life_of self.now }
+        ensures { (e : End) → end.StandsFor self.now e → result ≡ life_of e }
     {
         if let Some(fee) = self.closing.closed {
             return Life::Closed(fee);
@@ -66,8 +68,9 @@ impl Channel {
 
     // Where it stands. 60 where there is no memory for the HTLCs of its own commitment.
     fn standing(&self, alloc: Global, failure: Option<Refusal>) -> Result<Standing, Refusal>
-        ensures standing { IfOk result (λ s. s ≡ standing_of (failed_or failure (life_of self.now))
-            (view_at (pair.Current side.Own) self.now.dance) self.now) }
+        ensures standing { (e : End) → end.StandsFor self.now e
+            → IfOk result (λ s. s ≡ standing_of (failed_or failure (life_of e))
+            (view_at (pair.Current side.Own) e.dance) e) }
         ensures fails_for_memory_alone { IfErr result (λ e. e ≡ Refusal.Memory) }
     {
         let life = match failure {

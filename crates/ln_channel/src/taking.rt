@@ -21,7 +21,7 @@ impl Channel {
     ghost use Rattle.ln_log.specs.Log.{taken_fault};
     ghost use Rattle.ln_dance.specs.Dance.{accept_fault, answer_of, revoked_message, learn_fault};
     ghost use Rattle.ln_channel.specs.Opening.{AnswersFault, AnswersSignature};
-    ghost use Rattle.ln_channel.specs.End.{Makes, MakesBy};
+    ghost use Rattle.ln_channel.specs.End.{End, StandsFor, Makes, MakesBy};
     ghost use Rattle.ln_channel.specs.Taking.{is_viewed};
     ghost use Rattle.ln_channel.specs.Taking.{takes_ready, late_fault, early_fault, update_row, takes};
     ghost use Rattle.ln_channel.specs.Taking.{accepts, signature_row, revokes, revocation_row};
@@ -31,7 +31,7 @@ impl Channel {
     /// Takes `channel_ready` (BOLT 2, "The `channel_ready` Message"): a second one, or one behind the close, does
     /// nothing.
     fn take_ready(&mut self, message: &ChannelReady)
-        ensures ready { self.new ≡ takes_ready message.now self.old }
+        ensures ready { (e : End) → StandsFor self.old e → StandsFor self.new (takes_ready message.now e) }
         ensures same_channel { self.new.dance.channel ≡ self.old.dance.channel }
     {
         if self.marks.ready_received || self.is_closed() {
@@ -43,7 +43,7 @@ impl Channel {
 
     // Whether an update comes too late: an add behind the peer's shutdown, a fee once closing has begun.
     fn late_refusal(&self, update: &Update) -> Option<Refusal>
-        ensures { result ≡ late_fault self.now update.now }
+        ensures { (e : End) → StandsFor self.now e → result ≡ late_fault e update.now }
     {
         match update {
             Update::Add(_) => {
@@ -68,7 +68,7 @@ impl Channel {
 
     // What is wrong with an update of the peer that the log doesn't know of.
     fn early_refusal(&self, update: &Update) -> Option<Refusal>
-        ensures { result ≡ early_fault self.now update.now }
+        ensures { (e : End) → StandsFor self.now e → result ≡ early_fault e update.now }
     {
         if !self.is_ready() || self.dance.log().is_at_update_limit(Side::Peer) {
             return Some(Refusal::OutOfPlace);
@@ -199,7 +199,8 @@ impl Channel {
 
     // The peer has shut down, with this script.
     fn note_shutdown(&mut self, alloc: Global, message: &Shutdown) -> Result<(), Refusal>
-        ensures state { OnOk result (self.new ≡ shuts_by_peer message.now self.old) }
+        ensures state { (e : End) → StandsFor self.old e
+            → OnOk result (StandsFor self.new (shuts_by_peer message.now e)) }
         ensures fails_for_memory_alone { IfErr result (λ r. r ≡ Refusal.Memory) }
         ensures same_channel { self.new.dance.channel ≡ self.old.dance.channel }
     {

@@ -1,4 +1,4 @@
-use Rattle.std.proofs.Common.{ℕ, sym, subst}
+use Rattle.std.proofs.Common.{ℕ, refl, sym, subst}
 use Rattle.ln_log.specs.declared.update.Update.TheVariants as update
 use Rattle.ln_channel.specs.declared.command.Command.{Command}
 use Rattle.ln_channel.specs.End.{Makes}
@@ -16,6 +16,6 @@ returns-in-Add-clause-makes g c =
       onion = c.in-Add.onion;
       origin = c.in-Add.origin;
     })) c.args.self.now) c.offer.result c.args.self.now
-    c.offer.new.self) c.next_id-id.ensures c.offer.ensures.makes in
+    c.offer.new.self) (c.next_id-id.ensures _ refl) c.offer.ensures.makes in
     subst (λ (k : Command). Makes (command_row (g.K.ChannelKeys.signer c.args.keys.now) k c.args.self.now)
     c.offer.result c.args.self.now c.offer.new.self) (sym c.in-Add.is) offered

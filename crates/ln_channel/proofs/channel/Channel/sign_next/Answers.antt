@@ -32,7 +32,8 @@ returns-clause-state g c =
 pub returns-clause-refuses_exactly : goal.returns-clause-refuses_exactly
 returns-clause-refuses_exactly g c =
     within_if (is_ready c.args.self.now) refusal.NotReady (sign_fault c.args.self.now.dance) c.sign.result
-    (sym c.if-not-is_ready.ensures) (c.sign.ensures.refuses_exactly _ (ap (λ (e : End). e.dance) c.self.view_is))
+    (sym (c.if-not-is_ready.ensures _ refl))
+    (c.sign.ensures.refuses_exactly _ (ap (λ (e : End). e.dance) c.self.view_is))
 
 pub returns-clause-same_channel : goal.returns-clause-same_channel
 returns-clause-same_channel g c = rw (← c.self.view_is)
