@@ -163,7 +163,7 @@ agreed_front d e os ps qs rs a = record {
 }
 
 -- a front of what is in flight to y
-priced_front : (d e : Deal) (p s q : List Offer) → Priced d e (p ++ s) q → Priced d e p q
+pub priced_front : (d e : Deal) (p s q : List Offer) → Priced d e (p ++ s) q → Priced d e p q
 priced_front d e p s q (inl a) =
     inl (agreed_front d e p s q [] (subst (λ r. Agreed d e (p ++ s) r) (sym (append-nil q)) a))
 priced_front d e p s q (inr a) =

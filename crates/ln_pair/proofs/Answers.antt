@@ -1,5 +1,5 @@
 -- Over every list of steps, a shutdown that an end has taken is answered once its own updates are acknowledged.
-use Rattle.std.proofs.Common.{◌≡◌, List, [], ◌∷◌, ◌++◌, length, refl, sym, ap, ◌∙◌, arith}
+use Rattle.std.proofs.Common.{◌≡◌, ℕ, List, [], ◌∷◌, ◌++◌, length, refl, sym, ap, ◌∙◌, arith}
 use Rattle.std.proofs.Common.{Bool, true, false, cond, not, ◌&&◌, Option, Some, None, Result, Ok, Err, eqb-true}
 use Rattle.std.proofs.lemmas.List.{length_push}
 use Rattle.ln_msgs.specs.declared.messages.message.Message.{Message}
@@ -34,7 +34,7 @@ use Rattle.ln_channel.specs.Resume.{resumed}
 use Rattle.ln_channel.specs.State.{is_down}
 use Rattle.ln_channel.specs.Step.{faulted, line_fault}
 use Rattle.ln_pair.specs.Ends.{Ends, opened, turned, message_at, command_at, answers, delivers, connects, Act, Deliver}
-use Rattle.ln_pair.specs.Ends.{Give, Note, Lose, acts, Step, By, Connect, happens, run}
+use Rattle.ln_pair.specs.Ends.{Give, Note, Lose, Cut, still_come, acts, Step, By, Connect, happens, run}
 use Rattle.ln_pair.specs.Promises.{AreKeys}
 use Rattle.ln_pair.specs.Answers.{HasAnswered, BothHaveAnswered}
 use Rattle.ln_pair.proofs.Moving.{log_within}
@@ -167,6 +167,11 @@ module _ (keys : Signer) where
   lost_so true p both = both
   lost_so false p both = (λ e. absurd (cc), both.1)
 
+  cut_so : (b : Bool) (n : ℕ) (p : Ends) → BothHaveAnswered p
+      → BothHaveAnswered (cond b (record p { to_y = still_come n p.y_line p.to_y }) p)
+  cut_so true n p both = both
+  cut_so false n p both = both
+
   delivered_so : (ms : List Message) (p : Ends) → BothHaveAnswered p → BothHaveAnswered (delivers keys ms p)
   delivered_so [] p both = both
   delivered_so (m ∷ ms) p both =
@@ -178,6 +183,7 @@ module _ (keys : Signer) where
       answering_so (command_at keys p.x_line c p.x) p (command_so p.x_line c p.x w both.0) both
   acts_so (Note c) p w both = both
   acts_so Lose p w both = lost_so (is_down p.x_line) p both
+  acts_so (Cut n) p w both = cut_so (is_down p.x_line) n p both
 
 connects_so : (a b : Signer) (lx ly : Line) (p : Ends) → BothHaveAnswered p → BothHaveAnswered (connects a b lx ly p)
 connects_so a b Down Down p both = (λ e. absurd (cc), λ e. absurd (cc))

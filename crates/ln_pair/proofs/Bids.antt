@@ -29,7 +29,7 @@ use Rattle.ln_channel.specs.Resume.{resumed}
 use Rattle.ln_channel.specs.State.{is_down}
 use Rattle.ln_channel.specs.Step.{faulted, line_fault}
 use Rattle.ln_pair.specs.Ends.{Ends, turned, message_at, command_at, answers, delivers, connects, Act, Deliver}
-use Rattle.ln_pair.specs.Ends.{Give, Note, Lose, acts, Step, By, Connect, happens}
+use Rattle.ln_pair.specs.Ends.{Give, Note, Lose, Cut, still_come, acts, Step, By, Connect, happens}
 use Rattle.ln_pair.proofs.Prices.{and_left, and_right}
 
 -- a funder at which closing has begun has sent one
@@ -186,6 +186,11 @@ module _ (keys : Signer) where
   lost_so true p both = both
   lost_so false p both = record { x = λ e. absurd (cc); y = both.y }
 
+  cut_so : (b : Bool) (n : ℕ) (p : Ends) → BothBid p
+      → BothBid (cond b (record p { to_y = still_come n p.y_line p.to_y }) p)
+  cut_so true n p both = record { x = both.x; y = both.y }
+  cut_so false n p both = both
+
   delivered_so : (ms : List Message) (p : Ends) → BothBid p → BothBid (delivers keys ms p)
   delivered_so [] p both = both
   delivered_so (m ∷ ms) p both = answering_so (message_at keys p.x_line m p.x) (record p { to_x = ms })
@@ -196,6 +201,7 @@ module _ (keys : Signer) where
   acts_so (Give c) p w both = answering_so (command_at keys p.x_line c p.x) p (command_so p.x_line c p.x w both.x) both
   acts_so (Note c) p w both = record { x = both.x; y = both.y }
   acts_so Lose p w both = lost_so (is_down p.x_line) p both
+  acts_so (Cut n) p w both = cut_so (is_down p.x_line) n p both
 
 connects_so : (a b : Signer) (lx ly : Line) (p : Ends) → BothBid p → BothBid (connects a b lx ly p)
 connects_so a b Down Down p both = record { x = λ e. absurd (cc); y = λ e. absurd (cc) }

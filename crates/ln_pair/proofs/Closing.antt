@@ -90,6 +90,18 @@ module _ (k : Signer) (f : Fees) where
   closes-push w r s g (Close m ∷ ms) ns n h = (h.0, closes-push w r s g ms ns n h.1)
   closes-push w r s g (Again m ∷ ms) ns n h = closes-push w r s g ms ns n h
 
+  -- what is lost is a tail
+  pub closes-front : (w : Closer) (r : ℕ) (s : Bool) (g : ℕ) (ms ns : List Notice) → Closes k f w r s g (ms ++ ns)
+      → Closes k f w r s g ms
+  closes-front w r s g [] ns h = tt
+  closes-front w r s g (Update u ∷ ms) ns h = closes-front w r s (g + 1) ms ns h
+  closes-front w r s g (Sign m ∷ ms) ns h = closes-front w r s g ms ns h
+  closes-front w r s g (Revoke m ∷ ms) ns h = closes-front w (r + 1) s g ms ns h
+  closes-front w r s g (Ready m ∷ ms) ns h = closes-front w r s g ms ns h
+  closes-front w r s g (Shutdown m ∷ ms) ns h = closes-front w r true g ms ns h
+  closes-front w r s g (Close m ∷ ms) ns h = (h.0, closes-front w r s g ms ns h.1)
+  closes-front w r s g (Again m ∷ ms) ns h = closes-front w r s g ms ns h
+
   -- what is sent holds none
   pub closes-posts : (l : Line) (w : Closer) (r : ℕ) (s : Bool) (g : ℕ) (new ms : List Notice) → NoCloses new
       → Closes k f w r s g ms → Closes k f w r s g (posts l new ms)

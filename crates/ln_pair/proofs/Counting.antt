@@ -36,7 +36,7 @@ use Rattle.ln_channel.specs.Commands.{unready_fault}
 use Rattle.ln_channel.specs.State.{is_down}
 use Rattle.ln_channel.specs.Step.{faulted, line_fault}
 use Rattle.ln_pair.specs.Ends.{Ends, turned, opened, message_at, answers, delivers, notes, Act, Deliver, Give}
-use Rattle.ln_pair.specs.Ends.{Note, Lose, acts}
+use Rattle.ln_pair.specs.Ends.{Note, Lose, Cut, still_come, acts}
 use Rattle.ln_pair.specs.Ends.{connects, Step, By, Connect, happens, run}
 use Rattle.ln_pair.specs.Promises.{AreKeys, AreSent}
 use Rattle.ln_pair.proofs.Sides.{Notice, Update, Sign, Revoke, Ready, Shutdown, Close, Again}
@@ -162,6 +162,11 @@ module _ (a b : Signer) (keys : AreKeys a b) where
   lost_by true p s = record { x = s; y = refl }
   lost_by false p s = record { x = s; y = refl }
 
+  cut_by : (down : Bool) (n : ℕ) (p : Ends) → Steady p.x
+      → Stays p (cond down (record p { to_y = still_come n p.y_line p.to_y }) p)
+  cut_by true n p s = record { x = s; y = refl }
+  cut_by false n p s = record { x = s; y = refl }
+
   acts_steady : (act : Act) (p : Ends) → Steady p.x → AreSent p.y.closing.fees → Holds a b p → Stays p (acts a act p)
   acts_steady Deliver p s sent h =
       let is = h.in_x in
@@ -171,6 +176,7 @@ module _ (a b : Signer) (keys : AreKeys a b) where
   acts_steady (Note c) p s sent h =
       record { x = noted_steady p.x (notes c p).x.ledger (noted c p.x) s; y = refl }
   acts_steady Lose p s sent h = lost_by (is_down p.x_line) p s
+  acts_steady (Cut n) p s sent h = cut_by (is_down p.x_line) n p s
 
 -- ---- steps
 

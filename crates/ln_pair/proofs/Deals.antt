@@ -41,7 +41,7 @@ use Rattle.ln_channel.specs.Commands.{shuts_down, shut_fault, unready_fault}
 use Rattle.ln_keys.specs.declared.role.Role.TheVariants.{Funder, Fundee}
 use Rattle.ln_pair.specs.Ends.{messages_in, met_again, message_at, command_at, Ends, turned, answers, delivers, Act}
 use Rattle.ln_pair.specs.Ends.{Deliver}
-use Rattle.ln_pair.specs.Ends.{Give, Note, Lose, acts, connects, Step, By, Connect, happens, run}
+use Rattle.ln_pair.specs.Ends.{Give, Note, Lose, Cut, still_come, acts, connects, Step, By, Connect, happens, run}
 use Rattle.ln_pair.specs.Promises.{is_closing_signed}
 
 -- the range that an end tells
@@ -303,6 +303,11 @@ loses_fees : (down : Bool) (p : Ends)
 loses_fees true p = record { x = refl; y = refl }
 loses_fees false p = record { x = refl; y = refl }
 
+cuts_fees : (down : Bool) (n : ℕ) (p : Ends)
+    → SameFees p (cond down (record p { to_y = still_come n p.y_line p.to_y }) p)
+cuts_fees true n p = record { x = refl; y = refl }
+cuts_fees false n p = record { x = refl; y = refl }
+
 acts_fees : (k : Signer) (act : Act) (p : Ends) → SameFees p (acts k act p)
 acts_fees k Deliver p = delivers_fees k p.to_x p
 acts_fees k (Give c) p = answers_fees (command_at k p.x_line c p.x) p
@@ -310,6 +315,7 @@ acts_fees k (Give c) p = answers_fees (command_at k p.x_line c p.x) p
     (faulted_fees (line_fault p.x_line) (command_row k c p.x) p.x (command_fees k c p.x (is_shutdown c) refl)))
 acts_fees k (Note c) p = record { x = refl; y = refl }
 acts_fees k Lose p = loses_fees (is_down p.x_line) p
+acts_fees k (Cut n) p = cuts_fees (is_down p.x_line) n p
 
 connects_fees : (a b : Signer) (lx ly : Line) (p : Ends) → SameFees p (connects a b lx ly p)
 connects_fees a b Down Down p = record { x = refl; y = refl }

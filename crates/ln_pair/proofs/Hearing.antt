@@ -30,7 +30,8 @@ use Rattle.ln_channel.specs.Taking.{answering, answered, answered_end, range_in,
 use Rattle.ln_channel.specs.Commands.{command_row, shuts_down, shut_fault, unready_fault}
 use Rattle.ln_channel.specs.Resume.{resumed, sent_again}
 use Rattle.ln_pair.specs.Ends.{Ends, turned, message_at, met_again, messages_in, arrive, becomes, answers}
-use Rattle.ln_pair.specs.Ends.{delivers, Act, Deliver, Give, Note, Lose, acts, connects, Step, By, Connect, happens}
+use Rattle.ln_pair.specs.Ends.{delivers, still_come, Act, Deliver, Give, Note, Lose, Cut, acts, connects, Step, By}
+use Rattle.ln_pair.specs.Ends.{Connect, happens}
 use Rattle.ln_pair.specs.Promises.{is_closing_signed, IsTaken, AcceptsFront, AllTaken}
 use Rattle.ln_pair.proofs.Sides.{closes_of}
 use Rattle.ln_pair.proofs.Agreed.{Deal, Offer, Priced, AllAre, Offers, Fair, dealt, swap}
@@ -466,12 +467,25 @@ loses_by false p h = record {
   their_last = λ met up. absurd (up refl);
 }
 
+cuts_by : (down : Bool) (n : ℕ) (p : Ends) → is_down p.x_line ≡ down → IsHeard p
+    → IsHeard (cond down (record p { to_y = still_come n p.y_line p.to_y }) p)
+cuts_by false n p is h = h
+cuts_by true n p is h = record {
+  firm = h.firm;
+  their_firm = h.their_firm;
+  known = h.known;
+  their_known = h.their_known;
+  last = λ met. absurd (let no : true ≡ false = sym is ∙ ap is_down met in cc);
+  their_last = h.their_last;
+}
+
 acts_by : (k : Signer) (act : Act) (p : Ends) → AcceptsFront k p.x_line p.to_x p.x → At p → IsHeard p
     → IsHeard (acts k act p)
 acts_by k Deliver p is c h = delivers_by k p.to_x p is c h h
 acts_by k (Give c) p is q h = given_by (unready_fault c p.x) p.x_line k c p refl h
 acts_by k (Note d) p is c h = h
 acts_by k Lose p is c h = loses_by (is_down p.x_line) p h
+acts_by k (Cut n) p is c h = cuts_by (is_down p.x_line) n p refl h
 
 turned_by : (p : Ends) → IsHeard p → IsHeard (turned p)
 turned_by p h = record {

@@ -20,6 +20,7 @@ pub mod Begins
 pub mod Resends
 pub mod Breaks
 pub mod Turns
+pub mod Cuts
 pub mod Runs
 pub mod Opens
 pub mod Prices

@@ -47,8 +47,8 @@ use Rattle.ln_channel.specs.Commands.{sign_command_fault}
 use Rattle.ln_channel.specs.Commands.{signs_next, shut_fault, shuts_down, command_row, unready_fault}
 use Rattle.ln_channel.specs.State.{is_down}
 use Rattle.ln_channel.specs.Step.{faulted, line_fault}
-use Rattle.ln_pair.specs.Ends.{Ends, turned, message_at, becomes, answers, delivers, Act, Deliver, Give, Note, Lose}
-use Rattle.ln_pair.specs.Ends.{acts}
+use Rattle.ln_pair.specs.Ends.{Ends, turned, message_at, becomes, answers, delivers, still_come, Act, Deliver, Give}
+use Rattle.ln_pair.specs.Ends.{Note, Lose, Cut, acts}
 use Rattle.ln_pair.specs.Ends.{opened, connects, Step, By, Connect, happens, run}
 use Rattle.ln_pair.specs.Promises.{AreKeys, party}
 use Rattle.ln_pair.specs.Setup.{setup_of, AreSetUp}
@@ -268,6 +268,11 @@ module _ (a b : Signer) (keys : AreKeys a b) (r : Role) (o : Opening) where
     other = refl;
   }
 
+  cut_by : (down : Bool) (n : ℕ) (p : Ends) → Stands r o p.x
+      → Moved r o [] p (cond down (record p { to_y = still_come n p.y_line p.to_y }) p)
+  cut_by true n p s = rests p (record p { to_y = still_come n p.y_line p.to_y }) refl refl s
+  cut_by false n p s = rests p p refl refl s
+
   pub acts_so : (act : Act) (p : Ends) → Stands r o p.x → Holds a b p
       → Moved r o (moves_of_act a r act p) p (acts a act p)
   acts_so Deliver p s h = delivered p s h
@@ -278,6 +283,7 @@ module _ (a b : Signer) (keys : AreKeys a b) (r : Role) (o : Opening) where
     other = refl;
   }
   acts_so Lose p s h = lost_by (is_down p.x_line) p s h
+  acts_so (Cut n) p s h = cut_by (is_down p.x_line) n p s
 
 -- ---- steps
 

@@ -34,15 +34,16 @@ use Rattle.ln_channel.specs.Taking.{answering, answered, answered_end, range_in,
 use Rattle.ln_channel.specs.Commands.{command_row, shuts_down, shut_fault, unready_fault}
 use Rattle.ln_channel.specs.Resume.{resumed, sent_again}
 use Rattle.ln_pair.specs.Ends.{Ends, turned, message_at, met_again, messages_in, arrive, becomes, answers}
-use Rattle.ln_pair.specs.Ends.{delivers, Act, Deliver, Give, Note, Lose, acts, connects, Step, By, Connect, happens}
-use Rattle.ln_pair.specs.Ends.{run}
+use Rattle.ln_pair.specs.Ends.{delivers, still_come, Act, Deliver, Give, Note, Lose, Cut, acts, connects, Step, By}
+use Rattle.ln_pair.specs.Ends.{Connect, happens, run}
 use Rattle.ln_pair.specs.Ends.{opened}
 use Rattle.ln_pair.specs.Promises.{is_closing_signed}
 use Rattle.ln_pair.proofs.Sides.{Notice, Update, Sign, Revoke, Ready, Shutdown, Close, Again, closes_of, owed}
 use Rattle.ln_pair.proofs.Sides.{ready_again, shutdown_again}
 use Rattle.ln_pair.proofs.Closing.{NoCloses, when_none, owed_none}
 use Rattle.ln_pair.proofs.Agreed.{Deal, Offer, Agreed, Priced, dealt, swap, priced_none, again, first_bid, taken_dealt}
-use Rattle.ln_pair.proofs.Agreed.{passed_over, not_none}
+use Rattle.ln_pair.proofs.Agreed.{passed_over, not_none, priced_front}
+use Rattle.ln_pair.proofs.Cuts.{front}
 use Rattle.ln_pair.proofs.Deals.{deal_of, offer_in, offers_in, IsAside, Aside, aside_message, aside_command}
 use Rattle.ln_pair.proofs.Deals.{is_shutdown, no_bid}
 use Rattle.ln_pair.proofs.Rules.{Says, none_is, says}
@@ -362,6 +363,17 @@ loses_at true p h = h
 loses_at false p h =
     priced_none (deal_of p.x.closing) (deal_of p.y.closing) (offers_in p.to_y) (offers_in p.to_x) h
 
+-- a beginning of what is in flight
+cuts_at : (down : Bool) (n : ℕ) (p : Ends) → At p
+    → At (cond down (record p { to_y = still_come n p.y_line p.to_y }) p)
+cuts_at false n p h = h
+cuts_at true n p h =
+    let left = still_come n p.y_line p.to_y in
+    let lost = front n p.y_line p.to_y in
+    priced_front (deal_of p.x.closing) (deal_of p.y.closing) (offers_in left) (offers_in lost.0) (offers_in p.to_x)
+    (subst (λ os. Priced (deal_of p.x.closing) (deal_of p.y.closing) os (offers_in p.to_x))
+    (ap offers_in (sym lost.1) ∙ offers-append left lost.0) h)
+
 acts_at : (k : Signer) (act : Act) (p : Ends) → At p → At (acts k act p)
 acts_at k Deliver p h = delivers_at k p.to_x p h h
 acts_at k (Give c) p h =
@@ -369,6 +381,7 @@ acts_at k (Give c) p h =
     (faulted_at (line_fault p.x_line) (command_row k c p.x) p (command_by k c (is_shutdown c) p refl h) h) h
 acts_at k (Note c) p h = h
 acts_at k Lose p h = loses_at (is_down p.x_line) p h
+acts_at k (Cut n) p h = cuts_at (is_down p.x_line) n p h
 
 pub turned_at : (p : Ends) → At p → At (turned p)
 turned_at p h = swap (deal_of p.x.closing) (deal_of p.y.closing) (offers_in p.to_y) (offers_in p.to_x) h

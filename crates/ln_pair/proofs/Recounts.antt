@@ -31,7 +31,7 @@ use Rattle.ln_channel.specs.Commands.{shut_fault, shuts_down, command_row, unrea
 use Rattle.ln_channel.specs.State.{is_down}
 use Rattle.ln_channel.specs.Step.{faulted, line_fault}
 use Rattle.ln_pair.specs.Ends.{Ends, turned, message_at, answers, delivers, ledger_behind, notes, Act, Deliver, Give}
-use Rattle.ln_pair.specs.Ends.{Note, Lose, acts}
+use Rattle.ln_pair.specs.Ends.{Note, Lose, Cut, still_come, acts}
 use Rattle.ln_pair.specs.Ends.{opened, connects, Step, By, Connect, happens, run}
 use Rattle.ln_pair.specs.Promises.{AreKeys, party}
 use Rattle.ln_pair.specs.Moves.{moves_asked, moves_of_command, moves_of_message, moves_delivered}
@@ -563,6 +563,11 @@ module _ (a b : Signer) (keys : AreKeys a b) (r : Role) (o : Opening) where
   lost_by false p = silent r o p.x (end_dropped p.x) (party p.y) (Drop r ∷ []) [] refl refl (λ q. refl)
       (λ w. keep_dropped p.x.dance.log p.x.closing.closed w)
 
+  cut_by : (down : Bool) (n : ℕ) (p : Ends)
+      → Tells r o p.x (cond down (record p { to_y = still_come n p.y_line p.to_y }) p).x (party p.y) [] []
+  cut_by true n p = rests p p refl
+  cut_by false n p = rests p p refl
+
   noted_told : (c : Command) (p : Ends) → Tells r o p.x (notes c p).x (party p.y) [] []
   noted_told c p =
       let l = ledger_behind (ledgered c p.x) p.x.ledger in
@@ -583,6 +588,7 @@ module _ (a b : Signer) (keys : AreKeys a b) (r : Role) (o : Opening) where
   acts_told (Give c) p h = commanded_by (unready_fault c p.x) p.x_line c p
   acts_told (Note c) p h = noted_told c p
   acts_told Lose p h = lost_by (is_down p.x_line) p
+  acts_told (Cut n) p h = cut_by (is_down p.x_line) n p
 
 -- ---- steps
 

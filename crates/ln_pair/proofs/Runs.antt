@@ -35,7 +35,8 @@ use Rattle.ln_channel.specs.State.{is_down}
 use Rattle.ln_channel.specs.Step.{faulted, line_fault}
 use Rattle.ln_channel.specs.Resume.{resumed}
 use Rattle.ln_pair.specs.Ends.{Ends, turned, message_at, messages_in, arrive, becomes, answers, delivers, Act, Deliver}
-use Rattle.ln_pair.specs.Ends.{notes, Give, Note, Lose, acts, connects, Step, By, Connect, happens, run}
+use Rattle.ln_pair.specs.Ends.{notes, still_come, Give, Note, Lose, Cut, acts, connects, Step, By, Connect, happens}
+use Rattle.ln_pair.specs.Ends.{run}
 use Rattle.ln_pair.specs.Promises.{AreKeys}
 use Rattle.std.proofs.Common.{not}
 use Rattle.std.specs.Prelude.{option_map}
@@ -57,6 +58,7 @@ use Rattle.ln_pair.proofs.Images.{message_of, messages_of, messages-append}
 use Rattle.ln_pair.proofs.Steps.{sent_as, Hold, flip, numbered, confirms, proposed_so, signed_so, shuts}
 use Rattle.ln_pair.proofs.Resends.{in-append}
 use Rattle.ln_pair.proofs.Breaks.{again_row, lacked, again_sends, took_again, lost_so, joined_so}
+use Rattle.ln_pair.proofs.Cuts.{messages_left, cut_so}
 use Rattle.ln_pair.proofs.Turns.{turn_of, sent_by, sends_so, row, took, shutdown_notice, owes_by}
 
 -- ---- two ends
@@ -465,6 +467,18 @@ module _ (a b : Signer) (keys : AreKeys a b) where
     hold = lost_so a b h.channel p.x_line p.y_line p.x p.y h.to_x h.to_y p.said_x p.said_y h.hold;
   }
 
+  cut_by : (down : Bool) (n : ℕ) (p : Ends) → is_down p.x_line ≡ down → Holds a b p
+      → Holds a b (cond down (record p { to_y = still_come n p.y_line p.to_y }) p)
+  cut_by false n p is h = h
+  cut_by true n p is h = record {
+    channel = h.channel;
+    to_x = h.to_x;
+    to_y = still_come n p.y_line h.to_y;
+    in_x = h.in_x;
+    in_y = ap (still_come n p.y_line) h.in_y ∙ messages_left h.channel n p.y_line h.to_y;
+    hold = cut_so a b h.channel n p.x_line p.y_line p.x p.y h.to_x h.to_y p.said_x p.said_y is h.hold;
+  }
+
   pub acted : (act : Act) (p : Ends) → Holds a b p
       → Holds a b (acts a act p)
   acted Deliver p h = delivered p h
@@ -478,6 +492,7 @@ module _ (a b : Signer) (keys : AreKeys a b) where
     hold = numbered a b h.channel p.x_line p.y_line p.x p.y h.to_x h.to_y p.said_x p.said_y (notes c p).x.ledger h.hold;
   }
   acted Lose p h = lost_by (is_down p.x_line) p h
+  acted (Cut n) p h = cut_by (is_down p.x_line) n p refl h
 
 -- ---- steps
 

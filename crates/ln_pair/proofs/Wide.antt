@@ -28,7 +28,8 @@ use Rattle.ln_channel.specs.Commands.{command_row, unready_fault}
 use Rattle.ln_channel.specs.State.{is_down}
 use Rattle.ln_channel.specs.Step.{faulted, line_fault}
 use Rattle.ln_pair.specs.Ends.{Ends, turned, opened, messages_in, message_at, command_at, arrive, answers}
-use Rattle.ln_pair.specs.Ends.{delivers, Act, Deliver, Give, Note, Lose, acts, connects, Step, By, Connect}
+use Rattle.ln_pair.specs.Ends.{still_come}
+use Rattle.ln_pair.specs.Ends.{delivers, Act, Deliver, Give, Note, Lose, Cut, acts, connects, Step, By, Connect}
 use Rattle.ln_pair.specs.Ends.{happens, run}
 use Rattle.ln_pair.specs.Promises.{AreKeys}
 use Rattle.ln_pair.specs.Widths.{IsUpdate, IsCommand}
@@ -47,6 +48,7 @@ ActIsWide Deliver = Unit {0}
 ActIsWide (Give c) = IsCommand c
 ActIsWide (Note c) = IsCommand c
 ActIsWide Lose = Unit {0}
+ActIsWide (Cut n) = Unit {0}
 
 abbrev pub StepIsWide : Step → Type 0
 StepIsWide (By side act) = ActIsWide act
@@ -120,6 +122,17 @@ module _ (k : Signer) (o q : Origin) where
   loses_fit true p h = h
   loses_fit false p h = record { x = dropped_fits p.x h.x; y = h.y; to_x = tt; to_y = h.to_y }
 
+  left_wide : (n : ℕ) (l : Line) (ms : List Message) → All CarriesWide ms → All CarriesWide (still_come n l ms)
+  left_wide n Down ms h = h
+  left_wide n Awaiting [] h = tt
+  left_wide n Awaiting (m ∷ ms) h = (h.0, all-take CarriesWide n ms h.1)
+  left_wide n Met ms h = all-take CarriesWide n ms h
+
+  cuts_fit : (down : Bool) (n : ℕ) (p : Ends) → BothFit o q p
+      → BothFit o q (cond down (record p { to_y = still_come n p.y_line p.to_y }) p)
+  cuts_fit true n p h = record { x = h.x; y = h.y; to_x = h.to_x; to_y = left_wide n p.y_line p.to_y h.to_y }
+  cuts_fit false n p h = h
+
   acts_fit : (act : Act) (p : Ends) → ActIsWide act → BothFit o q p → BothFit o q (acts k act p)
   acts_fit Deliver p wide h = delivers_fit p.to_x p h.to_x h
   acts_fit (Give c) p wide h =
@@ -129,6 +142,7 @@ module _ (k : Signer) (o q : Origin) where
       (faulted_fits (line_fault p.x_line) row (command_fits k o c p.x wide h.x))) h
   acts_fit (Note c) p wide h = record { x = noted_fits o c p.x wide h.x; y = h.y; to_x = h.to_x; to_y = h.to_y }
   acts_fit Lose p wide h = loses_fit (is_down p.x_line) p h
+  acts_fit (Cut n) p wide h = cuts_fit (is_down p.x_line) n p h
 
 -- ---- steps
 

@@ -1,7 +1,7 @@
 -- The two ends of one channel, and the messages between them, over connections that come and go (BOLT 2). What an end
 -- does is told from that end, as x, with the other at y: what a message or a command makes of an end is what its own
 -- rows say.
-use Rattle.std.specs.Prelude.{List, [], ◌∷◌, ◌++◌, Result, Ok, Err, if◌then◌else◌}
+use Rattle.std.specs.Prelude.{ℕ, List, [], ◌∷◌, ◌++◌, take, Result, Ok, Err, if◌then◌else◌}
 use Rattle.ln_msgs.specs.declared.messages.message.Message.{Message}
 use Rattle.ln_msgs.specs.declared.messages.message.Message.TheVariants as message
 use Rattle.ln_msgs.specs.declared.refusals.refusal.Refusal.{Refusal}
@@ -114,7 +114,7 @@ abbrev pub delivers : Signer → List Message → Ends → Ends
 delivers keys [] p = p
 delivers keys (m ∷ ms) p = answers (message_at keys p.x_line m p.x) (record p { to_x = ms })
 
--- x loses its connection, and what is in flight to it; what it has sent may still come to y
+-- x loses its connection, and what is in flight to it; what it has sent may still come to y, or the first of it
 abbrev pub loses : Ends → Ends
 loses p = if is_down p.x_line then p else record p { x_line = Down; x = end_dropped p.x; to_x = [] }
 
@@ -126,17 +126,30 @@ ledger_behind (Err r) old = old
 abbrev pub notes : Command → Ends → Ends
 notes c p = record p { x = record p.x { ledger = ledger_behind (ledgered c p.x) p.x.ledger } }
 
+-- of what was sent to an end, the first messages still come, behind the channel_reestablish that an end waits for
+abbrev pub still_come : {A : Type 0} → ℕ → Line → List A → List A
+still_come n Down ms = ms
+still_come n Awaiting [] = []
+still_come n Awaiting (m ∷ ms) = m ∷ take n ms
+still_come n Met ms = take n ms
+
+-- x has lost its connection, and with it what it had sent last
+abbrev pub cuts : ℕ → Ends → Ends
+cuts n p = if is_down p.x_line then record p { to_y = still_come n p.y_line p.to_y } else p
+
 pub data Act : Type 0 where
   Deliver : Act
   Give : (c : Command) → Act
   Note : (c : Command) → Act
   Lose : Act
+  Cut : (left : ℕ) → Act
 
 abbrev pub acts : Signer → Act → Ends → Ends
 acts keys Deliver p = delivers keys p.to_x p
 acts keys (Give c) p = answers (command_at keys p.x_line c p.x) p
 acts keys (Note c) p = notes c p
 acts keys Lose p = loses p
+acts keys (Cut n) p = cuts n p
 
 -- ---- steps, where the funder, of keys a, is x, and the fundee, of keys b, is y
 

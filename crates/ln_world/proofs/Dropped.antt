@@ -1,5 +1,5 @@
 -- An end that has no connection is as a lost connection leaves it.
-use Rattle.std.proofs.Common.{◌≡◌, List, [], ◌∷◌, ap, ◌∙◌, arith, take, Bool, true, false, cond, Result, Ok, Err}
+use Rattle.std.proofs.Common.{◌≡◌, ℕ, List, [], ◌∷◌, ap, ◌∙◌, arith, take, Bool, true, false, cond, Result, Ok, Err}
 use Rattle.std.proofs.lemmas.List.{take-take}
 use Rattle.ln_msgs.specs.declared.messages.message.Message.{Message}
 use Rattle.ln_msgs.specs.declared.refusals.refusal.Refusal.{Refusal}
@@ -12,7 +12,8 @@ use Rattle.ln_channel.specs.declared.unsaved.Line.TheVariants.{Down, Awaiting, M
 use Rattle.ln_channel.specs.declared.opening.Opened.{Opened}
 use Rattle.ln_channel.specs.End.{End, Turn, with_dance, end_dropped}
 use Rattle.ln_channel.specs.State.{is_down}
-use Rattle.ln_pair.specs.Ends.{Ends, Step, By, Connect, Act, Deliver, Give, Note, Lose, message_at, command_at}
+use Rattle.ln_pair.specs.Ends.{Ends, Step, By, Connect, Act, Deliver, Give, Note, Lose, Cut, message_at}
+use Rattle.ln_pair.specs.Ends.{command_at}
 use Rattle.ln_pair.specs.Ends.{ledger_behind}
 use Rattle.ln_channel.specs.Commands.{ledgered}
 use Rattle.ln_pair.specs.Ends as pair
@@ -54,6 +55,11 @@ lost_so : (b : Bool) (q : Ends) → AreDropped q
 lost_so true q h = h
 lost_so false q h = record { x = λ e. dropped_twice q.x; y = h.y }
 
+cut_so : (b : Bool) (n : ℕ) (q : Ends) → AreDropped q
+    → AreDropped (cond b (record q { to_y = pair.still_come n q.y_line q.to_y }) q)
+cut_so true n q h = record { x = h.x; y = h.y }
+cut_so false n q h = h
+
 acted_so : (keys : Signer) (a : Act) (q : Ends) → AreDropped q → AreDropped (pair.acts keys a q)
 acted_so keys Deliver q h = delivered_so keys q.to_x q h
 acted_so keys (Give c) q h = answered_so (command_at keys q.x_line c q.x) q h
@@ -62,6 +68,7 @@ acted_so keys (Note c) q h = record {
   y = h.y;
 }
 acted_so keys Lose q h = lost_so (is_down q.x_line) q h
+acted_so keys (Cut n) q h = cut_so (is_down q.x_line) n q h
 
 module _ (a b : Signer) where
   connected_so : (lx ly : Line) (q : Ends) → AreDropped q → AreDropped (pair.connects a b lx ly q)
