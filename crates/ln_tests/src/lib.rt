@@ -1,5 +1,5 @@
-//! The tests of a channel and of the crates that it stands on, by their public calls alone. They stand in a crate of their own because a crate with
-//! tests is proved twice, with them and without.
+//! The tests of a channel and of the crates that it stands on, by their public calls alone. They stand in a crate of
+//! their own because a crate with tests is proved twice, with them and without.
 #![tactic(auto)]
 
 mod refusal;
