@@ -94,9 +94,10 @@ impl Channel {
 
     // Proposes an update to the log.
     fn propose_next(&mut self, update: Update) -> Result<(), Refusal>
-        requires { HasNextId self.old.dance.log.own update }
-        ensures refuses_exactly { AnswersFault (proposal_fault self.old.dance.log update) result }
-        ensures state { OnOk result (self.new ≡ proposes update self.old) }
+        requires { (e : End) → StandsFor self.old e → HasNextId e.dance.log.own update }
+        ensures refuses_exactly { (e : End) → StandsFor self.old e
+            → AnswersFault (proposal_fault e.dance.log update) result }
+        ensures state { (e : End) → StandsFor self.old e → OnOk result (StandsFor self.new (proposes update e)) }
         ensures changes_nothing_if_refused { OnErr result (self.new ≡ self.old) }
         ensures same_channel { self.new.dance.channel ≡ self.old.dance.channel }
     {
@@ -105,9 +106,9 @@ impl Channel {
 
     // Proposes an update, which has the next id where it is an add.
     fn propose(&mut self, update: Update) -> Result<(), Refusal>
-        requires { HasNextId self.old.dance.log.own update }
-        ensures refuses_exactly { AnswersFault (propose_fault self.old update) result }
-        ensures state { OnOk result (self.new ≡ proposes update self.old) }
+        requires { (e : End) → StandsFor self.old e → HasNextId e.dance.log.own update }
+        ensures refuses_exactly { (e : End) → StandsFor self.old e → AnswersFault (propose_fault e update) result }
+        ensures state { (e : End) → StandsFor self.old e → OnOk result (StandsFor self.new (proposes update e)) }
         ensures changes_nothing_if_refused { OnErr result (self.new ≡ self.old) }
         ensures same_channel { self.new.dance.channel ≡ self.old.dance.channel }
     {
@@ -122,7 +123,7 @@ impl Channel {
     /// Errors: 40 before both sides have confirmed; 46 where this side has 2^62 updates; 43 where either side has shut
     /// down; 44 with the number by which the peer would refuse it, 23 to 27; 60.
     fn offer(&mut self, alloc: Global, add: Add) -> Result<Outbox, Refusal>
-        requires { add.id ≡ next_id self.old.dance.log.own }
+        requires { (e : End) → StandsFor self.old e → add.id ≡ next_id e.dance.log.own }
         ensures makes { Makes (propose_row (update.Add add) self.old) result self.old self.new }
         ensures same_channel { self.new.dance.channel ≡ self.old.dance.channel }
     {
@@ -194,9 +195,10 @@ impl Channel {
         alloc: Global,
         keys: &K,
     ) -> Result<CommitmentSigned, Refusal>
-        ensures refuses_exactly { AnswersFault (sign_command_fault self.old) result }
-        ensures message { IfOk result (λ m. m ≡ signed_message (K.signer keys.now) self.old.dance) }
-        ensures state { OnOk result (self.new ≡ signs_next self.old) }
+        ensures refuses_exactly { (e : End) → StandsFor self.old e → AnswersFault (sign_command_fault e) result }
+        ensures message { (e : End) → StandsFor self.old e
+            → IfOk result (λ m. m ≡ signed_message (K.signer keys.now) e.dance) }
+        ensures state { (e : End) → StandsFor self.old e → OnOk result (StandsFor self.new (signs_next e)) }
         ensures changes_nothing_if_refused { OnErr result (self.new ≡ self.old) }
         ensures same_channel { self.new.dance.channel ≡ self.old.dance.channel }
     {

@@ -78,8 +78,9 @@ impl Channel {
 
     // Takes an update into the log.
     fn receive(&mut self, update: Update) -> Result<(), Refusal>
-        ensures refuses_exactly { AnswersFault (taken_fault self.old.dance.log update) result }
-        ensures state { OnOk result (self.new ≡ takes update self.old) }
+        ensures refuses_exactly { (e : End) → StandsFor self.old e
+            → AnswersFault (taken_fault e.dance.log update) result }
+        ensures state { (e : End) → StandsFor self.old e → OnOk result (StandsFor self.new (takes update e)) }
         ensures changes_nothing_if_refused { OnErr result (self.new ≡ self.old) }
         ensures same_channel { self.new.dance.channel ≡ self.old.dance.channel }
     {
@@ -109,10 +110,11 @@ impl Channel {
         keys: &K,
         message: &CommitmentSigned,
     ) -> Result<RevokeAndAck, Refusal>
-        ensures refuses_exactly { AnswersSignature (accept_fault (K.signer keys.now) message.now self.old.dance)
-            result }
-        ensures message { IfOk result (λ m. m ≡ revoked_message (K.signer keys.now) self.old.dance) }
-        ensures state { OnOk result (self.new ≡ accepts self.old) }
+        ensures refuses_exactly { (e : End) → StandsFor self.old e
+            → AnswersSignature (accept_fault (K.signer keys.now) message.now e.dance) result }
+        ensures message { (e : End) → StandsFor self.old e
+            → IfOk result (λ m. m ≡ revoked_message (K.signer keys.now) e.dance) }
+        ensures state { (e : End) → StandsFor self.old e → OnOk result (StandsFor self.new (accepts e)) }
         ensures grows { OnOk result (self.old.dance.log.current.own ≤ self.new.dance.log.current.own) }
         ensures first_stays_below { OnOk result (self.new.dance.log.first.own ≤ self.old.dance.log.current.own) }
         ensures changes_nothing_if_refused { OnErr result (self.new ≡ self.old) }
@@ -148,8 +150,10 @@ impl Channel {
 
     // Learns a revocation.
     fn learn<K: ChannelKeys>(&mut self, keys: &K, message: &RevokeAndAck) -> Result<(), Refusal>
-        ensures refuses_exactly { result ≡ answer_of (learn_fault (K.signer keys.now) message.now self.old.dance) }
-        ensures state { OnOk result (self.new ≡ revokes message.now self.old) }
+        ensures refuses_exactly { (e : End) → StandsFor self.old e
+            → result ≡ answer_of (learn_fault (K.signer keys.now) message.now e.dance) }
+        ensures state { (e : End) → StandsFor self.old e
+            → OnOk result (StandsFor self.new (revokes message.now e)) }
         ensures grows { OnOk result (self.old.dance.log.acknowledged.peer ≤ self.new.dance.log.acknowledged.peer) }
         ensures first_stays_below { OnOk result (self.new.dance.log.first.peer ≤ self.old.dance.log.acknowledged.peer) }
         ensures changes_nothing_if_refused { OnErr result (self.new ≡ self.old) }

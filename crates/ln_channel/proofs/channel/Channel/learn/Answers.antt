@@ -17,15 +17,15 @@ invariant_of-self g c =
     (c.learn.ensures.moves_as_stated _ refl) c.learn.ensures.changes_nothing_if_refused refl refl c.self.invariant
 
 pub returns-clause-state : goal.returns-clause-state
-returns-clause-state g c =
-    let e : End = record {
+returns-clause-state g c = λ e s.
+    let k : End = record {
       dance = c.self.inside.dance;
       closing = c.self.inside.closing;
       terms = c.self.inside.terms;
       marks = c.self.inside.marks;
       ledger = c.self.inside.ledger;
     } in
-    rw (← c.self.view_is) (on_ok c.learn.result (λ s. ap (λ (d : Dancer). with_dance d e) s)
+    rw (← s, ← c.self.view_is) (on_ok c.learn.result (λ x. ap (λ (d : Dancer). with_dance d k) x)
     (c.learn.ensures.moves_as_stated _ refl))
 
 pub returns-clause-grows : goal.returns-clause-grows

@@ -1,4 +1,4 @@
-use Rattle.std.proofs.Common.{refl, ap, sym}
+use Rattle.std.proofs.Common.{refl, ap, sym, ◌∙◌}
 use Rattle.ln_msgs.specs.declared.refusals.refusal.Refusal.TheVariants as refusal
 use Rattle.ln_dance.specs.Dance.{Dancer, after_sign, sign_fault}
 use Rattle.ln_channel.specs.End.{End, with_dance, is_ready}
@@ -18,22 +18,21 @@ invariant_of-self g c =
     c.sign.ensures.changes_nothing_if_refused refl refl c.self.invariant
 
 pub returns-clause-state : goal.returns-clause-state
-returns-clause-state g c =
-    let e : End = record {
+returns-clause-state g c = λ e s.
+    let k : End = record {
       dance = c.self.inside.dance;
       closing = c.self.inside.closing;
       terms = c.self.inside.terms;
       marks = c.self.inside.marks;
       ledger = c.self.inside.ledger;
     } in
-    rw (← c.self.view_is) (on_ok c.sign.result (λ s. ap (λ (d : Dancer). with_dance d e) s)
+    rw (← s, ← c.self.view_is) (on_ok c.sign.result (λ x. ap (λ (d : Dancer). with_dance d k) x)
     (c.sign.ensures.moves_as_stated _ refl))
 
 pub returns-clause-refuses_exactly : goal.returns-clause-refuses_exactly
-returns-clause-refuses_exactly g c =
-    within_if (is_ready c.args.self.now) refusal.NotReady (sign_fault c.args.self.now.dance) c.sign.result
-    (sym (c.if-not-is_ready.ensures _ refl))
-    (c.sign.ensures.refuses_exactly _ (ap (λ (e : End). e.dance) c.self.view_is))
+returns-clause-refuses_exactly g c = λ e s.
+    within_if (is_ready e) refusal.NotReady (sign_fault e.dance) c.sign.result (sym (c.if-not-is_ready.ensures e s))
+    (c.sign.ensures.refuses_exactly e.dance (ap (λ (x : End). x.dance) (c.self.view_is ∙ s)))
 
 pub returns-clause-same_channel : goal.returns-clause-same_channel
 returns-clause-same_channel g c = rw (← c.self.view_is)
