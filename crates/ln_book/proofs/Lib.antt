@@ -1,4 +1,3 @@
 pub mod Firsts
 pub mod Each
 pub mod Rows
-pub mod Payment

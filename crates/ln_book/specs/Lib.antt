@@ -6,4 +6,3 @@ pub mod Marks
 pub mod Settled
 pub mod Kept
 pub mod Rebuild
-pub mod Payment

@@ -3,22 +3,22 @@ use Rattle.std.proofs.Common.{◌≡◌, ◌⊎◌, inl, inr, ℕ, List, [], ◌
 use Rattle.std.proofs.Common.{subst, ◌∙◌, Option, Some, None}
 use Rattle.std.specs.Prelude.{if◌then◌else◌}
 use Rattle.std.proofs.lemmas.Bool.{eqb-true}
-use Rattle.ln_book.specs.Payment.Parts.{Among, Answer, Back, By, Course, Covered, Decided, Decision, Each, Ended}
-use Rattle.ln_book.specs.Payment.Parts.{Forward, Gone, HasEnded, Held, Hold, IsAt, IsEnd, IsHeld, Kind, Mark}
-use Rattle.ln_book.specs.Payment.Parts.{NoRemoval, Note, Nowhere, Offered, Open, Out, Over, Past, Proposed, Refused}
-use Rattle.ln_book.specs.Payment.Parts.{Removal, Sent, Settled, Signed, Stage, Uncovered, Undecided, Way}
-use Rattle.ln_book.specs.Payment.Rebuild.{kept_outs, kept_removal, settled_note}
-use Rattle.ln_book.specs.Payment.Moves.{AsksToOffer, AsksToRemove, IsAnswer, WayIsAt, WayStays, after_end}
-use Rattle.ln_book.specs.Payment.Moves.{after_forget, after_sign, is_at, is_of, removal_held, removal_signed}
-use Rattle.ln_book.specs.Payment.Moves.{with_mark}
-use Rattle.ln_book.proofs.Payment.Invariant.{AtMostOne, ForNote, HasResult, IsOffered, IsOver, IsSettledOnly, Kept}
-use Rattle.ln_book.proofs.Payment.Invariant.{Names, NotAgain, Waits}
-use Rattle.ln_book.proofs.Payment.Clauses.{again_back, again_by, again_given, again_none, again_over, again_settled}
-use Rattle.ln_book.proofs.Payment.Clauses.{among_absurd, among_map, each_absurd, each_map, each_none, early_note}
-use Rattle.ln_book.proofs.Payment.Clauses.{early_removal, first_as, forwards_by_mark, none_by_mark, noted, or_else}
-use Rattle.ln_book.proofs.Payment.Clauses.{second_of, settled_later, waits_answer, waits_by, waits_forward}
-use Rattle.ln_book.proofs.Payment.Clauses.{waits_none}
-use Rattle.ln_book.proofs.Payment.Lists as lists
+use Rattle.ln_payment.specs.Parts.{Among, Answer, Back, By, Course, Covered, Decided, Decision, Each, Ended}
+use Rattle.ln_payment.specs.Parts.{Forward, Gone, HasEnded, Held, Hold, IsAt, IsEnd, IsHeld, Kind, Mark}
+use Rattle.ln_payment.specs.Parts.{NoRemoval, Note, Nowhere, Offered, Open, Out, Over, Past, Proposed, Refused}
+use Rattle.ln_payment.specs.Parts.{Removal, Sent, Settled, Signed, Stage, Uncovered, Undecided, Way}
+use Rattle.ln_payment.specs.Rebuild.{kept_outs, kept_removal, settled_note}
+use Rattle.ln_payment.specs.Moves.{AsksToOffer, AsksToRemove, IsAnswer, WayIsAt, WayStays, after_end}
+use Rattle.ln_payment.specs.Moves.{after_forget, after_sign, is_at, is_of, removal_held, removal_signed}
+use Rattle.ln_payment.specs.Moves.{with_mark}
+use Rattle.ln_payment.proofs.Invariant.{AtMostOne, ForNote, HasResult, IsOffered, IsOver, IsSettledOnly, Kept}
+use Rattle.ln_payment.proofs.Invariant.{Names, NotAgain, Waits}
+use Rattle.ln_payment.proofs.Clauses.{again_back, again_by, again_given, again_none, again_over, again_settled}
+use Rattle.ln_payment.proofs.Clauses.{among_absurd, among_map, each_absurd, each_map, each_none, early_note}
+use Rattle.ln_payment.proofs.Clauses.{early_removal, first_as, forwards_by_mark, none_by_mark, noted, or_else}
+use Rattle.ln_payment.proofs.Clauses.{second_of, settled_later, waits_answer, waits_by, waits_forward}
+use Rattle.ln_payment.proofs.Clauses.{waits_none}
+use Rattle.ln_payment.proofs.Lists as lists
 
 -- ---- Decide, Resume
 

@@ -1,9 +1,9 @@
 //! What becomes of a payment that a node forwards, whatever happens to its links and its book.
 
 ghost use Rattle.std.specs.Prelude.{List};
-ghost use Rattle.ln_book.specs.Payment.Parts.{begun};
-ghost use Rattle.ln_book.specs.Payment.Moves.{Move, AreMade, after};
-ghost use Rattle.ln_book.specs.Payment.Promises.{Promises};
+ghost use Rattle.ln_payment.specs.Parts.{begun};
+ghost use Rattle.ln_payment.specs.Moves.{Move, AreMade, after};
+ghost use Rattle.ln_payment.specs.Promises.{Promises};
 
 /// A law over every list of moves that may be made, refused removals, lost connections, halted links and restarts
 /// included: of the HTLCs that go out for one that came in, a signature covers one at most; and where the one that came

@@ -1,10 +1,10 @@
 -- What every move of a payment keeps.
 use Rattle.std.specs.Prelude.{◌≡◌, ◌⊎◌, ℕ, List, [], ◌∷◌, Bool, true, Option, Some, None}
-use Rattle.ln_book.specs.Payment.Parts.{Among, Answer, Back, Course, Covered, Decided, Decision, Each, Ended, Forward}
-use Rattle.ln_book.specs.Payment.Parts.{Gone, HasEnded, Hold, IsAt, IsHeld, Mark, NoRemoval, Note, Nowhere, Offered}
-use Rattle.ln_book.specs.Payment.Parts.{Open, Out, Over, Past, Payment, Refused, Removal, Sent, Settled, Uncovered}
-use Rattle.ln_book.specs.Payment.Parts.{Undecided, Way}
-use Rattle.ln_book.specs.Payment.Promises.{Follows}
+use Rattle.ln_payment.specs.Parts.{Among, Answer, Back, Course, Covered, Decided, Decision, Each, Ended, Forward}
+use Rattle.ln_payment.specs.Parts.{Gone, HasEnded, Hold, IsAt, IsHeld, Mark, NoRemoval, Note, Nowhere, Offered}
+use Rattle.ln_payment.specs.Parts.{Open, Out, Over, Past, Payment, Refused, Removal, Sent, Settled, Uncovered}
+use Rattle.ln_payment.specs.Parts.{Undecided, Way}
+use Rattle.ln_payment.specs.Promises.{Follows}
 
 -- ---- records
 

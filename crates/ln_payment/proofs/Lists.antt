@@ -2,13 +2,13 @@
 use Rattle.std.proofs.Common.{◌≡◌, inl, inr, ℕ, List, [], ◌∷◌, Bool, true, false, ◌&&◌, refl, ap, sym, subst, ◌∙◌}
 use Rattle.std.proofs.Common.{map, Option, Some, None}
 use Rattle.std.specs.Prelude.{not, cond}
-use Rattle.ln_book.specs.Payment.Parts.{Among, Answer, By, Course, Covered, Decided, Decision, Each, Ended, Forward}
-use Rattle.ln_book.specs.Payment.Parts.{HasEnded, Hold, IsAt, IsEnd, Kind, NoRemoval, Note, Nowhere, Offered, Out}
-use Rattle.ln_book.specs.Payment.Parts.{Over, Past, Refused, Removal, Uncovered, Undecided, Way}
-use Rattle.ln_book.specs.Payment.Rebuild.{is_uncovered, kept_outs}
-use Rattle.ln_book.specs.Payment.Moves.{with_course}
-use Rattle.ln_book.specs.Payment.Promises.{Follows}
-use Rattle.ln_book.proofs.Payment.Invariant.{AtMostOne, IsEarly, IsForwarded, IsKnown, IsOffered, IsOver, Names}
+use Rattle.ln_payment.specs.Parts.{Among, Answer, By, Course, Covered, Decided, Decision, Each, Ended, Forward}
+use Rattle.ln_payment.specs.Parts.{HasEnded, Hold, IsAt, IsEnd, Kind, NoRemoval, Note, Nowhere, Offered, Out}
+use Rattle.ln_payment.specs.Parts.{Over, Past, Refused, Removal, Uncovered, Undecided, Way}
+use Rattle.ln_payment.specs.Rebuild.{is_uncovered, kept_outs}
+use Rattle.ln_payment.specs.Moves.{with_course}
+use Rattle.ln_payment.specs.Promises.{Follows}
+use Rattle.ln_payment.proofs.Invariant.{AtMostOne, IsEarly, IsForwarded, IsKnown, IsOffered, IsOver, Names}
 
 -- ---- other courses
 

@@ -1,9 +1,9 @@
 -- Runs that show that the moves can be made, and what a rebuild reads of them.
 use Rattle.std.proofs.Common.{◌≡◌, List, [], ◌∷◌, true, false, refl, Some, None, take}
-use Rattle.ln_book.specs.Payment.Parts.{Covered, Fails, Forward, Hold, Offered, Open, Refused, Sent, begun}
-use Rattle.ln_book.specs.Payment.Moves.{AreMade, Clear, Close, Decide, End, Forget, Halt, HoldRemoval, Move, Offer}
-use Rattle.ln_book.specs.Payment.Moves.{Refuse, Remove, Restart, Resume, Settle, SignOuts, SignRemoval, Tell, after}
-use Rattle.ln_book.specs.Payment.Moves.{IsTold}
+use Rattle.ln_payment.specs.Parts.{Covered, Fails, Forward, Hold, Offered, Open, Refused, Sent, begun}
+use Rattle.ln_payment.specs.Moves.{AreMade, Clear, Close, Decide, End, Forget, Halt, HoldRemoval, Move, Offer}
+use Rattle.ln_payment.specs.Moves.{Refuse, Remove, Restart, Resume, Settle, SignOuts, SignRemoval, Tell, after}
+use Rattle.ln_payment.specs.Moves.{IsTold}
 
 -- an add that is offered and lost before it is signed is offered again
 abbrev lost : List Move

@@ -1,12 +1,12 @@
 -- How a payment moves: what the node's links and its book do about its HTLC, when each may be, and what it makes of it.
 use Rattle.std.specs.Prelude.{◌≡◌, ℕ, List, [], ◌∷◌, Bool, true, false, ◌==◌, ◌&&◌, ◌||◌, map, if◌then◌else◌}
 use Rattle.std.specs.Prelude.{Option, Some, None}
-use Rattle.ln_book.specs.Payment.Parts.{Kind, Fails, Mark, Forward, Hold, Answer, Decision, Undecided, Decided, Past}
-use Rattle.ln_book.specs.Payment.Parts.{Proposed, Signed, Held, Removal, NoRemoval, By}
-use Rattle.ln_book.specs.Payment.Parts.{Course, Uncovered, Covered, Ended, Out}
-use Rattle.ln_book.specs.Payment.Parts.{Way, Nowhere, Refused, Offered, Over, Back, Open, Sent, Gone, Settled, Note}
-use Rattle.ln_book.specs.Payment.Parts.{Payment, Each, Among, IsAt, HasEnded, IsHeld}
-use Rattle.ln_book.specs.Payment.Rebuild.{kept_outs, kept_removal, settled_note, restarted}
+use Rattle.ln_payment.specs.Parts.{Kind, Fails, Mark, Forward, Hold, Answer, Decision, Undecided, Decided, Past}
+use Rattle.ln_payment.specs.Parts.{Proposed, Signed, Held, Removal, NoRemoval, By}
+use Rattle.ln_payment.specs.Parts.{Course, Uncovered, Covered, Ended, Out}
+use Rattle.ln_payment.specs.Parts.{Way, Nowhere, Refused, Offered, Over, Back, Open, Sent, Gone, Settled, Note}
+use Rattle.ln_payment.specs.Parts.{Payment, Each, Among, IsAt, HasEnded, IsHeld}
+use Rattle.ln_payment.specs.Rebuild.{kept_outs, kept_removal, settled_note, restarted}
 
 pub data Move : Type 0 where
   -- of the decision

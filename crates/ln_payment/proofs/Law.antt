@@ -2,17 +2,17 @@
 use Rattle.std.proofs.Common.{◌≡◌, inr, ℕ, List, [], ◌∷◌, Bool, true, false, refl, Option, Some}
 use Rattle.std.proofs.Common.{None, arith}
 use Rattle.std.specs.Prelude.{not, cond, length, ◌≤◌, if◌then◌else◌}
-use Rattle.ln_book.specs.Payment.Parts.{Answer, By, Decided, Decision, Each, Forward, Gone, HasEnded, Hold, IsAt}
-use Rattle.ln_book.specs.Payment.Parts.{IsHeld, Kind, Mark, NoRemoval, Note, Nowhere, Offered, Open, Out, Over, Past}
-use Rattle.ln_book.specs.Payment.Parts.{Payment, Proposed, Refused, Removal, Sent, Undecided, begun}
-use Rattle.ln_book.specs.Payment.Rebuild.{is_uncovered, kept_outs}
-use Rattle.ln_book.specs.Payment.Moves as machine
-use Rattle.ln_book.specs.Payment.Moves.{AreMade, IsDecided, MayMove, Move, after, moved}
-use Rattle.ln_book.specs.Payment.Promises.{Follows, Promises, covered}
-use Rattle.ln_book.proofs.Payment.Invariant.{AtMostOne, IsKept, Kept}
-use Rattle.ln_book.proofs.Payment.Lists as lists
-use Rattle.ln_book.proofs.Payment.Moves as moves
-use Rattle.ln_book.proofs.Payment.Rebuild.{kept_restart}
+use Rattle.ln_payment.specs.Parts.{Answer, By, Decided, Decision, Each, Forward, Gone, HasEnded, Hold, IsAt}
+use Rattle.ln_payment.specs.Parts.{IsHeld, Kind, Mark, NoRemoval, Note, Nowhere, Offered, Open, Out, Over, Past}
+use Rattle.ln_payment.specs.Parts.{Payment, Proposed, Refused, Removal, Sent, Undecided, begun}
+use Rattle.ln_payment.specs.Rebuild.{is_uncovered, kept_outs}
+use Rattle.ln_payment.specs.Moves as machine
+use Rattle.ln_payment.specs.Moves.{AreMade, IsDecided, MayMove, Move, after, moved}
+use Rattle.ln_payment.specs.Promises.{Follows, Promises, covered}
+use Rattle.ln_payment.proofs.Invariant.{AtMostOne, IsKept, Kept}
+use Rattle.ln_payment.proofs.Lists as lists
+use Rattle.ln_payment.proofs.Moves as moves
+use Rattle.ln_payment.proofs.Rebuild.{kept_restart}
 
 -- ---- each move, by whether the book has a note
 

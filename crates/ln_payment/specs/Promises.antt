@@ -1,7 +1,7 @@
 -- What is promised of a payment, whatever moves were made.
 use Rattle.std.specs.Prelude.{◌≤◌, List, length, not, filter}
-use Rattle.ln_book.specs.Payment.Parts.{Removal, NoRemoval, By, Out, Payment, Each, HasEnded}
-use Rattle.ln_book.specs.Payment.Rebuild.{is_uncovered}
+use Rattle.ln_payment.specs.Parts.{Removal, NoRemoval, By, Out, Payment, Each, HasEnded}
+use Rattle.ln_payment.specs.Rebuild.{is_uncovered}
 
 -- the HTLCs that a signature covers: the peer may have them for good
 abbrev pub covered : List Out → List Out

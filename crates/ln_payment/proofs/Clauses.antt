@@ -1,11 +1,11 @@
 -- What the clauses of what is kept give of a payment, one by one.
 use Rattle.std.proofs.Common.{◌≡◌, ◌⊎◌, inl, inr, ℕ, List, [], ◌∷◌, refl, sym}
 use Rattle.std.proofs.Common.{subst, Option, Some}
-use Rattle.ln_book.specs.Payment.Parts.{Among, Answer, Back, By, Decided, Decision, Each, Forward, Gone, Hold, IsHeld}
-use Rattle.ln_book.specs.Payment.Parts.{Kind, Mark, NoRemoval, Note, Nowhere, Offered, Open, Out, Over, Past, Refused}
-use Rattle.ln_book.specs.Payment.Parts.{Removal, Sent, Settled, Stage, Undecided, Way}
-use Rattle.ln_book.specs.Payment.Moves.{IsAnswer}
-use Rattle.ln_book.proofs.Payment.Invariant.{IsEarly, IsForwarded, IsSettledOnly, MarkIs, NotAgain, Waits}
+use Rattle.ln_payment.specs.Parts.{Among, Answer, Back, By, Decided, Decision, Each, Forward, Gone, Hold, IsHeld}
+use Rattle.ln_payment.specs.Parts.{Kind, Mark, NoRemoval, Note, Nowhere, Offered, Open, Out, Over, Past, Refused}
+use Rattle.ln_payment.specs.Parts.{Removal, Sent, Settled, Stage, Undecided, Way}
+use Rattle.ln_payment.specs.Moves.{IsAnswer}
+use Rattle.ln_payment.proofs.Invariant.{IsEarly, IsForwarded, IsSettledOnly, MarkIs, NotAgain, Waits}
 
 abbrev pub noted : Mark → Way → Back → Note
 noted m w l = record { mark = m; way = w; back = l }

@@ -2,18 +2,18 @@
 use Rattle.std.proofs.Common.{◌≡◌, ◌⊎◌, inl, inr, ℕ, List, [], ◌∷◌, Bool, true, false, ◌&&◌, refl, ap, Option, Some}
 use Rattle.std.proofs.Common.{None}
 use Rattle.std.specs.Prelude.{not, cond}
-use Rattle.ln_book.specs.Payment.Parts.{Answer, By, Course, Covered, Decided, Decision, Each, Ended, Forward, Fulfils}
-use Rattle.ln_book.specs.Payment.Parts.{Held, Hold, IsHeld, Kind, Mark, NoRemoval, Note, Nowhere, Offered, Open, Out}
-use Rattle.ln_book.specs.Payment.Parts.{Over, Past, Proposed, Refused, Removal, Sent, Settled, Signed, Uncovered}
-use Rattle.ln_book.specs.Payment.Parts.{Undecided}
-use Rattle.ln_book.specs.Payment.Rebuild.{everywhere, is_uncovered, kept_outs, kept_removal, note_read, nowhere}
-use Rattle.ln_book.specs.Payment.Rebuild.{way_of}
-use Rattle.ln_book.specs.Payment.Promises.{Follows}
-use Rattle.ln_book.proofs.Payment.Invariant.{AtMostOne, ForNote, HasResult, IsEarly, IsForwarded, IsKnown, IsOffered}
-use Rattle.ln_book.proofs.Payment.Invariant.{IsOver, IsSettledOnly, Kept, MarkIs, NotAgain, Waits}
-use Rattle.ln_book.proofs.Payment.Clauses.{again_none, noted, or_else, second_of}
-use Rattle.ln_book.proofs.Payment.Lists as lists
-use Rattle.ln_book.proofs.Payment.Moves as moves
+use Rattle.ln_payment.specs.Parts.{Answer, By, Course, Covered, Decided, Decision, Each, Ended, Forward, Fulfils}
+use Rattle.ln_payment.specs.Parts.{Held, Hold, IsHeld, Kind, Mark, NoRemoval, Note, Nowhere, Offered, Open, Out}
+use Rattle.ln_payment.specs.Parts.{Over, Past, Proposed, Refused, Removal, Sent, Settled, Signed, Uncovered}
+use Rattle.ln_payment.specs.Parts.{Undecided}
+use Rattle.ln_payment.specs.Rebuild.{everywhere, is_uncovered, kept_outs, kept_removal, note_read, nowhere}
+use Rattle.ln_payment.specs.Rebuild.{way_of}
+use Rattle.ln_payment.specs.Promises.{Follows}
+use Rattle.ln_payment.proofs.Invariant.{AtMostOne, ForNote, HasResult, IsEarly, IsForwarded, IsKnown, IsOffered}
+use Rattle.ln_payment.proofs.Invariant.{IsOver, IsSettledOnly, Kept, MarkIs, NotAgain, Waits}
+use Rattle.ln_payment.proofs.Clauses.{again_none, noted, or_else, second_of}
+use Rattle.ln_payment.proofs.Lists as lists
+use Rattle.ln_payment.proofs.Moves as moves
 
 -- what the records alone tell
 record Records (d : Decision) (r : Removal) (os : List Out) : Type 0 where

@@ -2,11 +2,11 @@
 -- the book is read off the records anew.
 use Rattle.std.specs.Prelude.{ℕ, List, [], ◌∷◌, Bool, true, false, not, ◌&&◌, filter, if◌then◌else◌}
 use Rattle.std.specs.Prelude.{Option, Some, None}
-use Rattle.ln_book.specs.Payment.Parts.{Fulfils, Mark, Forward, Hold, Answer, Decision, Undecided, Decided, Past}
-use Rattle.ln_book.specs.Payment.Parts.{Proposed, Signed, Held, Removal, NoRemoval, By}
-use Rattle.ln_book.specs.Payment.Parts.{Course, Uncovered, Covered, Ended, Out}
-use Rattle.ln_book.specs.Payment.Parts.{Way, Nowhere, Refused, Offered, Over, Back, Open, Sent, Gone, Settled, Note}
-use Rattle.ln_book.specs.Payment.Parts.{Payment}
+use Rattle.ln_payment.specs.Parts.{Fulfils, Mark, Forward, Hold, Answer, Decision, Undecided, Decided, Past}
+use Rattle.ln_payment.specs.Parts.{Proposed, Signed, Held, Removal, NoRemoval, By}
+use Rattle.ln_payment.specs.Parts.{Course, Uncovered, Covered, Ended, Out}
+use Rattle.ln_payment.specs.Parts.{Way, Nowhere, Refused, Offered, Over, Back, Open, Sent, Gone, Settled, Note}
+use Rattle.ln_payment.specs.Parts.{Payment}
 
 -- ---- what is lost
 
