@@ -2,8 +2,8 @@
 
 use crate::entry::{Decided, Desk, Invoice, Line, Out, Queued, Told};
 use crate::htlc::{Back, Htlc, Key, Way};
-use crate::lost::put_back_all;
 use crate::lists::{Change, Which, change_first, is_any_decided, leave_out, unqueue};
+use crate::lost::put_back_all;
 use indexmap::IndexMap;
 use ln_hooks::How;
 use ln_keys::sha256_32;
