@@ -25,7 +25,7 @@ use Rattle.ln_tables.specs.declared.entry.Out.TheVariants as out
 use Rattle.ln_tables.specs.declared.entry.Desk.{Desk}
 use Rattle.ln_tables.specs.declared.entry.Desk.TheVariants as desk
 use Rattle.ln_tables.specs.declared.entry.Entry.TheVariants as entry
-use Rattle.ln_readings.specs.declared.reading.Leg.{Leg}
+use Rattle.ln_readings.specs.declared.leg.Leg.{Leg}
 use Rattle.ln_tables.specs.Replay.{Table, no_table, queued_of, after}
 use Rattle.ln_readings.specs.Rebuild.{Reading, no_event, legs_offered, legs_over, decided_in, htlc_left, rebuilt}
 use Rattle.ln_readings.specs.Rebuild.{rebuilt_htlcs}

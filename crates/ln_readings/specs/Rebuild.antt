@@ -21,7 +21,7 @@ use Rattle.ln_tables.specs.declared.htlc.Way.TheVariants as way
 use Rattle.ln_tables.specs.declared.htlc.Back.{Back}
 use Rattle.ln_tables.specs.declared.htlc.Back.TheVariants as back
 use Rattle.ln_tables.specs.declared.htlc.Htlc.{Htlc}
-use Rattle.ln_readings.specs.declared.reading.Leg.{Leg}
+use Rattle.ln_readings.specs.declared.leg.Leg.{Leg}
 use Rattle.ln_tables.specs.Replay.{Table, same_key, is_htlc, put_way, has_no_way, is_open, is_nowhere, is_settled}
 use Rattle.ln_readings.specs.Kept.{own_updates, has_own_removal}
 

@@ -4,9 +4,10 @@
 
 mod channel;
 mod kept;
+mod leg;
 mod reading;
 mod rebuild;
 
 pub use kept::{Kept, told_by};
-pub use reading::{Leg, Reading};
+pub use leg::{Leg, Reading};
 pub use rebuild::rebuilt_htlcs;

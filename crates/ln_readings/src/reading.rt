@@ -6,6 +6,7 @@ ghost use Rattle.ln_readings.specs.Rebuild.{peer_updates, held_updates, leg_of, 
 ghost use Rattle.ln_readings.specs.Rebuild.{back_in, htlc_by, decided_by, decided_in};
 
 use crate::channel::own_updates;
+use crate::leg::{Leg, NO_EVENT, Reading};
 use ln_channel::Channel;
 use ln_hooks::How;
 use ln_log::{
@@ -15,39 +16,6 @@ use ln_log::{
 use ln_msgs::Refusal;
 use ln_tables::{Back, Htlc, Key, Offer, Way, copied, copy_mark};
 use std::alloc::Global;
-use std::marker::Model;
-
-/// The number of no event: an end has 2^63 + 2 at most.
-pub(crate) const NO_EVENT: u64 = u64::MAX;
-
-/// An own HTLC that forwards another one.
-#[derive(Debug, Drop)]
-pub struct Leg {
-    /// The HTLC that it forwards.
-    pub origin: Key,
-    /// The own one, and what has become of it where that is held.
-    pub way: Way,
-}
-
-/// What a book takes from the end of a channel as its node starts.
-#[derive(Debug, Drop)]
-pub struct Reading {
-    offered: Vec<Leg>,
-    results: Vec<Leg>,
-    decided: Vec<Htlc>,
-}
-
-impl Model for Reading {
-    ghost use Rattle.ln_readings.specs.Rebuild as rebuild;
-
-    ghost Value = { rebuild.Reading };
-
-    ghost view = { λ r. record {
-      offered = r.offered.items;
-      results = r.results.items;
-      decided = r.decided.items;
-    } };
-}
 
 // The peer's updates that an end still has one by one.
 fn peer_updates(log: &UpdateLog) -> &[Update]
@@ -243,26 +211,5 @@ impl Reading {
             results: legs_over(alloc, &id, ledger.results())?,
             decided: decided_in(alloc, &id, log, ledger.decisions())?,
         })
-    }
-
-    // Its own adds that forward others.
-    pub(crate) fn offered(&self) -> &[Leg]
-        ensures { result.now ≡ self.now.offered }
-    {
-        self.offered.as_slice()
-    }
-
-    // What became of such adds.
-    pub(crate) fn results(&self) -> &[Leg]
-        ensures { result.now ≡ self.now.results }
-    {
-        self.results.as_slice()
-    }
-
-    // The peer's HTLCs that it has decided.
-    pub(crate) fn decided(&self) -> &[Htlc]
-        ensures { result.now ≡ self.now.decided }
-    {
-        self.decided.as_slice()
     }
 }

@@ -7,7 +7,7 @@ ghost use Rattle.ln_readings.specs.Rebuild.{is_for, or_leg, result_for, offer_fo
 ghost use Rattle.ln_readings.specs.Rebuild.{is_over, unfinished, all_unfinished, is_read, htlc_left, left, all_left};
 ghost use Rattle.ln_readings.specs.Rebuild.{rebuilt_htlcs};
 
-use crate::reading::{Leg, NO_EVENT, Reading};
+use crate::leg::{Leg, NO_EVENT, Reading};
 use ln_log::Mark;
 use ln_msgs::Refusal;
 use ln_tables::{Back, Htlc, Key, Offer, Way, copy_how, copy_mark};

@@ -27,7 +27,7 @@ pub struct Invoice {
 }
 
 /// A decision that a channel is yet to take.
-#[derive(Debug, Drop)]
+#[derive(Drop)]
 pub struct Queued {
     /// The channel.
     pub channel: ChannelId,
@@ -38,7 +38,7 @@ pub struct Queued {
 }
 
 /// What was decided about an event.
-#[derive(Debug, Drop)]
+#[derive(Drop)]
 pub struct Decided {
     /// The channel.
     pub channel: ChannelId,
@@ -75,7 +75,7 @@ pub enum Desk {
 }
 
 /// Ids of HTLCs.
-#[derive(Debug, Drop)]
+#[derive(Drop)]
 pub struct Ids {
     items: Vec<u64>,
 }
@@ -107,7 +107,7 @@ impl Ids {
 }
 
 /// What a channel has kept behind a lost connection or a load.
-#[derive(Debug, Drop)]
+#[derive(Drop)]
 pub struct Told {
     /// The id of its next own HTLC.
     pub next: u64,
@@ -118,7 +118,7 @@ pub struct Told {
 }
 
 /// What is entered in a book.
-#[derive(Debug, Drop)]
+#[derive(Drop)]
 pub enum Entry {
     /// A short channel id, in its eight bytes, names this channel.
     Route([u8; 8], Line),

@@ -11,7 +11,7 @@ use crate::htlc::{Back, Htlc, Key, Way};
 use ln_log::ChannelId;
 
 /// Which HTLC is meant.
-#[derive(Clone, Copy, Debug, PartialEq, Eq)]
+#[derive(Clone, Copy)]
 pub(crate) enum Which {
     /// The one of this key.
     Htlc(Key),
@@ -26,7 +26,7 @@ pub(crate) enum Which {
 }
 
 /// What becomes of an HTLC.
-#[derive(Debug, Drop)]
+#[derive(Drop)]
 pub(crate) enum Change {
     /// The channel has decided it.
     Decide,
