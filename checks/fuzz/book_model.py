@@ -1,5 +1,5 @@
 """A plain model of a node's book of forwarded payments, written from the rules of docs/PROTOCOL.md and the definitions
-of ln_tables and ln_book: `Book.call(line)` gives what checks/fuzz/book_calls has to print for a line of numbers."""
+of ln_tables and ln_book: `Book.call(line)` gives what crates/ln_book_calls has to print for a line."""
 from hashlib import sha256
 
 
@@ -276,31 +276,30 @@ class Book:
 
     # ---- a line
 
-    def call(self, numbers):
-        kind, n = numbers[0], numbers[1:]
-        if kind == 0:
+    def call(self, line):
+        kind, *n = line.split(" ")
+        n = [int(it) for it in n]
+        if kind == "route":
             self.routes[n[0]] = tuple(n[1:])
-        elif kind == 1:
+        elif kind == "use":
             self.used[n[0]] = n[1] == 1
-        elif kind == 2:
-            return "true" if self.used.get(n[0], False) else "false"
-        elif kind == 3:
+        elif kind == "usable":
+            return "usable" if self.used.get(n[0], False) else "not usable"
+        elif kind == "height":
             self.height = n[0]
-            return ""
-        elif kind == 4:
+        elif kind == "expect":
             self.expected[sha256(bytes_of(n[0])).digest()] = bytes_of(n[0]), n[1] % 256, n[2]
-        elif kind == 5:
+        elif kind == "decide":
             digest = sha256(bytes_of(n[5])).digest()
             offer = {"id": n[3], "amount": n[4], "hash": digest, "expiry": n[6], "hop": Hop(n[8:], digest)}
             return self.decide(n[0], n[1], None if n[2] == 1 else offer, n[7])
-        elif kind == 6:
+        elif kind == "settled":
             self.settled(n[0], n[1] == 1, n[2], (min(n[3], 2), n[4]))
-        elif kind == 7:
+        elif kind == "take":
             return self.take(n[0])
-        elif kind == 8:
+        elif kind == "answered":
             self.answered(n[0], n[1] != 0, n[2])
-            return ""
-        elif kind == 9:
+        elif kind == "dropped":
             self.dropped(n[0], n[1], n[2], n[3:])
         else:
             self.queue, self.htlcs, self.out = [], [], {}

@@ -1,8 +1,9 @@
 //! The calls of a book, by numbers.
 
 use crate::answers::Answers;
-use crate::line::{at, bytes_of, code, wide};
+use crate::line::{at, bytes_of, code, numbers, wide};
 use crate::onion::onion_of;
+use crate::payments::payments;
 use crate::show::{show_command, show_mark};
 use ln_book::Book;
 use ln_bytes::{Bytes, ShortId};
@@ -133,32 +134,58 @@ fn dropped(alloc: Global, book: &mut Book, words: &[u64]) -> Result<String, Allo
     told(alloc, book.dropped(alloc, bytes_of(at(words, 1)), &answers))
 }
 
-/// Calls the book, and says what it answers.
-pub fn call(alloc: Global, book: &mut Book, words: &[u64]) -> Result<String, AllocError> {
-    let channel = bytes_of(at(words, 1));
-    match at(words, 0) {
-        0 => told(alloc, set_route(book, words)),
-        1 => told(alloc, book.set_usable(channel, at(words, 2) == 1)),
-        2 => {
-            let usable = book.usable(&channel);
-            format!(in alloc; "{usable}")
-        }
-        3 => {
-            set_height(book, words);
-            String::from_str(alloc, "")
-        }
-        4 => told(
+// What is set: a route, whether a channel takes payments, the height, an invoice.
+fn set(alloc: Global, book: &mut Book, word: &str, words: &[u64]) -> Result<String, AllocError> {
+    let number = bytes_of(at(words, 1));
+    match word {
+        "route" => told(alloc, set_route(book, words)),
+        "use" => told(alloc, book.set_usable(number, at(words, 2) == 1)),
+        "expect" => told(
             alloc,
-            book.expect(channel, bytes_of(at(words, 2)), at(words, 3)),
+            book.expect(number, bytes_of(at(words, 2)), at(words, 3)),
         ),
-        5 => decide(alloc, book, words),
-        6 => settled(alloc, book, words),
-        7 => take(alloc, book, words),
-        8 => {
-            answered(book, words);
-            String::from_str(alloc, "")
+        "height" => {
+            set_height(book, words);
+            String::from_str(alloc, "done")
         }
-        9 => dropped(alloc, book, words),
-        _ => told(alloc, book.rebuild(alloc, &[])),
+        _ => String::from_str(alloc, "no call"),
+    }
+}
+
+// Whether a channel takes payments.
+fn usable(alloc: Global, book: &Book, words: &[u64]) -> Result<String, AllocError> {
+    if book.usable(&bytes_of(at(words, 1))) {
+        String::from_str(alloc, "usable")
+    } else {
+        String::from_str(alloc, "not usable")
+    }
+}
+
+// Payments there and back, so many, beside so many that wait.
+fn paid(alloc: Global, book: &mut Book, words: &[u64]) -> Result<String, AllocError> {
+    match payments(alloc, book, words) {
+        Err(_) => String::from_str(alloc, "refused"),
+        Ok(given) => format!(in alloc; "given {given}"),
+    }
+}
+
+/// Calls the book by a line, and says what it answers. A line that begins with # is said again.
+pub fn call(alloc: Global, book: &mut Book, line: &str) -> Result<String, AllocError> {
+    let words = numbers(alloc, line)?;
+    let words = words.as_slice();
+    match line.split(' ').next().unwrap_or("") {
+        "decide" => decide(alloc, book, words),
+        "settled" => settled(alloc, book, words),
+        "take" => take(alloc, book, words),
+        "answered" => {
+            answered(book, words);
+            String::from_str(alloc, "done")
+        }
+        "dropped" => dropped(alloc, book, words),
+        "rebuild" => told(alloc, book.rebuild(alloc, &[])),
+        "usable" => usable(alloc, book, words),
+        "payments" => paid(alloc, book, words),
+        "#" => String::from_str(alloc, line),
+        word => set(alloc, book, word, words),
     }
 }

@@ -1,15 +1,15 @@
 //! Reads calls of a book of forwarded payments, each a line of numbers, and prints a line for each: what it answers.
-//! checks/fuzz/book has the calls, and what is wanted.
+//! checks/fuzz/book makes such calls at random; stdin and stdout have a payment over a middle node and worked rows.
 #![tactic(auto)]
 
 mod answers;
 mod calls;
 mod line;
 mod onion;
+mod payments;
 mod show;
 
 use calls::call;
-use line::numbers;
 use ln_book::Book;
 use std::alloc::Global;
 use std::io;
@@ -19,8 +19,7 @@ use std::io::{BufRead, BufReader, BufWriter, Write};
 fn run<R: BufRead + Drop, W: Write>(alloc: Global, reader: R, out: &mut W) -> io::Result<()> {
     let mut book = Box::new(alloc, Book::new(alloc))?;
     for line in reader.lines(alloc) {
-        let words = numbers(alloc, &line?)?;
-        let told = call(alloc, &mut book, words.as_slice())?;
+        let told = call(alloc, &mut book, &line?)?;
         out.write_all(told.as_bytes())?;
         out.write_all(b"\n")?;
     }
