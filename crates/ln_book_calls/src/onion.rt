@@ -1,5 +1,7 @@
 //! Onions of one or two hops, by numbers.
 
+ghost use Rattle.std.specs.Prelude.{◌≤◌};
+
 use crate::line::at;
 use ln_bytes::Bytes;
 use ln_keys::ToyOnion;
@@ -19,7 +21,9 @@ fn add_number(bytes: &mut Vec<u8>, number: u64) -> Result<(), AllocError> {
 }
 
 /// How many bytes that takes.
-fn width(number: u64) -> u8 {
+fn width(number: u64) -> u8
+    ensures { result ≤ 8 }
+{
     match number {
         0 => 0,
         1..0x100 => 1,
@@ -77,8 +81,8 @@ fn payloads_of(alloc: Global, words: &[u64]) -> Result<Vec<Bytes>, AllocError> {
     Ok(all)
 }
 
-/// The onion of these numbers: a fault (0 none, 1 its version, 2 its key, 3 its HMAC, 4 its payload), whether the hop is
-/// the final one, and the payload's records.
+/// The onion of these numbers: a fault (0 none, 1 its version, 2 its key, 3 its HMAC, 4 its payload), whether the hop
+/// is the final one, and the payload's records.
 pub fn onion_of(alloc: Global, words: &[u64], hash: &[u8; 32]) -> Result<[u8; 1366], AllocError> {
     let payloads = payloads_of(alloc, words)?;
     let mut onion = match ToyOnion::make(payloads.as_slice(), hash) {

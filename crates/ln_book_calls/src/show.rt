@@ -46,22 +46,23 @@ pub fn show_mark(alloc: Global, mark: &Mark) -> Result<String, AllocError> {
     }
 }
 
+/// The incoming channel's first byte and HTLC that an add forwards.
+fn origin_of(origin: Option<([u8; 32], u64)>) -> Option<(u8, u64)> {
+    let (from, id) = origin?;
+    Some((from[0], id))
+}
+
 fn show_add(
     alloc: Global,
     amount: u64,
-    hash: &[u8; 32],
+    hash: u64,
     expiry: u32,
-    onion: &[u8; 1366],
-    origin: Option<([u8; 32], u64)>,
+    onion: u64,
+    origin: Option<(u8, u64)>,
 ) -> Result<String, AllocError> {
-    let hash = front(hash);
-    let onion = sum(onion);
     match origin {
         None => format!(in alloc; "add {amount} {hash} {expiry} {onion}"),
-        Some((channel, id)) => {
-            let from = channel[0];
-            format!(in alloc; "add {amount} {hash} {expiry} {onion} {from} {id}")
-        }
+        Some((from, id)) => format!(in alloc; "add {amount} {hash} {expiry} {onion} {from} {id}"),
     }
 }
 
@@ -79,7 +80,10 @@ pub fn show_command(alloc: Global, command: &Command) -> Result<String, AllocErr
             expiry,
             onion,
             origin,
-        } => show_add(alloc, *amount, hash, *expiry, onion, *origin),
+        } => {
+            let origin = origin_of(*origin);
+            show_add(alloc, *amount, front(hash), *expiry, sum(onion), origin)
+        },
         Command::Fulfil { id, preimage } => {
             let preimage = front(preimage);
             format!(in alloc; "fulfil {id} {preimage}")

@@ -2,8 +2,8 @@
 
 ghost use Rattle.std.specs.Prelude.{◌≡◌, IfOk, IfErr, option_copied};
 ghost use Rattle.ln_log.specs.Updates.{add_with, offered};
-ghost use Rattle.ln_readings.specs.Rebuild.{peer_updates, held_updates, leg_of, legs_offered, how_of, leg_over, legs_over};
-ghost use Rattle.ln_readings.specs.Rebuild.{back_in, htlc_by, decided_by, decided_in};
+ghost use Rattle.ln_readings.specs.Rebuild.{peer_updates, held_updates, leg_of, legs_offered, how_of, leg_over};
+ghost use Rattle.ln_readings.specs.Rebuild.{legs_over, back_in, htlc_by, decided_by, decided_in};
 
 use crate::channel::own_updates;
 use crate::leg::{Leg, NO_EVENT, Reading};

@@ -43,8 +43,8 @@ impl Model for Tables {
 impl Tables {
     ghost use Rattle.std.specs.Prelude.{◌≡◌, OnOk, OnErr, IfErr, IfOk, option_copied};
     ghost use Rattle.std.specs.Map.{lookup};
-    ghost use Rattle.ln_tables.specs.Replay.{no_table, same, with_route, with_use, with_height, with_invoice, is_usable};
-    ghost use Rattle.ln_tables.specs.Replay.{desk_at};
+    ghost use Rattle.ln_tables.specs.Replay.{no_table, same, with_route, with_use, with_height, with_invoice};
+    ghost use Rattle.ln_tables.specs.Replay.{is_usable, desk_at};
 
     /// Nothing is said. Takes no memory.
     pub fn new(alloc: Global) -> Tables
