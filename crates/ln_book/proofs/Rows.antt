@@ -12,23 +12,23 @@ use Rattle.ln_hooks.specs.declared.event.How.TheVariants as how
 use Rattle.ln_channel.specs.declared.command.Command.TheVariants as command
 use Rattle.ln_forward.specs.declared.failure.Failure.TheVariants as failure
 use Rattle.ln_forward.specs.Failure.{failure_bytes}
-use Rattle.ln_book.specs.declared.htlc.Key.{Key}
-use Rattle.ln_book.specs.declared.htlc.Offer.{Offer}
-use Rattle.ln_book.specs.declared.htlc.Way.{Way}
-use Rattle.ln_book.specs.declared.htlc.Way.TheVariants as way
-use Rattle.ln_book.specs.declared.htlc.Back.{Back}
-use Rattle.ln_book.specs.declared.htlc.Back.TheVariants as back
-use Rattle.ln_book.specs.declared.htlc.Htlc.{Htlc}
-use Rattle.ln_book.specs.declared.entry.Queued.{Queued}
-use Rattle.ln_book.specs.declared.entry.Decided.{Decided}
-use Rattle.ln_book.specs.declared.entry.Out.TheVariants as out
-use Rattle.ln_book.specs.declared.entry.Desk.{Desk}
-use Rattle.ln_book.specs.declared.entry.Desk.TheVariants as desk
-use Rattle.ln_book.specs.declared.entry.Entry.TheVariants as entry
-use Rattle.ln_book.specs.declared.reading.Leg.{Leg}
-use Rattle.ln_book.specs.Replay.{Table, no_table, queued_of, after}
-use Rattle.ln_book.specs.Rebuild.{Reading, no_event, legs_offered, legs_over, decided_in, htlc_left, rebuilt}
-use Rattle.ln_book.specs.Rebuild.{rebuilt_htlcs}
+use Rattle.ln_tables.specs.declared.htlc.Key.{Key}
+use Rattle.ln_tables.specs.declared.htlc.Offer.{Offer}
+use Rattle.ln_tables.specs.declared.htlc.Way.{Way}
+use Rattle.ln_tables.specs.declared.htlc.Way.TheVariants as way
+use Rattle.ln_tables.specs.declared.htlc.Back.{Back}
+use Rattle.ln_tables.specs.declared.htlc.Back.TheVariants as back
+use Rattle.ln_tables.specs.declared.htlc.Htlc.{Htlc}
+use Rattle.ln_tables.specs.declared.entry.Queued.{Queued}
+use Rattle.ln_tables.specs.declared.entry.Decided.{Decided}
+use Rattle.ln_tables.specs.declared.entry.Out.TheVariants as out
+use Rattle.ln_tables.specs.declared.entry.Desk.{Desk}
+use Rattle.ln_tables.specs.declared.entry.Desk.TheVariants as desk
+use Rattle.ln_tables.specs.declared.entry.Entry.TheVariants as entry
+use Rattle.ln_readings.specs.declared.leg.Leg.{Leg}
+use Rattle.ln_tables.specs.Replay.{Table, no_table, queued_of, after}
+use Rattle.ln_readings.specs.Rebuild.{Reading, no_event, legs_offered, legs_over, decided_in, htlc_left, rebuilt}
+use Rattle.ln_readings.specs.Rebuild.{rebuilt_htlcs}
 use Rattle.ln_book.specs.Commands.{Services, first_command}
 
 abbrev a : List ℕ

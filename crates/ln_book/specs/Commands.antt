@@ -14,20 +14,18 @@ use Rattle.ln_forward.specs.declared.failure.Failure.TheVariants as failure
 use Rattle.ln_forward.specs.Failure.{failure_bytes}
 use Rattle.ln_channel.specs.declared.command.Command.{Command}
 use Rattle.ln_channel.specs.declared.command.Command.TheVariants as command
-use Rattle.ln_book.specs.declared.htlc.Way.{Way}
-use Rattle.ln_book.specs.declared.htlc.Way.TheVariants as way
-use Rattle.ln_book.specs.declared.htlc.Back.{Back}
-use Rattle.ln_book.specs.declared.htlc.Back.TheVariants as back
-use Rattle.ln_book.specs.declared.htlc.Htlc.{Htlc}
-use Rattle.ln_book.specs.declared.entry.Queued.{Queued}
-use Rattle.ln_book.specs.declared.entry.Out.{Out}
-use Rattle.ln_book.specs.declared.entry.Out.TheVariants as out
-use Rattle.ln_book.specs.declared.entry.Desk.{Desk}
-use Rattle.ln_book.specs.declared.entry.Desk.TheVariants as desk
-use Rattle.ln_book.specs.declared.entry.Entry.{Entry}
-use Rattle.ln_book.specs.declared.entry.Entry.TheVariants as entry
-use Rattle.ln_book.specs.History.{History, with_entry}
-use Rattle.ln_book.specs.Replay.{Table, same, desk_at, is_settled}
+use Rattle.ln_tables.specs.declared.htlc.Way.{Way}
+use Rattle.ln_tables.specs.declared.htlc.Way.TheVariants as way
+use Rattle.ln_tables.specs.declared.htlc.Htlc.{Htlc}
+use Rattle.ln_tables.specs.declared.entry.Queued.{Queued}
+use Rattle.ln_tables.specs.declared.entry.Out.{Out}
+use Rattle.ln_tables.specs.declared.entry.Out.TheVariants as out
+use Rattle.ln_tables.specs.declared.entry.Desk.{Desk}
+use Rattle.ln_tables.specs.declared.entry.Desk.TheVariants as desk
+use Rattle.ln_tables.specs.declared.entry.Entry.{Entry}
+use Rattle.ln_tables.specs.declared.entry.Entry.TheVariants as entry
+use Rattle.ln_tables.specs.History.{History, with_entry}
+use Rattle.ln_tables.specs.Replay.{Table, same, desk_at, is_open, is_settled, is_nowhere}
 
 -- a node's service that opens onions and wraps failures (BOLT 4)
 pub record Services : Type 0 where
@@ -39,18 +37,6 @@ abbrev pub services_of : {O : Type 0} → (O → List ℕ → List ℕ → Resul
 services_of opened wrapped o = record { opened = opened o; wrapped = wrapped o }
 
 -- ---- what an HTLC is due
-
-abbrev pub is_open : Back → Bool
-is_open back.Open = true
-is_open back.Sent = false
-is_open back.Gone = false
-is_open back.Settled = false
-
-abbrev pub is_nowhere : Way → Bool
-is_nowhere way.Nowhere = true
-is_nowhere way.Refused = false
-is_nowhere (way.Offered k) = false
-is_nowhere (way.Over k h) = false
 
 -- what has become of it in this channel is known
 abbrev pub is_over_in : List ℕ → Way → Bool

@@ -1,14 +1,7 @@
 //! The book of a node's forwarded payments.
 
-use crate::commands::{copy_how, copy_mark, first_command};
-use crate::entry::{Decided, Desk, Entry, Invoice, Line, Out, Told};
-use crate::htlc::Key;
-use crate::kept::{Kept, told_by};
-use crate::log::Log;
+use crate::commands::first_command;
 use crate::marks::{mark_of, offer_of};
-use crate::reading::Reading;
-use crate::rebuild::rebuilt_htlcs;
-use crate::tables::Tables;
 use ln_bytes::ShortId;
 use ln_channel::Command;
 use ln_forward::{Expected, Policy};
@@ -16,6 +9,10 @@ use ln_hooks::{ChannelEvent, How, Verdict};
 use ln_keys::Onion;
 use ln_log::{ChannelId, Mark};
 use ln_msgs::Refusal;
+use ln_readings::{Kept, Reading, rebuilt_htlcs, told_by};
+use ln_tables::{
+    Decided, Desk, Entry, Invoice, Key, Line, Log, Out, Tables, Told, copy_how, copy_mark,
+};
 use std::alloc::Global;
 use std::marker::Model;
 
@@ -29,9 +26,9 @@ pub struct Book {
 
 impl Model for Book {
     ghost use Rattle.std.specs.Prelude.{◌≡◌};
-    ghost use Rattle.ln_book.specs.declared.entry.Entry.{Entry};
-    ghost use Rattle.ln_book.specs.History.{History};
-    ghost use Rattle.ln_book.specs.Replay.{Table, table_of};
+    ghost use Rattle.ln_tables.specs.declared.entry.Entry.{Entry};
+    ghost use Rattle.ln_tables.specs.History.{History};
+    ghost use Rattle.ln_tables.specs.Replay.{Table, table_of};
 
     ghost Value = { History Table Entry };
 
@@ -43,9 +40,9 @@ impl Model for Book {
 impl Book {
     ghost use Rattle.std.specs.Prelude.{◌≡◌, ◌≤◌, OnOk, OnErr, IfErr};
     ghost use Rattle.ln_bytes.specs.ShortId.{short_id_bytes};
-    ghost use Rattle.ln_book.specs.declared.entry.Entry.TheVariants as entry;
-    ghost use Rattle.ln_book.specs.History.{begun_with, with_entry};
-    ghost use Rattle.ln_book.specs.Replay.{no_table, table_of, is_usable};
+    ghost use Rattle.ln_tables.specs.declared.entry.Entry.TheVariants as entry;
+    ghost use Rattle.ln_tables.specs.History.{begun_with, with_entry};
+    ghost use Rattle.ln_tables.specs.Replay.{no_table, table_of, is_usable};
 
     /// A book in which nothing stands. Takes no memory.
     pub fn new(alloc: Global) -> Book
@@ -135,9 +132,9 @@ impl Book {
 
 impl Book {
     ghost use Rattle.std.specs.Prelude.{◌≡◌, OnOk, OnErr, IfOk, IfErr, option_map};
-    ghost use Rattle.ln_book.specs.declared.entry.Entry.TheVariants as entry;
-    ghost use Rattle.ln_book.specs.History.{with_entry};
-    ghost use Rattle.ln_book.specs.Replay.{table_of, desk_at};
+    ghost use Rattle.ln_tables.specs.declared.entry.Entry.TheVariants as entry;
+    ghost use Rattle.ln_tables.specs.History.{with_entry};
+    ghost use Rattle.ln_tables.specs.Replay.{table_of, desk_at};
     ghost use Rattle.ln_book.specs.Commands.{services_of, first_command, with_taken, with_answered};
     ghost use Rattle.ln_book.specs.Marks.{offer_of, mark_of, decision};
     ghost use Rattle.ln_book.specs.Settled.{with_settled};
@@ -301,10 +298,10 @@ impl Book {
 
 impl Book {
     ghost use Rattle.std.specs.Prelude.{◌≡◌, OnOk, OnErr, IfErr};
-    ghost use Rattle.ln_book.specs.declared.entry.Entry.TheVariants as entry;
-    ghost use Rattle.ln_book.specs.History.{with_entry};
-    ghost use Rattle.ln_book.specs.Replay.{table_of};
-    ghost use Rattle.ln_book.specs.Kept.{told_by};
+    ghost use Rattle.ln_tables.specs.declared.entry.Entry.TheVariants as entry;
+    ghost use Rattle.ln_tables.specs.History.{with_entry};
+    ghost use Rattle.ln_tables.specs.Replay.{table_of};
+    ghost use Rattle.ln_readings.specs.Kept.{told_by};
 
     /// A channel's connection was lost, or the channel was loaded from its record; of one that has halted this is
     /// called behind the load alone. Nothing is out in it any more. A command that the channel has kept was taken; what
@@ -338,9 +335,9 @@ impl Book {
 
 impl Book {
     ghost use Rattle.std.specs.Prelude.{◌≡◌, OnOk, OnErr, IfErr};
-    ghost use Rattle.ln_book.specs.History.{begun_with};
-    ghost use Rattle.ln_book.specs.Replay.{table_of};
-    ghost use Rattle.ln_book.specs.Rebuild.{rebuilt};
+    ghost use Rattle.ln_tables.specs.History.{begun_with};
+    ghost use Rattle.ln_tables.specs.Replay.{table_of};
+    ghost use Rattle.ln_readings.specs.Rebuild.{rebuilt};
 
     /// Begins anew with what these channels have, those of the node in the order of their numbers: each is there as it
     /// was loaded, without what no signature covered. Settings stay; nothing is queued, and nothing is out. An HTLC of

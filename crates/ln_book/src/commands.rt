@@ -5,11 +5,9 @@ ghost use Rattle.std.specs.List.{find};
 ghost use Rattle.ln_forward.specs.Failure.{failure_bytes};
 ghost use Rattle.ln_book.specs.Commands.{services_of, next_of, add_of, malformed_bytes, removal_over, removal_by_way};
 ghost use Rattle.ln_book.specs.Commands.{removal_by, forget_by, command_of, command_by, due, first_due, is_queued_in};
-ghost use Rattle.ln_book.specs.Commands.{is_open, forwards_in, has_removal, first_of, first_command};
+ghost use Rattle.ln_book.specs.Commands.{is_over_in, is_told_by, forwards_in, has_removal, first_of, first_command};
+ghost use Rattle.ln_tables.specs.Replay.{is_open, is_nowhere};
 
-use crate::entry::{Desk, Out, Queued};
-use crate::htlc::{Back, Htlc, Way};
-use crate::tables::Tables;
 use byteorder::{BigEndian, ByteOrder};
 use ln_bytes::Bytes;
 use ln_channel::Command;
@@ -18,49 +16,8 @@ use ln_hooks::How;
 use ln_keys::{Onion, OpenFault, Opened, sha256_32};
 use ln_log::{ChannelId, Mark};
 use ln_msgs::Refusal;
+use ln_tables::{Back, Desk, Htlc, Out, Queued, Tables, Way, copied, copy_mark};
 use std::alloc::Global;
-
-/// The same bytes. Error: 60 alone.
-pub(crate) fn copied(alloc: Global, bytes: &Bytes) -> Result<Bytes, Refusal>
-    ensures copy { IfOk result (λ b. b ≡ bytes.now) }
-    ensures fails_for_memory_alone { IfErr result (λ r. r ≡ Refusal.Memory) }
-{
-    Ok(Bytes::new(Vec::from_slice(alloc, bytes.as_slice())?))
-}
-
-/// The same mark. Error: 60 alone.
-pub(crate) fn copy_mark(alloc: Global, mark: &Mark) -> Result<Mark, Refusal>
-    ensures copy { IfOk result (λ m. m ≡ mark.now) }
-    ensures fails_for_memory_alone { IfErr result (λ r. r ≡ Refusal.Memory) }
-{
-    match mark {
-        Mark::None => Ok(Mark::None),
-        Mark::Forward {
-            channel,
-            amount,
-            expiry,
-        } => Ok(Mark::Forward {
-            channel: *channel,
-            amount: *amount,
-            expiry: *expiry,
-        }),
-        Mark::Fail(reason) => Ok(Mark::Fail(copied(alloc, reason)?)),
-        Mark::Malformed(code) => Ok(Mark::Malformed(*code)),
-        Mark::Fulfil(preimage) => Ok(Mark::Fulfil(*preimage)),
-    }
-}
-
-/// The same outcome. Error: 60 alone.
-pub(crate) fn copy_how(alloc: Global, how: &How) -> Result<How, Refusal>
-    ensures copy { IfOk result (λ h. h ≡ how.now) }
-    ensures fails_for_memory_alone { IfErr result (λ r. r ≡ Refusal.Memory) }
-{
-    match how {
-        How::Fulfilled(preimage) => Ok(How::Fulfilled(*preimage)),
-        How::Failed(reason) => Ok(How::Failed(copied(alloc, reason)?)),
-        How::Malformed(sha, code) => Ok(How::Malformed(*sha, *code)),
-    }
-}
 
 /// A failure as it goes back (BOLT 4, "Returning Errors"). Error: 60 alone.
 pub(crate) fn wrapped<O: Onion>(
@@ -77,38 +34,33 @@ pub(crate) fn wrapped<O: Onion>(
     }
 }
 
-impl Way {
-    ghost use Rattle.std.specs.Prelude.{◌≡◌};
-    ghost use Rattle.ln_book.specs.Commands.{is_nowhere, is_over_in, is_told_by};
-
-    // Whether nothing was offered, and nothing was refused.
-    fn is_nowhere(&self) -> bool
-        ensures { result ≡ is_nowhere self.now }
-    {
-        match self {
-            Way::Nowhere => true,
-            Way::Refused | Way::Offered(_) | Way::Over(_, _) => false,
-        }
+// Whether nothing was offered, and nothing was refused.
+fn is_nowhere(way: &Way) -> bool
+    ensures { result ≡ is_nowhere way.now }
+{
+    match way {
+        Way::Nowhere => true,
+        Way::Refused | Way::Offered(_) | Way::Over(_, _) => false,
     }
+}
 
-    // Whether it is known what has become of it in this channel.
-    fn is_over_in(&self, channel: &ChannelId) -> bool
-        ensures { result ≡ is_over_in channel.now self.now }
-    {
-        match self {
-            Way::Nowhere | Way::Refused | Way::Offered(_) => false,
-            Way::Over(key, _) => channel == &key.channel,
-        }
+// Whether it is known what has become of it in this channel.
+fn is_over_in(channel: &ChannelId, way: &Way) -> bool
+    ensures { result ≡ is_over_in channel.now way.now }
+{
+    match way {
+        Way::Nowhere | Way::Refused | Way::Offered(_) => false,
+        Way::Over(key, _) => channel == &key.channel,
     }
+}
 
-    // Whether the outgoing channel has told what becomes of it.
-    fn is_told(&self) -> bool
-        ensures { result ≡ is_told_by self.now }
-    {
-        match self {
-            Way::Nowhere | Way::Offered(_) => false,
-            Way::Refused | Way::Over(_, _) => true,
-        }
+// Whether the outgoing channel has told what becomes of it.
+fn is_told(way: &Way) -> bool
+    ensures { result ≡ is_told_by way.now }
+{
+    match way {
+        Way::Nowhere | Way::Offered(_) => false,
+        Way::Refused | Way::Over(_, _) => true,
     }
 }
 
@@ -135,7 +87,7 @@ fn has_removal(mark: &Mark, way: &Way) -> bool
 {
     match mark {
         Mark::None => false,
-        Mark::Forward { .. } => way.is_told(),
+        Mark::Forward { .. } => is_told(way),
         Mark::Fail(_) | Mark::Malformed(_) | Mark::Fulfil(_) => true,
     }
 }
@@ -147,10 +99,8 @@ fn due(channel: &ChannelId, htlc: &Htlc) -> Option<Out>
     if !htlc.decided {
         None
     } else if htlc.back.is_settled() {
-        htlc.way
-            .is_over_in(channel)
-            .then_some(Out::Forgetting(htlc.key))
-    } else if htlc.way.is_nowhere() && forwards_in(channel, &htlc.mark) {
+        is_over_in(channel, &htlc.way).then_some(Out::Forgetting(htlc.key))
+    } else if is_nowhere(&htlc.way) && forwards_in(channel, &htlc.mark) {
         Some(Out::Adding(htlc.key))
     } else if is_open(htlc.back)
         && channel == &htlc.key.channel

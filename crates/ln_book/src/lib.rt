@@ -3,23 +3,7 @@
 #![tactic(auto)]
 
 mod book;
-mod channel;
 mod commands;
-mod entry;
-mod htlc;
-mod kept;
-mod laws;
-mod lists;
-mod log;
 mod marks;
-mod reading;
-mod rebuild;
-mod tables;
 
 pub use book::Book;
-pub use entry::{Decided, Desk, Entry, Ids, Invoice, Line, Out, Queued, Told};
-pub use htlc::{Back, Htlc, Key, Offer, Way};
-pub use kept::Kept;
-pub use laws::one_payment_out;
-pub use log::Log;
-pub use reading::{Leg, Reading};

@@ -1,0 +1,34 @@
+//! Reads calls of a book of forwarded payments, each a line of numbers, and prints a line for each: what it answers.
+//! checks/fuzz/book makes such calls at random; stdin and stdout have a payment over a middle node and worked rows.
+#![tactic(auto)]
+
+mod answers;
+mod calls;
+mod line;
+mod onion;
+mod payments;
+mod show;
+
+use calls::call;
+use ln_book::Book;
+use std::alloc::Global;
+use std::io;
+use std::io::{BufRead, BufReader, BufWriter, Write};
+
+/// Calls a new book line by line.
+fn run<R: BufRead + Drop, W: Write>(alloc: Global, reader: R, out: &mut W) -> io::Result<()> {
+    let mut book = Box::new(alloc, Book::new(alloc))?;
+    for line in reader.lines(alloc) {
+        let told = call(alloc, &mut book, &line?)?;
+        out.write_all(told.as_bytes())?;
+        out.write_all(b"\n")?;
+    }
+    out.flush()
+}
+
+fn main(rt: HostRuntime) -> io::Result<()> {
+    let alloc = rt.alloc();
+    let reader = BufReader::new(alloc, rt.reader())?;
+    let mut out = BufWriter::new(alloc, io::writer(&rt))?;
+    run(alloc, reader, &mut out)
+}

@@ -1,0 +1,65 @@
+-- What a book asks of a channel, once its connection was lost or it was loaded.
+use Rattle.std.specs.Prelude.{ℕ, List, [], ◌∷◌, length, Bool, false, not, ◌&&◌, nat_lt, Option, Some, None}
+use Rattle.std.specs.Prelude.{if◌then◌else◌}
+use Rattle.std.specs.List.{find}
+use Rattle.ln_log.specs.declared.mark.Mark.{Mark}
+use Rattle.ln_log.specs.declared.update.Update.{Update}
+use Rattle.ln_log.specs.Updates.{next_id, outcome, is_live}
+use Rattle.ln_log.specs.Log.{Log, between}
+use Rattle.ln_channel.specs.End.{End}
+use Rattle.ln_tables.specs.declared.htlc.Htlc.{Htlc}
+use Rattle.ln_tables.specs.declared.entry.Queued.{Queued}
+use Rattle.ln_tables.specs.declared.entry.Out.{Out}
+use Rattle.ln_tables.specs.declared.entry.Out.TheVariants as out
+use Rattle.ln_tables.specs.declared.entry.Desk.{Desk}
+use Rattle.ln_tables.specs.declared.entry.Desk.TheVariants as desk
+use Rattle.ln_tables.specs.declared.entry.Told.{Told}
+use Rattle.ln_tables.specs.Replay.{Table, same, is_queued, desk_at}
+
+-- of the channel's HTLCs in the book those of which a removal was kept
+abbrev pub kept_ids : (ℕ → Bool) → List ℕ → List Htlc → List ℕ
+kept_ids removes c [] = []
+kept_ids removes c (h ∷ hs) = if same c h.key.channel && removes h.key.id then h.key.id ∷ kept_ids removes c hs
+    else kept_ids removes c hs
+
+-- whether the decision that is out was kept
+abbrev pub is_decision_kept : (ℕ → Mark → Bool) → Option Queued → Bool
+is_decision_kept decides None = false
+is_decision_kept decides (Some q) = decides q.event q.mark
+
+abbrev pub is_out_kept : (ℕ → Mark → Bool) → List ℕ → Out → List Queued → Bool
+is_out_kept decides c (out.Deciding n) qs = is_decision_kept decides (find (is_queued c n) qs)
+is_out_kept decides c (out.Adding k) qs = false
+is_out_kept decides c (out.Removing k) qs = false
+is_out_kept decides c (out.Forgetting k) qs = false
+
+abbrev pub is_desk_kept : (ℕ → Mark → Bool) → List ℕ → Desk → List Queued → Bool
+is_desk_kept decides c desk.Idle qs = false
+is_desk_kept decides c (desk.Out o) qs = is_out_kept decides c o qs
+is_desk_kept decides c (desk.Unsure o) qs = is_out_kept decides c o qs
+
+-- all that it is asked
+abbrev pub told_by : ℕ → (ℕ → Bool) → (ℕ → Mark → Bool) → List ℕ → Table → Told
+told_by next removes decides c t = record {
+  next = next;
+  removes = kept_ids removes c t.htlcs;
+  decides = is_desk_kept decides c (desk_at c t) t.queue;
+}
+
+-- ---- what the end of a channel answers, by the lists that it has
+
+-- the own updates, from the first one that it still has one by one
+abbrev pub own_updates : Log → List Update
+own_updates l = between l.first.own (length l.own) l.own
+
+-- each HTLC that it has offered has an id below this
+abbrev pub next_own_id : End → ℕ
+next_own_id e = next_id e.dance.log.own
+
+-- an own update removes the peer's HTLC of this id
+abbrev pub has_own_removal : ℕ → Log → Bool
+has_own_removal id l = not (is_live (outcome id (own_updates l)))
+
+-- events are decided in turn: those below the count are
+abbrev pub has_decided : ℕ → End → Bool
+has_decided n e = nat_lt n e.ledger.decided

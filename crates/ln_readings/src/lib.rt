@@ -1,0 +1,13 @@
+//! What a book of forwarded payments reads off the ends of its node's channels: behind a lost connection or a load what
+//! was kept, and as the node starts all that it begins with (BOLT 2, "Forwarding HTLCs").
+#![tactic(auto)]
+
+mod channel;
+mod kept;
+mod leg;
+mod reading;
+mod rebuild;
+
+pub use kept::{Kept, told_by};
+pub use leg::{Leg, Reading};
+pub use rebuild::rebuilt_htlcs;

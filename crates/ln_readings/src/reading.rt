@@ -1,0 +1,215 @@
+//! What a book takes from the end of a channel as its node starts.
+
+ghost use Rattle.std.specs.Prelude.{◌≡◌, IfOk, IfErr, option_copied};
+ghost use Rattle.ln_log.specs.Updates.{add_with, offered};
+ghost use Rattle.ln_readings.specs.Rebuild.{peer_updates, held_updates, leg_of, legs_offered, how_of, leg_over};
+ghost use Rattle.ln_readings.specs.Rebuild.{legs_over, back_in, htlc_by, decided_by, decided_in};
+
+use crate::channel::own_updates;
+use crate::leg::{Leg, NO_EVENT, Reading};
+use ln_channel::Channel;
+use ln_hooks::How;
+use ln_log::{
+    Add, ChannelId, Decision, Mark, Outcome, Pair, Settlement, Side, Update, UpdateLog, add_of,
+    find_add, outcome_of,
+};
+use ln_msgs::Refusal;
+use ln_tables::{Back, Htlc, Key, Offer, Way, copied, copy_mark};
+use std::alloc::Global;
+
+// The peer's updates that an end still has one by one.
+fn peer_updates(log: &UpdateLog) -> &[Update]
+    ensures { result.now ≡ peer_updates log.now }
+{
+    let first = log.first(Side::Peer);
+    log.between(Side::Peer, first, log.counts(Pair::ToAccept).peer)
+}
+
+// The own ones that are held as irrevocably committed.
+fn held_updates(log: &UpdateLog) -> &[Update]
+    ensures { result.now ≡ held_updates log.now }
+{
+    let first = log.first(Side::Own);
+    log.between(Side::Own, first, log.counts(Pair::Current(Side::Own)).own)
+}
+
+// The HTLC that an own add forwards, if any, and where it goes.
+fn leg_of(channel: &ChannelId, add: Option<&Add>) -> Option<Leg>
+    ensures { result ≡ leg_of channel.now (option_copied add.entry) }
+{
+    let add = add?;
+    let (from, id) = add.origin?;
+    let origin = Key { channel: from, id };
+    let way = Way::Offered(Key {
+        channel: *channel,
+        id: add.id,
+    });
+    Some(Leg { origin, way })
+}
+
+// Those of own updates. Error: 60 alone.
+fn legs_offered(alloc: Global, channel: &ChannelId, updates: &[Update]) -> Result<Vec<Leg>, Refusal>
+    ensures legs { IfOk result (λ v. v.items ≡ legs_offered channel.now updates.now) }
+    ensures fails_for_memory_alone { IfErr result (λ r. r ≡ Refusal.Memory) }
+{
+    let mut legs = Vec::new(alloc);
+    for update in updates {
+        match leg_of(channel, add_of(update)) {
+            None => {}
+            Some(leg) => legs.push(leg)?,
+        }
+    }
+    Ok(legs)
+}
+
+// How an update removes an HTLC. Error: 60 alone.
+fn how_of(alloc: Global, update: &Update) -> Result<Option<How>, Refusal>
+    ensures how { IfOk result (λ h. h ≡ how_of update.now) }
+    ensures fails_for_memory_alone { IfErr result (λ r. r ≡ Refusal.Memory) }
+{
+    match update {
+        Update::Add(_) => Ok(None),
+        Update::Fulfil(fulfil) => Ok(Some(How::Fulfilled(fulfil.preimage))),
+        Update::Fail(fail) => Ok(Some(How::Failed(copied(alloc, &fail.reason)?))),
+        Update::Malformed(malformed) => Ok(Some(How::Malformed(
+            malformed.sha256_of_onion,
+            malformed.failure_code,
+        ))),
+        Update::Fee(_) => Ok(None),
+    }
+}
+
+// What has become of an own HTLC that forwards another one.
+fn leg_over(channel: &ChannelId, settlement: &Settlement, how: Option<How>) -> Option<Leg>
+    ensures { result ≡ leg_over channel.now settlement.now how }
+{
+    let how = how?;
+    let (from, id) = settlement.origin;
+    let origin = Key { channel: from, id };
+    let key = Key {
+        channel: *channel,
+        id: settlement.id,
+    };
+    let way = Way::Over(key, how);
+    Some(Leg { origin, way })
+}
+
+// Of all results. Error: 60 alone.
+fn legs_over(
+    alloc: Global,
+    channel: &ChannelId,
+    results: &[Settlement],
+) -> Result<Vec<Leg>, Refusal>
+    ensures legs { IfOk result (λ v. v.items ≡ legs_over channel.now results.now) }
+    ensures fails_for_memory_alone { IfErr result (λ r. r ≡ Refusal.Memory) }
+{
+    let mut legs = Vec::new(alloc);
+    for settlement in results {
+        let how = how_of(alloc, &settlement.removal)?;
+        match leg_over(channel, settlement, how) {
+            None => {}
+            Some(leg) => legs.push(leg)?,
+        }
+    }
+    Ok(legs)
+}
+
+// How far the own removal of a peer's HTLC is.
+fn back_in(id: u64, log: &UpdateLog) -> Back
+    ensures { result ≡ back_in id log.now }
+{
+    if outcome_of(id, held_updates(log)) != Outcome::Live {
+        return Back::Settled;
+    }
+    if outcome_of(id, own_updates(log)) != Outcome::Live {
+        return Back::Sent;
+    }
+    Back::Open
+}
+
+// A peer's HTLC that was decided so.
+fn htlc_by(channel: &ChannelId, mark: Mark, back: Back, add: &Add) -> Htlc
+    ensures { result ≡ htlc_by channel.now mark back add.now }
+{
+    let offer = Offer {
+        id: add.id,
+        amount: add.amount,
+        hash: add.hash,
+        expiry: add.expiry,
+        onion: add.onion,
+    };
+    Htlc {
+        key: Key {
+            channel: *channel,
+            id: add.id,
+        },
+        event: NO_EVENT,
+        offer,
+        mark,
+        decided: true,
+        way: Way::Nowhere,
+        back,
+    }
+}
+
+// The HTLC of a decision, where the end has its add. Error: 60 alone.
+fn decided_by(
+    alloc: Global,
+    channel: &ChannelId,
+    log: &UpdateLog,
+    decision: &Decision,
+) -> Result<Option<Htlc>, Refusal>
+    ensures htlc { IfOk result (λ h. h ≡ decided_by channel.now decision.now.mark (back_in decision.now.id log.now)
+        (add_with decision.now.id (peer_updates log.now))) }
+    ensures fails_for_memory_alone { IfErr result (λ r. r ≡ Refusal.Memory) }
+{
+    let Some(add) = find_add(decision.id, peer_updates(log)) else {
+        return Ok(None);
+    };
+    let mark = copy_mark(alloc, &decision.mark)?;
+    let back = back_in(decision.id, log);
+    Ok(Some(htlc_by(channel, mark, back, add)))
+}
+
+// The HTLCs of all decisions. Error: 60 alone.
+fn decided_in(
+    alloc: Global,
+    channel: &ChannelId,
+    log: &UpdateLog,
+    decisions: &[Decision],
+) -> Result<Vec<Htlc>, Refusal>
+    ensures htlcs { IfOk result (λ v. v.items ≡ decided_in channel.now log.now decisions.now) }
+    ensures fails_for_memory_alone { IfErr result (λ r. r ≡ Refusal.Memory) }
+{
+    let mut htlcs = Vec::new(alloc);
+    for decision in decisions {
+        match decided_by(alloc, channel, log, decision)? {
+            None => {}
+            Some(htlc) => htlcs.push(htlc)?,
+        }
+    }
+    Ok(htlcs)
+}
+
+impl Reading {
+    ghost use Rattle.std.specs.Prelude.{◌≡◌, IfOk, IfErr};
+    ghost use Rattle.ln_readings.specs.Rebuild.{reading_of};
+
+    /// What the end of a channel has of HTLCs that are forwarded, failed or taken: its own adds that forward others;
+    /// what became of such adds; and the peer's HTLCs that it has decided, each with whether an own removal of it
+    /// stands in its lists, and whether that is irrevocably committed (BOLT 2, "Forwarding HTLCs"). Takes memory.
+    /// Error: 60 alone.
+    pub fn of(alloc: Global, channel: &Channel) -> Result<Reading, Refusal>
+        ensures reads_the_end { IfOk result (λ r. r ≡ reading_of channel.now) }
+        ensures fails_for_memory_alone { IfErr result (λ r. r ≡ Refusal.Memory) }
+    {
+        let id = channel.id();
+        let log = channel.dance().log();
+        let ledger = channel.ledger();
+        Ok(Reading {
+            offered: legs_offered(alloc, &id, own_updates(log))?,
+            results: legs_over(alloc, &id, ledger.results())?,
+            decided: decided_in(alloc, &id, log, ledger.decisions())?,
+        })
+    }
+}

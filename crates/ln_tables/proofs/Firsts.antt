@@ -1,0 +1,39 @@
+-- The first one of a list that passes a test, by its place.
+use Rattle.std.proofs.Common.{◌≡◌, ℕ, ◌<◌, List, [], ◌∷◌, zero, suc, length, get_or, set, refl, sym, ap, ◌∙◌}
+use Rattle.std.proofs.Common.{arith, Bool, true, false, cond, Some, None, inl, inr}
+use Rattle.std.proofs.lemmas.Bool.Decides.{leb_tells}
+use Rattle.std.proofs.lemmas.List.Sums.{fails_before_first}
+use Rattle.std.proofs.lemmas.List.Quantifiers.{position-Some}
+use Rattle.std.specs.List.{position, position_or_len}
+use Rattle.ln_tables.specs.Replay.{changed_first}
+
+abbrev Fails : {A : Type 0} → (A → Bool) → List A → Type 0
+Fails {A} p xs = (k : ℕ) (d : A) → k < length xs → p (get_or xs k d) ≡ false
+
+unchanged : {A : Type 0} (p : A → Bool) (f : A → A) (xs : List A) → Fails p xs → changed_first p f xs ≡ xs
+unchanged p f [] out = refl
+unchanged p f (x ∷ xs) out = ap (λ b. cond b (f x ∷ xs) (x ∷ changed_first p f xs)) (out zero x (omega arith))
+    ∙ ap (λ ys. x ∷ ys) (unchanged p f xs (λ k d lt. out (suc k) d (omega (arith, lt))))
+
+-- where none passes
+pub changed_none : {A : Type 0} (p : A → Bool) (f : A → A) (xs : List A) → position p xs ≡ None
+    → xs ≡ changed_first p f xs
+changed_none p f xs e = elim (leb_tells (suc (position_or_len p xs)) (length xs)) [
+  | inl g ↦ absurd (let is : Some (position_or_len p xs) ≡ None =
+      sym (ap (λ t. cond t (Some (position_or_len p xs)) None) g.0) ∙ e in cc)
+  | inr g ↦ sym (unchanged p f xs (λ k d lt. fails_before_first p xs k d (omega (arith, lt, g.1))))
+]
+
+at_place : {A : Type 0} (p : A → Bool) (f : A → A) (xs : List A) (i : ℕ) (d : A) → i < length xs
+    → p (get_or xs i d) ≡ true → ((k : ℕ) → k < i → p (get_or xs k d) ≡ false)
+    → set xs i (f (get_or xs i d)) ≡ changed_first p f xs
+at_place p f [] i d lt is out = absurd (omega (arith, lt))
+at_place p f (x ∷ xs) zero d lt is out = sym (ap (λ b. cond b (f x ∷ xs) (x ∷ changed_first p f xs)) is)
+at_place p f (x ∷ xs) (suc i) d lt is out =
+    ap (λ ys. x ∷ ys) (at_place p f xs i d (omega (arith, lt)) is (λ k l. out (suc k) (omega (arith, l))))
+    ∙ sym (ap (λ b. cond b (f x ∷ xs) (x ∷ changed_first p f xs)) (out zero (omega arith)))
+
+-- where the one at this place is the first
+pub changed_at : {A : Type 0} (p : A → Bool) (f : A → A) (xs : List A) (i : ℕ) (d : A) → position p xs ≡ Some i
+    → set xs i (f (get_or xs i d)) ≡ changed_first p f xs
+changed_at p f xs i d e = let h = position-Some p xs i d e in at_place p f xs i d h.0 h.1 h.2

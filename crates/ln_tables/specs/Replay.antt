@@ -1,0 +1,322 @@
+-- The book of a node's forwarded payments: what was entered, one after the other, and what that leaves.
+use Rattle.std.specs.Prelude.{ℕ, List, [], ◌∷◌, ◌++◌, map, filter, fold, Bool, true, false, not, ◌&&◌, ◌||◌}
+use Rattle.std.specs.Prelude.{◌==◌, nat_eq, nat_lt, nat_le, Option, Some, None, Result, Ok, Err}
+use Rattle.std.specs.Prelude.{if◌then◌else◌}
+use Rattle.std.specs.List.{list_any}
+use Rattle.std.specs.Map.{lookup}
+use Rattle.std.specs.Cmp.Lexicographic.{pointwise}
+use Rattle.indexmap.specs.IndexMap.{insert_entry}
+use Rattle.ln_keys.specs.Hash.{payment_hash}
+use Rattle.ln_hooks.specs.declared.event.How.{How}
+use Rattle.ln_tables.specs.declared.htlc.Key.{Key}
+use Rattle.ln_tables.specs.declared.htlc.Offer.{Offer}
+use Rattle.ln_tables.specs.declared.htlc.Way.{Way}
+use Rattle.ln_tables.specs.declared.htlc.Way.TheVariants as way
+use Rattle.ln_tables.specs.declared.htlc.Back.{Back}
+use Rattle.ln_tables.specs.declared.htlc.Back.TheVariants as back
+use Rattle.ln_tables.specs.declared.htlc.Htlc.{Htlc}
+use Rattle.ln_tables.specs.declared.entry.Line.{Line}
+use Rattle.ln_tables.specs.declared.entry.Invoice.{Invoice}
+use Rattle.ln_tables.specs.declared.entry.Queued.{Queued}
+use Rattle.ln_tables.specs.declared.entry.Decided.{Decided}
+use Rattle.ln_tables.specs.declared.entry.Out.{Out}
+use Rattle.ln_tables.specs.declared.entry.Out.TheVariants as out
+use Rattle.ln_tables.specs.declared.entry.Desk.{Desk}
+use Rattle.ln_tables.specs.declared.entry.Desk.TheVariants as desk
+use Rattle.ln_tables.specs.declared.entry.Told.{Told}
+use Rattle.ln_tables.specs.declared.entry.Entry.{Entry}
+use Rattle.ln_tables.specs.declared.entry.Entry.TheVariants as entry
+use Rattle.ln_tables.specs.History.{History}
+
+-- What a book says. A channel is its id, in 32 bytes; a short channel id is its eight bytes.
+pub record Table : Type 0 where
+  pub routes : List (List ℕ × Line)
+  pub used : List (List ℕ × Bool)
+  pub height : ℕ
+  pub expected : List (List ℕ × Invoice)  -- by payment hash
+  pub queue : List Queued  -- decisions that channels are yet to take
+  pub htlcs : List Htlc  -- in order of deciding
+  pub desks : List (List ℕ × Desk)
+
+abbrev pub no_table : Table
+no_table = record { routes = []; used = []; height = 0; expected = []; queue = []; htlcs = []; desks = [] }
+
+-- ---- which
+
+abbrev pub same : List ℕ → List ℕ → Bool
+same a b = pointwise nat_eq a b
+
+abbrev pub same_key : Key → Key → Bool
+same_key a b = same a.channel b.channel && (a.id == b.id)
+
+-- the outgoing HTLC
+abbrev pub goes_by : Key → Way → Bool
+goes_by k way.Nowhere = false
+goes_by k way.Refused = false
+goes_by k (way.Offered j) = same_key k j
+goes_by k (way.Over j how) = same_key k j
+
+abbrev pub is_htlc : Key → Htlc → Bool
+is_htlc k h = same_key k h.key
+
+-- the HTLC that an event told of
+abbrev pub is_told : List ℕ → ℕ → Htlc → Bool
+is_told c n h = same c h.key.channel && (n == h.event)
+
+abbrev pub is_offered : Key → Htlc → Bool
+is_offered k h = goes_by k h.way
+
+abbrev pub is_queued : List ℕ → ℕ → Queued → Bool
+is_queued c n q = same c q.channel && (n == q.event)
+
+-- the first one that passes is changed
+abbrev pub changed_first : {A : Type 0} → (A → Bool) → (A → A) → List A → List A
+changed_first p f [] = []
+changed_first p f (x ∷ xs) = if p x then f x ∷ xs else x ∷ changed_first p f xs
+
+abbrev pub left_out : {A : Type 0} → (A → Bool) → List A → List A
+left_out p xs = filter (λ x. not (p x)) xs
+
+-- ---- settings: the later one takes the earlier one's place
+
+abbrev pub with_route : List ℕ → Line → Table → Table
+with_route id l t = record t { routes = insert_entry same t.routes id l }
+
+abbrev pub with_use : List ℕ → Bool → Table → Table
+with_use c u t = record t { used = insert_entry same t.used c u }
+
+abbrev pub with_height : ℕ → Table → Table
+with_height h t = record t { height = h }
+
+abbrev pub with_invoice : Invoice → Table → Table
+with_invoice i t = record t { expected = insert_entry same t.expected (payment_hash i.preimage) i }
+
+abbrev pub used_of : Option Bool → Bool
+used_of None = false
+used_of (Some u) = u
+
+-- a channel of which nothing was said takes no payments
+abbrev pub is_usable : List ℕ → Table → Bool
+is_usable c t = used_of (lookup (same c) t.used)
+
+-- ---- a decision
+
+abbrev pub is_decided : Key → Htlc → Bool
+is_decided k h = is_htlc k h && h.decided
+
+abbrev pub htlc_of : Decided → Offer → Htlc
+htlc_of d o = record {
+  key = record { channel = d.channel; id = o.id };
+  event = d.event;
+  offer = o;
+  mark = d.mark;
+  decided = false;
+  way = way.Nowhere;
+  back = back.Open;
+}
+
+-- one that the channel has decided stays as it is; else it joins behind the others
+abbrev pub joined : Htlc → List Htlc → List Htlc
+joined h hs = if list_any (is_decided h.key) hs then hs else left_out (is_htlc h.key) hs ++ h ∷ []
+
+abbrev pub with_offer : Decided → Option Offer → List Htlc → List Htlc
+with_offer d None hs = hs
+with_offer d (Some o) hs = joined (htlc_of d o) hs
+
+abbrev pub queued_of : Decided → Queued
+queued_of d = record { channel = d.channel; event = d.event; mark = d.mark }
+
+-- an earlier one of the same event goes
+abbrev pub with_queued : Decided → List Queued → List Queued
+with_queued d qs = left_out (is_queued d.channel d.event) qs ++ queued_of d ∷ []
+
+abbrev pub with_decided : Decided → Table → Table
+with_decided d t = record t { queue = with_queued d t.queue; htlcs = with_offer d d.offer t.htlcs }
+
+-- ---- a command that was handed out, and its answer
+
+abbrev pub desk_of : Option Desk → Desk
+desk_of None = desk.Idle
+desk_of (Some d) = d
+
+abbrev pub desk_at : List ℕ → Table → Desk
+desk_at c t = desk_of (lookup (same c) t.desks)
+
+abbrev pub with_desk : List ℕ → Desk → Table → Table
+with_desk c d t = record t { desks = insert_entry same t.desks c d }
+
+abbrev pub with_htlcs : List Htlc → Table → Table
+with_htlcs hs t = record t { htlcs = hs }
+
+abbrev pub unqueued : List ℕ → ℕ → Table → Table
+unqueued c n t = record t { queue = left_out (is_queued c n) t.queue }
+
+abbrev pub decide : Htlc → Htlc
+decide h = record h { decided = true }
+
+abbrev pub put_way : Way → Htlc → Htlc
+put_way w h = record h { way = w }
+
+abbrev pub put_back : Back → Htlc → Htlc
+put_back b h = record h { back = b }
+
+abbrev pub with_way : Key → Way → List Htlc → List Htlc
+with_way k w hs = changed_first (is_htlc k) (put_way w) hs
+
+abbrev pub with_back : Key → Back → List Htlc → List Htlc
+with_back k b hs = changed_first (is_htlc k) (put_back b) hs
+
+-- one that the channel hasn't decided
+abbrev pub is_undecided : List ℕ → ℕ → Htlc → Bool
+is_undecided c n h = is_told c n h && not h.decided
+
+-- the channel has taken a command: it has offered an HTLC of this id where it is told to offer one
+abbrev pub taken_by : List ℕ → ℕ → Out → List Htlc → List Htlc
+taken_by c i (out.Deciding n) hs = changed_first (is_told c n) decide hs
+taken_by c i (out.Adding k) hs = with_way k (way.Offered (record { channel = c; id = i })) hs
+taken_by c i (out.Removing k) hs = with_back k back.Sent hs
+taken_by c i (out.Forgetting k) hs = left_out (is_htlc k) hs
+
+-- it has refused it by this number: an add that is refused below 47 is failed
+abbrev pub refused_by : List ℕ → ℕ → Out → List Htlc → List Htlc
+refused_by c r (out.Deciding n) hs = left_out (is_undecided c n) hs
+refused_by c r (out.Adding k) hs = if nat_lt r 47 then with_way k way.Refused hs else left_out (is_htlc k) hs
+refused_by c r (out.Removing k) hs = with_back k back.Gone hs
+refused_by c r (out.Forgetting k) hs = left_out (is_htlc k) hs
+
+-- a decision that was taken or refused leaves the queue
+abbrev pub queue_behind : List ℕ → Out → List Queued → List Queued
+queue_behind c (out.Deciding n) qs = left_out (is_queued c n) qs
+queue_behind c (out.Adding k) qs = qs
+queue_behind c (out.Removing k) qs = qs
+queue_behind c (out.Forgetting k) qs = qs
+
+abbrev pub done : List ℕ → ℕ → Out → Table → Table
+done c i o t = record t { queue = queue_behind c o t.queue; htlcs = taken_by c i o t.htlcs }
+
+abbrev pub refused : List ℕ → ℕ → Out → Table → Table
+refused c r o t = record t { queue = queue_behind c o t.queue; htlcs = refused_by c r o t.htlcs }
+
+-- 60 and 61: whether it was taken isn't known
+abbrev pub is_unsure : ℕ → Bool
+is_unsure r = (r == 60) || (r == 61)
+
+-- 47 and 62: the channel takes it another time
+abbrev pub is_later : ℕ → Bool
+is_later r = (r == 47) || (r == 62)
+
+abbrev pub answered_out : List ℕ → Result ℕ ℕ → Out → Table → Table
+answered_out c (Ok i) o t = done c i o (with_desk c desk.Idle t)
+answered_out c (Err r) o t =
+    if is_unsure r then with_desk c (desk.Unsure o) t
+    else (if is_later r then with_desk c desk.Idle t else refused c r o (with_desk c desk.Idle t))
+
+-- where nothing is out, nothing is answered
+abbrev pub answered_at : List ℕ → Result ℕ ℕ → Desk → Table → Table
+answered_at c a desk.Idle t = t
+answered_at c a (desk.Out o) t = answered_out c a o t
+answered_at c a (desk.Unsure o) t = t
+
+abbrev pub with_answer : List ℕ → Result ℕ ℕ → Table → Table
+with_answer c a t = answered_at c a (desk_at c t) t
+
+-- ---- what is irrevocably committed
+
+abbrev pub with_over : Key → How → Table → Table
+with_over k how t = with_htlcs (changed_first (is_offered k) (put_way (way.Over k how)) t.htlcs) t
+
+abbrev pub is_nowhere : Way → Bool
+is_nowhere way.Nowhere = true
+is_nowhere way.Refused = false
+is_nowhere (way.Offered k) = false
+is_nowhere (way.Over k h) = false
+
+-- nothing of it is left in another channel
+abbrev pub has_no_way : Way → Bool
+has_no_way way.Nowhere = true
+has_no_way way.Refused = true
+has_no_way (way.Offered k) = false
+has_no_way (way.Over k how) = false
+
+abbrev pub is_open : Back → Bool
+is_open back.Open = true
+is_open back.Sent = false
+is_open back.Gone = false
+is_open back.Settled = false
+
+abbrev pub is_settled : Back → Bool
+is_settled back.Open = false
+is_settled back.Sent = false
+is_settled back.Gone = false
+is_settled back.Settled = true
+
+abbrev pub is_finished : Key → Htlc → Bool
+is_finished k h = is_htlc k h && (is_settled h.back && has_no_way h.way)
+
+abbrev pub with_removed : Key → Table → Table
+with_removed k t = with_htlcs (left_out (is_finished k) (with_back k back.Settled t.htlcs)) t
+
+-- ---- a lost connection, or a load
+
+-- a channel that has kept its HTLCs below this id has lost the outgoing HTLC
+abbrev pub is_way_lost : List ℕ → ℕ → Way → Bool
+is_way_lost c next way.Nowhere = false
+is_way_lost c next way.Refused = false
+is_way_lost c next (way.Offered k) = same c k.channel && nat_le next k.id
+is_way_lost c next (way.Over k how) = false
+
+abbrev pub is_among : ℕ → List ℕ → Bool
+is_among id ids = list_any (λ i. id == i) ids
+
+-- and so a removal that it hasn't kept
+abbrev pub back_kept : Bool → Back → Back
+back_kept kept back.Open = back.Open
+back_kept kept back.Sent = if kept then back.Sent else back.Open
+back_kept kept back.Gone = back.Gone
+back_kept kept back.Settled = back.Settled
+
+abbrev pub htlc_kept : List ℕ → Told → Htlc → Htlc
+htlc_kept c told h = record h {
+  way = if is_way_lost c told.next h.way then way.Nowhere else h.way;
+  back = back_kept (not (same c h.key.channel) || is_among h.key.id told.removes) h.back;
+}
+
+-- what was out: a decision that was kept was taken, and whether a removal was kept is told as of any other
+abbrev pub kept_out : List ℕ → Bool → Out → Table → Table
+kept_out c decides (out.Deciding n) t = if decides then done c 0 (out.Deciding n) t else t
+kept_out c decides (out.Adding k) t = t
+kept_out c decides (out.Removing k) t = with_htlcs (with_back k back.Sent t.htlcs) t
+kept_out c decides (out.Forgetting k) t = t
+
+abbrev pub kept_at : List ℕ → Bool → Desk → Table → Table
+kept_at c decides desk.Idle t = t
+kept_at c decides (desk.Out o) t = kept_out c decides o (with_desk c desk.Idle t)
+kept_at c decides (desk.Unsure o) t = kept_out c decides o (with_desk c desk.Idle t)
+
+abbrev pub put_back_all : List ℕ → Told → Table → Table
+put_back_all c told t = with_htlcs (map (htlc_kept c told) t.htlcs) t
+
+abbrev pub with_dropped : List ℕ → Told → Table → Table
+with_dropped c told t = put_back_all c told (kept_at c told.decides (desk_at c t) t)
+
+-- ---- the replay
+
+abbrev pub after : Table → Entry → Table
+after t (entry.Route id l) = with_route id l t
+after t (entry.Use c u) = with_use c u t
+after t (entry.Height h) = with_height h t
+after t (entry.Expect i) = with_invoice i t
+after t (entry.Decided d) = with_decided d t
+after t (entry.Taken c o) = with_desk c (desk.Out o) t
+after t (entry.Answered c a) = with_answer c a t
+after t (entry.Over k how) = with_over k how t
+after t (entry.Removed k) = with_removed k t
+after t (entry.Dropped c told) = with_dropped c told t
+
+-- what these entries make of a table, one after the other
+abbrev pub replay : Table → List Entry → Table
+replay start es = fold after start es
+
+-- what a history says
+abbrev pub table_of : History Table Entry → Table
+table_of h = replay h.start h.entries

@@ -1,0 +1,17 @@
+//! What a node's book of forwarded payments says: what was entered, one after the other, and what that leaves (BOLT 2,
+//! "Forwarding HTLCs").
+#![tactic(auto)]
+
+mod copy;
+mod entry;
+mod htlc;
+mod lists;
+mod log;
+mod lost;
+mod tables;
+
+pub use copy::{copied, copy_how, copy_mark};
+pub use entry::{Decided, Desk, Entry, Ids, Invoice, Line, Out, Queued, Told};
+pub use htlc::{Back, Htlc, Key, Offer, Way};
+pub use log::Log;
+pub use tables::Tables;

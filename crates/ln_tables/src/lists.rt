@@ -1,0 +1,171 @@
+//! Searches and changes in the lists of a book, by scans.
+
+ghost use Rattle.std.specs.Prelude.{◌≡◌, ◌≤◌};
+ghost use Rattle.std.specs.List.{position, list_any};
+ghost use Rattle.std.specs.Vec.{vec_capacity, vec_len};
+ghost use Rattle.ln_tables.specs.Replay.{changed_first, left_out, is_queued, is_decided};
+ghost use Rattle.ln_tables.specs.Lists.{picks, changed_by};
+
+use crate::entry::Queued;
+use crate::htlc::{Back, Htlc, Key, Way};
+use ln_log::ChannelId;
+
+/// Which HTLC is meant.
+#[derive(Clone, Copy)]
+pub(crate) enum Which {
+    /// The one of this key.
+    Htlc(Key),
+    /// The one that this event told of.
+    Told(ChannelId, u64),
+    /// The one whose outgoing HTLC this is.
+    Offered(Key),
+    /// The one that this event told of, where the channel hasn't decided it.
+    Undecided(ChannelId, u64),
+    /// The one of this key, where it is finished.
+    Finished(Key),
+}
+
+/// What becomes of an HTLC.
+#[derive(Drop)]
+pub(crate) enum Change {
+    /// The channel has decided it.
+    Decide,
+    /// Its outgoing HTLC.
+    Way(Way),
+    /// Its removal.
+    Back(Back),
+}
+
+impl Key {
+    ghost use Rattle.std.specs.Prelude.{◌≡◌};
+    ghost use Rattle.ln_tables.specs.Replay.{same_key};
+
+    /// Whether it is the same HTLC.
+    pub fn is(&self, other: &Key) -> bool
+        ensures { result ≡ same_key self.now other.now }
+    {
+        self.channel == other.channel && self.id == other.id
+    }
+}
+
+impl Way {
+    ghost use Rattle.std.specs.Prelude.{◌≡◌};
+    ghost use Rattle.ln_tables.specs.Replay.{goes_by, has_no_way};
+
+    // Whether this is the outgoing HTLC.
+    pub(crate) fn goes_by(&self, key: &Key) -> bool
+        ensures { result ≡ goes_by key.now self.now }
+    {
+        match self {
+            Way::Nowhere | Way::Refused => false,
+            Way::Offered(offered) | Way::Over(offered, _) => key.is(offered),
+        }
+    }
+
+    /// Whether nothing of it is left in another channel.
+    pub fn is_none(&self) -> bool
+        ensures { result ≡ has_no_way self.now }
+    {
+        match self {
+            Way::Nowhere | Way::Refused => true,
+            Way::Offered(_) | Way::Over(_, _) => false,
+        }
+    }
+}
+
+impl Back {
+    ghost use Rattle.std.specs.Prelude.{◌≡◌};
+    ghost use Rattle.ln_tables.specs.Replay.{is_settled};
+
+    /// Whether it is irrevocably committed.
+    pub fn is_settled(&self) -> bool
+        ensures { result ≡ is_settled self.now }
+    {
+        match self {
+            Back::Open | Back::Sent | Back::Gone => false,
+            Back::Settled => true,
+        }
+    }
+}
+
+impl Htlc {
+    ghost use Rattle.std.specs.Prelude.{◌≡◌};
+    ghost use Rattle.ln_tables.specs.Replay.{is_told};
+    ghost use Rattle.ln_tables.specs.Lists.{picks, changed_by};
+
+    // Whether this event told of it.
+    fn is_told(&self, channel: &ChannelId, event: u64) -> bool
+        ensures { result ≡ is_told channel.now event self.now }
+    {
+        channel == &self.key.channel && event == self.event
+    }
+
+    // Whether it is meant.
+    fn is_picked(&self, which: &Which) -> bool
+        ensures { result ≡ picks which.now self.now }
+    {
+        match which {
+            Which::Htlc(key) => key.is(&self.key),
+            Which::Told(channel, event) => self.is_told(channel, *event),
+            Which::Offered(key) => self.way.goes_by(key),
+            Which::Undecided(channel, event) => self.is_told(channel, *event) && !self.decided,
+            Which::Finished(key) => {
+                key.is(&self.key) && self.back.is_settled() && self.way.is_none()
+            }
+        }
+    }
+
+    // Changes it.
+    fn change(&mut self, change: Change)
+        ensures { self.new ≡ changed_by change self.old }
+    {
+        match change {
+            Change::Decide => self.decided = true,
+            Change::Way(way) => self.way = way,
+            Change::Back(back) => self.back = back,
+        }
+    }
+}
+
+// The place of the first HTLC that is meant.
+fn place_of(htlcs: &[Htlc], which: &Which) -> Option<usize>
+    ensures { result ≡ position (picks which.now) htlcs.now }
+{
+    htlcs.iter().position(|htlc| htlc.is_picked(which))
+}
+
+/// Changes the first HTLC that is meant.
+pub(crate) fn change_first(htlcs: &mut Vec<Htlc>, which: &Which, change: Change)
+    ensures { htlcs.new.items ≡ changed_first (picks which.now) (changed_by change) htlcs.old.items }
+{
+    match place_of(htlcs.as_slice(), which) {
+        None => drop(change),
+        Some(place) => {
+            let htlc = &mut htlcs[place];
+            htlc.change(change);
+        }
+    }
+}
+
+/// Leaves out the HTLCs that are meant.
+pub(crate) fn leave_out(htlcs: &mut Vec<Htlc>, which: &Which)
+    ensures left { htlcs.new.items ≡ left_out (picks which.now) htlcs.old.items }
+    ensures room { (vec_capacity htlcs.new ≡ vec_capacity htlcs.old) × (vec_len htlcs.new ≤ vec_len htlcs.old) }
+{
+    htlcs.retain(|htlc| !htlc.is_picked(which));
+}
+
+/// Leaves out the decisions of an event.
+pub(crate) fn unqueue(queue: &mut Vec<Queued>, channel: &ChannelId, event: u64)
+    ensures left { queue.new.items ≡ left_out (is_queued channel.now event) queue.old.items }
+    ensures room { (vec_capacity queue.new ≡ vec_capacity queue.old) × (vec_len queue.new ≤ vec_len queue.old) }
+{
+    queue.retain(|queued| !(channel == &queued.channel && event == queued.event));
+}
+
+/// Whether the HTLC of this key is decided.
+pub(crate) fn is_any_decided(htlcs: &[Htlc], key: &Key) -> bool
+    ensures { result ≡ list_any (is_decided key.now) htlcs.now }
+{
+    htlcs.iter().any(|htlc| key.is(&htlc.key) && htlc.decided)
+}

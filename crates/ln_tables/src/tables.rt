@@ -1,0 +1,405 @@
+//! What a book says, as it is kept.
+
+use crate::entry::{Decided, Desk, Invoice, Line, Out, Queued, Told};
+use crate::htlc::{Back, Htlc, Key, Way};
+use crate::lists::{Change, Which, change_first, is_any_decided, leave_out, unqueue};
+use crate::lost::put_back_all;
+use indexmap::IndexMap;
+use ln_hooks::How;
+use ln_keys::sha256_32;
+use ln_log::{ChannelId, Mark};
+use ln_msgs::Refusal;
+use std::alloc::Global;
+use std::marker::Model;
+
+/// What a book says. Contracts see it as a `Table` of specs/Replay.antt.
+#[derive(Drop)]
+pub struct Tables {
+    routes: IndexMap<[u8; 8], Line>,
+    used: IndexMap<ChannelId, bool>,
+    height: u32,
+    expected: IndexMap<[u8; 32], Invoice>,
+    queue: Vec<Queued>,
+    htlcs: Vec<Htlc>,
+    desks: IndexMap<ChannelId, Desk>,
+}
+
+impl Model for Tables {
+    ghost use Rattle.ln_tables.specs.Replay.{Table};
+
+    ghost Value = { Table };
+
+    ghost view = { λ t. record {
+      routes = t.routes.entries;
+      used = t.used.entries;
+      height = t.height;
+      expected = t.expected.entries;
+      queue = t.queue.items;
+      htlcs = t.htlcs.items;
+      desks = t.desks.entries;
+    } };
+}
+
+impl Tables {
+    ghost use Rattle.std.specs.Prelude.{◌≡◌, OnOk, OnErr, IfErr, IfOk, option_copied};
+    ghost use Rattle.std.specs.Map.{lookup};
+    ghost use Rattle.ln_tables.specs.Replay.{no_table, same, with_route, with_use, with_height, with_invoice};
+    ghost use Rattle.ln_tables.specs.Replay.{is_usable, desk_at};
+
+    /// Nothing is said. Takes no memory.
+    pub fn new(alloc: Global) -> Tables
+        ensures { result ≡ no_table }
+    {
+        Tables {
+            routes: IndexMap::new(alloc),
+            used: IndexMap::new(alloc),
+            height: 0,
+            expected: IndexMap::new(alloc),
+            queue: Vec::new(alloc),
+            htlcs: Vec::new(alloc),
+            desks: IndexMap::new(alloc),
+        }
+    }
+
+    /// A short channel id names a channel. Error: 60, which changes nothing.
+    pub fn set_route(&mut self, id: [u8; 8], line: Line) -> Result<(), Refusal>
+        ensures done { OnOk result (self.new ≡ with_route id line self.old) }
+        ensures changes_nothing_if_refused { OnErr result (self.new ≡ self.old) }
+        ensures fails_for_memory_alone { IfErr result (λ r. r ≡ Refusal.Memory) }
+    {
+        match self.routes.insert(id, line) {
+            Ok(_) => Ok(()),
+            Err(_) => Err(Refusal::Memory),
+        }
+    }
+
+    /// Whether a channel takes payments. Error: 60, which changes nothing.
+    pub fn set_usable(&mut self, channel: ChannelId, usable: bool) -> Result<(), Refusal>
+        ensures done { OnOk result (self.new ≡ with_use channel usable self.old) }
+        ensures changes_nothing_if_refused { OnErr result (self.new ≡ self.old) }
+        ensures fails_for_memory_alone { IfErr result (λ r. r ≡ Refusal.Memory) }
+    {
+        match self.used.insert(channel, usable) {
+            Ok(_) => Ok(()),
+            Err(_) => Err(Refusal::Memory),
+        }
+    }
+
+    /// The block height. Takes no memory.
+    pub fn set_height(&mut self, height: u32)
+        ensures { self.new ≡ with_height height self.old }
+    {
+        self.height = height;
+    }
+
+    /// A payment is waited for. Error: 60, which changes nothing.
+    pub fn expect(&mut self, invoice: Invoice) -> Result<(), Refusal>
+        ensures done { OnOk result (self.new ≡ with_invoice invoice self.old) }
+        ensures changes_nothing_if_refused { OnErr result (self.new ≡ self.old) }
+        ensures fails_for_memory_alone { IfErr result (λ r. r ≡ Refusal.Memory) }
+    {
+        match self.expected.insert(sha256_32(&invoice.preimage), invoice) {
+            Ok(_) => Ok(()),
+            Err(_) => Err(Refusal::Memory),
+        }
+    }
+
+    /// Whether a channel takes payments.
+    pub fn usable(&self, channel: &ChannelId) -> bool
+        ensures { result ≡ is_usable channel.now self.now }
+    {
+        match self.used.get(channel) {
+            Some(usable) => *usable,
+            None => false,
+        }
+    }
+
+    /// The block height.
+    pub fn height(&self) -> u32
+        ensures { result ≡ self.now.height }
+    {
+        self.height
+    }
+
+    /// The channel that a short channel id names.
+    pub fn route(&self, id: &[u8; 8]) -> Option<&Line>
+        ensures { option_copied result ≡ lookup (same id.now) self.now.routes }
+    {
+        self.routes.get(id)
+    }
+
+    /// What is waited for under a payment hash.
+    pub fn invoice(&self, hash: &[u8; 32]) -> Option<&Invoice>
+        ensures { option_copied result ≡ lookup (same hash.now) self.now.expected }
+    {
+        self.expected.get(hash)
+    }
+
+    /// The decisions that channels are yet to take.
+    pub fn queue(&self) -> &[Queued]
+        ensures { result.now ≡ self.now.queue }
+    {
+        self.queue.as_slice()
+    }
+
+    /// The HTLCs, in order of deciding.
+    pub fn htlcs(&self) -> &[Htlc]
+        ensures { result.now ≡ self.now.htlcs }
+    {
+        self.htlcs.as_slice()
+    }
+
+    /// The command of a channel.
+    pub fn desk(&self, channel: &ChannelId) -> Desk
+        ensures { result ≡ desk_at channel.now self.now }
+    {
+        match self.desks.get(channel) {
+            Some(desk) => *desk,
+            None => Desk::Idle,
+        }
+    }
+}
+
+impl Tables {
+    ghost use Rattle.std.specs.Prelude.{◌≡◌, OnOk, OnErr, IfErr, IsSome};
+    ghost use Rattle.std.specs.Map.{lookup};
+    ghost use Rattle.ln_tables.specs.declared.entry.Desk.TheVariants as desk;
+    ghost use Rattle.ln_tables.specs.Replay.{same, with_decided, with_desk, done, refused, with_answer, with_over};
+    ghost use Rattle.ln_tables.specs.Replay.{with_removed};
+
+    /// An event was decided; the second mark is a copy of its mark. Error: 60, which changes nothing.
+    pub fn decide(&mut self, decided: Decided, copy: Mark) -> Result<(), Refusal>
+        requires { copy ≡ decided.mark }
+        ensures done { OnOk result (self.new ≡ with_decided decided self.old) }
+        ensures changes_nothing_if_refused { OnErr result (self.new ≡ self.old) }
+        ensures fails_for_memory_alone { IfErr result (λ r. r ≡ Refusal.Memory) }
+    {
+        if !has_room(&mut self.queue, &mut self.htlcs) {
+            return Err(Refusal::Memory);
+        }
+        enqueue(&mut self.queue, &decided, copy);
+        join(&mut self.htlcs, decided);
+        Ok(())
+    }
+
+    /// A command was handed out. Error: 60, which changes nothing.
+    pub fn take(&mut self, channel: ChannelId, out: Out) -> Result<(), Refusal>
+        ensures done { OnOk result (self.new ≡ with_desk channel (desk.Out out) self.old) }
+        ensures changes_nothing_if_refused { OnErr result (self.new ≡ self.old) }
+        ensures fails_for_memory_alone { IfErr result (λ r. r ≡ Refusal.Memory) }
+    {
+        match self.desks.insert(channel, Desk::Out(out)) {
+            Ok(_) => Ok(()),
+            Err(_) => Err(Refusal::Memory),
+        }
+    }
+
+    // A desk that is there. Takes no memory.
+    fn set_desk(&mut self, channel: &ChannelId, desk: Desk)
+        requires { IsSome (lookup (same channel.now) self.old.desks) }
+        ensures { self.new ≡ with_desk channel.now desk self.old }
+    {
+        match self.desks.insert(*channel, desk) {
+            Ok(_) => {}
+            Err(_) => unreachable!(),
+        }
+    }
+
+    // A command was taken.
+    fn done(&mut self, channel: &ChannelId, id: u64, out: Out)
+        ensures { self.new ≡ done channel.now id out self.old }
+    {
+        match out {
+            Out::Deciding(event) => {
+                unqueue(&mut self.queue, channel, event);
+                let which = Which::Told(*channel, event);
+                change_first(&mut self.htlcs, &which, Change::Decide);
+            }
+            Out::Adding(key) => {
+                let channel = *channel;
+                let way = Way::Offered(Key { channel, id });
+                change_first(&mut self.htlcs, &Which::Htlc(key), Change::Way(way));
+            }
+            Out::Removing(key) => {
+                change_first(&mut self.htlcs, &Which::Htlc(key), Change::Back(Back::Sent));
+            }
+            Out::Forgetting(key) => leave_out(&mut self.htlcs, &Which::Htlc(key)),
+        }
+    }
+
+    // A command was refused by this number.
+    fn refuse(&mut self, channel: &ChannelId, number: u16, out: Out)
+        ensures { self.new ≡ refused channel.now number out self.old }
+    {
+        match out {
+            Out::Deciding(event) => {
+                unqueue(&mut self.queue, channel, event);
+                leave_out(&mut self.htlcs, &Which::Undecided(*channel, event));
+            }
+            Out::Adding(key) if number < 47 => {
+                change_first(
+                    &mut self.htlcs,
+                    &Which::Htlc(key),
+                    Change::Way(Way::Refused),
+                );
+            }
+            Out::Removing(key) => {
+                change_first(&mut self.htlcs, &Which::Htlc(key), Change::Back(Back::Gone));
+            }
+            Out::Adding(key) | Out::Forgetting(key) => {
+                leave_out(&mut self.htlcs, &Which::Htlc(key));
+            }
+        }
+    }
+
+    /// A channel has answered the command that is out. Takes no memory.
+    pub fn answered(&mut self, channel: &ChannelId, answer: Result<u64, u16>)
+        ensures { self.new ≡ with_answer channel.now answer self.old }
+    {
+        let Desk::Out(out) = self.desk(channel) else {
+            return;
+        };
+        match answer {
+            Err(60 | 61) => self.set_desk(channel, Desk::Unsure(out)),
+            Err(number) => {
+                self.set_desk(channel, Desk::Idle);
+                if number != 47 && number != 62 {
+                    self.refuse(channel, number, out);
+                }
+            }
+            Ok(id) => {
+                self.set_desk(channel, Desk::Idle);
+                self.done(channel, id, out);
+            }
+        }
+    }
+
+    /// What has become of an outgoing HTLC. Takes no memory.
+    pub fn over(&mut self, key: Key, how: How)
+        ensures { self.new ≡ with_over key how self.old }
+    {
+        let way = Way::Over(key, how);
+        change_first(&mut self.htlcs, &Which::Offered(key), Change::Way(way));
+    }
+
+    /// The removal of an incoming HTLC is irrevocably committed. Takes no memory.
+    pub fn removed(&mut self, key: Key)
+        ensures { self.new ≡ with_removed key self.old }
+    {
+        change_first(
+            &mut self.htlcs,
+            &Which::Htlc(key),
+            Change::Back(Back::Settled),
+        );
+        leave_out(&mut self.htlcs, &Which::Finished(key));
+    }
+}
+
+impl Tables {
+    ghost use Rattle.std.specs.Prelude.{◌≡◌};
+    ghost use Rattle.ln_tables.specs.Replay.{desk_at, kept_out, kept_at, with_dropped};
+
+    // What was out in a channel, which has kept the decision that was or hasn't.
+    fn keep_out(&mut self, channel: &ChannelId, decides: bool, out: Out)
+        ensures { self.new ≡ kept_out channel.now decides out self.old }
+    {
+        match out {
+            Out::Deciding(_) => {
+                if decides {
+                    self.done(channel, 0, out);
+                }
+            }
+            Out::Removing(key) => {
+                change_first(&mut self.htlcs, &Which::Htlc(key), Change::Back(Back::Sent));
+            }
+            Out::Adding(_) | Out::Forgetting(_) => {}
+        }
+    }
+
+    // Nothing is out in a channel any more.
+    fn close_desk(&mut self, channel: &ChannelId, decides: bool)
+        ensures { self.new ≡ kept_at channel.now decides (desk_at channel.now self.old) self.old }
+    {
+        match self.desk(channel) {
+            Desk::Idle => {}
+            Desk::Out(out) | Desk::Unsure(out) => {
+                self.set_desk(channel, Desk::Idle);
+                self.keep_out(channel, decides, out);
+            }
+        }
+    }
+
+    /// A channel's connection was lost, or it was loaded, and it has told this. Takes no memory.
+    pub fn dropped(&mut self, channel: &ChannelId, told: &Told)
+        ensures { self.new ≡ with_dropped channel.now told.now self.old }
+    {
+        self.close_desk(channel, told.decides);
+        put_back_all(&mut self.htlcs, channel, told);
+    }
+}
+
+impl Tables {
+    ghost use Rattle.std.specs.Prelude.{◌≡◌, []};
+
+    /// These are the HTLCs; nothing is queued, and nothing is out. Takes no memory.
+    pub fn begin(&mut self, alloc: Global, htlcs: Vec<Htlc>)
+        ensures { self.new ≡ record self.old { queue = []; htlcs = htlcs.items; desks = [] } }
+    {
+        self.queue = Vec::new(alloc);
+        self.htlcs = htlcs;
+        self.desks = IndexMap::new(alloc);
+    }
+}
+
+ghost use Rattle.std.specs.Prelude.{◌≡◌, ◌<◌, IsTrue};
+ghost use Rattle.std.specs.Vec.{vec_capacity, vec_len};
+ghost use Rattle.ln_tables.specs.Replay.{with_queued, with_offer};
+
+// Makes room for one more of each, and says whether there is.
+fn has_room(queue: &mut Vec<Queued>, htlcs: &mut Vec<Htlc>) -> bool
+    ensures room { IsTrue result → (vec_len queue.new < vec_capacity queue.new)
+        × (vec_len htlcs.new < vec_capacity htlcs.new) }
+    ensures same { (queue.new.items ≡ queue.old.items) × (htlcs.new.items ≡ htlcs.old.items) }
+{
+    queue.reserve(1).is_ok() && htlcs.reserve(1).is_ok()
+}
+
+// A decision is the last that its channel is yet to take.
+fn enqueue(queue: &mut Vec<Queued>, decided: &Decided, mark: Mark)
+    requires same { mark ≡ decided.now.mark }
+    requires room { vec_len queue.old < vec_capacity queue.old }
+    ensures { queue.new.items ≡ with_queued decided.now queue.old.items }
+{
+    unqueue(queue, &decided.channel, decided.event);
+    queue.push_reserved(Queued {
+        channel: decided.channel,
+        event: decided.event,
+        mark,
+    });
+}
+
+// The HTLC that was decided, if any, joins the others.
+fn join(htlcs: &mut Vec<Htlc>, decided: Decided)
+    requires { vec_len htlcs.old < vec_capacity htlcs.old }
+    ensures { htlcs.new.items ≡ with_offer decided decided.offer htlcs.old.items }
+{
+    let Some(offer) = decided.offer else {
+        return;
+    };
+    let channel = decided.channel;
+    let id = offer.id;
+    let key = Key { channel, id };
+    if is_any_decided(htlcs.as_slice(), &key) {
+        return;
+    }
+    leave_out(htlcs, &Which::Htlc(key));
+    htlcs.push_reserved(Htlc {
+        key,
+        event: decided.event,
+        offer,
+        mark: decided.mark,
+        decided: false,
+        way: Way::Nowhere,
+        back: Back::Open,
+    });
+}
