@@ -1,6 +1,5 @@
 -- Events through a relay into which one sender alone puts events.
-use Rattle.std.proofs.Common.{◌≡◌, ◌++◌, ◌∷◌, [], ℕ, List, refl, sym, ap, ◌∙◌, subst, length, suc, arith}
-use Rattle.ln_hooks.specs.declared.event.ChannelEvent.{ChannelEvent}
+use Rattle.std.proofs.Common.{◌≡◌, ◌++◌, ◌∷◌, [], List, refl, sym, ap, ◌∙◌, length, arith}
 use Rattle.ln_turns.specs.declared.task.Task.{Task}
 use Rattle.ln_turns.specs.declared.task.Task.TheVariants as task
 use Rattle.ln_relay.specs.Merge.{IsMerge, neither, from_first, from_second}

@@ -1,19 +1,19 @@
 -- What was heard so far of a stream, piece by piece.
 use Rattle.std.proofs.Common.{◌≡◌, ◌++◌, ◌∷◌, [], ℕ, List, Option, Some, None}
 use Rattle.std.proofs.Common.{MatchOption, Result, Ok, Err, refl, sym, ap, ◌∙◌, subst}
-use Rattle.std.proofs.Common.{append-nil, ◌⊎◌, inl, inr, length, arith}
+use Rattle.std.proofs.Common.{append-nil, inl, inr, length, arith}
 use Rattle.std.specs.Prelude.{map}
 use Rattle.std.proofs.lemmas.List.{append_assoc, map-append}
 use Rattle.std.specs.Io.KnownBytes.{Consumes, Keeps, IsAtEnd}
 use Rattle.std.proofs.KnownBytes.{Consumes-nil, Consumes-trans, Consumes-kept}
 use Rattle.ln_bytes.specs.declared.fault.Fault.{Fault}
-use Rattle.ln_bytes.specs.declared.fault.Fault.TheVariants.{Memory, Io}
+use Rattle.ln_bytes.specs.declared.fault.Fault.TheVariants.{Io}
 use Rattle.ln_msgs.specs.declared.messages.message.Incoming.{Incoming}
 use Rattle.ln_msgs.specs.declared.messages.message.Incoming.TheVariants.{Known, Ignored}
 use Rattle.ln_msgs.specs.Messages.Message.{Heard}
 use Rattle.ln_msgs.specs.Messages.Typed.{heard}
 use Rattle.ln_msgs.specs.Frames.Frame.{frame, HasFrame, Hears, IsFaulty, HasNoFrame}
-use Rattle.ln_msgs.specs.Frames.Framer.{Fed, unfed, HasHeard, Answers, Finds, Refuses}
+use Rattle.ln_msgs.specs.Frames.Framer.{Fed, unfed, HasHeard, Answers, Refuses}
 use Rattle.ln_turns.specs.declared.item.Item.{Item}
 use Rattle.ln_turns.specs.declared.item.Item.TheVariants as item
 use Rattle.ln_turns.specs.Reads.{reads, Stops, Reads}

@@ -1,6 +1,6 @@
 -- Turns, by what was written.
 use Rattle.std.proofs.Common.{append-nil, ◌++◌, ◌∷◌, ◌≡◌, [], ℕ, List, Option, Result, Ok, Err}
-use Rattle.std.proofs.Common.{IfErr, OnOk, refl, sym, ap, ◌∙◌, inl, inr, Bool, true, false, subst}
+use Rattle.std.proofs.Common.{IfErr, OnOk, refl, sym, ap, ◌∙◌, inl, inr, true, false, subst}
 use Rattle.std.proofs.KnownBytes.{Appends-nil}
 use Rattle.ln_msgs.specs.declared.messages.message.Message.{Message}
 use Rattle.ln_msgs.specs.declared.refusals.refusal.Refusal.{Refusal}
@@ -10,13 +10,12 @@ use Rattle.ln_channel.specs.declared.output.Output.{Output}
 use Rattle.ln_channel.specs.Step.{is_of_records}
 use Rattle.ln_turns.specs.declared.item.Item.{Item}
 use Rattle.ln_turns.specs.declared.item.Item.TheVariants as item
-use Rattle.ln_turns.specs.declared.kind.Kind.{Kind}
 use Rattle.ln_turns.specs.declared.kind.Kind.TheVariants.{OfConnection, Ping, OfChannel}
-use Rattle.ln_turns.specs.Act.{Act, Handles, Obeys, Connects}
+use Rattle.ln_turns.specs.Act.{Act, Handles, Connects}
 use Rattle.ln_turns.specs.Kind.{kind_of}
 use Rattle.ln_msgs.specs.Messages.Typed.{wire}
 use Rattle.ln_turns.specs.Sent.{frame_of, frames_of, outputs_of, answer_of, sent, sent_for, pongs}
-use Rattle.ln_turns.specs.Turn.{IsTurn, IsObeyed, Serves, HearsOf, ObeysOrder, Writes, Goes, IsLost, due, due_for}
+use Rattle.ln_turns.specs.Turn.{IsTurn, IsObeyed, Serves, HearsOf, ObeysOrder, Writes, Goes, due, due_for}
 
 -- what goes out is what is written, and a failed write comes before what was answered
 pub goes-over : (ws : List Wire) (said written answer : Result (Unit {0}) Refusal) (line line' : Option (List ℕ))

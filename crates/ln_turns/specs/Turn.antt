@@ -1,5 +1,5 @@
 -- One turn of a worker: what an item makes of an end of a channel, and what is written for it.
-use Rattle.std.specs.Prelude.{◌≡◌, ◌⊎◌, ℕ, List, [], ◌∷◌, ◌++◌, Option, Result, Ok, Err, Bool, true, false}
+use Rattle.std.specs.Prelude.{◌≡◌, ◌⊎◌, ℕ, List, [], ◌∷◌, Option, Result, Ok, Err, Bool, true, false}
 use Rattle.std.specs.Io.KnownBytes.{Appends}
 use Rattle.ln_msgs.specs.declared.messages.message.Message.{Message}
 use Rattle.ln_msgs.specs.declared.refusals.refusal.Refusal.{Refusal}
@@ -15,7 +15,7 @@ use Rattle.ln_turns.specs.declared.item.Item.TheVariants as item
 use Rattle.ln_turns.specs.declared.kind.Kind.{Kind}
 use Rattle.ln_turns.specs.declared.kind.Kind.TheVariants.{OfConnection, Ping, OfChannel}
 use Rattle.ln_turns.specs.Kind.{kind_of}
-use Rattle.ln_turns.specs.Act.{Act, Handles, Obeys, Connects, Drops, Loads}
+use Rattle.ln_turns.specs.Act.{Act, Handles, Obeys, Connects, Drops}
 use Rattle.ln_turns.specs.Sent.{frames_of, outputs_of, answer_of, sent, sent_for, pongs}
 
 -- ---- what is written

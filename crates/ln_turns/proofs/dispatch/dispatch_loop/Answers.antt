@@ -1,5 +1,5 @@
-use Rattle.std.proofs.Common.{◌≡◌, ap, ◌∙◌, ◌++◌, ◌∷◌, []}
-use Rattle.ln_turns.proofs.Serving.{begins, called, registers, stops}
+use Rattle.std.proofs.Common.{ap, ◌∙◌, ◌++◌, ◌∷◌, []}
+use Rattle.ln_turns.proofs.Serving.{called, registers}
 use Rattle.ln_turns.proofs.dispatch.dispatch_loop.Goals as goal
 
 pub loop-preserved-in-Some-Event : goal.loop-preserved-in-Some-Event

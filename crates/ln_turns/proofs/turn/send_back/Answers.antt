@@ -1,4 +1,3 @@
-use Rattle.std.proofs.Common.{refl, append-nil, sym}
 use Rattle.ln_turns.proofs.Idle.{goes-over}
 use Rattle.ln_turns.proofs.turn.send_back.Goals as goal
 
