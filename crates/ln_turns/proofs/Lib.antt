@@ -1,0 +1,5 @@
+pub mod Hearing
+pub mod Serving
+pub mod Following
+pub mod Sending
+pub mod Idle

@@ -1,0 +1,7 @@
+use Rattle.ln_turns.proofs.Serving.{SoFar}
+use Rattle.ln_turns.proofs.dispatch.dispatch_loop.Given as goal
+
+abbrev pub invariant-loop : goal.invariant-loop
+invariant-loop g l =
+    SoFar g.T.Table.registered g.T.Table.says (g.T.Table.state l.initial.table) (g.S.Receives.taken l.initial.seat)
+    (g.S.Receives.taken l.seat) (g.T.Table.state l.table)

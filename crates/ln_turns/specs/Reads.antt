@@ -1,0 +1,41 @@
+-- What a reader puts for the bytes of a connection (BOLT 1, "Lightning Message Format").
+use Rattle.std.specs.Prelude.{◌≡◌, ℕ, List, [], ◌∷◌, ◌++◌, map, Option, ◌⊎◌, Result, Ok, Err}
+use Rattle.std.specs.Io.KnownBytes.{Consumes, IsAtEnd}
+use Rattle.ln_bytes.specs.declared.fault.Fault.{Fault}
+use Rattle.ln_bytes.specs.declared.fault.Fault.TheVariants.{Memory, Io}
+use Rattle.ln_msgs.specs.declared.messages.message.Incoming.{Incoming}
+use Rattle.ln_msgs.specs.declared.messages.message.Incoming.TheVariants.{Known, Ignored}
+use Rattle.ln_msgs.specs.Messages.Typed.{heard}
+use Rattle.ln_msgs.specs.Frames.Frame.{Hears, IsFaulty, HasNoFrame}
+use Rattle.ln_turns.specs.declared.item.Item.{Item}
+use Rattle.ln_turns.specs.declared.item.Item.TheVariants as item
+
+-- the messages of known types, in order, as items
+abbrev pub reads : {J : Type 0} → List Incoming → List (Item J)
+reads [] = []
+reads (Known m ∷ hs) = item.Read m ∷ reads hs
+reads (Ignored typ ∷ hs) = reads hs
+
+-- Why no further message was heard behind whole frames: the stream is at its end, where a frame may be cut off; or the
+-- next message has a fault, a read failed, or there was no memory.
+abbrev pub Stops : List ℕ → Option (List ℕ) → Result (Unit {0}) Fault → Type 0
+Stops rest after (Ok u) = HasNoFrame rest × IsAtEnd after
+Stops rest after (Err f) = IsFaulty rest f ⊎ (((f ≡ Io) × HasNoFrame rest) ⊎ (f ≡ Memory))
+
+-- the messages of known types in the whole frames that were read were put, in order
+pub record Reads {J : Type 0} (before after : Option (List ℕ)) (why : Result (Unit {0}) Fault)
+    (put put' : List (Item J)) : Type 0 where
+  pub messages : List Incoming
+  pub front : List ℕ
+  pub rest : List ℕ
+  pub hears : Hears (map heard messages) front
+  pub consumed : Consumes before after (front ++ rest)
+  pub stops : Stops rest after why
+  pub relayed : put' ≡ put ++ reads messages
+
+-- and Joined before them, and Broken behind
+pub record Hung {J : Type 0} (before after : Option (List ℕ)) (why : Result (Unit {0}) Fault) (joined : J)
+    (put put' : List (Item J)) : Type 0 where
+  pub between : List (Item J)
+  pub reads_all : Reads before after why [] between
+  pub relayed : put' ≡ put ++ item.Joined joined ∷ between ++ item.Broken ∷ []

@@ -1,0 +1,97 @@
+-- One turn of a worker: what an item makes of an end of a channel, and what is written for it.
+use Rattle.std.specs.Prelude.{◌≡◌, ◌⊎◌, ℕ, List, [], ◌∷◌, Option, Result, Ok, Err, Bool, true, false}
+use Rattle.std.specs.Io.KnownBytes.{Appends}
+use Rattle.ln_msgs.specs.declared.messages.message.Message.{Message}
+use Rattle.ln_msgs.specs.declared.refusals.refusal.Refusal.{Refusal}
+use Rattle.ln_msgs.specs.declared.refusals.refusal.Refusal.TheVariants as refusal
+use Rattle.ln_msgs.specs.Messages.Message.{Wire}
+use Rattle.ln_msgs.specs.Messages.Typed.{wire}
+use Rattle.ln_msgs.specs.Pings.Written.{IsPartlyWritten}
+use Rattle.ln_channel.specs.declared.command.Command.{Command}
+use Rattle.ln_channel.specs.declared.output.Output.{Output}
+use Rattle.ln_channel.specs.Step.{is_of_records}
+use Rattle.ln_turns.specs.declared.item.Item.{Item}
+use Rattle.ln_turns.specs.declared.item.Item.TheVariants as item
+use Rattle.ln_turns.specs.declared.kind.Kind.{Kind}
+use Rattle.ln_turns.specs.declared.kind.Kind.TheVariants.{OfConnection, Ping, OfChannel}
+use Rattle.ln_turns.specs.Kind.{kind_of}
+use Rattle.ln_turns.specs.Act.{Act, Handles, Obeys, Connects, Drops}
+use Rattle.ln_turns.specs.Sent.{frames_of, outputs_of, answer_of, sent, sent_for, pongs}
+
+-- ---- what is written
+
+-- no memory, a message that can't be written, or a write that failed
+abbrev pub IsLost : Refusal → Type 0
+IsLost r = (r ≡ refusal.Memory) ⊎ ((r ≡ refusal.TooLong) ⊎ (r ≡ refusal.Io))
+
+-- all of the bytes were written; or a beginning was
+abbrev pub Goes : List ℕ → Result (Unit {0}) Refusal → Option (List ℕ) → Option (List ℕ) → Type 0
+Goes bytes (Ok u) before after = Appends before after bytes
+Goes bytes (Err r) before after = IsLost r × IsPartlyWritten before after bytes
+
+-- all of the messages were written, and the turn answers so; or a beginning was, and it answers why
+abbrev pub Writes : List Wire → Result (Unit {0}) Refusal → Result (Unit {0}) Refusal → Option (List ℕ)
+    → Option (List ℕ) → Type 0
+Writes ws said answer before after =
+    ((answer ≡ said) × Appends before after (frames_of ws))
+    ⊎ ((r : Refusal) × (answer ≡ Err r) × IsLost r × IsPartlyWritten before after (frames_of ws))
+
+-- ---- what becomes of an end
+
+module _ {S : Type 0} (acts : S → Act → Result (List Output) Refusal → S → Type 0) where
+  -- nothing becomes of it, and nothing is handed out
+  abbrev pub Rests : S → Result (List Output) Refusal → S → Type 0
+  Rests s said s' = (said ≡ Ok []) × (s' ≡ s)
+
+  -- a message of a channel is handed to it
+  abbrev pub HearsOf : Kind → S → Message → Result (List Output) Refusal → S → Type 0
+  HearsOf OfConnection s m said s' = Rests s said s'
+  HearsOf (Ping n) s m said s' = Rests s said s'
+  HearsOf (OfChannel id) s m said s' = acts s (Handles m) said s'
+
+  -- what the book alone decides isn't ordered
+  abbrev pub ObeysOrder : Bool → S → Command → Result (List Output) Refusal → S → Type 0
+  ObeysOrder true s c said s' = Rests s said s'
+  ObeysOrder false s c said s' = acts s (Obeys c) said s'
+
+  abbrev pub Serves : {J : Type 0} → S → Item J → Result (List Output) Refusal → S → Type 0
+  Serves s (item.Joined j) said s' = acts s Connects said s'
+  Serves s (item.Read m) said s' = HearsOf (kind_of m) s m said s'
+  Serves s item.Broken said s' = (said ≡ Ok []) × acts s Drops said s'
+  Serves s (item.Order c) said s' = ObeysOrder (is_of_records c) s c said s'
+  Serves s item.Stop said s' = Rests s said s'
+
+-- ---- what is sent
+
+abbrev pub due_for : Kind → Result (List Output) Refusal → List Wire
+due_for OfConnection said = []
+due_for (Ping n) said = pongs n
+due_for (OfChannel id) said = sent_for id said
+
+-- the messages that are sent for an item; a connection is greeted first
+abbrev pub due : Item Message → Result (List Output) Refusal → List Wire
+due (item.Joined greeting) said = wire greeting ∷ sent (outputs_of said)
+due (item.Read m) said = due_for (kind_of m) said
+due item.Broken said = []
+due (item.Order c) said = sent (outputs_of said)
+due item.Stop said = []
+
+-- ---- a turn
+
+module _ {S : Type 0} (acts : S → Act → Result (List Output) Refusal → S → Type 0) where
+  -- an item makes this of an end, these outputs are handed out, all of them, and their messages are written
+  pub record IsTurn (s : S) (i : Item Message) (outputs : List Output) (answer : Result (Unit {0}) Refusal) (s' : S)
+      (before after : Option (List ℕ)) : Type 0 where
+    pub said : Result (List Output) Refusal
+    pub serves : Serves acts s i said s'
+    pub hands_out : outputs ≡ outputs_of said
+    pub writes : Writes (due i said) (answer_of said) answer before after
+
+  -- A command of the book: the end obeys it and answers so, these outputs are handed out, and their messages go out so.
+  pub record IsObeyed (s : S) (c : Command) (outputs : List Output) (answer written : Result (Unit {0}) Refusal)
+      (s' : S) (before after : Option (List ℕ)) : Type 0 where
+    pub said : Result (List Output) Refusal
+    pub obeys : acts s (Obeys c) said s'
+    pub hands_out : outputs ≡ outputs_of said
+    pub answers : answer ≡ answer_of said
+    pub goes : Goes (frames_of (sent (outputs_of said))) written before after
