@@ -22,8 +22,8 @@ use crate::unsaved::{Line, Stage};
 use ln_dance::Numbers;
 use ln_keys::ChannelKeys;
 use ln_msgs::{
-    AcceptChannel, ChannelReestablish, FundingCreated, FundingSigned, Message, OpenChannel, Refusal,
-    channel_id,
+    AcceptChannel, ChannelReestablish, FundingCreated, FundingSigned, Message, OpenChannel,
+    Refusal, channel_id,
 };
 use std::alloc::Global;
 use std::mem;

@@ -28,18 +28,11 @@ fn refused<S: RecordStore + Drop>(
     let first = code_of(taken(alloc, outputs, side).err());
     let second = side.link.command(alloc, &mut side.store, Command::Sign);
     let behind = stored(alloc, side)?;
-    Ok((
-        first,
-        code_of(second.err()),
-        behind.as_slice() == before,
-    ))
+    Ok((first, code_of(second.err()), behind.as_slice() == before))
 }
 
 /// A new funder over the store of another, with a fundee that has no record.
-fn second_funder(
-    alloc: Global,
-    mut side: Side<MemoryStore>,
-) -> Result<(u32, u32, bool), Refusal> {
+fn second_funder(alloc: Global, mut side: Side<MemoryStore>) -> Result<(u32, u32, bool), Refusal> {
     let before = stored(alloc, &mut side)?;
     let mut a = funder_side(alloc, side.store)?;
     let mut b = fundee_side(alloc, MemoryStore::new(alloc))?;
@@ -48,10 +41,7 @@ fn second_funder(
 }
 
 /// A new fundee over the store of another, with a funder that has no record.
-fn second_fundee(
-    alloc: Global,
-    mut side: Side<MemoryStore>,
-) -> Result<(u32, u32, bool), Refusal> {
+fn second_fundee(alloc: Global, mut side: Side<MemoryStore>) -> Result<(u32, u32, bool), Refusal> {
     let before = stored(alloc, &mut side)?;
     let mut a = funder_side(alloc, MemoryStore::new(alloc))?;
     let mut b = fundee_side(alloc, side.store)?;
