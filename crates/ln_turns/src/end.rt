@@ -6,7 +6,7 @@ use ln_log::ChannelId;
 use ln_msgs::{Message, Refusal};
 use std::alloc::Global;
 
-/// One end of a channel, with the store that it saves in: `SavedLink` is one. `State` is what it stands for, with that
+/// One end of a channel, with the store that it saves in. `State` is what it stands for, with that
 /// store; the loops look into neither.
 pub trait End {
     ghost use Rattle.std.specs.Prelude.{◌≡◌, ℕ, List, [], Bool, Result, Ok, IfOk, OnErr};
