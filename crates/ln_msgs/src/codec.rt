@@ -5,3 +5,4 @@ pub(crate) mod decoding;
 pub(crate) mod encoding;
 pub(crate) mod field;
 pub(crate) mod fitting;
+pub(crate) mod opening;

@@ -1,5 +1,5 @@
--- The number of each refusal, and the refusal by which a fault of bytes is told.
-use Rattle.std.specs.Prelude.{ℕ}
+-- The number and the name of each refusal, and the refusal by which a fault of bytes is told.
+use Rattle.std.specs.Prelude.{ℕ, List, codes}
 use Rattle.ln_bytes.specs.declared.fault.Fault.{Fault}
 use Rattle.ln_bytes.specs.declared.fault.Fault.TheVariants as fault
 use Rattle.ln_msgs.specs.declared.refusals.refusal.Refusal.{Refusal}
@@ -51,6 +51,53 @@ refusal_number (refusal.BadScript line) = 64
 refusal_number refusal.GaveUp = 65
 refusal_number refusal.Damaged = 70
 refusal_number refusal.Version = 71
+
+abbrev pub refusal_name : Refusal → List ℕ
+refusal_name refusal.Truncated = codes "Truncated"
+refusal_name refusal.NotMinimal = codes "NotMinimal"
+refusal_name refusal.TlvOrder = codes "TlvOrder"
+refusal_name refusal.TlvUnknownEven = codes "TlvUnknownEven"
+refusal_name refusal.TlvLength = codes "TlvLength"
+refusal_name refusal.UnknownEvenType = codes "UnknownEvenType"
+refusal_name refusal.TooLong = codes "TooLong"
+refusal_name refusal.FieldLength = codes "FieldLength"
+refusal_name refusal.UnknownFeature = codes "UnknownFeature"
+refusal_name refusal.UnknownChannel = codes "UnknownChannel"
+refusal_name refusal.OutOfPlace = codes "OutOfPlace"
+refusal_name refusal.BadId = codes "BadId"
+refusal_name refusal.AmountBelowMinimum = codes "AmountBelowMinimum"
+refusal_name refusal.TooManyHtlcs = codes "TooManyHtlcs"
+refusal_name refusal.InFlightOver = codes "InFlightOver"
+refusal_name refusal.CannotAfford = codes "CannotAfford"
+refusal_name refusal.ExpiryRange = codes "ExpiryRange"
+refusal_name refusal.NoSuchHtlc = codes "NoSuchHtlc"
+refusal_name refusal.PreimageWrong = codes "PreimageWrong"
+refusal_name refusal.NotFunder = codes "NotFunder"
+refusal_name refusal.SignatureWrong = codes "SignatureWrong"
+refusal_name refusal.SecretWrong = codes "SecretWrong"
+refusal_name refusal.NothingToRevoke = codes "NothingToRevoke"
+refusal_name refusal.ReestablishNumber = codes "ReestablishNumber"
+refusal_name refusal.AddAfterShutdown = codes "AddAfterShutdown"
+refusal_name refusal.FeeOutside = codes "FeeOutside"
+refusal_name refusal.PeerError = codes "PeerError"
+refusal_name refusal.NotReady = codes "NotReady"
+refusal_name refusal.SignatureOutstanding = codes "SignatureOutstanding"
+refusal_name refusal.NothingToSign = codes "NothingToSign"
+refusal_name refusal.Shut = codes "Shut"
+refusal_name (refusal.PeerLimit inner) = codes "PeerLimit"
+refusal_name refusal.UpdatesPending = codes "UpdatesPending"
+refusal_name refusal.NumbersSpent = codes "NumbersSpent"
+refusal_name refusal.Disconnected = codes "Disconnected"
+refusal_name refusal.NotCommitted = codes "NotCommitted"
+refusal_name refusal.AlreadyRemoved = codes "AlreadyRemoved"
+refusal_name refusal.Memory = codes "Memory"
+refusal_name refusal.Store = codes "Store"
+refusal_name refusal.Halted = codes "Halted"
+refusal_name refusal.Io = codes "Io"
+refusal_name (refusal.BadScript line) = codes "BadScript"
+refusal_name refusal.GaveUp = codes "GaveUp"
+refusal_name refusal.Damaged = codes "Damaged"
+refusal_name refusal.Version = codes "Version"
 
 abbrev pub refusal_of : Fault → Refusal
 refusal_of fault.Truncated = refusal.Truncated

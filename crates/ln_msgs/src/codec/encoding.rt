@@ -56,7 +56,7 @@ fn encode_parts(alloc: Global, message: &Message) -> Result<Vec<u8>, Fault>
 }
 
 /// The type, the fields and the records one after the other.
-fn encoded(
+pub(crate) fn encoded(
     alloc: Global,
     typ: u16,
     fields: &[Item<'_>],

@@ -1,10 +1,11 @@
 //! Whether a message can be written.
 
-ghost use Rattle.std.specs.Prelude.{◌≡◌, ◌↔◌, IsTrue};
-ghost use Rattle.ln_bytes.specs.Tlv.{have_lengths as are_so_long};
+ghost use Rattle.std.specs.Prelude.{◌≡◌, ◌↔◌, IsTrue, None};
+ghost use Rattle.ln_bytes.specs.Tlv.{AreValid, have_lengths as are_so_long};
 ghost use Rattle.ln_msgs.specs.Messages.Typed.{wire};
 ghost use Rattle.ln_msgs.specs.Codec.Writing.{CanBeWritten};
 
+use crate::messages::form::Form;
 use crate::messages::message::Message;
 use crate::messages::records::have_length;
 use ln_bytes::{Record, tlvs_are_valid};
@@ -15,8 +16,14 @@ use ln_bytes::{Record, tlvs_are_valid};
 pub fn fits(message: &Message) -> bool
     ensures { IsTrue result ↔ CanBeWritten (wire message.now) }
 {
-    let form = message.form();
-    let records = message.records().as_slice();
+    records_fit(message.records().as_slice(), message.form())
+}
+
+/// Whether these records may stand behind the fields of this form.
+pub(crate) fn records_fit(records: &[Record], form: &Form) -> bool
+    ensures { IsTrue result ↔ (AreValid form.now.known_even.now None records.now
+        × IsTrue (are_so_long form.now.lengths.now records.now)) }
+{
     tlvs_are_valid(records, form.known_even) && have_lengths(records, form.lengths)
 }
 

@@ -108,7 +108,7 @@ pub enum Refusal {
 
 impl Refusal {
     ghost use Rattle.std.specs.Prelude.{◌≡◌};
-    ghost use Rattle.ln_msgs.specs.Refusals.Refusal.{refusal_number};
+    ghost use Rattle.ln_msgs.specs.Refusals.Refusal.{refusal_number, refusal_name};
 
     /// The number by which the refusal is told: 1 to 9, 20 to 37, 40 to 49, 60 to 65, 70 or 71.
     pub fn number(&self) -> u16
@@ -160,6 +160,60 @@ impl Refusal {
             Refusal::GaveUp => 65,
             Refusal::Damaged => 70,
             Refusal::Version => 71,
+        }
+    }
+
+    /// The refusal's name, as it stands here: `NoSuchHtlc` for 28. It is for logs, beside the number; no printed text
+    /// of the program has it. Takes no memory.
+    pub fn name(&self) -> &'static str
+        ensures { result.now ≡ refusal_name self.now }
+    {
+        match self {
+            Refusal::Truncated => "Truncated",
+            Refusal::NotMinimal => "NotMinimal",
+            Refusal::TlvOrder => "TlvOrder",
+            Refusal::TlvUnknownEven => "TlvUnknownEven",
+            Refusal::TlvLength => "TlvLength",
+            Refusal::UnknownEvenType => "UnknownEvenType",
+            Refusal::TooLong => "TooLong",
+            Refusal::FieldLength => "FieldLength",
+            Refusal::UnknownFeature => "UnknownFeature",
+            Refusal::UnknownChannel => "UnknownChannel",
+            Refusal::OutOfPlace => "OutOfPlace",
+            Refusal::BadId => "BadId",
+            Refusal::AmountBelowMinimum => "AmountBelowMinimum",
+            Refusal::TooManyHtlcs => "TooManyHtlcs",
+            Refusal::InFlightOver => "InFlightOver",
+            Refusal::CannotAfford => "CannotAfford",
+            Refusal::ExpiryRange => "ExpiryRange",
+            Refusal::NoSuchHtlc => "NoSuchHtlc",
+            Refusal::PreimageWrong => "PreimageWrong",
+            Refusal::NotFunder => "NotFunder",
+            Refusal::SignatureWrong => "SignatureWrong",
+            Refusal::SecretWrong => "SecretWrong",
+            Refusal::NothingToRevoke => "NothingToRevoke",
+            Refusal::ReestablishNumber => "ReestablishNumber",
+            Refusal::AddAfterShutdown => "AddAfterShutdown",
+            Refusal::FeeOutside => "FeeOutside",
+            Refusal::PeerError => "PeerError",
+            Refusal::NotReady => "NotReady",
+            Refusal::SignatureOutstanding => "SignatureOutstanding",
+            Refusal::NothingToSign => "NothingToSign",
+            Refusal::Shut => "Shut",
+            Refusal::PeerLimit(_) => "PeerLimit",
+            Refusal::UpdatesPending => "UpdatesPending",
+            Refusal::NumbersSpent => "NumbersSpent",
+            Refusal::Disconnected => "Disconnected",
+            Refusal::NotCommitted => "NotCommitted",
+            Refusal::AlreadyRemoved => "AlreadyRemoved",
+            Refusal::Memory => "Memory",
+            Refusal::Store => "Store",
+            Refusal::Halted => "Halted",
+            Refusal::Io => "Io",
+            Refusal::BadScript { line: _ } => "BadScript",
+            Refusal::GaveUp => "GaveUp",
+            Refusal::Damaged => "Damaged",
+            Refusal::Version => "Version",
         }
     }
 }
