@@ -6,7 +6,7 @@ use std::marker::Model;
 /// A byte string of any length, which contracts see as the list of its bytes.
 ///
 /// It is made from a `Vec` and gives it back without taking memory.
-#[derive(Debug, Drop)]
+#[derive(Drop)]
 pub struct Bytes {
     items: Vec<u8>,
 }

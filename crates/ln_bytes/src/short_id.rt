@@ -8,7 +8,7 @@ use byteorder::{BigEndian, ByteOrder};
 use std::fmt;
 
 /// Where on the chain a channel's funding output stands (BOLT 7, "Definition of `short_channel_id`").
-#[derive(Clone, Copy, Debug, PartialEq, Eq, PartialOrd, Ord, Hash)]
+#[derive(Clone, Copy, PartialEq, Eq, PartialOrd, Ord, Hash)]
 pub struct ShortId {
     /// The height of the block, below 2^24.
     pub block: u32,

@@ -19,7 +19,7 @@ use std::alloc::Global;
 use std::marker::Model;
 
 /// How far a channel end is with being ready.
-#[derive(Clone, Copy, Debug, PartialEq, Eq)]
+#[derive(Clone, Copy, PartialEq, Eq)]
 pub struct Marks {
     /// The channel's short id, once it was confirmed.
     pub short_id: Option<ShortId>,

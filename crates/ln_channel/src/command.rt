@@ -4,7 +4,7 @@ use ln_bytes::{Bytes, ShortId};
 use ln_log::{ChannelId, Mark};
 
 /// What a link is told to do.
-#[derive(Debug, Drop)]
+#[derive(Drop)]
 pub enum Command {
     /// The funding is deep enough, and the channel has this short id.
     Confirm(ShortId),

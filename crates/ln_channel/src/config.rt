@@ -13,7 +13,7 @@ pub(crate) const LONGEST_SCRIPT: usize = 65_499;
 pub(crate) const LONGEST_RECORDS: usize = 65_214;
 
 /// The points of a side that serve all its commitments (BOLT 3, "Key Derivation"), each of 33 bytes.
-#[derive(Clone, Copy, Debug, PartialEq, Eq)]
+#[derive(Clone, Copy, PartialEq, Eq)]
 pub struct Points {
     /// Its key of the funding output.
     pub funding_pubkey: [u8; 33],

@@ -14,7 +14,7 @@ const MOST_DECIDED: u64 = (1 << 63) + 1;
 
 /// The events of a channel end by number: how many were decided, and the undecided ones behind them in their order;
 /// what was decided about HTLCs of the peer's, and what became of own ones that forward others.
-#[derive(Debug, Drop)]
+#[derive(Drop)]
 pub struct EventLedger {
     decided: u64,
     undecided: Vec<EventRef>,

@@ -10,7 +10,7 @@ use std::alloc::Global;
 use std::marker::Model;
 
 /// What a link hands out. Within one answer these stand in this order.
-#[derive(Debug, Drop)]
+#[derive(Drop)]
 pub enum Output {
     /// A message to the peer.
     Send(Message),

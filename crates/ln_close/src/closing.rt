@@ -7,7 +7,7 @@ use ln_keys::Role;
 use ln_msgs::Refusal;
 
 /// The fees of a closing transaction that a side takes, in satoshis: `least` <= `first` <= `greatest`.
-#[derive(Clone, Copy, Debug, PartialEq, Eq)]
+#[derive(Clone, Copy, PartialEq, Eq)]
 pub struct Fees {
     /// What it proposes first, where it is the funder.
     pub first: u64,
@@ -18,7 +18,7 @@ pub struct Fees {
 }
 
 /// What a side does about a `closing_signed` (BOLT 2, "Closing Negotiation: `closing_signed`").
-#[derive(Clone, Copy, Debug, PartialEq, Eq)]
+#[derive(Clone, Copy, PartialEq, Eq)]
 pub enum Answer {
     /// It does nothing.
     Nothing,
@@ -31,7 +31,7 @@ pub enum Answer {
 }
 
 /// How far one side is with closing a channel.
-#[derive(Clone, Copy, Debug, PartialEq, Eq)]
+#[derive(Clone, Copy, PartialEq, Eq)]
 pub struct Closing {
     /// Which side it is.
     pub role: Role,

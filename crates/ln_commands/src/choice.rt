@@ -1,7 +1,7 @@
 //! What there is to run.
 
 /// What to run.
-#[derive(Debug, Drop, PartialEq, Eq)]
+#[derive(Drop, PartialEq, Eq)]
 pub enum Choice {
     /// Answer the pings on standard input.
     Answer,

@@ -10,7 +10,7 @@ use std::marker::Model;
 pub const LAST_NUMBER: u64 = 281_474_976_710_655;
 
 /// The numbers of commitments, each below 2^48; commitment 0 is the opening state.
-#[derive(Clone, Copy, Debug, PartialEq, Eq)]
+#[derive(Clone, Copy, PartialEq, Eq)]
 pub struct Numbers {
     /// Of the own current commitment.
     pub commitment: u64,
@@ -21,7 +21,7 @@ pub struct Numbers {
 }
 
 /// What the peer has told of its commitments.
-#[derive(Clone, Copy, Debug, PartialEq, Eq)]
+#[derive(Clone, Copy, PartialEq, Eq)]
 pub struct Peer {
     /// The point of its commitment with the number `revoked`.
     pub point: [u8; 33],
@@ -32,7 +32,7 @@ pub struct Peer {
 }
 
 /// Which of a side's last signature and its last revocation it sent later.
-#[derive(Clone, Copy, Debug, PartialEq, Eq)]
+#[derive(Clone, Copy, PartialEq, Eq)]
 pub enum Later {
     /// The signature; also before either was sent.
     Signature,
@@ -42,7 +42,7 @@ pub enum Later {
 
 /// One side of the dance: the updates of both sides, the numbers of commitments, what the peer has
 /// told, and in which order it sent its last signature and its last revocation.
-#[derive(Debug, Drop)]
+#[derive(Drop)]
 pub struct Dance {
     channel: [u8; 32],
     log: UpdateLog,

@@ -4,7 +4,7 @@ use crate::failure::Failure;
 use crate::payload::{Payload, Payment};
 
 /// An HTLC that comes in.
-#[derive(Clone, Copy, Debug, PartialEq, Eq)]
+#[derive(Clone, Copy, PartialEq, Eq)]
 pub struct Incoming {
     /// In millisatoshi.
     pub amount: u64,
@@ -13,7 +13,7 @@ pub struct Incoming {
 }
 
 /// The channel to forward by.
-#[derive(Clone, Copy, Debug, PartialEq, Eq)]
+#[derive(Clone, Copy, PartialEq, Eq)]
 pub struct Route {
     /// Whether it takes payments now.
     pub usable: bool,
@@ -22,7 +22,7 @@ pub struct Route {
 }
 
 /// What a node asks for a payment that it forwards (BOLT 7, "HTLC Fees" and "The `channel_update` Message").
-#[derive(Clone, Copy, Debug, PartialEq, Eq)]
+#[derive(Clone, Copy, PartialEq, Eq)]
 pub struct Policy {
     /// `fee_base_msat`, in millisatoshi.
     pub base: u32,
@@ -33,7 +33,7 @@ pub struct Policy {
 }
 
 /// A payment that a node waits for.
-#[derive(Clone, Copy, Debug, PartialEq, Eq)]
+#[derive(Clone, Copy, PartialEq, Eq)]
 pub struct Expected {
     /// The payment secret, 32 bytes.
     pub secret: [u8; 32],

@@ -6,7 +6,7 @@ use std::alloc::Global;
 
 /// Why a hop fails a payment (BOLT 4, "Failure Messages"). Amounts are in millisatoshi, expiries and heights in
 /// blocks.
-#[derive(Clone, Copy, Debug, PartialEq, Eq)]
+#[derive(Clone, Copy, PartialEq, Eq)]
 pub enum Failure {
     /// 0x1007: the channel can't take it now.
     TemporaryChannelFailure,

@@ -10,7 +10,7 @@ use ln_bytes::{Fault, Record, ShortId, read_tlvs, read_tu32, read_tu64, value_of
 use std::alloc::Global;
 
 /// What proves to the final node that the sender was told of the payment (BOLT 4, "Basic Multi-Part Payments").
-#[derive(Clone, Copy, Debug, PartialEq, Eq)]
+#[derive(Clone, Copy, PartialEq, Eq)]
 pub struct Payment {
     /// The payment secret, 32 bytes.
     pub secret: [u8; 32],
@@ -19,7 +19,7 @@ pub struct Payment {
 }
 
 /// What a hop is asked for (BOLT 4, "`payload` Format"): the values of the records that it has.
-#[derive(Clone, Copy, Debug, PartialEq, Eq)]
+#[derive(Clone, Copy, PartialEq, Eq)]
 pub struct Payload {
     /// `amt_to_forward`, in millisatoshi.
     pub amount: Option<u64>,

@@ -3,7 +3,7 @@
 use std::marker::Model;
 
 /// An amount in millisatoshi, at most 2,100,000,000,000,000,000: no channel can be funded with more.
-#[derive(Clone, Copy, Debug, PartialEq, Eq)]
+#[derive(Clone, Copy, PartialEq, Eq)]
 pub struct Msat {
     value: u64,
 }

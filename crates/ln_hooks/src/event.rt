@@ -11,7 +11,7 @@ use ln_msgs::Refusal;
 use std::alloc::Global;
 
 /// How an HTLC was removed (BOLT 2, "Removing an HTLC").
-#[derive(Debug, Drop)]
+#[derive(Drop)]
 pub enum How {
     /// It was fulfilled, by this preimage.
     Fulfilled([u8; 32]),
@@ -24,7 +24,7 @@ pub enum How {
 
 /// What both sides of a channel hold as irrevocably committed from now on (BOLT 2, "Normal Operation"), or its
 /// end. The events of a channel end are numbered from 0.
-#[derive(Debug, Drop)]
+#[derive(Drop)]
 pub enum ChannelEvent {
     /// An HTLC was added.
     Added {

@@ -1,7 +1,7 @@
 //! What a hook answers to an event.
 
 /// Why a hook fails a payment: a code of BOLT 4, "Failure Messages", without the BADONION bit, 0x8000.
-#[derive(Clone, Copy, Debug, PartialEq, Eq)]
+#[derive(Clone, Copy, PartialEq, Eq)]
 pub enum FailureCode {
     /// 0x1007: the channel can't take it now.
     TemporaryChannelFailure,
@@ -75,7 +75,7 @@ impl FailureCode {
 }
 
 /// What a hook says of an event, or a table of hooks.
-#[derive(Clone, Copy, Debug, PartialEq, Eq)]
+#[derive(Clone, Copy, PartialEq, Eq)]
 pub enum Verdict {
     /// Nothing speaks against it.
     Continue,

@@ -7,7 +7,7 @@ use ln_msgs::{Refusal, Signatures};
 use std::alloc::Global;
 
 /// The signatures of a commitment: over the commitment, and one for each of its HTLCs.
-#[derive(Debug, Drop)]
+#[derive(Drop)]
 pub struct Signed {
     pub sig: [u8; 64],
     pub htlcs: Signatures,

@@ -7,7 +7,7 @@ use ln_msgs::Refusal;
 use std::alloc::{AllocError, Global};
 
 /// What a hop finds in an onion (BOLT 4, "Onion Decryption").
-#[derive(Debug, Drop)]
+#[derive(Drop)]
 pub struct Opened {
     /// The payload of this hop.
     pub payload: Bytes,
@@ -16,7 +16,7 @@ pub struct Opened {
 }
 
 /// Why an onion wasn't opened.
-#[derive(Clone, Copy, Debug, PartialEq, Eq)]
+#[derive(Clone, Copy, PartialEq, Eq)]
 pub enum OpenFault {
     /// An unknown version.
     Version,

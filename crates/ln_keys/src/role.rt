@@ -1,7 +1,7 @@
 //! The two sides of a channel.
 
 /// Which side of a channel.
-#[derive(Clone, Copy, Debug, PartialEq, Eq)]
+#[derive(Clone, Copy, PartialEq, Eq)]
 pub enum Role {
     /// The side that opened the channel and paid for it.
     Funder,

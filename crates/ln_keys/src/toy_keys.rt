@@ -18,7 +18,7 @@ use std::alloc::Global;
 /// Keys that make their secrets of a seed and sign with a tag.
 ///
 /// Two values are partners where each one's tag is the other's `peer_tag`.
-#[derive(Clone, Copy, Debug, PartialEq, Eq)]
+#[derive(Clone, Copy, PartialEq, Eq)]
 pub struct ToyKeys {
     pub seed: [u8; 32],
     pub tag: [u8; 32],

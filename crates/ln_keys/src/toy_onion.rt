@@ -19,7 +19,7 @@ use std::alloc::{AllocError, Global};
 /// The packet has version 0, the key 02 and 32 zero bytes, the payloads one after the other, each behind its
 /// length as a BigSize, zeros up to 1,300 bytes, and as HMAC the SHA-256 of these 1,300 bytes and the
 /// payment hash.
-#[derive(Clone, Copy, Debug, PartialEq, Eq)]
+#[derive(Clone, Copy, PartialEq, Eq)]
 pub struct ToyOnion;
 
 /// How many bytes the payloads have in a packet.

@@ -4,7 +4,7 @@ use crate::role::Role;
 use std::marker::Model;
 
 /// A live HTLC of a commitment.
-#[derive(Clone, Copy, Debug, PartialEq, Eq)]
+#[derive(Clone, Copy, PartialEq, Eq)]
 pub struct Htlc {
     /// The side that offered it.
     pub owner: Role,
@@ -21,7 +21,7 @@ pub struct Htlc {
 /// The HTLCs of a commitment, which contracts see as a list.
 ///
 /// Made from a `Vec`, and gives it back, without taking memory.
-#[derive(Debug, Drop)]
+#[derive(Drop)]
 pub struct Htlcs {
     items: Vec<Htlc>,
 }
@@ -69,7 +69,7 @@ impl Htlcs {
 
 /// What a commitment is worth: each side's balance in millisatoshi, the feerate, and the live HTLCs, the
 /// funder's by id and then the fundee's by id.
-#[derive(Debug, Drop)]
+#[derive(Drop)]
 pub struct View {
     pub funder: u64,
     pub fundee: u64,

@@ -24,7 +24,7 @@ use ln_msgs::Refusal;
 use std::alloc::Global;
 
 /// How many updates of either side the three commitments cover that a side knows of.
-#[derive(Clone, Copy, Debug, PartialEq, Eq)]
+#[derive(Clone, Copy, PartialEq, Eq)]
 pub struct Coverage {
     /// What the last own signature covers.
     pub signed: Counts,

@@ -27,7 +27,7 @@ pub const MOST_UPDATES: u64 = 1 << 62;
 const LONGEST_REASON: usize = 65_491;
 
 /// Whose.
-#[derive(Clone, Copy, Debug, PartialEq, Eq)]
+#[derive(Clone, Copy, PartialEq, Eq)]
 pub enum Side {
     /// This side's.
     Own,
@@ -36,7 +36,7 @@ pub enum Side {
 }
 
 /// Which pair of lists: what a commitment covers.
-#[derive(Clone, Copy, Debug, PartialEq, Eq)]
+#[derive(Clone, Copy, PartialEq, Eq)]
 pub enum Pair {
     /// A side's current commitment: the own one, or the peer's as far as it was acknowledged.
     Current(Side),
@@ -49,7 +49,7 @@ pub enum Pair {
 }
 
 /// How many updates of either side a commitment covers.
-#[derive(Clone, Copy, Debug, PartialEq, Eq)]
+#[derive(Clone, Copy, PartialEq, Eq)]
 pub struct Counts {
     /// Of this side's.
     pub own: usize,
@@ -59,7 +59,7 @@ pub struct Counts {
 
 /// The updates of both sides as one side has them, and how many of them its last signature, its own
 /// commitment and the peer's acknowledged commitment cover.
-#[derive(Debug, Drop)]
+#[derive(Drop)]
 pub struct UpdateLog {
     pub(crate) opening: Opening,
     pub(crate) role: Role,

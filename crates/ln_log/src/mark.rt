@@ -4,7 +4,7 @@ use crate::update::{ChannelId, Update};
 use ln_bytes::Bytes;
 
 /// What is done about an event.
-#[derive(Debug, Drop)]
+#[derive(Drop)]
 pub enum Mark {
     /// Nothing.
     None,
@@ -26,7 +26,7 @@ pub enum Mark {
 }
 
 /// What an event tells of. Updates of a side count from 0.
-#[derive(Clone, Copy, Debug, PartialEq, Eq)]
+#[derive(Clone, Copy, PartialEq, Eq)]
 pub enum EventRef {
     /// The own update of this number.
     Own(u64),
@@ -37,7 +37,7 @@ pub enum EventRef {
 }
 
 /// What was decided about an HTLC of the peer's.
-#[derive(Debug, Drop)]
+#[derive(Drop)]
 pub struct Decision {
     /// The HTLC.
     pub id: u64,
@@ -46,7 +46,7 @@ pub struct Decision {
 }
 
 /// What became of an own HTLC that forwards another one.
-#[derive(Debug, Drop)]
+#[derive(Drop)]
 pub struct Settlement {
     /// The own HTLC.
     pub id: u64,

@@ -10,7 +10,7 @@ pub const MOST_HTLCS: u16 = 483;
 
 /// What a side asks of the HTLCs that it is offered (BOLT 2, "The `open_channel` Message" and "The
 /// `accept_channel` Message").
-#[derive(Clone, Copy, Debug, PartialEq, Eq)]
+#[derive(Clone, Copy, PartialEq, Eq)]
 pub struct Limits {
     /// `htlc_minimum_msat`: no HTLC of less, in millisatoshi.
     pub minimum: u64,
@@ -23,7 +23,7 @@ pub struct Limits {
 }
 
 /// What both sides agreed on.
-#[derive(Clone, Copy, Debug, PartialEq, Eq)]
+#[derive(Clone, Copy, PartialEq, Eq)]
 pub struct Opening {
     /// `funding_satoshis`: what the funder paid in, 1 to 2,100,000,000,000,000 satoshi.
     pub satoshis: u64,

@@ -1,7 +1,7 @@
 //! What becomes of an HTLC.
 
 /// What has become of an offered HTLC.
-#[derive(Clone, Copy, Debug, PartialEq, Eq)]
+#[derive(Clone, Copy, PartialEq, Eq)]
 pub enum Outcome {
     /// Nothing yet.
     Live,

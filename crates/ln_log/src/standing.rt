@@ -12,7 +12,7 @@ use ln_keys::{Role, sha256_32};
 use ln_msgs::Refusal;
 
 /// How one side stands in a commitment: what it has offered, and what it has left.
-#[derive(Clone, Copy, Debug, PartialEq, Eq)]
+#[derive(Clone, Copy, PartialEq, Eq)]
 pub struct Standing {
     /// The id of the next HTLC that it offers.
     pub next_id: u64,

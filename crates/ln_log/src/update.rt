@@ -13,7 +13,7 @@ pub type ChannelId = [u8; 32];
 
 /// An HTLC that is offered: the fields of `update_add_htlc` (BOLT 2, "Adding an HTLC"), without the
 /// channel id.
-#[derive(Clone, Copy, Debug, PartialEq, Eq)]
+#[derive(Clone, Copy, PartialEq, Eq)]
 pub struct Add {
     /// Counts the HTLCs that its sender has offered in this channel, from 0.
     pub id: u64,
@@ -30,7 +30,7 @@ pub struct Add {
 }
 
 /// An HTLC is fulfilled: the fields of `update_fulfill_htlc` (BOLT 2, "Removing an HTLC").
-#[derive(Clone, Copy, Debug, PartialEq, Eq)]
+#[derive(Clone, Copy, PartialEq, Eq)]
 pub struct Fulfil {
     /// The HTLC, by the id that its offerer gave it.
     pub id: u64,
@@ -39,7 +39,7 @@ pub struct Fulfil {
 }
 
 /// An HTLC has failed: the fields of `update_fail_htlc` (BOLT 2, "Removing an HTLC").
-#[derive(Debug, Drop)]
+#[derive(Drop)]
 pub struct Fail {
     /// The HTLC, by the id that its offerer gave it.
     pub id: u64,
@@ -49,7 +49,7 @@ pub struct Fail {
 
 /// An HTLC's onion couldn't be read: the fields of `update_fail_malformed_htlc` (BOLT 2, "Removing an
 /// HTLC").
-#[derive(Clone, Copy, Debug, PartialEq, Eq)]
+#[derive(Clone, Copy, PartialEq, Eq)]
 pub struct Malformed {
     /// The HTLC, by the id that its offerer gave it.
     pub id: u64,
@@ -60,14 +60,14 @@ pub struct Malformed {
 }
 
 /// The feerate changes: the field of `update_fee` (BOLT 2, "Updating Fees").
-#[derive(Clone, Copy, Debug, PartialEq, Eq)]
+#[derive(Clone, Copy, PartialEq, Eq)]
 pub struct Fee {
     /// In satoshi per 1000 weight.
     pub feerate: u32,
 }
 
 /// A change that a side proposes to both commitments (BOLT 2, "Normal Operation").
-#[derive(Debug, Drop)]
+#[derive(Drop)]
 pub enum Update {
     /// An HTLC is offered.
     Add(Add),
@@ -82,7 +82,7 @@ pub enum Update {
 }
 
 /// Which HTLC an update removes, and what becomes of it.
-#[derive(Clone, Copy, Debug, PartialEq, Eq)]
+#[derive(Clone, Copy, PartialEq, Eq)]
 pub struct Removal {
     /// The HTLC, by the id that its offerer gave it.
     pub id: u64,

@@ -1,7 +1,7 @@
 //! What is known when all seats of a relay have come together.
 
 /// How many items went through a relay.
-#[derive(Clone, Copy, Debug, PartialEq, Eq)]
+#[derive(Clone, Copy, PartialEq, Eq)]
 pub struct Finished {
     /// Put by the first sender.
     pub put_first: u64,

@@ -3,7 +3,7 @@
 use ln_bytes::ShortId;
 
 /// What a hop forwards: so many msat, by the channel with this short id, to time out at this block height.
-#[derive(Clone, Copy, Debug, PartialEq, Eq)]
+#[derive(Clone, Copy, PartialEq, Eq)]
 pub(crate) struct Hop {
     pub amount: u64,
     pub expiry: u32,

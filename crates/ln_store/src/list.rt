@@ -6,7 +6,7 @@ use std::marker::Model;
 /// Values in their order, which contracts see as a list.
 ///
 /// It is made from a `Vec` and gives it back without taking memory.
-#[derive(Debug, Drop)]
+#[derive(Drop)]
 pub struct Listed<T> {
     items: Vec<T>,
 }

@@ -10,7 +10,7 @@ use ln_log::{Add, ChannelId, Decision, EventRef, Settlement, Update};
 use ln_msgs::Refusal;
 
 /// What a side has sent and taken beside updates and signatures.
-#[derive(Clone, Copy, Debug, PartialEq, Eq)]
+#[derive(Clone, Copy, PartialEq, Eq)]
 pub struct Flags {
     /// Whether its `channel_ready` was sent.
     pub ready_sent: bool,
@@ -42,7 +42,7 @@ pub struct Agreement {
 }
 
 /// A live HTLC.
-#[derive(Clone, Copy, Debug, PartialEq, Eq)]
+#[derive(Clone, Copy, PartialEq, Eq)]
 pub struct LiveHtlc {
     /// Who offers it.
     pub offerer: Role,
@@ -51,7 +51,7 @@ pub struct LiveHtlc {
 }
 
 /// A number of either side.
-#[derive(Clone, Copy, Debug, PartialEq, Eq)]
+#[derive(Clone, Copy, PartialEq, Eq)]
 pub struct Sides {
     /// The funder's.
     pub funder: u64,
@@ -84,7 +84,7 @@ pub struct Window {
 }
 
 /// How many updates of either side, counted from the opening, a commitment covers.
-#[derive(Clone, Copy, Debug, PartialEq, Eq)]
+#[derive(Clone, Copy, PartialEq, Eq)]
 pub struct Covered {
     /// Of this side's.
     pub own: u64,
@@ -93,7 +93,7 @@ pub struct Covered {
 }
 
 /// What the three pairs of lists that a side goes by cover.
-#[derive(Clone, Copy, Debug, PartialEq, Eq)]
+#[derive(Clone, Copy, PartialEq, Eq)]
 pub struct Pairs {
     /// The own last signature.
     pub signed: Covered,
@@ -122,7 +122,7 @@ pub struct Forwards {
 }
 
 /// The fees of a closing transaction, in satoshi, as far as it came.
-#[derive(Clone, Copy, Debug, PartialEq, Eq)]
+#[derive(Clone, Copy, PartialEq, Eq)]
 pub struct ClosingFees {
     /// The last that this side sent.
     pub own: Option<u64>,
@@ -133,7 +133,7 @@ pub struct ClosingFees {
 }
 
 /// Which channel and end it is, and how far it is.
-#[derive(Clone, Copy, Debug, PartialEq, Eq)]
+#[derive(Clone, Copy, PartialEq, Eq)]
 pub struct Header {
     /// The channel's id.
     pub channel: ChannelId,
@@ -146,7 +146,7 @@ pub struct Header {
 }
 
 /// The commitments of both sides.
-#[derive(Clone, Copy, Debug, PartialEq, Eq)]
+#[derive(Clone, Copy, PartialEq, Eq)]
 pub struct Commitments {
     /// Their numbers.
     pub numbers: Numbers,

@@ -11,6 +11,8 @@ mod dance;
 #[cfg(test)]
 mod failing_saves;
 #[cfg(test)]
+mod greatest;
+#[cfg(test)]
 mod hooks;
 #[cfg(test)]
 mod hostile;

@@ -12,7 +12,7 @@ use ln_msgs::{Message, Refusal};
 use std::alloc::Global;
 
 /// What a link answers, but for want of memory.
-#[derive(Debug, Drop)]
+#[derive(Drop)]
 pub enum Answer {
     /// It did what it was told, and hands this out.
     Done(Vec<Output>),

@@ -5,7 +5,7 @@ use ln_channel::Standing;
 use ln_msgs::Refusal;
 
 /// A message, by what a report tells of it.
-#[derive(Clone, Copy, Debug, PartialEq, Eq)]
+#[derive(Clone, Copy, PartialEq, Eq)]
 pub enum Word {
     /// `channel_ready`.
     ChannelReady,
@@ -36,7 +36,7 @@ pub enum Word {
 }
 
 /// How an HTLC was removed.
-#[derive(Clone, Copy, Debug, PartialEq, Eq)]
+#[derive(Clone, Copy, PartialEq, Eq)]
 pub enum Ending {
     /// It was fulfilled.
     Fulfilled,
@@ -47,7 +47,7 @@ pub enum Ending {
 }
 
 /// A line of a report: what a step did.
-#[derive(Clone, Copy, Debug, PartialEq, Eq)]
+#[derive(Clone, Copy, PartialEq, Eq)]
 pub enum Line {
     /// The channel with this number was opened.
     Open(u8),
@@ -93,7 +93,7 @@ pub enum Line {
 }
 
 /// Where an end of a channel stands, as a report ends with.
-#[derive(Clone, Copy, Debug, PartialEq, Eq)]
+#[derive(Clone, Copy, PartialEq, Eq)]
 pub struct EndLine {
     /// The end.
     pub end: End,

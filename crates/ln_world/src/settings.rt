@@ -17,7 +17,7 @@ use ln_msgs::{Records, Refusal, channel_id};
 use std::alloc::Global;
 
 /// What a node opens channels with.
-#[derive(Clone, Copy, Debug, PartialEq, Eq)]
+#[derive(Clone, Copy, PartialEq, Eq)]
 pub struct Settings {
     /// The closing fees that it takes.
     pub fees: Fees,
@@ -26,7 +26,7 @@ pub struct Settings {
 }
 
 /// What was set for a node.
-#[derive(Clone, Copy, Debug, PartialEq, Eq)]
+#[derive(Clone, Copy, PartialEq, Eq)]
 pub struct Setting {
     /// The node.
     pub node: Node,

@@ -8,14 +8,14 @@ use ln_keys::ChannelKeys;
 use ln_log::Limits;
 
 /// A node, by its letter.
-#[derive(Clone, Copy, Debug, PartialEq, Eq)]
+#[derive(Clone, Copy, PartialEq, Eq)]
 pub struct Node {
     /// The letter, in ASCII. It is also the script of the node's `shutdown`.
     pub letter: u8,
 }
 
 /// A channel's end at a node.
-#[derive(Clone, Copy, Debug, PartialEq, Eq)]
+#[derive(Clone, Copy, PartialEq, Eq)]
 pub struct End {
     /// The node.
     pub node: Node,
@@ -51,7 +51,7 @@ pub struct Open<K: ChannelKeys + Copy> {
 }
 
 /// What a channel end does.
-#[derive(Debug, Drop)]
+#[derive(Drop)]
 pub enum Act {
     /// It takes the oldest message in flight to it.
     Deliver,

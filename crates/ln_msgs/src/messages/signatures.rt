@@ -6,7 +6,7 @@ use std::marker::Model;
 /// Signatures of 64 bytes each in their order, which contracts see as a list of byte strings.
 ///
 /// They are made from a `Vec` and give it back without taking memory.
-#[derive(Debug, Drop)]
+#[derive(Drop)]
 pub struct Signatures {
     items: Vec<[u8; 64]>,
 }

@@ -1,0 +1,100 @@
+//! The longest messages of a channel, and the record that has them.
+
+use crate::code_of;
+use crate::link::{boxed, messages_of, open_spec};
+use crate::saving::{Side, fundee_side, played, stored};
+use crate::testing::FUNDER;
+use ln_bytes::{Bytes, Record};
+use ln_channel::{Command, FitSpec, Output};
+use ln_link::Link;
+use ln_msgs::{Records, Refusal, encode, fits};
+use ln_store::MemoryStore;
+use std::alloc::Global;
+
+/// So many zeros.
+fn zeros(alloc: Global, len: usize) -> Result<Bytes, Refusal> {
+    let mut bytes = Vec::new(alloc);
+    bytes.resize(len, 0)?;
+    Ok(Bytes::new(bytes))
+}
+
+/// One record of an odd type whose value has so many bytes.
+fn records(alloc: Global, len: usize) -> Result<Records, Refusal> {
+    let value = zeros(alloc, len)?;
+    let mut records = Vec::new(alloc);
+    records.push(Record { typ: 1, value })?;
+    Ok(Records::new(records))
+}
+
+/// A funder's side whose `open_channel` has such a record; nothing where it doesn't fit.
+fn funder_side(alloc: Global, len: usize) -> Result<Option<Side<MemoryStore>>, Refusal> {
+    let mut spec = boxed(alloc, open_spec(alloc))?;
+    spec.records = records(alloc, len)?;
+    if !spec.fits() {
+        return Ok(None);
+    }
+    let link = boxed(alloc, Link::funder(FUNDER, FitSpec::new(*spec)))?;
+    Ok(Some(Side {
+        link,
+        store: MemoryStore::new(alloc),
+    }))
+}
+
+/// How many bytes the longest of these messages has, where all can be written.
+fn longest(alloc: Global, outputs: Vec<Output>) -> Result<usize, Refusal> {
+    let mut most = 0;
+    for message in messages_of(alloc, outputs)? {
+        if !fits(&message) {
+            return Err(Refusal::FieldLength);
+        }
+        most = encode(alloc, &message)?.len().max(most);
+    }
+    Ok(most)
+}
+
+/// The channel is open, and the funder shuts it with a script of so many bytes: how many bytes its `shutdown` has, how
+/// many its record, and by what this is refused where it is loaded, 0 where it is a link's.
+fn shut(alloc: Global, a: &mut Side<MemoryStore>, len: usize) -> Result<(usize, usize, u32), Refusal> {
+    let mut b = fundee_side(alloc, MemoryStore::new(alloc))?;
+    played(alloc, a, &mut b)?;
+    let script = zeros(alloc, len)?;
+    let shutdown = a.link.command(alloc, &mut a.store, Command::Shutdown(script))?;
+    let shutdown_len = longest(alloc, shutdown)?;
+    let bytes = stored(alloc, a)?;
+    let refused = code_of(Link::from_record(alloc, FUNDER, bytes.as_slice()).err());
+    Ok((shutdown_len, bytes.len(), refused))
+}
+
+/// How many bytes the `open_channel` has with a record of so many; nothing where it doesn't fit.
+fn opened(alloc: Global, len: usize) -> Result<Option<usize>, Refusal> {
+    let Some(mut a) = funder_side(alloc, len)? else {
+        return Ok(None);
+    };
+    let outputs = a.link.connect(alloc)?;
+    Ok(Some(longest(alloc, outputs)?))
+}
+
+/// The same of the `shutdown` and of the record behind it.
+fn closed(alloc: Global, records: usize, script: usize) -> Result<(usize, usize, u32), Refusal> {
+    let Some(mut a) = funder_side(alloc, records)? else {
+        return Err(Refusal::NotReady);
+    };
+    shut(alloc, &mut a, script)
+}
+
+// A message has 65,535 bytes at most; an `open_channel` has 321 beside its records, of which one has 4 beside its
+// value here, and a `shutdown` 36 beside its script.
+#[test]
+fn greatest_messages(rt: HostRuntime) -> Result<(), Refusal> {
+    let alloc = rt.alloc();
+    assert!(rt; opened(alloc, 65_210)? == Some(65_535));
+    assert!(rt; opened(alloc, 65_211)? == None);
+    let (shutdown, record, refused) = closed(alloc, 65_210, 65_499)?;
+    assert_eq!(rt; (shutdown, refused), (65_535, 0));
+    // the record has both: 65,212 bytes more for the value and the longer number before it, 65,499 for the script
+    let (_, least, _) = closed(alloc, 0, 0)?;
+    assert_eq!(rt; record - least, 65_212 + 65_499);
+    // a script of one byte more is refused, as the peer could not be told
+    assert_eq!(rt; code_of(closed(alloc, 0, 65_500).err()), 4407);
+    Ok(())
+}
