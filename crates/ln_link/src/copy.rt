@@ -3,9 +3,9 @@
 ghost use Rattle.std.specs.Prelude.{◌≡◌, IfOk, IfErr};
 ghost use Rattle.ln_msgs.specs.declared.refusals.refusal.Refusal.TheVariants as refusal;
 
-use ln_bytes::{Bytes, Record};
+use ln_bytes::Bytes;
 use ln_log::{Decision, Mark, Settlement, Update, copy_update};
-use ln_msgs::{Records, Refusal};
+use ln_msgs::Refusal;
 use std::alloc::Global;
 
 /// The same bytes.
@@ -14,28 +14,6 @@ pub(crate) fn copy_bytes(alloc: Global, bytes: &Bytes) -> Result<Bytes, Refusal>
     ensures fails_for_memory_alone { IfErr result (λ r. r ≡ refusal.Memory) }
 {
     Ok(Bytes::new(Vec::from_slice(alloc, bytes.as_slice())?))
-}
-
-fn copy_record(alloc: Global, original: &Record) -> Result<Record, Refusal>
-    ensures copy { IfOk result (λ r. r ≡ original.now) }
-    ensures fails_for_memory_alone { IfErr result (λ r. r ≡ refusal.Memory) }
-{
-    Ok(Record {
-        typ: original.typ,
-        value: copy_bytes(alloc, &original.value)?,
-    })
-}
-
-/// The same records.
-pub(crate) fn copy_records(alloc: Global, records: &Records) -> Result<Records, Refusal>
-    ensures copies { IfOk result (λ rs. rs ≡ records.now) }
-    ensures fails_for_memory_alone { IfErr result (λ r. r ≡ refusal.Memory) }
-{
-    let mut copies = Vec::new(alloc);
-    for original in records.as_slice() {
-        copies.push(copy_record(alloc, original)?)?;
-    }
-    Ok(Records::new(copies))
 }
 
 /// The same updates.
