@@ -20,9 +20,9 @@ use Rattle.ln_log.specs.View.{balance, live_of, live_adds, Pays}
 use Rattle.ln_log.specs.Log.{number_after, HasId, AreNumbered, BothPay}
 use Rattle.ln_log.specs.Window.{lives, feerate_of, Worth, worth_of, worth_behind, balance_behind, PaysBehind}
 use Rattle.ln_log.specs.Window.{BothPayBehind, GoesOn}
-use Rattle.ln_log.proofs.Outcomes.{outcome-append, next-cons, number_is, above}
+use Rattle.ln_log.proofs.Removing.{outcome-append, next-cons, number_is, above}
 use Rattle.ln_log.proofs.Tallies.{amount, weight, tally, total_is, tally-append}
-use Rattle.ln_log.proofs.Sums.{any_same}
+use Rattle.ln_log.proofs.Totals.{any_same}
 
 -- ---- HTLCs that were offered behind a beginning
 

@@ -25,9 +25,9 @@ use Rattle.ln_log.specs.Limits.{first_fault, most_updates, Answers}
 use Rattle.ln_log.specs.Standing.{with_own, OwnFits}
 use Rattle.ln_log.specs.Log.{Log, IsKept, HasId, AreRemovals, peer_limit, removal_fault, length_fault, proposal_fault}
 use Rattle.ln_log.specs.Log.{taken_fault, after_propose, after_receive, HasAmount}
-use Rattle.ln_log.proofs.Outcomes.{above, next-front, numbered-take, numbered-push, removals-push, removals-take}
-use Rattle.ln_log.proofs.Outcomes.{untouched}
-use Rattle.ln_log.proofs.Sums.{pays_all, first_sum}
+use Rattle.ln_log.proofs.Removing.{above, next-front, numbered-take, numbered-push, removals-push, removals-take}
+use Rattle.ln_log.proofs.Removing.{untouched}
+use Rattle.ln_log.proofs.Totals.{pays_all, first_sum}
 use Rattle.ln_log.proofs.Kept.{small, small_back, found_in, both_same, Growing, Grown, grown, seen_removes, within-push}
 use Rattle.ln_log.proofs.Kept.{has_amount, amount_is}
 

@@ -26,9 +26,9 @@ use Rattle.ln_log.specs.Limits.{most_updates}
 use Rattle.ln_log.specs.Standing.{with_own, with_all, paid_by, PaidFits, OwnFits, AllFit}
 use Rattle.ln_log.specs.Log.{Log, IsKept, between, updates_of, BothPay, HasAmount, AreWithin, number_after, HasId}
 use Rattle.ln_log.specs.Log.{AreNumbered, RemovesLive, AreRemovals, after_accept, after_learn, after_drop}
-use Rattle.ln_log.proofs.Outcomes.{add_with-more, next-take, next-cons, above, numbered-take, numbered-drop}
-use Rattle.ln_log.proofs.Outcomes.{removals-take, removals-drop, removals-more, untouched}
-use Rattle.ln_log.proofs.Sums.{sums, first_sum, longer, pays_longer, pays_all, pays_more}
+use Rattle.ln_log.proofs.Removing.{add_with-more, next-take, next-cons, above, numbered-take, numbered-drop}
+use Rattle.ln_log.proofs.Removing.{removals-take, removals-drop, removals-more, untouched}
+use Rattle.ln_log.proofs.Totals.{sums, first_sum, longer, pays_longer, pays_all, pays_more}
 use Rattle.ln_log.proofs.Standings.{MayAdd, own_moves, own_pays, all_step}
 
 -- the standing of a side that offered own, moved by all that is taken behind m updates of the other side's

@@ -1,8 +1,8 @@
-pub mod Outcomes
+pub mod Removing
 pub mod Tables
 pub mod Live
 pub mod Tallies
-pub mod Sums
+pub mod Totals
 pub mod Standings
 pub mod Kept
 pub mod Grows

@@ -15,7 +15,7 @@ use Rattle.ln_log.specs.Outcomes.{is_removal, removals_in}
 use Rattle.ln_log.specs.View.{live_adds}
 use Rattle.ln_log.specs.Log.{Log, covered, counts_of, live_in, number_after, AreNumbered, RemovesLive, AreRemovals}
 use Rattle.ln_log.specs.Log.{IsKept}
-use Rattle.ln_log.proofs.Outcomes.{IsDone, done, next-cons, numbered-take, removals-take, removals-more}
+use Rattle.ln_log.proofs.Removing.{IsDone, done, next-cons, numbered-take, removals-take, removals-more}
 use Rattle.ln_log.proofs.Tallies.{one, weight, tally, live_is, tally-none, tally-hit}
 use Rattle.ln_log.proofs.Standings.{found_some}
 

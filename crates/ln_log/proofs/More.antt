@@ -17,9 +17,9 @@ use Rattle.ln_log.specs.Updates.{offered, outcome, is_live, is_some, total, add_
 use Rattle.ln_log.specs.View.{live_adds}
 use Rattle.ln_log.specs.Limits.{standing_of, add_fault, removable, fulfil_fault, fail_fault, malformed_fault}
 use Rattle.ln_log.specs.Limits.{update_fault}
-use Rattle.ln_log.proofs.Outcomes.{outcome-append, add_with-more}
+use Rattle.ln_log.proofs.Removing.{outcome-append, add_with-more}
 use Rattle.ln_log.proofs.Tallies.{amount, one, weight, tally, total_is, live_is}
-use Rattle.ln_log.proofs.Sums.{balance_more}
+use Rattle.ln_log.proofs.Totals.{balance_more}
 
 falls_one : (o n : Outcome) (w : ℕ) → cond (is_live (cond (is_live o) n o)) w 0 ≤ cond (is_live o) w 0
 falls_one Live Live w = omega arith

@@ -18,7 +18,7 @@ use Rattle.ln_log.specs.Machine.{Party, MayFollow, MayPropose, MayShut}
 use Rattle.ln_log.specs.Log.{Log, IsWithin, RemovesLive, party_of, after_propose, after_receive, after_sign}
 use Rattle.ln_log.specs.Log.{after_accept, after_learn, after_drop, peer_limit, removal_fault, proposal_fault}
 use Rattle.ln_log.specs.Log.{length_fault}
-use Rattle.ln_log.proofs.Outcomes.{add_with-more}
+use Rattle.ln_log.proofs.Removing.{add_with-more}
 use Rattle.ln_log.proofs.Kept.{names_live}
 use Rattle.ln_log.proofs.Sent.{next_sent, update_fault_sent}
 

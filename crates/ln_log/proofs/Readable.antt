@@ -26,8 +26,8 @@ use Rattle.ln_log.specs.Limits.{standing_of, most_updates}
 use Rattle.ln_log.specs.Log.{Log, covered, number_after, HasId, AreNumbered, RemovesLive, AreRemovals, IsKept}
 use Rattle.ln_log.specs.Log.{after_drop}
 use Rattle.ln_log.specs.Loading.{IsLawful, CoverAll, AreLawful, IsReadable}
-use Rattle.ln_log.proofs.Outcomes.{next-cons, number_is, above, removals-take}
-use Rattle.ln_log.proofs.Sums.{sums, first_sum, pays_longer}
+use Rattle.ln_log.proofs.Removing.{next-cons, number_is, above, removals-take}
+use Rattle.ln_log.proofs.Totals.{sums, first_sum, pays_longer}
 use Rattle.ln_log.proofs.Live.{counted, wider}
 use Rattle.ln_log.proofs.Standings.{standing_is}
 use Rattle.ln_log.proofs.Kept.{kept_dropped}

@@ -21,7 +21,7 @@ use Rattle.ln_log.specs.View.{view_of, Pays, IsFunded}
 use Rattle.ln_log.specs.Machine.{Covered, MaySign, to_sign}
 use Rattle.ln_log.specs.Log.{Counts, Log, covered, sent_pair, party_of, IsWithin, IsKept, BothPay, after_sign}
 use Rattle.ln_log.specs.Log.{same_counts, sign_fault, counts_of, view_for, updates_of, count_of}
-use Rattle.ln_log.proofs.Sums.{pays_all}
+use Rattle.ln_log.proofs.Totals.{pays_all}
 
 both_hold : (a b : Bool) → (a && b) ≡ true → (a ≡ true) × (b ≡ true)
 both_hold true b e = (refl, e)

@@ -15,9 +15,9 @@ use Rattle.ln_log.specs.Limits.{standing_of}
 use Rattle.ln_log.specs.Standing.{with_add, paid_by, with_own, without, with_peer, with_all, WithoutFits, FoundFits}
 use Rattle.ln_log.specs.Standing.{PeerFits, AllFit}
 use Rattle.ln_log.specs.Log.{number_after, HasId, AreNumbered, RemovesLive, AreRemovals}
-use Rattle.ln_log.proofs.Outcomes.{next-push}
+use Rattle.ln_log.proofs.Removing.{next-push}
 use Rattle.ln_log.proofs.Tallies.{amount, one, weight, tally, total_is, live_is, tally-push, tally-none, tally-hit}
-use Rattle.ln_log.proofs.Sums.{balance_more, pays_more}
+use Rattle.ln_log.proofs.Totals.{balance_more, pays_more}
 
 pub standing_is : (s t : Standing) → s.next_id ≡ t.next_id → s.live ≡ t.live → s.in_flight ≡ t.in_flight
     → s.balance ≡ t.balance → s ≡ t

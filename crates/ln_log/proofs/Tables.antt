@@ -9,7 +9,7 @@ use Rattle.ln_log.specs.declared.outcome.Outcome.{Outcome}
 use Rattle.ln_log.specs.declared.outcome.Outcome.TheVariants.{Live}
 use Rattle.ln_log.specs.Updates.{removed, outcome, is_live}
 use Rattle.ln_log.specs.Outcomes.{Tells}
-use Rattle.ln_log.proofs.Outcomes.{outcome-append, outcome-none, outcome-other, outcome-hit}
+use Rattle.ln_log.proofs.Removing.{outcome-append, outcome-none, outcome-other, outcome-hit}
 
 -- before any
 pub tells_first : (n : ℕ) → Tells (replicate n Live) []

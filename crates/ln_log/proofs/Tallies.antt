@@ -13,7 +13,7 @@ use Rattle.ln_log.specs.declared.outcome.Outcome.TheVariants.{Live, Fulfilled, F
 use Rattle.ln_log.specs.Updates.{offered, removed, found_or, add_with, outcome, is_live, share_of, share, total}
 use Rattle.ln_log.specs.View.{live_of, live_adds}
 use Rattle.ln_log.specs.Log.{number_after, HasId, AreNumbered}
-use Rattle.ln_log.proofs.Outcomes.{outcome-none, outcome-other, outcome-hit, below}
+use Rattle.ln_log.proofs.Removing.{outcome-none, outcome-other, outcome-hit, below}
 
 abbrev pub amount : Add → ℕ
 amount a = a.amount

@@ -23,8 +23,10 @@ pub use log::{Counts, MOST_UPDATES, Pair, Side, UpdateLog};
 pub use mark::{Decision, EventRef, Mark, Settlement};
 pub use opening::{Limits, MOST_HTLCS, MOST_SATOSHIS, Opening};
 pub use outcome::Outcome;
-pub use plain::{add_of, conservation, find_add, last_feerate, live_count, plain_view};
-pub use removals::outcome_of;
+pub use plain::{
+    Sums, add_of, conservation, count_adds, find_add, last_feerate, live_count, plain_view, sums_of,
+};
+pub use removals::{Outcomes, outcome_of};
 pub use standing::{Standing, add_refusal, update_refusal};
 pub use update::{
     Add, ChannelId, Fail, Fee, Fulfil, Malformed, Removal, Update, copy_update, removal_of,

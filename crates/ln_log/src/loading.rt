@@ -126,7 +126,7 @@ struct Account {
 }
 
 // The account of a side that had so much first and offered these, behind these of the other side's.
-#[tactic(auto, using(crate::proofs::Sums::total_splits))]
+#[tactic(auto, using(crate::proofs::Totals::total_splits))]
 fn account_of(
     alloc: Global,
     first: u64,

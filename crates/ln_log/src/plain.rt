@@ -103,14 +103,18 @@ fn share_of(update: &Update, outcomes: &Outcomes) -> Share
     }
 }
 
-// The amounts of all that a side offered, of what came back to it, and of what the other side fulfilled.
+/// The amounts of HTLCs of one side, in millisatoshi, by what the other side's updates made of them.
 #[derive(Clone, Copy)]
 pub struct Sums {
+    /// Of all.
     pub offered: u128,
+    /// Of those that failed, which came back.
     pub failed: u128,
+    /// Of those that were fulfilled, which the other side got.
     pub fulfilled: u128,
 }
 
+/// The amounts of the HTLCs that these updates offer. Takes no memory.
 pub fn sums_of(adds: &[Update], outcomes: &Outcomes) -> Sums
     ensures offered { result.offered ≡ total is_any adds.now outcomes.now }
     ensures failed { result.failed ≡ total is_failed adds.now outcomes.now }

@@ -1,7 +1,7 @@
 -- Removals of HTLCs that are there.
 use Rattle.std.proofs.Common.{◌≡◌, ◌≤◌, ◌<◌, ℕ, ◌+◌, List, [], ◌∷◌, ◌++◌, refl, sym, ap, ◌∙◌, arith, inl, inr, Bool}
 use Rattle.std.proofs.Common.{true, false, cond, not, ◌&&◌, ◌||◌, nat_le, nat_lt, Option, Some, None, take, drop}
-use Rattle.std.proofs.Common.{subst, eqb, ◌≢◌, length, get_or, suc, drop-cons, Ordering, Less, Equal, Greater}
+use Rattle.std.proofs.Common.{subst, eqb, ◌≢◌, length, get_or, zero, suc, drop-cons, Ordering, Less, Equal, Greater}
 use Rattle.std.proofs.lemmas.Bool.{and_parts, and_from, eqb-true, leb-true, ltb-true, leb-false, ltb-false}
 use Rattle.std.proofs.Math.Seq.{take-suc}
 use Rattle.std.proofs.lemmas.List.{drop_all}
@@ -21,13 +21,15 @@ use Rattle.ln_log.specs.declared.outcome.Outcome.{Outcome}
 use Rattle.ln_log.specs.declared.outcome.Outcome.TheVariants.{Live, Fulfilled, Failed}
 use Rattle.ln_log.specs.Updates.{offered, removed, add_with, outcome, is_live, is_some, next_id}
 use Rattle.ln_log.specs.Log.{HasId, AreNumbered, RemovesLive, AreRemovals, number_after}
-use Rattle.ln_log.proofs.Outcomes.{above, below, IsDone, done, outcome-append, outcome-none, outcome-other}
-use Rattle.ln_log.proofs.Outcomes.{outcome-hit}
+use Rattle.ln_log.proofs.Removing.{above, below, IsDone, done, outcome-append, outcome-none, outcome-other}
+use Rattle.ln_log.proofs.Removing.{outcome-hit}
 use Rattle.ln_log.proofs.Readable.{found_within}
+use Rattle.ln_store.specs.declared.record.LiveHtlc.{LiveHtlc}
 use Rattle.ln_store.specs.declared.record.Updates.{Updates}
 use Rattle.ln_store.specs.Readable.{is_in_window}
 use Rattle.ln_store.specs.Removals.{removes_there, are_removals, is_htlc, is_there, AreRemoved}
-use Rattle.ln_store.specs.Window.{has_id, are_numbered, ids_fit, count_of, window_of, removals_fit}
+use Rattle.ln_store.specs.Sides.{count_of, window_of}
+use Rattle.ln_store.specs.Window.{has_id, are_numbered, ids_fit, removals_fit}
 
 -- ---- ids
 
@@ -55,14 +57,20 @@ pub added_so : (n k id : ℕ) (us : List Update) → are_numbered n us ≡ true 
 added_so n k id us h e =
     ap (λ m. is_in_window n m id) e ∙ within n id us _ _ refl refl (numbered_so n us h)
 
+-- of numbered ones the first are numbered
+pub first_numbered : (k n : ℕ) (us : List Update) → are_numbered n us ≡ true → are_numbered n (take k us) ≡ true
+first_numbered zero n us h = refl
+first_numbered (suc k) n [] h = refl
+first_numbered (suc k) n (u ∷ us) h =
+    let p = and_parts _ _ h in
+    and_from _ _ p.0 (first_numbered k (number_after n (offered u)) us p.1)
+
 -- where so many have the ids from this one on, an HTLC is one of these or stands in the base
-pub held : (side : Role) (u : Updates) (first k id : ℕ) (a : Bool) → ids_fit side u ≡ true
-    → k ≡ next_id (window_of side u.window) → first ≡ count_of side u.base.next_ids → a ≡ is_in_window first k id
-    → (a || list_any (is_htlc side id) u.base.live) ≡ is_there side u.base.live (window_of side u.window) id
-held side u first k id a h e f is =
-    ap (λ b. b || list_any (is_htlc side id) u.base.live)
-    (is ∙ ap (λ n. is_in_window n k id) f
-    ∙ added_so (count_of side u.base.next_ids) k id (window_of side u.window) (and_parts _ _ h).1 e)
+pub held : (side : Role) (live : List LiveHtlc) (first k id : ℕ) (a : Bool) (adds : List Update)
+    → are_numbered first adds ≡ true → k ≡ next_id adds → a ≡ is_in_window first k id
+    → (a || list_any (is_htlc side id) live) ≡ is_there side live adds id
+held side live first k id a adds h e is =
+    ap (λ b. b || list_any (is_htlc side id) live) (is ∙ added_so first k id adds h e)
 
 -- ---- the ids of what was removed
 

@@ -2,6 +2,8 @@ pub mod Store
 pub mod Format
 pub mod Items
 pub mod Readable
+pub mod Sides
 pub mod Removals
+pub mod Views
 pub mod Window
 pub mod Record

@@ -9,21 +9,11 @@ use Rattle.ln_log.specs.declared.update.Update.{Update}
 use Rattle.ln_log.specs.Updates.{offered}
 use Rattle.ln_log.specs.Log.{number_after}
 use Rattle.ln_store.specs.declared.record.LiveHtlc.{LiveHtlc}
-use Rattle.ln_store.specs.declared.record.Sides.{Sides}
 use Rattle.ln_store.specs.declared.record.Base.{Base}
-use Rattle.ln_store.specs.declared.record.Window.{Window}
 use Rattle.ln_store.specs.declared.record.Updates.{Updates}
+use Rattle.ln_store.specs.Sides.{count_of, window_of}
 use Rattle.ln_store.specs.Removals.{is_there, are_removals}
-
--- ---- what is a side's
-
-abbrev pub count_of : Role → Sides → ℕ
-count_of Funder s = s.funder
-count_of Fundee s = s.fundee
-
-abbrev pub window_of : Role → Window → List Update
-window_of Funder w = w.funder
-window_of Fundee w = w.fundee
+use Rattle.ln_store.specs.Views.{views_fit}
 
 -- ---- the counts of the three pairs (BOLT 2, "Normal Operation")
 
@@ -92,4 +82,4 @@ funds_in b = b.balances.funder + b.balances.fundee + sum_by live_amount b.live
 abbrev pub updates_fit : Role → ℕ → Updates → Bool
 updates_fit own satoshis u =
     counts_fit own u && ids_fit Funder u && ids_fit Fundee u && (funds_in u.base == 1000 * satoshis)
-    && removals_fit Funder u && removals_fit Fundee u
+    && removals_fit Funder u && removals_fit Fundee u && views_fit own u

@@ -16,6 +16,7 @@ mod record_store;
 mod removals;
 mod stored;
 mod updates;
+mod views;
 mod window;
 
 pub use codec::{decode_record, encode_record, one_record};

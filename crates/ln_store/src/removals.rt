@@ -5,19 +5,20 @@ ghost use Rattle.std.specs.List.{list_any};
 ghost use Rattle.ln_keys.specs.Role.{other_role};
 ghost use Rattle.ln_log.specs.declared.update.Update.{Update};
 ghost use Rattle.ln_log.specs.Updates.{next_id, removed};
-ghost use Rattle.ln_store.specs.Window.{count_of, window_of, ids_fit, removals_fit};
+ghost use Rattle.ln_store.specs.Sides.{count_of, window_of};
+ghost use Rattle.ln_store.specs.Window.{are_numbered, ids_fit, removals_fit};
 ghost use Rattle.ln_store.specs.Removals.{are_one_side, is_htlc, is_there, removes_there, AreRemoved};
 
 use crate::readable::is_in_window;
 use crate::record::{LiveHtlc, Updates};
 use crate::window::{count_of, window_of};
 use ln_keys::Role;
-use ln_log::{Update, add_of, removal_of};
+use ln_log::{Update, count_adds, removal_of};
 use ln_msgs::Refusal;
 use std::alloc::Global;
 use std::collections::BTreeSet;
 
-fn are_one_side(one: Role, other: Role) -> bool
+pub(crate) fn are_one_side(one: Role, other: Role) -> bool
     ensures { result ≡ are_one_side one other }
 {
     match one {
@@ -39,27 +40,12 @@ fn is_in_base(side: Role, id: u64, live: &[LiveHtlc]) -> bool
     live.iter().any(|htlc| is_htlc(side, id, htlc))
 }
 
-// How many HTLCs these updates offer.
-fn count_adds(updates: &[Update]) -> usize
-    ensures { result ≡ next_id updates.now }
+/// Whether a side that offers so many HTLCs from this id on, and has these beside them, has one of this id.
+pub(crate) fn is_there(side: Role, live: &[LiveHtlc], first: u64, added: usize, id: u64) -> bool
+    ensures { (adds : List Update) → are_numbered first adds ≡ true → added ≡ next_id adds
+        → result ≡ is_there side live.now adds id }
 {
-    let mut count = 0usize;
-    for update in updates {
-        if add_of(update).is_some() {
-            count += 1;
-        }
-    }
-    count
-}
-
-// Whether the side, whose window adds so many HTLCs, has one of this id.
-fn is_there(side: Role, updates: &Updates, added: usize, id: u64) -> bool
-    requires ids { ids_fit side updates.now ≡ true }
-    requires adds { added ≡ next_id (window_of side updates.now.window) }
-    ensures { result ≡ is_there side updates.now.base.live (window_of side updates.now.window) id }
-{
-    let first = count_of(side, &updates.base.next_ids);
-    is_in_window(first, added, id) || is_in_base(side, id, updates.base.live.as_slice())
+    is_in_window(first, added, id) || is_in_base(side, id, live)
 }
 
 // Whether an update removes nothing, or an HTLC of this side that is there and isn't among those removed before.
@@ -78,7 +64,9 @@ fn removes_there(
     match removal_of(update) {
         None => true,
         Some(removal) => {
-            is_there(side, updates, added, removal.id) && !before.contains(&removal.id)
+            let first = count_of(side, &updates.base.next_ids);
+            let live = updates.base.live.as_slice();
+            is_there(side, live, first, added, removal.id) && !before.contains(&removal.id)
         }
     }
 }

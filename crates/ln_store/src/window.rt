@@ -1,11 +1,13 @@
 //! Whether a record may tell these updates.
 
 ghost use Rattle.std.specs.Prelude.{◌≡◌, ◌≤◌, ◌*◌, ◌^◌, length, sum_by, IfOk, IfErr};
-ghost use Rattle.ln_store.specs.Window.{count_of, window_of, rise, own_counts_rise, peer_counts_rise, covers_all};
+ghost use Rattle.ln_store.specs.Sides.{count_of, window_of};
+ghost use Rattle.ln_store.specs.Window.{rise, own_counts_rise, peer_counts_rise, covers_all};
 ghost use Rattle.ln_store.specs.Window.{counts_fit, are_numbered, ids_fit, live_amount, funds_in, updates_fit};
 
 use crate::record::{Base, LiveHtlc, Sides, Updates, Window};
 use crate::removals::removals_fit;
+use crate::views::views_fit;
 use ln_keys::Role;
 use ln_log::{MOST_UPDATES, Update};
 use ln_msgs::Refusal;
@@ -140,6 +142,7 @@ pub(crate) fn updates_fit(
             && ids_fit(Role::Fundee, updates)
             && funds_in(&updates.base) == 1000 * u128::from(satoshis)
             && removals_fit(alloc, Role::Funder, updates)?
-            && removals_fit(alloc, Role::Fundee, updates)?,
+            && removals_fit(alloc, Role::Fundee, updates)?
+            && views_fit(alloc, own, updates)?,
     )
 }

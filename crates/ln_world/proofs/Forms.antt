@@ -55,6 +55,14 @@ record Opens (e : End) : Type 0 where
   funds : HasFunds (opening_of e.terms)
   open_channel : IsOpenChannel e.terms.open_channel
   accept_channel : IsAcceptChannel e.terms.accept_channel
+  opening : e.dance.log.opening ≡ opening_of e.terms
+  role : e.dance.log.role ≡ e.closing.role
+
+-- two ends that were opened by the same messages have one opening
+same_opening : (o : Opened) (e : End) → IsOf o e → opening_of o.terms ≡ opening_of e.terms
+same_opening o e of =
+    ap (λ m. asked_with m (asked_by_accept o.terms.accept_channel)) (sym of.open_channel)
+    ∙ ap (λ a. asked_with e.terms.open_channel (asked_by_accept a)) (sym of.accept_channel)
 
 opens : (o : Opened) (e : End) → IsOpening o → IsOf o e → Opens e
 opens o e h of = record {
@@ -65,6 +73,8 @@ opens o e h of = record {
       (subst (λ m. HasFundsBy m o.terms.accept_channel) (sym of.open_channel) h.funds);
   open_channel = subst IsOpenChannel (sym of.open_channel) h.open_channel;
   accept_channel = subst IsAcceptChannel (sym of.accept_channel) h.accept_channel;
+  opening = of.opening ∙ h.opening ∙ same_opening o e of;
+  role = of.role ∙ h.role ∙ sym of.closing_role;
 }
 
 feerate_below : (m : OpenChannel) → IsOpenChannel m → m.feerate_per_kw < 2 ^ 32
@@ -274,7 +284,7 @@ updates_sound e o r =
     let u = updates_of (opening_of e.terms) e.closing.role (after_drop e.dance.log) in
     ap (λ n. updates_fit e.closing.role n u)
     (funding_told m (payload_of (open_wire m)) (open_is_read m o.open_channel))
-    ∙ fit_so (opening_of e.terms) e.closing.role (after_drop e.dance.log) o.funds r
+    ∙ fit_so (opening_of e.terms) e.closing.role (after_drop e.dance.log) o.funds o.opening o.role r
 
 items_sound : (e : End) → Opens e → IsCounted e → IsWide e → IsReadable (after_drop e.dance.log)
     → is_sound (items_of None e) ≡ true

@@ -35,3 +35,5 @@ pub record IsOpening (o : Opened) : Type 0 where
   pub funds : HasFunds (opening_of o.terms)
   pub open_channel : IsOpenChannel o.terms.open_channel
   pub accept_channel : IsAcceptChannel o.terms.accept_channel
+  pub opening : o.dance.log.opening ≡ opening_of o.terms
+  pub role : o.dance.log.role ≡ o.closing.role

@@ -123,6 +123,8 @@ module _ (a b : Signer) (number satoshis push : ℕ) (n m : Node) (s t : Setting
     funds = funds_so;
     open_channel = open_so;
     accept_channel = accept_so;
+    opening = refl;
+    role = refl;
   }
 
   fundees_so : IsOpening (fundees_end a b spec_so config_so)
@@ -132,6 +134,8 @@ module _ (a b : Signer) (number satoshis push : ℕ) (n m : Node) (s t : Setting
     funds = funds_so;
     open_channel = open_so;
     accept_channel = accept_so;
+    opening = refl;
+    role = refl;
   }
 
   pub are_openings : (funder fundee : Opened) → Opens a b spec_so config_so funder fundee

@@ -1,4 +1,4 @@
-use Rattle.ln_log.proofs.Outcomes.{numbered-take}
+use Rattle.ln_log.proofs.Removing.{numbered-take}
 use Rattle.ln_log.proofs.loading.covers_lawfully.Goals as goal
 
 pub is_lawful-requires-clause-own_ids : goal.is_lawful-requires-clause-own_ids

@@ -1,4 +1,4 @@
-use Rattle.ln_log.proofs.Sums.{adds_up}
+use Rattle.ln_log.proofs.Totals.{adds_up}
 use Rattle.ln_log.proofs.plain.conservation.Goals as goal
 
 pub returns : goal.returns

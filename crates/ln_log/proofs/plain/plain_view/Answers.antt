@@ -4,7 +4,7 @@ use Rattle.ln_log.specs.declared.update.Update.{Update}
 use Rattle.ln_log.specs.Updates.{total, is_any, is_failed, is_fulfilled}
 use Rattle.ln_log.specs.View.{htlc_of, live_adds, AddsUp}
 use Rattle.ln_keys.specs.declared.role.Role.TheVariants.{Funder, Fundee}
-use Rattle.ln_log.proofs.Sums.{adds_up}
+use Rattle.ln_log.proofs.Totals.{adds_up}
 use Rattle.ln_log.proofs.Signs.{view_is}
 use Rattle.ln_log.proofs.plain.plain_view.Goals as goal
 

@@ -1,6 +1,7 @@
 use Rattle.std.proofs.Common.{◌≡◌, take, drop}
 use Rattle.ln_store.specs.Removals.{is_there, are_removals, AreRemoved}
-use Rattle.ln_store.specs.Window.{window_of, removals_fit}
+use Rattle.ln_store.specs.Sides.{window_of}
+use Rattle.ln_store.specs.Window.{removals_fit}
 use Rattle.ln_store.proofs.removals.removals_fit.Given as goal
 
 abbrev pub invariant-loop-update : goal.invariant-loop-update

@@ -16,7 +16,7 @@ use Rattle.ln_log.specs.declared.outcome.Outcome.TheVariants.{Live, Fulfilled, F
 use Rattle.ln_log.specs.Opening.{HasFunds, first_balance}
 use Rattle.ln_log.specs.Updates.{offered, outcome, is_live, is_fulfilled, is_failed, is_any, total}
 use Rattle.ln_log.specs.View.{live_of, live_adds, balance, htlc_of, htlc_amount, view_of, Pays, IsFunded, AddsUp}
-use Rattle.ln_log.proofs.Outcomes.{outcome-append}
+use Rattle.ln_log.proofs.Removing.{outcome-append}
 use Rattle.ln_log.proofs.Tallies.{amount, weight, tally, total_is, tally-append}
 
 one : (o : Outcome) (n : ℕ) → n ≡ cond (is_live o) n 0 + cond (is_failed o) n 0 + cond (is_fulfilled o) n 0
