@@ -9,8 +9,8 @@ use thiserror::Error;
 
 /// What is wrong with bytes that were read, or why nothing could be read or written.
 ///
-/// Faults 1 to 9 tell of the bytes alone: the same bytes always have the same first fault. The text is `refused` and the
-/// number.
+/// Faults 1 to 9 tell of the bytes alone: the same bytes always have the same first fault. The text is `refused` and
+/// the number.
 #[derive(Clone, Copy, Debug, PartialEq, Eq, Error)]
 pub enum Fault {
     /// 1: the bytes end inside a value.

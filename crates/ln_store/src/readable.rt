@@ -185,9 +185,9 @@ pub(crate) fn is_sound(alloc: Global, items: &Items) -> Result<bool, Refusal>
 /// 2^63 + 1 events were decided; each undecided event names an update of the window or the close. The counts of updates
 /// rise and cover all of them, ids go on from the base's, and the base adds up to the funding (specs/Window.antt); each
 /// fulfil, fail and malformed fail names an HTLC of the other side that is live in the base or added in the window, and
-/// no two the same. In no view of the three pairs, nor in that of the next signature or of the next one taken, a removal
-/// stands without its HTLC, or a side has spent more than it had (specs/Views.antt). Takes memory for the two payloads,
-/// for the ids of the HTLCs that are removed, and for what became of HTLCs in a view.
+/// no two the same. In no view of the three pairs, nor in that of the next signature or of the next one taken, a
+/// removal stands without its HTLC, or a side has spent more than it had (specs/Views.antt). Takes memory for the two
+/// payloads, for the ids of the HTLCs that are removed, and for what became of HTLCs in a view.
 ///
 /// Error: 60 alone, where there is no memory.
 pub fn is_readable(alloc: Global, items: &Items) -> Result<bool, Refusal>

@@ -7,7 +7,8 @@ ghost use Rattle.ln_log.specs.Updates.{next_id, removed, total, is_failed, is_fu
 ghost use Rattle.ln_store.specs.Sides.{count_of};
 ghost use Rattle.ln_store.specs.Removals.{is_there};
 ghost use Rattle.ln_store.specs.Window.{are_numbered, ids_fit};
-ghost use Rattle.ln_store.specs.Views.{lives_of, names_one, stand, pays, is_side_lawful, covered_of, is_lawful, views_fit};
+ghost use Rattle.ln_store.specs.Views.{lives_of, names_one, stand, pays, is_side_lawful};
+ghost use Rattle.ln_store.specs.Views.{covered_of, is_lawful, views_fit};
 
 use crate::record::{Base, Covered, LiveHtlc, Updates};
 use crate::removals::{are_one_side, is_there};
