@@ -26,15 +26,14 @@ const MOST_SATOSHIS: u64 = 2_100_000_000_000_000;
 const MOST_EVENTS: u64 = 9_223_372_036_854_775_809;
 
 // What a message of this type with this payload says.
-fn said_by(alloc: Global, typ: u8, payload: &[u8]) -> Result<Box<Incoming>, Fault>
+fn said_by(alloc: Global, typ: u8, payload: &[u8]) -> Result<Incoming, Fault>
     ensures { Gives heard result (message_at (0 ∷ typ ∷ payload.now)) }
 {
     let mut bytes = Vec::with_capacity(alloc, 2)?;
     bytes.push(0)?;
     bytes.push(typ)?;
     bytes.extend_from_slice(payload)?;
-    let said = decode(alloc, bytes.as_slice())?;
-    Ok(Box::new(alloc, said)?)
+    decode(alloc, bytes.as_slice())
 }
 
 // The funding, in satoshi, where it is an `open_channel` and that is in its range.
