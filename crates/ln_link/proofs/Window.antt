@@ -4,6 +4,7 @@ use Rattle.std.proofs.Common.{arith, true, false, nat_le, ◌==◌, ◌&&◌, �
 use Rattle.std.proofs.lemmas.Bool.{and_from, le-leb, eq-eqb}
 use Rattle.ln_keys.specs.declared.role.Role.{Role}
 use Rattle.ln_keys.specs.declared.role.Role.TheVariants.{Funder, Fundee}
+use Rattle.ln_keys.specs.Role.{other_role}
 use Rattle.ln_log.specs.declared.opening.Opening.{Opening}
 use Rattle.ln_log.specs.declared.log.Counts.{Counts}
 use Rattle.ln_log.specs.declared.log.Pair.{Pair}
@@ -19,7 +20,9 @@ use Rattle.ln_log.specs.Loading.{IsReadable, IsLawful}
 use Rattle.ln_log.specs.Log.{Log, HasId, AreNumbered, RemovesLive, AreRemovals, number_after, covered, counts_of}
 use Rattle.ln_log.proofs.Readable.{signs_all}
 use Rattle.ln_store.specs.Removals.{is_there}
+use Rattle.ln_store.specs.declared.record.Base.{Base}
 use Rattle.ln_store.specs.Views.{names_one, stand, is_side_lawful, is_lawful, views_fit}
+use Rattle.ln_store.specs.Views as in_view
 use Rattle.ln_store.specs.Window.{rise, has_id, are_numbered, counts_fit, ids_fit, funds_in, updates_fit, removals_fit}
 use Rattle.ln_store.proofs.Removing.{removals_of}
 use Rattle.ln_link.specs.Record.{base_of, covered_of, updates_of}
@@ -100,15 +103,33 @@ side_so : (o : Opening) (x : Role) (own peer : List Update) → AreRemovals peer
 side_so o Funder own peer h p = and_from _ _ (stand_so Fundee peer [] own h) (le-leb _ _ p)
 side_so o Fundee own peer h p = and_from _ _ (stand_so Funder peer [] own h) (le-leb _ _ p)
 
+-- with nothing in the base a view has the first updates of the lists
+own_covered : (o : Opening) (x : Role) (l : Log) (n : ℕ) → in_view.covered_of x (updates_of o x l) n ≡ take n l.own
+unfolding updates_of
+own_covered o Funder l n = ap (λ k. take k l.own) (omega arith)
+own_covered o Fundee l n = ap (λ k. take k l.own) (omega arith)
+
+peer_covered : (o : Opening) (x : Role) (l : Log) (n : ℕ)
+    → in_view.covered_of (other_role x) (updates_of o x l) n ≡ take n l.received
+unfolding updates_of
+peer_covered o Funder l n = ap (λ k. take k l.received) (omega arith)
+peer_covered o Fundee l n = ap (λ k. take k l.received) (omega arith)
+
+both_so : (x : Role) (b : Base) (own peer w v : List Update) → w ≡ own → v ≡ peer
+    → is_side_lawful x b own peer ≡ true → is_side_lawful (other_role x) b peer own ≡ true
+    → (is_side_lawful x b w v && is_side_lawful (other_role x) b v w) ≡ true
+both_so x b own peer w v e f h k =
+    subst (λ us. (is_side_lawful x b us v && is_side_lawful (other_role x) b v us) ≡ true) (sym e)
+    (subst (λ us. (is_side_lawful x b own us && is_side_lawful (other_role x) b us own) ≡ true) (sym f)
+    (and_from _ _ h k))
+
 view_so : (o : Opening) (x : Role) (l : Log) (c : Counts) → IsLawful o x (covered l c)
     → is_lawful x (updates_of o x l) (covered_of c) ≡ true
 unfolding updates_of
-view_so o Funder l c h =
-    and_from _ _ (side_so o Funder (take c.own l.own) (take c.peer l.received) h.own_removals h.paid.0)
-    (side_so o Fundee (take c.peer l.received) (take c.own l.own) h.peer_removals h.paid.1)
-view_so o Fundee l c h =
-    and_from _ _ (side_so o Fundee (take c.own l.own) (take c.peer l.received) h.own_removals h.paid.0)
-    (side_so o Funder (take c.peer l.received) (take c.own l.own) h.peer_removals h.paid.1)
+view_so o x l c h =
+    both_so x (base_of o) (take c.own l.own) (take c.peer l.received) _ _ (own_covered o x l c.own)
+    (peer_covered o x l c.peer) (side_so o x (take c.own l.own) (take c.peer l.received) h.own_removals h.paid.0)
+    (side_so o (other_role x) (take c.peer l.received) (take c.own l.own) h.peer_removals h.paid.1)
 
 -- that of a pair of counts
 pair_so : (o : Opening) (x : Role) (l : Log) (p : Pair) → l.opening ≡ o → l.role ≡ x → IsReadable l
