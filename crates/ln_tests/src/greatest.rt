@@ -33,7 +33,10 @@ fn funder_side(alloc: Global, len: usize) -> Result<Option<Side<MemoryStore>>, R
     if !spec.fits() {
         return Ok(None);
     }
-    let link = boxed(alloc, Link::funder(FUNDER, FitSpec::new(*spec)))?;
+    let link = boxed(
+        alloc,
+        Link::funder(FUNDER, FitSpec::new(Box::into_inner(spec))),
+    )?;
     Ok(Some(Side {
         link,
         store: MemoryStore::new(alloc),
@@ -54,11 +57,17 @@ fn longest(alloc: Global, outputs: Vec<Output>) -> Result<usize, Refusal> {
 
 /// The channel is open, and the funder shuts it with a script of so many bytes: how many bytes its `shutdown` has, how
 /// many its record, and by what this is refused where it is loaded, 0 where it is a link's.
-fn shut(alloc: Global, a: &mut Side<MemoryStore>, len: usize) -> Result<(usize, usize, u32), Refusal> {
+fn shut(
+    alloc: Global,
+    a: &mut Side<MemoryStore>,
+    len: usize,
+) -> Result<(usize, usize, u32), Refusal> {
     let mut b = fundee_side(alloc, MemoryStore::new(alloc))?;
     played(alloc, a, &mut b)?;
     let script = zeros(alloc, len)?;
-    let shutdown = a.link.command(alloc, &mut a.store, Command::Shutdown(script))?;
+    let shutdown = a
+        .link
+        .command(alloc, &mut a.store, Command::Shutdown(script))?;
     let shutdown_len = longest(alloc, shutdown)?;
     let bytes = stored(alloc, a)?;
     let refused = code_of(Link::from_record(alloc, FUNDER, bytes.as_slice()).err());
