@@ -18,11 +18,11 @@ fn zeros(alloc: Global, len: usize) -> Result<Bytes, Refusal> {
     Ok(Bytes::new(bytes))
 }
 
-/// One record of an odd type whose value has so many bytes.
+/// One record of an odd type that nobody knows, whose value has so many bytes.
 fn records(alloc: Global, len: usize) -> Result<Records, Refusal> {
     let value = zeros(alloc, len)?;
     let mut records = Vec::new(alloc);
-    records.push(Record { typ: 1, value })?;
+    records.push(Record { typ: 101, value })?;
     Ok(Records::new(records))
 }
 
