@@ -62,7 +62,8 @@ take es fs k h = same_map nat_list_cmp_total exact _ _ (λ q.
     ∙ ap (cond (eq_by_cmp by_bytes q k) None) (got es q)))
 
 -- what was put in is taken back
-pub undo : (m : Records) (k v : List ℕ) (before : Option (List ℕ)) → before ≡ map.get m k → restored (map.insert m k v) k before ≡ m
+pub undo : (m : Records) (k v : List ℕ) (before : Option (List ℕ)) → before ≡ map.get m k
+    → restored (map.insert m k v) k before ≡ m
 undo m k v (Some b) is = same_map nat_list_cmp_total exact _ _ (λ q.
     get-insert nat_list_cmp_total (map.insert m k v) k b q
     ∙ ap (cond (eq_by_cmp by_bytes q k) (Some b)) (get-insert nat_list_cmp_total m k v q)
@@ -79,14 +80,16 @@ undo m k v None is = same_map nat_list_cmp_total exact _ _ (λ q.
     ∙ ap (cond (eq_by_cmp by_bytes q k) None) (get-insert nat_list_cmp_total m k v q)
     ∙ either q)
   where
-    either : (q : List ℕ) → cond (eq_by_cmp by_bytes q k) None (cond (eq_by_cmp by_bytes q k) (Some v) (map.get m q)) ≡ map.get m q
+    either : (q : List ℕ) → cond (eq_by_cmp by_bytes q k) None (cond (eq_by_cmp by_bytes q k) (Some v)
+        (map.get m q)) ≡ map.get m q
     either q = elim (cases_Bool (eq_by_cmp by_bytes q k)) [
       | inl same ↦ rw same (is ∙ ap (map.get m) (sym (exact q k (tied _ same))))
       | inr other ↦ rw other refl
     ]
 
 pub is_there : (m : Records) (k v : List ℕ) → map.get (map.insert m k v) k ≡ Some v
-is_there m k v = get-insert nat_list_cmp_total m k v k ∙ ap (λ b. cond b (Some v) (map.get m k)) ((eq_by_cmp_equiv nat_list_cmp_total).refl k)
+is_there m k v = get-insert nat_list_cmp_total m k v k ∙ ap (λ b. cond b (Some v) (map.get m k))
+    ((eq_by_cmp_equiv nat_list_cmp_total).refl k)
 
 -- ---- the ids in order
 

@@ -64,7 +64,8 @@ all_query = record {
   offset = lit (Int (pos 0));
 }
 
-pub all_is : (command_of (understood schema all_text) ≡ Select (record { lets = []; body = all_query }) (codes "id" ∷ codes "body" ∷ [])) × (reads_listing schema all_text ≡ false)
+pub all_is : (command_of (understood schema all_text) ≡ Select (record { lets = []; body = all_query })
+    (codes "id" ∷ codes "body" ∷ [])) × (reads_listing schema all_text ≡ false)
 unfolding understood everything
 all_is = (refl, refl)
 

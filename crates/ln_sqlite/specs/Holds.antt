@@ -35,6 +35,8 @@ pub record IsTableOf (s : State) (records : Records) : Type 0 where
 abbrev pub StopLeaves : State → State → Records → Type 0
 StopLeaves old new behind = (trees : Trees) → new.may_leave trees → old.may_leave trees ⊎ Holds (trees 0) behind
 
--- as far as the disk returned what was written, and the database wasn't shut, the table has these records as it had those
+-- As far as the disk has returned what was written, and the database wasn't shut: it has these records if it had those
+-- before.
 abbrev pub KeepsTable : {S : Type 0} → Ghosts S → Held S → Records → Held S → Records → Type 0
-KeepsTable g old before new behind = HasCleanDisk (state g new) → IsTrue (state g new).is_open → IsTableOf (state g old) before → IsTableOf (state g new) behind
+KeepsTable g old before new behind = HasCleanDisk (state g new) → IsTrue (state g new).is_open
+    → IsTableOf (state g old) before → IsTableOf (state g new) behind

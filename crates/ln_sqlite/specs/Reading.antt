@@ -30,4 +30,5 @@ pub record AreShown (table shows : List Row) : Type 0 where
 
 -- each id has 32 bytes
 abbrev pub AreIds : Records → Type 0
-AreIds records = (id : List ℕ) (body : List ℕ) → map.get records id ≡ Rattle.std.specs.Prelude.Some body → length id ≡ 32
+AreIds records = (id : List ℕ) (body : List ℕ) → map.get records id ≡ Rattle.std.specs.Prelude.Some body
+    → length id ≡ 32

@@ -10,7 +10,14 @@ use Rattle.sqlite_catalog.specs.Change.{created}
 
 -- a column of any kind of value
 abbrev pub column : List ℕ → Bool → Column
-column name not_null = record { name = name; kind = Any; is_strict = false; not_null = not_null; default = Null; collation = Binary }
+column name not_null = record {
+  name = name;
+  kind = Any;
+  is_strict = false;
+  not_null = not_null;
+  default = Null;
+  collation = Binary;
+}
 
 abbrev pub columns : List Column
 columns = column (codes "id") false ∷ column (codes "body") true ∷ []

@@ -137,10 +137,12 @@ impl<S: Alter> RecordStore for SqliteStore<S> {
         ensures replaces_the_record { OnOk result (self.new.copies ≡ map.insert self.old.copies id.now bytes.now) }
         ensures leaves_the_old { OnErr result (self.new.copies ≡ self.old.copies) }
         ensures counts_failures { CountsFailures result self.old.failures self.new.failures }
-        ensures keeps_the_table { KeepsTable S.Store self.old.connection self.old.copies self.new.connection self.new.copies }
+        ensures keeps_the_table { KeepsTable S.Store self.old.connection self.old.copies
+            self.new.connection self.new.copies }
         ensures leaves_one_at_a_stop { HasCleanDisk (state S.Store self.new.connection)
             → IsTableOf (state S.Store self.old.connection) self.old.copies
-            → StopLeaves (state S.Store self.old.connection) (state S.Store self.new.connection) (map.insert self.old.copies id.now bytes.now) }
+            → StopLeaves (state S.Store self.old.connection) (state S.Store self.new.connection)
+            (map.insert self.old.copies id.now bytes.now) }
     {
         let kept = copied(alloc, bytes)?;
         let before = self.copies.put(*id, kept)?;
@@ -158,7 +160,8 @@ impl<S: Alter> RecordStore for SqliteStore<S> {
         ensures gives_the_record { IfOk result (λ found. found ≡ map.get self.old.copies id.now) }
         ensures changes_no_record { self.new.copies ≡ self.old.copies }
         ensures counts_failures { CountsFailures result self.old.failures self.new.failures }
-        ensures keeps_the_table { KeepsTable S.Store self.old.connection self.old.copies self.new.connection self.new.copies }
+        ensures keeps_the_table { KeepsTable S.Store self.old.connection self.old.copies
+            self.new.connection self.new.copies }
     {
         let Ok(rows) = load_rows(&mut self.connection, id) else {
             return Err(counted(&mut self.failures));
@@ -177,7 +180,8 @@ impl<S: Alter> RecordStore for SqliteStore<S> {
         ensures gives_each_id_in_order { IfOk result (λ ids. ids.items ≡ map.keys self.old.copies) }
         ensures changes_no_record { self.new.copies ≡ self.old.copies }
         ensures counts_failures { CountsFailures result self.old.failures self.new.failures }
-        ensures keeps_the_table { KeepsTable S.Store self.old.connection self.old.copies self.new.connection self.new.copies }
+        ensures keeps_the_table { KeepsTable S.Store self.old.connection self.old.copies
+            self.new.connection self.new.copies }
     {
         let ids = self.copies.ids(alloc)?;
         let Ok(rows) = id_rows(&mut self.connection) else {

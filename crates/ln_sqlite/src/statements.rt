@@ -19,12 +19,14 @@ pub(crate) fn save_row<S: Alter>(
     ensures replaces_the_row { HasCleanDisk (state S.Store connection.new) → OnOk result ((records : Records)
         → IsTableOf (state S.Store connection.old) records
         → IsTableOf (state S.Store connection.new) (map.insert records id.now bytes.now)) }
-    ensures leaves_the_table { HasCleanDisk (state S.Store connection.new) → IsTrue (state S.Store connection.new).is_open
+    ensures leaves_the_table { HasCleanDisk (state S.Store connection.new)
+        → IsTrue (state S.Store connection.new).is_open
         → OnErr result ((records : Records) → IsTableOf (state S.Store connection.old) records
         → IsTableOf (state S.Store connection.new) records) }
     ensures leaves_one_at_a_stop { HasCleanDisk (state S.Store connection.new) → (records : Records)
         → IsTableOf (state S.Store connection.old) records
-        → StopLeaves (state S.Store connection.old) (state S.Store connection.new) (map.insert records id.now bytes.now) }
+        → StopLeaves (state S.Store connection.old) (state S.Store connection.new)
+        (map.insert records id.now bytes.now) }
 {
     connection.execute(
         "INSERT OR REPLACE INTO records(id, body) VALUES (?1, ?2)",
@@ -43,7 +45,8 @@ pub(crate) fn load_rows<S: Alter>(
     connection: &mut Connection<S>,
     id: &[u8],
 ) -> Result<Vec<Row>, Error>
-    ensures leaves_the_table { HasCleanDisk (state S.Store connection.new) → IsTrue (state S.Store connection.new).is_open
+    ensures leaves_the_table { HasCleanDisk (state S.Store connection.new)
+        → IsTrue (state S.Store connection.new).is_open
         → (records : Records) → IsTableOf (state S.Store connection.old) records
         → IsTableOf (state S.Store connection.new) records }
 {
@@ -54,7 +57,8 @@ pub(crate) fn load_rows<S: Alter>(
 }
 
 pub(crate) fn id_rows<S: Alter>(connection: &mut Connection<S>) -> Result<Vec<Row>, Error>
-    ensures leaves_the_table { HasCleanDisk (state S.Store connection.new) → IsTrue (state S.Store connection.new).is_open
+    ensures leaves_the_table { HasCleanDisk (state S.Store connection.new)
+        → IsTrue (state S.Store connection.new).is_open
         → (records : Records) → IsTableOf (state S.Store connection.old) records
         → IsTableOf (state S.Store connection.new) records }
 {

@@ -27,10 +27,28 @@ fn are_columns(them: &[Column]) -> bool
     }
 }
 
-/// Whether a database has the table of records, and nothing else.
+fn is_table(it: &Table) -> bool {
+    it.name.as_slice() == b"records".as_slice()
+        && are_columns(it.columns.as_slice())
+        && it.key.is_none()
+        && it.primary.as_slice() == [1].as_slice()
+        && it.uniques.len() == 1
+        && it.checks.roots.is_empty()
+        && it.references.is_empty()
+        && it.computed.is_empty()
+        && it.stamps.places.is_empty()
+        && !it.is_counted
+}
+
+/// Whether a database has the table of records, with the index of its key, and nothing else.
 pub(crate) fn is_table_of_records(schema: &Schema) -> bool {
-    match schema.tables.as_slice() {
-        [table] => are_columns(table.columns.as_slice()),
+    match (schema.tables.as_slice(), schema.indexes.as_slice()) {
+        ([table], [index]) => {
+            schema.views.is_empty()
+                && is_table(table)
+                && index.is_unique
+                && index.columns.as_slice() == [1].as_slice()
+        }
         _ => false,
     }
 }

@@ -20,5 +20,6 @@ returns-clause-gives_what_was_there c =
 
 pub returns-in_err-insert-clause-fails_for_a_new_id_alone : goal.returns-in_err-insert-clause-fails_for_a_new_id_alone
 returns-in_err-insert-clause-fails_for_a_new_id_alone c =
-    at_err c.from_residual.result _ (ap (λ m. map.get m c.args.id) (sym c.self.view_is) ∙ got c.self.inside.records.entries c.args.id
+    at_err c.from_residual.result _ (ap (λ m. map.get m c.args.id) (sym c.self.view_is)
+    ∙ got c.self.inside.records.entries c.args.id
     ∙ c.in_err-insert.ensures.absent)

@@ -28,7 +28,8 @@ returns-in-Ok-clause-leaves_one_at_a_stop g c clean was trees left =
 
 pub returns-in-Err-clause-leaves_the_old : goal.returns-in-Err-clause-leaves_the_old
 returns-in-Err-clause-leaves_the_old g c =
-    c.restore.ensures ∙ ap (λ m. restored m c.args.id.now c.in_ok-before.before) c.in_ok-before.ensures.replaces_the_record
+    c.restore.ensures ∙ ap
+    (λ m. restored m c.args.id.now c.in_ok-before.before) c.in_ok-before.ensures.replaces_the_record
     ∙ undo c.args.self.now.copies c.args.id.now c.in_ok-kept.kept c.in_ok-before.before
     c.in_ok-before.ensures.gives_what_was_there
 
