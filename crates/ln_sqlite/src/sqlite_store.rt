@@ -80,6 +80,10 @@ fn begin<S: Alter>(alloc: Global, connection: &mut Connection<S>) -> Result<Copi
 }
 
 impl<S: Alter> SqliteStore<S> {
+    /// A store over a database: it makes the table where the database has none, and reads all records once.
+    ///
+    /// Errors, beside the connection: 61 where the database failed, has other tables, or has begun a transaction; 60
+    /// where there is no memory.
     pub fn over(
         alloc: Global,
         mut connection: Connection<S>,
