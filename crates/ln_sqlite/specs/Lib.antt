@@ -1,0 +1,5 @@
+pub mod Copies
+pub mod Table
+pub mod Holds
+pub mod Replaced
+pub mod Reading
