@@ -1,6 +1,6 @@
 -- What each HTLC of a book has to be commanded, and the first command that can be taken.
 use Rattle.std.specs.Prelude.{ℕ, List, [], ◌∷◌, ◌++◌, Bool, true, false, not, ◌&&◌, Option, Some, None}
-use Rattle.std.specs.Prelude.{Result, Ok, Err, if◌then◌else◌}
+use Rattle.std.specs.Prelude.{Result, Ok, Err, if◌then◌else◌, Box}
 use Rattle.std.specs.List.{find}
 use Rattle.sha2.specs.Sha256.{sha256}
 use Rattle.ln_bytes.specs.Endian.{big_bytes}
@@ -74,7 +74,7 @@ due c h =
     if not h.decided then None
     else (if is_settled h.back then (if is_over_in c h.way then Some (out.Forgetting h.key) else None)
     else (if is_nowhere h.way && forwards_in c h.mark then Some (out.Adding h.key)
-    else (if is_open h.back && (same c h.key.channel && has_removal h.mark h.way) then Some (out.Removing h.key)
+    else (if has_removal h.mark h.way && (is_open h.back && same c h.key.channel) then Some (out.Removing h.key)
     else None)))
 
 -- ---- its command
@@ -143,6 +143,10 @@ command_by s h (Some o) = with_out o (command_of s h o)
 abbrev pub or_next : Option (Out × Command) → Option (Out × Command) → Option (Out × Command)
 or_next None y = y
 or_next (Some x) y = Some x
+
+-- what is due, with its command as such
+abbrev pub unboxed : {A : Type 0} → Out × Box Command A → Out × Command
+unboxed x = (x.0, x.1.value)
 
 -- ---- the first command that can be taken
 

@@ -1,3 +1,4 @@
 pub mod Commands
+pub mod Errand
 pub mod Marks
 pub mod Settled

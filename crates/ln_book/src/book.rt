@@ -266,7 +266,7 @@ impl Book {
             None => Ok(None),
             Some((out, command)) => {
                 self.note_taken(channel, out)?;
-                Ok(Some(command))
+                Ok(Some(Box::into_inner(command)))
             }
         }
     }
@@ -289,9 +289,8 @@ impl Book {
     pub fn answered(&mut self, channel: ChannelId, answer: Result<u64, u16>)
         ensures { self.new ≡ with_answered channel answer (desk_at channel (table_of self.old)) self.old }
     {
-        if let Desk::Out(_) = self.tables.desk(&channel) {
+        if let Desk::Out(_) = self.tables.answered(&channel, answer) {
             self.history = self.history.and(&Entry::Answered(channel, answer));
-            self.tables.answered(&channel, answer);
         }
     }
 }

@@ -1,11 +1,13 @@
 //! What each HTLC of a book has to be commanded, and the first command that can be taken.
 
-ghost use Rattle.std.specs.Prelude.{◌≡◌, IfOk, IfErr, IfSome, length, option_copied};
+ghost use Rattle.std.specs.Prelude.{◌≡◌, IfOk, IfErr, IfSome, Some, length, option_copied, option_map};
 ghost use Rattle.std.specs.List.{find};
 ghost use Rattle.ln_forward.specs.Failure.{failure_bytes};
 ghost use Rattle.ln_book.specs.Commands.{services_of, next_of, add_of, malformed_bytes, removal_over, removal_by_way};
 ghost use Rattle.ln_book.specs.Commands.{removal_by, forget_by, command_of, command_by, due, first_due, is_queued_in};
+ghost use Rattle.ln_book.specs.Errand.{out_by};
 ghost use Rattle.ln_book.specs.Commands.{is_over_in, is_told_by, forwards_in, has_removal, first_of, first_command};
+ghost use Rattle.ln_book.specs.Commands.{unboxed};
 ghost use Rattle.ln_tables.specs.Replay.{is_open, is_nowhere};
 
 use byteorder::{BigEndian, ByteOrder};
@@ -16,7 +18,7 @@ use ln_hooks::How;
 use ln_keys::{Onion, OpenFault, Opened, sha256_32};
 use ln_log::{ChannelId, Mark};
 use ln_msgs::Refusal;
-use ln_tables::{Back, Desk, Htlc, Out, Queued, Tables, Way, copied, copy_mark};
+use ln_tables::{Back, Desk, Htlc, Key, Out, Queued, Tables, Way, copied, copy_mark};
 use std::alloc::Global;
 
 /// A failure as it goes back (BOLT 4, "Returning Errors"). Error: 60 alone.
@@ -92,21 +94,59 @@ fn has_removal(mark: &Mark, way: &Way) -> bool
     }
 }
 
-// What an HTLC is due in this channel.
-fn due(channel: &ChannelId, htlc: &Htlc) -> Option<Out>
-    ensures { result ≡ due channel.now htlc.now }
+// What an HTLC is due.
+#[derive(Clone, Copy)]
+enum Errand {
+    Add,
+    Remove,
+    Forget,
+}
+
+impl Errand {
+    ghost use Rattle.std.specs.Prelude.{◌≡◌};
+    ghost use Rattle.ln_book.specs.Errand.{out_by};
+
+    // What its command does.
+    fn out(self, key: Key) -> Out
+        ensures { result ≡ out_by key self }
+    {
+        match self {
+            Errand::Add => Out::Adding(key),
+            Errand::Remove => Out::Removing(key),
+            Errand::Forget => Out::Forgetting(key),
+        }
+    }
+}
+
+// What an HTLC is due in this channel. It is asked of each HTLC: mostly one that waits for its outgoing one, to which
+// nothing is due in any channel.
+#[inline(always)]
+fn due(channel: &ChannelId, htlc: &Htlc) -> Option<Errand>
+    ensures { option_map (out_by htlc.now.key) result ≡ due channel.now htlc.now }
+{
+    if has_removal(&htlc.mark, &htlc.way) || is_nowhere(&htlc.way) || htlc.back.is_settled() {
+        due_in(channel, htlc)
+    } else {
+        None
+    }
+}
+
+// What an HTLC is due in this channel, by what its mark, its way and its removal say.
+#[inline(never)]
+fn due_in(channel: &ChannelId, htlc: &Htlc) -> Option<Errand>
+    ensures { option_map (out_by htlc.now.key) result ≡ due channel.now htlc.now }
 {
     if !htlc.decided {
         None
     } else if htlc.back.is_settled() {
-        is_over_in(channel, &htlc.way).then_some(Out::Forgetting(htlc.key))
+        is_over_in(channel, &htlc.way).then_some(Errand::Forget)
     } else if is_nowhere(&htlc.way) && forwards_in(channel, &htlc.mark) {
-        Some(Out::Adding(htlc.key))
-    } else if is_open(htlc.back)
+        Some(Errand::Add)
+    } else if has_removal(&htlc.mark, &htlc.way)
+        && is_open(htlc.back)
         && channel == &htlc.key.channel
-        && has_removal(&htlc.mark, &htlc.way)
     {
-        Some(Out::Removing(htlc.key))
+        Some(Errand::Remove)
     } else {
         None
     }
@@ -143,22 +183,34 @@ fn next_onion<O: Onion>(
     }
 }
 
+// A command in memory of its own: it is wide, and passed on by many. Error: 60 alone.
+fn boxed(alloc: Global, command: Command) -> Result<Option<Box<Command>>, Refusal>
+    ensures command { IfOk result (λ c. option_map (λ b. b.value) c ≡ Some command) }
+    ensures fails_for_memory_alone { IfErr result (λ r. r ≡ Refusal.Memory) }
+{
+    Ok(Some(Box::new(alloc, command)?))
+}
+
 // The command that offers it. Error: 60 alone.
-fn add_of<O: Onion>(alloc: Global, onion: &O, htlc: &Htlc) -> Result<Option<Command>, Refusal>
-    ensures command { IfOk result (λ c. c ≡ add_of (services_of O.opened O.wrapped onion.now) htlc.now) }
+fn add_of<O: Onion>(alloc: Global, onion: &O, htlc: &Htlc) -> Result<Option<Box<Command>>, Refusal>
+    ensures command { IfOk result (λ c. option_map (λ b. b.value) c ≡ add_of (services_of O.opened O.wrapped onion.now)
+        htlc.now) }
     ensures fails_for_memory_alone { IfErr result (λ r. r ≡ Refusal.Memory) }
 {
     let Some(next) = next_onion(alloc, onion, htlc)? else {
         return Ok(None);
     };
     match &htlc.mark {
-        Mark::Forward { amount, expiry, .. } => Ok(Some(Command::Add {
-            amount: *amount,
-            hash: htlc.offer.hash,
-            expiry: *expiry,
-            onion: next,
-            origin: Some((htlc.key.channel, htlc.key.id)),
-        })),
+        Mark::Forward { amount, expiry, .. } => boxed(
+            alloc,
+            Command::Add {
+                amount: *amount,
+                hash: htlc.offer.hash,
+                expiry: *expiry,
+                onion: next,
+                origin: Some((htlc.key.channel, htlc.key.id)),
+            },
+        ),
         Mark::None | Mark::Fail(_) | Mark::Malformed(_) | Mark::Fulfil(_) => Ok(None),
     }
 }
@@ -176,23 +228,29 @@ fn malformed_bytes(alloc: Global, sha: &[u8; 32], code: u16) -> Result<Vec<u8>, 
 }
 
 // The command that passes back what has become of it. Error: 60 alone.
-fn removal_over<O: Onion>(alloc: Global, onion: &O, id: u64, how: &How) -> Result<Command, Refusal>
-    ensures command { IfOk result (λ c. c ≡ removal_over (services_of O.opened O.wrapped onion.now) id how.now) }
+fn removal_over<O: Onion>(
+    alloc: Global,
+    onion: &O,
+    id: u64,
+    how: &How,
+) -> Result<Option<Box<Command>>, Refusal>
+    ensures command { IfOk result (λ c. option_map (λ b. b.value) c ≡ Some (removal_over (services_of O.opened O.wrapped
+        onion.now) id how.now)) }
     ensures fails_for_memory_alone { IfErr result (λ r. r ≡ Refusal.Memory) }
 {
     match how {
-        How::Fulfilled(preimage) => Ok(Command::Fulfil {
-            id,
-            preimage: *preimage,
-        }),
+        How::Fulfilled(preimage) => {
+            let preimage = *preimage;
+            boxed(alloc, Command::Fulfil { id, preimage })
+        }
         How::Failed(reason) => {
             let reason = copied(alloc, reason)?;
-            Ok(Command::Fail { id, reason })
+            boxed(alloc, Command::Fail { id, reason })
         }
         How::Malformed(sha, code) => {
             let bytes = malformed_bytes(alloc, sha, *code)?;
             let reason = onion.wrap_failure(alloc, bytes.as_slice())?;
-            Ok(Command::Fail { id, reason })
+            boxed(alloc, Command::Fail { id, reason })
         }
     }
 }
@@ -203,24 +261,29 @@ fn removal_by_way<O: Onion>(
     onion: &O,
     id: u64,
     way: &Way,
-) -> Result<Option<Command>, Refusal>
-    ensures command { IfOk result (λ c. c ≡ removal_by_way (services_of O.opened O.wrapped onion.now) id way.now) }
+) -> Result<Option<Box<Command>>, Refusal>
+    ensures command { IfOk result (λ c. option_map (λ b. b.value) c ≡ removal_by_way (services_of O.opened O.wrapped
+        onion.now) id way.now) }
     ensures fails_for_memory_alone { IfErr result (λ r. r ≡ Refusal.Memory) }
 {
     match way {
         Way::Nowhere | Way::Offered(_) => Ok(None),
         Way::Refused => {
             let reason = wrapped(alloc, onion, &Failure::TemporaryChannelFailure)?;
-            Ok(Some(Command::Fail { id, reason }))
+            boxed(alloc, Command::Fail { id, reason })
         }
-        Way::Over(_, how) => Ok(Some(removal_over(alloc, onion, id, how)?)),
+        Way::Over(_, how) => removal_over(alloc, onion, id, how),
     }
 }
 
 // The command that removes it. Error: 60 alone.
-fn removal_of<O: Onion>(alloc: Global, onion: &O, htlc: &Htlc) -> Result<Option<Command>, Refusal>
-    ensures command { IfOk result (λ c. c ≡ removal_by (services_of O.opened O.wrapped onion.now) htlc.now
-        htlc.now.mark) }
+fn removal_of<O: Onion>(
+    alloc: Global,
+    onion: &O,
+    htlc: &Htlc,
+) -> Result<Option<Box<Command>>, Refusal>
+    ensures command { IfOk result (λ c. option_map (λ b. b.value) c ≡ removal_by (services_of O.opened O.wrapped
+        onion.now) htlc.now htlc.now.mark) }
     ensures fails_for_memory_alone { IfErr result (λ r. r ≡ Refusal.Memory) }
 {
     let id = htlc.key.id;
@@ -229,27 +292,28 @@ fn removal_of<O: Onion>(alloc: Global, onion: &O, htlc: &Htlc) -> Result<Option<
         Mark::Forward { .. } => removal_by_way(alloc, onion, id, &htlc.way),
         Mark::Fail(reason) => {
             let reason = copied(alloc, reason)?;
-            Ok(Some(Command::Fail { id, reason }))
+            boxed(alloc, Command::Fail { id, reason })
         }
         Mark::Malformed(code) => {
             let sha = sha256_32(&htlc.offer.onion);
             let code = *code;
-            Ok(Some(Command::Malformed { id, sha, code }))
+            boxed(alloc, Command::Malformed { id, sha, code })
         }
-        Mark::Fulfil(preimage) => Ok(Some(Command::Fulfil {
-            id,
-            preimage: *preimage,
-        })),
+        Mark::Fulfil(preimage) => {
+            let preimage = *preimage;
+            boxed(alloc, Command::Fulfil { id, preimage })
+        }
     }
 }
 
-// The command that forgets what has become of it.
-fn forget_of(way: &Way) -> Option<Command>
-    ensures { result ≡ forget_by way.now }
+// The command that forgets what has become of it. Error: 60 alone.
+fn forget_of(alloc: Global, way: &Way) -> Result<Option<Box<Command>>, Refusal>
+    ensures command { IfOk result (λ c. option_map (λ b. b.value) c ≡ forget_by way.now) }
+    ensures fails_for_memory_alone { IfErr result (λ r. r ≡ Refusal.Memory) }
 {
     match way {
-        Way::Nowhere | Way::Refused | Way::Offered(_) => None,
-        Way::Over(key, _) => Some(Command::Forget(key.id)),
+        Way::Nowhere | Way::Refused | Way::Offered(_) => Ok(None),
+        Way::Over(key, _) => boxed(alloc, Command::Forget(key.id)),
     }
 }
 
@@ -259,15 +323,16 @@ fn command_of<O: Onion>(
     onion: &O,
     htlc: &Htlc,
     out: Out,
-) -> Result<Option<Command>, Refusal>
-    ensures command { IfOk result (λ c. c ≡ command_of (services_of O.opened O.wrapped onion.now) htlc.now out) }
+) -> Result<Option<Box<Command>>, Refusal>
+    ensures command { IfOk result (λ c. option_map (λ b. b.value) c ≡ command_of (services_of O.opened O.wrapped
+        onion.now) htlc.now out) }
     ensures fails_for_memory_alone { IfErr result (λ r. r ≡ Refusal.Memory) }
 {
     match out {
         Out::Deciding(_) => Ok(None),
         Out::Adding(_) => add_of(alloc, onion, htlc),
         Out::Removing(_) => removal_of(alloc, onion, htlc),
-        Out::Forgetting(_) => Ok(forget_of(&htlc.way)),
+        Out::Forgetting(_) => forget_of(alloc, &htlc.way),
     }
 }
 
@@ -276,14 +341,12 @@ fn command_by<O: Onion>(
     alloc: Global,
     onion: &O,
     htlc: &Htlc,
-    out: Option<Out>,
-) -> Result<Option<(Out, Command)>, Refusal>
-    ensures command { IfOk result (λ c. c ≡ command_by (services_of O.opened O.wrapped onion.now) htlc.now out) }
+    out: Out,
+) -> Result<Option<(Out, Box<Command>)>, Refusal>
+    ensures command { IfOk result (λ c. option_map unboxed c ≡ command_by (services_of O.opened O.wrapped onion.now)
+        htlc.now (Some out)) }
     ensures fails_for_memory_alone { IfErr result (λ r. r ≡ Refusal.Memory) }
 {
-    let Some(out) = out else {
-        return Ok(None);
-    };
     match command_of(alloc, onion, htlc, out)? {
         None => Ok(None),
         Some(command) => Ok(Some((out, command))),
@@ -296,13 +359,16 @@ fn first_due<O: Onion>(
     onion: &O,
     channel: &ChannelId,
     htlcs: &[Htlc],
-) -> Result<Option<(Out, Command)>, Refusal>
-    ensures command { IfOk result (λ c. c ≡ first_due (services_of O.opened O.wrapped onion.now) channel.now
-        htlcs.now) }
+) -> Result<Option<(Out, Box<Command>)>, Refusal>
+    ensures command { IfOk result (λ c. option_map unboxed c ≡ first_due (services_of O.opened O.wrapped onion.now)
+        channel.now htlcs.now) }
     ensures fails_for_memory_alone { IfErr result (λ r. r ≡ Refusal.Memory) }
 {
     for htlc in htlcs {
-        if let Some(found) = command_by(alloc, onion, htlc, due(channel, htlc))? {
+        let Some(errand) = due(channel, htlc) else {
+            continue;
+        };
+        if let Some(found) = command_by(alloc, onion, htlc, errand.out(htlc.key))? {
             return Ok(Some(found));
         }
     }
@@ -323,9 +389,9 @@ fn first_of<O: Onion>(
     channel: &ChannelId,
     queued: Option<&Queued>,
     htlcs: &[Htlc],
-) -> Result<Option<(Out, Command)>, Refusal>
-    ensures command { IfOk result (λ c. c ≡ first_of (services_of O.opened O.wrapped onion.now) channel.now
-        (option_copied queued.entry) htlcs.now) }
+) -> Result<Option<(Out, Box<Command>)>, Refusal>
+    ensures command { IfOk result (λ c. option_map unboxed c ≡ first_of (services_of O.opened O.wrapped onion.now)
+        channel.now (option_copied queued.entry) htlcs.now) }
     ensures fails_for_memory_alone { IfErr result (λ r. r ≡ Refusal.Memory) }
 {
     let Some(queued) = queued else {
@@ -333,7 +399,8 @@ fn first_of<O: Onion>(
     };
     let event = queued.event;
     let mark = copy_mark(alloc, &queued.mark)?;
-    Ok(Some((Out::Deciding(event), Command::Decide { event, mark })))
+    let command = Box::new(alloc, Command::Decide { event, mark })?;
+    Ok(Some((Out::Deciding(event), command)))
 }
 
 /// The first command of a channel that can be taken. Error: 60 alone.
@@ -342,9 +409,9 @@ pub(crate) fn first_command<O: Onion>(
     onion: &O,
     channel: &ChannelId,
     tables: &Tables,
-) -> Result<Option<(Out, Command)>, Refusal>
-    ensures command { IfOk result (λ c. c ≡ first_command (services_of O.opened O.wrapped onion.now) channel.now
-        tables.now) }
+) -> Result<Option<(Out, Box<Command>)>, Refusal>
+    ensures command { IfOk result (λ c. option_map unboxed c ≡ first_command (services_of O.opened O.wrapped onion.now)
+        channel.now tables.now) }
     ensures fails_for_memory_alone { IfErr result (λ r. r ≡ Refusal.Memory) }
 {
     match tables.desk(channel) {

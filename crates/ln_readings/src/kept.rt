@@ -67,7 +67,7 @@ fn kept_ids<T: Kept>(
 fn queued_at<'a>(channel: &ChannelId, event: u64, queue: &'a [Queued]) -> Option<&'a Queued>
     ensures { option_copied result ≡ find (is_queued channel.now event) queue.now }
 {
-    queue.iter().find(|queued| channel == &queued.channel && event == queued.event)
+    queue.iter().find(|queued| event == queued.event && channel == &queued.channel)
 }
 
 // Whether that was kept.

@@ -47,7 +47,7 @@ abbrev pub same : List ℕ → List ℕ → Bool
 same a b = pointwise nat_eq a b
 
 abbrev pub same_key : Key → Key → Bool
-same_key a b = same a.channel b.channel && (a.id == b.id)
+same_key a b = (a.id == b.id) && same a.channel b.channel
 
 -- the outgoing HTLC
 abbrev pub goes_by : Key → Way → Bool
@@ -61,13 +61,13 @@ is_htlc k h = same_key k h.key
 
 -- the HTLC that an event told of
 abbrev pub is_told : List ℕ → ℕ → Htlc → Bool
-is_told c n h = same c h.key.channel && (n == h.event)
+is_told c n h = (n == h.event) && same c h.key.channel
 
 abbrev pub is_offered : Key → Htlc → Bool
 is_offered k h = goes_by k h.way
 
 abbrev pub is_queued : List ℕ → ℕ → Queued → Bool
-is_queued c n q = same c q.channel && (n == q.event)
+is_queued c n q = (n == q.event) && same c q.channel
 
 -- the first one that passes is changed
 abbrev pub changed_first : {A : Type 0} → (A → Bool) → (A → A) → List A → List A

@@ -53,21 +53,21 @@ pub enum Back {
     Settled,
 }
 
-/// An HTLC of a peer's.
+/// An HTLC of a peer's. What searches ask for stands in front, so that they needn't read the onion.
 #[derive(Debug, Drop)]
 pub struct Htlc {
     /// The channel by which it came, and its id there.
     pub key: Key,
     /// The number of the event that told of it; 2^64 - 1 where the HTLC was read off the end of a channel.
     pub event: u64,
-    /// What was offered.
-    pub offer: Offer,
     /// What is done about it.
     pub mark: Mark,
     /// Whether the channel has taken the decision.
     pub decided: bool,
-    /// Its outgoing HTLC.
-    pub way: Way,
     /// Its removal.
     pub back: Back,
+    /// Its outgoing HTLC.
+    pub way: Way,
+    /// What was offered.
+    pub offer: Offer,
 }

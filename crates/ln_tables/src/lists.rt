@@ -1,9 +1,9 @@
 //! Searches and changes in the lists of a book, by scans.
 
-ghost use Rattle.std.specs.Prelude.{◌≡◌, ◌≤◌};
+ghost use Rattle.std.specs.Prelude.{◌≡◌, ◌≤◌, if◌then◌else◌};
 ghost use Rattle.std.specs.List.{position, list_any};
 ghost use Rattle.std.specs.Vec.{vec_capacity, vec_len};
-ghost use Rattle.ln_tables.specs.Replay.{changed_first, left_out, is_queued, is_decided};
+ghost use Rattle.ln_tables.specs.Replay.{changed_first, left_out, is_htlc, is_queued, is_decided};
 ghost use Rattle.ln_tables.specs.Lists.{picks, changed_by};
 
 use crate::entry::Queued;
@@ -44,7 +44,7 @@ impl Key {
     pub fn is(&self, other: &Key) -> bool
         ensures { result ≡ same_key self.now other.now }
     {
-        self.channel == other.channel && self.id == other.id
+        self.id == other.id && self.channel == other.channel
     }
 }
 
@@ -90,14 +90,21 @@ impl Back {
 
 impl Htlc {
     ghost use Rattle.std.specs.Prelude.{◌≡◌};
-    ghost use Rattle.ln_tables.specs.Replay.{is_told};
+    ghost use Rattle.ln_tables.specs.Replay.{is_told, is_finished};
     ghost use Rattle.ln_tables.specs.Lists.{picks, changed_by};
 
     // Whether this event told of it.
     fn is_told(&self, channel: &ChannelId, event: u64) -> bool
         ensures { result ≡ is_told channel.now event self.now }
     {
-        channel == &self.key.channel && event == self.event
+        event == self.event && channel == &self.key.channel
+    }
+
+    // Whether it is the one of this key, and finished.
+    fn is_finished(&self, key: &Key) -> bool
+        ensures { result ≡ is_finished key.now self.now }
+    {
+        key.is(&self.key) && self.back.is_settled() && self.way.is_none()
     }
 
     // Whether it is meant.
@@ -109,9 +116,7 @@ impl Htlc {
             Which::Told(channel, event) => self.is_told(channel, *event),
             Which::Offered(key) => self.way.goes_by(key),
             Which::Undecided(channel, event) => self.is_told(channel, *event) && !self.decided,
-            Which::Finished(key) => {
-                key.is(&self.key) && self.back.is_settled() && self.way.is_none()
-            }
+            Which::Finished(key) => self.is_finished(key),
         }
     }
 
@@ -127,11 +132,21 @@ impl Htlc {
     }
 }
 
-// The place of the first HTLC that is meant.
+// The place of the first HTLC that is meant. One search for each kind of test, so that none asks for the kind again at
+// each HTLC.
 fn place_of(htlcs: &[Htlc], which: &Which) -> Option<usize>
     ensures { result ≡ position (picks which.now) htlcs.now }
 {
-    htlcs.iter().position(|htlc| htlc.is_picked(which))
+    let mut all = htlcs.iter();
+    match which {
+        Which::Htlc(key) => all.position(|htlc| key.is(&htlc.key)),
+        Which::Told(channel, event) => all.position(|htlc| htlc.is_told(channel, *event)),
+        Which::Offered(key) => all.position(|htlc| htlc.way.goes_by(key)),
+        Which::Undecided(channel, event) => {
+            all.position(|htlc| htlc.is_told(channel, *event) && !htlc.decided)
+        }
+        Which::Finished(key) => all.position(|htlc| htlc.is_finished(key)),
+    }
 }
 
 /// Changes the first HTLC that is meant.
@@ -152,7 +167,22 @@ pub(crate) fn leave_out(htlcs: &mut Vec<Htlc>, which: &Which)
     ensures left { htlcs.new.items ≡ left_out (picks which.now) htlcs.old.items }
     ensures room { (vec_capacity htlcs.new ≡ vec_capacity htlcs.old) × (vec_len htlcs.new ≤ vec_len htlcs.old) }
 {
-    htlcs.retain(|htlc| !htlc.is_picked(which));
+    match place_of(htlcs.as_slice(), which) {
+        None => {}
+        Some(_) => retain_others(htlcs, which),
+    }
+}
+
+// The others stay.
+fn retain_others(htlcs: &mut Vec<Htlc>, which: &Which)
+    ensures left { htlcs.new.items ≡ left_out (picks which.now) htlcs.old.items }
+    ensures room { (vec_capacity htlcs.new ≡ vec_capacity htlcs.old) × (vec_len htlcs.new ≤ vec_len htlcs.old) }
+{
+    if let Which::Htlc(key) = which {
+        htlcs.retain(|htlc| !key.is(&htlc.key));
+    } else {
+        htlcs.retain(|htlc| !htlc.is_picked(which));
+    }
 }
 
 /// Leaves out the decisions of an event.
@@ -160,11 +190,30 @@ pub(crate) fn unqueue(queue: &mut Vec<Queued>, channel: &ChannelId, event: u64)
     ensures left { queue.new.items ≡ left_out (is_queued channel.now event) queue.old.items }
     ensures room { (vec_capacity queue.new ≡ vec_capacity queue.old) × (vec_len queue.new ≤ vec_len queue.old) }
 {
-    queue.retain(|queued| !(channel == &queued.channel && event == queued.event));
+    queue.retain(|queued| !(event == queued.event && channel == &queued.channel));
 }
 
-/// Whether the HTLC of this key is decided.
-pub(crate) fn is_any_decided(htlcs: &[Htlc], key: &Key) -> bool
+/// Leaves out the HTLC of this key, unless it is decided; says whether it is.
+pub(crate) fn leave_out_undecided(htlcs: &mut Vec<Htlc>, key: &Key) -> bool
+    ensures told { result ≡ list_any (is_decided key.now) htlcs.old.items }
+    ensures left { htlcs.new.items ≡ if result then htlcs.old.items else left_out (is_htlc key.now) htlcs.old.items }
+    ensures room { (vec_capacity htlcs.new ≡ vec_capacity htlcs.old) × (vec_len htlcs.new ≤ vec_len htlcs.old) }
+{
+    let which = Which::Htlc(*key);
+    match place_of(htlcs.as_slice(), &which) {
+        None => false,
+        Some(_) => {
+            if is_any_decided(htlcs.as_slice(), key) {
+                return true;
+            }
+            retain_others(htlcs, &which);
+            false
+        }
+    }
+}
+
+// Whether the HTLC of this key is decided.
+fn is_any_decided(htlcs: &[Htlc], key: &Key) -> bool
     ensures { result ≡ list_any (is_decided key.now) htlcs.now }
 {
     htlcs.iter().any(|htlc| key.is(&htlc.key) && htlc.decided)

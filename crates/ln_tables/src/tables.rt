@@ -2,7 +2,7 @@
 
 use crate::entry::{Decided, Desk, Invoice, Line, Out, Queued, Told};
 use crate::htlc::{Back, Htlc, Key, Way};
-use crate::lists::{Change, Which, change_first, is_any_decided, leave_out, unqueue};
+use crate::lists::{Change, Which, change_first, leave_out, leave_out_undecided, unqueue};
 use crate::lost::put_back_all;
 use indexmap::IndexMap;
 use ln_hooks::How;
@@ -165,6 +165,7 @@ impl Tables {
     ghost use Rattle.std.specs.Map.{lookup};
     ghost use Rattle.ln_tables.specs.declared.entry.Desk.TheVariants as desk;
     ghost use Rattle.ln_tables.specs.Replay.{same, with_decided, with_desk, done, refused, with_answer, with_over};
+    ghost use Rattle.ln_tables.specs.Replay.{desk_at, answered_out};
     ghost use Rattle.ln_tables.specs.Replay.{with_removed};
 
     /// An event was decided; the second mark is a copy of its mark. Error: 60, which changes nothing.
@@ -252,13 +253,23 @@ impl Tables {
         }
     }
 
-    /// A channel has answered the command that is out. Takes no memory.
-    pub fn answered(&mut self, channel: &ChannelId, answer: Result<u64, u16>)
-        ensures { self.new ≡ with_answer channel.now answer self.old }
+    /// A channel has answered the command that is out. Says what its command was before. Takes no memory.
+    pub fn answered(&mut self, channel: &ChannelId, answer: Result<u64, u16>) -> Desk
+        ensures before { result ≡ desk_at channel.now self.old }
+        ensures done { self.new ≡ with_answer channel.now answer self.old }
     {
-        let Desk::Out(out) = self.desk(channel) else {
-            return;
-        };
+        let desk = self.desk(channel);
+        if let Desk::Out(out) = desk {
+            self.answer_out(channel, answer, out);
+        }
+        desk
+    }
+
+    // A channel has answered this command, which is out.
+    fn answer_out(&mut self, channel: &ChannelId, answer: Result<u64, u16>, out: Out)
+        requires { desk_at channel.now self.old ≡ desk.Out out }
+        ensures { self.new ≡ answered_out channel.now answer out self.old }
+    {
         match answer {
             Err(60 | 61) => self.set_desk(channel, Desk::Unsure(out)),
             Err(number) => {
@@ -389,10 +400,9 @@ fn join(htlcs: &mut Vec<Htlc>, decided: Decided)
     let channel = decided.channel;
     let id = offer.id;
     let key = Key { channel, id };
-    if is_any_decided(htlcs.as_slice(), &key) {
+    if leave_out_undecided(htlcs, &key) {
         return;
     }
-    leave_out(htlcs, &Which::Htlc(key));
     htlcs.push_reserved(Htlc {
         key,
         event: decided.event,

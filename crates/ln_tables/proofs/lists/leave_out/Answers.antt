@@ -1,10 +1,9 @@
-use Rattle.std.proofs.Common.{rules}
-use Rattle.std.specs.Prelude.{not}
-use Rattle.std.proofs.lemmas.Fn.{filter_same}
+use Rattle.std.proofs.Common.{◌∙◌, ap, sym}
+use Rattle.std.specs.List.{position}
 use Rattle.ln_tables.specs.Lists.{picks}
+use Rattle.ln_tables.proofs.Firsts.{none_left_out}
 use Rattle.ln_tables.proofs.lists.leave_out.Goals as goal
 
-pub returns-clause-left : goal.returns-clause-left
-returns-clause-left c =
-    filter_same _ (λ h. not (picks c.args.which.now h)) _ (λ x b f' k. search rules) _ _
-    c.retain.ensures.filtered
+pub returns-in-None-clause-left : goal.returns-in-None-clause-left
+returns-in-None-clause-left c = none_left_out (picks c.args.which.now) c.args.htlcs.now.items
+    (ap (position (picks c.args.which.now)) (sym c.as_slice.ensures.value) ∙ sym c.place_of.ensures ∙ c.in-None.is)
