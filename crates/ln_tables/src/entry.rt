@@ -7,7 +7,7 @@ use ln_log::{ChannelId, Mark};
 use std::marker::Model;
 
 /// A channel that payments are forwarded by.
-#[derive(Clone, Copy, Debug, PartialEq, Eq)]
+#[derive(Clone, Copy, PartialEq, Eq)]
 pub struct Line {
     /// The channel.
     pub channel: ChannelId,
@@ -18,7 +18,7 @@ pub struct Line {
 }
 
 /// A payment that the node waits for.
-#[derive(Clone, Copy, Debug, PartialEq, Eq)]
+#[derive(Clone, Copy, PartialEq, Eq)]
 pub struct Invoice {
     /// What the payment hash is the SHA-256 of.
     pub preimage: [u8; 32],
@@ -51,7 +51,7 @@ pub struct Decided {
 }
 
 /// What a command does that was handed out.
-#[derive(Clone, Copy, Debug, PartialEq, Eq)]
+#[derive(Clone, Copy, PartialEq, Eq)]
 pub enum Out {
     /// It decides the event of this number.
     Deciding(u64),
@@ -64,7 +64,7 @@ pub enum Out {
 }
 
 /// A command of a channel.
-#[derive(Clone, Copy, Debug, PartialEq, Eq)]
+#[derive(Clone, Copy, PartialEq, Eq)]
 pub enum Desk {
     /// There is none.
     Idle,

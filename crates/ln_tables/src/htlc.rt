@@ -4,7 +4,7 @@ use ln_hooks::How;
 use ln_log::{ChannelId, Mark};
 
 /// An HTLC by the channel in which it was offered, and its id among those that its side has offered there.
-#[derive(Clone, Copy, Debug, PartialEq, Eq)]
+#[derive(Clone, Copy, PartialEq, Eq)]
 pub struct Key {
     /// The channel.
     pub channel: ChannelId,
@@ -13,7 +13,7 @@ pub struct Key {
 }
 
 /// What a peer offers by an HTLC (BOLT 2, "Adding an HTLC").
-#[derive(Clone, Copy, Debug, PartialEq, Eq)]
+#[derive(Clone, Copy, PartialEq, Eq)]
 pub struct Offer {
     /// Its id among those that the peer has offered in the channel.
     pub id: u64,
@@ -28,7 +28,7 @@ pub struct Offer {
 }
 
 /// The outgoing HTLC of one that is forwarded.
-#[derive(Debug, Drop)]
+#[derive(Drop)]
 pub enum Way {
     /// There is none.
     Nowhere,
@@ -41,7 +41,7 @@ pub enum Way {
 }
 
 /// The removal of the incoming HTLC.
-#[derive(Clone, Copy, Debug, PartialEq, Eq)]
+#[derive(Clone, Copy, PartialEq, Eq)]
 pub enum Back {
     /// There is none.
     Open,
@@ -54,7 +54,7 @@ pub enum Back {
 }
 
 /// An HTLC of a peer's. What searches ask for stands in front, so that they needn't read the onion.
-#[derive(Debug, Drop)]
+#[derive(Drop)]
 pub struct Htlc {
     /// The channel by which it came, and its id there.
     pub key: Key,
