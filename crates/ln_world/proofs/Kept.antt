@@ -6,7 +6,7 @@ use Rattle.ln_msgs.specs.declared.messages.message.Message.TheVariants as messag
 use Rattle.ln_channel.specs.declared.unsaved.Line.TheVariants.{Down}
 use Rattle.ln_channel.specs.End.{end_dropped}
 use Rattle.ln_pair.specs.Promises.{is_add, is_shutdown, AddsBefore}
-use Rattle.ln_world.specs.Sending.{sends}
+use Rattle.ln_world.specs.Sending.{act_sends, sends}
 use Rattle.ln_world.specs.Course.{along}
 use Rattle.ln_world.specs.Machine.{moves_of, moves_of_fall, tells, machine_of_stages}
 use Rattle.ln_world.proofs.Mirror.{without-append}
@@ -467,7 +467,7 @@ module _ {K : Type 0} (signer : K → Signer) where
           steps = [];
           wide = λ is. tt;
           mirrors = h.0;
-          x = silently q.said_x _ h.1.sent;
+          x = silently q.said_x (act_sends signer id a p.x) h.1.sent;
           y = silently q.said_y [] refl;
           moves_are = sym h.1.moves;
           told_x = sym (ap events_in h.1.told);
@@ -499,7 +499,7 @@ module _ {K : Type 0} (signer : K → Signer) where
           wide = λ is. tt;
           mirrors = flipped id r.fundees r.funders _ (pair.turned q) h.0;
           x = silently q.said_x [] refl;
-          y = silently q.said_y _ h.1.sent;
+          y = silently q.said_y (act_sends signer id a p.y) h.1.sent;
           moves_are = sym h.1.moves;
           told_x = refl;
           told_y = sym (ap events_in h.1.told);
@@ -547,7 +547,7 @@ module _ {K : Type 0} (signer : K → Signer) where
       let is = run-append x y h.steps ss q in
       let said = stopped_says x q behind cut in
       went_by id p _ r (h.steps ++ ss) (tale_of id (Stops Funder a) p) (IsAct a)
-      (λ wide. all-append StepIsWide h.steps ss (h.wide wide) (tt, tt, tt))
+      (λ wide. all-append StepIsWide h.steps ss (h.wide wide) (tt, (tt, tt)))
       (subst (λ w. Mirrors id r.funders r.fundees (moves signer id (Stops Funder a) p) w) (sym is)
       (stopped_so signer id r.funders r.fundees p (moves signer id (By Funder a) p) q behind cut dropped.x r.mirrors
       h.mirrors))
@@ -573,7 +573,7 @@ module _ {K : Type 0} (signer : K → Signer) where
       let is = run-append x y h.steps ss q in
       let said = stopped_says y (pair.turned q) (pair.turned behind) cut in
       went_by id p _ r (h.steps ++ ss) (tale_of id (Stops Fundee a) p) (IsAct a)
-      (λ wide. all-append StepIsWide h.steps ss (h.wide wide) (tt, tt, tt))
+      (λ wide. all-append StepIsWide h.steps ss (h.wide wide) (tt, (tt, tt)))
       (subst (λ w. Mirrors id r.funders r.fundees (moves signer id (Stops Fundee a) p) w) (sym is)
       (flipped id r.fundees r.funders _ (ends_stopped y cut.left (pair.turned behind))
       (stopped_so signer id r.fundees r.funders (swapped p) (swapped (moves signer id (By Fundee a) p)) (pair.turned q)

@@ -1,7 +1,7 @@
 -- Each end of every channel has a record, so that no restart of a node fails by one that is missing (BOLT 2, "Message
 -- Retransmission").
 use Rattle.std.proofs.Common.{◌≡◌, ℕ, List, [], ◌∷◌, refl, subst, arith, inl, inr}
-use Rattle.std.proofs.Common.{Bool, true, false, cond, ◌&&◌, not, is_none, Option, Some, None}
+use Rattle.std.proofs.Common.{Bool, true, false, cond, ◌&&◌, ◌==◌, not, is_none, Option, Some, None}
 use Rattle.ln_msgs.specs.declared.refusals.refusal.Refusal.TheVariants as refusal
 use Rattle.ln_keys.specs.declared.keys.ChannelKeys.{Ghosts}
 use Rattle.ln_keys.specs.declared.role.Role.{Role}
