@@ -95,7 +95,8 @@ answers_line Down (Ok t) q e h =
     let w = h refl in
     absurd (let no : Ok t ≡ Err w.0 = w.1 in cc)
 
-faulted_so : (f : Option Refusal) (w : Refusal) → (v : Refusal) × (◌≡◌ {A = Result Turn Refusal} (faulted f (Err w)) (Err v))
+faulted_so : (f : Option Refusal) (w : Refusal)
+    → (v : Refusal) × (◌≡◌ {A = Result Turn Refusal} (faulted f (Err w)) (Err v))
 faulted_so None w = (w, refl)
 faulted_so (Some r) w = (r, refl)
 

@@ -121,7 +121,7 @@ fn stops(rt: HostRuntime) {
              A0 signed 0 committed 0 peer 0 balance 1000000000/0 live 0 closed 300\n\
              B0 signed 0 committed 0 peer 0 balance 0/1000000000 live 0 closed 300\n",
         ),
-        // ten stops in a row, with a connection that comes up between; what is in flight to the other end may still be taken
+        // stops in a row, with connections that come up between; what is in flight to the other end may still be taken
         (
             "ready 0 A B 1000000 0 1x1x0\nadd A0 5000 400 7\nsign A0\nstop-after sign A0\n\
              stop-after deliver B0\nstop-before deliver B0\nstop-before shutdown A0\n\

@@ -524,7 +524,8 @@ module _ {K : Type 0} (signer : K → Signer) where
       → Went id p (moves signer id (By side a) p) r (tale_of id (By side a) p) (IsAct a)
   acted_went id side a p r =
       let h = acted id side a p r in
-      went_by id p _ r h.steps (tale_of id (By side a) p) (IsAct a) h.wide h.mirrors h.x h.y h.moves_are h.told_x h.told_y
+      went_by id p _ r h.steps (tale_of id (By side a) p) (IsAct a) h.wide h.mirrors h.x h.y h.moves_are h.told_x
+      h.told_y
 
   -- ---- its node stops behind the act: it loses its connection, and all that it has sent in the act
 

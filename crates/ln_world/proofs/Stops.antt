@@ -42,7 +42,8 @@ module _ {K : Type 0} (signer : K → Signer) (id : List ℕ) (kx ky : K) where
 pub stopped_says : (keys : Signer) (q r : Ends) (cut : IsCutOff q (pair.acts keys Lose r))
     → ((ends_stopped keys cut.left r).said_x ≡ r.said_x) × ((ends_stopped keys cut.left r).said_y ≡ r.said_y)
 stopped_says keys q r cut =
-    let lost = lost_says (is_down r.x_line) r (record r { x_line = Down; x = end_dropped r.x; to_x = [] }) refl refl in (
+    let down : Ends = record r { x_line = Down; x = end_dropped r.x; to_x = [] } in
+    let lost = lost_says (is_down r.x_line) r down refl refl in (
       ap (λ (w : Ends). w.said_x) cut.cut ∙ lost.0,
       ap (λ (w : Ends). w.said_y) cut.cut ∙ lost.1,
     )

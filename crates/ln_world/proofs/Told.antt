@@ -147,8 +147,8 @@ module _ {K : Type 0} (k : Ghosts K) where
   one_told true f c t may h = channels.all_told k.signer (channel_id_of c.number) (f c) c.both t (may c) h
   one_told false f c t may h = channels.all_told k.signer (channel_id_of c.number) [] c.both t tt h
 
-  moved_told : (s : Step K k) (w : World K) (m : ℕ) (f : Channel K → List Move) (o : Option (Channel K)) (t : Tale) → MayMake f
-      → ((c : Channel K) → step_moves k s w c ≡ cond (c.number == m) (f c) []) → Recounts o t
+  moved_told : (s : Step K k) (w : World K) (m : ℕ) (f : Channel K → List Move) (o : Option (Channel K)) (t : Tale)
+      → MayMake f → ((c : Channel K) → step_moves k s w c ≡ cond (c.number == m) (f c) []) → Recounts o t
       → Recounts (option_map (moved_if k.signer m f) o) (then t (tale_for s w [] o))
   moved_told s w m f None t may is h = then-untold t ∙ h
   moved_told s w m f (Some c) t may is h =
@@ -162,13 +162,13 @@ module _ {K : Type 0} (k : Ghosts K) where
   quiet_tale s w (Some c) is =
       ap (λ ms. tale_along k.signer (channel_id_of c.number) ms c.both) (is c)
 
-  still_told : (s : Step K k) (w : World K) (o : Option (Channel K)) (t : Tale) → ((c : Channel K) → step_moves k s w c ≡ [])
-      → Recounts o t → Recounts o (then t (tale_for s w [] o))
+  still_told : (s : Step K k) (w : World K) (o : Option (Channel K)) (t : Tale)
+      → ((c : Channel K) → step_moves k s w c ≡ []) → Recounts o t → Recounts o (then t (tale_for s w [] o))
   still_told s w o t is h = subst (Recounts o) (sym (ap (then t) (quiet_tale s w o is) ∙ then-untold t)) h
 
-  joined_told : (s : Step K k) (w : World K) (d : Option (Channel K)) (new : Channel K) (b : Bool) (t : Tale) (q : Opening)
-      → ((c : Channel K) → step_moves k s w c ≡ []) → (b ≡ true → d ≡ None) → IsToldOf k new (opening_tale k q)
-      → Recounts d t
+  joined_told : (s : Step K k) (w : World K) (d : Option (Channel K)) (new : Channel K) (b : Bool) (t : Tale)
+      (q : Opening) → ((c : Channel K) → step_moves k s w c ≡ []) → (b ≡ true → d ≡ None)
+      → IsToldOf k new (opening_tale k q) → Recounts d t
       → Recounts (or_else d (cond b (Some new) None)) (then t (tale_for s w (cond b (machine.Open q ∷ []) []) d))
   joined_told s w None new true t q is only fresh h =
       subst (IsToldOf k new) (sym (ap (λ u. then u (opening_tale k q)) h)) fresh
@@ -219,9 +219,9 @@ module _ {K : Type 0} (k : Ghosts K) where
     told_y = told_in k n Fundee s w;
   }
 
-  goes_so : (s : Step K k) (w : World K) (m : ℕ) (f : Channel K → List Move) (n : ℕ) (cs : List (Channel K)) (t : Tale) → MayMake f
-      → ((c : Channel K) → step_moves k s w c ≡ cond (c.number == m) (f c) []) → Recounts (channel n cs) t
-      → Recounts (channel n (moved_at k.signer m f cs)) (then t (tale_for s w [] (channel n cs)))
+  goes_so : (s : Step K k) (w : World K) (m : ℕ) (f : Channel K → List Move) (n : ℕ) (cs : List (Channel K))
+      (t : Tale) → MayMake f → ((c : Channel K) → step_moves k s w c ≡ cond (c.number == m) (f c) [])
+      → Recounts (channel n cs) t → Recounts (channel n (moved_at k.signer m f cs)) (then t (tale_for s w [] (channel n cs)))
   goes_so s w m f n cs t may is h =
       subst (λ o. Recounts o (then t (tale_for s w [] (channel n cs)))) (sym (found_moved n m f cs))
       (moved_told s w m f (channel n cs) t may is h)
@@ -234,8 +234,8 @@ module _ {K : Type 0} (k : Ghosts K) where
       subst (λ ms. IsToldOf k (moved k.signer f c) (then t (tale_along k.signer (channel_id_of c.number) ms c.both)))
       (sym (is c)) (one_told true f c t may h)
 
-  all_go_so : (s : Step K k) (w : World K) (f : Channel K → List Move) (n : ℕ) (cs : List (Channel K)) (t : Tale) → MayMake f
-      → ((c : Channel K) → step_moves k s w c ≡ f c) → Recounts (channel n cs) t
+  all_go_so : (s : Step K k) (w : World K) (f : Channel K → List Move) (n : ℕ) (cs : List (Channel K)) (t : Tale)
+      → MayMake f → ((c : Channel K) → step_moves k s w c ≡ f c) → Recounts (channel n cs) t
       → Recounts (channel n (all_moved k.signer f cs)) (then t (tale_for s w [] (channel n cs)))
   all_go_so s w f n cs t may is h =
       subst (λ o. Recounts o (then t (tale_for s w [] (channel n cs)))) (sym (found_in_all n f cs))

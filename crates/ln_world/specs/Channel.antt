@@ -19,8 +19,8 @@ use Rattle.ln_world.specs.declared.settings.Settings.{Settings}
 use Rattle.ln_world.specs.declared.line.Line.{Line}
 use Rattle.ln_world.specs.declared.line.Line.TheVariants as line
 use Rattle.ln_world.specs.Settings.{config_of, spec_of, channel_id_of}
-use Rattle.ln_world.specs.Both.{Both, Place, Move, By, Falls, Restarts, Stops, Meet, act_lines, may_come_up, greet_lines}
-use Rattle.ln_world.specs.Both.{greeting, unheard}
+use Rattle.ln_world.specs.Both.{Both, Place, Move, By, Falls, Restarts, Stops, Meet, act_lines, may_come_up}
+use Rattle.ln_world.specs.Both.{greet_lines, greeting, unheard}
 use Rattle.ln_world.specs.Both.{run as run_both}
 
 pub record Channel (K : Type 0) : Type 0 where

@@ -301,13 +301,11 @@ fn deliver_unheard<K: ChannelKeys + Copy>(alloc: Global, x: &mut Place<K>) -> Re
     ensures acted { OnOk result (x.new ≡ delivered_unheard K.signer x.old.inbox x.old) }
     ensures fails_for_memory_alone { IfErr result (λ e. e ≡ refusal.Memory) }
 {
-    match x.inbox.pop_front() {
-        None => Ok(()),
-        Some(message) => {
-            drop(handle(alloc, &mut x.link, message)?);
-            Ok(())
-        }
-    }
+    let Some(message) = x.inbox.pop_front() else {
+        return Ok(());
+    };
+    drop(handle(alloc, &mut x.link, message)?);
+    Ok(())
 }
 
 /// The end is given a command; what it hands out is lost. 60 where there is no memory.

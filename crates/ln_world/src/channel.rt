@@ -163,7 +163,7 @@ impl<K: ChannelKeys + Copy> Channel<K> {
         }
     }
 
-    /// Whether the node's end can act so: it has one, no decision is sent, and a message is in flight where one is to be
+    /// Whether the node's end can act so: it has one, no decision is sent, and a message is there where one is to be
     /// taken.
     pub(crate) fn may_act(&self, node: Node, what: &Act) -> bool
         ensures { result ≡ may_act node what.now self.now }

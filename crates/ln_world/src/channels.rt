@@ -209,7 +209,8 @@ impl<K: ChannelKeys + Copy> Channels<K> {
     ghost use Rattle.ln_world.specs.Channel.{side_of, actor, acted_lines, fallen_lines, met_lines, opened_by};
     ghost use Rattle.ln_world.specs.Channel.{act_moves, fall_moves, restart_moves, up_moves};
     ghost use Rattle.ln_world.specs.Channel.{stop_moves};
-    ghost use Rattle.ln_world.specs.World.{channel, moved_at, all_moved, if_there, lines_of_ends, may_be_done, unheard_at};
+    ghost use Rattle.ln_world.specs.World.{channel, moved_at, all_moved, if_there, lines_of_ends};
+    ghost use Rattle.ln_world.specs.World.{may_be_done, unheard_at};
     ghost use Rattle.ln_world.specs.Failing.{ByRecord, SomeLacks};
 
     /// No channel. Takes no memory.

@@ -100,8 +100,8 @@ impl<K: ChannelKeys + Copy> World<K> {
         Ok(())
     }
 
-    /// The end's node stops before that acts, where it can act. 60 where there is no memory, 70 where an end of the node
-    /// has no record.
+    /// The end's node stops before that acts, where it can act. 60 where there is no memory, 70 where an end of the
+    /// node has no record.
     fn stop_before(
         &mut self,
         alloc: Global,
@@ -125,8 +125,8 @@ impl<K: ChannelKeys + Copy> World<K> {
         Ok(())
     }
 
-    /// The end's node stops behind that act's save, where it can act. 60 where there is no memory, 70 where an end of the
-    /// node has no record.
+    /// The end's node stops behind the act's save, where it can act. 60 where there is no memory, 70 where an end of
+    /// the node has no record.
     fn stop_after(
         &mut self,
         alloc: Global,
