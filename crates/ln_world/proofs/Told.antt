@@ -221,7 +221,8 @@ module _ {K : Type 0} (k : Ghosts K) where
 
   goes_so : (s : Step K k) (w : World K) (m : ℕ) (f : Channel K → List Move) (n : ℕ) (cs : List (Channel K))
       (t : Tale) → MayMake f → ((c : Channel K) → step_moves k s w c ≡ cond (c.number == m) (f c) [])
-      → Recounts (channel n cs) t → Recounts (channel n (moved_at k.signer m f cs)) (then t (tale_for s w [] (channel n cs)))
+      → Recounts (channel n cs) t
+      → Recounts (channel n (moved_at k.signer m f cs)) (then t (tale_for s w [] (channel n cs)))
   goes_so s w m f n cs t may is h =
       subst (λ o. Recounts o (then t (tale_for s w [] (channel n cs)))) (sym (found_moved n m f cs))
       (moved_told s w m f (channel n cs) t may is h)
