@@ -436,9 +436,50 @@ class World:
                     it.halted = False
 
 
+    def stop(self, place, what, after):
+        """Its node stops before or after an end's act, where that can be taken: all of its ends restart."""
+        name, channel = place
+        its = [it for it in self.channels.get(channel, []) if it.name == f"{name}{channel}"]
+        if not its or what is World.deliver and not its[0].inbox:
+            self.report.append("idle")
+            return
+        if after:
+            self.unheard(its[0], what)
+        self.report.append(f"{name} restarts")
+        self.restart(name)
+
+    def unheard(self, it, what):
+        """An end acts; what it says reaches nobody, and nothing of it is told."""
+        told, on_its_way = len(self.report), list(it.other.inbox)
+        try:
+            what(it)
+        except Refused:
+            pass
+        del self.report[told:]
+        it.other.inbox = on_its_way
+
+
+class Round:
+    """Takes the act that a line asks for as one that a node stops round."""
+
+    deliver = staticmethod(World.deliver)
+
+    def __init__(self, world, after):
+        self.world, self.after = world, after
+
+    def act(self, place, what):
+        self.world.stop(place, what, self.after)
+
+
+ACTS = ("confirm", "add", "fulfil", "fail", "malformed", "fee", "sign", "shutdown", "deliver")
+
+
 def step_of(line):
     """A line as a step: a function of the world."""
     word, *words = line.split(" ")
+    if word in ("stop-before", "stop-after") and words and words[0] in ACTS:
+        inner = step_of(" ".join(words))
+        return lambda w: inner(Round(w, word == "stop-after"))
     if word == "set" and len(words) == 5 and words[1] == "fees":
         x, (first, least, most) = node(words[0]), map(number, words[2:])
         if not least <= first <= most:

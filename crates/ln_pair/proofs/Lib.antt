@@ -22,6 +22,7 @@ pub mod Breaks
 pub mod Turns
 pub mod Cuts
 pub mod Runs
+pub mod Stopped
 pub mod Opens
 pub mod Prices
 pub mod Promised

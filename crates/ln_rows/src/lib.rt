@@ -12,3 +12,5 @@ mod restarts;
 mod rows;
 #[cfg(test)]
 mod script;
+#[cfg(test)]
+mod stops;

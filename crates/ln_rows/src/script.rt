@@ -111,6 +111,12 @@ fn bad_words(rt: HostRuntime) {
         ("restart a\n", 1),
         ("restart AB\n", 1),
         ("restart A B\n", 1),
+        ("stop-before\n", 1),
+        ("stop-after sign\n", 1),
+        ("stop-after restart A\n", 1),
+        ("stop-before up 0\n", 1),
+        ("stop-after stop-after sign A0\n", 1),
+        ("stop-before ready 0 A B 1000 0 1x1x0\n", 1),
         // a line of nodes that decide by themselves is none
         ("sign A0\nheight A 100\n", 2),
     ] {

@@ -5,6 +5,7 @@ use Rattle.std.specs.Str.{bytes_eq}
 use Rattle.ln_keys.specs.declared.toy_keys.ToyKeys.{ToyKeys}
 use Rattle.ln_bytes.specs.declared.short_id.ShortId.{ShortId}
 use Rattle.ln_channel.specs.declared.command.Command.TheVariants as command
+use Rattle.ln_world.specs.declared.step.Act.{Act}
 use Rattle.ln_world.specs.declared.step.Act.TheVariants as act
 use Rattle.ln_world.specs.declared.step.End.{End}
 use Rattle.ln_world.specs.declared.step.Node.{Node}
@@ -16,6 +17,8 @@ use Rattle.ln_script.specs.Keys.{toy}
 use Rattle.ln_script.specs.Command.{command_at}
 use Rattle.ln_script.specs.Step.{ToyStep, fees_if, fees_at, limits_at, fees_line, limits_line, setting_at, set_line}
 use Rattle.ln_script.specs.Step.{opening_at, open_line, up_line, down_line, restart_line, deliver_line, command_line}
+use Rattle.ln_script.specs.declared.step.Doing.{Doing}
+use Rattle.ln_script.specs.Step.{act_line, do_line, stop_before_line, stop_after_line}
 use Rattle.ln_script.specs.Step.{step_at, ready_steps, ready_line, one_step, word_line, steps_at}
 use Rattle.ln_script.specs.Script.{lines, words, is_skipped, line_at, behind, line_then, steps_from, script_at}
 
@@ -52,6 +55,10 @@ if_false P false x h = h refl
 
 -- ---- what is to be shown of each kind of step
 
+-- it is done, or a node stops round it
+abbrev pub RoundAct : (ToyStep → Type 0) → End → Act → Type 0
+RoundAct P e a = P (step.Do e a) × (P (step.StopBefore e a) × P (step.StopAfter e a))
+
 pub record IsOfEachKind (P : ToyStep → Type 0) : Type 0 where
   pub fees : (node : Node) (f l m : List ℕ) → Has P (fees_at node f l m)
   pub limits : (node : Node) (m a i r : List ℕ) → Has P (limits_at node m a i r)
@@ -59,10 +66,10 @@ pub record IsOfEachKind (P : ToyStep → Type 0) : Type 0 where
   pub up : (channel : ℕ) → P (step.Up channel)
   pub down : (end : End) → P (step.Down end)
   pub restarts : (node : Node) → P (step.Restart node)
-  pub delivers : (end : End) → P (step.Do end act.Deliver)
+  pub delivers : (end : End) → RoundAct P end act.Deliver
   pub confirms : (end : End) (id : ShortId) → P (step.Do end (act.Send (command.Confirm id)))
   pub commands : (end : End) (w : List ℕ) (ws : List (List ℕ))
-      → Has (λ c. P (step.Do end (act.Send c))) (command_at end.node w ws)
+      → Has (λ c. RoundAct P end (act.Send c)) (command_at end.node w ws)
 
 -- fees that are in order are what a node sets
 pub if_in_order : (P : ToyStep → Type 0) (node : Node) (first least most : ℕ)
@@ -124,18 +131,36 @@ module _ (P : ToyStep → Type 0) (kinds : IsOfEachKind P) where
   restart_lines (x ∷ []) = then P (node_at x) _ (λ node. kinds.restarts node)
   restart_lines (x ∷ w ∷ ws) = tt
 
-  deliver_lines : (ws : List (List ℕ)) → Has P (deliver_line ws)
+  abbrev IsDoing : Doing → Type 0
+  IsDoing d = RoundAct P d.end d.what
+
+  deliver_lines : (ws : List (List ℕ)) → Has IsDoing (deliver_line ws)
   deliver_lines [] = tt
-  deliver_lines (e ∷ []) = then P (end_at e) _ (λ end. kinds.delivers end)
+  deliver_lines (e ∷ []) = then IsDoing (end_at e) _ (λ end. kinds.delivers end)
   deliver_lines (e ∷ w ∷ ws) = tt
 
-  command_lines : (w : List ℕ) (ws : List (List ℕ)) → Has P (command_line w ws)
+  command_lines : (w : List ℕ) (ws : List (List ℕ)) → Has IsDoing (command_line w ws)
   unfolding command_line
   command_lines w [] = tt
   command_lines w (e ∷ ws) =
-      then P (end_at e) _ (λ end.
-      then_of (λ c. P (step.Do end (act.Send c))) P (command_at end.node w ws) _ (kinds.commands end w ws)
+      then IsDoing (end_at e) _ (λ end.
+      then_of (λ c. RoundAct P end (act.Send c)) IsDoing (command_at end.node w ws) _ (kinds.commands end w ws)
       (λ command h. h))
+
+  act_lines : (w : List ℕ) (ws : List (List ℕ)) → Has IsDoing (act_line w ws)
+  unfolding act_line
+  act_lines w ws = either IsDoing (bytes_eq w (codes "deliver")) _ _ (deliver_lines ws) (command_lines w ws)
+
+  do_lines : (w : List ℕ) (ws : List (List ℕ)) → Has P (do_line w ws)
+  do_lines w ws = then_of IsDoing P (act_line w ws) _ (act_lines w ws) (λ doing h. h.0)
+
+  stop_before_lines : (ws : List (List ℕ)) → Has P (stop_before_line ws)
+  stop_before_lines [] = tt
+  stop_before_lines (w ∷ ws) = then_of IsDoing P (act_line w ws) _ (act_lines w ws) (λ doing h. h.1.0)
+
+  stop_after_lines : (ws : List (List ℕ)) → Has P (stop_after_line ws)
+  stop_after_lines [] = tt
+  stop_after_lines (w ∷ ws) = then_of IsDoing P (act_line w ws) _ (act_lines w ws) (λ doing h. h.1.1)
 
   single : (w : List ℕ) (ws : List (List ℕ)) → Has P (step_at w ws)
   unfolding step_at
@@ -145,7 +170,8 @@ module _ (P : ToyStep → Type 0) (kinds : IsOfEachKind P) where
       (either P (bytes_eq w (codes "up")) _ _ (up_lines ws)
       (either P (bytes_eq w (codes "down")) _ _ (down_lines ws)
       (either P (bytes_eq w (codes "restart")) _ _ (restart_lines ws)
-      (either P (bytes_eq w (codes "deliver")) _ _ (deliver_lines ws) (command_lines w ws))))))
+      (either P (bytes_eq w (codes "stop-before")) _ _ (stop_before_lines ws)
+      (either P (bytes_eq w (codes "stop-after")) _ _ (stop_after_lines ws) (do_lines w ws)))))))
 
   -- ---- lines
 
@@ -158,7 +184,7 @@ module _ (P : ToyStep → Type 0) (kinds : IsOfEachKind P) where
     kinds.opens o,
     (
       kinds.confirms _ id,
-      (kinds.confirms _ id, (kinds.delivers _, (kinds.delivers _, tt))),
+      (kinds.confirms _ id, ((kinds.delivers _).0, ((kinds.delivers _).0, tt))),
     ),
   )
 

@@ -1,7 +1,7 @@
 -- What a script's lines bring is as wide as it is in code: numbers of 16, 32 and 64 bits, secrets, hashes and preimages
 -- of 32 bytes, onions of 1,366 (BOLT 2).
 use Rattle.std.proofs.Common.{◌≡◌, ℕ, ◌+◌, ◌-◌, ◌*◌, ◌<◌, ◌≤◌, ◌^◌, List, [], ◌∷◌, ◌++◌, length, replicate}
-use Rattle.std.proofs.Common.{true, ◌&&◌, codes, nat_le, nat_lt, None, Ok, refl}
+use Rattle.std.proofs.Common.{true, ◌&&◌, codes, nat_le, nat_lt, Option, Some, None, Ok, refl}
 use Rattle.std.proofs.Common.{arith, length-append}
 use Rattle.std.specs.Str.{bytes_eq}
 use Rattle.std.specs.Int.{w64, to_be_bytes}
@@ -13,6 +13,7 @@ use Rattle.ln_keys.specs.Toy.{toy_secret, toy_signer}
 use Rattle.ln_keys.specs.ToyOnion.{toy_key, toy_hmac, filled, toy_packet, payload_bytes, toy_made}
 use Rattle.ln_channel.specs.declared.command.Command.{Command}
 use Rattle.ln_world.specs.declared.step.Act.TheVariants as act
+use Rattle.ln_world.specs.declared.step.End.{End}
 use Rattle.ln_world.specs.declared.step.Node.{Node}
 use Rattle.ln_world.specs.World.{World, empty, run}
 use Rattle.ln_world.specs.Promises.{BringFit}
@@ -26,7 +27,8 @@ use Rattle.ln_script.specs.Command.{malformed_line, fee_line, sign_line, shutdow
 use Rattle.ln_script.specs.Step.{ToyStep, fees_at, limits_at}
 use Rattle.ln_script.specs.Script.{script_at}
 use Rattle.ln_script.specs.Report.{AfterEachScript}
-use Rattle.ln_script.proofs.Walk.{Has, then, then_of, either, if_true, if_false, if_in_order, IsOfEachKind, each_step}
+use Rattle.ln_script.proofs.Walk.{Has, then, then_of, either, if_true, if_false, if_in_order, IsOfEachKind, RoundAct}
+use Rattle.ln_script.proofs.Walk.{each_step}
 use Rattle.ln_script.proofs.Fits.{IsShort, decimals_are_short, steps_fit}
 
 -- ---- numbers
@@ -255,6 +257,10 @@ limits_wide node m a i r =
       reserve = hr;
     }))))
 
+round_each : (end : End) (o : Option Command) → Has IsCommand o → Has (λ c. RoundAct IsWide end (act.Send c)) o
+round_each end None h = tt
+round_each end (Some c) h = (h, (tt, h))
+
 all_wide : IsOfEachKind IsWide
 all_wide = record {
   fees = fees_wide;
@@ -263,9 +269,9 @@ all_wide = record {
   up = λ channel. tt;
   down = λ end. tt;
   restarts = λ node. tt;
-  delivers = λ end. tt;
+  delivers = λ end. (tt, (tt, tt));
   confirms = λ end id. tt;
-  commands = λ end w ws. commands_are_wide end.node w ws;
+  commands = λ end w ws. round_each end (command_at end.node w ws) (commands_are_wide end.node w ws);
 }
 
 -- ---- scripts

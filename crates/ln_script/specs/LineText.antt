@@ -9,6 +9,7 @@ use Rattle.ln_channel.specs.declared.standing.Life.{Life}
 use Rattle.ln_channel.specs.declared.standing.Life.TheVariants as life
 use Rattle.ln_channel.specs.declared.standing.Standing.{Standing}
 use Rattle.ln_world.specs.declared.step.End.{End}
+use Rattle.ln_world.specs.declared.step.Node.{Node}
 use Rattle.ln_world.specs.declared.line.Word.{Word}
 use Rattle.ln_world.specs.declared.line.Word.TheVariants as word
 use Rattle.ln_world.specs.declared.line.Ending.{Ending}
@@ -75,6 +76,9 @@ closed_text e number fee = event_text e number ++ (codes " closed " ++ decimal f
 unfoldable pub refused_text : End → Refusal → List ℕ
 refused_text e why = end_text e ++ (codes " " ++ refusal_text why)
 
+unfoldable pub restarts_text : Node → List ℕ
+restarts_text n = encode_utf8 n.letter ++ codes " restarts"
+
 abbrev pub line_text : Line → List ℕ
 line_text (line.Open channel) = decimal channel ++ codes " open"
 line_text (line.Sends e w) = sends_text e w
@@ -82,6 +86,7 @@ line_text (line.Added e number own id) = added_text e number own id
 line_text (line.Settled e number own id how) = settled_text e number own id how
 line_text (line.Closed e number fee) = closed_text e number fee
 line_text (line.Refused e why) = refused_text e why
+line_text (line.Restarts n) = restarts_text n
 line_text line.Idle = codes "idle"
 
 -- ---- how an end stands

@@ -11,6 +11,7 @@ use Rattle.ln_world.specs.declared.step.Node.{Node}
 use Rattle.ln_world.specs.declared.step.Open.{Open}
 use Rattle.ln_world.specs.declared.step.Step.{Step}
 use Rattle.ln_world.specs.declared.step.Step.TheVariants as step
+use Rattle.ln_script.specs.declared.step.Doing.{Doing}
 use Rattle.ln_script.specs.Word.{◌>>=◌, decimal_at, number_at, node_at, end_at, short_id_at}
 use Rattle.ln_script.specs.Keys.{toy, partners_of}
 use Rattle.ln_script.specs.Command.{command_at}
@@ -121,19 +122,41 @@ restart_line (x ∷ []) = do
 restart_line _ = None
 
 -- deliver E
-abbrev pub deliver_line : List (List ℕ) → Option ToyStep
+abbrev pub deliver_line : List (List ℕ) → Option Doing
 deliver_line (e ∷ []) = do
   end ← end_at e
-  Some (step.Do end act.Deliver)
+  Some (record { end = end; what = act.Deliver })
 deliver_line _ = None
 
 -- a command's word, E, and what the command asks for
-unfoldable pub command_line : List ℕ → List (List ℕ) → Option ToyStep
+unfoldable pub command_line : List ℕ → List (List ℕ) → Option Doing
 command_line w (e ∷ ws) = do
   end ← end_at e
   command ← command_at end.node w ws
-  Some (step.Do end (act.Send command))
+  Some (record { end = end; what = act.Send command })
 command_line w [] = None
+
+unfoldable pub act_line : List ℕ → List (List ℕ) → Option Doing
+act_line w ws = if bytes_eq w (codes "deliver") then deliver_line ws else command_line w ws
+
+abbrev pub do_line : List ℕ → List (List ℕ) → Option ToyStep
+do_line w ws = do
+  doing ← act_line w ws
+  Some (step.Do doing.end doing.what)
+
+-- stop-before LINE
+abbrev pub stop_before_line : List (List ℕ) → Option ToyStep
+stop_before_line (w ∷ ws) = do
+  doing ← act_line w ws
+  Some (step.StopBefore doing.end doing.what)
+stop_before_line [] = None
+
+-- stop-after LINE
+abbrev pub stop_after_line : List (List ℕ) → Option ToyStep
+stop_after_line (w ∷ ws) = do
+  doing ← act_line w ws
+  Some (step.StopAfter doing.end doing.what)
+stop_after_line [] = None
 
 -- ---- the step of a line: its first word says which
 
@@ -144,7 +167,8 @@ step_at w ws =
     else (if bytes_eq w (codes "up") then up_line ws
     else (if bytes_eq w (codes "down") then down_line ws
     else (if bytes_eq w (codes "restart") then restart_line ws
-    else (if bytes_eq w (codes "deliver") then deliver_line ws else command_line w ws)))))
+    else (if bytes_eq w (codes "stop-before") then stop_before_line ws
+    else (if bytes_eq w (codes "stop-after") then stop_after_line ws else do_line w ws))))))
 
 -- ---- the steps of a line
 

@@ -3,11 +3,11 @@
 ghost use Rattle.std.specs.Prelude.{◌≡◌, ◌++◌, OnOk, string_bytes};
 ghost use Rattle.ln_script.specs.LineText.{end_text, word_text, owner_text, ending_text, sends_text, added_text};
 ghost use Rattle.ln_script.specs.LineText.{settled_text, closed_text, line_text, life_text, counts_text, worth_text};
-ghost use Rattle.ln_script.specs.LineText.{event_text, refused_text, end_line_text, with_number};
+ghost use Rattle.ln_script.specs.LineText.{event_text, refused_text, restarts_text, end_line_text, with_number};
 
 use ln_channel::{Life, Standing};
 use ln_msgs::Refusal;
-use ln_world::{End, EndLine, Ending, Line, Word};
+use ln_world::{End, EndLine, Ending, Line, Node, Word};
 use std::alloc::AllocError;
 use std::fmt::Write;
 
@@ -126,6 +126,14 @@ fn put_refused(text: &mut String, end: End, why: Refusal) -> Result<(), AllocErr
     write!(text, " {why}")
 }
 
+#[tactic(auto, unfolding(crate::specs::LineText::restarts_text))]
+fn put_restarts(text: &mut String, node: Node) -> Result<(), AllocError>
+    ensures { OnOk result (string_bytes text.new ≡ string_bytes text.old ++ restarts_text node) }
+{
+    let letter = char::from(node.letter);
+    write!(text, "{letter} restarts")
+}
+
 /// What a step did. Takes memory for the text.
 pub(crate) fn put_line(text: &mut String, line: &Line) -> Result<(), AllocError>
     ensures { OnOk result (string_bytes text.new ≡ string_bytes text.old ++ line_text line.now) }
@@ -148,6 +156,7 @@ pub(crate) fn put_line(text: &mut String, line: &Line) -> Result<(), AllocError>
         } => put_settled(text, end, number, own, id, how),
         Line::Closed { end, number, fee } => put_closed(text, end, number, fee),
         Line::Refused(end, why) => put_refused(text, end, why),
+        Line::Restarts(node) => put_restarts(text, node),
         Line::Idle => text.push_str("idle"),
     }
 }

@@ -4,7 +4,8 @@ ghost use Rattle.std.specs.Prelude.{◌≡◌, ◌++◌, IfOk, IfErr, OnOk};
 ghost use Rattle.ln_msgs.specs.declared.refusals.refusal.Refusal.TheVariants as refusal;
 ghost use Rattle.ln_script.specs.Step.{texts, fees_at, limits_at, fees_line, limits_line, setting_at, set_line};
 ghost use Rattle.ln_script.specs.Step.{opening_at, open_line, up_line, down_line, restart_line, deliver_line};
-ghost use Rattle.ln_script.specs.Step.{command_line, step_at, confirms, delivers, ready_steps, ready_line, one_step};
+ghost use Rattle.ln_script.specs.Step.{command_line, act_line, do_line, stop_before_line, stop_after_line, step_at};
+ghost use Rattle.ln_script.specs.Step.{confirms, delivers, ready_steps, ready_line, one_step};
 ghost use Rattle.ln_script.specs.Step.{word_line, steps_at, if_good, joined};
 
 use crate::command::command_of;
@@ -173,20 +174,30 @@ fn restart_line(words: &[&str]) -> Option<Step<ToyKeys>>
     }
 }
 
+/// What an end does by a line.
+#[derive(Drop)]
+pub struct Doing {
+    end: End,
+    what: Act,
+}
+
 /// deliver E
-fn deliver_line(words: &[&str]) -> Option<Step<ToyKeys>>
+fn deliver_line(words: &[&str]) -> Option<Doing>
     ensures { result ≡ deliver_line (texts words.now) }
 {
     match words {
-        [end] => Some(Step::Do(end_of(end)?, Act::Deliver)),
+        [end] => Some(Doing {
+            end: end_of(end)?,
+            what: Act::Deliver,
+        }),
         _ => None,
     }
 }
 
 /// A command's word, E, and what the command asks for.
 #[tactic(auto, unfolding(crate::specs::Step::command_line))]
-fn command_line(alloc: Global, word: &str, words: &[&str]) -> Result<Option<Step<ToyKeys>>, Refusal>
-    ensures step { IfOk result (λ o. o ≡ command_line word.now (texts words.now)) }
+fn command_line(alloc: Global, word: &str, words: &[&str]) -> Result<Option<Doing>, Refusal>
+    ensures doing { IfOk result (λ o. o ≡ command_line word.now (texts words.now)) }
     ensures fails_for_memory_alone { IfErr result (λ e. e ≡ refusal.Memory) }
 {
     let [end, rest @ ..] = words else {
@@ -196,7 +207,61 @@ fn command_line(alloc: Global, word: &str, words: &[&str]) -> Result<Option<Step
         return Ok(None);
     };
     match command_of(alloc, end.node, word, rest)? {
-        Some(command) => Ok(Some(Step::Do(end, Act::Send(command)))),
+        Some(command) => Ok(Some(Doing {
+            end,
+            what: Act::Send(command),
+        })),
+        None => Ok(None),
+    }
+}
+
+/// What an end does, by a line's first word and those behind it. 60 where there is no memory.
+#[tactic(auto, unfolding(crate::specs::Step::act_line))]
+fn act_line(alloc: Global, word: &str, words: &[&str]) -> Result<Option<Doing>, Refusal>
+    ensures doing { IfOk result (λ o. o ≡ act_line word.now (texts words.now)) }
+    ensures fails_for_memory_alone { IfErr result (λ e. e ≡ refusal.Memory) }
+{
+    match word {
+        "deliver" => Ok(deliver_line(words)),
+        _ => command_line(alloc, word, words),
+    }
+}
+
+/// An end acts.
+fn do_line(alloc: Global, word: &str, words: &[&str]) -> Result<Option<Step<ToyKeys>>, Refusal>
+    ensures step { IfOk result (λ o. o ≡ do_line word.now (texts words.now)) }
+    ensures fails_for_memory_alone { IfErr result (λ e. e ≡ refusal.Memory) }
+{
+    match act_line(alloc, word, words)? {
+        Some(doing) => Ok(Some(Step::Do(doing.end, doing.what))),
+        None => Ok(None),
+    }
+}
+
+/// stop-before LINE
+fn stop_before_line(alloc: Global, words: &[&str]) -> Result<Option<Step<ToyKeys>>, Refusal>
+    ensures step { IfOk result (λ o. o ≡ stop_before_line (texts words.now)) }
+    ensures fails_for_memory_alone { IfErr result (λ e. e ≡ refusal.Memory) }
+{
+    let [word, rest @ ..] = words else {
+        return Ok(None);
+    };
+    match act_line(alloc, word, rest)? {
+        Some(doing) => Ok(Some(Step::StopBefore(doing.end, doing.what))),
+        None => Ok(None),
+    }
+}
+
+/// stop-after LINE
+fn stop_after_line(alloc: Global, words: &[&str]) -> Result<Option<Step<ToyKeys>>, Refusal>
+    ensures step { IfOk result (λ o. o ≡ stop_after_line (texts words.now)) }
+    ensures fails_for_memory_alone { IfErr result (λ e. e ≡ refusal.Memory) }
+{
+    let [word, rest @ ..] = words else {
+        return Ok(None);
+    };
+    match act_line(alloc, word, rest)? {
+        Some(doing) => Ok(Some(Step::StopAfter(doing.end, doing.what))),
         None => Ok(None),
     }
 }
@@ -213,8 +278,9 @@ fn step_of(alloc: Global, word: &str, words: &[&str]) -> Result<Option<Step<ToyK
         "up" => Ok(up_line(words)),
         "down" => Ok(down_line(words)),
         "restart" => Ok(restart_line(words)),
-        "deliver" => Ok(deliver_line(words)),
-        _ => command_line(alloc, word, words),
+        "stop-before" => stop_before_line(alloc, words),
+        "stop-after" => stop_after_line(alloc, words),
+        _ => do_line(alloc, word, words),
     }
 }
 

@@ -84,7 +84,7 @@ module _ (a b : Signer) where
       turned_so (pair.acts b act (pair.turned q)) (acted_so b act (pair.turned q) (turned_so q h))
   happened_so Connect q h = connected_so q.x_line q.y_line q h
 
-  ran_so : (ss : List Step) (q : Ends) → AreDropped q → AreDropped (pair.run a b ss q)
+  pub ran_so : (ss : List Step) (q : Ends) → AreDropped q → AreDropped (pair.run a b ss q)
   ran_so [] q h = h
   ran_so (s ∷ ss) q h = ran_so ss (pair.happens a b s q) (happened_so s q h)
 

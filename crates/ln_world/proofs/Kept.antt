@@ -1,12 +1,12 @@
 -- Every channel that is opened, and whatever happens to it.
 use Rattle.ln_world.proofs.Mirror.{is_warning}
 use Rattle.ln_world.specs.Both.{Move}
-use Rattle.std.proofs.Common.{append-nil, append_assoc, ◌||◌}
+use Rattle.std.proofs.Common.{append-nil, append_assoc, ◌||◌, ◌==◌}
 use Rattle.ln_msgs.specs.declared.messages.message.Message.TheVariants as message
 use Rattle.ln_channel.specs.declared.unsaved.Line.TheVariants.{Down}
 use Rattle.ln_channel.specs.End.{end_dropped}
 use Rattle.ln_pair.specs.Promises.{is_add, is_shutdown, AddsBefore}
-use Rattle.ln_world.specs.Sending.{sends}
+use Rattle.ln_world.specs.Sending.{act_sends, sends}
 use Rattle.ln_world.specs.Course.{along}
 use Rattle.ln_world.specs.Machine.{moves_of, moves_of_fall, tells, machine_of_stages}
 use Rattle.ln_world.proofs.Mirror.{without-append}
@@ -61,53 +61,58 @@ use Rattle.ln_channel.specs.declared.output.Output.{Output}
 use Rattle.ln_channel.specs.Outputs.{all_of, numbered}
 use Rattle.ln_pair.specs.Promises as promise
 use Rattle.ln_pair.proofs.Promised as promised
+use Rattle.ln_pair.proofs.Promised.{at_end}
+use Rattle.ln_pair.proofs.Runs.{flipped as turned_holds}
+use Rattle.ln_pair.proofs.Stopped.{IsLeft, left_alone, is_deed, deeds_leave, deeds_line, greeted, cut_off}
 use Rattle.ln_pair.proofs.Closed as closed
 use Rattle.ln_pair.specs.Closes.{CloseOnceDone}
 use Rattle.ln_world.specs.declared.step.Act.{Act}
 use Rattle.ln_world.specs.declared.step.Act.TheVariants as act
 use Rattle.ln_world.specs.declared.step.Node.{Node}
 use Rattle.ln_world.specs.Settings.{channel_id_of}
-use Rattle.ln_world.specs.Both.{Both, By, Falls, Restarts, Meet, acts, swapped, moves, may_come_up}
+use Rattle.ln_world.specs.declared.step.End.{End as WorldEnd}
+use Rattle.ln_world.specs.Both.{Both, By, Falls, Restarts, Stops, Meet, acts, swapped, moves, may_come_up}
 use Rattle.ln_world.specs.Both.{run as run_both}
 use Rattle.ln_world.specs.Channel.{Channel, by, side_of, actor, moved, may_meet, act_moves, fall_moves, restart_moves}
-use Rattle.ln_world.specs.Channel.{up_moves, place_of}
+use Rattle.ln_world.specs.Channel.{stop_moves, up_moves, place_of}
 use Rattle.ln_world.specs.Promises.{AtEnd, AtEnds, Headline, TakesFront, NoneRefused, AgreeOnceSigned, Agrees}
 use Rattle.ln_world.specs.Promises.{FeesOverlap, AcceptsFront, AllTaken, OneFee, HaveAnswered, AnswersShutdown}
 use Rattle.ln_world.specs.Promises.{MarksAgree, BothClose}
 use Rattle.ln_world.specs.Records.{HaveSecrets, IsAct}
 use Rattle.ln_world.proofs.Mirror.{link_of, without_warnings, IsInbox, Mirrors, flipped, plain}
-use Rattle.ln_world.proofs.Dropped.{are_dropped}
+use Rattle.ln_world.proofs.Dropped.{are_dropped, ran_so}
+use Rattle.ln_world.proofs.Stops.{ends_stopped, stopped_so, stopped_says}
 use Rattle.ln_world.proofs.Moves.{Goes, out_of, handled_so, passed_so, delivered, given, fell, restarted_so, met}
 use Rattle.ln_world.proofs.Moves.{is_up, noted}
 use Rattle.ln_world.proofs.Opening.{IsOpening}
 
 -- ---- the pair's steps
 
-pub run-append : (a b : Signer) (ss : List Step) (s : Step) (p : Ends)
-    → pair.run a b (ss ++ s ∷ []) p ≡ pair.happens a b s (pair.run a b ss p)
-run-append a b [] s p = refl
-run-append a b (r ∷ ss) s p = run-append a b ss s (pair.happens a b r p)
+run-append : (a b : Signer) (ss ts : List Step) (p : Ends)
+    → pair.run a b (ss ++ ts) p ≡ pair.run a b ts (pair.run a b ss p)
+run-append a b [] ts p = refl
+run-append a b (s ∷ ss) ts p = run-append a b ss ts (pair.happens a b s p)
 
 module _ (a b : Signer) where
-  moves-append : (ss : List Step) (s : Step) (p : Ends)
-      → pair_moves.all_moves a b (ss ++ s ∷ []) p
-      ≡ pair_moves.all_moves a b ss p ++ pair_moves.moves_of a b s (pair.run a b ss p)
-  moves-append [] s p = append-nil (pair_moves.moves_of a b s p)
-  moves-append (r ∷ ss) s p =
-      let q = pair.happens a b r p in
-      ap (λ ms. pair_moves.moves_of a b r p ++ ms) (moves-append ss s q)
-      ∙ sym (append_assoc (pair_moves.moves_of a b r p) (pair_moves.all_moves a b ss q)
-      (pair_moves.moves_of a b s (pair.run a b ss q)))
+  moves-append : (ss ts : List Step) (p : Ends)
+      → pair_moves.all_moves a b (ss ++ ts) p
+      ≡ pair_moves.all_moves a b ss p ++ pair_moves.all_moves a b ts (pair.run a b ss p)
+  moves-append [] ts p = refl
+  moves-append (s ∷ ss) ts p =
+      let q = pair.happens a b s p in
+      ap (λ ms. pair_moves.moves_of a b s p ++ ms) (moves-append ss ts q)
+      ∙ sym (append_assoc (pair_moves.moves_of a b s p) (pair_moves.all_moves a b ss q)
+      (pair_moves.all_moves a b ts (pair.run a b ss q)))
 
-  told-append : (side : Role) (ss : List Step) (s : Step) (p : Ends)
-      → pair_told.all_told a b side (ss ++ s ∷ []) p
-      ≡ pair_told.all_told a b side ss p ++ pair_told.told a b side s (pair.run a b ss p)
-  told-append side [] s p = append-nil (pair_told.told a b side s p)
-  told-append side (r ∷ ss) s p =
-      let q = pair.happens a b r p in
-      ap (λ os. pair_told.told a b side r p ++ os) (told-append side ss s q)
-      ∙ sym (append_assoc (pair_told.told a b side r p) (pair_told.all_told a b side ss q)
-      (pair_told.told a b side s (pair.run a b ss q)))
+  told-append : (side : Role) (ss ts : List Step) (p : Ends)
+      → pair_told.all_told a b side (ss ++ ts) p
+      ≡ pair_told.all_told a b side ss p ++ pair_told.all_told a b side ts (pair.run a b ss p)
+  told-append side [] ts p = refl
+  told-append side (s ∷ ss) ts p =
+      let q = pair.happens a b s p in
+      ap (λ os. pair_told.told a b side s p ++ os) (told-append side ss ts q)
+      ∙ sym (append_assoc (pair_told.told a b side s p) (pair_told.all_told a b side ss q)
+      (pair_told.all_told a b side ts (pair.run a b ss q)))
 
 -- ---- what comes of the moves of a channel, told of its links
 
@@ -218,6 +223,7 @@ abbrev pub IsMove : Move → Type 0
 IsMove (By side a) = IsAct a
 IsMove (Falls side) = Unit {0}
 IsMove (Restarts side) = Unit {0}
+IsMove (Stops side a) = IsAct a
 IsMove Meet = Unit {0}
 
 -- the steps of two ends, and how they were opened, bring what records have room for
@@ -260,38 +266,18 @@ module _ {K : Type 0} (signer : K → Signer) where
   fronts id p r = promised.none_refused (signer r.funders) (signer r.fundees) r.spec r.config r.funder r.fundee
       r.steps r.keys r.opens r.funders_fees r.fundees_fees
 
-  -- no step more
-  abbrev as_before : (id : List ℕ) (p p' : Both K) (r : IsRun id p) → Mirrors id r.funders r.fundees p' (ends_of id p r)
+  -- further steps
+  abbrev more : (id : List ℕ) (p p' : Both K) (r : IsRun id p) (ss : List Step)
+      → Mirrors id r.funders r.fundees p' (pair.run (signer r.funders) (signer r.fundees) ss (ends_of id p r))
       → IsRun id p'
-  as_before id p p' r h = record {
+  more id p p' r ss h = record {
     funders = r.funders;
     fundees = r.fundees;
     spec = r.spec;
     config = r.config;
     funder = r.funder;
     fundee = r.fundee;
-    steps = r.steps;
-    keys = r.keys;
-    opens = r.opens;
-    funders_fees = r.funders_fees;
-    fundees_fees = r.fundees_fees;
-    funders_order = r.funders_order;
-    fundees_order = r.fundees_order;
-    mirrors = h;
-  }
-
-  -- one more
-  abbrev one_more : (id : List ℕ) (p p' : Both K) (r : IsRun id p) (s : Step)
-      → Mirrors id r.funders r.fundees p' (pair.happens (signer r.funders) (signer r.fundees) s (ends_of id p r))
-      → IsRun id p'
-  one_more id p p' r s h = record {
-    funders = r.funders;
-    fundees = r.fundees;
-    spec = r.spec;
-    config = r.config;
-    funder = r.funder;
-    fundee = r.fundee;
-    steps = r.steps ++ s ∷ [];
+    steps = r.steps ++ ss;
     keys = r.keys;
     opens = r.opens;
     funders_fees = r.funders_fees;
@@ -299,7 +285,7 @@ module _ {K : Type 0} (signer : K → Signer) where
     funders_order = r.funders_order;
     fundees_order = r.fundees_order;
     mirrors = subst (Mirrors id r.funders r.fundees p') (sym (run-append (signer r.funders) (signer r.fundees)
-        r.steps s (pair.opened r.funder r.fundee))) h;
+        r.steps ss (pair.opened r.funder r.fundee))) h;
   }
 
   acts_so : (id : List ℕ) (side : Role) (a : Act) (kx ky : K) (p : Both K) (q : Ends) → Mirrors id kx ky p q
@@ -365,11 +351,53 @@ module _ {K : Type 0} (signer : K → Signer) where
   silently : (said out : List Message) → without_warnings out ≡ [] → said ≡ said ++ without_warnings out
   silently said out none = sym (ap (λ ws. said ++ ws) none ∙ append-nil said)
 
-  nothing_more : {A : Type 0} (xs ys : List A) → ys ≡ [] → xs ≡ xs ++ ys
-  nothing_more xs ys none = sym (ap (λ zs. xs ++ zs) none ∙ append-nil xs)
+  -- by further steps of the pair
+  went_by : (id : List ℕ) (p p' : Both K) (r : IsRun id p) (ss : List Step) (t : Tale) (brings : Type 0)
+      → (brings → All StepIsWide ss)
+      → Mirrors id r.funders r.fundees p' (pair.run (signer r.funders) (signer r.fundees) ss (ends_of id p r))
+      → (pair.run (signer r.funders) (signer r.fundees) ss (ends_of id p r)).said_x
+      ≡ (ends_of id p r).said_x ++ without_warnings t.sent_x
+      → (pair.run (signer r.funders) (signer r.fundees) ss (ends_of id p r)).said_y
+      ≡ (ends_of id p r).said_y ++ without_warnings t.sent_y
+      → pair_moves.all_moves (signer r.funders) (signer r.fundees) ss (ends_of id p r) ≡ t.moves
+      → events_in (pair_told.all_told (signer r.funders) (signer r.fundees) Funder ss (ends_of id p r))
+      ≡ events_in t.told_x
+      → events_in (pair_told.all_told (signer r.funders) (signer r.fundees) Fundee ss (ends_of id p r))
+      ≡ events_in t.told_y
+      → Went id p p' r t brings
+  went_by id p p' r ss t brings wide h x y ms ox oy =
+      let a = signer r.funders in
+      let b = signer r.fundees in
+      let first = pair.opened r.funder r.fundee in
+      let q = ends_of id p r in
+      let is = run-append a b r.steps ss first in
+      record {
+        run = more id p p' r ss h;
+        wide = λ is were. record {
+          funders_secrets = were.funders_secrets;
+          fundees_secrets = were.fundees_secrets;
+          funders_end = were.funders_end;
+          fundees_end = were.fundees_end;
+          funders_script = were.funders_script;
+          fundees_script = were.fundees_script;
+          commands = all-append StepIsWide r.steps ss were.commands (wide is);
+        };
+        x = ap (λ (w : Ends). w.said_x) is ∙ x;
+        y = ap (λ (w : Ends). w.said_y) is ∙ y;
+        moves = ap (λ ns. machine.Open r.funder.dance.log.opening ∷ ns)
+            (moves-append a b r.steps ss first ∙ ap (λ ns. pair_moves.all_moves a b r.steps first ++ ns) ms);
+        told_x = ap events_in (told-append a b Funder r.steps ss first)
+            ∙ in_append (pair_told.all_told a b Funder r.steps first) (pair_told.all_told a b Funder ss q)
+            ∙ ap (λ os. told_until Funder id p r ++ os) ox;
+        told_y = ap events_in (told-append a b Fundee r.steps ss first)
+            ∙ in_append (pair_told.all_told a b Fundee r.steps first) (pair_told.all_told a b Fundee ss q)
+            ∙ ap (λ os. told_until Fundee id p r ++ os) oy;
+        setup = refl;
+      }
 
-  went_so : (id : List ℕ) (p p' : Both K) (r : IsRun id p) (s : Step) (t : Tale) (brings : Type 0)
-      → (brings → StepIsWide s)
+  -- by one
+  went_so : (id : List ℕ) (p p' : Both K) (r : IsRun id p) (s : Step) (t : Tale)
+      → StepIsWide s
       → Mirrors id r.funders r.fundees p' (pair.happens (signer r.funders) (signer r.fundees) s (ends_of id p r))
       → (pair.happens (signer r.funders) (signer r.fundees) s (ends_of id p r)).said_x
       ≡ (ends_of id p r).said_x ++ without_warnings t.sent_x
@@ -378,77 +406,188 @@ module _ {K : Type 0} (signer : K → Signer) where
       → pair_moves.moves_of (signer r.funders) (signer r.fundees) s (ends_of id p r) ≡ t.moves
       → events_in (pair_told.told (signer r.funders) (signer r.fundees) Funder s (ends_of id p r)) ≡ events_in t.told_x
       → events_in (pair_told.told (signer r.funders) (signer r.fundees) Fundee s (ends_of id p r)) ≡ events_in t.told_y
-      → Went id p p' r t brings
-  went_so id p p' r s t brings wide h x y ms ox oy =
+      → Went id p p' r t (Unit {0})
+  went_so id p p' r s t wide h x y ms ox oy =
       let a = signer r.funders in
       let b = signer r.fundees in
-      let first = pair.opened r.funder r.fundee in
       let q = ends_of id p r in
-      let is = run-append a b r.steps s first in
-      record {
-        run = one_more id p p' r s h;
-        wide = λ is were. record {
-          funders_secrets = were.funders_secrets;
-          fundees_secrets = were.fundees_secrets;
-          funders_end = were.funders_end;
-          fundees_end = were.fundees_end;
-          funders_script = were.funders_script;
-          fundees_script = were.fundees_script;
-          commands = all-append StepIsWide r.steps (s ∷ []) were.commands (wide is, tt);
-        };
-        x = ap (λ (w : Ends). w.said_x) is ∙ x;
-        y = ap (λ (w : Ends). w.said_y) is ∙ y;
-        moves = ap (λ ns. machine.Open r.funder.dance.log.opening ∷ ns)
-            (moves-append a b r.steps s first ∙ ap (λ ns. pair_moves.all_moves a b r.steps first ++ ns) ms);
-        told_x = ap events_in (told-append a b Funder r.steps s first)
-            ∙ in_append (pair_told.all_told a b Funder r.steps first) (pair_told.told a b Funder s q)
-            ∙ ap (λ os. told_until Funder id p r ++ os) ox;
-        told_y = ap events_in (told-append a b Fundee r.steps s first)
-            ∙ in_append (pair_told.all_told a b Fundee r.steps first) (pair_told.told a b Fundee s q)
-            ∙ ap (λ os. told_until Fundee id p r ++ os) oy;
-        setup = refl;
-      }
+      went_by id p p' r (s ∷ []) t (Unit {0}) (λ is. (wide, tt)) h x y (append-nil (pair_moves.moves_of a b s q) ∙ ms)
+      (ap events_in (append-nil (pair_told.told a b Funder s q)) ∙ ox)
+      (ap events_in (append-nil (pair_told.told a b Fundee s q)) ∙ oy)
 
-  stayed_so : (id : List ℕ) (p p' : Both K) (r : IsRun id p) (t : Tale) (brings : Type 0)
-      → Mirrors id r.funders r.fundees p' (ends_of id p r) → without_warnings t.sent_x ≡ []
-      → without_warnings t.sent_y ≡ [] → t.moves ≡ [] → events_in t.told_x ≡ [] → events_in t.told_y ≡ []
-      → Went id p p' r t brings
-  stayed_so id p p' r t brings h x y ms ox oy = record {
-    run = as_before id p p' r h;
-    wide = λ is were. were;
-    x = silently (ends_of id p r).said_x t.sent_x x;
-    y = silently (ends_of id p r).said_y t.sent_y y;
-    moves = nothing_more (moves_until id p r) t.moves ms;
-    told_x = nothing_more (told_until Funder id p r) (events_in t.told_x) ox;
-    told_y = nothing_more (told_until Fundee id p r) (events_in t.told_y) oy;
-    setup = refl;
-  }
+  -- ---- an act of one end
+
+  is_done : (a : Act) → is_deed (of_pair a) ≡ true
+  is_done act.Deliver = refl
+  is_done (act.Send (command.Confirm i)) = refl
+  is_done (act.Send (command.Add amount hash expiry onion origin)) = refl
+  is_done (act.Send (command.Fulfil i preimage)) = refl
+  is_done (act.Send (command.Fail i reason)) = refl
+  is_done (act.Send (command.Malformed i sha code)) = refl
+  is_done (act.Send (command.Fee feerate)) = refl
+  is_done (act.Send command.Sign) = refl
+  is_done (act.Send (command.Shutdown script)) = refl
+  is_done (act.Send (command.Decide event mark)) = refl
+  is_done (act.Send (command.Forget i)) = refl
+
+  -- told from the end of this side
+  abbrev from_side : Role → Ends → Ends
+  from_side Funder q = q
+  from_side Fundee q = pair.turned q
+
+  -- the pair's steps that it is: one, or none for a warning that is passed over
+  record Acted (id : List ℕ) (side : Role) (a : Act) (p : Both K) (r : IsRun id p) : Type 0 where
+    steps : List Step
+    wide : IsAct a → All StepIsWide steps
+    mirrors : Mirrors id r.funders r.fundees (moves signer id (By side a) p)
+        (pair.run (signer r.funders) (signer r.fundees) steps (ends_of id p r))
+    x : (pair.run (signer r.funders) (signer r.fundees) steps (ends_of id p r)).said_x
+        ≡ (ends_of id p r).said_x ++ without_warnings (sends signer Funder id (By side a) p)
+    y : (pair.run (signer r.funders) (signer r.fundees) steps (ends_of id p r)).said_y
+        ≡ (ends_of id p r).said_y ++ without_warnings (sends signer Fundee id (By side a) p)
+    moves_are : pair_moves.all_moves (signer r.funders) (signer r.fundees) steps (ends_of id p r)
+        ≡ moves_of signer (By side a) p
+    told_x : events_in (pair_told.all_told (signer r.funders) (signer r.fundees) Funder steps (ends_of id p r))
+        ≡ events_in (tells signer Funder (By side a) p)
+    told_y : events_in (pair_told.all_told (signer r.funders) (signer r.fundees) Fundee steps (ends_of id p r))
+        ≡ events_in (tells signer Fundee (By side a) p)
+    left : IsLeft (from_side side (ends_of id p r))
+        (from_side side (pair.run (signer r.funders) (signer r.fundees) steps (ends_of id p r)))
+    line : is_down (from_side side (pair.run (signer r.funders) (signer r.fundees) steps (ends_of id p r))).x_line
+        ≡ is_down (from_side side (ends_of id p r)).x_line
+
+  acted : (id : List ℕ) (side : Role) (a : Act) (p : Both K) (r : IsRun id p) → Acted id side a p r
+  unfolding moves
+  acted id Funder a p r =
+      let q = ends_of id p r in
+      let k = signer r.funders in
+      let d = of_pair a in
+      elim (acts_so id Funder a r.funders r.fundees p q r.mirrors (fronts id p r).0) [
+        | inl h ↦ record {
+          steps = [];
+          wide = λ is. tt;
+          mirrors = h.0;
+          x = silently q.said_x (act_sends signer id a p.x) h.1.sent;
+          y = silently q.said_y [] refl;
+          moves_are = sym h.1.moves;
+          told_x = sym (ap events_in h.1.told);
+          told_y = refl;
+          left = left_alone q;
+          line = refl;
+        }
+        | inr h ↦ record {
+          steps = pair.By Funder d ∷ [];
+          wide = λ is. (as_wide Funder a is, tt);
+          mirrors = h.0;
+          x = h.1.x;
+          y = h.1.y ∙ silently q.said_y [] refl;
+          moves_are = append-nil (pair_moves.moves_of_act k Funder d q) ∙ h.2.moves;
+          told_x = ap events_in (append-nil (pair_told.told_in k d q) ∙ h.2.told);
+          told_y = refl;
+          left = deeds_leave k d q (is_done a);
+          line = deeds_line k d q (is_done a);
+        }
+      ]
+  acted id Fundee a p r =
+      let q = ends_of id p r in
+      let k = signer r.fundees in
+      let d = of_pair a in
+      elim (acts_so id Fundee a r.fundees r.funders (swapped p) (pair.turned q)
+      (flipped id r.funders r.fundees p q r.mirrors) (fronts id p r).1) [
+        | inl h ↦ record {
+          steps = [];
+          wide = λ is. tt;
+          mirrors = flipped id r.fundees r.funders _ (pair.turned q) h.0;
+          x = silently q.said_x [] refl;
+          y = silently q.said_y (act_sends signer id a p.y) h.1.sent;
+          moves_are = sym h.1.moves;
+          told_x = refl;
+          told_y = sym (ap events_in h.1.told);
+          left = left_alone (pair.turned q);
+          line = refl;
+        }
+        | inr h ↦ record {
+          steps = pair.By Fundee d ∷ [];
+          wide = λ is. (as_wide Fundee a is, tt);
+          mirrors = flipped id r.fundees r.funders _ (pair.acts k d (pair.turned q)) h.0;
+          x = h.1.y ∙ silently q.said_x [] refl;
+          y = h.1.x;
+          moves_are = append-nil (pair_moves.moves_of_act k Fundee d (pair.turned q)) ∙ h.2.moves;
+          told_x = refl;
+          told_y = ap events_in (append-nil (pair_told.told_in k d (pair.turned q)) ∙ h.2.told);
+          left = deeds_leave k d (pair.turned q) (is_done a);
+          line = deeds_line k d (pair.turned q) (is_done a);
+        }
+      ]
 
   acted_went : (id : List ℕ) (side : Role) (a : Act) (p : Both K) (r : IsRun id p)
       → Went id p (moves signer id (By side a) p) r (tale_of id (By side a) p) (IsAct a)
+  acted_went id side a p r =
+      let h = acted id side a p r in
+      went_by id p _ r h.steps (tale_of id (By side a) p) (IsAct a) h.wide h.mirrors h.x h.y h.moves_are h.told_x
+      h.told_y
+
+  -- ---- its node stops behind the act: it loses its connection, and all that it has sent in the act
+
+  abbrev breaks : Role → ℕ → List Step
+  breaks side n = pair.By side pair.Lose ∷ pair.By side (pair.Cut n) ∷ []
+
+  stopped_went : (id : List ℕ) (side : Role) (a : Act) (p : Both K) (r : IsRun id p)
+      → Went id p (moves signer id (Stops side a) p) r (tale_of id (Stops side a) p) (IsAct a)
   unfolding moves
-  acted_went id Funder a p r =
+  stopped_went id Funder a p r =
+      let x = signer r.funders in
+      let y = signer r.fundees in
       let q = ends_of id p r in
-      let t = tale_of id (By Funder a) p in
-      elim (acts_so id Funder a r.funders r.fundees p q r.mirrors (fronts id p r).0) [
-        | inl h ↦ stayed_so id p _ r t (IsAct a) h.0 h.1.sent refl h.1.moves (ap events_in h.1.told) refl
-        | inr h ↦
-            went_so id p _ r (pair.By Funder (of_pair a)) t (IsAct a) (as_wide Funder a) h.0 h.1.x
-            (h.1.y ∙ silently q.said_y [] refl) h.2.moves (ap events_in h.2.told) refl
-      ]
-  acted_went id Fundee a p r =
+      let h = acted id Funder a p r in
+      let behind = pair.run x y h.steps q in
+      let holds = at_end x y r.spec r.config r.funder r.fundee r.steps r.keys r.opens in
+      let cut = cut_off x q behind h.left (greeted x y q holds) in
+      let dropped = ran_so x y h.steps q (are_dropped x y r.steps r.funder r.fundee) in
+      let ss = breaks Funder cut.left in
+      let is = run-append x y h.steps ss q in
+      let said = stopped_says x q behind cut in
+      went_by id p _ r (h.steps ++ ss) (tale_of id (Stops Funder a) p) (IsAct a)
+      (λ wide. all-append StepIsWide h.steps ss (h.wide wide) (tt, (tt, tt)))
+      (subst (λ w. Mirrors id r.funders r.fundees (moves signer id (Stops Funder a) p) w) (sym is)
+      (stopped_so signer id r.funders r.fundees p (moves signer id (By Funder a) p) q behind cut dropped.x r.mirrors
+      h.mirrors))
+      (ap (λ (w : Ends). w.said_x) is ∙ said.0 ∙ h.x)
+      (ap (λ (w : Ends). w.said_y) is ∙ said.1 ∙ h.y)
+      (moves-append x y h.steps ss q ∙ ap (λ ms. ms ++ pair_moves.all_moves x y ss behind) h.moves_are
+      ∙ ap (λ ms. moves_of signer (By Funder a) p ++ ms) (append-nil _
+      ∙ ap (λ b. cond b [] (machine.Drop Funder ∷ [])) (h.line
+      ∙ ap (λ (l : State K). is_down l.line) (sym r.mirrors.x_link))))
+      (ap events_in (told-append x y Funder h.steps ss q ∙ append-nil _) ∙ h.told_x)
+      (ap events_in (told-append x y Fundee h.steps ss q ∙ append-nil _) ∙ h.told_y)
+  stopped_went id Fundee a p r =
+      let x = signer r.funders in
+      let y = signer r.fundees in
       let q = ends_of id p r in
-      let t = tale_of id (By Fundee a) p in
-      elim (acts_so id Fundee a r.fundees r.funders (swapped p) (pair.turned q)
-      (flipped id r.funders r.fundees p q r.mirrors) (fronts id p r).1) [
-        | inl h ↦
-            stayed_so id p _ r t (IsAct a) (flipped id r.fundees r.funders _ (pair.turned q) h.0) refl h.1.sent
-            h.1.moves refl (ap events_in h.1.told)
-        | inr h ↦
-            went_so id p _ r (pair.By Fundee (of_pair a)) t (IsAct a) (as_wide Fundee a)
-            (flipped id r.fundees r.funders _ (pair.acts (signer r.fundees) (of_pair a) (pair.turned q)) h.0)
-            (h.1.y ∙ silently q.said_x [] refl) h.1.x h.2.moves refl (ap events_in h.2.told)
-      ]
+      let h = acted id Fundee a p r in
+      let behind = pair.run x y h.steps q in
+      let holds = at_end x y r.spec r.config r.funder r.fundee r.steps r.keys r.opens in
+      let cut = cut_off y (pair.turned q) (pair.turned behind) h.left
+      (greeted y x (pair.turned q) (turned_holds x y q holds)) in
+      let dropped = ran_so x y h.steps q (are_dropped x y r.steps r.funder r.fundee) in
+      let ss = breaks Fundee cut.left in
+      let is = run-append x y h.steps ss q in
+      let said = stopped_says y (pair.turned q) (pair.turned behind) cut in
+      went_by id p _ r (h.steps ++ ss) (tale_of id (Stops Fundee a) p) (IsAct a)
+      (λ wide. all-append StepIsWide h.steps ss (h.wide wide) (tt, (tt, tt)))
+      (subst (λ w. Mirrors id r.funders r.fundees (moves signer id (Stops Fundee a) p) w) (sym is)
+      (flipped id r.fundees r.funders _ (ends_stopped y cut.left (pair.turned behind))
+      (stopped_so signer id r.fundees r.funders (swapped p) (swapped (moves signer id (By Fundee a) p)) (pair.turned q)
+      (pair.turned behind) cut dropped.y (flipped id r.funders r.fundees p q r.mirrors)
+      (flipped id r.funders r.fundees (moves signer id (By Fundee a) p) behind h.mirrors))))
+      (ap (λ (w : Ends). w.said_x) is ∙ said.1 ∙ h.x)
+      (ap (λ (w : Ends). w.said_y) is ∙ said.0 ∙ h.y)
+      (moves-append x y h.steps ss q ∙ ap (λ ms. ms ++ pair_moves.all_moves x y ss behind) h.moves_are
+      ∙ ap (λ ms. moves_of signer (By Fundee a) p ++ ms) (append-nil _
+      ∙ ap (λ b. cond b [] (machine.Drop Fundee ∷ [])) (h.line
+      ∙ ap (λ (l : State K). is_down l.line) (sym r.mirrors.y_link))))
+      (ap events_in (told-append x y Funder h.steps ss q ∙ append-nil _) ∙ h.told_x)
+      (ap events_in (told-append x y Fundee h.steps ss q ∙ append-nil _) ∙ h.told_y)
 
   fallen_went : (id : List ℕ) (side : Role) (p : Both K) (r : IsRun id p)
       → Went id p (moves signer id (Falls side) p) r (tale_of id (Falls side) p) (Unit {0})
@@ -457,7 +596,7 @@ module _ {K : Type 0} (signer : K → Signer) where
       let q = ends_of id p r in
       let said = lost_says (is_down q.x_line) q (record q { x_line = Down; x = end_dropped q.x; to_x = [] }) refl
       refl in
-      went_so id p _ r (pair.By Funder pair.Lose) (tale_of id (Falls Funder) p) (Unit {0}) (λ is. tt)
+      went_so id p _ r (pair.By Funder pair.Lose) (tale_of id (Falls Funder) p) tt
       (fell signer id r.funders r.fundees p q r.mirrors)
       (said.0 ∙ silently q.said_x [] refl) (said.1 ∙ silently q.said_y [] refl)
       (ap (λ (l : State K). moves_of_fall Funder l.line) (sym r.mirrors.x_link)) refl refl
@@ -466,7 +605,7 @@ module _ {K : Type 0} (signer : K → Signer) where
       let t = pair.turned q in
       let said = lost_says (is_down t.x_line) t (record t { x_line = Down; x = end_dropped t.x; to_x = [] }) refl
       refl in
-      went_so id p _ r (pair.By Fundee pair.Lose) (tale_of id (Falls Fundee) p) (Unit {0}) (λ is. tt)
+      went_so id p _ r (pair.By Fundee pair.Lose) (tale_of id (Falls Fundee) p) tt
       (flipped id r.fundees r.funders _ _ (fell signer id r.fundees r.funders (swapped p) t
       (flipped id r.funders r.fundees p q r.mirrors)))
       (said.1 ∙ silently q.said_x [] refl) (said.0 ∙ silently q.said_y [] refl)
@@ -499,7 +638,7 @@ module _ {K : Type 0} (signer : K → Signer) where
       let q = ends_of id p r in
       let said = met_says signer id r.funders r.fundees p q x.0 y.0 r.mirrors in
       let told = met_tells signer id r.funders r.fundees p q x.0 y.0 r.mirrors in
-      went_so id p _ r pair.Connect (tale_of id Meet p) (Unit {0}) (λ is. tt)
+      went_so id p _ r pair.Connect (tale_of id Meet p) tt
       (met signer id r.funders r.fundees p q x.0 y.0 r.mirrors) said.0 said.1 refl (sym told.0) (sym told.1)
 
   -- those that the table gives: a connection joins ends that are both down, and haven't halted
@@ -507,6 +646,7 @@ module _ {K : Type 0} (signer : K → Signer) where
   is_possible (By side a) p = true
   is_possible (Falls side) p = true
   is_possible (Restarts side) p = true
+  is_possible (Stops side a) p = true
   is_possible Meet p = may_meet p
 
   abbrev pub ArePossible : List ℕ → List Move → Both K → Type 0
@@ -518,6 +658,7 @@ module _ {K : Type 0} (signer : K → Signer) where
   went id (By side a) p e r = acted_went id side a p r
   went id (Falls side) p e r = fallen_went id side p r
   went id (Restarts side) p e r = restarted_went id side p r
+  went id (Stops side a) p e r = stopped_went id side a p r
   went id Meet p e r = came_up_went id p e r
 
   -- ---- a channel, and what has come of it since it was opened
@@ -636,6 +777,13 @@ module _ {K : Type 0} (signer : K → Signer) where
   restarted_by id None p r = r
   restarted_by id (Some side) p r = (restarted_went id side p r).run
 
+  stopped_by : (id : List ℕ) (b : Bool) (o : Option Role) (a : Act) (p : Both K) → IsRun id p
+      → IsRun id (run_both signer id (cond b (by o (λ side. Stops side a)) (by o Restarts)) p)
+  stopped_by id true None a p r = r
+  stopped_by id false None a p r = r
+  stopped_by id true (Some side) a p r = (stopped_went id side a p r).run
+  stopped_by id false (Some side) a p r = (restarted_went id side p r).run
+
   up_by : (id : List ℕ) (b : Bool) (p : Both K) → may_meet p ≡ b → IsRun id p
       → IsRun id (run_both signer id (cond b (Meet ∷ []) []) p)
   up_by id true p e r = (came_up_went id p e r).run
@@ -652,6 +800,9 @@ module _ {K : Type 0} (signer : K → Signer) where
 
   pub restart_kept : (n : Node) (c : Channel K) → IsOpen c → IsOpen (moved signer (restart_moves n) c)
   restart_kept n c h = restarted_by (channel_id_of c.number) (side_of n c) c.both h
+
+  pub stop_kept : (e : WorldEnd) (a : Act) (c : Channel K) → IsOpen c → IsOpen (moved signer (stop_moves e a) c)
+  stop_kept e a c h = stopped_by (channel_id_of c.number) (c.number == e.channel) (side_of e.node c) a c.both h
 
   pub up_kept : (c : Channel K) → IsOpen c → IsOpen (moved signer up_moves c)
   up_kept c h = up_by (channel_id_of c.number) (may_meet c.both) c.both refl h

@@ -5,6 +5,7 @@ pub mod Silent
 pub mod Mirror
 pub mod Dropped
 pub mod Moves
+pub mod Stops
 pub mod Opened
 pub mod Kept
 pub mod Doing
@@ -21,4 +22,5 @@ pub mod ItemForms
 pub mod SoundForms
 pub mod Forms
 pub mod Openings
+pub mod Stopping
 pub mod Recorded

@@ -9,7 +9,7 @@ use Rattle.std.proofs.lemmas.Option.{slice_get_past}
 use Rattle.ln_keys.specs.Signer.{Signer}
 use Rattle.ln_world.specs.Both.{Move}
 use Rattle.ln_world.specs.Channel.{Channel, moved}
-use Rattle.ln_world.specs.World.{channel, AreOnce, moved_at, if_there}
+use Rattle.ln_world.specs.World.{channel, AreOnce, changed_if, moved_at, if_there}
 use Rattle.ln_world.specs.declared.line.Line.{Line}
 use Rattle.ln_world.specs.declared.line.Line.TheVariants as line
 
@@ -63,30 +63,43 @@ found_where n cs i d e = at_first (λ c. c.number == n) (λ l k. channel n l ≡
 
 -- ---- one channel moves
 
+changed_nowhere : {K : Type 0} (n : ℕ) (f : Channel K → Channel K) (cs : List (Channel K))
+    → channel n cs ≡ None → cs ≡ map (changed_if n f) cs
+changed_nowhere n f [] e = refl
+changed_nowhere n f (c ∷ cs) e =
+    let h : ((c.number == n) ≡ false) × (channel n cs ≡ None) = found (c.number == n) c (channel n cs) e in
+    ap (λ l. c ∷ l) (changed_nowhere n f cs h.1)
+    ∙ ap (λ t. cond t (f c) c ∷ map (changed_if n f) cs) (sym h.0)
+
+changed_at : {K : Type 0} (n : ℕ) (f : Channel K → Channel K) (cs : List (Channel K)) (i : ℕ)
+    (d : Channel K) → Some i ≡ position (λ c. c.number == n) cs
+    → AreOnce cs → set cs i (f (get_or cs i d)) ≡ map (changed_if n f) cs
+changed_at n f cs i d e =
+    at_first (λ c. c.number == n) (λ l k. AreOnce l → set l k (f (get_or l k d)) ≡ map (changed_if n f) l)
+    (λ c l h once. ap (λ t. f c ∷ t)
+    (changed_nowhere n f l (subst (λ m. channel m l ≡ None) (eqb-true c.number n h) once.0))
+    ∙ ap (λ t. cond t (f c) c ∷ map (changed_if n f) l) (sym h))
+    (λ c l k h same once. ap (λ t. c ∷ t) (same once.1)
+    ∙ ap (λ t. cond t (f c) c ∷ map (changed_if n f) l) (sym h))
+    cs i d e
+
+pub changed : {K : Type 0} (n : ℕ) (f : Channel K → Channel K) (cs : List (Channel K)) (i : ℕ)
+    (d e : Channel K) → AreOnce cs → Some i ≡ position (λ c. c.number == n) cs → e ≡ f (get_or cs i d)
+    → set cs i e ≡ map (changed_if n f) cs
+changed n f cs i d e once p h = ap (λ x. set cs i x) h ∙ changed_at n f cs i d p once
+
+pub unchanged_there : {K : Type 0} (n : ℕ) (f : Channel K → Channel K) (cs : List (Channel K))
+    → position (λ c. c.number == n) cs ≡ None → cs ≡ map (changed_if n f) cs
+unchanged_there n f cs e = changed_nowhere n f cs (not_found n cs e)
+
 pub nowhere : {K : Type 0} (s : K → Signer) (n : ℕ) (f : Channel K → List Move) (cs : List (Channel K))
     → channel n cs ≡ None → cs ≡ moved_at s n f cs
-nowhere s n f [] e = refl
-nowhere s n f (c ∷ cs) e =
-    let h : ((c.number == n) ≡ false) × (channel n cs ≡ None) = found (c.number == n) c (channel n cs) e in
-    ap (λ l. c ∷ l) (nowhere s n f cs h.1)
-    ∙ ap (λ t. cond t (moved s f c) c ∷ moved_at s n f cs) (sym h.0)
-
-placed_at : {K : Type 0} (s : K → Signer) (n : ℕ) (f : Channel K → List Move) (cs : List (Channel K)) (i : ℕ)
-    (d : Channel K) → Some i ≡ position (λ c. c.number == n) cs
-    → AreOnce cs → set cs i (moved s f (get_or cs i d)) ≡ moved_at s n f cs
-placed_at s n f cs i d e =
-    at_first (λ c. c.number == n) (λ l k. AreOnce l → set l k (moved s f (get_or l k d)) ≡ moved_at s n f l)
-    (λ c l h once. ap (λ t. moved s f c ∷ t)
-    (nowhere s n f l (subst (λ m. channel m l ≡ None) (eqb-true c.number n h) once.0))
-    ∙ ap (λ t. cond t (moved s f c) c ∷ moved_at s n f l) (sym h))
-    (λ c l k h same once. ap (λ t. c ∷ t) (same once.1)
-    ∙ ap (λ t. cond t (moved s f c) c ∷ moved_at s n f l) (sym h))
-    cs i d e
+nowhere s n f cs e = changed_nowhere n (moved s f) cs e
 
 pub placed : {K : Type 0} (s : K → Signer) (n : ℕ) (f : Channel K → List Move) (cs : List (Channel K)) (i : ℕ)
     (d e : Channel K) → AreOnce cs → Some i ≡ position (λ c. c.number == n) cs → e ≡ moved s f (get_or cs i d)
     → set cs i e ≡ moved_at s n f cs
-placed s n f cs i d e once p h = ap (λ x. set cs i x) h ∙ placed_at s n f cs i d p once
+placed s n f cs i d e once p h = changed n (moved s f) cs i d e once p h
 
 -- ---- each channel moves, one after the other
 

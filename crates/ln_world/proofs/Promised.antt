@@ -28,13 +28,14 @@ use Rattle.ln_world.specs.Settings.{config_of, spec_of, txid_of, channel_id_of, 
 use Rattle.ln_world.specs.Settings.{defaults, may_bring, CanBring}
 use Rattle.ln_world.specs.Both.{Both, Move}
 use Rattle.ln_world.specs.Channel.{Channel, is_node, moved, opened_by, act_moves, fall_moves, restart_moves, up_moves}
+use Rattle.ln_world.specs.Channel.{stop_moves}
 use Rattle.ln_world.specs.World.{World, settings_of, with_settings, channel, moved_at, all_moved, may_open, happens}
-use Rattle.ln_world.specs.World.{empty, run}
+use Rattle.ln_world.specs.World.{everywhere, may_be_done, empty, run}
 use Rattle.ln_world.specs.Promises.{Headline, NoneRefused, AllTaken, OneFee, Agrees, BringsFit, Each, BringFit, OfEach}
 use Rattle.ln_world.specs.Promises.{AnswersShutdown, MarksAgree, BothClose, DoExactly}
 use Rattle.ln_world.proofs.Fitting.{funders, fundees}
 use Rattle.ln_world.proofs.Opened.{mirrored, fees_so, opening_so}
-use Rattle.ln_world.proofs.Kept.{IsRun, IsOpen, act_kept, fall_kept, restart_kept, up_kept, Tale, IsTold}
+use Rattle.ln_world.proofs.Kept.{IsRun, IsOpen, act_kept, fall_kept, restart_kept, stop_kept, up_kept, Tale, IsTold}
 use Rattle.ln_world.proofs.Kept as channels
 use Rattle.ln_world.proofs.Doing as doing
 
@@ -201,6 +202,17 @@ module _ {K : Type 0} (k : Ghosts K) where
     joined_so [] c h o = (o, tt)
     joined_so (d ∷ cs) c h o = (h.0, joined_so cs c h.1 o)
 
+    -- every channel moves so, or none does
+    pub either_so : (b : Bool) (f : Channel K → List Move) → ((c : Channel K) → P c → P (moved k.signer f c))
+        → (w : World K) → Each P w.channels → Each P (cond b (everywhere k.signer f w) w).channels
+    either_so true f keep w h = all_so f keep w.channels h
+    either_so false f keep w h = h
+
+  pub settings_stay : (P : Settings → Type 0) (b : Bool) (f : Channel K → List Move) (w : World K)
+      → AreSet P w.settings → AreSet P (cond b (everywhere k.signer f w) w).settings
+  settings_stay P true f w h = h
+  settings_stay P false f w h = h
+
   pub keys_so : (o : Open K k) → BringsFit k (step.Open o) → AreKeys (k.signer o.keys.funder) (k.signer o.keys.fundee)
   keys_so o f = record {
     partners = partners_so (k.signer o.keys.funder) (k.signer o.keys.fundee) o.keys.partners;
@@ -253,6 +265,16 @@ module _ {K : Type 0} (k : Ghosts K) where
   happened (step.Restart n) w f h = record {
     settings = h.settings;
     channels = all_so (IsOpen k.signer) (restart_moves n) (restart_kept k.signer n) w.channels h.channels;
+  }
+  happened (step.StopBefore e a) w f h = record {
+    settings = settings_stay HasFees (may_be_done e a w.channels) (restart_moves e.node) w h.settings;
+    channels = either_so (IsOpen k.signer) (may_be_done e a w.channels) (restart_moves e.node)
+        (restart_kept k.signer e.node) w h.channels;
+  }
+  happened (step.StopAfter e a) w f h = record {
+    settings = settings_stay HasFees (may_be_done e a w.channels) (stop_moves e a) w h.settings;
+    channels = either_so (IsOpen k.signer) (may_be_done e a w.channels) (stop_moves e a) (stop_kept k.signer e a) w
+        h.channels;
   }
   happened (step.Up n) w f h = record {
     settings = h.settings;

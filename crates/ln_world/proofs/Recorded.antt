@@ -1,7 +1,7 @@
 -- Each end of every channel has a record, so that no restart of a node fails by one that is missing (BOLT 2, "Message
 -- Retransmission").
 use Rattle.std.proofs.Common.{◌≡◌, ℕ, List, [], ◌∷◌, refl, subst, arith, inl, inr}
-use Rattle.std.proofs.Common.{Bool, true, false, cond, ◌&&◌, not, is_none, Option, Some, None}
+use Rattle.std.proofs.Common.{Bool, true, false, cond, ◌&&◌, ◌==◌, not, is_none, Option, Some, None}
 use Rattle.ln_msgs.specs.declared.refusals.refusal.Refusal.TheVariants as refusal
 use Rattle.ln_keys.specs.declared.keys.ChannelKeys.{Ghosts}
 use Rattle.ln_keys.specs.declared.role.Role.{Role}
@@ -16,6 +16,9 @@ use Rattle.ln_pair.specs.Promises.{AreKeys, AreSent}
 use Rattle.ln_pair.proofs.Lasting.{IsCounted, IsWide, IsOf}
 use Rattle.ln_pair.proofs.Counting.{are_counted}
 use Rattle.ln_pair.proofs.Wide.{are_wide}
+use Rattle.ln_world.specs.declared.step.Act.{Act}
+use Rattle.ln_world.specs.declared.step.Act.TheVariants as act
+use Rattle.ln_world.specs.declared.step.End.{End as WorldEnd}
 use Rattle.ln_world.specs.declared.step.Node.{Node}
 use Rattle.ln_world.specs.declared.step.Open.{Open}
 use Rattle.ln_world.specs.declared.step.Step.{Step}
@@ -23,22 +26,25 @@ use Rattle.ln_world.specs.declared.step.Step.TheVariants as step
 use Rattle.ln_world.specs.declared.settings.Settings.{Settings}
 use Rattle.ln_world.specs.declared.settings.Setting.{Setting}
 use Rattle.ln_world.specs.Settings.{defaults, channel_id_of, may_bring, CanBring}
-use Rattle.ln_world.specs.Both.{Both, Move, By, Falls, Restarts, Meet, moves}
+use Rattle.ln_world.specs.Both.{Both, Move, By, Falls, Restarts, Stops, Meet, moves, unheard}
 use Rattle.ln_world.specs.Both.{run as run_both}
 use Rattle.ln_world.specs.Channel.{Channel, is_node, by, side_of, actor, moved, may_meet, opened_by, act_moves}
-use Rattle.ln_world.specs.Channel.{fall_moves, restart_moves, up_moves}
-use Rattle.ln_world.specs.World.{World, settings_of, channel, may_open, joined, happens, empty, run}
+use Rattle.ln_world.specs.Channel.{fall_moves, restart_moves, stop_moves, up_moves, acted_unheard, side_unheard}
+use Rattle.ln_world.specs.World.{World, settings_of, channel, may_open, joined, happens, may_be_done, changed_if}
+use Rattle.ln_world.specs.World.{unheard_at, empty, run}
 use Rattle.ln_world.specs.Failing.{LinkLacks, SideLacks, SomeLacks, MayFail, SomeMayFail}
 use Rattle.ln_world.specs.Promises.{BringsFit, BringFit, Each, OfEach}
-use Rattle.ln_world.specs.Records.{AreLimits, IsStep, AreSteps, HaveRecords}
+use Rattle.ln_world.specs.Records.{AreLimits, IsAct, IsStep, AreSteps, HaveRecords}
 use Rattle.ln_world.proofs.Mirror.{link_of}
 use Rattle.ln_world.proofs.Opening.{IsOpening}
 use Rattle.ln_world.proofs.Forms.{has_record}
 use Rattle.ln_world.proofs.Openings.{are_openings, short_scripts}
 use Rattle.ln_world.proofs.Kept.{IsRun, IsWideRun, ends_of, IsMove, ArePossible, went}
 use Rattle.ln_world.proofs.Promised.{brings_so, AreSet, set_of, set_with, set_so, opened_run, Keeps}
-use Rattle.ln_world.proofs.Promised.{moved_so, all_so, joined_so, keys_so, happened}
-use Rattle.ln_world.proofs.Told.{MayMake, acts_possible, falls_possible, restarts_possible, ups_possible}
+use Rattle.ln_world.proofs.Promised.{moved_so, all_so, joined_so, either_so, settings_stay, keys_so, happened}
+use Rattle.ln_world.proofs.Told.{MayMake, acts_possible, falls_possible, restarts_possible, stops_possible}
+use Rattle.ln_world.proofs.Told.{ups_possible}
+use Rattle.ln_world.proofs.Stopping.{as_acted}
 
 -- ---- a channel whose commands are as wide as they are in code
 
@@ -59,6 +65,11 @@ module _ {K : Type 0} (signer : K → Signer) where
 bring_by : (o : Option Role) (f : Role → Move) → ((side : Role) → IsMove (f side)) → Each IsMove (by o f)
 bring_by None f h = tt
 bring_by (Some side) f h = (h side, tt)
+
+stops_bring : (b : Bool) (o : Option Role) (a : Act) → IsAct a
+    → Each IsMove (cond b (by o (λ side. Stops side a)) (by o Restarts))
+stops_bring true o a h = bring_by o (λ side. Stops side a) (λ side. h)
+stops_bring false o a h = bring_by o Restarts (λ side. tt)
 
 ups_bring : (b : Bool) → Each IsMove (cond b (Meet ∷ []) [])
 ups_bring true = (tt, tt)
@@ -170,6 +181,16 @@ module _ {K : Type 0} (k : Ghosts K) where
     all_so k IsFitChannel (restart_moves n) (kept_by (restart_moves n) (restarts_possible k n)
         (λ c. bring_by (side_of n c) Restarts (λ side. tt))) w.channels h.channels,
   )
+  happens_so (step.StopBefore e a) w f is h = (
+    settings_stay k HasLimits (may_be_done e a w.channels) (restart_moves e.node) w h.limits,
+    either_so k IsFitChannel (may_be_done e a w.channels) (restart_moves e.node) (kept_by (restart_moves e.node)
+        (restarts_possible k e.node) (λ c. bring_by (side_of e.node c) Restarts (λ side. tt))) w h.channels,
+  )
+  happens_so (step.StopAfter e a) w f is h = (
+    settings_stay k HasLimits (may_be_done e a w.channels) (stop_moves e a) w h.limits,
+    either_so k IsFitChannel (may_be_done e a w.channels) (stop_moves e a) (kept_by (stop_moves e a)
+        (stops_possible k e a) (λ c. stops_bring (c.number == e.channel) (side_of e.node c) a is)) w h.channels,
+  )
   happens_so (step.Up n) w f is h = (
     h.limits,
     moved_so k IsFitChannel n up_moves (kept_by up_moves (ups_possible k) (λ c. ups_bring (may_meet c.both)))
@@ -235,21 +256,50 @@ module _ {K : Type 0} (k : Ghosts K) where
   pub all_have : (ss : List (Step K k)) → BringFit k ss → AreSteps k ss → OfEach HaveRecords (run k ss empty)
   all_have ss f is = each_has (run k ss empty).channels (all_fit k ss empty f is (empty_fit k)).channels
 
-  never_in : (s : Step K k) (w : World K) → OfEach HaveRecords w → MayFail k s refusal.Damaged w → ⊥
-  never_in (step.Fees n fees) w h fails = absurd (cc)
-  never_in (step.Limits n limits) w h fails = absurd (cc)
-  never_in (step.Open o) w h fails = absurd (cc)
-  never_in (step.Do e a) w h fails = absurd (cc)
-  never_in (step.Down e) w h fails = absurd (cc)
-  never_in (step.Restart n) w h (inl e) = absurd (cc)
-  never_in (step.Restart n) w h (inr lacks) = none_lacks w h n lacks.1
-  never_in (step.Up n) w h fails = absurd (cc)
+  -- nor does an act leave an end without one
+  behind_act : (o : Option Role) (a : Act) (id : List ℕ) (p : Both K) → IsAct a → IsFit k.signer id p
+      → HaveRecords (side_unheard k.signer a o p)
+  behind_act None a id p is h = have_records k.signer id p h
+  behind_act (Some Funder) a id p is h =
+      let acted = have_records k.signer id (moves k.signer id (By Funder a) p)
+      (moves_so k.signer id (By Funder a ∷ []) p (refl, tt) (is, tt) h) in
+      (as_acted k.signer Funder id a p acted.0, (have_records k.signer id p h).1)
+  behind_act (Some Fundee) a id p is h =
+      let acted = have_records k.signer id (moves k.signer id (By Fundee a) p)
+      (moves_so k.signer id (By Fundee a ∷ []) p (refl, tt) (is, tt) h) in
+      ((have_records k.signer id p h).0, as_acted k.signer Fundee id a p acted.1)
+
+  one_behind : (b : Bool) (n : Node) (a : Act) (c : Channel K) → IsAct a → IsFitChannel k c
+      → HaveRecords (cond b (acted_unheard k.signer n a c) c).both
+  one_behind true n a c is h = behind_act (side_of n c) a (channel_id_of c.number) c.both is h
+  one_behind false n a c is h = have_records k.signer (channel_id_of c.number) c.both h
+
+  each_behind : (e : WorldEnd) (a : Act) (cs : List (Channel K)) → IsAct a → Each (IsFitChannel k) cs
+      → Each (λ (c : Channel K). HaveRecords c.both) (unheard_at k.signer e a cs)
+  each_behind e a [] is h = tt
+  each_behind e a (c ∷ cs) is h = (one_behind (c.number == e.channel) e.node a c is h.0, each_behind e a cs is h.1)
+
+  never_in : (s : Step K k) (w : World K) → IsStep k s → AreFit k w → MayFail k s refusal.Damaged w → ⊥
+  never_in (step.Fees n fees) w is h fails = absurd (cc)
+  never_in (step.Limits n limits) w is h fails = absurd (cc)
+  never_in (step.Open o) w is h fails = absurd (cc)
+  never_in (step.Do e a) w is h fails = absurd (cc)
+  never_in (step.Down e) w is h fails = absurd (cc)
+  never_in (step.Restart n) w is h (inl e) = absurd (cc)
+  never_in (step.Restart n) w is h (inr lacks) = none_of n w.channels (each_has w.channels h.channels) lacks.1
+  never_in (step.StopBefore e a) w is h (inl r) = absurd (cc)
+  never_in (step.StopBefore e a) w is h (inr lacks) =
+      none_of e.node w.channels (each_has w.channels h.channels) lacks.1
+  never_in (step.StopAfter e a) w is h (inl r) = absurd (cc)
+  never_in (step.StopAfter e a) w is h (inr lacks) = none_of e.node (unheard_at k.signer e a w.channels)
+      (each_behind e a w.channels is h.channels) lacks.1
+  never_in (step.Up n) w is h fails = absurd (cc)
 
   -- in no step that follows a world whose channels are so
   pub never_after : (ss : List (Step K k)) (w : World K) → BringFit k ss → AreSteps k ss → AreFit k w
       → SomeMayFail k ss refusal.Damaged w → ⊥
   never_after [] w f is h fails = fails
-  never_after (s ∷ ss) w f is h (inl fails) = never_in s w (each_has w.channels h.channels) fails
+  never_after (s ∷ ss) w f is h (inl fails) = never_in s w is.0 h fails
   never_after (s ∷ ss) w f is h (inr fails) =
       never_after ss (happens k s w) f.1 is.1 (stays_fit k s w f.0 is.0 h) fails
 

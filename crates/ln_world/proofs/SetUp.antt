@@ -16,15 +16,16 @@ use Rattle.ln_world.specs.Settings.{channel_id_of, may_bring, CanBring}
 use Rattle.ln_world.specs.Both.{Both, Move}
 use Rattle.ln_world.specs.Both.{run as run_both}
 use Rattle.ln_world.specs.Channel.{Channel, is_node, moved, opened_by, act_moves, fall_moves, restart_moves, up_moves}
+use Rattle.ln_world.specs.Channel.{stop_moves}
 use Rattle.ln_world.specs.World.{World, settings_of, channel, moved_if, moved_at, all_moved, may_open, joined, happens}
-use Rattle.ln_world.specs.World.{empty, run}
+use Rattle.ln_world.specs.World.{everywhere, may_be_done, empty, run}
 use Rattle.ln_world.specs.Promises.{BringsFit, BringFit}
 use Rattle.ln_world.specs.Setup.{setup_by, setup_in, all_setups, OpensAsSet}
 use Rattle.ln_world.proofs.Opened.{fees_so, opening_so}
 use Rattle.ln_world.proofs.Kept.{IsRun, ArePossible, went, setup_at, as_set_up}
 use Rattle.ln_world.proofs.Promised.{opened_run, brings_so, set_so, Keeps, keys_so, happened}
 use Rattle.ln_world.proofs.Told.{MayMake, or_else, moved_or_not, found_moved, found_in_all, found_joined, none_so}
-use Rattle.ln_world.proofs.Told.{acts_possible, falls_possible, restarts_possible, ups_possible}
+use Rattle.ln_world.proofs.Told.{acts_possible, falls_possible, restarts_possible, stops_possible, ups_possible}
 
 -- ---- a channel, with what it was set up with
 
@@ -79,6 +80,11 @@ module _ {K : Type 0} (k : Ghosts K) where
   all_go f n cs ds may h =
       subst (λ o. Stands o (ds ++ [])) (sym (found_in_all k n f cs))
       (behind_none (option_map (moved k.signer f) (channel n cs)) ds (all_stands f (channel n cs) ds may h))
+
+  stops : (b : Bool) (f : Channel K → List Move) (n : ℕ) (w : World K) (ds : List Setup) → MayMake k f
+      → Stands (channel n w.channels) ds → Stands (channel n (cond b (everywhere k.signer f w) w).channels) (ds ++ [])
+  stops true f n w ds may h = all_go f n w.channels ds may h
+  stops false f n w ds may h = behind_none (channel n w.channels) ds h
 
   -- ---- an opening
 
@@ -152,6 +158,10 @@ module _ {K : Type 0} (k : Ghosts K) where
       goes e.channel (fall_moves e.node) n w.channels ds (falls_possible k e.node) h
   step_stands n (step.Restart m) w ds f keeps h =
       all_go (restart_moves m) n w.channels ds (restarts_possible k m) h
+  step_stands n (step.StopBefore e a) w ds f keeps h =
+      stops (may_be_done e a w.channels) (restart_moves e.node) n w ds (restarts_possible k e.node) h
+  step_stands n (step.StopAfter e a) w ds f keeps h =
+      stops (may_be_done e a w.channels) (stop_moves e a) n w ds (stops_possible k e a) h
   step_stands n (step.Up m) w ds f keeps h = goes m up_moves n w.channels ds (ups_possible k) h
 
   ran_stands : (n : ℕ) (ss : List (Step K k)) (w : World K) (ds : List Setup) → BringFit k ss → Keeps k w

@@ -22,12 +22,13 @@ use Rattle.ln_world.specs.declared.step.Open.{Open}
 use Rattle.ln_world.specs.declared.step.Step.{Step}
 use Rattle.ln_world.specs.declared.step.Step.TheVariants as step
 use Rattle.ln_world.specs.Settings.{channel_id_of, opening_by, may_bring}
-use Rattle.ln_world.specs.Both.{Both, Move, By, Falls, Restarts, Meet}
+use Rattle.ln_world.specs.declared.step.End.{End}
+use Rattle.ln_world.specs.Both.{Both, Move, By, Falls, Restarts, Stops, Meet}
 use Rattle.ln_world.specs.Channel.{Channel, is_node, by, side_of, actor, moved, may_meet, opened_by, act_moves}
 use Rattle.ln_world.specs.Channel.{fall_moves}
-use Rattle.ln_world.specs.Channel.{restart_moves, up_moves}
+use Rattle.ln_world.specs.Channel.{restart_moves, stop_moves, up_moves}
 use Rattle.ln_world.specs.World.{World, settings_of, channel, moved_if, moved_at, all_moved, may_open, joined, happens}
-use Rattle.ln_world.specs.World.{empty, run}
+use Rattle.ln_world.specs.World.{everywhere, may_be_done, empty, run}
 use Rattle.ln_world.specs.Promises.{BringsFit, BringFit}
 use Rattle.ln_world.specs.Course.{step_moves, in_channel, over}
 use Rattle.ln_world.specs.Sending.{sends, sent_in, NoneAddsLate}
@@ -92,13 +93,13 @@ module _ {K : Type 0} (k : Ghosts K) where
   Recounts (Some c) t = IsToldOf k c t
 
   -- what comes of a step, beside its opening
-  abbrev tale_for : Step K k → List machine.Move → Option (Channel K) → Tale
-  tale_for s ms o = record {
-    sent_x = in_channel k (sends k.signer Funder) s o;
-    sent_y = in_channel k (sends k.signer Fundee) s o;
-    moves = ms ++ in_channel k (λ id. moves_of k.signer) s o;
-    told_x = in_channel k (λ id. tells k.signer Funder) s o;
-    told_y = in_channel k (λ id. tells k.signer Fundee) s o;
+  abbrev tale_for : Step K k → World K → List machine.Move → Option (Channel K) → Tale
+  tale_for s w ms o = record {
+    sent_x = in_channel k (sends k.signer Funder) s w o;
+    sent_y = in_channel k (sends k.signer Fundee) s w o;
+    moves = ms ++ in_channel k (λ id. moves_of k.signer) s w o;
+    told_x = in_channel k (λ id. tells k.signer Funder) s w o;
+    told_y = in_channel k (λ id. tells k.signer Fundee) s w o;
   }
 
   abbrev pub MayMake : (Channel K → List Move) → Type 0
@@ -119,6 +120,19 @@ module _ {K : Type 0} (k : Ghosts K) where
   pub restarts_possible : (n : Node) → MayMake (restart_moves n)
   restarts_possible n c = by_possible (channel_id_of c.number) c.both (side_of n c) Restarts (λ side. (refl, tt))
 
+  either_possible : (id : List ℕ) (p : Both K) (b : Bool) (ms ns : List Move) → ArePossible k.signer id ms p
+      → ArePossible k.signer id ns p → ArePossible k.signer id (cond b ms ns) p
+  either_possible id p true ms ns h g = h
+  either_possible id p false ms ns h g = g
+
+  pub stops_possible : (e : End) (a : Act) → MayMake (stop_moves e a)
+  stops_possible e a c =
+      let id = channel_id_of c.number in
+      let o = side_of e.node c in
+      either_possible id c.both (c.number == e.channel) (by o (λ side. Stops side a)) (by o Restarts)
+      (by_possible id c.both o (λ side. Stops side a) (λ side. (refl, tt)))
+      (by_possible id c.both o Restarts (λ side. (refl, tt)))
+
   up_by : (id : List ℕ) (p : Both K) (b : Bool) → may_meet p ≡ b
       → ArePossible k.signer id (cond b (Meet ∷ []) []) p
   up_by id p true e = (e, tt)
@@ -133,34 +147,34 @@ module _ {K : Type 0} (k : Ghosts K) where
   one_told true f c t may h = channels.all_told k.signer (channel_id_of c.number) (f c) c.both t (may c) h
   one_told false f c t may h = channels.all_told k.signer (channel_id_of c.number) [] c.both t tt h
 
-  moved_told : (s : Step K k) (m : ℕ) (f : Channel K → List Move) (o : Option (Channel K)) (t : Tale) → MayMake f
-      → ((c : Channel K) → step_moves k s c ≡ cond (c.number == m) (f c) []) → Recounts o t
-      → Recounts (option_map (moved_if k.signer m f) o) (then t (tale_for s [] o))
-  moved_told s m f None t may is h = then-untold t ∙ h
-  moved_told s m f (Some c) t may is h =
+  moved_told : (s : Step K k) (w : World K) (m : ℕ) (f : Channel K → List Move) (o : Option (Channel K)) (t : Tale)
+      → MayMake f → ((c : Channel K) → step_moves k s w c ≡ cond (c.number == m) (f c) []) → Recounts o t
+      → Recounts (option_map (moved_if k.signer m f) o) (then t (tale_for s w [] o))
+  moved_told s w m f None t may is h = then-untold t ∙ h
+  moved_told s w m f (Some c) t may is h =
       subst (λ ms. IsToldOf k (moved_or_not (c.number == m) f c)
       (then t (tale_along k.signer (channel_id_of c.number) ms c.both))) (sym (is c))
       (one_told (c.number == m) f c t may h)
 
-  quiet_tale : (s : Step K k) (o : Option (Channel K)) → ((c : Channel K) → step_moves k s c ≡ [])
-      → tale_for s [] o ≡ untold
-  quiet_tale s None is = refl
-  quiet_tale s (Some c) is =
+  quiet_tale : (s : Step K k) (w : World K) (o : Option (Channel K)) → ((c : Channel K) → step_moves k s w c ≡ [])
+      → tale_for s w [] o ≡ untold
+  quiet_tale s w None is = refl
+  quiet_tale s w (Some c) is =
       ap (λ ms. tale_along k.signer (channel_id_of c.number) ms c.both) (is c)
 
-  still_told : (s : Step K k) (o : Option (Channel K)) (t : Tale) → ((c : Channel K) → step_moves k s c ≡ [])
-      → Recounts o t → Recounts o (then t (tale_for s [] o))
-  still_told s o t is h = subst (Recounts o) (sym (ap (then t) (quiet_tale s o is) ∙ then-untold t)) h
+  still_told : (s : Step K k) (w : World K) (o : Option (Channel K)) (t : Tale)
+      → ((c : Channel K) → step_moves k s w c ≡ []) → Recounts o t → Recounts o (then t (tale_for s w [] o))
+  still_told s w o t is h = subst (Recounts o) (sym (ap (then t) (quiet_tale s w o is) ∙ then-untold t)) h
 
-  joined_told : (s : Step K k) (d : Option (Channel K)) (new : Channel K) (b : Bool) (t : Tale) (q : Opening)
-      → ((c : Channel K) → step_moves k s c ≡ []) → (b ≡ true → d ≡ None) → IsToldOf k new (opening_tale k q)
-      → Recounts d t
-      → Recounts (or_else d (cond b (Some new) None)) (then t (tale_for s (cond b (machine.Open q ∷ []) []) d))
-  joined_told s None new true t q is only fresh h =
+  joined_told : (s : Step K k) (w : World K) (d : Option (Channel K)) (new : Channel K) (b : Bool) (t : Tale)
+      (q : Opening) → ((c : Channel K) → step_moves k s w c ≡ []) → (b ≡ true → d ≡ None)
+      → IsToldOf k new (opening_tale k q) → Recounts d t
+      → Recounts (or_else d (cond b (Some new) None)) (then t (tale_for s w (cond b (machine.Open q ∷ []) []) d))
+  joined_told s w None new true t q is only fresh h =
       subst (IsToldOf k new) (sym (ap (λ u. then u (opening_tale k q)) h)) fresh
-  joined_told s None new false t q is only fresh h = then-untold t ∙ h
-  joined_told s (Some c) new true t q is only fresh h = absurd (let no : Some c ≡ None = only refl in cc)
-  joined_told s (Some c) new false t q is only fresh h = still_told s (Some c) t is h
+  joined_told s w None new false t q is only fresh h = then-untold t ∙ h
+  joined_told s w (Some c) new true t q is only fresh h = absurd (let no : Some c ≡ None = only refl in cc)
+  joined_told s w (Some c) new false t q is only fresh h = still_told s w (Some c) t is h
 
   pub none_so : (o : Option (Channel K)) → is_none o ≡ true → o ≡ None
   none_so None e = refl
@@ -176,9 +190,9 @@ module _ {K : Type 0} (k : Ghosts K) where
   opened_so : (b : Bool) (n : ℕ) (o : Open K k) (w : World K) (t : Tale) → may_open o w ≡ b → BringsFit k (step.Open o)
       → Keeps k w → Recounts (channel n w.channels) t
       → Recounts (channel n (cond b (joined (new_channel o w) w) w).channels)
-      (then t (tale_for (step.Open o) (cond (b && o.channel == n) (machine.Open (new_opening o w) ∷ []) [])
+      (then t (tale_for (step.Open o) w (cond (b && o.channel == n) (machine.Open (new_opening o w) ∷ []) [])
       (channel n w.channels)))
-  opened_so false n o w t e f keeps h = still_told (step.Open o) (channel n w.channels) t (λ c. refl) h
+  opened_so false n o w t e f keeps h = still_told (step.Open o) w (channel n w.channels) t (λ c. refl) h
   opened_so true n o w t e f keeps h =
       let s = settings_of o.funder w.settings in
       let r = settings_of o.fundee w.settings in
@@ -190,10 +204,10 @@ module _ {K : Type 0} (k : Ghosts K) where
       let none : channel o.channel w.channels ≡ None = none_so (channel o.channel w.channels) q.0 in
       let only : (o.channel == n) ≡ true → channel n w.channels ≡ None =
       λ is. subst (λ m. channel m w.channels ≡ None) (eqb-true o.channel n is) none in
-      subst (λ d. Recounts d (then t (tale_for (step.Open o)
+      subst (λ d. Recounts d (then t (tale_for (step.Open o) w
       (cond (o.channel == n) (machine.Open (new_opening o w) ∷ []) []) (channel n w.channels))))
       (sym (found_joined n (new_channel o w) w.channels))
-      (joined_told (step.Open o) (channel n w.channels) (new_channel o w) (o.channel == n) t (new_opening o w)
+      (joined_told (step.Open o) w (channel n w.channels) (new_channel o w) (o.channel == n) t (new_opening o w)
       (λ c. refl) only fresh h)
 
   abbrev tale_in : ℕ → Step K k → World K → Tale
@@ -205,43 +219,58 @@ module _ {K : Type 0} (k : Ghosts K) where
     told_y = told_in k n Fundee s w;
   }
 
-  goes_so : (s : Step K k) (m : ℕ) (f : Channel K → List Move) (n : ℕ) (cs : List (Channel K)) (t : Tale) → MayMake f
-      → ((c : Channel K) → step_moves k s c ≡ cond (c.number == m) (f c) []) → Recounts (channel n cs) t
-      → Recounts (channel n (moved_at k.signer m f cs)) (then t (tale_for s [] (channel n cs)))
-  goes_so s m f n cs t may is h =
-      subst (λ o. Recounts o (then t (tale_for s [] (channel n cs)))) (sym (found_moved n m f cs))
-      (moved_told s m f (channel n cs) t may is h)
+  goes_so : (s : Step K k) (w : World K) (m : ℕ) (f : Channel K → List Move) (n : ℕ) (cs : List (Channel K))
+      (t : Tale) → MayMake f → ((c : Channel K) → step_moves k s w c ≡ cond (c.number == m) (f c) [])
+      → Recounts (channel n cs) t
+      → Recounts (channel n (moved_at k.signer m f cs)) (then t (tale_for s w [] (channel n cs)))
+  goes_so s w m f n cs t may is h =
+      subst (λ o. Recounts o (then t (tale_for s w [] (channel n cs)))) (sym (found_moved n m f cs))
+      (moved_told s w m f (channel n cs) t may is h)
 
-  all_told_of : (s : Step K k) (f : Channel K → List Move) (o : Option (Channel K)) (t : Tale) → MayMake f
-      → ((c : Channel K) → step_moves k s c ≡ f c) → Recounts o t
-      → Recounts (option_map (moved k.signer f) o) (then t (tale_for s [] o))
-  all_told_of s f None t may is h = then-untold t ∙ h
-  all_told_of s f (Some c) t may is h =
+  all_told_of : (s : Step K k) (w : World K) (f : Channel K → List Move) (o : Option (Channel K)) (t : Tale) → MayMake f
+      → ((c : Channel K) → step_moves k s w c ≡ f c) → Recounts o t
+      → Recounts (option_map (moved k.signer f) o) (then t (tale_for s w [] o))
+  all_told_of s w f None t may is h = then-untold t ∙ h
+  all_told_of s w f (Some c) t may is h =
       subst (λ ms. IsToldOf k (moved k.signer f c) (then t (tale_along k.signer (channel_id_of c.number) ms c.both)))
       (sym (is c)) (one_told true f c t may h)
 
-  all_go_so : (s : Step K k) (f : Channel K → List Move) (n : ℕ) (cs : List (Channel K)) (t : Tale) → MayMake f
-      → ((c : Channel K) → step_moves k s c ≡ f c) → Recounts (channel n cs) t
-      → Recounts (channel n (all_moved k.signer f cs)) (then t (tale_for s [] (channel n cs)))
-  all_go_so s f n cs t may is h =
-      subst (λ o. Recounts o (then t (tale_for s [] (channel n cs)))) (sym (found_in_all n f cs))
-      (all_told_of s f (channel n cs) t may is h)
+  all_go_so : (s : Step K k) (w : World K) (f : Channel K → List Move) (n : ℕ) (cs : List (Channel K)) (t : Tale)
+      → MayMake f → ((c : Channel K) → step_moves k s w c ≡ f c) → Recounts (channel n cs) t
+      → Recounts (channel n (all_moved k.signer f cs)) (then t (tale_for s w [] (channel n cs)))
+  all_go_so s w f n cs t may is h =
+      subst (λ o. Recounts o (then t (tale_for s w [] (channel n cs)))) (sym (found_in_all n f cs))
+      (all_told_of s w f (channel n cs) t may is h)
+
+  -- a node that stops, where its end can act
+  stops_so : (b : Bool) (s : Step K k) (w : World K) (f : Channel K → List Move) (n : ℕ) (t : Tale) → MayMake f
+      → ((c : Channel K) → step_moves k s w c ≡ cond b (f c) []) → Recounts (channel n w.channels) t
+      → Recounts (channel n (cond b (everywhere k.signer f w) w).channels)
+      (then t (tale_for s w [] (channel n w.channels)))
+  stops_so true s w f n t may is h = all_go_so s w f n w.channels t may is h
+  stops_so false s w f n t may is h = still_told s w (channel n w.channels) t is h
 
   step_told : (n : ℕ) (s : Step K k) (w : World K) (t : Tale) → BringsFit k s → Keeps k w
       → Recounts (channel n w.channels) t → Recounts (channel n (happens k s w).channels) (then t (tale_in n s w))
   step_told n (step.Fees m fees) w t f keeps h =
-      still_told (step.Fees m fees) (channel n w.channels) t (λ c. refl) h
+      still_told (step.Fees m fees) w (channel n w.channels) t (λ c. refl) h
   step_told n (step.Limits m limits) w t f keeps h =
-      still_told (step.Limits m limits) (channel n w.channels) t (λ c. refl) h
+      still_told (step.Limits m limits) w (channel n w.channels) t (λ c. refl) h
   step_told n (step.Open o) w t f keeps h = opened_so (may_open o w) n o w t refl f keeps h
   step_told n (step.Do e a) w t f keeps h =
-      goes_so (step.Do e a) e.channel (act_moves e.node a) n w.channels t (acts_possible e.node a) (λ c. refl) h
+      goes_so (step.Do e a) w e.channel (act_moves e.node a) n w.channels t (acts_possible e.node a) (λ c. refl) h
   step_told n (step.Down e) w t f keeps h =
-      goes_so (step.Down e) e.channel (fall_moves e.node) n w.channels t (falls_possible e.node) (λ c. refl) h
+      goes_so (step.Down e) w e.channel (fall_moves e.node) n w.channels t (falls_possible e.node) (λ c. refl) h
   step_told n (step.Restart m) w t f keeps h =
-      all_go_so (step.Restart m) (restart_moves m) n w.channels t (restarts_possible m) (λ c. refl) h
+      all_go_so (step.Restart m) w (restart_moves m) n w.channels t (restarts_possible m) (λ c. refl) h
+  step_told n (step.StopBefore e a) w t f keeps h =
+      stops_so (may_be_done e a w.channels) (step.StopBefore e a) w (restart_moves e.node) n t
+      (restarts_possible e.node) (λ c. refl) h
+  step_told n (step.StopAfter e a) w t f keeps h =
+      stops_so (may_be_done e a w.channels) (step.StopAfter e a) w (stop_moves e a) n t (stops_possible e a)
+      (λ c. refl) h
   step_told n (step.Up m) w t f keeps h =
-      goes_so (step.Up m) m up_moves n w.channels t ups_possible (λ c. refl) h
+      goes_so (step.Up m) w m up_moves n w.channels t ups_possible (λ c. refl) h
 
   -- ---- in a list of steps
 

@@ -117,6 +117,22 @@ restarted p = record { keys = p.keys; link = back p.keys p.link (saved_end p.lin
 abbrev pub restarts : {K : Type 0} → Both K → Both K
 restarts p = record { x = restarted p.x; y = p.y }
 
+-- ---- it acts, and its node stops behind the save
+
+-- what it is behind the act, whoever gets what it hands out
+abbrev pub delivered_unheard : {K : Type 0} → (K → Signer) → List Message → Place K → Place K
+delivered_unheard signer [] p = p
+delivered_unheard signer (m ∷ ms) p =
+    record { keys = p.keys; link = left refused (handled (signer p.link.keys) p.link m) p.link; inbox = ms }
+
+abbrev pub unheard : {K : Type 0} → (K → Signer) → Act → Place K → Place K
+unheard signer act.Deliver p = delivered_unheard signer p.inbox p
+unheard signer (act.Send c) p = record p { link = left unchanged (commanded (signer p.link.keys) p.link c) p.link }
+
+-- it comes back from the record that the act has saved; what it handed out reaches nobody
+abbrev pub stops : {K : Type 0} → (K → Signer) → List ℕ → Act → Both K → Both K
+stops signer id a p = record { x = restarted (acts signer id a p).x; y = p.y }
+
 -- ---- a connection: both ends have it before either sends, so that nothing is lost
 
 abbrev pub greeting : {K : Type 0} → (K → Signer) → State K → Result Done Refusal
@@ -149,6 +165,7 @@ pub data Move : Type 0 where
   By : (side : Role) (act : Act) → Move
   Falls : (side : Role) → Move
   Restarts : (side : Role) → Move
+  Stops : (side : Role) (act : Act) → Move
   Meet : Move
 
 -- told from the funder's end or from the fundee's
@@ -160,6 +177,7 @@ unfoldable pub moves : {K : Type 0} → (K → Signer) → List ℕ → Move →
 moves signer id (By side act) p = from side (acts signer id act) p
 moves signer id (Falls side) p = from side falls p
 moves signer id (Restarts side) p = from side restarts p
+moves signer id (Stops side act) p = from side (stops signer id act) p
 moves signer id Meet p = meet signer p
 
 abbrev pub run : {K : Type 0} → (K → Signer) → List ℕ → List Move → Both K → Both K

@@ -1,6 +1,8 @@
 -- A channel between two nodes: which moves of its two ends an act, the loss of a connection, a node's restart and a new
 -- connection are, how it is opened, and what is told of it.
-use Rattle.std.specs.Prelude.{ℕ, List, [], ◌∷◌, ◌++◌, Bool, ◌==◌, ◌&&◌, Option, Some, None, if◌then◌else◌}
+use Rattle.std.specs.Prelude.{ℕ, List, [], ◌∷◌, ◌++◌, Bool, true, false, ◌==◌, ◌&&◌, Option, Some, None}
+use Rattle.std.specs.Prelude.{if◌then◌else◌}
+use Rattle.ln_msgs.specs.declared.messages.message.Message.{Message}
 use Rattle.ln_keys.specs.declared.keys.ChannelKeys.{Ghosts}
 use Rattle.ln_keys.specs.declared.role.Role.{Role}
 use Rattle.ln_keys.specs.declared.role.Role.TheVariants.{Funder, Fundee}
@@ -17,8 +19,8 @@ use Rattle.ln_world.specs.declared.settings.Settings.{Settings}
 use Rattle.ln_world.specs.declared.line.Line.{Line}
 use Rattle.ln_world.specs.declared.line.Line.TheVariants as line
 use Rattle.ln_world.specs.Settings.{config_of, spec_of, channel_id_of}
-use Rattle.ln_world.specs.Both.{Both, Place, Move, By, Falls, Restarts, Meet, act_lines, may_come_up, greet_lines}
-use Rattle.ln_world.specs.Both.{greeting}
+use Rattle.ln_world.specs.Both.{Both, Place, Move, By, Falls, Restarts, Stops, Meet, act_lines, may_come_up}
+use Rattle.ln_world.specs.Both.{greet_lines, greeting, unheard}
 use Rattle.ln_world.specs.Both.{run as run_both}
 
 pub record Channel (K : Type 0) : Type 0 where
@@ -29,6 +31,10 @@ pub record Channel (K : Type 0) : Type 0 where
 
 abbrev pub is_node : Node → Node → Bool
 is_node a b = a.letter == b.letter
+
+abbrev pub place_of : {K : Type 0} → Role → Both K → Place K
+place_of Funder p = p.x
+place_of Fundee p = p.y
 
 -- ---- which moves of a channel a step is
 
@@ -74,8 +80,46 @@ fall_moves n c = by (side_of n c) Falls
 abbrev pub restart_moves : {K : Type 0} → Node → Channel K → List Move
 restart_moves n c = by (side_of n c) Restarts
 
+-- a node stops behind an act of its end in the channel with this number; its other ends come back as they were saved
+abbrev pub stop_moves : {K : Type 0} → End → Act → Channel K → List Move
+stop_moves e a c =
+    if c.number == e.channel then by (side_of e.node c) (λ side. Stops side a) else restart_moves e.node c
+
 abbrev pub up_moves : {K : Type 0} → Channel K → List Move
 up_moves c = if may_meet c.both then Meet ∷ [] else []
+
+-- ---- an act that a node may stop round
+
+-- a message is in flight to the end, or it is given a command
+abbrev pub has_front : List Message → Bool
+has_front [] = false
+has_front (m ∷ ms) = true
+
+abbrev pub may_do : {K : Type 0} → Act → Place K → Bool
+may_do act.Deliver p = has_front p.inbox
+may_do (act.Send c) p = true
+
+abbrev pub side_may_do : {K : Type 0} → Act → Option Role → Both K → Bool
+side_may_do a None p = false
+side_may_do a (Some side) p = may_do a (place_of side p)
+
+-- the node's end
+abbrev pub may_act : {K : Type 0} → Node → Act → Channel K → Bool
+may_act n a c = side_may_do a (actor n a c) c.both
+
+-- as the act leaves the node's end, whoever gets what it hands out
+abbrev pub side_unheard : {K : Type 0} → (K → Signer) → Act → Option Role → Both K → Both K
+side_unheard signer a None p = p
+side_unheard signer a (Some Funder) p = record { x = unheard signer a p.x; y = p.y }
+side_unheard signer a (Some Fundee) p = record { x = p.x; y = unheard signer a p.y }
+
+abbrev pub acted_unheard : {K : Type 0} → (K → Signer) → Node → Act → Channel K → Channel K
+acted_unheard signer n a c = record {
+  number = c.number;
+  funder = c.funder;
+  fundee = c.fundee;
+  both = side_unheard signer a (side_of n c) c.both;
+}
 
 -- ---- a channel that is opened (BOLT 2, "Channel Establishment v1")
 
@@ -109,10 +153,6 @@ abbrev pub opened_by : {K : Type 0} → (k : Ghosts K) → Open K k → Settings
 opened_by k o funder fundee = moved k.signer (λ c. opening_moves) (begun_by k o funder fundee)
 
 -- ---- what is told of it
-
-abbrev pub place_of : {K : Type 0} → Role → Both K → Place K
-place_of Funder p = p.x
-place_of Fundee p = p.y
 
 unfoldable pub acted_lines : {K : Type 0} → (K → Signer) → Act → Channel K → Option Role → List Line
 acted_lines signer a c None = line.Idle ∷ []

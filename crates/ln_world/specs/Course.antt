@@ -6,18 +6,20 @@ use Rattle.ln_world.specs.declared.step.Step.{Step}
 use Rattle.ln_world.specs.declared.step.Step.TheVariants as step
 use Rattle.ln_world.specs.Settings.{channel_id_of}
 use Rattle.ln_world.specs.Both.{Both, Move, moves}
-use Rattle.ln_world.specs.Channel.{Channel, act_moves, fall_moves, restart_moves, up_moves}
-use Rattle.ln_world.specs.World.{World, happens}
+use Rattle.ln_world.specs.Channel.{Channel, act_moves, fall_moves, restart_moves, stop_moves, up_moves}
+use Rattle.ln_world.specs.World.{World, happens, may_be_done}
 
--- those of a channel that is there
-abbrev pub step_moves : {K : Type 0} → (k : Ghosts K) → Step K k → Channel K → List Move
-step_moves k (step.Fees n fees) c = []
-step_moves k (step.Limits n limits) c = []
-step_moves k (step.Open o) c = []
-step_moves k (step.Do e a) c = if c.number == e.channel then act_moves e.node a c else []
-step_moves k (step.Down e) c = if c.number == e.channel then fall_moves e.node c else []
-step_moves k (step.Restart n) c = restart_moves n c
-step_moves k (step.Up n) c = if c.number == n then up_moves c else []
+-- those of a channel that is there, by the world before the step
+abbrev pub step_moves : {K : Type 0} → (k : Ghosts K) → Step K k → World K → Channel K → List Move
+step_moves k (step.Fees n fees) w c = []
+step_moves k (step.Limits n limits) w c = []
+step_moves k (step.Open o) w c = []
+step_moves k (step.Do e a) w c = if c.number == e.channel then act_moves e.node a c else []
+step_moves k (step.Down e) w c = if c.number == e.channel then fall_moves e.node c else []
+step_moves k (step.Restart n) w c = restart_moves n c
+step_moves k (step.StopBefore e a) w c = if may_be_done e a w.channels then restart_moves e.node c else []
+step_moves k (step.StopAfter e a) w c = if may_be_done e a w.channels then stop_moves e a c else []
+step_moves k (step.Up n) w c = if c.number == n then up_moves c else []
 
 -- what comes of each move of a channel, in the order of the moves
 abbrev pub along : {K A : Type 0} → (K → Signer) → List ℕ → (Move → Both K → List A) → List Move → Both K → List A
@@ -25,11 +27,11 @@ along signer id f [] p = []
 along signer id f (m ∷ ms) p = f m p ++ along signer id f ms (moves signer id m p)
 
 -- what comes of a step in the channel with this number, by its id
-abbrev pub in_channel : {K A : Type 0} → (k : Ghosts K) → (List ℕ → Move → Both K → List A) → Step K k
+abbrev pub in_channel : {K A : Type 0} → (k : Ghosts K) → (List ℕ → Move → Both K → List A) → Step K k → World K
     → Option (Channel K) → List A
-in_channel k f s None = []
-in_channel k f s (Some c) =
-    along k.signer (channel_id_of c.number) (f (channel_id_of c.number)) (step_moves k s c) c.both
+in_channel k f s w None = []
+in_channel k f s w (Some c) =
+    along k.signer (channel_id_of c.number) (f (channel_id_of c.number)) (step_moves k s w c) c.both
 
 -- what comes of each step, in the order of the steps
 abbrev pub over : {K A : Type 0} → (k : Ghosts K) → (Step K k → World K → List A) → List (Step K k) → World K → List A

@@ -1,4 +1,5 @@
--- By what a step may fail: for want of memory (60), and where a node restarts also by an end that has no record (70).
+-- By what a step may fail: for want of memory (60), and where a node restarts or stops also by an end that has no
+-- record (70).
 use Rattle.std.specs.Prelude.{◌≡◌, ◌⊎◌, List, [], ◌∷◌, Option, Some, None}
 use Rattle.ln_msgs.specs.declared.refusals.refusal.Refusal.{Refusal}
 use Rattle.ln_msgs.specs.declared.refusals.refusal.Refusal.TheVariants as refusal
@@ -13,7 +14,7 @@ use Rattle.ln_world.specs.declared.step.Step.{Step}
 use Rattle.ln_world.specs.declared.step.Step.TheVariants as step
 use Rattle.ln_world.specs.Both.{Both}
 use Rattle.ln_world.specs.Channel.{Channel, side_of, place_of}
-use Rattle.ln_world.specs.World.{World, happens}
+use Rattle.ln_world.specs.World.{World, happens, unheard_at}
 
 -- ---- what comes back has no record
 
@@ -41,6 +42,8 @@ ByRecord r lacks = (r ≡ refusal.Memory) ⊎ ((r ≡ refusal.Damaged) × lacks)
 
 abbrev pub MayFail : {K : Type 0} → (k : Ghosts K) → Step K k → Refusal → World K → Type 0
 MayFail k (step.Restart n) r w = ByRecord r (SomeLacks n w.channels)
+MayFail k (step.StopBefore e a) r w = ByRecord r (SomeLacks e.node w.channels)
+MayFail k (step.StopAfter e a) r w = ByRecord r (SomeLacks e.node (unheard_at k.signer e a w.channels))
 MayFail k s r w = r ≡ refusal.Memory
 
 -- one of the steps, in the world before it

@@ -26,7 +26,7 @@ use Rattle.ln_world.specs.declared.step.Act.TheVariants as act
 use Rattle.ln_world.specs.declared.step.Step.{Step}
 use Rattle.ln_world.specs.declared.step.Step.TheVariants as step
 use Rattle.ln_world.specs.Settings.{opening_by}
-use Rattle.ln_world.specs.Both.{Both, Place, Move, By, Falls, Restarts, Meet, greeting}
+use Rattle.ln_world.specs.Both.{Both, Place, Move, By, Falls, Restarts, Stops, Meet, greeting}
 use Rattle.ln_world.specs.Channel.{Channel, place_of}
 use Rattle.ln_world.specs.World.{World, channel, settings_of, may_open}
 use Rattle.ln_world.specs.Promises.{AtEnd}
@@ -85,10 +85,15 @@ moves_of_act signer side (act.Send c) p =
 abbrev pub moves_of_fall : Role → Line → List machine.Move
 moves_of_fall side l = if is_down l then [] else Drop side ∷ []
 
+-- behind an act a stop is one too: no act makes a connection, or ends one
+abbrev pub moves_of_stop : {K : Type 0} → (K → Signer) → Role → Act → Place K → List machine.Move
+moves_of_stop signer side a p = moves_of_act signer side a p ++ moves_of_fall side p.link.line
+
 abbrev pub moves_of : {K : Type 0} → (K → Signer) → Move → Both K → List machine.Move
 moves_of signer (By side a) p = moves_of_act signer side a (place_of side p)
 moves_of signer (Falls side) p = moves_of_fall side (place_of side p).link.line
 moves_of signer (Restarts side) p = moves_of_fall side (place_of side p).link.line
+moves_of signer (Stops side a) p = moves_of_stop signer side a (place_of side p)
 moves_of signer Meet p = []
 
 -- ---- all moves of the channel with this number, its opening first
@@ -101,7 +106,7 @@ moves_of_opening k n (step.Open o) w =
 moves_of_opening k n s w = []
 
 abbrev pub moves_in : {K : Type 0} → (k : Ghosts K) → ℕ → Step K k → World K → List machine.Move
-moves_in k n s w = moves_of_opening k n s w ++ in_channel k (λ id. moves_of k.signer) s (channel n w.channels)
+moves_in k n s w = moves_of_opening k n s w ++ in_channel k (λ id. moves_of k.signer) s w (channel n w.channels)
 
 abbrev pub history : {K : Type 0} → (k : Ghosts K) → ℕ → List (Step K k) → World K → List machine.Move
 history k n ss w = over k (moves_in k n) ss w
@@ -120,22 +125,26 @@ abbrev pub act_tells : {K : Type 0} → (K → Signer) → Act → Place K → L
 act_tells signer act.Deliver p = delivery_tells signer p.inbox p.link
 act_tells signer (act.Send c) p = outputs_of (commanded (signer p.link.keys) p.link c)
 
--- the end of this side, in a move
+-- the end of this side, in a move; what it handed out before its node stopped it has told, though nobody heard it
 abbrev pub tells : {K : Type 0} → (K → Signer) → Role → Move → Both K → List Output
 tells signer Funder (By Funder a) p = act_tells signer a p.x
 tells signer Funder (By Fundee a) p = []
 tells signer Funder (Falls side) p = []
 tells signer Funder (Restarts side) p = []
+tells signer Funder (Stops Funder a) p = act_tells signer a p.x
+tells signer Funder (Stops Fundee a) p = []
 tells signer Funder Meet p = outputs_of (greeting signer p.x.link)
 tells signer Fundee (By Funder a) p = []
 tells signer Fundee (By Fundee a) p = act_tells signer a p.y
 tells signer Fundee (Falls side) p = []
 tells signer Fundee (Restarts side) p = []
+tells signer Fundee (Stops Funder a) p = []
+tells signer Fundee (Stops Fundee a) p = act_tells signer a p.y
 tells signer Fundee Meet p = outputs_of (greeting signer p.y.link)
 
 -- the end of this side of the channel with this number, since it was opened
 abbrev pub told_in : {K : Type 0} → (k : Ghosts K) → ℕ → Role → Step K k → World K → List Output
-told_in k n side s w = in_channel k (λ id. tells k.signer side) s (channel n w.channels)
+told_in k n side s w = in_channel k (λ id. tells k.signer side) s w (channel n w.channels)
 
 abbrev pub all_told : {K : Type 0} → (k : Ghosts K) → ℕ → Role → List (Step K k) → World K → List Output
 all_told k n side ss w = over k (told_in k n side) ss w

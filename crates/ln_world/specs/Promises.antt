@@ -145,6 +145,8 @@ BringsFit k (step.Open o) = HavePoints (k.signer o.keys.funder) × HavePoints (k
 BringsFit k (step.Do e a) = Unit {0}
 BringsFit k (step.Down e) = Unit {0}
 BringsFit k (step.Restart n) = Unit {0}
+BringsFit k (step.StopBefore e a) = Unit {0}
+BringsFit k (step.StopAfter e a) = Unit {0}
 BringsFit k (step.Up n) = Unit {0}
 
 abbrev pub Each : {A : Type 0} → (A → Type 0) → List A → Type 0

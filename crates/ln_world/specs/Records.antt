@@ -36,6 +36,8 @@ IsStep k (step.Open o) = HaveSecrets (k.signer o.keys.funder) × HaveSecrets (k.
 IsStep k (step.Do e a) = IsAct a
 IsStep k (step.Down e) = Unit {0}
 IsStep k (step.Restart n) = Unit {0}
+IsStep k (step.StopBefore e a) = Unit {0}
+IsStep k (step.StopAfter e a) = IsAct a
 IsStep k (step.Up n) = Unit {0}
 
 abbrev pub AreSteps : {K : Type 0} → (k : Ghosts K) → List (Step K k) → Type 0

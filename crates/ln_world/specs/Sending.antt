@@ -12,7 +12,8 @@ use Rattle.ln_pair.specs.Promises.{AddsBefore}
 use Rattle.ln_world.specs.declared.step.Act.{Act}
 use Rattle.ln_world.specs.declared.step.Act.TheVariants as act
 use Rattle.ln_world.specs.declared.step.Step.{Step}
-use Rattle.ln_world.specs.Both.{Both, Place, Move, By, Falls, Restarts, Meet, sent_by, greets, greeting}
+use Rattle.ln_world.specs.Both.{Both, Place, Move, By, Falls, Restarts, Stops, Meet, sent_by, greets}
+use Rattle.ln_world.specs.Both.{greeting}
 use Rattle.ln_world.specs.World.{World, channel}
 use Rattle.ln_world.specs.Course.{in_channel, over}
 
@@ -26,24 +27,28 @@ abbrev pub act_sends : {K : Type 0} → (K → Signer) → List ℕ → Act → 
 act_sends signer id act.Deliver p = delivery_sends signer id p.inbox p.link
 act_sends signer id (act.Send c) p = sent_by id (commanded (signer p.link.keys) p.link c)
 
--- the end of this side
+-- the end of this side; what it handed out before its node stopped it has sent, though nobody gets it
 abbrev pub sends : {K : Type 0} → (K → Signer) → Role → List ℕ → Move → Both K → List Message
 sends signer Funder id (By Funder a) p = act_sends signer id a p.x
 sends signer Funder id (By Fundee a) p = []
 sends signer Funder id (Falls side) p = []
 sends signer Funder id (Restarts side) p = []
+sends signer Funder id (Stops Funder a) p = act_sends signer id a p.x
+sends signer Funder id (Stops Fundee a) p = []
 sends signer Funder id Meet p = greets (greeting signer p.x.link)
 sends signer Fundee id (By Funder a) p = []
 sends signer Fundee id (By Fundee a) p = act_sends signer id a p.y
 sends signer Fundee id (Falls side) p = []
 sends signer Fundee id (Restarts side) p = []
+sends signer Fundee id (Stops Funder a) p = []
+sends signer Fundee id (Stops Fundee a) p = act_sends signer id a p.y
 sends signer Fundee id Meet p = greets (greeting signer p.y.link)
 
 -- ---- over a list of steps
 
 -- the end of this side of the channel with this number, since it was opened
 abbrev pub sent_in : {K : Type 0} → (k : Ghosts K) → ℕ → Role → Step K k → World K → List Message
-sent_in k n side s w = in_channel k (sends k.signer side) s (channel n w.channels)
+sent_in k n side s w = in_channel k (sends k.signer side) s w (channel n w.channels)
 
 abbrev pub all_sent : {K : Type 0} → (k : Ghosts K) → ℕ → Role → List (Step K k) → World K → List Message
 all_sent k n side ss w = over k (sent_in k n side) ss w

@@ -1,10 +1,12 @@
 -- Nodes with what was set for them, the channels between them, what a step makes of them, and what is told of it.
-use Rattle.std.specs.Prelude.{◌≡◌, ℕ, zero, suc, List, [], ◌∷◌, ◌++◌, map, Bool, not, ◌==◌, ◌&&◌, ⊤}
+use Rattle.std.specs.Prelude.{◌≡◌, ℕ, zero, suc, List, [], ◌∷◌, ◌++◌, map, Bool, false, not, ◌==◌, ◌&&◌, ⊤}
 use Rattle.std.specs.Prelude.{Option, Some, None, is_none, if◌then◌else◌}
 use Rattle.ln_keys.specs.declared.keys.ChannelKeys.{Ghosts}
 use Rattle.ln_keys.specs.declared.role.Role.TheVariants.{Funder, Fundee}
 use Rattle.ln_keys.specs.Signer.{Signer}
 use Rattle.ln_channel.specs.Standing.{standing}
+use Rattle.ln_world.specs.declared.step.Act.{Act}
+use Rattle.ln_world.specs.declared.step.End.{End}
 use Rattle.ln_world.specs.declared.step.Node.{Node}
 use Rattle.ln_world.specs.declared.step.Open.{Open}
 use Rattle.ln_world.specs.declared.step.Step.{Step}
@@ -17,7 +19,8 @@ use Rattle.ln_world.specs.declared.line.EndLine.{EndLine}
 use Rattle.ln_world.specs.Settings.{defaults, may_bring}
 use Rattle.ln_world.specs.Both.{Move}
 use Rattle.ln_world.specs.Channel.{Channel, is_node, moved, opened_by, act_moves, fall_moves, restart_moves, up_moves}
-use Rattle.ln_world.specs.Channel.{end_of, side_of, actor, acted_lines, fallen_lines, met_lines}
+use Rattle.ln_world.specs.Channel.{end_of, side_of, actor, acted_lines, fallen_lines, met_lines, stop_moves, may_act}
+use Rattle.ln_world.specs.Channel.{acted_unheard}
 
 pub record World (K : Type 0) : Type 0 where
   pub settings : List Setting  -- a node that isn't among them has the defaults
@@ -52,8 +55,11 @@ abbrev pub AreOnce : {K : Type 0} → List (Channel K) → Type 0
 AreOnce [] = ⊤
 AreOnce (c ∷ cs) = (channel c.number cs ≡ None) × AreOnce cs
 
+abbrev pub changed_if : {K : Type 0} → ℕ → (Channel K → Channel K) → Channel K → Channel K
+changed_if n f c = if c.number == n then f c else c
+
 abbrev pub moved_if : {K : Type 0} → (K → Signer) → ℕ → (Channel K → List Move) → Channel K → Channel K
-moved_if signer n f c = if c.number == n then moved signer f c else c
+moved_if signer n f c = changed_if n (moved signer f) c
 
 -- each channel of this number moves so, and the others stay
 abbrev pub moved_at : {K : Type 0} → (K → Signer) → ℕ → (Channel K → List Move) → List (Channel K) → List (Channel K)
@@ -86,6 +92,32 @@ opens k o w =
     then joined (opened_by k o (settings_of o.funder w.settings) (settings_of o.fundee w.settings)) w
     else w
 
+-- ---- a node that stops round an act of one of its ends
+
+-- whether the end is there, and can act so
+abbrev pub may_act_there : {K : Type 0} → Node → Act → Option (Channel K) → Bool
+may_act_there n a None = false
+may_act_there n a (Some c) = may_act n a c
+
+abbrev pub may_be_done : {K : Type 0} → End → Act → List (Channel K) → Bool
+may_be_done e a cs = may_act_there e.node a (channel e.channel cs)
+
+-- as the act leaves its end, whoever gets what it hands out
+abbrev pub unheard_at : {K : Type 0} → (K → Signer) → End → Act → List (Channel K) → List (Channel K)
+unheard_at signer e a cs = map (changed_if e.channel (acted_unheard signer e.node a)) cs
+
+-- the node stops before the act, and the act is never begun
+abbrev pub stops_before : {K : Type 0} → (K → Signer) → End → Act → World K → World K
+stops_before signer e a w =
+    if may_be_done e a w.channels then everywhere signer (restart_moves e.node) w else w
+
+-- the node stops behind the act's save
+abbrev pub stops_after : {K : Type 0} → (K → Signer) → End → Act → World K → World K
+stops_after signer e a w = if may_be_done e a w.channels then everywhere signer (stop_moves e a) w else w
+
+abbrev pub stop_lines : {K : Type 0} → End → Act → World K → List Line
+stop_lines e a w = if may_be_done e a w.channels then line.Restarts e.node ∷ [] else line.Idle ∷ []
+
 -- ---- what a step makes of a world
 
 abbrev pub happens : {K : Type 0} → (k : Ghosts K) → Step K k → World K → World K
@@ -95,6 +127,8 @@ happens k (step.Open o) w = opens k o w
 happens k (step.Do e a) w = at k.signer e.channel (act_moves e.node a) w
 happens k (step.Down e) w = at k.signer e.channel (fall_moves e.node) w
 happens k (step.Restart n) w = everywhere k.signer (restart_moves n) w
+happens k (step.StopBefore e a) w = stops_before k.signer e a w
+happens k (step.StopAfter e a) w = stops_after k.signer e a w
 happens k (step.Up n) w = at k.signer n up_moves w
 
 abbrev pub run : {K : Type 0} → (k : Ghosts K) → List (Step K k) → World K → World K
@@ -119,6 +153,8 @@ step_lines k (step.Do e a) w =
     if_there (λ c. acted_lines k.signer a c (actor e.node a c)) (channel e.channel w.channels)
 step_lines k (step.Down e) w = if_there (λ c. fallen_lines (side_of e.node c)) (channel e.channel w.channels)
 step_lines k (step.Restart n) w = []
+step_lines k (step.StopBefore e a) w = stop_lines e a w
+step_lines k (step.StopAfter e a) w = stop_lines e a w
 step_lines k (step.Up n) w = if_there (met_lines k.signer) (channel n w.channels)
 
 abbrev pub run_lines : {K : Type 0} → (k : Ghosts K) → List (Step K k) → World K → List Line

@@ -9,7 +9,7 @@ ghost use Rattle.ln_world.specs.Lines.{lines_of, replies, refused_lines};
 ghost use Rattle.ln_channel.specs.Record.{saved_end};
 ghost use Rattle.ln_channel.specs.State.{numbers_of};
 ghost use Rattle.ln_world.specs.Both.{reaches, sent_by, answer_lines, said_by, delivers, delivered_lines, acts};
-ghost use Rattle.ln_world.specs.Both.{act_lines};
+ghost use Rattle.ln_world.specs.Both.{act_lines, delivered_unheard, unheard};
 ghost use Rattle.ln_world.specs.Both.{greeting, greets, greet_lines, meet};
 
 use crate::answer::{Answer, command as obey, connect, handle};
@@ -61,6 +61,7 @@ impl<K: ChannelKeys + Copy> Place<K> {
     ghost use Rattle.ln_pair.specs.Ends.{messages_in};
     ghost use Rattle.ln_world.specs.Lines.{one_or_none};
     ghost use Rattle.ln_world.specs.Both.{reaches, fallen, restarted, may_come_up};
+    ghost use Rattle.ln_world.specs.Channel.{may_do};
     ghost use Rattle.ln_world.specs.Failing.{ByRecord, LinkLacks};
 
     /// An end without a connection, and nothing in flight to it. Takes no memory.
@@ -113,6 +114,16 @@ impl<K: ChannelKeys + Copy> Place<K> {
         ensures { result ≡ may_come_up self.now.link }
     {
         self.link.line().is_down() && !self.link.is_halted()
+    }
+
+    /// Whether it can act so: a message is in flight to it, or it is given a command.
+    pub(crate) fn may_do(&self, what: &Act) -> bool
+        ensures { result ≡ may_do what.now self.now }
+    {
+        match what {
+            Act::Deliver => !self.inbox.is_empty(),
+            Act::Send(_) => true,
+        }
     }
 
     /// It loses its connection, and what is in flight to it.
@@ -282,6 +293,46 @@ pub(crate) fn act<K: ChannelKeys + Copy>(
     match act {
         Act::Deliver => deliver(alloc, end, x, y, lines),
         Act::Send(command) => give(alloc, end, x, y, command, lines),
+    }
+}
+
+/// The end takes the oldest message in flight to it; what it hands out is lost. 60 where there is no memory.
+fn deliver_unheard<K: ChannelKeys + Copy>(alloc: Global, x: &mut Place<K>) -> Result<(), Refusal>
+    ensures acted { OnOk result (x.new ≡ delivered_unheard K.signer x.old.inbox x.old) }
+    ensures fails_for_memory_alone { IfErr result (λ e. e ≡ refusal.Memory) }
+{
+    let Some(message) = x.inbox.pop_front() else {
+        return Ok(());
+    };
+    drop(handle(alloc, &mut x.link, message)?);
+    Ok(())
+}
+
+/// The end is given a command; what it hands out is lost. 60 where there is no memory.
+fn give_unheard<K: ChannelKeys + Copy>(
+    alloc: Global,
+    x: &mut Place<K>,
+    command: Command,
+) -> Result<(), Refusal>
+    ensures acted { OnOk result (x.new ≡ unheard K.signer (act.Send command) x.old) }
+    ensures fails_for_memory_alone { IfErr result (λ e. e ≡ refusal.Memory) }
+{
+    drop(obey(alloc, &mut x.link, command)?);
+    Ok(())
+}
+
+/// The end acts; what it hands out is lost. 60 where there is no memory.
+pub(crate) fn act_unheard<K: ChannelKeys + Copy>(
+    alloc: Global,
+    x: &mut Place<K>,
+    act: Act,
+) -> Result<(), Refusal>
+    ensures acted { OnOk result (x.new ≡ unheard K.signer act x.old) }
+    ensures fails_for_memory_alone { IfErr result (λ e. e ≡ refusal.Memory) }
+{
+    match act {
+        Act::Deliver => deliver_unheard(alloc, x),
+        Act::Send(command) => give_unheard(alloc, x, command),
     }
 }
 

@@ -5,7 +5,7 @@ ghost use Rattle.ln_msgs.specs.declared.refusals.refusal.Refusal.TheVariants as 
 ghost use Rattle.ln_world.specs.Settings.{CanBring};
 ghost use Rattle.ln_world.specs.Channel.{opened_by, begun_by};
 
-use crate::both::{Place, act, meet};
+use crate::both::{Place, act, act_unheard, meet};
 use crate::line::{EndLine, Line};
 use crate::settings::{Settings, fit_config, fit_spec};
 use crate::step::{Act, End, Node, Open};
@@ -45,6 +45,7 @@ impl<K: ChannelKeys + Copy> Channel<K> {
     ghost use Rattle.ln_world.specs.Both.{By, Falls, Restarts, Meet, act_lines, greet_lines, greeting};
     ghost use Rattle.ln_world.specs.Channel.{side_of, actor, moved, act_moves, fall_moves, up_moves, acted_lines};
     ghost use Rattle.ln_world.specs.Channel.{restart_moves, fallen_lines, place_of, end_of, opening_moves, met_lines};
+    ghost use Rattle.ln_world.specs.Channel.{may_act, acted_unheard};
     ghost use Rattle.ln_channel.specs.Standing.{standing};
     ghost use Rattle.ln_world.specs.World.{lines_of_ends};
     ghost use Rattle.ln_world.specs.Failing.{ByRecord, SideLacks};
@@ -159,6 +160,38 @@ impl<K: ChannelKeys + Copy> Channel<K> {
                 Ok(())
             }
             Some(side) => self.act_by(alloc, side, what, lines),
+        }
+    }
+
+    /// Whether the node's end can act so: it has one, no decision is sent, and a message is there where one is to be
+    /// taken.
+    pub(crate) fn may_act(&self, node: Node, what: &Act) -> bool
+        ensures { result ≡ may_act node what.now self.now }
+    {
+        match self.actor(node, what) {
+            None => false,
+            Some(side) => self.place(side).may_do(what),
+        }
+    }
+
+    /// The node's end acts, where it has one; what it hands out is lost. 60 where there is no memory.
+    pub(crate) fn act_unheard(
+        &mut self,
+        alloc: Global,
+        node: Node,
+        what: Act,
+    ) -> Result<(), Refusal>
+        ensures acted { OnOk result (self.new ≡ acted_unheard K.signer node what self.old) }
+        ensures number { self.new.number ≡ self.old.number }
+        ensures fails_for_memory_alone { IfErr result (λ e. e ≡ Refusal.Memory) }
+    {
+        match self.side_of(node) {
+            None => {
+                drop(what);
+                Ok(())
+            }
+            Some(Role::Funder) => act_unheard(alloc, &mut self.funder, what),
+            Some(Role::Fundee) => act_unheard(alloc, &mut self.fundee, what),
         }
     }
 

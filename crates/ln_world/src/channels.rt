@@ -4,7 +4,9 @@ ghost use Rattle.std.specs.Prelude.{◌≡◌, ◌++◌, ◌==◌, position, is_
 ghost use Rattle.ln_msgs.specs.declared.refusals.refusal.Refusal.TheVariants as refusal;
 ghost use Rattle.ln_world.specs.Channel.{side_of, actor, acted_lines, fallen_lines, met_lines};
 ghost use Rattle.ln_world.specs.Channel.{act_moves, fall_moves, restart_moves, up_moves};
+ghost use Rattle.ln_world.specs.Channel.{stop_moves};
 ghost use Rattle.ln_world.specs.World.{channel, moved_at, all_moved, if_there, lines_of_ends, AreOnce};
+ghost use Rattle.ln_world.specs.World.{may_be_done, unheard_at};
 ghost use Rattle.ln_world.specs.Failing.{ByRecord, SomeLacks};
 
 use crate::channel::{Channel, open_channel};
@@ -112,6 +114,54 @@ fn restart_each<K: ChannelKeys + Copy>(
     Ok(())
 }
 
+/// Whether an end can act so: its channel is there.
+fn may_act_at<K: ChannelKeys + Copy>(channels: &[Channel<K>], end: End, what: &Act) -> bool
+    ensures { result ≡ may_be_done end what.now channels.now }
+{
+    match place_of(channels, end.channel) {
+        None => false,
+        Some(i) => channels[i].may_act(end.node, what),
+    }
+}
+
+/// An end acts, where its channel is there; what it hands out is lost. 60 where there is no memory.
+fn act_unheard_at<K: ChannelKeys + Copy>(
+    alloc: Global,
+    channels: &mut [Channel<K>],
+    end: End,
+    what: Act,
+) -> Result<(), Refusal>
+    requires { AreOnce channels.old }
+    ensures acted { OnOk result (channels.new ≡ unheard_at K.signer end what channels.old) }
+    ensures once { AreOnce channels.new }
+    ensures fails_for_memory_alone { IfErr result (λ e. e ≡ refusal.Memory) }
+{
+    match place_of(channels, end.channel) {
+        None => {
+            drop(what);
+            Ok(())
+        }
+        Some(i) => channels[i].act_unheard(alloc, end.node, what),
+    }
+}
+
+/// An end acts, and then its node stops, and comes back as it was saved. 60 where there is no memory, 70 where an end
+/// has no record.
+fn stop_each<K: ChannelKeys + Copy>(
+    alloc: Global,
+    channels: &mut [Channel<K>],
+    end: End,
+    what: Act,
+) -> Result<(), Refusal>
+    requires { AreOnce channels.old }
+    ensures moved { OnOk result (channels.new ≡ all_moved K.signer (stop_moves end what) channels.old) }
+    ensures once { AreOnce channels.new }
+    ensures fails { IfErr result (λ e. ByRecord e (SomeLacks end.node (unheard_at K.signer end what channels.old))) }
+{
+    act_unheard_at(alloc, channels, end, what)?;
+    restart_each(alloc, channels, end.node)
+}
+
 /// Both ends of a channel get a connection, where it is there and they may. 60 where there is no memory.
 fn come_up_at<K: ChannelKeys + Copy>(
     alloc: Global,
@@ -158,7 +208,9 @@ impl<K: ChannelKeys + Copy> Channels<K> {
     ghost use Rattle.ln_world.specs.Settings.{CanBring};
     ghost use Rattle.ln_world.specs.Channel.{side_of, actor, acted_lines, fallen_lines, met_lines, opened_by};
     ghost use Rattle.ln_world.specs.Channel.{act_moves, fall_moves, restart_moves, up_moves};
+    ghost use Rattle.ln_world.specs.Channel.{stop_moves};
     ghost use Rattle.ln_world.specs.World.{channel, moved_at, all_moved, if_there, lines_of_ends};
+    ghost use Rattle.ln_world.specs.World.{may_be_done, unheard_at};
     ghost use Rattle.ln_world.specs.Failing.{ByRecord, SomeLacks};
 
     /// No channel. Takes no memory.
@@ -228,6 +280,22 @@ impl<K: ChannelKeys + Copy> Channels<K> {
         ensures fails { IfErr result (λ e. ByRecord e (SomeLacks node self.old)) }
     {
         restart_each(alloc, &mut self.items, node)
+    }
+
+    /// Whether an end can act so.
+    pub(crate) fn may_act(&self, end: End, what: &Act) -> bool
+        ensures { result ≡ may_be_done end what.now self.now }
+    {
+        may_act_at(&self.items, end, what)
+    }
+
+    /// An end acts, and then its node stops: what the act hands out is lost, and each end of the node comes back from
+    /// its record. 60 where there is no memory, 70 where an end has no record.
+    pub(crate) fn stop(&mut self, alloc: Global, end: End, what: Act) -> Result<(), Refusal>
+        ensures moved { OnOk result (self.new ≡ all_moved K.signer (stop_moves end what) self.old) }
+        ensures fails { IfErr result (λ e. ByRecord e (SomeLacks end.node (unheard_at K.signer end what self.old))) }
+    {
+        stop_each(alloc, &mut self.items, end, what)
     }
 
     /// Both ends of a channel get a connection, where it is there and they may. 60 where there is no memory.

@@ -1,6 +1,6 @@
 //! What a step did, line by line.
 
-use crate::step::End;
+use crate::step::{End, Node};
 use ln_channel::Standing;
 use ln_msgs::Refusal;
 
@@ -88,6 +88,8 @@ pub enum Line {
     },
     /// A command or a message was refused by an end.
     Refused(End, Refusal),
+    /// A node stopped, and restarts.
+    Restarts(Node),
     /// The step couldn't be taken.
     Idle,
 }

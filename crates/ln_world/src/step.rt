@@ -75,6 +75,11 @@ pub enum Step<K: ChannelKeys + Copy> {
     /// A node restarts: each of its ends comes back from its record, without a connection, and what is in flight to it
     /// is lost.
     Restart(Node),
+    /// A node stops before an end of it acts, where that can act: the act isn't begun, and the node restarts.
+    StopBefore(End, Act),
+    /// A node stops as an end of it has acted and saved, where that can act: what the act hands out is lost, and the
+    /// node restarts.
+    StopAfter(End, Act),
     /// Both ends of the channel with this number get a connection.
     Up(u8),
 }

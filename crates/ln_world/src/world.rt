@@ -100,6 +100,55 @@ impl<K: ChannelKeys + Copy> World<K> {
         Ok(())
     }
 
+    /// The end's node stops before that acts, where it can act. 60 where there is no memory, 70 where an end of the
+    /// node has no record.
+    fn stop_before(
+        &mut self,
+        alloc: Global,
+        end: End,
+        what: Act,
+        lines: &mut Vec<Line>,
+    ) -> Result<(), Refusal>
+        ensures world { OnOk result (self.new ≡ happens K.ChannelKeys (step.StopBefore end what) self.old) }
+        ensures told { OnOk result (lines.new.items
+            ≡ lines.old.items ++ step_lines K.ChannelKeys (step.StopBefore end what) self.old) }
+        ensures fails { IfErr result (λ e. MayFail K.ChannelKeys (step.StopBefore end what) e self.old) }
+    {
+        let may_act = self.channels.may_act(end, &what);
+        drop(what);
+        if !may_act {
+            lines.push(Line::Idle)?;
+            return Ok(());
+        }
+        self.channels.restart(alloc, end.node)?;
+        lines.push(Line::Restarts(end.node))?;
+        Ok(())
+    }
+
+    /// The end's node stops behind the act's save, where it can act. 60 where there is no memory, 70 where an end of
+    /// the node has no record.
+    fn stop_after(
+        &mut self,
+        alloc: Global,
+        end: End,
+        what: Act,
+        lines: &mut Vec<Line>,
+    ) -> Result<(), Refusal>
+        ensures world { OnOk result (self.new ≡ happens K.ChannelKeys (step.StopAfter end what) self.old) }
+        ensures told { OnOk result (lines.new.items
+            ≡ lines.old.items ++ step_lines K.ChannelKeys (step.StopAfter end what) self.old) }
+        ensures fails { IfErr result (λ e. MayFail K.ChannelKeys (step.StopAfter end what) e self.old) }
+    {
+        if !self.channels.may_act(end, &what) {
+            drop(what);
+            lines.push(Line::Idle)?;
+            return Ok(());
+        }
+        self.channels.stop(alloc, end, what)?;
+        lines.push(Line::Restarts(end.node))?;
+        Ok(())
+    }
+
     /// What happens in a step, and what is told of it, which joins the lines.
     ///
     /// What was set for a node counts in the channels that are opened from then on. A channel opens (BOLT 2, "Channel
@@ -107,9 +156,11 @@ impl<K: ChannelKeys + Copy> World<K> {
     /// bring; an end acts or loses its connection where its channel is there and the node has an end of it, and takes a
     /// message where one is in flight to it; both ends of a channel get a connection where both are down and neither
     /// has halted. Else nothing changes, and `Line::Idle` is told. Where a node restarts, each of its ends has its
-    /// record written and comes back from it; nothing is told of that, nor where the node has no end.
+    /// record written and comes back from it; nothing is told of that, nor where the node has no end. Where it stops
+    /// before or after an act of one of its ends, which has to be one that can act, `Line::Restarts` is told, and
+    /// nothing of the act.
     ///
-    /// Errors: 60 where there is no memory; at a restart 70 where an end of the node has no record.
+    /// Errors: 60 where there is no memory; at a restart or a stop 70 where an end of the node has no record.
     pub fn step(
         &mut self,
         alloc: Global,
@@ -127,6 +178,8 @@ impl<K: ChannelKeys + Copy> World<K> {
             Step::Do(end, what) => self.channels.act(alloc, end, what, lines),
             Step::Down(end) => self.channels.fall(end, lines),
             Step::Restart(node) => self.channels.restart(alloc, node),
+            Step::StopBefore(end, what) => self.stop_before(alloc, end, what, lines),
+            Step::StopAfter(end, what) => self.stop_after(alloc, end, what, lines),
             Step::Up(number) => self.channels.come_up(alloc, number, lines),
         }
     }
