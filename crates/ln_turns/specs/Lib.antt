@@ -4,3 +4,10 @@ pub mod Kind
 pub mod Act
 pub mod Sent
 pub mod Turn
+pub mod Phase
+pub mod Turns
+pub mod Course
+pub mod Wire
+pub mod Worker
+pub mod Bench
+pub mod Saved

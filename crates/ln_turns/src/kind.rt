@@ -6,7 +6,7 @@ ghost use Rattle.ln_turns.specs.Kind.{kind_of};
 use ln_msgs::Message;
 
 /// What a message is about (BOLT 1 and 2).
-#[derive(Clone, Copy, Debug)]
+#[derive(Clone, Copy)]
 pub enum Kind {
     /// Its connection, and it asks for no answer: init and pong.
     OfConnection,

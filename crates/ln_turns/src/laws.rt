@@ -1,13 +1,32 @@
-//! A law of relays.
+//! Laws of what workers and dispatchers do.
 
-ghost use Rattle.std.specs.Prelude.{◌≡◌, List, []};
+ghost use Rattle.std.specs.Prelude.{◌≡◌, ◌++◌, ◌∷◌, ◌-◌, ℕ, map, List, []};
+ghost use Rattle.ln_hooks.specs.declared.event.ChannelEvent.{ChannelEvent};
+ghost use Rattle.ln_msgs.specs.declared.messages.message.Message.{Message};
 ghost use Rattle.ln_relay.specs.Place.{IsMergeOfAll};
 ghost use Rattle.ln_turns.specs.declared.task.Task.{Task};
 ghost use Rattle.ln_turns.specs.Served.{events_in, Begins};
+ghost use Rattle.ln_turns.specs.Turns.{Glance, Began, told, tasks};
+ghost use Rattle.ln_turns.specs.Course.{segment, next_of, Tells};
+
+use crate::end::End;
+use crate::wire::Closes;
 
 /// Where one sender of a dispatcher's relay puts events and the other none, the events that are taken begin those
 /// that were put: each once, in order, and none else.
 pub fn hooks_follow<H: Drop>()
     ensures { (first second taken : List (Task H)) → IsMergeOfAll first second taken → events_in second ≡ []
         → Begins (events_in taken) (events_in first) }
+{}
+
+/// Where the events that are pending at the start of a worker's loop, those of each turn's outputs and those that are
+/// pending behind each load are events of one channel, one behind the other by their numbers, and each list begins no
+/// later than behind those that were told before, then exactly these events are put for its dispatcher: each once, in
+/// order, none left out and none else.
+pub fn every_event_is_put<E: End + Drop, W: Closes + Drop, H: Drop>()
+    ensures { (greeting : Message) (known : List ℕ) (a b : Glance E.State W H)
+        (began : Began E.acts E.halted E.pending W.contents greeting known a b)
+        (event : ℕ → ChannelEvent) (first end : ℕ)
+        → Tells event first (next_of first a.last) (E.pending a.stand.end ∷ map told began.ran.turns) end
+        → b.put ≡ a.put ++ tasks (segment event (end - next_of first a.last) (next_of first a.last)) }
 {}

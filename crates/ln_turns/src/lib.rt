@@ -2,6 +2,7 @@
 //! take, turn by turn (BOLT 1 and 2). Threads and sockets are the caller's.
 #![tactic(auto)]
 
+mod bench;
 mod books;
 mod dispatch;
 mod end;
@@ -9,15 +10,22 @@ mod item;
 mod kind;
 mod laws;
 mod reader;
+mod saved;
 mod task;
 mod turn;
+mod wire;
+mod worker;
 
+pub use bench::{Bench, worker_loop};
 pub use books::Books;
 pub use dispatch::{Table, dispatch_loop};
 pub use end::End;
 pub use item::Item;
 pub use kind::Kind;
-pub use laws::hooks_follow;
+pub use laws::{every_event_is_put, hooks_follow};
 pub use reader::{put, reader_loop};
+pub use saved::SavedLink;
 pub use task::Task;
 pub use turn::{Obeyed, obey_turn, worker_turn};
+pub use wire::{Closes, Wire};
+pub use worker::{Phase, Turned, Worker};

@@ -1,0 +1,356 @@
+//! A worker: an end of a channel, and the connection that it has.
+
+ghost use Rattle.std.specs.Prelude.{◌≡◌, None, [], true, false, option_copied};
+ghost use Rattle.ln_msgs.specs.Pings.CountedView.{inner_of};
+ghost use Rattle.ln_turns.specs.Sent.{shown};
+ghost use Rattle.ln_turns.specs.Turn.{IsTurn};
+ghost use Rattle.ln_turns.specs.declared.item.Item.TheVariants as item;
+ghost use Rattle.ln_turns.specs.declared.worker.Phase.TheVariants as phase;
+ghost use Rattle.ln_turns.specs.Phase.{is_lost, is_refused, init_in, Greets};
+ghost use Rattle.ln_turns.specs.Wire.{contents_in};
+
+use crate::end::End;
+use crate::item::Item;
+use crate::turn::{Obeyed, obey_turn, worker_turn};
+use crate::wire::{Closes, Wire};
+use ln_channel::{Command, Output};
+use ln_hooks::ChannelEvent;
+use ln_msgs::{Counted, Init, Message, Refusal, check_init};
+use std::alloc::Global;
+use std::sync::Wait;
+use std::{mem, thread};
+
+/// How far a connection is (BOLT 1, "The `init` Message").
+#[derive(Clone, Copy, PartialEq, Eq)]
+pub enum Phase {
+    /// There is none: nothing is written, and what was read is passed over.
+    Cut,
+    /// The peer was greeted, and its init is awaited.
+    Greeting,
+    /// It came.
+    On,
+}
+
+/// An end, and the connection that it has.
+#[derive(Drop)]
+pub struct Worker<E: Drop, W: Drop> {
+    /// The end.
+    pub end: E,
+    /// The writer.
+    pub line: Counted<Wire<W>>,
+    /// How far its connection is.
+    pub phase: Phase,
+    /// The number of the last event that was put.
+    pub last: Option<u64>,
+}
+
+/// What an item came to.
+#[derive(Drop)]
+pub struct Turned {
+    /// What the end handed out.
+    pub outputs: Vec<Output>,
+    /// What was answered.
+    pub answer: Result<(), Refusal>,
+    /// Whether the item was served.
+    pub served: bool,
+}
+
+// Whether not all was written by a turn that answered so.
+fn is_lost(answer: Result<(), Refusal>) -> bool
+    ensures { result ≡ is_lost answer }
+{
+    match answer {
+        Ok(()) => false,
+        Err(refusal) => {
+            let number = refusal.number();
+            number == 7 || number == 60 || number == 63
+        }
+    }
+}
+
+fn is_refused(answer: Result<(), Refusal>) -> bool
+    ensures { result ≡ is_refused answer }
+{
+    match answer {
+        Ok(()) => false,
+        Err(_) => true,
+    }
+}
+
+fn init_in(message: &Message) -> Option<&Init>
+    ensures { option_copied result ≡ init_in message.now }
+{
+    match message {
+        Message::Init(init) => Some(init),
+        _ => None,
+    }
+}
+
+// How far a connection is behind the peer's first message.
+fn greeted(message: &Message, known: &[u16]) -> Phase
+    ensures { Greets known.now (init_in message.now) result }
+{
+    match init_in(message) {
+        None => Phase::Cut,
+        Some(init) => match check_init(init, known) {
+            Ok(()) => Phase::On,
+            Err(_) => Phase::Cut,
+        },
+    }
+}
+
+// An item that was served.
+fn served(outputs: Vec<Output>, answer: Result<(), Refusal>) -> Turned
+    ensures { result ≡ record { outputs = outputs; answer = answer; served = true } }
+{
+    Turned {
+        outputs,
+        answer,
+        served: true,
+    }
+}
+
+// An item that was passed over.
+fn passed(alloc: Global) -> Turned
+    ensures outputs { result.outputs.items ≡ [] }
+    ensures passed { result.served ≡ false }
+{
+    Turned {
+        outputs: Vec::new(alloc),
+        answer: Ok(()),
+        served: false,
+    }
+}
+
+impl<E: End + Drop, W: Closes + Drop> Worker<E, W> {
+    ghost use Rattle.std.specs.Prelude.{◌≡◌, None, Option, List, ℕ, Bool, Ok, [], true, false};
+    ghost use Rattle.ln_turns.specs.Worker.{stand};
+    ghost use Rattle.ln_turns.specs.Phase.{Hears, kept_line};
+    ghost use Rattle.ln_turns.specs.Turns.{Leaves, Step, turn_of, load_of, told_behind, Obeys};
+
+    /// An end without a connection, none of whose events was put. Takes no memory.
+    pub fn new(end: E) -> Worker<E, W>
+        ensures end { result.end ≡ end }
+        ensures cut { result.phase ≡ phase.Cut }
+        ensures none_put { result.last ≡ None }
+    {
+        Worker {
+            end,
+            line: Counted::new(Wire::Cut),
+            phase: Phase::Cut,
+            last: None,
+        }
+    }
+
+    // There is no connection any more.
+    fn cut(&mut self)
+        ensures end { self.new.end ≡ self.old.end }
+        ensures phase { self.new.phase ≡ phase.Cut }
+        ensures line { contents_in W.contents (inner_of self.new.line) ≡ None }
+        ensures last { self.new.last ≡ self.old.last }
+    {
+        let line = mem::replace(&mut self.line, Counted::new(Wire::Cut));
+        line.into_inner().close();
+        self.phase = Phase::Cut;
+    }
+
+    // Without a connection what is written is lost.
+    fn mind(&mut self)
+        ensures end { self.new.end ≡ self.old.end }
+        ensures phase { self.new.phase ≡ self.old.phase }
+        ensures line { contents_in W.contents (inner_of self.new.line)
+            ≡ (stand E.state W.contents self.old).line }
+        ensures last { self.new.last ≡ self.old.last }
+    {
+        if self.phase == Phase::Cut {
+            self.cut();
+        }
+    }
+
+    // Behind a turn.
+    fn settle(&mut self, over: bool)
+        ensures end { self.new.end ≡ self.old.end }
+        ensures left { Leaves E.halted self.old.phase over (contents_in W.contents (inner_of self.old.line))
+            (stand E.state W.contents self.new) }
+        ensures last { self.new.last ≡ self.old.last }
+    {
+        if over || self.end.is_halted() {
+            self.cut();
+        }
+    }
+
+    // An item that is served.
+    fn turn(&mut self, alloc: Global, item: Item<&Message>) -> (Vec<Output>, Result<(), Refusal>)
+        ensures turn { IsTurn E.acts (E.state self.old.end) (shown item.entry) result.0.items result.1
+            (E.state self.new.end) (stand E.state W.contents self.old).line
+            (contents_in W.contents (inner_of self.new.line)) }
+        ensures phase { self.new.phase ≡ self.old.phase }
+        ensures last { self.new.last ≡ self.old.last }
+    {
+        self.mind();
+        worker_turn(alloc, &mut self.end, item, &mut self.line)
+    }
+
+    // A connection.
+    fn join(&mut self, alloc: Global, greeting: &Message, writer: W) -> Turned
+        ensures turn { (known : List ℕ) → Step E.acts E.halted E.pending W.contents greeting.now known
+            (stand E.state W.contents self.old)
+            (turn_of result.served (item.Joined writer) result.outputs.items result.answer)
+            (stand E.state W.contents self.new) }
+        ensures passed { result.served ≡ false → result.outputs.items ≡ [] }
+        ensures last { self.new.last ≡ self.old.last }
+    {
+        self.line = Counted::new(Wire::Open(writer));
+        self.phase = Phase::Greeting;
+        let (outputs, answer) = self.turn(alloc, Item::Joined(greeting));
+        self.settle(is_refused(answer));
+        served(outputs, answer)
+    }
+
+    // A message that isn't served: the first of a connection must be init; without a connection all are passed over.
+    fn hear(&mut self, message: &Message, known: &[u16])
+        ensures end { self.new.end ≡ self.old.end }
+        ensures phase { Hears known.now self.old.phase message.now self.new.phase }
+        ensures line { (stand E.state W.contents self.new).line
+            ≡ kept_line self.new.phase (stand E.state W.contents self.old).line }
+        ensures last { self.new.last ≡ self.old.last }
+    {
+        if self.phase == Phase::Greeting {
+            match greeted(message, known) {
+                Phase::On => self.phase = Phase::On,
+                _ => self.cut(),
+            }
+        }
+    }
+
+    // A message.
+    fn read(&mut self, alloc: Global, message: Message, known: &[u16]) -> Turned
+        ensures turn { (greeting : Message) → Step E.acts E.halted E.pending W.contents greeting known.now
+            (stand E.state W.contents self.old)
+            (turn_of result.served (item.Read message) result.outputs.items result.answer)
+            (stand E.state W.contents self.new) }
+        ensures passed { result.served ≡ false → result.outputs.items ≡ [] }
+        ensures last { self.new.last ≡ self.old.last }
+    {
+        if self.phase != Phase::On {
+            self.hear(&message, known);
+            drop(message);
+            return passed(alloc);
+        }
+        let (outputs, answer) = self.turn(alloc, Item::Read(message));
+        self.settle(is_lost(answer));
+        served(outputs, answer)
+    }
+
+    // The connection is lost.
+    fn lose(&mut self, alloc: Global) -> Turned
+        ensures turn { (greeting : Message) (known : List ℕ)
+            → Step E.acts E.halted E.pending W.contents greeting known (stand E.state W.contents self.old)
+            (turn_of result.served item.Broken result.outputs.items result.answer)
+            (stand E.state W.contents self.new) }
+        ensures passed { result.served ≡ false → result.outputs.items ≡ [] }
+        ensures last { self.new.last ≡ self.old.last }
+    {
+        let (outputs, answer) = self.turn(alloc, Item::Broken);
+        self.cut();
+        served(outputs, answer)
+    }
+
+    // An order.
+    fn order(&mut self, alloc: Global, command: Command) -> Turned
+        ensures turn { (greeting : Message) (known : List ℕ)
+            → Step E.acts E.halted E.pending W.contents greeting known (stand E.state W.contents self.old)
+            (turn_of result.served (item.Order command) result.outputs.items result.answer)
+            (stand E.state W.contents self.new) }
+        ensures passed { result.served ≡ false → result.outputs.items ≡ [] }
+        ensures last { self.new.last ≡ self.old.last }
+    {
+        let (outputs, answer) = self.turn(alloc, Item::Order(command));
+        self.settle(is_lost(answer));
+        served(outputs, answer)
+    }
+
+    /// Serves an item of its relay, or passes it over: messages are passed over until the peer's init came, which may
+    /// ask for no even feature but the known ones. The writer is closed where the connection is lost, where a turn
+    /// couldn't write all, where the end takes no connection or has halted, and where the peer's first message isn't
+    /// such an init.
+    pub fn serve(
+        &mut self,
+        alloc: Global,
+        greeting: &Message,
+        known: &[u16],
+        item: Item<W>,
+    ) -> Turned
+        ensures turn { Step E.acts E.halted E.pending W.contents greeting.now known.now
+            (stand E.state W.contents self.old) (turn_of result.served item result.outputs.items result.answer)
+            (stand E.state W.contents self.new) }
+        ensures passed { result.served ≡ false → result.outputs.items ≡ [] }
+        ensures last { self.new.last ≡ self.old.last }
+    {
+        match item {
+            Item::Joined(writer) => self.join(alloc, greeting, writer),
+            Item::Read(message) => self.read(alloc, message, known),
+            Item::Broken => self.lose(alloc),
+            Item::Order(command) => self.order(alloc, command),
+            Item::Stop => passed(alloc),
+        }
+    }
+
+    /// A command of the book.
+    pub fn obey(&mut self, alloc: Global, command: Command) -> Obeyed
+        ensures turn { (greeting : Message) (known : List ℕ)
+            → Step E.acts E.halted E.pending W.contents greeting known (stand E.state W.contents self.old)
+            (Obeys command result.outputs.items result.answer result.written) (stand E.state W.contents self.new) }
+        ensures last { self.new.last ≡ self.old.last }
+    {
+        self.mind();
+        let obeyed = obey_turn(alloc, &mut self.end, command, &mut self.line);
+        self.settle(is_lost(obeyed.written));
+        obeyed
+    }
+
+    /// The events that aren't decided yet. Where there is no memory it yields and tries again.
+    pub fn pending<R: Wait>(&self, rt: &R, alloc: Global) -> Vec<(u64, ChannelEvent)>
+        ensures { result.items ≡ E.pending (E.state self.now.end) }
+    {
+        for _ in rt.forever() {
+            if let Ok(events) = self.end.pending_events(alloc) {
+                return events;
+            }
+            thread::yield_now();
+        }
+        unreachable!()
+    }
+
+    /// A halted end comes back from its record, without a connection. Refused, its connection is as it was.
+    pub fn load(&mut self, alloc: Global) -> Result<(), Refusal>
+        requires { E.halted (E.state self.old.end) ≡ true }
+        ensures turn { (greeting : Message) (known : List ℕ)
+            → Step E.acts E.halted E.pending W.contents greeting known (stand E.state W.contents self.old)
+            (load_of result (E.pending (E.state self.new.end))) (stand E.state W.contents self.new) }
+        ensures last { self.new.last ≡ self.old.last }
+    {
+        match self.end.load(alloc) {
+            Ok(()) => {
+                self.cut();
+                Ok(())
+            }
+            Err(refusal) => Err(refusal),
+        }
+    }
+
+    /// The events that aren't decided yet behind a load; none behind one that was refused.
+    pub fn pending_behind<R: Wait>(
+        &self,
+        rt: &R,
+        alloc: Global,
+        answer: Result<(), Refusal>,
+    ) -> Vec<(u64, ChannelEvent)>
+        ensures { result.items ≡ told_behind answer (E.pending (E.state self.now.end)) }
+    {
+        match answer {
+            Ok(()) => self.pending(rt, alloc),
+            Err(_) => Vec::new(alloc),
+        }
+    }
+}
