@@ -1,3 +1,4 @@
+pub mod Failing
 pub mod Words
 pub mod Partners
 pub mod Onions
