@@ -5,3 +5,4 @@ pub mod Moves
 pub mod Rebuild
 pub mod Law
 pub mod Runs
+pub mod Recovery

@@ -4,4 +4,4 @@
 
 mod laws;
 
-pub use laws::one_payment_out;
+pub use laws::{one_payment_out, the_book_is_read_back};
