@@ -58,11 +58,26 @@ fn payment_data() -> [u8; 36] {
     data
 }
 
+/// Payloads that can't be read, each with its first fault.
+const FAULTY: [(&[u8], Fault); 7] = [
+    (&[4, 1, 0], Fault::NotMinimal),
+    (&[2, 3, 0, 0x13, 0x88], Fault::NotMinimal),
+    (&[4, 2, 1, 0x90, 2, 2, 0x13, 0x88], Fault::TlvOrder),
+    (&[2, 2, 0x13, 0x88, 6, 1, 0xff], Fault::FieldLength),
+    (&[2, 2, 0x13, 0x88, 4], Fault::Truncated),
+    (&[2, 5, 0x13], Fault::TlvLength),
+    (&[0x0a, 0], Fault::TlvUnknownEven),
+];
+
 #[test]
 fn payloads(rt: HostRuntime) {
     let payload = asks(None, None, Some(PAYMENT));
     assert!(rt; is_read(rt.alloc(), &payment_data(), &payload) == Ok(true));
-    assert!(rt; read_payload(rt.alloc(), &[4, 1, 0]).err() == Some(Fault::NotMinimal));
+    assert!(rt;
+        FAULTY
+            .iter()
+            .all(|row| read_payload(rt.alloc(), row.0).err() == Some(row.1))
+    );
 }
 
 const POLICY: Policy = Policy {
