@@ -1,0 +1,105 @@
+-- The course of one link: how it is begun, what it is handed, and how it comes back from its record.
+use Rattle.std.specs.Prelude.{◌≡◌, ◌⊎◌, List, [], ◌∷◌, false, Some, Result, Ok, Err}
+use Rattle.ln_msgs.specs.declared.refusals.refusal.Refusal.{Refusal}
+use Rattle.ln_keys.specs.Signer.{Signer}
+use Rattle.ln_channel.specs.declared.output.Output.{Output}
+use Rattle.ln_channel.specs.declared.output.Output.TheVariants as output
+use Rattle.ln_channel.specs.declared.unsaved.Stage.{Stage}
+use Rattle.ln_channel.specs.declared.unsaved.Stage.TheVariants as stage
+use Rattle.ln_channel.specs.End.{End, end_dropped}
+use Rattle.ln_channel.specs.Record.{saved_end, came_back}
+use Rattle.ln_channel.specs.State.{State, begun, refused, drops, halts}
+use Rattle.ln_channel.specs.Step.{Done, handled, commanded, connected, Answered}
+use Rattle.ln_pair.specs.Widths.{IsCommand}
+use Rattle.ln_link.specs.Saving.{Shelf, reached, AnswersOver, AnswersCommand}
+use Rattle.ln_link.specs.Calls.{Call, Handle, Command, Connect, DropConnection, Halt, Lead}
+use Rattle.ln_single.specs.Handed.{IsMessage, IsConfig, IsSpec}
+
+-- ---- calls
+
+-- a message that can be read, and a command as wide as in code
+abbrev pub IsCall : Call → Type 0
+IsCall (Handle m) = IsMessage m
+IsCall (Command c) = IsCommand c
+IsCall Connect = Unit {0}
+IsCall DropConnection = Unit {0}
+IsCall Halt = Unit {0}
+
+abbrev pub AreCalls : List Call → Type 0
+AreCalls [] = Unit {0}
+AreCalls (c ∷ cs) = IsCall c × AreCalls cs
+
+-- a call answers so, and leaves the link and its store so
+abbrev pub Gives : {K : Type 0} → Signer → Call → Result (List Output) Refusal → State K → Shelf → State K → Shelf
+    → Type 0
+Gives keys (Handle m) answer l s l' s' = AnswersOver (λ os. os) keys l m answer l' s s'
+Gives keys (Command c) answer l s l' s' = AnswersCommand (λ os. os) (commanded keys l c) l answer l' s s'
+Gives keys Connect answer l s l' s' = Answered (λ os. os) (connected keys l) l answer l' × (s' ≡ s)
+Gives keys DropConnection answer l s l' s' = (answer ≡ Ok []) × (l' ≡ drops l) × (s' ≡ s)
+Gives keys Halt answer l s l' s' = (answer ≡ Ok []) × (l' ≡ halts l) × (s' ≡ s)
+
+-- ---- how it is begun
+
+abbrev pub BeginsAt : Signer → Stage → Type 0
+BeginsAt keys (stage.AwaitsAccept s) = IsSpec keys s
+BeginsAt keys (stage.AwaitsOpen c) = IsConfig keys c
+BeginsAt keys s = ⊥
+
+-- as a funder or as a fundee, with what fits
+abbrev pub Begins : {K : Type 0} → Signer → State K → Type 0
+Begins keys l = (l ≡ begun l.keys l.stage) × BeginsAt keys l.stage
+
+-- ---- how it comes back
+
+-- what a call makes of a link, saved or not
+abbrev pub left_by : {K : Type 0} → Result Done Refusal → (Refusal → State K) → State K → State K
+left_by (Ok d) refusing l = reached d l
+left_by (Err r) refusing l = refusing r
+
+abbrev pub behind : {K : Type 0} → Signer → Call → State K → State K
+behind keys (Handle m) l = left_by (handled keys l m) (λ r. refused r l) l
+behind keys (Command c) l = left_by (commanded keys l c) (λ r. l) l
+behind keys c l = l
+
+-- what the store tells of a link: how it stands, or, where the save behind one more call failed, what that made of it
+abbrev pub IsTold : {K : Type 0} → Signer → State K → State K → Type 0
+IsTold keys l told = (told ≡ l) ⊎ ((c : Call) × IsCall c × (told ≡ behind keys c l))
+
+-- a link that hasn't halted comes back from its record
+pub record Returns {K : Type 0} (keys : Signer) (l back : State K) : Type 0 where
+  pub stands : l.halted ≡ false
+  pub told : State K
+  pub is_told : IsTold keys l told
+  pub end : End
+  pub saved : saved_end told.stage ≡ Some end
+  pub returns : back ≡ came_back back.keys told.failure (end_dropped end)
+
+-- calls, and behind them a restart, one after the other
+abbrev pub Lives : {K : Type 0} → Signer → List (List Call) → State K → State K → Type 0
+Lives keys [] l l' = l' ≡ l
+Lives keys (cs ∷ lives) l l' =
+    (k : State _) × (back : State _) × (s : Shelf) × (t : Shelf) × AreCalls cs × Lead keys cs l s k t
+    × Returns keys k back × Lives keys lives back l'
+
+-- a link as it stands behind its beginning, any lives, and further calls
+pub record IsLink {K : Type 0} (keys : Signer) (l : State K) : Type 0 where
+  pub first : State K
+  pub begins : Begins keys first
+  pub lives : List (List Call)
+  pub back : State K
+  pub comes : Lives keys lives first back
+  pub calls : List Call
+  pub are_calls : AreCalls calls
+  pub store : Shelf
+  pub behind : Shelf
+  pub leads : Lead keys calls back store l behind
+
+-- ---- what is promised
+
+abbrev pub IsSendable : Output → Type 0
+IsSendable (output.Send m) = IsMessage m
+IsSendable o = Unit {0}
+
+abbrev pub AreSendable : List Output → Type 0
+AreSendable [] = Unit {0}
+AreSendable (o ∷ os) = IsSendable o × AreSendable os

@@ -1,0 +1,5 @@
+pub mod Handed
+pub mod Course
+pub use Rattle.ln_pair.specs.Widths
+pub use Rattle.ln_link.specs.Calls
+pub use Rattle.ln_link.specs.Saving
