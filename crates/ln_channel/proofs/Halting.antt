@@ -1,5 +1,5 @@
 -- A link that halts for want of memory, or hands out what a call has made.
-use Rattle.std.proofs.Common.{refl, sym, ◌∙◌, ap, inl, inr, ◌≡◌, ◌⊎◌, Bool, true, false, ◌&&◌}
+use Rattle.std.proofs.Common.{refl, sym, ◌∙◌, ap, subst, inl, inr, ◌≡◌, ◌⊎◌, Bool, true, false, ◌&&◌}
 use Rattle.std.proofs.Common.{Option, None, Some, is_none}
 use Rattle.std.proofs.Common.{List}
 use Rattle.std.proofs.Common.{Result, Ok, Err, OnOk, OnErr, IfOk, IfErr, if◌then◌else◌}
@@ -10,32 +10,26 @@ use Rattle.ln_msgs.specs.declared.refusals.refusal.Refusal.TheVariants as refusa
 use Rattle.ln_keys.specs.Signer.{Signer}
 use Rattle.ln_channel.specs.declared.command.Command.{Command}
 use Rattle.ln_channel.specs.declared.output.Output.{Output}
-use Rattle.ln_channel.specs.Opening.{LacksBy, MayLackBy}
+use Rattle.ln_channel.specs.Opening.{LacksBy}
 use Rattle.ln_channel.specs.Outputs.{Handed, all_of}
-use Rattle.ln_channel.specs.State.{State, halts, is_down, IsSameLink, IsHalted}
+use Rattle.ln_channel.specs.State.{State, StandsFor, is_down, IsSameLink, IsHalted}
 use Rattle.ln_channel.specs.Taking.{is_viewed}
-use Rattle.ln_channel.specs.Step.{Done, AnsweredBy, makes_view, handled, at_hand, faulted, commanded, asked}
+use Rattle.ln_channel.specs.Step.{Done, Reaches, AnsweredBy, makes_view, handled, at_hand, faulted, commanded, asked}
 use Rattle.ln_channel.specs.Step.{connected, connects}
-
--- behind whatever kept its keys, its failure and its connection
-pub halted_behind : {K : Type 0} (l m n : State K) → n ≡ halts m → IsSameLink l m → IsHalted l n
-halted_behind l m n e same = record { reached = m; same = same; halts = e }
 
 -- what was made is handed out, or there is no memory for that
 pub handed_out : {K V : Type 0} (views : Bool) (outs : V → List Output) (said : Result Done Refusal)
-    (l m n : State K) (after : Refusal → State K) (h : Handed) (r : Result V Refusal)
-    → (said ≡ Ok (record { line = m.line; stage = m.stage; outputs = all_of h }))
-    × (m ≡ record l { line = m.line; stage = m.stage })
+    (l m n : State K) (after : Refusal → State K) (h : Handed) (r : Result V Refusal) → Reaches all_of said l h m
     → IsSameLink l m → IfOk r (λ v. outs v ≡ all_of h) → OnOk r (n ≡ m)
     → OnErr r ((k : State K) → IsSameLink k m → IsHalted k n) → IfErr r (λ e. e ≡ refusal.Memory)
     → AnsweredBy views outs said l after r n
-handed_out views outs said l m n after h (Ok v) s same o e halted fails = (
-  s.0 ∙ ap (λ (x : State _). Ok (record { line = x.line; stage = x.stage; outputs = all_of h })) (sym e)
-      ∙ ap (λ (os : List Output). Ok (record { line = n.line; stage = n.stage; outputs = os })) (sym o),
-  e ∙ s.1 ∙ ap (λ (x : State _). record l { line = x.line; stage = x.stage }) (sym e),
+handed_out views outs (Ok d) l m n after h (Ok v) reached same o e halted fails = (
+  o ∙ reached.0,
+  subst (λ (x : State _). StandsFor x (record l { line = d.line; stage = d.stage })) (sym e) reached.1,
 )
-handed_out views outs said l m n after h (Err x) s same o e halted fails =
-    inl ((fails, inl (ap fault_of s.0)), halted l same)
+handed_out views outs (Ok d) l m n after h (Err x) reached same o e halted fails =
+    inl ((fails, inl refl), halted l same)
+handed_out views outs (Err f) l m n after h r reached same o e halted fails = absurd reached
 
 -- there was none before that
 pub lacked : {K A : Type 0} (views : Bool) (said : Result Done Refusal) (l m n : State K) (lack e : Refusal)

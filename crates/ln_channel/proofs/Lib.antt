@@ -1,3 +1,6 @@
 pub mod Accepting
 pub mod Halting
+pub mod Kept
 pub mod Meeting
+pub mod Taken
+pub mod Turning

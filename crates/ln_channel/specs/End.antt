@@ -1,7 +1,7 @@
 -- What one end of a channel keeps once both sides have agreed to it, and what it owes the peer (BOLT 2).
-use Rattle.std.specs.Prelude.{◌≡◌, ℕ, List, [], ◌∷◌, ◌++◌, length, Bool, false, not, ◌&&◌, ◌==◌, Option}
-use Rattle.std.specs.Prelude.{Some, None, is_some, Result, if◌then◌else◌}
-use Rattle.ln_bytes.specs.Answers.{Leaves}
+use Rattle.std.specs.Prelude.{◌≡◌, ◌⊎◌, ℕ, List, [], ◌∷◌, ◌++◌, length, Bool, false, not, ◌&&◌, ◌==◌, Option}
+use Rattle.std.specs.Prelude.{Some, None, is_some, Result, Ok, Err, if◌then◌else◌}
+use Rattle.ln_bytes.specs.Answers.{fault_of}
 use Rattle.ln_bytes.specs.Endian.{big_bytes}
 use Rattle.ln_bytes.specs.declared.record.Record.{Record}
 use Rattle.ln_msgs.specs.declared.messages.message.Message.{Message}
@@ -95,10 +95,16 @@ quiet e = record { end = e; handed = nothing }
 abbrev pub sending : Message → End → Turn
 sending m e = record { end = e; handed = sends (m ∷ []) nothing }
 
--- an end answers what a row says, but for want of memory: where it refuses, it is as it was
+-- what is kept stands for what a turn leaves, and this is handed out
+abbrev pub IsTurn : Result Turn Refusal → Handed → End → Type 0
+IsTurn (Ok t) h new = StandsFor new t.end × (h ≡ t.handed)
+IsTurn (Err r) h new = ⊥
+
+-- what is kept answers what a row says of an end that it stands for, but for want of memory: where it refuses, it is as
+-- it was
 abbrev pub MakesBy : Bool → Result Turn Refusal → Result Handed Refusal → End → End → Type 0
-MakesBy views row answer old new =
-    Leaves (LacksBy views) (λ h. record { end = new; handed = h }) (λ e. new ≡ old) row answer
+MakesBy views row (Ok h) old new = IsTurn row h new
+MakesBy views row (Err e) old new = LacksBy views e (fault_of row) ⊎ ((row ≡ Err e) × (new ≡ old))
 
 -- where no view is made for it
 abbrev pub Makes : Result Turn Refusal → Result Handed Refusal → End → End → Type 0

@@ -17,6 +17,10 @@ pub record State (K : Type 0) : Type 0 where
   pub failure : Option Refusal
   pub stage : Stage
 
+-- what is kept stands for this stage: today it has its end whole
+abbrev pub StageStands : Stage → Stage → Type 0
+StageStands kept s = kept ≡ s
+
 -- what is kept stands for this link: today it has all of it whole
 abbrev pub StandsFor : {K : Type 0} → State K → State K → Type 0
 StandsFor kept l = kept ≡ l
@@ -101,7 +105,8 @@ pub record IsSameLink {K : Type 0} (l new : State K) : Type 0 where
 pub record IsHalted {K : Type 0} (l new : State K) : Type 0 where
   pub reached : State K
   pub same : IsSameLink l reached
-  pub halts : new ≡ halts reached
+  pub halts : (m : State K) → StandsFor reached m → StandsFor new (halts m)
+  pub halted : new.halted ≡ true
 
 -- ---- what is told of it
 

@@ -1,7 +1,7 @@
 -- What a call makes of a link (BOLT 1 and 2).
 use Rattle.std.specs.Prelude.{◌≡◌, ◌⊎◌, ℕ, List, [], ◌∷◌, Bool, true, false, not, ◌&&◌, ◌||◌, Option, Some, None}
 use Rattle.std.specs.Prelude.{is_none, Result, Ok, Err, if◌then◌else◌}
-use Rattle.ln_bytes.specs.Answers.{fault_of, Leaves}
+use Rattle.ln_bytes.specs.Answers.{fault_of}
 use Rattle.ln_msgs.specs.declared.messages.message.Message.{Message}
 use Rattle.ln_msgs.specs.declared.messages.message.Message.TheVariants as message
 use Rattle.ln_msgs.specs.declared.messages.opening.OpenChannel.{OpenChannel}
@@ -30,7 +30,7 @@ use Rattle.ln_channel.specs.Resume.{resume_row}
 use Rattle.ln_channel.specs.Commands.{command_row, note_row, unready_fault}
 use Rattle.ln_channel.specs.Naming.{named, is_meant, is_other, opens}
 use Rattle.ln_channel.specs.Failing.{fails}
-use Rattle.ln_channel.specs.State.{State, is_down, is_met, lost, refused, IsHalted}
+use Rattle.ln_channel.specs.State.{State, StandsFor, StageStands, is_down, is_met, is_saved, refused, IsHalted}
 
 -- what a call leaves, and what it hands out
 pub record Done : Type 0 where
@@ -195,15 +195,18 @@ connected keys l =
 abbrev pub makes_view : {K : Type 0} → State K → Message → Bool
 makes_view l m = is_none l.failure && is_viewed m
 
+-- what is said is handed out, and what is kept stands for the link with its line and stage
+abbrev pub Reaches : {K V : Type 0} → (V → List Output) → Result Done Refusal → State K → V → State K → Type 0
+Reaches outs (Ok d) l v new = (outs v ≡ d.outputs) × StandsFor new (record l { line = d.line; stage = d.stage })
+Reaches outs (Err r) l v new = ⊥
+
 -- want of memory halts; else a call answers what is said of it, and leaves the link so, or as it leaves it where it
 -- refuses
 abbrev pub AnsweredBy : {K V : Type 0} → Bool → (V → List Output) → Result Done Refusal → State K → (Refusal → State K)
     → Result V Refusal → State K → Type 0
-AnsweredBy views outs said l after (Ok v) new =
-    (said ≡ Ok (record { line = new.line; stage = new.stage; outputs = outs v }))
-    × (new ≡ record l { line = new.line; stage = new.stage })
+AnsweredBy views outs said l after (Ok v) new = Reaches outs said l v new
 AnsweredBy views outs said l after (Err e) new =
-    (LacksBy views e (fault_of said) × IsHalted l new) ⊎ ((said ≡ Err e) × (new ≡ after e))
+    (LacksBy views e (fault_of said) × IsHalted l new) ⊎ ((said ≡ Err e) × StandsFor new (after e))
 
 -- a message: a refusal by which a channel fails is kept
 abbrev pub AnsweredMessage : {K V : Type 0} → (V → List Output) → Result Done Refusal → State K → Message
@@ -217,40 +220,43 @@ Answered outs said l result new = AnsweredBy false outs said l (λ e. l) result 
 
 -- ---- the parts of an answer
 
+-- a call leaves this line and what is kept of a stage, and hands this out
+abbrev pub IsDone : Result Done Refusal → Handed → Line → Stage → Type 0
+IsDone (Ok d) h l kept = (d.line ≡ l) × StageStands kept d.stage × (all_of h ≡ d.outputs)
+IsDone (Err r) h l kept = ⊥
+
 -- what is left of a stage behind a refusal: all of it, or nothing of an opening that fails
-pub record IsLeft (r : Refusal) (s s' : Stage) : Type 0 where
-  pub unless_it_fails : fails r ≡ false → s' ≡ s
-  pub then_lost : lost s' ≡ lost s
+abbrev pub IsLeft : Refusal → Stage → Stage → Type 0
+IsLeft r s kept = StageStands kept s ⊎ ((fails r ≡ true) × (is_saved s ≡ false) × StageStands kept stage.Gone)
 
--- a stage and a line, by what is said of them
+-- a stage and a line, by what is said of the stage that it stands for
 abbrev pub Moves : Bool → Result Done Refusal → Result Handed Refusal → Line → Line → Stage → Stage → Type 0
-Moves views said answer l l' s s' =
-    Leaves (LacksBy views) (λ h. record { line = l'; stage = s'; outputs = all_of h })
-    (λ e. (l' ≡ l) × IsLeft e s s') said answer
-
--- a link that leaves its line and stage so, or as they were
-abbrev pub MovesBy : {K : Type 0} → Result Done Refusal → Result Handed Refusal → State K → State K → Type 0
-MovesBy said (Ok h) l new =
-    (said ≡ Ok (record { line = new.line; stage = new.stage; outputs = all_of h }))
-    × (new ≡ record l { line = new.line; stage = new.stage })
-MovesBy said (Err e) l new = Lacks e (fault_of said) ⊎ ((said ≡ Err e) × (new ≡ l))
-
-abbrev pub Takes : {K : Type 0} → Bool → Result Done Refusal → Result Handed Refusal → State K → State K → Type 0
-Takes views said (Ok h) l new =
-    (said ≡ Ok (record { line = new.line; stage = new.stage; outputs = all_of h }))
-    × (new ≡ record l { line = new.line; stage = new.stage })
-Takes views said (Err e) l new =
-    LacksBy views e (fault_of said)
-    ⊎ ((said ≡ Err e) × (new ≡ record l { stage = new.stage }) × IsLeft e l.stage new.stage)
+Moves views said (Ok h) l l' s new = IsDone said h l' new
+Moves views said (Err e) l l' s new =
+    LacksBy views e (fault_of said) ⊎ ((said ≡ Err e) × (l' ≡ l) × IsLeft e s new)
 
 -- an end that isn't replaced, with its line
 abbrev pub MovesEnd : Bool → Result Done Refusal → Result Handed Refusal → Line → Line → End → End → Type 0
-MovesEnd views said answer l l' e e' =
-    Leaves (LacksBy views) (λ h. record { line = l'; stage = stage.Saved e'; outputs = all_of h })
-    (λ r. (l' ≡ l) × (e' ≡ e)) said answer
+MovesEnd views said (Ok h) l l' e e' = IsDone said h l' (stage.Saved e')
+MovesEnd views said (Err r) l l' e e' = LacksBy views r (fault_of said) ⊎ ((said ≡ Err r) × (l' ≡ l) × (e' ≡ e))
 
 -- a stage of the opening, which is replaced; where it refuses, the channel fails
 abbrev pub Becomes : Bool → Line → Result Done Refusal → Result Handed Refusal → Stage → Type 0
-Becomes views l said answer s' =
-    Leaves (LacksBy views) (λ h. record { line = l; stage = s'; outputs = all_of h })
-    (λ e. (fails e ≡ true) × (s' ≡ stage.Gone)) said answer
+Becomes views l said (Ok h) s' = IsDone said h l s'
+Becomes views l said (Err e) s' =
+    LacksBy views e (fault_of said) ⊎ ((said ≡ Err e) × (fails e ≡ true) × (s' ≡ stage.Gone))
+
+-- a link that leaves its line and stage so, or as they were
+abbrev pub MovesBy : {K : Type 0} → Result Done Refusal → Result Handed Refusal → State K → State K → Type 0
+MovesBy said (Ok h) l new = Reaches all_of said l h new
+MovesBy said (Err e) l new = Lacks e (fault_of said) ⊎ ((said ≡ Err e) × StandsFor new l)
+
+-- or, where it refuses, without an opening that fails
+abbrev pub Loses : {K : Type 0} → Refusal → State K → State K → Type 0
+Loses r l new =
+    StandsFor new l
+    ⊎ ((fails r ≡ true) × (is_saved l.stage ≡ false) × StandsFor new (record l { stage = stage.Gone }))
+
+abbrev pub Takes : {K : Type 0} → Bool → Result Done Refusal → Result Handed Refusal → State K → State K → Type 0
+Takes views said (Ok h) l new = Reaches all_of said l h new
+Takes views said (Err e) l new = LacksBy views e (fault_of said) ⊎ ((said ≡ Err e) × Loses e l new)

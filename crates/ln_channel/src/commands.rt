@@ -34,7 +34,8 @@ impl Channel {
         keys: &K,
         short_id: ShortId,
     ) -> Result<Outbox, Refusal>
-        ensures makes { Makes (confirm_row (K.signer keys.now) short_id self.old) result self.old self.new }
+        ensures makes { (e : End) → StandsFor self.old e
+            → Makes (confirm_row (K.signer keys.now) short_id e) result self.old self.new }
         ensures same_channel { self.new.dance.channel ≡ self.old.dance.channel }
     {
         if self.marks.ready_sent || self.is_closed() {
@@ -124,7 +125,8 @@ impl Channel {
     /// down; 44 with the number by which the peer would refuse it, 23 to 27; 60.
     fn offer(&mut self, alloc: Global, add: Add) -> Result<Outbox, Refusal>
         requires { (e : End) → StandsFor self.old e → add.id ≡ next_id e.dance.log.own }
-        ensures makes { Makes (propose_row (update.Add add) self.old) result self.old self.new }
+        ensures makes { (e : End) → StandsFor self.old e
+            → Makes (propose_row (update.Add add) e) result self.old self.new }
         ensures same_channel { self.new.dance.channel ≡ self.old.dance.channel }
     {
         self.propose(Update::Add(add))?;
@@ -137,7 +139,8 @@ impl Channel {
     /// Errors: 40 and 46 as for an offer; 44 with 28 where there is no such HTLC, 49 where it is removed, 48
     /// where it isn't held as irrevocably committed; 44 with 29 for a wrong preimage; 60.
     fn fulfil(&mut self, alloc: Global, fulfil: Fulfil) -> Result<Outbox, Refusal>
-        ensures makes { Makes (propose_row (update.Fulfil fulfil) self.old) result self.old self.new }
+        ensures makes { (e : End) → StandsFor self.old e
+            → Makes (propose_row (update.Fulfil fulfil) e) result self.old self.new }
         ensures same_channel { self.new.dance.channel ≡ self.old.dance.channel }
     {
         self.propose(Update::Fulfil(fulfil))?;
@@ -149,7 +152,8 @@ impl Channel {
     ///
     /// Errors: as for a fulfilment, but 44 with 7 for a reason of more than 65,491 bytes in place of 44 with 29.
     fn fail(&mut self, alloc: Global, fail: Fail) -> Result<Outbox, Refusal>
-        ensures makes { Makes (propose_row (update.Fail fail) self.old) result self.old self.new }
+        ensures makes { (e : End) → StandsFor self.old e
+            → Makes (propose_row (update.Fail fail) e) result self.old self.new }
         ensures same_channel { self.new.dance.channel ≡ self.old.dance.channel }
     {
         let message = fail_message(alloc, self.dance.channel(), &fail);
@@ -162,7 +166,8 @@ impl Channel {
     ///
     /// Errors: as for a fulfilment, but 44 with 21 for a code without the BADONION bit, 0x8000, in place of 44 with 29.
     fn fail_malformed(&mut self, alloc: Global, malformed: Malformed) -> Result<Outbox, Refusal>
-        ensures makes { Makes (propose_row (update.Malformed malformed) self.old) result self.old self.new }
+        ensures makes { (e : End) → StandsFor self.old e
+            → Makes (propose_row (update.Malformed malformed) e) result self.old self.new }
         ensures same_channel { self.new.dance.channel ≡ self.old.dance.channel }
     {
         self.propose(Update::Malformed(malformed))?;
@@ -174,7 +179,8 @@ impl Channel {
     ///
     /// Errors: 40, 46 and 43 as for an offer; 44 with 30 at the fundee; 60.
     fn change_fee(&mut self, alloc: Global, fee: Fee) -> Result<Outbox, Refusal>
-        ensures makes { Makes (propose_row (update.Fee fee) self.old) result self.old self.new }
+        ensures makes { (e : End) → StandsFor self.old e
+            → Makes (propose_row (update.Fee fee) e) result self.old self.new }
         ensures same_channel { self.new.dance.channel ≡ self.old.dance.channel }
     {
         self.propose(Update::Fee(fee))?;
@@ -213,7 +219,8 @@ impl Channel {
     /// Errors: 40 before both sides have confirmed; 41 where a signature is unrevoked, 42 where nothing would be
     /// new, 46 behind the last number; 60.
     fn sign<K: ChannelKeys>(&mut self, alloc: Global, keys: &K) -> Result<Outbox, Refusal>
-        ensures makes { Makes (sign_row (K.signer keys.now) self.old) result self.old self.new }
+        ensures makes { (e : End) → StandsFor self.old e
+            → Makes (sign_row (K.signer keys.now) e) result self.old self.new }
         ensures same_channel { self.new.dance.channel ≡ self.old.dance.channel }
     {
         let covered = self.own_len();
@@ -255,7 +262,8 @@ impl Channel {
         keys: &K,
         script: Bytes,
     ) -> Result<Outbox, Refusal>
-        ensures makes { Makes (shut_row (K.signer keys.now) script self.old) result self.old self.new }
+        ensures makes { (e : End) → StandsFor self.old e
+            → Makes (shut_row (K.signer keys.now) script e) result self.old self.new }
         ensures same_channel { self.new.dance.channel ≡ self.old.dance.channel }
     {
         match self.shutdown_refusal(&script) {
@@ -317,7 +325,7 @@ impl Channel {
     /// Errors: 40 where another event is decided than the first undecided one, or a mark other than `None` is for none
     /// of the peer's adds; 60.
     pub(crate) fn note(&mut self, alloc: Global, command: Command) -> Result<Outbox, Refusal>
-        ensures makes { Makes (note_row command self.old) result self.old self.new }
+        ensures makes { (e : End) → StandsFor self.old e → Makes (note_row command e) result self.old self.new }
         ensures same_channel { self.new.dance.channel ≡ self.old.dance.channel }
     {
         match command {
@@ -341,7 +349,8 @@ impl Channel {
         keys: &K,
         command: Command,
     ) -> Result<Outbox, Refusal>
-        ensures makes { Makes (command_row (K.signer keys.now) command self.old) result self.old self.new }
+        ensures makes { (e : End) → StandsFor self.old e
+            → Makes (command_row (K.signer keys.now) command e) result self.old self.new }
         ensures same_channel { self.new.dance.channel ≡ self.old.dance.channel }
     {
         match command {

@@ -62,9 +62,9 @@ impl<K: ChannelKeys + Drop> Unsaved<K> {
 
     // Takes a message, unless it is passed over.
     fn take(&mut self, alloc: Global, message: Message) -> Result<Outbox, Refusal>
-        ensures takes { Takes (is_viewed message)
-            (at_hand (K.signer self.old.keys) self.old.line message self.old.stage) result self.old self.new }
-        ensures same_link { IsSameLink self.old self.new }
+        ensures takes { (l : State K) → StandsFor self.old l
+            → Takes (is_viewed message) (at_hand (K.signer l.keys) l.line message l.stage) result l self.new }
+        ensures same_link { (l : State K) → StandsFor self.old l → IsSameLink l self.new }
         ensures same_channel { KeepsChannel self.old.stage self.new.stage }
     {
         if self.stage.is_passed_over(&message) {
@@ -108,8 +108,9 @@ impl<K: ChannelKeys + Drop> Unsaved<K> {
 
     // What it does unless it has halted.
     fn work(&mut self, alloc: Global, command: Command) -> Result<Outbox, Refusal>
-        ensures moves { MovesBy (asked (K.signer self.old.keys) self.old command) result self.old self.new }
-        ensures same_link { IsSameLink self.old self.new }
+        ensures moves { (l : State K) → StandsFor self.old l
+            → MovesBy (asked (K.signer l.keys) l command) result l self.new }
+        ensures same_link { (l : State K) → StandsFor self.old l → IsSameLink l self.new }
         ensures same_channel { KeepsChannel self.old.stage self.new.stage }
     {
         if command.is_of_records() {
@@ -126,26 +127,29 @@ impl<K: ChannelKeys + Drop> Unsaved<K> {
 
     // What it makes of a command about decisions at its stage.
     fn note(&mut self, alloc: Global, command: Command) -> Result<Outbox, Refusal>
-        ensures moves { MovesBy (noted self.old.line command self.old.stage) result self.old self.new }
-        ensures same_link { IsSameLink self.old self.new }
+        ensures moves { (l : State K) → StandsFor self.old l
+            → MovesBy (noted l.line command l.stage) result l self.new }
+        ensures same_link { (l : State K) → StandsFor self.old l → IsSameLink l self.new }
         ensures same_channel { KeepsChannel self.old.stage self.new.stage }
     {
-        match &mut self.stage {
-            Stage::Saved(channel) => note_open(alloc, self.line, channel, command),
-            _ => Err(Refusal::NotReady),
-        }
+        let Stage::Saved(channel) = &mut self.stage else {
+            drop(command);
+            return Err(Refusal::NotReady);
+        };
+        note_open(alloc, self.line, channel, command)
     }
 
     // What it does at its stage.
     fn obey(&mut self, alloc: Global, command: Command) -> Result<Outbox, Refusal>
-        ensures moves { MovesBy (obeyed (K.signer self.old.keys) self.old.line command self.old.stage)
-            result self.old self.new }
-        ensures same_link { IsSameLink self.old self.new }
+        ensures moves { (l : State K) → StandsFor self.old l
+            → MovesBy (obeyed (K.signer l.keys) l.line command l.stage) result l self.new }
+        ensures same_link { (l : State K) → StandsFor self.old l → IsSameLink l self.new }
         ensures same_channel { KeepsChannel self.old.stage self.new.stage }
     {
-        match &mut self.stage {
-            Stage::Saved(channel) => obey_open(alloc, &self.keys, self.line, channel, command),
-            _ => Err(Refusal::NotReady),
-        }
+        let Stage::Saved(channel) = &mut self.stage else {
+            drop(command);
+            return Err(Refusal::NotReady);
+        };
+        obey_open(alloc, &self.keys, self.line, channel, command)
     }
 }

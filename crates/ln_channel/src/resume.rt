@@ -134,7 +134,8 @@ impl Channel {
         keys: &K,
         message: &ChannelReestablish,
     ) -> Result<Outbox, Refusal>
-        ensures makes { Makes (resume_row (K.signer keys.now) message.now self.old) result self.old self.new }
+        ensures makes { (e : End) → StandsFor self.old e
+            → Makes (resume_row (K.signer keys.now) message.now e) result self.old self.new }
         ensures same_channel { self.new.dance.channel ≡ self.old.dance.channel }
     {
         let resends = self.owed(alloc, keys, message)?;

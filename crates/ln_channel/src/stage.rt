@@ -4,7 +4,8 @@ ghost use Rattle.std.specs.Prelude.{◌≡◌, true, false};
 ghost use Rattle.ln_channel.specs.Naming.{named, opens_agreed, opens_told};
 ghost use Rattle.ln_channel.specs.Failing.{fails};
 ghost use Rattle.ln_channel.specs.Step.{opening_at, open_at, accept_at, created_at, signed_at, saved_at};
-ghost use Rattle.ln_channel.specs.State.{is_saved, StaysUp};
+ghost use Rattle.ln_channel.specs.State.{is_saved, StaysUp, StageStands};
+ghost use Rattle.ln_channel.specs.End.{End, StandsFor};
 ghost use Rattle.ln_channel.specs.Taking.{is_viewed};
 ghost use Rattle.ln_channel.specs.declared.unsaved.Line.TheVariants as lines;
 ghost use Rattle.ln_channel.specs.declared.unsaved.Stage.TheVariants as stages;
@@ -97,13 +98,13 @@ const NO_NUMBERS: Numbers = Numbers {
 impl Stage {
     ghost use Rattle.std.specs.Prelude.{◌≡◌};
     ghost use Rattle.ln_channel.specs.Naming.{channel_of, temporary_of, is_meant, is_other, opens};
-    ghost use Rattle.ln_channel.specs.State.{is_saved, KeepsChannel, StaysUp, lost, cut, numbers_of};
+    ghost use Rattle.ln_channel.specs.State.{StageStands, is_saved, KeepsChannel, StaysUp, lost, cut, numbers_of};
     ghost use Rattle.ln_channel.specs.Taking.{is_viewed};
     ghost use Rattle.ln_channel.specs.Step.{is_passed_over, stray_fault, message_fault, stage_row, Moves};
 
     // The numbers of its end's commitments.
     pub(crate) fn numbers(&self) -> Numbers
-        ensures { result ≡ numbers_of self.now }
+        ensures { (s : Stage) → StageStands self.now s → result ≡ numbers_of s }
     {
         match self {
             Stage::AwaitsSigned(channel) => channel.dance.numbers(),
@@ -114,7 +115,7 @@ impl Stage {
 
     // Whether both have signed the opening.
     fn is_saved(&self) -> bool
-        ensures { result ≡ is_saved self.now }
+        ensures { (s : Stage) → StageStands self.now s → result ≡ is_saved s }
     {
         match self {
             Stage::Saved(_) => true,
@@ -124,7 +125,7 @@ impl Stage {
 
     // An opening that isn't signed by both is gone.
     pub(crate) fn lose(&mut self)
-        ensures state { self.new ≡ lost self.old }
+        ensures state { (s : Stage) → StageStands self.old s → StageStands self.new (lost s) }
         ensures same_channel { KeepsChannel self.old self.new }
     {
         if !self.is_saved() {
@@ -134,7 +135,7 @@ impl Stage {
 
     // Its connection is lost.
     pub(crate) fn cut(&mut self)
-        ensures state { self.new ≡ cut self.old }
+        ensures state { (s : Stage) → StageStands self.old s → StageStands self.new (cut s) }
         ensures same_channel { KeepsChannel self.old self.new }
     {
         match self {
@@ -145,7 +146,7 @@ impl Stage {
 
     // The channel's id, once its funding is known to both.
     fn channel(&self) -> Option<[u8; 32]>
-        ensures { result ≡ channel_of self.now }
+        ensures { (s : Stage) → StageStands self.now s → result ≡ channel_of s }
     {
         match self {
             Stage::AwaitsSigned(channel) => Some(channel.id()),
@@ -156,7 +157,7 @@ impl Stage {
 
     // Its temporary id, while it is being opened.
     fn temporary(&self) -> Option<[u8; 32]>
-        ensures { result ≡ temporary_of self.now }
+        ensures { (s : Stage) → StageStands self.now s → result ≡ temporary_of s }
     {
         match self {
             Stage::AwaitsAccept(spec) => Some(spec.get().temporary_id),
@@ -168,14 +169,14 @@ impl Stage {
 
     // Whether an error with this id is meant for the link.
     fn is_meant(&self, id: &[u8; 32]) -> bool
-        ensures { result ≡ is_meant self.now id.now }
+        ensures { (s : Stage) → StageStands self.now s → result ≡ is_meant s id.now }
     {
         *id == [0; 32] || self.channel() == Some(*id) || self.temporary() == Some(*id)
     }
 
     // Whether a message is about another channel.
     fn is_other(&self, id: Option<[u8; 32]>) -> bool
-        ensures { result ≡ is_other id self.now }
+        ensures { (s : Stage) → StageStands self.now s → result ≡ is_other id s }
     {
         match id {
             None => false,
@@ -185,7 +186,7 @@ impl Stage {
 
     // The channel that a message opens.
     pub(crate) fn opens(&self, message: &Message) -> Option<[u8; 32]>
-        ensures { result ≡ opens self.now message.now }
+        ensures { (s : Stage) → StageStands self.now s → result ≡ opens s message.now }
     {
         match self {
             Stage::AwaitsAccept(spec) => opens_agreed(spec.get(), message),
@@ -196,7 +197,7 @@ impl Stage {
 
     /// Whether a message is passed over: a warning, an error for another channel, and what is of no channel.
     pub(crate) fn is_passed_over(&self, message: &Message) -> bool
-        ensures { result ≡ is_passed_over self.now message.now }
+        ensures { (s : Stage) → StageStands self.now s → result ≡ is_passed_over s message.now }
     {
         match message {
             Message::Warning(_) => true,
@@ -210,7 +211,7 @@ impl Stage {
 
     // Another channel's message, or one that comes without a connection.
     fn stray_refusal(&self, line: Line, message: &Message) -> Option<Refusal>
-        ensures { result ≡ stray_fault line self.now message.now }
+        ensures { (s : Stage) → StageStands self.now s → result ≡ stray_fault line s message.now }
     {
         if self.is_other(named(message)) {
             Some(Refusal::UnknownChannel)
@@ -224,7 +225,7 @@ impl Stage {
     /// What is wrong with a message before the channel is asked: an error, another channel's message, or one that comes
     /// without a connection.
     pub(crate) fn message_refusal(&self, line: Line, message: &Message) -> Option<Refusal>
-        ensures { result ≡ message_fault line self.now message.now }
+        ensures { (s : Stage) → StageStands self.now s → result ≡ message_fault line s message.now }
     {
         match error_refusal(message) {
             Some(refusal) => Some(refusal),
@@ -240,8 +241,9 @@ impl Stage {
         line: &mut Line,
         message: Message,
     ) -> Result<Outbox, Refusal>
-        ensures moves { Moves (is_viewed message) (stage_row (K.signer keys.now) line.old message self.old)
-            result line.old line.new self.old self.new }
+        ensures moves { (s : Stage) → StageStands self.old s
+            → Moves (is_viewed message) (stage_row (K.signer keys.now) line.old message s)
+            result line.old line.new s self.new }
         ensures stays_up { StaysUp line.old line.new }
         ensures same_channel { KeepsChannel self.old self.new }
     {
@@ -263,8 +265,8 @@ fn opened_by<K: ChannelKeys>(
     message: Message,
 ) -> Result<Outbox, Refusal>
     requires { is_saved stage.old ≡ false }
-    ensures { Moves (is_viewed message) (opening_at (K.signer keys.now) line message stage.old)
-        result line line stage.old stage.new }
+    ensures { (s : Stage) → StageStands stage.old s
+        → Moves (is_viewed message) (opening_at (K.signer keys.now) line message s) result line line s stage.new }
 {
     match message {
         Message::OpenChannel(open) => opened_by_open(alloc, keys, line, stage, open),
@@ -286,7 +288,8 @@ fn opened_by_open<K: ChannelKeys>(
     message: OpenChannel,
 ) -> Result<Outbox, Refusal>
     requires { is_saved stage.old ≡ false }
-    ensures { Moves false (open_at (K.signer keys.now) line message stage.old) result line line stage.old stage.new }
+    ensures { (s : Stage) → StageStands stage.old s
+        → Moves false (open_at (K.signer keys.now) line message s) result line line s stage.new }
 {
     match mem::replace(stage, Stage::Gone) {
         Stage::AwaitsOpen(config) => agree(alloc, keys, line, stage, config, message),
@@ -322,7 +325,8 @@ fn opened_by_accept<K: ChannelKeys>(
     message: AcceptChannel,
 ) -> Result<Outbox, Refusal>
     requires { is_saved stage.old ≡ false }
-    ensures { Moves false (accept_at (K.signer keys.now) line message stage.old) result line line stage.old stage.new }
+    ensures { (s : Stage) → StageStands stage.old s
+        → Moves false (accept_at (K.signer keys.now) line message s) result line line s stage.new }
 {
     match mem::replace(stage, Stage::Gone) {
         Stage::AwaitsAccept(spec) => fund(alloc, keys, line, stage, spec, message),
@@ -358,7 +362,8 @@ fn opened_by_created<K: ChannelKeys>(
     message: FundingCreated,
 ) -> Result<Outbox, Refusal>
     requires { is_saved stage.old ≡ false }
-    ensures { Moves true (created_at (K.signer keys.now) line message stage.old) result line line stage.old stage.new }
+    ensures { (s : Stage) → StageStands stage.old s
+        → Moves true (created_at (K.signer keys.now) line message s) result line line s stage.new }
 {
     match mem::replace(stage, Stage::Gone) {
         Stage::AwaitsCreated(agreed) => sign(alloc, keys, line, stage, agreed, message),
@@ -393,8 +398,8 @@ fn opened_by_signed<K: ChannelKeys>(
     stage: &mut Stage,
     message: &FundingSigned,
 ) -> Result<Outbox, Refusal>
-    ensures { Moves true (signed_at (K.signer keys.now) line message.now stage.old)
-        result line line stage.old stage.new }
+    ensures { (s : Stage) → StageStands stage.old s
+        → Moves true (signed_at (K.signer keys.now) line message.now s) result line line s stage.new }
 {
     match stage {
         Stage::AwaitsSigned(channel) => channel.check_funding(alloc, keys, message)?,
@@ -406,14 +411,14 @@ fn opened_by_signed<K: ChannelKeys>(
 
 // The opening is signed by both.
 fn save(stage: &mut Stage)
-    ensures { stage.new ≡ saved stage.old }
+    ensures { (s : Stage) → StageStands stage.old s → StageStands stage.new (saved s) }
 {
     let signed = mem::replace(stage, Stage::Gone);
     put(stage, saved(signed));
 }
 
 fn saved(stage: Stage) -> Stage
-    ensures { result ≡ saved stage }
+    ensures { (s : Stage) → StageStands stage s → StageStands result (saved s) }
 {
     match stage {
         Stage::AwaitsSigned(channel) => Stage::Saved(channel),
@@ -431,7 +436,8 @@ fn take_saved<K: ChannelKeys>(
     channel: &mut Channel,
     message: Message,
 ) -> Result<Outbox, Refusal>
-    ensures moves { MovesEnd (is_viewed message) (saved_at (K.signer keys.now) line.old message channel.old)
+    ensures moves { (e : End) → StandsFor channel.old e
+        → MovesEnd (is_viewed message) (saved_at (K.signer keys.now) line.old message e)
         result line.old line.new channel.old channel.new }
     ensures stays_up { StaysUp line.old line.new }
     ensures same_channel { channel.new.dance.channel ≡ channel.old.dance.channel }
@@ -450,7 +456,8 @@ fn take_awaited<K: ChannelKeys>(
     channel: &mut Channel,
     message: Message,
 ) -> Result<Outbox, Refusal>
-    ensures moves { MovesEnd (is_viewed message) (awaiting_at (K.signer keys.now) message channel.old)
+    ensures moves { (e : End) → StandsFor channel.old e
+        → MovesEnd (is_viewed message) (awaiting_at (K.signer keys.now) message e)
         result line.old line.new channel.old channel.new }
     ensures stays_up { StaysUp line.old line.new }
     ensures same_channel { channel.new.dance.channel ≡ channel.old.dance.channel }
@@ -474,7 +481,8 @@ fn take_reestablish<K: ChannelKeys>(
     channel: &mut Channel,
     message: &ChannelReestablish,
 ) -> Result<Outbox, Refusal>
-    ensures moves { MovesEnd false (turned lines.Met (resume_row (K.signer keys.now) message.now channel.old))
+    ensures moves { (e : End) → StandsFor channel.old e
+        → MovesEnd false (turned lines.Met (resume_row (K.signer keys.now) message.now e))
         result line.old line.new channel.old channel.new }
     ensures stays_up { StaysUp line.old line.new }
     ensures same_channel { channel.new.dance.channel ≡ channel.old.dance.channel }
@@ -498,7 +506,8 @@ pub(crate) fn obey_open<K: ChannelKeys>(
     channel: &mut Channel,
     command: Command,
 ) -> Result<Outbox, Refusal>
-    ensures moves { MovesEnd false (obeyed_open (K.signer keys.now) line command channel.old)
+    ensures moves { (e : End) → StandsFor channel.old e
+        → MovesEnd false (obeyed_open (K.signer keys.now) line command e)
         result line line channel.old channel.new }
     ensures same_channel { channel.new.dance.channel ≡ channel.old.dance.channel }
 {
@@ -523,7 +532,8 @@ pub(crate) fn note_open(
     channel: &mut Channel,
     command: Command,
 ) -> Result<Outbox, Refusal>
-    ensures moves { MovesEnd false (turned line (note_row command channel.old))
+    ensures moves { (e : End) → StandsFor channel.old e
+        → MovesEnd false (turned line (note_row command e))
         result line line channel.old channel.new }
     ensures same_channel { channel.new.dance.channel ≡ channel.old.dance.channel }
 {

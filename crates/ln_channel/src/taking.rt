@@ -92,7 +92,7 @@ impl Channel {
     /// Errors: 21 before both sides have confirmed, where the peer has 2^62 updates, or for a fee once closing has
     /// begun; 35 for an add behind the peer's shutdown; else those of `UpdateLog::receive`.
     fn take_update(&mut self, alloc: Global, update: Update) -> Result<Outbox, Refusal>
-        ensures makes { Makes (update_row update self.old) result self.old self.new }
+        ensures makes { (e : End) → StandsFor self.old e → Makes (update_row update e) result self.old self.new }
         ensures same_channel { self.new.dance.channel ≡ self.old.dance.channel }
     {
         match self.early_refusal(&update) {
@@ -134,7 +134,8 @@ impl Channel {
         keys: &K,
         message: &CommitmentSigned,
     ) -> Result<Outbox, Refusal>
-        ensures makes { MakesBy true (signature_row (K.signer keys.now) message.now self.old) result self.old self.new }
+        ensures makes { (e : End) → StandsFor self.old e
+            → MakesBy true (signature_row (K.signer keys.now) message.now e) result self.old self.new }
         ensures same_channel { self.new.dance.channel ≡ self.old.dance.channel }
     {
         if !self.is_ready() {
@@ -173,7 +174,8 @@ impl Channel {
         keys: &K,
         message: &RevokeAndAck,
     ) -> Result<Outbox, Refusal>
-        ensures makes { Makes (revocation_row (K.signer keys.now) message.now self.old) result self.old self.new }
+        ensures makes { (e : End) → StandsFor self.old e
+            → Makes (revocation_row (K.signer keys.now) message.now e) result self.old self.new }
         ensures same_channel { self.new.dance.channel ≡ self.old.dance.channel }
     {
         let before = peer_held(&self.dance);
@@ -187,7 +189,7 @@ impl Channel {
     /// Takes a shutdown (BOLT 2, "Closing Initiation: `shutdown`"). A repeated one does nothing; 21 where it names
     /// another script.
     fn take_shutdown(&mut self, alloc: Global, message: &Shutdown) -> Result<Outbox, Refusal>
-        ensures makes { Makes (shutdown_row message.now self.old) result self.old self.new }
+        ensures makes { (e : End) → StandsFor self.old e → Makes (shutdown_row message.now e) result self.old self.new }
         ensures same_channel { self.new.dance.channel ≡ self.old.dance.channel }
     {
         match &self.terms.peer_script {
@@ -222,7 +224,8 @@ impl Channel {
         keys: &K,
         message: &ClosingSigned,
     ) -> Result<Outbox, Refusal>
-        ensures makes { Makes (fee_row (K.signer keys.now) message.now self.old) result self.old self.new }
+        ensures makes { (e : End) → StandsFor self.old e
+            → Makes (fee_row (K.signer keys.now) message.now e) result self.old self.new }
         ensures same_channel { self.new.dance.channel ≡ self.old.dance.channel }
     {
         if !self.has_begun() {
@@ -243,8 +246,10 @@ impl Channel {
         keys: &K,
         answer: Answer,
     ) -> Result<Outbox, Refusal>
-        ensures handed { IfOk result (λ h. h ≡ (answering (K.signer keys.now) answer self.old).handed) }
-        ensures state { OnOk result (self.new ≡ (answering (K.signer keys.now) answer self.old).end) }
+        ensures handed { (e : End) → StandsFor self.old e
+            → IfOk result (λ h. h ≡ (answering (K.signer keys.now) answer e).handed) }
+        ensures state { (e : End) → StandsFor self.old e
+            → OnOk result (StandsFor self.new (answering (K.signer keys.now) answer e).end) }
         ensures fails_for_memory_alone { IfErr result (λ r. r ≡ Refusal.Memory) }
         ensures same_channel { self.new.dance.channel ≡ self.old.dance.channel }
     {
@@ -268,7 +273,8 @@ impl Channel {
         keys: &K,
         message: Message,
     ) -> Result<Outbox, Refusal>
-        ensures makes { MakesBy (is_viewed message) (message_row (K.signer keys.now) message self.old) result
+        ensures makes { (e : End) → StandsFor self.old e
+            → MakesBy (is_viewed message) (message_row (K.signer keys.now) message e) result
             self.old self.new }
         ensures same_channel { self.new.dance.channel ≡ self.old.dance.channel }
     {
@@ -305,7 +311,8 @@ impl Channel {
         keys: &K,
         message: Message,
     ) -> Result<Outbox, Refusal>
-        ensures makes { MakesBy (is_viewed message) (taken (K.signer keys.now) message self.old) result
+        ensures makes { (e : End) → StandsFor self.old e
+            → MakesBy (is_viewed message) (taken (K.signer keys.now) message e) result
             self.old self.new }
         ensures same_channel { self.new.dance.channel ≡ self.old.dance.channel }
     {

@@ -95,7 +95,7 @@ impl Line {
 }
 
 impl<K: ChannelKeys + Drop> Unsaved<K> {
-    ghost use Rattle.std.specs.Prelude.{◌≡◌, OnOk, IfOk, IfErr, OnErr};
+    ghost use Rattle.std.specs.Prelude.{◌≡◌, true, OnOk, IfOk, IfErr, OnErr};
     ghost use Rattle.ln_channel.specs.declared.unsaved.Stage.TheVariants as stage;
     ghost use Rattle.ln_channel.specs.Outputs.{all_of};
     ghost use Rattle.ln_channel.specs.State.{State, StandsFor, KeepsChannel, begun, drops, halts};
@@ -143,6 +143,7 @@ impl<K: ChannelKeys + Drop> Unsaved<K> {
     /// The connection is lost, and the link answers 62 from now on. Takes no memory.
     pub fn halt(&mut self)
         ensures state { (l : State K) → StandsFor self.old l → StandsFor self.new (halts l) }
+        ensures halted { self.new.halted ≡ true }
         ensures same_channel { KeepsChannel self.old.stage self.new.stage }
     {
         self.drop_connection();
@@ -240,8 +241,9 @@ impl<K: ChannelKeys + Drop> Unsaved<K> {
 
     // What it sends first over a connection.
     fn greet(&mut self, alloc: Global) -> Result<Outbox, Refusal>
-        ensures moves { MovesBy (connects (K.signer self.old.keys) self.old.stage) result self.old self.new }
-        ensures same_link { IsSameLink self.old self.new }
+        ensures moves { (l : State K) → StandsFor self.old l
+            → MovesBy (connects (K.signer l.keys) l.stage) result l self.new }
+        ensures same_link { (l : State K) → StandsFor self.old l → IsSameLink l self.new }
         ensures same_channel { KeepsChannel self.old.stage self.new.stage }
     {
         match &self.stage {

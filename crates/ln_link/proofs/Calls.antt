@@ -20,7 +20,7 @@ use Rattle.ln_channel.specs.End.{End, end_dropped}
 use Rattle.ln_channel.specs.Record.{saved_end}
 use Rattle.ln_channel.specs.State.{State, kept_channel, cut, drops, halts, failed, refused}
 use Rattle.ln_channel.specs.State.{is_down}
-use Rattle.ln_channel.specs.Step.{Done, Answered, handled, opened, commanded, connected, connects}
+use Rattle.ln_channel.specs.Step.{Done, Reaches, Answered, handled, opened, commanded, connected, connects}
 use Rattle.ln_store.specs.Readable.{is_readable}
 use Rattle.ln_store.specs.Record.{record_bytes}
 use Rattle.ln_store.specs.Store.{Records, IsOneOf}
@@ -174,13 +174,19 @@ connected_end keys true down st d is = absurd (cc)
 connected_end keys false true st d is = connects_end keys st d is
 connected_end keys false false st d is = absurd (cc)
 
+reached_stays : {K : Type 0} (said : Result Done Refusal) (l n : State K) (os : List Output) (s : Shelf)
+    → ((d : Done) → said ≡ Ok d → saved_end d.stage ≡ saved_end l.stage) → Reaches (λ x. x) said l os n → HasLink l s
+    → HasLink n s
+reached_stays (Ok d) l n os s same h has =
+    subst (λ (x : State _). HasLink x s) (sym h.1)
+    (subst (λ o. Has l.failure o s.records) (sym (same d refl)) has)
+reached_stays (Err r) l n os s same h has = absurd h
+
 connect_stays : {K : Type 0} (keys : Signer) (l n : State K) (answer : Result (List Output) Refusal) (s : Shelf)
     → Answered (λ x. x) (connected keys l) l answer n → HasLink l s → Stays n s
 connect_stays keys l n (Ok os) s h has =
-    let d : Done = record { line = n.line; stage = n.stage; outputs = os } in
-    let same = connected_end keys l.halted (is_down l.line) l.stage d h.0 in
-    inr (subst (λ f. Has f (saved_end n.stage) s.records) (sym (ap (λ (x : State _). x.failure) h.1))
-    (subst (λ o. Has l.failure o s.records) (sym same) has))
+    inr (reached_stays (connected keys l) l n os s
+    (λ d is. connected_end keys l.halted (is_down l.line) l.stage d is) h has)
 connect_stays keys l n (Err e) s (inl h) has = inl (has_halted l n h.1)
 connect_stays keys l n (Err e) s (inr h) has = moved n l s h.1 (inr has)
 
@@ -246,9 +252,15 @@ command_still said l n (Err e) s t is h (inr (inl a)) =
     absurd (subst (λ r. HaltsBehind e r l n s t) is a)
 command_still said l n (Err e) s t is h (inr (inr a)) = still n l s t a.1 h a.2
 
+said_halted : {A : Type 0} (b : Bool) (row : Result A Refusal) → b ≡ true
+    → (if b then Err refusal.Halted else row) ≡ Err refusal.Halted
+said_halted true row h = refl
+said_halted false row h = absurd (cc)
+
 connect_still : {K : Type 0} (keys : Signer) (l n : State K) (answer : Result (List Output) Refusal) (s : Shelf)
     → l.halted ≡ true → Answered (λ x. x) (connected keys l) l answer n → n.halted ≡ true
-connect_still keys l n (Ok os) s h a = ap (λ (x : State _). x.halted) a.1 ∙ h
+connect_still keys l n (Ok os) s h a =
+    absurd (subst (λ r. Reaches (λ x. x) r l os n) (said_halted l.halted _ h) a)
 connect_still keys l n (Err e) s h (inl a) = has_halted l n a.1
 connect_still keys l n (Err e) s h (inr a) = ap (λ (x : State _). x.halted) a.1 ∙ h
 
@@ -259,11 +271,6 @@ drops_still l h = by (is_down l.line) l h
         → (if b then l else record l { line = Down; stage = cut l.stage }).halted ≡ true
     by true l h = h
     by false l h = h
-
-said_halted : {A : Type 0} (b : Bool) (row : Result A Refusal) → b ≡ true
-    → (if b then Err refusal.Halted else row) ≡ Err refusal.Halted
-said_halted true row h = refl
-said_halted false row h = absurd (cc)
 
 -- a link that has halted opens no channel
 opens_none : {K : Type 0} (l : State K) (m : Message) → l.halted ≡ true → opened l m ≡ None

@@ -6,3 +6,5 @@ pub mod Coverage
 pub mod Restarted
 pub mod Window
 pub mod Calls
+pub mod Written
+pub mod Saved

@@ -71,7 +71,7 @@ settled outs said l m n msg e e' before behind true w s p (inr x) =
     ))))
 
 pub has_halted : {K : Type 0} (l n : State K) → IsHalted l n → n.halted ≡ true
-has_halted l n h = ap (λ (x : State _). x.halted) h.halts
+has_halted l n h = h.halted
 
 -- what is answered to a message that is refused
 pub after_refusal : {K V : Type 0} (outs : V → List Output) (said : Result Done Refusal) (l m n : State K)

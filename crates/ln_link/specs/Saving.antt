@@ -13,7 +13,7 @@ use Rattle.ln_channel.specs.End.{End}
 use Rattle.ln_channel.specs.Record.{saved_end}
 use Rattle.ln_channel.specs.Failing.{fails}
 use Rattle.ln_channel.specs.Opening.{LacksBy}
-use Rattle.ln_channel.specs.State.{State, refused, halts, IsHalted}
+use Rattle.ln_channel.specs.State.{State, StandsFor, refused, halts, IsHalted}
 use Rattle.ln_channel.specs.Step.{Done, makes_view, handled, opened}
 use Rattle.ln_store.specs.Store.{Records, IsOneOf}
 use Rattle.ln_store.specs.Record.{record_bytes}
@@ -66,12 +66,12 @@ Saves failure o (Err e) before behind = IsUnsaved e failure o before behind
 
 -- the link halts, as what was done, or the failure of its channel, couldn't be saved
 abbrev pub HaltsUnsaved : {K : Type 0} → Refusal → State K → State K → Shelf → Shelf → Type 0
-HaltsUnsaved e l new before behind = (new ≡ halts l) × IsUnsaved e l.failure (saved_end l.stage) before behind
+HaltsUnsaved e l new before behind = StandsFor new (halts l) × IsUnsaved e l.failure (saved_end l.stage) before behind
 
 -- what is saved, or else the link halts
 abbrev pub Keeps : {K : Type 0} → Result (Unit {0}) Refusal → State K → State K → Shelf → Shelf → Type 0
-Keeps (Ok u) old new before behind = (new ≡ old) × IsSaved old.failure (saved_end old.stage) before behind
-Keeps (Err e) old new before behind = HaltsUnsaved e old new before behind
+Keeps (Ok u) l new before behind = StandsFor new l × IsSaved l.failure (saved_end l.stage) before behind
+Keeps (Err e) l new before behind = HaltsUnsaved e l new before behind
 
 -- it has failed, and hasn't halted
 abbrev pub is_failing : {K : Type 0} → State K → Bool
@@ -79,10 +79,10 @@ is_failing l = not l.halted && not (is_none l.failure)
 
 -- a refusal is answered, and saved where it has to be, or else the link halts and answers why it couldn't be
 abbrev pub Refuses : {K : Type 0} → Bool → Refusal → Refusal → State K → State K → Shelf → Shelf → Type 0
-Refuses false r e old new before behind = (e ≡ r) × (new ≡ old) × (behind ≡ before)
-Refuses true r e old new before behind =
-    ((e ≡ r) × (new ≡ old) × IsSaved old.failure (saved_end old.stage) before behind)
-    ⊎ HaltsUnsaved e old new before behind
+Refuses false r e l new before behind = (e ≡ r) × StandsFor new l × (behind ≡ before)
+Refuses true r e l new before behind =
+    ((e ≡ r) × StandsFor new l × IsSaved l.failure (saved_end l.stage) before behind)
+    ⊎ HaltsUnsaved e l new before behind
 
 -- ---- answers
 
@@ -94,7 +94,7 @@ reached d l = record l { line = d.line; stage = d.stage }
 abbrev pub HandsOut : {K V : Type 0} → (V → List Output) → Result Done Refusal → State K → V → State K → Shelf → Shelf
     → Type 0
 HandsOut outs (Ok d) l v new before behind =
-    (outs v ≡ d.outputs) × (new ≡ reached d l) × IsSaved l.failure (saved_end d.stage) before behind
+    (outs v ≡ d.outputs) × StandsFor new (reached d l) × IsSaved l.failure (saved_end d.stage) before behind
 HandsOut outs (Err r) l v new before behind = ⊥
 
 -- it halts for want of memory before anything was to be saved
@@ -115,7 +115,7 @@ AnswersCommand outs said l (Ok v) new before behind = HandsOut outs said l v new
 AnswersCommand outs said l (Err e) new before behind =
     HaltsEarly false e said l new before behind
     ⊎ (HaltsBehind e said l new before behind
-    ⊎ ((said ≡ Err e) × (new ≡ l) × (behind ≡ before)))
+    ⊎ ((said ≡ Err e) × StandsFor new l × (behind ≡ before)))
 
 -- a refusal by which the channel fails now
 abbrev pub fails_now : {K : Type 0} → Refusal → State K → Bool
@@ -145,7 +145,7 @@ AnswersMessage outs said l m (Err e) new before behind =
     HaltsEarly (makes_view l m) e said l new before behind
     ⊎ (HaltsBehind e said l new before behind
     ⊎ (HaltsRefused e said l new before behind
-    ⊎ ((said ≡ Err e) × (new ≡ refused e l) × SavesFailure e l before behind)))
+    ⊎ ((said ≡ Err e) × StandsFor new (refused e l) × SavesFailure e l before behind)))
 
 -- ---- a channel that the store knows
 
@@ -168,7 +168,7 @@ CannotTell e (Some channel) before behind =
 pub record IsUntold {K : Type 0} (e : Refusal) (channel : Option (List ℕ)) (l new : State K) (before behind : Shelf)
     : Type 0 where
   pub cause : CannotTell e channel before.failed behind.failed
-  pub halts : new ≡ halts l
+  pub halts : StandsFor new (halts l)
   pub records : behind.records ≡ before.records
 
 -- a message, over a store

@@ -1,7 +1,10 @@
 //! One link: one end of a channel that saves before it hands out.
 
 ghost use Rattle.std.specs.Prelude.{◌≡◌, Some, is_none, option_copied, IfOk, IfErr, OnOk};
+ghost use Rattle.ln_channel.specs.End as end;
+ghost use Rattle.ln_channel.specs.End.{End};
 ghost use Rattle.ln_channel.specs.Record.{saved_end};
+ghost use Rattle.ln_channel.specs.State.{State, StandsFor};
 ghost use Rattle.ln_link.specs.Saving.{Saves, is_known, CannotTell};
 
 use crate::loading::loaded;
@@ -41,7 +44,7 @@ fn save_end<S: RecordStore>(
     failure: Option<Refusal>,
     channel: &Channel,
 ) -> Result<(), Refusal>
-    ensures { Saves failure (Some channel.now) result
+    ensures { (e : End) → end.StandsFor channel.now e → Saves failure (Some e) result
         (record { records = S.records store.old; failed = S.failed store.old })
         (record { records = S.records store.new; failed = S.failed store.new }) }
 {
@@ -59,7 +62,7 @@ fn save_end<S: RecordStore>(
 
 // Whether its channel hasn't failed.
 fn is_healthy<K: ChannelKeys + Drop>(link: &Unsaved<K>) -> bool
-    ensures { result ≡ is_none link.now.failure }
+    ensures { (l : State K) → StandsFor link.now l → result ≡ is_none l.failure }
 {
     link.failure().is_none()
 }
@@ -70,7 +73,7 @@ fn save_link<K: ChannelKeys + Drop, S: RecordStore>(
     store: &mut S,
     link: &Unsaved<K>,
 ) -> Result<(), Refusal>
-    ensures { Saves link.now.failure (saved_end link.now.stage) result
+    ensures { (l : State K) → StandsFor link.now l → Saves l.failure (saved_end l.stage) result
         (record { records = S.records store.old; failed = S.failed store.old })
         (record { records = S.records store.new; failed = S.failed store.new }) }
 {
@@ -169,7 +172,7 @@ impl<K: ChannelKeys + Drop> Link<K> {
 
     // Saves the link, or halts it.
     fn save<S: RecordStore>(&mut self, alloc: Global, store: &mut S) -> Result<(), Refusal>
-        ensures keeps { Keeps result self.old self.new
+        ensures keeps { (l : State K) → StandsFor self.old l → Keeps result l self.new
             (record { records = S.records store.old; failed = S.failed store.old })
             (record { records = S.records store.new; failed = S.failed store.new }) }
         ensures same_channel { KeepsChannel self.old.stage self.new.stage }
@@ -177,7 +180,7 @@ impl<K: ChannelKeys + Drop> Link<K> {
         match save_link(alloc, store, &self.unsaved) {
             Ok(()) => Ok(()),
             Err(refusal) => {
-                self.unsaved.halt();
+                self.halt();
                 Err(refusal)
             }
         }
@@ -208,7 +211,7 @@ impl<K: ChannelKeys + Drop> Link<K> {
             }
             Err(refusal) => {
                 drop(message);
-                self.unsaved.halt();
+                self.halt();
                 Err(refusal)
             }
         }
@@ -248,7 +251,8 @@ impl<K: ChannelKeys + Drop> Link<K> {
         healthy: bool,
         refusal: Refusal,
     ) -> Refusal
-        ensures refuses { Refuses (is_failing self.old && healthy) refusal result self.old self.new
+        ensures refuses { (l : State K) → StandsFor self.old l
+            → Refuses (is_failing l && healthy) refusal result l self.new
             (record { records = S.records store.old; failed = S.failed store.old })
             (record { records = S.records store.new; failed = S.failed store.new }) }
         ensures same_channel { KeepsChannel self.old.stage self.new.stage }

@@ -6,9 +6,13 @@ ghost use Rattle.ln_msgs.specs.declared.refusals.refusal.Refusal.TheVariants as 
 ghost use Rattle.ln_msgs.specs.Messages.Message.{message_at};
 ghost use Rattle.ln_msgs.specs.Messages.Typed.{heard};
 ghost use Rattle.ln_bytes.specs.Reading.{Gives};
+ghost use Rattle.ln_log.specs.Log as logs;
+ghost use Rattle.ln_log.specs.Log.{Log};
 ghost use Rattle.ln_log.specs.Opening.{HasFunds};
 ghost use Rattle.ln_log.specs.Loading.{IsReadable};
+ghost use Rattle.ln_dance.specs.Dance as dancing;
 ghost use Rattle.ln_dance.specs.Dance.{AreInStep};
+ghost use Rattle.ln_channel.specs.End as end;
 ghost use Rattle.ln_close.specs.Closing.{AreOrdered};
 ghost use Rattle.ln_channel.specs.Opening.{opening_of};
 ghost use Rattle.ln_channel.specs.Ledger.{most_decided};
@@ -199,7 +203,8 @@ fn log_of(
     role: Role,
     updates: Updates,
 ) -> Result<UpdateLog, Refusal>
-    ensures log { IfOk result (λ l. TellsLog opening role updates × (l ≡ log_of opening role updates)) }
+    ensures log { IfOk result (λ l. TellsLog opening role updates
+        × logs.StandsFor l (log_of opening role updates)) }
     ensures fails { IfErr result (λ r. (r ≡ refusal.Memory)
         ⊎ ((r ≡ refusal.Damaged) × ¬ TellsLog opening role updates)) }
 {
@@ -265,7 +270,7 @@ fn are_loadable(items: &Items) -> bool
 
 fn dance_of(header: Header, commitments: Commitments, log: UpdateLog) -> Dance
     requires { AreInStep commitments.numbers log }
-    ensures { result ≡ dance_of header commitments log }
+    ensures { (l : Log) → logs.StandsFor log l → dancing.StandsFor result (dance_of header commitments l) }
 {
     Dance::new(
         header.channel,
@@ -280,7 +285,7 @@ fn dance_of(header: Header, commitments: Commitments, log: UpdateLog) -> Dance
 #[tactic(auto, unfolding(crate::specs::Loading::end_of))]
 fn channel_of(alloc: Global, items: Items) -> Result<Channel, Refusal>
     requires { is_readable items ≡ true }
-    ensures channel { IfOk result (λ c. IsLoadable items × (c ≡ end_of items)) }
+    ensures channel { IfOk result (λ c. IsLoadable items × end.StandsFor c (end_of items)) }
     ensures fails { IfErr result (λ r. (r ≡ refusal.Memory) ⊎ ((r ≡ refusal.Damaged) × ¬ IsLoadable items)) }
 {
     if !are_loadable(&items) {

@@ -3,10 +3,15 @@
 ghost use Rattle.std.specs.Prelude.{◌≡◌, ◌≤◌, ◌<◌, ◌^◌, ◌⊎◌, IfOk, IfErr, IfSome, OnOk, length, take, option_map, true};
 ghost use Rattle.ln_msgs.specs.declared.refusals.refusal.Refusal.TheVariants as refusal;
 ghost use Rattle.ln_msgs.specs.Messages.Typed.{open_wire, accept_wire};
-ghost use Rattle.ln_log.specs.Log.{none, after_drop, first_of, updates_of as sent_by};
+ghost use Rattle.ln_log.specs.Log as logs;
+ghost use Rattle.ln_log.specs.Log.{Log, none, after_drop, count_of, first_of, updates_of as sent_by};
 ghost use Rattle.ln_log.specs.Loading.{IsReadable};
 ghost use Rattle.ln_log.specs.Opening.{HasFunds};
 ghost use Rattle.ln_channel.specs.Opening.{opening_of};
+ghost use Rattle.ln_channel.specs.End as end;
+ghost use Rattle.ln_channel.specs.End.{End};
+ghost use Rattle.ln_dance.specs.Dance as dancing;
+ghost use Rattle.ln_dance.specs.Dance.{Dancer};
 ghost use Rattle.ln_link.specs.Record.{flags_of, header_of, place_of, agreement_of, base_of, window_of, covered_of};
 ghost use Rattle.ln_link.specs.Record.{pairs_of, updates_of, events_of, forwards_of};
 ghost use Rattle.ln_link.specs.Record.{fees_of, progress_of, commitments_of, items_of};
@@ -30,7 +35,7 @@ use ln_store::{
 use std::alloc::Global;
 
 fn flags_of(channel: &Channel) -> Flags
-    ensures { result ≡ flags_of channel.now }
+    ensures { (e : End) → end.StandsFor channel.now e → result ≡ flags_of e }
 {
     let marks = channel.marks();
     let closing = channel.closing();
@@ -45,7 +50,7 @@ fn flags_of(channel: &Channel) -> Flags
 
 #[tactic(auto, unfolding(crate::specs::Record::header_of))]
 fn header_of(failure: Option<Refusal>, channel: &Channel) -> Header
-    ensures { result ≡ header_of failure channel.now }
+    ensures { (e : End) → end.StandsFor channel.now e → result ≡ header_of failure e }
 {
     Header {
         channel: channel.id(),
@@ -77,11 +82,15 @@ fn copy_script(alloc: Global, script: &Option<Bytes>) -> Result<Option<Bytes>, R
 
 #[tactic(auto, unfolding(crate::specs::Record::agreement_of, crate::specs::Record::HasNoAgreement))]
 fn agreement_of(alloc: Global, channel: &Channel) -> Result<Agreement, Refusal>
-    ensures agreement { IfOk result (λ a. a ≡ agreement_of channel.now) }
-    ensures open_can_be_read { OnOk result (IsSaid (open_wire channel.now.terms.open_channel)) }
-    ensures accept_can_be_read { OnOk result (IsSaid (accept_wire channel.now.terms.accept_channel)) }
-    ensures output_fits_16_bits { OnOk result (IfSome channel.now.marks.short_id (λ id. id.output < 2 ^ 16)) }
-    ensures fails { IfErr result (λ r. (r ≡ refusal.Memory) ⊎ ((r ≡ refusal.Damaged) × HasNoAgreement channel.now)) }
+    ensures agreement { (e : End) → end.StandsFor channel.now e → IfOk result (λ a. a ≡ agreement_of e) }
+    ensures open_can_be_read { (e : End) → end.StandsFor channel.now e
+        → OnOk result (IsSaid (open_wire e.terms.open_channel)) }
+    ensures accept_can_be_read { (e : End) → end.StandsFor channel.now e
+        → OnOk result (IsSaid (accept_wire e.terms.accept_channel)) }
+    ensures output_fits_16_bits { (e : End) → end.StandsFor channel.now e
+        → OnOk result (IfSome e.marks.short_id (λ id. id.output < 2 ^ 16)) }
+    ensures fails { (e : End) → end.StandsFor channel.now e
+        → IfErr result (λ r. (r ≡ refusal.Memory) ⊎ ((r ≡ refusal.Damaged) × HasNoAgreement e)) }
 {
     let terms = channel.terms();
     Ok(Agreement {
@@ -167,8 +176,8 @@ fn covered_of(counts: Counts) -> Covered
 }
 
 fn pairs_of(log: &UpdateLog) -> Pairs
-    ensures pairs { result ≡ pairs_of log.now }
-    ensures can_be_loaded { log.now.first ≡ none → IsReadable (after_drop log.now) }
+    ensures pairs { (l : Log) → logs.StandsFor log.now l → result ≡ pairs_of l }
+    ensures can_be_loaded { (l : Log) → logs.StandsFor log.now l → l.first ≡ none → IsReadable (after_drop l) }
 {
     let coverage = log.coverage();
     Pairs {
@@ -179,15 +188,15 @@ fn pairs_of(log: &UpdateLog) -> Pairs
 }
 
 fn log_of(channel: &Channel) -> &UpdateLog
-    ensures { result.now ≡ channel.now.dance.log }
+    ensures { (e : End) → end.StandsFor channel.now e → logs.StandsFor result.now e.dance.log }
 {
     channel.dance().log()
 }
 
 // The first updates of a side, as long as each is had one by one; else 70.
 fn first_updates(log: &UpdateLog, side: Side, count: usize) -> Result<&[Update], Refusal>
-    requires { count ≤ length (sent_by side log.now) }
-    ensures updates { IfOk result (λ us. us.now ≡ take count (sent_by side log.now)) }
+    requires { count ≤ count_of side log.now }
+    ensures updates { (l : Log) → logs.StandsFor log.now l → IfOk result (λ us. us.now ≡ take count (sent_by side l)) }
     ensures from_the_first { OnOk result (first_of side log.now ≡ 0) }
     ensures fails { IfErr result (λ r. (r ≡ refusal.Damaged) × (0 < first_of side log.now)) }
 {
@@ -199,7 +208,7 @@ fn first_updates(log: &UpdateLog, side: Side, count: usize) -> Result<&[Update],
 }
 
 fn own_updates(alloc: Global, log: &UpdateLog) -> Result<Vec<Update>, Refusal>
-    ensures updates { IfOk result (λ us. us.items ≡ (after_drop log.now).own) }
+    ensures updates { (l : Log) → logs.StandsFor log.now l → IfOk result (λ us. us.items ≡ (after_drop l).own) }
     ensures from_the_first { OnOk result (log.now.first.own ≡ 0) }
     ensures fails { IfErr result (λ r. (r ≡ refusal.Memory) ⊎ ((r ≡ refusal.Damaged) × (0 < log.now.first.own))) }
 {
@@ -208,7 +217,7 @@ fn own_updates(alloc: Global, log: &UpdateLog) -> Result<Vec<Update>, Refusal>
 }
 
 fn peer_updates(alloc: Global, log: &UpdateLog) -> Result<Vec<Update>, Refusal>
-    ensures updates { IfOk result (λ us. us.items ≡ (after_drop log.now).received) }
+    ensures updates { (l : Log) → logs.StandsFor log.now l → IfOk result (λ us. us.items ≡ (after_drop l).received) }
     ensures from_the_first { OnOk result (log.now.first.peer ≡ 0) }
     ensures fails { IfErr result (λ r. (r ≡ refusal.Memory) ⊎ ((r ≡ refusal.Damaged) × (0 < log.now.first.peer))) }
 {
@@ -220,11 +229,14 @@ fn peer_updates(alloc: Global, log: &UpdateLog) -> Result<Vec<Update>, Refusal>
 // The updates that signatures cover.
 #[tactic(auto, unfolding(crate::specs::Record::updates_of, crate::specs::Record::HasNoUpdates))]
 fn updates_of(alloc: Global, channel: &Channel) -> Result<Updates, Refusal>
-    ensures updates { IfOk result (λ u. u ≡ updates_of (opening_of channel.now.terms) channel.now.closing.role
-        (after_drop channel.now.dance.log)) }
-    ensures from_the_first { OnOk result (channel.now.dance.log.first ≡ none) }
-    ensures can_be_loaded { OnOk result (IsReadable (after_drop channel.now.dance.log)) }
-    ensures fails { IfErr result (λ r. (r ≡ refusal.Memory) ⊎ ((r ≡ refusal.Damaged) × HasNoUpdates channel.now)) }
+    ensures updates { (e : End) → end.StandsFor channel.now e
+        → IfOk result (λ u. u ≡ updates_of (opening_of e.terms) e.closing.role
+        (after_drop e.dance.log)) }
+    ensures from_the_first { (e : End) → end.StandsFor channel.now e → OnOk result (e.dance.log.first ≡ none) }
+    ensures can_be_loaded { (e : End) → end.StandsFor channel.now e
+        → OnOk result (IsReadable (after_drop e.dance.log)) }
+    ensures fails { (e : End) → end.StandsFor channel.now e
+        → IfErr result (λ r. (r ≡ refusal.Memory) ⊎ ((r ≡ refusal.Damaged) × HasNoUpdates e)) }
 {
     let log = log_of(channel);
     let own = own_updates(alloc, log)?;
@@ -237,7 +249,7 @@ fn updates_of(alloc: Global, channel: &Channel) -> Result<Updates, Refusal>
 }
 
 fn commitments_of(dance: &Dance) -> Commitments
-    ensures { result ≡ commitments_of dance.now }
+    ensures { (d : Dancer) → dancing.StandsFor dance.now d → result ≡ commitments_of d }
 {
     Commitments {
         numbers: dance.numbers(),
@@ -277,7 +289,7 @@ fn fees_of(closing: Closing) -> ClosingFees
 
 #[tactic(auto, unfolding(crate::specs::Record::progress_of))]
 fn progress_of(alloc: Global, channel: &Channel) -> Result<Progress, Refusal>
-    ensures progress { IfOk result (λ p. p ≡ progress_of channel.now) }
+    ensures progress { (e : End) → end.StandsFor channel.now e → IfOk result (λ p. p ≡ progress_of e) }
     ensures fails_for_memory_alone { IfErr result (λ r. r ≡ refusal.Memory) }
 {
     Ok(Progress {
@@ -289,12 +301,14 @@ fn progress_of(alloc: Global, channel: &Channel) -> Result<Progress, Refusal>
 
 #[tactic(auto, unfolding(crate::specs::Record::items_of))]
 fn items_of(alloc: Global, failure: Option<Refusal>, channel: &Channel) -> Result<Items, Refusal>
-    ensures items { IfOk result (λ i. i ≡ items_of failure channel.now) }
-    ensures has_record_if_readable { OnOk result (is_readable (items_of failure channel.now) ≡ true
-        → HasRecord failure channel.now) }
-    ensures log_can_be_loaded { OnOk result (IsReadable (after_drop channel.now.dance.log)) }
-    ensures fails { IfErr result (λ r. (r ≡ refusal.Memory)
-        ⊎ ((r ≡ refusal.Damaged) × (HasNoAgreement channel.now ⊎ HasNoUpdates channel.now))) }
+    ensures items { (e : End) → end.StandsFor channel.now e → IfOk result (λ i. i ≡ items_of failure e) }
+    ensures has_record_if_readable { (e : End) → end.StandsFor channel.now e
+        → OnOk result (is_readable (items_of failure e) ≡ true
+        → HasRecord failure e) }
+    ensures log_can_be_loaded { (e : End) → end.StandsFor channel.now e
+        → OnOk result (IsReadable (after_drop e.dance.log)) }
+    ensures fails { (e : End) → end.StandsFor channel.now e → IfErr result (λ r. (r ≡ refusal.Memory)
+        ⊎ ((r ≡ refusal.Damaged) × (HasNoAgreement e ⊎ HasNoUpdates e))) }
 {
     let agreement = agreement_of(alloc, channel)?;
     let updates = updates_of(alloc, channel)?;
@@ -320,9 +334,10 @@ pub fn to_record(
     failure: Option<Refusal>,
     channel: &Channel,
 ) -> Result<LinkRecord, Refusal>
-    ensures record { IfOk result (λ r. r ≡ items_of failure channel.now) }
-    ensures has_record { IfOk result (λ r. HasRecord failure channel.now) }
-    ensures fails { IfErr result (λ r. (r ≡ refusal.Memory) ⊎ ((r ≡ refusal.Damaged) × NoRecord failure channel.now)) }
+    ensures record { (e : End) → end.StandsFor channel.now e → IfOk result (λ r. r ≡ items_of failure e) }
+    ensures has_record { (e : End) → end.StandsFor channel.now e → IfOk result (λ r. HasRecord failure e) }
+    ensures fails { (e : End) → end.StandsFor channel.now e
+        → IfErr result (λ r. (r ≡ refusal.Memory) ⊎ ((r ≡ refusal.Damaged) × NoRecord failure e)) }
 {
     let items = items_of(alloc, failure, channel)?;
     match is_readable(alloc, &items) {

@@ -2,7 +2,9 @@
 
 ghost use Rattle.std.specs.Prelude.{◌≡◌, ◌⊎◌, IfOk, IfErr};
 ghost use Rattle.ln_msgs.specs.declared.refusals.refusal.Refusal.TheVariants as refusal;
-ghost use Rattle.ln_channel.specs.End.{end_dropped};
+ghost use Rattle.ln_channel.specs.End as end;
+ghost use Rattle.ln_channel.specs.End.{End, end_dropped};
+ghost use Rattle.ln_channel.specs.State.{StandsFor};
 ghost use Rattle.ln_channel.specs.Record.{came_back};
 ghost use Rattle.ln_link.specs.Record.{NoRecord};
 
@@ -26,9 +28,10 @@ pub fn restart<K: ChannelKeys + Drop>(
     failure: Option<Refusal>,
     channel: &Channel,
 ) -> Result<Unsaved<K>, Refusal>
-    ensures comes_back { IfOk result (λ l. l ≡ came_back keys failure (end_dropped channel.now)) }
-    ensures fails { IfErr result (λ r. (r ≡ refusal.Memory)
-        ⊎ ((r ≡ refusal.Damaged) × NoRecord failure channel.now)) }
+    ensures comes_back { (e : End) → end.StandsFor channel.now e
+        → IfOk result (λ l. StandsFor l (came_back keys failure (end_dropped e))) }
+    ensures fails { (e : End) → end.StandsFor channel.now e
+        → IfErr result (λ r. (r ≡ refusal.Memory) ⊎ ((r ≡ refusal.Damaged) × NoRecord failure e)) }
 {
     let record = to_record(alloc, failure, channel)?;
     match encode_record(alloc, &record) {

@@ -5,7 +5,7 @@ use Rattle.ln_msgs.specs.declared.refusals.refusal.Refusal.{Refusal}
 use Rattle.ln_keys.specs.Signer.{Signer}
 use Rattle.ln_channel.specs.declared.output.Output.{Output}
 use Rattle.ln_channel.specs.State.{State, kept_channel}
-use Rattle.ln_channel.specs.Step.{Done, Answered}
+use Rattle.ln_channel.specs.Step.{Done, Reaches, Answered}
 use Rattle.ln_link.specs.Saving.{Shelf, HandsOut, AnswersOver, AnswersCommand, CannotTell, handled_beside}
 use Rattle.ln_store.specs.Store.{Records}
 use Rattle.ln_turns.specs.Sent.{listed, loaded}
@@ -31,9 +31,13 @@ module _ {K V : Type 0} (outs : V → List Output) (l : State K) (new : State K)
   command-listed said (Err e) out = out
 
 module _ {K V : Type 0} (outs : V → List Output) (l : State K) (new : State K) where
+  reached : (said : Result Done Refusal) (v : V) → Reaches outs said l v new → Reaches (λ os. os) said l (outs v) new
+  reached (Ok d) v out = out
+  reached (Err r) v out = out
+
   pub connection-listed : (said : Result Done Refusal) (result : Result V Refusal)
       → Answered outs said l result new → Answered (λ os. os) said l (listed outs result) new
-  connection-listed said (Ok v) out = out
+  connection-listed said (Ok v) out = reached said v out
   connection-listed said (Err e) out = out
 
 -- ---- a load

@@ -1,3 +1,4 @@
+pub mod Answered
 pub mod Fitting
 pub mod Moving
 pub mod Named

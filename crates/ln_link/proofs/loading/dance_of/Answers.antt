@@ -7,4 +7,4 @@ pub new-requires : goal.new-requires
 new-requires c = λ l s. subst (λ (x : Log). AreInStep c.args.commitments.numbers x) s c.requires
 
 pub returns : goal.returns
-returns c = c.new.ensures _ refl
+returns c = λ l s. c.new.ensures l s

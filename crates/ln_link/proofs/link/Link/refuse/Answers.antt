@@ -3,15 +3,15 @@ use Rattle.ln_link.specs.Saving.{Refuses, is_failing}
 use Rattle.ln_link.proofs.link.Link.refuse.Goals as goal
 
 pub returns-in-Ok-clause-refuses : goal.returns-in-Ok-clause-refuses
-returns-in-Ok-clause-refuses g c =
-    let up : c.args.self.now.halted ≡ false =
-    sym (c.is_halted.ensures c.args.self.now c.self.view_is) ∙ c.if-is_halted.false in
-    let some : is_some c.args.self.now.failure ≡ true =
-    ap is_some (sym (c.failure.ensures.failure c.args.self.now c.self.view_is)) ∙ c.if-is_none.ensures in
-    let failing : (is_failing c.args.self.now && c.args.healthy) ≡ true =
-    ap (λ b. (not b && not (is_none c.args.self.now.failure)) && c.args.healthy) up
+returns-in-Ok-clause-refuses g c = λ l s.
+    let k = c.self.view_is ∙ s in
+    let up : l.halted ≡ false = sym (c.is_halted.ensures l k) ∙ c.if-is_halted.false in
+    let some : is_some l.failure ≡ true =
+    ap is_some (sym (c.failure.ensures.failure l k)) ∙ c.if-is_none.ensures in
+    let failing : (is_failing l && c.args.healthy) ≡ true =
+    ap (λ b. (not b && not (is_none l.failure)) && c.args.healthy) up
     ∙ ap (λ b. not (not b) && c.args.healthy) some ∙ c.if-not-healthy.false in
-    subst (λ b. Refuses b c.args.refusal c.args.refusal c.args.self.now c.save.new.self
+    subst (λ b. Refuses b c.args.refusal c.args.refusal l c.save.new.self
     (record {
       records = g.S.RecordStore.records c.args.store.now;
       failed = g.S.RecordStore.failed c.args.store.now;
@@ -20,4 +20,4 @@ returns-in-Ok-clause-refuses g c =
       records = g.S.RecordStore.records c.save.new.store;
       failed = g.S.RecordStore.failed c.save.new.store;
     })) (sym failing)
-    (inl (refl, c.in-Ok.ensures.keeps.0, c.in-Ok.ensures.keeps.1))
+    (let kept = c.in-Ok.ensures.keeps l s in inl (refl, kept.0, kept.1))

@@ -1,7 +1,8 @@
-use Rattle.std.proofs.Common.{◌∙◌, ap, is_none, List}
+use Rattle.std.proofs.Common.{◌∙◌, refl, inl, inr, List}
 use Rattle.ln_channel.specs.declared.output.Output.{Output}
-use Rattle.ln_channel.specs.State.{State}
 use Rattle.ln_channel.specs.Step.{handled}
+use Rattle.ln_link.specs.Saving.{Shelf}
+use Rattle.ln_link.proofs.Saved.{handed_so, halted_so}
 use Rattle.ln_link.proofs.Refusing.{after_refusal_of}
 use Rattle.ln_link.proofs.link.Link.take.Goals as goal
 
@@ -18,5 +19,33 @@ returns-in-Err-clause-answers g c = λ l s.
       failed = g.S.RecordStore.failed c.refuse.new.store;
     })
     c.is_healthy-healthy.result
-    (c.is_healthy-healthy.ensures ∙ ap (λ (x : State _). is_none x.failure) (c.self.view_is ∙ s))
-    (c.in-Err.ensures.answers l (c.self.view_is ∙ s)) c.refuse.ensures.refuses
+    (c.is_healthy-healthy.ensures l (c.self.view_is ∙ s))
+    (c.in-Err.ensures.answers l (c.self.view_is ∙ s)) (c.refuse.ensures.refuses _ refl)
+
+pub returns-in-Ok-save-clause-answers : goal.returns-in-Ok-save-clause-answers
+returns-in-Ok-save-clause-answers g c = λ l s.
+    let before : Shelf = record {
+      records = g.S.RecordStore.records c.args.store.now;
+      failed = g.S.RecordStore.failed c.args.store.now;
+    } in
+    let behind : Shelf = record {
+      records = g.S.RecordStore.records c.save.new.store;
+      failed = g.S.RecordStore.failed c.save.new.store;
+    } in
+    handed_so (λ v. v.items) (handled (g.K.ChannelKeys.signer l.keys) l c.args.message) l c.handle.new.self
+    c.save.new.self c.in-Ok.outputs before behind (c.in-Ok.ensures.answers l (c.self.view_is ∙ s))
+    c.in-Ok-save.ensures.keeps
+
+pub returns-in-Err-save-clause-answers : goal.returns-in-Err-save-clause-answers
+returns-in-Err-save-clause-answers g c = λ l s.
+    let before : Shelf = record {
+      records = g.S.RecordStore.records c.args.store.now;
+      failed = g.S.RecordStore.failed c.args.store.now;
+    } in
+    let behind : Shelf = record {
+      records = g.S.RecordStore.records c.save.new.store;
+      failed = g.S.RecordStore.failed c.save.new.store;
+    } in
+    inr (inl (halted_so (λ v. v.items) (handled (g.K.ChannelKeys.signer l.keys) l c.args.message) l
+    c.handle.new.self c.save.new.self c.in-Ok.outputs c.in-Err-save.refusal before behind
+    (c.in-Ok.ensures.answers l (c.self.view_is ∙ s)) c.in-Err-save.ensures.keeps))
