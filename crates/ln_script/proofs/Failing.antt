@@ -3,9 +3,9 @@ use Rattle.std.proofs.Common.{◌≡◌, refl, inl, inr, ◌⊎◌}
 use Rattle.ln_msgs.specs.declared.refusals.refusal.Refusal.{Refusal}
 use Rattle.ln_msgs.specs.declared.refusals.refusal.Refusal.TheVariants as refusal
 use Rattle.ln_keys.specs.declared.toy_keys.ToyKeys.{ToyKeys}
-use Rattle.ln_world.specs.declared.step.Step.TheVariants as step
-use Rattle.ln_world.specs.Failing.{ByRecord, MayFail}
-use Rattle.ln_world.specs.World.{World}
+use Rattle.ln_channels.specs.declared.step.Step.TheVariants as step
+use Rattle.ln_channels.specs.Failing.{ByRecord, MayFail}
+use Rattle.ln_channels.specs.World.{World}
 use Rattle.ln_script.specs.Keys.{toy}
 use Rattle.ln_script.specs.Report.{StepFails}
 use Rattle.ln_script.specs.Step.{ToyStep}

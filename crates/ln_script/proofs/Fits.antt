@@ -5,9 +5,9 @@ use Rattle.std.specs.Str.Parse.{digits_value}
 use Rattle.ln_keys.specs.declared.toy_keys.ToyKeys.{ToyKeys}
 use Rattle.ln_keys.specs.Toy.{toy_signer}
 use Rattle.ln_keys.proofs.ToyPartners.{points_have_33_bytes}
-use Rattle.ln_world.specs.declared.step.Node.{Node}
-use Rattle.ln_world.specs.World.{World, empty, run}
-use Rattle.ln_world.specs.Promises.{HavePoints, BringsFit, BringFit}
+use Rattle.ln_channels.specs.declared.step.Node.{Node}
+use Rattle.ln_channels.specs.World.{World, empty, run}
+use Rattle.ln_channels.specs.Promises.{HavePoints, BringsFit, BringFit}
 use Rattle.ln_script.specs.Word.{is_decimal, decimal_at, number_at}
 use Rattle.ln_script.specs.Keys.{toy}
 use Rattle.ln_script.specs.Command.{command_at}

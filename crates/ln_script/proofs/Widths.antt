@@ -12,12 +12,12 @@ use Rattle.ln_keys.specs.declared.toy_keys.ToyKeys.{ToyKeys}
 use Rattle.ln_keys.specs.Toy.{toy_secret, toy_signer}
 use Rattle.ln_keys.specs.ToyOnion.{toy_key, toy_hmac, filled, toy_packet, payload_bytes, toy_made}
 use Rattle.ln_channel.specs.declared.command.Command.{Command}
-use Rattle.ln_world.specs.declared.step.Act.TheVariants as act
-use Rattle.ln_world.specs.declared.step.End.{End}
-use Rattle.ln_world.specs.declared.step.Node.{Node}
-use Rattle.ln_world.specs.World.{World, empty, run}
-use Rattle.ln_world.specs.Promises.{BringFit}
-use Rattle.ln_world.specs.Records.{IsAct, IsStep, AreSteps, HaveSecrets}
+use Rattle.ln_channels.specs.declared.step.Act.TheVariants as act
+use Rattle.ln_channels.specs.declared.step.End.{End}
+use Rattle.ln_channels.specs.declared.step.Node.{Node}
+use Rattle.ln_channels.specs.World.{World, empty, run}
+use Rattle.ln_channels.specs.Promises.{BringFit}
+use Rattle.ln_channels.specs.Records.{IsAct, IsStep, AreSteps, HaveSecrets}
 use Rattle.ln_script.specs.Word.{decimal_at, number_at, short_id_at, digit_at, code_at}
 use Rattle.ln_script.specs.Keys.{toy}
 use Rattle.ln_script.specs.Onion.{payloads_at}

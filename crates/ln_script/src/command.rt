@@ -16,7 +16,7 @@ use ln_bytes::Bytes;
 use ln_channel::Command;
 use ln_keys::{ToyOnion, sha256_32};
 use ln_msgs::Refusal;
-use ln_world::Node;
+use ln_channels::Node;
 use std::alloc::Global;
 
 /// The preimage of a payment: 32 bytes of its number.

@@ -7,7 +7,7 @@ ghost use Rattle.ln_script.specs.LineText.{event_text, refused_text, restarts_te
 
 use ln_channel::{Life, Standing};
 use ln_msgs::Refusal;
-use ln_world::{End, EndLine, Ending, Line, Node, Word};
+use ln_channels::{End, EndLine, Ending, Line, Node, Word};
 use std::alloc::AllocError;
 use std::fmt::Write;
 

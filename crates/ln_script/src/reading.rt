@@ -8,7 +8,7 @@ ghost use Rattle.ln_script.specs.Script.{lines, words, is_skipped, line_at, scri
 use crate::step::push_steps;
 use ln_keys::ToyKeys;
 use ln_msgs::Refusal;
-use ln_world::Step;
+use ln_channels::Step;
 use std::alloc::{AllocError, Global};
 
 /// The lines of a text.

@@ -17,7 +17,7 @@ use ln_close::Fees;
 use ln_keys::ToyKeys;
 use ln_log::Limits;
 use ln_msgs::Refusal;
-use ln_world::{Act, End, Node, Open, Step};
+use ln_channels::{Act, End, Node, Open, Step};
 use std::alloc::Global;
 
 /// set X fees FIRST LEAST MOST
