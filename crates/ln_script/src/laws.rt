@@ -17,13 +17,13 @@ ghost use Rattle.ln_script.specs.Step.{ToyStep};
 ghost use Rattle.ln_script.specs.Script.{lines, script_at, IsFirstBad};
 ghost use Rattle.ln_script.specs.Report.{AfterEachScript};
 
-use ln_keys::ToyKeys;
 use ln_channels::{
     a_shutdown_is_answered, agreement, channels_open_as_set, close_is_last, closed_at_one_fee,
     commands_are_done_exactly, every_end_has_a_record, headline, marks_agree_at_rest,
     never_refused, never_refused_where_fees_overlap, no_add_follows_a_shutdown,
     undecided_events_are_the_machines,
 };
+use ln_keys::ToyKeys;
 
 /// A script is refused by the number of its first bad line, and only where there is one.
 pub fn first_bad_line()

@@ -16,9 +16,9 @@ ghost use Rattle.ln_script.specs.Report.{StepFails, StepsFail};
 
 use crate::line::{put_end_line, put_line};
 use crate::print::print_all;
+use ln_channels::{EndLine, Line, Step, World, every_end_has_a_record};
 use ln_keys::ToyKeys;
 use ln_msgs::{Counted, Refusal, write_out};
-use ln_channels::{EndLine, Line, Step, World, every_end_has_a_record};
 use std::alloc::{AllocError, Global};
 use std::io::Write;
 

@@ -13,11 +13,11 @@ use crate::keys::partners_of;
 use crate::word::{channel_of, decimal_of, end_of, node_of, number_of, short_id_of};
 use ln_bytes::ShortId;
 use ln_channel::Command;
+use ln_channels::{Act, End, Node, Open, Step};
 use ln_close::Fees;
 use ln_keys::ToyKeys;
 use ln_log::Limits;
 use ln_msgs::Refusal;
-use ln_channels::{Act, End, Node, Open, Step};
 use std::alloc::Global;
 
 /// set X fees FIRST LEAST MOST
