@@ -1,6 +1,8 @@
 -- A link does what a command asks for exactly where its end may do it.
-use Rattle.std.proofs.Common.{◌≡◌, ◌↔◌, ℕ, List, [], sym, ap, ◌∙◌, subst, refl, Bool, false, cond, Result, Ok, Err}
+use Rattle.std.proofs.Common.{◌≡◌, ◌↔◌, ℕ, List, [], sym, ap, ◌∙◌, subst, refl, Bool, true, false, cond}
+use Rattle.std.proofs.Common.{Result, Ok, Err}
 use Rattle.ln_msgs.specs.declared.refusals.refusal.Refusal.{Refusal}
+use Rattle.ln_msgs.specs.declared.refusals.refusal.Refusal.TheVariants as refusal
 use Rattle.ln_keys.specs.declared.role.Role.{Role}
 use Rattle.ln_keys.specs.declared.role.Role.TheVariants.{Funder, Fundee}
 use Rattle.ln_keys.specs.Signer.{Signer}
@@ -20,7 +22,7 @@ use Rattle.ln_pair.specs.Doing.{Does}
 use Rattle.ln_pair.proofs.Doing.{both_do}
 use Rattle.ln_channels.specs.Both.{Both}
 use Rattle.ln_channels.specs.Promises.{Obeys, BothObey, DoExactly}
-use Rattle.ln_channels.proofs.Mirror.{link_of}
+use Rattle.ln_channels.proofs.Mirror.{link_at, link_of}
 use Rattle.ln_channels.proofs.Moves.{obeyed_so}
 use Rattle.ln_channels.proofs.Kept.{IsRun, ends_of, at_links}
 
@@ -36,9 +38,14 @@ taken_so line (Err z) = (
 )
 
 module _ {K : Type 0} (signer : K → Signer) where
-  obeys_so : (side : Role) (c : Command) (k : K) (line : Line) (e : End) (m : Machine) (l : State K)
-      → l ≡ link_of k line e → is_of_records c ≡ false → Does (signer k) side line c e m → Obeys signer side c l e m
-  obeys_so side c k line e m l is plain d =
+  obeys_so : (b : Bool) (side : Role) (c : Command) (k : K) (line : Line) (e : End) (m : Machine) (l : State K)
+      → l ≡ link_at b k line e → is_of_records c ≡ false → Does (signer k) side line c e m → Obeys signer side c l e m
+  obeys_so true side c k line e m l is plain d =
+      subst (λ w. Obeys signer side c w e m) (sym is) (
+        (λ x. absurd (let no : Err refusal.Halted ≡ Ok x.0 = x.1 in cc)),
+        (λ x. absurd (let no : true ≡ false = x.works in cc)),
+      )
+  obeys_so false side c k line e m l is plain d =
       let keys = signer k in
       let row : commanded keys (link_of k line e) c ≡ step.turned line (command_at keys line c e) =
       ap (λ b. cond b (noted line c (stage.Saved e)) (obeyed keys line c (stage.Saved e))) plain
@@ -57,6 +64,6 @@ module _ {K : Type 0} (signer : K → Signer) where
       let d = both_do (signer r.funders) (signer r.fundees) r.spec r.config r.funder r.fundee r.steps c r.keys
       r.opens in
       at_links signer id r.funders r.fundees (BothObey signer c p) p q h (
-        obeys_so Funder c r.funders q.x_line q.x m p.x.link h.x_link plain d.funder,
-        obeys_so Fundee c r.fundees q.y_line q.y m p.y.link h.y_link plain d.fundee,
+        obeys_so h.x_halted Funder c r.funders q.x_line q.x m p.x.link h.x_link plain d.funder,
+        obeys_so h.y_halted Fundee c r.fundees q.y_line q.y m p.y.link h.y_link plain d.fundee,
       )

@@ -30,6 +30,7 @@ use Rattle.ln_channel.specs.End.{End}
 use Rattle.ln_channel.specs.State.{State, is_down}
 use Rattle.ln_channel.specs.Step.{Done, handled}
 use Rattle.ln_channel.specs.Step as step
+use Rattle.ln_channel.specs.declared.command.Command.{Command}
 use Rattle.ln_channel.specs.declared.command.Command.TheVariants as command
 use Rattle.ln_pair.specs.Ends.{Ends, Step}
 use Rattle.ln_pair.specs.Ends as pair
@@ -71,19 +72,20 @@ use Rattle.ln_channels.specs.declared.step.Act.TheVariants as act
 use Rattle.ln_channels.specs.declared.step.Node.{Node}
 use Rattle.ln_channels.specs.Settings.{channel_id_of}
 use Rattle.ln_channels.specs.declared.step.End.{End as WorldEnd}
-use Rattle.ln_channels.specs.Both.{Both, By, Falls, Restarts, Stops, Meet, acts, swapped, moves, may_come_up}
+use Rattle.ln_channels.specs.Both.{Both, By, Falls, Halts, Restarts, Stops, Meet, acts, swapped, moves, may_come_up}
 use Rattle.ln_channels.specs.Both.{run as run_both}
 use Rattle.ln_channels.specs.Channel.{Channel, by, side_of, actor, moved, may_meet, act_moves, fall_moves, restart_moves}
-use Rattle.ln_channels.specs.Channel.{stop_moves, up_moves, place_of}
+use Rattle.ln_channels.specs.Channel.{halt_moves, stop_moves, up_moves, place_of}
 use Rattle.ln_channels.specs.Promises.{AtEnd, AtEnds, Headline, TakesFront, NoneRefused, AgreeOnceSigned, Agrees}
 use Rattle.ln_channels.specs.Promises.{FeesOverlap, AcceptsFront, AllTaken, OneFee, HaveAnswered, AnswersShutdown}
 use Rattle.ln_channels.specs.Promises.{MarksAgree, BothClose}
 use Rattle.ln_channels.specs.Records.{HaveSecrets, IsAct}
 use Rattle.ln_channels.proofs.Mirror.{link_of, without_warnings, IsInbox, Mirrors, flipped, plain}
+use Rattle.ln_channels.proofs.Mirror.{is_awake, unless_halted}
 use Rattle.ln_channels.proofs.Dropped.{are_dropped, ran_so}
 use Rattle.ln_channels.proofs.Stops.{ends_stopped, stopped_so, stopped_says}
 use Rattle.ln_channels.proofs.Moves.{Goes, out_of, handled_so, passed_so, delivered, given, fell, restarted_so, met}
-use Rattle.ln_channels.proofs.Moves.{is_up, noted}
+use Rattle.ln_channels.proofs.Moves.{is_up, noted, refuses_halted, halted_so, AreAwake}
 use Rattle.ln_channels.proofs.Opening.{IsOpening}
 
 -- ---- the pair's steps
@@ -222,6 +224,7 @@ as_wide side (act.Send (command.Forget i)) h = h
 abbrev pub IsMove : Move → Type 0
 IsMove (By side a) = IsAct a
 IsMove (Falls side) = Unit {0}
+IsMove (Halts side) = Unit {0}
 IsMove (Restarts side) = Unit {0}
 IsMove (Stops side a) = IsAct a
 IsMove Meet = Unit {0}
@@ -288,30 +291,44 @@ module _ {K : Type 0} (signer : K → Signer) where
         r.steps ss (pair.opened r.funder r.fundee))) h;
   }
 
+  abbrev AsGiven : List ℕ → Role → Command → K → K → Both K → Ends → Type 0
+  AsGiven id side c kx ky p q = Goes signer id kx ky side (of_pair (act.Send c))
+      (out_of signer id side (act.Send c) p.x) (acts signer id (act.Send c) p) q
+
+  -- a link that works
+  works_so : (id : List ℕ) (side : Role) (c : Command) (kx ky : K) (p : Both K) (q : Ends)
+      → p.x.link ≡ link_of kx q.x_line q.x → Mirrors id kx ky p q → AsGiven id side c kx ky p q
+  works_so id side (command.Confirm i) kx ky p q works h =
+      inr (given signer id kx ky side (command.Confirm i) p q refl works h)
+  works_so id side (command.Add amount hash expiry onion origin) kx ky p q works h =
+      inr (given signer id kx ky side (command.Add amount hash expiry onion origin) p q refl works h)
+  works_so id side (command.Fulfil i preimage) kx ky p q works h =
+      inr (given signer id kx ky side (command.Fulfil i preimage) p q refl works h)
+  works_so id side (command.Fail i reason) kx ky p q works h =
+      inr (given signer id kx ky side (command.Fail i reason) p q refl works h)
+  works_so id side (command.Malformed i sha code) kx ky p q works h =
+      inr (given signer id kx ky side (command.Malformed i sha code) p q refl works h)
+  works_so id side (command.Fee feerate) kx ky p q works h =
+      inr (given signer id kx ky side (command.Fee feerate) p q refl works h)
+  works_so id side command.Sign kx ky p q works h =
+      inr (given signer id kx ky side command.Sign p q refl works h)
+  works_so id side (command.Shutdown script) kx ky p q works h =
+      inr (given signer id kx ky side (command.Shutdown script) p q refl works h)
+  works_so id side (command.Decide event mark) kx ky p q works h =
+      inr (noted signer id kx ky side (command.Decide event mark) p q refl refl works h)
+  works_so id side (command.Forget i) kx ky p q works h =
+      inr (noted signer id kx ky side (command.Forget i) p q refl refl works h)
+
+  given_so : (halted : Bool) (id : List ℕ) (side : Role) (c : Command) (kx ky : K) (p : Both K) (q : Ends)
+      → p.x.link.halted ≡ halted → Mirrors id kx ky p q → AsGiven id side c kx ky p q
+  given_so true id side c kx ky p q is h = inl (refuses_halted signer id kx ky side c p q is h)
+  given_so false id side c kx ky p q is h = works_so id side c kx ky p q (unless_halted id kx ky p q h is) h
+
   acts_so : (id : List ℕ) (side : Role) (a : Act) (kx ky : K) (p : Both K) (q : Ends) → Mirrors id kx ky p q
       → Front (signer kx) q.x_line q.to_x q.x
       → Goes signer id kx ky side (of_pair a) (out_of signer id side a p.x) (acts signer id a p) q
   acts_so id side act.Deliver kx ky p q h f = delivered signer id kx ky side p q h f
-  acts_so id side (act.Send (command.Confirm i)) kx ky p q h f =
-      inr (given signer id kx ky side (command.Confirm i) p q refl h)
-  acts_so id side (act.Send (command.Add amount hash expiry onion origin)) kx ky p q h f =
-      inr (given signer id kx ky side (command.Add amount hash expiry onion origin) p q refl h)
-  acts_so id side (act.Send (command.Fulfil i preimage)) kx ky p q h f =
-      inr (given signer id kx ky side (command.Fulfil i preimage) p q refl h)
-  acts_so id side (act.Send (command.Fail i reason)) kx ky p q h f =
-      inr (given signer id kx ky side (command.Fail i reason) p q refl h)
-  acts_so id side (act.Send (command.Malformed i sha code)) kx ky p q h f =
-      inr (given signer id kx ky side (command.Malformed i sha code) p q refl h)
-  acts_so id side (act.Send (command.Fee feerate)) kx ky p q h f =
-      inr (given signer id kx ky side (command.Fee feerate) p q refl h)
-  acts_so id side (act.Send command.Sign) kx ky p q h f =
-      inr (given signer id kx ky side command.Sign p q refl h)
-  acts_so id side (act.Send (command.Shutdown script)) kx ky p q h f =
-      inr (given signer id kx ky side (command.Shutdown script) p q refl h)
-  acts_so id side (act.Send (command.Decide event mark)) kx ky p q h f =
-      inr (noted signer id kx ky side (command.Decide event mark) p q refl refl h)
-  acts_so id side (act.Send (command.Forget i)) kx ky p q h f =
-      inr (noted signer id kx ky side (command.Forget i) p q refl refl h)
+  acts_so id side (act.Send c) kx ky p q h f = given_so p.x.link.halted id side c kx ky p q refl h
 
   -- what a move comes to
   abbrev pub tale_of : List ℕ → Move → Both K → Tale
@@ -589,44 +606,62 @@ module _ {K : Type 0} (signer : K → Signer) where
       (ap events_in (told-append x y Funder h.steps ss q ∙ append-nil _) ∙ h.told_x)
       (ap events_in (told-append x y Fundee h.steps ss q ∙ append-nil _) ∙ h.told_y)
 
-  fallen_went : (id : List ℕ) (side : Role) (p : Both K) (r : IsRun id p)
-      → Went id p (moves signer id (Falls side) p) r (tale_of id (Falls side) p) (Unit {0})
-  unfolding moves
-  fallen_went id Funder p r =
+  -- a connection of x's is lost, whatever becomes of its link
+  lost_went : (id : List ℕ) (side : Role) (p p' : Both K) (r : IsRun id p)
+      → Mirrors id r.funders r.fundees p' (pair.happens (signer r.funders) (signer r.fundees)
+      (pair.By side pair.Lose) (ends_of id p r))
+      → Went id p p' r (tale_of id (Falls side) p) (Unit {0})
+  lost_went id Funder p p' r h =
       let q = ends_of id p r in
       let said = lost_says (is_down q.x_line) q (record q { x_line = Down; x = end_dropped q.x; to_x = [] }) refl
       refl in
-      went_so id p _ r (pair.By Funder pair.Lose) (tale_of id (Falls Funder) p) tt
-      (fell signer id r.funders r.fundees p q r.mirrors)
+      went_so id p p' r (pair.By Funder pair.Lose) (tale_of id (Falls Funder) p) tt h
       (said.0 ∙ silently q.said_x [] refl) (said.1 ∙ silently q.said_y [] refl)
       (ap (λ (l : State K). moves_of_fall Funder l.line) (sym r.mirrors.x_link)) refl refl
-  fallen_went id Fundee p r =
+  lost_went id Fundee p p' r h =
       let q = ends_of id p r in
       let t = pair.turned q in
       let said = lost_says (is_down t.x_line) t (record t { x_line = Down; x = end_dropped t.x; to_x = [] }) refl
       refl in
-      went_so id p _ r (pair.By Fundee pair.Lose) (tale_of id (Falls Fundee) p) tt
-      (flipped id r.fundees r.funders _ _ (fell signer id r.fundees r.funders (swapped p) t
-      (flipped id r.funders r.fundees p q r.mirrors)))
+      went_so id p p' r (pair.By Fundee pair.Lose) (tale_of id (Falls Fundee) p) tt h
       (said.1 ∙ silently q.said_x [] refl) (said.0 ∙ silently q.said_y [] refl)
       (ap (λ (l : State K). moves_of_fall Fundee l.line) (sym r.mirrors.y_link)) refl refl
 
-  as_fallen : (id : List ℕ) (side : Role) (p : Both K) → IsRun id p
-      → moves signer id (Falls side) p ≡ moves signer id (Restarts side) p
+  fallen_went : (id : List ℕ) (side : Role) (p : Both K) (r : IsRun id p)
+      → Went id p (moves signer id (Falls side) p) r (tale_of id (Falls side) p) (Unit {0})
   unfolding moves
-  as_fallen id Funder p r =
-      let d = are_dropped (signer r.funders) (signer r.fundees) r.steps r.funder r.fundee in
-      sym (restarted_so signer id r.funders r.fundees p (ends_of id p r) d.x r.mirrors)
-  as_fallen id Fundee p r =
+  fallen_went id Funder p r =
+      lost_went id Funder p _ r (fell signer id r.funders r.fundees p (ends_of id p r) r.mirrors)
+  fallen_went id Fundee p r =
       let q = ends_of id p r in
-      let d = are_dropped (signer r.funders) (signer r.fundees) r.steps r.funder r.fundee in
-      ap swapped (sym (restarted_so signer id r.fundees r.funders (swapped p) (pair.turned q) d.y
-      (flipped id r.funders r.fundees p q r.mirrors)))
+      lost_went id Fundee p _ r (flipped id r.fundees r.funders _ _ (fell signer id r.fundees r.funders (swapped p)
+      (pair.turned q) (flipped id r.funders r.fundees p q r.mirrors)))
+
+  halted_went : (id : List ℕ) (side : Role) (p : Both K) (r : IsRun id p)
+      → Went id p (moves signer id (Halts side) p) r (tale_of id (Halts side) p) (Unit {0})
+  unfolding moves
+  halted_went id Funder p r =
+      lost_went id Funder p _ r (halted_so signer id r.funders r.fundees p (ends_of id p r) r.mirrors)
+  halted_went id Fundee p r =
+      let q = ends_of id p r in
+      lost_went id Fundee p _ r (flipped id r.fundees r.funders _ _ (halted_so signer id r.fundees r.funders (swapped p)
+      (pair.turned q) (flipped id r.funders r.fundees p q r.mirrors)))
 
   restarted_went : (id : List ℕ) (side : Role) (p : Both K) (r : IsRun id p)
       → Went id p (moves signer id (Restarts side) p) r (tale_of id (Restarts side) p) (Unit {0})
-  restarted_went id side p r = subst (λ p'. Went id p p' r (tale_of id (Falls side) p) (Unit {0}))
-      (as_fallen id side p r) (fallen_went id side p r)
+  unfolding moves
+  restarted_went id Funder p r =
+      let d = are_dropped (signer r.funders) (signer r.fundees) r.steps r.funder r.fundee in
+      lost_went id Funder p _ r (restarted_so signer id r.funders r.fundees p (ends_of id p r) d.x r.mirrors)
+  restarted_went id Fundee p r =
+      let q = ends_of id p r in
+      let d = are_dropped (signer r.funders) (signer r.fundees) r.steps r.funder r.fundee in
+      lost_went id Fundee p _ r (flipped id r.fundees r.funders _ _ (restarted_so signer id r.fundees r.funders
+      (swapped p) (pair.turned q) d.y (flipped id r.funders r.fundees p q r.mirrors)))
+
+  not_true : (b : Bool) → not b ≡ true → b ≡ false
+  not_true false e = refl
+  not_true true e = absurd (cc)
 
   came_up_went : (id : List ℕ) (p : Both K) → may_meet p ≡ true → (r : IsRun id p)
       → Went id p (moves signer id Meet p) r (tale_of id Meet p) (Unit {0})
@@ -636,15 +671,21 @@ module _ {K : Type 0} (signer : K → Signer) where
       let x = both_true (is_down p.x.link.line) (not p.x.link.halted) ends.0 in
       let y = both_true (is_down p.y.link.line) (not p.y.link.halted) ends.1 in
       let q = ends_of id p r in
-      let said = met_says signer id r.funders r.fundees p q x.0 y.0 r.mirrors in
-      let told = met_tells signer id r.funders r.fundees p q x.0 y.0 r.mirrors in
+      let work : AreAwake signer id r.funders r.fundees p q = record {
+        x = unless_halted id r.funders r.fundees p q r.mirrors (not_true p.x.link.halted x.1);
+        y = unless_halted id r.fundees r.funders (swapped p) (pair.turned q)
+            (flipped id r.funders r.fundees p q r.mirrors) (not_true p.y.link.halted y.1);
+      } in
+      let said = met_says signer id r.funders r.fundees p q x.0 y.0 work r.mirrors in
+      let told = met_tells signer id r.funders r.fundees p q x.0 y.0 work r.mirrors in
       went_so id p _ r pair.Connect (tale_of id Meet p) tt
-      (met signer id r.funders r.fundees p q x.0 y.0 r.mirrors) said.0 said.1 refl (sym told.0) (sym told.1)
+      (met signer id r.funders r.fundees p q x.0 y.0 work r.mirrors) said.0 said.1 refl (sym told.0) (sym told.1)
 
   -- those that the table gives: a connection joins ends that are both down, and haven't halted
   abbrev pub is_possible : Move → Both K → Bool
   is_possible (By side a) p = true
   is_possible (Falls side) p = true
+  is_possible (Halts side) p = true
   is_possible (Restarts side) p = true
   is_possible (Stops side a) p = true
   is_possible Meet p = may_meet p
@@ -657,6 +698,7 @@ module _ {K : Type 0} (signer : K → Signer) where
       → Went id p (moves signer id m p) r (tale_of id m p) (IsMove m)
   went id (By side a) p e r = acted_went id side a p r
   went id (Falls side) p e r = fallen_went id side p r
+  went id (Halts side) p e r = halted_went id side p r
   went id (Restarts side) p e r = restarted_went id side p r
   went id (Stops side a) p e r = stopped_went id side a p r
   went id Meet p e r = came_up_went id p e r
@@ -772,6 +814,10 @@ module _ {K : Type 0} (signer : K → Signer) where
   fallen_by id None p r = r
   fallen_by id (Some side) p r = (fallen_went id side p r).run
 
+  halted_by : (id : List ℕ) (o : Option Role) (p : Both K) → IsRun id p → IsRun id (run_both signer id (by o Halts) p)
+  halted_by id None p r = r
+  halted_by id (Some side) p r = (halted_went id side p r).run
+
   restarted_by : (id : List ℕ) (o : Option Role) (p : Both K) → IsRun id p
       → IsRun id (run_both signer id (by o Restarts) p)
   restarted_by id None p r = r
@@ -797,6 +843,9 @@ module _ {K : Type 0} (signer : K → Signer) where
 
   pub fall_kept : (n : Node) (c : Channel K) → IsOpen c → IsOpen (moved signer (fall_moves n) c)
   fall_kept n c h = fallen_by (channel_id_of c.number) (side_of n c) c.both h
+
+  pub halt_kept : (n : Node) (c : Channel K) → IsOpen c → IsOpen (moved signer (halt_moves n) c)
+  halt_kept n c h = halted_by (channel_id_of c.number) (side_of n c) c.both h
 
   pub restart_kept : (n : Node) (c : Channel K) → IsOpen c → IsOpen (moved signer (restart_moves n) c)
   restart_kept n c h = restarted_by (channel_id_of c.number) (side_of n c) c.both h
@@ -867,13 +916,14 @@ module _ {K : Type 0} (signer : K → Signer) where
   )
 
   front_by : (id : List ℕ) (k : K) (l : State K) (line : Line) (e : End) (inbox to : List Message)
-      → l ≡ link_of k line e → IsInbox id line inbox to → e.dance.channel ≡ id → Front (signer k) line to e
+      → (is_down line ≡ false → l ≡ link_of k line e) → IsInbox id line inbox to → e.dance.channel ≡ id
+      → Front (signer k) line to e
       → TakesFront signer l inbox
   front_by id k l line e [] to is i channel f = tt
   front_by id k l line e (m ∷ ms) to is i channel f =
       let Goal : State K → Type 0 = λ w. TakesFront signer w (m ∷ ms) in
       let up = is_up signer id k k line m ms i.down in
-      subst Goal (sym is) (elim (i.named.0) [
+      subst Goal (sym (is up)) (elim (i.named.0) [
         | inl warns ↦ inl (
           record { line = line; stage = stage.Saved e; outputs = [] },
           passed_so (signer k) k id line m e warns,
@@ -889,8 +939,11 @@ module _ {K : Type 0} (signer : K → Signer) where
       let q = ends_of id p r in
       let h = r.mirrors in
       record {
-        x = front_by id r.funders p.x.link q.x_line q.x p.x.inbox q.to_x h.x_link h.x_in h.x_channel (fronts id p r).0;
-        y = front_by id r.fundees p.y.link q.y_line q.y p.y.inbox q.to_y h.y_link h.y_in h.y_channel (fronts id p r).1;
+        x = front_by id r.funders p.x.link q.x_line q.x p.x.inbox q.to_x
+            (λ up. is_awake id r.funders r.fundees p q h up) h.x_in h.x_channel (fronts id p r).0;
+        y = front_by id r.fundees p.y.link q.y_line q.y p.y.inbox q.to_y
+            (λ up. is_awake id r.fundees r.funders (swapped p) (pair.turned q)
+            (flipped id r.funders r.fundees p q h) up) h.y_in h.y_channel (fronts id p r).1;
         x_stands = ap (λ (l : State K). l.failure) h.x_link;
         y_stands = ap (λ (l : State K). l.failure) h.y_link;
       }
@@ -906,13 +959,14 @@ module _ {K : Type 0} (signer : K → Signer) where
   )
 
   accepted_by : (id : List ℕ) (k : K) (l : State K) (line : Line) (e : End) (inbox to : List Message)
-      → l ≡ link_of k line e → IsInbox id line inbox to → e.dance.channel ≡ id → Accepted (signer k) line to e
+      → (is_down line ≡ false → l ≡ link_of k line e) → IsInbox id line inbox to → e.dance.channel ≡ id
+      → Accepted (signer k) line to e
       → AcceptsFront signer l inbox
   accepted_by id k l line e [] to is i channel f = tt
   accepted_by id k l line e (m ∷ ms) to is i channel f =
       let Goal : State K → Type 0 = λ w. AcceptsFront signer w (m ∷ ms) in
       let up = is_up signer id k k line m ms i.down in
-      subst Goal (sym is) (elim (i.named.0) [
+      subst Goal (sym (is up)) (elim (i.named.0) [
         | inl warns ↦ (
           record { line = line; stage = stage.Saved e; outputs = [] },
           passed_so (signer k) k id line m e warns,
@@ -946,8 +1000,11 @@ module _ {K : Type 0} (signer : K → Signer) where
         fundee_sent = r.fundees_fees;
         overlap = overlap_so id p r over;
       }) in (
-        accepted_by id r.funders p.x.link q.x_line q.x p.x.inbox q.to_x h.x_link h.x_in h.x_channel f.0,
-        accepted_by id r.fundees p.y.link q.y_line q.y p.y.inbox q.to_y h.y_link h.y_in h.y_channel f.1,
+        accepted_by id r.funders p.x.link q.x_line q.x p.x.inbox q.to_x
+            (λ up. is_awake id r.funders r.fundees p q h up) h.x_in h.x_channel f.0,
+        accepted_by id r.fundees p.y.link q.y_line q.y p.y.inbox q.to_y
+            (λ up. is_awake id r.fundees r.funders (swapped p) (pair.turned q)
+            (flipped id r.funders r.fundees p q h) up) h.y_in h.y_channel f.1,
       )
 
   pub both_close : (id : List ℕ) (p : Both K) → IsRun id p → BothClose p

@@ -17,9 +17,12 @@ use Rattle.ln_pair.specs.Ends as pair
 use Rattle.ln_channels.specs.Both.{Both, Place, reaches, swapped}
 use Rattle.ln_channels.proofs.Named.{Names}
 
--- a link of an open channel, which hasn't failed
+-- a link of an open channel, which hasn't failed; it may have halted
+abbrev pub link_at : {K : Type 0} → Bool → K → Line → End → State K
+link_at halted k l e = record { keys = k; line = l; halted = halted; failure = None; stage = stage.Saved e }
+
 abbrev pub link_of : {K : Type 0} → K → Line → End → State K
-link_of k l e = record { keys = k; line = l; halted = false; failure = None; stage = stage.Saved e }
+link_of k l e = link_at false k l e
 
 abbrev pub is_warning : Message → Bool
 is_warning (message.Warning m) = true
@@ -40,8 +43,12 @@ pub record IsInbox (id : List ℕ) (l : Line) (inbox to : List Message) : Type 0
   pub down : is_down l ≡ true → inbox ≡ []
 
 pub record Mirrors {K : Type 0} (id : List ℕ) (kx ky : K) (p : Both K) (q : Ends) : Type 0 where
-  pub x_link : p.x.link ≡ link_of kx q.x_line q.x
-  pub y_link : p.y.link ≡ link_of ky q.y_line q.y
+  pub x_halted : Bool
+  pub y_halted : Bool
+  pub x_link : p.x.link ≡ link_at x_halted kx q.x_line q.x
+  pub y_link : p.y.link ≡ link_at y_halted ky q.y_line q.y
+  pub x_down : x_halted ≡ true → is_down q.x_line ≡ true
+  pub y_down : y_halted ≡ true → is_down q.y_line ≡ true
   pub x_in : IsInbox id q.x_line p.x.inbox q.to_x
   pub y_in : IsInbox id q.y_line p.y.inbox q.to_y
   pub x_channel : q.x.dance.channel ≡ id
@@ -52,8 +59,12 @@ pub record Mirrors {K : Type 0} (id : List ℕ) (kx ky : K) (p : Both K) (q : En
 pub flipped : {K : Type 0} (id : List ℕ) (kx ky : K) (p : Both K) (q : Ends) → Mirrors id kx ky p q
     → Mirrors id ky kx (swapped p) (pair.turned q)
 flipped id kx ky p q h = record {
+  x_halted = h.y_halted;
+  y_halted = h.x_halted;
   x_link = h.y_link;
   y_link = h.x_link;
+  x_down = h.y_down;
+  y_down = h.x_down;
   x_in = h.y_in;
   y_in = h.x_in;
   x_channel = h.y_channel;
@@ -61,6 +72,22 @@ flipped id kx ky p q h = record {
   x_keys = h.y_keys;
   y_keys = h.x_keys;
 }
+
+-- ---- a link that has halted has no connection
+
+none_halts : (b : Bool) (l : Line) → (b ≡ true → is_down l ≡ true) → is_down l ≡ false → b ≡ false
+none_halts false l h up = refl
+none_halts true l h up = absurd (let no : true ≡ false = sym (h refl) ∙ up in cc)
+
+module _ {K : Type 0} (id : List ℕ) (kx ky : K) (p : Both K) (q : Ends) where
+  -- so one that has a connection works
+  pub is_awake : Mirrors id kx ky p q → is_down q.x_line ≡ false → p.x.link ≡ link_of kx q.x_line q.x
+  is_awake h up =
+      h.x_link ∙ ap (λ b. link_at b kx q.x_line q.x) (none_halts h.x_halted q.x_line h.x_down up)
+
+  pub unless_halted : Mirrors id kx ky p q → p.x.link.halted ≡ false → p.x.link ≡ link_of kx q.x_line q.x
+  unless_halted h works =
+      h.x_link ∙ ap (λ b. link_at b kx q.x_line q.x) (ap (λ (l : State K). l.halted) (sym h.x_link) ∙ works)
 
 -- ---- what names a channel is a message of it
 

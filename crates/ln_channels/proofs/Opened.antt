@@ -152,8 +152,12 @@ module _ {K : Type 0} (signer : K → Signer) (id : List ℕ) (kx ky : K) (s : O
   pub mirrored : id ≡ id_of_channel s.txid s.output
       → Mirrors id kx ky (run_both signer id opening_moves at_first) (pair.opened funder fundee)
   mirrored e = subst (λ p. Mirrors id kx ky p (pair.opened funder fundee)) (sym opens_so) (record {
+    x_halted = false;
+    y_halted = false;
     x_link = refl;
     y_link = refl;
+    x_down = λ e. absurd (cc);
+    y_down = λ e. absurd (cc);
     x_in = record { told = refl; named = tt; down = λ d. refl };
     y_in = record { told = refl; named = tt; down = λ d. refl };
     x_channel = funders_channel ∙ sym e;

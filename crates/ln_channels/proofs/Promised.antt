@@ -28,14 +28,15 @@ use Rattle.ln_channels.specs.Settings.{config_of, spec_of, txid_of, channel_id_o
 use Rattle.ln_channels.specs.Settings.{defaults, may_bring, CanBring}
 use Rattle.ln_channels.specs.Both.{Both, Move}
 use Rattle.ln_channels.specs.Channel.{Channel, is_node, moved, opened_by, act_moves, fall_moves, restart_moves, up_moves}
-use Rattle.ln_channels.specs.Channel.{stop_moves}
+use Rattle.ln_channels.specs.Channel.{halt_moves, stop_moves}
 use Rattle.ln_channels.specs.World.{World, settings_of, with_settings, channel, moved_at, all_moved, may_open, happens}
-use Rattle.ln_channels.specs.World.{everywhere, may_be_done, empty, run}
+use Rattle.ln_channels.specs.World.{at, everywhere, may_be_done, empty, run}
 use Rattle.ln_channels.specs.Promises.{Headline, NoneRefused, AllTaken, OneFee, Agrees, BringsFit, Each, BringFit, OfEach}
 use Rattle.ln_channels.specs.Promises.{AnswersShutdown, MarksAgree, BothClose, DoExactly}
 use Rattle.ln_channels.proofs.Fitting.{funders, fundees}
 use Rattle.ln_channels.proofs.Opened.{mirrored, fees_so, opening_so}
-use Rattle.ln_channels.proofs.Kept.{IsRun, IsOpen, act_kept, fall_kept, restart_kept, stop_kept, up_kept, Tale, IsTold}
+use Rattle.ln_channels.proofs.Kept.{IsRun, IsOpen, act_kept, fall_kept, halt_kept, restart_kept, stop_kept, up_kept}
+use Rattle.ln_channels.proofs.Kept.{Tale, IsTold}
 use Rattle.ln_channels.proofs.Kept as channels
 use Rattle.ln_channels.proofs.Doing as doing
 
@@ -208,10 +209,21 @@ module _ {K : Type 0} (k : Ghosts K) where
     either_so true f keep w h = all_so f keep w.channels h
     either_so false f keep w h = h
 
+    -- the channels with this number move so, or none does
+    pub there_so : (b : Bool) (n : ℕ) (f : Channel K → List Move) → ((c : Channel K) → P c → P (moved k.signer f c))
+        → (w : World K) → Each P w.channels → Each P (cond b (at k.signer n f w) w).channels
+    there_so true n f keep w h = moved_so n f keep w.channels h
+    there_so false n f keep w h = h
+
   pub settings_stay : (P : Settings → Type 0) (b : Bool) (f : Channel K → List Move) (w : World K)
       → AreSet P w.settings → AreSet P (cond b (everywhere k.signer f w) w).settings
   settings_stay P true f w h = h
   settings_stay P false f w h = h
+
+  pub settings_stay_there : (P : Settings → Type 0) (b : Bool) (n : ℕ) (f : Channel K → List Move) (w : World K)
+      → AreSet P w.settings → AreSet P (cond b (at k.signer n f w) w).settings
+  settings_stay_there P true n f w h = h
+  settings_stay_there P false n f w h = h
 
   pub keys_so : (o : Open K k) → BringsFit k (step.Open o) → AreKeys (k.signer o.keys.funder) (k.signer o.keys.fundee)
   keys_so o f = record {
@@ -261,6 +273,11 @@ module _ {K : Type 0} (k : Ghosts K) where
     settings = h.settings;
     channels = moved_so (IsOpen k.signer) e.channel (fall_moves e.node) (fall_kept k.signer e.node) w.channels
         h.channels;
+  }
+  happened (step.NoMemory e a) w f h = record {
+    settings = settings_stay_there HasFees (may_be_done e a w.channels) e.channel (halt_moves e.node) w h.settings;
+    channels = there_so (IsOpen k.signer) (may_be_done e a w.channels) e.channel (halt_moves e.node)
+        (halt_kept k.signer e.node) w h.channels;
   }
   happened (step.Restart n) w f h = record {
     settings = h.settings;

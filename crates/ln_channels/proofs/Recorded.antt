@@ -26,24 +26,26 @@ use Rattle.ln_channels.specs.declared.step.Step.TheVariants as step
 use Rattle.ln_channels.specs.declared.settings.Settings.{Settings}
 use Rattle.ln_channels.specs.declared.settings.Setting.{Setting}
 use Rattle.ln_channels.specs.Settings.{defaults, channel_id_of, may_bring, CanBring}
-use Rattle.ln_channels.specs.Both.{Both, Move, By, Falls, Restarts, Stops, Meet, moves, unheard}
+use Rattle.ln_channels.specs.Both.{Both, Move, By, Falls, Halts, Restarts, Stops, Meet, moves, unheard}
 use Rattle.ln_channels.specs.Both.{run as run_both}
 use Rattle.ln_channels.specs.Channel.{Channel, is_node, by, side_of, actor, moved, may_meet, opened_by, act_moves}
-use Rattle.ln_channels.specs.Channel.{fall_moves, restart_moves, stop_moves, up_moves, acted_unheard, side_unheard}
+use Rattle.ln_channels.specs.Channel.{fall_moves, halt_moves, restart_moves, stop_moves, up_moves}
+use Rattle.ln_channels.specs.Channel.{acted_unheard, side_unheard}
 use Rattle.ln_channels.specs.World.{World, settings_of, channel, may_open, joined, happens, may_be_done, changed_if}
 use Rattle.ln_channels.specs.World.{unheard_at, empty, run}
 use Rattle.ln_channels.specs.Failing.{LinkLacks, SideLacks, SomeLacks, MayFail, SomeMayFail}
 use Rattle.ln_channels.specs.Promises.{BringsFit, BringFit, Each, OfEach}
 use Rattle.ln_channels.specs.Records.{AreLimits, IsAct, IsStep, AreSteps, HaveRecords}
-use Rattle.ln_channels.proofs.Mirror.{link_of}
+use Rattle.ln_channels.proofs.Mirror.{link_at}
 use Rattle.ln_channels.proofs.Opening.{IsOpening}
 use Rattle.ln_channels.proofs.Forms.{has_record}
 use Rattle.ln_channels.proofs.Openings.{are_openings, short_scripts}
 use Rattle.ln_channels.proofs.Kept.{IsRun, IsWideRun, ends_of, IsMove, ArePossible, went}
 use Rattle.ln_channels.proofs.Promised.{brings_so, AreSet, set_of, set_with, set_so, opened_run, Keeps}
-use Rattle.ln_channels.proofs.Promised.{moved_so, all_so, joined_so, either_so, settings_stay, keys_so, happened}
-use Rattle.ln_channels.proofs.Told.{MayMake, acts_possible, falls_possible, restarts_possible, stops_possible}
-use Rattle.ln_channels.proofs.Told.{ups_possible}
+use Rattle.ln_channels.proofs.Promised.{moved_so, all_so, joined_so, either_so, there_so, settings_stay}
+use Rattle.ln_channels.proofs.Promised.{settings_stay_there, keys_so, happened}
+use Rattle.ln_channels.proofs.Told.{MayMake, acts_possible, falls_possible, halts_possible, restarts_possible}
+use Rattle.ln_channels.proofs.Told.{stops_possible, ups_possible}
 use Rattle.ln_channels.proofs.Stopping.{as_acted}
 
 -- ---- a channel whose commands are as wide as they are in code
@@ -176,6 +178,11 @@ module _ {K : Type 0} (k : Ghosts K) where
     moved_so k IsFitChannel e.channel (fall_moves e.node) (kept_by (fall_moves e.node) (falls_possible k e.node)
         (λ c. bring_by (side_of e.node c) Falls (λ side. tt))) w.channels h.channels,
   )
+  happens_so (step.NoMemory e a) w f is h = (
+    settings_stay_there k HasLimits (may_be_done e a w.channels) e.channel (halt_moves e.node) w h.limits,
+    there_so k IsFitChannel (may_be_done e a w.channels) e.channel (halt_moves e.node) (kept_by (halt_moves e.node)
+        (halts_possible k e.node) (λ c. bring_by (side_of e.node c) Halts (λ side. tt))) w h.channels,
+  )
   happens_so (step.Restart n) w f is h = (
     h.limits,
     all_so k IsFitChannel (restart_moves n) (kept_by (restart_moves n) (restarts_possible k n)
@@ -227,9 +234,9 @@ none_lacks w h n lacks = none_of n w.channels h lacks
 
 -- ---- each end has one
 
-none_lacking : {K : Type 0} (key : K) (l : State K) (line : Line) (o : Opened) (e : End) → l ≡ link_of key line e
-    → IsOpening o → IsOf o e → IsCounted e → IsWide e → LinkLacks l → ⊥
-none_lacking key l line o e is opening of counted wide lacks =
+none_lacking : {K : Type 0} (b : Bool) (key : K) (l : State K) (line : Line) (o : Opened) (e : End)
+    → l ≡ link_at b key line e → IsOpening o → IsOf o e → IsCounted e → IsWide e → LinkLacks l → ⊥
+none_lacking b key l line o e is opening of counted wide lacks =
     has_record o e opening of counted wide (subst LinkLacks is lacks)
 
 have_records : {K : Type 0} (signer : K → Signer) (id : List ℕ) (p : Both K) → IsFit signer id p → HaveRecords p
@@ -242,10 +249,10 @@ have_records signer id p h =
     h.wide.fundees_secrets r.opens r.funders_fees r.fundees_fees in
     let wide = are_wide a b r.spec r.config r.funder r.fundee r.steps r.keys r.opens h.wide.funders_script
     h.wide.fundees_script h.wide.commands in (
-      none_lacking r.funders p.x.link q.x_line r.funder q.x r.mirrors.x_link h.wide.funders_end wide.0.1 counted.0
-          wide.0.0,
-      none_lacking r.fundees p.y.link q.y_line r.fundee q.y r.mirrors.y_link h.wide.fundees_end wide.1.1 counted.1
-          wide.1.0,
+      none_lacking r.mirrors.x_halted r.funders p.x.link q.x_line r.funder q.x r.mirrors.x_link h.wide.funders_end
+          wide.0.1 counted.0 wide.0.0,
+      none_lacking r.mirrors.y_halted r.fundees p.y.link q.y_line r.fundee q.y r.mirrors.y_link h.wide.fundees_end
+          wide.1.1 counted.1 wide.1.0,
     )
 
 module _ {K : Type 0} (k : Ghosts K) where
@@ -287,6 +294,7 @@ module _ {K : Type 0} (k : Ghosts K) where
   never_in (step.Down e) w is h fails = absurd (cc)
   never_in (step.Restart n) w is h (inl e) = absurd (cc)
   never_in (step.Restart n) w is h (inr lacks) = none_of n w.channels (each_has w.channels h.channels) lacks.1
+  never_in (step.NoMemory e a) w is h fails = absurd (cc)
   never_in (step.StopBefore e a) w is h (inl r) = absurd (cc)
   never_in (step.StopBefore e a) w is h (inr lacks) =
       none_of e.node w.channels (each_has w.channels h.channels) lacks.1

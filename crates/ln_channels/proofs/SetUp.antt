@@ -16,16 +16,17 @@ use Rattle.ln_channels.specs.Settings.{channel_id_of, may_bring, CanBring}
 use Rattle.ln_channels.specs.Both.{Both, Move}
 use Rattle.ln_channels.specs.Both.{run as run_both}
 use Rattle.ln_channels.specs.Channel.{Channel, is_node, moved, opened_by, act_moves, fall_moves, restart_moves, up_moves}
-use Rattle.ln_channels.specs.Channel.{stop_moves}
+use Rattle.ln_channels.specs.Channel.{halt_moves, stop_moves}
 use Rattle.ln_channels.specs.World.{World, settings_of, channel, moved_if, moved_at, all_moved, may_open, joined, happens}
-use Rattle.ln_channels.specs.World.{everywhere, may_be_done, empty, run}
+use Rattle.ln_channels.specs.World.{at, everywhere, may_be_done, empty, run}
 use Rattle.ln_channels.specs.Promises.{BringsFit, BringFit}
 use Rattle.ln_channels.specs.Setup.{setup_by, setup_in, all_setups, OpensAsSet}
 use Rattle.ln_channels.proofs.Opened.{fees_so, opening_so}
 use Rattle.ln_channels.proofs.Kept.{IsRun, ArePossible, went, setup_at, as_set_up}
 use Rattle.ln_channels.proofs.Promised.{opened_run, brings_so, set_so, Keeps, keys_so, happened}
 use Rattle.ln_channels.proofs.Told.{MayMake, or_else, moved_or_not, found_moved, found_in_all, found_joined, none_so}
-use Rattle.ln_channels.proofs.Told.{acts_possible, falls_possible, restarts_possible, stops_possible, ups_possible}
+use Rattle.ln_channels.proofs.Told.{acts_possible, falls_possible, halts_possible, restarts_possible, stops_possible}
+use Rattle.ln_channels.proofs.Told.{ups_possible}
 
 -- ---- a channel, with what it was set up with
 
@@ -85,6 +86,11 @@ module _ {K : Type 0} (k : Ghosts K) where
       → Stands (channel n w.channels) ds → Stands (channel n (cond b (everywhere k.signer f w) w).channels) (ds ++ [])
   stops true f n w ds may h = all_go f n w.channels ds may h
   stops false f n w ds may h = behind_none (channel n w.channels) ds h
+
+  halts : (b : Bool) (m : ℕ) (f : Channel K → List Move) (n : ℕ) (w : World K) (ds : List Setup) → MayMake k f
+      → Stands (channel n w.channels) ds → Stands (channel n (cond b (at k.signer m f w) w).channels) (ds ++ [])
+  halts true m f n w ds may h = goes m f n w.channels ds may h
+  halts false m f n w ds may h = behind_none (channel n w.channels) ds h
 
   -- ---- an opening
 
@@ -156,6 +162,8 @@ module _ {K : Type 0} (k : Ghosts K) where
       goes e.channel (act_moves e.node a) n w.channels ds (acts_possible k e.node a) h
   step_stands n (step.Down e) w ds f keeps h =
       goes e.channel (fall_moves e.node) n w.channels ds (falls_possible k e.node) h
+  step_stands n (step.NoMemory e a) w ds f keeps h =
+      halts (may_be_done e a w.channels) e.channel (halt_moves e.node) n w ds (halts_possible k e.node) h
   step_stands n (step.Restart m) w ds f keeps h =
       all_go (restart_moves m) n w.channels ds (restarts_possible k m) h
   step_stands n (step.StopBefore e a) w ds f keeps h =

@@ -23,12 +23,11 @@ use Rattle.ln_channels.specs.declared.step.Step.{Step}
 use Rattle.ln_channels.specs.declared.step.Step.TheVariants as step
 use Rattle.ln_channels.specs.Settings.{channel_id_of, opening_by, may_bring}
 use Rattle.ln_channels.specs.declared.step.End.{End}
-use Rattle.ln_channels.specs.Both.{Both, Move, By, Falls, Restarts, Stops, Meet}
+use Rattle.ln_channels.specs.Both.{Both, Move, By, Falls, Halts, Restarts, Stops, Meet}
 use Rattle.ln_channels.specs.Channel.{Channel, is_node, by, side_of, actor, moved, may_meet, opened_by, act_moves}
-use Rattle.ln_channels.specs.Channel.{fall_moves}
-use Rattle.ln_channels.specs.Channel.{restart_moves, stop_moves, up_moves}
+use Rattle.ln_channels.specs.Channel.{fall_moves, halt_moves, restart_moves, stop_moves, up_moves}
 use Rattle.ln_channels.specs.World.{World, settings_of, channel, moved_if, moved_at, all_moved, may_open, joined, happens}
-use Rattle.ln_channels.specs.World.{everywhere, may_be_done, empty, run}
+use Rattle.ln_channels.specs.World.{at, everywhere, may_be_done, empty, run}
 use Rattle.ln_channels.specs.Promises.{BringsFit, BringFit}
 use Rattle.ln_channels.specs.Course.{step_moves, in_channel, over}
 use Rattle.ln_channels.specs.Sending.{sends, sent_in, NoneAddsLate}
@@ -116,6 +115,9 @@ module _ {K : Type 0} (k : Ghosts K) where
 
   pub falls_possible : (n : Node) → MayMake (fall_moves n)
   falls_possible n c = by_possible (channel_id_of c.number) c.both (side_of n c) Falls (λ side. (refl, tt))
+
+  pub halts_possible : (n : Node) → MayMake (halt_moves n)
+  halts_possible n c = by_possible (channel_id_of c.number) c.both (side_of n c) Halts (λ side. (refl, tt))
 
   pub restarts_possible : (n : Node) → MayMake (restart_moves n)
   restarts_possible n c = by_possible (channel_id_of c.number) c.both (side_of n c) Restarts (λ side. (refl, tt))
@@ -242,6 +244,14 @@ module _ {K : Type 0} (k : Ghosts K) where
       subst (λ o. Recounts o (then t (tale_for s w [] (channel n cs)))) (sym (found_in_all n f cs))
       (all_told_of s w f (channel n cs) t may is h)
 
+  -- an end that halts, where it can act
+  halts_so : (b : Bool) (s : Step K k) (w : World K) (m : ℕ) (f : Channel K → List Move) (n : ℕ) (t : Tale) → MayMake f
+      → ((c : Channel K) → step_moves k s w c ≡ cond b (cond (c.number == m) (f c) []) [])
+      → Recounts (channel n w.channels) t
+      → Recounts (channel n (cond b (at k.signer m f w) w).channels) (then t (tale_for s w [] (channel n w.channels)))
+  halts_so true s w m f n t may is h = goes_so s w m f n w.channels t may is h
+  halts_so false s w m f n t may is h = still_told s w (channel n w.channels) t is h
+
   -- a node that stops, where its end can act
   stops_so : (b : Bool) (s : Step K k) (w : World K) (f : Channel K → List Move) (n : ℕ) (t : Tale) → MayMake f
       → ((c : Channel K) → step_moves k s w c ≡ cond b (f c) []) → Recounts (channel n w.channels) t
@@ -261,6 +271,9 @@ module _ {K : Type 0} (k : Ghosts K) where
       goes_so (step.Do e a) w e.channel (act_moves e.node a) n w.channels t (acts_possible e.node a) (λ c. refl) h
   step_told n (step.Down e) w t f keeps h =
       goes_so (step.Down e) w e.channel (fall_moves e.node) n w.channels t (falls_possible e.node) (λ c. refl) h
+  step_told n (step.NoMemory e a) w t f keeps h =
+      halts_so (may_be_done e a w.channels) (step.NoMemory e a) w e.channel (halt_moves e.node) n t
+      (halts_possible e.node) (λ c. refl) h
   step_told n (step.Restart m) w t f keeps h =
       all_go_so (step.Restart m) w (restart_moves m) n w.channels t (restarts_possible m) (λ c. refl) h
   step_told n (step.StopBefore e a) w t f keeps h =

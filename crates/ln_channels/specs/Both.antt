@@ -11,6 +11,7 @@ use Rattle.ln_keys.specs.Signer.{Signer}
 use Rattle.ln_channel.specs.End.{End as ChannelEnd, end_dropped}
 use Rattle.ln_channel.specs.Record.{saved_end, came_back}
 use Rattle.ln_channel.specs.State.{State, is_down, refused, drops, numbers_of}
+use Rattle.ln_channel.specs.State as state
 use Rattle.ln_channel.specs.Step.{Done, handled, commanded, connected}
 use Rattle.ln_channels.specs.declared.step.Act.{Act}
 use Rattle.ln_channels.specs.declared.step.Act.TheVariants as act
@@ -103,6 +104,15 @@ fallen p = record { keys = p.keys; link = drops p.link; inbox = [] }
 abbrev pub falls : {K : Type 0} → Both K → Both K
 falls p = record { x = fallen p.x; y = p.y }
 
+-- ---- an end has no memory for what it was to do
+
+-- it begins nothing of that: it loses its connection, and answers nothing until its node restarts
+abbrev pub halted : {K : Type 0} → Place K → Place K
+halted p = record { keys = p.keys; link = state.halts p.link; inbox = [] }
+
+abbrev pub halts : {K : Type 0} → Both K → Both K
+halts p = record { x = halted p.x; y = p.y }
+
 -- ---- the node of an end restarts
 
 -- it comes back from its record; one whose opening isn't signed by both has none, and loses its connection alone
@@ -164,6 +174,7 @@ may_come_up l = is_down l.line && not l.halted
 pub data Move : Type 0 where
   By : (side : Role) (act : Act) → Move
   Falls : (side : Role) → Move
+  Halts : (side : Role) → Move
   Restarts : (side : Role) → Move
   Stops : (side : Role) (act : Act) → Move
   Meet : Move
@@ -176,6 +187,7 @@ from Fundee f p = swapped (f (swapped p))
 unfoldable pub moves : {K : Type 0} → (K → Signer) → List ℕ → Move → Both K → Both K
 moves signer id (By side act) p = from side (acts signer id act) p
 moves signer id (Falls side) p = from side falls p
+moves signer id (Halts side) p = from side halts p
 moves signer id (Restarts side) p = from side restarts p
 moves signer id (Stops side act) p = from side (stops signer id act) p
 moves signer id Meet p = meet signer p

@@ -19,8 +19,8 @@ use Rattle.ln_channels.specs.declared.settings.Settings.{Settings}
 use Rattle.ln_channels.specs.declared.line.Line.{Line}
 use Rattle.ln_channels.specs.declared.line.Line.TheVariants as line
 use Rattle.ln_channels.specs.Settings.{config_of, spec_of, channel_id_of}
-use Rattle.ln_channels.specs.Both.{Both, Place, Move, By, Falls, Restarts, Stops, Meet, act_lines, may_come_up}
-use Rattle.ln_channels.specs.Both.{greet_lines, greeting, unheard}
+use Rattle.ln_channels.specs.Both.{Both, Place, Move, By, Falls, Halts, Restarts, Stops, Meet, act_lines}
+use Rattle.ln_channels.specs.Both.{may_come_up, greet_lines, greeting, unheard}
 use Rattle.ln_channels.specs.Both.{run as run_both}
 
 pub record Channel (K : Type 0) : Type 0 where
@@ -77,6 +77,10 @@ act_moves n a c = by (actor n a c) (λ side. By side a)
 abbrev pub fall_moves : {K : Type 0} → Node → Channel K → List Move
 fall_moves n c = by (side_of n c) Falls
 
+-- it has no memory for an act
+abbrev pub halt_moves : {K : Type 0} → Node → Channel K → List Move
+halt_moves n c = by (side_of n c) Halts
+
 abbrev pub restart_moves : {K : Type 0} → Node → Channel K → List Move
 restart_moves n c = by (side_of n c) Restarts
 
@@ -88,7 +92,7 @@ stop_moves e a c =
 abbrev pub up_moves : {K : Type 0} → Channel K → List Move
 up_moves c = if may_meet c.both then Meet ∷ [] else []
 
--- ---- an act that a node may stop round
+-- ---- an act that a node may stop round, or have no memory for
 
 -- a message is in flight to the end, or it is given a command
 abbrev pub has_front : List Message → Bool

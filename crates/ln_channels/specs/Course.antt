@@ -6,7 +6,7 @@ use Rattle.ln_channels.specs.declared.step.Step.{Step}
 use Rattle.ln_channels.specs.declared.step.Step.TheVariants as step
 use Rattle.ln_channels.specs.Settings.{channel_id_of}
 use Rattle.ln_channels.specs.Both.{Both, Move, moves}
-use Rattle.ln_channels.specs.Channel.{Channel, act_moves, fall_moves, restart_moves, stop_moves, up_moves}
+use Rattle.ln_channels.specs.Channel.{Channel, act_moves, fall_moves, halt_moves, restart_moves, stop_moves, up_moves}
 use Rattle.ln_channels.specs.World.{World, happens, may_be_done}
 
 -- those of a channel that is there, by the world before the step
@@ -16,6 +16,8 @@ step_moves k (step.Limits n limits) w c = []
 step_moves k (step.Open o) w c = []
 step_moves k (step.Do e a) w c = if c.number == e.channel then act_moves e.node a c else []
 step_moves k (step.Down e) w c = if c.number == e.channel then fall_moves e.node c else []
+step_moves k (step.NoMemory e a) w c =
+    if may_be_done e a w.channels then (if c.number == e.channel then halt_moves e.node c else []) else []
 step_moves k (step.Restart n) w c = restart_moves n c
 step_moves k (step.StopBefore e a) w c = if may_be_done e a w.channels then restart_moves e.node c else []
 step_moves k (step.StopAfter e a) w c = if may_be_done e a w.channels then stop_moves e a c else []

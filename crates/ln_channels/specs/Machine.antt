@@ -26,7 +26,7 @@ use Rattle.ln_channels.specs.declared.step.Act.TheVariants as act
 use Rattle.ln_channels.specs.declared.step.Step.{Step}
 use Rattle.ln_channels.specs.declared.step.Step.TheVariants as step
 use Rattle.ln_channels.specs.Settings.{opening_by}
-use Rattle.ln_channels.specs.Both.{Both, Place, Move, By, Falls, Restarts, Stops, Meet, greeting}
+use Rattle.ln_channels.specs.Both.{Both, Place, Move, By, Falls, Halts, Restarts, Stops, Meet, greeting}
 use Rattle.ln_channels.specs.Channel.{Channel, place_of}
 use Rattle.ln_channels.specs.World.{World, channel, settings_of, may_open}
 use Rattle.ln_channels.specs.Promises.{AtEnd}
@@ -81,7 +81,7 @@ moves_of_act signer side act.Deliver p = moves_delivered signer side p.inbox p.l
 moves_of_act signer side (act.Send c) p =
     moves_of_command side c p.link.stage (commanded (signer p.link.keys) p.link c)
 
--- a lost connection drops what no signature covers; a restart is one
+-- a lost connection drops what no signature covers; an end that has no memory loses it, and a restart is one
 abbrev pub moves_of_fall : Role → Line → List machine.Move
 moves_of_fall side l = if is_down l then [] else Drop side ∷ []
 
@@ -92,6 +92,7 @@ moves_of_stop signer side a p = moves_of_act signer side a p ++ moves_of_fall si
 abbrev pub moves_of : {K : Type 0} → (K → Signer) → Move → Both K → List machine.Move
 moves_of signer (By side a) p = moves_of_act signer side a (place_of side p)
 moves_of signer (Falls side) p = moves_of_fall side (place_of side p).link.line
+moves_of signer (Halts side) p = moves_of_fall side (place_of side p).link.line
 moves_of signer (Restarts side) p = moves_of_fall side (place_of side p).link.line
 moves_of signer (Stops side a) p = moves_of_stop signer side a (place_of side p)
 moves_of signer Meet p = []
@@ -130,6 +131,7 @@ abbrev pub tells : {K : Type 0} → (K → Signer) → Role → Move → Both K 
 tells signer Funder (By Funder a) p = act_tells signer a p.x
 tells signer Funder (By Fundee a) p = []
 tells signer Funder (Falls side) p = []
+tells signer Funder (Halts side) p = []
 tells signer Funder (Restarts side) p = []
 tells signer Funder (Stops Funder a) p = act_tells signer a p.x
 tells signer Funder (Stops Fundee a) p = []
@@ -137,6 +139,7 @@ tells signer Funder Meet p = outputs_of (greeting signer p.x.link)
 tells signer Fundee (By Funder a) p = []
 tells signer Fundee (By Fundee a) p = act_tells signer a p.y
 tells signer Fundee (Falls side) p = []
+tells signer Fundee (Halts side) p = []
 tells signer Fundee (Restarts side) p = []
 tells signer Fundee (Stops Funder a) p = []
 tells signer Fundee (Stops Fundee a) p = act_tells signer a p.y

@@ -144,6 +144,7 @@ BringsFit k (step.Limits n limits) = Unit {0}
 BringsFit k (step.Open o) = HavePoints (k.signer o.keys.funder) × HavePoints (k.signer o.keys.fundee)
 BringsFit k (step.Do e a) = Unit {0}
 BringsFit k (step.Down e) = Unit {0}
+BringsFit k (step.NoMemory e a) = Unit {0}
 BringsFit k (step.Restart n) = Unit {0}
 BringsFit k (step.StopBefore e a) = Unit {0}
 BringsFit k (step.StopAfter e a) = Unit {0}

@@ -35,6 +35,7 @@ IsStep k (step.Limits n limits) = AreLimits limits
 IsStep k (step.Open o) = HaveSecrets (k.signer o.keys.funder) × HaveSecrets (k.signer o.keys.fundee)
 IsStep k (step.Do e a) = IsAct a
 IsStep k (step.Down e) = Unit {0}
+IsStep k (step.NoMemory e a) = Unit {0}
 IsStep k (step.Restart n) = Unit {0}
 IsStep k (step.StopBefore e a) = Unit {0}
 IsStep k (step.StopAfter e a) = IsAct a

@@ -12,7 +12,7 @@ use Rattle.ln_pair.specs.Promises.{AddsBefore}
 use Rattle.ln_channels.specs.declared.step.Act.{Act}
 use Rattle.ln_channels.specs.declared.step.Act.TheVariants as act
 use Rattle.ln_channels.specs.declared.step.Step.{Step}
-use Rattle.ln_channels.specs.Both.{Both, Place, Move, By, Falls, Restarts, Stops, Meet, sent_by, greets}
+use Rattle.ln_channels.specs.Both.{Both, Place, Move, By, Falls, Halts, Restarts, Stops, Meet, sent_by, greets}
 use Rattle.ln_channels.specs.Both.{greeting}
 use Rattle.ln_channels.specs.World.{World, channel}
 use Rattle.ln_channels.specs.Course.{in_channel, over}
@@ -32,6 +32,7 @@ abbrev pub sends : {K : Type 0} → (K → Signer) → Role → List ℕ → Mov
 sends signer Funder id (By Funder a) p = act_sends signer id a p.x
 sends signer Funder id (By Fundee a) p = []
 sends signer Funder id (Falls side) p = []
+sends signer Funder id (Halts side) p = []
 sends signer Funder id (Restarts side) p = []
 sends signer Funder id (Stops Funder a) p = act_sends signer id a p.x
 sends signer Funder id (Stops Fundee a) p = []
@@ -39,6 +40,7 @@ sends signer Funder id Meet p = greets (greeting signer p.x.link)
 sends signer Fundee id (By Funder a) p = []
 sends signer Fundee id (By Fundee a) p = act_sends signer id a p.y
 sends signer Fundee id (Falls side) p = []
+sends signer Fundee id (Halts side) p = []
 sends signer Fundee id (Restarts side) p = []
 sends signer Fundee id (Stops Funder a) p = []
 sends signer Fundee id (Stops Fundee a) p = act_sends signer id a p.y

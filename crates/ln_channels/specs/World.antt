@@ -1,6 +1,7 @@
 -- Nodes with what was set for them, the channels between them, what a step makes of them, and what is told of it.
 use Rattle.std.specs.Prelude.{◌≡◌, ℕ, zero, suc, List, [], ◌∷◌, ◌++◌, map, Bool, false, not, ◌==◌, ◌&&◌, ⊤}
 use Rattle.std.specs.Prelude.{Option, Some, None, is_none, if◌then◌else◌}
+use Rattle.ln_msgs.specs.declared.refusals.refusal.Refusal.TheVariants as refusal
 use Rattle.ln_keys.specs.declared.keys.ChannelKeys.{Ghosts}
 use Rattle.ln_keys.specs.declared.role.Role.TheVariants.{Funder, Fundee}
 use Rattle.ln_keys.specs.Signer.{Signer}
@@ -20,7 +21,7 @@ use Rattle.ln_channels.specs.Settings.{defaults, may_bring}
 use Rattle.ln_channels.specs.Both.{Move}
 use Rattle.ln_channels.specs.Channel.{Channel, is_node, moved, opened_by, act_moves, fall_moves, restart_moves, up_moves}
 use Rattle.ln_channels.specs.Channel.{end_of, side_of, actor, acted_lines, fallen_lines, met_lines, stop_moves, may_act}
-use Rattle.ln_channels.specs.Channel.{acted_unheard}
+use Rattle.ln_channels.specs.Channel.{acted_unheard, halt_moves}
 
 pub record World (K : Type 0) : Type 0 where
   pub settings : List Setting  -- a node that isn't among them has the defaults
@@ -92,7 +93,7 @@ opens k o w =
     then joined (opened_by k o (settings_of o.funder w.settings) (settings_of o.fundee w.settings)) w
     else w
 
--- ---- a node that stops round an act of one of its ends
+-- ---- an act that may be done
 
 -- whether the end is there, and can act so
 abbrev pub may_act_there : {K : Type 0} → Node → Act → Option (Channel K) → Bool
@@ -101,6 +102,19 @@ may_act_there n a (Some c) = may_act n a c
 
 abbrev pub may_be_done : {K : Type 0} → End → Act → List (Channel K) → Bool
 may_be_done e a cs = may_act_there e.node a (channel e.channel cs)
+
+-- ---- an end that has no memory for its act, and halts
+
+abbrev pub lacks_memory : {K : Type 0} → (K → Signer) → End → Act → World K → World K
+lacks_memory signer e a w =
+    if may_be_done e a w.channels then at signer e.channel (halt_moves e.node) w else w
+
+-- whatever the act would have come to
+abbrev pub memory_lines : {K : Type 0} → End → Act → World K → List Line
+memory_lines e a w =
+    if may_be_done e a w.channels then line.Refused e refusal.Memory ∷ [] else line.Idle ∷ []
+
+-- ---- a node that stops round an act of one of its ends
 
 -- as the act leaves its end, whoever gets what it hands out
 abbrev pub unheard_at : {K : Type 0} → (K → Signer) → End → Act → List (Channel K) → List (Channel K)
@@ -126,6 +140,7 @@ happens k (step.Limits n limits) w = set_for n (record (settings_of n w.settings
 happens k (step.Open o) w = opens k o w
 happens k (step.Do e a) w = at k.signer e.channel (act_moves e.node a) w
 happens k (step.Down e) w = at k.signer e.channel (fall_moves e.node) w
+happens k (step.NoMemory e a) w = lacks_memory k.signer e a w
 happens k (step.Restart n) w = everywhere k.signer (restart_moves n) w
 happens k (step.StopBefore e a) w = stops_before k.signer e a w
 happens k (step.StopAfter e a) w = stops_after k.signer e a w
@@ -152,6 +167,7 @@ step_lines k (step.Open o) w = opening_lines o w
 step_lines k (step.Do e a) w =
     if_there (λ c. acted_lines k.signer a c (actor e.node a c)) (channel e.channel w.channels)
 step_lines k (step.Down e) w = if_there (λ c. fallen_lines (side_of e.node c)) (channel e.channel w.channels)
+step_lines k (step.NoMemory e a) w = memory_lines e a w
 step_lines k (step.Restart n) w = []
 step_lines k (step.StopBefore e a) w = stop_lines e a w
 step_lines k (step.StopAfter e a) w = stop_lines e a w

@@ -60,7 +60,7 @@ impl<K: ChannelKeys + Copy> Place<K> {
     ghost use Rattle.std.specs.Prelude.{◌≡◌, [], IfErr, OnOk};
     ghost use Rattle.ln_pair.specs.Ends.{messages_in};
     ghost use Rattle.ln_channels.specs.Lines.{one_or_none};
-    ghost use Rattle.ln_channels.specs.Both.{reaches, fallen, restarted, may_come_up};
+    ghost use Rattle.ln_channels.specs.Both.{reaches, fallen, halted, restarted, may_come_up};
     ghost use Rattle.ln_channels.specs.Channel.{may_do};
     ghost use Rattle.ln_channels.specs.Failing.{ByRecord, LinkLacks};
 
@@ -131,6 +131,15 @@ impl<K: ChannelKeys + Copy> Place<K> {
         ensures { self.new ≡ fallen self.old }
     {
         self.link.drop_connection();
+        self.inbox.clear();
+    }
+
+    /// It has no memory for what it was to do: it loses its connection, and what is in flight to it, and answers nothing
+    /// until its node restarts. Takes none.
+    pub(crate) fn halt(&mut self)
+        ensures { self.new ≡ halted self.old }
+    {
+        self.link.halt();
         self.inbox.clear();
     }
 

@@ -45,7 +45,7 @@ impl<K: ChannelKeys + Copy> Channel<K> {
     ghost use Rattle.ln_channels.specs.Both.{By, Falls, Restarts, Meet, act_lines, greet_lines, greeting};
     ghost use Rattle.ln_channels.specs.Channel.{side_of, actor, moved, act_moves, fall_moves, up_moves, acted_lines};
     ghost use Rattle.ln_channels.specs.Channel.{restart_moves, fallen_lines, place_of, end_of, opening_moves, met_lines};
-    ghost use Rattle.ln_channels.specs.Channel.{may_act, acted_unheard};
+    ghost use Rattle.ln_channels.specs.Channel.{may_act, acted_unheard, halt_moves};
     ghost use Rattle.ln_channel.specs.Standing.{standing};
     ghost use Rattle.ln_channels.specs.World.{lines_of_ends};
     ghost use Rattle.ln_channels.specs.Failing.{ByRecord, SideLacks};
@@ -209,6 +209,19 @@ impl<K: ChannelKeys + Copy> Channel<K> {
             Some(Role::Fundee) => self.fundee.fall(),
         }
         Ok(())
+    }
+
+    /// The node's end halts, where it has one. Takes no memory.
+    #[tactic(auto, unfolding(crate::specs::Both::moves))]
+    pub(crate) fn halt(&mut self, node: Node)
+        ensures moved { self.new ≡ moved K.signer (halt_moves node) self.old }
+        ensures number { self.new.number ≡ self.old.number }
+    {
+        match self.side_of(node) {
+            None => {}
+            Some(Role::Funder) => self.funder.halt(),
+            Some(Role::Fundee) => self.fundee.halt(),
+        }
     }
 
     /// The node's end comes back from its record, where it has one. 60 where there is no memory, 70 where the end has

@@ -4,7 +4,7 @@ ghost use Rattle.std.specs.Prelude.{◌≡◌, ◌++◌, ◌==◌, position, is_
 ghost use Rattle.ln_msgs.specs.declared.refusals.refusal.Refusal.TheVariants as refusal;
 ghost use Rattle.ln_channels.specs.Channel.{side_of, actor, acted_lines, fallen_lines, met_lines};
 ghost use Rattle.ln_channels.specs.Channel.{act_moves, fall_moves, restart_moves, up_moves};
-ghost use Rattle.ln_channels.specs.Channel.{stop_moves};
+ghost use Rattle.ln_channels.specs.Channel.{halt_moves, stop_moves};
 ghost use Rattle.ln_channels.specs.World.{channel, moved_at, all_moved, if_there, lines_of_ends, AreOnce};
 ghost use Rattle.ln_channels.specs.World.{may_be_done, unheard_at};
 ghost use Rattle.ln_channels.specs.Failing.{ByRecord, SomeLacks};
@@ -94,6 +94,18 @@ fn fall_at<K: ChannelKeys + Copy>(
             Ok(())
         }
         Some(i) => channels[i].fall(end.node, lines),
+    }
+}
+
+/// An end halts, where its channel is there. Takes no memory.
+fn halt_at<K: ChannelKeys + Copy>(channels: &mut [Channel<K>], end: End)
+    requires { AreOnce channels.old }
+    ensures moved { channels.new ≡ moved_at K.signer end.channel (halt_moves end.node) channels.old }
+    ensures once { AreOnce channels.new }
+{
+    match place_of(channels, end.channel) {
+        None => {}
+        Some(i) => channels[i].halt(end.node),
     }
 }
 
@@ -208,7 +220,7 @@ impl<K: ChannelKeys + Copy> Channels<K> {
     ghost use Rattle.ln_channels.specs.Settings.{CanBring};
     ghost use Rattle.ln_channels.specs.Channel.{side_of, actor, acted_lines, fallen_lines, met_lines, opened_by};
     ghost use Rattle.ln_channels.specs.Channel.{act_moves, fall_moves, restart_moves, up_moves};
-    ghost use Rattle.ln_channels.specs.Channel.{stop_moves};
+    ghost use Rattle.ln_channels.specs.Channel.{halt_moves, stop_moves};
     ghost use Rattle.ln_channels.specs.World.{channel, moved_at, all_moved, if_there, lines_of_ends};
     ghost use Rattle.ln_channels.specs.World.{may_be_done, unheard_at};
     ghost use Rattle.ln_channels.specs.Failing.{ByRecord, SomeLacks};
@@ -272,6 +284,13 @@ impl<K: ChannelKeys + Copy> Channels<K> {
         ensures fails_for_memory_alone { IfErr result (λ e. e ≡ Refusal.Memory) }
     {
         fall_at(&mut self.items, end, lines)
+    }
+
+    /// An end halts, where its channel is there. Takes no memory.
+    pub(crate) fn halt(&mut self, end: End)
+        ensures { self.new ≡ moved_at K.signer end.channel (halt_moves end.node) self.old }
+    {
+        halt_at(&mut self.items, end)
     }
 
     /// Each end of a node comes back from its record. 60 where there is no memory, 70 where an end has no record.

@@ -72,6 +72,9 @@ pub enum Step<K: ChannelKeys + Copy> {
     Do(End, Act),
     /// An end loses its connection, and what is in flight to it.
     Down(End),
+    /// A channel's end has no memory for what it is to do, where it can act so: nothing of that is begun, the end loses
+    /// its connection, and what is in flight to it, and answers nothing until its node restarts.
+    NoMemory(End, Act),
     /// A node restarts: each of its ends comes back from its record, without a connection, and what is in flight to it
     /// is lost.
     Restart(Node),

@@ -100,6 +100,24 @@ impl<K: ChannelKeys + Copy> World<K> {
         Ok(())
     }
 
+    /// The end has no memory for the act, where it can act so, and halts. 60 where there is no memory.
+    fn lack_memory(&mut self, end: End, what: Act, lines: &mut Vec<Line>) -> Result<(), Refusal>
+        ensures world { OnOk result (self.new ≡ happens K.ChannelKeys (step.NoMemory end what) self.old) }
+        ensures told { OnOk result (lines.new.items
+            ≡ lines.old.items ++ step_lines K.ChannelKeys (step.NoMemory end what) self.old) }
+        ensures fails_for_memory_alone { IfErr result (λ e. e ≡ Refusal.Memory) }
+    {
+        let may_act = self.channels.may_act(end, &what);
+        drop(what);
+        if !may_act {
+            lines.push(Line::Idle)?;
+            return Ok(());
+        }
+        self.channels.halt(end);
+        lines.push(Line::Refused(end, Refusal::Memory))?;
+        Ok(())
+    }
+
     /// The end's node stops before that acts, where it can act. 60 where there is no memory, 70 where an end of the
     /// node has no record.
     fn stop_before(
@@ -158,7 +176,8 @@ impl<K: ChannelKeys + Copy> World<K> {
     /// has halted. Else nothing changes, and `Line::Idle` is told. Where a node restarts, each of its ends has its
     /// record written and comes back from it; nothing is told of that, nor where the node has no end. Where it stops
     /// before or after an act of one of its ends, which has to be one that can act, `Line::Restarts` is told, and
-    /// nothing of the act.
+    /// nothing of the act. Where an end has no memory for an act, which has to be one that it can do, 60 is told of it
+    /// and nothing else, whatever the act would have come to.
     ///
     /// Errors: 60 where there is no memory; at a restart or a stop 70 where an end of the node has no record.
     pub fn step(
@@ -177,6 +196,7 @@ impl<K: ChannelKeys + Copy> World<K> {
             Step::Open(wish) => self.open(alloc, &wish, lines),
             Step::Do(end, what) => self.channels.act(alloc, end, what, lines),
             Step::Down(end) => self.channels.fall(end, lines),
+            Step::NoMemory(end, what) => self.lack_memory(end, what, lines),
             Step::Restart(node) => self.channels.restart(alloc, node),
             Step::StopBefore(end, what) => self.stop_before(alloc, end, what, lines),
             Step::StopAfter(end, what) => self.stop_after(alloc, end, what, lines),
