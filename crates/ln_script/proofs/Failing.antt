@@ -21,6 +21,7 @@ fails_so (step.Limits n limits) r w h = inl h
 fails_so (step.Open o) r w h = inl h
 fails_so (step.Do e a) r w h = inl h
 fails_so (step.Down e) r w h = inl h
+fails_so (step.NoMemory e a) r w h = inl h
 fails_so (step.Restart n) r w h = by_record r h
 fails_so (step.StopBefore e a) r w h = by_record r h
 fails_so (step.StopAfter e a) r w h = by_record r h

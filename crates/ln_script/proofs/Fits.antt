@@ -54,9 +54,9 @@ limits_fit node m a i r =
     then Fits (decimal_at i) _ (λ in_flight.
     then Fits (decimal_at r) _ (λ reserve. tt))))
 
-any_command : {A : Type 0} (o : Option A) → Has (λ c. Unit {0} × (Unit {0} × Unit {0})) o
+any_command : {A : Type 0} (o : Option A) → Has (λ c. Unit {0} × (Unit {0} × (Unit {0} × Unit {0}))) o
 any_command None = tt
-any_command (Some c) = (tt, (tt, tt))
+any_command (Some c) = (tt, (tt, (tt, tt)))
 
 all_fit : IsOfEachKind Fits
 all_fit = record {
@@ -66,7 +66,7 @@ all_fit = record {
   up = λ channel. tt;
   down = λ end. tt;
   restarts = λ node. tt;
-  delivers = λ end. (tt, (tt, tt));
+  delivers = λ end. (tt, (tt, (tt, tt)));
   confirms = λ end id. tt;
   commands = λ end w ws. any_command (command_at end.node w ws);
 }

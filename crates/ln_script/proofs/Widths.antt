@@ -259,7 +259,7 @@ limits_wide node m a i r =
 
 round_each : (end : End) (o : Option Command) → Has IsCommand o → Has (λ c. RoundAct IsWide end (act.Send c)) o
 round_each end None h = tt
-round_each end (Some c) h = (h, (tt, h))
+round_each end (Some c) h = (h, (tt, (h, tt)))
 
 all_wide : IsOfEachKind IsWide
 all_wide = record {
@@ -269,7 +269,7 @@ all_wide = record {
   up = λ channel. tt;
   down = λ end. tt;
   restarts = λ node. tt;
-  delivers = λ end. (tt, (tt, tt));
+  delivers = λ end. (tt, (tt, (tt, tt)));
   confirms = λ end id. tt;
   commands = λ end w ws. round_each end (command_at end.node w ws) (commands_are_wide end.node w ws);
 }
