@@ -435,18 +435,38 @@ class World:
                     it.go_down()
                     it.halted = False
 
-
-    def stop(self, place, what, after):
-        """Its node stops before or after an end's act, where that can be taken: all of its ends restart."""
+    def may_act(self, place, what):
+        """The end that a line names, where it is there and can act so; else None, and the step is idle."""
         name, channel = place
         its = [it for it in self.channels.get(channel, []) if it.name == f"{name}{channel}"]
-        if not its or what is World.deliver and not its[0].inbox:
+        if not its or what is Round.deliver and not its[0].inbox:
             self.report.append("idle")
-            return
-        if after:
-            self.unheard(its[0], what)
+            return None
+        return its[0]
+
+    def stop_before(self, place, what):
+        """Its node stops before an end's act, where that can be taken: all of its ends restart."""
+        if self.may_act(place, what):
+            self.stops(place[0])
+
+    def stop_after(self, place, what):
+        """Its node stops behind an end's act."""
+        it = self.may_act(place, what)
+        if it:
+            self.unheard(it, what)
+            self.stops(place[0])
+
+    def stops(self, name):
         self.report.append(f"{name} restarts")
         self.restart(name)
+
+    def no_memory(self, place, what):
+        """An end has no memory for its act, and halts: of the act nothing is begun."""
+        it = self.may_act(place, what)
+        if it:
+            it.go_down()
+            it.halted = True
+            self.refused(it, [60])
 
     def unheard(self, it, what):
         """An end acts; what it says reaches nobody, and nothing of it is told."""
@@ -460,15 +480,12 @@ class World:
 
 
 class Round:
-    """Takes the act that a line asks for as one that a node stops round."""
+    """Takes the act that a line asks for as one that a node stops round, or that its end has no memory for."""
 
     deliver = staticmethod(World.deliver)
 
-    def __init__(self, world, after):
-        self.world, self.after = world, after
-
-    def act(self, place, what):
-        self.world.stop(place, what, self.after)
+    def __init__(self, act):
+        self.act = act
 
 
 ACTS = ("confirm", "add", "fulfil", "fail", "malformed", "fee", "sign", "shutdown", "deliver")
@@ -477,9 +494,9 @@ ACTS = ("confirm", "add", "fulfil", "fail", "malformed", "fee", "sign", "shutdow
 def step_of(line):
     """A line as a step: a function of the world."""
     word, *words = line.split(" ")
-    if word in ("stop-before", "stop-after") and words and words[0] in ACTS:
+    if word in ("stop-before", "stop-after", "no-memory") and words and words[0] in ACTS:
         inner = step_of(" ".join(words))
-        return lambda w: inner(Round(w, word == "stop-after"))
+        return lambda w: inner(Round(getattr(w, word.replace("-", "_"))))
     if word == "set" and len(words) == 5 and words[1] == "fees":
         x, (first, least, most) = node(words[0]), map(number, words[2:])
         if not least <= first <= most:

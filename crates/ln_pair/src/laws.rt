@@ -100,7 +100,7 @@ pub fn ends_stay_as_set_up()
 /// A law of rows, not of whole calls: behind a link's looks at what has halted or failed, at what is passed over and at
 /// what is of another channel, what ln_channel's rows of an open channel with a connection answer to a message
 /// (`saved_at`), and to a command that isn't about records (`obeyed`), is what the steps say of the end
-/// (`message_at`, `command_at`). That `handled` and `commanded` of a link answer so is shown in ln_world.
+/// (`message_at`, `command_at`). That `handled` and `commanded` of a link answer so is shown in ln_channels.
 pub fn steps_are_those_of_a_link()
     ensures message_behind_the_reestablish { (keys : Signer) (m : Message) (e : End)
         → saved_at keys Met m e ≡ turned Met (message_at keys Met m e) }

@@ -3,9 +3,9 @@ use Rattle.std.proofs.Common.{◌≡◌, refl, inl, inr, ◌⊎◌}
 use Rattle.ln_msgs.specs.declared.refusals.refusal.Refusal.{Refusal}
 use Rattle.ln_msgs.specs.declared.refusals.refusal.Refusal.TheVariants as refusal
 use Rattle.ln_keys.specs.declared.toy_keys.ToyKeys.{ToyKeys}
-use Rattle.ln_world.specs.declared.step.Step.TheVariants as step
-use Rattle.ln_world.specs.Failing.{ByRecord, MayFail}
-use Rattle.ln_world.specs.World.{World}
+use Rattle.ln_channels.specs.declared.step.Step.TheVariants as step
+use Rattle.ln_channels.specs.Failing.{ByRecord, MayFail}
+use Rattle.ln_channels.specs.World.{World}
 use Rattle.ln_script.specs.Keys.{toy}
 use Rattle.ln_script.specs.Report.{StepFails}
 use Rattle.ln_script.specs.Step.{ToyStep}
@@ -21,6 +21,7 @@ fails_so (step.Limits n limits) r w h = inl h
 fails_so (step.Open o) r w h = inl h
 fails_so (step.Do e a) r w h = inl h
 fails_so (step.Down e) r w h = inl h
+fails_so (step.NoMemory e a) r w h = inl h
 fails_so (step.Restart n) r w h = by_record r h
 fails_so (step.StopBefore e a) r w h = by_record r h
 fails_so (step.StopAfter e a) r w h = by_record r h

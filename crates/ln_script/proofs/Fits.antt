@@ -5,9 +5,9 @@ use Rattle.std.specs.Str.Parse.{digits_value}
 use Rattle.ln_keys.specs.declared.toy_keys.ToyKeys.{ToyKeys}
 use Rattle.ln_keys.specs.Toy.{toy_signer}
 use Rattle.ln_keys.proofs.ToyPartners.{points_have_33_bytes}
-use Rattle.ln_world.specs.declared.step.Node.{Node}
-use Rattle.ln_world.specs.World.{World, empty, run}
-use Rattle.ln_world.specs.Promises.{HavePoints, BringsFit, BringFit}
+use Rattle.ln_channels.specs.declared.step.Node.{Node}
+use Rattle.ln_channels.specs.World.{World, empty, run}
+use Rattle.ln_channels.specs.Promises.{HavePoints, BringsFit, BringFit}
 use Rattle.ln_script.specs.Word.{is_decimal, decimal_at, number_at}
 use Rattle.ln_script.specs.Keys.{toy}
 use Rattle.ln_script.specs.Command.{command_at}
@@ -54,9 +54,9 @@ limits_fit node m a i r =
     then Fits (decimal_at i) _ (λ in_flight.
     then Fits (decimal_at r) _ (λ reserve. tt))))
 
-any_command : {A : Type 0} (o : Option A) → Has (λ c. Unit {0} × (Unit {0} × Unit {0})) o
+any_command : {A : Type 0} (o : Option A) → Has (λ c. Unit {0} × (Unit {0} × (Unit {0} × Unit {0}))) o
 any_command None = tt
-any_command (Some c) = (tt, (tt, tt))
+any_command (Some c) = (tt, (tt, (tt, tt)))
 
 all_fit : IsOfEachKind Fits
 all_fit = record {
@@ -66,7 +66,7 @@ all_fit = record {
   up = λ channel. tt;
   down = λ end. tt;
   restarts = λ node. tt;
-  delivers = λ end. (tt, (tt, tt));
+  delivers = λ end. (tt, (tt, (tt, tt)));
   confirms = λ end id. tt;
   commands = λ end w ws. any_command (command_at end.node w ws);
 }

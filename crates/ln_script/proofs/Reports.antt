@@ -8,8 +8,8 @@ use Rattle.ln_keys.specs.declared.toy_keys.ToyKeys.{ToyKeys}
 use Rattle.ln_msgs.specs.Pings.Counted.{HasRisen}
 use Rattle.ln_msgs.specs.Pings.Written.{IsPartlyWritten}
 use Rattle.ln_msgs.specs.declared.refusals.refusal.Refusal.TheVariants as refusal
-use Rattle.ln_world.specs.World.{World, happens, run, step_lines, run_lines}
-use Rattle.ln_world.specs.Failing.{SomeMayFail}
+use Rattle.ln_channels.specs.World.{World, happens, run, step_lines, run_lines}
+use Rattle.ln_channels.specs.Failing.{SomeMayFail}
 use Rattle.ln_script.specs.Keys.{toy}
 use Rattle.ln_script.specs.Step.{ToyStep}
 use Rattle.ln_script.specs.Report.{shown_line, step_text, steps_text}

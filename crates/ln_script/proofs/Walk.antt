@@ -5,20 +5,20 @@ use Rattle.std.specs.Str.{bytes_eq}
 use Rattle.ln_keys.specs.declared.toy_keys.ToyKeys.{ToyKeys}
 use Rattle.ln_bytes.specs.declared.short_id.ShortId.{ShortId}
 use Rattle.ln_channel.specs.declared.command.Command.TheVariants as command
-use Rattle.ln_world.specs.declared.step.Act.{Act}
-use Rattle.ln_world.specs.declared.step.Act.TheVariants as act
-use Rattle.ln_world.specs.declared.step.End.{End}
-use Rattle.ln_world.specs.declared.step.Node.{Node}
-use Rattle.ln_world.specs.declared.step.Open.{Open}
-use Rattle.ln_world.specs.declared.step.Step.TheVariants as step
-use Rattle.ln_world.specs.Promises.{Each}
+use Rattle.ln_channels.specs.declared.step.Act.{Act}
+use Rattle.ln_channels.specs.declared.step.Act.TheVariants as act
+use Rattle.ln_channels.specs.declared.step.End.{End}
+use Rattle.ln_channels.specs.declared.step.Node.{Node}
+use Rattle.ln_channels.specs.declared.step.Open.{Open}
+use Rattle.ln_channels.specs.declared.step.Step.TheVariants as step
+use Rattle.ln_channels.specs.Promises.{Each}
 use Rattle.ln_script.specs.Word.{◌>>=◌, number_at, node_at, end_at, short_id_at}
 use Rattle.ln_script.specs.Keys.{toy}
 use Rattle.ln_script.specs.Command.{command_at}
 use Rattle.ln_script.specs.Step.{ToyStep, fees_if, fees_at, limits_at, fees_line, limits_line, setting_at, set_line}
 use Rattle.ln_script.specs.Step.{opening_at, open_line, up_line, down_line, restart_line, deliver_line, command_line}
 use Rattle.ln_script.specs.declared.step.Doing.{Doing}
-use Rattle.ln_script.specs.Step.{act_line, do_line, stop_before_line, stop_after_line}
+use Rattle.ln_script.specs.Step.{act_line, do_line, stop_before_line, stop_after_line, no_memory_line}
 use Rattle.ln_script.specs.Step.{step_at, ready_steps, ready_line, one_step, word_line, steps_at}
 use Rattle.ln_script.specs.Script.{lines, words, is_skipped, line_at, behind, line_then, steps_from, script_at}
 
@@ -55,9 +55,9 @@ if_false P false x h = h refl
 
 -- ---- what is to be shown of each kind of step
 
--- it is done, or a node stops round it
+-- it is done, its end has no memory for it, or a node stops round it
 abbrev pub RoundAct : (ToyStep → Type 0) → End → Act → Type 0
-RoundAct P e a = P (step.Do e a) × (P (step.StopBefore e a) × P (step.StopAfter e a))
+RoundAct P e a = P (step.Do e a) × (P (step.StopBefore e a) × (P (step.StopAfter e a) × P (step.NoMemory e a)))
 
 pub record IsOfEachKind (P : ToyStep → Type 0) : Type 0 where
   pub fees : (node : Node) (f l m : List ℕ) → Has P (fees_at node f l m)
@@ -160,7 +160,11 @@ module _ (P : ToyStep → Type 0) (kinds : IsOfEachKind P) where
 
   stop_after_lines : (ws : List (List ℕ)) → Has P (stop_after_line ws)
   stop_after_lines [] = tt
-  stop_after_lines (w ∷ ws) = then_of IsDoing P (act_line w ws) _ (act_lines w ws) (λ doing h. h.1.1)
+  stop_after_lines (w ∷ ws) = then_of IsDoing P (act_line w ws) _ (act_lines w ws) (λ doing h. h.1.1.0)
+
+  no_memory_lines : (ws : List (List ℕ)) → Has P (no_memory_line ws)
+  no_memory_lines [] = tt
+  no_memory_lines (w ∷ ws) = then_of IsDoing P (act_line w ws) _ (act_lines w ws) (λ doing h. h.1.1.1)
 
   single : (w : List ℕ) (ws : List (List ℕ)) → Has P (step_at w ws)
   unfolding step_at
@@ -171,7 +175,8 @@ module _ (P : ToyStep → Type 0) (kinds : IsOfEachKind P) where
       (either P (bytes_eq w (codes "down")) _ _ (down_lines ws)
       (either P (bytes_eq w (codes "restart")) _ _ (restart_lines ws)
       (either P (bytes_eq w (codes "stop-before")) _ _ (stop_before_lines ws)
-      (either P (bytes_eq w (codes "stop-after")) _ _ (stop_after_lines ws) (do_lines w ws)))))))
+      (either P (bytes_eq w (codes "stop-after")) _ _ (stop_after_lines ws)
+      (either P (bytes_eq w (codes "no-memory")) _ _ (no_memory_lines ws) (do_lines w ws))))))))
 
   -- ---- lines
 

@@ -12,12 +12,12 @@ use Rattle.ln_keys.specs.declared.toy_keys.ToyKeys.{ToyKeys}
 use Rattle.ln_keys.specs.Toy.{toy_secret, toy_signer}
 use Rattle.ln_keys.specs.ToyOnion.{toy_key, toy_hmac, filled, toy_packet, payload_bytes, toy_made}
 use Rattle.ln_channel.specs.declared.command.Command.{Command}
-use Rattle.ln_world.specs.declared.step.Act.TheVariants as act
-use Rattle.ln_world.specs.declared.step.End.{End}
-use Rattle.ln_world.specs.declared.step.Node.{Node}
-use Rattle.ln_world.specs.World.{World, empty, run}
-use Rattle.ln_world.specs.Promises.{BringFit}
-use Rattle.ln_world.specs.Records.{IsAct, IsStep, AreSteps, HaveSecrets}
+use Rattle.ln_channels.specs.declared.step.Act.TheVariants as act
+use Rattle.ln_channels.specs.declared.step.End.{End}
+use Rattle.ln_channels.specs.declared.step.Node.{Node}
+use Rattle.ln_channels.specs.World.{World, empty, run}
+use Rattle.ln_channels.specs.Promises.{BringFit}
+use Rattle.ln_channels.specs.Records.{IsAct, IsStep, AreSteps, HaveSecrets}
 use Rattle.ln_script.specs.Word.{decimal_at, number_at, short_id_at, digit_at, code_at}
 use Rattle.ln_script.specs.Keys.{toy}
 use Rattle.ln_script.specs.Onion.{payloads_at}
@@ -259,7 +259,7 @@ limits_wide node m a i r =
 
 round_each : (end : End) (o : Option Command) → Has IsCommand o → Has (λ c. RoundAct IsWide end (act.Send c)) o
 round_each end None h = tt
-round_each end (Some c) h = (h, (tt, h))
+round_each end (Some c) h = (h, (tt, (h, tt)))
 
 all_wide : IsOfEachKind IsWide
 all_wide = record {
@@ -269,7 +269,7 @@ all_wide = record {
   up = λ channel. tt;
   down = λ end. tt;
   restarts = λ node. tt;
-  delivers = λ end. (tt, (tt, tt));
+  delivers = λ end. (tt, (tt, (tt, tt)));
   confirms = λ end id. tt;
   commands = λ end w ws. round_each end (command_at end.node w ws) (commands_are_wide end.node w ws);
 }

@@ -8,15 +8,15 @@ use Rattle.ln_msgs.specs.Refusals.RefusalText.{refusal_text}
 use Rattle.ln_channel.specs.declared.standing.Life.{Life}
 use Rattle.ln_channel.specs.declared.standing.Life.TheVariants as life
 use Rattle.ln_channel.specs.declared.standing.Standing.{Standing}
-use Rattle.ln_world.specs.declared.step.End.{End}
-use Rattle.ln_world.specs.declared.step.Node.{Node}
-use Rattle.ln_world.specs.declared.line.Word.{Word}
-use Rattle.ln_world.specs.declared.line.Word.TheVariants as word
-use Rattle.ln_world.specs.declared.line.Ending.{Ending}
-use Rattle.ln_world.specs.declared.line.Ending.TheVariants as ending
-use Rattle.ln_world.specs.declared.line.EndLine.{EndLine}
-use Rattle.ln_world.specs.declared.line.Line.{Line}
-use Rattle.ln_world.specs.declared.line.Line.TheVariants as line
+use Rattle.ln_channels.specs.declared.step.End.{End}
+use Rattle.ln_channels.specs.declared.step.Node.{Node}
+use Rattle.ln_channels.specs.declared.line.Word.{Word}
+use Rattle.ln_channels.specs.declared.line.Word.TheVariants as word
+use Rattle.ln_channels.specs.declared.line.Ending.{Ending}
+use Rattle.ln_channels.specs.declared.line.Ending.TheVariants as ending
+use Rattle.ln_channels.specs.declared.line.EndLine.{EndLine}
+use Rattle.ln_channels.specs.declared.line.Line.{Line}
+use Rattle.ln_channels.specs.declared.line.Line.TheVariants as line
 
 -- a node's letter and the channel's number
 unfoldable pub end_text : End → List ℕ

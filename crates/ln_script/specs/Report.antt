@@ -4,10 +4,10 @@ use Rattle.std.specs.List.{flat_map}
 use Rattle.ln_msgs.specs.declared.refusals.refusal.Refusal.{Refusal}
 use Rattle.ln_msgs.specs.declared.refusals.refusal.Refusal.TheVariants as refusal
 use Rattle.ln_keys.specs.declared.toy_keys.ToyKeys.{ToyKeys}
-use Rattle.ln_world.specs.declared.line.EndLine.{EndLine}
-use Rattle.ln_world.specs.declared.line.Line.{Line}
-use Rattle.ln_world.specs.World.{World, empty, run, step_lines, run_lines, end_lines}
-use Rattle.ln_world.specs.Failing.{MayFail, SomeMayFail}
+use Rattle.ln_channels.specs.declared.line.EndLine.{EndLine}
+use Rattle.ln_channels.specs.declared.line.Line.{Line}
+use Rattle.ln_channels.specs.World.{World, empty, run, step_lines, run_lines, end_lines}
+use Rattle.ln_channels.specs.Failing.{MayFail, SomeMayFail}
 use Rattle.ln_script.specs.Keys.{toy}
 use Rattle.ln_script.specs.Step.{ToyStep}
 use Rattle.ln_script.specs.Script.{script_at}

@@ -6,11 +6,11 @@ use Rattle.std.specs.Str.{bytes_eq}
 use Rattle.ln_bytes.specs.declared.short_id.ShortId.{ShortId}
 use Rattle.ln_keys.specs.declared.toy_keys.ToyKeys.{ToyKeys}
 use Rattle.ln_channel.specs.declared.command.Command.TheVariants as command
-use Rattle.ln_world.specs.declared.step.Act.TheVariants as act
-use Rattle.ln_world.specs.declared.step.Node.{Node}
-use Rattle.ln_world.specs.declared.step.Open.{Open}
-use Rattle.ln_world.specs.declared.step.Step.{Step}
-use Rattle.ln_world.specs.declared.step.Step.TheVariants as step
+use Rattle.ln_channels.specs.declared.step.Act.TheVariants as act
+use Rattle.ln_channels.specs.declared.step.Node.{Node}
+use Rattle.ln_channels.specs.declared.step.Open.{Open}
+use Rattle.ln_channels.specs.declared.step.Step.{Step}
+use Rattle.ln_channels.specs.declared.step.Step.TheVariants as step
 use Rattle.ln_script.specs.declared.step.Doing.{Doing}
 use Rattle.ln_script.specs.Word.{◌>>=◌, decimal_at, number_at, node_at, end_at, short_id_at}
 use Rattle.ln_script.specs.Keys.{toy, partners_of}
@@ -158,6 +158,13 @@ stop_after_line (w ∷ ws) = do
   Some (step.StopAfter doing.end doing.what)
 stop_after_line [] = None
 
+-- no-memory LINE
+abbrev pub no_memory_line : List (List ℕ) → Option ToyStep
+no_memory_line (w ∷ ws) = do
+  doing ← act_line w ws
+  Some (step.NoMemory doing.end doing.what)
+no_memory_line [] = None
+
 -- ---- the step of a line: its first word says which
 
 unfoldable pub step_at : List ℕ → List (List ℕ) → Option ToyStep
@@ -168,7 +175,8 @@ step_at w ws =
     else (if bytes_eq w (codes "down") then down_line ws
     else (if bytes_eq w (codes "restart") then restart_line ws
     else (if bytes_eq w (codes "stop-before") then stop_before_line ws
-    else (if bytes_eq w (codes "stop-after") then stop_after_line ws else do_line w ws))))))
+    else (if bytes_eq w (codes "stop-after") then stop_after_line ws
+    else (if bytes_eq w (codes "no-memory") then no_memory_line ws else do_line w ws)))))))
 
 -- ---- the steps of a line
 

@@ -14,9 +14,9 @@ use crate::onion::payloads_of;
 use crate::word::{code_of, decimal_of, number_of_32_bits, payment_of, short_id_of};
 use ln_bytes::Bytes;
 use ln_channel::Command;
+use ln_channels::Node;
 use ln_keys::{ToyOnion, sha256_32};
 use ln_msgs::Refusal;
-use ln_world::Node;
 use std::alloc::Global;
 
 /// The preimage of a payment: 32 bytes of its number.

@@ -5,25 +5,25 @@ ghost use Rattle.ln_keys.specs.declared.role.Role.{Role};
 ghost use Rattle.ln_keys.specs.Toy.{toy_signer};
 ghost use Rattle.ln_log.specs.Events.{events};
 ghost use Rattle.ln_pair.specs.Told.{as_told, unnumbered, ClosesLast};
-ghost use Rattle.ln_world.specs.Promises.{BringFit, OfEach, Headline, NoneRefused, AllTaken, OneFee, Agrees};
-ghost use Rattle.ln_world.specs.Promises.{AnswersShutdown, MarksAgree, DoExactly};
-ghost use Rattle.ln_world.specs.Records.{AreSteps, HaveRecords};
-ghost use Rattle.ln_world.specs.Machine.{history, all_told, AreInStep};
-ghost use Rattle.ln_world.specs.Sending.{NoneAddsLate};
-ghost use Rattle.ln_world.specs.Setup.{all_setups, OpensAsSet};
-ghost use Rattle.ln_world.specs.World.{empty, run, channel};
+ghost use Rattle.ln_channels.specs.Promises.{BringFit, OfEach, Headline, NoneRefused, AllTaken, OneFee, Agrees};
+ghost use Rattle.ln_channels.specs.Promises.{AnswersShutdown, MarksAgree, DoExactly};
+ghost use Rattle.ln_channels.specs.Records.{AreSteps, HaveRecords};
+ghost use Rattle.ln_channels.specs.Machine.{history, all_told, AreInStep};
+ghost use Rattle.ln_channels.specs.Sending.{NoneAddsLate};
+ghost use Rattle.ln_channels.specs.Setup.{all_setups, OpensAsSet};
+ghost use Rattle.ln_channels.specs.World.{empty, run, channel};
 ghost use Rattle.ln_script.specs.Keys.{toy};
 ghost use Rattle.ln_script.specs.Step.{ToyStep};
 ghost use Rattle.ln_script.specs.Script.{lines, script_at, IsFirstBad};
 ghost use Rattle.ln_script.specs.Report.{AfterEachScript};
 
-use ln_keys::ToyKeys;
-use ln_world::{
+use ln_channels::{
     a_shutdown_is_answered, agreement, channels_open_as_set, close_is_last, closed_at_one_fee,
     commands_are_done_exactly, every_end_has_a_record, headline, marks_agree_at_rest,
     never_refused, never_refused_where_fees_overlap, no_add_follows_a_shutdown,
     undecided_events_are_the_machines,
 };
+use ln_keys::ToyKeys;
 
 /// A script is refused by the number of its first bad line, and only where there is one.
 pub fn first_bad_line()
@@ -40,17 +40,17 @@ pub fn steps_bring_what_fits()
 {}
 
 /// The laws of a world hold after each script that is read, with nothing else asked for: in each channel, what either
-/// end holds as irrevocably committed was covered by the other (`ln_world::headline`); the message in front of either
-/// end is taken, or refused for its closing fee, and no link has failed (`ln_world::never_refused`); where both ends
-/// take fees that overlap it is taken (`ln_world::never_refused_where_fees_overlap`); both close at one fee
-/// (`ln_world::closed_at_one_fee`); a shutdown is answered (`ln_world::a_shutdown_is_answered`); at rest both ends hold
-/// every update and their commitments are worth the same (`ln_world::agreement`); where nothing is in flight each has
-/// taken the other's marks (`ln_world::marks_agree_at_rest`); a command is done exactly where its end's marks and the
-/// machine let it (`ln_world::commands_are_done_exactly`); of all that an end sends no `update_add_htlc` stands
-/// behind its shutdown (`ln_world::no_add_follows_a_shutdown`); a channel is there as it was set up
-/// (`ln_world::channels_open_as_set`); what an end has yet to decide are the machine's events
-/// (`ln_world::undecided_events_are_the_machines`), and the close is the last one (`ln_world::close_is_last`); and each
-/// end has a record, from which it comes back where its node restarts (`ln_world::every_end_has_a_record`).
+/// end holds as irrevocably committed was covered by the other (`ln_channels::headline`); the message in front of either
+/// end is taken, or refused for its closing fee, and no link has failed (`ln_channels::never_refused`); where both ends
+/// take fees that overlap it is taken (`ln_channels::never_refused_where_fees_overlap`); both close at one fee
+/// (`ln_channels::closed_at_one_fee`); a shutdown is answered (`ln_channels::a_shutdown_is_answered`); at rest both ends hold
+/// every update and their commitments are worth the same (`ln_channels::agreement`); where nothing is in flight each has
+/// taken the other's marks (`ln_channels::marks_agree_at_rest`); a command is done exactly where its end's marks and the
+/// machine let it (`ln_channels::commands_are_done_exactly`); of all that an end sends no `update_add_htlc` stands
+/// behind its shutdown (`ln_channels::no_add_follows_a_shutdown`); a channel is there as it was set up
+/// (`ln_channels::channels_open_as_set`); what an end has yet to decide are the machine's events
+/// (`ln_channels::undecided_events_are_the_machines`), and the close is the last one (`ln_channels::close_is_last`); and each
+/// end has a record, from which it comes back where its node restarts (`ln_channels::every_end_has_a_record`).
 pub fn scripts_keep_the_promises()
     ensures headline { AfterEachScript (OfEach Headline) }
     ensures never_refused { AfterEachScript (OfEach (NoneRefused toy_signer)) }

@@ -6,8 +6,8 @@ ghost use Rattle.ln_script.specs.LineText.{settled_text, closed_text, line_text,
 ghost use Rattle.ln_script.specs.LineText.{event_text, refused_text, restarts_text, end_line_text, with_number};
 
 use ln_channel::{Life, Standing};
+use ln_channels::{End, EndLine, Ending, Line, Node, Word};
 use ln_msgs::Refusal;
-use ln_world::{End, EndLine, Ending, Line, Node, Word};
 use std::alloc::AllocError;
 use std::fmt::Write;
 

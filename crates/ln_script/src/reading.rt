@@ -6,9 +6,9 @@ ghost use Rattle.ln_script.specs.Step.{texts, if_good, joined};
 ghost use Rattle.ln_script.specs.Script.{lines, words, is_skipped, line_at, script_at};
 
 use crate::step::push_steps;
+use ln_channels::Step;
 use ln_keys::ToyKeys;
 use ln_msgs::Refusal;
-use ln_world::Step;
 use std::alloc::{AllocError, Global};
 
 /// The lines of a text.

@@ -7,18 +7,18 @@ ghost use Rattle.ln_msgs.specs.declared.refusals.refusal.Refusal.TheVariants.{Me
 ghost use Rattle.ln_msgs.specs.Pings.Counted.{HasRisen};
 ghost use Rattle.ln_msgs.specs.Pings.CountedView.{inner_of, failures_of};
 ghost use Rattle.ln_msgs.specs.Pings.Written.{IsPartlyWritten};
-ghost use Rattle.ln_world.specs.World.{empty, happens, run, step_lines};
-ghost use Rattle.ln_world.specs.Promises.{BringFit};
-ghost use Rattle.ln_world.specs.Records.{AreSteps};
+ghost use Rattle.ln_channels.specs.World.{empty, happens, run, step_lines};
+ghost use Rattle.ln_channels.specs.Promises.{BringFit};
+ghost use Rattle.ln_channels.specs.Records.{AreSteps};
 ghost use Rattle.ln_script.specs.Keys.{toy};
 ghost use Rattle.ln_script.specs.Report.{shown_line, shown_end, step_text, steps_text, ends_text, report_text};
 ghost use Rattle.ln_script.specs.Report.{StepFails, StepsFail};
 
 use crate::line::{put_end_line, put_line};
 use crate::print::print_all;
+use ln_channels::{EndLine, Line, Step, World, every_end_has_a_record};
 use ln_keys::ToyKeys;
 use ln_msgs::{Counted, Refusal, write_out};
-use ln_world::{EndLine, Line, Step, World, every_end_has_a_record};
 use std::alloc::{AllocError, Global};
 use std::io::Write;
 
@@ -172,7 +172,7 @@ fn print_ends<W: Write>(
 /// text of one step.
 ///
 /// Errors: 60 where there is no memory; 63 where a call of the writer fails; 70 where a node restarts and an end of it
-/// has no record, which is never so of steps that a script brings (`ln_world::every_end_has_a_record`). What was
+/// has no record, which is never so of steps that a script brings (`ln_channels::every_end_has_a_record`). What was
 /// written by then is a beginning of the report.
 pub fn print_report<W: Write>(
     alloc: Global,

@@ -4,8 +4,8 @@ ghost use Rattle.std.specs.Prelude.{◌≡◌, ◌++◌, IfOk, IfErr, OnOk};
 ghost use Rattle.ln_msgs.specs.declared.refusals.refusal.Refusal.TheVariants as refusal;
 ghost use Rattle.ln_script.specs.Step.{texts, fees_at, limits_at, fees_line, limits_line, setting_at, set_line};
 ghost use Rattle.ln_script.specs.Step.{opening_at, open_line, up_line, down_line, restart_line, deliver_line};
-ghost use Rattle.ln_script.specs.Step.{command_line, act_line, do_line, stop_before_line, stop_after_line, step_at};
-ghost use Rattle.ln_script.specs.Step.{confirms, delivers, ready_steps, ready_line, one_step};
+ghost use Rattle.ln_script.specs.Step.{command_line, act_line, do_line, stop_before_line, stop_after_line};
+ghost use Rattle.ln_script.specs.Step.{no_memory_line, step_at, confirms, delivers, ready_steps, ready_line, one_step};
 ghost use Rattle.ln_script.specs.Step.{word_line, steps_at, if_good, joined};
 
 use crate::command::command_of;
@@ -13,11 +13,11 @@ use crate::keys::partners_of;
 use crate::word::{channel_of, decimal_of, end_of, node_of, number_of, short_id_of};
 use ln_bytes::ShortId;
 use ln_channel::Command;
+use ln_channels::{Act, End, Node, Open, Step};
 use ln_close::Fees;
 use ln_keys::ToyKeys;
 use ln_log::Limits;
 use ln_msgs::Refusal;
-use ln_world::{Act, End, Node, Open, Step};
 use std::alloc::Global;
 
 /// set X fees FIRST LEAST MOST
@@ -266,6 +266,20 @@ fn stop_after_line(alloc: Global, words: &[&str]) -> Result<Option<Step<ToyKeys>
     }
 }
 
+/// no-memory LINE
+fn no_memory_line(alloc: Global, words: &[&str]) -> Result<Option<Step<ToyKeys>>, Refusal>
+    ensures step { IfOk result (λ o. o ≡ no_memory_line (texts words.now)) }
+    ensures fails_for_memory_alone { IfErr result (λ e. e ≡ refusal.Memory) }
+{
+    let [word, rest @ ..] = words else {
+        return Ok(None);
+    };
+    match act_line(alloc, word, rest)? {
+        Some(doing) => Ok(Some(Step::NoMemory(doing.end, doing.what))),
+        None => Ok(None),
+    }
+}
+
 /// The step of a line's first word and those behind it, where they are one. 60 where there is no memory.
 #[tactic(auto, unfolding(crate::specs::Step::step_at))]
 fn step_of(alloc: Global, word: &str, words: &[&str]) -> Result<Option<Step<ToyKeys>>, Refusal>
@@ -280,6 +294,7 @@ fn step_of(alloc: Global, word: &str, words: &[&str]) -> Result<Option<Step<ToyK
         "restart" => Ok(restart_line(words)),
         "stop-before" => stop_before_line(alloc, words),
         "stop-after" => stop_after_line(alloc, words),
+        "no-memory" => no_memory_line(alloc, words),
         _ => do_line(alloc, word, words),
     }
 }

@@ -1,12 +1,13 @@
-//! A save that fails at each place of a payment there and back: the end halts and hands nothing out, it comes back from
-//! what its store has, and the payment is completed, with each update once.
+//! A save that fails at each place of a payment there and back, and of a close: the end halts and hands nothing out, it
+//! comes back from what its store has, and the payment is completed, with each update once, or the channel closed.
 
 use crate::code_of;
 use crate::link::{boxed, messages_of, offer};
 use crate::saving::{Side, fundee_side, funder_side, played, stored};
 use crate::store::FailingStore;
 use crate::testing::{FUNDEE, FUNDER};
-use ln_channel::{Command, Output, Standing};
+use ln_bytes::Bytes;
+use ln_channel::{Command, Life, Output, Standing};
 use ln_keys::{Role, ToyKeys};
 use ln_link::Link;
 use ln_msgs::{Message, Refusal};
@@ -121,6 +122,8 @@ fn word_of(message: &Message) -> &'static str {
         Message::UpdateFulfillHtlc(_) => "fulfil",
         Message::CommitmentSigned(_) => "sign",
         Message::RevokeAndAck(_) => "revoke",
+        Message::Shutdown(_) => "shutdown",
+        Message::ClosingSigned(_) => "closing",
         Message::ChannelReestablish(_) => "reestablish",
         _ => "another message",
     }
@@ -208,6 +211,18 @@ fn pays(alloc: Global, a: &mut Place, b: &mut Place, story: &mut String) -> Resu
     signs(alloc, a, b, story)
 }
 
+/// What of a close that a begins isn't done yet.
+fn closes(alloc: Global, a: &mut Place, b: &mut Place, story: &mut String) -> Result<(), Refusal> {
+    match a.standing(alloc)?.life {
+        Life::Ready => {
+            let script = Bytes::empty(alloc);
+            tells(alloc, a, b, "shutdown", Command::Shutdown(script), story)?;
+        }
+        _ => {}
+    }
+    settle(alloc, a, b, story)
+}
+
 /// An end comes back from its record, the other has lost its connection, and there is a new one.
 fn meet(alloc: Global, x: &mut Place, y: &mut Place, story: &mut String) -> Result<(), Refusal> {
     x.restart(alloc)?;
@@ -242,27 +257,69 @@ fn is_paid(alloc: Global, a: &Place, b: &Place) -> Result<bool, Refusal> {
     Ok(paid)
 }
 
-/// A payment over a save of this end that fails, and whether it is completed.
-fn told(alloc: Global, a: &mut Place, b: &mut Place, at: Role) -> Result<String, Refusal> {
+/// Whether both sides have closed at this fee.
+fn are_closed(alloc: Global, a: &Place, b: &Place, fee: u64) -> Result<bool, Refusal> {
+    let of_a = a.standing(alloc)?;
+    let of_b = b.standing(alloc)?;
+    Ok(of_a.life == Life::Closed(fee) && of_b.life == Life::Closed(fee))
+}
+
+/// What two ends do that are ready.
+#[derive(Clone, Copy)]
+enum Play {
+    /// A pays B.
+    Payment,
+    /// A closes, and both agree on B's least fee.
+    Close,
+}
+
+/// What of it isn't done yet.
+fn goes_on(
+    alloc: Global,
+    play: Play,
+    a: &mut Place,
+    b: &mut Place,
+    story: &mut String,
+) -> Result<(), Refusal> {
+    match play {
+        Play::Payment => pays(alloc, a, b, story),
+        Play::Close => closes(alloc, a, b, story),
+    }
+}
+
+/// What has become of it.
+fn outcome(alloc: Global, play: Play, a: &Place, b: &Place) -> Result<&'static str, Refusal> {
+    let (done, words) = match play {
+        Play::Payment => (is_paid(alloc, a, b)?, ("paid", "not paid")),
+        Play::Close => (are_closed(alloc, a, b, 350)?, ("closed", "not closed")),
+    };
+    Ok(if done { words.0 } else { words.1 })
+}
+
+/// It over a save of this end that fails, and whether it is completed.
+fn told(
+    alloc: Global,
+    play: Play,
+    a: &mut Place,
+    b: &mut Place,
+    at: Role,
+) -> Result<String, Refusal> {
     played(alloc, &mut a.side, &mut b.side)?;
     let mut unheard = String::new(alloc);
-    let stop = code_of(pays(alloc, a, b, &mut unheard).err());
+    let stop = code_of(goes_on(alloc, play, a, b, &mut unheard).err());
     let mut story = match at {
         Role::Funder => came_back(alloc, a, b, stop)?,
         Role::Fundee => came_back(alloc, b, a, stop)?,
     };
-    pays(alloc, a, b, &mut unheard)?;
-    let paid = if is_paid(alloc, a, b)? {
-        "paid"
-    } else {
-        "not paid"
-    };
-    write!(story, ", {paid}")?;
+    goes_on(alloc, play, a, b, &mut unheard)?;
+    let done = outcome(alloc, play, a, b)?;
+    write!(story, ", {done}")?;
     Ok(story)
 }
 
 fn told_of_new(
     alloc: Global,
+    play: Play,
     at: Role,
     of_a: FailingStore,
     of_b: FailingStore,
@@ -271,29 +328,36 @@ fn told_of_new(
     let mut a = boxed(alloc, Place::new(alloc, "A", FUNDER, a))?;
     let b = fundee_side(alloc, of_b)?;
     let mut b = boxed(alloc, Place::new(alloc, "B", FUNDEE, b))?;
-    told(alloc, &mut a, &mut b, at)
+    told(alloc, play, &mut a, &mut b, at)
 }
 
-/// The same where the store of an end fails at the payment's save of this number, counted from 0.
-fn told_where(alloc: Global, at: Role, save: u64, leaves_new: bool) -> Result<String, Refusal> {
+/// The same where the store of an end fails at the save of this number, counted from 0 behind the opening.
+fn told_where(
+    alloc: Global,
+    play: Play,
+    at: Role,
+    save: u64,
+    leaves_new: bool,
+) -> Result<String, Refusal> {
     let failing = FailingStore::new(alloc, save.saturating_add(3), leaves_new);
     let other = FailingStore::new(alloc, 1000, false);
     match at {
-        Role::Funder => told_of_new(alloc, at, failing, other),
-        Role::Fundee => told_of_new(alloc, at, other, failing),
+        Role::Funder => told_of_new(alloc, play, at, failing, other),
+        Role::Fundee => told_of_new(alloc, play, at, other, failing),
     }
 }
 
 /// Whether these are told where its store has the record of before, and where it has the one that was to be saved.
 fn are_told(
     alloc: Global,
+    play: Play,
     at: Role,
     save: u64,
     old: &str,
     new: &str,
 ) -> Result<(bool, bool), Refusal> {
-    let with_old = told_where(alloc, at, save, false)?;
-    let with_new = told_where(alloc, at, save, true)?;
+    let with_old = told_where(alloc, play, at, save, false)?;
+    let with_new = told_where(alloc, play, at, save, true)?;
     Ok((with_old.as_str() == old, with_new.as_str() == new))
 }
 
@@ -414,7 +478,68 @@ fn payments_over_a_save_that_fails(rt: HostRuntime) {
         ),
     ] {
         assert_eq!(rt;
-            are_told(rt.alloc(), at, save, old, new),
+            are_told(rt.alloc(), Play::Payment, at, save, old, new),
+            Ok((true, true)),
+            "{save}"
+        );
+    }
+}
+
+// A closes. The three saves of either end; the record of before is left, or the new one.
+#[test]
+fn closes_over_a_save_that_fails(rt: HostRuntime) {
+    for (at, save, old, new) in [
+        (
+            A,
+            0,
+            "sends shutdown: 61 1 62 same, A reestablish, B reestablish, A channel_ready, B \
+             channel_ready, closed",
+            "sends shutdown: 61 1 62 new, A reestablish, B reestablish, A channel_ready, A \
+             shutdown, B channel_ready, B shutdown, A closing, B closing, A closing, closed",
+        ),
+        (
+            A,
+            1,
+            "takes shutdown: 61 1 62 same, A reestablish, B reestablish, A channel_ready, A \
+             shutdown, B channel_ready, B shutdown, A closing, B closing, A closing, closed",
+            "takes shutdown: 61 1 62 new, A reestablish, B reestablish, A channel_ready, A \
+             shutdown, A closing, B channel_ready, B shutdown, B closing, A closing, closed",
+        ),
+        (
+            A,
+            2,
+            "takes closing: 61 1 62 same, A reestablish, B reestablish, A channel_ready, A \
+             shutdown, A closing, B channel_ready, B shutdown, B closing, A closing, closed",
+            "takes closing: 61 1 62 new, A reestablish, B reestablish, A channel_ready, A \
+             shutdown, A closing, B channel_ready, B shutdown, B closing, closed",
+        ),
+        (
+            B,
+            0,
+            "takes shutdown: 61 1 62 same, B reestablish, A reestablish, B channel_ready, A \
+             channel_ready, A shutdown, B shutdown, A closing, B closing, A closing, closed",
+            "takes shutdown: 61 1 62 new, B reestablish, A reestablish, B channel_ready, B \
+             shutdown, A channel_ready, A shutdown, A closing, B closing, A closing, closed",
+        ),
+        (
+            B,
+            1,
+            "takes closing: 61 1 62 same, B reestablish, A reestablish, B channel_ready, B \
+             shutdown, A channel_ready, A shutdown, A closing, B closing, A closing, closed",
+            "takes closing: 61 1 62 new, B reestablish, A reestablish, B channel_ready, B \
+             shutdown, B closing, A channel_ready, A shutdown, A closing, A closing, closed",
+        ),
+        (
+            B,
+            2,
+            "takes closing: 61 1 62 same, B reestablish, A reestablish, B channel_ready, B \
+             shutdown, B closing, A channel_ready, A shutdown, A closing, closed",
+            "takes closing: 61 1 62 new, B reestablish, A reestablish, B channel_ready, B \
+             shutdown, B closing, A channel_ready, A shutdown, A closing, closed",
+        ),
+    ] {
+        assert_eq!(rt;
+            are_told(rt.alloc(), Play::Close, at, save, old, new),
             Ok((true, true)),
             "{save}"
         );

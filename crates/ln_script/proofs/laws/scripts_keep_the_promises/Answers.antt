@@ -1,7 +1,7 @@
 use Rattle.ln_keys.specs.Toy.{toy_signer}
-use Rattle.ln_world.specs.Promises.{OfEach, Headline, NoneRefused, AllTaken, OneFee, Agrees}
-use Rattle.ln_world.specs.Promises.{AnswersShutdown, MarksAgree, DoExactly}
-use Rattle.ln_world.specs.Records.{HaveRecords}
+use Rattle.ln_channels.specs.Promises.{OfEach, Headline, NoneRefused, AllTaken, OneFee, Agrees}
+use Rattle.ln_channels.specs.Promises.{AnswersShutdown, MarksAgree, DoExactly}
+use Rattle.ln_channels.specs.Records.{HaveRecords}
 use Rattle.ln_script.proofs.Fits.{after_each, steps_fit}
 use Rattle.ln_script.proofs.Widths.{after_each_wide}
 use Rattle.ln_script.proofs.laws.scripts_keep_the_promises.Goals as goal

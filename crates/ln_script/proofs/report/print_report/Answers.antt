@@ -1,7 +1,7 @@
 use Rattle.std.proofs.Common.{◌++◌, ap, ◌∙◌, subst}
 use Rattle.ln_keys.specs.declared.toy_keys.ToyKeys.{ToyKeys}
 use Rattle.ln_msgs.specs.Pings.Written.{IsPartlyWritten}
-use Rattle.ln_world.specs.World.{World}
+use Rattle.ln_channels.specs.World.{World}
 use Rattle.ln_script.specs.Report.{report_from, steps_text, ends_text}
 use Rattle.ln_script.proofs.Reports.{partly_behind}
 use Rattle.ln_script.proofs.report.print_report.Goals as goal

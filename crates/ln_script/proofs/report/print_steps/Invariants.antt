@@ -2,8 +2,8 @@ use Rattle.std.proofs.Common.{◌≡◌, ◌≤◌, length}
 use Rattle.std.specs.Vec.Iter.{into_iter_items, into_iter_len}
 use Rattle.ln_msgs.specs.Pings.CountedView.{inner_of, failures_of}
 use Rattle.ln_msgs.specs.declared.refusals.refusal.Refusal.TheVariants as refusal
-use Rattle.ln_world.specs.World.{run}
-use Rattle.ln_world.specs.Failing.{SomeMayFail}
+use Rattle.ln_channels.specs.World.{run}
+use Rattle.ln_channels.specs.Failing.{SomeMayFail}
 use Rattle.ln_script.specs.Keys.{toy}
 use Rattle.ln_script.specs.Report.{steps_text}
 use Rattle.ln_script.proofs.Reports.{Wrote}

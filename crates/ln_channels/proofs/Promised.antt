@@ -1,0 +1,344 @@
+-- Every channel of a world is one that was opened, and what has happened to it.
+use Rattle.std.proofs.Common.{◌≡◌, ℕ, List, [], ◌∷◌, ◌++◌, refl, sym, ap, subst, arith}
+use Rattle.std.proofs.Common.{Bool, true, false, cond, ◌&&◌, ◌==◌, not, nat_le, is_none}
+use Rattle.std.proofs.lemmas.Bool.{leb-true}
+use Rattle.ln_keys.specs.declared.keys.ChannelKeys.{Ghosts}
+use Rattle.std.proofs.Math.Logic.{∥∥₁_elim}
+use Rattle.std.proofs.Math.Bool.{Bool-set}
+use Rattle.std.proofs.Math.Nat.{ℕ_set}
+use Rattle.ln_keys.specs.Signer.{Signer}
+use Rattle.ln_keys.specs.Partners.{ArePartners}
+use Rattle.ln_msgs.specs.Messages.Channel.{id_of_channel}
+use Rattle.ln_log.specs.declared.opening.Opening.{Opening}
+use Rattle.ln_log.specs.Machine as machine
+use Rattle.ln_log.specs.Opening.{is_fit}
+use Rattle.ln_log.proofs.Fits.{fit_is}
+use Rattle.ln_close.specs.Closing.{AreOrdered}
+use Rattle.ln_channel.specs.Meeting.{CanOpen}
+use Rattle.ln_channel.proofs.Meeting.{none_refused}
+use Rattle.ln_store.proofs.Formats.{both_true}
+use Rattle.ln_pair.specs.Promises.{AreKeys, AreSent}
+use Rattle.ln_channels.specs.declared.step.Node.{Node}
+use Rattle.ln_channels.specs.declared.step.Open.{Open}
+use Rattle.ln_channels.specs.declared.step.Step.{Step}
+use Rattle.ln_channels.specs.declared.step.Step.TheVariants as step
+use Rattle.ln_channels.specs.declared.settings.Settings.{Settings}
+use Rattle.ln_channels.specs.declared.settings.Setting.{Setting}
+use Rattle.ln_channels.specs.Settings.{config_of, spec_of, txid_of, channel_id_of, opening_by, are_ordered}
+use Rattle.ln_channels.specs.Settings.{defaults, may_bring, CanBring}
+use Rattle.ln_channels.specs.Both.{Both, Move}
+use Rattle.ln_channels.specs.Channel.{Channel, is_node, moved, opened_by, act_moves, fall_moves, restart_moves, up_moves}
+use Rattle.ln_channels.specs.Channel.{halt_moves, stop_moves}
+use Rattle.ln_channels.specs.World.{World, settings_of, with_settings, channel, moved_at, all_moved, may_open, happens}
+use Rattle.ln_channels.specs.World.{at, everywhere, may_be_done, empty, run}
+use Rattle.ln_channels.specs.Promises.{Headline, NoneRefused, AllTaken, OneFee, Agrees, BringsFit, Each, BringFit, OfEach}
+use Rattle.ln_channels.specs.Promises.{AnswersShutdown, MarksAgree, BothClose, DoExactly}
+use Rattle.ln_channels.proofs.Fitting.{funders, fundees}
+use Rattle.ln_channels.proofs.Opened.{mirrored, fees_so, opening_so}
+use Rattle.ln_channels.proofs.Kept.{IsRun, IsOpen, act_kept, fall_kept, halt_kept, restart_kept, stop_kept, up_kept}
+use Rattle.ln_channels.proofs.Kept.{Tale, IsTold}
+use Rattle.ln_channels.proofs.Kept as channels
+use Rattle.ln_channels.proofs.Doing as doing
+
+-- ---- what nodes bring
+
+ordered_so : (s : Settings) → are_ordered s ≡ true → AreOrdered s.fees
+ordered_so s e =
+    let p = both_true (nat_le s.fees.least s.fees.first) (nat_le s.fees.first s.fees.greatest) e in
+    (leb-true s.fees.least s.fees.first p.0, leb-true s.fees.first s.fees.greatest p.1)
+
+pub brings_so : (satoshis push : ℕ) (s t : Settings) → may_bring satoshis push s t ≡ true → CanBring satoshis push s t
+brings_so satoshis push s t e =
+    let o = opening_by satoshis push s t in
+    let p = both_true (is_fit o) (are_ordered s && are_ordered t) e in
+    let q = both_true (are_ordered s) (are_ordered t) p.1 in
+    record {
+      opening = fit_is o p.0;
+      funder_fees = ordered_so s q.0;
+      fundee_fees = ordered_so t q.1;
+    }
+
+-- ---- what is set for nodes
+
+module _ (P : Settings → Type 0) where
+  abbrev pub AreSet : List Setting → Type 0
+  AreSet ss = Each (λ (s : Setting). P s.settings) ss
+
+  found : (b : Bool) (s t : Settings) → P s → P t → P (cond b s t)
+  found true s t h k = h
+  found false s t h k = k
+
+  either_list : (b : Bool) (new s : Setting) (ss ts : List Setting) → P new.settings → AreSet (s ∷ ss) → AreSet ts
+      → AreSet (cond b (new ∷ ss) (s ∷ ts))
+  either_list true new s ss ts f h k = (f, h.1)
+  either_list false new s ss ts f h k = (h.0, k)
+
+  pub set_of : P defaults → (n : Node) (ss : List Setting) → AreSet ss → P (settings_of n ss)
+  set_of d n [] h = d
+  set_of d n (s ∷ ss) h = found (is_node s.node n) s.settings (settings_of n ss) h.0 (set_of d n ss h.1)
+
+  pub set_with : (n : Node) (new : Settings) (ss : List Setting) → P new → AreSet ss → AreSet (with_settings n new ss)
+  set_with n new [] f h = (f, tt)
+  set_with n new (s ∷ ss) f h = either_list (is_node s.node n) (record { node = n; settings = new }) s ss
+      (with_settings n new ss) f h (set_with n new ss f h.1)
+
+abbrev pub HasFees : Settings → Type 0
+HasFees s = AreSent s.fees
+
+pub set_so : (n : Node) (ss : List Setting) → AreSet HasFees ss → AreSent (settings_of n ss).fees
+set_so n ss h = set_of HasFees (record { first = omega arith; greatest = omega arith }) n ss h
+
+-- ---- a channel that is opened
+
+pub id_so : (n : ℕ) → channel_id_of n ≡ id_of_channel (txid_of n) 0
+unfolding channel_id_of
+id_so n = refl
+
+-- Open has that its keys are partners, but not which proof of it
+partners_so : (a b : Signer) → ∥ ArePartners a b ∥₁ → ArePartners a b
+partners_so a b t = record {
+  there = record {
+    commitments = λ n point v le len. ∥∥₁_elim t (Bool-set _ _) (λ p. p.there.commitments n point v le len);
+    htlcs = λ n point v. ∥∥₁_elim t (ℕ_set _ _) (λ p. p.there.htlcs n point v);
+    closings = λ fee lt. ∥∥₁_elim t (Bool-set _ _) (λ p. p.there.closings fee lt);
+    secrets = λ n le. ∥∥₁_elim t (Bool-set _ _) (λ p. p.there.secrets n le);
+    own_secrets = λ n le. ∥∥₁_elim t (Bool-set _ _) (λ p. p.there.own_secrets n le);
+  };
+  back = record {
+    commitments = λ n point v le len. ∥∥₁_elim t (Bool-set _ _) (λ p. p.back.commitments n point v le len);
+    htlcs = λ n point v. ∥∥₁_elim t (ℕ_set _ _) (λ p. p.back.htlcs n point v);
+    closings = λ fee lt. ∥∥₁_elim t (Bool-set _ _) (λ p. p.back.closings fee lt);
+    secrets = λ n le. ∥∥₁_elim t (Bool-set _ _) (λ p. p.back.secrets n le);
+    own_secrets = λ n le. ∥∥₁_elim t (Bool-set _ _) (λ p. p.back.own_secrets n le);
+  };
+}
+
+module _ {K : Type 0} (k : Ghosts K) where
+  abbrev pub IsToldOf : Channel K → Tale → Type 0
+  IsToldOf c t = IsTold k.signer (channel_id_of c.number) c.both t
+
+  -- what comes of an opening
+  abbrev pub opening_tale : Opening → Tale
+  opening_tale o = record { sent_x = []; sent_y = []; moves = machine.Open o ∷ []; told_x = []; told_y = [] }
+
+  -- a channel that was opened, with no step since
+  abbrev pub opened_run : (o : Open K k) (s t : Settings) → AreKeys (k.signer o.keys.funder) (k.signer o.keys.fundee)
+      → CanBring o.satoshis o.push s t → AreSent s.fees → AreSent t.fees → IsOpen k.signer (opened_by k o s t)
+  opened_run o s t keys brings fs ft =
+      let a = k.signer o.keys.funder in
+      let b = k.signer o.keys.fundee in
+      let spec = spec_of o.channel (config_of o.funder s) o.satoshis o.push in
+      let config = config_of o.fundee t in
+      let can : CanOpen a b spec config = record {
+        partners = keys.partners;
+        funder_point = keys.a_points 0 (omega arith);
+        fundee_point = keys.b_points 0 (omega arith);
+        chain = refl;
+        spec = funders o.channel o.satoshis o.push o.funder s t brings;
+        config = fundees o.satoshis o.push o.fundee s t brings;
+      } in
+      let ends = none_refused a b spec config can in
+      let funder = ends.0 in
+      let fundee = ends.1 in
+      let opens = ends.2 in
+      let id = channel_id_of o.channel in
+      let fees = fees_so k.signer id o.keys.funder o.keys.fundee spec config funder fundee opens in
+      record {
+        funders = o.keys.funder;
+        fundees = o.keys.fundee;
+        spec = spec;
+        config = config;
+        funder = funder;
+        fundee = fundee;
+        steps = [];
+        keys = keys;
+        opens = opens;
+        funders_fees = subst AreSent (sym fees.0) fs;
+        fundees_fees = subst AreSent (sym fees.1) ft;
+        funders_order = subst AreOrdered (sym fees.0) brings.funder_fees;
+        fundees_order = subst AreOrdered (sym fees.1) brings.fundee_fees;
+        mirrors = mirrored k.signer id o.keys.funder o.keys.fundee spec config funder fundee opens (id_so o.channel);
+      }
+
+  -- and with nothing said since
+  pub opened_told : (o : Open K k) (s t : Settings) → AreKeys (k.signer o.keys.funder) (k.signer o.keys.fundee)
+      → CanBring o.satoshis o.push s t → AreSent s.fees → AreSent t.fees
+      → IsToldOf (opened_by k o s t) (opening_tale (opening_by o.satoshis o.push s t))
+  opened_told o s t keys brings fs ft =
+      let r = opened_run o s t keys brings fs ft in
+      record {
+        run = r;
+        x = refl;
+        y = refl;
+        moves = ap (λ q. machine.Open q ∷ [])
+            (opening_so k.signer (channel_id_of o.channel) r.funders r.fundees r.spec r.config r.funder r.fundee
+            r.opens);
+        told_x = refl;
+        told_y = refl;
+      }
+
+  -- ---- a world
+
+  pub record Keeps (w : World K) : Type 0 where
+    pub settings : AreSet HasFees w.settings
+    pub channels : Each (IsOpen k.signer) w.channels
+
+  module _ (P : Channel K → Type 0) where
+    one_moved : (b : Bool) (f : Channel K → List Move) → ((c : Channel K) → P c → P (moved k.signer f c))
+        → (c : Channel K) → P c → P (cond b (moved k.signer f c) c)
+    one_moved true f keep c h = keep c h
+    one_moved false f keep c h = h
+
+    pub moved_so : (n : ℕ) (f : Channel K → List Move) → ((c : Channel K) → P c → P (moved k.signer f c))
+        → (cs : List (Channel K)) → Each P cs → Each P (moved_at k.signer n f cs)
+    moved_so n f keep [] h = tt
+    moved_so n f keep (c ∷ cs) h = (one_moved (c.number == n) f keep c h.0, moved_so n f keep cs h.1)
+
+    pub all_so : (f : Channel K → List Move) → ((c : Channel K) → P c → P (moved k.signer f c))
+        → (cs : List (Channel K)) → Each P cs → Each P (all_moved k.signer f cs)
+    all_so f keep [] h = tt
+    all_so f keep (c ∷ cs) h = (keep c h.0, all_so f keep cs h.1)
+
+    pub joined_so : (cs : List (Channel K)) (c : Channel K) → Each P cs → P c → Each P (cs ++ c ∷ [])
+    joined_so [] c h o = (o, tt)
+    joined_so (d ∷ cs) c h o = (h.0, joined_so cs c h.1 o)
+
+    -- every channel moves so, or none does
+    pub either_so : (b : Bool) (f : Channel K → List Move) → ((c : Channel K) → P c → P (moved k.signer f c))
+        → (w : World K) → Each P w.channels → Each P (cond b (everywhere k.signer f w) w).channels
+    either_so true f keep w h = all_so f keep w.channels h
+    either_so false f keep w h = h
+
+    -- the channels with this number move so, or none does
+    pub there_so : (b : Bool) (n : ℕ) (f : Channel K → List Move) → ((c : Channel K) → P c → P (moved k.signer f c))
+        → (w : World K) → Each P w.channels → Each P (cond b (at k.signer n f w) w).channels
+    there_so true n f keep w h = moved_so n f keep w.channels h
+    there_so false n f keep w h = h
+
+  pub settings_stay : (P : Settings → Type 0) (b : Bool) (f : Channel K → List Move) (w : World K)
+      → AreSet P w.settings → AreSet P (cond b (everywhere k.signer f w) w).settings
+  settings_stay P true f w h = h
+  settings_stay P false f w h = h
+
+  pub settings_stay_there : (P : Settings → Type 0) (b : Bool) (n : ℕ) (f : Channel K → List Move) (w : World K)
+      → AreSet P w.settings → AreSet P (cond b (at k.signer n f w) w).settings
+  settings_stay_there P true n f w h = h
+  settings_stay_there P false n f w h = h
+
+  pub keys_so : (o : Open K k) → BringsFit k (step.Open o) → AreKeys (k.signer o.keys.funder) (k.signer o.keys.fundee)
+  keys_so o f = record {
+    partners = partners_so (k.signer o.keys.funder) (k.signer o.keys.fundee) o.keys.partners;
+    a_points = f.0;
+    b_points = f.1;
+  }
+
+  opens_by : (b : Bool) (o : Open K k) (w : World K) → may_open o w ≡ b
+      → AreKeys (k.signer o.keys.funder) (k.signer o.keys.fundee) → Keeps w
+      → Keeps (cond b (record {
+        settings = w.settings;
+        channels = w.channels
+            ++ opened_by k o (settings_of o.funder w.settings) (settings_of o.fundee w.settings) ∷ [];
+      }) w)
+  opens_by false o w e keys h = h
+  opens_by true o w e keys h =
+      let s = settings_of o.funder w.settings in
+      let t = settings_of o.fundee w.settings in
+      let p = both_true (not (is_node o.funder o.fundee))
+      (is_none (channel o.channel w.channels) && may_bring o.satoshis o.push s t) e in
+      let q = both_true (is_none (channel o.channel w.channels)) (may_bring o.satoshis o.push s t) p.1 in
+      record {
+        settings = h.settings;
+        channels = joined_so (IsOpen k.signer) w.channels (opened_by k o s t) h.channels
+            (opened_run o s t keys (brings_so o.satoshis o.push s t q.1) (set_so o.funder w.settings h.settings)
+            (set_so o.fundee w.settings h.settings));
+      }
+
+  pub happened : (s : Step K k) (w : World K) → BringsFit k s → Keeps w → Keeps (happens k s w)
+  happened (step.Fees n fees) w f h = record {
+    settings = set_with HasFees n (record (settings_of n w.settings) { fees = fees }) w.settings f h.settings;
+    channels = h.channels;
+  }
+  happened (step.Limits n limits) w f h = record {
+    settings = set_with HasFees n (record (settings_of n w.settings) { limits = limits }) w.settings
+        (set_so n w.settings h.settings) h.settings;
+    channels = h.channels;
+  }
+  happened (step.Open o) w f h = opens_by (may_open o w) o w refl (keys_so o f) h
+  happened (step.Do e a) w f h = record {
+    settings = h.settings;
+    channels = moved_so (IsOpen k.signer) e.channel (act_moves e.node a) (act_kept k.signer e.node a) w.channels
+        h.channels;
+  }
+  happened (step.Down e) w f h = record {
+    settings = h.settings;
+    channels = moved_so (IsOpen k.signer) e.channel (fall_moves e.node) (fall_kept k.signer e.node) w.channels
+        h.channels;
+  }
+  happened (step.NoMemory e a) w f h = record {
+    settings = settings_stay_there HasFees (may_be_done e a w.channels) e.channel (halt_moves e.node) w h.settings;
+    channels = there_so (IsOpen k.signer) (may_be_done e a w.channels) e.channel (halt_moves e.node)
+        (halt_kept k.signer e.node) w h.channels;
+  }
+  happened (step.Restart n) w f h = record {
+    settings = h.settings;
+    channels = all_so (IsOpen k.signer) (restart_moves n) (restart_kept k.signer n) w.channels h.channels;
+  }
+  happened (step.StopBefore e a) w f h = record {
+    settings = settings_stay HasFees (may_be_done e a w.channels) (restart_moves e.node) w h.settings;
+    channels = either_so (IsOpen k.signer) (may_be_done e a w.channels) (restart_moves e.node)
+        (restart_kept k.signer e.node) w h.channels;
+  }
+  happened (step.StopAfter e a) w f h = record {
+    settings = settings_stay HasFees (may_be_done e a w.channels) (stop_moves e a) w h.settings;
+    channels = either_so (IsOpen k.signer) (may_be_done e a w.channels) (stop_moves e a) (stop_kept k.signer e a) w
+        h.channels;
+  }
+  happened (step.Up n) w f h = record {
+    settings = h.settings;
+    channels = moved_so (IsOpen k.signer) n up_moves (up_kept k.signer) w.channels h.channels;
+  }
+
+  ran : (ss : List (Step K k)) (w : World K) → BringFit k ss → Keeps w → Keeps (run k ss w)
+  ran [] w f h = h
+  ran (s ∷ ss) w f h = ran ss (happens k s w) f.1 (happened s w f.0 h)
+
+  kept : (ss : List (Step K k)) → BringFit k ss → Keeps (run k ss empty)
+  kept ss f = ran ss empty f (record { settings = tt; channels = tt })
+
+  -- ---- what is promised of each channel
+
+  of_each : (P : Both K → Type 0) → ((id : List ℕ) (p : Both K) → IsRun k.signer id p → P p)
+      → (cs : List (Channel K)) → Each (IsOpen k.signer) cs → Each (λ (c : Channel K). P c.both) cs
+  of_each P f [] h = tt
+  of_each P f (c ∷ cs) h = (f (channel_id_of c.number) c.both h.0, of_each P f cs h.1)
+
+  pub headline : (ss : List (Step K k)) → BringFit k ss → OfEach Headline (run k ss empty)
+  headline ss f = of_each Headline (channels.headline k.signer) (run k ss empty).channels (kept ss f).channels
+
+  pub none_is_refused : (ss : List (Step K k)) → BringFit k ss → OfEach (NoneRefused k.signer) (run k ss empty)
+  none_is_refused ss f = of_each (NoneRefused k.signer) (channels.none_refused k.signer) (run k ss empty).channels
+      (kept ss f).channels
+
+  pub agrees : (ss : List (Step K k)) → BringFit k ss → OfEach Agrees (run k ss empty)
+  agrees ss f = of_each Agrees (channels.agrees k.signer) (run k ss empty).channels (kept ss f).channels
+
+  pub both_close : (ss : List (Step K k)) → BringFit k ss → OfEach BothClose (run k ss empty)
+  both_close ss f = of_each BothClose (channels.both_close k.signer) (run k ss empty).channels (kept ss f).channels
+
+  pub marks_agree : (ss : List (Step K k)) → BringFit k ss → OfEach MarksAgree (run k ss empty)
+  marks_agree ss f = of_each MarksAgree (channels.marks_agree k.signer) (run k ss empty).channels (kept ss f).channels
+
+  pub all_taken : (ss : List (Step K k)) → BringFit k ss → OfEach (AllTaken k.signer) (run k ss empty)
+  all_taken ss f = of_each (AllTaken k.signer) (channels.all_accepted k.signer) (run k ss empty).channels
+      (kept ss f).channels
+
+  pub one_fee : (ss : List (Step K k)) → BringFit k ss → OfEach OneFee (run k ss empty)
+  one_fee ss f = of_each OneFee (channels.closes_at_one_fee k.signer) (run k ss empty).channels (kept ss f).channels
+
+  pub answered : (ss : List (Step K k)) → BringFit k ss → OfEach AnswersShutdown (run k ss empty)
+  answered ss f = of_each AnswersShutdown (channels.answers_shutdown k.signer) (run k ss empty).channels
+      (kept ss f).channels
+
+  pub do_exactly : (ss : List (Step K k)) → BringFit k ss → OfEach (DoExactly k.signer) (run k ss empty)
+  do_exactly ss f = of_each (DoExactly k.signer) (doing.do_exactly k.signer) (run k ss empty).channels
+      (kept ss f).channels

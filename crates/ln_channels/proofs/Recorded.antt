@@ -1,0 +1,316 @@
+-- Each end of every channel has a record, so that no restart of a node fails by one that is missing (BOLT 2, "Message
+-- Retransmission").
+use Rattle.std.proofs.Common.{◌≡◌, ℕ, List, [], ◌∷◌, refl, subst, arith, inl, inr}
+use Rattle.std.proofs.Common.{Bool, true, false, cond, ◌&&◌, ◌==◌, not, is_none, Option, Some, None}
+use Rattle.ln_msgs.specs.declared.refusals.refusal.Refusal.TheVariants as refusal
+use Rattle.ln_keys.specs.declared.keys.ChannelKeys.{Ghosts}
+use Rattle.ln_keys.specs.declared.role.Role.{Role}
+use Rattle.ln_keys.specs.declared.role.Role.TheVariants.{Funder, Fundee}
+use Rattle.ln_keys.specs.Signer.{Signer}
+use Rattle.ln_channel.specs.declared.unsaved.Line.{Line}
+use Rattle.ln_channel.specs.declared.opening.Opened.{Opened}
+use Rattle.ln_channel.specs.End.{End}
+use Rattle.ln_channel.specs.State.{State}
+use Rattle.ln_store.proofs.Formats.{both_true}
+use Rattle.ln_pair.specs.Promises.{AreKeys, AreSent}
+use Rattle.ln_pair.proofs.Lasting.{IsCounted, IsWide, IsOf}
+use Rattle.ln_pair.proofs.Counting.{are_counted}
+use Rattle.ln_pair.proofs.Wide.{are_wide}
+use Rattle.ln_channels.specs.declared.step.Act.{Act}
+use Rattle.ln_channels.specs.declared.step.Act.TheVariants as act
+use Rattle.ln_channels.specs.declared.step.End.{End as WorldEnd}
+use Rattle.ln_channels.specs.declared.step.Node.{Node}
+use Rattle.ln_channels.specs.declared.step.Open.{Open}
+use Rattle.ln_channels.specs.declared.step.Step.{Step}
+use Rattle.ln_channels.specs.declared.step.Step.TheVariants as step
+use Rattle.ln_channels.specs.declared.settings.Settings.{Settings}
+use Rattle.ln_channels.specs.declared.settings.Setting.{Setting}
+use Rattle.ln_channels.specs.Settings.{defaults, channel_id_of, may_bring, CanBring}
+use Rattle.ln_channels.specs.Both.{Both, Move, By, Falls, Halts, Restarts, Stops, Meet, moves, unheard}
+use Rattle.ln_channels.specs.Both.{run as run_both}
+use Rattle.ln_channels.specs.Channel.{Channel, is_node, by, side_of, actor, moved, may_meet, opened_by, act_moves}
+use Rattle.ln_channels.specs.Channel.{fall_moves, halt_moves, restart_moves, stop_moves, up_moves}
+use Rattle.ln_channels.specs.Channel.{acted_unheard, side_unheard}
+use Rattle.ln_channels.specs.World.{World, settings_of, channel, may_open, joined, happens, may_be_done, changed_if}
+use Rattle.ln_channels.specs.World.{unheard_at, empty, run}
+use Rattle.ln_channels.specs.Failing.{LinkLacks, SideLacks, SomeLacks, MayFail, SomeMayFail}
+use Rattle.ln_channels.specs.Promises.{BringsFit, BringFit, Each, OfEach}
+use Rattle.ln_channels.specs.Records.{AreLimits, IsAct, IsStep, AreSteps, HaveRecords}
+use Rattle.ln_channels.proofs.Mirror.{link_at}
+use Rattle.ln_channels.proofs.Opening.{IsOpening}
+use Rattle.ln_channels.proofs.Forms.{has_record}
+use Rattle.ln_channels.proofs.Openings.{are_openings, short_scripts}
+use Rattle.ln_channels.proofs.Kept.{IsRun, IsWideRun, ends_of, IsMove, ArePossible, went}
+use Rattle.ln_channels.proofs.Promised.{brings_so, AreSet, set_of, set_with, set_so, opened_run, Keeps}
+use Rattle.ln_channels.proofs.Promised.{moved_so, all_so, joined_so, either_so, there_so, settings_stay}
+use Rattle.ln_channels.proofs.Promised.{settings_stay_there, keys_so, happened}
+use Rattle.ln_channels.proofs.Told.{MayMake, acts_possible, falls_possible, halts_possible, restarts_possible}
+use Rattle.ln_channels.proofs.Told.{stops_possible, ups_possible}
+use Rattle.ln_channels.proofs.Stopping.{as_acted}
+
+-- ---- a channel whose commands are as wide as they are in code
+
+module _ {K : Type 0} (signer : K → Signer) where
+  pub record IsFit (id : List ℕ) (p : Both K) : Type 0 where
+    pub run : IsRun signer id p
+    pub wide : IsWideRun signer id p run
+
+  moves_so : (id : List ℕ) (ms : List Move) (p : Both K) → ArePossible signer id ms p → Each IsMove ms → IsFit id p
+      → IsFit id (run_both signer id ms p)
+  moves_so id [] p may is h = h
+  moves_so id (m ∷ ms) p may is h =
+      let w = went signer id m p may.0 h.run in
+      moves_so id ms (moves signer id m p) may.1 is.1 (record { run = w.run; wide = w.wide is.0 h.wide })
+
+-- ---- the moves that a step is
+
+bring_by : (o : Option Role) (f : Role → Move) → ((side : Role) → IsMove (f side)) → Each IsMove (by o f)
+bring_by None f h = tt
+bring_by (Some side) f h = (h side, tt)
+
+stops_bring : (b : Bool) (o : Option Role) (a : Act) → IsAct a
+    → Each IsMove (cond b (by o (λ side. Stops side a)) (by o Restarts))
+stops_bring true o a h = bring_by o (λ side. Stops side a) (λ side. h)
+stops_bring false o a h = bring_by o Restarts (λ side. tt)
+
+ups_bring : (b : Bool) → Each IsMove (cond b (Meet ∷ []) [])
+ups_bring true = (tt, tt)
+ups_bring false = tt
+
+-- ---- what is set for nodes
+
+abbrev pub HasLimits : Settings → Type 0
+HasLimits s = AreLimits s.limits
+
+defaults_so : HasLimits defaults
+defaults_so = record {
+  minimum = omega arith;
+  accepted = omega arith;
+  in_flight = omega arith;
+  reserve = omega arith;
+}
+
+limits_so : (n : Node) (ss : List Setting) → AreSet HasLimits ss → AreLimits (settings_of n ss).limits
+limits_so n ss h = set_of HasLimits defaults_so n ss h
+
+module _ {K : Type 0} (k : Ghosts K) where
+  abbrev pub IsFitChannel : Channel K → Type 0
+  IsFitChannel c = IsFit k.signer (channel_id_of c.number) c.both
+
+  kept_by : (f : Channel K → List Move) → MayMake k f → ((c : Channel K) → Each IsMove (f c)) → (c : Channel K)
+      → IsFitChannel c → IsFitChannel (moved k.signer f c)
+  kept_by f may is c h = moves_so k.signer (channel_id_of c.number) (f c) c.both (may c) (is c) h
+
+  -- ---- a channel that is opened
+
+  opened_so : (o : Open K k) (s t : Settings) → AreKeys (k.signer o.keys.funder) (k.signer o.keys.fundee)
+      → CanBring o.satoshis o.push s t → AreSent s.fees → AreSent t.fees → AreLimits s.limits → AreLimits t.limits
+      → IsStep k (step.Open o) → IsFitChannel (opened_by k o s t)
+  opened_so o s t keys brings fs ft ls lt is =
+      let a = k.signer o.keys.funder in
+      let b = k.signer o.keys.fundee in
+      let r = opened_run k o s t keys brings fs ft in
+      let x = keys.a_points 0 (omega arith) in
+      let y = keys.b_points 0 (omega arith) in
+      let both = are_openings a b o.channel o.satoshis o.push o.funder o.fundee s t brings x y fs ft ls lt r.funder
+      r.fundee r.opens in
+      let scripts = short_scripts a b o.channel o.satoshis o.push o.funder o.fundee s t brings x y fs ft ls lt r.funder
+      r.fundee r.opens in
+      record {
+        run = r;
+        wide = record {
+          funders_secrets = is.0;
+          fundees_secrets = is.1;
+          funders_end = both.0;
+          fundees_end = both.1;
+          funders_script = scripts.0;
+          fundees_script = scripts.1;
+          commands = tt;
+        };
+      }
+
+  -- ---- a world
+
+  pub record AreFit (w : World K) : Type 0 where
+    pub keeps : Keeps k w
+    pub limits : AreSet HasLimits w.settings
+    pub channels : Each IsFitChannel w.channels
+
+  -- but for its channels' steps and fees
+  abbrev HasFit : World K → Type 0
+  HasFit w = AreSet HasLimits w.settings × Each IsFitChannel w.channels
+
+  opens_by : (b : Bool) (o : Open K k) (w : World K) → may_open o w ≡ b → BringsFit k (step.Open o)
+      → IsStep k (step.Open o) → AreFit w
+      → HasFit (cond b (joined (opened_by k o (settings_of o.funder w.settings) (settings_of o.fundee w.settings)) w) w)
+  opens_by false o w e f is h = (h.limits, h.channels)
+  opens_by true o w e f is h =
+      let s = settings_of o.funder w.settings in
+      let t = settings_of o.fundee w.settings in
+      let p = both_true (not (is_node o.funder o.fundee))
+      (is_none (channel o.channel w.channels) && may_bring o.satoshis o.push s t) e in
+      let q = both_true (is_none (channel o.channel w.channels)) (may_bring o.satoshis o.push s t) p.1 in (
+        h.limits,
+        joined_so k IsFitChannel w.channels (opened_by k o s t) h.channels
+            (opened_so o s t (keys_so k o f) (brings_so o.satoshis o.push s t q.1)
+            (set_so o.funder w.settings h.keeps.settings) (set_so o.fundee w.settings h.keeps.settings)
+            (limits_so o.funder w.settings h.limits) (limits_so o.fundee w.settings h.limits) is),
+      )
+
+  happens_so : (s : Step K k) (w : World K) → BringsFit k s → IsStep k s → AreFit w → HasFit (happens k s w)
+  happens_so (step.Fees n fees) w f is h = (
+    set_with HasLimits n (record (settings_of n w.settings) { fees = fees }) w.settings
+        (limits_so n w.settings h.limits) h.limits,
+    h.channels,
+  )
+  happens_so (step.Limits n limits) w f is h = (
+    set_with HasLimits n (record (settings_of n w.settings) { limits = limits }) w.settings is h.limits,
+    h.channels,
+  )
+  happens_so (step.Open o) w f is h = opens_by (may_open o w) o w refl f is h
+  happens_so (step.Do e a) w f is h = (
+    h.limits,
+    moved_so k IsFitChannel e.channel (act_moves e.node a) (kept_by (act_moves e.node a) (acts_possible k e.node a)
+        (λ c. bring_by (actor e.node a c) (λ side. By side a) (λ side. is))) w.channels h.channels,
+  )
+  happens_so (step.Down e) w f is h = (
+    h.limits,
+    moved_so k IsFitChannel e.channel (fall_moves e.node) (kept_by (fall_moves e.node) (falls_possible k e.node)
+        (λ c. bring_by (side_of e.node c) Falls (λ side. tt))) w.channels h.channels,
+  )
+  happens_so (step.NoMemory e a) w f is h = (
+    settings_stay_there k HasLimits (may_be_done e a w.channels) e.channel (halt_moves e.node) w h.limits,
+    there_so k IsFitChannel (may_be_done e a w.channels) e.channel (halt_moves e.node) (kept_by (halt_moves e.node)
+        (halts_possible k e.node) (λ c. bring_by (side_of e.node c) Halts (λ side. tt))) w h.channels,
+  )
+  happens_so (step.Restart n) w f is h = (
+    h.limits,
+    all_so k IsFitChannel (restart_moves n) (kept_by (restart_moves n) (restarts_possible k n)
+        (λ c. bring_by (side_of n c) Restarts (λ side. tt))) w.channels h.channels,
+  )
+  happens_so (step.StopBefore e a) w f is h = (
+    settings_stay k HasLimits (may_be_done e a w.channels) (restart_moves e.node) w h.limits,
+    either_so k IsFitChannel (may_be_done e a w.channels) (restart_moves e.node) (kept_by (restart_moves e.node)
+        (restarts_possible k e.node) (λ c. bring_by (side_of e.node c) Restarts (λ side. tt))) w h.channels,
+  )
+  happens_so (step.StopAfter e a) w f is h = (
+    settings_stay k HasLimits (may_be_done e a w.channels) (stop_moves e a) w h.limits,
+    either_so k IsFitChannel (may_be_done e a w.channels) (stop_moves e a) (kept_by (stop_moves e a)
+        (stops_possible k e a) (λ c. stops_bring (c.number == e.channel) (side_of e.node c) a is)) w h.channels,
+  )
+  happens_so (step.Up n) w f is h = (
+    h.limits,
+    moved_so k IsFitChannel n up_moves (kept_by up_moves (ups_possible k) (λ c. ups_bring (may_meet c.both)))
+        w.channels h.channels,
+  )
+
+  pub stays_fit : (s : Step K k) (w : World K) → BringsFit k s → IsStep k s → AreFit w → AreFit (happens k s w)
+  stays_fit s w f is h =
+      let p = happens_so s w f is h in
+      record { keeps = happened k s w f h.keeps; limits = p.0; channels = p.1 }
+
+  pub empty_fit : AreFit empty
+  empty_fit = record { keeps = record { settings = tt; channels = tt }; limits = tt; channels = tt }
+
+  all_fit : (ss : List (Step K k)) (w : World K) → BringFit k ss → AreSteps k ss → AreFit w → AreFit (run k ss w)
+  all_fit [] w f is h = h
+  all_fit (s ∷ ss) w f is h = all_fit ss (happens k s w) f.1 is.1 (stays_fit s w f.0 is.0 h)
+
+-- ---- no node has an end without a record
+
+side_has : {K : Type 0} (o : Option Role) (p : Both K) → HaveRecords p → SideLacks o p → ⊥
+side_has None p h lacks = lacks
+side_has (Some Funder) p h lacks = h.0 lacks
+side_has (Some Fundee) p h lacks = h.1 lacks
+
+none_of : {K : Type 0} (n : Node) (cs : List (Channel K)) → Each (λ (c : Channel K). HaveRecords c.both) cs
+    → SomeLacks n cs → ⊥
+none_of n [] h lacks = lacks
+none_of n (c ∷ cs) h (inl lacks) = side_has (side_of n c) c.both h.0 lacks
+none_of n (c ∷ cs) h (inr lacks) = none_of n cs h.1 lacks
+
+pub none_lacks : {K : Type 0} (w : World K) → OfEach HaveRecords w → (n : Node) → SomeLacks n w.channels → ⊥
+none_lacks w h n lacks = none_of n w.channels h lacks
+
+-- ---- each end has one
+
+none_lacking : {K : Type 0} (b : Bool) (key : K) (l : State K) (line : Line) (o : Opened) (e : End)
+    → l ≡ link_at b key line e → IsOpening o → IsOf o e → IsCounted e → IsWide e → LinkLacks l → ⊥
+none_lacking b key l line o e is opening of counted wide lacks =
+    has_record o e opening of counted wide (subst LinkLacks is lacks)
+
+have_records : {K : Type 0} (signer : K → Signer) (id : List ℕ) (p : Both K) → IsFit signer id p → HaveRecords p
+have_records signer id p h =
+    let r = h.run in
+    let a = signer r.funders in
+    let b = signer r.fundees in
+    let q = ends_of signer id p r in
+    let counted = are_counted a b r.spec r.config r.funder r.fundee r.steps r.keys h.wide.funders_secrets
+    h.wide.fundees_secrets r.opens r.funders_fees r.fundees_fees in
+    let wide = are_wide a b r.spec r.config r.funder r.fundee r.steps r.keys r.opens h.wide.funders_script
+    h.wide.fundees_script h.wide.commands in (
+      none_lacking r.mirrors.x_halted r.funders p.x.link q.x_line r.funder q.x r.mirrors.x_link h.wide.funders_end
+          wide.0.1 counted.0 wide.0.0,
+      none_lacking r.mirrors.y_halted r.fundees p.y.link q.y_line r.fundee q.y r.mirrors.y_link h.wide.fundees_end
+          wide.1.1 counted.1 wide.1.0,
+    )
+
+module _ {K : Type 0} (k : Ghosts K) where
+  each_has : (cs : List (Channel K)) → Each (IsFitChannel k) cs → Each (λ (c : Channel K). HaveRecords c.both) cs
+  each_has [] h = tt
+  each_has (c ∷ cs) h = (have_records k.signer (channel_id_of c.number) c.both h.0, each_has cs h.1)
+
+  pub all_have : (ss : List (Step K k)) → BringFit k ss → AreSteps k ss → OfEach HaveRecords (run k ss empty)
+  all_have ss f is = each_has (run k ss empty).channels (all_fit k ss empty f is (empty_fit k)).channels
+
+  -- nor does an act leave an end without one
+  behind_act : (o : Option Role) (a : Act) (id : List ℕ) (p : Both K) → IsAct a → IsFit k.signer id p
+      → HaveRecords (side_unheard k.signer a o p)
+  behind_act None a id p is h = have_records k.signer id p h
+  behind_act (Some Funder) a id p is h =
+      let acted = have_records k.signer id (moves k.signer id (By Funder a) p)
+      (moves_so k.signer id (By Funder a ∷ []) p (refl, tt) (is, tt) h) in
+      (as_acted k.signer Funder id a p acted.0, (have_records k.signer id p h).1)
+  behind_act (Some Fundee) a id p is h =
+      let acted = have_records k.signer id (moves k.signer id (By Fundee a) p)
+      (moves_so k.signer id (By Fundee a ∷ []) p (refl, tt) (is, tt) h) in
+      ((have_records k.signer id p h).0, as_acted k.signer Fundee id a p acted.1)
+
+  one_behind : (b : Bool) (n : Node) (a : Act) (c : Channel K) → IsAct a → IsFitChannel k c
+      → HaveRecords (cond b (acted_unheard k.signer n a c) c).both
+  one_behind true n a c is h = behind_act (side_of n c) a (channel_id_of c.number) c.both is h
+  one_behind false n a c is h = have_records k.signer (channel_id_of c.number) c.both h
+
+  each_behind : (e : WorldEnd) (a : Act) (cs : List (Channel K)) → IsAct a → Each (IsFitChannel k) cs
+      → Each (λ (c : Channel K). HaveRecords c.both) (unheard_at k.signer e a cs)
+  each_behind e a [] is h = tt
+  each_behind e a (c ∷ cs) is h = (one_behind (c.number == e.channel) e.node a c is h.0, each_behind e a cs is h.1)
+
+  never_in : (s : Step K k) (w : World K) → IsStep k s → AreFit k w → MayFail k s refusal.Damaged w → ⊥
+  never_in (step.Fees n fees) w is h fails = absurd (cc)
+  never_in (step.Limits n limits) w is h fails = absurd (cc)
+  never_in (step.Open o) w is h fails = absurd (cc)
+  never_in (step.Do e a) w is h fails = absurd (cc)
+  never_in (step.Down e) w is h fails = absurd (cc)
+  never_in (step.Restart n) w is h (inl e) = absurd (cc)
+  never_in (step.Restart n) w is h (inr lacks) = none_of n w.channels (each_has w.channels h.channels) lacks.1
+  never_in (step.NoMemory e a) w is h fails = absurd (cc)
+  never_in (step.StopBefore e a) w is h (inl r) = absurd (cc)
+  never_in (step.StopBefore e a) w is h (inr lacks) =
+      none_of e.node w.channels (each_has w.channels h.channels) lacks.1
+  never_in (step.StopAfter e a) w is h (inl r) = absurd (cc)
+  never_in (step.StopAfter e a) w is h (inr lacks) = none_of e.node (unheard_at k.signer e a w.channels)
+      (each_behind e a w.channels is h.channels) lacks.1
+  never_in (step.Up n) w is h fails = absurd (cc)
+
+  -- in no step that follows a world whose channels are so
+  pub never_after : (ss : List (Step K k)) (w : World K) → BringFit k ss → AreSteps k ss → AreFit k w
+      → SomeMayFail k ss refusal.Damaged w → ⊥
+  never_after [] w f is h fails = fails
+  never_after (s ∷ ss) w f is h (inl fails) = never_in s w is.0 h fails
+  never_after (s ∷ ss) w f is h (inr fails) =
+      never_after ss (happens k s w) f.1 is.1 (stays_fit k s w f.0 is.0 h) fails
+
+  pub never_damaged : (ss : List (Step K k)) → BringFit k ss → AreSteps k ss
+      → SomeMayFail k ss refusal.Damaged empty → ⊥
+  never_damaged ss f is fails = never_after ss empty f is (empty_fit k) fails

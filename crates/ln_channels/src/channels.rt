@@ -1,0 +1,347 @@
+//! The channels of a world, each with a number of its own.
+
+ghost use Rattle.std.specs.Prelude.{◌≡◌, ◌++◌, ◌==◌, position, is_none, IfErr, OnOk};
+ghost use Rattle.ln_msgs.specs.declared.refusals.refusal.Refusal.TheVariants as refusal;
+ghost use Rattle.ln_channels.specs.Channel.{side_of, actor, acted_lines, fallen_lines, met_lines};
+ghost use Rattle.ln_channels.specs.Channel.{act_moves, fall_moves, restart_moves, up_moves};
+ghost use Rattle.ln_channels.specs.Channel.{halt_moves, stop_moves};
+ghost use Rattle.ln_channels.specs.World.{channel, moved_at, all_moved, if_there, lines_of_ends, AreOnce};
+ghost use Rattle.ln_channels.specs.World.{may_be_done, unheard_at};
+ghost use Rattle.ln_channels.specs.Failing.{ByRecord, SomeLacks};
+
+use crate::channel::{Channel, open_channel};
+use crate::line::{EndLine, Line};
+use crate::settings::Settings;
+use crate::step::{Act, End, Node, Open};
+use ln_keys::{ChannelKeys, Role};
+use ln_msgs::Refusal;
+use std::alloc::Global;
+use std::marker::Model;
+
+/// Where the channel of this number stands.
+fn place_of<K: ChannelKeys + Copy>(channels: &[Channel<K>], number: u8) -> Option<usize>
+    ensures { result ≡ position (λ c. c.number == number) channels.now }
+{
+    channels
+        .iter()
+        .position(|channel| channel.number() == number)
+}
+
+/// Whether no channel has this number.
+fn is_free<K: ChannelKeys + Copy>(channels: &[Channel<K>], number: u8) -> bool
+    ensures { result ≡ is_none (channel number channels.now) }
+{
+    place_of(channels, number).is_none()
+}
+
+/// Where the two ends of a channel stand, where it is there. 60 where there is no memory.
+fn tell_ends_at<K: ChannelKeys + Copy>(
+    alloc: Global,
+    channels: &[Channel<K>],
+    number: u8,
+    lines: &mut Vec<EndLine>,
+) -> Result<(), Refusal>
+    ensures told { OnOk result (lines.new.items ≡ lines.old.items ++ lines_of_ends (channel number channels.now)) }
+    ensures fails_for_memory_alone { IfErr result (λ e. e ≡ refusal.Memory) }
+{
+    match place_of(channels, number) {
+        None => Ok(()),
+        Some(i) => channels[i].tell_ends(alloc, lines),
+    }
+}
+
+/// An end acts, where its channel is there. 60 where there is no memory.
+fn act_at<K: ChannelKeys + Copy>(
+    alloc: Global,
+    channels: &mut [Channel<K>],
+    end: End,
+    what: Act,
+    lines: &mut Vec<Line>,
+) -> Result<(), Refusal>
+    requires { AreOnce channels.old }
+    ensures moved { OnOk result (channels.new ≡ moved_at K.signer end.channel (act_moves end.node what) channels.old) }
+    ensures told { OnOk result (lines.new.items ≡ lines.old.items
+        ++ if_there (λ c. acted_lines K.signer what c (actor end.node what c)) (channel end.channel channels.old)) }
+    ensures once { AreOnce channels.new }
+    ensures fails_for_memory_alone { IfErr result (λ e. e ≡ refusal.Memory) }
+{
+    match place_of(channels, end.channel) {
+        None => {
+            drop(what);
+            lines.push(Line::Idle)?;
+            Ok(())
+        }
+        Some(i) => channels[i].act(alloc, end.node, what, lines),
+    }
+}
+
+/// An end loses its connection, where its channel is there. 60 where there is no memory.
+fn fall_at<K: ChannelKeys + Copy>(
+    channels: &mut [Channel<K>],
+    end: End,
+    lines: &mut Vec<Line>,
+) -> Result<(), Refusal>
+    requires { AreOnce channels.old }
+    ensures moved { OnOk result (channels.new ≡ moved_at K.signer end.channel (fall_moves end.node) channels.old) }
+    ensures told { OnOk result (lines.new.items ≡ lines.old.items
+        ++ if_there (λ c. fallen_lines (side_of end.node c)) (channel end.channel channels.old)) }
+    ensures once { AreOnce channels.new }
+    ensures fails_for_memory_alone { IfErr result (λ e. e ≡ refusal.Memory) }
+{
+    match place_of(channels, end.channel) {
+        None => {
+            lines.push(Line::Idle)?;
+            Ok(())
+        }
+        Some(i) => channels[i].fall(end.node, lines),
+    }
+}
+
+/// An end halts, where its channel is there. Takes no memory.
+fn halt_at<K: ChannelKeys + Copy>(channels: &mut [Channel<K>], end: End)
+    requires { AreOnce channels.old }
+    ensures moved { channels.new ≡ moved_at K.signer end.channel (halt_moves end.node) channels.old }
+    ensures once { AreOnce channels.new }
+{
+    match place_of(channels, end.channel) {
+        None => {}
+        Some(i) => channels[i].halt(end.node),
+    }
+}
+
+/// Each end of a node comes back from its record. 60 where there is no memory, 70 where an end has no record.
+fn restart_each<K: ChannelKeys + Copy>(
+    alloc: Global,
+    channels: &mut [Channel<K>],
+    node: Node,
+) -> Result<(), Refusal>
+    requires { AreOnce channels.old }
+    ensures moved { OnOk result (channels.new ≡ all_moved K.signer (restart_moves node) channels.old) }
+    ensures once { AreOnce channels.new }
+    ensures fails { IfErr result (λ e. ByRecord e (SomeLacks node channels.old)) }
+{
+    for i in 0..channels.len() {
+        channels[i].restart(alloc, node)?;
+    }
+    Ok(())
+}
+
+/// Whether an end can act so: its channel is there.
+fn may_act_at<K: ChannelKeys + Copy>(channels: &[Channel<K>], end: End, what: &Act) -> bool
+    ensures { result ≡ may_be_done end what.now channels.now }
+{
+    match place_of(channels, end.channel) {
+        None => false,
+        Some(i) => channels[i].may_act(end.node, what),
+    }
+}
+
+/// An end acts, where its channel is there; what it hands out is lost. 60 where there is no memory.
+fn act_unheard_at<K: ChannelKeys + Copy>(
+    alloc: Global,
+    channels: &mut [Channel<K>],
+    end: End,
+    what: Act,
+) -> Result<(), Refusal>
+    requires { AreOnce channels.old }
+    ensures acted { OnOk result (channels.new ≡ unheard_at K.signer end what channels.old) }
+    ensures once { AreOnce channels.new }
+    ensures fails_for_memory_alone { IfErr result (λ e. e ≡ refusal.Memory) }
+{
+    match place_of(channels, end.channel) {
+        None => {
+            drop(what);
+            Ok(())
+        }
+        Some(i) => channels[i].act_unheard(alloc, end.node, what),
+    }
+}
+
+/// An end acts, and then its node stops, and comes back as it was saved. 60 where there is no memory, 70 where an end
+/// has no record.
+fn stop_each<K: ChannelKeys + Copy>(
+    alloc: Global,
+    channels: &mut [Channel<K>],
+    end: End,
+    what: Act,
+) -> Result<(), Refusal>
+    requires { AreOnce channels.old }
+    ensures moved { OnOk result (channels.new ≡ all_moved K.signer (stop_moves end what) channels.old) }
+    ensures once { AreOnce channels.new }
+    ensures fails { IfErr result (λ e. ByRecord e (SomeLacks end.node (unheard_at K.signer end what channels.old))) }
+{
+    act_unheard_at(alloc, channels, end, what)?;
+    restart_each(alloc, channels, end.node)
+}
+
+/// Both ends of a channel get a connection, where it is there and they may. 60 where there is no memory.
+fn come_up_at<K: ChannelKeys + Copy>(
+    alloc: Global,
+    channels: &mut [Channel<K>],
+    number: u8,
+    lines: &mut Vec<Line>,
+) -> Result<(), Refusal>
+    requires { AreOnce channels.old }
+    ensures moved { OnOk result (channels.new ≡ moved_at K.signer number up_moves channels.old) }
+    ensures told { OnOk result (lines.new.items
+        ≡ lines.old.items ++ if_there (met_lines K.signer) (channel number channels.old)) }
+    ensures once { AreOnce channels.new }
+    ensures fails_for_memory_alone { IfErr result (λ e. e ≡ refusal.Memory) }
+{
+    match place_of(channels, number) {
+        None => {
+            lines.push(Line::Idle)?;
+            Ok(())
+        }
+        Some(i) => channels[i].come_up(alloc, lines),
+    }
+}
+
+/// The channels of a world, in the order of opening, each with a number of its own.
+#[derive(Drop)]
+pub(crate) struct Channels<K: ChannelKeys + Copy> {
+    items: Vec<Channel<K>>,
+}
+
+impl<K: ChannelKeys + Copy> Model for Channels<K> {
+    ghost use Rattle.std.specs.Prelude.{List};
+    ghost use Rattle.ln_channels.specs.Channel.{Channel as ChannelState};
+    ghost use Rattle.ln_channels.specs.World.{AreOnce};
+
+    ghost Value = { List (ChannelState K) };
+
+    ghost view = { λ cs. cs.items.items };
+
+    ghost invariant = { λ cs. AreOnce cs.items.items };
+}
+
+impl<K: ChannelKeys + Copy> Channels<K> {
+    ghost use Rattle.std.specs.Prelude.{◌≡◌, ◌++◌, ◌∷◌, [], is_none, None, OnOk, IfErr};
+    ghost use Rattle.ln_channels.specs.Settings.{CanBring};
+    ghost use Rattle.ln_channels.specs.Channel.{side_of, actor, acted_lines, fallen_lines, met_lines, opened_by};
+    ghost use Rattle.ln_channels.specs.Channel.{act_moves, fall_moves, restart_moves, up_moves};
+    ghost use Rattle.ln_channels.specs.Channel.{halt_moves, stop_moves};
+    ghost use Rattle.ln_channels.specs.World.{channel, moved_at, all_moved, if_there, lines_of_ends};
+    ghost use Rattle.ln_channels.specs.World.{may_be_done, unheard_at};
+    ghost use Rattle.ln_channels.specs.Failing.{ByRecord, SomeLacks};
+
+    /// No channel. Takes no memory.
+    pub(crate) fn new(alloc: Global) -> Channels<K>
+        ensures { result ≡ [] }
+    {
+        Channels {
+            items: Vec::new(alloc),
+        }
+    }
+
+    /// Whether no channel has this number.
+    pub(crate) fn is_free(&self, number: u8) -> bool
+        ensures { result ≡ is_none (channel number self.now) }
+    {
+        is_free(&self.items, number)
+    }
+
+    /// A channel is opened and joins. 60 where there is no memory.
+    pub(crate) fn open(
+        &mut self,
+        alloc: Global,
+        wish: &Open<K>,
+        funder: &Settings,
+        fundee: &Settings,
+    ) -> Result<(), Refusal>
+        requires opening { CanBring wish.now.satoshis wish.now.push funder.now fundee.now }
+        requires number { channel wish.now.channel self.old ≡ None }
+        ensures joined { OnOk result (self.new
+            ≡ self.old ++ opened_by K.ChannelKeys wish.now funder.now fundee.now ∷ []) }
+        ensures fails_for_memory_alone { IfErr result (λ e. e ≡ Refusal.Memory) }
+    {
+        let channel = open_channel(alloc, wish, funder, fundee)?;
+        self.items.push(channel)?;
+        Ok(())
+    }
+
+    /// An end acts, where its channel is there. 60 where there is no memory.
+    pub(crate) fn act(
+        &mut self,
+        alloc: Global,
+        end: End,
+        what: Act,
+        lines: &mut Vec<Line>,
+    ) -> Result<(), Refusal>
+        ensures moved { OnOk result (self.new ≡ moved_at K.signer end.channel (act_moves end.node what) self.old) }
+        ensures told { OnOk result (lines.new.items ≡ lines.old.items
+            ++ if_there (λ c. acted_lines K.signer what c (actor end.node what c)) (channel end.channel self.old)) }
+        ensures fails_for_memory_alone { IfErr result (λ e. e ≡ Refusal.Memory) }
+    {
+        act_at(alloc, &mut self.items, end, what, lines)
+    }
+
+    /// An end loses its connection, where its channel is there. 60 where there is no memory.
+    pub(crate) fn fall(&mut self, end: End, lines: &mut Vec<Line>) -> Result<(), Refusal>
+        ensures moved { OnOk result (self.new ≡ moved_at K.signer end.channel (fall_moves end.node) self.old) }
+        ensures told { OnOk result (lines.new.items ≡ lines.old.items
+            ++ if_there (λ c. fallen_lines (side_of end.node c)) (channel end.channel self.old)) }
+        ensures fails_for_memory_alone { IfErr result (λ e. e ≡ Refusal.Memory) }
+    {
+        fall_at(&mut self.items, end, lines)
+    }
+
+    /// An end halts, where its channel is there. Takes no memory.
+    pub(crate) fn halt(&mut self, end: End)
+        ensures { self.new ≡ moved_at K.signer end.channel (halt_moves end.node) self.old }
+    {
+        halt_at(&mut self.items, end)
+    }
+
+    /// Each end of a node comes back from its record. 60 where there is no memory, 70 where an end has no record.
+    pub(crate) fn restart(&mut self, alloc: Global, node: Node) -> Result<(), Refusal>
+        ensures moved { OnOk result (self.new ≡ all_moved K.signer (restart_moves node) self.old) }
+        ensures fails { IfErr result (λ e. ByRecord e (SomeLacks node self.old)) }
+    {
+        restart_each(alloc, &mut self.items, node)
+    }
+
+    /// Whether an end can act so.
+    pub(crate) fn may_act(&self, end: End, what: &Act) -> bool
+        ensures { result ≡ may_be_done end what.now self.now }
+    {
+        may_act_at(&self.items, end, what)
+    }
+
+    /// An end acts, and then its node stops: what the act hands out is lost, and each end of the node comes back from
+    /// its record. 60 where there is no memory, 70 where an end has no record.
+    pub(crate) fn stop(&mut self, alloc: Global, end: End, what: Act) -> Result<(), Refusal>
+        ensures moved { OnOk result (self.new ≡ all_moved K.signer (stop_moves end what) self.old) }
+        ensures fails { IfErr result (λ e. ByRecord e (SomeLacks end.node (unheard_at K.signer end what self.old))) }
+    {
+        stop_each(alloc, &mut self.items, end, what)
+    }
+
+    /// Both ends of a channel get a connection, where it is there and they may. 60 where there is no memory.
+    pub(crate) fn come_up(
+        &mut self,
+        alloc: Global,
+        number: u8,
+        lines: &mut Vec<Line>,
+    ) -> Result<(), Refusal>
+        ensures moved { OnOk result (self.new ≡ moved_at K.signer number up_moves self.old) }
+        ensures told { OnOk result (lines.new.items
+            ≡ lines.old.items ++ if_there (met_lines K.signer) (channel number self.old)) }
+        ensures fails_for_memory_alone { IfErr result (λ e. e ≡ Refusal.Memory) }
+    {
+        come_up_at(alloc, &mut self.items, number, lines)
+    }
+
+    /// Where the two ends of a channel stand, where it is there. 60 where there is no memory.
+    pub(crate) fn tell_ends(
+        &self,
+        alloc: Global,
+        number: u8,
+        lines: &mut Vec<EndLine>,
+    ) -> Result<(), Refusal>
+        ensures told { OnOk result (lines.new.items ≡ lines.old.items ++ lines_of_ends (channel number self.now)) }
+        ensures fails_for_memory_alone { IfErr result (λ e. e ≡ Refusal.Memory) }
+    {
+        tell_ends_at(alloc, &self.items, number, lines)
+    }
+}
