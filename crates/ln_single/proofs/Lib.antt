@@ -12,3 +12,4 @@ pub mod SoundForms
 pub mod Forms
 pub mod Course
 pub mod Led
+pub mod Toy

@@ -4,6 +4,8 @@
 ghost use Rattle.std.specs.Prelude.{◌≡◌, List, Ok, Err};
 ghost use Rattle.ln_msgs.specs.declared.refusals.refusal.Refusal.TheVariants as refusal;
 ghost use Rattle.ln_keys.specs.Signer.{Signer};
+ghost use Rattle.ln_keys.specs.Toy.{toy_signer};
+ghost use Rattle.ln_keys.specs.declared.toy_keys.ToyKeys.{ToyKeys};
 ghost use Rattle.ln_channel.specs.declared.output.Output.{Output};
 ghost use Rattle.ln_channel.specs.State.{State};
 ghost use Rattle.ln_link.specs.Saving.{Shelf};
@@ -27,4 +29,9 @@ pub fn no_save_is_damaged<K: ChannelKeys>()
 pub fn each_message_can_be_written<K: ChannelKeys>()
     ensures { (keys : Signer) (c : Call) (outputs : List Output) (l l' : State K) (s s' : Shelf) → AreKeys keys
         → IsLink keys l → IsCall c → Gives keys c (Ok outputs) l s l' s' → AreSendable outputs }
+{}
+
+/// There are keys as the laws ask for: every toy keys are.
+pub fn toy_keys_are_wide()
+    ensures { (k : ToyKeys) → AreKeys (toy_signer k) }
 {}

@@ -4,4 +4,4 @@
 
 mod laws;
 
-pub use laws::{each_message_can_be_written, no_save_is_damaged};
+pub use laws::{each_message_can_be_written, no_save_is_damaged, toy_keys_are_wide};
