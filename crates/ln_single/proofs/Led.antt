@@ -15,7 +15,7 @@ use Rattle.ln_channel.specs.End.{End}
 use Rattle.ln_channel.specs.Record.{saved_end}
 use Rattle.ln_channel.specs.State.{State, refused, fails_by, unless_failed, cut, drops}
 use Rattle.ln_channel.specs.Step.{Done, Answered, faulted, at_hand, handled, opened, asked, commanded, connects}
-use Rattle.ln_channel.specs.Step.{connected}
+use Rattle.ln_channel.specs.Step.{connected, Reaches}
 use Rattle.ln_channel.specs.State.{is_down}
 use Rattle.ln_link.specs.Saving.{Shelf, CannotBeStored, FailsBy, IsUnsaved, HandsOut, HaltsBehind, HaltsRefused}
 use Rattle.ln_link.specs.Saving.{fails_now}
@@ -97,13 +97,18 @@ module _ (k : Signer) (keys : AreKeys k) where
 
   -- ---- what a call leaves
 
-  handed : {K : Type 0} (said : Result Done Refusal) (l n : State K) (os : List Output) (s t : Shelf) → SaidOf l said
-      → HandsOut (λ x. x) said l os n s t → Good k keys n × All IsSendable os
-  handed (Ok d) l n os s t (inl h) x = absurd (h.1)
-  handed (Ok d) l n os s t (inr h) x = (
+  reaches : {K : Type 0} (said : Result Done Refusal) (l n : State K) (os : List Output) → SaidOf l said
+      → Reaches (λ x. x) said l os n → Good k keys n × All IsSendable os
+  reaches (Ok d) l n os (inl h) x = absurd (h.1)
+  reaches (Ok d) l n os (inr h) x = (
     subst (λ (y : State _). Good k keys y) (sym x.1) (record { failure = h.0.failure; stage = h.1.0 }),
     subst (All IsSendable) (sym x.0) h.1.1,
   )
+  reaches (Err r) l n os h x = absurd x
+
+  handed : {K : Type 0} (said : Result Done Refusal) (l n : State K) (os : List Output) (s t : Shelf) → SaidOf l said
+      → HandsOut (λ x. x) said l os n s t → Good k keys n × All IsSendable os
+  handed (Ok d) l n os s t h x = reaches (Ok d) l n os h (x.0, x.1)
   handed (Err r) l n os s t h x = absurd x
 
   halts_behind : {K : Type 0} (e : Refusal) (said : Result Done Refusal) (l n : State K) (s t : Shelf)
@@ -157,21 +162,9 @@ module _ (k : Signer) (keys : AreKeys k) where
   command_stands said l n (Err e) s t h (inr (inr x)) = moved n l x.1 (as_it_was l said h)
 
   -- a connection
-  joined : {K : Type 0} (said : Result Done Refusal) (l n : State K) (os : List Output) → SaidOf l said
-      → Answered (λ x. x) said l (Ok os) n → Good k keys n × All IsSendable os
-  joined said l n os (inl h) x = absurd (subst OtherErr x.0 h.1)
-  joined said l n os (inr h) x =
-      let d = subst (DoneLasts k keys) x.0 h.1 in (
-        record {
-          failure = subst IsFailure (sym (ap (λ (y : State _). y.failure) x.1)) h.0.failure;
-          stage = d.0;
-        },
-        d.1,
-      )
-
   connect_stands : {K : Type 0} (said : Result Done Refusal) (l n : State K) (answer : Result (List Output) Refusal)
       → SaidOf l said → Answered (λ x. x) said l answer n → Stands n
-  connect_stands said l n (Ok os) h x = inr (joined said l n os h x).0
+  connect_stands said l n (Ok os) h x = inr (reaches said l n os h x).0
   connect_stands said l n (Err e) h (inl x) = inl (has_halted l n x.1)
   connect_stands said l n (Err e) h (inr x) = moved n l x.1 (as_it_was l said h)
 
@@ -355,7 +348,7 @@ module _ (k : Signer) (keys : AreKeys k) where
   gives_sendable (Command c) os l n s t h is x =
       all_sendable os (handed (commanded k l c) l n os s t (commanded_said l c is h) x).1
   gives_sendable Connect os l n s t h is x =
-      all_sendable os (joined (connected k l) l n os (connected_said l h) x.0).1
+      all_sendable os (reaches (connected k l) l n os (connected_said l h) x.0).1
   gives_sendable DropConnection os l n s t h is x = nothing_sent os x.0
   gives_sendable Halt os l n s t h is x = nothing_sent os x.0
 
