@@ -91,8 +91,8 @@ pub enum Line {
     Refused(End, Refusal),
     /// A node stopped, and restarts.
     Restarts(Node),
-    /// A dispatcher served an end's event of this number, and its hooks said this of it. No step of channels alone tells
-    /// of it.
+    /// A dispatcher served an end's event of this number, and its hooks said this of it. No step of channels alone
+    /// tells of it.
     Dispatched(End, u64, Verdict),
     /// The step couldn't be taken.
     Idle,

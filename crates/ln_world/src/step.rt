@@ -18,8 +18,8 @@ pub enum Step<K: ChannelKeys + Copy> {
     Do(End, Act),
     /// An end loses its connection, and what is in flight to it.
     Down(End),
-    /// An end has no memory for an act, where it can act so: the act isn't begun, the end halts until its node restarts,
-    /// and what is in flight to it is lost. Its dispatcher goes on.
+    /// An end has no memory for an act, where it can act so: the act isn't begun, the end halts until its node
+    /// restarts, and what is in flight to it is lost. Its dispatcher goes on.
     NoMemory(End, Act),
     /// A node restarts: each of its ends comes back from its record, without a connection, and what is in flight to it
     /// is lost. Its dispatchers give up their hooks, and begin at the first undecided event.
