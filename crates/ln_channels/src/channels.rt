@@ -1,6 +1,6 @@
 //! The channels of a world, each with a number of its own.
 
-ghost use Rattle.std.specs.Prelude.{◌≡◌, ◌++◌, ◌==◌, position, is_none, IfErr, OnOk};
+ghost use Rattle.std.specs.Prelude.{◌≡◌, ◌++◌, ◌==◌, position, is_none, option_copied, IfErr, OnOk};
 ghost use Rattle.ln_msgs.specs.declared.refusals.refusal.Refusal.TheVariants as refusal;
 ghost use Rattle.ln_channels.specs.Channel.{side_of, actor, acted_lines, fallen_lines, met_lines};
 ghost use Rattle.ln_channels.specs.Channel.{act_moves, fall_moves, restart_moves, up_moves};
@@ -25,6 +25,16 @@ fn place_of<K: ChannelKeys + Copy>(channels: &[Channel<K>], number: u8) -> Optio
     channels
         .iter()
         .position(|channel| channel.number() == number)
+}
+
+/// The channel of this number, where there is one.
+fn channel_at<K: ChannelKeys + Copy>(channels: &[Channel<K>], number: u8) -> Option<&Channel<K>>
+    ensures { option_copied result ≡ channel number channels.now }
+{
+    match place_of(channels, number) {
+        None => None,
+        Some(i) => Some(&channels[i]),
+    }
 }
 
 /// Whether no channel has this number.
@@ -216,7 +226,7 @@ impl<K: ChannelKeys + Copy> Model for Channels<K> {
 }
 
 impl<K: ChannelKeys + Copy> Channels<K> {
-    ghost use Rattle.std.specs.Prelude.{◌≡◌, ◌++◌, ◌∷◌, [], is_none, None, OnOk, IfErr};
+    ghost use Rattle.std.specs.Prelude.{◌≡◌, ◌++◌, ◌∷◌, [], is_none, None, OnOk, IfErr, option_copied};
     ghost use Rattle.ln_channels.specs.Settings.{CanBring};
     ghost use Rattle.ln_channels.specs.Channel.{side_of, actor, acted_lines, fallen_lines, met_lines, opened_by};
     ghost use Rattle.ln_channels.specs.Channel.{act_moves, fall_moves, restart_moves, up_moves};
@@ -232,6 +242,13 @@ impl<K: ChannelKeys + Copy> Channels<K> {
         Channels {
             items: Vec::new(alloc),
         }
+    }
+
+    /// The channel of this number, where there is one.
+    pub(crate) fn channel(&self, number: u8) -> Option<&Channel<K>>
+        ensures { option_copied result ≡ channel number self.now }
+    {
+        channel_at(&self.items, number)
     }
 
     /// Whether no channel has this number.

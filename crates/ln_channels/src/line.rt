@@ -2,6 +2,7 @@
 
 use crate::step::{End, Node};
 use ln_channel::Standing;
+use ln_hooks::Verdict;
 use ln_msgs::Refusal;
 
 /// A message, by what a report tells of it.
@@ -90,6 +91,9 @@ pub enum Line {
     Refused(End, Refusal),
     /// A node stopped, and restarts.
     Restarts(Node),
+    /// A dispatcher served an end's event of this number, and its hooks said this of it. No step of channels alone
+    /// tells of it.
+    Dispatched(End, u64, Verdict),
     /// The step couldn't be taken.
     Idle,
 }

@@ -2,6 +2,7 @@
 
 ghost use Rattle.std.specs.Prelude.{◌≡◌, IsTrue, IsFalse};
 
+use crate::channel::Channel;
 use crate::channels::Channels;
 use crate::line::{EndLine, Line};
 use crate::settings::{Setting, Settings, may_bring, set_for, settings_of};
@@ -29,11 +30,11 @@ impl<K: ChannelKeys + Copy> Model for World<K> {
 }
 
 impl<K: ChannelKeys + Copy> World<K> {
-    ghost use Rattle.std.specs.Prelude.{◌≡◌, ◌++◌, IsTrue, None, OnOk, IfOk, IfErr};
+    ghost use Rattle.std.specs.Prelude.{◌≡◌, ◌++◌, IsTrue, None, OnOk, IfOk, IfErr, option_copied};
     ghost use Rattle.ln_channels.specs.Settings.{CanBring};
     ghost use Rattle.ln_channels.specs.declared.step.Step.TheVariants as step;
     ghost use Rattle.ln_channels.specs.World.{empty, channel, settings_of, may_open, happens, step_lines};
-    ghost use Rattle.ln_channels.specs.World.{run, run_lines, end_lines};
+    ghost use Rattle.ln_channels.specs.World.{run, run_lines, end_lines, may_be_done};
     ghost use Rattle.ln_channels.specs.Failing.{MayFail, SomeMayFail};
 
     /// No channel, and nothing was set. Takes no memory.
@@ -70,7 +71,7 @@ impl<K: ChannelKeys + Copy> World<K> {
 
     /// Whether a channel may be opened so: no channel has its number, its ends are at two nodes, and what both bring
     /// fits. Takes no memory.
-    fn may_open(&self, wish: &Open<K>) -> bool
+    pub fn may_open(&self, wish: &Open<K>) -> bool
         ensures test { result ≡ may_open wish.now self.now }
         ensures number { IsTrue result → channel wish.now.channel self.now.channels ≡ None }
         ensures fits { IsTrue result → CanBring wish.now.satoshis wish.now.push
@@ -98,6 +99,21 @@ impl<K: ChannelKeys + Copy> World<K> {
         self.channels.open(alloc, wish, &funder, &fundee)?;
         lines.push(Line::Open(wish.channel))?;
         Ok(())
+    }
+
+    /// The channel of this number, where there is one. Takes no memory.
+    pub fn channel(&self, number: u8) -> Option<&Channel<K>>
+        ensures { option_copied result ≡ channel number self.now.channels }
+    {
+        self.channels.channel(number)
+    }
+
+    /// Whether an end can act so: its channel is there, and a message is in flight to it where it is to take one. Takes
+    /// no memory.
+    pub fn may_act(&self, end: End, what: &Act) -> bool
+        ensures { result ≡ may_be_done end what.now self.now.channels }
+    {
+        self.channels.may_act(end, what)
     }
 
     /// The end has no memory for the act, where it can act so, and halts. 60 where there is no memory.

@@ -5,6 +5,9 @@ use Rattle.std.specs.Fmt.{decimal}
 use Rattle.ln_msgs.specs.declared.refusals.refusal.Refusal.{Refusal}
 use Rattle.ln_msgs.specs.Refusals.Refusal.{refusal_number}
 use Rattle.ln_msgs.specs.Refusals.RefusalText.{refusal_text}
+use Rattle.ln_hooks.specs.declared.verdict.FailureCode.TheVariants as failure
+use Rattle.ln_hooks.specs.declared.verdict.Verdict.{Verdict}
+use Rattle.ln_hooks.specs.declared.verdict.Verdict.TheVariants as verdict
 use Rattle.ln_channel.specs.declared.standing.Life.{Life}
 use Rattle.ln_channel.specs.declared.standing.Life.TheVariants as life
 use Rattle.ln_channel.specs.declared.standing.Standing.{Standing}
@@ -79,6 +82,24 @@ refused_text e why = end_text e ++ (codes " " ++ refusal_text why)
 unfoldable pub restarts_text : Node → List ℕ
 restarts_text n = encode_utf8 n.letter ++ codes " restarts"
 
+-- what a dispatcher's hooks say of an event: a failure's code in four hexadecimal digits
+abbrev pub verdict_text : Verdict → List ℕ
+verdict_text verdict.Continue = codes "continue"
+verdict_text (verdict.Fail failure.TemporaryChannelFailure) = codes "fail 1007"
+verdict_text (verdict.Fail failure.UnknownNextPeer) = codes "fail 400a"
+verdict_text (verdict.Fail failure.AmountBelowMinimum) = codes "fail 100b"
+verdict_text (verdict.Fail failure.FeeInsufficient) = codes "fail 100c"
+verdict_text (verdict.Fail failure.IncorrectCltvExpiry) = codes "fail 100d"
+verdict_text (verdict.Fail failure.ExpiryTooSoon) = codes "fail 100e"
+verdict_text (verdict.Fail failure.IncorrectOrUnknownPaymentDetails) = codes "fail 400f"
+verdict_text (verdict.Fail failure.FinalIncorrectCltvExpiry) = codes "fail 0012"
+verdict_text (verdict.Fail failure.FinalIncorrectHtlcAmount) = codes "fail 0013"
+verdict_text (verdict.Fail failure.ExpiryTooFar) = codes "fail 0015"
+verdict_text (verdict.Fail failure.InvalidOnionPayload) = codes "fail 4016"
+
+unfoldable pub dispatched_text : End → ℕ → Verdict → List ℕ
+dispatched_text e number v = end_text e ++ (codes " dispatch " ++ (decimal number ++ (codes " " ++ verdict_text v)))
+
 abbrev pub line_text : Line → List ℕ
 line_text (line.Open channel) = decimal channel ++ codes " open"
 line_text (line.Sends e w) = sends_text e w
@@ -87,6 +108,7 @@ line_text (line.Settled e number own id how) = settled_text e number own id how
 line_text (line.Closed e number fee) = closed_text e number fee
 line_text (line.Refused e why) = refused_text e why
 line_text (line.Restarts n) = restarts_text n
+line_text (line.Dispatched e number v) = dispatched_text e number v
 line_text line.Idle = codes "idle"
 
 -- ---- how an end stands

@@ -4,9 +4,11 @@ ghost use Rattle.std.specs.Prelude.{◌≡◌, ◌++◌, OnOk, string_bytes};
 ghost use Rattle.ln_script.specs.LineText.{end_text, word_text, owner_text, ending_text, sends_text, added_text};
 ghost use Rattle.ln_script.specs.LineText.{settled_text, closed_text, line_text, life_text, counts_text, worth_text};
 ghost use Rattle.ln_script.specs.LineText.{event_text, refused_text, restarts_text, end_line_text, with_number};
+ghost use Rattle.ln_script.specs.LineText.{verdict_text, dispatched_text};
 
 use ln_channel::{Life, Standing};
 use ln_channels::{End, EndLine, Ending, Line, Node, Word};
+use ln_hooks::{FailureCode, Verdict};
 use ln_msgs::Refusal;
 use std::alloc::AllocError;
 use std::fmt::Write;
@@ -134,6 +136,40 @@ fn put_restarts(text: &mut String, node: Node) -> Result<(), AllocError>
     write!(text, "{letter} restarts")
 }
 
+/// What is said of an event: a failure's code in four hexadecimal digits.
+fn verdict_text(verdict: Verdict) -> &'static str
+    ensures { result.now ≡ verdict_text verdict }
+{
+    match verdict {
+        Verdict::Continue => "continue",
+        Verdict::Fail(FailureCode::TemporaryChannelFailure) => "fail 1007",
+        Verdict::Fail(FailureCode::UnknownNextPeer) => "fail 400a",
+        Verdict::Fail(FailureCode::AmountBelowMinimum) => "fail 100b",
+        Verdict::Fail(FailureCode::FeeInsufficient) => "fail 100c",
+        Verdict::Fail(FailureCode::IncorrectCltvExpiry) => "fail 100d",
+        Verdict::Fail(FailureCode::ExpiryTooSoon) => "fail 100e",
+        Verdict::Fail(FailureCode::IncorrectOrUnknownPaymentDetails) => "fail 400f",
+        Verdict::Fail(FailureCode::FinalIncorrectCltvExpiry) => "fail 0012",
+        Verdict::Fail(FailureCode::FinalIncorrectHtlcAmount) => "fail 0013",
+        Verdict::Fail(FailureCode::ExpiryTooFar) => "fail 0015",
+        Verdict::Fail(FailureCode::InvalidOnionPayload) => "fail 4016",
+    }
+}
+
+#[tactic(auto, unfolding(crate::specs::LineText::dispatched_text))]
+fn put_dispatched(
+    text: &mut String,
+    end: End,
+    number: u64,
+    verdict: Verdict,
+) -> Result<(), AllocError>
+    ensures { OnOk result (string_bytes text.new ≡ string_bytes text.old ++ dispatched_text end number verdict) }
+{
+    let said = verdict_text(verdict);
+    put_end(text, end)?;
+    write!(text, " dispatch {number} {said}")
+}
+
 /// What a step did. Takes memory for the text.
 pub(crate) fn put_line(text: &mut String, line: &Line) -> Result<(), AllocError>
     ensures { OnOk result (string_bytes text.new ≡ string_bytes text.old ++ line_text line.now) }
@@ -157,6 +193,7 @@ pub(crate) fn put_line(text: &mut String, line: &Line) -> Result<(), AllocError>
         Line::Closed { end, number, fee } => put_closed(text, end, number, fee),
         Line::Refused(end, why) => put_refused(text, end, why),
         Line::Restarts(node) => put_restarts(text, node),
+        Line::Dispatched(end, number, verdict) => put_dispatched(text, end, number, verdict),
         Line::Idle => text.push_str("idle"),
     }
 }

@@ -1,0 +1,26 @@
+//! Nodes and the channels between them, moved step by step; at each end of a channel a dispatcher, which hands the
+//! end's events to the hooks that were registered there.
+#![tactic(auto)]
+
+mod desk;
+mod event;
+mod laws;
+mod machine;
+mod nodes;
+mod seat;
+mod step;
+
+pub use desk::{Desk, Life};
+pub use laws::{
+    a_shutdown_is_answered, agreement, channels_open_as_set, closed_at_one_fee, closing_ends,
+    commands_are_done_exactly, every_end_has_a_record, headline, marks_agree_at_rest,
+    never_refused, never_refused_where_fees_overlap, nothing_is_decided,
+};
+pub use ln_channels::{Act, End, EndLine, Ending, Line, Node, Open, Partners, Word};
+pub use machine::{
+    close_is_last, each_move_may_be_made, events_are_told, moves_are_the_machines,
+    undecided_events_are_the_machines,
+};
+pub use nodes::Nodes;
+pub use seat::Seat;
+pub use step::Step;
