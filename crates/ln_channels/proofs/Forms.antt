@@ -37,7 +37,8 @@ use Rattle.ln_pair.proofs.All.{All}
 use Rattle.ln_pair.proofs.Steady.{raised}
 use Rattle.ln_pair.proofs.Lasting.{IsHeld, IsCounted, IsWide, IsOf}
 use Rattle.ln_channels.proofs.Opening.{IsOpenChannel, IsAcceptChannel, AreFees, IsOpening}
-use Rattle.ln_channels.proofs.OpeningForms.{open_written, open_short, open_read, accept_written, accept_short, accept_read}
+use Rattle.ln_channels.proofs.OpeningForms.{open_written, open_short, open_read, accept_written, accept_short}
+use Rattle.ln_channels.proofs.OpeningForms.{accept_read}
 use Rattle.ln_channels.proofs.UpdateForms.{also, list_fits}
 use Rattle.ln_channels.proofs.ItemForms.{header_fits, fees_fit, agreement_fits, numbers_fit, peer_fits, base_fits}
 use Rattle.ln_channels.proofs.ItemForms.{pairs_fit, IsNumbered, events_fit, forwards_fit, closing_fits}

@@ -74,7 +74,8 @@ use Rattle.ln_channels.specs.Settings.{channel_id_of}
 use Rattle.ln_channels.specs.declared.step.End.{End as WorldEnd}
 use Rattle.ln_channels.specs.Both.{Both, By, Falls, Halts, Restarts, Stops, Meet, acts, swapped, moves, may_come_up}
 use Rattle.ln_channels.specs.Both.{run as run_both}
-use Rattle.ln_channels.specs.Channel.{Channel, by, side_of, actor, moved, may_meet, act_moves, fall_moves, restart_moves}
+use Rattle.ln_channels.specs.Channel.{Channel, by, side_of, actor, moved, may_meet, act_moves, fall_moves}
+use Rattle.ln_channels.specs.Channel.{restart_moves}
 use Rattle.ln_channels.specs.Channel.{halt_moves, stop_moves, up_moves, place_of}
 use Rattle.ln_channels.specs.Promises.{AtEnd, AtEnds, Headline, TakesFront, NoneRefused, AgreeOnceSigned, Agrees}
 use Rattle.ln_channels.specs.Promises.{FeesOverlap, AcceptsFront, AllTaken, OneFee, HaveAnswered, AnswersShutdown}

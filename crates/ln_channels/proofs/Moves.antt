@@ -42,7 +42,8 @@ use Rattle.ln_channels.specs.Sending.{delivery_sends, act_sends}
 use Rattle.ln_channels.specs.Machine.{moves_of_message, moves_delivered, moves_of_command, moves_of_act}
 use Rattle.ln_channels.specs.Machine.{outputs_of, delivery_tells, act_tells}
 use Rattle.ln_channels.specs.Lines.{replies}
-use Rattle.ln_channels.specs.Both.{Both, Place, reaches, left, left_by, sent_by, unchanged, answers, delivers, acts, falls}
+use Rattle.ln_channels.specs.Both.{Both, Place, reaches, left, left_by, sent_by, unchanged, answers, delivers, acts}
+use Rattle.ln_channels.specs.Both.{falls}
 use Rattle.ln_channels.specs.Both.{halts, restarts, back, greeting, greets, comes_up, meet}
 use Rattle.ln_channels.proofs.Named.{Names, IsFine, IsFineRow, fine_at, fine_command}
 use Rattle.ln_channels.proofs.Named as sent

@@ -27,11 +27,13 @@ use Rattle.ln_channels.specs.declared.settings.Setting.{Setting}
 use Rattle.ln_channels.specs.Settings.{config_of, spec_of, txid_of, channel_id_of, opening_by, are_ordered}
 use Rattle.ln_channels.specs.Settings.{defaults, may_bring, CanBring}
 use Rattle.ln_channels.specs.Both.{Both, Move}
-use Rattle.ln_channels.specs.Channel.{Channel, is_node, moved, opened_by, act_moves, fall_moves, restart_moves, up_moves}
+use Rattle.ln_channels.specs.Channel.{Channel, is_node, moved, opened_by, act_moves, fall_moves, restart_moves}
+use Rattle.ln_channels.specs.Channel.{up_moves}
 use Rattle.ln_channels.specs.Channel.{halt_moves, stop_moves}
 use Rattle.ln_channels.specs.World.{World, settings_of, with_settings, channel, moved_at, all_moved, may_open, happens}
 use Rattle.ln_channels.specs.World.{at, everywhere, may_be_done, empty, run}
-use Rattle.ln_channels.specs.Promises.{Headline, NoneRefused, AllTaken, OneFee, Agrees, BringsFit, Each, BringFit, OfEach}
+use Rattle.ln_channels.specs.Promises.{Headline, NoneRefused, AllTaken, OneFee, Agrees, BringsFit, Each, BringFit}
+use Rattle.ln_channels.specs.Promises.{OfEach}
 use Rattle.ln_channels.specs.Promises.{AnswersShutdown, MarksAgree, BothClose, DoExactly}
 use Rattle.ln_channels.proofs.Fitting.{funders, fundees}
 use Rattle.ln_channels.proofs.Opened.{mirrored, fees_so, opening_so}

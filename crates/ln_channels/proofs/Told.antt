@@ -26,7 +26,8 @@ use Rattle.ln_channels.specs.declared.step.End.{End}
 use Rattle.ln_channels.specs.Both.{Both, Move, By, Falls, Halts, Restarts, Stops, Meet}
 use Rattle.ln_channels.specs.Channel.{Channel, is_node, by, side_of, actor, moved, may_meet, opened_by, act_moves}
 use Rattle.ln_channels.specs.Channel.{fall_moves, halt_moves, restart_moves, stop_moves, up_moves}
-use Rattle.ln_channels.specs.World.{World, settings_of, channel, moved_if, moved_at, all_moved, may_open, joined, happens}
+use Rattle.ln_channels.specs.World.{World, settings_of, channel, moved_if, moved_at, all_moved, may_open, joined}
+use Rattle.ln_channels.specs.World.{happens}
 use Rattle.ln_channels.specs.World.{at, everywhere, may_be_done, empty, run}
 use Rattle.ln_channels.specs.Promises.{BringsFit, BringFit}
 use Rattle.ln_channels.specs.Course.{step_moves, in_channel, over}

@@ -19,7 +19,8 @@ use Rattle.ln_channels.specs.declared.line.Line.TheVariants as line
 use Rattle.ln_channels.specs.declared.line.EndLine.{EndLine}
 use Rattle.ln_channels.specs.Settings.{defaults, may_bring}
 use Rattle.ln_channels.specs.Both.{Move}
-use Rattle.ln_channels.specs.Channel.{Channel, is_node, moved, opened_by, act_moves, fall_moves, restart_moves, up_moves}
+use Rattle.ln_channels.specs.Channel.{Channel, is_node, moved, opened_by, act_moves, fall_moves, restart_moves}
+use Rattle.ln_channels.specs.Channel.{up_moves}
 use Rattle.ln_channels.specs.Channel.{end_of, side_of, actor, acted_lines, fallen_lines, met_lines, stop_moves, may_act}
 use Rattle.ln_channels.specs.Channel.{acted_unheard, halt_moves}
 

@@ -134,8 +134,8 @@ impl<K: ChannelKeys + Copy> Place<K> {
         self.inbox.clear();
     }
 
-    /// It has no memory for what it was to do: it loses its connection, and what is in flight to it, and answers nothing
-    /// until its node restarts. Takes none.
+    /// It has no memory for what it was to do: it loses its connection, and what is in flight to it, and answers
+    /// nothing until its node restarts. Takes none.
     pub(crate) fn halt(&mut self)
         ensures { self.new ≡ halted self.old }
     {

@@ -44,7 +44,8 @@ impl<K: ChannelKeys + Copy> Channel<K> {
     ghost use Rattle.ln_channels.specs.Settings.{channel_id_of};
     ghost use Rattle.ln_channels.specs.Both.{By, Falls, Restarts, Meet, act_lines, greet_lines, greeting};
     ghost use Rattle.ln_channels.specs.Channel.{side_of, actor, moved, act_moves, fall_moves, up_moves, acted_lines};
-    ghost use Rattle.ln_channels.specs.Channel.{restart_moves, fallen_lines, place_of, end_of, opening_moves, met_lines};
+    ghost use Rattle.ln_channels.specs.Channel.{restart_moves, fallen_lines, place_of, end_of, opening_moves};
+    ghost use Rattle.ln_channels.specs.Channel.{met_lines};
     ghost use Rattle.ln_channels.specs.Channel.{may_act, acted_unheard, halt_moves};
     ghost use Rattle.ln_channel.specs.Standing.{standing};
     ghost use Rattle.ln_channels.specs.World.{lines_of_ends};

@@ -40,17 +40,17 @@ pub fn steps_bring_what_fits()
 {}
 
 /// The laws of a world hold after each script that is read, with nothing else asked for: in each channel, what either
-/// end holds as irrevocably committed was covered by the other (`ln_channels::headline`); the message in front of either
-/// end is taken, or refused for its closing fee, and no link has failed (`ln_channels::never_refused`); where both ends
-/// take fees that overlap it is taken (`ln_channels::never_refused_where_fees_overlap`); both close at one fee
-/// (`ln_channels::closed_at_one_fee`); a shutdown is answered (`ln_channels::a_shutdown_is_answered`); at rest both ends hold
-/// every update and their commitments are worth the same (`ln_channels::agreement`); where nothing is in flight each has
-/// taken the other's marks (`ln_channels::marks_agree_at_rest`); a command is done exactly where its end's marks and the
-/// machine let it (`ln_channels::commands_are_done_exactly`); of all that an end sends no `update_add_htlc` stands
-/// behind its shutdown (`ln_channels::no_add_follows_a_shutdown`); a channel is there as it was set up
-/// (`ln_channels::channels_open_as_set`); what an end has yet to decide are the machine's events
-/// (`ln_channels::undecided_events_are_the_machines`), and the close is the last one (`ln_channels::close_is_last`); and each
-/// end has a record, from which it comes back where its node restarts (`ln_channels::every_end_has_a_record`).
+/// end holds as irrevocably committed was covered by the other (`ln_channels::headline`); the message in front of
+/// either end is taken, or refused for its closing fee, and no link has failed (`ln_channels::never_refused`); where
+/// both ends take fees that overlap it is taken (`ln_channels::never_refused_where_fees_overlap`); both close at one
+/// fee (`ln_channels::closed_at_one_fee`); a shutdown is answered (`ln_channels::a_shutdown_is_answered`); at rest both
+/// ends hold every update and their commitments are worth the same (`ln_channels::agreement`); where nothing is in
+/// flight each has taken the other's marks (`ln_channels::marks_agree_at_rest`); a command is done exactly where its
+/// end's marks and the machine let it (`ln_channels::commands_are_done_exactly`); of all that an end sends no
+/// `update_add_htlc` stands behind its shutdown (`ln_channels::no_add_follows_a_shutdown`); a channel is there as it
+/// was set up (`ln_channels::channels_open_as_set`); what an end has yet to decide are the machine's events
+/// (`ln_channels::undecided_events_are_the_machines`), and the close is the last one (`ln_channels::close_is_last`);
+/// and each end has a record, from which it comes back where its node restarts (`ln_channels::every_end_has_a_record`).
 pub fn scripts_keep_the_promises()
     ensures headline { AfterEachScript (OfEach Headline) }
     ensures never_refused { AfterEachScript (OfEach (NoneRefused toy_signer)) }
