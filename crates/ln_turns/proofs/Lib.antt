@@ -3,6 +3,7 @@ pub mod Serving
 pub mod Following
 pub mod Sending
 pub mod Idle
+pub mod Resting
 pub mod Running
 pub mod Course
 pub mod Saving

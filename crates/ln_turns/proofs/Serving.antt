@@ -8,11 +8,12 @@ use Rattle.ln_turns.specs.declared.task.Task.{Task}
 use Rattle.ln_turns.specs.declared.task.Task.TheVariants as task
 use Rattle.ln_turns.specs.Served.{Serves, Served}
 
-module _ {H T : Type 0} (registered : T → H → T) (says : T → ChannelEvent → Verdict → T → Type 0) where
-  serves-append : (t : T) (xs : List (Task H)) (mid : T) (ys : List (Task H)) (t' : T) → Serves registered says t xs mid
-      → Serves registered says mid ys t' → Serves registered says t (xs ++ ys) t'
-  serves-append t [] mid ys t' same on = subst (λ m. Serves registered says m ys t') same on
-  serves-append t (task.Register h ∷ xs) mid ys t' first on = serves-append (registered t h) xs mid ys t' first on
+module _ {H T : Type 0} (registers : T → H → T → Type 0) (says : T → ChannelEvent → Verdict → T → Type 0) where
+  serves-append : (t : T) (xs : List (Task H)) (mid : T) (ys : List (Task H)) (t' : T) → Serves registers says t xs mid
+      → Serves registers says mid ys t' → Serves registers says t (xs ++ ys) t'
+  serves-append t [] mid ys t' same on = subst (λ m. Serves registers says m ys t') same on
+  serves-append t (task.Register h ∷ xs) mid ys t' first on =
+      (first.0, first.1, serves-append first.0 xs mid ys t' first.2 on)
   serves-append t (task.Event n e ∷ xs) mid ys t' first on =
       (first.0, first.1, first.2, serves-append first.1 xs mid ys t' first.3 on)
   serves-append t (task.Stop ∷ xs) mid ys t' first on = elim first [ ]
@@ -20,14 +21,14 @@ module _ {H T : Type 0} (registered : T → H → T) (says : T → ChannelEvent 
   -- so far
   pub record SoFar (t : T) (taken taken' : List (Task H)) (t' : T) : Type 0 where
     pub items : List (Task H)
-    pub serves : Serves registered says t items t'
+    pub serves : Serves registers says t items t'
     pub took : taken' ≡ taken ++ items
 
   pub begins : (t : T) (taken : List (Task H)) → SoFar t taken taken t
   begins t taken = record { items = []; serves = refl; took = sym (append-nil taken) }
 
   one-more : (t : T) (taken taken' taken'' : List (Task H)) (mid t' : T) (task : Task H) (so : SoFar t taken taken' mid)
-      → Serves registered says mid (task ∷ []) t' → taken'' ≡ taken' ++ task ∷ [] → SoFar t taken taken'' t'
+      → Serves registers says mid (task ∷ []) t' → taken'' ≡ taken' ++ task ∷ [] → SoFar t taken taken'' t'
   one-more t taken taken' taken'' mid t' task so serves took = record {
     items = so.items ++ task ∷ [];
     serves = serves-append t so.items mid (task ∷ []) t' so.serves serves;
@@ -41,14 +42,14 @@ module _ {H T : Type 0} (registered : T → H → T) (says : T → ChannelEvent 
   called t taken taken' taken'' mid t' n e verdict so said took =
       one-more t taken taken' taken'' mid t' (task.Event n e) so (verdict, t', said, refl) took
 
-  pub registers : (t : T) (taken taken' taken'' : List (Task H)) (mid t' : T) (h : H)
-      → SoFar t taken taken' mid → t' ≡ registered mid h → taken'' ≡ taken' ++ task.Register h ∷ []
+  pub one-hook-more : (t : T) (taken taken' taken'' : List (Task H)) (mid t' : T) (h : H)
+      → SoFar t taken taken' mid → registers mid h t' → taken'' ≡ taken' ++ task.Register h ∷ []
       → SoFar t taken taken'' t'
-  registers t taken taken' taken'' mid t' h so now took =
-      one-more t taken taken' taken'' mid t' (task.Register h) so now took
+  one-hook-more t taken taken' taken'' mid t' h so now took =
+      one-more t taken taken' taken'' mid t' (task.Register h) so (t', now, refl) took
 
   pub stops : (t : T) (taken taken' taken'' : List (Task H)) (t' : T) → SoFar t taken taken' t'
-      → taken'' ≡ taken' ++ task.Stop ∷ [] → Served registered says t taken taken'' t'
+      → taken'' ≡ taken' ++ task.Stop ∷ [] → Served registers says t taken taken'' t'
   stops t taken taken' taken'' t' so took = record {
     items = so.items;
     serves = so.serves;

@@ -11,3 +11,4 @@ pub mod Wire
 pub mod Worker
 pub mod Bench
 pub mod Saved
+pub mod Telling

@@ -5,11 +5,11 @@ use Rattle.ln_hooks.specs.declared.verdict.Verdict.{Verdict}
 use Rattle.ln_turns.specs.declared.task.Task.{Task}
 use Rattle.ln_turns.specs.declared.task.Task.TheVariants as task
 
-module _ {H T : Type 0} (registered : T → H → T) (says : T → ChannelEvent → Verdict → T → Type 0) where
+module _ {H T : Type 0} (registers : T → H → T → Type 0) (says : T → ChannelEvent → Verdict → T → Type 0) where
   -- these items, each served in turn: a hook is registered, and the hooks are called once on an event
   abbrev pub Serves : T → List (Task H) → T → Type 0
   Serves t [] t' = t' ≡ t
-  Serves t (task.Register h ∷ ts) t' = Serves (registered t h) ts t'
+  Serves t (task.Register h ∷ ts) t' = (mid : T) × registers t h mid × Serves mid ts t'
   Serves t (task.Event n e ∷ ts) t' = (verdict : Verdict) × (mid : T) × says t e verdict mid × Serves mid ts t'
   Serves t (task.Stop ∷ ts) t' = ⊥
 

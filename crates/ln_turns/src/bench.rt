@@ -4,17 +4,17 @@ ghost use Rattle.std.specs.Prelude.{◌≡◌, ◌++◌, ◌∷◌, []};
 ghost use Rattle.ln_turns.specs.Turns.{Ran, Began, is_new, fresh, last_of, events, tasks};
 ghost use Rattle.ln_turns.specs.Bench.{glance};
 
-use crate::books::Books;
+use crate::books::ReadsEnds;
 use crate::end::End;
 use crate::item::Item;
 use crate::reader::put;
 use crate::task::Task;
+use crate::telling;
 use crate::wire::Closes;
 use crate::worker::Worker;
 use ln_channel::Output;
 use ln_hooks::ChannelEvent;
-use ln_log::ChannelId;
-use ln_msgs::Message;
+use ln_msgs::{Message, Refusal};
 use ln_relay::{Receives, Sends};
 use std::alloc::Global;
 use std::sync::Wait;
@@ -101,14 +101,55 @@ fn is_stop<J: Drop>(item: &Item<J>) -> bool {
     matches!(item, Item::Stop)
 }
 
+fn is_broken<J: Drop>(item: &Item<J>) -> bool {
+    matches!(item, Item::Broken)
+}
+
 impl<E: End + Drop, W: Closes + Drop, I: Receives<Item<W>> + Drop, T: Drop> Bench<E, W, I, T> {
+    // Tells the book what has become of HTLCs by these outputs, and what the end can take now; behind a lost connection
+    // what it has kept, first.
+    fn tell<B: ReadsEnds<E>, R: Wait>(
+        &self,
+        rt: &R,
+        alloc: Global,
+        book: &B,
+        broken: bool,
+        outputs: &[Output],
+    ) {
+        // What an end has kept that has halted, is known once it is loaded.
+        if broken && !self.worker.end.is_halted() {
+            telling::tell_dropped(rt, alloc, book, &self.worker.end);
+        }
+        telling::tell_outputs(rt, alloc, book, outputs);
+        telling::tell_use(rt, book, &self.worker.end);
+    }
+
+    // Tells the book what an end has kept behind a load, what has become of HTLCs by the events that are pending, and
+    // what the end can take now.
+    fn tell_load<B: ReadsEnds<E>, R: Wait>(
+        &self,
+        rt: &R,
+        alloc: Global,
+        book: &B,
+        answer: Result<(), Refusal>,
+        pending: &[(u64, ChannelEvent)],
+    ) {
+        if answer.is_err() {
+            return;
+        }
+        telling::tell_dropped(rt, alloc, book, &self.worker.end);
+        telling::tell_events(rt, alloc, book, pending);
+        telling::tell_use(rt, book, &self.worker.end);
+    }
+
     // Takes an item, and serves it or passes it over. True where it is the last one.
-    fn take_one<H: Drop, R: Wait>(
+    fn take_one<H: Drop, B: ReadsEnds<E>, R: Wait>(
         &mut self,
         rt: &R,
         alloc: Global,
         greeting: &Message,
         known: &[u16],
+        book: &B,
     ) -> bool
     where
         T: Sends<Task<H>>,
@@ -119,13 +160,15 @@ impl<E: End + Drop, W: Closes + Drop, I: Receives<Item<W>> + Drop, T: Drop> Benc
             return false;
         };
         let stops = is_stop(&item);
+        let breaks = is_broken(&item);
         let turned = self.worker.serve(alloc, greeting, known, item);
+        self.tell(rt, alloc, book, breaks, turned.outputs.as_slice());
         self.worker.last = tell_outputs(rt, &mut self.tasks, self.worker.last, turned.outputs);
         stops
     }
 
     // Takes a command of the book.
-    fn obey_one<H: Drop, B: Books, R: Wait>(
+    fn obey_one<H: Drop, B: ReadsEnds<E>, R: Wait>(
         &mut self,
         rt: &R,
         alloc: Global,
@@ -138,37 +181,26 @@ impl<E: End + Drop, W: Closes + Drop, I: Receives<Item<W>> + Drop, T: Drop> Benc
         ensures { Ran E.acts E.halted E.pending W.contents greeting.now known.now
             (glance E.state W.contents I.taken T.put self.old) (glance E.state W.contents I.taken T.put self.new) }
     {
-        let Some(channel) = self.worker.end.channel() else {
+        let Some(command) = book.take(rt, alloc) else {
             return;
         };
-        self.obey_next(rt, alloc, greeting, known, book, &channel);
-    }
-
-    // Takes a command of the book for this channel.
-    fn obey_next<H: Drop, B: Books, R: Wait>(
-        &mut self,
-        rt: &R,
-        alloc: Global,
-        greeting: &Message,
-        known: &[u16],
-        book: &B,
-        channel: &ChannelId,
-    )
-    where
-        T: Sends<Task<H>>,
-        ensures { Ran E.acts E.halted E.pending W.contents greeting.now known.now
-            (glance E.state W.contents I.taken T.put self.old) (glance E.state W.contents I.taken T.put self.new) }
-    {
-        let Some(command) = book.take(rt, alloc, channel) else {
-            return;
-        };
+        let named = telling::named(&command);
         let obeyed = self.worker.obey(alloc, command);
-        book.answered(rt, channel, obeyed.answer);
+        let answer = telling::told_answer(named, obeyed.outputs.as_slice(), obeyed.answer);
+        book.answered(rt, answer);
+        self.tell(rt, alloc, book, false, obeyed.outputs.as_slice());
         self.worker.last = tell_outputs(rt, &mut self.tasks, self.worker.last, obeyed.outputs);
     }
 
     // Loads a halted end, and puts those of its pending events that weren't put yet.
-    fn mend<H: Drop, R: Wait>(&mut self, rt: &R, alloc: Global, greeting: &Message, known: &[u16])
+    fn mend<H: Drop, B: ReadsEnds<E>, R: Wait>(
+        &mut self,
+        rt: &R,
+        alloc: Global,
+        greeting: &Message,
+        known: &[u16],
+        book: &B,
+    )
     where
         T: Sends<Task<H>>,
         ensures { Ran E.acts E.halted E.pending W.contents greeting.now known.now
@@ -179,15 +211,17 @@ impl<E: End + Drop, W: Closes + Drop, I: Receives<Item<W>> + Drop, T: Drop> Benc
         }
         let answer = self.worker.load(alloc);
         let told = self.worker.pending_behind(rt, alloc, answer);
+        self.tell_load(rt, alloc, book, answer, told.as_slice());
         self.worker.last = tell_events(rt, &mut self.tasks, self.worker.last, told);
     }
 }
 
 /// Serves the items of a worker's relay and the commands of the book in turn, until `Stop`, and gives all of it back:
 /// an end that has halted is loaded from its record first. The events that are pending at the start or behind a load,
-/// and those that the end hands out, are put for the dispatcher, each number once and in rising order. The peer is
-/// greeted by `greeting`, an init, and its init may ask for no even feature but the known ones. It yields where there
-/// is nothing to do, and tries again where there is no memory or the dispatcher's relay is full.
+/// and those that the end hands out, are put for the dispatcher, each number once and in rising order; before that the
+/// book is told what has become of HTLCs by them, and what the end has kept behind a lost connection or a load. The
+/// peer is greeted by `greeting`, an init, and its init may ask for no even feature but the known ones. It yields where
+/// there is nothing to do, and tries again where there is no memory or the dispatcher's relay is full.
 pub fn worker_loop<E, W, I, H, T, B, R>(
     rt: &R,
     alloc: Global,
@@ -202,17 +236,19 @@ where
     I: Receives<Item<W>> + Drop,
     H: Drop,
     T: Sends<Task<H>> + Drop,
-    B: Books,
+    B: ReadsEnds<E>,
     R: Wait,
     ensures serves_all_and_tells_all { Began E.acts E.halted E.pending W.contents greeting.now known.now
         (glance E.state W.contents I.taken T.put bench) (glance E.state W.contents I.taken T.put result) }
 {
     let mut bench = bench;
     let told = bench.worker.pending(rt, alloc);
+    telling::tell_events(rt, alloc, book, told.as_slice());
+    telling::tell_use(rt, book, &bench.worker.end);
     bench.worker.last = tell_events(rt, &mut bench.tasks, bench.worker.last, told);
     for _ in rt.forever() {
-        bench.mend(rt, alloc, greeting, known);
-        if bench.take_one(rt, alloc, greeting, known) {
+        bench.mend(rt, alloc, greeting, known, book);
+        if bench.take_one(rt, alloc, greeting, known, book) {
             return bench;
         }
         bench.obey_one(rt, alloc, greeting, known, book);

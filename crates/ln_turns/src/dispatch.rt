@@ -6,7 +6,6 @@ ghost use Rattle.ln_turns.specs.Served.{Served};
 use crate::books::Books;
 use crate::task::Task;
 use ln_hooks::{ChannelEvent, Verdict};
-use ln_log::ChannelId;
 use ln_msgs::Refusal;
 use ln_relay::Waits;
 use std::alloc::Global;
@@ -19,31 +18,28 @@ pub trait Table<H> {
     ghost use Rattle.ln_hooks.specs.declared.event.ChannelEvent.{ChannelEvent};
     ghost use Rattle.ln_hooks.specs.declared.verdict.Verdict.{Verdict};
 
-    /// What it stands for.
-    ghost State: { Type 0 };
+    /// With one hook more the table may be so.
+    ghost registers: { Self → H → Self → Type 0 };
 
-    ghost state: { Self → State };
+    /// The hooks may say so of an event, and leave the table so.
+    ghost says: { Self → ChannelEvent → Verdict → Self → Type 0 };
 
-    /// One hook more.
-    ghost registered: { State → H → State };
-
-    /// The hooks may say so of an event, and are so from then on.
-    ghost says: { State → ChannelEvent → Verdict → State → Type 0 };
-
-    /// Registers a hook. Takes memory: where there is none the hook is handed back, and nothing has changed.
+    /// Registers a hook. Takes memory: where there is none the hook is handed back, and a hook that is registered then
+    /// is registered in the table as it was.
     fn register(&mut self, hook: H) -> Result<(), H>
-        ensures registers { OnOk result (state self.new ≡ registered (state self.old) hook) }
+        ensures registers { OnOk result (registers self.old hook self.new) }
         ensures hands_back { IfErr result (λ h. h ≡ hook) }
-        ensures changes_nothing_if_refused { OnErr result (state self.new ≡ state self.old) };
+        ensures changes_nothing_if_refused { OnErr result
+            ((h : H) (t : Self) → registers self.new h t → registers self.old h t) };
 
     /// Calls the hooks on an event, each once.
     fn call(&mut self, event: &ChannelEvent) -> Verdict
-        ensures { says (state self.old) event.now result (state self.new) };
+        ensures { says self.old event.now result self.new };
 }
 
 // Registers a hook. Where there is no memory it yields and tries again.
 fn register<H: Drop, T: Table<H>, R: Wait>(rt: &R, table: &mut T, hook: H)
-    ensures { T.state table.new ≡ T.registered (T.state table.old) hook }
+    ensures { T.registers table.old hook table.new }
 {
     let mut hook = hook;
     for _ in rt.forever() {
@@ -61,13 +57,12 @@ fn decide<B: Books, R: Wait>(
     rt: &R,
     alloc: Global,
     book: &B,
-    channel: &ChannelId,
     number: u64,
     event: &ChannelEvent,
     verdict: Verdict,
 ) {
     for _ in rt.forever() {
-        match book.decide(rt, alloc, channel, number, event, verdict) {
+        match book.decide(rt, alloc, number, event, verdict) {
             Err(Refusal::Memory) => thread::yield_now(),
             _ => return,
         }
@@ -80,43 +75,34 @@ fn tell<H: Drop, T: Table<H>, B: Books, R: Wait>(
     alloc: Global,
     table: &mut T,
     book: &B,
-    channel: &ChannelId,
     number: u64,
     event: &ChannelEvent,
 ) -> Verdict
-    ensures { T.says (T.state table.old) event.now result (T.state table.new) }
+    ensures { T.says table.old event.now result table.new }
 {
     let verdict = table.call(event);
-    decide(rt, alloc, book, channel, number, event, verdict);
+    decide(rt, alloc, book, number, event, verdict);
     verdict
 }
 
 /// Serves the items of a dispatcher's relay until `Stop`, in order: calls the hooks once on each event and hands what
 /// they say to the book, registers each hook. Gives its seat and its table back. It waits where there is no item, and
 /// tries again where there is no memory.
-pub fn dispatch_loop<H, S, T, B, R>(
-    rt: &R,
-    alloc: Global,
-    seat: S,
-    table: T,
-    book: &B,
-    channel: &ChannelId,
-) -> (S, T)
+pub fn dispatch_loop<H, S, T, B, R>(rt: &R, alloc: Global, seat: S, table: T, book: &B) -> (S, T)
 where
     H: Drop,
     S: Waits<Task<H>>,
     T: Table<H>,
     B: Books,
     R: Wait,
-    ensures serves_all_it_took { Served T.registered T.says (T.state table) (S.taken seat) (S.taken result.0)
-        (T.state result.1) }
+    ensures serves_all_it_took { Served T.registers T.says table (S.taken seat) (S.taken result.0) result.1 }
 {
     let mut seat = seat;
     let mut table = table;
     for _ in rt.forever() {
         match seat.recv_wait(rt) {
             Some(Task::Event(number, event)) => {
-                tell(rt, alloc, &mut table, book, channel, number, &event);
+                tell(rt, alloc, &mut table, book, number, &event);
                 drop(event);
             }
             Some(Task::Register(hook)) => register(rt, &mut table, hook),

@@ -1,17 +1,17 @@
 use Rattle.std.proofs.Common.{ap, ◌∙◌, ◌++◌, ◌∷◌, []}
-use Rattle.ln_turns.proofs.Serving.{called, registers}
+use Rattle.ln_turns.proofs.Serving.{called, one-hook-more}
 use Rattle.ln_turns.proofs.dispatch.dispatch_loop.Goals as goal
 
 pub loop-preserved-in-Some-Event : goal.loop-preserved-in-Some-Event
 loop-preserved-in-Some-Event g c =
-    called g.T.Table.registered g.T.Table.says _ _ _ _ _ _ c.in-Some-Event.number c.in-Some-Event.event
+    called g.T.Table.registers g.T.Table.says _ _ _ _ _ _ c.in-Some-Event.number c.in-Some-Event.event
     c.tell.result
     c.loop.invariant c.tell.ensures
     (c.in-Some-Event.ensures.appends ∙ ap (λ t. g.S.Receives.taken c.loop.seat ++ t ∷ []) c.in-Some-Event.field-0-is)
 
 pub loop-preserved-in-Some-Register : goal.loop-preserved-in-Some-Register
 loop-preserved-in-Some-Register g c =
-    registers g.T.Table.registered g.T.Table.says _ _ _ _ _ _ c.in-Some-Register.hook
+    one-hook-more g.T.Table.registers g.T.Table.says _ _ _ _ _ _ c.in-Some-Register.hook
     c.loop.invariant c.register.ensures
     (c.in-Some-Register.ensures.appends
     ∙ ap (λ t. g.S.Receives.taken c.loop.seat ++ t ∷ []) c.in-Some-Register.field-0-is)

@@ -3,5 +3,5 @@ use Rattle.ln_turns.proofs.dispatch.dispatch_loop.Given as goal
 
 abbrev pub invariant-loop : goal.invariant-loop
 invariant-loop g l =
-    SoFar g.T.Table.registered g.T.Table.says (g.T.Table.state l.initial.table) (g.S.Receives.taken l.initial.seat)
-    (g.S.Receives.taken l.seat) (g.T.Table.state l.table)
+    SoFar g.T.Table.registers g.T.Table.says l.initial.table (g.S.Receives.taken l.initial.seat)
+    (g.S.Receives.taken l.seat) l.table

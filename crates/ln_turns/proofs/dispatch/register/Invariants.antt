@@ -2,4 +2,6 @@ use Rattle.std.proofs.Common.{◌≡◌}
 use Rattle.ln_turns.proofs.dispatch.register.Given as goal
 
 abbrev pub invariant-loop : goal.invariant-loop
-invariant-loop g l = (g.T.Table.state l.table ≡ g.T.Table.state l.initial.table) × (l.hook ≡ l.initial.hook)
+invariant-loop g l =
+    ((t : _) → g.T.Table.registers l.table l.hook t
+    → g.T.Table.registers l.initial.table l.initial.hook t) × (l.hook ≡ l.initial.hook)

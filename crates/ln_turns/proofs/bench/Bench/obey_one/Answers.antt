@@ -1,7 +1,7 @@
 use Rattle.std.proofs.Common.{sym, refl, append-nil}
 use Rattle.ln_turns.specs.Turns.{Obeys}
 use Rattle.ln_turns.proofs.Running.{ran-told, ran-none}
-use Rattle.ln_turns.proofs.bench.Bench.obey_next.Goals as goal
+use Rattle.ln_turns.proofs.bench.Bench.obey_one.Goals as goal
 
 pub returns-in_default : goal.returns-in_default
 returns-in_default g c = ran-none _ _ _ _ _ _ _
