@@ -394,7 +394,7 @@ module _ {K : Type 0} (signer : K → Signer) (id : List ℕ) (kx ky : K) where
             (turned_so refused (handled (signer p.x.link.keys) p.x.link m) f.0 p q ms to works row fine
             (behind_it Met m ms to refl told named) h),
         says_turned (handled (signer p.x.link.keys) p.x.link m) (message_at keys q.x_line m q.x) f.0 q to row f.1 fine,
-        tells_taken side p q m ms to up is h,
+        tells_taken side p q m ms to up is works h,
       )
   of_channel side p q m ms to up is told named works h (inr f) =
       let keys = signer kx in
@@ -408,7 +408,7 @@ module _ {K : Type 0} (signer : K → Signer) (id : List ℕ) (kx ky : K) where
             (works_on q.x_line) row refl refl (inl refl, tt) (behind_it q.x_line m ms to up told named) h),
         says_refused (sent_by id (handled (signer p.x.link.keys) p.x.link m)) (message_at keys q.x_line m q.x)
             refusal.FeeOutside q to f.1 (ap (λ d. without_warnings (sent_by id d)) row),
-        tells_taken side p q m ms to up is h,
+        tells_taken side p q m ms to up is works h,
       )
 
   delivered_by : (side : Role) (p : Both K) (q : Ends) (ms : List Message) → IsInbox id q.x_line ms q.to_x
