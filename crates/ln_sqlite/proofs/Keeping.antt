@@ -1,12 +1,12 @@
 use Rattle.std.proofs.Common.{◌≡◌, ◌⊎◌, inl, inr, ℕ, ℤ, List, [], ◌∷◌, true, false, not, ◌||◌, ◌&&◌, cond, filter, Bool}
-use Rattle.std.proofs.Common.{Some, None, Ordering, Less, Equal, Greater, is_eq, refl, sym, ap, subst, ◌∙◌, true≢false}
+use Rattle.std.proofs.Common.{Some, None, Equal, is_eq, refl, sym, ap, subst, ◌∙◌, true≢false}
 use Rattle.std.proofs.lemmas.Bool.{cases_Bool, and_parts, and_from, or_cases, or_left, or_right, not-true}
 use Rattle.std.proofs.lemmas.Bool.{false_from_ne_true}
 use Rattle.std.proofs.lemmas.Cmp.{tied_itself}
-use Rattle.std.specs.Ordering.{nat_cmp, eq_by_cmp}
-use Rattle.std.specs.Cmp.Lexicographic.{slice_cmp, nat_list_cmp_total}
+use Rattle.std.specs.Ordering.{eq_by_cmp}
+use Rattle.std.specs.Cmp.Lexicographic.{nat_list_cmp_total}
 use Rattle.std.specs.FinMap as map
-use Rattle.std.specs.FinMap.{IsAntisymmetric, nat_cmp-IsAntisymmetric, slice_cmp-IsAntisymmetric, get-insert}
+use Rattle.std.specs.FinMap.{get-insert}
 use Rattle.sqlite_value.specs.declared.value.Value.{Value}
 use Rattle.sqlite_value.specs.declared.value.Value.TheVariants.{Null, Int, Real, Text, Blob}
 use Rattle.sqlite_value.specs.Order.{Row, column, value_cmp}
@@ -30,12 +30,7 @@ use Rattle.ln_sqlite.specs.Table.{schema, records}
 use Rattle.ln_sqlite.specs.Replaced.{Replaced, new_row, Conflicts}
 use Rattle.ln_store.specs.Store.{Records}
 use Rattle.ln_sqlite.specs.Holds.{Holds, HasRecord}
-
-abbrev by_bytes : List ℕ → List ℕ → Ordering
-by_bytes = slice_cmp nat_cmp
-
-exact : IsAntisymmetric by_bytes
-exact = slice_cmp-IsAntisymmetric nat_cmp-IsAntisymmetric
+use Rattle.ln_sqlite.proofs.Maps.{by_bytes, exact, tied}
 
 -- ---- equal values
 
@@ -45,20 +40,15 @@ compared_parts true test h = absurd (true≢false (sym h))
 compared_parts false true h = (refl, refl)
 compared_parts false false h = absurd (true≢false (sym h))
 
-tied : (o : Ordering) → is_eq o ≡ true → o ≡ Equal
-tied Less h = absurd (true≢false (sym h))
-tied Equal h = refl
-tied Greater h = absurd (true≢false (sym h))
-
-equal_ties : (a b : Value) → equal Binary a b ≡ true → value_cmp a b ≡ Equal
+pub equal_ties : (a b : Value) → equal Binary a b ≡ true → value_cmp a b ≡ Equal
 unfolding binary
 equal_ties a b h = tied _ (compared_parts (is_null a || is_null b) (is_eq (value_cmp a b)) h).1
 
-blob_equals : (a : Value) (id : List ℕ) → a ≡ Blob id → equal Binary a (Blob id) ≡ true
+pub blob_equals : (a : Value) (id : List ℕ) → a ≡ Blob id → equal Binary a (Blob id) ≡ true
 unfolding binary
 blob_equals a id e = rw (e, tied_itself value_cmp_total (Blob id)) refl
 
-is_blob : (a : Value) (id : List ℕ) → value_cmp a (Blob id) ≡ Equal → a ≡ Blob id
+pub is_blob : (a : Value) (id : List ℕ) → value_cmp a (Blob id) ≡ Equal → a ≡ Blob id
 is_blob (Blob b) id tie = ap Blob (exact b id (sym (value_cmp-Blob b id) ∙ tie))
 is_blob Null id tie = absurd (let e = class_tied Null (Blob id) tie in cc)
 is_blob (Int n) id tie = absurd (let e = class_tied (Int n) (Blob id) tie in cc)
@@ -146,13 +136,14 @@ module _ (rows : List Row) (kept : Records) (id body : List ℕ) (after : List R
   lacks q r has key other z there = false_from_ne_true _ (λ same.
       let from = w.sound z there in
       let tie = tied _ same in
-      let number = int_is (rowid from.0) (all_has _ rows from.0 h.numbered from.1) in
+      let number = int_is (rowid from.0) (all_has _ rows from.0 h.order.numbered from.1) in
       let of : Tied r from.0 = subst (λ v. value_cmp (rowid r) v ≡ Equal) (ap Int from.3 ∙ sym number) tie in
-      let is : r ≡ from.0 = tied_same rows r from.0 h.rising has from.1 of in
+      let is : r ≡ from.0 = tied_same rows r from.0 h.order.rising has from.1 of in
       elim (conflict_is rows id body from.0 from.2) [
         | inl free ↦ absurd (let taken = some_from (λ y. is_eq (value_cmp (rowid y) (rowid new))) rows from.0 from.1
             (ap is_eq free) in
-            true≢false (sym taken ∙ next_is_free Chosen rows (Blob id ∷ Blob body ∷ []) h.rising h.numbered))
+            true≢false (sym taken ∙ next_is_free Chosen rows (Blob id ∷ Blob body ∷ []) h.order.rising
+            h.order.numbered))
         | inr its ↦ absurd (let same_id : q ≡ id = (let e : Blob q ≡ Blob id = sym key ∙ ap (λ x. column x 1) is
             ∙ its in cc) in
             true≢false (sym (ap is_eq (tied_itself nat_list_cmp_total id))
@@ -177,7 +168,7 @@ module _ (rows : List Row) (kept : Records) (id body : List ℕ) (after : List R
         (new, subst (λ rs. Has rs new) (sym w.rows_are) (has_put new rest), ap Blob (sym (is_same q e)), ap Blob same)
     | inr e ↦ let of : map.get kept q ≡ Some b = (let got = sym (get-insert nat_list_cmp_total kept id body q)
         ∙ is in rw e at got) in
-        let old = h.has q b of in
+        let old = h.records_are.has q b of in
         (old.0, stays old.0 old.1 (lacks q old.0 old.1 old.2 e), old.2, old.3)
   ]
 
@@ -193,19 +184,20 @@ module _ (rows : List Row) (kept : Records) (id body : List ℕ) (after : List R
           let no = left_from w.gone rows it.0 left (id_in (rowid it.0)) gone in
           let yes : has_rowid (id_in (rowid it.0)) it.0 ≡ true =
           ap (λ v. is_eq (value_cmp (rowid it.0) v)) (sym (int_is (rowid it.0)
-          (all_has _ rows it.0 h.numbered there))) ∙ ap is_eq (tied_itself value_cmp_total (rowid it.0)) in
+          (all_has _ rows it.0 h.order.numbered there))) ∙ ap is_eq (tied_itself value_cmp_total (rowid it.0)) in
           true≢false (sym yes ∙ no))
-      | inr e ↦ rw e (h.only q b (it.0, without_all_has w.gone rows it.0 left, it.2, it.3))
+      | inr e ↦ rw e (h.records_are.only q b (it.0, without_all_has w.gone rows it.0 left, it.2, it.3))
     ]
   ]
 
   pub holds : Holds after (map.insert kept id body)
   holds = record {
-    rising = subst IsTable (sym w.rows_are) (IsTable-put_row new rest (without_all_table w.gone rows h.rising));
-    numbered = all_from _ after (λ r has. elim (each r has) [
-      | inl is ↦ ap (λ x. is_int (rowid x)) is
-      | inr left ↦ all_has _ rows r h.numbered (without_all_has w.gone rows r left)
-    ]);
-    has = has_new;
-    only = only_new;
+    order = record {
+      rising = subst IsTable (sym w.rows_are) (IsTable-put_row new rest (without_all_table w.gone rows h.order.rising));
+      numbered = all_from _ after (λ r has. elim (each r has) [
+        | inl is ↦ ap (λ x. is_int (rowid x)) is
+        | inr left ↦ all_has _ rows r h.order.numbered (without_all_has w.gone rows r left)
+      ]);
+    };
+    records_are = record { has = has_new; only = only_new };
   }

@@ -1,5 +1,8 @@
 mod Maps
 pub mod Texts
 pub mod Keeping
+pub mod Queries
+pub mod Reading
+pub mod Shown
 pub mod Meaning
-mod Reading
+pub mod Beginning

@@ -20,10 +20,10 @@ use Rattle.ln_sqlite.specs.Copies.{restored}
 abbrev pub by_bytes : List ℕ → List ℕ → Ordering
 by_bytes = slice_cmp nat_cmp
 
-exact : IsAntisymmetric by_bytes
+pub exact : IsAntisymmetric by_bytes
 exact = slice_cmp-IsAntisymmetric nat_cmp-IsAntisymmetric
 
-tied : (o : Ordering) → is_eq o ≡ true → o ≡ Equal
+pub tied : (o : Ordering) → is_eq o ≡ true → o ≡ Equal
 tied Less h = absurd (true≢false (sym h))
 tied Equal h = refl
 tied Greater h = absurd (true≢false (sym h))

@@ -3,36 +3,41 @@ use Rattle.std.proofs.Common.{sym, ap, subst, subst₂, append-nil, IsTrue, OnOk
 use Rattle.sqlite.specs.declared.types.Value.TheVariants.{Null, Blob}
 use Rattle.sqlite_value.specs.Order.{Row}
 use Rattle.sqlite.specs.Source.TheVariants.{Values}
-use Rattle.sqlite.specs.Command.TheVariants.{InsertOr}
+use Rattle.sqlite.specs.Command.TheVariants.{InsertOr, CreateTable}
 use Rattle.sqlite_schema.specs.declared.command.Conflict.TheVariants.{Replace}
 use Rattle.sqlite_rules.specs.declared.error.Rowids.TheVariants.{Given, Chosen}
 use Rattle.sqlite_schema.specs.declared.schema.Keys.TheVariants.{Enforced}
-use Rattle.sqlite_trees.specs.Tree.{Trees, rowid}
+use Rattle.sqlite_trees.specs.Tree.{Trees, rowid, IsTable}
+use Rattle.sqlite_catalog.specs.Change.{created, next_tree}
 use Rattle.sqlite_rules.specs.Keys.{AreConflicts}
 use Rattle.sqlite_rules.specs.Calls.{ids_of}
 use Rattle.sqlite_rules.specs.Edit.{with_rowid, Edit, edit_of, id_in, next_rowid, Applies}
 use Rattle.sqlite_rules.proofs.ProbeLemmas.{has_mapped, mapped_has}
 use Rattle.sqlite.specs.Cast.{cast}
 use Rattle.sqlite.specs.Kind.TheVariants.{Integer}
-use Rattle.sqlite.specs.Does.{Tally, Does}
+use Rattle.sqlite.specs.Does.{Tally, Does, lacks_sequence}
 use Rattle.sqlite.specs.Rows.{Written, Task, Tries, TriesEach, nothing, Clears, Puts}
 use Rattle.sqlite.specs.declared.error.Error.{Error}
 use Rattle.sqlite.specs.Listing.{understood}
 use Rattle.sqlite.specs.Effect.{Database}
 use Rattle.sqlite.specs.State.{State, Executes, ExecutesIn, IsNotRun, IsUnchanged, Shown, FailsToQuery, IsRolledBack}
-use Rattle.sqlite.specs.State.{RunsCommand, CommitsBy, MayCommit, text_of, shows_rows}
+use Rattle.sqlite.specs.State.{RunsCommand, CommitsBy, MayCommit, Writes, ShowsRows, FailsToShow, text_of, shows_rows}
+use Rattle.sqlite_schema.specs.declared.command.Returning.{Returning}
 use Rattle.sqlite.specs.Clock.{timed}
 use Rattle.sqlite.specs.declared.run.Mode.{Mode}
 use Rattle.std.specs.FinMap as map
 use Rattle.std.proofs.lemmas.Bool.{cases_Bool}
 use Rattle.ln_store.specs.Store.{Records}
-use Rattle.ln_sqlite.specs.Holds.{Holds, IsTableOf}
+use Rattle.ln_sqlite.specs.Holds.{Holds, HasRecords, IsTableOf}
+use Rattle.ln_sqlite.specs.Begins.{IsSettled, IsAsBefore, Stays}
+use Rattle.ln_sqlite.proofs.Reading.{nothing as nothing_read}
 use Rattle.ln_sqlite.proofs.Keeping.{holds}
 use Rattle.sqlite_schema.specs.declared.schema.Schema.{Schema}
 use Rattle.sqlite.proofs.Callers.{IsPlain, command_of, statement_of, runs_as, one_step}
-use Rattle.ln_sqlite.specs.Table.{records, schema}
+use Rattle.ln_sqlite.specs.Table.{records, schema, none}
 use Rattle.ln_sqlite.specs.Replaced.{Replaced, new_row}
 use Rattle.ln_sqlite.proofs.Texts.{upsert_text, upsert_is, upsert_plain, terms, cast_null, cast_int}
+use Rattle.ln_sqlite.proofs.Texts.{create_text, create_is, create_plain, created_is}
 
 -- a part that gave a value did not stop on the way
 went : {B E R : Type 0} {b : B} {Stops : E → Type 0} → ((stop : E) × Stops stop × (Ok b ≡ Err stop)) ⊎ R → R
@@ -155,60 +160,101 @@ module _ (old new : State) (id body : List ℕ) where
         rows = holds (old.now.trees 0) kept id body (new.now.trees 0) was.rows it.1;
       }
 
-  unchanged : (kept : Records) → IsUnchanged old new → IsTableOf old kept → IsTableOf new kept
-  unchanged kept h was = record {
-    autocommit = h.0.mode ∙ was.autocommit;
-    settled = h.0.committed_is ∙ was.settled ∙ sym h.0.now_is;
-    schema_is = ap (λ (d : Database). d.schema) h.0.now_is ∙ was.schema_is;
-    rows = subst (λ (d : Database). Holds (d.trees 0) kept) (sym h.0.now_is) was.rows;
+  pub still : (kept : Records) → IsAsBefore old new → IsTableOf old kept → IsTableOf new kept
+  still kept h was = record {
+    autocommit = h.mode ∙ was.autocommit;
+    settled = h.committed_is ∙ was.settled ∙ sym h.now_is;
+    schema_is = ap (λ (d : Database). d.schema) h.now_is ∙ was.schema_is;
+    rows = subst (λ (d : Database). Holds (d.trees 0) kept) (sym h.now_is) was.rows;
   }
 
-  undone : (kept : Records) → IsTrue new.is_open → IsRolledBack old new → IsTableOf old kept → IsTableOf new kept
-  undone kept live h was =
-      let now : new.now ≡ old.now = (h.undone live).0 ∙ was.settled in
-      record {
-        autocommit = h.autocommit;
-        settled = (h.undone live).1 ∙ was.settled ∙ sym now;
-        schema_is = ap (λ (d : Database). d.schema) now ∙ was.schema_is;
-        rows = subst (λ (d : Database). Holds (d.trees 0) kept) (sym now) was.rows;
-      }
+  unchanged : IsUnchanged old new → Stays old new
+  unchanged h = (
+    h.0.was_open,
+    λ was. record { now_is = h.0.now_is; committed_is = h.0.committed_is; mode = h.0.mode },
+  )
 
-  -- a statement that failed has left the table as it was
-  pub fails : (sql : List ℕ) (params : Row) (e : Error) (kept : Records) → IsTrue new.is_open
-      → Executes sql params old new (Err e) → IsTableOf old kept → IsTableOf new kept
+  undone : IsTrue new.is_open → IsRolledBack old new → Stays old new
+  undone live h = (
+    h.was_open live,
+    λ was. record {
+      now_is = (h.undone live).0 ∙ was.1;
+      committed_is = (h.undone live).1;
+      mode = h.autocommit ∙ sym was.0;
+    },
+  )
+
+  -- a statement that failed has changed nothing
+  pub fails : (sql : List ℕ) (params : Row) (e : Error) → IsTrue new.is_open → Executes sql params old new (Err e)
+      → Stays old new
   unfolding ExecutesIn IsNotRun
-  fails sql params e kept live (inl (inl never)) was = unchanged kept never.1 was
-  fails sql params e kept live (inl (inr failed)) was = undone kept live failed.3 was
-  fails sql params e kept live (inr h) was = elim (cases_Bool (shows_rows false h.0)) [
-    | inl shows ↦ unchanged kept (rw shows at h.2).1 was
+  fails sql params e live (inl (inl never)) = unchanged never.1
+  fails sql params e live (inl (inr failed)) = undone live failed.3
+  fails sql params e live (inr h) = elim (cases_Bool (shows_rows false h.0)) [
+    | inl shows ↦ unchanged (rw shows at h.2).1
     | inr runs ↦ ran (rw runs at h.2)
   ]
     where
-      ran : RunsCommand old new sql h.0 (timed params h.0.formats h.1.now) (Err e) → IsTableOf new kept
-      ran (inl refused) = unchanged kept refused.1 was
-      ran (inr failed) = undone kept live failed.3 was
+      ran : RunsCommand old new sql h.0 (timed params h.0.formats h.1.now) (Err e) → Stays old new
+      ran (inl refused) = unchanged refused.1
+      ran (inr failed) = undone live failed.3
 
-  -- a query that was answered, or refused, has left the table as it was
-  pub shown_leaves : (sql : List ℕ) (params : Row) (rows : List Row) (kept : Records)
-      → IsPlain (understood schema sql) → Shown sql params old new rows → IsTableOf old kept → IsTableOf new kept
+  -- nor has a query, answered or refused
+  shown_stays : (sql : List ℕ) (params : Row) (rows : List Row) → old.now.schema ≡ schema
+      → IsPlain (understood schema sql) → Shown sql params old new rows → Stays old new
   unfolding Shown
-  shown_leaves sql params rows kept plain h was =
-      let known = sym h.1.is ∙ ap (λ s. understood s sql) was.schema_is in
+  shown_stays sql params rows has plain h =
+      let known = sym h.1.is ∙ ap (λ s. understood s sql) has in
       let bare = subst IsPlain (sym known) plain in
       let it = rw bare.0 at h.2 in
-      unchanged kept it.3 was
+      unchanged it.3
 
-  pub refused_leaves : (sql : List ℕ) (params : Row) (e : Error) (kept : Records) → IsTrue new.is_open
-      → IsPlain (understood schema sql) → FailsToQuery sql params old new e
-      → IsTableOf old kept → IsTableOf new kept
+  refused_stays : (sql : List ℕ) (params : Row) (e : Error) → IsTrue new.is_open → old.now.schema ≡ schema
+      → IsPlain (understood schema sql) → FailsToQuery sql params old new e → Stays old new
   unfolding FailsToQuery IsNotRun
-  refused_leaves sql params e kept live plain (inl (inl never)) was = unchanged kept never.1 was
-  refused_leaves sql params e kept live plain (inl (inr failed)) was = undone kept live failed.3 was
-  refused_leaves sql params e kept live plain (inr h) was =
-      let known = sym h.1.is ∙ ap (λ s. understood s sql) was.schema_is in
+  refused_stays sql params e live has plain (inl (inl never)) = unchanged never.1
+  refused_stays sql params e live has plain (inl (inr failed)) = undone live failed.3
+  refused_stays sql params e live has plain (inr h) =
+      let known = sym h.1.is ∙ ap (λ s. understood s sql) has in
       let bare = subst IsPlain (sym known) plain in
       let it = rw bare.0 at h.2 in
-      unchanged kept it.3 was
+      unchanged it.3
+
+  pub query_stays : {A : Type 0} (sql : List ℕ) (params : Row) (items : A → List Row) (r : Result A Error)
+      → IsTrue new.is_open → old.now.schema ≡ schema → IsPlain (understood schema sql)
+      → IfOk r (λ rows. Shown sql params old new (items rows)) → IfErr r (FailsToQuery sql params old new)
+      → Stays old new
+  query_stays sql params items (Ok rows) live has plain ok err = shown_stays sql params (items rows) has plain ok
+  query_stays sql params items (Err e) live has plain ok err = refused_stays sql params e live has plain err
+
+  -- whatever was asked, it was open where it is
+  shown_open : (sql : List ℕ) (params : Row) (rows : List Row) → Shown sql params old new rows → IsTrue old.is_open
+  unfolding Shown
+  shown_open sql params rows h = by h.0.returning h.2
+    where
+      by : (o : Option Returning) → ShowsRows old new sql h.0 (timed params h.0.formats h.1.now) rows o
+          → IsTrue old.is_open
+      by None it = it.3.0.was_open
+      by (Some what) it = it.1.shown.was_open
+
+  refused_open : (sql : List ℕ) (params : Row) (e : Error) → IsTrue new.is_open → FailsToQuery sql params old new e
+      → IsTrue old.is_open
+  unfolding FailsToQuery IsNotRun
+  refused_open sql params e live (inl (inl never)) = never.1.0.was_open
+  refused_open sql params e live (inl (inr failed)) = failed.3.was_open live
+  refused_open sql params e live (inr h) = by h.0.returning h.2
+    where
+      by : (o : Option Returning) → FailsToShow old new sql h.0 (timed params h.0.formats h.1.now) e o
+          → IsTrue old.is_open
+      by None it = it.3.0.was_open
+      by (Some what) (inl refused) = refused.1.0.was_open
+      by (Some what) (inr failed) = failed.3.was_open live
+
+  pub query_open : {A : Type 0} (sql : List ℕ) (params : Row) (items : A → List Row) (r : Result A Error)
+      → IsTrue new.is_open → IfOk r (λ rows. Shown sql params old new (items rows))
+      → IfErr r (FailsToQuery sql params old new) → IsTrue old.is_open
+  query_open sql params items (Ok rows) live ok err = shown_open sql params (items rows) ok
+  query_open sql params items (Err e) live ok err = refused_open sql params e live err
 
   pub on_ok : (r : Result ℕ Error) → Executes upsert_text (params_of id body) old new r
       → OnOk r ((kept : Records) → IsTableOf old kept → IsTableOf new (map.insert kept id body))
@@ -218,7 +264,8 @@ module _ (old new : State) (id body : List ℕ) where
   pub on_err : (sql : List ℕ) (params : Row) (r : Result ℕ Error) → IsTrue new.is_open
       → Executes sql params old new r → OnErr r ((kept : Records) → IsTableOf old kept → IsTableOf new kept)
   on_err sql params (Ok count) live h = tt
-  on_err sql params (Err e) live h = λ kept was. fails sql params e kept live h was
+  on_err sql params (Err e) live h = λ kept was.
+      still kept ((fails sql params e live h).1 (was.autocommit, was.settled)) was
 
 -- what the statement may commit, should it stop on the way
 pub commits : (old : State) (id body : List ℕ) (kept : Records) (db : Trees) → IsTableOf old kept
@@ -248,7 +295,53 @@ pub query_leaves : {A : Type 0} (old new : State) (sql : List ℕ) (params : Row
     → List Row) (r : Result A Error) (kept : Records) → IsTrue new.is_open → IsPlain (understood schema sql)
     → IfOk r (λ rows. Shown sql params old new (items rows)) → IfErr r (FailsToQuery sql params old new)
     → IsTableOf old kept → IsTableOf new kept
-query_leaves old new sql params items (Ok rows) kept live plain ok err was = shown_leaves old new [] [] sql params
-    (items rows) kept plain ok was
-query_leaves old new sql params items
-    (Err e) kept live plain ok err was = refused_leaves old new [] [] sql params e kept live plain err was
+query_leaves old new sql params items r kept live plain ok err was =
+    let stays = query_stays old new [] [] sql params items r live was.schema_is plain ok err in
+    still old new [] [] kept (stays.1 (was.autocommit, was.settled)) was
+
+writes : (old new : State) (count : ℕ) → old.now.schema ≡ none → Executes create_text [] old new (Ok count)
+    → Writes old new None CreateTable create_text [] count
+writes old new count has h = subst (λ t. Writes old new None CreateTable t [] count) create_is.1
+    (runs_as create_text [] old new none has CreateTable create_is.0 create_plain count h)
+
+-- a table that was made has no record
+pub makes : (old new : State) (count : ℕ) → old.now.schema ≡ none → IsSettled old
+    → Executes create_text [] old new (Ok count) → IsTableOf new map.empty
+makes old new count has was h =
+    let w = writes old new count has h in
+    let all = went w.changed in
+    let first = went all.1 in
+    let made = first.1 in
+    let both : Ok made.table ≡ Ok records = sym made.defined ∙ create_is.2 in
+    let same : made.table ≡ records = cc in
+    let made_schema : first.0.schema ≡ schema = made.is ∙ ap (λ s. created s made.table) has
+    ∙ ap (created none) same ∙ created_is in
+    let plain : lacks_sequence first.0.schema ≡ false = ap lacks_sequence made_schema in
+    let now : new.now ≡ first.0 = ap (λ (p : Tally × Database). p.1) (same_value all.2)
+    ∙ same_value (rw plain at first.2) in
+    let empty : new.now.trees 0 ≡ [] = ap (λ (d : Database). d.trees 0) now
+    ∙ subst (λ s. first.0.trees (next_tree s) ≡ []) has made.empty in
+    record {
+      autocommit = w.shown.mode ∙ was.0;
+      settled = (let c = w.shown.committed_is in rw was.0 at c);
+      schema_is = ap (λ (d : Database). d.schema) now ∙ made_schema;
+      rows = record {
+        order = record { rising = subst IsTable (sym empty) tt; numbered = rw empty tt };
+        records_are = subst (λ rows. HasRecords rows map.empty) (sym empty) nothing_read;
+      };
+    }
+
+pub made : (old new : State) (r : Result ℕ Error) → Executes create_text [] old new r
+    → OnOk r (old.now.schema ≡ none → IsSettled old → IsTableOf new map.empty)
+made old new (Ok count) h = λ has was. makes old new count has was h
+made old new (Err e) h = tt
+
+pub refused : (old new : State) (sql : List ℕ) (params : Row) (r : Result ℕ Error) → IsTrue new.is_open
+    → Executes sql params old new r → OnErr r (Stays old new)
+refused old new sql params (Ok count) live h = tt
+refused old new sql params (Err e) live h = fails old new [] [] sql params e live h
+
+pub was_open : (old new : State) (r : Result ℕ Error) → IsTrue new.is_open → old.now.schema ≡ none
+    → Executes create_text [] old new r → IsTrue old.is_open
+was_open old new (Ok count) live has h = (writes old new count has h).shown.was_open
+was_open old new (Err e) live has h = (fails old new [] [] create_text [] e live h).0

@@ -1,204 +1,146 @@
 -- What the query of all rows shows, and which records are read off that.
-use Rattle.std.proofs.Common.{◌≡◌, ◌⊎◌, inl, inr, ℕ, zero, suc, ◌<◌, List, [], ◌∷◌, length, map, get_or, All, true}
-use Rattle.std.proofs.Common.{cond, eqb, Some, None, Option, Ordering, Less, Equal, Greater, is_eq, refl, sym, ap}
-use Rattle.std.proofs.Common.{subst, ◌∙◌, arith, true≢false}
+use Rattle.std.proofs.Common.{◌≡◌, ◌⊎◌, inl, inr, ℕ, List, [], ◌∷◌, length}
+use Rattle.std.proofs.Common.{Some, None, Option, refl, sym, ap}
+use Rattle.std.proofs.Common.{subst, subst₂, ◌∙◌, Result, Ok, Err, IfOk}
 use Rattle.std.proofs.lemmas.Bool.{cases_Bool}
-use Rattle.std.proofs.lemmas.Cmp.{tied_itself}
-use Rattle.std.proofs.lemmas.List.Concat.{flat_map_single}
-use Rattle.std.proofs.lemmas.List.Sorted.{All-permutation, IsPermutation-sym}
-use Rattle.std.specs.Ordering.{nat_cmp, eq_by_cmp}
-use Rattle.std.specs.List.Sorted.{IsPermutation}
-use Rattle.std.specs.Cmp.Lexicographic.{slice_cmp, nat_list_cmp_total}
+use Rattle.std.specs.Ordering.{eq_by_cmp}
+use Rattle.std.specs.Cmp.Lexicographic.{nat_list_cmp_total}
 use Rattle.std.specs.FinMap as map
-use Rattle.std.specs.FinMap.{IsAntisymmetric, nat_cmp-IsAntisymmetric, slice_cmp-IsAntisymmetric, get-insert, get-empty}
+use Rattle.std.specs.FinMap.{get-insert, get-empty}
 use Rattle.std.specs.FinMap.{same_map}
-use Rattle.sqlite_value.specs.declared.value.Value.{Value}
-use Rattle.sqlite_value.specs.declared.value.Value.TheVariants.{Null, Int, Real, Text, Blob}
+use Rattle.sqlite_value.specs.declared.value.Value.TheVariants.{Null, Blob}
 use Rattle.sqlite_value.specs.Order.{Row, column}
 use Rattle.sqlite_rules.specs.Lists.{Has}
-use Rattle.sqlite_rules.proofs.ProbeLemmas.{has_mapped, mapped_has}
-use Rattle.sqlite_sql.specs.Term.{Env}
-use Rattle.sqlite.specs.Query.{IsAnswer, output, Output}
-use Rattle.sqlite.specs.Program.{overlay}
 use Rattle.sqlite.specs.State.{State, Shown}
+use Rattle.sqlite.specs.declared.error.Error.{Error}
 use Rattle.sqlite.proofs.Callers.{reads_as}
 use Rattle.ln_store.specs.Store.{Records}
 use Rattle.ln_sqlite.specs.Table.{schema}
-use Rattle.ln_sqlite.specs.Holds.{Holds, HasRecord}
-use Rattle.ln_sqlite.specs.Reading.{with_pair, with_row, with_rows, shown, AreShown, AreIds}
+use Rattle.ln_sqlite.specs.Holds.{HasRecords}
+use Rattle.ln_sqlite.specs.Reading.{TakesAll, shown, AreShown}
+use Rattle.ln_sqlite.specs.Begins.{AreRecords}
 use Rattle.ln_sqlite.proofs.Texts.{all_text, all_query, all_is, all_plain}
-
-abbrev by_bytes : List ℕ → List ℕ → Ordering
-by_bytes = slice_cmp nat_cmp
-
-exact : IsAntisymmetric by_bytes
-exact = slice_cmp-IsAntisymmetric nat_cmp-IsAntisymmetric
-
-tied : (o : Ordering) → is_eq o ≡ true → o ≡ Equal
-tied Less h = absurd (true≢false (sym h))
-tied Equal h = refl
-tied Greater h = absurd (true≢false (sym h))
-
--- ---- members, in any order
-
-module _ {X : Type 0} where
-  has_at : (xs : List X) (i : ℕ) (d : X) → i < length xs → Has xs (get_or xs i d)
-  has_at [] i d low = absurd (omega arith)
-  has_at (x ∷ xs) zero d low = inl refl
-  has_at (x ∷ xs) (suc i) d low = inr (has_at xs i d (omega arith))
-
-  all_in : (P : X → Type 0) (xs : List X) (x : X) → All P xs → Has xs x → P x
-  all_in P [] x all none = absurd none
-  all_in P (y ∷ xs) x all (inl is) = subst P (sym is) (all 0 y (omega arith))
-  all_in P (y ∷ xs) x all (inr later) = all_in P xs x (λ i d low. all (suc i) d (omega arith)) later
-
-  stay : (xs ys : List X) (x : X) → IsPermutation xs ys → Has xs x → Has ys x
-  stay xs ys x same has = all_in (λ y. Has ys y) xs x (All-permutation (λ y. Has ys y) ys xs
-      (IsPermutation-sym xs ys same) (λ i d low. has_at ys i d low)) has
-
--- ---- the query
-
-filled : List Row → List Env
-filled rows = map (λ r. [] ∷ r ∷ []) rows
+use Rattle.ln_sqlite.proofs.Maps.{by_bytes, exact, tied, is_there}
+use Rattle.ln_sqlite.proofs.Queries.{outputs}
 
 pub lists : (old new : State) (rows : List Row) → old.now.schema ≡ schema → Shown all_text [] old new rows
     → AreShown (old.now.trees 0) rows
-unfolding filled
 lists old new rows has h =
     let got = reads_as all_text [] old new schema has _ all_is.0 all_plain all_is.1 rows h in
-    let a : IsAnswer all_query (overlay old.now.trees []) [] rows = got.answer Null in
-    let staged : a.staged ≡ filled (old.now.trees 0) = a.grouped
-    ∙ flat_map_single (λ r. [] ∷ r ∷ []) (old.now.trees 0) in
-    let kept : a.kept ≡ map (output all_query) (filled (old.now.trees 0)) = a.distinct
-    ∙ ap (map (output all_query)) staged in
-    let back = IsPermutation-sym a.kept a.ordered a.same in
-    let out : rows ≡ map (λ (o : Output). o.1) a.ordered = a.shown in
+    let out = outputs [] all_query.project [] [] old.now.trees rows (got.answer Null) in
     record {
-      sound = λ x has_x.
-          let o = has_mapped (λ (p : Output). p.1) a.ordered x (subst (λ l. Has l x) out has_x) in
-          let k = subst (λ l. Has l o.0) kept (stay a.ordered a.kept o.0 back o.1) in
-          let e = has_mapped (output all_query) (filled (old.now.trees 0)) o.0 k in
-          let r = has_mapped (λ q. [] ∷ q ∷ []) (old.now.trees 0) e.0 e.1 in
-          (r.0, r.1, o.2 ∙ ap (λ (p : Output). p.1) e.2 ∙ ap (λ v. (output all_query v).1) r.2);
-      complete = λ r has_r.
-          let e = mapped_has (λ q. [] ∷ q ∷ []) (old.now.trees 0) r has_r in
-          let k = mapped_has (output all_query) (filled (old.now.trees 0)) ([] ∷ r ∷ []) e in
-          let o = stay a.kept a.ordered (output all_query ([] ∷ r ∷ [])) a.same (subst (λ l. Has l (output all_query
-          ([] ∷ r ∷ []))) (sym kept) k) in
-          subst (λ l. Has l (shown r)) (sym out) (mapped_has (λ (p : Output). p.1) a.ordered (output all_query
-          ([] ∷ r ∷ [])) o);
+      sound = λ x has_x. let it = out.sound x has_x in (it.0, it.1, it.3);
+      complete = λ r has_r. out.complete r has_r refl;
     }
+
+pub listed : {A : Type 0} (old new : State) (items : A → List Row) (r : Result A Error)
+    → IfOk r (λ rows. Shown all_text [] old new (items rows))
+    → IfOk r (λ rows. old.now.schema ≡ schema → AreShown (old.now.trees 0) (items rows))
+listed old new items (Ok rows) h = λ has. lists old new (items rows) has h
+listed old new items (Err e) h = tt
 
 -- ---- the records
 
 Shows : List Row → List ℕ → List ℕ → Type 0
 Shows rows q b = (x : Row) × Has rows x × (column x 0 ≡ Blob q) × (column x 1 ≡ Blob b)
 
-pair_from : (m : Records) (v w : Value) (q b : List ℕ) → map.get (with_pair m v w) q ≡ Some b
-    → (map.get m q ≡ Some b) ⊎ ((v ≡ Blob q) × (w ≡ Blob b))
-pair_from m (Blob id) (Blob body) q b h = elim (cases_Bool (eqb (length id) 32)) [
-  | inl long ↦ let got = sym (get-insert nat_list_cmp_total m id body q)
-      ∙ (rw long at h) in elim (cases_Bool (eq_by_cmp by_bytes q id)) [
-        | inl e ↦ let is : Some body ≡ Some b = rw e at got in let same : body ≡ b = cc in inr (
-          ap Blob (sym (exact q id
-              (tied _ e))),
-          ap Blob same,
-        )
-        | inr e ↦ inl (rw e at got)
-      ]
-  | inr short ↦ inl (rw short at h)
-]
-pair_from m (Blob id) Null q b h = inl h
-pair_from m (Blob id) (Int n) q b h = inl h
-pair_from m (Blob id) (Real x) q b h = inl h
-pair_from m (Blob id) (Text t) q b h = inl h
-pair_from m Null w q b h = inl h
-pair_from m (Int n) w q b h = inl h
-pair_from m (Real x) w q b h = inl h
-pair_from m (Text t) w q b h = inl h
+stays_one : (m : Records) (id body q b : List ℕ) → map.get m id ≡ None → map.get m q ≡ Some b
+    → map.get (map.insert m id body) q ≡ Some b
+stays_one m id body q b free there = get-insert nat_list_cmp_total m id body q
+    ∙ elim (cases_Bool (eq_by_cmp by_bytes q id)) [
+      | inl e ↦ absurd (let clash : Some b ≡ None = sym there ∙ ap (map.get m) (exact q id (tied _ e)) ∙ free in cc)
+      | inr e ↦ rw e there
+    ]
 
-pair_stays : (m : Records) (v w : Value) (q b : List ℕ) → ((id body : List ℕ) → v ≡ Blob id → w ≡ Blob body → id ≡ q
-    → body ≡ b)
-    → map.get m q ≡ Some b → map.get (with_pair m v w) q ≡ Some b
-pair_stays m (Blob id) (Blob body) q b one h = elim (cases_Bool (eqb (length id) 32)) [
-  | inl long ↦ rw long (get-insert nat_list_cmp_total m id body q ∙ elim (cases_Bool (eq_by_cmp by_bytes q id)) [
-    | inl e ↦ rw e (ap Some (one id body refl refl (sym (exact q id (tied _ e)))))
-    | inr e ↦ rw e h
-  ])
-  | inr short ↦ rw short h
-]
-pair_stays m (Blob id) Null q b one h = h
-pair_stays m (Blob id) (Int n) q b one h = h
-pair_stays m (Blob id) (Real x) q b one h = h
-pair_stays m (Blob id) (Text t) q b one h = h
-pair_stays m Null w q b one h = h
-pair_stays m (Int n) w q b one h = h
-pair_stays m (Real x) w q b one h = h
-pair_stays m (Text t) w q b one h = h
+from_one : (m : Records) (id body q b : List ℕ) → map.get (map.insert m id body) q ≡ Some b
+    → (map.get m q ≡ Some b) ⊎ ((id ≡ q) × (body ≡ b))
+from_one m id body q b h =
+    let got = sym (get-insert nat_list_cmp_total m id body q) ∙ h in
+    elim (cases_Bool (eq_by_cmp by_bytes q id)) [
+      | inl e ↦ let is : Some body ≡ Some b = rw e at got in let same : body ≡ b = cc in
+          inr (sym (exact q id (tied _ e)), same)
+      | inr e ↦ inl (rw e at got)
+    ]
 
-pair_goes_in : (m : Records) (v w : Value) (q b : List ℕ) → v ≡ Blob q → w ≡ Blob b → length q ≡ 32
-    → map.get (with_pair m v w) q ≡ Some b
-pair_goes_in m v w q b p s long =
-    ap (λ x. map.get (with_pair m x w) q) p ∙ ap (λ x. map.get (with_pair m (Blob q) x) q) s
-    ∙ (rw long (get-insert nat_list_cmp_total m q b q ∙ ap (λ o. cond (is_eq o) (Some b) (map.get m q))
-    (tied_itself nat_list_cmp_total q)))
+taken_stay : (rows : List Row) (m after : Records) (q b : List ℕ) → TakesAll m rows after → map.get m q ≡ Some b
+    → map.get after q ≡ Some b
+taken_stay [] m after q b h there = ap (λ r. map.get r q) h ∙ there
+taken_stay (x ∷ rows) m after q b (next, t, rest) there = taken_stay rows next after q b rest
+    (ap (λ r. map.get r q) t.6 ∙ stays_one m t.0 t.1 q b t.5 there)
 
-rows_from : (rows : List Row) (m : Records) (q b : List ℕ) → map.get (with_rows m rows) q ≡ Some b
-    → (map.get m q ≡ Some b) ⊎ Shows rows q b
+taken_from : (rows : List Row) (m after : Records) (q b : List ℕ) → TakesAll m rows after
+    → map.get after q ≡ Some b → (map.get m q ≡ Some b) ⊎ Shows rows q b
 unfolding Shows
-rows_from [] m q b h = inl h
-rows_from (x ∷ rows) m q b h = elim (rows_from rows (with_row m x) q b h) [
-  | inl there ↦ elim (pair_from m (column x 0) (column x 1) q b there) [
+taken_from [] m after q b h there = inl (ap (λ r. map.get r q) (sym h) ∙ there)
+taken_from (x ∷ rows) m after q b (next, t, rest) there = elim (taken_from rows next after q b rest there) [
+  | inl at ↦ elim (from_one m t.0 t.1 q b (ap (λ r. map.get r q) (sym t.6) ∙ at)) [
     | inl before ↦ inl before
-    | inr it ↦ inr (x, inl refl, it.0, it.1)
+    | inr it ↦ inr (x, inl refl, t.2 ∙ ap Blob it.0, t.4 ∙ ap Blob it.1)
   ]
   | inr later ↦ inr (later.0, inr later.1, later.2, later.3)
 ]
 
-rows_stay : (rows : List Row) (m : Records) (q b : List ℕ) → ((c : List ℕ) → Shows rows q c → c ≡ b)
-    → map.get m q ≡ Some b → map.get (with_rows m rows) q ≡ Some b
+taken_has : (rows : List Row) (m after : Records) (q b : List ℕ) → TakesAll m rows after → Shows rows q b
+    → map.get after q ≡ Some b
 unfolding Shows
-rows_stay [] m q b one h = h
-rows_stay (x ∷ rows) m q b one h =
-    rows_stay rows (with_row m x) q b (λ c it. one c (it.0, inr it.1, it.2, it.3))
-    (pair_stays m (column x 0) (column x 1) q b (λ id body v w same. one body (x, inl refl, v ∙ ap Blob same, w)) h)
+taken_has [] m after q b h none = absurd none.1
+taken_has (x ∷ rows) m after q b (next, t, rest) (y, inl is, v, w) =
+    let k : Blob t.0 ≡ Blob q = sym t.2 ∙ ap (λ z. column z 0) (sym is) ∙ v in
+    let c : Blob t.1 ≡ Blob b = sym t.4 ∙ ap (λ z. column z 1) (sym is) ∙ w in
+    let id : t.0 ≡ q = cc in
+    let body : t.1 ≡ b = cc in
+    taken_stay rows next after q b rest (ap (λ r. map.get r q) t.6
+    ∙ subst₂ (λ i d. map.get (map.insert m i d) q ≡ Some b) (sym id) (sym body) (is_there m q b))
+taken_has (x ∷ rows) m after q b (next, t, rest) (y, inr later, v, w) =
+    taken_has rows next after q b rest (y, later, v, w)
 
-rows_go_in : (rows : List Row) (m : Records) (q b : List ℕ) → length q ≡ 32 → ((c : List ℕ) → Shows rows q c
-    → c ≡ b) → Shows rows q b → map.get (with_rows m rows) q ≡ Some b
-unfolding Shows
-rows_go_in [] m q b long one none = absurd none.1
-rows_go_in (x ∷ rows) m q b long one (y, inl is, v, w) =
-    rows_stay rows (with_row m x) q b (λ c it. one c (it.0, inr it.1, it.2, it.3))
-    (pair_goes_in m (column x 0) (column x 1) q b (ap (λ z. column z 0) (sym is) ∙ v) (ap (λ z. column z 1) (sym is)
-    ∙ w) long)
-rows_go_in (x ∷ rows) m q b long one (y, inr later, v, w) =
-    rows_go_in rows (with_row m x) q b long (λ c it. one c (it.0, inr it.1, it.2, it.3)) (y, later, v, w)
+abbrev IsShownRecord : Row → Type 0
+IsShownRecord x =
+    (id : List ℕ) × (body : List ℕ) × (column x 0 ≡ Blob id) × (length id ≡ 32) × (column x 1 ≡ Blob body)
 
-pub reads : (table rows : List Row) (kept : Records) → Holds table kept → AreIds kept → AreShown table rows
-    → with_rows map.empty rows ≡ kept
-unfolding Shows
-reads table rows kept h ids are = same_map nat_list_cmp_total exact _ _ (λ q. by (map.get kept q) q refl)
+each_shows : (rows : List Row) (m after : Records) (x : Row) → TakesAll m rows after → Has rows x → IsShownRecord x
+each_shows [] m after x h none = absurd none
+each_shows (y ∷ rows) m after x (next, t, rest) (inl is) = subst IsShownRecord (sym is) (t.0, t.1, t.2, t.3, t.4)
+each_shows (y ∷ rows) m after x (next, t, rest) (inr later) = each_shows rows next after x rest later
+
+module _ (table rows : List Row) (records : Records) (taken : TakesAll map.empty rows records)
+    (are : AreShown table rows) where
+  pub reads : HasRecords table records
+  unfolding Shows
+  reads = record {
+    has = λ id body is. elim (taken_from rows map.empty records id body taken is) [
+      | inl there ↦ absurd (let e = sym (get-empty by_bytes id) ∙ there in cc)
+      | inr it ↦ let r = are.sound it.0 it.1 in
+          (r.0, r.1, ap (λ x. column x 0) (sym r.2) ∙ it.2, ap (λ x. column x 1) (sym r.2) ∙ it.3)
+    ];
+    only = λ id body it. taken_has rows map.empty records id body taken
+        (shown it.0, are.complete it.0 it.1, it.2, it.3);
+  }
+
+  pub each : AreRecords table
+  each r has = each_shows rows map.empty records (shown r) taken (are.complete r has)
+
+pub all_read : {E C : Type 0} (table rows : List Row) (r : Result Records E) → IfOk r (TakesAll map.empty rows)
+    → (C → AreShown table rows) → IfOk r (λ records. C → HasRecords table records × AreRecords table)
+all_read table rows (Ok records) taken are = λ when. (
+  reads table rows records taken (are when),
+  each table rows records taken (are when),
+)
+all_read table rows (Err e) taken are = tt
+
+-- rows have one list of records
+pub same_records : (rows : List Row) (a b : Records) → HasRecords rows a → HasRecords rows b → a ≡ b
+same_records rows a b of_a of_b = same_map nat_list_cmp_total exact _ _ (λ q.
+    by q (map.get a q) (map.get b q) refl refl)
   where
-    of_table : (q b : List ℕ) → Shows rows q b → HasRecord table q b
-    of_table q b it =
-        let r = are.sound it.0 it.1 in
-        (r.0, r.1, ap (λ x. column x 0) (sym r.2) ∙ it.2, ap (λ x. column x 1) (sym r.2) ∙ it.3)
+    by : (q : List ℕ) (o p : Option (List ℕ)) → map.get a q ≡ o → map.get b q ≡ p → map.get a q ≡ map.get b q
+    by q (Some v) p there other = there ∙ sym (of_b.only q v (of_a.has q v there))
+    by q None (Some w) there other = of_a.only q w (of_b.has q w other) ∙ sym other
+    by q None None there other = there ∙ sym other
 
-    of_rows : (q b : List ℕ) → HasRecord table q b → Shows rows q b
-    of_rows q b it = (shown it.0, are.complete it.0 it.1, it.2, it.3)
-
-    one : (q b c : List ℕ) → map.get kept q ≡ Some b → Shows rows q c → c ≡ b
-    one q b c is it = let e = sym (h.only q c (of_table q c it)) ∙ is in cc
-
-    none : (o : Option (List ℕ)) (q : List ℕ) → map.get (with_rows map.empty rows) q ≡ o → map.get kept q ≡ None
-        → o ≡ None
-    none None q is gone = refl
-    none (Some b) q is gone = elim (rows_from rows map.empty q b is) [
-      | inl there ↦ absurd (let e = sym (get-empty by_bytes q) ∙ there in cc)
-      | inr it ↦ absurd (let e = sym (h.only q b (of_table q b it)) ∙ gone in cc)
-    ]
-
-    by : (o : Option (List ℕ)) (q : List ℕ) → map.get kept q ≡ o → map.get (with_rows map.empty rows) q ≡ map.get kept q
-    by (Some b) q is = rows_go_in rows map.empty q b (ids q b is) (λ c it. one q b c is it) (of_rows q b
-        (h.has q b is)) ∙ sym is
-    by None q is = none _ q refl is ∙ sym is
+-- no rows have none
+pub nothing : HasRecords [] map.empty
+nothing = record {
+  has = λ id body is. absurd (let e = sym (get-empty by_bytes id) ∙ is in cc);
+  only = λ id body it. absurd it.1;
+}

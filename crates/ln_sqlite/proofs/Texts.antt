@@ -4,16 +4,21 @@ use Rattle.sqlite.specs.declared.types.Value.TheVariants.{Null, Int}
 use Rattle.sqlite_tied.specs.Compute.{everything}
 use Rattle.sqlite.specs.Listing.{understood, reads_listing}
 use Rattle.sqlite.specs.Compile.{table_defined_by}
-use Rattle.sqlite.specs.Term.{Term, lit, col}
+use Rattle.sqlite.specs.Term.{Term, lit, col, op2}
 use Rattle.sqlite.specs.Ops.{unary}
+use Rattle.sqlite_sql.specs.declared.ops.BinaryOp.TheVariants as by
+use Rattle.sqlite_sql.specs.declared.ops.CompareOp.TheVariants.{Eq}
+use Rattle.sqlite_value.specs.declared.keys.Collation.TheVariants.{Binary}
+use Rattle.sqlite_value.specs.declared.keys.Key.{Key}
 use Rattle.sqlite.specs.Cast.{cast}
 use Rattle.sqlite.specs.Kind.TheVariants.{Integer}
 use Rattle.sqlite.specs.Source.TheVariants.{Values}
-use Rattle.sqlite.specs.Command.TheVariants.{InsertOr, Select}
+use Rattle.sqlite.specs.Command.TheVariants.{InsertOr, Select, CreateTable}
 use Rattle.sqlite.specs.Query.{Query, inner, end}
 use Rattle.sqlite_schema.specs.declared.command.Conflict.TheVariants.{Replace}
-use Rattle.sqlite.proofs.Callers.{IsPlain, command_of}
-use Rattle.ln_sqlite.specs.Table.{records, schema}
+use Rattle.sqlite.proofs.Callers.{IsPlain, command_of, statement_of}
+use Rattle.sqlite_catalog.specs.Change.{created}
+use Rattle.ln_sqlite.specs.Table.{records, schema, none}
 
 abbrev pub upsert_text : List ℕ
 upsert_text = codes "INSERT OR REPLACE INTO records(id, body) VALUES (?1, ?2)"
@@ -32,9 +37,20 @@ pub upsert_plain : IsPlain (understood schema upsert_text)
 unfolding understood everything
 upsert_plain = (refl, refl)
 
-pub create_is : table_defined_by create_text ≡ Ok records
+pub create_is : (command_of (understood none create_text) ≡ CreateTable)
+    × (statement_of create_text (understood none create_text) ≡ create_text)
+    × (table_defined_by create_text ≡ Ok records)
 unfolding understood everything
-create_is = refl
+create_is = (refl, refl, refl)
+
+pub create_plain : IsPlain (understood none create_text)
+unfolding understood everything
+create_plain = (refl, refl)
+
+-- the table beside the index of its key
+pub created_is : created none records ≡ schema
+unfolding understood everything
+created_is = refl
 
 either : (b : Bool) (x : Value) → cond b x x ≡ x
 either true x = refl
@@ -48,21 +64,25 @@ pub cast_int : (n : ℤ) → cast Integer (Int n) ≡ Int n
 unfolding unary
 cast_int n = either _ (Int n)
 
+-- a query of the table alone, with what a row has to meet, what is shown of it, and the order
+abbrev pub plain_query : List Term → List Term → List (Term × Key) → Query
+plain_query filter project order = record {
+  from = inner 0 end;
+  filter = filter;
+  group = None;
+  project = project;
+  distinct = false;
+  collations = [];
+  order = order;
+  limit = lit (Int (negsuc 0));
+  offset = lit (Int (pos 0));
+}
+
 abbrev pub all_text : List ℕ
 all_text = codes "SELECT id, body FROM records"
 
 abbrev pub all_query : Query
-all_query = record {
-  from = inner 0 end;
-  filter = [];
-  group = None;
-  project = col 1 1 ∷ col 1 2 ∷ [];
-  distinct = false;
-  collations = [];
-  order = [];
-  limit = lit (Int (negsuc 0));
-  offset = lit (Int (pos 0));
-}
+all_query = plain_query [] (col 1 1 ∷ col 1 2 ∷ []) []
 
 pub all_is : (command_of (understood schema all_text) ≡ Select (record { lets = []; body = all_query })
     (codes "id" ∷ codes "body" ∷ [])) × (reads_listing schema all_text ≡ false)
@@ -78,6 +98,22 @@ load_text = codes "SELECT body FROM records WHERE id = ?1"
 
 abbrev pub ids_text : List ℕ
 ids_text = codes "SELECT id FROM records ORDER BY id"
+
+abbrev pub load_query : Query
+load_query = plain_query (op2 (by.Compare Eq Binary) (col 1 1) (col 0 0) ∷ []) (col 1 2 ∷ []) []
+
+abbrev pub ids_query : Query
+ids_query = plain_query [] (col 1 1 ∷ []) ((col 1 1, record { collation = Binary; descending = false }) ∷ [])
+
+pub load_is : (command_of (understood schema load_text) ≡ Select (record { lets = []; body = load_query })
+    (codes "body" ∷ [])) × (reads_listing schema load_text ≡ false)
+unfolding understood everything
+load_is = (refl, refl)
+
+pub ids_is : (command_of (understood schema ids_text) ≡ Select (record { lets = []; body = ids_query })
+    (codes "id" ∷ [])) × (reads_listing schema ids_text ≡ false)
+unfolding understood everything
+ids_is = (refl, refl)
 
 pub load_plain : IsPlain (understood schema load_text)
 unfolding understood everything

@@ -17,12 +17,20 @@ use Rattle.ln_sqlite.specs.Table.{schema}
 abbrev pub HasRecord : List Row → List ℕ → List ℕ → Type 0
 HasRecord rows id body = (r : Row) × Has rows r × (column r 1 ≡ Blob id) × (column r 2 ≡ Blob body)
 
--- the rows have these records, each once, and no other; their rowids rise
-pub record Holds (rows : List Row) (records : Records) : Type 0 where
-  pub rising : IsTable rows
-  pub numbered : AllByRecursion (λ r. IsTrue (is_int (rowid r))) rows
+-- the rows have these records, and no other
+pub record HasRecords (rows : List Row) (records : Records) : Type 0 where
   pub has : (id body : List ℕ) → map.get records id ≡ Some body → HasRecord rows id body
   pub only : (id body : List ℕ) → HasRecord rows id body → map.get records id ≡ Some body
+
+-- the rowids are numbers, and rise
+pub record IsInOrder (rows : List Row) : Type 0 where
+  pub rising : IsTable rows
+  pub numbered : AllByRecursion (λ r. IsTrue (is_int (rowid r))) rows
+
+-- the rows have these records, in order of their rowids
+pub record Holds (rows : List Row) (records : Records) : Type 0 where
+  pub order : IsInOrder rows
+  pub records_are : HasRecords rows records
 
 -- the database has the table of records alone, with these, and all of it is committed
 pub record IsTableOf (s : State) (records : Records) : Type 0 where

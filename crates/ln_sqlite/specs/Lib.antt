@@ -3,3 +3,5 @@ pub mod Table
 pub mod Holds
 pub mod Replaced
 pub mod Reading
+pub mod Begins
+pub mod Shown

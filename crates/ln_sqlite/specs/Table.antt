@@ -4,9 +4,9 @@ use Rattle.sqlite.specs.declared.types.Value.TheVariants.{Null}
 use Rattle.sqlite_value.specs.declared.keys.Collation.TheVariants.{Binary}
 use Rattle.sqlite_schema.specs.declared.schema.Table.{Table}
 use Rattle.sqlite_schema.specs.declared.schema.Column.{Column}
+use Rattle.sqlite_schema.specs.declared.schema.Index.{Index}
 use Rattle.sqlite_schema.specs.declared.schema.Schema.{Schema}
 use Rattle.sqlite_schema.specs.declared.schema.Kind.TheVariants.{Any}
-use Rattle.sqlite_catalog.specs.Change.{created}
 
 -- a column of any kind of value
 abbrev pub column : List ℕ → Bool → Column
@@ -38,8 +38,21 @@ records = record {
   is_counted = false;
 }
 
+-- the index of its key, which the engine makes beside it
+abbrev pub index : Index
+index = record {
+  name = codes "sqlite_autoindex_records_1";
+  tree = 1;
+  table = 0;
+  columns = 1 ∷ [];
+  order = record { digits = 0 };
+  is_unique = true;
+}
+
+-- a database that has nothing
 abbrev pub none : Schema
 none = record { tables = []; indexes = []; views = [] }
 
+-- a database that has the table of records alone
 abbrev pub schema : Schema
-schema = created none records
+schema = record { tables = records ∷ []; indexes = index ∷ []; views = [] }

@@ -1,16 +1,23 @@
 //! A store over a database.
 
-ghost use Rattle.std.specs.Prelude.{◌≡◌};
+ghost use Rattle.std.specs.Prelude.{◌≡◌, IsTrue, IfOk, Err, false};
+ghost use Rattle.std.specs.FinMap as map;
+ghost use Rattle.sqlite.specs.Held.{state};
+ghost use Rattle.sqlite.specs.State.{HasCleanDisk};
 ghost use Rattle.ln_msgs.specs.Pings.Counted.{HasRisen};
+ghost use Rattle.ln_sqlite.specs.Table.{none};
+ghost use Rattle.ln_sqlite.specs.Holds.{IsTableOf};
+ghost use Rattle.ln_sqlite.specs.Begins.{BeginsWith, MayMakeTable, IsOther, IsReady, IsAsBefore};
 
+use crate::compared::{are_ids, is_copy};
 use crate::copies::{Copies, copied};
-use crate::statements::{all_rows, id_rows, load_rows, make_table, save_row};
-use crate::table::is_table_of_records;
+use crate::rows::read_copies;
+use crate::statements::{id_rows, load_rows, make_table, save_row};
+use crate::table::{is_empty, is_table_of_records};
 use ln_bytes::Bytes;
 use ln_msgs::Refusal;
 use ln_store::RecordStore;
-use sqlite::types::ValueRef;
-use sqlite::{Alter, Connection, Row};
+use sqlite::{Alter, Connection};
 use std::alloc::Global;
 
 /// Records in the table `records(id BLOB PRIMARY KEY, body BLOB NOT NULL)` of a database, which has nothing else.
@@ -30,64 +37,83 @@ fn counted(failures: &mut u64) -> Refusal
     Refusal::Store
 }
 
-/// The bytes in a column of a row, where these are bytes.
-fn bytes_in(row: &Row, at: usize) -> Option<&[u8]> {
-    match row.get_ref(at) {
-        Ok(ValueRef::Blob(bytes)) => Some(bytes),
-        _ => None,
-    }
-}
-
-fn id_in(row: &Row) -> Option<[u8; 32]> {
-    let bytes = bytes_in(row, 0)?;
-    <[u8; 32]>::try_from(bytes).ok()
-}
-
-/// Takes the record of a row; passes over a row that has none.
-fn take_row(alloc: Global, copies: &mut Copies, row: &Row) -> Result<(), Refusal> {
-    let Some(id) = id_in(row) else {
-        return Ok(());
-    };
-    let Some(bytes) = bytes_in(row, 1) else {
-        return Ok(());
-    };
-    let _ = copies.put(id, copied(alloc, bytes)?)?;
-    Ok(())
-}
-
-fn read_copies<S: Alter>(alloc: Global, connection: &mut Connection<S>) -> Result<Copies, Refusal> {
-    let mut copies = Copies::new(alloc);
-    let Ok(rows) = all_rows(connection) else {
-        return Err(Refusal::Store);
-    };
-    for row in rows.iter() {
-        take_row(alloc, &mut copies, row)?;
-    }
-    Ok(copies)
-}
-
-fn begin<S: Alter>(alloc: Global, connection: &mut Connection<S>) -> Result<Copies, Refusal> {
+/// Makes the table where the database has nothing. Whether it has that then, and nothing else.
+fn has_the_table<S: Alter>(connection: &mut Connection<S>) -> bool
+    ensures has_the_table { HasCleanDisk (state S.Store connection.new)
+        → IsTrue (state S.Store connection.new).is_open → IsTrue result
+        → IsReady (state S.Store connection.old) (state S.Store connection.new) }
+    ensures changes_nothing_where_refused { HasCleanDisk (state S.Store connection.new)
+        → IsTrue (state S.Store connection.new).is_open → result ≡ false
+        → IsAsBefore (state S.Store connection.old) (state S.Store connection.new) }
+    ensures refuses_another_database { IsOther (state S.Store connection.old)
+        → (result ≡ false) × (connection.new ≡ connection.old) }
+{
     if !connection.is_autocommit() {
-        return Err(Refusal::Store);
+        return false;
     }
-    if connection.schema().tables.len() == 0 && make_table(connection).is_err() {
-        return Err(Refusal::Store);
+    if is_empty(connection.schema()) {
+        return make_table(connection).is_ok();
     }
-    if !is_table_of_records(connection.schema()) {
+    is_table_of_records(connection.schema())
+}
+
+/// Makes the table where the database has nothing, and reads each record once.
+fn begin<S: Alter>(alloc: Global, connection: &mut Connection<S>) -> Result<Copies, Refusal>
+    ensures begins_with_the_table { HasCleanDisk (state S.Store connection.new)
+        → IsTrue (state S.Store connection.new).is_open
+        → IfOk result (BeginsWith (state S.Store connection.new)) }
+    ensures begins_empty_where_it_makes_the_table { HasCleanDisk (state S.Store connection.new)
+        → IsTrue (state S.Store connection.new).is_open → (state S.Store connection.old).now.schema ≡ none
+        → IfOk result (λ copies. (copies ≡ map.empty) × IsTableOf (state S.Store connection.new) map.empty) }
+    ensures changes_no_more { HasCleanDisk (state S.Store connection.new)
+        → IsTrue (state S.Store connection.new).is_open
+        → MayMakeTable (state S.Store connection.old) (state S.Store connection.new) }
+    ensures refuses_another_database { IsOther (state S.Store connection.old)
+        → (result ≡ Err Refusal.Store) × (connection.new ≡ connection.old) }
+{
+    if !has_the_table(connection) {
         return Err(Refusal::Store);
     }
     read_copies(alloc, connection)
 }
 
 impl<S: Alter> SqliteStore<S> {
+    ghost use Rattle.std.specs.Prelude.{◌≡◌, IsTrue, IfOk, IfErr, Err};
+    ghost use Rattle.std.specs.FinMap as map;
+    ghost use Rattle.sqlite.specs.Held.{state};
+    ghost use Rattle.sqlite.specs.State.{HasCleanDisk};
+    ghost use Rattle.ln_sqlite.specs.Table.{none};
+    ghost use Rattle.ln_sqlite.specs.Holds.{IsInOrder, IsTableOf};
+    ghost use Rattle.ln_sqlite.specs.Begins.{BeginsWith, MayMakeTable, IsOther};
+
     /// A store over a database: it makes the table where the database has none, and reads all records once.
     ///
-    /// Errors, beside the connection: 61 where the database failed, has other tables, or has begun a transaction; 60
-    /// where there is no memory.
+    /// Errors, beside the connection: 61 where the database failed, has other tables, has a row that is no record (an
+    /// id of 32 bytes and a body), or has begun a transaction; 60 where there is no memory.
     pub fn over(
         alloc: Global,
         mut connection: Connection<S>,
-    ) -> Result<SqliteStore<S>, (Refusal, Connection<S>)> {
+    ) -> Result<SqliteStore<S>, (Refusal, Connection<S>)>
+        ensures begins_with_the_table { IfOk result (λ store. HasCleanDisk (state S.Store store.connection)
+            → IsTrue (state S.Store store.connection).is_open
+            → BeginsWith (state S.Store store.connection) store.copies) }
+        ensures has_a_table_in_order { IfOk result (λ store. HasCleanDisk (state S.Store store.connection)
+            → IsTrue (state S.Store store.connection).is_open
+            → IsInOrder ((state S.Store store.connection).now.trees 0)
+            → IsTableOf (state S.Store store.connection) store.copies) }
+        ensures begins_empty_where_it_makes_the_table { IfOk result (λ store.
+            HasCleanDisk (state S.Store store.connection) → IsTrue (state S.Store store.connection).is_open
+            → (state S.Store connection).now.schema ≡ none
+            → (store.copies ≡ map.empty) × IsTableOf (state S.Store store.connection) map.empty) }
+        ensures changes_no_more { IfOk result (λ store. HasCleanDisk (state S.Store store.connection)
+            → IsTrue (state S.Store store.connection).is_open
+            → MayMakeTable (state S.Store connection) (state S.Store store.connection)) }
+        ensures has_no_failure_yet { IfOk result (λ store. store.failures ≡ 0) }
+        ensures hands_back_what_was_there { IfErr result (λ e. HasCleanDisk (state S.Store e.1)
+            → IsTrue (state S.Store e.1).is_open → MayMakeTable (state S.Store connection) (state S.Store e.1)) }
+        ensures refuses_another_database { IsOther (state S.Store connection)
+            → result ≡ Err (Refusal.Store, connection) }
+    {
         match begin(alloc, &mut connection) {
             Ok(copies) => Ok(SqliteStore {
                 connection,
@@ -99,29 +125,11 @@ impl<S: Alter> SqliteStore<S> {
     }
 
     /// The connection. Takes no memory.
-    pub fn into_connection(self) -> Connection<S> {
+    pub fn into_connection(self) -> Connection<S>
+        ensures { result ≡ self.connection }
+    {
         self.connection
     }
-}
-
-fn is_copy(rows: &[Row], kept: Option<&Bytes>) -> bool {
-    match (rows, kept) {
-        ([], None) => true,
-        ([row], Some(kept)) => bytes_in(row, 0) == Some(kept.as_slice()),
-        _ => false,
-    }
-}
-
-fn are_ids(rows: &[Row], ids: &[[u8; 32]]) -> bool {
-    if rows.len() != ids.len() {
-        return false;
-    }
-    for (row, id) in rows.iter().zip(ids.iter()) {
-        if bytes_in(row, 0) != Some(id.as_slice()) {
-            return false;
-        }
-    }
-    true
 }
 
 impl<S: Alter> RecordStore for SqliteStore<S> {
@@ -130,7 +138,9 @@ impl<S: Alter> RecordStore for SqliteStore<S> {
     ghost use Rattle.sqlite.specs.Held.{state};
     ghost use Rattle.sqlite.specs.State.{HasCleanDisk};
     ghost use Rattle.ln_store.specs.Store.{CountsFailures};
+    ghost use Rattle.ln_sqlite.specs.Table.{schema};
     ghost use Rattle.ln_sqlite.specs.Holds.{KeepsTable, IsTableOf, StopLeaves};
+    ghost use Rattle.ln_sqlite.specs.Shown.{IsRecordOf, AreIdsOf};
 
     ghost records = { λ s. s.copies };
 
@@ -162,6 +172,9 @@ impl<S: Alter> RecordStore for SqliteStore<S> {
     /// Errors: 60 where there is no memory; 61 where the database failed, or the table doesn't have what it should.
     fn load(&mut self, alloc: Global, id: &[u8; 32]) -> Result<Option<Bytes>, Refusal>
         ensures gives_the_record { IfOk result (λ found. found ≡ map.get self.old.copies id.now) }
+        ensures gives_what_the_table_has { HasCleanDisk (state S.Store self.new.connection)
+            → (state S.Store self.old.connection).now.schema ≡ schema
+            → IfOk result (IsRecordOf ((state S.Store self.old.connection).now.trees 0) id.now) }
         ensures changes_no_record { self.new.copies ≡ self.old.copies }
         ensures counts_failures { CountsFailures result self.old.failures self.new.failures }
         ensures keeps_the_table { KeepsTable S.Store self.old.connection self.old.copies
@@ -182,6 +195,9 @@ impl<S: Alter> RecordStore for SqliteStore<S> {
     /// Errors: 60 where there is no memory; 61 where the database failed, or the table doesn't have what it should.
     fn ids(&mut self, alloc: Global) -> Result<Vec<[u8; 32]>, Refusal>
         ensures gives_each_id_in_order { IfOk result (λ ids. ids.items ≡ map.keys self.old.copies) }
+        ensures gives_what_the_table_has { HasCleanDisk (state S.Store self.new.connection)
+            → (state S.Store self.old.connection).now.schema ≡ schema
+            → IfOk result (λ ids. AreIdsOf ((state S.Store self.old.connection).now.trees 0) ids.items) }
         ensures changes_no_record { self.new.copies ≡ self.old.copies }
         ensures counts_failures { CountsFailures result self.old.failures self.new.failures }
         ensures keeps_the_table { KeepsTable S.Store self.old.connection self.old.copies

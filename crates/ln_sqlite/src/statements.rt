@@ -1,11 +1,15 @@
 //! The statements of a store, each a text of its own and a call of its own.
 
-ghost use Rattle.std.specs.Prelude.{◌≡◌, IsTrue, OnOk, OnErr};
+ghost use Rattle.std.specs.Prelude.{◌≡◌, IsTrue, IfOk, OnOk, OnErr};
 ghost use Rattle.std.specs.FinMap as map;
 ghost use Rattle.sqlite.specs.Held.{state};
 ghost use Rattle.sqlite.specs.State.{HasCleanDisk};
 ghost use Rattle.ln_store.specs.Store.{Records};
+ghost use Rattle.ln_sqlite.specs.Table.{schema, none};
 ghost use Rattle.ln_sqlite.specs.Holds.{IsTableOf, StopLeaves};
+ghost use Rattle.ln_sqlite.specs.Reading.{AreShown};
+ghost use Rattle.ln_sqlite.specs.Shown.{AreBodies, AreIds};
+ghost use Rattle.ln_sqlite.specs.Begins.{IsSettled, Stays};
 
 use sqlite::types::ValueRef;
 use sqlite::{Alter, Connection, Error, Row};
@@ -34,17 +38,31 @@ pub(crate) fn save_row<S: Alter>(
     )
 }
 
-pub(crate) fn make_table<S: Alter>(connection: &mut Connection<S>) -> Result<usize, Error> {
+pub(crate) fn make_table<S: Alter>(connection: &mut Connection<S>) -> Result<usize, Error>
+    ensures makes_the_table { HasCleanDisk (state S.Store connection.new) → OnOk result (
+        (state S.Store connection.old).now.schema ≡ none → IsSettled (state S.Store connection.old)
+        → IsTableOf (state S.Store connection.new) map.empty) }
+    ensures changes_nothing_where_refused { HasCleanDisk (state S.Store connection.new)
+        → IsTrue (state S.Store connection.new).is_open
+        → OnErr result (Stays (state S.Store connection.old) (state S.Store connection.new)) }
+    ensures was_open { HasCleanDisk (state S.Store connection.new) → IsTrue (state S.Store connection.new).is_open
+        → (state S.Store connection.old).now.schema ≡ none → IsTrue (state S.Store connection.old).is_open }
+    ensures was_clean { HasCleanDisk (state S.Store connection.new) → HasCleanDisk (state S.Store connection.old) }
+{
     connection.execute(
         "CREATE TABLE records(id BLOB PRIMARY KEY, body BLOB NOT NULL)",
         &[],
     )
 }
 
+/// The body in each row with this id.
 pub(crate) fn load_rows<S: Alter>(
     connection: &mut Connection<S>,
     id: &[u8],
 ) -> Result<Vec<Row>, Error>
+    ensures shows_each_body { HasCleanDisk (state S.Store connection.new) → IfOk result (λ rows.
+        (state S.Store connection.old).now.schema ≡ schema
+        → AreBodies ((state S.Store connection.old).now.trees 0) id.now rows.items) }
     ensures leaves_the_table { HasCleanDisk (state S.Store connection.new)
         → IsTrue (state S.Store connection.new).is_open
         → (records : Records) → IsTableOf (state S.Store connection.old) records
@@ -56,7 +74,11 @@ pub(crate) fn load_rows<S: Alter>(
     )
 }
 
+/// The ids, in order.
 pub(crate) fn id_rows<S: Alter>(connection: &mut Connection<S>) -> Result<Vec<Row>, Error>
+    ensures shows_each_id { HasCleanDisk (state S.Store connection.new) → IfOk result (λ rows.
+        (state S.Store connection.old).now.schema ≡ schema
+        → AreIds ((state S.Store connection.old).now.trees 0) rows.items) }
     ensures leaves_the_table { HasCleanDisk (state S.Store connection.new)
         → IsTrue (state S.Store connection.new).is_open
         → (records : Records) → IsTableOf (state S.Store connection.old) records
@@ -65,6 +87,17 @@ pub(crate) fn id_rows<S: Alter>(connection: &mut Connection<S>) -> Result<Vec<Ro
     connection.query_all("SELECT id FROM records ORDER BY id", &[])
 }
 
-pub(crate) fn all_rows<S: Alter>(connection: &mut Connection<S>) -> Result<Vec<Row>, Error> {
+/// Each row of the table, with its id and its body.
+pub(crate) fn all_rows<S: Alter>(connection: &mut Connection<S>) -> Result<Vec<Row>, Error>
+    ensures shows_each_row { HasCleanDisk (state S.Store connection.new) → IfOk result (λ rows.
+        (state S.Store connection.old).now.schema ≡ schema
+        → AreShown ((state S.Store connection.old).now.trees 0) rows.items) }
+    ensures changes_nothing { HasCleanDisk (state S.Store connection.new)
+        → IsTrue (state S.Store connection.new).is_open → (state S.Store connection.old).now.schema ≡ schema
+        → Stays (state S.Store connection.old) (state S.Store connection.new) }
+    ensures was_open { HasCleanDisk (state S.Store connection.new) → IsTrue (state S.Store connection.new).is_open
+        → IsTrue (state S.Store connection.old).is_open }
+    ensures was_clean { HasCleanDisk (state S.Store connection.new) → HasCleanDisk (state S.Store connection.old) }
+{
     connection.query_all("SELECT id, body FROM records", &[])
 }
