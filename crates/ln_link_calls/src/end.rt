@@ -1,0 +1,87 @@
+//! One end of a channel: its link, its store, and the messages in flight to it.
+
+use ln_bytes::Bytes;
+use ln_keys::ToyKeys;
+use ln_link::Link;
+use ln_msgs::{Message, Refusal, encode, fits};
+use ln_store::{MemoryStore, RecordStore};
+use std::alloc::{AllocError, Global};
+use std::collections::VecDeque;
+
+/// The id of the channel: that of the output 258 of a transaction whose id is 32 bytes 9.
+pub const CHANNEL: [u8; 32] = [
+    9, 9, 9, 9, 9, 9, 9, 9, 9, 9, 9, 9, 9, 9, 9, 9, 9, 9, 9, 9, 9, 9, 9, 9, 9, 9, 9, 9, 9, 9, 8, 11,
+];
+
+/// One end. What is in flight to it stands as bytes, the oldest first.
+#[derive(Drop)]
+pub struct End {
+    pub keys: ToyKeys,
+    pub link: Box<Link<ToyKeys>>,
+    pub store: Box<MemoryStore>,
+    pub inbox: VecDeque<Bytes>,
+}
+
+/// The bytes of a message; none of one that can't be written.
+pub fn written(alloc: Global, message: &Message) -> Option<Vec<u8>> {
+    if !fits(message) {
+        return None;
+    }
+    encode(alloc, message).ok()
+}
+
+impl End {
+    /// An end with nothing in flight to it.
+    pub fn new(
+        alloc: Global,
+        keys: ToyKeys,
+        link: Box<Link<ToyKeys>>,
+    ) -> Result<Box<End>, AllocError> {
+        let store = Box::new(alloc, MemoryStore::new(alloc))?;
+        let inbox = VecDeque::new(alloc);
+        Ok(Box::new(
+            alloc,
+            End {
+                keys,
+                link,
+                store,
+                inbox,
+            },
+        )?)
+    }
+
+    /// A message is in flight to it, or lost where it has no connection.
+    pub fn reach(&mut self, bytes: Vec<u8>) -> Result<(), AllocError> {
+        if self.link.unsaved().line().is_down() {
+            return Ok(());
+        }
+        Ok(self.inbox.push_back(Bytes::new(bytes))?)
+    }
+
+    /// It loses its connection, and what is in flight to it.
+    pub fn fall(&mut self) {
+        self.link.drop_connection();
+        self.inbox.clear();
+    }
+
+    /// It halts, and loses what is in flight to it.
+    pub fn halt(&mut self) {
+        self.link.halt();
+        self.inbox.clear();
+    }
+
+    /// Its link comes back from its record; not where there is none.
+    pub fn load(&mut self, alloc: Global) -> Result<bool, Refusal> {
+        let ids = self.store.ids(alloc)?;
+        let Some(id) = ids.as_slice().first() else {
+            return Ok(false);
+        };
+        let Some(bytes) = self.store.load(alloc, id)? else {
+            return Ok(false);
+        };
+        let link = Link::from_record(alloc, self.keys, bytes.as_slice())?;
+        self.link = Box::new(alloc, link)?;
+        self.inbox.clear();
+        Ok(true)
+    }
+}

@@ -1,0 +1,66 @@
+//! The words of a line.
+
+use hex::FromHexError;
+use std::alloc::{AllocError, Global};
+
+/// The words of a line as numbers; 0 for a word that is none.
+pub fn numbers(alloc: Global, line: &str) -> Result<Vec<u64>, AllocError> {
+    let mut all = Vec::new(alloc);
+    for word in line.split(' ') {
+        all.push(word.parse().unwrap_or(0))?;
+    }
+    Ok(all)
+}
+
+/// The number at a place; 0 behind the end.
+pub fn at(words: &[u64], place: usize) -> u64 {
+    match words.get(place) {
+        None => 0,
+        Some(number) => *number,
+    }
+}
+
+/// The 32 bytes that a small number stands for.
+pub fn bytes_of(number: u64) -> [u8; 32] {
+    [(number % 256) as u8; 32]
+}
+
+pub fn wide(number: u64) -> u32 {
+    (number % 0x1_0000_0000) as u32
+}
+
+pub fn code(number: u64) -> u16 {
+    (number % 0x1_0000) as u16
+}
+
+/// The bytes of a part in hexadecimal, or one so many times, as in 00x1366, at most 65,535; false for any other text.
+fn put_part(alloc: Global, bytes: &mut Vec<u8>, part: &str) -> Result<bool, AllocError> {
+    let (digits, count) = part.split_once("x").unwrap_or((part, "1"));
+    let repeated = match hex::decode(alloc, digits) {
+        Ok(repeated) => repeated,
+        Err(FromHexError::OutOfMemory) => return Err(AllocError),
+        Err(_) => return Ok(false),
+    };
+    for _ in 0..count.parse().unwrap_or(0u16) {
+        bytes.extend_from_slice(repeated.as_slice())?;
+    }
+    Ok(true)
+}
+
+/// The bytes of the parts behind a line's first two words; none where one isn't hexadecimal.
+pub fn bytes_of_parts(alloc: Global, line: &str) -> Result<Option<Vec<u8>>, AllocError> {
+    let mut bytes = Vec::new(alloc);
+    for part in line.split(' ').skip(2) {
+        if !put_part(alloc, &mut bytes, part)? {
+            return Ok(None);
+        }
+    }
+    Ok(Some(bytes))
+}
+
+/// So many bytes of a kind, at most 65,535.
+pub fn filled(alloc: Global, byte: u8, count: u64) -> Result<Vec<u8>, AllocError> {
+    let mut bytes = Vec::new(alloc);
+    bytes.resize((count % 0x1_0000) as usize, byte)?;
+    Ok(bytes)
+}

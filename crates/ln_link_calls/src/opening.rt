@@ -1,0 +1,113 @@
+//! The two ends of a new channel, by numbers.
+
+use crate::end::End;
+use crate::line::{at, bytes_of, code, filled};
+use ln_bytes::{Bytes, Record};
+use ln_channel::{Config, FitConfig, FitSpec, OpenSpec, Points};
+use ln_keys::ToyKeys;
+use ln_link::Link;
+use ln_log::Limits;
+use ln_msgs::Records;
+use std::alloc::{AllocError, Global};
+
+const POINTS: Points = Points {
+    funding_pubkey: [3; 33],
+    revocation_basepoint: [4; 33],
+    payment_basepoint: [5; 33],
+    delayed_payment_basepoint: [6; 33],
+    htlc_basepoint: [7; 33],
+};
+
+/// What a side opens channels with: its minimum, count, sum and reserve, then its first, least and greatest closing
+/// fee; its script is one byte.
+fn config(alloc: Global, script: u8, words: &[u64]) -> Result<Box<Config>, AllocError> {
+    let script = Bytes::new(filled(alloc, script, 1)?);
+    let config = Box::new(
+        alloc,
+        Config {
+            limits: Limits {
+                minimum: at(words, 0),
+                accepted: code(at(words, 1)),
+                in_flight: at(words, 2),
+                reserve: at(words, 3),
+            },
+            chain_hash: [0; 32],
+            dust_limit: 546,
+            to_self_delay: 144,
+            minimum_depth: 3,
+            points: POINTS,
+            first: at(words, 4),
+            least: at(words, 5),
+            greatest: at(words, 6),
+            script,
+        },
+    )?;
+    Ok(config)
+}
+
+/// Keys of a side: their seed, their tag and the other side's.
+fn keys(seed: u64, own: u64, other: u64) -> ToyKeys {
+    ToyKeys {
+        seed: bytes_of(seed.wrapping_add(own)),
+        tag: bytes_of(own),
+        peer_tag: bytes_of(other),
+    }
+}
+
+/// A channel type of so many bytes; no record for none.
+fn records(alloc: Global, count: u64) -> Result<Records, AllocError> {
+    let mut all = Vec::new(alloc);
+    if count > 0 {
+        let value = Bytes::new(filled(alloc, 16, count)?);
+        all.push(Record { typ: 1, value })?;
+    }
+    Ok(Records::new(all))
+}
+
+fn spec(alloc: Global, words: &[u64]) -> Result<Box<OpenSpec>, AllocError> {
+    let records = records(alloc, at(words, 4))?;
+    let config = config(alloc, 65, words.get(5..).unwrap_or(&[]))?;
+    let spec = Box::new(
+        alloc,
+        OpenSpec {
+            config: Box::into_inner(config),
+            funding: at(words, 1),
+            push: at(words, 2),
+            feerate: 253,
+            flags: 0,
+            temporary_id: [255; 32],
+            txid: [9; 32],
+            output: 258,
+            records,
+        },
+    )?;
+    Ok(spec)
+}
+
+/// The funder's end; none where a value doesn't fit.
+pub fn funder(alloc: Global, words: &[u64]) -> Result<Option<Box<End>>, AllocError> {
+    let spec = spec(alloc, words)?;
+    if !spec.fits() {
+        return Ok(None);
+    }
+    let keys = keys(at(words, 3), 1, 2);
+    let link = Box::new(
+        alloc,
+        Link::funder(keys, FitSpec::new(Box::into_inner(spec))),
+    )?;
+    Ok(Some(End::new(alloc, keys, link)?))
+}
+
+/// The fundee's.
+pub fn fundee(alloc: Global, words: &[u64]) -> Result<Option<Box<End>>, AllocError> {
+    let config = config(alloc, 66, words.get(12..).unwrap_or(&[]))?;
+    if !config.fits() {
+        return Ok(None);
+    }
+    let keys = keys(at(words, 3), 2, 1);
+    let link = Box::new(
+        alloc,
+        Link::fundee(keys, FitConfig::new(Box::into_inner(config))),
+    )?;
+    Ok(Some(End::new(alloc, keys, link)?))
+}

@@ -1,0 +1,216 @@
+//! What a link answers, as text.
+
+use crate::end::{CHANNEL, End, written};
+use ln_channel::{Life, Line, Output, Standing};
+use ln_hooks::{ChannelEvent, How};
+use ln_msgs::{Message, Refusal};
+use std::alloc::{AllocError, Global};
+use std::fmt::Write;
+
+fn owner(own: bool) -> &'static str {
+    if own { "own" } else { "peer" }
+}
+
+fn ending(how: &How) -> &'static str {
+    match how {
+        How::Fulfilled(_) => "fulfilled",
+        How::Failed(_) => "failed",
+        How::Malformed(..) => "malformed",
+    }
+}
+
+/// An event with its number.
+pub fn put_event(text: &mut String, number: u64, event: &ChannelEvent) -> Result<(), AllocError> {
+    match event {
+        ChannelEvent::Added { own, id, .. } => {
+            let (owner, id) = (owner(*own), *id);
+            write!(text, " event {number} added {owner} {id}")
+        }
+        ChannelEvent::Settled { own, id, how } => {
+            let (owner, id, ending) = (owner(*own), *id, ending(how));
+            write!(text, " event {number} settled {owner} {id} {ending}")
+        }
+        ChannelEvent::Closed(fee) => {
+            let fee = *fee;
+            write!(text, " event {number} closed {fee}")
+        }
+    }
+}
+
+/// A message is sent to an end.
+fn put_sent(
+    alloc: Global,
+    text: &mut String,
+    message: &Message,
+    y: &mut End,
+) -> Result<(), AllocError> {
+    match written(alloc, message) {
+        None => text.push_str(" sends what can't be written"),
+        Some(bytes) => {
+            let digits = hex::encode(alloc, bytes.as_slice())?;
+            text.push_str(" sends ")?;
+            text.push_str(digits.as_str())?;
+            y.reach(bytes)
+        }
+    }
+}
+
+fn put_output(
+    alloc: Global,
+    text: &mut String,
+    output: &Output,
+    y: &mut End,
+) -> Result<(), AllocError> {
+    match output {
+        Output::Send(message) => put_sent(alloc, text, message, y),
+        Output::Signed(own) => {
+            let own = *own;
+            write!(text, " signed {own}")
+        }
+        Output::Committed { own, peer } => {
+            let (own, peer) = (*own, *peer);
+            write!(text, " committed {own} {peer}")
+        }
+        Output::Event(number, event) => put_event(text, *number, event),
+        Output::Closed(fee) => {
+            let fee = *fee;
+            write!(text, " closed {fee}")
+        }
+    }
+}
+
+/// A refusal by its number.
+fn put_refusal(text: &mut String, refusal: Refusal) -> Result<(), AllocError> {
+    let number = refusal.number();
+    match refusal {
+        Refusal::PeerLimit(rule) => {
+            let rule = rule.number();
+            write!(text, "refused {number} {rule}")
+        }
+        _ => write!(text, "refused {number}"),
+    }
+}
+
+/// How the peer is told of a refusal, if at all.
+fn put_reply(
+    alloc: Global,
+    text: &mut String,
+    refusal: Refusal,
+    y: &mut End,
+) -> Result<(), AllocError> {
+    let reply = refusal.reply(alloc, &CHANNEL);
+    let put = match &reply {
+        Ok(Some(message)) => put_sent(alloc, text, message, y),
+        Ok(None) => Ok(()),
+        Err(_) => Err(AllocError),
+    };
+    drop(reply);
+    put
+}
+
+/// A refusal, and where it is one of a message, how the peer is told of it.
+pub fn refused(
+    alloc: Global,
+    refusal: Refusal,
+    y: &mut End,
+    replies: bool,
+) -> Result<String, AllocError> {
+    let mut text = String::new(alloc);
+    put_refusal(&mut text, refusal)?;
+    if replies {
+        put_reply(alloc, &mut text, refusal, y)?;
+    }
+    Ok(text)
+}
+
+fn handed(alloc: Global, outputs: &[Output], y: &mut End) -> Result<String, AllocError> {
+    let mut text = String::from_str(alloc, "ok")?;
+    for output in outputs {
+        put_output(alloc, &mut text, output, y)?;
+    }
+    Ok(text)
+}
+
+/// What a link answers. What it sends is in flight to the other end.
+pub fn told(
+    alloc: Global,
+    answer: Result<Vec<Output>, Refusal>,
+    y: &mut End,
+    replies: bool,
+) -> Result<String, AllocError> {
+    let text = match &answer {
+        Ok(outputs) => handed(alloc, outputs.as_slice(), y),
+        Err(refusal) => refused(alloc, *refusal, y, replies),
+    };
+    drop(answer);
+    text
+}
+
+fn put_life(text: &mut String, life: Life) -> Result<(), AllocError> {
+    match life {
+        Life::Open => text.push_str(" open"),
+        Life::Ready => text.push_str(" ready"),
+        Life::Shut => text.push_str(" shut"),
+        Life::Closed(fee) => write!(text, " closed {fee}"),
+        Life::Failed(refusal) => {
+            text.push_str(" ")?;
+            put_refusal(text, refusal)
+        }
+    }
+}
+
+fn put_standing(text: &mut String, standing: &Standing) -> Result<(), AllocError> {
+    let Standing {
+        signed,
+        own_held,
+        peer_held,
+        own,
+        peer,
+        live,
+        life,
+    } = *standing;
+    write!(
+        text,
+        " signed {signed} committed {own_held} peer {peer_held} balance {own}/{peer} live {live}"
+    )?;
+    put_life(text, life)
+}
+
+/// Where an end stands with its connection and its channel.
+pub fn stand(alloc: Global, x: &End) -> Result<String, AllocError> {
+    let unsaved = x.link.unsaved();
+    let line = match unsaved.line() {
+        Line::Down => "down",
+        Line::Awaiting => "waiting",
+        Line::Met => "met",
+    };
+    let mut text = String::from_str(alloc, line)?;
+    if unsaved.is_halted() {
+        text.push_str(" halted")?;
+    }
+    match unsaved.standing(alloc) {
+        Ok(standing) => put_standing(&mut text, &standing)?,
+        Err(_) => return Err(AllocError),
+    }
+    Ok(text)
+}
+
+fn put_events(text: &mut String, events: &[(u64, ChannelEvent)]) -> Result<(), AllocError> {
+    for event in events {
+        put_event(text, event.0, &event.1)?;
+    }
+    Ok(())
+}
+
+/// The events that an end hasn't decided.
+pub fn pending(alloc: Global, x: &End) -> Result<String, AllocError> {
+    let events = x.link.pending_events(alloc);
+    let mut text = String::from_str(alloc, "pending")?;
+    let put = match &events {
+        Ok(events) => put_events(&mut text, events.as_slice()),
+        Err(_) => Err(AllocError),
+    };
+    drop(events);
+    put?;
+    Ok(text)
+}
