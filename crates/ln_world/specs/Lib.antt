@@ -1,4 +1,3 @@
 pub mod Desk
 pub mod World
 pub mod Promises
-pub use Rattle.ln_channels.specs.World
