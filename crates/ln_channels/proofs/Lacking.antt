@@ -1,17 +1,58 @@
 -- By what a step fails that fails by an end without a record.
-use Rattle.std.proofs.Common.{ℕ, zero, suc, ◌<◌, List, [], ◌∷◌, length, get_or, arith, inl, inr}
+use Rattle.std.proofs.Common.{◌≡◌, ℕ, List, ◌∷◌, get_or, position, sym, subst, inl, inr, Option, Some, None, ◌==◌}
+use Rattle.ln_msgs.specs.declared.messages.message.Message.{Message}
 use Rattle.ln_msgs.specs.declared.refusals.refusal.Refusal.{Refusal}
+use Rattle.ln_keys.specs.declared.role.Role.{Role}
+use Rattle.ln_keys.specs.declared.role.Role.TheVariants.{Funder, Fundee}
+use Rattle.ln_keys.specs.Signer.{Signer}
+use Rattle.ln_channel.specs.declared.command.Command.TheVariants as command
+use Rattle.ln_channels.specs.declared.step.Act.{Act}
+use Rattle.ln_channels.specs.declared.step.Act.TheVariants as act
+use Rattle.ln_channels.specs.declared.step.End.{End}
 use Rattle.ln_channels.specs.declared.step.Node.{Node}
-use Rattle.ln_channels.specs.Channel.{Channel, side_of}
-use Rattle.ln_channels.specs.Failing.{ByRecord, SideLacks, SomeLacks}
-
--- a node's end in a channel of these
-pub one_lacks : {K : Type 0} (n : Node) (cs : List (Channel K)) (i : ℕ) (d : Channel K) → i < length cs
-    → SideLacks (side_of n (get_or cs i d)) (get_or cs i d).both → SomeLacks n cs
-one_lacks n [] i d lt h = absurd (omega (arith, lt))
-one_lacks n (c ∷ cs) zero d lt h = inl h
-one_lacks n (c ∷ cs) (suc i) d lt h = inr (one_lacks n cs i d (omega (arith, lt)) h)
+use Rattle.ln_channels.specs.Both.{Both, Place, unheard, delivered_unheard}
+use Rattle.ln_channels.specs.Channel.{Channel, side_of, actor, place_of, side_unheard}
+use Rattle.ln_channels.specs.Failing.{ByRecord, LinkLacks, SideLacks, ActLacks, ActLacksIn, ActLacksAt}
+use Rattle.ln_channels.proofs.Places.{found_where}
 
 pub by_record : (r : Refusal) (P Q : Type 0) → (P → Q) → ByRecord r P → ByRecord r Q
 by_record r P Q f (inl e) = inl e
 by_record r P Q f (inr h) = inr (h.0, f h.1)
+
+module _ {K : Type 0} (signer : K → Signer) where
+  -- an end that takes the message in front
+  pub lacks_delivered : (m : Message) (ms inbox : List Message) (p : Place K) → inbox ≡ m ∷ ms
+      → LinkLacks (delivered_unheard signer (m ∷ ms) p).link → LinkLacks (delivered_unheard signer inbox p).link
+  lacks_delivered m ms inbox p e = subst (λ l. LinkLacks (delivered_unheard signer l p).link) (sym e)
+
+  -- the side of the node
+  side_lacks : (a : Act) (side : Role) (p : Both K) → LinkLacks (unheard signer a (place_of side p)).link
+      → SideLacks (Some side) (side_unheard signer a (Some side) p)
+  side_lacks a Funder p h = h
+  side_lacks a Fundee p h = h
+
+  pub acts_lacks : (n : Node) (a : Act) (c : Channel K) (side : Role) → side_of n c ≡ Some side
+      → LinkLacks (unheard signer a (place_of side c.both)).link → ActLacks signer n a c
+  acts_lacks n a c side e h =
+      subst (λ o. SideLacks o (side_unheard signer a o c.both)) (sym e) (side_lacks a side c.both h)
+
+  -- the channel that is found
+  pub lacks_there : (e : End) (a : Act) (cs : List (Channel K)) (i : ℕ) (d : Channel K)
+      → Some i ≡ position (λ c. c.number == e.channel) cs → ActLacks signer e.node a (get_or cs i d)
+      → ActLacksAt signer e a cs
+  lacks_there e a cs i d is h = subst (ActLacksIn signer e.node a) (sym (found_where e.channel cs i d is)) h
+
+-- who acts is the node's side
+pub actor_side : {K : Type 0} (n : Node) (a : Act) (c : Channel K) (side : Role) → Some side ≡ actor n a c
+    → side_of n c ≡ Some side
+actor_side n act.Deliver c side e = sym e
+actor_side n (act.Send (command.Decide event mark)) c side e = absurd (cc)
+actor_side n (act.Send (command.Forget id)) c side e = absurd (cc)
+actor_side n (act.Send (command.Confirm id)) c side e = sym e
+actor_side n (act.Send (command.Add amount hash expiry onion origin)) c side e = sym e
+actor_side n (act.Send (command.Fulfil id preimage)) c side e = sym e
+actor_side n (act.Send (command.Fail id reason)) c side e = sym e
+actor_side n (act.Send (command.Malformed id sha code)) c side e = sym e
+actor_side n (act.Send (command.Fee feerate)) c side e = sym e
+actor_side n (act.Send command.Sign) c side e = sym e
+actor_side n (act.Send (command.Shutdown script)) c side e = sym e

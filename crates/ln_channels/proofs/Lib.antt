@@ -1,4 +1,5 @@
 pub mod Answered
+pub mod Stored
 pub mod Fitting
 pub mod Moving
 pub mod Named

@@ -59,46 +59,46 @@ no_fault (Some r) x y e = absurd (cc)
 
 module _ {K : Type 0} (signer : K → Signer) (id : List ℕ) (kx ky : K) (s : OpenSpec) (c : Config)
     (funder fundee : Opened) (o : Opens (signer kx) (signer ky) s c funder fundee) where
-  abbrev at_first : Both K
+  abbrev pub at_first : Both K
   at_first = record {
     x = record { keys = kx; link = begun kx (stage.AwaitsAccept s); inbox = [] };
     y = record { keys = ky; link = begun ky (stage.AwaitsOpen c); inbox = [] };
   }
 
-  abbrev asked : Both K
+  abbrev pub asked : Both K
   asked = two kx (stage.AwaitsAccept s) [] ky (stage.AwaitsOpen c)
       (message.OpenChannel (open_message (signer kx) s) ∷ [])
 
-  abbrev accepted : Both K
+  abbrev pub accepted : Both K
   accepted = two kx (stage.AwaitsAccept s) (message.AcceptChannel o.accept ∷ []) ky (stage.AwaitsCreated o.agreement) []
 
-  abbrev created : Both K
+  abbrev pub created : Both K
   created = two kx (stage.AwaitsSigned (end_of funder)) [] ky (stage.AwaitsCreated o.agreement)
       (message.FundingCreated o.created ∷ [])
 
-  abbrev signed : Both K
+  abbrev pub signed : Both K
   signed = two kx (stage.AwaitsSigned (end_of funder)) (message.FundingSigned o.signed ∷ [])
       ky (stage.Saved (end_of fundee)) []
 
-  abbrev both_open : Both K
+  abbrev pub both_open : Both K
   both_open = two kx (stage.Saved (end_of funder)) [] ky (stage.Saved (end_of fundee)) []
 
-  they_meet : moves signer id Meet at_first ≡ asked
+  pub they_meet : moves signer id Meet at_first ≡ asked
   unfolding moves
   they_meet = refl
 
-  takes_open : moves signer id (By Fundee act.Deliver) asked ≡ accepted
+  pub takes_open : moves signer id (By Fundee act.Deliver) asked ≡ accepted
   unfolding moves
   takes_open = ap (λ r. swapped (answers refused id (replied Met stage.AwaitsCreated message.AcceptChannel r)
       (two ky (stage.AwaitsOpen c) [] kx (stage.AwaitsAccept s) []))) o.open_channel
 
-  takes_accept : moves signer id (By Funder act.Deliver) accepted ≡ created
+  pub takes_accept : moves signer id (By Funder act.Deliver) accepted ≡ created
   unfolding moves
   takes_accept = ap (λ r. answers refused id
       (replied Met (λ q. stage.AwaitsSigned (end_of q)) message.FundingCreated r)
       (two kx (stage.AwaitsAccept s) [] ky (stage.AwaitsCreated o.agreement) [])) o.accept_channel
 
-  takes_created : moves signer id (By Fundee act.Deliver) created ≡ signed
+  pub takes_created : moves signer id (By Fundee act.Deliver) created ≡ signed
   unfolding moves
   takes_created = ap (λ r. swapped (answers refused id
       (replied Met (λ q. stage.Saved (end_of q)) message.FundingSigned r)
@@ -127,7 +127,7 @@ module _ {K : Type 0} (signer : K → Signer) (id : List ℕ) (kx ky : K) (s : O
       let P : Opened × FundingCreated → Type 0 = λ w. w.0.dance.channel ≡ id_of_channel s.txid s.output in
       subst P answered refl
 
-  takes_signed : moves signer id (By Funder act.Deliver) signed ≡ both_open
+  pub takes_signed : moves signer id (By Funder act.Deliver) signed ≡ both_open
   unfolding moves
   takes_signed =
       let d : Done = record { line = Met; stage = stage.Saved (end_of funder); outputs = [] } in

@@ -1,4 +1,4 @@
--- Each end of every channel has a record, so that no restart of a node fails by one that is missing (BOLT 2, "Message
+-- Each end of every channel has a record, so that no act fails by one that is missing (BOLT 2, "Message
 -- Retransmission").
 use Rattle.std.proofs.Common.{◌≡◌, ℕ, List, [], ◌∷◌, refl, subst, arith, inl, inr}
 use Rattle.std.proofs.Common.{Bool, true, false, cond, ◌&&◌, ◌==◌, not, is_none, Option, Some, None}
@@ -9,6 +9,9 @@ use Rattle.ln_keys.specs.declared.role.Role.TheVariants.{Funder, Fundee}
 use Rattle.ln_keys.specs.Signer.{Signer}
 use Rattle.ln_channel.specs.declared.unsaved.Line.{Line}
 use Rattle.ln_channel.specs.declared.opening.Opened.{Opened}
+use Rattle.ln_channel.specs.declared.config.Config.{Config}
+use Rattle.ln_channel.specs.declared.config.OpenSpec.{OpenSpec}
+use Rattle.ln_channel.specs.Meeting.{Opens}
 use Rattle.ln_channel.specs.End.{End}
 use Rattle.ln_channel.specs.State.{State}
 use Rattle.ln_store.proofs.Formats.{both_true}
@@ -18,7 +21,6 @@ use Rattle.ln_pair.proofs.Counting.{are_counted}
 use Rattle.ln_pair.proofs.Wide.{are_wide}
 use Rattle.ln_channels.specs.declared.step.Act.{Act}
 use Rattle.ln_channels.specs.declared.step.Act.TheVariants as act
-use Rattle.ln_channels.specs.declared.step.End.{End as WorldEnd}
 use Rattle.ln_channels.specs.declared.step.Node.{Node}
 use Rattle.ln_channels.specs.declared.step.Open.{Open}
 use Rattle.ln_channels.specs.declared.step.Step.{Step}
@@ -30,10 +32,11 @@ use Rattle.ln_channels.specs.Both.{Both, Move, By, Falls, Halts, Restarts, Stops
 use Rattle.ln_channels.specs.Both.{run as run_both}
 use Rattle.ln_channels.specs.Channel.{Channel, is_node, by, side_of, actor, moved, may_meet, opened_by, act_moves}
 use Rattle.ln_channels.specs.Channel.{fall_moves, halt_moves, restart_moves, stop_moves, up_moves}
-use Rattle.ln_channels.specs.Channel.{acted_unheard, side_unheard}
-use Rattle.ln_channels.specs.World.{World, settings_of, channel, may_open, joined, happens, may_be_done, changed_if}
-use Rattle.ln_channels.specs.World.{unheard_at, empty, run}
-use Rattle.ln_channels.specs.Failing.{LinkLacks, SideLacks, SomeLacks, MayFail, SomeMayFail}
+use Rattle.ln_channels.specs.Channel.{acted_unheard, side_unheard, place_of, opening_moves}
+use Rattle.ln_channels.specs.World.{World, settings_of, channel, may_open, joined, happens, may_be_done}
+use Rattle.ln_channels.specs.World.{empty, run}
+use Rattle.ln_channels.specs.Failing.{LinkLacks, SideLacks, ActLacks, ActLacksIn, MovesLack, OpenLacks, MayFail}
+use Rattle.ln_channels.specs.Failing.{SomeMayFail}
 use Rattle.ln_channels.specs.Promises.{BringsFit, BringFit, Each, OfEach}
 use Rattle.ln_channels.specs.Records.{AreLimits, IsAct, IsStep, AreSteps, HaveRecords}
 use Rattle.ln_channels.proofs.Mirror.{link_at}
@@ -46,7 +49,9 @@ use Rattle.ln_channels.proofs.Promised.{moved_so, all_so, joined_so, either_so, 
 use Rattle.ln_channels.proofs.Promised.{settings_stay_there, keys_so, happened}
 use Rattle.ln_channels.proofs.Told.{MayMake, acts_possible, falls_possible, halts_possible, restarts_possible}
 use Rattle.ln_channels.proofs.Told.{stops_possible, ups_possible}
-use Rattle.ln_channels.proofs.Stopping.{as_acted}
+use Rattle.ln_channels.proofs.Stopping.{lacks_acted}
+use Rattle.ln_channels.proofs.Opened.{at_first, asked, accepted, created, signed, both_open, they_meet, takes_open}
+use Rattle.ln_channels.proofs.Opened.{takes_accept, takes_created, takes_signed, opens_so}
 
 -- ---- a channel whose commands are as wide as they are in code
 
@@ -216,22 +221,6 @@ module _ {K : Type 0} (k : Ghosts K) where
   all_fit [] w f is h = h
   all_fit (s ∷ ss) w f is h = all_fit ss (happens k s w) f.1 is.1 (stays_fit s w f.0 is.0 h)
 
--- ---- no node has an end without a record
-
-side_has : {K : Type 0} (o : Option Role) (p : Both K) → HaveRecords p → SideLacks o p → ⊥
-side_has None p h lacks = lacks
-side_has (Some Funder) p h lacks = h.0 lacks
-side_has (Some Fundee) p h lacks = h.1 lacks
-
-none_of : {K : Type 0} (n : Node) (cs : List (Channel K)) → Each (λ (c : Channel K). HaveRecords c.both) cs
-    → SomeLacks n cs → ⊥
-none_of n [] h lacks = lacks
-none_of n (c ∷ cs) h (inl lacks) = side_has (side_of n c) c.both h.0 lacks
-none_of n (c ∷ cs) h (inr lacks) = none_of n cs h.1 lacks
-
-pub none_lacks : {K : Type 0} (w : World K) → OfEach HaveRecords w → (n : Node) → SomeLacks n w.channels → ⊥
-none_lacks w h n lacks = none_of n w.channels h lacks
-
 -- ---- each end has one
 
 none_lacking : {K : Type 0} (b : Bool) (key : K) (l : State K) (line : Line) (o : Opened) (e : End)
@@ -270,44 +259,112 @@ module _ {K : Type 0} (k : Ghosts K) where
   behind_act (Some Funder) a id p is h =
       let acted = have_records k.signer id (moves k.signer id (By Funder a) p)
       (moves_so k.signer id (By Funder a ∷ []) p (refl, tt) (is, tt) h) in
-      (as_acted k.signer Funder id a p acted.0, (have_records k.signer id p h).1)
+      (λ lacks. acted.0 (lacks_acted k.signer Funder id a p lacks), (have_records k.signer id p h).1)
   behind_act (Some Fundee) a id p is h =
       let acted = have_records k.signer id (moves k.signer id (By Fundee a) p)
       (moves_so k.signer id (By Fundee a ∷ []) p (refl, tt) (is, tt) h) in
-      ((have_records k.signer id p h).0, as_acted k.signer Fundee id a p acted.1)
+      ((have_records k.signer id p h).0, λ lacks. acted.1 (lacks_acted k.signer Fundee id a p lacks))
 
-  one_behind : (b : Bool) (n : Node) (a : Act) (c : Channel K) → IsAct a → IsFitChannel k c
-      → HaveRecords (cond b (acted_unheard k.signer n a c) c).both
-  one_behind true n a c is h = behind_act (side_of n c) a (channel_id_of c.number) c.both is h
-  one_behind false n a c is h = have_records k.signer (channel_id_of c.number) c.both h
+  side_has : (o : Option Role) (p : Both K) → HaveRecords p → SideLacks o p → ⊥
+  side_has None p h lacks = lacks
+  side_has (Some Funder) p h lacks = h.0 lacks
+  side_has (Some Fundee) p h lacks = h.1 lacks
 
-  each_behind : (e : WorldEnd) (a : Act) (cs : List (Channel K)) → IsAct a → Each (IsFitChannel k) cs
-      → Each (λ (c : Channel K). HaveRecords c.both) (unheard_at k.signer e a cs)
-  each_behind e a [] is h = tt
-  each_behind e a (c ∷ cs) is h = (one_behind (c.number == e.channel) e.node a c is h.0, each_behind e a cs is h.1)
+  one_behind : (n : Node) (a : Act) (c : Channel K) → IsAct a → IsFitChannel k c → ActLacks k.signer n a c → ⊥
+  one_behind n a c is h lacks =
+      side_has (side_of n c) (acted_unheard k.signer n a c).both
+      (behind_act (side_of n c) a (channel_id_of c.number) c.both is h) lacks
 
-  never_in : (s : Step K k) (w : World K) → IsStep k s → AreFit k w → MayFail k s refusal.Damaged w → ⊥
-  never_in (step.Fees n fees) w is h fails = absurd (cc)
-  never_in (step.Limits n limits) w is h fails = absurd (cc)
-  never_in (step.Open o) w is h fails = absurd (cc)
-  never_in (step.Do e a) w is h fails = absurd (cc)
-  never_in (step.Down e) w is h fails = absurd (cc)
-  never_in (step.Restart n) w is h (inl e) = absurd (cc)
-  never_in (step.Restart n) w is h (inr lacks) = none_of n w.channels (each_has w.channels h.channels) lacks.1
-  never_in (step.NoMemory e a) w is h fails = absurd (cc)
-  never_in (step.StopBefore e a) w is h (inl r) = absurd (cc)
-  never_in (step.StopBefore e a) w is h (inr lacks) =
-      none_of e.node w.channels (each_has w.channels h.channels) lacks.1
-  never_in (step.StopAfter e a) w is h (inl r) = absurd (cc)
-  never_in (step.StopAfter e a) w is h (inr lacks) = none_of e.node (unheard_at k.signer e a w.channels)
-      (each_behind e a w.channels is h.channels) lacks.1
-  never_in (step.Up n) w is h fails = absurd (cc)
+  found_behind : (n : Node) (a : Act) (b : Bool) (c : Channel K) (o : Option (Channel K)) → IsAct a
+      → IsFitChannel k c → (ActLacksIn k.signer n a o → ⊥) → ActLacksIn k.signer n a (cond b (Some c) o) → ⊥
+  found_behind n a true c o is h rest lacks = one_behind n a c is h lacks
+  found_behind n a false c o is h rest lacks = rest lacks
+
+  none_behind : (m : ℕ) (n : Node) (a : Act) (cs : List (Channel K)) → IsAct a → Each (IsFitChannel k) cs
+      → ActLacksIn k.signer n a (channel m cs) → ⊥
+  none_behind m n a [] is h lacks = lacks
+  none_behind m n a (c ∷ cs) is h lacks =
+      found_behind n a (c.number == m) c (channel m cs) is h.0 (none_behind m n a cs is h.1) lacks
+
+  -- ---- nor does an opening
+
+  opening_has : (id : List ℕ) (kx ky : K) (s : OpenSpec) (c : Config) (funder fundee : Opened)
+      (o : Opens (k.signer kx) (k.signer ky) s c funder fundee)
+      → HaveRecords (both_open k.signer id kx ky s c funder fundee o)
+      → MovesLack k.signer id opening_moves (at_first k.signer id kx ky s c funder fundee o) → ⊥
+  opening_has id kx ky s c funder fundee o h (inl lacks) = lacks
+  opening_has id kx ky s c funder fundee o h (inr lacks) =
+      let signer = k.signer in
+      let deliver : List Move = By Funder act.Deliver ∷ [] in
+      let third : List Move = By Fundee act.Deliver ∷ deliver in
+      let second : List Move = By Funder act.Deliver ∷ third in
+      let p = asked signer id kx ky s c funder fundee o in
+      let q = accepted signer id kx ky s c funder fundee o in
+      let r = created signer id kx ky s c funder fundee o in
+      let t = signed signer id kx ky s c funder fundee o in
+      let at : (side : Role) (p q : Both K) → moves signer id (By side act.Deliver) p ≡ q
+      → LinkLacks (unheard signer act.Deliver (place_of side p)).link → LinkLacks (place_of side q).link =
+      λ side p q e x. subst (λ w. LinkLacks (place_of side w).link) e (lacks_acted signer side id act.Deliver p x) in
+      elim (subst (MovesLack signer id (By Fundee act.Deliver ∷ second))
+      (they_meet signer id kx ky s c funder fundee o) lacks) [
+        | inl x ↦ at Fundee p q (takes_open signer id kx ky s c funder fundee o) x
+        | inr rest ↦ elim (subst (MovesLack signer id second)
+            (takes_open signer id kx ky s c funder fundee o) rest) [
+              | inl x ↦ at Funder q r (takes_accept signer id kx ky s c funder fundee o) x
+              | inr rest ↦ elim (subst (MovesLack signer id third)
+                  (takes_accept signer id kx ky s c funder fundee o) rest) [
+                    | inl x ↦ h.1 (at Fundee r t (takes_created signer id kx ky s c funder fundee o) x)
+                    | inr rest ↦ elim (subst (MovesLack signer id deliver)
+                        (takes_created signer id kx ky s c funder fundee o) rest) [
+                          | inl x ↦ h.0 (at Funder t (both_open signer id kx ky s c funder fundee o)
+                              (takes_signed signer id kx ky s c funder fundee o) x)
+                          | inr x ↦ x
+                        ]
+                  ]
+            ]
+      ]
+
+  open_has : (o : Open K k) (w : World K) → BringsFit k (step.Open o) → IsStep k (step.Open o) → AreFit k w
+      → OpenLacks k o w → ⊥
+  open_has o w f is h lacks =
+      let s = settings_of o.funder w.settings in
+      let t = settings_of o.fundee w.settings in
+      let p = both_true (not (is_node o.funder o.fundee))
+      (is_none (channel o.channel w.channels) && may_bring o.satoshis o.push s t) lacks.0 in
+      let q = both_true (is_none (channel o.channel w.channels)) (may_bring o.satoshis o.push s t) p.1 in
+      let brings = brings_so o.satoshis o.push s t q.1 in
+      let fs = set_so o.funder w.settings h.keeps.settings in
+      let ft = set_so o.fundee w.settings h.keeps.settings in
+      let r = opened_run k o s t (keys_so k o f) brings fs ft in
+      let id = channel_id_of o.channel in
+      let fit = opened_so k o s t (keys_so k o f) brings fs ft (limits_so o.funder w.settings h.limits)
+      (limits_so o.fundee w.settings h.limits) is in
+      opening_has id o.keys.funder o.keys.fundee r.spec r.config r.funder r.fundee r.opens
+      (subst HaveRecords (opens_so k.signer id o.keys.funder o.keys.fundee r.spec r.config r.funder r.fundee r.opens)
+      (have_records k.signer id (opened_by k o s t).both fit)) lacks.1
+
+  never_in : (s : Step K k) (w : World K) → BringsFit k s → IsStep k s → AreFit k w → MayFail k s refusal.Damaged w → ⊥
+  never_in (step.Fees n fees) w f is h fails = absurd (cc)
+  never_in (step.Limits n limits) w f is h fails = absurd (cc)
+  never_in (step.Open o) w f is h (inl e) = absurd (cc)
+  never_in (step.Open o) w f is h (inr lacks) = open_has o w f is h lacks.1
+  never_in (step.Do e a) w f is h (inl r) = absurd (cc)
+  never_in (step.Do e a) w f is h (inr lacks) =
+      none_behind e.channel e.node a w.channels is h.channels lacks.1
+  never_in (step.Down e) w f is h fails = absurd (cc)
+  never_in (step.Restart n) w f is h fails = absurd (cc)
+  never_in (step.NoMemory e a) w f is h fails = absurd (cc)
+  never_in (step.StopBefore e a) w f is h fails = absurd (cc)
+  never_in (step.StopAfter e a) w f is h (inl r) = absurd (cc)
+  never_in (step.StopAfter e a) w f is h (inr lacks) =
+      none_behind e.channel e.node a w.channels is h.channels lacks.1
+  never_in (step.Up n) w f is h fails = absurd (cc)
 
   -- in no step that follows a world whose channels are so
   pub never_after : (ss : List (Step K k)) (w : World K) → BringFit k ss → AreSteps k ss → AreFit k w
       → SomeMayFail k ss refusal.Damaged w → ⊥
   never_after [] w f is h fails = fails
-  never_after (s ∷ ss) w f is h (inl fails) = never_in s w is.0 h fails
+  never_after (s ∷ ss) w f is h (inl fails) = never_in s w f.0 is.0 h fails
   never_after (s ∷ ss) w f is h (inr fails) =
       never_after ss (happens k s w) f.1 is.1 (stays_fit k s w f.0 is.0 h) fails
 

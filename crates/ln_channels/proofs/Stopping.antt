@@ -29,15 +29,13 @@ module _ {K : Type 0} (signer : K → Signer) where
   unheard_so id act.Deliver p = delivered_so id p.x.inbox p
   unheard_so id (act.Send c) p = refl
 
-  -- it has a record where it has one behind the act
-  pub as_acted : (side : Role) (id : List ℕ) (a : Act) (p : Both K)
-      → (LinkLacks (place_of side (moves signer id (By side a) p)).link → ⊥)
-      → LinkLacks (unheard signer a (place_of side p)).link → ⊥
+  -- it lacks a record where it lacks one behind the act
+  pub lacks_acted : (side : Role) (id : List ℕ) (a : Act) (p : Both K)
+      → LinkLacks (unheard signer a (place_of side p)).link
+      → LinkLacks (place_of side (moves signer id (By side a) p)).link
   unfolding moves
-  as_acted Funder id a p has lacks =
-      has (subst (λ (x : Place K). LinkLacks x.link) (sym (unheard_so id a p)) lacks)
-  as_acted Fundee id a p has lacks =
-      has (subst (λ (x : Place K). LinkLacks x.link) (sym (unheard_so id a (swapped p))) lacks)
+  lacks_acted Funder id a p lacks = subst (λ (x : Place K). LinkLacks x.link) (sym (unheard_so id a p)) lacks
+  lacks_acted Fundee id a p lacks = subst (λ (x : Place K). LinkLacks x.link) (sym (unheard_so id a (swapped p))) lacks
 
   -- ---- the node's end comes back from what the act has saved
 

@@ -3,6 +3,7 @@ pub mod Lines
 pub mod Both
 pub mod Channel
 pub mod World
+pub mod Stored
 pub mod Failing
 pub mod Promises
 pub mod Records

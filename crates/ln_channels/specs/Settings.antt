@@ -27,9 +27,8 @@ points = record {
   htlc_basepoint = replicate 33 2;
 }
 
--- the script of a node is its letter
-abbrev pub config_of : Node → Settings → Config
-config_of n s = record {
+abbrev pub config_with : Settings → List ℕ → Config
+config_with s script = record {
   limits = s.limits;
   chain_hash = replicate 32 0;
   dust_limit = 546;
@@ -39,8 +38,12 @@ config_of n s = record {
   first = s.fees.first;
   least = s.fees.least;
   greatest = s.fees.greatest;
-  script = n.letter ∷ [];
+  script = script;
 }
+
+-- the script of a node is its letter
+abbrev pub config_of : Node → Settings → Config
+config_of n s = config_with s (n.letter ∷ [])
 
 -- the funding transaction of the channel with this number
 abbrev pub txid_of : ℕ → List ℕ

@@ -11,26 +11,27 @@ ghost use Rattle.ln_channel.specs.State.{numbers_of};
 ghost use Rattle.ln_channels.specs.Both.{reaches, sent_by, answer_lines, said_by, delivers, delivered_lines, acts};
 ghost use Rattle.ln_channels.specs.Both.{act_lines, delivered_unheard, unheard};
 ghost use Rattle.ln_channels.specs.Both.{greeting, greets, greet_lines, meet};
+ghost use Rattle.ln_channels.specs.Failing.{ByRecord, LinkLacks};
 
-use crate::answer::{Answer, command as obey, connect, handle};
+use crate::answer::Answer;
 use crate::line::Line;
+use crate::saved_link::SavedLink;
 use crate::settings::channel_id_of;
 use crate::step::{Act, End};
 use crate::tell::{reply_of, tell_outputs, tell_refusal};
-use ln_channel::{Channel, Command, Output, Unsaved};
-use ln_keys::{ChannelKeys, Role};
-use ln_link::restart;
+use ln_bytes::Bytes;
+use ln_channel::{Command, Output, Unsaved};
+use ln_keys::ChannelKeys;
 use ln_msgs::{Message, Refusal};
 use std::alloc::Global;
 use std::collections::VecDeque;
 use std::marker::Model;
-use std::mem;
 
-/// An end of a channel with its keys, and the messages in flight to it.
+/// An end of a channel: its keys, its link with the record that a restart finds, and the messages in flight to it.
 #[derive(Drop)]
 pub struct Place<K: ChannelKeys + Copy> {
     keys: K,
-    link: Unsaved<K>,
+    link: SavedLink<K>,
     inbox: VecDeque<Message>,
 }
 
@@ -62,10 +63,10 @@ impl<K: ChannelKeys + Copy> Place<K> {
     ghost use Rattle.ln_channels.specs.Lines.{one_or_none};
     ghost use Rattle.ln_channels.specs.Both.{reaches, fallen, halted, restarted, may_come_up};
     ghost use Rattle.ln_channels.specs.Channel.{may_do};
-    ghost use Rattle.ln_channels.specs.Failing.{ByRecord, LinkLacks};
+    ghost use Rattle.ln_channels.specs.Stored.{link_record};
 
     /// An end without a connection, and nothing in flight to it. Takes no memory.
-    pub(crate) fn new(alloc: Global, keys: K, link: Unsaved<K>) -> Place<K>
+    pub(crate) fn new(alloc: Global, keys: K, link: SavedLink<K>) -> Place<K>
         ensures { result ≡ record { keys = keys; link = link; inbox = [] } }
     {
         Place {
@@ -79,7 +80,7 @@ impl<K: ChannelKeys + Copy> Place<K> {
     pub fn link(&self) -> &Unsaved<K>
         ensures { result.now ≡ self.now.link }
     {
-        &self.link
+        self.link.unsaved()
     }
 
     /// What is sent to it is in flight, or lost where it has no connection. 60 where there is no memory.
@@ -87,7 +88,7 @@ impl<K: ChannelKeys + Copy> Place<K> {
         ensures sent { OnOk result (self.new ≡ reaches (messages_in outputs.items) self.old) }
         ensures fails_for_memory_alone { IfErr result (λ e. e ≡ Refusal.Memory) }
     {
-        if self.link.line().is_down() {
+        if self.link().line().is_down() {
             drop(outputs);
             return Ok(());
         }
@@ -98,7 +99,7 @@ impl<K: ChannelKeys + Copy> Place<K> {
         ensures sent { OnOk result (self.new ≡ reaches (one_or_none reply) self.old) }
         ensures fails_for_memory_alone { IfErr result (λ e. e ≡ Refusal.Memory) }
     {
-        if self.link.line().is_down() {
+        if self.link().line().is_down() {
             drop(reply);
             return Ok(());
         }
@@ -113,7 +114,7 @@ impl<K: ChannelKeys + Copy> Place<K> {
     pub(crate) fn may_come_up(&self) -> bool
         ensures { result ≡ may_come_up self.now.link }
     {
-        self.link.line().is_down() && !self.link.is_halted()
+        self.link().line().is_down() && !self.link().is_halted()
     }
 
     /// Whether it can act so: a message is in flight to it, or it is given a command.
@@ -144,29 +145,23 @@ impl<K: ChannelKeys + Copy> Place<K> {
     }
 
     /// Its node restarts: it comes back from its record, and what is in flight to it is lost. Takes memory for the
-    /// record and for the end.
-    ///
-    /// Errors: 60 where there is no memory; 70 where the end has no record.
+    /// record and for the end; 60 where there is none.
     pub(crate) fn restart(&mut self, alloc: Global) -> Result<(), Refusal>
         ensures restarted { OnOk result (self.new ≡ restarted self.old) }
-        ensures fails { IfErr result (λ e. ByRecord e (LinkLacks self.old.link)) }
+        ensures fails_for_memory_alone { IfErr result (λ e. e ≡ Refusal.Memory) }
     {
-        let failure = self.link.failure();
-        match self.link.saved() {
-            Some(channel) => {
-                let link = restart(alloc, self.keys, failure, channel)?;
-                self.come_back(link);
-            }
-            None => self.fall(),
-        }
+        self.link.restart(alloc, self.keys)?;
+        self.inbox.clear();
         Ok(())
     }
 
-    fn come_back(&mut self, link: Unsaved<K>)
-        ensures { self.new ≡ record { keys = self.old.keys; link = link; inbox = [] } }
+    /// The bytes of its record; none before both have signed the opening. 60 where there is no memory for them.
+    pub(crate) fn record(&mut self, alloc: Global) -> Result<Option<Bytes>, Refusal>
+        ensures record { IfOk result (λ found. found ≡ link_record self.old.link) }
+        ensures changes_nothing { self.new ≡ self.old }
+        ensures fails_for_memory_alone { IfErr result (λ e. e ≡ Refusal.Memory) }
     {
-        drop(mem::replace(&mut self.link, link));
-        self.inbox.clear();
+        self.link.record(alloc)
     }
 }
 
@@ -239,7 +234,8 @@ fn pass_on<K: ChannelKeys + Copy>(
     }
 }
 
-/// The end takes the oldest message in flight to it. 60 where there is no memory.
+/// The end takes the oldest message in flight to it. 60 where there is no memory, 70 where it has no record behind
+/// that.
 fn deliver<K: ChannelKeys + Copy>(
     alloc: Global,
     end: End,
@@ -251,7 +247,7 @@ fn deliver<K: ChannelKeys + Copy>(
         ≡ delivers K.signer (channel_id_of end.channel) x.old.inbox (record { x = x.old; y = y.old })) }
     ensures told { OnOk result (lines.new.items ≡ lines.old.items
         ++ delivered_lines K.signer end (channel_id_of end.channel) x.old.inbox x.old.link) }
-    ensures fails_for_memory_alone { IfErr result (λ e. e ≡ refusal.Memory) }
+    ensures fails { IfErr result (λ e. ByRecord e (LinkLacks (delivered_unheard K.signer x.old.inbox x.old).link)) }
 {
     match x.inbox.pop_front() {
         None => {
@@ -259,13 +255,13 @@ fn deliver<K: ChannelKeys + Copy>(
             Ok(())
         }
         Some(message) => {
-            let answer = handle(alloc, &mut x.link, message)?;
-            pass_on(alloc, end, &x.link, answer, y, lines)
+            let answer = x.link.handle(alloc, x.keys, message)?;
+            pass_on(alloc, end, x.link(), answer, y, lines)
         }
     }
 }
 
-/// The end is given a command. 60 where there is no memory.
+/// The end is given a command. 60 where there is no memory, 70 where it has no record behind that.
 fn give<K: ChannelKeys + Copy>(
     alloc: Global,
     end: End,
@@ -278,13 +274,13 @@ fn give<K: ChannelKeys + Copy>(
         ≡ acts K.signer (channel_id_of end.channel) (act.Send command) (record { x = x.old; y = y.old })) }
     ensures told { OnOk result (lines.new.items ≡ lines.old.items
         ++ act_lines K.signer end (channel_id_of end.channel) (act.Send command) x.old) }
-    ensures fails_for_memory_alone { IfErr result (λ e. e ≡ refusal.Memory) }
+    ensures fails { IfErr result (λ e. ByRecord e (LinkLacks (unheard K.signer (act.Send command) x.old).link)) }
 {
-    let answer = obey(alloc, &mut x.link, command)?;
-    pass_on(alloc, end, &x.link, answer, y, lines)
+    let answer = x.link.command(alloc, x.keys, command)?;
+    pass_on(alloc, end, x.link(), answer, y, lines)
 }
 
-/// The end acts. 60 where there is no memory.
+/// The end acts. 60 where there is no memory, 70 where it has no record behind that.
 pub(crate) fn act<K: ChannelKeys + Copy>(
     alloc: Global,
     end: End,
@@ -297,7 +293,7 @@ pub(crate) fn act<K: ChannelKeys + Copy>(
         ≡ acts K.signer (channel_id_of end.channel) act (record { x = x.old; y = y.old })) }
     ensures told { OnOk result (lines.new.items ≡ lines.old.items
         ++ act_lines K.signer end (channel_id_of end.channel) act x.old) }
-    ensures fails_for_memory_alone { IfErr result (λ e. e ≡ refusal.Memory) }
+    ensures fails { IfErr result (λ e. ByRecord e (LinkLacks (unheard K.signer act x.old).link)) }
 {
     match act {
         Act::Deliver => deliver(alloc, end, x, y, lines),
@@ -305,39 +301,41 @@ pub(crate) fn act<K: ChannelKeys + Copy>(
     }
 }
 
-/// The end takes the oldest message in flight to it; what it hands out is lost. 60 where there is no memory.
+/// The end takes the oldest message in flight to it; what it hands out is lost. 60 where there is no memory, 70 where
+/// it has no record behind that.
 fn deliver_unheard<K: ChannelKeys + Copy>(alloc: Global, x: &mut Place<K>) -> Result<(), Refusal>
     ensures acted { OnOk result (x.new ≡ delivered_unheard K.signer x.old.inbox x.old) }
-    ensures fails_for_memory_alone { IfErr result (λ e. e ≡ refusal.Memory) }
+    ensures fails { IfErr result (λ e. ByRecord e (LinkLacks (delivered_unheard K.signer x.old.inbox x.old).link)) }
 {
     let Some(message) = x.inbox.pop_front() else {
         return Ok(());
     };
-    drop(handle(alloc, &mut x.link, message)?);
+    drop(x.link.handle(alloc, x.keys, message)?);
     Ok(())
 }
 
-/// The end is given a command; what it hands out is lost. 60 where there is no memory.
+/// The end is given a command; what it hands out is lost. 60 where there is no memory, 70 where it has no record behind
+/// that.
 fn give_unheard<K: ChannelKeys + Copy>(
     alloc: Global,
     x: &mut Place<K>,
     command: Command,
 ) -> Result<(), Refusal>
     ensures acted { OnOk result (x.new ≡ unheard K.signer (act.Send command) x.old) }
-    ensures fails_for_memory_alone { IfErr result (λ e. e ≡ refusal.Memory) }
+    ensures fails { IfErr result (λ e. ByRecord e (LinkLacks (unheard K.signer (act.Send command) x.old).link)) }
 {
-    drop(obey(alloc, &mut x.link, command)?);
+    drop(x.link.command(alloc, x.keys, command)?);
     Ok(())
 }
 
-/// The end acts; what it hands out is lost. 60 where there is no memory.
+/// The end acts; what it hands out is lost. 60 where there is no memory, 70 where it has no record behind that.
 pub(crate) fn act_unheard<K: ChannelKeys + Copy>(
     alloc: Global,
     x: &mut Place<K>,
     act: Act,
 ) -> Result<(), Refusal>
     ensures acted { OnOk result (x.new ≡ unheard K.signer act x.old) }
-    ensures fails_for_memory_alone { IfErr result (λ e. e ≡ refusal.Memory) }
+    ensures fails { IfErr result (λ e. ByRecord e (LinkLacks (unheard K.signer act x.old).link)) }
 {
     match act {
         Act::Deliver => deliver_unheard(alloc, x),
@@ -376,20 +374,20 @@ pub(crate) fn meet<K: ChannelKeys + Copy>(
         ++ (greet_lines ends.0 (greeting K.signer x.old.link) ++ greet_lines ends.1 (greeting K.signer y.old.link))) }
     ensures fails_for_memory_alone { IfErr result (λ e. e ≡ refusal.Memory) }
 {
-    let from_x = connect(alloc, &mut x.link)?;
-    let from_y = match connect(alloc, &mut y.link) {
+    let from_x = x.link.connect(alloc, x.keys)?;
+    let from_y = match y.link.connect(alloc, y.keys) {
         Ok(answer) => answer,
         Err(refusal) => {
             drop(from_x);
             return Err(refusal);
         }
     };
-    match greet(ends.0, &x.link, from_x, y, lines) {
+    match greet(ends.0, x.link(), from_x, y, lines) {
         Ok(()) => {}
         Err(refusal) => {
             drop(from_y);
             return Err(refusal);
         }
     }
-    greet(ends.1, &y.link, from_y, x, lines)
+    greet(ends.1, y.link(), from_y, x, lines)
 }

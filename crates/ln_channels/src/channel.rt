@@ -4,12 +4,15 @@ ghost use Rattle.std.specs.Prelude.{◌≡◌, ◌++◌, IfOk, IfErr, OnOk};
 ghost use Rattle.ln_msgs.specs.declared.refusals.refusal.Refusal.TheVariants as refusal;
 ghost use Rattle.ln_channels.specs.Settings.{CanBring};
 ghost use Rattle.ln_channels.specs.Channel.{opened_by, begun_by};
+ghost use Rattle.ln_channels.specs.Failing.{ByRecord, OpeningLacks};
 
 use crate::both::{Place, act, act_unheard, meet};
 use crate::line::{EndLine, Line};
+use crate::saved_link::SavedLink;
 use crate::settings::{Settings, fit_config, fit_spec};
 use crate::step::{Act, End, Node, Open};
-use ln_channel::{Command, Unsaved};
+use ln_bytes::Bytes;
+use ln_channel::Command;
 use ln_keys::{ChannelKeys, Role};
 use ln_msgs::Refusal;
 use std::alloc::Global;
@@ -49,7 +52,9 @@ impl<K: ChannelKeys + Copy> Channel<K> {
     ghost use Rattle.ln_channels.specs.Channel.{may_act, acted_unheard, halt_moves};
     ghost use Rattle.ln_channel.specs.Standing.{standing};
     ghost use Rattle.ln_channels.specs.World.{lines_of_ends};
-    ghost use Rattle.ln_channels.specs.Failing.{ByRecord, SideLacks};
+    ghost use Rattle.ln_channels.specs.Both.{unheard};
+    ghost use Rattle.ln_channels.specs.Failing.{ByRecord, LinkLacks, MovesLack, ActLacks};
+    ghost use Rattle.ln_channels.specs.Stored.{side_record};
 
     /// Its number.
     pub fn number(&self) -> u8
@@ -95,7 +100,7 @@ impl<K: ChannelKeys + Copy> Channel<K> {
         }
     }
 
-    /// One of its ends acts. 60 where there is no memory.
+    /// One of its ends acts. 60 where there is no memory, 70 where the end has no record as the act leaves it.
     #[tactic(auto, unfolding(crate::specs::Both::moves))]
     fn act_by(
         &mut self,
@@ -108,7 +113,8 @@ impl<K: ChannelKeys + Copy> Channel<K> {
         ensures told { OnOk result (lines.new.items ≡ lines.old.items ++ act_lines K.signer (end_of side self.old)
             (channel_id_of self.old.number) what (place_of side self.old.both)) }
         ensures number { self.new.number ≡ self.old.number }
-        ensures fails_for_memory_alone { IfErr result (λ e. e ≡ Refusal.Memory) }
+        ensures fails { IfErr result (λ e. ByRecord e
+            (LinkLacks (unheard K.signer what (place_of side self.old.both)).link)) }
     {
         match side {
             Role::Funder => {
@@ -139,7 +145,8 @@ impl<K: ChannelKeys + Copy> Channel<K> {
         }
     }
 
-    /// The node's end acts, where it has one; nobody does where a decision is sent. 60 where there is no memory.
+    /// The node's end acts, where it has one; nobody does where a decision is sent. 60 where there is no memory, 70
+    /// where the end has no record as the act leaves it.
     #[tactic(auto, unfolding(crate::specs::Channel::acted_lines))]
     pub fn act(
         &mut self,
@@ -152,7 +159,7 @@ impl<K: ChannelKeys + Copy> Channel<K> {
         ensures told { OnOk result (lines.new.items
             ≡ lines.old.items ++ acted_lines K.signer what self.old (actor node what self.old)) }
         ensures number { self.new.number ≡ self.old.number }
-        ensures fails_for_memory_alone { IfErr result (λ e. e ≡ Refusal.Memory) }
+        ensures fails { IfErr result (λ e. ByRecord e (ActLacks K.signer node what self.old)) }
     {
         match self.actor(node, &what) {
             None => {
@@ -175,7 +182,8 @@ impl<K: ChannelKeys + Copy> Channel<K> {
         }
     }
 
-    /// The node's end acts, where it has one; what it hands out is lost. 60 where there is no memory.
+    /// The node's end acts, where it has one; what it hands out is lost. 60 where there is no memory, 70 where the end
+    /// has no record as the act leaves it.
     pub(crate) fn act_unheard(
         &mut self,
         alloc: Global,
@@ -184,7 +192,7 @@ impl<K: ChannelKeys + Copy> Channel<K> {
     ) -> Result<(), Refusal>
         ensures acted { OnOk result (self.new ≡ acted_unheard K.signer node what self.old) }
         ensures number { self.new.number ≡ self.old.number }
-        ensures fails_for_memory_alone { IfErr result (λ e. e ≡ Refusal.Memory) }
+        ensures fails { IfErr result (λ e. ByRecord e (ActLacks K.signer node what self.old)) }
     {
         match self.side_of(node) {
             None => {
@@ -225,13 +233,12 @@ impl<K: ChannelKeys + Copy> Channel<K> {
         }
     }
 
-    /// The node's end comes back from its record, where it has one. 60 where there is no memory, 70 where the end has
-    /// no record.
+    /// The node's end comes back from its record, where it has one. 60 where there is no memory.
     #[tactic(auto, unfolding(crate::specs::Both::moves))]
     pub fn restart(&mut self, alloc: Global, node: Node) -> Result<(), Refusal>
         ensures moved { OnOk result (self.new ≡ moved K.signer (restart_moves node) self.old) }
         ensures number { self.new.number ≡ self.old.number }
-        ensures fails { IfErr result (λ e. ByRecord e (SideLacks (side_of node self.old) self.old.both)) }
+        ensures fails_for_memory_alone { IfErr result (λ e. e ≡ Refusal.Memory) }
     {
         match self.side_of(node) {
             None => Ok(()),
@@ -240,11 +247,26 @@ impl<K: ChannelKeys + Copy> Channel<K> {
         }
     }
 
+    /// The bytes of the record of the node's end, where it has one; none before both have signed the opening. 60 where
+    /// there is no memory.
+    pub(crate) fn record(&mut self, alloc: Global, node: Node) -> Result<Option<Bytes>, Refusal>
+        ensures record { IfOk result (λ found. found ≡ side_record (side_of node self.old) self.old.both) }
+        ensures changes_nothing { self.new ≡ self.old }
+        ensures fails_for_memory_alone { IfErr result (λ e. e ≡ Refusal.Memory) }
+    {
+        match self.side_of(node) {
+            None => Ok(None),
+            Some(Role::Funder) => self.funder.record(alloc),
+            Some(Role::Fundee) => self.fundee.record(alloc),
+        }
+    }
+
     /// Its ends connect, and each of the four messages of the opening is taken by the other end. Nothing is told of it.
-    /// 60 where there is no memory.
+    /// 60 where there is no memory, 70 where an end has no record as one of these acts leaves it.
     fn open(&mut self, alloc: Global) -> Result<(), Refusal>
         ensures moved { OnOk result (self.new ≡ moved K.signer (λ c. opening_moves) self.old) }
-        ensures fails_for_memory_alone { IfErr result (λ e. e ≡ Refusal.Memory) }
+        ensures fails { IfErr result (λ e. ByRecord e
+            (MovesLack K.signer (channel_id_of self.old.number) opening_moves self.old.both)) }
     {
         let mut lines = Vec::new(alloc);
         self.meet(alloc, &mut lines)?;
@@ -342,17 +364,18 @@ fn begin<K: ChannelKeys + Copy>(
         funder: Place::new(
             alloc,
             wish.keys.funder,
-            Unsaved::funder(wish.keys.funder, spec),
+            SavedLink::funder(alloc, wish.keys.funder, spec),
         ),
         fundee: Place::new(
             alloc,
             wish.keys.fundee,
-            Unsaved::fundee(wish.keys.fundee, config),
+            SavedLink::fundee(alloc, wish.keys.fundee, config),
         ),
     })
 }
 
-/// A channel is opened: each of the four messages is taken by the other end. 60 where there is no memory.
+/// A channel is opened: each of the four messages is taken by the other end. 60 where there is no memory, 70 where an
+/// end has no record as one of these acts leaves it.
 pub fn open_channel<K: ChannelKeys + Copy>(
     alloc: Global,
     wish: &Open<K>,
@@ -361,7 +384,7 @@ pub fn open_channel<K: ChannelKeys + Copy>(
 ) -> Result<Channel<K>, Refusal>
     requires { CanBring wish.now.satoshis wish.now.push funder.now fundee.now }
     ensures opened { IfOk result (λ c. c ≡ opened_by K.ChannelKeys wish.now funder.now fundee.now) }
-    ensures fails_for_memory_alone { IfErr result (λ e. e ≡ refusal.Memory) }
+    ensures fails { IfErr result (λ e. ByRecord e (OpeningLacks K.ChannelKeys wish.now funder.now fundee.now)) }
 {
     let mut channel = begin(alloc, wish, funder, fundee)?;
     match channel.open(alloc) {

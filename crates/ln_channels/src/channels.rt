@@ -1,18 +1,20 @@
 //! The channels of a world, each with a number of its own.
 
-ghost use Rattle.std.specs.Prelude.{◌≡◌, ◌++◌, ◌==◌, position, is_none, option_copied, IfErr, OnOk};
+ghost use Rattle.std.specs.Prelude.{◌≡◌, ◌++◌, ◌==◌, position, is_none, option_copied, IfOk, IfErr, OnOk};
 ghost use Rattle.ln_msgs.specs.declared.refusals.refusal.Refusal.TheVariants as refusal;
 ghost use Rattle.ln_channels.specs.Channel.{side_of, actor, acted_lines, fallen_lines, met_lines};
 ghost use Rattle.ln_channels.specs.Channel.{act_moves, fall_moves, restart_moves, up_moves};
 ghost use Rattle.ln_channels.specs.Channel.{halt_moves, stop_moves};
 ghost use Rattle.ln_channels.specs.World.{channel, moved_at, all_moved, if_there, lines_of_ends, AreOnce};
 ghost use Rattle.ln_channels.specs.World.{may_be_done, unheard_at};
-ghost use Rattle.ln_channels.specs.Failing.{ByRecord, SomeLacks};
+ghost use Rattle.ln_channels.specs.Failing.{ByRecord, ActLacksAt};
+ghost use Rattle.ln_channels.specs.Stored.{record_there};
 
 use crate::channel::{Channel, open_channel};
 use crate::line::{EndLine, Line};
 use crate::settings::Settings;
 use crate::step::{Act, End, Node, Open};
+use ln_bytes::Bytes;
 use ln_keys::{ChannelKeys, Role};
 use ln_msgs::Refusal;
 use std::alloc::Global;
@@ -60,7 +62,7 @@ fn tell_ends_at<K: ChannelKeys + Copy>(
     }
 }
 
-/// An end acts, where its channel is there. 60 where there is no memory.
+/// An end acts, where its channel is there. 60 where there is no memory, 70 where the end has no record behind that.
 fn act_at<K: ChannelKeys + Copy>(
     alloc: Global,
     channels: &mut [Channel<K>],
@@ -73,7 +75,7 @@ fn act_at<K: ChannelKeys + Copy>(
     ensures told { OnOk result (lines.new.items ≡ lines.old.items
         ++ if_there (λ c. acted_lines K.signer what c (actor end.node what c)) (channel end.channel channels.old)) }
     ensures once { AreOnce channels.new }
-    ensures fails_for_memory_alone { IfErr result (λ e. e ≡ refusal.Memory) }
+    ensures fails { IfErr result (λ e. ByRecord e (ActLacksAt K.signer end what channels.old)) }
 {
     match place_of(channels, end.channel) {
         None => {
@@ -119,7 +121,7 @@ fn halt_at<K: ChannelKeys + Copy>(channels: &mut [Channel<K>], end: End)
     }
 }
 
-/// Each end of a node comes back from its record. 60 where there is no memory, 70 where an end has no record.
+/// Each end of a node comes back from its record. 60 where there is no memory.
 fn restart_each<K: ChannelKeys + Copy>(
     alloc: Global,
     channels: &mut [Channel<K>],
@@ -128,7 +130,7 @@ fn restart_each<K: ChannelKeys + Copy>(
     requires { AreOnce channels.old }
     ensures moved { OnOk result (channels.new ≡ all_moved K.signer (restart_moves node) channels.old) }
     ensures once { AreOnce channels.new }
-    ensures fails { IfErr result (λ e. ByRecord e (SomeLacks node channels.old)) }
+    ensures fails_for_memory_alone { IfErr result (λ e. e ≡ refusal.Memory) }
 {
     for i in 0..channels.len() {
         channels[i].restart(alloc, node)?;
@@ -146,7 +148,8 @@ fn may_act_at<K: ChannelKeys + Copy>(channels: &[Channel<K>], end: End, what: &A
     }
 }
 
-/// An end acts, where its channel is there; what it hands out is lost. 60 where there is no memory.
+/// An end acts, where its channel is there; what it hands out is lost. 60 where there is no memory, 70 where the end
+/// has no record behind that.
 fn act_unheard_at<K: ChannelKeys + Copy>(
     alloc: Global,
     channels: &mut [Channel<K>],
@@ -156,7 +159,7 @@ fn act_unheard_at<K: ChannelKeys + Copy>(
     requires { AreOnce channels.old }
     ensures acted { OnOk result (channels.new ≡ unheard_at K.signer end what channels.old) }
     ensures once { AreOnce channels.new }
-    ensures fails_for_memory_alone { IfErr result (λ e. e ≡ refusal.Memory) }
+    ensures fails { IfErr result (λ e. ByRecord e (ActLacksAt K.signer end what channels.old)) }
 {
     match place_of(channels, end.channel) {
         None => {
@@ -167,8 +170,8 @@ fn act_unheard_at<K: ChannelKeys + Copy>(
     }
 }
 
-/// An end acts, and then its node stops, and comes back as it was saved. 60 where there is no memory, 70 where an end
-/// has no record.
+/// An end acts, and then its node stops, and comes back as it was saved. 60 where there is no memory, 70 where the end
+/// has no record behind the act.
 fn stop_each<K: ChannelKeys + Copy>(
     alloc: Global,
     channels: &mut [Channel<K>],
@@ -178,10 +181,27 @@ fn stop_each<K: ChannelKeys + Copy>(
     requires { AreOnce channels.old }
     ensures moved { OnOk result (channels.new ≡ all_moved K.signer (stop_moves end what) channels.old) }
     ensures once { AreOnce channels.new }
-    ensures fails { IfErr result (λ e. ByRecord e (SomeLacks end.node (unheard_at K.signer end what channels.old))) }
+    ensures fails { IfErr result (λ e. ByRecord e (ActLacksAt K.signer end what channels.old)) }
 {
     act_unheard_at(alloc, channels, end, what)?;
     restart_each(alloc, channels, end.node)
+}
+
+/// The bytes of an end's record, where its channel is there; none before both have signed the opening. 60 where there
+/// is no memory.
+fn record_at<K: ChannelKeys + Copy>(
+    alloc: Global,
+    channels: &mut [Channel<K>],
+    end: End,
+) -> Result<Option<Bytes>, Refusal>
+    ensures record { IfOk result (λ found. found ≡ record_there end.node (channel end.channel channels.old)) }
+    ensures changes_nothing { channels.new ≡ channels.old }
+    ensures fails_for_memory_alone { IfErr result (λ e. e ≡ refusal.Memory) }
+{
+    match place_of(channels, end.channel) {
+        None => Ok(None),
+        Some(i) => channels[i].record(alloc, end.node),
+    }
 }
 
 /// Both ends of a channel get a connection, where it is there and they may. 60 where there is no memory.
@@ -226,14 +246,15 @@ impl<K: ChannelKeys + Copy> Model for Channels<K> {
 }
 
 impl<K: ChannelKeys + Copy> Channels<K> {
-    ghost use Rattle.std.specs.Prelude.{◌≡◌, ◌++◌, ◌∷◌, [], is_none, None, OnOk, IfErr, option_copied};
+    ghost use Rattle.std.specs.Prelude.{◌≡◌, ◌++◌, ◌∷◌, [], is_none, None, OnOk, IfOk, IfErr, option_copied};
     ghost use Rattle.ln_channels.specs.Settings.{CanBring};
     ghost use Rattle.ln_channels.specs.Channel.{side_of, actor, acted_lines, fallen_lines, met_lines, opened_by};
     ghost use Rattle.ln_channels.specs.Channel.{act_moves, fall_moves, restart_moves, up_moves};
     ghost use Rattle.ln_channels.specs.Channel.{halt_moves, stop_moves};
     ghost use Rattle.ln_channels.specs.World.{channel, moved_at, all_moved, if_there, lines_of_ends};
     ghost use Rattle.ln_channels.specs.World.{may_be_done, unheard_at};
-    ghost use Rattle.ln_channels.specs.Failing.{ByRecord, SomeLacks};
+    ghost use Rattle.ln_channels.specs.Failing.{ByRecord, ActLacksAt, OpeningLacks};
+    ghost use Rattle.ln_channels.specs.Stored.{record_there};
 
     /// No channel. Takes no memory.
     pub(crate) fn new(alloc: Global) -> Channels<K>
@@ -258,7 +279,8 @@ impl<K: ChannelKeys + Copy> Channels<K> {
         is_free(&self.items, number)
     }
 
-    /// A channel is opened and joins. 60 where there is no memory.
+    /// A channel is opened and joins. 60 where there is no memory, 70 where an end has no record as an act of the
+    /// opening leaves it.
     pub(crate) fn open(
         &mut self,
         alloc: Global,
@@ -270,14 +292,16 @@ impl<K: ChannelKeys + Copy> Channels<K> {
         requires number { channel wish.now.channel self.old ≡ None }
         ensures joined { OnOk result (self.new
             ≡ self.old ++ opened_by K.ChannelKeys wish.now funder.now fundee.now ∷ []) }
-        ensures fails_for_memory_alone { IfErr result (λ e. e ≡ Refusal.Memory) }
+        ensures fails { IfErr result (λ e. ByRecord e
+            (OpeningLacks K.ChannelKeys wish.now funder.now fundee.now)) }
     {
         let channel = open_channel(alloc, wish, funder, fundee)?;
         self.items.push(channel)?;
         Ok(())
     }
 
-    /// An end acts, where its channel is there. 60 where there is no memory.
+    /// An end acts, where its channel is there. 60 where there is no memory, 70 where the end has no record behind
+    /// that.
     pub(crate) fn act(
         &mut self,
         alloc: Global,
@@ -288,7 +312,7 @@ impl<K: ChannelKeys + Copy> Channels<K> {
         ensures moved { OnOk result (self.new ≡ moved_at K.signer end.channel (act_moves end.node what) self.old) }
         ensures told { OnOk result (lines.new.items ≡ lines.old.items
             ++ if_there (λ c. acted_lines K.signer what c (actor end.node what c)) (channel end.channel self.old)) }
-        ensures fails_for_memory_alone { IfErr result (λ e. e ≡ Refusal.Memory) }
+        ensures fails { IfErr result (λ e. ByRecord e (ActLacksAt K.signer end what self.old)) }
     {
         act_at(alloc, &mut self.items, end, what, lines)
     }
@@ -310,10 +334,10 @@ impl<K: ChannelKeys + Copy> Channels<K> {
         halt_at(&mut self.items, end)
     }
 
-    /// Each end of a node comes back from its record. 60 where there is no memory, 70 where an end has no record.
+    /// Each end of a node comes back from its record. 60 where there is no memory.
     pub(crate) fn restart(&mut self, alloc: Global, node: Node) -> Result<(), Refusal>
         ensures moved { OnOk result (self.new ≡ all_moved K.signer (restart_moves node) self.old) }
-        ensures fails { IfErr result (λ e. ByRecord e (SomeLacks node self.old)) }
+        ensures fails_for_memory_alone { IfErr result (λ e. e ≡ Refusal.Memory) }
     {
         restart_each(alloc, &mut self.items, node)
     }
@@ -326,12 +350,21 @@ impl<K: ChannelKeys + Copy> Channels<K> {
     }
 
     /// An end acts, and then its node stops: what the act hands out is lost, and each end of the node comes back from
-    /// its record. 60 where there is no memory, 70 where an end has no record.
+    /// its record. 60 where there is no memory, 70 where the end has no record behind the act.
     pub(crate) fn stop(&mut self, alloc: Global, end: End, what: Act) -> Result<(), Refusal>
         ensures moved { OnOk result (self.new ≡ all_moved K.signer (stop_moves end what) self.old) }
-        ensures fails { IfErr result (λ e. ByRecord e (SomeLacks end.node (unheard_at K.signer end what self.old))) }
+        ensures fails { IfErr result (λ e. ByRecord e (ActLacksAt K.signer end what self.old)) }
     {
         stop_each(alloc, &mut self.items, end, what)
+    }
+
+    /// The bytes of an end's record, where its channel is there. 60 where there is no memory.
+    pub(crate) fn record(&mut self, alloc: Global, end: End) -> Result<Option<Bytes>, Refusal>
+        ensures record { IfOk result (λ found. found ≡ record_there end.node (channel end.channel self.old)) }
+        ensures changes_nothing { self.new ≡ self.old }
+        ensures fails_for_memory_alone { IfErr result (λ e. e ≡ Refusal.Memory) }
+    {
+        record_at(alloc, &mut self.items, end)
     }
 
     /// Both ends of a channel get a connection, where it is there and they may. 60 where there is no memory.

@@ -1,5 +1,5 @@
-//! Nodes and the channels between them, moved step by step: each end of a channel is an unsaved link of its own, and
-//! what it sends is in flight to the other end (BOLT 2).
+//! Nodes and the channels between them, moved step by step: each end of a channel is a link of its own, which saves
+//! what each call makes of it, and what it sends is in flight to the other end (BOLT 2).
 #![tactic(auto)]
 
 mod answer;
@@ -9,6 +9,7 @@ mod channels;
 mod laws;
 mod line;
 mod machine;
+mod saved_link;
 mod settings;
 mod step;
 mod tell;

@@ -2,8 +2,8 @@
 
 ghost use Rattle.std.specs.Prelude.{◌≡◌, position, OnOk, IfOk, IfErr, IsTrue};
 ghost use Rattle.ln_msgs.specs.declared.refusals.refusal.Refusal.TheVariants as refusal;
-ghost use Rattle.ln_channels.specs.Settings.{defaults, config_of, txid_of, channel_id_of, spec_of, may_bring};
-ghost use Rattle.ln_channels.specs.Settings.{CanBring};
+ghost use Rattle.ln_channels.specs.Settings.{defaults, config_with, config_of, txid_of, channel_id_of, spec_of};
+ghost use Rattle.ln_channels.specs.Settings.{may_bring, CanBring};
 ghost use Rattle.ln_channels.specs.Channel.{is_node};
 ghost use Rattle.ln_channels.specs.World.{settings_of, with_settings};
 ghost use Rattle.ln_channel.specs.Config.{IsFitConfig, IsFitSpec};
@@ -76,13 +76,11 @@ const POINTS: Points = Points {
     htlc_basepoint: [2; 33],
 };
 
-/// What a node opens channels with, as its links take it. 60 where there is no memory.
-pub(crate) fn config_of(alloc: Global, node: Node, settings: &Settings) -> Result<Config, Refusal>
-    ensures config { IfOk result (λ c. c ≡ config_of node settings.now) }
-    ensures fails_for_memory_alone { IfErr result (λ e. e ≡ refusal.Memory) }
+/// What was set, as links take it, with this script. Takes no memory.
+fn config_with(settings: &Settings, script: Bytes) -> Config
+    ensures { result ≡ config_with settings.now script }
 {
-    let script = Vec::from_slice(alloc, &[node.letter])?;
-    Ok(Config {
+    Config {
         limits: settings.limits,
         chain_hash: [0; 32],
         dust_limit: 546,
@@ -92,8 +90,23 @@ pub(crate) fn config_of(alloc: Global, node: Node, settings: &Settings) -> Resul
         first: settings.fees.first,
         least: settings.fees.least,
         greatest: settings.fees.greatest,
-        script: Bytes::new(script),
-    })
+        script,
+    }
+}
+
+/// What a node opens channels with, as its links take it. 60 where there is no memory.
+pub(crate) fn config_of(alloc: Global, node: Node, settings: &Settings) -> Result<Config, Refusal>
+    ensures config { IfOk result (λ c. c ≡ config_of node settings.now) }
+    ensures fails_for_memory_alone { IfErr result (λ e. e ≡ refusal.Memory) }
+{
+    let script = Vec::from_slice(alloc, &[node.letter])?;
+    Ok(config_with(settings, Bytes::new(script)))
+}
+
+/// What a link awaits a channel with that no node was named for: the defaults, and no script. Takes no memory.
+pub(crate) fn nameless_config(alloc: Global) -> FitConfig {
+    let script = Bytes::new(Vec::new(alloc));
+    FitConfig::new(config_with(&Settings::defaults(), script))
 }
 
 /// The id of the funding transaction of the channel with this number.

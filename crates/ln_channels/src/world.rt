@@ -7,6 +7,7 @@ use crate::channels::Channels;
 use crate::line::{EndLine, Line};
 use crate::settings::{Setting, Settings, may_bring, set_for, settings_of};
 use crate::step::{Act, End, Node, Open, Step};
+use ln_bytes::Bytes;
 use ln_close::Fees;
 use ln_keys::ChannelKeys;
 use ln_log::Limits;
@@ -36,6 +37,7 @@ impl<K: ChannelKeys + Copy> World<K> {
     ghost use Rattle.ln_channels.specs.World.{empty, channel, settings_of, may_open, happens, step_lines};
     ghost use Rattle.ln_channels.specs.World.{run, run_lines, end_lines, may_be_done};
     ghost use Rattle.ln_channels.specs.Failing.{MayFail, SomeMayFail};
+    ghost use Rattle.ln_channels.specs.Stored.{record_at};
 
     /// No channel, and nothing was set. Takes no memory.
     pub fn new(alloc: Global) -> World<K>
@@ -88,7 +90,7 @@ impl<K: ChannelKeys + Copy> World<K> {
         ensures world { OnOk result (self.new ≡ happens K.ChannelKeys (step.Open wish.now) self.old) }
         ensures told { OnOk result (lines.new.items
             ≡ lines.old.items ++ step_lines K.ChannelKeys (step.Open wish.now) self.old) }
-        ensures fails_for_memory_alone { IfErr result (λ e. e ≡ Refusal.Memory) }
+        ensures fails { IfErr result (λ e. MayFail K.ChannelKeys (step.Open wish.now) e self.old) }
     {
         if !self.may_open(wish) {
             lines.push(Line::Idle)?;
@@ -134,8 +136,7 @@ impl<K: ChannelKeys + Copy> World<K> {
         Ok(())
     }
 
-    /// The end's node stops before that acts, where it can act. 60 where there is no memory, 70 where an end of the
-    /// node has no record.
+    /// The end's node stops before that acts, where it can act. 60 where there is no memory.
     fn stop_before(
         &mut self,
         alloc: Global,
@@ -146,7 +147,7 @@ impl<K: ChannelKeys + Copy> World<K> {
         ensures world { OnOk result (self.new ≡ happens K.ChannelKeys (step.StopBefore end what) self.old) }
         ensures told { OnOk result (lines.new.items
             ≡ lines.old.items ++ step_lines K.ChannelKeys (step.StopBefore end what) self.old) }
-        ensures fails { IfErr result (λ e. MayFail K.ChannelKeys (step.StopBefore end what) e self.old) }
+        ensures fails_for_memory_alone { IfErr result (λ e. e ≡ Refusal.Memory) }
     {
         let may_act = self.channels.may_act(end, &what);
         drop(what);
@@ -159,8 +160,8 @@ impl<K: ChannelKeys + Copy> World<K> {
         Ok(())
     }
 
-    /// The end's node stops behind the act's save, where it can act. 60 where there is no memory, 70 where an end of
-    /// the node has no record.
+    /// The end's node stops behind the act's save, where it can act. 60 where there is no memory, 70 where the end has
+    /// no record as the act leaves it.
     fn stop_after(
         &mut self,
         alloc: Global,
@@ -183,19 +184,32 @@ impl<K: ChannelKeys + Copy> World<K> {
         Ok(())
     }
 
+    /// The bytes of the record that an end's store has, which is of the end as it is now (`ln_link::to_record`), and
+    /// what a restart of its node finds; none where there is no such end. Takes memory for them; 60 where there is
+    /// none.
+    pub fn record(&mut self, alloc: Global, end: End) -> Result<Option<Bytes>, Refusal>
+        ensures record { IfOk result (λ found. found ≡ record_at end self.old) }
+        ensures changes_nothing { self.new ≡ self.old }
+        ensures fails_for_memory_alone { IfErr result (λ e. e ≡ Refusal.Memory) }
+    {
+        self.channels.record(alloc, end)
+    }
+
     /// What happens in a step, and what is told of it, which joins the lines.
     ///
     /// What was set for a node counts in the channels that are opened from then on. A channel opens (BOLT 2, "Channel
     /// Establishment v1") where no other has its number, its ends are at two nodes, and `may_bring` takes what both
     /// bring; an end acts or loses its connection where its channel is there and the node has an end of it, and takes a
     /// message where one is in flight to it; both ends of a channel get a connection where both are down and neither
-    /// has halted. Else nothing changes, and `Line::Idle` is told. Where a node restarts, each of its ends has its
-    /// record written and comes back from it; nothing is told of that, nor where the node has no end. Where it stops
+    /// has halted. Else nothing changes, and `Line::Idle` is told. Where a node restarts, each of its ends is loaded
+    /// from its record and comes back so; nothing is told of that, nor where the node has no end. Where it stops
     /// before or after an act of one of its ends, which has to be one that can act, `Line::Restarts` is told, and
     /// nothing of the act. Where an end has no memory for an act, which has to be one that it can do, 60 is told of it
     /// and nothing else, whatever the act would have come to.
     ///
-    /// Errors: 60 where there is no memory; at a restart or a stop 70 where an end of the node has no record.
+    /// Errors: 60 where there is no memory; 70 where an end has no record as an act or the opening leaves it, which is
+    /// never so of steps that are as wide as in code (`every_end_has_a_record`). Behind an error that end has halted,
+    /// and its record is gone.
     pub fn step(
         &mut self,
         alloc: Global,

@@ -18,11 +18,11 @@ by_record r (inr h) = inr (h.0, inr (refl, h.1))
 pub fails_so : (s : ToyStep) (r : Refusal) (w : World ToyKeys) → MayFail toy s r w → StepFails s r w
 fails_so (step.Fees n fees) r w h = inl h
 fails_so (step.Limits n limits) r w h = inl h
-fails_so (step.Open o) r w h = inl h
-fails_so (step.Do e a) r w h = inl h
+fails_so (step.Open o) r w h = by_record r h
+fails_so (step.Do e a) r w h = by_record r h
 fails_so (step.Down e) r w h = inl h
 fails_so (step.NoMemory e a) r w h = inl h
-fails_so (step.Restart n) r w h = by_record r h
-fails_so (step.StopBefore e a) r w h = by_record r h
+fails_so (step.Restart n) r w h = inl h
+fails_so (step.StopBefore e a) r w h = inl h
 fails_so (step.StopAfter e a) r w h = by_record r h
 fails_so (step.Up n) r w h = inl h

@@ -39,7 +39,7 @@ report_from ss w = steps_text ss w ++ ends_text (run toy ss w)
 abbrev pub report_text : List ToyStep → List ℕ
 report_text ss = report_from ss empty
 
--- by what telling a step may fail: for want of memory (60), and where a node restarts by an end without a record (70)
+-- by what telling a step may fail: for want of memory (60), and where an end acts by one that has no record then (70)
 abbrev pub StepFails : ToyStep → Refusal → World ToyKeys → Type 0
 StepFails s r w = (r ≡ refusal.Memory) ⊎ ((r ≡ refusal.Damaged) × MayFail toy s refusal.Damaged w)
 

@@ -171,9 +171,9 @@ fn print_ends<W: Write>(
 /// before the next is taken, and at last how the ends of each channel stand. Takes memory for the world and for the
 /// text of one step.
 ///
-/// Errors: 60 where there is no memory; 63 where a call of the writer fails; 70 where a node restarts and an end of it
-/// has no record, which is never so of steps that a script brings (`ln_channels::every_end_has_a_record`). What was
-/// written by then is a beginning of the report.
+/// Errors: 60 where there is no memory; 63 where a call of the writer fails; 70 where an end acts and has no record
+/// then, which is never so of steps that a script brings (`ln_channels::every_end_has_a_record`). What was written by
+/// then is a beginning of the report.
 pub fn print_report<W: Write>(
     alloc: Global,
     steps: Vec<Step<ToyKeys>>,

@@ -99,9 +99,10 @@ pub fn channels_open_as_set<K: ChannelKeys + Copy>()
         (channels.channel number (run K.ChannelKeys steps (empty hooks)).channels.channels) }
 {}
 
-/// A law: each end of a channel has a record, so that a node's restart never fails by 70 (BOLT 2, "Message
-/// Retransmission"). What the steps bring is as wide as it is in code: limits, and what commands bring, are numbers of
-/// 16, 32 and 64 bits, hashes and preimages of 32 bytes and onions of 1,366; secrets have 32 bytes.
+/// A law: each end of a channel has a record, so that each act and each opening can be saved, and no step fails by 70
+/// (BOLT 2, "Message Retransmission"). What the steps bring is as wide as it is in code: limits, and what commands
+/// bring, are numbers of 16, 32 and 64 bits, hashes and preimages of 32 bytes and onions of 1,366; secrets have 32
+/// bytes.
 pub fn every_end_has_a_record<K: ChannelKeys + Copy>()
     ensures records { (steps : List (Step K K.ChannelKeys × Verdict)) (hooks : ℕ) → BringFit K.ChannelKeys steps
         → AreSteps K.ChannelKeys steps → OfEach HaveRecords (run K.ChannelKeys steps (empty hooks)) }

@@ -331,7 +331,7 @@ impl<K: ChannelKeys + Copy> Nodes<K> {
         ensures world { OnOk result (self.new ≡ happens K.ChannelKeys Continue (step.Open wish) self.old) }
         ensures told { OnOk result (lines.new.items
             ≡ lines.old.items ++ step_lines K.ChannelKeys Continue (step.Open wish) self.old) }
-        ensures fails_for_memory_alone { IfErr result (λ e. e ≡ Refusal.Memory) }
+        ensures fails { IfErr result (λ e. MayFail K.ChannelKeys (step.Open wish) e self.old) }
     {
         let channel = wish.channel;
         let funder = wish.funder;
@@ -410,7 +410,7 @@ impl<K: ChannelKeys + Copy> Nodes<K> {
     /// stops, its dispatchers give up their hooks, and begin at the first event that isn't decided. What can't be done
     /// changes nothing, and `Line::Idle` is told.
     ///
-    /// Errors: 60 where there is no memory; at a restart or a stop 70 where an end of the node has no record.
+    /// Errors: 60 where there is no memory; 70 where an end has no record as an act or the opening leaves it.
     pub fn step(
         &mut self,
         alloc: Global,

@@ -1,5 +1,7 @@
 use Rattle.std.proofs.Common.{◌++◌, sym, ap, ◌∙◌}
 use Rattle.ln_channels.specs.Channel.{actor, act_moves, acted_lines}
+use Rattle.std.proofs.lemmas.Result.{IfErr-weaker}
+use Rattle.ln_channels.proofs.Lacking.{by_record, lacks_there}
 use Rattle.ln_channels.proofs.Moving.{on_ok}
 use Rattle.ln_channels.proofs.Places.{placed, nowhere, not_found, once-set, there_is, there_is_none}
 use Rattle.ln_channels.proofs.channels.act_at.Goals as goal
@@ -33,3 +35,8 @@ returns-in-Some-clause-told g c =
 pub returns-in-Some-clause-once : goal.returns-in-Some-clause-once
 returns-in-Some-clause-once g c =
     once-set c.args.channels.now c.in-Some.i _ c.act.new.self c.act.ensures.number c.requires
+
+pub returns-in-Some-clause-fails : goal.returns-in-Some-clause-fails
+returns-in-Some-clause-fails g c =
+    IfErr-weaker c.act.result _ _ (λ r. by_record r _ _ (lacks_there g.K.ChannelKeys.signer c.args.end c.args.what
+    c.args.channels.now c.in-Some.i _ (sym c.in-Some.is ∙ c.place_of.ensures))) c.act.ensures.fails
