@@ -9,6 +9,15 @@ use ln_commands::{Choice, Failure};
 use ln_msgs::Refusal;
 use std::alloc::{AllocError, Global};
 
+/// What the words of the command line ask for.
+#[derive(Drop)]
+pub enum Asked {
+    /// What is done over any reader and writer.
+    Command(Choice),
+    /// `demo`: three nodes in this process, a payment over the middle one, and the close of both channels.
+    Demo,
+}
+
 /// The program's commands, as the command line crate reads them.
 fn commands<'a>(alloc: Global) -> Result<Command<'a>, AllocError> {
     let hex = Arg::new(alloc, "hex")
@@ -22,28 +31,34 @@ fn commands<'a>(alloc: Global) -> Result<Command<'a>, AllocError> {
         .disable_help_subcommand(true)
         .subcommand(decode)?
         .subcommand(Command::new(alloc, "answer"))?
+        .subcommand(Command::new(alloc, "demo"))?
         .subcommand(Command::new(alloc, "sim"))
 }
 
 /// What the words that were read choose.
-fn chosen(alloc: Global, matches: &ArgMatches) -> Result<Choice, Failure>
+fn chosen(alloc: Global, matches: &ArgMatches) -> Result<Asked, Failure>
     ensures { IfErr result (λ e. (e ≡ Failure.Usage) ⊎ (e ≡ Failure.Refused Memory)) }
 {
     match matches.subcommand() {
-        Some(("answer", _)) => Ok(Choice::Answer),
-        Some(("sim", _)) => Ok(Choice::Simulate),
+        Some(("answer", _)) => Ok(Asked::Command(Choice::Answer)),
+        Some(("sim", _)) => Ok(Asked::Command(Choice::Simulate)),
+        Some(("demo", _)) => Ok(Asked::Demo),
         Some(("decode", inner)) => match inner.get_str("hex") {
-            Some(text) => Ok(Choice::Decode(String::from_str(alloc, text)?)),
+            Some(text) => {
+                let hex = String::from_str(alloc, text)?;
+                Ok(Asked::Command(Choice::Decode(hex)))
+            }
             None => Err(Failure::Usage),
         },
         _ => Err(Failure::Usage),
     }
 }
 
-/// The command that the words behind the program's name are: `answer`, `decode` and a text, or `sim`. Takes memory.
+/// The command that the words behind the program's name are: `answer`, `decode` and a text, `sim`, or `demo`. Takes
+/// memory.
 ///
 /// Other words, none at all and a call for help are usage; 60 where there is no memory for the parse.
-pub fn choose(alloc: Global, words: &[String]) -> Result<Choice, Failure>
+pub fn choose(alloc: Global, words: &[String]) -> Result<Asked, Failure>
     ensures { IfErr result (λ e. (e ≡ Failure.Usage) ⊎ (e ≡ Failure.Refused Memory)) }
 {
     let command = commands(alloc)?;

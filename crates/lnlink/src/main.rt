@@ -3,12 +3,16 @@
 
 mod choice;
 
-use choice::choose;
+use choice::{Asked, choose};
 use ln_commands::{Failure, perform};
+use ln_demo::demo;
 use ln_msgs::{Counted, Refusal};
 use std::env::Env;
 use std::io::ErrorKind;
+use std::net::{Net, TcpListener, TcpStream};
 use std::process::ExitCode;
+use std::sync::Wait;
+use std::thread::Threads;
 use std::{env, io};
 
 fn main(rt: HostRuntime) -> ExitCode {
@@ -22,11 +26,22 @@ fn main(rt: HostRuntime) -> ExitCode {
 }
 
 /// Runs what the command line asks for, with standard input and output.
-fn run<R: Env + Input + Print + AllocGlobal>(rt: &R) -> Result<(), Failure> {
-    let choice = choose(rt.alloc(), words(rt)?.as_slice())?;
-    let mut reader = Counted::new(rt.reader());
+fn run<R>(rt: &R) -> Result<(), Failure>
+where
+    R: Env + Input + Print + AllocGlobal + Threads + Wait + Copy + Send + 'static,
+    R: Net<Listener = TcpListener, Stream = TcpStream>,
+{
     let mut writer = Counted::new(io::writer(rt));
-    perform(rt.alloc(), choice, &mut reader, &mut writer)
+    match choose(rt.alloc(), words(rt)?.as_slice())? {
+        Asked::Demo => match demo(*rt, rt.alloc(), &mut writer) {
+            Ok(()) => Ok(()),
+            Err(refusal) => Err(Failure::Refused(refusal)),
+        },
+        Asked::Command(choice) => {
+            let mut reader = Counted::new(rt.reader());
+            perform(rt.alloc(), choice, &mut reader, &mut writer)
+        }
+    }
 }
 
 /// The words behind the program's name. Words that aren't text are no command.

@@ -1,4 +1,4 @@
-use crate::choice::choose;
+use crate::choice::{Asked, choose};
 use ln_commands::Choice;
 use std::alloc::Global;
 use std::test::*;
@@ -10,9 +10,10 @@ fn told(alloc: Global, words: &[&str]) -> Result<String, Fail> {
         all.push(String::from_str(alloc, word)?)?;
     }
     let text = match choose(alloc, all.as_slice()) {
-        Ok(Choice::Answer) => String::from_str(alloc, "answer")?,
-        Ok(Choice::Simulate) => String::from_str(alloc, "sim")?,
-        Ok(Choice::Decode(hex)) => hex,
+        Ok(Asked::Command(Choice::Answer)) => String::from_str(alloc, "answer")?,
+        Ok(Asked::Command(Choice::Simulate)) => String::from_str(alloc, "sim")?,
+        Ok(Asked::Command(Choice::Decode(hex))) => hex,
+        Ok(Asked::Demo) => String::from_str(alloc, "demo")?,
         Err(failure) => format!(in alloc; "{failure}, {}", failure.status())?,
     };
     Ok(text)
@@ -23,6 +24,8 @@ fn command_lines(rt: HostRuntime) -> Result<(), Fail> {
     for (words, text) in [
         (["answer"].as_slice(), "answer"),
         (["sim"].as_slice(), "sim"),
+        (["demo"].as_slice(), "demo"),
+        (["demo", "more"].as_slice(), "usage, 2"),
         (["decode", "0015"].as_slice(), "0015"),
         (["decode", " 0015"].as_slice(), " 0015"),
         (["decode", ""].as_slice(), ""),

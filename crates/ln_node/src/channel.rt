@@ -1,0 +1,207 @@
+//! What a node has of a channel: its threads, and the seats that callers use.
+
+use crate::reader::{Shared, Source};
+use crate::socket::{Slot, Socket};
+use crate::start::{start_dispatcher, start_reader, start_worker};
+use ln_channel::Command;
+use ln_msgs::Message;
+use ln_relay::{RecvSeat, SendSeat, Sends, WaitRecv, WaitSend, relay, waiting_relay};
+use ln_turns::{Bench, End, Item, ReadsEnds, Table, Task, Worker, put};
+use std::alloc::{AllocError, Global};
+use std::net::{Net, OpenStream, Shutdown, SocketAddr, TcpListener, TcpStream};
+use std::sync::atomic::AtomicU64;
+use std::sync::{Arc, Mutex, Wait};
+use std::thread::{JoinHandle, Threads};
+
+/// How many items the relay of a worker holds.
+const ITEMS: usize = 256;
+
+/// How many tasks the relay of a dispatcher holds.
+const TASKS: usize = 1024;
+
+/// A worker with its seats.
+pub(crate) type EndBench<E, H> = Bench<E, Socket, RecvSeat<Item<Socket>>, WaitSend<Task<H>>>;
+
+/// A channel of a node, whose end is an `E`.
+#[derive(Drop)]
+pub(crate) struct Channel<E: Drop, H: Drop, T: Drop> {
+    orders: Mutex<SendSeat<Item<Socket>>>,
+    hooks: Mutex<WaitSend<Task<H>>>,
+    bound: Option<SocketAddr>,
+    slot: Slot,
+    reader: JoinHandle<SendSeat<Item<Socket>>>,
+    worker: JoinHandle<EndBench<E, H>>,
+    dispatcher: JoinHandle<(WaitRecv<Task<H>>, T)>,
+}
+
+/// What a new channel is made of.
+#[derive(Drop)]
+pub(crate) struct Parts<E: Drop, B: Drop, T: Drop> {
+    /// The end that its worker has.
+    pub(crate) end: E,
+    /// The init that greets its peer.
+    pub(crate) greeting: Box<Message>,
+    /// The node's book, as its worker reaches it.
+    pub(crate) book: B,
+    /// And as its dispatcher does.
+    pub(crate) decisions: B,
+    pub(crate) table: T,
+    pub(crate) stopping: Arc<AtomicU64>,
+    pub(crate) source: Source,
+    pub(crate) bound: Option<SocketAddr>,
+}
+
+// Hands a command on, unless the relay is full.
+fn order<R: Wait>(
+    rt: &R,
+    seat: &mut SendSeat<Item<Socket>>,
+    command: Command,
+) -> Result<(), Command> {
+    match seat.send(rt, Item::Order(command)) {
+        Err(Item::Order(back)) => Err(back),
+        _ => Ok(()),
+    }
+}
+
+// Hands a hook on, unless the relay is full.
+fn register<H: Drop, R: Wait>(rt: &R, seat: &mut WaitSend<Task<H>>, hook: H) -> Result<(), H> {
+    match seat.send(rt, Task::Register(hook)) {
+        Err(Task::Register(back)) => Err(back),
+        _ => Ok(()),
+    }
+}
+
+// Stops a dispatcher, and joins it.
+fn stop_dispatcher<H: Drop, T: Drop, R: Threads + Wait>(
+    rt: &R,
+    seat: WaitSend<Task<H>>,
+    dispatcher: JoinHandle<(WaitRecv<Task<H>>, T)>,
+) {
+    let mut seat = seat;
+    put(rt, &mut seat, Task::Stop);
+    drop(dispatcher.join(rt));
+}
+
+// Stops a worker, and joins it.
+fn stop_worker<E: Drop, H: Drop, R: Threads + Wait>(
+    rt: &R,
+    seat: SendSeat<Item<Socket>>,
+    worker: JoinHandle<EndBench<E, H>>,
+) {
+    let mut seat = seat;
+    put(rt, &mut seat, Item::Stop);
+    drop(worker.join(rt));
+}
+
+impl<E: Drop, H: Drop, T: Drop> Channel<E, H, T> {
+    /// Hands a command to its worker; a full relay hands it back.
+    pub(crate) fn order<R: Wait>(&self, rt: &R, command: Command) -> Result<(), Command> {
+        let mut seat = self.orders.lock(rt);
+        order(rt, &mut seat, command)
+    }
+
+    /// Hands a hook to its dispatcher; a full relay hands it back.
+    pub(crate) fn register_hook<R: Wait>(&self, rt: &R, hook: H) -> Result<(), H> {
+        let mut seat = self.hooks.lock(rt);
+        register(rt, &mut seat, hook)
+    }
+
+    /// Shuts its connection, and ends an accept that waits by a connection of the node's own.
+    pub(crate) fn shut<R>(&self, rt: &R)
+    where
+        R: Net<Listener = TcpListener, Stream = TcpStream> + Wait,
+    {
+        if let Some(stream) = self.slot.lock(rt).take() {
+            let _ = stream.shutdown(Shutdown::Both);
+        }
+        if let Some(bound) = self.bound {
+            let _ = TcpStream::connect(rt, bound);
+        }
+    }
+
+    /// Joins its threads, the reader first: it is shut.
+    pub(crate) fn end<R: Threads + Wait>(self, rt: &R) {
+        let Channel {
+            orders,
+            hooks,
+            bound: _,
+            slot: _,
+            reader,
+            worker,
+            dispatcher,
+        } = self;
+        drop(reader.join(rt));
+        stop_worker(rt, orders.into_inner(), worker);
+        stop_dispatcher(rt, hooks.into_inner(), dispatcher);
+    }
+}
+
+/// Starts the threads of a channel: its dispatcher, its worker, its reader. Takes memory for its relays. Nothing where
+/// there is no memory, or no thread can be made.
+pub(crate) fn start<E, B, H, T, R>(
+    rt: R,
+    alloc: Global,
+    parts: Parts<E, B, T>,
+) -> Result<Channel<E, H, T>, AllocError>
+where
+    E: End + Drop + Send + 'static,
+    B: ReadsEnds<E> + Drop + Send + 'static,
+    H: Drop + Send + 'static,
+    T: Table<H> + Drop + Send + 'static,
+    R: Threads + Wait + Copy + Send + 'static,
+{
+    let Parts {
+        end,
+        greeting,
+        book,
+        decisions,
+        table,
+        stopping,
+        source,
+        bound,
+    } = parts;
+    let slot: Slot = Arc::new(alloc, Mutex::new(None))?;
+    let shared = Shared {
+        slot: Arc::try_clone(&slot)?,
+        stopping,
+    };
+    let (first, orders, items) = relay::<Item<Socket>>(alloc, ITEMS)?;
+    let (events, hooks, tasks) = waiting_relay::<Task<H>>(alloc, TASKS)?;
+    let bench = Bench {
+        worker: Worker::new(end),
+        items,
+        tasks: events,
+    };
+    let Some(dispatcher) = start_dispatcher::<H, WaitRecv<Task<H>>, T, B, R>(
+        rt, alloc, tasks, table, decisions,
+    ) else {
+        return Err(AllocError);
+    };
+    let Some(worker) = start_worker::<
+        E,
+        Socket,
+        RecvSeat<Item<Socket>>,
+        H,
+        WaitSend<Task<H>>,
+        B,
+        R,
+    >(rt, alloc, greeting, bench, book) else {
+        stop_dispatcher(&rt, hooks, dispatcher);
+        return Err(AllocError);
+    };
+    let Some(reader) = start_reader::<SendSeat<Item<Socket>>, R>(rt, alloc, source, first, shared)
+    else {
+        stop_worker(&rt, orders, worker);
+        stop_dispatcher(&rt, hooks, dispatcher);
+        return Err(AllocError);
+    };
+    Ok(Channel {
+        orders: Mutex::new(orders),
+        hooks: Mutex::new(hooks),
+        bound,
+        slot,
+        reader,
+        worker,
+        dispatcher,
+    })
+}

@@ -1,0 +1,78 @@
+//! The threads of a channel, each started by a function of its own that is generic over what it carries.
+
+use crate::reader::{Shared, Source, read_source};
+use crate::socket::Socket;
+use ln_msgs::Message;
+use ln_relay::{Receives, Sends, Waits};
+use ln_turns::{
+    Bench, Books, Closes, End, Item, ReadsEnds, Table, Task, dispatch_loop, worker_loop,
+};
+use std::alloc::Global;
+use std::sync::Wait;
+use std::thread;
+use std::thread::{JoinHandle, Threads};
+
+/// Starts the thread of a channel's connections.
+pub(crate) fn start_reader<S, R>(
+    rt: R,
+    alloc: Global,
+    source: Source,
+    seat: S,
+    shared: Shared,
+) -> Option<JoinHandle<S>>
+where
+    S: Sends<Item<Socket>> + Drop + Send + 'static,
+    R: Threads + Wait + Copy + Send + 'static,
+{
+    thread::spawn(
+        &rt,
+        move || read_source(&rt, alloc, source, seat, &shared.slot, &shared.stopping),
+    )
+    .ok()
+}
+
+/// Starts the thread of a channel's end.
+pub(crate) fn start_worker<E, W, I, H, T, B, R>(
+    rt: R,
+    alloc: Global,
+    greeting: Box<Message>,
+    bench: Bench<E, W, I, T>,
+    book: B,
+) -> Option<JoinHandle<Bench<E, W, I, T>>>
+where
+    E: End + Drop + Send + 'static,
+    W: Closes + Drop + Send + 'static,
+    I: Receives<Item<W>> + Drop + Send + 'static,
+    H: Drop + Send + 'static,
+    T: Sends<Task<H>> + Drop + Send + 'static,
+    B: ReadsEnds<E> + Drop + Send + 'static,
+    R: Threads + Wait + Copy + Send + 'static,
+{
+    thread::spawn(
+        &rt,
+        move || worker_loop::<E, W, I, H, T, B, R>(&rt, alloc, &greeting, &[], bench, &book),
+    )
+    .ok()
+}
+
+/// Starts the thread of a channel's hooks.
+pub(crate) fn start_dispatcher<H, S, T, B, R>(
+    rt: R,
+    alloc: Global,
+    seat: S,
+    table: T,
+    book: B,
+) -> Option<JoinHandle<(S, T)>>
+where
+    H: Drop + Send + 'static,
+    S: Waits<Task<H>> + Drop + Send + 'static,
+    T: Table<H> + Drop + Send + 'static,
+    B: Books + Drop + Send + 'static,
+    R: Threads + Wait + Copy + Send + 'static,
+{
+    thread::spawn(
+        &rt,
+        move || dispatch_loop::<H, S, T, B, R>(&rt, alloc, seat, table, &book),
+    )
+    .ok()
+}

@@ -1,0 +1,11 @@
+//! Tests of running nodes over loopback, by their public calls alone: hooks and workers beside each other, the demo.
+#![tactic(auto)]
+
+mod frames;
+
+pub use frames::ping_frame;
+
+#[cfg(test)]
+mod client;
+#[cfg(test)]
+mod tests;
