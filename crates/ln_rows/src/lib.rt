@@ -9,6 +9,8 @@ pub use told::is_told;
 #[cfg(test)]
 mod memory;
 #[cfg(test)]
+mod records;
+#[cfg(test)]
 mod restarts;
 #[cfg(test)]
 mod rows;
