@@ -3,6 +3,8 @@
 ghost use Rattle.std.specs.Prelude.{◌≡◌};
 ghost use Rattle.ln_node.specs.Route.{minimum_told};
 
+use crate::bell::Bell;
+use crate::notices::Notices;
 use ln_book::Book;
 use ln_channel::{Channel, Command, Unsaved};
 use ln_forward::Policy;
@@ -11,7 +13,7 @@ use ln_keys::{ChannelKeys, Onion, Role};
 use ln_log::ChannelId;
 use ln_msgs::Refusal;
 use ln_store::RecordStore;
-use ln_turns::{Books, End, ReadsEnds, SavedLink};
+use ln_turns::{Books, End, Notice, ReadsEnds, SavedLink};
 use std::alloc::{AllocError, Global};
 use std::sync::atomic::{AtomicU64, Ordering};
 use std::sync::{Arc, Mutex, OnceLock, Wait};
@@ -26,26 +28,48 @@ pub struct SharedBook<O: Drop> {
     policy: Policy,
     // What the book was told of the channel's end last.
     told: AtomicU64,
+    // Sounds where a worker of the node may have something to do.
+    bell: Arc<Bell>,
+    notices: Arc<Notices>,
+    // The channel's number.
+    number: usize,
+}
+
+/// What all channels of a node share.
+#[derive(Drop)]
+pub(crate) struct Common<O: Drop> {
+    /// The node's book.
+    pub(crate) book: Arc<Mutex<Book>>,
+    /// How it opens onions.
+    pub(crate) onion: O,
+    /// What it asks for forwarding.
+    pub(crate) policy: Policy,
+    /// Sounds where a worker may have something to do.
+    pub(crate) bell: Arc<Bell>,
+    /// What has become of its channels.
+    pub(crate) notices: Arc<Notices>,
 }
 
 /// Nothing was told yet.
 const NOTHING: u64 = 4;
 
 impl<O: Onion + Copy + Drop> SharedBook<O> {
-    /// The book, for a channel that has no id yet. Takes memory for the id.
-    pub fn new(
+    /// The book, for this channel of the node, which has no id yet. Takes memory for the id.
+    pub(crate) fn new(
         alloc: Global,
-        book: Arc<Mutex<Book>>,
-        onion: O,
-        policy: Policy,
+        common: &Common<O>,
+        number: usize,
     ) -> Result<SharedBook<O>, AllocError> {
         let id = Arc::new(alloc, OnceLock::new())?;
         Ok(SharedBook {
-            book,
+            book: Arc::try_clone(&common.book)?,
             id,
-            onion,
-            policy,
+            onion: common.onion,
+            policy: common.policy,
             told: AtomicU64::new(NOTHING),
+            bell: Arc::try_clone(&common.bell)?,
+            notices: Arc::try_clone(&common.notices)?,
+            number,
         })
     }
 
@@ -57,6 +81,9 @@ impl<O: Onion + Copy + Drop> SharedBook<O> {
             onion: self.onion,
             policy: self.policy,
             told: AtomicU64::new(NOTHING),
+            bell: Arc::try_clone(&self.bell)?,
+            notices: Arc::try_clone(&self.notices)?,
+            number: self.number,
         })
     }
 
@@ -102,6 +129,7 @@ impl<O: Onion + Copy + Drop> SharedBook<O> {
         }
         self.book.lock(rt).set_usable(channel.id(), told == 2)?;
         self.told.store(told, Ordering::SeqCst);
+        self.bell.ring();
         Ok(())
     }
 }
@@ -122,13 +150,18 @@ impl<O: Onion + Copy + Drop> Books for SharedBook<O> {
     fn answered<R: Wait>(&self, rt: &R, answer: Result<u64, u16>) {
         if let Some(channel) = self.channel() {
             self.book.lock(rt).answered(channel, answer);
+            self.bell.ring();
         }
     }
 
     fn settled<R: Wait>(&self, rt: &R, alloc: Global, told: &ChannelEvent) -> Result<(), Refusal> {
         match self.channel() {
             None => Ok(()),
-            Some(channel) => self.book.lock(rt).settled(alloc, channel, told),
+            Some(channel) => {
+                let done = self.book.lock(rt).settled(alloc, channel, told);
+                self.bell.ring();
+                done
+            }
         }
     }
 
@@ -150,6 +183,7 @@ impl<O: Onion + Copy + Drop> Books for SharedBook<O> {
         {
             Ok(mark) => {
                 drop(mark);
+                self.bell.ring();
                 Ok(())
             }
             Err(refusal) => Err(refusal),
@@ -171,7 +205,11 @@ where
     ) -> Result<(), Refusal> {
         match end.link.unsaved().saved() {
             None => Ok(()),
-            Some(channel) => self.book.lock(rt).dropped(alloc, channel.id(), channel),
+            Some(channel) => {
+                let done = self.book.lock(rt).dropped(alloc, channel.id(), channel);
+                self.bell.ring();
+                done
+            }
         }
     }
 
@@ -188,5 +226,17 @@ where
             return Ok(());
         }
         self.tell(rt, channel, told)
+    }
+
+    fn notice<R: Wait>(&self, rt: &R, notice: Notice) {
+        self.notices.add(rt, self.number, notice);
+    }
+
+    fn sounds(&self) -> u64 {
+        self.bell.sounds()
+    }
+
+    fn rest<R: Wait>(&self, rt: &R, sounds: u64) {
+        self.bell.rest(rt, sounds);
     }
 }

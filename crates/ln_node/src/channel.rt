@@ -1,15 +1,16 @@
 //! What a node has of a channel: its threads, and the seats that callers use.
 
-use crate::reader::{Shared, Source};
-use crate::socket::{Slot, Socket};
+use crate::bell::Bell;
+use crate::reader::Connections;
+use crate::seat::RingingSeat;
+use crate::socket::Socket;
 use crate::start::{start_dispatcher, start_reader, start_worker};
 use ln_channel::Command;
 use ln_msgs::Message;
 use ln_relay::{RecvSeat, SendSeat, Sends, WaitRecv, WaitSend, relay, waiting_relay};
 use ln_turns::{Bench, End, Item, ReadsEnds, Table, Task, Worker, put};
 use std::alloc::{AllocError, Global};
-use std::net::{Net, OpenStream, Shutdown, SocketAddr, TcpListener, TcpStream};
-use std::sync::atomic::AtomicU64;
+use std::net::{Net, SocketAddr, TcpListener, TcpStream};
 use std::sync::{Arc, Mutex, Wait};
 use std::thread::{JoinHandle, Threads};
 
@@ -19,17 +20,20 @@ const ITEMS: usize = 256;
 /// How many tasks the relay of a dispatcher holds.
 const TASKS: usize = 1024;
 
+/// A sender's seat of a worker's relay.
+pub(crate) type ItemSeat = RingingSeat<SendSeat<Item<Socket>>>;
+
 /// A worker with its seats.
 pub(crate) type EndBench<E, H> = Bench<E, Socket, RecvSeat<Item<Socket>>, WaitSend<Task<H>>>;
 
 /// A channel of a node, whose end is an `E`.
 #[derive(Drop)]
 pub(crate) struct Channel<E: Drop, H: Drop, T: Drop> {
-    orders: Mutex<SendSeat<Item<Socket>>>,
+    orders: Mutex<ItemSeat>,
     hooks: Mutex<WaitSend<Task<H>>>,
     bound: Option<SocketAddr>,
-    slot: Slot,
-    reader: JoinHandle<SendSeat<Item<Socket>>>,
+    connections: Arc<Connections>,
+    reader: JoinHandle<ItemSeat>,
     worker: JoinHandle<EndBench<E, H>>,
     dispatcher: JoinHandle<(WaitRecv<Task<H>>, T)>,
 }
@@ -45,18 +49,18 @@ pub(crate) struct Parts<E: Drop, B: Drop, T: Drop> {
     pub(crate) book: B,
     /// And as its dispatcher does.
     pub(crate) decisions: B,
+    /// Sounds where its worker may have something to do.
+    pub(crate) bell: Arc<Bell>,
+    /// The table of its hooks.
     pub(crate) table: T,
-    pub(crate) stopping: Arc<AtomicU64>,
-    pub(crate) source: Source,
+    pub(crate) connections: Arc<Connections>,
+    /// Where its connections come to, where they don't go out.
+    pub(crate) listener: Option<TcpListener>,
     pub(crate) bound: Option<SocketAddr>,
 }
 
 // Hands a command on, unless the relay is full.
-fn order<R: Wait>(
-    rt: &R,
-    seat: &mut SendSeat<Item<Socket>>,
-    command: Command,
-) -> Result<(), Command> {
+fn order<R: Wait>(rt: &R, seat: &mut ItemSeat, command: Command) -> Result<(), Command> {
     match seat.send(rt, Item::Order(command)) {
         Err(Item::Order(back)) => Err(back),
         _ => Ok(()),
@@ -82,15 +86,20 @@ fn stop_dispatcher<H: Drop, T: Drop, R: Threads + Wait>(
     drop(dispatcher.join(rt));
 }
 
-// Stops a worker, and joins it.
+// Stops a worker, and joins it. Gives its end back.
 fn stop_worker<E: Drop, H: Drop, R: Threads + Wait>(
     rt: &R,
-    seat: SendSeat<Item<Socket>>,
+    seat: ItemSeat,
     worker: JoinHandle<EndBench<E, H>>,
-) {
+) -> E {
     let mut seat = seat;
     put(rt, &mut seat, Item::Stop);
-    drop(worker.join(rt));
+    let Bench {
+        worker,
+        items: _,
+        tasks: _,
+    } = worker.join(rt);
+    worker.end
 }
 
 impl<E: Drop, H: Drop, T: Drop> Channel<E, H, T> {
@@ -106,33 +115,49 @@ impl<E: Drop, H: Drop, T: Drop> Channel<E, H, T> {
         register(rt, &mut seat, hook)
     }
 
+    /// Shuts its connection. A reader that waits for the next one looks again.
+    pub(crate) fn shut<R: Wait>(&self, rt: &R) {
+        self.connections.shut(rt);
+        self.connections.wake();
+    }
+
     /// Shuts its connection, and ends an accept that waits by a connection of the node's own.
-    pub(crate) fn shut<R>(&self, rt: &R)
+    pub(crate) fn stop<R>(&self, rt: &R)
     where
         R: Net<Listener = TcpListener, Stream = TcpStream> + Wait,
     {
-        if let Some(stream) = self.slot.lock(rt).take() {
-            let _ = stream.shutdown(Shutdown::Both);
-        }
+        self.shut(rt);
         if let Some(bound) = self.bound {
             let _ = TcpStream::connect(rt, bound);
         }
     }
 
-    /// Joins its threads, the reader first: it is shut.
-    pub(crate) fn end<R: Threads + Wait>(self, rt: &R) {
+    /// Where it listens.
+    pub(crate) fn bound(&self) -> Option<SocketAddr> {
+        self.bound
+    }
+
+    /// Shuts its connection, and has this one read next.
+    pub(crate) fn reconnect<R: Wait>(&self, rt: &R, stream: TcpStream) {
+        self.connections.shut(rt);
+        self.connections.follow(rt, stream);
+    }
+
+    /// Joins its threads, the reader first: it is shut. Gives its end back.
+    pub(crate) fn end<R: Threads + Wait>(self, rt: &R) -> E {
         let Channel {
             orders,
             hooks,
             bound: _,
-            slot: _,
+            connections: _,
             reader,
             worker,
             dispatcher,
         } = self;
         drop(reader.join(rt));
-        stop_worker(rt, orders.into_inner(), worker);
+        let end = stop_worker(rt, orders.into_inner(), worker);
         stop_dispatcher(rt, hooks.into_inner(), dispatcher);
+        end
     }
 }
 
@@ -155,18 +180,21 @@ where
         greeting,
         book,
         decisions,
+        bell,
         table,
-        stopping,
-        source,
+        connections,
+        listener,
         bound,
     } = parts;
-    let slot: Slot = Arc::new(alloc, Mutex::new(None))?;
-    let shared = Shared {
-        slot: Arc::try_clone(&slot)?,
-        stopping,
-    };
+    let theirs = Arc::try_clone(&connections)?;
+    let again = Arc::try_clone(&bell)?;
     let (first, orders, items) = relay::<Item<Socket>>(alloc, ITEMS)?;
     let (events, hooks, tasks) = waiting_relay::<Task<H>>(alloc, TASKS)?;
+    let first = RingingSeat { seat: first, bell };
+    let orders = RingingSeat {
+        seat: orders,
+        bell: again,
+    };
     let bench = Bench {
         worker: Worker::new(end),
         items,
@@ -189,9 +217,8 @@ where
         stop_dispatcher(&rt, hooks, dispatcher);
         return Err(AllocError);
     };
-    let Some(reader) = start_reader::<SendSeat<Item<Socket>>, R>(rt, alloc, source, first, shared)
-    else {
-        stop_worker(&rt, orders, worker);
+    let Some(reader) = start_reader::<ItemSeat, R>(rt, alloc, listener, first, theirs) else {
+        drop(stop_worker(&rt, orders, worker));
         stop_dispatcher(&rt, hooks, dispatcher);
         return Err(AllocError);
     };
@@ -199,7 +226,7 @@ where
         orders: Mutex::new(orders),
         hooks: Mutex::new(hooks),
         bound,
-        slot,
+        connections,
         reader,
         worker,
         dispatcher,

@@ -1,17 +1,22 @@
 //! A node of a payment channel network, in threads over sockets.
 #![tactic(auto)]
 
+mod bell;
 mod book;
 mod channel;
 mod node;
+mod notices;
 mod reader;
+mod seat;
 mod socket;
 mod start;
+mod stored;
 
 pub use book::SharedBook;
 pub use ln_turns::{
-    Bench, Books, Closes, End, Item, ReadsEnds, SavedLink, Table, Task, Wire, Worker,
+    Bench, Books, Closes, End, Item, Notice, ReadsEnds, SavedLink, Table, Task, Wire, Worker,
     dispatch_loop, hooks_follow, reader_loop, worker_loop, worker_turn,
 };
 pub use node::Node;
 pub use socket::Socket;
+pub use stored::Stored;

@@ -1,8 +1,11 @@
 //! A node: its channels, each with its threads, and the book of its payments.
 
-use crate::book::SharedBook;
+use crate::bell::Bell;
+use crate::book::{Common, SharedBook};
 use crate::channel::{Channel, Parts, start};
-use crate::reader::Source;
+use crate::notices::Notices;
+use crate::reader::Connections;
+use crate::stored::{Loaded, Stored, load_all, rebuild};
 use ln_book::Book;
 use ln_bytes::Bytes;
 use ln_channel::{Command, FitConfig, FitSpec};
@@ -11,7 +14,7 @@ use ln_keys::{ChannelKeys, Onion};
 use ln_link::Link;
 use ln_msgs::{Init, Message, Records, Refusal};
 use ln_store::RecordStore;
-use ln_turns::{End, ReadsEnds, SavedLink, Table};
+use ln_turns::{End, Notice, ReadsEnds, SavedLink, Table};
 use std::alloc::{AllocError, Global};
 use std::net::{Net, OpenListener, SocketAddr, TcpListener, TcpStream};
 use std::sync::atomic::{AtomicU64, Ordering};
@@ -24,9 +27,7 @@ use std::thread::Threads;
 #[derive(Drop)]
 pub struct Node<K: ChannelKeys + Copy, S: Drop, O: Drop, H: Drop, T: Drop> {
     stopping: Arc<AtomicU64>,
-    book: Arc<Mutex<Book>>,
-    onion: O,
-    policy: Policy,
+    common: Common<O>,
     channels: Vec<Channel<SavedLink<K, S>, H, T>>,
 }
 
@@ -36,7 +37,8 @@ struct Shares<O: Drop> {
     greeting: Box<Message>,
     book: SharedBook<O>,
     decisions: SharedBook<O>,
-    stopping: Arc<AtomicU64>,
+    bell: Arc<Bell>,
+    connections: Arc<Connections>,
 }
 
 // The init that greets peers (BOLT 1, "The `init` Message"): no features.
@@ -81,32 +83,46 @@ where
     ///
     /// Error: 60 where there is no memory.
     pub fn new(alloc: Global, onion: O, policy: Policy) -> Result<Node<K, S, O, H, T>, Refusal> {
-        Ok(Node {
-            stopping: Arc::new(alloc, AtomicU64::new(0))?,
+        let common = Common {
             book: Arc::new(alloc, Mutex::new(Book::new(alloc)))?,
             onion,
             policy,
+            bell: Arc::new(alloc, Bell::new())?,
+            notices: Arc::new(alloc, Notices::new(alloc))?,
+        };
+        Ok(Node {
+            stopping: Arc::new(alloc, AtomicU64::new(0))?,
+            common,
             channels: Vec::new(alloc),
         })
     }
 
     /// The book of its payments. A lock on it holds up all channels.
     pub fn book(&self) -> &Mutex<Book> {
-        &self.book
+        &self.common.book
+    }
+
+    /// What has become of its channels since this was called last, each notice with its channel's number: the latest
+    /// 256 at most. Takes no memory.
+    pub fn notices<R: Wait>(&self, rt: &R, alloc: Global) -> Vec<(usize, Notice)> {
+        self.common.notices.take(rt, alloc)
     }
 
     // What a new channel has of the node.
     fn shares(&self, alloc: Global) -> Result<Shares<O>, Refusal> {
-        let greeting = greeting(alloc)?;
-        let stopping = Arc::try_clone(&self.stopping)?;
-        let book = Arc::try_clone(&self.book)?;
-        let book = SharedBook::new(alloc, book, self.onion, self.policy)?;
-        let decisions = book.again()?;
+        let number = self.channels.len();
+        let book = SharedBook::new(alloc, &self.common, number)?;
+        let connections = Connections::new(
+            Arc::try_clone(&self.stopping)?,
+            Arc::try_clone(&self.common.notices)?,
+            number,
+        );
         Ok(Shares {
-            greeting,
+            greeting: greeting(alloc)?,
+            decisions: book.again()?,
             book,
-            decisions,
-            stopping,
+            bell: Arc::try_clone(&self.common.bell)?,
+            connections: Arc::new(alloc, connections)?,
         })
     }
 
@@ -118,7 +134,7 @@ where
         shares: Shares<O>,
         end: SavedLink<K, S>,
         table: T,
-        source: Source,
+        listener: Option<TcpListener>,
         bound: Option<SocketAddr>,
     ) -> Result<(), Refusal>
     where
@@ -128,16 +144,18 @@ where
             greeting,
             book,
             decisions,
-            stopping,
+            bell,
+            connections,
         } = shares;
         let parts = Parts {
             end,
             greeting,
             book,
             decisions,
+            bell,
             table,
-            stopping,
-            source,
+            connections,
+            listener,
             bound,
         };
         add(rt, alloc, &mut self.channels, parts)
@@ -170,15 +188,7 @@ where
         };
         let link = Link::fundee(keys, config);
         let end = SavedLink { keys, link, store };
-        self.start(
-            rt,
-            alloc,
-            shares,
-            end,
-            table,
-            Source::Listener(listener),
-            Some(bound),
-        )?;
+        self.start(rt, alloc, shares, end, table, Some(listener), Some(bound))?;
         Ok(bound)
     }
 
@@ -205,7 +215,116 @@ where
         };
         let link = Link::funder(keys, spec);
         let end = SavedLink { keys, link, store };
-        self.start(rt, alloc, shares, end, table, Source::Stream(stream), None)
+        shares.connections.follow(&rt, stream);
+        self.start(rt, alloc, shares, end, table, None, None)
+    }
+
+    /// Connects a channel with its peer again, which is listening at the address: a channel that `connect` has made, or
+    /// `restore` without an address. What was its connection is shut first. Takes no memory.
+    ///
+    /// Errors: 40 where there is no such channel; 63 where nobody listens at the address.
+    pub fn reconnect<R>(&self, rt: &R, channel: usize, address: SocketAddr) -> Result<(), Refusal>
+    where
+        R: Net<Listener = TcpListener, Stream = TcpStream> + Wait,
+    {
+        let Some(channel) = self.channels.get(channel) else {
+            return Err(Refusal::NotReady);
+        };
+        if channel.bound().is_some() {
+            return Err(Refusal::NotReady);
+        }
+        let Ok(stream) = TcpStream::connect(rt, address) else {
+            return Err(Refusal::Io);
+        };
+        channel.reconnect(rt, stream);
+        Ok(())
+    }
+
+    /// Shuts the connection of a channel, where it has one. A channel that listens goes on with the next connection.
+    pub fn hang_up<R: Wait>(&self, rt: &R, channel: usize) {
+        if let Some(channel) = self.channels.get(channel) {
+            channel.shut(rt);
+        }
+    }
+
+    /// Where a channel listens; none where it makes its connections itself, or there is none of this number.
+    pub fn address(&self, channel: usize) -> Option<SocketAddr> {
+        self.channels.get(channel)?.bound()
+    }
+
+    // Starts a channel whose end was loaded.
+    fn resume<R>(
+        &mut self,
+        rt: R,
+        alloc: Global,
+        end: SavedLink<K, S>,
+        table: T,
+        address: Option<SocketAddr>,
+    ) -> Result<(), Refusal>
+    where
+        R: Net<Listener = TcpListener, Stream = TcpStream> + Threads + Wait + Copy + Send + 'static,
+    {
+        let shares = self.shares(alloc)?;
+        let Some(address) = address else {
+            return self.start(rt, alloc, shares, end, table, None, None);
+        };
+        let Ok(listener) = TcpListener::bind(&rt, address) else {
+            return Err(Refusal::Io);
+        };
+        let Ok(bound) = listener.local_addr() else {
+            return Err(Refusal::Io);
+        };
+        self.start(rt, alloc, shares, end, table, Some(listener), Some(bound))
+    }
+
+    // Starts channels whose ends were loaded.
+    fn resume_all<R>(
+        &mut self,
+        rt: R,
+        alloc: Global,
+        loaded: Vec<Loaded<K, S, T>>,
+    ) -> Result<(), Refusal>
+    where
+        R: Net<Listener = TcpListener, Stream = TcpStream> + Threads + Wait + Copy + Send + 'static,
+    {
+        for one in loaded {
+            let Loaded {
+                end,
+                table,
+                address,
+            } = one;
+            self.resume(rt, alloc, end, table, address)?;
+        }
+        Ok(())
+    }
+
+    /// A node that starts again with the channels that these stores have a record of, in this order: each link comes
+    /// back from its record without a connection, the book is rebuilt from all of them, and each channel listens where
+    /// it is told to, or waits for `reconnect`. The block height and the payments that are waited for have to be told
+    /// to the book again. Takes memory, and three threads a channel.
+    ///
+    /// Errors: 40 where a store has no record; those of the stores, and 70 or 71 where a record can't be loaded; 63
+    /// where an address can't be bound; 60 where there is no memory or no thread. Behind each no thread runs.
+    pub fn restore<R>(
+        rt: R,
+        alloc: Global,
+        onion: O,
+        policy: Policy,
+        stored: Vec<Stored<K, S, T>>,
+    ) -> Result<Node<K, S, O, H, T>, Refusal>
+    where
+        R: Net<Listener = TcpListener, Stream = TcpStream> + Threads + Wait + Copy + Send + 'static,
+    {
+        let loaded = load_all(alloc, stored)?;
+        let mut node: Node<K, S, O, H, T> = Node::new(alloc, onion, policy)?;
+        rebuild(&rt, alloc, node.book(), loaded.as_slice())?;
+        match node.resume_all(rt, alloc, loaded) {
+            Ok(()) => Ok(node),
+            Err(refusal) => {
+                node.stop(rt);
+                Err(refusal)
+            }
+        }
     }
 
     /// Orders a channel's link to do this. A full relay, or a channel that there isn't, hands the command back. Whether
@@ -237,25 +356,45 @@ where
         self.order(rt, channel, Command::Shutdown(script))
     }
 
+    // Says that the node stops, and shuts its connections.
+    fn halt<R>(&self, rt: &R)
+    where
+        R: Net<Listener = TcpListener, Stream = TcpStream> + Wait,
+    {
+        self.stopping.store(1, Ordering::SeqCst);
+        for channel in &self.channels {
+            channel.stop(rt);
+        }
+    }
+
     /// Stops the node: shuts the connections, and joins the readers, then each channel's worker and its dispatcher,
     /// once these have served what was put before.
     pub fn stop<R>(self, rt: R)
     where
         R: Net<Listener = TcpListener, Stream = TcpStream> + Threads + Wait + Copy + Send + 'static,
     {
-        let Node {
-            stopping,
-            book: _,
-            onion: _,
-            policy: _,
-            channels,
-        } = self;
-        stopping.store(1, Ordering::SeqCst);
-        for channel in &channels {
-            channel.shut(&rt);
+        self.halt(&rt);
+        for channel in self.channels {
+            drop(channel.end(&rt));
         }
-        for channel in channels {
-            channel.end(&rt);
+    }
+
+    /// Stops the node, and gives the stores of its channels back, in their order. Takes memory. Error: 60 where there
+    /// is none; the node has stopped then, too.
+    pub fn into_stores<R>(self, rt: R, alloc: Global) -> Result<Vec<S>, Refusal>
+    where
+        R: Net<Listener = TcpListener, Stream = TcpStream> + Threads + Wait + Copy + Send + 'static,
+    {
+        self.halt(&rt);
+        let mut stores = Vec::new(alloc);
+        let mut kept = Ok(());
+        for channel in self.channels {
+            let end = channel.end(&rt);
+            if stores.push(end.store).is_err() {
+                kept = Err(Refusal::Memory);
+            }
         }
+        kept?;
+        Ok(stores)
     }
 }

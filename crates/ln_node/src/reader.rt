@@ -1,115 +1,178 @@
 //! The thread of a channel's connections.
 
-use crate::socket::{Slot, Socket};
+use crate::bell::Bell;
+use crate::notices::Notices;
+use crate::socket::Socket;
 use ln_msgs::Counted;
 use ln_relay::Sends;
-use ln_turns::{Item, reader_loop};
+use ln_turns::{Item, Notice, reader_loop};
 use std::alloc::Global;
 use std::io;
 use std::net::{OpenStream, Shutdown, TcpListener, TcpStream};
 use std::sync::atomic::{AtomicU64, Ordering};
-use std::sync::{Arc, Wait};
+use std::sync::{Arc, Mutex, Wait};
 
-/// Where a channel's connections come from.
+/// A channel's connections, as its reader and the node share them.
 #[derive(Drop)]
-pub(crate) enum Source {
-    /// One after the other.
-    Listener(TcpListener),
-    /// There is one.
-    Stream(TcpStream),
+pub(crate) struct Connections {
+    // The one that is open, so that it can be shut from outside.
+    open: Mutex<Option<TcpStream>>,
+    // The one that is read next.
+    next: Mutex<Option<TcpStream>>,
+    // Sounds where there is a next one, or the node stops.
+    bell: Bell,
+    // 1 once the node stops.
+    stopping: Arc<AtomicU64>,
+    notices: Arc<Notices>,
+    channel: usize,
 }
 
-// Keeps a connection where a stop finds it. False where the node stops already.
-//
-// A stop says first that the node stops, and then looks for the connection: so one of the two shuts it.
-fn keep<R: Wait>(
-    rt: &R,
-    slot: &Slot,
-    stopping: &AtomicU64,
-    stream: &TcpStream,
-) -> io::Result<bool> {
-    let kept = stream.try_clone()?;
-    *slot.lock(rt) = Some(kept);
-    if stopping.load(Ordering::SeqCst) != 0 {
-        stream.shutdown(Shutdown::Both)?;
-        return Ok(false);
+impl Connections {
+    /// None, of this channel of a node.
+    pub(crate) fn new(
+        stopping: Arc<AtomicU64>,
+        notices: Arc<Notices>,
+        channel: usize,
+    ) -> Connections {
+        Connections {
+            open: Mutex::new(None),
+            next: Mutex::new(None),
+            bell: Bell::new(),
+            stopping,
+            notices,
+            channel,
+        }
     }
-    Ok(true)
-}
 
-// Reads a connection to its end.
-fn read<S: Sends<Item<Socket>> + Drop, R: Wait>(
-    rt: &R,
-    alloc: Global,
-    stream: TcpStream,
-    seat: S,
-) -> S {
-    let _ = stream.set_nodelay(true);
-    let Ok(writer) = stream.try_clone() else {
-        return seat;
-    };
-    let mut socket = Counted::new(Socket::new(stream));
-    let (seat, _) = reader_loop(rt, alloc, &mut socket, Socket::new(writer), seat);
-    seat
-}
-
-// Reads one connection, where the node goes on.
-fn read_one<S: Sends<Item<Socket>> + Drop, R: Wait>(
-    rt: &R,
-    alloc: Global,
-    stream: TcpStream,
-    seat: S,
-    slot: &Slot,
-    stopping: &AtomicU64,
-) -> S {
-    match keep(rt, slot, stopping, &stream) {
-        Ok(true) => read(rt, alloc, stream, seat),
-        _ => seat,
+    fn stops(&self) -> bool {
+        self.stopping.load(Ordering::SeqCst) != 0
     }
-}
 
-// Reads one connection after the other, until the node stops.
-fn read_all<S: Sends<Item<Socket>> + Drop, R: Wait>(
-    rt: &R,
-    alloc: Global,
-    listener: TcpListener,
-    seat: S,
-    slot: &Slot,
-    stopping: &AtomicU64,
-) -> S {
-    let mut seat = seat;
-    for _ in rt.forever() {
-        let Ok((stream, _)) = listener.accept() else {
+    /// Shuts the one that is open.
+    pub(crate) fn shut<R: Wait>(&self, rt: &R) {
+        let open = self.open.lock(rt).take();
+        if let Some(stream) = open {
+            let _ = stream.shutdown(Shutdown::Both);
+        }
+    }
+
+    /// Wakes a reader that waits for the next one.
+    pub(crate) fn wake(&self) {
+        self.bell.ring();
+    }
+
+    /// Has this one read next, once the one that is open is over.
+    pub(crate) fn follow<R: Wait>(&self, rt: &R, stream: TcpStream) {
+        *self.next.lock(rt) = Some(stream);
+        self.bell.ring();
+    }
+
+    // The next one.
+    fn next<R: Wait>(&self, rt: &R) -> Option<TcpStream> {
+        self.next.lock(rt).take()
+    }
+
+    // Keeps a connection where a stop finds it. False where the node stops already.
+    //
+    // A stop says first that the node stops, and then looks for the connection: so one of the two shuts it.
+    fn keep<R: Wait>(&self, rt: &R, stream: &TcpStream) -> io::Result<bool> {
+        let kept = stream.try_clone()?;
+        *self.open.lock(rt) = Some(kept);
+        if self.stops() {
+            stream.shutdown(Shutdown::Both)?;
+            return Ok(false);
+        }
+        Ok(true)
+    }
+
+    // Reads a connection to its end.
+    fn read<S: Sends<Item<Socket>> + Drop, R: Wait>(
+        &self,
+        rt: &R,
+        alloc: Global,
+        stream: TcpStream,
+        seat: S,
+    ) -> S {
+        let _ = stream.set_nodelay(true);
+        let Ok(writer) = stream.try_clone() else {
             return seat;
         };
-        if stopping.load(Ordering::SeqCst) != 0 {
-            return seat;
+        let mut socket = Counted::new(Socket::new(stream));
+        let (seat, end) = reader_loop(rt, alloc, &mut socket, Socket::new(writer), seat);
+        self.notices.add(rt, self.channel, Notice::Ended(end));
+        seat
+    }
+
+    // Reads a connection, where the node goes on.
+    fn read_one<S: Sends<Item<Socket>> + Drop, R: Wait>(
+        &self,
+        rt: &R,
+        alloc: Global,
+        stream: TcpStream,
+        seat: S,
+    ) -> S {
+        match self.keep(rt, &stream) {
+            Ok(true) => self.read(rt, alloc, stream, seat),
+            _ => seat,
         }
-        seat = read_one(rt, alloc, stream, seat, slot, stopping);
     }
-    unreachable!()
-}
 
-/// Reads the connections of a source, and gives the seat back.
-pub(crate) fn read_source<S: Sends<Item<Socket>> + Drop, R: Wait>(
-    rt: &R,
-    alloc: Global,
-    source: Source,
-    seat: S,
-    slot: &Slot,
-    stopping: &AtomicU64,
-) -> S {
-    match source {
-        Source::Listener(listener) => read_all(rt, alloc, listener, seat, slot, stopping),
-        Source::Stream(stream) => read_one(rt, alloc, stream, seat, slot, stopping),
+    // Accepts a connection and reads it, or waits a while where none can be accepted.
+    fn accept_one<S: Sends<Item<Socket>> + Drop, R: Wait>(
+        &self,
+        rt: &R,
+        alloc: Global,
+        listener: &TcpListener,
+        seat: S,
+    ) -> S {
+        let sounds = self.bell.sounds();
+        match listener.accept() {
+            Ok((stream, _)) => self.read_one(rt, alloc, stream, seat),
+            Err(_) => {
+                self.bell.rest(rt, sounds);
+                seat
+            }
+        }
     }
-}
 
-/// What a reader's thread shares with its node.
-#[derive(Drop)]
-pub(crate) struct Shared {
-    /// Its connection.
-    pub(crate) slot: Slot,
-    /// 1 once the node stops.
-    pub(crate) stopping: Arc<AtomicU64>,
+    // Reads the next connection, or waits a while where there is none.
+    fn take_one<S: Sends<Item<Socket>> + Drop, R: Wait>(
+        &self,
+        rt: &R,
+        alloc: Global,
+        seat: S,
+    ) -> S {
+        let sounds = self.bell.sounds();
+        match self.next(rt) {
+            Some(stream) => self.read_one(rt, alloc, stream, seat),
+            None => {
+                if !self.stops() {
+                    self.bell.rest(rt, sounds);
+                }
+                seat
+            }
+        }
+    }
+
+    /// Reads one connection after the other, until the node stops: those that come to the listener, where there is
+    /// one, else those that the node has made. Gives the seat back.
+    pub(crate) fn read_all<S: Sends<Item<Socket>> + Drop, R: Wait>(
+        &self,
+        rt: &R,
+        alloc: Global,
+        listener: Option<TcpListener>,
+        seat: S,
+    ) -> S {
+        let mut seat = seat;
+        for _ in rt.forever() {
+            if self.stops() {
+                return seat;
+            }
+            seat = match &listener {
+                Some(listener) => self.accept_one(rt, alloc, listener, seat),
+                None => self.take_one(rt, alloc, seat),
+            };
+        }
+        unreachable!()
+    }
 }

@@ -4,10 +4,6 @@ use ln_turns::Closes;
 use std::io;
 use std::io::{Read, Write};
 use std::net::{Shutdown, TcpStream};
-use std::sync::{Arc, Mutex};
-
-/// The connection that a channel has, so that it can be shut from outside.
-pub(crate) type Slot = Arc<Mutex<Option<TcpStream>>>;
 
 /// One direction of a connection.
 #[derive(Drop)]

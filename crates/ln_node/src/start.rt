@@ -1,6 +1,6 @@
 //! The threads of a channel, each started by a function of its own that is generic over what it carries.
 
-use crate::reader::{Shared, Source, read_source};
+use crate::reader::Connections;
 use crate::socket::Socket;
 use ln_msgs::Message;
 use ln_relay::{Receives, Sends, Waits};
@@ -8,7 +8,8 @@ use ln_turns::{
     Bench, Books, Closes, End, Item, ReadsEnds, Table, Task, dispatch_loop, worker_loop,
 };
 use std::alloc::Global;
-use std::sync::Wait;
+use std::net::TcpListener;
+use std::sync::{Arc, Wait};
 use std::thread;
 use std::thread::{JoinHandle, Threads};
 
@@ -16,9 +17,9 @@ use std::thread::{JoinHandle, Threads};
 pub(crate) fn start_reader<S, R>(
     rt: R,
     alloc: Global,
-    source: Source,
+    listener: Option<TcpListener>,
     seat: S,
-    shared: Shared,
+    connections: Arc<Connections>,
 ) -> Option<JoinHandle<S>>
 where
     S: Sends<Item<Socket>> + Drop + Send + 'static,
@@ -26,7 +27,7 @@ where
 {
     thread::spawn(
         &rt,
-        move || read_source(&rt, alloc, source, seat, &shared.slot, &shared.stopping),
+        move || connections.read_all(&rt, alloc, listener, seat),
     )
     .ok()
 }

@@ -6,6 +6,10 @@ mod frames;
 pub use frames::ping_frame;
 
 #[cfg(test)]
+mod again;
+#[cfg(test)]
 mod client;
+#[cfg(test)]
+mod pair;
 #[cfg(test)]
 mod tests;

@@ -10,7 +10,7 @@ use Rattle.ln_channel.specs.declared.output.Output.{Output}
 use Rattle.ln_channel.specs.Step.{is_of_records}
 use Rattle.ln_turns.specs.declared.item.Item.{Item}
 use Rattle.ln_turns.specs.declared.item.Item.TheVariants as item
-use Rattle.ln_turns.specs.declared.kind.Kind.TheVariants.{OfConnection, Ping, OfChannel}
+use Rattle.ln_turns.specs.declared.kind.Kind.TheVariants.{OfConnection, Ping, OfFailure, OfChannel}
 use Rattle.ln_turns.specs.Act.{Act, Handles, Connects}
 use Rattle.ln_turns.specs.Kind.{kind_of}
 use Rattle.ln_msgs.specs.Messages.Typed.{wire}
@@ -23,6 +23,17 @@ pub goes-over : (ws : List Wire) (said written answer : Result (Unit {0}) Refusa
     → Writes ws said answer line line'
 goes-over ws said (Ok u) answer line line' all failed same = inl (same, all)
 goes-over ws said (Err e) answer line line' (lost, some) failed same = inr (e, failed, lost, some)
+
+-- the same, by the outputs and the answer that were taken apart
+pub goes-apart : (said : Result (List Output) Refusal) (outputs : List Output)
+    (answered written answer : Result (Unit {0}) Refusal) (line line' : Option (List ℕ)) → outputs ≡ outputs_of said
+    → answered ≡ answer_of said → Goes (frames_of (sent outputs)) written line line'
+    → IfErr written (λ e. answer ≡ Err e) → OnOk written (answer ≡ answered)
+    → Writes (sent (outputs_of said)) (answer_of said) answer line line'
+goes-apart said outputs answered written answer line line' out is goes_out failed same =
+    goes-over (sent (outputs_of said)) (answer_of said) written answer line line'
+    (subst (λ os. Goes (frames_of (sent os)) written line line') out goes_out)
+    failed (subst (λ a. OnOk written (answer ≡ a)) is same)
 
 -- where nothing was refused before
 pub goes : (ws : List Wire) (written : Result (Unit {0}) Refusal) (line line' : Option (List ℕ))
@@ -87,6 +98,19 @@ module _ {S : Type 0} (acts : S → Act → Result (List Output) Refusal → S �
       → Writes (sent_for id said) (answer_of said) answer line line'
       → IsTurn acts s (item.Read m) outputs answer s' line line'
   hands s m id said outputs answer s' line line' of act out writes = record {
+    said = said;
+    serves = subst (λ k. HearsOf acts k s m said s') (sym of) act;
+    hands_out = out;
+    writes = subst (λ k. Writes (due_for k said) (answer_of said) answer line line') (sym of) writes;
+  }
+
+  -- what the peer tells of a failure
+  pub learns : (s : S) (m : Message) (said : Result (List Output) Refusal) (outputs : List Output)
+      (answer : Result (Unit {0}) Refusal) (s' : S) (line line' : Option (List ℕ)) → kind_of m ≡ OfFailure
+      → acts s (Handles m) said s' → outputs ≡ outputs_of said
+      → Writes (sent (outputs_of said)) (answer_of said) answer line line'
+      → IsTurn acts s (item.Read m) outputs answer s' line line'
+  learns s m said outputs answer s' line line' of act out writes = record {
     said = said;
     serves = subst (λ k. HearsOf acts k s m said s') (sym of) act;
     hands_out = out;

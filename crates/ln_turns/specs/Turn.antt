@@ -13,7 +13,7 @@ use Rattle.ln_channel.specs.Step.{is_of_records}
 use Rattle.ln_turns.specs.declared.item.Item.{Item}
 use Rattle.ln_turns.specs.declared.item.Item.TheVariants as item
 use Rattle.ln_turns.specs.declared.kind.Kind.{Kind}
-use Rattle.ln_turns.specs.declared.kind.Kind.TheVariants.{OfConnection, Ping, OfChannel}
+use Rattle.ln_turns.specs.declared.kind.Kind.TheVariants.{OfConnection, Ping, OfFailure, OfChannel}
 use Rattle.ln_turns.specs.Kind.{kind_of}
 use Rattle.ln_turns.specs.Act.{Act, Handles, Obeys, Connects, Drops}
 use Rattle.ln_turns.specs.Sent.{frames_of, outputs_of, answer_of, sent, sent_for, pongs}
@@ -43,10 +43,11 @@ module _ {S : Type 0} (acts : S → Act → Result (List Output) Refusal → S �
   abbrev pub Rests : S → Result (List Output) Refusal → S → Type 0
   Rests s said s' = (said ≡ Ok []) × (s' ≡ s)
 
-  -- a message of a channel is handed to it
+  -- a message of a channel is handed to it, and what the peer tells of a failure
   abbrev pub HearsOf : Kind → S → Message → Result (List Output) Refusal → S → Type 0
   HearsOf OfConnection s m said s' = Rests s said s'
   HearsOf (Ping n) s m said s' = Rests s said s'
+  HearsOf OfFailure s m said s' = acts s (Handles m) said s'
   HearsOf (OfChannel id) s m said s' = acts s (Handles m) said s'
 
   -- what the book alone decides isn't ordered
@@ -63,9 +64,11 @@ module _ {S : Type 0} (acts : S → Act → Result (List Output) Refusal → S �
 
 -- ---- what is sent
 
+-- behind what the peer tells of a failure a refusal isn't told to it (BOLT 1, "The error and warning Messages")
 abbrev pub due_for : Kind → Result (List Output) Refusal → List Wire
 due_for OfConnection said = []
 due_for (Ping n) said = pongs n
+due_for OfFailure said = sent (outputs_of said)
 due_for (OfChannel id) said = sent_for id said
 
 -- the messages that are sent for an item; a connection is greeted first

@@ -7,11 +7,12 @@ ghost use Rattle.ln_turns.specs.Bench.{glance};
 use crate::books::ReadsEnds;
 use crate::end::End;
 use crate::item::Item;
+use crate::notice::Notice;
 use crate::reader::put;
 use crate::task::Task;
 use crate::telling;
 use crate::wire::Closes;
-use crate::worker::Worker;
+use crate::worker::{Phase, Worker};
 use ln_channel::Output;
 use ln_hooks::ChannelEvent;
 use ln_msgs::{Message, Refusal};
@@ -137,9 +138,39 @@ impl<E: End + Drop, W: Closes + Drop, I: Receives<Item<W>> + Drop, T: Drop> Benc
         if answer.is_err() {
             return;
         }
+        book.notice(rt, Notice::Loaded);
         telling::tell_dropped(rt, alloc, book, &self.worker.end);
         telling::tell_events(rt, alloc, book, pending);
         telling::tell_use(rt, book, &self.worker.end);
+    }
+
+    // Tells what has become of the end and its connection, where it hadn't halted before or awaited the peer's init.
+    fn note<B: ReadsEnds<E>, R: Wait>(
+        &self,
+        rt: &R,
+        book: &B,
+        halted: bool,
+        awaited: bool,
+        answer: Result<(), Refusal>,
+    ) {
+        if let Err(refusal) = answer {
+            book.notice(rt, Notice::Refused(refusal));
+        }
+        if awaited && self.worker.phase == Phase::Cut {
+            book.notice(rt, Notice::NotGreeted);
+        }
+        if !halted && self.worker.end.is_halted() {
+            book.notice(rt, Notice::Halted);
+        }
+    }
+
+    // Waits where there was nothing to do, unless a load is to be tried again.
+    fn rest<B: ReadsEnds<E>, R: Wait>(&self, rt: &R, book: &B, sounds: u64, busy: bool) {
+        if busy || self.worker.end.is_halted() {
+            thread::yield_now();
+        } else {
+            book.rest(rt, sounds);
+        }
     }
 
     // Takes an item, and serves it or passes it over. True where it is the last one.
@@ -150,6 +181,7 @@ impl<E: End + Drop, W: Closes + Drop, I: Receives<Item<W>> + Drop, T: Drop> Benc
         greeting: &Message,
         known: &[u16],
         book: &B,
+        busy: &mut bool,
     ) -> bool
     where
         T: Sends<Task<H>>,
@@ -161,7 +193,11 @@ impl<E: End + Drop, W: Closes + Drop, I: Receives<Item<W>> + Drop, T: Drop> Benc
         };
         let stops = is_stop(&item);
         let breaks = is_broken(&item);
+        let halted = self.worker.end.is_halted();
+        let awaited = self.worker.phase == Phase::Greeting;
+        *busy = true;
         let turned = self.worker.serve(alloc, greeting, known, item);
+        self.note(rt, book, halted, awaited, turned.answer);
         self.tell(rt, alloc, book, breaks, turned.outputs.as_slice());
         self.worker.last = tell_outputs(rt, &mut self.tasks, self.worker.last, turned.outputs);
         stops
@@ -175,6 +211,7 @@ impl<E: End + Drop, W: Closes + Drop, I: Receives<Item<W>> + Drop, T: Drop> Benc
         greeting: &Message,
         known: &[u16],
         book: &B,
+        busy: &mut bool,
     )
     where
         T: Sends<Task<H>>,
@@ -185,9 +222,12 @@ impl<E: End + Drop, W: Closes + Drop, I: Receives<Item<W>> + Drop, T: Drop> Benc
             return;
         };
         let named = telling::named(&command);
+        let halted = self.worker.end.is_halted();
+        *busy = true;
         let obeyed = self.worker.obey(alloc, command);
         let answer = telling::told_answer(named, obeyed.outputs.as_slice(), obeyed.answer);
         book.answered(rt, answer);
+        self.note(rt, book, halted, false, obeyed.answer);
         self.tell(rt, alloc, book, false, obeyed.outputs.as_slice());
         self.worker.last = tell_outputs(rt, &mut self.tasks, self.worker.last, obeyed.outputs);
     }
@@ -220,8 +260,9 @@ impl<E: End + Drop, W: Closes + Drop, I: Receives<Item<W>> + Drop, T: Drop> Benc
 /// an end that has halted is loaded from its record first. The events that are pending at the start or behind a load,
 /// and those that the end hands out, are put for the dispatcher, each number once and in rising order; before that the
 /// book is told what has become of HTLCs by them, and what the end has kept behind a lost connection or a load. The
-/// peer is greeted by `greeting`, an init, and its init may ask for no even feature but the known ones. It yields where
-/// there is nothing to do, and tries again where there is no memory or the dispatcher's relay is full.
+/// peer is greeted by `greeting`, an init, and its init may ask for no even feature but the known ones. Where
+/// there is nothing to do it waits for the bell; it tries again where there is no memory or the dispatcher's relay is
+/// full.
 pub fn worker_loop<E, W, I, H, T, B, R>(
     rt: &R,
     alloc: Global,
@@ -247,12 +288,14 @@ where
     telling::tell_use(rt, book, &bench.worker.end);
     bench.worker.last = tell_events(rt, &mut bench.tasks, bench.worker.last, told);
     for _ in rt.forever() {
+        let sounds = book.sounds();
+        let mut busy = false;
         bench.mend(rt, alloc, greeting, known, book);
-        if bench.take_one(rt, alloc, greeting, known, book) {
+        if bench.take_one(rt, alloc, greeting, known, book, &mut busy) {
             return bench;
         }
-        bench.obey_one(rt, alloc, greeting, known, book);
-        thread::yield_now();
+        bench.obey_one(rt, alloc, greeting, known, book, &mut busy);
+        bench.rest(rt, book, sounds, busy);
     }
     unreachable!()
 }

@@ -1,5 +1,6 @@
 //! Where a worker and a dispatcher have the book of their node.
 
+use crate::notice::Notice;
 use ln_channel::Command;
 use ln_hooks::{ChannelEvent, Verdict};
 use ln_msgs::Refusal;
@@ -30,7 +31,8 @@ pub trait Books {
     ) -> Result<(), Refusal>;
 }
 
-/// A book that also reads the channel's end, which is an `E`.
+/// What a worker has of its node: the book, which also reads the channel's end, an `E`; whoever is told what becomes of
+/// it; and a bell that sounds where there may be something to do.
 pub trait ReadsEnds<E>: Books {
     /// What the end has kept, as its connection was lost or it was loaded. 60 where there is no memory, and then
     /// nothing was told.
@@ -39,4 +41,13 @@ pub trait ReadsEnds<E>: Books {
     /// Which payments the end can take now, and by what short id it is known. 60 where there is no memory, and then
     /// nothing was told.
     fn follow<R: Wait>(&self, rt: &R, end: &E) -> Result<(), Refusal>;
+
+    /// What has become of the end, or of its connection.
+    fn notice<R: Wait>(&self, rt: &R, notice: Notice);
+
+    /// How often the bell has sounded.
+    fn sounds(&self) -> u64;
+
+    /// Waits, where the bell hasn't sounded since it had sounded so often: until it does, or a while.
+    fn rest<R: Wait>(&self, rt: &R, sounds: u64);
 }

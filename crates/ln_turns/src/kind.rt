@@ -12,7 +12,9 @@ pub enum Kind {
     OfConnection,
     /// A ping, which asks for so many bytes.
     Ping(u16),
-    /// The channel of this id, or all of them. Those of the opening name the temporary id.
+    /// What the peer tells of a failure, of a channel or of all: an error or a warning. It gets no reply.
+    OfFailure,
+    /// The channel of this id. Those of the opening name the temporary id.
     OfChannel([u8; 32]),
 }
 
@@ -24,8 +26,8 @@ pub(crate) fn kind_of(message: &Message) -> Kind
         Message::Init(_) => Kind::OfConnection,
         Message::Ping(m) => Kind::Ping(m.num_pong_bytes),
         Message::Pong(_) => Kind::OfConnection,
-        Message::Warning(m) => Kind::OfChannel(m.channel_id),
-        Message::Error(m) => Kind::OfChannel(m.channel_id),
+        Message::Warning(_) => Kind::OfFailure,
+        Message::Error(_) => Kind::OfFailure,
         Message::OpenChannel(m) => Kind::OfChannel(m.temporary_id),
         Message::AcceptChannel(m) => Kind::OfChannel(m.temporary_id),
         Message::FundingCreated(m) => Kind::OfChannel(m.temporary_id),

@@ -271,6 +271,21 @@ fn send_back<W: Write>(
     }
 }
 
+// Sends what the end sends, and no reply to a refusal.
+fn send_only<W: Write>(
+    alloc: Global,
+    said: Result<Vec<Output>, Refusal>,
+    writer: &mut Counted<W>,
+) -> (Vec<Output>, Result<(), Refusal>)
+    ensures outputs { result.0.items ≡ outputs_of (listed (λ v. v.items) said) }
+    ensures writes { Writes (sent (outputs_of (listed (λ v. v.items) said))) (answer_of (listed (λ v. v.items) said))
+        result.1 (W.contents (inner_of writer.old)) (W.contents (inner_of writer.new)) }
+{
+    let (outputs, answer) = apart(alloc, said);
+    let written = send(alloc, None, outputs.as_slice(), writer);
+    (outputs, over(answer, written))
+}
+
 // A message of a channel: the end takes it, and a refusal is told to the peer.
 fn handle_turn<E: End, W: Write>(
     alloc: Global,
@@ -286,6 +301,23 @@ fn handle_turn<E: End, W: Write>(
 {
     let said = end.handle(alloc, message);
     send_back(alloc, &id, said, writer)
+}
+
+// What the peer tells of a failure: the end takes it, and a refusal isn't told to the peer (BOLT 1, "The `error` and
+// `warning` Messages"). Otherwise two failed ends would answer each other without end.
+fn failure_turn<E: End, W: Write>(
+    alloc: Global,
+    end: &mut E,
+    message: Message,
+    writer: &mut Counted<W>,
+) -> (Vec<Output>, Result<(), Refusal>)
+    requires { kind_of message ≡ kind.OfFailure }
+    ensures { IsTurn E.acts (E.state end.old) (item.Read message)
+        result.0.items result.1 (E.state end.new) (W.contents (inner_of writer.old))
+        (W.contents (inner_of writer.new)) }
+{
+    let said = end.handle(alloc, message);
+    send_only(alloc, said, writer)
 }
 
 // A ping is answered at once.
@@ -329,6 +361,7 @@ fn read_turn<E: End, W: Write>(
             drop(message);
             ping_turn(alloc, count, writer)
         }
+        Kind::OfFailure => failure_turn(alloc, end, message, writer),
         Kind::OfChannel(id) => handle_turn(alloc, end, id, message, writer),
     }
 }
@@ -361,8 +394,8 @@ fn order_turn<E: End, W: Write>(
 
 /// Serves one item of a worker's relay: what it makes of the end, and the frames of the messages that are sent for it,
 /// in order, in one write. A connection is greeted first, a ping answered, a message of a channel handed to the end and
-/// its refusal told to the peer; init and pong ask for nothing. The outputs are all that the end handed out, also where
-/// a write failed. Takes memory for the bytes that are written.
+/// its refusal told to the peer, unless the message is an error or a warning; init and pong ask for nothing. The
+/// outputs are all that the end handed out, also where a write failed. Takes memory for the bytes that are written.
 ///
 /// Errors: what the end refuses it by; 60, 63 or 7 (a message that can't be written) where not all was written, and
 /// then a beginning was.
