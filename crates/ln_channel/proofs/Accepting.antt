@@ -3,37 +3,36 @@ use Rattle.std.proofs.Common.{refl, ap, sym, ◌∙◌, inl, inr, Option, Some, 
 use Rattle.std.proofs.Common.{Bool, true, false, IsTrue, IsErrOf, ◌↔◌, if◌then◌else◌}
 use Rattle.ln_msgs.specs.declared.refusals.refusal.Refusal.{Refusal}
 use Rattle.ln_log.specs.Limits.{Answers}
+use Rattle.ln_log.specs.Log.{Log, at_opening}
+use Rattle.ln_dance.specs.Dance as dance
 use Rattle.ln_dance.specs.Dance.{Dancer, AnswersWithin}
 use Rattle.ln_msgs.specs.declared.refusals.refusal.Refusal.TheVariants as refusal
 use Rattle.ln_channel.specs.Opening.{AnswersFault, AnswersSignature}
-use Rattle.ln_channel.specs.End.{End, IsSound, with_dance}
+use Rattle.ln_channel.specs.End.{End, StandsFor, IsSound, with_dance}
 
 pub on_ok : {A : Type 0} (r : Result A Refusal) {P Q : Type 0} → (P → Q) → OnOk r P → OnOk r Q
 on_ok (Ok x) f p = f p
 on_ok (Err x) f p = tt
 
--- the channel of a dance that moves as stated, or not at all
-pub same_channel : {A : Type 0} (r : Result A Refusal) (old new moved : Dancer) → OnOk r (new ≡ moved)
-    → OnErr r (new ≡ old) → moved.channel ≡ old.channel → new.channel ≡ old.channel
-same_channel (Ok x) old new moved ok err s = ap (λ (d : Dancer). d.channel) ok ∙ s
-same_channel (Err x) old new moved ok err s = ap (λ (d : Dancer). d.channel) err
+-- a dance that keeps its role and opening
+pub sound : (e : End) (new : Dancer) → at_opening new.log ≡ at_opening e.dance.log → IsSound e
+    → IsSound (with_dance new e)
+sound e new same s = record {
+  one_role = ap (λ (l : Log). l.role) same ∙ s.one_role;
+  opening = ap (λ (l : Log). l.opening) same ∙ s.opening;
+  fees = s.fees;
+  scripts = s.scripts;
+}
 
--- one that keeps its role and opening
-pub sound : {A : Type 0} (r : Result A Refusal) (e : End) (new moved : Dancer) → OnOk r (new ≡ moved)
-    → OnErr r (new ≡ e.dance) → moved.log.role ≡ e.dance.log.role → moved.log.opening ≡ e.dance.log.opening
-    → IsSound e → IsSound (with_dance new e)
-sound (Ok x) e new moved ok err role opening s = record {
-  one_role = ap (λ (d : Dancer). d.log.role) ok ∙ role ∙ s.one_role;
-  opening = ap (λ (d : Dancer). d.log.opening) ok ∙ opening ∙ s.opening;
-  fees = s.fees;
-  scripts = s.scripts;
-}
-sound (Err x) e new moved ok err role opening s = record {
-  one_role = ap (λ (d : Dancer). d.log.role) err ∙ s.one_role;
-  opening = ap (λ (d : Dancer). d.log.opening) err ∙ s.opening;
-  fees = s.fees;
-  scripts = s.scripts;
-}
+-- the dance of an end that is stood for
+pub dance_stands : (kept e : End) → StandsFor kept e → dance.StandsFor kept.dance e.dance
+dance_stands kept e s = ap (λ (x : End). x.dance) s
+
+-- with another dance
+pub stands_with_dance : (kept e : End) (d' d : Dancer) → StandsFor kept e → dance.StandsFor d' d
+    → StandsFor (with_dance d' kept) (with_dance d e)
+stands_with_dance kept e d' d s by =
+    ap (λ (x : End). with_dance d' x) s ∙ ap (λ (x : Dancer). with_dance x e) by
 
 abbrev pub unless_last : Bool → Bool → Option Refusal
 unless_last last right = if last then Some refusal.OutOfPlace else (if right then None else Some refusal.SignatureWrong)

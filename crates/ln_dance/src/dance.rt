@@ -71,7 +71,7 @@ impl Dance {
     ghost use Rattle.std.specs.Prelude.{◌≡◌, ◌↔◌, ◌+◌, ◌<◌, ◌≤◌, ◌==◌, not, None, IsTrue, IsErrOf, IfOk, OnOk, OnErr};
     ghost use Rattle.ln_log.specs.Log as log;
     ghost use Rattle.ln_log.specs.Log.{Log, after_propose, after_receive, after_drop, proposal_fault, taken_fault};
-    ghost use Rattle.ln_log.specs.Log.{all_counts, counts_of};
+    ghost use Rattle.ln_log.specs.Log.{all_counts, at_opening, counts_of};
     ghost use Rattle.ln_log.specs.Limits.{HasNextId, Answers};
     ghost use Rattle.ln_dance.specs.Dance.{Dancer, StandsFor, AreInStep, IsNumber, is_last, owes, sign_fault};
     ghost use Rattle.ln_dance.specs.Dance.{after_sign};
@@ -105,7 +105,7 @@ impl Dance {
         peer: Peer,
         later: Later,
     ) -> Dance
-        requires { (l : Log) → log.StandsFor updates l → AreInStep numbers l }
+        requires { AreInStep numbers updates }
         ensures { (l : Log) → log.StandsFor updates l
             → StandsFor result (record { channel = channel; log = l; numbers = numbers; peer = peer; later = later }) }
     {
@@ -163,6 +163,8 @@ impl Dance {
             → OnOk result (StandsFor self.new (with_log (after_propose update d.log) d)) }
         ensures changes_nothing_if_refused { OnErr result (self.new ≡ self.old) }
         ensures changes_no_count { all_counts self.new.log ≡ all_counts self.old.log }
+        ensures same_channel { self.new.channel ≡ self.old.channel }
+        ensures same_opening { at_opening self.new.log ≡ at_opening self.old.log }
     {
         self.log.propose(update)
     }
@@ -174,20 +176,26 @@ impl Dance {
             → OnOk result (StandsFor self.new (with_log (after_receive update d.log) d)) }
         ensures changes_nothing_if_refused { OnErr result (self.new ≡ self.old) }
         ensures changes_no_count { all_counts self.new.log ≡ all_counts self.old.log }
+        ensures same_channel { self.new.channel ≡ self.old.channel }
+        ensures same_opening { at_opening self.new.log ≡ at_opening self.old.log }
     {
         self.log.receive(update)
     }
 
     /// The connection is lost: `UpdateLog::drop_unsigned`. Takes no memory.
     pub fn drop_unsigned(&mut self)
-        ensures { (d : Dancer) → StandsFor self.old d → StandsFor self.new (with_log (after_drop d.log) d) }
+        ensures state { (d : Dancer) → StandsFor self.old d → StandsFor self.new (with_log (after_drop d.log) d) }
+        ensures same_channel { self.new.channel ≡ self.old.channel }
+        ensures same_opening { at_opening self.new.log ≡ at_opening self.old.log }
     {
         self.log.drop_unsigned();
     }
 
     /// The peer has told the point of its next commitment (BOLT 2, "The `channel_ready` Message").
     pub fn take_point(&mut self, point: [u8; 33])
-        ensures { (d : Dancer) → StandsFor self.old d → StandsFor self.new (with_next_point point d) }
+        ensures state { (d : Dancer) → StandsFor self.old d → StandsFor self.new (with_next_point point d) }
+        ensures same_channel { self.new.channel ≡ self.old.channel }
+        ensures same_opening { at_opening self.new.log ≡ at_opening self.old.log }
     {
         self.peer.next_point = point;
     }
@@ -241,6 +249,8 @@ impl Dance {
         ensures changes_nothing_if_refused { OnErr result (self.new ≡ self.old) }
         ensures counts { OnOk result (all_counts self.new.log
             ≡ record (all_counts self.old.log) { signed = counts_of Pair.ToSign self.old.log }) }
+        ensures same_channel { self.new.channel ≡ self.old.channel }
+        ensures same_opening { at_opening self.new.log ≡ at_opening self.old.log }
     {
         match self.sign_refusal() {
             Some(refusal) => return Err(refusal),
@@ -284,6 +294,8 @@ impl Dance {
         ensures changes_nothing_if_refused { OnErr result (self.new ≡ self.old) }
         ensures counts { OnOk result (all_counts self.new.log
             ≡ record (all_counts self.old.log) { current = counts_of Pair.ToAccept self.old.log }) }
+        ensures same_channel { self.new.channel ≡ self.old.channel }
+        ensures same_opening { at_opening self.new.log ≡ at_opening self.old.log }
     {
         let last = self.numbers.commitment;
         if last == LAST_NUMBER {
@@ -319,6 +331,8 @@ impl Dance {
         ensures changes_nothing_if_refused { OnErr result (self.new ≡ self.old) }
         ensures counts { OnOk result (all_counts self.new.log
             ≡ record (all_counts self.old.log) { acknowledged = self.old.log.signed }) }
+        ensures same_channel { self.new.channel ≡ self.old.channel }
+        ensures same_opening { at_opening self.new.log ≡ at_opening self.old.log }
     {
         if !self.owes() {
             return Err(Refusal::NothingToRevoke);

@@ -261,6 +261,10 @@ pub record AllCounts : Type 0 where
 abbrev pub all_counts : Log → AllCounts
 all_counts l = record { first = l.first; signed = l.signed; acknowledged = l.acknowledged; current = l.current }
 
+-- the log that it was at the opening
+abbrev pub at_opening : Log → Log
+at_opening l = opened l.opening l.role
+
 -- what holds of every log by what it keeps alone, whatever lists it stands for: what isn't had one by one any more is
 -- held as irrevocably committed, the counts lie within one another and within what there is, and no HTLC is of more
 -- than all funds

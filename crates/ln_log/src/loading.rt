@@ -288,7 +288,7 @@ fn views_are_lawful(
 impl UpdateLog {
     ghost use Rattle.std.specs.Prelude.{◌≡◌, ◌↔◌, IsTrue, IfOk, take};
     ghost use Rattle.std.specs.Result.{IsOkUnless};
-    ghost use Rattle.ln_log.specs.Log.{Log, StandsFor, none};
+    ghost use Rattle.ln_log.specs.Log.{Log, StandsFor, none, opened, all_counts, at_opening};
     ghost use Rattle.ln_log.specs.Loading.{stored, IsReadable};
 
     /// Whether a log can be made of what the record of a channel tells of its updates: what both sides agreed on, this
@@ -348,6 +348,9 @@ impl UpdateLog {
         requires { IsReadable (stored opening role own.items received.items coverage) }
         ensures stands_for_the_lists { IfOk result (λ l. StandsFor l (stored opening role own.items received.items
             coverage)) }
+        ensures counts { IfOk result (λ l. all_counts l
+            ≡ all_counts (stored opening role own.items received.items coverage)) }
+        ensures opening { IfOk result (λ l. at_opening l ≡ opened opening role) }
         ensures fails_for_memory_alone { IsOkUnless result Refusal.Memory }
     {
         let own_standing = standing_of(alloc, &opening, role, &own, &received)?;

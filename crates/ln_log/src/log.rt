@@ -115,7 +115,7 @@ impl UpdateLog {
     ghost use Rattle.ln_log.specs.View.{AddsUp};
     ghost use Rattle.ln_log.specs.Limits.{HasNextId, Answers, most_updates, is_at_update_limit};
     ghost use Rattle.ln_log.specs.Log.{StandsFor, IsWithin, IsInOrder, updates_of, count_of, first_of, update_at};
-    ghost use Rattle.ln_log.specs.Log.{unacknowledged, all_counts, IsInRange};
+    ghost use Rattle.ln_log.specs.Log.{unacknowledged, all_counts, at_opening, IsInRange};
     ghost use Rattle.ln_log.specs.Log.{AreWithin, opened, after_propose, after_receive, after_sign, after_accept};
     ghost use Rattle.ln_log.specs.Log.{after_learn, after_drop, sign_fault, removal_fault, proposal_fault, taken_fault};
     ghost use Rattle.ln_log.specs.Log.{covered, counts_of, live_in, view_for};
@@ -123,7 +123,9 @@ impl UpdateLog {
     /// A channel end before any update. Takes no memory.
     pub fn new(alloc: Global, role: Role, opening: Opening) -> UpdateLog
         requires { IsFit opening }
-        ensures { StandsFor result (opened opening role) }
+        ensures before_any_update { StandsFor result (opened opening role) }
+        ensures counts { all_counts result ≡ all_counts (opened opening role) }
+        ensures opening { at_opening result ≡ opened opening role }
     {
         let none = Counts { own: 0, peer: 0 };
         let own = Standing {
@@ -175,6 +177,7 @@ impl UpdateLog {
             → OnOk result (StandsFor self.new (after_propose update l)) }
         ensures changes_nothing_if_refused { OnErr result (self.new ≡ self.old) }
         ensures changes_no_count { all_counts self.new ≡ all_counts self.old }
+        ensures same_opening { at_opening self.new ≡ at_opening self.old }
     {
         match self.proposal_refusal(&update) {
             Some(refusal) => Err(refusal),
@@ -254,6 +257,7 @@ impl UpdateLog {
             → OnOk result (StandsFor self.new (after_receive update l)) }
         ensures changes_nothing_if_refused { OnErr result (self.new ≡ self.old) }
         ensures changes_no_count { all_counts self.new ≡ all_counts self.old }
+        ensures same_opening { at_opening self.new ≡ at_opening self.old }
     {
         match self.taken_refusal(&update) {
             Some(refusal) => Err(refusal),
@@ -315,6 +319,7 @@ impl UpdateLog {
         ensures moves_as_stated { (l : Log) → StandsFor self.old l → StandsFor self.new (after_sign l) }
         ensures counts { all_counts self.new
             ≡ record (all_counts self.old) { signed = counts_of Pair.ToSign self.old } }
+        ensures same_opening { at_opening self.new ≡ at_opening self.old }
     {
         let next = self.counts(Pair::ToSign);
         self.signed = next;
@@ -327,6 +332,7 @@ impl UpdateLog {
         ensures moves_as_stated { (l : Log) → StandsFor self.old l → StandsFor self.new (after_accept l) }
         ensures counts { all_counts self.new
             ≡ record (all_counts self.old) { current = counts_of Pair.ToAccept self.old } }
+        ensures same_opening { at_opening self.new ≡ at_opening self.old }
     {
         let next = self.counts(Pair::ToAccept);
         let updates = &self.received[self.current.peer..];
@@ -342,6 +348,7 @@ impl UpdateLog {
     pub fn acknowledged(&mut self)
         ensures moves_as_stated { (l : Log) → StandsFor self.old l → StandsFor self.new (after_learn l) }
         ensures counts { all_counts self.new ≡ record (all_counts self.old) { acknowledged = self.old.signed } }
+        ensures same_opening { at_opening self.new ≡ at_opening self.old }
     {
         let updates = &self.own[self.acknowledged.own..self.signed.own];
         let htlcs = &self.received[..self.signed.peer];
@@ -356,6 +363,7 @@ impl UpdateLog {
     pub fn drop_unsigned(&mut self)
         ensures moves_as_stated { (l : Log) → StandsFor self.old l → StandsFor self.new (after_drop l) }
         ensures changes_no_count { all_counts self.new ≡ all_counts self.old }
+        ensures same_opening { at_opening self.new ≡ at_opening self.old }
     {
         self.own.truncate(self.signed.own);
         self.received.truncate(self.current.peer);

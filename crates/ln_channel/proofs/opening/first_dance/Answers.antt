@@ -19,7 +19,7 @@ begun_at role channel o point = record {
 
 pub returns : goal.returns
 returns c =
-    c.new.ensures _ c.new-updates.ensures
+    c.new.ensures _ c.new-updates.ensures.before_any_update
     ∙ ap (λ (o : Opening). begun_at c.args.role c.args.channel o c.first_point.result) c.opening.ensures
     ∙ ap (begun_at c.args.role c.args.channel (opening_of c.args.terms.now)) (c.first_point.ensures
     ∙ ap (λ (r : Role). first_point r c.args.terms.now) c.other.ensures)
