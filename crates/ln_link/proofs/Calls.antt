@@ -47,7 +47,7 @@ has_stored : (f : Option Refusal) (o : Option End) (rs : Records) → HasSaved f
 has_stored f None rs h = tt
 has_stored f (Some e) rs h = (found rs e.dance.channel (record_bytes (items_of f e)), h)
 
-has_saved : (f : Option Refusal) (o : Option End) (s t : Shelf) → IsSaved f o s t → Has f o t.records
+pub has_saved : (f : Option Refusal) (o : Option End) (s t : Shelf) → IsSaved f o s t → Has f o t.records
 has_saved f o s t h =
     subst (Has f o) (sym (ap (λ (x : Shelf). x.records) h.1)) (has_stored f o s.records h.0)
 
@@ -105,7 +105,7 @@ unchanged e keys line false None s h =
     { keys = keys; line = line; halted = false; failure = None; stage = s })
     else record { keys = keys; line = line; halted = false; failure = None; stage = s }) h
 
-refused_by : {K : Type 0} (e : Refusal) (l : State K) (s t : Shelf) (b : Bool) → fails_now e l ≡ b
+pub refused_by : {K : Type 0} (e : Refusal) (l : State K) (s t : Shelf) (b : Bool) → fails_now e l ≡ b
     → SavesIf b (refused e l).failure (saved_end (refused e l).stage) s t → HasLink l s
     → HasLink (refused e l) t
 refused_by e l s t true is saved h = has_saved (refused e l).failure (saved_end (refused e l).stage) s t saved
@@ -115,7 +115,7 @@ refused_by e l s t false is same h =
 
 -- ---- one call
 
-abbrev Stays : {K : Type 0} → State K → Shelf → Type 0
+abbrev pub Stays : {K : Type 0} → State K → Shelf → Type 0
 Stays l s = (l.halted ≡ true) ⊎ HasLink l s
 
 moved : {K : Type 0} (n m : State K) (s : Shelf) → n ≡ m → Stays m s → Stays n s
@@ -198,8 +198,8 @@ over_stays keys l n m (Err e) s t (inl h) has = inl (ap (λ (x : State _). x.hal
 over_stays keys l n m (Err e) s t (inr h) has =
     message_stays (handled_beside s.records keys l m) l n m (Err e) s t h has
 
-call_stays : {K : Type 0} (keys : Signer) (c : Call) (l k : State K) (s t : Shelf) → Leads keys c l s k t → HasLink l s
-    → Stays k t
+pub call_stays : {K : Type 0} (keys : Signer) (c : Call) (l k : State K) (s t : Shelf) → Leads keys c l s k t
+    → HasLink l s → Stays k t
 call_stays keys (Handle m) l k s t h has = over_stays keys l k m h.0 s t h.1 has
 call_stays keys (Command c) l k s t h has = command_stays (commanded keys l c) l k h.0 s t h.1 has
 call_stays keys Connect l k s t h has =
@@ -220,7 +220,7 @@ no_failure e l s t h saves =
     subst (λ b. SavesIf b (refused e l).failure (saved_end (refused e l).stage) s t)
     (ap (λ (b : Bool). not b && (is_none l.failure && fails e)) h) saves
 
-abbrev IsStill : {K : Type 0} → State K → Shelf → Shelf → Type 0
+abbrev pub IsStill : {K : Type 0} → State K → Shelf → Shelf → Type 0
 IsStill k s t = (k.halted ≡ true) × (t ≡ s)
 
 still : {K : Type 0} (k l : State K) (s t : Shelf) → k ≡ l → l.halted ≡ true → t ≡ s → IsStill k s t
@@ -292,7 +292,7 @@ over_still keys l n m answer s t halted h = by answer h
         absurd (subst (λ o. CannotTell e o s.failed t.failed) (opens_none l m halted) a.cause)
     by (Err e) (inr a) = message_still (handled_beside s.records keys l m) l n m (Err e) s t says halted a
 
-call_still : {K : Type 0} (keys : Signer) (c : Call) (l k : State K) (s t : Shelf) → Leads keys c l s k t
+pub call_still : {K : Type 0} (keys : Signer) (c : Call) (l k : State K) (s t : Shelf) → Leads keys c l s k t
     → l.halted ≡ true → IsStill k s t
 call_still keys (Handle m) l k s t h halted =
     over_still keys l k m h.0 s t halted h.1
@@ -350,7 +350,7 @@ halts_channel l = by (is_down l.line) l
     by true l = refl
     by false l = cut_channel l.stage
 
-new_records : (e : Refusal) (f : Option Refusal) (o : Option End) (s t : Shelf) → IsUnsaved e f o s t
+pub new_records : (e : Refusal) (f : Option Refusal) (o : Option End) (s t : Shelf) → IsUnsaved e f o s t
     → (t.records ≡ s.records) ⊎ Has f o t.records
 new_records e f o s t u = by u.cause u.one_of_both
   where

@@ -6,5 +6,6 @@ pub mod Coverage
 pub mod Restarted
 pub mod Window
 pub mod Calls
+pub mod Halting
 pub mod Written
 pub mod Saved

@@ -1,5 +1,5 @@
 -- The calls of one link over one store, one behind the other, and what the store has of it.
-use Rattle.std.specs.Prelude.{◌≡◌, ℕ, List, [], ◌∷◌, Option, Some, None, Result}
+use Rattle.std.specs.Prelude.{◌≡◌, ◌⊎◌, ◌++◌, ℕ, List, [], ◌∷◌, true, false, Option, Some, None, Result, Ok, Err}
 use Rattle.std.specs.FinMap as map
 use Rattle.ln_msgs.specs.declared.messages.message.Message.{Message}
 use Rattle.ln_msgs.specs.declared.refusals.refusal.Refusal.{Refusal}
@@ -8,13 +8,13 @@ use Rattle.ln_channel.specs.declared.command.Command as command
 use Rattle.ln_channel.specs.declared.output.Output.{Output}
 use Rattle.ln_channel.specs.End.{End}
 use Rattle.ln_channel.specs.Record.{saved_end}
-use Rattle.ln_channel.specs.State.{State, KeepsChannel, drops, halts}
-use Rattle.ln_channel.specs.Step.{commanded, connected, Answered}
+use Rattle.ln_channel.specs.State.{State, KeepsChannel, refused, drops, halts}
+use Rattle.ln_channel.specs.Step.{Done, commanded, connected, Answered}
 use Rattle.ln_store.specs.Store.{Records}
 use Rattle.ln_store.specs.Record.{record_bytes}
 use Rattle.ln_link.specs.Record.{items_of}
 use Rattle.ln_link.specs.Loading.{HasRecord}
-use Rattle.ln_link.specs.Saving.{Shelf, AnswersOver, AnswersCommand}
+use Rattle.ln_link.specs.Saving.{Shelf, AnswersOver, AnswersCommand, handled_beside, reached}
 
 pub data Call : Type 0 where
   Handle : (m : Message) → Call
@@ -53,3 +53,32 @@ HasLink l s = Has l.failure (saved_end l.stage) s.records
 abbrev pub HasChannel : List ℕ → Shelf → Type 0
 HasChannel channel s =
     (failure : Option Refusal) × (e : End) × (e.dance.channel ≡ channel) × Has failure (Some e) s.records
+
+-- ---- a link that halts
+
+abbrev pub left_by : {K : Type 0} → Result Done Refusal → (Refusal → State K) → State K → State K
+left_by (Ok d) refusing l = reached d l
+left_by (Err r) refusing l = refusing r
+
+-- what a call makes of a link over a store, whether it can be saved or not
+abbrev pub made_by : {K : Type 0} → Signer → Call → State K → Shelf → State K
+made_by keys (Handle m) l s = left_by (handled_beside s.records keys l m) (λ r. refused r l) l
+made_by keys (Command c) l s = left_by (commanded keys l c) (λ r. l) l
+made_by keys c l s = l
+
+-- A link works up to the call by which it halts. Whatever it is called for then, the store has the record of the link
+-- as it was before that call, or of what the call made of it.
+pub record HaltsWithRecord {K : Type 0} (keys : Signer) (calls : List Call) (l : State K) (s s' : Shelf) : Type 0 where
+  pub before : List Call
+  pub call : Call
+  pub rest : List Call
+  pub are_all : calls ≡ before ++ call ∷ rest
+  pub old : State K
+  pub found : Shelf
+  pub leads : Lead keys before l s old found
+  pub works : old.halted ≡ false
+  pub new : State K
+  pub left : Shelf
+  pub makes : Leads keys call old found new left
+  pub halts : new.halted ≡ true
+  pub has_one : HasLink old s' ⊎ HasLink (made_by keys call old found) s'

@@ -1,6 +1,6 @@
 //! What a record has of an end.
 
-ghost use Rattle.std.specs.Prelude.{◌≡◌, ℕ, List, Option, Some, false};
+ghost use Rattle.std.specs.Prelude.{◌≡◌, ℕ, List, Option, Some, true, false};
 ghost use Rattle.ln_msgs.specs.declared.refusals.refusal.Refusal.{Refusal};
 ghost use Rattle.ln_keys.specs.Signer.{Signer};
 ghost use Rattle.ln_channel.specs.End.{End, end_dropped};
@@ -8,7 +8,7 @@ ghost use Rattle.ln_channel.specs.State.{State, kept_channel};
 ghost use Rattle.ln_link.specs.Record.{items_of};
 ghost use Rattle.ln_link.specs.Loading.{IsLoadable, HasRecord, end_of};
 ghost use Rattle.ln_link.specs.Saving.{Shelf};
-ghost use Rattle.ln_link.specs.Calls.{Call, Lead, HasLink, HasChannel};
+ghost use Rattle.ln_link.specs.Calls.{Call, Lead, HasLink, HasChannel, HaltsWithRecord};
 
 use ln_keys::ChannelKeys;
 
@@ -29,11 +29,15 @@ pub fn saved_is_loaded()
 
 /// A law: over any calls of one link whose record its store has, as that of a new link, which needs none, and of one
 /// that was loaded: a link that hasn't halted has its record in the store, as a lost connection leaves it and with its
-/// failure, and it can be loaded; and whatever was answered, also by 60, 61 or 70, from the saved opening on the store
-/// has a record of the channel that can be loaded.
+/// failure, and it can be loaded; one that has halted, as it was told to or by 60, 61 or 70, has there the record of
+/// what it was before the call by which it halted, or of what that call made of it; and whatever was answered, from the
+/// saved opening on the store has a record of the channel that can be loaded.
 pub fn store_has_the_record<K: ChannelKeys>()
     ensures of_the_link { (keys : Signer) (calls : List Call) (l l' : State K) (s s' : Shelf) → HasLink l s
         → Lead keys calls l s l' s' → l'.halted ≡ false → HasLink l' s' }
+    ensures of_before_or_behind_the_halt { (keys : Signer) (calls : List Call) (l l' : State K) (s s' : Shelf)
+        → HasLink l s → l.halted ≡ false → Lead keys calls l s l' s' → l'.halted ≡ true
+        → HaltsWithRecord keys calls l s s' }
     ensures of_the_channel { (keys : Signer) (channel : List ℕ) (calls : List Call) (l l' : State K) (s s' : Shelf)
         → HasLink l s → kept_channel l.stage ≡ Some channel → Lead keys calls l s l' s' → HasChannel channel s' }
 {}

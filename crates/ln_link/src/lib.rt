@@ -7,9 +7,7 @@ mod link;
 mod loading;
 mod payload;
 mod record;
-mod restarting;
 
 pub use laws::{lost_connection_is_recorded, saved_is_loaded, store_has_the_record};
 pub use link::Link;
 pub use record::to_record;
-pub use restarting::restart;

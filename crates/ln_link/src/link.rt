@@ -105,13 +105,13 @@ fn is_known<S: RecordStore>(
 }
 
 impl<K: ChannelKeys + Drop> Link<K> {
-    ghost use Rattle.std.specs.Prelude.{◌&&◌, Ok, true};
+    ghost use Rattle.std.specs.Prelude.{◌&&◌, IsErrOf, Ok, true};
     ghost use Rattle.ln_channel.specs.Pending.{pending_at};
     ghost use Rattle.ln_channel.specs.declared.unsaved.Stage.TheVariants as stage;
     ghost use Rattle.ln_channel.specs.State.{State, StandsFor, KeepsChannel, begun, drops, halts};
     ghost use Rattle.ln_channel.specs.Step.{Answered, connected, handled, commanded};
     ghost use Rattle.ln_store.specs.Readable.{is_readable};
-    ghost use Rattle.ln_store.specs.Record.{record_at, record_bytes};
+    ghost use Rattle.ln_store.specs.Record.{record_at, record_bytes, is_sealed, version_of};
     ghost use Rattle.ln_store.specs.declared.record.Items.{Items};
     ghost use Rattle.ln_link.specs.Loading.{Loads};
     ghost use Rattle.ln_link.specs.Saving.{Keeps, Refuses, is_failing, AnswersMessage, AnswersOver, AnswersCommand};
@@ -140,7 +140,8 @@ impl<K: ChannelKeys + Drop> Link<K> {
     ///
     /// Errors: those of `decode_record` (70, 71); 70 where the items can't be loaded: an update is in the base, no log
     /// has these updates and counts (`UpdateLog::can_be_loaded`), the closing fees aren't in order, or the peer's
-    /// script isn't there exactly where the peer has shut down. 60 where there is no memory.
+    /// script isn't there exactly where the peer has shut down. 60 where there is no memory for the body of a record of
+    /// this version with its length and digest: what is told before takes none.
     pub fn from_record(alloc: Global, keys: K, bytes: &[u8]) -> Result<Link<K>, Refusal>
         // The link, or the first fault.
         ensures loads_as_defined { Loads keys (record_at bytes.now) result }
@@ -148,6 +149,10 @@ impl<K: ChannelKeys + Drop> Link<K> {
         // What is written of readable items is loaded as they tell.
         ensures loads_each_record { (i : Items) → is_readable i ≡ true → bytes.now ≡ record_bytes i
             → Loads keys (Ok i) result }
+
+        // What is told before a body of this version is looked at takes no memory.
+        ensures takes_memory_for_the_body { IsErrOf result Refusal.Memory
+            → (is_sealed bytes.now ≡ true) × (version_of bytes.now ≡ 1) }
     {
         let unsaved = loaded(alloc, keys, bytes)?;
         Ok(Link { unsaved })

@@ -1,6 +1,6 @@
 //! What is loaded from the bytes of a record.
 
-ghost use Rattle.std.specs.Prelude.{◌≡◌, ◌∷◌, ◌≤◌, ◌⊎◌, ◌↔◌, IsTrue, IfOk, IfErr, Ok, true};
+ghost use Rattle.std.specs.Prelude.{◌≡◌, ◌∷◌, ◌≤◌, ◌⊎◌, ◌↔◌, IsTrue, IfOk, IfErr, IsErrOf, Ok, true};
 ghost use Rattle.std.specs.Prelude.{is_some};
 ghost use Rattle.ln_msgs.specs.declared.refusals.refusal.Refusal.TheVariants as refusal;
 ghost use Rattle.ln_msgs.specs.Messages.Message.{message_at};
@@ -17,7 +17,7 @@ ghost use Rattle.ln_close.specs.Closing.{AreOrdered};
 ghost use Rattle.ln_channel.specs.Opening.{opening_of};
 ghost use Rattle.ln_channel.specs.Ledger.{most_decided};
 ghost use Rattle.ln_store.specs.Readable.{is_readable, is_open_payload, is_accept_payload};
-ghost use Rattle.ln_store.specs.Record.{record_at, record_bytes};
+ghost use Rattle.ln_store.specs.Record.{record_at, record_bytes, is_sealed, version_of};
 ghost use Rattle.ln_store.specs.declared.record.Items.{Items};
 ghost use Rattle.ln_link.specs.Record.{base_of, no_sides};
 ghost use Rattle.ln_link.specs.Loading.{open_in, accept_in, terms_of, marks_of, closing_of, own_in, received_in};
@@ -336,6 +336,10 @@ pub(crate) fn loaded<K: ChannelKeys + Drop>(
     // What is written of readable items is loaded as they tell.
     ensures loads_each_record { (i : Items) → is_readable i ≡ true → bytes.now ≡ record_bytes i
         → Loads keys (Ok i) result }
+
+    // What is told before a body of this version is looked at takes no memory.
+    ensures takes_memory_for_the_body { IsErrOf result refusal.Memory
+        → (is_sealed bytes.now ≡ true) × (version_of bytes.now ≡ 1) }
 {
     let record = decode_record(alloc, bytes)?;
     let items = record.into_items();
