@@ -1,6 +1,7 @@
 //! Two sides that dance over toy keys. What stands in hex was computed by a separate Python program over hashlib.
 
-use crate::testing::{FUNDEE, FUNDER, bytes_of, htlc, message_of, point_of, side, signature_of};
+use crate::ends::{FUNDEE, FUNDER, htlc};
+use crate::testing::{bytes_of, message_of, point_of, side, signature_of};
 use ln_dance::{Dance, Later, Numbers, Peer, update_of};
 use ln_keys::{ChannelKeys, Role, ToyKeys};
 use ln_log::{Pair, Update};

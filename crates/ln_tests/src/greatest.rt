@@ -1,9 +1,7 @@
 //! The longest messages of a channel, and the record that has them.
 
 use crate::code_of;
-use crate::link::{boxed, messages_of, open_spec};
-use crate::saving::{Side, fundee_side, played, stored};
-use crate::testing::FUNDER;
+use crate::ends::{FUNDER, Side, boxed, fundee_side, messages_of, open_spec, played, stored};
 use ln_bytes::{Bytes, Record};
 use ln_channel::{Command, FitSpec, Output};
 use ln_link::Link;

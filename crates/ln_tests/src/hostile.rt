@@ -1,7 +1,8 @@
 //! Messages that no honest peer sends: by which number a link refuses each, and how it stands behind that.
 
 use crate::code_of;
-use crate::link::{DEAR, Move, begin, fundee, funder};
+use crate::ends::DEAR;
+use crate::link::{Move, begin, fundee, funder};
 use crate::testing::message_of;
 use Move::{Back, Confirm, Down, Lost, Offer, Out, Shut, Up};
 use ln_channel::{Command, Unsaved};

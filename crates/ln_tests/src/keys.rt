@@ -1,6 +1,7 @@
 //! Keys and onions. What stands in hex was computed by a separate Python program over hashlib.
 
-use crate::testing::{FUNDEE, FUNDER, bytes_of, point_of, signature_of};
+use crate::ends::{FUNDEE, FUNDER};
+use crate::testing::{bytes_of, point_of, signature_of};
 use ln_bytes::Bytes;
 use ln_keys::{
     ChannelKeys, Htlc, Htlcs, Onion, OpenFault, Role, Signed, ToyKeys, ToyOnion, View,

@@ -1,9 +1,8 @@
 //! What a link keeps of decisions, and of what became of HTLCs that it forwards.
 
 use crate::code_of;
-use crate::link::{boxed, error};
-use crate::saving::{Side, fundee_side, funder_side, played, stored, taken};
-use crate::testing::{FUNDER, htlc};
+use crate::ends::{FUNDER, Side, boxed, fundee_side, funder_side, htlc, played, stored, taken};
+use crate::link::error;
 use ln_bytes::Bytes;
 use ln_channel::{Command, Output};
 use ln_hooks::ChannelEvent;

@@ -2,14 +2,18 @@
 //! their own because a crate with tests is proved twice, with them and without.
 #![tactic(auto)]
 
+mod ends;
+mod failing_store;
 mod refusal;
 
+pub use ends::{
+    FUNDEE, FUNDER, Side, boxed, fundee_side, funder_side, messages_of, offer, played, stored,
+};
+pub use failing_store::FailingStore;
 pub use refusal::code_of;
 
 #[cfg(test)]
 mod dance;
-#[cfg(test)]
-mod failing_saves;
 #[cfg(test)]
 mod greatest;
 #[cfg(test)]

@@ -1,13 +1,15 @@
 //! Two ends of a channel, as they hand their messages to one another.
 
 use crate::code_of;
-use crate::testing::{FUNDEE, FUNDER, htlc};
+use crate::ends::{
+    DEAR, FUNDEE, FUNDER, Range, boxed, config, htlc, messages_of, offer, open_spec,
+};
 use ln_bytes::{Bytes, ShortId};
-use ln_channel::{Command, Config, FitConfig, FitSpec, OpenSpec, Output, Points, Unsaved};
+use ln_channel::{Command, FitConfig, FitSpec, Output, Unsaved};
 use ln_dance::add_message;
 use ln_hooks::ChannelEvent;
 use ln_keys::ToyKeys;
-use ln_log::{Limits, Mark};
+use ln_log::Mark;
 use ln_msgs::{Error, Message, Records, Refusal};
 use std::alloc::Global;
 
@@ -47,56 +49,6 @@ use Move::{
     Back, Confirm, Decide, Down, Fail, Forget, Garble, Halt, Hear, Lost, Offer, Out, Pay, Rate,
     Shut, Take, Up,
 };
-
-/// Least, first and greatest closing fee.
-pub type Range = (u64, u64, u64);
-
-const POINTS: Points = Points {
-    funding_pubkey: [2; 33],
-    revocation_basepoint: [2; 33],
-    payment_basepoint: [2; 33],
-    delayed_payment_basepoint: [2; 33],
-    htlc_basepoint: [2; 33],
-};
-
-pub fn config(alloc: Global, fees: Range) -> Config {
-    Config {
-        limits: Limits {
-            minimum: 1,
-            accepted: 30,
-            in_flight: 1_000_000_000_000,
-            reserve: 0,
-        },
-        chain_hash: [0; 32],
-        dust_limit: 546,
-        to_self_delay: 144,
-        minimum_depth: 3,
-        points: POINTS,
-        first: fees.1,
-        least: fees.0,
-        greatest: fees.2,
-        script: Bytes::empty(alloc),
-    }
-}
-
-/// In a box: a function that owns a link pays for its whole depth at each way out, one that owns a box doesn't.
-pub fn boxed<T: Drop>(alloc: Global, value: T) -> Result<Box<T>, Refusal> {
-    Ok(Box::new(alloc, value)?)
-}
-
-pub fn open_spec(alloc: Global) -> OpenSpec {
-    OpenSpec {
-        config: config(alloc, (200, 300, 400)),
-        funding: 1_000_000,
-        push: 0,
-        feerate: 253,
-        flags: 0,
-        temporary_id: [255; 32],
-        txid: [9; 32],
-        output: 0,
-        records: Records::empty(alloc),
-    }
-}
 
 /// A new end of the funder.
 pub fn funder(alloc: Global) -> Result<Box<Unsaved<ToyKeys>>, Refusal> {
@@ -167,31 +119,6 @@ fn noted(outputs: Vec<Output>, seen: &mut Vec<u64>) -> Result<Vec<Output>, Refus
         seen.push(word(output))?;
     }
     Ok(outputs)
-}
-
-/// Puts the message of an output behind others.
-fn collect(output: Output, messages: &mut Vec<Message>) -> Result<(), Refusal> {
-    match output {
-        Output::Send(message) => push(messages, message),
-        other => {
-            drop(other);
-            Ok(())
-        }
-    }
-}
-
-/// Puts an item behind others.
-pub fn push<T: Drop>(items: &mut Vec<T>, item: T) -> Result<(), Refusal> {
-    Ok(items.push(item)?)
-}
-
-/// The messages among outputs.
-pub fn messages_of(alloc: Global, outputs: Vec<Output>) -> Result<Vec<Message>, Refusal> {
-    let mut messages = Vec::new(alloc);
-    for output in outputs {
-        collect(output, &mut messages)?;
-    }
-    Ok(messages)
 }
 
 /// Hands all messages that were handed out to the other end, and gives what that one hands out last.
@@ -282,20 +209,6 @@ fn answer(alloc: Global, one: Move) -> Command {
         },
         Back => Command::Sign,
         _ => Command::Forget(0),
-    }
-}
-
-/// The command by which an HTLC of 5000 msat is offered. Its preimage is 32 zero bytes.
-pub fn offer() -> Command {
-    let add = htlc(0, 5000, 400);
-    let hash = add.hash;
-    let onion = add.onion;
-    Command::Add {
-        amount: add.amount,
-        hash,
-        expiry: add.expiry,
-        onion,
-        origin: None,
     }
 }
 
@@ -461,8 +374,6 @@ fn played(
     let mut b = fundee(alloc, fees)?;
     moved(alloc, &mut a, &mut b, table, outputs)
 }
-
-pub const DEAR: Range = (350, 400, 500);
 
 #[test]
 fn moves(rt: HostRuntime) -> Result<(), Refusal> {

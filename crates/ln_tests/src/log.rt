@@ -1,6 +1,7 @@
 //! A log of updates: what the commitments are worth at each step of a payment, and the plain programs.
 
-use crate::testing::{OPENING, htlc};
+use crate::ends::htlc;
+use crate::testing::OPENING;
 use ln_bytes::Bytes;
 use ln_log::{
     ChannelId, Counts, Opening, Outcome, Pair, Role, Side, Standing, Update, UpdateLog, View,

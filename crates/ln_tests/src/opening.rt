@@ -1,8 +1,8 @@
 //! The opening of a channel, message by message.
 
 use crate::code_of;
-use crate::link::{boxed, messages_of};
-use crate::testing::{FUNDEE, FUNDER, bytes_of};
+use crate::ends::{FUNDEE, FUNDER, boxed, messages_of};
+use crate::testing::bytes_of;
 use ln_bytes::{Bytes, Record};
 use ln_channel::{Config, FitConfig, FitSpec, OpenSpec, Output, Points, Unsaved};
 use ln_keys::{ToyKeys, sha256_32};

@@ -1,7 +1,7 @@
 //! A second opening of a channel that a store has a record of.
 
 use crate::code_of;
-use crate::saving::{Side, fundee_side, funder_side, played, stored, taken};
+use crate::ends::{Side, fundee_side, funder_side, played, stored, taken};
 use ln_channel::{Command, Output};
 use ln_msgs::Refusal;
 use ln_store::{MemoryStore, RecordStore};

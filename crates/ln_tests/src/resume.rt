@@ -1,8 +1,8 @@
 //! Two sides whose connection is lost while something is on its way, and what each sends again, over toy keys.
 
 use crate::code_of;
-use crate::link::boxed;
-use crate::testing::{CHANNEL, FUNDEE, FUNDER, htlc, side};
+use crate::ends::{FUNDEE, FUNDER, boxed, htlc};
+use crate::testing::{CHANNEL, side};
 use ln_dance::{Dance, Resend, update_of};
 use ln_keys::{ChannelKeys, Role, ToyKeys};
 use ln_log::Update;

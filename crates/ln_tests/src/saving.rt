@@ -1,118 +1,13 @@
 //! A link that saves before it hands out: what its store has behind each call, and a save that fails.
 
-use crate::code_of;
-use crate::link::{DEAR, boxed, config, messages_of, offer, open_spec};
-use crate::store::FailingStore;
-use crate::testing::{FUNDEE, FUNDER};
-use ln_bytes::ShortId;
-use ln_channel::{Command, FitConfig, FitSpec, Life, Output, Standing, Unsaved};
+use crate::ends::{FUNDER, Side, boxed, fundee_side, funder_side, offer, played, stored};
+use crate::{FailingStore, code_of};
+use ln_channel::{Command, Life, Standing};
 use ln_keys::{ToyKeys, sha256_32};
-use ln_link::{Link, restart};
-use ln_msgs::{Message, Refusal};
+use ln_link::Link;
+use ln_msgs::Refusal;
 use ln_store::{MemoryStore, RecordStore, decode_record};
 use std::alloc::Global;
-
-/// A link and its store.
-#[derive(Drop)]
-pub struct Side<S: RecordStore + Drop> {
-    pub link: Box<Link<ToyKeys>>,
-    pub store: S,
-}
-
-fn side_of<S: RecordStore + Drop>(
-    link: Result<Box<Link<ToyKeys>>, Refusal>,
-    store: S,
-) -> Result<Side<S>, Refusal> {
-    match link {
-        Ok(link) => Ok(Side { link, store }),
-        Err(refusal) => {
-            drop(store);
-            Err(refusal)
-        }
-    }
-}
-
-/// The funder's side of a new channel, which saves in this store.
-pub fn funder_side<S: RecordStore + Drop>(alloc: Global, store: S) -> Result<Side<S>, Refusal> {
-    let spec = open_spec(alloc);
-    if spec.fits() {
-        side_of(
-            boxed(alloc, Link::funder(FUNDER, FitSpec::new(spec))),
-            store,
-        )
-    } else {
-        drop(spec);
-        side_of(Err(Refusal::NotReady), store)
-    }
-}
-
-/// The fundee's.
-pub fn fundee_side<S: RecordStore + Drop>(alloc: Global, store: S) -> Result<Side<S>, Refusal> {
-    let config = config(alloc, DEAR);
-    if config.fits() {
-        side_of(
-            boxed(alloc, Link::fundee(FUNDEE, FitConfig::new(config))),
-            store,
-        )
-    } else {
-        drop(config);
-        side_of(Err(Refusal::NotReady), store)
-    }
-}
-
-/// What a side answers to a message, behind others.
-fn take<S: RecordStore + Drop>(
-    alloc: Global,
-    message: Message,
-    side: &mut Side<S>,
-    all: &mut Vec<Output>,
-) -> Result<(), Refusal> {
-    let mut answers = side.link.handle(alloc, &mut side.store, message)?;
-    Ok(all.append(&mut answers)?)
-}
-
-/// What a side answers to all that it is sent.
-pub fn taken<S: RecordStore + Drop>(
-    alloc: Global,
-    outputs: Vec<Output>,
-    side: &mut Side<S>,
-) -> Result<Vec<Output>, Refusal> {
-    let mut all = Vec::new(alloc);
-    for message in messages_of(alloc, outputs)? {
-        take(alloc, message, side, &mut all)?;
-    }
-    Ok(all)
-}
-
-/// The four messages of an opening pass.
-fn opened<S: RecordStore + Drop, T: RecordStore + Drop>(
-    alloc: Global,
-    a: &mut Side<S>,
-    b: &mut Side<T>,
-) -> Result<(), Refusal> {
-    drop(b.link.connect(alloc)?);
-    let created = a.link.connect(alloc)?;
-    let accepted = taken(alloc, created, b)?;
-    let created = taken(alloc, accepted, a)?;
-    let signed = taken(alloc, created, b)?;
-    drop(taken(alloc, signed, a)?);
-    Ok(())
-}
-
-fn confirmed<S: RecordStore + Drop, T: RecordStore + Drop>(
-    alloc: Global,
-    a: &mut Side<S>,
-    b: &mut Side<T>,
-) -> Result<(), Refusal> {
-    let Some(id) = ShortId::parse("1x1x0") else {
-        return Err(Refusal::Truncated);
-    };
-    let from_a = a.link.command(alloc, &mut a.store, Command::Confirm(id))?;
-    let from_b = b.link.command(alloc, &mut b.store, Command::Confirm(id))?;
-    drop(taken(alloc, from_a, b)?);
-    drop(taken(alloc, from_b, a)?);
-    Ok(())
-}
 
 /// The funder's end changes the fee and signs: by what it is refused, 0 where it isn't.
 fn signed<S: RecordStore + Drop>(alloc: Global, a: &mut Side<S>) -> (u32, u32) {
@@ -144,16 +39,6 @@ fn recorded<S: RecordStore + Drop>(
     ))
 }
 
-/// The channel is opened, and both ends are ready. Each end has saved three times.
-pub fn played<S: RecordStore + Drop, T: RecordStore + Drop>(
-    alloc: Global,
-    a: &mut Side<S>,
-    b: &mut Side<T>,
-) -> Result<(), Refusal> {
-    opened(alloc, a, b)?;
-    confirmed(alloc, a, b)
-}
-
 /// What is recorded once both are ready, what is answered to a fee and a signature, and what is recorded then.
 type Told = ((u64, bool, bool), (u32, u32), (u64, bool, bool));
 
@@ -171,7 +56,7 @@ fn told<S: RecordStore + Drop, T: RecordStore + Drop>(
 
 /// The same where the funder's store fails at its save of this number, counted from 0.
 fn told_where_a_save_fails(alloc: Global, saves: u64, leaves_new: bool) -> Result<Told, Refusal> {
-    let store = FailingStore::new(alloc, saves, leaves_new);
+    let store = FailingStore::new(MemoryStore::new(alloc), saves, leaves_new);
     let mut a = funder_side(alloc, store)?;
     let mut b = fundee_side(alloc, MemoryStore::new(alloc))?;
     told(alloc, &mut a, &mut b)
@@ -199,31 +84,10 @@ fn offered<S: RecordStore + Drop>(alloc: Global, a: &mut Side<S>) -> Result<(), 
     Ok(())
 }
 
-/// The bytes of the one record of a store.
-pub fn stored<S: RecordStore + Drop>(alloc: Global, a: &mut Side<S>) -> Result<Vec<u8>, Refusal> {
-    let ids = a.store.ids(alloc)?;
-    let Some(id) = ids.as_slice().first() else {
-        return Err(Refusal::NotReady);
-    };
-    let Some(bytes) = a.store.load(alloc, id)? else {
-        return Err(Refusal::NotReady);
-    };
-    Ok(Vec::from_slice(alloc, bytes.as_slice())?)
-}
-
 /// Where the link stands that comes back from these bytes.
 fn standing_of(alloc: Global, bytes: &[u8]) -> Result<Standing, Refusal> {
     let link = boxed(alloc, Link::from_record(alloc, FUNDER, bytes)?)?;
     link.unsaved().standing(alloc)
-}
-
-/// Where the link stands that comes back where its node restarts.
-fn restarted(alloc: Global, link: &Unsaved<ToyKeys>) -> Result<Standing, Refusal> {
-    let Some(channel) = link.saved() else {
-        return Err(Refusal::NotReady);
-    };
-    let again = boxed(alloc, restart(alloc, FUNDER, link.failure(), channel)?)?;
-    again.standing(alloc)
 }
 
 /// By what the first bytes of a record are refused, so many of them.
@@ -251,9 +115,9 @@ fn refused(alloc: Global, bytes: &mut [u8]) -> (u32, u32, u32) {
     (cut, damaged, other)
 }
 
-/// Where the funder's link stands once it has come back from its store, and over a restart; where it does once its
-/// connection is lost; by what a changed record is refused.
-type Loaded = ((Standing, Standing), Standing, (u32, u32, u32));
+/// Where the funder's link stands once it has come back from its store; where it does once its connection is lost; by
+/// what a changed record is refused.
+type Loaded = (Standing, Standing, (u32, u32, u32));
 
 fn loaded<S: RecordStore + Drop, T: RecordStore + Drop>(
     alloc: Global,
@@ -264,11 +128,10 @@ fn loaded<S: RecordStore + Drop, T: RecordStore + Drop>(
     offered(alloc, a)?;
     let mut bytes = stored(alloc, a)?;
     let back = standing_of(alloc, bytes.as_slice())?;
-    let again = restarted(alloc, a.link.unsaved())?;
     a.link.drop_connection();
     let dropped = a.link.unsaved().standing(alloc)?;
     let faults = refused(alloc, bytes.as_mut_slice());
-    Ok(((back, again), dropped, faults))
+    Ok((back, dropped, faults))
 }
 
 fn loads_of(alloc: Global) -> Result<Loaded, Refusal> {
@@ -280,9 +143,8 @@ fn loads_of(alloc: Global) -> Result<Loaded, Refusal> {
 #[test]
 fn comes_back(rt: HostRuntime) {
     match loads_of(rt.alloc()) {
-        Ok(((back, again), dropped, faults)) => {
+        Ok((back, dropped, faults)) => {
             assert_eq!(rt; back, dropped);
-            assert_eq!(rt; again, dropped);
             assert_eq!(rt; (back.signed, back.live), (1, 0));
             assert_eq!(rt; faults, (70, 70, 71));
             assert_eq!(rt; back.life, Life::Ready);

@@ -1,63 +1,9 @@
 //! Stores of records.
 
-use crate::code_of;
-use ln_bytes::Bytes;
+use crate::{FailingStore, code_of};
 use ln_msgs::Refusal;
 use ln_store::{MemoryStore, RecordStore};
 use std::alloc::Global;
-
-/// A store whose save of this number fails, counted from 0, with the old record left or the new one. Those behind it
-/// don't.
-#[derive(Drop)]
-pub struct FailingStore {
-    inner: MemoryStore,
-    saves_left: u64,
-    leaves_new: bool,
-    failed: u64,
-}
-
-impl FailingStore {
-    pub fn new(alloc: Global, saves_left: u64, leaves_new: bool) -> FailingStore {
-        FailingStore {
-            inner: MemoryStore::new(alloc),
-            saves_left,
-            leaves_new,
-            failed: 0,
-        }
-    }
-}
-
-impl RecordStore for FailingStore {
-    ghost records = { λ s. s.inner };
-
-    ghost failed = { λ s. s.failed };
-
-    fn save(&mut self, alloc: Global, id: &[u8; 32], bytes: &[u8]) -> Result<(), Refusal> {
-        if self.saves_left > 0 {
-            self.inner.save(alloc, id, bytes)?;
-            self.saves_left -= 1;
-            return Ok(());
-        }
-        if self.leaves_new {
-            self.inner.save(alloc, id, bytes)?;
-        }
-        self.saves_left = u64::MAX;
-        self.failed = self.failed.saturating_add(1);
-        Err(Refusal::Store)
-    }
-
-    fn load(&mut self, alloc: Global, id: &[u8; 32]) -> Result<Option<Bytes>, Refusal> {
-        self.inner.load(alloc, id)
-    }
-
-    fn ids(&mut self, alloc: Global) -> Result<Vec<[u8; 32]>, Refusal> {
-        self.inner.ids(alloc)
-    }
-
-    fn failures(&self) -> u64 {
-        self.failed
-    }
-}
 
 /// What a save of this text under 32 bytes of this value is refused by; 0 where it isn't.
 fn saved<S: RecordStore>(alloc: Global, store: &mut S, id: u8, text: &str) -> u32 {
@@ -137,9 +83,9 @@ fn leaves<S: RecordStore>(alloc: Global, store: &mut S, found: &str) -> bool {
 // A save that fails leaves the old record or the new one, and is counted.
 #[test]
 fn records_where_a_save_fails(rt: HostRuntime) {
-    let mut store = FailingStore::new(rt.alloc(), 2, false);
+    let mut store = FailingStore::new(MemoryStore::new(rt.alloc()), 2, false);
     assert!(rt; leaves(rt.alloc(), &mut store, "old"));
-    let mut store = FailingStore::new(rt.alloc(), 2, true);
+    let mut store = FailingStore::new(MemoryStore::new(rt.alloc()), 2, true);
     assert!(rt; leaves(rt.alloc(), &mut store, "new"));
 }
 

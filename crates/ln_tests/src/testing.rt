@@ -4,23 +4,10 @@ ghost use Rattle.std.specs.Prelude.{◌≡◌};
 
 use hex::FromHex;
 use ln_dance::{Dance, Later, Numbers, Peer};
-use ln_keys::{ChannelKeys, Role, ToyKeys, sha256_32};
-use ln_log::{Add, Limits, Opening, UpdateLog};
+use ln_keys::{ChannelKeys, Role, ToyKeys};
+use ln_log::{Limits, Opening, UpdateLog};
 use ln_msgs::{Incoming, Message, Refusal, decode};
 use std::alloc::Global;
-
-/// Keys of the funder, and of the fundee: each one's tag is the other's peer's.
-pub const FUNDER: ToyKeys = ToyKeys {
-    seed: [1; 32],
-    tag: [2; 32],
-    peer_tag: [3; 32],
-};
-
-pub const FUNDEE: ToyKeys = ToyKeys {
-    seed: [4; 32],
-    tag: [3; 32],
-    peer_tag: [2; 32],
-};
 
 /// The bytes of 64 hex digits; zeros for any other text.
 pub fn bytes_of(digits: &str) -> [u8; 32] {
@@ -67,20 +54,6 @@ pub const OPENING: Opening = Opening {
     },
     fundee: LIMITS,
 };
-
-/// An HTLC whose preimage is 32 zero bytes.
-pub fn htlc(id: u64, amount: u64, expiry: u32) -> Add
-    ensures { result.id ≡ id }
-{
-    Add {
-        id,
-        amount,
-        hash: sha256_32(&[0; 32]),
-        expiry,
-        onion: [0; 1366],
-        origin: None,
-    }
-}
 
 pub const CHANNEL: [u8; 32] = [9; 32];
 
