@@ -6,7 +6,7 @@ use crate::rows::{Row, otherwise};
 // Nodes that stop, before the save of an act or behind it: what the act hands out reaches nobody.
 #[test]
 fn stops(rt: HostRuntime) {
-    let rows: [Row; 7] = [
+    let rows: [Row; 8] = [
         // a node stops behind the save of a signature: nobody gets it, and it is sent again
         (
             "ready 0 A B 1000000 0 1x1x0\nadd A0 5000 400 7\nstop-after sign A0\ndown B0\nup 0\n\
@@ -118,6 +118,32 @@ fn stops(rt: HostRuntime) {
              B0 sends reestablish 1 0\nA0 sends channel_ready\nA0 sends shutdown\n\
              A0 sends closing 300\nB0 sends channel_ready\nB0 sends shutdown\n\
              B0 sends closing 300\n\
+             A0 signed 0 committed 0 peer 0 balance 1000000000/0 live 0 closed 300\n\
+             B0 signed 0 committed 0 peer 0 balance 0/1000000000 live 0 closed 300\n",
+        ),
+        // a close: it stops before each, and then goes on
+        (
+            "ready 0 A B 1000000 0 1x1x0\nstop-before shutdown A0\ndown B0\nup 0\ndeliver A0\n\
+             deliver B0\nshutdown A0\ndeliver B0\ndeliver A0\nstop-before deliver B0\ndown A0\n\
+             up 0\ndeliver A0\ndeliver B0\ndeliver B0\ndeliver B0\ndeliver A0\n\
+             stop-before deliver A0\ndown B0\nup 0\ndeliver A0\ndeliver B0\ndeliver B0\n\
+             deliver A0\ndeliver B0\ndeliver A0\nstop-before deliver B0\ndown A0\nup 0\n\
+             deliver A0\ndeliver B0\ndeliver A0\ndeliver B0\ndeliver A0\ndeliver B0\n\
+             deliver B0\nstop-before deliver A0\ndown B0\nup 0\ndeliver A0\ndeliver B0\n\
+             deliver B0\ndeliver A0\ndeliver B0\ndeliver A0\ndeliver B0\ndeliver A0\n",
+            "0 open\nA0 sends channel_ready\nB0 sends channel_ready\nA restarts\n\
+             A0 sends reestablish 1 0\nB0 sends reestablish 1 0\nA0 sends channel_ready\n\
+             B0 sends channel_ready\nA0 sends shutdown\nB restarts\nA0 sends reestablish 1 0\n\
+             B0 sends reestablish 1 0\nA0 sends channel_ready\nA0 sends shutdown\n\
+             B0 sends channel_ready\nB0 sends shutdown\nA restarts\nA0 sends reestablish 1 0\n\
+             B0 sends reestablish 1 0\nA0 sends channel_ready\nA0 sends shutdown\n\
+             B0 sends channel_ready\nB0 sends shutdown\nA0 sends closing 300\nB restarts\n\
+             A0 sends reestablish 1 0\nB0 sends reestablish 1 0\nA0 sends channel_ready\n\
+             A0 sends shutdown\nA0 sends closing 300\nB0 sends channel_ready\n\
+             B0 sends shutdown\nB0 sends closing 300\nB0 event 0 closed 300\nA restarts\n\
+             A0 sends reestablish 1 0\nB0 sends reestablish 1 0\nA0 sends channel_ready\n\
+             A0 sends shutdown\nA0 sends closing 300\nB0 sends channel_ready\n\
+             B0 sends shutdown\nB0 sends closing 300\nA0 event 0 closed 300\n\
              A0 signed 0 committed 0 peer 0 balance 1000000000/0 live 0 closed 300\n\
              B0 signed 0 committed 0 peer 0 balance 0/1000000000 live 0 closed 300\n",
         ),

@@ -1,5 +1,5 @@
 -- No step of channels decides an event: of each end, over every list of steps, none is decided.
-use Rattle.std.proofs.Common.{◌≡◌, ℕ, List, [], ◌∷◌, ◌++◌, map, refl, sym, ap, ◌∙◌, subst}
+use Rattle.std.proofs.Common.{◌≡◌, ℕ, List, [], ◌∷◌, ◌++◌, refl}
 use Rattle.std.proofs.Common.{Bool, true, false, cond, not, ◌==◌, ◌||◌, length, Option, Some, None, Result, Ok, Err}
 use Rattle.ln_bytes.specs.Same.{are_same}
 use Rattle.ln_msgs.specs.declared.messages.message.Message.{Message}
@@ -48,10 +48,10 @@ use Rattle.ln_channel.specs.Resume.{resume_row, resumed}
 use Rattle.ln_channel.specs.Commands.{command_row, propose_row, propose_fault, proposes, confirm_fault, confirmed}
 use Rattle.ln_channel.specs.Commands.{ready_message, sign_command_fault, signs_next, shut_fault, shuts_down}
 use Rattle.ln_channel.specs.Commands.{unready_fault}
-use Rattle.ln_channel.specs.State.{State, is_met, is_down, is_saved, lost, failed, fails_by, unless_failed, refused}
+use Rattle.ln_channel.specs.State.{State, is_met, is_down, is_saved, failed, fails_by, unless_failed, refused}
 use Rattle.ln_channel.specs.State.{cut}
 use Rattle.ln_channel.specs.State.{drops}
-use Rattle.ln_channel.specs.Step.{Done, handled, commanded, connected, replied, open_at, accept_at, created_at}
+use Rattle.ln_channel.specs.Step.{Done, handled, commanded, replied, open_at, accept_at, created_at}
 use Rattle.ln_channel.specs.Step.{signed_at, opening_at, turned, awaiting_at, stage_row, faulted, is_passed_over}
 use Rattle.ln_channel.specs.Step.{message_fault, obeyed, noted, connects, asked, line_fault}
 use Rattle.ln_channels.specs.declared.step.Act.{Act}
@@ -67,7 +67,7 @@ use Rattle.ln_channels.specs.Both.{Place, Both, Move, By, Falls, Halts, Restarts
 use Rattle.ln_channels.specs.Both.{back}
 use Rattle.ln_channels.specs.Both.{acts, delivers, restarted, stops, swapped}
 use Rattle.ln_channels.specs.Both as both
-use Rattle.ln_channels.specs.Channel.{Channel, by, side_of, actor, moved, act_moves, fall_moves, halt_moves}
+use Rattle.ln_channels.specs.Channel.{Channel, by, side_of, moved, act_moves, fall_moves, halt_moves}
 use Rattle.ln_channels.specs.Channel.{restart_moves}
 use Rattle.ln_channels.specs.Channel.{stop_moves, up_moves, may_meet, opening_moves, begun_by, opened_by}
 use Rattle.ln_channels.specs.World.{World, channel, moved_at, all_moved, may_open, may_be_done, settings_of}

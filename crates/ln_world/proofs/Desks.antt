@@ -23,7 +23,7 @@ use Rattle.ln_channels.proofs.Told.{in_step_so, moves_last}
 use Rattle.ln_world.specs.declared.step.Step.{Step}
 use Rattle.ln_world.specs.declared.step.Step.TheVariants as step
 use Rattle.ln_world.specs.declared.seat.Seat.{Seat}
-use Rattle.ln_world.specs.Desk.{Life, Desk, Begins, next, called, begun, fresh, with_one, with_seat, serving}
+use Rattle.ln_world.specs.Desk.{Life, Desk, Begins, next, fresh, with_one, with_seat, serving}
 use Rattle.ln_world.specs.Desk.{registered}
 use Rattle.ln_world.specs.Desk.{restarted, is_at, desk_at, at_desk, SeatFollows, LifeFollows, DeskFollows}
 use Rattle.ln_world.specs.World.{World, empty, plain, plains, moved_by, item, event_for, numbered_for, next_event}

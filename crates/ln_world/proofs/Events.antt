@@ -1,13 +1,11 @@
 -- What a dispatcher reads of its end is the event of that number of the machine's moves; and these only grow.
 use Rattle.std.proofs.Common.{◌≡◌, ℕ, zero, suc, ◌+◌, ◌-◌, ◌≤◌, List, [], ◌∷◌, ◌++◌, length, drop, refl, sym, ap, ◌∙◌}
-use Rattle.std.proofs.Common.{subst, arith, Bool, true, false, cond, nat_le, leb-true, Option, Some, None}
+use Rattle.std.proofs.Common.{arith, Bool, true, false, cond, nat_le, leb-true, Option, Some, None}
 use Rattle.std.proofs.Common.{option_map, append_assoc}
 use Rattle.std.specs.List.{cons_option}
-use Rattle.std.proofs.Math.Seq.{drop-append_seam, drop-nil}
-use Rattle.std.proofs.lemmas.List.{drop-append-le, length-append, length-drop}
+use Rattle.std.proofs.lemmas.List.{length-drop}
 use Rattle.ln_keys.specs.declared.keys.ChannelKeys.{Ghosts}
 use Rattle.ln_keys.specs.declared.role.Role.{Role}
-use Rattle.ln_keys.specs.declared.role.Role.TheVariants.{Funder, Fundee}
 use Rattle.ln_log.specs.declared.mark.EventRef.{EventRef}
 use Rattle.ln_log.specs.Events.{events}
 use Rattle.ln_hooks.specs.declared.event.ChannelEvent.{ChannelEvent}

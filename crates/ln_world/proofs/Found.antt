@@ -1,6 +1,6 @@
 -- The desk of an end, where it stands.
 use Rattle.std.proofs.Common.{◌≡◌, ℕ, suc, ◌+◌, ◌≤◌, List, [], ◌∷◌, length, get_or, set, refl, sym, ap, ◌∙◌, arith}
-use Rattle.std.proofs.Common.{Bool, true, false, cond, not, nat_lt, Option, Some, None, position, ltb-false}
+use Rattle.std.proofs.Common.{Bool, true, false, cond, not, nat_lt, Some, None, position, ltb-false}
 use Rattle.std.specs.List.{position_or_len}
 use Rattle.ln_channels.specs.declared.step.End.{End}
 use Rattle.ln_channels.proofs.Places.{at_first, lacks}

@@ -4,3 +4,14 @@ pub mod Events
 pub mod Desks
 pub mod Found
 pub mod Opening
+pub mod Counting
+pub mod Chaining
+pub mod Calling
+pub mod Serving
+pub mod Seating
+pub mod Restarting
+pub mod Once
+pub mod Standing
+pub mod Running
+pub mod Stepping
+pub mod Unhooked

@@ -1,5 +1,5 @@
 -- A channel that is opened, and its ends' dispatchers.
-use Rattle.std.proofs.Common.{◌≡◌, List, ◌++◌, sym, ap, ◌∙◌, Bool, true, cond}
+use Rattle.std.proofs.Common.{◌≡◌, List, ◌++◌, sym, ap, ◌∙◌, true, cond}
 use Rattle.ln_keys.specs.declared.keys.ChannelKeys.{Ghosts}
 use Rattle.ln_hooks.specs.declared.verdict.Verdict.TheVariants.{Continue}
 use Rattle.ln_channels.specs.declared.step.Open.{Open}

@@ -1,15 +1,13 @@
 -- A run of nodes is a run of channels, by the steps of channels that its steps are. So each law of channels is one of
 -- nodes.
-use Rattle.std.proofs.Common.{◌≡◌, ◌⊎◌, ℕ, List, [], ◌∷◌, refl, sym, ap, ◌∙◌, subst, inl, inr, Option, Some, None}
+use Rattle.std.proofs.Common.{◌≡◌, ◌⊎◌, ℕ, List, [], ◌∷◌, refl, sym, ◌∙◌, subst, inl, inr, Option, Some, None}
 use Rattle.std.specs.List.{cons_option}
-use Rattle.ln_msgs.specs.declared.refusals.refusal.Refusal.{Refusal}
 use Rattle.ln_msgs.specs.declared.refusals.refusal.Refusal.TheVariants as refusal
 use Rattle.ln_keys.specs.declared.keys.ChannelKeys.{Ghosts}
 use Rattle.ln_hooks.specs.declared.verdict.Verdict.{Verdict}
 use Rattle.ln_channels.specs.declared.step.Step.{Step as ChannelStep}
 use Rattle.ln_channels.specs.Both.{Both}
 use Rattle.ln_channels.specs.Promises as promise
-use Rattle.ln_channels.specs.Records as record_of
 use Rattle.ln_channels.specs.World.{World as Channels}
 use Rattle.ln_channels.specs.World as channels
 use Rattle.ln_channels.specs.Failing as failing

@@ -1,6 +1,6 @@
 -- What is written down of the dispatcher of a channel end: the events that it has served in its life, what its hooks
 -- said of each, and which hooks have a seat there, each from a place on; and the same of its earlier lives.
-use Rattle.std.specs.Prelude.{◌≡◌, ◌≤◌, ℕ, zero, suc, ◌+◌, ◌-◌, List, [], ◌∷◌, ◌++◌, length, drop, max}
+use Rattle.std.specs.Prelude.{◌≡◌, ◌≤◌, ℕ, ◌+◌, ◌-◌, List, [], ◌∷◌, ◌++◌, length, drop, max}
 use Rattle.std.specs.Prelude.{Bool, ◌&&◌, ◌==◌, Option, Some, None, if◌then◌else◌}
 use Rattle.ln_keys.specs.declared.role.Role.{Role}
 use Rattle.ln_hooks.specs.declared.event.ChannelEvent.{ChannelEvent}

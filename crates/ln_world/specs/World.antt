@@ -18,7 +18,6 @@ use Rattle.ln_channel.specs.Record.{saved_end}
 use Rattle.ln_channels.specs.declared.line.Line.{Line}
 use Rattle.ln_channels.specs.declared.line.Line.TheVariants as line
 use Rattle.ln_channels.specs.declared.step.Node.{Node}
-use Rattle.ln_channels.specs.declared.step.Open.{Open}
 use Rattle.ln_channels.specs.declared.step.End.{End}
 use Rattle.ln_channels.specs.declared.step.Step.{Step as ChannelStep}
 use Rattle.ln_channels.specs.declared.step.Step.TheVariants as channel_step
@@ -28,7 +27,7 @@ use Rattle.ln_channels.specs.World as channels
 use Rattle.ln_channels.specs.Failing as failing
 use Rattle.ln_world.specs.declared.step.Step.{Step}
 use Rattle.ln_world.specs.declared.step.Step.TheVariants as step
-use Rattle.ln_world.specs.Desk.{Desk, next, fresh, serving, registered, restarted, is_at, desk_at, at_desk}
+use Rattle.ln_world.specs.Desk.{Desk, next, fresh, serving, registered, restarted, desk_at, at_desk}
 
 pub record World (K : Type 0) : Type 0 where
   pub channels : Channels K  -- what was set for the nodes, and their channels

@@ -4,13 +4,18 @@
 
 mod desk;
 mod event;
+mod hook;
+mod hooks;
 mod laws;
 mod machine;
 mod nodes;
 mod seat;
 mod step;
+mod world;
 
 pub use desk::{Desk, Life};
+pub use hook::Serve;
+pub use hooks::{Hooks, Tables};
 pub use laws::{
     a_shutdown_is_answered, agreement, channels_open_as_set, closed_at_one_fee, closing_ends,
     commands_are_done_exactly, every_end_has_a_record, headline, marks_agree_at_rest,
@@ -24,3 +29,4 @@ pub use machine::{
 pub use nodes::Nodes;
 pub use seat::Seat;
 pub use step::Step;
+pub use world::World;

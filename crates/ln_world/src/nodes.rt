@@ -190,12 +190,12 @@ impl<K: ChannelKeys + Copy> Model for Nodes<K> {
 }
 
 impl<K: ChannelKeys + Copy> Nodes<K> {
-    ghost use Rattle.std.specs.Prelude.{◌≡◌, ◌++◌, OnOk, IfOk, IfErr};
+    ghost use Rattle.std.specs.Prelude.{◌≡◌, ◌<◌, ◌++◌, length, position, OnOk, IfOk, IfErr, IfSome};
     ghost use Rattle.ln_hooks.specs.declared.verdict.Verdict.TheVariants.{Continue};
     ghost use Rattle.ln_channels.specs.World as channels;
     ghost use Rattle.ln_channels.specs.Failing as failing;
     ghost use Rattle.ln_world.specs.declared.step.Step.TheVariants as step;
-    ghost use Rattle.ln_world.specs.Desk.{at_desk, serving};
+    ghost use Rattle.ln_world.specs.Desk.{at_desk, is_at, serving};
     ghost use Rattle.ln_world.specs.World.{empty, next_event, is_unused, may_register, happens, step_lines};
     ghost use Rattle.ln_world.specs.World.{run, run_lines, unhooked, MayFail, SomeMayFail};
 
@@ -209,6 +209,35 @@ impl<K: ChannelKeys + Copy> Nodes<K> {
             used: Vec::new(alloc),
             hooks,
         }
+    }
+
+    /// The dispatchers, two for each channel, in the order in which the channels were opened.
+    pub(crate) fn desks(&self) -> &[Desk]
+        ensures { result.now ≡ self.now.desks }
+    {
+        &self.desks
+    }
+
+    /// Where the dispatcher of an end stands.
+    pub(crate) fn place(&self, end: End) -> Option<usize>
+        ensures place { result ≡ position (is_at end) self.now.desks }
+        ensures within { IfSome result (λ i. i < length self.now.desks) }
+    {
+        place_of(&self.desks, end)
+    }
+
+    /// Whether a channel is opened by this wish.
+    pub(crate) fn may_open(&self, wish: &Open<K>) -> bool
+        ensures { result ≡ channels.may_open wish.now self.now.channels }
+    {
+        self.channels.may_open(wish)
+    }
+
+    /// Whether an end can act so.
+    pub(crate) fn may_act(&self, end: End, what: &Act) -> bool
+        ensures { result ≡ channels.may_be_done end what.now self.now.channels.channels }
+    {
+        self.channels.may_act(end, what)
     }
 
     /// The event that an end's dispatcher serves next, with its number, where the end holds it. Takes memory for it: 60
