@@ -2,6 +2,7 @@
 
 use crate::answers::Answers;
 use crate::line::{at, bytes_of, code, numbers, wide};
+use crate::node::Node;
 use crate::onion::onion_of;
 use crate::payments::payments;
 use crate::show::{show_command, show_mark};
@@ -169,11 +170,27 @@ fn paid(alloc: Global, book: &mut Book, words: &[u64]) -> Result<String, AllocEr
     }
 }
 
-/// Calls the book by a line, and says what it answers. A line that begins with # is said again.
-pub fn call(alloc: Global, book: &mut Book, line: &str) -> Result<String, AllocError> {
+/// Calls the book, or the ends of channels, by a line, and says what it answers. A line that begins with # is said
+/// again.
+pub fn call(alloc: Global, node: &mut Node, line: &str) -> Result<String, AllocError> {
     let words = numbers(alloc, line)?;
     let words = words.as_slice();
     match line.split(' ').next().unwrap_or("") {
+        "#" => String::from_str(alloc, line),
+        word @ ("open" | "up" | "down" | "offer" | "pay" | "sign" | "obey" | "restart") => {
+            node.call(alloc, word, words)
+        }
+        word => call_book(alloc, &mut node.book, word, words),
+    }
+}
+
+fn call_book(
+    alloc: Global,
+    book: &mut Book,
+    word: &str,
+    words: &[u64],
+) -> Result<String, AllocError> {
+    match word {
         "decide" => decide(alloc, book, words),
         "settled" => settled(alloc, book, words),
         "take" => take(alloc, book, words),
@@ -185,7 +202,6 @@ pub fn call(alloc: Global, book: &mut Book, line: &str) -> Result<String, AllocE
         "rebuild" => told(alloc, book.rebuild(alloc, &[])),
         "usable" => usable(alloc, book, words),
         "payments" => paid(alloc, book, words),
-        "#" => String::from_str(alloc, line),
         word => set(alloc, book, word, words),
     }
 }

@@ -4,22 +4,24 @@
 
 mod answers;
 mod calls;
+mod ends;
 mod line;
+mod node;
 mod onion;
 mod payments;
 mod show;
 
 use calls::call;
-use ln_book::Book;
+use node::Node;
 use std::alloc::Global;
 use std::io;
 use std::io::{BufRead, BufReader, BufWriter, Write};
 
-/// Calls a new book line by line.
+/// Calls a new node's book, and the ends of its channels, line by line.
 fn run<R: BufRead + Drop, W: Write>(alloc: Global, reader: R, out: &mut W) -> io::Result<()> {
-    let mut book = Box::new(alloc, Book::new(alloc))?;
+    let mut node = Box::new(alloc, Node::new(alloc)?)?;
     for line in reader.lines(alloc) {
-        let told = call(alloc, &mut book, &line?)?;
+        let told = call(alloc, &mut node, &line?)?;
         out.write_all(told.as_bytes())?;
         out.write_all(b"\n")?;
     }

@@ -1,0 +1,256 @@
+//! A node: its book, and the channels whose ends it asks.
+
+use crate::ends::{Ends, Signing, Told};
+use crate::line::{at, bytes_of, wide};
+use crate::onion::onion_of;
+use crate::show::show_command;
+use ln_book::Book;
+use ln_channel::Command;
+use ln_hooks::Verdict;
+use ln_keys::{ToyOnion, sha256_32};
+use ln_log::ChannelId;
+use ln_msgs::Refusal;
+use ln_readings::{Kept, Reading};
+use std::alloc::{AllocError, Global};
+
+/// A channel of the node's.
+#[derive(Drop)]
+struct Place {
+    channel: ChannelId,
+    ends: Box<Ends>,
+}
+
+/// A node.
+#[derive(Drop)]
+pub struct Node {
+    pub book: Box<Book>,
+    places: Vec<Place>,
+}
+
+/// Decides each event, and hears what became of HTLCs. Says how many there were.
+fn note(
+    alloc: Global,
+    book: &mut Book,
+    channel: ChannelId,
+    all: &[Told],
+) -> Result<usize, Refusal> {
+    for told in all {
+        drop(book.decide(
+            alloc,
+            &ToyOnion,
+            channel,
+            told.number,
+            &told.event,
+            Verdict::Continue,
+        )?);
+        book.settled(alloc, channel, &told.event)?;
+    }
+    Ok(all.len())
+}
+
+/// An HTLC that the peer offers: its amount, preimage and expiry, and the onion.
+fn offered(alloc: Global, words: &[u64]) -> Result<Command, AllocError> {
+    let hash = sha256_32(&bytes_of(at(words, 1)));
+    let onion = onion_of(alloc, words.get(3..).unwrap_or(&[]), &hash)?;
+    Ok(Command::Add {
+        amount: at(words, 0),
+        hash,
+        expiry: wide(at(words, 2)),
+        onion,
+        origin: None,
+    })
+}
+
+fn signing_of(number: u64) -> Signing {
+    match number {
+        0 => Signing::Own,
+        1 => Signing::Peer,
+        _ => Signing::Lost,
+    }
+}
+
+/// Reads off the ends of all channels.
+fn readings_of(alloc: Global, places: &[Place]) -> Result<Vec<Reading>, Refusal> {
+    let mut all = Vec::new(alloc);
+    for place in places {
+        match place.ends.channel() {
+            None => {}
+            Some(channel) => all.push(Reading::of(alloc, channel)?)?,
+        }
+    }
+    Ok(all)
+}
+
+impl Place {
+    /// What the channel's ends do by a line, and which events the node's end tells of.
+    fn play(
+        &mut self,
+        alloc: Global,
+        word: &str,
+        words: &[u64],
+        told: &mut Vec<Told>,
+    ) -> Result<(), Refusal> {
+        let rest = words.get(2..).unwrap_or(&[]);
+        match word {
+            "offer" => {
+                let add = offered(alloc, rest)?;
+                self.ends.answer(alloc, add, told)
+            }
+            "pay" => {
+                let id = at(words, 2);
+                let preimage = bytes_of(at(words, 3));
+                self.ends
+                    .answer(alloc, Command::Fulfil { id, preimage }, told)
+            }
+            "sign" => self.ends.sign(alloc, signing_of(at(words, 2)), told),
+            "up" => self.ends.connect(alloc, told),
+            _ => Err(Refusal::NotReady),
+        }
+    }
+
+    /// The id of the next own HTLC.
+    fn next_id(&self) -> u64 {
+        match self.ends.channel() {
+            None => 0,
+            Some(channel) => channel.next_own_id(),
+        }
+    }
+
+    /// The node's end does what it is told: the id of the HTLC that it offers by that, or by what it refuses.
+    fn obeyed(
+        &mut self,
+        alloc: Global,
+        command: Command,
+        told: &mut Vec<Told>,
+    ) -> Result<u64, u16> {
+        let next = self.next_id();
+        match self.ends.obey(alloc, command, told) {
+            Ok(()) => Ok(next),
+            Err(refusal) => Err(refusal.number()),
+        }
+    }
+}
+
+fn show_answer(
+    alloc: Global,
+    command: &str,
+    answer: Result<u64, u16>,
+) -> Result<String, AllocError> {
+    match answer {
+        Ok(id) => format!(in alloc; "{command}, taken {id}"),
+        Err(number) => format!(in alloc; "{command}, refused {number}"),
+    }
+}
+
+impl Node {
+    /// A node with no channel, and nothing in its book.
+    pub fn new(alloc: Global) -> Result<Node, AllocError> {
+        let book = Box::new(alloc, Book::new(alloc))?;
+        Ok(Node {
+            book,
+            places: Vec::new(alloc),
+        })
+    }
+
+    /// Opens a channel of this id.
+    fn open(&mut self, alloc: Global, channel: ChannelId) -> Result<usize, Refusal> {
+        let mut told = Vec::new(alloc);
+        let ends = Ends::open(alloc, channel, &mut told)?;
+        self.places.push(Place { channel, ends })?;
+        note(alloc, &mut self.book, channel, told.as_slice())
+    }
+
+    /// The place of a channel.
+    fn place_of(&self, channel: &ChannelId) -> Result<usize, Refusal> {
+        match self
+            .places
+            .iter()
+            .position(|place| channel == &place.channel)
+        {
+            None => Err(Refusal::NotReady),
+            Some(place) => Ok(place),
+        }
+    }
+
+    /// A line of one channel's ends: how many events the node's end tells of.
+    fn play(&mut self, alloc: Global, word: &str, words: &[u64]) -> Result<usize, Refusal> {
+        let channel = bytes_of(at(words, 1));
+        if word == "open" {
+            return self.open(alloc, channel);
+        }
+        let place = self.place_of(&channel)?;
+        let Some(place) = self.places.get_mut(place) else {
+            return Err(Refusal::NotReady);
+        };
+        let mut told = Vec::new(alloc);
+        place.play(alloc, word, words, &mut told)?;
+        note(alloc, &mut self.book, channel, told.as_slice())
+    }
+
+    /// The node's end of a channel does what the book commands, and the book hears the answer.
+    fn obey(&mut self, alloc: Global, channel: ChannelId) -> Result<String, Refusal> {
+        let place = self.place_of(&channel)?;
+        let Some(place) = self.places.get_mut(place) else {
+            return Err(Refusal::NotReady);
+        };
+        let Some(command) = self.book.take_commands(alloc, &ToyOnion, channel)? else {
+            return Ok(String::from_str(alloc, "nothing")?);
+        };
+        let mut told = Vec::new(alloc);
+        let shown = show_command(alloc, &command);
+        let answer = place.obeyed(alloc, command, &mut told);
+        self.book.answered(channel, answer);
+        let shown = shown?;
+        note(alloc, &mut self.book, channel, told.as_slice())?;
+        Ok(show_answer(alloc, shown.as_str(), answer)?)
+    }
+
+    /// A channel loses its connection, and the book asks the node's end what was kept.
+    fn down(&mut self, alloc: Global, channel: ChannelId) -> Result<usize, Refusal> {
+        let place = self.place_of(&channel)?;
+        let Some(place) = self.places.get_mut(place) else {
+            return Err(Refusal::NotReady);
+        };
+        place.ends.cut();
+        let Some(end) = place.ends.channel() else {
+            return Err(Refusal::NotReady);
+        };
+        self.book.dropped(alloc, channel, end)?;
+        Ok(0)
+    }
+
+    /// The node restarts: all connections are lost, and the book is read off the ends of all channels.
+    fn restart(&mut self, alloc: Global) -> Result<usize, Refusal> {
+        for place in self.places.iter_mut() {
+            place.ends.cut();
+        }
+        let readings = readings_of(alloc, self.places.as_slice())?;
+        self.book.rebuild(alloc, readings.as_slice())?;
+        Ok(self.places.len())
+    }
+
+    /// A line of channels.
+    pub fn call(&mut self, alloc: Global, word: &str, words: &[u64]) -> Result<String, AllocError> {
+        let channel = bytes_of(at(words, 1));
+        if word == "obey" {
+            return match self.obey(alloc, channel) {
+                Ok(shown) => Ok(shown),
+                Err(refusal) => refused(alloc, refusal),
+            };
+        }
+        let done = match word {
+            "down" => self.down(alloc, channel),
+            "restart" => self.restart(alloc),
+            _ => self.play(alloc, word, words),
+        };
+        match done {
+            Ok(count) => format!(in alloc; "told {count}"),
+            Err(refusal) => refused(alloc, refusal),
+        }
+    }
+}
+
+fn refused(alloc: Global, refusal: Refusal) -> Result<String, AllocError> {
+    let number = refusal.number();
+    format!(in alloc; "refused {number}")
+}
