@@ -10,6 +10,10 @@ mod again;
 #[cfg(test)]
 mod client;
 #[cfg(test)]
+mod closes;
+#[cfg(test)]
+mod embedding;
+#[cfg(test)]
 mod pair;
 #[cfg(test)]
 mod tests;
