@@ -1,5 +1,15 @@
 """A plain model of a node's book of forwarded payments, written from the rules of docs/PROTOCOL.md and the definitions
-of ln_tables and ln_book: `Book.call(line)` gives what crates/ln_book_calls has to print for a line."""
+of ln_tables, ln_readings and ln_book. checks/fuzz/model.py has one for each node; `Book.call(line)` gives what
+crates/ln_book_calls has to print for a line.
+
+A channel is any name. A mark, a command, a way and an outcome are tuples that begin with their kind:
+
+- marks: none; forward, the channel, amount, expiry; fail, the reason; malformed, the code; fulfil, the preimage
+- commands: decide, the event, the mark; add, the amount, payment hash, expiry, onion, origin; fulfil, the id, the
+  preimage; fail, the id, the reason; malformed, the id, the hash, the code; forget, the own id
+- ways of the outgoing HTLC: nowhere; refused; offered, the channel, the own id; over, these and the outcome
+- outcomes: fulfilled, the preimage; failed, the reason; malformed, the hash, the code"""
+from collections import namedtuple
 from hashlib import sha256
 
 
@@ -68,6 +78,9 @@ class Hop:
         """The onion that goes on; none where this one can't be opened or there is no hop behind."""
         return None if self.fault in FAULTS or self.final or self.empty else packet(REST, self.digest)
 
+    def sha(self):
+        return sha256(self.packet).digest()
+
 
 # ---- failures
 
@@ -82,12 +95,30 @@ CODES = (0x1007, 0x400A, 0x100B, 0x100C, 0x100D, 0x100E, 0x400F, 0x12, 0x13, 0x1
 
 
 class Htlc:
+    """A payment that came in by a channel: how it was decided, where it goes, and whether it was removed."""
+
     def __init__(self, channel, event, offer, mark):
         self.channel, self.id, self.event, self.offer, self.mark = channel, offer["id"], event, offer, mark
         self.decided, self.way, self.back = False, ("nowhere",), "open"
 
     def key(self):
         return self.channel, self.id
+
+    def is_finished(self):
+        return self.back == "settled" and self.way[0] in ("nowhere", "refused")
+
+
+# what a book reads off a channel's record: the own adds that forward others and what became of such adds, each as the
+# key of the HTLC that it is for and its way; and the peer's HTLCs that were decided
+Reading = namedtuple("Reading", "offered results decided")
+
+
+def by_outcome(id, outcome):
+    """How an outcome of the outgoing HTLC is passed back."""
+    kind, *values = outcome
+    if kind == "fulfilled":
+        return "fulfil", id, values[0]
+    return "fail", id, values[0] if kind == "failed" else big(2, values[1]) + values[0]
 
 
 class Book:
@@ -98,6 +129,7 @@ class Book:
     # ---- what is done about an event
 
     def mark(self, offer, verdict):
+        """By the hooks' verdict, a code or anything else for none; then by the onion."""
         if offer is None:
             return ("none",)
         hop, height = offer["hop"], self.height
@@ -147,68 +179,63 @@ class Book:
         return None if pays else failure(0x400F, amount=amount, height=height)
 
     def decide(self, channel, event, offer, verdict):
+        """What is done about an event of a channel, which is queued as a command; an offer where it is a peer's add."""
         mark = self.mark(offer, verdict)
         self.queue = [q for q in self.queue if q[:2] != (channel, event)] + [(channel, event, mark)]
         if offer is not None:
             made = Htlc(channel, event, offer, mark)
             if not any(h.decided and h.key() == made.key() for h in self.htlcs):
                 self.htlcs = [h for h in self.htlcs if h.key() != made.key()] + [made]
-        return show(mark)
+        return mark
 
     # ---- commands
 
     def removal(self, h):
         kind = h.mark[0]
-        if kind == "fail":
-            return f"fail {h.id} {total(h.mark[1])}"
         if kind == "malformed":
-            return f"malformed {h.id} {total(bytes(h.offer['hop'].packet))} {h.mark[1]}"
-        if kind == "fulfil":
-            return f"fulfil {h.id} {front(h.mark[1])}"
-        if kind != "forward":
-            return None
-        if h.way[0] == "refused":
-            return f"fail {h.id} {total(failure(0x1007))}"
-        if h.way[0] != "over":
-            return None
-        how, value = h.way[3]
-        if how == 0:
-            return f"fulfil {h.id} {front(bytes_of(value))}"
-        return f"fail {h.id} {total(bytes_of(value) if how == 1 else big(2, value % 2**16) + bytes_of(value))}"
+            return kind, h.id, h.offer["hop"].sha(), h.mark[1]
+        if kind in ("fail", "fulfil"):
+            return kind, h.id, h.mark[1]
+        if kind == "forward" and h.way[0] == "refused":
+            return "fail", h.id, failure(0x1007)
+        return by_outcome(h.id, h.way[3]) if kind == "forward" and h.way[0] == "over" else None
 
     def due(self, h, channel):
-        """What an HTLC is due in a channel: what it does, and the command."""
+        """What an HTLC is due in a channel: what it does, to which HTLC, and the command."""
         if not h.decided:
             return None
         if h.back == "settled":
-            return ("forget", h.key(), f"forget {h.way[2]}") if h.way[0] == "over" and h.way[1] == channel else None
+            return ("forget", h.key(), ("forget", h.way[2])) if h.way[0] == "over" and h.way[1] == channel else None
         if h.way[0] == "nowhere" and h.mark[0] == "forward" and h.mark[1] == channel:
             onion = h.offer["hop"].next_packet()
             if onion is None:
                 return None
             _, _, amount, expiry = h.mark
-            return "add", h.key(), f"add {amount} {front(h.offer['hash'])} {expiry} {total(onion)} {h.channel} {h.id}"
+            return "add", h.key(), ("add", amount, h.offer["hash"], expiry, onion, h.key())
         told = self.removal(h) if h.back == "open" and h.channel == channel else None
         return ("remove", h.key(), told) if told else None
 
-    def take(self, channel):
+    def first(self, channel):
+        """The first command that a channel can take, with what it does and to which HTLC or event; None without one."""
         if channel in self.out:
-            return "nothing"
+            return None
         for at, event, mark in self.queue:
             if at == channel:
-                self.out[channel] = ("decide", event, False)
-                return f"decide {event} {show(mark)}"
-        for h in self.htlcs:
-            found = self.due(h, channel)
-            if found:
-                self.out[channel] = (*found[:2], False)
-                return found[2]
-        return "nothing"
+                return "decide", event, ("decide", event, mark)
+        return next(filter(None, (self.due(h, channel) for h in self.htlcs)), None)
+
+    def take(self, channel):
+        found = self.first(channel)
+        if found is None:
+            return None
+        what, about, command = found
+        self.out[channel] = what, about, False
+        return command
 
     def drop_htlcs(self, key):
         self.htlcs = [h for h in self.htlcs if h.key() != key]
 
-    def first(self, key):
+    def named(self, key):
         return [h for h in self.htlcs if h.key() == key][:1]
 
     def taken(self, channel, what, about, own_id):
@@ -217,10 +244,10 @@ class Book:
             for h in [h for h in self.htlcs if (h.channel, h.event) == (channel, about)][:1]:
                 h.decided = True
         elif what == "add":
-            for h in self.first(about):
+            for h in self.named(about):
                 h.way = "offered", channel, own_id
         elif what == "remove":
-            for h in self.first(about):
+            for h in self.named(about):
                 h.back = "sent"
         else:
             self.drop_htlcs(about)
@@ -230,15 +257,16 @@ class Book:
             self.queue = [q for q in self.queue if q[:2] != (channel, about)]
             self.htlcs = [h for h in self.htlcs if h.decided or (h.channel, h.event) != (channel, about)]
         elif what == "add" and number < 47:
-            for h in self.first(about):
+            for h in self.named(about):
                 h.way = ("refused",)
         elif what == "remove":
-            for h in self.first(about):
+            for h in self.named(about):
                 h.back = "gone"
         else:
             self.drop_htlcs(about)
 
     def answered(self, channel, is_refused, number):
+        """The command that is out was taken, an add with this own id; or it was refused by this number."""
         what, about, unsure = self.out.get(channel, (None, None, True))
         if unsure:
             return
@@ -253,16 +281,19 @@ class Book:
 
     # ---- what is committed, and what is lost
 
-    def settled(self, channel, is_own, own_id, how):
+    def settled(self, channel, is_own, id, outcome):
+        """The removal of an own or of a peer's HTLC is irrevocably committed."""
         if is_own:
-            for h in [h for h in self.htlcs if h.way[1:3] == (channel, own_id)][:1]:
-                h.way = "over", channel, own_id, how
+            for h in [h for h in self.htlcs if h.way[1:3] == (channel, id)][:1]:
+                h.way = "over", channel, id, outcome
             return
-        for h in self.first((channel, own_id)):
+        for h in self.named((channel, id)):
             h.back = "settled"
-        self.htlcs = [h for h in self.htlcs if h.key() != (channel, own_id) or h.back != "settled" or len(h.way) > 1]
+        self.htlcs = [h for h in self.htlcs if h.key() != (channel, id) or not h.is_finished()]
 
     def dropped(self, channel, next_id, decided, removals):
+        """A channel lost its connection: its next own id, how many events it has decided, and which of the peer's HTLCs
+        it still removes."""
         what, about, _ = self.out.pop(channel, (None, None, None))
         if what == "decide" and about < decided and any(q[:2] == (channel, about) for q in self.queue):
             self.taken(channel, what, about, 0)
@@ -273,6 +304,20 @@ class Book:
                 h.way = ("nowhere",)
             if h.channel == channel and h.back == "sent" and h.id not in removals:
                 h.back = "open"
+
+    def rebuild(self, readings):
+        """Begins anew with what the records of the node's channels say, one channel after the other; settings stay."""
+        results = [it for reading in readings for it in reading.results]
+        ways = dict(reversed(results + [it for reading in readings for it in reading.offered]))  # the first of each
+        decided = [h for reading in readings for h in reading.decided]
+        for h in decided:
+            h.way = ways.get(h.key(), ("nowhere",))
+            if h.mark[0] == "forward" and h.way[0] == "nowhere" and h.back != "open":
+                h.way = ("refused",)  # it is removed already, so it isn't offered again
+        keys = {h.key() for h in decided}
+        self.queue, self.out = [], {}
+        self.htlcs = [h for h in decided if not h.is_finished()]
+        self.htlcs += [left_over(key, way) for key, way in results if key not in keys]
 
     # ---- a line
 
@@ -292,21 +337,42 @@ class Book:
         elif kind == "decide":
             digest = sha256(bytes_of(n[5])).digest()
             offer = {"id": n[3], "amount": n[4], "hash": digest, "expiry": n[6], "hop": Hop(n[8:], digest)}
-            return self.decide(n[0], n[1], None if n[2] == 1 else offer, n[7])
+            return show(self.decide(n[0], n[1], None if n[2] == 1 else offer, n[7]))
         elif kind == "settled":
-            self.settled(n[0], n[1] == 1, n[2], (min(n[3], 2), n[4]))
+            values = bytes_of(n[4]), n[4] % 2**16
+            outcome = (("fulfilled", "failed", "malformed")[min(n[3], 2)], *values)
+            self.settled(n[0], n[1] == 1, n[2], outcome)
         elif kind == "take":
-            return self.take(n[0])
+            command = self.take(n[0])
+            return show_command(command) if command else "nothing"
         elif kind == "answered":
             self.answered(n[0], n[1] != 0, n[2])
         elif kind == "dropped":
             self.dropped(n[0], n[1], n[2], n[3:])
         else:
-            self.queue, self.htlcs, self.out = [], [], {}
+            self.rebuild([])
         return "done"
+
+
+def left_over(key, way):
+    """What is left of a result whose decision has gone: it is to be forgotten."""
+    h = Htlc(key[0], None, {"id": key[1]}, ("fulfil", bytes(32)))
+    h.decided, h.way, h.back = True, way, "settled"
+    return h
 
 
 def show(mark):
     kind, rest = mark[0], mark[1:]
     values = [total(it) if kind == "fail" else front(it) if kind == "fulfil" else it for it in rest]
     return " ".join(map(str, [kind, *values]))
+
+
+def show_command(command):
+    kind, first, *rest = command
+    if kind == "decide":
+        return f"decide {first} {show(*rest)}"
+    if kind == "add":
+        digest, expiry, onion, (channel, id) = rest
+        return f"add {first} {front(digest)} {expiry} {total(onion)} {channel} {id}"
+    values = [total(it) if kind == "fail" else front(it) if isinstance(it, bytes) else it for it in rest]
+    return " ".join(map(str, [kind, first, *values]))

@@ -1,10 +1,19 @@
-"""A plain model of channels, two ends each, and of the scripts that drive them, written from the rules of docs/PROTOCOL.md
-and docs/FORMATS.md alone: whole lists, no bytes, no keys. `report(script)` gives what `lnlink sim` has to print, or the
-line that is refused. checks/fuzz compares the two."""
-from hashlib import sha256
-import re
+"""A plain model of channels, two ends each, of nodes that have them, and of the scripts that drive them, written from
+the rules of docs/PROTOCOL.md and docs/FORMATS.md alone: whole lists, no bytes, no keys. `report(script)` gives what
+`lnlink sim` has to print, or the line that is refused. checks/fuzz compares the two.
 
-FEERATE = 253
+The model asserts what has to hold of every script: no message of an honest peer is refused but by 36, what a side holds
+as irrevocably committed begins what the other side has signed, a payment that came in goes out once at most and comes
+back as the next node answered it, and a hook is called on each event once and in order."""
+from hashlib import sha256
+import os
+import re
+import sys
+
+sys.path.insert(0, os.path.dirname(os.path.abspath(__file__)))
+from book_model import Book, CODES, Htlc, Reading
+
+REMOVALS = {"fulfil": "fulfilled", "fail": "failed", "malformed": "malformed"}
 
 
 class Bad(Exception):
@@ -22,8 +31,12 @@ def number(word, greatest=2**64 - 1):
     return int(word)
 
 
-def payment(word):
-    return sha256(bytes([number(word, 255)]) * 32).digest()
+def preimage(word):
+    return bytes([number(word, 255)]) * 32
+
+
+def digest(data):
+    return sha256(data).digest()
 
 
 def node(word):
@@ -60,12 +73,75 @@ def onion_size(amount, expiry, hops):
     """How many bytes the payloads take, each behind its length: types 2, 4, 6 for a hop, and 2, 4, 8 for the last."""
     if hops:
         amount, expiry = hops[-1]
-    values = [(truncated(a), truncated(c), 8) for a, c in hops] + [(truncated(amount), truncated(expiry), 32 + truncated(amount))]
+    values = [(truncated(a), truncated(c), 8) for a, c in hops]
+    values += [(truncated(amount), truncated(expiry), 32 + truncated(amount))]
     return sum(1 + sum(2 + len for len in it) for it in values)  # each length is below 253
+
+
+class Onion:
+    """What the hops of a route are told, from the next one on: amount, expiry, short channel id, payment data."""
+    fault = bad = empty = False  # a script's onions can be opened and read
+
+    def __init__(self, payloads):
+        (self.amount, self.expiry, self.short_id, self.payment), *self.rest = payloads
+        self.final = not self.rest
+
+    def next_packet(self):
+        return Onion(self.rest) if self.rest else None
+
+
+def onion(amount, expiry, secret, hops):
+    """Each hop, a short channel id, amount and expiry, is for the next node; the last node gets the last ones again."""
+    last = hops[-1][1:] if hops else (amount, expiry)
+    return Onion([(amt, cltv, short_id, None) for short_id, amt, cltv in hops] + [(*last, None, (secret, last[0]))])
+
+
+def outcome(u):
+    """What becomes of an HTLC by this removal."""
+    values = {"fulfil": ["preimage"], "fail": ["reason"], "malformed": ["sha", "code"]}[u["kind"]]
+    return (REMOVALS[u["kind"]], *(u[name] for name in values))
+
+
+class Hook:
+    """Counts events from its place on, or fails the peer's adds above an amount by a code."""
+
+    def __init__(self, place, amount=None, code=None):
+        self.place, self.amount, self.code, self.calls = place, amount, code, []
+
+    def answer(self, number, event):
+        self.calls.append(number)
+        what, own, u = event
+        fails = self.code is not None and what == "added" and not own and u["amount"] > self.amount
+        return self.code if fails else None
+
+
+class Dispatcher:
+    """Serves the events of an end in turn, from the first undecided one on, until its node restarts."""
+
+    def __init__(self, start):
+        self.start, self.said, self.hooks = start, [], []
+
+    def next(self):
+        return self.start + len(self.said)
+
+    def register(self, *failing):
+        self.hooks.append(Hook(self.next(), *failing))
+
+    def serve(self, event):
+        """What the hooks say of the next event: the first code, else None. Each is called."""
+        codes = [hook.answer(self.next(), event) for hook in self.hooks]
+        self.said.append(next((code for code in codes if code is not None), None))
+        for hook in self.hooks:
+            assert hook.calls == list(range(hook.place, self.next())), "a hook was called on each event, in turn"
+        return self.said[-1]
+
+    def verdict(self, number):
+        return self.said[number - self.start]
 
 
 class End:
     """One end of a channel: its lists, counts, numbers and marks."""
+    has_base = False  # whether records keep a state in place of the oldest updates; today they have all of them
 
     def __init__(self, name, role, opening, fees):
         self.name, self.role, self.opening, self.fees = name, role, opening, fees
@@ -77,14 +153,26 @@ class End:
         self.own_fee = self.peer_fee = self.closed = None
         self.line, self.failure, self.halted = "met", None, False
         self.events = 0
+        self.ledger, self.decided = [], 0  # each event: what, whether of an own HTLC, the update; how many are decided
+        self.decisions, self.results = [], []  # the peer's HTLC and its mark; the own HTLC, its origin, the outcome
+        self.by_hand = set()  # HTLCs of the peer's that a script removed itself
+        self.short_id, self.dispatcher = None, Dispatcher(0)
         self.inbox, self.other, self.report = [], None, None
+
+    @property
+    def node(self):
+        return self.name[0]
+
+    @property
+    def channel(self):
+        return int(self.name[1:])
 
     # ---- what lists are worth
 
     def balance(self, role, own, peer):
         """The balance of the side of this role, which offered `own`, in millisatoshi."""
         total = self.opening["push"] if role == "fundee" else 1000 * self.opening["satoshis"] - self.opening["push"]
-        removed = {u["id"]: u["kind"] for u in peer if u["kind"] in ("fulfil", "fail", "malformed")}
+        removed = {u["id"]: u["kind"] for u in peer if u["kind"] in REMOVALS}
         offered = {u["id"]: u["amount"] for u in peer if u["kind"] == "add"}
         for u in own:
             if u["kind"] == "add" and removed.get(u["id"]) not in ("fail", "malformed"):
@@ -95,7 +183,7 @@ class End:
 
     @staticmethod
     def live(own, peer):
-        removed = {u["id"] for u in peer if u["kind"] in ("fulfil", "fail", "malformed")}
+        removed = {u["id"] for u in peer if u["kind"] in REMOVALS}
         return [u for u in own if u["kind"] == "add" and u["id"] not in removed]
 
     def limit(self, role, own, peer, u):
@@ -137,10 +225,11 @@ class End:
         """Events of updates that are held from now on."""
         for u in updates:
             if u["kind"] == "add":
+                self.ledger.append(("added", own, u))
                 self.event(f"added {'own' if own else 'peer'} {u['id']}")
-            elif u["kind"] != "fee":
-                how = {"fulfil": "fulfilled", "fail": "failed", "malformed": "malformed"}[u["kind"]]
-                self.event(f"settled {'peer' if own else 'own'} {u['id']} {how}")
+            elif u["kind"] in REMOVALS:
+                self.ledger.append(("settled", not own, u))
+                self.event(f"settled {'peer' if own else 'own'} {u['id']} {REMOVALS[u['kind']]}")
 
     def send_closing(self, fee):
         self.own_fee = fee
@@ -156,10 +245,11 @@ class End:
 
     def send_update(self, u):
         word = {"fee": lambda: f"fee {u['rate']}"}.get(u["kind"], lambda: f"{u['kind']} {u['id']}")()
-        self.send(word, kind="update", update=u)
+        self.send(word, kind="update", update={name: value for name, value in u.items() if name != "origin"})
 
     def close(self, fee):
         self.closed = fee
+        self.ledger.append(("closed", None, None))
         self.event(f"closed {fee}")
 
     # ---- commands
@@ -176,6 +266,8 @@ class End:
             raise Refused(40)
         if self.line != "met":
             raise Refused(47)
+        if kind == "confirm":
+            self.short_id = u
         {"confirm": self.confirm, "sign": self.sign, "shutdown": self.shutdown}.get(kind, lambda: self.propose(u))()
 
     def confirm(self):
@@ -222,7 +314,7 @@ class End:
         adds = [(i, a) for i, a in enumerate(self.taken) if a["kind"] == "add" and a["id"] == u["id"]]
         if not adds:
             raise Refused(44, 28)
-        if any(o["kind"] in ("fulfil", "fail", "malformed") and o["id"] == u["id"] for o in self.own):
+        if self.removal_in(self.own, u["id"]):
             raise Refused(49)
         place, add = adds[0]
         if place >= self.acknowledged[1]:
@@ -231,6 +323,26 @@ class End:
             raise Refused(44, 29)
         if u["kind"] == "malformed" and not u["code"] & 0x8000:
             raise Refused(44, 21)
+
+    @staticmethod
+    def removal_in(updates, id):
+        return next((u for u in updates if u["kind"] in REMOVALS and u["id"] == id), None)
+
+    # ---- what is decided: taken without a connection too, and by an end that has failed
+
+    def decides(self, event, mark):
+        if self.halted:
+            raise Refused(62)
+        what, own, u = self.ledger[event]
+        assert event == self.decided and (mark[0] == "none" or what == "added" and not own)
+        self.decided += 1
+        if mark[0] != "none":
+            self.decisions.append((u["id"], mark))
+
+    def forgets(self, id):
+        if self.halted:
+            raise Refused(62)
+        self.results = [it for it in self.results if it[0] != id]
 
     # ---- messages
 
@@ -271,7 +383,7 @@ class End:
                 raise Refused(30)
         else:
             held = [a for a in self.own[:self.current[0]] if a["kind"] == "add" and a["id"] == u["id"]]
-            if not held or any(o["kind"] in ("fulfil", "fail", "malformed") and o["id"] == u["id"] for o in self.taken):
+            if not held or self.removal_in(self.taken, u["id"]):
                 raise Refused(28)
             if u["kind"] == "fulfil" and u["hash"] != held[0]["hash"]:
                 raise Refused(29)
@@ -296,6 +408,9 @@ class End:
         self.acknowledged = self.signed
         self.revocations += 1
         self.held = False, self.taken[before:self.acknowledged[1]]
+        origins = {u["id"]: u.get("origin") for u in self.own if u["kind"] == "add"}
+        self.results += [(u["id"], origins[u["id"]], outcome(u)) for u in self.held[1]
+                         if u["kind"] in REMOVALS and origins[u["id"]]]
 
     def take_shutdown(self, m):
         self.peer_shut = True
@@ -356,6 +471,47 @@ class End:
         n, r = self.commitment + 1, self.revocations
         return lambda: self.send(f"reestablish {n} {r}", kind="reestablish", n=n, r=r)
 
+    # ---- what a book asks
+
+    def is_usable(self):
+        """It takes payments to forward, as far as its book knows."""
+        return (self.is_ready() and not self.shut and not self.peer_shut and self.closed is None and not self.failure
+                and not self.halted and self.line != "down")
+
+    def next_own_id(self):
+        return sum(1 for u in self.own if u["kind"] == "add")
+
+    def base(self):
+        """How many updates, own and the peer's, its record has a state in place of: those in all of its commitments,
+        up to the first one whose event isn't decided."""
+        if not self.has_base:
+            return 0, 0
+        decided = [id(u) for _, _, u in self.ledger[:self.decided]]
+
+        def count(updates, most):
+            waits = [n for n, u in enumerate(updates[:most]) if u["kind"] != "fee" and id(u) not in decided]
+            return min(waits + [most])
+
+        return (count(self.own, min(self.signed[0], self.acknowledged[0], self.current[0])),
+                count(self.taken, self.acknowledged[1]))
+
+    def reading(self):
+        """What its record tells a book that begins anew."""
+        base, peer_base = self.base()
+        there = self.live(self.own[:base], self.taken[:peer_base]) + self.own[base:]
+        offered = [(u["origin"], ("offered", self.channel, u["id"])) for u in there if u.get("origin")]
+        results = [(origin, ("over", self.channel, own_id, how)) for own_id, origin, how in self.results]
+        decided = [self.reading_of(id, mark) for id, mark in self.decisions if not self.removal_in(self.own[:base], id)]
+        return Reading(offered, results, decided)
+
+    def reading_of(self, id, mark):
+        add = next(u for u in self.taken if u["kind"] == "add" and u["id"] == id)
+        h = Htlc(self.channel, None, offer(add), mark)
+        h.decided = True
+        if self.removal_in(self.own, id):
+            h.back = "settled" if self.removal_in(self.own[:self.current[0]], id) else "sent"
+        return h
+
     # ---- how it stands
 
     def line_at_end(self):
@@ -375,9 +531,25 @@ class End:
                 f"balance {self.balance(self.role, own, peer)}/{self.balance(other, peer, own)} live {live} {state}")
 
 
+def offer(add):
+    return {name: add[name] for name in ("id", "amount", "hash", "expiry")} | {"hop": add["onion"]}
+
+
 class World:
     def __init__(self):
-        self.fees, self.limits, self.channels, self.report = {}, {}, {}, []
+        self.fees, self.limits, self.policies, self.books = {}, {}, {}, {}
+        self.channels, self.report = {}, []
+
+    def book(self, name):
+        """The book of a node."""
+        if name not in self.books:
+            self.books[name] = Book()
+            self.books[name].height = 100
+        return self.books[name]
+
+    def ends_of(self, name):
+        """The ends of a node, by the numbers of their channels."""
+        return [it for channel in sorted(self.channels) for it in self.channels[channel] if it.node == name]
 
     def open(self, channel, x, y, satoshis, push):
         fit = 1 <= satoshis <= 2100000000000000 and push <= 1000 * satoshis
@@ -386,39 +558,115 @@ class World:
             self.report.append("idle")
             return
         opening = {"satoshis": satoshis, "push": push, "limits": limits}
-        ends = [End(f"{n}{channel}", role, opening, self.fees.get(n, (300, 200, 400))) for n, role in ((x, "funder"), (y, "fundee"))]
+        ends = [End(f"{n}{channel}", role, opening, self.fees.get(n, (300, 200, 400)))
+                for n, role in ((x, "funder"), (y, "fundee"))]
         ends[0].other, ends[1].other = ends[1], ends[0]
         for it in ends:
             it.report = self.report
         self.channels[channel] = ends
         self.report.append(f"{channel} open")
 
-    def act(self, place, what):
+    def at(self, place, what):
+        """Does something at an end; where there is no such end the step is idle."""
         name, channel = place
         for it in self.channels.get(channel, []):
-            if it.name == f"{name}{channel}":
-                try:
-                    if what(it) == "idle":
-                        self.report.append("idle")
-                except Refused as refused:
-                    self.refused(it, refused.numbers)
-                return
+            if it.node == name:
+                return what(it)
         self.report.append("idle")
+
+    def try_act(self, place, act, what):
+        """Does something about an act of an end, where that can be taken; else the step is idle."""
+        self.at(place, lambda it: what(it) if act.can_be_taken(self, it) else self.report.append("idle"))
+
+    def act(self, place, act):
+        self.try_act(place, act, lambda it: self.done(it, act))
+
+    def done(self, it, act):
+        try:
+            act.do(self, it)
+        except Refused as refused:
+            self.refused(it, refused.numbers)
+        self.check(it.node)
 
     def refused(self, it, numbers):
         self.report.append(" ".join([it.name, "refused", *map(str, numbers)]))
         if 20 <= numbers[0] <= 36:
             it.send("warning" if numbers[0] == 36 else "error", kind="warning" if numbers[0] == 36 else "error")
 
-    @staticmethod
-    def deliver(it):
-        if not it.inbox:
-            return "idle"
-        it.take(it.inbox.pop(0))
+    def deliver(self, it):
+        before = len(it.ledger)
+        try:
+            it.take(it.inbox.pop(0))
+        except Refused as refused:
+            assert refused.numbers == (36,), "no message of an honest peer is refused but by 36"
+            raise
+        for what, own, u in it.ledger[before:]:
+            if what == "settled":
+                self.book(it.node).settled(it.channel, own, u["id"], outcome(u))
 
-    @staticmethod
-    def down(it):
+    def down(self, it):
         it.go_down()
+        if not it.halted:
+            removals = [u["id"] for u in it.own if u["kind"] in REMOVALS]
+            self.book(it.node).dropped(it.channel, it.next_own_id(), it.decided, removals)
+
+    # ---- hooks and the book
+
+    def dispatch(self, it):
+        number = it.dispatcher.next()
+        if number == len(it.ledger):
+            self.report.append("idle")
+            return
+        code = it.dispatcher.serve(it.ledger[number])
+        self.report.append(f"{it.name} dispatch {number} " + ("continue" if code is None else f"fail {code:04x}"))
+
+    def follow(self, name):
+        """What a node's book knows of its channels, as the last step has left them: where two of them have one short
+        channel id, the one with the greater number has it."""
+        base, proportional, delta = self.policies.get(name, (1000, 100, 40))
+        book = self.book(name)
+        for it in self.ends_of(name):
+            if it.short_id is not None:
+                minimum = it.opening["limits"][it.other.role][0]
+                book.routes[it.short_id] = it.channel, base, proportional, delta, minimum
+                book.used[it.channel] = it.is_usable()
+
+    def decide(self, it):
+        """The first undecided event of an end is decided by its book, and then by the end."""
+        self.follow(it.node)
+        what, own, u = it.ledger[it.decided]
+        add = offer(u) if what == "added" and not own else None
+        self.book(it.node).decide(it.channel, it.decided, add, it.dispatcher.verdict(it.decided))
+        self.take(it)
+
+    def take(self, it):
+        """An end takes the first command that its book has for it, and answers it."""
+        book = self.book(it.node)
+        command = book.take(it.channel)
+        try:
+            own_id = self.obey(it, *command)
+        except Refused as refused:
+            book.answered(it.channel, True, refused.numbers[0])
+            raise
+        book.answered(it.channel, False, own_id)
+
+    def obey(self, it, kind, *values):
+        """An end does what its book commands; the number by which it answers."""
+        if kind == "decide":
+            event, mark = values
+            it.decides(event, mark)
+            self.report.append(f"{it.name} decided {event} {mark_words(mark)}")
+            return event
+        if kind == "forget":
+            it.forgets(*values)
+            return values[0]
+        names = {"add": ("amount", "hash", "expiry", "onion", "origin"), "fulfil": ("id", "preimage"),
+                 "fail": ("id", "reason"), "malformed": ("id", "sha", "code")}
+        u = dict(zip(names[kind], values), kind=kind)
+        if kind == "fulfil":
+            u["hash"] = digest(u["preimage"])
+        it.command(kind, u)
+        return it.own[-1]["id"]
 
     def up(self, channel):
         ends = self.channels.get(channel)
@@ -429,115 +677,219 @@ class World:
             send()
 
     def restart(self, name):
-        for ends in self.channels.values():
-            for it in ends:
-                if it.name[0] == name:
-                    it.go_down()
-                    it.halted = False
+        """Each end of a node comes back from its record, and the node's book is read off these."""
+        ends = self.ends_of(name)
+        for it in ends:
+            it.go_down()
+            it.halted, it.dispatcher = False, Dispatcher(it.decided)
+        self.book(name).rebuild([it.reading() for it in ends])
 
-    def may_act(self, place, what):
-        """The end that a line names, where it is there and can act so; else None, and the step is idle."""
-        name, channel = place
-        its = [it for it in self.channels.get(channel, []) if it.name == f"{name}{channel}"]
-        if not its or what is Round.deliver and not its[0].inbox:
-            self.report.append("idle")
-            return None
-        return its[0]
+    # ---- stops, and want of memory
 
-    def stop_before(self, place, what):
-        """Its node stops before an end's act, where that can be taken: all of its ends restart."""
-        if self.may_act(place, what):
-            self.stops(place[0])
+    def stop_before(self, place, act):
+        """Its node stops before an end's act: all of its ends restart."""
+        self.try_act(place, act, lambda it: self.stops(it.node))
 
-    def stop_after(self, place, what):
-        """Its node stops behind an end's act."""
-        it = self.may_act(place, what)
-        if it:
-            self.unheard(it, what)
-            self.stops(place[0])
+    def stop_after(self, place, act):
+        """Its node stops behind an end's act: what it says reaches nobody, and nothing of it is told."""
+        def stop(it):
+            told, on_its_way = len(self.report), list(it.other.inbox)
+            self.done(it, act)
+            del self.report[told:]
+            it.other.inbox = on_its_way
+            self.stops(it.node)
+
+        self.try_act(place, act, stop)
 
     def stops(self, name):
         self.report.append(f"{name} restarts")
         self.restart(name)
 
-    def no_memory(self, place, what):
+    def no_memory(self, place, act):
         """An end has no memory for its act, and halts: of the act nothing is begun."""
-        it = self.may_act(place, what)
-        if it:
+        def halt(it):
             it.go_down()
             it.halted = True
             self.refused(it, [60])
 
-    def unheard(self, it, what):
-        """An end acts; what it says reaches nobody, and nothing of it is told."""
-        told, on_its_way = len(self.report), list(it.other.inbox)
-        try:
-            what(it)
-        except Refused:
-            pass
-        del self.report[told:]
-        it.other.inbox = on_its_way
+        self.try_act(place, act, halt)
+
+    # ---- what has to hold
+
+    def check(self, name):
+        """Of the payments that came in at a node each goes out once at most, over all of its channels, and comes back
+        only as the next node has answered. A script that removes one by hand may break this."""
+        ends = self.ends_of(name)
+        by_hand = {(it.channel, id) for it in ends for id in it.by_hand}
+        out = {}
+        for it in ends:
+            for u in it.own[:it.signed[0]]:
+                if u.get("origin") and u["origin"] not in by_hand:
+                    assert u["origin"] not in out, "one payment out for each payment in"
+                    out[u["origin"]] = it.removal_in(it.taken[:it.acknowledged[1]], u["id"])
+        for it in ends:
+            for u in it.own[:it.signed[0]]:
+                if u["kind"] in REMOVALS and (it.channel, u["id"]) in out:
+                    answer = out[it.channel, u["id"]]
+                    same = answer and (answer["kind"] == "fulfil") == (u["kind"] == "fulfil")
+                    assert same, "it comes back as answered"
+
+    def check_channels(self):
+        """What a side holds of the other side's updates begins what that side has signed; a close is the last event."""
+        for it in (it for ends in self.channels.values() for it in ends):
+            held = it.taken[:it.acknowledged[1]]
+            signed = [{k: v for k, v in u.items() if k != "origin"} for u in it.other.own[:it.other.signed[0]]]
+            assert held == signed[:len(held)], "what is held begins what was signed"
+            assert all(what != "closed" for what, _, _ in it.ledger[:-1]), "no event behind the close"
 
 
-class Round:
-    """Takes the act that a line asks for as one that a node stops round, or that its end has no memory for."""
+def mark_words(mark):
+    kind, *values = mark
+    if kind == "forward":
+        return f"forward {values[0]}"
+    if kind == "fail":
+        return f"fail {values[0][:2].hex()}"
+    return f"malformed {values[0]:04x}" if kind == "malformed" else kind
 
-    deliver = staticmethod(World.deliver)
 
-    def __init__(self, act):
-        self.act = act
+# ---- acts: what an end does, and a node may stop round
+
+class Command:
+    def __init__(self, kind, u=None):
+        self.kind, self.u = kind, u
+
+    @staticmethod
+    def can_be_taken(world, it):
+        return True
+
+    def do(self, world, it):
+        it.command(self.kind, self.u)
+        if self.kind in REMOVALS:
+            it.by_hand.add(self.u["id"])
 
 
-ACTS = ("confirm", "add", "fulfil", "fail", "malformed", "fee", "sign", "shutdown", "deliver")
+class Deliver:
+    """The next message in flight."""
+
+    @staticmethod
+    def can_be_taken(world, it):
+        return bool(it.inbox)
+
+    @staticmethod
+    def do(world, it):
+        world.deliver(it)
+
+
+class Take:
+    """The first command of the book."""
+
+    @staticmethod
+    def can_be_taken(world, it):
+        return world.book(it.node).first(it.channel) is not None
+
+    @staticmethod
+    def do(world, it):
+        world.take(it)
+
+
+class Decide:
+    """The first undecided event, which was dispatched."""
+
+    @staticmethod
+    def can_be_taken(world, it):
+        return it.decided < it.dispatcher.next()
+
+    @staticmethod
+    def do(world, it):
+        world.decide(it)
+
+
+# ---- lines
+
+ACTS = ("confirm", "add", "fulfil", "fail", "malformed", "fee", "sign", "shutdown", "deliver", "take", "decide")
+
+
+def act_of(word, words):
+    """An act's line as its end and what that does."""
+    if word in ("deliver", "take", "decide", "sign", "shutdown") and len(words) == 1:
+        acts = {"deliver": Deliver, "take": Take, "decide": Decide}
+        return end(words[0]), acts[word] if word in acts else Command(word)
+    if word == "confirm" and len(words) == 2:
+        return end(words[0]), Command(word, short_id(words[1]))
+    if word == "add" and len(words) >= 4 and len(words) % 3 == 1:
+        amount, expiry, secret = number(words[1]), number(words[2], 2**32 - 1), preimage(words[3])
+        hops = [(short_id(words[i]), number(words[i + 1]), number(words[i + 2], 2**32 - 1))
+                for i in range(4, len(words), 3)]
+        if onion_size(amount, expiry, [hop[1:] for hop in hops]) > 1300:
+            raise Bad()
+        u = dict(kind="add", amount=amount, expiry=expiry, hash=digest(secret),
+                 onion=onion(amount, expiry, secret[0], hops))
+        return end(words[0]), Command(word, u)
+    if word in REMOVALS and len(words) == 3:
+        u = dict(kind=word, id=number(words[1]))
+        if word == "fulfil":
+            u.update(preimage=preimage(words[2]), hash=digest(preimage(words[2])))
+        else:
+            u.update(code=code(words[2]))
+            told = u["code"].to_bytes(2, "big") + (bytes(2) if u["code"] & 0x1000 else b"")
+            u.update(dict(reason=told) if word == "fail" else dict(sha=bytes(32)))
+        return end(words[0]), Command(word, u)
+    if word == "fee" and len(words) == 2:
+        return end(words[0]), Command(word, dict(kind="fee", rate=number(words[1], 2**32 - 1)))
+    raise Bad()
+
+
+def setting_of(word, words):
+    """A setting of a node: what it is to be told by."""
+    x = node(words[0])
+    if word == "height" and len(words) == 2:
+        height = number(words[1], 400000000)
+        return lambda w: setattr(w.book(x), "height", height)
+    if word == "expect" and len(words) == 3:
+        secret, amount = preimage(words[1]), number(words[2])
+        return lambda w: w.book(x).expected.__setitem__(digest(secret), (secret, secret[0], amount))
+    if word == "set" and len(words) == 5 and words[1] == "fees":
+        first, least, most = map(number, words[2:])
+        if not least <= first <= most:
+            raise Bad()
+        return lambda w: w.fees.__setitem__(x, (first, least, most))
+    if word == "set" and len(words) == 5 and words[1] == "policy":
+        policy = tuple(number(it, most) for it, most in zip(words[2:], (2**32 - 1, 2**32 - 1, 2**16 - 1)))
+        return lambda w: w.policies.__setitem__(x, policy)
+    if word == "set" and len(words) == 6 and words[1] == "limits":
+        limits = tuple(number(it, most) for it, most in zip(words[2:], (2**64 - 1, 2**16 - 1, 2**64 - 1, 2**64 - 1)))
+        return lambda w: w.limits.__setitem__(x, limits)
+    raise Bad()
 
 
 def step_of(line):
     """A line as a step: a function of the world."""
     word, *words = line.split(" ")
+    if word in ACTS:
+        place, act = act_of(word, words)
+        return lambda w: w.act(place, act)
     if word in ("stop-before", "stop-after", "no-memory") and words and words[0] in ACTS:
-        inner = step_of(" ".join(words))
-        return lambda w: inner(Round(getattr(w, word.replace("-", "_"))))
-    if word == "set" and len(words) == 5 and words[1] == "fees":
-        x, (first, least, most) = node(words[0]), map(number, words[2:])
-        if not least <= first <= most:
-            raise Bad()
-        return lambda w: w.fees.__setitem__(x, (first, least, most))
-    if word == "set" and len(words) == 6 and words[1] == "limits":
-        x, limits = node(words[0]), tuple(number(it, most) for it, most in zip(words[2:], (2**64 - 1, 2**16 - 1, 2**64 - 1, 2**64 - 1)))
-        return lambda w: w.limits.__setitem__(x, limits)
+        place, act = act_of(words[0], words[1:])
+        return lambda w: getattr(w, word.replace("-", "_"))(place, act)
+    if word in ("set", "height", "expect") and words:
+        return setting_of(word, words)
     if word in ("open", "ready") and len(words) == (5 if word == "open" else 6):
         c, x, y, s, p = number(words[0], 99), node(words[1]), node(words[2]), number(words[3]), number(words[4])
         if word == "open":
             return lambda w: w.open(c, x, y, s, p)
-        short_id(words[5])
-        return lambda w: [w.open(c, x, y, s, p)] + [w.act((n, c), lambda it: it.command("confirm")) for n in (x, y)] + [
-            w.act((n, c), w.deliver) for n in (y, x)]
-    if word == "confirm" and len(words) == 2:
-        e, _ = end(words[0]), short_id(words[1])
-        return lambda w: w.act(e, lambda it: it.command("confirm"))
-    if word == "add" and len(words) >= 4 and len(words) % 3 == 1:
-        u = dict(kind="add", amount=number(words[1]), expiry=number(words[2], 2**32 - 1), hash=payment(words[3]))
+        confirm = Command("confirm", short_id(words[5]))
+        return lambda w: [w.open(c, x, y, s, p)] + [w.act((n, c), confirm) for n in (x, y)] + [
+            w.act((n, c), Deliver) for n in (y, x)]
+    if word in ("down", "dispatch") and len(words) == 1:
         e = end(words[0])
-        hops = []
-        for i in range(4, len(words), 3):
-            short_id(words[i])
-            hops.append((number(words[i + 1]), number(words[i + 2], 2**32 - 1)))
-        if onion_size(u["amount"], u["expiry"], hops) > 1300:
-            raise Bad()
-        return lambda w: w.act(e, lambda it: it.command("add", u))
-    if word in ("fulfil", "fail", "malformed") and len(words) == 3:
-        e, u = end(words[0]), dict(kind=word, id=number(words[1]))
-        u.update(dict(hash=payment(words[2])) if word == "fulfil" else dict(code=code(words[2])))
-        return lambda w: w.act(e, lambda it: it.command(word, u))
-    if word == "fee" and len(words) == 2:
-        e, u = end(words[0]), dict(kind="fee", rate=number(words[1], 2**32 - 1))
-        return lambda w: w.act(e, lambda it: it.command("fee", u))
-    if word in ("sign", "shutdown") and len(words) == 1:
-        e = end(words[0])
-        return lambda w: w.act(e, lambda it: it.command(word))
-    if word in ("deliver", "down") and len(words) == 1:
-        e = end(words[0])
-        return lambda w: w.act(e, getattr(w, word))
+        return lambda w: w.at(e, getattr(w, word))
+    if word == "hook" and len(words) == (2 if words[1:2] == ["count"] else 4):
+        e, failing = end(words[0]), ()
+        if len(words) == 4:
+            failing = number(words[2]), code(words[3])
+            if words[1] != "above" or failing[1] not in CODES:
+                raise Bad()
+        return lambda w: w.at(e, lambda it: it.dispatcher.register(*failing))
     if word == "up" and len(words) == 1:
         c = number(words[0], 99)
         return lambda w: w.up(c)
@@ -560,6 +912,7 @@ def report(script):
     world = World()
     for step in steps:
         step(world)
+    world.check_channels()
     for channel in sorted(world.channels):
         world.report += [it.line_at_end() for it in world.channels[channel]]
     return world.report, None

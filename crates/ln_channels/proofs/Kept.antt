@@ -74,7 +74,7 @@ use Rattle.ln_channels.specs.Settings.{channel_id_of}
 use Rattle.ln_channels.specs.declared.step.End.{End as WorldEnd}
 use Rattle.ln_channels.specs.Both.{Both, By, Falls, Halts, Restarts, Stops, Meet, acts, swapped, moves, may_come_up}
 use Rattle.ln_channels.specs.Both.{run as run_both}
-use Rattle.ln_channels.specs.Channel.{Channel, by, side_of, actor, moved, may_meet, act_moves, fall_moves}
+use Rattle.ln_channels.specs.Channel.{Channel, by, side_of, moved, may_meet, act_moves, fall_moves}
 use Rattle.ln_channels.specs.Channel.{restart_moves}
 use Rattle.ln_channels.specs.Channel.{halt_moves, stop_moves, up_moves, place_of}
 use Rattle.ln_channels.specs.Promises.{AtEnd, AtEnds, Headline, TakesFront, NoneRefused, AgreeOnceSigned, Agrees}
@@ -840,7 +840,7 @@ module _ {K : Type 0} (signer : K → Signer) where
   IsOpen c = IsRun (channel_id_of c.number) c.both
 
   pub act_kept : (n : Node) (a : Act) (c : Channel K) → IsOpen c → IsOpen (moved signer (act_moves n a) c)
-  act_kept n a c h = acted_by (channel_id_of c.number) (actor n a c) a c.both h
+  act_kept n a c h = acted_by (channel_id_of c.number) (side_of n c) a c.both h
 
   pub fall_kept : (n : Node) (c : Channel K) → IsOpen c → IsOpen (moved signer (fall_moves n) c)
   fall_kept n c h = fallen_by (channel_id_of c.number) (side_of n c) c.both h

@@ -5,13 +5,12 @@ use Rattle.ln_msgs.specs.declared.refusals.refusal.Refusal.{Refusal}
 use Rattle.ln_keys.specs.declared.role.Role.{Role}
 use Rattle.ln_keys.specs.declared.role.Role.TheVariants.{Funder, Fundee}
 use Rattle.ln_keys.specs.Signer.{Signer}
-use Rattle.ln_channel.specs.declared.command.Command.TheVariants as command
 use Rattle.ln_channels.specs.declared.step.Act.{Act}
 use Rattle.ln_channels.specs.declared.step.Act.TheVariants as act
 use Rattle.ln_channels.specs.declared.step.End.{End}
 use Rattle.ln_channels.specs.declared.step.Node.{Node}
 use Rattle.ln_channels.specs.Both.{Both, Place, unheard, delivered_unheard}
-use Rattle.ln_channels.specs.Channel.{Channel, side_of, actor, place_of, side_unheard}
+use Rattle.ln_channels.specs.Channel.{Channel, side_of, place_of, side_unheard}
 use Rattle.ln_channels.specs.Failing.{ByRecord, LinkLacks, SideLacks, ActLacks, ActLacksIn, ActLacksAt}
 use Rattle.ln_channels.proofs.Places.{found_where}
 
@@ -41,18 +40,3 @@ module _ {K : Type 0} (signer : K → Signer) where
       → Some i ≡ position (λ c. c.number == e.channel) cs → ActLacks signer e.node a (get_or cs i d)
       → ActLacksAt signer e a cs
   lacks_there e a cs i d is h = subst (ActLacksIn signer e.node a) (sym (found_where e.channel cs i d is)) h
-
--- who acts is the node's side
-pub actor_side : {K : Type 0} (n : Node) (a : Act) (c : Channel K) (side : Role) → Some side ≡ actor n a c
-    → side_of n c ≡ Some side
-actor_side n act.Deliver c side e = sym e
-actor_side n (act.Send (command.Decide event mark)) c side e = absurd (cc)
-actor_side n (act.Send (command.Forget id)) c side e = absurd (cc)
-actor_side n (act.Send (command.Confirm id)) c side e = sym e
-actor_side n (act.Send (command.Add amount hash expiry onion origin)) c side e = sym e
-actor_side n (act.Send (command.Fulfil id preimage)) c side e = sym e
-actor_side n (act.Send (command.Fail id reason)) c side e = sym e
-actor_side n (act.Send (command.Malformed id sha code)) c side e = sym e
-actor_side n (act.Send (command.Fee feerate)) c side e = sym e
-actor_side n (act.Send command.Sign) c side e = sym e
-actor_side n (act.Send (command.Shutdown script)) c side e = sym e

@@ -30,7 +30,7 @@ use Rattle.ln_channels.specs.declared.settings.Setting.{Setting}
 use Rattle.ln_channels.specs.Settings.{defaults, channel_id_of, may_bring, CanBring}
 use Rattle.ln_channels.specs.Both.{Both, Move, By, Falls, Halts, Restarts, Stops, Meet, moves, unheard}
 use Rattle.ln_channels.specs.Both.{run as run_both}
-use Rattle.ln_channels.specs.Channel.{Channel, is_node, by, side_of, actor, moved, may_meet, opened_by, act_moves}
+use Rattle.ln_channels.specs.Channel.{Channel, is_node, by, side_of, moved, may_meet, opened_by, act_moves}
 use Rattle.ln_channels.specs.Channel.{fall_moves, halt_moves, restart_moves, stop_moves, up_moves}
 use Rattle.ln_channels.specs.Channel.{acted_unheard, side_unheard, place_of, opening_moves}
 use Rattle.ln_channels.specs.World.{World, settings_of, channel, may_open, joined, happens, may_be_done}
@@ -176,7 +176,7 @@ module _ {K : Type 0} (k : Ghosts K) where
   happens_so (step.Do e a) w f is h = (
     h.limits,
     moved_so k IsFitChannel e.channel (act_moves e.node a) (kept_by (act_moves e.node a) (acts_possible k e.node a)
-        (λ c. bring_by (actor e.node a c) (λ side. By side a) (λ side. is))) w.channels h.channels,
+        (λ c. bring_by (side_of e.node c) (λ side. By side a) (λ side. is))) w.channels h.channels,
   )
   happens_so (step.Down e) w f is h = (
     h.limits,

@@ -24,7 +24,7 @@ use Rattle.ln_channels.specs.declared.step.Step.TheVariants as step
 use Rattle.ln_channels.specs.Settings.{channel_id_of, opening_by, may_bring}
 use Rattle.ln_channels.specs.declared.step.End.{End}
 use Rattle.ln_channels.specs.Both.{Both, Move, By, Falls, Halts, Restarts, Stops, Meet}
-use Rattle.ln_channels.specs.Channel.{Channel, is_node, by, side_of, actor, moved, may_meet, opened_by, act_moves}
+use Rattle.ln_channels.specs.Channel.{Channel, is_node, by, side_of, moved, may_meet, opened_by, act_moves}
 use Rattle.ln_channels.specs.Channel.{fall_moves, halt_moves, restart_moves, stop_moves, up_moves}
 use Rattle.ln_channels.specs.World.{World, settings_of, channel, moved_if, moved_at, all_moved, may_open, joined}
 use Rattle.ln_channels.specs.World.{happens}
@@ -112,7 +112,7 @@ module _ {K : Type 0} (k : Ghosts K) where
 
   pub acts_possible : (n : Node) (a : Act) → MayMake (act_moves n a)
   acts_possible n a c =
-      by_possible (channel_id_of c.number) c.both (actor n a c) (λ side. By side a) (λ side. (refl, tt))
+      by_possible (channel_id_of c.number) c.both (side_of n c) (λ side. By side a) (λ side. (refl, tt))
 
   pub falls_possible : (n : Node) → MayMake (fall_moves n)
   falls_possible n c = by_possible (channel_id_of c.number) c.both (side_of n c) Falls (λ side. (refl, tt))

@@ -7,7 +7,6 @@ use Rattle.ln_keys.specs.declared.keys.ChannelKeys.{Ghosts}
 use Rattle.ln_keys.specs.declared.role.Role.{Role}
 use Rattle.ln_keys.specs.declared.role.Role.TheVariants.{Funder, Fundee}
 use Rattle.ln_keys.specs.Signer.{Signer}
-use Rattle.ln_channel.specs.declared.command.Command.TheVariants as command
 use Rattle.ln_channel.specs.declared.unsaved.Stage.TheVariants as stage
 use Rattle.ln_channel.specs.State.{begun}
 use Rattle.ln_channels.specs.declared.step.Act.{Act}
@@ -65,14 +64,8 @@ moved signer f c = record {
 }
 
 -- the table: which moves of a channel an act, the loss of a connection, a node's restart and a new connection are
--- a decision is no act of a step: it is made of an event, and nobody sends it
-abbrev pub actor : {K : Type 0} → Node → Act → Channel K → Option Role
-actor n (act.Send (command.Decide event mark)) c = None
-actor n (act.Send (command.Forget id)) c = None
-actor n a c = side_of n c
-
 abbrev pub act_moves : {K : Type 0} → Node → Act → Channel K → List Move
-act_moves n a c = by (actor n a c) (λ side. By side a)
+act_moves n a c = by (side_of n c) (λ side. By side a)
 
 abbrev pub fall_moves : {K : Type 0} → Node → Channel K → List Move
 fall_moves n c = by (side_of n c) Falls
@@ -109,7 +102,7 @@ side_may_do a (Some side) p = may_do a (place_of side p)
 
 -- the node's end
 abbrev pub may_act : {K : Type 0} → Node → Act → Channel K → Bool
-may_act n a c = side_may_do a (actor n a c) c.both
+may_act n a c = side_may_do a (side_of n c) c.both
 
 -- as the act leaves the node's end, whoever gets what it hands out
 abbrev pub side_unheard : {K : Type 0} → (K → Signer) → Act → Option Role → Both K → Both K

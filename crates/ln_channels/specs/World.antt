@@ -21,7 +21,7 @@ use Rattle.ln_channels.specs.Settings.{defaults, may_bring}
 use Rattle.ln_channels.specs.Both.{Move}
 use Rattle.ln_channels.specs.Channel.{Channel, is_node, moved, opened_by, act_moves, fall_moves, restart_moves}
 use Rattle.ln_channels.specs.Channel.{up_moves}
-use Rattle.ln_channels.specs.Channel.{end_of, side_of, actor, acted_lines, fallen_lines, met_lines, stop_moves, may_act}
+use Rattle.ln_channels.specs.Channel.{end_of, side_of, acted_lines, fallen_lines, met_lines, stop_moves, may_act}
 use Rattle.ln_channels.specs.Channel.{acted_unheard, halt_moves}
 
 pub record World (K : Type 0) : Type 0 where
@@ -166,7 +166,7 @@ step_lines k (step.Fees n fees) w = []
 step_lines k (step.Limits n limits) w = []
 step_lines k (step.Open o) w = opening_lines o w
 step_lines k (step.Do e a) w =
-    if_there (λ c. acted_lines k.signer a c (actor e.node a c)) (channel e.channel w.channels)
+    if_there (λ c. acted_lines k.signer a c (side_of e.node c)) (channel e.channel w.channels)
 step_lines k (step.Down e) w = if_there (λ c. fallen_lines (side_of e.node c)) (channel e.channel w.channels)
 step_lines k (step.NoMemory e a) w = memory_lines e a w
 step_lines k (step.Restart n) w = []

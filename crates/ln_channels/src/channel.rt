@@ -12,7 +12,6 @@ use crate::saved_link::SavedLink;
 use crate::settings::{Settings, fit_config, fit_spec};
 use crate::step::{Act, End, Node, Open};
 use ln_bytes::Bytes;
-use ln_channel::Command;
 use ln_keys::{ChannelKeys, Role};
 use ln_msgs::Refusal;
 use std::alloc::Global;
@@ -46,7 +45,7 @@ impl<K: ChannelKeys + Copy> Channel<K> {
     ghost use Rattle.ln_keys.specs.declared.role.Role.TheVariants.{Funder, Fundee};
     ghost use Rattle.ln_channels.specs.Settings.{channel_id_of};
     ghost use Rattle.ln_channels.specs.Both.{By, Falls, Restarts, Meet, act_lines, greet_lines, greeting};
-    ghost use Rattle.ln_channels.specs.Channel.{side_of, actor, moved, act_moves, fall_moves, up_moves, acted_lines};
+    ghost use Rattle.ln_channels.specs.Channel.{side_of, moved, act_moves, fall_moves, up_moves, acted_lines};
     ghost use Rattle.ln_channels.specs.Channel.{restart_moves, fallen_lines, place_of, end_of, opening_moves};
     ghost use Rattle.ln_channels.specs.Channel.{met_lines};
     ghost use Rattle.ln_channels.specs.Channel.{may_act, acted_unheard, halt_moves};
@@ -134,19 +133,8 @@ impl<K: ChannelKeys + Copy> Channel<K> {
         }
     }
 
-    // Which of its ends acts. A decision is no act of a step.
-    fn actor(&self, node: Node, what: &Act) -> Option<Role>
-        ensures { result ≡ actor node what.now self.now }
-    {
-        match what {
-            Act::Send(Command::Decide { .. }) => None,
-            Act::Send(Command::Forget(_)) => None,
-            _ => self.side_of(node),
-        }
-    }
-
-    /// The node's end acts, where it has one; nobody does where a decision is sent. 60 where there is no memory, 70
-    /// where the end has no record as the act leaves it.
+    /// The node's end acts, where it has one. 60 where there is no memory, 70 where the end has no record as the act
+    /// leaves it.
     #[tactic(auto, unfolding(crate::specs::Channel::acted_lines))]
     pub fn act(
         &mut self,
@@ -157,11 +145,11 @@ impl<K: ChannelKeys + Copy> Channel<K> {
     ) -> Result<(), Refusal>
         ensures moved { OnOk result (self.new ≡ moved K.signer (act_moves node what) self.old) }
         ensures told { OnOk result (lines.new.items
-            ≡ lines.old.items ++ acted_lines K.signer what self.old (actor node what self.old)) }
+            ≡ lines.old.items ++ acted_lines K.signer what self.old (side_of node self.old)) }
         ensures number { self.new.number ≡ self.old.number }
         ensures fails { IfErr result (λ e. ByRecord e (ActLacks K.signer node what self.old)) }
     {
-        match self.actor(node, &what) {
+        match self.side_of(node) {
             None => {
                 drop(what);
                 lines.push(Line::Idle)?;
@@ -171,12 +159,11 @@ impl<K: ChannelKeys + Copy> Channel<K> {
         }
     }
 
-    /// Whether the node's end can act so: it has one, no decision is sent, and a message is there where one is to be
-    /// taken.
+    /// Whether the node's end can act so: it has one, and a message is there where one is to be taken.
     pub(crate) fn may_act(&self, node: Node, what: &Act) -> bool
         ensures { result ≡ may_act node what.now self.now }
     {
-        match self.actor(node, what) {
+        match self.side_of(node) {
             None => false,
             Some(side) => self.place(side).may_do(what),
         }

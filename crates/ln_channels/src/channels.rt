@@ -2,7 +2,7 @@
 
 ghost use Rattle.std.specs.Prelude.{◌≡◌, ◌++◌, ◌==◌, position, is_none, option_copied, IfOk, IfErr, OnOk};
 ghost use Rattle.ln_msgs.specs.declared.refusals.refusal.Refusal.TheVariants as refusal;
-ghost use Rattle.ln_channels.specs.Channel.{side_of, actor, acted_lines, fallen_lines, met_lines};
+ghost use Rattle.ln_channels.specs.Channel.{side_of, acted_lines, fallen_lines, met_lines};
 ghost use Rattle.ln_channels.specs.Channel.{act_moves, fall_moves, restart_moves, up_moves};
 ghost use Rattle.ln_channels.specs.Channel.{halt_moves, stop_moves};
 ghost use Rattle.ln_channels.specs.World.{channel, moved_at, all_moved, if_there, lines_of_ends, AreOnce};
@@ -73,7 +73,7 @@ fn act_at<K: ChannelKeys + Copy>(
     requires { AreOnce channels.old }
     ensures moved { OnOk result (channels.new ≡ moved_at K.signer end.channel (act_moves end.node what) channels.old) }
     ensures told { OnOk result (lines.new.items ≡ lines.old.items
-        ++ if_there (λ c. acted_lines K.signer what c (actor end.node what c)) (channel end.channel channels.old)) }
+        ++ if_there (λ c. acted_lines K.signer what c (side_of end.node c)) (channel end.channel channels.old)) }
     ensures once { AreOnce channels.new }
     ensures fails { IfErr result (λ e. ByRecord e (ActLacksAt K.signer end what channels.old)) }
 {
@@ -248,7 +248,7 @@ impl<K: ChannelKeys + Copy> Model for Channels<K> {
 impl<K: ChannelKeys + Copy> Channels<K> {
     ghost use Rattle.std.specs.Prelude.{◌≡◌, ◌++◌, ◌∷◌, [], is_none, None, OnOk, IfOk, IfErr, option_copied};
     ghost use Rattle.ln_channels.specs.Settings.{CanBring};
-    ghost use Rattle.ln_channels.specs.Channel.{side_of, actor, acted_lines, fallen_lines, met_lines, opened_by};
+    ghost use Rattle.ln_channels.specs.Channel.{side_of, acted_lines, fallen_lines, met_lines, opened_by};
     ghost use Rattle.ln_channels.specs.Channel.{act_moves, fall_moves, restart_moves, up_moves};
     ghost use Rattle.ln_channels.specs.Channel.{halt_moves, stop_moves};
     ghost use Rattle.ln_channels.specs.World.{channel, moved_at, all_moved, if_there, lines_of_ends};
@@ -311,7 +311,7 @@ impl<K: ChannelKeys + Copy> Channels<K> {
     ) -> Result<(), Refusal>
         ensures moved { OnOk result (self.new ≡ moved_at K.signer end.channel (act_moves end.node what) self.old) }
         ensures told { OnOk result (lines.new.items ≡ lines.old.items
-            ++ if_there (λ c. acted_lines K.signer what c (actor end.node what c)) (channel end.channel self.old)) }
+            ++ if_there (λ c. acted_lines K.signer what c (side_of end.node c)) (channel end.channel self.old)) }
         ensures fails { IfErr result (λ e. ByRecord e (ActLacksAt K.signer end what self.old)) }
     {
         act_at(alloc, &mut self.items, end, what, lines)

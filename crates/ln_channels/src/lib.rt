@@ -22,11 +22,11 @@ pub use laws::{
     commands_are_done_exactly, every_end_has_a_record, headline, marks_agree_at_rest,
     never_refused, never_refused_where_fees_overlap, no_add_follows_a_shutdown,
 };
-pub use line::{EndLine, Ending, Line, Word};
+pub use line::{Choice, EndLine, Ending, Line, Word};
 pub use machine::{
     close_is_last, each_move_may_be_made, events_are_told, moves_are_the_machines,
     undecided_events_are_the_machines,
 };
-pub use settings::{Setting, Settings, may_bring};
+pub use settings::{Setting, Settings, channel_id_of, may_bring};
 pub use step::{Act, End, Node, Open, Partners, Step};
 pub use world::World;

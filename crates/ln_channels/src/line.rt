@@ -47,6 +47,21 @@ pub enum Ending {
     Malformed,
 }
 
+/// What was decided about an event, by what a report tells of it.
+#[derive(Clone, Copy, PartialEq, Eq)]
+pub enum Choice {
+    /// Nothing is done about it.
+    None,
+    /// It is forwarded by the channel with this number.
+    Forward(u8),
+    /// It is failed by this code.
+    Fail(u16),
+    /// It is failed as malformed, by this code.
+    Malformed(u16),
+    /// It is fulfilled.
+    Fulfil,
+}
+
 /// A line of a report: what a step did.
 #[derive(Clone, Copy, PartialEq, Eq)]
 pub enum Line {
@@ -94,6 +109,8 @@ pub enum Line {
     /// A dispatcher served an end's event of this number, and its hooks said this of it. No step of channels alone
     /// tells of it.
     Dispatched(End, u64, Verdict),
+    /// An end has taken the decision of its event of this number. No step of channels alone tells of it.
+    Decided(End, u64, Choice),
     /// The step couldn't be taken.
     Idle,
 }

@@ -118,9 +118,9 @@ fn txid_of(channel: u8) -> [u8; 32]
     txid
 }
 
-/// The id of the channel with this number.
+/// The id of the channel with this number. Takes no memory.
 #[tactic(auto, unfolding(crate::specs::Settings::channel_id_of))]
-pub(crate) fn channel_id_of(channel: u8) -> [u8; 32]
+pub fn channel_id_of(channel: u8) -> [u8; 32]
     ensures { result ≡ channel_id_of channel }
 {
     channel_id(&txid_of(channel), 0)

@@ -4,9 +4,12 @@ ghost use Rattle.std.specs.Prelude.{◌≡◌, ◌⊎◌, ◌+◌, ℕ, Err, OnO
 ghost use Rattle.ln_msgs.specs.declared.refusals.refusal.Refusal.TheVariants.{Memory, Io, BadScript};
 ghost use Rattle.ln_msgs.specs.Pings.Counted.{HasRisen};
 ghost use Rattle.ln_msgs.specs.Pings.CountedView.{inner_of, failures_of, calls_of};
+ghost use Rattle.ln_script.specs.Hook.{SaysOf};
+ghost use Rattle.ln_script.specs.Script.{script_at, script_hooks};
+ghost use Rattle.ln_script.specs.Report.{ReportsScript, ReportsScriptPartly};
 ghost use Rattle.ln_commands.specs.Printed.{Prints, PrintsPartly};
 ghost use Rattle.ln_commands.specs.Text.{decoded};
-ghost use Rattle.ln_commands.specs.Done.{simulated_bytes, Does, DoesPartly, StopsBy, HasFailed};
+ghost use Rattle.ln_commands.specs.Done.{script_in, Simulates, SimulatesPartly, Does, DoesPartly, StopsBy, HasFailed};
 
 use crate::choice::Choice;
 use crate::failure::Failure;
@@ -14,7 +17,7 @@ use crate::input::read_all;
 use crate::simulation::{script_text, simulate};
 use crate::text::decode_text;
 use ln_msgs::{Counted, Refusal, answer_pings};
-use ln_script::print_all;
+use ln_script::{hook_lines, print_all};
 use std::alloc::Global;
 use std::io::{Read, Write};
 
@@ -56,24 +59,42 @@ fn print_decoded<W: Write>(alloc: Global, hex: &str, writer: &mut Counted<W>) ->
     Ok(())
 }
 
+/// Runs a script with the hooks that its lines ask for, and writes its report (`simulate`).
+fn simulate_text<W: Write>(
+    alloc: Global,
+    text: &str,
+    writer: &mut Counted<W>,
+) -> Result<(), Failure>
+    ensures prints_it { OnOk result (ReportsScript SaysOf (script_hooks text.now) (script_at text.now)
+        (W.contents (inner_of writer.old)) (W.contents (inner_of writer.new))) }
+    ensures front { OnErr result (ReportsScriptPartly SaysOf (script_hooks text.now) (script_at text.now)
+        (W.contents (inner_of writer.old)) (W.contents (inner_of writer.new))) }
+    ensures cause { IfErr result (λ f. (f ≡ Failure.Refused Memory)
+        ⊎ ((f ≡ Failure.Refused Io) × HasRisen (failures_of writer.old) (failures_of writer.new))
+        ⊎ ((line : ℕ) × (f ≡ Failure.Refused (BadScript line)) × (script_at text.now ≡ Err line))) }
+{
+    let hooks = hook_lines(alloc, text)?;
+    simulate(alloc, text, hooks, writer)?;
+    Ok(())
+}
+
 /// Runs the script that these bytes are, and writes its report (`simulate`). 64 with line 0 where they aren't UTF-8.
 fn simulate_bytes<W: Write>(
     alloc: Global,
     bytes: &[u8],
     writer: &mut Counted<W>,
 ) -> Result<(), Failure>
-    ensures prints_it { OnOk result (Prints (W.contents (inner_of writer.old)) (W.contents (inner_of writer.new))
-        (simulated_bytes bytes.now)) }
-    ensures front { PrintsPartly (W.contents (inner_of writer.old)) (W.contents (inner_of writer.new))
-        (simulated_bytes bytes.now) }
+    ensures prints_it { OnOk result (Simulates (W.contents (inner_of writer.old)) (W.contents (inner_of writer.new))
+        bytes.now) }
+    ensures front { OnErr result (SimulatesPartly (W.contents (inner_of writer.old)) (W.contents (inner_of writer.new))
+        bytes.now) }
     ensures cause { IfErr result (λ f. (f ≡ Failure.Refused Memory)
         ⊎ ((f ≡ Failure.Refused Io) × HasRisen (failures_of writer.old) (failures_of writer.new))
-        ⊎ ((line : ℕ) × (f ≡ Failure.Refused (BadScript line)) × (simulated_bytes bytes.now ≡ Err line))) }
+        ⊎ ((line : ℕ) × (f ≡ Failure.Refused (BadScript line)) × (script_in bytes.now ≡ Err line))) }
 {
-    match script_text(bytes) {
-        Ok(text) => simulate(alloc, text, writer),
-        Err(failure) => Err(failure),
-    }
+    let text = script_text(bytes)?;
+    simulate_text(alloc, text, writer)?;
+    Ok(())
 }
 
 /// Runs the script that its input is, once all of it is read.
@@ -83,14 +104,14 @@ fn simulate_input<R: Read, W: Write>(
     writer: &mut Counted<W>,
 ) -> Result<(), Failure>
     ensures prints_it { OnOk result (IfSome (R.remaining (inner_of reader.old)) (λ bytes.
-        Prints (W.contents (inner_of writer.old)) (W.contents (inner_of writer.new)) (simulated_bytes bytes))) }
+        Simulates (W.contents (inner_of writer.old)) (W.contents (inner_of writer.new)) bytes)) }
     ensures front { OnErr result (IfSome (R.remaining (inner_of reader.old)) (λ bytes.
-        PrintsPartly (W.contents (inner_of writer.old)) (W.contents (inner_of writer.new)) (simulated_bytes bytes))) }
+        SimulatesPartly (W.contents (inner_of writer.old)) (W.contents (inner_of writer.new)) bytes)) }
     ensures cause { IfErr result (λ f. (f ≡ Failure.Refused Memory)
         ⊎ ((f ≡ Failure.Refused Io) × (HasRisen (failures_of reader.old) (failures_of reader.new)
         ⊎ HasRisen (failures_of writer.old) (failures_of writer.new)))
         ⊎ ((line : ℕ) × (f ≡ Failure.Refused (BadScript line))
-        × IfSome (R.remaining (inner_of reader.old)) (λ bytes. simulated_bytes bytes ≡ Err line))) }
+        × IfSome (R.remaining (inner_of reader.old)) (λ bytes. script_in bytes ≡ Err line))) }
 {
     let bytes = read_all(alloc, reader)?;
     simulate_bytes(alloc, bytes.as_slice(), writer)

@@ -1,37 +1,44 @@
 //! Scripts that run.
 
-ghost use Rattle.std.specs.Prelude.{◌≡◌, ◌⊎◌, ℕ, true, false, Err, OnOk, IfOk, IfErr};
+ghost use Rattle.std.specs.Prelude.{◌≡◌, ◌⊎◌, ℕ, true, false, Err, OnOk, OnErr, IfOk, IfErr};
 ghost use Rattle.std.specs.Str.{is_utf8};
 ghost use Rattle.ln_msgs.specs.declared.refusals.refusal.Refusal.TheVariants.{Memory, Io, BadScript};
 ghost use Rattle.ln_msgs.specs.Pings.Counted.{HasRisen};
 ghost use Rattle.ln_msgs.specs.Pings.CountedView.{inner_of, failures_of};
-ghost use Rattle.ln_script.specs.Report.{simulated};
-ghost use Rattle.ln_commands.specs.Printed.{Prints, PrintsPartly};
+ghost use Rattle.ln_script.specs.Script.{script_at};
+ghost use Rattle.ln_script.specs.Report.{ReportsScript, ReportsScriptPartly};
 
 use crate::failure::Failure;
 use ln_msgs::{Counted, Refusal};
 use ln_script::{print_report, read_script, steps_bring_what_fits};
+use ln_world::Serve;
 use std::alloc::Global;
 use std::io::Write;
 
-/// Runs a script and writes its report, what a step is told as before the next is taken. Takes memory for the script's
-/// lines and steps, the world, and the text of one step.
+/// Runs a script over a world that these hooks are handed in to, and writes its report, what a step is told as before
+/// the next is taken. The hook lines of the script name the hooks in their order. Takes memory for the script's lines
+/// and steps, the world, and the text of one step.
 ///
 /// Errors: 64 with the number of the first bad line, and then nothing was written; 60 where there is no memory; 63
 /// where a call of the writer fails. What was written by then is a beginning of the report.
-pub fn simulate<W: Write>(alloc: Global, text: &str, writer: &mut Counted<W>) -> Result<(), Failure>
-    ensures prints_it { OnOk result (Prints (W.contents (inner_of writer.old)) (W.contents (inner_of writer.new))
-        (simulated text.now)) }
-    ensures front { PrintsPartly (W.contents (inner_of writer.old)) (W.contents (inner_of writer.new))
-        (simulated text.now) }
+pub fn simulate<W: Write, H: Serve>(
+    alloc: Global,
+    text: &str,
+    hooks: Vec<H>,
+    writer: &mut Counted<W>,
+) -> Result<(), Failure>
+    ensures prints_it { OnOk result (ReportsScript H.calls hooks.items (script_at text.now)
+        (W.contents (inner_of writer.old)) (W.contents (inner_of writer.new))) }
+    ensures front { OnErr result (ReportsScriptPartly H.calls hooks.items (script_at text.now)
+        (W.contents (inner_of writer.old)) (W.contents (inner_of writer.new))) }
     ensures refused { IfErr result (λ f. (f ≡ Failure.Refused Memory)
-        ⊎ ((line : ℕ) × (f ≡ Failure.Refused (BadScript line)) × (simulated text.now ≡ Err line)
+        ⊎ ((line : ℕ) × (f ≡ Failure.Refused (BadScript line)) × (script_at text.now ≡ Err line)
         × (writer.new ≡ writer.old))
         ⊎ ((f ≡ Failure.Refused Io) × HasRisen (failures_of writer.old) (failures_of writer.new))) }
 {
     let steps = read_script(alloc, text)?;
     steps_bring_what_fits();
-    print_report(alloc, steps, writer)?;
+    print_report(alloc, steps, hooks, writer)?;
     Ok(())
 }
 

@@ -1,11 +1,10 @@
 //! Hooks of nodes: on which events each is called, by what the dispatchers tell.
 
-use ln_channels::{End, Line, Node, Step as ChannelStep};
 use ln_hooks::{Call, ChannelEvent, FailureCode, Hook, Verdict};
 use ln_keys::ToyKeys;
 use ln_msgs::Refusal;
 use ln_script::read_script;
-use ln_world::{Step, World};
+use ln_world::{End, Line, Node, Step, World};
 use std::alloc::{AllocError, Global};
 
 const UNKNOWN: Verdict = Verdict::Fail(FailureCode::IncorrectOrUnknownPaymentDetails);
@@ -34,25 +33,9 @@ enum Part {
 
 use Part::{Dispatch, Lines, Register};
 
-/// A step of channels, taken by nodes.
-fn of_nodes(step: ChannelStep<ToyKeys>) -> Step<ToyKeys> {
-    match step {
-        ChannelStep::Fees(node, fees) => Step::Fees(node, fees),
-        ChannelStep::Limits(node, limits) => Step::Limits(node, limits),
-        ChannelStep::Open(wish) => Step::Open(wish),
-        ChannelStep::Do(end, what) => Step::Do(end, what),
-        ChannelStep::Down(end) => Step::Down(end),
-        ChannelStep::NoMemory(end, what) => Step::NoMemory(end, what),
-        ChannelStep::Restart(node) => Step::Restart(node),
-        ChannelStep::StopBefore(end, what) => Step::StopBefore(end, what),
-        ChannelStep::StopAfter(end, what) => Step::StopAfter(end, what),
-        ChannelStep::Up(number) => Step::Up(number),
-    }
-}
-
 fn put_lines(alloc: Global, text: &str, steps: &mut Vec<Step<ToyKeys>>) -> Result<(), Refusal> {
     for step in read_script(alloc, text)? {
-        steps.push(of_nodes(step))?;
+        steps.push(step)?;
     }
     Ok(())
 }

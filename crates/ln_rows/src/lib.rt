@@ -7,6 +7,8 @@ mod told;
 pub use told::is_told;
 
 #[cfg(test)]
+mod books;
+#[cfg(test)]
 mod hooks;
 #[cfg(test)]
 mod memory;

@@ -1,10 +1,11 @@
 //! The record that an end's store has: none before its channel is open, and from then on one that can be read.
 
-use ln_channels::{End, Line, Node, World};
+use ln_channels::{End, Line, Node, Step as ChannelStep, World};
 use ln_keys::ToyKeys;
 use ln_msgs::Refusal;
 use ln_script::read_script;
 use ln_store::decode_record;
+use ln_world::Step;
 use std::alloc::Global;
 
 // Whether a record can be read.
@@ -22,8 +23,11 @@ fn is_record(alloc: Global, bytes: &[u8]) -> bool {
 fn has_record(alloc: Global, text: &str, letter: u8) -> Result<bool, Refusal> {
     let mut world: Box<World<ToyKeys>> = Box::new(alloc, World::new(alloc))?;
     let mut lines: Vec<Line> = Vec::new(alloc);
-    let steps = read_script(alloc, text)?;
-    world.run(alloc, steps, &mut lines)?;
+    for step in read_script(alloc, text)? {
+        if let Step::Open(wish) = step {
+            world.step(alloc, ChannelStep::Open(wish), &mut lines)?;
+        }
+    }
     let node = Node { letter };
     match world.record(alloc, End { node, channel: 0 })? {
         Some(bytes) => Ok(is_record(alloc, bytes.as_slice())),

@@ -87,7 +87,7 @@ fn bad_lines(rt: HostRuntime) {
     }
 }
 
-// Words that are missing, too many or too great behind each line's first; a line of nodes that decide by themselves.
+// Words that are missing, too many or too great behind each line's first.
 #[test]
 fn bad_words(rt: HostRuntime) {
     for (script, line) in [
@@ -117,8 +117,47 @@ fn bad_words(rt: HostRuntime) {
         ("stop-before up 0\n", 1),
         ("stop-after stop-after sign A0\n", 1),
         ("stop-before ready 0 A B 1000 0 1x1x0\n", 1),
-        // a line of nodes that decide by themselves is none
-        ("sign A0\nheight A 100\n", 2),
+        // the greatest height, and a word that is none
+        ("height A 400000000\nheight A 400000001\n", 2),
+        ("height A0 100\n", 1),
+        ("height A\n", 1),
+        ("set A policy 4294967296 100 40\n", 1),
+        ("set A policy 1000 4294967296 40\n", 1),
+        ("set A policy 1000 100 65536\n", 1),
+        ("set A policy 1000 100\n", 1),
+        ("expect A 256 5000\n", 1),
+        ("expect A 7\n", 1),
+        ("take A\n", 1),
+        ("decide A0 0\n", 1),
+        ("dispatch 0\n", 1),
+        ("stop-after dispatch A0\n", 1),
+        ("no-memory hook A0 count\n", 1),
+    ] {
+        let refused = read_script(rt.alloc(), script).err();
+        assert_eq!(rt; refused, Some(Refusal::BadScript { line }), "{script}");
+    }
+}
+
+// Codes with the BADONION bit, or that name no failure, are none of a hook; the lawful ones are in lower case.
+#[test]
+fn bad_hooks(rt: HostRuntime) {
+    for (script, line) in [
+        ("hook A0\n", 1),
+        ("hook A count\n", 1),
+        ("hook A0 count 5000\n", 1),
+        ("hook A0 above 5000\n", 1),
+        ("hook A0 above 5000 1007 1007\n", 1),
+        ("hook A0 above 5000 c004\n", 1),
+        ("hook A0 above 5000 1008\n", 1),
+        ("hook A0 above 5000 400F\n", 1),
+        ("hook A0 below 5000 1007\n", 1),
+        ("hook A0 above 5000 0000\n", 1),
+        (
+            "hook A0 above 0 1007\nhook A0 above 0 400a\nhook A0 above 0 100b\nhook A0 above 0 100c\n\
+             hook A0 above 0 100d\nhook A0 above 0 100e\nhook A0 above 0 400f\nhook A0 above 0 0012\n\
+             hook A0 above 0 0013\nhook A0 above 0 0015\nhook A0 above 0 4016\nhook A0 above 0 4017\n",
+            12,
+        ),
     ] {
         let refused = read_script(rt.alloc(), script).err();
         assert_eq!(rt; refused, Some(Refusal::BadScript { line }), "{script}");

@@ -1,28 +1,56 @@
 -- By what a step of a script may fail: by want of memory, or by 70 where the world says so.
-use Rattle.std.proofs.Common.{◌≡◌, refl, inl, inr, ◌⊎◌}
+use Rattle.std.proofs.Common.{◌≡◌, List, [], ◌∷◌, Option, Some, None, refl, inl, inr, ◌⊎◌}
 use Rattle.ln_msgs.specs.declared.refusals.refusal.Refusal.{Refusal}
 use Rattle.ln_msgs.specs.declared.refusals.refusal.Refusal.TheVariants as refusal
 use Rattle.ln_keys.specs.declared.toy_keys.ToyKeys.{ToyKeys}
+use Rattle.ln_channels.specs.declared.step.Step.{Step as ChannelStep}
 use Rattle.ln_channels.specs.declared.step.Step.TheVariants as step
-use Rattle.ln_channels.specs.Failing.{ByRecord, MayFail}
-use Rattle.ln_channels.specs.World.{World}
+use Rattle.ln_channels.specs.Failing.{ByRecord, MayFail as ChannelMayFail}
+use Rattle.ln_channels.specs.World.{World as Channels}
+use Rattle.ln_desks.specs.declared.step.Step.{Step as DeskStep}
+use Rattle.ln_desks.specs.World.{World as Desks, MayFailBy as DeskMayFailBy}
+use Rattle.ln_desks.specs.World as desks
+use Rattle.ln_world.specs.World.{World, plain, MayFailBy, MayFail}
 use Rattle.ln_script.specs.Keys.{toy}
 use Rattle.ln_script.specs.Report.{StepFails}
 use Rattle.ln_script.specs.Step.{ToyStep}
 
-by_record : {L : Type 0} (r : Refusal) → ByRecord r L
-    → (r ≡ refusal.Memory) ⊎ ((r ≡ refusal.Damaged) × ByRecord refusal.Damaged L)
+-- for want of memory, or by 70 where this is so
+abbrev IsBy : Refusal → Type 0 → Type 0
+IsBy r damaged = (r ≡ refusal.Memory) ⊎ ((r ≡ refusal.Damaged) × damaged)
+
+by_record : {L : Type 0} (r : Refusal) → ByRecord r L → IsBy r (ByRecord refusal.Damaged L)
 by_record r (inl e) = inl e
 by_record r (inr h) = inr (h.0, inr (refl, h.1))
 
+channels_fail : (s : ChannelStep ToyKeys toy) (r : Refusal) (w : Channels ToyKeys) → ChannelMayFail toy s r w
+    → IsBy r (ChannelMayFail toy s refusal.Damaged w)
+channels_fail (step.Fees n fees) r w h = inl h
+channels_fail (step.Limits n limits) r w h = inl h
+channels_fail (step.Open o) r w h = by_record r h
+channels_fail (step.Do e a) r w h = by_record r h
+channels_fail (step.Down e) r w h = inl h
+channels_fail (step.NoMemory e a) r w h = inl h
+channels_fail (step.Restart n) r w h = inl h
+channels_fail (step.StopBefore e a) r w h = inl h
+channels_fail (step.StopAfter e a) r w h = by_record r h
+channels_fail (step.Up n) r w h = inl h
+
+desks_fail : (o : Option (ChannelStep ToyKeys toy)) (r : Refusal) (w : Channels ToyKeys) → DeskMayFailBy toy o r w
+    → IsBy r (DeskMayFailBy toy o refusal.Damaged w)
+desks_fail None r w h = inl h
+desks_fail (Some s) r w h = channels_fail s r w h
+
+world_fails : (o : Option (DeskStep ToyKeys toy)) (r : Refusal) (d : Desks ToyKeys) → MayFailBy toy o r d
+    → IsBy r (MayFailBy toy o refusal.Damaged d)
+world_fails None r d h = inl h
+world_fails (Some s) r d (inl h) = inl h
+world_fails (Some s) r d (inr h) = either (desks_fail (desks.plain toy s d) r d.channels h)
+  where
+    either : IsBy r (DeskMayFailBy toy (desks.plain toy s d) refusal.Damaged d.channels)
+        → IsBy r (MayFailBy toy (Some s) refusal.Damaged d)
+    either (inl e) = inl e
+    either (inr p) = inr (p.0, inr p.1)
+
 pub fails_so : (s : ToyStep) (r : Refusal) (w : World ToyKeys) → MayFail toy s r w → StepFails s r w
-fails_so (step.Fees n fees) r w h = inl h
-fails_so (step.Limits n limits) r w h = inl h
-fails_so (step.Open o) r w h = by_record r h
-fails_so (step.Do e a) r w h = by_record r h
-fails_so (step.Down e) r w h = inl h
-fails_so (step.NoMemory e a) r w h = inl h
-fails_so (step.Restart n) r w h = inl h
-fails_so (step.StopBefore e a) r w h = inl h
-fails_so (step.StopAfter e a) r w h = by_record r h
-fails_so (step.Up n) r w h = inl h
+fails_so s r w h = world_fails (plain toy s w) r w.desks h

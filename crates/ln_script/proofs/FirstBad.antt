@@ -2,7 +2,8 @@
 use Rattle.std.proofs.Common.{◌≡◌, ℕ, suc, ◌+◌, List, [], ◌∷◌, ◌++◌, length, Option, Some, None, Result, Ok, Err, true}
 use Rattle.std.proofs.Common.{is_some, refl, sym, ap, ◌∙◌, arith}
 use Rattle.ln_script.specs.Step.{ToyStep}
-use Rattle.ln_script.specs.Script.{lines, line_at, behind, line_then, steps_from, script_at, AreGood, IsFirstBad}
+use Rattle.ln_script.specs.Script.{lines, line_at, behind, line_then, steps_from, with_places, script_at, AreGood}
+use Rattle.ln_script.specs.Script.{IsFirstBad}
 use Rattle.ln_script.proofs.Script.{one_line, no_line}
 
 -- the same, where the first of the lines has the number k
@@ -72,9 +73,14 @@ refused_at k (l ∷ ls) bad rest good is =
     ∙ ap (λ (m : ℕ). let it : Result (List ToyStep) ℕ = Err m in it)
     (let same : k + 1 + length ls ≡ k + suc (length ls) = omega arith in same)
 
+-- places are no matter of it
+unplaced : (r : Result (List ToyStep) ℕ) (n : ℕ) → with_places r ≡ Err n → r ≡ Err n
+unplaced (Ok ss) n e = absurd cc
+unplaced (Err m) n e = e
+
 pub first_bad : (text : List ℕ) (n : ℕ) → script_at text ≡ Err n → IsFirstBad (lines text) n
 first_bad text n e =
-    let b = bad_from 1 n (lines text) e in
+    let b = bad_from 1 n (lines text) (unplaced (steps_from 1 (lines text)) n e) in
     record {
       before = b.before;
       bad = b.bad;
@@ -87,6 +93,7 @@ first_bad text n e =
 
 pub only_first : (text : List ℕ) (n : ℕ) → IsFirstBad (lines text) n → script_at text ≡ Err n
 only_first text n b =
-    ap (steps_from 1) b.lines_are ∙ refused_at 1 b.before b.bad b.behind b.good b.is_bad
+    ap (λ (ls : List (List ℕ)). with_places (steps_from 1 ls)) b.lines_are
+    ∙ ap with_places (refused_at 1 b.before b.bad b.behind b.good b.is_bad)
     ∙ ap (λ (m : ℕ). let it : Result (List ToyStep) ℕ = Err m in it)
     (let same : 1 + length b.before ≡ n = omega (arith, b.number) in same)

@@ -2,10 +2,15 @@ pub mod Failing
 pub mod Words
 pub mod Partners
 pub mod Onions
+pub mod Hooks
+pub mod Places
 pub mod Script
 pub mod FirstBad
 pub mod Walk
+pub mod Registered
 pub mod Fits
 pub mod Widths
+pub mod Unhooked
 pub mod Reports
+pub mod Recorded
 pub mod Shown

@@ -5,12 +5,12 @@ use Rattle.std.specs.Str.{bytes_eq}
 use Rattle.ln_keys.specs.declared.toy_keys.ToyKeys.{ToyKeys}
 use Rattle.ln_bytes.specs.declared.short_id.ShortId.{ShortId}
 use Rattle.ln_channel.specs.declared.command.Command.TheVariants as command
-use Rattle.ln_channels.specs.declared.step.Act.{Act}
-use Rattle.ln_channels.specs.declared.step.Act.TheVariants as act
 use Rattle.ln_channels.specs.declared.step.End.{End}
 use Rattle.ln_channels.specs.declared.step.Node.{Node}
 use Rattle.ln_channels.specs.declared.step.Open.{Open}
-use Rattle.ln_channels.specs.declared.step.Step.TheVariants as step
+use Rattle.ln_world.specs.declared.step.Act.{Act}
+use Rattle.ln_world.specs.declared.step.Act.TheVariants as act
+use Rattle.ln_world.specs.declared.step.Step.TheVariants as step
 use Rattle.ln_channels.specs.Promises.{Each}
 use Rattle.ln_script.specs.Word.{◌>>=◌, number_at, node_at, end_at, short_id_at}
 use Rattle.ln_script.specs.Keys.{toy}
@@ -18,9 +18,14 @@ use Rattle.ln_script.specs.Command.{command_at}
 use Rattle.ln_script.specs.Step.{ToyStep, fees_if, fees_at, limits_at, fees_line, limits_line, setting_at, set_line}
 use Rattle.ln_script.specs.Step.{opening_at, open_line, up_line, down_line, restart_line, deliver_line, command_line}
 use Rattle.ln_script.specs.declared.step.Doing.{Doing}
+use Rattle.ln_script.specs.Step.{policy_at, policy_line, height_line, expect_at, expect_line}
+use Rattle.ln_script.specs.Step.{dispatch_line, register_line, take_line, decide_line, other_step_at}
 use Rattle.ln_script.specs.Step.{act_line, do_line, stop_before_line, stop_after_line, no_memory_line}
 use Rattle.ln_script.specs.Step.{step_at, ready_steps, ready_line, one_step, word_line, steps_at}
-use Rattle.ln_script.specs.Script.{lines, words, is_skipped, line_at, behind, line_then, steps_from, script_at}
+use Rattle.ln_script.specs.Step.{is_hook, next_place, numbered}
+use Rattle.ln_script.specs.Hook.{hooked_at}
+use Rattle.ln_script.specs.Script.{lines, words, is_skipped, line_at, behind, line_then, steps_from, with_places}
+use Rattle.ln_script.specs.Script.{script_at}
 
 -- ---- what holds of an answer, where there is one
 
@@ -42,6 +47,11 @@ then_of Q P (Some x) f q h = h x q
 pub either : {A : Type 0} (P : A → Type 0) (b : Bool) (x y : Option A) → Has P x → Has P y → Has P (cond b x y)
 either P true x y h k = h
 either P false x y h k = k
+
+pub where_so : {A : Type 0} (P : A → Type 0) (b : Bool) (x y : Option A) → (b ≡ true → Has P x) → Has P y
+    → Has P (cond b x y)
+where_so P true x y h k = h refl
+where_so P false x y h k = k
 
 -- an answer that is given where a test passes, and one that is given where it fails
 pub if_true : {A : Type 0} (P : A → Type 0) (b : Bool) (x : A) (y : Option A) → (b ≡ true → P x) → Has P y
@@ -66,7 +76,14 @@ pub record IsOfEachKind (P : ToyStep → Type 0) : Type 0 where
   pub up : (channel : ℕ) → P (step.Up channel)
   pub down : (end : End) → P (step.Down end)
   pub restarts : (node : Node) → P (step.Restart node)
+  pub policies : (node : Node) (b p d : List ℕ) → Has P (policy_at node b p d)
+  pub heights : (node : Node) (h : List ℕ)
+      → Has P (number_at 400000000 h >>= (λ height. let it : Option ToyStep = Some (step.Height node height) in it))
+  pub expects : (x n a : List ℕ) → Has P (expect_at x n a)
+  pub dispatches : (end : End) → P (step.Dispatch end)
   pub delivers : (end : End) → RoundAct P end act.Deliver
+  pub takes : (end : End) → RoundAct P end act.Take
+  pub decides : (end : End) → RoundAct P end act.Decide
   pub confirms : (end : End) (id : ShortId) → P (step.Do end (act.Send (command.Confirm id)))
   pub commands : (end : End) (w : List ℕ) (ws : List (List ℕ))
       → Has (λ c. RoundAct P end (act.Send c)) (command_at end.node w ws)
@@ -97,15 +114,36 @@ module _ (P : ToyStep → Type 0) (kinds : IsOfEachKind P) where
   limits_lines node (m ∷ a ∷ i ∷ r ∷ []) = kinds.limits node m a i r
   limits_lines node (m ∷ a ∷ i ∷ r ∷ w ∷ ws) = tt
 
+  policy_lines : (node : Node) (ws : List (List ℕ)) → Has P (policy_line node ws)
+  policy_lines node [] = tt
+  policy_lines node (b ∷ []) = tt
+  policy_lines node (b ∷ p ∷ []) = tt
+  policy_lines node (b ∷ p ∷ d ∷ []) = kinds.policies node b p d
+  policy_lines node (b ∷ p ∷ d ∷ w ∷ ws) = tt
+
   settings : (node : Node) (w : List ℕ) (ws : List (List ℕ)) → Has P (setting_at node w ws)
   settings node w ws =
       either P (bytes_eq w (codes "fees")) _ _ (fees_lines node ws)
-      (either P (bytes_eq w (codes "limits")) _ None (limits_lines node ws) tt)
+      (either P (bytes_eq w (codes "limits")) _ _ (limits_lines node ws)
+      (either P (bytes_eq w (codes "policy")) _ None (policy_lines node ws) tt))
 
   set_lines : (ws : List (List ℕ)) → Has P (set_line ws)
   set_lines [] = tt
   set_lines (x ∷ []) = tt
   set_lines (x ∷ w ∷ ws) = then P (node_at x) _ (λ node. settings node w ws)
+
+  height_lines : (ws : List (List ℕ)) → Has P (height_line ws)
+  height_lines [] = tt
+  height_lines (x ∷ []) = tt
+  height_lines (x ∷ h ∷ []) = then P (node_at x) _ (λ node. kinds.heights node h)
+  height_lines (x ∷ h ∷ w ∷ ws) = tt
+
+  expect_lines : (ws : List (List ℕ)) → Has P (expect_line ws)
+  expect_lines [] = tt
+  expect_lines (x ∷ []) = tt
+  expect_lines (x ∷ n ∷ []) = tt
+  expect_lines (x ∷ n ∷ a ∷ []) = kinds.expects x n a
+  expect_lines (x ∷ n ∷ a ∷ w ∷ ws) = tt
 
   open_lines : (ws : List (List ℕ)) → Has P (open_line ws)
   open_lines [] = tt
@@ -131,6 +169,11 @@ module _ (P : ToyStep → Type 0) (kinds : IsOfEachKind P) where
   restart_lines (x ∷ []) = then P (node_at x) _ (λ node. kinds.restarts node)
   restart_lines (x ∷ w ∷ ws) = tt
 
+  dispatch_lines : (ws : List (List ℕ)) → Has P (dispatch_line ws)
+  dispatch_lines [] = tt
+  dispatch_lines (e ∷ []) = then P (end_at e) _ (λ end. kinds.dispatches end)
+  dispatch_lines (e ∷ w ∷ ws) = tt
+
   abbrev IsDoing : Doing → Type 0
   IsDoing d = RoundAct P d.end d.what
 
@@ -138,6 +181,16 @@ module _ (P : ToyStep → Type 0) (kinds : IsOfEachKind P) where
   deliver_lines [] = tt
   deliver_lines (e ∷ []) = then IsDoing (end_at e) _ (λ end. kinds.delivers end)
   deliver_lines (e ∷ w ∷ ws) = tt
+
+  take_lines : (ws : List (List ℕ)) → Has IsDoing (take_line ws)
+  take_lines [] = tt
+  take_lines (e ∷ []) = then IsDoing (end_at e) _ (λ end. kinds.takes end)
+  take_lines (e ∷ w ∷ ws) = tt
+
+  decide_lines : (ws : List (List ℕ)) → Has IsDoing (decide_line ws)
+  decide_lines [] = tt
+  decide_lines (e ∷ []) = then IsDoing (end_at e) _ (λ end. kinds.decides end)
+  decide_lines (e ∷ w ∷ ws) = tt
 
   command_lines : (w : List ℕ) (ws : List (List ℕ)) → Has IsDoing (command_line w ws)
   unfolding command_line
@@ -149,7 +202,10 @@ module _ (P : ToyStep → Type 0) (kinds : IsOfEachKind P) where
 
   act_lines : (w : List ℕ) (ws : List (List ℕ)) → Has IsDoing (act_line w ws)
   unfolding act_line
-  act_lines w ws = either IsDoing (bytes_eq w (codes "deliver")) _ _ (deliver_lines ws) (command_lines w ws)
+  act_lines w ws =
+      either IsDoing (bytes_eq w (codes "deliver")) _ _ (deliver_lines ws)
+      (either IsDoing (bytes_eq w (codes "take")) _ _ (take_lines ws)
+      (either IsDoing (bytes_eq w (codes "decide")) _ _ (decide_lines ws) (command_lines w ws)))
 
   do_lines : (w : List ℕ) (ws : List (List ℕ)) → Has P (do_line w ws)
   do_lines w ws = then_of IsDoing P (act_line w ws) _ (act_lines w ws) (λ doing h. h.0)
@@ -166,9 +222,21 @@ module _ (P : ToyStep → Type 0) (kinds : IsOfEachKind P) where
   no_memory_lines [] = tt
   no_memory_lines (w ∷ ws) = then_of IsDoing P (act_line w ws) _ (act_lines w ws) (λ doing h. h.1.1.1)
 
-  single : (w : List ℕ) (ws : List (List ℕ)) → Has P (step_at w ws)
+  -- what holds where it holds of a hook line
+
+  other : (w : List ℕ) (ws : List (List ℕ)) → (bytes_eq w (codes "hook") ≡ true → Has P (register_line ws))
+      → Has P (other_step_at w ws)
+  unfolding other_step_at
+  other w ws hook =
+      either P (bytes_eq w (codes "height")) _ _ (height_lines ws)
+      (either P (bytes_eq w (codes "expect")) _ _ (expect_lines ws)
+      (either P (bytes_eq w (codes "dispatch")) _ _ (dispatch_lines ws)
+      (where_so P (bytes_eq w (codes "hook")) _ _ hook (do_lines w ws))))
+
+  single : (w : List ℕ) (ws : List (List ℕ)) → (bytes_eq w (codes "hook") ≡ true → Has P (register_line ws))
+      → Has P (step_at w ws)
   unfolding step_at
-  single w ws =
+  single w ws hook =
       either P (bytes_eq w (codes "set")) _ _ (set_lines ws)
       (either P (bytes_eq w (codes "open")) _ _ (open_lines ws)
       (either P (bytes_eq w (codes "up")) _ _ (up_lines ws)
@@ -176,14 +244,14 @@ module _ (P : ToyStep → Type 0) (kinds : IsOfEachKind P) where
       (either P (bytes_eq w (codes "restart")) _ _ (restart_lines ws)
       (either P (bytes_eq w (codes "stop-before")) _ _ (stop_before_lines ws)
       (either P (bytes_eq w (codes "stop-after")) _ _ (stop_after_lines ws)
-      (either P (bytes_eq w (codes "no-memory")) _ _ (no_memory_lines ws) (do_lines w ws))))))))
+      (either P (bytes_eq w (codes "no-memory")) _ _ (no_memory_lines ws) (other w ws hook))))))))
 
   -- ---- lines
 
-  abbrev AllOf : List ToyStep → Type 0
-  AllOf ss = Each P ss
+  abbrev EachOf : List ToyStep → Type 0
+  EachOf ss = Each P ss
 
-  five : (o : Open ToyKeys toy) (id : ShortId) → AllOf (ready_steps o id)
+  five : (o : Open ToyKeys toy) (id : ShortId) → EachOf (ready_steps o id)
   unfolding ready_steps
   five o id = (
     kinds.opens o,
@@ -193,7 +261,7 @@ module _ (P : ToyStep → Type 0) (kinds : IsOfEachKind P) where
     ),
   )
 
-  ready_lines : (ws : List (List ℕ)) → Has AllOf (ready_line ws)
+  ready_lines : (ws : List (List ℕ)) → Has EachOf (ready_line ws)
   ready_lines [] = tt
   ready_lines (c ∷ []) = tt
   ready_lines (c ∷ x ∷ []) = tt
@@ -201,20 +269,30 @@ module _ (P : ToyStep → Type 0) (kinds : IsOfEachKind P) where
   ready_lines (c ∷ x ∷ y ∷ s ∷ []) = tt
   ready_lines (c ∷ x ∷ y ∷ s ∷ p ∷ []) = tt
   ready_lines (c ∷ x ∷ y ∷ s ∷ p ∷ i ∷ []) =
-      then AllOf (opening_at c x y s p) _ (λ opening. then AllOf (short_id_at i) _ (λ id. five opening id))
+      then EachOf (opening_at c x y s p) _ (λ opening. then EachOf (short_id_at i) _ (λ id. five opening id))
   ready_lines (c ∷ x ∷ y ∷ s ∷ p ∷ i ∷ w ∷ ws) = tt
 
-  alone : (o : Option ToyStep) → Has P o → Has AllOf (one_step o)
+  alone : (o : Option ToyStep) → Has P o → Has EachOf (one_step o)
   alone None h = tt
   alone (Some s) h = (h, tt)
 
-  word_lines : (w : List ℕ) (ws : List (List ℕ)) → Has AllOf (word_line w ws)
+  pub word_lines : (w : List ℕ) (ws : List (List ℕ)) → (bytes_eq w (codes "hook") ≡ true → Has P (register_line ws))
+      → Has EachOf (word_line w ws)
   unfolding word_line
-  word_lines w ws = either AllOf (bytes_eq w (codes "ready")) _ _ (ready_lines ws) (alone (step_at w ws) (single w ws))
+  word_lines w ws hook =
+      either EachOf (bytes_eq w (codes "ready")) _ _ (ready_lines ws) (alone (step_at w ws) (single w ws hook))
+
+module _ (P : ToyStep → Type 0) (kinds : IsOfEachKind P)
+    (registers : (end : End) (hook : ℕ) → P (step.Register end hook)) where
+  abbrev AllOf : List ToyStep → Type 0
+  AllOf ss = Each P ss
+
+  register_lines : (ws : List (List ℕ)) → Has P (register_line ws)
+  register_lines ws = then P (hooked_at ws) _ (λ hooked. registers hooked.end 0)
 
   of_words : (ws : List (List ℕ)) → Has AllOf (steps_at ws)
   of_words [] = tt
-  of_words (w ∷ ws) = word_lines w ws
+  of_words (w ∷ ws) = word_lines P kinds w ws (λ e. register_lines ws)
 
   of_line : (l : List ℕ) → Has AllOf (line_at l)
   of_line l = either AllOf (is_skipped l) (Some []) (steps_at (words l)) tt (of_words (words l))
@@ -243,5 +321,28 @@ module _ (P : ToyStep → Type 0) (kinds : IsOfEachKind P) where
   of_lines n [] = tt
   of_lines n (l ∷ ls) = after_line n (line_at l) (steps_from (n + 1) ls) (of_line l) (of_lines (n + 1) ls)
 
+  placed : (n : ℕ) (ss : List ToyStep) → AllOf ss → AllOf (numbered n ss)
+  placed n [] h = tt
+  placed n (step.Fees x fees ∷ ss) h = (h.0, placed n ss h.1)
+  placed n (step.Limits x limits ∷ ss) h = (h.0, placed n ss h.1)
+  placed n (step.Policy x policy ∷ ss) h = (h.0, placed n ss h.1)
+  placed n (step.Height x height ∷ ss) h = (h.0, placed n ss h.1)
+  placed n (step.Expect x invoice ∷ ss) h = (h.0, placed n ss h.1)
+  placed n (step.Open o ∷ ss) h = (h.0, placed n ss h.1)
+  placed n (step.Do e a ∷ ss) h = (h.0, placed n ss h.1)
+  placed n (step.Down e ∷ ss) h = (h.0, placed n ss h.1)
+  placed n (step.NoMemory e a ∷ ss) h = (h.0, placed n ss h.1)
+  placed n (step.Restart x ∷ ss) h = (h.0, placed n ss h.1)
+  placed n (step.StopBefore e a ∷ ss) h = (h.0, placed n ss h.1)
+  placed n (step.StopAfter e a ∷ ss) h = (h.0, placed n ss h.1)
+  placed n (step.Up c ∷ ss) h = (h.0, placed n ss h.1)
+  placed n (step.Dispatch e ∷ ss) h = (h.0, placed n ss h.1)
+  placed n (step.Register e hook ∷ ss) h = (registers e n, placed (n + 1) ss h.1)
+
+  with_all : (r : Result (List ToyStep) ℕ) → Reads r → Reads (with_places r)
+  with_all (Ok ss) h = placed 0 ss h
+  with_all (Err n) h = tt
+
   pub each_step : (text : List ℕ) (steps : List ToyStep) → script_at text ≡ Ok steps → Each P steps
-  each_step text steps read = subst Reads read (of_lines 1 (lines text))
+  each_step text steps read =
+      subst Reads read (with_all (steps_from 1 (lines text)) (of_lines 1 (lines text)))

@@ -12,24 +12,24 @@ use Rattle.ln_keys.specs.declared.toy_keys.ToyKeys.{ToyKeys}
 use Rattle.ln_keys.specs.Toy.{toy_secret, toy_signer}
 use Rattle.ln_keys.specs.ToyOnion.{toy_key, toy_hmac, filled, toy_packet, payload_bytes, toy_made}
 use Rattle.ln_channel.specs.declared.command.Command.{Command}
-use Rattle.ln_channels.specs.declared.step.Act.TheVariants as act
 use Rattle.ln_channels.specs.declared.step.End.{End}
 use Rattle.ln_channels.specs.declared.step.Node.{Node}
-use Rattle.ln_channels.specs.World.{World, empty, run}
-use Rattle.ln_channels.specs.Promises.{BringFit}
-use Rattle.ln_channels.specs.Records.{IsAct, IsStep, AreSteps, HaveSecrets}
-use Rattle.ln_script.specs.Word.{decimal_at, number_at, short_id_at, digit_at, code_at}
+use Rattle.ln_channels.specs.Records.{HaveSecrets}
+use Rattle.ln_pair.specs.Widths.{IsCommand}
+use Rattle.ln_world.specs.declared.step.Act.TheVariants as act
+use Rattle.ln_world.specs.declared.step.Step.TheVariants as step
+use Rattle.ln_script.specs.Word.{◌>>=◌, decimal_at, number_at, node_at, short_id_at, digit_at, code_at}
 use Rattle.ln_script.specs.Keys.{toy}
 use Rattle.ln_script.specs.Onion.{payloads_at}
 use Rattle.ln_script.specs.Command.{preimage_of, hash_of, onion_at, add_at, fulfil_at, fail_at}
 use Rattle.ln_script.specs.Command.{malformed_at, fee_at, confirm_line, add_line, fulfil_line, fail_line}
 use Rattle.ln_script.specs.Command.{malformed_line, fee_line, sign_line, shutdown_line, update_at, command_at}
-use Rattle.ln_script.specs.Step.{ToyStep, fees_at, limits_at}
+use Rattle.ln_script.specs.Step.{ToyStep, fees_at, limits_at, policy_at, invoice_of, expect_at}
 use Rattle.ln_script.specs.Script.{script_at}
-use Rattle.ln_script.specs.Report.{AfterEachScript}
+use Rattle.ln_script.specs.Wide.{IsInvoice, IsWide, AreAsWide}
 use Rattle.ln_script.proofs.Walk.{Has, then, then_of, either, if_true, if_false, if_in_order, IsOfEachKind, RoundAct}
 use Rattle.ln_script.proofs.Walk.{each_step}
-use Rattle.ln_script.proofs.Fits.{IsShort, decimals_are_short, steps_fit}
+use Rattle.ln_script.proofs.Fits.{IsShort, decimals_are_short}
 
 -- ---- numbers
 
@@ -135,9 +135,6 @@ onions payment amount expiry hops =
 
 -- ---- commands
 
-abbrev IsCommand : Command → Type 0
-IsCommand c = IsAct (act.Send c)
-
 add_wide : (amount expiry n : List ℕ) (hops : List (List ℕ)) → Has IsCommand (add_at amount expiry n hops)
 unfolding add_at
 add_wide amount expiry n hops =
@@ -234,9 +231,6 @@ commands_are_wide node w ws =
 
 -- ---- steps
 
-abbrev IsWide : ToyStep → Type 0
-IsWide s = IsStep toy s
-
 fees_wide : (node : Node) (f l m : List ℕ) → Has IsWide (fees_at node f l m)
 unfolding fees_at
 fees_wide node f l m =
@@ -257,30 +251,58 @@ limits_wide node m a i r =
       reserve = hr;
     }))))
 
+policies_wide : (node : Node) (b p d : List ℕ) → Has IsWide (policy_at node b p d)
+unfolding policy_at
+policies_wide node b p d =
+    then_of (AtMost 4294967295) IsWide (number_at 4294967295 b) _ (numbers_are_at_most 4294967295 b) (λ base hb.
+    then_of (AtMost 4294967295) IsWide (number_at 4294967295 p) _ (numbers_are_at_most 4294967295 p)
+    (λ proportional hp.
+    then_of (AtMost 65535) IsWide (number_at 65535 d) _ (numbers_are_at_most 65535 d) (λ delta hd. record {
+      base = in_32_bits base hb;
+      proportional = in_32_bits proportional hp;
+      delta = in_16_bits delta hd;
+    })))
+
+heights_wide : (node : Node) (h : List ℕ)
+    → Has IsWide (number_at 400000000 h >>= (λ height. let it : Option ToyStep = Some (step.Height node height) in it))
+heights_wide node h =
+    then_of (AtMost 400000000) IsWide (number_at 400000000 h) _ (numbers_are_at_most 400000000 h) (λ height low. low)
+
+expects_wide : (x n a : List ℕ) → Has IsWide (expect_at x n a)
+unfolding expect_at
+expects_wide x n a =
+    then IsWide (node_at x) _ (λ node.
+    then IsWide (number_at 255 n) _ (λ payment.
+    then_of IsShort IsWide (decimal_at a) _ (decimals_are_short a) (λ amount short. record {
+      preimage = length-preimage payment;
+      secret = length-replicate 32 payment;
+      amount = short;
+    })))
+
 round_each : (end : End) (o : Option Command) → Has IsCommand o → Has (λ c. RoundAct IsWide end (act.Send c)) o
 round_each end None h = tt
-round_each end (Some c) h = (h, (tt, (h, tt)))
+round_each end (Some c) h = (h, (h, (h, h)))
 
 all_wide : IsOfEachKind IsWide
 all_wide = record {
   fees = fees_wide;
   limits = limits_wide;
+  policies = policies_wide;
+  heights = heights_wide;
+  expects = expects_wide;
   opens = λ o. (have_secrets o.keys.funder, have_secrets o.keys.fundee);
   up = λ channel. tt;
   down = λ end. tt;
   restarts = λ node. tt;
+  dispatches = λ end. tt;
   delivers = λ end. (tt, (tt, (tt, tt)));
+  takes = λ end. (tt, (tt, (tt, tt)));
+  decides = λ end. (tt, (tt, (tt, tt)));
   confirms = λ end id. tt;
   commands = λ end w ws. round_each end (command_at end.node w ws) (commands_are_wide end.node w ws);
 }
 
 -- ---- scripts
 
-pub steps_are_wide : (text : List ℕ) (steps : List ToyStep) → script_at text ≡ Ok steps → AreSteps toy steps
-steps_are_wide text steps read = each_step IsWide all_wide text steps read
-
--- what every list of steps that bring what fits and is as wide as in code leaves is left by every script
-pub after_each_wide : (P : World ToyKeys → Type 0)
-    → ((steps : List ToyStep) → BringFit toy steps → AreSteps toy steps → P (run toy steps empty))
-    → AfterEachScript P
-after_each_wide P law text steps read = law steps (steps_fit text steps read) (steps_are_wide text steps read)
+pub steps_are_wide : (text : List ℕ) (steps : List ToyStep) → script_at text ≡ Ok steps → AreAsWide steps
+steps_are_wide text steps read = each_step IsWide all_wide (λ end hook. tt) text steps read

@@ -2,7 +2,9 @@ pub mod Word
 pub mod Keys
 pub mod Onion
 pub mod Command
+pub mod Hook
 pub mod Step
+pub mod Wide
 pub mod Script
 pub mod LineText
 pub mod Report

@@ -1,7 +1,7 @@
 -- The text of a report's lines.
-use Rattle.std.specs.Prelude.{ℕ, List, ◌++◌, codes, Bool, true, false}
+use Rattle.std.specs.Prelude.{ℕ, ◌/◌, ◌%◌, List, ◌++◌, codes, Bool, true, false}
 use Rattle.std.specs.Char.{encode_utf8}
-use Rattle.std.specs.Fmt.{decimal}
+use Rattle.std.specs.Fmt.{decimal, digits}
 use Rattle.ln_msgs.specs.declared.refusals.refusal.Refusal.{Refusal}
 use Rattle.ln_msgs.specs.Refusals.Refusal.{refusal_number}
 use Rattle.ln_msgs.specs.Refusals.RefusalText.{refusal_text}
@@ -17,6 +17,8 @@ use Rattle.ln_channels.specs.declared.line.Word.{Word}
 use Rattle.ln_channels.specs.declared.line.Word.TheVariants as word
 use Rattle.ln_channels.specs.declared.line.Ending.{Ending}
 use Rattle.ln_channels.specs.declared.line.Ending.TheVariants as ending
+use Rattle.ln_channels.specs.declared.line.Choice.{Choice}
+use Rattle.ln_channels.specs.declared.line.Choice.TheVariants as choice
 use Rattle.ln_channels.specs.declared.line.EndLine.{EndLine}
 use Rattle.ln_channels.specs.declared.line.Line.{Line}
 use Rattle.ln_channels.specs.declared.line.Line.TheVariants as line
@@ -100,6 +102,25 @@ verdict_text (verdict.Fail failure.InvalidOnionPayload) = codes "fail 4016"
 unfoldable pub dispatched_text : End → ℕ → Verdict → List ℕ
 dispatched_text e number v = end_text e ++ (codes " dispatch " ++ (decimal number ++ (codes " " ++ verdict_text v)))
 
+-- four hexadecimal digits, in lower case
+abbrev pub hex_digit : ℕ → List ℕ
+hex_digit n = digits 16 false n
+
+unfoldable pub code_text : ℕ → List ℕ
+code_text n =
+    hex_digit (n / 4096) ++ (hex_digit (n / 256 % 16) ++ (hex_digit (n / 16 % 16) ++ hex_digit (n % 16)))
+
+-- what is done about an event
+abbrev pub choice_text : Choice → List ℕ
+choice_text choice.None = codes "none"
+choice_text (choice.Forward channel) = with_number (codes "forward") channel
+choice_text (choice.Fail code) = codes "fail " ++ code_text code
+choice_text (choice.Malformed code) = codes "malformed " ++ code_text code
+choice_text choice.Fulfil = codes "fulfil"
+
+unfoldable pub decided_text : End → ℕ → Choice → List ℕ
+decided_text e number c = end_text e ++ (codes " decided " ++ (decimal number ++ (codes " " ++ choice_text c)))
+
 abbrev pub line_text : Line → List ℕ
 line_text (line.Open channel) = decimal channel ++ codes " open"
 line_text (line.Sends e w) = sends_text e w
@@ -109,6 +130,7 @@ line_text (line.Closed e number fee) = closed_text e number fee
 line_text (line.Refused e why) = refused_text e why
 line_text (line.Restarts n) = restarts_text n
 line_text (line.Dispatched e number v) = dispatched_text e number v
+line_text (line.Decided e number c) = decided_text e number c
 line_text line.Idle = codes "idle"
 
 -- ---- how an end stands

@@ -1,8 +1,12 @@
 -- A script: what its lines ask for, in order.
 use Rattle.std.specs.Prelude.{◌≡◌, ℕ, ◌+◌, List, [], ◌∷◌, ◌++◌, Bool, true, ◌==◌, Option, Some, None, Result, Ok}
-use Rattle.std.specs.Prelude.{Err, if◌then◌else◌, length, is_some}
-use Rattle.std.specs.List.{slice_split}
-use Rattle.ln_script.specs.Step.{ToyStep, steps_at}
+use Rattle.std.specs.Prelude.{Err, if◌then◌else◌, length, is_some, codes}
+use Rattle.std.specs.List.{slice_split, flat_map}
+use Rattle.std.specs.Str.{bytes_eq}
+use Rattle.ln_script.specs.declared.hook.HookLine.{HookLine}
+use Rattle.ln_script.specs.declared.hook.Hooked.{Hooked}
+use Rattle.ln_script.specs.Hook.{hooked_at}
+use Rattle.ln_script.specs.Step.{ToyStep, steps_at, numbered}
 
 -- what stands between line feeds
 abbrev pub lines : List ℕ → List (List ℕ)
@@ -35,8 +39,33 @@ unfoldable pub steps_from : ℕ → List (List ℕ) → Result (List ToyStep) �
 steps_from n [] = Ok []
 steps_from n (l ∷ ls) = line_then n (line_at l) (steps_from (n + 1) ls)
 
+-- the hooks get their places
+abbrev pub with_places : Result (List ToyStep) ℕ → Result (List ToyStep) ℕ
+with_places (Ok ss) = Ok (numbered 0 ss)
+with_places (Err n) = Err n
+
 abbrev pub script_at : List ℕ → Result (List ToyStep) ℕ
-script_at text = steps_from 1 (lines text)
+script_at text = with_places (steps_from 1 (lines text))
+
+-- ---- its hooks, in the order of their lines
+
+abbrev pub hooks_by : Option Hooked → List HookLine
+hooks_by None = []
+hooks_by (Some h) = h.hook ∷ []
+
+abbrev pub word_hooks : List ℕ → List (List ℕ) → List HookLine
+word_hooks w ws = if bytes_eq w (codes "hook") then hooks_by (hooked_at ws) else []
+
+-- of a line's words
+abbrev pub hooks_at : List (List ℕ) → List HookLine
+hooks_at [] = []
+hooks_at (w ∷ ws) = word_hooks w ws
+
+unfoldable pub line_hooks : List ℕ → List HookLine
+line_hooks l = if is_skipped l then [] else hooks_at (words l)
+
+abbrev pub script_hooks : List ℕ → List HookLine
+script_hooks text = flat_map line_hooks (lines text)
 
 -- ---- the first bad line
 

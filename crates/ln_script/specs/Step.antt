@@ -1,20 +1,22 @@
 -- The steps of a script's line, by its words.
 use Rattle.std.specs.Prelude.{ℕ, List, [], ◌∷◌, ◌++◌, map, codes, Bool, true, false, Option, Some, None, ◌&&◌}
-use Rattle.std.specs.Prelude.{nat_le, if◌then◌else◌}
+use Rattle.std.specs.Prelude.{nat_le, ◌+◌, replicate, if◌then◌else◌}
 use Rattle.std.specs.Borrow.{Bor}
 use Rattle.std.specs.Str.{bytes_eq}
 use Rattle.ln_bytes.specs.declared.short_id.ShortId.{ShortId}
 use Rattle.ln_keys.specs.declared.toy_keys.ToyKeys.{ToyKeys}
 use Rattle.ln_channel.specs.declared.command.Command.TheVariants as command
-use Rattle.ln_channels.specs.declared.step.Act.TheVariants as act
+use Rattle.ln_tables.specs.declared.entry.Invoice.{Invoice}
 use Rattle.ln_channels.specs.declared.step.Node.{Node}
 use Rattle.ln_channels.specs.declared.step.Open.{Open}
-use Rattle.ln_channels.specs.declared.step.Step.{Step}
-use Rattle.ln_channels.specs.declared.step.Step.TheVariants as step
+use Rattle.ln_world.specs.declared.step.Act.TheVariants as act
+use Rattle.ln_world.specs.declared.step.Step.{Step}
+use Rattle.ln_world.specs.declared.step.Step.TheVariants as step
 use Rattle.ln_script.specs.declared.step.Doing.{Doing}
+use Rattle.ln_script.specs.Hook.{hooked_at}
 use Rattle.ln_script.specs.Word.{◌>>=◌, decimal_at, number_at, node_at, end_at, short_id_at}
 use Rattle.ln_script.specs.Keys.{toy, partners_of}
-use Rattle.ln_script.specs.Command.{command_at}
+use Rattle.ln_script.specs.Command.{preimage_of, command_at}
 
 -- the bytes of each word
 abbrev pub texts : List (Bor (List ℕ)) → List (List ℕ)
@@ -54,6 +56,14 @@ limits_at node m a i r = do
     reserve = reserve;
   }))
 
+-- set X policy BASE PROPORTIONAL DELTA
+unfoldable pub policy_at : Node → List ℕ → List ℕ → List ℕ → Option ToyStep
+policy_at node b p d = do
+  base ← number_at 4294967295 b
+  proportional ← number_at 4294967295 p
+  delta ← number_at 65535 d
+  Some (step.Policy node (record { base = base; proportional = proportional; delta = delta }))
+
 abbrev pub fees_line : Node → List (List ℕ) → Option ToyStep
 fees_line node (f ∷ l ∷ m ∷ []) = fees_at node f l m
 fees_line node _ = None
@@ -62,16 +72,48 @@ abbrev pub limits_line : Node → List (List ℕ) → Option ToyStep
 limits_line node (m ∷ a ∷ i ∷ r ∷ []) = limits_at node m a i r
 limits_line node _ = None
 
+abbrev pub policy_line : Node → List (List ℕ) → Option ToyStep
+policy_line node (b ∷ p ∷ d ∷ []) = policy_at node b p d
+policy_line node _ = None
+
 abbrev pub setting_at : Node → List ℕ → List (List ℕ) → Option ToyStep
 setting_at node w ws =
     if bytes_eq w (codes "fees") then fees_line node ws
-    else (if bytes_eq w (codes "limits") then limits_line node ws else None)
+    else (if bytes_eq w (codes "limits") then limits_line node ws
+    else (if bytes_eq w (codes "policy") then policy_line node ws else None))
 
 abbrev pub set_line : List (List ℕ) → Option ToyStep
 set_line (x ∷ w ∷ ws) = do
   node ← node_at x
   setting_at node w ws
 set_line _ = None
+
+-- height X H: no block has a greater height than 400,000,000
+abbrev pub height_line : List (List ℕ) → Option ToyStep
+height_line (x ∷ h ∷ []) = do
+  node ← node_at x
+  height ← number_at 400000000 h
+  Some (step.Height node height)
+height_line _ = None
+
+-- a payment of this number: its preimage and its secret are 32 bytes of the number
+abbrev pub invoice_of : ℕ → ℕ → Invoice
+invoice_of payment amount = record {
+  preimage = preimage_of payment;
+  expected = record { secret = replicate 32 payment; amount = amount };
+}
+
+-- expect X N AMOUNT
+unfoldable pub expect_at : List ℕ → List ℕ → List ℕ → Option ToyStep
+expect_at x n a = do
+  node ← node_at x
+  payment ← number_at 255 n
+  amount ← decimal_at a
+  Some (step.Expect node (invoice_of payment amount))
+
+abbrev pub expect_line : List (List ℕ) → Option ToyStep
+expect_line (x ∷ n ∷ a ∷ []) = expect_at x n a
+expect_line _ = None
 
 -- ---- a channel is opened
 
@@ -121,12 +163,39 @@ restart_line (x ∷ []) = do
   Some (step.Restart node)
 restart_line _ = None
 
+-- dispatch E
+abbrev pub dispatch_line : List (List ℕ) → Option ToyStep
+dispatch_line (e ∷ []) = do
+  end ← end_at e
+  Some (step.Dispatch end)
+dispatch_line _ = None
+
+-- hook E, and what the hook says: its place among the hooks of the script is given below
+abbrev pub register_line : List (List ℕ) → Option ToyStep
+register_line ws = do
+  hooked ← hooked_at ws
+  Some (step.Register hooked.end 0)
+
 -- deliver E
 abbrev pub deliver_line : List (List ℕ) → Option Doing
 deliver_line (e ∷ []) = do
   end ← end_at e
   Some (record { end = end; what = act.Deliver })
 deliver_line _ = None
+
+-- take E
+abbrev pub take_line : List (List ℕ) → Option Doing
+take_line (e ∷ []) = do
+  end ← end_at e
+  Some (record { end = end; what = act.Take })
+take_line _ = None
+
+-- decide E
+abbrev pub decide_line : List (List ℕ) → Option Doing
+decide_line (e ∷ []) = do
+  end ← end_at e
+  Some (record { end = end; what = act.Decide })
+decide_line _ = None
 
 -- a command's word, E, and what the command asks for
 unfoldable pub command_line : List ℕ → List (List ℕ) → Option Doing
@@ -137,7 +206,10 @@ command_line w (e ∷ ws) = do
 command_line w [] = None
 
 unfoldable pub act_line : List ℕ → List (List ℕ) → Option Doing
-act_line w ws = if bytes_eq w (codes "deliver") then deliver_line ws else command_line w ws
+act_line w ws =
+    if bytes_eq w (codes "deliver") then deliver_line ws
+    else (if bytes_eq w (codes "take") then take_line ws
+    else (if bytes_eq w (codes "decide") then decide_line ws else command_line w ws))
 
 abbrev pub do_line : List ℕ → List (List ℕ) → Option ToyStep
 do_line w ws = do
@@ -167,6 +239,13 @@ no_memory_line [] = None
 
 -- ---- the step of a line: its first word says which
 
+unfoldable pub other_step_at : List ℕ → List (List ℕ) → Option ToyStep
+other_step_at w ws =
+    if bytes_eq w (codes "height") then height_line ws
+    else (if bytes_eq w (codes "expect") then expect_line ws
+    else (if bytes_eq w (codes "dispatch") then dispatch_line ws
+    else (if bytes_eq w (codes "hook") then register_line ws else do_line w ws)))
+
 unfoldable pub step_at : List ℕ → List (List ℕ) → Option ToyStep
 step_at w ws =
     if bytes_eq w (codes "set") then set_line ws
@@ -176,7 +255,7 @@ step_at w ws =
     else (if bytes_eq w (codes "restart") then restart_line ws
     else (if bytes_eq w (codes "stop-before") then stop_before_line ws
     else (if bytes_eq w (codes "stop-after") then stop_after_line ws
-    else (if bytes_eq w (codes "no-memory") then no_memory_line ws else do_line w ws)))))))
+    else (if bytes_eq w (codes "no-memory") then no_memory_line ws else other_step_at w ws)))))))
 
 -- ---- the steps of a line
 
@@ -226,3 +305,21 @@ if_good false ss = None
 abbrev pub joined : List ToyStep → Option (List ToyStep) → Option (List ToyStep)
 joined ss None = None
 joined ss (Some ts) = Some (ss ++ ts)
+
+-- ---- the hooks of a script have places in their order, from this one on
+
+abbrev pub is_hook : ToyStep → Bool
+is_hook (step.Register e hook) = true
+is_hook s = false
+
+abbrev pub with_place : ℕ → ToyStep → ToyStep
+with_place n (step.Register e hook) = step.Register e n
+with_place n s = s
+
+abbrev pub next_place : Bool → ℕ → ℕ
+next_place true n = n + 1
+next_place false n = n
+
+abbrev pub numbered : ℕ → List ToyStep → List ToyStep
+numbered n [] = []
+numbered n (s ∷ ss) = with_place n s ∷ numbered (next_place (is_hook s) n) ss

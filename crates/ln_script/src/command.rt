@@ -14,14 +14,14 @@ use crate::onion::payloads_of;
 use crate::word::{code_of, decimal_of, number_of_32_bits, payment_of, short_id_of};
 use ln_bytes::Bytes;
 use ln_channel::Command;
-use ln_channels::Node;
 use ln_keys::{ToyOnion, sha256_32};
 use ln_msgs::Refusal;
+use ln_world::Node;
 use std::alloc::Global;
 
 /// The preimage of a payment: 32 bytes of its number.
 #[tactic(auto, unfolding(crate::specs::Command::preimage_of))]
-fn preimage_of(payment: u8) -> [u8; 32]
+pub(crate) fn preimage_of(payment: u8) -> [u8; 32]
     ensures { result ≡ preimage_of payment }
 {
     [payment; 32]

@@ -3,8 +3,8 @@
 ghost use Rattle.std.specs.Prelude.{◌≡◌};
 ghost use Rattle.ln_script.specs.Keys.{tag_of, keys_of, partners_of};
 
-use ln_channels::Partners;
 use ln_keys::ToyKeys;
+use ln_world::Partners;
 
 /// 31 bytes of the channel's number, and one of the side.
 fn tag_of(channel: u8, side: u8) -> [u8; 32]

@@ -2,6 +2,7 @@
 #![tactic(auto)]
 
 mod command;
+mod hook;
 mod hop;
 mod keys;
 mod laws;
@@ -14,8 +15,11 @@ mod report;
 mod step;
 mod word;
 
-pub use laws::{first_bad_line, scripts_keep_the_promises, steps_bring_what_fits};
+pub use hook::HookLine;
+pub use laws::{
+    each_hook_is_registered, first_bad_line, scripts_keep_the_promises, steps_bring_what_fits,
+};
 pub use message::message_text;
 pub use print::print_all;
-pub use reading::read_script;
+pub use reading::{hook_lines, read_script};
 pub use report::print_report;

@@ -4,12 +4,12 @@ ghost use Rattle.std.specs.Prelude.{◌≡◌, ◌++◌, OnOk, string_bytes};
 ghost use Rattle.ln_script.specs.LineText.{end_text, word_text, owner_text, ending_text, sends_text, added_text};
 ghost use Rattle.ln_script.specs.LineText.{settled_text, closed_text, line_text, life_text, counts_text, worth_text};
 ghost use Rattle.ln_script.specs.LineText.{event_text, refused_text, restarts_text, end_line_text, with_number};
-ghost use Rattle.ln_script.specs.LineText.{verdict_text, dispatched_text};
+ghost use Rattle.ln_script.specs.LineText.{verdict_text, dispatched_text, code_text, choice_text, decided_text};
 
 use ln_channel::{Life, Standing};
-use ln_channels::{End, EndLine, Ending, Line, Node, Word};
 use ln_hooks::{FailureCode, Verdict};
 use ln_msgs::Refusal;
+use ln_world::{Choice, End, EndLine, Ending, Line, Node, Word};
 use std::alloc::AllocError;
 use std::fmt::Write;
 
@@ -170,6 +170,46 @@ fn put_dispatched(
     write!(text, " dispatch {number} {said}")
 }
 
+/// A failure's code in four hexadecimal digits.
+#[tactic(auto, unfolding(crate::specs::LineText::code_text))]
+fn put_code(text: &mut String, code: u16) -> Result<(), AllocError>
+    ensures { OnOk result (string_bytes text.new ≡ string_bytes text.old ++ code_text code) }
+{
+    let first = code / 4096;
+    let second = code / 256 % 16;
+    let third = code / 16 % 16;
+    let fourth = code % 16;
+    write!(text, "{first:x}{second:x}{third:x}{fourth:x}")
+}
+
+/// What is done about an event.
+fn put_choice(text: &mut String, choice: Choice) -> Result<(), AllocError>
+    ensures { OnOk result (string_bytes text.new ≡ string_bytes text.old ++ choice_text choice) }
+{
+    match choice {
+        Choice::None => text.push_str("none"),
+        Choice::Forward(channel) => write!(text, "forward {channel}"),
+        Choice::Fail(code) => {
+            text.push_str("fail ")?;
+            put_code(text, code)
+        }
+        Choice::Malformed(code) => {
+            text.push_str("malformed ")?;
+            put_code(text, code)
+        }
+        Choice::Fulfil => text.push_str("fulfil"),
+    }
+}
+
+#[tactic(auto, unfolding(crate::specs::LineText::decided_text))]
+fn put_decided(text: &mut String, end: End, number: u64, choice: Choice) -> Result<(), AllocError>
+    ensures { OnOk result (string_bytes text.new ≡ string_bytes text.old ++ decided_text end number choice) }
+{
+    put_end(text, end)?;
+    write!(text, " decided {number} ")?;
+    put_choice(text, choice)
+}
+
 /// What a step did. Takes memory for the text.
 pub(crate) fn put_line(text: &mut String, line: &Line) -> Result<(), AllocError>
     ensures { OnOk result (string_bytes text.new ≡ string_bytes text.old ++ line_text line.now) }
@@ -194,6 +234,7 @@ pub(crate) fn put_line(text: &mut String, line: &Line) -> Result<(), AllocError>
         Line::Refused(end, why) => put_refused(text, end, why),
         Line::Restarts(node) => put_restarts(text, node),
         Line::Dispatched(end, number, verdict) => put_dispatched(text, end, number, verdict),
+        Line::Decided(end, number, choice) => put_decided(text, end, number, choice),
         Line::Idle => text.push_str("idle"),
     }
 }

@@ -1,24 +1,26 @@
 //! The report of steps, to a writer.
 
-ghost use Rattle.std.specs.Prelude.{◌≡◌, ◌≢◌, ◌++◌, ◌⊎◌, ◌≤◌, OnOk, IfOk, IfErr, string_bytes};
+ghost use Rattle.std.specs.Prelude.{◌≡◌, ◌≢◌, ◌++◌, ◌⊎◌, ◌≤◌, [], length, map, OnOk, OnErr, IfOk, IfErr, string_bytes};
 ghost use Rattle.std.specs.List.{flat_map};
 ghost use Rattle.std.specs.Io.KnownBytes.{Appends};
 ghost use Rattle.ln_msgs.specs.declared.refusals.refusal.Refusal.TheVariants.{Memory, Damaged, Io};
 ghost use Rattle.ln_msgs.specs.Pings.Counted.{HasRisen};
 ghost use Rattle.ln_msgs.specs.Pings.CountedView.{inner_of, failures_of};
 ghost use Rattle.ln_msgs.specs.Pings.Written.{IsPartlyWritten};
-ghost use Rattle.ln_channels.specs.World.{empty, happens, run, step_lines};
-ghost use Rattle.ln_channels.specs.Promises.{BringFit};
-ghost use Rattle.ln_channels.specs.Records.{AreSteps};
+ghost use Rattle.ln_channels.specs.World as channels;
+ghost use Rattle.ln_world.specs.Hooked.{Steps};
 ghost use Rattle.ln_script.specs.Keys.{toy};
-ghost use Rattle.ln_script.specs.Report.{shown_line, shown_end, step_text, steps_text, ends_text, report_text};
-ghost use Rattle.ln_script.specs.Report.{StepFails, StepsFail};
+ghost use Rattle.ln_script.specs.Report.{shown_line, shown_end, lines_text, ends_text, StepFails, StepsFail};
+ghost use Rattle.ln_script.specs.Report.{StepTold, StepPartlyTold, StepsTold, Reports, ReportsPartly, report_text};
+ghost use Rattle.ln_script.specs.Report.{unhooked};
+ghost use Rattle.ln_script.specs.Report.{BringWhatFits};
+ghost use Rattle.ln_script.specs.Wide.{AreAsWide};
 
 use crate::line::{put_end_line, put_line};
 use crate::print::print_all;
-use ln_channels::{EndLine, Line, Step, World, every_end_has_a_record};
 use ln_keys::ToyKeys;
 use ln_msgs::{Counted, Refusal, write_out};
+use ln_world::{EndLine, Line, Serve, Step, World, every_end_has_a_record};
 use std::alloc::{AllocError, Global};
 use std::io::Write;
 
@@ -55,39 +57,40 @@ fn put_end_lines(text: &mut String, lines: &[EndLine]) -> Result<(), AllocError>
 }
 
 /// The lines of a step that the world takes.
-fn lines_of_step(
+fn lines_of_step<H: Serve>(
     alloc: Global,
-    world: &mut World<ToyKeys>,
+    world: &mut World<ToyKeys, H>,
     step: Step<ToyKeys>,
 ) -> Result<Vec<Line>, Refusal>
-    ensures world { OnOk result (world.new ≡ happens toy step world.old) }
-    ensures lines { IfOk result (λ v. v.items ≡ step_lines toy step world.old) }
-    ensures fails { IfErr result (λ e. StepFails step e world.old) }
+    requires { length world.old.desks.hooks.tables.items ≡ length world.old.desks.state.desks }
+    ensures stepped { IfOk result (λ v. Steps toy H.calls step
+        (record { desks = world.old.desks.state; nodes = world.old.nodes.items })
+        (map (λ t. (t.now.items, map (λ p. p.items) t.past.items)) world.old.desks.hooks.tables.items)
+        world.old.desks.hooks.offered.items
+        (record { desks = world.new.desks.state; nodes = world.new.nodes.items })
+        (map (λ t. (t.now.items, map (λ p. p.items) t.past.items)) world.new.desks.hooks.tables.items)
+        world.new.desks.hooks.offered.items [] v.items) }
+    ensures fails { IfErr result (λ e. StepFails step e
+        (record { desks = world.old.desks.state; nodes = world.old.nodes.items })) }
 {
     let mut lines = Vec::new(alloc);
     world.step(alloc, step, &mut lines)?;
     Ok(lines)
 }
 
-/// What is told of a step that the world takes.
-fn text_of_step(
-    alloc: Global,
-    world: &mut World<ToyKeys>,
-    step: Step<ToyKeys>,
-) -> Result<String, Refusal>
-    ensures world { OnOk result (world.new ≡ happens toy step world.old) }
-    ensures text { IfOk result (λ s. string_bytes s ≡ step_text step world.old) }
-    ensures fails { IfErr result (λ e. StepFails step e world.old) }
+/// What is told by lines.
+fn text_of_lines(alloc: Global, lines: &[Line]) -> Result<String, Refusal>
+    ensures text { IfOk result (λ s. string_bytes s ≡ lines_text lines.now) }
+    ensures fails_for_memory_alone { IfErr result (λ e. e ≡ Memory) }
 {
-    let lines = lines_of_step(alloc, world, step)?;
     let mut text = String::new(alloc);
-    put_lines(&mut text, lines.as_slice())?;
+    put_lines(&mut text, lines)?;
     Ok(text)
 }
 
 /// How the ends of a world's channels stand.
-fn text_of_ends(alloc: Global, world: &World<ToyKeys>) -> Result<String, Refusal>
-    ensures text { IfOk result (λ s. string_bytes s ≡ ends_text world.now) }
+fn text_of_ends<H: Serve>(alloc: Global, world: &World<ToyKeys, H>) -> Result<String, Refusal>
+    ensures text { IfOk result (λ s. string_bytes s ≡ ends_text world.now.desks.state.channels) }
     ensures fails_for_memory_alone { IfErr result (λ e. e ≡ Memory) }
 {
     let lines = world.end_lines(alloc)?;
@@ -108,58 +111,90 @@ fn print_text<W: Write>(writer: &mut Counted<W>, text: &str) -> Result<(), Refus
     Ok(())
 }
 
-/// Writes what is told of a step that the world takes.
-fn print_step<W: Write>(
+/// Writes what is told by lines.
+fn print_lines<W: Write>(
     alloc: Global,
-    world: &mut World<ToyKeys>,
-    step: Step<ToyKeys>,
+    lines: &[Line],
     writer: &mut Counted<W>,
 ) -> Result<(), Refusal>
-    ensures world { OnOk result (world.new ≡ happens toy step world.old) }
     ensures prints_it { OnOk result (Appends (W.contents (inner_of writer.old)) (W.contents (inner_of writer.new))
-        (step_text step world.old)) }
+        (lines_text lines.now)) }
     ensures front { IsPartlyWritten (W.contents (inner_of writer.old)) (W.contents (inner_of writer.new))
-        (step_text step world.old) }
-    ensures cause { IfErr result (λ e. StepFails step e world.old
+        (lines_text lines.now) }
+    ensures cause { IfErr result (λ e. (e ≡ Memory)
         ⊎ ((e ≡ Io) × HasRisen (failures_of writer.old) (failures_of writer.new))) }
     ensures no_fewer_failures { failures_of writer.old ≤ failures_of writer.new }
 {
-    let text = text_of_step(alloc, world, step)?;
+    let text = text_of_lines(alloc, lines)?;
     print_text(writer, text.as_str())
 }
 
-/// Writes what is told of steps that the world takes, each before the next is taken.
-fn print_steps<W: Write>(
+/// Writes what is told of a step that the world takes.
+fn print_step<W: Write, H: Serve>(
     alloc: Global,
-    world: &mut World<ToyKeys>,
-    steps: Vec<Step<ToyKeys>>,
+    world: &mut World<ToyKeys, H>,
+    step: Step<ToyKeys>,
     writer: &mut Counted<W>,
 ) -> Result<(), Refusal>
-    ensures world { OnOk result (world.new ≡ run toy steps.items world.old) }
-    ensures prints_it { OnOk result (Appends (W.contents (inner_of writer.old)) (W.contents (inner_of writer.new))
-        (steps_text steps.items world.old)) }
-    ensures front { IsPartlyWritten (W.contents (inner_of writer.old)) (W.contents (inner_of writer.new))
-        (steps_text steps.items world.old) }
-    ensures cause { IfErr result (λ e. StepsFail steps.items e world.old
+    requires { length world.old.desks.hooks.tables.items ≡ length world.old.desks.state.desks }
+    ensures prints_it { OnOk result (StepTold H.calls step
+        (record { desks = world.old.desks.state; nodes = world.old.nodes.items })
+        (map (λ t. (t.now.items, map (λ p. p.items) t.past.items)) world.old.desks.hooks.tables.items)
+        world.old.desks.hooks.offered.items
+        (record { desks = world.new.desks.state; nodes = world.new.nodes.items })
+        (map (λ t. (t.now.items, map (λ p. p.items) t.past.items)) world.new.desks.hooks.tables.items)
+        world.new.desks.hooks.offered.items
+        (W.contents (inner_of writer.old)) (W.contents (inner_of writer.new))) }
+    ensures front { OnErr result (StepPartlyTold H.calls step
+        (record { desks = world.old.desks.state; nodes = world.old.nodes.items })
+        (map (λ t. (t.now.items, map (λ p. p.items) t.past.items)) world.old.desks.hooks.tables.items)
+        world.old.desks.hooks.offered.items
+        (W.contents (inner_of writer.old)) (W.contents (inner_of writer.new))) }
+    ensures cause { IfErr result (λ e. StepFails step e
+        (record { desks = world.old.desks.state; nodes = world.old.nodes.items })
         ⊎ ((e ≡ Io) × HasRisen (failures_of writer.old) (failures_of writer.new))) }
     ensures no_fewer_failures { failures_of writer.old ≤ failures_of writer.new }
 {
+    let lines = lines_of_step(alloc, world, step)?;
+    print_lines(alloc, lines.as_slice(), writer)
+}
+
+/// Writes what is told of steps that a world takes in which nothing is set and no channel is open, and to which these
+/// hooks were handed in: of each before the next is taken.
+fn print_steps<W: Write, H: Serve>(
+    alloc: Global,
+    steps: Vec<Step<ToyKeys>>,
+    hooks: Vec<H>,
+    writer: &mut Counted<W>,
+) -> Result<World<ToyKeys, H>, Refusal>
+    ensures prints_it { IfOk result (λ w. StepsTold H.calls hooks.items steps.items
+        (record { desks = w.desks.state; nodes = w.nodes.items })
+        (map (λ t. (t.now.items, map (λ p. p.items) t.past.items)) w.desks.hooks.tables.items)
+        w.desks.hooks.offered.items
+        (W.contents (inner_of writer.old)) (W.contents (inner_of writer.new))) }
+    ensures front { OnErr result (ReportsPartly H.calls hooks.items steps.items
+        (W.contents (inner_of writer.old)) (W.contents (inner_of writer.new))) }
+    ensures cause { IfErr result (λ e. StepsFail (length hooks.items) steps.items e
+        ⊎ ((e ≡ Io) × HasRisen (failures_of writer.old) (failures_of writer.new))) }
+    ensures no_fewer_failures { failures_of writer.old ≤ failures_of writer.new }
+{
+    let mut world = World::new(alloc, hooks)?;
     for step in steps {
-        print_step(alloc, world, step, writer)?;
+        print_step(alloc, &mut world, step, writer)?;
     }
-    Ok(())
+    Ok(world)
 }
 
 /// Writes how the ends of a world's channels stand, and flushes the writer.
-fn print_ends<W: Write>(
+fn print_ends<W: Write, H: Serve>(
     alloc: Global,
-    world: &World<ToyKeys>,
+    world: &World<ToyKeys, H>,
     writer: &mut Counted<W>,
 ) -> Result<(), Refusal>
     ensures prints_it { OnOk result (Appends (W.contents (inner_of writer.old)) (W.contents (inner_of writer.new))
-        (ends_text world.now)) }
+        (ends_text world.now.desks.state.channels)) }
     ensures front { IsPartlyWritten (W.contents (inner_of writer.old)) (W.contents (inner_of writer.new))
-        (ends_text world.now) }
+        (ends_text world.now.desks.state.channels) }
     ensures cause { IfErr result (λ e. (e ≡ Memory)
         ⊎ ((e ≡ Io) × HasRisen (failures_of writer.old) (failures_of writer.new))) }
 {
@@ -167,28 +202,32 @@ fn print_ends<W: Write>(
     print_all(writer, text.as_str())
 }
 
-/// Writes what is told of steps, from a world in which nothing is set and no channel is open: what was told of a step
-/// before the next is taken, and at last how the ends of each channel stand. Takes memory for the world and for the
-/// text of one step.
+/// Writes what is told of steps, from a world in which nothing is set and no channel is open, and to which these hooks
+/// are handed in, which steps name by their places in the list: what was told of a step before the next is taken, and
+/// at last how the ends of each channel stand. A hook is called once on each event that its dispatcher serves, and
+/// what is told of the event is by what it answers. Takes memory for the world and for the text of one step.
 ///
 /// Errors: 60 where there is no memory; 63 where a call of the writer fails; 70 where an end acts and has no record
-/// then, which is never so of steps that a script brings (`ln_channels::every_end_has_a_record`). What was written by
+/// then, which is never so of steps that a script brings (`ln_world::every_end_has_a_record`). What was written by
 /// then is a beginning of the report.
-pub fn print_report<W: Write>(
+pub fn print_report<W: Write, H: Serve>(
     alloc: Global,
     steps: Vec<Step<ToyKeys>>,
+    hooks: Vec<H>,
     writer: &mut Counted<W>,
 ) -> Result<(), Refusal>
-    ensures prints_it { OnOk result (Appends (W.contents (inner_of writer.old)) (W.contents (inner_of writer.new))
-        (report_text steps.items)) }
-    ensures front { IsPartlyWritten (W.contents (inner_of writer.old)) (W.contents (inner_of writer.new))
-        (report_text steps.items) }
-    ensures cause { IfErr result (λ e. StepsFail steps.items e empty
+    ensures prints_it { OnOk result (Reports H.calls hooks.items steps.items
+        (W.contents (inner_of writer.old)) (W.contents (inner_of writer.new))) }
+    ensures front { OnErr result (ReportsPartly H.calls hooks.items steps.items
+        (W.contents (inner_of writer.old)) (W.contents (inner_of writer.new))) }
+    ensures without_hooks { hooks.items ≡ [] → OnOk result (Appends (W.contents (inner_of writer.old))
+        (W.contents (inner_of writer.new)) (report_text 0 (unhooked steps.items))) }
+    ensures cause { IfErr result (λ e. StepsFail (length hooks.items) steps.items e
         ⊎ ((e ≡ Io) × HasRisen (failures_of writer.old) (failures_of writer.new))) }
-    ensures finds_each_record { BringFit toy steps.items → AreSteps toy steps.items → IfErr result (λ e. e ≢ Damaged) }
+    ensures finds_each_record { BringWhatFits (length hooks.items) steps.items
+        → AreAsWide steps.items → IfErr result (λ e. e ≢ Damaged) }
 {
     every_end_has_a_record::<ToyKeys>();
-    let mut world = World::new(alloc);
-    print_steps(alloc, &mut world, steps, writer)?;
+    let world = print_steps(alloc, steps, hooks, writer)?;
     print_ends(alloc, &world, writer)
 }

@@ -2,22 +2,28 @@
 
 ghost use Rattle.std.specs.Prelude.{◌≡◌, ◌++◌, IfOk, IfErr, OnOk};
 ghost use Rattle.ln_msgs.specs.declared.refusals.refusal.Refusal.TheVariants as refusal;
-ghost use Rattle.ln_script.specs.Step.{texts, fees_at, limits_at, fees_line, limits_line, setting_at, set_line};
+ghost use Rattle.ln_script.specs.Step.{texts, fees_at, limits_at, policy_at, fees_line, limits_line, policy_line};
+ghost use Rattle.ln_script.specs.Step.{setting_at, set_line, height_line, invoice_of, expect_at, expect_line};
+ghost use Rattle.ln_script.specs.Step.{dispatch_line, register_line, take_line, decide_line, other_step_at};
 ghost use Rattle.ln_script.specs.Step.{opening_at, open_line, up_line, down_line, restart_line, deliver_line};
 ghost use Rattle.ln_script.specs.Step.{command_line, act_line, do_line, stop_before_line, stop_after_line};
 ghost use Rattle.ln_script.specs.Step.{no_memory_line, step_at, confirms, delivers, ready_steps, ready_line, one_step};
 ghost use Rattle.ln_script.specs.Step.{word_line, steps_at, if_good, joined};
 
-use crate::command::command_of;
+use crate::command::{command_of, preimage_of};
+use crate::hook::hooked_by;
 use crate::keys::partners_of;
-use crate::word::{channel_of, decimal_of, end_of, node_of, number_of, short_id_of};
+use crate::word::{
+    channel_of, decimal_of, end_of, node_of, number_of, number_of_32_bits, payment_of, short_id_of,
+};
 use ln_bytes::ShortId;
 use ln_channel::Command;
-use ln_channels::{Act, End, Node, Open, Step};
 use ln_close::Fees;
+use ln_forward::Expected;
 use ln_keys::ToyKeys;
 use ln_log::Limits;
 use ln_msgs::Refusal;
+use ln_world::{Act, End, Invoice, Node, Open, Policy, Step};
 use std::alloc::Global;
 
 /// set X fees FIRST LEAST MOST
@@ -68,6 +74,24 @@ fn limits(
     ))
 }
 
+/// set X policy BASE PROPORTIONAL DELTA
+#[tactic(auto, unfolding(crate::specs::Step::policy_at))]
+fn policy(node: Node, base: &str, proportional: &str, delta: &str) -> Option<Step<ToyKeys>>
+    ensures { result ≡ policy_at node base.now proportional.now delta.now }
+{
+    let base = number_of_32_bits(base)?;
+    let proportional = number_of_32_bits(proportional)?;
+    let delta = number_of(delta, 0xffff)?;
+    Some(Step::Policy(
+        node,
+        Policy {
+            base,
+            proportional,
+            delta: delta as u16,
+        },
+    ))
+}
+
 fn fees_line(node: Node, words: &[&str]) -> Option<Step<ToyKeys>>
     ensures { result ≡ fees_line node (texts words.now) }
 {
@@ -88,12 +112,22 @@ fn limits_line(node: Node, words: &[&str]) -> Option<Step<ToyKeys>>
     }
 }
 
+fn policy_line(node: Node, words: &[&str]) -> Option<Step<ToyKeys>>
+    ensures { result ≡ policy_line node (texts words.now) }
+{
+    match words {
+        [base, proportional, delta] => policy(node, base, proportional, delta),
+        _ => None,
+    }
+}
+
 fn setting_of(node: Node, word: &str, words: &[&str]) -> Option<Step<ToyKeys>>
     ensures { result ≡ setting_at node word.now (texts words.now) }
 {
     match word {
         "fees" => fees_line(node, words),
         "limits" => limits_line(node, words),
+        "policy" => policy_line(node, words),
         _ => None,
     }
 }
@@ -103,6 +137,54 @@ fn set_line(words: &[&str]) -> Option<Step<ToyKeys>>
 {
     match words {
         [node, word, rest @ ..] => setting_of(node_of(node)?, word, rest),
+        _ => None,
+    }
+}
+
+/// height X H
+fn height_line(words: &[&str]) -> Option<Step<ToyKeys>>
+    ensures { result ≡ height_line (texts words.now) }
+{
+    match words {
+        [node, height] => {
+            let node = node_of(node)?;
+            let height = number_of(height, 400_000_000)?;
+            Some(Step::Height(node, height as u32))
+        }
+        _ => None,
+    }
+}
+
+/// A payment of this number: its preimage and its secret are 32 bytes of the number.
+#[tactic(auto, unfolding(crate::specs::Command::preimage_of))]
+fn invoice_of(payment: u8, amount: u64) -> Invoice
+    ensures { result ≡ invoice_of payment amount }
+{
+    Invoice {
+        preimage: preimage_of(payment),
+        expected: Expected {
+            secret: [payment; 32],
+            amount,
+        },
+    }
+}
+
+/// expect X N AMOUNT
+#[tactic(auto, unfolding(crate::specs::Step::expect_at))]
+fn expect(node: &str, payment: &str, amount: &str) -> Option<Step<ToyKeys>>
+    ensures { result ≡ expect_at node.now payment.now amount.now }
+{
+    let node = node_of(node)?;
+    let payment = payment_of(payment)?;
+    let amount = decimal_of(amount)?;
+    Some(Step::Expect(node, invoice_of(payment, amount)))
+}
+
+fn expect_line(words: &[&str]) -> Option<Step<ToyKeys>>
+    ensures { result ≡ expect_line (texts words.now) }
+{
+    match words {
+        [node, payment, amount] => expect(node, payment, amount),
         _ => None,
     }
 }
@@ -174,6 +256,24 @@ fn restart_line(words: &[&str]) -> Option<Step<ToyKeys>>
     }
 }
 
+/// dispatch E
+fn dispatch_line(words: &[&str]) -> Option<Step<ToyKeys>>
+    ensures { result ≡ dispatch_line (texts words.now) }
+{
+    match words {
+        [end] => Some(Step::Dispatch(end_of(end)?)),
+        _ => None,
+    }
+}
+
+/// hook E, and what the hook says: its place among the hooks of the script is given later
+fn register_line(words: &[&str]) -> Option<Step<ToyKeys>>
+    ensures { result ≡ register_line (texts words.now) }
+{
+    let hooked = hooked_by(words)?;
+    Some(Step::Register(hooked.end, 0))
+}
+
 /// What an end does by a line.
 #[derive(Drop)]
 pub struct Doing {
@@ -189,6 +289,32 @@ fn deliver_line(words: &[&str]) -> Option<Doing>
         [end] => Some(Doing {
             end: end_of(end)?,
             what: Act::Deliver,
+        }),
+        _ => None,
+    }
+}
+
+/// take E
+fn take_line(words: &[&str]) -> Option<Doing>
+    ensures { result ≡ take_line (texts words.now) }
+{
+    match words {
+        [end] => Some(Doing {
+            end: end_of(end)?,
+            what: Act::Take,
+        }),
+        _ => None,
+    }
+}
+
+/// decide E
+fn decide_line(words: &[&str]) -> Option<Doing>
+    ensures { result ≡ decide_line (texts words.now) }
+{
+    match words {
+        [end] => Some(Doing {
+            end: end_of(end)?,
+            what: Act::Decide,
         }),
         _ => None,
     }
@@ -223,6 +349,8 @@ fn act_line(alloc: Global, word: &str, words: &[&str]) -> Result<Option<Doing>, 
 {
     match word {
         "deliver" => Ok(deliver_line(words)),
+        "take" => Ok(take_line(words)),
+        "decide" => Ok(decide_line(words)),
         _ => command_line(alloc, word, words),
     }
 }
@@ -280,6 +408,25 @@ fn no_memory_line(alloc: Global, words: &[&str]) -> Result<Option<Step<ToyKeys>>
     }
 }
 
+/// The step of a line that is about books or dispatchers, or of what an end does. 60 where there is no memory.
+#[tactic(auto, unfolding(crate::specs::Step::other_step_at))]
+fn other_step_of(
+    alloc: Global,
+    word: &str,
+    words: &[&str],
+) -> Result<Option<Step<ToyKeys>>, Refusal>
+    ensures step { IfOk result (λ o. o ≡ other_step_at word.now (texts words.now)) }
+    ensures fails_for_memory_alone { IfErr result (λ e. e ≡ refusal.Memory) }
+{
+    match word {
+        "height" => Ok(height_line(words)),
+        "expect" => Ok(expect_line(words)),
+        "dispatch" => Ok(dispatch_line(words)),
+        "hook" => Ok(register_line(words)),
+        _ => do_line(alloc, word, words),
+    }
+}
+
 /// The step of a line's first word and those behind it, where they are one. 60 where there is no memory.
 #[tactic(auto, unfolding(crate::specs::Step::step_at))]
 fn step_of(alloc: Global, word: &str, words: &[&str]) -> Result<Option<Step<ToyKeys>>, Refusal>
@@ -295,7 +442,7 @@ fn step_of(alloc: Global, word: &str, words: &[&str]) -> Result<Option<Step<ToyK
         "stop-before" => stop_before_line(alloc, words),
         "stop-after" => stop_after_line(alloc, words),
         "no-memory" => no_memory_line(alloc, words),
-        _ => do_line(alloc, word, words),
+        _ => other_step_of(alloc, word, words),
     }
 }
 

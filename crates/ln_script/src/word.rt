@@ -5,7 +5,7 @@ ghost use Rattle.ln_bytes.specs.ShortId.{IsPlain};
 ghost use Rattle.ln_script.specs.Word.{decimal_at, number_at, node_at, end_at, id_of, short_id_at, digit_at, code_at};
 
 use ln_bytes::ShortId;
-use ln_channels::{End, Node};
+use ln_world::{End, Node};
 
 /// A decimal number of 64 bits without leading zeros.
 pub(crate) fn decimal_of(word: &str) -> Option<u64>

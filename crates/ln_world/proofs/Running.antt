@@ -1,169 +1,222 @@
--- Step by step each hook stands at the end of its chain, and what happened so far is told by its answers so far.
-use Rattle.std.proofs.Common.{◌≡◌, ℕ, zero, ◌<◌, List, [], ◌∷◌, ◌++◌, length, refl, sym, ap, ◌∙◌}
-use Rattle.std.proofs.Common.{subst, arith}
-use Rattle.std.proofs.Common.{append_assoc, append-nil, Option, Some, suc, map, inl, inr}
+-- The steps of a world, one after the other, with hooks that are called.
+use Rattle.std.proofs.Common.{◌≡◌, ℕ, ◌<◌, List, [], ◌∷◌, ◌++◌, length, refl, sym, ap, ◌∙◌, subst, arith}
+use Rattle.std.proofs.Common.{append_assoc, append-nil, Option, Some, None, map, inl, inr}
 use Rattle.ln_msgs.specs.declared.refusals.refusal.Refusal.{Refusal}
 use Rattle.ln_keys.specs.declared.keys.ChannelKeys.{Ghosts}
 use Rattle.ln_hooks.specs.declared.event.ChannelEvent.{ChannelEvent}
 use Rattle.ln_hooks.specs.declared.verdict.Verdict.{Verdict}
 use Rattle.ln_hooks.specs.declared.verdict.Verdict.TheVariants.{Continue}
 use Rattle.ln_channels.specs.declared.line.Line.{Line}
+use Rattle.ln_channels.specs.declared.line.Line.TheVariants as line
+use Rattle.ln_desks.specs.declared.step.Step.{Step as DeskStep}
+use Rattle.ln_desks.specs.World.{World as Desks}
+use Rattle.ln_desks.specs.World as desks
+use Rattle.ln_desks.specs.Seated.{Answers, Tables, Stand, Agree, Moved}
+use Rattle.ln_desks.specs.Hooked as desks_hooked
 use Rattle.ln_world.specs.declared.step.Step.{Step}
-use Rattle.ln_world.specs.World.{World, empty, happens, run, step_lines, run_lines, item, MayFail, SomeMayFail}
-use Rattle.ln_world.specs.Seated.{Answers, Tables, Stand, IsLeft, Agree}
-use Rattle.ln_world.specs.Hooked.{verdict_in, answered, Steps, HasRun, RunMayFail}
-use Rattle.ln_world.proofs.Restarting.{as_many_tables}
-use Rattle.ln_world.proofs.Desks.{calls_follow}
+use Rattle.ln_world.specs.declared.errand.Errand.{Errand}
+use Rattle.ln_world.specs.declared.node.NodeBook.{NodeBook}
+use Rattle.ln_desks.proofs.Desks.{calls_follow}
+use Rattle.ln_desks.proofs.Going as going
+use Rattle.ln_world.specs.World.{World, empty, plain, plains, moved_by, lines_by, prepared, errand_of, concluded, tells}
+use Rattle.ln_world.specs.World.{happens, run, step_lines, run_lines, MayFail, SomeMayFail}
+use Rattle.ln_world.specs.Hooked.{verdict_by, verdict_in, answered, Moves, Stepped, Steps, HasRun, RunMayFail}
 
-module _ {K : Type 0} (k : Ghosts K) {H : Type 0} (calls : H → ChannelEvent → Verdict → H → Type 0)
-    (handed : List H) where
-  abbrev led : Answers → List (Step K k) → World K → World K
-  led b ss w = run k (answered k b ss w) w
+pub same_world : {K : Type 0} (w : World K) (d : Desks K) (xs : List NodeBook) → w.desks ≡ d → w.nodes ≡ xs
+    → w ≡ record { desks = d; nodes = xs }
+same_world w d xs h i =
+    ap (λ x. record { desks = x; nodes = w.nodes }) h ∙ ap (λ x. record { desks = d; nodes = x }) i
 
-  abbrev said_in : Answers → List (Step K k) → World K → List Line
-  said_in b ss w = run_lines k (answered k b ss w) w
+module _ {K : Type 0} (k : Ghosts K) {H : Type 0} (calls : H → ChannelEvent → Verdict → H → Type 0) where
+  pub move_told : (m : DeskStep K k) (d d' : Desks K) (ts ts' : List (Tables calls)) (left left' : List (Option H))
+      (told told' : List Line) → told ≡ [] → desks_hooked.Steps k calls m d ts left d' ts' left' told told'
+      → Moves k calls (Some m) d ts left d' ts' left' told'
+  move_told m d d' ts ts' left left' told told' is steps =
+      subst (λ l. desks_hooked.Steps k calls m d ts left d' ts' left' l told') is steps
 
-  led_more : (b : Answers) (ss ts : List (Step K k)) (w : World K) → led b (ss ++ ts) w ≡ led b ts (led b ss w)
-  led_more b [] ts w = refl
-  led_more b (s ∷ ss) ts w = led_more b ss ts (happens k (verdict_in b s w) s w)
-
-  said_more : (b : Answers) (ss ts : List (Step K k)) (w : World K)
-      → said_in b (ss ++ ts) w ≡ said_in b ss w ++ said_in b ts (led b ss w)
-  said_more b [] ts w = refl
-  said_more b (s ∷ ss) ts w =
-      let v = verdict_in b s w in
-      ap (λ l. step_lines k v s w ++ l) (said_more b ss ts (happens k v s w))
-      ∙ sym (append_assoc (step_lines k v s w) (said_in b ss (happens k v s w))
-      (said_in b ts (led b ss (happens k v s w))))
-
-  abbrev start : World K
-  start = empty (length handed)
-
-  -- so far
-  pub record Ran (ss : List (Step K k)) (w : World K) (ts : List (Tables calls)) (left : List (Option H))
-      (lines lines' : List Line) : Type 0 where
-    pub answers : Answers
-    pub stand : Stand calls handed answers w.used w.desks ts left
-    pub count : length handed ≡ w.hooks
-    pub so : (b : Answers) → Agree answers b w.desks
-        → (led b ss start ≡ w) × (lines ++ said_in b ss start ≡ lines')
-
-  pub ran_one : (ss : List (Step K k)) (s : Step K k) (w w' : World K) (ts ts' : List (Tables calls))
-      (left left' : List (Option H)) (lines lines' lines'' : List Line) → Ran ss w ts left lines lines'
-      → Steps k calls s w ts left w' ts' left' lines' lines'' → Ran (ss ++ s ∷ []) w' ts' left' lines lines''
-  ran_one ss s w w' ts ts' left left' lines lines' lines'' ran steps =
-      let m = steps handed ran.answers ran.count ran.stand in
+  -- a step that desks take
+  pub taken : (s : Step K k) (m : DeskStep K k) (w w' : World K) (ts ts' : List (Tables calls))
+      (left left' : List (Option H)) (told lines lines' : List Line) → plain k s w ≡ Some m
+      → desks_hooked.Steps k calls m w.desks ts left w'.desks ts' left' [] told
+      → w'.nodes ≡ concluded (errand_of s w) told w'.desks (prepared s w)
+      → lines' ≡ lines ++ tells (errand_of s w) told
+      → Steps k calls s w ts left w' ts' left' lines lines'
+  taken s m w w' ts ts' left left' told lines lines' is steps nodes tells_so handed a count stand =
+      let st = steps handed a count stand in
+      let by : moved_by k st.said (plain k s w) w.desks ≡ w'.desks =
+      ap (λ o. moved_by k st.said o w.desks) is ∙ sym st.world in
+      let lines_so : lines_by k st.said (plain k s w) w.desks ≡ told =
+      ap (λ o. lines_by k st.said o w.desks) is ∙ sym st.told in
       record {
-        answers = m.moved.more;
-        stand = m.moved.stand;
-        count = ran.count ∙ sym (ap (λ (x : World K). x.hooks) m.world);
-        so = λ b agree.
-            let old = m.moved.told b agree in
-            let before = ran.so b old.0 in
-            let here : happens k (verdict_in b s w) s w ≡ w' =
-            ap (λ v. happens k v s w) old.1 ∙ sym m.world in
-            let last : said_in b (s ∷ []) w ≡ step_lines k m.said s w =
-            append-nil (step_lines k (verdict_in b s w) s w) ∙ ap (λ v. step_lines k v s w) old.1 in (
-              led_more b ss (s ∷ []) start ∙ ap (λ x. led b (s ∷ []) x) before.0 ∙ here,
-              ap (λ l. lines ++ l) (said_more b ss (s ∷ []) start)
-                  ∙ ap (λ x. lines ++ (said_in b ss start ++ said_in b (s ∷ []) x)) before.0
-                  ∙ ap (λ l. lines ++ (said_in b ss start ++ l)) last
-                  ∙ sym (append_assoc lines (said_in b ss start) (step_lines k m.said s w))
-                  ∙ ap (λ l. l ++ step_lines k m.said s w) before.1 ∙ sym m.told,
-            );
+        said = st.said;
+        moved = record {
+          more = st.moved.more;
+          stand = st.moved.stand;
+          told = λ b agree.
+              let old = st.moved.told b agree in
+              (old.0, ap (λ (o : Option (DeskStep K k)). verdict_by b o w.desks) is ∙ old.1);
+        };
+        world = same_world w' (moved_by k st.said (plain k s w) w.desks)
+            (concluded (errand_of s w) (lines_by k st.said (plain k s w) w.desks)
+            (moved_by k st.said (plain k s w) w.desks) (prepared s w)) (sym by)
+            (nodes ∙ sym (ap (λ d. concluded (errand_of s w) told d (prepared s w)) by)
+            ∙ sym (ap (λ l. concluded (errand_of s w) l (moved_by k st.said (plain k s w) w.desks) (prepared s w))
+            lines_so));
+        told = tells_so ∙ ap (λ l. lines ++ tells (errand_of s w) l) (sym lines_so);
       }
 
-  -- none yet
-  pub ran_none : (left : List (Option H)) (lines : List Line) → IsLeft calls handed [] left
-      → Ran [] start [] left lines lines
-  ran_none left lines is = record {
-    answers = λ i j. Continue;
-    stand = record { once = λ i. omega arith; seated = tt; offered = is };
-    count = refl;
-    so = λ b agree. (refl, append-nil lines);
-  }
-
-  -- all
-  pub has_run : (ss : List (Step K k)) (w : World K) (ts : List (Tables calls)) (left : List (Option H))
-      (lines lines' : List Line) → Ran ss w ts left lines lines' → HasRun k calls handed ss w ts left lines lines'
-  has_run ss w ts left lines lines' ran =
-      let so = ran.so ran.answers (λ i j lt. refl) in
+  -- a step that is no matter of desks, or can't be taken
+  pub passed_over : (s : Step K k) (w w' : World K) (ts : List (Tables calls)) (left : List (Option H))
+      (lines lines' : List Line) → plain k s w ≡ None → w'.desks ≡ w.desks
+      → w'.nodes ≡ concluded (errand_of s w) (line.Idle ∷ []) w'.desks (prepared s w)
+      → lines' ≡ lines ++ tells (errand_of s w) (line.Idle ∷ [])
+      → Steps k calls s w ts left w' ts left lines lines'
+  passed_over s w w' ts left lines lines' is same nodes tells_so handed a count stand =
+      let by : moved_by k Continue (plain k s w) w.desks ≡ w'.desks =
+      ap (λ o. moved_by k Continue o w.desks) is ∙ sym same in
+      let lines_so : lines_by k Continue (plain k s w) w.desks ≡ line.Idle ∷ [] =
+      ap (λ o. lines_by k Continue o w.desks) is in
       record {
-        answers = ran.answers;
-        world = sym so.0;
-        told = sym so.1;
-        stand = ran.stand;
-        follow = calls_follow k (answered k ran.answers ss start) (length handed);
+        said = Continue;
+        moved = record {
+          more = a;
+          stand = subst (λ (d : Desks K). Stand calls handed a d.used d.desks ts left) (sym same) stand;
+          told = λ b agree. (
+            subst (λ (d : Desks K). Agree a b d.desks) same agree,
+            ap (λ (o : Option (DeskStep K k)). verdict_by b o w.desks) is,
+          );
+        };
+        world = same_world w' (moved_by k Continue (plain k s w) w.desks)
+            (concluded (errand_of s w) (lines_by k Continue (plain k s w) w.desks)
+            (moved_by k Continue (plain k s w) w.desks) (prepared s w)) (sym by)
+            (nodes ∙ sym (ap (λ d. concluded (errand_of s w) (line.Idle ∷ []) d (prepared s w)) by)
+            ∙ sym (ap (λ l. concluded (errand_of s w) l (moved_by k Continue (plain k s w) w.desks) (prepared s w))
+            lines_so));
+        told = tells_so ∙ ap (λ l. lines ++ tells (errand_of s w) l) (sym lines_so);
       }
 
-  pub has_run_all : (done ss : List (Step K k)) → done ≡ ss → (w : World K) (ts : List (Tables calls))
-      (left : List (Option H)) (lines lines' : List Line) → Ran done w ts left lines lines'
-      → HasRun k calls handed ss w ts left lines lines'
-  has_run_all done ss is w ts left lines lines' ran =
-      has_run ss w ts left lines lines' (subst (λ l. Ran l w ts left lines lines') is ran)
+  -- either
+  pub stepped : (s : Step K k) (o : Option (DeskStep K k)) (w w' : World K) (ts ts' : List (Tables calls))
+      (left left' : List (Option H)) (told lines lines' : List Line) → plain k s w ≡ o
+      → Moves k calls o w.desks ts left w'.desks ts' left' told
+      → w'.nodes ≡ concluded (errand_of s w) told w'.desks (prepared s w)
+      → lines' ≡ lines ++ tells (errand_of s w) told
+      → Steps k calls s w ts left w' ts' left' lines lines'
+  stepped s (Some m) w w' ts ts' left left' told lines lines' is moves nodes tells_so =
+      taken s m w w' ts ts' left left' told lines lines' is moves nodes tells_so
+  stepped s None w w' ts ts' left left' told lines lines' is moves nodes tells_so =
+      let idle : Steps k calls s w ts left w' ts left lines lines' =
+      passed_over s w w' ts left lines lines' is moves.0
+      (nodes ∙ ap (λ l. concluded (errand_of s w) l w'.desks (prepared s w)) moves.3)
+      (tells_so ∙ ap (λ l. lines ++ tells (errand_of s w) l) moves.3) in
+      subst (λ us. Steps k calls s w ts left w' us left' lines lines') (sym moves.1)
+      (subst (λ l. Steps k calls s w ts left w' ts l lines lines') (sym moves.2) idle)
 
-  -- ---- where one of them fails
+  -- either, where the parts of the code tell of it
+  pub stepped_by : (s : Step K k) (o : Option (DeskStep K k)) (w w' : World K) (ts ts' : List (Tables calls))
+      (left left' : List (Option H)) (what : Errand) (xs : List NodeBook) (told heard tells_of lines lines' : List Line)
+      → plain k s w ≡ o → what ≡ errand_of s w → xs ≡ prepared s w
+      → Moves k calls o w.desks ts left w'.desks ts' left' told
+      → w'.nodes ≡ concluded what heard w'.desks xs → heard ≡ told
+      → lines' ≡ lines ++ tells what tells_of → tells_of ≡ told
+      → Steps k calls s w ts left w' ts' left' lines lines'
+  stepped_by s o w w' ts ts' left left' what xs told heard tells_of lines lines' is errand first moves nodes hears so
+      says =
+      stepped s o w w' ts ts' left left' told lines lines' is moves
+      (nodes ∙ ap (λ l. concluded what l w'.desks xs) hears ∙ ap (λ e. concluded e told w'.desks xs) errand
+      ∙ ap (λ ys. concluded (errand_of s w) told w'.desks ys) first)
+      (so ∙ ap (λ l. lines ++ tells what l) says ∙ ap (λ e. lines ++ tells e told) errand)
 
-  some_fails : (b : Answers) (ss rest : List (Step K k)) (s : Step K k) (r : Refusal) (w : World K)
-      → MayFail k s r (led b ss w) → SomeMayFail k (answered k b (ss ++ s ∷ rest) w) r w
-  some_fails b [] rest s r w may = inl may
-  some_fails b (x ∷ ss) rest s r w may = inr (some_fails b ss rest s r (happens k (verdict_in b x w) x w) may)
+  -- ---- one after the other
 
-  pub may_fail : (ss rest : List (Step K k)) (s : Step K k) (r : Refusal) (w : World K) (ts : List (Tables calls))
-      (left : List (Option H)) (lines lines' : List Line) → Ran ss w ts left lines lines' → MayFail k s r w
-      → RunMayFail k (length handed) (ss ++ s ∷ rest) r
-  may_fail ss rest s r w ts left lines lines' ran may =
-      let so = ran.so ran.answers (λ i j lt. refl) in
-      inr (ran.answers, some_fails ran.answers ss rest s r start (subst (MayFail k s r) (sym so.0) may))
+  abbrev held : World K → Desks K
+  held w = w.desks
 
-  pub may_fail_all : (done rest all : List (Step K k)) (s : Step K k) → done ++ s ∷ rest ≡ all → (r : Refusal)
-      (w : World K) (ts : List (Tables calls)) (left : List (Option H)) (lines lines' : List Line)
-      → Ran done w ts left lines lines' → MayFail k s r w → RunMayFail k (length handed) all r
-  may_fail_all done rest all s is r w ts left lines lines' ran may =
-      subst (λ l. RunMayFail k (length handed) l r) is (may_fail done rest s r w ts left lines lines' ran may)
+  abbrev says : Answers → Step K k → World K → Verdict
+  says a s w = verdict_in k a s w
 
-  -- each dispatcher has its tables
-  pub ran_many : (ss : List (Step K k)) (w : World K) (ts : List (Tables calls)) (left : List (Option H))
-      (lines lines' : List Line) → Ran ss w ts left lines lines' → length ts ≡ length w.desks
-  ran_many ss w ts left lines lines' ran = as_many_tables calls handed ran.answers w.desks ts ran.stand.seated
+  same_hooks : (v : Verdict) (o : Option (DeskStep K k)) (d : Desks K) → (moved_by k v o d).hooks ≡ d.hooks
+  same_hooks v None d = refl
+  same_hooks v (Some s) d = refl
 
-  pub left_handed : (hs : List H) → IsLeft calls hs [] (map Some hs)
-  left_handed hs = record {
-    own = λ i h is. own_of hs i h is;
-    there = λ i lt free. there_of hs i lt;
-  }
-    where
-      own_of : (hs : List H) (i : ℕ) (h : H) → item i (map Some hs) ≡ Some (Some h) → item i hs ≡ Some h
-      own_of [] i h is = absurd (cc)
-      own_of (x ∷ xs) zero h is = cc
-      own_of (x ∷ xs) (suc i) h is = own_of xs i h is
+  led_so : (b : Answers) (ss : List (Step K k)) (w : World K)
+      → going.led held (happens k) (step_lines k) says b ss w ≡ run k (answered k b ss w) w
+  led_so b [] w = refl
+  led_so b (s ∷ ss) w = led_so b ss (happens k (verdict_in k b s w) s w)
 
-      there_of : (hs : List H) (i : ℕ) → i < length hs → (h : H) × (item i (map Some hs) ≡ Some (Some h))
-      there_of [] i lt = absurd (omega (arith, lt))
-      there_of (x ∷ xs) zero lt = (x, refl)
-      there_of (x ∷ xs) (suc i) lt = there_of xs i (omega (arith, lt))
+  said_so : (b : Answers) (ss : List (Step K k)) (w : World K)
+      → going.said_in held (happens k) (step_lines k) says b ss w ≡ run_lines k (answered k b ss w) w
+  said_so b [] w = refl
+  said_so b (s ∷ ss) w =
+      ap (λ l. step_lines k (verdict_in k b s w) s w ++ l) (said_so b ss (happens k (verdict_in k b s w) s w))
 
-  pub ran_none_so : (w : World K) (ts : List (Tables calls)) (left : List (Option H)) (lines : List Line) → w ≡ start
-      → ts ≡ [] → left ≡ map Some handed → Ran [] w ts left lines lines
-  ran_none_so w ts left lines is none all =
-      subst (λ (x : World K). Ran [] x ts left lines lines) (sym is)
-      (subst (λ us. Ran [] start us left lines lines) (sym none)
-      (ran_none left lines (subst (λ l. IsLeft calls handed [] l) (sym all) (left_handed handed))))
+  fails_so : (b : Answers) (ss : List (Step K k)) (r : Refusal) (w : World K)
+      → going.SomeFails held (happens k) (step_lines k) says (MayFail k) b ss r w
+      → SomeMayFail k (answered k b ss w) r w
+  fails_so b [] r w h = h
+  fails_so b (s ∷ ss) r w (inl h) = inl h
+  fails_so b (s ∷ ss) r w (inr h) = inr (fails_so b ss r (happens k (verdict_in k b s w) s w) h)
 
--- one more of those that are left is done
-pub one_done : {A : Type 0} (done : List A) (s : A) (rest its all : List A) → done ++ its ≡ all → its ≡ s ∷ rest
-    → (done ++ s ∷ []) ++ rest ≡ all
-one_done done s rest its all split is =
-    append_assoc done (s ∷ []) rest ∙ sym (ap (λ l. done ++ l) is) ∙ split
+  module _ (handed : List H) where
+    abbrev start : World K
+    start = empty (length handed)
 
--- none is left
-pub all_done : {A : Type 0} (done its all : List A) → done ++ its ≡ all → its ≡ [] → done ≡ all
-all_done done its all split none = sym (append-nil done) ∙ sym (ap (λ l. done ++ l) none) ∙ split
+    -- so far
+    abbrev pub Ran : List (Step K k) → World K → List (Tables calls) → List (Option H) → List Line → List Line → Type 0
+    Ran ss w ts left lines lines' =
+        going.Ran held (happens k) (step_lines k) says calls handed start ss w ts left lines lines'
 
-pub as_many : {A B : Type 0} (f : A → B) (xs : List A) (n : ℕ) → length (map f xs) ≡ n → length xs ≡ n
-as_many f [] n h = h
-as_many f (x ∷ xs) n h = ap suc (as_many f xs (length (map f xs)) refl) ∙ h
+    pub ran_one : (ss : List (Step K k)) (s : Step K k) (w w' : World K) (ts ts' : List (Tables calls))
+        (left left' : List (Option H)) (lines lines' lines'' : List Line) → Ran ss w ts left lines lines'
+        → Steps k calls s w ts left w' ts' left' lines' lines'' → Ran (ss ++ s ∷ []) w' ts' left' lines lines''
+    ran_one ss s w w' ts ts' left left' lines lines' lines'' ran steps =
+        going.ran_one held (happens k) (step_lines k) says calls handed
+        (λ v x y. same_hooks v (plain k x y) y.desks) start ss s w w' ts ts' left left' lines lines' lines'' ran
+        (λ a count stand. let m = steps handed a count stand in record {
+          said = m.said;
+          moved = m.moved;
+          world = m.world;
+          told = m.told;
+        })
 
-pub none_left : {A : Type 0} (xs : List A) → length xs ≡ 0 → xs ≡ []
-none_left [] h = refl
-none_left (x ∷ xs) h = absurd (omega (arith, h))
+    pub ran_none : (w : World K) (ts : List (Tables calls)) (left : List (Option H)) (lines : List Line) → w ≡ start
+        → ts ≡ [] → left ≡ map Some handed → Ran [] w ts left lines lines
+    ran_none w ts left lines is none all =
+        going.ran_none_so held (happens k) (step_lines k) says calls handed start w ts left lines refl is none all
+
+    -- all
+    pub has_run : (ss : List (Step K k)) (w : World K) (ts : List (Tables calls)) (left : List (Option H))
+        (lines lines' : List Line) → Ran ss w ts left lines lines' → HasRun k calls handed ss w ts left lines lines'
+    has_run ss w ts left lines lines' ran =
+        let to =
+        going.ran_to held (happens k) (step_lines k) says calls handed start ss w ts left lines lines' ran in
+        record {
+          answers = ran.answers;
+          world = to.0 ∙ led_so ran.answers ss start;
+          told = to.1 ∙ ap (λ l. lines ++ l) (said_so ran.answers ss start);
+          stand = ran.stand;
+          follow = calls_follow k (plains k (answered k ran.answers ss start) start) (length handed);
+        }
+
+    pub has_run_all : (done ss : List (Step K k)) → done ≡ ss → (w : World K) (ts : List (Tables calls))
+        (left : List (Option H)) (lines lines' : List Line) → Ran done w ts left lines lines'
+        → HasRun k calls handed ss w ts left lines lines'
+    has_run_all done ss is w ts left lines lines' ran =
+        has_run ss w ts left lines lines' (subst (λ l. Ran l w ts left lines lines') is ran)
+
+    -- where one of them fails
+    pub may_fail_all : (done rest all : List (Step K k)) (s : Step K k) → done ++ s ∷ rest ≡ all → (r : Refusal)
+        (w : World K) (ts : List (Tables calls)) (left : List (Option H)) (lines lines' : List Line)
+        → Ran done w ts left lines lines' → MayFail k s r w → RunMayFail k (length handed) all r
+    may_fail_all done rest all s is r w ts left lines lines' ran may =
+        let some =
+        going.may_fail held (happens k) (step_lines k) says calls handed (MayFail k) start done rest s r w ts left
+        lines lines' ran may in
+        subst (λ l. RunMayFail k (length handed) l r) is
+        (inr (ran.answers, fails_so ran.answers (done ++ s ∷ rest) r start some))
+
+    -- each dispatcher has its tables
+    pub ran_many : (ss : List (Step K k)) (w : World K) (ts : List (Tables calls)) (left : List (Option H))
+        (lines lines' : List Line) → Ran ss w ts left lines lines' → length ts ≡ length w.desks.desks
+    ran_many ss w ts left lines lines' ran =
+        going.ran_many held (happens k) (step_lines k) says calls handed start ss w ts left lines lines' ran

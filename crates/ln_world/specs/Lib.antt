@@ -1,5 +1,7 @@
-pub mod Desk
+pub mod Node
+pub mod Told
+pub mod Follow
 pub mod World
 pub mod Promises
-pub mod Seated
+pub mod Records
 pub mod Hooked

@@ -1,32 +1,35 @@
-//! Nodes and the channels between them, moved step by step; at each end of a channel a dispatcher, which hands the
-//! end's events to the hooks that were registered there.
+//! A world of nodes: channels between them, dispatchers that hand the channels' events to hooks, and for each node a
+//! book of forwarded payments, whose commands its channels take; moved step by step.
 #![tactic(auto)]
 
-mod desk;
-mod event;
-mod hook;
-mod hooks;
+mod call;
+mod conclude;
+mod errand;
+mod follow;
 mod laws;
 mod machine;
-mod nodes;
-mod seat;
+mod node;
+mod prepare;
 mod step;
+mod told;
 mod world;
 
-pub use desk::{Desk, Life};
-pub use hook::Serve;
-pub use hooks::{Hooks, Tables};
 pub use laws::{
     a_shutdown_is_answered, agreement, channels_open_as_set, closed_at_one_fee, closing_ends,
-    commands_are_done_exactly, every_end_has_a_record, headline, marks_agree_at_rest,
-    never_refused, never_refused_where_fees_overlap, nothing_is_decided,
+    commands_are_done_exactly, commands_are_wide, decisions_follow_dispatches,
+    every_end_has_a_record, headline, marks_agree_at_rest, never_refused,
+    never_refused_where_fees_overlap,
 };
-pub use ln_channels::{Act, End, EndLine, Ending, Line, Node, Open, Partners, Word};
+pub use ln_desks::{
+    Choice, Desk, End, EndLine, Ending, Hooks, Life, Line, Node, Nodes, Open, Partners, Seat,
+    Serve, Tables, Word,
+};
+pub use ln_forward::Policy;
+pub use ln_tables::Invoice;
 pub use machine::{
     close_is_last, each_move_may_be_made, events_are_told, moves_are_the_machines,
     undecided_events_are_the_machines,
 };
-pub use nodes::Nodes;
-pub use seat::Seat;
-pub use step::Step;
+pub use node::NodeBook;
+pub use step::{Act, Step};
 pub use world::World;

@@ -1,5 +1,5 @@
 use Rattle.std.proofs.Common.{◌++◌, sym, ap, ◌∙◌}
-use Rattle.ln_channels.specs.Channel.{actor, act_moves, acted_lines}
+use Rattle.ln_channels.specs.Channel.{side_of, act_moves, acted_lines}
 use Rattle.std.proofs.lemmas.Result.{IfErr-weaker}
 use Rattle.ln_channels.proofs.Lacking.{by_record, lacks_there}
 use Rattle.ln_channels.proofs.Moving.{on_ok}
@@ -16,7 +16,7 @@ pub returns-in_ok-push-in-None-clause-told : goal.returns-in_ok-push-in-None-cla
 returns-in_ok-push-in-None-clause-told g c =
     c.in_ok-push-in-None.ensures.items ∙ ap (λ ls. c.args.lines.now.items ++ ls)
     (there_is_none c.args.end.channel
-    (λ d. acted_lines g.K.ChannelKeys.signer c.args.what d (actor c.args.end.node c.args.what d)) c.args.channels.now
+    (λ d. acted_lines g.K.ChannelKeys.signer c.args.what d (side_of c.args.end.node d)) c.args.channels.now
     (sym c.place_of.ensures ∙ c.in-None.is))
 
 pub returns-in-Some-clause-moved : goal.returns-in-Some-clause-moved
@@ -28,7 +28,7 @@ returns-in-Some-clause-moved g c =
 pub returns-in-Some-clause-told : goal.returns-in-Some-clause-told
 returns-in-Some-clause-told g c =
     on_ok c.act.result (λ e. e ∙ ap (λ ls. c.args.lines.now.items ++ ls) (there_is c.args.end.channel
-    (λ d. acted_lines g.K.ChannelKeys.signer c.args.what d (actor c.args.end.node c.args.what d))
+    (λ d. acted_lines g.K.ChannelKeys.signer c.args.what d (side_of c.args.end.node d))
     c.args.channels.now c.in-Some.i _ (sym c.in-Some.is ∙ c.place_of.ensures)))
     c.act.ensures.told
 

@@ -1,25 +1,19 @@
-use Rattle.std.proofs.Common.{◌≡◌, ◌≤◌, length}
+use Rattle.std.proofs.Common.{◌≡◌, ◌++◌, ◌≤◌, List, length, map}
 use Rattle.std.specs.Vec.Iter.{into_iter_items, into_iter_len}
 use Rattle.ln_msgs.specs.Pings.CountedView.{inner_of, failures_of}
-use Rattle.ln_msgs.specs.declared.refusals.refusal.Refusal.TheVariants as refusal
-use Rattle.ln_channels.specs.World.{run}
-use Rattle.ln_channels.specs.Failing.{SomeMayFail}
-use Rattle.ln_script.specs.Keys.{toy}
-use Rattle.ln_script.specs.Report.{steps_text}
-use Rattle.ln_script.proofs.Reports.{Wrote}
+use Rattle.ln_script.specs.Step.{ToyStep}
+use Rattle.ln_script.proofs.Reports.{IsTold}
 use Rattle.ln_script.proofs.report.print_steps.Given as goal
 
--- what was written stands in front of what is told of the steps that are left, and where one of these lacks a record
--- one of all does
+-- where the steps that are done have led, and what was told of them was written
 abbrev pub invariant-loop-step : goal.invariant-loop-step
 invariant-loop-step g l = record {
-  world : run toy (into_iter_items l.step-iterator) l.world
-      ≡ run toy (into_iter_items l.initial.step-iterator) l.fn.world;
-  wrote : Wrote (g.W.Write.contents (inner_of l.fn.writer)) (g.W.Write.contents (inner_of l.writer))
-      (steps_text (into_iter_items l.step-iterator) l.world)
-      (steps_text (into_iter_items l.initial.step-iterator) l.fn.world);
-  lacks : SomeMayFail toy (into_iter_items l.step-iterator) refusal.Damaged l.world
-      → SomeMayFail toy (into_iter_items l.initial.step-iterator) refusal.Damaged l.fn.world;
+  told : (done : List ToyStep) × ((done ++ into_iter_items l.step-iterator ≡ into_iter_items l.initial.step-iterator)
+      × IsTold g.H.Serve.calls l.fn.hooks.items done
+      (record { desks = l.world.desks.state; nodes = l.world.nodes.items })
+      (map (λ t. (t.now.items, map (λ p. p.items) t.past.items)) l.world.desks.hooks.tables.items)
+      l.world.desks.hooks.offered.items
+      (g.W.Write.contents (inner_of l.fn.writer)) (g.W.Write.contents (inner_of l.writer)));
   failures : failures_of l.fn.writer ≤ failures_of l.writer;
   len : into_iter_len l.step-iterator ≡ length (into_iter_items l.step-iterator);
 }

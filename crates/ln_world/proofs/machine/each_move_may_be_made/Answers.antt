@@ -3,13 +3,13 @@ use Rattle.ln_log.specs.Machine.{IsRun}
 use Rattle.ln_channels.specs.World as channels
 use Rattle.ln_channels.specs.Machine.{machine_of, history}
 use Rattle.ln_channels.proofs.Told.{may_be_made}
-use Rattle.ln_world.specs.World.{plains}
-use Rattle.ln_world.proofs.Plains.{ran}
+use Rattle.ln_world.specs.Promises.{channel_steps}
+use Rattle.ln_world.proofs.Plains.{ran_channels}
 use Rattle.ln_world.proofs.machine.each_move_may_be_made.Goals as goal
 
 pub returns : goal.returns
 returns g c =
     λ steps hooks number fit. subst (λ (w : channels.World _). IsRun
-    (history g.K.ChannelKeys number (plains g.K.ChannelKeys steps) channels.empty) None
-    (machine_of (channels.channel number w.channels))) (sym (ran g.K.ChannelKeys hooks steps))
-    (may_be_made g.K.ChannelKeys (plains g.K.ChannelKeys steps) number fit)
+    (history g.K.ChannelKeys number (channel_steps g.K.ChannelKeys hooks steps) channels.empty) None
+    (machine_of (channels.channel number w.channels))) (sym (ran_channels g.K.ChannelKeys hooks steps))
+    (may_be_made g.K.ChannelKeys (channel_steps g.K.ChannelKeys hooks steps) number fit)

@@ -9,7 +9,8 @@ abbrev pub invariant-loop-step : goal.invariant-loop-step
 invariant-loop-step g l =
     ((done : List (Step g.row.K.Denot g.K.ChannelKeys))
     × ((done ++ into_iter_items l.step-iterator ≡ into_iter_items l.initial.step-iterator)
-    × Ran g.K.ChannelKeys g.H.Serve.calls l.fn.hooks.items done l.world.state
-    (map (λ t. (t.now.items, map (λ p. p.items) t.past.items)) l.world.hooks.tables.items)
-    l.world.hooks.offered.items l.fn.lines.items l.lines.items))
+    × Ran g.K.ChannelKeys g.H.Serve.calls l.fn.hooks.items done
+    (record { desks = l.world.desks.state; nodes = l.world.nodes.items })
+    (map (λ t. (t.now.items, map (λ p. p.items) t.past.items)) l.world.desks.hooks.tables.items)
+    l.world.desks.hooks.offered.items l.fn.lines.items l.lines.items))
     × (into_iter_len l.step-iterator ≡ length (into_iter_items l.step-iterator))

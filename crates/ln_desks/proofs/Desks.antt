@@ -1,0 +1,400 @@
+-- Every list of steps keeps what is promised of the calls of hooks.
+use Rattle.std.proofs.Common.{◌≡◌, ℕ, zero, suc, ◌+◌, ◌-◌, ◌≤◌, List, [], ◌∷◌, ◌++◌, length, drop, refl, sym, ap, ◌∙◌}
+use Rattle.std.proofs.Common.{subst, arith, Bool, true, false, cond, Option, Some, None, option_map, max, append_assoc}
+use Rattle.std.proofs.Common.{append-nil}
+use Rattle.std.specs.List.{cons_option}
+use Rattle.std.proofs.Math.Seq.{drop-append_seam, drop-nil}
+use Rattle.std.proofs.lemmas.List.{drop-append-le, length-append}
+use Rattle.ln_keys.specs.declared.keys.ChannelKeys.{Ghosts}
+use Rattle.ln_keys.specs.declared.role.Role.{Role}
+use Rattle.ln_keys.specs.declared.role.Role.TheVariants.{Funder, Fundee}
+use Rattle.ln_hooks.specs.declared.event.ChannelEvent.{ChannelEvent}
+use Rattle.ln_hooks.specs.declared.verdict.Verdict.{Verdict}
+use Rattle.ln_channels.specs.declared.step.End.{End}
+use Rattle.ln_channels.specs.declared.step.Node.{Node}
+use Rattle.ln_channels.specs.declared.step.Step.{Step as ChannelStep}
+use Rattle.ln_channels.specs.Channel.{is_node, end_at}
+use Rattle.ln_channels.specs.Promises.{Each}
+use Rattle.ln_channels.specs.Promises as promise
+use Rattle.ln_channels.specs.Machine.{AreInStep}
+use Rattle.ln_channels.specs.World.{World as Channels, channel, may_open}
+use Rattle.ln_channels.specs.World as channels
+use Rattle.ln_channels.proofs.Told.{in_step_so, moves_last}
+use Rattle.ln_desks.specs.declared.step.Step.{Step}
+use Rattle.ln_desks.specs.declared.step.Step.TheVariants as step
+use Rattle.ln_desks.specs.declared.seat.Seat.{Seat}
+use Rattle.ln_desks.specs.Desk.{Life, Desk, Begins, next, fresh, with_one, with_seat, serving}
+use Rattle.ln_desks.specs.Desk.{registered}
+use Rattle.ln_desks.specs.Desk.{restarted, is_at, desk_at, at_desk, SeatFollows, LifeFollows, DeskFollows}
+use Rattle.ln_desks.specs.World.{World, empty, plain, plains, moved_by, item, event_for, numbered_for, next_event}
+use Rattle.ln_desks.specs.World.{decided_for, new_desks, all_restart, may_act, may_register, served_at}
+use Rattle.ln_desks.specs.World.{desks_by, happens, run}
+use Rattle.ln_desks.specs.Promises.{BringFit, Follows, CallsFollow, SeatStands, LifeStands, DeskStands, DesksStand}
+use Rattle.ln_desks.proofs.Pairs.{Between, Aligned, with_opened, channels_move, step_aligned, none_aligned}
+use Rattle.ln_desks.proofs.Pairs.{all_aligned, decided_between}
+use Rattle.ln_desks.proofs.Events.{item_below, item_at, event_read, events_behind, events_more, run_append}
+
+-- ---- lists
+
+longer : {A : Type 0} (p q r : List A) → Begins p q → Begins q r → Begins p r
+longer p q r b c = (b.0 ++ c.0, sym (append_assoc p b.0 c.0) ∙ ap (λ l. l ++ c.0) b.1 ∙ c.1)
+
+drop_twice : {A : Type 0} (m n : ℕ) (xs : List A) → drop n (drop m xs) ≡ drop (m + n) xs
+drop_twice zero n xs = ap (λ k. drop k xs) (let e : n ≡ 0 + n = omega arith in e)
+drop_twice (suc m) n [] = drop-nil n ∙ sym (drop-nil (suc m + n))
+drop_twice (suc m) n (x ∷ xs) =
+    drop_twice m n xs ∙ ap (λ k. drop k (x ∷ xs)) (let e : suc (m + n) ≡ suc m + n = omega arith in e)
+
+pub each-to : {A : Type 0} (P Q : A → Type 0) (f : (x : A) → P x → Q x) (xs : List A) → Each P xs → Each Q xs
+each-to P Q f [] h = tt
+each-to P Q f (x ∷ xs) h = (f x h.0, each-to P Q f xs h.1)
+
+pub each-push : {A : Type 0} (P : A → Type 0) (xs : List A) (x : A) → Each P xs → P x → Each P (xs ++ x ∷ [])
+each-push P [] x h p = (p, tt)
+each-push P (y ∷ ys) x h p = (h.0, each-push P ys x h.1 p)
+
+each-append : {A : Type 0} (P : A → Type 0) (xs ys : List A) → Each P xs → Each P ys → Each P (xs ++ ys)
+each-append P [] ys h k = k
+each-append P (x ∷ xs) ys h k = (h.0, each-append P xs ys h.1 k)
+
+-- ---- what is kept of a desk whose end has these events
+
+record Stands (events : List ChannelEvent) (d : Desk) : Type 0 where
+  reached : next d.life ≤ d.reach
+  told : d.reach ≤ length events
+  life : LifeStands events d.reach d.life
+  past : Each (LifeStands events d.reach) d.past
+
+serves_more : (events more : List ChannelEvent) (reach : ℕ) → reach ≤ length events → Begins events more → (l : Life)
+    → LifeStands events reach l → LifeStands more reach l
+serves_more events more reach below b l h = record {
+  dispatched_below = h.dispatched_below;
+  follows = longer l.served (drop l.start events) (drop l.start more) h.follows (
+    b.0,
+    sym (drop-append-le l.start events b.0 (let s = h.dispatched_below in omega (arith, s, below)))
+        ∙ ap (drop l.start) b.1,
+  );
+  as_many = h.as_many;
+  seats = h.seats;
+}
+
+serves_on : (events : List ChannelEvent) (reach more : ℕ) → reach ≤ more → (l : Life) → LifeStands events reach l
+    → LifeStands events more l
+serves_on events reach more le l h = record {
+  dispatched_below = let s = h.dispatched_below in omega (arith, s, le);
+  follows = h.follows;
+  as_many = h.as_many;
+  seats = h.seats;
+}
+
+grown : (events more : List ChannelEvent) (d : Desk) → Begins events more → Stands events d → Stands more d
+grown events more d b h =
+    let long : length (events ++ b.0) ≡ length more = ap length b.1 in
+    let parts = length-append events b.0 in
+    let told = h.told in
+    record {
+      reached = h.reached;
+      told = omega (arith, told, long, parts);
+      life = serves_more events more d.reach h.told b d.life h.life;
+      past = each-to (LifeStands events d.reach) (LifeStands more d.reach) (serves_more events more d.reach h.told b)
+          d.past h.past;
+    }
+
+-- ---- moves of a desk
+
+fresh_so : (events : List ChannelEvent) (e : End) (side : Role) → Stands events (fresh e side)
+fresh_so events e side = record {
+  reached = omega arith;
+  told = omega arith;
+  life = record { dispatched_below = omega arith; follows = (events, refl); as_many = refl; seats = tt };
+  past = tt;
+}
+
+one_more : (events : List ChannelEvent) (start : ℕ) (served : List ChannelEvent) (e : ChannelEvent)
+    → Begins served (drop start events) → item (start + length served) events ≡ Some e
+    → Begins (served ++ e ∷ []) (drop start events)
+one_more events start served e b is =
+    let n = start + length served in
+    let rest : b.0 ≡ e ∷ drop (suc n) events =
+    sym (drop-append_seam served b.0) ∙ ap (drop (length served)) b.1 ∙ drop_twice start (length served) events
+    ∙ item_at n events e is in (
+      drop (suc n) events,
+      append_assoc served (e ∷ []) (drop (suc n) events) ∙ ap (λ r. served ++ r) (sym rest) ∙ b.1,
+    )
+
+served_so : (events : List ChannelEvent) (d : Desk) (e : ChannelEvent) (v : Verdict)
+    → item (next d.life) events ≡ Some e → Stands events d → Stands events (serving e v d)
+served_so events d e v is h =
+    let l = d.life in
+    let more = max d.reach (next l + 1) in
+    let long : length (l.served ++ e ∷ []) ≡ length l.served + 1 = length-append l.served (e ∷ []) in
+    let below = item_below (next l) events e is in
+    let told = h.told in
+    let start = h.life.dispatched_below in
+    record {
+      reached = omega (arith, long);
+      told = omega (arith, told, below);
+      life = record {
+        dispatched_below = omega (arith, start);
+        follows = one_more events l.start l.served e h.life.follows is;
+        as_many = length-append l.said (v ∷ []) ∙ ap (λ n. n + 1) h.life.as_many ∙ sym long;
+        seats = each-to (SeatStands l) (SeatStands (with_one e v l)) (λ s k. record {
+          after_start = k.after_start;
+          before_next = let b = k.before_next in omega (arith, b, long);
+        }) l.seats h.life.seats;
+      };
+      past = each-to (LifeStands events d.reach) (LifeStands events more)
+          (serves_on events d.reach more (omega arith)) d.past h.past;
+    }
+
+registered_so : (events : List ChannelEvent) (hook : ℕ) (d : Desk) → Stands events d
+    → Stands events (registered hook d)
+registered_so events hook d h = record {
+  reached = h.reached;
+  told = h.told;
+  life = record {
+    dispatched_below = h.life.dispatched_below;
+    follows = h.life.follows;
+    as_many = h.life.as_many;
+    seats = each-push (SeatStands (with_seat hook d.life)) d.life.seats (record { hook = hook; place = next d.life })
+        (each-to (SeatStands d.life) (SeatStands (with_seat hook d.life))
+        (λ s k. record { after_start = k.after_start; before_next = k.before_next }) d.life.seats h.life.seats)
+        (record { after_start = omega arith; before_next = omega arith });
+  };
+  past = h.past;
+}
+
+restarted_so : (events : List ChannelEvent) (decided : ℕ) (d : Desk) → decided ≤ next d.life → Stands events d
+    → Stands events (restarted decided d)
+restarted_so events decided d le h =
+    let reached = h.reached in
+    record {
+      reached = omega (arith, reached, le);
+      told = h.told;
+      life = record {
+        dispatched_below = omega (arith, reached, le);
+        follows = (drop decided events, refl);
+        as_many = refl;
+        seats = tt;
+      };
+      past = each-push (LifeStands events d.reach) d.past d.life h.past h.life;
+    }
+
+-- ---- what it implies
+
+seat_so : (events : List ChannelEvent) (l : Life) → Begins l.served (drop l.start events) → (s : Seat) → SeatStands l s
+    → SeatFollows events l s
+seat_so events l b s k =
+    let from = s.place - l.start in
+    let start = k.after_start in
+    let before = k.before_next in
+    let short : from ≤ length l.served = omega (arith, start, before) in
+    let back : l.start + from ≡ s.place = omega (arith, start) in
+    record {
+      after_start = k.after_start;
+      begins = (
+        b.0,
+        sym (drop-append-le from l.served b.0 short) ∙ ap (drop from) b.1 ∙ drop_twice l.start from events
+            ∙ ap (λ n. drop n events) back,
+      );
+    }
+
+life_so : (events : List ChannelEvent) (reach : ℕ) (l : Life) → LifeStands events reach l → LifeFollows events reach l
+life_so events reach l h = record {
+  dispatched_below = h.dispatched_below;
+  seats = each-to (SeatStands l) (SeatFollows events l) (seat_so events l h.follows) l.seats h.seats;
+}
+
+desk_so : (events : List ChannelEvent) (d : Desk) → Stands events d → DeskFollows events d
+desk_so events d h = record {
+  reach_told = h.told;
+  life = life_so events d.reach d.life h.life;
+  past = each-to (LifeStands events d.reach) (LifeFollows events d.reach) (life_so events d.reach) d.past h.past;
+}
+
+-- ---- the desks of a world
+
+module _ {K : Type 0} (k : Ghosts K) where
+  -- where these steps of channels were taken
+  abbrev AtDesk : List (ChannelStep K k) → Desk → Type 0
+  AtDesk done d = Stands (events_behind k d.end.channel d.side done) d
+
+  abbrev AllStand : List (ChannelStep K k) → List Desk → Type 0
+  AllStand done ds = Each (AtDesk done) ds
+
+  all_grown : (done more : List (ChannelStep K k)) (ds : List Desk) → AllStand done ds → AllStand (done ++ more) ds
+  all_grown done more ds h =
+      each-to (AtDesk done) (AtDesk (done ++ more)) (λ d s. grown (events_behind k d.end.channel d.side done)
+      (events_behind k d.end.channel d.side (done ++ more)) d (events_more k d.end.channel d.side done more) s) ds h
+
+  at_by : (b : Bool) (done : List (ChannelStep K k)) (e : End) (f : Desk → Desk) (d : Desk) (ds : List Desk)
+      → ((x : Desk) → cond b (Some d) (desk_at e ds) ≡ Some x → AtDesk done x → AtDesk done (f x))
+      → AllStand done (d ∷ ds)
+      → (((x : Desk) → desk_at e ds ≡ Some x → AtDesk done x → AtDesk done (f x)) → AllStand done (at_desk e f ds))
+      → AllStand done (cond b (f d ∷ ds) (d ∷ at_desk e f ds))
+  at_by true done e f d ds h k rest = (h d refl k.0, k.1)
+  at_by false done e f d ds h k rest = (k.0, rest h)
+
+  -- the desk of an end moves
+  at_so : (done : List (ChannelStep K k)) (e : End) (f : Desk → Desk) (ds : List Desk)
+      → ((d : Desk) → desk_at e ds ≡ Some d → AtDesk done d → AtDesk done (f d)) → AllStand done ds
+      → AllStand done (at_desk e f ds)
+  at_so done e f [] h k = tt
+  at_so done e f (d ∷ ds) h k =
+      at_by (is_at e d) done e f d ds h k (λ g. at_so done e f ds g k.1)
+
+  numbered_event : (o : Option ChannelEvent) (n : ℕ) (p : ℕ × ChannelEvent)
+      → option_map (λ event. (n, event)) o ≡ Some p → o ≡ Some p.1
+  numbered_event None n p is = absurd (cc)
+  numbered_event (Some e) n p is =
+      let same : ◌≡◌ {A = ℕ × ChannelEvent} (n, e) p = cc in ap (λ (q : ℕ × ChannelEvent). Some q.1) same
+
+  dispatched_by : (done : List (ChannelStep K k)) (e : End) (v : Verdict) (w : Channels K)
+      → promise.BringFit k done → w ≡ channels.run k done channels.empty → (ds : List Desk)
+      → (o : Option (ℕ × ChannelEvent)) → numbered_for (desk_at e ds) w ≡ o → AllStand done ds
+      → AllStand done (served_at e v o ds)
+  dispatched_by done e v w fit is ds None next_is h = h
+  dispatched_by done e v w fit is ds (Some p) next_is h =
+      at_so done e (serving p.1 v) ds (λ d found s.
+      served_so (events_behind k d.end.channel d.side done) d p.1 v
+      (event_read (next d.life) d.side (channel d.end.channel w.channels)
+      (events_behind k d.end.channel d.side done) p.1
+      (subst (λ (x : Channels K). AreInStep d.side (events_behind k d.end.channel d.side done)
+      (channel d.end.channel x.channels)) (sym is) (in_step_so k done d.end.channel d.side fit))
+      (numbered_event (event_for d w) (next d.life) p (ap (λ o. numbered_for o w) (sym found) ∙ next_is))) s) h
+
+  restart_one : (done : List (ChannelStep K k)) (w : Channels K) (b : Bool) (d : Desk)
+      → decided_for d w ≤ next d.life → AtDesk done d → AtDesk done (cond b (restarted (decided_for d w) d) d)
+  restart_one done w true d le h =
+      restarted_so (events_behind k d.end.channel d.side done) (decided_for d w) d le h
+  restart_one done w false d le h = h
+
+  restarts_each : (done : List (ChannelStep K k)) (n : Node) (w : Channels K) (ds : List Desk)
+      → Each (λ d. Between d (decided_for d w)) ds → AllStand done ds → AllStand done (all_restart n w ds)
+  restarts_each done n w [] b h = tt
+  restarts_each done n w (d ∷ ds) b h =
+      (restart_one done w (is_node d.end.node n) d b.0.1 h.0, restarts_each done n w ds b.1 h.1)
+
+  restarts_so : (done : List (ChannelStep K k)) (n : Node) (w : Channels K) (ds : List Desk)
+      → Aligned w.channels ds → AllStand done ds → AllStand done (all_restart n w ds)
+  restarts_so done n w ds a h = restarts_each done n w ds (decided_between w ds a) h
+
+  restarts_by : (b : Bool) (done : List (ChannelStep K k)) (n : Node) (w : Channels K) (ds : List Desk)
+      → Aligned w.channels ds → AllStand done ds → AllStand done (cond b (all_restart n w ds) ds)
+  restarts_by true done n w ds a h = restarts_so done n w ds a h
+  restarts_by false done n w ds a h = h
+
+  opens_by : (b : Bool) (done : List (ChannelStep K k)) (c : ℕ) (x y : Node) (ds : List Desk) → AllStand done ds
+      → AllStand done (cond b (ds ++ new_desks c x y) ds)
+  opens_by true done c x y ds h =
+      each-append (AtDesk done) ds (new_desks c x y) h (
+        fresh_so (events_behind k c Funder done) (end_at c x) Funder,
+        (fresh_so (events_behind k c Fundee done) (end_at c y) Fundee, tt),
+      )
+  opens_by false done c x y ds h = h
+
+  registers_by : (b : Bool) (done : List (ChannelStep K k)) (e : End) (hook : ℕ) (ds : List Desk) → AllStand done ds
+      → AllStand done (cond b (at_desk e (registered hook) ds) ds)
+  registers_by true done e hook ds h =
+      at_so done e (registered hook) ds
+      (λ d found s. registered_so (events_behind k d.end.channel d.side done) hook d s) h
+  registers_by false done e hook ds h = h
+
+  -- the desks behind a step, by the events before it
+  step_so : (done : List (ChannelStep K k)) (v : Verdict) (s : Step K k) (w : World K) (new : Channels K)
+      → promise.BringFit k done → w.channels ≡ channels.run k done channels.empty
+      → Aligned new.channels (with_opened k s w) → AllStand done w.desks → AllStand done (desks_by k v s w new)
+  step_so done v (step.Fees n fees) w new fit is none h = h
+  step_so done v (step.Limits n limits) w new fit is none h = h
+  step_so done v (step.Open o) w new fit is none h =
+      opens_by (may_open o w.channels) done o.channel o.funder o.fundee w.desks h
+  step_so done v (step.Do e a) w new fit is none h = h
+  step_so done v (step.Down e) w new fit is none h = h
+  step_so done v (step.NoMemory e a) w new fit is none h = h
+  step_so done v (step.Restart n) w new fit is none h = restarts_so done n new w.desks none h
+  step_so done v (step.StopBefore e a) w new fit is none h =
+      restarts_by (may_act e a w) done e.node new w.desks none h
+  step_so done v (step.StopAfter e a) w new fit is none h =
+      restarts_by (may_act e a w) done e.node new w.desks none h
+  step_so done v (step.Up n) w new fit is none h = h
+  step_so done v (step.Dispatch e) w new fit is none h =
+      dispatched_by done e v w.channels fit is w.desks (next_event e w) refl h
+  step_so done v (step.Register e hook) w new fit is none h =
+      registers_by (may_register e hook w) done e hook w.desks h
+
+  -- ---- over a list of steps
+
+  abbrev one : Option (ChannelStep K k) → List (ChannelStep K k)
+  one o = cons_option o []
+
+  moved_so : (o : Option (ChannelStep K k)) (done : List (ChannelStep K k)) (w : Channels K)
+      → w ≡ channels.run k done channels.empty
+      → moved_by k o w ≡ channels.run k (done ++ one o) channels.empty
+  moved_so None done w is = is ∙ ap (λ ss. channels.run k ss channels.empty) (sym (append-nil done))
+  moved_so (Some s) done w is =
+      ap (channels.happens k s) is ∙ sym (run_append k done (s ∷ []) channels.empty)
+
+  fits : (o : Option (ChannelStep K k)) (done rest : List (ChannelStep K k))
+      → promise.BringFit k (done ++ cons_option o rest) → promise.BringFit k ((done ++ one o) ++ rest)
+  fits None done rest f = subst (λ ss. promise.BringFit k (ss ++ rest)) (sym (append-nil done)) f
+  fits (Some s) done rest f = subst (promise.BringFit k) (sym (append_assoc done (s ∷ []) rest)) f
+
+  front : (done rest : List (ChannelStep K k)) → promise.BringFit k (done ++ rest) → promise.BringFit k done
+  front [] rest f = tt
+  front (s ∷ done) rest f = (f.0, front done rest f.1)
+
+  stood : (ss : List (Step K k × Verdict)) (done : List (ChannelStep K k)) (w : World K)
+      → promise.BringFit k (done ++ plains k ss w) → w.channels ≡ channels.run k done channels.empty
+      → Aligned w.channels.channels w.desks → AllStand done w.desks
+      → AllStand (done ++ plains k ss w) (run k ss w).desks
+  stood [] done w f is a h = subst (λ ss. AllStand ss w.desks) (sym (append-nil done)) h
+  stood (s ∷ ss) done w f is a h =
+      let o = plain k s.0 w in
+      let new = moved_by k o w.channels in
+      let next_w = happens k s.1 s.0 w in
+      let rest = plains k ss next_w in
+      let now = moved_so o done w.channels is in
+      let desks = step_so done s.1 s.0 w new (front done (cons_option o rest) f) is (channels_move k s.0 w a) h in
+      let later = stood ss (done ++ one o) next_w (fits o done rest f) now (step_aligned k s.1 s.0 w a)
+      (all_grown done (one o) (desks_by k s.1 s.0 w new) desks) in
+      subst (λ ts. AllStand ts (run k (s ∷ ss) w).desks) (same o rest) later
+    where
+      same : (o : Option (ChannelStep K k)) (rest : List (ChannelStep K k))
+          → (done ++ one o) ++ rest ≡ done ++ cons_option o rest
+      same None rest = ap (λ ts. ts ++ rest) (append-nil done)
+      same (Some t) rest = append_assoc done (t ∷ []) rest
+
+  all_stand : (ss : List (Step K k × Verdict)) (n : ℕ) → BringFit k n ss
+      → AllStand (plains k ss (empty n)) (run k ss (empty n)).desks
+  all_stand ss n f = stood ss [] (empty n) f refl (none_aligned k) tt
+
+  pub calls_follow : (ss : List (Step K k × Verdict)) (n : ℕ) → BringFit k n ss → CallsFollow k n ss
+  calls_follow ss n f =
+      let done = plains k ss (empty n) in
+      each-to (AtDesk done) (λ d. Follows (events_behind k d.end.channel d.side done) d)
+      (λ d h. (moves_last k done d.end.channel d.side f, desk_so (events_behind k d.end.channel d.side done) d h))
+      (run k ss (empty n)).desks (all_stand ss n f)
+
+  -- ---- what is decided
+
+  with_decided : (done : List (ChannelStep K k)) (w : Channels K) (ds : List Desk)
+      → Each (λ d. Between d (decided_for d w)) ds → AllStand done ds
+      → Each (λ d. DeskStands (events_behind k d.end.channel d.side done) (decided_for d w) d) ds
+  with_decided done w [] b h = tt
+  with_decided done w (d ∷ ds) b h = (
+    record {
+      since_start = b.0.0;
+      dispatched = b.0.1;
+      reached = h.0.reached;
+      told = h.0.told;
+      life = h.0.life;
+      past = h.0.past;
+    },
+    with_decided done w ds b.1 h.1,
+  )
+
+  pub desks_stand : (ss : List (Step K k × Verdict)) (n : ℕ) → BringFit k n ss → DesksStand k n ss
+  desks_stand ss n f =
+      let w = run k ss (empty n) in
+      with_decided (plains k ss (empty n)) w.channels w.desks
+      (decided_between w.channels w.desks (all_aligned k n ss)) (all_stand ss n f)

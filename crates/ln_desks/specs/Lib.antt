@@ -1,0 +1,5 @@
+pub mod Desk
+pub mod World
+pub mod Promises
+pub mod Seated
+pub mod Hooked

@@ -1,0 +1,75 @@
+-- What is promised of nodes over every list of steps, each with what the hooks say in it: of their channels what
+-- ln_channels promises, by the steps of channels that they are, and of the calls of hooks that they follow the events.
+use Rattle.std.specs.Prelude.{◌≡◌, ◌≤◌, ℕ, List, None, length, drop}
+use Rattle.ln_keys.specs.declared.keys.ChannelKeys.{Ghosts}
+use Rattle.ln_keys.specs.declared.role.Role.{Role}
+use Rattle.ln_log.specs.Events.{events}
+use Rattle.ln_hooks.specs.declared.event.ChannelEvent.{ChannelEvent}
+use Rattle.ln_hooks.specs.declared.verdict.Verdict.{Verdict}
+use Rattle.ln_pair.specs.Told.{as_told, ClosesLast}
+use Rattle.ln_channels.specs.Both.{Both}
+use Rattle.ln_channels.specs.Promises.{Each}
+use Rattle.ln_channels.specs.Promises as promise
+use Rattle.ln_channels.specs.Records as record_of
+use Rattle.ln_channels.specs.Machine.{history}
+use Rattle.ln_channels.specs.World as channels
+use Rattle.ln_desks.specs.declared.step.Step.{Step}
+use Rattle.ln_desks.specs.declared.seat.Seat.{Seat}
+use Rattle.ln_desks.specs.Desk.{Life, Desk, DeskFollows, Begins, next}
+use Rattle.ln_desks.specs.World.{World, empty, run, plains, decided_for}
+
+-- ---- what the steps bring is as it is in code; so many hooks were handed in
+
+abbrev pub BringFit : {K : Type 0} → (k : Ghosts K) → ℕ → List (Step K k × Verdict) → Type 0
+BringFit k hooks ss = promise.BringFit k (plains k ss (empty hooks))
+
+abbrev pub AreSteps : {K : Type 0} → (k : Ghosts K) → ℕ → List (Step K k × Verdict) → Type 0
+AreSteps k hooks ss = record_of.AreSteps k (plains k ss (empty hooks))
+
+-- ---- each channel
+
+abbrev pub OfEach : {K : Type 0} → (Both K → Type 0) → World K → Type 0
+OfEach P w = promise.OfEach P w.channels
+
+-- ---- the calls of hooks
+
+-- the committed events of the end of this side of the channel with this number: those of the machine's moves
+abbrev pub events_of : {K : Type 0} → (k : Ghosts K) → ℕ → ℕ → Role → List (Step K k × Verdict) → List ChannelEvent
+events_of k hooks n side ss = as_told (events side (history k n (plains k ss (empty hooks)) channels.empty) None)
+
+-- nothing stands behind the close among an end's events, and each hook's calls are, each once and in order, a beginning
+-- of these from its place on; every event below a life's start was dispatched
+abbrev pub Follows : List ChannelEvent → Desk → Type 0
+Follows events d = ClosesLast events × DeskFollows events d
+
+abbrev pub CallsFollow : {K : Type 0} → (k : Ghosts K) → ℕ → List (Step K k × Verdict) → Type 0
+CallsFollow k hooks ss =
+    Each (λ d. Follows (events_of k hooks d.end.channel d.side ss) d) (run k ss (empty hooks)).desks
+
+-- ---- what is decided was dispatched
+
+-- the events served in a life are, each once and in order, those from its start on; each of its hooks has its seat from
+-- one of these, or the next, on
+pub record SeatStands (l : Life) (s : Seat) : Type 0 where
+  pub after_start : l.start ≤ s.place
+  pub before_next : s.place ≤ next l
+
+pub record LifeStands (events : List ChannelEvent) (reach : ℕ) (l : Life) : Type 0 where
+  pub dispatched_below : l.start ≤ reach
+  pub follows : Begins l.served (drop l.start events)
+  pub as_many : length l.said ≡ length l.served
+  pub seats : Each (SeatStands l) l.seats
+
+-- whose end has decided so many: what was decided as the life began, and no event that the life hasn't dispatched
+pub record DeskStands (events : List ChannelEvent) (decided : ℕ) (d : Desk) : Type 0 where
+  pub since_start : d.life.start ≤ decided
+  pub dispatched : decided ≤ next d.life
+  pub reached : next d.life ≤ d.reach
+  pub told : d.reach ≤ length events
+  pub life : LifeStands events d.reach d.life
+  pub past : Each (LifeStands events d.reach) d.past
+
+abbrev pub DesksStand : {K : Type 0} → (k : Ghosts K) → ℕ → List (Step K k × Verdict) → Type 0
+DesksStand k hooks ss =
+    let w = run k ss (empty hooks) in
+    Each (λ d. DeskStands (events_of k hooks d.end.channel d.side ss) (decided_for d w.channels) d) w.desks

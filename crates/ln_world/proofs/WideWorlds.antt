@@ -1,0 +1,574 @@
+-- What a world has is as wide as in code over every list of steps that bring what is, and so is each command that a
+-- book gives a channel.
+use Rattle.std.proofs.Common.{◌≡◌, ◌-◌, ℕ, List, [], ◌∷◌, ◌++◌, length, take, map, replicate, refl, sym}
+use Rattle.std.proofs.Common.{subst, arith, length-append, Bool, not, ◌&&◌, nat_le}
+use Rattle.std.proofs.Common.{Option, Some, None, is_some, option_map, Result, Err}
+use Rattle.std.proofs.Common.{◌/◌, ◌%◌, slice_index}
+use Rattle.std.specs.Prelude.{bit_xor}
+use Rattle.std.proofs.lemmas.List.{length-replicate, length-take-le}
+use Rattle.std.specs.List.{cons_option}
+use Rattle.ln_keys.specs.declared.keys.ChannelKeys.{Ghosts}
+use Rattle.ln_keys.specs.declared.role.Role.{Role}
+use Rattle.ln_hooks.specs.declared.event.ChannelEvent.{ChannelEvent}
+use Rattle.ln_hooks.specs.declared.verdict.Verdict.{Verdict}
+use Rattle.ln_channel.specs.declared.command.Command.{Command}
+use Rattle.ln_channel.specs.End.{End as ChannelEnd}
+use Rattle.ln_channel.specs.Record.{saved_end}
+use Rattle.ln_channel.specs.State.{State}
+use Rattle.ln_channel.specs.Step.{is_of_records}
+use Rattle.ln_tables.specs.declared.entry.Out.{Out}
+use Rattle.ln_tables.specs.declared.entry.Desk.{Desk as OutDesk}
+use Rattle.ln_tables.specs.declared.entry.Desk.TheVariants as out_desk
+use Rattle.ln_tables.specs.declared.entry.Entry.{Entry}
+use Rattle.ln_tables.specs.declared.entry.Entry.TheVariants as entry
+use Rattle.ln_tables.specs.History.{with_entry}
+use Rattle.ln_tables.specs.Replay.{table_of, desk_at as out_desk_at}
+use Rattle.ln_pair.specs.Widths.{IsCommand}
+use Rattle.ln_pair.proofs.All.{All, all-append, all-when}
+use Rattle.ln_pair.proofs.Lasting.{Where}
+use Rattle.ln_book.specs.Commands.{with_taken, with_answered}
+use Rattle.ln_book.specs.Marks.{offer_of}
+use Rattle.ln_channels.specs.declared.line.Line.{Line}
+use Rattle.ln_channels.specs.declared.step.Act.{Act as ChannelAct}
+use Rattle.ln_channels.specs.declared.step.Act.TheVariants as channel_act
+use Rattle.ln_channels.specs.declared.step.Node.{Node}
+use Rattle.ln_channels.specs.declared.step.End.{End}
+use Rattle.ln_channels.specs.declared.step.Step.{Step as ChannelStep}
+use Rattle.ln_channels.specs.declared.step.Step.TheVariants as channel_step
+use Rattle.ln_channels.specs.Settings.{channel_id_of, txid_of}
+use Rattle.ln_channels.specs.Channel.{Channel, is_node, side_of}
+use Rattle.ln_channels.specs.World.{World as Channels, channel, may_open}
+use Rattle.ln_channels.specs.World as channels
+use Rattle.ln_channels.specs.Promises.{Each, BringsFit}
+use Rattle.ln_channels.specs.Records as record_of
+use Rattle.ln_desks.specs.declared.step.Step.{Step as DeskStep}
+use Rattle.ln_desks.specs.declared.step.Step.TheVariants as desk_step
+use Rattle.ln_desks.specs.Desk.{Life, Desk, next, serving, registered, desk_at, at_desk, is_at}
+use Rattle.ln_desks.specs.Desk.{restarted as desk_restarted}
+use Rattle.ln_desks.specs.World.{World as Desks, item, is_dispatched, may_act, where_dispatched, undecided, saved_in}
+use Rattle.ln_desks.specs.World.{undecided_of, event_for, numbered_for, next_event, both_of, served_in, waiting_of}
+use Rattle.ln_desks.specs.World.{waiting_for, waiting, new_desks, restarts, may_register, served_at, desks_by}
+use Rattle.ln_desks.specs.World as desks
+use Rattle.ln_world.specs.declared.step.Act.{Act}
+use Rattle.ln_world.specs.declared.step.Act.TheVariants as act
+use Rattle.ln_world.specs.declared.step.Step.{Step}
+use Rattle.ln_world.specs.declared.step.Step.TheVariants as step
+use Rattle.ln_world.specs.declared.errand.Asked.{Asked}
+use Rattle.ln_world.specs.declared.errand.Errand.{Errand}
+use Rattle.ln_world.specs.declared.errand.Errand.TheVariants as errand
+use Rattle.ln_world.specs.declared.node.NodeBook.{NodeBook}
+use Rattle.ln_world.specs.Node.{Book, services, new_node, node_at, changed, with_policy, with_book}
+use Rattle.ln_world.specs.Told.{answer_by}
+use Rattle.ln_world.specs.Follow.{followed, begun_anew}
+use Rattle.ln_world.specs.World.{World, id_of, link_by, link_there, link_at, saved_of, end_at, book_of, first_in}
+use Rattle.ln_world.specs.World.{command_in, handed, with_decision, deciding, asked, command_by, command_of}
+use Rattle.ln_world.specs.World.{handed_out, own_act, sent_or, call_of, unbegun, asked_unbegun, plain}
+use Rattle.ln_world.specs.World.{moved_by, lines_by, entered, with_height, is_height, prepared, errand_of, follows}
+use Rattle.ln_world.specs.World.{answered, heard, unanswered, told_of, saved_dropped, dropped, fallen, met}
+use Rattle.ln_world.specs.World.{concluded, happens, with_verdict, plains}
+use Rattle.ln_world.specs.Records.{IsAct, IsStep, AreWorldSteps}
+use Rattle.ln_world.proofs.WideTables.{IsEntry, either, where-either, first_so}
+use Rattle.ln_world.proofs.WideMarks.{IsEvent, nexts_so, failure_short, offer_so, decision_so}
+use Rattle.ln_world.proofs.WideReadings.{IsEnd, all-item, undecided_so, IsBook, entered_so, held_so}
+use Rattle.ln_world.proofs.WideReadings.{IsState, AreEnds, at_side, channel_so, followed_so, begun_so}
+
+-- ---- nodes and their books
+
+abbrev pub IsNode : NodeBook → Type 0
+IsNode x = IsBook x.book
+
+new_so : (n : Node) → IsNode (new_node n)
+new_so n = record { routes = tt; expected = tt; queue = tt; htlcs = tt }
+
+node_so : (n : Node) (xs : List NodeBook) → All IsNode xs → IsNode (node_at n xs)
+node_so n [] h = new_so n
+node_so n (x ∷ xs) h = either IsNode (is_node x.node n) x (node_at n xs) h.0 (node_so n xs h.1)
+
+changed_so : (n : Node) (f : NodeBook → NodeBook) → ((x : NodeBook) → IsNode x → IsNode (f x)) → (xs : List NodeBook)
+    → All IsNode xs → All IsNode (changed n f xs)
+changed_so n f keeps [] h = (keeps (new_node n) (new_so n), tt)
+changed_so n f keeps (x ∷ xs) h =
+    all-when IsNode (is_node x.node n) (f x ∷ xs) (x ∷ changed n f xs) (keeps x h.0, h.1)
+    (h.0, changed_so n f keeps xs h.1)
+
+-- something is entered in a node's book
+entering_so : (n : Node) (x : Entry) (xs : List NodeBook) → IsEntry x → All IsNode xs → All IsNode (entered n x xs)
+entering_so n x xs is h =
+    changed_so n (λ b. with_book (with_entry x b.book) b) (λ b g. entered_so x b.book is g) xs h
+
+height_so : (n : Node) (height : ℕ) (xs : List NodeBook) → All IsNode xs → All IsNode (with_height n height xs)
+height_so n height xs h =
+    all-when IsNode (is_height height) (entered n (entry.Height height) xs) xs
+    (entering_so n (entry.Height height) xs tt h) h
+
+-- the id of a channel has 32 bytes
+pub id_so : (n : ℕ) → length (channel_id_of n) ≡ 32
+unfolding channel_id_of
+id_so n =
+    let txid : length (txid_of n) ≡ 32 =
+    omega (arith, length-append (replicate 31 0) (n ∷ []), length-replicate {A = ℕ} 31 0) in
+    let front = length-take-le 30 (txid_of n) (omega (arith, txid)) in
+    let last = bit_xor (slice_index (txid_of n) 30) (0 / 256) ∷ bit_xor (slice_index (txid_of n) 31) (0 % 256) ∷ [] in
+    omega (arith, length-append (take 30 (txid_of n)) last, front)
+
+-- ---- what a book is asked
+
+first_is : (e : End) (b : Book) → IsBook b → Where (λ (x : Out × Command). IsCommand x.1) (first_in e b)
+first_is e b h = first_so services nexts_so (id_of e) (table_of b) h
+
+behind_out : (o : Option (Out × Command)) → Where (λ (x : Out × Command). IsCommand x.1) o
+    → Where IsCommand (option_map (λ (x : Out × Command). x.1) o)
+behind_out None h = tt
+behind_out (Some x) h = h
+
+command_so : (e : End) (b : Book) → IsBook b → Where IsCommand (command_in e b)
+command_so e b h = behind_out (first_in e b) (first_is e b h)
+
+taken_so : (c : List ℕ) (o : Option (Out × Command)) (b : Book) → IsBook b → IsBook (with_taken c o b)
+taken_so c None b h = h
+taken_so c (Some x) b h = entered_so (entry.Taken c x.0) b tt h
+
+handed_so : (e : End) (b : Book) → IsBook b → IsBook (handed e b)
+handed_so e b h = taken_so (id_of e) (first_in e b) b h
+
+abbrev IsWaiting : ℕ × ChannelEvent × Verdict → Type 0
+IsWaiting x = IsEvent x.1
+
+decided_so : (e : End) (x : ℕ × ChannelEvent × Verdict) (b : Book) → IsWaiting x → IsBook b
+    → IsBook (with_decision e x b)
+decided_so e x b is h =
+    entered_so (entry.Decided _) b
+    (decision_so services failure_short (table_of b) (id_of e) x.0 (offer_of x.1) x.2 (id_so e.channel) h
+    (offer_so x.1 is)) h
+
+deciding_so : (e : End) (o : Option (ℕ × ChannelEvent × Verdict)) (b : Book) → Where IsWaiting o → IsBook b
+    → Where IsBook (deciding e o b)
+deciding_so e None b is h = tt
+deciding_so e (Some x) b is h = decided_so e x b is h
+
+by_so : (e : End) (o : Option Book) → Where IsBook o → Where IsCommand (command_by e o)
+by_so e None h = tt
+by_so e (Some b) h = command_so e b h
+
+handed_out_so : (e : End) (o : Option Book) (xs : List NodeBook) → Where IsBook o → All IsNode xs
+    → All IsNode (handed_out e o xs)
+handed_out_so e None xs is h = h
+handed_out_so e (Some b) xs is h = changed_so e.node (with_book (handed e b)) (λ x g. handed_so e b is) xs h
+
+-- ---- what a book hears
+
+with_answered_so : (c : List ℕ) (a : Result ℕ ℕ) (d : OutDesk) (b : Book) → IsBook b → IsBook (with_answered c a d b)
+with_answered_so c a out_desk.Idle b h = h
+with_answered_so c a (out_desk.Out o) b h = entered_so (entry.Answered c a) b tt h
+with_answered_so c a (out_desk.Unsure o) b h = h
+
+unanswered_so : (e : End) (out : Bool) (b : Book) → IsBook b → IsBook (unanswered e out b)
+unanswered_so e out b h =
+    let d = out_desk_at (id_of e) (table_of b) in
+    either IsBook out (with_answered (id_of e) (Err 62) d b) b (with_answered_so (id_of e) (Err 62) d b h) h
+
+saved_dropped_so : (e : End) (o : Option ChannelEnd) (b : Book) → IsBook b → IsBook (saved_dropped e o b)
+saved_dropped_so e None b h = h
+saved_dropped_so e (Some x) b h = entered_so (entry.Dropped (id_of e) (told_of e x b)) b tt h
+
+-- ---- dispatchers
+
+abbrev pub IsServing : Desk → Type 0
+IsServing d = All IsEvent d.life.served
+
+desk_so : (e : End) (ds : List Desk) → All IsServing ds → Where IsServing (desk_at e ds)
+desk_so e [] h = tt
+desk_so e (d ∷ ds) h = where-either IsServing (is_at e d) (Some d) (desk_at e ds) h.0 (desk_so e ds h.1)
+
+abbrev IsServed : ChannelEvent × Verdict → Type 0
+IsServed p = IsEvent p.0
+
+both_so : (x : Option ChannelEvent) (y : Option Verdict) → Where IsEvent x
+    → Where IsServed (both_of x y)
+both_so None None h = tt
+both_so None (Some v) h = tt
+both_so (Some x) None h = tt
+both_so (Some x) (Some v) h = h
+
+served_so : (n : ℕ) (l : Life) → All IsEvent l.served → Where IsServed (served_in n l)
+served_so n l h =
+    let o = both_of (item (n - l.start) l.served) (item (n - l.start) l.said) in
+    where-either IsServed (nat_le l.start n) o None
+    (both_so (item (n - l.start) l.served) (item (n - l.start) l.said) (all-item IsEvent (n - l.start) l.served h)) tt
+
+numbered_so : (n : ℕ) (o : Option (ChannelEvent × Verdict)) → Where IsServed o
+    → Where IsWaiting (option_map (λ (p : ChannelEvent × Verdict). (n, p.0, p.1)) o)
+numbered_so n None h = tt
+numbered_so n (Some p) h = h
+
+waiting_of_so : (l : Life) (o : Option ChannelEnd) → All IsEvent l.served → Where IsWaiting (waiting_of l o)
+waiting_of_so l None h = tt
+waiting_of_so l (Some e) h =
+    let n = e.ledger.decided in numbered_so n (served_in n l) (served_so n l h)
+
+undecided_of_so : (n : ℕ) (o : Option ChannelEnd) → Where IsEnd o → Where IsEvent (undecided_of n o)
+undecided_of_so n None h = tt
+undecided_of_so n (Some e) h = undecided_so n e h
+
+abbrev IsNumbered : ℕ × ChannelEvent → Type 0
+IsNumbered p = IsEvent p.1
+
+with_number : (n : ℕ) (o : Option ChannelEvent) → Where IsEvent o
+    → Where IsNumbered (option_map (λ (x : ChannelEvent). (n, x)) o)
+with_number n None h = tt
+with_number n (Some x) h = h
+
+at_desk_so : (e : End) (f : Desk → Desk) → ((d : Desk) → IsServing d → IsServing (f d)) → (ds : List Desk)
+    → All IsServing ds → All IsServing (at_desk e f ds)
+at_desk_so e f keeps [] h = tt
+at_desk_so e f keeps (d ∷ ds) h =
+    all-when IsServing (is_at e d) (f d ∷ ds) (d ∷ at_desk e f ds) (keeps d h.0, h.1) (h.0, at_desk_so e f keeps ds h.1)
+
+served_at_so : (e : End) (v : Verdict) (o : Option (ℕ × ChannelEvent)) (ds : List Desk) → Where IsNumbered o
+    → All IsServing ds → All IsServing (served_at e v o ds)
+served_at_so e v None ds is h = h
+served_at_so e v (Some p) ds is h =
+    at_desk_so e (serving p.1 v) (λ d g. all-append IsEvent d.life.served (p.1 ∷ []) g (is, tt)) ds h
+
+sent_so : (o : Option Command) (own : Option ChannelAct) → Where IsCommand o → Where record_of.IsAct own
+    → Where record_of.IsAct (sent_or o own)
+sent_so None own h g = g
+sent_so (Some c) own h g = h
+
+module _ {K : Type 0} where
+  -- ---- the ends of channels
+
+  saved_in_so : (side : Role) (o : Option (Channel K)) → Where AreEnds o → Where IsEnd (saved_in side o)
+  saved_in_so side None h = tt
+  saved_in_so side (Some c) h = at_side side c h
+
+  next_for : (o : Option Desk) (w : Channels K) → All AreEnds w.channels → Where IsNumbered (numbered_for o w)
+  next_for None w h = tt
+  next_for (Some d) w h =
+      let c = channel d.end.channel w.channels in
+      with_number (next d.life) (event_for d w) (undecided_of_so (next d.life) (saved_in d.side c)
+      (saved_in_so d.side c (channel_so d.end.channel w.channels h)))
+
+  waits_for : (o : Option Desk) (w : Channels K) → Where IsServing o → Where IsWaiting (waiting_for o w)
+  waits_for None w h = tt
+  waits_for (Some d) w h = waiting_of_so d.life (saved_in d.side (channel d.end.channel w.channels)) h
+
+  link_by_so : (c : Channel K) (o : Option Role) → AreEnds c → Where IsState (link_by c o)
+  link_by_so c None h = tt
+  link_by_so c (Some side) h = at_side side c h
+
+  link_there_so : (n : Node) (o : Option (Channel K)) → Where AreEnds o → Where IsState (link_there n o)
+  link_there_so n None h = tt
+  link_there_so n (Some c) h = link_by_so c (side_of n c) h
+
+  link_so : (e : End) (cs : List (Channel K)) → All AreEnds cs → Where IsState (link_at e cs)
+  link_so e cs h = link_there_so e.node (channel e.channel cs) (channel_so e.channel cs h)
+
+  saved_so : (o : Option (State K)) → Where IsState o → Where IsEnd (saved_of o)
+  saved_so None h = tt
+  saved_so (Some l) h = h
+
+  -- ---- a world
+
+  pub record IsWide (w : World K) : Type 0 where
+    pub channels : All AreEnds w.desks.channels.channels
+    pub served : All IsServing w.desks.desks
+    pub nodes : All IsNode w.nodes
+
+  book_so : (e : End) (w : World K) → IsWide w → IsBook (book_of e w.nodes)
+  book_so e w h = node_so e.node w.nodes h.nodes
+
+  waiting_so : (e : End) (w : World K) → IsWide w → Where IsWaiting (waiting e w.desks)
+  waiting_so e w h = waits_for (desk_at e w.desks.desks) w.desks.channels (desk_so e w.desks.desks h.served)
+
+  asked_so : (e : End) (a : Act) (w : World K) → IsWide w → Where IsBook (asked e a w)
+  asked_so e act.Deliver w h = tt
+  asked_so e (act.Send c) w h = tt
+  asked_so e act.Take w h =
+      where-either IsBook (is_some (end_at e w.desks)) (Some (book_of e w.nodes)) None (book_so e w h) tt
+  asked_so e act.Decide w h =
+      deciding_so e (waiting e w.desks) (book_of e w.nodes) (waiting_so e w h) (book_so e w h)
+
+  unbegun_so : (e : End) (a : Act) (w : World K) → IsWide w → Where IsBook (asked_unbegun e a w)
+  unbegun_so e act.Deliver w h = tt
+  unbegun_so e (act.Send c) w h = tt
+  unbegun_so e act.Take w h = asked_so e act.Take w h
+  unbegun_so e act.Decide w h = tt
+
+  -- ---- what an act is of its channel
+
+  own_so : (e : End) (a : Act) (d : Desks K) → IsAct a → Where record_of.IsAct (own_act e a d)
+  own_so e act.Deliver d is =
+      where-either record_of.IsAct (may_act e channel_act.Deliver d) (Some channel_act.Deliver) None tt tt
+  own_so e (act.Send c) d is =
+      where-either record_of.IsAct (not (is_of_records c) && may_act e (channel_act.Send c) d)
+      (Some (channel_act.Send c)) None is tt
+  own_so e act.Take d is = tt
+  own_so e act.Decide d is = tt
+
+  call_so : (e : End) (a : Act) (w : World K) → IsAct a → IsWide w → Where record_of.IsAct (call_of e a w)
+  call_so e a w is h =
+      sent_so (command_of e a w) (own_act e a w.desks) (by_so e (asked e a w) (asked_so e a w h))
+      (own_so e a w.desks is)
+
+module _ {K : Type 0} (k : Ghosts K) where
+  -- ---- the step of channels that a step is
+
+  -- what a step of desks brings
+  abbrev Brings : DeskStep K k → Type 0
+  Brings (desk_step.Fees n fees) = Unit {0}
+  Brings (desk_step.Limits n limits) = record_of.AreLimits limits
+  Brings (desk_step.Open o) =
+      record_of.HaveSecrets (k.signer o.keys.funder) × record_of.HaveSecrets (k.signer o.keys.fundee)
+  Brings (desk_step.Do e a) = record_of.IsAct a
+  Brings (desk_step.StopAfter e a) = record_of.IsAct a
+  Brings s = Unit {0}
+
+  done_so : (e : End) (o : Option ChannelAct) → Where record_of.IsAct o
+      → Where Brings (option_map (λ (x : ChannelAct). desk_step.Do e x) o)
+  done_so e None h = tt
+  done_so e (Some x) h = h
+
+  stopped_so : (e : End) (o : Option ChannelAct) → Where record_of.IsAct o
+      → Where Brings (option_map (λ (x : ChannelAct). desk_step.StopAfter e x) o)
+  stopped_so e None h = tt
+  stopped_so e (Some x) h = h
+
+  unmade_so : (e : End) (o : Option ChannelAct)
+      → Where Brings (option_map (λ (x : ChannelAct). desk_step.NoMemory e x) o)
+  unmade_so e None = tt
+  unmade_so e (Some x) = tt
+
+  before_so : (e : End) (o : Option ChannelAct)
+      → Where Brings (option_map (λ (x : ChannelAct). desk_step.StopBefore e x) o)
+  before_so e None = tt
+  before_so e (Some x) = tt
+
+  plain_so : (s : Step K k) (w : World K) → IsStep k s → IsWide w → Where Brings (plain k s w)
+  plain_so (step.Fees n fees) w is h = tt
+  plain_so (step.Limits n limits) w is h = is
+  plain_so (step.Policy n policy) w is h = tt
+  plain_so (step.Height n height) w is h = tt
+  plain_so (step.Expect n invoice) w is h = tt
+  plain_so (step.Open o) w is h = is
+  plain_so (step.Do e a) w is h = done_so e (call_of e a w) (call_so e a w is h)
+  plain_so (step.Down e) w is h = tt
+  plain_so (step.NoMemory e a) w is h = unmade_so e (unbegun e a w)
+  plain_so (step.Restart n) w is h = tt
+  plain_so (step.StopBefore e a) w is h = before_so e (unbegun e a w)
+  plain_so (step.StopAfter e a) w is h = stopped_so e (call_of e a w) (call_so e a w is h)
+  plain_so (step.Up n) w is h = tt
+  plain_so (step.Dispatch e) w is h = tt
+  plain_so (step.Register e hook) w is h = tt
+
+  abbrev OfChannels : ChannelStep K k → Type 0
+  OfChannels s = record_of.IsStep k s
+
+  desk_plain_so : (s : DeskStep K k) (d : Desks K) → Brings s → Where OfChannels (desks.plain k s d)
+  desk_plain_so (desk_step.Fees n fees) d is = tt
+  desk_plain_so (desk_step.Limits n limits) d is = is
+  desk_plain_so (desk_step.Open o) d is = is
+  desk_plain_so (desk_step.Do e a) d is =
+      where-either OfChannels (is_dispatched e a d) (Some (channel_step.Do e a)) None is tt
+  desk_plain_so (desk_step.Down e) d is = tt
+  desk_plain_so (desk_step.NoMemory e a) d is =
+      where-either OfChannels (is_dispatched e a d) (Some (channel_step.NoMemory e a)) None tt tt
+  desk_plain_so (desk_step.Restart n) d is = tt
+  desk_plain_so (desk_step.StopBefore e a) d is =
+      where-either OfChannels (is_dispatched e a d) (Some (channel_step.StopBefore e a)) None tt tt
+  desk_plain_so (desk_step.StopAfter e a) d is =
+      where-either OfChannels (is_dispatched e a d) (Some (channel_step.StopAfter e a)) None is tt
+  desk_plain_so (desk_step.Up n) d is = tt
+  desk_plain_so (desk_step.Dispatch e) d is = tt
+  desk_plain_so (desk_step.Register e hook) d is = tt
+
+  -- ---- dispatchers behind a step
+
+  restarts_so : (n : Node) (w : Channels K) (ds : List Desk) → All IsServing ds → All IsServing (map (restarts n w) ds)
+  restarts_so n w [] h = tt
+  restarts_so n w (d ∷ ds) h =
+      let anew = desk_restarted (desks.decided_for d w) d in
+      (either IsServing (is_node d.end.node n) anew d tt h.0, restarts_so n w ds h.1)
+
+  desks_so : (v : Verdict) (s : DeskStep K k) (d : Desks K) (new : Channels K) → All AreEnds d.channels.channels
+      → All IsServing d.desks → All IsServing (desks_by k v s d new)
+  desks_so v (desk_step.Fees n fees) d new c h = h
+  desks_so v (desk_step.Limits n limits) d new c h = h
+  desks_so v (desk_step.Open o) d new c h =
+      all-when IsServing (may_open o d.channels) (d.desks ++ new_desks o.channel o.funder o.fundee) d.desks
+      (all-append IsServing d.desks (new_desks o.channel o.funder o.fundee) h (tt, (tt, tt))) h
+  desks_so v (desk_step.Do e a) d new c h = h
+  desks_so v (desk_step.Down e) d new c h = h
+  desks_so v (desk_step.NoMemory e a) d new c h = h
+  desks_so v (desk_step.Restart n) d new c h = restarts_so n new d.desks h
+  desks_so v (desk_step.StopBefore e a) d new c h =
+      all-when IsServing (may_act e a d) (map (restarts e.node new) d.desks) d.desks
+      (restarts_so e.node new d.desks h) h
+  desks_so v (desk_step.StopAfter e a) d new c h =
+      all-when IsServing (may_act e a d) (map (restarts e.node new) d.desks) d.desks
+      (restarts_so e.node new d.desks h) h
+  desks_so v (desk_step.Up n) d new c h = h
+  desks_so v (desk_step.Dispatch e) d new c h =
+      served_at_so e v (next_event e d) d.desks (next_for (desk_at e d.desks) d.channels c) h
+  desks_so v (desk_step.Register e hook) d new c h =
+      all-when IsServing (may_register e hook d) (at_desk e (registered hook) d.desks) d.desks
+      (at_desk_so e (registered hook) (λ x g. g) d.desks h) h
+
+  moved_so : (v : Verdict) (o : Option (DeskStep K k)) (d : Desks K) → All AreEnds d.channels.channels
+      → All IsServing d.desks → All IsServing (moved_by k v o d).desks
+  moved_so v None d c h = h
+  moved_so v (Some s) d c h = desks_so v s d (desks.moved_by k (desks.plain k s d) d.channels) c h
+
+  -- ---- books before it
+
+  prepared_so : (s : Step K k) (w : World K) → IsStep k s → IsWide w → All IsNode (prepared s w)
+  prepared_so (step.Fees n fees) w is h = h.nodes
+  prepared_so (step.Limits n limits) w is h = h.nodes
+  prepared_so (step.Policy n policy) w is h = changed_so n (with_policy policy) (λ x g. g) w.nodes h.nodes
+  prepared_so (step.Height n height) w is h = height_so n height w.nodes h.nodes
+  prepared_so (step.Expect n invoice) w is h =
+      entering_so n (entry.Expect invoice) w.nodes is h.nodes
+  prepared_so (step.Open o) w is h = h.nodes
+  prepared_so (step.Do e a) w is h = handed_out_so e (asked e a w) w.nodes (asked_so e a w h) h.nodes
+  prepared_so (step.Down e) w is h = h.nodes
+  prepared_so (step.NoMemory e a) w is h =
+      handed_out_so e (asked_unbegun e a w) w.nodes (unbegun_so e a w h) h.nodes
+  prepared_so (step.Restart n) w is h = h.nodes
+  prepared_so (step.StopBefore e a) w is h =
+      handed_out_so e (asked_unbegun e a w) w.nodes (unbegun_so e a w h) h.nodes
+  prepared_so (step.StopAfter e a) w is h = handed_out_so e (asked e a w) w.nodes (asked_so e a w h) h.nodes
+  prepared_so (step.Up n) w is h = h.nodes
+  prepared_so (step.Dispatch e) w is h = h.nodes
+  prepared_so (step.Register e hook) w is h = h.nodes
+
+  -- ---- and behind it
+
+  answered_so : (e : End) (a : Option Asked) (told : List Line) (b : Book) → IsBook b → IsBook (answered e a told b)
+  answered_so e None told b h = h
+  answered_so e (Some a) told b h =
+      with_answered_so (id_of e) (answer_by a.about told) (out_desk_at (id_of e) (table_of b)) b h
+
+  heard_so : (e : End) (before : ℕ) (a : Option Asked) (told : List Line) (new : Desks K) (b : Book)
+      → All AreEnds new.channels.channels → IsBook b → IsBook (heard e before a told new b)
+  heard_so e before a told new b c h =
+      held_so (id_of e) before (end_at e new) (answered e a told b)
+      (saved_so (link_at e new.channels.channels) (link_so e new.channels.channels c)) (answered_so e a told b h)
+
+  follows_so : (n : Node) (f : Book → Book) (new : Desks K) (xs : List NodeBook)
+      → ((b : Book) → IsBook b → IsBook (f b)) → All AreEnds new.channels.channels → All IsNode xs
+      → All IsNode (follows n f new xs)
+  follows_so n f new xs keeps c h =
+      changed_so n (λ x. followed new.channels.channels (with_book (f x.book) x))
+      (λ x g. followed_so new.channels.channels (with_book (f x.book) x) c (keeps x.book g)) xs h
+
+  dropped_so : (e : End) (l : State K) (b : Book) → IsBook b → IsBook (dropped e l b)
+  dropped_so e l b h = either IsBook l.halted b (saved_dropped e (saved_end l.stage) b) h
+      (saved_dropped_so e (saved_end l.stage) b h)
+
+  fallen_so : (e : End) (new : Desks K) (o : Option (State K)) (xs : List NodeBook)
+      → All AreEnds new.channels.channels → All IsNode xs → All IsNode (fallen e new o xs)
+  fallen_so e new None xs c h = h
+  fallen_so e new (Some l) xs c h = follows_so e.node (dropped e l) new xs (dropped_so e l) c h
+
+  set_so : (n : Node) (new : Desks K) (xs : List NodeBook) → All AreEnds new.channels.channels → All IsNode xs
+      → All IsNode (changed n (followed new.channels.channels) xs)
+  set_so n new xs c h =
+      changed_so n (followed new.channels.channels) (λ x g. followed_so new.channels.channels x c g) xs h
+
+  met_so : (new : Desks K) (o : Option (Channel K)) (xs : List NodeBook) → All AreEnds new.channels.channels
+      → All IsNode xs → All IsNode (met new o xs)
+  met_so new None xs c h = h
+  met_so new (Some x) xs c h =
+      set_so x.fundee new (changed x.funder (followed new.channels.channels) xs) c (set_so x.funder new xs c h)
+
+  concluded_so : (x : Errand) (told : List Line) (new : Desks K) (xs : List NodeBook)
+      → All AreEnds new.channels.channels → All IsNode xs → All IsNode (concluded x told new xs)
+  concluded_so errand.None told new xs c h = h
+  concluded_so (errand.Set n) told new xs c h = set_so n new xs c h
+  concluded_so (errand.Act e before a) told new xs c h =
+      follows_so e.node (heard e before a told new) new xs (λ b g. heard_so e before a told new b c g) c h
+  concluded_so (errand.Fall e) told new xs c h = fallen_so e new (link_at e new.channels.channels) xs c h
+  concluded_so (errand.Halt e out) told new xs c h =
+      follows_so e.node (unanswered e out) new xs (λ b g. unanswered_so e out b g) c h
+  concluded_so (errand.Restart n) told new xs c h =
+      let cs = new.channels.channels in
+      changed_so n (λ x. followed cs (begun_anew cs x))
+      (λ x g. followed_so cs (begun_anew cs x) c (begun_so cs x c g)) xs h
+  concluded_so (errand.Meet n) told new xs c h = met_so new (channel n new.channels.channels) xs c h
+
+  -- ---- a step
+
+  pub happens_so : (v : Verdict) (s : Step K k) (w : World K) → IsStep k s → IsWide w
+      → All AreEnds (happens k v s w).desks.channels.channels → IsWide (happens k v s w)
+  happens_so v s w is h c = record {
+    channels = c;
+    served = moved_so v (plain k s w) w.desks h.channels h.served;
+    nodes = concluded_so (errand_of s w) (lines_by k v (plain k s w) w.desks) (moved_by k v (plain k s w) w.desks)
+        (prepared s w) c (prepared_so s w is h);
+  }
+
+  -- ---- steps
+
+  each_cons : (P : ChannelStep K k → Type 0) (o : Option (ChannelStep K k)) (xs : List (ChannelStep K k))
+      → Where P o → Each P xs → Each P (cons_option o xs)
+  each_cons P None xs h g = g
+  each_cons P (Some x) xs h g = (h, g)
+
+  first_each : (P : ChannelStep K k → Type 0) (o : Option (ChannelStep K k)) (xs : List (ChannelStep K k))
+      → Each P (cons_option o xs) → Where P o
+  first_each P None xs h = tt
+  first_each P (Some x) xs h = h.0
+
+  rest_each : (P : ChannelStep K k → Type 0) (o : Option (ChannelStep K k)) (xs : List (ChannelStep K k))
+      → Each P (cons_option o xs) → Each P xs
+  rest_each P None xs h = h
+  rest_each P (Some x) xs h = h.1
+
+  -- the step of channels that a step of desks is, if there is one
+  abbrev of_desks : Option (DeskStep K k) → Desks K → Option (ChannelStep K k)
+  of_desks None d = None
+  of_desks (Some s) d = desks.plain k s d
+
+  of_desks_so : (o : Option (DeskStep K k)) (d : Desks K) → Where Brings o → Where OfChannels (of_desks o d)
+  of_desks_so None d h = tt
+  of_desks_so (Some s) d h = desk_plain_so s d h
+
+  one_more : (v : Verdict) (o : Option (DeskStep K k)) (ss : List (DeskStep K k × Verdict)) (d : Desks K)
+      → desks.plains k (cons_option (with_verdict v o) ss) d
+      ≡ cons_option (of_desks o d) (desks.plains k ss (moved_by k v o d))
+  one_more v None ss d = refl
+  one_more v (Some s) ss d = refl
+
+  -- where the ends of channels stay wide over wide steps of channels
+  module _ (Fit : Channels K → Type 0)
+      (keeps : (s : ChannelStep K k) (w : Channels K) → BringsFit k s → OfChannels s → Fit w
+      → Fit (channels.happens k s w))
+      (ends : (w : Channels K) → Fit w → All AreEnds w.channels) where
+    stays_by : (o : Option (ChannelStep K k)) (w : Channels K) → Where (BringsFit k) o → Where OfChannels o → Fit w
+        → Fit (desks.moved_by k o w)
+    stays_by None w f is h = h
+    stays_by (Some s) w f is h = keeps s w f is h
+
+    stays : (v : Verdict) (o : Option (DeskStep K k)) (d : Desks K) → Where (BringsFit k) (of_desks o d)
+        → Where OfChannels (of_desks o d) → Fit d.channels → Fit (moved_by k v o d).channels
+    stays v None d f is h = h
+    stays v (Some s) d f is h = stays_by (desks.plain k s d) d.channels f is h
+
+    pub steps_so : (ss : List (Step K k × Verdict)) (w : World K)
+        → Each (BringsFit k) (desks.plains k (plains k ss w) w.desks) → AreWorldSteps k ss → Fit w.desks.channels
+        → IsWide w → Each OfChannels (desks.plains k (plains k ss w) w.desks)
+    steps_so [] w f is fit h = tt
+    steps_so (s ∷ ss) w f is fit h =
+        let o = plain k s.0 w in
+        let d = w.desks in
+        let x = of_desks o d in
+        let new = happens k s.1 s.0 w in
+        let rest = desks.plains k (plains k ss new) new.desks in
+        let e = one_more s.1 o (plains k ss new) d in
+        let all : Each (BringsFit k) (cons_option x rest) = subst (λ l. Each (BringsFit k) l) e f in
+        let wide : Where OfChannels x = of_desks_so o d (plain_so s.0 w is.0 h) in
+        let fit_next : Fit new.desks.channels =
+        stays s.1 o d (first_each (BringsFit k) x rest all) wide fit in
+        let next : IsWide new = happens_so s.1 s.0 w is.0 h (ends new.desks.channels fit_next) in
+        subst (λ l. Each OfChannels l) (sym e)
+        (each_cons OfChannels x rest wide (steps_so ss new (rest_each (BringsFit k) x rest all) is.1 fit_next next))

@@ -1,0 +1,90 @@
+-- A node's book follows its ends: which short channel ids name its channels, and which of these take payments; and what
+-- it reads off them as the node starts.
+use Rattle.std.specs.Prelude.{ℕ, zero, suc, List, [], ◌∷◌, ◌++◌, Bool, not, ◌&&◌, Option, Some, None, is_none}
+use Rattle.ln_bytes.specs.declared.short_id.ShortId.{ShortId}
+use Rattle.ln_bytes.specs.ShortId.{short_id_bytes}
+use Rattle.ln_keys.specs.declared.role.Role.{Role}
+use Rattle.ln_keys.specs.declared.role.Role.TheVariants.{Funder, Fundee}
+use Rattle.ln_forward.specs.declared.checks.Policy.{Policy}
+use Rattle.ln_channel.specs.declared.opening.Terms.{Terms}
+use Rattle.ln_channel.specs.End.{End as ChannelEnd, is_ready}
+use Rattle.ln_channel.specs.Record.{saved_end}
+use Rattle.ln_channel.specs.State.{State, is_down}
+use Rattle.ln_tables.specs.declared.entry.Entry.TheVariants as entry
+use Rattle.ln_tables.specs.History.{begun_with, with_entry}
+use Rattle.ln_tables.specs.Replay.{table_of}
+use Rattle.ln_readings.specs.Rebuild.{Reading, reading_of, rebuilt}
+use Rattle.ln_channels.specs.declared.step.Node.{Node}
+use Rattle.ln_channels.specs.Channel.{Channel, side_of, place_of}
+use Rattle.ln_channels.specs.World.{channel}
+use Rattle.ln_world.specs.declared.node.NodeBook.{NodeBook}
+use Rattle.ln_world.specs.Node.{Book, with_book}
+
+-- ---- one end
+
+-- it is ready and connected, has neither failed nor halted, nor closed, and neither side has shut down
+abbrev pub takes_payments : {K : Type 0} → State K → ChannelEnd → Bool
+takes_payments l e =
+    not l.halted && (is_none l.failure && (not (is_down l.line) && (is_ready e
+    && (not e.closing.shut && (not e.closing.peer_shut && is_none e.closing.closed)))))
+
+-- the least that the other end takes, in msat
+abbrev pub minimum_told : Role → Terms → ℕ
+minimum_told Funder t = t.accept_channel.htlc_minimum_msat
+minimum_told Fundee t = t.open_channel.htlc_minimum_msat
+
+-- its short id is known once it has confirmed the channel
+abbrev pub with_route : Policy → ChannelEnd → Option ShortId → Book → Book
+with_route p e None b = b
+with_route p e (Some id) b = with_entry (entry.Route (short_id_bytes id.block id.tx id.output) (record {
+  channel = e.dance.channel;
+  policy = p;
+  minimum = minimum_told e.closing.role e.terms;
+})) b
+
+abbrev pub with_end : {K : Type 0} → Policy → State K → Option ChannelEnd → Book → Book
+with_end p l None b = b
+with_end p l (Some e) b =
+    with_entry (entry.Use e.dance.channel (takes_payments l e)) (with_route p e e.marks.short_id b)
+
+abbrev pub with_side : {K : Type 0} → Policy → Channel K → Option Role → Book → Book
+with_side p c None b = b
+with_side p c (Some side) b =
+    with_end p (place_of side c.both).link (saved_end (place_of side c.both).link.stage) b
+
+-- the node's end in a channel, where it has one
+abbrev pub with_channel : {K : Type 0} → Node → Policy → Option (Channel K) → Book → Book
+with_channel n p None b = b
+with_channel n p (Some c) b = with_side p c (side_of n c) b
+
+-- ---- all ends of a node, by rising number: of two channels with one short id the greater number has it
+
+unfoldable pub followed_below : {K : Type 0} → ℕ → Node → Policy → List (Channel K) → Book → Book
+followed_below zero n p cs b = b
+followed_below (suc m) n p cs b = with_channel n p (channel m cs) (followed_below m n p cs b)
+
+abbrev pub followed : {K : Type 0} → List (Channel K) → NodeBook → NodeBook
+followed cs x = with_book (followed_below 256 x.node x.policy cs x.book) x
+
+-- ---- what the book begins with, as the node starts
+
+abbrev pub reading_by : Option ChannelEnd → List Reading → List Reading
+reading_by None rs = rs
+reading_by (Some e) rs = rs ++ reading_of e ∷ []
+
+abbrev pub side_reading : {K : Type 0} → Channel K → Option Role → List Reading → List Reading
+side_reading c None rs = rs
+side_reading c (Some side) rs = reading_by (saved_end (place_of side c.both).link.stage) rs
+
+abbrev pub reading_in : {K : Type 0} → Node → Option (Channel K) → List Reading → List Reading
+reading_in n None rs = rs
+reading_in n (Some c) rs = side_reading c (side_of n c) rs
+
+-- of the node's ends, in the order of the channels' numbers
+unfoldable pub readings_below : {K : Type 0} → ℕ → Node → List (Channel K) → List Reading
+readings_below zero n cs = []
+readings_below (suc m) n cs = reading_in n (channel m cs) (readings_below m n cs)
+
+-- settings stay
+abbrev pub begun_anew : {K : Type 0} → List (Channel K) → NodeBook → NodeBook
+begun_anew cs x = with_book (begun_with (rebuilt (table_of x.book) (readings_below 256 x.node cs))) x

@@ -1,0 +1,94 @@
+-- What a book is told of a channel's end: what it has answered to a command, and which removals of HTLCs it has come to
+-- hold as irrevocably committed.
+use Rattle.std.specs.Prelude.{ℕ, zero, suc, ◌+◌, ◌-◌, ◌*◌, List, [], ◌∷◌, length, Option, Some, None}
+use Rattle.std.specs.Prelude.{Result, Ok, Err}
+use Rattle.ln_msgs.specs.Refusals.Refusal.{refusal_number}
+use Rattle.ln_log.specs.declared.mark.Mark.{Mark}
+use Rattle.ln_log.specs.declared.mark.Mark.TheVariants as mark
+use Rattle.ln_hooks.specs.declared.event.ChannelEvent.{ChannelEvent}
+use Rattle.ln_channel.specs.declared.command.Command.{Command}
+use Rattle.ln_channel.specs.declared.command.Command.TheVariants as command
+use Rattle.ln_channel.specs.End.{End as ChannelEnd}
+use Rattle.ln_readings.specs.Kept.{next_own_id}
+use Rattle.ln_book.specs.Settled.{with_settled}
+use Rattle.ln_channels.specs.declared.line.Choice.{Choice}
+use Rattle.ln_channels.specs.declared.line.Choice.TheVariants as choice
+use Rattle.ln_channels.specs.declared.line.Line.{Line}
+use Rattle.ln_channels.specs.declared.line.Line.TheVariants as line
+use Rattle.ln_channels.specs.declared.step.End.{End}
+use Rattle.ln_desks.specs.World.{undecided}
+use Rattle.ln_world.specs.Node.{Book}
+
+-- ---- what an end has answered to a command
+
+-- the HTLC that it is about, or the event: one that is offered gets the end's next id
+abbrev pub about : ℕ → Command → ℕ
+about next (command.Confirm id) = 0
+about next (command.Add amount hash expiry onion origin) = next
+about next (command.Fulfil id preimage) = id
+about next (command.Fail id reason) = id
+about next (command.Malformed id sha code) = id
+about next (command.Fee feerate) = 0
+about next command.Sign = 0
+about next (command.Shutdown script) = 0
+about next (command.Decide event mark) = event
+about next (command.Forget id) = id
+
+-- the number of the refusal that is told, else what it is about. Where nothing could be done it wasn't ready (40): no
+-- run comes to that, as a book's end is there and each decision that it has queued is of an event that was dispatched
+abbrev pub answer_by : ℕ → List Line → Result ℕ ℕ
+answer_by id (line.Refused e r ∷ ls) = Err (refusal_number r)
+answer_by id (line.Idle ∷ ls) = Err 40
+answer_by id ls = Ok id
+
+-- ---- a decision, by what a report tells of it
+
+abbrev pub byte_at : ℕ → List ℕ → ℕ
+byte_at n [] = 0
+byte_at zero (b ∷ bs) = b
+byte_at (suc n) (b ∷ bs) = byte_at n bs
+
+-- The number of a channel of a world is the last byte of its id, as the output of its funding is 0; a failure's code
+-- stands in the first two bytes of its reason, as the nodes' services pass a reason on as it is.
+abbrev pub choice_of : Mark → Choice
+choice_of mark.None = choice.None
+choice_of (mark.Forward channel amount expiry) = choice.Forward (byte_at 31 channel)
+choice_of (mark.Fail reason) = choice.Fail (256 * byte_at 0 reason + byte_at 1 reason)
+choice_of (mark.Malformed code) = choice.Malformed code
+choice_of (mark.Fulfil preimage) = choice.Fulfil
+
+-- the event's number and what is done about it, where a command is a decision
+abbrev pub noted_of : Command → Option (ℕ × Choice)
+noted_of (command.Decide event m) = Some (event, choice_of m)
+noted_of c = None
+
+-- it is told of where it was taken
+abbrev pub decided_line : End → Option (ℕ × Choice) → Result ℕ ℕ → List Line
+decided_line e (Some x) (Ok id) = line.Decided e x.0 x.1 ∷ []
+decided_line e noted answer = []
+
+-- ---- what an end has come to hold
+
+-- how many events it has told
+abbrev pub told_count : Option ChannelEnd → ℕ
+told_count None = 0
+told_count (Some e) = e.ledger.decided + length e.ledger.undecided
+
+abbrev pub next_id : Option ChannelEnd → ℕ
+next_id None = 0
+next_id (Some e) = next_own_id e
+
+-- the book is told of an event of the channel with this id
+abbrev pub with_event : List ℕ → Option ChannelEvent → Book → Book
+with_event id None b = b
+with_event id (Some event) b = with_settled id event b
+
+-- and of so many events, from this number on
+abbrev pub with_events : List ℕ → ℕ → ℕ → ChannelEnd → Book → Book
+with_events id n zero e b = b
+with_events id n (suc k) e b = with_events id (n + 1) k e (with_event id (undecided n e) b)
+
+-- of those behind the count that it had told before
+abbrev pub with_held : List ℕ → ℕ → Option ChannelEnd → Book → Book
+with_held id before None b = b
+with_held id before (Some e) b = with_events id before (told_count (Some e) - before) e b

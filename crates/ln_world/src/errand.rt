@@ -1,0 +1,32 @@
+//! What the books of nodes have to do behind a step.
+
+use ln_desks::{Choice, End, Node};
+
+/// What a book has asked of an end.
+#[derive(Clone, Copy, PartialEq, Eq)]
+pub struct Asked {
+    /// The HTLC or the event that its command is about.
+    pub about: u64,
+    /// Of a decision the event's number, and what is done about it.
+    pub noted: Option<(u64, Choice)>,
+}
+
+/// What the books have to do behind a step.
+#[derive(Clone, Copy, PartialEq, Eq)]
+pub enum Errand {
+    /// Nothing: the step is no matter of books, or couldn't be taken.
+    None,
+    /// Something was set for a node, whose book follows its ends.
+    Set(Node),
+    /// An end acts that had told so many events: its book hears what the end answers to what it has asked, and what
+    /// the end has come to hold.
+    Act(End, u64, Option<Asked>),
+    /// An end loses its connection: its book is told what it has kept.
+    Fall(End),
+    /// An end halts; whether a command of its book was handed out, which stays there.
+    Halt(End, bool),
+    /// A node restarts: its book begins anew.
+    Restart(Node),
+    /// The ends of the channel with this number get a connection.
+    Meet(u8),
+}

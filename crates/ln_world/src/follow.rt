@@ -1,0 +1,214 @@
+//! A node's book follows the node's ends.
+
+ghost use Rattle.std.specs.Prelude.{◌≡◌, ◌++◌, OnOk, IfOk, IfErr, option_copied};
+ghost use Rattle.ln_msgs.specs.declared.refusals.refusal.Refusal.TheVariants as refusal;
+ghost use Rattle.ln_channel.specs.Record.{saved_end};
+ghost use Rattle.ln_channels.specs.Channel.{side_of};
+ghost use Rattle.ln_channels.specs.World.{channel};
+ghost use Rattle.ln_world.specs.Follow.{takes_payments, minimum_told, with_route, with_end, with_side, with_channel};
+ghost use Rattle.ln_world.specs.Follow.{followed_below, followed, reading_by, side_reading, reading_in, readings_below};
+ghost use Rattle.ln_world.specs.Follow.{begun_anew};
+
+use crate::node::NodeBook;
+use ln_book::Book;
+use ln_bytes::ShortId;
+use ln_channel::{Channel as ChannelEnd, Unsaved};
+use ln_channels::{Channel, World as Channels};
+use ln_desks::Node;
+use ln_forward::Policy;
+use ln_keys::{ChannelKeys, Role};
+use ln_msgs::Refusal;
+use ln_readings::Reading;
+use std::alloc::Global;
+
+// Whether a link takes payments: it works and is connected, its end is ready, and neither side has shut down.
+fn takes_payments<K: ChannelKeys + Copy>(link: &Unsaved<K>, end: &ChannelEnd) -> bool
+    ensures { result ≡ takes_payments link.now end.now }
+{
+    let closing = end.closing();
+    !link.is_halted()
+        && link.failure().is_none()
+        && !link.line().is_down()
+        && end.is_ready()
+        && !closing.shut
+        && !closing.peer_shut
+        && closing.closed.is_none()
+}
+
+// The least that the other end takes, in msat.
+fn minimum_told(end: &ChannelEnd) -> u64
+    ensures { result ≡ minimum_told end.now.closing.role end.now.terms }
+{
+    match end.closing().role {
+        Role::Funder => end.terms().accept_channel.htlc_minimum_msat,
+        Role::Fundee => end.terms().open_channel.htlc_minimum_msat,
+    }
+}
+
+// The book knows the channel by its short id, where that is known. 60 where there is no memory.
+fn set_route(
+    book: &mut Book,
+    policy: Policy,
+    end: &ChannelEnd,
+    id: Option<ShortId>,
+) -> Result<(), Refusal>
+    ensures set { OnOk result (book.new ≡ with_route policy end.now id book.old) }
+    ensures fails_for_memory_alone { IfErr result (λ e. e ≡ refusal.Memory) }
+{
+    match id {
+        None => Ok(()),
+        Some(id) => book.set_route(id, end.id(), policy, minimum_told(end)),
+    }
+}
+
+// The book follows a link's end, where both have signed its opening. 60 where there is no memory.
+fn follow_end<K: ChannelKeys + Copy>(
+    book: &mut Book,
+    policy: Policy,
+    link: &Unsaved<K>,
+) -> Result<(), Refusal>
+    ensures followed { OnOk result (book.new ≡ with_end policy link.now (saved_end link.now.stage) book.old) }
+    ensures fails_for_memory_alone { IfErr result (λ e. e ≡ refusal.Memory) }
+{
+    let Some(end) = link.saved() else {
+        return Ok(());
+    };
+    set_route(book, policy, end, end.marks().short_id)?;
+    book.set_usable(end.id(), takes_payments(link, end))
+}
+
+fn follow_side<K: ChannelKeys + Copy>(
+    book: &mut Book,
+    policy: Policy,
+    channel: &Channel<K>,
+    side: Option<Role>,
+) -> Result<(), Refusal>
+    ensures followed { OnOk result (book.new ≡ with_side policy channel.now side book.old) }
+    ensures fails_for_memory_alone { IfErr result (λ e. e ≡ refusal.Memory) }
+{
+    match side {
+        None => Ok(()),
+        Some(side) => follow_end(book, policy, channel.place(side).link()),
+    }
+}
+
+// The book follows the node's end in a channel, where it has one. 60 where there is no memory.
+fn follow_channel<K: ChannelKeys + Copy>(
+    book: &mut Book,
+    node: Node,
+    policy: Policy,
+    channel: Option<&Channel<K>>,
+) -> Result<(), Refusal>
+    ensures followed { OnOk result (book.new ≡ with_channel node policy (option_copied channel.entry) book.old) }
+    ensures fails_for_memory_alone { IfErr result (λ e. e ≡ refusal.Memory) }
+{
+    match channel {
+        None => Ok(()),
+        Some(channel) => follow_side(book, policy, channel, channel.side_of(node)),
+    }
+}
+
+// The book follows all ends of a node, by rising number. 60 where there is no memory.
+fn follow_all<K: ChannelKeys + Copy>(
+    book: &mut Book,
+    node: Node,
+    policy: Policy,
+    channels: &Channels<K>,
+) -> Result<(), Refusal>
+    ensures followed { OnOk result (book.new ≡ followed_below 256 node policy channels.now.channels book.old) }
+    ensures fails_for_memory_alone { IfErr result (λ e. e ≡ refusal.Memory) }
+{
+    for number in 0..256u16 {
+        follow_channel(book, node, policy, channels.channel(number as u8))?;
+    }
+    Ok(())
+}
+
+/// A node's book follows its ends. 60 where there is no memory.
+pub(crate) fn follow<K: ChannelKeys + Copy>(
+    node: &mut NodeBook,
+    channels: &Channels<K>,
+) -> Result<(), Refusal>
+    ensures followed { OnOk result (node.new ≡ followed channels.now.channels node.old) }
+    ensures fails_for_memory_alone { IfErr result (λ e. e ≡ refusal.Memory) }
+{
+    follow_all(&mut node.book, node.node, node.policy, channels)
+}
+
+// Reads an end, where both have signed its opening. 60 where there is no memory.
+fn read_end(
+    alloc: Global,
+    end: Option<&ChannelEnd>,
+    readings: &mut Vec<Reading>,
+) -> Result<(), Refusal>
+    ensures read { OnOk result (readings.new.items ≡ reading_by (option_copied end.entry) readings.old.items) }
+    ensures fails_for_memory_alone { IfErr result (λ e. e ≡ refusal.Memory) }
+{
+    match end {
+        None => Ok(()),
+        Some(end) => {
+            readings.push(Reading::of(alloc, end)?)?;
+            Ok(())
+        }
+    }
+}
+
+fn read_side<K: ChannelKeys + Copy>(
+    alloc: Global,
+    channel: &Channel<K>,
+    side: Option<Role>,
+    readings: &mut Vec<Reading>,
+) -> Result<(), Refusal>
+    ensures read { OnOk result (readings.new.items ≡ side_reading channel.now side readings.old.items) }
+    ensures fails_for_memory_alone { IfErr result (λ e. e ≡ refusal.Memory) }
+{
+    match side {
+        None => Ok(()),
+        Some(side) => read_end(alloc, channel.place(side).link().saved(), readings),
+    }
+}
+
+// Reads the node's end in a channel, where it has one. 60 where there is no memory.
+fn read_channel<K: ChannelKeys + Copy>(
+    alloc: Global,
+    node: Node,
+    channel: Option<&Channel<K>>,
+    readings: &mut Vec<Reading>,
+) -> Result<(), Refusal>
+    ensures read { OnOk result (readings.new.items ≡ reading_in node (option_copied channel.entry) readings.old.items) }
+    ensures fails_for_memory_alone { IfErr result (λ e. e ≡ refusal.Memory) }
+{
+    match channel {
+        None => Ok(()),
+        Some(channel) => read_side(alloc, channel, channel.side_of(node), readings),
+    }
+}
+
+// Reads all ends of a node, in the order of the channels' numbers. 60 where there is no memory.
+fn read_all<K: ChannelKeys + Copy>(
+    alloc: Global,
+    node: Node,
+    channels: &Channels<K>,
+) -> Result<Vec<Reading>, Refusal>
+    ensures readings { IfOk result (λ rs. rs.items ≡ readings_below 256 node channels.now.channels) }
+    ensures fails_for_memory_alone { IfErr result (λ e. e ≡ refusal.Memory) }
+{
+    let mut readings = Vec::new(alloc);
+    for number in 0..256u16 {
+        read_channel(alloc, node, channels.channel(number as u8), &mut readings)?;
+    }
+    Ok(readings)
+}
+
+/// A node's book begins anew with what its ends have; settings stay. 60 where there is no memory.
+pub(crate) fn begin_anew<K: ChannelKeys + Copy>(
+    alloc: Global,
+    node: &mut NodeBook,
+    channels: &Channels<K>,
+) -> Result<(), Refusal>
+    ensures begun { OnOk result (node.new ≡ begun_anew channels.now.channels node.old) }
+    ensures fails_for_memory_alone { IfErr result (λ e. e ≡ refusal.Memory) }
+{
+    let readings = read_all(alloc, node.node, channels)?;
+    node.book.rebuild(alloc, readings.as_slice())
+}

@@ -1,0 +1,376 @@
+//! What the books of nodes do before a step: what is set is entered, and commands are handed out.
+
+ghost use Rattle.std.specs.Prelude.{◌≡◌, ◌≤◌, IsTrue, OnOk, IfOk, IfErr, Some, option_map};
+ghost use Rattle.ln_msgs.specs.declared.refusals.refusal.Refusal.TheVariants as refusal;
+ghost use Rattle.ln_tables.specs.declared.entry.Entry.TheVariants as entry;
+ghost use Rattle.ln_world.specs.Node.{changed, with_policy};
+ghost use Rattle.ln_world.specs.Told.{told_count, next_id};
+ghost use Rattle.ln_world.specs.World.{World, entered, book_of, command_in, handed_out, with_decision, asked};
+ghost use Rattle.ln_world.specs.World.{command_of, call_of, unbegun, asked_unbegun, asks_by, acting, if_begun, end_at};
+ghost use Rattle.ln_world.specs.World.{own_act, with_height, if_height, plain, prepared, errand_of};
+ghost use Rattle.ln_world.specs.declared.step.Step.TheVariants as step;
+
+use crate::call::end_at;
+use crate::errand::{Asked, Errand};
+use crate::node::{NodeBook, place_for, place_of};
+use crate::step::{Act, Step};
+use crate::told::{about, next_id, noted_of, told_count};
+use ln_channel::Command;
+use ln_channels::{Act as ChannelAct, channel_id_of};
+use ln_desks::{End, Node, Nodes, Step as DeskStep};
+use ln_forward::Policy;
+use ln_hooks::{ChannelEvent, Verdict};
+use ln_keys::{ChannelKeys, ToyOnion};
+use ln_log::Mark;
+use ln_msgs::Refusal;
+use ln_tables::Invoice;
+use std::alloc::Global;
+
+// The policy of a node. 60 where there is no memory.
+fn set_policy(
+    alloc: Global,
+    nodes: &mut Vec<NodeBook>,
+    node: Node,
+    policy: Policy,
+) -> Result<(), Refusal>
+    ensures set { OnOk result (nodes.new.items ≡ changed node (with_policy policy) nodes.old.items) }
+    ensures fails_for_memory_alone { IfErr result (λ e. e ≡ refusal.Memory) }
+{
+    let i = place_for(alloc, nodes, node)?;
+    nodes[i].policy = policy;
+    Ok(())
+}
+
+// The block height of a node. 60 where there is no memory.
+fn set_height(
+    alloc: Global,
+    nodes: &mut Vec<NodeBook>,
+    node: Node,
+    height: u32,
+) -> Result<(), Refusal>
+    requires { height ≤ 400000000 }
+    ensures set { OnOk result (nodes.new.items ≡ entered node (entry.Height height) nodes.old.items) }
+    ensures fails_for_memory_alone { IfErr result (λ e. e ≡ refusal.Memory) }
+{
+    let i = place_for(alloc, nodes, node)?;
+    nodes[i].book.set_height(height);
+    Ok(())
+}
+
+// A payment that a node waits for. 60 where there is no memory.
+fn expect(
+    alloc: Global,
+    nodes: &mut Vec<NodeBook>,
+    node: Node,
+    invoice: Invoice,
+) -> Result<(), Refusal>
+    ensures set { OnOk result (nodes.new.items ≡ entered node (entry.Expect invoice) nodes.old.items) }
+    ensures fails_for_memory_alone { IfErr result (λ e. e ≡ refusal.Memory) }
+{
+    let i = place_for(alloc, nodes, node)?;
+    nodes[i].book.expect(
+        invoice.preimage,
+        invoice.expected.secret,
+        invoice.expected.amount,
+    )
+}
+
+// The book of an end's node hands out the first command for its channel. 60 where there is no memory.
+fn hand_out(alloc: Global, nodes: &mut Vec<NodeBook>, end: End) -> Result<Option<Command>, Refusal>
+    ensures command { IfOk result (λ c. c ≡ command_in end (book_of end nodes.old.items)) }
+    ensures handed { OnOk result (nodes.new.items ≡ handed_out end (Some (book_of end nodes.old.items))
+        nodes.old.items) }
+    ensures fails_for_memory_alone { IfErr result (λ e. e ≡ refusal.Memory) }
+{
+    let i = place_for(alloc, nodes, end.node)?;
+    nodes[i]
+        .book
+        .take_commands(alloc, &ToyOnion, channel_id_of(end.channel))
+}
+
+// The book of an end's node decides an event, and hands out the first command. 60 where there is no memory.
+fn decide(
+    alloc: Global,
+    nodes: &mut Vec<NodeBook>,
+    end: End,
+    number: u64,
+    event: &ChannelEvent,
+    verdict: Verdict,
+) -> Result<Option<Command>, Refusal>
+    ensures command { IfOk result (λ c. c ≡ command_in end (with_decision end (number, event.now, verdict)
+        (book_of end nodes.old.items))) }
+    ensures handed { OnOk result (nodes.new.items ≡ handed_out end (Some (with_decision end (number, event.now, verdict)
+        (book_of end nodes.old.items))) nodes.old.items) }
+    ensures fails_for_memory_alone { IfErr result (λ e. e ≡ refusal.Memory) }
+{
+    let i = place_for(alloc, nodes, end.node)?;
+    let id = channel_id_of(end.channel);
+    let book = &mut nodes[i].book;
+    drop(book.decide(alloc, &ToyOnion, id, number, event, verdict)?);
+    book.take_commands(alloc, &ToyOnion, id)
+}
+
+// The command that the book hands out, for what an end is to do. 60 where there is no memory.
+fn ask<K: ChannelKeys + Copy>(
+    alloc: Global,
+    desks: &Nodes<K>,
+    nodes: &mut Vec<NodeBook>,
+    end: End,
+    what: &Act,
+) -> Result<Option<Command>, Refusal>
+    ensures command { IfOk result (λ c. c ≡ command_of end what.now
+        (record { desks = desks.now; nodes = nodes.old.items })) }
+    ensures handed { OnOk result (nodes.new.items ≡ handed_out end (asked end what.now
+        (record { desks = desks.now; nodes = nodes.old.items })) nodes.old.items) }
+    ensures fails_for_memory_alone { IfErr result (λ e. e ≡ refusal.Memory) }
+{
+    match what {
+        Act::Deliver | Act::Send(_) => Ok(None),
+        Act::Take => match end_at(desks.channels(), end) {
+            None => Ok(None),
+            Some(_) => hand_out(alloc, nodes, end),
+        },
+        Act::Decide => match desks.waiting(end) {
+            None => Ok(None),
+            Some((number, event, verdict)) => decide(alloc, nodes, end, number, event, verdict),
+        },
+    }
+}
+
+// What an end does of its own, where it can: nobody sends what is the book's to command.
+fn own_act<K: ChannelKeys + Copy>(desks: &Nodes<K>, end: End, what: Act) -> Option<ChannelAct>
+    ensures { result ≡ own_act end what desks.now }
+{
+    let act = match what {
+        Act::Deliver => ChannelAct::Deliver,
+        Act::Send(Command::Decide { .. }) | Act::Send(Command::Forget(_)) => return None,
+        Act::Send(command) => ChannelAct::Send(command),
+        Act::Take | Act::Decide => return None,
+    };
+    if desks.may_act(end, &act) {
+        Some(act)
+    } else {
+        None
+    }
+}
+
+fn asked_by(command: &Command, next: u64) -> Asked
+    ensures { Some result ≡ asks_by (Some command.now) next }
+{
+    Asked {
+        about: about(next, command),
+        noted: noted_of(command),
+    }
+}
+
+// What an act is of its channel, where it can be taken, and what the book asks by it. 60 where there is no memory.
+fn begin<K: ChannelKeys + Copy>(
+    alloc: Global,
+    desks: &Nodes<K>,
+    nodes: &mut Vec<NodeBook>,
+    end: End,
+    what: Act,
+) -> Result<(Option<ChannelAct>, Option<Asked>), Refusal>
+    ensures act { IfOk result (λ r. r.0 ≡ call_of end what (record { desks = desks.now; nodes = nodes.old.items })) }
+    ensures asked { IfOk result (λ r. r.1 ≡ asks_by (command_of end what
+        (record { desks = desks.now; nodes = nodes.old.items })) (next_id (end_at end desks.now))) }
+    ensures handed { OnOk result (nodes.new.items ≡ handed_out end (asked end what
+        (record { desks = desks.now; nodes = nodes.old.items })) nodes.old.items) }
+    ensures fails_for_memory_alone { IfErr result (λ e. e ≡ refusal.Memory) }
+{
+    match ask(alloc, desks, nodes, end, &what)? {
+        Some(command) => {
+            drop(what);
+            let next = next_id(end_at(desks.channels(), end));
+            let asked = asked_by(&command, next);
+            Ok((Some(ChannelAct::Send(command)), Some(asked)))
+        }
+        None => Ok((own_act(desks, end, what), None)),
+    }
+}
+
+// What an act is of its channel that isn't begun. 60 where there is no memory.
+fn leave<K: ChannelKeys + Copy>(
+    alloc: Global,
+    desks: &Nodes<K>,
+    nodes: &mut Vec<NodeBook>,
+    end: End,
+    what: Act,
+) -> Result<Option<ChannelAct>, Refusal>
+    ensures act { IfOk result (λ r. r ≡ unbegun end what (record { desks = desks.now; nodes = nodes.old.items })) }
+    ensures handed { OnOk result (nodes.new.items ≡ handed_out end (asked_unbegun end what
+        (record { desks = desks.now; nodes = nodes.old.items })) nodes.old.items) }
+    ensures fails_for_memory_alone { IfErr result (λ e. e ≡ refusal.Memory) }
+{
+    match what {
+        Act::Decide => match desks.waiting(end) {
+            None => Ok(None),
+            Some((event, _, _)) => Ok(Some(ChannelAct::Send(Command::Decide {
+                event,
+                mark: Mark::None,
+            }))),
+        },
+        what => Ok(begin(alloc, desks, nodes, end, what)?.0),
+    }
+}
+
+// An end acts. 60 where there is no memory.
+fn prepare_act<K: ChannelKeys + Copy>(
+    alloc: Global,
+    desks: &Nodes<K>,
+    nodes: &mut Vec<NodeBook>,
+    end: End,
+    what: Act,
+) -> Result<(Option<DeskStep<K>>, Errand), Refusal>
+    ensures plain { IfOk result (λ r. r.0 ≡ plain K.ChannelKeys (step.Do end what)
+        (record { desks = desks.now; nodes = nodes.old.items })) }
+    ensures errand { IfOk result (λ r. r.1 ≡ errand_of {k = K.ChannelKeys} (step.Do end what)
+        (record { desks = desks.now; nodes = nodes.old.items })) }
+    ensures prepared { OnOk result (nodes.new.items ≡ prepared {k = K.ChannelKeys} (step.Do end what)
+        (record { desks = desks.now; nodes = nodes.old.items })) }
+    ensures fails_for_memory_alone { IfErr result (λ e. e ≡ refusal.Memory) }
+{
+    let before = told_count(end_at(desks.channels(), end))?;
+    let (act, asked) = begin(alloc, desks, nodes, end, what)?;
+    match act {
+        None => Ok((None, Errand::None)),
+        Some(act) => Ok((
+            Some(DeskStep::Do(end, act)),
+            Errand::Act(end, before, asked),
+        )),
+    }
+}
+
+// An end has no memory for an act. 60 where there is none for that.
+fn prepare_halt<K: ChannelKeys + Copy>(
+    alloc: Global,
+    desks: &Nodes<K>,
+    nodes: &mut Vec<NodeBook>,
+    end: End,
+    what: Act,
+) -> Result<(Option<DeskStep<K>>, Errand), Refusal>
+    ensures plain { IfOk result (λ r. r.0 ≡ plain K.ChannelKeys (step.NoMemory end what)
+        (record { desks = desks.now; nodes = nodes.old.items })) }
+    ensures errand { IfOk result (λ r. r.1 ≡ errand_of {k = K.ChannelKeys} (step.NoMemory end what)
+        (record { desks = desks.now; nodes = nodes.old.items })) }
+    ensures prepared { OnOk result (nodes.new.items ≡ prepared {k = K.ChannelKeys} (step.NoMemory end what)
+        (record { desks = desks.now; nodes = nodes.old.items })) }
+    ensures fails_for_memory_alone { IfErr result (λ e. e ≡ refusal.Memory) }
+{
+    let is_take = matches!(&what, Act::Take);
+    match leave(alloc, desks, nodes, end, what)? {
+        None => Ok((None, Errand::None)),
+        Some(act) => Ok((
+            Some(DeskStep::NoMemory(end, act)),
+            Errand::Halt(end, is_take),
+        )),
+    }
+}
+
+// A node stops before an act of its end. 60 where there is no memory.
+fn prepare_stop_before<K: ChannelKeys + Copy>(
+    alloc: Global,
+    desks: &Nodes<K>,
+    nodes: &mut Vec<NodeBook>,
+    end: End,
+    what: Act,
+) -> Result<(Option<DeskStep<K>>, Errand), Refusal>
+    ensures plain { IfOk result (λ r. r.0 ≡ plain K.ChannelKeys (step.StopBefore end what)
+        (record { desks = desks.now; nodes = nodes.old.items })) }
+    ensures errand { IfOk result (λ r. r.1 ≡ errand_of {k = K.ChannelKeys} (step.StopBefore end what)
+        (record { desks = desks.now; nodes = nodes.old.items })) }
+    ensures prepared { OnOk result (nodes.new.items ≡ prepared {k = K.ChannelKeys} (step.StopBefore end what)
+        (record { desks = desks.now; nodes = nodes.old.items })) }
+    ensures fails_for_memory_alone { IfErr result (λ e. e ≡ refusal.Memory) }
+{
+    match leave(alloc, desks, nodes, end, what)? {
+        None => Ok((None, Errand::None)),
+        Some(act) => Ok((
+            Some(DeskStep::StopBefore(end, act)),
+            Errand::Restart(end.node),
+        )),
+    }
+}
+
+// A node stops behind an act of its end. 60 where there is no memory.
+fn prepare_stop_after<K: ChannelKeys + Copy>(
+    alloc: Global,
+    desks: &Nodes<K>,
+    nodes: &mut Vec<NodeBook>,
+    end: End,
+    what: Act,
+) -> Result<(Option<DeskStep<K>>, Errand), Refusal>
+    ensures plain { IfOk result (λ r. r.0 ≡ plain K.ChannelKeys (step.StopAfter end what)
+        (record { desks = desks.now; nodes = nodes.old.items })) }
+    ensures errand { IfOk result (λ r. r.1 ≡ errand_of {k = K.ChannelKeys} (step.StopAfter end what)
+        (record { desks = desks.now; nodes = nodes.old.items })) }
+    ensures prepared { OnOk result (nodes.new.items ≡ prepared {k = K.ChannelKeys} (step.StopAfter end what)
+        (record { desks = desks.now; nodes = nodes.old.items })) }
+    ensures fails_for_memory_alone { IfErr result (λ e. e ≡ refusal.Memory) }
+{
+    match begin(alloc, desks, nodes, end, what)?.0 {
+        None => Ok((None, Errand::None)),
+        Some(act) => Ok((
+            Some(DeskStep::StopAfter(end, act)),
+            Errand::Restart(end.node),
+        )),
+    }
+}
+
+// The block height of a node, where there is such a one. 60 where there is no memory.
+fn prepare_height(
+    alloc: Global,
+    nodes: &mut Vec<NodeBook>,
+    node: Node,
+    height: u32,
+) -> Result<Errand, Refusal>
+    ensures errand { IfOk result (λ r. r ≡ if_height height node) }
+    ensures prepared { OnOk result (nodes.new.items ≡ with_height node height nodes.old.items) }
+    ensures fails_for_memory_alone { IfErr result (λ e. e ≡ refusal.Memory) }
+{
+    if height > 400_000_000 {
+        return Ok(Errand::None);
+    }
+    set_height(alloc, nodes, node, height)?;
+    Ok(Errand::Set(node))
+}
+
+/// What the books do before a step: the step of desks that it is, if any, and what they have to do behind it. 60 where
+/// there is no memory.
+pub(crate) fn prepare<K: ChannelKeys + Copy>(
+    alloc: Global,
+    desks: &Nodes<K>,
+    nodes: &mut Vec<NodeBook>,
+    step: Step<K>,
+) -> Result<(Option<DeskStep<K>>, Errand), Refusal>
+    ensures plain { IfOk result (λ r. r.0 ≡ plain K.ChannelKeys step
+        (record { desks = desks.now; nodes = nodes.old.items })) }
+    ensures errand { IfOk result (λ r. r.1 ≡ errand_of step (record { desks = desks.now; nodes = nodes.old.items })) }
+    ensures prepared { OnOk result (nodes.new.items ≡ prepared step
+        (record { desks = desks.now; nodes = nodes.old.items })) }
+    ensures fails_for_memory_alone { IfErr result (λ e. e ≡ refusal.Memory) }
+{
+    match step {
+        Step::Fees(node, fees) => Ok((Some(DeskStep::Fees(node, fees)), Errand::None)),
+        Step::Limits(node, limits) => Ok((Some(DeskStep::Limits(node, limits)), Errand::None)),
+        Step::Policy(node, policy) => {
+            set_policy(alloc, nodes, node, policy)?;
+            Ok((None, Errand::Set(node)))
+        }
+        Step::Height(node, height) => Ok((None, prepare_height(alloc, nodes, node, height)?)),
+        Step::Expect(node, invoice) => {
+            expect(alloc, nodes, node, invoice)?;
+            Ok((None, Errand::Set(node)))
+        }
+        Step::Open(wish) => Ok((Some(DeskStep::Open(wish)), Errand::None)),
+        Step::Do(end, what) => prepare_act(alloc, desks, nodes, end, what),
+        Step::Down(end) => Ok((Some(DeskStep::Down(end)), Errand::Fall(end))),
+        Step::NoMemory(end, what) => prepare_halt(alloc, desks, nodes, end, what),
+        Step::Restart(node) => Ok((Some(DeskStep::Restart(node)), Errand::Restart(node))),
+        Step::StopBefore(end, what) => prepare_stop_before(alloc, desks, nodes, end, what),
+        Step::StopAfter(end, what) => prepare_stop_after(alloc, desks, nodes, end, what),
+        Step::Up(number) => Ok((Some(DeskStep::Up(number)), Errand::Meet(number))),
+        Step::Dispatch(end) => Ok((Some(DeskStep::Dispatch(end)), Errand::None)),
+        Step::Register(end, hook) => Ok((Some(DeskStep::Register(end, hook)), Errand::None)),
+    }
+}

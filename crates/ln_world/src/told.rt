@@ -1,0 +1,175 @@
+//! What a book is told of a channel's end.
+
+ghost use Rattle.std.specs.Prelude.{◌≡◌, ◌++◌, ◌-◌, OnOk, IfOk, IfErr, option_copied};
+ghost use Rattle.ln_msgs.specs.declared.refusals.refusal.Refusal.TheVariants as refusal;
+ghost use Rattle.ln_desks.specs.World.{undecided};
+ghost use Rattle.ln_world.specs.Told.{about, answer_by, byte_at, choice_of, noted_of, decided_line, told_count};
+ghost use Rattle.ln_world.specs.Told.{next_id, with_event, with_events, with_held};
+
+use ln_book::Book;
+use ln_channel::{Channel as ChannelEnd, Command};
+use ln_desks::{Choice, End, Line, undecided};
+use ln_log::{ChannelId, Mark};
+use ln_msgs::Refusal;
+use std::alloc::Global;
+
+/// What a command is about: an HTLC, or an event. One that is offered gets the end's next id.
+pub(crate) fn about(next: u64, command: &Command) -> u64
+    ensures { result ≡ about next command.now }
+{
+    match command {
+        Command::Add { .. } => next,
+        Command::Fulfil { id, .. } => *id,
+        Command::Fail { id, .. } => *id,
+        Command::Malformed { id, .. } => *id,
+        Command::Decide { event, .. } => *event,
+        Command::Forget(id) => *id,
+        _ => 0,
+    }
+}
+
+/// What an end has answered, by what is told of that: the number of its refusal, or what the command was about.
+pub(crate) fn answer_by(id: u64, told: &[Line]) -> Result<u64, u16>
+    ensures { result ≡ answer_by id told.now }
+{
+    match told {
+        [Line::Refused(_, refusal), ..] => Err(refusal.number()),
+        [Line::Idle, ..] => Err(40),
+        _ => Ok(id),
+    }
+}
+
+fn byte_at(place: usize, bytes: &[u8]) -> u8
+    ensures { result ≡ byte_at place bytes.now }
+{
+    if place < bytes.len() { bytes[place] } else { 0 }
+}
+
+// A decision, by what a report tells of it.
+fn choice_of(mark: &Mark) -> Choice
+    ensures { result ≡ choice_of mark.now }
+{
+    match mark {
+        Mark::None => Choice::None,
+        Mark::Forward { channel, .. } => Choice::Forward(byte_at(31, channel)),
+        Mark::Fail(reason) => {
+            let first = byte_at(0, reason.as_slice()) as u16;
+            let second = byte_at(1, reason.as_slice()) as u16;
+            Choice::Fail(256 * first + second)
+        }
+        Mark::Malformed(code) => Choice::Malformed(*code),
+        Mark::Fulfil(_) => Choice::Fulfil,
+    }
+}
+
+/// What is told of a decision, if a command is one: the event's number, and what is done about it.
+pub(crate) fn noted_of(command: &Command) -> Option<(u64, Choice)>
+    ensures { result ≡ noted_of command.now }
+{
+    match command {
+        Command::Decide { event, mark } => Some((*event, choice_of(mark))),
+        _ => None,
+    }
+}
+
+/// Tells of a decision that an end has taken. 60 where there is no memory.
+pub(crate) fn tell_decided(
+    end: End,
+    noted: Option<(u64, Choice)>,
+    answer: Result<u64, u16>,
+    lines: &mut Vec<Line>,
+) -> Result<(), Refusal>
+    ensures told { OnOk result (lines.new.items ≡ lines.old.items ++ decided_line end noted answer) }
+    ensures fails_for_memory_alone { IfErr result (λ e. e ≡ refusal.Memory) }
+{
+    if let (Some((event, choice)), Ok(_)) = (noted, answer) {
+        lines.push(Line::Decided(end, event, choice))?;
+    }
+    Ok(())
+}
+
+/// How many events an end has told. 60 where there are 2^64 of them.
+pub(crate) fn told_count(end: Option<&ChannelEnd>) -> Result<u64, Refusal>
+    ensures count { IfOk result (λ n. n ≡ told_count (option_copied end.entry)) }
+    ensures fails_for_memory_alone { IfErr result (λ e. e ≡ refusal.Memory) }
+{
+    match end {
+        None => Ok(0),
+        Some(end) => {
+            let ledger = end.ledger();
+            match ledger
+                .decided()
+                .checked_add(ledger.undecided().len() as u64)
+            {
+                Some(count) => Ok(count),
+                None => Err(Refusal::Memory),
+            }
+        }
+    }
+}
+
+/// The id of an end's next own HTLC.
+pub(crate) fn next_id(end: Option<&ChannelEnd>) -> u64
+    ensures { result ≡ next_id (option_copied end.entry) }
+{
+    match end {
+        None => 0,
+        Some(end) => end.dance().log().next_id(),
+    }
+}
+
+// The book is told of the event of this number, where the end holds it. 60 where there is no memory.
+fn hear_event(
+    alloc: Global,
+    book: &mut Book,
+    id: ChannelId,
+    end: &ChannelEnd,
+    number: u64,
+) -> Result<(), Refusal>
+    ensures heard { OnOk result (book.new ≡ with_event id (undecided number end.now) book.old) }
+    ensures fails_for_memory_alone { IfErr result (λ e. e ≡ refusal.Memory) }
+{
+    match undecided(alloc, end, number)? {
+        None => Ok(()),
+        Some(event) => book.settled(alloc, id, &event),
+    }
+}
+
+// The book is told of the events from this number on, up to this count.
+fn hear_events(
+    alloc: Global,
+    book: &mut Book,
+    id: ChannelId,
+    end: &ChannelEnd,
+    before: u64,
+    count: u64,
+) -> Result<(), Refusal>
+    ensures heard { OnOk result (book.new ≡ with_events id before (count - before) end.now book.old) }
+    ensures fails_for_memory_alone { IfErr result (λ e. e ≡ refusal.Memory) }
+{
+    for number in before..count {
+        hear_event(alloc, book, id, end, number)?;
+    }
+    Ok(())
+}
+
+/// The book of a channel's node is told what the end has come to hold, which had told so many events before. 60 where
+/// there is no memory.
+pub(crate) fn hear(
+    alloc: Global,
+    book: &mut Book,
+    id: ChannelId,
+    end: Option<&ChannelEnd>,
+    before: u64,
+) -> Result<(), Refusal>
+    ensures heard { OnOk result (book.new ≡ with_held id before (option_copied end.entry) book.old) }
+    ensures fails_for_memory_alone { IfErr result (λ e. e ≡ refusal.Memory) }
+{
+    match end {
+        None => Ok(()),
+        Some(end) => {
+            let count = told_count(Some(end))?;
+            hear_events(alloc, book, id, end, before, count)
+        }
+    }
+}
