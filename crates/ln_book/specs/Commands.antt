@@ -24,7 +24,7 @@ use Rattle.ln_tables.specs.declared.entry.Desk.{Desk}
 use Rattle.ln_tables.specs.declared.entry.Desk.TheVariants as desk
 use Rattle.ln_tables.specs.declared.entry.Entry.{Entry}
 use Rattle.ln_tables.specs.declared.entry.Entry.TheVariants as entry
-use Rattle.ln_tables.specs.History.{History, with_entry}
+use Rattle.ln_history.specs.History.{History, with_entry}
 use Rattle.ln_tables.specs.Replay.{Table, same, desk_at, is_open, is_settled, is_nowhere}
 
 -- a node's service that opens onions and wraps failures (BOLT 4)

@@ -6,7 +6,7 @@ use Rattle.ln_hooks.specs.declared.event.How.{How}
 use Rattle.ln_tables.specs.declared.htlc.Key.{Key}
 use Rattle.ln_tables.specs.declared.entry.Entry.{Entry}
 use Rattle.ln_tables.specs.declared.entry.Entry.TheVariants as entry
-use Rattle.ln_tables.specs.History.{History, with_entry}
+use Rattle.ln_history.specs.History.{History, with_entry}
 use Rattle.ln_tables.specs.Replay.{Table}
 
 -- of an own HTLC what has become of it; of a peer's that it is removed

@@ -5,14 +5,13 @@ use crate::marks::{mark_of, offer_of};
 use ln_bytes::ShortId;
 use ln_channel::Command;
 use ln_forward::{Expected, Policy};
+use ln_history::Past;
 use ln_hooks::{ChannelEvent, How, Verdict};
 use ln_keys::Onion;
 use ln_log::{ChannelId, Mark};
 use ln_msgs::Refusal;
 use ln_readings::{Kept, Reading, rebuilt_htlcs, told_by};
-use ln_tables::{
-    Decided, Desk, Entry, Invoice, Key, Line, Log, Out, Tables, Told, copy_how, copy_mark,
-};
+use ln_tables::{Decided, Desk, Entry, Invoice, Key, Line, Out, Tables, Told, copy_how, copy_mark};
 use std::alloc::Global;
 use std::marker::Model;
 
@@ -21,13 +20,13 @@ use std::marker::Model;
 #[derive(Drop)]
 pub struct Book {
     tables: Tables,
-    history: Log<Tables, Entry>,
+    history: Past<Tables, Entry>,
 }
 
 impl Model for Book {
     ghost use Rattle.std.specs.Prelude.{◌≡◌};
     ghost use Rattle.ln_tables.specs.declared.entry.Entry.{Entry};
-    ghost use Rattle.ln_tables.specs.History.{History};
+    ghost use Rattle.ln_history.specs.History.{History};
     ghost use Rattle.ln_tables.specs.Replay.{Table, table_of};
 
     ghost Value = { History Table Entry };
@@ -41,7 +40,7 @@ impl Book {
     ghost use Rattle.std.specs.Prelude.{◌≡◌, ◌≤◌, OnOk, OnErr, IfErr};
     ghost use Rattle.ln_bytes.specs.ShortId.{short_id_bytes};
     ghost use Rattle.ln_tables.specs.declared.entry.Entry.TheVariants as entry;
-    ghost use Rattle.ln_tables.specs.History.{begun_with, with_entry};
+    ghost use Rattle.ln_history.specs.History.{begun_with, with_entry};
     ghost use Rattle.ln_tables.specs.Replay.{no_table, table_of, is_usable};
 
     /// A book in which nothing stands. Takes no memory.
@@ -49,7 +48,7 @@ impl Book {
         ensures { result ≡ begun_with no_table }
     {
         let tables = Tables::new(alloc);
-        let history = Log::begun(&tables);
+        let history = Past::begun(&tables);
         Book { tables, history }
     }
 
@@ -133,7 +132,7 @@ impl Book {
 impl Book {
     ghost use Rattle.std.specs.Prelude.{◌≡◌, OnOk, OnErr, IfOk, IfErr, option_map};
     ghost use Rattle.ln_tables.specs.declared.entry.Entry.TheVariants as entry;
-    ghost use Rattle.ln_tables.specs.History.{with_entry};
+    ghost use Rattle.ln_history.specs.History.{with_entry};
     ghost use Rattle.ln_tables.specs.Replay.{table_of, desk_at};
     ghost use Rattle.ln_book.specs.Commands.{services_of, first_command, with_taken, with_answered};
     ghost use Rattle.ln_book.specs.Marks.{offer_of, mark_of, decision};
@@ -298,7 +297,7 @@ impl Book {
 impl Book {
     ghost use Rattle.std.specs.Prelude.{◌≡◌, OnOk, OnErr, IfErr};
     ghost use Rattle.ln_tables.specs.declared.entry.Entry.TheVariants as entry;
-    ghost use Rattle.ln_tables.specs.History.{with_entry};
+    ghost use Rattle.ln_history.specs.History.{with_entry};
     ghost use Rattle.ln_tables.specs.Replay.{table_of};
     ghost use Rattle.ln_readings.specs.Kept.{told_by};
 
@@ -334,7 +333,7 @@ impl Book {
 
 impl Book {
     ghost use Rattle.std.specs.Prelude.{◌≡◌, OnOk, OnErr, IfErr};
-    ghost use Rattle.ln_tables.specs.History.{begun_with};
+    ghost use Rattle.ln_history.specs.History.{begun_with};
     ghost use Rattle.ln_tables.specs.Replay.{table_of};
     ghost use Rattle.ln_readings.specs.Rebuild.{rebuilt};
 
@@ -351,7 +350,7 @@ impl Book {
     {
         let htlcs = rebuilt_htlcs(alloc, readings)?;
         self.tables.begin(alloc, htlcs);
-        self.history = Log::begun(&self.tables);
+        self.history = Past::begun(&self.tables);
         Ok(())
     }
 }

@@ -3,6 +3,8 @@
 ghost use Rattle.std.specs.Prelude.{◌≡◌, ◌≤◌, ◌<◌, ◌+◌, ◌^◌, length};
 ghost use Rattle.ln_dance.specs.Dance as dancing;
 ghost use Rattle.ln_dance.specs.Dance.{Dancer};
+ghost use Rattle.ln_log.specs.declared.log.Side.TheVariants as side;
+ghost use Rattle.ln_log.specs.Log.{before_first, AreNotGone};
 ghost use Rattle.ln_channel.specs.Since.{own_since, peer_since};
 
 use crate::ledger::EventLedger;
@@ -404,6 +406,7 @@ fn peer_since(dance: &Dance, before: usize) -> &[Update]
     requires start { before ≤ dance.now.log.acknowledged.peer }
     requires kept { dance.now.log.first.peer ≤ before }
     ensures updates { (d : Dancer) → dancing.StandsFor dance.now d → result.now ≡ peer_since before d.log }
+    ensures not_removed_before { AreNotGone (before_first side.Peer dance.now.log) result.now }
     ensures fits_64_bits { before + length result.now < 2 ^ 64 }
 {
     dance.log().between(Side::Peer, before, peer_held(dance))

@@ -39,7 +39,10 @@ impl Model for EventLedger {
 }
 
 ghost use Rattle.std.specs.Prelude.{◌≡◌, IfOk, IfErr, filter};
-ghost use Rattle.ln_log.specs.Updates.{add_with};
+ghost use Rattle.ln_log.specs.declared.log.Side.TheVariants as side;
+ghost use Rattle.ln_log.specs.declared.outcome.Outcome.TheVariants as found;
+ghost use Rattle.ln_log.specs.Updates.{add_with, outcome, removed};
+ghost use Rattle.ln_log.specs.Log.{before_first, IsNotGone};
 ghost use Rattle.ln_channel.specs.Ledger.{ref_of, origin_of, settlement_by, is_not_of};
 
 // The update of this number, of this side's own or of the peer's.
@@ -53,9 +56,10 @@ fn ref_of(own: bool, number: u64) -> EventRef
     }
 }
 
-// The HTLC that the own one of this id forwards.
+// The HTLC that the own one of this id forwards, where no update of the peer's that has left the window removes it.
 fn origin_of(log: &UpdateLog, id: u64) -> Option<(ChannelId, u64)>
-    ensures { result ≡ origin_of (add_with id log.now.own) }
+    ensures { outcome id (before_first side.Peer log.now) ≡ found.Live
+        → result ≡ origin_of (add_with id log.now.own) }
 {
     match log.own_htlc(id) {
         None => None,
@@ -63,13 +67,15 @@ fn origin_of(log: &UpdateLog, id: u64) -> Option<(ChannelId, u64)>
     }
 }
 
-// What became of the own HTLC that this update of the peer's removes, where it forwards another one.
+// What became of the own HTLC that this update of the peer's removes, where it forwards another one, and no update
+// that has left the window removes it.
 fn settlement_by(
     alloc: Global,
     log: &UpdateLog,
     update: &Update,
 ) -> Result<Option<Settlement>, Refusal>
-    ensures settlement { IfOk result (λ s. s ≡ settlement_by log.now.own update.now) }
+    ensures settlement { IsNotGone (before_first side.Peer log.now) (removed update.now)
+        → IfOk result (λ s. s ≡ settlement_by log.now.own update.now) }
     ensures fails_for_memory_alone { IfErr result (λ r. r ≡ Refusal.Memory) }
 {
     let Some(removal) = removal_of(update) else {
@@ -184,19 +190,23 @@ impl EventLedger {
 
 impl EventLedger {
     ghost use Rattle.std.specs.Prelude.{◌≡◌, ◌<◌, ◌∷◌, [], length, Ok, OnOk, IfErr};
+    ghost use Rattle.ln_log.specs.declared.log.Side.TheVariants as side;
+    ghost use Rattle.ln_log.specs.Updates.{removed};
+    ghost use Rattle.ln_log.specs.Log.{before_first, IsNotGone, AreNotGone};
     ghost use Rattle.ln_bytes.specs.Answers.{Leaves};
     ghost use Rattle.ln_channel.specs.Opening.{Lacks};
     ghost use Rattle.ln_channel.specs.Ledger.{most_decided, resulted, marked, decided_first, is_in_turn, decide_row};
     ghost use Rattle.ln_channel.specs.Ledger.{forgotten};
 
-    // Keeps what became of the own HTLC that this update removes.
+    // Keeps what became of the own HTLC that this update removes, where none that has left the window does.
     fn keep_result(
         &mut self,
         alloc: Global,
         log: &UpdateLog,
         update: &Update,
     ) -> Result<(), Refusal>
-        ensures kept { OnOk result (self.new ≡ resulted log.now.own (update.now ∷ []) self.old) }
+        ensures kept { IsNotGone (before_first side.Peer log.now) (removed update.now)
+            → OnOk result (self.new ≡ resulted log.now.own (update.now ∷ []) self.old) }
         ensures fails_for_memory_alone { IfErr result (λ r. r ≡ Refusal.Memory) }
     {
         match settlement_by(alloc, log, update)? {
@@ -206,14 +216,16 @@ impl EventLedger {
         Ok(())
     }
 
-    /// Keeps what became of the own HTLCs that these updates of the peer's remove.
+    /// Keeps what became of the own HTLCs that these updates of the peer's remove, where none that has left the window
+    /// does.
     pub(crate) fn keep_results(
         &mut self,
         alloc: Global,
         log: &UpdateLog,
         updates: &[Update],
     ) -> Result<(), Refusal>
-        ensures kept { OnOk result (self.new ≡ resulted log.now.own updates.now self.old) }
+        ensures kept { AreNotGone (before_first side.Peer log.now) updates.now
+            → OnOk result (self.new ≡ resulted log.now.own updates.now self.old) }
         ensures fails_for_memory_alone { IfErr result (λ r. r ≡ Refusal.Memory) }
     {
         for update in updates {

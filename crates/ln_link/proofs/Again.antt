@@ -1,6 +1,6 @@
 -- What readable items tell, and what is read again of an end's record.
 use Rattle.std.proofs.Common.{◌≡◌, ◌∙◌, ◌⊎◌, ◌<◌, ◌≤◌, ◌^◌, ℕ, refl, sym, ap, subst, arith, inl, inr, true, Bool}
-use Rattle.std.proofs.Common.{◌==◌, ◌+◌, ◌||◌, not}
+use Rattle.std.proofs.Common.{◌==◌, ◌+◌, ◌||◌, not, is_some}
 use Rattle.std.proofs.lemmas.Bool.{and_parts, or_cases, eq-eqb, eqb-true, leb-true, ltb-true}
 use Rattle.std.proofs.Common.{◌%◌, ◌++◌, List, [], drop, append_assoc, mod-eq_of_lt}
 use Rattle.std.specs.Coded.{le_prop}
@@ -17,7 +17,16 @@ use Rattle.ln_store.specs.declared.record.Updates.{Updates}
 use Rattle.ln_store.specs.Items as it
 use Rattle.ln_store.specs.Readable.{is_readable, is_sound, is_open_payload, is_accept_payload, are_in_step}
 use Rattle.ln_store.specs.Readable.{are_settled, cover_the_same}
-use Rattle.ln_link.specs.Loading.{log_of, short_id_of}
+use Rattle.ln_dance.specs.Dance.{Dancer}
+use Rattle.ln_close.specs.declared.closing.Closing.{Closing}
+use Rattle.ln_close.specs.Closing.{AreOrdered}
+use Rattle.ln_channel.specs.declared.opening.Terms.{Terms}
+use Rattle.ln_channel.specs.declared.channel.Marks.{Marks}
+use Rattle.ln_channel.specs.Ledger.{Ledger}
+use Rattle.ln_channel.specs.Opening.{opening_of}
+use Rattle.ln_channel.specs.Parts.{end_with}
+use Rattle.ln_link.specs.Loading.{log_of, log_in, short_id_of, dance_of, closing_of, terms_of, marks_of, ledger_of}
+use Rattle.ln_link.specs.Loading.{end_of, TellsLog, IsLoadable}
 
 -- what is used of readable items
 pub record Parts (i : Items) : Type 0 where
@@ -98,3 +107,31 @@ id_again b t o bf tf of =
     let three : big_number 2 (drop 6 bs) ≡ o = ap (big_number 2) last ∙ big_number-reads_back 2 o [] of in
     same_id (big_number 3 bs % 2 ^ 24) b (big_number 3 (drop 3 bs) % 2 ^ 24) t (big_number 2 (drop 6 bs)) o _ _ bf tf
     (ap (λ (n : ℕ). n % 2 ^ 24) one ∙ mod-eq_of_lt bf) (ap (λ (n : ℕ). n % 2 ^ 24) two ∙ mod-eq_of_lt tf) three
+
+-- ---- the end that items tell
+
+-- of the parts that they tell
+pub told_end : (i : Items) (d : Dancer) (c : Closing) (t : Terms) (m : Marks) (g : Ledger)
+    → d ≡ dance_of i.header i.commitments (log_in i) → c ≡ closing_of i.header i.agreement i.progress.fees
+    → t ≡ terms_of i.agreement → m ≡ marks_of i.header.flags i.agreement.place → g ≡ ledger_of i.progress
+    → end_with d c t m g ≡ end_of i
+unfolding end_of
+told_end i d c t m g dance closing terms marks ledger =
+    let told_dance = dance_of i.header i.commitments (log_in i) in
+    let told_closing = closing_of i.header i.agreement i.progress.fees in
+    let told_marks = marks_of i.header.flags i.agreement.place in
+    ap (λ (x : Dancer). end_with x c t m g) dance
+    ∙ ap (λ (x : Closing). end_with told_dance x t m g) closing
+    ∙ ap (λ (x : Terms). end_with told_dance told_closing x m g) terms
+    ∙ ap (λ (x : Marks). end_with told_dance told_closing (terms_of i.agreement) x g) marks
+    ∙ ap (λ (x : Ledger). end_with told_dance told_closing (terms_of i.agreement) told_marks x) ledger
+
+-- their updates tell a log in the channel that they tell
+pub loadable : (i : Items) (o : Opening) → o ≡ opening_of (terms_of i.agreement)
+    → TellsLog o i.header.role i.updates → AreOrdered i.agreement.fees
+    → is_some i.agreement.peer_script ≡ i.header.flags.shut_received → IsLoadable i
+loadable i o is told fees scripts = record {
+  updates = subst (λ (x : Opening). TellsLog x i.header.role i.updates) is told;
+  fees = fees;
+  scripts = scripts;
+}

@@ -148,6 +148,17 @@ pays_so first p w q v new back pays le = omega (
   spent_behind p w q v,
 )
 
+pub pays_back : (first : ℕ) (p w q v : List Update) → AreLiveIn w q → AreLiveIn v p → Pays first p q
+    → Pays first (p ++ w) (q ++ v) → PaysBehind (balance first p q) (lives p q) w (lives q p) v
+pays_back first p w q v new back pays le = omega (
+  arith,
+  pays,
+  le,
+  got_behind is_failed p w q v refl new,
+  got_behind is_fulfilled q v p w refl back,
+  spent_behind p w q v,
+)
+
 -- ---- live HTLCs
 
 cons_append : (o : Option Add) (xs ys : List Add) → cons_option o (xs ++ ys) ≡ cons_option o xs ++ ys
@@ -190,15 +201,19 @@ live_old [] q v = refl
 live_old (u ∷ us) q v = live_old_one (offered u) us q v (live_old us q v)
 
 -- those of both lists are those of the live ones by then, and of the rest
-pub lives_behind : (p w q v : List Update) → AreLiveIn w q → lives (p ++ w) (q ++ v) ≡ lives (lives p q ++ w) v
-lives_behind p w q v new = ap as_updates (live-append p w (q ++ v)
+pub live_behind : (p w q v : List Update) → AreLiveIn w q → live_adds (p ++ w) (q ++ v) ≡ live_adds (lives p q ++ w) v
+live_behind p w q v new =
+    live-append p w (q ++ v)
     ∙ ap (λ xs. xs ++ live_adds w (q ++ v)) (live_old p q v)
     ∙ ap (λ xs. live_adds (lives p q) v ++ xs) (live_new w q v new)
-    ∙ sym (live-append (lives p q) w v))
+    ∙ sym (live-append (lives p q) w v)
+
+pub lives_behind : (p w q v : List Update) → AreLiveIn w q → lives (p ++ w) (q ++ v) ≡ lives (lives p q ++ w) v
+lives_behind p w q v new = ap as_updates (live_behind p w q v new)
 
 -- ---- single HTLCs
 
-none_removed : (id : ℕ) (adds : List Add) → outcome id (as_updates adds) ≡ Live
+pub none_removed : (id : ℕ) (adds : List Add) → outcome id (as_updates adds) ≡ Live
 none_removed id [] = refl
 none_removed id (a ∷ adds) = none_removed id adds
 
@@ -283,13 +298,13 @@ offered_below id us h = (
 
 -- ---- all together
 
-next-append : (p q : List Update) → next_id (p ++ q) ≡ next_id p + next_id q
+pub next-append : (p q : List Update) → next_id (p ++ q) ≡ next_id p + next_id q
 next-append p q = sum_by-append (λ v. cond (is_add v) 1 0) p q
 
-own_live : (o : Opening) (x : Role) (p w q v : List Update) → GoesOn o x p w q v → AreLiveIn w q
+pub own_live : (o : Opening) (x : Role) (p w q v : List Update) → GoesOn o x p w q v → AreLiveIn w q
 own_live o x p w q v h = live_in (next_id p) w q h.own_ids h.base.own_new
 
-peer_live : (o : Opening) (x : Role) (p w q v : List Update) → GoesOn o x p w q v → AreLiveIn v p
+pub peer_live : (o : Opening) (x : Role) (p w q v : List Update) → GoesOn o x p w q v → AreLiveIn v p
 peer_live o x p w q v h = live_in (next_id q) v p h.peer_ids h.base.peer_new
 
 pub both_lives : (o : Opening) (x : Role) (p w q v : List Update) → GoesOn o x p w q v

@@ -1,17 +1,15 @@
 -- A log with a further update.
 use Rattle.std.proofs.Common.{◌≡◌, ℕ, ◌+◌, ◌*◌, ◌≤◌, ◌<◌, List, [], ◌∷◌, length, take, refl, sym, ap, ◌∙◌, subst}
-use Rattle.std.proofs.Common.{arith, Bool, true, false, cond, eqb, Option, Some, None, Result, Ok, Err, length-append}
-use Rattle.std.proofs.Common.{nat_le, option_map, inl, inr}
+use Rattle.std.proofs.Common.{arith, Bool, true, false, cond, eqb, Option, Some, None, length-append}
+use Rattle.std.proofs.Common.{nat_le, option_map}
 use Rattle.std.proofs.lemmas.List.{take-append-le}
 use Rattle.std.proofs.lemmas.Bool.{leb-false, lt-leb, eqb-true}
-use Rattle.std.specs.Result.{IsErrAnd}
 use Rattle.ln_msgs.specs.Refusals.PeerRule.{rule_of}
 use Rattle.ln_msgs.specs.declared.refusals.peer_rule.PeerRule.{PeerRule}
 use Rattle.ln_msgs.specs.declared.refusals.refusal.Refusal.{Refusal}
 use Rattle.ln_msgs.specs.declared.refusals.refusal.Refusal.TheVariants as refusal
 use Rattle.ln_keys.specs.declared.role.Role.{Role}
 use Rattle.ln_keys.specs.Role.{other_role}
-use Rattle.ln_log.specs.declared.opening.Limits.{Limits}
 use Rattle.ln_log.specs.declared.opening.Opening.{Opening}
 use Rattle.ln_log.specs.declared.standing.Standing.{Standing}
 use Rattle.ln_log.specs.declared.update.Update.{Update}
@@ -20,8 +18,8 @@ use Rattle.ln_log.specs.declared.outcome.Outcome.TheVariants.{Live}
 use Rattle.ln_log.specs.Opening.{HasFunds, limits_of, first_balance}
 use Rattle.ln_log.specs.Updates.{offered, removed, next_id, outcome}
 use Rattle.ln_log.specs.View.{Pays}
-use Rattle.ln_log.specs.Limits.{standing_of, fault_at, update_fault, HasNextId, id_fault, is_at_update_limit}
-use Rattle.ln_log.specs.Limits.{first_fault, most_updates, Answers}
+use Rattle.ln_log.specs.Limits.{standing_of, update_fault, HasNextId, id_fault, is_at_update_limit}
+use Rattle.ln_log.specs.Limits.{first_fault, most_updates}
 use Rattle.ln_log.specs.Standing.{with_own, OwnFits}
 use Rattle.ln_log.specs.Log.{Log, IsKept, HasId, AreRemovals, peer_limit, removal_fault, length_fault, proposal_fault}
 use Rattle.ln_log.specs.Log.{taken_fault, after_propose, after_receive, HasAmount}
@@ -299,34 +297,6 @@ few_is us n r e lt =
     lt-leb most_updates (length us) (subst (λ m. m < most_updates) e lt) in
     ap (λ b. cond b (Some r) None) not_
 
-fault_is : (lim lim' : Limits) (s s' : Standing) (r r' : Role) (os os' hs hs' : List Update) (u : Update) → lim ≡ lim'
-    → s ≡ s' → r ≡ r' → os ≡ os' → hs ≡ hs' → fault_at lim s r os hs u ≡ fault_at lim' s' r' os' hs' u
-fault_is lim lim' s s' r r' os os' hs hs' u el es er eo eh =
-    ap (λ x. fault_at x s r os hs u) el ∙ ap (λ x. fault_at lim' x r os hs u) es
-    ∙ ap (λ x. fault_at lim' s' x os hs u) er ∙ ap (λ x. fault_at lim' s' r' x hs u) eo
-    ∙ ap (λ x. fault_at lim' s' r' os' x u) eh
-
--- by the code, no fault of the lists
-pub own_fault_is : (l : Log) (s t p q : Standing) (u : Update) (lim : Limits) (os hs : List Update)
-    (r : Option Refusal) → IsKept l s t p q → lim ≡ limits_of l.opening l.role → os ≡ l.own
-    → hs ≡ take l.acknowledged.peer l.received → r ≡ fault_at lim s l.role os hs u
-    → r ≡ update_fault l.opening l.role l.own (take l.current.peer l.received)
-    (take l.acknowledged.peer l.received) u
-own_fault_is l s t p q u lim os hs r k el eo eh er =
-    er ∙ fault_is lim (limits_of l.opening l.role) s
-    (standing_of (first_balance l.opening l.role) l.own (take l.current.peer l.received)) l.role l.role os l.own hs
-    (take l.acknowledged.peer l.received) u el k.own_stands refl eo eh
-
-pub got_fault_is : (l : Log) (s t p q : Standing) (u : Update) (lim : Limits) (side : Role) (os hs : List Update)
-    (r : Option Refusal) → IsKept l s t p q → lim ≡ limits_of l.opening (other_role l.role)
-    → side ≡ other_role l.role → os ≡ l.received → hs ≡ take l.current.own l.own → r ≡ fault_at lim p side os hs u
-    → r ≡ update_fault l.opening (other_role l.role) l.received (take l.acknowledged.own l.own)
-    (take l.current.own l.own) u
-got_fault_is l s t p q u lim side os hs r k el es eo eh er =
-    er ∙ fault_is lim (limits_of l.opening (other_role l.role)) p
-    (standing_of (first_balance l.opening (other_role l.role)) l.received (take l.acknowledged.own l.own)) side
-    (other_role l.role) os l.received hs (take l.current.own l.own) u el k.peer_stands es eo eh
-
 -- what the limits let through is of no more than all funds
 pub own_amount : (l : Log) (s t p q : Standing) (u : Update) (r : Option Refusal) → IsKept l s t p q
     → length l.own < most_updates
@@ -344,23 +314,18 @@ got_amount l s t p q u r k few e none =
     has_amount _ _ (offered u) (first_sum_back l.opening l.role k.funds)
     (amount_is _ _ _ (other_role l.role) _ _ _ u (growing_back l s t p q k few) (sym e ∙ none))
 
-pub proposal_is : (l m : Log) (s t p q : Standing) (u : Update) (n : ℕ) (lim : Limits) (os hs : List Update)
-    (r : Option Refusal) → l ≡ m → IsKept l s t p q → n ≡ length l.own → n < most_updates
-    → removal_fault m (removed u) ≡ None → lim ≡ limits_of l.opening l.role → os ≡ l.own
-    → hs ≡ take l.acknowledged.peer l.received → r ≡ fault_at lim s l.role os hs u
-    → proposal_fault m u ≡ first_fault (option_map peer_limit r) (length_fault u)
-proposal_is l m s t p q u n lim os hs r v k en lt none el eo eh er =
-    let found : r ≡ update_fault l.opening l.role l.own (take l.current.peer l.received)
+pub proposal_is : (l : Log) (u : Update) (n : ℕ) (r : Option Refusal) → n ≡ length l.own → n < most_updates
+    → removal_fault l (removed u) ≡ None
+    → r ≡ update_fault l.opening l.role l.own (take l.current.peer l.received)
     (take l.acknowledged.peer l.received) u
-    = own_fault_is l s t p q u lim os hs r k el eo eh er in
-    let here : removal_fault l (removed u) ≡ None = ap (λ (x : Log). removal_fault x (removed u)) v ∙ none in
-    ap (λ (x : Log). proposal_fault x u) (sym v)
-    ∙ ap (λ x. first_fault x (first_fault (removal_fault l (removed u))
+    → proposal_fault l u ≡ first_fault (option_map peer_limit r) (length_fault u)
+proposal_is l u n r en lt none found =
+    ap (λ x. first_fault x (first_fault (removal_fault l (removed u))
     (first_fault (option_map peer_limit (update_fault l.opening l.role l.own (take l.current.peer l.received)
     (take l.acknowledged.peer l.received) u)) (length_fault u)))) (few_is l.own n refusal.NumbersSpent en lt)
     ∙ ap (λ x. first_fault x (first_fault (option_map peer_limit
     (update_fault l.opening l.role l.own (take l.current.peer l.received) (take l.acknowledged.peer l.received) u))
-    (length_fault u))) here
+    (length_fault u))) none
     ∙ ap (λ x. first_fault (option_map peer_limit x) (length_fault u)) (sym found)
 
 pub proposal_refused : (m : Log) (u : Update) (r : Option Refusal) (x : Refusal) (n : PeerRule)
@@ -374,31 +339,15 @@ pub proposal_else : (m : Log) (u : Update) (r o : Option Refusal)
     → o ≡ proposal_fault m u
 proposal_else m u r o e is eo = eo ∙ ap (λ y. first_fault (option_map peer_limit y) (length_fault u)) (sym is) ∙ sym e
 
-pub taken_is : (l m : Log) (s t p q : Standing) (u : Update) (n : ℕ) (lim : Limits) (side : Role) (os hs : List Update)
-    (r : Option Refusal) → l ≡ m → IsKept l s t p q → n ≡ length l.received → n < most_updates
-    → id_fault l.received u ≡ None → lim ≡ limits_of l.opening (other_role l.role) → side ≡ other_role l.role
-    → os ≡ l.received → hs ≡ take l.current.own l.own → r ≡ fault_at lim p side os hs u
-    → r ≡ taken_fault m u
-taken_is l m s t p q u n lim side os hs r v k en lt none el es eo eh er =
+pub taken_is : (l : Log) (u : Update) (n : ℕ) (r : Option Refusal) → n ≡ length l.received → n < most_updates
+    → id_fault l.received u ≡ None
+    → r ≡ update_fault l.opening (other_role l.role) l.received (take l.acknowledged.own l.own)
+    (take l.current.own l.own) u
+    → r ≡ taken_fault l u
+taken_is l u n r en lt none found =
     let f = update_fault l.opening (other_role l.role) l.received (take l.acknowledged.own l.own)
     (take l.current.own l.own) u in
-    let found : r ≡ f
-    = got_fault_is l s t p q u lim side os hs r k el es eo eh er in
     found
     ∙ ap (λ x. first_fault x f) (sym none)
     ∙ ap (λ x. first_fault x (first_fault (id_fault l.received u) f))
     (sym (few_is l.received n refusal.OutOfPlace en lt))
-    ∙ ap (λ (x : Log). taken_fault x u) v
-
--- ---- answers
-
-pub refused_as : (o f : Option Refusal) (r : Refusal) → o ≡ f → o ≡ Some r → Answers {A = Unit {0}} f (Err r)
-refused_as o f r e is = subst (λ x. Answers {A = Unit {0}} x (Err r)) (sym is ∙ e) (inr refl)
-
-pub goes_as : (o f : Option Refusal) → o ≡ f → o ≡ None → Answers {A = Unit {0}} f (Ok tt)
-goes_as o f e is = subst (λ y. Answers {A = Unit {0}} y (Ok tt)) (sym is ∙ e) refl
-
-pub no_memory : (o f : Option Refusal) (r : Result (Unit {0}) Refusal) → o ≡ f → o ≡ None
-    → IsErrAnd r (λ e. e ≡ refusal.Memory) → Answers {A = Unit {0}} f r
-no_memory o f (Ok x) e is h = absurd h
-no_memory o f (Err r) e is h = subst (λ y. Answers {A = Unit {0}} y (Err r)) (sym is ∙ e) (inl (h, refl))

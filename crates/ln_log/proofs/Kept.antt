@@ -3,14 +3,12 @@ use Rattle.std.specs.List.{slice_get, cons_option}
 use Rattle.std.proofs.Common.{◌≡◌, ℕ, zero, suc, IfSome, ◌+◌, ◌-◌, ◌*◌, ◌≤◌, ◌<◌, ◌^◌, List, [], ◌∷◌, ◌++◌, length}
 use Rattle.std.proofs.Common.{take, drop, refl, sym, ap, ◌∙◌, subst, arith, Bool, true, false, cond, Option, Some, None}
 use Rattle.std.proofs.Common.{◌||◌, ◌==◌, nat_lt}
-use Rattle.std.proofs.lemmas.List.{take-append-drop, take-take, take_all, take_rest, drop-take, length-take-le}
+use Rattle.std.proofs.lemmas.List.{take-append-drop, take-take, take_all, length-take-le}
 use Rattle.std.proofs.lemmas.Bool.{ltb-false}
 use Rattle.ln_keys.specs.declared.role.Role.{Role}
 use Rattle.ln_keys.specs.Role.{other_role}
 use Rattle.ln_log.specs.declared.opening.Limits.{Limits}
 use Rattle.ln_log.specs.declared.opening.Opening.{Opening}
-use Rattle.ln_log.specs.declared.log.Side.{Side}
-use Rattle.ln_log.specs.declared.log.Side.TheVariants as side
 use Rattle.ln_log.specs.declared.update.Add.{Add}
 use Rattle.ln_log.specs.declared.update.Removal.{Removal}
 use Rattle.ln_log.specs.declared.update.Update.TheVariants as update
@@ -24,8 +22,8 @@ use Rattle.ln_log.specs.View.{live_of, live_adds, balance, Pays}
 use Rattle.ln_log.specs.Limits.{standing_of, add_fault, fault_at, removable, fulfil_fault, fail_fault, malformed_fault}
 use Rattle.ln_log.specs.Limits.{most_updates}
 use Rattle.ln_log.specs.Standing.{with_own, with_all, paid_by, PaidFits, OwnFits, AllFit}
-use Rattle.ln_log.specs.Log.{Log, IsKept, between, updates_of, BothPay, HasAmount, AreWithin, number_after, HasId}
-use Rattle.ln_log.specs.Log.{AreNumbered, RemovesLive, AreRemovals, after_accept, after_learn, after_drop}
+use Rattle.ln_log.specs.Log.{Log, IsKept, between, BothPay, HasAmount, AreWithin, number_after, HasId}
+use Rattle.ln_log.specs.Log.{AreNumbered, RemovesLive, AreRemovals, after_learn, after_drop}
 use Rattle.ln_log.proofs.Removing.{add_with-more, next-take, next-cons, above, numbered-take, numbered-drop}
 use Rattle.ln_log.proofs.Removing.{removals-take, removals-drop, removals-more, untouched}
 use Rattle.ln_log.proofs.Totals.{sums, first_sum, longer, pays_longer, pays_all, pays_more}
@@ -87,11 +85,6 @@ within-drop most us zero h = h
 within-drop most [] (suc k) h = tt
 within-drop most (u ∷ us) (suc k) h = within-drop most us k h.1
 
-pub side_within : (l : Log) (s t p q : Standing) (x : Side) → IsKept l s t p q
-    → AreWithin (1000 * l.opening.satoshis) (updates_of x l)
-side_within l s t p q side.Own k = k.own_amounts
-side_within l s t p q side.Peer k = k.peer_amounts
-
 -- a part of a list
 pub part_within : (most from to : ℕ) (us vs : List Update) → AreWithin most vs → us ≡ between from to vs
     → AreWithin most us
@@ -103,16 +96,11 @@ pub within-push : (most : ℕ) (us : List Update) (u : Update) → AreWithin mos
 within-push most [] u h a = (a, tt)
 within-push most (v ∷ us) u h a = (h.0, within-push most us u h.1 a)
 
-amount_in : (most : ℕ) (us : List Update) (n : ℕ) → AreWithin most us
+pub amount_in : (most : ℕ) (us : List Update) (n : ℕ) → AreWithin most us
     → IfSome (slice_get us n) (λ u. HasAmount most (offered u))
 amount_in most [] n h = tt
 amount_in most (u ∷ us) zero h = h.0
 amount_in most (u ∷ us) (suc n) h = amount_in most us n h.1
-
-pub amount_found : (most : ℕ) (us vs : List Update) (n : ℕ) (o : Option Update) → o ≡ slice_get vs n → vs ≡ us
-    → AreWithin most us → IfSome o (λ u. HasAmount most (offered u))
-amount_found most us vs n o eo ev h = subst (λ x. IfSome x (λ u. HasAmount most (offered u)))
-    (sym (eo ∙ ap (λ w. slice_get w n) ev)) (amount_in most us n h)
 
 pub has_amount : (most most' : ℕ) (o : Option Add) → most ≡ most' → HasAmount most o → HasAmount most' o
 has_amount most most' o e h = subst (λ m. HasAmount m o) e h
@@ -214,18 +202,6 @@ learning_current l s t p q k =
 
 -- ---- what each call keeps
 
--- the updates that a slice names
-pub rest_is : (n : ℕ) (us vs : List Update) → vs ≡ us → take (length vs - n) (drop n vs) ≡ drop n us
-rest_is n us vs e = take_rest vs n ∙ ap (drop n) e
-
-pub part_is : (m n : ℕ) (us vs : List Update) → m ≤ n → vs ≡ us → take (n - m) (drop m vs) ≡ drop m (take n us)
-part_is m n us vs le e =
-    let whole : m + (n - m) ≡ n = omega (arith, le) in
-    ap (λ ws. take (n - m) (drop m ws)) e ∙ sym (drop-take m (n - m) us) ∙ ap (λ k. drop m (take k us)) whole
-
-pub front_is : (n : ℕ) (us vs : List Update) → vs ≡ us → take n vs ≡ take n us
-front_is n us vs e = ap (take n) e
-
 -- a standing that was moved by all of them
 pub record Moved (s new : Standing) (first : ℕ) (own adds got : List Update) (m : ℕ)
     (us vs : List Update) : Type 0 where
@@ -304,13 +280,6 @@ kept_accepted l s t p q a b m n us vs k em en eu ev ea eb =
             (subst (λ x. Pays g x (take l.acknowledged.own l.own)) (sym whole) k.peer_pays),
       );
     }
-
-pub accepted_is : (k l : Log) (m n : ℕ) → k ≡ l → m ≡ l.acknowledged.own → n ≡ length l.received
-    → record k { current = record { own = m; peer = n } } ≡ after_accept l
-accepted_is k l m n e em en =
-    ap (λ (x : Log). record x { current = record { own = m; peer = n } }) e
-    ∙ ap (λ a. record l { current = record { own = a; peer = n } }) em
-    ∙ ap (λ b. record l { current = record { own = l.acknowledged.own; peer = b } }) en
 
 pub kept_acknowledged : (l : Log) (s t p q a b : Standing) (us vs : List Update) → IsKept l s t p q
     → us ≡ drop l.acknowledged.own (take l.signed.own l.own) → vs ≡ take l.signed.peer l.received
@@ -525,7 +494,7 @@ one_at_most : (o : Option Add) → number_after 0 o ≤ 1
 one_at_most None = omega arith
 one_at_most (Some a) = omega arith
 
-next_few : (us : List Update) → next_id us ≤ length us
+pub next_few : (us : List Update) → next_id us ≤ length us
 next_few [] = omega arith
 next_few (u ∷ us) = omega (arith, next-cons u us, one_at_most (offered u), next_few us)
 
@@ -640,11 +609,3 @@ may_learn_current l s t p q us vs k eu ev =
     may_move _ _ _ _ _ _ _ q us vs (learning_current l s t p q k) (k.peer_current_stands
     ∙ ap (standing_of (first_balance l.opening (other_role l.role)) (take l.current.peer l.received)) (sym front)) eu
     ev
-
--- the lists of a dropped log, by what is left of them
-pub kept_cut : (l : Log) (s t p q : Standing) (os gs : List Update) → IsKept l s t p q → os ≡ take l.signed.own l.own
-    → gs ≡ take l.current.peer l.received → IsKept (record l { own = os; received = gs }) t t q q
-kept_cut l s t p q os gs k eo eg =
-    subst (λ x. IsKept (record l { own = x; received = gs }) t t q q) (sym eo)
-    (subst (λ x. IsKept (record l { own = take l.signed.own l.own; received = x }) t t q q) (sym eg)
-    (kept_dropped l s t p q k))

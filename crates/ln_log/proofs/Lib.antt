@@ -14,3 +14,10 @@ pub mod Readable
 pub mod Rules
 pub mod More
 pub mod Behind
+pub mod Fronts
+pub mod Stands
+pub mod Whole
+pub mod Handed
+pub mod Calls
+pub mod Viewed
+pub mod Advancing

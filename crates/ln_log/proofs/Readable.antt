@@ -24,8 +24,11 @@ use Rattle.ln_log.specs.Outcomes.{Tells, removals_in}
 use Rattle.ln_log.specs.View.{balance, Pays}
 use Rattle.ln_log.specs.Limits.{standing_of, most_updates}
 use Rattle.ln_log.specs.Log.{Log, covered, number_after, HasId, AreNumbered, RemovesLive, AreRemovals, IsKept}
-use Rattle.ln_log.specs.Log.{after_drop}
-use Rattle.ln_log.specs.Loading.{IsLawful, CoverAll, AreLawful, IsReadable}
+use Rattle.ln_log.specs.Log.{after_drop, none}
+use Rattle.ln_log.specs.declared.loading.Coverage.{Coverage}
+use Rattle.ln_log.specs.Window.{worth_of}
+use Rattle.ln_log.specs.Kept.{IsWindowOf}
+use Rattle.ln_log.specs.Loading.{stored, IsLawful, CoverAll, AreLawful, IsReadable}
 use Rattle.ln_log.proofs.Removing.{next-cons, number_is, above, removals-take}
 use Rattle.ln_log.proofs.Totals.{sums, first_sum, pays_longer}
 use Rattle.ln_log.proofs.Live.{counted, wider}
@@ -94,7 +97,8 @@ past t adds before u r e ids whole le h =
 pub tells_too : (t s : List Outcome) (before : List Update) → s ≡ t → Tells t before → Tells s before
 tells_too t s before e h = subst (λ x. Tells x before) (sym e) h
 
-split : (us : List Update) (i : ℕ) (u : Update) → u ≡ get_or us i u → i < length us → drop i us ≡ u ∷ drop (i + 1) us
+pub split : (us : List Update) (i : ℕ) (u : Update) → u ≡ get_or us i u → i < length us
+    → drop i us ≡ u ∷ drop (i + 1) us
 split us i u e lt =
     let next : suc i ≡ i + 1 = omega arith in
     drop-cons us i u lt ∙ ap (λ x. x ∷ drop (suc i) us) (sym e) ∙ ap (λ k. u ∷ drop k us) next
@@ -318,3 +322,70 @@ loads_again l s t p q k own peer =
     let got = length-take-le l.current.peer l.received w.peer_current in
     covers_so (after_drop l) t t q q d (record { within = d.within; own = sym cut; peer = sym got })
     (omega (arith, cut, own, w.own_signed)) (omega (arith, got, peer, w.peer_current))
+
+-- with no update in the base
+
+no_base : (f : ℕ) → balance f [] [] ≡ f
+no_base f = omega arith
+
+no_worth : (o : Opening) (x : Role) → record {
+  next_own = 0;
+  next_peer = 0;
+  own = balance (first_balance o x) [] [];
+  peer = balance (first_balance o (other_role x)) [] [];
+  feerate = o.feerate;
+} ≡ worth_of o x [] []
+no_worth o Funder = refl
+no_worth o Fundee = refl
+
+pub stands_loaded : (o : Opening) (x : Role) (own received : List Update) (c : Coverage) (s p : Standing) (a b : ℕ)
+    → IsReadable (stored o x own received c)
+    → s ≡ standing_of (first_balance o x) own received
+    → p ≡ standing_of (first_balance o (other_role x)) received (take c.acknowledged.own own)
+    → a ≡ first_balance o x → b ≡ first_balance o (other_role x)
+    → IsWindowOf (record {
+      opening = o;
+      role = x;
+      first = none;
+      live = none;
+      worth = record { next_own = 0; next_peer = 0; own = a; peer = b; feerate = o.feerate };
+      own = own;
+      received = received;
+      signed = c.signed;
+      acknowledged = c.acknowledged;
+      current = c.current;
+      own_standing = s;
+      own_signed = s;
+      peer_standing = p;
+      peer_current = p;
+    }) (stored o x own received c)
+stands_loaded o x own received c s p a b r es ep ea eb = record {
+  opening = refl;
+  role = refl;
+  own = refl;
+  received = refl;
+  live_own = refl;
+  live_peer = refl;
+  worth = ap (λ n. record { next_own = 0; next_peer = 0; own = n; peer = b; feerate = o.feerate })
+      (ea ∙ sym (no_base (first_balance o x)))
+      ∙ ap (λ n. record {
+        next_own = 0;
+        next_peer = 0;
+        own = balance (first_balance o x) [] [];
+        peer = n;
+        feerate = o.feerate;
+      }) (eb ∙ sym (no_base (first_balance o (other_role x))))
+      ∙ no_worth o x;
+  closed = record {
+    own_new = λ id le. refl;
+    peer_new = λ id le. refl;
+    paid = (omega arith, omega arith);
+  };
+  signed = refl;
+  acknowledged = refl;
+  current = refl;
+  first_own = omega arith;
+  first_peer = omega arith;
+  whole = refl;
+  is_kept = kept_loaded (stored o x own received c) s p r es ep;
+}

@@ -11,7 +11,6 @@ use Rattle.ln_keys.specs.Role.{other_role}
 use Rattle.ln_log.specs.declared.opening.Opening.{Opening}
 use Rattle.ln_log.specs.declared.log.Pair.{Pair}
 use Rattle.ln_log.specs.declared.log.Pair.TheVariants as pair
-use Rattle.ln_log.specs.declared.log.Side.{Side}
 use Rattle.ln_log.specs.declared.log.Side.TheVariants as side
 use Rattle.ln_log.specs.declared.standing.Standing.{Standing}
 use Rattle.ln_log.specs.declared.update.Update.{Update}
@@ -20,7 +19,7 @@ use Rattle.ln_log.specs.Updates.{as_sent, all_sent}
 use Rattle.ln_log.specs.View.{view_of, Pays, IsFunded}
 use Rattle.ln_log.specs.Machine.{Covered, MaySign, to_sign}
 use Rattle.ln_log.specs.Log.{Counts, Log, covered, sent_pair, party_of, IsWithin, IsKept, BothPay, after_sign}
-use Rattle.ln_log.specs.Log.{same_counts, sign_fault, counts_of, view_for, updates_of, count_of}
+use Rattle.ln_log.specs.Log.{same_counts, sign_fault, counts_of}
 use Rattle.ln_log.proofs.Totals.{pays_all}
 
 both_hold : (a b : Bool) → (a && b) ≡ true → (a ≡ true) × (b ≡ true)
@@ -111,28 +110,6 @@ view_is o f g v e1 e2 e3 e4 =
     ∙ ap (λ n. record { funder = w.funder; fundee = w.fundee; feerate = n; htlcs = v.htlcs }) e3
     ∙ ap (λ n. record { funder = w.funder; fundee = w.fundee; feerate = w.feerate; htlcs = n }) e4
 
-pub funder_view : (l m : Log) (q : Pair) (n k : ℕ) (os ps : List Update) → l ≡ m → l.role ≡ Funder
-    → n ≡ (counts_of q m).own → k ≡ (counts_of q m).peer → os ≡ l.own → ps ≡ l.received
-    → view_of l.opening (take n os) (take k ps) ≡ view_for m.opening m.role (covered m (counts_of q m))
-funder_view l m q n k os ps v role en ek eo ep =
-    ap (λ a. view_of l.opening (take a os) (take k ps)) en
-    ∙ ap (λ a. view_of l.opening (take (counts_of q m).own os) (take a ps)) ek
-    ∙ ap (λ a. view_of l.opening (take (counts_of q m).own a) (take (counts_of q m).peer ps)) eo
-    ∙ ap (λ a. view_of l.opening (take (counts_of q m).own l.own) (take (counts_of q m).peer a)) ep
-    ∙ ap (λ (r : Role). view_for l.opening r (covered l (counts_of q m))) (sym role)
-    ∙ ap (λ (a : Log). view_for a.opening a.role (covered a (counts_of q m))) v
-
-pub fundee_view : (l m : Log) (q : Pair) (n k : ℕ) (os ps : List Update) → l ≡ m → l.role ≡ Fundee
-    → n ≡ (counts_of q m).own → k ≡ (counts_of q m).peer → os ≡ l.own → ps ≡ l.received
-    → view_of l.opening (take k ps) (take n os) ≡ view_for m.opening m.role (covered m (counts_of q m))
-fundee_view l m q n k os ps v role en ek eo ep =
-    ap (λ a. view_of l.opening (take k ps) (take a os)) en
-    ∙ ap (λ a. view_of l.opening (take a ps) (take (counts_of q m).own os)) ek
-    ∙ ap (λ a. view_of l.opening (take (counts_of q m).peer ps) (take (counts_of q m).own a)) eo
-    ∙ ap (λ a. view_of l.opening (take (counts_of q m).peer a) (take (counts_of q m).own l.own)) ep
-    ∙ ap (λ (r : Role). view_for l.opening r (covered l (counts_of q m))) (sym role)
-    ∙ ap (λ (a : Log). view_for a.opening a.role (covered a (counts_of q m))) v
-
 -- ---- every pair is funded
 
 pub pair_pays : (l : Log) (s t p q : Standing) → IsKept l s t p q → (w : Pair)
@@ -158,38 +135,10 @@ pair_pays l s t p q k pair.ToAccept =
       subst (λ x. Pays g x (take l.acknowledged.own l.own)) (sym whole) k.peer_pays,
     )
 
-as_funder : (o : Opening) (r : Role) (c : Covered) → r ≡ Funder → BothPay o r c → IsFunded o c.own c.peer
+pub as_funder : (o : Opening) (r : Role) (c : Covered) → r ≡ Funder → BothPay o r c → IsFunded o c.own c.peer
 as_funder o Funder c e h = record { funder_pays = h.0; fundee_pays = h.1 }
 as_funder o Fundee c e h = absurd (cc)
 
-as_fundee : (o : Opening) (r : Role) (c : Covered) → r ≡ Fundee → BothPay o r c → IsFunded o c.peer c.own
+pub as_fundee : (o : Opening) (r : Role) (c : Covered) → r ≡ Fundee → BothPay o r c → IsFunded o c.peer c.own
 as_fundee o Funder c e h = absurd (cc)
 as_fundee o Fundee c e h = record { funder_pays = h.1; fundee_pays = h.0 }
-
--- by the lists and counts that a call is handed
-pub funder_funded : (l : Log) (s t p q : Standing) (w : Pair) (n k : ℕ) (os ps : List Update) → IsKept l s t p q
-    → l.role ≡ Funder → n ≡ (counts_of w l).own → k ≡ (counts_of w l).peer → os ≡ l.own → ps ≡ l.received
-    → IsFunded l.opening (take n os) (take k ps)
-funder_funded l s t p q w n k os ps h r en ek eo ep =
-    subst (λ x. IsFunded l.opening x (take k ps)) (sym (ap (λ i. take i os) en ∙ ap (take (counts_of w l).own) eo))
-    (subst (IsFunded l.opening (take (counts_of w l).own l.own))
-    (sym (ap (λ i. take i ps) ek ∙ ap (take (counts_of w l).peer) ep))
-    (as_funder l.opening l.role (covered l (counts_of w l)) r (pair_pays l s t p q h w)))
-
-pub fundee_funded : (l : Log) (s t p q : Standing) (w : Pair) (n k : ℕ) (os ps : List Update) → IsKept l s t p q
-    → l.role ≡ Fundee → n ≡ (counts_of w l).own → k ≡ (counts_of w l).peer → os ≡ l.own → ps ≡ l.received
-    → IsFunded l.opening (take k ps) (take n os)
-fundee_funded l s t p q w n k os ps h r en ek eo ep =
-    subst (λ x. IsFunded l.opening x (take n os)) (sym (ap (λ i. take i ps) ek ∙ ap (take (counts_of w l).peer) ep))
-    (subst (IsFunded l.opening (take (counts_of w l).peer l.received))
-    (sym (ap (λ i. take i os) en ∙ ap (take (counts_of w l).own) eo))
-    (as_fundee l.opening l.role (covered l (counts_of w l)) r (pair_pays l s t p q h w)))
-
--- a slice that ends within a list
-pub cut_length : (n : ℕ) (us vs : List Update) → n ≤ length us → vs ≡ us → n ≡ length (take n vs)
-cut_length n us vs le e = sym (ap (λ x. length (take n x)) e ∙ length-take-le n us le)
-
--- of a list that is kept
-pub cut_part : (x : Side) (l m : Log) (n : ℕ) (vs : List Update) → l ≡ m → n ≤ count_of x m → vs ≡ updates_of x l
-    → n ≡ length (take n vs)
-cut_part x l m n vs e le ev = cut_length n (updates_of x l) vs (subst (λ k. n ≤ count_of x k) (sym e) le) ev

@@ -10,4 +10,5 @@ pub mod Events
 pub mod Log
 pub mod Loading
 pub mod Window
+pub mod Kept
 pub use Rattle.ln_msgs.specs.Refusals.Refusal

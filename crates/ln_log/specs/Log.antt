@@ -186,6 +186,20 @@ update_at first us n = if nat_lt n first then None else slice_get us n
 abbrev pub between : ℕ → ℕ → List Update → List Update
 between from to us = take (to - from) (drop from us)
 
+-- the updates of a side that aren't had one by one any more
+abbrev pub before_first : Side → Log → List Update
+before_first side.Own l = take l.first.own l.own
+before_first side.Peer l = take l.first.peer l.received
+
+-- an update that removes an HTLC removes none that these remove
+abbrev pub IsNotGone : List Update → Option Removal → Type 0
+IsNotGone before None = Unit {0}
+IsNotGone before (Some r) = outcome r.id before ≡ Live
+
+abbrev pub AreNotGone : List Update → List Update → Type 0
+AreNotGone before [] = Unit {0}
+AreNotGone before (u ∷ us) = IsNotGone before (removed u) × AreNotGone before us
+
 -- what the last signature covers of the own updates, and the peer hasn't acknowledged
 abbrev pub unacknowledged : Log → List Update
 unacknowledged l = drop l.acknowledged.own (take l.signed.own l.own)

@@ -1,17 +1,20 @@
 -- What the beginnings of two lists leave behind: what they are worth, and their HTLCs that are still live. With the
 -- rest of the lists this is all that the whole lists say.
-use Rattle.std.specs.Prelude.{◌≡◌, ℕ, ◌+◌, ◌-◌, ◌≤◌, List, ◌++◌, map}
+use Rattle.std.specs.Prelude.{◌≡◌, ℕ, ◌+◌, ◌-◌, ◌≤◌, ◌<◌, ◌^◌, List, ◌++◌, map, take}
 use Rattle.ln_keys.specs.declared.role.Role.{Role}
 use Rattle.ln_keys.specs.declared.role.Role.TheVariants.{Funder, Fundee}
 use Rattle.ln_keys.specs.Role.{other_role}
 use Rattle.ln_log.specs.declared.opening.Opening.{Opening}
 use Rattle.ln_log.specs.declared.outcome.Outcome.TheVariants.{Live}
 use Rattle.ln_log.specs.declared.update.Update.{Update}
+use Rattle.ln_log.specs.declared.worth.Worth as declared
+use Rattle.ln_log.specs.declared.worth.Balances.{Balances}
 use Rattle.ln_log.specs.declared.update.Update.TheVariants as update
 use Rattle.ln_log.specs.Opening.{first_balance}
 use Rattle.ln_log.specs.Updates.{next_id, outcome, total, is_any, is_failed, is_fulfilled, last_feerate}
-use Rattle.ln_log.specs.View.{balance, live_adds}
-use Rattle.ln_log.specs.Log.{AreNumbered, BothPay}
+use Rattle.ln_log.specs.View.{balance, live_adds, htlc_of}
+use Rattle.ln_keys.specs.declared.view.View.{View}
+use Rattle.ln_log.specs.Log.{Log, Counts, AreNumbered, BothPay}
 
 -- the HTLCs of one side that the other hasn't removed, as the updates that offered them
 abbrev pub lives : List Update → List Update → List Update
@@ -23,12 +26,8 @@ feerate_of rate Funder own peer = last_feerate rate own
 feerate_of rate Fundee own peer = last_feerate rate peer
 
 -- what two lists are worth beside their live HTLCs
-pub record Worth : Type 0 where
-  pub next_own : ℕ  -- the id of the side's next HTLC
-  pub next_peer : ℕ
-  pub own : ℕ  -- the side's balance
-  pub peer : ℕ
-  pub feerate : ℕ
+abbrev pub Worth : Type 0
+Worth = declared.Worth
 
 abbrev pub worth_of : Opening → Role → List Update → List Update → Worth
 worth_of o x own peer = record {
@@ -71,8 +70,70 @@ pub record IsClosed (o : Opening) (x : Role) (own peer : List Update) : Type 0 w
   pub peer_new : (id : ℕ) → next_id peer ≤ id → outcome id own ≡ Live
   pub paid : BothPay o x (record { own = own; peer = peer })
 
+-- so many updates of both sides can be in the base of a log: no fewer than there are, none that doesn't stand in each
+-- commitment, and together beginnings that can be a base
+pub record MayBeBase (l : Log) (to : Counts) : Type 0 where
+  pub own_first : l.first.own ≤ to.own
+  pub own_current : to.own ≤ l.current.own
+  pub peer_first : l.first.peer ≤ to.peer
+  pub peer_acknowledged : to.peer ≤ l.acknowledged.peer
+  pub closed : IsClosed l.opening l.role (take to.own l.own) (take to.peer l.received)
+
 -- the rest of two lists behind such beginnings: its ids go on where theirs end
 pub record GoesOn (o : Opening) (x : Role) (own_base own peer_base peer : List Update) : Type 0 where
   pub base : IsClosed o x own_base peer_base
   pub own_ids : AreNumbered (next_id own_base) own
   pub peer_ids : AreNumbered (next_id peer_base) peer
+
+-- ---- a view behind a base: of each list all that is kept, the HTLCs that are live in the base before the updates
+-- behind it, and these updates alone
+
+abbrev pub got_behind : ℕ → List Update → List Update → List Update → List Update → ℕ
+got_behind b all new peer_all peer_new = b + total is_failed all peer_new + total is_fulfilled peer_all new
+
+abbrev pub left_behind : ℕ → List Update → List Update → List Update → List Update → ℕ
+left_behind b all new peer_all peer_new = got_behind b all new peer_all peer_new - total is_any new peer_new
+
+abbrev pub view_behind : Balances → List Update → List Update → List Update → List Update → View
+view_behind b funder funder_new fundee fundee_new = record {
+  funder = left_behind b.funder funder funder_new fundee fundee_new;
+  fundee = left_behind b.fundee fundee fundee_new funder funder_new;
+  feerate = last_feerate b.feerate funder_new;
+  htlcs = map (htlc_of Funder) (live_adds funder fundee_new) ++ map (htlc_of Fundee) (live_adds fundee funder_new);
+}
+
+-- what a base is worth, by roles
+abbrev pub balances_of : Worth → Role → Balances
+balances_of w Funder = record { funder = w.own; fundee = w.peer; feerate = w.feerate }
+balances_of w Fundee = record { funder = w.peer; fundee = w.own; feerate = w.feerate }
+
+-- a side can pay, and what it has left is of 64 bits
+pub record IsLeft (b : ℕ) (all new peer_all peer_new : List Update) : Type 0 where
+  pub paid : total is_any new peer_new ≤ got_behind b all new peer_all peer_new
+  pub fits : left_behind b all new peer_all peer_new < 2 ^ 64
+
+pub record FitsBehind (b : Balances) (funder funder_new fundee fundee_new : List Update) : Type 0 where
+  pub funder_left : IsLeft b.funder funder funder_new fundee fundee_new
+  pub fundee_left : IsLeft b.fundee fundee fundee_new funder funder_new
+
+-- ---- what code finds two lists to be worth behind a base
+
+pub record IsWorthBehind (x : Role) (b : Worth) (own_all own peer_all peer : List Update) (w : Worth) : Type 0 where
+  pub next_own : w.next_own ≡ b.next_own + next_id own
+  pub next_peer : w.next_peer ≡ b.next_peer + next_id peer
+  pub own_left : w.own ≡ left_behind b.own own_all own peer_all peer
+  pub peer_left : w.peer ≡ left_behind b.peer peer_all peer own_all own
+  pub feerate : w.feerate ≡ feerate_of b.feerate x own peer
+  pub own_paid : total is_any own peer ≤ got_behind b.own own_all own peer_all peer
+  pub peer_paid : total is_any peer own ≤ got_behind b.peer peer_all peer own_all own
+  pub own_new : (id : ℕ) → w.next_own ≤ id → outcome id peer ≡ Live
+  pub peer_new : (id : ℕ) → w.next_peer ≤ id → outcome id own ≡ Live
+
+-- where it finds it: ids and balances are of 64 bits, and neither list removes an HTLC that the other doesn't offer
+pub record HasWorth (b : Worth) (own_all own peer_all peer : List Update) : Type 0 where
+  pub next_own : b.next_own + next_id own < 2 ^ 64
+  pub next_peer : b.next_peer + next_id peer < 2 ^ 64
+  pub own_new : (id : ℕ) → b.next_own + next_id own ≤ id → outcome id peer ≡ Live
+  pub peer_new : (id : ℕ) → b.next_peer + next_id peer ≤ id → outcome id own ≡ Live
+  pub own_left : IsLeft b.own own_all own peer_all peer
+  pub peer_left : IsLeft b.peer peer_all peer own_all own

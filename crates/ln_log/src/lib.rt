@@ -2,9 +2,11 @@
 //! what a commitment is worth (BOLT 2, "Normal Operation").
 #![tactic(auto)]
 
+mod base;
 mod laws;
 mod loading;
 mod log;
+mod log_window;
 mod mark;
 mod opening;
 mod outcome;
@@ -13,6 +15,7 @@ mod removals;
 mod standing;
 mod update;
 mod window;
+mod worth;
 
 pub use laws::{
     limits_are_rules, moves_exactly, propose_exactly, shut_exactly, sign_exactly, views_as_sent,

@@ -13,12 +13,15 @@ ghost use Rattle.ln_log.specs.Log.{AreNumbered, RemovesLive, AreRemovals, AreWit
 ghost use Rattle.ln_log.specs.Loading.{stored, IsLawful, AreOffered, CoverAll, AreInOrder, AreLawful, IsReadable};
 
 use crate::log::{Counts, MOST_UPDATES, UpdateLog};
+use crate::log_window::Window;
 use crate::opening::Opening;
 use crate::outcome::Outcome;
 use crate::plain::{add_of, count_adds, sums_of};
 use crate::removals::{Outcomes, count_removals, note_removal};
 use crate::standing::Standing;
 use crate::update::{Update, removal_of};
+use crate::worth::Worth;
+use ln_history::Past;
 use ln_keys::Role;
 use ln_msgs::Refusal;
 use std::alloc::Global;
@@ -285,6 +288,81 @@ fn views_are_lawful(
     covers_lawfully(alloc, opening, role, own, received, coverage.current)
 }
 
+impl Window {
+    ghost use Rattle.std.specs.Prelude.{◌≡◌, IfOk, take};
+    ghost use Rattle.std.specs.Result.{IsOkUnless};
+    ghost use Rattle.ln_log.specs.Log.{Log, none, opened};
+    ghost use Rattle.ln_log.specs.Kept.{IsWindowOf, kept_counts, kept_opening};
+    ghost use Rattle.ln_log.specs.Loading.{stored, IsReadable};
+
+    // What the three commitments cover.
+    pub(crate) fn coverage(&self) -> Coverage
+        ensures counts { (l : Log) → IsWindowOf self.now l
+            → stored l.opening l.role l.own l.received result ≡ record l { first = none } }
+        ensures can_be_loaded { (l : Log) → IsWindowOf self.now l → IsReadable
+            (stored l.opening l.role (take l.signed.own l.own) (take l.current.peer l.received) result) }
+    {
+        // (a list that lies in memory has no more than 2^62 updates)
+        let _ = self.own.as_slice().len();
+        let _ = self.received.as_slice().len();
+        Coverage {
+            signed: self.signed,
+            acknowledged: self.acknowledged,
+            current: self.current,
+        }
+    }
+
+    // Of a log of what a record tells, whose base is empty. 60 where there was no memory.
+    pub(crate) fn load(
+        alloc: Global,
+        opening: Opening,
+        role: Role,
+        own: Vec<Update>,
+        received: Vec<Update>,
+        coverage: Coverage,
+    ) -> Result<Window, Refusal>
+        requires { IsReadable (stored opening role own.items received.items coverage) }
+        ensures stands_for_the_lists { IfOk result (λ l. IsWindowOf l (stored opening role own.items received.items
+            coverage)) }
+        ensures counts { IfOk result (λ l. kept_counts l ≡ record {
+          first = none;
+          signed = coverage.signed;
+          acknowledged = coverage.acknowledged;
+          current = coverage.current;
+        }) }
+        ensures opening { IfOk result (λ l. kept_opening l ≡ opened opening role) }
+        ensures fails_for_memory_alone { IsOkUnless result Refusal.Memory }
+    {
+        let own_standing = standing_of(alloc, &opening, role, &own, &received)?;
+        let acknowledged = &own[..coverage.acknowledged.own];
+        let peer_standing = standing_of(alloc, &opening, role.other(), &received, acknowledged)?;
+        let none = Counts { own: 0, peer: 0 };
+        let worth = Worth {
+            next_own: 0,
+            next_peer: 0,
+            own: opening.first_balance(role),
+            peer: opening.first_balance(role.other()),
+            feerate: opening.feerate,
+        };
+        Ok(Window {
+            opening,
+            role,
+            first: none,
+            live: none,
+            worth,
+            own,
+            received,
+            signed: coverage.signed,
+            acknowledged: coverage.acknowledged,
+            current: coverage.current,
+            own_standing,
+            own_signed: own_standing,
+            peer_standing,
+            peer_current: peer_standing,
+        })
+    }
+}
+
 impl UpdateLog {
     ghost use Rattle.std.specs.Prelude.{◌≡◌, ◌↔◌, IsTrue, IfOk, take};
     ghost use Rattle.std.specs.Result.{IsOkUnless};
@@ -325,14 +403,7 @@ impl UpdateLog {
         ensures can_be_loaded { (l : Log) → StandsFor self.now l → IsReadable
             (stored l.opening l.role (take l.signed.own l.own) (take l.current.peer l.received) result) }
     {
-        // (a list that lies in memory has no more than 2^62 updates)
-        let _ = self.own.as_slice().len();
-        let _ = self.received.as_slice().len();
-        Coverage {
-            signed: self.signed,
-            acknowledged: self.acknowledged,
-            current: self.current,
-        }
+        self.window.coverage()
     }
 
     /// The log of what a record tells, which `can_be_loaded` tests. Takes time that grows linearly with the updates. 60
@@ -353,21 +424,11 @@ impl UpdateLog {
         ensures opening { IfOk result (λ l. at_opening l ≡ opened opening role) }
         ensures fails_for_memory_alone { IsOkUnless result Refusal.Memory }
     {
-        let own_standing = standing_of(alloc, &opening, role, &own, &received)?;
-        let acknowledged = &own[..coverage.acknowledged.own];
-        let peer_standing = standing_of(alloc, &opening, role.other(), &received, acknowledged)?;
+        let window = Window::load(alloc, opening, role, own, received, coverage)?;
         Ok(UpdateLog {
-            opening,
-            role,
-            own,
-            received,
-            signed: coverage.signed,
-            acknowledged: coverage.acknowledged,
-            current: coverage.current,
-            own_standing,
-            own_signed: own_standing,
-            peer_standing,
-            peer_current: peer_standing,
+            window,
+            own_past: Past::begun(&()),
+            peer_past: Past::begun(&()),
         })
     }
 }

@@ -142,7 +142,7 @@ pub fn sums_of(adds: &[Update], outcomes: &Outcomes) -> Sums
 }
 
 // The HTLC that an update offers, where the other side hasn't removed it.
-fn live_add<'a>(update: &'a Update, outcomes: &Outcomes) -> Option<&'a Add>
+pub(crate) fn live_add<'a>(update: &'a Update, outcomes: &Outcomes) -> Option<&'a Add>
     ensures { option_copied result ≡ live_of (offered update.now) outcomes.now }
 {
     match add_of(update) {
@@ -155,7 +155,7 @@ fn live_add<'a>(update: &'a Update, outcomes: &Outcomes) -> Option<&'a Add>
     }
 }
 
-fn push_live(
+pub(crate) fn push_live(
     htlcs: &mut Vec<Htlc>,
     owner: Role,
     adds: &[Update],

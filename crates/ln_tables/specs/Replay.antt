@@ -26,7 +26,7 @@ use Rattle.ln_tables.specs.declared.entry.Desk.TheVariants as desk
 use Rattle.ln_tables.specs.declared.entry.Told.{Told}
 use Rattle.ln_tables.specs.declared.entry.Entry.{Entry}
 use Rattle.ln_tables.specs.declared.entry.Entry.TheVariants as entry
-use Rattle.ln_tables.specs.History.{History}
+use Rattle.ln_history.specs.History.{History}
 
 -- What a book says. A channel is its id, in 32 bytes; a short channel id is its eight bytes.
 pub record Table : Type 0 where

@@ -6,12 +6,10 @@ mod copy;
 mod entry;
 mod htlc;
 mod lists;
-mod log;
 mod lost;
 mod tables;
 
 pub use copy::{copied, copy_how, copy_mark};
 pub use entry::{Decided, Desk, Entry, Ids, Invoice, Line, Out, Queued, Told};
 pub use htlc::{Back, Htlc, Key, Offer, Way};
-pub use log::Log;
 pub use tables::Tables;

@@ -61,20 +61,21 @@ fn fulfilment(id: u64, byte: u8) -> Update {
     })
 }
 
-/// A step of the funder: it offers an HTLC, which came from another channel; it takes the fulfilment of the first; it
-/// signs, unless something keeps it from that; it takes the peer's revocation, or the peer's signature; it loses the
-/// connection.
+/// A step of the funder: it offers an HTLC, which came from another channel; it takes the fulfilment of the HTLC of
+/// this id; it changes the feerate; it signs, unless something keeps it from that; it takes the peer's revocation, or
+/// the peer's signature; it loses the connection.
 #[derive(Clone, Copy)]
 enum Step {
     Offer,
-    Paid,
+    Paid(u64),
+    Rate(u32),
     Sign,
     Learn,
     Accept,
     Lose,
 }
 
-use Step::{Accept, Learn, Lose, Offer, Paid, Sign};
+use Step::{Accept, Learn, Lose, Offer, Paid, Rate, Sign};
 
 const ORIGIN: (ChannelId, u64) = ([9; 32], 17);
 
@@ -97,7 +98,8 @@ fn sign(log: &mut UpdateLog) -> Result<(), Refusal> {
 fn take(log: &mut UpdateLog, step: Step) -> Result<(), Refusal> {
     match step {
         Offer => offer(log)?,
-        Paid => log.receive(fulfilment(0, 0))?,
+        Paid(id) => log.receive(fulfilment(id, 0))?,
+        Rate(feerate) => log.propose(Update::Fee(ln_log::Fee { feerate }))?,
         Sign => sign(log)?,
         Learn => log.acknowledged(),
         Accept => log.accepted(),
@@ -166,14 +168,14 @@ const AN_OFFER: [(Step, [Row; 4]); 4] = [
 const A_PAYMENT: [(Step, [Row; 4]); 6] = [
     (Learn, [START, OFFERED, OFFERED, OFFERED]),
     (Accept, [OFFERED; 4]),
-    (Paid, [OFFERED, OFFERED, OFFERED, PAID]),
+    (Paid(0), [OFFERED, OFFERED, OFFERED, PAID]),
     (Accept, [PAID, OFFERED, PAID, PAID]),
     (Sign, [PAID, OFFERED, PAID, PAID]),
     (Learn, [PAID; 4]),
 ];
 
 /// How many updates of either side the log knows, how many of them the commitments and the last signature cover, how
-/// many of these the peer hasn't acknowledged, and how many own ones it gives.
+/// many of these the peer hasn't acknowledged, and which is the last own one that it gives.
 fn held(log: &UpdateLog) -> [usize; 8] {
     let signed = log.counts(Pair::Signed);
     [
@@ -188,14 +190,14 @@ fn held(log: &UpdateLog) -> [usize; 8] {
     ]
 }
 
-/// How many own updates are given, all at once.
+/// Up to which number own updates are given, all at once.
 fn given(log: &UpdateLog) -> usize {
     let from = log.first(Side::Own);
     let to = log.len(Side::Own);
     if from > to {
         return 0;
     }
-    log.between(Side::Own, from, to).len()
+    from + log.between(Side::Own, from, to).len()
 }
 
 /// Whether the first own update still says where its HTLC came from.
@@ -229,18 +231,90 @@ fn a_payment(rt: HostRuntime) -> Result<(), Refusal> {
     Ok(())
 }
 
-/// Offers an HTLC, takes one, and asks what they are worth: the first refusal, and whether what was refused has changed
-/// nothing.
+fn row_at(log: &UpdateLog, alloc: Global, pair: Pair) -> Result<Row, Refusal> {
+    let view = log.view(alloc, pair)?;
+    Ok(row_of(&view))
+}
+
+/// Whether a log whose first updates have left it says the same as one that has all of them one by one.
+fn agree(moved: &UpdateLog, whole: &UpdateLog, alloc: Global) -> Result<bool, Refusal> {
+    let rows = [
+        row_at(whole, alloc, Pair::Current(Side::Own))?,
+        row_at(whole, alloc, Pair::Current(Side::Peer))?,
+        row_at(whole, alloc, Pair::ToSign)?,
+        row_at(whole, alloc, Pair::ToAccept)?,
+    ];
+    Ok(
+        held(moved) == held(whole)
+            && moved.next_id() == whole.next_id()
+            && moved.sign_refusal() == whole.sign_refusal()
+            && are_worth(moved, alloc, &rows)?,
+    )
+}
+
+/// Both take these steps, and agree behind each.
+fn agree_behind(
+    moved: &mut UpdateLog,
+    whole: &mut UpdateLog,
+    alloc: Global,
+    steps: &[Step],
+) -> Result<bool, Refusal> {
+    for step in steps {
+        take(moved, *step)?;
+        take(whole, *step)?;
+        if !agree(moved, whole, alloc)? {
+            return Ok(false);
+        }
+    }
+    Ok(true)
+}
+
+const ONE_PAID: [Step; 8] = [Offer, Sign, Learn, Accept, Paid(0), Accept, Sign, Learn];
+
+const ONE_LIVE: [Step; 5] = [Rate(300), Offer, Sign, Learn, Accept];
+
+const ANOTHER_PAID: [Step; 5] = [Paid(1), Lose, Paid(1), Accept, Sign];
+
+/// The updates of a payment leave the log, then a change of the feerate and an HTLC that is live; this one is paid.
+/// None leaves that doesn't stand in each commitment, and no removal without its HTLC.
+fn goes_on(moved: &mut UpdateLog, whole: &mut UpdateLog, alloc: Global) -> Result<bool, Refusal> {
+    Ok(
+        agree_behind(moved, whole, alloc, &ONE_PAID)?
+            && !moved.advance(alloc, Counts { own: 0, peer: 1 })?
+            && !moved.advance(alloc, Counts { own: 2, peer: 1 })?
+            && moved.advance(alloc, Counts { own: 1, peer: 1 })?
+            && moved.update(Side::Own, 0).is_none()
+            && agree(moved, whole, alloc)?
+            && agree_behind(moved, whole, alloc, &ONE_LIVE)?
+            && moved.advance(alloc, Counts { own: 3, peer: 1 })?
+            && moved.first(Side::Own) == 3
+            && moved.own_htlc(1).is_some()
+            && agree(moved, whole, alloc)?
+            && agree_behind(moved, whole, alloc, &ANOTHER_PAID)?,
+    )
+}
+
+#[test]
+fn updates_leave(rt: HostRuntime) -> Result<(), Refusal> {
+    let mut moved = funders_log(rt.alloc())?;
+    let mut whole = funders_log(rt.alloc())?;
+    assert!(rt; goes_on(&mut moved, &mut whole, rt.alloc())?);
+    Ok(())
+}
+
+/// Offers an HTLC, takes one, makes the lists anew, and asks what they are worth: the first refusal, and whether what
+/// was refused has changed nothing.
 fn refused_memory(log: &mut UpdateLog, alloc: Global) -> (Option<Refusal>, bool) {
     let offered = offer(log).err();
     let taken = log.receive(Update::Add(htlc(0, 4000, 400))).err();
+    let moved = log.advance(alloc, Counts { own: 0, peer: 0 }).err();
     let asked = log.view(alloc, Pair::ToSign).err();
     let own = usize::from(offered.is_none());
     let peer = usize::from(taken.is_none());
     let unchanged = log.counts(Pair::ToSign) == Counts { own, peer: 0 }
         && log.counts(Pair::ToAccept) == Counts { own: 0, peer }
         && log.next_id() == own as u64;
-    (offered.or(taken).or(asked), unchanged)
+    (offered.or(taken).or(moved).or(asked), unchanged)
 }
 
 #[test]

@@ -4,7 +4,7 @@ use Rattle.ln_hooks.specs.declared.event.ChannelEvent.{ChannelEvent}
 use Rattle.ln_hooks.specs.declared.verdict.Verdict.{Verdict}
 use Rattle.ln_channels.specs.declared.step.End.{End}
 use Rattle.ln_tables.specs.declared.entry.Entry.TheVariants as entry
-use Rattle.ln_tables.specs.History.{with_entry}
+use Rattle.ln_history.specs.History.{with_entry}
 use Rattle.ln_tables.specs.Replay.{table_of}
 use Rattle.ln_book.specs.Commands.{first_command, with_taken}
 use Rattle.ln_book.specs.Marks.{offer_of, decision}

@@ -33,7 +33,7 @@ use Rattle.ln_tables.specs.declared.htlc.Back.{Back}
 use Rattle.ln_tables.specs.declared.htlc.Htlc.{Htlc}
 use Rattle.ln_tables.specs.declared.entry.Entry.{Entry}
 use Rattle.ln_tables.specs.declared.entry.Entry.TheVariants as entry
-use Rattle.ln_tables.specs.History.{with_entry}
+use Rattle.ln_history.specs.History.{with_entry}
 use Rattle.ln_tables.specs.Replay.{Table, replay, table_of}
 use Rattle.ln_pair.specs.Widths.{IsOrigin, IsMark, IsAdd, IsUpdate}
 use Rattle.ln_pair.proofs.All.{All, all-append, all-take, all-drop, all-when}

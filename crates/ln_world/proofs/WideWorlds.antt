@@ -21,7 +21,7 @@ use Rattle.ln_tables.specs.declared.entry.Desk.{Desk as OutDesk}
 use Rattle.ln_tables.specs.declared.entry.Desk.TheVariants as out_desk
 use Rattle.ln_tables.specs.declared.entry.Entry.{Entry}
 use Rattle.ln_tables.specs.declared.entry.Entry.TheVariants as entry
-use Rattle.ln_tables.specs.History.{with_entry}
+use Rattle.ln_history.specs.History.{with_entry}
 use Rattle.ln_tables.specs.Replay.{table_of, desk_at as out_desk_at}
 use Rattle.ln_pair.specs.Widths.{IsCommand}
 use Rattle.ln_pair.proofs.All.{All, all-append, all-when}

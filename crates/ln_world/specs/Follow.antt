@@ -11,7 +11,7 @@ use Rattle.ln_channel.specs.End.{End as ChannelEnd, is_ready}
 use Rattle.ln_channel.specs.Record.{saved_end}
 use Rattle.ln_channel.specs.State.{State, is_down}
 use Rattle.ln_tables.specs.declared.entry.Entry.TheVariants as entry
-use Rattle.ln_tables.specs.History.{begun_with, with_entry}
+use Rattle.ln_history.specs.History.{begun_with, with_entry}
 use Rattle.ln_tables.specs.Replay.{table_of}
 use Rattle.ln_readings.specs.Rebuild.{Reading, reading_of, rebuilt}
 use Rattle.ln_channels.specs.declared.step.Node.{Node}

@@ -4,7 +4,7 @@ use Rattle.ln_keys.specs.ToyOnion.{toy_opened}
 use Rattle.ln_forward.specs.declared.checks.Policy.{Policy}
 use Rattle.ln_tables.specs.declared.entry.Entry.{Entry}
 use Rattle.ln_tables.specs.declared.entry.Entry.TheVariants as entry
-use Rattle.ln_tables.specs.History.{History, begun_with, with_entry}
+use Rattle.ln_history.specs.History.{History, begun_with, with_entry}
 use Rattle.ln_tables.specs.Replay.{Table, no_table}
 use Rattle.ln_book.specs.Commands.{Services}
 use Rattle.ln_channels.specs.declared.step.Node.{Node}

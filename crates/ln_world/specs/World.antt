@@ -22,7 +22,7 @@ use Rattle.ln_tables.specs.declared.entry.Out.{Out}
 use Rattle.ln_tables.specs.declared.entry.Told.{Told}
 use Rattle.ln_tables.specs.declared.entry.Entry.{Entry}
 use Rattle.ln_tables.specs.declared.entry.Entry.TheVariants as entry
-use Rattle.ln_tables.specs.History.{with_entry}
+use Rattle.ln_history.specs.History.{with_entry}
 use Rattle.ln_tables.specs.Replay.{table_of, desk_at}
 use Rattle.ln_readings.specs.Kept.{told_by, next_own_id, has_own_removal, has_decided}
 use Rattle.ln_book.specs.Commands.{first_command, with_taken, with_answered}

@@ -1,24 +1,23 @@
-use Rattle.std.proofs.Common.{sym, ◌∙◌}
-use Rattle.ln_log.proofs.Kept.{front_is}
-use Rattle.ln_log.proofs.Grows.{got_call, kept_received, refused_as, goes_as, no_memory}
+use Rattle.std.proofs.Common.{refl, ap, ◌∙◌}
+use Rattle.ln_log.specs.Log.{AllCounts, after_receive}
+use Rattle.ln_log.proofs.Whole.{kept_of, goes_on_if, whole_if, received}
 use Rattle.ln_log.proofs.log.UpdateLog.receive.Goals as goal
 
-pub returns-in_err-push-in-None-clause-refuses_exactly : goal.returns-in_err-push-in-None-clause-refuses_exactly
-returns-in_err-push-in-None-clause-refuses_exactly c =
-    λ l e. no_memory _ _ _ (c.taken_refusal.ensures.refuses_exactly l e) c.in-None.is
-    c.from_residual.ensures.1
+pub invariant_of-self : goal.invariant_of-self
+invariant_of-self c =
+    whole_if _ _ _ _ _ c.args.self.now (after_receive c.args.update c.args.self.now) c.self.view_is c.self.invariant
+    (ap (λ (x : AllCounts). x.first) c.receive.ensures.changes_no_count)
+    (received _ _ _ _ c.args.update c.self.view_is c.self.invariant)
+    c.receive.ensures.changes_nothing_if_refused
+    (c.receive.ensures.moves_as_stated _ (kept_of _ _ _ _ c.args.self.now c.self.view_is c.self.invariant refl))
 
-pub invariant_of-self-in-None : goal.invariant_of-self-in-None
-invariant_of-self-in-None c =
-    let none = sym (c.taken_refusal.ensures.refuses_exactly _ (sym c.self.view_is)) ∙ c.in-None.is in
-    let seen = front_is _ _ _ c.deref.ensures.value in
-    rw c.in_ok-push-in-None.ensures.items (kept_received _ _ _ _ _ _ c.args.update _ c.self.invariant none seen
-    (c.with_own-standing.ensures.exact_where_it_fits (got_call _ _ _ _ _ c.args.update _ c.self.invariant none seen)))
+pub returns-clause-refuses_exactly : goal.returns-clause-refuses_exactly
+returns-clause-refuses_exactly c = λ l e. c.receive.ensures.refuses_exactly _
+    (kept_of _ _ _ _ l c.self.view_is c.self.invariant e)
 
-pub returns-in-Some-clause-refuses_exactly : goal.returns-in-Some-clause-refuses_exactly
-returns-in-Some-clause-refuses_exactly c = λ l e.
-    refused_as _ _ _ (c.taken_refusal.ensures.refuses_exactly l e) c.in-Some.is
-
-pub returns-in_ok-push-in-None-clause-refuses_exactly : goal.returns-in_ok-push-in-None-clause-refuses_exactly
-returns-in_ok-push-in-None-clause-refuses_exactly c = λ l e.
-    goes_as _ _ (c.taken_refusal.ensures.refuses_exactly l e) c.in-None.is
+pub returns-clause-moves_as_stated : goal.returns-clause-moves_as_stated
+returns-clause-moves_as_stated c = λ l e.
+    goes_on_if _ _ _ _ _ l (after_receive c.args.update l) (c.self.view_is ∙ e) c.self.invariant
+    (ap (λ (x : AllCounts). x.first) c.receive.ensures.changes_no_count)
+    (received _ _ _ l c.args.update (c.self.view_is ∙ e) c.self.invariant)
+    (c.receive.ensures.moves_as_stated _ (kept_of _ _ _ _ l c.self.view_is c.self.invariant e))

@@ -1,0 +1,5 @@
+use Rattle.ln_log.proofs.Whole.{kept_of}
+use Rattle.ln_log.proofs.log.UpdateLog.next_id.Goals as goal
+
+pub returns : goal.returns
+returns c = λ l e. c.next_id.ensures _ (kept_of _ _ _ _ l c.self.view_is c.self.invariant e)

@@ -1,0 +1,5 @@
+use Rattle.ln_log.proofs.Calls.{coverage_call}
+use Rattle.ln_log.proofs.log_window.Window.coverage.Goals as goal
+
+pub returns-clause-can_be_loaded : goal.returns-clause-can_be_loaded
+returns-clause-can_be_loaded c = λ l s. coverage_call _ _ l c.self.view_is s c.self.invariant
