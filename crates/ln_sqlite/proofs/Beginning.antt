@@ -1,5 +1,5 @@
 -- What a store begins with, from what is known of a database before its rows are read and behind that.
-use Rattle.std.proofs.Common.{◌≡◌, inl, inr, [], not, true, false, Bool, Ok, Err, Result, IfOk, IsTrue}
+use Rattle.std.proofs.Common.{◌≡◌, inl, inr, [], not, true, false, Bool, Ok, Err, Result, IfOk, IfErr, IsTrue}
 use Rattle.std.proofs.Common.{sym, ap, subst, ◌∙◌, refl, length, true≢false}
 use Rattle.std.specs.FinMap as map
 use Rattle.ln_store.specs.Store.{Records}
@@ -8,7 +8,8 @@ use Rattle.sqlite_schema.specs.declared.schema.Schema.{Schema}
 use Rattle.sqlite.specs.State.{State}
 use Rattle.ln_sqlite.specs.Table.{schema, none}
 use Rattle.ln_sqlite.specs.Holds.{HasRecords, IsInOrder, IsTableOf}
-use Rattle.ln_sqlite.specs.Begins.{AreRecords, BeginsWith, IsSettled, IsAsBefore, Stays, IsReady, MayMakeTable}
+use Rattle.ln_sqlite.specs.Begins.{AreRecords, BeginsWith, HasRecordsAlone, IsSettled, IsAsBefore, Stays, IsReady}
+use Rattle.ln_sqlite.specs.Begins.{MayMakeTable}
 use Rattle.ln_sqlite.proofs.Reading.{same_records}
 use Rattle.ln_sqlite.proofs.Meaning.{still}
 
@@ -65,6 +66,17 @@ module _ (old mid new : State) (ready : IsReady old mid) (stays : Stays mid new)
         records_are = subst (λ (d : Database). HasRecords (d.trees 0) copies) (sym as_before.now_is) is.0;
         each = subst (λ (d : Database). AreRecords (d.trees 0)) (sym as_before.now_is) is.1;
       }
+
+  pub without_memory : {E : Type 0} (r : Result Records E) (IsMemory : E → Type 0)
+      → IfErr r (λ e. IsMemory e → mid.now.schema ≡ schema → AreRecords (mid.now.trees 0))
+      → IfErr r (λ e. IsMemory e → HasRecordsAlone new)
+  without_memory (Ok copies) IsMemory each = tt
+  without_memory (Err e) IsMemory each = λ memory.
+      let is = (stays.1 (mid_settled old mid ready)).now_is in
+      let has = mid_schema old mid ready in (
+        ap (λ (d : Database). d.schema) is ∙ has,
+        subst (λ (d : Database). AreRecords (d.trees 0)) (sym is) (each memory has),
+      )
 
   pub begins_empty : {E : Type 0} (r : Result Records E) → Reads mid r → old.now.schema ≡ none
       → IfOk r (λ copies. (copies ≡ map.empty) × IsTableOf new map.empty)

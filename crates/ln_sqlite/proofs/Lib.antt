@@ -6,3 +6,4 @@ pub mod Reading
 pub mod Shown
 pub mod Meaning
 pub mod Beginning
+pub mod Passing

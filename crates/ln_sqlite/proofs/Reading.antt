@@ -1,7 +1,7 @@
 -- What the query of all rows shows, and which records are read off that.
-use Rattle.std.proofs.Common.{◌≡◌, ◌⊎◌, inl, inr, ℕ, List, [], ◌∷◌, length}
+use Rattle.std.proofs.Common.{◌≡◌, ◌⊎◌, inl, inr, ℕ, suc, List, [], ◌∷◌, arith}
 use Rattle.std.proofs.Common.{Some, None, Option, refl, sym, ap}
-use Rattle.std.proofs.Common.{subst, subst₂, ◌∙◌, Result, Ok, Err, IfOk}
+use Rattle.std.proofs.Common.{subst, subst₂, ◌∙◌, Result, Ok, Err, IfOk, IfErr}
 use Rattle.std.proofs.lemmas.Bool.{cases_Bool}
 use Rattle.std.specs.Ordering.{eq_by_cmp}
 use Rattle.std.specs.Cmp.Lexicographic.{nat_list_cmp_total}
@@ -17,7 +17,7 @@ use Rattle.sqlite.proofs.Callers.{reads_as}
 use Rattle.ln_store.specs.Store.{Records}
 use Rattle.ln_sqlite.specs.Table.{schema}
 use Rattle.ln_sqlite.specs.Holds.{HasRecords}
-use Rattle.ln_sqlite.specs.Reading.{TakesAll, shown, AreShown}
+use Rattle.ln_sqlite.specs.Reading.{TakesAll, shown, AreShown, ShowsRecord, ShowRecords}
 use Rattle.ln_sqlite.specs.Begins.{AreRecords}
 use Rattle.ln_sqlite.proofs.Texts.{all_text, all_query, all_is, all_plain}
 use Rattle.ln_sqlite.proofs.Maps.{by_bytes, exact, tied, is_there}
@@ -94,13 +94,9 @@ taken_has (x ∷ rows) m after q b (next, t, rest) (y, inl is, v, w) =
 taken_has (x ∷ rows) m after q b (next, t, rest) (y, inr later, v, w) =
     taken_has rows next after q b rest (y, later, v, w)
 
-abbrev IsShownRecord : Row → Type 0
-IsShownRecord x =
-    (id : List ℕ) × (body : List ℕ) × (column x 0 ≡ Blob id) × (length id ≡ 32) × (column x 1 ≡ Blob body)
-
-each_shows : (rows : List Row) (m after : Records) (x : Row) → TakesAll m rows after → Has rows x → IsShownRecord x
+each_shows : (rows : List Row) (m after : Records) (x : Row) → TakesAll m rows after → Has rows x → ShowsRecord x
 each_shows [] m after x h none = absurd none
-each_shows (y ∷ rows) m after x (next, t, rest) (inl is) = subst IsShownRecord (sym is) (t.0, t.1, t.2, t.3, t.4)
+each_shows (y ∷ rows) m after x (next, t, rest) (inl is) = subst ShowsRecord (sym is) (t.0, t.1, t.2, t.3, t.4)
 each_shows (y ∷ rows) m after x (next, t, rest) (inr later) = each_shows rows next after x rest later
 
 module _ (table rows : List Row) (records : Records) (taken : TakesAll map.empty rows records)
@@ -127,6 +123,19 @@ all_read table rows (Ok records) taken are = λ when. (
   each table rows records taken (are when),
 )
 all_read table rows (Err e) taken are = tt
+
+-- where each row that is shown is a record, each row of the table is one
+all_shown : (rows : List Row) (x : Row) → ShowRecords rows → Has rows x → ShowsRecord x
+all_shown [] x shows none = absurd none
+all_shown (y ∷ rows) x shows (inl is) = subst ShowsRecord (sym is) (shows 0 (omega arith))
+all_shown (y ∷ rows) x shows (inr later) = all_shown rows x (λ i low. shows (suc i) (omega (arith, low))) later
+
+pub all_records : {E C : Type 0} (table rows : List Row) (r : Result Records E) (IsMemory : E → Type 0)
+    → IfErr r (λ e. IsMemory e → ShowRecords rows) → (C → AreShown table rows)
+    → IfErr r (λ e. IsMemory e → C → AreRecords table)
+all_records table rows (Ok records) IsMemory shows are = tt
+all_records table rows (Err e) IsMemory shows are = λ memory when r has.
+    all_shown rows (shown r) (shows memory) ((are when).complete r has)
 
 -- rows have one list of records
 pub same_records : (rows : List Row) (a b : Records) → HasRecords rows a → HasRecords rows b → a ≡ b

@@ -34,7 +34,7 @@ module _ (old new : State) (rows : List Row) (has : old.now.schema ≡ schema) w
             (blob_equals (column r 1) id is) refl);
       }
 
-  ids : Shown ids_text [] old new rows → AreIds (old.now.trees 0) rows
+  pub ids : Shown ids_text [] old new rows → AreIds (old.now.trees 0) rows
   ids h =
       let got = reads_as ids_text [] old new schema has _ ids_is.0 ids_plain ids_is.1 rows h in
       let out = outputs [] ids_query.project ids_query.order [] old.now.trees rows (got.answer Null) in
@@ -48,12 +48,6 @@ pub shows_bodies : {A : Type 0} (old new : State) (id : List ℕ) (items : A →
     → IfOk r (λ rows. old.now.schema ≡ schema → AreBodies (old.now.trees 0) id (items rows))
 shows_bodies old new id items (Ok rows) h = λ has. bodies old new (items rows) has id h
 shows_bodies old new id items (Err e) h = tt
-
-pub shows_ids : {A : Type 0} (old new : State) (items : A → List Row) (r : Result A Error)
-    → IfOk r (λ rows. Shown ids_text [] old new (items rows))
-    → IfOk r (λ rows. old.now.schema ≡ schema → AreIds (old.now.trees 0) (items rows))
-shows_ids old new items (Ok rows) h = λ has. ids old new (items rows) has h
-shows_ids old new items (Err e) h = tt
 
 -- ---- the record of an id
 
@@ -79,16 +73,16 @@ index_of [] x d none = absurd none
 index_of (y ∷ xs) x d (inl is) = (0, omega arith, sym is)
 index_of (y ∷ xs) x d (inr later) = let it = index_of xs x d later in (suc it.0, omega (arith, it.1), it.2)
 
-pub are_ids : (table shows : List Row) (ids : List (List ℕ)) → AreIds table shows → ShowsIds shows ids
-    → AreIdsOf table ids
+pub are_ids : (table shows : List Row) (ids : List (List ℕ)) → AreIds table shows
+    → ShowsIds (length ids) shows ids → AreIdsOf table ids
 are_ids table shows ids are (same, each) = (
   λ id has. let at = index_of ids id [] has in
-      let low : at.0 < length shows = omega (arith, same, at.1) in
-      let it = are.sound _ (has_at shows at.0 [] low) in
-      (it.0, it.1, sym (ap (λ y. column y 0) it.2) ∙ each at.0 low ∙ ap Blob at.2),
-  λ r has. let at = index_of shows (column r 1 ∷ []) [] (are.complete r has) in (
-    get_or ids at.0 [],
-    has_at ids at.0 [] (omega (arith, same, at.1)),
-    sym (ap (λ y. column y 0) at.2) ∙ each at.0 at.1,
-  ),
+      let it = are.sound _ (has_at shows at.0 [] (omega (arith, same, at.1))) in
+      (it.0, it.1, sym (ap (λ y. column y 0) it.2) ∙ each at.0 at.1 ∙ ap Blob at.2),
+  λ r has. let at = index_of shows (column r 1 ∷ []) [] (are.complete r has) in
+      let low : at.0 < length ids = omega (arith, same, at.1) in (
+        get_or ids at.0 [],
+        has_at ids at.0 [] low,
+        sym (ap (λ y. column y 0) at.2) ∙ each at.0 low,
+      ),
 )

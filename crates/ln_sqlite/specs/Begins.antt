@@ -25,6 +25,10 @@ pub record BeginsWith (s : State) (records : Records) : Type 0 where
   pub records_are : HasRecords (s.now.trees 0) records
   pub each : AreRecords (s.now.trees 0)
 
+-- the database has the table of records alone, and each row is a record
+abbrev pub HasRecordsAlone : State → Type 0
+HasRecordsAlone s = (s.now.schema ≡ schema) × AreRecords (s.now.trees 0)
+
 -- nothing is written that isn't committed, and no transaction was begun
 abbrev pub IsSettled : State → Type 0
 IsSettled s = (s.in_transaction ≡ false) × (s.committed ≡ s.now)

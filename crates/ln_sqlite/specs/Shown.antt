@@ -20,10 +20,10 @@ abbrev pub ShowsBody : List Row → Option (List ℕ) → Type 0
 ShowsBody rows None = rows ≡ []
 ShowsBody rows (Some body) = (r : Row) × (rows ≡ r ∷ []) × (column r 0 ≡ Blob body)
 
--- each row shows the id at its place
-abbrev pub ShowsIds : List Row → List (List ℕ) → Type 0
-ShowsIds rows ids =
-    (length rows ≡ length ids) × ((i : ℕ) → i < length rows → column (get_or rows i []) 0 ≡ Blob (get_or ids i []))
+-- these are so many rows, each of which shows the id at its place
+abbrev pub ShowsIds : ℕ → List Row → List (List ℕ) → Type 0
+ShowsIds count rows ids =
+    (length rows ≡ count) × ((i : ℕ) → i < count → column (get_or rows i []) 0 ≡ Blob (get_or ids i []))
 
 -- each row of the table with this id has this body, and there is one; or there is no row with the id
 abbrev pub IsRecordOf : List Row → List ℕ → Option (List ℕ) → Type 0

@@ -77,10 +77,21 @@ impl Copies {
         }
     }
 
-    pub(crate) fn find(&self, id: &[u8; 32]) -> Option<&Bytes>
+    fn find(&self, id: &[u8; 32]) -> Option<&Bytes>
         ensures { option_copied result ≡ map.get self.now id.now }
     {
         self.records.get(id)
+    }
+
+    /// A copy of what the id has.
+    pub(crate) fn copy_of(&self, alloc: Global, id: &[u8; 32]) -> Result<Option<Bytes>, Refusal>
+        ensures gives_the_record { IfOk result (λ found. found ≡ map.get self.now id.now) }
+        ensures fails_for_memory_alone { IfErr result (λ e. e ≡ Refusal.Memory) }
+    {
+        let Some(kept) = self.find(id) else {
+            return Ok(None);
+        };
+        Ok(Some(copied(alloc, kept.as_slice())?))
     }
 
     pub(crate) fn ids(&self, alloc: Global) -> Result<Vec<[u8; 32]>, Refusal>

@@ -1,6 +1,6 @@
 //! The records that a table has as a store begins.
 
-ghost use Rattle.std.specs.Prelude.{◌≡◌, IsTrue, IfSome, IfOk, OnOk, length};
+ghost use Rattle.std.specs.Prelude.{◌≡◌, IsTrue, IfSome, IfOk, IfErr, OnOk, length};
 ghost use Rattle.std.specs.FinMap as map;
 ghost use Rattle.sqlite.specs.Held.{state};
 ghost use Rattle.sqlite.specs.State.{HasCleanDisk};
@@ -8,7 +8,7 @@ ghost use Rattle.sqlite_value.specs.Order.{column};
 ghost use Rattle.sqlite_value.specs.declared.value.Value.TheVariants.{Blob};
 ghost use Rattle.ln_sqlite.specs.Table.{schema};
 ghost use Rattle.ln_sqlite.specs.Holds.{HasRecords};
-ghost use Rattle.ln_sqlite.specs.Reading.{Takes, TakesAll};
+ghost use Rattle.ln_sqlite.specs.Reading.{Takes, TakesAll, ShowsRecord, ShowRecords};
 ghost use Rattle.ln_sqlite.specs.Begins.{AreRecords, Stays};
 
 use crate::copies::{Copies, copied};
@@ -54,9 +54,31 @@ fn take_row(alloc: Global, copies: &mut Copies, row: &Row) -> Result<(), Refusal
     }
 }
 
-fn take_rows(alloc: Global, rows: &[Row]) -> Result<Copies, Refusal>
-    ensures { IfOk result (TakesAll map.empty rows.now) }
+fn shows_record(row: &Row) -> bool
+    ensures { IsTrue result → ShowsRecord row.now }
 {
+    id_in(row).is_some() && bytes_in(row, 1).is_some()
+}
+
+fn show_records(rows: &[Row]) -> bool
+    ensures { IsTrue result → ShowRecords rows.now }
+{
+    for at in 0..rows.len() {
+        if !shows_record(&rows[at]) {
+            return false;
+        }
+    }
+    true
+}
+
+/// Takes all, whose ids differ. It takes memory only where each row shows a record.
+fn take_rows(alloc: Global, rows: &[Row]) -> Result<Copies, Refusal>
+    ensures takes_all { IfOk result (TakesAll map.empty rows.now) }
+    ensures takes_memory_for_records_alone { IfErr result (λ e. e ≡ Refusal.Memory → ShowRecords rows.now) }
+{
+    if !show_records(rows) {
+        return Err(Refusal::Store);
+    }
     let mut copies = Copies::new(alloc);
     for row in rows.iter() {
         take_row(alloc, &mut copies, row)?;
@@ -73,6 +95,9 @@ pub(crate) fn read_copies<S: Alter>(
         (state S.Store connection.old).now.schema ≡ schema
         → HasRecords ((state S.Store connection.old).now.trees 0) copies
         × AreRecords ((state S.Store connection.old).now.trees 0)) }
+    ensures takes_memory_for_records_alone { HasCleanDisk (state S.Store connection.new) → IfErr result (λ e.
+        e ≡ Refusal.Memory → (state S.Store connection.old).now.schema ≡ schema
+        → AreRecords ((state S.Store connection.old).now.trees 0)) }
     ensures changes_nothing { HasCleanDisk (state S.Store connection.new)
         → IsTrue (state S.Store connection.new).is_open → (state S.Store connection.old).now.schema ≡ schema
         → Stays (state S.Store connection.old) (state S.Store connection.new) }

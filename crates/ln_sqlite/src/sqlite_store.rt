@@ -1,18 +1,18 @@
 //! A store over a database.
 
-ghost use Rattle.std.specs.Prelude.{◌≡◌, IsTrue, IfOk, Err, false};
+ghost use Rattle.std.specs.Prelude.{◌≡◌, IsTrue, IfOk, IfErr, Err, false};
 ghost use Rattle.std.specs.FinMap as map;
 ghost use Rattle.sqlite.specs.Held.{state};
 ghost use Rattle.sqlite.specs.State.{HasCleanDisk};
 ghost use Rattle.ln_msgs.specs.Pings.Counted.{HasRisen};
 ghost use Rattle.ln_sqlite.specs.Table.{none};
 ghost use Rattle.ln_sqlite.specs.Holds.{IsTableOf};
-ghost use Rattle.ln_sqlite.specs.Begins.{BeginsWith, MayMakeTable, IsOther, IsReady, IsAsBefore};
+ghost use Rattle.ln_sqlite.specs.Begins.{BeginsWith, MayMakeTable, HasRecordsAlone, IsOther, IsReady, IsAsBefore};
 
-use crate::compared::{are_ids, is_copy};
+use crate::compared::is_copy;
 use crate::copies::{Copies, copied};
 use crate::rows::read_copies;
-use crate::statements::{id_rows, load_rows, make_table, save_row};
+use crate::statements::{has_ids, load_rows, make_table, save_row};
 use crate::table::{is_empty, is_table_of_records};
 use ln_bytes::Bytes;
 use ln_msgs::Refusal;
@@ -68,6 +68,9 @@ fn begin<S: Alter>(alloc: Global, connection: &mut Connection<S>) -> Result<Copi
     ensures changes_no_more { HasCleanDisk (state S.Store connection.new)
         → IsTrue (state S.Store connection.new).is_open
         → MayMakeTable (state S.Store connection.old) (state S.Store connection.new) }
+    ensures takes_memory_for_records_alone { HasCleanDisk (state S.Store connection.new)
+        → IsTrue (state S.Store connection.new).is_open
+        → IfErr result (λ e. e ≡ Refusal.Memory → HasRecordsAlone (state S.Store connection.new)) }
     ensures refuses_another_database { IsOther (state S.Store connection.old)
         → (result ≡ Err Refusal.Store) × (connection.new ≡ connection.old) }
 {
@@ -84,12 +87,12 @@ impl<S: Alter> SqliteStore<S> {
     ghost use Rattle.sqlite.specs.State.{HasCleanDisk};
     ghost use Rattle.ln_sqlite.specs.Table.{none};
     ghost use Rattle.ln_sqlite.specs.Holds.{IsInOrder, IsTableOf};
-    ghost use Rattle.ln_sqlite.specs.Begins.{BeginsWith, MayMakeTable, IsOther};
+    ghost use Rattle.ln_sqlite.specs.Begins.{BeginsWith, MayMakeTable, HasRecordsAlone, IsOther};
 
     /// A store over a database: it makes the table where the database has none, and reads all records once.
     ///
     /// Errors, beside the connection: 61 where the database failed, has other tables, has a row that is no record (an
-    /// id of 32 bytes and a body), or has begun a transaction; 60 where there is no memory.
+    /// id of 32 bytes and a body), or has begun a transaction; 60 where there is no memory, and each row is a record.
     pub fn over(
         alloc: Global,
         mut connection: Connection<S>,
@@ -111,6 +114,9 @@ impl<S: Alter> SqliteStore<S> {
         ensures has_no_failure_yet { IfOk result (λ store. store.failures ≡ 0) }
         ensures hands_back_what_was_there { IfErr result (λ e. HasCleanDisk (state S.Store e.1)
             → IsTrue (state S.Store e.1).is_open → MayMakeTable (state S.Store connection) (state S.Store e.1)) }
+        ensures takes_memory_for_records_alone { IfErr result (λ e. e.0 ≡ Refusal.Memory
+            → HasCleanDisk (state S.Store e.1) → IsTrue (state S.Store e.1).is_open
+            → HasRecordsAlone (state S.Store e.1)) }
         ensures refuses_another_database { IsOther (state S.Store connection)
             → result ≡ Err (Refusal.Store, connection) }
     {
@@ -146,11 +152,13 @@ impl<S: Alter> RecordStore for SqliteStore<S> {
 
     ghost failed = { λ s. s.failures };
 
-    /// Errors: 60 where there is no memory, 61 where the database failed; no record has changed then.
+    /// Errors: 60 where there is no memory, before the database is asked; 61 where it failed. No record has changed
+    /// then.
     fn save(&mut self, alloc: Global, id: &[u8; 32], bytes: &[u8]) -> Result<(), Refusal>
         ensures replaces_the_record { OnOk result (self.new.copies ≡ map.insert self.old.copies id.now bytes.now) }
         ensures leaves_the_old { OnErr result (self.new.copies ≡ self.old.copies) }
         ensures counts_failures { CountsFailures result self.old.failures self.new.failures }
+        ensures asks_nothing_without_memory { IfErr result (λ e. e ≡ Refusal.Memory → self.new ≡ self.old) }
         ensures keeps_the_table { KeepsTable S.Store self.old.connection self.old.copies
             self.new.connection self.new.copies }
         ensures leaves_one_at_a_stop { HasCleanDisk (state S.Store self.new.connection)
@@ -169,7 +177,8 @@ impl<S: Alter> RecordStore for SqliteStore<S> {
         }
     }
 
-    /// Errors: 60 where there is no memory; 61 where the database failed, or the table doesn't have what it should.
+    /// Errors: 60 where there is no memory, before the database is asked; 61 where it failed, or the table doesn't have
+    /// what it should.
     fn load(&mut self, alloc: Global, id: &[u8; 32]) -> Result<Option<Bytes>, Refusal>
         ensures gives_the_record { IfOk result (λ found. found ≡ map.get self.old.copies id.now) }
         ensures gives_what_the_table_has { HasCleanDisk (state S.Store self.new.connection)
@@ -177,22 +186,22 @@ impl<S: Alter> RecordStore for SqliteStore<S> {
             → IfOk result (IsRecordOf ((state S.Store self.old.connection).now.trees 0) id.now) }
         ensures changes_no_record { self.new.copies ≡ self.old.copies }
         ensures counts_failures { CountsFailures result self.old.failures self.new.failures }
+        ensures asks_nothing_without_memory { IfErr result (λ e. e ≡ Refusal.Memory → self.new ≡ self.old) }
         ensures keeps_the_table { KeepsTable S.Store self.old.connection self.old.copies
             self.new.connection self.new.copies }
     {
+        let kept = self.copies.copy_of(alloc, id)?;
         let Ok(rows) = load_rows(&mut self.connection, id) else {
             return Err(counted(&mut self.failures));
         };
-        if !is_copy(&rows, self.copies.find(id)) {
+        if !is_copy(&rows, &kept) {
             return Err(counted(&mut self.failures));
         }
-        let Some(kept) = self.copies.find(id) else {
-            return Ok(None);
-        };
-        Ok(Some(copied(alloc, kept.as_slice())?))
+        Ok(kept)
     }
 
-    /// Errors: 60 where there is no memory; 61 where the database failed, or the table doesn't have what it should.
+    /// Errors: 60 where there is no memory, before the database is asked; 61 where it failed, or the table doesn't have
+    /// what it should.
     fn ids(&mut self, alloc: Global) -> Result<Vec<[u8; 32]>, Refusal>
         ensures gives_each_id_in_order { IfOk result (λ ids. ids.items ≡ map.keys self.old.copies) }
         ensures gives_what_the_table_has { HasCleanDisk (state S.Store self.new.connection)
@@ -200,17 +209,15 @@ impl<S: Alter> RecordStore for SqliteStore<S> {
             → IfOk result (λ ids. AreIdsOf ((state S.Store self.old.connection).now.trees 0) ids.items) }
         ensures changes_no_record { self.new.copies ≡ self.old.copies }
         ensures counts_failures { CountsFailures result self.old.failures self.new.failures }
+        ensures asks_nothing_without_memory { IfErr result (λ e. e ≡ Refusal.Memory → self.new ≡ self.old) }
         ensures keeps_the_table { KeepsTable S.Store self.old.connection self.old.copies
             self.new.connection self.new.copies }
     {
         let ids = self.copies.ids(alloc)?;
-        let Ok(rows) = id_rows(&mut self.connection) else {
-            return Err(counted(&mut self.failures));
-        };
-        if !are_ids(&rows, &ids) {
-            return Err(counted(&mut self.failures));
+        match has_ids(&mut self.connection, &ids) {
+            Ok(true) => Ok(ids),
+            _ => Err(counted(&mut self.failures)),
         }
-        Ok(ids)
     }
 
     fn failures(&self) -> u64

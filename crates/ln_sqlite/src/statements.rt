@@ -8,9 +8,10 @@ ghost use Rattle.ln_store.specs.Store.{Records};
 ghost use Rattle.ln_sqlite.specs.Table.{schema, none};
 ghost use Rattle.ln_sqlite.specs.Holds.{IsTableOf, StopLeaves};
 ghost use Rattle.ln_sqlite.specs.Reading.{AreShown};
-ghost use Rattle.ln_sqlite.specs.Shown.{AreBodies, AreIds};
+ghost use Rattle.ln_sqlite.specs.Shown.{AreBodies, AreIdsOf};
 ghost use Rattle.ln_sqlite.specs.Begins.{IsSettled, Stays};
 
+use crate::compared::shows;
 use sqlite::types::ValueRef;
 use sqlite::{Alter, Connection, Error, Row};
 
@@ -74,17 +75,34 @@ pub(crate) fn load_rows<S: Alter>(
     )
 }
 
-/// The ids, in order.
-pub(crate) fn id_rows<S: Alter>(connection: &mut Connection<S>) -> Result<Vec<Row>, Error>
-    ensures shows_each_id { HasCleanDisk (state S.Store connection.new) → IfOk result (λ rows.
-        (state S.Store connection.old).now.schema ≡ schema
-        → AreIds ((state S.Store connection.old).now.trees 0) rows.items) }
+/// Whether the table has these ids, in their order, and no other. The rows are read one at a time.
+pub(crate) fn has_ids<S: Alter>(
+    connection: &mut Connection<S>,
+    ids: &[[u8; 32]],
+) -> Result<bool, Error>
+    ensures has_these { HasCleanDisk (state S.Store connection.new) → IfOk result (λ has. IsTrue has
+        → (state S.Store connection.old).now.schema ≡ schema
+        → AreIdsOf ((state S.Store connection.old).now.trees 0) ids.now) }
     ensures leaves_the_table { HasCleanDisk (state S.Store connection.new)
         → IsTrue (state S.Store connection.new).is_open
         → (records : Records) → IsTableOf (state S.Store connection.old) records
         → IsTableOf (state S.Store connection.new) records }
 {
-    connection.query_all("SELECT id FROM records ORDER BY id", &[])
+    let mut rows = connection.query("SELECT id FROM records ORDER BY id", &[])?;
+    'rows: for at in 0..ids.len() {
+        rows.advance()?;
+        let Some(row) = rows.get() else {
+            return Ok(false);
+        };
+        if !shows(row, ids[at].as_slice()) {
+            return Ok(false);
+        }
+    }
+    rows.advance()?;
+    match rows.get() {
+        Some(_) => Ok(false),
+        None => Ok(true),
+    }
 }
 
 /// Each row of the table, with its id and its body.

@@ -15,7 +15,7 @@ loop-row-preserved c after taken = c.loop-row.invariant after
       taken,
     ))
 
-pub returns : goal.returns
-returns c = c.loop-row.invariant c.loop-row.copies
+pub returns-clause-takes_all : goal.returns-clause-takes_all
+returns-clause-takes_all c = c.loop-row.invariant c.loop-row.copies
     (subst (λ left. TakesAll c.loop-row.copies left c.loop-row.copies)
     (sym (drop_all c.loop-row.row-index c.args.rows.now c.loop-row-test.false)) refl)

@@ -1,8 +1,9 @@
-use Rattle.std.proofs.Common.{IsTrue, refl}
+use Rattle.std.proofs.Common.{◌≡◌, IsTrue, refl}
 use Rattle.sqlite.specs.Held.{state}
 use Rattle.sqlite.specs.State.{HasCleanDisk}
+use Rattle.ln_msgs.specs.declared.refusals.refusal.Refusal.TheVariants.{Memory}
 use Rattle.ln_sqlite.specs.Begins.{IsReady, Stays}
-use Rattle.ln_sqlite.proofs.Beginning.{begins, begins_empty, changes, mid_schema}
+use Rattle.ln_sqlite.proofs.Beginning.{begins, begins_empty, without_memory, changes, mid_schema}
 use Rattle.ln_sqlite.proofs.sqlite_store.begin.Goals as goal
 
 module _ (g : _) (c : goal.After-read_copies g) (clean : HasCleanDisk (state g.S.Store c.read_copies.new.connection))
@@ -31,3 +32,9 @@ pub returns-clause-changes_no_more : goal.returns-clause-changes_no_more
 returns-clause-changes_no_more g c clean live =
     changes (state g.S.Store c.args.connection.now) (state g.S.Store c.has_the_table.new.connection)
     (state g.S.Store c.read_copies.new.connection) (ready g c clean live) (stays g c clean live)
+
+pub returns-clause-takes_memory_for_records_alone : goal.returns-clause-takes_memory_for_records_alone
+returns-clause-takes_memory_for_records_alone g c clean live =
+    without_memory (state g.S.Store c.args.connection.now) (state g.S.Store c.has_the_table.new.connection)
+    (state g.S.Store c.read_copies.new.connection) (ready g c clean live) (stays g c clean live) c.read_copies.result
+    (λ e. e ≡ Memory) (c.read_copies.ensures.takes_memory_for_records_alone clean)
