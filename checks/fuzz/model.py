@@ -141,8 +141,6 @@ class Dispatcher:
 
 class End:
     """One end of a channel: its lists, counts, numbers and marks."""
-    has_base = False  # whether records keep a state in place of the oldest updates; today they have all of them
-
     def __init__(self, name, role, opening, fees):
         self.name, self.role, self.opening, self.fees = name, role, opening, fees
         self.own, self.taken = [], []
@@ -484,8 +482,6 @@ class End:
     def base(self):
         """How many updates, own and the peer's, its record has a state in place of: those in all of its commitments,
         up to the first one whose event isn't decided."""
-        if not self.has_base:
-            return 0, 0
         decided = [id(u) for _, _, u in self.ledger[:self.decided]]
 
         def count(updates, most):

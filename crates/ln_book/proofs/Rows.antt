@@ -27,6 +27,7 @@ use Rattle.ln_tables.specs.declared.entry.Desk.TheVariants as desk
 use Rattle.ln_tables.specs.declared.entry.Entry.TheVariants as entry
 use Rattle.ln_readings.specs.declared.leg.Leg.{Leg}
 use Rattle.ln_tables.specs.Replay.{Table, no_table, queued_of, after}
+use Rattle.ln_readings.specs.Kept.{own_updates, has_own_removal}
 use Rattle.ln_readings.specs.Rebuild.{Reading, no_event, legs_offered, legs_over, decided_in, htlc_left, rebuilt}
 use Rattle.ln_readings.specs.Rebuild.{rebuilt_htlcs}
 use Rattle.ln_book.specs.Commands.{Services, first_command}
@@ -316,12 +317,42 @@ reads_an_unheld_one l = refl
 reads_a_held_one : (l : Log) → decided_in a (lists removal 1 l) made ≡ read back.Settled ∷ []
 reads_a_held_one l = refl
 
+-- the same where the HTLC is live in the base; one whose removal is there is read no more, but the removal was kept
+abbrev behind : ℕ → Log → Log
+behind own l = record l { first = record { own = own; peer = 1 } }
+
+reads_a_live_one : (l : Log) → decided_in a (behind 0 (lists [] 0 l)) made ≡ read back.Open ∷ []
+reads_a_live_one l = refl
+
+reads_an_unheld_one_behind : (l : Log) → decided_in a (behind 0 (lists removal 0 l)) made ≡ read back.Sent ∷ []
+reads_an_unheld_one_behind l = refl
+
+reads_a_held_one_behind : (l : Log) → decided_in a (behind 0 (lists removal 1 l)) made ≡ read back.Settled ∷ []
+reads_a_held_one_behind l = refl
+
+reads_no_gone_one : (l : Log) → decided_in a (behind 1 (lists removal 1 l)) made ≡ []
+reads_no_gone_one l = refl
+
+keeps_its_removal : (l : Log) → has_own_removal 0 (behind 1 (record l {
+  own = update.Fail (record { id = 0; reason = [] }) ∷ [];
+  received = update.Add (record taken { id = 0 }) ∷ [];
+})) ≡ true
+keeps_its_removal l = refl
+
 -- what is read of channel b: the adds that forward others, and their results
 abbrev gone_out : Add
 gone_out = record { id = 8; amount = 900; hash = 7 ∷ []; expiry = 350; onion = 2 ∷ []; origin = Some (a, 5) }
 
 reads_what_forwards : legs_offered b (update.Add taken ∷ update.Add gone_out ∷ []) ≡ leg (way.Offered went) ∷ []
 reads_what_forwards = refl
+
+-- also of one that is live in the base
+reads_a_live_one_that_forwards : (l : Log) → legs_offered b (own_updates (record l {
+  own = update.Add gone_out ∷ [];
+  received = [];
+  first = record { own = 1; peer = 0 };
+})) ≡ leg (way.Offered went) ∷ []
+reads_a_live_one_that_forwards l = refl
 
 abbrev result : Settlement
 result = record { id = 8; origin = (a, 5); removal = update.Fail (record { id = 8; reason = 9 ∷ [] }) }

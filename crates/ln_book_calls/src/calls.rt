@@ -177,9 +177,15 @@ pub fn call(alloc: Global, node: &mut Node, line: &str) -> Result<String, AllocE
     let words = words.as_slice();
     match line.split(' ').next().unwrap_or("") {
         "#" => String::from_str(alloc, line),
-        word @ ("open" | "up" | "down" | "offer" | "pay" | "sign" | "obey" | "restart") => {
-            node.call(alloc, word, words)
-        }
+        word @ ("open"
+        | "up"
+        | "down"
+        | "offer"
+        | "pay"
+        | "sign"
+        | "obey"
+        | "settle"
+        | "restart") => { node.call(alloc, word, words) }
         word => call_book(alloc, &mut node.book, word, words),
     }
 }

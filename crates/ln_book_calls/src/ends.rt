@@ -205,6 +205,11 @@ impl Ends {
         self.peer.drop_connection();
     }
 
+    /// What the node's end needn't keep one by one any more is left out.
+    pub fn settle(&mut self, alloc: Global) -> Result<(), Refusal> {
+        self.own.settle_base(alloc)
+    }
+
     /// The node's end, as a book asks it.
     pub fn channel(&self) -> Option<&Channel> {
         self.own.saved()

@@ -104,6 +104,7 @@ impl Place {
             }
             "sign" => self.ends.sign(alloc, signing_of(at(words, 2)), told),
             "up" => self.ends.connect(alloc, told),
+            "settle" => self.ends.settle(alloc),
             _ => Err(Refusal::NotReady),
         }
     }

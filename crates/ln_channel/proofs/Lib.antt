@@ -4,3 +4,4 @@ pub mod Kept
 pub mod Meeting
 pub mod Taken
 pub mod Turning
+pub mod Based

@@ -13,6 +13,8 @@ pub mod State
 pub mod Pending
 pub mod Parts
 pub mod Record
+pub mod Base
+pub mod Past
 pub mod Naming
 pub mod Step
 pub mod Standing

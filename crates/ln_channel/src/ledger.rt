@@ -7,6 +7,7 @@ use ln_log::{
 };
 use ln_msgs::Refusal;
 use std::alloc::Global;
+use std::collections::BTreeSet;
 use std::marker::Model;
 
 /// The most events that a channel end has: 2^62 updates of either side, and the close.
@@ -38,7 +39,10 @@ impl Model for EventLedger {
     ghost invariant = { λ l. l.decided ≤ most_decided };
 }
 
-ghost use Rattle.std.specs.Prelude.{◌≡◌, IfOk, IfErr, filter};
+ghost use Rattle.std.specs.Prelude.{◌≡◌, List, IfOk, IfErr, filter};
+ghost use Rattle.ln_log.specs.declared.update.Update.{Update};
+ghost use Rattle.ln_log.specs.Outcomes.{AreRemoved};
+ghost use Rattle.ln_channel.specs.Base.{is_open};
 ghost use Rattle.ln_log.specs.declared.log.Side.TheVariants as side;
 ghost use Rattle.ln_log.specs.declared.outcome.Outcome.TheVariants as found;
 ghost use Rattle.ln_log.specs.Updates.{add_with, outcome, removed};
@@ -96,6 +100,13 @@ fn is_not_of(id: u64, settlement: &Settlement) -> bool
     ensures { result ≡ is_not_of id settlement.now }
 {
     settlement.id != id
+}
+
+// Whether an HTLC of the peer's that a decision is about is none of these.
+fn is_open(ids: &BTreeSet<u64>, decision: &Decision) -> bool
+    ensures { (us : List Update) → AreRemoved ids.now us → result ≡ is_open us decision.now }
+{
+    !ids.contains(&decision.id)
 }
 
 impl EventLedger {
@@ -189,7 +200,10 @@ impl EventLedger {
 }
 
 impl EventLedger {
-    ghost use Rattle.std.specs.Prelude.{◌≡◌, ◌<◌, ◌∷◌, [], length, Ok, OnOk, IfErr};
+    ghost use Rattle.std.specs.Prelude.{◌≡◌, ◌<◌, ◌∷◌, [], List, length, Ok, OnOk, IfErr};
+    ghost use Rattle.ln_log.specs.declared.update.Update.{Update};
+    ghost use Rattle.ln_log.specs.Outcomes.{AreRemoved};
+    ghost use Rattle.ln_channel.specs.Base.{without_removed};
     ghost use Rattle.ln_log.specs.declared.log.Side.TheVariants as side;
     ghost use Rattle.ln_log.specs.Updates.{removed};
     ghost use Rattle.ln_log.specs.Log.{before_first, IsNotGone, AreNotGone};
@@ -290,6 +304,14 @@ impl EventLedger {
         Ok(())
     }
 
+    /// The decisions on HTLCs of the peer's with these ids are left out. Takes no memory, and time that grows linearly
+    /// with the decisions, but for a look into the ids.
+    pub(crate) fn leave_out_removed(&mut self, ids: &BTreeSet<u64>)
+        ensures { (us : List Update) → AreRemoved ids.now us → self.new ≡ without_removed us self.old }
+    {
+        leave_out_removed(&mut self.decisions, ids);
+    }
+
     /// The results of this own HTLC are left out. Takes no memory.
     pub(crate) fn forget(&mut self, id: u64)
         ensures { self.new ≡ forgotten id self.old }
@@ -353,6 +375,14 @@ impl EventLedger {
     {
         self.results.as_slice()
     }
+}
+
+// All decisions but those on HTLCs of these ids. Takes no memory.
+fn leave_out_removed(decisions: &mut Vec<Decision>, ids: &BTreeSet<u64>)
+    ensures { (us : List Update) → AreRemoved ids.now us
+        → decisions.new.items ≡ filter (is_open us) decisions.old.items }
+{
+    decisions.retain(|decision| is_open(ids, decision));
 }
 
 // All results but those of this own HTLC. Takes no memory.

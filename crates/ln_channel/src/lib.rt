@@ -2,6 +2,7 @@
 //! each command makes of it, and what it hands out (BOLT 2). The link that saves is ln_link's.
 #![tactic(auto)]
 
+mod base;
 mod channel;
 mod command;
 mod commands;
@@ -11,6 +12,7 @@ mod handle;
 mod ledger;
 mod opening;
 mod output;
+mod past;
 mod pending;
 mod record;
 mod resume;

@@ -13,8 +13,9 @@ use Rattle.ln_channel.specs.declared.opening.Opened.{Opened}
 use Rattle.ln_channel.specs.End.{End, Turn, with_dance, end_dropped}
 use Rattle.ln_channel.specs.State.{is_down}
 use Rattle.ln_pair.specs.Ends.{Ends, Step, By, Connect, Act, Deliver, Give, Note, Lose, Cut, message_at}
-use Rattle.ln_pair.specs.Ends.{command_at}
+use Rattle.ln_pair.specs.Ends.{Save, command_at}
 use Rattle.ln_pair.specs.Ends.{ledger_behind}
+use Rattle.ln_channel.specs.Base.{next_base, entering, without_removed}
 use Rattle.ln_channel.specs.Commands.{ledgered}
 use Rattle.ln_pair.specs.Ends as pair
 
@@ -69,6 +70,13 @@ acted_so keys (Note c) q h = record {
 }
 acted_so keys Lose q h = lost_so (is_down q.x_line) q h
 acted_so keys (Cut n) q h = cut_so (is_down q.x_line) n q h
+acted_so keys Save q h = record {
+  x = λ down. ap (λ (e : End). record e {
+    dance = with_log (record e.dance.log { first = next_base q.x }) e.dance;
+    ledger = without_removed (entering q.x) q.x.ledger;
+  }) (h.x down);
+  y = h.y;
+}
 
 module _ (a b : Signer) where
   connected_so : (lx ly : Line) (q : Ends) → AreDropped q → AreDropped (pair.connects a b lx ly q)

@@ -85,7 +85,8 @@ use Rattle.ln_channels.proofs.Mirror.{link_of, without_warnings, IsInbox, Mirror
 use Rattle.ln_channels.proofs.Mirror.{is_awake, unless_halted}
 use Rattle.ln_channels.proofs.Dropped.{are_dropped, ran_so}
 use Rattle.ln_channels.proofs.Stops.{ends_stopped, stopped_so, stopped_says}
-use Rattle.ln_channels.proofs.Moves.{Goes, out_of, handled_so, passed_so, delivered, given, fell, restarted_so, met}
+use Rattle.ln_channels.proofs.Moves.{Goes, Says, Tells, IsAside, saved_if, out_of, handled_so, passed_so, delivered}
+use Rattle.ln_channels.proofs.Moves.{given, fell, restarted_so, met}
 use Rattle.ln_channels.proofs.Moves.{is_up, noted, refuses_halted, halted_so, AreAwake}
 use Rattle.ln_channels.proofs.Opening.{IsOpening}
 
@@ -448,12 +449,17 @@ module _ {K : Type 0} (signer : K → Signer) where
   is_done (act.Send (command.Decide event mark)) = refl
   is_done (act.Send (command.Forget i)) = refl
 
+  -- a save leaves the other end alone
+  left_saved : (q r : Ends) → IsLeft q r → IsLeft q (pair.saves r)
+  left_saved q r h = record { sent = h.sent; y_line = h.y_line; y = h.y; to_y = h.to_y }
+
   -- told from the end of this side
   abbrev from_side : Role → Ends → Ends
   from_side Funder q = q
   from_side Fundee q = pair.turned q
 
-  -- the pair's steps that it is: one, or none for a warning that is passed over
+  -- the pair's steps that it is: one, or none for a warning that is passed over; and behind it a save, where the link
+  -- answers it
   record Acted (id : List ℕ) (side : Role) (a : Act) (p : Both K) (r : IsRun id p) : Type 0 where
     steps : List Step
     wide : IsAct a → All StepIsWide steps
@@ -474,68 +480,170 @@ module _ {K : Type 0} (signer : K → Signer) where
     line : is_down (from_side side (pair.run (signer r.funders) (signer r.fundees) steps (ends_of id p r))).x_line
         ≡ is_down (from_side side (ends_of id p r)).x_line
 
-  acted : (id : List ℕ) (side : Role) (a : Act) (p : Both K) (r : IsRun id p) → Acted id side a p r
+  -- as it stays, but that the end may be saved
+  funder_stays : (saved : Bool) (id : List ℕ) (a : Act) (p : Both K) (r : IsRun id p)
+      → Mirrors id r.funders r.fundees (acts signer id a p) (saved_if saved (ends_of id p r))
+      → IsAside (out_of signer id Funder a p.x) → Acted id Funder a p r
   unfolding moves
-  acted id Funder a p r =
+  funder_stays false id a p r h aside =
+      let q = ends_of id p r in
+      record {
+        steps = [];
+        wide = λ is. tt;
+        mirrors = h;
+        x = silently q.said_x (act_sends signer id a p.x) aside.sent;
+        y = silently q.said_y [] refl;
+        moves_are = sym aside.moves;
+        told_x = sym (ap events_in aside.told);
+        told_y = refl;
+        left = left_alone q;
+        line = refl;
+      }
+  funder_stays true id a p r h aside =
+      let q = ends_of id p r in
+      record {
+        steps = pair.By Funder pair.Save ∷ [];
+        wide = λ is. (tt, tt);
+        mirrors = h;
+        x = silently q.said_x (act_sends signer id a p.x) aside.sent;
+        y = silently q.said_y [] refl;
+        moves_are = sym aside.moves;
+        told_x = sym (ap events_in aside.told);
+        told_y = refl;
+        left = left_saved q q (left_alone q);
+        line = refl;
+      }
+
+  fundee_stays : (saved : Bool) (id : List ℕ) (a : Act) (p : Both K) (r : IsRun id p)
+      → Mirrors id r.fundees r.funders (acts signer id a (swapped p)) (saved_if saved (pair.turned (ends_of id p r)))
+      → IsAside (out_of signer id Fundee a p.y) → Acted id Fundee a p r
+  unfolding moves
+  fundee_stays false id a p r h aside =
+      let q = ends_of id p r in
+      record {
+        steps = [];
+        wide = λ is. tt;
+        mirrors = flipped id r.fundees r.funders _ (pair.turned q) h;
+        x = silently q.said_x [] refl;
+        y = silently q.said_y (act_sends signer id a p.y) aside.sent;
+        moves_are = sym aside.moves;
+        told_x = refl;
+        told_y = sym (ap events_in aside.told);
+        left = left_alone (pair.turned q);
+        line = refl;
+      }
+  fundee_stays true id a p r h aside =
+      let q = ends_of id p r in
+      record {
+        steps = pair.By Fundee pair.Save ∷ [];
+        wide = λ is. (tt, tt);
+        mirrors = flipped id r.fundees r.funders _ (pair.saves (pair.turned q)) h;
+        x = silently q.said_x [] refl;
+        y = silently q.said_y (act_sends signer id a p.y) aside.sent;
+        moves_are = sym aside.moves;
+        told_x = refl;
+        told_y = sym (ap events_in aside.told);
+        left = left_saved (pair.turned q) (pair.turned q) (left_alone (pair.turned q));
+        line = refl;
+      }
+
+  -- as it acts, and may be saved behind that
+  funder_acts : (saved : Bool) (id : List ℕ) (a : Act) (p : Both K) (r : IsRun id p)
+      → Mirrors id r.funders r.fundees (acts signer id a p)
+      (saved_if saved (pair.acts (signer r.funders) (of_pair a) (ends_of id p r)))
+      → Says (act_sends signer id a p.x) (ends_of id p r) (pair.acts (signer r.funders) (of_pair a) (ends_of id p r))
+      → Tells (out_of signer id Funder a p.x)
+      (pair_moves.moves_of_act (signer r.funders) Funder (of_pair a) (ends_of id p r))
+      (pair_told.told_in (signer r.funders) (of_pair a) (ends_of id p r)) → Acted id Funder a p r
+  unfolding moves
+  funder_acts false id a p r h says tells =
       let q = ends_of id p r in
       let k = signer r.funders in
       let d = of_pair a in
-      elim (acts_so id Funder a r.funders r.fundees p q r.mirrors (fronts id p r).0) [
-        | inl h ↦ record {
-          steps = [];
-          wide = λ is. tt;
-          mirrors = h.0;
-          x = silently q.said_x (act_sends signer id a p.x) h.1.sent;
-          y = silently q.said_y [] refl;
-          moves_are = sym h.1.moves;
-          told_x = sym (ap events_in h.1.told);
-          told_y = refl;
-          left = left_alone q;
-          line = refl;
-        }
-        | inr h ↦ record {
-          steps = pair.By Funder d ∷ [];
-          wide = λ is. (as_wide Funder a is, tt);
-          mirrors = h.0;
-          x = h.1.x;
-          y = h.1.y ∙ silently q.said_y [] refl;
-          moves_are = append-nil (pair_moves.moves_of_act k Funder d q) ∙ h.2.moves;
-          told_x = ap events_in (append-nil (pair_told.told_in k d q) ∙ h.2.told);
-          told_y = refl;
-          left = deeds_leave k d q (is_done a);
-          line = deeds_line k d q (is_done a);
-        }
-      ]
-  acted id Fundee a p r =
+      record {
+        steps = pair.By Funder d ∷ [];
+        wide = λ is. (as_wide Funder a is, tt);
+        mirrors = h;
+        x = says.x;
+        y = says.y ∙ silently q.said_y [] refl;
+        moves_are = append-nil (pair_moves.moves_of_act k Funder d q) ∙ tells.moves;
+        told_x = ap events_in (append-nil (pair_told.told_in k d q) ∙ tells.told);
+        told_y = refl;
+        left = deeds_leave k d q (is_done a);
+        line = deeds_line k d q (is_done a);
+      }
+  funder_acts true id a p r h says tells =
+      let q = ends_of id p r in
+      let k = signer r.funders in
+      let d = of_pair a in
+      record {
+        steps = pair.By Funder d ∷ pair.By Funder pair.Save ∷ [];
+        wide = λ is. (as_wide Funder a is, (tt, tt));
+        mirrors = h;
+        x = says.x;
+        y = says.y ∙ silently q.said_y [] refl;
+        moves_are = append-nil (pair_moves.moves_of_act k Funder d q) ∙ tells.moves;
+        told_x = ap events_in (append-nil (pair_told.told_in k d q) ∙ tells.told);
+        told_y = refl;
+        left = left_saved q (pair.acts k d q) (deeds_leave k d q (is_done a));
+        line = deeds_line k d q (is_done a);
+      }
+
+  fundee_acts : (saved : Bool) (id : List ℕ) (a : Act) (p : Both K) (r : IsRun id p)
+      → Mirrors id r.fundees r.funders (acts signer id a (swapped p))
+      (saved_if saved (pair.acts (signer r.fundees) (of_pair a) (pair.turned (ends_of id p r))))
+      → Says (act_sends signer id a p.y) (pair.turned (ends_of id p r))
+      (pair.acts (signer r.fundees) (of_pair a) (pair.turned (ends_of id p r)))
+      → Tells (out_of signer id Fundee a p.y)
+      (pair_moves.moves_of_act (signer r.fundees) Fundee (of_pair a) (pair.turned (ends_of id p r)))
+      (pair_told.told_in (signer r.fundees) (of_pair a) (pair.turned (ends_of id p r))) → Acted id Fundee a p r
+  unfolding moves
+  fundee_acts false id a p r h says tells =
       let q = ends_of id p r in
       let k = signer r.fundees in
       let d = of_pair a in
+      record {
+        steps = pair.By Fundee d ∷ [];
+        wide = λ is. (as_wide Fundee a is, tt);
+        mirrors = flipped id r.fundees r.funders _ (pair.acts k d (pair.turned q)) h;
+        x = says.y ∙ silently q.said_x [] refl;
+        y = says.x;
+        moves_are = append-nil (pair_moves.moves_of_act k Fundee d (pair.turned q)) ∙ tells.moves;
+        told_x = refl;
+        told_y = ap events_in (append-nil (pair_told.told_in k d (pair.turned q)) ∙ tells.told);
+        left = deeds_leave k d (pair.turned q) (is_done a);
+        line = deeds_line k d (pair.turned q) (is_done a);
+      }
+  fundee_acts true id a p r h says tells =
+      let q = ends_of id p r in
+      let k = signer r.fundees in
+      let d = of_pair a in
+      record {
+        steps = pair.By Fundee d ∷ pair.By Fundee pair.Save ∷ [];
+        wide = λ is. (as_wide Fundee a is, (tt, tt));
+        mirrors = flipped id r.fundees r.funders _ (pair.saves (pair.acts k d (pair.turned q))) h;
+        x = says.y ∙ silently q.said_x [] refl;
+        y = says.x;
+        moves_are = append-nil (pair_moves.moves_of_act k Fundee d (pair.turned q)) ∙ tells.moves;
+        told_x = refl;
+        told_y = ap events_in (append-nil (pair_told.told_in k d (pair.turned q)) ∙ tells.told);
+        left = left_saved (pair.turned q) (pair.acts k d (pair.turned q))
+            (deeds_leave k d (pair.turned q) (is_done a));
+        line = deeds_line k d (pair.turned q) (is_done a);
+      }
+
+  acted : (id : List ℕ) (side : Role) (a : Act) (p : Both K) (r : IsRun id p) → Acted id side a p r
+  acted id Funder a p r =
+      elim (acts_so id Funder a r.funders r.fundees p (ends_of id p r) r.mirrors (fronts id p r).0) [
+        | inl h ↦ funder_stays h.0 id a p r h.1 h.2
+        | inr h ↦ funder_acts h.0 id a p r h.1 h.2 h.3
+      ]
+  acted id Fundee a p r =
+      let q = ends_of id p r in
       elim (acts_so id Fundee a r.fundees r.funders (swapped p) (pair.turned q)
       (flipped id r.funders r.fundees p q r.mirrors) (fronts id p r).1) [
-        | inl h ↦ record {
-          steps = [];
-          wide = λ is. tt;
-          mirrors = flipped id r.fundees r.funders _ (pair.turned q) h.0;
-          x = silently q.said_x [] refl;
-          y = silently q.said_y (act_sends signer id a p.y) h.1.sent;
-          moves_are = sym h.1.moves;
-          told_x = refl;
-          told_y = sym (ap events_in h.1.told);
-          left = left_alone (pair.turned q);
-          line = refl;
-        }
-        | inr h ↦ record {
-          steps = pair.By Fundee d ∷ [];
-          wide = λ is. (as_wide Fundee a is, tt);
-          mirrors = flipped id r.fundees r.funders _ (pair.acts k d (pair.turned q)) h.0;
-          x = h.1.y ∙ silently q.said_x [] refl;
-          y = h.1.x;
-          moves_are = append-nil (pair_moves.moves_of_act k Fundee d (pair.turned q)) ∙ h.2.moves;
-          told_x = refl;
-          told_y = ap events_in (append-nil (pair_told.told_in k d (pair.turned q)) ∙ h.2.told);
-          left = deeds_leave k d (pair.turned q) (is_done a);
-          line = deeds_line k d (pair.turned q) (is_done a);
-        }
+        | inl h ↦ fundee_stays h.0 id a p r h.1 h.2
+        | inr h ↦ fundee_acts h.0 id a p r h.1 h.2 h.3
       ]
 
   acted_went : (id : List ℕ) (side : Role) (a : Act) (p : Both K) (r : IsRun id p)

@@ -22,6 +22,7 @@ pub mod OpeningForms
 pub mod UpdateForms
 pub mod ItemForms
 pub mod SoundForms
+pub mod BaseForms
 pub mod Forms
 pub mod Openings
 pub mod Stopping

@@ -17,6 +17,7 @@ use Rattle.ln_channel.specs.declared.unsaved.Line.TheVariants.{Down, Awaiting, M
 use Rattle.ln_channel.specs.declared.unsaved.Stage.TheVariants as stage
 use Rattle.ln_channel.specs.Naming.{named, is_other}
 use Rattle.ln_channel.specs.declared.output.Output.{Output}
+use Rattle.ln_channel.specs.Base.{based}
 use Rattle.ln_channel.specs.Outputs.{all_of}
 use Rattle.ln_channel.specs.End.{End, Turn, end_dropped}
 use Rattle.ln_channel.specs.Ledger.{Ledger}
@@ -29,7 +30,7 @@ use Rattle.ln_channel.specs.Step.{message_fault, saved_at, at_hand, asked, obeye
 use Rattle.ln_channel.specs.Step as step
 use Rattle.ln_log.specs.Limits.{first_fault}
 use Rattle.ln_pair.specs.Ends.{Ends, arrive, messages_in, message_at, command_at, becomes, ledger_behind, Act, Deliver}
-use Rattle.ln_pair.specs.Ends.{Give, Note, Lose}
+use Rattle.ln_pair.specs.Ends.{Give, Note, Lose, saves}
 use Rattle.ln_pair.proofs.Noting.{IsNotReady, not_ready}
 use Rattle.ln_pair.specs.Ends as pair
 use Rattle.ln_pair.specs.Moves.{moves_asked, moves_between, closes, shuts}
@@ -42,9 +43,10 @@ use Rattle.ln_channels.specs.Sending.{delivery_sends, act_sends}
 use Rattle.ln_channels.specs.Machine.{moves_of_message, moves_delivered, moves_of_command, moves_of_act}
 use Rattle.ln_channels.specs.Machine.{outputs_of, delivery_tells, act_tells}
 use Rattle.ln_channels.specs.Lines.{replies}
-use Rattle.ln_channels.specs.Both.{Both, Place, reaches, left, left_by, sent_by, unchanged, answers, delivers, acts}
+use Rattle.ln_link.specs.Saving.{settled}
+use Rattle.ln_channels.specs.Both.{Both, Place, reaches, left, sent_by, unchanged, answers, delivers, acts}
 use Rattle.ln_channels.specs.Both.{falls}
-use Rattle.ln_channels.specs.Both.{halts, restarts, back, greeting, greets, comes_up, meet}
+use Rattle.ln_channels.specs.Both.{halts, restarts, back, greeting, greets, greeted, comes_up, meet}
 use Rattle.ln_channels.proofs.Named.{Names, IsFine, IsFineRow, fine_at, fine_command}
 use Rattle.ln_channels.proofs.Named as sent
 use Rattle.ln_channels.proofs.Silent.{IsSilentRow, silent_at}
@@ -159,6 +161,10 @@ says_refused out r w q to e none =
     subst (λ z. Says out q (pair.answers z (record q { to_x = to }))) (sym e)
     (record { x = sym (ap (λ ws. q.said_x ++ ws) none ∙ append-nil q.said_x); y = refl })
 
+-- x is saved, or not
+abbrev pub saved_if : Bool → Ends → Ends
+saved_if saved q = cond saved (saves q) q
+
 -- what comes of an act of one end, told of the links
 pub record Out : Type 0 where
   pub sent : List Message
@@ -264,12 +270,12 @@ module _ {K : Type 0} (signer : K → Signer) (id : List ℕ) (kx ky : K) where
       subst (λ w. Says (sent_by id row) q (pair.answers w (record q { to_x = to }))) (sym e)
       (record { x = ap (λ ws. q.said_x ++ ws) (sym all); y = refl })
 
-  -- it has made this turn, and has met its peer
+  -- it has made this turn and is saved, and has met its peer
   turned_so : (after : Refusal → State K → State K) (row : Result Done Refusal) (t : Turn) (p : Both K) (q : Ends)
       (ms to : List Message) → p.x.link ≡ link_of kx q.x_line q.x → row ≡ step.turned Met (Ok t) → IsFine id t
       → IsInbox id Met ms to → Mirrors id kx ky p q
       → Mirrors id kx ky (answers after id row (record { x = record p.x { inbox = ms }; y = p.y }))
-      (becomes t (record q { to_x = to }))
+      (saves (becomes t (record q { to_x = to })))
   turned_so after row t p q ms to works is fine in_x h =
       let d : Done = record { line = Met; stage = stage.Saved t.end; outputs = all_of t.handed } in
       let out : List Message = messages_in (all_of t.handed) in
@@ -277,10 +283,10 @@ module _ {K : Type 0} (signer : K → Signer) (id : List ℕ) (kx ky : K) where
       let same : without_warnings out ≡ messages_in t.handed.sent = out_so t fine in
       subst (λ r. Mirrors id kx ky
       (answers after id r (record { x = record p.x { inbox = ms }; y = p.y }))
-      (becomes t (record q { to_x = to }))) (sym is) (record {
+      (saves (becomes t (record q { to_x = to })))) (sym is) (record {
         x_halted = false;
         y_halted = h.y_halted;
-        x_link = ap (left_by d) works;
+        x_link = ap (settled d) works;
         y_link = reached_link id out p.y ∙ h.y_link;
         x_down = λ e. absurd (cc);
         y_down = h.y_down;
@@ -351,11 +357,19 @@ module _ {K : Type 0} (signer : K → Signer) (id : List ℕ) (kx ky : K) where
     down = λ e. absurd (let no : true ≡ false = sym e ∙ up in cc);
   }
 
+  -- the ends do nothing, but that x may be saved
+  abbrev pub Stays : Out → Both K → Ends → Type 0
+  Stays out p q = (saved : Bool) × Mirrors id kx ky p (saved_if saved q) × IsAside out
+
+  -- the ends come to this, and x may be saved behind it
+  abbrev pub Comes : Out → List machine.Move → List Output → Both K → Ends → Ends → Type 0
+  Comes out ms os p q r = (saved : Bool) × Mirrors id kx ky p (saved_if saved r) × Says out.sent q r × Tells out ms os
+
   -- the ends do this, or nothing
   abbrev pub Goes : Role → Act → Out → Both K → Ends → Type 0
-  Goes side a out p q = (Mirrors id kx ky p q × IsAside out)
-      ⊎ (Mirrors id kx ky p (pair.acts (signer kx) a q) × Says out.sent q (pair.acts (signer kx) a q)
-      × Tells out (pair_moves.moves_of_act (signer kx) side a q) (told_in (signer kx) a q))
+  Goes side a out p q = Stays out p q
+      ⊎ Comes out (pair_moves.moves_of_act (signer kx) side a q) (told_in (signer kx) a q) p q
+      (pair.acts (signer kx) a q)
 
   tells_taken : (side : Role) (p : Both K) (q : Ends) (m : Message) (ms to : List Message) → is_down q.x_line ≡ false
       → named m ≡ Some id → p.x.link ≡ link_of kx q.x_line q.x → Mirrors id kx ky p q
@@ -376,20 +390,19 @@ module _ {K : Type 0} (signer : K → Signer) (id : List ℕ) (kx ky : K) where
   of_channel : (side : Role) (p : Both K) (q : Ends) (m : Message) (ms to : List Message) → is_down q.x_line ≡ false
       → named m ≡ Some id → without_warnings ms ≡ to → AreIn id ms → p.x.link ≡ link_of kx q.x_line q.x
       → Mirrors id kx ky p q → Front (signer kx) q.x_line (m ∷ to) q.x
-      → Mirrors id kx ky (answers refused id (handled (signer p.x.link.keys) p.x.link m)
-      (record { x = record p.x { inbox = ms }; y = p.y })) (pair.delivers (signer kx) (m ∷ to) q)
-      × Says (sent_by id (handled (signer p.x.link.keys) p.x.link m)) q (pair.delivers (signer kx) (m ∷ to) q)
-      × Tells (out_delivered signer id side (m ∷ ms) p.x.link)
-      (pair_moves.moves_delivered (signer kx) side q.x_line (m ∷ to) q.x)
-      (told_on (signer kx) q.x_line (m ∷ to) q.x)
+      → Comes (out_delivered signer id side (m ∷ ms) p.x.link)
+      (pair_moves.moves_delivered (signer kx) side q.x_line (m ∷ to) q.x) (told_on (signer kx) q.x_line (m ∷ to) q.x)
+      (answers refused id (handled (signer p.x.link.keys) p.x.link m)
+      (record { x = record p.x { inbox = ms }; y = p.y })) q (pair.delivers (signer kx) (m ∷ to) q)
   of_channel side p q m ms to up is told named works h (inl f) =
       let keys = signer kx in
       let row : handled (signer p.x.link.keys) p.x.link m ≡ step.turned Met (Ok f.0) =
       ap (λ (l : State K). handled (signer l.keys) l m) works
       ∙ handled_so keys kx id q.x_line m q.x up is h.x_channel ∙ ap (step.turned Met) f.1 in
       let fine = fine_of id (message_at keys q.x_line m q.x) f.0 f.1 (fine_at keys id q.x_line m q.x h.x_channel) in (
+        true,
         subst (λ r. Mirrors id kx ky (answers refused id (handled (signer p.x.link.keys) p.x.link m)
-            (record { x = record p.x { inbox = ms }; y = p.y })) (pair.answers r (record q { to_x = to })))
+            (record { x = record p.x { inbox = ms }; y = p.y })) (saves (pair.answers r (record q { to_x = to }))))
             (sym f.1)
             (turned_so refused (handled (signer p.x.link.keys) p.x.link m) f.0 p q ms to works row fine
             (behind_it Met m ms to refl told named) h),
@@ -401,6 +414,7 @@ module _ {K : Type 0} (signer : K → Signer) (id : List ℕ) (kx ky : K) where
       let row : handled (signer p.x.link.keys) p.x.link m ≡ Err refusal.FeeOutside =
       ap (λ (l : State K). handled (signer l.keys) l m) works
       ∙ handled_so keys kx id q.x_line m q.x up is h.x_channel ∙ ap (step.turned Met) f.1 in (
+        false,
         subst (λ r. Mirrors id kx ky (answers refused id (handled (signer p.x.link.keys) p.x.link m)
             (record { x = record p.x { inbox = ms }; y = p.y })) (pair.answers r (record q { to_x = to })))
             (sym f.1)
@@ -414,7 +428,7 @@ module _ {K : Type 0} (signer : K → Signer) (id : List ℕ) (kx ky : K) where
   delivered_by : (side : Role) (p : Both K) (q : Ends) (ms : List Message) → IsInbox id q.x_line ms q.to_x
       → Mirrors id kx ky p q → p.x.inbox ≡ ms → Front (signer kx) q.x_line q.to_x q.x
       → Goes side Deliver (out_delivered signer id side ms p.x.link) (delivers signer id ms p) q
-  delivered_by side p q [] i h is f = inl (h, record { sent = refl; moves = refl; told = refl })
+  delivered_by side p q [] i h is f = inl (false, h, record { sent = refl; moves = refl; told = refl })
   delivered_by side p q (m ∷ ms) i h is f =
       let up = is_up q.x_line m ms i.down in
       let works = is_awake id kx ky p q h up in
@@ -425,9 +439,10 @@ module _ {K : Type 0} (signer : K → Signer) (id : List ℕ) (kx ky : K) where
             ap (λ (l : State K). handled (signer l.keys) l m) works
             ∙ passed_so (signer kx) kx id q.x_line m q.x warns in
             inl (
-              still_so refused (handled (signer p.x.link.keys) p.x.link m)
-                  (Ok (record { line = q.x_line; stage = stage.Saved q.x; outputs = [] })) p q ms q.to_x
-                  false works (works_on q.x_line) row refl refl tt
+              true,
+              kept_so refused (handled (signer p.x.link.keys) p.x.link m)
+                  (Ok (record { line = q.x_line; stage = stage.Saved q.x; outputs = [] })) p q (based q.x) ms q.to_x
+                  false works (works_on q.x_line) row refl h.x_channel refl tt
                   (behind_it q.x_line m ms q.to_x up
                   (sym (ap (λ b. cond b (without_warnings ms) (m ∷ without_warnings ms)) warns) ∙ i.told) i.named.1) h,
               record {
@@ -442,10 +457,9 @@ module _ {K : Type 0} (signer : K → Signer) (id : List ℕ) (kx ky : K) where
             let to : m ∷ without_warnings ms ≡ q.to_x =
             sym (ap (λ b. cond b (without_warnings ms) (m ∷ without_warnings ms))
             (plain id m own).warning) ∙ i.told in
-            let went = subst (λ ws. Mirrors id kx ky (delivers signer id (m ∷ ms) p) (pair.delivers (signer kx) ws q)
-            × Says (delivery_sends signer id (m ∷ ms) p.x.link) q (pair.delivers (signer kx) ws q)
-            × Tells (out_delivered signer id side (m ∷ ms) p.x.link)
-            (pair_moves.moves_delivered (signer kx) side q.x_line ws q.x) (told_on (signer kx) q.x_line ws q.x)) to
+            let went = subst (λ ws. Comes (out_delivered signer id side (m ∷ ms) p.x.link)
+            (pair_moves.moves_delivered (signer kx) side q.x_line ws q.x) (told_on (signer kx) q.x_line ws q.x)
+            (delivers signer id (m ∷ ms) p) q (pair.delivers (signer kx) ws q)) to
             (of_channel side p q m ms (without_warnings ms) up own refl i.named.1 works h
             (subst (λ ws. Front (signer kx) q.x_line ws q.x) (sym to) f)) in
             inr went
@@ -461,7 +475,7 @@ module _ {K : Type 0} (signer : K → Signer) (id : List ℕ) (kx ky : K) where
   given_by : (c : Command) (r : Result Turn Refusal) (p : Both K) (q : Ends) → command_at (signer kx) q.x_line c q.x ≡ r
       → commanded (signer kx) (link_of kx q.x_line q.x) c ≡ step.turned q.x_line (command_at (signer kx) q.x_line c q.x)
       → p.x.link ≡ link_of kx q.x_line q.x → Mirrors id kx ky p q
-      → Mirrors id kx ky (acts signer id (act.Send c) p) (pair.answers r q)
+      → (saved : Bool) × Mirrors id kx ky (acts signer id (act.Send c) p) (saved_if saved (pair.answers r q))
       × Says (act_sends signer id (act.Send c) p.x) q (pair.answers r q)
   given_by c (Ok t) p q e is works h =
       let keys = signer kx in
@@ -470,6 +484,7 @@ module _ {K : Type 0} (signer : K → Signer) (id : List ℕ) (kx ky : K) where
       ap (λ (l : State K). commanded (signer l.keys) l c) works ∙ is
       ∙ ap (λ l. step.turned l (command_at keys q.x_line c q.x)) met ∙ ap (step.turned Met) e in
       let fine = fine_of id (command_at keys q.x_line c q.x) t e (fine_command keys id q.x_line c q.x h.x_channel) in (
+        true,
         turned_so unchanged (commanded (signer p.x.link.keys) p.x.link c) t p q p.x.inbox q.to_x works row
             fine (subst (λ l. IsInbox id l p.x.inbox q.to_x) met h.x_in) h,
         says_turned (commanded (signer p.x.link.keys) p.x.link c) (Ok t) t q q.to_x row refl fine,
@@ -480,6 +495,7 @@ module _ {K : Type 0} (signer : K → Signer) (id : List ℕ) (kx ky : K) where
       ap (λ (l : State K). commanded (signer l.keys) l c) works ∙ is ∙ ap (step.turned q.x_line) e in
       let none : replies id r ≡ [] = silent_of id (command_at keys q.x_line c q.x) r e
       (silent_at id keys q.x_line c q.x) in (
+        false,
         still_so unchanged (commanded (signer p.x.link.keys) p.x.link c) (Err r) p q p.x.inbox q.to_x false works
             (works_on q.x_line) row refl (ap without_warnings none) (subst (AreIn id) (sym none) tt) h.x_in h,
         says_refused (act_sends signer id (act.Send c) p.x) (Err r) r q q.to_x refl
@@ -490,16 +506,15 @@ module _ {K : Type 0} (signer : K → Signer) (id : List ℕ) (kx ky : K) where
   pub given : (side : Role) (c : Command) (p : Both K) (q : Ends)
       → commanded (signer kx) (link_of kx q.x_line q.x) c ≡ obeyed (signer kx) q.x_line c (stage.Saved q.x)
       → p.x.link ≡ link_of kx q.x_line q.x → Mirrors id kx ky p q
-      → Mirrors id kx ky (acts signer id (act.Send c) p) (pair.acts (signer kx) (Give c) q)
-      × Says (act_sends signer id (act.Send c) p.x) q (pair.acts (signer kx) (Give c) q)
-      × Tells (out_of signer id side (act.Send c) p.x) (pair_moves.moves_of_act (signer kx) side (Give c) q)
-      (told_in (signer kx) (Give c) q)
+      → Comes (out_of signer id side (act.Send c) p.x) (pair_moves.moves_of_act (signer kx) side (Give c) q)
+      (told_in (signer kx) (Give c) q) (acts signer id (act.Send c) p) q (pair.acts (signer kx) (Give c) q)
   given side c p q plain works h =
       let at_row = command_at (signer kx) q.x_line c q.x in
       let is = plain ∙ obeyed_so (signer kx) kx id q.x_line c q.x in
       let went = given_by c at_row p q refl is works h in (
         went.0,
         went.1,
+        went.2,
         record {
           moves = sym (ap (λ (l : State K). moves_of_command side c l.stage (commanded (signer l.keys) l c)) works
               ∙ ap (moves_of_command side c (stage.Saved q.x)) is ∙ same_asked side c q.x q.x_line at_row);
@@ -513,9 +528,8 @@ module _ {K : Type 0} (signer : K → Signer) (id : List ℕ) (kx ky : K) where
       → IsNotReady r
       → commanded (signer kx) (link_of kx q.x_line q.x) c ≡ step.turned q.x_line (with_ledger (ledgered c q.x) q.x)
       → moves_asked side c q.x ≡ [] → p.x.link ≡ link_of kx q.x_line q.x → Mirrors id kx ky p q
-      → Mirrors id kx ky (acts signer id (act.Send c) p) (pair.acts (signer kx) (Note c) q)
-      × Says (act_sends signer id (act.Send c) p.x) q (pair.acts (signer kx) (Note c) q)
-      × Tells (out_of signer id side (act.Send c) p.x) [] []
+      → Comes (out_of signer id side (act.Send c) p.x) [] [] (acts signer id (act.Send c) p) q
+      (pair.acts (signer kx) (Note c) q)
   noted_by side c (Ok l) p q e ready is none works h =
       let x : End = record q.x { ledger = l } in
       let done : Result Done Refusal =
@@ -523,10 +537,11 @@ module _ {K : Type 0} (signer : K → Signer) (id : List ℕ) (kx ky : K) where
       let row : commanded (signer p.x.link.keys) p.x.link c ≡ done =
       ap (λ (k : State K). commanded (signer k.keys) k c) works ∙ is
       ∙ ap (λ z. step.turned q.x_line (with_ledger z q.x)) e in (
+        true,
         subst (λ z. Mirrors id kx ky (acts signer id (act.Send c) p)
-            (record q { x = record q.x { ledger = ledger_behind z q.x.ledger } })) (sym e)
-            (kept_so unchanged (commanded (signer p.x.link.keys) p.x.link c) done p q x p.x.inbox q.to_x false works
-            (works_on q.x_line) row refl h.x_channel refl tt h.x_in h),
+            (saves (record q { x = record q.x { ledger = ledger_behind z q.x.ledger } }))) (sym e)
+            (kept_so unchanged (commanded (signer p.x.link.keys) p.x.link c) done p q (based x) p.x.inbox q.to_x false
+            works (works_on q.x_line) row refl h.x_channel refl tt h.x_in h),
         record {
           x = sym (ap (λ d. q.said_x ++ without_warnings (sent_by id d)) row ∙ append-nil q.said_x);
           y = refl;
@@ -542,6 +557,7 @@ module _ {K : Type 0} (signer : K → Signer) (id : List ℕ) (kx ky : K) where
       let row : commanded (signer p.x.link.keys) p.x.link c ≡ Err refusal.NotReady =
       ap (λ (k : State K). commanded (signer k.keys) k c) works ∙ is
       ∙ ap (λ z. step.turned q.x_line (with_ledger z q.x)) e ∙ ap Err ready in (
+        false,
         subst (λ z. Mirrors id kx ky (acts signer id (act.Send c) p)
             (record q { x = record q.x { ledger = ledger_behind z q.x.ledger } })) (sym e)
             (still_so unchanged (commanded (signer p.x.link.keys) p.x.link c) (Err refusal.NotReady) p q p.x.inbox
@@ -561,18 +577,18 @@ module _ {K : Type 0} (signer : K → Signer) (id : List ℕ) (kx ky : K) where
   pub noted : (side : Role) (c : Command) (p : Both K) (q : Ends)
       → commanded (signer kx) (link_of kx q.x_line q.x) c ≡ step.turned q.x_line (with_ledger (ledgered c q.x) q.x)
       → moves_asked side c q.x ≡ [] → p.x.link ≡ link_of kx q.x_line q.x → Mirrors id kx ky p q
-      → Mirrors id kx ky (acts signer id (act.Send c) p) (pair.acts (signer kx) (Note c) q)
-      × Says (act_sends signer id (act.Send c) p.x) q (pair.acts (signer kx) (Note c) q)
-      × Tells (out_of signer id side (act.Send c) p.x) [] []
+      → Comes (out_of signer id side (act.Send c) p.x) [] [] (acts signer id (act.Send c) p) q
+      (pair.acts (signer kx) (Note c) q)
   noted side c p q is none works h = noted_by side c (ledgered c q.x) p q refl (not_ready c q.x) is none works h
 
   -- a link that has halted answers 62 to any, and is as it was
   pub refuses_halted : (side : Role) (c : Command) (p : Both K) (q : Ends) → p.x.link.halted ≡ true
       → Mirrors id kx ky p q
-      → Mirrors id kx ky (acts signer id (act.Send c) p) q × IsAside (out_of signer id side (act.Send c) p.x)
+      → Stays (out_of signer id side (act.Send c) p.x) (acts signer id (act.Send c) p) q
   refuses_halted side c p q halted h =
       let row : commanded (signer p.x.link.keys) p.x.link c ≡ Err refusal.Halted =
       ap (λ b. cond b (Err refusal.Halted) (asked (signer p.x.link.keys) p.x.link c)) halted in (
+        false,
         still_so unchanged (commanded (signer p.x.link.keys) p.x.link c) (Err refusal.Halted) p q p.x.inbox q.to_x
             h.x_halted h.x_link h.x_down row refl refl tt h.x_in h,
         record {
@@ -698,8 +714,8 @@ module _ {K : Type 0} (signer : K → Signer) (id : List ℕ) (kx ky : K) where
   again k e = message.ChannelReestablish (reestablish_message (signer k) e.dance) ∷ []
 
   up_link : (k : K) (e : End) (l : State K) → l ≡ link_of k Down e
-      → left unchanged (greeting signer l) l ≡ link_of k Awaiting e
-  up_link k e l is = ap (λ (w : State K). left unchanged (greeting signer w) w) is
+      → greeted (greeting signer l) l ≡ link_of k Awaiting e
+  up_link k e l is = ap (λ (w : State K). greeted (greeting signer w) w) is
 
   up_sent : (k : K) (e : End) (l : State K) → l ≡ link_of k Down e → greets (greeting signer l) ≡ again k e
   up_sent k e l is = ap (λ (w : State K). greets (greeting signer w)) is

@@ -24,11 +24,13 @@ use Rattle.ln_channel.specs.Opening.{Agreement, agreement, accept_message, open_
 use Rattle.ln_channel.specs.Config.{fees_of, offered}
 use Rattle.ln_channel.specs.Opening.{asked_with, asked_by_accept}
 use Rattle.ln_channel.specs.Meeting.{Opens}
+use Rattle.ln_channel.specs.Base.{based}
 use Rattle.ln_channel.specs.End.{end_of}
 use Rattle.ln_channel.specs.State.{State, begun, refused}
 use Rattle.ln_channel.specs.Step.{Done, replied, faulted}
 use Rattle.ln_channel.proofs.Meeting.{are_ends}
 use Rattle.ln_pair.specs.Ends as pair
+use Rattle.ln_pair.specs.Ends.{Ends}
 use Rattle.ln_channels.specs.declared.step.Act.TheVariants as act
 use Rattle.ln_channels.specs.Both.{Both, Move, By, Meet, answers, swapped, moves}
 use Rattle.ln_channels.specs.Both.{run as run_both}
@@ -44,6 +46,10 @@ two kx s ms ky t ns = record {
   x = record { keys = kx; link = at_stage kx s; inbox = ms };
   y = record { keys = ky; link = at_stage ky t; inbox = ns };
 }
+
+-- both are saved as they are opened
+abbrev pub first_saves : List pair.Step
+first_saves = pair.By Fundee pair.Save ∷ pair.By Funder pair.Save ∷ []
 
 abbrev ok_or : {A : Type 0} → A → Result A Refusal → A
 ok_or x (Ok y) = y
@@ -78,10 +84,10 @@ module _ {K : Type 0} (signer : K → Signer) (id : List ℕ) (kx ky : K) (s : O
 
   abbrev pub signed : Both K
   signed = two kx (stage.AwaitsSigned (end_of funder)) (message.FundingSigned o.signed ∷ [])
-      ky (stage.Saved (end_of fundee)) []
+      ky (stage.Saved (based (end_of fundee))) []
 
   abbrev pub both_open : Both K
-  both_open = two kx (stage.Saved (end_of funder)) [] ky (stage.Saved (end_of fundee)) []
+  both_open = two kx (stage.Saved (based (end_of funder))) [] ky (stage.Saved (based (end_of fundee))) []
 
   pub they_meet : moves signer id Meet at_first ≡ asked
   unfolding moves
@@ -132,7 +138,7 @@ module _ {K : Type 0} (signer : K → Signer) (id : List ℕ) (kx ky : K) (s : O
   takes_signed =
       let d : Done = record { line = Met; stage = stage.Saved (end_of funder); outputs = [] } in
       let after : Result Done Refusal → Both K = λ r. answers refused id r
-      (two kx (stage.AwaitsSigned (end_of funder)) [] ky (stage.Saved (end_of fundee)) []) in
+      (two kx (stage.AwaitsSigned (end_of funder)) [] ky (stage.Saved (based (end_of fundee))) []) in
       let row : Result Done Refusal = unless (first_fault (signer kx) funder.dance o.signed.signature) d in
       ap (λ b. after (faulted (cond (not b) (Some refusal.UnknownChannel) None) row))
       (same_if_equal o.signed.channel_id funder.dance.channel (named_so ∙ of_both))
@@ -149,9 +155,12 @@ module _ {K : Type 0} (signer : K → Signer) (id : List ℕ) (kx ky : K) (s : O
       ∙ ap (run_both signer id deliver) takes_created
       ∙ takes_signed
 
+  abbrev pub both_saved : Ends
+  both_saved = pair.run (signer kx) (signer ky) first_saves (pair.opened funder fundee)
+
   pub mirrored : id ≡ id_of_channel s.txid s.output
-      → Mirrors id kx ky (run_both signer id opening_moves at_first) (pair.opened funder fundee)
-  mirrored e = subst (λ p. Mirrors id kx ky p (pair.opened funder fundee)) (sym opens_so) (record {
+      → Mirrors id kx ky (run_both signer id opening_moves at_first) both_saved
+  mirrored e = subst (λ p. Mirrors id kx ky p both_saved) (sym opens_so) (record {
     x_halted = false;
     y_halted = false;
     x_link = refl;

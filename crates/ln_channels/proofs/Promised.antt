@@ -36,7 +36,7 @@ use Rattle.ln_channels.specs.Promises.{Headline, NoneRefused, AllTaken, OneFee, 
 use Rattle.ln_channels.specs.Promises.{OfEach}
 use Rattle.ln_channels.specs.Promises.{AnswersShutdown, MarksAgree, BothClose, DoExactly}
 use Rattle.ln_channels.proofs.Fitting.{funders, fundees}
-use Rattle.ln_channels.proofs.Opened.{mirrored, fees_so, opening_so}
+use Rattle.ln_channels.proofs.Opened.{first_saves, mirrored, fees_so, opening_so}
 use Rattle.ln_channels.proofs.Kept.{IsRun, IsOpen, act_kept, fall_kept, halt_kept, restart_kept, stop_kept, up_kept}
 use Rattle.ln_channels.proofs.Kept.{Tale, IsTold}
 use Rattle.ln_channels.proofs.Kept as channels
@@ -152,7 +152,7 @@ module _ {K : Type 0} (k : Ghosts K) where
         config = config;
         funder = funder;
         fundee = fundee;
-        steps = [];
+        steps = first_saves;
         keys = keys;
         opens = opens;
         funders_fees = subst AreSent (sym fees.0) fs;

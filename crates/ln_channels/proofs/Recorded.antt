@@ -130,7 +130,7 @@ module _ {K : Type 0} (k : Ghosts K) where
           fundees_end = both.1;
           funders_script = scripts.0;
           fundees_script = scripts.1;
-          commands = tt;
+          commands = (tt, (tt, tt));
         };
       }
 

@@ -18,7 +18,7 @@ use Rattle.ln_channel.specs.declared.unsaved.Line.{Line}
 use Rattle.ln_channel.specs.declared.unsaved.Line.TheVariants.{Down, Met}
 use Rattle.ln_channel.specs.declared.unsaved.Stage.{Stage}
 use Rattle.ln_channel.specs.declared.unsaved.Stage.TheVariants as stage
-use Rattle.ln_channel.specs.End.{End, end_dropped}
+use Rattle.ln_channel.specs.End.{End}
 use Rattle.ln_channel.specs.Failing.{fails}
 use Rattle.ln_channel.specs.Naming.{opens}
 use Rattle.ln_channel.specs.Record.{saved_end, came_back}
@@ -30,12 +30,12 @@ use Rattle.ln_store.specs.Record.{record_bytes}
 use Rattle.ln_store.specs.Store.{Records}
 use Rattle.ln_store.specs.declared.record.Items.{Items}
 use Rattle.ln_link.specs.Record.{items_of}
-use Rattle.ln_link.specs.Loading.{Loads}
+use Rattle.ln_link.specs.Loading.{Loads, HasRecord, IsLoadedOf, ComesBackOf, CameBack, IsCameBack, end_of}
 use Rattle.ln_link.specs.Calls as call
 use Rattle.ln_link.specs.Calls.{Call, Handle, Connect, DropConnection, Leads, Has, HasLink}
 use Rattle.ln_link.specs.Saving.{Shelf, FailsBy, IsSaved, IsUnsaved, SavesIf, SavesFailure, HandsOut, HaltsBehind}
 use Rattle.ln_link.specs.Saving.{HaltsRefused, AnswersMessage, AnswersCommand, AnswersOver, CannotBeStored, CannotTell}
-use Rattle.ln_link.specs.Saving.{stored_end, reached, fails_now, is_known, handled_beside}
+use Rattle.ln_link.specs.Saving.{stored_end, settled, fails_now, is_known, handled_beside}
 use Rattle.ln_link.proofs.Calls.{has_record}
 use Rattle.ln_link.proofs.Refusing.{has_halted}
 use Rattle.ln_link.proofs.Restarted.{comes_back, for_memory_alone}
@@ -193,11 +193,6 @@ module _ {K : Type 0} (keys : Signer) where
   as_list outs (Ok d) l n v s t h = h
   as_list outs (Err r) l n v s t h = h
 
-  reaches_so : {V : Type 0} (outs : V → List Output) (said : Result Done Refusal) (l n : State K) (v : V)
-      (s t : Shelf) → HandsOut outs said l v n s t → Reaches outs said l v n
-  reaches_so outs (Ok d) l n v s t h = (h.0, h.1)
-  reaches_so outs (Err r) l n v s t h = h
-
   empty_behind : {V : Type 0} (outs : V → List Output) (said : Result Done Refusal) (l n : State K) (v : V)
       (s t : Shelf) → HandsOut outs said l v n s t → t.records ≡ stored_end l.failure (saved_end n.stage) s.records
   empty_behind outs (Ok d) l n v s t h =
@@ -220,19 +215,19 @@ module _ {K : Type 0} (keys : Signer) where
 
   -- it is taken
   pub record IsTaken {V : Type 0} (outs : V → List Output) (said : Result Done Refusal) (l n : State K) (v : V)
-      (t : Shelf) : Type 0 where
-    pub reaches : Reaches outs said l v n
+      (s t : Shelf) : Type 0 where
+    pub handed : HandsOut outs said l v n s t
     pub kept : IsKept n t.records
 
   pub message_taken : {V : Type 0} (outs : V → List Output) (l n : State K) (m : Message) (v : V) (s t : Shelf)
       → l.halted ≡ false → KeepsChannel l.stage n.stage → AnswersOver outs keys l m (Ok v) n s t
-      → IsKept l s.records → IsTaken outs (handled keys l m) l n v t
+      → IsKept l s.records → IsTaken outs (handled keys l m) l n v s t
   message_taken outs l n m v s t up keeps h k =
       let said = handled_beside s.records keys l m in
       let g : HandsOut outs (handled keys l m) l v n s t =
       subst (λ r. HandsOut outs r l v n s t) (beside_so l m s.records k) h in
       record {
-        reaches = reaches_so outs (handled keys l m) l n v s t g;
+        handed = g;
         kept = record {
           has_the_record = has_behind (Handle m) l n s t (works_so outs said l n v s t up h) keeps
               (Ok (outs v), as_list outs said l n v s t h) k;
@@ -243,11 +238,11 @@ module _ {K : Type 0} (keys : Signer) where
 
   pub command_taken : {V : Type 0} (outs : V → List Output) (l n : State K) (c : Command) (v : V) (s t : Shelf)
       → l.halted ≡ false → KeepsChannel l.stage n.stage → AnswersCommand outs (commanded keys l c) l (Ok v) n s t
-      → IsKept l s.records → IsTaken outs (commanded keys l c) l n v t
+      → IsKept l s.records → IsTaken outs (commanded keys l c) l n v s t
   command_taken outs l n c v s t up keeps h k =
       let said = commanded keys l c in
       record {
-        reaches = reaches_so outs said l n v s t h;
+        handed = h;
         kept = record {
           has_the_record = has_behind (call.Command c) l n s t (works_so outs said l n v s t up h) keeps
               (Ok (outs v), as_list outs said l n v s t h) k;
@@ -277,7 +272,8 @@ module _ {K : Type 0} (keys : Signer) where
 
   behind : (e : Refusal) (said : Result Done Refusal) (l n : State K) (s t : Shelf) → HaltsBehind e said l n s t
       → n.halted ≡ true
-  behind e (Ok d) l n s t h = ap (λ (x : State K). x.halted) h.0
+  behind e (Ok d) l n s t (inl h) = ap (λ (x : State K). x.halted) h.1
+  behind e (Ok d) l n s t (inr h) = ap (λ (x : State K). x.halted) h.0
   behind e (Err r) l n s t h = absurd h
 
   refusing : (e : Refusal) (said : Result Done Refusal) (l n : State K) (s t : Shelf) → HaltsRefused e said l n s t
@@ -352,7 +348,9 @@ module _ {K : Type 0} (keys : Signer) where
   behind_lacks : (after : Refusal → State K → State K) (e : Refusal) (said : Result Done Refusal) (l n : State K)
       (s t : Shelf) → s.failed ≡ 0 → t.failed ≡ 0 → HaltsBehind e said l n s t
       → ByRecord e (LinkLacks (left after said l))
-  behind_lacks after e (Ok d) l n s t a b h = by_save e l.failure (saved_end d.stage) s.failed t.failed a b h.1.cause
+  behind_lacks after e (Ok d) l n s t a b (inl h) = inl h.0
+  behind_lacks after e (Ok d) l n s t a b (inr h) =
+      by_save e l.failure (saved_end (settled d l).stage) s.failed t.failed a b h.1.cause
   behind_lacks after e (Err r) l n s t a b h = absurd h
 
   refusing_lacks : (e : Refusal) (said : Result Done Refusal) (l n : State K) (s t : Shelf) → s.failed ≡ 0
@@ -415,38 +413,50 @@ module _ {K : Type 0} (keys : Signer) where
 
   -- ---- a restart
 
-  pub record ComesBack (k : K) (l : State K) (o : Option End) (rs : Records) (answer : Result (State K) Refusal)
-      : Type 0 where
-    pub back : IfOk answer (λ n. n ≡ back k l o)
-    pub kept : IfOk answer (λ n. IsKept n rs)
+  -- of a link, from the bytes that its store has
+  pub record ComesBack (k : K) (l : State K) (answer : Result (State K) Refusal) : Type 0 where
+    pub loaded : IfOk answer (λ n. ComesBackOf n l × (n.keys ≡ k))
     pub memory : IfErr answer (λ e. e ≡ refusal.Memory)
 
-  back_kept : (k : K) (f : Option Refusal) (e : End) (rs : Records) (answer : Result (State K) Refusal)
-      → Has f (Some e) rs → IfOk answer (λ n. n ≡ came_back k f (end_dropped e)) → IfOk answer (λ n. IsKept n rs)
-  back_kept k f e rs (Ok n) has is = subst (λ (x : State K). IsKept x rs) (sym is) (record {
-    has_the_record = cut_has k f (stage.Saved e) rs has;
-    has_nothing_before = tt;
-  })
-  back_kept k f e rs (Err r) has is = tt
+  loaded_of : (k : K) (f : Option Refusal) (e : End) (answer : Result (State K) Refusal) → HasRecord f e
+      → IfOk answer (λ n. n ≡ came_back k f (end_of (items_of f e)))
+      → IfOk answer (λ n. IsLoadedOf n f (Some e) × (n.keys ≡ k))
+  loaded_of k f e (Ok n) has is =
+      let keys : n.keys ≡ k = ap (λ (x : State K). x.keys) is in
+      ((has, is ∙ ap (λ x. came_back x f (end_of (items_of f e))) (sym keys)), keys)
+  loaded_of k f e (Err r) has is = tt
 
-  -- from the bytes that the store has
   pub comes_back_from : (k : K) (l : State K) (rs : Records) (bytes : List ℕ) (answer : Result (State K) Refusal)
       → Some bytes ≡ link_record l → IsKept l rs
       → ((i : Items) → is_readable i ≡ true → bytes ≡ record_bytes i → Loads k (Ok i) answer)
-      → ComesBack k l (saved_end l.stage) rs answer
-  comes_back_from k l rs bytes answer is kept loads = by (saved_end l.stage) is kept.has_the_record
+      → ComesBack k l answer
+  comes_back_from k l rs bytes answer is kept loads =
+      let both = by (saved_end l.stage) is kept.has_the_record in record { loaded = both.0; memory = both.1 }
     where
       by : (o : Option End) → Some bytes ≡ end_record l.failure o → Has l.failure o rs
-          → ComesBack k l o rs answer
+          → IfOk answer (λ n. IsLoadedOf n l.failure o × (n.keys ≡ k)) × IfErr answer (λ e. e ≡ refusal.Memory)
       by None e has = absurd (cc)
       by (Some e) is has =
           let load = loads (items_of l.failure e) has.1.items
-          (same_bytes bytes (record_bytes (items_of l.failure e)) is) in
-          let came = comes_back k l.failure e answer has.1 load in record {
-            back = came;
-            kept = back_kept k l.failure e rs answer has came;
-            memory = for_memory_alone k l.failure e answer has.1 load;
-          }
+          (same_bytes bytes (record_bytes (items_of l.failure e)) is) in (
+            loaded_of k l.failure e answer has.1 (comes_back k l.failure e answer has.1 load),
+            for_memory_alone k l.failure e answer has.1 load,
+          )
+
+  -- it takes over what the link before had, which the same store keeps
+  pub came_so : (k : K) (l m : State K) (rs : Records) → IsCameBack k l m → IsKept l rs
+      → (m ≡ back k l (saved_end l.stage)) × IsKept m rs
+  came_so k l m rs came kept = by (saved_end l.stage) kept.has_the_record came
+    where
+      by : (o : Option End) → Has l.failure o rs → CameBack k l.failure o m → (m ≡ back k l o) × IsKept m rs
+      by None has came = absurd came
+      by (Some e) has came = (
+        came,
+        subst (λ (x : State K). IsKept x rs) (sym came) (record {
+          has_the_record = cut_has k l.failure (stage.Saved e) rs has;
+          has_nothing_before = tt;
+        }),
+      )
 
   pub nowhere_back : (k : K) (l : State K) → None ≡ link_record l → drops l ≡ back k l (saved_end l.stage)
   nowhere_back k l is = by (saved_end l.stage) is

@@ -8,11 +8,13 @@ use Rattle.ln_msgs.specs.declared.refusals.refusal.Refusal.{Refusal}
 use Rattle.ln_keys.specs.declared.role.Role.{Role}
 use Rattle.ln_keys.specs.declared.role.Role.TheVariants.{Funder, Fundee}
 use Rattle.ln_keys.specs.Signer.{Signer}
+use Rattle.ln_channel.specs.Base.{based_stage}
 use Rattle.ln_channel.specs.End.{End as ChannelEnd, end_dropped}
 use Rattle.ln_channel.specs.Record.{saved_end, came_back}
 use Rattle.ln_channel.specs.State.{State, is_down, refused, drops, numbers_of}
 use Rattle.ln_channel.specs.State as state
 use Rattle.ln_channel.specs.Step.{Done, handled, commanded, connected}
+use Rattle.ln_link.specs.Saving.{reached, settled}
 use Rattle.ln_channels.specs.declared.step.Act.{Act}
 use Rattle.ln_channels.specs.declared.step.Act.TheVariants as act
 use Rattle.ln_channels.specs.declared.step.End.{End}
@@ -43,12 +45,9 @@ reaches ms p = if is_down p.link.line then p else record p { inbox = p.inbox ++ 
 
 -- ---- what a link answers
 
--- what it leaves of the link, where it isn't refused
-abbrev pub left_by : {K : Type 0} → Done → State K → State K
-left_by d l = record l { line = d.line; stage = d.stage }
-
+-- what it leaves of the link, which is saved where it isn't refused, and whose base moves on then
 abbrev pub left : {K : Type 0} → (Refusal → State K → State K) → Result Done Refusal → State K → State K
-left after (Ok d) l = left_by d l
+left after (Ok d) l = settled d l
 left after (Err r) l = after r l
 
 -- what it sends; behind a refusal the reply
@@ -65,7 +64,12 @@ abbrev pub said_by : {K : Type 0} → Answer → State K → Result Done Refusal
 said_by (answer.Done outputs) l = Ok (record { line = l.line; stage = l.stage; outputs = outputs.items })
 said_by (answer.Refused r) l = Err r
 
--- a refused command or connection changes nothing
+-- an answer, told of the link as it is saved
+abbrev pub as_saved : Result Done Refusal → Result Done Refusal
+as_saved (Ok d) = Ok (record { line = d.line; stage = based_stage d.stage; outputs = d.outputs })
+as_saved (Err r) = Err r
+
+-- a refused command changes nothing
 abbrev pub unchanged : {K : Type 0} → Refusal → State K → State K
 unchanged r l = l
 
@@ -157,8 +161,13 @@ abbrev pub greet_lines : End → Result Done Refusal → List Line
 greet_lines e (Ok d) = lines_of e (numbers_of d.stage) d.outputs
 greet_lines e (Err r) = []
 
+-- by a new connection nothing is saved, and no base moves
+abbrev pub greeted : {K : Type 0} → Result Done Refusal → State K → State K
+greeted (Ok d) l = reached d l
+greeted (Err r) l = l
+
 abbrev pub comes_up : {K : Type 0} → (K → Signer) → Place K → Place K
-comes_up signer p = record p { link = left unchanged (greeting signer p.link) p.link }
+comes_up signer p = record p { link = greeted (greeting signer p.link) p.link }
 
 abbrev pub meet : {K : Type 0} → (K → Signer) → Both K → Both K
 meet signer p = record {

@@ -69,7 +69,7 @@ impl<K: ChannelKeys + Copy> SavedLink<K> {
     ghost use Rattle.ln_channel.specs.Record.{saved_end};
     ghost use Rattle.ln_channel.specs.State.{begun, drops, halts, refused};
     ghost use Rattle.ln_channel.specs.Step.{handled, commanded};
-    ghost use Rattle.ln_channels.specs.Both.{said_by, left, unchanged, greeting, back};
+    ghost use Rattle.ln_channels.specs.Both.{said_by, as_saved, left, unchanged, greeting, greeted, back};
     ghost use Rattle.ln_channels.specs.Failing.{ByRecord, LinkLacks};
     ghost use Rattle.ln_channels.specs.Stored.{link_record};
 
@@ -110,7 +110,8 @@ impl<K: ChannelKeys + Copy> SavedLink<K> {
         keys: K,
         message: Message,
     ) -> Result<Answer, Refusal>
-        ensures said { IfOk result (λ a. handled (K.signer self.old.keys) self.old message ≡ said_by a self.new) }
+        ensures said { IfOk result (λ a. as_saved (handled (K.signer self.old.keys) self.old message)
+            ≡ said_by a self.new) }
         ensures link { OnOk result (self.new
             ≡ left refused (handled (K.signer self.old.keys) self.old message) self.old) }
         ensures fails { IfErr result (λ e. ByRecord e
@@ -142,7 +143,8 @@ impl<K: ChannelKeys + Copy> SavedLink<K> {
         keys: K,
         command: Command,
     ) -> Result<Answer, Refusal>
-        ensures said { IfOk result (λ a. commanded (K.signer self.old.keys) self.old command ≡ said_by a self.new) }
+        ensures said { IfOk result (λ a. as_saved (commanded (K.signer self.old.keys) self.old command)
+            ≡ said_by a self.new) }
         ensures link { OnOk result (self.new
             ≡ left unchanged (commanded (K.signer self.old.keys) self.old command) self.old) }
         ensures fails { IfErr result (λ e. ByRecord e
@@ -167,7 +169,7 @@ impl<K: ChannelKeys + Copy> SavedLink<K> {
     /// It gets a connection, by which nothing of its record changes. 60 where there is no memory; it is given up then.
     pub(crate) fn connect(&mut self, alloc: Global, keys: K) -> Result<Answer, Refusal>
         ensures said { IfOk result (λ a. greeting K.signer self.old ≡ said_by a self.new) }
-        ensures link { OnOk result (self.new ≡ left unchanged (greeting K.signer self.old) self.old) }
+        ensures link { OnOk result (self.new ≡ greeted (greeting K.signer self.old) self.old) }
         ensures fails_for_memory_alone { IfErr result (λ e. e ≡ Refusal.Memory) }
     {
         if has_halted(&self.link) {
@@ -215,8 +217,9 @@ impl<K: ChannelKeys + Copy> SavedLink<K> {
         }
     }
 
-    /// Its node restarts: it comes back from what its store has of it; where that is nothing, it loses its connection
-    /// alone. Takes memory for the record and for the end; 60 where there is none, and nothing has changed.
+    /// Its node restarts: it comes back from what its store has of it, and of the updates that this hasn't one by one
+    /// any more they stay what they were (`Link::take_past_of`); where that is nothing, it loses its connection alone.
+    /// Takes memory for the record and for the end; 60 where there is none, and nothing has changed.
     pub(crate) fn restart(&mut self, alloc: Global, keys: K) -> Result<(), Refusal>
         ensures back { OnOk result (self.new ≡ back keys self.old (saved_end self.old.stage)) }
         ensures fails_for_memory_alone { IfErr result (λ e. e ≡ Refusal.Memory) }
@@ -224,7 +227,8 @@ impl<K: ChannelKeys + Copy> SavedLink<K> {
         match self.record(alloc)? {
             None => self.link.drop_connection(),
             Some(bytes) => {
-                let link = Link::from_record(alloc, keys, bytes.as_slice())?;
+                let mut link = Link::from_record(alloc, keys, bytes.as_slice())?;
+                link.take_past_of(&self.link);
                 put(&mut self.link, link);
             }
         }

@@ -1,18 +1,19 @@
 -- What each call of the dance keeps.
 use Rattle.std.proofs.Common.{◌≡◌, ◌≢◌, ℕ, ◌+◌, refl, sym, ap, ◌∙◌, subst, arith, Bool, true, false}
-use Rattle.std.proofs.Common.{cond, not, ◌&&◌, ◌==◌, Option, Some, None, Result, Ok, Err, OnOk, inl, inr}
+use Rattle.std.proofs.Common.{cond, not, ◌&&◌, ◌==◌, Option, Some, None, Result, Ok, Err, OnOk, OnErr, inl, inr}
 use Rattle.std.proofs.lemmas.Bool.{eq-eqb}
 use Rattle.std.proofs.lemmas.Bool.Decides.{eqb_tells}
 use Rattle.ln_msgs.specs.declared.refusals.refusal.Refusal.{Refusal}
 use Rattle.ln_msgs.specs.declared.refusals.refusal.Refusal.TheVariants as refusal
 use Rattle.ln_log.specs.Limits.{first_fault}
-use Rattle.ln_log.specs.Log.{Log, Counts, AllCounts, all_counts, same_counts}
+use Rattle.ln_log.specs.Log.{Log, Counts, AllCounts, all_counts, same_counts, at_opening}
+use Rattle.ln_log.specs.Window.{after_advance}
 use Rattle.ln_dance.specs.declared.dance.Numbers.{Numbers}
 use Rattle.ln_dance.specs.Dance.{Dancer, IsNumber, last_number, AreInStep, owes, is_last, sign_fault, with_log}
 
 -- ---- results
 
-pub map_ok : {P Q : Type 0} (r : Result (Unit {0}) Refusal) → (P → Q) → OnOk r P → OnOk r Q
+pub map_ok : {A P Q : Type 0} (r : Result A Refusal) → (P → Q) → OnOk r P → OnOk r Q
 map_ok (Ok x) f h = f h
 map_ok (Err e) f h = h
 
@@ -29,6 +30,24 @@ kept_by n l m k e = record {
 
 pub log_becomes : (v d : Dancer) (f : Log → Log) (m : Log) → v ≡ d → m ≡ f v.log → with_log m v ≡ with_log (f d.log) d
 log_becomes v d f m e h = ap (λ x. with_log x v) h ∙ ap (λ (x : Dancer). with_log (f x.log) x) e
+
+-- ---- a base that moves on
+
+pub kept_advanced : (r : Result Bool Refusal) (n : Numbers) (l m : Log) (to : Counts) → AreInStep n l
+    → OnErr r (m ≡ l) → OnOk r (m ≡ after_advance to l) → AreInStep n m
+kept_advanced (Ok x) n l m to k same e = subst (AreInStep n) (sym e) (record {
+  commitment = k.commitment;
+  signed = k.signed;
+  revoked = k.revoked;
+  one_unrevoked = k.one_unrevoked;
+  acknowledged = k.acknowledged;
+})
+kept_advanced (Err x) n l m to k same e = subst (AreInStep n) (sym same) k
+
+pub opening_advanced : (r : Result Bool Refusal) (l m : Log) (to : Counts) → OnErr r (m ≡ l)
+    → OnOk r (m ≡ after_advance to l) → at_opening m ≡ at_opening l
+opening_advanced (Ok x) l m to same e = ap at_opening e
+opening_advanced (Err x) l m to same e = ap at_opening same
 
 -- ---- signing
 

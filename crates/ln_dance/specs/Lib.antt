@@ -3,6 +3,7 @@ pub mod Exchange
 pub mod Messages
 pub mod Resume
 pub mod Reconnect
+pub mod Past
 pub use Rattle.ln_log.specs.Log
 pub use Rattle.ln_log.specs.Limits
 pub use Rattle.ln_keys.specs.Signer

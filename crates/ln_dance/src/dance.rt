@@ -1,7 +1,7 @@
 //! One side of the dance.
 
 use ln_keys::{ChannelKeys, Signed};
-use ln_log::{Pair, Side, Update, UpdateLog};
+use ln_log::{Counts, Pair, Side, Update, UpdateLog};
 use ln_msgs::{CommitmentSigned, Records, Refusal, RevokeAndAck};
 use std::alloc::Global;
 use std::marker::Model;
@@ -72,11 +72,14 @@ impl Dance {
     ghost use Rattle.ln_log.specs.Log as log;
     ghost use Rattle.ln_log.specs.Log.{Log, after_propose, after_receive, after_drop, proposal_fault, taken_fault};
     ghost use Rattle.ln_log.specs.Log.{all_counts, at_opening, counts_of};
+    ghost use Rattle.ln_log.specs.Window.{may_be_base, after_advance};
+    ghost use Rattle.std.specs.Result.{IsOkUnless};
     ghost use Rattle.ln_log.specs.Limits.{HasNextId, Answers};
     ghost use Rattle.ln_dance.specs.Dance.{Dancer, StandsFor, AreInStep, IsNumber, is_last, owes, sign_fault};
     ghost use Rattle.ln_dance.specs.Dance.{after_sign};
     ghost use Rattle.ln_dance.specs.Dance.{signed_message, accept_fault, after_accept, revoked_message, learn_fault};
     ghost use Rattle.ln_dance.specs.Dance.{after_learn, with_log, with_next_point, AnswersWithin, answer_of};
+    ghost use Rattle.ln_dance.specs.Past.{IsReadOf};
 
     /// Whether a side may have these numbers beside these updates: each number is below 2^48, at most one
     /// signature is unrevoked, and where none is, the peer's acknowledged commitment covers what the last
@@ -189,6 +192,31 @@ impl Dance {
         ensures same_opening { at_opening self.new.log ≡ at_opening self.old.log }
     {
         self.log.drop_unsigned();
+    }
+
+    /// The base of the updates moves on where it may, and whether it did: `UpdateLog::advance`. 60 where there was no
+    /// memory; then nothing has changed.
+    pub fn advance(&mut self, alloc: Global, to: Counts) -> Result<bool, Refusal>
+        ensures by_its_test { (d : Dancer) → StandsFor self.old d → IfOk result (λ b. b ≡ may_be_base d.log to) }
+        ensures state { (d : Dancer) → StandsFor self.old d
+            → OnOk result (StandsFor self.new (with_log (after_advance to d.log) d)) }
+        ensures changes_nothing_if_refused { OnErr result (self.new ≡ self.old) }
+        ensures fails_for_memory_alone { IsOkUnless result Refusal.Memory }
+        ensures same_channel { self.new.channel ≡ self.old.channel }
+        ensures same_opening { at_opening self.new.log ≡ at_opening self.old.log }
+    {
+        self.log.advance(alloc, to)
+    }
+
+    /// A side that was loaded of another one's record takes over the updates that aren't had one by one any more:
+    /// `UpdateLog::take_past_of`. It does nothing at run time.
+    pub fn take_past_of(&mut self, other: &Dance)
+        requires { IsReadOf self.old.log other.now.log }
+        ensures state { self.new ≡ with_log (after_drop other.now.log) self.old }
+        ensures same_channel { self.new.channel ≡ self.old.channel }
+        ensures same_opening { at_opening self.new.log ≡ at_opening self.old.log }
+    {
+        self.log.take_past_of(&other.log);
     }
 
     /// The peer has told the point of its next commitment (BOLT 2, "The `channel_ready` Message").

@@ -40,6 +40,7 @@ use Rattle.ln_dance.specs.Resume.{resume_fault}
 use Rattle.ln_close.specs.Closing.{answer_to}
 use Rattle.ln_channel.specs.End.{End, Turn, owes_shutdown, answers_shutdown, has_begun, settled, is_closed, end_of}
 use Rattle.ln_channel.specs.End.{quiet, sending, completed, shutdown_message}
+use Rattle.ln_channel.specs.Base.{based_stage}
 use Rattle.ln_channel.specs.Ledger.{Ledger, most_decided, first_htlc, marked, decided_first, is_in_turn, decide_row}
 use Rattle.ln_channel.specs.Record.{saved_end}
 use Rattle.ln_channel.specs.declared.output.Output.TheVariants as output
@@ -440,6 +441,14 @@ module _ (P : ℕ → Type 0) where
   cut_so (stage.Saved e) h = h
   cut_so stage.Gone h = h
 
+  based_so : (s : Stage) → AtStage P s → AtStage P (based_stage s)
+  based_so (stage.AwaitsOpen c) h = h
+  based_so (stage.AwaitsAccept s) h = h
+  based_so (stage.AwaitsCreated a) h = h
+  based_so (stage.AwaitsSigned e) h = h
+  based_so (stage.Saved e) h = h
+  based_so stage.Gone h = h
+
   module _ {K : Type 0} where
     handled_so : (keys : Signer) (l : State K) (m : Message) → AtStage P l.stage → InDone P (handled keys l m)
     handled_so keys l m h =
@@ -508,8 +517,13 @@ module _ (P : ℕ → Type 0) where
 
     left_so : (after : Refusal → State K → State K) (row : Result Done Refusal) (l : State K)
         → ((r : Refusal) → AtStage P (after r l).stage) → InDone P row → AtStage P (left after row l).stage
-    left_so after (Ok d) l f h = h
+    left_so after (Ok d) l f h = based_so d.stage h
     left_so after (Err r) l f h = f r
+
+    greeted_so : (row : Result Done Refusal) (l : State K) → InDone P row → AtStage P l.stage
+        → AtStage P (both.greeted row l).stage
+    greeted_so (Ok d) l h k = h
+    greeted_so (Err r) l h k = k
 
     drops_so : (l : State K) → AtStage P l.stage → AtStage P (drops l).stage
     drops_so l h = link_by (is_down l.line) l (record l { line = line.Down; stage = cut l.stage }) h (cut_so l.stage h)
@@ -574,7 +588,7 @@ module _ {K : Type 0} where
   comes_up_so : (P : ℕ → Type 0) (signer : K → Signer) (p : Place K) → AtStage P p.link.stage
       → AtStage P (both.comes_up signer p).link.stage
   comes_up_so P signer p h =
-      left_so P unchanged (both.greeting signer p.link) p.link (λ r. h) (greeting_so P signer p.link h)
+      greeted_so P (both.greeting signer p.link) p.link (greeting_so P signer p.link h) h
 
   met_so : (P : ℕ → Type 0) (signer : K → Signer) (p : Place K) (ms : List Message) → AtStage P p.link.stage
       → AtStage P (both.reaches ms (both.comes_up signer p)).link.stage

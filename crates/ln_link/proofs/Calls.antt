@@ -8,7 +8,8 @@ use Rattle.ln_msgs.specs.declared.messages.message.Message.{Message}
 use Rattle.ln_msgs.specs.declared.refusals.refusal.Refusal.{Refusal}
 use Rattle.ln_msgs.specs.declared.refusals.refusal.Refusal.TheVariants as refusal
 use Rattle.ln_keys.specs.Signer.{Signer}
-use Rattle.ln_log.specs.Loading.{IsReadable}
+use Rattle.ln_log.specs.Log.{Log}
+use Rattle.ln_log.specs.Told.{told_of, IsRestorable}
 use Rattle.ln_channel.specs.declared.output.Output.{Output}
 use Rattle.ln_channel.specs.declared.unsaved.Line.{Line}
 use Rattle.ln_channel.specs.declared.unsaved.Line.TheVariants.{Down}
@@ -30,7 +31,7 @@ use Rattle.ln_link.specs.Loading.{HasRecord}
 use Rattle.ln_link.specs.Saving.{Shelf, HasSaved, IsSaved, IsUnsaved, HandsOut, HaltsUnsaved, SavesFailure}
 use Rattle.ln_link.specs.Saving.{SavesIf, fails_now, is_known, handled_beside, CannotTell, AnswersOver}
 use Rattle.ln_link.specs.Saving.{HaltsBehind, HaltsRefused, FailsBy}
-use Rattle.ln_link.specs.Saving.{stored_end, reached, AnswersMessage, AnswersCommand}
+use Rattle.ln_link.specs.Saving.{stored_end, settled, AnswersMessage, AnswersCommand}
 use Rattle.ln_link.specs.Calls.{Call, Handle, Command, Connect, DropConnection, Halt, Leads, Lead}
 use Rattle.ln_link.specs.Calls.{Has, HasLink, HasChannel}
 use Rattle.ln_link.proofs.Recorded.{recorded, lost_twice}
@@ -64,8 +65,7 @@ dropped_has f e h = record {
   open_channel = h.open_channel;
   accept_channel = h.accept_channel;
   output = h.output;
-  first = h.first;
-  log = subst IsReadable (sym (lost_twice e.dance.log)) h.log;
+  log = subst (λ (l : Log). IsRestorable (told_of e.dance.log.first l)) (sym (lost_twice e.dance.log)) h.log;
   items = ap is_readable (recorded f e) ∙ h.items;
 }
 
@@ -124,12 +124,13 @@ moved n m s e = subst (λ (x : State _). Stays x s) (sym e)
 handed : {K : Type 0} (said : Result Done Refusal) (l n : State K) (os : List Output) (s t : Shelf)
     → HandsOut (λ x. x) said l os n s t → HasLink n t
 handed (Ok d) l n os s t h =
-    subst (λ (x : State _). HasLink x t) (sym h.1) (has_saved l.failure (saved_end d.stage) s t h.2)
+    subst (λ (x : State _). HasLink x t) (sym h.1) (has_saved l.failure (saved_end (settled d l).stage) s t h.2)
 handed (Err r) l n os s t h = absurd h
 
 behind : {K : Type 0} (e : Refusal) (said : Result Done Refusal) (l n : State K) (s t : Shelf)
     → HaltsBehind e said l n s t → n.halted ≡ true
-behind e (Ok d) l n s t h = ap (λ (x : State _). x.halted) h.0
+behind e (Ok d) l n s t (inl h) = ap (λ (x : State _). x.halted) h.1
+behind e (Ok d) l n s t (inr h) = ap (λ (x : State _). x.halted) h.0
 behind e (Err r) l n s t h = absurd h
 
 refusing : {K : Type 0} (e : Refusal) (said : Result Done Refusal) (l n : State K) (s t : Shelf)
@@ -378,19 +379,20 @@ unsaved_channel c e m n s t h kept has = by (new_records e m.failure (saved_end 
     by (inr new) = of_stage c m.failure m.stage t
         (sym (halts_channel m) ∙ ap (λ (x : State _). kept_channel x.stage) (sym h.0) ∙ kept) new
 
+-- a shelf that a call left as it was
+as_it_was : (c : List ℕ) (s t : Shelf) → t ≡ s → HasChannel c s → HasChannel c t
+as_it_was c s t is h = subst (HasChannel c) (sym is) h
+
 behind_channel : {K : Type 0} (c : List ℕ) (e : Refusal) (said : Result Done Refusal) (l n : State K) (s t : Shelf)
     → HaltsBehind e said l n s t → kept_channel n.stage ≡ Some c → HasChannel c s → HasChannel c t
-behind_channel c e (Ok d) l n s t h kept has = unsaved_channel c e (reached d l) n s t h kept has
+behind_channel c e (Ok d) l n s t (inl h) kept has = as_it_was c s t h.2 has
+behind_channel c e (Ok d) l n s t (inr h) kept has = unsaved_channel c e (settled d l) n s t h kept has
 behind_channel c e (Err r) l n s t h kept has = absurd h
 
 refusing_channel : {K : Type 0} (c : List ℕ) (e : Refusal) (said : Result Done Refusal) (l n : State K) (s t : Shelf)
     → HaltsRefused e said l n s t → kept_channel n.stage ≡ Some c → HasChannel c s → HasChannel c t
 refusing_channel c e (Ok d) l n s t h kept has = absurd h
 refusing_channel c e (Err r) l n s t h kept has = unsaved_channel c e (refused r l) n s t h.1 kept has
-
--- a shelf that a call left as it was
-as_it_was : (c : List ℕ) (s t : Shelf) → t ≡ s → HasChannel c s → HasChannel c t
-as_it_was c s t is h = subst (HasChannel c) (sym is) h
 
 -- what a call leaves of a link whose store has its record
 of_link : {K : Type 0} (c : List ℕ) (n : State K) (t : Shelf) → kept_channel n.stage ≡ Some c → HasLink n t

@@ -1,6 +1,6 @@
 -- What a store has of a link that has halted: the record of what it was before the call by which it did, or of what
 -- that call made of it.
-use Rattle.std.proofs.Common.{refl, sym, ◌∙◌, ap, subst, inl, inr, ◌≡◌, ◌⊎◌, List, [], ◌∷◌, ◌++◌, Bool, true, false}
+use Rattle.std.proofs.Common.{refl, sym, ◌∙◌, ap, subst, inl, inr, ◌≡◌, ◌⊎◌, List, [], ◌∷◌, Bool, true, false}
 use Rattle.std.proofs.Common.{Result, Ok, Err}
 use Rattle.ln_msgs.specs.declared.messages.message.Message.{Message}
 use Rattle.ln_msgs.specs.declared.refusals.refusal.Refusal.{Refusal}
@@ -10,7 +10,7 @@ use Rattle.ln_channel.specs.Record.{saved_end}
 use Rattle.ln_channel.specs.State.{State, refused}
 use Rattle.ln_channel.specs.Step.{Done, commanded}
 use Rattle.ln_link.specs.Saving.{Shelf, HandsOut, HaltsUnsaved, HaltsBehind, HaltsRefused, SavesFailure, fails_now}
-use Rattle.ln_link.specs.Saving.{AnswersMessage, AnswersCommand, AnswersOver, handled_beside, reached}
+use Rattle.ln_link.specs.Saving.{AnswersMessage, AnswersCommand, AnswersOver, handled_beside, settled}
 use Rattle.ln_link.specs.Calls.{Call, Handle, Command, Connect, DropConnection, Halt, Leads, Lead}
 use Rattle.ln_link.specs.Calls.{Has, HasLink, left_by, made_by, HaltsWithRecord}
 use Rattle.ln_link.proofs.Calls.{Stays, has_saved, refused_by, call_stays, call_still, new_records}
@@ -26,7 +26,7 @@ as_before l made s t is has = inl (subst (HasLink l) (sym is) has)
 
 handed_one : {K : Type 0} (said : Result Done Refusal) (refusing : Refusal → State K) (l n : State K) (os : List Output)
     (s t : Shelf) → HandsOut (λ x. x) said l os n s t → HasOne l (left_by said refusing l) t
-handed_one (Ok d) refusing l n os s t h = inr (has_saved l.failure (saved_end d.stage) s t h.2)
+handed_one (Ok d) refusing l n os s t h = inr (has_saved l.failure (saved_end (settled d l).stage) s t h.2)
 handed_one (Err r) refusing l n os s t h = absurd h
 
 unsaved_one : {K : Type 0} (e : Refusal) (l m n : State K) (s t : Shelf) → HaltsUnsaved e m n s t → HasLink l s
@@ -39,7 +39,8 @@ unsaved_one e l m n s t h has = by (new_records e m.failure (saved_end m.stage) 
 
 behind_one : {K : Type 0} (e : Refusal) (said : Result Done Refusal) (refusing : Refusal → State K) (l n : State K)
     (s t : Shelf) → HaltsBehind e said l n s t → HasLink l s → HasOne l (left_by said refusing l) t
-behind_one e (Ok d) refusing l n s t h has = unsaved_one e l (reached d l) n s t h has
+behind_one e (Ok d) refusing l n s t (inl h) has = as_before l (settled d l) s t h.2 has
+behind_one e (Ok d) refusing l n s t (inr h) has = unsaved_one e l (settled d l) n s t h has
 behind_one e (Err r) refusing l n s t h has = absurd h
 
 refused_one : {K : Type 0} (e : Refusal) (said : Result Done Refusal) (l n : State K) (s t : Shelf)

@@ -2,9 +2,11 @@ pub mod Recorded
 pub mod Refusing
 pub mod Again
 pub mod Loaded
-pub mod Coverage
 pub mod Restarted
 pub mod Window
+pub mod Told
+pub mod Read
+pub mod Taken
 pub mod Calls
 pub mod Halting
 pub mod Written

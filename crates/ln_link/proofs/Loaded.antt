@@ -9,22 +9,20 @@ use Rattle.ln_msgs.specs.declared.messages.opening.OpenChannel.{OpenChannel}
 use Rattle.ln_msgs.specs.declared.messages.opening.AcceptChannel.{AcceptChannel}
 use Rattle.ln_msgs.specs.declared.refusals.refusal.Refusal.{Refusal}
 use Rattle.ln_msgs.proofs.Grammar.{message_again}
-use Rattle.ln_keys.specs.declared.role.Role.{Role}
-use Rattle.ln_keys.specs.declared.role.Role.TheVariants.{Funder, Fundee}
-use Rattle.ln_log.specs.declared.log.Counts.{Counts}
-use Rattle.ln_log.specs.declared.opening.Opening.{Opening}
-use Rattle.ln_log.specs.Loading.{IsReadable}
 use Rattle.ln_log.specs.Log.{Log, none, after_drop}
+use Rattle.ln_log.specs.Told.{told_of, IsRestorable}
+use Rattle.ln_dance.specs.Dance.{with_log}
 use Rattle.ln_channel.specs.declared.opening.Terms.{Terms}
 use Rattle.ln_channel.specs.Opening.{opening_of}
-use Rattle.ln_channel.specs.End.{End, end_dropped}
+use Rattle.ln_channel.specs.End.{End, with_dance, end_dropped}
 use Rattle.ln_channel.specs.Parts.{end_with}
-use Rattle.ln_link.specs.Record.{payload_of, place_of, agreement_of, updates_of, base_of}
+use Rattle.ln_link.specs.Record.{payload_of, place_of, agreement_of, updates_of}
 use Rattle.ln_link.specs.Record.{header_of, progress_of, items_of, commitments_of}
 use Rattle.ln_link.specs.Loading.{open_of, accept_of, said, open_in, accept_in, terms_of, short_id_of}
-use Rattle.ln_link.specs.Loading.{log_of, log_in, dance_of, end_of, IsSaid}
-use Rattle.ln_link.specs.Loading.{IsLoadable, HasRecord}
+use Rattle.ln_link.specs.Loading.{told_in, log_in, dance_of, end_of, IsSaid}
+use Rattle.ln_link.specs.Loading.{IsLoadable, HasRecord, IsReadAgain}
 use Rattle.ln_link.proofs.Again.{id_again}
+use Rattle.ln_link.proofs.Told.{read_again, restored, is_read, all_read}
 
 -- ---- the opening
 
@@ -64,60 +62,30 @@ place_again (Some id) f = ap Some (id_again id.block id.tx id.output id.block_fi
 
 -- ---- the updates
 
-by_role : (x : Role) (o p : Opening) (l : Log) → log_of o x (updates_of p x l) ≡ record {
-  opening = o;
-  role = x;
-  own = l.own;
-  received = l.received;
-  first = none;
-  signed = l.signed;
-  acknowledged = l.acknowledged;
-  current = l.current;
-}
-unfolding updates_of
-by_role Funder o p l = refl
-by_role Fundee o p l = refl
-
-log_again : (l : Log) (o p : Opening) (x : Role) → l.opening ≡ o → l.role ≡ x → l.first ≡ none
-    → log_of o x (updates_of p x l) ≡ l
-log_again l o p x opening role first =
-    by_role x o p l
-    ∙ ap (λ (z : Opening). record {
-      opening = z;
-      role = x;
-      own = l.own;
-      received = l.received;
-      first = none;
-      signed = l.signed;
-      acknowledged = l.acknowledged;
-      current = l.current;
-    }) (sym opening)
-    ∙ ap (λ (z : Role). record {
-      opening = l.opening;
-      role = z;
-      own = l.own;
-      received = l.received;
-      first = none;
-      signed = l.signed;
-      acknowledged = l.acknowledged;
-      current = l.current;
-    }) (sym role)
-    ∙ ap (λ (z : Counts). record l { first = z }) (sym first)
+loaded_told : (failure : Option Refusal) (e : End) → HasRecord failure e
+    → told_in (opening_of (terms_of (agreement_of e))) e.closing.role
+    (updates_of (opening_of e.terms) e.closing.role (after_drop e.dance.log))
+    ≡ told_of e.dance.log.first (after_drop e.dance.log)
+loaded_told failure e h =
+    read_again (opening_of (terms_of (agreement_of e))) (opening_of e.terms) e.closing.role (after_drop e.dance.log)
+    (h.sound.opening ∙ ap opening_of (sym (terms_again failure e h))) h.sound.opening h.sound.one_role h.log
 
 -- ---- all of it
 
-loaded_log : (failure : Option Refusal) (e : End) → HasRecord failure e
-    → log_in (items_of failure e) ≡ after_drop e.dance.log
-unfolding items_of header_of
-loaded_log failure e h =
-    log_again (after_drop e.dance.log) (opening_of (terms_of (agreement_of e))) (opening_of e.terms) e.closing.role
-    (h.sound.opening ∙ ap opening_of (sym (terms_again failure e h))) h.sound.one_role h.first
+-- the log that is read
+abbrev pub read_log : End → Log
+read_log e = restored (told_of e.dance.log.first (after_drop e.dance.log))
 
-pub loaded : (failure : Option Refusal) (e : End) → HasRecord failure e
-    → end_of (items_of failure e) ≡ end_dropped e
+loaded_log : (failure : Option Refusal) (e : End) → HasRecord failure e
+    → log_in (items_of failure e) ≡ read_log e
+unfolding items_of header_of
+loaded_log failure e h = ap restored (loaded_told failure e h)
+
+pub loaded_end : (failure : Option Refusal) (e : End) → HasRecord failure e
+    → end_of (items_of failure e) ≡ with_dance (with_log (read_log e) e.dance) e
 unfolding end_of items_of header_of progress_of agreement_of
-loaded failure e h =
-    let d = after_drop e.dance.log in
+loaded_end failure e h =
+    let d = read_log e in
     let made : Log → Terms → Option ShortId → End = λ l t s.
     end_with (dance_of (header_of failure e) (commitments_of e.dance) l) e.closing t
     (record { short_id = s; ready_sent = e.marks.ready_sent; ready_received = e.marks.ready_received })
@@ -128,13 +96,24 @@ loaded failure e h =
     ∙ ap (λ (u : Terms). made d u s) (terms_again failure e h)
     ∙ ap (λ (u : Option ShortId). made d e.terms u) (place_again e.marks.short_id h.output)
 
+pub loaded : (failure : Option Refusal) (e : End) → HasRecord failure e
+    → IsReadAgain (end_of (items_of failure e)) e
+loaded failure e h =
+    subst (λ (x : End). IsReadAgain x e) (sym (loaded_end failure e h))
+    (record { log = is_read e.dance.log h.log; same_end = refl })
+
+-- where it has all updates one by one
+pub loaded_whole : (failure : Option Refusal) (e : End) → HasRecord failure e → e.dance.log.first ≡ none
+    → end_of (items_of failure e) ≡ end_dropped e
+loaded_whole failure e h all =
+    loaded_end failure e h
+    ∙ ap (λ (l : Log). with_dance (with_log l e.dance) e)
+    (all_read (read_log e) e.dance.log (is_read e.dance.log h.log) all)
+
 pub loadable : (failure : Option Refusal) (e : End) → HasRecord failure e → IsLoadable (items_of failure e)
-unfolding items_of header_of progress_of updates_of agreement_of
+unfolding items_of header_of progress_of agreement_of
 loadable failure e h = record {
-  updates = record {
-    log = subst IsReadable (sym (loaded_log failure e h)) h.log;
-    base = ap base_of (ap opening_of (sym (terms_again failure e h)));
-  };
+  updates = subst IsRestorable (sym (loaded_told failure e h)) h.log;
   fees = h.sound.fees;
   scripts = h.sound.scripts;
 }

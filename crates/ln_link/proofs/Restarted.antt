@@ -3,13 +3,13 @@ use Rattle.std.proofs.Common.{◌≡◌, ◌∙◌, refl, sym, ap, inl, inr, Opt
 use Rattle.std.specs.Prelude.{IfOk, IfErr}
 use Rattle.ln_msgs.specs.declared.refusals.refusal.Refusal.{Refusal}
 use Rattle.ln_msgs.specs.declared.refusals.refusal.Refusal.TheVariants as refusal
-use Rattle.ln_channel.specs.End.{End, end_dropped}
+use Rattle.ln_channel.specs.End.{End}
 use Rattle.ln_channel.specs.Record.{came_back}
 use Rattle.ln_channel.specs.State.{State}
 use Rattle.ln_store.specs.declared.record.Items.{Items}
 use Rattle.ln_link.specs.Record.{header_of, items_of}
 use Rattle.ln_link.specs.Loading.{HasRecord, Loads, end_of}
-use Rattle.ln_link.proofs.Loaded.{loaded, loadable}
+use Rattle.ln_link.proofs.Loaded.{loadable}
 
 abbrev read : Items → Result Items Refusal
 read i = Ok i
@@ -22,16 +22,15 @@ pub same_failure : (failure : Option Refusal) (e : End) → (items_of failure e)
 unfolding items_of header_of
 same_failure failure e = refl
 
--- a link that has the end again, as a lost connection leaves it
+-- a link that has the end again, as its record tells it
 pub comes_back : {K : Type 0} (keys : K) (failure : Option Refusal) (e : End)
     (answer : Result (State K) Refusal) → HasRecord failure e → Loads keys (Ok (items_of failure e)) answer
-    → IfOk answer (λ l. l ≡ came_back keys failure (end_dropped e))
+    → IfOk answer (λ l. l ≡ came_back keys failure (end_of (items_of failure e)))
 comes_back keys failure e (Ok l) h loads =
     loads.3
     ∙ ap (λ (i : Items). came_back keys i.header.failure (end_of i))
     (sym (same_items (items_of failure e) loads.0 loads.1))
     ∙ ap (λ (f : Option Refusal). came_back keys f (end_of (items_of failure e))) (same_failure failure e)
-    ∙ ap (λ (x : End). came_back keys failure x) (loaded failure e h)
 comes_back keys failure e (Err x) h loads = tt
 
 -- memory alone can be missing

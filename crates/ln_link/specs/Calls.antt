@@ -14,7 +14,7 @@ use Rattle.ln_store.specs.Store.{Records}
 use Rattle.ln_store.specs.Record.{record_bytes}
 use Rattle.ln_link.specs.Record.{items_of}
 use Rattle.ln_link.specs.Loading.{HasRecord}
-use Rattle.ln_link.specs.Saving.{Shelf, AnswersOver, AnswersCommand, handled_beside, reached}
+use Rattle.ln_link.specs.Saving.{Shelf, AnswersOver, AnswersCommand, handled_beside, settled}
 
 pub data Call : Type 0 where
   Handle : (m : Message) → Call
@@ -57,7 +57,7 @@ HasChannel channel s =
 -- ---- a link that halts
 
 abbrev pub left_by : {K : Type 0} → Result Done Refusal → (Refusal → State K) → State K → State K
-left_by (Ok d) refusing l = reached d l
+left_by (Ok d) refusing l = settled d l
 left_by (Err r) refusing l = refusing r
 
 -- what a call makes of a link over a store, whether it can be saved or not

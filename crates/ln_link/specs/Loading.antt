@@ -1,7 +1,8 @@
 -- What a record tells of an end of a channel: the end as a lost connection leaves it (BOLT 2, "Message
 -- Retransmission"), and by what its channel has failed.
-use Rattle.std.specs.Prelude.{◌≡◌, ◌⊎◌, ◌<◌, ◌^◌, ◌%◌, ℕ, List, [], ◌∷◌, drop, slice_get, Option, Some, None}
-use Rattle.std.specs.Prelude.{option_map, is_some, IfSome, true, Result, Ok, Err}
+use Rattle.std.specs.Prelude.{◌≡◌, ◌⊎◌, ◌<◌, ◌^◌, ◌%◌, ◌+◌, ℕ, List, [], ◌∷◌, drop, slice_get, nat_le, Option}
+use Rattle.std.specs.Prelude.{Some, None, option_map, is_some, IfSome, true, Result, Ok, Err, if◌then◌else◌}
+use Rattle.std.specs.List.{insert}
 use Rattle.std.proofs.Common.{mod-lt, lit≤}
 use Rattle.std.proofs.Math.Nat.{one-le-pow}
 use Rattle.ln_bytes.specs.Endian.{big_number}
@@ -15,28 +16,32 @@ use Rattle.ln_msgs.specs.declared.messages.opening.AcceptChannel.{AcceptChannel}
 use Rattle.ln_msgs.specs.declared.refusals.refusal.Refusal.{Refusal}
 use Rattle.ln_msgs.specs.declared.refusals.refusal.Refusal.TheVariants as refusal
 use Rattle.ln_keys.specs.declared.role.Role.{Role}
-use Rattle.ln_keys.specs.declared.role.Role.TheVariants.{Funder, Fundee}
 use Rattle.ln_log.specs.declared.log.Counts.{Counts}
 use Rattle.ln_log.specs.declared.loading.Coverage.{Coverage}
 use Rattle.ln_log.specs.declared.opening.Opening.{Opening}
-use Rattle.ln_log.specs.declared.update.Update.{Update}
-use Rattle.ln_log.specs.Loading.{stored, IsReadable}
-use Rattle.ln_log.specs.Log.{Log, none, after_drop}
-use Rattle.ln_dance.specs.Dance.{Dancer}
+use Rattle.ln_keys.specs.Role.{other_role}
+use Rattle.ln_log.specs.declared.update.Add.{Add}
+use Rattle.ln_log.specs.Log.{Log, after_drop}
+use Rattle.ln_log.specs.Told.{Told, told_of, written, IsRestorable}
+use Rattle.ln_log.specs.Window.{Worth}
+use Rattle.ln_dance.specs.Dance.{Dancer, with_log}
+use Rattle.ln_dance.specs.Past.{IsReadOf}
 use Rattle.ln_close.specs.declared.closing.Closing.{Closing}
 use Rattle.ln_close.specs.Closing.{AreOrdered}
 use Rattle.ln_channel.specs.declared.channel.Marks.{Marks}
 use Rattle.ln_channel.specs.declared.opening.Terms.{Terms}
 use Rattle.ln_channel.specs.Opening.{opening_of}
 use Rattle.ln_channel.specs.Ledger.{Ledger}
-use Rattle.ln_channel.specs.End.{End, IsSound}
+use Rattle.ln_channel.specs.End.{End, IsSound, with_dance, end_dropped}
 use Rattle.ln_channel.specs.Parts.{end_with}
-use Rattle.ln_channel.specs.Record.{came_back}
+use Rattle.ln_channel.specs.Record.{came_back, saved_end}
 use Rattle.ln_channel.specs.State.{State, StandsFor}
 use Rattle.ln_store.specs.declared.record.Header.{Header}
 use Rattle.ln_store.specs.declared.record.Flags.{Flags}
 use Rattle.ln_store.specs.declared.record.Agreement.{Agreement}
-use Rattle.ln_store.specs.declared.record.Window.{Window}
+use Rattle.ln_store.specs.declared.record.LiveHtlc.{LiveHtlc}
+use Rattle.ln_store.specs.declared.record.Sides.{Sides}
+use Rattle.ln_store.specs.declared.record.Base.{Base}
 use Rattle.ln_store.specs.declared.record.Covered.{Covered}
 use Rattle.ln_store.specs.declared.record.Pairs.{Pairs}
 use Rattle.ln_store.specs.declared.record.Progress.{Progress}
@@ -45,7 +50,9 @@ use Rattle.ln_store.specs.declared.record.Commitments.{Commitments}
 use Rattle.ln_store.specs.declared.record.Updates.{Updates}
 use Rattle.ln_store.specs.declared.record.Items.{Items}
 use Rattle.ln_store.specs.Readable.{is_readable}
-use Rattle.ln_link.specs.Record.{base_of, items_of}
+use Rattle.ln_store.specs.Removals.{are_one_side}
+use Rattle.ln_store.specs.Sides.{count_of, window_of}
+use Rattle.ln_link.specs.Record.{items_of}
 
 -- ---- what both sides agreed on
 
@@ -167,13 +174,32 @@ closing_of h a f = record {
 
 -- ---- the updates
 
-abbrev pub own_in : Role → Window → List Update
-own_in Funder w = w.funder
-own_in Fundee w = w.fundee
+-- this side's, and the peer's
+abbrev pub counts_by : Role → Sides → Counts
+counts_by x s = record { own = count_of x s; peer = count_of (other_role x) s }
 
-abbrev pub received_in : Role → Window → List Update
-received_in Funder w = w.fundee
-received_in Fundee w = w.funder
+abbrev pub worth_in : Role → Base → Worth
+worth_in x b = record {
+  next_own = count_of x b.next_ids;
+  next_peer = count_of (other_role x) b.next_ids;
+  own = count_of x b.balances;
+  peer = count_of (other_role x) b.balances;
+  feerate = b.feerate;
+}
+
+-- of HTLCs by their ids, how many stand before one of this id
+abbrev pub place_in : ℕ → List Add → ℕ
+place_in id [] = 0
+place_in id (a ∷ adds) = if nat_le a.id id then place_in id adds + 1 else place_in id adds
+
+-- the live HTLCs of a side, behind these and by their ids: a record may have them in any order
+abbrev pub lives_from : Role → List Add → List LiveHtlc → List Add
+lives_from side adds [] = adds
+lives_from side adds (h ∷ hs) = lives_from side
+    (if are_one_side side h.offerer then insert adds (place_in h.add.id adds) h.add else adds) hs
+
+abbrev pub lives_in : Role → List LiveHtlc → List Add
+lives_in side live = lives_from side [] live
 
 abbrev pub counts_in : Covered → Counts
 counts_in c = record { own = c.own; peer = c.peer }
@@ -185,8 +211,24 @@ coverage_in p = record {
   current = counts_in p.current;
 }
 
+abbrev pub told_in : Opening → Role → Updates → Told
+told_in o x u = record {
+  opening = o;
+  role = x;
+  first = counts_by x u.base.updates;
+  worth = worth_in x u.base;
+  own_lives = lives_in x u.base.live;
+  peer_lives = lives_in (other_role x) u.base.live;
+  own = window_of x u.window;
+  received = window_of (other_role x) u.window;
+  signed = counts_in u.pairs.signed;
+  acknowledged = counts_in u.pairs.acknowledged;
+  current = counts_in u.pairs.current;
+}
+
+-- of the lists that they may tell of those that are written down
 abbrev pub log_of : Opening → Role → Updates → Log
-log_of o x u = stored o x (own_in x u.window) (received_in x u.window) (coverage_in u.pairs)
+log_of o x u = record (written (told_in o x u)) { first = counts_by x u.base.updates }
 
 abbrev pub dance_of : Header → Commitments → Log → Dancer
 dance_of h c l = record {
@@ -219,10 +261,9 @@ end_of i =
 
 -- ---- which items can be loaded
 
--- no update is in the base, and a log can be made of those of the window
-pub record TellsLog (o : Opening) (x : Role) (u : Updates) : Type 0 where
-  pub log : IsReadable (log_of o x u)
-  pub base : u.base ≡ base_of o
+-- a log can be restored from the base and the updates of the window
+abbrev pub TellsLog : Opening → Role → Updates → Type 0
+TellsLog o x u = IsRestorable (told_in o x u)
 
 -- The updates tell a log, the closing fees are in order, and the peer's script is there where the peer has shut down.
 pub record IsLoadable (i : Items) : Type 0 where
@@ -249,13 +290,34 @@ Loads keys read (Err e) = (e ≡ refusal.Memory) ⊎ IsFault e read
 unfoldable pub IsSaid : Wire → Type 0
 IsSaid w = Says (Known w) (wire_bytes w)
 
--- An end that has a record: its parts fit together, the messages of its opening can be written, its first updates are
--- had one by one, and a log can be made again of what signatures cover of them.
+-- An end that has a record: its parts fit together, the messages of its opening can be written, and a log can be
+-- restored from what is told of its updates that signatures cover.
 pub record HasRecord (failure : Option Refusal) (e : End) : Type 0 where
   pub sound : IsSound e
   pub open_channel : IsSaid (open_wire e.terms.open_channel)
   pub accept_channel : IsSaid (accept_wire e.terms.accept_channel)
   pub output : IfSome e.marks.short_id (λ id. id.output < 2 ^ 16)
-  pub first : e.dance.log.first ≡ none
-  pub log : IsReadable (after_drop e.dance.log)
+  pub log : IsRestorable (told_of e.dance.log.first (after_drop e.dance.log))
   pub items : is_readable (items_of failure e) ≡ true
+
+-- The end that is read of another one's record: the same, but for the updates that the other hasn't one by one any
+-- more. Of these it has ones of which a record tells the same.
+pub record IsReadAgain (e other : End) : Type 0 where
+  pub log : IsReadOf e.dance.log other.dance.log
+  pub same_end : e ≡ with_dance (with_log e.dance.log other.dance) other
+
+-- a link that was loaded of another one's record
+abbrev pub IsLoadedOf : {K : Type 0} → State K → Option Refusal → Option End → Type 0
+IsLoadedOf l failure (Some e) = HasRecord failure e × (l ≡ came_back l.keys failure (end_of (items_of failure e)))
+IsLoadedOf l failure None = ⊥
+
+abbrev pub ComesBackOf : {K : Type 0} → State K → State K → Type 0
+ComesBackOf l other = IsLoadedOf l other.failure (saved_end other.stage)
+
+-- what a lost connection leaves of the end comes back, with the failure of its channel
+abbrev pub CameBack : {K : Type 0} → K → Option Refusal → Option End → State K → Type 0
+CameBack keys failure (Some e) l = l ≡ came_back keys failure (end_dropped e)
+CameBack keys failure None l = ⊥
+
+abbrev pub IsCameBack : {K : Type 0} → K → State K → State K → Type 0
+IsCameBack keys other l = CameBack keys other.failure (saved_end other.stage) l

@@ -1,6 +1,6 @@
 -- The record of an end of a channel: what of it outlives a lost connection, in the form in which it is stored. Its
 -- updates are those that signatures cover (BOLT 2, "Message Retransmission").
-use Rattle.std.specs.Prelude.{◌≡◌, ◌<◌, ◌⊎◌, ℕ, List, [], length, drop, Option, option_map, false}
+use Rattle.std.specs.Prelude.{◌≡◌, ◌<◌, ◌⊎◌, ℕ, List, ◌++◌, length, map, drop, Option, option_map, false}
 use Rattle.ln_bytes.specs.declared.short_id.ShortId.{ShortId}
 use Rattle.ln_bytes.specs.ShortId.{short_id_bytes}
 use Rattle.ln_msgs.specs.Messages.Message.{Wire, wire_bytes, longest}
@@ -11,10 +11,10 @@ use Rattle.ln_keys.specs.declared.role.Role.{Role}
 use Rattle.ln_keys.specs.declared.role.Role.TheVariants.{Funder, Fundee}
 use Rattle.ln_log.specs.declared.log.Counts.{Counts}
 use Rattle.ln_log.specs.declared.opening.Opening.{Opening}
+use Rattle.ln_log.specs.declared.update.Add.{Add}
 use Rattle.ln_log.specs.declared.update.Update.{Update}
-use Rattle.ln_log.specs.Opening.{HasFunds, first_balance}
 use Rattle.ln_log.specs.Log.{Log, after_drop}
-use Rattle.ln_log.specs.Loading.{IsReadable}
+use Rattle.ln_log.specs.Told.{Told, told_of, IsRestorable}
 use Rattle.ln_dance.specs.Dance.{Dancer}
 use Rattle.ln_close.specs.declared.closing.Closing.{Closing}
 use Rattle.ln_channel.specs.Opening.{opening_of}
@@ -22,6 +22,7 @@ use Rattle.ln_channel.specs.Ledger.{Ledger}
 use Rattle.ln_channel.specs.End.{End}
 use Rattle.ln_store.specs.declared.record.Flags.{Flags}
 use Rattle.ln_store.specs.declared.record.Agreement.{Agreement}
+use Rattle.ln_store.specs.declared.record.LiveHtlc.{LiveHtlc}
 use Rattle.ln_store.specs.declared.record.Sides.{Sides}
 use Rattle.ln_store.specs.declared.record.Base.{Base}
 use Rattle.ln_store.specs.declared.record.Window.{Window}
@@ -73,19 +74,30 @@ agreement_of e = record {
 
 -- ---- the updates
 
-abbrev pub no_sides : Sides
-no_sides = record { funder = 0; fundee = 0 }
+-- this side's number and the peer's, by roles
+abbrev pub by_roles : Role → ℕ → ℕ → Sides
+by_roles Funder own peer = record { funder = own; fundee = peer }
+by_roles Fundee own peer = record { funder = peer; fundee = own }
 
--- no update is in the base
-abbrev pub base_of : Opening → Base
-base_of o = record {
-  updates = no_sides;
-  next_ids = no_sides;
-  balances = record { funder = first_balance o Funder; fundee = first_balance o Fundee };
-  feerate = o.feerate;
-  live = [];
+abbrev pub live_of : Role → Add → LiveHtlc
+live_of side a = record { offerer = side; add = a }
+
+-- live HTLCs of this side and of the peer: the funder's, then the fundee's
+abbrev pub lives_of : Role → List Add → List Add → List LiveHtlc
+lives_of Funder own peer = map (live_of Funder) own ++ map (live_of Fundee) peer
+lives_of Fundee own peer = map (live_of Funder) peer ++ map (live_of Fundee) own
+
+-- what the first updates are worth, those that aren't had one by one, and their live HTLCs
+abbrev pub base_of : Told → Base
+base_of t = record {
+  updates = by_roles t.role t.first.own t.first.peer;
+  next_ids = by_roles t.role t.worth.next_own t.worth.next_peer;
+  balances = by_roles t.role t.worth.own t.worth.peer;
+  feerate = t.worth.feerate;
+  live = lives_of t.role t.own_lives t.peer_lives;
 }
 
+-- those behind them, one by one
 abbrev pub window_of : Role → List Update → List Update → Window
 window_of Funder own received = record { funder = own; fundee = received }
 window_of Fundee own received = record { funder = received; fundee = own }
@@ -93,15 +105,20 @@ window_of Fundee own received = record { funder = received; fundee = own }
 abbrev pub covered_of : Counts → Covered
 covered_of c = record { own = c.own; peer = c.peer }
 
-abbrev pub pairs_of : Log → Pairs
-pairs_of l = record {
-  signed = covered_of l.signed;
-  acknowledged = covered_of l.acknowledged;
-  current = covered_of l.current;
+abbrev pub pairs_of : Told → Pairs
+pairs_of t = record {
+  signed = covered_of t.signed;
+  acknowledged = covered_of t.acknowledged;
+  current = covered_of t.current;
 }
 
-unfoldable pub updates_of : Opening → Role → Log → Updates
-updates_of o role l = record { base = base_of o; window = window_of role l.own l.received; pairs = pairs_of l }
+-- in the form in which they are stored, what is told of the updates
+unfoldable pub updates_by : Told → Updates
+updates_by t = record { base = base_of t; window = window_of t.role t.own t.received; pairs = pairs_of t }
+
+-- of a log of which a base is left out
+abbrev pub updates_of : Opening → Role → Log → Updates
+updates_of o x l = updates_by (told_of l.first (record l { opening = o; role = x }))
 
 -- ---- what became of them
 
@@ -142,18 +159,11 @@ IsUnwritable w = ¬ CanBeWritten w ⊎ (longest < length (wire_bytes w))
 unfoldable pub HasNoAgreement : End → Type 0
 HasNoAgreement e = IsUnwritable (open_wire e.terms.open_channel) ⊎ IsUnwritable (accept_wire e.terms.accept_channel)
 
--- the first updates of a side aren't had one by one any more
-abbrev pub LacksUpdates : Log → Type 0
-LacksUpdates l = (0 < l.first.own) ⊎ (0 < l.first.peer)
-
--- updates are gone that a record needs, or there can be no channel with these funds
-unfoldable pub HasNoUpdates : End → Type 0
-HasNoUpdates e = LacksUpdates e.dance.log ⊎ ¬ HasFunds (opening_of e.terms)
-
--- its items aren't readable, though a log can be made again of its updates
+-- its items aren't readable, though a log can be restored from what they tell of its updates
 abbrev pub IsUnreadable : Option Refusal → End → Type 0
-IsUnreadable failure e = IsReadable (after_drop e.dance.log) × (is_readable (items_of failure e) ≡ false)
+IsUnreadable failure e =
+    IsRestorable (told_of e.dance.log.first (after_drop e.dance.log)) × (is_readable (items_of failure e) ≡ false)
 
--- an end without a record: its items can't be had, or aren't readable
+-- an end without a record: a message of its opening can't be written, or its items aren't readable
 unfoldable pub NoRecord : Option Refusal → End → Type 0
-NoRecord failure e = HasNoAgreement e ⊎ (HasNoUpdates e ⊎ IsUnreadable failure e)
+NoRecord failure e = HasNoAgreement e ⊎ IsUnreadable failure e

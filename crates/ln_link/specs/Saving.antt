@@ -10,6 +10,7 @@ use Rattle.ln_msgs.specs.declared.refusals.refusal.Refusal.TheVariants as refusa
 use Rattle.ln_keys.specs.Signer.{Signer}
 use Rattle.ln_channel.specs.declared.output.Output.{Output}
 use Rattle.ln_channel.specs.End.{End}
+use Rattle.ln_channel.specs.Base.{based_link}
 use Rattle.ln_channel.specs.Record.{saved_end}
 use Rattle.ln_channel.specs.Failing.{fails}
 use Rattle.ln_channel.specs.Opening.{LacksBy}
@@ -68,10 +69,25 @@ Saves failure o (Err e) before behind = IsUnsaved e failure o before behind
 abbrev pub HaltsUnsaved : {K : Type 0} → Refusal → State K → State K → Shelf → Shelf → Type 0
 HaltsUnsaved e l new before behind = StandsFor new (halts l) × IsUnsaved e l.failure (saved_end l.stage) before behind
 
--- what is saved, or else the link halts
+-- a link as it is, or else it halts
 abbrev pub Keeps : {K : Type 0} → Result (Unit {0}) Refusal → State K → State K → Shelf → Shelf → Type 0
 Keeps (Ok u) l new before behind = StandsFor new l × IsSaved l.failure (saved_end l.stage) before behind
 Keeps (Err e) l new before behind = HaltsUnsaved e l new before behind
+
+-- it halts as its base can't move on for want of memory, and nothing was to be saved yet
+abbrev pub HaltsUnsettled : {K : Type 0} → Refusal → State K → State K → Shelf → Shelf → Type 0
+HaltsUnsettled e l new before behind = (e ≡ refusal.Memory) × StandsFor new (halts l) × (behind ≡ before)
+
+-- what a call made of it couldn't be saved: its base couldn't move on, or the link whose base has
+abbrev pub HaltsAnswered : {K : Type 0} → Refusal → State K → State K → Shelf → Shelf → Type 0
+HaltsAnswered e l new before behind =
+    HaltsUnsettled e l new before behind ⊎ HaltsUnsaved e (based_link l) new before behind
+
+-- behind a call that is answered its base moves on, and what it is then is saved; or else it halts
+abbrev pub Settles : {K : Type 0} → Result (Unit {0}) Refusal → State K → State K → Shelf → Shelf → Type 0
+Settles (Ok u) l new before behind =
+    StandsFor new (based_link l) × IsSaved l.failure (saved_end (based_link l).stage) before behind
+Settles (Err e) l new before behind = HaltsAnswered e l new before behind
 
 -- it has failed, and hasn't halted
 abbrev pub is_failing : {K : Type 0} → State K → Bool
@@ -90,11 +106,15 @@ Refuses true r e l new before behind =
 abbrev pub reached : {K : Type 0} → Done → State K → State K
 reached d l = record l { line = d.line; stage = d.stage }
 
+-- as it is saved: its base has moved on
+abbrev pub settled : {K : Type 0} → Done → State K → State K
+settled d l = based_link (reached d l)
+
 -- outputs are handed out where the link that they come from is saved
 abbrev pub HandsOut : {K V : Type 0} → (V → List Output) → Result Done Refusal → State K → V → State K → Shelf → Shelf
     → Type 0
 HandsOut outs (Ok d) l v new before behind =
-    (outs v ≡ d.outputs) × StandsFor new (reached d l) × IsSaved l.failure (saved_end d.stage) before behind
+    (outs v ≡ d.outputs) × StandsFor new (settled d l) × IsSaved l.failure (saved_end (settled d l).stage) before behind
 HandsOut outs (Err r) l v new before behind = ⊥
 
 -- it halts for want of memory before anything was to be saved
@@ -105,7 +125,7 @@ HaltsEarly views e said l new before behind =
 
 -- by want of memory, or of a save, it halts behind what was done
 abbrev pub HaltsBehind : {K : Type 0} → Refusal → Result Done Refusal → State K → State K → Shelf → Shelf → Type 0
-HaltsBehind e (Ok d) l new before behind = HaltsUnsaved e (reached d l) new before behind
+HaltsBehind e (Ok d) l new before behind = HaltsAnswered e (reached d l) new before behind
 HaltsBehind e (Err r) l new before behind = ⊥
 
 -- a command: refused, nothing has changed, and nothing is saved

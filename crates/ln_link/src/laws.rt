@@ -3,10 +3,11 @@
 ghost use Rattle.std.specs.Prelude.{◌≡◌, ℕ, List, Option, Some, true, false};
 ghost use Rattle.ln_msgs.specs.declared.refusals.refusal.Refusal.{Refusal};
 ghost use Rattle.ln_keys.specs.Signer.{Signer};
+ghost use Rattle.ln_log.specs.Log.{none};
 ghost use Rattle.ln_channel.specs.End.{End, end_dropped};
 ghost use Rattle.ln_channel.specs.State.{State, kept_channel};
 ghost use Rattle.ln_link.specs.Record.{items_of};
-ghost use Rattle.ln_link.specs.Loading.{IsLoadable, HasRecord, end_of};
+ghost use Rattle.ln_link.specs.Loading.{IsLoadable, HasRecord, IsReadAgain, end_of};
 ghost use Rattle.ln_link.specs.Saving.{Shelf};
 ghost use Rattle.ln_link.specs.Calls.{Call, Lead, HasLink, HasChannel, HaltsWithRecord};
 
@@ -17,12 +18,14 @@ pub fn lost_connection_is_recorded()
     ensures { (failure : Option Refusal) (e : End) → items_of failure (end_dropped e) ≡ items_of failure e }
 {}
 
-/// A law: what is saved of an end is read as a lost connection leaves it, and a channel that has failed has failed as
-/// it had.
+/// A law: what is saved of an end is read as a lost connection leaves it, but that of the updates which aren't had one
+/// by one any more it has ones of which a record tells the same; and a channel that has failed has failed as it had.
 pub fn saved_is_loaded()
     ensures can_be_loaded { (failure : Option Refusal) (e : End) → HasRecord failure e
         → IsLoadable (items_of failure e) }
     ensures as_dropped { (failure : Option Refusal) (e : End) → HasRecord failure e
+        → IsReadAgain (end_of (items_of failure e)) e }
+    ensures with_all_updates { (failure : Option Refusal) (e : End) → HasRecord failure e → e.dance.log.first ≡ none
         → end_of (items_of failure e) ≡ end_dropped e }
     ensures failed_as_it_had { (failure : Option Refusal) (e : End) → (items_of failure e).header.failure ≡ failure }
 {}

@@ -21,7 +21,8 @@ use std::marker::Model;
 /// funder's, as a fundee's, or from its record.
 ///
 /// What a call made of the channel is in the store before any message that tells it leaves this side: a restart finds
-/// what the peer may know of. Where a save fails, by 60 for want of memory, by 61 where the store failed, by 70 where
+/// what the peer may know of. As it is saved, what it needn't keep one by one any more is left out
+/// (`Unsaved::settle_base`). Where a save fails, by 60 for want of memory, by 61 where the store failed, by 70 where
 /// no record has these items, the link halts and answers 62 from then on; the store then has the record that it had,
 /// or, by 61, perhaps the one that was to be saved.
 #[derive(Drop)]
@@ -113,8 +114,9 @@ impl<K: ChannelKeys + Drop> Link<K> {
     ghost use Rattle.ln_store.specs.Readable.{is_readable};
     ghost use Rattle.ln_store.specs.Record.{record_at, record_bytes, is_sealed, version_of};
     ghost use Rattle.ln_store.specs.declared.record.Items.{Items};
-    ghost use Rattle.ln_link.specs.Loading.{Loads};
-    ghost use Rattle.ln_link.specs.Saving.{Keeps, Refuses, is_failing, AnswersMessage, AnswersOver, AnswersCommand};
+    ghost use Rattle.ln_link.specs.Loading.{Loads, ComesBackOf, IsCameBack};
+    ghost use Rattle.ln_link.specs.Saving.{Keeps, Settles, Refuses, is_failing, AnswersMessage, AnswersOver};
+    ghost use Rattle.ln_link.specs.Saving.{AnswersCommand};
 
     /// A new link of a funder, which opens a channel by this spec. Takes no memory.
     pub fn funder(keys: K, spec: FitSpec) -> Link<K>
@@ -135,13 +137,14 @@ impl<K: ChannelKeys + Drop> Link<K> {
     }
 
     /// The link that comes back from the bytes of its record, without a connection: what a lost connection leaves of
-    /// its end, and by what its channel has failed. Takes memory for the end, and time that grows linearly with the
-    /// updates.
+    /// its end, and by what its channel has failed. Of the updates in the base it knows what the record tells, until
+    /// `take_past_of`. Takes memory for the end, and time that grows linearly with the updates that the record has one
+    /// by one, and with the square of its live HTLCs.
     ///
-    /// Errors: those of `decode_record` (70, 71); 70 where the items can't be loaded: an update is in the base, no log
-    /// has these updates and counts (`UpdateLog::can_be_loaded`), the closing fees aren't in order, or the peer's
-    /// script isn't there exactly where the peer has shut down. 60 where there is no memory for the body of a record of
-    /// this version with its length and digest: what is told before takes none.
+    /// Errors: those of `decode_record` (70, 71); 70 where the items can't be loaded: no log has this base, these
+    /// updates and counts (`UpdateLog::can_be_loaded`), the closing fees aren't in order, or the peer's script isn't
+    /// there exactly where the peer has shut down. 60 where there is no memory for the body of a record of this version
+    /// with its length and digest: what is told before takes none.
     pub fn from_record(alloc: Global, keys: K, bytes: &[u8]) -> Result<Link<K>, Refusal>
         // The link, or the first fault.
         ensures loads_as_defined { Loads keys (record_at bytes.now) result }
@@ -156,6 +159,15 @@ impl<K: ChannelKeys + Drop> Link<K> {
     {
         let unsaved = loaded(alloc, keys, bytes)?;
         Ok(Link { unsaved })
+    }
+
+    /// A link that was loaded of another one's record takes over the updates that aren't had one by one any more, which
+    /// proofs alone read: it is then what a lost connection leaves of the other one. It does nothing at run time.
+    pub fn take_past_of(&mut self, other: &Link<K>)
+        requires { ComesBackOf self.old other.now }
+        ensures { IsCameBack self.old.keys other.now self.new }
+    {
+        self.unsaved.take_past_of(&other.unsaved);
     }
 
     /// What the link is; it saves nothing, so only to be looked at. Takes no memory.
@@ -184,6 +196,22 @@ impl<K: ChannelKeys + Drop> Link<K> {
     {
         match save_link(alloc, store, &self.unsaved) {
             Ok(()) => Ok(()),
+            Err(refusal) => {
+                self.halt();
+                Err(refusal)
+            }
+        }
+    }
+
+    // Behind a call that is answered its base moves on, and it is saved, or halts.
+    fn settle<S: RecordStore>(&mut self, alloc: Global, store: &mut S) -> Result<(), Refusal>
+        ensures settles { (l : State K) → StandsFor self.old l → Settles result l self.new
+            (record { records = S.records store.old; failed = S.failed store.old })
+            (record { records = S.records store.new; failed = S.failed store.new }) }
+        ensures same_channel { KeepsChannel self.old.stage self.new.stage }
+    {
+        match self.unsaved.settle_base(alloc) {
+            Ok(()) => self.save(alloc, store),
             Err(refusal) => {
                 self.halt();
                 Err(refusal)
@@ -237,7 +265,7 @@ impl<K: ChannelKeys + Drop> Link<K> {
     {
         let healthy = is_healthy(&self.unsaved);
         match self.unsaved.handle(alloc, message) {
-            Ok(outputs) => match self.save(alloc, store) {
+            Ok(outputs) => match self.settle(alloc, store) {
                 Ok(()) => Ok(outputs),
                 Err(refusal) => {
                     drop(outputs);
@@ -288,7 +316,7 @@ impl<K: ChannelKeys + Drop> Link<K> {
         ensures same_channel { KeepsChannel self.old.stage self.new.stage }
     {
         match self.unsaved.command(alloc, command) {
-            Ok(outputs) => match self.save(alloc, store) {
+            Ok(outputs) => match self.settle(alloc, store) {
                 Ok(()) => Ok(outputs),
                 Err(refusal) => {
                     drop(outputs);

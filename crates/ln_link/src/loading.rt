@@ -1,15 +1,14 @@
 //! What is loaded from the bytes of a record.
 
-ghost use Rattle.std.specs.Prelude.{◌≡◌, ◌∷◌, ◌≤◌, ◌⊎◌, ◌↔◌, IsTrue, IfOk, IfErr, IsErrOf, Ok, true};
+ghost use Rattle.std.specs.Prelude.{◌≡◌, ◌∷◌, ◌≤◌, ◌⊎◌, ◌↔◌, length, IsTrue, IfOk, IfErr, IsErrOf, Ok, true};
 ghost use Rattle.std.specs.Prelude.{is_some};
 ghost use Rattle.ln_msgs.specs.declared.refusals.refusal.Refusal.TheVariants as refusal;
 ghost use Rattle.ln_msgs.specs.Messages.Message.{message_at};
 ghost use Rattle.ln_msgs.specs.Messages.Typed.{heard};
 ghost use Rattle.ln_bytes.specs.Reading.{Gives};
+ghost use Rattle.ln_keys.specs.Role.{other_role};
 ghost use Rattle.ln_log.specs.Log as logs;
 ghost use Rattle.ln_log.specs.Log.{Log};
-ghost use Rattle.ln_log.specs.Opening.{HasFunds};
-ghost use Rattle.ln_log.specs.Loading.{IsReadable};
 ghost use Rattle.ln_dance.specs.Dance as dancing;
 ghost use Rattle.ln_dance.specs.Dance.{AreInStep};
 ghost use Rattle.ln_channel.specs.End as end;
@@ -18,11 +17,12 @@ ghost use Rattle.ln_channel.specs.Opening.{opening_of};
 ghost use Rattle.ln_channel.specs.Ledger.{most_decided};
 ghost use Rattle.ln_store.specs.Readable.{is_readable, is_open_payload, is_accept_payload};
 ghost use Rattle.ln_store.specs.Record.{record_at, record_bytes, is_sealed, version_of};
+ghost use Rattle.ln_store.specs.Removals.{are_one_side};
+ghost use Rattle.ln_store.specs.Sides.{count_of, window_of};
 ghost use Rattle.ln_store.specs.declared.record.Items.{Items};
-ghost use Rattle.ln_link.specs.Record.{base_of, no_sides};
-ghost use Rattle.ln_link.specs.Loading.{open_in, accept_in, terms_of, marks_of, closing_of, own_in, received_in};
-ghost use Rattle.ln_link.specs.Loading.{counts_in, coverage_in, log_of, dance_of, ledger_of, end_of};
-ghost use Rattle.ln_link.specs.Loading.{short_id_of, TellsLog, IsLoadable, Loads};
+ghost use Rattle.ln_link.specs.Loading.{open_in, accept_in, terms_of, marks_of, closing_of, counts_by, worth_in};
+ghost use Rattle.ln_link.specs.Loading.{place_in, lives_from, lives_in, counts_in, coverage_in, log_of, dance_of};
+ghost use Rattle.ln_link.specs.Loading.{ledger_of, end_of, short_id_of, TellsLog, IsLoadable, Loads};
 
 use crate::record::opening_of;
 use ln_bytes::{Bytes, Fault, ShortId};
@@ -30,11 +30,11 @@ use ln_channel::{Channel, EventLedger, Marks, Terms, Unsaved};
 use ln_close::{Closing, Fees};
 use ln_dance::Dance;
 use ln_keys::{ChannelKeys, Role};
-use ln_log::{Counts, Coverage, Opening, Update, UpdateLog};
+use ln_log::{Add, Counts, Coverage, Opening, Update, UpdateLog, Worth};
 use ln_msgs::{AcceptChannel, Incoming, Message, OpenChannel, Refusal, decode};
 use ln_store::{
     Agreement, Base, ChainPlace, ClosingFees, Commitments, Covered, Events, Flags, Forwards,
-    Header, Items, Pairs, Progress, Sides, Updates, Window, decode_record,
+    Header, Items, LiveHtlc, Pairs, Progress, Sides, Updates, Window, decode_record,
 };
 use std::alloc::Global;
 
@@ -148,8 +148,8 @@ fn closing_of(header: Header, fees: Fees, passed: ClosingFees) -> Closing
 
 // This side's, and the peer's.
 fn parted(role: Role, window: Window) -> (Vec<Update>, Vec<Update>)
-    ensures own { result.0.items ≡ own_in role window }
-    ensures received { result.1.items ≡ received_in role window }
+    ensures own { result.0.items ≡ window_of role window }
+    ensures received { result.1.items ≡ window_of (other_role role) window }
 {
     let Window { funder, fundee } = window;
     match role {
@@ -177,23 +177,95 @@ fn coverage_in(pairs: Pairs) -> Coverage
     }
 }
 
-fn are_none(sides: Sides) -> bool
-    ensures { IsTrue result ↔ (sides ≡ no_sides) }
+fn count_of(side: Role, sides: Sides) -> u64
+    ensures { result ≡ count_of side sides }
 {
-    sides.funder == 0 && sides.fundee == 0
+    match side {
+        Role::Funder => sides.funder,
+        Role::Fundee => sides.fundee,
+    }
 }
 
-// Whether no update is in the base.
-fn is_first(base: &Base, opening: &Opening) -> bool
-    requires { HasFunds opening.now }
-    ensures { IsTrue result ↔ (base.now ≡ base_of opening.now) }
+fn counts_by(role: Role, sides: Sides) -> Counts
+    ensures { result ≡ counts_by role sides }
 {
-    are_none(base.updates)
-        && are_none(base.next_ids)
-        && base.balances.funder == opening.first_balance(Role::Funder)
-        && base.balances.fundee == opening.first_balance(Role::Fundee)
-        && base.feerate == opening.feerate
-        && base.live.as_slice().is_empty()
+    Counts {
+        own: count_of(role, sides) as usize,
+        peer: count_of(role.other(), sides) as usize,
+    }
+}
+
+fn worth_in(role: Role, base: &Base) -> Worth
+    ensures { result ≡ worth_in role base.now }
+{
+    Worth {
+        next_own: count_of(role, base.next_ids),
+        next_peer: count_of(role.other(), base.next_ids),
+        own: count_of(role, base.balances),
+        peer: count_of(role.other(), base.balances),
+        feerate: base.feerate,
+    }
+}
+
+// How many HTLCs stand before one of this id.
+fn place_in(id: u64, adds: &[Add]) -> usize
+    ensures place { result ≡ place_in id adds.now }
+    ensures within { result ≤ length adds.now }
+{
+    let mut place = 0usize;
+    for add in adds {
+        if add.id <= id {
+            place += 1;
+        }
+    }
+    place
+}
+
+fn is_of(side: Role, htlc: &LiveHtlc) -> bool
+    ensures { result ≡ are_one_side side htlc.now.offerer }
+{
+    match side {
+        Role::Funder => match htlc.offerer {
+            Role::Funder => true,
+            Role::Fundee => false,
+        },
+        Role::Fundee => match htlc.offerer {
+            Role::Funder => false,
+            Role::Fundee => true,
+        },
+    }
+}
+
+// The live HTLCs of a side, by their ids.
+fn lives_in(alloc: Global, side: Role, live: &[LiveHtlc]) -> Result<Vec<Add>, Refusal>
+    ensures lives { IfOk result (λ v. v.items ≡ lives_in side live.now) }
+    ensures fails_for_memory_alone { IfErr result (λ r. r ≡ refusal.Memory) }
+{
+    let mut adds = Vec::new(alloc);
+    for htlc in live {
+        if is_of(side, htlc) {
+            let place = place_in(htlc.add.id, adds.as_slice());
+            adds.insert(place, htlc.add)?;
+        }
+    }
+    Ok(adds)
+}
+
+// What is told of the first updates.
+fn base_in(alloc: Global, role: Role, base: &Base) -> Result<ln_log::Base, Refusal>
+    ensures updates { IfOk result (λ b. b.updates ≡ counts_by role base.now.updates) }
+    ensures worth { IfOk result (λ b. b.worth ≡ worth_in role base.now) }
+    ensures own { IfOk result (λ b. b.own.items ≡ lives_in role base.now.live) }
+    ensures peer { IfOk result (λ b. b.peer.items ≡ lives_in (other_role role) base.now.live) }
+    ensures fails_for_memory_alone { IfErr result (λ r. r ≡ refusal.Memory) }
+{
+    let live = base.live.as_slice();
+    Ok(ln_log::Base {
+        updates: counts_by(role, base.updates),
+        worth: worth_in(role, base),
+        own: lives_in(alloc, role, live)?,
+        peer: lives_in(alloc, role.other(), live)?,
+    })
 }
 
 // The log of these updates; 70 where they tell none.
@@ -215,13 +287,11 @@ fn log_of(
     } = updates;
     let coverage = coverage_in(pairs);
     let (own, received) = parted(role, window);
-    if !UpdateLog::can_be_loaded(alloc, &opening, role, &own, &received, &coverage)? {
+    let first = base_in(alloc, role, &base)?;
+    if !UpdateLog::can_be_loaded(alloc, &opening, role, &first, &own, &received, &coverage)? {
         return Err(Refusal::Damaged);
     }
-    if !is_first(&base, &opening) {
-        return Err(Refusal::Damaged);
-    }
-    UpdateLog::load(alloc, opening, role, own, received, coverage)
+    UpdateLog::load(alloc, opening, role, first, own, received, coverage)
 }
 
 // ---- what became of them

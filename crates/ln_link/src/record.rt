@@ -1,23 +1,24 @@
 //! The record of an end of a channel.
 
-ghost use Rattle.std.specs.Prelude.{◌≡◌, ◌≤◌, ◌<◌, ◌^◌, ◌⊎◌, IfOk, IfErr, IfSome, OnOk, length, take, option_map, true};
+ghost use Rattle.std.specs.Prelude.{◌≡◌, ◌<◌, ◌^◌, ◌⊎◌, ◌++◌, IfOk, IfErr, IfSome, OnOk, map, option_map, true};
 ghost use Rattle.ln_msgs.specs.declared.refusals.refusal.Refusal.TheVariants as refusal;
 ghost use Rattle.ln_msgs.specs.Messages.Typed.{open_wire, accept_wire};
+ghost use Rattle.std.specs.List.{filter_map};
 ghost use Rattle.ln_log.specs.Log as logs;
-ghost use Rattle.ln_log.specs.Log.{Log, none, after_drop, count_of, first_of, updates_of as sent_by};
-ghost use Rattle.ln_log.specs.Loading.{IsReadable};
-ghost use Rattle.ln_log.specs.Opening.{HasFunds};
+ghost use Rattle.ln_log.specs.Log.{Log, after_drop, between};
+ghost use Rattle.ln_log.specs.Told.{told_of, IsRestorable};
+ghost use Rattle.ln_log.specs.Updates.{offered};
 ghost use Rattle.ln_channel.specs.Opening.{opening_of};
 ghost use Rattle.ln_channel.specs.End as end;
-ghost use Rattle.ln_channel.specs.End.{End};
+ghost use Rattle.ln_channel.specs.End.{End, IsSound};
 ghost use Rattle.ln_dance.specs.Dance as dancing;
 ghost use Rattle.ln_dance.specs.Dance.{Dancer};
-ghost use Rattle.ln_link.specs.Record.{flags_of, header_of, place_of, agreement_of, base_of, window_of, covered_of};
-ghost use Rattle.ln_link.specs.Record.{pairs_of, updates_of, events_of, forwards_of};
-ghost use Rattle.ln_link.specs.Record.{fees_of, progress_of, commitments_of, items_of};
-ghost use Rattle.ln_link.specs.Record.{HasNoAgreement, HasNoUpdates, NoRecord};
-ghost use Rattle.ln_link.specs.Loading.{IsSaid, HasRecord};
 ghost use Rattle.ln_store.specs.Readable.{is_readable};
+ghost use Rattle.ln_link.specs.Record.{flags_of, header_of, place_of, agreement_of, by_roles, live_of, lives_of};
+ghost use Rattle.ln_link.specs.Record.{base_of, window_of, covered_of, pairs_of, updates_of, events_of, forwards_of};
+ghost use Rattle.ln_link.specs.Record.{fees_of, progress_of, commitments_of, items_of};
+ghost use Rattle.ln_link.specs.Record.{HasNoAgreement, NoRecord};
+ghost use Rattle.ln_link.specs.Loading.{IsSaid, HasRecord};
 
 use crate::copy::{copy_bytes, copy_decisions, copy_results, copy_updates};
 use crate::payload::{accept_payload, open_payload};
@@ -30,7 +31,8 @@ use ln_log::{Counts, Limits, Opening, Pair, Side, Update, UpdateLog};
 use ln_msgs::Refusal;
 use ln_store::{
     Agreement, Base, ChainPlace, ClosingFees, Commitments, Covered, Events, Flags, Forwards,
-    Header, Items, LinkRecord, Listed, Pairs, Progress, Sides, Updates, Window, is_readable,
+    Header, Items, LinkRecord, Listed, LiveHtlc, Pairs, Progress, Sides, Updates, Window,
+    is_readable,
 };
 use std::alloc::Global;
 
@@ -127,27 +129,75 @@ pub(crate) fn opening_of(terms: &Terms) -> Opening
     }
 }
 
-// No update is in the base; 70 where there can be no channel with these funds.
-fn base_of(alloc: Global, opening: &Opening) -> Result<Base, Refusal>
-    ensures base { IfOk result (λ b. b ≡ base_of opening.now) }
-    ensures fails { IfErr result (λ r. (r ≡ refusal.Damaged) × (¬ HasFunds opening.now)) }
+fn by_roles(role: Role, own: u64, peer: u64) -> Sides
+    ensures { result ≡ by_roles role own peer }
 {
-    if !opening.has_funds() {
-        return Err(Refusal::Damaged);
-    }
-    let none = Sides {
-        funder: 0,
-        fundee: 0,
-    };
-    Ok(Base {
-        updates: none,
-        next_ids: none,
-        balances: Sides {
-            funder: opening.first_balance(Role::Funder),
-            fundee: opening.first_balance(Role::Fundee),
+    match role {
+        Role::Funder => Sides {
+            funder: own,
+            fundee: peer,
         },
-        feerate: opening.feerate,
-        live: Listed::empty(alloc),
+        Role::Fundee => Sides {
+            funder: peer,
+            fundee: own,
+        },
+    }
+}
+
+// The HTLCs that these updates offer are a side's live ones.
+fn put_lives(live: &mut Vec<LiveHtlc>, side: Role, updates: &[Update]) -> Result<(), Refusal>
+    ensures puts { OnOk result (live.new.items
+        ≡ live.old.items ++ map (live_of side) (filter_map offered updates.now)) }
+    ensures fails_for_memory_alone { IfErr result (λ r. r ≡ refusal.Memory) }
+{
+    for update in updates {
+        if let Update::Add(add) = update {
+            live.push(LiveHtlc {
+                offerer: side,
+                add: *add,
+            })?;
+        }
+    }
+    Ok(())
+}
+
+// Those of both sides, whose updates these are.
+fn lives_of(
+    alloc: Global,
+    role: Role,
+    own: &[Update],
+    peer: &[Update],
+) -> Result<Listed<LiveHtlc>, Refusal>
+    ensures lives { IfOk result (λ l. l
+        ≡ lives_of role (filter_map offered own.now) (filter_map offered peer.now)) }
+    ensures fails_for_memory_alone { IfErr result (λ r. r ≡ refusal.Memory) }
+{
+    let (funder, fundee) = match role {
+        Role::Funder => (own, peer),
+        Role::Fundee => (peer, own),
+    };
+    let mut live = Vec::new(alloc);
+    put_lives(&mut live, Role::Funder, funder)?;
+    put_lives(&mut live, Role::Fundee, fundee)?;
+    Ok(Listed::new(live))
+}
+
+// What the updates before `first` are worth, and their live HTLCs.
+fn base_of(alloc: Global, role: Role, log: &UpdateLog) -> Result<Base, Refusal>
+    ensures base { (l : Log) → logs.StandsFor log.now l
+        → IfOk result (λ b. b ≡ base_of (record (told_of l.first l) { role = role })) }
+    ensures fails_for_memory_alone { IfErr result (λ r. r ≡ refusal.Memory) }
+{
+    let worth = log.worth();
+    let live = lives_of(alloc, role, log.live(Side::Own), log.live(Side::Peer))?;
+    let own = log.first(Side::Own) as u64;
+    let peer = log.first(Side::Peer) as u64;
+    Ok(Base {
+        updates: by_roles(role, own, peer),
+        next_ids: by_roles(role, worth.next_own, worth.next_peer),
+        balances: by_roles(role, worth.own, worth.peer),
+        feerate: worth.feerate,
+        live,
     })
 }
 
@@ -176,8 +226,8 @@ fn covered_of(counts: Counts) -> Covered
 }
 
 fn pairs_of(log: &UpdateLog) -> Pairs
-    ensures pairs { (l : Log) → logs.StandsFor log.now l → result ≡ pairs_of l }
-    ensures can_be_loaded { (l : Log) → logs.StandsFor log.now l → l.first ≡ none → IsReadable (after_drop l) }
+    ensures pairs { (l : Log) → logs.StandsFor log.now l → result ≡ pairs_of (told_of l.first l) }
+    ensures can_be_restored { (l : Log) → logs.StandsFor log.now l → IsRestorable (told_of l.first (after_drop l)) }
 {
     let coverage = log.coverage();
     Pairs {
@@ -188,62 +238,46 @@ fn pairs_of(log: &UpdateLog) -> Pairs
 }
 
 fn log_of(channel: &Channel) -> &UpdateLog
-    ensures { (e : End) → end.StandsFor channel.now e → logs.StandsFor result.now e.dance.log }
+    ensures fits_together { IsSound channel.now }
+    ensures log { (e : End) → end.StandsFor channel.now e → logs.StandsFor result.now e.dance.log }
 {
     channel.dance().log()
 }
 
-// The first updates of a side, as long as each is had one by one; else 70.
-fn first_updates(log: &UpdateLog, side: Side, count: usize) -> Result<&[Update], Refusal>
-    requires { count ≤ count_of side log.now }
-    ensures updates { (l : Log) → logs.StandsFor log.now l → IfOk result (λ us. us.now ≡ take count (sent_by side l)) }
-    ensures from_the_first { OnOk result (first_of side log.now ≡ 0) }
-    ensures fails { IfErr result (λ r. (r ≡ refusal.Damaged) × (0 < first_of side log.now)) }
-{
-    if log.first(side) == 0 {
-        Ok(log.between(side, 0, count))
-    } else {
-        Err(Refusal::Damaged)
-    }
-}
-
 fn own_updates(alloc: Global, log: &UpdateLog) -> Result<Vec<Update>, Refusal>
-    ensures updates { (l : Log) → logs.StandsFor log.now l → IfOk result (λ us. us.items ≡ (after_drop l).own) }
-    ensures from_the_first { OnOk result (log.now.first.own ≡ 0) }
-    ensures fails { IfErr result (λ r. (r ≡ refusal.Memory) ⊎ ((r ≡ refusal.Damaged) × (0 < log.now.first.own))) }
+    ensures updates { (l : Log) → logs.StandsFor log.now l
+        → IfOk result (λ us. us.items ≡ between l.first.own l.signed.own l.own) }
+    ensures fails_for_memory_alone { IfErr result (λ r. r ≡ refusal.Memory) }
 {
-    let updates = first_updates(log, Side::Own, log.counts(Pair::Signed).own)?;
-    copy_updates(alloc, updates)
+    let count = log.counts(Pair::Signed).own;
+    copy_updates(alloc, log.between(Side::Own, log.first(Side::Own), count))
 }
 
 fn peer_updates(alloc: Global, log: &UpdateLog) -> Result<Vec<Update>, Refusal>
-    ensures updates { (l : Log) → logs.StandsFor log.now l → IfOk result (λ us. us.items ≡ (after_drop l).received) }
-    ensures from_the_first { OnOk result (log.now.first.peer ≡ 0) }
-    ensures fails { IfErr result (λ r. (r ≡ refusal.Memory) ⊎ ((r ≡ refusal.Damaged) × (0 < log.now.first.peer))) }
+    ensures updates { (l : Log) → logs.StandsFor log.now l
+        → IfOk result (λ us. us.items ≡ between l.first.peer l.current.peer l.received) }
+    ensures fails_for_memory_alone { IfErr result (λ r. r ≡ refusal.Memory) }
 {
     let count = log.counts(Pair::Current(Side::Own)).peer;
-    let updates = first_updates(log, Side::Peer, count)?;
-    copy_updates(alloc, updates)
+    copy_updates(alloc, log.between(Side::Peer, log.first(Side::Peer), count))
 }
 
-// The updates that signatures cover.
-#[tactic(auto, unfolding(crate::specs::Record::updates_of, crate::specs::Record::HasNoUpdates))]
+// The updates that signatures cover: a base, and those behind it.
 fn updates_of(alloc: Global, channel: &Channel) -> Result<Updates, Refusal>
     ensures updates { (e : End) → end.StandsFor channel.now e
         → IfOk result (λ u. u ≡ updates_of (opening_of e.terms) e.closing.role
         (after_drop e.dance.log)) }
-    ensures from_the_first { (e : End) → end.StandsFor channel.now e → OnOk result (e.dance.log.first ≡ none) }
-    ensures can_be_loaded { (e : End) → end.StandsFor channel.now e
-        → OnOk result (IsReadable (after_drop e.dance.log)) }
-    ensures fails { (e : End) → end.StandsFor channel.now e
-        → IfErr result (λ r. (r ≡ refusal.Memory) ⊎ ((r ≡ refusal.Damaged) × HasNoUpdates e)) }
+    ensures can_be_restored { (e : End) → end.StandsFor channel.now e
+        → OnOk result (IsRestorable (told_of e.dance.log.first (after_drop e.dance.log))) }
+    ensures fails_for_memory_alone { IfErr result (λ r. r ≡ refusal.Memory) }
 {
     let log = log_of(channel);
+    let role = channel.closing().role;
     let own = own_updates(alloc, log)?;
     let received = peer_updates(alloc, log)?;
     Ok(Updates {
-        base: base_of(alloc, &opening_of(channel.terms()))?,
-        window: window_of(channel.closing().role, own, received),
+        base: base_of(alloc, role, log)?,
+        window: window_of(role, own, received),
         pairs: pairs_of(log),
     })
 }
@@ -305,10 +339,10 @@ fn items_of(alloc: Global, failure: Option<Refusal>, channel: &Channel) -> Resul
     ensures has_record_if_readable { (e : End) → end.StandsFor channel.now e
         → OnOk result (is_readable (items_of failure e) ≡ true
         → HasRecord failure e) }
-    ensures log_can_be_loaded { (e : End) → end.StandsFor channel.now e
-        → OnOk result (IsReadable (after_drop e.dance.log)) }
-    ensures fails { (e : End) → end.StandsFor channel.now e → IfErr result (λ r. (r ≡ refusal.Memory)
-        ⊎ ((r ≡ refusal.Damaged) × (HasNoAgreement e ⊎ HasNoUpdates e))) }
+    ensures log_can_be_restored { (e : End) → end.StandsFor channel.now e
+        → OnOk result (IsRestorable (told_of e.dance.log.first (after_drop e.dance.log))) }
+    ensures fails { (e : End) → end.StandsFor channel.now e
+        → IfErr result (λ r. (r ≡ refusal.Memory) ⊎ ((r ≡ refusal.Damaged) × HasNoAgreement e)) }
 {
     let agreement = agreement_of(alloc, channel)?;
     let updates = updates_of(alloc, channel)?;
@@ -326,8 +360,7 @@ fn items_of(alloc: Global, failure: Option<Refusal>, channel: &Channel) -> Resul
 /// is what can be loaded of it again. Takes memory for it.
 ///
 /// Errors: 60 where there is no memory; 70 where no record has these items: a message of the opening can't be written,
-/// the first updates aren't had one by one any more, there can be no channel with these funds, or the items aren't
-/// readable.
+/// or the items aren't readable.
 #[tactic(auto, unfolding(crate::specs::Record::NoRecord))]
 pub fn to_record(
     alloc: Global,

@@ -29,7 +29,7 @@ use Rattle.ln_log.proofs.Stands.{between_is, own_length, peer_length}
 
 -- ---- the worth of the longer beginnings
 
-same_worth : (a b : Worth) → a.next_own ≡ b.next_own → a.next_peer ≡ b.next_peer → a.own ≡ b.own → a.peer ≡ b.peer
+pub same_worth : (a b : Worth) → a.next_own ≡ b.next_own → a.next_peer ≡ b.next_peer → a.own ≡ b.own → a.peer ≡ b.peer
     → a.feerate ≡ b.feerate → a ≡ b
 same_worth a b en em eo ep ef =
     ap (λ n. record { next_own = n; next_peer = a.next_peer; own = a.own; peer = a.peer; feerate = a.feerate }) en
@@ -160,11 +160,11 @@ advanced k m l to own own_new own_live own_rest own_list peer peer_new peer_live
 -- ---- where it can be a base, it is found to be one
 
 -- what is live behind more is live in the rest
-live_rest : (id : ℕ) (q v : List Update) → outcome id (q ++ v) ≡ Live → outcome id v ≡ Live
+pub live_rest : (id : ℕ) (q v : List Update) → outcome id (q ++ v) ≡ Live → outcome id v ≡ Live
 live_rest id q v e =
     sym (outcome-append id q v ∙ ap (λ o. cond (is_live o) (outcome id v) o) (live_before id q v e)) ∙ e
 
-few_ids : (n : ℕ) (us : List Update) → next_id (take n us) ≤ length us
+pub few_ids : (n : ℕ) (us : List Update) → next_id (take n us) ≤ length us
 few_ids n us = omega (arith, next_few us, next-front n us)
 
 pub record Asked (k m : Kept) (l : Log) (to : Counts) (own own_new peer peer_new : List Update) : Type 0 where
@@ -288,7 +288,7 @@ within-lives : (most : ℕ) (us r : List Update) → AreWithin most us → AreWi
 within-lives most [] r h = tt
 within-lives most (u ∷ us) r h = within_one most r (offered u) (live_adds us r) h.0 (within-lives most us r h.1)
 
-within-append : (most : ℕ) (us vs : List Update) → AreWithin most us → AreWithin most vs → AreWithin most (us ++ vs)
+pub within-append : (most : ℕ) (us vs : List Update) → AreWithin most us → AreWithin most vs → AreWithin most (us ++ vs)
 within-append most [] vs h g = g
 within-append most (u ∷ us) vs h g = (h.0, within-append most us vs h.1 g)
 

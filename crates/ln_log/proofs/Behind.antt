@@ -47,7 +47,7 @@ live_in n (u ∷ us) q h new = (
   live_in (number_after n (offered u)) us q h.1 (λ id le. new id (omega (arith, le, number_is n (offered u)))),
 )
 
-outcome_behind : (id : ℕ) (q v : List Update) → outcome id q ≡ Live → outcome id (q ++ v) ≡ outcome id v
+pub outcome_behind : (id : ℕ) (q v : List Update) → outcome id q ≡ Live → outcome id (q ++ v) ≡ outcome id v
 outcome_behind id q v live = outcome-append id q v ∙ ap (λ o. cond (is_live o) (outcome id v) o) live
 
 weight_new : (test : Outcome → Bool) (q v : List Update) (o : Option Add) → IsLiveIn o q
@@ -165,7 +165,7 @@ cons_append : (o : Option Add) (xs ys : List Add) → cons_option o (xs ++ ys) �
 cons_append None xs ys = refl
 cons_append (Some a) xs ys = refl
 
-live-append : (p w r : List Update) → live_adds (p ++ w) r ≡ live_adds p r ++ live_adds w r
+pub live-append : (p w r : List Update) → live_adds (p ++ w) r ≡ live_adds p r ++ live_adds w r
 live-append [] w r = refl
 live-append (u ∷ us) w r = ap (cons_option (live_of (offered u) r)) (live-append us w r)
     ∙ cons_append (live_of (offered u) r) (live_adds us r) (live_adds w r)
@@ -312,7 +312,7 @@ pub both_lives : (o : Opening) (x : Role) (p w q v : List Update) → GoesOn o x
 both_lives o x p w q v h =
     (lives_behind p w q v (own_live o x p w q v h), lives_behind q v p w (peer_live o x p w q v h))
 
-rate_behind : (rate : ℕ) (p w : List Update) → last_feerate rate (p ++ w) ≡ last_feerate (last_feerate rate p) w
+pub rate_behind : (rate : ℕ) (p w : List Update) → last_feerate rate (p ++ w) ≡ last_feerate (last_feerate rate p) w
 rate_behind rate [] w = refl
 rate_behind rate (u ∷ us) w = rate_behind (rate_after rate u) us w
 

@@ -69,11 +69,11 @@ removable_one Live ow x y h = refl
 removable_one Fulfilled ow x y h = ap (λ z. cond (is_live ow) z None) (h refl) ∙ no_either_way (is_live ow)
 removable_one Failed ow x y h = ap (λ z. cond (is_live ow) z None) (h refl) ∙ no_either_way (is_live ow)
 
-not_live : (o : Outcome) → is_live o ≡ false → o ≡ Live → ⊥
+pub not_live : (o : Outcome) → is_live o ≡ false → o ≡ Live → ⊥
 not_live o e f = let is : false ≡ true = sym e ∙ ap is_live f in cc
 
 -- what a base removes isn't offered behind it
-gone_before : (id : ℕ) (p q v : List Update) → AreNumbered (next_id q) v
+pub gone_before : (id : ℕ) (p q v : List Update) → AreNumbered (next_id q) v
     → ((i : ℕ) → next_id q ≤ i → outcome i p ≡ Live) → is_live (outcome id p) ≡ false → add_with id v ≡ None
 gone_before id p q v ids new e = elim (leb_tells (next_id q) id) [
   | inl g ↦ absurd (not_live (outcome id p) e (new id g.1))

@@ -7,6 +7,7 @@ use Rattle.std.proofs.Common.{◌&&◌, ◌*◌, nat_lt, IfSome}
 use Rattle.std.proofs.lemmas.Bool.Decides.{leb_tells}
 use Rattle.std.proofs.lemmas.Bool.{ltb-false}
 use Rattle.std.proofs.lemmas.List.{take-append-drop, take_all}
+use Rattle.std.proofs.Math.Seq.{take-append_seam}
 use Rattle.ln_msgs.specs.declared.refusals.refusal.Refusal.TheVariants as refusal
 use Rattle.ln_msgs.specs.declared.refusals.peer_rule.PeerRule.TheVariants as rule
 use Rattle.ln_log.specs.declared.log.Side.{Side}
@@ -21,7 +22,7 @@ use Rattle.ln_log.specs.Log.{Log, Counts, AreNumbered, between, removal_fault, u
 use Rattle.ln_log.specs.Log.{AreWithin, AreRemovals}
 use Rattle.ln_log.specs.Window.{Worth, lives}
 use Rattle.ln_log.specs.Log.{AreNotGone}
-use Rattle.ln_log.specs.Kept.{Kept, IsWindowOf, kept_first, own_base, peer_base, base_of, front_of}
+use Rattle.ln_log.specs.Kept.{Kept, IsWindowOf, kept_first, own_base, peer_base, base_of, live_base, front_of}
 use Rattle.ln_log.proofs.Removing.{removals-drop, or_else, outcome-append, add_with-append, below, above}
 use Rattle.ln_log.proofs.Removing.{numbered-drop, numbered-take}
 use Rattle.ln_log.proofs.Totals.{longer}
@@ -361,3 +362,23 @@ removal_held l r o b ids e lt eb true_ held =
     sym (ap (removal_fault l) e
     ∙ fault_held l r false (offered_is l.received r.id ids lt) (sym eb ∙ true_)
     (offered_is (take l.acknowledged.peer l.received) r.id (numbered-take 0 l.acknowledged.peer l.received ids) held))
+
+-- ---- the live HTLCs of the base
+
+pub own_lives : (k m : Kept) (l : Log) (ks r : List Update) → k ≡ m → IsWindowOf m l → ks ≡ k.own
+    → r ≡ between 0 k.live.own ks → r ≡ live_base side.Own m l
+own_lives k m l ks r v s ek er =
+    let t : IsWindowOf k l = subst (λ y. IsWindowOf y l) (sym v) s in
+    let all : k.live.own - 0 ≡ k.live.own = omega arith in
+    er ∙ ap (λ n. take n ks) all ∙ ap (take k.live.own) (ek ∙ t.own)
+    ∙ ap (λ n. take n (live_base side.Own k l ++ drop k.first.own l.own)) t.live_own
+    ∙ take-append_seam (live_base side.Own k l) (drop k.first.own l.own) ∙ ap (λ y. live_base side.Own y l) v
+
+pub peer_lives : (k m : Kept) (l : Log) (ks r : List Update) → k ≡ m → IsWindowOf m l → ks ≡ k.received
+    → r ≡ between 0 k.live.peer ks → r ≡ live_base side.Peer m l
+peer_lives k m l ks r v s ek er =
+    let t : IsWindowOf k l = subst (λ y. IsWindowOf y l) (sym v) s in
+    let all : k.live.peer - 0 ≡ k.live.peer = omega arith in
+    er ∙ ap (λ n. take n ks) all ∙ ap (take k.live.peer) (ek ∙ t.received)
+    ∙ ap (λ n. take n (live_base side.Peer k l ++ drop k.first.peer l.received)) t.live_peer
+    ∙ take-append_seam (live_base side.Peer k l) (drop k.first.peer l.received) ∙ ap (λ y. live_base side.Peer y l) v

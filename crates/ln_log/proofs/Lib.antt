@@ -1,4 +1,5 @@
 pub mod Removing
+pub mod RemovedIds
 pub mod Tables
 pub mod Live
 pub mod Tallies
@@ -21,3 +22,11 @@ pub mod Handed
 pub mod Calls
 pub mod Viewed
 pub mod Advancing
+pub mod Bases
+pub mod Explained
+pub mod Written
+pub mod Leading
+pub mod Retold
+pub mod Restored
+pub mod Fated
+pub mod Alike

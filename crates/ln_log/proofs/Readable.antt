@@ -14,13 +14,10 @@ use Rattle.ln_log.specs.declared.log.Pair.TheVariants as pair
 use Rattle.ln_log.specs.declared.log.Side.TheVariants as side
 use Rattle.ln_log.specs.declared.standing.Standing.{Standing}
 use Rattle.ln_log.specs.declared.update.Add.{Add}
-use Rattle.ln_log.specs.declared.update.Removal.{Removal}
 use Rattle.ln_log.specs.declared.update.Update.{Update}
-use Rattle.ln_log.specs.declared.outcome.Outcome.{Outcome}
-use Rattle.ln_log.specs.declared.outcome.Outcome.TheVariants.{Live}
 use Rattle.ln_log.specs.Opening.{HasFunds, first_balance}
 use Rattle.ln_log.specs.Updates.{offered, removed, is_some, next_id, found_or, add_with, is_live, total}
-use Rattle.ln_log.specs.Outcomes.{Tells, removals_in}
+use Rattle.ln_log.specs.Outcomes.{removals_in}
 use Rattle.ln_log.specs.View.{balance, Pays}
 use Rattle.ln_log.specs.Limits.{standing_of, most_updates}
 use Rattle.ln_log.specs.Log.{Log, covered, number_after, HasId, AreNumbered, RemovesLive, AreRemovals, IsKept}
@@ -29,7 +26,7 @@ use Rattle.ln_log.specs.declared.loading.Coverage.{Coverage}
 use Rattle.ln_log.specs.Window.{worth_of}
 use Rattle.ln_log.specs.Kept.{IsWindowOf}
 use Rattle.ln_log.specs.Loading.{stored, IsLawful, CoverAll, AreLawful, IsReadable}
-use Rattle.ln_log.proofs.Removing.{next-cons, number_is, above, removals-take}
+use Rattle.ln_log.proofs.Removing.{next-cons, number_is, removals-take}
 use Rattle.ln_log.proofs.Totals.{sums, first_sum, pays_longer}
 use Rattle.ln_log.proofs.Live.{counted, wider}
 use Rattle.ln_log.proofs.Standings.{standing_is}
@@ -69,33 +66,6 @@ found_within n id (u ∷ us) h le lt =
     found_at n id (offered u) (add_with id us) (next_id us) h.0 le (subst (λ k. id < n + k) (next-cons u us) lt)
     (λ more. found_within (number_after n (offered u)) id us h.1 more
     (omega (arith, lt, next-cons u us, number_is n (offered u))))
-
--- ---- removals, by a table
-
-pub there : (t : List Outcome) (adds before : List Update) (u : Update) (r : Removal) → removed u ≡ Some r
-    → AreNumbered 0 adds → length t ≡ next_id adds → Tells t before → r.id < length t → get_or t r.id Live ≡ Live
-    → RemovesLive adds before (removed u)
-there t adds before u r e ids whole tells lt live =
-    subst (RemovesLive adds before) (sym e)
-    (found_within 0 r.id adds ids (omega arith) (omega (arith, lt, whole)), sym (tells r.id lt) ∙ live)
-
-pub gone : (t : List Outcome) (adds before : List Update) (u : Update) (r : Removal) → removed u ≡ Some r
-    → Tells t before → r.id < length t → is_live (get_or t r.id Live) ≡ false → RemovesLive adds before (removed u) → ⊥
-gone t adds before u r e tells lt dead h =
-    let k : RemovesLive adds before (Some r) = subst (RemovesLive adds before) e h in
-    let is : false ≡ true = sym dead ∙ ap is_live (tells r.id lt ∙ k.1) in
-    cc
-
-pub past : (t : List Outcome) (adds before : List Update) (u : Update) (r : Removal) → removed u ≡ Some r
-    → AreNumbered 0 adds → length t ≡ next_id adds → length t ≤ r.id → RemovesLive adds before (removed u) → ⊥
-past t adds before u r e ids whole le h =
-    let k : RemovesLive adds before (Some r) = subst (RemovesLive adds before) e h in
-    let none : add_with r.id adds ≡ None = above 0 r.id adds ids (omega (arith, whole, le)) in
-    let is : false ≡ true = ap is_some (sym none) ∙ k.0 in
-    cc
-
-pub tells_too : (t s : List Outcome) (before : List Update) → s ≡ t → Tells t before → Tells s before
-tells_too t s before e h = subst (λ x. Tells x before) (sym e) h
 
 pub split : (us : List Update) (i : ℕ) (u : Update) → u ≡ get_or us i u → i < length us
     → drop i us ≡ u ∷ drop (i + 1) us
@@ -279,7 +249,7 @@ kept_loaded l s p r es ep =
 -- ---- what a log keeps can be loaded again
 
 -- where signatures cover all of it
-covers_so : (l : Log) (s t p q : Standing) → IsKept l s t p q → CoverAll l → length l.own ≤ most_updates
+pub covers_so : (l : Log) (s t p q : Standing) → IsKept l s t p q → CoverAll l → length l.own ≤ most_updates
     → length l.received ≤ most_updates → IsReadable l
 covers_so l s t p q k all own peer =
     let w = k.within in

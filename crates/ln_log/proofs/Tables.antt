@@ -1,32 +1,38 @@
--- A table of outcomes behind one more update.
-use Rattle.std.proofs.Common.{◌≡◌, ℕ, ◌≤◌, ◌<◌, List, [], ◌∷◌, ◌++◌, length, get_or, set, replicate, sym, ap, ◌∙◌}
-use Rattle.std.proofs.Common.{subst, arith, false, cond, Some, None, eqb, inl, inr}
+-- What is noted of HTLCs behind one more update.
+use Rattle.std.proofs.Common.{◌≡◌, ℕ, List, [], ◌∷◌, ◌++◌, refl, sym, ap, ◌∙◌, subst, false, cond, Option, Some, None}
+use Rattle.std.proofs.Common.{inl, inr, true}
+use Rattle.std.specs.Prelude.{is_some}
 use Rattle.std.proofs.lemmas.Bool.Decides.{eqb_tells}
-use Rattle.std.proofs.lemmas.List.{get_or-replicate, length-replicate, get_or-set_same, get_or-set_other, length-set}
 use Rattle.ln_log.specs.declared.update.Removal.{Removal}
 use Rattle.ln_log.specs.declared.update.Update.{Update}
 use Rattle.ln_log.specs.declared.outcome.Outcome.{Outcome}
-use Rattle.ln_log.specs.declared.outcome.Outcome.TheVariants.{Live}
+use Rattle.ln_log.specs.declared.outcome.Outcome.TheVariants.{Live, Fulfilled, Failed}
 use Rattle.ln_log.specs.Updates.{removed, outcome, is_live}
-use Rattle.ln_log.specs.Outcomes.{Tells}
-use Rattle.ln_log.proofs.Removing.{outcome-append, outcome-none, outcome-other, outcome-hit}
+use Rattle.ln_log.specs.Outcomes.{noted_as}
+use Rattle.ln_log.proofs.Fated.{Changes, changed_here, changed_not}
+use Rattle.ln_log.proofs.Removing.{IsDone, done, outcome-append, outcome-none, outcome-other, outcome-hit}
 
--- before any
-pub tells_first : (n : ℕ) → Tells (replicate n Live) []
-tells_first n = λ id lt. get_or-replicate n id Live Live (omega (arith, lt, length-replicate n Live))
+abbrev Notes : (ℕ → Option Outcome) → List Update → Type 0
+Notes f us = (id : ℕ) → f id ≡ noted_as (outcome id us)
 
 -- one that removes nothing
-pub tells_none : (t : List Outcome) (us : List Update) (u : Update) → removed u ≡ None → Tells t us
-    → Tells t (us ++ u ∷ [])
-tells_none t us u e h = λ id lt. h id lt ∙ sym (outcome-none id us u e)
+pub notes_none : (f : ℕ → Option Outcome) (us : List Update) (u : Update) → removed u ≡ None → Notes f us
+    → Notes f (us ++ u ∷ [])
+notes_none f us u e h = λ id. h id ∙ ap noted_as (sym (outcome-none id us u e))
 
-differs : (x id n : ℕ) → n ≤ x → id < n → eqb x id ≡ false
-differs x id n le lt = elim (eqb_tells x id) [ inl g ↦ absurd (omega (arith, le, lt, g.1)) | inr g ↦ g.0 ]
+is_gone : (o : Option Outcome) (p : Outcome) → is_some o ≡ true → o ≡ noted_as p → is_live p ≡ false
+is_gone o Live h e = absurd (let k : false ≡ true = ap is_some (sym e) ∙ h in cc)
+is_gone o Fulfilled h e = refl
+is_gone o Failed h e = refl
 
--- one that removes an HTLC past the table
-pub tells_past : (t : List Outcome) (us : List Update) (u : Update) (x : Removal) → removed u ≡ Some x → length t ≤ x.id
-    → Tells t us → Tells t (us ++ u ∷ [])
-tells_past t us u x e le h = λ id lt. h id lt ∙ sym (outcome-other id us u x e (differs x.id id (length t) le lt))
+pub none_so : (o : Option Outcome) → is_some o ≡ false → o ≡ None
+none_so None e = refl
+none_so (Some o) e = absurd (cc)
+
+is_there : (p : Outcome) → None ≡ noted_as p → p ≡ Live
+is_there Live e = refl
+is_there Fulfilled e = absurd (cc)
+is_there Failed e = absurd (cc)
 
 done_stays : (id : ℕ) (us : List Update) (u : Update) → is_live (outcome id us) ≡ false
     → outcome id us ≡ outcome id (us ++ u ∷ [])
@@ -34,24 +40,35 @@ done_stays id us u gone = sym (outcome-append id us (u ∷ [])
     ∙ ap (λ b. cond b (outcome id (u ∷ [])) (outcome id us)) gone)
 
 -- one that removes an HTLC that is gone
-pub tells_done : (t : List Outcome) (us : List Update) (u : Update) (x : Removal) → removed u ≡ Some x → x.id < length t
-    → is_live (get_or t x.id Live) ≡ false → Tells t us → Tells t (us ++ u ∷ [])
-tells_done t us u x e within gone h = λ id lt.
+pub notes_done : (f : ℕ → Option Outcome) (us : List Update) (u : Update) (x : Removal) → removed u ≡ Some x
+    → is_some (f x.id) ≡ true → Notes f us → Notes f (us ++ u ∷ [])
+notes_done f us u x e was h = λ id.
     elim (eqb_tells x.id id) [
-      | inl g ↦ h id lt ∙ done_stays id us u (subst (λ i. is_live (outcome i us) ≡ false) g.1
-          (ap is_live (sym (h x.id within)) ∙ gone))
-      | inr g ↦ h id lt ∙ sym (outcome-other id us u x e g.0)
+      | inl g ↦ h id ∙ ap noted_as (done_stays id us u (subst (λ i. is_live (outcome i us) ≡ false) g.1
+          (is_gone (f x.id) (outcome x.id us) was (h x.id))))
+      | inr g ↦ h id ∙ ap noted_as (sym (outcome-other id us u x e g.0))
     ]
 
+noted_done : (o : Outcome) → is_live o ≡ false → Some o ≡ noted_as o
+noted_done o gone = ap (λ b. cond b None (Some o)) (sym gone)
+
 -- one that removes a live HTLC
-pub tells_set : (t : List Outcome) (us : List Update) (u : Update) (x : Removal) → removed u ≡ Some x → x.id < length t
-    → get_or t x.id Live ≡ Live → Tells t us → Tells (set t x.id x.outcome) (us ++ u ∷ [])
-tells_set t us u x e within live h = λ id lt.
-    let inside : id < length t = subst (λ n. id < n) (length-set t x.id x.outcome) lt in
+pub notes_one : (f g : ℕ → Option Outcome) (us : List Update) (u : Update) (x : Removal) → removed u ≡ Some x
+    → f x.id ≡ None → Changes f g x.id x.outcome → Notes f us → Notes g (us ++ u ∷ [])
+notes_one f g us u x e was c h = λ id.
     elim (eqb_tells x.id id) [
-      | inl g ↦ subst (λ i. get_or (set t x.id x.outcome) i Live ≡ x.outcome) g.1
-          (get_or-set_same t x.id x.outcome Live within)
-          ∙ sym (outcome-hit id us u x e g.0 (sym (h id inside) ∙ subst (λ i. get_or t i Live ≡ Live) g.1 live))
-      | inr g ↦ get_or-set_other t x.id id x.outcome Live (λ same. g.1 (sym same)) ∙ h id inside
-          ∙ sym (outcome-other id us u x e g.0)
+      | inl t ↦ changed_here f g x.id id x.outcome c t.0 ∙ noted_done x.outcome (subst IsDone e (done u))
+          ∙ ap noted_as (sym (outcome-hit id us u x e t.0 (subst (λ i. outcome i us ≡ Live) t.1
+          (is_there (outcome x.id us) (sym was ∙ h x.id)))))
+      | inr t ↦ changed_not f g x.id id x.outcome c t.0 ∙ h id
+          ∙ ap noted_as (sym (outcome-other id us u x e t.0))
     ]
+
+-- what is noted tells what becomes of an HTLC
+pub none_told : (p : Outcome) → None ≡ noted_as p → Live ≡ p
+none_told p e = sym (is_there p e)
+
+pub some_told : (q p : Outcome) → Some q ≡ noted_as p → q ≡ p
+some_told q Live e = absurd (cc)
+some_told q Fulfilled e = cc
+some_told q Failed e = cc

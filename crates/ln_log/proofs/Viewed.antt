@@ -329,7 +329,7 @@ first_hit u us x e =
     ∙ hit_first x.id x (outcome x.id us) (subst IsDone e (done u)) refl
 
 -- a base that removes no HTLC that it doesn't offer removes its own
-narrow : (p adds before us all : List Update) → AreNumbered 0 p → all ≡ before ++ us
+pub narrow : (p adds before us all : List Update) → AreNumbered 0 p → all ≡ before ++ us
     → ((id : ℕ) → next_id p ≤ id → outcome id all ≡ Live) → AreRemovals adds before us → AreRemovals p before us
 narrow p adds before [] all ids e new h = tt
 narrow p adds before (u ∷ us) all ids e new h = (

@@ -15,9 +15,9 @@ use Rattle.ln_log.specs.Log.{Log, Counts, none, IsInOrder, after_propose, after_
 use Rattle.ln_log.specs.Log.{after_drop, count_of, counts_of, updates_of}
 use Rattle.ln_log.specs.Log.{first_of}
 use Rattle.ln_log.specs.Log.{before_first, between, IsWithin}
-use Rattle.ln_log.specs.Window.{lives, MayBeBase}
+use Rattle.ln_log.specs.Window.{lives, worth_of, first_worth, first_lives, MayBeBase}
 use Rattle.ln_log.specs.Kept.{Kept, IsWindowOf, kept_count, own_base, peer_base, whole}
-use Rattle.ln_log.specs.Kept.{IsWhole, kept_first, base_of}
+use Rattle.ln_log.specs.Kept.{IsWhole, kept_first, base_of, live_base}
 use Rattle.ln_log.proofs.Fronts.{behind_all}
 use Rattle.ln_log.proofs.Totals.{longer}
 use Rattle.ln_log.proofs.Stands.{side_length, between_is}
@@ -135,7 +135,7 @@ first_few k m s e =
       w.peer_current,
     )
 
-few : (k : Kept) (ps qs : List Update) (m : Log) → whole k ps qs ≡ m → IsWhole k ps qs
+pub few : (k : Kept) (ps qs : List Update) (m : Log) → whole k ps qs ≡ m → IsWhole k ps qs
     → (m.first.own ≤ m.signed.own) × (m.signed.own ≤ length m.own) × (m.first.peer ≤ m.current.peer)
     × (m.current.peer ≤ length m.received)
 few k ps qs m v h = first_few k m (kept_of k ps qs m m v h refl) (ap (λ (y : Log). y.first) v)
@@ -231,6 +231,19 @@ pub base_is : (x : Side) (k : Kept) (ps qs : List Update) (m : Log) → whole k 
     → base_of x k (record m { first = none }) ≡ before_first x m
 base_is side.Own k ps qs m v h = ap (λ (y : Log). take y.first.own m.own) v
 base_is side.Peer k ps qs m v h = ap (λ (y : Log). take y.first.peer m.received) v
+
+pub worth_whole : (k : Kept) (ps qs : List Update) (m : Log) → whole k ps qs ≡ m → IsWhole k ps qs
+    → k.worth ≡ first_worth m
+worth_whole k ps qs m v h =
+    (kept_of k ps qs m m v h refl).worth
+    ∙ ap (λ (y : Log). worth_of m.opening m.role (take y.first.own m.own) (take y.first.peer m.received)) v
+
+pub lives_whole : (x : Side) (k : Kept) (ps qs : List Update) (m : Log) → whole k ps qs ≡ m → IsWhole k ps qs
+    → live_base x k (record m { first = none }) ≡ first_lives x m
+lives_whole side.Own k ps qs m v h =
+    ap (λ (y : Log). lives (take y.first.own m.own) (take y.first.peer m.received)) v
+lives_whole side.Peer k ps qs m v h =
+    ap (λ (y : Log). lives (take y.first.peer m.received) (take y.first.own m.own)) v
 
 -- ---- the first update moves on
 

@@ -2,6 +2,7 @@
 -- has what they are worth and the HTLCs that are live there, and the updates behind them one by one. Whole lists are
 -- what every other definition speaks of.
 use Rattle.std.specs.Prelude.{◌≡◌, ℕ, ◌+◌, ◌-◌, ◌*◌, ◌≤◌, List, ◌++◌, length, take, drop}
+use Rattle.ln_history.specs.History.{History}
 use Rattle.ln_keys.specs.declared.role.Role.{Role}
 use Rattle.ln_log.specs.declared.opening.Opening.{Opening}
 use Rattle.ln_log.specs.declared.log.Pair.{Pair}
@@ -9,11 +10,13 @@ use Rattle.ln_log.specs.declared.log.Pair.TheVariants as pair
 use Rattle.ln_log.specs.declared.log.Side.{Side}
 use Rattle.ln_log.specs.declared.log.Side.TheVariants as side
 use Rattle.ln_log.specs.declared.standing.Standing.{Standing}
+use Rattle.ln_log.specs.declared.told.Origin.{Origin}
 use Rattle.ln_log.specs.declared.update.Update.{Update}
 use Rattle.ln_log.specs.Opening.{HasFunds}
 use Rattle.ln_log.specs.Limits.{most_updates}
 use Rattle.ln_log.specs.Log.{Log, Counts, none, opened, AllCounts, AreWithin, IsKept}
 use Rattle.ln_log.specs.Window.{Worth, lives, worth_of, IsClosed}
+use Rattle.ln_log.specs.Explained.{led_own, led_peer}
 
 pub record Kept : Type 0 where
   pub opening : Opening
@@ -99,6 +102,11 @@ abbrev pub base_of : Side → Kept → Log → List Update
 base_of side.Own k l = own_base k l
 base_of side.Peer k l = peer_base k l
 
+-- the HTLCs of a side that are live in the base
+abbrev pub live_base : Side → Kept → Log → List Update
+live_base side.Own k l = lives (own_base k l) (peer_base k l)
+live_base side.Peer k l = lives (peer_base k l) (own_base k l)
+
 -- the live HTLCs of the base, and the updates behind it up to so many
 abbrev pub front_of : Side → Kept → Log → ℕ → List Update
 front_of side.Own k l n = lives (own_base k l) (peer_base k l) ++ drop k.first.own (take n l.own)
@@ -125,6 +133,16 @@ pub record IsWindowOf (kept : Kept) (l : Log) : Type 0 where
   pub is_kept : IsKept l kept.own_standing kept.own_signed kept.peer_standing kept.peer_current
 
 -- ---- the log
+
+-- all updates of a side that aren't had one by one any more: those that a base leaves out with which the lists began,
+-- and those that have left the window since
+abbrev pub own_before : History Origin Update → List Update
+own_before h = led_own h.start.opening h.start.role h.start.base.updates h.start.base.worth h.start.base.own.items
+    h.start.base.peer.items ++ h.entries
+
+abbrev pub peer_before : History Origin Update → List Update
+peer_before h = led_peer h.start.opening h.start.role h.start.base.updates h.start.base.worth h.start.base.own.items
+    h.start.base.peer.items ++ h.entries
 
 -- the log of which this is kept, where these were the updates that aren't had one by one any more
 abbrev pub whole : Kept → List Update → List Update → Log

@@ -11,4 +11,7 @@ pub mod Log
 pub mod Loading
 pub mod Window
 pub mod Kept
+pub mod Explained
+pub mod Told
+pub mod Alike
 pub use Rattle.ln_msgs.specs.Refusals.Refusal

@@ -1,20 +1,25 @@
 -- What the beginnings of two lists leave behind: what they are worth, and their HTLCs that are still live. With the
 -- rest of the lists this is all that the whole lists say.
-use Rattle.std.specs.Prelude.{◌≡◌, ℕ, ◌+◌, ◌-◌, ◌≤◌, ◌<◌, ◌^◌, List, ◌++◌, map, take}
+use Rattle.std.specs.Prelude.{◌≡◌, ℕ, ◌+◌, ◌-◌, ◌≤◌, ◌<◌, ◌^◌, List, ◌++◌, map, take, Bool, true, ◌&&◌}
+use Rattle.std.specs.Prelude.{nat_lt, nat_le, Option, Some, None, if◌then◌else◌}
+use Rattle.std.specs.List.{list_all}
 use Rattle.ln_keys.specs.declared.role.Role.{Role}
 use Rattle.ln_keys.specs.declared.role.Role.TheVariants.{Funder, Fundee}
 use Rattle.ln_keys.specs.Role.{other_role}
 use Rattle.ln_log.specs.declared.opening.Opening.{Opening}
+use Rattle.ln_log.specs.declared.log.Side.{Side}
+use Rattle.ln_log.specs.declared.log.Side.TheVariants as side
 use Rattle.ln_log.specs.declared.outcome.Outcome.TheVariants.{Live}
+use Rattle.ln_log.specs.declared.update.Removal.{Removal}
 use Rattle.ln_log.specs.declared.update.Update.{Update}
 use Rattle.ln_log.specs.declared.worth.Worth as declared
 use Rattle.ln_log.specs.declared.worth.Balances.{Balances}
 use Rattle.ln_log.specs.declared.update.Update.TheVariants as update
 use Rattle.ln_log.specs.Opening.{first_balance}
-use Rattle.ln_log.specs.Updates.{next_id, outcome, total, is_any, is_failed, is_fulfilled, last_feerate}
+use Rattle.ln_log.specs.Updates.{next_id, removed, outcome, total, is_any, is_failed, is_fulfilled, last_feerate}
 use Rattle.ln_log.specs.View.{balance, live_adds, htlc_of}
 use Rattle.ln_keys.specs.declared.view.View.{View}
-use Rattle.ln_log.specs.Log.{Log, Counts, AreNumbered, BothPay}
+use Rattle.ln_log.specs.Log.{Log, Counts, before_first, AreNumbered, BothPay}
 
 -- the HTLCs of one side that the other hasn't removed, as the updates that offered them
 abbrev pub lives : List Update → List Update → List Update
@@ -78,6 +83,52 @@ pub record MayBeBase (l : Log) (to : Counts) : Type 0 where
   pub peer_first : l.first.peer ≤ to.peer
   pub peer_acknowledged : to.peer ≤ l.acknowledged.peer
   pub closed : IsClosed l.opening l.role (take to.own l.own) (take to.peer l.received)
+
+-- ---- the same as a test, which `UpdateLog::advance` proves exact
+
+-- an update that removes an HTLC removes one below this id
+abbrev pub is_below : ℕ → Option Removal → Bool
+is_below next None = true
+is_below next (Some r) = nat_lt r.id next
+
+abbrev pub remove_below : ℕ → List Update → Bool
+remove_below next us = list_all (λ u. is_below next (removed u)) us
+
+-- the side that offered own hasn't spent more than it had
+abbrev pub pays : ℕ → List Update → List Update → Bool
+pays first own peer =
+    nat_le (total is_any own peer) (first + total is_failed own peer + total is_fulfilled peer own)
+
+abbrev pub are_closed : Opening → Role → List Update → List Update → Bool
+are_closed o x own peer =
+    remove_below (next_id own) peer
+    && (remove_below (next_id peer) own
+    && (pays (first_balance o x) own peer && pays (first_balance o (other_role x)) peer own))
+
+abbrev pub may_be_base : Log → Counts → Bool
+may_be_base l to =
+    nat_le l.first.own to.own
+    && (nat_le to.own l.current.own
+    && (nat_le l.first.peer to.peer
+    && (nat_le to.peer l.acknowledged.peer
+    && are_closed l.opening l.role (take to.own l.own) (take to.peer l.received))))
+
+-- the base moves on to these counts, where it may
+abbrev pub moved_base : Counts → Log → Counts
+moved_base to l = if may_be_base l to then to else l.first
+
+abbrev pub after_advance : Counts → Log → Log
+after_advance to l = record l { first = moved_base to l }
+
+-- ---- behind a base
+-- of the updates of a log that aren't had one by one any more, what they are worth, and the HTLCs of a side that are
+-- live behind them
+abbrev pub first_worth : Log → Worth
+first_worth l = worth_of l.opening l.role (before_first side.Own l) (before_first side.Peer l)
+
+abbrev pub first_lives : Side → Log → List Update
+first_lives side.Own l = lives (before_first side.Own l) (before_first side.Peer l)
+first_lives side.Peer l = lives (before_first side.Peer l) (before_first side.Own l)
 
 -- the rest of two lists behind such beginnings: its ids go on where theirs end
 pub record GoesOn (o : Opening) (x : Role) (own_base own peer_base peer : List Update) : Type 0 where

@@ -10,6 +10,7 @@ use crate::log::{Counts, Side, UpdateLog};
 use crate::log_window::Window;
 use crate::plain::{count_adds, last_feerate, live_add, sums_of};
 use crate::removals::Outcomes;
+use crate::told::Origin;
 use crate::update::{Update, copy_update, removal_of};
 use crate::worth::Worth;
 use ln_history::Past;
@@ -76,8 +77,8 @@ fn balance_left(
         → IfOk result (λ o. is_some o ≡ true) }
     ensures fails_for_memory_alone { IsOkUnless result Refusal.Memory }
 {
-    let of_own = Outcomes::new(alloc, all.len(), peer_new)?;
-    let of_peer = Outcomes::new(alloc, peer_all.len(), new)?;
+    let of_own = Outcomes::new(alloc, peer_new)?;
+    let of_peer = Outcomes::new(alloc, new)?;
     let out = sums_of(all, &of_own);
     let back = sums_of(peer_all, &of_peer);
     let spent = sums_of(new, &of_own);
@@ -154,14 +155,14 @@ fn live_part(alloc: Global, updates: &[Update], removals: &[Update]) -> Result<V
     ensures live { IfOk result (λ v. v.items ≡ lives updates.now removals.now) }
     ensures fails_for_memory_alone { IsOkUnless result Refusal.Memory }
 {
-    let outcomes = Outcomes::new(alloc, updates.len(), removals)?;
+    let outcomes = Outcomes::new(alloc, removals)?;
     let mut live = Vec::new(alloc);
     keep_live(&mut live, updates, &outcomes)?;
     Ok(live)
 }
 
 // Puts copies of these behind a list.
-fn append(alloc: Global, list: &mut Vec<Update>, rest: &[Update]) -> Result<(), Refusal>
+pub(crate) fn append(alloc: Global, list: &mut Vec<Update>, rest: &[Update]) -> Result<(), Refusal>
     ensures appends_them { OnOk result (list.new.items ≡ list.old.items ++ rest.now) }
     ensures fails_for_memory_alone { IsOkUnless result Refusal.Memory }
 {
@@ -224,8 +225,9 @@ impl Window {
 }
 
 // With these entered, one after the other.
-fn with_all(past: &Past<(), Update>, updates: &[Update]) -> Past<(), Update>
-    ensures { result.told.entries ≡ past.now.told.entries ++ updates.now }
+fn with_all(past: &Past<Origin, Update>, updates: &[Update]) -> Past<Origin, Update>
+    ensures same_start { result.told.start ≡ past.now.told.start }
+    ensures enters_them { result.told.entries ≡ past.now.told.entries ++ updates.now }
 {
     let mut grown = past.same();
     for update in updates {
@@ -254,18 +256,19 @@ impl Window {
 }
 
 impl UpdateLog {
-    ghost use Rattle.std.specs.Prelude.{◌≡◌, ◌↔◌, IsTrue, IfOk, OnErr, false};
+    ghost use Rattle.std.specs.Prelude.{◌≡◌, ◌↔◌, IsTrue, IfOk, OnOk, OnErr};
     ghost use Rattle.std.specs.Result.{IsOkUnless};
-    ghost use Rattle.ln_log.specs.Window.{MayBeBase};
+    ghost use Rattle.ln_log.specs.Window.{MayBeBase, may_be_base, after_advance};
 
     /// Moves `first` on to so many updates of both sides, where these stand in each commitment, remove no HTLC that
     /// they don't offer, and neither side has spent more than it had by them; answers whether it did. The updates
     /// before `first` aren't kept one by one any more; what they are worth is, and their HTLCs that are live. Takes
-    /// time that grows linearly with what is kept. 60 where there was no memory; then nothing has changed.
+    /// time that grows linearly with what is kept, but for finding HTLCs by their ids in a map. 60 where there was no
+    /// memory; then nothing has changed.
     pub fn advance(&mut self, alloc: Global, to: Counts) -> Result<bool, Refusal>
         ensures exactly { IfOk result (λ b. IsTrue b ↔ MayBeBase self.old to) }
-        ensures moves { IfOk result (λ b. IsTrue b → self.new ≡ record self.old { first = to }) }
-        ensures changes_nothing_else { IfOk result (λ b. b ≡ false → self.new ≡ self.old) }
+        ensures by_its_test { IfOk result (λ b. b ≡ may_be_base self.old to) }
+        ensures moves_where_it_may { OnOk result (self.new ≡ after_advance to self.old) }
         ensures changes_nothing_if_refused { OnErr result (self.new ≡ self.old) }
         ensures fails_for_memory_alone { IsOkUnless result Refusal.Memory }
     {

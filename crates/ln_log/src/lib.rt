@@ -3,7 +3,10 @@
 #![tactic(auto)]
 
 mod base;
+mod fates;
 mod laws;
+mod lead;
+mod led;
 mod loading;
 mod log;
 mod log_window;
@@ -12,13 +15,21 @@ mod opening;
 mod outcome;
 mod plain;
 mod removals;
+mod removed;
 mod standing;
+mod told;
 mod update;
 mod window;
 mod worth;
 
 pub use laws::{
     limits_are_rules, moves_exactly, propose_exactly, shut_exactly, sign_exactly, views_as_sent,
+};
+pub use lead::may_be_led_to;
+pub use led::{
+    a_base_is_led_to, a_record_tells_of_lists, a_record_without_a_base_has_all_updates,
+    alike_lists_are_not_told_apart, updates_lead_to_what_may_be_led_to, what_is_told_has_worth,
+    what_is_told_of_a_log_restores_it,
 };
 pub use ln_keys::{Htlc, Htlcs, Role, View};
 pub use loading::Coverage;
@@ -30,8 +41,11 @@ pub use plain::{
     Sums, add_of, conservation, count_adds, find_add, last_feerate, live_count, plain_view, sums_of,
 };
 pub use removals::{Outcomes, outcome_of};
+pub use removed::removed_ids;
 pub use standing::{Standing, add_refusal, update_refusal};
+pub use told::Base;
 pub use update::{
     Add, ChannelId, Fail, Fee, Fulfil, Malformed, Removal, Update, copy_update, removal_of,
 };
 pub use window::{base_and_window_tell_all, removals_look_at_live_htlcs};
+pub use worth::Worth;

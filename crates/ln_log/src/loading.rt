@@ -1,25 +1,26 @@
 //! A log from what the record of a channel tells of its updates.
 
-ghost use Rattle.std.specs.Prelude.{◌≡◌, ◌≤◌, ◌+◌, ◌↔◌, List, [], length, IsTrue, IfOk, take};
+ghost use Rattle.std.specs.Prelude.{◌≡◌, ◌≤◌, ◌<◌, ◌+◌, ◌-◌, ◌*◌, ◌^◌, ◌++◌, ◌↔◌, length, IsTrue, IfOk, take};
 ghost use Rattle.std.specs.Result.{IsOkUnless};
-ghost use Rattle.ln_keys.specs.declared.role.Role.{Role};
-ghost use Rattle.ln_log.specs.declared.update.Update.{Update};
-ghost use Rattle.ln_log.specs.Opening.{HasFunds, first_balance};
-ghost use Rattle.ln_log.specs.Updates.{next_id, removed, is_any, is_live, is_failed, is_fulfilled, total};
-ghost use Rattle.ln_log.specs.Limits.{standing_of};
-ghost use Rattle.ln_log.specs.Outcomes.{Tells};
-ghost use Rattle.ln_log.specs.View.{Pays};
-ghost use Rattle.ln_log.specs.Log.{AreNumbered, RemovesLive, AreRemovals, AreWithin};
-ghost use Rattle.ln_log.specs.Loading.{stored, IsLawful, AreOffered, CoverAll, AreInOrder, AreLawful, IsReadable};
+ghost use Rattle.ln_log.specs.Opening.{HasFunds};
+ghost use Rattle.ln_log.specs.Updates.{is_any, is_live, is_failed, is_fulfilled, total};
+ghost use Rattle.ln_log.specs.View.{live_adds};
+ghost use Rattle.ln_log.specs.Log.{AreNumbered, AreWithin};
+ghost use Rattle.ln_log.specs.Window.{PaysBehind};
+ghost use Rattle.ln_log.specs.Told.{told, as_offered, standing_after, StandingFits, AreCounted, AreInPlace};
+ghost use Rattle.ln_log.specs.Told.{AreLawfulBehind, IsLawfulUpTo};
 
-use crate::log::{Counts, MOST_UPDATES, UpdateLog};
+use crate::base::append;
+use crate::fates::are_removals;
+use crate::lead::may_be_led_to;
+use crate::log::{Counts, MOST_UPDATES, Pair, UpdateLog};
 use crate::log_window::Window;
 use crate::opening::Opening;
-use crate::outcome::Outcome;
-use crate::plain::{add_of, count_adds, sums_of};
-use crate::removals::{Outcomes, count_removals, note_removal};
+use crate::plain::{add_of, count_adds, live_add, sums_of};
+use crate::removals::Outcomes;
 use crate::standing::Standing;
-use crate::update::{Update, removal_of};
+use crate::told::{Base, Origin};
+use crate::update::{Add, Update};
 use crate::worth::Worth;
 use ln_history::Past;
 use ln_keys::Role;
@@ -37,11 +38,14 @@ pub struct Coverage {
     pub current: Counts,
 }
 
-// Whether the HTLCs that these updates offer have the ids 0, 1 and so on.
-fn are_numbered(updates: &[Update]) -> bool
-    ensures { IsTrue result ↔ AreNumbered 0 updates.now }
+// ---- ids, amounts and counts
+
+// Whether the HTLCs that these updates offer have this id, the next one and so on.
+fn are_numbered(first: u64, updates: &[Update]) -> bool
+    requires { first + length updates.now < 2 ^ 64 }
+    ensures { IsTrue result ↔ AreNumbered first updates.now }
 {
-    let mut next = 0u64;
+    let mut next = first;
     for update in updates {
         match add_of(update) {
             None => {}
@@ -73,51 +77,95 @@ fn are_within(most: u64, updates: &[Update]) -> bool
     true
 }
 
-// Whether a side may have offered these.
-fn are_offered(opening: &Opening, updates: &[Update]) -> bool
-    requires { HasFunds opening.now }
-    ensures { IsTrue result ↔ AreOffered opening.now updates.now }
+// Whether a side may have offered these behind a base.
+fn are_offered(opening: &Opening, first: u64, updates: &[Update]) -> bool
+    requires funds { HasFunds opening.now }
+    requires few { first + length updates.now < 2 ^ 64 }
+    ensures { IsTrue result ↔ (AreNumbered first updates.now × AreWithin (1000 * opening.now.satoshis) updates.now) }
 {
-    updates.len() as u64 <= MOST_UPDATES
-        && are_numbered(updates)
-        && are_within(1000 * opening.satoshis, updates)
+    are_numbered(first, updates) && are_within(1000 * opening.satoshis, updates)
 }
 
-// Whether an update removes nothing, or an HTLC that stands live in a table of all that were offered.
-fn removes_live(by_id: &[Outcome], update: &Update) -> bool
-    ensures { (adds before : List Update) → AreNumbered 0 adds → length by_id.now ≡ next_id adds
-        → Tells by_id.now before → (IsTrue result ↔ RemovesLive adds before (removed update.now)) }
+// Whether the base is held as irrevocably committed, the counts lie within one another, and the last signatures of both
+// sides cover all updates: so many of either side behind the base.
+fn counts_fit(updates: &Counts, coverage: &Coverage, own: usize, received: usize) -> bool
+    ensures { IsTrue result ↔ AreCounted updates.now coverage.now.signed coverage.now.acknowledged
+        coverage.now.current own received }
 {
-    match removal_of(update) {
-        None => true,
-        Some(removal) => {
-            if removal.id >= by_id.len() as u64 {
-                return false;
-            }
-            match by_id[removal.id as usize] {
-                Outcome::Live => true,
-                Outcome::Fulfilled => false,
-                Outcome::Failed => false,
-            }
-        }
+    updates.own <= coverage.current.own
+        && coverage.current.own <= coverage.acknowledged.own
+        && coverage.acknowledged.own <= coverage.signed.own
+        && coverage.signed.own as u128 == updates.own as u128 + own as u128
+        && coverage.signed.own as u64 <= MOST_UPDATES
+        && updates.peer <= coverage.acknowledged.peer
+        && coverage.acknowledged.peer <= coverage.signed.peer
+        && coverage.signed.peer <= coverage.current.peer
+        && coverage.current.peer as u128 == updates.peer as u128 + received as u128
+        && coverage.current.peer as u64 <= MOST_UPDATES
+}
+
+// Whether the base is one that updates lead to, and ids, amounts and counts are as a channel with these funds can have
+// them behind it.
+fn are_in_place(
+    opening: &Opening,
+    role: Role,
+    base: &Base,
+    own: &[Update],
+    received: &[Update],
+    coverage: &Coverage,
+) -> bool
+    ensures { IsTrue result ↔ AreInPlace (told opening.now role base.now own.now received.now coverage.now) }
+{
+    if !opening.has_funds() {
+        return false;
     }
+    if !counts_fit(&base.updates, coverage, own.len(), received.len()) {
+        return false;
+    }
+    let own_lives = base.own.as_slice();
+    let peer_lives = base.peer.as_slice();
+    if !may_be_led_to(
+        opening,
+        role,
+        &base.updates,
+        &base.worth,
+        own_lives,
+        peer_lives,
+    ) {
+        return false;
+    }
+    are_offered(opening, base.worth.next_own, own)
+        && are_offered(opening, base.worth.next_peer, received)
 }
 
-// Whether each of these that removes an HTLC removes one that was offered and that none before it removes.
-fn are_removals(alloc: Global, adds: &[Update], updates: &[Update]) -> Result<bool, Refusal>
-    requires { AreNumbered 0 adds.now }
-    ensures tells_it { IfOk result (λ b. IsTrue b ↔ AreRemovals adds.now [] updates.now) }
+// ---- views
+
+// The HTLCs that are live in a base, as the updates that offered them.
+#[derive(Drop)]
+struct Lives {
+    own: Vec<Update>,
+    peer: Vec<Update>,
+}
+
+fn as_offered(alloc: Global, adds: &[Add]) -> Result<Vec<Update>, Refusal>
+    ensures offers_them { IfOk result (λ v. v.items ≡ as_offered adds.now) }
     ensures fails_for_memory_alone { IsOkUnless result Refusal.Memory }
 {
-    let mut by_id = Vec::new(alloc);
-    by_id.resize(count_adds(adds), Outcome::Live)?;
-    for update in updates {
-        if !removes_live(by_id.as_slice(), update) {
-            return Ok(false);
-        }
-        note_removal(&mut by_id, update);
+    let mut updates = Vec::new(alloc);
+    for add in adds {
+        updates.push(Update::Add(*add))?;
     }
-    Ok(true)
+    Ok(updates)
+}
+
+fn lives_of(alloc: Global, base: &Base) -> Result<Lives, Refusal>
+    ensures own { IfOk result (λ l. l.own.items ≡ as_offered base.now.own.items) }
+    ensures peer { IfOk result (λ l. l.peer.items ≡ as_offered base.now.peer.items) }
+    ensures fails_for_memory_alone { IsOkUnless result Refusal.Memory }
+{
+    let own = as_offered(alloc, base.own.as_slice())?;
+    let peer = as_offered(alloc, base.peer.as_slice())?;
+    Ok(Lives { own, peer })
 }
 
 // What a side had and got, what it offered, and what of that is in flight, all in millisatoshi.
@@ -128,172 +176,191 @@ struct Account {
     in_flight: u128,
 }
 
-// The account of a side that had so much first and offered these, behind these of the other side's.
-#[tactic(auto, using(crate::proofs::Totals::total_splits))]
+// The account of a side that had so much and these live HTLCs in a base, and offered these behind it, where the other
+// side had those and offered those.
+#[tactic(auto, using(crate::proofs::Totals::total_splits, crate::proofs::Restored::total_both))]
 fn account_of(
     alloc: Global,
-    first: u64,
+    had: u64,
+    lives: &[Update],
     own: &[Update],
+    lives_peer: &[Update],
     peer: &[Update],
 ) -> Result<Account, Refusal>
-    ensures got { IfOk result (λ a. a.got ≡ first + total is_failed own.now peer.now
-        + total is_fulfilled peer.now own.now) }
+    ensures got { IfOk result (λ a. a.got ≡ had + total is_failed (lives.now ++ own.now) peer.now
+        + total is_fulfilled (lives_peer.now ++ peer.now) own.now) }
     ensures spent { IfOk result (λ a. a.spent ≡ total is_any own.now peer.now) }
-    ensures in_flight { IfOk result (λ a. a.in_flight ≡ total is_live own.now peer.now) }
+    ensures in_flight { IfOk result (λ a. a.in_flight ≡ total is_live (lives.now ++ own.now) peer.now) }
     ensures fails_for_memory_alone { IsOkUnless result Refusal.Memory }
 {
-    let of_own = Outcomes::new(alloc, own.len(), peer)?;
-    let of_peer = Outcomes::new(alloc, peer.len(), own)?;
+    let of_own = Outcomes::new(alloc, peer)?;
+    let of_peer = Outcomes::new(alloc, own)?;
     let out = sums_of(own, &of_own);
     let back = sums_of(peer, &of_peer);
+    let base_out = sums_of(lives, &of_own);
+    let base_back = sums_of(lives_peer, &of_peer);
+    let flying = out.offered - out.failed - out.fulfilled;
+    let base_flying = base_out.offered - base_out.failed - base_out.fulfilled;
     Ok(Account {
-        got: u128::from(first) + out.failed + back.fulfilled,
+        got: u128::from(had) + base_out.failed + out.failed + base_back.fulfilled + back.fulfilled,
         spent: out.offered,
-        in_flight: out.offered - out.failed - out.fulfilled,
+        in_flight: base_flying + flying,
     })
 }
 
-// Whether a side hasn't spent more than it had.
-fn pays(alloc: Global, first: u64, own: &[Update], peer: &[Update]) -> Result<bool, Refusal>
-    ensures tells_it { IfOk result (λ b. IsTrue b ↔ Pays first own.now peer.now) }
+// Whether a side can pay what it offered behind a base.
+fn pays(
+    alloc: Global,
+    had: u64,
+    lives: &[Update],
+    own: &[Update],
+    lives_peer: &[Update],
+    peer: &[Update],
+) -> Result<bool, Refusal>
+    ensures tells_it { IfOk result (λ b. IsTrue b ↔ PaysBehind had lives.now own.now lives_peer.now peer.now) }
     ensures fails_for_memory_alone { IsOkUnless result Refusal.Memory }
 {
-    let account = account_of(alloc, first, own, peer)?;
+    let account = account_of(alloc, had, lives, own, lives_peer, peer)?;
     Ok(account.spent <= account.got)
 }
 
-// Whether the view of these lists is lawful.
+// Whether the view of these lists behind a base is lawful.
 fn is_lawful(
     alloc: Global,
-    opening: &Opening,
-    role: Role,
+    worth: &Worth,
+    lives: &Lives,
     own: &[Update],
     peer: &[Update],
 ) -> Result<bool, Refusal>
-    requires funds { HasFunds opening.now }
-    requires own_ids { AreNumbered 0 own.now }
-    requires peer_ids { AreNumbered 0 peer.now }
-    ensures tells_it { IfOk result (λ b. IsTrue b ↔ IsLawful opening.now role (record {
-      own = own.now;
-      peer = peer.now;
-    })) }
+    ensures tells_it { IfOk result (λ b. IsTrue b ↔ AreLawfulBehind worth.now lives.now.own.items own.now
+        lives.now.peer.items peer.now) }
     ensures fails_for_memory_alone { IsOkUnless result Refusal.Memory }
 {
-    if !are_removals(alloc, peer, own)? || !are_removals(alloc, own, peer)? {
+    let own_lives = lives.own.as_slice();
+    let peer_lives = lives.peer.as_slice();
+    if !are_removals(alloc, peer_lives, peer, own)? || !are_removals(alloc, own_lives, own, peer)? {
         return Ok(false);
     }
-    if !pays(alloc, opening.first_balance(role), own, peer)? {
+    if !pays(alloc, worth.own, own_lives, own, peer_lives, peer)? {
         return Ok(false);
     }
-    pays(alloc, opening.first_balance(role.other()), peer, own)
-}
-
-// Whether these counts lie within lists of these lengths and within one another, and cover all of them.
-fn cover_all(coverage: &Coverage, own: usize, received: usize) -> bool
-    ensures { (o : Opening) (x : Role) (os rs : List Update) → length os ≡ own → length rs ≡ received
-        → (IsTrue result ↔ CoverAll (stored o x os rs coverage.now)) }
-{
-    coverage.current.own <= coverage.acknowledged.own
-        && coverage.acknowledged.own <= coverage.signed.own
-        && coverage.signed.own == own
-        && coverage.acknowledged.peer <= coverage.signed.peer
-        && coverage.signed.peer <= coverage.current.peer
-        && coverage.current.peer == received
-}
-
-// Whether ids, amounts and counts are as a channel with these funds can have them.
-fn are_in_order(opening: &Opening, own: &[Update], received: &[Update], coverage: &Coverage) -> bool
-    ensures { (x : Role) → (IsTrue result ↔ AreInOrder (stored opening.now x own.now received.now coverage.now)) }
-{
-    if !opening.has_funds() {
-        return false;
-    }
-    if !cover_all(coverage, own.len(), received.len()) {
-        return false;
-    }
-    are_offered(opening, own) && are_offered(opening, received)
-}
-
-// How a side stands that offered these behind these of the other side's.
-fn standing_of(
-    alloc: Global,
-    opening: &Opening,
-    side: Role,
-    own: &[Update],
-    peer: &[Update],
-) -> Result<Standing, Refusal>
-    requires funds { HasFunds opening.now }
-    requires ids { AreNumbered 0 own.now }
-    requires lawful { IsLawful opening.now side (record { own = own.now; peer = peer.now }) }
-    ensures gives_the_standing { IfOk result (λ s. s ≡ standing_of (first_balance opening.now side) own.now peer.now) }
-    ensures fails_for_memory_alone { IsOkUnless result Refusal.Memory }
-{
-    let account = account_of(alloc, opening.first_balance(side), own, peer)?;
-    let offered = count_adds(own);
-    Ok(Standing {
-        next_id: offered as u64,
-        live: (offered - count_removals(peer)) as u64,
-        in_flight: account.in_flight as u64,
-        balance: (account.got - account.spent) as u64,
-    })
+    pays(alloc, worth.peer, peer_lives, peer, own_lives, own)
 }
 
 // Whether the view of what so many updates of both sides cover is lawful.
 fn covers_lawfully(
     alloc: Global,
-    opening: &Opening,
-    role: Role,
+    base: &Base,
+    lives: &Lives,
     own: &[Update],
     received: &[Update],
     counts: Counts,
 ) -> Result<bool, Refusal>
-    requires funds { HasFunds opening.now }
-    requires own_ids { AreNumbered 0 own.now }
-    requires peer_ids { AreNumbered 0 received.now }
-    requires own_within { counts.own ≤ length own.now }
-    requires peer_within { counts.peer ≤ length received.now }
-    ensures tells_it { IfOk result (λ b. IsTrue b ↔ IsLawful opening.now role
-        (record { own = take counts.own own.now; peer = take counts.peer received.now })) }
+    requires own_behind { base.now.updates.own ≤ counts.own }
+    requires own_within { counts.own ≤ base.now.updates.own + length own.now }
+    requires peer_behind { base.now.updates.peer ≤ counts.peer }
+    requires peer_within { counts.peer ≤ base.now.updates.peer + length received.now }
+    ensures tells_it { IfOk result (λ b. IsTrue b ↔ AreLawfulBehind base.now.worth lives.now.own.items
+        (take (counts.own - base.now.updates.own) own.now) lives.now.peer.items
+        (take (counts.peer - base.now.updates.peer) received.now)) }
     ensures fails_for_memory_alone { IsOkUnless result Refusal.Memory }
 {
     is_lawful(
         alloc,
-        opening,
-        role,
-        &own[..counts.own],
-        &received[..counts.peer],
+        &base.worth,
+        lives,
+        &own[..counts.own - base.updates.own],
+        &received[..counts.peer - base.updates.peer],
     )
 }
 
 // Whether the views of all three are lawful. Those of the next signature and of the next one taken are so with them.
 fn views_are_lawful(
     alloc: Global,
-    opening: &Opening,
-    role: Role,
+    base: &Base,
     own: &[Update],
     received: &[Update],
     coverage: &Coverage,
 ) -> Result<bool, Refusal>
-    requires { AreInOrder (stored opening.now role own.now received.now coverage.now) }
-    ensures tells_it { IfOk result (λ b. IsTrue b ↔ AreLawful (stored opening.now role own.now received.now
-        coverage.now)) }
+    requires { AreCounted base.now.updates coverage.now.signed coverage.now.acknowledged coverage.now.current
+        (length own.now) (length received.now) }
+    ensures tells_it { IfOk result (λ b. IsTrue b ↔ (IsLawfulUpTo base.now own.now received.now coverage.now.signed
+        × IsLawfulUpTo base.now own.now received.now coverage.now.acknowledged
+        × IsLawfulUpTo base.now own.now received.now coverage.now.current)) }
     ensures fails_for_memory_alone { IsOkUnless result Refusal.Memory }
 {
-    if !covers_lawfully(alloc, opening, role, own, received, coverage.signed)? {
+    let lives = lives_of(alloc, base)?;
+    if !covers_lawfully(alloc, base, &lives, own, received, coverage.signed)? {
         return Ok(false);
     }
-    if !covers_lawfully(alloc, opening, role, own, received, coverage.acknowledged)? {
+    if !covers_lawfully(alloc, base, &lives, own, received, coverage.acknowledged)? {
         return Ok(false);
     }
-    covers_lawfully(alloc, opening, role, own, received, coverage.current)
+    covers_lawfully(alloc, base, &lives, own, received, coverage.current)
+}
+
+// ---- a log
+
+// How many HTLCs these offer that the other side hasn't removed.
+fn count_live(adds: &[Update], outcomes: &Outcomes) -> usize
+    ensures count { result ≡ length (live_adds adds.now outcomes.now) }
+    ensures at_most_the_updates { result ≤ length adds.now }
+{
+    let mut count = 0usize;
+    for update in adds {
+        if live_add(update, outcomes).is_some() {
+            count += 1;
+        }
+    }
+    count
+}
+
+// How a side stands that had this next id, so much and these live HTLCs in a base, and offered these behind it.
+fn standing_behind(
+    alloc: Global,
+    next: u64,
+    had: u64,
+    lives: &[Update],
+    own: &[Update],
+    lives_peer: &[Update],
+    peer: &[Update],
+) -> Result<Standing, Refusal>
+    requires { StandingFits next had lives.now own.now lives_peer.now peer.now }
+    ensures gives_the_standing { IfOk result (λ s. s
+        ≡ standing_after next had lives.now own.now lives_peer.now peer.now) }
+    ensures fails_for_memory_alone { IsOkUnless result Refusal.Memory }
+{
+    let account = account_of(alloc, had, lives, own, lives_peer, peer)?;
+    let outcomes = Outcomes::new(alloc, peer)?;
+    let live = count_live(lives, &outcomes) as u64 + count_live(own, &outcomes) as u64;
+    Ok(Standing {
+        next_id: next + count_adds(own) as u64,
+        live,
+        in_flight: account.in_flight as u64,
+        balance: (account.got - account.spent) as u64,
+    })
+}
+
+// The live HTLCs of a base, and the updates behind it.
+fn joined(alloc: Global, lives: Vec<Update>, updates: Vec<Update>) -> Result<Vec<Update>, Refusal>
+    ensures joins_them { IfOk result (λ v. v.items ≡ lives.items ++ updates.items) }
+    ensures fails_for_memory_alone { IsOkUnless result Refusal.Memory }
+{
+    if lives.is_empty() {
+        return Ok(updates);
+    }
+    let mut all = lives;
+    append(alloc, &mut all, updates.as_slice())?;
+    Ok(all)
 }
 
 impl Window {
     ghost use Rattle.std.specs.Prelude.{◌≡◌, IfOk, take};
     ghost use Rattle.std.specs.Result.{IsOkUnless};
-    ghost use Rattle.ln_log.specs.Log.{Log, none, opened};
-    ghost use Rattle.ln_log.specs.Kept.{IsWindowOf, kept_counts, kept_opening};
+    ghost use Rattle.ln_log.specs.Log.{Log, none, after_drop};
+    ghost use Rattle.ln_log.specs.Kept.{IsWindowOf};
     ghost use Rattle.ln_log.specs.Loading.{stored, IsReadable};
+    ghost use Rattle.ln_log.specs.Told.{told, told_of, kept_of, IsRestorable};
 
     // What the three commitments cover.
     pub(crate) fn coverage(&self) -> Coverage
@@ -301,6 +368,8 @@ impl Window {
             → stored l.opening l.role l.own l.received result ≡ record l { first = none } }
         ensures can_be_loaded { (l : Log) → IsWindowOf self.now l → IsReadable
             (stored l.opening l.role (take l.signed.own l.own) (take l.current.peer l.received) result) }
+        ensures can_be_restored { (l : Log) → IsWindowOf self.now l
+            → IsRestorable (told_of self.now.first (after_drop l)) }
     {
         // (a list that lies in memory has no more than 2^62 updates)
         let _ = self.own.as_slice().len();
@@ -312,43 +381,56 @@ impl Window {
         }
     }
 
-    // Of a log of what a record tells, whose base is empty. 60 where there was no memory.
+    // Of a log of what a record tells. 60 where there was no memory.
     pub(crate) fn load(
         alloc: Global,
         opening: Opening,
         role: Role,
+        base: &Base,
         own: Vec<Update>,
         received: Vec<Update>,
         coverage: Coverage,
     ) -> Result<Window, Refusal>
-        requires { IsReadable (stored opening role own.items received.items coverage) }
-        ensures stands_for_the_lists { IfOk result (λ l. IsWindowOf l (stored opening role own.items received.items
-            coverage)) }
-        ensures counts { IfOk result (λ l. kept_counts l ≡ record {
-          first = none;
-          signed = coverage.signed;
-          acknowledged = coverage.acknowledged;
-          current = coverage.current;
-        }) }
-        ensures opening { IfOk result (λ l. kept_opening l ≡ opened opening role) }
+        requires { IsRestorable (told opening role base.now own.items received.items coverage) }
+        ensures keeps_what_is_told { IfOk result (λ k. k
+            ≡ kept_of (told opening role base.now own.items received.items coverage)) }
         ensures fails_for_memory_alone { IsOkUnless result Refusal.Memory }
     {
-        let own_standing = standing_of(alloc, &opening, role, &own, &received)?;
-        let acknowledged = &own[..coverage.acknowledged.own];
-        let peer_standing = standing_of(alloc, &opening, role.other(), &received, acknowledged)?;
-        let none = Counts { own: 0, peer: 0 };
-        let worth = Worth {
-            next_own: 0,
-            next_peer: 0,
-            own: opening.first_balance(role),
-            peer: opening.first_balance(role.other()),
-            feerate: opening.feerate,
+        let Lives {
+            own: own_lives,
+            peer: peer_lives,
+        } = lives_of(alloc, base)?;
+        let acknowledged = &own[..coverage.acknowledged.own - base.updates.own];
+        let worth = base.worth;
+        let own_standing = standing_behind(
+            alloc,
+            worth.next_own,
+            worth.own,
+            &own_lives,
+            &own,
+            &peer_lives,
+            &received,
+        )?;
+        let peer_standing = standing_behind(
+            alloc,
+            worth.next_peer,
+            worth.peer,
+            &peer_lives,
+            &received,
+            &own_lives,
+            acknowledged,
+        )?;
+        let live = Counts {
+            own: base.own.len(),
+            peer: base.peer.len(),
         };
+        let own = joined(alloc, own_lives, own)?;
+        let received = joined(alloc, peer_lives, received)?;
         Ok(Window {
             opening,
             role,
-            first: none,
-            live: none,
+            first: base.updates,
+            live,
             worth,
             own,
             received,
@@ -366,69 +448,94 @@ impl Window {
 impl UpdateLog {
     ghost use Rattle.std.specs.Prelude.{◌≡◌, ◌↔◌, IsTrue, IfOk, take};
     ghost use Rattle.std.specs.Result.{IsOkUnless};
-    ghost use Rattle.ln_log.specs.Log.{Log, StandsFor, none, opened, all_counts, at_opening};
+    ghost use Rattle.ln_log.specs.Log.{Log, StandsFor, none, after_drop};
     ghost use Rattle.ln_log.specs.Loading.{stored, IsReadable};
+    ghost use Rattle.ln_log.specs.Told.{told, told_of, written, IsRestorable};
 
     /// Whether a log can be made of what the record of a channel tells of its updates: what both sides agreed on, this
-    /// side's role, the updates that it has signed, those of the peer's that it has accepted, and what each commitment
-    /// covers. The funds are 1 to 2,100,000,000,000,000 satoshi, and the push no more; the counts lie within one
-    /// another, and signatures cover all updates, of each side 2^62 at most; ids rise by one from 0; no HTLC is of more
-    /// than 1000 * funding_satoshis; and in no view of these commitments, nor in that of the next signature or the next
-    /// one taken, a removal stands without its HTLC or a second time, or a balance falls below 0 (BOLT 2, "Normal
-    /// Operation", "Message Retransmission"). Takes time that grows linearly with the updates. 60 where there was no
-    /// memory.
+    /// side's role, a base, the updates behind it that this side has signed and those of the peer's that it has
+    /// accepted, and what each commitment covers. The funds are 1 to 2,100,000,000,000,000 satoshi, and the push no
+    /// more. Updates can lead to the base (`may_be_led_to`), whose live HTLCs stand by rising id, and it is held as
+    /// irrevocably committed. The counts lie within one another, and signatures cover all updates, of each side 2^62 at
+    /// most; ids rise by one from the base's next ones; no HTLC is of more than 1000 * funding_satoshis; and in no view
+    /// of these commitments, nor in that of the next signature or the next one taken, a removal stands without its HTLC
+    /// or a second time, or a balance falls below 0 (BOLT 2, "Normal Operation", "Message Retransmission"). 60 where
+    /// there was no memory.
     pub fn can_be_loaded(
         alloc: Global,
         opening: &Opening,
         role: Role,
+        base: &Base,
         own: &[Update],
         received: &[Update],
         coverage: &Coverage,
     ) -> Result<bool, Refusal>
-        ensures tells_it { IfOk result (λ b. IsTrue b ↔ IsReadable
-            (stored opening.now role own.now received.now coverage.now)) }
+        ensures tells_it { IfOk result (λ b. IsTrue b ↔ IsRestorable
+            (told opening.now role base.now own.now received.now coverage.now)) }
         ensures fails_for_memory_alone { IsOkUnless result Refusal.Memory }
     {
-        if !are_in_order(opening, own, received, coverage) {
+        if !are_in_place(opening, role, base, own, received, coverage) {
             return Ok(false);
         }
-        views_are_lawful(alloc, opening, role, own, received, coverage)
+        views_are_lawful(alloc, base, own, received, coverage)
     }
 
-    /// What the three commitments cover: with the updates of both sides that signatures cover, all that a record has to
-    /// tell of them. Of what it tells a log can be made again.
+    /// What the three commitments cover: with the updates of both sides that signatures cover, from `first` on, what
+    /// those before are worth (`worth`) and their live HTLCs (`live`), all that a record has to tell of them. Of what
+    /// it tells a log can be made again, and so of whole lists.
     pub fn coverage(&self) -> Coverage
         ensures counts { (l : Log) → StandsFor self.now l
             → stored l.opening l.role l.own l.received result ≡ record l { first = none } }
         ensures can_be_loaded { (l : Log) → StandsFor self.now l → IsReadable
             (stored l.opening l.role (take l.signed.own l.own) (take l.current.peer l.received) result) }
+        ensures can_be_restored { (l : Log) → StandsFor self.now l → IsRestorable (told_of l.first (after_drop l)) }
     {
         self.window.coverage()
     }
 
-    /// The log of what a record tells, which `can_be_loaded` tests. Takes time that grows linearly with the updates. 60
-    /// where there was no memory.
+    /// The log of what a record tells, which `can_be_loaded` tests. Of the updates that the base leaves out nothing is
+    /// known but what it tells: it has ones that lead to it, with HTLCs of no amount but for one. Takes time that grows
+    /// linearly with the updates and the live HTLCs, but for finding HTLCs by their ids in a map. 60 where there was no
+    /// memory.
     pub fn load(
         alloc: Global,
         opening: Opening,
         role: Role,
+        base: Base,
         own: Vec<Update>,
         received: Vec<Update>,
         coverage: Coverage,
     ) -> Result<UpdateLog, Refusal>
-        requires { IsReadable (stored opening role own.items received.items coverage) }
-        ensures stands_for_the_lists { IfOk result (λ l. StandsFor l (stored opening role own.items received.items
-            coverage)) }
-        ensures counts { IfOk result (λ l. all_counts l
-            ≡ all_counts (stored opening role own.items received.items coverage)) }
-        ensures opening { IfOk result (λ l. at_opening l ≡ opened opening role) }
+        requires { IsRestorable (told opening role base own.items received.items coverage) }
+        ensures has_what_is_told { IfOk result (λ l. l
+            ≡ record (written (told opening role base own.items received.items coverage)) { first = base.updates }) }
         ensures fails_for_memory_alone { IsOkUnless result Refusal.Memory }
     {
-        let window = Window::load(alloc, opening, role, own, received, coverage)?;
+        let window = Window::load(alloc, opening, role, &base, own, received, coverage)?;
+        let origin = Origin {
+            opening,
+            role,
+            base,
+        };
         Ok(UpdateLog {
             window,
-            own_past: Past::begun(&()),
-            peer_past: Past::begun(&()),
+            own_past: Past::begun(&origin),
+            peer_past: Past::begun(&origin),
         })
+    }
+
+    /// Takes the past of another log, of which a record tells what this one has: a log that was loaded knows of the
+    /// updates before `first` what its base told, and the other one has them. Proofs alone read them: it does nothing
+    /// at run time.
+    pub fn take_past_of(&mut self, other: &UpdateLog)
+        requires same_first { self.old.first ≡ other.now.first }
+        requires same_record { told_of self.old.first self.old ≡ told_of self.old.first (after_drop other.now) }
+        ensures { self.new ≡ after_drop other.now }
+    {
+        // (what a window keeps is in order)
+        let _ = self.window.counts(Pair::Signed);
+        let _ = other.window.counts(Pair::Signed);
+        self.own_past = other.own_past.same();
+        self.peer_past = other.peer_past.same();
     }
 }

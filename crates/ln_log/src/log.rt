@@ -3,7 +3,9 @@
 use crate::log_window::Window;
 use crate::opening::Opening;
 use crate::outcome::Outcome;
+use crate::told::{Base, Origin};
 use crate::update::{Add, Update};
+use crate::worth::Worth;
 use ln_history::Past;
 use ln_keys::{Role, View};
 use ln_msgs::Refusal;
@@ -50,20 +52,20 @@ pub struct Counts {
 #[derive(Drop)]
 pub struct UpdateLog {
     pub(crate) window: Window,
-    // the updates of either side that have left the window
-    pub(crate) own_past: Past<(), Update>,
-    pub(crate) peer_past: Past<(), Update>,
+    // the updates of either side that have left the window, and the base that it began with
+    pub(crate) own_past: Past<Origin, Update>,
+    pub(crate) peer_past: Past<Origin, Update>,
 }
 
 impl Model for UpdateLog {
     ghost use Rattle.ln_log.specs.Log.{Log};
-    ghost use Rattle.ln_log.specs.Kept.{whole, IsWhole};
+    ghost use Rattle.ln_log.specs.Kept.{whole, IsWhole, own_before, peer_before};
 
     ghost Value = { Log };
 
-    ghost view = { λ l. whole l.window l.own_past.told.entries l.peer_past.told.entries };
+    ghost view = { λ l. whole l.window (own_before l.own_past.told) (peer_before l.peer_past.told) };
 
-    ghost invariant = { λ l. IsWhole l.window l.own_past.told.entries l.peer_past.told.entries };
+    ghost invariant = { λ l. IsWhole l.window (own_before l.own_past.told) (peer_before l.peer_past.told) };
 }
 
 impl UpdateLog {
@@ -73,6 +75,7 @@ impl UpdateLog {
     ghost use Rattle.ln_log.specs.Opening.{IsFit, most_satoshis};
     ghost use Rattle.ln_log.specs.Updates.{next_id, offered, add_with, outcome};
     ghost use Rattle.ln_log.specs.View.{AddsUp};
+    ghost use Rattle.ln_log.specs.Window.{first_worth, first_lives};
     ghost use Rattle.ln_log.specs.Limits.{HasNextId, Answers, is_at_update_limit};
     ghost use Rattle.ln_log.specs.Log.{Log, StandsFor, IsWithin, IsInOrder, updates_of, count_of, first_of, update_at};
     ghost use Rattle.ln_log.specs.Log.{between, unacknowledged, all_counts, at_opening, IsInRange, before_first};
@@ -88,10 +91,15 @@ impl UpdateLog {
         ensures counts { all_counts result ≡ all_counts (opened opening role) }
         ensures opening { at_opening result ≡ opened opening role }
     {
+        let origin = Origin {
+            opening,
+            role,
+            base: Base::at_opening(alloc, &opening, role),
+        };
         UpdateLog {
             window: Window::new(alloc, role, opening),
-            own_past: Past::begun(&()),
-            peer_past: Past::begun(&()),
+            own_past: Past::begun(&origin),
+            peer_past: Past::begun(&origin),
         }
     }
 
@@ -228,6 +236,21 @@ impl UpdateLog {
             → option_copied result ≡ add_with id l.own }
     {
         self.window.own_htlc(id)
+    }
+
+    /// What the updates of both sides before `first` are worth beside their live HTLCs.
+    pub fn worth(&self) -> Worth
+        ensures { (l : Log) → StandsFor self.now l → result ≡ first_worth l }
+    {
+        self.window.worth()
+    }
+
+    /// The HTLCs of a side that the updates before `first` offer and don't remove, by rising id, as the updates that
+    /// offered them.
+    pub fn live(&self, side: Side) -> &[Update]
+        ensures { (l : Log) → StandsFor self.now l → result.now ≡ first_lives side l }
+    {
+        self.window.live(side)
     }
 
     /// The updates of a side from one number up to another, from `first` on. No HTLC that they offer is of more than

@@ -104,7 +104,7 @@ impl Window {
     ghost use Rattle.ln_log.specs.Log.{AreWithin, opened, after_propose, after_receive, after_sign, after_accept};
     ghost use Rattle.ln_log.specs.Log.{after_learn, after_drop, sign_fault, removal_fault, proposal_fault, taken_fault};
     ghost use Rattle.ln_log.specs.Kept.{IsWindowOf, IsKeptInOrder, IsKeptInRange, kept_count, kept_first, kept_counts};
-    ghost use Rattle.ln_log.specs.Kept.{kept_opening, pair_counts, front_of, peer_base, base_of};
+    ghost use Rattle.ln_log.specs.Kept.{kept_opening, pair_counts, front_of, peer_base, base_of, live_base};
     ghost use Rattle.ln_log.specs.Log.{AreNotGone};
     ghost use Rattle.ln_log.specs.Log.{covered, counts_of, live_in, view_for};
 
@@ -448,6 +448,23 @@ impl Window {
             → option_copied result ≡ add_with id l.own }
     {
         find_add(id, self.own.as_slice())
+    }
+
+    // What the base is worth beside its live HTLCs.
+    pub(crate) fn worth(&self) -> Worth
+        ensures { result ≡ self.now.worth }
+    {
+        self.worth
+    }
+
+    // The HTLCs of a side that are live in the base, as the updates that offered them.
+    pub(crate) fn live(&self, side: Side) -> &[Update]
+        ensures { (l : Log) → IsWindowOf self.now l → result.now ≡ live_base side self.now l }
+    {
+        match side {
+            Side::Own => part(self.own.as_slice(), 0, self.live.own),
+            Side::Peer => part(self.received.as_slice(), 0, self.live.peer),
+        }
     }
 
     // The updates of a side from one number up to another, from `first` on: none removes an HTLC that one before

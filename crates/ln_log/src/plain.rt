@@ -218,8 +218,8 @@ pub fn plain_view(
     ensures adds_up { IfOk result (λ v. AddsUp opening.now v) }
     ensures fails_for_memory_alone { IsOkUnless result Refusal.Memory }
 {
-    let of_funder = Outcomes::new(alloc, funder.len(), fundee)?;
-    let of_fundee = Outcomes::new(alloc, fundee.len(), funder)?;
+    let of_funder = Outcomes::new(alloc, fundee)?;
+    let of_fundee = Outcomes::new(alloc, funder)?;
     let mut htlcs = Vec::new(alloc);
     push_live(&mut htlcs, Role::Funder, funder, &of_funder)?;
     push_live(&mut htlcs, Role::Fundee, fundee, &of_fundee)?;

@@ -1,6 +1,7 @@
 //! What one side's updates make of the other side's HTLCs.
 
-ghost use Rattle.std.specs.Prelude.{◌≡◌, ◌≤◌, ◌++◌, List, [], ◌∷◌, length};
+ghost use Rattle.std.specs.Prelude.{◌≡◌, ◌≤◌, ◌++◌, List, [], ◌∷◌, length, OnOk};
+ghost use Rattle.std.specs.Result.{IsOkUnless};
 ghost use Rattle.ln_log.specs.declared.update.Update.{Update};
 ghost use Rattle.ln_log.specs.Updates.{outcome};
 ghost use Rattle.ln_log.specs.Outcomes.{removals_in, Tells};
@@ -9,6 +10,7 @@ use crate::outcome::Outcome;
 use crate::update::{Update, removal_of};
 use ln_msgs::Refusal;
 use std::alloc::Global;
+use std::collections::BTreeMap;
 use std::marker::Model;
 
 /// What the other side's updates make of the HTLC of an id: what the first of them that removes it makes
@@ -43,33 +45,29 @@ pub fn count_removals(updates: &[Update]) -> usize
     count
 }
 
-// Notes what one more update makes of the HTLCs of a table.
-pub fn note_removal(by_id: &mut Vec<Outcome>, update: &Update)
-    ensures notes { (before : List Update) → Tells by_id.old.items before
-        → Tells by_id.new.items (before ++ update.now ∷ []) }
-    ensures keeps_its_length { length by_id.new.items ≡ length by_id.old.items }
+// Notes what one more update makes of the HTLC that it removes, where none before it removed that.
+fn note_removal(by_id: &mut BTreeMap<u64, Outcome>, update: &Update) -> Result<(), Refusal>
+    ensures notes { (before : List Update) → Tells by_id.old before
+        → OnOk result (Tells by_id.new (before ++ update.now ∷ [])) }
+    ensures fails_for_memory_alone { IsOkUnless result Refusal.Memory }
 {
     match removal_of(update) {
-        None => {}
+        None => Ok(()),
         Some(removal) => {
-            if removal.id < by_id.len() as u64 {
-                let place = removal.id as usize;
-                match by_id[place] {
-                    Outcome::Live => by_id[place] = removal.outcome,
-                    Outcome::Fulfilled => {}
-                    Outcome::Failed => {}
-                }
+            if !by_id.contains_key(&removal.id) {
+                by_id.insert(removal.id, removal.outcome)?;
             }
+            Ok(())
         }
     }
 }
 
-/// A side's updates, and what they make of the other side's HTLCs: of those with the first ids it stands
-/// in a table, so that to ask for each of them takes one pass over the updates.
+/// A side's updates, and what they make of the other side's HTLCs, by their ids, so that to ask for each of them takes
+/// one pass over the updates.
 #[derive(Drop)]
 pub struct Outcomes<'a> {
     removals: &'a [Update],
-    by_id: Vec<Outcome>,
+    by_id: BTreeMap<u64, Outcome>,
 }
 
 impl<'a> Model for Outcomes<'a> {
@@ -81,7 +79,7 @@ impl<'a> Model for Outcomes<'a> {
 
     ghost view = { λ o. o.removals.now };
 
-    ghost invariant = { λ o. Tells o.by_id.items o.removals.now };
+    ghost invariant = { λ o. Tells o.by_id o.removals.now };
 }
 
 impl<'a> Outcomes<'a> {
@@ -89,15 +87,14 @@ impl<'a> Outcomes<'a> {
     ghost use Rattle.std.specs.Result.{IsOkUnless};
     ghost use Rattle.ln_log.specs.Updates.{outcome};
 
-    /// What these updates make of the HTLCs with the first `count` ids. 60 where there was no memory.
-    pub fn new(alloc: Global, count: usize, removals: &'a [Update]) -> Result<Outcomes<'a>, Refusal>
+    /// Of these updates. Takes memory for the ids of the HTLCs that they remove; 60 where there was none.
+    pub fn new(alloc: Global, removals: &'a [Update]) -> Result<Outcomes<'a>, Refusal>
         ensures keeps_the_removals { IfOk result (λ o. o ≡ removals.now) }
         ensures fails_for_memory_alone { IsOkUnless result Refusal.Memory }
     {
-        let mut by_id = Vec::new(alloc);
-        by_id.resize(count, Outcome::Live)?;
+        let mut by_id = BTreeMap::new(alloc);
         for update in removals {
-            note_removal(&mut by_id, update);
+            note_removal(&mut by_id, update)?;
         }
         Ok(Outcomes { removals, by_id })
     }
@@ -106,10 +103,9 @@ impl<'a> Outcomes<'a> {
     pub fn outcome(&self, id: u64) -> Outcome
         ensures { result ≡ outcome id self.now }
     {
-        if id < self.by_id.len() as u64 {
-            self.by_id[id as usize]
-        } else {
-            outcome_of(id, self.removals)
+        match self.by_id.get(&id) {
+            None => Outcome::Live,
+            Some(outcome) => *outcome,
         }
     }
 }

@@ -13,7 +13,7 @@ use std::alloc::Global;
 
 /// What beginnings of both lists of updates are worth beside their live HTLCs.
 #[derive(Clone, Copy, PartialEq, Eq)]
-pub(crate) struct Worth {
+pub struct Worth {
     /// The id of this side's next HTLC.
     pub next_own: u64,
     /// The id of the other side's next HTLC.
@@ -62,8 +62,8 @@ pub(crate) fn view_behind(
         → IfOk result (λ v. v ≡ view_behind base.now funder.now funder_new.now fundee.now fundee_new.now) }
     ensures fails_for_memory_alone { IsOkUnless result Refusal.Memory }
 {
-    let of_funder = Outcomes::new(alloc, funder.len(), fundee_new)?;
-    let of_fundee = Outcomes::new(alloc, fundee.len(), funder_new)?;
+    let of_funder = Outcomes::new(alloc, fundee_new)?;
+    let of_fundee = Outcomes::new(alloc, funder_new)?;
     let mut htlcs = Vec::new(alloc);
     push_live(&mut htlcs, Role::Funder, funder, &of_funder)?;
     push_live(&mut htlcs, Role::Fundee, fundee, &of_fundee)?;

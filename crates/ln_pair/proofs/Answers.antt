@@ -34,7 +34,7 @@ use Rattle.ln_channel.specs.Resume.{resumed}
 use Rattle.ln_channel.specs.State.{is_down}
 use Rattle.ln_channel.specs.Step.{faulted, line_fault}
 use Rattle.ln_pair.specs.Ends.{Ends, opened, turned, message_at, command_at, answers, delivers, connects, Act, Deliver}
-use Rattle.ln_pair.specs.Ends.{Give, Note, Lose, Cut, still_come, acts, Step, By, Connect, happens, run}
+use Rattle.ln_pair.specs.Ends.{Give, Note, Lose, Cut, Save, still_come, acts, Step, By, Connect, happens, run}
 use Rattle.ln_pair.specs.Promises.{AreKeys}
 use Rattle.ln_pair.specs.Answers.{HasAnswered, BothHaveAnswered}
 use Rattle.ln_pair.proofs.Moving.{log_within}
@@ -184,6 +184,7 @@ module _ (keys : Signer) where
   acts_so (Note c) p w both = both
   acts_so Lose p w both = lost_so (is_down p.x_line) p both
   acts_so (Cut n) p w both = cut_so (is_down p.x_line) n p both
+  acts_so Save p w both = both
 
 connects_so : (a b : Signer) (lx ly : Line) (p : Ends) → BothHaveAnswered p → BothHaveAnswered (connects a b lx ly p)
 connects_so a b Down Down p both = (λ e. absurd (cc), λ e. absurd (cc))

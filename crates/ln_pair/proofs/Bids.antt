@@ -29,7 +29,7 @@ use Rattle.ln_channel.specs.Resume.{resumed}
 use Rattle.ln_channel.specs.State.{is_down}
 use Rattle.ln_channel.specs.Step.{faulted, line_fault}
 use Rattle.ln_pair.specs.Ends.{Ends, turned, message_at, command_at, answers, delivers, connects, Act, Deliver}
-use Rattle.ln_pair.specs.Ends.{Give, Note, Lose, Cut, still_come, acts, Step, By, Connect, happens}
+use Rattle.ln_pair.specs.Ends.{Give, Note, Lose, Cut, Save, still_come, acts, Step, By, Connect, happens}
 use Rattle.ln_pair.proofs.Prices.{and_left, and_right}
 
 -- a funder at which closing has begun has sent one
@@ -202,6 +202,7 @@ module _ (keys : Signer) where
   acts_so (Note c) p w both = record { x = both.x; y = both.y }
   acts_so Lose p w both = lost_so (is_down p.x_line) p both
   acts_so (Cut n) p w both = cut_so (is_down p.x_line) n p both
+  acts_so Save p w both = record { x = both.x; y = both.y }
 
 connects_so : (a b : Signer) (lx ly : Line) (p : Ends) → BothBid p → BothBid (connects a b lx ly p)
 connects_so a b Down Down p both = record { x = λ e. absurd (cc); y = λ e. absurd (cc) }

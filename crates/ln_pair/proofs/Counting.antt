@@ -36,7 +36,7 @@ use Rattle.ln_channel.specs.Commands.{unready_fault}
 use Rattle.ln_channel.specs.State.{is_down}
 use Rattle.ln_channel.specs.Step.{faulted, line_fault}
 use Rattle.ln_pair.specs.Ends.{Ends, turned, opened, message_at, answers, delivers, notes, Act, Deliver, Give}
-use Rattle.ln_pair.specs.Ends.{Note, Lose, Cut, still_come, acts}
+use Rattle.ln_pair.specs.Ends.{Note, Lose, Cut, Save, still_come, acts}
 use Rattle.ln_pair.specs.Ends.{connects, Step, By, Connect, happens, run}
 use Rattle.ln_pair.specs.Promises.{AreKeys, AreSent}
 use Rattle.ln_pair.proofs.Sides.{Notice, Update, Sign, Revoke, Ready, Shutdown, Close, Again}
@@ -53,6 +53,7 @@ use Rattle.ln_pair.proofs.Prices.{At, turned_at, priced_at}
 use Rattle.ln_pair.proofs.Moving.{log_within}
 use Rattle.ln_pair.proofs.Lasting.{Where, IsCounted}
 use Rattle.ln_pair.proofs.Steady.{closes_in, IsFee, Steady, settled_steady, turn_steady, fee_steady, noted_steady}
+use Rattle.ln_pair.proofs.Steady.{based_steady}
 use Rattle.ln_pair.proofs.Noting.{noted}
 
 -- secrets have 32 bytes, as those that keys answer in code
@@ -177,6 +178,7 @@ module _ (a b : Signer) (keys : AreKeys a b) where
       record { x = noted_steady p.x (notes c p).x.ledger (noted c p.x) s; y = refl }
   acts_steady Lose p s sent h = lost_by (is_down p.x_line) p s
   acts_steady (Cut n) p s sent h = cut_by (is_down p.x_line) n p s
+  acts_steady Save p s sent h = record { x = based_steady p.x s; y = refl }
 
 -- ---- steps
 
@@ -220,9 +222,10 @@ lasts a b keys (s ∷ ss) p k h =
 
 first_steady : (r : Role) (c : List ℕ) (f : Fees) (t : Terms) → Steady (end_of (opened_by r c f t))
 first_steady r c f t = record {
-  first_own = refl;
-  first_peer = refl;
+  first_own = omega arith;
+  first_peer = omega arith;
   undecided = tt;
+  there = tt;
   events = omega arith;
   decisions = omega arith;
   results = omega arith;
@@ -339,6 +342,7 @@ counted a b keys secrets p s sent h at =
       first_own = s.first_own;
       first_peer = s.first_peer;
       undecided = s.undecided;
+      there = s.there;
       events = omega (arith, events, one);
       decisions = s.decisions;
       results = s.results;

@@ -40,7 +40,7 @@ use Rattle.ln_pair.proofs.Agreed.{Deal, Offer}
 use Rattle.ln_channel.specs.Commands.{shuts_down, shut_fault, unready_fault}
 use Rattle.ln_keys.specs.declared.role.Role.TheVariants.{Funder, Fundee}
 use Rattle.ln_pair.specs.Ends.{messages_in, met_again, message_at, command_at, Ends, turned, answers, delivers, Act}
-use Rattle.ln_pair.specs.Ends.{Deliver}
+use Rattle.ln_pair.specs.Ends.{Deliver, Save}
 use Rattle.ln_pair.specs.Ends.{Give, Note, Lose, Cut, still_come, acts, connects, Step, By, Connect, happens, run}
 use Rattle.ln_pair.specs.Promises.{is_closing_signed}
 
@@ -316,6 +316,7 @@ acts_fees k (Give c) p = answers_fees (command_at k p.x_line c p.x) p
 acts_fees k (Note c) p = record { x = refl; y = refl }
 acts_fees k Lose p = loses_fees (is_down p.x_line) p
 acts_fees k (Cut n) p = cuts_fees (is_down p.x_line) n p
+acts_fees k Save p = record { x = refl; y = refl }
 
 connects_fees : (a b : Signer) (lx ly : Line) (p : Ends) → SameFees p (connects a b lx ly p)
 connects_fees a b Down Down p = record { x = refl; y = refl }

@@ -1,7 +1,7 @@
 -- An end does what a command asks for exactly where its marks let it and the machine may make the move.
 use Rattle.std.proofs.Common.{◌≡◌, ◌≢◌, ◌↔◌, ℕ, ◌+◌, ◌-◌, ◌^◌, ◌<◌, ◌≤◌, List, [], ◌∷◌, length, refl, sym, ap, ◌∙◌}
 use Rattle.std.proofs.Common.{subst, arith, Bool, true, false, cond, not, ◌||◌, ◌&&◌, ◌==◌, nat_lt, nat_le, Option}
-use Rattle.std.proofs.Common.{Some, None, Result, Ok, Err}
+use Rattle.std.proofs.Common.{Some, None, Ok, Err}
 use Rattle.std.specs.Prelude.{is_some}
 use Rattle.std.proofs.lemmas.Bool.{eqb-true, eq-eqb, ltb-true, ltb-false, leb-true, leb-false}
 use Rattle.ln_msgs.specs.declared.refusals.refusal.Refusal.{Refusal}

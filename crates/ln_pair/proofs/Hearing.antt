@@ -31,7 +31,7 @@ use Rattle.ln_channel.specs.Commands.{command_row, shuts_down, shut_fault, unrea
 use Rattle.ln_channel.specs.Resume.{resumed, sent_again}
 use Rattle.ln_pair.specs.Ends.{Ends, turned, message_at, met_again, messages_in, arrive, becomes, answers}
 use Rattle.ln_pair.specs.Ends.{delivers, still_come, Act, Deliver, Give, Note, Lose, Cut, acts, connects, Step, By}
-use Rattle.ln_pair.specs.Ends.{Connect, happens}
+use Rattle.ln_pair.specs.Ends.{Save, Connect, happens}
 use Rattle.ln_pair.specs.Promises.{is_closing_signed, IsTaken, AcceptsFront, AllTaken}
 use Rattle.ln_pair.proofs.Sides.{closes_of}
 use Rattle.ln_pair.proofs.Agreed.{Deal, Offer, Priced, AllAre, Offers, Fair, dealt, swap}
@@ -486,6 +486,7 @@ acts_by k (Give c) p is q h = given_by (unready_fault c p.x) p.x_line k c p refl
 acts_by k (Note d) p is c h = h
 acts_by k Lose p is c h = loses_by (is_down p.x_line) p h
 acts_by k (Cut n) p is c h = cuts_by (is_down p.x_line) n p refl h
+acts_by k Save p is c h = h
 
 turned_by : (p : Ends) → IsHeard p → IsHeard (turned p)
 turned_by p h = record {

@@ -15,6 +15,7 @@ use Rattle.ln_log.specs.declared.mark.Settlement.{Settlement}
 use Rattle.ln_log.specs.Updates.{removed, is_some}
 use Rattle.ln_pair.specs.Widths.{IsOrigin, IsUpdate, IsForward}
 use Rattle.ln_pair.proofs.All.{All}
+use Rattle.ln_pair.proofs.Bases.{IsAt}
 
 abbrev pub Where : {A : Type 0} → (A → Type 0) → Option A → Type 0
 Where P None = Unit {0}
@@ -30,9 +31,10 @@ IsHeld own peer ref.Close = Unit {0}
 pub record IsCounted (e : End) : Type 0 where
   pub step : AreInStep e.dance.numbers e.dance.log
   pub within : IsWithin e.dance.log
-  pub first_own : e.dance.log.first.own ≡ 0
-  pub first_peer : e.dance.log.first.peer ≡ 0
+  pub first_own : e.dance.log.first.own ≤ e.dance.log.current.own
+  pub first_peer : e.dance.log.first.peer ≤ e.dance.log.acknowledged.peer
   pub undecided : All (IsHeld e.dance.log.current.own e.dance.log.acknowledged.peer) e.ledger.undecided
+  pub there : All (IsAt e.dance.log.first) e.ledger.undecided
   pub events : e.ledger.decided + length e.ledger.undecided
       ≤ e.dance.log.current.own + e.dance.log.acknowledged.peer + 1
   pub decisions : length e.ledger.decisions ≤ e.ledger.decided

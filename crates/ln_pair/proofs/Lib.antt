@@ -31,6 +31,7 @@ pub mod Made
 pub mod Moving
 pub mod Machines
 pub mod Tellings
+pub mod Bases
 pub mod Pending
 pub mod Recounts
 pub mod ClosesLast

@@ -48,7 +48,7 @@ use Rattle.ln_channel.specs.Commands.{signs_next, shut_fault, shuts_down, comman
 use Rattle.ln_channel.specs.State.{is_down}
 use Rattle.ln_channel.specs.Step.{faulted, line_fault}
 use Rattle.ln_pair.specs.Ends.{Ends, turned, message_at, becomes, answers, delivers, still_come, Act, Deliver, Give}
-use Rattle.ln_pair.specs.Ends.{Note, Lose, Cut, acts}
+use Rattle.ln_pair.specs.Ends.{Note, Lose, Cut, Save, acts}
 use Rattle.ln_pair.specs.Ends.{opened, connects, Step, By, Connect, happens, run}
 use Rattle.ln_pair.specs.Promises.{AreKeys, party}
 use Rattle.ln_pair.specs.Setup.{setup_of, AreSetUp}
@@ -284,6 +284,11 @@ module _ (a b : Signer) (keys : AreKeys a b) (r : Role) (o : Opening) where
   }
   acts_so Lose p s h = lost_by (is_down p.x_line) p s h
   acts_so (Cut n) p s h = cut_by (is_down p.x_line) n p s
+  acts_so Save p s h = record {
+    run = refl;
+    stands = record { role = s.role; opening = s.opening };
+    other = refl;
+  }
 
 -- ---- steps
 

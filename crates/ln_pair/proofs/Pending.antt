@@ -15,6 +15,7 @@ use Rattle.ln_hooks.specs.declared.event.ChannelEvent.TheVariants as event
 use Rattle.ln_hooks.specs.Event.{event_of}
 use Rattle.ln_log.specs.declared.mark.EventRef.{EventRef}
 use Rattle.ln_log.specs.declared.mark.EventRef.TheVariants as ref
+use Rattle.ln_channel.specs.Base.{based}
 use Rattle.ln_channel.specs.Ledger.{Ledger, refs_of}
 use Rattle.ln_channel.specs.Outputs.{events_of}
 use Rattle.ln_channel.specs.End.{End}
@@ -22,6 +23,7 @@ use Rattle.ln_channel.specs.Pending.{event_in, pending_from, pending_events}
 use Rattle.ln_channel.specs.Pending as channel
 use Rattle.ln_pair.specs.Pending.{counted}
 use Rattle.ln_pair.proofs.All.{All, all-append, all-drop}
+use Rattle.ln_pair.proofs.Bases.{IsAt, base_within, base_at}
 use Rattle.ln_pair.proofs.Noting.{Behind}
 
 -- ---- entries by their place in whole lists
@@ -57,7 +59,9 @@ NamedIn e rs = All (IsNamed e.dance.log.current.own e.dance.log.acknowledged.pee
 pub record Named (e : End) : Type 0 where
   pub held : NamedIn e e.ledger.undecided
   pub full : length (pending e.ledger.undecided e) ≡ length e.ledger.undecided
-  pub first : e.dance.log.first ≡ log.none
+  pub own_first : e.dance.log.first.own ≤ e.dance.log.current.own
+  pub peer_first : e.dance.log.first.peer ≤ e.dance.log.acknowledged.peer
+  pub there : All (IsAt e.dance.log.first) e.ledger.undecided
 
 pub record KeepBy (l m : Log) (c d : Option ℕ) : Type 0 where
   pub own : take l.current.own m.own ≡ take l.current.own l.own
@@ -132,8 +136,9 @@ pending_append (r ∷ rs) ss e =
 -- new entries behind those that there were
 pub enters : (x n : End) (rs : List EventRef) (es : List ChannelEvent) → Keep x n
     → n.ledger.undecided ≡ x.ledger.undecided ++ rs → n.ledger.decided ≡ x.ledger.decided
-    → pending rs n ≡ es → length rs ≡ length es → NamedIn n rs → Named x → Pends x n es
-enters x n rs es k undecided decided e count h named =
+    → pending rs n ≡ es → length rs ≡ length es → NamedIn n rs → All (IsAt x.dance.log.first) rs → Named x
+    → Pends x n es
+enters x n rs es k undecided decided e count h there named =
     let us = x.ledger.undecided in
     let old = kept x n k us named.held in
     let entries : pending n.ledger.undecided n ≡ pending us x ++ es =
@@ -152,7 +157,13 @@ enters x n rs es k undecided decided e count h named =
         held = subst (NamedIn n) (sym undecided)
             (all-append (IsNamed n.dance.log.current.own n.dance.log.acknowledged.peer n.closing.closed) us rs old.1 h);
         full = omega (arith, now, all, full, count, entered, both);
-        first = k.first ∙ named.first;
+        own_first = (let is = ap (λ (c : Counts). c.own) k.first in let le = named.own_first in
+            let more = k.own_le in omega (arith, is, le, more));
+        peer_first = (let is = ap (λ (c : Counts). c.peer) k.first in let le = named.peer_first in
+            let more = k.peer_le in omega (arith, is, le, more));
+        there = subst (λ (c : Counts). All (IsAt c) n.ledger.undecided) (sym k.first)
+            (subst (All (IsAt x.dance.log.first)) (sym undecided)
+            (all-append (IsAt x.dance.log.first) us rs named.there there));
       };
       decided = omega (arith, decided);
     }
@@ -161,7 +172,7 @@ pub enters_none : (x n : End) → Keep x n → n.ledger ≡ x.ledger → Named x
 enters_none x n k is named =
     let undecided : n.ledger.undecided ≡ x.ledger.undecided = ap (λ (l : Ledger). l.undecided) is in
     enters x n [] [] k (undecided ∙ sym (append-nil x.ledger.undecided)) (ap (λ (l : Ledger). l.decided) is) refl refl
-    tt named
+    tt tt named
 
 -- ---- new entries
 
@@ -212,6 +223,24 @@ peer_named n o p d [] le = tt
 peer_named n o p d (u ∷ us) le =
     one_named o p d (event_of false u) (ref.Peer n) (refs_of false (n + 1) us) (omega (arith, le))
     (peer_named (n + 1) o p d us (omega (arith, le)))
+
+-- they are still there one by one
+
+one_there : (f : Counts) (e : Option ChannelEvent) (r : EventRef) (rs : List EventRef) → IsAt f r → All (IsAt f) rs
+    → All (IsAt f) (cons_option (option_map (λ x. r) e) rs)
+one_there f None r rs h k = k
+one_there f (Some x) r rs h k = (h, k)
+
+pub own_at : (f : Counts) (n : ℕ) (us : List Change) → f.own ≤ n → All (IsAt f) (refs_of true n us)
+own_at f n [] le = tt
+own_at f n (u ∷ us) le =
+    one_there f (event_of true u) (ref.Own n) (refs_of true (n + 1) us) le (own_at f (n + 1) us (omega (arith, le)))
+
+pub peer_at : (f : Counts) (n : ℕ) (us : List Change) → f.peer ≤ n → All (IsAt f) (refs_of false n us)
+peer_at f n [] le = tt
+peer_at f n (u ∷ us) le =
+    one_there f (event_of false u) (ref.Peer n) (refs_of false (n + 1) us) le
+    (peer_at f (n + 1) us (omega (arith, le)))
 
 -- ---- what is kept
 
@@ -321,9 +350,45 @@ leaves x l b named =
       named = record {
         held = held;
         full = ap length same ∙ subst (λ vs. length (pending vs x) ≡ length vs) (sym b.undecided) part.1;
-        first = named.first;
+        own_first = named.own_first;
+        peer_first = named.peer_first;
+        there = subst (All (IsAt x.dance.log.first)) (sym b.undecided)
+            (all-drop (IsAt x.dance.log.first) b.gone us named.there);
       };
       decided = b.decided;
+    }
+
+-- ---- a base that moves on
+
+named_same : (x : End) (r : EventRef) → named_by r (based x) ≡ named_by r x
+named_same x (ref.Own n) = refl
+named_same x (ref.Peer n) = refl
+named_same x ref.Close = refl
+
+pending_same : (x : End) (rs : List EventRef) → pending rs (based x) ≡ pending rs x
+pending_same x [] = refl
+pending_same x (r ∷ rs) =
+    ap (λ o. cons_option o (pending rs (based x))) (named_same x r)
+    ∙ ap (cons_option (named_by r x)) (pending_same x rs)
+
+-- it passes no undecided event
+pub bases : (x : End) → Named x → Pends x (based x) []
+bases x named =
+    let us = x.ledger.undecided in
+    let base = base_within x named.own_first named.peer_first in
+    let same = pending_same x us in
+    record {
+      gone = 0;
+      within = omega arith;
+      entries = same ∙ sym (append-nil (pending us x));
+      named = record {
+        held = named.held;
+        full = ap length same ∙ named.full;
+        own_first = base.0;
+        peer_first = base.1;
+        there = base_at x named.there;
+      };
+      decided = (let n = x.ledger.decided in let is : n ≡ n + 0 = omega arith in is);
     }
 
 drop_front : (g : ℕ) (es fs : List ChannelEvent) → g ≤ length es → drop g (es ++ fs) ≡ drop g es ++ fs
@@ -376,19 +441,16 @@ got_at own zero (u ∷ us) = refl
 got_at own (suc n) [] = refl
 got_at own (suc n) (u ∷ us) = got_at own n us
 
-found_at : (own : Bool) (n : ℕ) (us : List Change)
-    → event_in own (log.update_at 0 us n) ≡ first_event own (drop n us)
-found_at own n us =
-    ap (λ (b : Bool). event_in own (cond b None (slice_get us n))) (le-ltb n 0 (omega arith))
+found_at : (own : Bool) (first n : ℕ) (us : List Change) → first ≤ n
+    → event_in own (log.update_at first us n) ≡ first_event own (drop n us)
+found_at own first n us le =
+    ap (λ (b : Bool). event_in own (cond b None (slice_get us n))) (le-ltb n first le)
     ∙ got_at own n us
 
-found : (r : EventRef) (e : End) → e.dance.log.first ≡ log.none → channel.named_by r e ≡ named_by r e
-found (ref.Own n) e first =
-    ap (λ (c : Counts). event_in true (log.update_at c.own e.dance.log.own n)) first ∙ found_at true n e.dance.log.own
-found (ref.Peer n) e first =
-    ap (λ (c : Counts). event_in false (log.update_at c.peer e.dance.log.received n)) first
-    ∙ found_at false n e.dance.log.received
-found ref.Close e first = refl
+found : (r : EventRef) (e : End) → IsAt e.dance.log.first r → channel.named_by r e ≡ named_by r e
+found (ref.Own n) e there = found_at true e.dance.log.first.own n e.dance.log.own there
+found (ref.Peer n) e there = found_at false e.dance.log.first.peer n e.dance.log.received there
+found ref.Close e there = refl
 
 one_numbered : (n : ℕ) (o : Option ChannelEvent) (es : List ChannelEvent) (ps : List (ℕ × ChannelEvent)) (m : ℕ)
     → length (cons_option o es) ≡ suc m → length es ≤ m → ((length es ≡ m) → ps ≡ counted (n + 1) es)
@@ -397,14 +459,14 @@ one_numbered n None es ps m is le rest = absurd (omega (arith, is, le))
 one_numbered n (Some v) es ps m is le rest = ap (λ vs. (n, v) ∷ vs) (rest (omega (arith, is)))
 
 -- where each entry names an event, they have its numbers
-numbered_so : (n : ℕ) (rs : List EventRef) (e : End) → e.dance.log.first ≡ log.none
+numbered_so : (n : ℕ) (rs : List EventRef) (e : End) → All (IsAt e.dance.log.first) rs
     → length (pending rs e) ≡ length rs → pending_from n rs e ≡ counted n (pending rs e)
-numbered_so n [] e first full = refl
-numbered_so n (r ∷ rs) e first full =
-    ap (λ o. cons_option (option_map (λ v. (n, v)) o) (pending_from (n + 1) rs e)) (found r e first)
+numbered_so n [] e there full = refl
+numbered_so n (r ∷ rs) e there full =
+    ap (λ o. cons_option (option_map (λ v. (n, v)) o) (pending_from (n + 1) rs e)) (found r e there.0)
     ∙ one_numbered n (named_by r e) (pending rs e) (pending_from (n + 1) rs e) (length rs) full (no_more rs e)
-    (λ all. numbered_so (n + 1) rs e first all)
+    (λ all. numbered_so (n + 1) rs e there.1 all)
 
 pub pending_so : (e : End) → Named e
     → pending_events e ≡ counted e.ledger.decided (pending e.ledger.undecided e)
-pending_so e named = numbered_so e.ledger.decided e.ledger.undecided e named.first named.full
+pending_so e named = numbered_so e.ledger.decided e.ledger.undecided e named.there named.full

@@ -35,7 +35,7 @@ use Rattle.ln_channel.specs.Commands.{command_row, shuts_down, shut_fault, unrea
 use Rattle.ln_channel.specs.Resume.{resumed, sent_again}
 use Rattle.ln_pair.specs.Ends.{Ends, turned, message_at, met_again, messages_in, arrive, becomes, answers}
 use Rattle.ln_pair.specs.Ends.{delivers, still_come, Act, Deliver, Give, Note, Lose, Cut, acts, connects, Step, By}
-use Rattle.ln_pair.specs.Ends.{Connect, happens, run}
+use Rattle.ln_pair.specs.Ends.{Save, Connect, happens, run}
 use Rattle.ln_pair.specs.Ends.{opened}
 use Rattle.ln_pair.specs.Promises.{is_closing_signed}
 use Rattle.ln_pair.proofs.Sides.{Notice, Update, Sign, Revoke, Ready, Shutdown, Close, Again, closes_of, owed}
@@ -382,6 +382,7 @@ acts_at k (Give c) p h =
 acts_at k (Note c) p h = h
 acts_at k Lose p h = loses_at (is_down p.x_line) p h
 acts_at k (Cut n) p h = cuts_at (is_down p.x_line) n p h
+acts_at k Save p h = h
 
 pub turned_at : (p : Ends) → At p → At (turned p)
 turned_at p h = swap (deal_of p.x.closing) (deal_of p.y.closing) (offers_in p.to_y) (offers_in p.to_x) h

@@ -31,7 +31,7 @@ use Rattle.ln_channel.specs.Commands.{shut_fault, shuts_down, command_row, unrea
 use Rattle.ln_channel.specs.State.{is_down}
 use Rattle.ln_channel.specs.Step.{faulted, line_fault}
 use Rattle.ln_pair.specs.Ends.{Ends, turned, message_at, answers, delivers, ledger_behind, notes, Act, Deliver, Give}
-use Rattle.ln_pair.specs.Ends.{Note, Lose, Cut, still_come, acts}
+use Rattle.ln_pair.specs.Ends.{Note, Lose, Cut, Save, still_come, acts}
 use Rattle.ln_pair.specs.Ends.{opened, connects, Step, By, Connect, happens, run}
 use Rattle.ln_pair.specs.Promises.{AreKeys, party}
 use Rattle.ln_pair.specs.Moves.{moves_asked, moves_of_command, moves_of_message, moves_delivered}
@@ -53,9 +53,10 @@ use Rattle.ln_hooks.specs.declared.event.ChannelEvent.TheVariants as event
 use Rattle.ln_close.specs.Closing.{after_shut, may_start}
 use Rattle.ln_log.specs.declared.mark.EventRef.TheVariants as ref
 use Rattle.ln_channel.specs.declared.output.Output.{Output}
-use Rattle.ln_channel.specs.Ledger.{Ledger, next_event, refs_of, entered}
+use Rattle.ln_log.specs.declared.log.Counts.{Counts}
+use Rattle.ln_channel.specs.Ledger.{Ledger, next_event, no_events, refs_of, entered}
 use Rattle.ln_channel.specs.Outputs.{events_of, numbered}
-use Rattle.ln_channel.specs.End.{is_closed, owes_shutdown, answers_shutdown, settled}
+use Rattle.ln_channel.specs.End.{end_of, is_closed, owes_shutdown, answers_shutdown, settled}
 use Rattle.ln_pair.specs.Moves.{moves_taken, closes, shuts}
 use Rattle.ln_pair.specs.Told.{as_told, events_in, told_by, told_on, told_in, told, all_told}
 use Rattle.ln_pair.specs.Pending.{end_of_role}
@@ -66,9 +67,11 @@ use Rattle.ln_log.specs.Log as log
 use Rattle.ln_dance.specs.Dance.{Dancer}
 use Rattle.ln_pair.proofs.All.{All}
 use Rattle.ln_pair.proofs.Steady.{length-between}
-use Rattle.ln_pair.proofs.Pending.{IsNamed, Named, KeepBy, Keep, Pends, enters, enters_none, leaves}
-use Rattle.ln_pair.proofs.Pending.{own_named, peer_named, keep_same, keep_own, keep_peer, keep_dropped, keep_either}
+use Rattle.ln_pair.proofs.Pending.{IsNamed, Named, KeepBy, Keep, Pends, enters, enters_none, leaves, bases}
+use Rattle.ln_pair.proofs.Pending.{own_named, peer_named, own_at, peer_at, keep_same, keep_own, keep_peer}
+use Rattle.ln_pair.proofs.Pending.{keep_dropped, keep_either, NamedIn}
 use Rattle.ln_pair.proofs.Pending.{pending, own_pend, peer_pend, pends_both, same_pends, pending_so}
+use Rattle.ln_pair.proofs.Bases.{IsAt}
 use Rattle.ln_pair.proofs.Noting.{noted, next_behind}
 use Rattle.ln_channel.specs.Commands.{signs_next}
 use Rattle.ln_pair.specs.Pending.{counted, IsInStep}
@@ -209,7 +212,8 @@ module _ (a b : Signer) (keys : AreKeys a b) (r : Role) (o : Opening) (channel :
       ∙ sym (take-append-drop (d - c) (drop c l.own)))) (refs_count true c us)
       (subst (λ (q : Dancer). All (IsNamed q.log.current.own q.log.acknowledged.peer n.closing.closed)
       (refs_of true c us)) (sym dance)
-      (own_named c d l.acknowledged.peer n.closing.closed us (omega (arith, grow, many)))) named)
+      (own_named c d l.acknowledged.peer n.closing.closed us (omega (arith, grow, many))))
+      (own_at l.first c us named.own_first) named)
   turn_tells (Revoke m) ns to_y other h =
       let t = (turn_of a (Revoke m) x).end in
       let n = settled t in
@@ -250,7 +254,8 @@ module _ (a b : Signer) (keys : AreKeys a b) (r : Role) (o : Opening) (channel :
       ∙ sym (take-append-drop (d - c) (drop c l.received)))) (refs_count false c us)
       (subst (λ (q : Dancer). All (IsNamed q.log.current.own q.log.acknowledged.peer n.closing.closed)
       (refs_of false c us)) (sym dance)
-      (peer_named c l.current.own d n.closing.closed us (omega (arith, grow, many)))) named)
+      (peer_named c l.current.own d n.closing.closed us (omega (arith, grow, many))))
+      (peer_at l.first c us named.peer_first) named)
   turn_tells (Ready m) ns to_y other h =
       let t = (turn_of a (Ready m) x).end in
       let n = settled t in
@@ -306,7 +311,7 @@ closed_told k r o fee ans x t y os none is held entry told =
     })) (undecided_so t ∙ ap (λ (l : Ledger). l.undecided) entry) (decided_so t ∙ ap (λ (l : Ledger). l.decided) entry)
     (ap (λ c. cons_option (option_map event.Closed c) []) now) refl
     (subst (λ c. All (IsNamed n.dance.log.current.own n.dance.log.acknowledged.peer c) (ref.Close ∷ [])) (sym now)
-    (tt, tt)) named)
+    (tt, tt)) (tt, tt) named)
 
 fee_tells : (k : Signer) (r : Role) (o : Opening) (m : ClosingSigned) (ans : Answer) (x : End) (y : Party)
     → answer_to x.closing m.fee_satoshis (range_in m) ≡ Ok ans
@@ -589,6 +594,12 @@ module _ (a b : Signer) (keys : AreKeys a b) (r : Role) (o : Opening) where
   acts_told (Note c) p h = noted_told c p
   acts_told Lose p h = lost_by (is_down p.x_line) p
   acts_told (Cut n) p h = cut_by (is_down p.x_line) n p
+  acts_told Save p h = record {
+    told = refl;
+    next = (let n = next_event p.x.ledger in let same : n ≡ n + 0 = omega arith in same);
+    other = refl;
+    pends = λ w named. bases p.x named;
+  }
 
 -- ---- steps
 
@@ -784,6 +795,19 @@ all_pend a b keys r (s ∷ ss) o p k h named =
     subst (Pends x (end_of_role r (run a b ss q))) (sym is)
     (pends_both x (end_of_role r q) (end_of_role r (run a b ss q)) first then t rest)
 
+none_named : (e : End) → e.ledger ≡ no_events → e.dance.log.first ≡ log.none → Named e
+none_named e is none =
+    let own : e.dance.log.first.own ≡ 0 = ap (λ (c : Counts). c.own) none in
+    let peer : e.dance.log.first.peer ≡ 0 = ap (λ (c : Counts). c.peer) none in
+    let undecided : e.ledger.undecided ≡ [] = ap (λ (l : Ledger). l.undecided) is in
+    record {
+      held = subst (NamedIn e) (sym undecided) tt;
+      full = subst (λ rs. length (pending rs e) ≡ length rs) (sym undecided) refl;
+      own_first = omega (arith, own);
+      peer_first = omega (arith, peer);
+      there = subst (All (IsAt e.dance.log.first)) (sym undecided) tt;
+    }
+
 pub in_step_so : (a b : Signer) (s : OpenSpec) (c : Config) (funder fundee : Opened) (steps : List Step) (r : Role)
     → AreKeys a b → Opens a b s c funder fundee
     → IsInStep (as_told (events r (history a b funder fundee steps) None))
@@ -809,10 +833,8 @@ in_step_so a b s c funder fundee steps r keys o =
     }
   where
     none : (r : Role) → Named (end_of_role r (opened funder fundee))
-    none Funder =
-        record { held = tt; full = refl; first = (opened_fresh a b s c funder fundee o).funder_first }
-    none Fundee =
-        record { held = tt; full = refl; first = (opened_fresh a b s c funder fundee o).fundee_first }
+    none Funder = none_named (end_of funder) refl (opened_fresh a b s c funder fundee o).funder_first
+    none Fundee = none_named (end_of fundee) refl (opened_fresh a b s c funder fundee o).fundee_first
 
     undecided_all : (r : Role) → (end_of_role r (opened funder fundee)).ledger.decided ≡ 0
     undecided_all Funder = refl

@@ -36,7 +36,7 @@ use Rattle.ln_channel.specs.Step.{faulted, line_fault}
 use Rattle.ln_channel.specs.Resume.{resumed}
 use Rattle.ln_pair.specs.Ends.{Ends, turned, message_at, messages_in, arrive, becomes, answers, delivers, Act, Deliver}
 use Rattle.ln_pair.specs.Ends.{notes, still_come, Give, Note, Lose, Cut, acts, connects, Step, By, Connect, happens}
-use Rattle.ln_pair.specs.Ends.{run}
+use Rattle.ln_pair.specs.Ends.{Save, run}
 use Rattle.ln_pair.specs.Promises.{AreKeys}
 use Rattle.std.proofs.Common.{not}
 use Rattle.std.specs.Prelude.{option_map}
@@ -55,7 +55,7 @@ use Rattle.ln_pair.proofs.Turns.{is_close, begun_so, begins_by}
 use Rattle.ln_pair.proofs.Sides.{Close, closes_of, has_bid}
 use Rattle.ln_pair.proofs.Sides.{Notice, Update, Sign, Revoke, Ready, Shutdown, Again, posts}
 use Rattle.ln_pair.proofs.Images.{message_of, messages_of, messages-append}
-use Rattle.ln_pair.proofs.Steps.{sent_as, Hold, flip, numbered, confirms, proposed_so, signed_so, shuts}
+use Rattle.ln_pair.proofs.Steps.{sent_as, Hold, flip, numbered, rebased, confirms, proposed_so, signed_so, shuts}
 use Rattle.ln_pair.proofs.Resends.{in-append}
 use Rattle.ln_pair.proofs.Breaks.{again_row, lacked, again_sends, took_again, lost_so, joined_so}
 use Rattle.ln_pair.proofs.Cuts.{messages_left, cut_so}
@@ -493,6 +493,14 @@ module _ (a b : Signer) (keys : AreKeys a b) where
   }
   acted Lose p h = lost_by (is_down p.x_line) p h
   acted (Cut n) p h = cut_by (is_down p.x_line) n p refl h
+  acted Save p h = record {
+    channel = h.channel;
+    to_x = h.to_x;
+    to_y = h.to_y;
+    in_x = h.in_x;
+    in_y = h.in_y;
+    hold = rebased a b h.channel p.x_line p.y_line p.x p.y h.to_x h.to_y p.said_x p.said_y h.hold;
+  }
 
 -- ---- steps
 

@@ -22,6 +22,7 @@ use Rattle.ln_hooks.specs.Event.{event_of}
 use Rattle.ln_log.specs.declared.mark.EventRef.{EventRef}
 use Rattle.ln_log.specs.declared.mark.EventRef.TheVariants as ref
 use Rattle.ln_log.specs.declared.mark.Settlement.{Settlement}
+use Rattle.ln_channel.specs.Base.{entering, is_open, based}
 use Rattle.ln_channel.specs.Ledger.{Ledger, ref_of, refs_of, entered, settlement_by, settlements}
 use Rattle.ln_channel.specs.End.{End, is_closed, has_begun, owes_shutdown, answers_shutdown, settled}
 use Rattle.ln_channel.specs.Taking.{answering, answered_end, range_in, shuts_by_peer}
@@ -31,6 +32,8 @@ use Rattle.ln_pair.proofs.Moving.{still_open}
 use Rattle.ln_pair.proofs.All.{All, all-append, all-drop}
 use Rattle.ln_pair.proofs.Lasting.{Where, IsHeld}
 use Rattle.ln_pair.proofs.Noting.{Behind}
+use Rattle.ln_pair.proofs.Bases.{IsAt, base_within, base_at, length-filter}
+use Rattle.ln_pair.proofs.Pending.{own_at, peer_at}
 
 -- ---- what every step keeps of an end
 
@@ -46,9 +49,10 @@ IsFee n = n < 2 ^ 64
 -- the peer's channel_ready
 pub record IsSteady (first : Counts) (current acknowledged : ℕ) (ledger : Ledger) (revoked : ℕ) (peer : Peer)
     (ready : Bool) (peer_fee closed : Option ℕ) : Type 0 where
-  pub first_own : first.own ≡ 0
-  pub first_peer : first.peer ≡ 0
+  pub first_own : first.own ≤ current
+  pub first_peer : first.peer ≤ acknowledged
   pub undecided : All (IsHeld current acknowledged) ledger.undecided
+  pub there : All (IsAt first) ledger.undecided
   pub events : ledger.decided + length ledger.undecided ≤ current + acknowledged + closes_in closed
   pub decisions : length ledger.decisions ≤ ledger.decided
   pub results : length ledger.results ≤ acknowledged
@@ -148,12 +152,14 @@ module _ (k : Signer) (x : End) (w : log.IsWithin x.dance.log) (s : Steady x) wh
       let new = at_most true c us in
       let all = length-append x.ledger.undecided rs in
       let before = s.events in
+      let held = s.first_own in
       record {
-        first_own = s.first_own;
+        first_own = omega (arith, held, grow);
         first_peer = s.first_peer;
         undecided = all-append (IsHeld d p) x.ledger.undecided rs
             (raised c p d p x.ledger.undecided grow (omega arith) s.undecided)
             (own_named c d p us (omega (arith, grow, many)));
+        there = all-append (IsAt l.first) x.ledger.undecided rs s.there (own_at l.first c us s.first_own);
         events = omega (arith, grow, many, new, all, before);
         decisions = s.decisions;
         results = s.results;
@@ -179,12 +185,14 @@ module _ (k : Signer) (x : End) (w : log.IsWithin x.dance.log) (s : Steady x) wh
       let few = few_settlements l.own us in
       let more = length-append x.ledger.results (settlements l.own us) in
       let had = s.results in
+      let held = s.first_peer in
       record {
         first_own = s.first_own;
-        first_peer = s.first_peer;
+        first_peer = omega (arith, held, grow);
         undecided = all-append (IsHeld o d) x.ledger.undecided rs
             (raised o c o d x.ledger.undecided (omega arith) grow s.undecided)
             (peer_named c o d us (omega (arith, grow, many)));
+        there = all-append (IsAt l.first) x.ledger.undecided rs s.there (peer_at l.first c us s.first_peer);
         events = omega (arith, grow, many, new, all, before);
         decisions = s.decisions;
         results = omega (arith, grow, many, few, more, had);
@@ -207,6 +215,7 @@ module _ (k : Signer) (x : End) (w : log.IsWithin x.dance.log) (s : Steady x) wh
         first_own = s.first_own;
         first_peer = s.first_peer;
         undecided = s.undecided;
+        there = s.there;
         events = s.events;
         decisions = s.decisions;
         results = s.results;
@@ -245,6 +254,7 @@ module _ (k : Signer) (x : End) (w : log.IsWithin x.dance.log) (s : Steady x) wh
     first_peer = s.first_peer;
     undecided = all-append (IsHeld x.dance.log.current.own x.dance.log.acknowledged.peer) x.ledger.undecided
         (ref.Close ∷ []) s.undecided (tt, tt);
+    there = all-append (IsAt x.dance.log.first) x.ledger.undecided (ref.Close ∷ []) s.there (tt, tt);
     events = closed_events (ref.Close ∷ []) refl unclosed;
     decisions = s.decisions;
     results = s.results;
@@ -260,6 +270,7 @@ module _ (k : Signer) (x : End) (w : log.IsWithin x.dance.log) (s : Steady x) wh
     first_own = s.first_own;
     first_peer = s.first_peer;
     undecided = s.undecided;
+    there = s.there;
     events = s.events;
     decisions = s.decisions;
     results = s.results;
@@ -292,9 +303,30 @@ noted_steady x l b s =
       undecided = subst (All (IsHeld x.dance.log.current.own x.dance.log.acknowledged.peer)) (sym b.undecided)
           (all-drop (IsHeld x.dance.log.current.own x.dance.log.acknowledged.peer) b.gone x.ledger.undecided
           s.undecided);
+      there = subst (All (IsAt x.dance.log.first)) (sym b.undecided)
+          (all-drop (IsAt x.dance.log.first) b.gone x.ledger.undecided s.there);
       events = omega (arith, within, more, before, fewer);
       decisions = omega (arith, more, made, had);
       results = omega (arith, kept, come);
+      secret = s.secret;
+      next_point = s.next_point;
+      heard = s.heard;
+    }
+
+-- as it is saved, its base is still within what it holds, and it has no more decisions
+pub based_steady : (x : End) → Steady x → Steady (based x)
+based_steady x s =
+    let base = base_within x s.first_own s.first_peer in
+    let fewer = length-filter (is_open (entering x)) x.ledger.decisions in
+    let had = s.decisions in
+    record {
+      first_own = base.0;
+      first_peer = base.1;
+      undecided = s.undecided;
+      there = base_at x s.there;
+      events = s.events;
+      decisions = omega (arith, fewer, had);
+      results = s.results;
       secret = s.secret;
       next_point = s.next_point;
       heard = s.heard;

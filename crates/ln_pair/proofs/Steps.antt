@@ -25,6 +25,7 @@ use Rattle.ln_close.specs.Closing.{after_shut}
 use Rattle.ln_dance.specs.Dance.{with_next_point, owes, is_last, sign_fault, signed_message, revoked_message}
 use Rattle.ln_dance.specs.Messages.{update_message}
 use Rattle.ln_dance.specs.Resume.{reestablish_message, signature_again}
+use Rattle.ln_channel.specs.Base.{based}
 use Rattle.ln_channel.specs.Ledger.{Ledger}
 use Rattle.ln_channel.specs.End.{End, is_ready, is_closed, all_acknowledged, shutdown_message}
 use Rattle.ln_channel.specs.Taking.{takes, takes_ready, accepts, revokes, shuts_by_peer}
@@ -155,6 +156,39 @@ pub numbered : (a b : Signer) (channel : List ℕ) (lx ly : Line) (x y : End) (t
     (said_x said_y : List Message) (l : Ledger) → Hold a b channel lx ly x y to_x to_y said_x said_y
     → Hold a b channel lx ly (record x { ledger = l }) y to_x to_y said_x said_y
 numbered a b channel lx ly x y to_x to_y said_x said_y l h = record {
+  kept = h.kept;
+  told = h.told;
+  ended = h.ended;
+  ended_back = h.ended_back;
+  closes = h.closes;
+  closes_back = h.closes_back;
+  x_signs = h.x_signs;
+  y_signs = h.y_signs;
+  x_channel = h.x_channel;
+  y_channel = h.y_channel;
+  x_knows = record {
+    point = h.x_knows.point;
+    next_point = h.x_knows.next_point;
+    below = h.x_knows.below;
+    script = h.x_knows.script;
+    secret = h.x_knows.secret;
+  };
+  y_knows = record {
+    point = h.y_knows.point;
+    next_point = h.y_knows.next_point;
+    below = h.y_knows.below;
+    script = h.y_knows.script;
+    secret = h.y_knows.secret;
+  };
+  x_said = h.x_said;
+  y_said = h.y_said;
+}
+
+-- nor does the base of its updates
+pub rebased : (a b : Signer) (channel : List ℕ) (lx ly : Line) (x y : End) (to_x to_y : List Notice)
+    (said_x said_y : List Message) → Hold a b channel lx ly x y to_x to_y said_x said_y
+    → Hold a b channel lx ly (based x) y to_x to_y said_x said_y
+rebased a b channel lx ly x y to_x to_y said_x said_y h = record {
   kept = h.kept;
   told = h.told;
   ended = h.ended;

@@ -1,6 +1,6 @@
 -- An end that acts and then loses its connection, with all that it has sent in the act: of y, and of what is in flight
 -- to it, everything is as it was before the act.
-use Rattle.std.proofs.Common.{◌≡◌, ℕ, List, [], ◌∷◌, ◌++◌, take, length, refl, sym, ap, ◌∙◌, subst, append-nil}
+use Rattle.std.proofs.Common.{◌≡◌, ℕ, List, [], ◌∷◌, length, refl, sym, ap, ◌∙◌, subst, append-nil}
 use Rattle.std.proofs.Common.{Bool, true, false, cond, Option, Some, None, Result, Ok, Err}
 use Rattle.std.proofs.Math.Seq.{take-append_seam}
 use Rattle.ln_msgs.specs.declared.messages.message.Message.{Message}
@@ -10,12 +10,12 @@ use Rattle.ln_keys.specs.Signer.{Signer}
 use Rattle.ln_channel.specs.declared.command.Command.{Command}
 use Rattle.ln_channel.specs.declared.unsaved.Line.{Line}
 use Rattle.ln_channel.specs.declared.unsaved.Line.TheVariants.{Down, Awaiting, Met}
-use Rattle.ln_channel.specs.Commands.{command_row, unready_fault}
+use Rattle.ln_channel.specs.Commands.{unready_fault}
 use Rattle.ln_channel.specs.End.{End, Turn, end_dropped}
 use Rattle.ln_channel.specs.State.{is_down}
-use Rattle.ln_channel.specs.Step.{faulted, line_fault}
+use Rattle.ln_channel.specs.Step.{faulted}
 use Rattle.ln_pair.specs.Ends.{Ends, message_at, command_at, messages_in, arrive, answers, delivers, still_come, cuts}
-use Rattle.ln_pair.specs.Ends.{Act, Deliver, Give, Note, Lose, Cut, acts}
+use Rattle.ln_pair.specs.Ends.{Act, Deliver, Give, Note, Lose, Cut, Save, acts}
 use Rattle.ln_pair.proofs.Sides.{Side, Notice}
 use Rattle.ln_pair.proofs.Walk.{InFlight}
 use Rattle.ln_pair.proofs.Images.{messages_of, side_of}
@@ -53,6 +53,7 @@ is_deed (Give c) = true
 is_deed (Note c) = true
 is_deed Lose = false
 is_deed (Cut n) = false
+is_deed Save = true
 
 nothing_sent : (l : Line) (ms : List Message) → ms ≡ arrive l [] ms
 nothing_sent Down ms = refl
@@ -79,6 +80,8 @@ deeds_leave keys (Note c) q is =
     record { sent = []; y_line = refl; y = refl; to_y = nothing_sent q.y_line q.to_y }
 deeds_leave keys Lose q is = absurd (cc)
 deeds_leave keys (Cut n) q is = absurd (cc)
+deeds_leave keys Save q is =
+    record { sent = []; y_line = refl; y = refl; to_y = nothing_sent q.y_line q.to_y }
 
 -- ---- no deed makes a connection, or ends one
 
@@ -122,6 +125,7 @@ deeds_line keys (Give c) q is = answers_line q.x_line (command_at keys q.x_line 
 deeds_line keys (Note c) q is = refl
 deeds_line keys Lose q is = absurd (cc)
 deeds_line keys (Cut n) q is = absurd (cc)
+deeds_line keys Save q is = refl
 
 -- ---- all that was sent is lost, and nothing else
 

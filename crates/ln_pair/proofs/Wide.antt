@@ -22,6 +22,7 @@ use Rattle.ln_channel.specs.Opening.{accept_fault, funder_end, created_message, 
 use Rattle.ln_channel.specs.Opening.{funder_terms}
 use Rattle.ln_channel.specs.Config.{fees_of}
 use Rattle.ln_channel.specs.Meeting.{Opens}
+use Rattle.ln_channel.specs.Base.{entering, is_open, based}
 use Rattle.ln_channel.specs.End.{End, Turn, end_of, end_dropped}
 use Rattle.ln_channel.specs.Taking.{message_row}
 use Rattle.ln_channel.specs.Commands.{command_row, unready_fault}
@@ -29,19 +30,19 @@ use Rattle.ln_channel.specs.State.{is_down}
 use Rattle.ln_channel.specs.Step.{faulted, line_fault}
 use Rattle.ln_pair.specs.Ends.{Ends, turned, opened, messages_in, message_at, command_at, arrive, answers}
 use Rattle.ln_pair.specs.Ends.{still_come}
-use Rattle.ln_pair.specs.Ends.{delivers, Act, Deliver, Give, Note, Lose, Cut, acts, connects, Step, By, Connect}
+use Rattle.ln_pair.specs.Ends.{delivers, Act, Deliver, Give, Note, Lose, Cut, Save, acts, connects, Step, By, Connect}
 use Rattle.ln_pair.specs.Ends.{happens, run}
 use Rattle.ln_pair.specs.Promises.{AreKeys}
 use Rattle.ln_pair.specs.Widths.{IsUpdate, IsCommand}
-use Rattle.ln_pair.proofs.All.{All, all-append, all-take}
-use Rattle.ln_pair.proofs.Lasting.{Where, longest_script, IsWide, IsOf}
+use Rattle.ln_pair.proofs.All.{All, all-append, all-take, all-filter}
+use Rattle.ln_pair.proofs.Lasting.{Where, longest_script, IsDecision, IsWide, IsOf}
 use Rattle.ln_pair.proofs.Opens.{was_given}
 use Rattle.ln_pair.proofs.Contents.{CarriesWide, messages_wide, Origin, contents_of, Fits}
 use Rattle.ln_pair.proofs.Contents.{length-front, wide_of}
 use Rattle.ln_pair.proofs.WideNotes.{noted_fits}
 use Rattle.ln_pair.proofs.WideTurns.{AnswerFits, row_fits, completes, meets_fits, command_fits}
 
--- ---- steps whose commands are as wide as they are in code
+-- ---- steps that bring what a record has room for: their commands are as wide as they are in code
 
 abbrev pub ActIsWide : Act → Type 0
 ActIsWide Deliver = Unit {0}
@@ -49,10 +50,25 @@ ActIsWide (Give c) = IsCommand c
 ActIsWide (Note c) = IsCommand c
 ActIsWide Lose = Unit {0}
 ActIsWide (Cut n) = Unit {0}
+ActIsWide Save = Unit {0}
 
 abbrev pub StepIsWide : Step → Type 0
 StepIsWide (By side act) = ActIsWide act
 StepIsWide Connect = Unit {0}
+
+-- as an end is saved, decisions are left out
+pub based_fits : (o : Origin) (e : End) → Fits o e → Fits o (based e)
+based_fits o e h = record {
+  origin = h.origin;
+  own = h.own;
+  own_room = h.own_room;
+  received = h.received;
+  received_room = h.received_room;
+  script = h.script;
+  peer_script = h.peer_script;
+  decisions = all-filter IsDecision (is_open (entering e)) e.ledger.decisions h.decisions;
+  results = h.results;
+}
 
 -- both ends, and what is in flight
 pub record BothFit (o q : Origin) (p : Ends) : Type 0 where
@@ -143,6 +159,7 @@ module _ (k : Signer) (o q : Origin) where
   acts_fit (Note c) p wide h = record { x = noted_fits o c p.x wide h.x; y = h.y; to_x = h.to_x; to_y = h.to_y }
   acts_fit Lose p wide h = loses_fit (is_down p.x_line) p h
   acts_fit (Cut n) p wide h = cuts_fit (is_down p.x_line) n p h
+  acts_fit Save p wide h = record { x = based_fits o p.x h.x; y = h.y; to_x = h.to_x; to_y = h.to_y }
 
 -- ---- steps
 

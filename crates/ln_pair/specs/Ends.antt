@@ -18,6 +18,7 @@ use Rattle.ln_channel.specs.declared.output.Output.{Output}
 use Rattle.ln_channel.specs.declared.output.Output.TheVariants as output
 use Rattle.ln_channel.specs.End.{End, Turn, end_of, end_dropped}
 use Rattle.ln_channel.specs.Taking.{taken}
+use Rattle.ln_channel.specs.Base.{based}
 use Rattle.ln_channel.specs.Ledger.{Ledger}
 use Rattle.ln_channel.specs.Commands.{ledgered, command_row, unready_fault}
 use Rattle.ln_channel.specs.Resume.{resume_row}
@@ -137,12 +138,17 @@ still_come n Met ms = take n ms
 abbrev pub cuts : ℕ → Ends → Ends
 cuts n p = if is_down p.x_line then record p { to_y = still_come n p.y_line p.to_y } else p
 
+-- x is saved: what it needn't keep one by one any more is left out, and nothing is sent
+abbrev pub saves : Ends → Ends
+saves p = record p { x = based p.x }
+
 pub data Act : Type 0 where
   Deliver : Act
   Give : (c : Command) → Act
   Note : (c : Command) → Act
   Lose : Act
   Cut : (left : ℕ) → Act
+  Save : Act
 
 abbrev pub acts : Signer → Act → Ends → Ends
 acts keys Deliver p = delivers keys p.to_x p
@@ -150,6 +156,7 @@ acts keys (Give c) p = answers (command_at keys p.x_line c p.x) p
 acts keys (Note c) p = notes c p
 acts keys Lose p = loses p
 acts keys (Cut n) p = cuts n p
+acts keys Save p = saves p
 
 -- ---- steps, where the funder, of keys a, is x, and the fundee, of keys b, is y
 

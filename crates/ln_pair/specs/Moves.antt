@@ -17,8 +17,8 @@ use Rattle.ln_channel.specs.declared.unsaved.Line.{Line}
 use Rattle.ln_channel.specs.declared.opening.Opened.{Opened}
 use Rattle.ln_channel.specs.End.{End, Turn}
 use Rattle.ln_channel.specs.State.{is_down}
-use Rattle.ln_pair.specs.Ends.{Ends, opened, turned, message_at, command_at, Act, Deliver, Give, Note, Lose, Cut, Step}
-use Rattle.ln_pair.specs.Ends.{By, Connect, happens}
+use Rattle.ln_pair.specs.Ends.{Ends, opened, turned, message_at, command_at, Act, Deliver, Give, Note, Lose, Cut}
+use Rattle.ln_pair.specs.Ends.{Save, Step, By, Connect, happens}
 use Rattle.ln_pair.specs.Promises.{party}
 
 -- the machine that a funder's and a fundee's end stand for
@@ -100,6 +100,7 @@ moves_of_act keys side (Give c) p = moves_of_command side c p.x (command_at keys
 moves_of_act keys side (Note c) p = []
 moves_of_act keys side Lose p = if is_down p.x_line then [] else Drop side ∷ []
 moves_of_act keys side (Cut n) p = []
+moves_of_act keys side Save p = []
 
 abbrev pub moves_of : Signer → Signer → Step → Ends → List Move
 moves_of a b (By Funder act) p = moves_of_act a Funder act p

@@ -15,8 +15,8 @@ use Rattle.ln_channel.specs.declared.output.Output.{Output}
 use Rattle.ln_channel.specs.declared.output.Output.TheVariants as output
 use Rattle.ln_channel.specs.Outputs.{all_of}
 use Rattle.ln_channel.specs.End.{End, Turn}
-use Rattle.ln_pair.specs.Ends.{Ends, turned, message_at, command_at, Act, Deliver, Give, Note, Lose, Cut, Step, By}
-use Rattle.ln_pair.specs.Ends.{Connect, happens}
+use Rattle.ln_pair.specs.Ends.{Ends, turned, message_at, command_at, Act, Deliver, Give, Note, Lose, Cut, Save}
+use Rattle.ln_pair.specs.Ends.{Step, By, Connect, happens}
 
 -- as an end tells it; an add beyond what an event can tell is none
 abbrev pub event_at : Event → Option ChannelEvent
@@ -51,6 +51,7 @@ told_in keys (Give c) p = told_by (command_at keys p.x_line c p.x)
 told_in keys (Note c) p = []
 told_in keys Lose p = []
 told_in keys (Cut n) p = []
+told_in keys Save p = []
 
 -- by the end of this role; what a connection that comes up hands out is a message alone, and left out
 abbrev pub told : Signer → Signer → Role → Step → Ends → List Output

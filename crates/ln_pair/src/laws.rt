@@ -1,6 +1,7 @@
 //! What two ends of a channel promise over every list of steps from their opening on: messages are delivered in the
-//! order in which they were sent, either end is given any command, closing included, and connections are lost, at each
-//! end by itself, and come back (BOLT 2, "Message Retransmission").
+//! order in which they were sent, either end is given any command, closing included, and is saved at any time, which
+//! leaves out what it needn't keep one by one any more; and connections are lost, at each end by itself, and come back
+//! (BOLT 2, "Message Retransmission").
 
 ghost use Rattle.std.specs.Prelude.{◌≡◌, List};
 ghost use Rattle.ln_msgs.specs.declared.messages.message.Message.{Message};

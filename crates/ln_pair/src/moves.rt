@@ -21,7 +21,8 @@ ghost use Rattle.ln_pair.specs.Told.{as_told, events_in, all_told, unnumbered, C
 /// ends stand for. Of commands that aren't refused, an update is proposed, a signature or a shutdown sent. A
 /// `commitment_signed` that is taken is accepted, a `revoke_and_ack` learned from; a close, and a shutdown that an end
 /// owes and sends in its turn, are the move of that turn. A lost connection drops what no signature covers. What is
-/// refused is no move, nor is an update that is taken, a connection that comes back, or what is sent again then.
+/// refused is no move, nor is an update that is taken, a connection that comes back, what is sent again then, or a
+/// save.
 pub fn moves_are_the_machines()
     ensures { (a b : Signer) (s : OpenSpec) (c : Config) (funder fundee : Opened) (steps : List Step) → AreKeys a b
         → Opens a b s c funder fundee

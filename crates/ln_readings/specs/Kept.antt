@@ -1,11 +1,13 @@
 -- What a book asks of a channel, once its connection was lost or it was loaded.
-use Rattle.std.specs.Prelude.{ℕ, List, [], ◌∷◌, length, Bool, false, not, ◌&&◌, nat_lt, Option, Some, None}
-use Rattle.std.specs.Prelude.{if◌then◌else◌}
+use Rattle.std.specs.Prelude.{ℕ, List, [], ◌∷◌, ◌++◌, length, Bool, false, not, ◌&&◌, ◌||◌, nat_lt, Option, Some}
+use Rattle.std.specs.Prelude.{None, if◌then◌else◌}
 use Rattle.std.specs.List.{find}
+use Rattle.ln_log.specs.declared.log.Side.TheVariants as side
 use Rattle.ln_log.specs.declared.mark.Mark.{Mark}
 use Rattle.ln_log.specs.declared.update.Update.{Update}
-use Rattle.ln_log.specs.Updates.{next_id, outcome, is_live}
+use Rattle.ln_log.specs.Updates.{next_id, add_with, outcome, is_live, is_some}
 use Rattle.ln_log.specs.Log.{Log, between}
+use Rattle.ln_log.specs.Window.{first_worth, first_lives}
 use Rattle.ln_channel.specs.End.{End}
 use Rattle.ln_tables.specs.declared.htlc.Htlc.{Htlc}
 use Rattle.ln_tables.specs.declared.entry.Queued.{Queued}
@@ -46,19 +48,27 @@ told_by next removes decides c t = record {
   decides = is_desk_kept decides c (desk_at c t) t.queue;
 }
 
--- ---- what the end of a channel answers, by the lists that it has
+-- ---- what the end of a channel answers, by the updates that it has: those that offered the HTLCs that are live in its
+-- base, and those behind it
 
--- the own updates, from the first one that it still has one by one
+-- the own updates behind the base
+abbrev pub own_window : Log → List Update
+own_window l = between l.first.own (length l.own) l.own
+
 abbrev pub own_updates : Log → List Update
-own_updates l = between l.first.own (length l.own) l.own
+own_updates l = first_lives side.Own l ++ own_window l
 
 -- each HTLC that it has offered has an id below this
 abbrev pub next_own_id : End → ℕ
 next_own_id e = next_id e.dance.log.own
 
+-- the peer's HTLC of this id was offered in the base, and isn't live there any more
+abbrev pub is_gone : ℕ → Log → Bool
+is_gone id l = nat_lt id (first_worth l).next_peer && not (is_some (add_with id (first_lives side.Peer l)))
+
 -- an own update removes the peer's HTLC of this id
 abbrev pub has_own_removal : ℕ → Log → Bool
-has_own_removal id l = not (is_live (outcome id (own_updates l)))
+has_own_removal id l = not (is_live (outcome id (own_window l))) || is_gone id l
 
 -- events are decided in turn: those below the count are
 abbrev pub has_decided : ℕ → End → Bool

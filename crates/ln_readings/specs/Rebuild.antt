@@ -2,6 +2,7 @@
 use Rattle.std.specs.Prelude.{ℕ, List, [], ◌∷◌, ◌++◌, length, replicate, Bool, true, false, not, ◌&&◌, ◌||◌}
 use Rattle.std.specs.Prelude.{Option, Some, None, if◌then◌else◌}
 use Rattle.std.specs.List.{cons_option, find, list_any}
+use Rattle.ln_log.specs.declared.log.Side.TheVariants as side
 use Rattle.ln_log.specs.declared.mark.Decision.{Decision}
 use Rattle.ln_log.specs.declared.mark.Mark.{Mark}
 use Rattle.ln_log.specs.declared.mark.Mark.TheVariants as mark
@@ -11,6 +12,7 @@ use Rattle.ln_log.specs.declared.update.Update.{Update}
 use Rattle.ln_log.specs.declared.update.Update.TheVariants as update
 use Rattle.ln_log.specs.Updates.{offered, add_with, outcome, is_live}
 use Rattle.ln_log.specs.Log.{Log, between}
+use Rattle.ln_log.specs.Window.{first_lives}
 use Rattle.ln_hooks.specs.declared.event.How.{How}
 use Rattle.ln_hooks.specs.declared.event.How.TheVariants as how
 use Rattle.ln_channel.specs.End.{End}
@@ -72,11 +74,14 @@ abbrev pub legs_over : List ℕ → List Settlement → List Leg
 legs_over c [] = []
 legs_over c (s ∷ ss) = cons_option (leg_over c s (how_of s.removal)) (legs_over c ss)
 
--- the peer's updates, from the first one that the end still has one by one
-abbrev pub peer_updates : Log → List Update
-peer_updates l = between l.first.peer (length l.received) l.received
+-- the peer's updates that the end has: those that offered the HTLCs that are live in its base, and those behind it
+abbrev pub peer_window : Log → List Update
+peer_window l = between l.first.peer (length l.received) l.received
 
--- the own updates that are held as irrevocably committed
+abbrev pub peer_updates : Log → List Update
+peer_updates l = first_lives side.Peer l ++ peer_window l
+
+-- the own updates behind the base that are held as irrevocably committed
 abbrev pub held_updates : Log → List Update
 held_updates l = between l.first.own l.current.own l.own
 
@@ -111,7 +116,7 @@ abbrev pub decided_by : List ℕ → Mark → Back → Option Add → Option Htl
 decided_by c m b None = None
 decided_by c m b (Some a) = Some (htlc_by c m b a)
 
--- each decision with the peer's add of its id
+-- each decision with the peer's add of its id: it leaves the record with its HTLC, as the removal enters the base
 abbrev pub decided_in : List ℕ → Log → List Decision → List Htlc
 decided_in c l [] = []
 decided_in c l (d ∷ ds) =

@@ -1,18 +1,32 @@
 //! A channel end answers what a book asks behind a lost connection or a load.
 
 ghost use Rattle.std.specs.Prelude.{◌≡◌};
-ghost use Rattle.ln_readings.specs.Kept.{own_updates};
+ghost use Rattle.ln_readings.specs.Kept.{own_window, is_gone, has_own_removal};
 
 use crate::kept::Kept;
 use ln_channel::Channel;
-use ln_log::{Mark, Outcome, Pair, Side, Update, UpdateLog, outcome_of};
+use ln_log::{Mark, Outcome, Pair, Side, Update, UpdateLog, find_add, outcome_of};
 
-// The own updates that an end still has one by one.
-pub(crate) fn own_updates(log: &UpdateLog) -> &[Update]
-    ensures { result.now ≡ own_updates log.now }
+// The own updates behind the base.
+pub(crate) fn own_window(log: &UpdateLog) -> &[Update]
+    ensures { result.now ≡ own_window log.now }
 {
     let first = log.first(Side::Own);
     log.between(Side::Own, first, log.counts(Pair::ToSign).own)
+}
+
+// Whether the peer's HTLC of this id was offered in the base, and isn't live there any more.
+fn is_gone(id: u64, log: &UpdateLog) -> bool
+    ensures { result ≡ is_gone id log.now }
+{
+    id < log.worth().next_peer && find_add(id, log.live(Side::Peer)).is_none()
+}
+
+// Whether an own update removes the peer's HTLC of this id.
+pub(crate) fn has_own_removal(id: u64, log: &UpdateLog) -> bool
+    ensures { result ≡ has_own_removal id log.now }
+{
+    outcome_of(id, own_window(log)) != Outcome::Live || is_gone(id, log)
 }
 
 /// The end of a channel that both sides have signed, once it has dropped what no signature covers.
@@ -30,7 +44,7 @@ impl Kept for Channel {
     }
 
     fn removal_kept(&self, id: u64) -> bool {
-        outcome_of(id, own_updates(self.dance().log())) != Outcome::Live
+        has_own_removal(id, self.dance().log())
     }
 
     fn decision_kept(&self, event: u64, _: &Mark) -> bool {

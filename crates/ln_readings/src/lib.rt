@@ -4,10 +4,12 @@
 
 mod channel;
 mod kept;
+mod laws;
 mod leg;
 mod reading;
 mod rebuild;
 
 pub use kept::{Kept, told_by};
+pub use laws::a_record_tells_what_is_read;
 pub use leg::{Leg, Reading};
 pub use rebuild::rebuilt_htlcs;

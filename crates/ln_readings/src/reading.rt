@@ -1,11 +1,12 @@
 //! What a book takes from the end of a channel as its node starts.
 
-ghost use Rattle.std.specs.Prelude.{◌≡◌, IfOk, IfErr, option_copied};
+ghost use Rattle.std.specs.Prelude.{◌≡◌, ◌++◌, IfOk, IfErr, OnOk, option_copied};
 ghost use Rattle.ln_log.specs.Updates.{add_with, offered};
-ghost use Rattle.ln_readings.specs.Rebuild.{peer_updates, held_updates, leg_of, legs_offered, how_of, leg_over};
-ghost use Rattle.ln_readings.specs.Rebuild.{legs_over, back_in, htlc_by, decided_by, decided_in};
+ghost use Rattle.ln_readings.specs.Kept.{own_updates};
+ghost use Rattle.ln_readings.specs.Rebuild.{peer_window, peer_updates, held_updates, leg_of, legs_offered, how_of};
+ghost use Rattle.ln_readings.specs.Rebuild.{leg_over, legs_over, back_in, htlc_by, decided_by, decided_in};
 
-use crate::channel::own_updates;
+use crate::channel::{has_own_removal, own_window};
 use crate::leg::{Leg, NO_EVENT, Reading};
 use ln_channel::Channel;
 use ln_hooks::How;
@@ -17,12 +18,23 @@ use ln_msgs::Refusal;
 use ln_tables::{Back, Htlc, Key, Offer, Way, copied, copy_mark};
 use std::alloc::Global;
 
-// The peer's updates that an end still has one by one.
-fn peer_updates(log: &UpdateLog) -> &[Update]
-    ensures { result.now ≡ peer_updates log.now }
+// The peer's updates behind the base.
+fn peer_window(log: &UpdateLog) -> &[Update]
+    ensures { result.now ≡ peer_window log.now }
 {
     let first = log.first(Side::Peer);
     log.between(Side::Peer, first, log.counts(Pair::ToAccept).peer)
+}
+
+// The peer's HTLC of this id, where it is live in the base or was offered behind it.
+#[tactic(auto, using(crate::proofs::Lists::found_before, crate::proofs::Lists::found_behind))]
+fn peer_add(id: u64, log: &UpdateLog) -> Option<&Add>
+    ensures { option_copied result ≡ add_with id (peer_updates log.now) }
+{
+    match find_add(id, log.live(Side::Peer)) {
+        None => find_add(id, peer_window(log)),
+        Some(add) => Some(add),
+    }
 }
 
 // The own ones that are held as irrevocably committed.
@@ -47,18 +59,29 @@ fn leg_of(channel: &ChannelId, add: Option<&Add>) -> Option<Leg>
     Some(Leg { origin, way })
 }
 
-// Those of own updates. Error: 60 alone.
-fn legs_offered(alloc: Global, channel: &ChannelId, updates: &[Update]) -> Result<Vec<Leg>, Refusal>
-    ensures legs { IfOk result (λ v. v.items ≡ legs_offered channel.now updates.now) }
+// Adds those of own updates. Error: 60 alone.
+fn add_legs(legs: &mut Vec<Leg>, channel: &ChannelId, updates: &[Update]) -> Result<(), Refusal>
+    ensures added { OnOk result (legs.new.items ≡ legs.old.items ++ legs_offered channel.now updates.now) }
     ensures fails_for_memory_alone { IfErr result (λ r. r ≡ Refusal.Memory) }
 {
-    let mut legs = Vec::new(alloc);
     for update in updates {
         match leg_of(channel, add_of(update)) {
             None => {}
             Some(leg) => legs.push(leg)?,
         }
     }
+    Ok(())
+}
+
+// Those of all own updates that the end has. Error: 60 alone.
+#[tactic(auto, using(crate::proofs::Lists::legs_append))]
+fn legs_offered(alloc: Global, channel: &ChannelId, log: &UpdateLog) -> Result<Vec<Leg>, Refusal>
+    ensures legs { IfOk result (λ v. v.items ≡ legs_offered channel.now (own_updates log.now)) }
+    ensures fails_for_memory_alone { IfErr result (λ r. r ≡ Refusal.Memory) }
+{
+    let mut legs = Vec::new(alloc);
+    add_legs(&mut legs, channel, log.live(Side::Own))?;
+    add_legs(&mut legs, channel, own_window(log))?;
     Ok(legs)
 }
 
@@ -121,7 +144,7 @@ fn back_in(id: u64, log: &UpdateLog) -> Back
     if outcome_of(id, held_updates(log)) != Outcome::Live {
         return Back::Settled;
     }
-    if outcome_of(id, own_updates(log)) != Outcome::Live {
+    if has_own_removal(id, log) {
         return Back::Sent;
     }
     Back::Open
@@ -163,7 +186,7 @@ fn decided_by(
         (add_with decision.now.id (peer_updates log.now))) }
     ensures fails_for_memory_alone { IfErr result (λ r. r ≡ Refusal.Memory) }
 {
-    let Some(add) = find_add(decision.id, peer_updates(log)) else {
+    let Some(add) = peer_add(decision.id, log) else {
         return Ok(None);
     };
     let mark = copy_mark(alloc, &decision.mark)?;
@@ -195,9 +218,10 @@ impl Reading {
     ghost use Rattle.std.specs.Prelude.{◌≡◌, IfOk, IfErr};
     ghost use Rattle.ln_readings.specs.Rebuild.{reading_of};
 
-    /// What the end of a channel has of HTLCs that are forwarded, failed or taken: its own adds that forward others;
-    /// what became of such adds; and the peer's HTLCs that it has decided, each with whether an own removal of it
-    /// stands in its lists, and whether that is irrevocably committed (BOLT 2, "Forwarding HTLCs"). Takes memory.
+    /// What the end of a channel has of HTLCs that are forwarded, failed or taken: its own adds that forward others,
+    /// those that are live in its base and those behind it; what became of such adds; and the peer's HTLCs that it has
+    /// decided, each with whether an own removal of it stands in its lists, and whether that is irrevocably committed
+    /// (BOLT 2, "Forwarding HTLCs"). A decision has left with its HTLC once the removal is in the base. Takes memory.
     /// Error: 60 alone.
     pub fn of(alloc: Global, channel: &Channel) -> Result<Reading, Refusal>
         ensures reads_the_end { IfOk result (λ r. r ≡ reading_of channel.now) }
@@ -207,7 +231,7 @@ impl Reading {
         let log = channel.dance().log();
         let ledger = channel.ledger();
         Ok(Reading {
-            offered: legs_offered(alloc, &id, own_updates(log))?,
+            offered: legs_offered(alloc, &id, log)?,
             results: legs_over(alloc, &id, ledger.results())?,
             decided: decided_in(alloc, &id, log, ledger.decisions())?,
         })

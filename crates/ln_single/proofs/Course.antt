@@ -40,6 +40,7 @@ use Rattle.ln_channel.specs.Opening.{agreement, opening_of, asked_with, asked_by
 use Rattle.ln_channel.specs.Opening.{first_point, open_message, open_fault, accept_message, accept_fault}
 use Rattle.ln_channel.specs.Opening.{funder_end, created_message, created_fault, fundee_end, repeats}
 use Rattle.ln_channel.specs.Opening.{funding_message, first_fault}
+use Rattle.ln_channel.specs.Base.{based, based_stage, based_link}
 use Rattle.ln_channel.specs.Ledger.{Ledger}
 use Rattle.ln_channel.specs.End.{End, Turn, end_of, end_dropped}
 use Rattle.ln_channel.specs.Taking.{message_row, taken}
@@ -57,8 +58,9 @@ use Rattle.ln_pair.proofs.All.{All, all-append, all-take}
 use Rattle.ln_pair.proofs.Lasting.{Where}
 use Rattle.ln_pair.proofs.Noting.{noted as noted_behind, IsNotReady, not_ready}
 use Rattle.ln_msgs.specs.Refusals.Refusal.{refusal_number}
-use Rattle.ln_pair.proofs.Steady.{Steady, noted_steady}
+use Rattle.ln_pair.proofs.Steady.{Steady, noted_steady, based_steady}
 use Rattle.ln_pair.proofs.Contents.{Origin, Fits, length-front}
+use Rattle.ln_pair.proofs.Wide.{based_fits}
 use Rattle.ln_pair.proofs.WideNotes.{noted_fits}
 use Rattle.ln_pair.proofs.WideTurns.{AnswerFits, row_fits, completes, meets_fits, command_fits}
 use Rattle.ln_single.specs.Handed.{IsMessage, AreKeys, IsConfig, IsSpec}
@@ -70,7 +72,7 @@ use Rattle.ln_single.proofs.Other.{IsOther, OtherFault, open_other, agreed_other
 use Rattle.ln_single.proofs.Other.{message_other, unready_other, line_other}
 use Rattle.ln_single.proofs.Few.{dropped}
 use Rattle.ln_single.proofs.Failures.{IsFailure, failing}
-use Rattle.ln_single.proofs.Kept.{AreFees, IsOrigin, HasMore, with_fewer}
+use Rattle.ln_single.proofs.Kept.{AreFees, IsOrigin, HasMore, with_fewer, base_covered, base_dropped, base_moved}
 use Rattle.ln_single.proofs.Turns.{terms_of, AnswerKeeps, completes_keeps, row_keeps, resume_keeps}
 use Rattle.ln_single.proofs.Turns.{command_keeps}
 use Rattle.ln_pair.proofs.Steps.{where_true}
@@ -114,9 +116,10 @@ peer_point Fundee f t h = open_point t.open_channel h.open_channel
 first_more : (r : Role) (c : List ℕ) (f : Fees) (t : Terms) → AreTerms f t → HasMore (end_of (opened_by r c f t))
 first_more r c f t h = record {
   steady = record {
-    first_own = refl;
-    first_peer = refl;
+    first_own = omega arith;
+    first_peer = omega arith;
     undecided = tt;
+    there = tt;
     events = omega arith;
     decisions = omega arith;
     results = omega arith;
@@ -144,6 +147,7 @@ first_more r c f t h = record {
   };
   short = tt;
   few = record { own = omega arith; peer = omega arith; signed_own = omega arith; signed_peer = omega arith };
+  base = record { own_new = λ id le. refl; peer_new = λ id le. refl; paid = (omega arith, omega arith) };
 }
 
 short_if : (o : Option (List ℕ)) → o ≡ None → Where (λ s. length s ≤ 65499) o
@@ -210,6 +214,7 @@ dropped_more : (e : End) → HasMore e → HasMore (end_dropped e)
 dropped_more e h =
     let l = e.dance.log in
     let o = h.ordered in
+    let within = base_covered e h in
     let own = length-take-le l.signed.own l.own o.own_signed in
     let peer = length-take-le l.current.peer l.received o.peer_current in
     record {
@@ -218,6 +223,7 @@ dropped_more e h =
           (length (take l.current.peer l.received)) (omega (arith, own)) (omega (arith, peer));
       short = all-take IsShort l.signed.own l.own h.short;
       few = dropped l.own l.received l.signed l.acknowledged l.current h.few o.own_acknowledged o.peer_signed;
+      base = base_dropped l h.base within.own within.peer;
     }
 
 pub dropped_lasts : (e : End) → Lasts e → Lasts (end_dropped e)
@@ -243,6 +249,30 @@ lost_lasts keys (stage.AwaitsAccept c) h = tt
 lost_lasts keys (stage.AwaitsCreated c) h = tt
 lost_lasts keys (stage.AwaitsSigned c) h = tt
 lost_lasts keys stage.Gone h = tt
+
+-- ---- as it is saved
+
+based_more : (e : End) → HasMore e → HasMore (based e)
+based_more e h = record {
+  steady = based_steady e h.steady;
+  ordered = h.ordered;
+  short = h.short;
+  few = h.few;
+  base = base_moved e h.base;
+}
+
+pub based_lasts : (keys : Signer) (s : Stage) → StageLasts keys s → StageLasts keys (based_stage s)
+based_lasts keys (stage.Saved e) h = record {
+  origin = h.origin;
+  is = h.is;
+  fits = based_fits h.origin e h.fits;
+  more = based_more e h.more;
+}
+based_lasts keys (stage.AwaitsOpen c) h = h
+based_lasts keys (stage.AwaitsAccept c) h = h
+based_lasts keys (stage.AwaitsCreated c) h = h
+based_lasts keys (stage.AwaitsSigned c) h = h
+based_lasts keys stage.Gone h = tt
 
 -- ---- rows
 
@@ -482,7 +512,13 @@ module _ (k : Signer) (keys : AreKeys k) where
           origin = h.origin;
           is = h.is;
           fits = fits;
-          more = record { steady = steady; ordered = h.more.ordered; short = h.more.short; few = h.more.few };
+          more = record {
+            steady = steady;
+            ordered = h.more.ordered;
+            short = h.more.short;
+            few = h.more.few;
+            base = h.more.base;
+          };
         },
         tt,
       )
@@ -569,3 +605,6 @@ module _ (k : Signer) (keys : AreKeys k) where
       by : (b : Bool) → Good (if b then l else record l { line = Down; stage = cut l.stage })
       by true = h
       by false = record { failure = h.failure; stage = cut_lasts k l.stage h.stage }
+
+  pub settled_lasts : {K : Type 0} (l : State K) → Good l → Good (based_link l)
+  settled_lasts l h = record { failure = h.failure; stage = based_lasts k l.stage h.stage }

@@ -1,10 +1,10 @@
--- An end has a record whatever it was sent: its messages can be written, its updates are had from the first on, and its
--- items are readable.
-use Rattle.std.proofs.Common.{◌≡◌, ◌<◌, ◌≤◌, ◌+◌, ◌^◌, ◌∙◌, ℕ, zero, suc, List, [], ◌∷◌, length, take, refl, sym}
-use Rattle.std.proofs.Common.{ap, subst, arith, inl, inr, Bool, true, false, nat_le, nat_lt, ◌&&◌, Option, Some, None}
+-- An end has a record whatever it was sent: its messages can be written, and where a log can be restored from what is
+-- told of its updates, its items are readable.
+use Rattle.std.proofs.Common.{◌≡◌, ◌<◌, ◌≤◌, ◌+◌, ◌^◌, ◌∙◌, ℕ, List, [], ◌∷◌, length, refl, sym}
+use Rattle.std.proofs.Common.{ap, subst, arith, inl, inr, Bool, true, false, Option, Some, None}
 use Rattle.std.proofs.Common.{option_map, Ok}
-use Rattle.std.proofs.lemmas.Bool.{lt-ltb, le-leb}
-use Rattle.std.proofs.lemmas.List.{length-take-le, length-drop}
+use Rattle.std.proofs.lemmas.Bool.{le-leb}
+use Rattle.std.proofs.lemmas.List.{length-drop}
 use Rattle.std.specs.List.{list_all}
 use Rattle.ln_bytes.specs.declared.short_id.ShortId.{ShortId}
 use Rattle.ln_msgs.specs.declared.messages.opening.OpenChannel.{OpenChannel}
@@ -17,13 +17,10 @@ use Rattle.ln_msgs.specs.declared.refusals.refusal.Refusal.{Refusal}
 use Rattle.ln_msgs.specs.Messages.Table.{Form, form_of, open_form, accept_form}
 use Rattle.ln_msgs.proofs.Grammar.{message_again}
 use Rattle.ln_link.specs.Loading.{IsSaid}
-use Rattle.ln_keys.specs.declared.role.Role.{Role}
-use Rattle.ln_keys.specs.declared.role.Role.TheVariants.{Funder, Fundee}
 use Rattle.ln_log.specs.declared.opening.Opening.{Opening}
-use Rattle.ln_log.specs.declared.update.Update.{Update}
 use Rattle.ln_log.specs.Opening.{HasFunds, IsFit}
-use Rattle.ln_log.specs.Log.{Log, IsWithin, after_drop}
-use Rattle.ln_log.specs.Loading.{IsReadable}
+use Rattle.ln_log.specs.Log.{Log, after_drop}
+use Rattle.ln_log.specs.Told.{Told, told_of, IsRestorable}
 use Rattle.ln_log.specs.declared.mark.EventRef.{EventRef}
 use Rattle.ln_log.specs.declared.mark.EventRef.TheVariants as ref
 use Rattle.ln_channel.specs.Opening.{opening_of, asked_with, asked_by_accept}
@@ -32,21 +29,22 @@ use Rattle.ln_store.specs.Format.{fixed, optional}
 use Rattle.ln_store.specs.Items as it
 use Rattle.ln_store.specs.Readable.{names_an_update, is_sound, is_readable, funding_in}
 use Rattle.ln_store.specs.Window.{updates_fit}
-use Rattle.ln_link.specs.Record.{flags_of, payload_of, place_of, agreement_of, window_of, pairs_of, updates_of}
+use Rattle.ln_link.specs.Record.{flags_of, payload_of, place_of, agreement_of, pairs_of, updates_by, updates_of}
 use Rattle.ln_link.specs.Record.{events_of, forwards_of, fees_of, progress_of, header_of, items_of, IsUnwritable}
-use Rattle.ln_link.specs.Record.{HasNoAgreement, HasNoUpdates, NoRecord}
-use Rattle.ln_link.proofs.Window.{fit_so}
+use Rattle.ln_link.specs.Record.{HasNoAgreement, NoRecord}
+use Rattle.ln_link.proofs.Window.{told_as, fit_so}
 use Rattle.ln_pair.specs.Widths.{IsUpdate}
-use Rattle.ln_pair.proofs.All.{All}
+use Rattle.ln_pair.proofs.All.{All, all-take}
 use Rattle.ln_pair.proofs.Steady.{raised, closes_in}
 use Rattle.ln_pair.proofs.Contents.{Origin, Fits, wide_of}
 use Rattle.ln_pair.proofs.Lasting.{IsHeld, IsCounted, IsWide}
 use Rattle.ln_single.specs.Handed.{IsMessage}
 use Rattle.ln_single.proofs.Said.{what}
 use Rattle.ln_single.proofs.Kept.{AreFees, IsOrigin, HasMore}
-use Rattle.ln_single.proofs.UpdateForms.{also, list_fits}
-use Rattle.ln_single.proofs.ItemForms.{header_fits, fees_fit, agreement_fits, numbers_fit, peer_fits, base_fits}
-use Rattle.ln_single.proofs.ItemForms.{pairs_fit, IsNumbered, events_fit, forwards_fit, closing_fits}
+use Rattle.ln_single.proofs.UpdateForms.{also}
+use Rattle.ln_single.proofs.ItemForms.{header_fits, fees_fit, agreement_fits, numbers_fit, peer_fits}
+use Rattle.ln_single.proofs.ItemForms.{IsNumbered, events_fit, forwards_fit, closing_fits}
+use Rattle.ln_single.proofs.ToldForms.{IsToldWide, told_wide, updates_by_fit, all_named}
 use Rattle.ln_single.proofs.SoundForms.{open_sounds, funding_told, accept_sounds, in_step, settled}
 
 -- ---- what an end keeps of its opening
@@ -81,7 +79,7 @@ opens o e is h =
       role = subst (λ (x : Origin). x.role ≡ x.closing_role) (sym h.origin) is.role;
     }
 
-feerate_below : (m : OpenChannel) → IsMessage (message.OpenChannel m) → m.feerate_per_kw < 2 ^ 32
+pub feerate_below : (m : OpenChannel) → IsMessage (message.OpenChannel m) → m.feerate_per_kw < 2 ^ 32
 feerate_below m is = (what open_form (open_wire m) refl is).formed.values.1.1.1.1.1.1.1.1.0
 
 -- ---- the agreement
@@ -132,62 +130,37 @@ accept_is_read m is = message_again (wire_bytes (accept_wire m)) (Known (accept_
 
 -- ---- the updates
 
--- the updates that signatures cover are as many as the counts say, and fewer than 2^63
+-- those that signatures cover
+abbrev covered_log : End → Log
+covered_log e = record (after_drop e.dance.log) { opening = opening_of e.terms; role = e.closing.role }
+
+-- what is told of them
+abbrev told_here : End → Told
+told_here e = told_of e.dance.log.first (covered_log e)
+
+abbrev CanBeRestored : End → Type 0
+CanBeRestored e = IsRestorable (told_of e.dance.log.first (after_drop e.dance.log))
+
+restorable : (e : End) → Opens e → CanBeRestored e → IsRestorable (told_here e)
+restorable e o =
+    subst IsRestorable (sym (told_as (opening_of e.terms) e.closing.role (after_drop e.dance.log) o.opening o.role))
+
+told_here_wide : (e : End) → Opens e → IsWide e → IsToldWide (told_here e)
+told_here_wide e o w =
+    told_wide e.dance.log.first (covered_log e) (feerate_below e.terms.open_channel o.open_channel)
+    (all-take IsUpdate e.dance.log.signed.own e.dance.log.own w.own) w.received
+
+updates_of_fit : (e : End) → Opens e → IsWide e → CanBeRestored e
+    → it.updates.fits (updates_of (opening_of e.terms) e.closing.role (after_drop e.dance.log)) ≡ true
+updates_of_fit e o w r = updates_by_fit (told_here e) (restorable e o r) (told_here_wide e o w)
+
+-- the updates that signatures cover are fewer than 2^63
 record AreCovered (l : Log) : Type 0 where
-  own : length (after_drop l).own ≡ l.signed.own
-  received : length (after_drop l).received ≡ l.current.peer
   own_room : l.signed.own ≤ 2 ^ 62
   received_room : l.current.peer ≤ 2 ^ 62
 
-are_covered : (e : End) → IsWithin e.dance.log → IsWide e → AreCovered e.dance.log
-are_covered e i w =
-    let l = e.dance.log in
-    let own : length l.own ≤ 2 ^ 62 = w.own_room in
-    let received : length (take l.current.peer l.received) ≤ 2 ^ 62 = w.received_room in
-    let count = length-take-le l.current.peer l.received i.peer_current in
-    record {
-      own = length-take-le l.signed.own l.own i.own_signed;
-      received = count;
-      own_room = let s = i.own_signed in omega (arith, own, s);
-      received_room = omega (arith, received, count);
-    }
-
-front : (P : Update → Type 0) (n : ℕ) (us : List Update) → All P us → All P (take n us)
-front P zero [] h = tt
-front P zero (u ∷ us) h = tt
-front P (suc n) [] h = tt
-front P (suc n) (u ∷ us) h = (h.0, front P n us h.1)
-
-window_fits : (r : Role) (own received : List Update) → length own < 2 ^ 64 → length received < 2 ^ 64
-    → All IsUpdate own → All IsUpdate received → it.window.fits (window_of r own received) ≡ true
-unfolding it.window
-window_fits Funder own received a b p q = also (list_fits own a p) (list_fits received b q)
-window_fits Fundee own received a b p q = also (list_fits received b q) (list_fits own a p)
-
-pairs_of_fit : (l : Log) → IsWithin l → AreCovered l → it.pairs.fits (pairs_of l) ≡ true
-pairs_of_fit l i c =
-    let a = i.own_current in
-    let b = i.own_acknowledged in
-    let s = i.peer_acknowledged in
-    let t = i.peer_signed in
-    let m = c.own_room in
-    let n = c.received_room in
-    pairs_fit (pairs_of l) (omega (arith, m), omega (arith, t, n)) (omega (arith, b, m), omega (arith, s, t, n))
-    (omega (arith, a, b, m), omega (arith, n))
-
-updates_of_fit : (e : End) → Opens e → IsWithin e.dance.log → IsWide e
-    → it.updates.fits (updates_of (opening_of e.terms) e.closing.role (after_drop e.dance.log)) ≡ true
-unfolding it.updates updates_of
-updates_of_fit e o i w =
-    let l = e.dance.log in
-    let c = are_covered e i w in
-    let own = c.own in
-    let received = c.received in
-    let m = c.own_room in
-    let n = c.received_room in
-    also (base_fits (opening_of e.terms) o.funds (feerate_below e.terms.open_channel o.open_channel))
-    (also (window_fits e.closing.role (after_drop l).own (after_drop l).received (omega (arith, own, m))
-    (omega (arith, received, n)) (front IsUpdate l.signed.own l.own w.own) w.received) (pairs_of_fit l i c))
+are_covered : (e : End) → CanBeRestored e → AreCovered e.dance.log
+are_covered e r = record { own_room = r.counts.own_last; received_room = r.counts.peer_last }
 
 -- ---- events
 
@@ -200,25 +173,6 @@ all_numbered : (a b : ℕ) (rs : List EventRef) → a ≤ 2 ^ 62 → b ≤ 2 ^ 6
     → All IsNumbered rs
 all_numbered a b [] p q h = tt
 all_numbered a b (r ∷ rs) p q h = (held_numbered a b r p q h.0, all_numbered a b rs p q h.1)
-
-in_window : (windowed n : ℕ) → n < windowed → (nat_le 0 n && nat_lt n (0 + windowed)) ≡ true
-in_window windowed n h = also (le-leb 0 n (omega arith)) (lt-ltb n (0 + windowed) (omega (arith, h)))
-
-named : (x : Role) (o : Opening) (l : Log) (r : EventRef) → IsHeld (length l.own) (length l.received) r
-    → names_an_update x (updates_of o x l) r ≡ true
-unfolding updates_of
-named Funder o l (ref.Own n) h = in_window (length l.own) n h
-named Funder o l (ref.Peer n) h = in_window (length l.received) n h
-named Fundee o l (ref.Own n) h = in_window (length l.own) n h
-named Fundee o l (ref.Peer n) h = in_window (length l.received) n h
-named Funder o l ref.Close h = refl
-named Fundee o l ref.Close h = refl
-
-all_named : (x : Role) (o : Opening) (l : Log) (rs : List EventRef)
-    → All (IsHeld (length l.own) (length l.received)) rs
-    → list_all (names_an_update x (updates_of o x l)) rs ≡ true
-all_named x o l [] h = refl
-all_named x o l (r ∷ rs) h = also (named x o l r h.0) (all_named x o l rs h.1)
 
 events_of_fit : (e : End) → IsCounted e → AreCovered e.dance.log → it.events.fits (events_of e.ledger) ≡ true
 events_of_fit e k c =
@@ -274,17 +228,17 @@ are_below e k =
     record { commitment = omega (arith, a); signed = omega (arith, b); revoked = omega (arith, b, c) }
 
 items_fit : (f : Option Refusal) (e : End) → it.failure.fits f ≡ true → Opens e → IsCounted e → IsWide e
-    → it.items.fits (items_of f e) ≡ true
+    → CanBeRestored e → it.items.fits (items_of f e) ≡ true
 unfolding it.items it.commitments items_of header_of
-items_fit f e fits o k w =
+items_fit f e fits o k w r =
     let n = are_below e k in
     also (header_fits e.dance.channel e.closing.role (flags_of e) f o.channel fits) (also (agreement_of_fits e o w)
     (also (also (numbers_fit e.dance.numbers n.commitment n.signed n.revoked)
-    (peer_fits e.dance.peer k.point k.next_point k.secret)) (also (updates_of_fit e o k.within w)
-    (progress_of_fits e k (are_covered e k.within w) w))))
+    (peer_fits e.dance.peer k.point k.next_point k.secret)) (also (updates_of_fit e o w r)
+    (progress_of_fits e k (are_covered e r) w))))
 
 -- the updates fit together, in a channel of what its opening tells of the funding
-updates_sound : (e : End) → Opens e → IsReadable (after_drop e.dance.log)
+updates_sound : (e : End) → Opens e → CanBeRestored e
     → updates_fit e.closing.role (funding_in (payload_of (open_wire e.terms.open_channel)))
     (updates_of (opening_of e.terms) e.closing.role (after_drop e.dance.log)) ≡ true
 updates_sound e o r =
@@ -292,24 +246,37 @@ updates_sound e o r =
     let u = updates_of (opening_of e.terms) e.closing.role (after_drop e.dance.log) in
     ap (λ n. updates_fit e.closing.role n u)
     (funding_told m (payload_of (open_wire m)) (open_is_read m o.open_channel))
-    ∙ fit_so (opening_of e.terms) e.closing.role (after_drop e.dance.log) o.funds o.opening o.role r
+    ∙ fit_so (opening_of e.terms) e.closing.role (after_drop e.dance.log) o.opening o.role r
 
-items_sound : (f : Option Refusal) (e : End) → Opens e → IsCounted e → IsWide e → IsReadable (after_drop e.dance.log)
-    → is_sound (items_of f e) ≡ true
-unfolding items_of header_of agreement_of progress_of updates_of
-items_sound f e o k w r =
+-- each undecided event names an update that is told
+events_named : (e : End) → Opens e → IsCounted e → CanBeRestored e
+    → let u = updates_of (opening_of e.terms) e.closing.role (after_drop e.dance.log) in
+    list_all (names_an_update e.closing.role u) e.ledger.undecided ≡ true
+events_named e o k r =
+    let l = e.dance.log in
+    let t = told_here e in
+    let own_current = k.within.own_current in
+    let own_acknowledged = k.within.own_acknowledged in
+    let peer_acknowledged = k.within.peer_acknowledged in
+    let peer_signed = k.within.peer_signed in
+    let own = r.counts.own_signed in
+    let peer = r.counts.peer_current in
+    all_named t e.ledger.undecided k.there
+    (raised l.current.own l.acknowledged.peer (l.first.own + length t.own) (l.first.peer + length t.received)
+    e.ledger.undecided (omega (arith, own_current, own_acknowledged, own))
+    (omega (arith, peer_acknowledged, peer_signed, peer)) k.undecided)
+
+items_sound : (f : Option Refusal) (e : End) → Opens e → IsCounted e → CanBeRestored e → is_sound (items_of f e) ≡ true
+unfolding items_of header_of agreement_of progress_of updates_by
+items_sound f e o k r =
     let m = e.terms.open_channel in
     let a = e.terms.accept_channel in
-    let l = e.dance.log in
     let n = are_below e k in
-    let c = are_covered e k.within w in
-    let i = k.within in
-    let own_current = i.own_current in
-    let own_acknowledged = i.own_acknowledged in
-    let peer_acknowledged = i.peer_acknowledged in
-    let peer_signed = i.peer_signed in
-    let own = c.own in
-    let received = c.received in
+    let c = are_covered e r in
+    let own_current = k.within.own_current in
+    let own_acknowledged = k.within.own_acknowledged in
+    let peer_acknowledged = k.within.peer_acknowledged in
+    let peer_signed = k.within.peer_signed in
     let own_room = c.own_room in
     let received_room = c.received_room in
     let events = k.events in
@@ -320,19 +287,10 @@ items_sound f e o k w r =
     (open_is_read m o.open_channel))
     (accept_sounds a (payload_of (accept_wire a)) (accept_is_read a o.accept_channel)))
     (in_step e.dance.numbers n.commitment n.signed n.revoked k.step.revoked k.step.one_unrevoked))
-    (settled e.dance.numbers (pairs_of l) k.step.acknowledged))
+    (settled e.dance.numbers (pairs_of (told_here e)) k.step.acknowledged))
     (le-leb e.ledger.decided (2 ^ 63 + 1) decided))
-    (all_named e.closing.role (opening_of e.terms) (after_drop l) e.ledger.undecided
-    (raised l.current.own l.acknowledged.peer (length (after_drop l).own) (length (after_drop l).received)
-    e.ledger.undecided (omega (arith, own_current, own_acknowledged, own))
-    (omega (arith, peer_acknowledged, peer_signed, received)) k.undecided)))
+    (events_named e o k r))
     (updates_sound e o r)
-
-has_updates : (e : End) → Opens e → IsCounted e → HasNoUpdates e → ⊥
-unfolding HasNoUpdates
-has_updates e o k (inl (inl own)) = let first = k.first_own in omega (arith, first, own)
-has_updates e o k (inl (inr peer)) = let first = k.first_peer in omega (arith, first, peer)
-has_updates e o k (inr none) = none o.funds
 
 unreadable : (b : Bool) → b ≡ true → b ≡ false → ⊥
 unreadable true p q = cc
@@ -342,9 +300,8 @@ record_so : (f : Option Refusal) (e : End) → it.failure.fits f ≡ true → Op
     → NoRecord f e → ⊥
 unfolding NoRecord
 record_so f e fits o k w (inl lack) = both_written e o lack
-record_so f e fits o k w (inr (inl lack)) = has_updates e o k lack
-record_so f e fits o k w (inr (inr lack)) =
-    unreadable (is_readable (items_of f e)) (also (items_fit f e fits o k w) (items_sound f e o k w lack.0)) lack.1
+record_so f e fits o k w (inr lack) =
+    unreadable (is_readable (items_of f e)) (also (items_fit f e fits o k w lack.0) (items_sound f e o k lack.0)) lack.1
 
 -- ---- an end that keeps what every turn keeps
 
@@ -373,6 +330,7 @@ counted e h = record {
   first_own = h.steady.first_own;
   first_peer = h.steady.first_peer;
   undecided = h.steady.undecided;
+  there = h.steady.there;
   events = at_most_one e.closing.closed (e.ledger.decided + length e.ledger.undecided)
       (e.dance.log.current.own + e.dance.log.acknowledged.peer) h.steady.events;
   decisions = h.steady.decisions;

@@ -1,13 +1,11 @@
 -- The items of a record have their forms where they are as wide as their types.
-use Rattle.std.proofs.Common.{◌≡◌, ◌<◌, ◌≤◌, ◌*◌, ◌^◌, ℕ, List, [], ◌∷◌, length, refl, arith}
+use Rattle.std.proofs.Common.{◌≡◌, ◌<◌, ◌≤◌, ◌^◌, ℕ, List, [], ◌∷◌, length, refl, arith}
 use Rattle.std.proofs.Common.{Bool, true, false, cond, nat_lt, Option, Some, None}
 use Rattle.std.proofs.lemmas.Bool.{lt-ltb, eq-eqb}
 use Rattle.std.specs.List.{list_all}
 use Rattle.ln_msgs.specs.declared.refusals.refusal.Refusal.{Refusal}
 use Rattle.ln_keys.specs.declared.role.Role.{Role}
 use Rattle.ln_keys.specs.declared.role.Role.TheVariants.{Funder, Fundee}
-use Rattle.ln_log.specs.declared.opening.Opening.{Opening}
-use Rattle.ln_log.specs.Opening.{HasFunds, first_balance}
 use Rattle.ln_dance.specs.declared.dance.Later.{Later}
 use Rattle.ln_dance.specs.declared.dance.Later.TheVariants.{Signature, Revocation}
 use Rattle.ln_dance.specs.declared.dance.Numbers.{Numbers}
@@ -24,6 +22,9 @@ use Rattle.ln_log.specs.Updates.{removed, is_some as removes_one}
 use Rattle.ln_log.specs.declared.mark.EventRef.TheVariants as ref
 use Rattle.ln_store.specs.declared.record.Flags.{Flags}
 use Rattle.ln_store.specs.declared.record.Agreement.{Agreement}
+use Rattle.ln_store.specs.declared.record.LiveHtlc.{LiveHtlc}
+use Rattle.ln_store.specs.declared.record.Sides.{Sides}
+use Rattle.ln_store.specs.declared.record.Base.{Base}
 use Rattle.ln_store.specs.declared.record.Covered.{Covered}
 use Rattle.ln_store.specs.declared.record.Pairs.{Pairs}
 use Rattle.ln_store.specs.declared.record.Events.{Events}
@@ -32,9 +33,10 @@ use Rattle.ln_store.specs.declared.record.Forwards.{Forwards}
 use Rattle.ln_store.specs.Format.{Format, number, fixed, sized, optional, is_some}
 use Rattle.ln_store.specs.Items as it
 use Rattle.ln_store.specs.Items.{bit, later_bit, flags_number}
+use Rattle.ln_pair.specs.Widths.{IsAdd}
 use Rattle.ln_pair.proofs.All.{All}
 use Rattle.ln_pair.proofs.Lasting.{Where, Does, IsDecision, IsSettlement, longest_script}
-use Rattle.ln_single.proofs.UpdateForms.{also, update_fits}
+use Rattle.ln_single.proofs.UpdateForms.{also, add_fits, update_fits}
 
 where_fits : {A : Type 0} (f : Format A) (P : A → Type 0) → ((x : A) → P x → f.fits x ≡ true) → (o : Option A)
     → Where P o → (optional f).fits o ≡ true
@@ -119,26 +121,32 @@ peer_fits p point next secret =
 
 -- ---- updates
 
-most_balance : (o : Opening) → HasFunds o → 1000 * o.satoshis ≤ 2100000000000000000
-most_balance o h = let f : o.satoshis ≤ 2100000000000000 = h.funds in omega (arith, f)
+-- numbers of eight bytes
+abbrev pub AreSides : Sides → Type 0
+AreSides s = (s.funder < 2 ^ 64) × (s.fundee < 2 ^ 64)
 
-funders_balance : (o : Opening) → HasFunds o → first_balance o Funder < 2 ^ 64
-funders_balance o h = let m = most_balance o h in omega (arith, m)
+sides_fit : (s : Sides) → AreSides s → it.sides.fits s ≡ true
+unfolding it.sides
+sides_fit s h = also (lt-ltb s.funder (2 ^ 64) h.0) (lt-ltb s.fundee (2 ^ 64) h.1)
 
-fundees_balance : (o : Opening) → HasFunds o → first_balance o Fundee < 2 ^ 64
-fundees_balance o h = let m = most_balance o h in let p = h.push in omega (arith, m, p)
+abbrev pub IsLive : LiveHtlc → Type 0
+IsLive h = IsAdd h.add
 
-pub base_fits : (o : Opening) → HasFunds o → o.feerate < 2 ^ 32 → it.base.fits (record {
-  updates = record { funder = 0; fundee = 0 };
-  next_ids = record { funder = 0; fundee = 0 };
-  balances = record { funder = first_balance o Funder; fundee = first_balance o Fundee };
-  feerate = o.feerate;
-  live = [];
-}) ≡ true
-unfolding it.base it.sides
-base_fits o h feerate =
-    also refl (also refl (also (also (lt-ltb (first_balance o Funder) (2 ^ 64) (funders_balance o h))
-    (lt-ltb (first_balance o Fundee) (2 ^ 64) (fundees_balance o h))) (also (lt-ltb o.feerate (2 ^ 32) feerate) refl)))
+live_fits : (h : LiveHtlc) → IsLive h → it.live.fits h ≡ true
+unfolding it.live
+live_fits h is = also (role_fits h.offerer) (add_fits h.add is)
+
+each_live_fits : (hs : List LiveHtlc) → All IsLive hs → list_all it.live.fits hs ≡ true
+each_live_fits [] is = refl
+each_live_fits (h ∷ hs) is = also (live_fits h is.0) (each_live_fits hs is.1)
+
+pub base_fits : (b : Base) → AreSides b.updates → AreSides b.next_ids → AreSides b.balances → b.feerate < 2 ^ 32
+    → length b.live < 2 ^ 64 → All IsLive b.live → it.base.fits b ≡ true
+unfolding it.base
+base_fits b updates ids balances feerate few live =
+    also (sides_fit b.updates updates) (also (sides_fit b.next_ids ids) (also (sides_fit b.balances balances)
+    (also (lt-ltb b.feerate (2 ^ 32) feerate)
+    (also (lt-ltb (length b.live) (2 ^ 64) few) (each_live_fits b.live live)))))
 
 -- fewer than 2^64 of either side
 abbrev pub IsCount : Covered → Type 0

@@ -1,14 +1,19 @@
 -- What an end keeps, whatever it is sent and told to do: how its numbers and counts fit together, how wide what it has
 -- of the peer is, and that what it sends can be written.
-use Rattle.std.proofs.Common.{◌≡◌, ℕ, ◌+◌, ◌<◌, ◌≤◌, ◌^◌, List, length, refl}
-use Rattle.std.proofs.Common.{arith, true, false, ◌==◌, Option, Some}
+use Rattle.std.proofs.Common.{◌≡◌, ℕ, ◌+◌, ◌<◌, ◌≤◌, ◌^◌, List, [], ◌∷◌, length, take, refl, sym, subst}
+use Rattle.std.proofs.Common.{arith, Bool, true, false, cond, ◌==◌, Option, Some}
 use Rattle.std.proofs.lemmas.Bool.{eq-eqb, and_from}
+use Rattle.std.proofs.lemmas.List.{take-take, take-append-le}
 use Rattle.ln_msgs.specs.declared.messages.message.Message.TheVariants as message
+use Rattle.ln_log.specs.declared.update.Update.{Update}
 use Rattle.ln_log.specs.Opening.{IsFit}
-use Rattle.ln_log.specs.Log.{Counts, same_counts}
+use Rattle.ln_log.specs.Log.{Log, Counts, same_counts, after_propose, after_receive, after_drop}
+use Rattle.ln_log.specs.Window.{IsClosed, may_be_base}
+use Rattle.ln_log.proofs.Bases.{base_tells}
 use Rattle.ln_dance.specs.declared.dance.Numbers.{Numbers}
 use Rattle.ln_dance.specs.declared.dance.Peer.{Peer}
 use Rattle.ln_close.specs.declared.closing.Fees.{Fees}
+use Rattle.ln_channel.specs.Base.{allowed, based}
 use Rattle.ln_channel.specs.Opening.{asked_with, asked_by_accept}
 use Rattle.ln_channel.specs.End.{End}
 use Rattle.ln_pair.proofs.All.{All}
@@ -244,6 +249,44 @@ module _ (n : Numbers) (s a c : Counts) (own received : ℕ) (p : Peer) (f g : O
         closed = h.closed;
       }
 
+-- ---- the first updates, of which only what they come to is had any more
+
+-- both lists have so many updates together that can be a base
+abbrev pub AreClosed : Log → Counts → Type 0
+AreClosed l n = IsClosed l.opening l.role (take n.own l.own) (take n.peer l.received)
+
+abbrev pub HasBase : Log → Type 0
+HasBase l = AreClosed l l.first
+
+module _ (l : Log) (h : HasBase l) where
+  -- with one update more
+  pub base_proposed : (u : Update) → l.first.own ≤ length l.own → HasBase (after_propose u l)
+  base_proposed u le =
+      subst (λ us. IsClosed l.opening l.role us (take l.first.peer l.received))
+      (sym (take-append-le l.first.own l.own (u ∷ []) le)) h
+
+  pub base_received : (u : Update) → l.first.peer ≤ length l.received → HasBase (after_receive u l)
+  base_received u le =
+      subst (IsClosed l.opening l.role (take l.first.own l.own))
+      (sym (take-append-le l.first.peer l.received (u ∷ []) le)) h
+
+  -- without those that no signature covers
+  pub base_dropped : l.first.own ≤ l.signed.own → l.first.peer ≤ l.current.peer → HasBase (after_drop l)
+  base_dropped own peer =
+      subst (λ us. IsClosed l.opening l.role us (take l.first.peer (take l.current.peer l.received)))
+      (sym (take-take l.first.own l.signed.own l.own own))
+      (subst (IsClosed l.opening l.role (take l.first.own l.own))
+      (sym (take-take l.first.peer l.current.peer l.received peer)) h)
+
+-- as it moves on
+pub base_moved : (e : End) → HasBase e.dance.log → HasBase (based e).dance.log
+base_moved e h = by (may_be_base e.dance.log (allowed e)) refl
+  where
+    by : (b : Bool) → may_be_base e.dance.log (allowed e) ≡ b
+        → AreClosed e.dance.log (cond b (allowed e) e.dance.log.first)
+    by true is = ((base_tells e.dance.log (allowed e)).0 is).closed
+    by false is = h
+
 -- ---- all of it
 
 pub record HasMore (e : End) : Type 0 where
@@ -251,3 +294,28 @@ pub record HasMore (e : End) : Type 0 where
   pub ordered : Ordered e
   pub short : All IsShort e.dance.log.own
   pub few : Few e.dance.log
+  pub base : HasBase e.dance.log
+
+-- the first updates are among those that signatures cover
+pub record IsCovered (l : Log) : Type 0 where
+  pub own : l.first.own ≤ l.signed.own
+  pub own_length : l.first.own ≤ length l.own
+  pub peer : l.first.peer ≤ l.current.peer
+  pub peer_length : l.first.peer ≤ length l.received
+
+pub base_covered : (e : End) → HasMore e → IsCovered e.dance.log
+base_covered e h =
+    let o = h.steady.first_own in
+    let p = h.steady.first_peer in
+    let a = h.ordered.own_current in
+    let b = h.ordered.own_acknowledged in
+    let c = h.ordered.own_signed in
+    let q = h.ordered.peer_acknowledged in
+    let r = h.ordered.peer_signed in
+    let s = h.ordered.peer_current in
+    record {
+      own = omega (arith, o, a, b);
+      own_length = omega (arith, o, a, b, c);
+      peer = omega (arith, p, q, r);
+      peer_length = omega (arith, p, q, r, s);
+    }

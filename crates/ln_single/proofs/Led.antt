@@ -11,28 +11,28 @@ use Rattle.ln_channel.specs.declared.unsaved.Line.TheVariants.{Down}
 use Rattle.ln_channel.specs.declared.unsaved.Stage.{Stage}
 use Rattle.ln_channel.specs.declared.unsaved.Stage.TheVariants as stage
 use Rattle.ln_channel.specs.Failing.{fails}
-use Rattle.ln_channel.specs.End.{End}
 use Rattle.ln_channel.specs.Record.{saved_end}
 use Rattle.ln_channel.specs.State.{State, refused, fails_by, unless_failed, cut, drops}
 use Rattle.ln_channel.specs.Step.{Done, Answered, faulted, at_hand, handled, opened, asked, commanded, connects}
 use Rattle.ln_channel.specs.Step.{connected, Reaches}
 use Rattle.ln_channel.specs.State.{is_down}
 use Rattle.ln_link.specs.Saving.{Shelf, CannotBeStored, FailsBy, IsUnsaved, HandsOut, HaltsBehind, HaltsRefused}
-use Rattle.ln_link.specs.Saving.{fails_now}
-use Rattle.ln_link.specs.Saving.{reached, is_known, handled_beside, CannotTell, AnswersMessage, AnswersCommand}
-use Rattle.ln_link.specs.Saving.{AnswersOver}
-use Rattle.ln_link.specs.Calls.{Call, Handle, Command, Connect, DropConnection, Halt, Leads, Lead}
+use Rattle.ln_link.specs.Saving.{fails_now, reached, settled, is_known, handled_beside, CannotTell, AnswersMessage}
+use Rattle.ln_link.specs.Saving.{AnswersCommand, AnswersOver}
+use Rattle.ln_link.specs.Loading.{IsLoadedOf, CameBack}
+use Rattle.ln_link.specs.Calls.{Call, Handle, Command, Connect, DropConnection, Halt, Leads, Lead, left_by, made_by}
 use Rattle.ln_link.proofs.Refusing.{has_halted}
 use Rattle.ln_pair.specs.Widths.{IsCommand}
 use Rattle.ln_pair.proofs.All.{All}
 use Rattle.ln_single.specs.Handed.{IsMessage, AreKeys}
-use Rattle.ln_single.specs.Course.{IsCall, AreCalls, Gives, BeginsAt, Begins, left_by, behind, IsTold, Returns, Lives}
+use Rattle.ln_single.specs.Course.{IsCall, AreCalls, Gives, BeginsAt, Begins, IsTold, ComesBack, Returns, Lives}
 use Rattle.ln_single.specs.Course.{IsLink, IsSendable, AreSendable}
 use Rattle.ln_single.proofs.Failures.{IsFailure, fits_of}
 use Rattle.ln_single.proofs.Forms.{has_record}
 use Rattle.ln_single.proofs.Other.{IsOther, damaged}
-use Rattle.ln_single.proofs.Course.{Lasts, StageLasts, DoneLasts, Good, handled_lasts, commanded_lasts, connected_lasts}
-use Rattle.ln_single.proofs.Course.{refused_lasts, drops_lasts, dropped_lasts}
+use Rattle.ln_single.proofs.Course.{StageLasts, DoneLasts, Good, handled_lasts, commanded_lasts, connected_lasts}
+use Rattle.ln_single.proofs.Course.{refused_lasts, drops_lasts, dropped_lasts, settled_lasts}
+use Rattle.ln_single.proofs.Loaded.{loaded_lasts}
 
 -- ---- a link that has halted refuses
 
@@ -108,12 +108,18 @@ module _ (k : Signer) (keys : AreKeys k) where
 
   handed : {K : Type 0} (said : Result Done Refusal) (l n : State K) (os : List Output) (s t : Shelf) → SaidOf l said
       → HandsOut (λ x. x) said l os n s t → Good k keys n × All IsSendable os
-  handed (Ok d) l n os s t h x = reaches (Ok d) l n os h (x.0, x.1)
+  handed (Ok d) l n os s t (inl h) x = absurd (h.1)
+  handed (Ok d) l n os s t (inr h) x = (
+    subst (λ (y : State _). Good k keys y) (sym x.1)
+        (settled_lasts k keys (reached d l) (record { failure = h.0.failure; stage = h.1.0 })),
+    subst (All IsSendable) (sym x.0) h.1.1,
+  )
   handed (Err r) l n os s t h x = absurd x
 
   halts_behind : {K : Type 0} (e : Refusal) (said : Result Done Refusal) (l n : State K) (s t : Shelf)
       → HaltsBehind e said l n s t → n.halted ≡ true
-  halts_behind e (Ok d) l n s t h = ap (λ (x : State _). x.halted) h.0
+  halts_behind e (Ok d) l n s t (inl h) = ap (λ (x : State _). x.halted) h.1
+  halts_behind e (Ok d) l n s t (inr h) = ap (λ (x : State _). x.halted) h.0
   halts_behind e (Err r) l n s t h = absurd h
 
   halts_refused : {K : Type 0} (e : Refusal) (said : Result Done Refusal) (l n : State K) (s t : Shelf)
@@ -194,34 +200,57 @@ module _ (k : Signer) (keys : AreKeys k) where
   left_good : {K : Type 0} (said : Result Done Refusal) (refusing : Refusal → State K) (l : State K)
       → DoneLasts k keys said → ((r : Refusal) → Good k keys (refusing r)) → Good k keys l
       → Good k keys (left_by said refusing l)
-  left_good (Ok d) refusing l said f h = record { failure = h.failure; stage = said.0 }
+  left_good (Ok d) refusing l said f h =
+      settled_lasts k keys (reached d l) (record { failure = h.failure; stage = said.0 })
   left_good (Err r) refusing l said f h = f r
 
-  behind_good : {K : Type 0} (c : Call) (l : State K) → IsCall c → Good k keys l → Good k keys (behind k c l)
-  behind_good (Handle m) l is h =
-      left_good (handled k l m) (λ r. refused r l) l (handled_lasts k keys l m is h)
+  beside_lasts : (b : Bool) (said : Result Done Refusal) → DoneLasts k keys said
+      → DoneLasts k keys (cond b (Err refusal.OutOfPlace) said)
+  beside_lasts true said h = refl
+  beside_lasts false said h = h
+
+  made_good : {K : Type 0} (c : Call) (l : State K) (s : Shelf) → IsCall c → Good k keys l
+      → Good k keys (made_by k c l s)
+  made_good (Handle m) l s is h =
+      left_good (handled_beside s.records k l m) (λ r. refused r l) l
+      (beside_lasts (is_known (opened l m) s.records) (handled k l m) (handled_lasts k keys l m is h))
       (λ r. refused_lasts k keys l r h) h
-  behind_good (Command c) l is h =
+  made_good (Command c) l s is h =
       left_good (commanded k l c) (λ r. l) l (commanded_lasts k keys l c is h) (λ r. h) h
-  behind_good Connect l is h = h
-  behind_good DropConnection l is h = h
-  behind_good Halt l is h = h
+  made_good Connect l s is h = h
+  made_good DropConnection l s is h = h
+  made_good Halt l s is h = h
 
   told_good : {K : Type 0} (l told : State K) → Good k keys l → IsTold k l told → Good k keys told
   told_good l told h (inl e) = subst (λ (x : State _). Good k keys x) (sym e) h
-  told_good l told h (inr x) =
-      subst (λ (y : State _). Good k keys y) (sym x.2) (behind_good x.0 l x.1 h)
+  told_good l told h (inr x) = subst (λ (y : State _). Good k keys y) (sym x.3) (made_good x.0 l x.1 x.2 h)
 
-  some_end : (d e : End) → ◌≡◌ {A = Option End} (Some d) (Some e) → d ≡ e
-  some_end d e same = cc
+  -- as its record is loaded
+  loaded_good : {K : Type 0} (f : Option Refusal) (s : Stage) (back : State K) → IsFailure f → StageLasts k s
+      → IsLoadedOf back f (saved_end s) → Good k keys back
+  loaded_good f (stage.Saved e) back fits h is =
+      subst (λ (x : State _). Good k keys x) (sym is.1)
+      (record { failure = fits; stage = loaded_lasts f e is.0 h })
+  loaded_good f (stage.AwaitsOpen c) back fits h is = absurd is
+  loaded_good f (stage.AwaitsAccept c) back fits h is = absurd is
+  loaded_good f (stage.AwaitsCreated c) back fits h is = absurd is
+  loaded_good f (stage.AwaitsSigned c) back fits h is = absurd is
+  loaded_good f stage.Gone back fits h is = absurd is
 
-  saved_lasts : (s : Stage) (e : End) → StageLasts k s → saved_end s ≡ Some e → Lasts e
-  saved_lasts (stage.Saved d) e h is = subst (λ (x : End). Lasts x) (some_end d e is) h
-  saved_lasts (stage.AwaitsOpen c) e h is = absurd (cc)
-  saved_lasts (stage.AwaitsAccept c) e h is = absurd (cc)
-  saved_lasts (stage.AwaitsCreated c) e h is = absurd (cc)
-  saved_lasts (stage.AwaitsSigned c) e h is = absurd (cc)
-  saved_lasts stage.Gone e h is = absurd (cc)
+  -- as a lost connection leaves what the link before had
+  dropped_good : {K : Type 0} (f : Option Refusal) (s : Stage) (back : State K) → IsFailure f → StageLasts k s
+      → CameBack back.keys f (saved_end s) back → Good k keys back
+  dropped_good f (stage.Saved e) back fits h is =
+      subst (λ (x : State _). Good k keys x) (sym is) (record { failure = fits; stage = dropped_lasts e h })
+  dropped_good f (stage.AwaitsOpen c) back fits h is = absurd is
+  dropped_good f (stage.AwaitsAccept c) back fits h is = absurd is
+  dropped_good f (stage.AwaitsCreated c) back fits h is = absurd is
+  dropped_good f (stage.AwaitsSigned c) back fits h is = absurd is
+  dropped_good f stage.Gone back fits h is = absurd is
+
+  comes_good : {K : Type 0} (told back : State K) → Good k keys told → ComesBack told back → Good k keys back
+  comes_good told back g (inl is) = loaded_good told.failure told.stage back g.failure g.stage is
+  comes_good told back g (inr is) = dropped_good told.failure told.stage back g.failure g.stage is
 
   not_halted : {K : Type 0} (l : State K) → l.halted ≡ false → Stands l → Good k keys l
   not_halted l stands (inl h) = absurd (let both : true ≡ false = subst (λ b. b ≡ false) h stands in cc)
@@ -229,11 +258,7 @@ module _ (k : Signer) (keys : AreKeys k) where
 
   returns_stand : {K : Type 0} (l back : State K) → Stands l → Returns k l back → Stands back
   returns_stand l back h r =
-      let told = told_good l r.told (not_halted l r.stands h) r.is_told in
-      inr (subst (λ (x : State _). Good k keys x) (sym r.returns) (record {
-        failure = told.failure;
-        stage = dropped_lasts r.end (saved_lasts r.told.stage r.end told.stage r.saved);
-      }))
+      inr (comes_good r.told back (told_good l r.told (not_halted l r.stands h) r.is_told) r.returns)
 
   lives_stand : {K : Type 0} (lives : List (List Call)) (l n : State K) → Stands l → Lives k lives l n → Stands n
   lives_stand [] l n h x = moved n l x h
@@ -287,8 +312,10 @@ module _ (k : Signer) (keys : AreKeys k) where
   never_behind : {K : Type 0} (said : Result Done Refusal) (l n : State K) (s t : Shelf) → SaidOf l said
       → HaltsBehind refusal.Damaged said l n s t → ⊥
   never_behind (Ok d) l n s t (inl h) x = h.1
-  never_behind (Ok d) l n s t (inr h) x =
-      never_unsaved (reached d l) s t (record { failure = h.0.failure; stage = h.1.0 }) x.1
+  never_behind (Ok d) l n s t (inr h) (inl x) = no_memory x.0
+  never_behind (Ok d) l n s t (inr h) (inr x) =
+      never_unsaved (settled d l) s t
+      (settled_lasts k keys (reached d l) (record { failure = h.0.failure; stage = h.1.0 })) x.1
   never_behind (Err r) l n s t h x = x
 
   never_refused : {K : Type 0} (said : Result Done Refusal) (l n : State K) (s t : Shelf) → SaidOf l said

@@ -9,7 +9,9 @@ pub mod Turns
 pub mod UpdateForms
 pub mod ItemForms
 pub mod SoundForms
+pub mod ToldForms
 pub mod Forms
 pub mod Course
+pub mod Loaded
 pub mod Led
 pub mod Toy

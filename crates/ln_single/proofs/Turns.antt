@@ -82,7 +82,8 @@ use Rattle.ln_pair.proofs.Contents.{Origin, Fits}
 use Rattle.ln_single.specs.Handed.{IsMessage, AreKeys}
 use Rattle.ln_single.specs.Course.{IsSendable}
 use Rattle.ln_single.proofs.Few.{Few, proposed, received, signing, signed, accepted, learned, signed_few}
-use Rattle.ln_single.proofs.Kept.{AreFees, IsOrigin, Ordered, HasMore, below_last, differ, with_more}
+use Rattle.ln_single.proofs.Kept.{AreFees, IsOrigin, Ordered, HasMore, HasBase, below_last, differ, with_more}
+use Rattle.ln_single.proofs.Kept.{base_proposed, base_received, base_covered}
 use Rattle.ln_single.proofs.Kept.{with_fees, with_point, with_signature, with_commitment, with_revocation}
 use Rattle.ln_single.proofs.Other.{IsOther, OtherFault, OtherAnswer, update_other, propose_other, sign_other}
 use Rattle.ln_single.proofs.Other.{signature_other, revocation_other, resume_other, confirm_other, shut_other}
@@ -246,6 +247,7 @@ module _ (k : Signer) (keys : AreKeys k) where
     ordered = settled_ordered e t h;
     short = subst (λ (d : Dancer). All IsShort d.log.own) (sym (settled_log e)) h.short;
     few = subst (λ (d : Dancer). Few d.log) (sym (settled_log e)) h.few;
+    base = subst (λ (d : Dancer). HasBase d.log) (sym (settled_log e)) h.base;
   }
 
   -- ---- what is sent
@@ -321,6 +323,7 @@ module _ (k : Signer) (keys : AreKeys k) where
           few = received l.own l.received l.signed l.acknowledged l.current h.few l.opening (other_role l.role)
               (take l.current.own l.own) u (accepts_few l.opening (other_role l.role) t.fit) may.none
               (omega (arith, covered, current)) current;
+          base = base_received l h.base u (base_covered e h).peer_length;
         },
         tt,
         tt,
@@ -365,6 +368,7 @@ module _ (k : Signer) (keys : AreKeys k) where
           few = proposed l.own l.received l.signed l.acknowledged l.current h.few l.opening l.role
               (take l.acknowledged.peer l.received) u (accepts_few l.opening l.role t.fit) grow.none covered
               (omega (arith, acked, covered));
+          base = base_proposed l h.base u (base_covered e h).own_length;
         },
         (update_said e.dance.channel u t.channel (wide small grow.few) small, tt),
         tt,
@@ -388,6 +392,7 @@ module _ (k : Signer) (keys : AreKeys k) where
           short = h.short;
           few = accepted l.own l.received l.signed l.acknowledged l.current h.few
               (record { own = l.acknowledged.own; peer = length l.received }) h.ordered.peer_current;
+          base = h.base;
         },
         (
           revocation_said (revoked_message k e.dance) t.channel (keys.secrets n.commitment (omega (arith, next)))
@@ -413,6 +418,7 @@ module _ (k : Signer) (keys : AreKeys k) where
               heard.1;
           short = h.short;
           few = learned l.own l.received l.signed l.acknowledged l.current h.few l.signed h.ordered.own_acknowledged;
+          base = h.base;
         },
         tt,
         told_said false (peer_since l.acknowledged.peer (revokes m e).dance.log) (revokes m e),
@@ -451,6 +457,7 @@ module _ (k : Signer) (keys : AreKeys k) where
           ordered = with_signature _ _ _ _ _ _ _ _ _ h.ordered next same;
           short = h.short;
           few = signed l.own l.received l.signed l.acknowledged l.current h.few whole;
+          base = h.base;
         },
         (
           signature_said (signed_message k d) t.channel
@@ -473,6 +480,7 @@ module _ (k : Signer) (keys : AreKeys k) where
           ordered = ordered (e.marks.ready_received || is_closed e);
           short = short (e.marks.ready_received || is_closed e);
           few = few (e.marks.ready_received || is_closed e);
+          base = base (e.marks.ready_received || is_closed e);
         },
         tt,
         tt,
@@ -500,10 +508,14 @@ module _ (k : Signer) (keys : AreKeys k) where
       few true = h.few
       few false = h.few
 
+      base : (b : Bool) → HasBase (cond b e now).dance.log
+      base true = h.base
+      base false = h.base
+
   shutdown_keeps : (known : Option (List ℕ)) (m : ShutdownMessage) (e : End) → HasMore e
       → AnswerKeeps (shutdown_at known m e)
   shutdown_keeps None m e h =
-      (record { steady = h.steady; ordered = h.ordered; short = h.short; few = h.few }, tt, tt)
+      (record { steady = h.steady; ordered = h.ordered; short = h.short; few = h.few; base = h.base }, tt, tt)
   shutdown_keeps (Some script) m e h = by (are_same script m.script)
     where
       by : (b : Bool) → AnswerKeeps (cond b (Ok (quiet e)) (Err refusal.OutOfPlace))
@@ -521,6 +533,7 @@ module _ (k : Signer) (keys : AreKeys k) where
       ordered = h.ordered;
       short = h.short;
       few = h.few;
+      base = h.base;
     },
     tt,
     tt,
@@ -531,6 +544,7 @@ module _ (k : Signer) (keys : AreKeys k) where
       ordered = with_fees _ _ _ _ _ _ _ _ _ h.ordered e.closing.own_fee (Some agreed) h.ordered.own_fee below;
       short = h.short;
       few = h.few;
+      base = h.base;
     },
     tt,
     (tt, (tt, tt)),
@@ -541,6 +555,7 @@ module _ (k : Signer) (keys : AreKeys k) where
       ordered = with_fees _ _ _ _ _ _ _ _ _ h.ordered (Some agreed) (Some agreed) below below;
       short = h.short;
       few = h.few;
+      base = h.base;
     },
     fee_said (answered_end m (answer.EchoAndClose agreed) e) (Some agreed) t.channel below,
     (tt, (tt, tt)),
@@ -551,6 +566,7 @@ module _ (k : Signer) (keys : AreKeys k) where
       ordered = with_fees _ _ _ _ _ _ _ _ _ h.ordered (Some proposed) e.closing.closed below h.ordered.closed;
       short = h.short;
       few = h.few;
+      base = h.base;
     },
     fee_said (answered_end m (answer.Propose proposed) e) (Some proposed) t.channel below,
     tt,
@@ -703,7 +719,7 @@ module _ (k : Signer) (keys : AreKeys k) where
       let short = ltb-false longest_script (length script)
       (no_fault (nat_lt longest_script (length script)) (refusal.PeerLimit rule.TooLong) may.1) in
       completed_keeps turn (record { channel = t.channel; fees = t.fees; script = short; fit = t.fit }) (
-        record { steady = h.steady; ordered = h.ordered; short = h.short; few = h.few },
+        record { steady = h.steady; ordered = h.ordered; short = h.short; few = h.few; base = h.base },
         (shutdown_said (shutdown_message n) t.channel short refl, tt),
         tt,
       ))
@@ -712,7 +728,7 @@ module _ (k : Signer) (keys : AreKeys k) where
   command_keeps (command.Confirm id) e wide t h =
       unless_keeps (confirm_fault e) (sending (message.ChannelReady (ready_message k e)) (confirmed id e))
       (confirm_other e) (λ none. (
-        record { steady = h.steady; ordered = h.ordered; short = h.short; few = h.few },
+        record { steady = h.steady; ordered = h.ordered; short = h.short; few = h.few; base = h.base },
         (ready_said (ready_message k e) t.channel (keys.points 1 (omega arith)) refl, tt),
         tt,
       ))

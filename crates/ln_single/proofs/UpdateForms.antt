@@ -24,7 +24,7 @@ origin_fits : (o : Option (List ℕ × ℕ)) → IsOrigin o → (optional (fixed
 origin_fits None h = refl
 origin_fits (Some o) h = also (eq-eqb (length o.0) 32 h.0) (lt-ltb o.1 (2 ^ 64) h.1)
 
-add_fits : (a : Add) → IsAdd a → it.add.fits a ≡ true
+pub add_fits : (a : Add) → IsAdd a → it.add.fits a ≡ true
 unfolding it.add
 add_fits a h =
     also (lt-ltb a.id (2 ^ 64) h.id) (also (lt-ltb a.amount (2 ^ 64) h.amount) (also (eq-eqb (length a.hash) 32 h.hash)

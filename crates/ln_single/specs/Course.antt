@@ -1,18 +1,17 @@
 -- The course of one link: how it is begun, what it is handed, and how it comes back from its record.
-use Rattle.std.specs.Prelude.{◌≡◌, ◌⊎◌, List, [], ◌∷◌, false, Some, Result, Ok, Err}
+use Rattle.std.specs.Prelude.{◌≡◌, ◌⊎◌, List, [], ◌∷◌, false, Result, Ok}
 use Rattle.ln_msgs.specs.declared.refusals.refusal.Refusal.{Refusal}
 use Rattle.ln_keys.specs.Signer.{Signer}
 use Rattle.ln_channel.specs.declared.output.Output.{Output}
 use Rattle.ln_channel.specs.declared.output.Output.TheVariants as output
 use Rattle.ln_channel.specs.declared.unsaved.Stage.{Stage}
 use Rattle.ln_channel.specs.declared.unsaved.Stage.TheVariants as stage
-use Rattle.ln_channel.specs.End.{End, end_dropped}
-use Rattle.ln_channel.specs.Record.{saved_end, came_back}
-use Rattle.ln_channel.specs.State.{State, begun, refused, drops, halts}
-use Rattle.ln_channel.specs.Step.{Done, handled, commanded, connected, Answered}
+use Rattle.ln_channel.specs.State.{State, begun, drops, halts}
+use Rattle.ln_channel.specs.Step.{commanded, connected, Answered}
 use Rattle.ln_pair.specs.Widths.{IsCommand}
-use Rattle.ln_link.specs.Saving.{Shelf, reached, AnswersOver, AnswersCommand}
-use Rattle.ln_link.specs.Calls.{Call, Handle, Command, Connect, DropConnection, Halt, Lead}
+use Rattle.ln_link.specs.Loading.{ComesBackOf, IsCameBack}
+use Rattle.ln_link.specs.Saving.{Shelf, AnswersOver, AnswersCommand}
+use Rattle.ln_link.specs.Calls.{Call, Handle, Command, Connect, DropConnection, Halt, Lead, made_by}
 use Rattle.ln_single.specs.Handed.{IsMessage, IsConfig, IsSpec}
 
 -- ---- calls
@@ -51,28 +50,21 @@ Begins keys l = (l ≡ begun l.keys l.stage) × BeginsAt keys l.stage
 
 -- ---- how it comes back
 
--- what a call makes of a link, saved or not
-abbrev pub left_by : {K : Type 0} → Result Done Refusal → (Refusal → State K) → State K → State K
-left_by (Ok d) refusing l = reached d l
-left_by (Err r) refusing l = refusing r
-
-abbrev pub behind : {K : Type 0} → Signer → Call → State K → State K
-behind keys (Handle m) l = left_by (handled keys l m) (λ r. refused r l) l
-behind keys (Command c) l = left_by (commanded keys l c) (λ r. l) l
-behind keys c l = l
-
 -- what the store tells of a link: how it stands, or, where the save behind one more call failed, what that made of it
 abbrev pub IsTold : {K : Type 0} → Signer → State K → State K → Type 0
-IsTold keys l told = (told ≡ l) ⊎ ((c : Call) × IsCall c × (told ≡ behind keys c l))
+IsTold keys l told = (told ≡ l) ⊎ ((c : Call) × (s : Shelf) × IsCall c × (told ≡ made_by keys c l s))
+
+-- it comes back as its record is loaded, or, where it takes over what the link before had, as a lost connection leaves
+-- that
+abbrev pub ComesBack : {K : Type 0} → State K → State K → Type 0
+ComesBack told back = ComesBackOf back told ⊎ IsCameBack back.keys told back
 
 -- a link that hasn't halted comes back from its record
 pub record Returns {K : Type 0} (keys : Signer) (l back : State K) : Type 0 where
   pub stands : l.halted ≡ false
   pub told : State K
   pub is_told : IsTold keys l told
-  pub end : End
-  pub saved : saved_end told.stage ≡ Some end
-  pub returns : back ≡ came_back back.keys told.failure (end_dropped end)
+  pub returns : ComesBack told back
 
 -- calls, and behind them a restart, one after the other
 abbrev pub Lives : {K : Type 0} → Signer → List (List Call) → State K → State K → Type 0

@@ -28,8 +28,8 @@ use Rattle.ln_store.specs.declared.record.LiveHtlc.{LiveHtlc}
 use Rattle.ln_store.specs.declared.record.Updates.{Updates}
 use Rattle.ln_store.specs.Readable.{is_in_window}
 use Rattle.ln_store.specs.Removals.{removes_there, are_removals, is_htlc, is_there, AreRemoved}
-use Rattle.ln_store.specs.Sides.{count_of, window_of}
-use Rattle.ln_store.specs.Window.{has_id, are_numbered, ids_fit, removals_fit}
+use Rattle.ln_store.specs.Sides.{window_of}
+use Rattle.ln_store.specs.Window.{has_id, are_numbered, removals_fit}
 
 -- ---- ids
 

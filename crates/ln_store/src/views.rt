@@ -88,8 +88,8 @@ fn pays(
     ensures fails_for_memory_alone { IfErr result (λ e. e ≡ Refusal.Memory) }
 {
     let live = base.live.as_slice();
-    let of_own = Outcomes::new(alloc, own.len(), peer)?;
-    let of_peer = Outcomes::new(alloc, peer.len(), own)?;
+    let of_own = Outcomes::new(alloc, peer)?;
+    let of_peer = Outcomes::new(alloc, own)?;
     let before = settled_of(side, live, &of_own);
     let since = sums_of(own, &of_own);
     let paid_before = settled_of(side.other(), live, &of_peer);

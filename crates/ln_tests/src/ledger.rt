@@ -168,7 +168,48 @@ fn results_stay_until_they_are_forgotten(rt: HostRuntime) -> Result<(), Refusal>
     let failure = b.link.handle(alloc, &mut b.store, error(alloc, [0; 32]));
     assert_eq!(rt; code_of(failure.err()), 37);
     assert_eq!(rt; decided(alloc, &mut b, 0, Mark::Malformed(5)), 0);
+    assert_eq!(rt; kept(alloc, &mut b), Ok((1, 1, 1, 0, None)));
+    // a decision leaves with its HTLC, once its removal is decided too
     assert_eq!(rt; decided(alloc, &mut b, 1, Mark::None), 0);
-    assert_eq!(rt; kept(alloc, &mut b), Ok((2, 0, 1, 0, None)));
+    assert_eq!(rt; kept(alloc, &mut b), Ok((2, 0, 0, 0, None)));
+    Ok(())
+}
+
+/// Of a side's record: how many updates of the funder and of the fundee are in the base, how many HTLCs are live there,
+/// and how many updates of each it has one by one.
+type Shape = ([u64; 2], usize, [usize; 2]);
+
+fn shape(alloc: Global, side: &mut Saving) -> Result<Shape, Refusal> {
+    let bytes = stored(alloc, side)?;
+    let record = boxed(alloc, decode_record(alloc, bytes.as_slice())?)?;
+    let updates = &record.items().updates;
+    let base = &updates.base;
+    Ok((
+        [base.updates.funder, base.updates.fundee],
+        base.live.as_slice().len(),
+        [
+            updates.window.funder.as_slice().len(),
+            updates.window.fundee.as_slice().len(),
+        ],
+    ))
+}
+
+#[test]
+fn decided_updates_leave_the_window(rt: HostRuntime) -> Result<(), Refusal> {
+    let alloc = rt.alloc();
+    let (mut a, mut b) = both(alloc)?;
+    assert_eq!(rt; shape(alloc, &mut a), Ok(([0, 0], 0, [1, 0])));
+    assert_eq!(rt; shape(alloc, &mut b), Ok(([0, 0], 0, [1, 0])));
+    assert_eq!(rt; decided(alloc, &mut a, 0, Mark::None), 0);
+    assert_eq!(rt; decided(alloc, &mut b, 0, Mark::None), 0);
+    assert_eq!(rt; shape(alloc, &mut a), Ok(([1, 0], 1, [0, 0])));
+    assert_eq!(rt; shape(alloc, &mut b), Ok(([1, 0], 1, [0, 0])));
+    // the removal of an HTLC of the base leaves with it
+    failed(alloc, &mut a, &mut b)?;
+    assert_eq!(rt; shape(alloc, &mut a), Ok(([1, 0], 1, [0, 1])));
+    assert_eq!(rt; decided(alloc, &mut a, 1, Mark::None), 0);
+    assert_eq!(rt; decided(alloc, &mut b, 1, Mark::None), 0);
+    assert_eq!(rt; shape(alloc, &mut a), Ok(([1, 1], 0, [0, 0])));
+    assert_eq!(rt; shape(alloc, &mut b), Ok(([1, 1], 0, [0, 0])));
     Ok(())
 }

@@ -44,3 +44,5 @@ mod saving;
 mod store;
 #[cfg(test)]
 mod testing;
+#[cfg(test)]
+mod written;

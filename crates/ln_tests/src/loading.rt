@@ -1,11 +1,12 @@
 //! What a channel's record tells of its updates: whether a log can be made of it, and which numbers it can
 //! have.
 
+use crate::ends::htlc;
 use crate::log::What::{Add, Fulfil};
 use crate::log::{What, updates};
 use crate::testing::OPENING;
 use ln_dance::{Dance, Numbers};
-use ln_log::{Counts, Coverage, Role, Side, UpdateLog};
+use ln_log::{Base, Counts, Coverage, Role, Side, UpdateLog, Worth};
 use ln_msgs::Refusal;
 use std::alloc::Global;
 
@@ -58,16 +59,39 @@ fn told(log: &UpdateLog, covered: &Coverage) -> Told {
     )
 }
 
-/// What is told of the fundee's log of the two updates, where one can be made of it with these counts.
-fn loaded(alloc: Global, counts: [usize; 6]) -> Result<Option<Told>, Refusal> {
-    let own = updates(alloc, &FULFIL)?;
-    let peer = updates(alloc, &OFFER)?;
+/// The base of the fundee's log that has the offer, and nothing of the fundee's: an HTLC of 5,000 msat is live in it.
+fn with_offer(alloc: Global) -> Result<Base, Refusal> {
+    Ok(Base {
+        updates: Counts { own: 0, peer: 1 },
+        worth: Worth {
+            next_own: 0,
+            next_peer: 1,
+            own: 4000,
+            peer: 11_000,
+            feerate: 253,
+        },
+        own: Vec::new(alloc),
+        peer: vec![in alloc; htlc(0, 5000, 400)]?,
+    })
+}
+
+/// What is told of the fundee's log of this base and these updates behind it, where one can be made of them with these
+/// counts.
+fn loaded(
+    alloc: Global,
+    base: Base,
+    own: &[What],
+    peer: &[What],
+    counts: [usize; 6],
+) -> Result<Option<Told>, Refusal> {
+    let own = updates(alloc, own)?;
+    let peer = updates(alloc, peer)?;
     let covered = coverage(counts);
     let role = Role::Fundee;
-    if !UpdateLog::can_be_loaded(alloc, &OPENING, role, &own, &peer, &covered)? {
+    if !UpdateLog::can_be_loaded(alloc, &OPENING, role, &base, &own, &peer, &covered)? {
         return Ok(None);
     }
-    let made = UpdateLog::load(alloc, OPENING, role, own, peer, covered);
+    let made = UpdateLog::load(alloc, OPENING, role, base, own, peer, covered);
     let told = match &made {
         Ok(log) => Ok(Some(told(log, &covered))),
         Err(refusal) => Err(*refusal),
@@ -79,8 +103,31 @@ fn loaded(alloc: Global, counts: [usize; 6]) -> Result<Option<Told>, Refusal> {
 // A removal is signed before its add is acknowledged, and not before that is committed.
 #[test]
 fn small_load(rt: HostRuntime) -> Result<(), Refusal> {
-    let told = loaded(rt.alloc(), [1, 1, 0, 0, 0, 1])?;
+    let at_opening = Base::at_opening(rt.alloc(), &OPENING, Role::Fundee);
+    let told = loaded(rt.alloc(), at_opening, &FULFIL, &OFFER, [1, 1, 0, 0, 0, 1])?;
     assert!(rt; told == Some((1, 0, true, [true, false])));
-    assert!(rt; loaded(rt.alloc(), [1, 0, 0, 0, 0, 1])?.is_none());
+    let at_opening = Base::at_opening(rt.alloc(), &OPENING, Role::Fundee);
+    assert!(rt; loaded(rt.alloc(), at_opening, &FULFIL, &OFFER, [1, 0, 0, 0, 0, 1])?.is_none());
+    Ok(())
+}
+
+// A base lets go of the offer, and its HTLC is as live, and as well removed, as it was; but not of one that isn't held
+// as irrevocably committed.
+#[test]
+fn load_behind_a_base(rt: HostRuntime) -> Result<(), Refusal> {
+    let alloc = rt.alloc();
+    let told = loaded(alloc, with_offer(alloc)?, &FULFIL, &[], [1, 1, 0, 1, 0, 1])?;
+    assert!(rt; told == Some((1, 0, true, [true, false])));
+    assert!(rt; loaded(alloc, with_offer(alloc)?, &FULFIL, &[], [1, 1, 0, 0, 0, 1])?.is_none());
+    assert!(rt;
+        loaded(
+            alloc,
+            with_offer(alloc)?,
+            &[Fulfil(1, 0)],
+            &[],
+            [1, 1, 0, 1, 0, 1]
+        )?
+        .is_none()
+    );
     Ok(())
 }

@@ -251,7 +251,7 @@ fn digit(sign: u8) -> u8 {
 }
 
 /// Writes the bytes of these digits behind the others.
-fn put_hex(out: &mut Vec<u8>, digits: &[u8]) -> Result<(), Refusal> {
+pub fn put_hex(out: &mut Vec<u8>, digits: &[u8]) -> Result<(), Refusal> {
     let mut high = None;
     for sign in digits {
         match high {

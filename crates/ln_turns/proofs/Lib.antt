@@ -7,3 +7,4 @@ pub mod Resting
 pub mod Running
 pub mod Course
 pub mod Saving
+pub mod Loaded

@@ -1,8 +1,13 @@
 //! Laws of what workers and dispatchers do.
 
-ghost use Rattle.std.specs.Prelude.{◌≡◌, ◌++◌, ◌∷◌, ◌-◌, ℕ, map, List, []};
+ghost use Rattle.std.specs.Prelude.{◌≡◌, ◌++◌, ◌∷◌, ◌-◌, ℕ, map, List, [], Option};
 ghost use Rattle.ln_hooks.specs.declared.event.ChannelEvent.{ChannelEvent};
 ghost use Rattle.ln_msgs.specs.declared.messages.message.Message.{Message};
+ghost use Rattle.ln_msgs.specs.declared.refusals.refusal.Refusal.{Refusal};
+ghost use Rattle.ln_channel.specs.End as channel;
+ghost use Rattle.ln_channel.specs.Pending.{pending_events};
+ghost use Rattle.ln_link.specs.Record.{items_of};
+ghost use Rattle.ln_link.specs.Loading.{HasRecord, end_of};
 ghost use Rattle.ln_relay.specs.Place.{IsMergeOfAll};
 ghost use Rattle.ln_turns.specs.declared.task.Task.{Task};
 ghost use Rattle.ln_turns.specs.Served.{events_in, Begins};
@@ -29,4 +34,11 @@ pub fn every_event_is_put<E: End + Drop, W: Closes + Drop, H: Drop>()
         (event : ℕ → ChannelEvent) (first end : ℕ)
         → Tells event first (next_of first a.last) (E.pending a.stand.end ∷ map told began.ran.turns) end
         → b.put ≡ a.put ++ tasks (segment event (end - next_of first a.last) (next_of first a.last)) }
+{}
+
+/// The events that are pending behind a load of an end's record are those of what a lost connection leaves of the end:
+/// they tell of updates that the record has one by one.
+pub fn a_load_keeps_pending_events()
+    ensures { (failure : Option Refusal) (e : channel.End) → HasRecord failure e
+        → pending_events (end_of (items_of failure e)) ≡ pending_events (channel.end_dropped e) }
 {}

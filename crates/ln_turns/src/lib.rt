@@ -25,7 +25,7 @@ pub use dispatch::{Table, dispatch_loop};
 pub use end::End;
 pub use item::Item;
 pub use kind::Kind;
-pub use laws::{every_event_is_put, hooks_follow};
+pub use laws::{a_load_keeps_pending_events, every_event_is_put, hooks_follow};
 pub use notice::Notice;
 pub use reader::{put, reader_loop};
 pub use saved::SavedLink;

@@ -1,6 +1,6 @@
 -- What a book reads off ends that are as wide as in code is so too, and so is the book as it follows them.
-use Rattle.std.proofs.Common.{◌≡◌, ◌+◌, ◌-◌, ℕ, zero, suc, List, [], ◌∷◌, length, drop}
-use Rattle.std.proofs.Common.{sym, subst, Bool, true, false, ◌==◌, nat_lt, nat_le}
+use Rattle.std.proofs.Common.{◌≡◌, ◌+◌, ◌-◌, ℕ, zero, suc, List, [], ◌∷◌, length, map, take, drop}
+use Rattle.std.proofs.Common.{sym, subst, Bool, true, false, cond, ◌==◌, nat_lt, nat_le}
 use Rattle.std.proofs.Common.{Option, Some, None, option_map}
 use Rattle.std.proofs.lemmas.List.{length-replicate}
 use Rattle.std.specs.List.{cons_option, find, slice_get}
@@ -17,8 +17,11 @@ use Rattle.ln_log.specs.declared.mark.Settlement.{Settlement}
 use Rattle.ln_log.specs.declared.update.Add.{Add}
 use Rattle.ln_log.specs.declared.update.Update.{Update}
 use Rattle.ln_log.specs.declared.update.Update.TheVariants as update
-use Rattle.ln_log.specs.Updates.{offered, add_with, found_or}
+use Rattle.ln_log.specs.declared.log.Side.TheVariants as side
+use Rattle.ln_log.specs.Updates.{offered, outcome, is_live, add_with, found_or}
+use Rattle.ln_log.specs.View.{live_of, live_adds}
 use Rattle.ln_log.specs.Log.{Log, between, update_at}
+use Rattle.ln_log.specs.Window.{lives, first_lives}
 use Rattle.ln_hooks.specs.declared.event.ChannelEvent.{ChannelEvent}
 use Rattle.ln_hooks.specs.declared.event.ChannelEvent.TheVariants as event
 use Rattle.ln_hooks.specs.declared.event.How.{How}
@@ -39,10 +42,10 @@ use Rattle.ln_pair.specs.Widths.{IsOrigin, IsMark, IsAdd, IsUpdate}
 use Rattle.ln_pair.proofs.All.{All, all-append, all-take, all-drop, all-when}
 use Rattle.ln_pair.proofs.Lasting.{Where, Does, IsDecision, IsSettlement}
 use Rattle.ln_readings.specs.declared.leg.Leg.{Leg}
-use Rattle.ln_readings.specs.Kept.{own_updates}
+use Rattle.ln_readings.specs.Kept.{own_window, own_updates}
 use Rattle.ln_readings.specs.Rebuild.{Reading, leg_from, leg_of, legs_offered, how_of, leg_over, legs_over}
-use Rattle.ln_readings.specs.Rebuild.{peer_updates, back_in, decided_by, decided_in, reading_of, is_for, or_leg}
-use Rattle.ln_readings.specs.Rebuild.{result_for, offer_for, way_along, way_for, way_read, led, is_over}
+use Rattle.ln_readings.specs.Rebuild.{peer_window, peer_updates, back_in, decided_by, decided_in, reading_of, is_for}
+use Rattle.ln_readings.specs.Rebuild.{or_leg, result_for, offer_for, way_along, way_for, way_read, led, is_over}
 use Rattle.ln_readings.specs.Rebuild.{unfinished, all_unfinished, is_read, htlc_left, left, all_left, rebuilt}
 use Rattle.ln_book.specs.Settled.{with_settled}
 use Rattle.ln_channels.specs.declared.step.Node.{Node}
@@ -230,15 +233,43 @@ decided_so c l (d ∷ ds) channel us h =
 between_so : (from to : ℕ) (us : List Update) → All IsUpdate us → All IsUpdate (between from to us)
 between_so from to us h = all-take IsUpdate (to - from) (drop from us) (all-drop IsUpdate from us h)
 
-pub reading_so : (e : ChannelEnd) → IsEnd e → IsReading (reading_of e)
-reading_so e h =
+-- the HTLCs that are live in a base, as the updates that offered them
+still_so : (b : Bool) (a : Add) (rest : List Add) → IsAdd a → All IsUpdate (map (λ x. update.Add x) rest)
+    → All IsUpdate (map (λ x. update.Add x) (cons_option (cond b (Some a) None) rest))
+still_so true a rest h g = (h, g)
+still_so false a rest h g = g
+
+live_so : (o : Option Add) (r : List Update) (rest : List Add) → Where IsAdd o
+    → All IsUpdate (map (λ x. update.Add x) rest)
+    → All IsUpdate (map (λ x. update.Add x) (cons_option (live_of o r) rest))
+live_so None r rest h g = g
+live_so (Some a) r rest h g = still_so (is_live (outcome a.id r)) a rest h g
+
+lives_so : (us r : List Update) → All IsUpdate us → All IsUpdate (lives us r)
+lives_so [] r h = tt
+lives_so (u ∷ us) r h = live_so (offered u) r (live_adds us r) (offered_so u h.0) (lives_so us r h.1)
+
+own_so : (e : ChannelEnd) → IsEnd e → All IsUpdate (own_updates e.dance.log)
+own_so e h =
     let l = e.dance.log in
-    record {
-      offered = legs_so e.dance.channel (own_updates l) (between_so l.first.own (length l.own) l.own h.own);
-      results = results_so e.dance.channel e.ledger.results h.results;
-      decided = decided_so e.dance.channel l e.ledger.decisions h.channel
-          (between_so l.first.peer (length l.received) l.received h.received) h.decisions;
-    }
+    all-append IsUpdate (first_lives side.Own l) (own_window l)
+    (lives_so (take l.first.own l.own) (take l.first.peer l.received) (all-take IsUpdate l.first.own l.own h.own))
+    (between_so l.first.own (length l.own) l.own h.own)
+
+peer_so : (e : ChannelEnd) → IsEnd e → All IsUpdate (peer_updates e.dance.log)
+peer_so e h =
+    let l = e.dance.log in
+    all-append IsUpdate (first_lives side.Peer l) (peer_window l)
+    (lives_so (take l.first.peer l.received) (take l.first.own l.own)
+    (all-take IsUpdate l.first.peer l.received h.received))
+    (between_so l.first.peer (length l.received) l.received h.received)
+
+pub reading_so : (e : ChannelEnd) → IsEnd e → IsReading (reading_of e)
+reading_so e h = record {
+  offered = legs_so e.dance.channel (own_updates e.dance.log) (own_so e h);
+  results = results_so e.dance.channel e.ledger.results h.results;
+  decided = decided_so e.dance.channel e.dance.log e.ledger.decisions h.channel (peer_so e h) h.decisions;
+}
 
 -- ---- where HTLCs go
 

@@ -8,7 +8,6 @@ returns-clause-has_record_if_readable c = λ e s readable. record {
   open_channel = c.in_ok-agreement.ensures.open_can_be_read e s;
   accept_channel = c.in_ok-agreement.ensures.accept_can_be_read e s;
   output = c.in_ok-agreement.ensures.output_fits_16_bits e s;
-  first = c.in_ok-updates.ensures.from_the_first e s;
-  log = c.in_ok-updates.ensures.can_be_loaded e s;
+  log = c.in_ok-updates.ensures.can_be_restored e s;
   items = readable;
 }

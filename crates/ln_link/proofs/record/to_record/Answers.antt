@@ -20,9 +20,9 @@ unfolding NoRecord
 returns-in-Ok-false-clause-fails c = λ e s.
     inr (
       refl,
-      inr (inr (
-        c.in_ok-items.ensures.log_can_be_loaded e s,
+      inr (
+        c.in_ok-items.ensures.log_can_be_restored e s,
         ap is_readable (sym (c.in_ok-items.ensures.items e s))
             ∙ sym c.in-Ok-false.ensures.tells_it ∙ c.in-Ok-false.field-0-test,
-      )),
+      ),
     )

@@ -1,34 +1,21 @@
-use Rattle.std.proofs.Common.{arith, sym, ◌∙◌, ap}
-use Rattle.std.proofs.lemmas.List.{get_or_read_under}
-use Rattle.ln_log.specs.declared.outcome.Outcome.TheVariants.{Live}
-use Rattle.ln_log.specs.Updates.{is_live}
-use Rattle.ln_log.proofs.Tables.{tells_none, tells_past, tells_done, tells_set}
+use Rattle.std.proofs.Common.{sym, ◌∙◌, nat_cmp}
+use Rattle.std.specs.BTreeMap.{get}
+use Rattle.ln_log.proofs.Tables.{none_so, notes_none, notes_done, notes_one}
 use Rattle.ln_log.proofs.removals.note_removal.Goals as goal
 
 pub returns-in-None-clause-notes : goal.returns-in-None-clause-notes
-returns-in-None-clause-notes c = λ before h. tells_none _ before _ (sym c.removal_of.ensures ∙ c.in-None.is) h
+returns-in-None-clause-notes c = λ before h.
+    notes_none (get nat_cmp c.args.by_id.now) before _ (sym c.removal_of.ensures ∙ c.in-None.is) h
 
-pub returns-in-Live-clause-notes : goal.returns-in-Live-clause-notes
-returns-in-Live-clause-notes c = λ before h.
-    tells_set _ before _ _ (sym c.removal_of.ensures
-    ∙ c.in-Some.is) (omega (arith, c.if-removal-len.true, c.len.ensures))
-    (sym (get_or_read_under _ _ _ _ Live c.index.ensures c.if-removal-len.true (omega (arith, c.len.ensures)))
-    ∙ c.in-Live.is) h
+pub returns-in_ok-insert-in-Some-clause-notes : goal.returns-in_ok-insert-in-Some-clause-notes
+returns-in_ok-insert-in-Some-clause-notes c = λ before h.
+    notes_one (get nat_cmp c.args.by_id.now) _ before _ c.in-Some.removal
+    (sym c.removal_of.ensures ∙ c.in-Some.is)
+    (none_so _ (sym c.contains_key.ensures ∙ c.if-not-contains_key.true))
+    c.in_ok-insert-in-Some.ensures.updates.0 h
 
-pub returns-in-Fulfilled-clause-notes : goal.returns-in-Fulfilled-clause-notes
-returns-in-Fulfilled-clause-notes c = λ before h.
-    tells_done _ before _ _ (sym c.removal_of.ensures
-    ∙ c.in-Some.is) (omega (arith, c.if-removal-len.true, c.len.ensures))
-    (ap is_live (sym (get_or_read_under _ _ _ _ Live c.index.ensures c.if-removal-len.true
-    (omega (arith, c.len.ensures))) ∙ c.in-Fulfilled.is)) h
-
-pub returns-in-Failed-clause-notes : goal.returns-in-Failed-clause-notes
-returns-in-Failed-clause-notes c = λ before h.
-    tells_done _ before _ _ (sym c.removal_of.ensures
-    ∙ c.in-Some.is) (omega (arith, c.if-removal-len.true, c.len.ensures))
-    (ap is_live (sym (get_or_read_under _ _ _ _ Live c.index.ensures c.if-removal-len.true
-    (omega (arith, c.len.ensures))) ∙ c.in-Failed.is)) h
-
-pub returns-else-removal-len-clause-notes : goal.returns-else-removal-len-clause-notes
-returns-else-removal-len-clause-notes c = λ before h. tells_past _ before _ _ (sym c.removal_of.ensures
-    ∙ c.in-Some.is) (omega (arith, c.if-removal-len.false, c.len.ensures)) h
+pub returns-else-not-contains_key-clause-notes : goal.returns-else-not-contains_key-clause-notes
+returns-else-not-contains_key-clause-notes c = λ before h.
+    notes_done (get nat_cmp c.args.by_id.now) before _ c.in-Some.removal
+    (sym c.removal_of.ensures ∙ c.in-Some.is)
+    (sym c.contains_key.ensures ∙ c.if-not-contains_key.false) h

@@ -1,4 +1,4 @@
-use Rattle.std.proofs.Common.{ap, ◌∙◌, sym}
+use Rattle.std.proofs.Common.{◌∙◌, sym}
 use Rattle.ln_store.proofs.Removing.{held}
 use Rattle.ln_store.proofs.removals.is_there.Goals as goal
 

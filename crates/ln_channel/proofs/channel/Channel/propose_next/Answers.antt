@@ -1,4 +1,4 @@
-use Rattle.std.proofs.Common.{refl, sym, subst, ◌∙◌}
+use Rattle.std.proofs.Common.{refl, subst, ◌∙◌}
 use Rattle.ln_log.specs.Log.{after_propose, proposal_fault}
 use Rattle.ln_dance.specs.Dance.{with_log}
 use Rattle.ln_channel.specs.End.{End, StandsFor, with_dance}

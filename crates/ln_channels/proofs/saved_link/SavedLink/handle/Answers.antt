@@ -1,7 +1,7 @@
 use Rattle.std.proofs.Common.{◌≡◌, ◌∙◌, refl, sym, ap, subst, Ok, Err, Vec, Global}
 use Rattle.ln_channel.specs.State.{State, refused}
 use Rattle.ln_channel.specs.Step.{handled, commanded}
-use Rattle.ln_channels.specs.Both.{left, unchanged}
+use Rattle.ln_channels.specs.Both.{left, unchanged, as_saved}
 use Rattle.ln_channels.specs.Failing.{ByRecord, LinkLacks}
 use Rattle.ln_channels.proofs.Answered.{said_so, left_so}
 use Rattle.ln_channel.specs.declared.output.Output.{Output}
@@ -37,19 +37,20 @@ invariant_of-self-else-has_halted-2 g c =
 
 pub returns-in-Ok-clause-said : goal.returns-in-Ok-clause-said
 returns-in-Ok-clause-said g c =
-    subst (λ (x : State _). handled (g.K.ChannelKeys.signer x.keys) x c.args.message ≡ Ok (record {
+    subst (λ (x : State _). as_saved (handled (g.K.ChannelKeys.signer x.keys) x c.args.message) ≡ Ok (record {
       line = c.handle.new.self.line;
       stage = c.handle.new.self.stage;
       outputs = c.in-Ok.outputs.items;
     })) c.self.view_is
     (said_so (λ v. v.items) (handled (g.K.ChannelKeys.signer c.self.inside.link.keys) c.self.inside.link
     c.args.message)
-    c.self.inside.link c.handle.new.self c.in-Ok.outputs
+    c.self.inside.link c.handle.new.self c.in-Ok.outputs (record { records = c.self.inside.store; failed = 0 })
+    (record { records = c.handle.new.store; failed = 0 })
     (message_taken (g.K.ChannelKeys.signer c.self.inside.link.keys) (λ v. v.items) c.self.inside.link
     c.handle.new.self c.args.message
     c.in-Ok.outputs (record { records = c.self.inside.store; failed = 0 })
     (record { records = c.handle.new.store; failed = 0 }) (sym c.has_halted.ensures ∙ c.if-has_halted.false)
-    c.in-Ok.ensures.same_channel (c.in-Ok.ensures.answers c.self.inside.link refl) c.self.invariant).reaches)
+    c.in-Ok.ensures.same_channel (c.in-Ok.ensures.answers c.self.inside.link refl) c.self.invariant).handed)
 
 pub returns-in-Ok-clause-link : goal.returns-in-Ok-clause-link
 returns-in-Ok-clause-link g c =
@@ -58,21 +59,23 @@ returns-in-Ok-clause-link g c =
     c.self.view_is
     (left_so (λ v. v.items) refused (handled (g.K.ChannelKeys.signer c.self.inside.link.keys) c.self.inside.link
     c.args.message)
-    c.self.inside.link c.handle.new.self c.in-Ok.outputs
+    c.self.inside.link c.handle.new.self c.in-Ok.outputs (record { records = c.self.inside.store; failed = 0 })
+    (record { records = c.handle.new.store; failed = 0 })
     (message_taken (g.K.ChannelKeys.signer c.self.inside.link.keys) (λ v. v.items) c.self.inside.link
     c.handle.new.self c.args.message
     c.in-Ok.outputs (record { records = c.self.inside.store; failed = 0 })
     (record { records = c.handle.new.store; failed = 0 }) (sym c.has_halted.ensures ∙ c.if-has_halted.false)
-    c.in-Ok.ensures.same_channel (c.in-Ok.ensures.answers c.self.inside.link refl) c.self.invariant).reaches)
+    c.in-Ok.ensures.same_channel (c.in-Ok.ensures.answers c.self.inside.link refl) c.self.invariant).handed)
 
 pub returns-else-has_halted-2-clause-said : goal.returns-else-has_halted-2-clause-said
 returns-else-has_halted-2-clause-said g c =
-    subst (λ (x : State _). handled (g.K.ChannelKeys.signer x.keys) x c.args.message ≡ Err c.in-Err.why) c.self.view_is
-    (message_refused (g.K.ChannelKeys.signer c.self.inside.link.keys) {V = Vec Output Global} (λ v. v.items)
-    c.self.inside.link c.handle.new.self c.args.message
+    subst (λ (x : State _). as_saved (handled (g.K.ChannelKeys.signer x.keys) x c.args.message) ≡ Err c.in-Err.why)
+    c.self.view_is
+    (ap as_saved (message_refused (g.K.ChannelKeys.signer c.self.inside.link.keys) {V = Vec Output Global}
+    (λ v. v.items) c.self.inside.link c.handle.new.self c.args.message
     c.in-Err.why (record { records = c.self.inside.store; failed = 0 })
     (record { records = c.handle.new.store; failed = 0 }) (sym c.has_halted-in-Err.ensures ∙ c.if-has_halted-2.false)
-    c.in-Err.ensures.same_channel (c.in-Err.ensures.answers c.self.inside.link refl) c.self.invariant).said_so
+    c.in-Err.ensures.same_channel (c.in-Err.ensures.answers c.self.inside.link refl) c.self.invariant).said_so)
 
 pub returns-else-has_halted-2-clause-link : goal.returns-else-has_halted-2-clause-link
 returns-else-has_halted-2-clause-link g c =

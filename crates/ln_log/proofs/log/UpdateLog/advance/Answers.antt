@@ -1,6 +1,8 @@
-use Rattle.std.proofs.Common.{◌↔◌, IsTrue, refl, subst}
+use Rattle.std.proofs.Common.{◌↔◌, IsTrue, refl, rules, subst}
 use Rattle.ln_log.specs.Window.{MayBeBase}
 use Rattle.ln_log.proofs.Whole.{kept_of, moved, moved_whole, may_be}
+use Rattle.ln_log.proofs.Bases.{tested, moved_by}
+use Rattle.ln_log.proofs.Restored.{own_grown, peer_grown}
 use Rattle.ln_log.proofs.log.UpdateLog.advance.Goals as goal
 
 pub returns-then-not-branch-clause-exactly : goal.returns-then-not-branch-clause-exactly
@@ -24,14 +26,26 @@ invariant_of-self-2 c =
       first = c.in_ok-advance.ensures.moves c.if-not-branch.false;
       stands = c.in_ok-advance.ensures.stands_for_the_same _ (kept_of _ _ _ _ c.args.self.now c.self.view_is
           c.self.invariant refl);
-      own = c.with_all-own_past.ensures;
+      own = own_grown _ _ _ c.with_all-own_past.ensures.same_start c.with_all-own_past.ensures.enters_them;
       own_leave = c.leaving.ensures _ (kept_of _ _ _ _ c.args.self.now c.self.view_is c.self.invariant refl);
-      peer = c.with_all-peer_past.ensures;
+      peer = peer_grown _ _ _ c.with_all-peer_past.ensures.same_start c.with_all-peer_past.ensures.enters_them;
       peer_leave = c.leaving-2.ensures _ (kept_of _ _ _ _ c.args.self.now c.self.view_is c.self.invariant refl);
     })
 
-pub returns-clause-moves : goal.returns-clause-moves
-returns-clause-moves c = λ _.
+pub returns-then-not-branch-clause-by_its_test : goal.returns-then-not-branch-clause-by_its_test
+returns-then-not-branch-clause-by_its_test c =
+    tested _ c.args.self.now c.args.to (returns-then-not-branch-clause-exactly c)
+
+pub returns-clause-by_its_test : goal.returns-clause-by_its_test
+returns-clause-by_its_test c = tested _ c.args.self.now c.args.to (returns-clause-exactly c)
+
+pub returns-then-not-branch-clause-moves_where_it_may : goal.returns-then-not-branch-clause-moves_where_it_may
+returns-then-not-branch-clause-moves_where_it_may c = moved_by _ _ _ _ _
+    (returns-then-not-branch-clause-by_its_test c) (λ e. absurd (cc)) (λ _. search rules)
+
+pub returns-clause-moves_where_it_may : goal.returns-clause-moves_where_it_may
+returns-clause-moves_where_it_may c = moved_by _ _ _ _ _ (returns-clause-by_its_test c)
+    (λ _.
     moved _ _ _ _ _ _ _ _ c.args.self.now c.args.to (record {
       view = c.self.view_is;
       before = c.self.invariant;
@@ -39,8 +53,9 @@ returns-clause-moves c = λ _.
       first = c.in_ok-advance.ensures.moves c.if-not-branch.false;
       stands = c.in_ok-advance.ensures.stands_for_the_same _ (kept_of _ _ _ _ c.args.self.now c.self.view_is
           c.self.invariant refl);
-      own = c.with_all-own_past.ensures;
+      own = own_grown _ _ _ c.with_all-own_past.ensures.same_start c.with_all-own_past.ensures.enters_them;
       own_leave = c.leaving.ensures _ (kept_of _ _ _ _ c.args.self.now c.self.view_is c.self.invariant refl);
-      peer = c.with_all-peer_past.ensures;
+      peer = peer_grown _ _ _ c.with_all-peer_past.ensures.same_start c.with_all-peer_past.ensures.enters_them;
       peer_leave = c.leaving-2.ensures _ (kept_of _ _ _ _ c.args.self.now c.self.view_is c.self.invariant refl);
-    })
+    }))
+    (λ e. absurd (cc))

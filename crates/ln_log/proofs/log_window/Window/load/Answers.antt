@@ -1,25 +1,40 @@
-use Rattle.std.proofs.Common.{ap, refl, take, ◌∙◌}
-use Rattle.ln_log.specs.Opening.{first_balance}
-use Rattle.ln_log.specs.Loading.{stored}
-use Rattle.ln_log.proofs.Readable.{signs_all, accepts_all, same_lawful, turned_lawful, stands_as, stands_loaded}
+use Rattle.std.proofs.Common.{refl, sym, ap, ◌∙◌, subst, take, ◌++◌, ◌-◌, arith}
+use Rattle.ln_log.specs.Kept.{IsKeptInOrder}
+use Rattle.ln_log.specs.Told.{told, kept_of}
+use Rattle.ln_log.proofs.Restored.{own_fits, peer_fits, fits_so, stands_so, same_kept}
+use Rattle.ln_log.proofs.Retold.{in_order}
+use Rattle.ln_log.proofs.Stands.{same_counts_by}
 use Rattle.ln_log.proofs.log_window.Window.load.Goals as goal
 
-pub standing_of-requires-clause-lawful : goal.standing_of-requires-clause-lawful
-standing_of-requires-clause-lawful c = same_lawful _ _ _ _ _ _ c.deref.ensures.value c.deref-2.ensures.value
-    (signs_all (stored c.args.opening c.args.role c.args.own.items c.args.received.items c.args.coverage) c.requires)
+pub standing_behind-requires : goal.standing_behind-requires
+standing_behind-requires c =
+    let t = told c.args.opening c.args.role c.args.base.now c.args.own.items c.args.received.items c.args.coverage in
+    fits_so _ _ _ _ _ _ _ _ _ _ (c.deref-2.ensures.value ∙ c.in_ok-own_lives.ensures.own) c.deref-3.ensures.value
+    (c.deref-4.ensures.value ∙ c.in_ok-own_lives.ensures.peer) c.deref-5.ensures.value (own_fits t c.requires)
 
-pub standing_of-requires-2-clause-lawful : goal.standing_of-requires-2-clause-lawful
-standing_of-requires-2-clause-lawful c = turned_lawful _ _ _ _ _ _ _ c.other.ensures
-    (ap (take c.args.coverage.acknowledged.own) c.deref-3.ensures.value) c.deref-4.ensures.value
-    (accepts_all (stored c.args.opening c.args.role c.args.own.items c.args.received.items c.args.coverage) c.requires)
+pub standing_behind-requires-2 : goal.standing_behind-requires-2
+standing_behind-requires-2 c =
+    let t = told c.args.opening c.args.role c.args.base.now c.args.own.items c.args.received.items c.args.coverage in
+    fits_so _ _ _ _ _ _ _ _ _ _ (c.deref-6.ensures.value ∙ c.in_ok-own_lives.ensures.peer) c.deref-7.ensures.value
+    (c.deref-8.ensures.value ∙ c.in_ok-own_lives.ensures.own)
+    (ap (take (c.args.coverage.acknowledged.own - c.args.base.now.updates.own)) c.deref.ensures.value)
+    (peer_fits t c.requires)
 
-pub returns-clause-stands_for_the_lists : goal.returns-clause-stands_for_the_lists
-returns-clause-stands_for_the_lists c =
-    stands_loaded c.args.opening c.args.role c.args.own.items c.args.received.items c.args.coverage _ _ _ _
-    c.requires
-    (stands_as _ c.args.opening c.args.role c.args.role _ _ _ _ c.in_ok-own_standing.ensures.gives_the_standing refl
-    c.deref.ensures.value c.deref-2.ensures.value)
-    (stands_as _ c.args.opening _ c.other.result _ _ _ _ c.in_ok-peer_standing.ensures.gives_the_standing
-    c.other.ensures
-    c.deref-4.ensures.value (ap (take c.args.coverage.acknowledged.own) c.deref-3.ensures.value))
-    c.first_balance.ensures (c.first_balance-2.ensures ∙ ap (first_balance c.args.opening) c.other-2.ensures)
+pub invariant_of-result : goal.invariant_of-result
+invariant_of-result c =
+    let t = told c.args.opening c.args.role c.args.base.now c.args.own.items c.args.received.items c.args.coverage in
+    let own = stands_so _ _ _ _ _ _ _ _ _ _ _ c.in_ok-own_standing.ensures.gives_the_standing
+    (c.deref-2.ensures.value ∙ c.in_ok-own_lives.ensures.own) c.deref-3.ensures.value
+    (c.deref-4.ensures.value ∙ c.in_ok-own_lives.ensures.peer) c.deref-5.ensures.value in
+    let peer = stands_so _ _ _ _ _ _ _ _ _ _ _ c.in_ok-peer_standing.ensures.gives_the_standing
+    (c.deref-6.ensures.value ∙ c.in_ok-own_lives.ensures.peer) c.deref-7.ensures.value
+    (c.deref-8.ensures.value ∙ c.in_ok-own_lives.ensures.own)
+    (ap (take (c.args.coverage.acknowledged.own - c.args.base.now.updates.own)) c.deref.ensures.value) in
+    subst IsKeptInOrder
+    (sym (same_kept _ (kept_of t) refl refl refl (same_counts_by _ _
+    (omega (arith, c.len.ensures, c.args.base.now.own.ok))
+    (omega (arith, c.len-2.ensures, c.args.base.now.peer.ok))) refl
+    (c.in_ok-own.ensures.joins_them ∙ ap (λ x. x ++ c.args.own.items) c.in_ok-own_lives.ensures.own)
+    (c.in_ok-received.ensures.joins_them ∙ ap (λ x. x ++ c.args.received.items) c.in_ok-own_lives.ensures.peer)
+    refl refl refl own own peer peer))
+    (in_order t c.requires)

@@ -3,4 +3,4 @@ use Rattle.ln_log.specs.Outcomes.{Tells}
 use Rattle.ln_log.proofs.removals.Outcomes.new.Given as goal
 
 abbrev pub invariant-loop-update : goal.invariant-loop-update
-invariant-loop-update l = Tells l.by_id.items (take l.update-index l.removals)
+invariant-loop-update l = Tells l.by_id (take l.update-index l.removals)
