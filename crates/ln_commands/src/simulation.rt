@@ -10,14 +10,14 @@ ghost use Rattle.ln_script.specs.Report.{ReportsScript, ReportsScriptPartly};
 
 use crate::failure::Failure;
 use ln_msgs::{Counted, Refusal};
-use ln_script::{print_report, read_script, steps_bring_what_fits};
+use ln_script::report_script;
 use ln_world::Serve;
 use std::alloc::Global;
 use std::io::Write;
 
 /// Runs a script over a world that these hooks are handed in to, and writes its report, what a step is told as before
-/// the next is taken. The hook lines of the script name the hooks in their order. Takes memory for the script's lines
-/// and steps, the world, and the text of one step.
+/// the next is taken. The hook lines of the script name the hooks in their order. Takes memory for the places of the
+/// script's lines, the steps of one line, the world, and the text of one step.
 ///
 /// Errors: 64 with the number of the first bad line, and then nothing was written; 60 where there is no memory; 63
 /// where a call of the writer fails. What was written by then is a beginning of the report.
@@ -36,9 +36,7 @@ pub fn simulate<W: Write, H: Serve>(
         × (writer.new ≡ writer.old))
         ⊎ ((f ≡ Failure.Refused Io) × HasRisen (failures_of writer.old) (failures_of writer.new))) }
 {
-    let steps = read_script(alloc, text)?;
-    steps_bring_what_fits();
-    print_report(alloc, steps, hooks, writer)?;
+    report_script(alloc, text, hooks, writer)?;
     Ok(())
 }
 

@@ -31,8 +31,8 @@ use Rattle.ln_script.specs.Keys.{toy}
 use Rattle.ln_script.specs.Command.{command_at}
 use Rattle.ln_script.specs.Step.{ToyStep, fees_at, limits_at, policy_at, expect_at}
 use Rattle.ln_script.specs.Script.{script_at}
-use Rattle.ln_script.specs.Report.{AfterEachScript, said_by, left_by}
-use Rattle.ln_script.proofs.Walk.{Has, then, then_of, either, if_true, if_in_order, IsOfEachKind, RoundAct, each_step}
+use Rattle.ln_script.specs.Report.{AfterEachScript, said_by}
+use Rattle.ln_script.proofs.Walk.{Has, then, then_of, if_true, if_in_order, IsOfEachKind, RoundAct, each_step}
 
 -- ---- numbers and keys
 

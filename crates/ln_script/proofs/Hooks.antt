@@ -1,14 +1,12 @@
 -- The hooks of a script: their codes, their places, and that each is registered by a step.
-use Rattle.std.proofs.Common.{◌≡◌, ℕ, suc, ◌+◌, ◌<◌, ◌≤◌, List, [], ◌∷◌, ◌++◌, Bool, true, false, cond, ◌||◌, ◌==◌}
-use Rattle.std.proofs.Common.{length}
-use Rattle.std.proofs.Common.{inl, inr, Option, Some, None, IfSome, IsSome, IsTrue, ◌↔◌, refl, sym, ap, ◌∙◌, subst}
-use Rattle.std.proofs.Common.{map, arith}
+use Rattle.std.proofs.Common.{◌≡◌, ℕ, List, [], ◌∷◌, Bool, true, false, cond, ◌||◌, ◌==◌}
+use Rattle.std.proofs.Common.{inl, inr, Option, Some, None, IfSome, IsSome, IsTrue, ◌↔◌, refl, sym, ap, ◌∙◌}
+use Rattle.std.proofs.Common.{map}
 use Rattle.std.specs.List.{list_any}
 use Rattle.std.proofs.lemmas.Bool.{cases_Bool}
-use Rattle.std.proofs.lemmas.Bool.Decides.{nat_tests}
 use Rattle.ln_hooks.specs.declared.verdict.FailureCode.{FailureCode}
 use Rattle.ln_hooks.specs.declared.verdict.FailureCode.TheVariants as code
-use Rattle.ln_hooks.specs.Verdict.{code_number, lawful_codes, is_lawful}
+use Rattle.ln_hooks.specs.Verdict.{code_number, is_lawful}
 use Rattle.ln_script.specs.Hook.{all_codes, code_among, lawful}
 
 -- ---- codes

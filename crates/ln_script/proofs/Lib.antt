@@ -13,4 +13,5 @@ pub mod Widths
 pub mod Unhooked
 pub mod Reports
 pub mod Recorded
+pub mod Telling
 pub mod Shown

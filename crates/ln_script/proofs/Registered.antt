@@ -1,10 +1,8 @@
 -- A script that is read has as many steps that register a hook as it has hooks.
 use Rattle.std.proofs.Common.{◌≡◌, ℕ, ◌+◌, List, [], ◌∷◌, ◌++◌, Bool, true, false, cond, codes, length, Option, Some}
-use Rattle.std.proofs.Common.{None, Result, Ok, Err, refl, sym, ap, ◌∙◌, subst, arith, length-append, inl, inr}
+use Rattle.std.proofs.Common.{None, Result, Ok, Err, refl, sym, ap, ◌∙◌, subst, arith, length-append, lit≤, ◌≤◌}
 use Rattle.std.specs.List.{count_by, flat_map}
 use Rattle.std.specs.Str.{bytes_eq}
-use Rattle.std.proofs.lemmas.Bool.{cases_Bool}
-use Rattle.std.proofs.lemmas.List.Sums.{sum_by-append}
 use Rattle.std.proofs.lemmas.Slice.Eq.{bytes_eq-Decides}
 use Rattle.ln_channels.specs.declared.step.End.{End}
 use Rattle.ln_channels.specs.declared.step.Node.{Node}
@@ -18,21 +16,13 @@ use Rattle.ln_script.specs.declared.hook.Hooked.{Hooked}
 use Rattle.ln_script.specs.Word.{◌>>=◌, decimal_at, number_at, node_at}
 use Rattle.ln_script.specs.Command.{command_at}
 use Rattle.ln_script.specs.Hook.{hooked_at}
-use Rattle.ln_script.specs.Step.{ToyStep, fees_at, limits_at, policy_at, expect_at, register_line}
+use Rattle.ln_script.specs.Step.{ToyStep, fees_at, limits_at, policy_at, expect_at}
 use Rattle.ln_script.specs.Step.{one_step, other_step_at, step_at}
 use Rattle.ln_script.specs.Step.{word_line, steps_at, is_hook, with_place, next_place, numbered}
 use Rattle.ln_script.specs.Script.{lines, words, is_skipped, line_at, behind, line_then, steps_from, with_places}
 use Rattle.ln_script.specs.Script.{script_at, hooks_by, hooks_at, line_hooks, script_hooks}
+use Rattle.ln_script.proofs.Places.{count, count-cons, count-append}
 use Rattle.ln_script.proofs.Walk.{Has, then, if_in_order, IsOfEachKind, RoundAct, word_lines}
-
-abbrev count : List ToyStep → ℕ
-count ss = count_by is_hook ss
-
-count-cons : (s : ToyStep) (ss : List ToyStep) → count (s ∷ ss) ≡ count (s ∷ []) + count ss
-count-cons s ss = sum_by-append (λ x. cond (is_hook x) 1 0) (s ∷ []) ss
-
-count-append : (ss ts : List ToyStep) → count (ss ++ ts) ≡ count ss + count ts
-count-append ss ts = sum_by-append (λ x. cond (is_hook x) 1 0) ss ts
 
 -- ---- a step of another line registers none
 
@@ -144,6 +134,33 @@ of_line l = by (is_skipped l)
     by : (b : Bool) → Has (AsMany (cond b [] (hooks_at (words l)))) (cond b (Some []) (steps_at (words l)))
     by true = refl
     by false = of_words (words l)
+
+-- ---- so a line asks for one at most
+
+few_by : (o : Option Hooked) → length (hooks_by o) ≤ 1
+few_by None = lit≤ tt
+few_by (Some h) = lit≤ tt
+
+few_of_word : (b : Bool) (o : Option Hooked) → length (cond b (hooks_by o) []) ≤ 1
+few_of_word true o = few_by o
+few_of_word false o = lit≤ tt
+
+few_of_words : (ws : List (List ℕ)) → length (hooks_at ws) ≤ 1
+few_of_words [] = lit≤ tt
+few_of_words (w ∷ ws) = few_of_word (bytes_eq w (codes "hook")) (hooked_at ws)
+
+few_of_line : (l : List ℕ) → length (line_hooks l) ≤ 1
+unfolding line_hooks
+few_of_line l = by (is_skipped l)
+  where
+    by : (b : Bool) → length (cond b [] (hooks_at (words l))) ≤ 1
+    by true = lit≤ tt
+    by false = few_of_words (words l)
+
+pub few_hooks : (l : List ℕ) (ss : List ToyStep) → line_at l ≡ Some ss → count ss ≤ 1
+few_hooks l ss is =
+    let many : count ss ≡ length (line_hooks l) = subst (Has (AsMany (line_hooks l))) is (of_line l) in
+    omega (arith, many, few_of_line l)
 
 -- ---- and of all lines
 

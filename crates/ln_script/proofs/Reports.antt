@@ -1,5 +1,5 @@
 -- A report bit by bit: what was written of the steps that are done.
-use Rattle.std.proofs.Common.{◌≡◌, ℕ, ◌≤◌, ◌<◌, List, [], ◌∷◌, ◌++◌, Option, Some, length, map, refl, sym, ap, subst}
+use Rattle.std.proofs.Common.{◌≡◌, ℕ, ◌≤◌, List, [], ◌∷◌, ◌++◌, Option, Some, length, map, refl, sym, ap, subst}
 use Rattle.std.proofs.Common.{◌∙◌}
 use Rattle.std.proofs.Common.{arith, append_assoc, append-nil, inl, inr, ◌⊎◌, Result, Ok, Err, OnOk, OnErr}
 use Rattle.std.specs.Io.KnownBytes.{Appends}
@@ -17,14 +17,14 @@ use Rattle.ln_desks.specs.Seated.{Answers, Tables, Stand}
 use Rattle.ln_desks.specs.World.{World as Desks}
 use Rattle.ln_desks.specs.World as desks
 use Rattle.ln_world.specs.declared.node.NodeBook.{NodeBook}
-use Rattle.ln_world.specs.World.{World, empty, happens, run, step_lines, run_lines, SomeMayFail}
+use Rattle.ln_world.specs.World.{World, empty, happens, step_lines, run_lines}
 use Rattle.ln_world.specs.Hooked.{answered, verdict_in, Steps, HasRun, RunMayFail}
 use Rattle.ln_world.proofs.Running.{Ran, ran_one, ran_none, ran_many, has_run_all, may_fail_all}
 use Rattle.ln_script.specs.Keys.{toy}
 use Rattle.ln_script.specs.Step.{ToyStep}
 use Rattle.ln_script.specs.Report.{shown_line, lines_text, ends_text, report_text, said_by, left_by, StepTold}
 use Rattle.ln_script.specs.Report.{StepPartly, StepPartlyTold, StepsTold, Reports, ReportsPartly, StepFails, StepsFail}
-use Rattle.ln_script.specs.Report.{ReportsScriptPartly}
+use Rattle.ln_script.specs.Report.{ReportsScript, ReportsScriptPartly}
 
 -- all of the first, and a beginning of what follows
 pub partly_behind : (a b c : Option (List ℕ)) (x y : List ℕ) → Appends a b x → IsPartlyWritten b c y
@@ -198,15 +198,22 @@ module _ {H : Type 0} (calls : H → ChannelEvent → Verdict → H → Type 0) 
             (partly_before a c (lines_text lines) so.0 p);
       }
 
+  -- behind the steps that are done
+  pub stops_here : (done rest all : List ToyStep) (w : World ToyKeys) (ts : List (Tables calls))
+      (left : List (Option H)) (a b : Option (List ℕ)) → done ++ rest ≡ all → IsTold done w ts left a b
+      → ReportsPartly calls handed all a b
+  stops_here done rest all w ts left a b is t =
+      stops done rest all w ts left t.lines a b is
+      (has_run_all toy calls handed done done refl w ts left [] t.lines t.ran)
+      (whole a b (lines_text t.lines) t.written)
+
   -- at a step, of which nothing was told or a beginning
   pub stops_at : (done rest all : List ToyStep) (s : ToyStep) (w : World ToyKeys) (ts : List (Tables calls))
       (left : List (Option H)) (a b c : Option (List ℕ)) → done ++ s ∷ rest ≡ all → IsTold done w ts left a b
       → StepPartlyTold calls s w ts left b c → ReportsPartly calls handed all a c
   stops_at done rest all s w ts left a b c is t (inl same) =
-      stops done (s ∷ rest) all w ts left t.lines a c is
-      (has_run_all toy calls handed done done refl w ts left [] t.lines t.ran)
-      (subst (λ (x : Option (List ℕ)). IsPartlyWritten a x (lines_text t.lines)) (sym same)
-      (whole a b (lines_text t.lines) t.written))
+      subst (λ (x : Option (List ℕ)). ReportsPartly calls handed all a x) (sym same)
+      (stops_here done (s ∷ rest) all w ts left a b is t)
   stops_at done rest all s w ts left a b c is t (inr p) =
       let ran = ran_one toy calls handed done s w p.after ts p.tables left p.kept [] t.lines (t.lines ++ p.lines) t.ran
       (behind s w p.after ts p.tables left p.kept t.lines p.lines p.steps) in
@@ -296,3 +303,8 @@ module _ {H : Type 0} (calls : H → ChannelEvent → Verdict → H → Type 0) 
       → ReportsPartly calls handed ss a b → ReportsScriptPartly calls handed r a b
   script_partly r ss a b is h =
       subst (λ (x : Result (List ToyStep) ℕ). ReportsScriptPartly calls handed x a b) (sym is) h
+
+  pub script_reports : (r : Result (List ToyStep) ℕ) (ss : List ToyStep) (a b : Option (List ℕ)) → r ≡ Ok ss
+      → Reports calls handed ss a b → ReportsScript calls handed r a b
+  script_reports r ss a b is h =
+      subst (λ (x : Result (List ToyStep) ℕ). ReportsScript calls handed x a b) (sym is) h

@@ -79,6 +79,16 @@ at_end r ss xs i reads all =
     ∙ ap (behind ss) (no_line (i + 1)) ∙ ap (λ (vs : List ToyStep). let it : Result (List ToyStep) ℕ = Ok vs in
     it) (append-nil ss)
 
+-- what is left to be read, where no line is bad
+behind_so : (ss steps : List ToyStep) (r : Result (List ToyStep) ℕ) → behind ss r ≡ Ok steps
+    → (rest : List ToyStep) × (steps ≡ ss ++ rest)
+behind_so ss steps (Ok ts) is = (ts, cc)
+behind_so ss steps (Err n) is = absurd cc
+
+pub left_to_read : (r : Result (List ToyStep) ℕ) (ss : List ToyStep) (xs : List (List ℕ)) (i : ℕ) → Reads r ss xs i
+    → (steps : List ToyStep) → r ≡ Ok steps → (rest : List ToyStep) × (steps ≡ ss ++ rest)
+left_to_read r ss xs i reads steps is = behind_so ss steps (steps_from (i + 1) (drop i xs)) (sym reads ∙ is)
+
 -- ---- the texts of pieces
 
 pub as_many : (items : List (Bor (List ℕ))) (i : ℕ) → i < length items → i < length (texts items)

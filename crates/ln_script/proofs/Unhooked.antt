@@ -1,5 +1,5 @@
 -- Where no hook is handed in nothing is said against an event.
-use Rattle.std.proofs.Common.{◌≡◌, ℕ, List, [], ◌∷◌, length, refl, sym, ap, subst, ◌∙◌, Option, Some, None}
+use Rattle.std.proofs.Common.{◌≡◌, ℕ, List, [], ◌∷◌, length, refl, ap, subst, ◌∙◌, Option, Some, None}
 use Rattle.std.specs.Io.KnownBytes.{Appends}
 use Rattle.ln_keys.specs.declared.toy_keys.ToyKeys.{ToyKeys}
 use Rattle.ln_hooks.specs.declared.event.ChannelEvent.{ChannelEvent}
@@ -12,7 +12,7 @@ use Rattle.ln_desks.specs.World as desks
 use Rattle.ln_desks.specs.Hooked as desks_hooked
 use Rattle.ln_desks.proofs.Unhooked.{none_answer}
 use Rattle.ln_world.specs.World.{World, empty, plain, moved_by, happens}
-use Rattle.ln_world.specs.Hooked.{verdict_by, verdict_in, answered}
+use Rattle.ln_world.specs.Hooked.{verdict_by, answered}
 use Rattle.ln_script.specs.Keys.{toy}
 use Rattle.ln_script.specs.Step.{ToyStep}
 use Rattle.ln_script.specs.Report.{Said, report_text, said_by, unhooked, Reports}

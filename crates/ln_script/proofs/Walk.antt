@@ -22,7 +22,7 @@ use Rattle.ln_script.specs.Step.{policy_at, policy_line, height_line, expect_at,
 use Rattle.ln_script.specs.Step.{dispatch_line, register_line, take_line, decide_line, other_step_at}
 use Rattle.ln_script.specs.Step.{act_line, do_line, stop_before_line, stop_after_line, no_memory_line}
 use Rattle.ln_script.specs.Step.{step_at, ready_steps, ready_line, one_step, word_line, steps_at}
-use Rattle.ln_script.specs.Step.{is_hook, next_place, numbered}
+use Rattle.ln_script.specs.Step.{numbered}
 use Rattle.ln_script.specs.Hook.{hooked_at}
 use Rattle.ln_script.specs.Script.{lines, words, is_skipped, line_at, behind, line_then, steps_from, with_places}
 use Rattle.ln_script.specs.Script.{script_at}

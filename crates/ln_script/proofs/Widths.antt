@@ -19,14 +19,13 @@ use Rattle.ln_pair.specs.Widths.{IsCommand}
 use Rattle.ln_world.specs.declared.step.Act.TheVariants as act
 use Rattle.ln_world.specs.declared.step.Step.TheVariants as step
 use Rattle.ln_script.specs.Word.{◌>>=◌, decimal_at, number_at, node_at, short_id_at, digit_at, code_at}
-use Rattle.ln_script.specs.Keys.{toy}
 use Rattle.ln_script.specs.Onion.{payloads_at}
 use Rattle.ln_script.specs.Command.{preimage_of, hash_of, onion_at, add_at, fulfil_at, fail_at}
 use Rattle.ln_script.specs.Command.{malformed_at, fee_at, confirm_line, add_line, fulfil_line, fail_line}
 use Rattle.ln_script.specs.Command.{malformed_line, fee_line, sign_line, shutdown_line, update_at, command_at}
-use Rattle.ln_script.specs.Step.{ToyStep, fees_at, limits_at, policy_at, invoice_of, expect_at}
+use Rattle.ln_script.specs.Step.{ToyStep, fees_at, limits_at, policy_at, expect_at}
 use Rattle.ln_script.specs.Script.{script_at}
-use Rattle.ln_script.specs.Wide.{IsInvoice, IsWide, AreAsWide}
+use Rattle.ln_script.specs.Wide.{IsWide, AreAsWide}
 use Rattle.ln_script.proofs.Walk.{Has, then, then_of, either, if_true, if_false, if_in_order, IsOfEachKind, RoundAct}
 use Rattle.ln_script.proofs.Walk.{each_step}
 use Rattle.ln_script.proofs.Fits.{IsShort, decimals_are_short}

@@ -8,5 +8,6 @@ pub mod Wide
 pub mod Script
 pub mod LineText
 pub mod Report
+pub mod Telling
 pub mod MessageText
 pub mod Shown

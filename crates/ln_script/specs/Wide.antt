@@ -1,6 +1,6 @@
 -- What a script's steps bring is as wide as it is in code: numbers of 16, 32 and 64 bits, secrets, hashes and preimages
 -- of 32 bytes, onions of 1,366.
-use Rattle.std.specs.Prelude.{◌≡◌, ℕ, ◌<◌, ◌≤◌, ◌^◌, List, length}
+use Rattle.std.specs.Prelude.{◌≡◌, ◌<◌, ◌≤◌, ◌^◌, List, length}
 use Rattle.ln_forward.specs.declared.checks.Policy.{Policy}
 use Rattle.ln_tables.specs.declared.entry.Invoice.{Invoice}
 use Rattle.ln_channels.specs.Promises.{Each}

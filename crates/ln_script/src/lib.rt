@@ -12,6 +12,7 @@ mod onion;
 mod print;
 mod reading;
 mod report;
+mod running;
 mod step;
 mod word;
 
@@ -23,3 +24,4 @@ pub use message::message_text;
 pub use print::print_all;
 pub use reading::{hook_lines, read_script};
 pub use report::print_report;
+pub use running::report_script;

@@ -1,7 +1,7 @@
 //! Scripts: the steps of their lines.
 
 ghost use Rattle.std.specs.Prelude.{◌≡◌, ℕ, ◌⊎◌, ◌++◌, ◌+◌, ◌<◌, ◌≤◌, Ok, Err, OnOk, IfOk, IfErr};
-ghost use Rattle.std.specs.List.{flat_map};
+ghost use Rattle.std.specs.List.{flat_map, count_by};
 ghost use Rattle.ln_msgs.specs.declared.refusals.refusal.Refusal.TheVariants.{Memory, BadScript};
 ghost use Rattle.ln_script.specs.Step.{texts, if_good, joined, with_place, is_hook, next_place, numbered};
 ghost use Rattle.ln_script.specs.Script.{lines, words, is_skipped, line_at, steps_from, script_at, hooks_at};
@@ -17,7 +17,7 @@ use ln_world::Step;
 use std::alloc::{AllocError, Global};
 
 /// The lines of a text.
-fn lines_of(alloc: Global, text: &str) -> Result<Vec<&str>, AllocError>
+pub fn lines_of(alloc: Global, text: &str) -> Result<Vec<&str>, AllocError>
     ensures { IfOk result (λ v. texts v.items ≡ lines text.now) }
 {
     text.split('\n').collect(alloc)
@@ -42,7 +42,7 @@ fn is_empty_or_comment(line: &str) -> bool
 }
 
 /// Appends the steps of a line, and answers whether it is a line of a script.
-fn read_line(alloc: Global, line: &str, steps: &mut Vec<Step<ToyKeys>>) -> Result<bool, Refusal>
+pub fn read_line(alloc: Global, line: &str, steps: &mut Vec<Step<ToyKeys>>) -> Result<bool, Refusal>
     ensures read { IfOk result (λ good. if_good good steps.new.items ≡ joined steps.old.items (line_at line.now)) }
     ensures fails_for_memory_alone { IfErr result (λ e. e ≡ Memory) }
 {
@@ -58,7 +58,6 @@ fn place_hook(step: &mut Step<ToyKeys>, place: usize) -> usize
     requires { place < usize.MAX }
     ensures placed { step.new ≡ with_place place step.old }
     ensures next { result ≡ next_place (is_hook step.old) place }
-    ensures one_more_at_most { result ≤ place + 1 }
 {
     match step {
         Step::Register(_, hook) => {
@@ -69,14 +68,17 @@ fn place_hook(step: &mut Step<ToyKeys>, place: usize) -> usize
     }
 }
 
-/// The hooks get their places, in their order.
-fn place_hooks(steps: &mut Vec<Step<ToyKeys>>)
-    ensures { steps.new.items ≡ numbered 0 steps.old.items }
+/// The hooks get their places, in their order, the first of them this one; answers the place behind the last.
+pub fn place_hooks(steps: &mut Vec<Step<ToyKeys>>, first: usize) -> usize
+    requires { first + count_by is_hook steps.old.items < usize.MAX }
+    ensures placed { steps.new.items ≡ numbered first steps.old.items }
+    ensures next { result ≡ first + count_by is_hook steps.old.items }
 {
-    let mut place = 0;
+    let mut place = first;
     for i in 0..steps.len() {
         place = place_hook(&mut steps[i], place);
     }
+    place
 }
 
 /// The steps of these lines, whose hooks have no places yet.
@@ -107,7 +109,7 @@ pub fn read_script(alloc: Global, text: &str) -> Result<Vec<Step<ToyKeys>>, Refu
 {
     let lines = lines_of(alloc, text)?;
     let mut steps = read_lines(alloc, lines.as_slice())?;
-    place_hooks(&mut steps);
+    place_hooks(&mut steps, 0);
     Ok(steps)
 }
 

@@ -14,6 +14,7 @@ ghost use Rattle.ln_script.specs.Report.{shown_line, shown_end, lines_text, ends
 ghost use Rattle.ln_script.specs.Report.{StepTold, StepPartlyTold, StepsTold, Reports, ReportsPartly, report_text};
 ghost use Rattle.ln_script.specs.Report.{unhooked};
 ghost use Rattle.ln_script.specs.Report.{BringWhatFits};
+ghost use Rattle.ln_script.specs.Telling.{AllStand, EachTold, StopsBy};
 ghost use Rattle.ln_script.specs.Wide.{AreAsWide};
 
 use crate::line::{put_end_line, put_line};
@@ -159,8 +160,48 @@ fn print_step<W: Write, H: Serve>(
     print_lines(alloc, lines.as_slice(), writer)
 }
 
+/// Writes what is told of steps that a world takes: of each before the next is taken.
+pub fn print_each<W: Write, H: Serve>(
+    alloc: Global,
+    world: &mut World<ToyKeys, H>,
+    steps: Vec<Step<ToyKeys>>,
+    writer: &mut Counted<W>,
+) -> Result<(), Refusal>
+    requires { AllStand H.calls (record {
+      world = record { desks = world.old.desks.state; nodes = world.old.nodes.items };
+      tables = map (λ t. (t.now.items, map (λ p. p.items) t.past.items)) world.old.desks.hooks.tables.items;
+      left = world.old.desks.hooks.offered.items;
+      written = W.contents (inner_of writer.old);
+    }) }
+    ensures prints_it { OnOk result (EachTold H.calls steps.items (record {
+      world = record { desks = world.old.desks.state; nodes = world.old.nodes.items };
+      tables = map (λ t. (t.now.items, map (λ p. p.items) t.past.items)) world.old.desks.hooks.tables.items;
+      left = world.old.desks.hooks.offered.items;
+      written = W.contents (inner_of writer.old);
+    }) (record {
+      world = record { desks = world.new.desks.state; nodes = world.new.nodes.items };
+      tables = map (λ t. (t.now.items, map (λ p. p.items) t.past.items)) world.new.desks.hooks.tables.items;
+      left = world.new.desks.hooks.offered.items;
+      written = W.contents (inner_of writer.new);
+    })) }
+    ensures stops { IfErr result (λ e. StopsBy H.calls (HasRisen (failures_of writer.old) (failures_of writer.new)) e
+        steps.items (record {
+          world = record { desks = world.old.desks.state; nodes = world.old.nodes.items };
+          tables = map (λ t. (t.now.items, map (λ p. p.items) t.past.items)) world.old.desks.hooks.tables.items;
+          left = world.old.desks.hooks.offered.items;
+          written = W.contents (inner_of writer.old);
+        })
+        (W.contents (inner_of writer.new))) }
+    ensures no_fewer_failures { failures_of writer.old ≤ failures_of writer.new }
+{
+    for step in steps {
+        print_step(alloc, world, step, writer)?;
+    }
+    Ok(())
+}
+
 /// Writes what is told of steps that a world takes in which nothing is set and no channel is open, and to which these
-/// hooks were handed in: of each before the next is taken.
+/// hooks were handed in (`print_each`).
 fn print_steps<W: Write, H: Serve>(
     alloc: Global,
     steps: Vec<Step<ToyKeys>>,
@@ -179,14 +220,12 @@ fn print_steps<W: Write, H: Serve>(
     ensures no_fewer_failures { failures_of writer.old ≤ failures_of writer.new }
 {
     let mut world = World::new(alloc, hooks)?;
-    for step in steps {
-        print_step(alloc, &mut world, step, writer)?;
-    }
+    print_each(alloc, &mut world, steps, writer)?;
     Ok(world)
 }
 
 /// Writes how the ends of a world's channels stand, and flushes the writer.
-fn print_ends<W: Write, H: Serve>(
+pub fn print_ends<W: Write, H: Serve>(
     alloc: Global,
     world: &World<ToyKeys, H>,
     writer: &mut Counted<W>,
