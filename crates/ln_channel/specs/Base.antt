@@ -1,4 +1,4 @@
--- As an end is saved, the base of its updates moves on: what stands for good in both commitments, and whose events are
+-- As an end is saved, the base of its updates moves on: what it holds as irrevocably committed, and whose events are
 -- decided, needn't be kept one by one any more (BOLT 2, "Normal Operation").
 use Rattle.std.specs.Prelude.{ℕ, List, [], ◌∷◌, filter, Bool, nat_lt, Option, Some, None, if◌then◌else◌}
 use Rattle.ln_log.specs.declared.update.Update.{Update}
@@ -43,7 +43,7 @@ abbrev pub least_peer : ℕ → List EventRef → ℕ
 least_peer n [] = n
 least_peer n (r ∷ rs) = least_peer (lesser (peer_number r) n) rs
 
--- ---- how far the base may move: what both sides hold as irrevocably committed, up to the first undecided event
+-- ---- how far the base may move: what the end holds as irrevocably committed, up to the first undecided event
 
 abbrev pub allowed : End → Counts
 allowed e = record {

@@ -83,7 +83,7 @@ impl Channel {
         }
     }
 
-    /// What needn't be kept one by one any more is left out: the updates that both sides hold as irrevocably committed,
+    /// What needn't be kept one by one any more is left out: the updates that this end holds as irrevocably committed,
     /// up to the first whose event isn't decided, and the decisions on HTLCs of the peer's that those of them remove
     /// (BOLT 2, "Normal Operation"). Nothing changes where they remove an HTLC that they don't offer, or a side has
     /// spent more by them than it had. Takes time that grows linearly with what is kept, but for finding HTLCs by their
