@@ -44,8 +44,8 @@ ghost use Rattle.ln_log.specs.declared.update.Update.{Update};
 ghost use Rattle.ln_log.specs.Outcomes.{AreRemoved};
 ghost use Rattle.ln_channel.specs.Base.{is_open};
 ghost use Rattle.ln_log.specs.declared.log.Side.TheVariants as side;
-ghost use Rattle.ln_log.specs.declared.outcome.Outcome.TheVariants as found;
-ghost use Rattle.ln_log.specs.Updates.{add_with, outcome, removed};
+ghost use Rattle.ln_log.specs.Updates.{removed};
+ghost use Rattle.ln_log.specs.Limits.{removable};
 ghost use Rattle.ln_log.specs.Log.{before_first, IsNotGone};
 ghost use Rattle.ln_channel.specs.Ledger.{ref_of, origin_of, settlement_by, is_not_of};
 
@@ -60,10 +60,10 @@ fn ref_of(own: bool, number: u64) -> EventRef
     }
 }
 
-// The HTLC that the own one of this id forwards, where no update of the peer's that has left the window removes it.
+// The HTLC that the own one of this id forwards, but for one that an update of the peer's that has left the window
+// removes.
 fn origin_of(log: &UpdateLog, id: u64) -> Option<(ChannelId, u64)>
-    ensures { outcome id (before_first side.Peer log.now) ≡ found.Live
-        → result ≡ origin_of (add_with id log.now.own) }
+    ensures { result ≡ origin_of (removable id (before_first side.Peer log.now) log.now.own) }
 {
     match log.own_htlc(id) {
         None => None,

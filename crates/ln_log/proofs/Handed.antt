@@ -18,6 +18,7 @@ use Rattle.ln_log.specs.declared.update.Update.{Update}
 use Rattle.ln_log.specs.declared.outcome.Outcome.{Outcome}
 use Rattle.ln_log.specs.declared.outcome.Outcome.TheVariants.{Live, Fulfilled, Failed}
 use Rattle.ln_log.specs.Updates.{offered, is_some, next_id, add_with, outcome, is_live}
+use Rattle.ln_log.specs.Limits.{removable}
 use Rattle.ln_log.specs.Log.{Log, Counts, AreNumbered, between, removal_fault, update_at, updates_of, HasAmount}
 use Rattle.ln_log.specs.Log.{AreWithin, AreRemovals}
 use Rattle.ln_log.specs.Window.{Worth, lives}
@@ -27,7 +28,7 @@ use Rattle.ln_log.proofs.Removing.{removals-drop, or_else, outcome-append, add_w
 use Rattle.ln_log.proofs.Removing.{numbered-drop, numbered-take}
 use Rattle.ln_log.proofs.Totals.{longer}
 use Rattle.ln_log.proofs.Behind.{there, found, outcome_kept, next-append}
-use Rattle.ln_log.proofs.Fronts.{cut_at, cut_off, behind_all, add_behind, not_gone}
+use Rattle.ln_log.proofs.Fronts.{cut_at, cut_off, behind_all, gone_before, not_gone}
 use Rattle.ln_log.proofs.Stands.{between_is}
 use Rattle.ln_log.proofs.Kept.{part_within, within-drop, amount_in}
 
@@ -204,12 +205,26 @@ fault_held l r b e g h = ap (λ t. cond t (Some (refusal.PeerLimit rule.NoSuchHt
     (cond (is_none (add_with r.id (take l.acknowledged.peer l.received))) (Some refusal.NotCommitted) None)) g
     ∙ ap (λ t. cond t (Some refusal.NotCommitted) None) h
 
--- an own HTLC that the base doesn't remove
-pub own_found : (kept : Kept) (l : Log) (id : ℕ) → IsWindowOf kept l → outcome id (peer_base kept l) ≡ Live
-    → add_with id kept.own ≡ add_with id l.own
-own_found kept l id s live =
-    ap (add_with id) s.own ∙ add_behind id (own_base kept l) (drop kept.first.own l.own) (peer_base kept l) live
-    ∙ ap (add_with id) (take-append-drop kept.first.own l.own)
+-- of two lists one behind the other, where none of the second is of what the first has no more
+found_in : (o : Outcome) (x y : Option Add) → (is_live o ≡ false → y ≡ None)
+    → or_else (cond (is_live o) x None) y ≡ cond (is_live o) (or_else x y) None
+found_in Live x y h = refl
+found_in Fulfilled x y h = h refl
+found_in Failed x y h = h refl
+
+-- an own HTLC, but for those that the base removes
+pub own_found : (kept : Kept) (l : Log) (id : ℕ) → IsWindowOf kept l
+    → add_with id kept.own ≡ removable id (peer_base kept l) l.own
+own_found kept l id s =
+    let p = own_base kept l in
+    let w = drop kept.first.own l.own in
+    let q = peer_base kept l in
+    let ids : AreNumbered (next_id p) w =
+    subst (λ i. AreNumbered i w) (omega arith) (numbered-drop 0 kept.first.own l.own s.is_kept.own_ids) in
+    ap (add_with id) s.own ∙ add_with-append id (lives p q) w ∙ ap (λ x. or_else x (add_with id w)) (found id p q)
+    ∙ found_in (outcome id q) (add_with id p) (add_with id w) (gone_before id q p w ids s.closed.own_new)
+    ∙ ap (λ x. cond (is_live (outcome id q)) x None)
+    (sym (add_with-append id p w) ∙ ap (add_with id) (take-append-drop kept.first.own l.own))
 
 -- ---- the same, by what a call has: what is kept, which is what it answers of, and the side that it is asked for
 

@@ -39,7 +39,8 @@ add_fault l s a =
     else (if nat_lt s.balance (a.amount + 1000 * l.reserve) then Some refusal.CannotAfford
     else None))))
 
--- a removal names an HTLC that its side holds as irrevocably committed, and hasn't removed
+-- the HTLC of this id in one list, unless the other list removes it; a removal names one that its side holds as
+-- irrevocably committed and hasn't removed
 abbrev pub removable : ℕ → List Update → List Update → Option Add
 removable id own held = if is_live (outcome id own) then add_with id held else None
 

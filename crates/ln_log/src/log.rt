@@ -2,7 +2,6 @@
 
 use crate::log_window::Window;
 use crate::opening::Opening;
-use crate::outcome::Outcome;
 use crate::told::{Base, Origin};
 use crate::update::{Add, Update};
 use crate::worth::Worth;
@@ -73,10 +72,10 @@ impl UpdateLog {
     ghost use Rattle.std.specs.Prelude.{option_copied};
     ghost use Rattle.std.specs.Result.{IsOkUnless};
     ghost use Rattle.ln_log.specs.Opening.{IsFit, most_satoshis};
-    ghost use Rattle.ln_log.specs.Updates.{next_id, offered, add_with, outcome};
+    ghost use Rattle.ln_log.specs.Updates.{next_id, offered};
     ghost use Rattle.ln_log.specs.View.{AddsUp};
     ghost use Rattle.ln_log.specs.Window.{first_worth, first_lives};
-    ghost use Rattle.ln_log.specs.Limits.{HasNextId, Answers, is_at_update_limit};
+    ghost use Rattle.ln_log.specs.Limits.{HasNextId, Answers, is_at_update_limit, removable};
     ghost use Rattle.ln_log.specs.Log.{Log, StandsFor, IsWithin, IsInOrder, updates_of, count_of, first_of, update_at};
     ghost use Rattle.ln_log.specs.Log.{between, unacknowledged, all_counts, at_opening, IsInRange, before_first};
     ghost use Rattle.ln_log.specs.Log.{AreNotGone, HasAmount};
@@ -229,11 +228,11 @@ impl UpdateLog {
         self.window.update(side, number)
     }
 
-    /// The HTLC of this id among those that this side has offered, where no update of the peer's before `first` removes
-    /// it. Takes no memory.
+    /// The HTLC of this id among those that this side has offered, but for one that an update of the peer's before
+    /// `first` removes: of that there is none any more. Takes no memory.
     pub fn own_htlc(&self, id: u64) -> Option<&Add>
-        ensures { (l : Log) → StandsFor self.now l → outcome id (before_first Side.Peer l) ≡ Outcome.Live
-            → option_copied result ≡ add_with id l.own }
+        ensures { (l : Log) → StandsFor self.now l
+            → option_copied result ≡ removable id (before_first Side.Peer l) l.own }
     {
         self.window.own_htlc(id)
     }

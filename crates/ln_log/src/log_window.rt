@@ -97,9 +97,9 @@ impl Window {
     ghost use Rattle.std.specs.Prelude.{option_copied, take};
     ghost use Rattle.std.specs.Result.{IsOkUnless};
     ghost use Rattle.ln_log.specs.Opening.{IsFit, most_satoshis};
-    ghost use Rattle.ln_log.specs.Updates.{next_id, offered, removed, add_with, outcome, is_live};
+    ghost use Rattle.ln_log.specs.Updates.{next_id, offered, removed, outcome, is_live};
     ghost use Rattle.ln_log.specs.View.{AddsUp};
-    ghost use Rattle.ln_log.specs.Limits.{HasNextId, Answers, most_updates, is_at_update_limit};
+    ghost use Rattle.ln_log.specs.Limits.{HasNextId, Answers, most_updates, is_at_update_limit, removable};
     ghost use Rattle.ln_log.specs.Log.{IsWithin, none, updates_of, update_at, unacknowledged};
     ghost use Rattle.ln_log.specs.Log.{AreWithin, opened, after_propose, after_receive, after_sign, after_accept};
     ghost use Rattle.ln_log.specs.Log.{after_learn, after_drop, sign_fault, removal_fault, proposal_fault, taken_fault};
@@ -442,10 +442,11 @@ impl Window {
         }
     }
 
-    // The HTLC of this id among those that this side has offered, where no update of the peer's in the base removes it.
+    // The HTLC of this id among those that this side has offered, but for one that an update of the peer's in the base
+    // removes.
     pub(crate) fn own_htlc(&self, id: u64) -> Option<&Add>
-        ensures { (l : Log) → IsWindowOf self.now l → outcome id (peer_base self.now l) ≡ Outcome.Live
-            → option_copied result ≡ add_with id l.own }
+        ensures { (l : Log) → IsWindowOf self.now l
+            → option_copied result ≡ removable id (peer_base self.now l) l.own }
     {
         find_add(id, self.own.as_slice())
     }
