@@ -14,7 +14,9 @@ pub mod Doing
 pub mod Places
 pub mod Lacking
 pub mod Worlds
+pub mod Signing
 pub mod Promised
+pub mod Longest
 pub mod Told
 pub mod SetUp
 pub mod Opening

@@ -41,6 +41,8 @@ use Rattle.ln_channels.proofs.Kept.{IsRun, IsOpen, act_kept, fall_kept, halt_kep
 use Rattle.ln_channels.proofs.Kept.{Tale, IsTold}
 use Rattle.ln_channels.proofs.Kept as channels
 use Rattle.ln_channels.proofs.Doing as doing
+use Rattle.ln_channels.specs.Signing.{SignCovered}
+use Rattle.ln_channels.proofs.Signing.{links_sign}
 
 -- ---- what nodes bring
 
@@ -343,4 +345,8 @@ module _ {K : Type 0} (k : Ghosts K) where
 
   pub do_exactly : (ss : List (Step K k)) → BringFit k ss → OfEach (DoExactly k.signer) (run k ss empty)
   do_exactly ss f = of_each (DoExactly k.signer) (doing.do_exactly k.signer) (run k ss empty).channels
+      (kept ss f).channels
+
+  pub sign_covered : (ss : List (Step K k)) → BringFit k ss → OfEach (SignCovered k.signer) (run k ss empty)
+  sign_covered ss f = of_each (SignCovered k.signer) (links_sign k.signer) (run k ss empty).channels
       (kept ss f).channels

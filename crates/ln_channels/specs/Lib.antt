@@ -11,3 +11,5 @@ pub mod Course
 pub mod Sending
 pub mod Machine
 pub mod Setup
+pub mod Longest
+pub mod Signing

@@ -11,9 +11,11 @@ ghost use Rattle.ln_channels.specs.World.{empty, run, channel};
 ghost use Rattle.ln_channels.specs.Failing.{SomeMayFail};
 ghost use Rattle.ln_channels.specs.Promises.{BringFit, OfEach, Headline, NoneRefused, AllTaken, OneFee, Agrees};
 ghost use Rattle.ln_channels.specs.Promises.{AnswersShutdown, MarksAgree, BothClose, DoExactly};
+ghost use Rattle.ln_channels.specs.Longest.{BasesAreLongest};
 ghost use Rattle.ln_channels.specs.Records.{AreSteps, HaveRecords};
 ghost use Rattle.ln_channels.specs.Sending.{NoneAddsLate};
 ghost use Rattle.ln_channels.specs.Setup.{all_setups, OpensAsSet};
+ghost use Rattle.ln_channels.specs.Signing.{SignCovered};
 
 use ln_keys::ChannelKeys;
 
@@ -74,6 +76,15 @@ pub fn closing_ends<K: ChannelKeys + Copy>()
         → OfEach BothClose (run K.ChannelKeys steps empty) }
 {}
 
+/// A law: in each channel, each `commitment_signed` in flight carries exactly the signature and the HTLC signatures
+/// that its end's keys give for the commitment that is next for the peer: its number, the peer's own point for that
+/// number, and the view of all that the end has covered by its last signature (BOLT 2, "Committing Updates So Far:
+/// commitment_signed"). Once it is in front, the peer has the same updates to accept, which are worth the same to it.
+pub fn signatures_are_over_what_is_covered<K: ChannelKeys + Copy>()
+    ensures { (steps : List (Step K K.ChannelKeys)) → BringFit K.ChannelKeys steps
+        → OfEach (SignCovered K.signer) (run K.ChannelKeys steps empty) }
+{}
+
 /// A law: in each channel, either link does what a command asks for, where that isn't about decisions, exactly where
 /// the link works and has met its peer, its end's marks let it (both `channel_ready` were sent, the peer hasn't shut
 /// down, a number is left, no message is too long), and the machine that both ends stand for may make the move.
@@ -107,4 +118,11 @@ pub fn every_end_has_a_record<K: ChannelKeys + Copy>()
         → AreSteps K.ChannelKeys steps → OfEach HaveRecords (run K.ChannelKeys steps empty) }
     ensures never_damaged { (steps : List (Step K K.ChannelKeys)) → BringFit K.ChannelKeys steps
         → AreSteps K.ChannelKeys steps → SomeMayFail K.ChannelKeys steps refusal.Damaged empty → ⊥ }
+{}
+
+/// A law: in each channel, the base of either end is the longest that its decided events allow: all that the end holds
+/// as irrevocably committed, up to its first undecided event (BOLT 2, "Normal Operation").
+pub fn bases_are_the_longest<K: ChannelKeys + Copy>()
+    ensures { (steps : List (Step K K.ChannelKeys)) → BringFit K.ChannelKeys steps
+        → OfEach BasesAreLongest (run K.ChannelKeys steps empty) }
 {}

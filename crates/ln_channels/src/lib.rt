@@ -18,9 +18,10 @@ mod world;
 pub use both::Place;
 pub use channel::{Channel, open_channel};
 pub use laws::{
-    a_shutdown_is_answered, agreement, channels_open_as_set, closed_at_one_fee, closing_ends,
-    commands_are_done_exactly, every_end_has_a_record, headline, marks_agree_at_rest,
-    never_refused, never_refused_where_fees_overlap, no_add_follows_a_shutdown,
+    a_shutdown_is_answered, agreement, bases_are_the_longest, channels_open_as_set,
+    closed_at_one_fee, closing_ends, commands_are_done_exactly, every_end_has_a_record, headline,
+    marks_agree_at_rest, never_refused, never_refused_where_fees_overlap,
+    no_add_follows_a_shutdown, signatures_are_over_what_is_covered,
 };
 pub use line::{Choice, EndLine, Ending, Line, Word};
 pub use machine::{

@@ -18,9 +18,10 @@ pub use event::undecided;
 pub use hook::Serve;
 pub use hooks::{Hooks, Tables};
 pub use laws::{
-    a_shutdown_is_answered, agreement, channels_open_as_set, closed_at_one_fee, closing_ends,
-    commands_are_done_exactly, decisions_follow_dispatches, every_end_has_a_record, headline,
-    marks_agree_at_rest, never_refused, never_refused_where_fees_overlap,
+    a_shutdown_is_answered, agreement, bases_are_the_longest, channels_open_as_set,
+    closed_at_one_fee, closing_ends, commands_are_done_exactly, decisions_follow_dispatches,
+    every_end_has_a_record, headline, marks_agree_at_rest, never_refused,
+    never_refused_where_fees_overlap, signatures_are_over_what_is_covered,
 };
 pub use ln_channels::{Act, Choice, End, EndLine, Ending, Line, Node, Open, Partners, Word};
 pub use machine::{

@@ -49,3 +49,7 @@ pub mod Contents
 pub mod WideTurns
 pub mod WideNotes
 pub mod Wide
+pub mod Paces
+pub mod Rests
+pub mod Longest
+pub mod Signing

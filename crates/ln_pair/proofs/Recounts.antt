@@ -795,7 +795,7 @@ all_pend a b keys r (s ∷ ss) o p k h named =
     subst (Pends x (end_of_role r (run a b ss q))) (sym is)
     (pends_both x (end_of_role r q) (end_of_role r (run a b ss q)) first then t rest)
 
-none_named : (e : End) → e.ledger ≡ no_events → e.dance.log.first ≡ log.none → Named e
+pub none_named : (e : End) → e.ledger ≡ no_events → e.dance.log.first ≡ log.none → Named e
 none_named e is none =
     let own : e.dance.log.first.own ≡ 0 = ap (λ (c : Counts). c.own) none in
     let peer : e.dance.log.first.peer ≡ 0 = ap (λ (c : Counts). c.peer) none in

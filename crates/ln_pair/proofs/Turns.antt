@@ -76,7 +76,7 @@ sends_so k channel (Shutdown m) e = refl
 sends_so k channel (Close m) e = refl
 sends_so k channel (Again m) e = refl
 
-fronts : (n m k : ℕ) (us vs : List Change) → take k us ≡ take k vs → n ≡ m → n ≤ k → take n us ≡ take m vs
+pub fronts : (n m k : ℕ) (us vs : List Change) → take k us ≡ take k vs → n ≡ m → n ≤ k → take n us ≡ take m vs
 fronts n m k us vs e same le = sym (take-take n k us le) ∙ ap (take n) e ∙ take-take n k vs le
     ∙ ap (λ i. take i vs) same
 

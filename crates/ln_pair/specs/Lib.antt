@@ -8,6 +8,8 @@ pub mod Closes
 pub mod Widths
 pub mod Setup
 pub mod Doing
+pub mod Longest
+pub mod Signing
 pub use Rattle.ln_log.specs.Machine
 pub use Rattle.ln_log.specs.Log
 pub use Rattle.ln_channel.specs.Opening

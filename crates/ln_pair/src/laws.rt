@@ -5,6 +5,7 @@
 
 ghost use Rattle.std.specs.Prelude.{◌≡◌, List};
 ghost use Rattle.ln_msgs.specs.declared.messages.message.Message.{Message};
+ghost use Rattle.ln_keys.specs.declared.role.Role.{Role};
 ghost use Rattle.ln_keys.specs.Signer.{Signer};
 ghost use Rattle.ln_channel.specs.declared.command.Command.{Command};
 ghost use Rattle.ln_channel.specs.declared.config.Config.{Config};
@@ -21,8 +22,10 @@ ghost use Rattle.ln_pair.specs.Promises.{AreKeys, AreSent, AreAgreeable, Headlin
 ghost use Rattle.ln_pair.specs.Answers.{BothHaveAnswered};
 ghost use Rattle.ln_pair.specs.Closes.{BothClose};
 ghost use Rattle.ln_pair.specs.Doing.{BothDo};
+ghost use Rattle.ln_pair.specs.Longest.{BothAreLongest};
 ghost use Rattle.ln_pair.specs.Promises.{OneFee, Agrees, NoneAddsLate, MarksAgree};
 ghost use Rattle.ln_pair.specs.Setup.{setup_of, AreSetUp};
+ghost use Rattle.ln_pair.specs.Signing.{BothSign, SignsIn};
 
 /// A law: what either end holds as irrevocably committed is, each update once and in the order in which it was sent,
 /// a beginning of what the other end has covered by a signature.
@@ -117,4 +120,27 @@ pub fn steps_are_those_of_a_link()
 pub fn commands_are_done_exactly()
     ensures { (a b : Signer) (s : OpenSpec) (c : Config) (funder fundee : Opened) (steps : List Step) (asked : Command)
         → AreKeys a b → Opens a b s c funder fundee → BothDo a b asked (run a b steps (opened funder fundee)) }
+{}
+
+/// A law: the base of either end moves on as far as its decided events allow. All that an end holds as irrevocably
+/// committed, up to its first undecided event, can be its base, as no event of a removal stands before that of its add,
+/// and no side spends before what it spends has come back; and as the end is saved, that is its base (BOLT 2, "Normal
+/// Operation").
+pub fn bases_are_the_longest()
+    ensures { (a b : Signer) (s : OpenSpec) (c : Config) (funder fundee : Opened) (steps : List Step) → AreKeys a b
+        → Opens a b s c funder fundee → BothAreLongest (run a b steps (opened funder fundee)) }
+{}
+
+/// A law: each `commitment_signed` carries exactly the signature and the HTLC signatures that its end's keys give for
+/// the commitment that is next for the peer: its number, the peer's own point for that number, and the view of all
+/// that the end has covered by its last signature (BOLT 2, "Committing Updates So Far: commitment_signed"). So is each
+/// that an end hands out in a step, by a command or once more as a connection comes back, told of the ends behind that
+/// step. And so is each in flight, whatever either end does meanwhile; once it is in front, the peer has the same
+/// updates to accept, as they were sent, which are worth the same to it.
+pub fn signatures_are_over_what_is_covered()
+    ensures handed_out { (a b : Signer) (s : OpenSpec) (c : Config) (funder fundee : Opened) (steps : List Step)
+        (step : Step) (side : Role) → AreKeys a b → Opens a b s c funder fundee
+        → SignsIn a b side step (run a b steps (opened funder fundee)) }
+    ensures in_flight { (a b : Signer) (s : OpenSpec) (c : Config) (funder fundee : Opened) (steps : List Step)
+        → AreKeys a b → Opens a b s c funder fundee → BothSign a b (run a b steps (opened funder fundee)) }
 {}

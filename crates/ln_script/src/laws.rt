@@ -1,15 +1,20 @@
 //! Laws of scripts, over every text.
 
-ghost use Rattle.std.specs.Prelude.{◌≡◌, ℕ, List, Ok, Err, length, count_by};
+ghost use Rattle.std.specs.Prelude.{◌≡◌, ℕ, List, None, Ok, Err, length, count_by};
 ghost use Rattle.ln_keys.specs.declared.role.Role.{Role};
 ghost use Rattle.ln_keys.specs.Toy.{toy_signer};
-ghost use Rattle.ln_pair.specs.Told.{unnumbered, ClosesLast};
+ghost use Rattle.ln_log.specs.Machine.{IsRun};
+ghost use Rattle.ln_channel.specs.Outputs.{numbered};
+ghost use Rattle.ln_pair.specs.Moves.{after_all};
+ghost use Rattle.ln_pair.specs.Told.{events_in, unnumbered, ClosesLast};
 ghost use Rattle.ln_channels.specs.Promises.{Headline, NoneRefused, AllTaken, OneFee, Agrees};
 ghost use Rattle.ln_channels.specs.Promises.{AnswersShutdown, MarksAgree, BothClose, DoExactly};
+ghost use Rattle.ln_channels.specs.Longest.{BasesAreLongest};
 ghost use Rattle.ln_channels.specs.Records.{HaveRecords};
-ghost use Rattle.ln_channels.specs.Machine.{all_told, AreInStep};
+ghost use Rattle.ln_channels.specs.Machine.{machine_of, history, all_told, AreInStep};
 ghost use Rattle.ln_channels.specs.Sending.{NoneAddsLate};
 ghost use Rattle.ln_channels.specs.Setup.{all_setups, OpensAsSet};
+ghost use Rattle.ln_channels.specs.Signing.{SignCovered};
 ghost use Rattle.ln_channels.specs.World as channels;
 ghost use Rattle.ln_desks.specs.Seated.{Answers};
 ghost use Rattle.ln_world.specs.Promises.{OfEach, CallsFollow, DesksStand, events_of, channel_steps};
@@ -21,10 +26,11 @@ ghost use Rattle.ln_script.specs.Wide.{AreAsWide};
 
 use ln_keys::ToyKeys;
 use ln_world::{
-    a_shutdown_is_answered, agreement, channels_open_as_set, close_is_last, closed_at_one_fee,
-    closing_ends, commands_are_done_exactly, decisions_follow_dispatches, every_end_has_a_record,
-    headline, marks_agree_at_rest, never_refused, never_refused_where_fees_overlap,
-    undecided_events_are_the_machines,
+    a_shutdown_is_answered, agreement, bases_are_the_longest, channels_open_as_set, close_is_last,
+    closed_at_one_fee, closing_ends, commands_are_done_exactly, decisions_follow_dispatches,
+    each_move_may_be_made, events_are_told, every_end_has_a_record, headline, marks_agree_at_rest,
+    moves_are_the_machines, never_refused, never_refused_where_fees_overlap,
+    signatures_are_over_what_is_covered, undecided_events_are_the_machines,
 };
 
 /// A script is refused by the number of its first bad line, and only where there is one.
@@ -57,12 +63,18 @@ pub fn steps_bring_what_fits()
 /// answered (`ln_world::a_shutdown_is_answered`); at rest both ends hold every update and their commitments are worth
 /// the same (`ln_world::agreement`); where nothing is in flight each has taken the other's marks
 /// (`ln_world::marks_agree_at_rest`), and both have closed once both have shut down and all is done
-/// (`ln_world::closing_ends`); a command is done exactly where its end's marks and the machine let it
-/// (`ln_world::commands_are_done_exactly`); a channel is there as it was set up (`ln_world::channels_open_as_set`);
-/// what an end has yet to decide are the machine's events (`ln_world::undecided_events_are_the_machines`), and the
-/// close is the last one (`ln_world::close_is_last`); what is decided was dispatched
-/// (`ln_world::decisions_follow_dispatches`). Each end has a record, from which it comes back where its node restarts
-/// (`ln_world::every_end_has_a_record`), as what the lines bring and what books command is as wide as it is in code.
+/// (`ln_world::closing_ends`); each signature in flight is over what its end has covered
+/// (`ln_world::signatures_are_over_what_is_covered`); a command is done exactly where its end's marks and the machine
+/// let it (`ln_world::commands_are_done_exactly`); a channel is there as it was set up
+/// (`ln_world::channels_open_as_set`). The moves that the steps are for a channel lead its machine to the two parties
+/// that its links stand for (`ln_world::moves_are_the_machines`), each where the machine may make it
+/// (`ln_world::each_move_may_be_made`); the events that an end hands out are the machine's, each once and in order
+/// (`ln_world::events_are_told`), what it has yet to decide are those from a place on
+/// (`ln_world::undecided_events_are_the_machines`), and the close is the last one, of the moves and of what is handed
+/// out (`ln_world::close_is_last`); what is decided was dispatched (`ln_world::decisions_follow_dispatches`). Each end
+/// has a record, from which it comes back where its node restarts (`ln_world::every_end_has_a_record`), as what the
+/// lines bring and what books command is as wide as it is in code. And the base of each end is the longest that its
+/// decided events allow (`ln_world::bases_are_the_longest`).
 pub fn scripts_keep_the_promises()
     ensures headline { AfterEachScript (OfEach Headline) }
     ensures no_add_follows_a_shutdown { (text : List ℕ) (steps : List ToyStep) (a : Answers) (hooks number : ℕ)
@@ -77,21 +89,38 @@ pub fn scripts_keep_the_promises()
     ensures agreement { AfterEachScript (OfEach Agrees) }
     ensures marks_agree_at_rest { AfterEachScript (OfEach MarksAgree) }
     ensures closing_ends { AfterEachScript (OfEach BothClose) }
+    ensures signatures_are_over_what_is_covered { AfterEachScript (OfEach (SignCovered toy_signer)) }
     ensures commands_are_done_exactly { AfterEachScript (OfEach (DoExactly toy_signer)) }
     ensures channels_open_as_set { (text : List ℕ) (steps : List ToyStep) (a : Answers) (hooks number : ℕ)
         → script_at text ≡ Ok steps
         → OpensAsSet (all_setups toy number (channel_steps toy hooks (said_by a hooks steps)) channels.empty)
         (channels.channel number (left_by a hooks steps).desks.channels.channels) }
+    ensures moves_are_the_machines { (text : List ℕ) (steps : List ToyStep) (a : Answers) (hooks number : ℕ)
+        → script_at text ≡ Ok steps
+        → after_all (history toy number (channel_steps toy hooks (said_by a hooks steps)) channels.empty) None
+        ≡ machine_of (channels.channel number (left_by a hooks steps).desks.channels.channels) }
+    ensures each_move_may_be_made { (text : List ℕ) (steps : List ToyStep) (a : Answers) (hooks number : ℕ)
+        → script_at text ≡ Ok steps
+        → IsRun (history toy number (channel_steps toy hooks (said_by a hooks steps)) channels.empty) None
+        (machine_of (channels.channel number (left_by a hooks steps).desks.channels.channels)) }
+    ensures events_are_told { (text : List ℕ) (steps : List ToyStep) (a : Answers) (hooks number : ℕ) (side : Role)
+        → script_at text ≡ Ok steps
+        → events_in (all_told toy number side (channel_steps toy hooks (said_by a hooks steps)) channels.empty)
+        ≡ numbered 0 (events_of toy hooks number side (said_by a hooks steps)) }
     ensures undecided_events_are_the_machines { (text : List ℕ) (steps : List ToyStep) (a : Answers) (hooks number : ℕ)
         (side : Role) → script_at text ≡ Ok steps
         → AreInStep side (events_of toy hooks number side (said_by a hooks steps))
         (channels.channel number (left_by a hooks steps).desks.channels.channels) }
+    ensures close_is_the_last_move_told { (text : List ℕ) (steps : List ToyStep) (a : Answers) (hooks number : ℕ)
+        (side : Role) → script_at text ≡ Ok steps
+        → ClosesLast (events_of toy hooks number side (said_by a hooks steps)) }
     ensures close_is_last { (text : List ℕ) (steps : List ToyStep) (a : Answers) (hooks number : ℕ) (side : Role)
         → script_at text ≡ Ok steps → ClosesLast (unnumbered
         (all_told toy number side (channel_steps toy hooks (said_by a hooks steps)) channels.empty)) }
     ensures decisions_follow_dispatches { (text : List ℕ) (steps : List ToyStep) (a : Answers) (hooks : ℕ)
         → script_at text ≡ Ok steps → DesksStand toy hooks (said_by a hooks steps) }
     ensures every_end_has_a_record { AfterEachScript (OfEach HaveRecords) }
+    ensures bases_are_the_longest { AfterEachScript (OfEach BasesAreLongest) }
 {
     headline::<ToyKeys>();
     never_refused::<ToyKeys>();
@@ -101,10 +130,15 @@ pub fn scripts_keep_the_promises()
     agreement::<ToyKeys>();
     marks_agree_at_rest::<ToyKeys>();
     closing_ends::<ToyKeys>();
+    signatures_are_over_what_is_covered::<ToyKeys>();
     commands_are_done_exactly::<ToyKeys>();
     channels_open_as_set::<ToyKeys>();
+    moves_are_the_machines::<ToyKeys>();
+    each_move_may_be_made::<ToyKeys>();
+    events_are_told::<ToyKeys>();
     undecided_events_are_the_machines::<ToyKeys>();
     close_is_last::<ToyKeys>();
     decisions_follow_dispatches::<ToyKeys>();
     every_end_has_a_record::<ToyKeys>();
+    bases_are_the_longest::<ToyKeys>();
 }

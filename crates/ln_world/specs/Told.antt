@@ -34,8 +34,8 @@ about next (command.Shutdown script) = 0
 about next (command.Decide event mark) = event
 about next (command.Forget id) = id
 
--- the number of the refusal that is told, else what it is about. Where nothing could be done it wasn't ready (40): no
--- run comes to that, as a book's end is there and each decision that it has queued is of an event that was dispatched
+-- the number of the refusal that is told, else what it is about. Where nothing could be done it wasn't ready (40), as
+-- an end answers to a decision of an event that isn't its first undecided one
 abbrev pub answer_by : ℕ → List Line → Result ℕ ℕ
 answer_by id (line.Refused e r ∷ ls) = Err (refusal_number r)
 answer_by id (line.Idle ∷ ls) = Err 40

@@ -7,9 +7,11 @@ ghost use Rattle.ln_msgs.specs.declared.refusals.refusal.Refusal.TheVariants as 
 ghost use Rattle.ln_hooks.specs.declared.verdict.Verdict.{Verdict};
 ghost use Rattle.ln_channels.specs.Promises.{Headline, NoneRefused, AllTaken, OneFee, Agrees};
 ghost use Rattle.ln_channels.specs.Promises.{AnswersShutdown, MarksAgree, BothClose, DoExactly};
+ghost use Rattle.ln_channels.specs.Longest.{BasesAreLongest};
 ghost use Rattle.ln_channels.specs.Records.{HaveRecords};
 ghost use Rattle.ln_channels.specs.Sending.{NoneAddsLate};
 ghost use Rattle.ln_channels.specs.Setup.{all_setups, OpensAsSet};
+ghost use Rattle.ln_channels.specs.Signing.{SignCovered};
 ghost use Rattle.ln_channels.specs.World as channels;
 ghost use Rattle.ln_world.specs.declared.step.Step.{Step};
 ghost use Rattle.ln_world.specs.World.{empty, run, SomeMayFail};
@@ -83,6 +85,15 @@ pub fn closing_ends<K: ChannelKeys + Copy>()
         → OfEach BothClose (run K.ChannelKeys steps (empty hooks)) }
 {}
 
+/// A law: in each channel, each `commitment_signed` in flight carries exactly the signature and the HTLC signatures
+/// that its end's keys give for the commitment that is next for the peer: its number, the peer's own point for that
+/// number, and the view of all that the end has covered by its last signature (BOLT 2, "Committing Updates So Far:
+/// commitment_signed"). Once it is in front, the peer has the same updates to accept, which are worth the same to it.
+pub fn signatures_are_over_what_is_covered<K: ChannelKeys + Copy>()
+    ensures { (steps : List (Step K K.ChannelKeys × Verdict)) (hooks : ℕ) → BringFit K.ChannelKeys hooks steps
+        → OfEach (SignCovered K.signer) (run K.ChannelKeys steps (empty hooks)) }
+{}
+
 /// A law: in each channel, either link does what a command asks for, where that isn't about decisions, exactly where
 /// the link works and has met its peer, its end's marks let it (both `channel_ready` were sent, the peer hasn't shut
 /// down, a number is left, no message is too long), and the machine that both ends stand for may make the move.
@@ -127,4 +138,11 @@ pub fn commands_are_wide<K: ChannelKeys + Copy>()
 pub fn decisions_follow_dispatches<K: ChannelKeys + Copy>()
     ensures { (steps : List (Step K K.ChannelKeys × Verdict)) (hooks : ℕ)
         → BringFit K.ChannelKeys hooks steps → DesksStand K.ChannelKeys hooks steps }
+{}
+
+/// A law: in each channel, the base of either end is the longest that its decided events allow: all that the end holds
+/// as irrevocably committed, up to its first undecided event (BOLT 2, "Normal Operation").
+pub fn bases_are_the_longest<K: ChannelKeys + Copy>()
+    ensures { (steps : List (Step K K.ChannelKeys × Verdict)) (hooks : ℕ) → BringFit K.ChannelKeys hooks steps
+        → OfEach BasesAreLongest (run K.ChannelKeys steps (empty hooks)) }
 {}

@@ -15,10 +15,10 @@ mod told;
 mod world;
 
 pub use laws::{
-    a_shutdown_is_answered, agreement, channels_open_as_set, closed_at_one_fee, closing_ends,
-    commands_are_done_exactly, commands_are_wide, decisions_follow_dispatches,
-    every_end_has_a_record, headline, marks_agree_at_rest, never_refused,
-    never_refused_where_fees_overlap,
+    a_shutdown_is_answered, agreement, bases_are_the_longest, channels_open_as_set,
+    closed_at_one_fee, closing_ends, commands_are_done_exactly, commands_are_wide,
+    decisions_follow_dispatches, every_end_has_a_record, headline, marks_agree_at_rest,
+    never_refused, never_refused_where_fees_overlap, signatures_are_over_what_is_covered,
 };
 pub use ln_desks::{
     Choice, Desk, End, EndLine, Ending, Hooks, Life, Line, Node, Nodes, Open, Partners, Seat,

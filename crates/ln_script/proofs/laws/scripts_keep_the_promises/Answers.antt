@@ -1,6 +1,8 @@
 use Rattle.ln_keys.specs.Toy.{toy_signer}
 use Rattle.ln_channels.specs.Promises.{Headline, NoneRefused, AllTaken, OneFee, Agrees}
 use Rattle.ln_channels.specs.Promises.{AnswersShutdown, MarksAgree, BothClose, DoExactly}
+use Rattle.ln_channels.specs.Longest.{BasesAreLongest}
+use Rattle.ln_channels.specs.Signing.{SignCovered}
 use Rattle.ln_world.specs.World.{empty}
 use Rattle.ln_world.specs.Promises.{OfEach}
 use Rattle.ln_script.specs.Report.{said_by}
@@ -42,6 +44,10 @@ returns-clause-marks_agree_at_rest c = after_each (OfEach MarksAgree) c.marks_ag
 pub returns-clause-closing_ends : goal.returns-clause-closing_ends
 returns-clause-closing_ends c = after_each (OfEach BothClose) c.closing_ends.ensures
 
+pub returns-clause-signatures_are_over_what_is_covered : goal.returns-clause-signatures_are_over_what_is_covered
+returns-clause-signatures_are_over_what_is_covered c =
+    after_each (OfEach (SignCovered toy_signer)) c.signatures_are_over_what_is_covered.ensures
+
 pub returns-clause-commands_are_done_exactly : goal.returns-clause-commands_are_done_exactly
 returns-clause-commands_are_done_exactly c =
     after_each (OfEach (DoExactly toy_signer)) c.commands_are_done_exactly.ensures
@@ -50,9 +56,26 @@ pub returns-clause-channels_open_as_set : goal.returns-clause-channels_open_as_s
 returns-clause-channels_open_as_set c text steps a hooks number read =
     c.channels_open_as_set.ensures (said_by a hooks steps) hooks number (steps_fit text steps hooks read a)
 
+pub returns-clause-moves_are_the_machines : goal.returns-clause-moves_are_the_machines
+returns-clause-moves_are_the_machines c text steps a hooks number read =
+    c.moves_are_the_machines.ensures (said_by a hooks steps) hooks number (steps_fit text steps hooks read a)
+
+pub returns-clause-each_move_may_be_made : goal.returns-clause-each_move_may_be_made
+returns-clause-each_move_may_be_made c text steps a hooks number read =
+    c.each_move_may_be_made.ensures (said_by a hooks steps) hooks number (steps_fit text steps hooks read a)
+
+pub returns-clause-events_are_told : goal.returns-clause-events_are_told
+returns-clause-events_are_told c text steps a hooks number side read =
+    c.events_are_told.ensures (said_by a hooks steps) hooks number side (steps_fit text steps hooks read a)
+
 pub returns-clause-undecided_events_are_the_machines : goal.returns-clause-undecided_events_are_the_machines
 returns-clause-undecided_events_are_the_machines c text steps a hooks number side read =
     c.undecided_events_are_the_machines.ensures (said_by a hooks steps) hooks number side
+    (steps_fit text steps hooks read a)
+
+pub returns-clause-close_is_the_last_move_told : goal.returns-clause-close_is_the_last_move_told
+returns-clause-close_is_the_last_move_told c text steps a hooks number side read =
+    c.close_is_last.ensures.of_the_moves (said_by a hooks steps) hooks number side
     (steps_fit text steps hooks read a)
 
 pub returns-clause-close_is_last : goal.returns-clause-close_is_last
@@ -68,3 +91,6 @@ pub returns-clause-every_end_has_a_record : goal.returns-clause-every_end_has_a_
 returns-clause-every_end_has_a_record c text steps a hooks read =
     c.every_end_has_a_record.ensures.records (said_by a hooks steps) hooks (steps_fit text steps hooks read a)
     (all_brought a steps (empty hooks) (steps_are_wide text steps read))
+
+pub returns-clause-bases_are_the_longest : goal.returns-clause-bases_are_the_longest
+returns-clause-bases_are_the_longest c = after_each (OfEach BasesAreLongest) c.bases_are_the_longest.ensures
