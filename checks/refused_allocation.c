@@ -1,5 +1,7 @@
-/* Preloaded beside a program, refuses its allocation of the number FAIL_AT, counted from 1. */
+/* Preloaded beside a program, refuses its allocation of the number FAIL_AT, counted from 1; where that is below 0 it
+   refuses none, and tells at the program's end, on standard error, how many there were. */
 #include <errno.h>
+#include <stdio.h>
 #include <stdlib.h>
 
 extern void *__libc_malloc(size_t);
@@ -12,6 +14,10 @@ static long count, refused;
 __attribute__((constructor)) static void begin(void) {
     const char *number = getenv("FAIL_AT");
     refused = number ? atol(number) : 0;
+}
+
+__attribute__((destructor)) static void end(void) {
+    if (refused < 0) fprintf(stderr, "%ld\n", count);
 }
 
 static int is_refused(void) {

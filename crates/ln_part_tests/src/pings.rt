@@ -320,7 +320,7 @@ fn pongs_before_the_next_read(rt: HostRuntime) {
 fn small_answer(rt: HostRuntime) -> Result<(), AllocError> {
     let mut reader = Counted::new(PING.as_slice());
     let mut writer = Counted::new(Vec::with_capacity(rt.alloc(), 8)?);
-    assert!(rt; answer_pings(rt.alloc(), &mut reader, &mut writer) == Ok(1));
+    assert_eq!(rt; answer_pings(rt.alloc(), &mut reader, &mut writer), Ok(1));
     assert!(rt; writer.get_ref().as_slice() == PONG.as_slice());
     Ok(())
 }
