@@ -121,13 +121,13 @@ created_right a b s c h =
     ap (λ x. cond x (first_fault b (second_end a b s c).dance (told_created a b s c).signature)
     (Some refusal.OutOfPlace)) (same_as_itself s.temporary_id)
     ∙ right _ (accepted a b (b.point_of 0) (view_at (pair.Current side.Own) (second_end a b s c).dance)
-    h.partners.there h.fundee_point refl)
+    h.partners.there (h.partners.back.sized_points 0 (omega arith)) refl)
 
 signed_right : (a b : Signer) (s : OpenSpec) (c : Config) → CanOpen a b s c
     → first_fault a (first_end a b s c).dance (told_signed a b s c).signature ≡ None
 signed_right a b s c h =
     right _ (accepted b a (a.point_of 0) (view_at (pair.Current side.Own) (first_end a b s c).dance)
-    h.partners.back h.funder_point refl)
+    h.partners.back (h.partners.there.sized_points 0 (omega arith)) refl)
 
 given : {A : Type 0} (f : Option Refusal) (x : A) → f ≡ None → unless f x ≡ Ok x
 given f x e = ap (λ o. unless o x) e

@@ -7,7 +7,7 @@ use Rattle.ln_msgs.specs.declared.refusals.refusal.Refusal.TheVariants as refusa
 use Rattle.ln_msgs.specs.declared.messages.closing.ClosingSigned.{ClosingSigned}
 use Rattle.ln_msgs.specs.declared.messages.opening.FundingSigned.{FundingSigned}
 use Rattle.ln_keys.specs.Signer.{Signer}
-use Rattle.ln_close.specs.declared.closing.Answer.{Answer}
+use Rattle.ln_close.specs.declared.closing.FeeAnswer.{FeeAnswer}
 use Rattle.ln_close.specs.Closing.{answer_to}
 use Rattle.ln_channel.specs.declared.unsaved.Line.{Line}
 use Rattle.ln_channel.specs.declared.unsaved.Stage.{Stage}
@@ -69,7 +69,7 @@ made_so views row t (Ok h) old new is handed stands fails =
 made_so views row t (Err e) old new is handed stands fails = inl (fails, inl (ap fault_of is))
 
 -- a fee that is answered
-pub fee_answered : (keys : Signer) (m : ClosingSigned) (e : End) (a : Answer) → has_begun e ≡ true
+pub fee_answered : (keys : Signer) (m : ClosingSigned) (e : End) (a : FeeAnswer) → has_begun e ≡ true
     → keys.accepts_close m.fee_satoshis m.signature ≡ true → answer_to e.closing m.fee_satoshis (range_in m) ≡ Ok a
     → fee_row keys m e ≡ Ok (answering keys a (answered_end m a e))
 fee_answered keys m e a begun right told =

@@ -1,5 +1,5 @@
 -- A funder and a fundee that open a channel with each other (BOLT 2, "Channel Establishment v1").
-use Rattle.std.specs.Prelude.{◌≡◌, length, Ok}
+use Rattle.std.specs.Prelude.{◌≡◌, Ok}
 use Rattle.ln_msgs.specs.declared.messages.opening.AcceptChannel.{AcceptChannel}
 use Rattle.ln_msgs.specs.declared.messages.opening.FundingCreated.{FundingCreated}
 use Rattle.ln_msgs.specs.declared.messages.opening.FundingSigned.{FundingSigned}
@@ -15,8 +15,6 @@ use Rattle.ln_channel.specs.Opening.{Agreement, open_message, open_taken, accept
 -- the funder, of keys a, and the fundee, of keys b, are on one chain, and what each brings fits
 pub record CanOpen (a b : Signer) (s : OpenSpec) (c : Config) : Type 0 where
   pub partners : ArePartners a b
-  pub funder_point : length (a.point_of 0) ≡ 33
-  pub fundee_point : length (b.point_of 0) ≡ 33
   pub chain : s.config.chain_hash ≡ c.chain_hash
   pub spec : IsFitSpec s
   pub config : IsFitConfig c

@@ -21,8 +21,8 @@ use Rattle.ln_log.specs.Log.{after_receive, taken_fault}
 use Rattle.ln_dance.specs.Dance.{accept_fault, after_accept, revoked_message, learn_fault, after_learn, with_log}
 use Rattle.ln_dance.specs.Dance.{with_next_point}
 use Rattle.ln_dance.specs.Messages.{add_of, fulfil_of, fail_of, malformed_of, fee_of}
-use Rattle.ln_close.specs.declared.closing.Answer.{Answer}
-use Rattle.ln_close.specs.declared.closing.Answer.TheVariants as answer
+use Rattle.ln_close.specs.declared.closing.FeeAnswer.{FeeAnswer}
+use Rattle.ln_close.specs.declared.closing.FeeAnswer.TheVariants as answer
 use Rattle.ln_close.specs.Closing.{after_peer_shut, answer_to, after}
 use Rattle.ln_hooks.specs.declared.event.ChannelEvent.TheVariants as event
 use Rattle.ln_log.specs.declared.mark.EventRef.TheVariants as ref
@@ -141,26 +141,26 @@ range_in m = range_of (value_of 1 m.records)
 abbrev pub closed_at : End → ℕ → List Output
 closed_at e fee = output.Event (next_event e.ledger) (event.Closed fee) ∷ output.Closed fee ∷ []
 
-abbrev pub answer_handed : Signer → End → Answer → Handed
+abbrev pub answer_handed : Signer → End → FeeAnswer → Handed
 answer_handed keys e answer.Nothing = nothing
 answer_handed keys e (answer.Close fee) = record { sent = []; told = closed_at e fee }
 answer_handed keys e (answer.EchoAndClose fee) = record { sent = fee_sent keys e (Some fee); told = closed_at e fee }
 answer_handed keys e (answer.Propose fee) = record { sent = fee_sent keys e (Some fee); told = [] }
 
-abbrev pub answer_ledger : Answer → Ledger → Ledger
+abbrev pub answer_ledger : FeeAnswer → Ledger → Ledger
 answer_ledger answer.Nothing l = l
 answer_ledger (answer.Close fee) l = entered (ref.Close ∷ []) l
 answer_ledger (answer.EchoAndClose fee) l = entered (ref.Close ∷ []) l
 answer_ledger (answer.Propose fee) l = l
 
 -- the end with the fee, which has been answered so
-abbrev pub answering : Signer → Answer → End → Turn
+abbrev pub answering : Signer → FeeAnswer → End → Turn
 answering keys a e = record { end = record e { ledger = answer_ledger a e.ledger }; handed = answer_handed keys e a }
 
-abbrev pub answered_end : ClosingSigned → Answer → End → End
+abbrev pub answered_end : ClosingSigned → FeeAnswer → End → End
 answered_end m a e = record e { closing = after m.fee_satoshis a e.closing }
 
-abbrev pub answered : Signer → ClosingSigned → End → Result Answer Refusal → Result Turn Refusal
+abbrev pub answered : Signer → ClosingSigned → End → Result FeeAnswer Refusal → Result Turn Refusal
 answered keys m e (Ok a) = Ok (answering keys a (answered_end m a e))
 answered keys m e (Err r) = Err r
 

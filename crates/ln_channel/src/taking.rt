@@ -7,7 +7,7 @@ use crate::channel::{Channel, own_held, peer_held};
 use crate::output::Outbox;
 use byteorder::{BigEndian, ByteOrder};
 use ln_bytes::{Bytes, value_of};
-use ln_close::Answer;
+use ln_close::FeeAnswer;
 use ln_dance::{add_of, fail_of, fee_of, fulfil_of, malformed_of};
 use ln_keys::ChannelKeys;
 use ln_log::{Side, Update};
@@ -244,7 +244,7 @@ impl Channel {
         &mut self,
         alloc: Global,
         keys: &K,
-        answer: Answer,
+        answer: FeeAnswer,
     ) -> Result<Outbox, Refusal>
         ensures handed { (e : End) → StandsFor self.old e
             → IfOk result (λ h. h ≡ (answering (K.signer keys.now) answer e).handed) }
@@ -255,13 +255,13 @@ impl Channel {
     {
         let mut outbox = Outbox::new(alloc);
         match answer {
-            Answer::Nothing => {}
-            Answer::Close(fee) => self.ledger.enter_close(fee, &mut outbox)?,
-            Answer::EchoAndClose(fee) => {
+            FeeAnswer::Nothing => {}
+            FeeAnswer::Close(fee) => self.ledger.enter_close(fee, &mut outbox)?,
+            FeeAnswer::EchoAndClose(fee) => {
                 self.send_fee(alloc, keys, fee, &mut outbox)?;
                 self.ledger.enter_close(fee, &mut outbox)?;
             }
-            Answer::Propose(fee) => self.send_fee(alloc, keys, fee, &mut outbox)?,
+            FeeAnswer::Propose(fee) => self.send_fee(alloc, keys, fee, &mut outbox)?,
         }
         Ok(outbox)
     }

@@ -34,7 +34,8 @@ use Rattle.ln_channel.specs.declared.command.Command.{Command}
 use Rattle.ln_channel.specs.declared.command.Command.TheVariants as command
 use Rattle.ln_pair.specs.Ends.{Ends, Step}
 use Rattle.ln_pair.specs.Ends as pair
-use Rattle.ln_pair.specs.Promises.{AreKeys, AreSent, IsTaken, Overlap, CloseAtOneFee, TakesFront as Front}
+use Rattle.ln_keys.specs.Partners.{ArePartners}
+use Rattle.ln_pair.specs.Promises.{AreSent, IsTaken, Overlap, CloseAtOneFee, TakesFront as Front}
 use Rattle.ln_pair.specs.Promises.{AcceptsFront as Accepted, FollowEachOther, SameMarks}
 use Rattle.ln_pair.specs.Moves.{history, after_all}
 use Rattle.ln_pair.specs.Moves as pair_moves
@@ -252,7 +253,7 @@ module _ {K : Type 0} (signer : K → Signer) where
     pub funder : Opened
     pub fundee : Opened
     pub steps : List Step
-    pub keys : AreKeys (signer funders) (signer fundees)
+    pub keys : ArePartners (signer funders) (signer fundees)
     pub opens : Opens (signer funders) (signer fundees) spec config funder fundee
     pub funders_fees : AreSent funder.closing.fees
     pub fundees_fees : AreSent fundee.closing.fees

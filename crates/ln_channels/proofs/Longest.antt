@@ -23,7 +23,7 @@ use Rattle.ln_channel.specs.Step.{Done, handled, commanded, connects}
 use Rattle.ln_store.proofs.Formats.{both_true}
 use Rattle.ln_pair.specs.Ends as pair
 use Rattle.ln_pair.specs.Longest.{IsLongest}
-use Rattle.ln_pair.specs.Promises.{AreKeys}
+use Rattle.ln_keys.specs.Partners.{ArePartners}
 use Rattle.ln_pair.proofs.Longest.{both_longest}
 use Rattle.ln_channels.specs.declared.step.Act.{Act}
 use Rattle.ln_channels.specs.declared.step.Act.TheVariants as act
@@ -327,7 +327,7 @@ module _ {K : Type 0} (k : Ghosts K) where
   AllLast w = Each (IsLasting k.signer) w.channels
 
   opens_by : (b : Bool) (o : Open K k) (w : World K) → may_open o w ≡ b
-      → AreKeys (k.signer o.keys.funder) (k.signer o.keys.fundee) → Keeps k w → AllLast w
+      → ArePartners (k.signer o.keys.funder) (k.signer o.keys.fundee) → Keeps k w → AllLast w
       → AllLast (cond b (record {
         settings = w.settings;
         channels = w.channels

@@ -29,8 +29,8 @@ use Rattle.ln_dance.specs.Dance.{Dancer}
 use Rattle.ln_dance.specs.Messages.{update_message, add_of, fulfil_of, fail_of, malformed_of, fee_of}
 use Rattle.ln_dance.specs.Resume.{lacks_signature, lacks_revocation, signature_owed, revocation_owed, owed_by}
 use Rattle.ln_dance.specs.Resume.{resume_fault, is_before_the_first}
-use Rattle.ln_close.specs.declared.closing.Answer.{Answer}
-use Rattle.ln_close.specs.declared.closing.Answer.TheVariants as answer
+use Rattle.ln_close.specs.declared.closing.FeeAnswer.{FeeAnswer}
+use Rattle.ln_close.specs.declared.closing.FeeAnswer.TheVariants as answer
 use Rattle.ln_close.specs.Closing.{answer_to}
 use Rattle.ln_hooks.specs.declared.event.ChannelEvent.{ChannelEvent}
 use Rattle.ln_channel.specs.declared.command.Command.{Command}
@@ -152,13 +152,13 @@ module _ (keys : Signer) (id : List ℕ) where
   fine_shutdown None m e h = quietly (shuts_by_peer m e) h
   fine_shutdown (Some script) m e h = repeated (are_same script m.script) e h
 
-  fine_answer : (a : Answer) (e : End) → e.dance.channel ≡ id → IsFine id (answering keys a e)
+  fine_answer : (a : FeeAnswer) (e : End) → e.dance.channel ≡ id → IsFine id (answering keys a e)
   fine_answer answer.Nothing e h = record { channel = h; sent = tt; told = refl }
   fine_answer (answer.Close fee) e h = record { channel = h; sent = tt; told = refl }
   fine_answer (answer.EchoAndClose fee) e h = record { channel = h; sent = (ap Some h, tt); told = refl }
   fine_answer (answer.Propose fee) e h = record { channel = h; sent = (ap Some h, tt); told = refl }
 
-  fine_answered : (m : ClosingSigned) (e : End) → e.dance.channel ≡ id → (r : Result Answer Refusal)
+  fine_answered : (m : ClosingSigned) (e : End) → e.dance.channel ≡ id → (r : Result FeeAnswer Refusal)
       → IsFineRow id (answered keys m e r)
   fine_answered m e h (Ok a) = fine_answer a (answered_end m a e) h
   fine_answered m e h (Err r) = tt

@@ -17,7 +17,7 @@ use Rattle.ln_close.specs.Closing.{AreOrdered}
 use Rattle.ln_channel.specs.Meeting.{CanOpen}
 use Rattle.ln_channel.proofs.Meeting.{none_refused}
 use Rattle.ln_store.proofs.Formats.{both_true}
-use Rattle.ln_pair.specs.Promises.{AreKeys, AreSent}
+use Rattle.ln_pair.specs.Promises.{AreSent}
 use Rattle.ln_channels.specs.declared.step.Node.{Node}
 use Rattle.ln_channels.specs.declared.step.Open.{Open}
 use Rattle.ln_channels.specs.declared.step.Step.{Step}
@@ -126,7 +126,7 @@ module _ {K : Type 0} (k : Ghosts K) where
   opening_tale o = record { sent_x = []; sent_y = []; moves = machine.Open o ∷ []; told_x = []; told_y = [] }
 
   -- a channel that was opened, with no step since
-  abbrev pub opened_run : (o : Open K k) (s t : Settings) → AreKeys (k.signer o.keys.funder) (k.signer o.keys.fundee)
+  abbrev pub opened_run : (o : Open K k) (s t : Settings) → ArePartners (k.signer o.keys.funder) (k.signer o.keys.fundee)
       → CanBring o.satoshis o.push s t → AreSent s.fees → AreSent t.fees → IsOpen k.signer (opened_by k o s t)
   opened_run o s t keys brings fs ft =
       let a = k.signer o.keys.funder in
@@ -165,7 +165,7 @@ module _ {K : Type 0} (k : Ghosts K) where
       }
 
   -- and with nothing said since
-  pub opened_told : (o : Open K k) (s t : Settings) → AreKeys (k.signer o.keys.funder) (k.signer o.keys.fundee)
+  pub opened_told : (o : Open K k) (s t : Settings) → ArePartners (k.signer o.keys.funder) (k.signer o.keys.fundee)
       → CanBring o.satoshis o.push s t → AreSent s.fees → AreSent t.fees
       → IsToldOf (opened_by k o s t) (opening_tale (opening_by o.satoshis o.push s t))
   opened_told o s t keys brings fs ft =
@@ -229,7 +229,7 @@ module _ {K : Type 0} (k : Ghosts K) where
   settings_stay_there P true n f w h = h
   settings_stay_there P false n f w h = h
 
-  pub keys_so : (o : Open K k) → BringsFit k (step.Open o) → AreKeys (k.signer o.keys.funder) (k.signer o.keys.fundee)
+  pub keys_so : (o : Open K k) → BringsFit k (step.Open o) → ArePartners (k.signer o.keys.funder) (k.signer o.keys.fundee)
   keys_so o f = record {
     partners = partners_so (k.signer o.keys.funder) (k.signer o.keys.fundee) o.keys.partners;
     a_points = f.0;
@@ -237,7 +237,7 @@ module _ {K : Type 0} (k : Ghosts K) where
   }
 
   opens_by : (b : Bool) (o : Open K k) (w : World K) → may_open o w ≡ b
-      → AreKeys (k.signer o.keys.funder) (k.signer o.keys.fundee) → Keeps w
+      → ArePartners (k.signer o.keys.funder) (k.signer o.keys.fundee) → Keeps w
       → Keeps (cond b (record {
         settings = w.settings;
         channels = w.channels

@@ -15,7 +15,8 @@ use Rattle.ln_channel.specs.Meeting.{Opens}
 use Rattle.ln_channel.specs.End.{End}
 use Rattle.ln_channel.specs.State.{State}
 use Rattle.ln_store.proofs.Formats.{both_true}
-use Rattle.ln_pair.specs.Promises.{AreKeys, AreSent}
+use Rattle.ln_keys.specs.Partners.{ArePartners}
+use Rattle.ln_pair.specs.Promises.{AreSent}
 use Rattle.ln_pair.proofs.Lasting.{IsCounted, IsWide, IsOf}
 use Rattle.ln_pair.proofs.Counting.{are_counted}
 use Rattle.ln_pair.proofs.Wide.{are_wide}
@@ -108,7 +109,7 @@ module _ {K : Type 0} (k : Ghosts K) where
 
   -- ---- a channel that is opened
 
-  opened_so : (o : Open K k) (s t : Settings) → AreKeys (k.signer o.keys.funder) (k.signer o.keys.fundee)
+  opened_so : (o : Open K k) (s t : Settings) → ArePartners (k.signer o.keys.funder) (k.signer o.keys.fundee)
       → CanBring o.satoshis o.push s t → AreSent s.fees → AreSent t.fees → AreLimits s.limits → AreLimits t.limits
       → IsStep k (step.Open o) → IsFitChannel (opened_by k o s t)
   opened_so o s t keys brings fs ft ls lt is =

@@ -6,7 +6,8 @@ use Rattle.ln_keys.specs.declared.keys.ChannelKeys.{Ghosts}
 use Rattle.ln_log.specs.declared.opening.Opening.{Opening}
 use Rattle.ln_close.specs.declared.closing.Fees.{Fees}
 use Rattle.ln_store.proofs.Formats.{both_true}
-use Rattle.ln_pair.specs.Promises.{AreKeys, AreSent}
+use Rattle.ln_keys.specs.Partners.{ArePartners}
+use Rattle.ln_pair.specs.Promises.{AreSent}
 use Rattle.ln_pair.specs.Setup.{Setup}
 use Rattle.ln_channels.specs.declared.settings.Settings.{Settings}
 use Rattle.ln_channels.specs.declared.step.Open.{Open}
@@ -103,7 +104,7 @@ module _ {K : Type 0} (k : Ghosts K) where
   same_setup o p f g x y eo ef ex =
       ap (λ z. setup_with z f x) eo ∙ ap (λ z. setup_with p z x) ef ∙ ap (λ z. setup_with p g z) ex
 
-  opened_set : (o : Open K k) (s t : Settings) → AreKeys (k.signer o.keys.funder) (k.signer o.keys.fundee)
+  opened_set : (o : Open K k) (s t : Settings) → ArePartners (k.signer o.keys.funder) (k.signer o.keys.fundee)
       → CanBring o.satoshis o.push s t → AreSent s.fees → AreSent t.fees
       → IsSet (opened_by k o s t) (setup_by o.satoshis o.push s t ∷ [])
   opened_set o s t keys brings fs ft =

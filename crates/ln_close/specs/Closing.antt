@@ -6,8 +6,8 @@ use Rattle.ln_msgs.specs.declared.refusals.refusal.Refusal.TheVariants as refusa
 use Rattle.ln_keys.specs.declared.role.Role.{Role}
 use Rattle.ln_keys.specs.declared.role.Role.TheVariants.{Funder, Fundee}
 use Rattle.ln_close.specs.declared.closing.Fees.{Fees}
-use Rattle.ln_close.specs.declared.closing.Answer.{Answer}
-use Rattle.ln_close.specs.declared.closing.Answer.TheVariants as answer
+use Rattle.ln_close.specs.declared.closing.FeeAnswer.{FeeAnswer}
+use Rattle.ln_close.specs.declared.closing.FeeAnswer.TheVariants as answer
 use Rattle.ln_close.specs.declared.closing.Closing.{Closing}
 
 abbrev pub opened : Role → Fees → Closing
@@ -59,27 +59,27 @@ is_fee (Some known) fee = known == fee
 abbrev pub nearest : ℕ → ℕ → ℕ → ℕ
 nearest least greatest fee = min (max fee least) greatest
 
-abbrev pub within : ℕ → ℕ → ℕ → Result Answer Refusal
+abbrev pub within : ℕ → ℕ → ℕ → Result FeeAnswer Refusal
 within least greatest fee = if nat_le least greatest then Ok (answer.Propose (nearest least greatest fee))
     else Err refusal.FeeOutside
 
 -- by the other side's range, where it came with one
-abbrev pub within_both : Fees → ℕ → Option (ℕ × ℕ) → Result Answer Refusal
+abbrev pub within_both : Fees → ℕ → Option (ℕ × ℕ) → Result FeeAnswer Refusal
 within_both own fee None = Err refusal.FeeOutside
 within_both own fee (Some r) = within (max own.least r.0) (min own.greatest r.1) fee
 
 -- the fundee, where it has sent no fee yet, proposes one within both ranges
-abbrev pub counter : Closing → ℕ → Option (ℕ × ℕ) → Result Answer Refusal
+abbrev pub counter : Closing → ℕ → Option (ℕ × ℕ) → Result FeeAnswer Refusal
 counter c fee range = if is_funder c.role then Err refusal.FeeOutside
     else (if is_none c.own_fee then within_both c.fees fee range else Err refusal.FeeOutside)
 
 -- where the channel is closed
-abbrev pub behind_close : Option ℕ → ℕ → Result Answer Refusal → Result Answer Refusal
+abbrev pub behind_close : Option ℕ → ℕ → Result FeeAnswer Refusal → Result FeeAnswer Refusal
 behind_close None fee rest = rest
 behind_close (Some agreed) fee rest = if agreed == fee then Ok answer.Nothing else Err refusal.FeeOutside
 
 -- the first rule that fits
-abbrev pub answer_to : Closing → ℕ → Option (ℕ × ℕ) → Result Answer Refusal
+abbrev pub answer_to : Closing → ℕ → Option (ℕ × ℕ) → Result FeeAnswer Refusal
 answer_to c fee range =
     behind_close c.closed fee (
     if is_fee c.own_fee fee then Ok (answer.Close fee)
@@ -88,7 +88,7 @@ answer_to c fee range =
     else counter c fee range)))
 
 -- what a side keeps behind its answer to a fee
-abbrev pub after : ℕ → Answer → Closing → Closing
+abbrev pub after : ℕ → FeeAnswer → Closing → Closing
 after fee answer.Nothing c = c
 after fee (answer.Close agreed) c = record c { peer_fee = Some fee; closed = Some agreed }
 after fee (answer.EchoAndClose agreed) c = record c { own_fee = Some agreed; peer_fee = Some fee; closed = Some agreed }

@@ -19,7 +19,7 @@ pub struct Fees {
 
 /// What a side does about a `closing_signed` (BOLT 2, "Closing Negotiation: `closing_signed`").
 #[derive(Clone, Copy, PartialEq, Eq)]
-pub enum Answer {
+pub enum FeeAnswer {
     /// It does nothing.
     Nothing,
     /// The channel is closed at this fee, in satoshis.
@@ -136,24 +136,24 @@ impl Closing {
     /// 6. 36.
     ///
     /// At 36 nothing has changed.
-    pub fn answer(&mut self, fee: u64, range: Option<(u64, u64)>) -> Result<Answer, Refusal>
+    pub fn answer(&mut self, fee: u64, range: Option<(u64, u64)>) -> Result<FeeAnswer, Refusal>
         ensures answers_by_the_first_rule { result ≡ answer_to self.old fee range }
         ensures moves_as_stated { IfOk result (λ a. self.new ≡ after fee a self.old) }
         ensures changes_nothing_if_refused { OnErr result (self.new ≡ self.old) }
     {
         let answer = self.answer_to(fee, range)?;
         match answer {
-            Answer::Nothing => {}
-            Answer::Close(agreed) => {
+            FeeAnswer::Nothing => {}
+            FeeAnswer::Close(agreed) => {
                 self.peer_fee = Some(fee);
                 self.closed = Some(agreed);
             }
-            Answer::EchoAndClose(agreed) => {
+            FeeAnswer::EchoAndClose(agreed) => {
                 self.own_fee = Some(agreed);
                 self.peer_fee = Some(fee);
                 self.closed = Some(agreed);
             }
-            Answer::Propose(proposed) => {
+            FeeAnswer::Propose(proposed) => {
                 self.own_fee = Some(proposed);
                 self.peer_fee = Some(fee);
             }
@@ -161,32 +161,32 @@ impl Closing {
         Ok(answer)
     }
 
-    fn answer_to(&self, fee: u64, range: Option<(u64, u64)>) -> Result<Answer, Refusal>
+    fn answer_to(&self, fee: u64, range: Option<(u64, u64)>) -> Result<FeeAnswer, Refusal>
         ensures { result ≡ answer_to self.now fee range }
     {
         match self.closed {
             Some(agreed) => {
                 if agreed == fee {
-                    return Ok(Answer::Nothing);
+                    return Ok(FeeAnswer::Nothing);
                 }
                 return Err(Refusal::FeeOutside);
             }
             None => {}
         }
         if is_fee(self.own_fee, fee) {
-            return Ok(Answer::Close(fee));
+            return Ok(FeeAnswer::Close(fee));
         }
         if is_fee(self.peer_fee, fee) {
-            return Ok(Answer::Nothing);
+            return Ok(FeeAnswer::Nothing);
         }
         if self.fees.least <= fee && fee <= self.fees.greatest {
-            return Ok(Answer::EchoAndClose(fee));
+            return Ok(FeeAnswer::EchoAndClose(fee));
         }
         self.counter(fee, range)
     }
 
     // The fundee's own first fee, where it can't take the funder's.
-    fn counter(&self, fee: u64, range: Option<(u64, u64)>) -> Result<Answer, Refusal>
+    fn counter(&self, fee: u64, range: Option<(u64, u64)>) -> Result<FeeAnswer, Refusal>
         ensures { result ≡ counter self.now fee range }
     {
         match self.role {
@@ -204,7 +204,7 @@ impl Closing {
                 if least > greatest {
                     return Err(Refusal::FeeOutside);
                 }
-                Ok(Answer::Propose(fee.max(least).min(greatest)))
+                Ok(FeeAnswer::Propose(fee.max(least).min(greatest)))
             }
         }
     }

@@ -5,5 +5,5 @@
 mod closing;
 mod laws;
 
-pub use closing::{Answer, Closing, Fees};
+pub use closing::{Closing, FeeAnswer, Fees};
 pub use laws::closes_by_agreement;

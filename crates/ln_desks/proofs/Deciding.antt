@@ -18,8 +18,8 @@ use Rattle.ln_msgs.specs.declared.refusals.refusal.Refusal.TheVariants as refusa
 use Rattle.ln_keys.specs.declared.role.Role.TheVariants.{Funder, Fundee}
 use Rattle.ln_keys.specs.Signer.{Signer}
 use Rattle.ln_log.specs.declared.update.Update.{Update}
-use Rattle.ln_close.specs.declared.closing.Answer.{Answer}
-use Rattle.ln_close.specs.declared.closing.Answer.TheVariants as answer
+use Rattle.ln_close.specs.declared.closing.FeeAnswer.{FeeAnswer}
+use Rattle.ln_close.specs.declared.closing.FeeAnswer.TheVariants as answer
 use Rattle.ln_close.specs.Closing.{after_shut, started}
 use Rattle.ln_channel.specs.declared.command.Command.{Command}
 use Rattle.ln_channel.specs.declared.command.Command.TheVariants as command
@@ -133,18 +133,18 @@ module _ (P : ℕ → Type 0) where
   shutdown_so None m e h = h
   shutdown_so (Some script) m e h = shutdown_by (are_same script m.script) e h
 
-  answering_so : (keys : Signer) (a : Answer) (e : End) → Counts P e → Counts P (answering keys a e).end
+  answering_so : (keys : Signer) (a : FeeAnswer) (e : End) → Counts P e → Counts P (answering keys a e).end
   answering_so keys answer.Nothing e h = h
   answering_so keys (answer.Close fee) e h = h
   answering_so keys (answer.EchoAndClose fee) e h = h
   answering_so keys (answer.Propose fee) e h = h
 
-  answered_so : (keys : Signer) (m : ClosingSigned) (e : End) (res : Result Answer Refusal) → Counts P e
+  answered_so : (keys : Signer) (m : ClosingSigned) (e : End) (res : Result FeeAnswer Refusal) → Counts P e
       → InTurn P (answered keys m e res)
   answered_so keys m e (Ok a) h = answering_so keys a (answered_end m a e) h
   answered_so keys m e (Err r) h = tt
 
-  fee_by : (keys : Signer) (begun right : Bool) (m : ClosingSigned) (e : End) (res : Result Answer Refusal) → Counts P e
+  fee_by : (keys : Signer) (begun right : Bool) (m : ClosingSigned) (e : End) (res : Result FeeAnswer Refusal) → Counts P e
       → InTurn P (cond (not begun) (Err refusal.OutOfPlace)
       (cond right (answered keys m e res) (Err refusal.SignatureWrong)))
   fee_by keys true true m e res h = answered_so keys m e res h

@@ -1,4 +1,4 @@
--- Toy keys whose tags cross are partners, and the points of toy keys have 33 bytes.
+-- Toy keys whose tags cross are partners.
 use Rattle.std.proofs.Common.{◌≡◌, ℕ, zero, suc, List, length, replicate, true, refl, ap, subst}
 use Rattle.std.specs.List.{list_all}
 use Rattle.std.proofs.lemmas.Cmp.{nat_eq_equiv}
@@ -30,6 +30,14 @@ closed t u e fee =
     let P : List ℕ → Type 0 = λ w. toy_accepts_close w fee (toy_close_signature t fee) ≡ true in
     subst P e (same_as_itself (toy_close_signature t fee))
 
+secret_len : (seed : List ℕ) (n : ℕ) → length (toy_secret seed n) ≡ 32
+unfolding toy_secret
+secret_len seed n = length-sha256 _
+
+point_len : (secret : List ℕ) → length (toy_point secret) ≡ 33
+unfolding toy_point
+point_len secret = ap suc (length-sha256 secret)
+
 verified : (a b : ToyKeys) → a.tag ≡ b.peer_tag → IsVerifiedBy (toy_signer a) (toy_signer b)
 verified a b e = record {
   commitments = λ n p v _ _. accepted a.tag b.peer_tag e n p v;
@@ -37,14 +45,9 @@ verified a b e = record {
   closings = λ fee _. closed a.tag b.peer_tag e fee;
   secrets = λ n _. same_as_itself (toy_point (toy_secret a.seed n));
   own_secrets = λ n _. same_as_itself (toy_point (toy_secret a.seed n));
+  sized_points = λ n _. point_len (toy_secret a.seed n);
+  sized_secrets = λ n _. secret_len a.seed n;
 }
 
 pub are_partners : (a b : ToyKeys) → AreCrossed a b → ArePartners (toy_signer a) (toy_signer b)
 are_partners a b crossed = record { there = verified a b crossed.0; back = verified b a crossed.1 }
-
-point_len : (secret : List ℕ) → length (toy_point secret) ≡ 33
-unfolding toy_point
-point_len secret = ap suc (length-sha256 secret)
-
-pub points_have_33_bytes : (k : ToyKeys) (n : ℕ) → length ((toy_signer k).point_of n) ≡ 33
-points_have_33_bytes k n = point_len (toy_secret k.seed n)

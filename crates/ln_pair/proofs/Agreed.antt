@@ -3,8 +3,8 @@ use Rattle.std.proofs.Common.{◌≡◌, ◌⊎◌, inl, inr, ℕ, ◌≤◌, Li
 use Rattle.std.proofs.Common.{append-nil}
 use Rattle.std.proofs.Common.{Bool, true, false, Option, Some, is_some, None, min, max}
 use Rattle.ln_close.specs.declared.closing.Fees.{Fees}
-use Rattle.ln_close.specs.declared.closing.Answer.{Answer}
-use Rattle.ln_close.specs.declared.closing.Answer.TheVariants as answer
+use Rattle.ln_close.specs.declared.closing.FeeAnswer.{FeeAnswer}
+use Rattle.ln_close.specs.declared.closing.FeeAnswer.TheVariants as answer
 
 -- what an end has said and heard of the closing fee
 pub record Deal : Type 0 where
@@ -249,14 +249,14 @@ pub data Refused (d : Deal) (fee : ℕ) (rg : Option (ℕ × ℕ)) : Type 0 wher
       → (d.funder ≡ true) ⊎ (((n : ℕ) × (d.bid ≡ Some n)) ⊎ Apart d.fees rg) → Refused d fee rg
 
 -- what an answer says of the rule that gave it
-abbrev pub Fair : Deal → ℕ → Option (ℕ × ℕ) → Answer → Type 0
+abbrev pub Fair : Deal → ℕ → Option (ℕ × ℕ) → FeeAnswer → Type 0
 Fair d fee rg answer.Nothing = Unit {0}
 Fair d fee rg (answer.Close n) = (n ≡ fee) × (d.bid ≡ Some fee) × (d.closed ≡ None)
 Fair d fee rg (answer.EchoAndClose n) =
     (n ≡ fee) × (d.heard ≡ Some fee → ⊥) × (d.bid ≡ Some fee → ⊥) × (d.closed ≡ None)
 Fair d fee rg (answer.Propose n) = (d.funder ≡ false) × (d.bid ≡ None) × (d.closed ≡ None) × InRange rg n
 
-abbrev pub dealt : Answer → ℕ → Deal → Deal
+abbrev pub dealt : FeeAnswer → ℕ → Deal → Deal
 dealt answer.Nothing fee d = d
 dealt (answer.Close n) fee d = record d { heard = Some fee; closed = Some n }
 dealt (answer.EchoAndClose n) fee d = record d { bid = Some n; heard = Some fee; closed = Some n }
@@ -286,7 +286,7 @@ funder_same d e o os qs a = record {
   answered = a.answered.1;
 }
 
-funder_dealt : (x : Answer) (d e : Deal) (fee : ℕ) (rg : Option (ℕ × ℕ)) (os qs : List Offer) → Fair d fee rg x
+funder_dealt : (x : FeeAnswer) (d e : Deal) (fee : ℕ) (rg : Option (ℕ × ℕ)) (os qs : List Offer) → Fair d fee rg x
     → Agreed d e os (record { fee = fee; range = rg } ∷ qs) → Agreed (dealt x fee d) e os qs
 funder_dealt answer.Nothing d e fee rg os qs h a = funder_same d e (record { fee = fee; range = rg }) os qs a
 funder_dealt (answer.Close m) d e fee rg os qs h a = record {
@@ -404,7 +404,7 @@ fundee_same d e o os qs a = record {
   answered = a.answered;
 }
 
-fundee_dealt : (x : Answer) (d e : Deal) (fee : ℕ) (rg : Option (ℕ × ℕ)) (os qs : List Offer) → Fair e fee rg x
+fundee_dealt : (x : FeeAnswer) (d e : Deal) (fee : ℕ) (rg : Option (ℕ × ℕ)) (os qs : List Offer) → Fair e fee rg x
     → Agreed d e (record { fee = fee; range = rg } ∷ os) qs → Agreed d (dealt x fee e) os qs
 fundee_dealt answer.Nothing d e fee rg os qs h a = fundee_same d e (record { fee = fee; range = rg }) os qs a
 fundee_dealt (answer.Close n) d e fee rg os qs h a =
@@ -458,7 +458,7 @@ fundee_dealt (answer.Propose n) d e fee rg os qs h a =
 
 -- ---- whichever takes it, from the front of what is in flight to it
 
-pub taken_dealt : (x : Answer) (d e : Deal) (fee : ℕ) (rg : Option (ℕ × ℕ)) (os qs : List Offer) → Fair d fee rg x
+pub taken_dealt : (x : FeeAnswer) (d e : Deal) (fee : ℕ) (rg : Option (ℕ × ℕ)) (os qs : List Offer) → Fair d fee rg x
     → Priced d e os (record { fee = fee; range = rg } ∷ qs) → Priced (dealt x fee d) e os qs
 taken_dealt x d e fee rg os qs h (inl a) = inl (funder_dealt x d e fee rg os qs h a)
 taken_dealt x d e fee rg os qs h (inr a) = inr (fundee_dealt x e d fee rg qs os h a)

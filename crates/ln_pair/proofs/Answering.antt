@@ -6,23 +6,23 @@ use Rattle.std.proofs.lemmas.Bool.{leb-true}
 use Rattle.ln_msgs.specs.declared.refusals.refusal.Refusal.{Refusal}
 use Rattle.ln_msgs.specs.declared.refusals.refusal.Refusal.TheVariants as refusal
 use Rattle.ln_close.specs.declared.closing.Fees.{Fees}
-use Rattle.ln_close.specs.declared.closing.Answer.{Answer}
-use Rattle.ln_close.specs.declared.closing.Answer.TheVariants as answer
+use Rattle.ln_close.specs.declared.closing.FeeAnswer.{FeeAnswer}
+use Rattle.ln_close.specs.declared.closing.FeeAnswer.TheVariants as answer
 use Rattle.ln_close.specs.declared.closing.Closing.{Closing}
 use Rattle.ln_close.specs.Closing.{is_funder, is_fee, nearest, within, within_both, counter, behind_close, answer_to}
 
 -- by an end with these fees
-abbrev pub Offers : Fees → Answer → Type 0
+abbrev pub Offers : Fees → FeeAnswer → Type 0
 Offers f answer.Nothing = Unit {0}
 Offers f (answer.Close fee) = Unit {0}
 Offers f (answer.EchoAndClose fee) = fee ≤ f.greatest
 Offers f (answer.Propose fee) = fee ≤ f.greatest
 
-abbrev pub IsFair : Fees → Result Answer Refusal → Type 0
+abbrev pub IsFair : Fees → Result FeeAnswer Refusal → Type 0
 IsFair f (Ok a) = Offers f a
 IsFair f (Err r) = r ≡ refusal.FeeOutside
 
-fair_when : (f : Fees) (b : Bool) (p q : Result Answer Refusal) → (b ≡ true → IsFair f p) → IsFair f q
+fair_when : (f : Fees) (b : Bool) (p q : Result FeeAnswer Refusal) → (b ≡ true → IsFair f p) → IsFair f q
     → IsFair f (cond b p q)
 fair_when f true p q h k = h refl
 fair_when f false p q h k = k
@@ -46,7 +46,7 @@ fair_counter c fee range = fair_when c.fees (is_funder c.role) (Err refusal.FeeO
     (fair_when c.fees (is_none c.own_fee) (within_both c.fees fee range) (Err refusal.FeeOutside)
     (λ e. fair_both c.fees fee range) refl)
 
-fair_behind : (f : Fees) (o : Option ℕ) (fee : ℕ) (rest : Result Answer Refusal) → IsFair f rest
+fair_behind : (f : Fees) (o : Option ℕ) (fee : ℕ) (rest : Result FeeAnswer Refusal) → IsFair f rest
     → IsFair f (behind_close o fee rest)
 fair_behind f None fee rest h = h
 fair_behind f (Some n) fee rest h = fair_when f (n == fee) (Ok answer.Nothing) (Err refusal.FeeOutside) (λ e. tt) refl

@@ -35,7 +35,7 @@ use Rattle.ln_channel.specs.State.{is_down}
 use Rattle.ln_channel.specs.Step.{faulted, line_fault}
 use Rattle.ln_pair.specs.Ends.{Ends, opened, turned, message_at, command_at, answers, delivers, connects, Act, Deliver}
 use Rattle.ln_pair.specs.Ends.{Give, Note, Lose, Cut, Save, still_come, acts, Step, By, Connect, happens, run}
-use Rattle.ln_pair.specs.Promises.{AreKeys}
+use Rattle.ln_keys.specs.Partners.{ArePartners}
 use Rattle.ln_pair.specs.Answers.{HasAnswered, BothHaveAnswered}
 use Rattle.ln_pair.proofs.Moving.{log_within}
 use Rattle.ln_pair.proofs.Opens.{opened_holds, opened_fresh}
@@ -201,7 +201,7 @@ happens_so a b (By Fundee act) p h both =
     (flip.1, flip.0)
 happens_so a b Connect p h both = connects_so a b p.x_line p.y_line p both
 
-run_so : (a b : Signer) → AreKeys a b → (ss : List Step) (p : Ends) → Holds a b p → BothHaveAnswered p
+run_so : (a b : Signer) → ArePartners a b → (ss : List Step) (p : Ends) → Holds a b p → BothHaveAnswered p
     → BothHaveAnswered (run a b ss p)
 run_so a b keys [] p h both = both
 run_so a b keys (s ∷ ss) p h both =
@@ -211,7 +211,7 @@ not_yet : (l : Line) (e : End) → e.closing.peer_shut ≡ false → HasAnswered
 not_yet l e none = λ met x y. absurd (let no : true ≡ false = sym x ∙ none in cc)
 
 pub all_answered : (a b : Signer) (s : OpenSpec) (c : Config) (funder fundee : Opened) (steps : List Step)
-    → AreKeys a b → Opens a b s c funder fundee → BothHaveAnswered (run a b steps (opened funder fundee))
+    → ArePartners a b → Opens a b s c funder fundee → BothHaveAnswered (run a b steps (opened funder fundee))
 all_answered a b s c funder fundee steps keys o =
     let fresh = opened_fresh a b s c funder fundee o in
     let p = opened funder fundee in

@@ -17,14 +17,15 @@ use Rattle.ln_log.specs.Updates.{all_sent}
 use Rattle.ln_log.specs.View.{live_adds}
 use Rattle.ln_log.specs.Log.{Counts, covered, live_in}
 use Rattle.ln_log.proofs.Sent.{standing_sent}
-use Rattle.ln_close.specs.declared.closing.Answer.{Answer}
+use Rattle.ln_close.specs.declared.closing.FeeAnswer.{FeeAnswer}
 use Rattle.ln_close.specs.declared.closing.Fees.{Fees}
 use Rattle.ln_close.specs.Closing.{answer_to}
 use Rattle.ln_channel.specs.declared.unsaved.Line.{Line}
 use Rattle.ln_channel.specs.declared.unsaved.Line.TheVariants.{Met}
 use Rattle.ln_channel.specs.End.{End, Turn, has_begun, is_settled}
 use Rattle.ln_channel.specs.Taking.{answered, completed_row, fee_row, range_in}
-use Rattle.ln_pair.specs.Promises.{AreKeys, IsTaken, AreSent}
+use Rattle.ln_keys.specs.Partners.{ArePartners}
+use Rattle.ln_pair.specs.Promises.{IsTaken, AreSent}
 use Rattle.ln_pair.proofs.Sides.{Notice, Close, Side}
 use Rattle.ln_pair.proofs.Walk.{AllFit, Phase, Idle, Sent, Answered, LacksNothing, Flows}
 use Rattle.ln_pair.proofs.Marks.{NoneOpens, Told}
@@ -161,7 +162,7 @@ begun_back k e b =
 abbrev pub TakenOr36 : Result Turn Refusal → Type 0
 TakenOr36 r = IsTaken r ⊎ (r ≡ Err refusal.FeeOutside)
 
-answered_or : (k : Signer) (m : ClosingSigned) (e : End) (r : Result Answer Refusal) → IsFair e.closing.fees r
+answered_or : (k : Signer) (m : ClosingSigned) (e : End) (r : Result FeeAnswer Refusal) → IsFair e.closing.fees r
     → TakenOr36 (completed_row k (answered k m e r))
 answered_or k m e (Ok a) h = inl (_, refl)
 answered_or k m e (Err r) h = inr (ap Err h)
@@ -182,7 +183,7 @@ small f fee s (inl e) = let b = s.first in omega (arith, e, b)
 small f fee s (inr le) = let b = s.greatest in omega (arith, le, b)
 
 pub close_row : (a b : Signer) (channel : List ℕ) (ly : Line) (x y : End) (m : ClosingSigned) (ns to_y : List Notice)
-    (said_x said_y : List Message) → AreKeys a b → AreSent y.closing.fees
+    (said_x said_y : List Message) → ArePartners a b → AreSent y.closing.fees
     → Hold a b channel Met ly x y (Close m ∷ ns) to_y said_x said_y → TakenOr36 (completed_row a (fee_row a m x))
 close_row a b channel ly x y m ns to_y said_x said_y keys sent h =
     let begun = taker_begun Met ly b y.closing.fees (side_of a x) (side_of b y) m to_y ns h.kept.there
@@ -190,4 +191,4 @@ close_row a b channel ly x y m ns to_y said_x said_y keys sent h =
     let signed = h.closes_back.0.signed in
     row_or a m x (begun_back a x begun)
     (ap (λ s. a.accepts_close m.fee_satoshis s) signed.0
-    ∙ keys.partners.back.closings m.fee_satoshis (small y.closing.fees m.fee_satoshis sent signed.1))
+    ∙ keys.back.closings m.fee_satoshis (small y.closing.fees m.fee_satoshis sent signed.1))

@@ -15,7 +15,8 @@ use Rattle.ln_channel.specs.declared.opening.Opened.{Opened}
 use Rattle.ln_channel.specs.Meeting.{Opens}
 use Rattle.ln_channel.specs.End.{is_settled}
 use Rattle.ln_pair.specs.Ends.{Ends, Step, opened, happens, run}
-use Rattle.ln_pair.specs.Promises.{AreKeys, AreAgreeable, AllTaken}
+use Rattle.ln_keys.specs.Partners.{ArePartners}
+use Rattle.ln_pair.specs.Promises.{AreAgreeable, AllTaken}
 use Rattle.ln_pair.specs.Closes.{BothClose}
 use Rattle.ln_pair.proofs.Agreed.{Deal, Offer, Priced, not_none}
 use Rattle.ln_pair.proofs.Deals.{deal_of, offers_in}
@@ -99,7 +100,7 @@ ends_by d e os qs fd fe (inr a) bx their there back =
     let both = both_closed e d fe fd a.funder (their a.funder) back there a.closed in
     (both.1, both.0)
 
-pub both_close : (a b : Signer) (s : OpenSpec) (c : Config) (funder fundee : Opened) (steps : List Step) → AreKeys a b
+pub both_close : (a b : Signer) (s : OpenSpec) (c : Config) (funder fundee : Opened) (steps : List Step) → ArePartners a b
     → Opens a b s c funder fundee → AreAgreeable funder.closing.fees fundee.closing.fees
     → BothClose (run a b steps (opened funder fundee))
 both_close a b s c funder fundee steps keys o g quiet dx dy =

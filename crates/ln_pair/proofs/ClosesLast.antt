@@ -30,7 +30,7 @@ use Rattle.ln_channel.specs.declared.output.Output.TheVariants as output
 use Rattle.ln_channel.specs.Meeting.{Opens}
 use Rattle.ln_channel.specs.Outputs.{numbered}
 use Rattle.ln_pair.specs.Ends.{Step, opened, run}
-use Rattle.ln_pair.specs.Promises.{AreKeys}
+use Rattle.ln_keys.specs.Partners.{ArePartners}
 use Rattle.ln_pair.specs.Moves.{machine_of, history}
 use Rattle.ln_pair.specs.Told.{as_told, events_in, all_told, is_closing, ClosesLast, unnumbered}
 use Rattle.ln_pair.proofs.All.{All}
@@ -356,13 +356,13 @@ handed_last os es told h =
 -- ---- two ends
 
 pub moves_last : (a b : Signer) (s : OpenSpec) (c : Config) (funder fundee : Opened) (steps : List Step) (r : Role)
-    → AreKeys a b → Opens a b s c funder fundee → ClosesLast (as_told (events r (history a b funder fundee steps) None))
+    → ArePartners a b → Opens a b s c funder fundee → ClosesLast (as_told (events r (history a b funder fundee steps) None))
 moves_last a b s c funder fundee steps r keys o =
     closes_last r (history a b funder fundee steps) (Some (machine_of (run a b steps (opened funder fundee))))
     (may_be_made a b s c funder fundee steps keys o)
 
 pub told_last : (a b : Signer) (s : OpenSpec) (c : Config) (funder fundee : Opened) (steps : List Step) (r : Role)
-    → AreKeys a b → Opens a b s c funder fundee
+    → ArePartners a b → Opens a b s c funder fundee
     → ClosesLast (unnumbered (all_told a b r steps (opened funder fundee)))
 told_last a b s c funder fundee steps r keys o =
     handed_last (all_told a b r steps (opened funder fundee))

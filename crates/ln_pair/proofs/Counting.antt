@@ -15,7 +15,7 @@ use Rattle.ln_keys.specs.declared.role.Role.TheVariants.{Funder, Fundee}
 use Rattle.ln_keys.specs.Signer.{Signer}
 use Rattle.ln_log.specs.Log as log
 use Rattle.ln_log.specs.Log.{Counts, same_counts}
-use Rattle.ln_close.specs.declared.closing.Answer.{Answer}
+use Rattle.ln_close.specs.declared.closing.FeeAnswer.{FeeAnswer}
 use Rattle.ln_close.specs.declared.closing.Fees.{Fees}
 use Rattle.ln_close.specs.Closing.{answer_to}
 use Rattle.ln_channel.specs.declared.command.Command.{Command}
@@ -38,7 +38,8 @@ use Rattle.ln_channel.specs.Step.{faulted, line_fault}
 use Rattle.ln_pair.specs.Ends.{Ends, turned, opened, message_at, answers, delivers, notes, Act, Deliver, Give}
 use Rattle.ln_pair.specs.Ends.{Note, Lose, Cut, Save, still_come, acts}
 use Rattle.ln_pair.specs.Ends.{connects, Step, By, Connect, happens, run}
-use Rattle.ln_pair.specs.Promises.{AreKeys, AreSent}
+use Rattle.ln_keys.specs.Partners.{ArePartners}
+use Rattle.ln_pair.specs.Promises.{AreSent}
 use Rattle.ln_pair.proofs.Sides.{Notice, Update, Sign, Revoke, Ready, Shutdown, Close, Again}
 use Rattle.ln_pair.proofs.Walk.{Phase, Idle, Sent, Answered}
 use Rattle.ln_pair.proofs.Closing.{IsOffer, SignsAll}
@@ -56,10 +57,6 @@ use Rattle.ln_pair.proofs.Steady.{closes_in, IsFee, Steady, settled_steady, turn
 use Rattle.ln_pair.proofs.Steady.{based_steady}
 use Rattle.ln_pair.proofs.Noting.{noted}
 
--- secrets have 32 bytes, as those that keys answer in code
-abbrev pub HaveSecrets : Signer → Type 0
-HaveSecrets s = (n : ℕ) → n ≤ 2 ^ 48 → length (s.secret_of n) ≡ 32
-
 -- ---- what x does, where y is as it was
 
 record Stays (p q : Ends) : Type 0 where
@@ -70,7 +67,7 @@ offer_below : (f : Fees) (n : ℕ) → AreSent f → IsOffer f n → IsFee n
 offer_below f n s (inl e) = let b = s.first in omega (arith, e, b)
 offer_below f n s (inr le) = let b = s.greatest in omega (arith, le, b)
 
-module _ (a b : Signer) (keys : AreKeys a b) where
+module _ (a b : Signer) (keys : ArePartners a b) where
   met : (p : Ends) → p.x_line ≡ Met → Steady p.x → (channel : List ℕ) (n : Notice) (ns to_y : List Notice)
       → is_close n ≡ false → Hold a b channel Met p.y_line p.x p.y (n ∷ ns) to_y p.said_x p.said_y
       → Stays p (delivers a (messages_of channel (n ∷ ns)) p)
@@ -89,7 +86,7 @@ module _ (a b : Signer) (keys : AreKeys a b) where
       subst (λ res. Stays p (answers res q)) (sym (meeting_row a b keys p is channel m ns to_y h))
       (record { x = settled_steady p.x s; y = refl })
 
-  fee_by : (begun right : Bool) (res : Result Answer Refusal) (p : Ends) → Steady p.x → log.IsWithin p.x.dance.log
+  fee_by : (begun right : Bool) (res : Result FeeAnswer Refusal) (p : Ends) → Steady p.x → log.IsWithin p.x.dance.log
       → (channel : List ℕ) (m : ClosingSigned) (ns : List Notice)
       → answer_to p.x.closing m.fee_satoshis (range_in m) ≡ res → IsFee m.fee_satoshis
       → Stays p (answers (completed_row a (cond (not begun) (Err refusal.OutOfPlace)
@@ -188,7 +185,7 @@ record Lasts (p : Ends) : Type 0 where
   x_sent : AreSent p.x.closing.fees
   y_sent : AreSent p.y.closing.fees
 
-both_steady : (a b : Signer) → AreKeys a b → (s : Step) (p : Ends) → Lasts p → Holds a b p
+both_steady : (a b : Signer) → ArePartners a b → (s : Step) (p : Ends) → Lasts p → Holds a b p
     → Steady (happens a b s p).x × Steady (happens a b s p).y
 both_steady a b keys (By Funder act) p k h =
     let m = acts_steady a b keys act p k.x k.y_sent h in
@@ -205,7 +202,7 @@ both_steady a b keys Connect p k h = by p.x_line p.y_line
     by Awaiting l = (k.x, k.y)
     by Met l = (k.x, k.y)
 
-lasts : (a b : Signer) → AreKeys a b → (ss : List Step) (p : Ends) → Lasts p → Holds a b p → Lasts (run a b ss p)
+lasts : (a b : Signer) → ArePartners a b → (ss : List Step) (p : Ends) → Lasts p → Holds a b p → Lasts (run a b ss p)
 lasts a b keys [] p k h = k
 lasts a b keys (s ∷ ss) p k h =
     let q = happens a b s p in
@@ -295,7 +292,8 @@ closed_bid d e p q n (inl a) h = (a.closed n h).0
 closed_bid d e p q n (inr a) h = (a.their_closed n h).1
 
 -- none was told before the first revocation
-secret_by : (r : ℕ) (k : Signer) (o : Option (List ℕ)) → HaveSecrets k → r < 2 ^ 48 → (r ≡ 0 → o ≡ None)
+secret_by : (r : ℕ) (k : Signer) (o : Option (List ℕ)) → ((m : ℕ) → m ≤ 2 ^ 48 → length (k.secret_of m) ≡ 32)
+    → r < 2 ^ 48 → (r ≡ 0 → o ≡ None)
     → ((n : ℕ) → r ≡ n + 1 → o ≡ Some (k.secret_of n)) → Where (λ s. length s ≡ 32) o
 secret_by zero k o secrets below none one = subst (Where (λ s. length s ≡ 32)) (sym (none refl)) tt
 secret_by (suc n) k o secrets below none one =
@@ -312,9 +310,9 @@ next_by false k zero s point points le below used told first = first refl refl
 next_by false k (suc r) s point points le below used told first =
     absurd (let no : false ≡ true = used (omega (arith, le)) in cc)
 
-counted : (a b : Signer) → AreKeys a b → HaveSecrets b → (p : Ends) → Steady p.x → AreSent p.x.closing.fees
+counted : (a b : Signer) → ArePartners a b → (p : Ends) → Steady p.x → AreSent p.x.closing.fees
     → Holds a b p → At p → IsCounted p.x
-counted a b keys secrets p s sent h at =
+counted a b keys p s sent h at =
     let x = p.x in
     let l = x.dance.log in
     let n = x.dance.numbers in
@@ -346,10 +344,10 @@ counted a b keys secrets p s sent h at =
       events = omega (arith, events, one);
       decisions = s.decisions;
       results = s.results;
-      point = ap length h.hold.x_knows.point ∙ keys.b_points n.revoked (omega (arith, few, below));
-      next_point = next_by x.marks.ready_received b n.revoked n.signed x.dance.peer.next_point keys.b_points few
-          below (λ e. (h.hold.told.there.used_signature e).taken) h.hold.x_knows.next_point s.next_point;
-      secret = secret_by n.revoked b x.dance.peer.secret secrets (omega (arith, few, below)) s.secret
+      point = ap length h.hold.x_knows.point ∙ keys.back.sized_points n.revoked (omega (arith, few, below));
+      next_point = next_by x.marks.ready_received b n.revoked n.signed x.dance.peer.next_point keys.back.sized_points
+          few below (λ e. (h.hold.told.there.used_signature e).taken) h.hold.x_knows.next_point s.next_point;
+      secret = secret_by n.revoked b x.dance.peer.secret keys.back.sized_secrets (omega (arith, few, below)) s.secret
           h.hold.x_knows.secret;
       own_fee = bid;
       peer_fee = s.heard;
@@ -358,17 +356,17 @@ counted a b keys secrets p s sent h at =
     }
 
 -- both ends, over every list of steps
-pub are_counted : (a b : Signer) (s : OpenSpec) (c : Config) (funder fundee : Opened) (steps : List Step) → AreKeys a b
-    → HaveSecrets a → HaveSecrets b → Opens a b s c funder fundee
+pub are_counted : (a b : Signer) (s : OpenSpec) (c : Config) (funder fundee : Opened) (steps : List Step) → ArePartners a b
+    → Opens a b s c funder fundee
     → AreSent funder.closing.fees → AreSent fundee.closing.fees
     → IsCounted (run a b steps (opened funder fundee)).x × IsCounted (run a b steps (opened funder fundee)).y
-are_counted a b s c funder fundee steps keys sa sb o fx fy =
+are_counted a b s c funder fundee steps keys o fx fy =
     let first = opened funder fundee in
     let p = run a b steps first in
     let begun = opened_holds a b s c funder fundee o in
     let h = ran a b keys steps first begun in
     let k = lasts a b keys steps first (first_lasts a b s c funder fundee o fx fy) begun in
     let at = priced_at a b funder fundee steps (opened_fresh a b s c funder fundee o) in (
-      counted a b keys sb p k.x k.x_sent h at,
-      counted b a (flipped_keys a b keys) sa (turned p) k.y k.y_sent (flipped a b p h) (turned_at p at),
+      counted a b keys p k.x k.x_sent h at,
+      counted b a (flipped_keys a b keys) (turned p) k.y k.y_sent (flipped a b p h) (turned_at p at),
     )

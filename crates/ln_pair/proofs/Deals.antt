@@ -27,8 +27,8 @@ use Rattle.ln_channel.specs.State.{is_down}
 use Rattle.ln_channel.specs.Step.{faulted, line_fault}
 use Rattle.ln_dance.specs.Resume.{resume_fault}
 use Rattle.ln_channel.specs.Resume.{resumed}
-use Rattle.ln_close.specs.declared.closing.Answer.{Answer}
-use Rattle.ln_close.specs.declared.closing.Answer.TheVariants as answer
+use Rattle.ln_close.specs.declared.closing.FeeAnswer.{FeeAnswer}
+use Rattle.ln_close.specs.declared.closing.FeeAnswer.TheVariants as answer
 use Rattle.ln_close.specs.Closing.{may_start, started, after_shut, after, answer_to}
 use Rattle.ln_channel.specs.End.{has_begun, settled, answers_shutdown, owes_shutdown, completed, end_dropped}
 use Rattle.ln_channel.specs.End.{shutdown_message}
@@ -194,17 +194,17 @@ completed_fees : (k : Signer) (r : Result Turn Refusal) (e : End) → KeepsFees 
 completed_fees k (Ok t) e h = settled_fees t.end ∙ h
 completed_fees k (Err r) e h = tt
 
-after_fees : (fee : ℕ) (a : Answer) (c : Closing) → (after fee a c).fees ≡ c.fees
+after_fees : (fee : ℕ) (a : FeeAnswer) (c : Closing) → (after fee a c).fees ≡ c.fees
 after_fees fee answer.Nothing c = refl
 after_fees fee (answer.Close n) c = refl
 after_fees fee (answer.EchoAndClose n) c = refl
 after_fees fee (answer.Propose n) c = refl
 
-answered_fees : (k : Signer) (m : ClosingSigned) (e : End) (r : Result Answer Refusal) → KeepsFees e (answered k m e r)
+answered_fees : (k : Signer) (m : ClosingSigned) (e : End) (r : Result FeeAnswer Refusal) → KeepsFees e (answered k m e r)
 answered_fees k m e (Ok a) = after_fees m.fee_satoshis a e.closing
 answered_fees k m e (Err r) = tt
 
-fee_fees : (k : Signer) (m : ClosingSigned) (e : End) (begun right : Bool) (r : Result Answer Refusal)
+fee_fees : (k : Signer) (m : ClosingSigned) (e : End) (begun right : Bool) (r : Result FeeAnswer Refusal)
     → KeepsFees e (cond (not begun) (Err refusal.OutOfPlace)
     (cond right (answered k m e r) (Err refusal.SignatureWrong)))
 fee_fees k m e true true r = answered_fees k m e r

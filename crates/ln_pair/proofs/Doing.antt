@@ -37,7 +37,8 @@ use Rattle.ln_channel.specs.Commands.{confirm_fault, confirmed, ready_message, c
 use Rattle.ln_channel.specs.Commands.{proposes, sign_command_fault, signs_next, script_fault, shut_fault, shuts_down}
 use Rattle.ln_channel.specs.Step.{faulted, line_fault}
 use Rattle.ln_pair.specs.Ends.{Ends, Step, opened, turned, run}
-use Rattle.ln_pair.specs.Promises.{AreKeys, IsTaken, party}
+use Rattle.ln_keys.specs.Partners.{ArePartners}
+use Rattle.ln_pair.specs.Promises.{IsTaken, party}
 use Rattle.ln_pair.specs.Moves.{machine_by, machine_of, moves_asked}
 use Rattle.ln_pair.specs.Doing.{IsReady, HasRoom, IsReadyFor, MayMake, MayDo, Does, BothDo}
 use Rattle.ln_pair.proofs.Walk.{Phase, Idle, Sent, Answered}
@@ -452,7 +453,7 @@ fresh_so a b p h o =
     p.y.dance.log.current h.hold.kept.there.phase o)
 
 pub both_do : (a b : Signer) (s : OpenSpec) (c : Config) (funder fundee : Opened) (steps : List Step) (asked : Command)
-    → AreKeys a b → Opens a b s c funder fundee → BothDo a b asked (run a b steps (opened funder fundee))
+    → ArePartners a b → Opens a b s c funder fundee → BothDo a b asked (run a b steps (opened funder fundee))
 both_do a b s c funder fundee steps asked keys o =
     let p = run a b steps (opened funder fundee) in
     let h = at_end a b s c funder fundee steps keys o in

@@ -11,7 +11,7 @@ use Rattle.ln_msgs.specs.declared.messages.closing.ClosingSigned.{ClosingSigned}
 use Rattle.ln_msgs.specs.declared.refusals.refusal.Refusal.{Refusal}
 use Rattle.ln_msgs.specs.declared.refusals.refusal.Refusal.TheVariants as refusal
 use Rattle.ln_keys.specs.Signer.{Signer}
-use Rattle.ln_close.specs.declared.closing.Answer.{Answer}
+use Rattle.ln_close.specs.declared.closing.FeeAnswer.{FeeAnswer}
 use Rattle.ln_close.specs.declared.closing.Closing.{Closing}
 use Rattle.ln_close.specs.declared.closing.Fees.{Fees}
 use Rattle.ln_close.specs.Closing.{AreOrdered, answer_to}
@@ -24,7 +24,8 @@ use Rattle.ln_channel.specs.Meeting.{Opens}
 use Rattle.ln_channel.specs.End.{End, has_begun}
 use Rattle.ln_channel.specs.Taking.{answered, completed_row, range_of, range_in}
 use Rattle.ln_pair.specs.Ends.{Ends, Step, opened, turned, message_at, run}
-use Rattle.ln_pair.specs.Promises.{AreKeys, AreSent, AreAgreeable, Overlap, TakesFront, AcceptsFront, AllTaken}
+use Rattle.ln_keys.specs.Partners.{ArePartners}
+use Rattle.ln_pair.specs.Promises.{AreSent, AreAgreeable, Overlap, TakesFront, AcceptsFront, AllTaken}
 use Rattle.ln_pair.specs.Promises.{OneFee, is_closing_signed}
 use Rattle.ln_pair.proofs.Agreed.{Deal, Offer, Priced, Refused, IsPlain, same_fee, refuses}
 use Rattle.ln_pair.proofs.Deals.{deal_of, offer_in, offers_in, run_fees}
@@ -78,7 +79,7 @@ is_plain c o s =
 -- ---- no fee is refused
 
 -- what a fee that is refused comes to
-refused_by : (k : Signer) (m : ClosingSigned) (n : End) (begun right : Bool) (r : Result Answer Refusal)
+refused_by : (k : Signer) (m : ClosingSigned) (n : End) (begun right : Bool) (r : Result FeeAnswer Refusal)
     → Says (deal_of n.closing) m.fee_satoshis (range_in m) r
     → completed_row k (cond (not begun) (Err refusal.OutOfPlace)
     (cond right (answered k m n r) (Err refusal.SignatureWrong))) ≡ Err refusal.FeeOutside
@@ -149,7 +150,7 @@ front_taken k p (m ∷ ms) is px py over h (inr r) =
 overlaps_back : (f g : Fees) → Overlap f g → Overlap g f
 overlaps_back f g o = omega (arith, o)
 
-pub all_taken : (a b : Signer) (s : OpenSpec) (c : Config) (funder fundee : Opened) (steps : List Step) → AreKeys a b
+pub all_taken : (a b : Signer) (s : OpenSpec) (c : Config) (funder fundee : Opened) (steps : List Step) → ArePartners a b
     → Opens a b s c funder fundee → AreAgreeable funder.closing.fees fundee.closing.fees
     → AllTaken a b (run a b steps (opened funder fundee))
 all_taken a b s c funder fundee steps keys o g =

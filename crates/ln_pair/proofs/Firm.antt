@@ -6,8 +6,8 @@ use Rattle.std.proofs.lemmas.Bool.{eqb-true, leb-true}
 use Rattle.ln_msgs.specs.declared.refusals.refusal.Refusal.{Refusal}
 use Rattle.ln_msgs.specs.declared.refusals.refusal.Refusal.TheVariants as refusal
 use Rattle.ln_close.specs.declared.closing.Fees.{Fees}
-use Rattle.ln_close.specs.declared.closing.Answer.{Answer}
-use Rattle.ln_close.specs.declared.closing.Answer.TheVariants as answer
+use Rattle.ln_close.specs.declared.closing.FeeAnswer.{FeeAnswer}
+use Rattle.ln_close.specs.declared.closing.FeeAnswer.TheVariants as answer
 use Rattle.ln_close.specs.declared.closing.Closing.{Closing}
 use Rattle.ln_close.specs.Closing.{is_funder, is_fee, nearest, within_both, counter, answer_to}
 use Rattle.ln_pair.proofs.Agreed.{Deal, Fair, dealt, not_none, some_of, some_same}
@@ -34,7 +34,7 @@ firm_first d none h = record {
 -- ---- what an answer says beside what is fair
 
 -- it does nothing at a fee that it has heard or closed at, and proposes another than it takes
-abbrev pub Sure : Deal → ℕ → Result Answer Refusal → Type 0
+abbrev pub Sure : Deal → ℕ → Result FeeAnswer Refusal → Type 0
 Sure d fee (Ok answer.Nothing) = (d.heard ≡ Some fee) ⊎ (d.closed ≡ Some fee)
 Sure d fee (Ok (answer.Close n)) = Unit {0}
 Sure d fee (Ok (answer.EchoAndClose n)) = Unit {0}
@@ -95,14 +95,14 @@ sure c fee range = sure_by c.closed c fee range refl
 -- ---- behind an answer
 
 -- it has heard the fee
-pub heard_dealt : (a : Answer) (d : Deal) (fee : ℕ) → Sure d fee (Ok a) → Firm d → (dealt a fee d).heard ≡ Some fee
+pub heard_dealt : (a : FeeAnswer) (d : Deal) (fee : ℕ) → Sure d fee (Ok a) → Firm d → (dealt a fee d).heard ≡ Some fee
 heard_dealt answer.Nothing d fee (inl k) h = k
 heard_dealt answer.Nothing d fee (inr k) h = h.heard_it fee k
 heard_dealt (answer.Close n) d fee s h = refl
 heard_dealt (answer.EchoAndClose n) d fee s h = refl
 heard_dealt (answer.Propose n) d fee s h = refl
 
-pub firm_dealt : (a : Answer) (d : Deal) (fee : ℕ) (rg : Option (ℕ × ℕ)) → Fair d fee rg a → Sure d fee (Ok a) → Firm d
+pub firm_dealt : (a : FeeAnswer) (d : Deal) (fee : ℕ) (rg : Option (ℕ × ℕ)) → Fair d fee rg a → Sure d fee (Ok a) → Firm d
     → Firm (dealt a fee d)
 firm_dealt answer.Nothing d fee rg f s h = h
 firm_dealt (answer.Close n) d fee rg f s h = record {

@@ -12,8 +12,8 @@ use Rattle.ln_msgs.specs.declared.refusals.refusal.Refusal.TheVariants as refusa
 use Rattle.ln_keys.specs.declared.role.Role.TheVariants.{Funder, Fundee}
 use Rattle.ln_keys.specs.Signer.{Signer}
 use Rattle.ln_dance.specs.Resume.{resume_fault}
-use Rattle.ln_close.specs.declared.closing.Answer.{Answer}
-use Rattle.ln_close.specs.declared.closing.Answer.TheVariants as answer
+use Rattle.ln_close.specs.declared.closing.FeeAnswer.{FeeAnswer}
+use Rattle.ln_close.specs.declared.closing.FeeAnswer.TheVariants as answer
 use Rattle.ln_close.specs.Closing.{is_funder, may_start, after_shut, answer_to}
 use Rattle.ln_channel.specs.declared.command.Command.{Command}
 use Rattle.ln_channel.specs.declared.command.Command.TheVariants as command
@@ -203,7 +203,7 @@ quiet_it l d e old q last h = record {
   their_last = h.their_last;
 }
 
-answered_by : (k : Signer) (a : Answer) (m : ClosingSigned) (p : Ends)
+answered_by : (k : Signer) (a : FeeAnswer) (m : ClosingSigned) (p : Ends)
     → ((p.y_line ≡ Down → ⊥) → hears p.y.closing.peer_fee (offers_in p.to_y) ≡ p.x.closing.own_fee)
     → Answered p.y_line (dealt a m.fee_satoshis (deal_of p.x.closing)) (deal_of p.y.closing) (offers_in p.to_y)
     (offers_in p.to_x)
@@ -225,7 +225,7 @@ answered_by k (answer.Propose n) m p last h =
     (offers_in p.to_x) refl refl h
 
 -- an end that has sent a fee has sent one behind an answer too
-grows : (a : Answer) (d : Deal) (fee : ℕ) → is_some d.bid ≡ true → is_some (dealt a fee d).bid ≡ true
+grows : (a : FeeAnswer) (d : Deal) (fee : ℕ) → is_some d.bid ≡ true → is_some (dealt a fee d).bid ≡ true
 grows answer.Nothing d fee h = h
 grows (answer.Close n) d fee h = h
 grows (answer.EchoAndClose n) d fee h = refl
@@ -242,7 +242,7 @@ offered_bid d e os o qs (inr a) = by a.offered.1
     by (inl k) = k.1
     by (inr k) = ap is_some k.0
 
-dealt_by : (a : Answer) (m : ClosingSigned) (ly : Line) (d e : Deal) (os qs : List Offer)
+dealt_by : (a : FeeAnswer) (m : ClosingSigned) (ly : Line) (d e : Deal) (os qs : List Offer)
     → Fair d m.fee_satoshis (range_in m) a → Sure d m.fee_satoshis (Ok a)
     → Priced d e os (record { fee = m.fee_satoshis; range = range_in m } ∷ qs)
     → Hearing Met ly d e os (record { fee = m.fee_satoshis; range = range_in m } ∷ qs)
@@ -258,7 +258,7 @@ dealt_by a m ly d e os qs f s p h =
     }
 
 -- p, behind the message
-fee_taken : (k : Signer) (m : ClosingSigned) (p : Ends) (begun right : Bool) (r : Result Answer Refusal)
+fee_taken : (k : Signer) (m : ClosingSigned) (p : Ends) (begun right : Bool) (r : Result FeeAnswer Refusal)
     → Says (deal_of p.x.closing) m.fee_satoshis (range_in m) r → Sure (deal_of p.x.closing) m.fee_satoshis r
     → IsTaken (completed_row k (cond (not begun) (Err refusal.OutOfPlace)
     (cond right (answered k m p.x r) (Err refusal.SignatureWrong))))

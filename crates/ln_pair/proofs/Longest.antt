@@ -30,8 +30,8 @@ use Rattle.ln_log.proofs.Kept.{part_within}
 use Rattle.ln_log.proofs.Removing.{numbered-take}
 use Rattle.ln_dance.specs.Dance.{Dancer}
 use Rattle.ln_dance.specs.Messages.{update_message}
-use Rattle.ln_close.specs.declared.closing.Answer.{Answer}
-use Rattle.ln_close.specs.declared.closing.Answer.TheVariants as answer
+use Rattle.ln_close.specs.declared.closing.FeeAnswer.{FeeAnswer}
+use Rattle.ln_close.specs.declared.closing.FeeAnswer.TheVariants as answer
 use Rattle.ln_close.specs.Closing.{after_shut, may_start, answer_to}
 use Rattle.ln_hooks.specs.Amount.{greatest_amount}
 use Rattle.ln_channel.specs.declared.command.Command.{Command}
@@ -57,7 +57,7 @@ use Rattle.ln_channel.specs.State.{is_down}
 use Rattle.ln_channel.specs.Step.{faulted, line_fault}
 use Rattle.ln_pair.specs.Ends.{Ends, turned, opened, message_at, answers, delivers, notes, Act, Deliver, Give, Note}
 use Rattle.ln_pair.specs.Ends.{Lose, Cut, Save, still_come, acts, connects, Step, By, Connect, happens, run}
-use Rattle.ln_pair.specs.Promises.{AreKeys}
+use Rattle.ln_keys.specs.Partners.{ArePartners}
 use Rattle.ln_pair.specs.Longest.{IsLongest, BothAreLongest}
 use Rattle.ln_pair.proofs.Sides.{Notice, Update, Sign, Revoke, Ready, Shutdown, Close, Again}
 use Rattle.ln_pair.proofs.Images.{messages_of, side_of}
@@ -258,7 +258,7 @@ was_none : {A : Type 0} (f : Option Refusal) (x y : A) → unless f x ≡ Ok y �
 was_none None x y e = refl
 was_none (Some z) x y e = absurd (cc)
 
-module _ (a b : Signer) (keys : AreKeys a b) (channel : List ℕ) (ly : Line) (x y : End)
+module _ (a b : Signer) (keys : ArePartners a b) (channel : List ℕ) (ly : Line) (x y : End)
     (said_x said_y : List Message) where
   -- it takes the peer's update by its log's rules too
   log_takes : (u : Change) (ns to_y : List Notice) → Hold a b channel Met ly x y (Update u ∷ ns) to_y said_x said_y
@@ -287,7 +287,7 @@ module _ (a b : Signer) (keys : AreKeys a b) (channel : List ℕ) (ly : Line) (x
   turn_settling (Close m) ns to_y other named s h = absurd (cc)
   turn_settling (Again m) ns to_y other named s h = s
 
-fee_settling : (k : Signer) (x : End) (m : ClosingSigned) (ans : Answer) → Settling x
+fee_settling : (k : Signer) (x : End) (m : ClosingSigned) (ans : FeeAnswer) → Settling x
     → Settling (answering k ans (answered_end m ans x)).end
 fee_settling k x m answer.Nothing s = s
 fee_settling k x m (answer.Propose fee) s = s
@@ -306,7 +306,7 @@ record Stays (p q : Ends) : Type 0 where
   x : Settling q.x
   other : q.y ≡ p.y
 
-module _ (a b : Signer) (keys : AreKeys a b) where
+module _ (a b : Signer) (keys : ArePartners a b) where
   met : (p : Ends) → p.x_line ≡ Met → Named p.x → Settling p.x → (channel : List ℕ) (n : Notice)
       (ns to_y : List Notice) → is_close n ≡ false
       → Hold a b channel Met p.y_line p.x p.y (n ∷ ns) to_y p.said_x p.said_y
@@ -326,7 +326,7 @@ module _ (a b : Signer) (keys : AreKeys a b) where
       subst (λ res. Stays p (answers res q)) (sym (meeting_row a b keys p is channel m ns to_y h))
       (record { x = settled_settling p.x s; other = refl })
 
-  fee_by : (begun right : Bool) (res : Result Answer Refusal) (p : Ends) → Settling p.x
+  fee_by : (begun right : Bool) (res : Result FeeAnswer Refusal) (p : Ends) → Settling p.x
       → (channel : List ℕ) (m : ClosingSigned) (ns : List Notice)
       → Stays p (answers (completed_row a (cond (not begun) (Err refusal.OutOfPlace)
       (cond right (answered a m p.x res) (Err refusal.SignatureWrong)))) (record p { to_x = messages_of channel ns }))
@@ -453,7 +453,7 @@ record Both (p : Ends) : Type 0 where
 swapped : (p : Ends) → Both p → Both (turned p)
 swapped p k = record { x = k.y; y = k.x; x_named = k.y_named; y_named = k.x_named }
 
-acted : (a b : Signer) → AreKeys a b → (act : Act) (p : Ends) → Both p → Holds a b p → Both (acts a act p)
+acted : (a b : Signer) → ArePartners a b → (act : Act) (p : Ends) → Both p → Holds a b p → Both (acts a act p)
 acted a b keys act p k h =
     let m = acts_settling a b keys act p k.x_named k.x h in
     let t = acts_told a b keys Funder p.x.dance.log.opening act p h in
@@ -464,7 +464,7 @@ acted a b keys act p k h =
       y_named = subst Named (sym m.other) k.y_named;
     }
 
-stepped : (a b : Signer) → AreKeys a b → (s : Step) (p : Ends) → Both p → Holds a b p → Both (happens a b s p)
+stepped : (a b : Signer) → ArePartners a b → (s : Step) (p : Ends) → Both p → Holds a b p → Both (happens a b s p)
 stepped a b keys (By Funder act) p k h = acted a b keys act p k h
 stepped a b keys (By Fundee act) p k h = swapped (acts b act (turned p))
     (acted b a (flipped_keys a b keys) act (turned p) (swapped p k) (flipped a b p h))
@@ -477,7 +477,7 @@ stepped a b keys Connect p k h = by p.x_line p.y_line
     by Awaiting l = k
     by Met l = k
 
-all_stepped : (a b : Signer) → AreKeys a b → (ss : List Step) (p : Ends) → Both p → Holds a b p → Both (run a b ss p)
+all_stepped : (a b : Signer) → ArePartners a b → (ss : List Step) (p : Ends) → Both p → Holds a b p → Both (run a b ss p)
 all_stepped a b keys [] p k h = k
 all_stepped a b keys (s ∷ ss) p k h =
     all_stepped a b keys ss (happens a b s p) (stepped a b keys s p k h) (ran a b keys (s ∷ []) p h)
@@ -562,7 +562,7 @@ longest e named s =
     }
 
 pub both_longest : (a b : Signer) (s : OpenSpec) (c : Config) (funder fundee : Opened) (steps : List Step)
-    → AreKeys a b → Opens a b s c funder fundee → BothAreLongest (run a b steps (opened funder fundee))
+    → ArePartners a b → Opens a b s c funder fundee → BothAreLongest (run a b steps (opened funder fundee))
 both_longest a b s c funder fundee steps keys o =
     let p = run a b steps (opened funder fundee) in
     let k = all_stepped a b keys steps (opened funder fundee) (begun a b s c funder fundee o)

@@ -20,7 +20,7 @@ use Rattle.ln_log.specs.Machine.{Machine, Move, Propose, Drop, IsRun, fresh, aft
 use Rattle.ln_log.proofs.Moves.{party_dropped}
 use Rattle.ln_dance.specs.Dance.{signed_message}
 use Rattle.ln_dance.specs.Messages.{update_message}
-use Rattle.ln_close.specs.declared.closing.Answer.{Answer}
+use Rattle.ln_close.specs.declared.closing.FeeAnswer.{FeeAnswer}
 use Rattle.ln_close.specs.Closing.{answer_to}
 use Rattle.ln_channel.specs.declared.command.Command.{Command}
 use Rattle.ln_channel.specs.declared.command.Command.TheVariants as command
@@ -50,7 +50,8 @@ use Rattle.ln_channel.specs.Step.{faulted, line_fault}
 use Rattle.ln_pair.specs.Ends.{Ends, turned, message_at, becomes, answers, delivers, still_come, Act, Deliver, Give}
 use Rattle.ln_pair.specs.Ends.{Note, Lose, Cut, Save, acts}
 use Rattle.ln_pair.specs.Ends.{opened, connects, Step, By, Connect, happens, run}
-use Rattle.ln_pair.specs.Promises.{AreKeys, party}
+use Rattle.ln_keys.specs.Partners.{ArePartners}
+use Rattle.ln_pair.specs.Promises.{party}
 use Rattle.ln_pair.specs.Setup.{setup_of, AreSetUp}
 use Rattle.ln_pair.specs.Moves.{machine_of, moves_asked, moves_of_command, moves_of_message, moves_delivered}
 use Rattle.ln_pair.specs.Moves.{moves_of_act, moves_of, all_moves, history, after_all}
@@ -73,7 +74,7 @@ pub record Moved (r : Role) (o : Opening) (ms : List Move) (p q : Ends) : Type 0
   pub stands : Stands r o q.x
   pub other : q.y ≡ p.y
 
-module _ (a b : Signer) (keys : AreKeys a b) (r : Role) (o : Opening) where
+module _ (a b : Signer) (keys : ArePartners a b) (r : Role) (o : Opening) where
   rests : (p q : Ends) → q.x ≡ p.x → q.y ≡ p.y → Stands r o p.x → Moved r o [] p q
   rests p q ex ey s = record {
     run = ap (λ (e : End). Some (made r o (party e) (party q.y))) ex
@@ -106,7 +107,7 @@ module _ (a b : Signer) (keys : AreKeys a b) (r : Role) (o : Opening) where
       subst (λ res. Moved r o (moves_of_message r (message.ChannelReestablish m) p.x res) p (answers res q))
       (sym (meeting_row a b keys p is channel m ns to_y h)) (record { run = t.0; stands = t.1; other = refl })
 
-  fee_by : (begun right : Bool) (res : Result Answer Refusal) (p : Ends) → Stands r o p.x
+  fee_by : (begun right : Bool) (res : Result FeeAnswer Refusal) (p : Ends) → Stands r o p.x
       → (channel : List ℕ) (m : ClosingSigned) (ns to_y : List Notice) → has_begun p.x ≡ begun
       → answer_to p.x.closing m.fee_satoshis (range_in m) ≡ res → has_bid (side_of b p.y) ≡ true
       → Hold a b channel Met p.y_line p.x p.y (Close m ∷ ns) to_y p.said_x p.said_y
@@ -308,7 +309,7 @@ connected_by a b Down Met o p k = (refl, k)
 connected_by a b Awaiting l o p k = (refl, k)
 connected_by a b Met l o p k = (refl, k)
 
-pub happens_so : (a b : Signer) → AreKeys a b → (s : Step) (o : Opening) (p : Ends) → Keeps o p → Holds a b p
+pub happens_so : (a b : Signer) → ArePartners a b → (s : Step) (o : Opening) (p : Ends) → Keeps o p → Holds a b p
     → Runs o (moves_of a b s p) p (happens a b s p) × Keeps o (happens a b s p)
 happens_so a b keys (By Funder act) o p k h =
     let m = acts_so a b keys Funder o act p k.x h in
@@ -318,7 +319,7 @@ happens_so a b keys (By Fundee act) o p k h =
     (m.run, record { x = subst (Stands Funder o) (sym m.other) k.x; y = m.stands })
 happens_so a b keys Connect o p k h = connected_by a b p.x_line p.y_line o p k
 
-runs_so : (a b : Signer) → AreKeys a b → (ss : List Step) (o : Opening) (p : Ends) → Keeps o p → Holds a b p
+runs_so : (a b : Signer) → ArePartners a b → (ss : List Step) (o : Opening) (p : Ends) → Keeps o p → Holds a b p
     → Runs o (all_moves a b ss p) p (run a b ss p) × Keeps o (run a b ss p)
 runs_so a b keys [] o p k h = (refl, k)
 runs_so a b keys (s ∷ ss) o p k h =
@@ -411,7 +412,7 @@ starts a b s c funder fundee o =
       };
     }
 
-pub may_be_made : (a b : Signer) (s : OpenSpec) (c : Config) (funder fundee : Opened) (steps : List Step) → AreKeys a b
+pub may_be_made : (a b : Signer) (s : OpenSpec) (c : Config) (funder fundee : Opened) (steps : List Step) → ArePartners a b
     → Opens a b s c funder fundee
     → IsRun (history a b funder fundee steps) None (Some (machine_of (run a b steps (opened funder fundee))))
 may_be_made a b s c funder fundee steps keys o =
@@ -432,21 +433,21 @@ pub run_after : (ms : List Move) (old new : Option Machine) → IsRun ms old new
 run_after [] old new e = sym e
 run_after (move ∷ ms) old new e = run_after ms (after move old) new e.1
 
-pub lead_there : (a b : Signer) (s : OpenSpec) (c : Config) (funder fundee : Opened) (steps : List Step) → AreKeys a b
+pub lead_there : (a b : Signer) (s : OpenSpec) (c : Config) (funder fundee : Opened) (steps : List Step) → ArePartners a b
     → Opens a b s c funder fundee
     → after_all (history a b funder fundee steps) None ≡ Some (machine_of (run a b steps (opened funder fundee)))
 lead_there a b s c funder fundee steps keys o =
     run_after (history a b funder fundee steps) None (Some (machine_of (run a b steps (opened funder fundee))))
     (may_be_made a b s c funder fundee steps keys o)
 
-pub keep_roles : (a b : Signer) (s : OpenSpec) (c : Config) (funder fundee : Opened) (steps : List Step) → AreKeys a b
+pub keep_roles : (a b : Signer) (s : OpenSpec) (c : Config) (funder fundee : Opened) (steps : List Step) → ArePartners a b
     → Opens a b s c funder fundee → Keeps funder.dance.log.opening (run a b steps (opened funder fundee))
 keep_roles a b s c funder fundee steps keys o =
     let begun = starts a b s c funder fundee o in
     (runs_so a b keys steps funder.dance.log.opening (opened funder fundee) begun.keeps
     (opened_holds a b s c funder fundee o)).1
 
-pub set_up_so : (a b : Signer) (s : OpenSpec) (c : Config) (funder fundee : Opened) (steps : List Step) → AreKeys a b
+pub set_up_so : (a b : Signer) (s : OpenSpec) (c : Config) (funder fundee : Opened) (steps : List Step) → ArePartners a b
     → Opens a b s c funder fundee
     → AreSetUp (setup_of funder fundee) (run a b steps (opened funder fundee)).x
     (run a b steps (opened funder fundee)).y

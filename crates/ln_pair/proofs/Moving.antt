@@ -24,8 +24,8 @@ use Rattle.ln_log.proofs.Moves.{party_proposed, party_received, party_signed, pa
 use Rattle.ln_log.proofs.Moves.{shut_so, may}
 use Rattle.ln_log.proofs.Signs.{exactly}
 use Rattle.ln_dance.specs.Dance.{Dancer, with_next_point, sign_fault, owes}
-use Rattle.ln_close.specs.declared.closing.Answer.{Answer}
-use Rattle.ln_close.specs.declared.closing.Answer.TheVariants as answer
+use Rattle.ln_close.specs.declared.closing.FeeAnswer.{FeeAnswer}
+use Rattle.ln_close.specs.declared.closing.FeeAnswer.TheVariants as answer
 use Rattle.ln_close.specs.Closing.{after_shut, may_start, answer_to, behind_close}
 use Rattle.ln_channel.specs.declared.unsaved.Line.{Line}
 use Rattle.ln_channel.specs.declared.unsaved.Line.TheVariants.{Met}
@@ -34,7 +34,8 @@ use Rattle.ln_channel.specs.End.{answers_shutdown, begins, settled}
 use Rattle.ln_channel.specs.Taking.{takes, takes_ready, shuts_by_peer, answering, answered_end, range_in}
 use Rattle.ln_channel.specs.Commands.{closed_fault, own_fault, propose_fault, proposes, sign_command_fault, signs_next}
 use Rattle.ln_channel.specs.Commands.{shut_fault, shuts_down, script_fault}
-use Rattle.ln_pair.specs.Promises.{AreKeys, party}
+use Rattle.ln_keys.specs.Partners.{ArePartners}
+use Rattle.ln_pair.specs.Promises.{party}
 use Rattle.ln_pair.specs.Moves.{moves_taken, closes, shuts}
 use Rattle.ln_pair.proofs.Sides.{Notice, Update, Sign as Signs, Revoke, Ready, Shutdown, Close as Fee, Again}
 use Rattle.ln_pair.proofs.Walk.{Phase, Idle, Sent, Answered, Flows, IsWithin}
@@ -191,7 +192,7 @@ ready_by r o false x n k y is e l = record {
   opening = ap (λ (q : End). q.dance.log.opening) is ∙ ap (λ (q : Log). q.opening) l;
 }
 
-module _ (a b : Signer) (keys : AreKeys a b) (r : Role) (o : Opening) (channel : List ℕ) (ly : Line) (x y : End)
+module _ (a b : Signer) (keys : ArePartners a b) (r : Role) (o : Opening) (channel : List ℕ) (ly : Line) (x y : End)
     (said_x said_y : List Message) where
   pub tells : (n : Notice) (ns to_y : List Notice) → is_close n ≡ false
       → Hold a b channel Met ly x y (n ∷ ns) to_y said_x said_y
@@ -356,18 +357,18 @@ may_close k j lx ly x y ms ns f g bx by none =
       open_still = none;
     }
 
-open_by : (same : Bool) (ans : Answer) → (ans ≡ answer.Nothing → ⊥)
+open_by : (same : Bool) (ans : FeeAnswer) → (ans ≡ answer.Nothing → ⊥)
     → cond same (Ok answer.Nothing) (Err refusal.FeeOutside) ≡ Ok ans → ⊥
 open_by true ans other e = other (cc)
 open_by false ans other e = absurd (cc)
 
-pub still_open : (c : Option ℕ) (fee : ℕ) (rest : Result Answer Refusal) (ans : Answer)
+pub still_open : (c : Option ℕ) (fee : ℕ) (rest : Result FeeAnswer Refusal) (ans : FeeAnswer)
     → (ans ≡ answer.Nothing → ⊥) → behind_close c fee rest ≡ Ok ans → c ≡ None
 still_open None fee rest ans other e = refl
 still_open (Some agreed) fee rest ans other e = absurd (open_by (agreed == fee) ans other e)
 
 -- by the answer to a fee
-pub fee_told : (k : Signer) (r : Role) (o : Opening) (m : ClosingSigned) (ans : Answer) (x : End) (y : Party)
+pub fee_told : (k : Signer) (r : Role) (o : Opening) (m : ClosingSigned) (ans : FeeAnswer) (x : End) (y : Party)
     → Stands r o x → log.IsWithin x.dance.log → answer_to x.closing m.fee_satoshis (range_in m) ≡ Ok ans
     → (x.closing.closed ≡ None → MayClose (party x) y)
     → Run r o y ([] ++ (closes r x.closing.closed

@@ -12,8 +12,8 @@ use Rattle.ln_msgs.specs.declared.refusals.refusal.Refusal.TheVariants as refusa
 use Rattle.ln_keys.specs.declared.role.Role.TheVariants.{Funder, Fundee}
 use Rattle.ln_keys.specs.Signer.{Signer}
 use Rattle.ln_dance.specs.Resume.{resume_fault}
-use Rattle.ln_close.specs.declared.closing.Answer.{Answer}
-use Rattle.ln_close.specs.declared.closing.Answer.TheVariants as answer
+use Rattle.ln_close.specs.declared.closing.FeeAnswer.{FeeAnswer}
+use Rattle.ln_close.specs.declared.closing.FeeAnswer.TheVariants as answer
 use Rattle.ln_close.specs.declared.closing.Closing.{Closing}
 use Rattle.ln_close.specs.Closing.{is_funder, may_start, after_shut, answer_to}
 use Rattle.ln_close.specs.Closing as closing
@@ -178,7 +178,7 @@ aside_completed k (Err r) p a h = h
 
 -- ---- a closing fee is taken
 
-answered_by : (k : Signer) (a : Answer) (m : ClosingSigned) (p : Ends)
+answered_by : (k : Signer) (a : FeeAnswer) (m : ClosingSigned) (p : Ends)
     → Priced (dealt a m.fee_satoshis (deal_of p.x.closing)) (deal_of p.y.closing) (offers_in p.to_y) (offers_in p.to_x)
     → At (becomes (answering k a (answered_end m a p.x)) p)
 answered_by k answer.Nothing m p h =
@@ -196,7 +196,7 @@ answered_by k (answer.Propose n) m p h =
     (offers_in p.to_x) refl refl h
 
 -- p, behind the message
-fee_taken : (k : Signer) (m : ClosingSigned) (p : Ends) (begun right : Bool) (r : Result Answer Refusal)
+fee_taken : (k : Signer) (m : ClosingSigned) (p : Ends) (begun right : Bool) (r : Result FeeAnswer Refusal)
     → Says (deal_of p.x.closing) m.fee_satoshis (range_in m) r → Priced (deal_of p.x.closing) (deal_of p.y.closing)
     (offers_in p.to_y) (record { fee = m.fee_satoshis; range = range_in m } ∷ offers_in p.to_x)
     → At (answers (completed_row k (cond (not begun) (Err refusal.OutOfPlace)

@@ -18,7 +18,8 @@ use Rattle.ln_channel.specs.declared.opening.Opened.{Opened}
 use Rattle.ln_channel.specs.Meeting.{Opens}
 use Rattle.ln_channel.specs.End.{End, completed}
 use Rattle.ln_pair.specs.Ends.{Ends, Step, opened, turned, run}
-use Rattle.ln_pair.specs.Promises.{AreKeys, AreSent, party, Headline, TakesFront, NoneRefused, HoldsAll, Agrees}
+use Rattle.ln_keys.specs.Partners.{ArePartners}
+use Rattle.ln_pair.specs.Promises.{AreSent, party, Headline, TakesFront, NoneRefused, HoldsAll, Agrees}
 use Rattle.ln_pair.specs.Promises.{NoneAddsLate, HasTakenMarks, MarksAgree}
 use Rattle.ln_channel.specs.declared.unsaved.Line.{Line}
 use Rattle.ln_channel.specs.declared.unsaved.Line.TheVariants.{Down, Awaiting, Met}
@@ -44,7 +45,7 @@ use Rattle.ln_channel.specs.Taking.{taken}
 use Rattle.std.proofs.Common.{inl, inr}
 
 -- at every end of a run
-pub at_end : (a b : Signer) (s : OpenSpec) (c : Config) (funder fundee : Opened) (steps : List Step) → AreKeys a b
+pub at_end : (a b : Signer) (s : OpenSpec) (c : Config) (funder fundee : Opened) (steps : List Step) → ArePartners a b
     → Opens a b s c funder fundee
     → Holds a b (run a b steps (opened funder fundee))
 at_end a b s c funder fundee steps keys o =
@@ -94,7 +95,7 @@ headline_of a b p h = (
   follows b a p.y_line p.x_line p.y p.x h.to_x h.to_y h.hold.kept.back h.hold.kept.there,
 )
 
-pub headline : (a b : Signer) (s : OpenSpec) (c : Config) (funder fundee : Opened) (steps : List Step) → AreKeys a b
+pub headline : (a b : Signer) (s : OpenSpec) (c : Config) (funder fundee : Opened) (steps : List Step) → ArePartners a b
     → Opens a b s c funder fundee
     → Headline (run a b steps (opened funder fundee))
 headline a b s c funder fundee steps keys o =
@@ -107,7 +108,7 @@ fee_front : (a : Signer) (m : ClosingSigned) (ms : List Message) (e : End)
 fee_front a m ms e (inl t) = inl t
 fee_front a m ms e (inr r) = inr (refl, r)
 
-front_by : (a b : Signer) → AreKeys a b → (l : Line) (p : Ends) → p.x_line ≡ l
+front_by : (a b : Signer) → ArePartners a b → (l : Line) (p : Ends) → p.x_line ≡ l
     → (channel : List ℕ) (ns to_y : List Notice) → AreSent p.y.closing.fees
     → Hold a b channel l p.y_line p.x p.y ns to_y p.said_x p.said_y
     → TakesFront a p.x_line (messages_of channel ns) p.x
@@ -138,12 +139,12 @@ front_by a b keys Met p is channel (Close m ∷ ns) to_y sent h =
 front_by a b keys Met p is channel (Again m ∷ ns) to_y sent h =
     inl (completed a (turn_of a (Again m) p.x), met_row a b keys p is channel (Again m) ns to_y refl h)
 
-front : (a b : Signer) → AreKeys a b → (p : Ends) → AreSent p.y.closing.fees → Holds a b p
+front : (a b : Signer) → ArePartners a b → (p : Ends) → AreSent p.y.closing.fees → Holds a b p
     → TakesFront a p.x_line p.to_x p.x
 front a b keys p sent h = let is = h.in_x in subst (λ ms. TakesFront a p.x_line ms p.x) (sym is)
     (front_by a b keys p.x_line p refl h.channel h.to_x h.to_y sent h.hold)
 
-pub none_refused : (a b : Signer) (s : OpenSpec) (c : Config) (funder fundee : Opened) (steps : List Step) → AreKeys a b
+pub none_refused : (a b : Signer) (s : OpenSpec) (c : Config) (funder fundee : Opened) (steps : List Step) → ArePartners a b
     → Opens a b s c funder fundee → AreSent funder.closing.fees → AreSent fundee.closing.fees
     → NoneRefused a b (run a b steps (opened funder fundee))
 none_refused a b s c funder fundee steps keys o fx fy =
@@ -251,7 +252,7 @@ module _ (a b : Signer) (x y : End) where
       subst (λ l. Flows Met l (side_of a x) (side_of b y) to_y) ey f1 in
       subst (λ ms. Flows Met Met (side_of a x) (side_of b y) ms) dy f2
 
-pub agrees : (a b : Signer) (s : OpenSpec) (c : Config) (funder fundee : Opened) (steps : List Step) → AreKeys a b
+pub agrees : (a b : Signer) (s : OpenSpec) (c : Config) (funder fundee : Opened) (steps : List Step) → ArePartners a b
     → Opens a b s c funder fundee
     → Agrees (run a b steps (opened funder fundee))
 agrees a b s c funder fundee steps keys o rest =
@@ -278,7 +279,7 @@ taken_marks a b x y lx ly ms ex ey none t =
     subst (λ ns. Speech Met Met (side_of a x) (side_of b y) ns) none both in
     record { shutdown = last.1; ready = λ e. last.0 (ap is_some e) }
 
-pub marks_agree : (a b : Signer) (s : OpenSpec) (c : Config) (funder fundee : Opened) (steps : List Step) → AreKeys a b
+pub marks_agree : (a b : Signer) (s : OpenSpec) (c : Config) (funder fundee : Opened) (steps : List Step) → ArePartners a b
     → Opens a b s c funder fundee → MarksAgree (run a b steps (opened funder fundee))
 marks_agree a b s c funder fundee steps keys o quiet =
     let p = run a b steps (opened funder fundee) in
@@ -292,7 +293,7 @@ marks_agree a b s c funder fundee steps keys o quiet =
 -- ---- no add behind the own shutdown
 
 pub none_adds_late : (a b : Signer) (s : OpenSpec) (c : Config) (funder fundee : Opened) (steps : List Step)
-    → AreKeys a b → Opens a b s c funder fundee
+    → ArePartners a b → Opens a b s c funder fundee
     → NoneAddsLate (run a b steps (opened funder fundee))
 none_adds_late a b s c funder fundee steps keys o =
     let h = at_end a b s c funder fundee steps keys o in

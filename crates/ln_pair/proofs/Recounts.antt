@@ -12,8 +12,8 @@ use Rattle.ln_keys.specs.declared.role.Role.TheVariants.{Funder, Fundee}
 use Rattle.ln_keys.specs.Signer.{Signer}
 use Rattle.ln_log.specs.declared.opening.Opening.{Opening}
 use Rattle.ln_log.specs.Machine.{Machine, Move, Drop}
-use Rattle.ln_close.specs.declared.closing.Answer.{Answer}
-use Rattle.ln_close.specs.declared.closing.Answer.TheVariants as answer
+use Rattle.ln_close.specs.declared.closing.FeeAnswer.{FeeAnswer}
+use Rattle.ln_close.specs.declared.closing.FeeAnswer.TheVariants as answer
 use Rattle.ln_close.specs.Closing.{answer_to}
 use Rattle.ln_channel.specs.declared.command.Command.{Command}
 use Rattle.ln_channel.specs.declared.command.Command.TheVariants as command
@@ -33,7 +33,8 @@ use Rattle.ln_channel.specs.Step.{faulted, line_fault}
 use Rattle.ln_pair.specs.Ends.{Ends, turned, message_at, answers, delivers, ledger_behind, notes, Act, Deliver, Give}
 use Rattle.ln_pair.specs.Ends.{Note, Lose, Cut, Save, still_come, acts}
 use Rattle.ln_pair.specs.Ends.{opened, connects, Step, By, Connect, happens, run}
-use Rattle.ln_pair.specs.Promises.{AreKeys, party}
+use Rattle.ln_keys.specs.Partners.{ArePartners}
+use Rattle.ln_pair.specs.Promises.{party}
 use Rattle.ln_pair.specs.Moves.{moves_asked, moves_of_command, moves_of_message, moves_delivered}
 use Rattle.ln_pair.specs.Moves.{moves_of_act, moves_of, all_moves, history}
 use Rattle.ln_pair.proofs.Sides.{Notice, Update, Sign, Revoke, Ready, Shutdown, Close, Again}
@@ -153,7 +154,7 @@ ready_ledger : (b : Bool) (x k n : End) → n ≡ cond b x k → k.ledger ≡ x.
 ready_ledger true x k n is e = ap (λ (q : End). q.ledger) is
 ready_ledger false x k n is e = ap (λ (q : End). q.ledger) is ∙ e
 
-module _ (a b : Signer) (keys : AreKeys a b) (r : Role) (o : Opening) (channel : List ℕ) (ly : Line) (x y : End)
+module _ (a b : Signer) (keys : ArePartners a b) (r : Role) (o : Opening) (channel : List ℕ) (ly : Line) (x y : End)
     (said_x said_y : List Message) where
   abbrev tail : Notice → List Move
   tail n = closes r x.closing.closed (settled (turn_of a n x).end).closing.closed
@@ -280,7 +281,7 @@ module _ (a b : Signer) (keys : AreKeys a b) (r : Role) (o : Opening) (channel :
 
 -- ---- a closing fee
 
-closed_told : (k : Signer) (r : Role) (o : Opening) (fee : ℕ) (ans : Answer) (x t : End) (y : Party) (os : List Output)
+closed_told : (k : Signer) (r : Role) (o : Opening) (fee : ℕ) (ans : FeeAnswer) (x t : End) (y : Party) (os : List Output)
     → x.closing.closed ≡ None → t.closing.closed ≡ Some fee → t.dance ≡ x.dance
     → t.ledger ≡ entered (ref.Close ∷ []) x.ledger
     → events_in os ≡ numbered (next_event x.ledger) (event.Closed fee ∷ [])
@@ -313,7 +314,7 @@ closed_told k r o fee ans x t y os none is held entry told =
     (subst (λ c. All (IsNamed n.dance.log.current.own n.dance.log.acknowledged.peer c) (ref.Close ∷ [])) (sym now)
     (tt, tt)) (tt, tt) named)
 
-fee_tells : (k : Signer) (r : Role) (o : Opening) (m : ClosingSigned) (ans : Answer) (x : End) (y : Party)
+fee_tells : (k : Signer) (r : Role) (o : Opening) (m : ClosingSigned) (ans : FeeAnswer) (x : End) (y : Party)
     → answer_to x.closing m.fee_satoshis (range_in m) ≡ Ok ans
     → Tells r o x (settled (answering k ans (answered_end m ans x)).end) y ([] ++ (closes r x.closing.closed
     (settled (answering k ans (answered_end m ans x)).end).closing.closed
@@ -390,7 +391,7 @@ turn_none k (Shutdown m) e = refl
 turn_none k (Close m) e = refl
 turn_none k (Again m) e = refl
 
-answer_none : (k : Signer) (ans : Answer) (e : End) → events_in (answering k ans e).handed.sent ≡ []
+answer_none : (k : Signer) (ans : FeeAnswer) (e : End) → events_in (answering k ans e).handed.sent ≡ []
 answer_none k answer.Nothing e = refl
 answer_none k (answer.Close fee) e = refl
 answer_none k (answer.EchoAndClose fee) e = refl
@@ -429,7 +430,7 @@ asked_none q r (command.Shutdown script) e m = refl
 asked_none q r (command.Decide event mark) e m = refl
 asked_none q r (command.Forget id) e m = refl
 
-module _ (a b : Signer) (keys : AreKeys a b) (r : Role) (o : Opening) where
+module _ (a b : Signer) (keys : ArePartners a b) (r : Role) (o : Opening) where
   rests : (p q : Ends) → q.x ≡ p.x → Tells r o p.x q.x (party p.y) [] []
   rests p q e = silent r o p.x q.x (party p.y) [] [] refl (ap (λ (z : End). z.ledger) e) (λ z. refl)
       (λ w. subst (Keep p.x) (sym e) (keep_same p.x))
@@ -467,7 +468,7 @@ module _ (a b : Signer) (keys : AreKeys a b) (r : Role) (o : Opening) where
       (settled_closed r o (party p.y) p.x))
       (λ w. keep_settled r o (party p.y) p.x p.x (keep_same p.x))))
 
-  fee_by : (begun right : Bool) (res : Result Answer Refusal) (p : Ends) (channel : List ℕ) (m : ClosingSigned)
+  fee_by : (begun right : Bool) (res : Result FeeAnswer Refusal) (p : Ends) (channel : List ℕ) (m : ClosingSigned)
       (ns : List Notice) → answer_to p.x.closing m.fee_satoshis (range_in m) ≡ res
       → (row : Result Turn Refusal) → row ≡ completed_row a (cond (not begun) (Err refusal.OutOfPlace)
       (cond right (answered a m p.x res) (Err refusal.SignatureWrong)))
@@ -631,7 +632,7 @@ connect_next a b r Down Met p = refl
 connect_next a b r Awaiting l p = refl
 connect_next a b r Met l p = refl
 
-step_told : (a b : Signer) → AreKeys a b → (r : Role) (s : Step) (o : Opening) (p : Ends) → Keeps o p → Holds a b p
+step_told : (a b : Signer) → ArePartners a b → (r : Role) (s : Step) (o : Opening) (p : Ends) → Keeps o p → Holds a b p
     → ToldBy r o (moves_of a b s p) (told a b r s p) p (happens a b s p)
 step_told a b keys Funder (By Funder act) o p k h =
     let t = acts_told a b keys Funder o act p h in record { told = t.told; next = t.next }
@@ -653,7 +654,7 @@ step_told a b keys Funder Connect o p k h =
 step_told a b keys Fundee Connect o p k h =
     nothing_told Fundee o [] p (happens a b Connect p) refl (connect_next a b Fundee p.x_line p.y_line p)
 
-all_so : (a b : Signer) → AreKeys a b → (r : Role) (ss : List Step) (o : Opening) (p : Ends) → Keeps o p → Holds a b p
+all_so : (a b : Signer) → ArePartners a b → (r : Role) (ss : List Step) (o : Opening) (p : Ends) → Keeps o p → Holds a b p
     → events_in (all_told a b r ss p)
     ≡ numbered (next_of r p) (as_told (events r (all_moves a b ss p) (Some (machine_at o p))))
 all_so a b keys r [] o p k h = refl
@@ -682,7 +683,7 @@ first_next Funder funder fundee = refl
 first_next Fundee funder fundee = refl
 
 pub events_so : (a b : Signer) (s : OpenSpec) (c : Config) (funder fundee : Opened) (steps : List Step) (r : Role)
-    → AreKeys a b → Opens a b s c funder fundee
+    → ArePartners a b → Opens a b s c funder fundee
     → events_in (all_told a b r steps (opened funder fundee))
     ≡ numbered 0 (as_told (events r (history a b funder fundee steps) None))
 events_so a b s c funder fundee steps r keys o =
@@ -696,7 +697,7 @@ events_so a b s c funder fundee steps r keys o =
 
 -- ---- what the ledger counts
 
-all_counted : (a b : Signer) → AreKeys a b → (r : Role) (ss : List Step) (o : Opening) (p : Ends) → Keeps o p
+all_counted : (a b : Signer) → ArePartners a b → (r : Role) (ss : List Step) (o : Opening) (p : Ends) → Keeps o p
     → Holds a b p → next_of r (run a b ss p)
     ≡ next_of r p + length (as_told (events r (all_moves a b ss p) (Some (machine_at o p))))
 all_counted a b keys r [] o p k h = omega arith
@@ -725,7 +726,7 @@ next_by Funder p = refl
 next_by Fundee p = refl
 
 entered_so : (a b : Signer) (s : OpenSpec) (c : Config) (funder fundee : Opened) (steps : List Step) (r : Role)
-    → AreKeys a b → Opens a b s c funder fundee
+    → ArePartners a b → Opens a b s c funder fundee
     → next_event (end_of_role r (run a b steps (opened funder fundee))).ledger
     ≡ length (as_told (events r (history a b funder fundee steps) None))
 entered_so a b s c funder fundee steps r keys o =
@@ -741,7 +742,7 @@ entered_so a b s c funder fundee steps r keys o =
 
 -- ---- what the ledger names
 
-step_pends : (a b : Signer) → AreKeys a b → (r : Role) (s : Step) (o : Opening) (p : Ends) → Keeps o p → Holds a b p
+step_pends : (a b : Signer) → ArePartners a b → (r : Role) (s : Step) (o : Opening) (p : Ends) → Keeps o p → Holds a b p
     → Named (end_of_role r p)
     → Pends (end_of_role r p) (end_of_role r (happens a b s p))
     (as_told (events r (moves_of a b s p) (Some (machine_at o p))))
@@ -772,7 +773,7 @@ step_pends a b keys r Connect o p k h named =
     same q Awaiting l = refl
     same q Met l = refl
 
-all_pend : (a b : Signer) → AreKeys a b → (r : Role) (ss : List Step) (o : Opening) (p : Ends) → Keeps o p
+all_pend : (a b : Signer) → ArePartners a b → (r : Role) (ss : List Step) (o : Opening) (p : Ends) → Keeps o p
     → Holds a b p → Named (end_of_role r p)
     → Pends (end_of_role r p) (end_of_role r (run a b ss p))
     (as_told (events r (all_moves a b ss p) (Some (machine_at o p))))
@@ -809,7 +810,7 @@ none_named e is none =
     }
 
 pub in_step_so : (a b : Signer) (s : OpenSpec) (c : Config) (funder fundee : Opened) (steps : List Step) (r : Role)
-    → AreKeys a b → Opens a b s c funder fundee
+    → ArePartners a b → Opens a b s c funder fundee
     → IsInStep (as_told (events r (history a b funder fundee steps) None))
     (end_of_role r (run a b steps (opened funder fundee)))
 in_step_so a b s c funder fundee steps r keys o =

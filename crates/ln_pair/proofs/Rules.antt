@@ -4,18 +4,18 @@ use Rattle.std.proofs.Common.{◌&&◌, ◌==◌, nat_le, Option, Some, None, is
 use Rattle.std.proofs.lemmas.Bool.{eqb-true, eq-eqb, leb-true, le-leb}
 use Rattle.ln_msgs.specs.declared.refusals.refusal.Refusal.{Refusal}
 use Rattle.ln_msgs.specs.declared.refusals.refusal.Refusal.TheVariants as refusal
-use Rattle.ln_close.specs.declared.closing.Answer.{Answer}
-use Rattle.ln_close.specs.declared.closing.Answer.TheVariants as answer
+use Rattle.ln_close.specs.declared.closing.FeeAnswer.{FeeAnswer}
+use Rattle.ln_close.specs.declared.closing.FeeAnswer.TheVariants as answer
 use Rattle.ln_close.specs.declared.closing.Closing.{Closing}
 use Rattle.ln_close.specs.Closing.{is_funder, is_fee, nearest, within_both, counter, answer_to}
 use Rattle.ln_pair.proofs.Agreed.{Deal, Fair, Refused, Elsewhere, Outside, Apart}
 use Rattle.ln_pair.proofs.Deals.{deal_of}
 
-abbrev pub Says : Deal → ℕ → Option (ℕ × ℕ) → Result Answer Refusal → Type 0
+abbrev pub Says : Deal → ℕ → Option (ℕ × ℕ) → Result FeeAnswer Refusal → Type 0
 Says d fee rg (Ok a) = Fair d fee rg a
 Says d fee rg (Err r) = Refused d fee rg
 
-pub either : (P : Result Answer Refusal → Type 0) (t : Bool) (a b : Result Answer Refusal) → (t ≡ true → P a)
+pub either : (P : Result FeeAnswer Refusal → Type 0) (t : Bool) (a b : Result FeeAnswer Refusal) → (t ≡ true → P a)
     → (t ≡ false → P b) → P (cond t a b)
 either P true a b f g = f refl
 either P false a b f g = g refl

@@ -37,12 +37,12 @@ use Rattle.ln_channel.specs.Resume.{resumed}
 use Rattle.ln_pair.specs.Ends.{Ends, turned, message_at, messages_in, arrive, becomes, answers, delivers, Act, Deliver}
 use Rattle.ln_pair.specs.Ends.{notes, still_come, Give, Note, Lose, Cut, acts, connects, Step, By, Connect, happens}
 use Rattle.ln_pair.specs.Ends.{Save, run}
-use Rattle.ln_pair.specs.Promises.{AreKeys}
+use Rattle.ln_keys.specs.Partners.{ArePartners}
 use Rattle.std.proofs.Common.{not}
 use Rattle.std.specs.Prelude.{option_map}
 use Rattle.ln_msgs.specs.declared.messages.closing.ClosingSigned.{ClosingSigned}
-use Rattle.ln_close.specs.declared.closing.Answer.{Answer}
-use Rattle.ln_close.specs.declared.closing.Answer.TheVariants as answer
+use Rattle.ln_close.specs.declared.closing.FeeAnswer.{FeeAnswer}
+use Rattle.ln_close.specs.declared.closing.FeeAnswer.TheVariants as answer
 use Rattle.ln_close.specs.Closing.{answer_to}
 use Rattle.ln_channel.specs.End.{closing_message}
 use Rattle.ln_channel.specs.Taking.{answering, answered, answered_end, range_in}
@@ -82,12 +82,8 @@ flipped a b p h = record {
   hold = flip a b h.channel p.x_line p.y_line p.x p.y h.to_x h.to_y p.said_x p.said_y h.hold;
 }
 
-pub flipped_keys : (a b : Signer) → AreKeys a b → AreKeys b a
-flipped_keys a b k = record {
-  partners = record { there = k.partners.back; back = k.partners.there };
-  a_points = k.b_points;
-  b_points = k.a_points;
-}
+pub flipped_keys : (a b : Signer) → ArePartners a b → ArePartners b a
+flipped_keys a b k = record { there = k.back; back = k.there }
 
 posts_twice : (l : Line) (ms ns os : List Notice) → posts l (ms ++ ns) os ≡ posts l ns (posts l ms os)
 posts_twice Down ms ns os = refl
@@ -103,7 +99,7 @@ arrive_so Awaiting channel sent ms new old e f = ap (λ os. os ++ sent) f ∙ ap
 arrive_so Met channel sent ms new old e f = ap (λ os. os ++ sent) f ∙ ap (λ os. messages_of channel old ++ os) e
     ∙ sym (messages-append channel old new)
 
-module _ (a b : Signer) (keys : AreKeys a b) where
+module _ (a b : Signer) (keys : ArePartners a b) where
   -- x has made this turn
   become : (t : Turn) (p : Ends) (channel : List ℕ) (rest old new : List Notice) → p.to_x ≡ messages_of channel rest
       → p.to_y ≡ messages_of channel old → messages_in t.handed.sent ≡ messages_of channel new
@@ -211,7 +207,7 @@ module _ (a b : Signer) (keys : AreKeys a b) where
       (took a b keys channel p.y_line p.x p.y p.said_x p.said_y n ns to_y other h)
 
   -- a closing fee, by the answer to it
-  fee_answered : (ans : Answer) (p : Ends) (channel : List ℕ) (m : ClosingSigned) (ns to_y : List Notice)
+  fee_answered : (ans : FeeAnswer) (p : Ends) (channel : List ℕ) (m : ClosingSigned) (ns to_y : List Notice)
       → Offers p.x.closing.fees ans → HasBegun (side_of a p.x) → has_bid (side_of b p.y) ≡ true
       → p.to_y ≡ messages_of channel to_y
       → Hold a b channel Met p.y_line p.x p.y ns to_y p.said_x p.said_y
@@ -322,7 +318,7 @@ module _ (a b : Signer) (keys : AreKeys a b) where
     hold = subst (λ l. Hold a b channel l p.y_line p.x p.y ns to_y p.said_x p.said_y) (sym is) h;
   }
 
-  fee_by : (begun right : Bool) (r : Result Answer Refusal) (p : Ends) → p.x_line ≡ Met
+  fee_by : (begun right : Bool) (r : Result FeeAnswer Refusal) (p : Ends) → p.x_line ≡ Met
       → (channel : List ℕ) (m : ClosingSigned) (ns to_y : List Notice) → has_begun p.x ≡ begun
       → IsFair p.x.closing.fees r → has_bid (side_of b p.y) ≡ true → p.to_y ≡ messages_of channel to_y
       → Hold a b channel Met p.y_line p.x p.y ns to_y p.said_x p.said_y
@@ -519,12 +515,12 @@ connected_by a b Down Met p h k = h
 connected_by a b Awaiting l p h k = h
 connected_by a b Met l p h k = h
 
-happened : (a b : Signer) → AreKeys a b → (s : Step) (p : Ends) → Holds a b p → Holds a b (happens a b s p)
+happened : (a b : Signer) → ArePartners a b → (s : Step) (p : Ends) → Holds a b p → Holds a b (happens a b s p)
 happened a b keys (By Funder act) p h = acted a b keys act p h
 happened a b keys (By Fundee act) p h = flipped b a (acts b act (turned p))
     (acted b a (flipped_keys a b keys) act (turned p) (flipped a b p h))
 happened a b keys Connect p h = connected_by a b p.x_line p.y_line p h h.hold
 
-pub ran : (a b : Signer) → AreKeys a b → (ss : List Step) (p : Ends) → Holds a b p → Holds a b (run a b ss p)
+pub ran : (a b : Signer) → ArePartners a b → (ss : List Step) (p : Ends) → Holds a b p → Holds a b (run a b ss p)
 ran a b keys [] p h = h
 ran a b keys (s ∷ ss) p h = ran a b keys ss (happens a b s p) (happened a b keys s p h)

@@ -31,8 +31,8 @@ use Rattle.ln_dance.specs.Dance.{Dancer, view_at, owes, sign_fault, signed_messa
 use Rattle.ln_dance.specs.Messages.{update_message}
 use Rattle.ln_dance.specs.Resume.{lacks_signature, lacks_revocation, is_before_the_first, owed, owed_by}
 use Rattle.ln_dance.specs.Resume.{revocation_again, signature_again, updates_again}
-use Rattle.ln_close.specs.declared.closing.Answer.{Answer}
-use Rattle.ln_close.specs.declared.closing.Answer.TheVariants as answer
+use Rattle.ln_close.specs.declared.closing.FeeAnswer.{FeeAnswer}
+use Rattle.ln_close.specs.declared.closing.FeeAnswer.TheVariants as answer
 use Rattle.ln_close.specs.Closing.{answer_to}
 use Rattle.ln_channel.specs.declared.command.Command.{Command}
 use Rattle.ln_channel.specs.declared.command.Command.TheVariants as command
@@ -61,7 +61,8 @@ use Rattle.ln_channel.specs.Taking.{accepting, accepts, answered, answered_end, 
 use Rattle.ln_channel.specs.Taking.{message_row, range_in, revokes, shutdown_at, signature_fault, taken}
 use Rattle.ln_pair.specs.Ends.{Ends, turned, message_at, messages_in, answers, Act, Deliver, Give, Note, Lose, Cut}
 use Rattle.ln_pair.specs.Ends.{Save, acts, delivers, opened, Step, By, Connect, run}
-use Rattle.ln_pair.specs.Promises.{AreKeys, party}
+use Rattle.ln_keys.specs.Partners.{ArePartners}
+use Rattle.ln_pair.specs.Promises.{party}
 use Rattle.ln_pair.specs.Signing.{IfSigned, EachSigned, worth_to, SignsCovered, to_accept, AgreesOn, AgreesInFront}
 use Rattle.ln_pair.specs.Signing.{Signs, BothSign, SignsIn}
 use Rattle.ln_pair.specs.Told.{told_by, told_on, told_in}
@@ -179,13 +180,13 @@ module _ (P : CommitmentSigned → Type 0) where
   shut_none None m e = (tt, tt)
   shut_none (Some script) m e = shut_by _ e
 
-  answer_none : (k : Signer) (ans : Answer) (e : End) → Answers (Ok (answering k ans e))
+  answer_none : (k : Signer) (ans : FeeAnswer) (e : End) → Answers (Ok (answering k ans e))
   answer_none k answer.Nothing e = (tt, tt)
   answer_none k (answer.Close fee) e = (tt, tt)
   answer_none k (answer.EchoAndClose fee) e = ((tt, tt), tt)
   answer_none k (answer.Propose fee) e = ((tt, tt), tt)
 
-  fee_by : (begun right : Bool) (k : Signer) (m : ClosingSigned) (e : End) (r : Result Answer Refusal)
+  fee_by : (begun right : Bool) (k : Signer) (m : ClosingSigned) (e : End) (r : Result FeeAnswer Refusal)
       → Answers (cond (not begun) (Err refusal.OutOfPlace)
       (cond right (answered k m e r) (Err refusal.SignatureWrong)))
   fee_by false right k m e r = tt
@@ -356,7 +357,7 @@ module _ (a b : Signer) where
       EachSigned (SignsCovered a b (delivers a ms p).x (delivers a ms p).y)
       (messages_in (told_on a p.x_line ms p.x))
 
-  module _ (keys : AreKeys a b) where
+  module _ (keys : ArePartners a b) where
     met : (p : Ends) → p.x_line ≡ Met → (m : Message) (ms : List Message) → SignsTaking (m ∷ ms) p
     met p is m ms =
         let P : CommitmentSigned → Type 0 = SignsCovered a b (delivers a (m ∷ ms) p).x (delivers a (m ∷ ms) p).y in
@@ -460,7 +461,7 @@ module _ (a b : Signer) where
     acts_so (Cut n) p h = tt
     acts_so Save p h = tt
 
-happens_so : (a b : Signer) → AreKeys a b → (side : Role) (s : Step) (p : Ends) → Holds a b p → SignsIn a b side s p
+happens_so : (a b : Signer) → ArePartners a b → (side : Role) (s : Step) (p : Ends) → Holds a b p → SignsIn a b side s p
 happens_so a b keys Funder (By Funder act) p h = acts_so a b keys act p h
 happens_so a b keys Funder (By Fundee act) p h = tt
 happens_so a b keys Fundee (By Funder act) p h = tt
@@ -470,7 +471,7 @@ happens_so a b keys Funder Connect p h = tt
 happens_so a b keys Fundee Connect p h = tt
 
 pub signs_in_step : (a b : Signer) (s : OpenSpec) (c : Config) (funder fundee : Opened) (steps : List Step)
-    (step : Step) (side : Role) → AreKeys a b → Opens a b s c funder fundee
+    (step : Step) (side : Role) → ArePartners a b → Opens a b s c funder fundee
     → SignsIn a b side step (run a b steps (opened funder fundee))
 signs_in_step a b s c funder fundee steps step side keys o =
     happens_so a b keys side step (run a b steps (opened funder fundee))
@@ -592,7 +593,7 @@ both_sign_at a b p h = (
       (flip a b h.channel p.x_line p.y_line p.x p.y h.to_x h.to_y p.said_x p.said_y h.hold)),
 )
 
-pub both_sign : (a b : Signer) (s : OpenSpec) (c : Config) (funder fundee : Opened) (steps : List Step) → AreKeys a b
+pub both_sign : (a b : Signer) (s : OpenSpec) (c : Config) (funder fundee : Opened) (steps : List Step) → ArePartners a b
     → Opens a b s c funder fundee → BothSign a b (run a b steps (opened funder fundee))
 both_sign a b s c funder fundee steps keys o =
     both_sign_at a b (run a b steps (opened funder fundee)) (at_end a b s c funder fundee steps keys o)

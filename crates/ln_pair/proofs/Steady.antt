@@ -14,8 +14,8 @@ use Rattle.ln_log.specs.Log as log
 use Rattle.ln_log.specs.Log.{Counts, between}
 use Rattle.ln_dance.specs.declared.dance.Peer.{Peer}
 use Rattle.ln_dance.specs.Dance.{with_next_point}
-use Rattle.ln_close.specs.declared.closing.Answer.{Answer}
-use Rattle.ln_close.specs.declared.closing.Answer.TheVariants as answer
+use Rattle.ln_close.specs.declared.closing.FeeAnswer.{FeeAnswer}
+use Rattle.ln_close.specs.declared.closing.FeeAnswer.TheVariants as answer
 use Rattle.ln_close.specs.Closing.{after_shut, may_start, answer_to}
 use Rattle.ln_hooks.specs.declared.event.ChannelEvent.{ChannelEvent}
 use Rattle.ln_hooks.specs.Event.{event_of}
@@ -263,7 +263,7 @@ module _ (k : Signer) (x : End) (w : log.IsWithin x.dance.log) (s : Steady x) wh
     heard = below;
   }
 
-  pub fee_steady : (m : ClosingSigned) (ans : Answer) → answer_to x.closing m.fee_satoshis (range_in m) ≡ Ok ans
+  pub fee_steady : (m : ClosingSigned) (ans : FeeAnswer) → answer_to x.closing m.fee_satoshis (range_in m) ≡ Ok ans
       → IsFee m.fee_satoshis → Steady (answering k ans (answered_end m ans x)).end
   fee_steady m answer.Nothing e below = s
   fee_steady m (answer.Propose fee) e below = record {

@@ -31,7 +31,8 @@ use Rattle.ln_channel.specs.End.{End, is_ready, is_closed, all_acknowledged, shu
 use Rattle.ln_channel.specs.Taking.{takes, takes_ready, accepts, revokes, shuts_by_peer}
 use Rattle.ln_channel.specs.Commands.{ready_message, confirmed, closed_fault, own_fault, propose_fault, proposes}
 use Rattle.ln_channel.specs.Commands.{sign_command_fault, signs_next, shut_fault, shuts_down, script_fault}
-use Rattle.ln_pair.specs.Promises.{AreKeys, is_add, is_shutdown, AddsBefore}
+use Rattle.ln_keys.specs.Partners.{ArePartners}
+use Rattle.ln_pair.specs.Promises.{is_add, is_shutdown, AddsBefore}
 use Rattle.ln_channel.specs.declared.unsaved.Line.{Line}
 use Rattle.ln_channel.specs.declared.unsaved.Line.TheVariants.{Down, Awaiting, Met}
 use Rattle.std.proofs.lemmas.Bool.{eq-eqb}
@@ -320,7 +321,7 @@ unsigned true true e = absurd (cc)
 unsigned true false e = (refl, refl)
 unsigned false s e = absurd (cc)
 
-module _ (a b : Signer) (keys : AreKeys a b) (channel : List ℕ) (ly : Line) (x y : End)
+module _ (a b : Signer) (keys : ArePartners a b) (channel : List ℕ) (ly : Line) (x y : End)
     (said_x said_y : List Message) where
   abbrev x_side : Side
   x_side = side_of a x

@@ -18,7 +18,7 @@ use Rattle.ln_channel.specs.End.{End, Turn, has_begun, quiet, owes_shutdown, all
 use Rattle.ln_channel.specs.Taking.{takes, takes_ready, accepts, accepting, revokes, learning, update_row}
 use Rattle.ln_channel.specs.Taking.{shutdown_at, shuts_by_peer, message_row}
 use Rattle.ln_pair.specs.Ends.{messages_in}
-use Rattle.ln_pair.specs.Promises.{AreKeys}
+use Rattle.ln_keys.specs.Partners.{ArePartners}
 use Rattle.ln_channel.specs.declared.unsaved.Line.{Line}
 use Rattle.ln_channel.specs.declared.unsaved.Line.TheVariants.{Down, Awaiting, Met}
 use Rattle.std.specs.Prelude.{option_map}
@@ -149,7 +149,7 @@ begun_so k e h =
       none_got = live_none l.received l.own none_got;
     }
 
-module _ (a b : Signer) (keys : AreKeys a b) (channel : List ℕ) (ly : Line) (x y : End)
+module _ (a b : Signer) (keys : ArePartners a b) (channel : List ℕ) (ly : Line) (x y : End)
     (said_x said_y : List Message) where
   pub row : (n : Notice) (ns to_y : List Notice) → is_close n ≡ false
       → Hold a b channel Met ly x y (n ∷ ns) to_y said_x said_y
@@ -171,13 +171,13 @@ module _ (a b : Signer) (keys : AreKeys a b) (channel : List ℕ) (ly : Line) (x
       (all_sent y.dance.log.received) (all_sent x.dance.log.own) f.agree (sym d.knows) g.within.peer_signed in
       let below = h.y_knows.below in
       signature_taken a m x (both_true x.marks.ready_sent x.marks.ready_received s.1 s.0)
-      (signature_right a b x.dance y.dance m (record { there = keys.partners.back; back = keys.partners.there }) d.named
+      (signature_right a b x.dance y.dance m (record { there = keys.back; back = keys.there }) d.named
       d.next l.one g.same (sym f.roles) d.covers (sym peer)
       (h.y_knows.next_point (h.told.back.used_signature (let one = l.one in omega (arith, one))).taken)
-      (keys.a_points (y.dance.numbers.revoked + 1) (let one = l.one in omega (arith, below, one)))
+      (keys.there.sized_points (y.dance.numbers.revoked + 1) (let one = l.one in omega (arith, below, one)))
       below)
   row (Revoke m) ns to_y begun h =
-      revocation_taken a m x (revocation_right a b x.dance y.dance m keys.partners
+      revocation_taken a m x (revocation_right a b x.dance y.dance m keys
       (is_told a b keys channel ly x y said_x said_y m ns to_y h)
       (outstanding a b keys channel ly x y said_x said_y m ns to_y h) h.x_knows.below)
   row (Ready m) ns to_y begun h = refl

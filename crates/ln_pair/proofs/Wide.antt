@@ -32,7 +32,7 @@ use Rattle.ln_pair.specs.Ends.{Ends, turned, opened, messages_in, message_at, co
 use Rattle.ln_pair.specs.Ends.{still_come}
 use Rattle.ln_pair.specs.Ends.{delivers, Act, Deliver, Give, Note, Lose, Cut, Save, acts, connects, Step, By, Connect}
 use Rattle.ln_pair.specs.Ends.{happens, run}
-use Rattle.ln_pair.specs.Promises.{AreKeys}
+use Rattle.ln_keys.specs.Partners.{ArePartners}
 use Rattle.ln_pair.specs.Widths.{IsUpdate, IsCommand}
 use Rattle.ln_pair.proofs.All.{All, all-append, all-take, all-filter}
 use Rattle.ln_pair.proofs.Lasting.{Where, longest_script, IsDecision, IsWide, IsOf}
@@ -245,7 +245,7 @@ of_so o e is = record {
 abbrev pub AreLasting : Opened → Opened → Ends → Type 0
 AreLasting funder fundee p = (IsWide p.x × IsOf funder p.x) × (IsWide p.y × IsOf fundee p.y)
 
-pub are_wide : (a b : Signer) (s : OpenSpec) (c : Config) (funder fundee : Opened) (steps : List Step) → AreKeys a b
+pub are_wide : (a b : Signer) (s : OpenSpec) (c : Config) (funder fundee : Opened) (steps : List Step) → ArePartners a b
     → Opens a b s c funder fundee → length funder.terms.script ≤ longest_script
     → length fundee.terms.script ≤ longest_script → All StepIsWide steps
     → AreLasting funder fundee (run a b steps (opened funder fundee))

@@ -36,8 +36,8 @@ use Rattle.ln_dance.specs.Dance.{signed_message, learn_fault, with_next_point}
 use Rattle.ln_dance.specs.Messages.{update_message, add_of, fulfil_of, fail_of, malformed_of, fee_of}
 use Rattle.ln_dance.specs.Resume.{resume_fault, lacks_signature, lacks_revocation, updates_again, signature_again}
 use Rattle.ln_dance.specs.Resume.{revocation_again, signature_owed, revocation_owed, owed_by, owed, is_before_the_first}
-use Rattle.ln_close.specs.declared.closing.Answer.{Answer}
-use Rattle.ln_close.specs.declared.closing.Answer.TheVariants as answer
+use Rattle.ln_close.specs.declared.closing.FeeAnswer.{FeeAnswer}
+use Rattle.ln_close.specs.declared.closing.FeeAnswer.TheVariants as answer
 use Rattle.ln_close.specs.declared.closing.Closing.{Closing}
 use Rattle.ln_close.specs.Closing.{may_start, started, after_shut, answer_to}
 use Rattle.ln_channel.specs.declared.command.Command.{Command}
@@ -232,14 +232,14 @@ module _ (k : Signer) (o : Origin) where
       by true = (h, tt)
       by false = tt
 
-  answered_fits : (m : ClosingSigned) (e : End) (r : Result Answer Refusal) → Fits o e → AnswerFits (answered k m e r)
+  answered_fits : (m : ClosingSigned) (e : End) (r : Result FeeAnswer Refusal) → Fits o e → AnswerFits (answered k m e r)
   answered_fits m e (Ok answer.Nothing) h = (h, tt)
   answered_fits m e (Ok (answer.Close fee)) h = (h, tt)
   answered_fits m e (Ok (answer.EchoAndClose fee)) h = (h, (tt, tt))
   answered_fits m e (Ok (answer.Propose fee)) h = (h, (tt, tt))
   answered_fits m e (Err r) h = tt
 
-  fee_fits : (m : ClosingSigned) (e : End) (begun right : Bool) (r : Result Answer Refusal) → Fits o e
+  fee_fits : (m : ClosingSigned) (e : End) (begun right : Bool) (r : Result FeeAnswer Refusal) → Fits o e
       → AnswerFits (cond (not begun) (Err refusal.OutOfPlace)
       (cond right (answered k m e r) (Err refusal.SignatureWrong)))
   fee_fits m e true true r h = answered_fits m e r h

@@ -20,12 +20,6 @@ use Rattle.ln_channel.specs.declared.unsaved.Line.{Line}
 use Rattle.ln_channel.specs.declared.unsaved.Line.TheVariants.{Met}
 use Rattle.ln_pair.specs.Ends.{Ends, message_at}
 
--- the keys of both ends: partners, and every point has 33 bytes
-pub record AreKeys (a b : Signer) : Type 0 where
-  pub partners : ArePartners a b
-  pub a_points : (n : ℕ) → n ≤ 2 ^ 48 → length (a.point_of n) ≡ 33
-  pub b_points : (n : ℕ) → n ≤ 2 ^ 48 → length (b.point_of n) ≡ 33
-
 -- ---- what is promised
 
 -- the machine's party that an end stands for

@@ -18,7 +18,8 @@ ghost use Rattle.ln_channel.specs.End.{End};
 ghost use Rattle.ln_channel.specs.Meeting.{Opens};
 ghost use Rattle.ln_channel.specs.Step.{turned, saved_at, obeyed};
 ghost use Rattle.ln_pair.specs.Ends.{Step, opened, message_at, command_at, run};
-ghost use Rattle.ln_pair.specs.Promises.{AreKeys, AreSent, AreAgreeable, Headline, NoneRefused, AllTaken};
+ghost use Rattle.ln_keys.specs.Partners.{ArePartners};
+ghost use Rattle.ln_pair.specs.Promises.{AreSent, AreAgreeable, Headline, NoneRefused, AllTaken};
 ghost use Rattle.ln_pair.specs.Answers.{BothHaveAnswered};
 ghost use Rattle.ln_pair.specs.Closes.{BothClose};
 ghost use Rattle.ln_pair.specs.Doing.{BothDo};
@@ -30,7 +31,7 @@ ghost use Rattle.ln_pair.specs.Signing.{BothSign, SignsIn};
 /// A law: what either end holds as irrevocably committed is, each update once and in the order in which it was sent,
 /// a beginning of what the other end has covered by a signature.
 pub fn held_was_covered()
-    ensures { (a b : Signer) (s : OpenSpec) (c : Config) (funder fundee : Opened) (steps : List Step) → AreKeys a b
+    ensures { (a b : Signer) (s : OpenSpec) (c : Config) (funder fundee : Opened) (steps : List Step) → ArePartners a b
         → Opens a b s c funder fundee → Headline (run a b steps (opened funder fundee)) }
 {}
 
@@ -38,7 +39,7 @@ pub fn held_was_covered()
 /// but for a `closing_signed` whose fee can't be agreed to, which is refused as such (36) and as nothing else. The
 /// closing fees of both are below 2^64, as their numbers are sent in eight bytes.
 pub fn no_message_is_refused()
-    ensures { (a b : Signer) (s : OpenSpec) (c : Config) (funder fundee : Opened) (steps : List Step) → AreKeys a b
+    ensures { (a b : Signer) (s : OpenSpec) (c : Config) (funder fundee : Opened) (steps : List Step) → ArePartners a b
         → Opens a b s c funder fundee → AreSent funder.closing.fees → AreSent fundee.closing.fees
         → NoneRefused a b (run a b steps (opened funder fundee)) }
 {}
@@ -46,7 +47,7 @@ pub fn no_message_is_refused()
 /// A law: where both sides' ranges of closing fees overlap, every message that is delivered is taken, each
 /// `closing_signed` too. Of both, `least` <= `first` <= `greatest`, and all below 2^64.
 pub fn no_message_is_refused_where_fees_overlap()
-    ensures { (a b : Signer) (s : OpenSpec) (c : Config) (funder fundee : Opened) (steps : List Step) → AreKeys a b
+    ensures { (a b : Signer) (s : OpenSpec) (c : Config) (funder fundee : Opened) (steps : List Step) → ArePartners a b
         → Opens a b s c funder fundee → AreAgreeable funder.closing.fees fundee.closing.fees
         → AllTaken a b (run a b steps (opened funder fundee)) }
 {}
@@ -60,27 +61,27 @@ pub fn closed_at_one_fee()
 /// A law: where both ends have met, nothing is in flight and neither has anything to sign, both hold every update of
 /// either side, and their commitments are worth the same.
 pub fn both_agree_at_rest()
-    ensures { (a b : Signer) (s : OpenSpec) (c : Config) (funder fundee : Opened) (steps : List Step) → AreKeys a b
+    ensures { (a b : Signer) (s : OpenSpec) (c : Config) (funder fundee : Opened) (steps : List Step) → ArePartners a b
         → Opens a b s c funder fundee → Agrees (run a b steps (opened funder fundee)) }
 {}
 
 /// A law: where both ends have met and nothing is in flight, either has taken the other's `shutdown` exactly where one
 /// was sent, and its `channel_ready` likewise, unless it has closed: an end that has closed passes that over.
 pub fn marks_agree_at_rest()
-    ensures { (a b : Signer) (s : OpenSpec) (c : Config) (funder fundee : Opened) (steps : List Step) → AreKeys a b
+    ensures { (a b : Signer) (s : OpenSpec) (c : Config) (funder fundee : Opened) (steps : List Step) → ArePartners a b
         → Opens a b s c funder fundee → MarksAgree (run a b steps (opened funder fundee)) }
 {}
 
 /// A law: of all that an end has sent, over all its connections, no `update_add_htlc` stands behind a `shutdown`.
 pub fn no_add_follows_a_shutdown()
-    ensures { (a b : Signer) (s : OpenSpec) (c : Config) (funder fundee : Opened) (steps : List Step) → AreKeys a b
+    ensures { (a b : Signer) (s : OpenSpec) (c : Config) (funder fundee : Opened) (steps : List Step) → ArePartners a b
         → Opens a b s c funder fundee → NoneAddsLate (run a b steps (opened funder fundee)) }
 {}
 
 /// A law: an end that has met its peer and has taken the peer's `shutdown` has sent its own, once all its updates are
 /// acknowledged (BOLT 2, "Closing Initiation: shutdown").
 pub fn a_shutdown_is_answered()
-    ensures { (a b : Signer) (s : OpenSpec) (c : Config) (funder fundee : Opened) (steps : List Step) → AreKeys a b
+    ensures { (a b : Signer) (s : OpenSpec) (c : Config) (funder fundee : Opened) (steps : List Step) → ArePartners a b
         → Opens a b s c funder fundee → BothHaveAnswered (run a b steps (opened funder fundee)) }
 {}
 
@@ -88,14 +89,14 @@ pub fn a_shutdown_is_answered()
 /// nothing in flight, every HTLC settled and every update acknowledged, have closed (BOLT 2, "Closing Negotiation:
 /// closing_signed"). Of both ranges, `least` <= `first` <= `greatest`, and all below 2^64.
 pub fn closing_ends()
-    ensures { (a b : Signer) (s : OpenSpec) (c : Config) (funder fundee : Opened) (steps : List Step) → AreKeys a b
+    ensures { (a b : Signer) (s : OpenSpec) (c : Config) (funder fundee : Opened) (steps : List Step) → ArePartners a b
         → Opens a b s c funder fundee → AreAgreeable funder.closing.fees fundee.closing.fees
         → BothClose (run a b steps (opened funder fundee)) }
 {}
 
 /// A law: both ends keep the opening that they agreed to, and each the range of closing fees that it was set up with.
 pub fn ends_stay_as_set_up()
-    ensures { (a b : Signer) (s : OpenSpec) (c : Config) (funder fundee : Opened) (steps : List Step) → AreKeys a b
+    ensures { (a b : Signer) (s : OpenSpec) (c : Config) (funder fundee : Opened) (steps : List Step) → ArePartners a b
         → Opens a b s c funder fundee
         → AreSetUp (setup_of funder fundee) (run a b steps (opened funder fundee)).x
         (run a b steps (opened funder fundee)).y }
@@ -119,7 +120,7 @@ pub fn steps_are_those_of_a_link()
 /// machine may make the move. So no end refuses an update, a signature or a shutdown that it may send.
 pub fn commands_are_done_exactly()
     ensures { (a b : Signer) (s : OpenSpec) (c : Config) (funder fundee : Opened) (steps : List Step) (asked : Command)
-        → AreKeys a b → Opens a b s c funder fundee → BothDo a b asked (run a b steps (opened funder fundee)) }
+        → ArePartners a b → Opens a b s c funder fundee → BothDo a b asked (run a b steps (opened funder fundee)) }
 {}
 
 /// A law: the base of either end moves on as far as its decided events allow. All that an end holds as irrevocably
@@ -127,7 +128,7 @@ pub fn commands_are_done_exactly()
 /// and no side spends before what it spends has come back; and as the end is saved, that is its base (BOLT 2, "Normal
 /// Operation").
 pub fn bases_are_the_longest()
-    ensures { (a b : Signer) (s : OpenSpec) (c : Config) (funder fundee : Opened) (steps : List Step) → AreKeys a b
+    ensures { (a b : Signer) (s : OpenSpec) (c : Config) (funder fundee : Opened) (steps : List Step) → ArePartners a b
         → Opens a b s c funder fundee → BothAreLongest (run a b steps (opened funder fundee)) }
 {}
 
@@ -139,8 +140,8 @@ pub fn bases_are_the_longest()
 /// updates to accept, as they were sent, which are worth the same to it.
 pub fn signatures_are_over_what_is_covered()
     ensures handed_out { (a b : Signer) (s : OpenSpec) (c : Config) (funder fundee : Opened) (steps : List Step)
-        (step : Step) (side : Role) → AreKeys a b → Opens a b s c funder fundee
+        (step : Step) (side : Role) → ArePartners a b → Opens a b s c funder fundee
         → SignsIn a b side step (run a b steps (opened funder fundee)) }
     ensures in_flight { (a b : Signer) (s : OpenSpec) (c : Config) (funder fundee : Opened) (steps : List Step)
-        → AreKeys a b → Opens a b s c funder fundee → BothSign a b (run a b steps (opened funder fundee)) }
+        → ArePartners a b → Opens a b s c funder fundee → BothSign a b (run a b steps (opened funder fundee)) }
 {}

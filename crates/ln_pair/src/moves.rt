@@ -12,7 +12,7 @@ ghost use Rattle.ln_channel.specs.declared.opening.Opened.{Opened};
 ghost use Rattle.ln_channel.specs.Meeting.{Opens};
 ghost use Rattle.ln_channel.specs.Outputs.{numbered};
 ghost use Rattle.ln_pair.specs.Ends.{Step, opened, run};
-ghost use Rattle.ln_pair.specs.Promises.{AreKeys};
+ghost use Rattle.ln_keys.specs.Partners.{ArePartners};
 ghost use Rattle.ln_pair.specs.Moves.{machine_of, history, after_all};
 ghost use Rattle.ln_pair.specs.Pending.{end_of_role, IsInStep};
 ghost use Rattle.ln_pair.specs.Told.{as_told, events_in, all_told, unnumbered, ClosesLast};
@@ -24,7 +24,7 @@ ghost use Rattle.ln_pair.specs.Told.{as_told, events_in, all_told, unnumbered, C
 /// refused is no move, nor is an update that is taken, a connection that comes back, what is sent again then, or a
 /// save.
 pub fn moves_are_the_machines()
-    ensures { (a b : Signer) (s : OpenSpec) (c : Config) (funder fundee : Opened) (steps : List Step) → AreKeys a b
+    ensures { (a b : Signer) (s : OpenSpec) (c : Config) (funder fundee : Opened) (steps : List Step) → ArePartners a b
         → Opens a b s c funder fundee
         → after_all (history a b funder fundee steps) None
         ≡ Some (machine_of (run a b steps (opened funder fundee))) }
@@ -35,7 +35,7 @@ pub fn moves_are_the_machines()
 /// unrevoked before it; each update of a side that shuts down is acknowledged; and a side closes once, with both sides
 /// shut down, every commitment covering every update, and no HTLC live.
 pub fn each_move_may_be_made()
-    ensures { (a b : Signer) (s : OpenSpec) (c : Config) (funder fundee : Opened) (steps : List Step) → AreKeys a b
+    ensures { (a b : Signer) (s : OpenSpec) (c : Config) (funder fundee : Opened) (steps : List Step) → ArePartners a b
         → Opens a b s c funder fundee
         → IsRun (history a b funder fundee steps) None
         (Some (machine_of (run a b steps (opened funder fundee)))) }
@@ -46,7 +46,7 @@ pub fn each_move_may_be_made()
 /// comes to hold it as irrevocably committed, and its close; an add of more than an event can tell is none.
 pub fn events_are_told()
     ensures { (a b : Signer) (s : OpenSpec) (c : Config) (funder fundee : Opened) (steps : List Step) (side : Role)
-        → AreKeys a b → Opens a b s c funder fundee
+        → ArePartners a b → Opens a b s c funder fundee
         → events_in (all_told a b side steps (opened funder fundee))
         ≡ numbered 0 (as_told (events side (history a b funder fundee steps) None)) }
 {}
@@ -57,7 +57,7 @@ pub fn events_are_told()
 /// at which it closed.
 pub fn undecided_events_are_the_machines()
     ensures { (a b : Signer) (s : OpenSpec) (c : Config) (funder fundee : Opened) (steps : List Step) (side : Role)
-        → AreKeys a b → Opens a b s c funder fundee
+        → ArePartners a b → Opens a b s c funder fundee
         → IsInStep (as_told (events side (history a b funder fundee steps) None))
         (end_of_role side (run a b steps (opened funder fundee))) }
 {}
@@ -67,9 +67,9 @@ pub fn undecided_events_are_the_machines()
 /// behind its close (BOLT 2, "Closing Negotiation: closing_signed").
 pub fn close_is_last()
     ensures of_the_moves { (a b : Signer) (s : OpenSpec) (c : Config) (funder fundee : Opened) (steps : List Step)
-        (side : Role) → AreKeys a b → Opens a b s c funder fundee
+        (side : Role) → ArePartners a b → Opens a b s c funder fundee
         → ClosesLast (as_told (events side (history a b funder fundee steps) None)) }
     ensures of_what_is_handed_out { (a b : Signer) (s : OpenSpec) (c : Config) (funder fundee : Opened)
-        (steps : List Step) (side : Role) → AreKeys a b → Opens a b s c funder fundee
+        (steps : List Step) (side : Role) → ArePartners a b → Opens a b s c funder fundee
         → ClosesLast (unnumbered (all_told a b side steps (opened funder fundee))) }
 {}

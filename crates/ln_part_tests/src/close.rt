@@ -1,6 +1,6 @@
 //! Two sides that close a channel.
 
-use ln_close::{Answer, Closing, Fees, closes_by_agreement};
+use ln_close::{Closing, FeeAnswer, Fees, closes_by_agreement};
 use ln_keys::Role;
 use ln_msgs::Refusal;
 
@@ -46,9 +46,9 @@ fn a_fee_that_both_take(rt: HostRuntime) {
     let mut funder = shut(Role::Funder, CHEAP);
     let mut fundee = shut(Role::Fundee, DEAR);
     assert!(rt; funder.start() == Some(300));
-    assert!(rt; fundee.answer(300, Some((200, 400))) == Ok(Answer::Propose(350)));
-    assert!(rt; funder.answer(350, Some((350, 500))) == Ok(Answer::EchoAndClose(350)));
-    assert!(rt; fundee.answer(350, Some((200, 400))) == Ok(Answer::Close(350)));
+    assert!(rt; fundee.answer(300, Some((200, 400))) == Ok(FeeAnswer::Propose(350)));
+    assert!(rt; funder.answer(350, Some((350, 500))) == Ok(FeeAnswer::EchoAndClose(350)));
+    assert!(rt; fundee.answer(350, Some((200, 400))) == Ok(FeeAnswer::Close(350)));
     assert!(rt; funder.answer(351, None) == Err(Refusal::FeeOutside));
     assert!(rt; (funder.closed, fundee.closed) == (Some(350), Some(350)));
     assert!(rt; (fundee.own_fee, fundee.peer_fee) == (Some(350), Some(350)));

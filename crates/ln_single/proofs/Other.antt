@@ -37,8 +37,8 @@ use Rattle.ln_log.specs.Log as log
 use Rattle.ln_log.specs.Log.{Log, peer_limit, removal_fault, length_fault, proposal_fault, taken_fault, same_counts}
 use Rattle.ln_dance.specs.Dance.{Dancer, view_at, owes, is_last, is_right, sign_fault, accept_fault, learn_fault}
 use Rattle.ln_dance.specs.Resume.{can_be_served, knows_secret, resume_fault}
-use Rattle.ln_close.specs.declared.closing.Answer.{Answer}
-use Rattle.ln_close.specs.declared.closing.Answer.TheVariants as answer
+use Rattle.ln_close.specs.declared.closing.FeeAnswer.{FeeAnswer}
+use Rattle.ln_close.specs.declared.closing.FeeAnswer.TheVariants as answer
 use Rattle.ln_close.specs.declared.closing.Closing.{Closing}
 use Rattle.ln_close.specs.declared.closing.Fees.{Fees}
 use Rattle.ln_close.specs.Closing.{is_fee, is_funder, nearest, within_both, counter, behind_close, answer_to}
@@ -298,7 +298,7 @@ both_other f fee (Some r) =
     let greatest = min f.greatest r.1 in
     either (nat_le least greatest) (Ok (answer.Propose (nearest least greatest fee))) (Err refusal.FeeOutside) tt refl
 
-behind_other : (closed : Option ℕ) (fee : ℕ) (rest : Result Answer Refusal) → OtherAnswer rest
+behind_other : (closed : Option ℕ) (fee : ℕ) (rest : Result FeeAnswer Refusal) → OtherAnswer rest
     → OtherAnswer (behind_close closed fee rest)
 behind_other None fee rest h = h
 behind_other (Some agreed) fee rest h = either (agreed == fee) (Ok answer.Nothing) (Err refusal.FeeOutside) tt refl

@@ -44,8 +44,8 @@ use Rattle.ln_dance.specs.Dance.{with_next_point}
 use Rattle.ln_dance.specs.Messages.{update_message, add_of, fulfil_of, fail_of, malformed_of, fee_of}
 use Rattle.ln_dance.specs.Resume.{resume_fault, lacks_signature, lacks_revocation, updates_again, signature_again}
 use Rattle.ln_dance.specs.Resume.{revocation_again, signature_owed, revocation_owed, owed_by, owed, is_before_the_first}
-use Rattle.ln_close.specs.declared.closing.Answer.{Answer}
-use Rattle.ln_close.specs.declared.closing.Answer.TheVariants as answer
+use Rattle.ln_close.specs.declared.closing.FeeAnswer.{FeeAnswer}
+use Rattle.ln_close.specs.declared.closing.FeeAnswer.TheVariants as answer
 use Rattle.ln_close.specs.declared.closing.Closing.{Closing}
 use Rattle.ln_close.specs.declared.closing.Fees.{Fees}
 use Rattle.ln_close.specs.Closing.{may_start, started, after_shut, answer_to, is_fee, is_funder, nearest, within_both}
@@ -135,17 +135,17 @@ next_small us few = omega (arith, few, count_by-le-length is_add us)
 
 -- ---- the answer to a closing fee is a fee
 
-abbrev IsBelow : Answer → Type 0
+abbrev IsBelow : FeeAnswer → Type 0
 IsBelow answer.Nothing = Unit {0}
 IsBelow (answer.Close fee) = IsFee fee
 IsBelow (answer.EchoAndClose fee) = IsFee fee
 IsBelow (answer.Propose fee) = IsFee fee
 
-abbrev IfBelow : Result Answer Refusal → Type 0
+abbrev IfBelow : Result FeeAnswer Refusal → Type 0
 IfBelow (Ok a) = IsBelow a
 IfBelow (Err r) = Unit {0}
 
-one_of : (b : Bool) (p q : Result Answer Refusal) → IfBelow p → IfBelow q → IfBelow (cond b p q)
+one_of : (b : Bool) (p q : Result FeeAnswer Refusal) → IfBelow p → IfBelow q → IfBelow (cond b p q)
 one_of true p q h g = h
 one_of false p q h g = g
 
@@ -157,7 +157,7 @@ both_below f fee (Some r) most =
     one_of (nat_le least greatest) (Ok (answer.Propose (nearest least greatest fee))) (Err refusal.FeeOutside)
     (omega (arith, most, min-le_right (max fee least) greatest, min-le_left f.greatest r.1)) tt
 
-behind_below : (closed : Option ℕ) (fee : ℕ) (rest : Result Answer Refusal) → IfBelow rest
+behind_below : (closed : Option ℕ) (fee : ℕ) (rest : Result FeeAnswer Refusal) → IfBelow rest
     → IfBelow (behind_close closed fee rest)
 behind_below None fee rest h = h
 behind_below (Some agreed) fee rest h = one_of (agreed == fee) (Ok answer.Nothing) (Err refusal.FeeOutside) tt tt
@@ -524,7 +524,7 @@ module _ (k : Signer) (keys : AreKeys k) where
 
   -- ---- closing fees
 
-  fee_keeps : (m : ClosingSigned) (e : End) (a : Answer) → HasTerms e → HasMore e
+  fee_keeps : (m : ClosingSigned) (e : End) (a : FeeAnswer) → HasTerms e → HasMore e
       → answer_to e.closing m.fee_satoshis (range_in m) ≡ Ok a → IsFee m.fee_satoshis → IsBelow a
       → TurnKeeps (answering k a (answered_end m a e))
   fee_keeps m e answer.Nothing t h is fee below = (
@@ -572,7 +572,7 @@ module _ (k : Signer) (keys : AreKeys k) where
     tt,
   )
 
-  answered_keeps : (m : ClosingSigned) (e : End) (r : Result Answer Refusal) → HasTerms e → HasMore e
+  answered_keeps : (m : ClosingSigned) (e : End) (r : Result FeeAnswer Refusal) → HasTerms e → HasMore e
       → answer_to e.closing m.fee_satoshis (range_in m) ≡ r → IsFee m.fee_satoshis → IfBelow r → OtherAnswer r
       → AnswerKeeps (answered k m e r)
   answered_keeps m e (Ok a) t h is fee below other = fee_keeps m e a t h is fee below
