@@ -81,7 +81,7 @@ use Rattle.ln_channels.specs.Channel.{halt_moves, stop_moves, up_moves, place_of
 use Rattle.ln_channels.specs.Promises.{AtEnd, AtEnds, Headline, TakesFront, NoneRefused, AgreeOnceSigned, Agrees}
 use Rattle.ln_channels.specs.Promises.{FeesOverlap, AcceptsFront, AllTaken, OneFee, HaveAnswered, AnswersShutdown}
 use Rattle.ln_channels.specs.Promises.{MarksAgree, BothClose}
-use Rattle.ln_channels.specs.Records.{HaveSecrets, IsAct}
+use Rattle.ln_channels.specs.Records.{IsAct}
 use Rattle.ln_channels.proofs.Mirror.{link_of, without_warnings, IsInbox, Mirrors, flipped, plain}
 use Rattle.ln_channels.proofs.Mirror.{is_awake, unless_halted}
 use Rattle.ln_channels.proofs.Dropped.{are_dropped, ran_so}
@@ -233,9 +233,7 @@ IsMove (Stops side a) = IsAct a
 IsMove Meet = Unit {0}
 
 -- the steps of two ends, and how they were opened, bring what records have room for
-pub record AreWide (a b : Signer) (funder fundee : Opened) (steps : List Step) : Type 0 where
-  pub funders_secrets : HaveSecrets a
-  pub fundees_secrets : HaveSecrets b
+pub record AreWide (funder fundee : Opened) (steps : List Step) : Type 0 where
   pub funders_end : IsOpening funder
   pub fundees_end : IsOpening fundee
   pub funders_script : length funder.terms.script ≤ longest_script
@@ -355,7 +353,7 @@ module _ {K : Type 0} (signer : K → Signer) where
   setup_at id p r = setup_of r.funder r.fundee
 
   abbrev pub IsWideRun : (id : List ℕ) (p : Both K) → IsRun id p → Type 0
-  IsWideRun id p r = AreWide (signer r.funders) (signer r.fundees) r.funder r.fundee r.steps
+  IsWideRun id p r = AreWide r.funder r.fundee r.steps
 
   -- what a move makes of it, and what comes of it for the ends
   pub record Went (id : List ℕ) (p p' : Both K) (r : IsRun id p) (t : Tale) (brings : Type 0) : Type 0 where
@@ -394,8 +392,6 @@ module _ {K : Type 0} (signer : K → Signer) where
       record {
         run = more id p p' r ss h;
         wide = λ is were. record {
-          funders_secrets = were.funders_secrets;
-          fundees_secrets = were.fundees_secrets;
           funders_end = were.funders_end;
           fundees_end = were.fundees_end;
           funders_script = were.funders_script;

@@ -23,7 +23,6 @@ use Rattle.ln_channel.specs.Step.{Done, handled, commanded, connects}
 use Rattle.ln_store.proofs.Formats.{both_true}
 use Rattle.ln_pair.specs.Ends as pair
 use Rattle.ln_pair.specs.Longest.{IsLongest}
-use Rattle.ln_keys.specs.Partners.{ArePartners}
 use Rattle.ln_pair.proofs.Longest.{both_longest}
 use Rattle.ln_channels.specs.declared.step.Act.{Act}
 use Rattle.ln_channels.specs.declared.step.Act.TheVariants as act
@@ -39,13 +38,13 @@ use Rattle.ln_channels.specs.Channel.{Channel, by, side_of, is_node, moved, may_
 use Rattle.ln_channels.specs.Channel.{halt_moves, restart_moves, stop_moves, up_moves, opened_by}
 use Rattle.ln_channels.specs.World.{World, settings_of, channel, may_open, may_be_done, happens, empty}
 use Rattle.ln_channels.specs.World.{run as run_world}
-use Rattle.ln_channels.specs.Promises.{AtEnd, Each, BringsFit, BringFit, OfEach}
+use Rattle.ln_channels.specs.Promises.{AtEnd, Each, OfEach}
 use Rattle.ln_channels.specs.Longest.{HasLongest, HaveLongest, BasesAreLongest}
 use Rattle.ln_channels.proofs.Mirror.{Mirrors}
 use Rattle.ln_channels.proofs.Opened.{first_saves}
 use Rattle.ln_channels.proofs.Kept.{IsRun, IsOpen, ends_of, act_kept, fall_kept, halt_kept, restart_kept, stop_kept}
 use Rattle.ln_channels.proofs.Kept.{up_kept, at_links}
-use Rattle.ln_channels.proofs.Promised.{HasFees, Keeps, set_so, keys_so, brings_so, opened_run, happened, moved_so}
+use Rattle.ln_channels.proofs.Promised.{brings_so, opened_run, moved_so}
 use Rattle.ln_channels.proofs.Promised.{all_so, joined_so, either_so, there_so}
 
 -- ---- an end
@@ -326,48 +325,44 @@ module _ {K : Type 0} (k : Ghosts K) where
   abbrev AllLast : World K → Type 0
   AllLast w = Each (IsLasting k.signer) w.channels
 
-  opens_by : (b : Bool) (o : Open K k) (w : World K) → may_open o w ≡ b
-      → ArePartners (k.signer o.keys.funder) (k.signer o.keys.fundee) → Keeps k w → AllLast w
+  opens_by : (b : Bool) (o : Open K k) (w : World K) → may_open o w ≡ b → AllLast w
       → AllLast (cond b (record {
         settings = w.settings;
         channels = w.channels
             ++ opened_by k o (settings_of o.funder w.settings) (settings_of o.fundee w.settings) ∷ [];
       }) w)
-  opens_by false o w e keys g h = h
-  opens_by true o w e keys g h =
+  opens_by false o w e h = h
+  opens_by true o w e h =
       let s = settings_of o.funder w.settings in
       let t = settings_of o.fundee w.settings in
       let p = both_true (not (is_node o.funder o.fundee))
       (is_none (channel o.channel w.channels) && may_bring o.satoshis o.push s t) e in
       let q = both_true (is_none (channel o.channel w.channels)) (may_bring o.satoshis o.push s t) p.1 in
-      let r = opened_run k o s t keys (brings_so o.satoshis o.push s t q.1) (set_so o.funder w.settings g.settings)
-      (set_so o.fundee w.settings g.settings) in
+      let r = opened_run k o s t (brings_so o.satoshis o.push s t q.1) in
       joined_so k (IsLasting k.signer) w.channels (opened_by k o s t) h
       (r, first_exact k.signer (channel_id_of o.channel) (opened_by k o s t).both r refl)
 
-  lasts : (s : Step K k) (w : World K) → BringsFit k s → Keeps k w → AllLast w → AllLast (happens k s w)
-  lasts (step.Fees n fees) w f g h = h
-  lasts (step.Limits n limits) w f g h = h
-  lasts (step.Open o) w f g h = opens_by (may_open o w) o w refl (keys_so k o f) g h
-  lasts (step.Do e a) w f g h = moved_so k (IsLasting k.signer) e.channel (act_moves e.node a)
+  lasts : (s : Step K k) (w : World K) → AllLast w → AllLast (happens k s w)
+  lasts (step.Fees n fees) w h = h
+  lasts (step.Limits n limits) w h = h
+  lasts (step.Open o) w h = opens_by (may_open o w) o w refl h
+  lasts (step.Do e a) w h = moved_so k (IsLasting k.signer) e.channel (act_moves e.node a)
       (act_lasts k.signer e.node a) w.channels h
-  lasts (step.Down e) w f g h = moved_so k (IsLasting k.signer) e.channel (fall_moves e.node)
+  lasts (step.Down e) w h = moved_so k (IsLasting k.signer) e.channel (fall_moves e.node)
       (fall_lasts k.signer e.node) w.channels h
-  lasts (step.NoMemory e a) w f g h = there_so k (IsLasting k.signer) (may_be_done e a w.channels) e.channel
+  lasts (step.NoMemory e a) w h = there_so k (IsLasting k.signer) (may_be_done e a w.channels) e.channel
       (halt_moves e.node) (halt_lasts k.signer e.node) w h
-  lasts (step.Restart n) w f g h = all_so k (IsLasting k.signer) (restart_moves n) (restart_lasts k.signer n)
+  lasts (step.Restart n) w h = all_so k (IsLasting k.signer) (restart_moves n) (restart_lasts k.signer n)
       w.channels h
-  lasts (step.StopBefore e a) w f g h = either_so k (IsLasting k.signer) (may_be_done e a w.channels)
+  lasts (step.StopBefore e a) w h = either_so k (IsLasting k.signer) (may_be_done e a w.channels)
       (restart_moves e.node) (restart_lasts k.signer e.node) w h
-  lasts (step.StopAfter e a) w f g h = either_so k (IsLasting k.signer) (may_be_done e a w.channels) (stop_moves e a)
+  lasts (step.StopAfter e a) w h = either_so k (IsLasting k.signer) (may_be_done e a w.channels) (stop_moves e a)
       (stop_lasts k.signer e a) w h
-  lasts (step.Up n) w f g h = moved_so k (IsLasting k.signer) n up_moves (up_lasts k.signer) w.channels h
+  lasts (step.Up n) w h = moved_so k (IsLasting k.signer) n up_moves (up_lasts k.signer) w.channels h
 
-  all_lasts : (ss : List (Step K k)) (w : World K) → BringFit k ss → Keeps k w → AllLast w
-      → AllLast (run_world k ss w)
-  all_lasts [] w f g h = h
-  all_lasts (s ∷ ss) w f g h =
-      all_lasts ss (happens k s w) f.1 (happened k s w f.0 g) (lasts s w f.0 g h)
+  all_lasts : (ss : List (Step K k)) (w : World K) → AllLast w → AllLast (run_world k ss w)
+  all_lasts [] w h = h
+  all_lasts (s ∷ ss) w h = all_lasts ss (happens k s w) (lasts s w h)
 
   told : (id : List ℕ) (p : Both K) → IsRun k.signer id p → BothExact k.signer p → BasesAreLongest p
   told id p r h = at_links k.signer id r.funders r.fundees HaveLongest p (ends_of k.signer id p r) r.mirrors (
@@ -380,6 +375,6 @@ module _ {K : Type 0} (k : Ghosts K) where
   all_told [] h = tt
   all_told (c ∷ cs) h = (told (channel_id_of c.number) c.both h.0.0 h.0.1, all_told cs h.1)
 
-  pub bases_are_longest : (ss : List (Step K k)) → BringFit k ss → OfEach BasesAreLongest (run_world k ss empty)
-  bases_are_longest ss f = all_told (run_world k ss empty).channels
-      (all_lasts ss empty f (record { settings = tt; channels = tt }) tt)
+  pub bases_are_longest : (ss : List (Step K k)) → OfEach BasesAreLongest (run_world k ss empty)
+  bases_are_longest ss = all_told (run_world k ss empty).channels
+      (all_lasts ss empty tt)

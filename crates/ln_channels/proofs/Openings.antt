@@ -5,21 +5,19 @@ use Rattle.ln_msgs.specs.declared.messages.opening.AcceptChannel.{AcceptChannel}
 use Rattle.ln_msgs.specs.declared.messages.opening.FundingCreated.{FundingCreated}
 use Rattle.ln_msgs.specs.declared.messages.opening.FundingSigned.{FundingSigned}
 use Rattle.ln_keys.specs.Signer.{Signer}
+use Rattle.ln_keys.specs.Partners.{ArePartners}
 use Rattle.ln_log.specs.Opening.{HasFunds}
 use Rattle.ln_close.specs.Closing.{AreOrdered}
-use Rattle.ln_close.specs.declared.closing.Fees.{Fees}
 use Rattle.ln_channel.specs.declared.config.Config.{Config}
 use Rattle.ln_channel.specs.declared.config.OpenSpec.{OpenSpec}
 use Rattle.ln_channel.specs.declared.opening.Opened.{Opened}
 use Rattle.ln_channel.specs.Opening.{Agreement, open_message, open_fault, agreement, accept_message, accept_fault}
 use Rattle.ln_channel.specs.Opening.{funder_end, created_message, created_fault, fundee_end, funding_message}
 use Rattle.ln_channel.specs.Meeting.{Opens}
-use Rattle.ln_pair.specs.Promises.{AreSent}
 use Rattle.ln_pair.proofs.Lasting.{longest_script}
 use Rattle.ln_channels.specs.declared.settings.Settings.{Settings}
 use Rattle.ln_channels.specs.declared.step.Node.{Node}
-use Rattle.ln_channels.specs.Settings.{config_of, spec_of, opening_by, CanBring}
-use Rattle.ln_channels.specs.Records.{AreLimits}
+use Rattle.ln_channels.specs.Settings.{config_of, spec_of, opening_by, CanBring, CanBeTold}
 use Rattle.ln_channels.proofs.Fitting.{one_letter}
 use Rattle.ln_channels.proofs.Opened.{was_given}
 use Rattle.ln_channels.proofs.Opening.{IsOpenChannel, IsAcceptChannel, AreFees, IsOpening}
@@ -75,12 +73,11 @@ infixr 10 ◌and◌
 ◌and◌ : {A B : Type 0} → A → B → A × B
 x and y = (x, y)
 
-are_fees : (f : Fees) → AreSent f → AreOrdered f → AreFees f
-are_fees f h o = record { first = h.first; least = omega (arith, h.first, o.0); greatest = h.greatest }
+are_fees : (s : Settings) → CanBeTold s → AreOrdered s.fees → AreFees s.fees
+are_fees s h o = record { first = h.first; least = omega (arith, h.first, o.0); greatest = h.greatest }
 
 module _ (a b : Signer) (number satoshis push : ℕ) (n m : Node) (s t : Settings) (brings : CanBring satoshis push s t)
-    (a_point : length (a.point_of 0) ≡ 33) (b_point : length (b.point_of 0) ≡ 33) (f : AreSent s.fees)
-    (g : AreSent t.fees) (l : AreLimits s.limits) (r : AreLimits t.limits) where
+    (keys : ArePartners a b) where
   abbrev spec_so : OpenSpec
   spec_so = spec_of number (config_of n s) satoshis push
 
@@ -91,23 +88,28 @@ module _ (a b : Signer) (number satoshis push : ℕ) (n m : Node) (s t : Setting
   open_so =
       let funds = brings.opening.funds in
       let put_in : satoshis < 2 ^ 64 = omega (arith, funds) in
-      let pushed : push < 2 ^ 64 = omega (arith, funds, brings.opening.push) in record {
+      let pushed : push < 2 ^ 64 = omega (arith, funds, brings.opening.push) in
+      let accepted : s.limits.accepted < 2 ^ 16 = omega (arith, brings.opening.funder_accepts) in
+      let told = brings.funder_told in record {
         known = refl;
         values =
-            refl and refl and put_in and pushed and omega arith and l.in_flight and l.reserve and
-            l.minimum and omega arith and omega arith and l.accepted and refl and refl and refl and
-            refl and refl and a_point and omega arith and tt;
+            refl and refl and put_in and pushed and omega arith and told.in_flight and told.reserve and
+            told.minimum and omega arith and omega arith and accepted and refl and refl and refl and
+            refl and refl and keys.there.sized_points 0 (omega arith) and omega arith and tt;
         no_records = refl;
       }
 
   accept_so : IsAcceptChannel (accepted_with a b spec_so config_so)
-  accept_so = record {
-    known = refl;
-    values =
-        refl and omega arith and r.in_flight and r.reserve and r.minimum and omega arith and
-        omega arith and r.accepted and refl and refl and refl and refl and refl and b_point and tt;
-    no_records = refl;
-  }
+  accept_so =
+      let accepted : t.limits.accepted < 2 ^ 16 = omega (arith, brings.opening.fundee_accepts) in
+      let told = brings.fundee_told in record {
+        known = refl;
+        values =
+            refl and omega arith and told.in_flight and told.reserve and told.minimum and omega arith and
+            omega arith and accepted and refl and refl and refl and refl and refl and
+            keys.back.sized_points 0 (omega arith) and tt;
+        no_records = refl;
+      }
 
   funds_so : HasFunds (opening_by satoshis push s t)
   funds_so = record {
@@ -119,7 +121,7 @@ module _ (a b : Signer) (number satoshis push : ℕ) (n m : Node) (s t : Setting
   funders_so : IsOpening (funders_end a b spec_so config_so)
   funders_so = record {
     channel = refl;
-    fees = are_fees s.fees f brings.funder_fees;
+    fees = are_fees s brings.funder_told brings.funder_fees;
     funds = funds_so;
     open_channel = open_so;
     accept_channel = accept_so;
@@ -130,7 +132,7 @@ module _ (a b : Signer) (number satoshis push : ℕ) (n m : Node) (s t : Setting
   fundees_so : IsOpening (fundees_end a b spec_so config_so)
   fundees_so = record {
     channel = refl;
-    fees = are_fees t.fees g brings.fundee_fees;
+    fees = are_fees t brings.fundee_told brings.fundee_fees;
     funds = funds_so;
     open_channel = open_so;
     accept_channel = accept_so;

@@ -1,7 +1,7 @@
 -- Every channel of a world is one that was opened, and what has happened to it.
-use Rattle.std.proofs.Common.{◌≡◌, ℕ, List, [], ◌∷◌, ◌++◌, refl, sym, ap, subst, arith}
-use Rattle.std.proofs.Common.{Bool, true, false, cond, ◌&&◌, ◌==◌, not, nat_le, is_none}
-use Rattle.std.proofs.lemmas.Bool.{leb-true}
+use Rattle.std.proofs.Common.{◌≡◌, ℕ, ◌^◌, List, [], ◌∷◌, ◌++◌, refl, sym, ap, subst}
+use Rattle.std.proofs.Common.{Bool, true, false, cond, ◌&&◌, ◌==◌, not, nat_le, nat_lt, is_none}
+use Rattle.std.proofs.lemmas.Bool.{leb-true, ltb-true}
 use Rattle.ln_keys.specs.declared.keys.ChannelKeys.{Ghosts}
 use Rattle.std.proofs.Math.Logic.{∥∥₁_elim}
 use Rattle.std.proofs.Math.Bool.{Bool-set}
@@ -25,14 +25,14 @@ use Rattle.ln_channels.specs.declared.step.Step.TheVariants as step
 use Rattle.ln_channels.specs.declared.settings.Settings.{Settings}
 use Rattle.ln_channels.specs.declared.settings.Setting.{Setting}
 use Rattle.ln_channels.specs.Settings.{config_of, spec_of, txid_of, channel_id_of, opening_by, are_ordered}
-use Rattle.ln_channels.specs.Settings.{defaults, may_bring, CanBring}
+use Rattle.ln_channels.specs.Settings.{may_bring, may_ask, can_be_told, CanBring, CanBeTold}
 use Rattle.ln_channels.specs.Both.{Both, Move}
 use Rattle.ln_channels.specs.Channel.{Channel, is_node, moved, opened_by, act_moves, fall_moves, restart_moves}
 use Rattle.ln_channels.specs.Channel.{up_moves}
 use Rattle.ln_channels.specs.Channel.{halt_moves, stop_moves}
 use Rattle.ln_channels.specs.World.{World, settings_of, with_settings, channel, moved_at, all_moved, may_open, happens}
 use Rattle.ln_channels.specs.World.{at, everywhere, may_be_done, empty, run}
-use Rattle.ln_channels.specs.Promises.{Headline, NoneRefused, AllTaken, OneFee, Agrees, BringsFit, Each, BringFit}
+use Rattle.ln_channels.specs.Promises.{Headline, NoneRefused, AllTaken, OneFee, Agrees, Each}
 use Rattle.ln_channels.specs.Promises.{OfEach}
 use Rattle.ln_channels.specs.Promises.{AnswersShutdown, MarksAgree, BothClose, DoExactly}
 use Rattle.ln_channels.proofs.Fitting.{funders, fundees}
@@ -51,46 +51,41 @@ ordered_so s e =
     let p = both_true (nat_le s.fees.least s.fees.first) (nat_le s.fees.first s.fees.greatest) e in
     (leb-true s.fees.least s.fees.first p.0, leb-true s.fees.first s.fees.greatest p.1)
 
+told_so : (s : Settings) → can_be_told s ≡ true → CanBeTold s
+told_so s e =
+    let most = 2 ^ 64 in
+    let two = nat_lt s.fees.first most && nat_lt s.fees.greatest most in
+    let three = two && nat_lt s.limits.minimum most in
+    let four = three && nat_lt s.limits.in_flight most in
+    let p = both_true four (nat_lt s.limits.reserve most) e in
+    let q = both_true three (nat_lt s.limits.in_flight most) p.0 in
+    let r = both_true two (nat_lt s.limits.minimum most) q.0 in
+    let t = both_true (nat_lt s.fees.first most) (nat_lt s.fees.greatest most) r.0 in
+    record {
+      first = ltb-true s.fees.first most t.0;
+      greatest = ltb-true s.fees.greatest most t.1;
+      minimum = ltb-true s.limits.minimum most r.1;
+      in_flight = ltb-true s.limits.in_flight most q.1;
+      reserve = ltb-true s.limits.reserve most p.1;
+    }
+
 pub brings_so : (satoshis push : ℕ) (s t : Settings) → may_bring satoshis push s t ≡ true → CanBring satoshis push s t
 brings_so satoshis push s t e =
     let o = opening_by satoshis push s t in
-    let p = both_true (is_fit o) (are_ordered s && are_ordered t) e in
-    let q = both_true (are_ordered s) (are_ordered t) p.1 in
+    let p = both_true (is_fit o) (may_ask s && may_ask t) e in
+    let q = both_true (may_ask s) (may_ask t) p.1 in
+    let a = both_true (are_ordered s) (can_be_told s) q.0 in
+    let b = both_true (are_ordered t) (can_be_told t) q.1 in
     record {
       opening = fit_is o p.0;
-      funder_fees = ordered_so s q.0;
-      fundee_fees = ordered_so t q.1;
+      funder_fees = ordered_so s a.0;
+      fundee_fees = ordered_so t b.0;
+      funder_told = told_so s a.1;
+      fundee_told = told_so t b.1;
     }
 
--- ---- what is set for nodes
-
-module _ (P : Settings → Type 0) where
-  abbrev pub AreSet : List Setting → Type 0
-  AreSet ss = Each (λ (s : Setting). P s.settings) ss
-
-  found : (b : Bool) (s t : Settings) → P s → P t → P (cond b s t)
-  found true s t h k = h
-  found false s t h k = k
-
-  either_list : (b : Bool) (new s : Setting) (ss ts : List Setting) → P new.settings → AreSet (s ∷ ss) → AreSet ts
-      → AreSet (cond b (new ∷ ss) (s ∷ ts))
-  either_list true new s ss ts f h k = (f, h.1)
-  either_list false new s ss ts f h k = (h.0, k)
-
-  pub set_of : P defaults → (n : Node) (ss : List Setting) → AreSet ss → P (settings_of n ss)
-  set_of d n [] h = d
-  set_of d n (s ∷ ss) h = found (is_node s.node n) s.settings (settings_of n ss) h.0 (set_of d n ss h.1)
-
-  pub set_with : (n : Node) (new : Settings) (ss : List Setting) → P new → AreSet ss → AreSet (with_settings n new ss)
-  set_with n new [] f h = (f, tt)
-  set_with n new (s ∷ ss) f h = either_list (is_node s.node n) (record { node = n; settings = new }) s ss
-      (with_settings n new ss) f h (set_with n new ss f h.1)
-
-abbrev pub HasFees : Settings → Type 0
-HasFees s = AreSent s.fees
-
-pub set_so : (n : Node) (ss : List Setting) → AreSet HasFees ss → AreSent (settings_of n ss).fees
-set_so n ss h = set_of HasFees (record { first = omega arith; greatest = omega arith }) n ss h
+pub sent_so : (s : Settings) → CanBeTold s → AreSent s.fees
+sent_so s h = record { first = h.first; greatest = h.greatest }
 
 -- ---- a channel that is opened
 
@@ -107,6 +102,8 @@ partners_so a b t = record {
     closings = λ fee lt. ∥∥₁_elim t (Bool-set _ _) (λ p. p.there.closings fee lt);
     secrets = λ n le. ∥∥₁_elim t (Bool-set _ _) (λ p. p.there.secrets n le);
     own_secrets = λ n le. ∥∥₁_elim t (Bool-set _ _) (λ p. p.there.own_secrets n le);
+    sized_points = λ n le. ∥∥₁_elim t (ℕ_set _ _) (λ p. p.there.sized_points n le);
+    sized_secrets = λ n le. ∥∥₁_elim t (ℕ_set _ _) (λ p. p.there.sized_secrets n le);
   };
   back = record {
     commitments = λ n point v le len. ∥∥₁_elim t (Bool-set _ _) (λ p. p.back.commitments n point v le len);
@@ -114,6 +111,8 @@ partners_so a b t = record {
     closings = λ fee lt. ∥∥₁_elim t (Bool-set _ _) (λ p. p.back.closings fee lt);
     secrets = λ n le. ∥∥₁_elim t (Bool-set _ _) (λ p. p.back.secrets n le);
     own_secrets = λ n le. ∥∥₁_elim t (Bool-set _ _) (λ p. p.back.own_secrets n le);
+    sized_points = λ n le. ∥∥₁_elim t (ℕ_set _ _) (λ p. p.back.sized_points n le);
+    sized_secrets = λ n le. ∥∥₁_elim t (ℕ_set _ _) (λ p. p.back.sized_secrets n le);
   };
 }
 
@@ -125,18 +124,20 @@ module _ {K : Type 0} (k : Ghosts K) where
   abbrev pub opening_tale : Opening → Tale
   opening_tale o = record { sent_x = []; sent_y = []; moves = machine.Open o ∷ []; told_x = []; told_y = [] }
 
+  pub keys_so : (o : Open K k) → ArePartners (k.signer o.keys.funder) (k.signer o.keys.fundee)
+  keys_so o = partners_so (k.signer o.keys.funder) (k.signer o.keys.fundee) o.keys.partners
+
   -- a channel that was opened, with no step since
-  abbrev pub opened_run : (o : Open K k) (s t : Settings) → ArePartners (k.signer o.keys.funder) (k.signer o.keys.fundee)
-      → CanBring o.satoshis o.push s t → AreSent s.fees → AreSent t.fees → IsOpen k.signer (opened_by k o s t)
-  opened_run o s t keys brings fs ft =
+  abbrev pub opened_run : (o : Open K k) (s t : Settings) → CanBring o.satoshis o.push s t
+      → IsOpen k.signer (opened_by k o s t)
+  opened_run o s t brings =
+      let keys = keys_so o in
       let a = k.signer o.keys.funder in
       let b = k.signer o.keys.fundee in
       let spec = spec_of o.channel (config_of o.funder s) o.satoshis o.push in
       let config = config_of o.fundee t in
       let can : CanOpen a b spec config = record {
-        partners = keys.partners;
-        funder_point = keys.a_points 0 (omega arith);
-        fundee_point = keys.b_points 0 (omega arith);
+        partners = keys;
         chain = refl;
         spec = funders o.channel o.satoshis o.push o.funder s t brings;
         config = fundees o.satoshis o.push o.fundee s t brings;
@@ -157,19 +158,18 @@ module _ {K : Type 0} (k : Ghosts K) where
         steps = first_saves;
         keys = keys;
         opens = opens;
-        funders_fees = subst AreSent (sym fees.0) fs;
-        fundees_fees = subst AreSent (sym fees.1) ft;
+        funders_fees = subst AreSent (sym fees.0) (sent_so s brings.funder_told);
+        fundees_fees = subst AreSent (sym fees.1) (sent_so t brings.fundee_told);
         funders_order = subst AreOrdered (sym fees.0) brings.funder_fees;
         fundees_order = subst AreOrdered (sym fees.1) brings.fundee_fees;
         mirrors = mirrored k.signer id o.keys.funder o.keys.fundee spec config funder fundee opens (id_so o.channel);
       }
 
   -- and with nothing said since
-  pub opened_told : (o : Open K k) (s t : Settings) → ArePartners (k.signer o.keys.funder) (k.signer o.keys.fundee)
-      → CanBring o.satoshis o.push s t → AreSent s.fees → AreSent t.fees
+  pub opened_told : (o : Open K k) (s t : Settings) → CanBring o.satoshis o.push s t
       → IsToldOf (opened_by k o s t) (opening_tale (opening_by o.satoshis o.push s t))
-  opened_told o s t keys brings fs ft =
-      let r = opened_run o s t keys brings fs ft in
+  opened_told o s t brings =
+      let r = opened_run o s t brings in
       record {
         run = r;
         x = refl;
@@ -183,9 +183,8 @@ module _ {K : Type 0} (k : Ghosts K) where
 
   -- ---- a world
 
-  pub record Keeps (w : World K) : Type 0 where
-    pub settings : AreSet HasFees w.settings
-    pub channels : Each (IsOpen k.signer) w.channels
+  abbrev pub AreOpen : World K → Type 0
+  AreOpen w = Each (IsOpen k.signer) w.channels
 
   module _ (P : Channel K → Type 0) where
     one_moved : (b : Bool) (f : Channel K → List Move) → ((c : Channel K) → P c → P (moved k.signer f c))
@@ -219,95 +218,46 @@ module _ {K : Type 0} (k : Ghosts K) where
     there_so true n f keep w h = moved_so n f keep w.channels h
     there_so false n f keep w h = h
 
-  pub settings_stay : (P : Settings → Type 0) (b : Bool) (f : Channel K → List Move) (w : World K)
-      → AreSet P w.settings → AreSet P (cond b (everywhere k.signer f w) w).settings
-  settings_stay P true f w h = h
-  settings_stay P false f w h = h
-
-  pub settings_stay_there : (P : Settings → Type 0) (b : Bool) (n : ℕ) (f : Channel K → List Move) (w : World K)
-      → AreSet P w.settings → AreSet P (cond b (at k.signer n f w) w).settings
-  settings_stay_there P true n f w h = h
-  settings_stay_there P false n f w h = h
-
-  pub keys_so : (o : Open K k) → BringsFit k (step.Open o) → ArePartners (k.signer o.keys.funder) (k.signer o.keys.fundee)
-  keys_so o f = record {
-    partners = partners_so (k.signer o.keys.funder) (k.signer o.keys.fundee) o.keys.partners;
-    a_points = f.0;
-    b_points = f.1;
-  }
-
-  opens_by : (b : Bool) (o : Open K k) (w : World K) → may_open o w ≡ b
-      → ArePartners (k.signer o.keys.funder) (k.signer o.keys.fundee) → Keeps w
-      → Keeps (cond b (record {
+  opens_by : (b : Bool) (o : Open K k) (w : World K) → may_open o w ≡ b → AreOpen w
+      → AreOpen (cond b (record {
         settings = w.settings;
         channels = w.channels
             ++ opened_by k o (settings_of o.funder w.settings) (settings_of o.fundee w.settings) ∷ [];
       }) w)
-  opens_by false o w e keys h = h
-  opens_by true o w e keys h =
+  opens_by false o w e h = h
+  opens_by true o w e h =
       let s = settings_of o.funder w.settings in
       let t = settings_of o.fundee w.settings in
       let p = both_true (not (is_node o.funder o.fundee))
       (is_none (channel o.channel w.channels) && may_bring o.satoshis o.push s t) e in
       let q = both_true (is_none (channel o.channel w.channels)) (may_bring o.satoshis o.push s t) p.1 in
-      record {
-        settings = h.settings;
-        channels = joined_so (IsOpen k.signer) w.channels (opened_by k o s t) h.channels
-            (opened_run o s t keys (brings_so o.satoshis o.push s t q.1) (set_so o.funder w.settings h.settings)
-            (set_so o.fundee w.settings h.settings));
-      }
+      joined_so (IsOpen k.signer) w.channels (opened_by k o s t) h
+      (opened_run o s t (brings_so o.satoshis o.push s t q.1))
 
-  pub happened : (s : Step K k) (w : World K) → BringsFit k s → Keeps w → Keeps (happens k s w)
-  happened (step.Fees n fees) w f h = record {
-    settings = set_with HasFees n (record (settings_of n w.settings) { fees = fees }) w.settings f h.settings;
-    channels = h.channels;
-  }
-  happened (step.Limits n limits) w f h = record {
-    settings = set_with HasFees n (record (settings_of n w.settings) { limits = limits }) w.settings
-        (set_so n w.settings h.settings) h.settings;
-    channels = h.channels;
-  }
-  happened (step.Open o) w f h = opens_by (may_open o w) o w refl (keys_so o f) h
-  happened (step.Do e a) w f h = record {
-    settings = h.settings;
-    channels = moved_so (IsOpen k.signer) e.channel (act_moves e.node a) (act_kept k.signer e.node a) w.channels
-        h.channels;
-  }
-  happened (step.Down e) w f h = record {
-    settings = h.settings;
-    channels = moved_so (IsOpen k.signer) e.channel (fall_moves e.node) (fall_kept k.signer e.node) w.channels
-        h.channels;
-  }
-  happened (step.NoMemory e a) w f h = record {
-    settings = settings_stay_there HasFees (may_be_done e a w.channels) e.channel (halt_moves e.node) w h.settings;
-    channels = there_so (IsOpen k.signer) (may_be_done e a w.channels) e.channel (halt_moves e.node)
-        (halt_kept k.signer e.node) w h.channels;
-  }
-  happened (step.Restart n) w f h = record {
-    settings = h.settings;
-    channels = all_so (IsOpen k.signer) (restart_moves n) (restart_kept k.signer n) w.channels h.channels;
-  }
-  happened (step.StopBefore e a) w f h = record {
-    settings = settings_stay HasFees (may_be_done e a w.channels) (restart_moves e.node) w h.settings;
-    channels = either_so (IsOpen k.signer) (may_be_done e a w.channels) (restart_moves e.node)
-        (restart_kept k.signer e.node) w h.channels;
-  }
-  happened (step.StopAfter e a) w f h = record {
-    settings = settings_stay HasFees (may_be_done e a w.channels) (stop_moves e a) w h.settings;
-    channels = either_so (IsOpen k.signer) (may_be_done e a w.channels) (stop_moves e a) (stop_kept k.signer e a) w
-        h.channels;
-  }
-  happened (step.Up n) w f h = record {
-    settings = h.settings;
-    channels = moved_so (IsOpen k.signer) n up_moves (up_kept k.signer) w.channels h.channels;
-  }
+  pub happened : (s : Step K k) (w : World K) → AreOpen w → AreOpen (happens k s w)
+  happened (step.Fees n fees) w h = h
+  happened (step.Limits n limits) w h = h
+  happened (step.Open o) w h = opens_by (may_open o w) o w refl h
+  happened (step.Do e a) w h =
+      moved_so (IsOpen k.signer) e.channel (act_moves e.node a) (act_kept k.signer e.node a) w.channels h
+  happened (step.Down e) w h =
+      moved_so (IsOpen k.signer) e.channel (fall_moves e.node) (fall_kept k.signer e.node) w.channels h
+  happened (step.NoMemory e a) w h =
+      there_so (IsOpen k.signer) (may_be_done e a w.channels) e.channel (halt_moves e.node)
+      (halt_kept k.signer e.node) w h
+  happened (step.Restart n) w h = all_so (IsOpen k.signer) (restart_moves n) (restart_kept k.signer n) w.channels h
+  happened (step.StopBefore e a) w h =
+      either_so (IsOpen k.signer) (may_be_done e a w.channels) (restart_moves e.node) (restart_kept k.signer e.node) w h
+  happened (step.StopAfter e a) w h =
+      either_so (IsOpen k.signer) (may_be_done e a w.channels) (stop_moves e a) (stop_kept k.signer e a) w h
+  happened (step.Up n) w h = moved_so (IsOpen k.signer) n up_moves (up_kept k.signer) w.channels h
 
-  ran : (ss : List (Step K k)) (w : World K) → BringFit k ss → Keeps w → Keeps (run k ss w)
-  ran [] w f h = h
-  ran (s ∷ ss) w f h = ran ss (happens k s w) f.1 (happened s w f.0 h)
+  ran : (ss : List (Step K k)) (w : World K) → AreOpen w → AreOpen (run k ss w)
+  ran [] w h = h
+  ran (s ∷ ss) w h = ran ss (happens k s w) (happened s w h)
 
-  kept : (ss : List (Step K k)) → BringFit k ss → Keeps (run k ss empty)
-  kept ss f = ran ss empty f (record { settings = tt; channels = tt })
+  kept : (ss : List (Step K k)) → AreOpen (run k ss empty)
+  kept ss = ran ss empty tt
 
   -- ---- what is promised of each channel
 
@@ -316,37 +266,37 @@ module _ {K : Type 0} (k : Ghosts K) where
   of_each P f [] h = tt
   of_each P f (c ∷ cs) h = (f (channel_id_of c.number) c.both h.0, of_each P f cs h.1)
 
-  pub headline : (ss : List (Step K k)) → BringFit k ss → OfEach Headline (run k ss empty)
-  headline ss f = of_each Headline (channels.headline k.signer) (run k ss empty).channels (kept ss f).channels
+  pub headline : (ss : List (Step K k)) → OfEach Headline (run k ss empty)
+  headline ss = of_each Headline (channels.headline k.signer) (run k ss empty).channels (kept ss)
 
-  pub none_is_refused : (ss : List (Step K k)) → BringFit k ss → OfEach (NoneRefused k.signer) (run k ss empty)
-  none_is_refused ss f = of_each (NoneRefused k.signer) (channels.none_refused k.signer) (run k ss empty).channels
-      (kept ss f).channels
+  pub none_is_refused : (ss : List (Step K k)) → OfEach (NoneRefused k.signer) (run k ss empty)
+  none_is_refused ss = of_each (NoneRefused k.signer) (channels.none_refused k.signer) (run k ss empty).channels
+      (kept ss)
 
-  pub agrees : (ss : List (Step K k)) → BringFit k ss → OfEach Agrees (run k ss empty)
-  agrees ss f = of_each Agrees (channels.agrees k.signer) (run k ss empty).channels (kept ss f).channels
+  pub agrees : (ss : List (Step K k)) → OfEach Agrees (run k ss empty)
+  agrees ss = of_each Agrees (channels.agrees k.signer) (run k ss empty).channels (kept ss)
 
-  pub both_close : (ss : List (Step K k)) → BringFit k ss → OfEach BothClose (run k ss empty)
-  both_close ss f = of_each BothClose (channels.both_close k.signer) (run k ss empty).channels (kept ss f).channels
+  pub both_close : (ss : List (Step K k)) → OfEach BothClose (run k ss empty)
+  both_close ss = of_each BothClose (channels.both_close k.signer) (run k ss empty).channels (kept ss)
 
-  pub marks_agree : (ss : List (Step K k)) → BringFit k ss → OfEach MarksAgree (run k ss empty)
-  marks_agree ss f = of_each MarksAgree (channels.marks_agree k.signer) (run k ss empty).channels (kept ss f).channels
+  pub marks_agree : (ss : List (Step K k)) → OfEach MarksAgree (run k ss empty)
+  marks_agree ss = of_each MarksAgree (channels.marks_agree k.signer) (run k ss empty).channels (kept ss)
 
-  pub all_taken : (ss : List (Step K k)) → BringFit k ss → OfEach (AllTaken k.signer) (run k ss empty)
-  all_taken ss f = of_each (AllTaken k.signer) (channels.all_accepted k.signer) (run k ss empty).channels
-      (kept ss f).channels
+  pub all_taken : (ss : List (Step K k)) → OfEach (AllTaken k.signer) (run k ss empty)
+  all_taken ss = of_each (AllTaken k.signer) (channels.all_accepted k.signer) (run k ss empty).channels
+      (kept ss)
 
-  pub one_fee : (ss : List (Step K k)) → BringFit k ss → OfEach OneFee (run k ss empty)
-  one_fee ss f = of_each OneFee (channels.closes_at_one_fee k.signer) (run k ss empty).channels (kept ss f).channels
+  pub one_fee : (ss : List (Step K k)) → OfEach OneFee (run k ss empty)
+  one_fee ss = of_each OneFee (channels.closes_at_one_fee k.signer) (run k ss empty).channels (kept ss)
 
-  pub answered : (ss : List (Step K k)) → BringFit k ss → OfEach AnswersShutdown (run k ss empty)
-  answered ss f = of_each AnswersShutdown (channels.answers_shutdown k.signer) (run k ss empty).channels
-      (kept ss f).channels
+  pub answered : (ss : List (Step K k)) → OfEach AnswersShutdown (run k ss empty)
+  answered ss = of_each AnswersShutdown (channels.answers_shutdown k.signer) (run k ss empty).channels
+      (kept ss)
 
-  pub do_exactly : (ss : List (Step K k)) → BringFit k ss → OfEach (DoExactly k.signer) (run k ss empty)
-  do_exactly ss f = of_each (DoExactly k.signer) (doing.do_exactly k.signer) (run k ss empty).channels
-      (kept ss f).channels
+  pub do_exactly : (ss : List (Step K k)) → OfEach (DoExactly k.signer) (run k ss empty)
+  do_exactly ss = of_each (DoExactly k.signer) (doing.do_exactly k.signer) (run k ss empty).channels
+      (kept ss)
 
-  pub sign_covered : (ss : List (Step K k)) → BringFit k ss → OfEach (SignCovered k.signer) (run k ss empty)
-  sign_covered ss f = of_each (SignCovered k.signer) (links_sign k.signer) (run k ss empty).channels
-      (kept ss f).channels
+  pub sign_covered : (ss : List (Step K k)) → OfEach (SignCovered k.signer) (run k ss empty)
+  sign_covered ss = of_each (SignCovered k.signer) (links_sign k.signer) (run k ss empty).channels
+      (kept ss)

@@ -15,8 +15,6 @@ use Rattle.ln_channel.specs.Meeting.{Opens}
 use Rattle.ln_channel.specs.End.{End}
 use Rattle.ln_channel.specs.State.{State}
 use Rattle.ln_store.proofs.Formats.{both_true}
-use Rattle.ln_keys.specs.Partners.{ArePartners}
-use Rattle.ln_pair.specs.Promises.{AreSent}
 use Rattle.ln_pair.proofs.Lasting.{IsCounted, IsWide, IsOf}
 use Rattle.ln_pair.proofs.Counting.{are_counted}
 use Rattle.ln_pair.proofs.Wide.{are_wide}
@@ -38,16 +36,15 @@ use Rattle.ln_channels.specs.World.{World, settings_of, channel, may_open, joine
 use Rattle.ln_channels.specs.World.{empty, run}
 use Rattle.ln_channels.specs.Failing.{LinkLacks, SideLacks, ActLacks, ActLacksIn, MovesLack, OpenLacks, MayFail}
 use Rattle.ln_channels.specs.Failing.{SomeMayFail}
-use Rattle.ln_channels.specs.Promises.{BringsFit, BringFit, Each, OfEach}
-use Rattle.ln_channels.specs.Records.{AreLimits, IsAct, IsStep, AreSteps, HaveRecords}
+use Rattle.ln_channels.specs.Promises.{Each, OfEach}
+use Rattle.ln_channels.specs.Records.{IsAct, IsStep, AreSteps, HaveRecords}
 use Rattle.ln_channels.proofs.Mirror.{link_at}
 use Rattle.ln_channels.proofs.Opening.{IsOpening}
 use Rattle.ln_channels.proofs.Forms.{has_record}
 use Rattle.ln_channels.proofs.Openings.{are_openings, short_scripts}
 use Rattle.ln_channels.proofs.Kept.{IsRun, IsWideRun, ends_of, IsMove, ArePossible, went}
-use Rattle.ln_channels.proofs.Promised.{brings_so, AreSet, set_of, set_with, set_so, opened_run, Keeps}
-use Rattle.ln_channels.proofs.Promised.{moved_so, all_so, joined_so, either_so, there_so, settings_stay}
-use Rattle.ln_channels.proofs.Promised.{settings_stay_there, keys_so, happened}
+use Rattle.ln_channels.proofs.Promised.{brings_so, opened_run, keys_so}
+use Rattle.ln_channels.proofs.Promised.{moved_so, all_so, joined_so, either_so, there_so}
 use Rattle.ln_channels.proofs.Told.{MayMake, acts_possible, falls_possible, halts_possible, restarts_possible}
 use Rattle.ln_channels.proofs.Told.{stops_possible, ups_possible}
 use Rattle.ln_channels.proofs.Stopping.{lacks_acted}
@@ -83,22 +80,6 @@ ups_bring : (b : Bool) → Each IsMove (cond b (Meet ∷ []) [])
 ups_bring true = (tt, tt)
 ups_bring false = tt
 
--- ---- what is set for nodes
-
-abbrev pub HasLimits : Settings → Type 0
-HasLimits s = AreLimits s.limits
-
-defaults_so : HasLimits defaults
-defaults_so = record {
-  minimum = omega arith;
-  accepted = omega arith;
-  in_flight = omega arith;
-  reserve = omega arith;
-}
-
-limits_so : (n : Node) (ss : List Setting) → AreSet HasLimits ss → AreLimits (settings_of n ss).limits
-limits_so n ss h = set_of HasLimits defaults_so n ss h
-
 module _ {K : Type 0} (k : Ghosts K) where
   abbrev pub IsFitChannel : Channel K → Type 0
   IsFitChannel c = IsFit k.signer (channel_id_of c.number) c.both
@@ -109,24 +90,19 @@ module _ {K : Type 0} (k : Ghosts K) where
 
   -- ---- a channel that is opened
 
-  opened_so : (o : Open K k) (s t : Settings) → ArePartners (k.signer o.keys.funder) (k.signer o.keys.fundee)
-      → CanBring o.satoshis o.push s t → AreSent s.fees → AreSent t.fees → AreLimits s.limits → AreLimits t.limits
-      → IsStep k (step.Open o) → IsFitChannel (opened_by k o s t)
-  opened_so o s t keys brings fs ft ls lt is =
+  opened_so : (o : Open K k) (s t : Settings) → CanBring o.satoshis o.push s t → IsFitChannel (opened_by k o s t)
+  opened_so o s t brings =
       let a = k.signer o.keys.funder in
       let b = k.signer o.keys.fundee in
-      let r = opened_run k o s t keys brings fs ft in
-      let x = keys.a_points 0 (omega arith) in
-      let y = keys.b_points 0 (omega arith) in
-      let both = are_openings a b o.channel o.satoshis o.push o.funder o.fundee s t brings x y fs ft ls lt r.funder
-      r.fundee r.opens in
-      let scripts = short_scripts a b o.channel o.satoshis o.push o.funder o.fundee s t brings x y fs ft ls lt r.funder
-      r.fundee r.opens in
+      let keys = keys_so k o in
+      let r = opened_run k o s t brings in
+      let both = are_openings a b o.channel o.satoshis o.push o.funder o.fundee s t brings keys r.funder r.fundee
+      r.opens in
+      let scripts = short_scripts a b o.channel o.satoshis o.push o.funder o.fundee s t brings keys r.funder r.fundee
+      r.opens in
       record {
         run = r;
         wide = record {
-          funders_secrets = is.0;
-          fundees_secrets = is.1;
           funders_end = both.0;
           fundees_end = both.1;
           funders_script = scripts.0;
@@ -137,90 +113,50 @@ module _ {K : Type 0} (k : Ghosts K) where
 
   -- ---- a world
 
-  pub record AreFit (w : World K) : Type 0 where
-    pub keeps : Keeps k w
-    pub limits : AreSet HasLimits w.settings
-    pub channels : Each IsFitChannel w.channels
+  abbrev pub AreFit : World K → Type 0
+  AreFit w = Each IsFitChannel w.channels
 
-  -- but for its channels' steps and fees
-  abbrev HasFit : World K → Type 0
-  HasFit w = AreSet HasLimits w.settings × Each IsFitChannel w.channels
-
-  opens_by : (b : Bool) (o : Open K k) (w : World K) → may_open o w ≡ b → BringsFit k (step.Open o)
-      → IsStep k (step.Open o) → AreFit w
-      → HasFit (cond b (joined (opened_by k o (settings_of o.funder w.settings) (settings_of o.fundee w.settings)) w) w)
-  opens_by false o w e f is h = (h.limits, h.channels)
-  opens_by true o w e f is h =
+  opens_by : (b : Bool) (o : Open K k) (w : World K) → may_open o w ≡ b → AreFit w
+      → AreFit (cond b (joined (opened_by k o (settings_of o.funder w.settings) (settings_of o.fundee w.settings)) w) w)
+  opens_by false o w e h = h
+  opens_by true o w e h =
       let s = settings_of o.funder w.settings in
       let t = settings_of o.fundee w.settings in
       let p = both_true (not (is_node o.funder o.fundee))
       (is_none (channel o.channel w.channels) && may_bring o.satoshis o.push s t) e in
-      let q = both_true (is_none (channel o.channel w.channels)) (may_bring o.satoshis o.push s t) p.1 in (
-        h.limits,
-        joined_so k IsFitChannel w.channels (opened_by k o s t) h.channels
-            (opened_so o s t (keys_so k o f) (brings_so o.satoshis o.push s t q.1)
-            (set_so o.funder w.settings h.keeps.settings) (set_so o.fundee w.settings h.keeps.settings)
-            (limits_so o.funder w.settings h.limits) (limits_so o.fundee w.settings h.limits) is),
-      )
+      let q = both_true (is_none (channel o.channel w.channels)) (may_bring o.satoshis o.push s t) p.1 in
+      joined_so k IsFitChannel w.channels (opened_by k o s t) h
+      (opened_so o s t (brings_so o.satoshis o.push s t q.1))
 
-  happens_so : (s : Step K k) (w : World K) → BringsFit k s → IsStep k s → AreFit w → HasFit (happens k s w)
-  happens_so (step.Fees n fees) w f is h = (
-    set_with HasLimits n (record (settings_of n w.settings) { fees = fees }) w.settings
-        (limits_so n w.settings h.limits) h.limits,
-    h.channels,
-  )
-  happens_so (step.Limits n limits) w f is h = (
-    set_with HasLimits n (record (settings_of n w.settings) { limits = limits }) w.settings is h.limits,
-    h.channels,
-  )
-  happens_so (step.Open o) w f is h = opens_by (may_open o w) o w refl f is h
-  happens_so (step.Do e a) w f is h = (
-    h.limits,
-    moved_so k IsFitChannel e.channel (act_moves e.node a) (kept_by (act_moves e.node a) (acts_possible k e.node a)
-        (λ c. bring_by (side_of e.node c) (λ side. By side a) (λ side. is))) w.channels h.channels,
-  )
-  happens_so (step.Down e) w f is h = (
-    h.limits,
-    moved_so k IsFitChannel e.channel (fall_moves e.node) (kept_by (fall_moves e.node) (falls_possible k e.node)
-        (λ c. bring_by (side_of e.node c) Falls (λ side. tt))) w.channels h.channels,
-  )
-  happens_so (step.NoMemory e a) w f is h = (
-    settings_stay_there k HasLimits (may_be_done e a w.channels) e.channel (halt_moves e.node) w h.limits,
-    there_so k IsFitChannel (may_be_done e a w.channels) e.channel (halt_moves e.node) (kept_by (halt_moves e.node)
-        (halts_possible k e.node) (λ c. bring_by (side_of e.node c) Halts (λ side. tt))) w h.channels,
-  )
-  happens_so (step.Restart n) w f is h = (
-    h.limits,
-    all_so k IsFitChannel (restart_moves n) (kept_by (restart_moves n) (restarts_possible k n)
-        (λ c. bring_by (side_of n c) Restarts (λ side. tt))) w.channels h.channels,
-  )
-  happens_so (step.StopBefore e a) w f is h = (
-    settings_stay k HasLimits (may_be_done e a w.channels) (restart_moves e.node) w h.limits,
-    either_so k IsFitChannel (may_be_done e a w.channels) (restart_moves e.node) (kept_by (restart_moves e.node)
-        (restarts_possible k e.node) (λ c. bring_by (side_of e.node c) Restarts (λ side. tt))) w h.channels,
-  )
-  happens_so (step.StopAfter e a) w f is h = (
-    settings_stay k HasLimits (may_be_done e a w.channels) (stop_moves e a) w h.limits,
-    either_so k IsFitChannel (may_be_done e a w.channels) (stop_moves e a) (kept_by (stop_moves e a)
-        (stops_possible k e a) (λ c. stops_bring (c.number == e.channel) (side_of e.node c) a is)) w h.channels,
-  )
-  happens_so (step.Up n) w f is h = (
-    h.limits,
-    moved_so k IsFitChannel n up_moves (kept_by up_moves (ups_possible k) (λ c. ups_bring (may_meet c.both)))
-        w.channels h.channels,
-  )
+  pub stays_fit : (s : Step K k) (w : World K) → IsStep k s → AreFit w → AreFit (happens k s w)
+  stays_fit (step.Fees n fees) w is h = h
+  stays_fit (step.Limits n limits) w is h = h
+  stays_fit (step.Open o) w is h = opens_by (may_open o w) o w refl h
+  stays_fit (step.Do e a) w is h =
+      moved_so k IsFitChannel e.channel (act_moves e.node a) (kept_by (act_moves e.node a) (acts_possible k e.node a)
+      (λ c. bring_by (side_of e.node c) (λ side. By side a) (λ side. is))) w.channels h
+  stays_fit (step.Down e) w is h =
+      moved_so k IsFitChannel e.channel (fall_moves e.node) (kept_by (fall_moves e.node) (falls_possible k e.node)
+      (λ c. bring_by (side_of e.node c) Falls (λ side. tt))) w.channels h
+  stays_fit (step.NoMemory e a) w is h =
+      there_so k IsFitChannel (may_be_done e a w.channels) e.channel (halt_moves e.node) (kept_by (halt_moves e.node)
+      (halts_possible k e.node) (λ c. bring_by (side_of e.node c) Halts (λ side. tt))) w h
+  stays_fit (step.Restart n) w is h =
+      all_so k IsFitChannel (restart_moves n) (kept_by (restart_moves n) (restarts_possible k n)
+      (λ c. bring_by (side_of n c) Restarts (λ side. tt))) w.channels h
+  stays_fit (step.StopBefore e a) w is h =
+      either_so k IsFitChannel (may_be_done e a w.channels) (restart_moves e.node) (kept_by (restart_moves e.node)
+      (restarts_possible k e.node) (λ c. bring_by (side_of e.node c) Restarts (λ side. tt))) w h
+  stays_fit (step.StopAfter e a) w is h =
+      either_so k IsFitChannel (may_be_done e a w.channels) (stop_moves e a) (kept_by (stop_moves e a)
+      (stops_possible k e a) (λ c. stops_bring (c.number == e.channel) (side_of e.node c) a is)) w h
+  stays_fit (step.Up n) w is h =
+      moved_so k IsFitChannel n up_moves (kept_by up_moves (ups_possible k) (λ c. ups_bring (may_meet c.both)))
+      w.channels h
 
-  pub stays_fit : (s : Step K k) (w : World K) → BringsFit k s → IsStep k s → AreFit w → AreFit (happens k s w)
-  stays_fit s w f is h =
-      let p = happens_so s w f is h in
-      record { keeps = happened k s w f h.keeps; limits = p.0; channels = p.1 }
-
-  pub empty_fit : AreFit empty
-  empty_fit = record { keeps = record { settings = tt; channels = tt }; limits = tt; channels = tt }
-
-  all_fit : (ss : List (Step K k)) (w : World K) → BringFit k ss → AreSteps k ss → AreFit w → AreFit (run k ss w)
-  all_fit [] w f is h = h
-  all_fit (s ∷ ss) w f is h = all_fit ss (happens k s w) f.1 is.1 (stays_fit s w f.0 is.0 h)
+  all_fit : (ss : List (Step K k)) (w : World K) → AreSteps k ss → AreFit w → AreFit (run k ss w)
+  all_fit [] w is h = h
+  all_fit (s ∷ ss) w is h = all_fit ss (happens k s w) is.1 (stays_fit s w is.0 h)
 
 -- ---- each end has one
 
@@ -235,8 +171,8 @@ have_records signer id p h =
     let a = signer r.funders in
     let b = signer r.fundees in
     let q = ends_of signer id p r in
-    let counted = are_counted a b r.spec r.config r.funder r.fundee r.steps r.keys h.wide.funders_secrets
-    h.wide.fundees_secrets r.opens r.funders_fees r.fundees_fees in
+    let counted = are_counted a b r.spec r.config r.funder r.fundee r.steps r.keys r.opens
+    r.funders_fees r.fundees_fees in
     let wide = are_wide a b r.spec r.config r.funder r.fundee r.steps r.keys r.opens h.wide.funders_script
     h.wide.fundees_script h.wide.commands in (
       none_lacking r.mirrors.x_halted r.funders p.x.link q.x_line r.funder q.x r.mirrors.x_link h.wide.funders_end
@@ -250,8 +186,8 @@ module _ {K : Type 0} (k : Ghosts K) where
   each_has [] h = tt
   each_has (c ∷ cs) h = (have_records k.signer (channel_id_of c.number) c.both h.0, each_has cs h.1)
 
-  pub all_have : (ss : List (Step K k)) → BringFit k ss → AreSteps k ss → OfEach HaveRecords (run k ss empty)
-  all_have ss f is = each_has (run k ss empty).channels (all_fit k ss empty f is (empty_fit k)).channels
+  pub all_have : (ss : List (Step K k)) → AreSteps k ss → OfEach HaveRecords (run k ss empty)
+  all_have ss is = each_has (run k ss empty).channels (all_fit k ss empty is tt)
 
   -- nor does an act leave an end without one
   behind_act : (o : Option Role) (a : Act) (id : List ℕ) (p : Both K) → IsAct a → IsFit k.signer id p
@@ -325,50 +261,44 @@ module _ {K : Type 0} (k : Ghosts K) where
             ]
       ]
 
-  open_has : (o : Open K k) (w : World K) → BringsFit k (step.Open o) → IsStep k (step.Open o) → AreFit k w
-      → OpenLacks k o w → ⊥
-  open_has o w f is h lacks =
+  open_has : (o : Open K k) (w : World K) → OpenLacks k o w → ⊥
+  open_has o w lacks =
       let s = settings_of o.funder w.settings in
       let t = settings_of o.fundee w.settings in
       let p = both_true (not (is_node o.funder o.fundee))
       (is_none (channel o.channel w.channels) && may_bring o.satoshis o.push s t) lacks.0 in
       let q = both_true (is_none (channel o.channel w.channels)) (may_bring o.satoshis o.push s t) p.1 in
       let brings = brings_so o.satoshis o.push s t q.1 in
-      let fs = set_so o.funder w.settings h.keeps.settings in
-      let ft = set_so o.fundee w.settings h.keeps.settings in
-      let r = opened_run k o s t (keys_so k o f) brings fs ft in
+      let r = opened_run k o s t brings in
       let id = channel_id_of o.channel in
-      let fit = opened_so k o s t (keys_so k o f) brings fs ft (limits_so o.funder w.settings h.limits)
-      (limits_so o.fundee w.settings h.limits) is in
+      let fit = opened_so k o s t brings in
       opening_has id o.keys.funder o.keys.fundee r.spec r.config r.funder r.fundee r.opens
       (subst HaveRecords (opens_so k.signer id o.keys.funder o.keys.fundee r.spec r.config r.funder r.fundee r.opens)
       (have_records k.signer id (opened_by k o s t).both fit)) lacks.1
 
-  never_in : (s : Step K k) (w : World K) → BringsFit k s → IsStep k s → AreFit k w → MayFail k s refusal.Damaged w → ⊥
-  never_in (step.Fees n fees) w f is h fails = absurd (cc)
-  never_in (step.Limits n limits) w f is h fails = absurd (cc)
-  never_in (step.Open o) w f is h (inl e) = absurd (cc)
-  never_in (step.Open o) w f is h (inr lacks) = open_has o w f is h lacks.1
-  never_in (step.Do e a) w f is h (inl r) = absurd (cc)
-  never_in (step.Do e a) w f is h (inr lacks) =
-      none_behind e.channel e.node a w.channels is h.channels lacks.1
-  never_in (step.Down e) w f is h fails = absurd (cc)
-  never_in (step.Restart n) w f is h fails = absurd (cc)
-  never_in (step.NoMemory e a) w f is h fails = absurd (cc)
-  never_in (step.StopBefore e a) w f is h fails = absurd (cc)
-  never_in (step.StopAfter e a) w f is h (inl r) = absurd (cc)
-  never_in (step.StopAfter e a) w f is h (inr lacks) =
-      none_behind e.channel e.node a w.channels is h.channels lacks.1
-  never_in (step.Up n) w f is h fails = absurd (cc)
+  never_in : (s : Step K k) (w : World K) → IsStep k s → AreFit k w → MayFail k s refusal.Damaged w → ⊥
+  never_in (step.Fees n fees) w is h fails = absurd (cc)
+  never_in (step.Limits n limits) w is h fails = absurd (cc)
+  never_in (step.Open o) w is h (inl e) = absurd (cc)
+  never_in (step.Open o) w is h (inr lacks) = open_has o w lacks.1
+  never_in (step.Do e a) w is h (inl r) = absurd (cc)
+  never_in (step.Do e a) w is h (inr lacks) =
+      none_behind e.channel e.node a w.channels is h lacks.1
+  never_in (step.Down e) w is h fails = absurd (cc)
+  never_in (step.Restart n) w is h fails = absurd (cc)
+  never_in (step.NoMemory e a) w is h fails = absurd (cc)
+  never_in (step.StopBefore e a) w is h fails = absurd (cc)
+  never_in (step.StopAfter e a) w is h (inl r) = absurd (cc)
+  never_in (step.StopAfter e a) w is h (inr lacks) =
+      none_behind e.channel e.node a w.channels is h lacks.1
+  never_in (step.Up n) w is h fails = absurd (cc)
 
   -- in no step that follows a world whose channels are so
-  pub never_after : (ss : List (Step K k)) (w : World K) → BringFit k ss → AreSteps k ss → AreFit k w
+  pub never_after : (ss : List (Step K k)) (w : World K) → AreSteps k ss → AreFit k w
       → SomeMayFail k ss refusal.Damaged w → ⊥
-  never_after [] w f is h fails = fails
-  never_after (s ∷ ss) w f is h (inl fails) = never_in s w f.0 is.0 h fails
-  never_after (s ∷ ss) w f is h (inr fails) =
-      never_after ss (happens k s w) f.1 is.1 (stays_fit k s w f.0 is.0 h) fails
+  never_after [] w is h fails = fails
+  never_after (s ∷ ss) w is h (inl fails) = never_in s w is.0 h fails
+  never_after (s ∷ ss) w is h (inr fails) = never_after ss (happens k s w) is.1 (stays_fit k s w is.0 h) fails
 
-  pub never_damaged : (ss : List (Step K k)) → BringFit k ss → AreSteps k ss
-      → SomeMayFail k ss refusal.Damaged empty → ⊥
-  never_damaged ss f is fails = never_after ss empty f is (empty_fit k) fails
+  pub never_damaged : (ss : List (Step K k)) → AreSteps k ss → SomeMayFail k ss refusal.Damaged empty → ⊥
+  never_damaged ss is fails = never_after ss empty is tt fails

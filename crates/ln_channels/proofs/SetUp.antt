@@ -6,8 +6,6 @@ use Rattle.ln_keys.specs.declared.keys.ChannelKeys.{Ghosts}
 use Rattle.ln_log.specs.declared.opening.Opening.{Opening}
 use Rattle.ln_close.specs.declared.closing.Fees.{Fees}
 use Rattle.ln_store.proofs.Formats.{both_true}
-use Rattle.ln_keys.specs.Partners.{ArePartners}
-use Rattle.ln_pair.specs.Promises.{AreSent}
 use Rattle.ln_pair.specs.Setup.{Setup}
 use Rattle.ln_channels.specs.declared.settings.Settings.{Settings}
 use Rattle.ln_channels.specs.declared.step.Open.{Open}
@@ -22,11 +20,10 @@ use Rattle.ln_channels.specs.Channel.{halt_moves, stop_moves}
 use Rattle.ln_channels.specs.World.{World, settings_of, channel, moved_if, moved_at, all_moved, may_open, joined}
 use Rattle.ln_channels.specs.World.{happens}
 use Rattle.ln_channels.specs.World.{at, everywhere, may_be_done, empty, run}
-use Rattle.ln_channels.specs.Promises.{BringsFit, BringFit}
 use Rattle.ln_channels.specs.Setup.{setup_by, setup_in, all_setups, OpensAsSet}
 use Rattle.ln_channels.proofs.Opened.{fees_so, opening_so}
 use Rattle.ln_channels.proofs.Kept.{IsRun, ArePossible, went, setup_at, as_set_up}
-use Rattle.ln_channels.proofs.Promised.{opened_run, brings_so, set_so, Keeps, keys_so, happened}
+use Rattle.ln_channels.proofs.Promised.{opened_run, brings_so}
 use Rattle.ln_channels.proofs.Told.{MayMake, or_else, moved_or_not, found_moved, found_in_all, found_joined, none_so}
 use Rattle.ln_channels.proofs.Told.{acts_possible, falls_possible, halts_possible, restarts_possible, stops_possible}
 use Rattle.ln_channels.proofs.Told.{ups_possible}
@@ -104,11 +101,10 @@ module _ {K : Type 0} (k : Ghosts K) where
   same_setup o p f g x y eo ef ex =
       ap (λ z. setup_with z f x) eo ∙ ap (λ z. setup_with p z x) ef ∙ ap (λ z. setup_with p g z) ex
 
-  opened_set : (o : Open K k) (s t : Settings) → ArePartners (k.signer o.keys.funder) (k.signer o.keys.fundee)
-      → CanBring o.satoshis o.push s t → AreSent s.fees → AreSent t.fees
+  opened_set : (o : Open K k) (s t : Settings) → CanBring o.satoshis o.push s t
       → IsSet (opened_by k o s t) (setup_by o.satoshis o.push s t ∷ [])
-  opened_set o s t keys brings fs ft =
-      let r = opened_run k o s t keys brings fs ft in
+  opened_set o s t brings =
+      let r = opened_run k o s t brings in
       let id = channel_id_of o.channel in
       let fees = fees_so k.signer id r.funders r.fundees r.spec r.config r.funder r.fundee r.opens in
       let opening = opening_so k.signer id r.funders r.fundees r.spec r.config r.funder r.fundee r.opens in
@@ -135,18 +131,17 @@ module _ {K : Type 0} (k : Ghosts K) where
   new_channel o w = opened_by k o (settings_of o.funder w.settings) (settings_of o.fundee w.settings)
 
   opened_stands : (b : Bool) (n : ℕ) (o : Open K k) (w : World K) (ds : List Setup) → may_open o w ≡ b
-      → BringsFit k (step.Open o) → Keeps k w → Stands (channel n w.channels) ds
+      → Stands (channel n w.channels) ds
       → Stands (channel n (cond b (joined (new_channel o w) w) w).channels)
       (ds ++ cond (b && o.channel == n) (new_setup o w ∷ []) [])
-  opened_stands false n o w ds e f keeps h = behind_none (channel n w.channels) ds h
-  opened_stands true n o w ds e f keeps h =
+  opened_stands false n o w ds e h = behind_none (channel n w.channels) ds h
+  opened_stands true n o w ds e h =
       let s = settings_of o.funder w.settings in
       let r = settings_of o.fundee w.settings in
       let p = both_true (not (is_node o.funder o.fundee))
       (is_none (channel o.channel w.channels) && may_bring o.satoshis o.push s r) e in
       let q = both_true (is_none (channel o.channel w.channels)) (may_bring o.satoshis o.push s r) p.1 in
-      let fresh = opened_set o s r (keys_so k o f) (brings_so o.satoshis o.push s r q.1)
-      (set_so o.funder w.settings keeps.settings) (set_so o.fundee w.settings keeps.settings) in
+      let fresh = opened_set o s r (brings_so o.satoshis o.push s r q.1) in
       let none : channel o.channel w.channels ≡ None = none_so k (channel o.channel w.channels) q.0 in
       let only : (o.channel == n) ≡ true → channel n w.channels ≡ None =
       λ is. subst (λ m. channel m w.channels ≡ None) (eqb-true o.channel n is) none in
@@ -156,32 +151,32 @@ module _ {K : Type 0} (k : Ghosts K) where
 
   -- ---- in a step, and in a list of steps
 
-  step_stands : (n : ℕ) (s : Step K k) (w : World K) (ds : List Setup) → BringsFit k s → Keeps k w
+  step_stands : (n : ℕ) (s : Step K k) (w : World K) (ds : List Setup)
       → Stands (channel n w.channels) ds → Stands (channel n (happens k s w).channels) (ds ++ setup_in k n s w)
-  step_stands n (step.Fees m fees) w ds f keeps h = behind_none (channel n w.channels) ds h
-  step_stands n (step.Limits m limits) w ds f keeps h = behind_none (channel n w.channels) ds h
-  step_stands n (step.Open o) w ds f keeps h = opened_stands (may_open o w) n o w ds refl f keeps h
-  step_stands n (step.Do e a) w ds f keeps h =
+  step_stands n (step.Fees m fees) w ds h = behind_none (channel n w.channels) ds h
+  step_stands n (step.Limits m limits) w ds h = behind_none (channel n w.channels) ds h
+  step_stands n (step.Open o) w ds h = opened_stands (may_open o w) n o w ds refl h
+  step_stands n (step.Do e a) w ds h =
       goes e.channel (act_moves e.node a) n w.channels ds (acts_possible k e.node a) h
-  step_stands n (step.Down e) w ds f keeps h =
+  step_stands n (step.Down e) w ds h =
       goes e.channel (fall_moves e.node) n w.channels ds (falls_possible k e.node) h
-  step_stands n (step.NoMemory e a) w ds f keeps h =
+  step_stands n (step.NoMemory e a) w ds h =
       halts (may_be_done e a w.channels) e.channel (halt_moves e.node) n w ds (halts_possible k e.node) h
-  step_stands n (step.Restart m) w ds f keeps h =
+  step_stands n (step.Restart m) w ds h =
       all_go (restart_moves m) n w.channels ds (restarts_possible k m) h
-  step_stands n (step.StopBefore e a) w ds f keeps h =
+  step_stands n (step.StopBefore e a) w ds h =
       stops (may_be_done e a w.channels) (restart_moves e.node) n w ds (restarts_possible k e.node) h
-  step_stands n (step.StopAfter e a) w ds f keeps h =
+  step_stands n (step.StopAfter e a) w ds h =
       stops (may_be_done e a w.channels) (stop_moves e a) n w ds (stops_possible k e a) h
-  step_stands n (step.Up m) w ds f keeps h = goes m up_moves n w.channels ds (ups_possible k) h
+  step_stands n (step.Up m) w ds h = goes m up_moves n w.channels ds (ups_possible k) h
 
-  ran_stands : (n : ℕ) (ss : List (Step K k)) (w : World K) (ds : List Setup) → BringFit k ss → Keeps k w
+  ran_stands : (n : ℕ) (ss : List (Step K k)) (w : World K) (ds : List Setup)
       → Stands (channel n w.channels) ds → Stands (channel n (run k ss w).channels) (ds ++ all_setups k n ss w)
-  ran_stands n [] w ds f keeps h = behind_none (channel n w.channels) ds h
-  ran_stands n (s ∷ ss) w ds f keeps h =
+  ran_stands n [] w ds h = behind_none (channel n w.channels) ds h
+  ran_stands n (s ∷ ss) w ds h =
       let w' = happens k s w in
       subst (Stands (channel n (run k ss w').channels)) (append_assoc ds (setup_in k n s w) (all_setups k n ss w'))
-      (ran_stands n ss w' (ds ++ setup_in k n s w) f.1 (happened k s w f.0 keeps) (step_stands n s w ds f.0 keeps h))
+      (ran_stands n ss w' (ds ++ setup_in k n s w) (step_stands n s w ds h))
 
   none_there : OpensAsSet {K = K} [] None
   none_there = refl
@@ -192,8 +187,8 @@ module _ {K : Type 0} (k : Ghosts K) where
       subst (λ ls. OpensAsSet {K = K} ls (Some c)) (sym h.set)
       (as_set_up k.signer (channel_id_of c.number) c.both h.run)
 
-  pub open_as_set : (ss : List (Step K k)) (n : ℕ) → BringFit k ss
+  pub open_as_set : (ss : List (Step K k)) (n : ℕ)
       → OpensAsSet (all_setups k n ss empty) (channel n (run k ss empty).channels)
-  open_as_set ss n f =
+  open_as_set ss n =
       opens_so (channel n (run k ss empty).channels) (all_setups k n ss empty)
-      (ran_stands n ss empty [] f (record { settings = tt; channels = tt }) refl)
+      (ran_stands n ss empty [] refl)

@@ -29,14 +29,12 @@ use Rattle.ln_channels.specs.Channel.{fall_moves, halt_moves, restart_moves, sto
 use Rattle.ln_channels.specs.World.{World, settings_of, channel, moved_if, moved_at, all_moved, may_open, joined}
 use Rattle.ln_channels.specs.World.{happens}
 use Rattle.ln_channels.specs.World.{at, everywhere, may_be_done, empty, run}
-use Rattle.ln_channels.specs.Promises.{BringsFit, BringFit}
 use Rattle.ln_channels.specs.Course.{step_moves, in_channel, over}
 use Rattle.ln_channels.specs.Sending.{sends, sent_in, NoneAddsLate}
 use Rattle.ln_channels.specs.Machine.{machine_of, moves_of, moves_in, history, tells, told_in, all_told, AreInStep}
 use Rattle.ln_channels.proofs.Kept.{Tale, untold, then, then-untold, then_assoc, IsTold, tale_along, ArePossible}
 use Rattle.ln_channels.proofs.Kept as channels
-use Rattle.ln_channels.proofs.Promised.{brings_so, set_so, Keeps, IsToldOf, opening_tale, opened_told, keys_so}
-use Rattle.ln_channels.proofs.Promised.{happened}
+use Rattle.ln_channels.proofs.Promised.{brings_so, IsToldOf, opening_tale, opened_told}
 
 -- ---- a channel, where it is found
 
@@ -190,20 +188,19 @@ module _ {K : Type 0} (k : Ghosts K) where
   new_opening o w =
       opening_by o.satoshis o.push (settings_of o.funder w.settings) (settings_of o.fundee w.settings)
 
-  opened_so : (b : Bool) (n : ℕ) (o : Open K k) (w : World K) (t : Tale) → may_open o w ≡ b → BringsFit k (step.Open o)
-      → Keeps k w → Recounts (channel n w.channels) t
+  opened_so : (b : Bool) (n : ℕ) (o : Open K k) (w : World K) (t : Tale) → may_open o w ≡ b
+      → Recounts (channel n w.channels) t
       → Recounts (channel n (cond b (joined (new_channel o w) w) w).channels)
       (then t (tale_for (step.Open o) w (cond (b && o.channel == n) (machine.Open (new_opening o w) ∷ []) [])
       (channel n w.channels)))
-  opened_so false n o w t e f keeps h = still_told (step.Open o) w (channel n w.channels) t (λ c. refl) h
-  opened_so true n o w t e f keeps h =
+  opened_so false n o w t e h = still_told (step.Open o) w (channel n w.channels) t (λ c. refl) h
+  opened_so true n o w t e h =
       let s = settings_of o.funder w.settings in
       let r = settings_of o.fundee w.settings in
       let p = both_true (not (is_node o.funder o.fundee))
       (is_none (channel o.channel w.channels) && may_bring o.satoshis o.push s r) e in
       let q = both_true (is_none (channel o.channel w.channels)) (may_bring o.satoshis o.push s r) p.1 in
-      let fresh = opened_told k o s r (keys_so k o f) (brings_so o.satoshis o.push s r q.1)
-      (set_so o.funder w.settings keeps.settings) (set_so o.fundee w.settings keeps.settings) in
+      let fresh = opened_told k o s r (brings_so o.satoshis o.push s r q.1) in
       let none : channel o.channel w.channels ≡ None = none_so (channel o.channel w.channels) q.0 in
       let only : (o.channel == n) ≡ true → channel n w.channels ≡ None =
       λ is. subst (λ m. channel m w.channels ≡ None) (eqb-true o.channel n is) none in
@@ -261,29 +258,29 @@ module _ {K : Type 0} (k : Ghosts K) where
   stops_so true s w f n t may is h = all_go_so s w f n w.channels t may is h
   stops_so false s w f n t may is h = still_told s w (channel n w.channels) t is h
 
-  step_told : (n : ℕ) (s : Step K k) (w : World K) (t : Tale) → BringsFit k s → Keeps k w
+  step_told : (n : ℕ) (s : Step K k) (w : World K) (t : Tale)
       → Recounts (channel n w.channels) t → Recounts (channel n (happens k s w).channels) (then t (tale_in n s w))
-  step_told n (step.Fees m fees) w t f keeps h =
+  step_told n (step.Fees m fees) w t h =
       still_told (step.Fees m fees) w (channel n w.channels) t (λ c. refl) h
-  step_told n (step.Limits m limits) w t f keeps h =
+  step_told n (step.Limits m limits) w t h =
       still_told (step.Limits m limits) w (channel n w.channels) t (λ c. refl) h
-  step_told n (step.Open o) w t f keeps h = opened_so (may_open o w) n o w t refl f keeps h
-  step_told n (step.Do e a) w t f keeps h =
+  step_told n (step.Open o) w t h = opened_so (may_open o w) n o w t refl h
+  step_told n (step.Do e a) w t h =
       goes_so (step.Do e a) w e.channel (act_moves e.node a) n w.channels t (acts_possible e.node a) (λ c. refl) h
-  step_told n (step.Down e) w t f keeps h =
+  step_told n (step.Down e) w t h =
       goes_so (step.Down e) w e.channel (fall_moves e.node) n w.channels t (falls_possible e.node) (λ c. refl) h
-  step_told n (step.NoMemory e a) w t f keeps h =
+  step_told n (step.NoMemory e a) w t h =
       halts_so (may_be_done e a w.channels) (step.NoMemory e a) w e.channel (halt_moves e.node) n t
       (halts_possible e.node) (λ c. refl) h
-  step_told n (step.Restart m) w t f keeps h =
+  step_told n (step.Restart m) w t h =
       all_go_so (step.Restart m) w (restart_moves m) n w.channels t (restarts_possible m) (λ c. refl) h
-  step_told n (step.StopBefore e a) w t f keeps h =
+  step_told n (step.StopBefore e a) w t h =
       stops_so (may_be_done e a w.channels) (step.StopBefore e a) w (restart_moves e.node) n t
       (restarts_possible e.node) (λ c. refl) h
-  step_told n (step.StopAfter e a) w t f keeps h =
+  step_told n (step.StopAfter e a) w t h =
       stops_so (may_be_done e a w.channels) (step.StopAfter e a) w (stop_moves e a) n t (stops_possible e a)
       (λ c. refl) h
-  step_told n (step.Up m) w t f keeps h =
+  step_told n (step.Up m) w t h =
       goes_so (step.Up m) w m up_moves n w.channels t ups_possible (λ c. refl) h
 
   -- ---- in a list of steps
@@ -297,17 +294,17 @@ module _ {K : Type 0} (k : Ghosts K) where
     told_y = over k (told_in k n Fundee) ss w;
   }
 
-  ran_told : (n : ℕ) (ss : List (Step K k)) (w : World K) (t : Tale) → BringFit k ss → Keeps k w
+  ran_told : (n : ℕ) (ss : List (Step K k)) (w : World K) (t : Tale)
       → Recounts (channel n w.channels) t → Recounts (channel n (run k ss w).channels) (then t (tale_over n ss w))
-  ran_told n [] w t f keeps h = subst (Recounts (channel n w.channels)) (sym (then-untold t)) h
-  ran_told n (s ∷ ss) w t f keeps h =
+  ran_told n [] w t h = subst (Recounts (channel n w.channels)) (sym (then-untold t)) h
+  ran_told n (s ∷ ss) w t h =
       let w' = happens k s w in
       subst (Recounts (channel n (run k ss w').channels)) (then_assoc t (tale_in n s w) (tale_over n ss w'))
-      (ran_told n ss w' (then t (tale_in n s w)) f.1 (happened k s w f.0 keeps) (step_told n s w t f.0 keeps h))
+      (ran_told n ss w' (then t (tale_in n s w)) (step_told n s w t h))
 
-  told_of : (n : ℕ) (ss : List (Step K k)) → BringFit k ss
+  told_of : (n : ℕ) (ss : List (Step K k))
       → Recounts (channel n (run k ss empty).channels) (tale_over n ss empty)
-  told_of n ss f = ran_told n ss empty untold f (record { settings = tt; channels = tt }) refl
+  told_of n ss = ran_told n ss empty untold refl
 
   -- ---- what is promised of it
 
@@ -315,21 +312,21 @@ module _ {K : Type 0} (k : Ghosts K) where
   adds_so None t h = subst (λ (u : Tale). AddsBefore false u.sent_x × AddsBefore false u.sent_y) (sym h) (tt, tt)
   adds_so (Some c) t h = channels.none_adds_late k.signer (channel_id_of c.number) c.both t h
 
-  pub none_adds_late : (ss : List (Step K k)) (n : ℕ) → BringFit k ss → NoneAddsLate k n ss empty
-  none_adds_late ss n f = adds_so (channel n (run k ss empty).channels) (tale_over n ss empty) (told_of n ss f)
+  pub none_adds_late : (ss : List (Step K k)) (n : ℕ) → NoneAddsLate k n ss empty
+  none_adds_late ss n = adds_so (channel n (run k ss empty).channels) (tale_over n ss empty) (told_of n ss)
 
   runs_so : (o : Option (Channel K)) (t : Tale) → Recounts o t → machine.IsRun t.moves None (machine_of o)
   runs_so None t h = subst (λ (u : Tale). machine.IsRun u.moves None None) (sym h) refl
   runs_so (Some c) t h = channels.runs_so k.signer (channel_id_of c.number) c.both t h
 
-  pub may_be_made : (ss : List (Step K k)) (n : ℕ) → BringFit k ss
+  pub may_be_made : (ss : List (Step K k)) (n : ℕ)
       → machine.IsRun (history k n ss empty) None (machine_of (channel n (run k ss empty).channels))
-  may_be_made ss n f = runs_so (channel n (run k ss empty).channels) (tale_over n ss empty) (told_of n ss f)
+  may_be_made ss n = runs_so (channel n (run k ss empty).channels) (tale_over n ss empty) (told_of n ss)
 
-  pub lead_there : (ss : List (Step K k)) (n : ℕ) → BringFit k ss
+  pub lead_there : (ss : List (Step K k)) (n : ℕ)
       → after_all (history k n ss empty) None ≡ machine_of (channel n (run k ss empty).channels)
-  lead_there ss n f = run_after (history k n ss empty) None (machine_of (channel n (run k ss empty).channels))
-      (may_be_made ss n f)
+  lead_there ss n = run_after (history k n ss empty) None (machine_of (channel n (run k ss empty).channels))
+      (may_be_made ss n)
 
   funder_so : (o : Option (Channel K)) (t : Tale) → Recounts o t
       → events_in t.told_x ≡ numbered 0 (as_told (events Funder t.moves None))
@@ -343,28 +340,28 @@ module _ {K : Type 0} (k : Ghosts K) where
       (sym h) refl
   fundee_so (Some c) t h = channels.fundee_told k.signer (channel_id_of c.number) c.both t h
 
-  pub events_so : (ss : List (Step K k)) (n : ℕ) (side : Role) → BringFit k ss
+  pub events_so : (ss : List (Step K k)) (n : ℕ) (side : Role)
       → events_in (all_told k n side ss empty) ≡ numbered 0 (as_told (events side (history k n ss empty) None))
-  events_so ss n Funder f = funder_so (channel n (run k ss empty).channels) (tale_over n ss empty) (told_of n ss f)
-  events_so ss n Fundee f = fundee_so (channel n (run k ss empty).channels) (tale_over n ss empty) (told_of n ss f)
+  events_so ss n Funder = funder_so (channel n (run k ss empty).channels) (tale_over n ss empty) (told_of n ss)
+  events_so ss n Fundee = fundee_so (channel n (run k ss empty).channels) (tale_over n ss empty) (told_of n ss)
 
   step_so : (side : Role) (o : Option (Channel K)) (t : Tale) → Recounts o t
       → AreInStep side (as_told (events side t.moves None)) o
   step_so side None t h = ap (λ (u : Tale). as_told (events side u.moves None)) h
   step_so side (Some c) t h = channels.in_step k.signer side (channel_id_of c.number) c.both t h
 
-  pub in_step_so : (ss : List (Step K k)) (n : ℕ) (side : Role) → BringFit k ss
+  pub in_step_so : (ss : List (Step K k)) (n : ℕ) (side : Role)
       → AreInStep side (as_told (events side (history k n ss empty) None)) (channel n (run k ss empty).channels)
-  in_step_so ss n side f =
-      step_so side (channel n (run k ss empty).channels) (tale_over n ss empty) (told_of n ss f)
+  in_step_so ss n side =
+      step_so side (channel n (run k ss empty).channels) (tale_over n ss empty) (told_of n ss)
 
-  pub moves_last : (ss : List (Step K k)) (n : ℕ) (side : Role) → BringFit k ss
+  pub moves_last : (ss : List (Step K k)) (n : ℕ) (side : Role)
       → ClosesLast (as_told (events side (history k n ss empty) None))
-  moves_last ss n side f = closes_last side (history k n ss empty)
-      (machine_of (channel n (run k ss empty).channels)) (may_be_made ss n f)
+  moves_last ss n side = closes_last side (history k n ss empty)
+      (machine_of (channel n (run k ss empty).channels)) (may_be_made ss n)
 
-  pub told_last : (ss : List (Step K k)) (n : ℕ) (side : Role) → BringFit k ss
+  pub told_last : (ss : List (Step K k)) (n : ℕ) (side : Role)
       → ClosesLast (unnumbered (all_told k n side ss empty))
-  told_last ss n side f =
+  told_last ss n side =
       handed_last (all_told k n side ss empty) (as_told (events side (history k n ss empty) None))
-      (events_so ss n side f) (moves_last ss n side f)
+      (events_so ss n side) (moves_last ss n side)

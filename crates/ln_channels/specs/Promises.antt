@@ -131,32 +131,11 @@ abbrev pub DoExactly : {K : Type 0} → (K → Signer) → Both K → Type 0
 DoExactly signer p =
     (c : Command) → is_of_records c ≡ false → AtEnds (BothObey signer c p) p.x.link.stage p.y.link.stage
 
--- ---- what the steps bring
-
--- points have 33 bytes, as those that keys answer in code
-abbrev pub HavePoints : Signer → Type 0
-HavePoints s = (n : ℕ) → n ≤ 2 ^ 48 → length (s.point_of n) ≡ 33
-
--- as each step in code does: fees are numbers of 64 bits, and points have their size
-abbrev pub BringsFit : {K : Type 0} → (k : Ghosts K) → Step K k → Type 0
-BringsFit k (step.Fees n fees) = AreSent fees
-BringsFit k (step.Limits n limits) = Unit {0}
-BringsFit k (step.Open o) = HavePoints (k.signer o.keys.funder) × HavePoints (k.signer o.keys.fundee)
-BringsFit k (step.Do e a) = Unit {0}
-BringsFit k (step.Down e) = Unit {0}
-BringsFit k (step.NoMemory e a) = Unit {0}
-BringsFit k (step.Restart n) = Unit {0}
-BringsFit k (step.StopBefore e a) = Unit {0}
-BringsFit k (step.StopAfter e a) = Unit {0}
-BringsFit k (step.Up n) = Unit {0}
+-- ---- each channel of a world
 
 abbrev pub Each : {A : Type 0} → (A → Type 0) → List A → Type 0
 Each P [] = Unit {0}
 Each P (x ∷ xs) = P x × Each P xs
 
-abbrev pub BringFit : {K : Type 0} → (k : Ghosts K) → List (Step K k) → Type 0
-BringFit k steps = Each (BringsFit k) steps
-
--- each channel of a world
 abbrev pub OfEach : {K : Type 0} → (Both K → Type 0) → World K → Type 0
 OfEach P w = Each (λ c. P c.both) w.channels

@@ -1,5 +1,5 @@
--- That each end of a channel has a record, which it comes back from where its node restarts. What the steps bring is as
--- wide as it is in code.
+-- That each end of a channel has a record, which it comes back from where its node restarts. What the steps' commands
+-- bring is as wide as it is in code.
 use Rattle.std.specs.Prelude.{◌≡◌, ◌<◌, ◌≤◌, ◌^◌, ℕ, List, length}
 use Rattle.ln_keys.specs.declared.keys.ChannelKeys.{Ghosts}
 use Rattle.ln_keys.specs.Signer.{Signer}
@@ -15,24 +15,14 @@ use Rattle.ln_channels.specs.Promises.{Each}
 
 -- ---- what the steps bring
 
-pub record AreLimits (l : Limits) : Type 0 where
-  pub minimum : l.minimum < 2 ^ 64
-  pub accepted : l.accepted < 2 ^ 16
-  pub in_flight : l.in_flight < 2 ^ 64
-  pub reserve : l.reserve < 2 ^ 64
-
--- secrets have 32 bytes, as those that keys answer in code
-abbrev pub HaveSecrets : Signer → Type 0
-HaveSecrets s = (n : ℕ) → n ≤ 2 ^ 48 → length (s.secret_of n) ≡ 32
-
 abbrev pub IsAct : Act → Type 0
 IsAct act.Deliver = Unit {0}
 IsAct (act.Send c) = IsCommand c
 
 abbrev pub IsStep : {K : Type 0} → (k : Ghosts K) → Step K k → Type 0
 IsStep k (step.Fees n fees) = Unit {0}
-IsStep k (step.Limits n limits) = AreLimits limits
-IsStep k (step.Open o) = HaveSecrets (k.signer o.keys.funder) × HaveSecrets (k.signer o.keys.fundee)
+IsStep k (step.Limits n limits) = Unit {0}
+IsStep k (step.Open o) = Unit {0}
 IsStep k (step.Do e a) = IsAct a
 IsStep k (step.Down e) = Unit {0}
 IsStep k (step.NoMemory e a) = Unit {0}

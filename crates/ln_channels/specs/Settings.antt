@@ -1,5 +1,5 @@
 -- What nodes open channels with (BOLT 2, "Channel Establishment v1").
-use Rattle.std.specs.Prelude.{ℕ, List, [], ◌∷◌, ◌++◌, replicate, Bool, ◌&&◌, nat_le}
+use Rattle.std.specs.Prelude.{ℕ, ◌<◌, ◌^◌, List, [], ◌∷◌, ◌++◌, replicate, Bool, ◌&&◌, nat_le, nat_lt}
 use Rattle.ln_msgs.specs.Messages.Channel.{id_of_channel}
 use Rattle.ln_close.specs.Closing.{AreOrdered}
 use Rattle.ln_log.specs.declared.opening.Opening.{Opening}
@@ -78,12 +78,32 @@ opening_by satoshis push funder fundee = record {
 abbrev pub are_ordered : Settings → Bool
 are_ordered s = nat_le s.fees.least s.fees.first && nat_le s.fees.first s.fees.greatest
 
--- what both bring fits: the funds, what is pushed of them, how many HTLCs either takes, and the fees in their order
+-- messages have room for it: eight bytes for each fee and each amount
+abbrev pub can_be_told : Settings → Bool
+can_be_told s =
+    nat_lt s.fees.first (2 ^ 64) && nat_lt s.fees.greatest (2 ^ 64) && nat_lt s.limits.minimum (2 ^ 64)
+    && nat_lt s.limits.in_flight (2 ^ 64) && nat_lt s.limits.reserve (2 ^ 64)
+
+pub record CanBeTold (s : Settings) : Type 0 where
+  pub first : s.fees.first < 2 ^ 64
+  pub greatest : s.fees.greatest < 2 ^ 64
+  pub minimum : s.limits.minimum < 2 ^ 64
+  pub in_flight : s.limits.in_flight < 2 ^ 64
+  pub reserve : s.limits.reserve < 2 ^ 64
+
+-- of a node, in code: its numbers have 64 bits, so each can be told
+abbrev pub may_ask : Settings → Bool
+may_ask s = are_ordered s && can_be_told s
+
+-- what both bring fits: the funds, what is pushed of them, how many HTLCs either takes, the fees in their order, and
+-- each number in a message
 abbrev pub may_bring : ℕ → ℕ → Settings → Settings → Bool
 may_bring satoshis push funder fundee =
-    is_fit (opening_by satoshis push funder fundee) && (are_ordered funder && are_ordered fundee)
+    is_fit (opening_by satoshis push funder fundee) && (may_ask funder && may_ask fundee)
 
 pub record CanBring (satoshis push : ℕ) (funder fundee : Settings) : Type 0 where
   pub opening : IsFit (opening_by satoshis push funder fundee)
   pub funder_fees : AreOrdered funder.fees
   pub fundee_fees : AreOrdered fundee.fees
+  pub funder_told : CanBeTold funder
+  pub fundee_told : CanBeTold fundee

@@ -10,7 +10,6 @@ ghost use Rattle.ln_pair.specs.Moves.{after_all};
 ghost use Rattle.ln_pair.specs.Told.{as_told, events_in, unnumbered, ClosesLast};
 ghost use Rattle.ln_channels.specs.declared.step.Step.{Step};
 ghost use Rattle.ln_channels.specs.World.{empty, run, channel};
-ghost use Rattle.ln_channels.specs.Promises.{BringFit};
 ghost use Rattle.ln_channels.specs.Machine.{machine_of, history, all_told, AreInStep};
 
 use ln_keys::ChannelKeys;
@@ -22,22 +21,21 @@ use ln_keys::ChannelKeys;
 /// close, and a shutdown that an end owes and sends in its turn, are the move of that turn. A lost connection drops
 /// what no signature covers, and so does a restart of an end that has a connection. All else is no move.
 pub fn moves_are_the_machines<K: ChannelKeys + Copy>()
-    ensures { (steps : List (Step K K.ChannelKeys)) (number : ℕ) → BringFit K.ChannelKeys steps
+    ensures { (steps : List (Step K K.ChannelKeys)) (number : ℕ)
         → after_all (history K.ChannelKeys number steps empty) None
         ≡ machine_of (channel number (run K.ChannelKeys steps empty).channels) }
 {}
 
 /// A law: each of these moves is one that the machine may make where it is made.
 pub fn each_move_may_be_made<K: ChannelKeys + Copy>()
-    ensures { (steps : List (Step K K.ChannelKeys)) (number : ℕ) → BringFit K.ChannelKeys steps
-        → IsRun (history K.ChannelKeys number steps empty) None
+    ensures { (steps : List (Step K K.ChannelKeys)) (number : ℕ) → IsRun (history K.ChannelKeys number steps empty) None
         (machine_of (channel number (run K.ChannelKeys steps empty).channels)) }
 {}
 
 /// A law: the events among all that an end of the channel with this number hands out in these steps, with their
 /// numbers, are those of the moves for its side: each once, in their order, numbered from 0.
 pub fn events_are_told<K: ChannelKeys + Copy>()
-    ensures { (steps : List (Step K K.ChannelKeys)) (number : ℕ) (side : Role) → BringFit K.ChannelKeys steps
+    ensures { (steps : List (Step K K.ChannelKeys)) (number : ℕ) (side : Role)
         → events_in (all_told K.ChannelKeys number side steps empty)
         ≡ numbered 0 (as_told (events side (history K.ChannelKeys number steps empty) None)) }
 {}
@@ -47,7 +45,7 @@ pub fn events_are_told<K: ChannelKeys + Copy>()
 /// connections and over restarts of its nodes. Each is read from the update that its entry in the ledger names, as the
 /// end has it now, or from the fee at which it closed.
 pub fn undecided_events_are_the_machines<K: ChannelKeys + Copy>()
-    ensures { (steps : List (Step K K.ChannelKeys)) (number : ℕ) (side : Role) → BringFit K.ChannelKeys steps
+    ensures { (steps : List (Step K K.ChannelKeys)) (number : ℕ) (side : Role)
         → AreInStep side (as_told (events side (history K.ChannelKeys number steps empty) None))
         (channel number (run K.ChannelKeys steps empty).channels) }
 {}
@@ -56,9 +54,7 @@ pub fn undecided_events_are_the_machines<K: ChannelKeys + Copy>()
 /// those of the moves for its side, and of those that the end hands out in these steps.
 pub fn close_is_last<K: ChannelKeys + Copy>()
     ensures of_the_moves { (steps : List (Step K K.ChannelKeys)) (number : ℕ) (side : Role)
-        → BringFit K.ChannelKeys steps
         → ClosesLast (as_told (events side (history K.ChannelKeys number steps empty) None)) }
     ensures of_what_is_handed_out { (steps : List (Step K K.ChannelKeys)) (number : ℕ) (side : Role)
-        → BringFit K.ChannelKeys steps
         → ClosesLast (unnumbered (all_told K.ChannelKeys number side steps empty)) }
 {}

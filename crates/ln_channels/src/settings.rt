@@ -37,7 +37,7 @@ pub struct Setting {
 impl Settings {
     ghost use Rattle.std.specs.Prelude.{◌≡◌, IsTrue};
     ghost use Rattle.ln_close.specs.Closing.{AreOrdered};
-    ghost use Rattle.ln_channels.specs.Settings.{defaults, are_ordered};
+    ghost use Rattle.ln_channels.specs.Settings.{defaults, may_ask, CanBeTold};
 
     /// What a node has that nothing was set for: closing fees 300, from 200 to 400 satoshis, and HTLCs of at least 1
     /// msat, at most 30 of them and of 1,000,000,000,000 msat together, without a reserve. Takes no memory.
@@ -59,10 +59,17 @@ impl Settings {
         }
     }
 
-    fn are_ordered(&self) -> bool
-        ensures test { result ≡ are_ordered self.now }
+    // Each of its numbers has 64 bits, so messages have room for it.
+    fn has_room(self)
+        ensures { CanBeTold self }
+    {}
+
+    fn may_ask(&self) -> bool
+        ensures test { result ≡ may_ask self.now }
         ensures fits { IsTrue result → AreOrdered self.now.fees }
+        ensures has_room { CanBeTold self.now }
     {
+        self.has_room();
         self.fees.least <= self.fees.first && self.fees.first <= self.fees.greatest
     }
 }
@@ -162,7 +169,7 @@ pub fn may_bring(satoshis: u64, push: u64, funder: &Settings, fundee: &Settings)
         funder: funder.limits,
         fundee: fundee.limits,
     };
-    opening.is_fit() && funder.are_ordered() && fundee.are_ordered()
+    opening.is_fit() && funder.may_ask() && fundee.may_ask()
 }
 
 /// What a fundee takes channels with. 60 where there is no memory.

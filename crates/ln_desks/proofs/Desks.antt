@@ -15,7 +15,6 @@ use Rattle.ln_channels.specs.declared.step.Node.{Node}
 use Rattle.ln_channels.specs.declared.step.Step.{Step as ChannelStep}
 use Rattle.ln_channels.specs.Channel.{is_node, end_at}
 use Rattle.ln_channels.specs.Promises.{Each}
-use Rattle.ln_channels.specs.Promises as promise
 use Rattle.ln_channels.specs.Machine.{AreInStep}
 use Rattle.ln_channels.specs.World.{World as Channels, channel, may_open}
 use Rattle.ln_channels.specs.World as channels
@@ -29,7 +28,7 @@ use Rattle.ln_desks.specs.Desk.{restarted, is_at, desk_at, at_desk, SeatFollows,
 use Rattle.ln_desks.specs.World.{World, empty, plain, plains, moved_by, item, event_for, numbered_for, next_event}
 use Rattle.ln_desks.specs.World.{decided_for, new_desks, all_restart, may_act, may_register, served_at}
 use Rattle.ln_desks.specs.World.{desks_by, happens, run}
-use Rattle.ln_desks.specs.Promises.{BringFit, Follows, CallsFollow, SeatStands, LifeStands, DeskStands, DesksStand}
+use Rattle.ln_desks.specs.Promises.{Follows, CallsFollow, SeatStands, LifeStands, DeskStands, DesksStand}
 use Rattle.ln_desks.proofs.Pairs.{Between, Aligned, with_opened, channels_move, step_aligned, none_aligned}
 use Rattle.ln_desks.proofs.Pairs.{all_aligned, decided_between}
 use Rattle.ln_desks.proofs.Events.{item_below, item_at, event_read, events_behind, events_more, run_append}
@@ -250,17 +249,17 @@ module _ {K : Type 0} (k : Ghosts K) where
       let same : ◌≡◌ {A = ℕ × ChannelEvent} (n, e) p = cc in ap (λ (q : ℕ × ChannelEvent). Some q.1) same
 
   dispatched_by : (done : List (ChannelStep K k)) (e : End) (v : Verdict) (w : Channels K)
-      → promise.BringFit k done → w ≡ channels.run k done channels.empty → (ds : List Desk)
+      → w ≡ channels.run k done channels.empty → (ds : List Desk)
       → (o : Option (ℕ × ChannelEvent)) → numbered_for (desk_at e ds) w ≡ o → AllStand done ds
       → AllStand done (served_at e v o ds)
-  dispatched_by done e v w fit is ds None next_is h = h
-  dispatched_by done e v w fit is ds (Some p) next_is h =
+  dispatched_by done e v w is ds None next_is h = h
+  dispatched_by done e v w is ds (Some p) next_is h =
       at_so done e (serving p.1 v) ds (λ d found s.
       served_so (events_behind k d.end.channel d.side done) d p.1 v
       (event_read (next d.life) d.side (channel d.end.channel w.channels)
       (events_behind k d.end.channel d.side done) p.1
       (subst (λ (x : Channels K). AreInStep d.side (events_behind k d.end.channel d.side done)
-      (channel d.end.channel x.channels)) (sym is) (in_step_so k done d.end.channel d.side fit))
+      (channel d.end.channel x.channels)) (sym is) (in_step_so k done d.end.channel d.side))
       (numbered_event (event_for d w) (next d.life) p (ap (λ o. numbered_for o w) (sym found) ∙ next_is))) s) h
 
   restart_one : (done : List (ChannelStep K k)) (w : Channels K) (b : Bool) (d : Desk)
@@ -302,24 +301,24 @@ module _ {K : Type 0} (k : Ghosts K) where
 
   -- the desks behind a step, by the events before it
   step_so : (done : List (ChannelStep K k)) (v : Verdict) (s : Step K k) (w : World K) (new : Channels K)
-      → promise.BringFit k done → w.channels ≡ channels.run k done channels.empty
+      → w.channels ≡ channels.run k done channels.empty
       → Aligned new.channels (with_opened k s w) → AllStand done w.desks → AllStand done (desks_by k v s w new)
-  step_so done v (step.Fees n fees) w new fit is none h = h
-  step_so done v (step.Limits n limits) w new fit is none h = h
-  step_so done v (step.Open o) w new fit is none h =
+  step_so done v (step.Fees n fees) w new is none h = h
+  step_so done v (step.Limits n limits) w new is none h = h
+  step_so done v (step.Open o) w new is none h =
       opens_by (may_open o w.channels) done o.channel o.funder o.fundee w.desks h
-  step_so done v (step.Do e a) w new fit is none h = h
-  step_so done v (step.Down e) w new fit is none h = h
-  step_so done v (step.NoMemory e a) w new fit is none h = h
-  step_so done v (step.Restart n) w new fit is none h = restarts_so done n new w.desks none h
-  step_so done v (step.StopBefore e a) w new fit is none h =
+  step_so done v (step.Do e a) w new is none h = h
+  step_so done v (step.Down e) w new is none h = h
+  step_so done v (step.NoMemory e a) w new is none h = h
+  step_so done v (step.Restart n) w new is none h = restarts_so done n new w.desks none h
+  step_so done v (step.StopBefore e a) w new is none h =
       restarts_by (may_act e a w) done e.node new w.desks none h
-  step_so done v (step.StopAfter e a) w new fit is none h =
+  step_so done v (step.StopAfter e a) w new is none h =
       restarts_by (may_act e a w) done e.node new w.desks none h
-  step_so done v (step.Up n) w new fit is none h = h
-  step_so done v (step.Dispatch e) w new fit is none h =
-      dispatched_by done e v w.channels fit is w.desks (next_event e w) refl h
-  step_so done v (step.Register e hook) w new fit is none h =
+  step_so done v (step.Up n) w new is none h = h
+  step_so done v (step.Dispatch e) w new is none h =
+      dispatched_by done e v w.channels is w.desks (next_event e w) refl h
+  step_so done v (step.Register e hook) w new is none h =
       registers_by (may_register e hook w) done e hook w.desks h
 
   -- ---- over a list of steps
@@ -334,28 +333,19 @@ module _ {K : Type 0} (k : Ghosts K) where
   moved_so (Some s) done w is =
       ap (channels.happens k s) is ∙ sym (run_append k done (s ∷ []) channels.empty)
 
-  fits : (o : Option (ChannelStep K k)) (done rest : List (ChannelStep K k))
-      → promise.BringFit k (done ++ cons_option o rest) → promise.BringFit k ((done ++ one o) ++ rest)
-  fits None done rest f = subst (λ ss. promise.BringFit k (ss ++ rest)) (sym (append-nil done)) f
-  fits (Some s) done rest f = subst (promise.BringFit k) (sym (append_assoc done (s ∷ []) rest)) f
-
-  front : (done rest : List (ChannelStep K k)) → promise.BringFit k (done ++ rest) → promise.BringFit k done
-  front [] rest f = tt
-  front (s ∷ done) rest f = (f.0, front done rest f.1)
-
   stood : (ss : List (Step K k × Verdict)) (done : List (ChannelStep K k)) (w : World K)
-      → promise.BringFit k (done ++ plains k ss w) → w.channels ≡ channels.run k done channels.empty
+      → w.channels ≡ channels.run k done channels.empty
       → Aligned w.channels.channels w.desks → AllStand done w.desks
       → AllStand (done ++ plains k ss w) (run k ss w).desks
-  stood [] done w f is a h = subst (λ ss. AllStand ss w.desks) (sym (append-nil done)) h
-  stood (s ∷ ss) done w f is a h =
+  stood [] done w is a h = subst (λ ss. AllStand ss w.desks) (sym (append-nil done)) h
+  stood (s ∷ ss) done w is a h =
       let o = plain k s.0 w in
       let new = moved_by k o w.channels in
       let next_w = happens k s.1 s.0 w in
       let rest = plains k ss next_w in
       let now = moved_so o done w.channels is in
-      let desks = step_so done s.1 s.0 w new (front done (cons_option o rest) f) is (channels_move k s.0 w a) h in
-      let later = stood ss (done ++ one o) next_w (fits o done rest f) now (step_aligned k s.1 s.0 w a)
+      let desks = step_so done s.1 s.0 w new is (channels_move k s.0 w a) h in
+      let later = stood ss (done ++ one o) next_w now (step_aligned k s.1 s.0 w a)
       (all_grown done (one o) (desks_by k s.1 s.0 w new) desks) in
       subst (λ ts. AllStand ts (run k (s ∷ ss) w).desks) (same o rest) later
     where
@@ -364,16 +354,16 @@ module _ {K : Type 0} (k : Ghosts K) where
       same None rest = ap (λ ts. ts ++ rest) (append-nil done)
       same (Some t) rest = append_assoc done (t ∷ []) rest
 
-  all_stand : (ss : List (Step K k × Verdict)) (n : ℕ) → BringFit k n ss
+  all_stand : (ss : List (Step K k × Verdict)) (n : ℕ)
       → AllStand (plains k ss (empty n)) (run k ss (empty n)).desks
-  all_stand ss n f = stood ss [] (empty n) f refl (none_aligned k) tt
+  all_stand ss n = stood ss [] (empty n) refl (none_aligned k) tt
 
-  pub calls_follow : (ss : List (Step K k × Verdict)) (n : ℕ) → BringFit k n ss → CallsFollow k n ss
-  calls_follow ss n f =
+  pub calls_follow : (ss : List (Step K k × Verdict)) (n : ℕ) → CallsFollow k n ss
+  calls_follow ss n =
       let done = plains k ss (empty n) in
       each-to (AtDesk done) (λ d. Follows (events_behind k d.end.channel d.side done) d)
-      (λ d h. (moves_last k done d.end.channel d.side f, desk_so (events_behind k d.end.channel d.side done) d h))
-      (run k ss (empty n)).desks (all_stand ss n f)
+      (λ d h. (moves_last k done d.end.channel d.side, desk_so (events_behind k d.end.channel d.side done) d h))
+      (run k ss (empty n)).desks (all_stand ss n)
 
   -- ---- what is decided
 
@@ -393,8 +383,8 @@ module _ {K : Type 0} (k : Ghosts K) where
     with_decided done w ds b.1 h.1,
   )
 
-  pub desks_stand : (ss : List (Step K k × Verdict)) (n : ℕ) → BringFit k n ss → DesksStand k n ss
-  desks_stand ss n f =
+  pub desks_stand : (ss : List (Step K k × Verdict)) (n : ℕ) → DesksStand k n ss
+  desks_stand ss n =
       let w = run k ss (empty n) in
       with_decided (plains k ss (empty n)) w.channels w.desks
-      (decided_between w.channels w.desks (all_aligned k n ss)) (all_stand ss n f)
+      (decided_between w.channels w.desks (all_aligned k n ss)) (all_stand ss n)

@@ -14,7 +14,7 @@ use Rattle.ln_channels.specs.Failing as failing
 use Rattle.ln_channels.proofs.Recorded.{never_damaged}
 use Rattle.ln_desks.specs.declared.step.Step.{Step}
 use Rattle.ln_desks.specs.World.{World, empty, plain, plains, moved_by, happens, run, MayFailBy, SomeMayFail}
-use Rattle.ln_desks.specs.Promises.{BringFit, AreSteps, OfEach}
+use Rattle.ln_desks.specs.Promises.{AreSteps, OfEach}
 
 module _ {K : Type 0} (k : Ghosts K) where
   one_more : (o : Option (ChannelStep K k)) (ss : List (ChannelStep K k)) (w : Channels K)
@@ -36,9 +36,9 @@ module _ {K : Type 0} (k : Ghosts K) where
 
   -- what holds of each channel behind a run of channels holds behind the run of nodes
   pub of_each : (P : Both K → Type 0)
-      → ((ss : List (ChannelStep K k)) → promise.BringFit k ss → promise.OfEach P (channels.run k ss channels.empty))
-      → (ss : List (Step K k × Verdict)) (n : ℕ) → BringFit k n ss → OfEach P (run k ss (empty n))
-  of_each P law ss n f = subst (λ (w : Channels K). promise.OfEach P w) (sym (ran n ss)) (law (plains k ss (empty n)) f)
+      → ((ss : List (ChannelStep K k)) → promise.OfEach P (channels.run k ss channels.empty))
+      → (ss : List (Step K k × Verdict)) (n : ℕ) → OfEach P (run k ss (empty n))
+  of_each P law ss n = subst (λ (w : Channels K). promise.OfEach P w) (sym (ran n ss)) (law (plains k ss (empty n)))
 
   -- ---- by what a step may fail
 
@@ -58,6 +58,6 @@ module _ {K : Type 0} (k : Ghosts K) where
       fails_by (plain k s.0 w) (plains k ss (happens k s.1 s.0 w)) w.channels
       (inr (some_fails ss (happens k s.1 s.0 w) h))
 
-  pub none_damaged : (ss : List (Step K k × Verdict)) (n : ℕ) → BringFit k n ss → AreSteps k n ss
+  pub none_damaged : (ss : List (Step K k × Verdict)) (n : ℕ) → AreSteps k n ss
       → SomeMayFail k ss refusal.Damaged (empty n) → ⊥
-  none_damaged ss n f a h = never_damaged k (plains k ss (empty n)) f a (some_fails ss (empty n) h)
+  none_damaged ss n a h = never_damaged k (plains k ss (empty n)) a (some_fails ss (empty n) h)

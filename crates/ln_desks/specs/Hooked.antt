@@ -11,7 +11,7 @@ use Rattle.ln_desks.specs.declared.step.Step.{Step}
 use Rattle.ln_desks.specs.declared.step.Step.TheVariants as step
 use Rattle.ln_desks.specs.Desk.{Desk, desk_at}
 use Rattle.ln_desks.specs.World.{World, empty, next_event, happens, run, step_lines, run_lines, SomeMayFail}
-use Rattle.ln_desks.specs.Promises.{BringFit, CallsFollow}
+use Rattle.ln_desks.specs.Promises.{CallsFollow}
 use Rattle.ln_desks.specs.Seated.{Answers, says_at, Tables, Stand, Moved}
 
 -- what a dispatcher's hooks say of its next event, where its end holds that
@@ -57,15 +57,14 @@ module _ {K : Type 0} (k : Ghosts K) {H : Type 0} (calls : H → ChannelEvent �
       → Stepped handed a s w w' ts' left' lines lines'
 
   -- behind these steps, by some answers of the hooks that were handed in; each hook stands at the end of its chain, and
-  -- each dispatcher's calls follow its end's committed events, where what the steps bring is as it is in code
+  -- each dispatcher's calls follow its end's committed events
   pub record HasRun (handed : List H) (ss : List (Step K k)) (w : World K) (ts : List (Tables calls))
       (left : List (Option H)) (lines lines' : List Line) : Type 0 where
     pub answers : Answers
     pub world : w ≡ run k (answered k answers ss (empty (length handed))) (empty (length handed))
     pub told : lines' ≡ lines ++ run_lines k (answered k answers ss (empty (length handed))) (empty (length handed))
     pub stand : Stand calls handed answers w.used w.desks ts left
-    pub follow : BringFit k (length handed) (answered k answers ss (empty (length handed)))
-        → CallsFollow k (length handed) (answered k answers ss (empty (length handed)))
+    pub follow : CallsFollow k (length handed) (answered k answers ss (empty (length handed)))
 
 -- for want of memory, or by what one of the steps may fail by, by some answers of the hooks
 abbrev pub RunMayFail : {K : Type 0} → (k : Ghosts K) → ℕ → List (Step K k) → Refusal → Type 0

@@ -18,10 +18,7 @@ use Rattle.ln_desks.specs.declared.seat.Seat.{Seat}
 use Rattle.ln_desks.specs.Desk.{Life, Desk, DeskFollows, Begins, next}
 use Rattle.ln_desks.specs.World.{World, empty, run, plains, decided_for}
 
--- ---- what the steps bring is as it is in code; so many hooks were handed in
-
-abbrev pub BringFit : {K : Type 0} → (k : Ghosts K) → ℕ → List (Step K k × Verdict) → Type 0
-BringFit k hooks ss = promise.BringFit k (plains k ss (empty hooks))
+-- ---- what the steps' commands bring is as wide as it is in code; so many hooks were handed in
 
 abbrev pub AreSteps : {K : Type 0} → (k : Ghosts K) → ℕ → List (Step K k × Verdict) → Type 0
 AreSteps k hooks ss = record_of.AreSteps k (plains k ss (empty hooks))

@@ -8,7 +8,6 @@ pub mod Script
 pub mod FirstBad
 pub mod Walk
 pub mod Registered
-pub mod Fits
 pub mod Widths
 pub mod Unhooked
 pub mod Reports

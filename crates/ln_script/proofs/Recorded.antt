@@ -7,20 +7,19 @@ use Rattle.ln_desks.specs.Seated.{Answers}
 use Rattle.ln_world.specs.declared.step.Step.TheVariants as step
 use Rattle.ln_world.specs.World.{World, empty, happens, SomeMayFail}
 use Rattle.ln_world.specs.Hooked.{verdict_in, answered}
-use Rattle.ln_world.specs.Promises.{BringFit}
 use Rattle.ln_world.specs.Records.{IsStep, AreWorldSteps}
 use Rattle.ln_script.specs.Keys.{toy}
 use Rattle.ln_script.specs.Step.{ToyStep}
 use Rattle.ln_script.specs.Wide.{IsWide, AreAsWide}
-use Rattle.ln_script.specs.Report.{Said, said_by, SomeLacks, StepsFail, BringWhatFits}
+use Rattle.ln_script.specs.Report.{Said, said_by, SomeLacks, StepsFail}
 
 as_brought : (s : ToyStep) → IsWide s → IsStep toy s
 as_brought (step.Fees n fees) h = tt
-as_brought (step.Limits n limits) h = h
+as_brought (step.Limits n limits) h = tt
 as_brought (step.Policy n policy) h = tt
 as_brought (step.Height n height) h = tt
 as_brought (step.Expect n invoice) h = h.preimage
-as_brought (step.Open o) h = h
+as_brought (step.Open o) h = tt
 as_brought (step.Do e a) h = h
 as_brought (step.Down e) h = tt
 as_brought (step.NoMemory e a) h = tt
@@ -39,18 +38,17 @@ all_brought b (s ∷ ss) w h =
 
 -- what ln_world's law says
 abbrev pub NeverDamaged : Type 0
-NeverDamaged = (ss : Said) (hooks : ℕ) → BringFit toy hooks ss → AreWorldSteps toy ss
-    → SomeMayFail toy ss refusal.Damaged (empty hooks) → ⊥
+NeverDamaged = (ss : Said) (hooks : ℕ) → AreWorldSteps toy ss → SomeMayFail toy ss refusal.Damaged (empty hooks) → ⊥
 
-none_lacks : NeverDamaged → (n : ℕ) (ss : List ToyStep) → BringWhatFits n ss → AreAsWide ss → SomeLacks n ss → ⊥
-none_lacks law n ss fits wide lacks =
-    law (said_by lacks.0 n ss) n (fits lacks.0) (all_brought lacks.0 ss (empty n) wide) lacks.1
+none_lacks : NeverDamaged → (n : ℕ) (ss : List ToyStep) → AreAsWide ss → SomeLacks n ss → ⊥
+none_lacks law n ss wide lacks =
+    law (said_by lacks.0 n ss) n (all_brought lacks.0 ss (empty n) wide) lacks.1
 
-pub not_damaged : NeverDamaged → (n : ℕ) (ss : List ToyStep) → BringWhatFits n ss → AreAsWide ss → (r : Refusal)
+pub not_damaged : NeverDamaged → (n : ℕ) (ss : List ToyStep) → AreAsWide ss → (r : Refusal)
     → (X : Type 0) → StepsFail n ss r ⊎ ((r ≡ refusal.Io) × X) → r ≢ refusal.Damaged
-not_damaged law n ss fits wide r X (inl (inl memory)) is = absurd cc
-not_damaged law n ss fits wide r X (inl (inr p)) is = none_lacks law n ss fits wide p.1
-not_damaged law n ss fits wide r X (inr p) is = let io = p.0 in absurd cc
+not_damaged law n ss wide r X (inl (inl memory)) is = absurd cc
+not_damaged law n ss wide r X (inl (inr p)) is = none_lacks law n ss wide p.1
+not_damaged law n ss wide r X (inr p) is = let io = p.0 in absurd cc
 
 pub never_so : (r : Result (Unit {0}) Refusal) (X : Type 0)
     → IfErr r (λ e. (e ≡ refusal.Memory) ⊎ ((e ≡ refusal.Io) × X)) → IfErr r (λ e. e ≢ refusal.Damaged)

@@ -20,7 +20,7 @@ use Rattle.ln_script.specs.Keys.{toy}
 use Rattle.ln_script.specs.Step.{ToyStep, is_hook, numbered}
 use Rattle.ln_script.specs.Script.{lines, line_at, behind, steps_from, with_places, script_at}
 use Rattle.ln_script.specs.Report.{StepPartlyTold, StepFails, StepsFail, StepsTold, ReportsPartly}
-use Rattle.ln_script.specs.Report.{BringWhatFits, ReportsScript, ReportsScriptPartly, ends_text}
+use Rattle.ln_script.specs.Report.{ReportsScript, ReportsScriptPartly, ends_text}
 use Rattle.ln_msgs.specs.Pings.Written.{IsPartlyWritten}
 use Rattle.std.specs.Io.KnownBytes.{Appends}
 use Rattle.ln_script.specs.Wide.{AreAsWide}
@@ -279,14 +279,13 @@ script_refused text ls e Same X is same (inr p) = inr (inl (p.0, p.1, script_bad
 
 -- no step of a script fails by 70
 pub run_refused : NeverDamaged → (n : ℕ) (text : List ℕ) (ls : List (List ℕ)) (steps : List ToyStep) (e : Refusal)
-    (X Y : Type 0) → ((t : List ℕ) (ss : List ToyStep) (m : ℕ) → script_at t ≡ Ok ss → BringWhatFits m ss)
-    → ((t : List ℕ) (ss : List ToyStep) → script_at t ≡ Ok ss → AreAsWide ss) → ls ≡ lines text
+    (X Y : Type 0) → ((t : List ℕ) (ss : List ToyStep) → script_at t ≡ Ok ss → AreAsWide ss) → ls ≡ lines text
     → steps_from 1 ls ≡ Ok steps → (StepsFail n (numbered 0 steps) e ⊎ ((e ≡ refusal.Io) × X))
     → (e ≡ refusal.Memory) ⊎ Y ⊎ ((e ≡ refusal.Io) × X)
-run_refused law n text ls steps e X Y fits wide is ok cause =
+run_refused law n text ls steps e X Y wide is ok cause =
     let read : script_at text ≡ Ok (numbered 0 steps) = script_read text ls steps is ok in
     so (by_memory_or_io n (numbered 0 steps) e X cause
-    (not_damaged law n (numbered 0 steps) (fits text (numbered 0 steps) n read) (wide text (numbered 0 steps) read) e X
+    (not_damaged law n (numbered 0 steps) (wide text (numbered 0 steps) read) e X
     cause))
   where
     so : (e ≡ refusal.Memory) ⊎ ((e ≡ refusal.Io) × X) → (e ≡ refusal.Memory) ⊎ Y ⊎ ((e ≡ refusal.Io) × X)

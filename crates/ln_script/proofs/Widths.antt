@@ -1,24 +1,21 @@
--- What a script's lines bring is as wide as it is in code: numbers of 16, 32 and 64 bits, secrets, hashes and preimages
--- of 32 bytes, onions of 1,366 (BOLT 2).
+-- What a script's lines bring is as wide as it is in code: numbers of 16, 32 and 64 bits, payment secrets, hashes and
+-- preimages of 32 bytes, onions of 1,366 (BOLT 2).
 use Rattle.std.proofs.Common.{◌≡◌, ℕ, ◌+◌, ◌-◌, ◌*◌, ◌<◌, ◌≤◌, ◌^◌, List, [], ◌∷◌, ◌++◌, length, replicate}
-use Rattle.std.proofs.Common.{true, ◌&&◌, codes, nat_le, nat_lt, Option, Some, None, Ok, refl}
+use Rattle.std.proofs.Common.{Bool, true, false, ◌&&◌, codes, nat_le, nat_lt, Option, Some, None, Ok, refl}
 use Rattle.std.proofs.Common.{arith, length-append}
 use Rattle.std.specs.Str.{bytes_eq}
-use Rattle.std.specs.Int.{w64, to_be_bytes}
-use Rattle.std.proofs.lemmas.Bool.{leb-true, ltb-false, and_parts}
+use Rattle.std.proofs.lemmas.Bool.{leb-true, ltb-true, ltb-false, and_parts}
+use Rattle.std.specs.Str.Parse.{digits_value}
 use Rattle.std.proofs.lemmas.List.{length-replicate}
 use Rattle.sha2.proofs.Facts256.{length-sha256}
-use Rattle.ln_keys.specs.declared.toy_keys.ToyKeys.{ToyKeys}
-use Rattle.ln_keys.specs.Toy.{toy_secret, toy_signer}
 use Rattle.ln_keys.specs.ToyOnion.{toy_key, toy_hmac, filled, toy_packet, payload_bytes, toy_made}
 use Rattle.ln_channel.specs.declared.command.Command.{Command}
 use Rattle.ln_channels.specs.declared.step.End.{End}
 use Rattle.ln_channels.specs.declared.step.Node.{Node}
-use Rattle.ln_channels.specs.Records.{HaveSecrets}
 use Rattle.ln_pair.specs.Widths.{IsCommand}
 use Rattle.ln_world.specs.declared.step.Act.TheVariants as act
 use Rattle.ln_world.specs.declared.step.Step.TheVariants as step
-use Rattle.ln_script.specs.Word.{◌>>=◌, decimal_at, number_at, node_at, short_id_at, digit_at, code_at}
+use Rattle.ln_script.specs.Word.{◌>>=◌, is_decimal, decimal_at, number_at, node_at, short_id_at, digit_at, code_at}
 use Rattle.ln_script.specs.Onion.{payloads_at}
 use Rattle.ln_script.specs.Command.{preimage_of, hash_of, onion_at, add_at, fulfil_at, fail_at}
 use Rattle.ln_script.specs.Command.{malformed_at, fee_at, confirm_line, add_line, fulfil_line, fail_line}
@@ -28,9 +25,20 @@ use Rattle.ln_script.specs.Script.{script_at}
 use Rattle.ln_script.specs.Wide.{IsWide, AreAsWide}
 use Rattle.ln_script.proofs.Walk.{Has, then, then_of, either, if_true, if_false, if_in_order, IsOfEachKind, RoundAct}
 use Rattle.ln_script.proofs.Walk.{each_step}
-use Rattle.ln_script.proofs.Fits.{IsShort, decimals_are_short}
 
 -- ---- numbers
+
+abbrev IsShort : ℕ → Type 0
+IsShort n = n < 2 ^ 64
+
+both_short : (a : Bool) (n : ℕ) → (a && nat_lt n (2 ^ 64)) ≡ true → n < 2 ^ 64
+both_short true n e = ltb-true n (2 ^ 64) e
+both_short false n e = absurd cc
+
+decimals_are_short : (w : List ℕ) → Has IsShort (decimal_at w)
+unfolding decimal_at
+decimals_are_short w = if_true IsShort (is_decimal w && nat_lt (digits_value 10 w) (2 ^ 64)) (digits_value 10 w) None
+    (both_short (is_decimal w) (digits_value 10 w)) tt
 
 abbrev AtMost : ℕ → ℕ → Type 0
 AtMost greatest n = n ≤ greatest
@@ -76,10 +84,6 @@ in_32_bits : (n : ℕ) → n ≤ 4294967295 → n < 2 ^ 32
 in_32_bits n most = omega (arith, most)
 
 -- ---- bytes
-
-have_secrets : (k : ToyKeys) → HaveSecrets (toy_signer k)
-unfolding toy_secret
-have_secrets k n small = length-sha256 (k.seed ++ to_be_bytes w64 n)
 
 length-preimage : (payment : ℕ) → length (preimage_of payment) ≡ 32
 unfolding preimage_of
@@ -233,9 +237,10 @@ commands_are_wide node w ws =
 fees_wide : (node : Node) (f l m : List ℕ) → Has IsWide (fees_at node f l m)
 unfolding fees_at
 fees_wide node f l m =
-    then IsWide (decimal_at f) _ (λ first.
-    then IsWide (decimal_at l) _ (λ least.
-    then IsWide (decimal_at m) _ (λ most. if_in_order IsWide node first least most tt)))
+    then_of IsShort IsWide (decimal_at f) _ (decimals_are_short f) (λ first hf.
+    then_of IsShort IsWide (decimal_at l) _ (decimals_are_short l) (λ least hl.
+    then_of IsShort IsWide (decimal_at m) _ (decimals_are_short m) (λ most hm.
+    if_in_order IsWide node first least most (record { first = hf; least = hl; greatest = hm }))))
 
 limits_wide : (node : Node) (m a i r : List ℕ) → Has IsWide (limits_at node m a i r)
 unfolding limits_at
@@ -289,7 +294,7 @@ all_wide = record {
   policies = policies_wide;
   heights = heights_wide;
   expects = expects_wide;
-  opens = λ o. (have_secrets o.keys.funder, have_secrets o.keys.fundee);
+  opens = λ o. tt;
   up = λ channel. tt;
   down = λ end. tt;
   restarts = λ node. tt;

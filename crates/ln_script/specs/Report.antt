@@ -15,7 +15,6 @@ use Rattle.ln_channels.specs.World.{World as Channels, end_lines}
 use Rattle.ln_desks.specs.Seated.{Answers, Tables, Stand}
 use Rattle.ln_world.specs.World.{World, empty, run, run_lines, MayFail, SomeMayFail}
 use Rattle.ln_world.specs.Hooked.{answered, Steps, HasRun}
-use Rattle.ln_world.specs.Promises.{BringFit}
 use Rattle.ln_script.specs.Keys.{toy}
 use Rattle.ln_script.specs.Step.{ToyStep}
 use Rattle.ln_script.specs.Script.{script_at}
@@ -138,10 +137,6 @@ SomeLacks hooks ss = (a : Answers) × SomeMayFail toy (said_by a hooks ss) refus
 
 abbrev pub StepsFail : ℕ → List ToyStep → Refusal → Type 0
 StepsFail hooks ss r = (r ≡ refusal.Memory) ⊎ ((r ≡ refusal.Damaged) × SomeLacks hooks ss)
-
--- whatever so many hooks answer
-abbrev pub BringWhatFits : ℕ → List ToyStep → Type 0
-BringWhatFits hooks ss = (a : Answers) → BringFit toy hooks (said_by a hooks ss)
 
 -- ---- the world that a script leaves
 

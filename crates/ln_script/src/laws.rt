@@ -21,7 +21,7 @@ ghost use Rattle.ln_world.specs.Promises.{OfEach, CallsFollow, DesksStand, event
 ghost use Rattle.ln_script.specs.Keys.{toy};
 ghost use Rattle.ln_script.specs.Step.{ToyStep, is_hook};
 ghost use Rattle.ln_script.specs.Script.{lines, script_at, script_hooks, IsFirstBad};
-ghost use Rattle.ln_script.specs.Report.{said_by, left_by, BringWhatFits, AfterEachScript};
+ghost use Rattle.ln_script.specs.Report.{said_by, left_by, AfterEachScript};
 ghost use Rattle.ln_script.specs.Wide.{AreAsWide};
 
 use ln_keys::ToyKeys;
@@ -45,13 +45,10 @@ pub fn each_hook_is_registered()
         → count_by is_hook steps ≡ length (script_hooks text) }
 {}
 
-/// What a script's steps bring is what the laws of a world ask for, whatever hooks answer: closing fees below 2^64, and
-/// points of 33 bytes. It is also as wide as it is in code: numbers of 16, 32 and 64 bits, secrets, hashes and
+/// What a script's steps bring is as wide as it is in code: numbers of 16, 32 and 64 bits, payment secrets, hashes and
 /// preimages of 32 bytes, onions of 1,366.
-pub fn steps_bring_what_fits()
-    ensures fits { (text : List ℕ) (steps : List ToyStep) (hooks : ℕ) → script_at text ≡ Ok steps
-        → BringWhatFits hooks steps }
-    ensures widths { (text : List ℕ) (steps : List ToyStep) → script_at text ≡ Ok steps → AreAsWide steps }
+pub fn steps_are_wide()
+    ensures { (text : List ℕ) (steps : List ToyStep) → script_at text ≡ Ok steps → AreAsWide steps }
 {}
 
 /// The laws of a world hold after each script that is read, whatever the hooks answer that are handed in, and with

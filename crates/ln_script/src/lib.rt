@@ -18,7 +18,7 @@ mod word;
 
 pub use hook::HookLine;
 pub use laws::{
-    each_hook_is_registered, first_bad_line, scripts_keep_the_promises, steps_bring_what_fits,
+    each_hook_is_registered, first_bad_line, scripts_keep_the_promises, steps_are_wide,
 };
 pub use message::message_text;
 pub use print::print_all;

@@ -13,7 +13,6 @@ ghost use Rattle.ln_script.specs.Keys.{toy};
 ghost use Rattle.ln_script.specs.Report.{shown_line, shown_end, lines_text, ends_text, StepFails, StepsFail};
 ghost use Rattle.ln_script.specs.Report.{StepTold, StepPartlyTold, StepsTold, Reports, ReportsPartly, report_text};
 ghost use Rattle.ln_script.specs.Report.{unhooked};
-ghost use Rattle.ln_script.specs.Report.{BringWhatFits};
 ghost use Rattle.ln_script.specs.Telling.{AllStand, EachTold, StopsBy};
 ghost use Rattle.ln_script.specs.Wide.{AreAsWide};
 
@@ -263,8 +262,7 @@ pub fn print_report<W: Write, H: Serve>(
         (W.contents (inner_of writer.new)) (report_text 0 (unhooked steps.items))) }
     ensures cause { IfErr result (λ e. StepsFail (length hooks.items) steps.items e
         ⊎ ((e ≡ Io) × HasRisen (failures_of writer.old) (failures_of writer.new))) }
-    ensures finds_each_record { BringWhatFits (length hooks.items) steps.items
-        → AreAsWide steps.items → IfErr result (λ e. e ≢ Damaged) }
+    ensures finds_each_record { AreAsWide steps.items → IfErr result (λ e. e ≢ Damaged) }
 {
     every_end_has_a_record::<ToyKeys>();
     let world = print_steps(alloc, steps, hooks, writer)?;

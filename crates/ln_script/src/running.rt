@@ -8,7 +8,7 @@ ghost use Rattle.ln_script.specs.Step.{texts, numbered, ToyStep};
 ghost use Rattle.ln_script.specs.Script.{line_at, steps_from, script_at};
 ghost use Rattle.ln_script.specs.Report.{StepsTold, StepsFail, ReportsPartly, ReportsScript, ReportsScriptPartly};
 
-use crate::laws::steps_bring_what_fits;
+use crate::laws::steps_are_wide;
 use crate::reading::{lines_of, place_hooks, read_line};
 use crate::report::{print_each, print_ends};
 use ln_keys::ToyKeys;
@@ -98,7 +98,7 @@ pub fn report_script<W: Write, H: Serve>(
     let pieces = lines_of(alloc, text)?;
     let lines = pieces.as_slice();
     check_lines(alloc, lines)?;
-    steps_bring_what_fits();
+    steps_are_wide();
     every_end_has_a_record::<ToyKeys>();
     let world = print_lines(alloc, lines, hooks, writer)?;
     print_ends(alloc, &world, writer)

@@ -16,7 +16,7 @@ use Rattle.ln_desks.proofs.Plains as desks_plain
 use Rattle.ln_world.specs.declared.step.Step.{Step}
 use Rattle.ln_world.specs.World.{World, empty, plain, plains, with_verdict, moved_by, happens, run, MayFailBy}
 use Rattle.ln_world.specs.World.{SomeMayFail}
-use Rattle.ln_world.specs.Promises.{BringFit, AreSteps, OfEach, channel_steps}
+use Rattle.ln_world.specs.Promises.{AreSteps, OfEach, channel_steps}
 
 module _ {K : Type 0} (k : Ghosts K) where
   one_more : (v : Verdict) (o : Option (DeskStep K k)) (ss : List (DeskStep K k × Verdict)) (d : Desks K)
@@ -43,12 +43,11 @@ module _ {K : Type 0} (k : Ghosts K) where
 
   -- what holds of each channel behind a run of channels holds behind the run of the world
   pub of_each : (P : Both K → Type 0)
-      → ((ss : List (ChannelStep K k)) → channel_promise.BringFit k ss
-      → channel_promise.OfEach P (channels.run k ss channels.empty))
-      → (ss : List (Step K k × Verdict)) (n : ℕ) → BringFit k n ss → OfEach P (run k ss (empty n))
-  of_each P law ss n f =
+      → ((ss : List (ChannelStep K k)) → channel_promise.OfEach P (channels.run k ss channels.empty))
+      → (ss : List (Step K k × Verdict)) (n : ℕ) → OfEach P (run k ss (empty n))
+  of_each P law ss n =
       subst (λ (d : Desks K). promise.OfEach P d) (sym (ran n ss))
-      (desks_plain.of_each k P law (plains k ss (empty n)) n f)
+      (desks_plain.of_each k P law (plains k ss (empty n)) n)
 
   -- ---- by what a step may fail
 
@@ -70,6 +69,6 @@ module _ {K : Type 0} (k : Ghosts K) where
       fails_by s.1 (plain k s.0 w) (plains k ss (happens k s.1 s.0 w)) w.desks
       (inr (some_fails ss (happens k s.1 s.0 w) h))
 
-  pub none_damaged : (ss : List (Step K k × Verdict)) (n : ℕ) → BringFit k n ss → AreSteps k n ss
+  pub none_damaged : (ss : List (Step K k × Verdict)) (n : ℕ) → AreSteps k n ss
       → SomeMayFail k ss refusal.Damaged (empty n) → ⊥
-  none_damaged ss n f a h = desks_plain.none_damaged k (plains k ss (empty n)) n f a (some_fails ss (empty n) h)
+  none_damaged ss n a h = desks_plain.none_damaged k (plains k ss (empty n)) n a (some_fails ss (empty n) h)

@@ -36,7 +36,7 @@ use Rattle.ln_channels.proofs.Kept.{ends_of}
 use Rattle.ln_channels.proofs.Recorded.{IsFit, IsFitChannel, AreFit, stays_fit, empty_fit}
 use Rattle.ln_world.specs.declared.step.Step.{Step}
 use Rattle.ln_world.specs.World.{empty}
-use Rattle.ln_world.specs.Promises.{BringFit, AreSteps}
+use Rattle.ln_world.specs.Promises.{AreSteps}
 use Rattle.ln_world.specs.Records.{AreWorldSteps}
 use Rattle.ln_world.proofs.WideReadings.{IsEnd, IsState, AreEnds}
 use Rattle.ln_world.proofs.WideWorlds.{id_so, steps_so}
@@ -131,7 +131,7 @@ module _ {K : Type 0} (k : Ghosts K) where
 
   -- ---- steps of a world
 
-  pub are_wide : (ss : List (Step K k × Verdict)) (n : ℕ) → BringFit k n ss → AreWorldSteps k ss → AreSteps k n ss
-  are_wide ss n f is =
-      steps_so k (AreFit k) (stays_fit k) (λ w h. all_ends w.channels h.channels) ss (empty n) f is (empty_fit k)
+  pub are_wide : (ss : List (Step K k × Verdict)) (n : ℕ) → AreWorldSteps k ss → AreSteps k n ss
+  are_wide ss n is =
+      steps_so k (AreFit k) (stays_fit k) (λ w h. all_ends w.channels h) ss (empty n) is tt
       (record { channels = tt; served = tt; nodes = tt })

@@ -39,7 +39,7 @@ use Rattle.ln_channels.specs.Settings.{channel_id_of, txid_of}
 use Rattle.ln_channels.specs.Channel.{Channel, is_node, side_of}
 use Rattle.ln_channels.specs.World.{World as Channels, channel, may_open}
 use Rattle.ln_channels.specs.World as channels
-use Rattle.ln_channels.specs.Promises.{Each, BringsFit}
+use Rattle.ln_channels.specs.Promises.{Each}
 use Rattle.ln_channels.specs.Records as record_of
 use Rattle.ln_desks.specs.declared.step.Step.{Step as DeskStep}
 use Rattle.ln_desks.specs.declared.step.Step.TheVariants as desk_step
@@ -317,9 +317,6 @@ module _ {K : Type 0} (k : Ghosts K) where
   -- what a step of desks brings
   abbrev Brings : DeskStep K k → Type 0
   Brings (desk_step.Fees n fees) = Unit {0}
-  Brings (desk_step.Limits n limits) = record_of.AreLimits limits
-  Brings (desk_step.Open o) =
-      record_of.HaveSecrets (k.signer o.keys.funder) × record_of.HaveSecrets (k.signer o.keys.fundee)
   Brings (desk_step.Do e a) = record_of.IsAct a
   Brings (desk_step.StopAfter e a) = record_of.IsAct a
   Brings s = Unit {0}
@@ -514,16 +511,6 @@ module _ {K : Type 0} (k : Ghosts K) where
   each_cons P None xs h g = g
   each_cons P (Some x) xs h g = (h, g)
 
-  first_each : (P : ChannelStep K k → Type 0) (o : Option (ChannelStep K k)) (xs : List (ChannelStep K k))
-      → Each P (cons_option o xs) → Where P o
-  first_each P None xs h = tt
-  first_each P (Some x) xs h = h.0
-
-  rest_each : (P : ChannelStep K k → Type 0) (o : Option (ChannelStep K k)) (xs : List (ChannelStep K k))
-      → Each P (cons_option o xs) → Each P xs
-  rest_each P None xs h = h
-  rest_each P (Some x) xs h = h.1
-
   -- the step of channels that a step of desks is, if there is one
   abbrev of_desks : Option (DeskStep K k) → Desks K → Option (ChannelStep K k)
   of_desks None d = None
@@ -541,34 +528,31 @@ module _ {K : Type 0} (k : Ghosts K) where
 
   -- where the ends of channels stay wide over wide steps of channels
   module _ (Fit : Channels K → Type 0)
-      (keeps : (s : ChannelStep K k) (w : Channels K) → BringsFit k s → OfChannels s → Fit w
-      → Fit (channels.happens k s w))
+      (keeps : (s : ChannelStep K k) (w : Channels K) → OfChannels s → Fit w → Fit (channels.happens k s w))
       (ends : (w : Channels K) → Fit w → All AreEnds w.channels) where
-    stays_by : (o : Option (ChannelStep K k)) (w : Channels K) → Where (BringsFit k) o → Where OfChannels o → Fit w
+    stays_by : (o : Option (ChannelStep K k)) (w : Channels K) → Where OfChannels o → Fit w
         → Fit (desks.moved_by k o w)
-    stays_by None w f is h = h
-    stays_by (Some s) w f is h = keeps s w f is h
+    stays_by None w is h = h
+    stays_by (Some s) w is h = keeps s w is h
 
-    stays : (v : Verdict) (o : Option (DeskStep K k)) (d : Desks K) → Where (BringsFit k) (of_desks o d)
+    stays : (v : Verdict) (o : Option (DeskStep K k)) (d : Desks K)
         → Where OfChannels (of_desks o d) → Fit d.channels → Fit (moved_by k v o d).channels
-    stays v None d f is h = h
-    stays v (Some s) d f is h = stays_by (desks.plain k s d) d.channels f is h
+    stays v None d is h = h
+    stays v (Some s) d is h = stays_by (desks.plain k s d) d.channels is h
 
     pub steps_so : (ss : List (Step K k × Verdict)) (w : World K)
-        → Each (BringsFit k) (desks.plains k (plains k ss w) w.desks) → AreWorldSteps k ss → Fit w.desks.channels
-        → IsWide w → Each OfChannels (desks.plains k (plains k ss w) w.desks)
-    steps_so [] w f is fit h = tt
-    steps_so (s ∷ ss) w f is fit h =
+        → AreWorldSteps k ss → Fit w.desks.channels → IsWide w → Each OfChannels (desks.plains k (plains k ss w) w.desks)
+    steps_so [] w is fit h = tt
+    steps_so (s ∷ ss) w is fit h =
         let o = plain k s.0 w in
         let d = w.desks in
         let x = of_desks o d in
         let new = happens k s.1 s.0 w in
         let rest = desks.plains k (plains k ss new) new.desks in
         let e = one_more s.1 o (plains k ss new) d in
-        let all : Each (BringsFit k) (cons_option x rest) = subst (λ l. Each (BringsFit k) l) e f in
         let wide : Where OfChannels x = of_desks_so o d (plain_so s.0 w is.0 h) in
         let fit_next : Fit new.desks.channels =
-        stays s.1 o d (first_each (BringsFit k) x rest all) wide fit in
+        stays s.1 o d wide fit in
         let next : IsWide new = happens_so s.1 s.0 w is.0 h (ends new.desks.channels fit_next) in
         subst (λ l. Each OfChannels l) (sym e)
-        (each_cons OfChannels x rest wide (steps_so ss new (rest_each (BringsFit k) x rest all) is.1 fit_next next))
+        (each_cons OfChannels x rest wide (steps_so ss new is.1 fit_next next))

@@ -14,7 +14,7 @@ use Rattle.ln_desks.specs.Seated.{Answers, Tables, Stand, Moved}
 use Rattle.ln_desks.specs.Hooked as desks
 use Rattle.ln_world.specs.declared.step.Step.{Step}
 use Rattle.ln_world.specs.World.{World, empty, plain, happens, run, step_lines, run_lines, SomeMayFail}
-use Rattle.ln_world.specs.Promises.{BringFit, CallsFollow}
+use Rattle.ln_world.specs.Promises.{CallsFollow}
 
 -- what the hooks say in a step: in that of desks that it is, if any
 abbrev pub verdict_by : {K : Type 0} {k : Ghosts K} → Answers → Option (DeskStep K k) → Desks K → Verdict
@@ -52,15 +52,14 @@ module _ {K : Type 0} (k : Ghosts K) {H : Type 0} (calls : H → ChannelEvent �
       → Stand calls handed a w.desks.used w.desks.desks ts left → Stepped handed a s w w' ts' left' lines lines'
 
   -- behind these steps, by some answers of the hooks that were handed in; each hook stands at the end of its chain, and
-  -- each dispatcher's calls follow its end's committed events, where what the steps bring is as it is in code
+  -- each dispatcher's calls follow its end's committed events
   pub record HasRun (handed : List H) (ss : List (Step K k)) (w : World K) (ts : List (Tables calls))
       (left : List (Option H)) (lines lines' : List Line) : Type 0 where
     pub answers : Answers
     pub world : w ≡ run k (answered k answers ss (empty (length handed))) (empty (length handed))
     pub told : lines' ≡ lines ++ run_lines k (answered k answers ss (empty (length handed))) (empty (length handed))
     pub stand : Stand calls handed answers w.desks.used w.desks.desks ts left
-    pub follow : BringFit k (length handed) (answered k answers ss (empty (length handed)))
-        → CallsFollow k (length handed) (answered k answers ss (empty (length handed)))
+    pub follow : CallsFollow k (length handed) (answered k answers ss (empty (length handed)))
 
 -- for want of memory, or by what one of the steps may fail by, by some answers of the hooks
 abbrev pub RunMayFail : {K : Type 0} → (k : Ghosts K) → ℕ → List (Step K k) → Refusal → Type 0

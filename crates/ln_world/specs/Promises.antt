@@ -13,9 +13,6 @@ use Rattle.ln_world.specs.declared.step.Step.{Step}
 use Rattle.ln_world.specs.World.{World, empty, plains}
 
 -- from the empty world, so many hooks being handed in
-abbrev pub BringFit : {K : Type 0} → (k : Ghosts K) → ℕ → List (Step K k × Verdict) → Type 0
-BringFit k hooks ss = promise.BringFit k hooks (plains k ss (empty hooks))
-
 abbrev pub AreSteps : {K : Type 0} → (k : Ghosts K) → ℕ → List (Step K k × Verdict) → Type 0
 AreSteps k hooks ss = promise.AreSteps k hooks (plains k ss (empty hooks))
 

@@ -4,7 +4,6 @@ use Rattle.ln_keys.specs.declared.keys.ChannelKeys.{Ghosts}
 use Rattle.ln_hooks.specs.declared.verdict.Verdict.{Verdict}
 use Rattle.ln_pair.specs.Widths.{IsCommand}
 use Rattle.ln_channels.specs.Promises.{Each}
-use Rattle.ln_channels.specs.Records.{AreLimits, HaveSecrets}
 use Rattle.ln_world.specs.declared.step.Act.{Act}
 use Rattle.ln_world.specs.declared.step.Act.TheVariants as act
 use Rattle.ln_world.specs.declared.step.Step.{Step}
@@ -18,11 +17,11 @@ IsAct act.Decide = Unit {0}
 
 abbrev pub IsStep : {K : Type 0} → (k : Ghosts K) → Step K k → Type 0
 IsStep k (step.Fees n fees) = Unit {0}
-IsStep k (step.Limits n limits) = AreLimits limits
+IsStep k (step.Limits n limits) = Unit {0}
 IsStep k (step.Policy n policy) = Unit {0}
 IsStep k (step.Height n height) = Unit {0}
 IsStep k (step.Expect n invoice) = length invoice.preimage ≡ 32
-IsStep k (step.Open o) = HaveSecrets (k.signer o.keys.funder) × HaveSecrets (k.signer o.keys.fundee)
+IsStep k (step.Open o) = Unit {0}
 IsStep k (step.Do e a) = IsAct a
 IsStep k (step.Down e) = Unit {0}
 IsStep k (step.NoMemory e a) = Unit {0}

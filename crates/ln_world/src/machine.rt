@@ -12,7 +12,7 @@ ghost use Rattle.ln_channels.specs.Machine.{machine_of, history, all_told, AreIn
 ghost use Rattle.ln_channels.specs.World as channels;
 ghost use Rattle.ln_world.specs.declared.step.Step.{Step};
 ghost use Rattle.ln_world.specs.World.{empty, run};
-ghost use Rattle.ln_world.specs.Promises.{BringFit, events_of, channel_steps};
+ghost use Rattle.ln_world.specs.Promises.{events_of, channel_steps};
 
 use ln_keys::ChannelKeys;
 
@@ -21,14 +21,14 @@ use ln_keys::ChannelKeys;
 /// number there is no machine, and no step is a move (`ln_channels::moves_are_the_machines`). What is dispatched,
 /// which hooks are registered, and what is set for books, is no move; a command that a book gives is its channel's.
 pub fn moves_are_the_machines<K: ChannelKeys + Copy>()
-    ensures { (steps : List (Step K K.ChannelKeys × Verdict)) (hooks number : ℕ) → BringFit K.ChannelKeys hooks steps
+    ensures { (steps : List (Step K K.ChannelKeys × Verdict)) (hooks number : ℕ)
         → after_all (history K.ChannelKeys number (channel_steps K.ChannelKeys hooks steps) channels.empty) None
         ≡ machine_of (channels.channel number (run K.ChannelKeys steps (empty hooks)).desks.channels.channels) }
 {}
 
 /// A law: each of these moves is one that the machine may make where it is made.
 pub fn each_move_may_be_made<K: ChannelKeys + Copy>()
-    ensures { (steps : List (Step K K.ChannelKeys × Verdict)) (hooks number : ℕ) → BringFit K.ChannelKeys hooks steps
+    ensures { (steps : List (Step K K.ChannelKeys × Verdict)) (hooks number : ℕ)
         → IsRun (history K.ChannelKeys number (channel_steps K.ChannelKeys hooks steps) channels.empty) None
         (machine_of (channels.channel number (run K.ChannelKeys steps (empty hooks)).desks.channels.channels)) }
 {}
@@ -37,7 +37,6 @@ pub fn each_move_may_be_made<K: ChannelKeys + Copy>()
 /// numbers, are those of the moves for its side: each once, in their order, numbered from 0.
 pub fn events_are_told<K: ChannelKeys + Copy>()
     ensures { (steps : List (Step K K.ChannelKeys × Verdict)) (hooks number : ℕ) (side : Role)
-        → BringFit K.ChannelKeys hooks steps
         → events_in (all_told K.ChannelKeys number side (channel_steps K.ChannelKeys hooks steps) channels.empty)
         ≡ numbered 0 (events_of K.ChannelKeys hooks number side steps) }
 {}
@@ -47,7 +46,7 @@ pub fn events_are_told<K: ChannelKeys + Copy>()
 /// connections and over restarts of its nodes (`ln_channels::undecided_events_are_the_machines`).
 pub fn undecided_events_are_the_machines<K: ChannelKeys + Copy>()
     ensures { (steps : List (Step K K.ChannelKeys × Verdict)) (hooks number : ℕ) (side : Role)
-        → BringFit K.ChannelKeys hooks steps → AreInStep side (events_of K.ChannelKeys hooks number side steps)
+        → AreInStep side (events_of K.ChannelKeys hooks number side steps)
         (channels.channel number (run K.ChannelKeys steps (empty hooks)).desks.channels.channels) }
 {}
 
@@ -55,8 +54,8 @@ pub fn undecided_events_are_the_machines<K: ChannelKeys + Copy>()
 /// those of the moves for its side, and of those that the end hands out in these steps.
 pub fn close_is_last<K: ChannelKeys + Copy>()
     ensures of_the_moves { (steps : List (Step K K.ChannelKeys × Verdict)) (hooks number : ℕ) (side : Role)
-        → BringFit K.ChannelKeys hooks steps → ClosesLast (events_of K.ChannelKeys hooks number side steps) }
+        → ClosesLast (events_of K.ChannelKeys hooks number side steps) }
     ensures of_what_is_handed_out { (steps : List (Step K K.ChannelKeys × Verdict)) (hooks number : ℕ) (side : Role)
-        → BringFit K.ChannelKeys hooks steps → ClosesLast (unnumbered
+        → ClosesLast (unnumbered
         (all_told K.ChannelKeys number side (channel_steps K.ChannelKeys hooks steps) channels.empty)) }
 {}

@@ -8,7 +8,7 @@ use Rattle.ln_desks.proofs.laws.channels_open_as_set.Goals as goal
 
 pub returns : goal.returns
 returns g c =
-    λ steps hooks number fit. subst (λ (w : channels.World _). OpensAsSet
+    λ steps hooks number. subst (λ (w : channels.World _). OpensAsSet
     (all_setups g.K.ChannelKeys number (plains g.K.ChannelKeys steps (empty hooks)) channels.empty)
     (channels.channel number w.channels)) (sym (ran g.K.ChannelKeys hooks steps))
-    (open_as_set g.K.ChannelKeys (plains g.K.ChannelKeys steps (empty hooks)) number fit)
+    (open_as_set g.K.ChannelKeys (plains g.K.ChannelKeys steps (empty hooks)) number)

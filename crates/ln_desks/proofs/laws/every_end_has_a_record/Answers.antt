@@ -9,9 +9,9 @@ use Rattle.ln_desks.proofs.laws.every_end_has_a_record.Goals as goal
 
 pub returns-clause-records : goal.returns-clause-records
 returns-clause-records g c =
-    λ steps hooks fit wide. subst (λ (w : channels.World _). promise.OfEach record_of.HaveRecords w)
+    λ steps hooks wide. subst (λ (w : channels.World _). promise.OfEach record_of.HaveRecords w)
     (sym (ran g.K.ChannelKeys hooks steps))
-    (all_have g.K.ChannelKeys (plains g.K.ChannelKeys steps (empty hooks)) fit wide)
+    (all_have g.K.ChannelKeys (plains g.K.ChannelKeys steps (empty hooks)) wide)
 
 pub returns-clause-never_damaged : goal.returns-clause-never_damaged
 returns-clause-never_damaged g c = none_damaged g.K.ChannelKeys

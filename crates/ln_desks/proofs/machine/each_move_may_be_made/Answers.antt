@@ -9,7 +9,7 @@ use Rattle.ln_desks.proofs.machine.each_move_may_be_made.Goals as goal
 
 pub returns : goal.returns
 returns g c =
-    λ steps hooks number fit. subst (λ (w : channels.World _). IsRun
+    λ steps hooks number. subst (λ (w : channels.World _). IsRun
     (history g.K.ChannelKeys number (plains g.K.ChannelKeys steps (empty hooks)) channels.empty) None
     (machine_of (channels.channel number w.channels))) (sym (ran g.K.ChannelKeys hooks steps))
-    (may_be_made g.K.ChannelKeys (plains g.K.ChannelKeys steps (empty hooks)) number fit)
+    (may_be_made g.K.ChannelKeys (plains g.K.ChannelKeys steps (empty hooks)) number)

@@ -8,6 +8,6 @@ use Rattle.ln_desks.proofs.machine.moves_are_the_machines.Goals as goal
 
 pub returns : goal.returns
 returns g c =
-    λ steps hooks number fit. lead_there g.K.ChannelKeys (plains g.K.ChannelKeys steps (empty hooks)) number fit
+    λ steps hooks number. lead_there g.K.ChannelKeys (plains g.K.ChannelKeys steps (empty hooks)) number
     ∙ ap (λ (w : channels.World _). machine_of (channels.channel number w.channels))
     (sym (ran g.K.ChannelKeys hooks steps))

@@ -1,26 +1,35 @@
+use Rattle.std.proofs.Common.{ℕ, List}
+use Rattle.ln_keys.specs.declared.toy_keys.ToyKeys.{ToyKeys}
 use Rattle.ln_keys.specs.Toy.{toy_signer}
+use Rattle.ln_hooks.specs.declared.verdict.Verdict.{Verdict}
 use Rattle.ln_channels.specs.Promises.{Headline, NoneRefused, AllTaken, OneFee, Agrees}
 use Rattle.ln_channels.specs.Promises.{AnswersShutdown, MarksAgree, BothClose, DoExactly}
 use Rattle.ln_channels.specs.Longest.{BasesAreLongest}
 use Rattle.ln_channels.specs.Signing.{SignCovered}
-use Rattle.ln_world.specs.World.{empty}
+use Rattle.ln_world.specs.World.{World, empty, run}
 use Rattle.ln_world.specs.Promises.{OfEach}
-use Rattle.ln_script.specs.Report.{said_by}
-use Rattle.ln_script.proofs.Fits.{after_each, steps_fit}
+use Rattle.ln_script.specs.Keys.{toy}
+use Rattle.ln_script.specs.Step.{ToyStep}
+use Rattle.ln_script.specs.Report.{AfterEachScript, said_by}
 use Rattle.ln_script.proofs.Widths.{steps_are_wide}
 use Rattle.ln_script.proofs.Recorded.{all_brought}
 use Rattle.ln_script.proofs.laws.scripts_keep_the_promises.Goals as goal
+
+-- what every list of steps leaves is left by every script
+after_each : (P : World ToyKeys → Type 0)
+    → ((steps : List (ToyStep × Verdict)) (hooks : ℕ) → P (run toy steps (empty hooks))) → AfterEachScript P
+after_each P law text steps a hooks read = law (said_by a hooks steps) hooks
 
 pub returns-clause-headline : goal.returns-clause-headline
 returns-clause-headline c = after_each (OfEach Headline) c.headline.ensures.holds_what_is_covered
 
 pub returns-clause-no_add_follows_a_shutdown : goal.returns-clause-no_add_follows_a_shutdown
 returns-clause-no_add_follows_a_shutdown c text steps a hooks number read =
-    c.headline.ensures.adds_nothing_late (said_by a hooks steps) hooks number (steps_fit text steps hooks read a)
+    c.headline.ensures.adds_nothing_late (said_by a hooks steps) hooks number
 
 pub returns-clause-calls_follow : goal.returns-clause-calls_follow
 returns-clause-calls_follow c text steps a hooks read =
-    c.headline.ensures.calls_follow (said_by a hooks steps) hooks (steps_fit text steps hooks read a)
+    c.headline.ensures.calls_follow (said_by a hooks steps) hooks
 
 pub returns-clause-never_refused : goal.returns-clause-never_refused
 returns-clause-never_refused c = after_each (OfEach (NoneRefused toy_signer)) c.never_refused.ensures
@@ -54,42 +63,39 @@ returns-clause-commands_are_done_exactly c =
 
 pub returns-clause-channels_open_as_set : goal.returns-clause-channels_open_as_set
 returns-clause-channels_open_as_set c text steps a hooks number read =
-    c.channels_open_as_set.ensures (said_by a hooks steps) hooks number (steps_fit text steps hooks read a)
+    c.channels_open_as_set.ensures (said_by a hooks steps) hooks number
 
 pub returns-clause-moves_are_the_machines : goal.returns-clause-moves_are_the_machines
 returns-clause-moves_are_the_machines c text steps a hooks number read =
-    c.moves_are_the_machines.ensures (said_by a hooks steps) hooks number (steps_fit text steps hooks read a)
+    c.moves_are_the_machines.ensures (said_by a hooks steps) hooks number
 
 pub returns-clause-each_move_may_be_made : goal.returns-clause-each_move_may_be_made
 returns-clause-each_move_may_be_made c text steps a hooks number read =
-    c.each_move_may_be_made.ensures (said_by a hooks steps) hooks number (steps_fit text steps hooks read a)
+    c.each_move_may_be_made.ensures (said_by a hooks steps) hooks number
 
 pub returns-clause-events_are_told : goal.returns-clause-events_are_told
 returns-clause-events_are_told c text steps a hooks number side read =
-    c.events_are_told.ensures (said_by a hooks steps) hooks number side (steps_fit text steps hooks read a)
+    c.events_are_told.ensures (said_by a hooks steps) hooks number side
 
 pub returns-clause-undecided_events_are_the_machines : goal.returns-clause-undecided_events_are_the_machines
 returns-clause-undecided_events_are_the_machines c text steps a hooks number side read =
     c.undecided_events_are_the_machines.ensures (said_by a hooks steps) hooks number side
-    (steps_fit text steps hooks read a)
 
 pub returns-clause-close_is_the_last_move_told : goal.returns-clause-close_is_the_last_move_told
 returns-clause-close_is_the_last_move_told c text steps a hooks number side read =
     c.close_is_last.ensures.of_the_moves (said_by a hooks steps) hooks number side
-    (steps_fit text steps hooks read a)
 
 pub returns-clause-close_is_last : goal.returns-clause-close_is_last
 returns-clause-close_is_last c text steps a hooks number side read =
     c.close_is_last.ensures.of_what_is_handed_out (said_by a hooks steps) hooks number side
-    (steps_fit text steps hooks read a)
 
 pub returns-clause-decisions_follow_dispatches : goal.returns-clause-decisions_follow_dispatches
 returns-clause-decisions_follow_dispatches c text steps a hooks read =
-    c.decisions_follow_dispatches.ensures (said_by a hooks steps) hooks (steps_fit text steps hooks read a)
+    c.decisions_follow_dispatches.ensures (said_by a hooks steps) hooks
 
 pub returns-clause-every_end_has_a_record : goal.returns-clause-every_end_has_a_record
 returns-clause-every_end_has_a_record c text steps a hooks read =
-    c.every_end_has_a_record.ensures.records (said_by a hooks steps) hooks (steps_fit text steps hooks read a)
+    c.every_end_has_a_record.ensures.records (said_by a hooks steps) hooks
     (all_brought a steps (empty hooks) (steps_are_wide text steps read))
 
 pub returns-clause-bases_are_the_longest : goal.returns-clause-bases_are_the_longest

@@ -24,10 +24,10 @@ returns-clause-front g c =
     c.print_ends.ensures.front)
 
 pub returns-clause-finds_each_record : goal.returns-clause-finds_each_record
-returns-clause-finds_each_record g c fits wide = never_so c.print_ends.result _ c.print_ends.ensures.cause
+returns-clause-finds_each_record g c wide = never_so c.print_ends.result _ c.print_ends.ensures.cause
 
 pub returns-in_err-world-clause-finds_each_record : goal.returns-in_err-world-clause-finds_each_record
-returns-in_err-world-clause-finds_each_record g c fits wide =
+returns-in_err-world-clause-finds_each_record g c wide =
     let p = err_from_is_err_and c.from_residual.result c.from_residual.ensures.1 in
-    rw (p.1, p.2) (not_damaged c.every_end_has_a_record.ensures.never_damaged _ _ fits wide _ _
+    rw (p.1, p.2) (not_damaged c.every_end_has_a_record.ensures.never_damaged _ _ wide _ _
     c.in_err-world.ensures.cause)

@@ -25,7 +25,7 @@ returns-in_err-world-clause-refused g c =
     let p = err_from_is_err_and c.from_residual-in_err-world.result c.from_residual-in_err-world.ensures.1 in
     rw (p.1, p.2) (run_refused c.every_end_has_a_record.ensures.never_damaged _ c.args.text.now
     (texts c.as_slice-lines.result.now) c.in_ok-check_lines.ensures.good.0 c.in_err-world.field-0.0 _ _
-    c.steps_bring_what_fits.ensures.fits c.steps_bring_what_fits.ensures.widths
+    c.steps_are_wide.ensures
     (ap texts c.as_slice-lines.ensures.value ∙ c.in_ok-pieces.ensures) c.in_ok-check_lines.ensures.good.1
     (c.in_err-world.ensures.cause c.in_ok-check_lines.ensures.good.0 c.in_ok-check_lines.ensures.good.1))
 

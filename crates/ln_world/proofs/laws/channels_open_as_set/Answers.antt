@@ -8,7 +8,7 @@ use Rattle.ln_world.proofs.laws.channels_open_as_set.Goals as goal
 
 pub returns : goal.returns
 returns g c =
-    λ steps hooks number fit. subst (λ (w : channels.World _). OpensAsSet
+    λ steps hooks number. subst (λ (w : channels.World _). OpensAsSet
     (all_setups g.K.ChannelKeys number (channel_steps g.K.ChannelKeys hooks steps) channels.empty)
     (channels.channel number w.channels)) (sym (ran_channels g.K.ChannelKeys hooks steps))
-    (open_as_set g.K.ChannelKeys (channel_steps g.K.ChannelKeys hooks steps) number fit)
+    (open_as_set g.K.ChannelKeys (channel_steps g.K.ChannelKeys hooks steps) number)

@@ -10,10 +10,10 @@ use Rattle.ln_world.proofs.laws.every_end_has_a_record.Goals as goal
 
 pub returns-clause-records : goal.returns-clause-records
 returns-clause-records g c =
-    λ steps hooks fit wide. subst (λ (w : channels.World _). promise.OfEach record_of.HaveRecords w)
+    λ steps hooks wide. subst (λ (w : channels.World _). promise.OfEach record_of.HaveRecords w)
     (sym (ran_channels g.K.ChannelKeys hooks steps)) (all_have g.K.ChannelKeys
-    (channel_steps g.K.ChannelKeys hooks steps) fit (are_wide g.K.ChannelKeys steps hooks fit wide))
+    (channel_steps g.K.ChannelKeys hooks steps) (are_wide g.K.ChannelKeys steps hooks wide))
 
 pub returns-clause-never_damaged : goal.returns-clause-never_damaged
 returns-clause-never_damaged g c =
-    λ steps hooks fit wide. none_damaged g.K.ChannelKeys steps hooks fit (are_wide g.K.ChannelKeys steps hooks fit wide)
+    λ steps hooks wide. none_damaged g.K.ChannelKeys steps hooks (are_wide g.K.ChannelKeys steps hooks wide)

@@ -9,7 +9,7 @@ use Rattle.ln_world.proofs.machine.each_move_may_be_made.Goals as goal
 
 pub returns : goal.returns
 returns g c =
-    λ steps hooks number fit. subst (λ (w : channels.World _). IsRun
+    λ steps hooks number. subst (λ (w : channels.World _). IsRun
     (history g.K.ChannelKeys number (channel_steps g.K.ChannelKeys hooks steps) channels.empty) None
     (machine_of (channels.channel number w.channels))) (sym (ran_channels g.K.ChannelKeys hooks steps))
-    (may_be_made g.K.ChannelKeys (channel_steps g.K.ChannelKeys hooks steps) number fit)
+    (may_be_made g.K.ChannelKeys (channel_steps g.K.ChannelKeys hooks steps) number)

@@ -8,6 +8,6 @@ use Rattle.ln_world.proofs.machine.moves_are_the_machines.Goals as goal
 
 pub returns : goal.returns
 returns g c =
-    λ steps hooks number fit. lead_there g.K.ChannelKeys (channel_steps g.K.ChannelKeys hooks steps) number fit
+    λ steps hooks number. lead_there g.K.ChannelKeys (channel_steps g.K.ChannelKeys hooks steps) number
     ∙ ap (λ (w : channels.World _). machine_of (channels.channel number w.channels))
     (sym (ran_channels g.K.ChannelKeys hooks steps))

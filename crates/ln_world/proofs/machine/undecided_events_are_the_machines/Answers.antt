@@ -9,7 +9,7 @@ use Rattle.ln_world.proofs.machine.undecided_events_are_the_machines.Goals as go
 
 pub returns : goal.returns
 returns g c =
-    λ steps hooks number side fit. subst (λ (w : channels.World _). AreInStep side
+    λ steps hooks number side. subst (λ (w : channels.World _). AreInStep side
     (events_of g.K.ChannelKeys hooks number side steps) (channels.channel number w.channels))
     (sym (ran_channels g.K.ChannelKeys hooks steps))
-    (in_step_so g.K.ChannelKeys (channel_steps g.K.ChannelKeys hooks steps) number side fit)
+    (in_step_so g.K.ChannelKeys (channel_steps g.K.ChannelKeys hooks steps) number side)
