@@ -33,7 +33,7 @@ use Rattle.ln_channels.specs.Promises.{Each}
 use Rattle.ln_channels.specs.Settings.{channel_id_of}
 use Rattle.ln_channels.proofs.Mirror.{link_at}
 use Rattle.ln_channels.proofs.Kept.{ends_of}
-use Rattle.ln_channels.proofs.Recorded.{IsFit, IsFitChannel, AreFit, stays_fit, empty_fit}
+use Rattle.ln_channels.proofs.Recorded.{IsFit, IsFitChannel, AreFit, stays_fit}
 use Rattle.ln_world.specs.declared.step.Step.{Step}
 use Rattle.ln_world.specs.World.{empty}
 use Rattle.ln_world.specs.Promises.{AreSteps}
