@@ -100,7 +100,8 @@ ends_by d e os qs fd fe (inr a) bx their there back =
     let both = both_closed e d fe fd a.funder (their a.funder) back there a.closed in
     (both.1, both.0)
 
-pub both_close : (a b : Signer) (s : OpenSpec) (c : Config) (funder fundee : Opened) (steps : List Step) → ArePartners a b
+pub both_close : (a b : Signer) (s : OpenSpec) (c : Config) (funder fundee : Opened) (steps : List Step)
+    → ArePartners a b
     → Opens a b s c funder fundee → AreAgreeable funder.closing.fees fundee.closing.fees
     → BothClose (run a b steps (opened funder fundee))
 both_close a b s c funder fundee steps keys o g quiet dx dy =

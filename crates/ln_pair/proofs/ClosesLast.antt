@@ -356,7 +356,8 @@ handed_last os es told h =
 -- ---- two ends
 
 pub moves_last : (a b : Signer) (s : OpenSpec) (c : Config) (funder fundee : Opened) (steps : List Step) (r : Role)
-    → ArePartners a b → Opens a b s c funder fundee → ClosesLast (as_told (events r (history a b funder fundee steps) None))
+    → ArePartners a b → Opens a b s c funder fundee
+    → ClosesLast (as_told (events r (history a b funder fundee steps) None))
 moves_last a b s c funder fundee steps r keys o =
     closes_last r (history a b funder fundee steps) (Some (machine_of (run a b steps (opened funder fundee))))
     (may_be_made a b s c funder fundee steps keys o)

@@ -356,7 +356,8 @@ counted a b keys p s sent h at =
     }
 
 -- both ends, over every list of steps
-pub are_counted : (a b : Signer) (s : OpenSpec) (c : Config) (funder fundee : Opened) (steps : List Step) → ArePartners a b
+pub are_counted : (a b : Signer) (s : OpenSpec) (c : Config) (funder fundee : Opened) (steps : List Step)
+    → ArePartners a b
     → Opens a b s c funder fundee
     → AreSent funder.closing.fees → AreSent fundee.closing.fees
     → IsCounted (run a b steps (opened funder fundee)).x × IsCounted (run a b steps (opened funder fundee)).y

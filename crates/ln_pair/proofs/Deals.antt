@@ -200,7 +200,8 @@ after_fees fee (answer.Close n) c = refl
 after_fees fee (answer.EchoAndClose n) c = refl
 after_fees fee (answer.Propose n) c = refl
 
-answered_fees : (k : Signer) (m : ClosingSigned) (e : End) (r : Result FeeAnswer Refusal) → KeepsFees e (answered k m e r)
+answered_fees : (k : Signer) (m : ClosingSigned) (e : End) (r : Result FeeAnswer Refusal)
+    → KeepsFees e (answered k m e r)
 answered_fees k m e (Ok a) = after_fees m.fee_satoshis a e.closing
 answered_fees k m e (Err r) = tt
 

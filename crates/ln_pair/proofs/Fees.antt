@@ -150,7 +150,8 @@ front_taken k p (m ∷ ms) is px py over h (inr r) =
 overlaps_back : (f g : Fees) → Overlap f g → Overlap g f
 overlaps_back f g o = omega (arith, o)
 
-pub all_taken : (a b : Signer) (s : OpenSpec) (c : Config) (funder fundee : Opened) (steps : List Step) → ArePartners a b
+pub all_taken : (a b : Signer) (s : OpenSpec) (c : Config) (funder fundee : Opened) (steps : List Step)
+    → ArePartners a b
     → Opens a b s c funder fundee → AreAgreeable funder.closing.fees fundee.closing.fees
     → AllTaken a b (run a b steps (opened funder fundee))
 all_taken a b s c funder fundee steps keys o g =

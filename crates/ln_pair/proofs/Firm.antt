@@ -102,7 +102,8 @@ heard_dealt (answer.Close n) d fee s h = refl
 heard_dealt (answer.EchoAndClose n) d fee s h = refl
 heard_dealt (answer.Propose n) d fee s h = refl
 
-pub firm_dealt : (a : FeeAnswer) (d : Deal) (fee : ℕ) (rg : Option (ℕ × ℕ)) → Fair d fee rg a → Sure d fee (Ok a) → Firm d
+pub firm_dealt : (a : FeeAnswer) (d : Deal) (fee : ℕ) (rg : Option (ℕ × ℕ)) → Fair d fee rg a → Sure d fee (Ok a)
+    → Firm d
     → Firm (dealt a fee d)
 firm_dealt answer.Nothing d fee rg f s h = h
 firm_dealt (answer.Close n) d fee rg f s h = record {

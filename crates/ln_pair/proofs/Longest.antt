@@ -477,7 +477,8 @@ stepped a b keys Connect p k h = by p.x_line p.y_line
     by Awaiting l = k
     by Met l = k
 
-all_stepped : (a b : Signer) → ArePartners a b → (ss : List Step) (p : Ends) → Both p → Holds a b p → Both (run a b ss p)
+all_stepped : (a b : Signer) → ArePartners a b → (ss : List Step) (p : Ends) → Both p → Holds a b p
+    → Both (run a b ss p)
 all_stepped a b keys [] p k h = k
 all_stepped a b keys (s ∷ ss) p k h =
     all_stepped a b keys ss (happens a b s p) (stepped a b keys s p k h) (ran a b keys (s ∷ []) p h)

@@ -412,7 +412,8 @@ starts a b s c funder fundee o =
       };
     }
 
-pub may_be_made : (a b : Signer) (s : OpenSpec) (c : Config) (funder fundee : Opened) (steps : List Step) → ArePartners a b
+pub may_be_made : (a b : Signer) (s : OpenSpec) (c : Config) (funder fundee : Opened) (steps : List Step)
+    → ArePartners a b
     → Opens a b s c funder fundee
     → IsRun (history a b funder fundee steps) None (Some (machine_of (run a b steps (opened funder fundee))))
 may_be_made a b s c funder fundee steps keys o =
@@ -433,21 +434,24 @@ pub run_after : (ms : List Move) (old new : Option Machine) → IsRun ms old new
 run_after [] old new e = sym e
 run_after (move ∷ ms) old new e = run_after ms (after move old) new e.1
 
-pub lead_there : (a b : Signer) (s : OpenSpec) (c : Config) (funder fundee : Opened) (steps : List Step) → ArePartners a b
+pub lead_there : (a b : Signer) (s : OpenSpec) (c : Config) (funder fundee : Opened) (steps : List Step)
+    → ArePartners a b
     → Opens a b s c funder fundee
     → after_all (history a b funder fundee steps) None ≡ Some (machine_of (run a b steps (opened funder fundee)))
 lead_there a b s c funder fundee steps keys o =
     run_after (history a b funder fundee steps) None (Some (machine_of (run a b steps (opened funder fundee))))
     (may_be_made a b s c funder fundee steps keys o)
 
-pub keep_roles : (a b : Signer) (s : OpenSpec) (c : Config) (funder fundee : Opened) (steps : List Step) → ArePartners a b
+pub keep_roles : (a b : Signer) (s : OpenSpec) (c : Config) (funder fundee : Opened) (steps : List Step)
+    → ArePartners a b
     → Opens a b s c funder fundee → Keeps funder.dance.log.opening (run a b steps (opened funder fundee))
 keep_roles a b s c funder fundee steps keys o =
     let begun = starts a b s c funder fundee o in
     (runs_so a b keys steps funder.dance.log.opening (opened funder fundee) begun.keeps
     (opened_holds a b s c funder fundee o)).1
 
-pub set_up_so : (a b : Signer) (s : OpenSpec) (c : Config) (funder fundee : Opened) (steps : List Step) → ArePartners a b
+pub set_up_so : (a b : Signer) (s : OpenSpec) (c : Config) (funder fundee : Opened) (steps : List Step)
+    → ArePartners a b
     → Opens a b s c funder fundee
     → AreSetUp (setup_of funder fundee) (run a b steps (opened funder fundee)).x
     (run a b steps (opened funder fundee)).y

@@ -144,7 +144,8 @@ front : (a b : Signer) → ArePartners a b → (p : Ends) → AreSent p.y.closin
 front a b keys p sent h = let is = h.in_x in subst (λ ms. TakesFront a p.x_line ms p.x) (sym is)
     (front_by a b keys p.x_line p refl h.channel h.to_x h.to_y sent h.hold)
 
-pub none_refused : (a b : Signer) (s : OpenSpec) (c : Config) (funder fundee : Opened) (steps : List Step) → ArePartners a b
+pub none_refused : (a b : Signer) (s : OpenSpec) (c : Config) (funder fundee : Opened) (steps : List Step)
+    → ArePartners a b
     → Opens a b s c funder fundee → AreSent funder.closing.fees → AreSent fundee.closing.fees
     → NoneRefused a b (run a b steps (opened funder fundee))
 none_refused a b s c funder fundee steps keys o fx fy =
@@ -279,7 +280,8 @@ taken_marks a b x y lx ly ms ex ey none t =
     subst (λ ns. Speech Met Met (side_of a x) (side_of b y) ns) none both in
     record { shutdown = last.1; ready = λ e. last.0 (ap is_some e) }
 
-pub marks_agree : (a b : Signer) (s : OpenSpec) (c : Config) (funder fundee : Opened) (steps : List Step) → ArePartners a b
+pub marks_agree : (a b : Signer) (s : OpenSpec) (c : Config) (funder fundee : Opened) (steps : List Step)
+    → ArePartners a b
     → Opens a b s c funder fundee → MarksAgree (run a b steps (opened funder fundee))
 marks_agree a b s c funder fundee steps keys o quiet =
     let p = run a b steps (opened funder fundee) in

@@ -281,7 +281,8 @@ module _ (a b : Signer) (keys : ArePartners a b) (r : Role) (o : Opening) (chann
 
 -- ---- a closing fee
 
-closed_told : (k : Signer) (r : Role) (o : Opening) (fee : ℕ) (ans : FeeAnswer) (x t : End) (y : Party) (os : List Output)
+closed_told : (k : Signer) (r : Role) (o : Opening) (fee : ℕ) (ans : FeeAnswer) (x t : End) (y : Party)
+    (os : List Output)
     → x.closing.closed ≡ None → t.closing.closed ≡ Some fee → t.dance ≡ x.dance
     → t.ledger ≡ entered (ref.Close ∷ []) x.ledger
     → events_in os ≡ numbered (next_event x.ledger) (event.Closed fee ∷ [])
@@ -654,7 +655,8 @@ step_told a b keys Funder Connect o p k h =
 step_told a b keys Fundee Connect o p k h =
     nothing_told Fundee o [] p (happens a b Connect p) refl (connect_next a b Fundee p.x_line p.y_line p)
 
-all_so : (a b : Signer) → ArePartners a b → (r : Role) (ss : List Step) (o : Opening) (p : Ends) → Keeps o p → Holds a b p
+all_so : (a b : Signer) → ArePartners a b → (r : Role) (ss : List Step) (o : Opening) (p : Ends) → Keeps o p
+    → Holds a b p
     → events_in (all_told a b r ss p)
     ≡ numbered (next_of r p) (as_told (events r (all_moves a b ss p) (Some (machine_at o p))))
 all_so a b keys r [] o p k h = refl

@@ -593,7 +593,8 @@ both_sign_at a b p h = (
       (flip a b h.channel p.x_line p.y_line p.x p.y h.to_x h.to_y p.said_x p.said_y h.hold)),
 )
 
-pub both_sign : (a b : Signer) (s : OpenSpec) (c : Config) (funder fundee : Opened) (steps : List Step) → ArePartners a b
+pub both_sign : (a b : Signer) (s : OpenSpec) (c : Config) (funder fundee : Opened) (steps : List Step)
+    → ArePartners a b
     → Opens a b s c funder fundee → BothSign a b (run a b steps (opened funder fundee))
 both_sign a b s c funder fundee steps keys o =
     both_sign_at a b (run a b steps (opened funder fundee)) (at_end a b s c funder fundee steps keys o)

@@ -232,7 +232,8 @@ module _ (k : Signer) (o : Origin) where
       by true = (h, tt)
       by false = tt
 
-  answered_fits : (m : ClosingSigned) (e : End) (r : Result FeeAnswer Refusal) → Fits o e → AnswerFits (answered k m e r)
+  answered_fits : (m : ClosingSigned) (e : End) (r : Result FeeAnswer Refusal) → Fits o e
+      → AnswerFits (answered k m e r)
   answered_fits m e (Ok answer.Nothing) h = (h, tt)
   answered_fits m e (Ok (answer.Close fee)) h = (h, tt)
   answered_fits m e (Ok (answer.EchoAndClose fee)) h = (h, (tt, tt))

@@ -541,7 +541,8 @@ module _ {K : Type 0} (k : Ghosts K) where
     stays v (Some s) d is h = stays_by (desks.plain k s d) d.channels is h
 
     pub steps_so : (ss : List (Step K k × Verdict)) (w : World K)
-        → AreWorldSteps k ss → Fit w.desks.channels → IsWide w → Each OfChannels (desks.plains k (plains k ss w) w.desks)
+        → AreWorldSteps k ss → Fit w.desks.channels → IsWide w
+        → Each OfChannels (desks.plains k (plains k ss w) w.desks)
     steps_so [] w is fit h = tt
     steps_so (s ∷ ss) w is fit h =
         let o = plain k s.0 w in
