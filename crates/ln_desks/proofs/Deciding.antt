@@ -2,7 +2,7 @@
 -- decision is taken: that is of the next event, and no other move decides any.
 use Rattle.std.proofs.Common.{◌≡◌, ℕ, ◌+◌, List, [], ◌∷◌, ◌++◌, refl, sym, subst, eqb-true}
 use Rattle.std.proofs.Common.{Bool, true, false, cond, not, ◌==◌, ◌&&◌, ◌||◌, nat_lt, length}
-use Rattle.std.proofs.Common.{Option, Some, None, Result, Ok, Err}
+use Rattle.std.proofs.Common.{Option, Some, None, Result, Ok, Err, ◌⊎◌, inl, inr}
 use Rattle.ln_bytes.specs.Same.{are_same}
 use Rattle.ln_msgs.specs.declared.messages.message.Message.{Message}
 use Rattle.ln_msgs.specs.declared.messages.message.Message.TheVariants as message
@@ -64,20 +64,29 @@ use Rattle.ln_channels.specs.Both.{back}
 use Rattle.ln_channels.specs.Both.{acts, delivers, restarted, swapped}
 use Rattle.ln_channels.specs.Both as both
 use Rattle.ln_channels.specs.Promises.{Each}
+use Rattle.ln_desks.specs.World.{decided_of}
 
 -- ---- what is said of an end: that P holds of how many events it has decided
 
 abbrev pub Counts : (ℕ → Type 0) → End → Type 0
 Counts P e = P e.ledger.decided
 
--- none, where it isn't signed by both
+-- none, where it isn't signed by both; and none were before that, or P holds of any number
 abbrev pub AtStage : (ℕ → Type 0) → Stage → Type 0
 AtStage P (stage.AwaitsOpen c) = P 0
 AtStage P (stage.AwaitsAccept s) = P 0
 AtStage P (stage.AwaitsCreated a) = P 0
-AtStage P (stage.AwaitsSigned e) = P 0 × (e.ledger.decided ≡ 0)
+AtStage P (stage.AwaitsSigned e) = P 0 × ((e.ledger.decided ≡ 0) ⊎ ((n : ℕ) → P n))
 AtStage P (stage.Saved e) = Counts P e
 AtStage P stage.Gone = P 0
+
+pub at_saved : (P : ℕ → Type 0) (s : Stage) → AtStage P s → P (decided_of (saved_end s))
+at_saved P (stage.AwaitsOpen c) h = h
+at_saved P (stage.AwaitsAccept s) h = h
+at_saved P (stage.AwaitsCreated a) h = h
+at_saved P (stage.AwaitsSigned e) h = h.0
+at_saved P (stage.Saved e) h = h
+at_saved P stage.Gone h = h
 
 abbrev InTurn : (ℕ → Type 0) → Result Turn Refusal → Type 0
 InTurn P (Ok t) = Counts P t.end
@@ -139,13 +148,13 @@ module _ (P : ℕ → Type 0) where
   answering_so keys (answer.EchoAndClose fee) e h = h
   answering_so keys (answer.Propose fee) e h = h
 
-  answered_so : (keys : Signer) (m : ClosingSigned) (e : End) (res : Result FeeAnswer Refusal) → Counts P e
+  answered_so : (keys : Signer) (m : ClosingSigned) (e : End) (res : Result FeeAnswer Refusal)
+      → Counts P e
       → InTurn P (answered keys m e res)
   answered_so keys m e (Ok a) h = answering_so keys a (answered_end m a e) h
   answered_so keys m e (Err r) h = tt
 
-  fee_by : (keys : Signer) (begun right : Bool) (m : ClosingSigned) (e : End) (res : Result FeeAnswer Refusal)
-      → Counts P e
+  fee_by : (keys : Signer) (begun right : Bool) (m : ClosingSigned) (e : End) (res : Result FeeAnswer Refusal) → Counts P e
       → InTurn P (cond (not begun) (Err refusal.OutOfPlace)
       (cond right (answered keys m e res) (Err refusal.SignatureWrong)))
   fee_by keys true true m e res h = answered_so keys m e res h
@@ -242,7 +251,8 @@ module _ (P : ℕ → Type 0) where
   accept_so : (keys : Signer) (l : Line) (m : AcceptChannel) (s : Stage) → AtStage P s → InDone P (accept_at keys l m s)
   accept_so keys l m (stage.AwaitsOpen c) h = tt
   accept_so keys l m (stage.AwaitsAccept s) h =
-      replied_so l (λ o. stage.AwaitsSigned (end_of o)) message.FundingCreated (accept_taken keys s m) (λ x. (h, refl))
+      replied_so l (λ o. stage.AwaitsSigned (end_of o)) message.FundingCreated (accept_taken keys s m)
+      (λ x. (h, inl refl))
   accept_so keys l m (stage.AwaitsCreated a) h = tt
   accept_so keys l m (stage.AwaitsSigned e) h = tt
   accept_so keys l m (stage.Saved e) h = tt
@@ -262,13 +272,17 @@ module _ (P : ℕ → Type 0) where
   done_so None d h = h
   done_so (Some r) d h = tt
 
+  signed_with : (n : ℕ) → P 0 → (n ≡ 0) ⊎ ((m : ℕ) → P m) → P n
+  signed_with n h (inl none) = subst P (sym none) h
+  signed_with n h (inr all) = all n
+
   signed_so : (keys : Signer) (l : Line) (m : FundingSigned) (s : Stage) → AtStage P s → InDone P (signed_at keys l m s)
   signed_so keys l m (stage.AwaitsOpen c) h = tt
   signed_so keys l m (stage.AwaitsAccept s) h = tt
   signed_so keys l m (stage.AwaitsCreated a) h = tt
   signed_so keys l m (stage.AwaitsSigned e) h =
       done_so (first_fault keys e.dance m.signature) (record { line = l; stage = stage.Saved e; outputs = [] })
-      (subst P (sym h.1) h.0)
+      (signed_with e.ledger.decided h.0 h.1)
   signed_so keys l m (stage.Saved e) h = tt
   signed_so keys l m stage.Gone h = tt
 

@@ -31,6 +31,7 @@ use Rattle.ln_desks.specs.World.{desks_by, happens, run}
 use Rattle.ln_desks.specs.Promises.{Follows, CallsFollow, SeatStands, LifeStands, DeskStands, DesksStand}
 use Rattle.ln_desks.proofs.Pairs.{Between, Aligned, with_opened, channels_move, step_aligned, none_aligned}
 use Rattle.ln_desks.proofs.Pairs.{all_aligned, decided_between}
+use Rattle.ln_desks.proofs.Keeping.{each-to}
 use Rattle.ln_desks.proofs.Events.{item_below, item_at, event_read, events_behind, events_more, run_append}
 
 -- ---- lists
@@ -43,10 +44,6 @@ drop_twice zero n xs = ap (λ k. drop k xs) (let e : n ≡ 0 + n = omega arith i
 drop_twice (suc m) n [] = drop-nil n ∙ sym (drop-nil (suc m + n))
 drop_twice (suc m) n (x ∷ xs) =
     drop_twice m n xs ∙ ap (λ k. drop k (x ∷ xs)) (let e : suc (m + n) ≡ suc m + n = omega arith in e)
-
-pub each-to : {A : Type 0} (P Q : A → Type 0) (f : (x : A) → P x → Q x) (xs : List A) → Each P xs → Each Q xs
-each-to P Q f [] h = tt
-each-to P Q f (x ∷ xs) h = (f x h.0, each-to P Q f xs h.1)
 
 pub each-push : {A : Type 0} (P : A → Type 0) (xs : List A) (x : A) → Each P xs → P x → Each P (xs ++ x ∷ [])
 each-push P [] x h p = (p, tt)

@@ -17,3 +17,5 @@ pub mod Going
 pub mod Running
 pub mod Stepping
 pub mod Unhooked
+pub mod Undone
+pub mod Keeping

@@ -2,6 +2,7 @@
 -- many events an end has decided lies between where its dispatcher's life starts and the event that is served next.
 use Rattle.std.proofs.Common.{◌≡◌, ℕ, ◌+◌, ◌≤◌, ◌==◌, List, [], ◌∷◌, ◌++◌, map, refl, sym, ap, ◌∙◌, subst, arith}
 use Rattle.std.proofs.Common.{Bool, true, false, cond, not, ◌&&◌, is_none, Option, Some, None, eqb-true, eq-eqb, ne_eqb}
+use Rattle.std.proofs.Common.{◌⊎◌, inl, inr}
 use Rattle.std.proofs.lemmas.Bool.{ltb-true}
 use Rattle.std.proofs.lemmas.List.{length-append}
 use Rattle.ln_keys.specs.declared.keys.ChannelKeys.{Ghosts}
@@ -37,28 +38,25 @@ use Rattle.ln_desks.specs.Desk.{Desk, next, fresh, serving, registered, restarte
 use Rattle.ln_desks.specs.World.{World, empty, is_below_next, is_dispatched, plain, moved_by, saved_in, decided_of}
 use Rattle.ln_desks.specs.World.{decided_for, next_event, new_desks, restarts, all_restart, may_register, served_at}
 use Rattle.ln_desks.specs.World.{may_act, happens, run}
-use Rattle.ln_desks.proofs.Deciding.{AtStage, KeptBy, AtBoth, KeptByMove, all_so}
+use Rattle.ln_desks.proofs.Deciding.{AtStage, KeptBy, AtBoth, KeptByMove, all_so, at_saved}
 
 -- ---- what an end has decided
 
 abbrev pub Between : Desk → ℕ → Type 0
 Between d n = (d.life.start ≤ n) × (n ≤ next d.life)
 
+any-to : (P Q : ℕ → Type 0) → ((n : ℕ) → P n → Q n) → (n : ℕ) → (n ≡ 0) ⊎ ((m : ℕ) → P m)
+    → (n ≡ 0) ⊎ ((m : ℕ) → Q m)
+any-to P Q f n (inl none) = inl none
+any-to P Q f n (inr all) = inr (λ m. f m (all m))
+
 at-to : (P Q : ℕ → Type 0) → ((n : ℕ) → P n → Q n) → (s : Stage) → AtStage P s → AtStage Q s
 at-to P Q f (stage.AwaitsOpen c) h = f 0 h
 at-to P Q f (stage.AwaitsAccept s) h = f 0 h
 at-to P Q f (stage.AwaitsCreated a) h = f 0 h
-at-to P Q f (stage.AwaitsSigned e) h = (f 0 h.0, h.1)
+at-to P Q f (stage.AwaitsSigned e) h = (f 0 h.0, any-to P Q f e.ledger.decided h.1)
 at-to P Q f (stage.Saved e) h = f e.ledger.decided h
 at-to P Q f stage.Gone h = f 0 h
-
-at_saved : (P : ℕ → Type 0) (s : Stage) → AtStage P s → P (decided_of (saved_end s))
-at_saved P (stage.AwaitsOpen c) h = h
-at_saved P (stage.AwaitsAccept s) h = h
-at_saved P (stage.AwaitsCreated a) h = h
-at_saved P (stage.AwaitsSigned e) h = h.0
-at_saved P (stage.Saved e) h = h
-at_saved P stage.Gone h = h
 
 -- a life that begins there
 abbrev Just : ℕ → ℕ → Type 0
@@ -67,13 +65,17 @@ Just m n = (m ≤ n) × (n ≤ m + 0)
 just : (m : ℕ) → Just m m
 just m = (omega arith, omega arith)
 
-anew : (P : ℕ → Type 0) (s : Stage) → AtStage P s → AtStage (Just (decided_of (saved_end s))) s
-anew P (stage.AwaitsOpen c) h = just 0
-anew P (stage.AwaitsAccept s) h = just 0
-anew P (stage.AwaitsCreated a) h = just 0
-anew P (stage.AwaitsSigned e) h = (just 0, h.1)
-anew P (stage.Saved e) h = just e.ledger.decided
-anew P stage.Gone h = just 0
+nothing_by : (d : Desk) (n : ℕ) → (n ≡ 0) ⊎ ((m : ℕ) → Between d m) → (n ≡ 0) ⊎ ((m : ℕ) → Just 0 m)
+nothing_by d n (inl none) = inl none
+nothing_by d n (inr all) = let above = (all (next d.life + 1)).1 in absurd (omega (arith, above))
+
+anew : (d : Desk) (s : Stage) → AtStage (Between d) s → AtStage (Just (decided_of (saved_end s))) s
+anew d (stage.AwaitsOpen c) h = just 0
+anew d (stage.AwaitsAccept s) h = just 0
+anew d (stage.AwaitsCreated a) h = just 0
+anew d (stage.AwaitsSigned e) h = (just 0, nothing_by d e.ledger.decided h.1)
+anew d (stage.Saved e) h = just e.ledger.decided
+anew d stage.Gone h = just 0
 
 -- ---- a decision of an event that was dispatched
 
@@ -506,7 +508,7 @@ module _ {K : Type 0} where
     sides = h.sides;
     decided = (
       subst (λ i. AtStage (Just i) c.both.x.link.stage) (sym is)
-          (anew (Between x) c.both.x.link.stage h.decided.0),
+          (anew x c.both.x.link.stage h.decided.0),
       h.decided.1,
     );
   }
@@ -521,7 +523,7 @@ module _ {K : Type 0} where
     decided = (
       h.decided.0,
       subst (λ i. AtStage (Just i) c.both.y.link.stage) (sym is)
-          (anew (Between y) c.both.y.link.stage h.decided.1),
+          (anew y c.both.y.link.stage h.decided.1),
     );
   }
   second_anew false m c x y is h = h

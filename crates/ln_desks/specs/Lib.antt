@@ -3,3 +3,4 @@ pub mod World
 pub mod Promises
 pub mod Seated
 pub mod Hooked
+pub mod Kept

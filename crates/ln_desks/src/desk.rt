@@ -1,77 +1,65 @@
 //! The dispatchers of channel ends.
 
-ghost use Rattle.std.specs.Prelude.{◌≡◌, option_map};
-ghost use Rattle.ln_desks.specs.World.{item, both_of};
-
 use crate::seat::Seat;
+use crate::served::Served;
 use ln_channels::{End, Node};
+use ln_history::Past;
 use ln_hooks::{ChannelEvent, Verdict};
 use ln_keys::Role;
 use ln_msgs::Refusal;
 use std::alloc::Global;
+use std::collections::VecDeque;
 use std::marker::Model;
-use std::mem;
 
-// The event at this place, and what the hooks said of it.
-fn served_at<'a>(
-    served: &'a [ChannelEvent],
-    said: &[Verdict],
-    place: u64,
-) -> Option<(&'a ChannelEvent, Verdict)>
-    ensures { option_map (λ p. (p.0.now, p.1)) result ≡ both_of (item place served.now) (item place said.now) }
-{
-    if place >= served.len() as u64 || place >= said.len() as u64 {
-        return None;
-    }
-    Some((&served[place as usize], said[place as usize]))
-}
-
-/// What is written down of a dispatcher in one life, from one restart of its node to the next.
+/// What is written down of a dispatcher in one life, from one restart of its node to the next. Contracts see all events
+/// that were served in it. Those before `first` aren't kept: proofs alone read them.
 #[derive(Drop)]
 pub struct Life {
-    start: u64,
-    served: Vec<ChannelEvent>,
-    said: Vec<Verdict>,
+    first: u64,
+    kept: VecDeque<Served>,
+    // where the life starts, and the events that aren't kept
+    before: Past<u64, Served>,
     seats: Vec<Seat>,
 }
 
 impl Model for Life {
-    ghost use Rattle.ln_desks.specs.Desk.{Life as LifeState};
+    ghost use Rattle.std.specs.Prelude.{◌≡◌, ◌+◌, ◌++◌, length};
+    ghost use Rattle.ln_desks.specs.Kept.{KeptLife, life_of};
 
-    ghost Value = { LifeState };
+    ghost Value = { KeptLife };
 
     ghost view = { λ l. record {
-      start = l.start;
-      served = l.served.items;
-      said = l.said.items;
-      seats = l.seats.items;
+      life = life_of l.before.told.start (l.before.told.entries ++ l.kept.items) l.seats.items;
+      first = l.first;
     } };
+
+    ghost invariant = { λ l. l.first ≡ l.before.told.start + length l.before.told.entries };
 }
 
 impl Life {
-    ghost use Rattle.std.specs.Prelude.{◌≡◌, OnOk, IfOk, IfErr};
-    ghost use Rattle.std.specs.Prelude.{nat_lt, option_map};
+    ghost use Rattle.std.specs.Prelude.{◌≡◌, ◌≤◌, ◌+◌, ◌&&◌, if◌then◌else◌, OnOk, OnErr, IfOk, IfErr};
+    ghost use Rattle.std.specs.Prelude.{nat_lt, max, option_map};
     ghost use Rattle.ln_desks.specs.Desk.{begun, next, with_one, with_seat};
     ghost use Rattle.ln_desks.specs.World.{served_in};
 
     /// One that starts where so many events were decided. Takes no memory.
     fn new(alloc: Global, decided: u64) -> Life
-        ensures { result ≡ begun decided }
+        ensures { result ≡ record { life = begun decided; first = decided } }
     {
         Life {
-            start: decided,
-            served: Vec::new(alloc),
-            said: Vec::new(alloc),
+            first: decided,
+            kept: VecDeque::new(alloc),
+            before: Past::begun(&decided),
             seats: Vec::new(alloc),
         }
     }
 
     // The number of the next event: there is no memory for 2^64 of them.
     fn next(&self) -> Result<u64, Refusal>
-        ensures number { IfOk result (λ n. n ≡ next self.now) }
+        ensures number { IfOk result (λ n. n ≡ next self.now.life) }
         ensures fails_for_memory_alone { IfErr result (λ e. e ≡ Refusal.Memory) }
     {
-        match self.start.checked_add(self.served.as_slice().len() as u64) {
+        match self.first.checked_add(self.kept.len() as u64) {
             Some(number) => Ok(number),
             None => Err(Refusal::Memory),
         }
@@ -79,116 +67,160 @@ impl Life {
 
     // Whether the number is below that of the next event.
     fn is_below_next(&self, number: u64) -> bool
-        ensures { result ≡ nat_lt number (next self.now) }
+        ensures { result ≡ nat_lt number (next self.now.life) }
     {
-        number < self.start || number - self.start < self.served.as_slice().len() as u64
+        number < self.first || number - self.first < self.kept.len() as u64
     }
 
-    // The event of this number as it was served, and what the hooks said of it.
+    // The event of this number as it was served, and what the hooks said of it, from the first that is kept on.
     fn served(&self, number: u64) -> Option<(&ChannelEvent, Verdict)>
-        ensures { option_map (λ p. (p.0.now, p.1)) result ≡ served_in number self.now }
+        ensures { self.now.first ≤ max self.now.life.start number
+            → option_map (λ p. (p.0.now, p.1)) result ≡ served_in number self.now.life }
     {
-        if number < self.start {
+        if number < self.first {
             return None;
         }
-        served_at(&self.served, &self.said, number - self.start)
+        match self.kept.get((number - self.first) as usize) {
+            None => None,
+            Some(served) => Some((&served.event, served.verdict)),
+        }
     }
 
     // The event was served, and the hooks said this.
     fn write(&mut self, event: ChannelEvent, verdict: Verdict) -> Result<(), Refusal>
-        ensures written { OnOk result (self.new ≡ with_one event verdict self.old) }
+        ensures written { OnOk result (self.new.life ≡ with_one event verdict self.old.life) }
+        ensures same_first { self.new.first ≡ self.old.first }
+        ensures same_start { self.new.life.start ≡ self.old.life.start }
         ensures fails_for_memory_alone { IfErr result (λ e. e ≡ Refusal.Memory) }
     {
-        self.served.push(event)?;
-        self.said.push(verdict)?;
+        self.kept.push_back(Served { event, verdict })?;
         Ok(())
     }
 
     // The hook at this place of the list serves from the next event on.
     fn seat(&mut self, hook: usize) -> Result<(), Refusal>
-        ensures seated { OnOk result (self.new ≡ with_seat hook self.old) }
+        ensures seated { OnOk result (self.new.life ≡ with_seat hook self.old.life) }
+        ensures same_first { self.new.first ≡ self.old.first }
+        ensures same_start { self.new.life.start ≡ self.old.life.start }
         ensures fails_for_memory_alone { IfErr result (λ e. e ≡ Refusal.Memory) }
     {
         let place = self.next()?;
         self.seats.push(Seat { hook, place })?;
         Ok(())
     }
+
+    // The end has decided so many events: the first event that is kept goes, where it is one of them. Takes no memory,
+    // and gives back what the events took where none is kept any more.
+    fn let_go(&mut self, alloc: Global, decided: u64)
+        ensures same_life { self.new.life ≡ self.old.life }
+        ensures lets_go_of_one { self.new.first ≡ (if nat_lt self.old.first decided
+            && nat_lt self.old.first (next self.old.life) then self.old.first + 1 else self.old.first) }
+    {
+        if self.first >= decided {
+            return;
+        }
+        let Some(served) = self.kept.pop_front() else {
+            return;
+        };
+        self.before = self.before.and(&served);
+        self.first += 1;
+        drop(served);
+        if self.kept.is_empty() {
+            self.kept = VecDeque::new(alloc);
+        }
+    }
+
+    // What isn't kept is forgotten in proofs too: the life starts at the first event that is kept.
+    fn forget(&mut self)
+        ensures starts_at_the_first { self.new.life.start ≡ self.new.first }
+    {
+        self.before = Past::begun(&self.first);
+    }
 }
 
-/// A dispatcher of a channel end: the life that it is in, and those that were set aside.
+/// A dispatcher of a channel end: the life that it is in, and those that were set aside. Contracts see all events that
+/// were served; those before `first` of its life, and the lives that were set aside, aren't kept: proofs alone read
+/// them.
 #[derive(Drop)]
 pub struct Desk {
     end: End,
     side: Role,
     reach: u64,
     life: Life,
-    past: Vec<Life>,
+    past: Past<End, Life>,
 }
 
 impl Model for Desk {
-    ghost use Rattle.ln_desks.specs.Desk.{Desk as DeskState};
+    ghost use Rattle.ln_desks.specs.Kept.{KeptDesk, lives_of};
 
-    ghost Value = { DeskState };
+    ghost Value = { KeptDesk };
 
     ghost view = { λ d. record {
-      end = d.end;
-      side = d.side;
-      reach = d.reach;
-      life = d.life;
-      past = d.past.items;
+      desk = record {
+        end = d.end;
+        side = d.side;
+        reach = d.reach;
+        life = d.life.life;
+        past = lives_of d.past.told.entries;
+      };
+      first = d.life.first;
     } };
 }
 
 impl Desk {
-    ghost use Rattle.std.specs.Prelude.{◌≡◌, ◌+◌, max, Some, option_map, OnOk, IfOk, IfErr};
+    ghost use Rattle.std.specs.Prelude.{◌≡◌, ◌≤◌, ◌+◌, ◌&&◌, ℕ, max, nat_lt, if◌then◌else◌, Some, option_map};
+    ghost use Rattle.std.specs.Prelude.{OnOk, IfOk, IfErr};
+    ghost use Rattle.ln_keys.specs.declared.role.Role.{Role};
+    ghost use Rattle.ln_channels.specs.declared.step.End.{End};
     ghost use Rattle.ln_channels.specs.Channel.{is_node};
     ghost use Rattle.ln_desks.specs.Desk.{fresh, next, serving, registered, restarted, is_at};
     ghost use Rattle.ln_desks.specs.World.{is_below_next, served_in};
+    ghost use Rattle.ln_desks.specs.Kept.{Keeps};
 
     /// The dispatcher of an end of a new channel. Takes no memory.
     pub(crate) fn new(alloc: Global, end: End, side: Role) -> Desk
-        ensures { result ≡ fresh end side }
+        ensures { result ≡ record { desk = fresh end side; first = 0 } }
     {
         Desk {
             end,
             side,
             reach: 0,
             life: Life::new(alloc, 0),
-            past: Vec::new(alloc),
+            past: Past::begun(&end),
         }
     }
 
     /// Its end.
     pub fn end(&self) -> End
-        ensures { result ≡ self.now.end }
+        ensures { result ≡ self.now.desk.end }
     {
         self.end
     }
 
     /// Its end's side of the channel.
     pub fn side(&self) -> Role
-        ensures { result ≡ self.now.side }
+        ensures { result ≡ self.now.desk.side }
     {
         self.side
     }
 
     /// Whether it is that of this end.
     pub(crate) fn is_at(&self, end: End) -> bool
-        ensures { result ≡ is_at end self.now }
+        ensures { result ≡ is_at end self.now.desk }
     {
         self.end.node.letter == end.node.letter && self.end.channel == end.channel
     }
 
     /// Whether it is at this node.
     pub(crate) fn is_of(&self, node: Node) -> bool
-        ensures { result ≡ is_node self.now.end.node node }
+        ensures { result ≡ is_node self.now.desk.end.node node }
     {
         self.end.node.letter == node.letter
     }
 
     /// The number of the event that it serves next. 60 where there is no memory for so many.
     pub(crate) fn next(&self) -> Result<u64, Refusal>
-        ensures number { IfOk result (λ n. n ≡ next self.now.life) }
+        ensures number { IfOk result (λ n. n ≡ next self.now.desk.life) }
         ensures fails_for_memory_alone { IfErr result (λ e. e ≡ Refusal.Memory) }
     {
         self.life.next()
@@ -196,7 +228,7 @@ impl Desk {
 
     // How far its events were dispatched, with this one.
     fn reach_with(&self) -> Result<u64, Refusal>
-        ensures reach { IfOk result (λ n. n ≡ max self.now.reach (next self.now.life + 1)) }
+        ensures reach { IfOk result (λ n. n ≡ max self.now.desk.reach (next self.now.desk.life + 1)) }
         ensures fails_for_memory_alone { IfErr result (λ e. e ≡ Refusal.Memory) }
     {
         match self.life.next()?.checked_add(1) {
@@ -207,21 +239,24 @@ impl Desk {
 
     /// Whether the number is below that of the event that it serves next.
     pub(crate) fn is_below_next(&self, number: u64) -> bool
-        ensures { result ≡ is_below_next number (Some self.now) }
+        ensures { result ≡ is_below_next number (Some self.now.desk) }
     {
         self.life.is_below_next(number)
     }
 
-    /// The event of this number as it was served in this life, and what the hooks said of it; none where it wasn't.
+    /// The event of this number as it was served in this life, and what the hooks said of it; none where it wasn't. Of
+    /// the events that are kept: those from `first` on.
     pub fn served(&self, number: u64) -> Option<(&ChannelEvent, Verdict)>
-        ensures { option_map (λ p. (p.0.now, p.1)) result ≡ served_in number self.now.life }
+        ensures { self.now.first ≤ max self.now.desk.life.start number
+            → option_map (λ p. (p.0.now, p.1)) result ≡ served_in number self.now.desk.life }
     {
         self.life.served(number)
     }
 
     /// The event was served, and the hooks said this. 60 where there is no memory.
     pub(crate) fn write(&mut self, event: ChannelEvent, verdict: Verdict) -> Result<(), Refusal>
-        ensures written { OnOk result (self.new ≡ serving event verdict self.old) }
+        ensures written { OnOk result (self.new.desk ≡ serving event verdict self.old.desk) }
+        ensures keeps { (decided : End → Role → ℕ) → Keeps decided self.old → Keeps decided self.new }
         ensures fails_for_memory_alone { IfErr result (λ e. e ≡ Refusal.Memory) }
     {
         let reach = match self.reach_with() {
@@ -238,20 +273,35 @@ impl Desk {
 
     /// The hook at this place of the list serves from the next event on. 60 where there is no memory.
     pub(crate) fn seat(&mut self, hook: usize) -> Result<(), Refusal>
-        ensures seated { OnOk result (self.new ≡ registered hook self.old) }
+        ensures seated { OnOk result (self.new.desk ≡ registered hook self.old.desk) }
+        ensures keeps { (decided : End → Role → ℕ) → Keeps decided self.old → Keeps decided self.new }
         ensures fails_for_memory_alone { IfErr result (λ e. e ≡ Refusal.Memory) }
     {
         self.life.seat(hook)
     }
 
-    /// Its life is set aside, and one begins where so many events are decided. 60 where there is no memory.
-    pub(crate) fn restart(&mut self, alloc: Global, decided: u64) -> Result<(), Refusal>
-        ensures restarted { OnOk result (self.new ≡ restarted decided self.old) }
-        ensures fails_for_memory_alone { IfErr result (λ e. e ≡ Refusal.Memory) }
+    /// Its life is set aside, and one begins where so many events are decided. Takes no memory.
+    pub(crate) fn restart(&mut self, alloc: Global, decided: u64)
+        ensures { self.new ≡ record { desk = restarted decided self.old.desk; first = decided } }
     {
-        self.past.reserve(1)?;
-        let life = mem::replace(&mut self.life, Life::new(alloc, decided));
-        self.past.push_reserved(life);
-        Ok(())
+        self.past = self.past.and(&self.life);
+        self.life = Life::new(alloc, decided);
+    }
+
+    /// Its end has decided so many events: it lets go of the first event that it keeps, where that is one of them.
+    /// Takes no memory.
+    pub(crate) fn let_go(&mut self, alloc: Global, decided: u64)
+        ensures same_desk { self.new.desk ≡ self.old.desk }
+        ensures lets_go_of_one { self.new.first ≡ (if nat_lt self.old.first decided
+            && nat_lt self.old.first (next self.old.desk.life) then self.old.first + 1 else self.old.first) }
+    {
+        self.life.let_go(alloc, decided);
+    }
+
+    /// What it doesn't keep is forgotten in proofs too.
+    pub(crate) fn forget(&mut self)
+        ensures keeps { (decided : End → Role → ℕ) → Keeps decided self.new }
+    {
+        self.life.forget();
     }
 }

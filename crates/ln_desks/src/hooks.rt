@@ -103,7 +103,7 @@ fn begin_anew<H: Serve>(
     desk: &Desk,
     tables: &mut Tables<H>,
 ) -> Result<(), Refusal>
-    ensures set_aside { OnOk result (IsAside H.calls (is_node desk.now.end.node node)
+    ensures set_aside { OnOk result (IsAside H.calls (is_node desk.now.desk.end.node node)
         (tables.old.now.items, map (λ p. p.items) tables.old.past.items)
         (tables.new.now.items, map (λ p. p.items) tables.new.past.items)) }
     ensures fails_for_memory_alone { IfErr result (λ e. e ≡ refusal.Memory) }
@@ -130,6 +130,7 @@ impl<H: Serve> Hooks<H> {
     ghost use Rattle.ln_msgs.specs.declared.refusals.refusal.Refusal.TheVariants as refusal;
     ghost use Rattle.ln_channels.specs.Channel.{is_node};
     ghost use Rattle.ln_desks.specs.Seated.{CallsAt, SeatsAt, Joins, AreAside};
+    ghost use Rattle.ln_desks.specs.Kept.{desks_of};
 
     /// Those that are handed in, none with a seat, and no dispatchers. 60 where there is no memory.
     pub(crate) fn new(alloc: Global, handed: Vec<H>) -> Result<Hooks<H>, Refusal>
@@ -204,7 +205,7 @@ impl<H: Serve> Hooks<H> {
         desks: &[Desk],
     ) -> Result<(), Refusal>
         requires { length desks.now ≡ length self.old.tables.items }
-        ensures set_aside { OnOk result (AreAside H.calls (λ d. is_node d.end.node node) desks.now
+        ensures set_aside { OnOk result (AreAside H.calls (λ d. is_node d.end.node node) (desks_of desks.now)
             (map (λ t. (t.now.items, map (λ p. p.items) t.past.items)) self.old.tables.items)
             (map (λ t. (t.now.items, map (λ p. p.items) t.past.items)) self.new.tables.items)) }
         ensures offered { self.new.offered.items ≡ self.old.offered.items }

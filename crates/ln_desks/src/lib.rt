@@ -10,6 +10,7 @@ mod laws;
 mod machine;
 mod nodes;
 mod seat;
+mod served;
 mod step;
 mod world;
 

@@ -1,13 +1,16 @@
 //! Nodes, their channels, and what is written down of the dispatchers.
 
 ghost use Rattle.std.specs.Prelude.{◌≡◌, ◌++◌, ◌==◌, ◌∷◌, [], position, is_some, option_copied, IfOk, IfErr, OnOk};
-ghost use Rattle.std.specs.Prelude.{Some, option_map};
+ghost use Rattle.std.specs.Prelude.{ℕ, Some, option_map, IfSome};
 ghost use Rattle.std.specs.List.{list_any};
 ghost use Rattle.ln_msgs.specs.declared.refusals.refusal.Refusal.TheVariants as refusal;
+ghost use Rattle.ln_keys.specs.declared.role.Role.{Role};
+ghost use Rattle.ln_channels.specs.declared.step.End.{End};
 ghost use Rattle.ln_channels.specs.declared.line.Line.TheVariants as line;
 ghost use Rattle.ln_desks.specs.Desk.{is_at, desk_at, at_desk, serving, registered};
 ghost use Rattle.ln_desks.specs.World.{event_for, numbered_for, restarts, all_restart, new_desks};
 ghost use Rattle.ln_desks.specs.World.{is_below_next, waiting_for};
+ghost use Rattle.ln_desks.specs.Kept.{desks_of, decided_at, Keeps, AllKeep};
 
 use crate::desk::Desk;
 use crate::event::{decided_in, saved_end, undecided_in};
@@ -22,7 +25,7 @@ use std::marker::Model;
 
 /// Where the dispatcher of an end stands.
 fn place_of(desks: &[Desk], end: End) -> Option<usize>
-    ensures { result ≡ position (is_at end) desks.now }
+    ensures { result ≡ position (λ d. is_at end d.desk) desks.now }
 {
     desks.iter().position(|desk| desk.is_at(end))
 }
@@ -33,7 +36,7 @@ fn event_for<K: ChannelKeys + Copy>(
     channels: &Channels<K>,
     desk: &Desk,
 ) -> Result<Option<ChannelEvent>, Refusal>
-    ensures event { IfOk result (λ e. e ≡ event_for desk.now channels.now) }
+    ensures event { IfOk result (λ e. e ≡ event_for desk.now.desk channels.now) }
     ensures fails_for_memory_alone { IfErr result (λ e. e ≡ refusal.Memory) }
 {
     let number = desk.next()?;
@@ -42,7 +45,9 @@ fn event_for<K: ChannelKeys + Copy>(
 
 /// An end's dispatcher, where it has one.
 fn desk_at(desks: &[Desk], end: End) -> Option<&Desk>
-    ensures { option_copied result ≡ desk_at end desks.now }
+    ensures desk { option_map (λ d. d.now.desk) result ≡ desk_at end (desks_of desks.now) }
+    ensures keeps { (decided : End → Role → ℕ) → AllKeep decided desks.now
+        → IfSome result (λ d. Keeps decided d.now) }
 {
     match place_of(desks, end) {
         None => None,
@@ -52,7 +57,7 @@ fn desk_at(desks: &[Desk], end: End) -> Option<&Desk>
 
 /// Whether the number is below that of the event that the end's dispatcher serves next.
 fn is_below_next(desks: &[Desk], end: End, number: u64) -> bool
-    ensures { result ≡ is_below_next number (desk_at end desks.now) }
+    ensures { result ≡ is_below_next number (desk_at end (desks_of desks.now)) }
 {
     match desk_at(desks, end) {
         None => false,
@@ -65,7 +70,8 @@ fn waiting<'a, K: ChannelKeys + Copy>(
     channels: &Channels<K>,
     desk: &'a Desk,
 ) -> Option<(u64, &'a ChannelEvent, Verdict)>
-    ensures { option_map (λ p. (p.0, p.1.now, p.2)) result ≡ waiting_for (Some desk.now) channels.now }
+    requires { Keeps (decided_at channels.now) desk.now }
+    ensures { option_map (λ p. (p.0, p.1.now, p.2)) result ≡ waiting_for (Some desk.now.desk) channels.now }
 {
     let end = saved_end(channels, desk.end().channel, desk.side())?;
     let number = end.ledger().decided();
@@ -74,7 +80,7 @@ fn waiting<'a, K: ChannelKeys + Copy>(
 }
 
 fn has_desk(desks: &[Desk], end: End) -> bool
-    ensures { result ≡ is_some (desk_at end desks.now) }
+    ensures { result ≡ is_some (desk_at end (desks_of desks.now)) }
 {
     desk_at(desks, end).is_some()
 }
@@ -86,7 +92,7 @@ fn next_event<K: ChannelKeys + Copy>(
     desks: &[Desk],
     end: End,
 ) -> Result<Option<(u64, ChannelEvent)>, Refusal>
-    ensures event { IfOk result (λ e. e ≡ numbered_for (desk_at end desks.now) channels.now) }
+    ensures event { IfOk result (λ e. e ≡ numbered_for (desk_at end (desks_of desks.now)) channels.now) }
     ensures fails_for_memory_alone { IfErr result (λ e. e ≡ refusal.Memory) }
 {
     let Some(desk) = desk_at(desks, end) else {
@@ -106,7 +112,8 @@ fn write_at(
     event: ChannelEvent,
     verdict: Verdict,
 ) -> Result<(), Refusal>
-    ensures written { OnOk result (desks.new ≡ at_desk end (serving event verdict) desks.old) }
+    ensures written { OnOk result (desks_of desks.new ≡ at_desk end (serving event verdict) (desks_of desks.old)) }
+    ensures keep { (decided : End → Role → ℕ) → AllKeep decided desks.old → AllKeep decided desks.new }
     ensures fails_for_memory_alone { IfErr result (λ e. e ≡ refusal.Memory) }
 {
     match place_of(desks, end) {
@@ -120,7 +127,8 @@ fn write_at(
 
 /// The hook at this place of the list serves an end from its next event on. 60 where there is no memory.
 fn seat_at(desks: &mut [Desk], end: End, hook: usize) -> Result<(), Refusal>
-    ensures seated { OnOk result (desks.new ≡ at_desk end (registered hook) desks.old) }
+    ensures seated { OnOk result (desks_of desks.new ≡ at_desk end (registered hook) (desks_of desks.old)) }
+    ensures keep { (decided : End → Role → ℕ) → AllKeep decided desks.old → AllKeep decided desks.new }
     ensures fails_for_memory_alone { IfErr result (λ e. e ≡ refusal.Memory) }
 {
     match place_of(desks, end) {
@@ -136,37 +144,71 @@ fn was_used(used: &[usize], hook: usize) -> bool
     used.iter().any(|place| *place == hook)
 }
 
-/// A dispatcher begins anew, where it is at this node. 60 where there is no memory.
+/// A dispatcher begins anew, where it is at this node. Takes no memory.
 fn restart_one<K: ChannelKeys + Copy>(
     alloc: Global,
     channels: &Channels<K>,
     node: Node,
     desk: &mut Desk,
-) -> Result<(), Refusal>
-    ensures restarted { OnOk result (desk.new ≡ restarts node channels.now desk.old) }
-    ensures fails_for_memory_alone { IfErr result (λ e. e ≡ refusal.Memory) }
+)
+    ensures restarted { desk.new.desk ≡ restarts node channels.now desk.old.desk }
+    ensures keeps { (decided : End → Role → ℕ) → Keeps decided desk.old → Keeps decided desk.new }
 {
     if !desk.is_of(node) {
-        return Ok(());
+        return;
     }
     let decided = decided_in(channels, desk.end().channel, desk.side());
-    desk.restart(alloc, decided)
+    desk.restart(alloc, decided);
 }
 
-/// The dispatchers of a node begin anew. 60 where there is no memory.
+/// The dispatchers of a node begin anew. Takes no memory.
 fn restart_each<K: ChannelKeys + Copy>(
     alloc: Global,
     channels: &Channels<K>,
     node: Node,
     desks: &mut [Desk],
-) -> Result<(), Refusal>
-    ensures restarted { OnOk result (desks.new ≡ all_restart node channels.now desks.old) }
-    ensures fails_for_memory_alone { IfErr result (λ e. e ≡ refusal.Memory) }
+)
+    ensures restarted { desks_of desks.new ≡ all_restart node channels.now (desks_of desks.old) }
+    ensures keep { (decided : End → Role → ℕ) → AllKeep decided desks.old → AllKeep decided desks.new }
 {
     for i in 0..desks.len() {
-        restart_one(alloc, channels, node, &mut desks[i])?;
+        restart_one(alloc, channels, node, &mut desks[i]);
     }
-    Ok(())
+}
+
+/// A dispatcher lets go of the first event that it keeps, where its end has decided that. Takes no memory.
+#[tactic(auto, using(crate::proofs::Keeping::lets_go_so))]
+fn let_go_one<K: ChannelKeys + Copy>(alloc: Global, channels: &Channels<K>, desk: &mut Desk)
+    ensures same_desk { desk.new.desk ≡ desk.old.desk }
+    ensures keeps { Keeps (decided_at channels.now) desk.old → Keeps (decided_at channels.now) desk.new }
+{
+    let decided = decided_in(channels, desk.end().channel, desk.side());
+    desk.let_go(alloc, decided);
+}
+
+/// An end has acted: its dispatcher lets go of the first event that it keeps, where the end has decided that. Takes no
+/// memory.
+fn let_go_at<K: ChannelKeys + Copy>(
+    alloc: Global,
+    channels: &Channels<K>,
+    desks: &mut [Desk],
+    end: End,
+)
+    ensures same_desks { desks_of desks.new ≡ desks_of desks.old }
+    ensures keep { AllKeep (decided_at channels.now) desks.old → AllKeep (decided_at channels.now) desks.new }
+{
+    if let Some(i) = place_of(desks, end) {
+        let_go_one(alloc, channels, &mut desks[i]);
+    }
+}
+
+/// What the dispatchers don't keep is forgotten in proofs too, so that nothing is promised of it. Takes no memory.
+fn forget_each(desks: &mut [Desk])
+    ensures keep { (decided : End → Role → ℕ) → AllKeep decided desks.new }
+{
+    for i in 0..desks.len() {
+        desks[i].forget();
+    }
 }
 
 /// The dispatchers of a channel that is opened join. 60 where there is no memory.
@@ -177,7 +219,9 @@ fn open_desks(
     fundee: Node,
     desks: &mut Vec<Desk>,
 ) -> Result<(), Refusal>
-    ensures joined { OnOk result (desks.new.items ≡ desks.old.items ++ new_desks channel funder fundee) }
+    ensures joined { OnOk result (desks_of desks.new.items
+        ≡ desks_of desks.old.items ++ new_desks channel funder fundee) }
+    ensures keep { (decided : End → Role → ℕ) → AllKeep decided desks.old.items → AllKeep decided desks.new.items }
     ensures fails_for_memory_alone { IfErr result (λ e. e ≡ refusal.Memory) }
 {
     let first = End {
@@ -215,15 +259,19 @@ pub struct Nodes<K: ChannelKeys + Copy> {
 
 impl<K: ChannelKeys + Copy> Model for Nodes<K> {
     ghost use Rattle.ln_desks.specs.World.{World as WorldState};
+    ghost use Rattle.ln_desks.specs.Kept.{desks_of, decided_at, AllKeep};
 
     ghost Value = { WorldState K };
 
     ghost view = { λ w. record {
       channels = w.channels;
-      desks = w.desks.items;
+      desks = desks_of w.desks.items;
       used = w.used.items;
       hooks = w.hooks;
     } };
+
+    // what the dispatchers don't keep, their ends have decided
+    ghost invariant = { λ w. AllKeep (decided_at w.channels) w.desks.items };
 }
 
 impl<K: ChannelKeys + Copy> Nodes<K> {
@@ -234,8 +282,9 @@ impl<K: ChannelKeys + Copy> Nodes<K> {
     ghost use Rattle.ln_desks.specs.declared.step.Step.TheVariants as step;
     ghost use Rattle.ln_desks.specs.Desk.{at_desk, is_at, serving};
     ghost use Rattle.ln_desks.specs.World.{empty, next_event, is_unused, may_register, happens, step_lines};
-    ghost use Rattle.ln_desks.specs.World.{is_dispatched, may_act, waiting};
+    ghost use Rattle.ln_desks.specs.World.{is_dispatched, may_act, waiting, new_desks, all_restart};
     ghost use Rattle.ln_desks.specs.World.{run, run_lines, unhooked, MayFail, SomeMayFail};
+    ghost use Rattle.ln_desks.specs.Kept.{desks_of};
 
     /// Nothing was set, no channel is open, and so many hooks were handed in. Takes no memory.
     pub fn new(alloc: Global, hooks: usize) -> Nodes<K>
@@ -251,7 +300,7 @@ impl<K: ChannelKeys + Copy> Nodes<K> {
 
     /// The dispatchers, two for each channel, in the order in which the channels were opened.
     pub(crate) fn desks(&self) -> &[Desk]
-        ensures { result.now ≡ self.now.desks }
+        ensures { desks_of result.now ≡ self.now.desks }
     {
         &self.desks
     }
@@ -402,7 +451,8 @@ impl<K: ChannelKeys + Copy> Nodes<K> {
         Ok(())
     }
 
-    // A step that is about channels alone.
+    // A step that is about channels alone. Behind a refusal nothing is promised of them, nor of what isn't kept.
+    #[tactic(auto, using(crate::proofs::Undone::keep_on))]
     fn pass(
         &mut self,
         alloc: Global,
@@ -419,10 +469,54 @@ impl<K: ChannelKeys + Copy> Nodes<K> {
             ≡ lines.old.items ++ channels.step_lines K.ChannelKeys step self.old.channels) }
         ensures fails { IfErr result (λ e. failing.MayFail K.ChannelKeys step e self.old.channels) }
     {
-        self.channels.step(alloc, step, lines)
+        match self.channels.step(alloc, step, lines) {
+            Ok(()) => Ok(()),
+            Err(refusal) => {
+                forget_each(&mut self.desks);
+                Err(refusal)
+            }
+        }
     }
 
-    // An end acts, where that can be.
+    // An end has acted: its dispatcher lets go of the event that it has decided, if it has.
+    fn let_go(&mut self, alloc: Global, end: End)
+        ensures { self.new ≡ self.old }
+    {
+        let_go_at(alloc, &self.channels, &mut self.desks, end);
+    }
+
+    // The dispatchers of a channel that is opened join.
+    fn join(
+        &mut self,
+        alloc: Global,
+        channel: u8,
+        funder: Node,
+        fundee: Node,
+    ) -> Result<(), Refusal>
+        ensures joined { OnOk result (self.new ≡ record {
+          channels = self.old.channels;
+          desks = self.old.desks ++ new_desks channel funder fundee;
+          used = self.old.used;
+          hooks = self.old.hooks;
+        }) }
+        ensures fails_for_memory_alone { IfErr result (λ e. e ≡ Refusal.Memory) }
+    {
+        open_desks(alloc, channel, funder, fundee, &mut self.desks)
+    }
+
+    // The dispatchers of a node begin anew.
+    fn begin_anew(&mut self, alloc: Global, node: Node)
+        ensures { self.new ≡ record {
+          channels = self.old.channels;
+          desks = all_restart node self.old.channels self.old.desks;
+          used = self.old.used;
+          hooks = self.old.hooks;
+        } }
+    {
+        restart_each(alloc, &self.channels, node, &mut self.desks);
+    }
+
+    // An end acts, where that can be; its dispatcher lets go of the event that it has decided, if it has.
     fn act(
         &mut self,
         alloc: Global,
@@ -438,7 +532,9 @@ impl<K: ChannelKeys + Copy> Nodes<K> {
         if !self.is_dispatched(end, &what) {
             return idle(what, lines);
         }
-        self.pass(alloc, ChannelStep::Do(end, what), lines)
+        self.pass(alloc, ChannelStep::Do(end, what), lines)?;
+        self.let_go(alloc, end);
+        Ok(())
     }
 
     // An end has no memory for an act, where it can act so.
@@ -471,9 +567,9 @@ impl<K: ChannelKeys + Copy> Nodes<K> {
         let funder = wish.funder;
         let fundee = wish.fundee;
         let may_open = self.channels.may_open(&wish);
-        self.channels.step(alloc, ChannelStep::Open(wish), lines)?;
+        self.pass(alloc, ChannelStep::Open(wish), lines)?;
         if may_open {
-            open_desks(alloc, channel, funder, fundee, &mut self.desks)?;
+            self.join(alloc, channel, funder, fundee)?;
         }
         Ok(())
     }
@@ -485,9 +581,8 @@ impl<K: ChannelKeys + Copy> Nodes<K> {
             ≡ lines.old.items ++ step_lines K.ChannelKeys Continue (step.Restart node) self.old) }
         ensures fails { IfErr result (λ e. MayFail K.ChannelKeys (step.Restart node) e self.old) }
     {
-        self.channels
-            .step(alloc, ChannelStep::Restart(node), lines)?;
-        restart_each(alloc, &self.channels, node, &mut self.desks)?;
+        self.pass(alloc, ChannelStep::Restart(node), lines)?;
+        self.begin_anew(alloc, node);
         Ok(())
     }
 
@@ -508,10 +603,9 @@ impl<K: ChannelKeys + Copy> Nodes<K> {
             return idle(what, lines);
         }
         let may_act = self.channels.may_act(end, &what);
-        self.channels
-            .step(alloc, ChannelStep::StopBefore(end, what), lines)?;
+        self.pass(alloc, ChannelStep::StopBefore(end, what), lines)?;
         if may_act {
-            restart_each(alloc, &self.channels, end.node, &mut self.desks)?;
+            self.begin_anew(alloc, end.node);
         }
         Ok(())
     }
@@ -533,10 +627,9 @@ impl<K: ChannelKeys + Copy> Nodes<K> {
             return idle(what, lines);
         }
         let may_act = self.channels.may_act(end, &what);
-        self.channels
-            .step(alloc, ChannelStep::StopAfter(end, what), lines)?;
+        self.pass(alloc, ChannelStep::StopAfter(end, what), lines)?;
         if may_act {
-            restart_each(alloc, &self.channels, end.node, &mut self.desks)?;
+            self.begin_anew(alloc, end.node);
         }
         Ok(())
     }

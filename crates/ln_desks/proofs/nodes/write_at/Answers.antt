@@ -1,15 +1,15 @@
 use Rattle.std.proofs.Common.{sym, ◌∙◌}
 use Rattle.ln_channels.proofs.Moving.{on_ok}
 use Rattle.ln_desks.specs.Desk.{serving}
-use Rattle.ln_desks.proofs.Found.{moves_none, moves_found}
+use Rattle.ln_desks.proofs.Keeping.{kept_stay, kept_moves}
 use Rattle.ln_desks.proofs.nodes.write_at.Goals as goal
 
 pub returns-in-None-clause-written : goal.returns-in-None-clause-written
 returns-in-None-clause-written c =
-    moves_none c.args.end (serving c.args.event c.args.verdict) c.args.desks.now
+    kept_stay c.args.end (serving c.args.event c.args.verdict) c.args.desks.now
     (sym c.place_of.ensures ∙ c.in-None.is)
 
 pub returns-in-Some-clause-written : goal.returns-in-Some-clause-written
 returns-in-Some-clause-written c =
-    on_ok c.write.result (λ e. moves_found c.args.end (serving c.args.event c.args.verdict) c.args.desks.now c.in-Some.i
-    _ c.write.new.self (sym c.in-Some.is ∙ c.place_of.ensures) e) c.write.ensures.written
+    on_ok c.write.result (λ e. kept_moves c.args.end (serving c.args.event c.args.verdict) c.args.desks.now
+    c.in-Some.i _ c.write.new.self (sym c.in-Some.is ∙ c.place_of.ensures) e) c.write.ensures.written

@@ -1,15 +1,20 @@
-use Rattle.std.proofs.Common.{rules, map}
+use Rattle.std.proofs.Common.{rules, map, ap, sym, ◌∙◌, arith}
+use Rattle.std.proofs.Math.ListN.{get_or-map, length-map}
 use Rattle.ln_channels.specs.Channel.{is_node}
+use Rattle.ln_desks.specs.Kept.{KeptDesk, desks_of}
 use Rattle.ln_desks.proofs.Calling.{aside_more}
 use Rattle.ln_desks.proofs.hooks.Hooks.set_aside.Goals as goal
 
 pub loop-i-preserved : goal.loop-i-preserved
 loop-i-preserved g c = (
   aside_more g.H.Serve.calls (λ t. t.now.items) (λ t. map (λ p. p.items) t.past.items)
-      (λ d. is_node d.end.node c.args.node) c.loop-i.i c.args.desks.now c.loop-i.self.tables.items
+      (λ d. is_node d.end.node c.args.node) c.loop-i.i (desks_of c.args.desks.now) c.loop-i.self.tables.items
       (map (λ t. (t.now.items, map (λ p. p.items) t.past.items)) c.args.self.now.tables.items)
-      c.index_mut.result.now c.begin_anew.new.tables c.index-desks-i.result (search rules)
-      (search rules) c.loop-i.invariant.0 c.index-desks-i.is
+      c.index_mut.result.now c.begin_anew.new.tables c.index-desks-i.result.desk
+      (let long = length-map c.args.desks.now (λ (k : KeptDesk). k.desk) in omega (arith, long))
+      (search rules) c.loop-i.invariant.0
+      (ap (λ (k : KeptDesk). k.desk) c.index-desks-i.is
+      ∙ sym (get_or-map (λ (k : KeptDesk). k.desk) c.args.desks.now c.loop-i.i c.index-desks-i.result))
       c.index_mut.ensures.value c.in_ok-begin_anew.ensures.set_aside,
   search rules,
   search rules,

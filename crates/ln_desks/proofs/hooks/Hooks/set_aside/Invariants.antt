@@ -1,12 +1,13 @@
 use Rattle.std.proofs.Common.{◌≡◌, length, map, take}
 use Rattle.ln_channels.specs.Channel.{is_node}
 use Rattle.ln_desks.specs.Seated.{AreAside}
+use Rattle.ln_desks.specs.Kept.{desks_of}
 use Rattle.ln_desks.proofs.hooks.Hooks.set_aside.Given as goal
 
 -- those of the first dispatchers are set aside
 abbrev pub invariant-loop-i : goal.invariant-loop-i
 invariant-loop-i g l =
-    AreAside g.H.Serve.calls (λ d. is_node d.end.node l.node) (take l.i l.desks)
+    AreAside g.H.Serve.calls (λ d. is_node d.end.node l.node) (take l.i (desks_of l.desks))
     (map (λ t. (t.now.items, map (λ p. p.items) t.past.items)) l.fn.self.tables.items)
     (map (λ t. (t.now.items, map (λ p. p.items) t.past.items)) l.self.tables.items)
     × (length l.self.tables.items ≡ length l.fn.self.tables.items)
