@@ -1,21 +1,20 @@
 -- What is kept of dispatchers, by its places.
 use Rattle.std.proofs.Common.{◌≡◌, ℕ, zero, suc, ◌+◌, ◌-◌, ◌<◌, ◌≤◌, List, [], ◌∷◌, ◌++◌, length, get_or, set, map}
 use Rattle.std.proofs.Common.{refl, sym, ap, ◌∙◌, subst, arith, Bool, true, false, cond, not, ◌&&◌, nat_lt, nat_le, max}
-use Rattle.std.proofs.Common.{Option, Some, None, option_map, position, take}
+use Rattle.std.proofs.Common.{Option, Some, None, option_map, position, take, drop, append-nil}
 use Rattle.std.specs.List.{position_or_len}
 use Rattle.std.proofs.Math.ListN.{get_or-map, length-map}
 use Rattle.std.proofs.lemmas.Bool.{ltb-true}
 use Rattle.std.proofs.lemmas.List.{map-set}
 use Rattle.ln_hooks.specs.declared.event.ChannelEvent.{ChannelEvent}
 use Rattle.ln_hooks.specs.declared.verdict.Verdict.{Verdict}
-use Rattle.ln_channel.specs.End.{End as ChannelEnd}
 use Rattle.ln_channels.specs.declared.step.End.{End}
 use Rattle.ln_channels.specs.Promises.{Each}
-use Rattle.ln_channels.specs.World.{World as Channels, channel}
+use Rattle.ln_channels.specs.World.{World as Channels}
 use Rattle.ln_desks.specs.declared.seat.Seat.{Seat}
 use Rattle.ln_desks.specs.declared.served.Served.{Served}
-use Rattle.ln_desks.specs.Desk.{Life, Desk, next, is_at, desk_at, at_desk}
-use Rattle.ln_desks.specs.World.{item, both_of, served_in, saved_in, decided_of, waiting_of, waiting_for}
+use Rattle.ln_desks.specs.Desk.{Desk, next, is_at, desk_at, at_desk}
+use Rattle.ln_desks.specs.World.{item, both_of, served_in}
 use Rattle.ln_desks.specs.Kept.{KeptDesk, life_of, desks_of, decided_at, Keeps}
 use Rattle.ln_desks.proofs.Found.{desk_none, desk_found, moves_none, moves_found}
 
@@ -53,6 +52,38 @@ pub each-to : {A : Type 0} (P Q : A → Type 0) (f : (x : A) → P x → Q x) (x
 each-to P Q f [] h = tt
 each-to P Q f (x ∷ xs) h = (f x h.0, each-to P Q f xs h.1)
 
+-- of a list that was equal to this one
+pub place_among : {X Y : Type 0} (f : X → Y) (p : Y → Bool) (xs was : List X) → was ≡ xs
+    → position (λ x. p (f x)) was ≡ position p (map f xs)
+place_among f p xs was is = ap (position (λ x. p (f x))) is ∙ place_so f p xs
+
+none_behind : {A : Type 0} (m : ℕ) (xs : List A) → length xs ≤ m → drop m xs ≡ []
+none_behind zero [] h = refl
+none_behind (suc m) [] h = refl
+none_behind zero (x ∷ xs) h = absurd (omega (arith, h))
+none_behind (suc m) (x ∷ xs) h = none_behind m xs (omega (arith, h))
+
+all_taken : {A : Type 0} (xs : List A) (n : ℕ) → n ≡ length xs → take n xs ≡ xs
+all_taken [] zero h = refl
+all_taken [] (suc n) h = refl
+all_taken (x ∷ xs) zero h = absurd (omega (arith, h))
+all_taken (x ∷ xs) (suc n) h = ap (λ (ys : List _). x ∷ ys) (all_taken xs n (omega (arith, h)))
+
+-- what a slice of the whole list leaves is the list behind it
+back_is : {A : Type 0} (xs now : List A) (n : ℕ) → length now ≡ length xs → n ≡ length xs
+    → take n (now ++ drop (length now) xs) ≡ now
+back_is xs now n same is =
+    ap (λ ys. take n (now ++ ys)) (none_behind (length now) xs (omega (arith, same)))
+    ∙ ap (take n) (append-nil now) ∙ all_taken now n (omega (arith, same, is))
+
+pub so_behind : {A : Type 0} (P : List A → Type 0) (xs now : List A) (n : ℕ) → P now → length now ≡ length xs
+    → n ≡ length xs → P (take n (now ++ drop (length now) xs))
+so_behind P xs now n h same is = subst P (sym (back_is xs now n same is)) h
+
+pub kept_behind : {A : Type 0} (P : List A → Type 0) (xs was now : List A) (n : ℕ) → (P was → P now) → P xs
+    → was ≡ xs → length now ≡ length xs → n ≡ length xs → P (take n (now ++ drop (length now) xs))
+kept_behind P xs was now n keep h before same is = so_behind P xs now n (keep (subst P (sym before) h)) same is
+
 pub each_set : {A : Type 0} (P : A → Type 0) (xs : List A) (i : ℕ) (x : A) → Each P xs → P x
     → Each P (set xs i x)
 each_set P [] i x h p = h
@@ -86,20 +117,6 @@ there_by false o h = absurd (cc)
 not_above : (m n : ℕ) → m ≤ n → nat_le m n ≡ true
 not_above m n le = grind (arith, le)
 
-not_there : (b : Bool) (o : Option (ChannelEvent × Verdict)) → b ≡ false → None ≡ cond b o None
-not_there false o h = refl
-not_there true o h = absurd (cc)
-
-above : (m n : ℕ) → n < m → nat_le m n ≡ false
-above m n lt = grind (arith, lt)
-
--- none before the first that is kept was served in the life, where that is no further than this number or the start
-pub unserved_so : (l : Life) (first n : ℕ) → first ≤ max l.start n → n < first
-    → ◌≡◌ {A = Option (ChannelEvent × Verdict)} None (served_in n l)
-unserved_so l first n le lt =
-    let both = both_of (item (n - l.start) l.served) (item (n - l.start) l.said) in
-    not_there (nat_le l.start n) both (above l.start n (omega (arith, le, lt)))
-
 -- of the events of a life, those before the first one that is kept are gone
 pub served_so : (start : ℕ) (gone kept : List Served) (seats : List Seat) (n first : ℕ) (s : Served)
     → first ≡ start + length gone → first ≤ n → n - first < length kept → s ≡ get_or kept (n - first) s
@@ -121,16 +138,6 @@ served_so start gone kept seats n first s is le lt found =
     ∙ there_by (nat_le start n) both (not_above start n within)
 
 -- ---- dispatchers
-
--- what waits for its end's decision is among what is kept
-pub waits_so : {K : Type 0} (w : Channels K) (d : KeptDesk) (e : ChannelEnd) (r : Option (ChannelEvent × Verdict))
-    → Some e ≡ saved_in d.desk.side (channel d.desk.end.channel w.channels) → Keeps (decided_at w) d
-    → (d.first ≤ max d.desk.life.start e.ledger.decided → r ≡ served_in e.ledger.decided d.desk.life)
-    → option_map (λ p. (e.ledger.decided, p.0, p.1)) r ≡ waiting_for (Some d.desk) w
-waits_so w d e r is keeps served =
-    let same = ap decided_of is in
-    ap (option_map (λ p. (e.ledger.decided, p.0, p.1))) (served (omega (arith, same, keeps)))
-    ∙ ap (waiting_of d.desk.life) is
 
 gone_to : (a b : Bool) (first start n : ℕ) → (a ≡ true → first < n) → first ≤ max start n
     → cond (a && b) (first + 1) first ≤ max start n

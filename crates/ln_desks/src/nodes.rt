@@ -452,7 +452,6 @@ impl<K: ChannelKeys + Copy> Nodes<K> {
     }
 
     // A step that is about channels alone. Behind a refusal nothing is promised of them, nor of what isn't kept.
-    #[tactic(auto, using(crate::proofs::Undone::keep_on))]
     fn pass(
         &mut self,
         alloc: Global,

@@ -15,6 +15,7 @@ loop-i-preserved c = (
   length-set c.loop-i.desks c.loop-i.i c.forget.new.self ∙ c.loop-i.invariant.1,
 )
 
-pub returns-clause-keep : goal.returns-clause-keep
-returns-clause-keep c = λ decided.
-    each_of_all (Keeps decided) c.loop-i.desks c.loop-i.i (omega arith) (c.loop-i.invariant.0 decided)
+pub returns : goal.returns
+returns c = record {
+  keep = λ decided. each_of_all (Keeps decided) c.loop-i.desks c.loop-i.i (omega arith) (c.loop-i.invariant.0 decided);
+}

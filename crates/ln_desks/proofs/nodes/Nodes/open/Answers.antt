@@ -1,9 +1,12 @@
-use Rattle.std.proofs.Common.{sym, ◌∙◌}
+use Rattle.std.proofs.Common.{sym, ap, ◌∙◌}
+use Rattle.ln_channels.specs.World.{may_open}
+use Rattle.ln_desks.specs.World.{World}
 use Rattle.ln_desks.proofs.Opening.{opened_so}
 use Rattle.ln_desks.proofs.nodes.Nodes.open.Goals as goal
 
 pub returns-in_ok-join-clause-world : goal.returns-in_ok-join-clause-world
 returns-in_ok-join-clause-world g c =
     opened_so g.K.ChannelKeys c.args.wish c.args.self.now c.pass.new.self c.join.new.self
-    (sym c.may_open-may_open.ensures.test ∙ c.if-may_open.true) c.in_ok-pass.ensures.world
+    (ap (λ (w : World _). may_open c.args.wish w.channels) (sym c.self.view_is)
+    ∙ sym c.may_open-may_open.ensures.test ∙ c.if-may_open.true) c.in_ok-pass.ensures.world
     c.in_ok-join.ensures.joined

@@ -1,4 +1,10 @@
+use Rattle.std.proofs.Common.{rules}
+use Rattle.ln_desks.specs.Kept.{decided_at, AllKeep}
+use Rattle.ln_desks.proofs.Keeping.{kept_behind}
 use Rattle.ln_desks.proofs.nodes.Nodes.write.Goals as goal
 
 pub invariant_of-self : goal.invariant_of-self
-invariant_of-self g c = c.write_at.ensures.keep _ c.self.invariant
+invariant_of-self g c =
+    kept_behind (AllKeep (decided_at c.self.inside.channels)) c.self.inside.desks.items c.deref_mut.result.now
+    c.write_at.new.desks c.self.inside.desks.len (c.write_at.ensures.keep (decided_at c.self.inside.channels))
+    c.self.invariant (search rules) (search rules) (search rules)
