@@ -154,7 +154,8 @@ module _ (P : ℕ → Type 0) where
   answered_so keys m e (Ok a) h = answering_so keys a (answered_end m a e) h
   answered_so keys m e (Err r) h = tt
 
-  fee_by : (keys : Signer) (begun right : Bool) (m : ClosingSigned) (e : End) (res : Result FeeAnswer Refusal) → Counts P e
+  fee_by : (keys : Signer) (begun right : Bool) (m : ClosingSigned) (e : End) (res : Result FeeAnswer Refusal)
+      → Counts P e
       → InTurn P (cond (not begun) (Err refusal.OutOfPlace)
       (cond right (answered keys m e res) (Err refusal.SignatureWrong)))
   fee_by keys true true m e res h = answered_so keys m e res h
