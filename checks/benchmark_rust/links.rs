@@ -645,6 +645,11 @@ impl Link {
 
     fn handle(&mut self, bytes: &[u8], out: &mut Outputs) -> Answer<()> {
         let (channel, message) = decode(bytes)?;
+        self.take(channel, message, bytes, out)
+    }
+
+    /// A message that was read of these bytes.
+    fn take(&mut self, channel: Id, message: Message, bytes: &[u8], out: &mut Outputs) -> Answer<()> {
         if !self.saved {
             self.take_opening(message, bytes, out)?;
         } else if channel != self.id() {
@@ -770,13 +775,7 @@ impl Link {
             "sign" => self.sign(out)?,
             "add" => {
                 let hash = sha256(&[numbers[2] as u8; 32]);
-                let onion = Box::new([0; ONION]);
-                let (id, expiry) = (self.own.next_id, numbers[1] as u32);
-                let add = Add { id, amount: numbers[0], hash, expiry, onion };
-                let count = (self.own.len(), self.current.1);
-                self.limit(&self.own, &self.peer, count, self.limits.ok_or(40u16)?, &add).map_err(|_| 44u16)?;
-                self.own.next_id += 1;
-                self.propose(Update::Add(add), out);
+                self.offer(numbers[0], numbers[1] as u32, hash, Box::new([0; ONION]), out)?;
             }
             _ => {
                 let (id, preimage) = (numbers[0], [numbers[1] as u8; 32]);
@@ -794,6 +793,22 @@ impl Link {
             }
         }
         self.save();
+        Ok(())
+    }
+
+    fn offer(
+        &mut self,
+        amount: u64,
+        expiry: u32,
+        hash: Id,
+        onion: Box<[u8; ONION]>,
+        out: &mut Outputs,
+    ) -> Answer<()> {
+        let add = Add { id: self.own.next_id, amount, hash, expiry, onion };
+        let count = (self.own.len(), self.current.1);
+        self.limit(&self.own, &self.peer, count, self.limits.ok_or(40u16)?, &add).map_err(|_| 44u16)?;
+        self.own.next_id += 1;
+        self.propose(Update::Add(add), out);
         Ok(())
     }
 

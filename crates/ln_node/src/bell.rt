@@ -29,6 +29,12 @@ impl Bell {
         self.sounds.wake_all();
     }
 
+    /// Waits until it sounds, or a thousandth of a second.
+    pub(crate) fn pause<R: Wait>(&self, rt: &R) {
+        let low = (self.sounds() & 0xffff_ffff) as u32;
+        self.sounds.park_timeout(rt, low, Duration::from_millis(1));
+    }
+
     /// Waits, where it hasn't sounded since it had sounded so often: until it does, or a tenth of a second.
     pub(crate) fn rest<R: Wait>(&self, rt: &R, sounds: u64) {
         let low = (sounds & 0xffff_ffff) as u32;

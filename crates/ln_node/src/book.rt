@@ -5,6 +5,7 @@ ghost use Rattle.ln_node.specs.Route.{minimum_told};
 
 use crate::bell::Bell;
 use crate::notices::Notices;
+use crate::opening::NodeLink;
 use ln_book::Book;
 use ln_channel::{Channel, Command, Unsaved};
 use ln_forward::Policy;
@@ -13,7 +14,7 @@ use ln_keys::{ChannelKeys, Onion, Role};
 use ln_log::ChannelId;
 use ln_msgs::Refusal;
 use ln_store::RecordStore;
-use ln_turns::{Books, End, Notice, ReadsEnds, SavedLink};
+use ln_turns::{Books, Notice, ReadsEnds};
 use std::alloc::{AllocError, Global};
 use std::sync::atomic::{AtomicU64, Ordering};
 use std::sync::{Arc, Mutex, OnceLock, Wait};
@@ -191,19 +192,14 @@ impl<O: Onion + Copy + Drop> Books for SharedBook<O> {
     }
 }
 
-impl<K, S, O> ReadsEnds<SavedLink<K, S>> for SharedBook<O>
+impl<K, S, O> ReadsEnds<NodeLink<K, S>> for SharedBook<O>
 where
     K: ChannelKeys + Copy,
     S: RecordStore + Drop,
     O: Onion + Copy + Drop,
 {
-    fn dropped<R: Wait>(
-        &self,
-        rt: &R,
-        alloc: Global,
-        end: &SavedLink<K, S>,
-    ) -> Result<(), Refusal> {
-        match end.link.unsaved().saved() {
+    fn dropped<R: Wait>(&self, rt: &R, alloc: Global, end: &NodeLink<K, S>) -> Result<(), Refusal> {
+        match end.saved.link.unsaved().saved() {
             None => Ok(()),
             Some(channel) => {
                 let done = self.book.lock(rt).dropped(alloc, channel.id(), channel);
@@ -213,12 +209,16 @@ where
         }
     }
 
-    fn follow<R: Wait>(&self, rt: &R, end: &SavedLink<K, S>) -> Result<(), Refusal> {
-        let unsaved = end.link.unsaved();
+    fn follow<R: Wait>(&self, rt: &R, end: &NodeLink<K, S>) -> Result<(), Refusal> {
+        let unsaved = end.saved.link.unsaved();
         let Some(channel) = unsaved.saved() else {
             return Ok(());
         };
         if self.id.get().is_none() {
+            // An opening whose first save failed may be lost yet.
+            if unsaved.is_halted() {
+                return Ok(());
+            }
             let _ = self.id.set(rt, channel.id());
         }
         let told = told_of(channel, works(unsaved));

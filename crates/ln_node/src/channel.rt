@@ -2,7 +2,7 @@
 
 use crate::bell::Bell;
 use crate::reader::Connections;
-use crate::seat::RingingSeat;
+use crate::seat::{PatientSeat, RingingSeat};
 use crate::socket::Socket;
 use crate::start::{start_dispatcher, start_reader, start_worker};
 use ln_channel::Command;
@@ -23,6 +23,9 @@ const TASKS: usize = 1024;
 /// A sender's seat of a worker's relay.
 pub(crate) type ItemSeat = RingingSeat<SendSeat<Item<Socket>>>;
 
+/// That of a reader.
+pub(crate) type ReadSeat = PatientSeat<ItemSeat>;
+
 /// A worker with its seats.
 pub(crate) type EndBench<E, H> = Bench<E, Socket, RecvSeat<Item<Socket>>, WaitSend<Task<H>>>;
 
@@ -33,7 +36,7 @@ pub(crate) struct Channel<E: Drop, H: Drop, T: Drop> {
     hooks: Mutex<WaitSend<Task<H>>>,
     bound: Option<SocketAddr>,
     connections: Arc<Connections>,
-    reader: JoinHandle<ItemSeat>,
+    reader: JoinHandle<ReadSeat>,
     worker: JoinHandle<EndBench<E, H>>,
     dispatcher: JoinHandle<(WaitRecv<Task<H>>, T)>,
 }
@@ -62,16 +65,24 @@ pub(crate) struct Parts<E: Drop, B: Drop, T: Drop> {
 // Hands a command on, unless the relay is full.
 fn order<R: Wait>(rt: &R, seat: &mut ItemSeat, command: Command) -> Result<(), Command> {
     match seat.send(rt, Item::Order(command)) {
+        Ok(()) => Ok(()),
         Err(Item::Order(back)) => Err(back),
-        _ => Ok(()),
+        Err(other) => {
+            drop(other);
+            Ok(())
+        }
     }
 }
 
 // Hands a hook on, unless the relay is full.
 fn register<H: Drop, R: Wait>(rt: &R, seat: &mut WaitSend<Task<H>>, hook: H) -> Result<(), H> {
     match seat.send(rt, Task::Register(hook)) {
+        Ok(()) => Ok(()),
         Err(Task::Register(back)) => Err(back),
-        _ => Ok(()),
+        Err(other) => {
+            drop(other);
+            Ok(())
+        }
     }
 }
 
@@ -190,7 +201,10 @@ where
     let again = Arc::try_clone(&bell)?;
     let (first, orders, items) = relay::<Item<Socket>>(alloc, ITEMS)?;
     let (events, hooks, tasks) = waiting_relay::<Task<H>>(alloc, TASKS)?;
-    let first = RingingSeat { seat: first, bell };
+    let first = PatientSeat {
+        seat: RingingSeat { seat: first, bell },
+        bell: Bell::new(),
+    };
     let orders = RingingSeat {
         seat: orders,
         bell: again,
@@ -217,7 +231,7 @@ where
         stop_dispatcher(&rt, hooks, dispatcher);
         return Err(AllocError);
     };
-    let Some(reader) = start_reader::<ItemSeat, R>(rt, alloc, listener, first, theirs) else {
+    let Some(reader) = start_reader::<ReadSeat, R>(rt, alloc, listener, first, theirs) else {
         drop(stop_worker(&rt, orders, worker));
         stop_dispatcher(&rt, hooks, dispatcher);
         return Err(AllocError);

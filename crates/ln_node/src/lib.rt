@@ -6,6 +6,7 @@ mod book;
 mod channel;
 mod node;
 mod notices;
+mod opening;
 mod reader;
 mod seat;
 mod socket;

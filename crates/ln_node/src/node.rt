@@ -4,6 +4,7 @@ use crate::bell::Bell;
 use crate::book::{Common, SharedBook};
 use crate::channel::{Channel, Parts, start};
 use crate::notices::Notices;
+use crate::opening::NodeLink;
 use crate::reader::Connections;
 use crate::stored::{Loaded, Stored, load_all, rebuild};
 use ln_book::Book;
@@ -11,10 +12,9 @@ use ln_bytes::Bytes;
 use ln_channel::{Command, FitConfig, FitSpec};
 use ln_forward::Policy;
 use ln_keys::{ChannelKeys, Onion};
-use ln_link::Link;
 use ln_msgs::{Init, Message, Records, Refusal};
 use ln_store::RecordStore;
-use ln_turns::{End, Notice, ReadsEnds, SavedLink, Table};
+use ln_turns::{End, Notice, ReadsEnds, Table};
 use std::alloc::{AllocError, Global};
 use std::net::{Net, OpenListener, SocketAddr, TcpListener, TcpStream};
 use std::sync::atomic::{AtomicU64, Ordering};
@@ -28,7 +28,7 @@ use std::thread::Threads;
 pub struct Node<K: ChannelKeys + Copy, S: Drop, O: Drop, H: Drop, T: Drop> {
     stopping: Arc<AtomicU64>,
     common: Common<O>,
-    channels: Vec<Channel<SavedLink<K, S>, H, T>>,
+    channels: Vec<Channel<NodeLink<K, S>, H, T>>,
 }
 
 // What a new channel has of its node.
@@ -49,6 +49,20 @@ fn greeting(alloc: Global) -> Result<Box<Message>, AllocError> {
         records: Records::new(Vec::new(alloc)),
     };
     Ok(Box::new(alloc, Message::Init(init))?)
+}
+
+// Listens at an address, and answers the one that is bound. 63 where it can't be.
+fn bind<R>(rt: &R, address: SocketAddr) -> Result<(TcpListener, SocketAddr), Refusal>
+where
+    R: Net<Listener = TcpListener, Stream = TcpStream>,
+{
+    let Ok(listener) = TcpListener::bind(rt, address) else {
+        return Err(Refusal::Io);
+    };
+    match listener.local_addr() {
+        Ok(bound) => Ok((listener, bound)),
+        Err(_) => Err(Refusal::Io),
+    }
 }
 
 // Starts a channel, behind those that there are.
@@ -132,7 +146,7 @@ where
         rt: R,
         alloc: Global,
         shares: Shares<O>,
-        end: SavedLink<K, S>,
+        end: NodeLink<K, S>,
         table: T,
         listener: Option<TcpListener>,
         bound: Option<SocketAddr>,
@@ -162,8 +176,9 @@ where
     }
 
     /// Listens for the connections of a new channel, one after the other, as the fundee with this config, and answers
-    /// the address bound. Its records are saved in this store, its hooks go into this table, which is empty. Takes
-    /// memory, and three threads.
+    /// the address bound. Its records are saved in this store, its hooks go into this table, which is empty. An opening
+    /// that is lost or refused before a signature of it has left is forgotten, and the next connection begins a new
+    /// one; it is closed where there is no memory for that (60). Takes memory, and three threads.
     ///
     /// Errors: 63 where the address can't be bound; 60 where there is no memory or no thread.
     pub fn listen<R>(
@@ -179,21 +194,17 @@ where
     where
         R: Net<Listener = TcpListener, Stream = TcpStream> + Threads + Wait + Copy + Send + 'static,
     {
+        let end = NodeLink::fundee(alloc, keys, config, store)?;
+        let (listener, bound) = bind(&rt, address)?;
         let shares = self.shares(alloc)?;
-        let Ok(listener) = TcpListener::bind(&rt, address) else {
-            return Err(Refusal::Io);
-        };
-        let Ok(bound) = listener.local_addr() else {
-            return Err(Refusal::Io);
-        };
-        let link = Link::fundee(keys, config);
-        let end = SavedLink { keys, link, store };
         self.start(rt, alloc, shares, end, table, Some(listener), Some(bound))?;
         Ok(bound)
     }
 
     /// Connects a new channel, as the funder by this spec. Its records are saved in this store, its hooks go into this
-    /// table, which is empty. Takes memory, and three threads.
+    /// table, which is empty. An opening that is lost or refused before a signature of it has left is forgotten, and
+    /// `reconnect` begins a new one; behind its signature it is lost for good, and each later connection is closed
+    /// (40). Takes memory, and three threads.
     ///
     /// Errors: 63 where nobody listens at the address; 60 where there is no memory or no thread.
     pub fn connect<R>(
@@ -209,12 +220,11 @@ where
     where
         R: Net<Listener = TcpListener, Stream = TcpStream> + Threads + Wait + Copy + Send + 'static,
     {
-        let shares = self.shares(alloc)?;
+        let end = NodeLink::funder(alloc, keys, spec, store)?;
         let Ok(stream) = TcpStream::connect(&rt, address) else {
             return Err(Refusal::Io);
         };
-        let link = Link::funder(keys, spec);
-        let end = SavedLink { keys, link, store };
+        let shares = self.shares(alloc)?;
         shares.connections.follow(&rt, stream);
         self.start(rt, alloc, shares, end, table, None, None)
     }
@@ -257,7 +267,7 @@ where
         &mut self,
         rt: R,
         alloc: Global,
-        end: SavedLink<K, S>,
+        end: NodeLink<K, S>,
         table: T,
         address: Option<SocketAddr>,
     ) -> Result<(), Refusal>
@@ -268,12 +278,7 @@ where
         let Some(address) = address else {
             return self.start(rt, alloc, shares, end, table, None, None);
         };
-        let Ok(listener) = TcpListener::bind(&rt, address) else {
-            return Err(Refusal::Io);
-        };
-        let Ok(bound) = listener.local_addr() else {
-            return Err(Refusal::Io);
-        };
+        let (listener, bound) = bind(&rt, address)?;
         self.start(rt, alloc, shares, end, table, Some(listener), Some(bound))
     }
 
@@ -390,7 +395,7 @@ where
         let mut kept = Ok(());
         for channel in self.channels {
             let end = channel.end(&rt);
-            if stores.push(end.store).is_err() {
+            if stores.push(end.into_store()).is_err() {
                 kept = Err(Refusal::Memory);
             }
         }

@@ -1,10 +1,10 @@
-//! A sender's seat that wakes the receiver.
+//! Senders' seats that wake the receiver, or wait for it.
 
 use crate::bell::Bell;
 use ln_relay::Sends;
 use std::sync::{Arc, Wait};
 
-/// A sender's seat that sounds a bell behind each item.
+/// A sender's seat that sounds a bell behind each item that it has put.
 #[derive(Drop)]
 pub(crate) struct RingingSeat<S: Drop> {
     /// The seat.
@@ -22,7 +22,34 @@ impl<T: Drop, S: Sends<T> + Drop> Sends<T> for RingingSeat<S> {
 
     fn send<R: Wait>(&mut self, rt: &R, item: T) -> Result<(), T> {
         let sent = self.seat.send(rt, item);
-        self.bell.ring();
+        if sent.is_ok() {
+            self.bell.ring();
+        }
+        sent
+    }
+}
+
+/// A sender's seat that waits a while where there was no room, so that who tries again doesn't keep a processor busy.
+#[derive(Drop)]
+pub(crate) struct PatientSeat<S: Drop> {
+    /// The seat.
+    pub(crate) seat: S,
+    /// It doesn't sound.
+    pub(crate) bell: Bell,
+}
+
+impl<T: Drop, S: Sends<T> + Drop> Sends<T> for PatientSeat<S> {
+    ghost Relay = { S.Relay };
+
+    ghost place = { λ s. S.place s.seat };
+
+    ghost put = { λ s. S.put s.seat };
+
+    fn send<R: Wait>(&mut self, rt: &R, item: T) -> Result<(), T> {
+        let sent = self.seat.send(rt, item);
+        if sent.is_err() {
+            self.bell.pause(rt);
+        }
         sent
     }
 }

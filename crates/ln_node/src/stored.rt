@@ -1,5 +1,6 @@
 //! Channels that come back from their records.
 
+use crate::opening::NodeLink;
 use ln_book::Book;
 use ln_keys::ChannelKeys;
 use ln_link::Link;
@@ -27,7 +28,7 @@ pub struct Stored<K: ChannelKeys + Copy, S: Drop, T: Drop> {
 /// The same, with the link.
 #[derive(Drop)]
 pub(crate) struct Loaded<K: ChannelKeys + Copy, S: Drop, T: Drop> {
-    pub(crate) end: SavedLink<K, S>,
+    pub(crate) end: NodeLink<K, S>,
     pub(crate) table: T,
     pub(crate) address: Option<SocketAddr>,
 }
@@ -48,6 +49,19 @@ fn load<K: ChannelKeys + Copy, S: RecordStore>(
     Link::from_record(alloc, keys, bytes.as_slice())
 }
 
+// The end of the first record in a store.
+fn load_end<K: ChannelKeys + Copy, S: RecordStore + Drop>(
+    alloc: Global,
+    keys: K,
+    store: S,
+) -> Result<NodeLink<K, S>, Refusal> {
+    let mut store = store;
+    match load(alloc, keys, &mut store) {
+        Ok(link) => NodeLink::loaded(alloc, SavedLink { keys, link, store }),
+        Err(refusal) => Err(refusal),
+    }
+}
+
 // A channel with its link.
 fn load_one<K: ChannelKeys + Copy, S: RecordStore + Drop, T: Drop>(
     alloc: Global,
@@ -59,15 +73,12 @@ fn load_one<K: ChannelKeys + Copy, S: RecordStore + Drop, T: Drop>(
         table,
         address,
     } = stored;
-    let mut store = store;
-    match load(alloc, keys, &mut store) {
-        Ok(link) => Ok(Loaded {
-            end: SavedLink { keys, link, store },
-            table,
-            address,
-        }),
-        Err(refusal) => Err(refusal),
-    }
+    let end = load_end(alloc, keys, store)?;
+    Ok(Loaded {
+        end,
+        table,
+        address,
+    })
 }
 
 /// The channels with their links.
@@ -89,7 +100,7 @@ fn readings<K: ChannelKeys + Copy, S: Drop, T: Drop>(
 ) -> Result<Vec<Reading>, Refusal> {
     let mut readings = Vec::new(alloc);
     for one in loaded {
-        if let Some(channel) = one.end.link.unsaved().saved() {
+        if let Some(channel) = one.end.saved.link.unsaved().saved() {
             readings.push(Reading::of(alloc, channel)?)?;
         }
     }

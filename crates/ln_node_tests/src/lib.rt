@@ -14,6 +14,8 @@ mod closes;
 #[cfg(test)]
 mod embedding;
 #[cfg(test)]
+mod openings;
+#[cfg(test)]
 mod pair;
 #[cfg(test)]
 mod tests;

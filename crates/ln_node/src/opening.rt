@@ -1,0 +1,349 @@
+//! The end of a channel in a node: a link with its store, which begins anew while its opening isn't signed.
+
+ghost use Rattle.std.specs.Prelude.{◌≡◌, IfOk, IfErr};
+ghost use Rattle.ln_msgs.specs.declared.refusals.refusal.Refusal.TheVariants as refusal;
+ghost use Rattle.ln_channel.specs.State.{State, StandsFor};
+ghost use Rattle.ln_turns.specs.Sent.{loaded};
+ghost use Rattle.ln_node.specs.Opening.{Begins, BeginsAnew, is_unopened, asks_to_sign, lacks_record};
+
+use ln_bytes::{Bytes, Record};
+use ln_channel::{Command, Config, FitConfig, FitSpec, OpenSpec, Output, Unsaved};
+use ln_hooks::ChannelEvent;
+use ln_keys::ChannelKeys;
+use ln_link::Link;
+use ln_log::ChannelId;
+use ln_msgs::{Message, Records, Refusal};
+use ln_store::RecordStore;
+use ln_turns::{End, SavedLink};
+use std::alloc::Global;
+
+/// What a new link in the place of an end's begins with.
+#[derive(Drop)]
+pub(crate) enum Beginning {
+    /// A fundee's config.
+    Fundee(FitConfig),
+    /// A funder's spec.
+    Funder(FitSpec),
+    /// There is no new one: a signature of the opening has left it, or it came from a record.
+    Over,
+}
+
+/// A link with its store, and what a new link in its place begins with: an opening that is lost before it is signed
+/// begins anew with the next connection. Both lie in boxes, so that who owns it knows nothing of their parts.
+#[derive(Drop)]
+pub(crate) struct NodeLink<K: ChannelKeys + Copy, S: Drop> {
+    /// The link with its store.
+    pub(crate) saved: Box<SavedLink<K, S>>,
+    /// What a new one begins with.
+    pub(crate) beginning: Box<Beginning>,
+}
+
+// ---- copies of what a link is opened with
+
+fn bytes_again(alloc: Global, bytes: &Bytes) -> Result<Bytes, Refusal>
+    ensures copy { IfOk result (λ bs. bs ≡ bytes.now) }
+    ensures fails_for_memory_alone { IfErr result (λ r. r ≡ refusal.Memory) }
+{
+    Ok(Bytes::new(Vec::from_slice(alloc, bytes.as_slice())?))
+}
+
+fn record_again(alloc: Global, original: &Record) -> Result<Record, Refusal>
+    ensures copy { IfOk result (λ r. r ≡ original.now) }
+    ensures fails_for_memory_alone { IfErr result (λ r. r ≡ refusal.Memory) }
+{
+    Ok(Record {
+        typ: original.typ,
+        value: bytes_again(alloc, &original.value)?,
+    })
+}
+
+fn records_again(alloc: Global, records: &[Record]) -> Result<Records, Refusal>
+    ensures copies { IfOk result (λ rs. rs ≡ records.now) }
+    ensures fails_for_memory_alone { IfErr result (λ r. r ≡ refusal.Memory) }
+{
+    let mut copies = Vec::new(alloc);
+    for original in records {
+        copies.push(record_again(alloc, original)?)?;
+    }
+    Ok(Records::new(copies))
+}
+
+fn config_again(alloc: Global, config: &Config) -> Result<Config, Refusal>
+    ensures copy { IfOk result (λ c. c ≡ config.now) }
+    ensures fails_for_memory_alone { IfErr result (λ r. r ≡ refusal.Memory) }
+{
+    let script = bytes_again(alloc, &config.script)?;
+    Ok(Config {
+        limits: config.limits,
+        chain_hash: config.chain_hash,
+        dust_limit: config.dust_limit,
+        to_self_delay: config.to_self_delay,
+        minimum_depth: config.minimum_depth,
+        points: config.points,
+        first: config.first,
+        least: config.least,
+        greatest: config.greatest,
+        script,
+    })
+}
+
+fn spec_again(alloc: Global, spec: &OpenSpec) -> Result<OpenSpec, Refusal>
+    ensures copy { IfOk result (λ s. s ≡ spec.now) }
+    ensures fails_for_memory_alone { IfErr result (λ r. r ≡ refusal.Memory) }
+{
+    let records = records_again(alloc, spec.records.as_slice())?;
+    Ok(OpenSpec {
+        config: config_again(alloc, &spec.config)?,
+        funding: spec.funding,
+        push: spec.push,
+        feerate: spec.feerate,
+        flags: spec.flags,
+        temporary_id: spec.temporary_id,
+        txid: spec.txid,
+        output: spec.output,
+        records,
+    })
+}
+
+fn fit_config_again(alloc: Global, config: &FitConfig) -> Result<FitConfig, Refusal>
+    ensures copy { IfOk result (λ c. c ≡ config.now) }
+    ensures fails_for_memory_alone { IfErr result (λ r. r ≡ refusal.Memory) }
+{
+    Ok(FitConfig::new(config_again(alloc, config.get())?))
+}
+
+fn fit_spec_again(alloc: Global, spec: &FitSpec) -> Result<FitSpec, Refusal>
+    ensures copy { IfOk result (λ s. s ≡ spec.now) }
+    ensures fails_for_memory_alone { IfErr result (λ r. r ≡ refusal.Memory) }
+{
+    Ok(FitSpec::new(spec_again(alloc, spec.get())?))
+}
+
+// ---- a new link
+
+// The link that begins so. 40 where there is none; 60 where there is no memory.
+fn new_link<K: ChannelKeys + Copy>(
+    alloc: Global,
+    keys: K,
+    beginning: &Beginning,
+) -> Result<Link<K>, Refusal>
+    ensures { Begins keys beginning.now result }
+{
+    match beginning {
+        Beginning::Fundee(config) => match fit_config_again(alloc, config) {
+            Ok(config) => Ok(Link::fundee(keys, config)),
+            Err(refusal) => Err(refusal),
+        },
+        Beginning::Funder(spec) => match fit_spec_again(alloc, spec) {
+            Ok(spec) => Ok(Link::funder(keys, spec)),
+            Err(refusal) => Err(refusal),
+        },
+        Beginning::Over => Err(Refusal::NotReady),
+    }
+}
+
+// A value in the place of another.
+fn replace<T: Drop>(place: &mut T, value: T)
+    ensures { place.new ≡ value }
+{
+    *place = value;
+}
+
+// A new link in the place of one. 40 where there is none; 60 where there is no memory.
+fn begin_anew<K: ChannelKeys + Copy>(
+    alloc: Global,
+    keys: K,
+    beginning: &Beginning,
+    link: &mut Link<K>,
+) -> Result<(), Refusal>
+    ensures { BeginsAnew keys beginning.now (loaded result) link.old link.new }
+{
+    match new_link(alloc, keys, beginning) {
+        Ok(new) => {
+            replace(link, new);
+            Ok(())
+        }
+        Err(refusal) => Err(refusal),
+    }
+}
+
+// Whether a link has no connection, and no opening that both have signed.
+fn is_unopened<K: ChannelKeys + Drop>(link: &Unsaved<K>) -> bool
+    ensures { (l : State K) → StandsFor link.now l → result ≡ is_unopened l }
+{
+    link.line().is_down() && !link.is_halted() && link.saved().is_none()
+}
+
+// Whether what answers a message has a signature of the opening.
+fn asks_to_sign(message: &Message) -> bool
+    ensures { result ≡ asks_to_sign message.now }
+{
+    matches!(
+        message,
+        Message::AcceptChannel(_) | Message::FundingCreated(_)
+    )
+}
+
+// Whether a load found no record.
+fn lacks_record(answer: Result<(), Refusal>) -> bool
+    ensures { result ≡ lacks_record answer }
+{
+    matches!(answer, Err(Refusal::NotReady))
+}
+
+// A value in a box. 60 where there is no memory for it.
+fn boxed<T: Drop>(alloc: Global, value: T) -> Result<Box<T>, Refusal> {
+    match Box::new(alloc, value) {
+        Ok(boxed) => Ok(boxed),
+        Err(_) => Err(Refusal::Memory),
+    }
+}
+
+// A new link with its store. 40 where none begins so; 60 where there is no memory.
+fn new_saved<K: ChannelKeys + Copy, S: Drop>(
+    alloc: Global,
+    keys: K,
+    beginning: &Beginning,
+    store: S,
+) -> Result<Box<SavedLink<K, S>>, Refusal> {
+    match new_link(alloc, keys, beginning) {
+        Ok(link) => boxed(alloc, SavedLink { keys, link, store }),
+        Err(refusal) => Err(refusal),
+    }
+}
+
+impl<K: ChannelKeys + Copy, S: Drop> NodeLink<K, S> {
+    // One that begins so.
+    fn begun(
+        alloc: Global,
+        keys: K,
+        beginning: Box<Beginning>,
+        store: S,
+    ) -> Result<NodeLink<K, S>, Refusal> {
+        let saved = new_saved(alloc, keys, &beginning, store)?;
+        Ok(NodeLink { saved, beginning })
+    }
+
+    /// A fundee's end, which takes a channel with this config. 60 where there is no memory.
+    pub(crate) fn fundee(
+        alloc: Global,
+        keys: K,
+        config: FitConfig,
+        store: S,
+    ) -> Result<NodeLink<K, S>, Refusal> {
+        let beginning = boxed(alloc, Beginning::Fundee(config))?;
+        NodeLink::begun(alloc, keys, beginning, store)
+    }
+
+    /// A funder's end, which opens a channel by this spec. 60 where there is no memory.
+    pub(crate) fn funder(
+        alloc: Global,
+        keys: K,
+        spec: FitSpec,
+        store: S,
+    ) -> Result<NodeLink<K, S>, Refusal> {
+        let beginning = boxed(alloc, Beginning::Funder(spec))?;
+        NodeLink::begun(alloc, keys, beginning, store)
+    }
+
+    /// One that came from its record. 60 where there is no memory.
+    pub(crate) fn loaded(alloc: Global, saved: SavedLink<K, S>) -> Result<NodeLink<K, S>, Refusal> {
+        let saved = boxed(alloc, saved)?;
+        let beginning = boxed(alloc, Beginning::Over)?;
+        Ok(NodeLink { saved, beginning })
+    }
+
+    /// Its store.
+    pub(crate) fn into_store(self) -> S {
+        let SavedLink {
+            keys: _,
+            link,
+            store,
+        } = Box::into_inner(self.saved);
+        drop(link);
+        store
+    }
+}
+
+impl<K: ChannelKeys + Copy, S: RecordStore + Drop> End for NodeLink<K, S> {
+    ghost use Rattle.ln_channel.specs.Pending.{pending_at};
+    ghost use Rattle.ln_node.specs.Opening.{Held, acts};
+
+    ghost State = { Held K };
+
+    ghost state = { λ e. record {
+      saved = record {
+        keys = e.saved.value.keys;
+        link = e.saved.value.link;
+        shelf = record { records = S.records e.saved.value.store; failed = S.failed e.saved.value.store };
+      };
+      beginning = e.beginning.value;
+    } };
+
+    ghost acts = { acts K.signer };
+
+    ghost halted = { λ h. h.saved.link.halted };
+
+    ghost pending = { λ h. pending_at h.saved.link.stage };
+
+    fn handle(&mut self, alloc: Global, message: Message) -> Result<Vec<Output>, Refusal> {
+        let signs = asks_to_sign(&message);
+        match self.saved.handle(alloc, message) {
+            Ok(outputs) => {
+                if signs {
+                    replace(&mut *self.beginning, Beginning::Over);
+                }
+                Ok(outputs)
+            }
+            Err(refusal) => Err(refusal),
+        }
+    }
+
+    fn command(&mut self, alloc: Global, command: Command) -> Result<Vec<Output>, Refusal> {
+        self.saved.command(alloc, command)
+    }
+
+    fn connect(&mut self, alloc: Global) -> Result<Vec<Output>, Refusal> {
+        if is_unopened(self.saved.link.unsaved()) {
+            match begin_anew(
+                alloc,
+                self.saved.keys,
+                &self.beginning,
+                &mut self.saved.link,
+            ) {
+                Ok(()) => return self.saved.connect(alloc),
+                Err(refusal) => return Err(refusal),
+            }
+        }
+        self.saved.connect(alloc)
+    }
+
+    fn drop_connection(&mut self) {
+        self.saved.drop_connection();
+    }
+
+    fn load(&mut self, alloc: Global) -> Result<(), Refusal> {
+        let answer = self.saved.load(alloc);
+        if lacks_record(answer) {
+            return begin_anew(
+                alloc,
+                self.saved.keys,
+                &self.beginning,
+                &mut self.saved.link,
+            );
+        }
+        answer
+    }
+
+    fn pending_events(&self, alloc: Global) -> Result<Vec<(u64, ChannelEvent)>, Refusal> {
+        self.saved.pending_events(alloc)
+    }
+
+    fn is_halted(&self) -> bool {
+        self.saved.is_halted()
+    }
+
+    fn channel(&self) -> Option<ChannelId> {
+        self.saved.channel()
+    }
+}
