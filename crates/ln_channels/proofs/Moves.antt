@@ -31,7 +31,7 @@ use Rattle.ln_channel.specs.Step as step
 use Rattle.ln_log.specs.Limits.{first_fault}
 use Rattle.ln_pair.specs.Ends.{Ends, arrive, messages_in, message_at, command_at, becomes, ledger_behind, Act, Deliver}
 use Rattle.ln_pair.specs.Ends.{Give, Note, Lose, saves}
-use Rattle.ln_pair.proofs.Noting.{IsNotReady, not_ready}
+use Rattle.ln_pair.proofs.Offered.{IsNotReady, not_ready}
 use Rattle.ln_pair.specs.Ends as pair
 use Rattle.ln_pair.specs.Moves.{moves_asked, moves_between, closes, shuts}
 use Rattle.ln_pair.specs.Moves as pair_moves

@@ -23,11 +23,7 @@ use Rattle.ln_channel.specs.Meeting.{Opens}
 use Rattle.ln_channel.specs.End.{End, end_of}
 use Rattle.ln_channel.specs.State.{State}
 use Rattle.ln_pair.specs.Ends.{opened}
-use Rattle.ln_pair.proofs.All.{All}
-use Rattle.ln_pair.proofs.Lasting.{Where, longest_script}
-use Rattle.ln_pair.proofs.Opens.{was_given}
-use Rattle.ln_pair.proofs.Contents.{Origin, contents_of, Fits}
-use Rattle.ln_pair.proofs.Wide.{BothFit, run_fit}
+use Rattle.ln_pair.proofs.Offered.{All, Where, longest_script, was_given, Origin, contents_of, Fits, BothFit, run_fit}
 use Rattle.ln_channels.specs.Channel.{Channel}
 use Rattle.ln_channels.specs.Promises.{Each}
 use Rattle.ln_channels.specs.Settings.{channel_id_of}
