@@ -65,7 +65,7 @@ use Rattle.ln_pair.proofs.Flight.Images.{messages_of, side_of}
 use Rattle.ln_pair.proofs.Flight.DueRows.{row_of_update}
 use Rattle.ln_pair.proofs.Ends.Acts.{Hold, front_reads}
 use Rattle.ln_pair.proofs.Ends.Turns.{turn_of, is_close, row}
-use Rattle.ln_pair.proofs.Ends.Runs.{Holds, flipped, flipped_keys, met_row, meeting_row, ran}
+use Rattle.ln_pair.proofs.Ends.Runs.{Sound, flipped, flipped_keys, met_row, meeting_row, ran}
 use Rattle.ln_pair.proofs.Ends.JustOpened.{opened_holds, opened_fresh}
 use Rattle.ln_pair.proofs.Machine.TurnMoves.{log_within}
 use Rattle.ln_pair.proofs.Machine.RunMoves.{starts}
@@ -371,13 +371,13 @@ module _ (a b : Signer) (keys : ArePartners a b) where
   given_by None t p s k = record { x = k refl; other = refl }
   given_by (Some z) t p s k = record { x = s; other = refl }
 
-  propose : (u : Change) (p : Ends) → Settling p.x → Holds a b p → HasNextId p.x.dance.log.own u
+  propose : (u : Change) (p : Ends) → Settling p.x → Sound a b p → HasNextId p.x.dance.log.own u
       → Stays p (answers (unless (propose_fault p.x u)
       (sending (update_message p.x.dance.channel u) (proposes u p.x))) p)
   propose u p s h id = given_by (propose_fault p.x u) _ p s
       (λ none. proposes_settling p.x u (log_within a p.x h.hold.kept.there.within) id none s)
 
-  given : (c : Command) (p : Ends) → Settling p.x → Holds a b p → Stays p (answers (command_row a c p.x) p)
+  given : (c : Command) (p : Ends) → Settling p.x → Sound a b p → Stays p (answers (command_row a c p.x) p)
   given (command.Confirm id) p s h = given_by (confirm_fault p.x) _ p s (λ none. s)
   given (command.Add amount hash expiry onion origin) p s h =
       propose (update.Add (record {
@@ -401,7 +401,7 @@ module _ (a b : Signer) (keys : ArePartners a b) where
   given (command.Decide event mark) p s h = record { x = s; other = refl }
   given (command.Forget id) p s h = record { x = s; other = refl }
 
-  commanded_by : (f : Option Refusal) (l : Line) (c : Command) (p : Ends) → Settling p.x → Holds a b p
+  commanded_by : (f : Option Refusal) (l : Line) (c : Command) (p : Ends) → Settling p.x → Sound a b p
       → Stays p (answers (faulted f (faulted (line_fault l) (command_row a c p.x))) p)
   commanded_by (Some z) l c p s h = record { x = s; other = refl }
   commanded_by None Down c p s h = record { x = s; other = refl }
@@ -418,7 +418,7 @@ module _ (a b : Signer) (keys : ArePartners a b) where
             x.ledger.undecided s.rests;
       }))
 
-  lost_by : (down : Bool) (p : Ends) → Settling p.x → Holds a b p
+  lost_by : (down : Bool) (p : Ends) → Settling p.x → Sound a b p
       → Stays p (cond down p (record p { x_line = Down; x = end_dropped p.x; to_x = [] }))
   lost_by true p s h = record { x = s; other = refl }
   lost_by false p s h =
@@ -429,7 +429,7 @@ module _ (a b : Signer) (keys : ArePartners a b) where
   cut_by true n p s = record { x = s; other = refl }
   cut_by false n p s = record { x = s; other = refl }
 
-  acts_settling : (act : Act) (p : Ends) → Named p.x → Settling p.x → Holds a b p → Stays p (acts a act p)
+  acts_settling : (act : Act) (p : Ends) → Named p.x → Settling p.x → Sound a b p → Stays p (acts a act p)
   acts_settling Deliver p named s h =
       let is = h.in_x in
       subst (λ ms. Stays p (delivers a ms p)) (sym is)
@@ -452,7 +452,7 @@ record Both (p : Ends) : Type 0 where
 swapped : (p : Ends) → Both p → Both (turned p)
 swapped p k = record { x = k.y; y = k.x; x_named = k.y_named; y_named = k.x_named }
 
-acted : (a b : Signer) → ArePartners a b → (act : Act) (p : Ends) → Both p → Holds a b p → Both (acts a act p)
+acted : (a b : Signer) → ArePartners a b → (act : Act) (p : Ends) → Both p → Sound a b p → Both (acts a act p)
 acted a b keys act p k h =
     let m = acts_settling a b keys act p k.x_named k.x h in
     let t = acts_told a b keys Funder p.x.dance.log.opening act p h in
@@ -463,7 +463,7 @@ acted a b keys act p k h =
       y_named = subst Named (sym m.other) k.y_named;
     }
 
-stepped : (a b : Signer) → ArePartners a b → (s : Step) (p : Ends) → Both p → Holds a b p → Both (happens a b s p)
+stepped : (a b : Signer) → ArePartners a b → (s : Step) (p : Ends) → Both p → Sound a b p → Both (happens a b s p)
 stepped a b keys (By Funder act) p k h = acted a b keys act p k h
 stepped a b keys (By Fundee act) p k h = swapped (acts b act (turned p))
     (acted b a (flipped_keys a b keys) act (turned p) (swapped p k) (flipped a b p h))
@@ -476,7 +476,7 @@ stepped a b keys Connect p k h = by p.x_line p.y_line
     by Awaiting l = k
     by Met l = k
 
-all_stepped : (a b : Signer) → ArePartners a b → (ss : List Step) (p : Ends) → Both p → Holds a b p
+all_stepped : (a b : Signer) → ArePartners a b → (ss : List Step) (p : Ends) → Both p → Sound a b p
     → Both (run a b ss p)
 all_stepped a b keys [] p k h = k
 all_stepped a b keys (s ∷ ss) p k h =

@@ -29,10 +29,10 @@ use Rattle.ln_pair.specs.Promises.{IsTaken, AreSent}
 use Rattle.ln_pair.proofs.Tests.{both_true}
 use Rattle.ln_pair.proofs.Flight.Sides.{Notice, Close, Side}
 use Rattle.ln_pair.proofs.Flight.Walk.{AllFit, Phase, Idle, Sent, Answered, LacksNothing, Flows}
-use Rattle.ln_pair.proofs.Marks.MarksInFlight.{NoneOpens, Told}
+use Rattle.ln_pair.proofs.Marks.MarksInFlight.{NoneOpens, MarksFlow}
 use Rattle.ln_pair.proofs.Flight.WalkOverActs.{fit-behind, signed_is, number_is}
 use Rattle.ln_pair.proofs.Closing.NothingMoves.{HasBegun, Ending, no_removal, covers_all}
-use Rattle.ln_pair.proofs.Closing.ClosingInFlight.{IsOffer, Due}
+use Rattle.ln_pair.proofs.Closing.ClosingInFlight.{IsOffer, ClosesFlow}
 use Rattle.ln_pair.proofs.Fees.FairAnswers.{IsFair, fair}
 use Rattle.ln_pair.proofs.Flight.Images.{side_of, length-sent}
 use Rattle.ln_pair.proofs.Ends.Acts.{Hold}
@@ -51,7 +51,7 @@ acked_is s a c am sm current e (Sent e1 e2 e3 e4) = (e3, e4)
 acked_is s a c am sm current e (Answered e1 e2 e3 e4) = absurd (omega (arith, e, e1, e2))
 
 both_begun : (lx ly : Line) (x y : Side) (ms ns : List Notice) → Flows lx ly x y ms → Flows ly lx y x ns
-    → Told ly lx y x ns → HasBegun x → LacksNothing x.own x.current.peer x.signatures x.number y.got y.acked.own
+    → MarksFlow ly lx y x ns → HasBegun x → LacksNothing x.own x.current.peer x.signatures x.number y.got y.acked.own
     y.number y.revocations → y.peer_shut ≡ true → HasBegun y
 both_begun lx ly x y ms ns f g t b l peer =
     let w = f.within in
@@ -92,8 +92,8 @@ both_begun lx ly x y ms ns f g t b l peer =
 -- ---- who takes a closing_signed has begun
 
 taker_begun : (lx ly : Line) (k : Signer) (f : Fees) (x y : Side) (m : ClosingSigned) (ms ns : List Notice)
-    → Flows lx ly x y ms → Flows ly lx y x (Close m ∷ ns) → Told lx ly x y ms → Ending y x
-    → Due k f y x (Close m ∷ ns) → HasBegun x
+    → Flows lx ly x y ms → Flows ly lx y x (Close m ∷ ns) → MarksFlow lx ly x y ms → Ending y x
+    → ClosesFlow k f y x (Close m ∷ ns) → HasBegun x
 taker_begun lx ly k f x y m ms ns there back told ended due =
     let at = due.0 in
     let b = ended.begun at.bid in

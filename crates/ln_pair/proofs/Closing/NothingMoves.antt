@@ -22,10 +22,10 @@ use Rattle.ln_channel.specs.declared.unsaved.Line.TheVariants.{Down, Awaiting, M
 use Rattle.ln_pair.proofs.Flight.Sides.{opens, has_bid, Notice, Update, Sign, Revoke, Ready, Shutdown, Close, Again}
 use Rattle.ln_pair.proofs.Flight.Sides.{Side}
 use Rattle.ln_pair.proofs.Flight.Sides.{dropped}
-use Rattle.ln_pair.proofs.Flight.Walk.{Fits, Phase, Idle, Sent, Answered, Sender, sender, IsDue, IsNext, Reads}
+use Rattle.ln_pair.proofs.Flight.Walk.{FitsBehind, Phase, Idle, Sent, Answered, Sender, sender, IsDue, IsNext, Reads}
 use Rattle.ln_pair.proofs.Flight.Walk.{LacksNothing}
 use Rattle.ln_pair.proofs.Flight.Walk.{Anywhere, holds, IsWithin, Flows}
-use Rattle.ln_pair.proofs.Marks.MarksInFlight.{IsAllowed, Teller, Tells, ToldAll, ToldAny, teller, Told}
+use Rattle.ln_pair.proofs.Marks.MarksInFlight.{IsAllowed, MarksOf, ReadsMarks, AllMarks, AnyMarks, marks_of, MarksFlow}
 use Rattle.ln_pair.proofs.Flight.WalkOverActs.{unaccepted, revoked_for, number_is}
 use Rattle.ln_pair.proofs.Marks.MarksOverActs.{IsStill, allowed_own}
 
@@ -107,15 +107,15 @@ removes_none o r own seen held (update.Malformed a) e f h =
     let d : true ≡ false = ap is_live (sym n.1) ∙ gone a.id held own e n.0 in absurd (cc)
 
 pub no_removal : (o : Opening) (r : Role) (own seen held : List Change) (u : Change) → live_adds held own ≡ []
-    → opens u ≡ false → Fits o r own seen held u → ⊥
+    → opens u ≡ false → FitsBehind o r own seen held u → ⊥
 no_removal o r own seen held u e f h = removes_none o r own seen held u e f h.within
 
 -- ---- what is in flight to an end that has begun
 
-still_by : (w : Sender) (t : Teller) (own held : List Change) (all : ℕ) (Q : List Change → ℕ → ℕ → ℕ → Type 0) (P : Bool
-    → Bool → Type 0) (got : List Change) (a c r : ℕ) (q : Bool) (ms : List Notice) → live_adds held got ≡ []
+still_by : (w : Sender) (t : MarksOf) (own held : List Change) (all : ℕ) (Q : List Change → ℕ → ℕ → ℕ → Type 0)
+    (P : Bool → Bool → Type 0) (got : List Change) (a c r : ℕ) (q : Bool) (ms : List Notice) → live_adds held got ≡ []
     → ((k : CommitmentSigned) → IsDue w got a c k → ⊥) → ((k : RevokeAndAck) → IsNext w c r k → ⊥)
-    → Reads w own held all Q got a c r ms → Tells t P q true ms → IsStill ms
+    → Reads w own held all Q got a c r ms → ReadsMarks t P q true ms → IsStill ms
 still_by w t own held all Q P got a c r q [] le due next h k = tt
 still_by w t own held all Q P got a c r q (Update u ∷ ms) le due next h k =
     no_removal w.opening w.role got (take a own) held u le (allowed_own (opens u) true k.2 refl) h.0
@@ -151,23 +151,23 @@ held_none x b = subst (λ us. live_adds us x.got ≡ [])
     (sym (take_all x.current.own x.own (omega (arith, b.own_current)))) b.none_own
 
 pub still : (ly : Line) (x y : Side) (ns ms : List Notice) → Flows Met ly x y ns → Flows ly Met y x ms
-    → Told ly Met y x ms → Ending x y → Ending y x → HasBegun x → IsStill ms
+    → MarksFlow ly Met y x ms → Ending x y → Ending y x → HasBegun x → IsStill ms
 still Down x y ns ms f g t d e b =
-    still_by (sender y) (teller y x) x.own (holds x) x.signed.own Anywhere ToldAny x.got x.acked.own x.number
+    still_by (sender y) (marks_of y x) x.own (holds x) x.signed.own Anywhere AnyMarks x.got x.acked.own x.number
     x.revocations x.peer_ready ms (held_none x b) (not_due Met Down x y ms g e b)
     (not_next Met Down x y ns f d b) g.flight
-    (subst (λ s. Tells (teller y x) ToldAny x.peer_ready s ms) b.shut_taken t.speech)
+    (subst (λ s. ReadsMarks (marks_of y x) AnyMarks x.peer_ready s ms) b.shut_taken t.flight)
 still Awaiting x y ns ms f g t d e b = subst IsStill (sym g.flight.0) tt
 still Met x y ns ms f g t d e b =
-    still_by (sender y) (teller y x) x.own (holds x) x.signed.own
-    (LacksNothing y.own y.current.peer y.signatures y.number) (ToldAll y.ready y.shut x.closed) x.got x.acked.own
+    still_by (sender y) (marks_of y x) x.own (holds x) x.signed.own
+    (LacksNothing y.own y.current.peer y.signatures y.number) (AllMarks y.ready y.shut x.closed) x.got x.acked.own
     x.number x.revocations x.peer_ready ms (held_none x b) (not_due Met Met x y ms g e b)
     (not_next Met Met x y ns f d b) g.flight
-    (subst (λ s. Tells (teller y x) (ToldAll y.ready y.shut x.closed) x.peer_ready s ms) b.shut_taken t.speech)
+    (subst (λ s. ReadsMarks (marks_of y x) (AllMarks y.ready y.shut x.closed) x.peer_ready s ms) b.shut_taken t.flight)
 
 -- an end that has begun can't propose
 pub no_proposal : (x : Side) (u : Change) → HasBegun x
-    → Fits x.opening x.role x.own (take x.current.peer x.got) (take x.acked.peer x.got) u
+    → FitsBehind x.opening x.role x.own (take x.current.peer x.got) (take x.acked.peer x.got) u
     → IsAllowed (opens u) x.shut → ⊥
 no_proposal x u b h may =
     no_removal x.opening x.role x.own (take x.current.peer x.got) (take x.acked.peer x.got) u

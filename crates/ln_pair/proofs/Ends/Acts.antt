@@ -43,24 +43,25 @@ use Rattle.ln_pair.proofs.Closing.NothingMoves.{HasBegun, Ending, covers_all, no
 use Rattle.ln_pair.proofs.Closing.NothingMoves.{still, no_proposal}
 use Rattle.ln_pair.proofs.Closing.ClosingInFlight.{SignsAll, Closer, closer, Closes, NoCloses, closes-posts}
 use Rattle.ln_pair.proofs.Closing.ClosingInFlight.{closes-unsent, one_less}
-use Rattle.ln_pair.proofs.Closing.ClosingInFlight.{dealt_closes, Due}
+use Rattle.ln_pair.proofs.Closing.ClosingInFlight.{dealt_closes, ClosesFlow}
 use Rattle.ln_pair.proofs.Flight.WalkOverActs.{kept_close, kept_skipped, kept_dealt}
-use Rattle.ln_pair.proofs.Marks.MarksOverActs.{IsStill, told_close, told_skipped, told_dealt}
+use Rattle.ln_pair.proofs.Marks.MarksOverActs.{IsStill, marks_close, marks_skipped, marks_dealt}
 use Rattle.ln_pair.proofs.Flight.Sides.{Close, closes_of, dealt, has_bid}
 use Rattle.ln_pair.proofs.Flight.Sides.{Both, Notice, Update, Sign, Revoke, Ready, Shutdown, Side, posts, opens}
 use Rattle.ln_pair.proofs.Flight.Sides.{received}
 use Rattle.ln_pair.proofs.Flight.Sides.{proposed, signed_all, accepted_all, acknowledged_all}
 use Rattle.ln_pair.proofs.Flight.Walk.{Phase, Idle, Sent, Answered, holds, sender, Reads, LacksNothing, Anywhere}
 use Rattle.ln_pair.proofs.Flight.Walk.{Carries}
-use Rattle.ln_pair.proofs.Flight.Walk.{Kept}
+use Rattle.ln_pair.proofs.Flight.Walk.{BothFlow}
 use Rattle.ln_pair.proofs.Flight.Reading.{reads-to}
-use Rattle.ln_pair.proofs.Marks.MarksInFlight.{IsAllowed, Tells, ToldAll, ToldAny, teller, Speaks, BothTold}
+use Rattle.ln_pair.proofs.Marks.MarksInFlight.{IsAllowed, ReadsMarks, AllMarks, AnyMarks, marks_of, CarriesMarks}
+use Rattle.ln_pair.proofs.Marks.MarksInFlight.{BothMarks}
 use Rattle.ln_pair.proofs.Flight.WalkOverActs.{revoked_for, carries_first, kept_proposed, kept_signed, kept_update}
 use Rattle.ln_pair.proofs.Flight.WalkOverActs.{kept_sign}
 use Rattle.ln_pair.proofs.Flight.WalkOverActs.{kept_revoke, kept_ready, kept_shutdown, kept_confirmed, kept_shut}
-use Rattle.ln_pair.proofs.Marks.MarksOverActs.{tells-any, told_proposed, told_signed, told_update, told_sign}
-use Rattle.ln_pair.proofs.Marks.MarksOverActs.{told_revoke}
-use Rattle.ln_pair.proofs.Marks.MarksOverActs.{told_ready, told_shutdown, told_confirmed, told_shut, allowed_own}
+use Rattle.ln_pair.proofs.Marks.MarksOverActs.{marks-any, marks_proposed, marks_signed, marks_update, marks_sign}
+use Rattle.ln_pair.proofs.Marks.MarksOverActs.{marks_revoke}
+use Rattle.ln_pair.proofs.Marks.MarksOverActs.{marks_ready, marks_shutdown, marks_confirmed, marks_shut, allowed_own}
 use Rattle.ln_pair.proofs.Flight.Images.{side_of, length-sent, proposes_so, takes_so, signs_so, accepts_so}
 use Rattle.ln_pair.proofs.Flight.DueRows.{proposal_fits, IsTold, revoked_so, next_told}
 
@@ -123,12 +124,12 @@ both lx ly x y to_x to_y = record { x_link = lx; y_link = ly; x = x; y = y; to_x
 
 pub record Hold (a b : Signer) (channel : List ℕ) (lx ly : Line) (x y : End) (to_x to_y : List Notice)
     (said_x said_y : List Message) : Type 0 where
-  pub kept : Kept (both lx ly (side_of a x) (side_of b y) to_x to_y)
-  pub told : BothTold (both lx ly (side_of a x) (side_of b y) to_x to_y)
+  pub kept : BothFlow (both lx ly (side_of a x) (side_of b y) to_x to_y)
+  pub told : BothMarks (both lx ly (side_of a x) (side_of b y) to_x to_y)
   pub ended : Ending (side_of a x) (side_of b y)
   pub ended_back : Ending (side_of b y) (side_of a x)
-  pub closes : Due a x.closing.fees (side_of a x) (side_of b y) to_y
-  pub closes_back : Due b y.closing.fees (side_of b y) (side_of a x) to_x
+  pub closes : ClosesFlow a x.closing.fees (side_of a x) (side_of b y) to_y
+  pub closes_back : ClosesFlow b y.closing.fees (side_of b y) (side_of a x) to_x
   pub x_signs : SignsAll a x.closing.fees (side_of a x).close_message
   pub y_signs : SignsAll b y.closing.fees (side_of b y).close_message
   pub x_channel : x.dance.channel ≡ channel
@@ -288,11 +289,12 @@ front_reads Met x y n ns h = reads-to (sender y) x.own (holds x) x.signed.own
     (LacksNothing y.own y.current.peer y.signatures y.number) Anywhere x.got x.acked.own x.number x.revocations
     (n ∷ ns) (λ g b d s l. tt) h
 
-pub front_told : (ly : Line) (x y : Side) (n : Notice) (ns : List Notice) → Speaks ly y x (n ∷ ns)
-    → Tells (teller y x) ToldAny x.peer_ready x.peer_shut (n ∷ ns)
+pub front_told : (ly : Line) (x y : Side) (n : Notice) (ns : List Notice) → CarriesMarks ly y x (n ∷ ns)
+    → ReadsMarks (marks_of y x) AnyMarks x.peer_ready x.peer_shut (n ∷ ns)
 front_told Down x y n ns h = h
 front_told Awaiting x y n ns h = absurd (cc)
-front_told Met x y n ns h = tells-any (teller y x) (ToldAll y.ready y.shut x.closed) x.peer_ready x.peer_shut (n ∷ ns) h
+front_told Met x y n ns h = marks-any (marks_of y x) (AllMarks y.ready y.shut x.closed) x.peer_ready x.peer_shut
+    (n ∷ ns) h
 
 unsigned : (q s : Bool) → cond q (cond s (Some refusal.NothingToSign) None) (Some refusal.SignatureOutstanding) ≡ None
     → (q ≡ true) × (s ≡ false)
@@ -311,20 +313,20 @@ module _ (a b : Signer) (keys : ArePartners a b) (channel : List ℕ) (ly : Line
   -- where x has become n, whose image is this
   moved : (n : End) (side : Side) (to_x to_y rest sent : List Notice) (said : List Message) → side_of a n ≡ side
       → Hold a b channel Met ly x y to_x to_y said_x said_y
-      → n.closing.fees ≡ x.closing.fees → Due a x.closing.fees side (side_of b y) sent
-      → Due b y.closing.fees (side_of b y) side rest → SignsAll a x.closing.fees side.close_message
-      → Kept (both Met ly side (side_of b y) rest sent) → BothTold (both Met ly side (side_of b y) rest sent)
+      → n.closing.fees ≡ x.closing.fees → ClosesFlow a x.closing.fees side (side_of b y) sent
+      → ClosesFlow b y.closing.fees (side_of b y) side rest → SignsAll a x.closing.fees side.close_message
+      → BothFlow (both Met ly side (side_of b y) rest sent) → BothMarks (both Met ly side (side_of b y) rest sent)
       → Ending side (side_of b y) → Ending (side_of b y) side
       → n.dance.channel ≡ x.dance.channel → Knows b n y → Knows a y n → Said n.closing.shut said
       → Hold a b channel Met ly n y rest sent said said_y
   moved n side to_x to_y rest sent said e h fs cl clb sg k t d db c kn kp s = record {
-    kept = subst (λ z. Kept (both Met ly z (side_of b y) rest sent)) (sym e) k;
-    told = subst (λ z. BothTold (both Met ly z (side_of b y) rest sent)) (sym e) t;
+    kept = subst (λ z. BothFlow (both Met ly z (side_of b y) rest sent)) (sym e) k;
+    told = subst (λ z. BothMarks (both Met ly z (side_of b y) rest sent)) (sym e) t;
     ended = subst (λ z. Ending z (side_of b y)) (sym e) d;
     ended_back = subst (λ z. Ending (side_of b y) z) (sym e) db;
-    closes = subst (λ f. Due a f (side_of a n) (side_of b y) sent) (sym fs)
-        (subst (λ z. Due a x.closing.fees z (side_of b y) sent) (sym e) cl);
-    closes_back = subst (λ z. Due b y.closing.fees (side_of b y) z rest) (sym e) clb;
+    closes = subst (λ f. ClosesFlow a f (side_of a n) (side_of b y) sent) (sym fs)
+        (subst (λ z. ClosesFlow a x.closing.fees z (side_of b y) sent) (sym e) cl);
+    closes_back = subst (λ z. ClosesFlow b y.closing.fees (side_of b y) z rest) (sym e) clb;
     x_signs = subst (λ f. SignsAll a f (side_of a n).close_message) (sym fs)
         (subst (λ (z : Side). SignsAll a x.closing.fees z.close_message) (sym e) sg);
     y_signs = h.y_signs;
@@ -368,14 +370,14 @@ module _ (a b : Signer) (keys : ArePartners a b) (channel : List ℕ) (ly : Line
   not_bid none e false q = q
 
   -- x sends no closing_signed
-  posted_due : (new to_y : List Notice) → NoCloses new → Due a x.closing.fees (side_of a x) (side_of b y) to_y
-      → Due a x.closing.fees (side_of a x) (side_of b y) (posts ly new to_y)
+  posted_due : (new to_y : List Notice) → NoCloses new → ClosesFlow a x.closing.fees (side_of a x) (side_of b y) to_y
+      → ClosesFlow a x.closing.fees (side_of a x) (side_of b y) (posts ly new to_y)
   posted_due new to_y n h = closes-posts a x.closing.fees ly (closer x_side) y_side.revocations y_side.peer_shut
       (length y_side.got) new to_y n h
 
   -- nor has it sent one
   moved_due : (v : Closer) (new to_y : List Notice) → NoCloses new → has_bid (side_of a x) ≡ false
-      → Due a x.closing.fees (side_of a x) (side_of b y) to_y
+      → ClosesFlow a x.closing.fees (side_of a x) (side_of b y) to_y
       → Closes a x.closing.fees v y_side.revocations y_side.peer_shut (length y_side.got) (posts ly new to_y)
   moved_due v new to_y n e h = closes-posts a x.closing.fees ly v y_side.revocations y_side.peer_shut
       (length y_side.got) new to_y n (closes-unsent a x.closing.fees (closer x_side) v y_side.revocations
@@ -390,7 +392,7 @@ module _ (a b : Signer) (keys : ArePartners a b) (channel : List ℕ) (ly : Line
       let l = x.dance.log in
       let f = h.kept.there in
       let fits = (front_reads ly x_side y_side (Update u) ns h.kept.back.flight).0 in
-      let allowed = (front_told ly x_side y_side (Update u) ns h.told.back.speech).2 in
+      let allowed = (front_told ly x_side y_side (Update u) ns h.told.back.flight).2 in
       let none : HasBegun x_side → ⊥ = λ q. no_removal y_side.opening y_side.role x_side.got
       (take x_side.acked.own x_side.own) (holds x_side) u (held_none x_side q)
       (allowed_own (opens u) x_side.peer_shut allowed q.shut_taken) fits in
@@ -400,7 +402,7 @@ module _ (a b : Signer) (keys : ArePartners a b) (channel : List ℕ) (ly : Line
       refl h.closes (one_less b y.closing.fees (closer y_side) x_side.revocations x_side.peer_shut x_side.got u ns
       h.closes_back) h.x_signs
       (kept_update ly (side_of a x) (side_of b y) u ns to_y h.kept)
-      (told_update ly (side_of a x) (side_of b y) u ns to_y h.told)
+      (marks_update ly (side_of a x) (side_of b y) u ns to_y h.told)
       (unmoved (received u x_side) none h.ended.news refl refl h.ended)
       (back_same (received u x_side) refl h.ended_back)
       refl
@@ -436,7 +438,7 @@ module _ (a b : Signer) (keys : ArePartners a b) (channel : List ℕ) (ly : Line
       refl (moved_due (closer (accepted_all z (reestablish_message a (accepts x).dance) x_side)) (Revoke z ∷ []) to_y tt
       (not_bid none h.ended (has_bid x_side) refl) h.closes) h.closes_back h.x_signs
       (kept_sign ly z (reestablish_message a (accepts x).dance) x_side y_side m ns to_y h.kept)
-      (told_sign ly z (reestablish_message a (accepts x).dance) x_side y_side m ns to_y h.told)
+      (marks_sign ly z (reestablish_message a (accepts x).dance) x_side y_side m ns to_y h.told)
       (unmoved (accepted_all z (reestablish_message a (accepts x).dance) x_side) none h.ended.news refl refl h.ended)
       (back_same (accepted_all z (reestablish_message a (accepts x).dance) x_side) refl h.ended_back)
       refl
@@ -483,7 +485,7 @@ module _ (a b : Signer) (keys : ArePartners a b) (channel : List ℕ) (ly : Line
       to_y ns to_y said_x refl h
       refl h.closes h.closes_back h.x_signs
       (kept_revoke ly z (reestablish_message a (revokes m x).dance) x_side y_side m ns to_y h.kept)
-      (told_revoke ly z (reestablish_message a (revokes m x).dance) x_side y_side m ns to_y
+      (marks_revoke ly z (reestablish_message a (revokes m x).dance) x_side y_side m ns to_y
       h.kept.there.within.own_acked h.told)
       (unmoved (acknowledged_all z (reestablish_message a (revokes m x).dance) x_side) none
       (λ e f g. absurd (omega (arith, e, one))) refl refl h.ended)
@@ -528,7 +530,7 @@ module _ (a b : Signer) (keys : ArePartners a b) (channel : List ℕ) (ly : Line
       let first : x.dance.numbers.revoked + 1 ≡ 1 = omega (arith, zero_signed, within) in
       let goes : takes_ready m x ≡ n = ap (λ (r : Bool). cond (r || is_closed x) x n) e
       ∙ ap (λ (r : Bool). cond r x n) unclosed in
-      let told : m ≡ ready_message b y = (front_told ly x_side y_side (Ready m) ns h.told.back.speech).1 in
+      let told : m ≡ ready_message b y = (front_told ly x_side y_side (Ready m) ns h.told.back.flight).1 in
       subst (λ q. Hold a b channel Met ly q y ns to_y said_x said_y) (sym goes)
       (moved n (record x_side { peer_ready = true; signature = signature_again a n.dance }) (Ready m ∷ ns)
       to_y ns to_y said_x refl h
@@ -536,7 +538,7 @@ module _ (a b : Signer) (keys : ArePartners a b) (channel : List ℕ) (ly : Line
       (kept_ready ly m (signature_again a n.dance) x_side y_side ns to_y
       (λ os k. carries_first (signature_again a n.dance) x_side y_side os
       (none_signed x.dance.numbers.signed y_side.number none) k) h.kept)
-      (told_ready ly m (signature_again a n.dance) x_side y_side ns to_y h.told)
+      (marks_ready ly m (signature_again a n.dance) x_side y_side ns to_y h.told)
       (record { news = h.ended.news; begun = h.ended.begun; closed = h.ended.closed; answered = h.ended.answered })
       (record {
         news = h.ended_back.news;
@@ -570,7 +572,7 @@ module _ (a b : Signer) (keys : ArePartners a b) (channel : List ℕ) (ly : Line
       h.told.back h.ended h.ended_back (h.ended.closed is) in
       record {
         kept = kept_skipped ly m x_side y_side ns to_y h.kept;
-        told = told_skipped ly m x_side y_side ns to_y is nothing h.told;
+        told = marks_skipped ly m x_side y_side ns to_y is nothing h.told;
         ended = h.ended;
         ended_back = h.ended_back;
         closes = h.closes;
@@ -624,7 +626,7 @@ module _ (a b : Signer) (keys : ArePartners a b) (channel : List ℕ) (ly : Line
       (ap (λ r. record x_side { peer_ready = r }) e) h
       refl h.closes h.closes_back h.x_signs
       (kept_ready ly m x_side.signature x_side y_side ns to_y (λ os k. k) h.kept)
-      (told_ready ly m x_side.signature x_side y_side ns to_y h.told)
+      (marks_ready ly m x_side.signature x_side y_side ns to_y h.told)
       (record { news = h.ended.news; begun = h.ended.begun; closed = h.ended.closed; answered = h.ended.answered })
       (record {
         news = h.ended_back.news;
@@ -672,7 +674,7 @@ module _ (a b : Signer) (keys : ArePartners a b) (channel : List ℕ) (ly : Line
       (ap (λ r. record x_side { peer_shut = r }) e) h
       refl h.closes h.closes_back h.x_signs
       (kept_shutdown ly m x_side y_side ns to_y h.kept)
-      (told_shutdown ly m x_side y_side ns to_y h.told)
+      (marks_shutdown ly m x_side y_side ns to_y h.told)
       (shut_ended h.ended) (record {
         news = h.ended_back.news;
         begun = h.ended_back.begun;
@@ -685,11 +687,11 @@ module _ (a b : Signer) (keys : ArePartners a b) (channel : List ℕ) (ly : Line
       → Hold a b channel Met ly x y (Shutdown m ∷ ns) to_y said_x said_y
       → Hold a b channel Met ly (shuts_by_peer m x) y ns to_y said_x said_y
   took_shutdown m ns to_y h =
-      let told : m ≡ shutdown_message y = (front_told ly x_side y_side (Shutdown m) ns h.told.back.speech).1 in
+      let told : m ≡ shutdown_message y = (front_told ly x_side y_side (Shutdown m) ns h.told.back.flight).1 in
       moved (shuts_by_peer m x) (record x_side { peer_shut = true }) (Shutdown m ∷ ns) to_y ns to_y said_x refl h
       refl h.closes h.closes_back h.x_signs
       (kept_shutdown ly m x_side y_side ns to_y h.kept)
-      (told_shutdown ly m x_side y_side ns to_y h.told)
+      (marks_shutdown ly m x_side y_side ns to_y h.told)
       (shut_ended h.ended) (record {
         news = h.ended_back.news;
         begun = h.ended_back.begun;
@@ -724,7 +726,7 @@ module _ (a b : Signer) (keys : ArePartners a b) (channel : List ℕ) (ly : Line
       (said_x ++ message.ChannelReady (ready_message a x) ∷ []) refl h
       refl (posted_due (Ready (ready_message a x) ∷ []) to_y tt h.closes) h.closes_back h.x_signs
       (kept_confirmed ly x_side y_side to_x to_y h.kept)
-      (told_confirmed ly x_side y_side to_x to_y h.told)
+      (marks_confirmed ly x_side y_side to_x to_y h.told)
       (record { news = h.ended.news; begun = h.ended.begun; closed = h.ended.closed; answered = h.ended.answered })
       (record {
         news = h.ended_back.news;
@@ -768,7 +770,7 @@ module _ (a b : Signer) (keys : ArePartners a b) (channel : List ℕ) (ly : Line
       (omega (arith, w.own_signed, length-sent x.dance.log.own))) h
       refl (posted_due (Update (as_sent u) ∷ []) to_y tt h.closes) h.closes_back h.x_signs
       (kept_proposed ly x_side y_side (as_sent u) to_x to_y fits h.kept)
-      (told_proposed ly x_side y_side (as_sent u) to_x to_y (not_closed nobegun h.ended y_side.closed refl)
+      (marks_proposed ly x_side y_side (as_sent u) to_x to_y (not_closed nobegun h.ended y_side.closed refl)
       (omega (arith, w.own_acked, w.own_signed))
       (record { sent = ready.0; taken = ready.1 }) (still_open x u r.1) h.told)
       (unmoved (proposed (as_sent u) x_side) nobegun h.ended.news refl refl h.ended)
@@ -824,7 +826,7 @@ module _ (a b : Signer) (keys : ArePartners a b) (channel : List ℕ) (ly : Line
       refl (moved_due (closer (signed_all z x_side)) (Sign z ∷ []) to_y tt
       (not_bid nobegun h.ended (has_bid x_side) refl) h.closes) h.closes_back h.x_signs
       (kept_signed ly z x_side y_side to_x to_y equal h.kept)
-      (told_signed ly z x_side y_side to_x to_y (not_closed nobegun h.ended y_side.closed refl)
+      (marks_signed ly z x_side y_side to_x to_y (not_closed nobegun h.ended y_side.closed refl)
       (record { sent = ready.0; taken = ready.1 }) h.told)
       (unmoved (signed_all z x_side) nobegun (λ e f g. new (sym acked_own ∙ f) (sym acked_peer ∙ g)) refl refl h.ended)
       (back_same (signed_all z x_side) refl h.ended_back)
@@ -881,7 +883,8 @@ module _ (a b : Signer) (keys : ArePartners a b) (channel : List ℕ) (ly : Line
       (said_x ++ message.Shutdown z ∷ []) is h
       fs (posted_due (Shutdown z ∷ []) to_y tt h.closes) h.closes_back h.x_signs
       (kept_shut ly z x_side y_side to_x to_y h.kept)
-      (told_shut ly z x_side y_side to_x to_y unshut (eqb-true x.dance.log.acknowledged.own (length x.dance.log.own) all
+      (marks_shut ly z x_side y_side to_x to_y unshut
+      (eqb-true x.dance.log.acknowledged.own (length x.dance.log.own) all
       ∙ sym (length-sent x.dance.log.own)) h.told)
       (own_shut h.ended) (record {
         news = h.ended_back.news;
@@ -956,9 +959,9 @@ module _ (a b : Signer) (keys : ArePartners a b) (channel : List ℕ) (ly : Line
   dealt_so n m c sent out to_x to_y is same fs sg sig kn kp shut begun cl bd st an said h =
       moved n (dealt m c x_side) to_x to_y to_x (posts ly (closes_of sent) to_y) (said_x ++ out) is h
       fs (dealt_closes a x.closing.fees ly x_side y_side m c sent to_y begun h.kept.there.within h.kept.there.flight
-      h.told.there.speech bd st sig h.closes) h.closes_back sg
+      h.told.there.flight bd st sig h.closes) h.closes_back sg
       (kept_dealt ly m c sent x_side y_side to_x to_y h.kept)
-      (told_dealt ly m c sent x_side y_side to_x to_y cl bd st h.told)
+      (marks_dealt ly m c sent x_side y_side to_x to_y cl bd st h.told)
       (record { news = h.ended.news; begun = λ q. begun; closed = λ q. begun; answered = λ q. bd (h.ended.answered q) })
       (record { news = h.ended_back.news; begun = h.ended_back.begun; closed = h.ended_back.closed; answered = an })
       same kn kp (subst (λ s. Said s (said_x ++ out)) (sym shut) said)
@@ -969,7 +972,7 @@ module _ (a b : Signer) (keys : ArePartners a b) (channel : List ℕ) (ly : Line
       → Hold a b channel Met ly x y ns to_y said_x said_y
   passed_close m ns to_y h = record {
     kept = kept_close ly m x_side y_side ns to_y h.kept;
-    told = told_close ly m x_side y_side ns to_y h.told;
+    told = marks_close ly m x_side y_side ns to_y h.told;
     ended = h.ended;
     ended_back = h.ended_back;
     closes = h.closes;

@@ -17,13 +17,13 @@ use Rattle.ln_channel.specs.Resume.{sent_again, resumed, resume_row}
 use Rattle.ln_pair.specs.Ends.{messages_in}
 use Rattle.ln_pair.proofs.Tests.{unless_none}
 use Rattle.ln_pair.proofs.Flight.Sides.{Notice, Again, posts, all_owed}
-use Rattle.ln_pair.proofs.Flight.Walk.{Phase, Idle, Sent, Answered, Kept}
-use Rattle.ln_pair.proofs.Marks.MarksInFlight.{BothTold}
+use Rattle.ln_pair.proofs.Flight.Walk.{Phase, Idle, Sent, Answered, BothFlow}
+use Rattle.ln_pair.proofs.Marks.MarksInFlight.{BothMarks}
 use Rattle.ln_pair.proofs.Closing.NothingMoves.{Ending, none_owed, begun_dropped}
 use Rattle.ln_pair.proofs.Closing.ClosingInFlight.{again_closes}
 use Rattle.ln_pair.proofs.Flight.WalkOverBreaks.{kept_again, kept_down, kept_up}
 use Rattle.ln_pair.proofs.Marks.MarksOverActs.{none-take}
-use Rattle.ln_pair.proofs.Marks.MarksOverBreaks.{told_again, told_down, told_up}
+use Rattle.ln_pair.proofs.Marks.MarksOverBreaks.{marks_again, marks_down, marks_up}
 use Rattle.ln_pair.proofs.Flight.Images.{messages_of, side_of, dropped_so}
 use Rattle.ln_pair.proofs.Ends.Acts.{Said, said_more, Knows, both, Hold}
 use Rattle.ln_pair.proofs.Flight.SentAgain.{resends_so, said_again}
@@ -70,13 +70,13 @@ module _ (a b : Signer) (channel : List ℕ) (ly : Line) (x y : End) (to_y : Lis
 
   again_kept : (m : ChannelReestablish) (ns : List Notice)
       → Hold a b channel Awaiting ly x y (Again m ∷ ns) to_y said_x said_y
-      → Kept (both Met ly (side_of a x) (side_of b y) ns (posts ly (lacked m) to_y))
+      → BothFlow (both Met ly (side_of a x) (side_of b y) ns (posts ly (lacked m) to_y))
   again_kept m ns h = kept_again ly (side_of a x) (side_of b y) m ns to_y refl refl h.kept
 
   again_told : (m : ChannelReestablish) (ns : List Notice)
       → Hold a b channel Awaiting ly x y (Again m ∷ ns) to_y said_x said_y
-      → BothTold (both Met ly (side_of a x) (side_of b y) ns (posts ly (lacked m) to_y))
-  again_told m ns h = told_again ly (side_of a x) (side_of b y) m ns to_y
+      → BothMarks (both Met ly (side_of a x) (side_of b y) ns (posts ly (lacked m) to_y))
+  again_told m ns h = marks_again ly (side_of a x) (side_of b y) m ns to_y
       (none_owed Awaiting ly (side_of a x) (side_of b y) to_y h.kept.there h.ended) refl refl h.kept h.told
 
   pub took_again : (m : ChannelReestablish) (ns : List Notice)
@@ -90,7 +90,7 @@ module _ (a b : Signer) (channel : List ℕ) (ly : Line) (x y : End) (to_y : Lis
     closes = again_closes a x.closing.fees ly m.next_commitment_number m.next_revocation_number (side_of a x)
         (side_of b y) to_y h.kept.there.within h.ended.begun h.x_signs h.kept.there.flight
         (again_kept m ns h).there.flight
-        (again_told m ns h).there.speech h.closes;
+        (again_told m ns h).there.flight h.closes;
     closes_back = h.closes_back;
     x_signs = h.x_signs;
     y_signs = h.y_signs;
@@ -114,10 +114,10 @@ lost_so a b channel lx ly x y to_x to_y said_x said_y h =
     let w = h.kept.there.within in
     let is = dropped_so a x w.peer_signed in
     record {
-      kept = subst (λ z. Kept (both Down ly z (side_of b y) [] to_y)) (sym is)
+      kept = subst (λ z. BothFlow (both Down ly z (side_of b y) [] to_y)) (sym is)
           (kept_down (both lx ly (side_of a x) (side_of b y) to_x to_y) h.kept);
-      told = subst (λ z. BothTold (both Down ly z (side_of b y) [] to_y)) (sym is)
-          (told_down (both lx ly (side_of a x) (side_of b y) to_x to_y) w.own_signed h.told);
+      told = subst (λ z. BothMarks (both Down ly z (side_of b y) [] to_y)) (sym is)
+          (marks_down (both lx ly (side_of a x) (side_of b y) to_x to_y) w.own_signed h.told);
       ended = subst (λ z. Ending z (side_of b y)) (sym is)
           (record {
             news = h.ended.news;
@@ -164,12 +164,12 @@ pub joined_so : (a b : Signer) (channel : List ℕ) (x y : End) (to_x to_y : Lis
     (Again (reestablish_message a x.dance) ∷ []) (said_x ++ message.ChannelReestablish (reestablish_message a x.dance)
     ∷ []) (said_y ++ message.ChannelReestablish (reestablish_message b y.dance) ∷ [])
 joined_so a b channel x y to_x to_y said_x said_y h =
-    let empty : Kept (both Down Down (side_of a x) (side_of b y) [] []) =
-    subst (λ ms. Kept (both Down Down (side_of a x) (side_of b y) ms [])) h.kept.back.flight
-    (subst (λ ms. Kept (both Down Down (side_of a x) (side_of b y) to_x ms)) h.kept.there.flight h.kept) in
+    let empty : BothFlow (both Down Down (side_of a x) (side_of b y) [] []) =
+    subst (λ ms. BothFlow (both Down Down (side_of a x) (side_of b y) ms [])) h.kept.back.flight
+    (subst (λ ms. BothFlow (both Down Down (side_of a x) (side_of b y) to_x ms)) h.kept.there.flight h.kept) in
     record {
       kept = kept_up (side_of a x) (side_of b y) empty;
-      told = told_up (side_of a x) (side_of b y) to_x to_y h.told;
+      told = marks_up (side_of a x) (side_of b y) to_x to_y h.told;
       ended = h.ended;
       ended_back = h.ended_back;
       closes = tt;

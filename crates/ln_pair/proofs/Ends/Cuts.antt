@@ -12,10 +12,10 @@ use Rattle.ln_close.specs.declared.closing.Fees.{Fees}
 use Rattle.ln_pair.specs.Ends.{still_come}
 use Rattle.ln_pair.proofs.Flight.Sides.{Side, Notice, Update, Sign, Revoke, Ready, Shutdown, Close, Again}
 use Rattle.ln_pair.proofs.Flight.Walk.{sender, holds, Anywhere, Carries, InFlight}
-use Rattle.ln_pair.proofs.Marks.MarksInFlight.{ToldAny, teller, Speaks, Speech}
+use Rattle.ln_pair.proofs.Marks.MarksInFlight.{AnyMarks, marks_of, CarriesMarks, MarksFlight}
 use Rattle.ln_pair.proofs.Flight.Reading.{reads-front}
-use Rattle.ln_pair.proofs.Marks.MarksOverActs.{tells-front}
-use Rattle.ln_pair.proofs.Closing.ClosingInFlight.{closer, closes-front, Due}
+use Rattle.ln_pair.proofs.Marks.MarksOverActs.{marks-front}
+use Rattle.ln_pair.proofs.Closing.ClosingInFlight.{closer, closes-front, ClosesFlow}
 use Rattle.ln_pair.proofs.Flight.Images.{message_of, messages_of, side_of}
 use Rattle.ln_pair.proofs.Ends.Acts.{Hold}
 
@@ -57,11 +57,11 @@ module _ (n : ℕ) (x y : Side) where
   flight_front Awaiting (Again m ∷ ms) h = (h.0, carries_front ms h.1)
   flight_front Met ms h = carries_front ms h
 
-  speaks_front : (ms : List Notice) → Speaks Down x y ms → Speaks Down x y (take n ms)
-  speaks_front ms h = tells-front (teller x y) ToldAny y.peer_ready y.peer_shut (take n ms) (drop n ms)
-      (subst (Speaks Down x y) (sym (take-append-drop n ms)) h)
+  speaks_front : (ms : List Notice) → CarriesMarks Down x y ms → CarriesMarks Down x y (take n ms)
+  speaks_front ms h = marks-front (marks_of x y) AnyMarks y.peer_ready y.peer_shut (take n ms) (drop n ms)
+      (subst (CarriesMarks Down x y) (sym (take-append-drop n ms)) h)
 
-  speech_front : (l : Line) (ms : List Notice) → Speech Down l x y ms → Speech Down l x y (still_come n l ms)
+  speech_front : (l : Line) (ms : List Notice) → MarksFlight Down l x y ms → MarksFlight Down l x y (still_come n l ms)
   speech_front Down ms h = h
   speech_front Awaiting [] h = absurd h
   speech_front Awaiting (Update u ∷ ms) h = absurd h
@@ -73,11 +73,12 @@ module _ (n : ℕ) (x y : Side) where
   speech_front Awaiting (Again m ∷ ms) h = speaks_front ms h
   speech_front Met ms h = speaks_front ms h
 
-  due_front : (k : Signer) (f : Fees) (l : Line) (ms : List Notice) → Due k f x y ms → Due k f x y (still_come n l ms)
+  due_front : (k : Signer) (f : Fees) (l : Line) (ms : List Notice) → ClosesFlow k f x y ms
+      → ClosesFlow k f x y (still_come n l ms)
   due_front k f l ms h =
       let lost = front n l ms in
       closes-front k f (closer x) y.revocations y.peer_shut (length y.got) (still_come n l ms) lost.0
-      (subst (Due k f x y) (sym lost.1) h)
+      (subst (ClosesFlow k f x y) (sym lost.1) h)
 
 -- x has no connection
 pub cut_so : (a b : Signer) (channel : List ℕ) (n : ℕ) (lx ly : Line) (x y : End) (to_x to_y : List Notice)
@@ -112,7 +113,7 @@ cut_so a b channel n Down ly x y to_x to_y said_x said_y e h =
           used_signature = t.used_signature;
           used_number = t.used_number;
           shut = t.shut;
-          speech = speech_front n (side_of a x) (side_of b y) ly to_y t.speech;
+          flight = speech_front n (side_of a x) (side_of b y) ly to_y t.flight;
         };
         back = h.told.back;
       };

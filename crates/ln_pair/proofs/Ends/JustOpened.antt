@@ -26,10 +26,10 @@ use Rattle.ln_channel.specs.declared.unsaved.Line.TheVariants.{Met}
 use Rattle.ln_pair.proofs.Tests.{was_given}
 use Rattle.ln_pair.proofs.Flight.Walk.{Idle, Flows}
 use Rattle.ln_pair.proofs.Closing.NothingMoves.{Ending}
-use Rattle.ln_pair.proofs.Marks.MarksInFlight.{Told}
+use Rattle.ln_pair.proofs.Marks.MarksInFlight.{MarksFlow}
 use Rattle.ln_pair.proofs.Flight.Images.{side_of}
 use Rattle.ln_pair.proofs.Ends.Acts.{Said, Knows}
-use Rattle.ln_pair.proofs.Ends.Runs.{Holds}
+use Rattle.ln_pair.proofs.Ends.Runs.{Sound}
 
 abbrev first : Role → List ℕ → Fees → Terms → End
 first r c f t = end_of (opened_by r c f t)
@@ -57,7 +57,7 @@ flows k j r q c d f g t u eo er = record {
 }
 
 told : (k j : Signer) (r q : Role) (c d : List ℕ) (f g : Fees) (t u : Terms)
-    → Told Met Met (side_of k (first r c f t)) (side_of j (first q d g u)) []
+    → MarksFlow Met Met (side_of k (first r c f t)) (side_of j (first q d g u)) []
 told k j r q c d f g t u = record {
   ready_sent = λ e. e;
   shut_sent = λ e. e;
@@ -65,7 +65,7 @@ told k j r q c d f g t u = record {
   used_signature = λ e. absurd (omega (arith, e));
   used_number = λ e. absurd (omega (arith, e));
   shut = λ e. tt;
-  speech = (λ e. refl, refl);
+  flight = (λ e. refl, refl);
 }
 
 knows : (k : Signer) (r q : Role) (c d : List ℕ) (f g : Fees) (t u : Terms)
@@ -93,7 +93,7 @@ said = record { adds = tt; told = λ e. e }
 holds_first : (a b : Signer) (c : List ℕ) (f g : Fees) (t u : Terms) → opening_of u ≡ opening_of t
     → t.peer_script ≡ None → u.peer_script ≡ None
     → (first Funder c f t).dance.peer.point ≡ b.point_of 0 → (first Fundee c g u).dance.peer.point ≡ a.point_of 0
-    → Holds a b (opened (opened_by Funder c f t) (opened_by Fundee c g u))
+    → Sound a b (opened (opened_by Funder c f t) (opened_by Fundee c g u))
 holds_first a b c f g t u eo et eu ep eq = record {
   channel = c;
   to_x = [];
@@ -131,7 +131,7 @@ is_funder : (a : Signer) (s : OpenSpec) (m : AcceptChannel) (e : Opened) → fun
 is_funder a s m e is = subst (λ (x : Opened). x ≡ opened_by Funder x.dance.channel x.closing.fees x.terms) is refl
 
 pub opened_holds : (a b : Signer) (s : OpenSpec) (c : Config) (funder fundee : Opened) → Opens a b s c funder fundee
-    → Holds a b (opened funder fundee)
+    → Sound a b (opened funder fundee)
 opened_holds a b s c funder fundee o =
     let ends = are_ends a b s c funder fundee o in
     let agreed : agreement b c (open_message a s) ≡ o.agreement =
@@ -160,8 +160,8 @@ opened_holds a b s c funder fundee o =
     ≡ b.point_of 0 = ap (λ (e : Opened). e.dance.peer.point) (sym x_is) ∙ ends.fundees_point in
     let y_point : (opened_by Fundee funder.dance.channel fundee.closing.fees fundee.terms).dance.peer.point
     ≡ a.point_of 0 = ap (λ (e : Opened). e.dance.peer.point) y_here ∙ ends.funders_point in
-    subst (λ e. Holds a b (opened e fundee)) (sym x_is)
-    (subst (λ e. Holds a b (opened (opened_by Funder funder.dance.channel funder.closing.fees funder.terms) e)) y_here
+    subst (λ e. Sound a b (opened e fundee)) (sym x_is)
+    (subst (λ e. Sound a b (opened (opened_by Funder funder.dance.channel funder.closing.fees funder.terms) e)) y_here
     (holds_first a b funder.dance.channel funder.closing.fees fundee.closing.fees funder.terms fundee.terms same x_none
     y_none x_point y_point))
 

@@ -27,7 +27,7 @@ use Rattle.ln_channel.specs.Resume.{resumed}
 use Rattle.ln_pair.proofs.Tests.{parts}
 use Rattle.ln_pair.proofs.Flight.Sides.{Notice, Update, Sign, Revoke, Ready, Shutdown, Close, Again}
 use Rattle.ln_pair.proofs.Flight.Walk.{Phase, Idle, Sent, Answered, LacksNothing, Flows}
-use Rattle.ln_pair.proofs.Marks.MarksInFlight.{Speech, Told}
+use Rattle.ln_pair.proofs.Marks.MarksInFlight.{MarksFlight, MarksFlow}
 use Rattle.ln_log.specs.Log.{covered, view_for}
 use Rattle.ln_log.proofs.Sent.{turned_views}
 use Rattle.ln_pair.specs.Promises.{worth}
@@ -35,7 +35,7 @@ use Rattle.ln_pair.proofs.Flight.WalkOverActs.{current_own, current_peer, signed
 use Rattle.ln_pair.proofs.Flight.Images.{messages_of, side_of, length-sent, take-sent}
 use Rattle.ln_pair.proofs.Ends.Acts.{Hold}
 use Rattle.ln_pair.proofs.Ends.Turns.{turn_of}
-use Rattle.ln_pair.proofs.Ends.Runs.{Holds, flipped, flipped_keys, met_row, meeting_row, ran}
+use Rattle.ln_pair.proofs.Ends.Runs.{Sound, flipped, flipped_keys, met_row, meeting_row, ran}
 use Rattle.ln_pair.proofs.Ends.JustOpened.{opened_holds}
 use Rattle.ln_pair.proofs.Closing.ClosingTaken.{TakenOr36, close_row}
 use Rattle.ln_pair.proofs.Fees.Deals.{run_fees}
@@ -48,7 +48,7 @@ use Rattle.std.proofs.Common.{inl, inr}
 -- at every end of a run
 pub at_end : (a b : Signer) (s : OpenSpec) (c : Config) (funder fundee : Opened) (steps : List Step) → ArePartners a b
     → Opens a b s c funder fundee
-    → Holds a b (run a b steps (opened funder fundee))
+    → Sound a b (run a b steps (opened funder fundee))
 at_end a b s c funder fundee steps keys o =
     ran a b keys steps (opened funder fundee) (opened_holds a b s c funder fundee o)
 
@@ -90,7 +90,7 @@ follows a b lx ly x y ms ns f g =
           (begins_all m.acknowledged.peer m.current.peer (all_sent m.received) (all_sent l.own) f.agree held);
     }
 
-headline_of : (a b : Signer) (p : Ends) → Holds a b p → Headline p
+headline_of : (a b : Signer) (p : Ends) → Sound a b p → Headline p
 headline_of a b p h = (
   follows a b p.x_line p.y_line p.x p.y h.to_y h.to_x h.hold.kept.there h.hold.kept.back,
   follows b a p.y_line p.x_line p.y p.x h.to_x h.to_y h.hold.kept.back h.hold.kept.there,
@@ -140,7 +140,7 @@ front_by a b keys Met p is channel (Close m ∷ ns) to_y sent h =
 front_by a b keys Met p is channel (Again m ∷ ns) to_y sent h =
     inl (completed a (turn_of a (Again m) p.x), met_row a b keys p is channel (Again m) ns to_y refl h)
 
-front : (a b : Signer) → ArePartners a b → (p : Ends) → AreSent p.y.closing.fees → Holds a b p
+front : (a b : Signer) → ArePartners a b → (p : Ends) → AreSent p.y.closing.fees → Sound a b p
     → TakesFront a p.x_line p.to_x p.x
 front a b keys p sent h = let is = h.in_x in subst (λ ms. TakesFront a p.x_line ms p.x) (sym is)
     (front_by a b keys p.x_line p refl h.channel h.to_x h.to_y sent h.hold)
@@ -265,14 +265,14 @@ agrees a b s c funder fundee steps keys o rest =
 -- ---- what was sent beside updates, where nothing is in flight
 
 taken_marks : (a b : Signer) (x y : End) (lx ly : Line) (ms : List Notice) → lx ≡ Met → ly ≡ Met → ms ≡ []
-    → Told lx ly (side_of a x) (side_of b y) ms → HasTakenMarks x y
+    → MarksFlow lx ly (side_of a x) (side_of b y) ms → HasTakenMarks x y
 taken_marks a b x y lx ly ms ex ey none t =
-    let one : Speech Met ly (side_of a x) (side_of b y) ms =
-    subst (λ l. Speech l ly (side_of a x) (side_of b y) ms) ex t.speech in
-    let both : Speech Met Met (side_of a x) (side_of b y) ms =
-    subst (λ l. Speech Met l (side_of a x) (side_of b y) ms) ey one in
-    let last : Speech Met Met (side_of a x) (side_of b y) [] =
-    subst (λ ns. Speech Met Met (side_of a x) (side_of b y) ns) none both in
+    let one : MarksFlight Met ly (side_of a x) (side_of b y) ms =
+    subst (λ l. MarksFlight l ly (side_of a x) (side_of b y) ms) ex t.flight in
+    let both : MarksFlight Met Met (side_of a x) (side_of b y) ms =
+    subst (λ l. MarksFlight Met l (side_of a x) (side_of b y) ms) ey one in
+    let last : MarksFlight Met Met (side_of a x) (side_of b y) [] =
+    subst (λ ns. MarksFlight Met Met (side_of a x) (side_of b y) ns) none both in
     record { shutdown = last.1; ready = λ e. last.0 (ap is_some e) }
 
 pub marks_agree : (a b : Signer) (s : OpenSpec) (c : Config) (funder fundee : Opened) (steps : List Step)

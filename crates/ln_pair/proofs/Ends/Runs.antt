@@ -48,7 +48,7 @@ use Rattle.ln_channel.specs.End.{closing_message}
 use Rattle.ln_channel.specs.Taking.{answering, answered, answered_end, range_in}
 use Rattle.ln_pair.proofs.Closing.NothingMoves.{HasBegun}
 use Rattle.ln_pair.proofs.Marks.MarksOverActs.{closing_sent}
-use Rattle.ln_pair.proofs.Fees.FairAnswers.{Offers, IsFair, fair}
+use Rattle.ln_pair.proofs.Fees.FairAnswers.{AnswersWithin, IsFair, fair}
 use Rattle.ln_pair.proofs.Flight.Images.{side_of}
 use Rattle.ln_pair.proofs.Ends.Acts.{Said, said_more, dealt_so, passed_close}
 use Rattle.ln_pair.proofs.Ends.Turns.{is_close, begun_so, begins_by}
@@ -64,7 +64,7 @@ use Rattle.ln_pair.proofs.Ends.Turns.{turn_of, sent_by, sends_so, row, took, shu
 -- ---- two ends
 
 -- what is in flight is what these notices say
-pub record Holds (a b : Signer) (p : Ends) : Type 0 where
+pub record Sound (a b : Signer) (p : Ends) : Type 0 where
   pub channel : List ℕ
   pub to_x : List Notice
   pub to_y : List Notice
@@ -72,7 +72,7 @@ pub record Holds (a b : Signer) (p : Ends) : Type 0 where
   pub in_y : p.to_y ≡ messages_of channel to_y
   pub hold : Hold a b channel p.x_line p.y_line p.x p.y to_x to_y p.said_x p.said_y
 
-pub flipped : (a b : Signer) (p : Ends) → Holds a b p → Holds b a (turned p)
+pub flipped : (a b : Signer) (p : Ends) → Sound a b p → Sound b a (turned p)
 flipped a b p h = record {
   channel = h.channel;
   to_x = h.to_y;
@@ -104,7 +104,7 @@ module _ (a b : Signer) (keys : ArePartners a b) where
   become : (t : Turn) (p : Ends) (channel : List ℕ) (rest old new : List Notice) → p.to_x ≡ messages_of channel rest
       → p.to_y ≡ messages_of channel old → messages_in t.handed.sent ≡ messages_of channel new
       → Hold a b channel Met p.y_line t.end p.y rest (posts p.y_line new old) (p.said_x ++ messages_in t.handed.sent)
-      p.said_y → Holds a b (becomes t p)
+      p.said_y → Sound a b (becomes t p)
   become t p channel rest old new ix iy is h = record {
     channel = channel;
     to_x = rest;
@@ -118,7 +118,7 @@ module _ (a b : Signer) (keys : ArePartners a b) where
   finish : (t : Turn) (p : Ends) (channel : List ℕ) (rest old new : List Notice) → p.to_x ≡ messages_of channel rest
       → p.to_y ≡ messages_of channel old → messages_in t.handed.sent ≡ messages_of channel new
       → Hold a b channel Met p.y_line t.end p.y rest (posts p.y_line new old) (p.said_x ++ messages_in t.handed.sent)
-      p.said_y → Holds a b (becomes (completed a t) p)
+      p.said_y → Sound a b (becomes (completed a t) p)
   finish t p channel rest old new ix iy is h =
       let e = t.end in
       let l = p.y_line in
@@ -179,10 +179,10 @@ module _ (a b : Signer) (keys : ArePartners a b) where
       → messages_in t.handed.sent ≡ messages_of channel new
       → Hold a b channel Met p.y_line t.end p.y ns (posts p.y_line new to_y)
       (p.said_x ++ messages_in t.handed.sent) p.said_y
-      → Holds a b (answers (message_at a p.x_line m p.x) (record p { to_x = messages_of channel ns }))
+      → Sound a b (answers (message_at a p.x_line m p.x) (record p { to_x = messages_of channel ns }))
   taking p m t channel ns to_y new is iy sent h =
       let q : Ends = record p { to_x = messages_of channel ns } in
-      subst (λ r. Holds a b (answers r q)) (sym is) (finish t q channel ns to_y new refl iy sent h)
+      subst (λ r. Sound a b (answers r q)) (sym is) (finish t q channel ns to_y new refl iy sent h)
 
   -- by the connection of x: what is in front is taken so
   pub met_row : (p : Ends) → p.x_line ≡ Met → (channel : List ℕ) (n : Notice) (ns to_y : List Notice)
@@ -200,7 +200,7 @@ module _ (a b : Signer) (keys : ArePartners a b) where
 
   met_taken : (p : Ends) → p.x_line ≡ Met → (channel : List ℕ) (n : Notice) (ns to_y : List Notice) → is_close n ≡ false
       → p.to_y ≡ messages_of channel to_y → Hold a b channel Met p.y_line p.x p.y (n ∷ ns) to_y p.said_x p.said_y
-      → Holds a b (delivers a (messages_of channel (n ∷ ns)) p)
+      → Sound a b (delivers a (messages_of channel (n ∷ ns)) p)
   met_taken p is channel n ns to_y other iy h =
       taking p (message_of channel n) (turn_of a n p.x) channel ns to_y (sent_by a n p.x)
       (met_row p is channel n ns to_y other h) iy (sends_so a channel n p.x)
@@ -208,10 +208,10 @@ module _ (a b : Signer) (keys : ArePartners a b) where
 
   -- a closing fee, by the answer to it
   fee_answered : (ans : FeeAnswer) (p : Ends) (channel : List ℕ) (m : ClosingSigned) (ns to_y : List Notice)
-      → Offers p.x.closing.fees ans → HasBegun (side_of a p.x) → has_bid (side_of b p.y) ≡ true
+      → AnswersWithin p.x.closing.fees ans → HasBegun (side_of a p.x) → has_bid (side_of b p.y) ≡ true
       → p.to_y ≡ messages_of channel to_y
       → Hold a b channel Met p.y_line p.x p.y ns to_y p.said_x p.said_y
-      → Holds a b (becomes (completed a (answering a ans (answered_end m ans p.x)))
+      → Sound a b (becomes (completed a (answering a ans (answered_end m ans p.x)))
       (record p { to_x = messages_of channel ns }))
   fee_answered answer.Nothing p channel m ns to_y may begun bid iy h =
       let n = answered_end m answer.Nothing p.x in
@@ -308,7 +308,7 @@ module _ (a b : Signer) (keys : ArePartners a b) where
 
   passed_on : (p : Ends) → p.x_line ≡ Met → (channel : List ℕ) (ns to_y : List Notice)
       → p.to_y ≡ messages_of channel to_y → Hold a b channel Met p.y_line p.x p.y ns to_y p.said_x p.said_y
-      → Holds a b (record p { to_x = messages_of channel ns })
+      → Sound a b (record p { to_x = messages_of channel ns })
   passed_on p is channel ns to_y iy h = record {
     channel = channel;
     to_x = ns;
@@ -322,7 +322,7 @@ module _ (a b : Signer) (keys : ArePartners a b) where
       → (channel : List ℕ) (m : ClosingSigned) (ns to_y : List Notice) → has_begun p.x ≡ begun
       → IsFair p.x.closing.fees r → has_bid (side_of b p.y) ≡ true → p.to_y ≡ messages_of channel to_y
       → Hold a b channel Met p.y_line p.x p.y ns to_y p.said_x p.said_y
-      → Holds a b (answers (completed_row a (cond (not begun) (Err refusal.OutOfPlace)
+      → Sound a b (answers (completed_row a (cond (not begun) (Err refusal.OutOfPlace)
       (cond right (answered a m p.x r) (Err refusal.SignatureWrong)))) (record p { to_x = messages_of channel ns }))
   fee_by true true (Ok ans) p is channel m ns to_y began may bid iy h =
       fee_answered ans p channel m ns to_y may (begun_so a p.x began) bid iy h
@@ -332,19 +332,19 @@ module _ (a b : Signer) (keys : ArePartners a b) where
 
   fee_taken : (p : Ends) → p.x_line ≡ Met → (channel : List ℕ) (m : ClosingSigned) (ns to_y : List Notice)
       → p.to_y ≡ messages_of channel to_y → Hold a b channel Met p.y_line p.x p.y (Close m ∷ ns) to_y p.said_x p.said_y
-      → Holds a b (delivers a (messages_of channel (Close m ∷ ns)) p)
+      → Sound a b (delivers a (messages_of channel (Close m ∷ ns)) p)
   fee_taken p is channel m ns to_y iy h =
       let q : Ends = record p { to_x = messages_of channel ns } in
-      subst (λ l. Holds a b (answers (message_at a l (message.ClosingSigned m) p.x) q)) (sym is)
+      subst (λ l. Sound a b (answers (message_at a l (message.ClosingSigned m) p.x) q)) (sym is)
       (fee_by (has_begun p.x) (a.accepts_close m.fee_satoshis m.signature)
       (answer_to p.x.closing m.fee_satoshis (range_in m)) p is channel m ns to_y refl
       (fair p.x.closing m.fee_satoshis (range_in m))
-      (closing_sent p.y_line m (side_of a p.x) (side_of b p.y) ns h.told.back.speech) iy
+      (closing_sent p.y_line m (side_of a p.x) (side_of b p.y) ns h.told.back.flight) iy
       (passed_close a b keys channel p.y_line p.x p.y p.said_x p.said_y m ns to_y h))
 
   delivered_by : (l : Line) (p : Ends) → p.x_line ≡ l → (channel : List ℕ) (ns to_y : List Notice)
-      → p.to_y ≡ messages_of channel to_y → Hold a b channel l p.y_line p.x p.y ns to_y p.said_x p.said_y → Holds a b p
-      → Holds a b (delivers a (messages_of channel ns) p)
+      → p.to_y ≡ messages_of channel to_y → Hold a b channel l p.y_line p.x p.y ns to_y p.said_x p.said_y → Sound a b p
+      → Sound a b (delivers a (messages_of channel ns) p)
   delivered_by l p is channel [] to_y iy h hp = hp
   delivered_by Down p is channel (n ∷ ns) to_y iy h hp = absurd (let no : n ∷ ns ≡ [] = h.kept.back.flight in cc)
   delivered_by Awaiting p is channel (Update u ∷ ns) to_y iy h hp = absurd (h.kept.back.flight)
@@ -366,26 +366,26 @@ module _ (a b : Signer) (keys : ArePartners a b) where
   delivered_by Met p is channel (Close m ∷ ns) to_y iy h hp = fee_taken p is channel m ns to_y iy h
   delivered_by Met p is channel (Again m ∷ ns) to_y iy h hp = met_taken p is channel (Again m) ns to_y refl iy h
 
-  delivered : (p : Ends) → Holds a b p → Holds a b (acts a Deliver p)
+  delivered : (p : Ends) → Sound a b p → Sound a b (acts a Deliver p)
   delivered p h =
       let is = h.in_x in
-      subst (λ ms. Holds a b (delivers a ms p)) (sym is)
+      subst (λ ms. Sound a b (delivers a ms p)) (sym is)
       (delivered_by p.x_line p refl h.channel h.to_x h.to_y h.in_y h.hold h)
 
   -- ---- a command
 
-  given_by : (f : Option Refusal) (t : Turn) (p : Ends) → (f ≡ None → Holds a b (becomes t p)) → Holds a b p
-      → Holds a b (answers (unless f t) p)
+  given_by : (f : Option Refusal) (t : Turn) (p : Ends) → (f ≡ None → Sound a b (becomes t p)) → Sound a b p
+      → Sound a b (answers (unless f t) p)
   given_by None t p k h = k refl
   given_by (Some r) t p k h = h
 
   -- an end that has met the other
-  hold_met : (p : Ends) (h : Holds a b p) → p.x_line ≡ Met
+  hold_met : (p : Ends) (h : Sound a b p) → p.x_line ≡ Met
       → Hold a b h.channel Met p.y_line p.x p.y h.to_x h.to_y p.said_x p.said_y
   hold_met p h met = subst (λ l. Hold a b h.channel l p.y_line p.x p.y h.to_x h.to_y p.said_x p.said_y) met h.hold
 
-  propose : (u : Change) (p : Ends) → p.x_line ≡ Met → id_fault p.x.dance.log.own u ≡ None → Holds a b p
-      → Holds a b (answers (unless (propose_fault p.x u)
+  propose : (u : Change) (p : Ends) → p.x_line ≡ Met → id_fault p.x.dance.log.own u ≡ None → Sound a b p
+      → Sound a b (answers (unless (propose_fault p.x u)
       (sending (update_message p.x.dance.channel u) (proposes u p.x))) p)
   propose u p met id h =
       let channel = h.channel in
@@ -399,7 +399,7 @@ module _ (a b : Signer) (keys : ArePartners a b) where
       p.said_y) (sym h.hold.x_channel)
       (proposed_so a b keys channel p.y_line p.x p.y p.said_x p.said_y u h.to_x h.to_y id none k))) h
 
-  given : (c : Command) (p : Ends) → p.x_line ≡ Met → Holds a b p → Holds a b (answers (command_row a c p.x) p)
+  given : (c : Command) (p : Ends) → p.x_line ≡ Met → Sound a b p → Sound a b (answers (command_row a c p.x) p)
   given (command.Confirm id) p met h =
       let t = sending (message.ChannelReady (ready_message a p.x)) (confirmed id p.x) in
       given_by (confirm_fault p.x) t p
@@ -442,8 +442,8 @@ module _ (a b : Signer) (keys : ArePartners a b) where
   given (command.Decide event mark) p met h = h
   given (command.Forget id) p met h = h
 
-  commanded_by : (f : Option Refusal) (l : Line) (c : Command) (p : Ends) → p.x_line ≡ l → Holds a b p
-      → Holds a b (answers (faulted f (faulted (line_fault l) (command_row a c p.x))) p)
+  commanded_by : (f : Option Refusal) (l : Line) (c : Command) (p : Ends) → p.x_line ≡ l → Sound a b p
+      → Sound a b (answers (faulted f (faulted (line_fault l) (command_row a c p.x))) p)
   commanded_by (Some r) l c p is h = h
   commanded_by None Down c p is h = h
   commanded_by None Awaiting c p is h = h
@@ -451,8 +451,8 @@ module _ (a b : Signer) (keys : ArePartners a b) where
 
   -- ---- a connection that is lost
 
-  lost_by : (down : Bool) (p : Ends) → Holds a b p
-      → Holds a b (cond down p (record p { x_line = Down; x = end_dropped p.x; to_x = [] }))
+  lost_by : (down : Bool) (p : Ends) → Sound a b p
+      → Sound a b (cond down p (record p { x_line = Down; x = end_dropped p.x; to_x = [] }))
   lost_by true p h = h
   lost_by false p h = record {
     channel = h.channel;
@@ -463,8 +463,8 @@ module _ (a b : Signer) (keys : ArePartners a b) where
     hold = lost_so a b h.channel p.x_line p.y_line p.x p.y h.to_x h.to_y p.said_x p.said_y h.hold;
   }
 
-  cut_by : (down : Bool) (n : ℕ) (p : Ends) → is_down p.x_line ≡ down → Holds a b p
-      → Holds a b (cond down (record p { to_y = still_come n p.y_line p.to_y }) p)
+  cut_by : (down : Bool) (n : ℕ) (p : Ends) → is_down p.x_line ≡ down → Sound a b p
+      → Sound a b (cond down (record p { to_y = still_come n p.y_line p.to_y }) p)
   cut_by false n p is h = h
   cut_by true n p is h = record {
     channel = h.channel;
@@ -475,8 +475,8 @@ module _ (a b : Signer) (keys : ArePartners a b) where
     hold = cut_so a b h.channel n p.x_line p.y_line p.x p.y h.to_x h.to_y p.said_x p.said_y is h.hold;
   }
 
-  pub acted : (act : Act) (p : Ends) → Holds a b p
-      → Holds a b (acts a act p)
+  pub acted : (act : Act) (p : Ends) → Sound a b p
+      → Sound a b (acts a act p)
   acted Deliver p h = delivered p h
   acted (Give c) p h = commanded_by (unready_fault c p.x) p.x_line c p refl h
   acted (Note c) p h = record {
@@ -500,8 +500,8 @@ module _ (a b : Signer) (keys : ArePartners a b) where
 
 -- ---- steps
 
-connected_by : (a b : Signer) (lx ly : Line) (p : Ends) (h : Holds a b p)
-    → Hold a b h.channel lx ly p.x p.y h.to_x h.to_y p.said_x p.said_y → Holds a b (connects a b lx ly p)
+connected_by : (a b : Signer) (lx ly : Line) (p : Ends) (h : Sound a b p)
+    → Hold a b h.channel lx ly p.x p.y h.to_x h.to_y p.said_x p.said_y → Sound a b (connects a b lx ly p)
 connected_by a b Down Down p h k = record {
   channel = h.channel;
   to_x = Again (reestablish_message b p.y.dance) ∷ [];
@@ -515,12 +515,12 @@ connected_by a b Down Met p h k = h
 connected_by a b Awaiting l p h k = h
 connected_by a b Met l p h k = h
 
-happened : (a b : Signer) → ArePartners a b → (s : Step) (p : Ends) → Holds a b p → Holds a b (happens a b s p)
+happened : (a b : Signer) → ArePartners a b → (s : Step) (p : Ends) → Sound a b p → Sound a b (happens a b s p)
 happened a b keys (By Funder act) p h = acted a b keys act p h
 happened a b keys (By Fundee act) p h = flipped b a (acts b act (turned p))
     (acted b a (flipped_keys a b keys) act (turned p) (flipped a b p h))
 happened a b keys Connect p h = connected_by a b p.x_line p.y_line p h h.hold
 
-pub ran : (a b : Signer) → ArePartners a b → (ss : List Step) (p : Ends) → Holds a b p → Holds a b (run a b ss p)
+pub ran : (a b : Signer) → ArePartners a b → (ss : List Step) (p : Ends) → Sound a b p → Sound a b (run a b ss p)
 ran a b keys [] p h = h
 ran a b keys (s ∷ ss) p h = ran a b keys ss (happens a b s p) (happened a b keys s p h)

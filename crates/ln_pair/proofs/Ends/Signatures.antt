@@ -70,7 +70,7 @@ use Rattle.ln_pair.proofs.Tests.{parts, negated, otherwise, where_true}
 use Rattle.ln_pair.proofs.Flight.Images.{message_of, messages_of, side_of, take-sent}
 use Rattle.ln_pair.proofs.Machine.TurnMoves.{settled_dance}
 use Rattle.ln_pair.proofs.Ends.Promised.{at_end}
-use Rattle.ln_pair.proofs.Ends.Runs.{Holds, flipped, flipped_keys, meeting_row}
+use Rattle.ln_pair.proofs.Ends.Runs.{Sound, flipped, flipped_keys, meeting_row}
 use Rattle.ln_pair.proofs.Flight.Sides.{Notice, Update, Sign, Revoke, Ready, Shutdown, Close, Again, Side}
 use Rattle.ln_pair.proofs.Ends.Acts.{Hold, flip, front_reads}
 use Rattle.ln_pair.proofs.Ends.Turns.{fronts}
@@ -389,7 +389,7 @@ module _ (a b : Signer) where
     given_by (Some r) t p k = tt
 
     -- a signature is made: none is unrevoked then
-    made : (p : Ends) (h : Holds a b p) → p.x_line ≡ Met → sign_command_fault p.x ≡ None
+    made : (p : Ends) (h : Sound a b p) → p.x_line ≡ Met → sign_command_fault p.x ≡ None
         → SignsCovered a b (signs_next p.x) p.y (signed_message a p.x.dance)
     made p h is none =
         let d = p.x.dance in
@@ -409,7 +409,7 @@ module _ (a b : Signer) where
         given_by (propose_fault p.x u) (sending (update_message p.x.dance.channel u) (proposes u p.x)) p
         (λ none. (no_update p.x.dance.channel (SignsCovered a b (proposes u p.x) p.y) u, tt))
 
-    given : (c : Command) (p : Ends) → p.x_line ≡ Met → Holds a b p → SignsBehind (command_row a c p.x) p
+    given : (c : Command) (p : Ends) → p.x_line ≡ Met → Sound a b p → SignsBehind (command_row a c p.x) p
     given (command.Confirm id) p is h =
         let t = sending (message.ChannelReady (ready_message a p.x)) (confirmed id p.x) in
         given_by (confirm_fault p.x) t p (λ none. (tt, tt))
@@ -445,14 +445,14 @@ module _ (a b : Signer) where
     given (command.Decide event mark) p is h = tt
     given (command.Forget id) p is h = tt
 
-    commanded_by : (f : Option Refusal) (l : Line) (c : Command) (p : Ends) → p.x_line ≡ l → Holds a b p
+    commanded_by : (f : Option Refusal) (l : Line) (c : Command) (p : Ends) → p.x_line ≡ l → Sound a b p
         → SignsBehind (faulted f (faulted (line_fault l) (command_row a c p.x))) p
     commanded_by (Some r) l c p is h = tt
     commanded_by None Down c p is h = tt
     commanded_by None Awaiting c p is h = tt
     commanded_by None Met c p is h = given c p is h
 
-    acts_so : (act : Act) (p : Ends) → Holds a b p
+    acts_so : (act : Act) (p : Ends) → Sound a b p
         → EachSigned (SignsCovered a b (acts a act p).x (acts a act p).y) (messages_in (told_in a act p))
     acts_so Deliver p h =
         subst (λ ms. SignsTaking ms p) (sym h.in_x)
@@ -463,7 +463,7 @@ module _ (a b : Signer) where
     acts_so (Cut n) p h = tt
     acts_so Save p h = tt
 
-happens_so : (a b : Signer) → ArePartners a b → (side : Role) (s : Step) (p : Ends) → Holds a b p → SignsIn a b side s p
+happens_so : (a b : Signer) → ArePartners a b → (side : Role) (s : Step) (p : Ends) → Sound a b p → SignsIn a b side s p
 happens_so a b keys Funder (By Funder act) p h = acts_so a b keys act p h
 happens_so a b keys Funder (By Fundee act) p h = tt
 happens_so a b keys Fundee (By Funder act) p h = tt
@@ -586,7 +586,7 @@ module _ (a b : Signer) (channel : List ℕ) (x y : End) where
     in_front = in_front_so lx ly to_y to_x h.kept.there h.kept.back;
   }
 
-both_sign_at : (a b : Signer) (p : Ends) → Holds a b p → BothSign a b p
+both_sign_at : (a b : Signer) (p : Ends) → Sound a b p → BothSign a b p
 both_sign_at a b p h = (
   subst (Signs a b p.x p.y) (sym h.in_y)
       (signs a b h.channel p.x p.y p.x_line p.y_line h.to_x h.to_y p.said_x p.said_y h.hold),

@@ -19,7 +19,7 @@ use Rattle.ln_pair.specs.Ends.{Act, Deliver, Give, Note, Lose, Cut, Save, acts}
 use Rattle.ln_pair.proofs.Flight.Sides.{Side, Notice}
 use Rattle.ln_pair.proofs.Flight.Walk.{InFlight}
 use Rattle.ln_pair.proofs.Flight.Images.{messages_of, side_of}
-use Rattle.ln_pair.proofs.Ends.Runs.{Holds}
+use Rattle.ln_pair.proofs.Ends.Runs.{Sound}
 
 -- ---- an end that waits has the peer's channel_reestablish in front
 
@@ -33,7 +33,7 @@ greeted_by lx Met x y channel ns h is none = absurd (cc)
 greeted_by lx Awaiting x y channel [] h is none = absurd h
 greeted_by lx Awaiting x y channel (n ∷ ns) h is none = absurd (cc)
 
-pub greeted : (a b : Signer) (q : Ends) → Holds a b q → IsGreeted q.y_line q.to_y
+pub greeted : (a b : Signer) (q : Ends) → Sound a b q → IsGreeted q.y_line q.to_y
 greeted a b q h =
     subst (IsGreeted q.y_line) (sym h.in_y)
     (greeted_by q.x_line q.y_line (side_of a q.x) (side_of b q.y) h.channel h.to_y h.hold.kept.there.flight)

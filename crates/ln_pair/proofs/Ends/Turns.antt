@@ -155,7 +155,7 @@ module _ (a b : Signer) (keys : ArePartners a b) (channel : List ℕ) (ly : Line
   row (Update u) ns to_y begun h =
       let f = h.kept.back in
       let fits = (front_reads ly (side_of a x) (side_of b y) (Update u) ns f.flight).0 in
-      let s = front_told ly (side_of a x) (side_of b y) (Update u) ns h.told.back.speech in
+      let s = front_told ly (side_of a x) (side_of b y) (Update u) ns h.told.back.flight in
       row_of_update a channel u x ∙ ap (λ v. update_row v x) fits.sent
       ∙ update_taken y.dance.log.opening y.dance.log.role x u f.same f.roles
       (both_true x.marks.ready_sent x.marks.ready_received s.1 s.0) s.2 fits
@@ -163,7 +163,7 @@ module _ (a b : Signer) (keys : ArePartners a b) (channel : List ℕ) (ly : Line
       let f = h.kept.there in
       let g = h.kept.back in
       let d = (front_reads ly (side_of a x) (side_of b y) (Sign m) ns g.flight).0 in
-      let s = front_told ly (side_of a x) (side_of b y) (Sign m) ns h.told.back.speech in
+      let s = front_told ly (side_of a x) (side_of b y) (Sign m) ns h.told.back.flight in
       let l = is_last_signature Met ly (side_of a x) (side_of b y) m (Sign m ∷ ns) g d in
       let peer = fronts y.dance.log.signed.peer x.dance.log.acknowledged.own y.dance.log.current.peer
       (all_sent y.dance.log.received) (all_sent x.dance.log.own) f.agree (sym d.knows) g.within.peer_signed in
@@ -181,7 +181,7 @@ module _ (a b : Signer) (keys : ArePartners a b) (channel : List ℕ) (ly : Line
   row (Ready m) ns to_y begun h = refl
   row (Shutdown m) ns to_y begun h =
       let told : m ≡ shutdown_message y = (front_told ly (side_of a x) (side_of b y) (Shutdown m) ns
-      h.told.back.speech).1 in
+      h.told.back.flight).1 in
       same_shutdown x.closing.peer_shut x.terms.peer_script y.terms.script m x h.x_knows.script
       (sym (ap (λ (q : ShutdownMessage). q.script) told))
   row (Close m) ns to_y begun h = absurd (cc)

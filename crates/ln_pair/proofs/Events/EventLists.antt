@@ -26,7 +26,7 @@ use Rattle.ln_channel.specs.Outputs.{events_of, numbered}
 use Rattle.ln_pair.specs.Moves.{closes, shuts, after_all}
 use Rattle.ln_pair.specs.Told.{as_told, event_at, events_in}
 use Rattle.ln_pair.proofs.Flight.Images.{length-sent, drop-sent}
-use Rattle.ln_pair.proofs.Machine.OneMove.{made}
+use Rattle.ln_pair.proofs.Machine.OneMove.{seen_by}
 
 -- ---- lists
 
@@ -135,26 +135,26 @@ module _ (o : Opening) (x y n : Party) (c d : Option ℕ) (s t : Bool) (same : d
   fundee_of None = fresh
   fundee_of (Some m) = m.fundee
 
-  pub accept_told : (r : Role) → IsRun (Accept r ∷ []) (Some (made r o x y)) (Some (made r o n y))
-      → events r (Accept r ∷ (closes r c d ++ shuts r s t)) (Some (made r o x y)) ≡ accept_events x n
+  pub accept_told : (r : Role) → IsRun (Accept r ∷ []) (Some (seen_by r o x y)) (Some (seen_by r o n y))
+      → events r (Accept r ∷ (closes r c d ++ shuts r s t)) (Some (seen_by r o x y)) ≡ accept_events x n
   accept_told Funder e = ap (λ es. accept_events x (after_accept y x) ++ es) (tail_none Funder Funder c d s t _ same)
       ∙ append-nil (accept_events x (after_accept y x)) ∙ ap (λ q. accept_events x (funder_of q)) (sym e.1)
   accept_told Fundee e = ap (λ es. accept_events x (after_accept y x) ++ es) (tail_none Fundee Fundee c d s t _ same)
       ∙ append-nil (accept_events x (after_accept y x)) ∙ ap (λ q. accept_events x (fundee_of q)) (sym e.1)
 
-  pub learn_told : (r : Role) → IsRun (Learn r ∷ []) (Some (made r o x y)) (Some (made r o n y))
-      → events r (Learn r ∷ (closes r c d ++ shuts r s t)) (Some (made r o x y)) ≡ learn_events x n
+  pub learn_told : (r : Role) → IsRun (Learn r ∷ []) (Some (seen_by r o x y)) (Some (seen_by r o n y))
+      → events r (Learn r ∷ (closes r c d ++ shuts r s t)) (Some (seen_by r o x y)) ≡ learn_events x n
   learn_told Funder e = ap (λ es. learn_events x (after_learn y x) ++ es) (tail_none Funder Funder c d s t _ same)
       ∙ append-nil (learn_events x (after_learn y x)) ∙ ap (λ q. learn_events x (funder_of q)) (sym e.1)
   learn_told Fundee e = ap (λ es. learn_events x (after_learn y x) ++ es) (tail_none Fundee Fundee c d s t _ same)
       ∙ append-nil (learn_events x (after_learn y x)) ∙ ap (λ q. learn_events x (fundee_of q)) (sym e.1)
 
   pub accept_other : (r : Role)
-      → events (other_role r) (Accept r ∷ (closes r c d ++ shuts r s t)) (Some (made r o x y)) ≡ []
+      → events (other_role r) (Accept r ∷ (closes r c d ++ shuts r s t)) (Some (seen_by r o x y)) ≡ []
   accept_other Funder = tail_none Fundee Funder c d s t _ same
   accept_other Fundee = tail_none Funder Fundee c d s t _ same
 
   pub learn_other : (r : Role)
-      → events (other_role r) (Learn r ∷ (closes r c d ++ shuts r s t)) (Some (made r o x y)) ≡ []
+      → events (other_role r) (Learn r ∷ (closes r c d ++ shuts r s t)) (Some (seen_by r o x y)) ≡ []
   learn_other Funder = tail_none Fundee Funder c d s t _ same
   learn_other Fundee = tail_none Funder Fundee c d s t _ same

@@ -42,8 +42,8 @@ use Rattle.ln_pair.proofs.Flight.Images.{message_of, messages_of, side_of}
 use Rattle.ln_pair.proofs.Ends.Acts.{Hold}
 use Rattle.ln_pair.proofs.Ends.JustOpened.{opened_holds, opened_fresh}
 use Rattle.ln_pair.proofs.Ends.Turns.{turn_of, is_close}
-use Rattle.ln_pair.proofs.Ends.Runs.{Holds, flipped, flipped_keys, met_row, meeting_row, ran}
-use Rattle.ln_pair.proofs.Machine.OneMove.{made}
+use Rattle.ln_pair.proofs.Ends.Runs.{Sound, flipped, flipped_keys, met_row, meeting_row, ran}
+use Rattle.ln_pair.proofs.Machine.OneMove.{seen_by}
 use Rattle.std.proofs.Common.{◌+◌, ◌++◌, ◌||◌, arith}
 use Rattle.ln_keys.specs.Role.{other_role}
 use Rattle.ln_log.specs.Log.{between}
@@ -68,7 +68,8 @@ use Rattle.ln_log.specs.Log as log
 use Rattle.ln_dance.specs.Dance.{Dancer}
 use Rattle.ln_pair.proofs.All.{All}
 use Rattle.ln_pair.proofs.Records.CountsOverTurns.{length-between}
-use Rattle.ln_pair.proofs.Events.Undecided.{IsNamed, Named, KeepBy, Keep, Pends, enters, enters_none, leaves, bases}
+use Rattle.ln_pair.proofs.Events.Undecided.{IsNamed, Named, LogStays, HeldStays, Pends, enters, enters_none, leaves}
+use Rattle.ln_pair.proofs.Events.Undecided.{bases}
 use Rattle.ln_pair.proofs.Events.Undecided.{own_named, peer_named, own_at, peer_at, keep_same, keep_own, keep_peer}
 use Rattle.ln_pair.proofs.Events.Undecided.{keep_dropped, keep_either, NamedIn}
 use Rattle.ln_pair.proofs.Events.Undecided.{pending, own_pend, peer_pend, pends_both, same_pends, pending_so}
@@ -91,7 +92,7 @@ use Rattle.ln_pair.proofs.Events.EventLists.{in_numbered, in_append, numbered_ap
 use Rattle.ln_pair.proofs.Events.EventLists.{held_told}
 use Rattle.ln_pair.proofs.Events.EventLists.{grown_so, refs_count, entered_next, tail_none, tail_close, tail_other}
 use Rattle.ln_pair.proofs.Events.EventLists.{accept_told, learn_told, accept_other, learn_other}
-use Rattle.ln_pair.proofs.Machine.RunMoves.{Keeps, acts_so, happens_so, run_after, starts}
+use Rattle.ln_pair.proofs.Machine.RunMoves.{BothStand, acts_so, happens_so, run_after, starts}
 use Rattle.ln_pair.proofs.Machine.TurnMoves.{log_within}
 
 settled_ledger : (e : End) → (settled e).ledger ≡ e.ledger
@@ -117,19 +118,20 @@ decided_so : (e : End) → (settled e).ledger.decided ≡ e.ledger.decided
 decided_so e = ap (λ (l : Ledger). l.decided) (settled_ledger e)
 
 -- what x tells are the events of its moves, and none of them is the other side's
-pub record Tells (r : Role) (o : Opening) (x n : End) (y : Party) (ms : List Move) (os : List Output) : Type 0 where
-  pub told : events_in os ≡ numbered (next_event x.ledger) (as_told (events r ms (Some (made r o (party x) y))))
-  pub next : next_event n.ledger
-      ≡ next_event x.ledger + length (as_told (events r ms (Some (made r o (party x) y))))
-  pub other : events (other_role r) ms (Some (made r o (party x) y)) ≡ []
-  pub pends : log.IsWithin x.dance.log → Named x → Pends x n (as_told (events r ms (Some (made r o (party x) y))))
+pub record TellsEvents (r : Role) (o : Opening) (x n : End) (y : Party) (ms : List Move) (os : List Output) : Type 0
+  where
+    pub told : events_in os ≡ numbered (next_event x.ledger) (as_told (events r ms (Some (seen_by r o (party x) y))))
+    pub next : next_event n.ledger
+        ≡ next_event x.ledger + length (as_told (events r ms (Some (seen_by r o (party x) y))))
+    pub other : events (other_role r) ms (Some (seen_by r o (party x) y)) ≡ []
+    pub pends : log.IsWithin x.dance.log → Named x → Pends x n (as_told (events r ms (Some (seen_by r o (party x) y))))
 
 module _ (r : Role) (o : Opening) (x n : End) (y : Party) where
   telling : (ms : List Move) (os : List Output) (es : List ChannelEvent)
-      → as_told (events r ms (Some (made r o (party x) y))) ≡ es
+      → as_told (events r ms (Some (seen_by r o (party x) y))) ≡ es
       → events_in os ≡ numbered (next_event x.ledger) es → next_event n.ledger ≡ next_event x.ledger + length es
-      → events (other_role r) ms (Some (made r o (party x) y)) ≡ []
-      → (log.IsWithin x.dance.log → Named x → Pends x n es) → Tells r o x n y ms os
+      → events (other_role r) ms (Some (seen_by r o (party x) y)) ≡ []
+      → (log.IsWithin x.dance.log → Named x → Pends x n es) → TellsEvents r o x n y ms os
   telling ms os es e told next other pends = record {
     told = told ∙ ap (numbered (next_event x.ledger)) (sym e);
     next = next ∙ ap (λ fs. next_event x.ledger + length fs) (sym e);
@@ -138,18 +140,18 @@ module _ (r : Role) (o : Opening) (x n : End) (y : Party) where
   }
 
   silent : (ms : List Move) (os : List Output) → events_in os ≡ [] → n.ledger ≡ x.ledger
-      → ((q : Role) → events q ms (Some (made r o (party x) y)) ≡ []) → (log.IsWithin x.dance.log → Keep x n)
-      → Tells r o x n y ms os
+      → ((q : Role) → events q ms (Some (seen_by r o (party x) y)) ≡ []) → (log.IsWithin x.dance.log → HeldStays x n)
+      → TellsEvents r o x n y ms os
   silent ms os none same es keep = telling ms os [] (ap as_told (es r)) none
       (ap next_event same ∙ (let k : next_event x.ledger ≡ next_event x.ledger + 0 = omega arith in k))
       (es (other_role r)) (λ w named. enters_none x n (keep w) same named)
 
 -- settling changes neither what is held nor whether it is closed
-keep_settled : (r : Role) (o : Opening) (y : Party) (x t : End) → Keep x t → Keep x (settled t)
+keep_settled : (r : Role) (o : Opening) (y : Party) (x t : End) → HeldStays x t → HeldStays x (settled t)
 keep_settled r o y x t k =
-    subst (λ (d : Dancer). KeepBy x.dance.log d.log x.closing.closed (settled t).closing.closed)
+    subst (λ (d : Dancer). LogStays x.dance.log d.log x.closing.closed (settled t).closing.closed)
     (sym (settled_dance r o y t))
-    (subst (λ c. KeepBy x.dance.log t.dance.log x.closing.closed c) (sym (settled_closed r o y t)) k)
+    (subst (λ c. LogStays x.dance.log t.dance.log x.closing.closed c) (sym (settled_closed r o y t)) k)
 
 ready_ledger : (b : Bool) (x k n : End) → n ≡ cond b x k → k.ledger ≡ x.ledger → n.ledger ≡ x.ledger
 ready_ledger true x k n is e = ap (λ (q : End). q.ledger) is
@@ -163,13 +165,13 @@ module _ (a b : Signer) (keys : ArePartners a b) (r : Role) (o : Opening) (chann
 
   turn_tells : (n : Notice) (ns to_y : List Notice) → is_close n ≡ false
       → Hold a b channel Met ly x y (n ∷ ns) to_y said_x said_y
-      → Tells r o x (settled (turn_of a n x).end) (party y) (moves_taken r (message_of channel n) ++ tail n)
+      → TellsEvents r o x (settled (turn_of a n x).end) (party y) (moves_taken r (message_of channel n) ++ tail n)
       (turn_of a n x).handed.told
   turn_tells (Update u) ns to_y other h =
       let n = settled (turn_of a (Update u) x).end in
       silent r o x n (party y) (moves_taken r (message_of channel (Update u)) ++ tail (Update u)) [] refl
       (settled_ledger (turn_of a (Update u) x).end)
-      (λ q. ap (λ ms. events q (ms ++ tail (Update u)) (Some (made r o (party x) (party y)))) (no_move r channel u)
+      (λ q. ap (λ ms. events q (ms ++ tail (Update u)) (Some (seen_by r o (party x) (party y)))) (no_move r channel u)
       ∙ tail_none q r x.closing.closed n.closing.closed x.closing.shut n.closing.shut _
       (settled_closed r o (party y) (turn_of a (Update u) x).end))
       (λ w. keep_settled r o (party y) x (turn_of a (Update u) x).end
@@ -287,12 +289,12 @@ closed_told : (k : Signer) (r : Role) (o : Opening) (fee : ℕ) (ans : FeeAnswer
     → x.closing.closed ≡ None → t.closing.closed ≡ Some fee → t.dance ≡ x.dance
     → t.ledger ≡ entered (ref.Close ∷ []) x.ledger
     → events_in os ≡ numbered (next_event x.ledger) (event.Closed fee ∷ [])
-    → Tells r o x (settled t) y ([] ++ (closes r x.closing.closed (settled t).closing.closed
+    → TellsEvents r o x (settled t) y ([] ++ (closes r x.closing.closed (settled t).closing.closed
     ++ shuts r x.closing.shut (settled t).closing.shut)) os
 closed_told k r o fee ans x t y os none is held entry told =
     let n = settled t in
     let sh = shuts r x.closing.shut n.closing.shut in
-    let m = Some (made r o (party x) y) in
+    let m = Some (seen_by r o (party x) y) in
     let now : n.closing.closed ≡ Some fee = settled_closed r o y t ∙ is in
     let so : (q : Role) → events q (closes r x.closing.closed n.closing.closed ++ sh) m
     ≡ events q (closes r None (Some fee) ++ sh) m =
@@ -303,7 +305,7 @@ closed_told k r o fee ans x t y os none is held entry told =
     (ap next_event (settled_ledger t ∙ entry) ∙ entered_next x.ledger (ref.Close ∷ []))
     (so (other_role r) ∙ tail_other r fee x.closing.shut n.closing.shut _)
     (λ w named. enters x n (ref.Close ∷ []) (event.Closed fee ∷ [])
-    (subst (λ (d : Dancer). KeepBy x.dance.log d.log x.closing.closed n.closing.closed)
+    (subst (λ (d : Dancer). LogStays x.dance.log d.log x.closing.closed n.closing.closed)
     (sym (settled_dance r o y t ∙ held)) (record {
       own = refl;
       peer = refl;
@@ -318,7 +320,7 @@ closed_told k r o fee ans x t y os none is held entry told =
 
 fee_tells : (k : Signer) (r : Role) (o : Opening) (m : ClosingSigned) (ans : FeeAnswer) (x : End) (y : Party)
     → answer_to x.closing m.fee_satoshis (range_in m) ≡ Ok ans
-    → Tells r o x (settled (answering k ans (answered_end m ans x)).end) y ([] ++ (closes r x.closing.closed
+    → TellsEvents r o x (settled (answering k ans (answered_end m ans x)).end) y ([] ++ (closes r x.closing.closed
     (settled (answering k ans (answered_end m ans x)).end).closing.closed
     ++ shuts r x.closing.shut (settled (answering k ans (answered_end m ans x)).end).closing.shut))
     (answering k ans (answered_end m ans x)).handed.told
@@ -400,7 +402,7 @@ answer_none k (answer.EchoAndClose fee) e = refl
 answer_none k (answer.Propose fee) e = refl
 
 with_sent : (r : Role) (o : Opening) (x n : End) (y : Party) (ms : List Move) (sent os : List Output)
-    → events_in sent ≡ [] → Tells r o x n y ms os → Tells r o x n y ms (sent ++ os)
+    → events_in sent ≡ [] → TellsEvents r o x n y ms os → TellsEvents r o x n y ms (sent ++ os)
 with_sent r o x n y ms sent os none t = record {
   told = in_append sent os ∙ ap (λ z. z ++ events_in os) none ∙ t.told;
   next = t.next;
@@ -410,7 +412,7 @@ with_sent r o x n y ms sent os none t = record {
 
 -- ---- two ends
 
-keep_sign : (x : End) → Keep x (signs_next x)
+keep_sign : (x : End) → HeldStays x (signs_next x)
 keep_sign x = record {
   own = refl;
   peer = refl;
@@ -433,19 +435,19 @@ asked_none q r (command.Decide event mark) e m = refl
 asked_none q r (command.Forget id) e m = refl
 
 module _ (a b : Signer) (keys : ArePartners a b) (r : Role) (o : Opening) where
-  rests : (p q : Ends) → q.x ≡ p.x → Tells r o p.x q.x (party p.y) [] []
+  rests : (p q : Ends) → q.x ≡ p.x → TellsEvents r o p.x q.x (party p.y) [] []
   rests p q e = silent r o p.x q.x (party p.y) [] [] refl (ap (λ (z : End). z.ledger) e) (λ z. refl)
-      (λ w. subst (Keep p.x) (sym e) (keep_same p.x))
+      (λ w. subst (HeldStays p.x) (sym e) (keep_same p.x))
 
   met : (p : Ends) → p.x_line ≡ Met → (channel : List ℕ) (n : Notice) (ns to_y : List Notice) → is_close n ≡ false
       → Hold a b channel Met p.y_line p.x p.y (n ∷ ns) to_y p.said_x p.said_y
-      → Tells r o p.x (delivers a (messages_of channel (n ∷ ns)) p).x (party p.y)
+      → TellsEvents r o p.x (delivers a (messages_of channel (n ∷ ns)) p).x (party p.y)
       (moves_delivered a r p.x_line (messages_of channel (n ∷ ns)) p.x)
       (told_on a p.x_line (messages_of channel (n ∷ ns)) p.x)
   met p is channel n ns to_y other h =
       let q : Ends = record p { to_x = messages_of channel ns } in
       let m = message_of channel n in
-      subst (λ res. Tells r o p.x (answers res q).x (party p.y) (moves_of_message r m p.x res) (told_by res))
+      subst (λ res. TellsEvents r o p.x (answers res q).x (party p.y) (moves_of_message r m p.x res) (told_by res))
       (sym (met_row a b keys p is channel n ns to_y other h))
       (with_sent r o p.x _ (party p.y) _ ((turn_of a n p.x).handed.sent ++ due_sent a (turn_of a n p.x).end)
       (turn_of a n p.x).handed.told (both_none (turn_of a n p.x).handed.sent (due_sent a (turn_of a n p.x).end)
@@ -454,14 +456,14 @@ module _ (a b : Signer) (keys : ArePartners a b) (r : Role) (o : Opening) where
 
   meeting : (p : Ends) → p.x_line ≡ Awaiting → (channel : List ℕ) (m : ChannelReestablish) (ns to_y : List Notice)
       → Hold a b channel Awaiting p.y_line p.x p.y (Again m ∷ ns) to_y p.said_x p.said_y
-      → Tells r o p.x (delivers a (messages_of channel (Again m ∷ ns)) p).x (party p.y)
+      → TellsEvents r o p.x (delivers a (messages_of channel (Again m ∷ ns)) p).x (party p.y)
       (moves_delivered a r p.x_line (messages_of channel (Again m ∷ ns)) p.x)
       (told_on a p.x_line (messages_of channel (Again m ∷ ns)) p.x)
   meeting p is channel m ns to_y h =
       let q : Ends = record p { to_x = messages_of channel ns } in
       let w = message.ChannelReestablish m in
       let n = settled p.x in
-      subst (λ res. Tells r o p.x (answers res q).x (party p.y) (moves_of_message r w p.x res) (told_by res))
+      subst (λ res. TellsEvents r o p.x (answers res q).x (party p.y) (moves_of_message r w p.x res) (told_by res))
       (sym (meeting_row a b keys p is channel m ns to_y h))
       (with_sent r o p.x n (party p.y) _ (sent_again a m p.x ++ due_sent a p.x) []
       (both_none (sent_again a m p.x) (due_sent a p.x) (again_none a m p.x) (due_none a p.x))
@@ -474,33 +476,33 @@ module _ (a b : Signer) (keys : ArePartners a b) (r : Role) (o : Opening) where
       (ns : List Notice) → answer_to p.x.closing m.fee_satoshis (range_in m) ≡ res
       → (row : Result Turn Refusal) → row ≡ completed_row a (cond (not begun) (Err refusal.OutOfPlace)
       (cond right (answered a m p.x res) (Err refusal.SignatureWrong)))
-      → Tells r o p.x (answers row (record p { to_x = messages_of channel ns })).x (party p.y)
+      → TellsEvents r o p.x (answers row (record p { to_x = messages_of channel ns })).x (party p.y)
       (moves_of_message r (message.ClosingSigned m) p.x row) (told_by row)
   fee_by true true (Ok ans) p channel m ns e row is =
       let q : Ends = record p { to_x = messages_of channel ns } in
       let n = answered_end m ans p.x in
       let t = answering a ans n in
-      subst (λ z. Tells r o p.x (answers z q).x (party p.y) (moves_of_message r (message.ClosingSigned m) p.x z)
+      subst (λ z. TellsEvents r o p.x (answers z q).x (party p.y) (moves_of_message r (message.ClosingSigned m) p.x z)
       (told_by z)) (sym is)
       (with_sent r o p.x _ (party p.y) _ (t.handed.sent ++ due_sent a t.end) t.handed.told
       (both_none t.handed.sent (due_sent a t.end) (answer_none a ans n) (due_none a t.end))
       (fee_tells a r o m ans p.x (party p.y) e))
   fee_by true true (Err z) p channel m ns e row is =
       let q : Ends = record p { to_x = messages_of channel ns } in
-      subst (λ z. Tells r o p.x (answers z q).x (party p.y) (moves_of_message r (message.ClosingSigned m) p.x z)
+      subst (λ z. TellsEvents r o p.x (answers z q).x (party p.y) (moves_of_message r (message.ClosingSigned m) p.x z)
       (told_by z)) (sym is) (rests p q refl)
   fee_by true false res p channel m ns e row is =
       let q : Ends = record p { to_x = messages_of channel ns } in
-      subst (λ z. Tells r o p.x (answers z q).x (party p.y) (moves_of_message r (message.ClosingSigned m) p.x z)
+      subst (λ z. TellsEvents r o p.x (answers z q).x (party p.y) (moves_of_message r (message.ClosingSigned m) p.x z)
       (told_by z)) (sym is) (rests p q refl)
   fee_by false right res p channel m ns e row is =
       let q : Ends = record p { to_x = messages_of channel ns } in
-      subst (λ z. Tells r o p.x (answers z q).x (party p.y) (moves_of_message r (message.ClosingSigned m) p.x z)
+      subst (λ z. TellsEvents r o p.x (answers z q).x (party p.y) (moves_of_message r (message.ClosingSigned m) p.x z)
       (told_by z)) (sym is) (rests p q refl)
 
   delivered_by : (l : Line) (p : Ends) → p.x_line ≡ l → (channel : List ℕ) (ns to_y : List Notice)
       → Hold a b channel l p.y_line p.x p.y ns to_y p.said_x p.said_y
-      → Tells r o p.x (delivers a (messages_of channel ns) p).x (party p.y)
+      → TellsEvents r o p.x (delivers a (messages_of channel ns) p).x (party p.y)
       (moves_delivered a r p.x_line (messages_of channel ns) p.x) (told_on a p.x_line (messages_of channel ns) p.x)
   delivered_by l p is channel [] to_y h = rests p p refl
   delivered_by Down p is channel (n ∷ ns) to_y h = absurd (let no : n ∷ ns ≡ [] = h.kept.back.flight in cc)
@@ -524,16 +526,17 @@ module _ (a b : Signer) (keys : ArePartners a b) (r : Role) (o : Opening) where
   delivered_by Met p is channel (Again m ∷ ns) to_y h = met p is channel (Again m) ns to_y refl h
 
   given_by : (f : Option Refusal) (t : Turn) (c : Command) (p : Ends) → events_in (all_of t.handed) ≡ []
-      → t.end.ledger ≡ p.x.ledger → (log.IsWithin p.x.dance.log → Keep p.x t.end)
-      → Tells r o p.x (answers (unless f t) p).x (party p.y) (moves_of_command r c p.x (unless f t))
+      → t.end.ledger ≡ p.x.ledger → (log.IsWithin p.x.dance.log → HeldStays p.x t.end)
+      → TellsEvents r o p.x (answers (unless f t) p).x (party p.y) (moves_of_command r c p.x (unless f t))
       (told_by (unless f t))
   given_by None t c p none same keep =
       silent r o p.x t.end (party p.y) (moves_asked r c p.x) (all_of t.handed) none same
-      (λ q. asked_none q r c p.x (made r o (party p.x) (party p.y))) keep
+      (λ q. asked_none q r c p.x (seen_by r o (party p.x) (party p.y))) keep
   given_by (Some z) t c p none same keep = rests p p refl
 
   given : (c : Command) (p : Ends)
-      → Tells r o p.x (answers (command_row a c p.x) p).x (party p.y) (moves_of_command r c p.x (command_row a c p.x))
+      → TellsEvents r o p.x (answers (command_row a c p.x) p).x (party p.y)
+      (moves_of_command r c p.x (command_row a c p.x))
       (told_by (command_row a c p.x))
   given (command.Confirm id) p = given_by (confirm_fault p.x) _ (command.Confirm id) p refl refl (λ w. keep_same p.x)
   given (command.Add amount hash expiry onion origin) p =
@@ -556,7 +559,7 @@ module _ (a b : Signer) (keys : ArePartners a b) (r : Role) (o : Opening) where
   given (command.Forget id) p = rests p p refl
 
   commanded_by : (f : Option Refusal) (l : Line) (c : Command) (p : Ends)
-      → Tells r o p.x (answers (faulted f (faulted (line_fault l) (command_row a c p.x))) p).x (party p.y)
+      → TellsEvents r o p.x (answers (faulted f (faulted (line_fault l) (command_row a c p.x))) p).x (party p.y)
       (moves_of_command r c p.x (faulted f (faulted (line_fault l) (command_row a c p.x))))
       (told_by (faulted f (faulted (line_fault l) (command_row a c p.x))))
   commanded_by (Some z) l c p = rests p p refl
@@ -565,18 +568,18 @@ module _ (a b : Signer) (keys : ArePartners a b) (r : Role) (o : Opening) where
   commanded_by None Met c p = given c p
 
   lost_by : (down : Bool) (p : Ends)
-      → Tells r o p.x (cond down p (record p { x_line = Down; x = end_dropped p.x; to_x = [] })).x (party p.y)
+      → TellsEvents r o p.x (cond down p (record p { x_line = Down; x = end_dropped p.x; to_x = [] })).x (party p.y)
       (cond down [] (Drop r ∷ [])) []
   lost_by true p = rests p p refl
   lost_by false p = silent r o p.x (end_dropped p.x) (party p.y) (Drop r ∷ []) [] refl refl (λ q. refl)
       (λ w. keep_dropped p.x.dance.log p.x.closing.closed w)
 
   cut_by : (down : Bool) (n : ℕ) (p : Ends)
-      → Tells r o p.x (cond down (record p { to_y = still_come n p.y_line p.to_y }) p).x (party p.y) [] []
+      → TellsEvents r o p.x (cond down (record p { to_y = still_come n p.y_line p.to_y }) p).x (party p.y) [] []
   cut_by true n p = rests p p refl
   cut_by false n p = rests p p refl
 
-  noted_told : (c : Command) (p : Ends) → Tells r o p.x (notes c p).x (party p.y) [] []
+  noted_told : (c : Command) (p : Ends) → TellsEvents r o p.x (notes c p).x (party p.y) [] []
   noted_told c p =
       let l = ledger_behind (ledgered c p.x) p.x.ledger in
       let b = noted c p.x in
@@ -587,11 +590,11 @@ module _ (a b : Signer) (keys : ArePartners a b) (r : Role) (o : Opening) where
         pends = λ w named. leaves p.x l b named;
       }
 
-  pub acts_told : (act : Act) (p : Ends) → Holds a b p
-      → Tells r o p.x (acts a act p).x (party p.y) (moves_of_act a r act p) (told_in a act p)
+  pub acts_told : (act : Act) (p : Ends) → Sound a b p
+      → TellsEvents r o p.x (acts a act p).x (party p.y) (moves_of_act a r act p) (told_in a act p)
   acts_told Deliver p h =
       let is = h.in_x in
-      subst (λ ms. Tells r o p.x (delivers a ms p).x (party p.y) (moves_delivered a r p.x_line ms p.x)
+      subst (λ ms. TellsEvents r o p.x (delivers a ms p).x (party p.y) (moves_delivered a r p.x_line ms p.x)
       (told_on a p.x_line ms p.x)) (sym is) (delivered_by p.x_line p refl h.channel h.to_x h.to_y h.hold)
   acts_told (Give c) p h = commanded_by (unready_fault c p.x) p.x_line c p
   acts_told (Note c) p h = noted_told c p
@@ -611,7 +614,7 @@ next_of Funder p = next_event p.x.ledger
 next_of Fundee p = next_event p.y.ledger
 
 abbrev machine_at : Opening → Ends → Machine
-machine_at o p = made Funder o (party p.x) (party p.y)
+machine_at o p = seen_by Funder o (party p.x) (party p.y)
 
 -- of either end
 record ToldBy (r : Role) (o : Opening) (ms : List Move) (os : List Output) (p q : Ends) : Type 0 where
@@ -634,7 +637,8 @@ connect_next a b r Down Met p = refl
 connect_next a b r Awaiting l p = refl
 connect_next a b r Met l p = refl
 
-step_told : (a b : Signer) → ArePartners a b → (r : Role) (s : Step) (o : Opening) (p : Ends) → Keeps o p → Holds a b p
+step_told : (a b : Signer) → ArePartners a b → (r : Role) (s : Step) (o : Opening) (p : Ends) → BothStand o p
+    → Sound a b p
     → ToldBy r o (moves_of a b s p) (told a b r s p) p (happens a b s p)
 step_told a b keys Funder (By Funder act) o p k h =
     let t = acts_told a b keys Funder o act p h in record { told = t.told; next = t.next }
@@ -656,8 +660,8 @@ step_told a b keys Funder Connect o p k h =
 step_told a b keys Fundee Connect o p k h =
     nothing_told Fundee o [] p (happens a b Connect p) refl (connect_next a b Fundee p.x_line p.y_line p)
 
-all_so : (a b : Signer) → ArePartners a b → (r : Role) (ss : List Step) (o : Opening) (p : Ends) → Keeps o p
-    → Holds a b p
+all_so : (a b : Signer) → ArePartners a b → (r : Role) (ss : List Step) (o : Opening) (p : Ends) → BothStand o p
+    → Sound a b p
     → events_in (all_told a b r ss p)
     ≡ numbered (next_of r p) (as_told (events r (all_moves a b ss p) (Some (machine_at o p))))
 all_so a b keys r [] o p k h = refl
@@ -700,8 +704,8 @@ events_so a b s c funder fundee steps r keys o =
 
 -- ---- what the ledger counts
 
-all_counted : (a b : Signer) → ArePartners a b → (r : Role) (ss : List Step) (o : Opening) (p : Ends) → Keeps o p
-    → Holds a b p → next_of r (run a b ss p)
+all_counted : (a b : Signer) → ArePartners a b → (r : Role) (ss : List Step) (o : Opening) (p : Ends) → BothStand o p
+    → Sound a b p → next_of r (run a b ss p)
     ≡ next_of r p + length (as_told (events r (all_moves a b ss p) (Some (machine_at o p))))
 all_counted a b keys r [] o p k h = omega arith
 all_counted a b keys r (s ∷ ss) o p k h =
@@ -745,7 +749,8 @@ entered_so a b s c funder fundee steps r keys o =
 
 -- ---- what the ledger names
 
-step_pends : (a b : Signer) → ArePartners a b → (r : Role) (s : Step) (o : Opening) (p : Ends) → Keeps o p → Holds a b p
+step_pends : (a b : Signer) → ArePartners a b → (r : Role) (s : Step) (o : Opening) (p : Ends) → BothStand o p
+    → Sound a b p
     → Named (end_of_role r p)
     → Pends (end_of_role r p) (end_of_role r (happens a b s p))
     (as_told (events r (moves_of a b s p) (Some (machine_at o p))))
@@ -776,8 +781,8 @@ step_pends a b keys r Connect o p k h named =
     same q Awaiting l = refl
     same q Met l = refl
 
-all_pend : (a b : Signer) → ArePartners a b → (r : Role) (ss : List Step) (o : Opening) (p : Ends) → Keeps o p
-    → Holds a b p → Named (end_of_role r p)
+all_pend : (a b : Signer) → ArePartners a b → (r : Role) (ss : List Step) (o : Opening) (p : Ends) → BothStand o p
+    → Sound a b p → Named (end_of_role r p)
     → Pends (end_of_role r p) (end_of_role r (run a b ss p))
     (as_told (events r (all_moves a b ss p) (Some (machine_at o p))))
 all_pend a b keys r [] o p k h named = same_pends (end_of_role r p) (end_of_role r p) refl named

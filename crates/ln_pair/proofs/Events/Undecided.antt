@@ -63,7 +63,7 @@ pub record Named (e : End) : Type 0 where
   pub peer_first : e.dance.log.first.peer ≤ e.dance.log.acknowledged.peer
   pub there : All (IsAt e.dance.log.first) e.ledger.undecided
 
-pub record KeepBy (l m : Log) (c d : Option ℕ) : Type 0 where
+pub record LogStays (l m : Log) (c d : Option ℕ) : Type 0 where
   pub own : take l.current.own m.own ≡ take l.current.own l.own
   pub peer : take l.acknowledged.peer m.received ≡ take l.acknowledged.peer l.received
   pub own_le : l.current.own ≤ m.current.own
@@ -71,8 +71,8 @@ pub record KeepBy (l m : Log) (c d : Option ℕ) : Type 0 where
   pub closed : (fee : ℕ) → c ≡ Some fee → d ≡ Some fee
   pub first : m.first ≡ l.first
 
-abbrev pub Keep : End → End → Type 0
-Keep x n = KeepBy x.dance.log n.dance.log x.closing.closed n.closing.closed
+abbrev pub HeldStays : End → End → Type 0
+HeldStays x n = LogStays x.dance.log n.dance.log x.closing.closed n.closing.closed
 
 -- new events stand behind those that were pending, and a first part of them all may have been decided
 pub record Pends (x n : End) (es : List ChannelEvent) : Type 0 where
@@ -101,7 +101,7 @@ close_named None d o p q s f h = absurd h
 close_named (Some fee) d o p q s f h =
     let e = f fee refl in (e, subst (λ z. IsNamed q s z ref.Close) (sym e) tt)
 
-one_kept : (x n : End) → Keep x n → (r : EventRef)
+one_kept : (x n : End) → HeldStays x n → (r : EventRef)
     → IsNamed x.dance.log.current.own x.dance.log.acknowledged.peer x.closing.closed r
     → (named_by r n ≡ named_by r x) × IsNamed n.dance.log.current.own n.dance.log.acknowledged.peer n.closing.closed r
 one_kept x n k (ref.Own i) h = (
@@ -117,7 +117,7 @@ one_kept x n k ref.Close h =
     n.dance.log.current.own n.dance.log.acknowledged.peer k.closed h in
     (ap (option_map event.Closed) c.0, c.1)
 
-kept : (x n : End) → Keep x n → (rs : List EventRef) → NamedIn x rs → (pending rs n ≡ pending rs x) × NamedIn n rs
+kept : (x n : End) → HeldStays x n → (rs : List EventRef) → NamedIn x rs → (pending rs n ≡ pending rs x) × NamedIn n rs
 kept x n k [] h = (refl, tt)
 kept x n k (r ∷ rs) h =
     let one = one_kept x n k r h.0 in
@@ -134,7 +134,7 @@ pending_append (r ∷ rs) ss e =
     ap (cons_option (named_by r e)) (pending_append rs ss e) ∙ one_append (named_by r e) (pending rs e) (pending ss e)
 
 -- new entries behind those that there were
-pub enters : (x n : End) (rs : List EventRef) (es : List ChannelEvent) → Keep x n
+pub enters : (x n : End) (rs : List EventRef) (es : List ChannelEvent) → HeldStays x n
     → n.ledger.undecided ≡ x.ledger.undecided ++ rs → n.ledger.decided ≡ x.ledger.decided
     → pending rs n ≡ es → length rs ≡ length es → NamedIn n rs → All (IsAt x.dance.log.first) rs → Named x
     → Pends x n es
@@ -168,7 +168,7 @@ enters x n rs es k undecided decided e count h there named =
       decided = omega (arith, decided);
     }
 
-pub enters_none : (x n : End) → Keep x n → n.ledger ≡ x.ledger → Named x → Pends x n []
+pub enters_none : (x n : End) → HeldStays x n → n.ledger ≡ x.ledger → Named x → Pends x n []
 enters_none x n k is named =
     let undecided : n.ledger.undecided ≡ x.ledger.undecided = ap (λ (l : Ledger). l.undecided) is in
     enters x n [] [] k (undecided ∙ sym (append-nil x.ledger.undecided)) (ap (λ (l : Ledger). l.decided) is) refl refl
@@ -244,7 +244,7 @@ peer_at f n (u ∷ us) le =
 
 -- ---- what is kept
 
-pub keep_same : (x : End) → Keep x x
+pub keep_same : (x : End) → HeldStays x x
 keep_same x = record {
   own = refl;
   peer = refl;
@@ -260,7 +260,7 @@ take_front (suc k) [] vs le = absurd (omega (arith, le))
 take_front (suc k) (u ∷ us) vs le = ap (λ z. u ∷ z) (take_front k us vs (omega (arith, le)))
 
 pub keep_own : (l : Log) (c : Option ℕ) (u : Change) → log.IsWithin l
-    → KeepBy l (record l { own = l.own ++ u ∷ [] }) c c
+    → LogStays l (record l { own = l.own ++ u ∷ [] }) c c
 keep_own l c u w = record {
   own = take_front l.current.own l.own (u ∷ [])
       (let a = w.own_current in let b = w.own_acknowledged in let d = w.own_signed in omega (arith, a, b, d));
@@ -272,7 +272,7 @@ keep_own l c u w = record {
 }
 
 pub keep_peer : (l : Log) (c : Option ℕ) (u : Change) → log.IsWithin l
-    → KeepBy l (record l { received = l.received ++ u ∷ [] }) c c
+    → LogStays l (record l { received = l.received ++ u ∷ [] }) c c
 keep_peer l c u w = record {
   own = refl;
   peer = take_front l.acknowledged.peer l.received (u ∷ [])
@@ -283,7 +283,7 @@ keep_peer l c u w = record {
   first = refl;
 }
 
-pub keep_dropped : (l : Log) (c : Option ℕ) → log.IsWithin l → KeepBy l (log.after_drop l) c c
+pub keep_dropped : (l : Log) (c : Option ℕ) → log.IsWithin l → LogStays l (log.after_drop l) c c
 keep_dropped l c w = record {
   own = take-take l.current.own l.signed.own l.own
       (let a = w.own_current in let b = w.own_acknowledged in omega (arith, a, b));
@@ -295,13 +295,13 @@ keep_dropped l c w = record {
   first = refl;
 }
 
-pub keep_either : (b : Bool) (x k : End) → Keep x k → Keep x (cond b x k)
+pub keep_either : (b : Bool) (x k : End) → HeldStays x k → HeldStays x (cond b x k)
 keep_either true x k h = keep_same x
 keep_either false x k h = h
 
 pub same_pends : (x n : End) → n ≡ x → Named x → Pends x n []
 same_pends x n e named =
-    enters_none x n (subst (Keep x) (sym e) (keep_same x)) (ap (λ (z : End). z.ledger) e) named
+    enters_none x n (subst (HeldStays x) (sym e) (keep_same x)) (ap (λ (z : End). z.ledger) e) named
 
 -- ---- entries that are decided
 

@@ -13,14 +13,14 @@ use Rattle.ln_close.specs.Closing.{is_funder, is_fee, nearest, within, within_bo
 use Rattle.ln_pair.proofs.Tests.{and_right}
 
 -- by an end with these fees
-abbrev pub Offers : Fees → FeeAnswer → Type 0
-Offers f answer.Nothing = Unit {0}
-Offers f (answer.Close fee) = Unit {0}
-Offers f (answer.EchoAndClose fee) = fee ≤ f.greatest
-Offers f (answer.Propose fee) = fee ≤ f.greatest
+abbrev pub AnswersWithin : Fees → FeeAnswer → Type 0
+AnswersWithin f answer.Nothing = Unit {0}
+AnswersWithin f (answer.Close fee) = Unit {0}
+AnswersWithin f (answer.EchoAndClose fee) = fee ≤ f.greatest
+AnswersWithin f (answer.Propose fee) = fee ≤ f.greatest
 
 abbrev pub IsFair : Fees → Result FeeAnswer Refusal → Type 0
-IsFair f (Ok a) = Offers f a
+IsFair f (Ok a) = AnswersWithin f a
 IsFair f (Err r) = r ≡ refusal.FeeOutside
 
 fair_when : (f : Fees) (b : Bool) (p q : Result FeeAnswer Refusal) → (b ≡ true → IsFair f p) → IsFair f q

@@ -11,9 +11,9 @@ use Rattle.ln_close.specs.Closing.{is_funder, is_fee, nearest, within_both, coun
 use Rattle.ln_pair.proofs.Fees.FeesInFlight.{Deal, Fair, Refused, Elsewhere, Outside, Apart}
 use Rattle.ln_pair.proofs.Fees.Deals.{deal_of}
 
-abbrev pub Says : Deal → ℕ → Option (ℕ × ℕ) → Result FeeAnswer Refusal → Type 0
-Says d fee rg (Ok a) = Fair d fee rg a
-Says d fee rg (Err r) = Refused d fee rg
+abbrev pub RuleSays : Deal → ℕ → Option (ℕ × ℕ) → Result FeeAnswer Refusal → Type 0
+RuleSays d fee rg (Ok a) = Fair d fee rg a
+RuleSays d fee rg (Err r) = Refused d fee rg
 
 pub either : (P : Result FeeAnswer Refusal → Type 0) (t : Bool) (a b : Result FeeAnswer Refusal) → (t ≡ true → P a)
     → (t ≡ false → P b) → P (cond t a b)
@@ -62,10 +62,10 @@ nearest_in : (fee a b lo hi : ℕ) → max a lo ≤ min b hi
 nearest_in fee a b lo hi h = (omega (arith, h), omega (arith, h))
 
 says_within : (c : Closing) (fee : ℕ) (range : Option (ℕ × ℕ)) → is_funder c.role ≡ false → c.own_fee ≡ None
-    → IsLate (deal_of c) fee → Says (deal_of c) fee range (within_both c.fees fee range)
+    → IsLate (deal_of c) fee → RuleSays (deal_of c) fee range (within_both c.fees fee range)
 says_within c fee None e f l = late_refused (deal_of c) fee None l (inr (inr tt))
 says_within c fee (Some r) e f l =
-    either (Says (deal_of c) fee (Some r)) (nat_le (max c.fees.least r.0) (min c.fees.greatest r.1))
+    either (RuleSays (deal_of c) fee (Some r)) (nat_le (max c.fees.least r.0) (min c.fees.greatest r.1))
     (Ok (answer.Propose (nearest (max c.fees.least r.0) (min c.fees.greatest r.1) fee))) (Err refusal.FeeOutside)
     (λ t. (
       e,
@@ -78,19 +78,19 @@ says_within c fee (Some r) e f l =
     (inr (inr (le_not (max c.fees.least r.0) (min c.fees.greatest r.1) t))))
 
 says_counter : (c : Closing) (fee : ℕ) (range : Option (ℕ × ℕ)) → IsLate (deal_of c) fee
-    → Says (deal_of c) fee range (counter c fee range)
+    → RuleSays (deal_of c) fee range (counter c fee range)
 says_counter c fee range l =
-    either (Says (deal_of c) fee range) (is_funder c.role) (Err refusal.FeeOutside)
+    either (RuleSays (deal_of c) fee range) (is_funder c.role) (Err refusal.FeeOutside)
     (cond (is_none c.own_fee) (within_both c.fees fee range) (Err refusal.FeeOutside))
     (λ t. late_refused (deal_of c) fee range l (inl t))
-    (λ t. either (Says (deal_of c) fee range) (is_none c.own_fee) (within_both c.fees fee range)
+    (λ t. either (RuleSays (deal_of c) fee range) (is_none c.own_fee) (within_both c.fees fee range)
     (Err refusal.FeeOutside) (λ u. says_within c fee range t (none_is c.own_fee u) l)
     (λ u. late_refused (deal_of c) fee range l (inr (inl (some_is c.own_fee u)))))
 
 says_open : (c : Closing) (fee : ℕ) (range : Option (ℕ × ℕ)) → c.closed ≡ None
-    → Says (deal_of c) fee range (answer_to (record c { closed = None }) fee range)
+    → RuleSays (deal_of c) fee range (answer_to (record c { closed = None }) fee range)
 says_open c fee range e =
-    let P = Says (deal_of c) fee range in
+    let P = RuleSays (deal_of c) fee range in
     let n : Closing = record c { closed = None } in
     let inside = nat_le c.fees.least fee && nat_le fee c.fees.greatest in
     let echoes = cond inside (Ok (answer.EchoAndClose fee)) (counter n fee range) in
@@ -107,11 +107,12 @@ says_open c fee range e =
     }))))
 
 says_by : (o : Option ℕ) (c : Closing) (fee : ℕ) (range : Option (ℕ × ℕ)) → c.closed ≡ o
-    → Says (deal_of c) fee range (answer_to (record c { closed = o }) fee range)
+    → RuleSays (deal_of c) fee range (answer_to (record c { closed = o }) fee range)
 says_by None c fee range e = says_open c fee range e
 says_by (Some n) c fee range e =
-    either (Says (deal_of c) fee range) (n == fee) (Ok answer.Nothing) (Err refusal.FeeOutside) (λ t. tt)
+    either (RuleSays (deal_of c) fee range) (n == fee) (Ok answer.Nothing) (Err refusal.FeeOutside) (λ t. tt)
     (λ t. Elsewhere n e (eq_not n fee t))
 
-pub says : (c : Closing) (fee : ℕ) (range : Option (ℕ × ℕ)) → Says (deal_of c) fee range (answer_to c fee range)
-says c fee range = says_by c.closed c fee range refl
+pub rule_says : (c : Closing) (fee : ℕ) (range : Option (ℕ × ℕ))
+    → RuleSays (deal_of c) fee range (answer_to c fee range)
+rule_says c fee range = says_by c.closed c fee range refl

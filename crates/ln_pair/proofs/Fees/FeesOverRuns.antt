@@ -48,7 +48,7 @@ use Rattle.ln_pair.proofs.Fees.FeesInFlight.{passed_over, not_none, priced_front
 use Rattle.ln_pair.proofs.Ends.Cuts.{front}
 use Rattle.ln_pair.proofs.Fees.Deals.{deal_of, offer_in, offers_in, IsAside, Aside, aside_message, aside_command}
 use Rattle.ln_pair.proofs.Fees.Deals.{is_shutdown, no_bid}
-use Rattle.ln_pair.proofs.Fees.FeeRules.{Says, none_is, says}
+use Rattle.ln_pair.proofs.Fees.FeeRules.{RuleSays, none_is, rule_says}
 use Rattle.ln_pair.proofs.Flight.Images.{messages_of, messages-append, side_of}
 use Rattle.ln_pair.proofs.Flight.SentAgain.{in-append, resends_so}
 use Rattle.ln_pair.proofs.Ends.JustOpened.{AreFresh}
@@ -191,7 +191,7 @@ answered_by k (answer.Propose n) m p h =
 
 -- p, behind the message
 fee_taken : (k : Signer) (m : ClosingSigned) (p : Ends) (begun right : Bool) (r : Result FeeAnswer Refusal)
-    → Says (deal_of p.x.closing) m.fee_satoshis (range_in m) r → Priced (deal_of p.x.closing) (deal_of p.y.closing)
+    → RuleSays (deal_of p.x.closing) m.fee_satoshis (range_in m) r → Priced (deal_of p.x.closing) (deal_of p.y.closing)
     (offers_in p.to_y) (record { fee = m.fee_satoshis; range = range_in m } ∷ offers_in p.to_x)
     → At (answers (completed_row k (cond (not begun) (Err refusal.OutOfPlace)
     (cond right (answered k m p.x r) (Err refusal.SignatureWrong)))) p)
@@ -293,7 +293,7 @@ row_at : (k : Signer) (m : Message) (c : Bool) (p : Ends) → is_closing_signed 
 row_at k m false p is h = aside_completed k (message_row k m p.x) p (aside_message k m p.x is) (behind m p h)
 row_at k (message.ClosingSigned m) true p is h = fee_taken k m p (has_begun p.x)
     (k.accepts_close m.fee_satoshis m.signature) (answer_to p.x.closing m.fee_satoshis (range_in m))
-    (says p.x.closing m.fee_satoshis (range_in m)) h
+    (rule_says p.x.closing m.fee_satoshis (range_in m)) h
 row_at k (message.ChannelReestablish m) true p is h = absurd (cc)
 row_at k (message.Warning m) true p is h = absurd (cc)
 row_at k (message.Init m) true p is h = absurd (cc)

@@ -38,7 +38,7 @@ use Rattle.ln_pair.proofs.Flight.Sides.{closes_of}
 use Rattle.ln_pair.proofs.Fees.FeesInFlight.{Deal, Offer, Priced, AllAre, Offers, Fair, dealt, swap}
 use Rattle.ln_pair.proofs.Fees.Deals.{deal_of, offer_in, offers_in, IsAside, Aside, aside_message, aside_command}
 use Rattle.ln_pair.proofs.Fees.Deals.{is_shutdown}
-use Rattle.ln_pair.proofs.Fees.FeeRules.{Says, none_is, says}
+use Rattle.ln_pair.proofs.Fees.FeeRules.{RuleSays, none_is, rule_says}
 use Rattle.ln_pair.proofs.Flight.Images.{messages_of}
 use Rattle.ln_pair.proofs.Fees.FeesOverRuns.{At, turned_at, offers-append, arrive_both, again_offers}
 use Rattle.ln_pair.proofs.Fees.OwnRules.{Firm, firm_first, Sure, sure, heard_dealt, firm_dealt}
@@ -260,7 +260,7 @@ dealt_by a m ly d e os qs f s p h =
 
 -- p, behind the message
 fee_taken : (k : Signer) (m : ClosingSigned) (p : Ends) (begun right : Bool) (r : Result FeeAnswer Refusal)
-    → Says (deal_of p.x.closing) m.fee_satoshis (range_in m) r → Sure (deal_of p.x.closing) m.fee_satoshis r
+    → RuleSays (deal_of p.x.closing) m.fee_satoshis (range_in m) r → Sure (deal_of p.x.closing) m.fee_satoshis r
     → IsTaken (completed_row k (cond (not begun) (Err refusal.OutOfPlace)
     (cond right (answered k m p.x r) (Err refusal.SignatureWrong))))
     → Priced (deal_of p.x.closing) (deal_of p.y.closing) (offers_in p.to_y)
@@ -386,7 +386,7 @@ row_by k m false p is t c h = aside_taken k (message_row k m p.x) p (aside_messa
     (os ++ offers_in p.to_x)) (no_offer m is) h)
 row_by k (message.ClosingSigned m) true p is t c h = fee_taken k m p (has_begun p.x)
     (k.accepts_close m.fee_satoshis m.signature) (answer_to p.x.closing m.fee_satoshis (range_in m))
-    (says p.x.closing m.fee_satoshis (range_in m)) (sure p.x.closing m.fee_satoshis (range_in m)) t c h
+    (rule_says p.x.closing m.fee_satoshis (range_in m)) (sure p.x.closing m.fee_satoshis (range_in m)) t c h
 row_by k (message.Warning m) true p is t c h = absurd (cc (is))
 row_by k (message.Init m) true p is t c h = absurd (cc (is))
 row_by k (message.Error m) true p is t c h = absurd (cc (is))

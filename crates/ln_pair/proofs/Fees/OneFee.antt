@@ -29,7 +29,7 @@ use Rattle.ln_pair.specs.Promises.{AreSent, AreAgreeable, Overlap, TakesFront, A
 use Rattle.ln_pair.specs.Promises.{OneFee, is_closing_signed}
 use Rattle.ln_pair.proofs.Fees.FeesInFlight.{Deal, Offer, Priced, Refused, IsPlain, same_fee, refuses}
 use Rattle.ln_pair.proofs.Fees.Deals.{deal_of, offer_in, offers_in, run_fees}
-use Rattle.ln_pair.proofs.Fees.FeeRules.{Says, says}
+use Rattle.ln_pair.proofs.Fees.FeeRules.{RuleSays, rule_says}
 use Rattle.ln_pair.proofs.Ends.JustOpened.{opened_fresh}
 use Rattle.ln_pair.proofs.Fees.FeesOverRuns.{At, turned_at, priced_at}
 use Rattle.ln_pair.proofs.Ends.Promised.{none_refused}
@@ -80,7 +80,7 @@ is_plain c o s =
 
 -- what a fee that is refused comes to
 refused_by : (k : Signer) (m : ClosingSigned) (n : End) (begun right : Bool) (r : Result FeeAnswer Refusal)
-    → Says (deal_of n.closing) m.fee_satoshis (range_in m) r
+    → RuleSays (deal_of n.closing) m.fee_satoshis (range_in m) r
     → completed_row k (cond (not begun) (Err refusal.OutOfPlace)
     (cond right (answered k m n r) (Err refusal.SignatureWrong))) ≡ Err refusal.FeeOutside
     → Refused (deal_of n.closing) m.fee_satoshis (range_in m)
@@ -98,7 +98,7 @@ never k Awaiting (message.ClosingSigned m) n e os qs p q over h is r = absurd (c
 never k Met (message.ClosingSigned m) n e os qs p q over h is r =
     refuses (deal_of n.closing) e m.fee_satoshis (range_in m) os qs p q over
     (refused_by k m n (has_begun n) (k.accepts_close m.fee_satoshis m.signature)
-    (answer_to n.closing m.fee_satoshis (range_in m)) (says n.closing m.fee_satoshis (range_in m)) r) h
+    (answer_to n.closing m.fee_satoshis (range_in m)) (rule_says n.closing m.fee_satoshis (range_in m)) r) h
 never k Awaiting (message.Warning m) n e os qs p q over h is r = absurd (cc (is))
 never k Awaiting (message.Init m) n e os qs p q over h is r = absurd (cc (is))
 never k Awaiting (message.Error m) n e os qs p q over h is r = absurd (cc (is))

@@ -32,7 +32,7 @@ use Rattle.ln_channel.specs.Taking.{takes, late_fault, early_fault, update_fault
 use Rattle.ln_channel.specs.Taking.{signature_row, accepting, accepts, learning, revokes, revocation_row, message_row}
 use Rattle.ln_pair.proofs.Tests.{first_none, no_fault, unless_none}
 use Rattle.ln_pair.proofs.Flight.Sides.{opens}
-use Rattle.ln_pair.proofs.Flight.Walk.{Fits}
+use Rattle.ln_pair.proofs.Flight.Walk.{FitsBehind}
 use Rattle.ln_pair.proofs.Marks.MarksInFlight.{IsAllowed}
 use Rattle.ln_pair.proofs.Flight.Images.{length-sent, take-sent, sent-twice}
 
@@ -87,7 +87,7 @@ same_limits o r own seen held n m u =
     ∙ update_fault_sent o r own (take n seen) (take m held) u
 
 unlimited : (o : Opening) (r : Role) (e : End) (u : Change) → e.dance.log.opening ≡ o → other_role e.dance.log.role ≡ r
-    → Fits o r (all_sent e.dance.log.received) (take e.dance.log.acknowledged.own (all_sent e.dance.log.own))
+    → FitsBehind o r (all_sent e.dance.log.received) (take e.dance.log.acknowledged.own (all_sent e.dance.log.own))
     (take e.dance.log.current.own (all_sent e.dance.log.own)) u → taken_fault e.dance.log u ≡ None
 unlimited o r e u eo er f =
     let l = e.dance.log in
@@ -105,7 +105,7 @@ unlimited o r e u eo er f =
 
 pub update_taken : (o : Opening) (r : Role) (e : End) (u : Change) → e.dance.log.opening ≡ o
     → other_role e.dance.log.role ≡ r → is_ready e ≡ true → IsAllowed (opens u) e.closing.peer_shut
-    → Fits o r (all_sent e.dance.log.received) (take e.dance.log.acknowledged.own (all_sent e.dance.log.own))
+    → FitsBehind o r (all_sent e.dance.log.received) (take e.dance.log.acknowledged.own (all_sent e.dance.log.own))
     (take e.dance.log.current.own (all_sent e.dance.log.own)) u → update_row u e ≡ Ok (quiet (takes u e))
 update_taken o r e u eo er ready may f =
     unless_none (update_fault e u) (quiet (takes u e))
@@ -128,7 +128,7 @@ mapped_none f None e = refl
 mapped_none f (Some r) e = absurd (cc)
 
 pub proposal_fits : (e : End) (u : Change) → id_fault e.dance.log.own u ≡ None → proposal_fault e.dance.log u ≡ None
-    → Fits e.dance.log.opening e.dance.log.role (all_sent e.dance.log.own)
+    → FitsBehind e.dance.log.opening e.dance.log.role (all_sent e.dance.log.own)
     (take e.dance.log.current.peer (all_sent e.dance.log.received))
     (take e.dance.log.acknowledged.peer (all_sent e.dance.log.received)) (as_sent u)
 proposal_fits e u id h =

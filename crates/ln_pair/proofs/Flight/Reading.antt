@@ -7,11 +7,11 @@ use Rattle.std.proofs.Common.{None, ◌≡◌, ℕ, ◌+◌, ◌≤◌, List, []
 use Rattle.std.proofs.Common.{append_assoc, append-nil, false, zero, suc}
 use Rattle.ln_log.specs.declared.update.Update.{Update as Change}
 use Rattle.ln_pair.proofs.Flight.Sides.{Ready, Shutdown, Close, Notice, Update, Sign, Revoke, Again, updates_of}
-use Rattle.ln_pair.proofs.Flight.Walk.{Fits, AllFit, Sender, IsBehind, Reads, Anywhere}
+use Rattle.ln_pair.proofs.Flight.Walk.{FitsBehind, AllFit, Sender, IsBehind, Reads, Anywhere}
 
 -- what is within the limits stays so where more of the peer's updates stand with it
-pub fits-more : (o : Opening) (r : Role) (own p q held : List Change) (u : Change) → Fits o r own p held u
-    → Fits o r own (p ++ q) held u
+pub fits-more : (o : Opening) (r : Role) (own p q held : List Change) (u : Change) → FitsBehind o r own p held u
+    → FitsBehind o r own (p ++ q) held u
 fits-more o r own p q held u h = record {
   room = h.room;
   next = h.next;
@@ -21,8 +21,8 @@ fits-more o r own p q held u h = record {
 }
 
 -- or where its side holds more of them
-pub fits-held : (o : Opening) (r : Role) (own p h k : List Change) (u : Change) → Fits o r own p h u
-    → Fits o r own p (h ++ k) u
+pub fits-held : (o : Opening) (r : Role) (own p h k : List Change) (u : Change) → FitsBehind o r own p h u
+    → FitsBehind o r own p (h ++ k) u
 fits-held o r own p h k u f = record {
   room = f.room;
   next = f.next;
@@ -75,7 +75,7 @@ pub reads-proposed : (w : Sender) (own more held : List Change) (all : ℕ) (Q :
     → Reads w (own ++ more) held all Q got a c r ms
 reads-proposed w own more held all Q got a c r [] h = h
 reads-proposed w own more held all Q got a c r (Update u ∷ ms) h = (
-  let b = take-begins a own more in subst (λ p. Fits w.opening w.role got p held u) b.1
+  let b = take-begins a own more in subst (λ p. FitsBehind w.opening w.role got p held u) b.1
       (fits-more w.opening w.role got (take a own) b.0 held u h.0),
   reads-proposed w own more held all Q (got ++ u ∷ []) a c r ms h.1,
 )
@@ -106,9 +106,9 @@ reads-signed w own held all more Q got a c r (Close z ∷ ms) le h =
 reads-signed w own held all more Q got a c r (Again n ∷ ms) le h = absurd h
 
 fits-same : (w v : Sender) (got seen held : List Change) (u : Change) → v.opening ≡ w.opening → v.role ≡ w.role
-    → Fits w.opening w.role got seen held u → Fits v.opening v.role got seen held u
-fits-same w v got seen held u eo er h = subst (λ o. Fits o v.role got seen held u) (sym eo)
-    (subst (λ r. Fits w.opening r got seen held u) (sym er) h)
+    → FitsBehind w.opening w.role got seen held u → FitsBehind v.opening v.role got seen held u
+fits-same w v got seen held u eo er h = subst (λ o. FitsBehind o v.role got seen held u) (sym eo)
+    (subst (λ r. FitsBehind w.opening r got seen held u) (sym er) h)
 
 -- the sender signs: its last signature was accepted
 pub reads-signing : (w v : Sender) (own held : List Change) (all : ℕ) (Q : List Change → ℕ → ℕ → ℕ

@@ -16,7 +16,7 @@ use Rattle.ln_pair.proofs.Flight.Sides.{Side}
 
 -- an update of the side r is taken behind own, where seen of the other side's stand with it, and the side
 -- holds held of them
-pub record Fits (o : Opening) (r : Role) (own seen held : List Change) (u : Change) : Type 0 where
+pub record FitsBehind (o : Opening) (r : Role) (own seen held : List Change) (u : Change) : Type 0 where
   pub room : is_at_update_limit own ≡ false
   pub next : id_fault own u ≡ None
   pub within : update_fault o r own seen held u ≡ None
@@ -24,7 +24,7 @@ pub record Fits (o : Opening) (r : Role) (own seen held : List Change) (u : Chan
 
 abbrev pub AllFit : Opening → Role → List Change → List Change → List Change → List Change → Type 0
 AllFit o r before seen held [] = Unit {0}
-AllFit o r before seen held (u ∷ us) = Fits o r before seen held u × AllFit o r (before ++ u ∷ []) seen held us
+AllFit o r before seen held (u ∷ us) = FitsBehind o r before seen held u × AllFit o r (before ++ u ∷ []) seen held us
 
 -- ---- the records of both
 
@@ -92,7 +92,7 @@ pub record IsNext (w : Sender) (c r : ℕ) (m : RevokeAndAck) : Type 0 where
 abbrev pub Reads : Sender → List Change → List Change → ℕ → (List Change → ℕ → ℕ → ℕ → Type 0) → List Change → ℕ → ℕ
     → ℕ → List Notice → Type 0
 Reads w own held all Q got a c r [] = Q got a c r
-Reads w own held all Q got a c r (Update u ∷ ms) = Fits w.opening w.role got (take a own) held u
+Reads w own held all Q got a c r (Update u ∷ ms) = FitsBehind w.opening w.role got (take a own) held u
     × Reads w own held all Q (got ++ u ∷ []) a c r ms
 Reads w own held all Q got a c r (Sign k ∷ ms) = IsDue w got a c k × Reads w own held all Q got a (c + 1) r ms
 Reads w own held all Q got a c r (Revoke k ∷ ms) = IsNext w c r k × Reads w own held all Q got all c (r + 1) ms
@@ -172,6 +172,6 @@ pub record Flows (lx ly : Line) (x y : Side) (ms : List Notice) : Type 0 where
   pub flight : InFlight lx ly x y ms
 
 -- each way round
-pub record Kept (b : Both) : Type 0 where
+pub record BothFlow (b : Both) : Type 0 where
   pub there : Flows b.x_link b.y_link b.x b.y b.to_y
   pub back : Flows b.y_link b.x_link b.y b.x b.to_x

@@ -19,20 +19,22 @@ use Rattle.ln_pair.proofs.Flight.Sides.{dealt, closes_of}
 use Rattle.ln_pair.proofs.Flight.Sides.{confirms, shuts, Ready, Shutdown, Close, Notice, Update, Sign, Revoke, Again}
 use Rattle.ln_pair.proofs.Flight.Sides.{Side, posts, proposed, signed_all, received, accepted_all}
 use Rattle.ln_pair.proofs.Flight.Sides.{acknowledged_all, proposes, signs}
-use Rattle.ln_pair.proofs.Flight.Walk.{holds, Reads, Fits, AllFit, Phase, Idle, Sent, Answered, InOrder, sender, IsDue}
-use Rattle.ln_pair.proofs.Flight.Walk.{IsBehind, IsNext, LacksNothing, Anywhere, Carries, InFlight, Flows, Kept}
+use Rattle.ln_pair.proofs.Flight.Walk.{holds, Reads, FitsBehind, AllFit, Phase, Idle, Sent, Answered, InOrder, sender}
+use Rattle.ln_pair.proofs.Flight.Walk.{IsDue}
+use Rattle.ln_pair.proofs.Flight.Walk.{IsBehind, IsNext, LacksNothing, Anywhere, Carries, InFlight, Flows, BothFlow}
 use Rattle.ln_pair.proofs.Flight.Reading.{fits-more, fits-held, reads-held, reads-push, reads-proposed, reads-signed}
 use Rattle.ln_pair.proofs.Flight.Reading.{reads-signing, reads-learned, reads-accepting, reads-same}
 
 -- ---- limits
 
 pub fit-push : (o : Opening) (r : Role) (before seen held us : List Change) (u : Change)
-    → AllFit o r before seen held us → Fits o r (before ++ us) seen held u → AllFit o r before seen held (us ++ u ∷ [])
-fit-push o r before seen held [] u h f = (subst (λ b. Fits o r b seen held u) (append-nil before) f, tt)
+    → AllFit o r before seen held us → FitsBehind o r (before ++ us) seen held u
+    → AllFit o r before seen held (us ++ u ∷ [])
+fit-push o r before seen held [] u h f = (subst (λ b. FitsBehind o r b seen held u) (append-nil before) f, tt)
 fit-push o r before seen held (v ∷ us) u h f = (
   h.0,
   fit-push o r (before ++ v ∷ []) seen held us u h.1
-      (subst (λ b. Fits o r b seen held u) (sym (append_assoc before (v ∷ []) us)) f),
+      (subst (λ b. FitsBehind o r b seen held u) (sym (append_assoc before (v ∷ []) us)) f),
 )
 
 pub fit-all-more : (o : Opening) (r : Role) (before p q held us : List Change) → AllFit o r before p held us
@@ -172,15 +174,15 @@ carries_proposed Met y x u ms le h =
     (LacksNothing y.own y.current.peer y.signatures y.number) x.got x.acked.own x.number x.revocations ms h)
 
 pub kept_proposed : (ly : Line) (x y : Side) (u : Change) (to_x to_y : List Notice)
-    → Fits x.opening x.role x.own (take x.current.peer x.got) (take x.acked.peer x.got) u
-    → Kept (record { x_link = Met; y_link = ly; x = x; y = y; to_x = to_x; to_y = to_y })
-    → Kept (proposes u (record { x_link = Met; y_link = ly; x = x; y = y; to_x = to_x; to_y = to_y }))
+    → FitsBehind x.opening x.role x.own (take x.current.peer x.got) (take x.acked.peer x.got) u
+    → BothFlow (record { x_link = Met; y_link = ly; x = x; y = y; to_x = to_x; to_y = to_y })
+    → BothFlow (proposes u (record { x_link = Met; y_link = ly; x = x; y = y; to_x = to_x; to_y = to_y }))
 kept_proposed ly x y u to_x to_y may k =
     let f = k.there in
     let g = k.back in
     let n = proposed u x in
-    let there : Fits x.opening x.role x.own (take x.current.peer x.got) (holds y) u =
-    subst (λ q. Fits x.opening x.role x.own (take x.current.peer x.got) q u)
+    let there : FitsBehind x.opening x.role x.own (take x.current.peer x.got) (holds y) u =
+    subst (λ q. FitsBehind x.opening x.role x.own (take x.current.peer x.got) q u)
     (held_there x y f.within.peer_acked f.within.peer_signed g.agree f.phase)
     (fits-held x.opening x.role x.own (take x.current.peer x.got) (take x.acked.peer x.got)
     (drop x.acked.peer (holds y)) u may) in
@@ -207,9 +209,9 @@ kept_proposed ly x y u to_x to_y may k =
     (LacksNothing n.own x.current.peer x.signatures x.number) y.got y.acked.own y.number
     y.revocations ns (Update u ∷ [])
     (λ p b d s l. (
-      subst (λ q. Fits x.opening x.role q (take b y.own) (holds y) u) (sym l.has_all)
-          (subst (λ m. Fits x.opening x.role x.own (take m y.own) (holds y) u) (sym l.knows)
-          (subst (λ q. Fits x.opening x.role x.own q (holds y) u) g.agree there)),
+      subst (λ q. FitsBehind x.opening x.role q (take b y.own) (holds y) u) (sym l.has_all)
+          (subst (λ m. FitsBehind x.opening x.role x.own (take m y.own) (holds y) u) (sym l.knows)
+          (subst (λ q. FitsBehind x.opening x.role x.own q (holds y) u) g.agree there)),
       record {
         has_all = ap (λ us. us ++ u ∷ []) l.has_all;
         knows = l.knows;
@@ -277,8 +279,9 @@ settled s a c acked signed current e (Sent e1 e2 e3 e4) = absurd (omega (arith, 
 settled s a c acked signed current e (Answered e1 e2 e3 e4) = absurd (omega (arith, e, e1))
 
 pub kept_signed : (ly : Line) (z : CommitmentSigned) (x y : Side) (to_x to_y : List Notice)
-    → x.signatures ≡ x.revocations → Kept (record { x_link = Met; y_link = ly; x = x; y = y; to_x = to_x; to_y = to_y })
-    → Kept (signs z (record { x_link = Met; y_link = ly; x = x; y = y; to_x = to_x; to_y = to_y }))
+    → x.signatures ≡ x.revocations
+    → BothFlow (record { x_link = Met; y_link = ly; x = x; y = y; to_x = to_x; to_y = to_y })
+    → BothFlow (signs z (record { x_link = Met; y_link = ly; x = x; y = y; to_x = to_x; to_y = to_y }))
 kept_signed ly z x y to_x to_y free k =
     let f = k.there in
     let g = k.back in
@@ -344,8 +347,8 @@ took_update Awaiting x y u ms h = absurd (cc (h.0))
 took_update Met x y u ms h = h.1
 
 pub kept_update : (ly : Line) (x y : Side) (u : Change) (ms to_y : List Notice)
-    → Kept (record { x_link = Met; y_link = ly; x = x; y = y; to_x = Update u ∷ ms; to_y = to_y })
-    → Kept (record { x_link = Met; y_link = ly; x = received u x; y = y; to_x = ms; to_y = to_y })
+    → BothFlow (record { x_link = Met; y_link = ly; x = x; y = y; to_x = Update u ∷ ms; to_y = to_y })
+    → BothFlow (record { x_link = Met; y_link = ly; x = received u x; y = y; to_x = ms; to_y = to_y })
 kept_update ly x y u ms to_y k =
     let f = k.there in
     let g = k.back in
@@ -438,7 +441,7 @@ kept_sign_by : (ly : Line) (z : RevokeAndAck) (v : ChannelReestablish) (x y : Si
     (k : CommitmentSigned) (ms to_y : List Notice)
     → SameFront ly x (accepted_all z v x) → Flows Met ly x y to_y → Flows ly Met y x (Sign k ∷ ms) → Accepts x y k
     → Carries ly y (accepted_all z v x) ms
-    → Kept (record {
+    → BothFlow (record {
       x_link = Met;
       y_link = ly;
       x = accepted_all z v x;
@@ -520,8 +523,8 @@ reads_further x y Q ms le h =
 
 pub kept_sign : (ly : Line) (z : RevokeAndAck) (v : ChannelReestablish) (x y : Side)
     (k : CommitmentSigned) (ms to_y : List Notice)
-    → Kept (record { x_link = Met; y_link = ly; x = x; y = y; to_x = Sign k ∷ ms; to_y = to_y })
-    → Kept (record {
+    → BothFlow (record { x_link = Met; y_link = ly; x = x; y = y; to_x = Sign k ∷ ms; to_y = to_y })
+    → BothFlow (record {
       x_link = Met;
       y_link = ly;
       x = accepted_all z v x;
@@ -556,7 +559,7 @@ kept_revoke_by : (ly : Line) (z : CommitmentSigned) (v : ChannelReestablish) (x 
     (k : RevokeAndAck) (ms to_y : List Notice)
     → InFlight Met ly (acknowledged_all z v x) y to_y → Flows Met ly x y to_y → Flows ly Met y x (Revoke k ∷ ms)
     → IsNext (sender y) x.number x.revocations k → Carries ly y (acknowledged_all z v x) ms
-    → Kept (record { x_link = Met; y_link = ly; x = acknowledged_all z v x; y = y; to_x = ms; to_y = to_y })
+    → BothFlow (record { x_link = Met; y_link = ly; x = acknowledged_all z v x; y = y; to_x = ms; to_y = to_y })
 kept_revoke_by ly z v x y k ms to_y flight f g d rest =
     let n = acknowledged_all z v x in
     let w = f.within in
@@ -611,8 +614,8 @@ carries_learned z v x y ms le h = reads-learned (sender x) (sender (acknowledged
 
 pub kept_revoke : (ly : Line) (z : CommitmentSigned) (v : ChannelReestablish) (x y : Side)
     (k : RevokeAndAck) (ms to_y : List Notice)
-    → Kept (record { x_link = Met; y_link = ly; x = x; y = y; to_x = Revoke k ∷ ms; to_y = to_y })
-    → Kept (record { x_link = Met; y_link = ly; x = acknowledged_all z v x; y = y; to_x = ms; to_y = to_y })
+    → BothFlow (record { x_link = Met; y_link = ly; x = x; y = y; to_x = Revoke k ∷ ms; to_y = to_y })
+    → BothFlow (record { x_link = Met; y_link = ly; x = acknowledged_all z v x; y = y; to_x = ms; to_y = to_y })
 kept_revoke Down z v x y k ms to_y h = kept_revoke_by Down z v x y k ms to_y h.there.flight h.there h.back
     h.back.flight.0 h.back.flight.1
 kept_revoke Awaiting z v x y k ms to_y h = absurd (cc (h.back.flight.0))
@@ -640,8 +643,8 @@ took_shutdown Met z x y ms h = h
 -- m is what x would now send again as its last signature
 pub kept_ready : (ly : Line) (z : ChannelReady) (m : CommitmentSigned) (x y : Side) (ms to_y : List Notice)
     → ((ns : List Notice) → Carries Met x y ns → Carries Met (record x { peer_ready = true; signature = m }) y ns)
-    → Kept (record { x_link = Met; y_link = ly; x = x; y = y; to_x = Ready z ∷ ms; to_y = to_y })
-    → Kept (record {
+    → BothFlow (record { x_link = Met; y_link = ly; x = x; y = y; to_x = Ready z ∷ ms; to_y = to_y })
+    → BothFlow (record {
       x_link = Met;
       y_link = ly;
       x = record x { peer_ready = true; signature = m };
@@ -697,8 +700,8 @@ carries_first m x y ms le h = reads-learned (sender x) (sender (record x { peer_
     y.revocations ms refl refl le refl refl refl refl h
 
 pub kept_shutdown : (ly : Line) (z : ShutdownMessage) (x y : Side) (ms to_y : List Notice)
-    → Kept (record { x_link = Met; y_link = ly; x = x; y = y; to_x = Shutdown z ∷ ms; to_y = to_y })
-    → Kept (record { x_link = Met; y_link = ly; x = record x { peer_shut = true }; y = y; to_x = ms; to_y = to_y })
+    → BothFlow (record { x_link = Met; y_link = ly; x = x; y = y; to_x = Shutdown z ∷ ms; to_y = to_y })
+    → BothFlow (record { x_link = Met; y_link = ly; x = record x { peer_shut = true }; y = y; to_x = ms; to_y = to_y })
 kept_shutdown ly z x y ms to_y k =
     let f = k.there in
     let g = k.back in
@@ -769,8 +772,8 @@ carries_own Awaiting y x n ms h = h
 carries_own Met y x n ms h = h
 
 pub kept_confirmed : (ly : Line) (x y : Side) (to_x to_y : List Notice)
-    → Kept (record { x_link = Met; y_link = ly; x = x; y = y; to_x = to_x; to_y = to_y })
-    → Kept (confirms (record { x_link = Met; y_link = ly; x = x; y = y; to_x = to_x; to_y = to_y }))
+    → BothFlow (record { x_link = Met; y_link = ly; x = x; y = y; to_x = to_x; to_y = to_y })
+    → BothFlow (confirms (record { x_link = Met; y_link = ly; x = x; y = y; to_x = to_x; to_y = to_y }))
 kept_confirmed ly x y to_x to_y k =
     let f = k.there in
     let g = k.back in
@@ -813,8 +816,8 @@ kept_confirmed ly x y to_x to_y k =
     }
 
 pub kept_shut : (ly : Line) (z : ShutdownMessage) (x y : Side) (to_x to_y : List Notice)
-    → Kept (record { x_link = Met; y_link = ly; x = x; y = y; to_x = to_x; to_y = to_y })
-    → Kept (shuts z (record { x_link = Met; y_link = ly; x = x; y = y; to_x = to_x; to_y = to_y }))
+    → BothFlow (record { x_link = Met; y_link = ly; x = x; y = y; to_x = to_x; to_y = to_y })
+    → BothFlow (shuts z (record { x_link = Met; y_link = ly; x = x; y = y; to_x = to_x; to_y = to_y }))
 kept_shut ly z x y to_x to_y k =
     let f = k.there in
     let g = k.back in
@@ -864,8 +867,8 @@ took_close Awaiting z x y ms h = absurd (cc (h.0))
 took_close Met z x y ms h = h
 
 pub kept_close : (ly : Line) (z : ClosingSigned) (x y : Side) (ms to_y : List Notice)
-    → Kept (record { x_link = Met; y_link = ly; x = x; y = y; to_x = Close z ∷ ms; to_y = to_y })
-    → Kept (record { x_link = Met; y_link = ly; x = x; y = y; to_x = ms; to_y = to_y })
+    → BothFlow (record { x_link = Met; y_link = ly; x = x; y = y; to_x = Close z ∷ ms; to_y = to_y })
+    → BothFlow (record { x_link = Met; y_link = ly; x = x; y = y; to_x = ms; to_y = to_y })
 kept_close ly z x y ms to_y k =
     let g = k.back in
     record {
@@ -892,8 +895,8 @@ skipped_ready Awaiting z x y ms h = absurd (cc (h.0))
 skipped_ready Met z x y ms h = h
 
 pub kept_skipped : (ly : Line) (z : ChannelReady) (x y : Side) (ms to_y : List Notice)
-    → Kept (record { x_link = Met; y_link = ly; x = x; y = y; to_x = Ready z ∷ ms; to_y = to_y })
-    → Kept (record { x_link = Met; y_link = ly; x = x; y = y; to_x = ms; to_y = to_y })
+    → BothFlow (record { x_link = Met; y_link = ly; x = x; y = y; to_x = Ready z ∷ ms; to_y = to_y })
+    → BothFlow (record { x_link = Met; y_link = ly; x = x; y = y; to_x = ms; to_y = to_y })
 kept_skipped ly z x y ms to_y k =
     let g = k.back in
     record {
@@ -920,8 +923,8 @@ heard_dealt Awaiting m c y x ms h = h
 heard_dealt Met m c y x ms h = h
 
 pub kept_dealt : (ly : Line) (m : Option ClosingSigned) (c : Bool) (sent : Option ClosingSigned) (x y : Side)
-    (to_x to_y : List Notice) → Kept (record { x_link = Met; y_link = ly; x = x; y = y; to_x = to_x; to_y = to_y })
-    → Kept (record {
+    (to_x to_y : List Notice) → BothFlow (record { x_link = Met; y_link = ly; x = x; y = y; to_x = to_x; to_y = to_y })
+    → BothFlow (record {
       x_link = Met;
       y_link = ly;
       x = dealt m c x;

@@ -18,7 +18,7 @@ use Rattle.ln_pair.proofs.Flight.Sides.{Again, Side, posts, dropped, updates_of,
 use Rattle.ln_pair.proofs.Flight.Sides.{revocation_owed}
 use Rattle.ln_pair.proofs.Flight.Sides.{owed, goes_down, comes_up}
 use Rattle.ln_pair.proofs.Flight.Walk.{holds, AllFit, Phase, Idle, Sent, Answered, InOrder, sender, IsBehind, Reads}
-use Rattle.ln_pair.proofs.Flight.Walk.{LacksNothing, Anywhere, Carries, InFlight, Flows, Kept}
+use Rattle.ln_pair.proofs.Flight.Walk.{LacksNothing, Anywhere, Carries, InFlight, Flows, BothFlow}
 use Rattle.ln_pair.proofs.Flight.Reading.{reads-push, IsQuiet, reads-quiet, reads-to, reads-same, reads-updates}
 use Rattle.ln_pair.proofs.Flight.WalkOverActs.{fit-all-held, held_there, fit-take, fit-behind, current_own, posted}
 use Rattle.ln_pair.proofs.Flight.WalkOverActs.{passed, same_front}
@@ -236,8 +236,8 @@ carries_owed ly x y to_y ms f g (m ∷ ns) h = absurd (cc (h.0))
 
 pub kept_again : (ly : Line) (x y : Side) (m : ChannelReestablish) (ms to_y : List Notice)
     → y.reestablish.next_commitment_number ≡ y.number + 1 → y.reestablish.next_revocation_number ≡ y.revocations
-    → Kept (record { x_link = Awaiting; y_link = ly; x = x; y = y; to_x = Again m ∷ ms; to_y = to_y })
-    → Kept (record {
+    → BothFlow (record { x_link = Awaiting; y_link = ly; x = x; y = y; to_x = Again m ∷ ms; to_y = to_y })
+    → BothFlow (record {
       x_link = Met;
       y_link = ly;
       x = x;
@@ -313,7 +313,7 @@ carries_down Met x y ms h =
     (reads-to (sender x) y.own (holds y) y.signed.own (All x) Anywhere y.got y.acked.own y.number
     y.revocations ms (λ g b d s l. tt) h)
 
-pub kept_down : (b : Both) → Kept b → Kept (goes_down b)
+pub kept_down : (b : Both) → BothFlow b → BothFlow (goes_down b)
 kept_down b k =
     let x = b.x in
     let y = b.y in
@@ -391,6 +391,6 @@ up_flows x y f g = record {
   flight = (refl, (refl, g.cut.1));
 }
 
-pub kept_up : (x y : Side) → Kept (record { x_link = Down; y_link = Down; x = x; y = y; to_x = []; to_y = [] })
-    → Kept (comes_up (record { x_link = Down; y_link = Down; x = x; y = y; to_x = []; to_y = [] }))
+pub kept_up : (x y : Side) → BothFlow (record { x_link = Down; y_link = Down; x = x; y = y; to_x = []; to_y = [] })
+    → BothFlow (comes_up (record { x_link = Down; y_link = Down; x = x; y = y; to_x = []; to_y = [] }))
 kept_up x y k = record { there = up_flows x y k.there k.back; back = up_flows y x k.back k.there }

@@ -43,7 +43,7 @@ use Rattle.ln_pair.specs.Moves.{machine_by, machine_of, moves_asked}
 use Rattle.ln_pair.specs.Doing.{IsReady, HasRoom, IsReadyFor, MayMake, MayDo, Does, BothDo}
 use Rattle.ln_pair.proofs.Flight.Walk.{Phase, Idle, Sent, Answered}
 use Rattle.ln_pair.proofs.Machine.TurnMoves.{log_within}
-use Rattle.ln_pair.proofs.Ends.Runs.{Holds, flipped}
+use Rattle.ln_pair.proofs.Ends.Runs.{Sound, flipped}
 use Rattle.ln_pair.proofs.Machine.RunMoves.{keep_roles}
 use Rattle.ln_pair.proofs.Ends.Promised.{at_end}
 
@@ -445,7 +445,7 @@ one_ahead s a c acked signed current (Idle e1 e2 e3 e4 e5 e6) e = absurd (unequa
 one_ahead s a c acked signed current (Sent e1 e2 e3 e4) e = e1
 one_ahead s a c acked signed current (Answered e1 e2 e3 e4) e = e1
 
-fresh_so : (a b : Signer) (p : Ends) → Holds a b p → IsFresh p.x
+fresh_so : (a b : Signer) (p : Ends) → Sound a b p → IsFresh p.x
 fresh_so a b p h o =
     let n = p.x.dance.numbers in
     let l = p.x.dance.log in

@@ -63,23 +63,23 @@ use Rattle.ln_pair.proofs.Ends.Acts.{Hold}
 use Rattle.ln_pair.proofs.Ends.JustOpened.{opened_holds}
 use Rattle.ln_pair.proofs.Fees.Deals.{run_fees}
 use Rattle.ln_pair.proofs.Ends.Turns.{is_close, begun_so}
-use Rattle.ln_pair.proofs.Ends.Runs.{Holds, flipped, flipped_keys, met_row, meeting_row, ran}
+use Rattle.ln_pair.proofs.Ends.Runs.{Sound, flipped, flipped_keys, met_row, meeting_row, ran}
 use Rattle.ln_pair.proofs.Machine.OneMove as base
-use Rattle.ln_pair.proofs.Machine.OneMove.{made, run-append}
+use Rattle.ln_pair.proofs.Machine.OneMove.{seen_by, run-append}
 use Rattle.ln_pair.proofs.Machine.TurnMoves.{Stands, log_within, turns, resumes, fee_told, may_close, proposed, signed}
 use Rattle.ln_pair.proofs.Machine.TurnMoves.{shut_down, settled_stands}
 
--- x has made these moves, and y is as it was
+-- x has seen_by these moves, and y is as it was
 pub record Moved (r : Role) (o : Opening) (ms : List Move) (p q : Ends) : Type 0 where
-  pub run : IsRun ms (Some (made r o (party p.x) (party p.y))) (Some (made r o (party q.x) (party q.y)))
+  pub run : IsRun ms (Some (seen_by r o (party p.x) (party p.y))) (Some (seen_by r o (party q.x) (party q.y)))
   pub stands : Stands r o q.x
   pub other : q.y ≡ p.y
 
 module _ (a b : Signer) (keys : ArePartners a b) (r : Role) (o : Opening) where
   rests : (p q : Ends) → q.x ≡ p.x → q.y ≡ p.y → Stands r o p.x → Moved r o [] p q
   rests p q ex ey s = record {
-    run = ap (λ (e : End). Some (made r o (party e) (party q.y))) ex
-        ∙ ap (λ (e : End). Some (made r o (party p.x) (party e))) ey;
+    run = ap (λ (e : End). Some (seen_by r o (party e) (party q.y))) ex
+        ∙ ap (λ (e : End). Some (seen_by r o (party p.x) (party e))) ey;
     stands = subst (Stands r o) (sym ex) s;
     other = ey;
   }
@@ -143,7 +143,7 @@ module _ (a b : Signer) (keys : ArePartners a b) (r : Role) (o : Opening) where
   fee p is s channel m ns to_y h =
       fee_by (has_begun p.x) (a.accepts_close m.fee_satoshis m.signature)
       (answer_to p.x.closing m.fee_satoshis (range_in m)) p s channel m ns to_y refl refl
-      (closing_sent p.y_line m (side_of a p.x) (side_of b p.y) ns h.told.back.speech) h
+      (closing_sent p.y_line m (side_of a p.x) (side_of b p.y) ns h.told.back.flight) h
       (message_at a p.x_line (message.ClosingSigned m) p.x)
       (ap (λ l. message_at a l (message.ClosingSigned m) p.x) is)
 
@@ -167,7 +167,7 @@ module _ (a b : Signer) (keys : ArePartners a b) (r : Role) (o : Opening) where
   delivered_by Met p is s channel (Close m ∷ ns) to_y h = fee p is s channel m ns to_y h
   delivered_by Met p is s channel (Again m ∷ ns) to_y h = met p is s channel (Again m) ns to_y refl h
 
-  delivered : (p : Ends) → Stands r o p.x → Holds a b p → Moved r o (moves_of_act a r Deliver p) p (acts a Deliver p)
+  delivered : (p : Ends) → Stands r o p.x → Sound a b p → Moved r o (moves_of_act a r Deliver p) p (acts a Deliver p)
   delivered p s h =
       let is = h.in_x in
       subst (λ ms. Moved r o (moves_delivered a r p.x_line ms p.x) p (delivers a ms p)) (sym is)
@@ -181,7 +181,7 @@ module _ (a b : Signer) (keys : ArePartners a b) (r : Role) (o : Opening) where
   given_by None t c p s k = k refl
   given_by (Some z) t c p s k = rests p p refl refl s
 
-  propose : (u : Change) (c : Command) (p : Ends) → Stands r o p.x → Holds a b p
+  propose : (u : Change) (c : Command) (p : Ends) → Stands r o p.x → Sound a b p
       → moves_asked r c p.x ≡ Propose r (as_sent u) ∷ [] → HasNextId p.x.dance.log.own u
       → Moved r o (moves_of_command r c p.x (unless (propose_fault p.x u)
       (sending (update_message p.x.dance.channel u) (proposes u p.x)))) p
@@ -197,7 +197,7 @@ module _ (a b : Signer) (keys : ArePartners a b) (r : Role) (o : Opening) where
         other = refl;
       }))
 
-  given : (c : Command) (p : Ends) → Stands r o p.x → Holds a b p
+  given : (c : Command) (p : Ends) → Stands r o p.x → Sound a b p
       → Moved r o (moves_of_command r c p.x (command_row a c p.x)) p (answers (command_row a c p.x) p)
   given (command.Confirm id) p s h =
       let t = sending (message.ChannelReady (ready_message a p.x)) (confirmed id p.x) in
@@ -249,7 +249,7 @@ module _ (a b : Signer) (keys : ArePartners a b) (r : Role) (o : Opening) where
   given (command.Decide event mark) p s h = rests p p refl refl s
   given (command.Forget id) p s h = rests p p refl refl s
 
-  commanded_by : (f : Option Refusal) (l : Line) (c : Command) (p : Ends) → Stands r o p.x → Holds a b p
+  commanded_by : (f : Option Refusal) (l : Line) (c : Command) (p : Ends) → Stands r o p.x → Sound a b p
       → Moved r o (moves_of_command r c p.x (faulted f (faulted (line_fault l) (command_row a c p.x)))) p
       (answers (faulted f (faulted (line_fault l) (command_row a c p.x))) p)
   commanded_by (Some z) l c p s h = rests p p refl refl s
@@ -259,7 +259,7 @@ module _ (a b : Signer) (keys : ArePartners a b) (r : Role) (o : Opening) where
 
   -- ---- a connection that is lost
 
-  lost_by : (down : Bool) (p : Ends) → Stands r o p.x → Holds a b p
+  lost_by : (down : Bool) (p : Ends) → Stands r o p.x → Sound a b p
       → Moved r o (cond down [] (Drop r ∷ [])) p
       (cond down p (record p { x_line = Down; x = end_dropped p.x; to_x = [] }))
   lost_by true p s h = rests p p refl refl s
@@ -275,7 +275,7 @@ module _ (a b : Signer) (keys : ArePartners a b) (r : Role) (o : Opening) where
   cut_by true n p s = rests p (record p { to_y = still_come n p.y_line p.to_y }) refl refl s
   cut_by false n p s = rests p p refl refl s
 
-  pub acts_so : (act : Act) (p : Ends) → Stands r o p.x → Holds a b p
+  pub acts_so : (act : Act) (p : Ends) → Stands r o p.x → Sound a b p
       → Moved r o (moves_of_act a r act p) p (acts a act p)
   acts_so Deliver p s h = delivered p s h
   acts_so (Give c) p s h = commanded_by (unready_fault c p.x) p.x_line c p s h
@@ -294,24 +294,24 @@ module _ (a b : Signer) (keys : ArePartners a b) (r : Role) (o : Opening) where
 
 -- ---- steps
 
-pub record Keeps (o : Opening) (p : Ends) : Type 0 where
+pub record BothStand (o : Opening) (p : Ends) : Type 0 where
   pub x : Stands Funder o p.x
   pub y : Stands Fundee o p.y
 
-abbrev pub Runs : Opening → List Move → Ends → Ends → Type 0
-Runs o ms p q =
-    IsRun ms (Some (made Funder o (party p.x) (party p.y))) (Some (made Funder o (party q.x) (party q.y)))
+abbrev pub RunsTo : Opening → List Move → Ends → Ends → Type 0
+RunsTo o ms p q =
+    IsRun ms (Some (seen_by Funder o (party p.x) (party p.y))) (Some (seen_by Funder o (party q.x) (party q.y)))
 
-connected_by : (a b : Signer) (lx ly : Line) (o : Opening) (p : Ends) → Keeps o p
-    → Runs o [] p (connects a b lx ly p) × Keeps o (connects a b lx ly p)
+connected_by : (a b : Signer) (lx ly : Line) (o : Opening) (p : Ends) → BothStand o p
+    → RunsTo o [] p (connects a b lx ly p) × BothStand o (connects a b lx ly p)
 connected_by a b Down Down o p k = (refl, record { x = k.x; y = k.y })
 connected_by a b Down Awaiting o p k = (refl, k)
 connected_by a b Down Met o p k = (refl, k)
 connected_by a b Awaiting l o p k = (refl, k)
 connected_by a b Met l o p k = (refl, k)
 
-pub happens_so : (a b : Signer) → ArePartners a b → (s : Step) (o : Opening) (p : Ends) → Keeps o p → Holds a b p
-    → Runs o (moves_of a b s p) p (happens a b s p) × Keeps o (happens a b s p)
+pub happens_so : (a b : Signer) → ArePartners a b → (s : Step) (o : Opening) (p : Ends) → BothStand o p → Sound a b p
+    → RunsTo o (moves_of a b s p) p (happens a b s p) × BothStand o (happens a b s p)
 happens_so a b keys (By Funder act) o p k h =
     let m = acts_so a b keys Funder o act p k.x h in
     (m.run, record { x = m.stands; y = subst (Stands Fundee o) (sym m.other) k.y })
@@ -320,8 +320,8 @@ happens_so a b keys (By Fundee act) o p k h =
     (m.run, record { x = subst (Stands Funder o) (sym m.other) k.x; y = m.stands })
 happens_so a b keys Connect o p k h = connected_by a b p.x_line p.y_line o p k
 
-runs_so : (a b : Signer) → ArePartners a b → (ss : List Step) (o : Opening) (p : Ends) → Keeps o p → Holds a b p
-    → Runs o (all_moves a b ss p) p (run a b ss p) × Keeps o (run a b ss p)
+runs_so : (a b : Signer) → ArePartners a b → (ss : List Step) (o : Opening) (p : Ends) → BothStand o p → Sound a b p
+    → RunsTo o (all_moves a b ss p) p (run a b ss p) × BothStand o (run a b ss p)
 runs_so a b keys [] o p k h = (refl, k)
 runs_so a b keys (s ∷ ss) o p k h =
     let q = happens a b s p in
@@ -362,8 +362,8 @@ fit_so q e =
 -- as both ends begin
 pub record Starts (q : Opening) (p : Ends) : Type 0 where
   pub fit : IsFit q
-  pub first : Some (made Funder q (party p.x) (party p.y)) ≡ Some (made Funder q fresh fresh)
-  pub keeps : Keeps q p
+  pub first : Some (seen_by Funder q (party p.x) (party p.y)) ≡ Some (seen_by Funder q fresh fresh)
+  pub keeps : BothStand q p
 
 pub starts : (a b : Signer) (s : OpenSpec) (c : Config) (funder fundee : Opened) → Opens a b s c funder fundee
     → Starts funder.dance.log.opening (opened funder fundee)
@@ -397,9 +397,9 @@ starts a b s c funder fundee o =
     ∙ is in
     let fit : IsFit q = subst IsFit offered_is (fit_so (asked_with (open_message a s) c.limits)
     (unfaulted _ (is_fit (asked_with (open_message a s) c.limits)) none)) in
-    let first : Some (made Funder q (party p.x) (party p.y)) ≡ Some (made Funder q fresh fresh) =
-    ap (λ z. Some (made Funder q z (party p.y))) bx.fresh_party
-    ∙ ap (λ z. Some (made Funder q fresh z)) by.fresh_party in
+    let first : Some (seen_by Funder q (party p.x) (party p.y)) ≡ Some (seen_by Funder q fresh fresh) =
+    ap (λ z. Some (seen_by Funder q z (party p.y))) bx.fresh_party
+    ∙ ap (λ z. Some (seen_by Funder q fresh z)) by.fresh_party in
     record {
       fit = fit;
       first = first;
@@ -419,12 +419,12 @@ may_be_made a b s c funder fundee steps keys o =
     let st = starts a b s c funder fundee o in
     let all = runs_so a b keys steps q p st.keeps (opened_holds a b s c funder fundee o) in
     let last = run a b steps p in
-    let is_last : made Funder q (party last.x) (party last.y) ≡ machine_of last =
-    ap (λ z. made Funder z (party last.x) (party last.y)) (sym all.1.x.opening) in
+    let is_last : seen_by Funder q (party last.x) (party last.y) ≡ machine_of last =
+    ap (λ z. seen_by Funder z (party last.x) (party last.y)) (sym all.1.x.opening) in
     let ms = all_moves a b steps p in (
       st.fit,
-      subst (λ m. IsRun ms (Some (made Funder q fresh fresh)) (Some m)) is_last
-          (subst (λ m. IsRun ms m (Some (made Funder q (party last.x) (party last.y)))) st.first all.0),
+      subst (λ m. IsRun ms (Some (seen_by Funder q fresh fresh)) (Some m)) is_last
+          (subst (λ m. IsRun ms m (Some (seen_by Funder q (party last.x) (party last.y)))) st.first all.0),
     )
 
 pub run_after : (ms : List Move) (old new : Option Machine) → IsRun ms old new → after_all ms old ≡ new
@@ -441,7 +441,7 @@ lead_there a b s c funder fundee steps keys o =
 
 pub keep_roles : (a b : Signer) (s : OpenSpec) (c : Config) (funder fundee : Opened) (steps : List Step)
     → ArePartners a b
-    → Opens a b s c funder fundee → Keeps funder.dance.log.opening (run a b steps (opened funder fundee))
+    → Opens a b s c funder fundee → BothStand funder.dance.log.opening (run a b steps (opened funder fundee))
 keep_roles a b s c funder fundee steps keys o =
     let begun = starts a b s c funder fundee o in
     (runs_so a b keys steps funder.dance.log.opening (opened funder fundee) begun.keeps

@@ -46,7 +46,7 @@ use Rattle.ln_pair.proofs.Flight.Images.{message_of, side_of, length-sent, take-
 use Rattle.ln_pair.proofs.Ends.Acts.{Hold, front_reads}
 use Rattle.ln_pair.proofs.Ends.Turns.{turn_of, is_close, took, fronts}
 use Rattle.ln_pair.proofs.Machine.OneMove as base
-use Rattle.ln_pair.proofs.Machine.OneMove.{made, run-append}
+use Rattle.ln_pair.proofs.Machine.OneMove.{seen_by, run-append}
 
 pub log_within : (k : Signer) (e : End) → IsWithin (side_of k e) → log.IsWithin e.dance.log
 log_within k e w = record {
@@ -96,7 +96,7 @@ same_dance false e = refl
 
 module _ (r : Role) (o : Opening) (y : Party) where
   abbrev pub Run : List Move → End → End → Type 0
-  Run ms x n = IsRun ms (Some (made r o (party x) y)) (Some (made r o (party n) y))
+  Run ms x n = IsRun ms (Some (seen_by r o (party x) y)) (Some (seen_by r o (party n) y))
 
   shut_by : (owed : Bool) (e : End) → owes_shutdown e ≡ owed → log.IsWithin e.dance.log
       → Run (shuts r e.closing.shut (answered_by owed e).closing.shut) e (answered_by owed e)
@@ -115,7 +115,8 @@ module _ (r : Role) (o : Opening) (y : Party) where
   settles e w =
       let n = answers_shutdown e in
       let is = begins_so n in
-      subst (λ (q : Party). IsRun (shuts r e.closing.shut q.shut) (Some (made r o (party e) y)) (Some (made r o q y)))
+      subst (λ (q : Party). IsRun (shuts r e.closing.shut q.shut) (Some (seen_by r o (party e) y))
+      (Some (seen_by r o q y)))
       (sym is.0) (shut_by (owes_shutdown e) e refl w)
 
   pub settled_closed : (e : End) → (settled e).closing.closed ≡ e.closing.closed

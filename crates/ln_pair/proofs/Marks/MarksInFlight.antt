@@ -20,7 +20,7 @@ NoneOpens [] = Unit {0}
 NoneOpens (u ∷ us) = (opens u ≡ false) × NoneOpens us
 
 -- what x has sent, and whether y has sent channel_ready
-pub record Teller : Type 0 where
+pub record MarksOf : Type 0 where
   pub ready : Bool
   pub shut : Bool
   pub peer_ready : Bool
@@ -29,25 +29,25 @@ pub record Teller : Type 0 where
   pub bid : Bool  -- it has sent a closing_signed
 
 -- who has taken channel_ready (r) and shutdown (s) or not reads the messages, and stands at Q then
-abbrev pub Tells : Teller → (Bool → Bool → Type 0) → Bool → Bool → List Notice → Type 0
-Tells t Q r s [] = Q r s
-Tells t Q r s (Update u ∷ ms) = (r ≡ true) × (t.peer_ready ≡ true) × IsAllowed (opens u) s × Tells t Q r s ms
-Tells t Q r s (Sign k ∷ ms) = (r ≡ true) × (t.peer_ready ≡ true) × Tells t Q r s ms
-Tells t Q r s (Revoke k ∷ ms) = Tells t Q r s ms
-Tells t Q r s (Ready z ∷ ms) = (t.ready ≡ true) × (z ≡ t.ready_message) × Tells t Q true s ms
-Tells t Q r s (Shutdown z ∷ ms) = (t.shut ≡ true) × (z ≡ t.shut_message) × Tells t Q r true ms
-Tells t Q r s (Close z ∷ ms) = (t.bid ≡ true) × Tells t Q r s ms
-Tells t Q r s (Again n ∷ ms) = ⊥
+abbrev pub ReadsMarks : MarksOf → (Bool → Bool → Type 0) → Bool → Bool → List Notice → Type 0
+ReadsMarks t Q r s [] = Q r s
+ReadsMarks t Q r s (Update u ∷ ms) = (r ≡ true) × (t.peer_ready ≡ true) × IsAllowed (opens u) s × ReadsMarks t Q r s ms
+ReadsMarks t Q r s (Sign k ∷ ms) = (r ≡ true) × (t.peer_ready ≡ true) × ReadsMarks t Q r s ms
+ReadsMarks t Q r s (Revoke k ∷ ms) = ReadsMarks t Q r s ms
+ReadsMarks t Q r s (Ready z ∷ ms) = (t.ready ≡ true) × (z ≡ t.ready_message) × ReadsMarks t Q true s ms
+ReadsMarks t Q r s (Shutdown z ∷ ms) = (t.shut ≡ true) × (z ≡ t.shut_message) × ReadsMarks t Q r true ms
+ReadsMarks t Q r s (Close z ∷ ms) = (t.bid ≡ true) × ReadsMarks t Q r s ms
+ReadsMarks t Q r s (Again n ∷ ms) = ⊥
 
 -- a closed end takes no channel_ready any more
-abbrev pub ToldAll : Bool → Bool → Bool → Bool → Bool → Type 0
-ToldAll ready shut closed r s = (closed ≡ false → r ≡ ready) × (s ≡ shut)
+abbrev pub AllMarks : Bool → Bool → Bool → Bool → Bool → Type 0
+AllMarks ready shut closed r s = (closed ≡ false → r ≡ ready) × (s ≡ shut)
 
-abbrev pub ToldAny : Bool → Bool → Type 0
-ToldAny r s = Unit {0}
+abbrev pub AnyMarks : Bool → Bool → Type 0
+AnyMarks r s = Unit {0}
 
-abbrev pub teller : Side → Side → Teller
-teller x y = record {
+abbrev pub marks_of : Side → Side → MarksOf
+marks_of x y = record {
   ready = x.ready;
   shut = x.shut;
   peer_ready = y.ready;
@@ -56,39 +56,39 @@ teller x y = record {
   bid = has_bid x;
 }
 
-abbrev pub Speaks : Line → Side → Side → List Notice → Type 0
-Speaks Down x y ms = Tells (teller x y) ToldAny y.peer_ready y.peer_shut ms
-Speaks Awaiting x y ms = ms ≡ []
-Speaks Met x y ms = Tells (teller x y) (ToldAll x.ready x.shut y.closed) y.peer_ready y.peer_shut ms
+abbrev pub CarriesMarks : Line → Side → Side → List Notice → Type 0
+CarriesMarks Down x y ms = ReadsMarks (marks_of x y) AnyMarks y.peer_ready y.peer_shut ms
+CarriesMarks Awaiting x y ms = ms ≡ []
+CarriesMarks Met x y ms = ReadsMarks (marks_of x y) (AllMarks x.ready x.shut y.closed) y.peer_ready y.peer_shut ms
 
-abbrev pub SpeaksAgain : Line → Side → Side → List Notice → Type 0
-SpeaksAgain l x y [] = ⊥
-SpeaksAgain l x y (Update u ∷ ms) = ⊥
-SpeaksAgain l x y (Sign k ∷ ms) = ⊥
-SpeaksAgain l x y (Revoke k ∷ ms) = ⊥
-SpeaksAgain l x y (Ready z ∷ ms) = ⊥
-SpeaksAgain l x y (Shutdown z ∷ ms) = ⊥
-SpeaksAgain l x y (Close z ∷ ms) = ⊥
-SpeaksAgain l x y (Again n ∷ ms) = Speaks l x y ms
+abbrev pub MarksAgain : Line → Side → Side → List Notice → Type 0
+MarksAgain l x y [] = ⊥
+MarksAgain l x y (Update u ∷ ms) = ⊥
+MarksAgain l x y (Sign k ∷ ms) = ⊥
+MarksAgain l x y (Revoke k ∷ ms) = ⊥
+MarksAgain l x y (Ready z ∷ ms) = ⊥
+MarksAgain l x y (Shutdown z ∷ ms) = ⊥
+MarksAgain l x y (Close z ∷ ms) = ⊥
+MarksAgain l x y (Again n ∷ ms) = CarriesMarks l x y ms
 
-abbrev pub Speech : Line → Line → Side → Side → List Notice → Type 0
-Speech l Down x y ms = ms ≡ []
-Speech l Awaiting x y ms = SpeaksAgain l x y ms
-Speech l Met x y ms = Speaks l x y ms
+abbrev pub MarksFlight : Line → Line → Side → Side → List Notice → Type 0
+MarksFlight l Down x y ms = ms ≡ []
+MarksFlight l Awaiting x y ms = MarksAgain l x y ms
+MarksFlight l Met x y ms = CarriesMarks l x y ms
 
 pub record IsReady (x : Side) : Type 0 where
   pub sent : x.ready ≡ true
   pub taken : x.peer_ready ≡ true
 
-pub record Told (lx ly : Line) (x y : Side) (ms : List Notice) : Type 0 where
+pub record MarksFlow (lx ly : Line) (x y : Side) (ms : List Notice) : Type 0 where
   pub ready_sent : y.peer_ready ≡ true → x.ready ≡ true
   pub shut_sent : y.peer_shut ≡ true → x.shut ≡ true
   pub used : 1 ≤ length x.own → IsReady x
   pub used_signature : 1 ≤ x.signatures → IsReady x
   pub used_number : 1 ≤ x.number → IsReady x
   pub shut : x.shut ≡ true → NoneOpens (drop x.acked.own x.own)
-  pub speech : Speech lx ly x y ms
+  pub flight : MarksFlight lx ly x y ms
 
-pub record BothTold (b : Both) : Type 0 where
-  pub there : Told b.x_link b.y_link b.x b.y b.to_y
-  pub back : Told b.y_link b.x_link b.y b.x b.to_x
+pub record BothMarks (b : Both) : Type 0 where
+  pub there : MarksFlow b.x_link b.y_link b.x b.y b.to_y
+  pub back : MarksFlow b.y_link b.x_link b.y b.x b.to_x

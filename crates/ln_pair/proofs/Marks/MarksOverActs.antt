@@ -16,66 +16,68 @@ use Rattle.ln_pair.proofs.Flight.Sides.{opens, Notice, Update, Sign, Revoke, Rea
 use Rattle.ln_pair.proofs.Flight.Sides.{Side, posts, proposed, signed_all, received, accepted_all, acknowledged_all}
 use Rattle.ln_pair.proofs.Flight.Sides.{proposes}
 use Rattle.ln_pair.proofs.Flight.Sides.{signs, confirms, shuts}
-use Rattle.ln_pair.proofs.Marks.MarksInFlight.{IsAllowed, NoneOpens, Teller, Tells, ToldAll, ToldAny, teller, Speaks}
-use Rattle.ln_pair.proofs.Marks.MarksInFlight.{Speech, IsReady}
-use Rattle.ln_pair.proofs.Marks.MarksInFlight.{BothTold}
+use Rattle.ln_pair.proofs.Marks.MarksInFlight.{IsAllowed, NoneOpens, MarksOf, ReadsMarks, AllMarks, AnyMarks, marks_of}
+use Rattle.ln_pair.proofs.Marks.MarksInFlight.{CarriesMarks}
+use Rattle.ln_pair.proofs.Marks.MarksInFlight.{MarksFlight, IsReady}
+use Rattle.ln_pair.proofs.Marks.MarksInFlight.{BothMarks}
 
 -- ---- the walk
 
 -- as more was sent
-pub tells-more : (t v : Teller) (Q : Bool → Bool → Type 0) (r s : Bool) (ms : List Notice)
+pub marks-more : (t v : MarksOf) (Q : Bool → Bool → Type 0) (r s : Bool) (ms : List Notice)
     → (t.ready ≡ true → v.ready ≡ true) → (t.shut ≡ true → v.shut ≡ true) → (t.peer_ready ≡ true → v.peer_ready ≡ true)
     → v.ready_message ≡ t.ready_message → (t.shut ≡ true → v.shut_message ≡ t.shut_message)
     → (t.bid ≡ true → v.bid ≡ true)
-    → Tells t Q r s ms → Tells v Q r s ms
-tells-more t v Q r s [] a b c d g k h = h
-tells-more t v Q r s (Update u ∷ ms) a b c d g k h = (h.0, c h.1, h.2, tells-more t v Q r s ms a b c d g k h.3)
-tells-more t v Q r s (Sign z ∷ ms) a b c d g k h = (h.0, c h.1, tells-more t v Q r s ms a b c d g k h.2)
-tells-more t v Q r s (Revoke z ∷ ms) a b c d g k h = tells-more t v Q r s ms a b c d g k h
-tells-more t v Q r s (Ready z ∷ ms) a b c d g k h = (a h.0, h.1 ∙ sym d, tells-more t v Q true s ms a b c d g k h.2)
-tells-more t v Q r s (Shutdown z ∷ ms) a b c d g k h =
-    (b h.0, h.1 ∙ sym (g h.0), tells-more t v Q r true ms a b c d g k h.2)
-tells-more t v Q r s (Close z ∷ ms) a b c d g k h = (k h.0, tells-more t v Q r s ms a b c d g k h.1)
-tells-more t v Q r s (Again n ∷ ms) a b c d g k h = absurd h
+    → ReadsMarks t Q r s ms → ReadsMarks v Q r s ms
+marks-more t v Q r s [] a b c d g k h = h
+marks-more t v Q r s (Update u ∷ ms) a b c d g k h = (h.0, c h.1, h.2, marks-more t v Q r s ms a b c d g k h.3)
+marks-more t v Q r s (Sign z ∷ ms) a b c d g k h = (h.0, c h.1, marks-more t v Q r s ms a b c d g k h.2)
+marks-more t v Q r s (Revoke z ∷ ms) a b c d g k h = marks-more t v Q r s ms a b c d g k h
+marks-more t v Q r s (Ready z ∷ ms) a b c d g k h = (a h.0, h.1 ∙ sym d, marks-more t v Q true s ms a b c d g k h.2)
+marks-more t v Q r s (Shutdown z ∷ ms) a b c d g k h =
+    (b h.0, h.1 ∙ sym (g h.0), marks-more t v Q r true ms a b c d g k h.2)
+marks-more t v Q r s (Close z ∷ ms) a b c d g k h = (k h.0, marks-more t v Q r s ms a b c d g k h.1)
+marks-more t v Q r s (Again n ∷ ms) a b c d g k h = absurd h
 
-pub tells-push : (t : Teller) (P Q : Bool → Bool → Type 0) (r s : Bool) (ms ns : List Notice)
-    → ((q p : Bool) → P q p → Tells t Q q p ns) → Tells t P r s ms → Tells t Q r s (ms ++ ns)
-tells-push t P Q r s [] ns f h = f r s h
-tells-push t P Q r s (Update u ∷ ms) ns f h = (h.0, h.1, h.2, tells-push t P Q r s ms ns f h.3)
-tells-push t P Q r s (Sign k ∷ ms) ns f h = (h.0, h.1, tells-push t P Q r s ms ns f h.2)
-tells-push t P Q r s (Revoke k ∷ ms) ns f h = tells-push t P Q r s ms ns f h
-tells-push t P Q r s (Ready z ∷ ms) ns f h = (h.0, h.1, tells-push t P Q true s ms ns f h.2)
-tells-push t P Q r s (Shutdown z ∷ ms) ns f h = (h.0, h.1, tells-push t P Q r true ms ns f h.2)
-tells-push t P Q r s (Close z ∷ ms) ns f h = (h.0, tells-push t P Q r s ms ns f h.1)
-tells-push t P Q r s (Again n ∷ ms) ns f h = absurd h
+pub marks-push : (t : MarksOf) (P Q : Bool → Bool → Type 0) (r s : Bool) (ms ns : List Notice)
+    → ((q p : Bool) → P q p → ReadsMarks t Q q p ns) → ReadsMarks t P r s ms → ReadsMarks t Q r s (ms ++ ns)
+marks-push t P Q r s [] ns f h = f r s h
+marks-push t P Q r s (Update u ∷ ms) ns f h = (h.0, h.1, h.2, marks-push t P Q r s ms ns f h.3)
+marks-push t P Q r s (Sign k ∷ ms) ns f h = (h.0, h.1, marks-push t P Q r s ms ns f h.2)
+marks-push t P Q r s (Revoke k ∷ ms) ns f h = marks-push t P Q r s ms ns f h
+marks-push t P Q r s (Ready z ∷ ms) ns f h = (h.0, h.1, marks-push t P Q true s ms ns f h.2)
+marks-push t P Q r s (Shutdown z ∷ ms) ns f h = (h.0, h.1, marks-push t P Q r true ms ns f h.2)
+marks-push t P Q r s (Close z ∷ ms) ns f h = (h.0, marks-push t P Q r s ms ns f h.1)
+marks-push t P Q r s (Again n ∷ ms) ns f h = absurd h
 
-pub tells-any : (t : Teller) (P : Bool → Bool → Type 0) (r s : Bool) (ms : List Notice) → Tells t P r s ms
-    → Tells t ToldAny r s ms
-tells-any t P r s [] h = tt
-tells-any t P r s (Update u ∷ ms) h = (h.0, h.1, h.2, tells-any t P r s ms h.3)
-tells-any t P r s (Sign k ∷ ms) h = (h.0, h.1, tells-any t P r s ms h.2)
-tells-any t P r s (Revoke k ∷ ms) h = tells-any t P r s ms h
-tells-any t P r s (Ready z ∷ ms) h = (h.0, h.1, tells-any t P true s ms h.2)
-tells-any t P r s (Shutdown z ∷ ms) h = (h.0, h.1, tells-any t P r true ms h.2)
-tells-any t P r s (Close z ∷ ms) h = (h.0, tells-any t P r s ms h.1)
-tells-any t P r s (Again n ∷ ms) h = absurd h
+pub marks-any : (t : MarksOf) (P : Bool → Bool → Type 0) (r s : Bool) (ms : List Notice) → ReadsMarks t P r s ms
+    → ReadsMarks t AnyMarks r s ms
+marks-any t P r s [] h = tt
+marks-any t P r s (Update u ∷ ms) h = (h.0, h.1, h.2, marks-any t P r s ms h.3)
+marks-any t P r s (Sign k ∷ ms) h = (h.0, h.1, marks-any t P r s ms h.2)
+marks-any t P r s (Revoke k ∷ ms) h = marks-any t P r s ms h
+marks-any t P r s (Ready z ∷ ms) h = (h.0, h.1, marks-any t P true s ms h.2)
+marks-any t P r s (Shutdown z ∷ ms) h = (h.0, h.1, marks-any t P r true ms h.2)
+marks-any t P r s (Close z ∷ ms) h = (h.0, marks-any t P r s ms h.1)
+marks-any t P r s (Again n ∷ ms) h = absurd h
 
-pub tells-front : (t : Teller) (P : Bool → Bool → Type 0) (r s : Bool) (ms ns : List Notice) → Tells t P r s (ms ++ ns)
-    → Tells t ToldAny r s ms
-tells-front t P r s [] ns h = tt
-tells-front t P r s (Update u ∷ ms) ns h = (h.0, h.1, h.2, tells-front t P r s ms ns h.3)
-tells-front t P r s (Sign k ∷ ms) ns h = (h.0, h.1, tells-front t P r s ms ns h.2)
-tells-front t P r s (Revoke k ∷ ms) ns h = tells-front t P r s ms ns h
-tells-front t P r s (Ready z ∷ ms) ns h = (h.0, h.1, tells-front t P true s ms ns h.2)
-tells-front t P r s (Shutdown z ∷ ms) ns h = (h.0, h.1, tells-front t P r true ms ns h.2)
-tells-front t P r s (Close z ∷ ms) ns h = (h.0, tells-front t P r s ms ns h.1)
-tells-front t P r s (Again n ∷ ms) ns h = absurd h
+pub marks-front : (t : MarksOf) (P : Bool → Bool → Type 0) (r s : Bool) (ms ns : List Notice)
+    → ReadsMarks t P r s (ms ++ ns)
+    → ReadsMarks t AnyMarks r s ms
+marks-front t P r s [] ns h = tt
+marks-front t P r s (Update u ∷ ms) ns h = (h.0, h.1, h.2, marks-front t P r s ms ns h.3)
+marks-front t P r s (Sign k ∷ ms) ns h = (h.0, h.1, marks-front t P r s ms ns h.2)
+marks-front t P r s (Revoke k ∷ ms) ns h = marks-front t P r s ms ns h
+marks-front t P r s (Ready z ∷ ms) ns h = (h.0, h.1, marks-front t P true s ms ns h.2)
+marks-front t P r s (Shutdown z ∷ ms) ns h = (h.0, h.1, marks-front t P r true ms ns h.2)
+marks-front t P r s (Close z ∷ ms) ns h = (h.0, marks-front t P r s ms ns h.1)
+marks-front t P r s (Again n ∷ ms) ns h = absurd h
 
 -- ---- where x or y changes
 
 pub spoken : (ly lx ln : Line) (x n y : Side) (sent ms : List Notice)
-    → ((ns : List Notice) → Speaks lx x y ns → Speaks ln n y (ns ++ sent)) → Speech lx ly x y ms
-    → Speech ln ly n y (posts ly sent ms)
+    → ((ns : List Notice) → CarriesMarks lx x y ns → CarriesMarks ln n y (ns ++ sent)) → MarksFlight lx ly x y ms
+    → MarksFlight ln ly n y (posts ly sent ms)
 spoken Down lx ln x n y sent ms h e = e
 spoken Awaiting lx ln x n y sent [] h e = absurd e
 spoken Awaiting lx ln x n y sent (Update u ∷ ms) h e = absurd e
@@ -88,7 +90,8 @@ spoken Awaiting lx ln x n y sent (Again k ∷ ms) h e = h ms e
 spoken Met lx ln x n y sent ms h e = h ms e
 
 pub silent : (ly lx ln : Line) (x n y : Side) (ms : List Notice)
-    → ((ns : List Notice) → Speaks lx x y ns → Speaks ln n y ns) → Speech lx ly x y ms → Speech ln ly n y ms
+    → ((ns : List Notice) → CarriesMarks lx x y ns → CarriesMarks ln n y ns) → MarksFlight lx ly x y ms
+    → MarksFlight ln ly n y ms
 silent Down lx ln x n y ms h e = e
 silent Awaiting lx ln x n y [] h e = absurd e
 silent Awaiting lx ln x n y (Update u ∷ ms) h e = absurd e
@@ -135,41 +138,43 @@ drop-past (suc k) (u ∷ us) le = drop-past k us (omega (arith, le))
 
 -- nothing that the reader has said changes
 heard_same : (ly : Line) (y x n : Side) (ms : List Notice) → n.ready ≡ x.ready → n.peer_ready ≡ x.peer_ready
-    → n.peer_shut ≡ x.peer_shut → n.closed ≡ x.closed → Speaks ly y x ms → Speaks ly y n ms
+    → n.peer_shut ≡ x.peer_shut → n.closed ≡ x.closed → CarriesMarks ly y x ms → CarriesMarks ly y n ms
 heard_same Down y x n ms e f g c h =
-    subst (λ b. Tells (record (teller y x) { peer_ready = b }) ToldAny n.peer_ready n.peer_shut ms) (sym e)
-    (subst (λ b. Tells (teller y x) ToldAny b n.peer_shut ms) (sym f)
-    (subst (λ b. Tells (teller y x) ToldAny x.peer_ready b ms) (sym g) h))
+    subst (λ b. ReadsMarks (record (marks_of y x) { peer_ready = b }) AnyMarks n.peer_ready n.peer_shut ms) (sym e)
+    (subst (λ b. ReadsMarks (marks_of y x) AnyMarks b n.peer_shut ms) (sym f)
+    (subst (λ b. ReadsMarks (marks_of y x) AnyMarks x.peer_ready b ms) (sym g) h))
 heard_same Awaiting y x n ms e f g c h = h
 heard_same Met y x n ms e f g c h =
-    subst (λ b. Tells (record (teller y x) { peer_ready = b }) (ToldAll y.ready y.shut n.closed)
+    subst (λ b. ReadsMarks (record (marks_of y x) { peer_ready = b }) (AllMarks y.ready y.shut n.closed)
     n.peer_ready n.peer_shut ms) (sym e)
-    (subst (λ q. Tells (teller y x) (ToldAll y.ready y.shut q) n.peer_ready n.peer_shut ms) (sym c)
-    (subst (λ b. Tells (teller y x) (ToldAll y.ready y.shut x.closed) b n.peer_shut ms) (sym f)
-    (subst (λ b. Tells (teller y x) (ToldAll y.ready y.shut x.closed) x.peer_ready b ms) (sym g) h)))
+    (subst (λ q. ReadsMarks (marks_of y x) (AllMarks y.ready y.shut q) n.peer_ready n.peer_shut ms) (sym c)
+    (subst (λ b. ReadsMarks (marks_of y x) (AllMarks y.ready y.shut x.closed) b n.peer_shut ms) (sym f)
+    (subst (λ b. ReadsMarks (marks_of y x) (AllMarks y.ready y.shut x.closed) x.peer_ready b ms) (sym g) h)))
 
 -- ---- x sends channel_ready
 
-heard_ready : (ly : Line) (y x : Side) (ms : List Notice) → Speaks ly y x ms
-    → Speaks ly y (record x { ready = true }) ms
-heard_ready Down y x ms h = tells-more (teller y x) (teller y (record x { ready = true })) ToldAny x.peer_ready
+heard_ready : (ly : Line) (y x : Side) (ms : List Notice) → CarriesMarks ly y x ms
+    → CarriesMarks ly y (record x { ready = true }) ms
+heard_ready Down y x ms h = marks-more (marks_of y x) (marks_of y (record x { ready = true })) AnyMarks x.peer_ready
     x.peer_shut ms (λ e. e) (λ e. e) (λ e. refl) refl (λ e. refl) (λ e. e) h
 heard_ready Awaiting y x ms h = h
-heard_ready Met y x ms h = tells-more (teller y x) (teller y (record x { ready = true }))
-    (ToldAll y.ready y.shut x.closed)
+heard_ready Met y x ms h = marks-more (marks_of y x) (marks_of y (record x { ready = true }))
+    (AllMarks y.ready y.shut x.closed)
     x.peer_ready x.peer_shut ms (λ e. e) (λ e. e) (λ e. refl) refl (λ e. refl) (λ e. e) h
 
-pub told_confirmed : (ly : Line) (x y : Side) (to_x to_y : List Notice)
-    → BothTold (record { x_link = Met; y_link = ly; x = x; y = y; to_x = to_x; to_y = to_y })
-    → BothTold (confirms (record { x_link = Met; y_link = ly; x = x; y = y; to_x = to_x; to_y = to_y }))
-told_confirmed ly x y to_x to_y k =
+pub marks_confirmed : (ly : Line) (x y : Side) (to_x to_y : List Notice)
+    → BothMarks (record { x_link = Met; y_link = ly; x = x; y = y; to_x = to_x; to_y = to_y })
+    → BothMarks (confirms (record { x_link = Met; y_link = ly; x = x; y = y; to_x = to_x; to_y = to_y }))
+marks_confirmed ly x y to_x to_y k =
     let f = k.there in
     let g = k.back in
     let n : Side = record x { ready = true } in
-    let body : (ns : List Notice) → Speaks Met x y ns → Speaks Met n y (ns ++ Ready x.ready_message ∷ []) = λ ns h.
-    tells-push (teller n y) (ToldAll x.ready x.shut y.closed) (ToldAll true x.shut y.closed) y.peer_ready y.peer_shut ns
+    let body : (ns : List Notice) → CarriesMarks Met x y ns
+    → CarriesMarks Met n y (ns ++ Ready x.ready_message ∷ []) = λ ns h.
+    marks-push (marks_of n y) (AllMarks x.ready x.shut y.closed) (AllMarks true x.shut y.closed) y.peer_ready
+    y.peer_shut ns
     (Ready x.ready_message ∷ []) (λ q p a. (refl, refl, (λ e. refl, a.1)))
-    (tells-more (teller x y) (teller n y) (ToldAll x.ready x.shut y.closed) y.peer_ready y.peer_shut ns (λ e. refl)
+    (marks-more (marks_of x y) (marks_of n y) (AllMarks x.ready x.shut y.closed) y.peer_ready y.peer_shut ns (λ e. refl)
     (λ e. e) (λ e. e) refl (λ e. refl) (λ e. e) h) in
     record {
       there = record {
@@ -179,7 +184,7 @@ told_confirmed ly x y to_x to_y k =
         used_signature = λ e. record { sent = refl; taken = (f.used_signature e).taken };
         used_number = λ e. record { sent = refl; taken = (f.used_number e).taken };
         shut = f.shut;
-        speech = spoken ly Met Met x n y (Ready x.ready_message ∷ []) to_y body f.speech;
+        flight = spoken ly Met Met x n y (Ready x.ready_message ∷ []) to_y body f.flight;
       };
       back = record {
         ready_sent = g.ready_sent;
@@ -188,15 +193,15 @@ told_confirmed ly x y to_x to_y k =
         used_signature = g.used_signature;
         used_number = g.used_number;
         shut = g.shut;
-        speech =
-            heard_ready ly y x to_x g.speech;
+        flight =
+            heard_ready ly y x to_x g.flight;
       };
     }
 
 -- ---- x sends shutdown
 
-pub told_shut : (ly : Line) (z : ShutdownMessage) (x y : Side) (to_x to_y : List Notice) → x.shut ≡ false
-    → x.acked.own ≡ length x.own → BothTold (record {
+pub marks_shut : (ly : Line) (z : ShutdownMessage) (x y : Side) (to_x to_y : List Notice) → x.shut ≡ false
+    → x.acked.own ≡ length x.own → BothMarks (record {
       x_link = Met;
       y_link = ly;
       x = x;
@@ -204,16 +209,16 @@ pub told_shut : (ly : Line) (z : ShutdownMessage) (x y : Side) (to_x to_y : List
       to_x = to_x;
       to_y = to_y;
     })
-    → BothTold (shuts z (record { x_link = Met; y_link = ly; x = x; y = y; to_x = to_x; to_y = to_y }))
-told_shut ly z x y to_x to_y unshut all k =
+    → BothMarks (shuts z (record { x_link = Met; y_link = ly; x = x; y = y; to_x = to_x; to_y = to_y }))
+marks_shut ly z x y to_x to_y unshut all k =
     let f = k.there in
     let g = k.back in
     let n : Side = record x { shut = true; shut_message = z } in
-    let body : (ns : List Notice) → Speaks Met x y ns → Speaks Met n y (ns ++ Shutdown z ∷ []) = λ ns h.
-    tells-push (teller n y) (ToldAll x.ready x.shut y.closed) (ToldAll x.ready true y.closed)
+    let body : (ns : List Notice) → CarriesMarks Met x y ns → CarriesMarks Met n y (ns ++ Shutdown z ∷ []) = λ ns h.
+    marks-push (marks_of n y) (AllMarks x.ready x.shut y.closed) (AllMarks x.ready true y.closed)
     y.peer_ready y.peer_shut ns
     (Shutdown z ∷ []) (λ q p a. (refl, refl, (a.0, refl)))
-    (tells-more (teller x y) (teller n y) (ToldAll x.ready x.shut y.closed) y.peer_ready
+    (marks-more (marks_of x y) (marks_of n y) (AllMarks x.ready x.shut y.closed) y.peer_ready
     y.peer_shut ns (λ e. e) (λ e. refl)
     (λ e. e) refl (λ e. absurd (let d : true ≡ false = sym e ∙ unshut in cc)) (λ e. e) h) in
     record {
@@ -224,7 +229,7 @@ told_shut ly z x y to_x to_y unshut all k =
         used_signature = λ e. record { sent = (f.used_signature e).sent; taken = (f.used_signature e).taken };
         used_number = λ e. record { sent = (f.used_number e).sent; taken = (f.used_number e).taken };
         shut = λ e. subst NoneOpens (sym (drop-past x.acked.own x.own (omega (arith, all)))) tt;
-        speech = spoken ly Met Met x n y (Shutdown z ∷ []) to_y body f.speech;
+        flight = spoken ly Met Met x n y (Shutdown z ∷ []) to_y body f.flight;
       };
       back = record {
         ready_sent = g.ready_sent;
@@ -233,8 +238,8 @@ told_shut ly z x y to_x to_y unshut all k =
         used_signature = g.used_signature;
         used_number = g.used_number;
         shut = g.shut;
-        speech =
-            heard_same ly y x n to_x refl refl refl refl g.speech;
+        flight =
+            heard_same ly y x n to_x refl refl refl refl g.flight;
       };
     }
 
@@ -248,18 +253,18 @@ allowed_own false s h e = refl
 pub ready_same : (x n : Side) → n.ready ≡ x.ready → n.peer_ready ≡ x.peer_ready → IsReady x → IsReady n
 ready_same x n e f r = record { sent = e ∙ r.sent; taken = f ∙ r.taken }
 
-pub told_proposed : (ly : Line) (x y : Side) (u : Change) (to_x to_y : List Notice) → y.closed ≡ false
+pub marks_proposed : (ly : Line) (x y : Side) (u : Change) (to_x to_y : List Notice) → y.closed ≡ false
     → x.acked.own ≤ length x.own
-    → IsReady x → IsAllowed (opens u) x.shut → BothTold
+    → IsReady x → IsAllowed (opens u) x.shut → BothMarks
     (record { x_link = Met; y_link = ly; x = x; y = y; to_x = to_x; to_y = to_y })
-    → BothTold (proposes u (record { x_link = Met; y_link = ly; x = x; y = y; to_x = to_x; to_y = to_y }))
-told_proposed ly x y u to_x to_y on le ready may k =
+    → BothMarks (proposes u (record { x_link = Met; y_link = ly; x = x; y = y; to_x = to_x; to_y = to_y }))
+marks_proposed ly x y u to_x to_y on le ready may k =
     let f = k.there in
     let g = k.back in
     let n = proposed u x in
     let r : IsReady n = ready_same x n refl refl ready in
-    let body : (ns : List Notice) → Speaks Met x y ns → Speaks Met n y (ns ++ Update u ∷ []) = λ ns h.
-    tells-push (teller x y) (ToldAll x.ready x.shut y.closed) (ToldAll x.ready x.shut y.closed) y.peer_ready
+    let body : (ns : List Notice) → CarriesMarks Met x y ns → CarriesMarks Met n y (ns ++ Update u ∷ []) = λ ns h.
+    marks-push (marks_of x y) (AllMarks x.ready x.shut y.closed) (AllMarks x.ready x.shut y.closed) y.peer_ready
     y.peer_shut ns (Update u ∷ [])
     (λ q p a. (a.0 on ∙ ready.sent, g.ready_sent ready.taken, subst (IsAllowed (opens u)) (sym a.1) may, a)) h in
     record {
@@ -271,7 +276,7 @@ told_proposed ly x y u to_x to_y on le ready may k =
         used_number = λ e. r;
         shut = λ e. subst NoneOpens (sym (drop-push x.acked.own x.own u le))
             (none-push (drop x.acked.own x.own) u (f.shut e) (allowed_own (opens u) x.shut may e));
-        speech = spoken ly Met Met x n y (Update u ∷ []) to_y body f.speech;
+        flight = spoken ly Met Met x n y (Update u ∷ []) to_y body f.flight;
       };
       back = record {
         ready_sent = g.ready_sent;
@@ -280,22 +285,22 @@ told_proposed ly x y u to_x to_y on le ready may k =
         used_signature = g.used_signature;
         used_number = g.used_number;
         shut = g.shut;
-        speech =
-            heard_same ly y x n to_x refl refl refl refl g.speech;
+        flight =
+            heard_same ly y x n to_x refl refl refl refl g.flight;
       };
     }
 
-pub told_signed : (ly : Line) (z : CommitmentSigned) (x y : Side) (to_x to_y : List Notice)
+pub marks_signed : (ly : Line) (z : CommitmentSigned) (x y : Side) (to_x to_y : List Notice)
     → y.closed ≡ false → IsReady x
-    → BothTold (record { x_link = Met; y_link = ly; x = x; y = y; to_x = to_x; to_y = to_y })
-    → BothTold (signs z (record { x_link = Met; y_link = ly; x = x; y = y; to_x = to_x; to_y = to_y }))
-told_signed ly z x y to_x to_y on ready k =
+    → BothMarks (record { x_link = Met; y_link = ly; x = x; y = y; to_x = to_x; to_y = to_y })
+    → BothMarks (signs z (record { x_link = Met; y_link = ly; x = x; y = y; to_x = to_x; to_y = to_y }))
+marks_signed ly z x y to_x to_y on ready k =
     let f = k.there in
     let g = k.back in
     let n = signed_all z x in
     let r : IsReady n = ready_same x n refl refl ready in
-    let body : (ns : List Notice) → Speaks Met x y ns → Speaks Met n y (ns ++ Sign z ∷ []) = λ ns h.
-    tells-push (teller x y) (ToldAll x.ready x.shut y.closed) (ToldAll x.ready x.shut y.closed) y.peer_ready
+    let body : (ns : List Notice) → CarriesMarks Met x y ns → CarriesMarks Met n y (ns ++ Sign z ∷ []) = λ ns h.
+    marks-push (marks_of x y) (AllMarks x.ready x.shut y.closed) (AllMarks x.ready x.shut y.closed) y.peer_ready
     y.peer_shut ns (Sign z ∷ [])
     (λ q p a. (a.0 on ∙ ready.sent, g.ready_sent ready.taken, a)) h in
     record {
@@ -306,7 +311,7 @@ told_signed ly z x y to_x to_y on ready k =
         used_signature = λ e. r;
         used_number = λ e. r;
         shut = f.shut;
-        speech = spoken ly Met Met x n y (Sign z ∷ []) to_y body f.speech;
+        flight = spoken ly Met Met x n y (Sign z ∷ []) to_y body f.flight;
       };
       back = record {
         ready_sent = g.ready_sent;
@@ -315,23 +320,23 @@ told_signed ly z x y to_x to_y on ready k =
         used_signature = g.used_signature;
         used_number = g.used_number;
         shut = g.shut;
-        speech =
-            heard_same ly y x n to_x refl refl refl refl g.speech;
+        flight =
+            heard_same ly y x n to_x refl refl refl refl g.flight;
       };
     }
 
 -- ---- x takes what is in front of it
 
-took_update : (ly : Line) (x y : Side) (u : Change) (ms : List Notice) → Speaks ly y x (Update u ∷ ms)
-    → Speaks ly y (received u x) ms
+took_update : (ly : Line) (x y : Side) (u : Change) (ms : List Notice) → CarriesMarks ly y x (Update u ∷ ms)
+    → CarriesMarks ly y (received u x) ms
 took_update Down x y u ms h = h.3
 took_update Awaiting x y u ms h = absurd (cc h)
 took_update Met x y u ms h = h.3
 
-pub told_update : (ly : Line) (x y : Side) (u : Change) (ms to_y : List Notice)
-    → BothTold (record { x_link = Met; y_link = ly; x = x; y = y; to_x = Update u ∷ ms; to_y = to_y })
-    → BothTold (record { x_link = Met; y_link = ly; x = received u x; y = y; to_x = ms; to_y = to_y })
-told_update ly x y u ms to_y k =
+pub marks_update : (ly : Line) (x y : Side) (u : Change) (ms to_y : List Notice)
+    → BothMarks (record { x_link = Met; y_link = ly; x = x; y = y; to_x = Update u ∷ ms; to_y = to_y })
+    → BothMarks (record { x_link = Met; y_link = ly; x = received u x; y = y; to_x = ms; to_y = to_y })
+marks_update ly x y u ms to_y k =
     let f = k.there in
     let g = k.back in
     let n = received u x in
@@ -345,8 +350,8 @@ told_update ly x y u ms to_y k =
         used_number =
             λ e. ready_same x n refl refl (f.used_number e);
         shut = f.shut;
-        speech =
-            silent ly Met Met x n y to_y (λ ns h. h) f.speech;
+        flight =
+            silent ly Met Met x n y to_y (λ ns h. h) f.flight;
       };
       back = record {
         ready_sent = g.ready_sent;
@@ -355,22 +360,23 @@ told_update ly x y u ms to_y k =
         used_signature = g.used_signature;
         used_number = g.used_number;
         shut = g.shut;
-        speech =
-            took_update ly x y u ms g.speech;
+        flight =
+            took_update ly x y u ms g.flight;
       };
     }
 
 took_sign : (ly : Line) (z : RevokeAndAck) (v : ChannelReestablish) (x y : Side)
     (k : CommitmentSigned) (ms : List Notice)
-    → Speaks ly y x (Sign k ∷ ms) → (x.peer_ready ≡ true) × (x.ready ≡ true) × Speaks ly y (accepted_all z v x) ms
+    → CarriesMarks ly y x (Sign k ∷ ms) → (x.peer_ready ≡ true) × (x.ready ≡ true)
+    × CarriesMarks ly y (accepted_all z v x) ms
 took_sign Down z v x y k ms h = h
 took_sign Awaiting z v x y k ms h = absurd (cc h)
 took_sign Met z v x y k ms h = h
 
-pub told_sign : (ly : Line) (z : RevokeAndAck) (v : ChannelReestablish) (x y : Side)
+pub marks_sign : (ly : Line) (z : RevokeAndAck) (v : ChannelReestablish) (x y : Side)
     (k : CommitmentSigned) (ms to_y : List Notice)
-    → BothTold (record { x_link = Met; y_link = ly; x = x; y = y; to_x = Sign k ∷ ms; to_y = to_y })
-    → BothTold (record {
+    → BothMarks (record { x_link = Met; y_link = ly; x = x; y = y; to_x = Sign k ∷ ms; to_y = to_y })
+    → BothMarks (record {
       x_link = Met;
       y_link = ly;
       x = accepted_all z v x;
@@ -378,14 +384,14 @@ pub told_sign : (ly : Line) (z : RevokeAndAck) (v : ChannelReestablish) (x y : S
       to_x = ms;
       to_y = posts ly (Revoke z ∷ []) to_y;
     })
-told_sign ly z v x y k ms to_y h =
+marks_sign ly z v x y k ms to_y h =
     let f = h.there in
     let g = h.back in
     let n = accepted_all z v x in
-    let t = took_sign ly z v x y k ms g.speech in
+    let t = took_sign ly z v x y k ms g.flight in
     let r : IsReady n = record { sent = t.1; taken = t.0 } in
-    let body : (ns : List Notice) → Speaks Met x y ns → Speaks Met n y (ns ++ Revoke z ∷ []) = λ ns s.
-    tells-push (teller x y) (ToldAll x.ready x.shut y.closed) (ToldAll x.ready x.shut y.closed)
+    let body : (ns : List Notice) → CarriesMarks Met x y ns → CarriesMarks Met n y (ns ++ Revoke z ∷ []) = λ ns s.
+    marks-push (marks_of x y) (AllMarks x.ready x.shut y.closed) (AllMarks x.ready x.shut y.closed)
     y.peer_ready y.peer_shut ns
     (Revoke z ∷ []) (λ q p a. a) s in
     record {
@@ -396,7 +402,7 @@ told_sign ly z v x y k ms to_y h =
         used_signature = λ e. r;
         used_number = λ e. r;
         shut = f.shut;
-        speech = spoken ly Met Met x n y (Revoke z ∷ []) to_y body f.speech;
+        flight = spoken ly Met Met x n y (Revoke z ∷ []) to_y body f.flight;
       };
       back = record {
         ready_sent = g.ready_sent;
@@ -405,27 +411,27 @@ told_sign ly z v x y k ms to_y h =
         used_signature = g.used_signature;
         used_number = g.used_number;
         shut = g.shut;
-        speech = t.2;
+        flight = t.2;
       };
     }
 
 took_revoke : (ly : Line) (z : CommitmentSigned) (v : ChannelReestablish) (x y : Side)
     (k : RevokeAndAck) (ms : List Notice)
-    → Speaks ly y x (Revoke k ∷ ms) → Speaks ly y (acknowledged_all z v x) ms
+    → CarriesMarks ly y x (Revoke k ∷ ms) → CarriesMarks ly y (acknowledged_all z v x) ms
 took_revoke Down z v x y k ms h = h
 took_revoke Awaiting z v x y k ms h = absurd (cc h)
 took_revoke Met z v x y k ms h = h
 
-pub told_revoke : (ly : Line) (z : CommitmentSigned) (v : ChannelReestablish) (x y : Side)
+pub marks_revoke : (ly : Line) (z : CommitmentSigned) (v : ChannelReestablish) (x y : Side)
     (k : RevokeAndAck) (ms to_y : List Notice)
-    → x.acked.own ≤ x.signed.own → BothTold (record {
+    → x.acked.own ≤ x.signed.own → BothMarks (record {
       x_link = Met;
       y_link = ly;
       x = x;
       y = y;
       to_x = Revoke k ∷ ms;
       to_y = to_y;
-    }) → BothTold (record {
+    }) → BothMarks (record {
       x_link = Met;
       y_link = ly;
       x = acknowledged_all z v x;
@@ -433,7 +439,7 @@ pub told_revoke : (ly : Line) (z : CommitmentSigned) (v : ChannelReestablish) (x
       to_x = ms;
       to_y = to_y;
     })
-told_revoke ly z v x y k ms to_y le h =
+marks_revoke ly z v x y k ms to_y le h =
     let f = h.there in
     let g = h.back in
     let n = acknowledged_all z v x in
@@ -448,8 +454,8 @@ told_revoke ly z v x y k ms to_y le h =
             λ e. ready_same x n refl refl (f.used_number e);
         shut =
             λ e. none-drop x.acked.own x.signed.own x.own le (f.shut e);
-        speech =
-            silent ly Met Met x n y to_y (λ ns s. s) f.speech;
+        flight =
+            silent ly Met Met x n y to_y (λ ns s. s) f.flight;
       };
       back = record {
         ready_sent = g.ready_sent;
@@ -458,21 +464,21 @@ told_revoke ly z v x y k ms to_y le h =
         used_signature = g.used_signature;
         used_number = g.used_number;
         shut = g.shut;
-        speech =
-            took_revoke ly z v x y k ms g.speech;
+        flight =
+            took_revoke ly z v x y k ms g.flight;
       };
     }
 
 took_ready : (ly : Line) (z : ChannelReady) (m : CommitmentSigned) (x y : Side) (ms : List Notice)
-    → Speaks ly y x (Ready z ∷ ms) → (y.ready ≡ true) × (z ≡ y.ready_message)
-    × Speaks ly y (record x { peer_ready = true; signature = m }) ms
+    → CarriesMarks ly y x (Ready z ∷ ms) → (y.ready ≡ true) × (z ≡ y.ready_message)
+    × CarriesMarks ly y (record x { peer_ready = true; signature = m }) ms
 took_ready Down z m x y ms h = h
 took_ready Awaiting z m x y ms h = absurd (cc h)
 took_ready Met z m x y ms h = h
 
-pub told_ready : (ly : Line) (z : ChannelReady) (m : CommitmentSigned) (x y : Side) (ms to_y : List Notice)
-    → BothTold (record { x_link = Met; y_link = ly; x = x; y = y; to_x = Ready z ∷ ms; to_y = to_y })
-    → BothTold (record {
+pub marks_ready : (ly : Line) (z : ChannelReady) (m : CommitmentSigned) (x y : Side) (ms to_y : List Notice)
+    → BothMarks (record { x_link = Met; y_link = ly; x = x; y = y; to_x = Ready z ∷ ms; to_y = to_y })
+    → BothMarks (record {
       x_link = Met;
       y_link = ly;
       x = record x { peer_ready = true; signature = m };
@@ -480,11 +486,11 @@ pub told_ready : (ly : Line) (z : ChannelReady) (m : CommitmentSigned) (x y : Si
       to_x = ms;
       to_y = to_y;
     })
-told_ready ly z m x y ms to_y h =
+marks_ready ly z m x y ms to_y h =
     let f = h.there in
     let g = h.back in
     let n : Side = record x { peer_ready = true; signature = m } in
-    let t = took_ready ly z m x y ms g.speech in
+    let t = took_ready ly z m x y ms g.flight in
     record {
       there = record {
         ready_sent = f.ready_sent;
@@ -495,8 +501,8 @@ told_ready ly z m x y ms to_y h =
         used_number =
             λ e. record { sent = (f.used_number e).sent; taken = refl };
         shut = f.shut;
-        speech =
-            silent ly Met Met x n y to_y (λ ns s. s) f.speech;
+        flight =
+            silent ly Met Met x n y to_y (λ ns s. s) f.flight;
       };
       back = record {
         ready_sent = λ e. t.0;
@@ -505,24 +511,25 @@ told_ready ly z m x y ms to_y h =
         used_signature = g.used_signature;
         used_number = g.used_number;
         shut = g.shut;
-        speech = t.2;
+        flight = t.2;
       };
     }
 
-took_shutdown : (ly : Line) (z : ShutdownMessage) (x y : Side) (ms : List Notice) → Speaks ly y x (Shutdown z ∷ ms)
-    → (y.shut ≡ true) × (z ≡ y.shut_message) × Speaks ly y (record x { peer_shut = true }) ms
+took_shutdown : (ly : Line) (z : ShutdownMessage) (x y : Side) (ms : List Notice)
+    → CarriesMarks ly y x (Shutdown z ∷ ms)
+    → (y.shut ≡ true) × (z ≡ y.shut_message) × CarriesMarks ly y (record x { peer_shut = true }) ms
 took_shutdown Down z x y ms h = h
 took_shutdown Awaiting z x y ms h = absurd (cc h)
 took_shutdown Met z x y ms h = h
 
-pub told_shutdown : (ly : Line) (z : ShutdownMessage) (x y : Side) (ms to_y : List Notice)
-    → BothTold (record { x_link = Met; y_link = ly; x = x; y = y; to_x = Shutdown z ∷ ms; to_y = to_y })
-    → BothTold (record { x_link = Met; y_link = ly; x = record x { peer_shut = true }; y = y; to_x = ms; to_y = to_y })
-told_shutdown ly z x y ms to_y h =
+pub marks_shutdown : (ly : Line) (z : ShutdownMessage) (x y : Side) (ms to_y : List Notice)
+    → BothMarks (record { x_link = Met; y_link = ly; x = x; y = y; to_x = Shutdown z ∷ ms; to_y = to_y })
+    → BothMarks (record { x_link = Met; y_link = ly; x = record x { peer_shut = true }; y = y; to_x = ms; to_y = to_y })
+marks_shutdown ly z x y ms to_y h =
     let f = h.there in
     let g = h.back in
     let n : Side = record x { peer_shut = true } in
-    let t = took_shutdown ly z x y ms g.speech in
+    let t = took_shutdown ly z x y ms g.flight in
     record {
       there = record {
         ready_sent = f.ready_sent;
@@ -533,8 +540,8 @@ told_shutdown ly z x y ms to_y h =
         used_number =
             λ e. ready_same x n refl refl (f.used_number e);
         shut = f.shut;
-        speech =
-            silent ly Met Met x n y to_y (λ ns s. s) f.speech;
+        flight =
+            silent ly Met Met x n y to_y (λ ns s. s) f.flight;
       };
       back = record {
         ready_sent = g.ready_sent;
@@ -543,7 +550,7 @@ told_shutdown ly z x y ms to_y h =
         used_signature = g.used_signature;
         used_number = g.used_number;
         shut = g.shut;
-        speech = t.2;
+        flight = t.2;
       };
     }
 
@@ -560,42 +567,42 @@ IsStill (Shutdown z ∷ ms) = IsStill ms
 IsStill (Close z ∷ ms) = IsStill ms
 IsStill (Again n ∷ ms) = ⊥
 
-pub tells-unready : (t : Teller) (P Q : Bool → Bool → Type 0) (q r s : Bool) (ms : List Notice) → IsStill ms
-    → ((q r s : Bool) → P q s → Q r s) → Tells t P q s ms → Tells t Q r s ms
-tells-unready t P Q q r s [] i f h = f q r s h
-tells-unready t P Q q r s (Update u ∷ ms) i f h = absurd i
-tells-unready t P Q q r s (Sign k ∷ ms) i f h = absurd i
-tells-unready t P Q q r s (Revoke k ∷ ms) i f h = absurd i
-tells-unready t P Q q r s (Ready z ∷ ms) i f h = (h.0, h.1, tells-unready t P Q true true s ms i f h.2)
-tells-unready t P Q q r s (Shutdown z ∷ ms) i f h = (h.0, h.1, tells-unready t P Q q r true ms i f h.2)
-tells-unready t P Q q r s (Close z ∷ ms) i f h = (h.0, tells-unready t P Q q r s ms i f h.1)
-tells-unready t P Q q r s (Again n ∷ ms) i f h = absurd i
+pub marks-unready : (t : MarksOf) (P Q : Bool → Bool → Type 0) (q r s : Bool) (ms : List Notice) → IsStill ms
+    → ((q r s : Bool) → P q s → Q r s) → ReadsMarks t P q s ms → ReadsMarks t Q r s ms
+marks-unready t P Q q r s [] i f h = f q r s h
+marks-unready t P Q q r s (Update u ∷ ms) i f h = absurd i
+marks-unready t P Q q r s (Sign k ∷ ms) i f h = absurd i
+marks-unready t P Q q r s (Revoke k ∷ ms) i f h = absurd i
+marks-unready t P Q q r s (Ready z ∷ ms) i f h = (h.0, h.1, marks-unready t P Q true true s ms i f h.2)
+marks-unready t P Q q r s (Shutdown z ∷ ms) i f h = (h.0, h.1, marks-unready t P Q q r true ms i f h.2)
+marks-unready t P Q q r s (Close z ∷ ms) i f h = (h.0, marks-unready t P Q q r s ms i f h.1)
+marks-unready t P Q q r s (Again n ∷ ms) i f h = absurd i
 
-pub tells-to : (t : Teller) (P Q : Bool → Bool → Type 0) (r s : Bool) (ms : List Notice)
-    → ((r s : Bool) → P r s → Q r s) → Tells t P r s ms → Tells t Q r s ms
-tells-to t P Q r s [] f h = f r s h
-tells-to t P Q r s (Update u ∷ ms) f h = (h.0, h.1, h.2, tells-to t P Q r s ms f h.3)
-tells-to t P Q r s (Sign k ∷ ms) f h = (h.0, h.1, tells-to t P Q r s ms f h.2)
-tells-to t P Q r s (Revoke k ∷ ms) f h = tells-to t P Q r s ms f h
-tells-to t P Q r s (Ready z ∷ ms) f h = (h.0, h.1, tells-to t P Q true s ms f h.2)
-tells-to t P Q r s (Shutdown z ∷ ms) f h = (h.0, h.1, tells-to t P Q r true ms f h.2)
-tells-to t P Q r s (Close z ∷ ms) f h = (h.0, tells-to t P Q r s ms f h.1)
-tells-to t P Q r s (Again n ∷ ms) f h = absurd h
+pub marks-to : (t : MarksOf) (P Q : Bool → Bool → Type 0) (r s : Bool) (ms : List Notice)
+    → ((r s : Bool) → P r s → Q r s) → ReadsMarks t P r s ms → ReadsMarks t Q r s ms
+marks-to t P Q r s [] f h = f r s h
+marks-to t P Q r s (Update u ∷ ms) f h = (h.0, h.1, h.2, marks-to t P Q r s ms f h.3)
+marks-to t P Q r s (Sign k ∷ ms) f h = (h.0, h.1, marks-to t P Q r s ms f h.2)
+marks-to t P Q r s (Revoke k ∷ ms) f h = marks-to t P Q r s ms f h
+marks-to t P Q r s (Ready z ∷ ms) f h = (h.0, h.1, marks-to t P Q true s ms f h.2)
+marks-to t P Q r s (Shutdown z ∷ ms) f h = (h.0, h.1, marks-to t P Q r true ms f h.2)
+marks-to t P Q r s (Close z ∷ ms) f h = (h.0, marks-to t P Q r s ms f h.1)
+marks-to t P Q r s (Again n ∷ ms) f h = absurd h
 
 -- a closed end passes over channel_ready
 skipped_ready : (ly : Line) (z : ChannelReady) (x y : Side) (ms : List Notice) → x.closed ≡ true → IsStill ms
-    → Speaks ly y x (Ready z ∷ ms) → Speaks ly y x ms
-skipped_ready Down z x y ms c i h = tells-unready (teller y x) ToldAny ToldAny true x.peer_ready x.peer_shut
+    → CarriesMarks ly y x (Ready z ∷ ms) → CarriesMarks ly y x ms
+skipped_ready Down z x y ms c i h = marks-unready (marks_of y x) AnyMarks AnyMarks true x.peer_ready x.peer_shut
     ms i (λ q r s p. tt) h.2
 skipped_ready Awaiting z x y ms c i h = absurd (cc)
-skipped_ready Met z x y ms c i h = tells-unready (teller y x) (ToldAll y.ready y.shut x.closed)
-    (ToldAll y.ready y.shut x.closed) true x.peer_ready x.peer_shut ms i
+skipped_ready Met z x y ms c i h = marks-unready (marks_of y x) (AllMarks y.ready y.shut x.closed)
+    (AllMarks y.ready y.shut x.closed) true x.peer_ready x.peer_shut ms i
     (λ q r s p. (λ e. absurd (let no : true ≡ false = sym c ∙ e in cc), p.1)) h.2
 
-pub told_skipped : (ly : Line) (z : ChannelReady) (x y : Side) (ms to_y : List Notice) → x.closed ≡ true → IsStill ms
-    → BothTold (record { x_link = Met; y_link = ly; x = x; y = y; to_x = Ready z ∷ ms; to_y = to_y })
-    → BothTold (record { x_link = Met; y_link = ly; x = x; y = y; to_x = ms; to_y = to_y })
-told_skipped ly z x y ms to_y c i h =
+pub marks_skipped : (ly : Line) (z : ChannelReady) (x y : Side) (ms to_y : List Notice) → x.closed ≡ true → IsStill ms
+    → BothMarks (record { x_link = Met; y_link = ly; x = x; y = y; to_x = Ready z ∷ ms; to_y = to_y })
+    → BothMarks (record { x_link = Met; y_link = ly; x = x; y = y; to_x = ms; to_y = to_y })
+marks_skipped ly z x y ms to_y c i h =
     let f = h.there in
     let g = h.back in
     record {
@@ -607,27 +614,27 @@ told_skipped ly z x y ms to_y c i h =
         used_signature = g.used_signature;
         used_number = g.used_number;
         shut = g.shut;
-        speech =
-            skipped_ready ly z x y ms c i g.speech;
+        flight =
+            skipped_ready ly z x y ms c i g.flight;
       };
     }
 
 -- ---- closing fees
 
-took_close : (ly : Line) (z : ClosingSigned) (x y : Side) (ms : List Notice) → Speaks ly y x (Close z ∷ ms)
-    → (has_bid y ≡ true) × Speaks ly y x ms
+took_close : (ly : Line) (z : ClosingSigned) (x y : Side) (ms : List Notice) → CarriesMarks ly y x (Close z ∷ ms)
+    → (has_bid y ≡ true) × CarriesMarks ly y x ms
 took_close Down z x y ms h = h
 took_close Awaiting z x y ms h = absurd (cc)
 took_close Met z x y ms h = h
 
 pub closing_sent : (ly : Line) (z : ClosingSigned) (x y : Side) (ms : List Notice)
-    → Speaks ly y x (Close z ∷ ms) → has_bid y ≡ true
+    → CarriesMarks ly y x (Close z ∷ ms) → has_bid y ≡ true
 closing_sent ly z x y ms h = (took_close ly z x y ms h).0
 
-pub told_close : (ly : Line) (z : ClosingSigned) (x y : Side) (ms to_y : List Notice)
-    → BothTold (record { x_link = Met; y_link = ly; x = x; y = y; to_x = Close z ∷ ms; to_y = to_y })
-    → BothTold (record { x_link = Met; y_link = ly; x = x; y = y; to_x = ms; to_y = to_y })
-told_close ly z x y ms to_y h =
+pub marks_close : (ly : Line) (z : ClosingSigned) (x y : Side) (ms to_y : List Notice)
+    → BothMarks (record { x_link = Met; y_link = ly; x = x; y = y; to_x = Close z ∷ ms; to_y = to_y })
+    → BothMarks (record { x_link = Met; y_link = ly; x = x; y = y; to_x = ms; to_y = to_y })
+marks_close ly z x y ms to_y h =
     let g = h.back in
     record {
       there = h.there;
@@ -638,16 +645,16 @@ told_close ly z x y ms to_y h =
         used_signature = g.used_signature;
         used_number = g.used_number;
         shut = g.shut;
-        speech =
-            (took_close ly z x y ms g.speech).1;
+        flight =
+            (took_close ly z x y ms g.flight).1;
       };
     }
 
 heard_dealt : (ly : Line) (m : Option ClosingSigned) (c : Bool) (y x : Side) (ms : List Notice)
-    → (x.closed ≡ true → c ≡ true) → Speaks ly y x ms → Speaks ly y (dealt m c x) ms
+    → (x.closed ≡ true → c ≡ true) → CarriesMarks ly y x ms → CarriesMarks ly y (dealt m c x) ms
 heard_dealt Down m c y x ms f h = h
 heard_dealt Awaiting m c y x ms f h = h
-heard_dealt Met m c y x ms f h = tells-to (teller y x) (ToldAll y.ready y.shut x.closed) (ToldAll y.ready y.shut c)
+heard_dealt Met m c y x ms f h = marks-to (marks_of y x) (AllMarks y.ready y.shut x.closed) (AllMarks y.ready y.shut c)
     x.peer_ready x.peer_shut ms (λ r s p. (λ e. p.0 (unclosed x.closed c f e), p.1)) h
   where
     unclosed : (a b : Bool) → (a ≡ true → b ≡ true) → b ≡ false → a ≡ false
@@ -655,11 +662,11 @@ heard_dealt Met m c y x ms f h = tells-to (teller y x) (ToldAll y.ready y.shut x
     unclosed false b g e = refl
 
 -- it sends this, or nothing
-pub told_dealt : (ly : Line) (m : Option ClosingSigned) (c : Bool) (sent : Option ClosingSigned) (x y : Side)
+pub marks_dealt : (ly : Line) (m : Option ClosingSigned) (c : Bool) (sent : Option ClosingSigned) (x y : Side)
     (to_x to_y : List Notice) → (x.closed ≡ true → c ≡ true) → (has_bid x ≡ true → is_some m ≡ true)
     → (is_some sent ≡ true → is_some m ≡ true)
-    → BothTold (record { x_link = Met; y_link = ly; x = x; y = y; to_x = to_x; to_y = to_y })
-    → BothTold (record {
+    → BothMarks (record { x_link = Met; y_link = ly; x = x; y = y; to_x = to_x; to_y = to_y })
+    → BothMarks (record {
       x_link = Met;
       y_link = ly;
       x = dealt m c x;
@@ -667,14 +674,15 @@ pub told_dealt : (ly : Line) (m : Option ClosingSigned) (c : Bool) (sent : Optio
       to_x = to_x;
       to_y = posts ly (closes_of sent) to_y;
     })
-told_dealt ly m c sent x y to_x to_y cl bd st k =
+marks_dealt ly m c sent x y to_x to_y cl bd st k =
     let f = k.there in
     let g = k.back in
     let n : Side = dealt m c x in
-    let body : (ns : List Notice) → Speaks Met x y ns → Speaks Met n y (ns ++ closes_of sent) = λ ns h.
-    tells-push (teller n y) (ToldAll x.ready x.shut y.closed) (ToldAll x.ready x.shut y.closed) y.peer_ready y.peer_shut
+    let body : (ns : List Notice) → CarriesMarks Met x y ns → CarriesMarks Met n y (ns ++ closes_of sent) = λ ns h.
+    marks-push (marks_of n y) (AllMarks x.ready x.shut y.closed) (AllMarks x.ready x.shut y.closed) y.peer_ready
+    y.peer_shut
     ns (closes_of sent) (λ q p a. says sent st q p a)
-    (tells-more (teller x y) (teller n y) (ToldAll x.ready x.shut y.closed) y.peer_ready y.peer_shut ns (λ e. e)
+    (marks-more (marks_of x y) (marks_of n y) (AllMarks x.ready x.shut y.closed) y.peer_ready y.peer_shut ns (λ e. e)
     (λ e. e) (λ e. e) refl (λ e. refl) bd h) in
     record {
       there = record {
@@ -686,8 +694,8 @@ told_dealt ly m c sent x y to_x to_y cl bd st k =
         used_number =
             λ e. ready_same x n refl refl (f.used_number e);
         shut = f.shut;
-        speech =
-            spoken ly Met Met x n y (closes_of sent) to_y body f.speech;
+        flight =
+            spoken ly Met Met x n y (closes_of sent) to_y body f.flight;
       };
       back = record {
         ready_sent = g.ready_sent;
@@ -696,13 +704,13 @@ told_dealt ly m c sent x y to_x to_y cl bd st k =
         used_signature = g.used_signature;
         used_number = g.used_number;
         shut = g.shut;
-        speech =
-            heard_dealt ly m c y x to_x cl g.speech;
+        flight =
+            heard_dealt ly m c y x to_x cl g.flight;
       };
     }
   where
     says : (o : Option ClosingSigned) → (is_some o ≡ true → is_some m ≡ true) → (q p : Bool)
-        → ToldAll x.ready x.shut y.closed q p → Tells (teller (dealt m c x) y)
-        (ToldAll x.ready x.shut y.closed) q p (closes_of o)
+        → AllMarks x.ready x.shut y.closed q p → ReadsMarks (marks_of (dealt m c x) y)
+        (AllMarks x.ready x.shut y.closed) q p (closes_of o)
     says None i q p a = a
     says (Some w) i q p a = (i refl, a)

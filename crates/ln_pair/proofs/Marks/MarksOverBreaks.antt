@@ -14,23 +14,24 @@ use Rattle.ln_pair.proofs.Flight.Sides.{closes_of}
 use Rattle.ln_pair.proofs.Flight.Sides.{Both, opens, Notice, Sign, Revoke, Ready, Shutdown, Again, Side, posts, dropped}
 use Rattle.ln_pair.proofs.Flight.Sides.{updates_of, again_signed, signature_owed, revocation_owed, owed, ready_again}
 use Rattle.ln_pair.proofs.Flight.Sides.{shutdown_again, all_owed, goes_down, comes_up}
-use Rattle.ln_pair.proofs.Flight.Walk.{Phase, Idle, Sent, Answered, Flows, Kept}
-use Rattle.ln_pair.proofs.Marks.MarksInFlight.{IsAllowed, NoneOpens, Teller, Tells, ToldAll, teller, Speaks, Speech}
-use Rattle.ln_pair.proofs.Marks.MarksInFlight.{IsReady, Told}
-use Rattle.ln_pair.proofs.Marks.MarksInFlight.{BothTold}
-use Rattle.ln_pair.proofs.Marks.MarksOverActs.{tells-any, spoken, silent, none-take, ready_same}
+use Rattle.ln_pair.proofs.Flight.Walk.{Phase, Idle, Sent, Answered, Flows, BothFlow}
+use Rattle.ln_pair.proofs.Marks.MarksInFlight.{IsAllowed, NoneOpens, MarksOf, ReadsMarks, AllMarks, marks_of}
+use Rattle.ln_pair.proofs.Marks.MarksInFlight.{CarriesMarks, MarksFlight}
+use Rattle.ln_pair.proofs.Marks.MarksInFlight.{IsReady, MarksFlow}
+use Rattle.ln_pair.proofs.Marks.MarksInFlight.{BothMarks}
+use Rattle.ln_pair.proofs.Marks.MarksOverActs.{marks-any, spoken, silent, none-take, ready_same}
 use Rattle.ln_pair.proofs.Flight.WalkOverBreaks.{Lacks, Nothing, ASignature, ARevocation, SignatureAndRevocation, lacks}
 
 -- ---- x goes down, and both come up
 
-tells_down : (lx : Line) (x y : Side) (ms : List Notice) → Speaks lx x y ms → Speaks Down (dropped x) y ms
+tells_down : (lx : Line) (x y : Side) (ms : List Notice) → CarriesMarks lx x y ms → CarriesMarks Down (dropped x) y ms
 tells_down Down x y ms h = h
 tells_down Awaiting x y [] h = tt
 tells_down Awaiting x y (m ∷ ms) h = absurd (cc h)
-tells_down Met x y ms h = tells-any (teller x y) (ToldAll x.ready x.shut y.closed) y.peer_ready y.peer_shut ms h
+tells_down Met x y ms h = marks-any (marks_of x y) (AllMarks x.ready x.shut y.closed) y.peer_ready y.peer_shut ms h
 
-pub told_down : (b : Both) → b.x.signed.own ≤ length b.x.own → BothTold b → BothTold (goes_down b)
-told_down b le k =
+pub marks_down : (b : Both) → b.x.signed.own ≤ length b.x.own → BothMarks b → BothMarks (goes_down b)
+marks_down b le k =
     let x = b.x in
     let f = k.there in
     let g = k.back in
@@ -43,7 +44,7 @@ told_down b le k =
         used_signature = λ e. ready_same x n refl refl (f.used_signature e);
         used_number = λ e. ready_same x n refl refl (f.used_number e);
         shut = λ e. none-take x.acked.own x.signed.own x.own (f.shut e);
-        speech = silent b.y_link b.x_link Down x n b.y b.to_y (tells_down b.x_link x b.y) f.speech;
+        flight = silent b.y_link b.x_link Down x n b.y b.to_y (tells_down b.x_link x b.y) f.flight;
       };
       back = record {
         ready_sent = g.ready_sent;
@@ -52,12 +53,12 @@ told_down b le k =
         used_signature = g.used_signature;
         used_number = g.used_number;
         shut = g.shut;
-        speech = refl;
+        flight = refl;
       };
     }
 
-up_told : (x y : Side) (ms : List Notice) → Told Down Down x y ms
-    → Told Awaiting Awaiting x y (Again x.reestablish ∷ [])
+up_told : (x y : Side) (ms : List Notice) → MarksFlow Down Down x y ms
+    → MarksFlow Awaiting Awaiting x y (Again x.reestablish ∷ [])
 up_told x y ms f = record {
   ready_sent = f.ready_sent;
   shut_sent = f.shut_sent;
@@ -65,23 +66,23 @@ up_told x y ms f = record {
   used_signature = f.used_signature;
   used_number = f.used_number;
   shut = f.shut;
-  speech = refl;
+  flight = refl;
 }
 
-pub told_up : (x y : Side) (to_x to_y : List Notice)
-    → BothTold (record { x_link = Down; y_link = Down; x = x; y = y; to_x = to_x; to_y = to_y })
-    → BothTold (comes_up (record { x_link = Down; y_link = Down; x = x; y = y; to_x = to_x; to_y = to_y }))
-told_up x y to_x to_y k = record { there = up_told x y to_y k.there; back = up_told y x to_x k.back }
+pub marks_up : (x y : Side) (to_x to_y : List Notice)
+    → BothMarks (record { x_link = Down; y_link = Down; x = x; y = y; to_x = to_x; to_y = to_y })
+    → BothMarks (comes_up (record { x_link = Down; y_link = Down; x = x; y = y; to_x = to_x; to_y = to_y }))
+marks_up x y to_x to_y k = record { there = up_told x y to_y k.there; back = up_told y x to_x k.back }
 
 -- ---- x takes the reestablish
 
 -- what may be said without harm, whatever is said behind it
-abbrev Harmless : Teller → (Bool → Bool → Type 0) → Bool → Bool → List Notice → Type 0
-Harmless t Q r s ms = (ns : List Notice) → Tells t Q r s ns → Tells t Q r s (ms ++ ns)
+abbrev Harmless : MarksOf → (Bool → Bool → Type 0) → Bool → Bool → List Notice → Type 0
+Harmless t Q r s ms = (ns : List Notice) → ReadsMarks t Q r s ns → ReadsMarks t Q r s (ms ++ ns)
 
-harmless-both : (t : Teller) (Q : Bool → Bool → Type 0) (r s : Bool) (ms os : List Notice) → Harmless t Q r s ms
+harmless-both : (t : MarksOf) (Q : Bool → Bool → Type 0) (r s : Bool) (ms os : List Notice) → Harmless t Q r s ms
     → Harmless t Q r s os → Harmless t Q r s (ms ++ os)
-harmless-both t Q r s ms os f g ns h = subst (λ m. Tells t Q r s m)
+harmless-both t Q r s ms os f g ns h = subst (λ m. ReadsMarks t Q r s m)
     (sym (append_assoc ms os ns)) (f (os ++ ns) (g ns h))
 
 allowed_when : (o s : Bool) → (s ≡ true → o ≡ false) → IsAllowed o s
@@ -89,7 +90,7 @@ allowed_when false s f = tt
 allowed_when true true f = absurd (let e : true ≡ false = f refl in cc)
 allowed_when true false f = refl
 
-harmless-updates : (t : Teller) (Q : Bool → Bool → Type 0) (r s : Bool) (us : List Change) → r ≡ true
+harmless-updates : (t : MarksOf) (Q : Bool → Bool → Type 0) (r s : Bool) (us : List Change) → r ≡ true
     → t.peer_ready ≡ true → (s ≡ true → NoneOpens us) → Harmless t Q r s (updates_of us)
 harmless-updates t Q r s [] e f g ns h = h
 harmless-updates t Q r s (u ∷ us) e f g ns h =
@@ -98,38 +99,38 @@ harmless-updates t Q r s (u ∷ us) e f g ns h =
 harmless-signature : (x y : Side) (Q : Bool → Bool → Type 0) (r : Bool)
     → (y.number ≡ x.signatures) ⊎ ((r ≡ true) × (y.ready ≡ true))
     → (y.peer_shut ≡ true → NoneOpens (drop x.acked.own (take x.signed.own x.own)))
-    → Harmless (teller x y) Q r y.peer_shut (signature_owed (y.number + 1) x)
-harmless-signature x y Q r (inl e) g ns h = subst (λ ms. Tells (teller x y) Q r y.peer_shut (ms ++ ns))
+    → Harmless (marks_of x y) Q r y.peer_shut (signature_owed (y.number + 1) x)
+harmless-signature x y Q r (inl e) g ns h = subst (λ ms. ReadsMarks (marks_of x y) Q r y.peer_shut (ms ++ ns))
     (sym (ap (λ b. cond (b && (x.signatures == x.revocations + 1)) (again_signed x) [])
     (ne_eqb (y.number + 1) x.signatures (λ f. omega (arith, e, f))))) h
 harmless-signature x y Q r (inr e) g ns h = when ((y.number + 1 == x.signatures) && (x.signatures == x.revocations + 1))
   where
-    when : (b : Bool) → Tells (teller x y) Q r y.peer_shut (cond b (again_signed x) [] ++ ns)
+    when : (b : Bool) → ReadsMarks (marks_of x y) Q r y.peer_shut (cond b (again_signed x) [] ++ ns)
     when false = h
-    when true = harmless-both (teller x y) Q r y.peer_shut (updates_of (drop x.acked.own (take x.signed.own x.own)))
-        (Sign x.signature ∷ []) (harmless-updates (teller x y) Q r y.peer_shut
+    when true = harmless-both (marks_of x y) Q r y.peer_shut (updates_of (drop x.acked.own (take x.signed.own x.own)))
+        (Sign x.signature ∷ []) (harmless-updates (marks_of x y) Q r y.peer_shut
         (drop x.acked.own (take x.signed.own x.own)) e.0 e.1 g) (λ os k. (e.0, e.1, k)) ns h
 
-harmless-revocation : (x : Side) (t : Teller) (Q : Bool → Bool → Type 0) (r s : Bool) (k : ℕ)
+harmless-revocation : (x : Side) (t : MarksOf) (Q : Bool → Bool → Type 0) (r s : Bool) (k : ℕ)
     → Harmless t Q r s (revocation_owed k x)
 harmless-revocation x t Q r s k ns h = when (k + 1 == x.number)
   where
-    when : (b : Bool) → Tells t Q r s (cond b (Revoke x.revocation ∷ []) [] ++ ns)
+    when : (b : Bool) → ReadsMarks t Q r s (cond b (Revoke x.revocation ∷ []) [] ++ ns)
     when true = h
     when false = h
 
-harmless-order : (l : Bool) (t : Teller) (Q : Bool → Bool → Type 0) (r s : Bool) (ms os : List Notice)
+harmless-order : (l : Bool) (t : MarksOf) (Q : Bool → Bool → Type 0) (r s : Bool) (ms os : List Notice)
     → Harmless t Q r s ms → Harmless t Q r s os → Harmless t Q r s (cond l (ms ++ os) (os ++ ms))
 harmless-order true t Q r s ms os f g = harmless-both t Q r s ms os f g
 harmless-order false t Q r s ms os f g = harmless-both t Q r s os ms g f
 
 -- what y has taken, where x says it again only at the first commitments
-told_already : (b : Bool) (ready peer_ready : Bool) → b ≡ peer_ready → (peer_ready ≡ true → ready ≡ true)
+marks_already : (b : Bool) (ready peer_ready : Bool) → b ≡ peer_ready → (peer_ready ≡ true → ready ≡ true)
     → (ready ≡ true → peer_ready ≡ true) → b ≡ ready
-told_already b true true e f g = e
-told_already b true false e f g = absurd (let d : false ≡ true = g refl in cc)
-told_already b false true e f g = absurd (let d : false ≡ true = f refl in cc)
-told_already b false false e f g = e
+marks_already b true true e f g = e
+marks_already b true false e f g = absurd (let d : false ≡ true = g refl in cc)
+marks_already b false true e f g = absurd (let d : false ≡ true = f refl in cc)
+marks_already b false false e f g = e
 
 and_true : (a b c : Bool) → (a && b && c) ≡ true → c ≡ true
 and_true true true c e = e
@@ -143,8 +144,8 @@ first_numbers n m r e f g = ap (λ k. (m == 0) && (k + 1 == 1) && r) e ∙ ap (�
 says_ready : (x y : Side) (Q : Bool → Bool → Type 0) (ns : List Notice)
     → (x.ready ≡ true → (y.peer_ready ≡ true) ⊎ ((y.number ≡ 0) × (x.number ≡ 0)))
     → (y.peer_ready ≡ true → x.ready ≡ true)
-    → ((r : Bool) → r ≡ x.ready → Tells (teller x y) Q r y.peer_shut ns)
-    → Tells (teller x y) Q y.peer_ready y.peer_shut (ready_again (y.number + 1) x ++ ns)
+    → ((r : Bool) → r ≡ x.ready → ReadsMarks (marks_of x y) Q r y.peer_shut ns)
+    → ReadsMarks (marks_of x y) Q y.peer_ready y.peer_shut (ready_again (y.number + 1) x ++ ns)
 says_ready x y Q ns again sent f = when ((x.number == 0) && (y.number + 1 == 1) && x.ready) refl
   where
     taken : (false ≡ ((x.number == 0) && (y.number + 1 == 1) && x.ready)) → x.ready ≡ true
@@ -153,30 +154,31 @@ says_ready x y Q ns again sent f = when ((x.number == 0) && (y.number + 1 == 1) 
     taken e r (inr h) = absurd (let d : false ≡ true = e ∙ first_numbers y.number x.number x.ready h.0 h.1 r in cc)
 
     when : (b : Bool) → b ≡ ((x.number == 0) && (y.number + 1 == 1) && x.ready)
-        → Tells (teller x y) Q y.peer_ready y.peer_shut (cond b (Ready x.ready_message ∷ []) [] ++ ns)
+        → ReadsMarks (marks_of x y) Q y.peer_ready y.peer_shut (cond b (Ready x.ready_message ∷ []) [] ++ ns)
     when true e = let r : x.ready ≡ true = and_true (x.number == 0) (y.number + 1 == 1) x.ready (sym e) in
         (r, refl, f true (sym r))
-    when false e = f y.peer_ready (told_already y.peer_ready x.ready y.peer_ready refl sent (λ r. taken e r (again r)))
+    when false e = f y.peer_ready (marks_already y.peer_ready x.ready y.peer_ready refl sent (λ r. taken e r (again r)))
 
 -- a closed end needn't know it
 says_ready_closed : (x y : Side) (Q : Bool → Bool → Type 0) (ns : List Notice)
-    → ((r : Bool) → Tells (teller x y) Q r y.peer_shut ns)
-    → Tells (teller x y) Q y.peer_ready y.peer_shut (ready_again (y.number + 1) x ++ ns)
+    → ((r : Bool) → ReadsMarks (marks_of x y) Q r y.peer_shut ns)
+    → ReadsMarks (marks_of x y) Q y.peer_ready y.peer_shut (ready_again (y.number + 1) x ++ ns)
 says_ready_closed x y Q ns f = when ((x.number == 0) && (y.number + 1 == 1) && x.ready) refl
   where
     when : (b : Bool) → b ≡ ((x.number == 0) && (y.number + 1 == 1) && x.ready)
-        → Tells (teller x y) Q y.peer_ready y.peer_shut (cond b (Ready x.ready_message ∷ []) [] ++ ns)
+        → ReadsMarks (marks_of x y) Q y.peer_ready y.peer_shut (cond b (Ready x.ready_message ∷ []) [] ++ ns)
     when true e = let r : x.ready ≡ true = and_true (x.number == 0) (y.number + 1 == 1) x.ready (sym e) in
         (r, refl, f true)
     when false e = f y.peer_ready
 
 says_closes : (x y : Side) (Q : Bool → Bool → Type 0) (r s : Bool) (o : Option ClosingSigned) → x.close_message ≡ o
-    → Q r s → Tells (teller x y) Q r s (closes_of o)
+    → Q r s → ReadsMarks (marks_of x y) Q r s (closes_of o)
 says_closes x y Q r s None e h = h
 says_closes x y Q r s (Some m) e h = (ap (λ (q : Option ClosingSigned). is_some q) e, h)
 
 says_tail : (x y : Side) (r : Bool) → (y.closed ≡ false → r ≡ x.ready) → (y.peer_shut ≡ true → x.shut ≡ true)
-    → Tells (teller x y) (ToldAll x.ready x.shut y.closed) r y.peer_shut (shutdown_again x ++ closes_of x.close_message)
+    → ReadsMarks (marks_of x y) (AllMarks x.ready x.shut y.closed) r y.peer_shut
+    (shutdown_again x ++ closes_of x.close_message)
 says_tail x y r e sent = when x.shut refl
   where
     none : (s p : Bool) → (p ≡ true → s ≡ true) → s ≡ false → p ≡ s
@@ -184,16 +186,16 @@ says_tail x y r e sent = when x.shut refl
     none false true f d = absurd (let g : false ≡ true = f refl in cc)
     none false false f d = refl
 
-    when : (b : Bool) → b ≡ x.shut → Tells (teller x y) (ToldAll x.ready x.shut y.closed) r y.peer_shut
+    when : (b : Bool) → b ≡ x.shut → ReadsMarks (marks_of x y) (AllMarks x.ready x.shut y.closed) r y.peer_shut
         (cond b (Shutdown x.shut_message ∷ []) [] ++ closes_of x.close_message)
-    when true d = (sym d, refl, says_closes x y (ToldAll x.ready x.shut y.closed) r true x.close_message refl (e, d))
-    when false d = says_closes x y (ToldAll x.ready x.shut y.closed) r y.peer_shut x.close_message refl (
+    when true d = (sym d, refl, says_closes x y (AllMarks x.ready x.shut y.closed) r true x.close_message refl (e, d))
+    when false d = says_closes x y (AllMarks x.ready x.shut y.closed) r y.peer_shut x.close_message refl (
       e,
       none x.shut y.peer_shut sent (sym d),
     )
 
 -- whether y has taken channel_ready, or neither side has a commitment behind the first
-ready_known : (x y : Side) (lx ly : Line) (ms ns : List Notice) → Told lx ly x y ms → Told ly lx y x ns
+ready_known : (x y : Side) (lx ly : Line) (ms ns : List Notice) → MarksFlow lx ly x y ms → MarksFlow ly lx y x ns
     → x.number ≤ y.signatures → (n m : ℕ) → n ≡ y.number → m ≡ x.number
     → (y.peer_ready ≡ true) ⊎ ((y.number ≡ 0) × (x.number ≡ 0))
 ready_known x y lx ly ms ns f g le zero zero e d = inr (sym e, sym d)
@@ -216,46 +218,46 @@ owed_when_ready x y r e f g (SignatureAndRevocation s i v j) = let h = f (omega 
 
 -- where y is closed no signature is owed
 says_again_by : (c : Bool) (lx ly : Line) (x y : Side) (ms ns os ps : List Notice) → y.closed ≡ c
-    → (y.closed ≡ true → y.number ≡ x.signatures) → Flows lx ly x y os → Flows ly lx y x ps → Told lx ly x y ms
-    → Told ly lx y x ns → Tells (teller x y) (ToldAll x.ready x.shut y.closed) y.peer_ready y.peer_shut
+    → (y.closed ≡ true → y.number ≡ x.signatures) → Flows lx ly x y os → Flows ly lx y x ps → MarksFlow lx ly x y ms
+    → MarksFlow ly lx y x ns → ReadsMarks (marks_of x y) (AllMarks x.ready x.shut y.closed) y.peer_ready y.peer_shut
     (all_owed (y.number + 1) y.revocations x)
 says_again_by true lx ly x y ms ns os ps is over p q f g =
-    let Q = ToldAll x.ready x.shut y.closed in
+    let Q = AllMarks x.ready x.shut y.closed in
     let tail = shutdown_again x ++ closes_of x.close_message in
     says_ready_closed x y Q (owed (y.number + 1) y.revocations x ++ tail) (λ r.
-    harmless-order x.late (teller x y) Q r y.peer_shut (signature_owed (y.number + 1) x)
+    harmless-order x.late (marks_of x y) Q r y.peer_shut (signature_owed (y.number + 1) x)
     (revocation_owed y.revocations x)
     (harmless-signature x y Q r (inl (over is)) (λ e. none-take x.acked.own x.signed.own x.own
     (f.shut (f.shut_sent e))))
-    (harmless-revocation x (teller x y) Q r y.peer_shut y.revocations)
+    (harmless-revocation x (marks_of x y) Q r y.peer_shut y.revocations)
     tail (says_tail x y r (λ e. absurd (let no : true ≡ false = sym is ∙ e in cc)) f.shut_sent))
 says_again_by false lx ly x y ms ns os ps is over p q f g =
     let known : x.ready ≡ true → (y.peer_ready ≡ true) ⊎ ((y.number ≡ 0) × (x.number ≡ 0)) =
     λ e. ready_known x y lx ly ms ns f g (number_signed y.signatures y.revocations x.number y.acked y.signed x.current
     q.phase) y.number x.number refl refl in
-    let Q = ToldAll x.ready x.shut y.closed in
+    let Q = AllMarks x.ready x.shut y.closed in
     let tail = shutdown_again x ++ closes_of x.close_message in
     says_ready x y Q (owed (y.number + 1) y.revocations x ++ tail) known f.ready_sent (λ r e.
-    harmless-order x.late (teller x y) Q r y.peer_shut (signature_owed (y.number + 1) x)
+    harmless-order x.late (marks_of x y) Q r y.peer_shut (signature_owed (y.number + 1) x)
     (revocation_owed y.revocations x)
     (harmless-signature x y Q r (owed_when_ready x y r e f.used_signature g.ready_sent (lacks x y p.phase q.phase))
     (λ e. none-take x.acked.own x.signed.own x.own (f.shut (f.shut_sent e))))
-    (harmless-revocation x (teller x y) Q r y.peer_shut y.revocations)
+    (harmless-revocation x (marks_of x y) Q r y.peer_shut y.revocations)
     tail (says_tail x y r (λ c. e) f.shut_sent))
 
 speaks_owed : (ly : Line) (x y : Side) (ms ns os ps : List Notice) → (y.closed ≡ true → y.number ≡ x.signatures)
     → Flows Awaiting ly x y os → Flows ly Awaiting y x ps
-    → Told Awaiting ly x y ms → Told ly Awaiting y x ns → (qs : List Notice) → Speaks Awaiting x y qs
-    → Speaks Met x y (qs ++ all_owed (y.number + 1) y.revocations x)
+    → MarksFlow Awaiting ly x y ms → MarksFlow ly Awaiting y x ns → (qs : List Notice) → CarriesMarks Awaiting x y qs
+    → CarriesMarks Met x y (qs ++ all_owed (y.number + 1) y.revocations x)
 speaks_owed ly x y ms ns os ps over p q f g [] h = says_again_by y.closed Awaiting ly x y ms ns os ps refl over p q f g
 speaks_owed ly x y ms ns os ps over p q f g (m ∷ qs) h = absurd (cc h)
 
-pub told_again : (ly : Line) (x y : Side) (m : ChannelReestablish) (ms to_y : List Notice)
+pub marks_again : (ly : Line) (x y : Side) (m : ChannelReestablish) (ms to_y : List Notice)
     → (y.closed ≡ true → y.number ≡ x.signatures)
     → y.reestablish.next_commitment_number ≡ y.number + 1 → y.reestablish.next_revocation_number ≡ y.revocations
-    → Kept (record { x_link = Awaiting; y_link = ly; x = x; y = y; to_x = Again m ∷ ms; to_y = to_y })
-    → BothTold (record { x_link = Awaiting; y_link = ly; x = x; y = y; to_x = Again m ∷ ms; to_y = to_y })
-    → BothTold (record {
+    → BothFlow (record { x_link = Awaiting; y_link = ly; x = x; y = y; to_x = Again m ∷ ms; to_y = to_y })
+    → BothMarks (record { x_link = Awaiting; y_link = ly; x = x; y = y; to_x = Again m ∷ ms; to_y = to_y })
+    → BothMarks (record {
       x_link = Met;
       y_link = ly;
       x = x;
@@ -263,7 +265,7 @@ pub told_again : (ly : Line) (x y : Side) (m : ChannelReestablish) (ms to_y : Li
       to_x = ms;
       to_y = posts ly (all_owed m.next_commitment_number m.next_revocation_number x) to_y;
     })
-told_again ly x y m ms to_y over en er k t =
+marks_again ly x y m ms to_y over en er k t =
     let f = t.there in
     let g = t.back in
     let n : m.next_commitment_number ≡ y.number + 1 =
@@ -280,9 +282,9 @@ told_again ly x y m ms to_y over en er k t =
         used_signature = f.used_signature;
         used_number = f.used_number;
         shut = f.shut;
-        speech = subst (λ os. Speech Met ly x y (posts ly os to_y)) same
+        flight = subst (λ os. MarksFlight Met ly x y (posts ly os to_y)) same
             (spoken ly Awaiting Met x x y (all_owed (y.number + 1) y.revocations x) to_y
-            (speaks_owed ly x y to_y (Again m ∷ ms) to_y (Again m ∷ ms) over k.there k.back f g) f.speech);
+            (speaks_owed ly x y to_y (Again m ∷ ms) to_y (Again m ∷ ms) over k.there k.back f g) f.flight);
       };
       back = record {
         ready_sent = g.ready_sent;
@@ -291,6 +293,6 @@ told_again ly x y m ms to_y over en er k t =
         used_signature = g.used_signature;
         used_number = g.used_number;
         shut = g.shut;
-        speech = g.speech;
+        flight = g.flight;
       };
     }

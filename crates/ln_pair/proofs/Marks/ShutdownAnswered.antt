@@ -39,7 +39,7 @@ use Rattle.ln_keys.specs.Partners.{ArePartners}
 use Rattle.ln_pair.specs.Answers.{HasAnswered, BothHaveAnswered}
 use Rattle.ln_pair.proofs.Machine.TurnMoves.{log_within}
 use Rattle.ln_pair.proofs.Ends.JustOpened.{opened_holds, opened_fresh}
-use Rattle.ln_pair.proofs.Ends.Runs.{Holds, ran}
+use Rattle.ln_pair.proofs.Ends.Runs.{Sound, ran}
 
 abbrev Answered : End → Type 0
 Answered e = e.closing.peer_shut ≡ true → all_acknowledged e.dance.log ≡ true → e.closing.shut ≡ true
@@ -193,7 +193,7 @@ connects_so a b Down Met p both = both
 connects_so a b Awaiting l p both = both
 connects_so a b Met l p both = both
 
-happens_so : (a b : Signer) (s : Step) (p : Ends) → Holds a b p → BothHaveAnswered p
+happens_so : (a b : Signer) (s : Step) (p : Ends) → Sound a b p → BothHaveAnswered p
     → BothHaveAnswered (happens a b s p)
 happens_so a b (By Funder act) p h both = acts_so a act p (log_within a p.x h.hold.kept.there.within) both
 happens_so a b (By Fundee act) p h both =
@@ -201,7 +201,7 @@ happens_so a b (By Fundee act) p h both =
     (flip.1, flip.0)
 happens_so a b Connect p h both = connects_so a b p.x_line p.y_line p both
 
-run_so : (a b : Signer) → ArePartners a b → (ss : List Step) (p : Ends) → Holds a b p → BothHaveAnswered p
+run_so : (a b : Signer) → ArePartners a b → (ss : List Step) (p : Ends) → Sound a b p → BothHaveAnswered p
     → BothHaveAnswered (run a b ss p)
 run_so a b keys [] p h both = both
 run_so a b keys (s ∷ ss) p h both =

@@ -49,7 +49,7 @@ use Rattle.ln_pair.proofs.Fees.Deals.{deal_of, offers_in, run_fees}
 use Rattle.ln_pair.proofs.Flight.Images.{messages_of}
 use Rattle.ln_pair.proofs.Ends.Acts.{Hold, revoked_within}
 use Rattle.ln_pair.proofs.Ends.Turns.{turn_of, is_close}
-use Rattle.ln_pair.proofs.Ends.Runs.{Holds, flipped, flipped_keys, met_row, meeting_row, ran}
+use Rattle.ln_pair.proofs.Ends.Runs.{Sound, flipped, flipped_keys, met_row, meeting_row, ran}
 use Rattle.ln_pair.proofs.Ends.JustOpened.{opened_holds, opened_fresh}
 use Rattle.ln_pair.proofs.Fees.FeesOverRuns.{At, turned_at, priced_at}
 use Rattle.ln_pair.proofs.Machine.TurnMoves.{log_within}
@@ -167,7 +167,7 @@ module _ (a b : Signer) (keys : ArePartners a b) where
   cut_by true n p s = record { x = s; y = refl }
   cut_by false n p s = record { x = s; y = refl }
 
-  acts_steady : (act : Act) (p : Ends) → Steady p.x → AreSent p.y.closing.fees → Holds a b p → Stays p (acts a act p)
+  acts_steady : (act : Act) (p : Ends) → Steady p.x → AreSent p.y.closing.fees → Sound a b p → Stays p (acts a act p)
   acts_steady Deliver p s sent h =
       let is = h.in_x in
       subst (λ ms. Stays p (delivers a ms p)) (sym is)
@@ -187,7 +187,7 @@ record Lasts (p : Ends) : Type 0 where
   x_sent : AreSent p.x.closing.fees
   y_sent : AreSent p.y.closing.fees
 
-both_steady : (a b : Signer) → ArePartners a b → (s : Step) (p : Ends) → Lasts p → Holds a b p
+both_steady : (a b : Signer) → ArePartners a b → (s : Step) (p : Ends) → Lasts p → Sound a b p
     → Steady (happens a b s p).x × Steady (happens a b s p).y
 both_steady a b keys (By Funder act) p k h =
     let m = acts_steady a b keys act p k.x k.y_sent h in
@@ -204,7 +204,7 @@ both_steady a b keys Connect p k h = by p.x_line p.y_line
     by Awaiting l = (k.x, k.y)
     by Met l = (k.x, k.y)
 
-lasts : (a b : Signer) → ArePartners a b → (ss : List Step) (p : Ends) → Lasts p → Holds a b p → Lasts (run a b ss p)
+lasts : (a b : Signer) → ArePartners a b → (ss : List Step) (p : Ends) → Lasts p → Sound a b p → Lasts (run a b ss p)
 lasts a b keys [] p k h = k
 lasts a b keys (s ∷ ss) p k h =
     let q = happens a b s p in
@@ -313,7 +313,7 @@ next_by false k (suc r) s point points le below used told first =
     absurd (let no : false ≡ true = used (omega (arith, le)) in cc)
 
 counted : (a b : Signer) → ArePartners a b → (p : Ends) → Steady p.x → AreSent p.x.closing.fees
-    → Holds a b p → At p → IsCounted p.x
+    → Sound a b p → At p → IsCounted p.x
 counted a b keys p s sent h at =
     let x = p.x in
     let l = x.dance.log in
