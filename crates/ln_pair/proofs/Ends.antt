@@ -7,5 +7,6 @@ pub mod Cuts
 pub mod JustOpened
 pub mod Runs
 pub mod StoppedActs
+pub mod OnceMet
 pub mod Promised
 pub mod Signatures

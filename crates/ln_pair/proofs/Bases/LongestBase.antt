@@ -64,7 +64,7 @@ use Rattle.ln_pair.proofs.Flight.Sides.{Notice, Update, Sign, Revoke, Ready, Shu
 use Rattle.ln_pair.proofs.Flight.Images.{messages_of, side_of}
 use Rattle.ln_pair.proofs.Flight.DueRows.{row_of_update}
 use Rattle.ln_pair.proofs.Ends.Acts.{Hold, front_reads}
-use Rattle.ln_pair.proofs.Ends.Turns.{turn_of, is_close, row}
+use Rattle.ln_pair.proofs.Ends.Turns.{turn_of, is_close, row, by_front}
 use Rattle.ln_pair.proofs.Ends.Runs.{Sound, flipped, flipped_keys, met_row, meeting_row, ran}
 use Rattle.ln_pair.proofs.Ends.JustOpened.{opened_holds, opened_fresh}
 use Rattle.ln_pair.proofs.Machine.TurnMoves.{log_within}
@@ -344,28 +344,6 @@ module _ (a b : Signer) (keys : ArePartners a b) where
       (fee_by (has_begun p.x) (a.accepts_close m.fee_satoshis m.signature)
       (answer_to p.x.closing m.fee_satoshis (range_in m)) p s channel m ns)
 
-  delivered_by : (l : Line) (p : Ends) → p.x_line ≡ l → Named p.x → Settling p.x
-      → (channel : List ℕ) (ns to_y : List Notice)
-      → Hold a b channel l p.y_line p.x p.y ns to_y p.said_x p.said_y → Stays p (delivers a (messages_of channel ns) p)
-  delivered_by l p is named s channel [] to_y h = record { x = s; other = refl }
-  delivered_by Down p is named s channel (n ∷ ns) to_y h =
-      absurd (let no : n ∷ ns ≡ [] = h.kept.back.flight in cc)
-  delivered_by Awaiting p is named s channel (Update u ∷ ns) to_y h = absurd (h.kept.back.flight)
-  delivered_by Awaiting p is named s channel (Sign m ∷ ns) to_y h = absurd (h.kept.back.flight)
-  delivered_by Awaiting p is named s channel (Revoke m ∷ ns) to_y h = absurd (h.kept.back.flight)
-  delivered_by Awaiting p is named s channel (Ready m ∷ ns) to_y h = absurd (h.kept.back.flight)
-  delivered_by Awaiting p is named s channel (Shutdown m ∷ ns) to_y h = absurd (h.kept.back.flight)
-  delivered_by Awaiting p is named s channel (Close m ∷ ns) to_y h = absurd (h.kept.back.flight)
-  delivered_by Awaiting p is named s channel (Again m ∷ ns) to_y h = meeting p is s channel m ns to_y h
-  delivered_by Met p is named s channel (Update u ∷ ns) to_y h = met p is named s channel (Update u) ns to_y refl h
-  delivered_by Met p is named s channel (Sign m ∷ ns) to_y h = met p is named s channel (Sign m) ns to_y refl h
-  delivered_by Met p is named s channel (Revoke m ∷ ns) to_y h = met p is named s channel (Revoke m) ns to_y refl h
-  delivered_by Met p is named s channel (Ready m ∷ ns) to_y h = met p is named s channel (Ready m) ns to_y refl h
-  delivered_by Met p is named s channel (Shutdown m ∷ ns) to_y h =
-      met p is named s channel (Shutdown m) ns to_y refl h
-  delivered_by Met p is named s channel (Close m ∷ ns) to_y h = fee p is s channel m ns
-  delivered_by Met p is named s channel (Again m ∷ ns) to_y h = met p is named s channel (Again m) ns to_y refl h
-
   given_by : (f : Option Refusal) (t : Turn) (p : Ends) → Settling p.x → (f ≡ None → Settling t.end)
       → Stays p (answers (unless f t) p)
   given_by None t p s k = record { x = k refl; other = refl }
@@ -433,7 +411,12 @@ module _ (a b : Signer) (keys : ArePartners a b) where
   acts_settling Deliver p named s h =
       let is = h.in_x in
       subst (λ ms. Stays p (delivers a ms p)) (sym is)
-      (delivered_by p.x_line p refl named s h.channel h.to_x h.to_y h.hold)
+      (by_front a b h.channel p.y_line p.x p.y h.to_y p.said_x p.said_y
+      (λ l ns. p.x_line ≡ l → Stays p (delivers a (messages_of h.channel ns) p))
+      (λ l is. record { x = s; other = refl })
+      (λ m ns k is. meeting p is s h.channel m ns h.to_y k)
+      (λ n ns other k is. met p is named s h.channel n ns h.to_y other k)
+      (λ m ns k is. fee p is s h.channel m ns) p.x_line h.to_x h.hold refl)
   acts_settling (Give c) p named s h = commanded_by (unready_fault c p.x) p.x_line c p s h
   acts_settling (Note c) p named s h =
       record { x = noted_settling p.x (notes c p).x refl (noted c p.x) s; other = refl }

@@ -18,15 +18,16 @@ use Rattle.ln_pair.specs.Ends.{Ends, Step, opened, happens, run}
 use Rattle.ln_keys.specs.Partners.{ArePartners}
 use Rattle.ln_pair.specs.Promises.{AreAgreeable, AllTaken}
 use Rattle.ln_pair.specs.Closes.{BothClose}
+use Rattle.ln_pair.proofs.Ends.OnceMet.{once_met}
 use Rattle.ln_pair.proofs.Fees.FeesInFlight.{Deal, Offer, Priced, not_none}
 use Rattle.ln_pair.proofs.Fees.Deals.{deal_of, offers_in}
 use Rattle.ln_pair.proofs.Machine.TurnMoves.{log_within}
-use Rattle.ln_pair.proofs.Ends.JustOpened.{opened_fresh}
+use Rattle.ln_pair.proofs.Ends.JustOpened.{opened_fresh, opened_holds}
 use Rattle.ln_pair.proofs.Fees.FeesOverRuns.{At, priced_at}
 use Rattle.ln_pair.proofs.Ends.Promised.{at_end, marks_agree}
 use Rattle.ln_pair.proofs.Fees.OneFee.{all_taken}
 use Rattle.ln_pair.proofs.Fees.OwnRules.{Firm, both_closed}
-use Rattle.ln_pair.proofs.Fees.FirstFee.{BothBid, bid_step, not_begun}
+use Rattle.ln_pair.proofs.Fees.FirstFee.{not_begun, Bids, given}
 use Rattle.ln_pair.proofs.Fees.LastFee.{Hearing, IsHeard, hears, heard_step}
 
 -- ---- over every list of steps
@@ -44,13 +45,6 @@ heard_run a b [] p all h = h
 heard_run a b (s ∷ ss) p all h =
     let at = all [] in
     heard_run a b ss (happens a b s p) (λ qs. all (s ∷ qs)) (heard_step a b s p at.taken at.priced h)
-
-bid_run : (a b : Signer) (ss : List Step) (p : Ends) → ((qs : List Step) → Stands a b (run a b qs p)) → BothBid p
-    → BothBid (run a b ss p)
-bid_run a b [] p all h = h
-bid_run a b (s ∷ ss) p all h =
-    let at = all [] in
-    bid_run a b ss (happens a b s p) (λ qs. all (s ∷ qs)) (bid_step a b s p at.x_within at.y_within h)
 
 -- ---- as they begin
 
@@ -119,10 +113,10 @@ both_close a b s c funder fundee steps keys o g quiet dx dy =
       y_within = log_within b (run a b qs start).y h.hold.kept.back.within;
     }) in
     let h = heard_run a b steps start all (fresh_heard funder.closing fundee.closing fresh.funder_is fresh.fundee_is) in
-    let bids = bid_run a b steps start all (record {
-      x = not_begun Met start.x (ap (λ (q : Closing). q.peer_shut) fresh.funder_is);
-      y = not_begun Met start.y (ap (λ (q : Closing). q.peer_shut) fresh.fundee_is);
-    }) in
+    let bids = once_met Bids given a b keys steps start (opened_holds a b s c funder fundee o) (
+      not_begun Met start.x (ap (λ (q : Closing). q.peer_shut) fresh.funder_is),
+      not_begun Met start.y (ap (λ (q : Closing). q.peer_shut) fresh.fundee_is),
+    ) in
     let marks = marks_agree a b s c funder fundee steps keys o quiet in
     let begun_x = begun_of x.shut x.peer_shut (is_settled p.x.dance.log) dx.shut (marks.1.shutdown ∙ dy.shut)
     dx.settled in
@@ -133,4 +127,4 @@ both_close a b s c funder fundee steps keys o g quiet dx dy =
     let back : x.peer_fee ≡ y.own_fee = ap (λ ms. hears x.peer_fee (offers_in ms)) (sym quiet.to_x)
     ∙ h.their_last quiet.y_met (met_up p.x_line quiet.x_met) in
     ends_by (deal_of x) (deal_of y) (offers_in p.to_y) (offers_in p.to_x) h.firm h.their_firm
-    (all steps).priced (λ r. bids.x quiet.x_met r begun_x) (λ r. bids.y quiet.y_met r begun_y) there back
+    (all steps).priced (λ r. bids.0 quiet.x_met r begun_x) (λ r. bids.1 quiet.y_met r begun_y) there back

@@ -34,7 +34,7 @@ use Rattle.ln_pair.specs.Promises.{worth}
 use Rattle.ln_pair.proofs.Flight.WalkOverActs.{current_own, current_peer, signed_is}
 use Rattle.ln_pair.proofs.Flight.Images.{messages_of, side_of, length-sent, take-sent}
 use Rattle.ln_pair.proofs.Ends.Acts.{Hold}
-use Rattle.ln_pair.proofs.Ends.Turns.{turn_of}
+use Rattle.ln_pair.proofs.Ends.Turns.{turn_of, by_front}
 use Rattle.ln_pair.proofs.Ends.Runs.{Sound, flipped, flipped_keys, met_row, meeting_row, ran}
 use Rattle.ln_pair.proofs.Ends.JustOpened.{opened_holds}
 use Rattle.ln_pair.proofs.Closing.ClosingTaken.{TakenOr36, close_row}
@@ -109,41 +109,16 @@ fee_front : (a : Signer) (m : ClosingSigned) (ms : List Message) (e : End)
 fee_front a m ms e (inl t) = inl t
 fee_front a m ms e (inr r) = inr (refl, r)
 
-front_by : (a b : Signer) → ArePartners a b → (l : Line) (p : Ends) → p.x_line ≡ l
-    → (channel : List ℕ) (ns to_y : List Notice) → AreSent p.y.closing.fees
-    → Hold a b channel l p.y_line p.x p.y ns to_y p.said_x p.said_y
-    → TakesFront a p.x_line (messages_of channel ns) p.x
-front_by a b keys l p is channel [] to_y sent h = tt
-front_by a b keys Down p is channel (n ∷ ns) to_y sent h = absurd (let no : n ∷ ns ≡ [] = h.kept.back.flight in cc)
-front_by a b keys Awaiting p is channel (Update u ∷ ns) to_y sent h = absurd (h.kept.back.flight)
-front_by a b keys Awaiting p is channel (Sign m ∷ ns) to_y sent h = absurd (h.kept.back.flight)
-front_by a b keys Awaiting p is channel (Revoke m ∷ ns) to_y sent h = absurd (h.kept.back.flight)
-front_by a b keys Awaiting p is channel (Ready m ∷ ns) to_y sent h = absurd (h.kept.back.flight)
-front_by a b keys Awaiting p is channel (Shutdown m ∷ ns) to_y sent h = absurd (h.kept.back.flight)
-front_by a b keys Awaiting p is channel (Close m ∷ ns) to_y sent h = absurd (h.kept.back.flight)
-front_by a b keys Awaiting p is channel (Again m ∷ ns) to_y sent h =
-    inl (completed a (resumed a m p.x), meeting_row a b keys p is channel m ns to_y h)
-front_by a b keys Met p is channel (Update u ∷ ns) to_y sent h =
-    inl (completed a (turn_of a (Update u) p.x), met_row a b keys p is channel (Update u) ns to_y refl h)
-front_by a b keys Met p is channel (Sign m ∷ ns) to_y sent h =
-    inl (completed a (turn_of a (Sign m) p.x), met_row a b keys p is channel (Sign m) ns to_y refl h)
-front_by a b keys Met p is channel (Revoke m ∷ ns) to_y sent h =
-    inl (completed a (turn_of a (Revoke m) p.x), met_row a b keys p is channel (Revoke m) ns to_y refl h)
-front_by a b keys Met p is channel (Ready m ∷ ns) to_y sent h =
-    inl (completed a (turn_of a (Ready m) p.x), met_row a b keys p is channel (Ready m) ns to_y refl h)
-front_by a b keys Met p is channel (Shutdown m ∷ ns) to_y sent h =
-    inl (completed a (turn_of a (Shutdown m) p.x), met_row a b keys p is channel (Shutdown m) ns to_y refl h)
-front_by a b keys Met p is channel (Close m ∷ ns) to_y sent h =
-    subst (λ l. TakesFront a l (message.ClosingSigned m ∷ messages_of channel ns) p.x) (sym is)
-    (fee_front a m (messages_of channel ns) p.x
-    (close_row a b channel p.y_line p.x p.y m ns to_y p.said_x p.said_y keys sent h))
-front_by a b keys Met p is channel (Again m ∷ ns) to_y sent h =
-    inl (completed a (turn_of a (Again m) p.x), met_row a b keys p is channel (Again m) ns to_y refl h)
-
 front : (a b : Signer) → ArePartners a b → (p : Ends) → AreSent p.y.closing.fees → Sound a b p
     → TakesFront a p.x_line p.to_x p.x
 front a b keys p sent h = let is = h.in_x in subst (λ ms. TakesFront a p.x_line ms p.x) (sym is)
-    (front_by a b keys p.x_line p refl h.channel h.to_x h.to_y sent h.hold)
+    (by_front a b h.channel p.y_line p.x p.y h.to_y p.said_x p.said_y
+    (λ l ns. p.x_line ≡ l → TakesFront a p.x_line (messages_of h.channel ns) p.x) (λ l is. tt)
+    (λ m ns k is. inl (completed a (resumed a m p.x), meeting_row a b keys p is h.channel m ns h.to_y k))
+    (λ n ns other k is. inl (completed a (turn_of a n p.x), met_row a b keys p is h.channel n ns h.to_y other k))
+    (λ m ns k is. subst (λ l. TakesFront a l (message.ClosingSigned m ∷ messages_of h.channel ns) p.x) (sym is)
+    (fee_front a m (messages_of h.channel ns) p.x
+    (close_row a b h.channel p.y_line p.x p.y m ns h.to_y p.said_x p.said_y keys sent k))) p.x_line h.to_x h.hold refl)
 
 pub none_refused : (a b : Signer) (s : OpenSpec) (c : Config) (funder fundee : Opened) (steps : List Step)
     → ArePartners a b

@@ -59,7 +59,7 @@ use Rattle.ln_pair.proofs.Ends.Acts.{sent_as, Hold, flip, numbered, rebased, con
 use Rattle.ln_pair.proofs.Flight.SentAgain.{in-append}
 use Rattle.ln_pair.proofs.Ends.Breaks.{again_row, lacked, again_sends, took_again, lost_so, joined_so}
 use Rattle.ln_pair.proofs.Ends.Cuts.{messages_left, cut_so}
-use Rattle.ln_pair.proofs.Ends.Turns.{turn_of, sent_by, sends_so, row, took, shutdown_notice, owes_by}
+use Rattle.ln_pair.proofs.Ends.Turns.{turn_of, sent_by, sends_so, row, took, shutdown_notice, owes_by, by_front}
 
 -- ---- two ends
 
@@ -342,35 +342,18 @@ module _ (a b : Signer) (keys : ArePartners a b) where
       (closing_sent p.y_line m (side_of a p.x) (side_of b p.y) ns h.told.back.flight) iy
       (passed_close a b keys channel p.y_line p.x p.y p.said_x p.said_y m ns to_y h))
 
-  delivered_by : (l : Line) (p : Ends) → p.x_line ≡ l → (channel : List ℕ) (ns to_y : List Notice)
-      → p.to_y ≡ messages_of channel to_y → Hold a b channel l p.y_line p.x p.y ns to_y p.said_x p.said_y → Sound a b p
-      → Sound a b (delivers a (messages_of channel ns) p)
-  delivered_by l p is channel [] to_y iy h hp = hp
-  delivered_by Down p is channel (n ∷ ns) to_y iy h hp = absurd (let no : n ∷ ns ≡ [] = h.kept.back.flight in cc)
-  delivered_by Awaiting p is channel (Update u ∷ ns) to_y iy h hp = absurd (h.kept.back.flight)
-  delivered_by Awaiting p is channel (Sign m ∷ ns) to_y iy h hp = absurd (h.kept.back.flight)
-  delivered_by Awaiting p is channel (Revoke m ∷ ns) to_y iy h hp = absurd (h.kept.back.flight)
-  delivered_by Awaiting p is channel (Ready m ∷ ns) to_y iy h hp = absurd (h.kept.back.flight)
-  delivered_by Awaiting p is channel (Shutdown m ∷ ns) to_y iy h hp = absurd (h.kept.back.flight)
-  delivered_by Awaiting p is channel (Close m ∷ ns) to_y iy h hp = absurd (h.kept.back.flight)
-  delivered_by Awaiting p is channel (Again m ∷ ns) to_y iy h hp =
-      taking p (message.ChannelReestablish m) (resumed a m p.x) channel ns to_y
-      (lacked a b channel p.y_line p.x p.y to_y p.said_x p.said_y m) (meeting_row p is channel m ns to_y h) iy
-      (again_sends a b channel p.y_line p.x p.y to_y p.said_x p.said_y m ns h)
-      (took_again a b channel p.y_line p.x p.y to_y p.said_x p.said_y m ns h)
-  delivered_by Met p is channel (Update u ∷ ns) to_y iy h hp = met_taken p is channel (Update u) ns to_y refl iy h
-  delivered_by Met p is channel (Sign m ∷ ns) to_y iy h hp = met_taken p is channel (Sign m) ns to_y refl iy h
-  delivered_by Met p is channel (Revoke m ∷ ns) to_y iy h hp = met_taken p is channel (Revoke m) ns to_y refl iy h
-  delivered_by Met p is channel (Ready m ∷ ns) to_y iy h hp = met_taken p is channel (Ready m) ns to_y refl iy h
-  delivered_by Met p is channel (Shutdown m ∷ ns) to_y iy h hp = met_taken p is channel (Shutdown m) ns to_y refl iy h
-  delivered_by Met p is channel (Close m ∷ ns) to_y iy h hp = fee_taken p is channel m ns to_y iy h
-  delivered_by Met p is channel (Again m ∷ ns) to_y iy h hp = met_taken p is channel (Again m) ns to_y refl iy h
-
   delivered : (p : Ends) → Sound a b p → Sound a b (acts a Deliver p)
   delivered p h =
       let is = h.in_x in
       subst (λ ms. Sound a b (delivers a ms p)) (sym is)
-      (delivered_by p.x_line p refl h.channel h.to_x h.to_y h.in_y h.hold h)
+      (by_front a b h.channel p.y_line p.x p.y h.to_y p.said_x p.said_y
+      (λ l ns. p.x_line ≡ l → Sound a b (delivers a (messages_of h.channel ns) p)) (λ l is. h)
+      (λ m ns k is. taking p (message.ChannelReestablish m) (resumed a m p.x) h.channel ns h.to_y
+      (lacked a b h.channel p.y_line p.x p.y h.to_y p.said_x p.said_y m) (meeting_row p is h.channel m ns h.to_y k)
+      h.in_y (again_sends a b h.channel p.y_line p.x p.y h.to_y p.said_x p.said_y m ns k)
+      (took_again a b h.channel p.y_line p.x p.y h.to_y p.said_x p.said_y m ns k))
+      (λ n ns other k is. met_taken p is h.channel n ns h.to_y other h.in_y k)
+      (λ m ns k is. fee_taken p is h.channel m ns h.to_y h.in_y k) p.x_line h.to_x h.hold refl)
 
   -- ---- a command
 

@@ -31,6 +31,7 @@ use Rattle.ln_log.specs.Log.{covered, live_in}
 use Rattle.ln_log.proofs.Sent.{standing_sent}
 use Rattle.ln_close.specs.Closing.{may_start}
 use Rattle.ln_channel.specs.End.{has_begun, is_settled, closing_message, fee_sent}
+use Rattle.ln_msgs.specs.declared.messages.commitments.ChannelReestablish.{ChannelReestablish}
 use Rattle.ln_pair.proofs.Tests.{parts, both_true, unnegated}
 use Rattle.ln_pair.proofs.Closing.NothingMoves.{HasBegun}
 use Rattle.ln_pair.proofs.Flight.Images.{length-sent}
@@ -279,3 +280,34 @@ module _ (a b : Signer) (keys : ArePartners a b) (channel : List ℕ) (ly : Line
       (begun_so a x is) (λ e. e) (λ e. refl) (λ e. refl) h.ended_back.answered
       (said_more x.closing.shut x.closing.shut said_x (message.ClosingSigned m) (λ e. absurd (cc)) (λ e. e)
       (λ e. absurd (cc)) h.x_said) h
+
+-- ---- what is in front of an end
+
+-- where it has no connection nothing is; where it waits, the peer's channel_reestablish; and else a message that is
+-- taken by its row, or a closing_signed, which may be refused for its fee
+pub by_front : (a b : Signer) (channel : List ℕ) (ly : Line) (x y : End) (to_y : List Notice)
+    (said_x said_y : List Message) (C : Line → List Notice → Type 0) → ((l : Line) → C l [])
+    → ((m : ChannelReestablish) (ns : List Notice)
+    → Hold a b channel Awaiting ly x y (Again m ∷ ns) to_y said_x said_y → C Awaiting (Again m ∷ ns))
+    → ((n : Notice) (ns : List Notice) → is_close n ≡ false
+    → Hold a b channel Met ly x y (n ∷ ns) to_y said_x said_y → C Met (n ∷ ns))
+    → ((m : ClosingSigned) (ns : List Notice) → Hold a b channel Met ly x y (Close m ∷ ns) to_y said_x said_y
+    → C Met (Close m ∷ ns))
+    → (l : Line) (ns : List Notice) → Hold a b channel l ly x y ns to_y said_x said_y → C l ns
+by_front a b i ly x y os sx sy C none again row fee l [] h = none l
+by_front a b i ly x y os sx sy C none again row fee Down (n ∷ ns) h =
+    absurd (let no : n ∷ ns ≡ [] = h.kept.back.flight in cc)
+by_front a b i ly x y os sx sy C none again row fee Awaiting (Update u ∷ ns) h = absurd h.kept.back.flight
+by_front a b i ly x y os sx sy C none again row fee Awaiting (Sign m ∷ ns) h = absurd h.kept.back.flight
+by_front a b i ly x y os sx sy C none again row fee Awaiting (Revoke m ∷ ns) h = absurd h.kept.back.flight
+by_front a b i ly x y os sx sy C none again row fee Awaiting (Ready m ∷ ns) h = absurd h.kept.back.flight
+by_front a b i ly x y os sx sy C none again row fee Awaiting (Shutdown m ∷ ns) h = absurd h.kept.back.flight
+by_front a b i ly x y os sx sy C none again row fee Awaiting (Close m ∷ ns) h = absurd h.kept.back.flight
+by_front a b i ly x y os sx sy C none again row fee Awaiting (Again m ∷ ns) h = again m ns h
+by_front a b i ly x y os sx sy C none again row fee Met (Update u ∷ ns) h = row (Update u) ns refl h
+by_front a b i ly x y os sx sy C none again row fee Met (Sign m ∷ ns) h = row (Sign m) ns refl h
+by_front a b i ly x y os sx sy C none again row fee Met (Revoke m ∷ ns) h = row (Revoke m) ns refl h
+by_front a b i ly x y os sx sy C none again row fee Met (Ready m ∷ ns) h = row (Ready m) ns refl h
+by_front a b i ly x y os sx sy C none again row fee Met (Shutdown m ∷ ns) h = row (Shutdown m) ns refl h
+by_front a b i ly x y os sx sy C none again row fee Met (Close m ∷ ns) h = fee m ns h
+by_front a b i ly x y os sx sy C none again row fee Met (Again m ∷ ns) h = row (Again m) ns refl h

@@ -41,7 +41,7 @@ use Rattle.ln_pair.proofs.Flight.Sides.{Notice, Update, Sign, Revoke, Ready, Shu
 use Rattle.ln_pair.proofs.Flight.Images.{message_of, messages_of, side_of}
 use Rattle.ln_pair.proofs.Ends.Acts.{Hold}
 use Rattle.ln_pair.proofs.Ends.JustOpened.{opened_holds, opened_fresh}
-use Rattle.ln_pair.proofs.Ends.Turns.{turn_of, is_close}
+use Rattle.ln_pair.proofs.Ends.Turns.{turn_of, is_close, by_front}
 use Rattle.ln_pair.proofs.Ends.Runs.{Sound, flipped, flipped_keys, met_row, meeting_row, ran}
 use Rattle.ln_pair.proofs.Machine.OneMove.{seen_by}
 use Rattle.std.proofs.Common.{◌+◌, ◌++◌, ◌||◌, arith}
@@ -500,31 +500,6 @@ module _ (a b : Signer) (keys : ArePartners a b) (r : Role) (o : Opening) where
       subst (λ z. TellsEvents r o p.x (answers z q).x (party p.y) (moves_of_message r (message.ClosingSigned m) p.x z)
       (told_by z)) (sym is) (rests p q refl)
 
-  delivered_by : (l : Line) (p : Ends) → p.x_line ≡ l → (channel : List ℕ) (ns to_y : List Notice)
-      → Hold a b channel l p.y_line p.x p.y ns to_y p.said_x p.said_y
-      → TellsEvents r o p.x (delivers a (messages_of channel ns) p).x (party p.y)
-      (moves_delivered a r p.x_line (messages_of channel ns) p.x) (told_on a p.x_line (messages_of channel ns) p.x)
-  delivered_by l p is channel [] to_y h = rests p p refl
-  delivered_by Down p is channel (n ∷ ns) to_y h = absurd (let no : n ∷ ns ≡ [] = h.kept.back.flight in cc)
-  delivered_by Awaiting p is channel (Update u ∷ ns) to_y h = absurd (h.kept.back.flight)
-  delivered_by Awaiting p is channel (Sign m ∷ ns) to_y h = absurd (h.kept.back.flight)
-  delivered_by Awaiting p is channel (Revoke m ∷ ns) to_y h = absurd (h.kept.back.flight)
-  delivered_by Awaiting p is channel (Ready m ∷ ns) to_y h = absurd (h.kept.back.flight)
-  delivered_by Awaiting p is channel (Shutdown m ∷ ns) to_y h = absurd (h.kept.back.flight)
-  delivered_by Awaiting p is channel (Close m ∷ ns) to_y h = absurd (h.kept.back.flight)
-  delivered_by Awaiting p is channel (Again m ∷ ns) to_y h = meeting p is channel m ns to_y h
-  delivered_by Met p is channel (Update u ∷ ns) to_y h = met p is channel (Update u) ns to_y refl h
-  delivered_by Met p is channel (Sign m ∷ ns) to_y h = met p is channel (Sign m) ns to_y refl h
-  delivered_by Met p is channel (Revoke m ∷ ns) to_y h = met p is channel (Revoke m) ns to_y refl h
-  delivered_by Met p is channel (Ready m ∷ ns) to_y h = met p is channel (Ready m) ns to_y refl h
-  delivered_by Met p is channel (Shutdown m ∷ ns) to_y h = met p is channel (Shutdown m) ns to_y refl h
-  delivered_by Met p is channel (Close m ∷ ns) to_y h =
-      fee_by (has_begun p.x) (a.accepts_close m.fee_satoshis m.signature)
-      (answer_to p.x.closing m.fee_satoshis (range_in m)) p channel m ns refl
-      (message_at a p.x_line (message.ClosingSigned m) p.x)
-      (ap (λ l. message_at a l (message.ClosingSigned m) p.x) is)
-  delivered_by Met p is channel (Again m ∷ ns) to_y h = met p is channel (Again m) ns to_y refl h
-
   given_by : (f : Option Refusal) (t : Turn) (c : Command) (p : Ends) → events_in (all_of t.handed) ≡ []
       → t.end.ledger ≡ p.x.ledger → (log.IsWithin p.x.dance.log → HeldStays p.x t.end)
       → TellsEvents r o p.x (answers (unless f t) p).x (party p.y) (moves_of_command r c p.x (unless f t))
@@ -595,7 +570,18 @@ module _ (a b : Signer) (keys : ArePartners a b) (r : Role) (o : Opening) where
   acts_told Deliver p h =
       let is = h.in_x in
       subst (λ ms. TellsEvents r o p.x (delivers a ms p).x (party p.y) (moves_delivered a r p.x_line ms p.x)
-      (told_on a p.x_line ms p.x)) (sym is) (delivered_by p.x_line p refl h.channel h.to_x h.to_y h.hold)
+      (told_on a p.x_line ms p.x)) (sym is)
+      (by_front a b h.channel p.y_line p.x p.y h.to_y p.said_x p.said_y
+      (λ l ns. p.x_line ≡ l → TellsEvents r o p.x (delivers a (messages_of h.channel ns) p).x (party p.y)
+      (moves_delivered a r p.x_line (messages_of h.channel ns) p.x)
+      (told_on a p.x_line (messages_of h.channel ns) p.x))
+      (λ l is. rests p p refl)
+      (λ m ns k is. meeting p is h.channel m ns h.to_y k)
+      (λ n ns other k is. met p is h.channel n ns h.to_y other k)
+      (λ m ns k is. fee_by (has_begun p.x) (a.accepts_close m.fee_satoshis m.signature)
+      (answer_to p.x.closing m.fee_satoshis (range_in m)) p h.channel m ns refl
+      (message_at a p.x_line (message.ClosingSigned m) p.x)
+      (ap (λ l. message_at a l (message.ClosingSigned m) p.x) is)) p.x_line h.to_x h.hold refl)
   acts_told (Give c) p h = commanded_by (unready_fault c p.x) p.x_line c p
   acts_told (Note c) p h = noted_told c p
   acts_told Lose p h = lost_by (is_down p.x_line) p

@@ -62,7 +62,7 @@ use Rattle.ln_pair.proofs.Flight.Images.{message_of, messages_of, side_of}
 use Rattle.ln_pair.proofs.Ends.Acts.{Hold}
 use Rattle.ln_pair.proofs.Ends.JustOpened.{opened_holds}
 use Rattle.ln_pair.proofs.Fees.Deals.{run_fees}
-use Rattle.ln_pair.proofs.Ends.Turns.{is_close, begun_so}
+use Rattle.ln_pair.proofs.Ends.Turns.{is_close, begun_so, by_front}
 use Rattle.ln_pair.proofs.Ends.Runs.{Sound, flipped, flipped_keys, met_row, meeting_row, ran}
 use Rattle.ln_pair.proofs.Machine.OneMove as base
 use Rattle.ln_pair.proofs.Machine.OneMove.{seen_by, run-append}
@@ -147,31 +147,17 @@ module _ (a b : Signer) (keys : ArePartners a b) (r : Role) (o : Opening) where
       (message_at a p.x_line (message.ClosingSigned m) p.x)
       (ap (λ l. message_at a l (message.ClosingSigned m) p.x) is)
 
-  delivered_by : (l : Line) (p : Ends) → p.x_line ≡ l → Stands r o p.x → (channel : List ℕ) (ns to_y : List Notice)
-      → Hold a b channel l p.y_line p.x p.y ns to_y p.said_x p.said_y
-      → Moved r o (moves_delivered a r p.x_line (messages_of channel ns) p.x) p (delivers a (messages_of channel ns) p)
-  delivered_by l p is s channel [] to_y h = rests p p refl refl s
-  delivered_by Down p is s channel (n ∷ ns) to_y h = absurd (let no : n ∷ ns ≡ [] = h.kept.back.flight in cc)
-  delivered_by Awaiting p is s channel (Update u ∷ ns) to_y h = absurd (h.kept.back.flight)
-  delivered_by Awaiting p is s channel (Sign m ∷ ns) to_y h = absurd (h.kept.back.flight)
-  delivered_by Awaiting p is s channel (Revoke m ∷ ns) to_y h = absurd (h.kept.back.flight)
-  delivered_by Awaiting p is s channel (Ready m ∷ ns) to_y h = absurd (h.kept.back.flight)
-  delivered_by Awaiting p is s channel (Shutdown m ∷ ns) to_y h = absurd (h.kept.back.flight)
-  delivered_by Awaiting p is s channel (Close m ∷ ns) to_y h = absurd (h.kept.back.flight)
-  delivered_by Awaiting p is s channel (Again m ∷ ns) to_y h = meeting p is s channel m ns to_y h
-  delivered_by Met p is s channel (Update u ∷ ns) to_y h = met p is s channel (Update u) ns to_y refl h
-  delivered_by Met p is s channel (Sign m ∷ ns) to_y h = met p is s channel (Sign m) ns to_y refl h
-  delivered_by Met p is s channel (Revoke m ∷ ns) to_y h = met p is s channel (Revoke m) ns to_y refl h
-  delivered_by Met p is s channel (Ready m ∷ ns) to_y h = met p is s channel (Ready m) ns to_y refl h
-  delivered_by Met p is s channel (Shutdown m ∷ ns) to_y h = met p is s channel (Shutdown m) ns to_y refl h
-  delivered_by Met p is s channel (Close m ∷ ns) to_y h = fee p is s channel m ns to_y h
-  delivered_by Met p is s channel (Again m ∷ ns) to_y h = met p is s channel (Again m) ns to_y refl h
-
   delivered : (p : Ends) → Stands r o p.x → Sound a b p → Moved r o (moves_of_act a r Deliver p) p (acts a Deliver p)
   delivered p s h =
       let is = h.in_x in
       subst (λ ms. Moved r o (moves_delivered a r p.x_line ms p.x) p (delivers a ms p)) (sym is)
-      (delivered_by p.x_line p refl s h.channel h.to_x h.to_y h.hold)
+      (by_front a b h.channel p.y_line p.x p.y h.to_y p.said_x p.said_y
+      (λ l ns. p.x_line ≡ l → Moved r o (moves_delivered a r p.x_line (messages_of h.channel ns) p.x) p
+      (delivers a (messages_of h.channel ns) p))
+      (λ l is. rests p p refl refl s)
+      (λ m ns k is. meeting p is s h.channel m ns h.to_y k)
+      (λ n ns other k is. met p is s h.channel n ns h.to_y other k)
+      (λ m ns k is. fee p is s h.channel m ns h.to_y k) p.x_line h.to_x h.hold refl)
 
   -- ---- a command
 

@@ -48,7 +48,7 @@ use Rattle.ln_pair.proofs.Fees.FeesInFlight.{Deal, Offer, Priced}
 use Rattle.ln_pair.proofs.Fees.Deals.{deal_of, offers_in, run_fees}
 use Rattle.ln_pair.proofs.Flight.Images.{messages_of}
 use Rattle.ln_pair.proofs.Ends.Acts.{Hold, revoked_within}
-use Rattle.ln_pair.proofs.Ends.Turns.{turn_of, is_close}
+use Rattle.ln_pair.proofs.Ends.Turns.{turn_of, is_close, by_front}
 use Rattle.ln_pair.proofs.Ends.Runs.{Sound, flipped, flipped_keys, met_row, meeting_row, ran}
 use Rattle.ln_pair.proofs.Ends.JustOpened.{opened_holds, opened_fresh}
 use Rattle.ln_pair.proofs.Fees.FeesOverRuns.{At, turned_at, priced_at}
@@ -111,27 +111,6 @@ module _ (a b : Signer) (keys : ArePartners a b) where
       (answer_to p.x.closing m.fee_satoshis (range_in m)) p s (log_within a p.x h.kept.there.within) channel m ns refl
       (offer_below p.y.closing.fees m.fee_satoshis sent h.closes_back.0.signed.1))
 
-  delivered_by : (l : Line) (p : Ends) → p.x_line ≡ l → Steady p.x → AreSent p.y.closing.fees
-      → (channel : List ℕ) (ns to_y : List Notice)
-      → Hold a b channel l p.y_line p.x p.y ns to_y p.said_x p.said_y → Stays p (delivers a (messages_of channel ns) p)
-  delivered_by l p is s sent channel [] to_y h = record { x = s; y = refl }
-  delivered_by Down p is s sent channel (n ∷ ns) to_y h =
-      absurd (let no : n ∷ ns ≡ [] = h.kept.back.flight in cc)
-  delivered_by Awaiting p is s sent channel (Update u ∷ ns) to_y h = absurd (h.kept.back.flight)
-  delivered_by Awaiting p is s sent channel (Sign m ∷ ns) to_y h = absurd (h.kept.back.flight)
-  delivered_by Awaiting p is s sent channel (Revoke m ∷ ns) to_y h = absurd (h.kept.back.flight)
-  delivered_by Awaiting p is s sent channel (Ready m ∷ ns) to_y h = absurd (h.kept.back.flight)
-  delivered_by Awaiting p is s sent channel (Shutdown m ∷ ns) to_y h = absurd (h.kept.back.flight)
-  delivered_by Awaiting p is s sent channel (Close m ∷ ns) to_y h = absurd (h.kept.back.flight)
-  delivered_by Awaiting p is s sent channel (Again m ∷ ns) to_y h = meeting p is s channel m ns to_y h
-  delivered_by Met p is s sent channel (Update u ∷ ns) to_y h = met p is s channel (Update u) ns to_y refl h
-  delivered_by Met p is s sent channel (Sign m ∷ ns) to_y h = met p is s channel (Sign m) ns to_y refl h
-  delivered_by Met p is s sent channel (Revoke m ∷ ns) to_y h = met p is s channel (Revoke m) ns to_y refl h
-  delivered_by Met p is s sent channel (Ready m ∷ ns) to_y h = met p is s channel (Ready m) ns to_y refl h
-  delivered_by Met p is s sent channel (Shutdown m ∷ ns) to_y h = met p is s channel (Shutdown m) ns to_y refl h
-  delivered_by Met p is s sent channel (Close m ∷ ns) to_y h = fee p is s sent channel m ns to_y h
-  delivered_by Met p is s sent channel (Again m ∷ ns) to_y h = met p is s channel (Again m) ns to_y refl h
-
   given_by : (f : Option Refusal) (t : Turn) (p : Ends) → Steady p.x → Steady t.end
       → Stays p (answers (unless f t) p)
   given_by None t p s k = record { x = k; y = refl }
@@ -171,7 +150,12 @@ module _ (a b : Signer) (keys : ArePartners a b) where
   acts_steady Deliver p s sent h =
       let is = h.in_x in
       subst (λ ms. Stays p (delivers a ms p)) (sym is)
-      (delivered_by p.x_line p refl s sent h.channel h.to_x h.to_y h.hold)
+      (by_front a b h.channel p.y_line p.x p.y h.to_y p.said_x p.said_y
+      (λ l ns. p.x_line ≡ l → Stays p (delivers a (messages_of h.channel ns) p))
+      (λ l is. record { x = s; y = refl })
+      (λ m ns k is. meeting p is s h.channel m ns h.to_y k)
+      (λ n ns other k is. met p is s h.channel n ns h.to_y other k)
+      (λ m ns k is. fee p is s sent h.channel m ns h.to_y k) p.x_line h.to_x h.hold refl)
   acts_steady (Give c) p s sent h = commanded_by (unready_fault c p.x) p.x_line c p s
   acts_steady (Note c) p s sent h =
       record { x = noted_steady p.x (notes c p).x.ledger (noted c p.x) s; y = refl }
