@@ -43,7 +43,7 @@ use Rattle.ln_pair.specs.Told.{events_in, as_told}
 use Rattle.ln_pair.specs.Told as pair_told
 use Rattle.ln_pair.specs.Pending.{IsInStep, end_of_role}
 use Rattle.ln_pair.specs.Setup.{Setup, setup_of, AreSetUp}
-use Rattle.ln_pair.proofs.Offered.{in_append, may_be_made, events_so, in_step_so, set_up_so, one_fee, all_taken}
+use Rattle.ln_pair.proofs.Offered.{events_in-append, may_be_made, events_so, in_step_so, set_up_so, one_fee, all_taken}
 use Rattle.ln_pair.proofs.Offered.{all_answered, run_fees, All, all-append, longest_script, StepIsWide, at_end}
 use Rattle.ln_pair.proofs.Offered.{flipped as turned_holds, IsLeft, left_alone, is_deed, deeds_leave, deeds_line}
 use Rattle.ln_pair.proofs.Offered.{greeted, cut_off}
@@ -393,10 +393,10 @@ module _ {K : Type 0} (signer : K → Signer) where
         moves = ap (λ ns. machine.Open r.funder.dance.log.opening ∷ ns)
             (moves-append a b r.steps ss first ∙ ap (λ ns. pair_moves.all_moves a b r.steps first ++ ns) ms);
         told_x = ap events_in (told-append a b Funder r.steps ss first)
-            ∙ in_append (pair_told.all_told a b Funder r.steps first) (pair_told.all_told a b Funder ss q)
+            ∙ events_in-append (pair_told.all_told a b Funder r.steps first) (pair_told.all_told a b Funder ss q)
             ∙ ap (λ os. told_until Funder id p r ++ os) ox;
         told_y = ap events_in (told-append a b Fundee r.steps ss first)
-            ∙ in_append (pair_told.all_told a b Fundee r.steps first) (pair_told.all_told a b Fundee ss q)
+            ∙ events_in-append (pair_told.all_told a b Fundee r.steps first) (pair_told.all_told a b Fundee ss q)
             ∙ ap (λ os. told_until Fundee id p r ++ os) oy;
         setup = refl;
       }
@@ -829,8 +829,8 @@ module _ {K : Type 0} (signer : K → Signer) where
         x = w.x ∙ ap (λ ws. ws ++ without_warnings u.sent_x) h.x ∙ sym (without-append t.sent_x u.sent_x);
         y = w.y ∙ ap (λ ws. ws ++ without_warnings u.sent_y) h.y ∙ sym (without-append t.sent_y u.sent_y);
         moves = w.moves ∙ ap (λ ms. ms ++ u.moves) h.moves;
-        told_x = w.told_x ∙ ap (λ os. os ++ events_in u.told_x) h.told_x ∙ sym (in_append t.told_x u.told_x);
-        told_y = w.told_y ∙ ap (λ os. os ++ events_in u.told_y) h.told_y ∙ sym (in_append t.told_y u.told_y);
+        told_x = w.told_x ∙ ap (λ os. os ++ events_in u.told_x) h.told_x ∙ sym (events_in-append t.told_x u.told_x);
+        told_y = w.told_y ∙ ap (λ os. os ++ events_in u.told_y) h.told_y ∙ sym (events_in-append t.told_y u.told_y);
       }
 
   pub all_told : (id : List ℕ) (ms : List Move) (p : Both K) (t : Tale) → ArePossible id ms p → IsTold id p t

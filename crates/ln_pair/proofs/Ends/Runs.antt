@@ -56,7 +56,7 @@ use Rattle.ln_pair.proofs.Flight.Sides.{Close, closes_of, has_bid}
 use Rattle.ln_pair.proofs.Flight.Sides.{Notice, Update, Sign, Revoke, Ready, Shutdown, Again, posts}
 use Rattle.ln_pair.proofs.Flight.Images.{message_of, messages_of, messages-append}
 use Rattle.ln_pair.proofs.Ends.Acts.{sent_as, Hold, flip, numbered, rebased, confirms, proposed_so, signed_so, shuts}
-use Rattle.ln_pair.proofs.Flight.SentAgain.{in-append}
+use Rattle.ln_pair.proofs.Flight.SentAgain.{messages_in-append}
 use Rattle.ln_pair.proofs.Ends.Breaks.{again_row, lacked, again_sends, took_again, lost_so, joined_so}
 use Rattle.ln_pair.proofs.Ends.Cuts.{messages_left, cut_so}
 use Rattle.ln_pair.proofs.Ends.Turns.{turn_of, sent_by, sends_so, row, took, shutdown_notice, owes_by, by_front}
@@ -139,8 +139,8 @@ module _ (a b : Signer) (keys : ArePartners a b) where
       (posts l sd (posts l new old)) owed in
       let fees = messages_in (fee_sent a n fee) in
       let all_is : messages_in (t.handed.sent ++ due_sent a e) ≡ sent ++ (shutdown ++ fees) =
-      in-append t.handed.sent (due_sent a e) ∙ ap (λ ms. sent ++ ms)
-      (in-append (shutdown_sent e) (fee_sent a n fee)) in
+      messages_in-append t.handed.sent (due_sent a e) ∙ ap (λ ms. sent ++ ms)
+      (messages_in-append (shutdown_sent e) (fee_sent a n fee)) in
       let said_is : (said ++ shutdown) ++ fees ≡ p.said_x ++ messages_in (t.handed.sent ++ due_sent a e) =
       append_assoc said shutdown fees ∙ append_assoc p.said_x sent (shutdown ++ fees)
       ∙ ap (λ ms. p.said_x ++ ms) (sym all_is) in

@@ -34,13 +34,13 @@ pub in_numbered : (n : ℕ) (es : List ChannelEvent) → events_in (numbered n e
 in_numbered n [] = refl
 in_numbered n (e ∷ es) = ap (λ os. output.Event n e ∷ os) (in_numbered (n + 1) es)
 
-pub in_append : (os ps : List Output) → events_in (os ++ ps) ≡ events_in os ++ events_in ps
-in_append [] ps = refl
-in_append (output.Send m ∷ os) ps = in_append os ps
-in_append (output.Signed n ∷ os) ps = in_append os ps
-in_append (output.Committed own peer ∷ os) ps = in_append os ps
-in_append (output.Event n e ∷ os) ps = ap (λ qs. output.Event n e ∷ qs) (in_append os ps)
-in_append (output.Closed fee ∷ os) ps = in_append os ps
+pub events_in-append : (os ps : List Output) → events_in (os ++ ps) ≡ events_in os ++ events_in ps
+events_in-append [] ps = refl
+events_in-append (output.Send m ∷ os) ps = events_in-append os ps
+events_in-append (output.Signed n ∷ os) ps = events_in-append os ps
+events_in-append (output.Committed own peer ∷ os) ps = events_in-append os ps
+events_in-append (output.Event n e ∷ os) ps = ap (λ qs. output.Event n e ∷ qs) (events_in-append os ps)
+events_in-append (output.Closed fee ∷ os) ps = events_in-append os ps
 
 pub numbered_append : (n : ℕ) (es fs : List ChannelEvent)
     → numbered n (es ++ fs) ≡ numbered n es ++ numbered (n + length es) fs

@@ -88,7 +88,7 @@ use Rattle.ln_channel.specs.Outputs.{all_of}
 use Rattle.ln_channel.specs.End.{fee_sent, due_sent, due_fee, shutdown_sent, shutdown_message}
 use Rattle.ln_channel.specs.Commands.{ready_message}
 use Rattle.ln_channel.specs.Resume.{all_sent, one_again, owed_again, shutdown_again, fee_again, sent_again, ready_again}
-use Rattle.ln_pair.proofs.Events.EventLists.{in_numbered, in_append, numbered_append, told_append, events_append}
+use Rattle.ln_pair.proofs.Events.EventLists.{in_numbered, events_in-append, numbered_append, told_append, events_append}
 use Rattle.ln_pair.proofs.Events.EventLists.{held_told}
 use Rattle.ln_pair.proofs.Events.EventLists.{grown_so, refs_count, entered_next, tail_none, tail_close, tail_other}
 use Rattle.ln_pair.proofs.Events.EventLists.{accept_told, learn_told, accept_other, learn_other}
@@ -356,7 +356,7 @@ fee_none k e None = refl
 fee_none k e (Some fee) = refl
 
 both_none : (os ps : List Output) → events_in os ≡ [] → events_in ps ≡ [] → events_in (os ++ ps) ≡ []
-both_none os ps e f = in_append os ps ∙ ap (λ z. z ++ events_in ps) e ∙ f
+both_none os ps e f = events_in-append os ps ∙ ap (λ z. z ++ events_in ps) e ∙ f
 
 due_none : (k : Signer) (e : End) → events_in (due_sent k e) ≡ []
 due_none k e = both_none (shutdown_sent e) (fee_sent k (answers_shutdown e) (due_fee (answers_shutdown e)))
@@ -404,7 +404,7 @@ answer_none k (answer.Propose fee) e = refl
 with_sent : (r : Role) (o : Opening) (x n : End) (y : Party) (ms : List Move) (sent os : List Output)
     → events_in sent ≡ [] → TellsEvents r o x n y ms os → TellsEvents r o x n y ms (sent ++ os)
 with_sent r o x n y ms sent os none t = record {
-  told = in_append sent os ∙ ap (λ z. z ++ events_in os) none ∙ t.told;
+  told = events_in-append sent os ∙ ap (λ z. z ++ events_in os) none ∙ t.told;
   next = t.next;
   other = t.other;
   pends = t.pends;
@@ -665,7 +665,7 @@ all_so a b keys r (s ∷ ss) o p k h =
     ∙ ap (λ z. events r ms (Some (machine_at o p)) ++ events r ns z)
     (run_after ms (Some (machine_at o p)) (Some (machine_at o q)) m.0))
     ∙ told_append (events r ms (Some (machine_at o p))) (events r ns (Some (machine_at o q))) in
-    in_append (told a b r s p) (all_told a b r ss q)
+    events_in-append (told a b r s p) (all_told a b r ss q)
     ∙ ap (λ os. os ++ events_in (all_told a b r ss q)) t.told
     ∙ ap (λ os. numbered (next_of r p) first ++ os) (rest ∙ ap (λ n. numbered n then) t.next)
     ∙ sym (numbered_append (next_of r p) first then)

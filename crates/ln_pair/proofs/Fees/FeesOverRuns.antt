@@ -50,7 +50,7 @@ use Rattle.ln_pair.proofs.Fees.Deals.{deal_of, offer_in, offers_in, IsAside, Asi
 use Rattle.ln_pair.proofs.Fees.Deals.{is_shutdown, no_bid}
 use Rattle.ln_pair.proofs.Fees.FeeRules.{RuleSays, none_is, rule_says}
 use Rattle.ln_pair.proofs.Flight.Images.{messages_of, messages-append, side_of}
-use Rattle.ln_pair.proofs.Flight.SentAgain.{in-append, resends_so}
+use Rattle.ln_pair.proofs.Flight.SentAgain.{messages_in-append, resends_so}
 use Rattle.ln_pair.proofs.Ends.JustOpened.{AreFresh}
 
 abbrev pub At : Ends → Type 0
@@ -103,7 +103,7 @@ arrive_twice Met ms ns os = sym (append_assoc os ms ns)
 
 pub arrive_both : (l : Line) (ps qs : List Output) (os : List Message)
     → arrive l (messages_in (ps ++ qs)) os ≡ arrive l (messages_in qs) (arrive l (messages_in ps) os)
-arrive_both l ps qs os = ap (λ ms. arrive l ms os) (in-append ps qs)
+arrive_both l ps qs os = ap (λ ms. arrive l ms os) (messages_in-append ps qs)
     ∙ arrive_twice l (messages_in ps) (messages_in qs) os
 
 -- ---- the end of a turn

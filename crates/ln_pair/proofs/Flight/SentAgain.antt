@@ -36,15 +36,15 @@ use Rattle.ln_pair.proofs.Marks.MarksInFlight.{NoneOpens}
 use Rattle.ln_pair.proofs.Flight.Images.{messages_of, messages-append, is_late, side_of, take-sent, drop-sent}
 use Rattle.ln_pair.proofs.Ends.Acts.{sent_as, shut_in, shut-more, adds-more, Said}
 
-pub in-append : (os ps : List Output) → messages_in (os ++ ps) ≡ messages_in os ++ messages_in ps
-in-append [] ps = refl
-in-append (output.Send m ∷ os) ps = ap (λ ms. m ∷ ms) (in-append os ps)
-in-append (output.Signed n ∷ os) ps = in-append os ps
-in-append (output.Committed own peer ∷ os) ps = in-append os ps
-in-append (output.Event n e ∷ os) ps = in-append os ps
-in-append (output.Closed fee ∷ os) ps = in-append os ps
+pub messages_in-append : (os ps : List Output) → messages_in (os ++ ps) ≡ messages_in os ++ messages_in ps
+messages_in-append [] ps = refl
+messages_in-append (output.Send m ∷ os) ps = ap (λ ms. m ∷ ms) (messages_in-append os ps)
+messages_in-append (output.Signed n ∷ os) ps = messages_in-append os ps
+messages_in-append (output.Committed own peer ∷ os) ps = messages_in-append os ps
+messages_in-append (output.Event n e ∷ os) ps = messages_in-append os ps
+messages_in-append (output.Closed fee ∷ os) ps = messages_in-append os ps
 
-again-append : (rs ss : List Resend) → owed_again (rs ++ ss) ≡ owed_again rs ++ owed_again ss
+pub again-append : (rs ss : List Resend) → owed_again (rs ++ ss) ≡ owed_again rs ++ owed_again ss
 again-append [] ss = refl
 again-append (r ∷ rs) ss = ap (λ os. one_again r ++ os) (again-append rs ss)
     ∙ sym (append_assoc (one_again r) (owed_again rs) (owed_again ss))
@@ -104,7 +104,7 @@ module _ (k : Signer) (m : ChannelReestablish) (e : End) where
 
   two : (rs ss : List Resend) (os ps : List Notice) → messages_in (owed_again rs) ≡ messages_of c os
       → messages_in (owed_again ss) ≡ messages_of c ps → messages_in (owed_again (rs ++ ss)) ≡ messages_of c (os ++ ps)
-  two rs ss os ps f g = ap messages_in (again-append rs ss) ∙ in-append (owed_again rs) (owed_again ss)
+  two rs ss os ps f g = ap messages_in (again-append rs ss) ∙ messages_in-append (owed_again rs) (owed_again ss)
       ∙ ap (λ ms. ms ++ messages_in (owed_again ss)) f ∙ ap (λ ms. messages_of c os ++ ms) g
       ∙ sym (messages-append c os ps)
 
@@ -128,8 +128,8 @@ module _ (k : Signer) (m : ChannelReestablish) (e : End) where
       let sh = link.shutdown_again e in
       let fe = link.fee_again k e in
       let ready = ready_by (is_before_the_first m d && e.marks.ready_sent) in
-      in-append ((ra ++ ow) ++ sh) fe ∙ ap (λ ms. ms ++ messages_in fe) (in-append (ra ++ ow) sh
-      ∙ ap (λ ms. ms ++ messages_in sh) (in-append ra ow))
+      messages_in-append ((ra ++ ow) ++ sh) fe ∙ ap (λ ms. ms ++ messages_in fe) (messages_in-append (ra ++ ow) sh
+      ∙ ap (λ ms. ms ++ messages_in sh) (messages_in-append ra ow))
       ∙ append_assoc (messages_in ra ++ messages_in ow) (messages_in sh) (messages_in fe)
       ∙ append_assoc (messages_in ra) (messages_in ow) (messages_in sh ++ messages_in fe)
       ∙ ap (λ ms. ms ++ (messages_in ow ++ (messages_in sh ++ messages_in fe))) ready

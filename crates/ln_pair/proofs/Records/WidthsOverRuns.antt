@@ -189,10 +189,10 @@ run_fit a b o q (s ∷ ss) p wide h =
 abbrev origin_of : Opened → Origin
 origin_of e = (contents_of (end_of e)).origin
 
-abbrev FitsFirst : Opened → Type 0
+abbrev pub FitsFirst : Opened → Type 0
 FitsFirst e = length e.terms.script ≤ longest_script → Fits (origin_of e) (end_of e)
 
-first_fits : (r : Role) (channel : List ℕ) (f : Fees) (t : Terms) → t.peer_script ≡ None
+pub first_fits : (r : Role) (channel : List ℕ) (f : Fees) (t : Terms) → t.peer_script ≡ None
     → FitsFirst (opened_by r channel f t)
 first_fits r channel f t none short = record {
   origin = refl;

@@ -119,6 +119,10 @@ resulted_wide e m own received results =
     (settlements_wide l.own us own
     (all-take IsUpdate (l.signed.peer - c) (drop c l.received) (all-drop IsUpdate c l.received received)))
 
+-- the id that is due
+pub next_small : (us : List Change) → length us < most_updates → next_id us < 2 ^ 64
+next_small us few = omega (arith, few, count_by-le-length is_add us)
+
 module _ (k : Signer) (o : Origin) where
   abbrev pub TurnFits : Turn → Type 0
   TurnFits t = Fits o t.end × All SendsWide t.handed.sent
@@ -338,10 +342,6 @@ module _ (k : Signer) (o : Origin) where
       (λ none. completed_fits (resumed k m e) (h, again_wide m e h))
 
   -- ---- a command
-
-  -- the id that is due
-  next_small : (us : List Change) → length us < most_updates → next_id us < 2 ^ 64
-  next_small us few = omega (arith, few, count_by-le-length is_add us)
 
   -- a reason that its message has room for
   short_reason : (l : Log) (f : Fail) → proposal_fault l (update.Fail f) ≡ None → length f.reason < 2 ^ 16
