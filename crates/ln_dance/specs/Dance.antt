@@ -1,5 +1,6 @@
 -- What one side of the dance keeps, and what each call makes of it (BOLT 2, "Normal Operation").
-use Rattle.std.specs.Prelude.{◌≡◌, ℕ, ◌+◌, ◌-◌, ◌^◌, ◌≤◌, List, [], Bool, true, not, ◌==◌, Option, Some, None}
+use Rattle.std.specs.Prelude.{◌≡◌, ℕ, ◌+◌, ◌-◌, ◌^◌, ◌≤◌, List, [], Bool, true, not, ◌==◌, ◌&&◌, ◌||◌, nat_lt}
+use Rattle.std.specs.Prelude.{Option, Some, None}
 use Rattle.std.specs.Prelude.{Result, Ok, Err, if◌then◌else◌}
 use Rattle.ln_bytes.specs.Answers.{Refuses}
 use Rattle.ln_msgs.specs.declared.messages.commitments.CommitmentSigned.{CommitmentSigned}
@@ -136,7 +137,12 @@ answer_of (Some r) = Err r
 
 -- ---- what is kept
 
--- at most one signature is unrevoked, and where none is, the peer's acknowledged
+-- each number is below 2^48, and at most one signature is unrevoked
+abbrev pub are_in_step : Numbers → Bool
+are_in_step n = nat_lt n.commitment (2 ^ 48) && nat_lt n.signed (2 ^ 48) && nat_lt n.revoked (2 ^ 48)
+    && (n.signed == n.revoked || n.signed == n.revoked + 1)
+
+-- the same of numbers, and where no signature is unrevoked, the peer's acknowledged
 -- commitment covers what the last signature does
 pub record AreInStep (n : Numbers) (l : Log) : Type 0 where
   pub commitment : IsNumber n.commitment

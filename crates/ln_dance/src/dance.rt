@@ -20,6 +20,21 @@ pub struct Numbers {
     pub revoked: u64,
 }
 
+impl Numbers {
+    ghost use Rattle.std.specs.Prelude.{◌≡◌};
+    ghost use Rattle.ln_dance.specs.Dance.{are_in_step};
+
+    /// Whether a side may have them: each number is below 2^48, and at most one signature is unrevoked. Takes no memory.
+    pub fn are_in_step(&self) -> bool
+        ensures { result ≡ are_in_step self.now }
+    {
+        self.commitment <= LAST_NUMBER
+            && self.signed <= LAST_NUMBER
+            && self.revoked <= LAST_NUMBER
+            && (self.signed == self.revoked || self.signed == self.revoked + 1)
+    }
+}
+
 /// What the peer has told of its commitments.
 #[derive(Clone, Copy, PartialEq, Eq)]
 pub struct Peer {
@@ -84,19 +99,16 @@ impl Dance {
     /// Whether a side may have these numbers beside these updates: each number is below 2^48, at most one
     /// signature is unrevoked, and where none is, the peer's acknowledged commitment covers what the last
     /// signature does. Takes no memory.
-    pub fn are_in_step(numbers: &Numbers, updates: &UpdateLog) -> bool
+    pub fn fits(numbers: &Numbers, updates: &UpdateLog) -> bool
         ensures in_step { (l : Log) → log.StandsFor updates.now l → (IsTrue result ↔ AreInStep numbers.now l) }
         ensures in_step_with_what_is_kept { IsTrue result ↔ AreInStep numbers.now updates.now }
     {
         let covered = updates.counts(Pair::Signed);
         let acknowledged = updates.counts(Pair::Current(Side::Peer));
-        if numbers.commitment > LAST_NUMBER || numbers.signed > LAST_NUMBER {
+        if !numbers.are_in_step() {
             return false;
         }
-        if numbers.signed == numbers.revoked {
-            return covered == acknowledged;
-        }
-        numbers.revoked < numbers.signed && numbers.signed - numbers.revoked == 1
+        numbers.signed != numbers.revoked || covered == acknowledged
     }
 
     /// A side with these updates, numbers and points, which sent the last signature and the last revocation in

@@ -15,7 +15,8 @@ use Rattle.ln_dance.specs.Dance.{AreInStep}
 use Rattle.ln_store.specs.declared.record.Items.{Items}
 use Rattle.ln_store.specs.declared.record.Updates.{Updates}
 use Rattle.ln_store.specs.Items as it
-use Rattle.ln_store.specs.Readable.{is_readable, is_sound, is_open_payload, is_accept_payload, are_in_step}
+use Rattle.ln_store.specs.Readable.{is_readable, is_sound, is_open_payload, is_accept_payload}
+use Rattle.ln_dance.specs.Dance.{are_in_step}
 use Rattle.ln_store.specs.Readable.{are_settled, cover_the_same}
 use Rattle.ln_dance.specs.Dance.{Dancer}
 use Rattle.ln_close.specs.declared.closing.Closing.{Closing}

@@ -17,7 +17,8 @@ pub fn is_told(alloc: Global, script: &str, report: &str) -> Result<bool, Refusa
     ensures { IfOk result (λ b. IsTrue b
         → ReportsScript SaysOf (script_hooks script.now) (script_at script.now) (Some []) (Some report.now)) }
 {
-    let mut writer = Counted::new(Vec::new(alloc));
+    // (a report of this length needs no more: no growth of the writer can be refused as a failing write)
+    let mut writer = Counted::new(Vec::with_capacity(alloc, report.len())?);
     let steps = read_script(alloc, script)?;
     let hooks = hook_lines(alloc, script)?;
     print_report(alloc, steps, hooks, &mut writer)?;

@@ -10,7 +10,8 @@ use Rattle.ln_msgs.specs.Messages.Message.{Heard, Known, message_at}
 use Rattle.ln_msgs.specs.Messages.Typed.{open_wire, accept_wire}
 use Rattle.ln_dance.specs.declared.dance.Numbers.{Numbers}
 use Rattle.ln_store.specs.declared.record.Pairs.{Pairs}
-use Rattle.ln_store.specs.Readable.{is_open, is_open_payload, is_of_type, is_accept_payload, are_in_step, are_settled}
+use Rattle.ln_store.specs.Readable.{is_open, is_open_payload, is_of_type, is_accept_payload, are_settled}
+use Rattle.ln_dance.specs.Dance.{are_in_step}
 use Rattle.ln_store.specs.Readable.{cover_the_same, funding_in, funding_of}
 use Rattle.ln_single.proofs.UpdateForms.{also}
 

@@ -8,6 +8,7 @@ use Rattle.ln_msgs.specs.Messages.Message.{Heard, Known, Ignored, message_at}
 use Rattle.ln_keys.specs.declared.role.Role.{Role}
 use Rattle.ln_keys.specs.declared.role.Role.TheVariants.{Funder, Fundee}
 use Rattle.ln_dance.specs.declared.dance.Numbers.{Numbers}
+use Rattle.ln_dance.specs.Dance.{are_in_step}
 use Rattle.ln_log.specs.declared.mark.EventRef.{EventRef}
 use Rattle.ln_log.specs.declared.mark.EventRef.TheVariants as ref
 use Rattle.ln_store.specs.declared.record.Covered.{Covered}
@@ -60,11 +61,6 @@ abbrev pub is_accept_payload : List ℕ → Bool
 is_accept_payload payload = is_of_type 33 (message_at (0 ∷ 33 ∷ payload))
 
 -- ---- the numbers of commitments
-
--- each is below 2^48, and at most one signature is unrevoked
-abbrev pub are_in_step : Numbers → Bool
-are_in_step n = nat_lt n.commitment (2 ^ 48) && nat_lt n.signed (2 ^ 48) && nat_lt n.revoked (2 ^ 48)
-    && (n.signed == n.revoked || n.signed == n.revoked + 1)
 
 abbrev pub cover_the_same : Covered → Covered → Bool
 cover_the_same a b = (a.own == b.own) && (a.peer == b.peer)

@@ -6,7 +6,7 @@ ghost use Rattle.ln_msgs.specs.Messages.Message.{message_at};
 ghost use Rattle.ln_msgs.specs.Messages.Typed.{heard};
 ghost use Rattle.ln_store.specs.Readable.{is_open, is_of_type, is_readable, funding_of, funding_in};
 ghost use Rattle.std.specs.List.{list_all};
-ghost use Rattle.ln_store.specs.Readable.{is_open_payload, is_accept_payload, are_in_step, cover_the_same, are_settled};
+ghost use Rattle.ln_store.specs.Readable.{is_open_payload, is_accept_payload, cover_the_same, are_settled};
 ghost use Rattle.ln_store.specs.Readable.{is_of, is_of_other, names_an_update, is_sound, is_in_window};
 
 use crate::record::{Covered, Items, Pairs, Updates};
@@ -78,15 +78,6 @@ fn is_accept_payload(alloc: Global, payload: &[u8]) -> Result<bool, Refusal>
         Err(Fault::Memory) => Err(Refusal::Memory),
         Err(_) => Ok(false),
     }
-}
-
-fn are_in_step(numbers: &Numbers) -> bool
-    ensures { result ≡ are_in_step numbers.now }
-{
-    numbers.commitment < 1 << 48
-        && numbers.signed < 1 << 48
-        && numbers.revoked < 1 << 48
-        && (numbers.signed == numbers.revoked || numbers.signed == numbers.revoked + 1)
 }
 
 fn cover_the_same(one: &Covered, other: &Covered) -> bool
@@ -163,7 +154,7 @@ pub(crate) fn is_sound(alloc: Global, items: &Items) -> Result<bool, Refusal>
     };
     Ok(
         is_accept_payload(alloc, items.agreement.accept_payload.as_slice())?
-            && are_in_step(&items.commitments.numbers)
+            && items.commitments.numbers.are_in_step()
             && are_settled(&items.commitments.numbers, &items.updates.pairs)
             && events.decided <= MOST_EVENTS
             && all_name_updates(

@@ -107,8 +107,8 @@ fn are_told(alloc: Global, a: &mut Dance, b: &mut Dance) -> Result<bool, Refusal
             && numbers(a, b) == [1; 6]
             && a.later() == Later::Revocation
             && b.later() == Later::Signature
-            && Dance::are_in_step(&a.numbers(), a.log())
-            && !Dance::are_in_step(&others, a.log()),
+            && Dance::fits(&a.numbers(), a.log())
+            && !Dance::fits(&others, a.log()),
     )
 }
 

@@ -52,10 +52,7 @@ fn told(log: &UpdateLog, covered: &Coverage) -> Told {
         log.live_htlcs(Side::Own),
         log.next_id(),
         log.coverage() == *covered,
-        [
-            Dance::are_in_step(&numbers, log),
-            Dance::are_in_step(&others, log),
-        ],
+        [Dance::fits(&numbers, log), Dance::fits(&others, log)],
     )
 }
 
