@@ -1,6 +1,6 @@
 -- What of an end the walk over what is in flight goes by.
 use Rattle.std.proofs.Common.{◌≡◌, ℕ, zero, suc, ◌+◌, ◌-◌, ◌≤◌, List, [], ◌∷◌, ◌++◌, length, take, refl, sym, ap, ◌∙◌}
-use Rattle.std.proofs.Common.{arith, Bool, true, false}
+use Rattle.std.proofs.Common.{arith, drop, Bool, true, false}
 use Rattle.std.proofs.lemmas.List.{map-append, length-map, take-append-le, take-take}
 use Rattle.ln_msgs.specs.declared.messages.message.Message.{Message}
 use Rattle.ln_msgs.specs.declared.messages.message.Message.TheVariants as message
