@@ -1,6 +1,7 @@
 -- The live HTLCs that a record has of a side are the same in any order: sums over them, and which of them is there.
 use Rattle.std.proofs.Common.{◌≡◌, ◌∙◌, ◌+◌, ℕ, List, [], ◌∷◌, ◌++◌, refl, sym, ap, arith}
 use Rattle.std.proofs.Common.{Bool, true, false, nat_le, ◌==◌, ◌&&◌, ◌||◌, if◌then◌else◌, Option, Some, None}
+use Rattle.std.proofs.Math.Bool.{or-false}
 use Rattle.std.proofs.lemmas.Bool.{le-leb}
 use Rattle.std.proofs.lemmas.List.Sums.{sum_by-append, sum_by-cons, sum_by-insert}
 use Rattle.std.specs.List.{list_any, sum_by, insert}
@@ -105,10 +106,6 @@ same_found : (id : ℕ) (us vs : List Update) → AreSame us vs → is_some (add
 same_found id us vs h =
     found_so id us ∙ ap (nat_le 1) (h (λ u. named id (offered u))) ∙ sym (found_so id vs)
 
-or_none : (b : Bool) → (b || false) ≡ true → b ≡ true
-or_none true h = refl
-or_none false h = h
-
 named_so : (same : Bool) (a : Add) (r : Option Add) (w any : Bool) → ((w || any) ≡ true → is_some r ≡ true)
     → (w || (same || any)) ≡ true → is_some (if same then Some a else r) ≡ true
 named_so true a r w any f h = refl
@@ -125,7 +122,7 @@ one_so false a rest window id any f h = f h
 -- what is there the live HTLCs or the window offer
 there_so : (side : Role) (live : List LiveHtlc) (window : List Update) (id : ℕ)
     → is_there side live window id ≡ true → is_some (add_with id (lives_of side live ++ window)) ≡ true
-there_so side [] window id h = or_none (is_some (add_with id window)) h
+there_so side [] window id h = sym (or-false (is_some (add_with id window))) ∙ h
 there_so side (l ∷ ls) window id h =
     one_so (are_one_side side l.offerer) l.add (lives_of side ls) window id (list_any (is_htlc side id) ls)
     (there_so side ls window id) h
