@@ -8,7 +8,7 @@ use Rattle.ln_link.specs.Saving.{Shelf}
 use Rattle.ln_turns.specs.Act.{Connects, Loads}
 use Rattle.ln_turns.specs.Sent.{loaded}
 use Rattle.ln_node.specs.declared.opening.Beginning.{Beginning}
-use Rattle.ln_node.specs.Opening.{Held, BeginsAnew, Renews, Keeps, ConnectsAnew, ConnectsBy, LoadsNew, LoadsOrRenews}
+use Rattle.ln_node.specs.Opening.{Held, BeginsAnew, Renews, Keeps, ConnectsBy, LoadsNew, LoadsOrRenews}
 use Rattle.ln_node.specs.Opening.{is_unopened, lacks_record}
 
 abbrev pub held : {K : Type 0} → K → State K → Shelf → Beginning → Held K
