@@ -153,11 +153,17 @@ fn messages_both_ways(rt: HostRuntime) {
 
 /// How many bytes are written for a pong that carries so many of its own.
 fn pong_len(alloc: Global, len: usize) -> Result<usize, Fault> {
+    let ignored = Bytes::new(vec![in alloc; 7; len]?);
     let pong = Message::Pong(Pong {
-        ignored: Bytes::new(vec![in alloc; 7; len]?),
+        ignored,
         records: Records::empty(alloc),
     });
-    encode(alloc, &pong).map(|written| written.len())
+    let written = encode(alloc, &pong);
+    drop(pong);
+    match written {
+        Ok(written) => Ok(written.len()),
+        Err(fault) => Err(fault),
+    }
 }
 
 #[test]
