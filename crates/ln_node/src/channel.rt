@@ -172,6 +172,31 @@ impl<E: Drop, H: Drop, T: Drop> Channel<E, H, T> {
     }
 }
 
+// The seats of a new channel's relays.
+#[derive(Drop)]
+struct Seats<H: Drop> {
+    first: SendSeat<Item<Socket>>,
+    orders: SendSeat<Item<Socket>>,
+    items: RecvSeat<Item<Socket>>,
+    events: WaitSend<Task<H>>,
+    hooks: WaitSend<Task<H>>,
+    tasks: WaitRecv<Task<H>>,
+}
+
+// New relays. Nothing where there is no memory.
+fn new_seats<H: Drop>(alloc: Global) -> Result<Seats<H>, AllocError> {
+    let (first, orders, items) = relay::<Item<Socket>>(alloc, ITEMS)?;
+    let (events, hooks, tasks) = waiting_relay::<Task<H>>(alloc, TASKS)?;
+    Ok(Seats {
+        first,
+        orders,
+        items,
+        events,
+        hooks,
+        tasks,
+    })
+}
+
 /// Starts the threads of a channel: its dispatcher, its worker, its reader. Takes memory for its relays. Nothing where
 /// there is no memory, or no thread can be made.
 pub(crate) fn start<E, B, H, T, R>(
@@ -186,6 +211,16 @@ where
     T: Table<H> + Drop + Send + 'static,
     R: Threads + Wait + Copy + Send + 'static,
 {
+    let theirs = Arc::try_clone(&parts.connections)?;
+    let again = Arc::try_clone(&parts.bell)?;
+    let Seats {
+        first,
+        orders,
+        items,
+        events,
+        hooks,
+        tasks,
+    } = new_seats::<H>(alloc)?;
     let Parts {
         end,
         greeting,
@@ -197,10 +232,6 @@ where
         listener,
         bound,
     } = parts;
-    let theirs = Arc::try_clone(&connections)?;
-    let again = Arc::try_clone(&bell)?;
-    let (first, orders, items) = relay::<Item<Socket>>(alloc, ITEMS)?;
-    let (events, hooks, tasks) = waiting_relay::<Task<H>>(alloc, TASKS)?;
     let first = PatientSeat {
         seat: RingingSeat { seat: first, bell },
         bell: Bell::new(),

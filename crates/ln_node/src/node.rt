@@ -51,6 +51,11 @@ fn greeting(alloc: Global) -> Result<Box<Message>, AllocError> {
     Ok(Box::new(alloc, Message::Init(init))?)
 }
 
+// Puts a value behind others. False where there is no memory.
+fn keep<T: Drop>(kept: &mut Vec<T>, value: T) -> bool {
+    kept.push(value).is_ok()
+}
+
 // Listens at an address, and answers the one that is bound. 63 where it can't be.
 fn bind<R>(rt: &R, address: SocketAddr) -> Result<(TcpListener, SocketAddr), Refusal>
 where
@@ -122,21 +127,26 @@ where
         self.common.notices.take(rt, alloc)
     }
 
+    // The connections of a new channel.
+    fn connections(&self, alloc: Global) -> Result<Arc<Connections>, Refusal> {
+        let stopping = Arc::try_clone(&self.stopping)?;
+        let notices = Arc::try_clone(&self.common.notices)?;
+        let connections = Connections::new(stopping, notices, self.channels.len());
+        Ok(Arc::new(alloc, connections)?)
+    }
+
     // What a new channel has of the node.
     fn shares(&self, alloc: Global) -> Result<Shares<O>, Refusal> {
-        let number = self.channels.len();
-        let book = SharedBook::new(alloc, &self.common, number)?;
-        let connections = Connections::new(
-            Arc::try_clone(&self.stopping)?,
-            Arc::try_clone(&self.common.notices)?,
-            number,
-        );
+        let greeting = greeting(alloc)?;
+        let bell = Arc::try_clone(&self.common.bell)?;
+        let connections = self.connections(alloc)?;
+        let book = SharedBook::new(alloc, &self.common, self.channels.len())?;
         Ok(Shares {
-            greeting: greeting(alloc)?,
+            greeting,
             decisions: book.again()?,
             book,
-            bell: Arc::try_clone(&self.common.bell)?,
-            connections: Arc::new(alloc, connections)?,
+            bell,
+            connections,
         })
     }
 
@@ -392,14 +402,16 @@ where
     {
         self.halt(&rt);
         let mut stores = Vec::new(alloc);
-        let mut kept = Ok(());
+        let mut are_kept = true;
         for channel in self.channels {
             let end = channel.end(&rt);
-            if stores.push(end.into_store()).is_err() {
-                kept = Err(Refusal::Memory);
+            if !keep(&mut stores, end.into_store()) {
+                are_kept = false;
             }
         }
-        kept?;
+        if !are_kept {
+            return Err(Refusal::Memory);
+        }
         Ok(stores)
     }
 }

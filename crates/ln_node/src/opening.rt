@@ -1,9 +1,10 @@
 //! The end of a channel in a node: a link with its store, which begins anew while its opening isn't signed.
 
-ghost use Rattle.std.specs.Prelude.{◌≡◌, IfOk, IfErr};
+ghost use Rattle.std.specs.Prelude.{◌≡◌, Ok, IfOk, IfErr};
 ghost use Rattle.ln_msgs.specs.declared.refusals.refusal.Refusal.TheVariants as refusal;
 ghost use Rattle.ln_channel.specs.State.{State, StandsFor};
 ghost use Rattle.ln_turns.specs.Sent.{loaded};
+ghost use Rattle.ln_node.specs.declared.opening.Beginning.TheVariants.{Fundee, Funder, Over};
 ghost use Rattle.ln_node.specs.Opening.{Begins, BeginsAnew, is_unopened, asks_to_sign, lacks_record};
 
 use ln_bytes::{Bytes, Record};
@@ -192,7 +193,10 @@ fn lacks_record(answer: Result<(), Refusal>) -> bool
 }
 
 // A value in a box. 60 where there is no memory for it.
-fn boxed<T: Drop>(alloc: Global, value: T) -> Result<Box<T>, Refusal> {
+fn boxed<T: Drop>(alloc: Global, value: T) -> Result<Box<T>, Refusal>
+    ensures holds { IfOk result (λ b. b.value ≡ value) }
+    ensures fails_for_memory_alone { IfErr result (λ r. r ≡ refusal.Memory) }
+{
     match Box::new(alloc, value) {
         Ok(boxed) => Ok(boxed),
         Err(_) => Err(Refusal::Memory),
@@ -205,7 +209,11 @@ fn new_saved<K: ChannelKeys + Copy, S: Drop>(
     keys: K,
     beginning: &Beginning,
     store: S,
-) -> Result<Box<SavedLink<K, S>>, Refusal> {
+) -> Result<Box<SavedLink<K, S>>, Refusal>
+    ensures begins { IfOk result (λ s. Begins keys beginning.now (Ok s.value.link)) }
+    ensures keeps_keys { IfOk result (λ s. s.value.keys ≡ keys) }
+    ensures keeps_store { IfOk result (λ s. s.value.store ≡ store) }
+{
     match new_link(alloc, keys, beginning) {
         Ok(link) => boxed(alloc, SavedLink { keys, link, store }),
         Err(refusal) => Err(refusal),
@@ -219,7 +227,12 @@ impl<K: ChannelKeys + Copy, S: Drop> NodeLink<K, S> {
         keys: K,
         beginning: Box<Beginning>,
         store: S,
-    ) -> Result<NodeLink<K, S>, Refusal> {
+    ) -> Result<NodeLink<K, S>, Refusal>
+        ensures begins { IfOk result (λ n. Begins keys beginning.value (Ok n.saved.value.link)) }
+        ensures begins_anew_alike { IfOk result (λ n. n.beginning.value ≡ beginning.value) }
+        ensures keeps_keys { IfOk result (λ n. n.saved.value.keys ≡ keys) }
+        ensures keeps_store { IfOk result (λ n. n.saved.value.store ≡ store) }
+    {
         let saved = new_saved(alloc, keys, &beginning, store)?;
         Ok(NodeLink { saved, beginning })
     }
@@ -230,7 +243,12 @@ impl<K: ChannelKeys + Copy, S: Drop> NodeLink<K, S> {
         keys: K,
         config: FitConfig,
         store: S,
-    ) -> Result<NodeLink<K, S>, Refusal> {
+    ) -> Result<NodeLink<K, S>, Refusal>
+        ensures begins { IfOk result (λ n. Begins keys (Fundee config) (Ok n.saved.value.link)) }
+        ensures begins_anew_alike { IfOk result (λ n. n.beginning.value ≡ Fundee config) }
+        ensures keeps_keys { IfOk result (λ n. n.saved.value.keys ≡ keys) }
+        ensures keeps_store { IfOk result (λ n. n.saved.value.store ≡ store) }
+    {
         let beginning = boxed(alloc, Beginning::Fundee(config))?;
         NodeLink::begun(alloc, keys, beginning, store)
     }
@@ -241,20 +259,30 @@ impl<K: ChannelKeys + Copy, S: Drop> NodeLink<K, S> {
         keys: K,
         spec: FitSpec,
         store: S,
-    ) -> Result<NodeLink<K, S>, Refusal> {
+    ) -> Result<NodeLink<K, S>, Refusal>
+        ensures begins { IfOk result (λ n. Begins keys (Funder spec) (Ok n.saved.value.link)) }
+        ensures begins_anew_alike { IfOk result (λ n. n.beginning.value ≡ Funder spec) }
+        ensures keeps_keys { IfOk result (λ n. n.saved.value.keys ≡ keys) }
+        ensures keeps_store { IfOk result (λ n. n.saved.value.store ≡ store) }
+    {
         let beginning = boxed(alloc, Beginning::Funder(spec))?;
         NodeLink::begun(alloc, keys, beginning, store)
     }
 
     /// One that came from its record. 60 where there is no memory.
-    pub(crate) fn loaded(alloc: Global, saved: SavedLink<K, S>) -> Result<NodeLink<K, S>, Refusal> {
+    pub(crate) fn loaded(alloc: Global, saved: SavedLink<K, S>) -> Result<NodeLink<K, S>, Refusal>
+        ensures keeps { IfOk result (λ n. n.saved.value ≡ saved) }
+        ensures begins_nothing_anew { IfOk result (λ n. n.beginning.value ≡ Over) }
+    {
         let saved = boxed(alloc, saved)?;
         let beginning = boxed(alloc, Beginning::Over)?;
         Ok(NodeLink { saved, beginning })
     }
 
     /// Its store.
-    pub(crate) fn into_store(self) -> S {
+    pub(crate) fn into_store(self) -> S
+        ensures { result ≡ self.saved.value.store }
+    {
         let SavedLink {
             keys: _,
             link,
