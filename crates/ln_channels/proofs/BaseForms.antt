@@ -21,9 +21,7 @@ use Rattle.ln_store.specs.Readable.{names_an_update}
 use Rattle.ln_link.specs.Record.{by_roles, live_of, lives_of, base_of, window_of, pairs_of, updates_by}
 use Rattle.ln_link.proofs.Window.{in_role}
 use Rattle.ln_pair.specs.Widths.{IsAdd, IsUpdate}
-use Rattle.ln_pair.proofs.All.{All, all-append}
-use Rattle.ln_pair.proofs.Bases.{IsAt}
-use Rattle.ln_pair.proofs.Lasting.{Where, IsHeld}
+use Rattle.ln_pair.proofs.Offered.{All, all-append, IsAt, Where, IsHeld}
 use Rattle.ln_channels.proofs.UpdateForms.{also, list_fits}
 use Rattle.ln_channels.proofs.ItemForms.{AreSides, IsLive, base_fits, pairs_fit}
 

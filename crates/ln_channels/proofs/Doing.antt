@@ -19,7 +19,7 @@ use Rattle.ln_pair.specs.Ends.{command_at}
 use Rattle.ln_pair.specs.Promises.{IsTaken}
 use Rattle.ln_pair.specs.Moves.{machine_of}
 use Rattle.ln_pair.specs.Doing.{Does}
-use Rattle.ln_pair.proofs.Doing.{both_do}
+use Rattle.ln_pair.proofs.Offered.{both_do}
 use Rattle.ln_channels.specs.Both.{Both}
 use Rattle.ln_channels.specs.Promises.{Obeys, BothObey, DoExactly}
 use Rattle.ln_channels.proofs.Mirror.{link_at, link_of}

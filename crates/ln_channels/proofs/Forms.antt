@@ -27,9 +27,7 @@ use Rattle.ln_link.specs.Record.{events_of, forwards_of, fees_of, progress_of, h
 use Rattle.ln_link.specs.Record.{HasNoAgreement, NoRecord}
 use Rattle.ln_link.proofs.Window.{told_as, fit_so}
 use Rattle.ln_pair.specs.Widths.{IsUpdate}
-use Rattle.ln_pair.proofs.All.{All, all-take, all-drop}
-use Rattle.ln_pair.proofs.Steady.{raised}
-use Rattle.ln_pair.proofs.Lasting.{IsHeld, IsCounted, IsWide, IsOf}
+use Rattle.ln_pair.proofs.Offered.{All, all-take, all-drop, raised, IsHeld, IsCounted, IsWide, IsOf}
 use Rattle.ln_channels.proofs.Opening.{IsOpenChannel, IsAcceptChannel, AreFees, IsOpening}
 use Rattle.ln_channels.proofs.OpeningForms.{open_written, open_short, open_read, accept_written, accept_short}
 use Rattle.ln_channels.proofs.OpeningForms.{accept_read}

@@ -33,8 +33,7 @@ use Rattle.ln_store.specs.Format.{Format, number, fixed, sized, optional, is_som
 use Rattle.ln_store.specs.Items as it
 use Rattle.ln_store.specs.Items.{bit, later_bit, flags_number}
 use Rattle.ln_pair.specs.Widths.{IsAdd}
-use Rattle.ln_pair.proofs.All.{All}
-use Rattle.ln_pair.proofs.Lasting.{Where, Does, IsDecision, IsSettlement, longest_script}
+use Rattle.ln_pair.proofs.Offered.{All, Where, Does, IsDecision, IsSettlement, longest_script}
 use Rattle.ln_channels.proofs.UpdateForms.{also, add_fits, update_fits}
 
 where_fits : {A : Type 0} (f : Format A) (P : A → Type 0) → ((x : A) → P x → f.fits x ≡ true) → (o : Option A)

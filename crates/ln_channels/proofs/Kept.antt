@@ -43,18 +43,12 @@ use Rattle.ln_pair.specs.Told.{events_in, as_told}
 use Rattle.ln_pair.specs.Told as pair_told
 use Rattle.ln_pair.specs.Pending.{IsInStep, end_of_role}
 use Rattle.ln_pair.specs.Setup.{Setup, setup_of, AreSetUp}
-use Rattle.ln_pair.proofs.Tellings.{in_append}
-use Rattle.ln_pair.proofs.Machines.{may_be_made}
-use Rattle.ln_pair.proofs.Recounts.{events_so, in_step_so}
-use Rattle.ln_pair.proofs.Machines.{set_up_so}
-use Rattle.ln_pair.proofs.Fees.{one_fee, all_taken}
+use Rattle.ln_pair.proofs.Offered.{events_in-append, may_be_made, events_so, in_step_so, set_up_so, one_fee, all_taken}
+use Rattle.ln_pair.proofs.Offered.{all_answered, run_fees, All, all-append, longest_script, StepIsWide, at_end}
+use Rattle.ln_pair.proofs.Offered.{flipped as turned_holds, IsLeft, left_alone, is_deed, deeds_leave, deeds_line}
+use Rattle.ln_pair.proofs.Offered.{greeted, cut_off}
 use Rattle.ln_pair.specs.Answers.{HasAnswered}
-use Rattle.ln_pair.proofs.Answers.{all_answered}
-use Rattle.ln_pair.proofs.Deals.{run_fees}
 use Rattle.ln_store.proofs.Formats.{both_true}
-use Rattle.ln_pair.proofs.All.{All, all-append}
-use Rattle.ln_pair.proofs.Lasting.{longest_script}
-use Rattle.ln_pair.proofs.Wide.{StepIsWide}
 use Rattle.ln_close.specs.Closing.{AreOrdered}
 use Rattle.ln_log.specs.Machine.{Machine}
 use Rattle.ln_log.specs.Machine as machine
@@ -62,11 +56,7 @@ use Rattle.ln_log.specs.Events.{events}
 use Rattle.ln_channel.specs.declared.output.Output.{Output}
 use Rattle.ln_channel.specs.Outputs.{all_of, numbered}
 use Rattle.ln_pair.specs.Promises as promise
-use Rattle.ln_pair.proofs.Promised as promised
-use Rattle.ln_pair.proofs.Promised.{at_end}
-use Rattle.ln_pair.proofs.Runs.{flipped as turned_holds}
-use Rattle.ln_pair.proofs.Stopped.{IsLeft, left_alone, is_deed, deeds_leave, deeds_line, greeted, cut_off}
-use Rattle.ln_pair.proofs.Closed as closed
+use Rattle.ln_pair.proofs.Offered as offered
 use Rattle.ln_pair.specs.Closes.{CloseOnceDone}
 use Rattle.ln_channels.specs.declared.step.Act.{Act}
 use Rattle.ln_channels.specs.declared.step.Act.TheVariants as act
@@ -267,7 +257,7 @@ module _ {K : Type 0} (signer : K → Signer) where
   -- the message in front of each end
   fronts : (id : List ℕ) (p : Both K) (r : IsRun id p)
       → promise.NoneRefused (signer r.funders) (signer r.fundees) (ends_of id p r)
-  fronts id p r = promised.none_refused (signer r.funders) (signer r.fundees) r.spec r.config r.funder r.fundee
+  fronts id p r = offered.none_refused (signer r.funders) (signer r.fundees) r.spec r.config r.funder r.fundee
       r.steps r.keys r.opens r.funders_fees r.fundees_fees
 
   -- further steps
@@ -403,10 +393,10 @@ module _ {K : Type 0} (signer : K → Signer) where
         moves = ap (λ ns. machine.Open r.funder.dance.log.opening ∷ ns)
             (moves-append a b r.steps ss first ∙ ap (λ ns. pair_moves.all_moves a b r.steps first ++ ns) ms);
         told_x = ap events_in (told-append a b Funder r.steps ss first)
-            ∙ in_append (pair_told.all_told a b Funder r.steps first) (pair_told.all_told a b Funder ss q)
+            ∙ events_in-append (pair_told.all_told a b Funder r.steps first) (pair_told.all_told a b Funder ss q)
             ∙ ap (λ os. told_until Funder id p r ++ os) ox;
         told_y = ap events_in (told-append a b Fundee r.steps ss first)
-            ∙ in_append (pair_told.all_told a b Fundee r.steps first) (pair_told.all_told a b Fundee ss q)
+            ∙ events_in-append (pair_told.all_told a b Fundee r.steps first) (pair_told.all_told a b Fundee ss q)
             ∙ ap (λ os. told_until Fundee id p r ++ os) oy;
         setup = refl;
       }
@@ -839,8 +829,8 @@ module _ {K : Type 0} (signer : K → Signer) where
         x = w.x ∙ ap (λ ws. ws ++ without_warnings u.sent_x) h.x ∙ sym (without-append t.sent_x u.sent_x);
         y = w.y ∙ ap (λ ws. ws ++ without_warnings u.sent_y) h.y ∙ sym (without-append t.sent_y u.sent_y);
         moves = w.moves ∙ ap (λ ms. ms ++ u.moves) h.moves;
-        told_x = w.told_x ∙ ap (λ os. os ++ events_in u.told_x) h.told_x ∙ sym (in_append t.told_x u.told_x);
-        told_y = w.told_y ∙ ap (λ os. os ++ events_in u.told_y) h.told_y ∙ sym (in_append t.told_y u.told_y);
+        told_x = w.told_x ∙ ap (λ os. os ++ events_in u.told_x) h.told_x ∙ sym (events_in-append t.told_x u.told_x);
+        told_y = w.told_y ∙ ap (λ os. os ++ events_in u.told_y) h.told_y ∙ sym (events_in-append t.told_y u.told_y);
       }
 
   pub all_told : (id : List ℕ) (ms : List Move) (p : Both K) (t : Tale) → ArePossible id ms p → IsTold id p t
@@ -857,7 +847,7 @@ module _ {K : Type 0} (signer : K → Signer) where
       → AddsBefore false t.sent_x × AddsBefore false t.sent_y
   none_adds_late id p t h =
       let r = h.run in
-      let late = promised.none_adds_late (signer r.funders) (signer r.fundees) r.spec r.config r.funder r.fundee r.steps
+      let late = offered.none_adds_late (signer r.funders) (signer r.fundees) r.spec r.config r.funder r.fundee r.steps
       r.keys r.opens in (
         with_warnings false t.sent_x (subst (AddsBefore false) h.x late.0),
         with_warnings false t.sent_y (subst (AddsBefore false) h.y late.1),
@@ -978,14 +968,14 @@ module _ {K : Type 0} (signer : K → Signer) where
 
   pub headline : (id : List ℕ) (p : Both K) → IsRun id p → Headline p
   headline id p r = at_links id r.funders r.fundees FollowEachOther p (ends_of id p r) r.mirrors
-      (promised.headline (signer r.funders) (signer r.fundees) r.spec r.config r.funder r.fundee r.steps r.keys r.opens)
+      (offered.headline (signer r.funders) (signer r.fundees) r.spec r.config r.funder r.fundee r.steps r.keys r.opens)
 
   pub agrees : (id : List ℕ) (p : Both K) → IsRun id p → Agrees p
   agrees id p r quiet =
       let q = ends_of id p r in
       let h = r.mirrors in
       at_links id r.funders r.fundees AgreeOnceSigned p q h (λ x y.
-      promised.agrees (signer r.funders) (signer r.fundees) r.spec r.config r.funder r.fundee r.steps r.keys r.opens
+      offered.agrees (signer r.funders) (signer r.fundees) r.spec r.config r.funder r.fundee r.steps r.keys r.opens
       (record {
         x_met = ap (λ (l : State K). l.line) (sym h.x_link) ∙ quiet.x_met;
         y_met = ap (λ (l : State K). l.line) (sym h.y_link) ∙ quiet.y_met;
@@ -999,7 +989,7 @@ module _ {K : Type 0} (signer : K → Signer) where
   marks_agree id p r quiet =
       let h = r.mirrors in
       at_links id r.funders r.fundees SameMarks p (ends_of id p r) h
-      (promised.marks_agree (signer r.funders) (signer r.fundees) r.spec r.config r.funder r.fundee r.steps r.keys
+      (offered.marks_agree (signer r.funders) (signer r.fundees) r.spec r.config r.funder r.fundee r.steps r.keys
       r.opens (record {
         x_met = ap (λ (l : State K). l.line) (sym h.x_link) ∙ quiet.x_met;
         y_met = ap (λ (l : State K). l.line) (sym h.y_link) ∙ quiet.y_met;
@@ -1117,7 +1107,7 @@ module _ {K : Type 0} (signer : K → Signer) where
   both_close id p r over quiet =
       let h = r.mirrors in
       at_links id r.funders r.fundees CloseOnceDone p (ends_of id p r) h
-      (closed.both_close (signer r.funders) (signer r.fundees) r.spec r.config r.funder r.fundee r.steps r.keys r.opens
+      (offered.both_close (signer r.funders) (signer r.fundees) r.spec r.config r.funder r.fundee r.steps r.keys r.opens
       (record {
         funder = r.funders_order;
         fundee = r.fundees_order;

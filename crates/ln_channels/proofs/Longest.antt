@@ -23,7 +23,7 @@ use Rattle.ln_channel.specs.Step.{Done, handled, commanded, connects}
 use Rattle.ln_store.proofs.Formats.{both_true}
 use Rattle.ln_pair.specs.Ends as pair
 use Rattle.ln_pair.specs.Longest.{IsLongest}
-use Rattle.ln_pair.proofs.Longest.{both_longest}
+use Rattle.ln_pair.proofs.Offered.{both_longest}
 use Rattle.ln_channels.specs.declared.step.Act.{Act}
 use Rattle.ln_channels.specs.declared.step.Act.TheVariants as act
 use Rattle.ln_channels.specs.declared.step.Node.{Node}

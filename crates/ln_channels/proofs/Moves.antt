@@ -31,7 +31,7 @@ use Rattle.ln_channel.specs.Step as step
 use Rattle.ln_log.specs.Limits.{first_fault}
 use Rattle.ln_pair.specs.Ends.{Ends, arrive, messages_in, message_at, command_at, becomes, ledger_behind, Act, Deliver}
 use Rattle.ln_pair.specs.Ends.{Give, Note, Lose, saves}
-use Rattle.ln_pair.proofs.Noting.{IsNotReady, not_ready}
+use Rattle.ln_pair.proofs.Offered.{IsNotReady, not_ready, messages_in-append}
 use Rattle.ln_pair.specs.Ends as pair
 use Rattle.ln_pair.specs.Moves.{moves_asked, moves_between, closes, shuts}
 use Rattle.ln_pair.specs.Moves as pair_moves
@@ -48,7 +48,6 @@ use Rattle.ln_channels.specs.Both.{Both, Place, reaches, left, sent_by, unchange
 use Rattle.ln_channels.specs.Both.{falls}
 use Rattle.ln_channels.specs.Both.{halts, restarts, back, greeting, greets, greeted, comes_up, meet}
 use Rattle.ln_channels.proofs.Named.{Names, IsFine, IsFineRow, fine_at, fine_command}
-use Rattle.ln_channels.proofs.Named as sent
 use Rattle.ln_channels.proofs.Silent.{IsSilentRow, silent_at}
 use Rattle.ln_channels.proofs.Mirror.{link_at, link_of, is_warning, without_warnings, AreIn, IsInbox, Mirrors, plain}
 use Rattle.ln_channels.proofs.Mirror.{is_awake}
@@ -251,7 +250,7 @@ module _ {K : Type 0} (signer : K → Signer) (id : List ℕ) (kx ky : K) where
       → (messages_in (all_of t.handed) ≡ messages_in t.handed.sent) × Names id (messages_in (all_of t.handed))
   out_names t fine =
       let first : messages_in (all_of t.handed) ≡ messages_in t.handed.sent =
-      sent.in-append t.handed.sent t.handed.told
+      messages_in-append t.handed.sent t.handed.told
       ∙ ap (λ ws. messages_in t.handed.sent ++ ws) fine.told ∙ append-nil (messages_in t.handed.sent) in
       (first, subst (Names id) (sym first) fine.sent)
 

@@ -57,6 +57,7 @@ use Rattle.ln_channel.specs.Resume.{resume_row, resumed, ready_again, all_sent, 
 use Rattle.ln_channel.specs.Resume.{fee_again}
 use Rattle.ln_channel.specs.Step.{faulted, line_fault}
 use Rattle.ln_pair.specs.Ends.{message_at, command_at, messages_in}
+use Rattle.ln_pair.proofs.Offered.{messages_in-append, again-append}
 
 -- each message names this channel
 abbrev pub Names : List ℕ → List Message → Type 0
@@ -74,14 +75,6 @@ IsFineRow id (Err r) = Unit {0}
 
 -- ---- lists
 
-pub in-append : (os ps : List Output) → messages_in (os ++ ps) ≡ messages_in os ++ messages_in ps
-in-append [] ps = refl
-in-append (output.Send m ∷ os) ps = ap (λ ms. m ∷ ms) (in-append os ps)
-in-append (output.Signed n ∷ os) ps = in-append os ps
-in-append (output.Committed own peer ∷ os) ps = in-append os ps
-in-append (output.Event n e ∷ os) ps = in-append os ps
-in-append (output.Closed fee ∷ os) ps = in-append os ps
-
 none_numbered : (n : ℕ) (es : List ChannelEvent) → messages_in (numbered n es) ≡ []
 none_numbered n [] = refl
 none_numbered n (e ∷ es) = none_numbered (n + 1) es
@@ -93,7 +86,7 @@ names-append id (m ∷ ms) ns h k = (h.0, names-append id ms ns h.1 k)
 module _ (keys : Signer) (id : List ℕ) where
   both_sent : (os ps : List Output) → Names id (messages_in os) → Names id (messages_in ps)
       → Names id (messages_in (os ++ ps))
-  both_sent os ps h k = subst (λ ms. Names id ms) (sym (in-append os ps))
+  both_sent os ps h k = subst (λ ms. Names id ms) (sym (messages_in-append os ps))
       (names-append id (messages_in os) (messages_in ps) h k)
 
   fine_unless : (f : Option Refusal) (t : Turn) → IsFine id t → IsFineRow id (unless f t)
@@ -221,13 +214,8 @@ module _ (keys : Signer) (id : List ℕ) where
   abbrev IsNamed : List Resend → Type 0
   IsNamed rs = Names id (messages_in (owed_again rs))
 
-  owed-append : (rs ss : List Resend) → owed_again (rs ++ ss) ≡ owed_again rs ++ owed_again ss
-  owed-append [] ss = refl
-  owed-append (r ∷ rs) ss = ap (λ os. one_again r ++ os) (owed-append rs ss)
-      ∙ sym (append_assoc (one_again r) (owed_again rs) (owed_again ss))
-
   both_owed : (rs ss : List Resend) → IsNamed rs → IsNamed ss → IsNamed (rs ++ ss)
-  both_owed rs ss h k = subst (λ os. Names id (messages_in os)) (sym (owed-append rs ss))
+  both_owed rs ss h k = subst (λ os. Names id (messages_in os)) (sym (again-append rs ss))
       (both_sent (owed_again rs) (owed_again ss) h k)
 
   signature_named : (b : Bool) (m : ChannelReestablish) (d : Dancer) → d.channel ≡ id

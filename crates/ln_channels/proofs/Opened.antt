@@ -31,6 +31,7 @@ use Rattle.ln_channel.specs.Step.{Done, replied, faulted}
 use Rattle.ln_channel.proofs.Meeting.{are_ends}
 use Rattle.ln_pair.specs.Ends as pair
 use Rattle.ln_pair.specs.Ends.{Ends}
+use Rattle.ln_pair.proofs.Offered.{was_given, was_none}
 use Rattle.ln_channels.specs.declared.step.Act.TheVariants as act
 use Rattle.ln_channels.specs.Both.{Both, Move, By, Meet, answers, swapped, moves}
 use Rattle.ln_channels.specs.Both.{run as run_both}
@@ -50,18 +51,6 @@ two kx s ms ky t ns = record {
 -- both are saved as they are opened
 abbrev pub first_saves : List pair.Step
 first_saves = pair.By Fundee pair.Save ∷ pair.By Funder pair.Save ∷ []
-
-abbrev ok_or : {A : Type 0} → A → Result A Refusal → A
-ok_or x (Ok y) = y
-ok_or x (Err r) = x
-
-pub was_given : {A : Type 0} (f : Option Refusal) (x y : A) → unless f x ≡ Ok y → x ≡ y
-was_given None x y e = ap (ok_or x) e
-was_given (Some r) x y e = absurd (cc)
-
-no_fault : {A : Type 0} (f : Option Refusal) (x y : A) → unless f x ≡ Ok y → f ≡ None
-no_fault None x y e = refl
-no_fault (Some r) x y e = absurd (cc)
 
 module _ {K : Type 0} (signer : K → Signer) (id : List ℕ) (kx ky : K) (s : OpenSpec) (c : Config)
     (funder fundee : Opened) (o : Opens (signer kx) (signer ky) s c funder fundee) where
@@ -142,7 +131,7 @@ module _ {K : Type 0} (signer : K → Signer) (id : List ℕ) (kx ky : K) (s : O
       let row : Result Done Refusal = unless (first_fault (signer kx) funder.dance o.signed.signature) d in
       ap (λ b. after (faulted (cond (not b) (Some refusal.UnknownChannel) None) row))
       (same_if_equal o.signed.channel_id funder.dance.channel (named_so ∙ of_both))
-      ∙ ap (λ f. after (unless f d)) (no_fault (first_fault (signer kx) funder.dance o.signed.signature) tt tt
+      ∙ ap (λ f. after (unless f d)) (was_none (first_fault (signer kx) funder.dance o.signed.signature) tt tt
       o.funding_signed)
 
   pub opens_so : run_both signer id opening_moves at_first ≡ both_open

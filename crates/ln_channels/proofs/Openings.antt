@@ -14,12 +14,11 @@ use Rattle.ln_channel.specs.declared.opening.Opened.{Opened}
 use Rattle.ln_channel.specs.Opening.{Agreement, open_message, open_fault, agreement, accept_message, accept_fault}
 use Rattle.ln_channel.specs.Opening.{funder_end, created_message, created_fault, fundee_end, funding_message}
 use Rattle.ln_channel.specs.Meeting.{Opens}
-use Rattle.ln_pair.proofs.Lasting.{longest_script}
+use Rattle.ln_pair.proofs.Offered.{longest_script, was_given}
 use Rattle.ln_channels.specs.declared.settings.Settings.{Settings}
 use Rattle.ln_channels.specs.declared.step.Node.{Node}
 use Rattle.ln_channels.specs.Settings.{config_of, spec_of, opening_by, CanBring, CanBeTold}
 use Rattle.ln_channels.proofs.Fitting.{one_letter}
-use Rattle.ln_channels.proofs.Opened.{was_given}
 use Rattle.ln_channels.proofs.Opening.{IsOpenChannel, IsAcceptChannel, AreFees, IsOpening}
 
 -- ---- an opening whose messages these are

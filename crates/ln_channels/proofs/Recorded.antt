@@ -15,9 +15,7 @@ use Rattle.ln_channel.specs.Meeting.{Opens}
 use Rattle.ln_channel.specs.End.{End}
 use Rattle.ln_channel.specs.State.{State}
 use Rattle.ln_store.proofs.Formats.{both_true}
-use Rattle.ln_pair.proofs.Lasting.{IsCounted, IsWide, IsOf}
-use Rattle.ln_pair.proofs.Counting.{are_counted}
-use Rattle.ln_pair.proofs.Wide.{are_wide}
+use Rattle.ln_pair.proofs.Offered.{IsCounted, IsWide, IsOf, are_counted, are_wide}
 use Rattle.ln_channels.specs.declared.step.Act.{Act}
 use Rattle.ln_channels.specs.declared.step.Act.TheVariants as act
 use Rattle.ln_channels.specs.declared.step.Node.{Node}

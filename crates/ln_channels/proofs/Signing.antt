@@ -7,7 +7,7 @@ use Rattle.ln_keys.specs.Signer.{Signer}
 use Rattle.ln_channel.specs.End.{End}
 use Rattle.ln_channel.specs.State.{State}
 use Rattle.ln_pair.specs.Signing.{IfSigned, EachSigned, AgreesOn, AgreesInFront, Signs}
-use Rattle.ln_pair.proofs.Signing.{both_sign}
+use Rattle.ln_pair.proofs.Offered.{both_sign}
 use Rattle.ln_channels.specs.Both.{Both}
 use Rattle.ln_channels.specs.Signing.{LinksSign, SignCovered}
 use Rattle.ln_channels.proofs.Kept.{IsRun, ends_of, at_links}

@@ -7,7 +7,7 @@ use Rattle.ln_channel.specs.End.{end_dropped}
 use Rattle.ln_channel.specs.State.{is_down}
 use Rattle.ln_pair.specs.Ends.{Ends, Lose, Cut}
 use Rattle.ln_pair.specs.Ends as pair
-use Rattle.ln_pair.proofs.Stopped.{IsCutOff}
+use Rattle.ln_pair.proofs.Offered.{IsCutOff}
 use Rattle.ln_channels.specs.Both.{Both, restarted}
 use Rattle.ln_channels.proofs.Mirror.{link_at, IsInbox, Mirrors}
 use Rattle.ln_channels.proofs.Dropped.{IsDropped}

@@ -14,8 +14,7 @@ use Rattle.ln_store.proofs.Formats.{both_true}
 use Rattle.ln_pair.specs.Moves.{after_all}
 use Rattle.ln_pair.specs.Promises.{AddsBefore}
 use Rattle.ln_pair.specs.Told.{as_told, events_in, unnumbered, ClosesLast}
-use Rattle.ln_pair.proofs.ClosesLast.{closes_last, handed_last}
-use Rattle.ln_pair.proofs.Machines.{run_after}
+use Rattle.ln_pair.proofs.Offered.{closes_last, handed_last, run_after}
 use Rattle.ln_channels.specs.declared.step.Act.{Act}
 use Rattle.ln_channels.specs.declared.step.Node.{Node}
 use Rattle.ln_channels.specs.declared.step.Open.{Open}

@@ -12,7 +12,7 @@ use Rattle.ln_log.specs.declared.update.Update.TheVariants as kinds
 use Rattle.ln_store.specs.Format.{number, fixed, optional, ◌&◌, list}
 use Rattle.ln_store.specs.Items as it
 use Rattle.ln_pair.specs.Widths.{IsOrigin, IsAdd, IsFulfil, IsFail, IsMalformed, IsUpdate}
-use Rattle.ln_pair.proofs.All.{All}
+use Rattle.ln_pair.proofs.Offered.{All}
 
 -- one form behind another
 pub also : {a b : Bool} → a ≡ true → b ≡ true → (a && b) ≡ true

@@ -24,7 +24,7 @@ impl Numbers {
     ghost use Rattle.std.specs.Prelude.{◌≡◌};
     ghost use Rattle.ln_dance.specs.Dance.{are_in_step};
 
-    /// Whether a side may have them: each number is below 2^48, and at most one signature is unrevoked. Takes no memory.
+    /// Whether a side may have them: each is below 2^48, and at most one signature is unrevoked. Takes no memory.
     pub fn are_in_step(&self) -> bool
         ensures { result ≡ are_in_step self.now }
     {

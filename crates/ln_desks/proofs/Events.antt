@@ -17,7 +17,7 @@ use Rattle.ln_channel.specs.Pending.{named_by, pending_from}
 use Rattle.ln_pair.specs.Pending.{counted, IsInStep}
 use Rattle.ln_pair.specs.Told.{as_told}
 use Rattle.ln_pair.specs.Moves.{after_all}
-use Rattle.ln_pair.proofs.Tellings.{told_append, events_append}
+use Rattle.ln_pair.proofs.Offered.{told_append, events_append}
 use Rattle.ln_channels.specs.declared.step.Step.{Step}
 use Rattle.ln_channels.specs.Channel.{Channel, place_of}
 use Rattle.ln_channels.specs.Promises.{AtEnd}

@@ -1,55 +1,13 @@
-pub mod All
-pub mod Sides
-pub mod Walk
-pub mod Marks
-pub mod Reading
-pub mod Flow
-pub mod Telling
-pub mod Resume
-pub mod TellingAgain
-pub mod Ending
-pub mod Closing
-pub mod Answering
-pub mod Agreed
-pub mod Deals
-pub mod Rules
-pub mod Images
-pub mod Rows
-pub mod Steps
-pub mod Begins
-pub mod Resends
-pub mod Breaks
-pub mod Turns
-pub mod Cuts
-pub mod Runs
-pub mod Stopped
-pub mod Opens
-pub mod Prices
-pub mod Promised
-pub mod Fees
-pub mod Made
-pub mod Moving
-pub mod Machines
-pub mod Tellings
-pub mod Bases
-pub mod Pending
-pub mod Recounts
-pub mod ClosesLast
-pub mod Answers
-pub mod Firm
-pub mod Bids
-pub mod Hearing
-pub mod Closed
-pub mod Doing
-pub mod Noting
-pub mod Lasting
-pub mod Steady
-pub mod Counting
-pub mod Contents
-pub mod WideTurns
-pub mod WideNotes
-pub mod Wide
-pub mod Paces
-pub mod Rests
-pub mod Longest
-pub mod Signing
+-- Crates above cite Offered.antt and no other proof: the folders are the crate's own.
+pub mod Offered
+mod All
+mod Tests
+mod Flight
+mod Marks
+mod Closing
+mod Fees
+mod Ends
+mod Machine
+mod Events
+mod Bases
+mod Records

@@ -54,15 +54,10 @@ use Rattle.ln_channel.specs.Step.{handled, is_of_records, line_fault, obeyed_ope
 use Rattle.ln_channel.specs.Step.{connects, connected}
 use Rattle.ln_pair.specs.Ends.{ledger_behind}
 use Rattle.ln_pair.specs.Widths.{IsUpdate, IsCommand}
-use Rattle.ln_pair.proofs.All.{All, all-append, all-take}
-use Rattle.ln_pair.proofs.Lasting.{Where}
-use Rattle.ln_pair.proofs.Noting.{noted as noted_behind, IsNotReady, not_ready}
+use Rattle.ln_pair.proofs.Offered.{All, all-append, all-take, Where, noted as noted_behind, IsNotReady, not_ready}
+use Rattle.ln_pair.proofs.Offered.{Steady, noted_steady, based_steady, Origin, Fits, length-front, based_fits}
+use Rattle.ln_pair.proofs.Offered.{noted_fits, AnswerFits, row_fits, completes, meets_fits, command_fits, where_true}
 use Rattle.ln_msgs.specs.Refusals.Refusal.{refusal_number}
-use Rattle.ln_pair.proofs.Steady.{Steady, noted_steady, based_steady}
-use Rattle.ln_pair.proofs.Contents.{Origin, Fits, length-front}
-use Rattle.ln_pair.proofs.Wide.{based_fits}
-use Rattle.ln_pair.proofs.WideNotes.{noted_fits}
-use Rattle.ln_pair.proofs.WideTurns.{AnswerFits, row_fits, completes, meets_fits, command_fits}
 use Rattle.ln_single.specs.Handed.{IsMessage, AreKeys, IsConfig, IsSpec}
 use Rattle.ln_single.specs.Course.{IsSendable}
 use Rattle.ln_single.proofs.Said.{what}
@@ -75,7 +70,6 @@ use Rattle.ln_single.proofs.Failures.{IsFailure, failing}
 use Rattle.ln_single.proofs.Kept.{AreFees, IsOrigin, HasMore, with_fewer, base_covered, base_dropped, base_moved}
 use Rattle.ln_single.proofs.Turns.{terms_of, AnswerKeeps, completes_keeps, row_keeps, resume_keeps}
 use Rattle.ln_single.proofs.Turns.{command_keeps}
-use Rattle.ln_pair.proofs.Steps.{where_true}
 
 -- ---- an end, an agreement and a stage
 

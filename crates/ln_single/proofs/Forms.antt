@@ -34,10 +34,7 @@ use Rattle.ln_link.specs.Record.{events_of, forwards_of, fees_of, progress_of, h
 use Rattle.ln_link.specs.Record.{HasNoAgreement, NoRecord}
 use Rattle.ln_link.proofs.Window.{told_as, fit_so}
 use Rattle.ln_pair.specs.Widths.{IsUpdate}
-use Rattle.ln_pair.proofs.All.{All, all-take}
-use Rattle.ln_pair.proofs.Steady.{raised, closes_in}
-use Rattle.ln_pair.proofs.Contents.{Origin, Fits, wide_of}
-use Rattle.ln_pair.proofs.Lasting.{IsHeld, IsCounted, IsWide}
+use Rattle.ln_pair.proofs.Offered.{All, all-take, raised, closes_in, Origin, Fits, wide_of, IsHeld, IsCounted, IsWide}
 use Rattle.ln_single.specs.Handed.{IsMessage}
 use Rattle.ln_single.proofs.Said.{what}
 use Rattle.ln_single.proofs.Kept.{AreFees, IsOrigin, HasMore}

@@ -12,8 +12,7 @@ use Rattle.ln_msgs.specs.Messages.Typed.{channel_ready_wire}
 use Rattle.ln_msgs.specs.Messages.Typed.{shutdown_wire}
 use Rattle.ln_msgs.specs.Messages.Typed.{closing_signed_wire, add_wire, fulfill_wire, fail_wire, malformed_wire}
 use Rattle.ln_msgs.specs.Messages.Typed.{fee_wire, revoke_and_ack_wire}
-use Rattle.ln_pair.proofs.Contents.{CarriesWide}
-use Rattle.ln_pair.proofs.Steady.{IsFee}
+use Rattle.ln_pair.proofs.Offered.{CarriesWide, IsFee}
 use Rattle.ln_single.specs.Handed.{IsMessage}
 use Rattle.ln_single.proofs.Said.{what}
 

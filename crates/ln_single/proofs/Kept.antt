@@ -16,10 +16,7 @@ use Rattle.ln_close.specs.declared.closing.Fees.{Fees}
 use Rattle.ln_channel.specs.Base.{allowed, based}
 use Rattle.ln_channel.specs.Opening.{asked_with, asked_by_accept}
 use Rattle.ln_channel.specs.End.{End}
-use Rattle.ln_pair.proofs.All.{All}
-use Rattle.ln_pair.proofs.Lasting.{Where}
-use Rattle.ln_pair.proofs.Steady.{IsFee, Steady}
-use Rattle.ln_pair.proofs.Contents.{Origin}
+use Rattle.ln_pair.proofs.Offered.{All, Where, IsFee, Steady, Origin}
 use Rattle.ln_single.specs.Handed.{IsMessage}
 use Rattle.ln_single.proofs.Few.{Few}
 use Rattle.ln_single.proofs.Sent.{IsShort}

@@ -23,7 +23,7 @@ use Rattle.ln_link.specs.Loading.{IsLoadedOf, CameBack}
 use Rattle.ln_link.specs.Calls.{Call, Handle, Command, Connect, DropConnection, Halt, Leads, Lead, left_by, made_by}
 use Rattle.ln_link.proofs.Refusing.{has_halted}
 use Rattle.ln_pair.specs.Widths.{IsCommand}
-use Rattle.ln_pair.proofs.All.{All}
+use Rattle.ln_pair.proofs.Offered.{All}
 use Rattle.ln_single.specs.Handed.{IsMessage, AreKeys}
 use Rattle.ln_single.specs.Course.{IsCall, AreCalls, Gives, BeginsAt, Begins, IsTold, ComesBack, Returns, Lives}
 use Rattle.ln_single.specs.Course.{IsLink, IsSendable, AreSendable}

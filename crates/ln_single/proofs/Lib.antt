@@ -15,3 +15,5 @@ pub mod Course
 pub mod Loaded
 pub mod Led
 pub mod Toy
+mod Lives
+mod Records

@@ -34,8 +34,7 @@ use Rattle.ln_link.specs.Loading.{HasRecord, end_of}
 use Rattle.ln_link.proofs.Loaded.{read_log, loaded_end}
 use Rattle.ln_link.proofs.Told.{restored}
 use Rattle.ln_pair.specs.Widths.{IsAdd, IsFulfil, IsUpdate}
-use Rattle.ln_pair.proofs.All.{All, all-append, all-take, all-drop}
-use Rattle.ln_pair.proofs.Contents.{Origin, Fits}
+use Rattle.ln_pair.proofs.Offered.{All, all-append, all-take, all-drop, Origin, Fits}
 use Rattle.ln_single.proofs.Sent.{IsShort}
 use Rattle.ln_single.proofs.Few.{Few, dropped}
 use Rattle.ln_single.proofs.Kept.{IsOrigin, HasBase, AreClosed, HasMore, with_fewer, base_covered, base_dropped}

@@ -71,14 +71,9 @@ use Rattle.ln_channel.specs.Config.{longest_script}
 use Rattle.ln_channel.specs.Resume.{ready_again, one_again, owed_again, shutdown_again, fee_again, sent_again, resumed}
 use Rattle.ln_channel.specs.Resume.{resume_row}
 use Rattle.ln_pair.specs.Widths.{IsUpdate, IsCommand}
-use Rattle.ln_pair.proofs.WideTurns.{AnswerFits}
-use Rattle.ln_pair.proofs.All.{All, all-append, all-take, all-drop, all-when}
-use Rattle.ln_pair.proofs.Lasting.{Where}
-use Rattle.ln_pair.proofs.Rows.{no_fault}
-use Rattle.ln_pair.proofs.Sides.{Sign, Revoke, Ready}
-use Rattle.ln_pair.proofs.Steps.{first_none, otherwise, where_true, negated}
-use Rattle.ln_pair.proofs.Steady.{IsFee, Steady, settled_steady, turn_steady, fee_steady}
-use Rattle.ln_pair.proofs.Contents.{Origin, Fits}
+use Rattle.ln_pair.proofs.Offered.{AnswerFits, All, all-append, all-take, all-drop, all-when, Where, no_fault, Sign}
+use Rattle.ln_pair.proofs.Offered.{Revoke, Ready, first_none, otherwise, where_true, negated, IsFee, Steady}
+use Rattle.ln_pair.proofs.Offered.{settled_steady, turn_steady, fee_steady, Origin, Fits, next_small}
 use Rattle.ln_single.specs.Handed.{IsMessage, AreKeys}
 use Rattle.ln_single.specs.Course.{IsSendable}
 use Rattle.ln_single.proofs.Few.{Few, proposed, received, signing, signed, accepted, learned, signed_few}
@@ -128,10 +123,6 @@ unnegated false e = refl
 
 counted : (xs : List (List ℕ)) (n : ℕ) → length xs ≡ n → n ≤ 966 → length xs ≤ 966
 counted xs n e le = omega (arith, e, le)
-
--- the id that is due
-next_small : (us : List Change) → length us < most_updates → next_id us < 2 ^ 64
-next_small us few = omega (arith, few, count_by-le-length is_add us)
 
 -- ---- the answer to a closing fee is a fee
 

@@ -23,11 +23,8 @@ use Rattle.ln_channel.specs.Meeting.{Opens}
 use Rattle.ln_channel.specs.End.{End, end_of}
 use Rattle.ln_channel.specs.State.{State}
 use Rattle.ln_pair.specs.Ends.{opened}
-use Rattle.ln_pair.proofs.All.{All}
-use Rattle.ln_pair.proofs.Lasting.{Where, longest_script}
-use Rattle.ln_pair.proofs.Opens.{was_given}
-use Rattle.ln_pair.proofs.Contents.{Origin, contents_of, Fits}
-use Rattle.ln_pair.proofs.Wide.{BothFit, run_fit}
+use Rattle.ln_pair.proofs.Offered.{All, Where, longest_script, was_given, Origin, contents_of, Fits, BothFit, run_fit}
+use Rattle.ln_pair.proofs.Offered.{FitsFirst, first_fits}
 use Rattle.ln_channels.specs.Channel.{Channel}
 use Rattle.ln_channels.specs.Promises.{Each}
 use Rattle.ln_channels.specs.Settings.{channel_id_of}
@@ -45,23 +42,6 @@ use Rattle.ln_world.proofs.WideWorlds.{id_so, steps_so}
 
 abbrev origin_of : Opened → Origin
 origin_of e = (contents_of (end_of e)).origin
-
-abbrev FitsFirst : Opened → Type 0
-FitsFirst e = length e.terms.script ≤ longest_script → Fits (origin_of e) (end_of e)
-
-first_fits : (r : Role) (channel : List ℕ) (f : Fees) (t : Terms) → t.peer_script ≡ None
-    → FitsFirst (opened_by r channel f t)
-first_fits r channel f t none short = record {
-  origin = refl;
-  own = tt;
-  own_room = omega arith;
-  received = tt;
-  received_room = omega arith;
-  script = short;
-  peer_script = subst (Where (λ s. length s ≤ longest_script)) (sym none) tt;
-  decisions = tt;
-  results = tt;
-}
 
 funder_fits : (a b : Signer) (s : OpenSpec) (c : Config) (funder fundee : Opened) → Opens a b s c funder fundee
     → FitsFirst funder

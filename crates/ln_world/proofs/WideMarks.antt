@@ -36,7 +36,7 @@ use Rattle.ln_tables.specs.declared.entry.Line.{Line}
 use Rattle.ln_tables.specs.declared.entry.Invoice.{Invoice}
 use Rattle.ln_tables.specs.Replay.{Table, same, is_usable}
 use Rattle.ln_pair.specs.Widths.{IsMark, IsUpdate, IsAdd}
-use Rattle.ln_pair.proofs.Lasting.{Where}
+use Rattle.ln_pair.proofs.Offered.{Where}
 use Rattle.ln_book.specs.Commands.{Services, next_of}
 use Rattle.ln_book.specs.Marks.{offer_of, incoming_of, failure_by, unopened, line_by, forward_mark, forwarded}
 use Rattle.ln_book.specs.Marks.{final_mark, final_payload, expected_by, read_hop, read, opened_mark, mark_of}

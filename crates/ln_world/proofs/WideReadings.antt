@@ -39,8 +39,7 @@ use Rattle.ln_tables.specs.declared.entry.Entry.TheVariants as entry
 use Rattle.ln_history.specs.History.{with_entry}
 use Rattle.ln_tables.specs.Replay.{Table, replay, table_of}
 use Rattle.ln_pair.specs.Widths.{IsOrigin, IsMark, IsAdd, IsUpdate}
-use Rattle.ln_pair.proofs.All.{All, all-append, all-take, all-drop, all-when}
-use Rattle.ln_pair.proofs.Lasting.{Where, Does, IsDecision, IsSettlement}
+use Rattle.ln_pair.proofs.Offered.{All, all-append, all-take, all-drop, all-when, Where, Does, IsDecision, IsSettlement}
 use Rattle.ln_readings.specs.declared.leg.Leg.{Leg}
 use Rattle.ln_readings.specs.Kept.{own_window, own_updates}
 use Rattle.ln_readings.specs.Rebuild.{Reading, leg_from, leg_of, legs_offered, how_of, leg_over, legs_over}

@@ -35,8 +35,7 @@ use Rattle.ln_tables.specs.Replay.{put_way, put_back, with_way, with_back, with_
 use Rattle.ln_tables.specs.Replay.{queue_behind, answered_out, answered_at, is_unsure, is_later, is_way_lost, refused}
 use Rattle.ln_tables.specs.Replay.{htlc_kept, kept_out, kept_at}
 use Rattle.ln_pair.specs.Widths.{IsMark, IsCommand}
-use Rattle.ln_pair.proofs.All.{All, all-append, all-filter, all-when}
-use Rattle.ln_pair.proofs.Lasting.{Where}
+use Rattle.ln_pair.proofs.Offered.{All, all-append, all-filter, all-when, Where}
 use Rattle.ln_book.specs.Commands.{Services, due, next_of, add_with, removal_over, removal_by_way, removal_by}
 use Rattle.ln_book.specs.Commands.{forget_by, command_of, with_out, command_by, or_next, first_due, is_queued_in}
 use Rattle.ln_book.specs.Commands.{first_of, first_at, first_command}

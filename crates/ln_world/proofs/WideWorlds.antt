@@ -24,8 +24,7 @@ use Rattle.ln_tables.specs.declared.entry.Entry.TheVariants as entry
 use Rattle.ln_history.specs.History.{with_entry}
 use Rattle.ln_tables.specs.Replay.{table_of, desk_at as out_desk_at}
 use Rattle.ln_pair.specs.Widths.{IsCommand}
-use Rattle.ln_pair.proofs.All.{All, all-append, all-when}
-use Rattle.ln_pair.proofs.Lasting.{Where}
+use Rattle.ln_pair.proofs.Offered.{All, all-append, all-when, Where}
 use Rattle.ln_book.specs.Commands.{with_taken, with_answered}
 use Rattle.ln_book.specs.Marks.{offer_of}
 use Rattle.ln_channels.specs.declared.line.Line.{Line}

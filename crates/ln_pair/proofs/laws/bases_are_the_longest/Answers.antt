@@ -1,4 +1,4 @@
-use Rattle.ln_pair.proofs.Longest.{both_longest}
+use Rattle.ln_pair.proofs.Bases.LongestBase.{both_longest}
 use Rattle.ln_pair.proofs.laws.bases_are_the_longest.Goals as goal
 
 pub returns : goal.returns

@@ -1,4 +1,4 @@
-use Rattle.ln_pair.proofs.Promised.{agrees}
+use Rattle.ln_pair.proofs.Ends.Promised.{agrees}
 use Rattle.ln_pair.proofs.laws.both_agree_at_rest.Goals as goal
 
 pub returns : goal.returns

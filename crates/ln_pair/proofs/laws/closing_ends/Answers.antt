@@ -1,4 +1,4 @@
-use Rattle.ln_pair.proofs.Closed.{both_close}
+use Rattle.ln_pair.proofs.Closing.ClosingEnds.{both_close}
 use Rattle.ln_pair.proofs.laws.closing_ends.Goals as goal
 
 pub returns : goal.returns

@@ -1,4 +1,4 @@
-use Rattle.ln_pair.proofs.Promised.{marks_agree}
+use Rattle.ln_pair.proofs.Ends.Promised.{marks_agree}
 use Rattle.ln_pair.proofs.laws.marks_agree_at_rest.Goals as goal
 
 pub returns : goal.returns

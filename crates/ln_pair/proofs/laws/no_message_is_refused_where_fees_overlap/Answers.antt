@@ -1,4 +1,4 @@
-use Rattle.ln_pair.proofs.Fees.{all_taken}
+use Rattle.ln_pair.proofs.Fees.OneFee.{all_taken}
 use Rattle.ln_pair.proofs.laws.no_message_is_refused_where_fees_overlap.Goals as goal
 
 pub returns : goal.returns

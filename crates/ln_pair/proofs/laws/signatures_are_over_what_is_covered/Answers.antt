@@ -1,4 +1,4 @@
-use Rattle.ln_pair.proofs.Signing.{signs_in_step, both_sign}
+use Rattle.ln_pair.proofs.Ends.Signatures.{signs_in_step, both_sign}
 use Rattle.ln_pair.proofs.laws.signatures_are_over_what_is_covered.Goals as goal
 
 pub returns-clause-handed_out : goal.returns-clause-handed_out

@@ -1,4 +1,4 @@
-use Rattle.ln_pair.proofs.ClosesLast.{moves_last, told_last}
+use Rattle.ln_pair.proofs.Events.CloseIsLast.{moves_last, told_last}
 use Rattle.ln_pair.proofs.moves.close_is_last.Goals as goal
 
 pub returns-clause-of_the_moves : goal.returns-clause-of_the_moves

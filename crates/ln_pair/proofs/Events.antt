@@ -1,0 +1,6 @@
+-- The events of the moves: an end tells each, decides it once, and tells none behind its close.
+pub mod EventLists
+pub mod Decisions
+pub mod Undecided
+pub mod EventsOverRuns
+pub mod CloseIsLast
