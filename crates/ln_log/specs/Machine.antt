@@ -194,12 +194,3 @@ pub record Follows (x y : Party) : Type 0 where
   pub of_x : Begins (held y).peer x.signed.own
   pub of_y : Begins (held y).own x.signed.peer
   pub in_order : Begins (held y).peer x.own
-
--- each way round
-abbrev pub Headline : Machine → Type 0
-Headline m = Follows m.funder m.fundee × Follows m.fundee m.funder
-
--- nothing is left to sign or to acknowledge (nothing is in flight, which a machine can't tell)
-pub record IsSettled (p : Party) : Type 0 where
-  pub revoked : p.acknowledged ≡ p.signed
-  pub covered : p.signed ≡ to_sign p
