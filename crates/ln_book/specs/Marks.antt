@@ -26,7 +26,7 @@ use Rattle.ln_forward.specs.Checks.{forward_by, missing, final_fault}
 use Rattle.ln_forward.specs.Failure.{failure_bytes}
 use Rattle.ln_forward.specs.Payload.{Hop, payload_at}
 use Rattle.ln_tables.specs.declared.htlc.Offer.{Offer}
-use Rattle.ln_tables.specs.declared.entry.Line.{Line}
+use Rattle.ln_tables.specs.declared.entry.OutgoingChannel.{OutgoingChannel}
 use Rattle.ln_tables.specs.declared.entry.Invoice.{Invoice}
 use Rattle.ln_tables.specs.declared.entry.Decided.{Decided}
 use Rattle.ln_tables.specs.Replay.{Table, same, is_usable}
@@ -72,23 +72,23 @@ unopened s open_fault.Memory = failed s (failure.InvalidOnionPayload 0)
 
 -- ---- forwarding
 
-abbrev pub line_by : Table → Option (List ℕ) → Option Line
-line_by t None = None
-line_by t (Some id) = lookup (same id) t.routes
+abbrev pub outgoing_by : Table → Option (List ℕ) → Option OutgoingChannel
+outgoing_by t None = None
+outgoing_by t (Some id) = lookup (same id) t.routes
 
-abbrev pub route_by : Table → Option Line → Option Route
+abbrev pub route_by : Table → Option OutgoingChannel → Option Route
 route_by t None = None
 route_by t (Some l) = Some (record { usable = is_usable l.channel t; minimum = l.minimum })
 
 abbrev pub no_policy : Policy
 no_policy = record { base = 0; proportional = 0; delta = 0 }
 
-abbrev pub policy_by : Option Line → Policy
+abbrev pub policy_by : Option OutgoingChannel → Policy
 policy_by None = no_policy
 policy_by (Some l) = l.policy
 
 -- the first failure of a hop that isn't the final one, by the records that its payload has
-abbrev pub forward_fault_at : Offer → Hop → Table → Option Line → Option ℕ → Option ℕ → Option Failure
+abbrev pub forward_fault_at : Offer → Hop → Table → Option OutgoingChannel → Option ℕ → Option ℕ → Option Failure
 forward_fault_at o hop t l None expiry = missing 2
 forward_fault_at o hop t l (Some amount) None = missing 4
 forward_fault_at o hop t l (Some amount) (Some expiry) = if is_none hop.next then missing 6
@@ -98,12 +98,12 @@ abbrev pub or_zero : Option ℕ → ℕ
 or_zero None = 0
 or_zero (Some n) = n
 
-abbrev pub forward_mark : Services → Hop → Option Line → Option Failure → Mark
+abbrev pub forward_mark : Services → Hop → Option OutgoingChannel → Option Failure → Mark
 forward_mark s hop l (Some f) = failed s f
 forward_mark s hop None None = mark.None
 forward_mark s hop (Some l) None = mark.Forward l.channel (or_zero hop.amount) (or_zero hop.expiry)
 
-abbrev pub forwarded : Services → Offer → Hop → Table → Option Line → Mark
+abbrev pub forwarded : Services → Offer → Hop → Table → Option OutgoingChannel → Mark
 forwarded s o hop t l = forward_mark s hop l (forward_fault_at o hop t l hop.amount hop.expiry)
 
 -- ---- taking
@@ -130,7 +130,7 @@ taken s o hop height i =
 -- where the onion has no next one this hop is the final one
 abbrev pub read_hop : Services → Offer → Table → Bool → Hop → Mark
 read_hop s o t true hop = taken s o hop t.height (lookup (same o.hash) t.expected)
-read_hop s o t false hop = forwarded s o hop t (line_by t hop.next)
+read_hop s o t false hop = forwarded s o hop t (outgoing_by t hop.next)
 
 abbrev pub read : Services → Offer → Table → Bool → Result Hop Fault → Mark
 read s o t is_final (Err f) = failed s (failure.InvalidOnionPayload 0)

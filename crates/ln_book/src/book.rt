@@ -11,7 +11,9 @@ use ln_keys::Onion;
 use ln_log::{ChannelId, Mark};
 use ln_msgs::Refusal;
 use ln_readings::{Kept, Reading, rebuilt_htlcs, told_by};
-use ln_tables::{Decided, Desk, Entry, Invoice, Key, Line, Out, Tables, Told, copy_how, copy_mark};
+use ln_tables::{
+    Decided, Desk, Entry, Invoice, Key, Out, OutgoingChannel, Tables, Told, copy_how, copy_mark,
+};
 use std::alloc::Global;
 use std::marker::Model;
 
@@ -68,13 +70,13 @@ impl Book {
         ensures fails_for_memory_alone { IfErr result (λ r. r ≡ Refusal.Memory) }
     {
         let id = id.to_bytes();
-        let line = Line {
+        let outgoing = OutgoingChannel {
             channel,
             policy,
             minimum,
         };
-        self.tables.set_route(id, line)?;
-        self.history = self.history.and(&Entry::Route(id, line));
+        self.tables.set_route(id, outgoing)?;
+        self.history = self.history.and(&Entry::Route(id, outgoing));
         Ok(())
     }
 

@@ -4,7 +4,7 @@ ghost use Rattle.std.specs.Prelude.{◌≡◌, Ok, IfOk, IfErr, option_map, opti
 ghost use Rattle.ln_forward.specs.Checks.{answer_of, final_fault};
 ghost use Rattle.ln_forward.specs.Payload.{hop_of, id_bytes};
 ghost use Rattle.ln_book.specs.Commands.{services_of};
-ghost use Rattle.ln_book.specs.Marks.{offer_of, incoming_of, failure_by, failed, unopened, line_by, route_by};
+ghost use Rattle.ln_book.specs.Marks.{offer_of, incoming_of, failure_by, failed, unopened, outgoing_by, route_by};
 ghost use Rattle.ln_book.specs.Marks.{policy_by, forwarded, final_payload, expected_by, taken};
 ghost use Rattle.ln_book.specs.Marks.{read_hop};
 ghost use Rattle.ln_book.specs.Marks.{opened_mark, mark_by, mark_of};
@@ -18,7 +18,7 @@ use ln_hooks::{ChannelEvent, FailureCode, Verdict};
 use ln_keys::{Onion, OpenFault, Opened};
 use ln_log::Mark;
 use ln_msgs::Refusal;
-use ln_tables::{Invoice, Line, Offer, Tables};
+use ln_tables::{Invoice, Offer, OutgoingChannel, Tables};
 use std::alloc::Global;
 
 /// What a peer offers, where an event tells of that.
@@ -102,8 +102,8 @@ fn unopened<O: Onion>(alloc: Global, onion: &O, fault: OpenFault) -> Result<Mark
 }
 
 // The channel that a payload names.
-fn line_by<'a>(tables: &'a Tables, next: Option<ShortId>) -> Option<&'a Line>
-    ensures { option_copied result ≡ line_by tables.now (option_map id_bytes next) }
+fn outgoing_by<'a>(tables: &'a Tables, next: Option<ShortId>) -> Option<&'a OutgoingChannel>
+    ensures { option_copied result ≡ outgoing_by tables.now (option_map id_bytes next) }
 {
     match next {
         None => None,
@@ -112,29 +112,29 @@ fn line_by<'a>(tables: &'a Tables, next: Option<ShortId>) -> Option<&'a Line>
 }
 
 // The channel as the checks see it.
-fn route_by(tables: &Tables, line: Option<&Line>) -> Option<Route>
-    ensures { result ≡ route_by tables.now (option_copied line.entry) }
+fn route_by(tables: &Tables, outgoing: Option<&OutgoingChannel>) -> Option<Route>
+    ensures { result ≡ route_by tables.now (option_copied outgoing.entry) }
 {
-    match line {
+    match outgoing {
         None => None,
-        Some(line) => Some(Route {
-            usable: tables.usable(&line.channel),
-            minimum: line.minimum,
+        Some(outgoing) => Some(Route {
+            usable: tables.usable(&outgoing.channel),
+            minimum: outgoing.minimum,
         }),
     }
 }
 
 // What the node asks for it.
-fn policy_by(line: Option<&Line>) -> Policy
-    ensures { result ≡ policy_by (option_copied line.entry) }
+fn policy_by(outgoing: Option<&OutgoingChannel>) -> Policy
+    ensures { result ≡ policy_by (option_copied outgoing.entry) }
 {
-    match line {
+    match outgoing {
         None => Policy {
             base: 0,
             proportional: 0,
             delta: 0,
         },
-        Some(line) => line.policy,
+        Some(outgoing) => outgoing.policy,
     }
 }
 
@@ -145,21 +145,21 @@ fn forwarded<O: Onion>(
     tables: &Tables,
     offer: &Offer,
     payload: &Payload,
-    line: Option<&Line>,
+    outgoing: Option<&OutgoingChannel>,
 ) -> Result<Mark, Refusal>
     ensures mark { IfOk result (λ m. m ≡ forwarded (services_of O.opened O.wrapped onion.now) offer.now
-        (hop_of payload.now) tables.now (option_copied line.entry)) }
+        (hop_of payload.now) tables.now (option_copied outgoing.entry)) }
     ensures fails_for_memory_alone { IfErr result (λ r. r ≡ Refusal.Memory) }
 {
-    let route = route_by(tables, line);
-    let policy = policy_by(line);
+    let route = route_by(tables, outgoing);
+    let policy = policy_by(outgoing);
     let incoming = incoming_of(offer);
     match check_forward(&incoming, payload, route.as_ref(), &policy, tables.height()) {
         Err(failure) => failed(alloc, onion, failure),
-        Ok(()) => match line {
+        Ok(()) => match outgoing {
             None => Ok(Mark::None),
-            Some(line) => Ok(Mark::Forward {
-                channel: line.channel,
+            Some(outgoing) => Ok(Mark::Forward {
+                channel: outgoing.channel,
                 amount: payload.amount.unwrap_or(0),
                 expiry: payload.expiry.unwrap_or(0),
             }),
@@ -229,8 +229,8 @@ fn read<O: Onion>(
         let invoice = tables.invoice(&offer.hash);
         taken(alloc, onion, tables.height(), offer, payload, invoice)
     } else {
-        let line = line_by(tables, payload.next);
-        forwarded(alloc, onion, tables, offer, payload, line)
+        let outgoing = outgoing_by(tables, payload.next);
+        forwarded(alloc, onion, tables, offer, payload, outgoing)
     }
 }
 

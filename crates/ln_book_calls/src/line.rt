@@ -11,9 +11,9 @@ pub fn numbers(alloc: Global, line: &str) -> Result<Vec<u64>, AllocError> {
     Ok(all)
 }
 
-/// The number at a place; 0 behind the end.
-pub fn at(words: &[u64], place: usize) -> u64 {
-    match words.get(place) {
+/// The number at a seat; 0 behind the end.
+pub fn at(words: &[u64], seat: usize) -> u64 {
+    match words.get(seat) {
         None => 0,
         Some(number) => *number,
     }

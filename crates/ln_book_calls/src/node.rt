@@ -15,7 +15,7 @@ use std::alloc::{AllocError, Global};
 
 /// A channel of the node's.
 #[derive(Drop)]
-struct Place {
+struct Seat {
     channel: ChannelId,
     ends: Box<Ends>,
 }
@@ -24,7 +24,7 @@ struct Place {
 #[derive(Drop)]
 pub struct Node {
     pub book: Box<Book>,
-    places: Vec<Place>,
+    seats: Vec<Seat>,
 }
 
 /// Decides each event, and hears what became of HTLCs. Says how many there were.
@@ -70,10 +70,10 @@ fn signing_of(number: u64) -> Signing {
 }
 
 /// Reads off the ends of all channels.
-fn readings_of(alloc: Global, places: &[Place]) -> Result<Vec<Reading>, Refusal> {
+fn readings_of(alloc: Global, seats: &[Seat]) -> Result<Vec<Reading>, Refusal> {
     let mut all = Vec::new(alloc);
-    for place in places {
-        match place.ends.channel() {
+    for seat in seats {
+        match seat.ends.channel() {
             None => {}
             Some(channel) => all.push(Reading::of(alloc, channel)?)?,
         }
@@ -81,7 +81,7 @@ fn readings_of(alloc: Global, places: &[Place]) -> Result<Vec<Reading>, Refusal>
     Ok(all)
 }
 
-impl Place {
+impl Seat {
     /// What the channel's ends do by a line, and which events the node's end tells of.
     fn play(
         &mut self,
@@ -149,7 +149,7 @@ impl Node {
         let book = Box::new(alloc, Book::new(alloc))?;
         Ok(Node {
             book,
-            places: Vec::new(alloc),
+            seats: Vec::new(alloc),
         })
     }
 
@@ -157,19 +157,15 @@ impl Node {
     fn open(&mut self, alloc: Global, channel: ChannelId) -> Result<usize, Refusal> {
         let mut told = Vec::new(alloc);
         let ends = Ends::open(alloc, channel, &mut told)?;
-        self.places.push(Place { channel, ends })?;
+        self.seats.push(Seat { channel, ends })?;
         note(alloc, &mut self.book, channel, told.as_slice())
     }
 
-    /// The place of a channel.
-    fn place_of(&self, channel: &ChannelId) -> Result<usize, Refusal> {
-        match self
-            .places
-            .iter()
-            .position(|place| channel == &place.channel)
-        {
+    /// The index of a channel.
+    fn index_of(&self, channel: &ChannelId) -> Result<usize, Refusal> {
+        match self.seats.iter().position(|seat| channel == &seat.channel) {
             None => Err(Refusal::NotReady),
-            Some(place) => Ok(place),
+            Some(seat) => Ok(seat),
         }
     }
 
@@ -179,19 +175,19 @@ impl Node {
         if word == "open" {
             return self.open(alloc, channel);
         }
-        let place = self.place_of(&channel)?;
-        let Some(place) = self.places.get_mut(place) else {
+        let seat = self.index_of(&channel)?;
+        let Some(seat) = self.seats.get_mut(seat) else {
             return Err(Refusal::NotReady);
         };
         let mut told = Vec::new(alloc);
-        place.play(alloc, word, words, &mut told)?;
+        seat.play(alloc, word, words, &mut told)?;
         note(alloc, &mut self.book, channel, told.as_slice())
     }
 
     /// The node's end of a channel does what the book commands, and the book hears the answer.
     fn obey(&mut self, alloc: Global, channel: ChannelId) -> Result<String, Refusal> {
-        let place = self.place_of(&channel)?;
-        let Some(place) = self.places.get_mut(place) else {
+        let seat = self.index_of(&channel)?;
+        let Some(seat) = self.seats.get_mut(seat) else {
             return Err(Refusal::NotReady);
         };
         let Some(command) = self.book.take_commands(alloc, &ToyOnion, channel)? else {
@@ -199,7 +195,7 @@ impl Node {
         };
         let mut told = Vec::new(alloc);
         let shown = show_command(alloc, &command);
-        let answer = place.obeyed(alloc, command, &mut told);
+        let answer = seat.obeyed(alloc, command, &mut told);
         self.book.answered(channel, answer);
         let shown = shown?;
         note(alloc, &mut self.book, channel, told.as_slice())?;
@@ -208,12 +204,12 @@ impl Node {
 
     /// A channel loses its connection, and the book asks the node's end what was kept.
     fn down(&mut self, alloc: Global, channel: ChannelId) -> Result<usize, Refusal> {
-        let place = self.place_of(&channel)?;
-        let Some(place) = self.places.get_mut(place) else {
+        let seat = self.index_of(&channel)?;
+        let Some(seat) = self.seats.get_mut(seat) else {
             return Err(Refusal::NotReady);
         };
-        place.ends.cut();
-        let Some(end) = place.ends.channel() else {
+        seat.ends.cut();
+        let Some(end) = seat.ends.channel() else {
             return Err(Refusal::NotReady);
         };
         self.book.dropped(alloc, channel, end)?;
@@ -222,12 +218,12 @@ impl Node {
 
     /// The node restarts: all connections are lost, and the book is read off the ends of all channels.
     fn restart(&mut self, alloc: Global) -> Result<usize, Refusal> {
-        for place in self.places.iter_mut() {
-            place.ends.cut();
+        for seat in self.seats.iter_mut() {
+            seat.ends.cut();
         }
-        let readings = readings_of(alloc, self.places.as_slice())?;
+        let readings = readings_of(alloc, self.seats.as_slice())?;
         self.book.rebuild(alloc, readings.as_slice())?;
-        Ok(self.places.len())
+        Ok(self.seats.len())
     }
 
     /// A line of channels.

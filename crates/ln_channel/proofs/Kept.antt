@@ -1,7 +1,7 @@
 -- What is kept of a link, by its parts, and what it stands for.
 use Rattle.std.proofs.Common.{refl, sym, ap, subst, inl, inr, Bool, false, ◌≡◌, ◌∙◌, Result, Ok, Err}
 use Rattle.ln_msgs.specs.declared.refusals.refusal.Refusal.{Refusal}
-use Rattle.ln_channel.specs.declared.unsaved.Line.{Line}
+use Rattle.ln_channel.specs.declared.unsaved.LineState.{LineState}
 use Rattle.ln_channel.specs.declared.unsaved.Stage.{Stage}
 use Rattle.ln_channel.specs.declared.unsaved.Stage.TheVariants as stage
 use Rattle.ln_channel.specs.Outputs.{Handed}
@@ -22,12 +22,12 @@ pub stage_stands : {K : Type 0} (kept l : State K) → StandsFor kept l → Stag
 stage_stands kept l s = ap (λ (x : State _). x.stage) s
 
 -- with another line and stage
-pub stands_with : {K : Type 0} (kept l : State K) (line' line : Line) (stage' s : Stage) → StandsFor kept l
+pub stands_with : {K : Type 0} (kept l : State K) (line' line : LineState) (stage' s : Stage) → StandsFor kept l
     → line ≡ line' → StageStands stage' s
     → StandsFor (record kept { line = line'; stage = stage' }) (record l { line = line; stage = s })
 stands_with kept l line' line stage' s stands same by =
     ap (λ (x : State _). record x { line = line'; stage = stage' }) stands
-    ∙ ap (λ (x : Line). record l { line = x; stage = stage' }) (sym same)
+    ∙ ap (λ (x : LineState). record l { line = x; stage = stage' }) (sym same)
     ∙ ap (λ (x : Stage). record l { line = line; stage = x }) by
 
 -- the end that a saved stage is for
@@ -46,7 +46,7 @@ left_as : (k new : End) (kept s : Stage) → kept ≡ stage.Saved k → StageSta
 left_as k new kept s is stands same =
     subst (λ (x : Stage). StageStands x s) (sym (back_again k new kept is same)) stands
 
-moved_stage : (views : Bool) (said : Result Done Refusal) (l l' : Line) (k new : End) (kept s : Stage)
+moved_stage : (views : Bool) (said : Result Done Refusal) (l l' : LineState) (k new : End) (kept s : Stage)
     (answer : Result Handed Refusal) → kept ≡ stage.Saved k → StageStands kept s
     → MovesEnd views said answer l l' k new → Moves views said answer l l' s (stage.Saved new)
 moved_stage views said l l' k new kept s (Ok h) is stands m = m
@@ -55,7 +55,7 @@ moved_stage views said l l' k new kept s (Err r) is stands (inr m) =
     inr (m.0, m.1, inl (left_as k new kept s is stands m.2))
 
 -- by what is said of each stage
-pub stage_moves : (views : Bool) (row : Stage → Result Done Refusal) (l l' : Line) (k new : End) (kept s : Stage)
+pub stage_moves : (views : Bool) (row : Stage → Result Done Refusal) (l l' : LineState) (k new : End) (kept s : Stage)
     (answer : Result Handed Refusal) → kept ≡ stage.Saved k → StageStands kept s
     → ((e : End) → end.StandsFor k e → MovesEnd views (row (stage.Saved e)) answer l l' k new)
     → Moves views (row s) answer l l' s (stage.Saved new)
@@ -66,13 +66,14 @@ stage_moves views row l l' k new kept s answer is stands moves =
 
 -- ---- what a stage moves, as what moves of its link
 
-lost_of : {K : Type 0} (e : Refusal) (kept l : State K) (line' : Line) (stage' : Stage) → StandsFor kept l
+lost_of : {K : Type 0} (e : Refusal) (kept l : State K) (line' : LineState) (stage' : Stage) → StandsFor kept l
     → line' ≡ l.line → IsLeft e l.stage stage' → Loses e l (record kept { line = line'; stage = stage' })
 lost_of e kept l line' stage' s same (inl x) = inl (stands_with kept l line' l.line stage' l.stage s (sym same) x)
 lost_of e kept l line' stage' s same (inr x) =
     inr (x.0, x.1, stands_with kept l line' l.line stage' stage.Gone s (sym same) x.2)
 
-takes_of : {K : Type 0} (views : Bool) (said : Result Done Refusal) (kept l : State K) (line' : Line) (stage' : Stage)
+takes_of : {K : Type 0} (views : Bool) (said : Result Done Refusal) (kept l : State K) (line' : LineState)
+    (stage' : Stage)
     (answer : Result Handed Refusal) → StandsFor kept l → Moves views said answer l.line line' l.stage stage'
     → Takes views said answer l (record kept { line = line'; stage = stage' })
 takes_of views (Ok d) kept l line' stage' (Ok h) s m = (m.2, stands_with kept l line' d.line stage' d.stage s m.0 m.1)
@@ -81,13 +82,13 @@ takes_of views said kept l line' stage' (Err e) s (inl m) = inl m
 takes_of views said kept l line' stage' (Err e) s (inr m) = inr (m.0, lost_of e kept l line' stage' s m.1 m.2)
 
 -- by what is said of each link
-pub link_takes : {K : Type 0} (views : Bool) (row : K → Line → Stage → Result Done Refusal) (kept l : State K)
-    (line' : Line) (stage' : Stage) (answer : Result Handed Refusal) → StandsFor kept l
+pub link_takes : {K : Type 0} (views : Bool) (row : K → LineState → Stage → Result Done Refusal) (kept l : State K)
+    (line' : LineState) (stage' : Stage) (answer : Result Handed Refusal) → StandsFor kept l
     → Moves views (row kept.keys kept.line l.stage) answer kept.line line' l.stage stage'
     → Takes views (row l.keys l.line l.stage) answer l (record kept { line = line'; stage = stage' })
 link_takes views row kept l line' stage' answer s m =
     takes_of views (row l.keys l.line l.stage) kept l line' stage' answer s
-    (subst (λ (x : Line). Moves views (row l.keys x l.stage) answer x line' l.stage stage') (same_line kept l s)
+    (subst (λ (x : LineState). Moves views (row l.keys x l.stage) answer x line' l.stage stage') (same_line kept l s)
     (subst (λ k. Moves views (row k kept.line l.stage) answer kept.line line' l.stage stage') (same_keys kept l s) m))
 
 -- ---- what a saved end moves, as what moves of its link
@@ -108,7 +109,7 @@ moves_of said kept l k new (Err e) s is (inr m) =
     )
 
 -- by what is said of each link
-pub link_moves : {K : Type 0} (row : K → Line → Stage → Result Done Refusal) (kept l : State K) (k new : End)
+pub link_moves : {K : Type 0} (row : K → LineState → Stage → Result Done Refusal) (kept l : State K) (k new : End)
     (answer : Result Handed Refusal) → StandsFor kept l → kept.stage ≡ stage.Saved k
     → ((e : End) → end.StandsFor k e
     → MovesEnd false (row kept.keys kept.line (stage.Saved e)) answer kept.line kept.line k new)
@@ -117,7 +118,8 @@ link_moves row kept l k new answer s is moves =
     let for = saved_for k kept.stage l.stage is (stage_stands kept l s) in
     let at_stage = subst (λ (x : Stage). MovesEnd false (row kept.keys kept.line x) answer kept.line kept.line k new)
     (sym for.1) (moves for.0 for.2) in
-    let at_line = subst (λ (x : Line). MovesEnd false (row kept.keys x l.stage) answer x x k new) (same_line kept l s)
+    let at_line = subst (λ (x : LineState). MovesEnd false (row kept.keys x l.stage) answer x x k new)
+    (same_line kept l s)
     at_stage in
     moves_of (row l.keys l.line l.stage) kept l k new answer s is
     (subst (λ x. MovesEnd false (row x l.line l.stage) answer l.line l.line k new) (same_keys kept l s) at_line)

@@ -9,7 +9,7 @@ use Rattle.ln_msgs.specs.declared.messages.opening.FundingSigned.{FundingSigned}
 use Rattle.ln_keys.specs.Signer.{Signer}
 use Rattle.ln_close.specs.declared.closing.FeeAnswer.{FeeAnswer}
 use Rattle.ln_close.specs.Closing.{answer_to}
-use Rattle.ln_channel.specs.declared.unsaved.Line.{Line}
+use Rattle.ln_channel.specs.declared.unsaved.LineState.{LineState}
 use Rattle.ln_channel.specs.declared.unsaved.Stage.{Stage}
 use Rattle.ln_channel.specs.declared.unsaved.Stage.TheVariants as stage
 use Rattle.ln_channel.specs.Opening.{first_fault, unless}
@@ -23,7 +23,7 @@ saved_stands : (kept e : End) → StandsFor kept e → StageStands (stage.Saved 
 saved_stands kept e s = ap stage.Saved s
 
 -- what it hands out, with the line that is left
-pub turned_so : (l : Line) (row : Result Turn Refusal) (h : Handed) (new : End) → IsTurn row h new
+pub turned_so : (l : LineState) (row : Result Turn Refusal) (h : Handed) (new : End) → IsTurn row h new
     → IsDone (turned l row) h l (stage.Saved new)
 turned_so l (Ok t) h new x = (refl, saved_stands new t.end x.0, ap all_of x.1)
 turned_so l (Err r) h new x = absurd x
@@ -35,7 +35,7 @@ same_refusal : (f r : Refusal) → refusing f ≡ refusing r → f ≡ r
 same_refusal f r e = cc
 
 -- it is refused
-pub refused_so : (views : Bool) (m l l' : Line) (row : Result Turn Refusal) (r : Refusal) (old new : End)
+pub refused_so : (views : Bool) (m l l' : LineState) (row : Result Turn Refusal) (r : Refusal) (old new : End)
     → MakesBy views row (Err r) old new → l' ≡ l → MovesEnd views (turned m row) (Err r) l l' old new
 refused_so views m l l' (Ok t) r old new (inl x) line = inl x
 refused_so views m l l' (Ok t) r old new (inr x) line = absurd (let p = x.0 in cc)
@@ -43,8 +43,8 @@ refused_so views m l l' (Err f) r old new (inl x) line = inl x
 refused_so views m l l' (Err f) r old new (inr x) line = inr (ap Err (same_refusal f r x.0), line, x.1)
 
 -- with the line as it is
-pub moves_so : (views : Bool) (l : Line) (row : Result Turn Refusal) (answer : Result Handed Refusal) (old new : End)
-    → MakesBy views row answer old new → MovesEnd views (turned l row) answer l l old new
+pub moves_so : (views : Bool) (l : LineState) (row : Result Turn Refusal) (answer : Result Handed Refusal)
+    (old new : End) → MakesBy views row answer old new → MovesEnd views (turned l row) answer l l old new
 moves_so views l row (Ok h) old new x = turned_so l row h new x
 moves_so views l row (Err r) old new x = refused_so views l l l row r old new x refl
 
@@ -80,7 +80,7 @@ fee_answered keys m e a begun right told =
     ∙ ap looked right ∙ ap (answered keys m e) told
 
 -- the funder's end, once the fundee has signed
-pub signed_so : (keys : Signer) (l : Line) (m : FundingSigned) (kept : End) (now new s : Stage) (h : Handed)
+pub signed_so : (keys : Signer) (l : LineState) (m : FundingSigned) (kept : End) (now new s : Stage) (h : Handed)
     → now ≡ stage.AwaitsSigned kept → StageStands now s → first_fault keys kept.dance m.signature ≡ None
     → StageStands new (stage.Saved kept) → h ≡ nothing → IsDone (signed_at keys l m s) h l new
 signed_so keys l m kept now new s h is stands right saves none =

@@ -17,7 +17,7 @@ pub mod Base
 pub mod Past
 pub mod Naming
 pub mod Step
-pub mod Standing
+pub mod Summary
 pub use Rattle.ln_hooks.specs.Event
 pub use Rattle.ln_dance.specs.Dance
 pub use Rattle.ln_close.specs.Closing

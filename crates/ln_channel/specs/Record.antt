@@ -1,7 +1,7 @@
 -- What of a link outlives a restart.
 use Rattle.std.specs.Prelude.{Option, Some, None, false}
 use Rattle.ln_msgs.specs.declared.refusals.refusal.Refusal.{Refusal}
-use Rattle.ln_channel.specs.declared.unsaved.Line.TheVariants as line
+use Rattle.ln_channel.specs.declared.unsaved.LineState.TheVariants as line
 use Rattle.ln_channel.specs.declared.unsaved.Stage.{Stage}
 use Rattle.ln_channel.specs.declared.unsaved.Stage.TheVariants as stage
 use Rattle.ln_channel.specs.End.{End}

@@ -3,8 +3,8 @@
 use Rattle.std.specs.Prelude.{◌≡◌, ℕ, List, Bool, true, false, Option, Some, None, if◌then◌else◌}
 use Rattle.ln_msgs.specs.declared.refusals.refusal.Refusal.{Refusal}
 use Rattle.ln_dance.specs.declared.dance.Numbers.{Numbers}
-use Rattle.ln_channel.specs.declared.unsaved.Line.{Line}
-use Rattle.ln_channel.specs.declared.unsaved.Line.TheVariants as line
+use Rattle.ln_channel.specs.declared.unsaved.LineState.{LineState}
+use Rattle.ln_channel.specs.declared.unsaved.LineState.TheVariants as line
 use Rattle.ln_channel.specs.declared.unsaved.Stage.{Stage}
 use Rattle.ln_channel.specs.declared.unsaved.Stage.TheVariants as stage
 use Rattle.ln_channel.specs.Failing.{fails}
@@ -12,7 +12,7 @@ use Rattle.ln_channel.specs.End.{end_dropped}
 
 pub record State (K : Type 0) : Type 0 where
   pub keys : K
-  pub line : Line
+  pub line : LineState
   pub halted : Bool
   pub failure : Option Refusal
   pub stage : Stage
@@ -32,12 +32,12 @@ begun keys s = record { keys = keys; line = line.Down; halted = false; failure =
 
 -- ---- where it stands
 
-abbrev pub is_down : Line → Bool
+abbrev pub is_down : LineState → Bool
 is_down line.Down = true
 is_down line.Awaiting = false
 is_down line.Met = false
 
-abbrev pub is_met : Line → Bool
+abbrev pub is_met : LineState → Bool
 is_met line.Down = false
 is_met line.Awaiting = false
 is_met line.Met = true
@@ -92,7 +92,7 @@ abbrev pub halts : {K : Type 0} → State K → State K
 halts l = record (drops l) { halted = true }
 
 -- a connection that was there still is
-abbrev pub StaysUp : Line → Line → Type 0
+abbrev pub StaysUp : LineState → LineState → Type 0
 StaysUp l new = is_down l ≡ false → is_down new ≡ false
 
 -- what of a link stays until its connection is lost, whatever becomes of its end

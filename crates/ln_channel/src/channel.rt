@@ -348,7 +348,7 @@ impl Channel {
     }
 
     /// The end of each turn: the shutdown that is owed and may be sent now, then the funder's first fee.
-    pub(crate) fn settle<K: ChannelKeys>(
+    pub(crate) fn end_turn<K: ChannelKeys>(
         &mut self,
         alloc: Global,
         keys: &K,

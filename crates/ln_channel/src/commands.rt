@@ -274,7 +274,7 @@ impl Channel {
         self.closing.shut();
         let message = self.shutdown_message(alloc)?;
         let mut outbox = one(alloc, Message::Shutdown(message))?;
-        self.settle(alloc, keys, &mut outbox)?;
+        self.end_turn(alloc, keys, &mut outbox)?;
         Ok(outbox)
     }
 

@@ -17,7 +17,7 @@ mod pending;
 mod record;
 mod resume;
 mod stage;
-mod standing;
+mod summary;
 mod taking;
 mod unsaved;
 
@@ -27,5 +27,5 @@ pub use config::{Config, FitConfig, FitSpec, OpenSpec, Points};
 pub use ledger::EventLedger;
 pub use opening::{Terms, opening_is_agreed};
 pub use output::Output;
-pub use standing::{Life, Standing};
-pub use unsaved::{Line, Unsaved};
+pub use summary::{Life, Summary};
+pub use unsaved::{LineState, Unsaved};

@@ -3,7 +3,7 @@
 use crate::channel::{Channel, Marks};
 use crate::ledger::EventLedger;
 use crate::opening::Terms;
-use crate::unsaved::{Line, Stage, Unsaved};
+use crate::unsaved::{LineState, Stage, Unsaved};
 use ln_close::Closing;
 use ln_dance::Dance;
 use ln_keys::ChannelKeys;
@@ -31,7 +31,7 @@ impl<K: ChannelKeys + Drop> Unsaved<K> {
     {
         Unsaved {
             keys,
-            line: Line::Down,
+            line: LineState::Down,
             halted: false,
             failure,
             stage: Stage::Saved(channel),

@@ -141,7 +141,7 @@ impl Channel {
         let resends = self.owed(alloc, keys, message)?;
         let mut outbox = Outbox::new(alloc);
         self.send_again(alloc, keys, message, resends, &mut outbox)?;
-        self.settle(alloc, keys, &mut outbox)?;
+        self.end_turn(alloc, keys, &mut outbox)?;
         Ok(outbox)
     }
 }

@@ -7,7 +7,7 @@ ghost use Rattle.ln_channel.specs.Step.{opening_at, open_at, accept_at, created_
 ghost use Rattle.ln_channel.specs.State.{is_saved, StaysUp, StageStands};
 ghost use Rattle.ln_channel.specs.End.{End, StandsFor};
 ghost use Rattle.ln_channel.specs.Taking.{is_viewed};
-ghost use Rattle.ln_channel.specs.declared.unsaved.Line.TheVariants as lines;
+ghost use Rattle.ln_channel.specs.declared.unsaved.LineState.TheVariants as lines;
 ghost use Rattle.ln_channel.specs.declared.unsaved.Stage.TheVariants as stages;
 ghost use Rattle.ln_channel.specs.Resume.{resume_row};
 ghost use Rattle.ln_channel.specs.Commands.{note_row};
@@ -19,7 +19,7 @@ use crate::config::{FitConfig, FitSpec, OpenSpec};
 use crate::deep::put;
 use crate::opening::{Agreed, take_accept, take_created, take_open};
 use crate::output::{Outbox, one};
-use crate::unsaved::{Line, Stage};
+use crate::unsaved::{LineState, Stage};
 use ln_dance::Numbers;
 use ln_keys::ChannelKeys;
 use ln_msgs::{
@@ -210,7 +210,7 @@ impl Stage {
     }
 
     // Another channel's message, or one that comes without a connection.
-    fn stray_refusal(&self, line: Line, message: &Message) -> Option<Refusal>
+    fn stray_refusal(&self, line: LineState, message: &Message) -> Option<Refusal>
         ensures { (s : Stage) → StageStands self.now s → result ≡ stray_fault line s message.now }
     {
         if self.is_other(named(message)) {
@@ -224,7 +224,7 @@ impl Stage {
 
     /// What is wrong with a message before the channel is asked: an error, another channel's message, or one that comes
     /// without a connection.
-    pub(crate) fn message_refusal(&self, line: Line, message: &Message) -> Option<Refusal>
+    pub(crate) fn message_refusal(&self, line: LineState, message: &Message) -> Option<Refusal>
         ensures { (s : Stage) → StageStands self.now s → result ≡ message_fault line s message.now }
     {
         match error_refusal(message) {
@@ -238,7 +238,7 @@ impl Stage {
         &mut self,
         alloc: Global,
         keys: &K,
-        line: &mut Line,
+        line: &mut LineState,
         message: Message,
     ) -> Result<Outbox, Refusal>
         ensures moves { (s : Stage) → StageStands self.old s
@@ -260,7 +260,7 @@ impl Stage {
 fn opened_by<K: ChannelKeys>(
     alloc: Global,
     keys: &K,
-    line: Line,
+    line: LineState,
     stage: &mut Stage,
     message: Message,
 ) -> Result<Outbox, Refusal>
@@ -283,7 +283,7 @@ fn opened_by<K: ChannelKeys>(
 fn opened_by_open<K: ChannelKeys>(
     alloc: Global,
     keys: &K,
-    line: Line,
+    line: LineState,
     stage: &mut Stage,
     message: OpenChannel,
 ) -> Result<Outbox, Refusal>
@@ -303,7 +303,7 @@ fn opened_by_open<K: ChannelKeys>(
 fn agree<K: ChannelKeys>(
     alloc: Global,
     keys: &K,
-    line: Line,
+    line: LineState,
     stage: &mut Stage,
     config: FitConfig,
     message: OpenChannel,
@@ -320,7 +320,7 @@ fn agree<K: ChannelKeys>(
 fn opened_by_accept<K: ChannelKeys>(
     alloc: Global,
     keys: &K,
-    line: Line,
+    line: LineState,
     stage: &mut Stage,
     message: AcceptChannel,
 ) -> Result<Outbox, Refusal>
@@ -340,7 +340,7 @@ fn opened_by_accept<K: ChannelKeys>(
 fn fund<K: ChannelKeys>(
     alloc: Global,
     keys: &K,
-    line: Line,
+    line: LineState,
     stage: &mut Stage,
     spec: FitSpec,
     message: AcceptChannel,
@@ -357,7 +357,7 @@ fn fund<K: ChannelKeys>(
 fn opened_by_created<K: ChannelKeys>(
     alloc: Global,
     keys: &K,
-    line: Line,
+    line: LineState,
     stage: &mut Stage,
     message: FundingCreated,
 ) -> Result<Outbox, Refusal>
@@ -377,7 +377,7 @@ fn opened_by_created<K: ChannelKeys>(
 fn sign<K: ChannelKeys>(
     alloc: Global,
     keys: &K,
-    line: Line,
+    line: LineState,
     stage: &mut Stage,
     agreed: Agreed,
     message: FundingCreated,
@@ -394,7 +394,7 @@ fn sign<K: ChannelKeys>(
 fn opened_by_signed<K: ChannelKeys>(
     alloc: Global,
     keys: &K,
-    line: Line,
+    line: LineState,
     stage: &mut Stage,
     message: &FundingSigned,
 ) -> Result<Outbox, Refusal>
@@ -432,7 +432,7 @@ fn saved(stage: Stage) -> Stage
 fn take_saved<K: ChannelKeys>(
     alloc: Global,
     keys: &K,
-    line: &mut Line,
+    line: &mut LineState,
     channel: &mut Channel,
     message: Message,
 ) -> Result<Outbox, Refusal>
@@ -452,7 +452,7 @@ fn take_saved<K: ChannelKeys>(
 fn take_awaited<K: ChannelKeys>(
     alloc: Global,
     keys: &K,
-    line: &mut Line,
+    line: &mut LineState,
     channel: &mut Channel,
     message: Message,
 ) -> Result<Outbox, Refusal>
@@ -477,7 +477,7 @@ fn take_awaited<K: ChannelKeys>(
 fn take_reestablish<K: ChannelKeys>(
     alloc: Global,
     keys: &K,
-    line: &mut Line,
+    line: &mut LineState,
     channel: &mut Channel,
     message: &ChannelReestablish,
 ) -> Result<Outbox, Refusal>
@@ -489,7 +489,7 @@ fn take_reestablish<K: ChannelKeys>(
 {
     match channel.resume(alloc, keys, message) {
         Ok(outbox) => {
-            *line = Line::Met;
+            *line = LineState::Met;
             Ok(outbox)
         }
         Err(refusal) => Err(refusal),
@@ -502,7 +502,7 @@ fn take_reestablish<K: ChannelKeys>(
 pub(crate) fn obey_open<K: ChannelKeys>(
     alloc: Global,
     keys: &K,
-    line: Line,
+    line: LineState,
     channel: &mut Channel,
     command: Command,
 ) -> Result<Outbox, Refusal>
@@ -528,7 +528,7 @@ pub(crate) fn obey_open<K: ChannelKeys>(
 // What an open channel makes of a command about decisions.
 pub(crate) fn note_open(
     alloc: Global,
-    line: Line,
+    line: LineState,
     channel: &mut Channel,
     command: Command,
 ) -> Result<Outbox, Refusal>

@@ -317,7 +317,7 @@ impl Channel {
         ensures same_channel { self.new.dance.channel ≡ self.old.dance.channel }
     {
         let mut outbox = self.take_message(alloc, keys, message)?;
-        self.settle(alloc, keys, &mut outbox)?;
+        self.end_turn(alloc, keys, &mut outbox)?;
         Ok(outbox)
     }
 }

@@ -12,7 +12,7 @@ use std::marker::Model;
 
 /// Whether a link has a connection.
 #[derive(Clone, Copy, PartialEq, Eq)]
-pub enum Line {
+pub enum LineState {
     /// It has none.
     Down,
     /// It has one, and awaits the peer's `channel_reestablish`.
@@ -47,7 +47,7 @@ pub enum Stage {
 #[derive(Drop)]
 pub struct Unsaved<K: ChannelKeys + Drop> {
     pub(crate) keys: K,
-    pub(crate) line: Line,
+    pub(crate) line: LineState,
     pub(crate) halted: bool,
     pub(crate) failure: Option<Refusal>,
     pub(crate) stage: Stage,
@@ -67,7 +67,7 @@ impl<K: ChannelKeys + Drop> Model for Unsaved<K> {
     } };
 }
 
-impl Line {
+impl LineState {
     ghost use Rattle.std.specs.Prelude.{◌≡◌};
     ghost use Rattle.ln_channel.specs.State.{is_down, is_met};
 
@@ -76,9 +76,9 @@ impl Line {
         ensures { result ≡ is_down self.now }
     {
         match self {
-            Line::Down => true,
-            Line::Awaiting => false,
-            Line::Met => false,
+            LineState::Down => true,
+            LineState::Awaiting => false,
+            LineState::Met => false,
         }
     }
 
@@ -87,9 +87,9 @@ impl Line {
         ensures { result ≡ is_met self.now }
     {
         match self {
-            Line::Down => false,
-            Line::Awaiting => false,
-            Line::Met => true,
+            LineState::Down => false,
+            LineState::Awaiting => false,
+            LineState::Met => true,
         }
     }
 }
@@ -108,7 +108,7 @@ impl<K: ChannelKeys + Drop> Unsaved<K> {
     {
         Unsaved {
             keys,
-            line: Line::Down,
+            line: LineState::Down,
             halted: false,
             failure: None,
             stage: Stage::AwaitsAccept(spec),
@@ -121,7 +121,7 @@ impl<K: ChannelKeys + Drop> Unsaved<K> {
     {
         Unsaved {
             keys,
-            line: Line::Down,
+            line: LineState::Down,
             halted: false,
             failure: None,
             stage: Stage::AwaitsOpen(config),
@@ -135,7 +135,7 @@ impl<K: ChannelKeys + Drop> Unsaved<K> {
         ensures same_channel { KeepsChannel self.old.stage self.new.stage }
     {
         if !self.line.is_down() {
-            self.line = Line::Down;
+            self.line = LineState::Down;
             self.stage.cut();
         }
     }
@@ -151,7 +151,7 @@ impl<K: ChannelKeys + Drop> Unsaved<K> {
     }
 
     /// Whether it has a connection, and whether the peer is there. Takes no memory.
-    pub fn line(&self) -> Line
+    pub fn line(&self) -> LineState
         ensures { (l : State K) → StandsFor self.now l → result ≡ l.line }
     {
         self.line
@@ -248,17 +248,17 @@ impl<K: ChannelKeys + Drop> Unsaved<K> {
     {
         match &self.stage {
             Stage::AwaitsOpen(_) => {
-                self.line = Line::Met;
+                self.line = LineState::Met;
                 Ok(Outbox::new(alloc))
             }
             Stage::AwaitsAccept(spec) => {
                 let message = open_channel(alloc, &self.keys, spec)?;
-                self.line = Line::Met;
+                self.line = LineState::Met;
                 one(alloc, Message::OpenChannel(message))
             }
             Stage::Saved(channel) => {
                 let message = channel.reestablish(alloc, &self.keys);
-                self.line = Line::Awaiting;
+                self.line = LineState::Awaiting;
                 one(alloc, Message::ChannelReestablish(message))
             }
             _ => Err(Refusal::NotReady),

@@ -8,7 +8,7 @@ use Rattle.ln_keys.specs.declared.role.Role.TheVariants.{Funder, Fundee}
 use Rattle.ln_keys.specs.Signer.{Signer}
 use Rattle.ln_log.specs.Machine.{Machine}
 use Rattle.ln_channel.specs.declared.command.Command.{Command}
-use Rattle.ln_channel.specs.declared.unsaved.Line.{Line}
+use Rattle.ln_channel.specs.declared.unsaved.LineState.{LineState}
 use Rattle.ln_channel.specs.declared.unsaved.Stage.TheVariants as stage
 use Rattle.ln_channel.specs.Outputs.{all_of}
 use Rattle.ln_channel.specs.End.{End, Turn}
@@ -27,7 +27,7 @@ use Rattle.ln_channels.proofs.Moves.{obeyed_so}
 use Rattle.ln_channels.proofs.Kept.{IsRun, ends_of, at_links}
 
 -- a link hands out what its end's row says
-taken_so : (line : Line) (row : Result Turn Refusal) → IsTaken (step.turned line row) ↔ IsTaken row
+taken_so : (line : LineState) (row : Result Turn Refusal) → IsTaken (step.turned line row) ↔ IsTaken row
 taken_so line (Ok t) = (
   (λ x. (t, refl)),
   (λ x. (record { line = line; stage = stage.Saved t.end; outputs = all_of t.handed }, refl)),
@@ -38,7 +38,7 @@ taken_so line (Err z) = (
 )
 
 module _ {K : Type 0} (signer : K → Signer) where
-  obeys_so : (b : Bool) (side : Role) (c : Command) (k : K) (line : Line) (e : End) (m : Machine) (l : State K)
+  obeys_so : (b : Bool) (side : Role) (c : Command) (k : K) (line : LineState) (e : End) (m : Machine) (l : State K)
       → l ≡ link_at b k line e → is_of_records c ≡ false → Does (signer k) side line c e m → Obeys signer side c l e m
   obeys_so true side c k line e m l is plain d =
       subst (λ w. Obeys signer side c w e m) (sym is) (

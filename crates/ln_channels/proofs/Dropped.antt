@@ -7,8 +7,8 @@ use Rattle.ln_keys.specs.declared.role.Role.TheVariants.{Funder, Fundee}
 use Rattle.ln_keys.specs.Signer.{Signer}
 use Rattle.ln_log.specs.Log.{Log, after_drop}
 use Rattle.ln_dance.specs.Dance.{with_log}
-use Rattle.ln_channel.specs.declared.unsaved.Line.{Line}
-use Rattle.ln_channel.specs.declared.unsaved.Line.TheVariants.{Down, Awaiting, Met}
+use Rattle.ln_channel.specs.declared.unsaved.LineState.{LineState}
+use Rattle.ln_channel.specs.declared.unsaved.LineState.TheVariants.{Down, Awaiting, Met}
 use Rattle.ln_channel.specs.declared.opening.Opened.{Opened}
 use Rattle.ln_channel.specs.End.{End, Turn, with_dance, end_dropped}
 use Rattle.ln_channel.specs.State.{is_down}
@@ -30,7 +30,7 @@ lost_twice l =
 dropped_twice : (e : End) → end_dropped (end_dropped e) ≡ end_dropped e
 dropped_twice e = ap (λ l. with_dance (with_log l e.dance) e) (lost_twice e.dance.log)
 
-abbrev pub IsDropped : Line → End → Type 0
+abbrev pub IsDropped : LineState → End → Type 0
 IsDropped l e = is_down l ≡ true → end_dropped e ≡ e
 
 pub record AreDropped (q : Ends) : Type 0 where
@@ -79,7 +79,7 @@ acted_so keys Save q h = record {
 }
 
 module _ (a b : Signer) where
-  connected_so : (lx ly : Line) (q : Ends) → AreDropped q → AreDropped (pair.connects a b lx ly q)
+  connected_so : (lx ly : LineState) (q : Ends) → AreDropped q → AreDropped (pair.connects a b lx ly q)
   connected_so Down Down q h = record { x = λ e. absurd (cc); y = λ e. absurd (cc) }
   connected_so Down Awaiting q h = h
   connected_so Down Met q h = h

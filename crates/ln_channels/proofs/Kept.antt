@@ -3,7 +3,7 @@ use Rattle.ln_channels.proofs.Mirror.{is_warning}
 use Rattle.ln_channels.specs.Both.{Move}
 use Rattle.std.proofs.Common.{append-nil, append_assoc, ◌||◌, ◌==◌}
 use Rattle.ln_msgs.specs.declared.messages.message.Message.TheVariants as message
-use Rattle.ln_channel.specs.declared.unsaved.Line.TheVariants.{Down}
+use Rattle.ln_channel.specs.declared.unsaved.LineState.TheVariants.{Down}
 use Rattle.ln_channel.specs.End.{end_dropped}
 use Rattle.ln_pair.specs.Promises.{is_add, is_shutdown, AddsBefore}
 use Rattle.ln_channels.specs.Sending.{act_sends, sends}
@@ -20,8 +20,8 @@ use Rattle.ln_keys.specs.declared.role.Role.TheVariants.{Funder, Fundee}
 use Rattle.ln_keys.specs.Signer.{Signer}
 use Rattle.ln_channel.specs.declared.config.Config.{Config}
 use Rattle.ln_channel.specs.declared.config.OpenSpec.{OpenSpec}
-use Rattle.ln_channel.specs.declared.unsaved.Line.{Line}
-use Rattle.ln_channel.specs.declared.unsaved.Line.TheVariants.{Met}
+use Rattle.ln_channel.specs.declared.unsaved.LineState.{LineState}
+use Rattle.ln_channel.specs.declared.unsaved.LineState.TheVariants.{Met}
 use Rattle.ln_channel.specs.Naming.{named}
 use Rattle.ln_channel.specs.declared.unsaved.Stage.TheVariants as stage
 use Rattle.ln_channel.specs.declared.opening.Opened.{Opened}
@@ -999,7 +999,7 @@ module _ {K : Type 0} (signer : K → Signer) where
 
   -- ---- none is refused
 
-  front_of : (id : List ℕ) (k : K) (line : Line) (m : Message) (ms to : List Message) (e : End)
+  front_of : (id : List ℕ) (k : K) (line : LineState) (m : Message) (ms to : List Message) (e : End)
       → is_down line ≡ false → named m ≡ Some id → e.dance.channel ≡ id → Front (signer k) line (m ∷ to) e
       → TakesFront signer (link_of k line e) (m ∷ ms)
   front_of id k line m ms to e up own channel (inl f) = inl (
@@ -1011,7 +1011,7 @@ module _ {K : Type 0} (signer : K → Signer) where
     handled_so (signer k) k id line m e up own channel ∙ ap (step.turned Met) f.1,
   )
 
-  front_by : (id : List ℕ) (k : K) (l : State K) (line : Line) (e : End) (inbox to : List Message)
+  front_by : (id : List ℕ) (k : K) (l : State K) (line : LineState) (e : End) (inbox to : List Message)
       → (is_down line ≡ false → l ≡ link_of k line e) → IsInbox id line inbox to → e.dance.channel ≡ id
       → Front (signer k) line to e
       → TakesFront signer l inbox
@@ -1046,7 +1046,7 @@ module _ {K : Type 0} (signer : K → Signer) where
 
   -- ---- where fees overlap
 
-  accepted_of : (id : List ℕ) (k : K) (line : Line) (m : Message) (ms to : List Message) (e : End)
+  accepted_of : (id : List ℕ) (k : K) (line : LineState) (m : Message) (ms to : List Message) (e : End)
       → is_down line ≡ false → named m ≡ Some id → e.dance.channel ≡ id → Accepted (signer k) line (m ∷ to) e
       → AcceptsFront signer (link_of k line e) (m ∷ ms)
   accepted_of id k line m ms to e up own channel f = (
@@ -1054,7 +1054,7 @@ module _ {K : Type 0} (signer : K → Signer) where
     handled_so (signer k) k id line m e up own channel ∙ ap (step.turned Met) f.1,
   )
 
-  accepted_by : (id : List ℕ) (k : K) (l : State K) (line : Line) (e : End) (inbox to : List Message)
+  accepted_by : (id : List ℕ) (k : K) (l : State K) (line : LineState) (e : End) (inbox to : List Message)
       → (is_down line ≡ false → l ≡ link_of k line e) → IsInbox id line inbox to → e.dance.channel ≡ id
       → Accepted (signer k) line to e
       → AcceptsFront signer l inbox

@@ -11,7 +11,7 @@ use Rattle.ln_keys.specs.Signer.{Signer}
 use Rattle.ln_log.specs.declared.log.Counts.{Counts}
 use Rattle.ln_log.specs.Window.{MayBeBase, may_be_base}
 use Rattle.ln_log.proofs.Bases.{base_tells}
-use Rattle.ln_channel.specs.declared.unsaved.Line.TheVariants as line
+use Rattle.ln_channel.specs.declared.unsaved.LineState.TheVariants as line
 use Rattle.ln_channel.specs.declared.unsaved.Stage.{Stage}
 use Rattle.ln_channel.specs.declared.unsaved.Stage.TheVariants as stage
 use Rattle.ln_channel.specs.Base.{allowed, based, based_stage}

@@ -4,8 +4,8 @@ use Rattle.std.proofs.Common.{◌≡◌, ◌⊎◌, ℕ, List, [], ◌∷◌, �
 use Rattle.std.proofs.Common.{Some, None, inr, append-nil}
 use Rattle.ln_msgs.specs.declared.messages.message.Message.{Message}
 use Rattle.ln_msgs.specs.declared.messages.message.Message.TheVariants as message
-use Rattle.ln_channel.specs.declared.unsaved.Line.{Line}
-use Rattle.ln_channel.specs.declared.unsaved.Line.TheVariants.{Down, Awaiting, Met}
+use Rattle.ln_channel.specs.declared.unsaved.LineState.{LineState}
+use Rattle.ln_channel.specs.declared.unsaved.LineState.TheVariants.{Down, Awaiting, Met}
 use Rattle.ln_channel.specs.declared.unsaved.Stage.{Stage}
 use Rattle.ln_channel.specs.declared.unsaved.Stage.TheVariants as stage
 use Rattle.ln_channel.specs.Naming.{named}
@@ -18,10 +18,10 @@ use Rattle.ln_channels.specs.Both.{Both, Place, reaches, swapped}
 use Rattle.ln_channels.proofs.Named.{Names}
 
 -- a link of an open channel, which hasn't failed; it may have halted
-abbrev pub link_at : {K : Type 0} → Bool → K → Line → End → State K
+abbrev pub link_at : {K : Type 0} → Bool → K → LineState → End → State K
 link_at halted k l e = record { keys = k; line = l; halted = halted; failure = None; stage = stage.Saved e }
 
-abbrev pub link_of : {K : Type 0} → K → Line → End → State K
+abbrev pub link_of : {K : Type 0} → K → LineState → End → State K
 link_of k l e = link_at false k l e
 
 abbrev pub is_warning : Message → Bool
@@ -37,7 +37,7 @@ abbrev pub AreIn : List ℕ → List Message → Type 0
 AreIn id [] = Unit {0}
 AreIn id (m ∷ ms) = ((is_warning m ≡ true) ⊎ (named m ≡ Some id)) × AreIn id ms
 
-pub record IsInbox (id : List ℕ) (l : Line) (inbox to : List Message) : Type 0 where
+pub record IsInbox (id : List ℕ) (l : LineState) (inbox to : List Message) : Type 0 where
   pub told : without_warnings inbox ≡ to
   pub named : AreIn id inbox
   pub down : is_down l ≡ true → inbox ≡ []
@@ -75,7 +75,7 @@ flipped id kx ky p q h = record {
 
 -- ---- a link that has halted has no connection
 
-none_halts : (b : Bool) (l : Line) → (b ≡ true → is_down l ≡ true) → is_down l ≡ false → b ≡ false
+none_halts : (b : Bool) (l : LineState) → (b ≡ true → is_down l ≡ true) → is_down l ≡ false → b ≡ false
 none_halts false l h up = refl
 none_halts true l h up = absurd (let no : true ≡ false = sym (h refl) ∙ up in cc)
 
@@ -149,7 +149,7 @@ all_in id (m ∷ ms) h = (inr h.0, all_in id ms h.1)
 -- ---- what reaches an end
 
 module _ (id : List ℕ) where
-  behind : (l : Line) (ms inbox to : List Message) → is_down l ≡ false → IsInbox id l inbox to → AreIn id ms
+  behind : (l : LineState) (ms inbox to : List Message) → is_down l ≡ false → IsInbox id l inbox to → AreIn id ms
       → IsInbox id l (inbox ++ ms) (to ++ without_warnings ms)
   behind l ms inbox to up h n = record {
     told = without-append inbox ms ∙ ap (λ ws. ws ++ without_warnings ms) h.told;
@@ -157,7 +157,7 @@ module _ (id : List ℕ) where
     down = λ e. absurd (let no : true ≡ false = sym e ∙ up in cc);
   }
 
-  nothing_arrives : (l : Line) (to : List Message) → arrive l [] to ≡ to
+  nothing_arrives : (l : LineState) (to : List Message) → arrive l [] to ≡ to
   nothing_arrives Down to = refl
   nothing_arrives Awaiting to = append-nil to
   nothing_arrives Met to = append-nil to
@@ -179,7 +179,7 @@ module _ {K : Type 0} (id : List ℕ) where
   pub reached_keys : (ms : List Message) (p : Place K) → (reaches ms p).keys ≡ p.keys
   reached_keys ms p = same_keys (is_down p.link.line) ms p
 
-  reached_by : (b : Bool) (l : Line) (ms to : List Message) (p : Place K) → b ≡ is_down l → IsInbox id l p.inbox to
+  reached_by : (b : Bool) (l : LineState) (ms to : List Message) (p : Place K) → b ≡ is_down l → IsInbox id l p.inbox to
       → AreIn id ms
       → IsInbox id l (cond b p (record p { inbox = p.inbox ++ ms })).inbox (arrive l (without_warnings ms) to)
   reached_by true Down ms to p e h n = h
@@ -189,12 +189,12 @@ module _ {K : Type 0} (id : List ℕ) where
   reached_by true Met ms to p e h n = absurd (cc)
   reached_by false Met ms to p e h n = behind id Met ms p.inbox to refl h n
 
-  pub reached : (l : Line) (ms to : List Message) (p : Place K) → p.link.line ≡ l → IsInbox id l p.inbox to
+  pub reached : (l : LineState) (ms to : List Message) (p : Place K) → p.link.line ≡ l → IsInbox id l p.inbox to
       → AreIn id ms → IsInbox id l (reaches ms p).inbox (arrive l (without_warnings ms) to)
   reached l ms to p e h n = reached_by (is_down p.link.line) l ms to p (ap is_down e) h n
 
   -- only warnings come
-  pub reached_aside : (l : Line) (ms to : List Message) (p : Place K) → p.link.line ≡ l → without_warnings ms ≡ []
+  pub reached_aside : (l : LineState) (ms to : List Message) (p : Place K) → p.link.line ≡ l → without_warnings ms ≡ []
       → IsInbox id l p.inbox to → AreIn id ms → IsInbox id l (reaches ms p).inbox to
   reached_aside l ms to p e none h n = subst (λ w. IsInbox id l (reaches ms p).inbox w)
       (ap (λ w. arrive l w to) none ∙ nothing_arrives id l to) (reached l ms to p e h n)

@@ -12,8 +12,8 @@ use Rattle.ln_log.specs.Machine as machine
 use Rattle.ln_dance.specs.Resume.{reestablish_message}
 use Rattle.ln_channel.specs.declared.command.Command.{Command}
 use Rattle.ln_channel.specs.declared.command.Command.TheVariants as command
-use Rattle.ln_channel.specs.declared.unsaved.Line.{Line}
-use Rattle.ln_channel.specs.declared.unsaved.Line.TheVariants.{Down, Awaiting, Met}
+use Rattle.ln_channel.specs.declared.unsaved.LineState.{LineState}
+use Rattle.ln_channel.specs.declared.unsaved.LineState.TheVariants.{Down, Awaiting, Met}
 use Rattle.ln_channel.specs.declared.unsaved.Stage.TheVariants as stage
 use Rattle.ln_channel.specs.Naming.{named, is_other}
 use Rattle.ln_channel.specs.declared.output.Output.{Output}
@@ -56,7 +56,7 @@ use Rattle.ln_channels.proofs.Dropped.{IsDropped}
 
 -- ---- what a link answers is what its end's rows say
 
-saved_so : (keys : Signer) (l : Line) (m : Message) (e : End) → is_down l ≡ false
+saved_so : (keys : Signer) (l : LineState) (m : Message) (e : End) → is_down l ≡ false
     → saved_at keys l m e ≡ step.turned Met (message_at keys l m e)
 saved_so keys Down m e up = absurd (cc)
 saved_so keys Met m e up = refl
@@ -83,8 +83,8 @@ saved_so keys Awaiting (message.ChannelReestablish m) e up = refl
 
 module _ {K : Type 0} (keys : Signer) (k : K) (id : List ℕ) where
   -- a message of the channel
-  pub handled_so : (l : Line) (m : Message) (e : End) → is_down l ≡ false → named m ≡ Some id → e.dance.channel ≡ id
-      → handled keys (link_of k l e) m ≡ step.turned Met (message_at keys l m e)
+  pub handled_so : (l : LineState) (m : Message) (e : End) → is_down l ≡ false → named m ≡ Some id
+      → e.dance.channel ≡ id → handled keys (link_of k l e) m ≡ step.turned Met (message_at keys l m e)
   handled_so l m e up is channel =
       let s = stage.Saved e in
       let p = plain id m is in
@@ -100,7 +100,7 @@ module _ {K : Type 0} (keys : Signer) (k : K) (id : List ℕ) where
       ∙ saved_so keys l m e up
 
   -- a warning
-  pub passed_so : (l : Line) (m : Message) (e : End) → is_warning m ≡ true
+  pub passed_so : (l : LineState) (m : Message) (e : End) → is_warning m ≡ true
       → handled keys (link_of k l e) m ≡ Ok (record { line = l; stage = stage.Saved e; outputs = [] })
   passed_so l (message.Warning m) e is = refl
   passed_so l (message.Init m) e is = absurd (cc)
@@ -124,19 +124,19 @@ module _ {K : Type 0} (keys : Signer) (k : K) (id : List ℕ) where
   passed_so l (message.ChannelReestablish m) e is = absurd (cc)
 
   -- a command
-  turned_faulted : (l : Line) (f : Option Refusal) (r : Result Turn Refusal)
+  turned_faulted : (l : LineState) (f : Option Refusal) (r : Result Turn Refusal)
       → faulted f (step.turned l r) ≡ step.turned l (faulted f r)
   turned_faulted l None r = refl
   turned_faulted l (Some f) r = refl
 
-  pub obeyed_so : (l : Line) (c : Command) (e : End)
+  pub obeyed_so : (l : LineState) (c : Command) (e : End)
       → obeyed keys l c (stage.Saved e) ≡ step.turned l (command_at keys l c e)
   obeyed_so l c e =
       ap (faulted (unready_fault c e)) (turned_faulted l (line_fault l) (command_row keys c e))
       ∙ turned_faulted l (unready_fault c e) (faulted (line_fault l) (command_row keys c e))
 
 -- a command that is obeyed is obeyed by an end that has met its peer
-obeyed_met : (f : Option Refusal) (l : Line) (r : Result Turn Refusal) (t : Turn)
+obeyed_met : (f : Option Refusal) (l : LineState) (r : Result Turn Refusal) (t : Turn)
     → faulted f (faulted (line_fault l) r) ≡ Ok t → l ≡ Met
 obeyed_met (Some f) l r t e = absurd (cc)
 obeyed_met None Down r t e = absurd (cc)
@@ -196,17 +196,17 @@ pub record Tells (out : Out) (ms : List machine.Move) (os : List Output) : Type 
   pub told : os ≡ out.told
 
 -- by what an end's rows say
-same_moves : (side : Role) (m : Message) (e : End) (l : Line) (r : Result Turn Refusal)
+same_moves : (side : Role) (m : Message) (e : End) (l : LineState) (r : Result Turn Refusal)
     → moves_of_message side m (stage.Saved e) (step.turned l r) ≡ pair_moves.moves_of_message side m e r
 same_moves side m e l (Ok t) = refl
 same_moves side m e l (Err r) = refl
 
-same_asked : (side : Role) (c : Command) (e : End) (l : Line) (r : Result Turn Refusal)
+same_asked : (side : Role) (c : Command) (e : End) (l : LineState) (r : Result Turn Refusal)
     → moves_of_command side c (stage.Saved e) (step.turned l r) ≡ pair_moves.moves_of_command side c e r
 same_asked side c e l (Ok t) = refl
 same_asked side c e l (Err r) = refl
 
-same_told : (l : Line) (r : Result Turn Refusal) → outputs_of (step.turned l r) ≡ told_by r
+same_told : (l : LineState) (r : Result Turn Refusal) → outputs_of (step.turned l r) ≡ told_by r
 same_told l (Ok t) = refl
 same_told l (Err r) = refl
 
@@ -337,18 +337,18 @@ module _ {K : Type 0} (signer : K → Signer) (id : List ℕ) (kx ky : K) where
       kept_so after row row' p q q.x ms to b link down is stays h.x_channel none in_channel in_x h
 
   -- of a link that works
-  works_on : (l : Line) → false ≡ true → is_down l ≡ true
+  works_on : (l : LineState) → false ≡ true → is_down l ≡ true
   works_on l e = absurd (cc)
 
   -- ---- a message is delivered
 
   -- none is in flight to an end that is down
-  pub is_up : (l : Line) (m : Message) (ms : List Message) → (is_down l ≡ true → m ∷ ms ≡ []) → is_down l ≡ false
+  pub is_up : (l : LineState) (m : Message) (ms : List Message) → (is_down l ≡ true → m ∷ ms ≡ []) → is_down l ≡ false
   is_up Down m ms h = absurd (let no : m ∷ ms ≡ [] = h refl in cc)
   is_up Awaiting m ms h = refl
   is_up Met m ms h = refl
 
-  behind_it : (l : Line) (m : Message) (ms to : List Message) → is_down l ≡ false → without_warnings ms ≡ to
+  behind_it : (l : LineState) (m : Message) (ms to : List Message) → is_down l ≡ false → without_warnings ms ≡ to
       → AreIn id ms → IsInbox id l ms to
   behind_it l m ms to up told named = record {
     told = told;
@@ -640,7 +640,7 @@ module _ {K : Type 0} (signer : K → Signer) (id : List ℕ) (kx ky : K) where
       → Mirrors id kx ky (falls p) (pair.acts (signer kx) Lose q)
   fell p q h = falls_by (is_down q.x_line) p q refl h
 
-  was_down : (l : Line) → is_down l ≡ true → l ≡ Down
+  was_down : (l : LineState) → is_down l ≡ true → l ≡ Down
   was_down Down e = refl
   was_down Awaiting e = absurd (cc)
   was_down Met e = absurd (cc)
@@ -731,7 +731,7 @@ module _ {K : Type 0} (signer : K → Signer) (id : List ℕ) (kx ky : K) where
       (record { told = refl; named = tt; down = λ e. refl }))
       (inr (ap Some channel), tt))
 
-  meets_by : (p : Both K) (q : Ends) (lx ly : Line) → q.x_line ≡ lx → q.y_line ≡ ly → lx ≡ Down → ly ≡ Down
+  meets_by : (p : Both K) (q : Ends) (lx ly : LineState) → q.x_line ≡ lx → q.y_line ≡ ly → lx ≡ Down → ly ≡ Down
       → AreAwake p q → Mirrors id kx ky p q
       → Mirrors id kx ky (meet signer p) (pair.connects (signer kx) (signer ky) lx ly q)
   meets_by p q Down Down ex ey dx dy work h =
@@ -767,7 +767,7 @@ module _ {K : Type 0} (signer : K → Signer) (id : List ℕ) (kx ky : K) where
       meets_by p q q.x_line q.y_line refl refl (was_down q.x_line lx) (was_down q.y_line ly) work h
 
   -- both have said where they stand
-  said_met : (p : Both K) (q : Ends) (lx ly : Line) → q.x_line ≡ lx → q.y_line ≡ ly → lx ≡ Down → ly ≡ Down
+  said_met : (p : Both K) (q : Ends) (lx ly : LineState) → q.x_line ≡ lx → q.y_line ≡ ly → lx ≡ Down → ly ≡ Down
       → AreAwake p q
       → ((pair.connects (signer kx) (signer ky) lx ly q).said_x
       ≡ q.said_x ++ without_warnings (greets (greeting signer p.x.link)))

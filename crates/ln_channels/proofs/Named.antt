@@ -35,8 +35,8 @@ use Rattle.ln_close.specs.Closing.{answer_to}
 use Rattle.ln_hooks.specs.declared.event.ChannelEvent.{ChannelEvent}
 use Rattle.ln_channel.specs.declared.command.Command.{Command}
 use Rattle.ln_channel.specs.declared.command.Command.TheVariants as command
-use Rattle.ln_channel.specs.declared.unsaved.Line.{Line}
-use Rattle.ln_channel.specs.declared.unsaved.Line.TheVariants.{Down, Awaiting, Met}
+use Rattle.ln_channel.specs.declared.unsaved.LineState.{LineState}
+use Rattle.ln_channel.specs.declared.unsaved.LineState.TheVariants.{Down, Awaiting, Met}
 use Rattle.ln_channel.specs.declared.output.Output.{Output}
 use Rattle.ln_channel.specs.declared.output.Output.TheVariants as output
 use Rattle.ln_channel.specs.Naming.{named}
@@ -258,7 +258,7 @@ module _ (keys : Signer) (id : List ℕ) where
         told = refl;
       }))
 
-  pub fine_at : (l : Line) (m : Message) (e : End) → e.dance.channel ≡ id → IsFineRow id (message_at keys l m e)
+  pub fine_at : (l : LineState) (m : Message) (e : End) → e.dance.channel ≡ id → IsFineRow id (message_at keys l m e)
   fine_at Down m e h = tt
   fine_at Met m e h = fine_completed_row (message_row keys m e) (fine_message m e h)
   fine_at Awaiting (message.ChannelReestablish m) e h = fine_resume m e h
@@ -320,5 +320,6 @@ module _ (keys : Signer) (id : List ℕ) where
   fine_faulted None (Some g) r h = tt
   fine_faulted (Some f) g r h = tt
 
-  pub fine_command : (l : Line) (c : Command) (e : End) → e.dance.channel ≡ id → IsFineRow id (command_at keys l c e)
+  pub fine_command : (l : LineState) (c : Command) (e : End) → e.dance.channel ≡ id
+      → IsFineRow id (command_at keys l c e)
   fine_command l c e h = fine_faulted (unready_fault c e) (line_fault l) (command_row keys c e) (fine_row c e h)

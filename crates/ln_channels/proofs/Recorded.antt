@@ -7,7 +7,7 @@ use Rattle.ln_keys.specs.declared.keys.ChannelKeys.{Ghosts}
 use Rattle.ln_keys.specs.declared.role.Role.{Role}
 use Rattle.ln_keys.specs.declared.role.Role.TheVariants.{Funder, Fundee}
 use Rattle.ln_keys.specs.Signer.{Signer}
-use Rattle.ln_channel.specs.declared.unsaved.Line.{Line}
+use Rattle.ln_channel.specs.declared.unsaved.LineState.{LineState}
 use Rattle.ln_channel.specs.declared.opening.Opened.{Opened}
 use Rattle.ln_channel.specs.declared.config.Config.{Config}
 use Rattle.ln_channel.specs.declared.config.OpenSpec.{OpenSpec}
@@ -158,7 +158,7 @@ module _ {K : Type 0} (k : Ghosts K) where
 
 -- ---- each end has one
 
-none_lacking : {K : Type 0} (b : Bool) (key : K) (l : State K) (line : Line) (o : Opened) (e : End)
+none_lacking : {K : Type 0} (b : Bool) (key : K) (l : State K) (line : LineState) (o : Opened) (e : End)
     → l ≡ link_at b key line e → IsOpening o → IsOf o e → IsCounted e → IsWide e → LinkLacks l → ⊥
 none_lacking b key l line o e is opening of counted wide lacks =
     has_record o e opening of counted wide (subst LinkLacks is lacks)

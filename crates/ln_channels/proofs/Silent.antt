@@ -15,8 +15,8 @@ use Rattle.ln_log.specs.Log as log
 use Rattle.ln_dance.specs.Dance.{Dancer, owes, is_last, sign_fault}
 use Rattle.ln_channel.specs.declared.command.Command.{Command}
 use Rattle.ln_channel.specs.declared.command.Command.TheVariants as command
-use Rattle.ln_channel.specs.declared.unsaved.Line.{Line}
-use Rattle.ln_channel.specs.declared.unsaved.Line.TheVariants.{Down, Awaiting, Met}
+use Rattle.ln_channel.specs.declared.unsaved.LineState.{LineState}
+use Rattle.ln_channel.specs.declared.unsaved.LineState.TheVariants.{Down, Awaiting, Met}
 use Rattle.ln_channel.specs.Opening.{unless}
 use Rattle.ln_channel.specs.End.{End, Turn, is_ready, is_closed, all_acknowledged}
 use Rattle.ln_channel.specs.Commands.{command_row, confirm_fault, shut_by_either, closed_fault, own_fault}
@@ -154,7 +154,7 @@ module _ (id : List ℕ) where
   silent_unready (command.Decide event mark) e = not_ready e
   silent_unready (command.Forget i) e = not_ready e
 
-  silent_line : (l : Line) → IsSilent (line_fault l)
+  silent_line : (l : LineState) → IsSilent (line_fault l)
   silent_line Down = refl
   silent_line Awaiting = refl
   silent_line Met = tt
@@ -164,6 +164,6 @@ module _ (id : List ℕ) where
   silent_faulted None r h k = k
   silent_faulted (Some f) r h k = h
 
-  pub silent_at : (keys : Signer) (l : Line) (c : Command) (e : End) → IsSilentRow (command_at keys l c e)
+  pub silent_at : (keys : Signer) (l : LineState) (c : Command) (e : End) → IsSilentRow (command_at keys l c e)
   silent_at keys l c e = silent_faulted (unready_fault c e) _ (silent_unready c e)
       (silent_faulted (line_fault l) (command_row keys c e) (silent_line l) (silent_row keys c e))

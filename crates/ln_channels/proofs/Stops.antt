@@ -2,7 +2,7 @@
 -- the loss of the connection, and the loss of all that the act has sent.
 use Rattle.std.proofs.Common.{◌≡◌, ℕ, List, [], refl, sym, ap, ◌∙◌, subst, true}
 use Rattle.ln_keys.specs.Signer.{Signer}
-use Rattle.ln_channel.specs.declared.unsaved.Line.TheVariants.{Down}
+use Rattle.ln_channel.specs.declared.unsaved.LineState.TheVariants.{Down}
 use Rattle.ln_channel.specs.End.{end_dropped}
 use Rattle.ln_channel.specs.State.{is_down}
 use Rattle.ln_pair.specs.Ends.{Ends, Lose, Cut}

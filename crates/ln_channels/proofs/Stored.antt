@@ -14,8 +14,8 @@ use Rattle.ln_keys.specs.Signer.{Signer}
 use Rattle.ln_channel.specs.declared.command.Command.{Command}
 use Rattle.ln_channel.specs.declared.config.Config.{Config}
 use Rattle.ln_channel.specs.declared.output.Output.{Output}
-use Rattle.ln_channel.specs.declared.unsaved.Line.{Line}
-use Rattle.ln_channel.specs.declared.unsaved.Line.TheVariants.{Down, Met}
+use Rattle.ln_channel.specs.declared.unsaved.LineState.{LineState}
+use Rattle.ln_channel.specs.declared.unsaved.LineState.TheVariants.{Down, Met}
 use Rattle.ln_channel.specs.declared.unsaved.Stage.{Stage}
 use Rattle.ln_channel.specs.declared.unsaved.Stage.TheVariants as stage
 use Rattle.ln_channel.specs.End.{End}
@@ -332,13 +332,13 @@ module _ {K : Type 0} (keys : Signer) where
   refused_halts : (e : Refusal) (l : State K) → (refused e l).halted ≡ l.halted
   refused_halts e l = parts l.keys l.line l.halted l.failure l.stage
     where
-      failing : (keys : K) (line : Line) (s : Stage) (b : Bool)
+      failing : (keys : K) (line : LineState) (s : Stage) (b : Bool)
           → let l : State K = record { keys = keys; line = line; halted = false; failure = None; stage = s } in
           (if b then failed e l else l).halted ≡ false
       failing keys line s true = refl
       failing keys line s false = refl
 
-      parts : (keys : K) (line : Line) (h : Bool) (f : Option Refusal) (s : Stage)
+      parts : (keys : K) (line : LineState) (h : Bool) (f : Option Refusal) (s : Stage)
           → let l : State K = record { keys = keys; line = line; halted = h; failure = f; stage = s } in
           (refused e l).halted ≡ h
       parts keys line true f s = refl

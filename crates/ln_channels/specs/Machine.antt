@@ -12,7 +12,7 @@ use Rattle.ln_log.specs.Machine.{Machine, Drop, Open}
 use Rattle.ln_log.specs.Machine as machine
 use Rattle.ln_hooks.specs.declared.event.ChannelEvent.{ChannelEvent}
 use Rattle.ln_channel.specs.declared.command.Command.{Command}
-use Rattle.ln_channel.specs.declared.unsaved.Line.{Line}
+use Rattle.ln_channel.specs.declared.unsaved.LineState.{LineState}
 use Rattle.ln_channel.specs.declared.unsaved.Stage.{Stage}
 use Rattle.ln_channel.specs.declared.unsaved.Stage.TheVariants as stage
 use Rattle.ln_channel.specs.declared.output.Output.{Output}
@@ -82,7 +82,7 @@ moves_of_act signer side (act.Send c) p =
     moves_of_command side c p.link.stage (commanded (signer p.link.keys) p.link c)
 
 -- a lost connection drops what no signature covers; an end that has no memory loses it, and a restart is one
-abbrev pub moves_of_fall : Role → Line → List machine.Move
+abbrev pub moves_of_fall : Role → LineState → List machine.Move
 moves_of_fall side l = if is_down l then [] else Drop side ∷ []
 
 -- behind an act a stop is one too: no act makes a connection, or ends one

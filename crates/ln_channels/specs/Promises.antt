@@ -9,8 +9,8 @@ use Rattle.ln_keys.specs.Signer.{Signer}
 use Rattle.ln_log.specs.Machine.{Machine}
 use Rattle.ln_dance.specs.Dance.{sign_fault}
 use Rattle.ln_channel.specs.declared.command.Command.{Command}
-use Rattle.ln_channel.specs.declared.unsaved.Line.{Line}
-use Rattle.ln_channel.specs.declared.unsaved.Line.TheVariants.{Met}
+use Rattle.ln_channel.specs.declared.unsaved.LineState.{LineState}
+use Rattle.ln_channel.specs.declared.unsaved.LineState.TheVariants.{Met}
 use Rattle.ln_channel.specs.declared.unsaved.Stage.{Stage}
 use Rattle.ln_channel.specs.declared.unsaved.Stage.TheVariants as stage
 use Rattle.ln_channel.specs.End.{End}
@@ -75,7 +75,7 @@ OneFee p = AtEnds CloseAtOneFee p.x.link.stage p.y.link.stage
 
 -- ---- an end that has met its peer and has taken its shutdown has sent its own, once its updates are acknowledged
 
-abbrev pub HaveAnswered : Line → Line → End → End → Type 0
+abbrev pub HaveAnswered : LineState → LineState → End → End → Type 0
 HaveAnswered m n x y = HasAnswered m x × HasAnswered n y
 
 abbrev pub AnswersShutdown : {K : Type 0} → Both K → Type 0

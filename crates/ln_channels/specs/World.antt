@@ -5,7 +5,7 @@ use Rattle.ln_msgs.specs.declared.refusals.refusal.Refusal.TheVariants as refusa
 use Rattle.ln_keys.specs.declared.keys.ChannelKeys.{Ghosts}
 use Rattle.ln_keys.specs.declared.role.Role.TheVariants.{Funder, Fundee}
 use Rattle.ln_keys.specs.Signer.{Signer}
-use Rattle.ln_channel.specs.Standing.{standing}
+use Rattle.ln_channel.specs.Summary.{summary}
 use Rattle.ln_channels.specs.declared.step.Act.{Act}
 use Rattle.ln_channels.specs.declared.step.End.{End}
 use Rattle.ln_channels.specs.declared.step.Node.{Node}
@@ -184,8 +184,8 @@ run_lines k (s ∷ ss) w = step_lines k s w ++ run_lines k ss (happens k s w)
 abbrev pub lines_of_ends : {K : Type 0} → Option (Channel K) → List EndLine
 lines_of_ends None = []
 lines_of_ends (Some c) =
-    record { end = end_of Funder c; standing = standing c.both.x.link }
-    ∷ record { end = end_of Fundee c; standing = standing c.both.y.link }
+    record { end = end_of Funder c; summary = summary c.both.x.link }
+    ∷ record { end = end_of Fundee c; summary = summary c.both.y.link }
     ∷ []
 
 -- of the channels with a number below n, in the order of their numbers

@@ -49,7 +49,7 @@ impl<K: ChannelKeys + Copy> Channel<K> {
     ghost use Rattle.ln_channels.specs.Channel.{restart_moves, fallen_lines, place_of, end_of, opening_moves};
     ghost use Rattle.ln_channels.specs.Channel.{met_lines};
     ghost use Rattle.ln_channels.specs.Channel.{may_act, acted_unheard, halt_moves};
-    ghost use Rattle.ln_channel.specs.Standing.{standing};
+    ghost use Rattle.ln_channel.specs.Summary.{summary};
     ghost use Rattle.ln_channels.specs.World.{lines_of_ends};
     ghost use Rattle.ln_channels.specs.Both.{unheard};
     ghost use Rattle.ln_channels.specs.Failing.{ByRecord, LinkLacks, MovesLack, ActLacks};
@@ -297,13 +297,13 @@ impl<K: ChannelKeys + Copy> Channel<K> {
     fn end_line(&self, alloc: Global, side: Role) -> Result<EndLine, Refusal>
         ensures line { IfOk result (λ l. l ≡ record {
           end = end_of side self.now;
-          standing = standing (place_of side self.now.both).link;
+          summary = summary (place_of side self.now.both).link;
         }) }
         ensures fails_for_memory_alone { IfErr result (λ e. e ≡ Refusal.Memory) }
     {
         Ok(EndLine {
             end: self.end(side),
-            standing: self.place(side).link().standing(alloc)?,
+            summary: self.place(side).link().summary(alloc)?,
         })
     }
 

@@ -1,7 +1,7 @@
 //! What a step did, line by line.
 
 use crate::step::{End, Node};
-use ln_channel::Standing;
+use ln_channel::Summary;
 use ln_hooks::Verdict;
 use ln_msgs::Refusal;
 
@@ -121,5 +121,5 @@ pub struct EndLine {
     /// The end.
     pub end: End,
     /// Where it stands.
-    pub standing: Standing,
+    pub summary: Summary,
 }

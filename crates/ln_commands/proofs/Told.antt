@@ -8,8 +8,8 @@ use Rattle.ln_msgs.specs.declared.refusals.refusal.Refusal.{Refusal}
 use Rattle.ln_msgs.specs.declared.refusals.refusal.Refusal.TheVariants.{Memory}
 use Rattle.ln_msgs.specs.Messages.Message.{Heard, message_at}
 use Rattle.ln_msgs.specs.Refusals.Refusal.{refusal_of}
-use Rattle.ln_commands.specs.declared.failure.Failure.{Failure}
-use Rattle.ln_commands.specs.declared.failure.Failure.TheVariants.{NotHex, Refused}
+use Rattle.ln_commands.specs.declared.program_error.ProgramError.{ProgramError}
+use Rattle.ln_commands.specs.declared.program_error.ProgramError.TheVariants.{NotHex, Refused}
 use Rattle.ln_script.specs.MessageText.{heard_text}
 use Rattle.ln_commands.specs.Text.{read_text, spelled_text, decoded}
 
@@ -44,6 +44,6 @@ pub is_refused : (text bytes : List ℕ) (f : Fault) (r : Refusal) → decode_of
 is_refused text bytes f r spelled gives is =
     elim (is_memory f) [
       | inl ours ↦ inr (refused_by text bytes f spelled (gives ours)
-          ∙ ap (λ (x : Refusal). let it : Result (List ℕ) Failure = Err (Refused x) in it) (sym is))
+          ∙ ap (λ (x : Refusal). let it : Result (List ℕ) ProgramError = Err (Refused x) in it) (sym is))
       | inr memory ↦ inl (ap Refused (is ∙ ap refusal_of memory))
     ]

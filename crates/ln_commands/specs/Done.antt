@@ -14,8 +14,8 @@ use Rattle.ln_script.specs.Script.{script_at, script_hooks}
 use Rattle.ln_script.specs.Report.{ReportsScript, ReportsScriptPartly}
 use Rattle.ln_commands.specs.declared.choice.Choice.{Choice}
 use Rattle.ln_commands.specs.declared.choice.Choice.TheVariants as choice
-use Rattle.ln_commands.specs.declared.failure.Failure.{Failure}
-use Rattle.ln_commands.specs.declared.failure.Failure.TheVariants.{Refused}
+use Rattle.ln_commands.specs.declared.program_error.ProgramError.{ProgramError}
+use Rattle.ln_commands.specs.declared.program_error.ProgramError.TheVariants.{Refused}
 use Rattle.ln_commands.specs.Printed.{Prints, PrintsPartly}
 use Rattle.ln_commands.specs.Text.{decoded}
 
@@ -46,7 +46,7 @@ module _ (input input_after output output_after : Option (List ℕ)) where
 
   -- why it stops there: what was read is at fault, or there was no memory, or a call of the reader or the writer
   -- failed
-  abbrev pub StopsBy : (failed : Type 0) → Choice → Failure → Type 0
+  abbrev pub StopsBy : (failed : Type 0) → Choice → ProgramError → Type 0
   StopsBy failed choice.Answer f = (e : Fault) × (f ≡ Refused (refusal_of e)) × (e ≡ fault.Io → failed)
       × (e ≢ fault.Memory → e ≢ fault.Io → AnswersUpTo input input_after output output_after e)
   StopsBy failed (choice.Decode text) f =

@@ -1,4 +1,4 @@
-pub mod Failure
+pub mod ProgramError
 pub mod Text
 pub mod Printed
 pub mod Done

@@ -6,16 +6,16 @@ use Rattle.ln_bytes.specs.declared.fault.Fault.{Fault}
 use Rattle.ln_msgs.specs.Messages.Message.{Heard, message_at}
 use Rattle.ln_msgs.specs.Refusals.Refusal.{refusal_of}
 use Rattle.ln_script.specs.MessageText.{heard_text}
-use Rattle.ln_commands.specs.declared.failure.Failure.{Failure}
-use Rattle.ln_commands.specs.declared.failure.Failure.TheVariants.{NotHex, Refused}
+use Rattle.ln_commands.specs.declared.program_error.ProgramError.{ProgramError}
+use Rattle.ln_commands.specs.declared.program_error.ProgramError.TheVariants.{NotHex, Refused}
 
-abbrev pub read_text : Result Heard Fault → Result (List ℕ) Failure
+abbrev pub read_text : Result Heard Fault → Result (List ℕ) ProgramError
 read_text (Ok h) = Ok (heard_text h)
 read_text (Err f) = Err (Refused (refusal_of f))
 
-abbrev pub spelled_text : Result (List ℕ) FromHexError → Result (List ℕ) Failure
+abbrev pub spelled_text : Result (List ℕ) FromHexError → Result (List ℕ) ProgramError
 spelled_text (Ok bytes) = read_text (message_at bytes)
 spelled_text (Err e) = Err NotHex
 
-abbrev pub decoded : List ℕ → Result (List ℕ) Failure
+abbrev pub decoded : List ℕ → Result (List ℕ) ProgramError
 decoded text = spelled_text (decode_of text)

@@ -12,8 +12,8 @@ ghost use Rattle.ln_commands.specs.Text.{decoded};
 ghost use Rattle.ln_commands.specs.Done.{script_in, Simulates, SimulatesPartly, Does, DoesPartly, StopsBy, HasFailed};
 
 use crate::choice::Choice;
-use crate::failure::Failure;
 use crate::input::read_all;
+use crate::program_error::ProgramError;
 use crate::simulation::{script_text, simulate};
 use crate::text::decode_text;
 use ln_msgs::{Counted, Refusal, answer_pings};
@@ -26,7 +26,7 @@ fn answer<R: Read, W: Write>(
     alloc: Global,
     reader: &mut Counted<R>,
     writer: &mut Counted<W>,
-) -> Result<(), Failure>
+) -> Result<(), ProgramError>
     ensures does_it { OnOk result (Does (R.remaining (inner_of reader.old)) (R.remaining (inner_of reader.new))
         (W.contents (inner_of writer.old)) (W.contents (inner_of writer.new)) Choice.Answer) }
     ensures front { OnErr result (DoesPartly (R.remaining (inner_of reader.old)) (R.remaining (inner_of reader.new))
@@ -38,20 +38,24 @@ fn answer<R: Read, W: Write>(
 {
     match answer_pings(alloc, reader, writer) {
         Ok(_) => Ok(()),
-        Err(fault) => Err(Failure::Refused(Refusal::from(fault))),
+        Err(fault) => Err(ProgramError::Refused(Refusal::from(fault))),
     }
 }
 
 /// Prints what a message in hexadecimal says (`decode_text`).
 ///
 /// Errors: those of `decode_text`, and then nothing was written; 63 where a call of the writer fails.
-fn print_decoded<W: Write>(alloc: Global, hex: &str, writer: &mut Counted<W>) -> Result<(), Failure>
+fn print_decoded<W: Write>(
+    alloc: Global,
+    hex: &str,
+    writer: &mut Counted<W>,
+) -> Result<(), ProgramError>
     ensures prints_it { OnOk result (Prints (W.contents (inner_of writer.old)) (W.contents (inner_of writer.new))
         (decoded hex.now)) }
     ensures front { OnErr result (PrintsPartly (W.contents (inner_of writer.old)) (W.contents (inner_of writer.new))
         (decoded hex.now)) }
-    ensures cause { IfErr result (λ f. (f ≡ Failure.Refused Memory)
-        ⊎ ((f ≡ Failure.Refused Io) × HasRisen (failures_of writer.old) (failures_of writer.new))
+    ensures cause { IfErr result (λ f. (f ≡ ProgramError.Refused Memory)
+        ⊎ ((f ≡ ProgramError.Refused Io) × HasRisen (failures_of writer.old) (failures_of writer.new))
         ⊎ (decoded hex.now ≡ Err f)) }
 {
     let text = decode_text(alloc, hex)?;
@@ -64,14 +68,14 @@ fn simulate_text<W: Write>(
     alloc: Global,
     text: &str,
     writer: &mut Counted<W>,
-) -> Result<(), Failure>
+) -> Result<(), ProgramError>
     ensures prints_it { OnOk result (ReportsScript SaysOf (script_hooks text.now) (script_at text.now)
         (W.contents (inner_of writer.old)) (W.contents (inner_of writer.new))) }
     ensures front { OnErr result (ReportsScriptPartly SaysOf (script_hooks text.now) (script_at text.now)
         (W.contents (inner_of writer.old)) (W.contents (inner_of writer.new))) }
-    ensures cause { IfErr result (λ f. (f ≡ Failure.Refused Memory)
-        ⊎ ((f ≡ Failure.Refused Io) × HasRisen (failures_of writer.old) (failures_of writer.new))
-        ⊎ ((line : ℕ) × (f ≡ Failure.Refused (BadScript line)) × (script_at text.now ≡ Err line))) }
+    ensures cause { IfErr result (λ f. (f ≡ ProgramError.Refused Memory)
+        ⊎ ((f ≡ ProgramError.Refused Io) × HasRisen (failures_of writer.old) (failures_of writer.new))
+        ⊎ ((line : ℕ) × (f ≡ ProgramError.Refused (BadScript line)) × (script_at text.now ≡ Err line))) }
 {
     let hooks = hook_lines(alloc, text)?;
     simulate(alloc, text, hooks, writer)?;
@@ -83,14 +87,14 @@ fn simulate_bytes<W: Write>(
     alloc: Global,
     bytes: &[u8],
     writer: &mut Counted<W>,
-) -> Result<(), Failure>
+) -> Result<(), ProgramError>
     ensures prints_it { OnOk result (Simulates (W.contents (inner_of writer.old)) (W.contents (inner_of writer.new))
         bytes.now) }
     ensures front { OnErr result (SimulatesPartly (W.contents (inner_of writer.old)) (W.contents (inner_of writer.new))
         bytes.now) }
-    ensures cause { IfErr result (λ f. (f ≡ Failure.Refused Memory)
-        ⊎ ((f ≡ Failure.Refused Io) × HasRisen (failures_of writer.old) (failures_of writer.new))
-        ⊎ ((line : ℕ) × (f ≡ Failure.Refused (BadScript line)) × (script_in bytes.now ≡ Err line))) }
+    ensures cause { IfErr result (λ f. (f ≡ ProgramError.Refused Memory)
+        ⊎ ((f ≡ ProgramError.Refused Io) × HasRisen (failures_of writer.old) (failures_of writer.new))
+        ⊎ ((line : ℕ) × (f ≡ ProgramError.Refused (BadScript line)) × (script_in bytes.now ≡ Err line))) }
 {
     let text = script_text(bytes)?;
     simulate_text(alloc, text, writer)?;
@@ -102,15 +106,15 @@ fn simulate_input<R: Read, W: Write>(
     alloc: Global,
     reader: &mut Counted<R>,
     writer: &mut Counted<W>,
-) -> Result<(), Failure>
+) -> Result<(), ProgramError>
     ensures prints_it { OnOk result (IfSome (R.remaining (inner_of reader.old)) (λ bytes.
         Simulates (W.contents (inner_of writer.old)) (W.contents (inner_of writer.new)) bytes)) }
     ensures front { OnErr result (IfSome (R.remaining (inner_of reader.old)) (λ bytes.
         SimulatesPartly (W.contents (inner_of writer.old)) (W.contents (inner_of writer.new)) bytes)) }
-    ensures cause { IfErr result (λ f. (f ≡ Failure.Refused Memory)
-        ⊎ ((f ≡ Failure.Refused Io) × (HasRisen (failures_of reader.old) (failures_of reader.new)
+    ensures cause { IfErr result (λ f. (f ≡ ProgramError.Refused Memory)
+        ⊎ ((f ≡ ProgramError.Refused Io) × (HasRisen (failures_of reader.old) (failures_of reader.new)
         ⊎ HasRisen (failures_of writer.old) (failures_of writer.new)))
-        ⊎ ((line : ℕ) × (f ≡ Failure.Refused (BadScript line))
+        ⊎ ((line : ℕ) × (f ≡ ProgramError.Refused (BadScript line))
         × IfSome (R.remaining (inner_of reader.old)) (λ bytes. script_in bytes ≡ Err line))) }
 {
     let bytes = read_all(alloc, reader)?;
@@ -127,7 +131,7 @@ pub fn perform<R: Read, W: Write>(
     choice: Choice,
     reader: &mut Counted<R>,
     writer: &mut Counted<W>,
-) -> Result<(), Failure>
+) -> Result<(), ProgramError>
     ensures does_it { OnOk result (Does (R.remaining (inner_of reader.old)) (R.remaining (inner_of reader.new))
         (W.contents (inner_of writer.old)) (W.contents (inner_of writer.new)) choice) }
     ensures front { OnErr result (DoesPartly (R.remaining (inner_of reader.old)) (R.remaining (inner_of reader.new))

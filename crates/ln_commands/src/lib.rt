@@ -3,14 +3,14 @@
 
 mod choice;
 mod commands;
-mod failure;
 mod input;
+mod program_error;
 mod simulation;
 mod text;
 
 pub use choice::Choice;
 pub use commands::perform;
-pub use failure::Failure;
+pub use program_error::ProgramError;
 pub use simulation::{script_text, simulate};
 pub use text::decode_text;
 

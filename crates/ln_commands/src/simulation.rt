@@ -8,7 +8,7 @@ ghost use Rattle.ln_msgs.specs.Pings.CountedView.{inner_of, failures_of};
 ghost use Rattle.ln_script.specs.Script.{script_at};
 ghost use Rattle.ln_script.specs.Report.{ReportsScript, ReportsScriptPartly};
 
-use crate::failure::Failure;
+use crate::program_error::ProgramError;
 use ln_msgs::{Counted, Refusal};
 use ln_script::report_script;
 use ln_world::Serve;
@@ -26,27 +26,27 @@ pub fn simulate<W: Write, H: Serve>(
     text: &str,
     hooks: Vec<H>,
     writer: &mut Counted<W>,
-) -> Result<(), Failure>
+) -> Result<(), ProgramError>
     ensures prints_it { OnOk result (ReportsScript H.calls hooks.items (script_at text.now)
         (W.contents (inner_of writer.old)) (W.contents (inner_of writer.new))) }
     ensures front { OnErr result (ReportsScriptPartly H.calls hooks.items (script_at text.now)
         (W.contents (inner_of writer.old)) (W.contents (inner_of writer.new))) }
-    ensures refused { IfErr result (λ f. (f ≡ Failure.Refused Memory)
-        ⊎ ((line : ℕ) × (f ≡ Failure.Refused (BadScript line)) × (script_at text.now ≡ Err line)
+    ensures refused { IfErr result (λ f. (f ≡ ProgramError.Refused Memory)
+        ⊎ ((line : ℕ) × (f ≡ ProgramError.Refused (BadScript line)) × (script_at text.now ≡ Err line)
         × (writer.new ≡ writer.old))
-        ⊎ ((f ≡ Failure.Refused Io) × HasRisen (failures_of writer.old) (failures_of writer.new))) }
+        ⊎ ((f ≡ ProgramError.Refused Io) × HasRisen (failures_of writer.old) (failures_of writer.new))) }
 {
     report_script(alloc, text, hooks, writer)?;
     Ok(())
 }
 
 /// The text of a script: its bytes, where they are UTF-8. 64 with line 0 where they aren't.
-pub fn script_text(bytes: &[u8]) -> Result<&str, Failure>
+pub fn script_text(bytes: &[u8]) -> Result<&str, ProgramError>
     ensures gives_the_bytes { IfOk result (λ text. (is_utf8 bytes.now ≡ true) × (text.now ≡ bytes.now)) }
-    ensures refused { IfErr result (λ f. (is_utf8 bytes.now ≡ false) × (f ≡ Failure.Refused (BadScript 0))) }
+    ensures refused { IfErr result (λ f. (is_utf8 bytes.now ≡ false) × (f ≡ ProgramError.Refused (BadScript 0))) }
 {
     match str::from_utf8(bytes) {
         Ok(text) => Ok(text),
-        Err(_) => Err(Failure::Refused(Refusal::BadScript { line: 0 })),
+        Err(_) => Err(ProgramError::Refused(Refusal::BadScript { line: 0 })),
     }
 }

@@ -1,6 +1,6 @@
 use crate::choice::Choice;
 use crate::commands::perform;
-use crate::failure::Failure;
+use crate::program_error::ProgramError;
 use ln_msgs::Counted;
 use std::alloc::Global;
 use std::test::*;
@@ -49,7 +49,7 @@ const LIMITS_REPORT: &str =
     B0 signed 0 committed 0 peer 0 balance 0/1000000 live 0 ready\n";
 
 /// The command that a row names: `answer`, `sim`, or `decode`, one blank and its text.
-fn choice_of(alloc: Global, line: &str) -> Result<Choice, Failure> {
+fn choice_of(alloc: Global, line: &str) -> Result<Choice, ProgramError> {
     match line.strip_prefix("decode ") {
         Some(text) => Ok(Choice::Decode(String::from_str(alloc, text)?)),
         None if line == "sim" => Ok(Choice::Simulate),
@@ -58,7 +58,7 @@ fn choice_of(alloc: Global, line: &str) -> Result<Choice, Failure> {
 }
 
 /// What a command writes, with this on its input.
-fn answered(alloc: Global, line: &str, input: &[u8]) -> Result<String, Failure> {
+fn answered(alloc: Global, line: &str, input: &[u8]) -> Result<String, ProgramError> {
     let choice = choice_of(alloc, line)?;
     // no write takes memory, as a writer's want of it is no answer of the program's
     let mut output = Vec::new(alloc);
@@ -68,7 +68,7 @@ fn answered(alloc: Global, line: &str, input: &[u8]) -> Result<String, Failure> 
     perform(alloc, choice, &mut reader, &mut writer)?;
     match str::from_utf8(writer.get_ref().as_slice()) {
         Ok(text) => Ok(String::from_str(alloc, text)?),
-        Err(_) => Err(Failure::NotHex),
+        Err(_) => Err(ProgramError::NotHex),
     }
 }
 
@@ -126,21 +126,21 @@ fn commands(rt: HostRuntime) -> Result<(), Fail> {
 // One of each command, for want of memory at any place.
 
 #[test]
-fn small_answer(rt: HostRuntime) -> Result<(), Failure> {
+fn small_answer(rt: HostRuntime) -> Result<(), ProgramError> {
     let got = answered(rt.alloc(), "answer", b"\0\x06\0\x12\0\x02\0\0")?;
     assert_eq!(rt; got.as_str(), "\0\x06\0\x13\0\x02\0\0");
     Ok(())
 }
 
 #[test]
-fn small_decode(rt: HostRuntime) -> Result<(), Failure> {
+fn small_decode(rt: HostRuntime) -> Result<(), ProgramError> {
     let got = answered(rt.alloc(), "decode 0015", b"")?;
     assert_eq!(rt; got.as_str(), "type 21 ignored\n");
     Ok(())
 }
 
 #[test]
-fn small_sim(rt: HostRuntime) -> Result<(), Failure> {
+fn small_sim(rt: HostRuntime) -> Result<(), ProgramError> {
     let got = answered(rt.alloc(), "sim", b"sign A0\n")?;
     assert_eq!(rt; got.as_str(), "idle\n");
     Ok(())

@@ -4,7 +4,7 @@ ghost use Rattle.std.specs.Prelude.{◌≡◌, ◌⊎◌, MatchResult, Ok, Err, 
 ghost use Rattle.ln_msgs.specs.declared.refusals.refusal.Refusal.TheVariants.{Memory};
 ghost use Rattle.ln_commands.specs.Text.{decoded};
 
-use crate::failure::Failure;
+use crate::program_error::ProgramError;
 use hex::FromHexError;
 use ln_msgs::{Refusal, decode};
 use ln_script::message_text;
@@ -14,18 +14,18 @@ use std::alloc::Global;
 ///
 /// A text that isn't hexadecimal, or has an odd count of digits, is `NotHex`. A message that can't be read is
 /// refused by its first fault (`ln_msgs::decode`), 60 where there is no memory.
-pub fn decode_text(alloc: Global, text: &str) -> Result<String, Failure>
-    ensures { MatchResult result (λ s. decoded text.now ≡ Ok (string_bytes s)) (λ e. (e ≡ Failure.Refused Memory)
+pub fn decode_text(alloc: Global, text: &str) -> Result<String, ProgramError>
+    ensures { MatchResult result (λ s. decoded text.now ≡ Ok (string_bytes s)) (λ e. (e ≡ ProgramError.Refused Memory)
         ⊎ (decoded text.now ≡ Err e)) }
 {
     let bytes = match hex::decode(alloc, text) {
         Ok(bytes) => bytes,
-        Err(FromHexError::OutOfMemory) => return Err(Failure::Refused(Refusal::Memory)),
-        Err(_) => return Err(Failure::NotHex),
+        Err(FromHexError::OutOfMemory) => return Err(ProgramError::Refused(Refusal::Memory)),
+        Err(_) => return Err(ProgramError::NotHex),
     };
     let incoming = match decode(alloc, &bytes) {
         Ok(incoming) => incoming,
-        Err(fault) => return Err(Failure::Refused(Refusal::from(fault))),
+        Err(fault) => return Err(ProgramError::Refused(Refusal::from(fault))),
     };
     Ok(message_text(alloc, &incoming)?)
 }

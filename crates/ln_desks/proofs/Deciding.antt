@@ -23,8 +23,8 @@ use Rattle.ln_close.specs.declared.closing.FeeAnswer.TheVariants as answer
 use Rattle.ln_close.specs.Closing.{after_shut, started}
 use Rattle.ln_channel.specs.declared.command.Command.{Command}
 use Rattle.ln_channel.specs.declared.command.Command.TheVariants as command
-use Rattle.ln_channel.specs.declared.unsaved.Line.{Line}
-use Rattle.ln_channel.specs.declared.unsaved.Line.TheVariants as line
+use Rattle.ln_channel.specs.declared.unsaved.LineState.{LineState}
+use Rattle.ln_channel.specs.declared.unsaved.LineState.TheVariants as line
 use Rattle.ln_channel.specs.declared.unsaved.Stage.{Stage}
 use Rattle.ln_channel.specs.declared.unsaved.Stage.TheVariants as stage
 use Rattle.ln_channel.specs.Failing.{fails}
@@ -205,7 +205,7 @@ module _ (P : ℕ → Type 0) where
   taken_so : (keys : Signer) (m : Message) (e : End) → Counts P e → InTurn P (taken keys m e)
   taken_so keys m e h = completed_so keys (message_row keys m e) (row_so keys m e h)
 
-  turned_so : (l : Line) (row : Result Turn Refusal) → InTurn P row → InDone P (turned l row)
+  turned_so : (l : LineState) (row : Result Turn Refusal) → InTurn P row → InDone P (turned l row)
   turned_so l (Ok t) h = h
   turned_so l (Err r) h = tt
 
@@ -235,12 +235,12 @@ module _ (P : ℕ → Type 0) where
   awaiting_so keys (message.RevokeAndAck m) e h = tt
   awaiting_so keys (message.ChannelReestablish m) e h = turned_so line.Met (resume_row keys m e) (resumed_so keys m e h)
 
-  replied_so : {A M : Type 0} (l : Line) (to : A → Stage) (by : M → Message) (row : Result (A × M) Refusal)
+  replied_so : {A M : Type 0} (l : LineState) (to : A → Stage) (by : M → Message) (row : Result (A × M) Refusal)
       → ((x : A) → AtStage P (to x)) → InDone P (replied l to by row)
   replied_so l to by (Ok r) h = h r.0
   replied_so l to by (Err r) h = tt
 
-  open_so : (keys : Signer) (l : Line) (m : OpenChannel) (s : Stage) → AtStage P s → InDone P (open_at keys l m s)
+  open_so : (keys : Signer) (l : LineState) (m : OpenChannel) (s : Stage) → AtStage P s → InDone P (open_at keys l m s)
   open_so keys l m (stage.AwaitsOpen c) h =
       replied_so l stage.AwaitsCreated message.AcceptChannel (open_taken keys c m) (λ x. h)
   open_so keys l m (stage.AwaitsAccept s) h = tt
@@ -249,7 +249,8 @@ module _ (P : ℕ → Type 0) where
   open_so keys l m (stage.Saved e) h = tt
   open_so keys l m stage.Gone h = tt
 
-  accept_so : (keys : Signer) (l : Line) (m : AcceptChannel) (s : Stage) → AtStage P s → InDone P (accept_at keys l m s)
+  accept_so : (keys : Signer) (l : LineState) (m : AcceptChannel) (s : Stage) → AtStage P s
+      → InDone P (accept_at keys l m s)
   accept_so keys l m (stage.AwaitsOpen c) h = tt
   accept_so keys l m (stage.AwaitsAccept s) h =
       replied_so l (λ o. stage.AwaitsSigned (end_of o)) message.FundingCreated (accept_taken keys s m)
@@ -259,7 +260,7 @@ module _ (P : ℕ → Type 0) where
   accept_so keys l m (stage.Saved e) h = tt
   accept_so keys l m stage.Gone h = tt
 
-  created_so : (keys : Signer) (l : Line) (m : FundingCreated) (s : Stage) → AtStage P s
+  created_so : (keys : Signer) (l : LineState) (m : FundingCreated) (s : Stage) → AtStage P s
       → InDone P (created_at keys l m s)
   created_so keys l m (stage.AwaitsOpen c) h = tt
   created_so keys l m (stage.AwaitsAccept s) h = tt
@@ -277,7 +278,8 @@ module _ (P : ℕ → Type 0) where
   signed_with n h (inl none) = subst P (sym none) h
   signed_with n h (inr all) = all n
 
-  signed_so : (keys : Signer) (l : Line) (m : FundingSigned) (s : Stage) → AtStage P s → InDone P (signed_at keys l m s)
+  signed_so : (keys : Signer) (l : LineState) (m : FundingSigned) (s : Stage) → AtStage P s
+      → InDone P (signed_at keys l m s)
   signed_so keys l m (stage.AwaitsOpen c) h = tt
   signed_so keys l m (stage.AwaitsAccept s) h = tt
   signed_so keys l m (stage.AwaitsCreated a) h = tt
@@ -287,7 +289,8 @@ module _ (P : ℕ → Type 0) where
   signed_so keys l m (stage.Saved e) h = tt
   signed_so keys l m stage.Gone h = tt
 
-  opening_so : (keys : Signer) (l : Line) (m : Message) (s : Stage) → AtStage P s → InDone P (opening_at keys l m s)
+  opening_so : (keys : Signer) (l : LineState) (m : Message) (s : Stage) → AtStage P s
+      → InDone P (opening_at keys l m s)
   opening_so keys l (message.Warning m) s h = tt
   opening_so keys l (message.Init m) s h = tt
   opening_so keys l (message.Error m) s h = tt
@@ -309,12 +312,12 @@ module _ (P : ℕ → Type 0) where
   opening_so keys l (message.RevokeAndAck m) s h = tt
   opening_so keys l (message.ChannelReestablish m) s h = tt
 
-  saved_by : (b : Bool) (keys : Signer) (l : Line) (m : Message) (e : End) → Counts P e
+  saved_by : (b : Bool) (keys : Signer) (l : LineState) (m : Message) (e : End) → Counts P e
       → InDone P (cond b (turned l (taken keys m e)) (awaiting_at keys m e))
   saved_by true keys l m e h = turned_so l (taken keys m e) (taken_so keys m e h)
   saved_by false keys l m e h = awaiting_so keys m e h
 
-  stage_so : (keys : Signer) (l : Line) (m : Message) (s : Stage) → AtStage P s → InDone P (stage_row keys l m s)
+  stage_so : (keys : Signer) (l : LineState) (m : Message) (s : Stage) → AtStage P s → InDone P (stage_row keys l m s)
   stage_so keys l m (stage.AwaitsOpen c) h = opening_so keys l m (stage.AwaitsOpen c) h
   stage_so keys l m (stage.AwaitsAccept s) h = opening_so keys l m (stage.AwaitsAccept s) h
   stage_so keys l m (stage.AwaitsCreated a) h = opening_so keys l m (stage.AwaitsCreated a) h
@@ -369,7 +372,7 @@ module _ (P : ℕ → Type 0) where
   command_so keys (command.Decide event mark) e h = tt
   command_so keys (command.Forget i) e h = tt
 
-  obeyed_so : (keys : Signer) (l : Line) (c : Command) (s : Stage) → AtStage P s → InDone P (obeyed keys l c s)
+  obeyed_so : (keys : Signer) (l : LineState) (c : Command) (s : Stage) → AtStage P s → InDone P (obeyed keys l c s)
   obeyed_so keys l c (stage.Saved e) h =
       faulted_so (unready_fault c e) (faulted (line_fault l) (turned l (command_row keys c e)))
       (faulted_so (line_fault l) (turned l (command_row keys c e))
@@ -408,12 +411,12 @@ module _ (P : ℕ → Type 0) where
       first_so (marked m htlc l)
       (marked_so (λ n. P (n + 1)) m htlc l (subst (λ n. P n → P (n + 1)) same more h))
 
-  noted_by : (l : Line) (res : Result Ledger Refusal) (e : End) → InLedger P res
+  noted_by : (l : LineState) (res : Result Ledger Refusal) (e : End) → InLedger P res
       → InDone P (turned l (with_ledger res e))
   noted_by l (Ok x) e h = h
   noted_by l (Err r) e h = tt
 
-  decided_so : (l : Line) (event : ℕ) (m : Mark) (s : Stage) → (P event → P (event + 1)) → AtStage P s
+  decided_so : (l : LineState) (event : ℕ) (m : Mark) (s : Stage) → (P event → P (event + 1)) → AtStage P s
       → InDone P (noted l (command.Decide event m) s)
   decided_so l event m (stage.AwaitsOpen c) more h = tt
   decided_so l event m (stage.AwaitsAccept s) more h = tt
@@ -425,7 +428,7 @@ module _ (P : ℕ → Type 0) where
       (decided_by (is_in_turn event e.ledger) event m htlc e.ledger refl more h)
   decided_so l event m stage.Gone more h = tt
 
-  forgotten_so : (l : Line) (i : ℕ) (s : Stage) → AtStage P s → InDone P (noted l (command.Forget i) s)
+  forgotten_so : (l : LineState) (i : ℕ) (s : Stage) → AtStage P s → InDone P (noted l (command.Forget i) s)
   forgotten_so l i (stage.AwaitsOpen c) h = tt
   forgotten_so l i (stage.AwaitsAccept s) h = tt
   forgotten_so l i (stage.AwaitsCreated a) h = tt

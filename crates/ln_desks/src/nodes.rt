@@ -24,7 +24,7 @@ use std::alloc::Global;
 use std::marker::Model;
 
 /// Where the dispatcher of an end stands.
-fn place_of(desks: &[Desk], end: End) -> Option<usize>
+fn index_of(desks: &[Desk], end: End) -> Option<usize>
     ensures { result ≡ position (λ d. is_at end d.desk) desks.now }
 {
     desks.iter().position(|desk| desk.is_at(end))
@@ -49,7 +49,7 @@ fn desk_at(desks: &[Desk], end: End) -> Option<&Desk>
     ensures keeps { (decided : End → Role → ℕ) → AllKeep decided desks.now
         → IfSome result (λ d. Keeps decided d.now) }
 {
-    match place_of(desks, end) {
+    match index_of(desks, end) {
         None => None,
         Some(i) => Some(&desks[i]),
     }
@@ -116,7 +116,7 @@ fn write_at(
     ensures keep { (decided : End → Role → ℕ) → AllKeep decided desks.old → AllKeep decided desks.new }
     ensures fails_for_memory_alone { IfErr result (λ e. e ≡ refusal.Memory) }
 {
-    match place_of(desks, end) {
+    match index_of(desks, end) {
         None => {
             drop(event);
             Ok(())
@@ -131,7 +131,7 @@ fn seat_at(desks: &mut [Desk], end: End, hook: usize) -> Result<(), Refusal>
     ensures keep { (decided : End → Role → ℕ) → AllKeep decided desks.old → AllKeep decided desks.new }
     ensures fails_for_memory_alone { IfErr result (λ e. e ≡ refusal.Memory) }
 {
-    match place_of(desks, end) {
+    match index_of(desks, end) {
         None => Ok(()),
         Some(i) => desks[i].seat(hook),
     }
@@ -197,7 +197,7 @@ fn let_go_at<K: ChannelKeys + Copy>(
     ensures same_desks { desks_of desks.new ≡ desks_of desks.old }
     ensures keep { AllKeep (decided_at channels.now) desks.old → AllKeep (decided_at channels.now) desks.new }
 {
-    if let Some(i) = place_of(desks, end) {
+    if let Some(i) = index_of(desks, end) {
         let_go_one(alloc, channels, &mut desks[i]);
     }
 }
@@ -310,7 +310,7 @@ impl<K: ChannelKeys + Copy> Nodes<K> {
         ensures place { result ≡ position (is_at end) self.now.desks }
         ensures within { IfSome result (λ i. i < length self.now.desks) }
     {
-        place_of(&self.desks, end)
+        index_of(&self.desks, end)
     }
 
     /// Whether a channel is opened by this wish.

@@ -11,8 +11,8 @@ use Rattle.ln_keys.specs.Signer.{Signer}
 use Rattle.ln_log.specs.Log.{Log}
 use Rattle.ln_log.specs.Told.{told_of, IsRestorable}
 use Rattle.ln_channel.specs.declared.output.Output.{Output}
-use Rattle.ln_channel.specs.declared.unsaved.Line.{Line}
-use Rattle.ln_channel.specs.declared.unsaved.Line.TheVariants.{Down}
+use Rattle.ln_channel.specs.declared.unsaved.LineState.{LineState}
+use Rattle.ln_channel.specs.declared.unsaved.LineState.TheVariants.{Down}
 use Rattle.ln_channel.specs.declared.unsaved.Stage.{Stage}
 use Rattle.ln_channel.specs.declared.unsaved.Stage.TheVariants as stage
 use Rattle.ln_channel.specs.Naming.{opens}
@@ -83,8 +83,8 @@ cut_has f (stage.AwaitsCreated c) rs h = tt
 cut_has f (stage.AwaitsSigned c) rs h = tt
 cut_has f stage.Gone rs h = tt
 
-drops_by : {K : Type 0} (keys : K) (b : Bool) (l : Line) (halted : Bool) (f : Option Refusal) (s : Stage) (t : Shelf)
-    → Has f (saved_end s) t.records
+drops_by : {K : Type 0} (keys : K) (b : Bool) (l : LineState) (halted : Bool) (f : Option Refusal) (s : Stage)
+    (t : Shelf) → Has f (saved_end s) t.records
     → HasLink (if b then record { keys = keys; line = l; halted = halted; failure = f; stage = s }
     else record { keys = keys; line = Down; halted = halted; failure = f; stage = cut s }) t
 drops_by keys true l halted f s t h = h
@@ -95,7 +95,7 @@ drops_has l t h = drops_by l.keys (is_down l.line) l.line l.halted l.failure l.s
 
 -- ---- refusals
 
-unchanged : {K : Type 0} (e : Refusal) (keys : K) (line : Line) (halted : Bool) (f : Option Refusal) (s : Stage)
+unchanged : {K : Type 0} (e : Refusal) (keys : K) (line : LineState) (halted : Bool) (f : Option Refusal) (s : Stage)
     → let l : State K = record { keys = keys; line = line; halted = halted; failure = f; stage = s } in
     fails_now e l ≡ false → refused e l ≡ l
 unchanged e keys line true f s h = refl

@@ -16,7 +16,7 @@ use Rattle.ln_channel.specs.declared.opening.Terms.{Terms}
 use Rattle.ln_channel.specs.Opening.{opening_of}
 use Rattle.ln_channel.specs.End.{End, with_dance, end_dropped}
 use Rattle.ln_channel.specs.Parts.{end_with}
-use Rattle.ln_link.specs.Record.{payload_of, place_of, agreement_of, updates_of}
+use Rattle.ln_link.specs.Record.{payload_of, chain_place_of, agreement_of, updates_of}
 use Rattle.ln_link.specs.Record.{header_of, progress_of, items_of, commitments_of}
 use Rattle.ln_link.specs.Loading.{open_of, accept_of, said, open_in, accept_in, terms_of, short_id_of}
 use Rattle.ln_link.specs.Loading.{told_in, log_in, dance_of, end_of, IsSaid}
@@ -56,7 +56,7 @@ terms_again failure e h =
 -- ---- how far it is
 
 place_again : (s : Option ShortId) → IfSome s (λ id. id.output < 2 ^ 16)
-    → option_map short_id_of (option_map place_of s) ≡ s
+    → option_map short_id_of (option_map chain_place_of s) ≡ s
 place_again None f = refl
 place_again (Some id) f = ap Some (id_again id.block id.tx id.output id.block_fits id.tx_fits f)
 
@@ -91,7 +91,7 @@ loaded_end failure e h =
     (record { short_id = s; ready_sent = e.marks.ready_sent; ready_received = e.marks.ready_received })
     e.ledger in
     let t = terms_of (agreement_of e) in
-    let s = option_map short_id_of (option_map place_of e.marks.short_id) in
+    let s = option_map short_id_of (option_map chain_place_of e.marks.short_id) in
     ap (λ (l : Log). made l t s) (loaded_log failure e h)
     ∙ ap (λ (u : Terms). made d u s) (terms_again failure e h)
     ∙ ap (λ (u : Option ShortId). made d e.terms u) (place_again e.marks.short_id h.output)

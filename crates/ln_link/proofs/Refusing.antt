@@ -6,7 +6,7 @@ use Rattle.ln_msgs.specs.declared.messages.message.Message.{Message}
 use Rattle.ln_msgs.specs.declared.refusals.refusal.Refusal.{Refusal}
 use Rattle.ln_msgs.specs.declared.refusals.refusal.Refusal.TheVariants as refusal
 use Rattle.ln_keys.specs.Signer.{Signer}
-use Rattle.ln_channel.specs.declared.unsaved.Line.{Line}
+use Rattle.ln_channel.specs.declared.unsaved.LineState.{LineState}
 use Rattle.ln_channel.specs.declared.unsaved.Stage.{Stage}
 use Rattle.ln_channel.specs.declared.output.Output.{Output}
 use Rattle.ln_channel.specs.Failing.{fails}
@@ -20,13 +20,14 @@ use Rattle.ln_link.specs.Saving.{handled_beside}
 use Rattle.ln_store.specs.Store.{Records}
 
 -- a link without a failure, by whether the refusal is one
-by_refusal : {K : Type 0} (r : Refusal) (keys : K) (line : Line) (s : Stage) (b : Bool)
+by_refusal : {K : Type 0} (r : Refusal) (keys : K) (line : LineState) (s : Stage) (b : Bool)
     → let l : State K = record { keys = keys; line = line; halted = false; failure = None; stage = s } in
     (is_failing (if b then failed r l else l) && true) ≡ b
 by_refusal r keys line s true = refl
 by_refusal r keys line s false = refl
 
-by_parts : {K : Type 0} (r : Refusal) (keys : K) (line : Line) (halted : Bool) (failure : Option Refusal) (s : Stage)
+by_parts : {K : Type 0} (r : Refusal) (keys : K) (line : LineState) (halted : Bool) (failure : Option Refusal)
+    (s : Stage)
     → let l : State K = record { keys = keys; line = line; halted = halted; failure = failure; stage = s } in
     (is_failing (refused r l) && is_none failure) ≡ fails_now r l
 by_parts r keys line true failure s = refl

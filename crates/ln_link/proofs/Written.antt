@@ -21,7 +21,7 @@ use Rattle.ln_store.specs.declared.record.LiveHtlc.{LiveHtlc}
 use Rattle.ln_store.specs.declared.record.Sides.{Sides}
 use Rattle.ln_store.specs.declared.record.Header.{Header}
 use Rattle.ln_store.specs.declared.record.Updates.{Updates}
-use Rattle.ln_link.specs.Record.{flags_of, header_of, payload_of, place_of, agreement_of}
+use Rattle.ln_link.specs.Record.{flags_of, header_of, payload_of, chain_place_of, agreement_of}
 use Rattle.ln_link.specs.Record.{by_roles, lives_of, base_of, window_of, pairs_of, updates_by, updates_of}
 
 pub header_so : (h : Header) (e : End) → h.channel ≡ e.dance.channel → h.role ≡ e.closing.role → h.flags ≡ flags_of e
@@ -34,13 +34,13 @@ header_so h e channel role flags =
 
 pub agreement_so : (a : Agreement) (e : End) → a.open_payload ≡ payload_of (open_wire e.terms.open_channel)
     → a.accept_payload ≡ payload_of (accept_wire e.terms.accept_channel)
-    → a.place ≡ option_map place_of e.marks.short_id → a.fees ≡ e.closing.fees → a.script ≡ e.terms.script
+    → a.place ≡ option_map chain_place_of e.marks.short_id → a.fees ≡ e.closing.fees → a.script ≡ e.terms.script
     → a.peer_script ≡ e.terms.peer_script → a ≡ agreement_of e
 unfolding agreement_of
 agreement_so a e opens accepts place fees script peer =
     let open' = payload_of (open_wire e.terms.open_channel) in
     let accept' = payload_of (accept_wire e.terms.accept_channel) in
-    let place' = option_map place_of e.marks.short_id in
+    let place' = option_map chain_place_of e.marks.short_id in
     ap (λ x. record a { open_payload = x }) opens
     ∙ ap (λ x. record a { open_payload = open'; accept_payload = x }) accepts
     ∙ ap (λ x. record a { open_payload = open'; accept_payload = accept'; place = x }) place

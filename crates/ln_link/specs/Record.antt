@@ -59,14 +59,14 @@ header_of failure e =
 unfoldable pub payload_of : Wire → List ℕ
 payload_of w = drop 2 (wire_bytes w)
 
-abbrev pub place_of : ShortId → List ℕ
-place_of id = short_id_bytes id.block id.tx id.output
+abbrev pub chain_place_of : ShortId → List ℕ
+chain_place_of id = short_id_bytes id.block id.tx id.output
 
 unfoldable pub agreement_of : End → Agreement
 agreement_of e = record {
   open_payload = payload_of (open_wire e.terms.open_channel);
   accept_payload = payload_of (accept_wire e.terms.accept_channel);
-  place = option_map place_of e.marks.short_id;
+  place = option_map chain_place_of e.marks.short_id;
   fees = e.closing.fees;
   script = e.terms.script;
   peer_script = e.terms.peer_script;

@@ -204,7 +204,7 @@ impl<K: ChannelKeys + Drop> Link<K> {
     }
 
     // Behind a call that is answered its base moves on, and it is saved, or halts.
-    fn settle<S: RecordStore>(&mut self, alloc: Global, store: &mut S) -> Result<(), Refusal>
+    fn finish<S: RecordStore>(&mut self, alloc: Global, store: &mut S) -> Result<(), Refusal>
         ensures settles { (l : State K) → StandsFor self.old l → Settles result l self.new
             (record { records = S.records store.old; failed = S.failed store.old })
             (record { records = S.records store.new; failed = S.failed store.new }) }
@@ -265,7 +265,7 @@ impl<K: ChannelKeys + Drop> Link<K> {
     {
         let healthy = is_healthy(&self.unsaved);
         match self.unsaved.handle(alloc, message) {
-            Ok(outputs) => match self.settle(alloc, store) {
+            Ok(outputs) => match self.finish(alloc, store) {
                 Ok(()) => Ok(outputs),
                 Err(refusal) => {
                     drop(outputs);
@@ -316,7 +316,7 @@ impl<K: ChannelKeys + Drop> Link<K> {
         ensures same_channel { KeepsChannel self.old.stage self.new.stage }
     {
         match self.unsaved.command(alloc, command) {
-            Ok(outputs) => match self.settle(alloc, store) {
+            Ok(outputs) => match self.finish(alloc, store) {
                 Ok(()) => Ok(outputs),
                 Err(refusal) => {
                     drop(outputs);

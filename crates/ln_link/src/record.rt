@@ -14,7 +14,7 @@ ghost use Rattle.ln_channel.specs.End.{End, IsSound};
 ghost use Rattle.ln_dance.specs.Dance as dancing;
 ghost use Rattle.ln_dance.specs.Dance.{Dancer};
 ghost use Rattle.ln_store.specs.Readable.{is_readable};
-ghost use Rattle.ln_link.specs.Record.{flags_of, header_of, place_of, agreement_of, by_roles, live_of, lives_of};
+ghost use Rattle.ln_link.specs.Record.{flags_of, header_of, chain_place_of, agreement_of, by_roles, live_of, lives_of};
 ghost use Rattle.ln_link.specs.Record.{base_of, window_of, covered_of, pairs_of, updates_of, events_of, forwards_of};
 ghost use Rattle.ln_link.specs.Record.{fees_of, progress_of, commitments_of, items_of};
 ghost use Rattle.ln_link.specs.Record.{HasNoAgreement, NoRecord};
@@ -62,8 +62,8 @@ fn header_of(failure: Option<Refusal>, channel: &Channel) -> Header
     }
 }
 
-fn place_of(id: Option<ShortId>) -> Option<ChainPlace>
-    ensures place { result ≡ option_map place_of id }
+fn chain_place_of(id: Option<ShortId>) -> Option<ChainPlace>
+    ensures place { result ≡ option_map chain_place_of id }
     ensures output_fits_16_bits { IfSome id (λ id. id.output < 2 ^ 16) }
 {
     match id {
@@ -98,7 +98,7 @@ fn agreement_of(alloc: Global, channel: &Channel) -> Result<Agreement, Refusal>
     Ok(Agreement {
         open_payload: open_payload(alloc, &terms.open_channel)?,
         accept_payload: accept_payload(alloc, &terms.accept_channel)?,
-        place: place_of(channel.marks().short_id),
+        place: chain_place_of(channel.marks().short_id),
         fees: channel.closing().fees,
         script: copy_bytes(alloc, &terms.script)?,
         peer_script: copy_script(alloc, &terms.peer_script)?,

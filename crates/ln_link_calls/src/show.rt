@@ -1,7 +1,7 @@
 //! What a link answers, as text.
 
 use crate::end::{CHANNEL, End, written};
-use ln_channel::{Life, Line, Output, Standing};
+use ln_channel::{Life, LineState, Output, Summary};
 use ln_hooks::{ChannelEvent, How};
 use ln_msgs::{Message, Refusal};
 use std::alloc::{AllocError, Global};
@@ -159,8 +159,8 @@ fn put_life(text: &mut String, life: Life) -> Result<(), AllocError> {
     }
 }
 
-fn put_standing(text: &mut String, standing: &Standing) -> Result<(), AllocError> {
-    let Standing {
+fn put_summary(text: &mut String, summary: &Summary) -> Result<(), AllocError> {
+    let Summary {
         signed,
         own_held,
         peer_held,
@@ -168,7 +168,7 @@ fn put_standing(text: &mut String, standing: &Standing) -> Result<(), AllocError
         peer,
         live,
         life,
-    } = *standing;
+    } = *summary;
     write!(
         text,
         " signed {signed} committed {own_held} peer {peer_held} balance {own}/{peer} live {live}"
@@ -180,16 +180,16 @@ fn put_standing(text: &mut String, standing: &Standing) -> Result<(), AllocError
 pub fn stand(alloc: Global, x: &End) -> Result<String, AllocError> {
     let unsaved = x.link.unsaved();
     let line = match unsaved.line() {
-        Line::Down => "down",
-        Line::Awaiting => "waiting",
-        Line::Met => "met",
+        LineState::Down => "down",
+        LineState::Awaiting => "waiting",
+        LineState::Met => "met",
     };
     let mut text = String::from_str(alloc, line)?;
     if unsaved.is_halted() {
         text.push_str(" halted")?;
     }
-    match unsaved.standing(alloc) {
-        Ok(standing) => put_standing(&mut text, &standing)?,
+    match unsaved.summary(alloc) {
+        Ok(summary) => put_summary(&mut text, &summary)?,
         Err(_) => return Err(AllocError),
     }
     Ok(text)

@@ -16,7 +16,7 @@ pub(crate) struct RingingSeat<S: Drop> {
 impl<T: Drop, S: Sends<T> + Drop> Sends<T> for RingingSeat<S> {
     ghost Relay = { S.Relay };
 
-    ghost place = { λ s. S.place s.seat };
+    ghost position = { λ s. S.position s.seat };
 
     ghost put = { λ s. S.put s.seat };
 
@@ -41,7 +41,7 @@ pub(crate) struct PatientSeat<S: Drop> {
 impl<T: Drop, S: Sends<T> + Drop> Sends<T> for PatientSeat<S> {
     ghost Relay = { S.Relay };
 
-    ghost place = { λ s. S.place s.seat };
+    ghost position = { λ s. S.position s.seat };
 
     ghost put = { λ s. S.put s.seat };
 

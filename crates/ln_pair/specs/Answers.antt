@@ -1,12 +1,12 @@
 -- A shutdown that an end has taken is answered (BOLT 2, "Closing Initiation: shutdown").
 use Rattle.std.specs.Prelude.{◌≡◌, true}
-use Rattle.ln_channel.specs.declared.unsaved.Line.{Line}
-use Rattle.ln_channel.specs.declared.unsaved.Line.TheVariants.{Met}
+use Rattle.ln_channel.specs.declared.unsaved.LineState.{LineState}
+use Rattle.ln_channel.specs.declared.unsaved.LineState.TheVariants.{Met}
 use Rattle.ln_channel.specs.End.{End, all_acknowledged}
 use Rattle.ln_pair.specs.Ends.{Ends}
 
 -- an end that has met its peer and has taken its shutdown has sent its own, once all its updates are acknowledged
-abbrev pub HasAnswered : Line → End → Type 0
+abbrev pub HasAnswered : LineState → End → Type 0
 HasAnswered l e =
     l ≡ Met → e.closing.peer_shut ≡ true → all_acknowledged e.dance.log ≡ true → e.closing.shut ≡ true
 

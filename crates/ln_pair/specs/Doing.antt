@@ -7,8 +7,8 @@ use Rattle.ln_keys.specs.Signer.{Signer}
 use Rattle.ln_log.specs.Machine.{Machine, Move, MayMove, after}
 use Rattle.ln_channel.specs.declared.command.Command.{Command}
 use Rattle.ln_channel.specs.declared.command.Command.TheVariants as command
-use Rattle.ln_channel.specs.declared.unsaved.Line.{Line}
-use Rattle.ln_channel.specs.declared.unsaved.Line.TheVariants.{Met}
+use Rattle.ln_channel.specs.declared.unsaved.LineState.{LineState}
+use Rattle.ln_channel.specs.declared.unsaved.LineState.TheVariants.{Met}
 use Rattle.ln_channel.specs.End.{End}
 use Rattle.ln_pair.specs.Ends.{Ends, command_at}
 use Rattle.ln_pair.specs.Promises.{IsTaken}
@@ -45,14 +45,14 @@ MayMake [] m = Unit {0}
 MayMake (move ∷ moves) m = MayMove move m × MayMake moves (after move m)
 
 -- the end of this side, in a channel that this is the machine of
-pub record MayDo (side : Role) (l : Line) (c : Command) (e : End) (m : Machine) : Type 0 where
+pub record MayDo (side : Role) (l : LineState) (c : Command) (e : End) (m : Machine) : Type 0 where
   pub met : l ≡ Met
   pub ready : IsReadyFor c e
   pub moves : MayMake (moves_asked side c e) (Some m)
 
 -- ---- each end does what it may, and nothing else
 
-abbrev pub Does : Signer → Role → Line → Command → End → Machine → Type 0
+abbrev pub Does : Signer → Role → LineState → Command → End → Machine → Type 0
 Does keys side l c e m = IsTaken (command_at keys l c e) ↔ MayDo side l c e m
 
 pub record BothDo (a b : Signer) (c : Command) (p : Ends) : Type 0 where

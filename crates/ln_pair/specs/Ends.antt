@@ -11,8 +11,8 @@ use Rattle.ln_keys.specs.declared.role.Role.TheVariants.{Funder, Fundee}
 use Rattle.ln_keys.specs.Signer.{Signer}
 use Rattle.ln_dance.specs.Resume.{reestablish_message}
 use Rattle.ln_channel.specs.declared.command.Command.{Command}
-use Rattle.ln_channel.specs.declared.unsaved.Line.{Line}
-use Rattle.ln_channel.specs.declared.unsaved.Line.TheVariants.{Down, Awaiting, Met}
+use Rattle.ln_channel.specs.declared.unsaved.LineState.{LineState}
+use Rattle.ln_channel.specs.declared.unsaved.LineState.TheVariants.{Down, Awaiting, Met}
 use Rattle.ln_channel.specs.declared.opening.Opened.{Opened}
 use Rattle.ln_channel.specs.declared.output.Output.{Output}
 use Rattle.ln_channel.specs.declared.output.Output.TheVariants as output
@@ -26,8 +26,8 @@ use Rattle.ln_channel.specs.State.{is_down}
 use Rattle.ln_channel.specs.Step.{faulted, line_fault}
 
 pub record Ends : Type 0 where
-  pub x_line : Line
-  pub y_line : Line
+  pub x_line : LineState
+  pub y_line : LineState
   pub x : End
   pub y : End
   pub to_x : List Message  -- in flight, the oldest first
@@ -69,12 +69,12 @@ abbrev pub met_again : Signer → Message → End → Result Turn Refusal
 met_again keys (message.ChannelReestablish m) e = resume_row keys m e
 met_again keys m e = Err refusal.OutOfPlace
 
-abbrev pub message_at : Signer → Line → Message → End → Result Turn Refusal
+abbrev pub message_at : Signer → LineState → Message → End → Result Turn Refusal
 message_at keys Down m e = Err refusal.OutOfPlace
 message_at keys Awaiting m e = met_again keys m e
 message_at keys Met m e = taken keys m e
 
-abbrev pub command_at : Signer → Line → Command → End → Result Turn Refusal
+abbrev pub command_at : Signer → LineState → Command → End → Result Turn Refusal
 command_at keys l c e = faulted (unready_fault c e) (faulted (line_fault l) (command_row keys c e))
 
 -- the messages among what is handed out
@@ -87,7 +87,7 @@ messages_in (output.Event n e ∷ os) = messages_in os
 messages_in (output.Closed fee ∷ os) = messages_in os
 
 -- what is sent to an end that has no connection is lost
-abbrev pub arrive : Line → List Message → List Message → List Message
+abbrev pub arrive : LineState → List Message → List Message → List Message
 arrive Down sent ms = ms
 arrive Awaiting sent ms = ms ++ sent
 arrive Met sent ms = ms ++ sent
@@ -128,7 +128,7 @@ abbrev pub notes : Command → Ends → Ends
 notes c p = record p { x = record p.x { ledger = ledger_behind (ledgered c p.x) p.x.ledger } }
 
 -- of what was sent to an end, the first messages still come, behind the channel_reestablish that an end waits for
-abbrev pub still_come : {A : Type 0} → ℕ → Line → List A → List A
+abbrev pub still_come : {A : Type 0} → ℕ → LineState → List A → List A
 still_come n Down ms = ms
 still_come n Awaiting [] = []
 still_come n Awaiting (m ∷ ms) = m ∷ take n ms
@@ -176,7 +176,7 @@ joined a b p =
       said_y = p.said_y ++ from_y ∷ [];
     }
 
-abbrev pub connects : Signer → Signer → Line → Line → Ends → Ends
+abbrev pub connects : Signer → Signer → LineState → LineState → Ends → Ends
 connects a b Down Down p = joined a b p
 connects a b Down Awaiting p = p
 connects a b Down Met p = p

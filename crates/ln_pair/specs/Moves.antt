@@ -13,7 +13,7 @@ use Rattle.ln_log.specs.Updates.{next_id}
 use Rattle.ln_log.specs.Machine.{Machine, Move, Open, Propose, Sign, Accept, Learn, Drop, Shut, Close, after}
 use Rattle.ln_channel.specs.declared.command.Command.{Command}
 use Rattle.ln_channel.specs.declared.command.Command.TheVariants as command
-use Rattle.ln_channel.specs.declared.unsaved.Line.{Line}
+use Rattle.ln_channel.specs.declared.unsaved.LineState.{LineState}
 use Rattle.ln_channel.specs.declared.opening.Opened.{Opened}
 use Rattle.ln_channel.specs.End.{End, Turn}
 use Rattle.ln_channel.specs.State.{is_down}
@@ -89,7 +89,7 @@ moves_of_message side m e (Err r) = []
 
 -- ---- a step
 
-abbrev pub moves_delivered : Signer → Role → Line → List Message → End → List Move
+abbrev pub moves_delivered : Signer → Role → LineState → List Message → End → List Move
 moves_delivered keys side l [] e = []
 moves_delivered keys side l (m ∷ ms) e = moves_of_message side m e (message_at keys l m e)
 

@@ -16,8 +16,8 @@ use Rattle.ln_dance.specs.Dance.{sign_fault, view_at}
 use Rattle.ln_close.specs.declared.closing.Fees.{Fees}
 use Rattle.ln_close.specs.Closing.{AreOrdered}
 use Rattle.ln_channel.specs.End.{End}
-use Rattle.ln_channel.specs.declared.unsaved.Line.{Line}
-use Rattle.ln_channel.specs.declared.unsaved.Line.TheVariants.{Met}
+use Rattle.ln_channel.specs.declared.unsaved.LineState.{LineState}
+use Rattle.ln_channel.specs.declared.unsaved.LineState.TheVariants.{Met}
 use Rattle.ln_pair.specs.Ends.{Ends, message_at}
 
 -- ---- what is promised
@@ -50,7 +50,7 @@ abbrev pub IsTakenButForItsFee : {A : Type 0} → Message → Result A Refusal �
 IsTakenButForItsFee m r = IsTaken r ⊎ ((is_closing_signed m ≡ true) × (r ≡ Err refusal.FeeOutside))
 
 -- so is the message in front
-abbrev pub TakesFront : Signer → Line → List Message → End → Type 0
+abbrev pub TakesFront : Signer → LineState → List Message → End → Type 0
 TakesFront keys l [] e = Unit {0}
 TakesFront keys l (m ∷ ms) e = IsTakenButForItsFee m (message_at keys l m e)
 
@@ -70,7 +70,7 @@ pub record AreAgreeable (f g : Fees) : Type 0 where
   pub overlap : Overlap f g
 
 -- the message in front is taken
-abbrev pub AcceptsFront : Signer → Line → List Message → End → Type 0
+abbrev pub AcceptsFront : Signer → LineState → List Message → End → Type 0
 AcceptsFront keys l [] e = Unit {0}
 AcceptsFront keys l (m ∷ ms) e = IsTaken (message_at keys l m e)
 

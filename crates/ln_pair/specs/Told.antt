@@ -10,7 +10,7 @@ use Rattle.ln_log.specs.Events.{Event, Held, ClosedAt}
 use Rattle.ln_hooks.specs.declared.event.ChannelEvent.{ChannelEvent}
 use Rattle.ln_hooks.specs.declared.event.ChannelEvent.TheVariants as event
 use Rattle.ln_hooks.specs.Event.{event_of}
-use Rattle.ln_channel.specs.declared.unsaved.Line.{Line}
+use Rattle.ln_channel.specs.declared.unsaved.LineState.{LineState}
 use Rattle.ln_channel.specs.declared.output.Output.{Output}
 use Rattle.ln_channel.specs.declared.output.Output.TheVariants as output
 use Rattle.ln_channel.specs.Outputs.{all_of}
@@ -41,7 +41,7 @@ abbrev pub told_by : Result Turn Refusal → List Output
 told_by (Ok t) = all_of t.handed
 told_by (Err r) = []
 
-abbrev pub told_on : Signer → Line → List Message → End → List Output
+abbrev pub told_on : Signer → LineState → List Message → End → List Output
 told_on keys l [] e = []
 told_on keys l (m ∷ ms) e = told_by (message_at keys l m e)
 

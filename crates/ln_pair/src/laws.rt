@@ -10,8 +10,8 @@ ghost use Rattle.ln_keys.specs.Signer.{Signer};
 ghost use Rattle.ln_channel.specs.declared.command.Command.{Command};
 ghost use Rattle.ln_channel.specs.declared.config.Config.{Config};
 ghost use Rattle.ln_channel.specs.declared.config.OpenSpec.{OpenSpec};
-ghost use Rattle.ln_channel.specs.declared.unsaved.Line.{Line};
-ghost use Rattle.ln_channel.specs.declared.unsaved.Line.TheVariants.{Awaiting, Met};
+ghost use Rattle.ln_channel.specs.declared.unsaved.LineState.{LineState};
+ghost use Rattle.ln_channel.specs.declared.unsaved.LineState.TheVariants.{Awaiting, Met};
 ghost use Rattle.ln_channel.specs.declared.unsaved.Stage.TheVariants as stage;
 ghost use Rattle.ln_channel.specs.declared.opening.Opened.{Opened};
 ghost use Rattle.ln_channel.specs.End.{End};
@@ -111,7 +111,7 @@ pub fn steps_are_those_of_a_link()
         → saved_at keys Met m e ≡ turned Met (message_at keys Met m e) }
     ensures message_before_it { (keys : Signer) (m : Message) (e : End)
         → saved_at keys Awaiting m e ≡ turned Met (message_at keys Awaiting m e) }
-    ensures command { (keys : Signer) (l : Line) (c : Command) (e : End)
+    ensures command { (keys : Signer) (l : LineState) (c : Command) (e : End)
         → obeyed keys l c (stage.Saved e) ≡ turned l (command_at keys l c e) }
 {}
 

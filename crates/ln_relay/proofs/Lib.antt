@@ -2,5 +2,5 @@ pub mod Merges
 pub mod Histories
 pub mod Owners
 pub mod Steps
-pub mod Places
+pub mod Positions
 pub mod Passing

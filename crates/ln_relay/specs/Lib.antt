@@ -1,6 +1,6 @@
 pub mod Merge
 pub mod History
-pub mod Place
+pub mod Position
 pub mod Rule
 pub mod Seats
 pub mod WaitSeats

@@ -4,15 +4,15 @@ use Rattle.std.specs.Vec.Iter.{into_iter_items}
 use Rattle.ln_relay.specs.declared.memory.MemorySend.{MemorySend}
 use Rattle.ln_relay.specs.declared.memory.MemoryRecv.{MemoryRecv}
 use Rattle.ln_relay.specs.History.{First, Receiver}
-use Rattle.ln_relay.specs.Place.{Place}
+use Rattle.ln_relay.specs.Position.{Position}
 
 module _ {T : Type 0} where
   -- what was put, oldest first
   abbrev pub kept : MemorySend T → List T
   kept s = s.items.items
 
-  abbrev pub sender_place : MemorySend T → Place (Unit {0})
-  sender_place s = record { relay = tt; room = s.room; seat = First }
+  abbrev pub sender_position : MemorySend T → Position (Unit {0})
+  sender_position s = record { relay = tt; room = s.room; seat = First }
 
   -- what can still be taken
   abbrev pub left : MemoryRecv T → List T
@@ -22,5 +22,5 @@ module _ {T : Type 0} where
   abbrev pub given : MemoryRecv T → List T
   given s = take (length s.all.value.items - length (left s)) s.all.value.items
 
-  abbrev pub receiver_place : MemoryRecv T → Place (Unit {0})
-  receiver_place s = record { relay = tt; room = length s.all.value.items; seat = Receiver }
+  abbrev pub receiver_position : MemoryRecv T → Position (Unit {0})
+  receiver_position s = record { relay = tt; room = length s.all.value.items; seat = Receiver }

@@ -6,7 +6,7 @@ use Rattle.crossbeam_queue.specs.Passes.{view, ruled_capacity}
 use Rattle.ln_relay.specs.declared.seats.SendSeat.{SendSeat}
 use Rattle.ln_relay.specs.declared.seats.RecvSeat.{RecvSeat}
 use Rattle.ln_relay.specs.History.{Receiver}
-use Rattle.ln_relay.specs.Place.{Place}
+use Rattle.ln_relay.specs.Position.{Position}
 use Rattle.ln_relay.specs.Rule.{put_in, taken_in, seat_in}
 
 module _ {T : Type 0} where
@@ -18,15 +18,15 @@ module _ {T : Type 0} where
   abbrev pub taken : RecvSeat T → List T
   taken s = taken_in (view s.pass)
 
-  abbrev pub sender_place : SendSeat T → Place TableId
-  sender_place s = record {
+  abbrev pub sender_position : SendSeat T → Position TableId
+  sender_position s = record {
     relay = s.pass.table_id;
     room = ruled_capacity (arc_value s.line);
     seat = seat_in (view s.pass);
   }
 
-  abbrev pub receiver_place : RecvSeat T → Place TableId
-  receiver_place s = record {
+  abbrev pub receiver_position : RecvSeat T → Position TableId
+  receiver_position s = record {
     relay = s.pass.table_id;
     room = ruled_capacity (arc_value s.line);
     seat = Receiver;

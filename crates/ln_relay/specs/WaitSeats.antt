@@ -8,11 +8,11 @@ use Rattle.crossbeam_channel.specs.declared.flavors.array.Key.{Key}
 use Rattle.ln_relay.specs.declared.waiting_seats.WaitSend.{WaitSend}
 use Rattle.ln_relay.specs.declared.waiting_seats.WaitRecv.{WaitRecv}
 use Rattle.ln_relay.specs.History.{Receiver}
-use Rattle.ln_relay.specs.Place.{Place}
+use Rattle.ln_relay.specs.Position.{Position}
 use Rattle.ln_relay.specs.Rule.{put_in, taken_in, seat_in}
 
 -- what tells one channel from another: the table of its passes, and the key to its messages
-pub record Line (T : Type 0) : Type 0 where
+pub record Queue (T : Type 0) : Type 0 where
   pub table : TableId
   pub key : Badge (Key T)
 
@@ -25,15 +25,15 @@ module _ {T : Type 0} where
   abbrev pub taken : WaitRecv T → List T
   taken s = taken_in (view s.pass)
 
-  abbrev pub sender_place : WaitSend T → Place (Line T)
-  sender_place s = record {
+  abbrev pub sender_position : WaitSend T → Position (Queue T)
+  sender_position s = record {
     relay = record { table = s.pass.table_id; key = s.pass.me.0.of };
     room = ruled_capacity (sends_on s.end);
     seat = seat_in (view s.pass);
   }
 
-  abbrev pub receiver_place : WaitRecv T → Place (Line T)
-  receiver_place s = record {
+  abbrev pub receiver_position : WaitRecv T → Position (Queue T)
+  receiver_position s = record {
     relay = record { table = s.pass.table_id; key = s.pass.me.0.of };
     room = ruled_capacity (receives_on s.end);
     seat = Receiver;

@@ -28,14 +28,14 @@ pub struct MemoryRecv<T: Drop> {
 }
 
 impl<T: Drop> MemorySend<T> {
-    ghost use Rattle.ln_relay.specs.Memory.{kept, sender_place};
+    ghost use Rattle.ln_relay.specs.Memory.{kept, sender_position};
 
     /// A seat with room for so many items. Takes the memory for them.
     ///
     /// Error: where there is no memory.
     pub fn new(alloc: Global, room: usize) -> Result<MemorySend<T>, AllocError>
         ensures begins_empty { IfOk result (λ seat. kept seat ≡ []) }
-        ensures has_this_room { IfOk result (λ seat. (sender_place seat).room ≡ room) }
+        ensures has_this_room { IfOk result (λ seat. (sender_position seat).room ≡ room) }
     {
         let items = Vec::with_capacity(alloc, room)?;
         Ok(MemorySend { items, room })
@@ -51,11 +51,11 @@ impl<T: Drop> MemorySend<T> {
 }
 
 impl<T: Drop> Sends<T> for MemorySend<T> {
-    ghost use Rattle.ln_relay.specs.Memory.{kept, sender_place};
+    ghost use Rattle.ln_relay.specs.Memory.{kept, sender_position};
 
     ghost Relay = { Unit {0} };
 
-    ghost place = { sender_place };
+    ghost position = { sender_position };
 
     ghost put = { kept };
 
@@ -85,11 +85,11 @@ impl<T: Drop> MemoryRecv<T> {
 }
 
 impl<T: Drop> Receives<T> for MemoryRecv<T> {
-    ghost use Rattle.ln_relay.specs.Memory.{given, receiver_place};
+    ghost use Rattle.ln_relay.specs.Memory.{given, receiver_position};
 
     ghost Relay = { Unit {0} };
 
-    ghost place = { receiver_place };
+    ghost position = { receiver_position };
 
     ghost taken = { given };
 

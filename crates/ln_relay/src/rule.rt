@@ -88,4 +88,4 @@ impl<T> Join<Hand<T>> for Together {
     ghost spent = { spent };
 }
 
-pub type Line<T> = RuledArrayQueue<T, Hand<T>, OneMerge>;
+pub type Queue<T> = RuledArrayQueue<T, Hand<T>, OneMerge>;

@@ -5,7 +5,7 @@ ghost use Rattle.crossbeam_queue.specs.Passes.{view, IsPassOf};
 ghost use Rattle.ln_relay.specs.Rule.{is_sender, is_receiver, put_in, taken_in};
 
 use crate::count::one_more;
-use crate::rule::{Hand, Line, Puts, Takes};
+use crate::rule::{Hand, Puts, Queue, Takes};
 use crate::traits::{Receives, Sends};
 use crossbeam_queue::Pass;
 use std::sync::{Arc, Wait};
@@ -13,7 +13,7 @@ use std::sync::{Arc, Wait};
 /// A sender's seat of a relay.
 #[derive(Drop)]
 pub struct SendSeat<T: Drop> {
-    pub(crate) line: Arc<Line<T>>,
+    pub(crate) line: Arc<Queue<T>>,
     pub(crate) pass: Pass<T, Hand<T>>,
     pub(crate) count: u64,
     pub ghost seated: { IsPassOf (arc_value line) pass },
@@ -24,7 +24,7 @@ pub struct SendSeat<T: Drop> {
 /// The receiver's seat of a relay.
 #[derive(Drop)]
 pub struct RecvSeat<T: Drop> {
-    pub(crate) line: Arc<Line<T>>,
+    pub(crate) line: Arc<Queue<T>>,
     pub(crate) pass: Pass<T, Hand<T>>,
     pub(crate) count: u64,
     pub ghost seated: { IsPassOf (arc_value line) pass },
@@ -38,7 +38,7 @@ impl<T: Drop> Sends<T> for SendSeat<T> {
 
     ghost Relay = { TableId };
 
-    ghost place = { seats.sender_place };
+    ghost position = { seats.sender_position };
 
     ghost put = { seats.put };
 
@@ -60,7 +60,7 @@ impl<T: Drop> Receives<T> for RecvSeat<T> {
 
     ghost Relay = { TableId };
 
-    ghost place = { seats.receiver_place };
+    ghost position = { seats.receiver_position };
 
     ghost taken = { seats.taken };
 

@@ -1,7 +1,7 @@
 //! A relay whose receiver may wait.
 ghost use Rattle.std.specs.Prelude.{◌≡◌, ◌≤◌, [], IfOk};
-ghost use Rattle.ln_relay.specs.Place.{AreSeatsOfOne, AreCounts, IsMergeOfAll};
-ghost use Rattle.ln_relay.specs.WaitSeats.{put, taken, sender_place, receiver_place};
+ghost use Rattle.ln_relay.specs.Position.{AreSeatsOfOne, AreCounts, IsMergeOfAll};
+ghost use Rattle.ln_relay.specs.WaitSeats.{put, taken, sender_position, receiver_position};
 
 use crate::finished::Finished;
 use crate::rule::{Hand, OneMerge, ReceiverOut, SecondOut, Takes, Together};
@@ -19,11 +19,11 @@ pub fn waiting_relay<T: Drop>(
 ) -> Result<(WaitSend<T>, WaitSend<T>, WaitRecv<T>), AllocError>
     requires capacity_is_allowed { (1 ≤ capacity) × (capacity ≤ 65536) }
     ensures seats_of_one_relay { IfOk result (λ seats.
-        AreSeatsOfOne (sender_place seats.0) (sender_place seats.1) (receiver_place seats.2)) }
+        AreSeatsOfOne (sender_position seats.0) (sender_position seats.1) (receiver_position seats.2)) }
     ensures all_begin_empty { IfOk result (λ seats. (put seats.0 ≡ []) × (put seats.1 ≡ []) × (taken seats.2 ≡ [])) }
-    ensures has_the_capacity { IfOk result (λ seats. (sender_place seats.0).room ≡ capacity) }
-    ensures room_of_second { IfOk result (λ seats. (sender_place seats.1).room ≡ capacity) }
-    ensures room_of_receiver { IfOk result (λ seats. (receiver_place seats.2).room ≡ capacity) }
+    ensures has_the_capacity { IfOk result (λ seats. (sender_position seats.0).room ≡ capacity) }
+    ensures room_of_second { IfOk result (λ seats. (sender_position seats.1).room ≡ capacity) }
+    ensures room_of_receiver { IfOk result (λ seats. (receiver_position seats.2).room ≡ capacity) }
 {
     let (end, taking, mut pass) = bounded_with::<T, Hand<T>, OneMerge, Global>(alloc, capacity)?;
     let second_pass = end.another::<SecondOut>(&mut pass);
@@ -58,7 +58,7 @@ pub fn finish_waiting<T: Drop>(
     second: WaitSend<T>,
     receiver: WaitRecv<T>,
 ) -> Finished
-    requires of_one { AreSeatsOfOne (sender_place first) (sender_place second) (receiver_place receiver) }
+    requires of_one { AreSeatsOfOne (sender_position first) (sender_position second) (receiver_position receiver) }
     ensures counts_are_of_the_seats { AreCounts result (put first) (put second) (taken receiver) }
     ensures merge { IsMergeOfAll (put first) (put second) (taken receiver) }
 {

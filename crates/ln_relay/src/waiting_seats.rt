@@ -38,9 +38,9 @@ pub struct WaitRecv<T: Drop> {
 impl<T: Drop> Sends<T> for WaitSend<T> {
     ghost use Rattle.ln_relay.specs.WaitSeats as seats;
 
-    ghost Relay = { seats.Line T };
+    ghost Relay = { seats.Queue T };
 
-    ghost place = { seats.sender_place };
+    ghost position = { seats.sender_position };
 
     ghost put = { seats.put };
 
@@ -64,9 +64,9 @@ impl<T: Drop> Sends<T> for WaitSend<T> {
 impl<T: Drop> Receives<T> for WaitRecv<T> {
     ghost use Rattle.ln_relay.specs.WaitSeats as seats;
 
-    ghost Relay = { seats.Line T };
+    ghost Relay = { seats.Queue T };
 
-    ghost place = { seats.receiver_place };
+    ghost position = { seats.receiver_position };
 
     ghost taken = { seats.taken };
 

@@ -8,9 +8,9 @@ use Rattle.ln_msgs.specs.Refusals.RefusalText.{refusal_text}
 use Rattle.ln_hooks.specs.declared.verdict.FailureCode.TheVariants as failure
 use Rattle.ln_hooks.specs.declared.verdict.Verdict.{Verdict}
 use Rattle.ln_hooks.specs.declared.verdict.Verdict.TheVariants as verdict
-use Rattle.ln_channel.specs.declared.standing.Life.{Life}
-use Rattle.ln_channel.specs.declared.standing.Life.TheVariants as life
-use Rattle.ln_channel.specs.declared.standing.Standing.{Standing}
+use Rattle.ln_channel.specs.declared.summary.Life.{Life}
+use Rattle.ln_channel.specs.declared.summary.Life.TheVariants as life
+use Rattle.ln_channel.specs.declared.summary.Summary.{Summary}
 use Rattle.ln_channels.specs.declared.step.End.{End}
 use Rattle.ln_channels.specs.declared.step.Node.{Node}
 use Rattle.ln_channels.specs.declared.line.Word.{Word}
@@ -143,16 +143,16 @@ life_text (life.Closed fee) = with_number (codes "closed") fee
 life_text (life.Failed why) = with_number (codes "failed") (refusal_number why)
 
 -- the own updates that its last signature covers, and the own ones and the peer's that it holds as committed
-abbrev pub counts_text : Standing → List ℕ
+abbrev pub counts_text : Summary → List ℕ
 counts_text s =
     codes " signed " ++ (decimal s.signed ++ (codes " committed " ++ (decimal s.own_held
     ++ (codes " peer " ++ decimal s.peer_held))))
 
 -- both balances in msat, how many HTLCs are live, and how far the channel is
-abbrev pub worth_text : Standing → List ℕ
+abbrev pub worth_text : Summary → List ℕ
 worth_text s =
     codes " balance " ++ (decimal s.own ++ (codes "/" ++ (decimal s.peer ++ (codes " live " ++ (decimal s.live
     ++ (codes " " ++ life_text s.life))))))
 
 abbrev pub end_line_text : EndLine → List ℕ
-end_line_text l = end_text l.end ++ (counts_text l.standing ++ worth_text l.standing)
+end_line_text l = end_text l.end ++ (counts_text l.summary ++ worth_text l.summary)

@@ -6,7 +6,7 @@ ghost use Rattle.ln_script.specs.LineText.{settled_text, closed_text, line_text,
 ghost use Rattle.ln_script.specs.LineText.{event_text, refused_text, restarts_text, end_line_text, with_number};
 ghost use Rattle.ln_script.specs.LineText.{verdict_text, dispatched_text, code_text, choice_text, decided_text};
 
-use ln_channel::{Life, Standing};
+use ln_channel::{Life, Summary};
 use ln_hooks::{FailureCode, Verdict};
 use ln_msgs::Refusal;
 use ln_world::{Choice, End, EndLine, Ending, Line, Node, Word};
@@ -253,24 +253,24 @@ fn put_life(text: &mut String, life: Life) -> Result<(), AllocError>
 }
 
 /// The own updates that the last signature covers, and the own ones and the peer's that are held as committed.
-fn put_counts(text: &mut String, standing: &Standing) -> Result<(), AllocError>
-    ensures { OnOk result (string_bytes text.new ≡ string_bytes text.old ++ counts_text standing.now) }
+fn put_counts(text: &mut String, summary: &Summary) -> Result<(), AllocError>
+    ensures { OnOk result (string_bytes text.new ≡ string_bytes text.old ++ counts_text summary.now) }
 {
-    let signed = standing.signed;
-    let committed = standing.own_held;
-    let peer = standing.peer_held;
+    let signed = summary.signed;
+    let committed = summary.own_held;
+    let peer = summary.peer_held;
     write!(text, " signed {signed} committed {committed} peer {peer}")
 }
 
 /// Both balances in msat, how many HTLCs are live, and how far the channel is.
-fn put_worth(text: &mut String, standing: &Standing) -> Result<(), AllocError>
-    ensures { OnOk result (string_bytes text.new ≡ string_bytes text.old ++ worth_text standing.now) }
+fn put_worth(text: &mut String, summary: &Summary) -> Result<(), AllocError>
+    ensures { OnOk result (string_bytes text.new ≡ string_bytes text.old ++ worth_text summary.now) }
 {
-    let own = standing.own;
-    let peer = standing.peer;
-    let live = standing.live;
+    let own = summary.own;
+    let peer = summary.peer;
+    let live = summary.live;
     write!(text, " balance {own}/{peer} live {live} ")?;
-    put_life(text, standing.life)
+    put_life(text, summary.life)
 }
 
 /// How an end stands. Takes memory for the text.
@@ -278,6 +278,6 @@ pub(crate) fn put_end_line(text: &mut String, line: &EndLine) -> Result<(), Allo
     ensures { OnOk result (string_bytes text.new ≡ string_bytes text.old ++ end_line_text line.now) }
 {
     put_end(text, line.end)?;
-    put_counts(text, &line.standing)?;
-    put_worth(text, &line.standing)
+    put_counts(text, &line.summary)?;
+    put_worth(text, &line.summary)
 }

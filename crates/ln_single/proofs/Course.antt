@@ -31,8 +31,8 @@ use Rattle.ln_channel.specs.declared.command.Command.{Command}
 use Rattle.ln_channel.specs.declared.config.Config.{Config}
 use Rattle.ln_channel.specs.declared.config.OpenSpec.{OpenSpec}
 use Rattle.ln_channel.specs.declared.opening.Terms.{Terms}
-use Rattle.ln_channel.specs.declared.unsaved.Line.{Line}
-use Rattle.ln_channel.specs.declared.unsaved.Line.TheVariants.{Down, Met}
+use Rattle.ln_channel.specs.declared.unsaved.LineState.{LineState}
+use Rattle.ln_channel.specs.declared.unsaved.LineState.TheVariants.{Down, Met}
 use Rattle.ln_channel.specs.declared.unsaved.Stage.{Stage}
 use Rattle.ln_channel.specs.declared.unsaved.Stage.TheVariants as stage
 use Rattle.ln_channel.specs.Config.{IsFitConfig, fees_of, offered}
@@ -285,7 +285,7 @@ module _ (k : Signer) (keys : AreKeys k) where
 
   -- ---- the opening
 
-  replied_lasts : {A M : Type 0} (l : Line) (to : A → Stage) (by : M → Message) (f : Option Refusal) (x : A × M)
+  replied_lasts : {A M : Type 0} (l : LineState) (to : A → Stage) (by : M → Message) (f : Option Refusal) (x : A × M)
       → OtherFault f → (f ≡ None → StageLasts k (to x.0) × IsMessage (by x.1))
       → DoneLasts (replied l to by (unless f x))
   replied_lasts l to by None x other h = let both = h refl in (both.0, (both.1, tt))
@@ -313,7 +313,7 @@ module _ (k : Signer) (keys : AreKeys k) where
         peer_script = refl;
       }
 
-  open_lasts : (l : Line) (m : OpenChannel) (s : Stage) → IsMessage (message.OpenChannel m) → StageLasts k s
+  open_lasts : (l : LineState) (m : OpenChannel) (s : Stage) → IsMessage (message.OpenChannel m) → StageLasts k s
       → DoneLasts (open_at k l m s)
   open_lasts l m (stage.AwaitsOpen c) is h =
       replied_lasts l stage.AwaitsCreated message.AcceptChannel (open_fault c m) (agreement k c m, accept_message k c m)
@@ -349,7 +349,7 @@ module _ (k : Signer) (keys : AreKeys k) where
         peer_script = refl;
       }
 
-  accept_lasts : (l : Line) (m : AcceptChannel) (s : Stage) → IsMessage (message.AcceptChannel m) → StageLasts k s
+  accept_lasts : (l : LineState) (m : AcceptChannel) (s : Stage) → IsMessage (message.AcceptChannel m) → StageLasts k s
       → DoneLasts (accept_at k l m s)
   accept_lasts l m (stage.AwaitsAccept s) is h =
       replied_lasts l (λ o. stage.AwaitsSigned (end_of o)) message.FundingCreated (accept_fault s m)
@@ -365,8 +365,8 @@ module _ (k : Signer) (keys : AreKeys k) where
   accept_lasts l m (stage.Saved c) is h = refl
   accept_lasts l m stage.Gone is h = refl
 
-  created_lasts : (l : Line) (m : FundingCreated) (s : Stage) → IsMessage (message.FundingCreated m) → StageLasts k s
-      → DoneLasts (created_at k l m s)
+  created_lasts : (l : LineState) (m : FundingCreated) (s : Stage) → IsMessage (message.FundingCreated m)
+      → StageLasts k s → DoneLasts (created_at k l m s)
   created_lasts l m (stage.AwaitsCreated a) is h =
       let txid = (what funding_created_form (funding_created_wire m) refl is).formed.values.1.0 in
       let id = id_length m.funding_txid m.output_index txid in
@@ -388,7 +388,7 @@ module _ (k : Signer) (keys : AreKeys k) where
   unless_lasts None d other h g = (h, g)
   unless_lasts (Some r) d other h g = other
 
-  signed_lasts : (l : Line) (m : FundingSigned) (s : Stage) → StageLasts k s → DoneLasts (signed_at k l m s)
+  signed_lasts : (l : LineState) (m : FundingSigned) (s : Stage) → StageLasts k s → DoneLasts (signed_at k l m s)
   signed_lasts l m (stage.AwaitsSigned e) h =
       unless_lasts (first_fault k e.dance m.signature) (record { line = l; stage = stage.Saved e; outputs = [] })
       (wrong_other k e.dance m.signature) h tt
@@ -398,7 +398,8 @@ module _ (k : Signer) (keys : AreKeys k) where
   signed_lasts l m (stage.Saved c) h = refl
   signed_lasts l m stage.Gone h = refl
 
-  opening_lasts : (l : Line) (m : Message) (s : Stage) → IsMessage m → StageLasts k s → DoneLasts (opening_at k l m s)
+  opening_lasts : (l : LineState) (m : Message) (s : Stage) → IsMessage m → StageLasts k s
+      → DoneLasts (opening_at k l m s)
   opening_lasts l (message.OpenChannel m) s is h = open_lasts l m s is h
   opening_lasts l (message.AcceptChannel m) s is h = accept_lasts l m s is h
   opening_lasts l (message.FundingCreated m) s is h = created_lasts l m s is h
@@ -422,7 +423,7 @@ module _ (k : Signer) (keys : AreKeys k) where
 
   -- ---- an open channel
 
-  turned_lasts : (o : Origin) (l : Line) (r : Result Turn Refusal) → IsOrigin o → AnswerFits k o r
+  turned_lasts : (o : Origin) (l : LineState) (r : Result Turn Refusal) → IsOrigin o → AnswerFits k o r
       → AnswerKeeps k keys r → DoneLasts (turned l r)
   turned_lasts o l (Ok t) is fits h = (
     record { origin = o; is = is; fits = fits.0; more = h.0 },
@@ -455,7 +456,7 @@ module _ (k : Signer) (keys : AreKeys k) where
   again_lasts (message.UpdateFee m) e h = refl
   again_lasts (message.UpdateFailMalformedHtlc m) e h = refl
 
-  taken_lasts : (l : Line) (m : Message) (e : End) → IsMessage m → Lasts e → DoneLasts (turned l (taken k m e))
+  taken_lasts : (l : LineState) (m : Message) (e : End) → IsMessage m → Lasts e → DoneLasts (turned l (taken k m e))
   taken_lasts l m e is h =
       let fits = row_fits k h.origin m e (carries m is) h.fits in
       let row = message_row k m e in
@@ -463,7 +464,7 @@ module _ (k : Signer) (keys : AreKeys k) where
       (completes_keeps k keys h.origin row h.is fits
       (row_keeps k keys m e is (terms_of h.origin e h.is h.fits) h.more))
 
-  stage_lasts : (l : Line) (m : Message) (s : Stage) → IsMessage m → StageLasts k s → DoneLasts (stage_row k l m s)
+  stage_lasts : (l : LineState) (m : Message) (s : Stage) → IsMessage m → StageLasts k s → DoneLasts (stage_row k l m s)
   stage_lasts l m (stage.Saved e) is h =
       either (is_met l) (turned l (taken k m e)) (awaiting_at k m e) (taken_lasts l m e is h) (again_lasts m e h)
   stage_lasts l m (stage.AwaitsOpen c) is h = opening_lasts l m (stage.AwaitsOpen c) is h
@@ -472,7 +473,7 @@ module _ (k : Signer) (keys : AreKeys k) where
   stage_lasts l m (stage.AwaitsSigned c) is h = opening_lasts l m (stage.AwaitsSigned c) is h
   stage_lasts l m stage.Gone is h = opening_lasts l m stage.Gone is h
 
-  hand_lasts : (l : Line) (m : Message) (s : Stage) → IsMessage m → StageLasts k s → DoneLasts (at_hand k l m s)
+  hand_lasts : (l : LineState) (m : Message) (s : Stage) → IsMessage m → StageLasts k s → DoneLasts (at_hand k l m s)
   hand_lasts l m s is h =
       either (is_passed_over s m) (Ok (record { line = l; stage = s; outputs = [] })) _ (h, tt)
       (faulted_lasts (message_fault l s m) (stage_row k l m s) (message_other l s m) (stage_lasts l m s is h))
@@ -493,7 +494,7 @@ module _ (k : Signer) (keys : AreKeys k) where
 
   -- ---- commands
 
-  note_lasts : (l : Line) (c : Command) (e : End) → IsCommand c → Lasts e → DoneLasts (turned l (note_row c e))
+  note_lasts : (l : LineState) (c : Command) (e : End) → IsCommand c → Lasts e → DoneLasts (turned l (note_row c e))
   note_lasts l c e wide h =
       by (ledgered c e) (not_ready c e) (noted_fits h.origin c e wide h.fits)
       (noted_steady e (ledger_behind (ledgered c e) e.ledger) (noted_behind c e) h.more.steady)
@@ -518,13 +519,13 @@ module _ (k : Signer) (keys : AreKeys k) where
       )
       by (Err r) other fits steady = ap (λ x. refusal_number x == 70) other
 
-  obeyed_lasts : (l : Line) (c : Command) (e : End) → IsCommand c → Lasts e → DoneLasts (obeyed_open k l c e)
+  obeyed_lasts : (l : LineState) (c : Command) (e : End) → IsCommand c → Lasts e → DoneLasts (obeyed_open k l c e)
   obeyed_lasts l c e wide h =
       faulted_lasts (unready_fault c e) _ (unready_other c e) (faulted_lasts (line_fault l) _ (line_other l)
       (turned_lasts h.origin l (command_row k c e) h.is (command_fits k h.origin c e wide h.fits)
       (command_keeps k keys c e wide (terms_of h.origin e h.is h.fits) h.more)))
 
-  obeys : (l : Line) (c : Command) (s : Stage) → IsCommand c → StageLasts k s → DoneLasts (obeyed k l c s)
+  obeys : (l : LineState) (c : Command) (s : Stage) → IsCommand c → StageLasts k s → DoneLasts (obeyed k l c s)
   obeys l c (stage.Saved e) wide h = obeyed_lasts l c e wide h
   obeys l c (stage.AwaitsOpen x) wide h = refl
   obeys l c (stage.AwaitsAccept x) wide h = refl
@@ -532,7 +533,7 @@ module _ (k : Signer) (keys : AreKeys k) where
   obeys l c (stage.AwaitsSigned x) wide h = refl
   obeys l c stage.Gone wide h = refl
 
-  notes : (l : Line) (c : Command) (s : Stage) → IsCommand c → StageLasts k s → DoneLasts (noted l c s)
+  notes : (l : LineState) (c : Command) (s : Stage) → IsCommand c → StageLasts k s → DoneLasts (noted l c s)
   notes l c (stage.Saved e) wide h = note_lasts l c e wide h
   notes l c (stage.AwaitsOpen x) wide h = refl
   notes l c (stage.AwaitsAccept x) wide h = refl

@@ -7,7 +7,7 @@ use Rattle.ln_msgs.specs.declared.refusals.refusal.Refusal.TheVariants as refusa
 use Rattle.ln_keys.specs.Signer.{Signer}
 use Rattle.ln_channel.specs.declared.command.Command as command
 use Rattle.ln_channel.specs.declared.output.Output.{Output}
-use Rattle.ln_channel.specs.declared.unsaved.Line.TheVariants.{Down}
+use Rattle.ln_channel.specs.declared.unsaved.LineState.TheVariants.{Down}
 use Rattle.ln_channel.specs.declared.unsaved.Stage.{Stage}
 use Rattle.ln_channel.specs.declared.unsaved.Stage.TheVariants as stage
 use Rattle.ln_channel.specs.Failing.{fails}

@@ -46,7 +46,7 @@ use Rattle.ln_channel.specs.declared.command.Command.{Command}
 use Rattle.ln_channel.specs.declared.command.Command.TheVariants as command
 use Rattle.ln_channel.specs.declared.config.Config.{Config}
 use Rattle.ln_channel.specs.declared.config.OpenSpec.{OpenSpec}
-use Rattle.ln_channel.specs.declared.unsaved.Line.{Line}
+use Rattle.ln_channel.specs.declared.unsaved.LineState.{LineState}
 use Rattle.ln_channel.specs.declared.unsaved.Stage.{Stage}
 use Rattle.ln_channel.specs.Config.{offered}
 use Rattle.ln_channel.specs.Naming.{named, is_other}
@@ -277,7 +277,7 @@ unready_other command.Sign e = unready_by e
 unready_other (command.Decide event mark) e = unready_by e
 unready_other (command.Forget id) e = unready_by e
 
-pub line_other : (l : Line) → OtherFault (line_fault l)
+pub line_other : (l : LineState) → OtherFault (line_fault l)
 line_other l = one_not (is_met l) refusal.Disconnected refl
 
 -- ---- closing fees
@@ -365,7 +365,7 @@ error_other (message.UpdateFee m) = tt
 error_other (message.UpdateFailMalformedHtlc m) = tt
 error_other (message.ChannelReestablish m) = tt
 
-pub message_other : (l : Line) (s : Stage) (m : Message) → OtherFault (message_fault l s m)
+pub message_other : (l : LineState) (s : Stage) (m : Message) → OtherFault (message_fault l s m)
 message_other l s m =
     first (error_fault m) (stray_fault l s m) (error_other m)
     (if_so (is_other (named m) s) refusal.UnknownChannel (cond (is_down l) (Some refusal.OutOfPlace) None) refl

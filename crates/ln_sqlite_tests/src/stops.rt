@@ -32,7 +32,7 @@ enum Found {
 
 /// What a save answers where a file fails from some call on.
 #[derive(Clone, Copy, Debug, PartialEq, Eq)]
-enum Answer {
+enum Said {
     NotOpened,
     Saved,
     Refused,
@@ -53,16 +53,16 @@ fn found_in(alloc: Global, image: &Image, case: &Case) -> Result<Found, Refusal>
     Ok(Found::Other)
 }
 
-fn answered(refusal: Option<Refusal>) -> Answer {
+fn answered(refusal: Option<Refusal>) -> Said {
     match refusal {
-        None => Answer::Saved,
-        Some(Refusal::Store) => Answer::Refused,
-        Some(_) => Answer::OtherwiseRefused,
+        None => Said::Saved,
+        Some(Refusal::Store) => Said::Refused,
+        Some(_) => Said::OtherwiseRefused,
     }
 }
 
 /// What the save answers, and the files behind it.
-fn tried(alloc: Global, files: Files<Fuse<Memory>>, case: &Case) -> (Answer, Files<Fuse<Memory>>)
+fn tried(alloc: Global, files: Files<Fuse<Memory>>, case: &Case) -> (Said, Files<Fuse<Memory>>)
     requires log { IsFresh files.log × IsTrue (memory_is_usable (inner_of files.log)) }
     requires db { IsFresh files.db × IsTrue (memory_is_usable (inner_of files.db)) }
 {
@@ -71,7 +71,7 @@ fn tried(alloc: Global, files: Files<Fuse<Memory>>, case: &Case) -> (Answer, Fil
             let refusal = case.save.save(alloc, &mut store).err();
             (answered(refusal), files_under(store))
         }
-        Err(files) => (Answer::NotOpened, files),
+        Err(files) => (Said::NotOpened, files),
     }
 }
 
@@ -82,7 +82,7 @@ fn stopped(
     image: &Image,
     stop: Stop,
     case: &Case,
-) -> Result<(Answer, Found, Found), Refusal> {
+) -> Result<(Said, Found, Found), Refusal> {
     let (answer, mut files) = tried(alloc, with_fuses(image.files(alloc)?, stop), case);
     let written = Image::of(alloc, files.log.inner(), files.db.inner())?;
     files.log.crash();
@@ -97,12 +97,12 @@ fn stopped(
 
 /// Whether a stop has left what it may: a store whose open was stopped or whose save has failed has the old records or
 /// the new ones, and one whose save has answered Ok the new ones, with and without what wasn't synced.
-fn is_lawful(told: (Answer, Found, Found)) -> bool {
+fn is_lawful(told: (Said, Found, Found)) -> bool {
     match told {
-        (Answer::NotOpened, synced, kept) => synced == Found::Old && kept == Found::Old,
-        (Answer::Refused, synced, kept) => synced != Found::Other && kept != Found::Other,
-        (Answer::Saved, synced, kept) => synced == Found::New && kept == Found::New,
-        (Answer::OtherwiseRefused, _, _) => false,
+        (Said::NotOpened, synced, kept) => synced == Found::Old && kept == Found::Old,
+        (Said::Refused, synced, kept) => synced != Found::Other && kept != Found::Other,
+        (Said::Saved, synced, kept) => synced == Found::New && kept == Found::New,
+        (Said::OtherwiseRefused, _, _) => false,
     }
 }
 
@@ -152,7 +152,7 @@ fn stops(
         if !is_lawful(told) {
             return Ok((more, Some(calls)));
         }
-        if told.0 == Answer::Saved {
+        if told.0 == Said::Saved {
             return Ok((more, None));
         }
     }

@@ -2,7 +2,7 @@
 //! comes back from what its store has, and the payment is completed, with each update once, or the channel closed. Over
 //! records in memory, and over databases.
 
-use crate::places::{Place, are_closed, closes, is_paid, meet, pays};
+use crate::players::{Player, are_closed, closes, is_paid, meet, pays};
 use ln_keys::Role;
 use ln_msgs::Refusal;
 use ln_sqlite::SqliteStore;
@@ -15,8 +15,8 @@ use std::alloc::Global;
 /// then, and whether its record is the same as before or a new one; and what both ends send as it comes back.
 fn came_back<S: RecordStore + Drop>(
     alloc: Global,
-    x: &mut Place<S>,
-    y: &mut Place<S>,
+    x: &mut Player<S>,
+    y: &mut Player<S>,
     stop: u32,
 ) -> Result<String, Refusal> {
     let (code, failures, same) = x.stopped(alloc)?;
@@ -40,8 +40,8 @@ enum Play {
 fn goes_on<S: RecordStore + Drop>(
     alloc: Global,
     play: Play,
-    a: &mut Place<S>,
-    b: &mut Place<S>,
+    a: &mut Player<S>,
+    b: &mut Player<S>,
     story: &mut String,
 ) -> Result<(), Refusal> {
     match play {
@@ -54,8 +54,8 @@ fn goes_on<S: RecordStore + Drop>(
 fn outcome<S: RecordStore + Drop>(
     alloc: Global,
     play: Play,
-    a: &Place<S>,
-    b: &Place<S>,
+    a: &Player<S>,
+    b: &Player<S>,
 ) -> Result<&'static str, Refusal> {
     let (done, words) = match play {
         Play::Payment => (is_paid(alloc, a, b)?, ("paid", "not paid")),
@@ -68,8 +68,8 @@ fn outcome<S: RecordStore + Drop>(
 fn told<S: RecordStore + Drop>(
     alloc: Global,
     play: Play,
-    a: &mut Place<S>,
-    b: &mut Place<S>,
+    a: &mut Player<S>,
+    b: &mut Player<S>,
     at: Role,
 ) -> Result<String, Refusal> {
     played(alloc, &mut a.side, &mut b.side)?;
@@ -93,9 +93,9 @@ fn told_of_new<S: RecordStore + Drop>(
     of_b: S,
 ) -> Result<String, Refusal> {
     let a = funder_side(alloc, of_a)?;
-    let mut a = boxed(alloc, Place::new(alloc, "A", FUNDER, a))?;
+    let mut a = boxed(alloc, Player::new(alloc, "A", FUNDER, a))?;
     let b = fundee_side(alloc, of_b)?;
-    let mut b = boxed(alloc, Place::new(alloc, "B", FUNDEE, b))?;
+    let mut b = boxed(alloc, Player::new(alloc, "B", FUNDEE, b))?;
     told(alloc, play, &mut a, &mut b, at)
 }
 

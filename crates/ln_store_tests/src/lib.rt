@@ -9,6 +9,6 @@ pub use same::is_same;
 #[cfg(test)]
 mod failing_saves;
 #[cfg(test)]
-mod places;
+mod players;
 #[cfg(test)]
 mod reopened;

@@ -1,6 +1,6 @@
 //! A channel whose ends keep their records in files: both processes end, the files are opened again, and it goes on.
 
-use crate::places::{Place, is_paid, meet, pays, signs, tells};
+use crate::players::{Player, is_paid, meet, pays, signs, tells};
 use ln_channel::Command;
 use ln_keys::ToyKeys;
 use ln_link::Link;
@@ -33,8 +33,8 @@ fn paid<S: RecordStore + Drop>(alloc: Global, of_a: S, of_b: S) -> Result<bool, 
     let mut a = funder_side(alloc, of_a)?;
     let mut b = fundee_side(alloc, of_b)?;
     played(alloc, &mut a, &mut b)?;
-    let mut a = boxed(alloc, Place::new(alloc, "A", FUNDER, a))?;
-    let mut b = boxed(alloc, Place::new(alloc, "B", FUNDEE, b))?;
+    let mut a = boxed(alloc, Player::new(alloc, "A", FUNDER, a))?;
+    let mut b = boxed(alloc, Player::new(alloc, "B", FUNDEE, b))?;
     pays(alloc, &mut a, &mut b, &mut String::new(alloc))?;
     is_paid(alloc, &a, &b)
 }
@@ -61,9 +61,9 @@ fn again<S: RecordStore + Drop>(
     name: &'static str,
     keys: ToyKeys,
     mut store: S,
-) -> Result<Box<Place<S>>, Refusal> {
+) -> Result<Box<Player<S>>, Refusal> {
     match loaded(alloc, keys, &mut store) {
-        Ok(link) => boxed(alloc, Place::new(alloc, name, keys, Side { link, store })),
+        Ok(link) => boxed(alloc, Player::new(alloc, name, keys, Side { link, store })),
         Err(refusal) => {
             drop(store);
             Err(refusal)
@@ -85,7 +85,7 @@ fn goes_on<S: RecordStore + Drop>(
     let paid = is_paid(alloc, &a, &b)?;
     tells(alloc, &mut a, &mut b, "fee", Command::Fee(300), &mut story)?;
     signs(alloc, &mut a, &mut b, &mut story)?;
-    Ok((paid, a.standing(alloc)?.signed))
+    Ok((paid, a.summary(alloc)?.signed))
 }
 
 #[test]

@@ -15,7 +15,7 @@ use Rattle.ln_tables.specs.declared.htlc.Way.TheVariants as way
 use Rattle.ln_tables.specs.declared.htlc.Back.{Back}
 use Rattle.ln_tables.specs.declared.htlc.Back.TheVariants as back
 use Rattle.ln_tables.specs.declared.htlc.Htlc.{Htlc}
-use Rattle.ln_tables.specs.declared.entry.Line.{Line}
+use Rattle.ln_tables.specs.declared.entry.OutgoingChannel.{OutgoingChannel}
 use Rattle.ln_tables.specs.declared.entry.Invoice.{Invoice}
 use Rattle.ln_tables.specs.declared.entry.Queued.{Queued}
 use Rattle.ln_tables.specs.declared.entry.Decided.{Decided}
@@ -30,7 +30,7 @@ use Rattle.ln_history.specs.History.{History}
 
 -- What a book says. A channel is its id, in 32 bytes; a short channel id is its eight bytes.
 pub record Table : Type 0 where
-  pub routes : List (List ℕ × Line)
+  pub routes : List (List ℕ × OutgoingChannel)
   pub used : List (List ℕ × Bool)
   pub height : ℕ
   pub expected : List (List ℕ × Invoice)  -- by payment hash
@@ -79,7 +79,7 @@ left_out p xs = filter (λ x. not (p x)) xs
 
 -- ---- settings: the later one takes the earlier one's place
 
-abbrev pub with_route : List ℕ → Line → Table → Table
+abbrev pub with_route : List ℕ → OutgoingChannel → Table → Table
 with_route id l t = record t { routes = insert_entry same t.routes id l }
 
 abbrev pub with_use : List ℕ → Bool → Table → Table

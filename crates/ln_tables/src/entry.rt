@@ -8,7 +8,7 @@ use std::marker::Model;
 
 /// A channel that payments are forwarded by.
 #[derive(Clone, Copy, PartialEq, Eq)]
-pub struct Line {
+pub struct OutgoingChannel {
     /// The channel.
     pub channel: ChannelId,
     /// What the node asks for it.
@@ -121,7 +121,7 @@ pub struct Told {
 #[derive(Drop)]
 pub enum Entry {
     /// A short channel id, in its eight bytes, names this channel.
-    Route([u8; 8], Line),
+    Route([u8; 8], OutgoingChannel),
     /// Whether a channel takes payments.
     Use(ChannelId, bool),
     /// The block height.

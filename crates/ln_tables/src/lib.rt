@@ -10,6 +10,6 @@ mod lost;
 mod tables;
 
 pub use copy::{copied, copy_how, copy_mark};
-pub use entry::{Decided, Desk, Entry, Ids, Invoice, Line, Out, Queued, Told};
+pub use entry::{Decided, Desk, Entry, Ids, Invoice, Out, OutgoingChannel, Queued, Told};
 pub use htlc::{Back, Htlc, Key, Offer, Way};
 pub use tables::Tables;

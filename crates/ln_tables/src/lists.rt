@@ -134,7 +134,7 @@ impl Htlc {
 
 // The place of the first HTLC that is meant. One search for each kind of test, so that none asks for the kind again at
 // each HTLC.
-fn place_of(htlcs: &[Htlc], which: &Which) -> Option<usize>
+fn index_of(htlcs: &[Htlc], which: &Which) -> Option<usize>
     ensures { result ≡ position (picks which.now) htlcs.now }
 {
     let mut all = htlcs.iter();
@@ -153,7 +153,7 @@ fn place_of(htlcs: &[Htlc], which: &Which) -> Option<usize>
 pub(crate) fn change_first(htlcs: &mut Vec<Htlc>, which: &Which, change: Change)
     ensures { htlcs.new.items ≡ changed_first (picks which.now) (changed_by change) htlcs.old.items }
 {
-    match place_of(htlcs.as_slice(), which) {
+    match index_of(htlcs.as_slice(), which) {
         None => drop(change),
         Some(place) => {
             let htlc = &mut htlcs[place];
@@ -167,7 +167,7 @@ pub(crate) fn leave_out(htlcs: &mut Vec<Htlc>, which: &Which)
     ensures left { htlcs.new.items ≡ left_out (picks which.now) htlcs.old.items }
     ensures room { (vec_capacity htlcs.new ≡ vec_capacity htlcs.old) × (vec_len htlcs.new ≤ vec_len htlcs.old) }
 {
-    match place_of(htlcs.as_slice(), which) {
+    match index_of(htlcs.as_slice(), which) {
         None => {}
         Some(_) => retain_others(htlcs, which),
     }
@@ -200,7 +200,7 @@ pub(crate) fn leave_out_undecided(htlcs: &mut Vec<Htlc>, key: &Key) -> bool
     ensures room { (vec_capacity htlcs.new ≡ vec_capacity htlcs.old) × (vec_len htlcs.new ≤ vec_len htlcs.old) }
 {
     let which = Which::Htlc(*key);
-    match place_of(htlcs.as_slice(), &which) {
+    match index_of(htlcs.as_slice(), &which) {
         None => false,
         Some(_) => {
             if is_any_decided(htlcs.as_slice(), key) {

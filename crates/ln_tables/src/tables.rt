@@ -1,6 +1,6 @@
 //! What a book says, as it is kept.
 
-use crate::entry::{Decided, Desk, Invoice, Line, Out, Queued, Told};
+use crate::entry::{Decided, Desk, Invoice, Out, OutgoingChannel, Queued, Told};
 use crate::htlc::{Back, Htlc, Key, Way};
 use crate::lists::{Change, Which, change_first, leave_out, leave_out_undecided, unqueue};
 use crate::lost::put_back_all;
@@ -15,7 +15,7 @@ use std::marker::Model;
 /// What a book says. Contracts see it as a `Table` of specs/Replay.antt.
 #[derive(Drop)]
 pub struct Tables {
-    routes: IndexMap<[u8; 8], Line>,
+    routes: IndexMap<[u8; 8], OutgoingChannel>,
     used: IndexMap<ChannelId, bool>,
     height: u32,
     expected: IndexMap<[u8; 32], Invoice>,
@@ -62,12 +62,12 @@ impl Tables {
     }
 
     /// A short channel id names a channel. Error: 60, which changes nothing.
-    pub fn set_route(&mut self, id: [u8; 8], line: Line) -> Result<(), Refusal>
-        ensures done { OnOk result (self.new ≡ with_route id line self.old) }
+    pub fn set_route(&mut self, id: [u8; 8], outgoing: OutgoingChannel) -> Result<(), Refusal>
+        ensures done { OnOk result (self.new ≡ with_route id outgoing self.old) }
         ensures changes_nothing_if_refused { OnErr result (self.new ≡ self.old) }
         ensures fails_for_memory_alone { IfErr result (λ r. r ≡ Refusal.Memory) }
     {
-        match self.routes.insert(id, line) {
+        match self.routes.insert(id, outgoing) {
             Ok(_) => Ok(()),
             Err(_) => Err(Refusal::Memory),
         }
@@ -122,7 +122,7 @@ impl Tables {
     }
 
     /// The channel that a short channel id names.
-    pub fn route(&self, id: &[u8; 8]) -> Option<&Line>
+    pub fn route(&self, id: &[u8; 8]) -> Option<&OutgoingChannel>
         ensures { option_copied result ≡ lookup (same id.now) self.now.routes }
     {
         self.routes.get(id)

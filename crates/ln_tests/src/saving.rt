@@ -2,7 +2,7 @@
 
 use crate::ends::{FUNDER, Side, boxed, fundee_side, funder_side, offer, played, stored};
 use crate::{FailingStore, code_of};
-use ln_channel::{Command, Life, Standing};
+use ln_channel::{Command, Life, Summary};
 use ln_keys::{ToyKeys, sha256_32};
 use ln_link::Link;
 use ln_msgs::Refusal;
@@ -85,15 +85,15 @@ fn offered<S: RecordStore + Drop>(alloc: Global, a: &mut Side<S>) -> Result<(), 
 }
 
 /// Where the link stands that comes back from these bytes.
-fn standing_of(alloc: Global, bytes: &[u8]) -> Result<Standing, Refusal> {
+fn summary_of(alloc: Global, bytes: &[u8]) -> Result<Summary, Refusal> {
     let link = boxed(alloc, Link::from_record(alloc, FUNDER, bytes)?)?;
-    link.unsaved().standing(alloc)
+    link.unsaved().summary(alloc)
 }
 
 /// By what the first bytes of a record are refused, so many of them.
 fn refused_of(alloc: Global, bytes: &[u8], len: usize) -> u32 {
     match bytes.get(..len) {
-        Some(front) => code_of(standing_of(alloc, front).err()),
+        Some(front) => code_of(summary_of(alloc, front).err()),
         None => 0,
     }
 }
@@ -106,18 +106,18 @@ fn refused(alloc: Global, bytes: &mut [u8]) -> (u32, u32, u32) {
     }
     let cut = refused_of(alloc, bytes, 45);
     bytes[20] ^= 1;
-    let damaged = code_of(standing_of(alloc, bytes).err());
+    let damaged = code_of(summary_of(alloc, bytes).err());
     bytes[20] ^= 1;
     bytes[5] = 9;
     let digest = sha256_32(&bytes[..len - 32]);
     bytes[len - 32..].copy_from_slice(&digest);
-    let other = code_of(standing_of(alloc, bytes).err());
+    let other = code_of(summary_of(alloc, bytes).err());
     (cut, damaged, other)
 }
 
 /// Where the funder's link stands once it has come back from its store; where it does once its connection is lost; by
 /// what a changed record is refused.
-type Loaded = (Standing, Standing, (u32, u32, u32));
+type Loaded = (Summary, Summary, (u32, u32, u32));
 
 fn loaded<S: RecordStore + Drop, T: RecordStore + Drop>(
     alloc: Global,
@@ -127,9 +127,9 @@ fn loaded<S: RecordStore + Drop, T: RecordStore + Drop>(
     played(alloc, a, b)?;
     offered(alloc, a)?;
     let mut bytes = stored(alloc, a)?;
-    let back = standing_of(alloc, bytes.as_slice())?;
+    let back = summary_of(alloc, bytes.as_slice())?;
     a.link.drop_connection();
-    let dropped = a.link.unsaved().standing(alloc)?;
+    let dropped = a.link.unsaved().summary(alloc)?;
     let faults = refused(alloc, bytes.as_mut_slice());
     Ok((back, dropped, faults))
 }

@@ -3,7 +3,7 @@
 
 use crate::ends::{FUNDER, boxed};
 use crate::record::put_hex;
-use ln_channel::{Life, Standing};
+use ln_channel::{Life, Summary};
 use ln_keys::sha256_32;
 use ln_link::Link;
 use ln_msgs::Refusal;
@@ -127,12 +127,12 @@ fn record(alloc: Global, updates: &[Piece]) -> Result<Vec<u8>, Refusal> {
 }
 
 /// Where the link stands that comes back from a record.
-fn comes_back(alloc: Global, bytes: &[u8]) -> Result<Standing, Refusal> {
+fn comes_back(alloc: Global, bytes: &[u8]) -> Result<Summary, Refusal> {
     let link = boxed(alloc, Link::from_record(alloc, FUNDER, bytes)?)?;
-    link.unsaved().standing(alloc)
+    link.unsaved().summary(alloc)
 }
 
-const HELD: Standing = Standing {
+const HELD: Summary = Summary {
     signed: 1,
     own_held: 1,
     peer_held: 0,

@@ -8,7 +8,7 @@ ghost use Rattle.ln_channel.specs.End as channel;
 ghost use Rattle.ln_channel.specs.Pending.{pending_events};
 ghost use Rattle.ln_link.specs.Record.{items_of};
 ghost use Rattle.ln_link.specs.Loading.{HasRecord, end_of};
-ghost use Rattle.ln_relay.specs.Place.{IsMergeOfAll};
+ghost use Rattle.ln_relay.specs.Position.{IsMergeOfAll};
 ghost use Rattle.ln_turns.specs.declared.task.Task.{Task};
 ghost use Rattle.ln_turns.specs.Served.{events_in, Begins};
 ghost use Rattle.ln_turns.specs.Turns.{Glance, Began, told, tasks};

@@ -168,7 +168,7 @@ impl<E: End + Drop, W: Closes + Drop> Worker<E, W> {
     }
 
     // Behind a turn.
-    fn settle(&mut self, over: bool)
+    fn end_turn(&mut self, over: bool)
         ensures end { self.new.end ≡ self.old.end }
         ensures left { Leaves E.halted self.old.phase over (contents_in W.contents (inner_of self.old.line))
             (stand E.state W.contents self.new) }
@@ -203,7 +203,7 @@ impl<E: End + Drop, W: Closes + Drop> Worker<E, W> {
         self.line = Counted::new(Wire::Open(writer));
         self.phase = Phase::Greeting;
         let (outputs, answer) = self.turn(alloc, Item::Joined(greeting));
-        self.settle(is_refused(answer));
+        self.end_turn(is_refused(answer));
         served(outputs, answer)
     }
 
@@ -238,7 +238,7 @@ impl<E: End + Drop, W: Closes + Drop> Worker<E, W> {
             return passed(alloc);
         }
         let (outputs, answer) = self.turn(alloc, Item::Read(message));
-        self.settle(is_lost(answer));
+        self.end_turn(is_lost(answer));
         served(outputs, answer)
     }
 
@@ -266,7 +266,7 @@ impl<E: End + Drop, W: Closes + Drop> Worker<E, W> {
         ensures last { self.new.last ≡ self.old.last }
     {
         let (outputs, answer) = self.turn(alloc, Item::Order(command));
-        self.settle(is_lost(answer));
+        self.end_turn(is_lost(answer));
         served(outputs, answer)
     }
 
@@ -305,7 +305,7 @@ impl<E: End + Drop, W: Closes + Drop> Worker<E, W> {
     {
         self.mind();
         let obeyed = obey_turn(alloc, &mut self.end, command, &mut self.line);
-        self.settle(is_lost(obeyed.written));
+        self.end_turn(is_lost(obeyed.written));
         obeyed
     }
 

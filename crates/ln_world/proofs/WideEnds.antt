@@ -12,7 +12,7 @@ use Rattle.ln_close.specs.declared.closing.Fees.{Fees}
 use Rattle.ln_hooks.specs.declared.verdict.Verdict.{Verdict}
 use Rattle.ln_channel.specs.declared.config.Config.{Config}
 use Rattle.ln_channel.specs.declared.config.OpenSpec.{OpenSpec}
-use Rattle.ln_channel.specs.declared.unsaved.Line.{Line}
+use Rattle.ln_channel.specs.declared.unsaved.LineState.{LineState}
 use Rattle.ln_channel.specs.declared.opening.Opened.{Opened}
 use Rattle.ln_channel.specs.declared.opening.Terms.{Terms}
 use Rattle.ln_channel.specs.Config.{fees_of}
@@ -77,7 +77,8 @@ end_so id o e len is h = record {
 }
 
 module _ {K : Type 0} where
-  link_so : (b : Bool) (key : K) (l : State K) (line : Line) (e : End) → l ≡ link_at b key line e → IsEnd e → IsState l
+  link_so : (b : Bool) (key : K) (l : State K) (line : LineState) (e : End) → l ≡ link_at b key line e → IsEnd e
+      → IsState l
   link_so b key l line e is h = subst IsState (sym is) h
 
   ends_so : (signer : K → Signer) (c : Channel K) → IsFit signer (channel_id_of c.number) c.both → AreEnds c

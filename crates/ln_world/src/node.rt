@@ -40,7 +40,7 @@ fn new_node(alloc: Global, node: Node) -> NodeBook
 }
 
 /// Where a node stands, if something was said of it.
-pub(crate) fn place_of(nodes: &[NodeBook], node: Node) -> Option<usize>
+pub(crate) fn index_of(nodes: &[NodeBook], node: Node) -> Option<usize>
     ensures { result ≡ position (λ x. is_node x.node node) nodes.now }
 {
     nodes
@@ -58,7 +58,7 @@ pub(crate) fn place_for(
     ensures same { OnOk result (nodes.new.items ≡ changed node (λ x. x) nodes.old.items) }
     ensures fails_for_memory_alone { IfErr result (λ e. e ≡ refusal.Memory) }
 {
-    match place_of(nodes, node) {
+    match index_of(nodes, node) {
         Some(i) => Ok(i),
         None => {
             let i = nodes.as_slice().len();

@@ -12,7 +12,7 @@ ghost use Rattle.ln_world.specs.declared.step.Step.TheVariants as step;
 
 use crate::call::end_at;
 use crate::errand::{Asked, Errand};
-use crate::node::{NodeBook, place_for, place_of};
+use crate::node::{NodeBook, index_of, place_for};
 use crate::step::{Act, Step};
 use crate::told::{about, next_id, noted_of, told_count};
 use ln_channel::Command;

@@ -5,7 +5,7 @@ ghost use Rattle.ln_msgs.specs.declared.refusals.refusal.Refusal.TheVariants.{Me
 
 use clap::error::ErrorKind;
 use clap::{Arg, ArgAction, ArgMatches, Command};
-use ln_commands::{Choice, Failure};
+use ln_commands::{Choice, ProgramError};
 use ln_msgs::Refusal;
 use std::alloc::{AllocError, Global};
 
@@ -36,8 +36,8 @@ fn commands<'a>(alloc: Global) -> Result<Command<'a>, AllocError> {
 }
 
 /// What the words that were read choose.
-fn chosen(alloc: Global, matches: &ArgMatches) -> Result<Asked, Failure>
-    ensures { IfErr result (λ e. (e ≡ Failure.Usage) ⊎ (e ≡ Failure.Refused Memory)) }
+fn chosen(alloc: Global, matches: &ArgMatches) -> Result<Asked, ProgramError>
+    ensures { IfErr result (λ e. (e ≡ ProgramError.Usage) ⊎ (e ≡ ProgramError.Refused Memory)) }
 {
     match matches.subcommand() {
         Some(("answer", _)) => Ok(Asked::Command(Choice::Answer)),
@@ -48,9 +48,9 @@ fn chosen(alloc: Global, matches: &ArgMatches) -> Result<Asked, Failure>
                 let hex = String::from_str(alloc, text)?;
                 Ok(Asked::Command(Choice::Decode(hex)))
             }
-            None => Err(Failure::Usage),
+            None => Err(ProgramError::Usage),
         },
-        _ => Err(Failure::Usage),
+        _ => Err(ProgramError::Usage),
     }
 }
 
@@ -58,8 +58,8 @@ fn chosen(alloc: Global, matches: &ArgMatches) -> Result<Asked, Failure>
 /// memory.
 ///
 /// Other words, none at all and a call for help are usage; 60 where there is no memory for the parse.
-pub fn choose(alloc: Global, words: &[String]) -> Result<Asked, Failure>
-    ensures { IfErr result (λ e. (e ≡ Failure.Usage) ⊎ (e ≡ Failure.Refused Memory)) }
+pub fn choose(alloc: Global, words: &[String]) -> Result<Asked, ProgramError>
+    ensures { IfErr result (λ e. (e ≡ ProgramError.Usage) ⊎ (e ≡ ProgramError.Refused Memory)) }
 {
     let command = commands(alloc)?;
     match command.try_get_matches_from(words) {
@@ -72,8 +72,8 @@ pub fn choose(alloc: Global, words: &[String]) -> Result<Asked, Failure>
             let kind = error.kind();
             drop(error);
             match kind {
-                ErrorKind::OutOfMemory => Err(Failure::Refused(Refusal::Memory)),
-                _ => Err(Failure::Usage),
+                ErrorKind::OutOfMemory => Err(ProgramError::Refused(Refusal::Memory)),
+                _ => Err(ProgramError::Usage),
             }
         }
     }

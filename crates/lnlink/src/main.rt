@@ -4,7 +4,7 @@
 mod choice;
 
 use choice::{Asked, choose};
-use ln_commands::{Failure, perform};
+use ln_commands::{ProgramError, perform};
 use ln_demo::demo;
 use ln_msgs::{Counted, Refusal};
 use std::env::Env;
@@ -26,7 +26,7 @@ fn main(rt: HostRuntime) -> ExitCode {
 }
 
 /// Runs what the command line asks for, with standard input and output.
-fn run<R>(rt: &R) -> Result<(), Failure>
+fn run<R>(rt: &R) -> Result<(), ProgramError>
 where
     R: Env + Input + Print + AllocGlobal + Threads + Wait + Copy + Send + 'static,
     R: Net<Listener = TcpListener, Stream = TcpStream>,
@@ -35,7 +35,7 @@ where
     match choose(rt.alloc(), words(rt)?.as_slice())? {
         Asked::Demo => match demo(*rt, rt.alloc(), &mut writer) {
             Ok(()) => Ok(()),
-            Err(refusal) => Err(Failure::Refused(refusal)),
+            Err(refusal) => Err(ProgramError::Refused(refusal)),
         },
         Asked::Command(choice) => {
             let mut reader = Counted::new(rt.reader());
@@ -45,13 +45,13 @@ where
 }
 
 /// The words behind the program's name. Words that aren't text are no command.
-fn words<R: Env + AllocGlobal>(rt: &R) -> Result<Vec<String>, Failure> {
+fn words<R: Env + AllocGlobal>(rt: &R) -> Result<Vec<String>, ProgramError> {
     let all = match env::args(rt) {
         Ok(all) => all,
         Err(error) if error.kind() == ErrorKind::OutOfMemory => {
-            return Err(Failure::Refused(Refusal::Memory));
+            return Err(ProgramError::Refused(Refusal::Memory));
         }
-        Err(_) => return Err(Failure::Usage),
+        Err(_) => return Err(ProgramError::Usage),
     };
     let mut words = Vec::new(rt.alloc());
     for word in all.skip(1) {

@@ -38,8 +38,8 @@ use Rattle.ln_channel.specs.declared.command.Command.{Command}
 use Rattle.ln_channel.specs.declared.command.Command.TheVariants as command
 use Rattle.ln_channel.specs.declared.config.Config.{Config}
 use Rattle.ln_channel.specs.declared.config.OpenSpec.{OpenSpec}
-use Rattle.ln_channel.specs.declared.unsaved.Line.{Line}
-use Rattle.ln_channel.specs.declared.unsaved.Line.TheVariants.{Down, Awaiting, Met}
+use Rattle.ln_channel.specs.declared.unsaved.LineState.{LineState}
+use Rattle.ln_channel.specs.declared.unsaved.LineState.TheVariants.{Down, Awaiting, Met}
 use Rattle.ln_channel.specs.declared.opening.Opened.{Opened}
 use Rattle.ln_channel.specs.Opening.{unless, accept_fault, funder_end, created_message}
 use Rattle.ln_channel.specs.Opening.{created_fault, fundee_end}
@@ -257,7 +257,7 @@ drops_settling x w s =
 based_settling : (x : End) → Settling x → Settling (based x)
 based_settling x s = record { paced = paced_based x.dance.log (next_base x) s.paced; rests = s.rests }
 
-module _ (a b : Signer) (keys : ArePartners a b) (channel : List ℕ) (ly : Line) (x y : End)
+module _ (a b : Signer) (keys : ArePartners a b) (channel : List ℕ) (ly : LineState) (x y : End)
     (said_x said_y : List Message) where
   -- it takes the peer's update by its log's rules too
   log_takes : (u : Change) (ns to_y : List Notice) → Hold a b channel Met ly x y (Update u ∷ ns) to_y said_x said_y
@@ -379,7 +379,7 @@ module _ (a b : Signer) (keys : ArePartners a b) where
   given (command.Decide event mark) p s h = record { x = s; other = refl }
   given (command.Forget id) p s h = record { x = s; other = refl }
 
-  commanded_by : (f : Option Refusal) (l : Line) (c : Command) (p : Ends) → Settling p.x → Sound a b p
+  commanded_by : (f : Option Refusal) (l : LineState) (c : Command) (p : Ends) → Settling p.x → Sound a b p
       → Stays p (answers (faulted f (faulted (line_fault l) (command_row a c p.x))) p)
   commanded_by (Some z) l c p s h = record { x = s; other = refl }
   commanded_by None Down c p s h = record { x = s; other = refl }
@@ -452,7 +452,7 @@ stepped a b keys (By Fundee act) p k h = swapped (acts b act (turned p))
     (acted b a (flipped_keys a b keys) act (turned p) (swapped p k) (flipped a b p h))
 stepped a b keys Connect p k h = by p.x_line p.y_line
   where
-    by : (lx ly : Line) → Both (connects a b lx ly p)
+    by : (lx ly : LineState) → Both (connects a b lx ly p)
     by Down Down = record { x = k.x; y = k.y; x_named = k.x_named; y_named = k.y_named }
     by Down Awaiting = k
     by Down Met = k

@@ -9,8 +9,8 @@ use Rattle.ln_close.specs.Closing.{is_funder}
 use Rattle.ln_close.specs.Closing as closing
 use Rattle.ln_channel.specs.declared.config.Config.{Config}
 use Rattle.ln_channel.specs.declared.config.OpenSpec.{OpenSpec}
-use Rattle.ln_channel.specs.declared.unsaved.Line.{Line}
-use Rattle.ln_channel.specs.declared.unsaved.Line.TheVariants.{Down, Met}
+use Rattle.ln_channel.specs.declared.unsaved.LineState.{LineState}
+use Rattle.ln_channel.specs.declared.unsaved.LineState.TheVariants.{Down, Met}
 use Rattle.ln_channel.specs.declared.opening.Opened.{Opened}
 use Rattle.ln_channel.specs.Meeting.{Opens}
 use Rattle.ln_channel.specs.End.{is_settled}
@@ -76,7 +76,7 @@ fresh_heard c g ec eg =
 
 -- ---- where nothing is in flight
 
-met_up : (l : Line) → l ≡ Met → l ≡ Down → ⊥
+met_up : (l : LineState) → l ≡ Met → l ≡ Down → ⊥
 met_up l met down = let no : Met ≡ Down = sym met ∙ down in absurd (cc)
 
 begun_of : (s p t : Bool) → s ≡ true → p ≡ true → t ≡ true → (s && (p && t)) ≡ true

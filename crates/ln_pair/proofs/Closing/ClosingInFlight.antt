@@ -7,8 +7,8 @@ use Rattle.ln_msgs.specs.declared.messages.closing.ClosingSigned.{ClosingSigned}
 use Rattle.ln_keys.specs.Signer.{Signer}
 use Rattle.ln_log.specs.declared.update.Update.{Update as Change}
 use Rattle.ln_close.specs.declared.closing.Fees.{Fees}
-use Rattle.ln_channel.specs.declared.unsaved.Line.{Line}
-use Rattle.ln_channel.specs.declared.unsaved.Line.TheVariants.{Down, Awaiting, Met}
+use Rattle.ln_channel.specs.declared.unsaved.LineState.{LineState}
+use Rattle.ln_channel.specs.declared.unsaved.LineState.TheVariants.{Down, Awaiting, Met}
 use Rattle.ln_pair.proofs.Flight.Sides.{has_bid, dealt, closes_of, posts, Notice, Update, Sign, Revoke, Ready, Shutdown}
 use Rattle.ln_pair.proofs.Flight.Sides.{Close}
 use Rattle.ln_pair.proofs.Flight.Sides.{Again, Side, updates_of, again_signed, signature_owed, revocation_owed, owed}
@@ -104,7 +104,7 @@ module _ (k : Signer) (f : Fees) where
   closes-front w r s g (Again m ∷ ms) ns h = closes-front w r s g ms ns h
 
   -- what is sent holds none
-  pub closes-posts : (l : Line) (w : Closer) (r : ℕ) (s : Bool) (g : ℕ) (new ms : List Notice) → NoCloses new
+  pub closes-posts : (l : LineState) (w : Closer) (r : ℕ) (s : Bool) (g : ℕ) (new ms : List Notice) → NoCloses new
       → Closes k f w r s g ms → Closes k f w r s g (posts l new ms)
   closes-posts Down w r s g new ms n h = h
   closes-posts Awaiting w r s g new ms n h = closes-push w r s g ms new n h
@@ -221,7 +221,7 @@ module _ (k : Signer) (f : Fees) where
       (λ is. (st is, l.revoked, a.1 ∙ b.shut_sent, ap length l.has_all ∙ sym (covers_all x w b).0))) h i
       (closes-raise (closer x) (closer (dealt m c x)) y.revocations y.peer_shut (length y.got) to_y bd refl refl j)
 
-  pub dealt_closes : (ly : Line) (x y : Side) (m : Option ClosingSigned) (c : Bool) (sent : Option ClosingSigned)
+  pub dealt_closes : (ly : LineState) (x y : Side) (m : Option ClosingSigned) (c : Bool) (sent : Option ClosingSigned)
       (to_y : List Notice) → HasBegun x → IsWithin x → InFlight Met ly x y to_y → MarksFlight Met ly x y to_y
       → (has_bid x ≡ true → is_some m ≡ true) → (is_some sent ≡ true → is_some m ≡ true) → SignsAll k f sent
       → Closes k f (closer x) y.revocations y.peer_shut (length y.got) to_y
@@ -301,7 +301,7 @@ module _ (k : Signer) (f : Fees) where
           (λ is. (bid, h.revoked, i.1.1 ∙ g.shut_sent, ap length h.has_all ∙ sym (covers_all x w g).0))
 
   -- as x has met y again, and has sent all that y lacks
-  pub again_closes : (ly : Line) (n r : ℕ) (x y : Side) (to_y : List Notice) → IsWithin x
+  pub again_closes : (ly : LineState) (n r : ℕ) (x y : Side) (to_y : List Notice) → IsWithin x
       → (has_bid x ≡ true → HasBegun x) → SignsAll k f x.close_message
       → InFlight Awaiting ly x y to_y → InFlight Met ly x y (posts ly (all_owed n r x) to_y)
       → MarksFlight Met ly x y (posts ly (all_owed n r x) to_y)

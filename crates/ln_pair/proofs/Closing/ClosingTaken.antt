@@ -20,8 +20,8 @@ use Rattle.ln_log.proofs.Sent.{standing_sent}
 use Rattle.ln_close.specs.declared.closing.FeeAnswer.{FeeAnswer}
 use Rattle.ln_close.specs.declared.closing.Fees.{Fees}
 use Rattle.ln_close.specs.Closing.{answer_to}
-use Rattle.ln_channel.specs.declared.unsaved.Line.{Line}
-use Rattle.ln_channel.specs.declared.unsaved.Line.TheVariants.{Met}
+use Rattle.ln_channel.specs.declared.unsaved.LineState.{LineState}
+use Rattle.ln_channel.specs.declared.unsaved.LineState.TheVariants.{Met}
 use Rattle.ln_channel.specs.End.{End, Turn, has_begun, is_settled}
 use Rattle.ln_channel.specs.Taking.{answered, completed_row, fee_row, range_in}
 use Rattle.ln_keys.specs.Partners.{ArePartners}
@@ -50,7 +50,7 @@ acked_is s a c am sm current e (Idle e1 e2 e3 e4 e5 e6) = (e5 ∙ sym e3, e6 ∙
 acked_is s a c am sm current e (Sent e1 e2 e3 e4) = (e3, e4)
 acked_is s a c am sm current e (Answered e1 e2 e3 e4) = absurd (omega (arith, e, e1, e2))
 
-both_begun : (lx ly : Line) (x y : Side) (ms ns : List Notice) → Flows lx ly x y ms → Flows ly lx y x ns
+both_begun : (lx ly : LineState) (x y : Side) (ms ns : List Notice) → Flows lx ly x y ms → Flows ly lx y x ns
     → MarksFlow ly lx y x ns → HasBegun x → LacksNothing x.own x.current.peer x.signatures x.number y.got y.acked.own
     y.number y.revocations → y.peer_shut ≡ true → HasBegun y
 both_begun lx ly x y ms ns f g t b l peer =
@@ -91,7 +91,7 @@ both_begun lx ly x y ms ns f g t b l peer =
 
 -- ---- who takes a closing_signed has begun
 
-taker_begun : (lx ly : Line) (k : Signer) (f : Fees) (x y : Side) (m : ClosingSigned) (ms ns : List Notice)
+taker_begun : (lx ly : LineState) (k : Signer) (f : Fees) (x y : Side) (m : ClosingSigned) (ms ns : List Notice)
     → Flows lx ly x y ms → Flows ly lx y x (Close m ∷ ns) → MarksFlow lx ly x y ms → Ending y x
     → ClosesFlow k f y x (Close m ∷ ns) → HasBegun x
 taker_begun lx ly k f x y m ms ns there back told ended due =
@@ -172,8 +172,8 @@ small : (f : Fees) (fee : ℕ) → AreSent f → IsOffer f fee → fee < 2 ^ 64
 small f fee s (inl e) = let b = s.first in omega (arith, e, b)
 small f fee s (inr le) = let b = s.greatest in omega (arith, le, b)
 
-pub close_row : (a b : Signer) (channel : List ℕ) (ly : Line) (x y : End) (m : ClosingSigned) (ns to_y : List Notice)
-    (said_x said_y : List Message) → ArePartners a b → AreSent y.closing.fees
+pub close_row : (a b : Signer) (channel : List ℕ) (ly : LineState) (x y : End) (m : ClosingSigned)
+    (ns to_y : List Notice) (said_x said_y : List Message) → ArePartners a b → AreSent y.closing.fees
     → Hold a b channel Met ly x y (Close m ∷ ns) to_y said_x said_y → TakenOr36 (completed_row a (fee_row a m x))
 close_row a b channel ly x y m ns to_y said_x said_y keys sent h =
     let begun = taker_begun Met ly b y.closing.fees (side_of a x) (side_of b y) m to_y ns h.kept.there

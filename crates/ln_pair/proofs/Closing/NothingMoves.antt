@@ -17,8 +17,8 @@ use Rattle.ln_log.specs.View.{live_of, live_adds}
 use Rattle.ln_log.specs.Limits.{standing_of, update_fault}
 use Rattle.ln_log.specs.Log.{Counts}
 use Rattle.ln_log.proofs.Kept.{names_live}
-use Rattle.ln_channel.specs.declared.unsaved.Line.{Line}
-use Rattle.ln_channel.specs.declared.unsaved.Line.TheVariants.{Down, Awaiting, Met}
+use Rattle.ln_channel.specs.declared.unsaved.LineState.{LineState}
+use Rattle.ln_channel.specs.declared.unsaved.LineState.TheVariants.{Down, Awaiting, Met}
 use Rattle.ln_pair.proofs.Flight.Sides.{opens, has_bid, Notice, Update, Sign, Revoke, Ready, Shutdown, Close, Again}
 use Rattle.ln_pair.proofs.Flight.Sides.{Side}
 use Rattle.ln_pair.proofs.Flight.Sides.{dropped}
@@ -130,7 +130,7 @@ still_by w t own held all Q P got a c r q (Close z ∷ ms) le due next h k =
 still_by w t own held all Q P got a c r q (Again n ∷ ms) le due next h k = absurd h
 
 -- a signature there would cover nothing new
-pub not_due : (lx ly : Line) (x y : Side) (ms : List Notice) → Flows ly lx y x ms → Ending y x → HasBegun x
+pub not_due : (lx ly : LineState) (x y : Side) (ms : List Notice) → Flows ly lx y x ms → Ending y x → HasBegun x
     → (k : CommitmentSigned) → IsDue (sender y) x.got x.acked.own x.number k → ⊥
 not_due lx ly x y ms g e b k d =
     let p = unaccepted y.signatures y.revocations x.number y.acked y.signed x.current d.next g.phase in
@@ -138,7 +138,7 @@ not_due lx ly x y ms g e b k d =
     (sym p.3 ∙ b.own_current ∙ sym b.own_acked ∙ d.knows)
 
 -- and none of its own is unrevoked
-pub not_next : (lx ly : Line) (x y : Side) (ms : List Notice) → Flows lx ly x y ms → Ending x y → HasBegun x
+pub not_next : (lx ly : LineState) (x y : Side) (ms : List Notice) → Flows lx ly x y ms → Ending x y → HasBegun x
     → (k : RevokeAndAck) → IsNext (sender y) x.number x.revocations k → ⊥
 not_next lx ly x y ms f e b k d =
     let p = revoked_for x.signatures x.revocations y.number x.acked x.signed y.current d.next f.phase in
@@ -150,7 +150,7 @@ pub held_none : (x : Side) → HasBegun x → live_adds (holds x) x.got ≡ []
 held_none x b = subst (λ us. live_adds us x.got ≡ [])
     (sym (take_all x.current.own x.own (omega (arith, b.own_current)))) b.none_own
 
-pub still : (ly : Line) (x y : Side) (ns ms : List Notice) → Flows Met ly x y ns → Flows ly Met y x ms
+pub still : (ly : LineState) (x y : Side) (ns ms : List Notice) → Flows Met ly x y ns → Flows ly Met y x ms
     → MarksFlow ly Met y x ms → Ending x y → Ending y x → HasBegun x → IsStill ms
 still Down x y ns ms f g t d e b =
     still_by (sender y) (marks_of y x) x.own (holds x) x.signed.own Anywhere AnyMarks x.got x.acked.own x.number
@@ -175,7 +175,7 @@ no_proposal x u b h may =
     b.none_got) (allowed_own (opens u) x.shut may b.shut_sent) h
 
 -- nothing is owed to an end that is closed
-pub none_owed : (lx ly : Line) (x y : Side) (ms : List Notice) → Flows lx ly x y ms → Ending x y → y.closed ≡ true
+pub none_owed : (lx ly : LineState) (x y : Side) (ms : List Notice) → Flows lx ly x y ms → Ending x y → y.closed ≡ true
     → y.number ≡ x.signatures
 none_owed lx ly x y ms f e c =
     let b = e.begun (e.answered c) in

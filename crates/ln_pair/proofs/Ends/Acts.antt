@@ -33,8 +33,8 @@ use Rattle.ln_channel.specs.Commands.{ready_message, confirmed, closed_fault, ow
 use Rattle.ln_channel.specs.Commands.{sign_command_fault, signs_next, shut_fault, shuts_down, script_fault}
 use Rattle.ln_keys.specs.Partners.{ArePartners}
 use Rattle.ln_pair.specs.Promises.{is_add, is_shutdown, AddsBefore}
-use Rattle.ln_channel.specs.declared.unsaved.Line.{Line}
-use Rattle.ln_channel.specs.declared.unsaved.Line.TheVariants.{Down, Awaiting, Met}
+use Rattle.ln_channel.specs.declared.unsaved.LineState.{LineState}
+use Rattle.ln_channel.specs.declared.unsaved.LineState.TheVariants.{Down, Awaiting, Met}
 use Rattle.std.proofs.lemmas.Bool.{eq-eqb}
 use Rattle.ln_msgs.specs.declared.messages.closing.ClosingSigned.{ClosingSigned}
 use Rattle.ln_log.specs.Log.{same_counts}
@@ -119,10 +119,10 @@ pub record Knows (k : Signer) (x y : End) : Type 0 where
 
 -- ---- the whole
 
-abbrev pub both : Line → Line → Side → Side → List Notice → List Notice → Both
+abbrev pub both : LineState → LineState → Side → Side → List Notice → List Notice → Both
 both lx ly x y to_x to_y = record { x_link = lx; y_link = ly; x = x; y = y; to_x = to_x; to_y = to_y }
 
-pub record Hold (a b : Signer) (channel : List ℕ) (lx ly : Line) (x y : End) (to_x to_y : List Notice)
+pub record Hold (a b : Signer) (channel : List ℕ) (lx ly : LineState) (x y : End) (to_x to_y : List Notice)
     (said_x said_y : List Message) : Type 0 where
   pub kept : BothFlow (both lx ly (side_of a x) (side_of b y) to_x to_y)
   pub told : BothMarks (both lx ly (side_of a x) (side_of b y) to_x to_y)
@@ -139,7 +139,7 @@ pub record Hold (a b : Signer) (channel : List ℕ) (lx ly : Line) (x y : End) (
   pub x_said : Said x.closing.shut said_x
   pub y_said : Said y.closing.shut said_y
 
-pub flip : (a b : Signer) (channel : List ℕ) (lx ly : Line) (x y : End) (to_x to_y : List Notice)
+pub flip : (a b : Signer) (channel : List ℕ) (lx ly : LineState) (x y : End) (to_x to_y : List Notice)
     (said_x said_y : List Message) → Hold a b channel lx ly x y to_x to_y said_x said_y
     → Hold b a channel ly lx y x to_y to_x said_y said_x
 flip a b channel lx ly x y to_x to_y said_x said_y h = record {
@@ -160,7 +160,7 @@ flip a b channel lx ly x y to_x to_y said_x said_y h = record {
 }
 
 -- what x tells of its events changes nothing of it
-pub numbered : (a b : Signer) (channel : List ℕ) (lx ly : Line) (x y : End) (to_x to_y : List Notice)
+pub numbered : (a b : Signer) (channel : List ℕ) (lx ly : LineState) (x y : End) (to_x to_y : List Notice)
     (said_x said_y : List Message) (l : Ledger) → Hold a b channel lx ly x y to_x to_y said_x said_y
     → Hold a b channel lx ly (record x { ledger = l }) y to_x to_y said_x said_y
 numbered a b channel lx ly x y to_x to_y said_x said_y l h = record {
@@ -193,7 +193,7 @@ numbered a b channel lx ly x y to_x to_y said_x said_y l h = record {
 }
 
 -- nor does the base of its updates
-pub rebased : (a b : Signer) (channel : List ℕ) (lx ly : Line) (x y : End) (to_x to_y : List Notice)
+pub rebased : (a b : Signer) (channel : List ℕ) (lx ly : LineState) (x y : End) (to_x to_y : List Notice)
     (said_x said_y : List Message) → Hold a b channel lx ly x y to_x to_y said_x said_y
     → Hold a b channel lx ly (based x) y to_x to_y said_x said_y
 rebased a b channel lx ly x y to_x to_y said_x said_y h = record {
@@ -281,7 +281,7 @@ small_still n below e = elim (eqb_tells n 281474976710655) [
 ]
 
 -- what is in front, for an end that has met the other
-pub front_reads : (ly : Line) (x y : Side) (n : Notice) (ns : List Notice) → Carries ly y x (n ∷ ns)
+pub front_reads : (ly : LineState) (x y : Side) (n : Notice) (ns : List Notice) → Carries ly y x (n ∷ ns)
     → Reads (sender y) x.own (holds x) x.signed.own Anywhere x.got x.acked.own x.number x.revocations (n ∷ ns)
 front_reads Down x y n ns h = h
 front_reads Awaiting x y n ns h = absurd (cc (h.0))
@@ -289,7 +289,7 @@ front_reads Met x y n ns h = reads-to (sender y) x.own (holds x) x.signed.own
     (LacksNothing y.own y.current.peer y.signatures y.number) Anywhere x.got x.acked.own x.number x.revocations
     (n ∷ ns) (λ g b d s l. tt) h
 
-pub front_told : (ly : Line) (x y : Side) (n : Notice) (ns : List Notice) → CarriesMarks ly y x (n ∷ ns)
+pub front_told : (ly : LineState) (x y : Side) (n : Notice) (ns : List Notice) → CarriesMarks ly y x (n ∷ ns)
     → ReadsMarks (marks_of y x) AnyMarks x.peer_ready x.peer_shut (n ∷ ns)
 front_told Down x y n ns h = h
 front_told Awaiting x y n ns h = absurd (cc)
@@ -302,7 +302,7 @@ unsigned true true e = absurd (cc)
 unsigned true false e = (refl, refl)
 unsigned false s e = absurd (cc)
 
-module _ (a b : Signer) (keys : ArePartners a b) (channel : List ℕ) (ly : Line) (x y : End)
+module _ (a b : Signer) (keys : ArePartners a b) (channel : List ℕ) (ly : LineState) (x y : End)
     (said_x said_y : List Message) where
   abbrev x_side : Side
   x_side = side_of a x

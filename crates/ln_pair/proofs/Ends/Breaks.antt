@@ -9,8 +9,8 @@ use Rattle.ln_log.specs.Log.{Counts}
 use Rattle.ln_dance.specs.Resume.{reestablish_message, resume_fault}
 use Rattle.ln_dance.specs.Reconnect.{KeepsUp, HaveParted}
 use Rattle.ln_dance.proofs.Parted.{served}
-use Rattle.ln_channel.specs.declared.unsaved.Line.{Line}
-use Rattle.ln_channel.specs.declared.unsaved.Line.TheVariants.{Down, Awaiting, Met}
+use Rattle.ln_channel.specs.declared.unsaved.LineState.{LineState}
+use Rattle.ln_channel.specs.declared.unsaved.LineState.TheVariants.{Down, Awaiting, Met}
 use Rattle.ln_channel.specs.Opening.{unless}
 use Rattle.ln_channel.specs.End.{End, end_dropped, completed}
 use Rattle.ln_channel.specs.Resume.{sent_again, resumed, resume_row}
@@ -45,7 +45,7 @@ keeps_up a b x y p k =
     x.dance.log.signed y.dance.log.current p in
     record { revoked = q.0; accepted = q.1; one_unrevoked = q.2; secret = k.secret }
 
-module _ (a b : Signer) (channel : List ℕ) (ly : Line) (x y : End) (to_y : List Notice)
+module _ (a b : Signer) (channel : List ℕ) (ly : LineState) (x y : End) (to_y : List Notice)
     (said_x said_y : List Message) where
   pub again_row : (m : ChannelReestablish) (ns : List Notice)
       → Hold a b channel Awaiting ly x y (Again m ∷ ns) to_y said_x said_y
@@ -107,7 +107,7 @@ module _ (a b : Signer) (channel : List ℕ) (ly : Line) (x y : End) (to_y : Lis
 
 -- ---- a connection is lost
 
-pub lost_so : (a b : Signer) (channel : List ℕ) (lx ly : Line) (x y : End) (to_x to_y : List Notice)
+pub lost_so : (a b : Signer) (channel : List ℕ) (lx ly : LineState) (x y : End) (to_x to_y : List Notice)
     (said_x said_y : List Message) → Hold a b channel lx ly x y to_x to_y said_x said_y
     → Hold a b channel Down ly (end_dropped x) y [] to_y said_x said_y
 lost_so a b channel lx ly x y to_x to_y said_x said_y h =

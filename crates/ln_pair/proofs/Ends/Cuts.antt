@@ -4,8 +4,8 @@ use Rattle.std.proofs.Common.{append-nil, true}
 use Rattle.std.proofs.lemmas.List.{take-append-drop}
 use Rattle.ln_msgs.specs.declared.messages.message.Message.{Message}
 use Rattle.ln_keys.specs.Signer.{Signer}
-use Rattle.ln_channel.specs.declared.unsaved.Line.{Line}
-use Rattle.ln_channel.specs.declared.unsaved.Line.TheVariants.{Down, Awaiting, Met}
+use Rattle.ln_channel.specs.declared.unsaved.LineState.{LineState}
+use Rattle.ln_channel.specs.declared.unsaved.LineState.TheVariants.{Down, Awaiting, Met}
 use Rattle.ln_channel.specs.End.{End}
 use Rattle.ln_channel.specs.State.{is_down}
 use Rattle.ln_close.specs.declared.closing.Fees.{Fees}
@@ -20,7 +20,7 @@ use Rattle.ln_pair.proofs.Flight.Images.{message_of, messages_of, side_of}
 use Rattle.ln_pair.proofs.Ends.Acts.{Hold}
 
 -- what is left, and what is lost behind it
-pub front : {A : Type 0} (n : ℕ) (l : Line) (ms : List A) → (ns : List A) × (still_come n l ms ++ ns ≡ ms)
+pub front : {A : Type 0} (n : ℕ) (l : LineState) (ms : List A) → (ns : List A) × (still_come n l ms ++ ns ≡ ms)
 front n Down ms = ([], append-nil ms)
 front n Awaiting [] = ([], refl)
 front n Awaiting (m ∷ ms) = (drop n ms, ap (λ os. m ∷ os) (take-append-drop n ms))
@@ -32,7 +32,7 @@ messages-take channel zero ns = refl
 messages-take channel (suc n) [] = refl
 messages-take channel (suc n) (m ∷ ns) = ap (λ ms. message_of channel m ∷ ms) (messages-take channel n ns)
 
-pub messages_left : (channel : List ℕ) (n : ℕ) (l : Line) (ns : List Notice)
+pub messages_left : (channel : List ℕ) (n : ℕ) (l : LineState) (ns : List Notice)
     → still_come n l (messages_of channel ns) ≡ messages_of channel (still_come n l ns)
 messages_left channel n Down ns = refl
 messages_left channel n Awaiting [] = refl
@@ -45,7 +45,7 @@ module _ (n : ℕ) (x y : Side) where
       reads-front (sender x) y.own (holds y) y.signed.own Anywhere y.got y.acked.own y.number y.revocations (take n ms)
       (drop n ms) (subst (Carries Down x y) (sym (take-append-drop n ms)) h)
 
-  flight_front : (l : Line) (ms : List Notice) → InFlight Down l x y ms → InFlight Down l x y (still_come n l ms)
+  flight_front : (l : LineState) (ms : List Notice) → InFlight Down l x y ms → InFlight Down l x y (still_come n l ms)
   flight_front Down ms h = h
   flight_front Awaiting [] h = absurd h
   flight_front Awaiting (Update u ∷ ms) h = absurd h
@@ -61,7 +61,8 @@ module _ (n : ℕ) (x y : Side) where
   speaks_front ms h = marks-front (marks_of x y) AnyMarks y.peer_ready y.peer_shut (take n ms) (drop n ms)
       (subst (CarriesMarks Down x y) (sym (take-append-drop n ms)) h)
 
-  speech_front : (l : Line) (ms : List Notice) → MarksFlight Down l x y ms → MarksFlight Down l x y (still_come n l ms)
+  speech_front : (l : LineState) (ms : List Notice) → MarksFlight Down l x y ms
+      → MarksFlight Down l x y (still_come n l ms)
   speech_front Down ms h = h
   speech_front Awaiting [] h = absurd h
   speech_front Awaiting (Update u ∷ ms) h = absurd h
@@ -73,7 +74,7 @@ module _ (n : ℕ) (x y : Side) where
   speech_front Awaiting (Again m ∷ ms) h = speaks_front ms h
   speech_front Met ms h = speaks_front ms h
 
-  due_front : (k : Signer) (f : Fees) (l : Line) (ms : List Notice) → ClosesFlow k f x y ms
+  due_front : (k : Signer) (f : Fees) (l : LineState) (ms : List Notice) → ClosesFlow k f x y ms
       → ClosesFlow k f x y (still_come n l ms)
   due_front k f l ms h =
       let lost = front n l ms in
@@ -81,7 +82,7 @@ module _ (n : ℕ) (x y : Side) where
       (subst (ClosesFlow k f x y) (sym lost.1) h)
 
 -- x has no connection
-pub cut_so : (a b : Signer) (channel : List ℕ) (n : ℕ) (lx ly : Line) (x y : End) (to_x to_y : List Notice)
+pub cut_so : (a b : Signer) (channel : List ℕ) (n : ℕ) (lx ly : LineState) (x y : End) (to_x to_y : List Notice)
     (said_x said_y : List Message) → is_down lx ≡ true → Hold a b channel lx ly x y to_x to_y said_x said_y
     → Hold a b channel lx ly x y to_x (still_come n ly to_y) said_x said_y
 cut_so a b channel n Awaiting ly x y to_x to_y said_x said_y e h = absurd (cc)

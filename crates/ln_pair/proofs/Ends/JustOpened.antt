@@ -22,7 +22,7 @@ use Rattle.ln_channel.specs.Meeting.{Opens}
 use Rattle.ln_channel.specs.End.{End, end_of}
 use Rattle.ln_channel.proofs.Meeting.{are_ends}
 use Rattle.ln_pair.specs.Ends.{opened}
-use Rattle.ln_channel.specs.declared.unsaved.Line.TheVariants.{Met}
+use Rattle.ln_channel.specs.declared.unsaved.LineState.TheVariants.{Met}
 use Rattle.ln_pair.proofs.Tests.{was_given}
 use Rattle.ln_pair.proofs.Flight.Walk.{Idle, Flows}
 use Rattle.ln_pair.proofs.Closing.NothingMoves.{Ending}

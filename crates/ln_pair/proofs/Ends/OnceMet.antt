@@ -16,8 +16,8 @@ use Rattle.ln_dance.specs.Messages.{update_message}
 use Rattle.ln_dance.specs.Resume.{resume_fault}
 use Rattle.ln_channel.specs.declared.command.Command.{Command}
 use Rattle.ln_channel.specs.declared.command.Command.TheVariants as command
-use Rattle.ln_channel.specs.declared.unsaved.Line.{Line}
-use Rattle.ln_channel.specs.declared.unsaved.Line.TheVariants.{Down, Awaiting, Met}
+use Rattle.ln_channel.specs.declared.unsaved.LineState.{LineState}
+use Rattle.ln_channel.specs.declared.unsaved.LineState.TheVariants.{Down, Awaiting, Met}
 use Rattle.ln_channel.specs.Opening.{unless}
 use Rattle.ln_channel.specs.Base.{based}
 use Rattle.ln_channel.specs.Ledger.{Ledger}
@@ -43,7 +43,7 @@ pub record IsGiven (P : End → Type 0) : Type 0 where
   pub by_note : (l : Ledger) (e : End) → P e → P (record e { ledger = l })
   pub by_save : (e : End) → P e → P (based e)
 
-abbrev pub WhenMet : (End → Type 0) → Line → End → Type 0
+abbrev pub WhenMet : (End → Type 0) → LineState → End → Type 0
 WhenMet P l e = l ≡ Met → P e
 
 abbrev pub BothWhenMet : (End → Type 0) → Ends → Type 0
@@ -64,7 +64,7 @@ module _ (P : End → Type 0) (k : IsGiven P) where
   completed_so keys (Ok t) = k.by_turn t.end
   completed_so keys (Err r) = tt
 
-  message_so : (keys : Signer) (l : Line) (m : Message) (e : End) → IsGiving (message_at keys l m e)
+  message_so : (keys : Signer) (l : LineState) (m : Message) (e : End) → IsGiving (message_at keys l m e)
   message_so keys Down m e = tt
   message_so keys Met m e = completed_so keys (message_row keys m e)
   message_so keys Awaiting (message.ChannelReestablish m) e = unless_so (resume_fault keys m e.dance)
@@ -125,7 +125,7 @@ module _ (P : End → Type 0) (k : IsGiven P) where
   faulted_so None r h = h
   faulted_so (Some f) r h = tt
 
-  command_so : (keys : Signer) (l : Line) (c : Command) (e : End) → IsWithin e.dance.log → WhenMet P l e
+  command_so : (keys : Signer) (l : LineState) (c : Command) (e : End) → IsWithin e.dance.log → WhenMet P l e
       → IsGiving (command_at keys l c e)
   command_so keys Met c e w h = faulted_so (unready_fault c e) (command_row keys c e) (row_so keys c e w (h refl))
   command_so keys Down c e w h = faulted_so (unready_fault c e) (faulted (line_fault Down) (command_row keys c e)) tt
@@ -163,7 +163,7 @@ module _ (P : End → Type 0) (k : IsGiven P) where
   acts_so keys (Cut n) p w both = cut_so (is_down p.x_line) n p both
   acts_so keys Save p w both = (λ e. k.by_save p.x (both.0 e), both.1)
 
-  connects_so : (a b : Signer) (lx ly : Line) (p : Ends) → BothWhenMet P p → BothWhenMet P (connects a b lx ly p)
+  connects_so : (a b : Signer) (lx ly : LineState) (p : Ends) → BothWhenMet P p → BothWhenMet P (connects a b lx ly p)
   connects_so a b Down Down p both = (λ e. absurd (cc), λ e. absurd (cc))
   connects_so a b Down Awaiting p both = both
   connects_so a b Down Met p both = both

@@ -21,8 +21,8 @@ use Rattle.ln_pair.specs.Ends.{Ends, Step, opened, turned, run}
 use Rattle.ln_keys.specs.Partners.{ArePartners}
 use Rattle.ln_pair.specs.Promises.{AreSent, party, Headline, TakesFront, NoneRefused, HoldsAll, Agrees}
 use Rattle.ln_pair.specs.Promises.{NoneAddsLate, HasTakenMarks, MarksAgree}
-use Rattle.ln_channel.specs.declared.unsaved.Line.{Line}
-use Rattle.ln_channel.specs.declared.unsaved.Line.TheVariants.{Down, Awaiting, Met}
+use Rattle.ln_channel.specs.declared.unsaved.LineState.{LineState}
+use Rattle.ln_channel.specs.declared.unsaved.LineState.TheVariants.{Down, Awaiting, Met}
 use Rattle.ln_channel.specs.Resume.{resumed}
 use Rattle.ln_pair.proofs.Tests.{parts}
 use Rattle.ln_pair.proofs.Flight.Sides.{Notice, Update, Sign, Revoke, Ready, Shutdown, Close, Again}
@@ -68,7 +68,8 @@ begins_all n k us vs e le =
 begins_so : (p q r s : List Change) → p ≡ r → q ≡ s → Begins p q → Begins r s
 begins_so p q r s e f h = subst (λ w. Begins w s) e (subst (λ w. Begins p w) f h)
 
-follows : (a b : Signer) (lx ly : Line) (x y : End) (ms ns : List Notice) → Flows lx ly (side_of a x) (side_of b y) ms
+follows : (a b : Signer) (lx ly : LineState) (x y : End) (ms ns : List Notice)
+    → Flows lx ly (side_of a x) (side_of b y) ms
     → Flows ly lx (side_of b y) (side_of a x) ns → Follows (party x) (party y)
 follows a b lx ly x y ms ns f g =
     let l = x.dance.log in
@@ -214,7 +215,7 @@ same_worth a b x y f g sx sy =
     ∙ ap (λ o. view_for o k.role (covered k k.current)) (sym f.same)
 
 module _ (a b : Signer) (x y : End) where
-  at_rest : (lx ly : Line) (to_x to_y : List Notice) → lx ≡ Met → ly ≡ Met → to_y ≡ []
+  at_rest : (lx ly : LineState) (to_x to_y : List Notice) → lx ≡ Met → ly ≡ Met → to_y ≡ []
       → Flows lx ly (side_of a x) (side_of b y) to_y → Flows Met Met (side_of a x) (side_of b y) []
   at_rest lx ly to_x to_y ex ey dy f =
       let f1 : Flows Met ly (side_of a x) (side_of b y) to_y =
@@ -239,7 +240,7 @@ agrees a b s c funder fundee steps keys o rest =
 
 -- ---- what was sent beside updates, where nothing is in flight
 
-taken_marks : (a b : Signer) (x y : End) (lx ly : Line) (ms : List Notice) → lx ≡ Met → ly ≡ Met → ms ≡ []
+taken_marks : (a b : Signer) (x y : End) (lx ly : LineState) (ms : List Notice) → lx ≡ Met → ly ≡ Met → ms ≡ []
     → MarksFlow lx ly (side_of a x) (side_of b y) ms → HasTakenMarks x y
 taken_marks a b x y lx ly ms ex ey none t =
     let one : MarksFlight Met ly (side_of a x) (side_of b y) ms =

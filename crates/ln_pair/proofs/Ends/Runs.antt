@@ -29,8 +29,8 @@ use Rattle.ln_channel.specs.Commands.{sign_command_fault}
 use Rattle.ln_channel.specs.Commands.{signs_next, shut_fault, shuts_down, command_row, unready_fault}
 use Rattle.ln_msgs.specs.declared.messages.commitments.ChannelReestablish.{ChannelReestablish}
 use Rattle.ln_dance.specs.Resume.{reestablish_message}
-use Rattle.ln_channel.specs.declared.unsaved.Line.{Line}
-use Rattle.ln_channel.specs.declared.unsaved.Line.TheVariants.{Down, Awaiting, Met}
+use Rattle.ln_channel.specs.declared.unsaved.LineState.{LineState}
+use Rattle.ln_channel.specs.declared.unsaved.LineState.TheVariants.{Down, Awaiting, Met}
 use Rattle.ln_channel.specs.State.{is_down}
 use Rattle.ln_channel.specs.Step.{faulted, line_fault}
 use Rattle.ln_channel.specs.Resume.{resumed}
@@ -85,12 +85,12 @@ flipped a b p h = record {
 pub flipped_keys : (a b : Signer) → ArePartners a b → ArePartners b a
 flipped_keys a b k = record { there = k.back; back = k.there }
 
-posts_twice : (l : Line) (ms ns os : List Notice) → posts l (ms ++ ns) os ≡ posts l ns (posts l ms os)
+posts_twice : (l : LineState) (ms ns os : List Notice) → posts l (ms ++ ns) os ≡ posts l ns (posts l ms os)
 posts_twice Down ms ns os = refl
 posts_twice Awaiting ms ns os = sym (append_assoc os ms ns)
 posts_twice Met ms ns os = sym (append_assoc os ms ns)
 
-arrive_so : (l : Line) (channel : List ℕ) (sent ms : List Message) (new old : List Notice)
+arrive_so : (l : LineState) (channel : List ℕ) (sent ms : List Message) (new old : List Notice)
     → sent ≡ messages_of channel new → ms ≡ messages_of channel old
     → arrive l sent ms ≡ messages_of channel (posts l new old)
 arrive_so Down channel sent ms new old e f = f
@@ -161,7 +161,7 @@ module _ (a b : Signer) (keys : ArePartners a b) where
             p.said_y) said_is begun;
       }
     where
-      extra_so : (o : Bool) (e : End) (channel : List ℕ) (l : Line) (y : End) (sx sy : List Message)
+      extra_so : (o : Bool) (e : End) (channel : List ℕ) (l : LineState) (y : End) (sx sy : List Message)
           → messages_in (cond o (output.Send (message.Shutdown (shutdown_message e)) ∷ []) [])
           ≡ messages_of channel (shutdown_notice a b keys channel l e y sx sy o)
       extra_so true e channel l y sx sy = refl
@@ -425,7 +425,7 @@ module _ (a b : Signer) (keys : ArePartners a b) where
   given (command.Decide event mark) p met h = h
   given (command.Forget id) p met h = h
 
-  commanded_by : (f : Option Refusal) (l : Line) (c : Command) (p : Ends) → p.x_line ≡ l → Sound a b p
+  commanded_by : (f : Option Refusal) (l : LineState) (c : Command) (p : Ends) → p.x_line ≡ l → Sound a b p
       → Sound a b (answers (faulted f (faulted (line_fault l) (command_row a c p.x))) p)
   commanded_by (Some r) l c p is h = h
   commanded_by None Down c p is h = h
@@ -483,7 +483,7 @@ module _ (a b : Signer) (keys : ArePartners a b) where
 
 -- ---- steps
 
-connected_by : (a b : Signer) (lx ly : Line) (p : Ends) (h : Sound a b p)
+connected_by : (a b : Signer) (lx ly : LineState) (p : Ends) (h : Sound a b p)
     → Hold a b h.channel lx ly p.x p.y h.to_x h.to_y p.said_x p.said_y → Sound a b (connects a b lx ly p)
 connected_by a b Down Down p h k = record {
   channel = h.channel;

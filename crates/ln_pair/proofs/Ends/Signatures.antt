@@ -41,8 +41,8 @@ use Rattle.ln_channel.specs.declared.config.OpenSpec.{OpenSpec}
 use Rattle.ln_channel.specs.declared.opening.Opened.{Opened}
 use Rattle.ln_channel.specs.declared.output.Output.{Output}
 use Rattle.ln_channel.specs.declared.output.Output.TheVariants as output
-use Rattle.ln_channel.specs.declared.unsaved.Line.{Line}
-use Rattle.ln_channel.specs.declared.unsaved.Line.TheVariants.{Down, Awaiting, Met}
+use Rattle.ln_channel.specs.declared.unsaved.LineState.{LineState}
+use Rattle.ln_channel.specs.declared.unsaved.LineState.TheVariants.{Down, Awaiting, Met}
 use Rattle.ln_channel.specs.Commands.{ready_message, confirm_fault, confirmed, propose_fault, proposes}
 use Rattle.ln_channel.specs.Commands.{sign_command_fault, signs_next, shut_fault, shuts_down, command_row}
 use Rattle.ln_channel.specs.Commands.{unready_fault}
@@ -310,14 +310,15 @@ one_out s a c n acked signed current le e (Answered e1 e2 e3 e4) = absurd (omega
 
 module _ (a b : Signer) where
   -- x has signed once at least, so y has told it the point
-  has_point : (lx ly : Line) (channel : List ℕ) (x y : End) (to_x to_y : List Notice) (said_x said_y : List Message)
+  has_point : (lx ly : LineState) (channel : List ℕ) (x y : End) (to_x to_y : List Notice)
+      (said_x said_y : List Message)
       → Hold a b channel lx ly x y to_x to_y said_x said_y → (n : ℕ) → x.dance.numbers.signed ≡ n + 1
       → x.marks.ready_received ≡ true
   has_point lx ly channel x y to_x to_y said_x said_y h n is =
       (h.told.there.used_signature (omega (arith, is))).taken
 
   -- the last signature of x, where it lies before a commitment that y has or is to have
-  last_so : (lx ly : Line) (channel : List ℕ) (x y : End) (to_x to_y : List Notice) (said_x said_y : List Message)
+  last_so : (lx ly : LineState) (channel : List ℕ) (x y : End) (to_x to_y : List Notice) (said_x said_y : List Message)
       → Hold a b channel lx ly x y to_x to_y said_x said_y → (n : ℕ) → y.dance.numbers.commitment ≤ n
       → n + 1 ≡ x.dance.numbers.signed → SignsCovered a b x y (signature_again a x.dance)
   last_so lx ly channel x y to_x to_y said_x said_y h n le next =
@@ -365,7 +366,7 @@ module _ (a b : Signer) where
         let P : CommitmentSigned → Type 0 = SignsCovered a b (delivers a (m ∷ ms) p).x (delivers a (m ∷ ms) p).y in
         subst (λ l. EachSigned P (messages_in (told_by (message_at a l m p.x)))) (sym is) (taken_none P a m p.x)
 
-    delivered_by : (l : Line) (p : Ends) → p.x_line ≡ l → (channel : List ℕ) (ns to_y : List Notice)
+    delivered_by : (l : LineState) (p : Ends) → p.x_line ≡ l → (channel : List ℕ) (ns to_y : List Notice)
         → Hold a b channel l p.y_line p.x p.y ns to_y p.said_x p.said_y → SignsTaking (messages_of channel ns) p
     delivered_by l p is channel [] to_y h = tt
     delivered_by Down p is channel (n ∷ ns) to_y h = absurd (let no : n ∷ ns ≡ [] = h.kept.back.flight in cc)
@@ -445,7 +446,7 @@ module _ (a b : Signer) where
     given (command.Decide event mark) p is h = tt
     given (command.Forget id) p is h = tt
 
-    commanded_by : (f : Option Refusal) (l : Line) (c : Command) (p : Ends) → p.x_line ≡ l → Sound a b p
+    commanded_by : (f : Option Refusal) (l : LineState) (c : Command) (p : Ends) → p.x_line ≡ l → Sound a b p
         → SignsBehind (faulted f (faulted (line_fault l) (command_row a c p.x))) p
     commanded_by (Some r) l c p is h = tt
     commanded_by None Down c p is h = tt
@@ -505,7 +506,7 @@ module _ (channel : List ℕ) (P : CommitmentSigned → Type 0) where
   read w own held all Q got a c r first (Again n ∷ ms) le f h = absurd h
 
   module _ (x y : Side) (f : (n : ℕ) → y.number ≤ n → n + 1 ≡ x.signatures → P x.signature) where
-    carried : (l : Line) (ms : List Notice) → Carries l x y ms → EachSigned P (messages_of channel ms)
+    carried : (l : LineState) (ms : List Notice) → Carries l x y ms → EachSigned P (messages_of channel ms)
     carried Down ms h = read (sender x) y.own (holds y) y.signed.own Anywhere y.got y.acked.own y.number y.revocations
         y.number ms (omega arith) f h
     carried Awaiting ms h = subst (λ ns. EachSigned P (messages_of channel ns)) (sym h.0) tt
@@ -513,7 +514,7 @@ module _ (channel : List ℕ) (P : CommitmentSigned → Type 0) where
         (LacksNothing x.own x.current.peer x.signatures x.number) y.got y.acked.own y.number y.revocations y.number ms
         (omega arith) f h
 
-    flown : (lx ly : Line) (ms : List Notice) → InFlight lx ly x y ms → EachSigned P (messages_of channel ms)
+    flown : (lx ly : LineState) (ms : List Notice) → InFlight lx ly x y ms → EachSigned P (messages_of channel ms)
     flown lx Down ms h = subst (λ ns. EachSigned P (messages_of channel ns)) (sym h) tt
     flown lx Awaiting [] h = absurd h
     flown lx Awaiting (Update u ∷ ms) h = absurd h
@@ -527,8 +528,8 @@ module _ (channel : List ℕ) (P : CommitmentSigned → Type 0) where
 
 module _ (a b : Signer) (channel : List ℕ) (x y : End) where
   -- the same updates, where the last signature is due
-  agree_so : (lx ly : Line) (k : CommitmentSigned) (ms ns : List Notice) → Flows lx ly (side_of a x) (side_of b y) ms
-      → Flows ly lx (side_of b y) (side_of a x) ns
+  agree_so : (lx ly : LineState) (k : CommitmentSigned) (ms ns : List Notice)
+      → Flows lx ly (side_of a x) (side_of b y) ms → Flows ly lx (side_of b y) (side_of a x) ns
       → IsDue (sender (side_of a x)) (all_sent y.dance.log.received) y.dance.log.acknowledged.own
       y.dance.numbers.commitment k → AgreesOn x y
   agree_so lx ly k ms ns f g d =
@@ -551,7 +552,7 @@ module _ (a b : Signer) (channel : List ℕ) (x y : End) where
             ∙ ap (λ o. view_for o l.role (party x).signed) f.same;
       }
 
-  in_front_by : (lx : Line) (ms ns : List Notice) → Carries lx (side_of a x) (side_of b y) ms
+  in_front_by : (lx : LineState) (ms ns : List Notice) → Carries lx (side_of a x) (side_of b y) ms
       → Flows lx Met (side_of a x) (side_of b y) ms → Flows Met lx (side_of b y) (side_of a x) ns
       → AgreesInFront x y (messages_of channel ms)
   in_front_by lx [] ns h f g = tt
@@ -564,7 +565,7 @@ module _ (a b : Signer) (channel : List ℕ) (x y : End) where
   in_front_by lx (Close z ∷ ms) ns h f g = tt
   in_front_by lx (Again m ∷ ms) ns h f g = tt
 
-  in_front_so : (lx ly : Line) (ms ns : List Notice) → Flows lx ly (side_of a x) (side_of b y) ms
+  in_front_so : (lx ly : LineState) (ms ns : List Notice) → Flows lx ly (side_of a x) (side_of b y) ms
       → Flows ly lx (side_of b y) (side_of a x) ns → AgreesInFront x y (messages_of channel ms)
   in_front_so lx Down ms ns f g = subst (λ os. AgreesInFront x y (messages_of channel os)) (sym f.flight) tt
   in_front_so lx Awaiting [] ns f g = tt
@@ -577,7 +578,7 @@ module _ (a b : Signer) (channel : List ℕ) (x y : End) where
   in_front_so lx Awaiting (Again m ∷ ms) ns f g = tt
   in_front_so lx Met ms ns f g = in_front_by lx ms ns f.flight f g
 
-  signs : (lx ly : Line) (to_x to_y : List Notice) (said_x said_y : List Message)
+  signs : (lx ly : LineState) (to_x to_y : List Notice) (said_x said_y : List Message)
       → Hold a b channel lx ly x y to_x to_y said_x said_y → Signs a b x y (messages_of channel to_y)
   signs lx ly to_x to_y said_x said_y h = record {
     covered = flown channel (SignsCovered a b x y) (side_of a x) (side_of b y)

@@ -8,8 +8,8 @@ use Rattle.ln_msgs.specs.declared.refusals.refusal.Refusal.{Refusal}
 use Rattle.ln_msgs.specs.declared.refusals.refusal.Refusal.TheVariants as refusal
 use Rattle.ln_keys.specs.Signer.{Signer}
 use Rattle.ln_channel.specs.declared.command.Command.{Command}
-use Rattle.ln_channel.specs.declared.unsaved.Line.{Line}
-use Rattle.ln_channel.specs.declared.unsaved.Line.TheVariants.{Down, Awaiting, Met}
+use Rattle.ln_channel.specs.declared.unsaved.LineState.{LineState}
+use Rattle.ln_channel.specs.declared.unsaved.LineState.TheVariants.{Down, Awaiting, Met}
 use Rattle.ln_channel.specs.Commands.{unready_fault}
 use Rattle.ln_channel.specs.End.{End, Turn, end_dropped}
 use Rattle.ln_channel.specs.State.{is_down}
@@ -23,10 +23,10 @@ use Rattle.ln_pair.proofs.Ends.Runs.{Sound}
 
 -- ---- an end that waits has the peer's channel_reestablish in front
 
-abbrev pub IsGreeted : Line → List Message → Type 0
+abbrev pub IsGreeted : LineState → List Message → Type 0
 IsGreeted l ms = l ≡ Awaiting → ms ≡ [] → ⊥
 
-greeted_by : (lx l : Line) (x y : Side) (channel : List ℕ) (ns : List Notice) → InFlight lx l x y ns
+greeted_by : (lx l : LineState) (x y : Side) (channel : List ℕ) (ns : List Notice) → InFlight lx l x y ns
     → IsGreeted l (messages_of channel ns)
 greeted_by lx Down x y channel ns h is none = absurd (cc)
 greeted_by lx Met x y channel ns h is none = absurd (cc)
@@ -55,7 +55,7 @@ is_deed Lose = false
 is_deed (Cut n) = false
 is_deed Save = true
 
-nothing_sent : (l : Line) (ms : List Message) → ms ≡ arrive l [] ms
+nothing_sent : (l : LineState) (ms : List Message) → ms ≡ arrive l [] ms
 nothing_sent Down ms = refl
 nothing_sent Awaiting ms = sym (append-nil ms)
 nothing_sent Met ms = sym (append-nil ms)
@@ -86,10 +86,10 @@ deeds_leave keys Save q is =
 -- ---- no deed makes a connection, or ends one
 
 -- an end that is down refuses
-abbrev RefusesAtDown : Line → Result Turn Refusal → Type 0
+abbrev RefusesAtDown : LineState → Result Turn Refusal → Type 0
 RefusesAtDown l r = l ≡ Down → (w : Refusal) × (r ≡ Err w)
 
-answers_line : (l : Line) (r : Result Turn Refusal) (q : Ends) → q.x_line ≡ l → RefusesAtDown l r
+answers_line : (l : LineState) (r : Result Turn Refusal) (q : Ends) → q.x_line ≡ l → RefusesAtDown l r
     → is_down (answers r q).x_line ≡ is_down l
 answers_line l (Err w) q e h = ap is_down e
 answers_line Awaiting (Ok t) q e h = refl
@@ -103,10 +103,10 @@ faulted_so : (f : Option Refusal) (w : Refusal)
 faulted_so None w = (w, refl)
 faulted_so (Some r) w = (r, refl)
 
-message_down : (keys : Signer) (l : Line) (m : Message) (e : End) → RefusesAtDown l (message_at keys l m e)
+message_down : (keys : Signer) (l : LineState) (m : Message) (e : End) → RefusesAtDown l (message_at keys l m e)
 message_down keys l m e is = (refusal.OutOfPlace, ap (λ n. message_at keys n m e) is)
 
-command_down : (keys : Signer) (l : Line) (c : Command) (e : End) → RefusesAtDown l (command_at keys l c e)
+command_down : (keys : Signer) (l : LineState) (c : Command) (e : End) → RefusesAtDown l (command_at keys l c e)
 command_down keys Down c e is = faulted_so (unready_fault c e) _
 command_down keys Awaiting c e is = absurd (cc)
 command_down keys Met c e is = absurd (cc)
@@ -130,13 +130,13 @@ deeds_line keys Save q is = refl
 -- ---- all that was sent is lost, and nothing else
 
 -- how many still come, behind the first where an end waits
-abbrev count_behind : Line → List Message → ℕ
+abbrev count_behind : LineState → List Message → ℕ
 count_behind Down ms = 0
 count_behind Awaiting [] = 0
 count_behind Awaiting (m ∷ ms) = length ms
 count_behind Met ms = length ms
 
-what_came : (l : Line) (sent ms : List Message) → IsGreeted l ms
+what_came : (l : LineState) (sent ms : List Message) → IsGreeted l ms
     → still_come (count_behind l ms) l (arrive l sent ms) ≡ ms
 what_came Down sent ms h = refl
 what_came Awaiting sent [] h = absurd (h refl refl)

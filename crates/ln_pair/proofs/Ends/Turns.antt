@@ -19,8 +19,8 @@ use Rattle.ln_channel.specs.Taking.{takes, takes_ready, accepts, accepting, revo
 use Rattle.ln_channel.specs.Taking.{shutdown_at, shuts_by_peer, message_row}
 use Rattle.ln_pair.specs.Ends.{messages_in}
 use Rattle.ln_keys.specs.Partners.{ArePartners}
-use Rattle.ln_channel.specs.declared.unsaved.Line.{Line}
-use Rattle.ln_channel.specs.declared.unsaved.Line.TheVariants.{Down, Awaiting, Met}
+use Rattle.ln_channel.specs.declared.unsaved.LineState.{LineState}
+use Rattle.ln_channel.specs.declared.unsaved.LineState.TheVariants.{Down, Awaiting, Met}
 use Rattle.std.specs.Prelude.{option_map}
 use Rattle.std.proofs.lemmas.List.{take_all, nil_from_length}
 use Rattle.std.proofs.lemmas.Bool.{eqb-true}
@@ -99,7 +99,7 @@ is_close (Shutdown m) = false
 is_close (Close m) = true
 is_close (Again m) = false
 
-pub nothing_posted : (l : Line) (ms : List Notice) → posts l [] ms ≡ ms
+pub nothing_posted : (l : LineState) (ms : List Notice) → posts l [] ms ≡ ms
 nothing_posted Down ms = refl
 nothing_posted Awaiting ms = append-nil ms
 nothing_posted Met ms = append-nil ms
@@ -148,7 +148,7 @@ begun_so k e h =
       none_got = live_none l.received l.own none_got;
     }
 
-module _ (a b : Signer) (keys : ArePartners a b) (channel : List ℕ) (ly : Line) (x y : End)
+module _ (a b : Signer) (keys : ArePartners a b) (channel : List ℕ) (ly : LineState) (x y : End)
     (said_x said_y : List Message) where
   pub row : (n : Notice) (ns to_y : List Notice) → is_close n ≡ false
       → Hold a b channel Met ly x y (n ∷ ns) to_y said_x said_y
@@ -285,15 +285,15 @@ module _ (a b : Signer) (keys : ArePartners a b) (channel : List ℕ) (ly : Line
 
 -- where it has no connection nothing is; where it waits, the peer's channel_reestablish; and else a message that is
 -- taken by its row, or a closing_signed, which may be refused for its fee
-pub by_front : (a b : Signer) (channel : List ℕ) (ly : Line) (x y : End) (to_y : List Notice)
-    (said_x said_y : List Message) (C : Line → List Notice → Type 0) → ((l : Line) → C l [])
+pub by_front : (a b : Signer) (channel : List ℕ) (ly : LineState) (x y : End) (to_y : List Notice)
+    (said_x said_y : List Message) (C : LineState → List Notice → Type 0) → ((l : LineState) → C l [])
     → ((m : ChannelReestablish) (ns : List Notice)
     → Hold a b channel Awaiting ly x y (Again m ∷ ns) to_y said_x said_y → C Awaiting (Again m ∷ ns))
     → ((n : Notice) (ns : List Notice) → is_close n ≡ false
     → Hold a b channel Met ly x y (n ∷ ns) to_y said_x said_y → C Met (n ∷ ns))
     → ((m : ClosingSigned) (ns : List Notice) → Hold a b channel Met ly x y (Close m ∷ ns) to_y said_x said_y
     → C Met (Close m ∷ ns))
-    → (l : Line) (ns : List Notice) → Hold a b channel l ly x y ns to_y said_x said_y → C l ns
+    → (l : LineState) (ns : List Notice) → Hold a b channel l ly x y ns to_y said_x said_y → C l ns
 by_front a b i ly x y os sx sy C none again row fee l [] h = none l
 by_front a b i ly x y os sx sy C none again row fee Down (n ∷ ns) h =
     absurd (let no : n ∷ ns ≡ [] = h.kept.back.flight in cc)

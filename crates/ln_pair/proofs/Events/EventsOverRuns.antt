@@ -17,8 +17,8 @@ use Rattle.ln_close.specs.declared.closing.FeeAnswer.TheVariants as answer
 use Rattle.ln_close.specs.Closing.{answer_to}
 use Rattle.ln_channel.specs.declared.command.Command.{Command}
 use Rattle.ln_channel.specs.declared.command.Command.TheVariants as command
-use Rattle.ln_channel.specs.declared.unsaved.Line.{Line}
-use Rattle.ln_channel.specs.declared.unsaved.Line.TheVariants.{Down, Awaiting, Met}
+use Rattle.ln_channel.specs.declared.unsaved.LineState.{LineState}
+use Rattle.ln_channel.specs.declared.unsaved.LineState.TheVariants.{Down, Awaiting, Met}
 use Rattle.ln_channel.specs.declared.config.Config.{Config}
 use Rattle.ln_channel.specs.declared.config.OpenSpec.{OpenSpec}
 use Rattle.ln_channel.specs.declared.opening.Opened.{Opened}
@@ -157,8 +157,8 @@ ready_ledger : (b : Bool) (x k n : End) → n ≡ cond b x k → k.ledger ≡ x.
 ready_ledger true x k n is e = ap (λ (q : End). q.ledger) is
 ready_ledger false x k n is e = ap (λ (q : End). q.ledger) is ∙ e
 
-module _ (a b : Signer) (keys : ArePartners a b) (r : Role) (o : Opening) (channel : List ℕ) (ly : Line) (x y : End)
-    (said_x said_y : List Message) where
+module _ (a b : Signer) (keys : ArePartners a b) (r : Role) (o : Opening) (channel : List ℕ) (ly : LineState)
+    (x y : End) (said_x said_y : List Message) where
   abbrev tail : Notice → List Move
   tail n = closes r x.closing.closed (settled (turn_of a n x).end).closing.closed
       ++ shuts r x.closing.shut (settled (turn_of a n x).end).closing.shut
@@ -533,7 +533,7 @@ module _ (a b : Signer) (keys : ArePartners a b) (r : Role) (o : Opening) where
   given (command.Decide event mark) p = rests p p refl
   given (command.Forget id) p = rests p p refl
 
-  commanded_by : (f : Option Refusal) (l : Line) (c : Command) (p : Ends)
+  commanded_by : (f : Option Refusal) (l : LineState) (c : Command) (p : Ends)
       → TellsEvents r o p.x (answers (faulted f (faulted (line_fault l) (command_row a c p.x))) p).x (party p.y)
       (moves_of_command r c p.x (faulted f (faulted (line_fault l) (command_row a c p.x))))
       (told_by (faulted f (faulted (line_fault l) (command_row a c p.x))))
@@ -615,7 +615,7 @@ nothing_told r o ms p q none same = record {
       ∙ ap (λ es. next_of r p + length (as_told es)) (sym none);
 }
 
-connect_next : (a b : Signer) (r : Role) (lx ly : Line) (p : Ends) → next_of r (connects a b lx ly p) ≡ next_of r p
+connect_next : (a b : Signer) (r : Role) (lx ly : LineState) (p : Ends) → next_of r (connects a b lx ly p) ≡ next_of r p
 connect_next a b Funder Down Down p = refl
 connect_next a b Fundee Down Down p = refl
 connect_next a b r Down Awaiting p = refl
@@ -759,7 +759,7 @@ step_pends a b keys Funder (By Fundee act) o p k h named =
 step_pends a b keys r Connect o p k h named =
     same_pends (end_of_role r p) (end_of_role r (happens a b Connect p)) (same r p.x_line p.y_line) named
   where
-    same : (q : Role) (lx ly : Line) → end_of_role q (connects a b lx ly p) ≡ end_of_role q p
+    same : (q : Role) (lx ly : LineState) → end_of_role q (connects a b lx ly p) ≡ end_of_role q p
     same Funder Down Down = refl
     same Fundee Down Down = refl
     same q Down Awaiting = refl

@@ -21,8 +21,8 @@ use Rattle.ln_channel.specs.Opening.{unless}
 use Rattle.ln_channel.specs.End.{End, Turn, quiet, is_closed, sending}
 use Rattle.ln_channel.specs.Taking.{message_row, shutdown_at}
 use Rattle.ln_channel.specs.Commands.{command_row, propose_row, propose_fault, proposes}
-use Rattle.ln_channel.specs.declared.unsaved.Line.{Line}
-use Rattle.ln_channel.specs.declared.unsaved.Line.TheVariants.{Down, Awaiting, Met}
+use Rattle.ln_channel.specs.declared.unsaved.LineState.{LineState}
+use Rattle.ln_channel.specs.declared.unsaved.LineState.TheVariants.{Down, Awaiting, Met}
 use Rattle.ln_channel.specs.State.{is_down}
 use Rattle.ln_channel.specs.Step.{faulted, line_fault}
 use Rattle.ln_dance.specs.Resume.{resume_fault}
@@ -259,7 +259,7 @@ meets_fees k (message.RevokeAndAck m) e = tt
 meets_fees k (message.UpdateFee m) e = tt
 meets_fees k (message.UpdateFailMalformedHtlc m) e = tt
 
-message_fees : (k : Signer) (l : Line) (m : Message) (e : End) → KeepsFees e (message_at k l m e)
+message_fees : (k : Signer) (l : LineState) (m : Message) (e : End) → KeepsFees e (message_at k l m e)
 message_fees k Down m e = tt
 message_fees k Awaiting m e = meets_fees k m e
 message_fees k Met m e = completed_fees k (message_row k m e) e (row_fees k m e (is_closing_signed m) refl)
@@ -319,7 +319,7 @@ acts_fees k Lose p = loses_fees (is_down p.x_line) p
 acts_fees k (Cut n) p = cuts_fees (is_down p.x_line) n p
 acts_fees k Save p = record { x = refl; y = refl }
 
-connects_fees : (a b : Signer) (lx ly : Line) (p : Ends) → SameFees p (connects a b lx ly p)
+connects_fees : (a b : Signer) (lx ly : LineState) (p : Ends) → SameFees p (connects a b lx ly p)
 connects_fees a b Down Down p = record { x = refl; y = refl }
 connects_fees a b Down Awaiting p = record { x = refl; y = refl }
 connects_fees a b Down Met p = record { x = refl; y = refl }

@@ -19,8 +19,8 @@ use Rattle.ln_close.specs.Closing.{is_funder, may_start, after_shut, answer_to}
 use Rattle.ln_close.specs.Closing as closing
 use Rattle.ln_channel.specs.declared.command.Command.{Command}
 use Rattle.ln_channel.specs.declared.command.Command.TheVariants as command
-use Rattle.ln_channel.specs.declared.unsaved.Line.{Line}
-use Rattle.ln_channel.specs.declared.unsaved.Line.TheVariants.{Down, Awaiting, Met}
+use Rattle.ln_channel.specs.declared.unsaved.LineState.{LineState}
+use Rattle.ln_channel.specs.declared.unsaved.LineState.TheVariants.{Down, Awaiting, Met}
 use Rattle.ln_channel.specs.declared.opening.Opened.{Opened}
 use Rattle.ln_channel.specs.declared.output.Output.{Output}
 use Rattle.ln_channel.specs.declared.output.Output.TheVariants as output
@@ -64,13 +64,13 @@ offers-append (m ∷ ms) ns = ap (λ os. offer_in m ++ os) (offers-append ms ns)
     ∙ sym (append_assoc (offer_in m) (offers_in ms) (offers_in ns))
 
 -- all that was sent comes, or nothing
-came_by : (l : Line) (ms old : List Message) → (offers_in (arrive l ms old) ≡ offers_in old)
+came_by : (l : LineState) (ms old : List Message) → (offers_in (arrive l ms old) ≡ offers_in old)
     ⊎ (offers_in (arrive l ms old) ≡ offers_in old ++ offers_in ms)
 came_by Down ms old = inl refl
 came_by Awaiting ms old = inr (offers-append old ms)
 came_by Met ms old = inr (offers-append old ms)
 
-came : (l : Line) (d e : Deal) (ms old : List Message) (q : List Offer) → Priced d e (offers_in old) q
+came : (l : LineState) (d e : Deal) (ms old : List Message) (q : List Offer) → Priced d e (offers_in old) q
     → Priced d e (offers_in old ++ offers_in ms) q → Priced d e (offers_in (arrive l ms old)) q
 came l d e ms old q h k = by (came_by l ms old)
   where
@@ -80,13 +80,13 @@ came l d e ms old q h k = by (came_by l ms old)
     by (inr i) = subst (λ p. Priced d e p q) (sym i) k
 
 -- no closing fee is sent
-quietly : (l : Line) (d e : Deal) (ms old : List Message) (q : List Offer) → offers_in ms ≡ []
+quietly : (l : LineState) (d e : Deal) (ms old : List Message) (q : List Offer) → offers_in ms ≡ []
     → Priced d e (offers_in old) q → Priced d e (offers_in (arrive l ms old)) q
 quietly l d e ms old q none h = came l d e ms old q h (subst (λ p. Priced d e p q)
     (sym (ap (λ p. offers_in old ++ p) none ∙ append-nil (offers_in old))) h)
 
 -- the last fee is sent
-sends_last : (l : Line) (d e : Deal) (n : ℕ) (ms old : List Message) (q : List Offer)
+sends_last : (l : LineState) (d e : Deal) (n : ℕ) (ms old : List Message) (q : List Offer)
     → offers_in ms ≡ record { fee = n; range = d.range } ∷ [] → d.bid ≡ Some n → Priced d e (offers_in old) q
     → Priced d e (offers_in (arrive l ms old)) q
 sends_last l d e n ms old q one bid h = came l d e ms old q h (subst (λ p. Priced d e (offers_in old ++ p) q) (sym one)
@@ -96,26 +96,26 @@ drop_all : (d e : Deal) (os ps qs : List Offer) → Priced d e os (ps ++ qs) →
 drop_all d e os [] qs h = h
 drop_all d e os (p ∷ ps) qs h = drop_all d e os ps qs (passed_over d e p os (ps ++ qs) h)
 
-arrive_twice : (l : Line) (ms ns os : List Message) → arrive l (ms ++ ns) os ≡ arrive l ns (arrive l ms os)
+arrive_twice : (l : LineState) (ms ns os : List Message) → arrive l (ms ++ ns) os ≡ arrive l ns (arrive l ms os)
 arrive_twice Down ms ns os = refl
 arrive_twice Awaiting ms ns os = sym (append_assoc os ms ns)
 arrive_twice Met ms ns os = sym (append_assoc os ms ns)
 
-pub arrive_both : (l : Line) (ps qs : List Output) (os : List Message)
+pub arrive_both : (l : LineState) (ps qs : List Output) (os : List Message)
     → arrive l (messages_in (ps ++ qs)) os ≡ arrive l (messages_in qs) (arrive l (messages_in ps) os)
 arrive_both l ps qs os = ap (λ ms. arrive l ms os) (messages_in-append ps qs)
     ∙ arrive_twice l (messages_in ps) (messages_in qs) os
 
 -- ---- the end of a turn
 
-shut_by : (l : Line) (o : Bool) (n : End) (e : Deal) (old : List Message) (q : List Offer)
+shut_by : (l : LineState) (o : Bool) (n : End) (e : Deal) (old : List Message) (q : List Offer)
     → Priced (deal_of n.closing) e (offers_in old) q
     → Priced (deal_of (cond o (record n { closing = after_shut n.closing }) n).closing) e
     (offers_in (arrive l (messages_in (cond o (output.Send (message.Shutdown (shutdown_message n)) ∷ []) [])) old)) q
 shut_by l true n e old q h = quietly l (deal_of n.closing) e (message.Shutdown (shutdown_message n) ∷ []) old q refl h
 shut_by l false n e old q h = quietly l (deal_of n.closing) e [] old q refl h
 
-fee_by : (l : Line) (t s : Bool) (k : Signer) (n : End) (e : Deal) (old : List Message) (q : List Offer)
+fee_by : (l : LineState) (t s : Bool) (k : Signer) (n : End) (e : Deal) (old : List Message) (q : List Offer)
     → may_start n.closing ≡ s → Priced (deal_of n.closing) e (offers_in old) q
     → Priced (deal_of (cond t (record n {
       closing = cond s (record n.closing { own_fee = Some n.closing.fees.first })
@@ -134,7 +134,7 @@ fee_by l true true k n e old q is h =
     (first_bid (deal_of c) e (offers_in old) q
     (and_left (is_funder c.role) (c.shut && (c.peer_shut && is_none c.own_fee)) is) none h)
 
-due_at : (l : Line) (k : Signer) (n : End) (e : Deal) (old : List Message) (q : List Offer)
+due_at : (l : LineState) (k : Signer) (n : End) (e : Deal) (old : List Message) (q : List Offer)
     → Priced (deal_of n.closing) e (offers_in old) q
     → Priced (deal_of (settled n).closing) e (offers_in (arrive l (messages_in (due_sent k n)) old)) q
 due_at l k n e old q h =
@@ -239,7 +239,7 @@ again_offers k m n =
     ∙ skip c o tail (owed_none k f i m.next_revocation_number x)
     ∙ skip c (shutdown_again x) closes (when_none k f x.shut (Shutdown x.shut_message ∷ []) tt)
 
-resumed_by : (l : Line) (k : Signer) (n : End) (o : Option ℕ) (ms : List Message) (e : Deal) (old : List Message)
+resumed_by : (l : LineState) (k : Signer) (n : End) (o : Option ℕ) (ms : List Message) (e : Deal) (old : List Message)
     (q : List Offer) → n.closing.own_fee ≡ o
     → offers_in ms ≡ offers_in (messages_of n.dance.channel (closes_of (option_map (closing_message k n) o)))
     → Priced (deal_of n.closing) e (offers_in old) q → Priced (deal_of n.closing) e (offers_in (arrive l ms old)) q
@@ -314,7 +314,7 @@ row_at k (message.RevokeAndAck m) true p is h = absurd (cc)
 row_at k (message.UpdateFee m) true p is h = absurd (cc)
 row_at k (message.UpdateFailMalformedHtlc m) true p is h = absurd (cc)
 
-message_by : (k : Signer) (l : Line) (m : Message) (p : Ends) → Before m p → At (answers (message_at k l m p.x) p)
+message_by : (k : Signer) (l : LineState) (m : Message) (p : Ends) → Before m p → At (answers (message_at k l m p.x) p)
 message_by k Down m p h = behind m p h
 message_by k Awaiting m p h = meets_at k m p (behind m p h)
 message_by k Met m p h = row_at k m (is_closing_signed m) p refl h
@@ -381,7 +381,7 @@ acts_at k Save p h = h
 pub turned_at : (p : Ends) → At p → At (turned p)
 turned_at p h = swap (deal_of p.x.closing) (deal_of p.y.closing) (offers_in p.to_y) (offers_in p.to_x) h
 
-connects_at : (a b : Signer) (lx ly : Line) (p : Ends) → At p → At (connects a b lx ly p)
+connects_at : (a b : Signer) (lx ly : LineState) (p : Ends) → At p → At (connects a b lx ly p)
 connects_at a b Down Down p h =
     let d = deal_of p.x.closing in
     let e = deal_of p.y.closing in

@@ -16,8 +16,8 @@ use Rattle.ln_close.specs.Closing.{is_funder, may_start}
 use Rattle.ln_dance.specs.Messages.{update_message}
 use Rattle.ln_channel.specs.declared.command.Command.{Command}
 use Rattle.ln_channel.specs.declared.command.Command.TheVariants as command
-use Rattle.ln_channel.specs.declared.unsaved.Line.{Line}
-use Rattle.ln_channel.specs.declared.unsaved.Line.TheVariants.{Down, Awaiting, Met}
+use Rattle.ln_channel.specs.declared.unsaved.LineState.{LineState}
+use Rattle.ln_channel.specs.declared.unsaved.LineState.TheVariants.{Down, Awaiting, Met}
 use Rattle.ln_channel.specs.Opening.{unless}
 use Rattle.ln_channel.specs.End.{End, Turn, has_begun, is_settled, all_acknowledged, answers_shutdown, settled, sending}
 use Rattle.ln_channel.specs.End.{completed, end_dropped, shutdown_message}
@@ -97,7 +97,7 @@ given = record {
 }
 
 -- before closing has begun
-pub not_begun : (l : Line) (e : End) → e.closing.peer_shut ≡ false → WhenMet Bids l e
+pub not_begun : (l : LineState) (e : End) → e.closing.peer_shut ≡ false → WhenMet Bids l e
 not_begun l e none = λ met x y.
     let c = e.closing in
     let rest = and_right c.shut (c.peer_shut && is_settled e.dance.log) y in

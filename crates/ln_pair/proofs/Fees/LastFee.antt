@@ -17,8 +17,8 @@ use Rattle.ln_close.specs.declared.closing.FeeAnswer.TheVariants as answer
 use Rattle.ln_close.specs.Closing.{is_funder, may_start, after_shut, answer_to}
 use Rattle.ln_channel.specs.declared.command.Command.{Command}
 use Rattle.ln_channel.specs.declared.command.Command.TheVariants as command
-use Rattle.ln_channel.specs.declared.unsaved.Line.{Line}
-use Rattle.ln_channel.specs.declared.unsaved.Line.TheVariants.{Down, Awaiting, Met}
+use Rattle.ln_channel.specs.declared.unsaved.LineState.{LineState}
+use Rattle.ln_channel.specs.declared.unsaved.LineState.TheVariants.{Down, Awaiting, Met}
 use Rattle.ln_channel.specs.declared.output.Output.TheVariants as output
 use Rattle.ln_channel.specs.Opening.{unless}
 use Rattle.ln_channel.specs.End.{End, Turn, sending, has_begun, completed, settled, answers_shutdown, owes_shutdown}
@@ -50,7 +50,7 @@ hears h (o ∷ os) = hears (Some o.fee) os
 
 -- of the deal d of an end with the line lx, and the deal e of its peer with the line ly: os are on their way to the
 -- peer, and qs to the end
-pub record Hearing (lx ly : Line) (d e : Deal) (os qs : List Offer) : Type 0 where
+pub record Hearing (lx ly : LineState) (d e : Deal) (os qs : List Offer) : Type 0 where
   pub firm : Firm d
   pub their_firm : Firm e
   pub known : (n : ℕ) → e.heard ≡ Some n → is_some d.bid ≡ true
@@ -68,7 +68,7 @@ hears-last h [] o = refl
 hears-last h (p ∷ os) o = hears-last (Some p.fee) os o
 
 -- no closing fee is sent
-quiet_last : (l : Line) (h bid : Option ℕ) (ms old : List Message) → offers_in ms ≡ []
+quiet_last : (l : LineState) (h bid : Option ℕ) (ms old : List Message) → offers_in ms ≡ []
     → ((l ≡ Down → ⊥) → hears h (offers_in old) ≡ bid) → (l ≡ Down → ⊥) → hears h (offers_in (arrive l ms old)) ≡ bid
 quiet_last Down h bid ms old none k up = absurd (up refl)
 quiet_last Awaiting h bid ms old none k up = ap (hears h) (offers-append old ms
@@ -77,7 +77,7 @@ quiet_last Met h bid ms old none k up = ap (hears h) (offers-append old ms
     ∙ ap (λ p. offers_in old ++ p) none ∙ append-nil (offers_in old)) ∙ k up
 
 -- the last fee is sent
-sent_last : (l : Line) (h bid : Option ℕ) (o : Offer) (ms old : List Message) → offers_in ms ≡ o ∷ []
+sent_last : (l : LineState) (h bid : Option ℕ) (o : Offer) (ms old : List Message) → offers_in ms ≡ o ∷ []
     → bid ≡ Some o.fee → (l ≡ Down → ⊥) → hears h (offers_in (arrive l ms old)) ≡ bid
 sent_last Down h bid o ms old one is up = absurd (up refl)
 sent_last Awaiting h bid o ms old one is up = ap (hears h) (offers-append old ms
@@ -85,7 +85,7 @@ sent_last Awaiting h bid o ms old one is up = ap (hears h) (offers-append old ms
 sent_last Met h bid o ms old one is up = ap (hears h) (offers-append old ms
     ∙ ap (λ p. offers_in old ++ p) one) ∙ hears-last h (offers_in old) o ∙ sym is
 
-quietly : (l : Line) (d e : Deal) (ms old : List Message) (q : List Offer) → offers_in ms ≡ []
+quietly : (l : LineState) (d e : Deal) (ms old : List Message) (q : List Offer) → offers_in ms ≡ []
     → Hearing Met l d e (offers_in old) q → Hearing Met l d e (offers_in (arrive l ms old)) q
 quietly l d e ms old q none h = record {
   firm = h.firm;
@@ -98,14 +98,14 @@ quietly l d e ms old q none h = record {
 
 -- ---- the end of a turn
 
-shut_by : (l : Line) (o : Bool) (n : End) (e : Deal) (old : List Message) (q : List Offer)
+shut_by : (l : LineState) (o : Bool) (n : End) (e : Deal) (old : List Message) (q : List Offer)
     → Hearing Met l (deal_of n.closing) e (offers_in old) q
     → Hearing Met l (deal_of (cond o (record n { closing = after_shut n.closing }) n).closing) e
     (offers_in (arrive l (messages_in (cond o (output.Send (message.Shutdown (shutdown_message n)) ∷ []) [])) old)) q
 shut_by l true n e old q h = quietly l (deal_of n.closing) e (message.Shutdown (shutdown_message n) ∷ []) old q refl h
 shut_by l false n e old q h = quietly l (deal_of n.closing) e [] old q refl h
 
-fee_by : (l : Line) (t s : Bool) (k : Signer) (n : End) (e : Deal) (old : List Message) (q : List Offer)
+fee_by : (l : LineState) (t s : Bool) (k : Signer) (n : End) (e : Deal) (old : List Message) (q : List Offer)
     → may_start n.closing ≡ s → Hearing Met l (deal_of n.closing) e (offers_in old) q
     → Hearing Met l (deal_of (cond t (record n {
       closing = cond s (record n.closing { own_fee = Some n.closing.fees.first })
@@ -130,7 +130,7 @@ fee_by l true true k n e old q is h =
       their_last = h.their_last;
     }
 
-due_by : (l : Line) (k : Signer) (n : End) (e : Deal) (old : List Message) (q : List Offer)
+due_by : (l : LineState) (k : Signer) (n : End) (e : Deal) (old : List Message) (q : List Offer)
     → Hearing Met l (deal_of n.closing) e (offers_in old) q
     → Hearing Met l (deal_of (settled n).closing) e (offers_in (arrive l (messages_in (due_sent k n)) old)) q
 due_by l k n e old q h =
@@ -175,14 +175,14 @@ aside_taken k (Err r) p a is h = absurd (let no : Err r ≡ Ok is.0 = is.1 in cc
 -- ---- a closing fee is taken
 
 -- behind the answer, before what it sends is on its way
-record Answered (ly : Line) (d e : Deal) (os qs : List Offer) : Type 0 where
+record Answered (ly : LineState) (d e : Deal) (os qs : List Offer) : Type 0 where
   firm : Firm d
   their_firm : Firm e
   known : (n : ℕ) → e.heard ≡ Some n → is_some d.bid ≡ true
   their_known : (n : ℕ) → d.heard ≡ Some n → is_some e.bid ≡ true
   their_last : ly ≡ Met → (Met ≡ Down → ⊥) → hears d.heard qs ≡ e.bid
 
-sends_it : (l : Line) (d e : Deal) (o : Offer) (ms old : List Message) (q : List Offer) → offers_in ms ≡ o ∷ []
+sends_it : (l : LineState) (d e : Deal) (o : Offer) (ms old : List Message) (q : List Offer) → offers_in ms ≡ o ∷ []
     → d.bid ≡ Some o.fee → Answered l d e (offers_in old) q → Hearing Met l d e (offers_in (arrive l ms old)) q
 sends_it l d e o ms old q one bid h = record {
   firm = h.firm;
@@ -193,7 +193,7 @@ sends_it l d e o ms old q one bid h = record {
   their_last = h.their_last;
 }
 
-quiet_it : (l : Line) (d e : Deal) (old : List Message) (q : List Offer) → ((l ≡ Down → ⊥) → hears e.heard
+quiet_it : (l : LineState) (d e : Deal) (old : List Message) (q : List Offer) → ((l ≡ Down → ⊥) → hears e.heard
     (offers_in old) ≡ d.bid) → Answered l d e (offers_in old) q → Hearing Met l d e (offers_in (arrive l [] old)) q
 quiet_it l d e old q last h = record {
   firm = h.firm;
@@ -243,7 +243,7 @@ offered_bid d e os o qs (inr a) = by a.offered.1
     by (inl k) = k.1
     by (inr k) = ap is_some k.0
 
-dealt_by : (a : FeeAnswer) (m : ClosingSigned) (ly : Line) (d e : Deal) (os qs : List Offer)
+dealt_by : (a : FeeAnswer) (m : ClosingSigned) (ly : LineState) (d e : Deal) (os qs : List Offer)
     → Fair d m.fee_satoshis (range_in m) a → Sure d m.fee_satoshis (Ok a)
     → Priced d e os (record { fee = m.fee_satoshis; range = range_in m } ∷ qs)
     → Hearing Met ly d e os (record { fee = m.fee_satoshis; range = range_in m } ∷ qs)
@@ -288,7 +288,7 @@ none_of : (h bid : Option ℕ) → ((n : ℕ) → h ≡ Some n → is_some bid �
 none_of None bid k e = refl
 none_of (Some n) bid k e = absurd (let no : true ≡ false = sym (k n refl) ∙ ap is_some e in cc)
 
-again_last : (l : Line) (k : Signer) (n : End) (o : Option ℕ) (ms : List Message) (e : Deal) (old : List Message)
+again_last : (l : LineState) (k : Signer) (n : End) (o : Option ℕ) (ms : List Message) (e : Deal) (old : List Message)
     (q : List Offer) → n.closing.own_fee ≡ o
     → offers_in ms ≡ offers_in (messages_of n.dance.channel (closes_of (option_map (closing_message k n) o)))
     → ((m : ℕ) → e.heard ≡ Some m → is_some n.closing.own_fee ≡ true)
@@ -324,7 +324,7 @@ resume_by (Some r) k m p is c h = absurd (let no : Err r ≡ Ok is.0 = is.1 in c
 -- ---- a message is delivered
 
 -- p, behind the message m, where x has this line
-abbrev Before : Line → Message → Ends → Type 0
+abbrev Before : LineState → Message → Ends → Type 0
 Before l m p = Hearing l p.y_line (deal_of p.x.closing) (deal_of p.y.closing) (offers_in p.to_y)
     (offer_in m ++ offers_in p.to_x)
 
@@ -407,7 +407,7 @@ row_by k (message.CommitmentSigned m) true p is t c h = absurd (cc (is))
 row_by k (message.RevokeAndAck m) true p is t c h = absurd (cc (is))
 row_by k (message.ChannelReestablish m) true p is t c h = absurd (cc (is))
 
-message_by : (k : Signer) (l : Line) (m : Message) (p : Ends) → IsTaken (message_at k l m p.x) → PricedBefore m p
+message_by : (k : Signer) (l : LineState) (m : Message) (p : Ends) → IsTaken (message_at k l m p.x) → PricedBefore m p
     → Before l m p → IsHeard (answers (message_at k l m p.x) p)
 message_by k Down m p is c h = absurd (let no : Err refusal.OutOfPlace ≡ Ok is.0 = is.1 in cc)
 message_by k Awaiting m p is c h = meets_by k m p is c h
@@ -445,7 +445,7 @@ command_by k command.Sign true p is h i = absurd (cc)
 command_by k (command.Decide event mark) true p is h i = absurd (cc)
 command_by k (command.Forget id) true p is h i = absurd (cc)
 
-given_by : (f : Option Refusal) (l : Line) (k : Signer) (c : Command) (p : Ends) → p.x_line ≡ l → IsHeard p
+given_by : (f : Option Refusal) (l : LineState) (k : Signer) (c : Command) (p : Ends) → p.x_line ≡ l → IsHeard p
     → IsHeard (answers (faulted f (faulted (line_fault l) (command_row k c p.x))) p)
 given_by (Some r) l k c p is h = h
 given_by None Down k c p is h = h
@@ -499,7 +499,7 @@ turned_by p h = record {
   their_last = h.last;
 }
 
-connects_by : (a b : Signer) (lx ly : Line) (p : Ends) → IsHeard p → IsHeard (connects a b lx ly p)
+connects_by : (a b : Signer) (lx ly : LineState) (p : Ends) → IsHeard p → IsHeard (connects a b lx ly p)
 connects_by a b Down Down p h = record {
   firm = h.firm;
   their_firm = h.their_firm;

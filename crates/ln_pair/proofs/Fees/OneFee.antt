@@ -17,8 +17,8 @@ use Rattle.ln_close.specs.declared.closing.Fees.{Fees}
 use Rattle.ln_close.specs.Closing.{AreOrdered, answer_to}
 use Rattle.ln_channel.specs.declared.config.Config.{Config}
 use Rattle.ln_channel.specs.declared.config.OpenSpec.{OpenSpec}
-use Rattle.ln_channel.specs.declared.unsaved.Line.{Line}
-use Rattle.ln_channel.specs.declared.unsaved.Line.TheVariants.{Down, Awaiting, Met}
+use Rattle.ln_channel.specs.declared.unsaved.LineState.{LineState}
+use Rattle.ln_channel.specs.declared.unsaved.LineState.TheVariants.{Down, Awaiting, Met}
 use Rattle.ln_channel.specs.declared.opening.Opened.{Opened}
 use Rattle.ln_channel.specs.Meeting.{Opens}
 use Rattle.ln_channel.specs.End.{End, has_begun}
@@ -89,7 +89,8 @@ refused_by k m n true true (Err r) s e = s
 refused_by k m n true false r s e = absurd (cc)
 refused_by k m n false right r s e = absurd (cc)
 
-never : (k : Signer) (l : Line) (m : Message) (n : End) (e : Deal) (os qs : List Offer) → IsPlain (deal_of n.closing)
+never : (k : Signer) (l : LineState) (m : Message) (n : End) (e : Deal) (os qs : List Offer)
+    → IsPlain (deal_of n.closing)
     → IsPlain e → max n.closing.fees.least e.fees.least ≤ min n.closing.fees.greatest e.fees.greatest
     → Priced (deal_of n.closing) e os (offer_in m ++ qs) → is_closing_signed m ≡ true
     → message_at k l m n ≡ Err refusal.FeeOutside → ⊥

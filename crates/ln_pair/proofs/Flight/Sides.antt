@@ -5,8 +5,8 @@ use Rattle.ln_log.specs.declared.update.Update.TheVariants as update
 use Rattle.ln_log.specs.declared.opening.Opening.{Opening}
 use Rattle.ln_keys.specs.declared.role.Role.{Role}
 use Rattle.ln_log.specs.Log.{Counts}
-use Rattle.ln_channel.specs.declared.unsaved.Line.{Line}
-use Rattle.ln_channel.specs.declared.unsaved.Line.TheVariants.{Down, Awaiting, Met}
+use Rattle.ln_channel.specs.declared.unsaved.LineState.{LineState}
+use Rattle.ln_channel.specs.declared.unsaved.LineState.TheVariants.{Down, Awaiting, Met}
 use Rattle.ln_msgs.specs.declared.messages.commitments.CommitmentSigned.{CommitmentSigned}
 use Rattle.ln_msgs.specs.declared.messages.commitments.RevokeAndAck.{RevokeAndAck}
 use Rattle.ln_msgs.specs.declared.messages.commitments.ChannelReestablish.{ChannelReestablish}
@@ -60,15 +60,15 @@ pub record Side : Type 0 where
   pub reestablish : ChannelReestablish  -- what it would tell as a connection comes back
 
 pub record Both : Type 0 where
-  pub x_link : Line
-  pub y_link : Line
+  pub x_link : LineState
+  pub y_link : LineState
   pub x : Side
   pub y : Side
   pub to_x : List Notice
   pub to_y : List Notice
 
 -- what is sent joins the end of what is in flight to an end that is up
-abbrev pub posts : Line → List Notice → List Notice → List Notice
+abbrev pub posts : LineState → List Notice → List Notice → List Notice
 posts Down sent ms = ms
 posts Awaiting sent ms = ms ++ sent
 posts Met sent ms = ms ++ sent

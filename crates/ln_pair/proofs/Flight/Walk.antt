@@ -9,8 +9,8 @@ use Rattle.ln_log.specs.Log.{Counts}
 use Rattle.ln_log.specs.Updates.{as_sent}
 use Rattle.ln_msgs.specs.declared.messages.commitments.CommitmentSigned.{CommitmentSigned}
 use Rattle.ln_msgs.specs.declared.messages.commitments.RevokeAndAck.{RevokeAndAck}
-use Rattle.ln_channel.specs.declared.unsaved.Line.{Line}
-use Rattle.ln_channel.specs.declared.unsaved.Line.TheVariants.{Down, Awaiting, Met}
+use Rattle.ln_channel.specs.declared.unsaved.LineState.{LineState}
+use Rattle.ln_channel.specs.declared.unsaved.LineState.TheVariants.{Down, Awaiting, Met}
 use Rattle.ln_pair.proofs.Flight.Sides.{Both, Notice, Update, Sign, Revoke, Ready, Shutdown, Close, Again}
 use Rattle.ln_pair.proofs.Flight.Sides.{Side}
 
@@ -119,13 +119,13 @@ holds y = take y.current.own y.own
 
 -- behind the reestablish: all that y lacks, where x has met it; nothing, where x hasn't; a beginning, where x
 -- is down again
-abbrev pub Carries : Line → Side → Side → List Notice → Type 0
+abbrev pub Carries : LineState → Side → Side → List Notice → Type 0
 Carries Down x y ms = Reads (sender x) y.own (holds y) y.signed.own Anywhere y.got y.acked.own y.number y.revocations ms
 Carries Awaiting x y ms = (ms ≡ []) × (length y.got ≤ y.current.peer)
 Carries Met x y ms = Reads (sender x) y.own (holds y) y.signed.own
     (LacksNothing x.own x.current.peer x.signatures x.number) y.got y.acked.own y.number y.revocations ms
 
-abbrev pub BeginsAgain : Line → Side → Side → List Notice → Type 0
+abbrev pub BeginsAgain : LineState → Side → Side → List Notice → Type 0
 BeginsAgain l x y [] = ⊥
 BeginsAgain l x y (Update u ∷ ms) = ⊥
 BeginsAgain l x y (Sign k ∷ ms) = ⊥
@@ -136,7 +136,7 @@ BeginsAgain l x y (Close z ∷ ms) = ⊥
 BeginsAgain l x y (Again m ∷ ms) = (m ≡ x.reestablish) × Carries l x y ms
 
 -- from x to y; in front, until y has taken it, x's reestablish
-abbrev pub InFlight : Line → Line → Side → Side → List Notice → Type 0
+abbrev pub InFlight : LineState → LineState → Side → Side → List Notice → Type 0
 InFlight l Down x y ms = ms ≡ []
 InFlight l Awaiting x y ms = BeginsAgain l x y ms
 InFlight l Met x y ms = Carries l x y ms
@@ -152,12 +152,12 @@ pub record IsWithin (x : Side) : Type 0 where
   pub peer_current : x.current.peer ≤ length x.got
 
 -- an end that hasn't met the peer has only what its record keeps
-abbrev pub IsCut : Line → Side → Type 0
+abbrev pub IsCut : LineState → Side → Type 0
 IsCut Down x = (length x.own ≤ x.signed.own) × (length x.got ≤ x.current.peer)
 IsCut Awaiting x = (length x.own ≤ x.signed.own) × (length x.got ≤ x.current.peer)
 IsCut Met x = Unit {0}
 
-pub record Flows (lx ly : Line) (x y : Side) (ms : List Notice) : Type 0 where
+pub record Flows (lx ly : LineState) (x y : Side) (ms : List Notice) : Type 0 where
   pub same : y.opening ≡ x.opening
   pub roles : other_role y.role ≡ x.role
   pub within : IsWithin x

@@ -12,8 +12,8 @@ use Rattle.ln_msgs.specs.declared.messages.commitments.ChannelReestablish.{Chann
 use Rattle.ln_msgs.specs.declared.messages.opening.ChannelReady.{ChannelReady}
 use Rattle.ln_msgs.specs.declared.messages.closing.ClosingSigned.{ClosingSigned}
 use Rattle.ln_msgs.specs.declared.messages.closing.Shutdown.{Shutdown as ShutdownMessage}
-use Rattle.ln_channel.specs.declared.unsaved.Line.{Line}
-use Rattle.ln_channel.specs.declared.unsaved.Line.TheVariants.{Down, Awaiting, Met}
+use Rattle.ln_channel.specs.declared.unsaved.LineState.{LineState}
+use Rattle.ln_channel.specs.declared.unsaved.LineState.TheVariants.{Down, Awaiting, Met}
 use Rattle.std.specs.Prelude.{Option, Some, None}
 use Rattle.ln_pair.proofs.Flight.Sides.{dealt, closes_of}
 use Rattle.ln_pair.proofs.Flight.Sides.{confirms, shuts, Ready, Shutdown, Close, Notice, Update, Sign, Revoke, Again}
@@ -117,13 +117,13 @@ number_is s a c am sm current n (Answered e1 e2 e3 e4) = absurd (n e1)
 -- ---- what is in flight, where x changes
 
 -- an end that waits knows of x what x was as it came up
-abbrev pub SameFront : Line → Side → Side → Type 0
+abbrev pub SameFront : LineState → Side → Side → Type 0
 SameFront Down x n = Unit {0}
 SameFront Awaiting x n = n.reestablish ≡ x.reestablish
 SameFront Met x n = Unit {0}
 
 -- x sends
-pub posted : (ly lx ln : Line) (x n y : Side) (sent ms : List Notice) → SameFront ly x n
+pub posted : (ly lx ln : LineState) (x n y : Side) (sent ms : List Notice) → SameFront ly x n
     → ((ns : List Notice) → Carries lx x y ns → Carries ln n y (ns ++ sent)) → InFlight lx ly x y ms
     → InFlight ln ly n y (posts ly sent ms)
 posted Down lx ln x n y sent ms f h e = e
@@ -138,7 +138,7 @@ posted Awaiting lx ln x n y sent (Again k ∷ ms) f h e = (e.0 ∙ sym f, h ms e
 posted Met lx ln x n y sent ms f h e = h ms e
 
 -- x sends nothing
-pub passed : (ly lx ln : Line) (x n y : Side) (ms : List Notice) → SameFront ly x n
+pub passed : (ly lx ln : LineState) (x n y : Side) (ms : List Notice) → SameFront ly x n
     → ((ns : List Notice) → Carries lx x y ns → Carries ln n y ns) → InFlight lx ly x y ms → InFlight ln ly n y ms
 passed Down lx ln x n y ms f h e = e
 passed Awaiting lx ln x n y [] f h e = absurd e
@@ -151,14 +151,14 @@ passed Awaiting lx ln x n y (Close z ∷ ms) f h e = absurd e
 passed Awaiting lx ln x n y (Again k ∷ ms) f h e = (e.0 ∙ sym f, h ms e.1)
 passed Met lx ln x n y ms f h e = h ms e
 
-pub same_front : (ly : Line) (x n : Side) → n.reestablish ≡ x.reestablish → SameFront ly x n
+pub same_front : (ly : LineState) (x n : Side) → n.reestablish ≡ x.reestablish → SameFront ly x n
 same_front Down x n e = tt
 same_front Awaiting x n e = e
 same_front Met x n e = tt
 
 -- ---- x proposes
 
-carries_proposed : (ly : Line) (y x : Side) (u : Change) (ms : List Notice) → x.current.own ≤ length x.own
+carries_proposed : (ly : LineState) (y x : Side) (u : Change) (ms : List Notice) → x.current.own ≤ length x.own
     → Carries ly y x ms → Carries ly y (proposed u x) ms
 carries_proposed Down y x u ms le h =
     subst (λ p. Reads (sender y) (x.own ++ u ∷ []) p x.signed.own Anywhere x.got x.acked.own x.number x.revocations ms)
@@ -173,7 +173,7 @@ carries_proposed Met y x u ms le h =
     (reads-proposed (sender y) x.own (u ∷ []) (holds x) x.signed.own
     (LacksNothing y.own y.current.peer y.signatures y.number) x.got x.acked.own x.number x.revocations ms h)
 
-pub kept_proposed : (ly : Line) (x y : Side) (u : Change) (to_x to_y : List Notice)
+pub kept_proposed : (ly : LineState) (x y : Side) (u : Change) (to_x to_y : List Notice)
     → FitsBehind x.opening x.role x.own (take x.current.peer x.got) (take x.acked.peer x.got) u
     → BothFlow (record { x_link = Met; y_link = ly; x = x; y = y; to_x = to_x; to_y = to_y })
     → BothFlow (proposes u (record { x_link = Met; y_link = ly; x = x; y = y; to_x = to_x; to_y = to_y }))
@@ -263,7 +263,7 @@ kept_proposed ly x y u to_x to_y may k =
 
 -- ---- x signs
 
-carries_signed : (ly : Line) (z : CommitmentSigned) (y x : Side) (ms : List Notice) → y.number ≤ x.revocations
+carries_signed : (ly : LineState) (z : CommitmentSigned) (y x : Side) (ms : List Notice) → y.number ≤ x.revocations
     → Carries ly y x ms → Carries ly y (signed_all z x) ms
 carries_signed Down z y x ms le h = reads-signed (sender y) x.own (holds x) x.signed.own (length x.own) Anywhere x.got
     x.acked.own x.number x.revocations ms le h
@@ -278,7 +278,7 @@ settled s a c acked signed current e (Idle e1 e2 e3 e4 e5 e6) = (e2, e5 ∙ sym 
 settled s a c acked signed current e (Sent e1 e2 e3 e4) = absurd (omega (arith, e, e1))
 settled s a c acked signed current e (Answered e1 e2 e3 e4) = absurd (omega (arith, e, e1))
 
-pub kept_signed : (ly : Line) (z : CommitmentSigned) (x y : Side) (to_x to_y : List Notice)
+pub kept_signed : (ly : LineState) (z : CommitmentSigned) (x y : Side) (to_x to_y : List Notice)
     → x.signatures ≡ x.revocations
     → BothFlow (record { x_link = Met; y_link = ly; x = x; y = y; to_x = to_x; to_y = to_y })
     → BothFlow (signs z (record { x_link = Met; y_link = ly; x = x; y = y; to_x = to_x; to_y = to_y }))
@@ -340,13 +340,13 @@ kept_signed ly z x y to_x to_y free k =
 
 -- ---- x takes an update
 
-took_update : (ly : Line) (x y : Side) (u : Change) (ms : List Notice) → Carries ly y x (Update u ∷ ms)
+took_update : (ly : LineState) (x y : Side) (u : Change) (ms : List Notice) → Carries ly y x (Update u ∷ ms)
     → Carries ly y (received u x) ms
 took_update Down x y u ms h = h.1
 took_update Awaiting x y u ms h = absurd (cc (h.0))
 took_update Met x y u ms h = h.1
 
-pub kept_update : (ly : Line) (x y : Side) (u : Change) (ms to_y : List Notice)
+pub kept_update : (ly : LineState) (x y : Side) (u : Change) (ms to_y : List Notice)
     → BothFlow (record { x_link = Met; y_link = ly; x = x; y = y; to_x = Update u ∷ ms; to_y = to_y })
     → BothFlow (record { x_link = Met; y_link = ly; x = received u x; y = y; to_x = ms; to_y = to_y })
 kept_update ly x y u ms to_y k =
@@ -417,7 +417,7 @@ unaccepted s a c acked signed current e (Idle e1 e2 e3 e4 e5 e6) = absurd (omega
 unaccepted s a c acked signed current e (Sent e1 e2 e3 e4) = (e2, e1, e3, e4)
 unaccepted s a c acked signed current e (Answered e1 e2 e3 e4) = absurd (omega (arith, e, e2))
 
-pub accepts : (lx ly : Line) (x y : Side) (k : CommitmentSigned) (ms : List Notice) → Flows ly lx y x ms
+pub accepts : (lx ly : LineState) (x y : Side) (k : CommitmentSigned) (ms : List Notice) → Flows ly lx y x ms
     → IsDue (sender y) x.got x.acked.own x.number k → Accepts x y k
 accepts lx ly x y k ms g d =
     let p = unaccepted y.signatures y.revocations x.number y.acked y.signed x.current d.next g.phase in
@@ -437,7 +437,7 @@ late_order : (l : Bool) (number revocations seen known current : ℕ) → number
 late_order true number revocations seen known current e d h = absurd (omega (arith, e, h.0))
 late_order false number revocations seen known current e d h = h ∙ d
 
-kept_sign_by : (ly : Line) (z : RevokeAndAck) (v : ChannelReestablish) (x y : Side)
+kept_sign_by : (ly : LineState) (z : RevokeAndAck) (v : ChannelReestablish) (x y : Side)
     (k : CommitmentSigned) (ms to_y : List Notice)
     → SameFront ly x (accepted_all z v x) → Flows Met ly x y to_y → Flows ly Met y x (Sign k ∷ ms) → Accepts x y k
     → Carries ly y (accepted_all z v x) ms
@@ -521,7 +521,7 @@ reads_further x y Q ms le h =
     (reads-held (sender y) x.own (holds x) (drop x.current.own (take x.acked.own x.own)) x.signed.own Q x.got
     x.acked.own (x.number + 1) x.revocations ms h)
 
-pub kept_sign : (ly : Line) (z : RevokeAndAck) (v : ChannelReestablish) (x y : Side)
+pub kept_sign : (ly : LineState) (z : RevokeAndAck) (v : ChannelReestablish) (x y : Side)
     (k : CommitmentSigned) (ms to_y : List Notice)
     → BothFlow (record { x_link = Met; y_link = ly; x = x; y = y; to_x = Sign k ∷ ms; to_y = to_y })
     → BothFlow (record {
@@ -555,7 +555,7 @@ not_before : (l : Bool) (c s number revocations seen known more current : ℕ) �
 not_before true c s number revocations seen known more current e b h = absurd (omega (arith, e, b))
 not_before false c s number revocations seen known more current e b h = h
 
-kept_revoke_by : (ly : Line) (z : CommitmentSigned) (v : ChannelReestablish) (x y : Side)
+kept_revoke_by : (ly : LineState) (z : CommitmentSigned) (v : ChannelReestablish) (x y : Side)
     (k : RevokeAndAck) (ms to_y : List Notice)
     → InFlight Met ly (acknowledged_all z v x) y to_y → Flows Met ly x y to_y → Flows ly Met y x (Revoke k ∷ ms)
     → IsNext (sender y) x.number x.revocations k → Carries ly y (acknowledged_all z v x) ms
@@ -612,7 +612,7 @@ carries_learned z v x y ms le h = reads-learned (sender x) (sender (acknowledged
     (LacksNothing x.own x.current.peer x.signatures x.number) y.got y.acked.own y.number y.revocations ms refl refl
     le refl refl refl refl h
 
-pub kept_revoke : (ly : Line) (z : CommitmentSigned) (v : ChannelReestablish) (x y : Side)
+pub kept_revoke : (ly : LineState) (z : CommitmentSigned) (v : ChannelReestablish) (x y : Side)
     (k : RevokeAndAck) (ms to_y : List Notice)
     → BothFlow (record { x_link = Met; y_link = ly; x = x; y = y; to_x = Revoke k ∷ ms; to_y = to_y })
     → BothFlow (record { x_link = Met; y_link = ly; x = acknowledged_all z v x; y = y; to_x = ms; to_y = to_y })
@@ -628,20 +628,20 @@ kept_revoke Met z v x y k ms to_y h =
 
 -- ---- x takes channel_ready, or a shutdown
 
-took_ready : (ly : Line) (z : ChannelReady) (m : CommitmentSigned) (x y : Side) (ms : List Notice)
+took_ready : (ly : LineState) (z : ChannelReady) (m : CommitmentSigned) (x y : Side) (ms : List Notice)
     → Carries ly y x (Ready z ∷ ms) → Carries ly y (record x { peer_ready = true; signature = m }) ms
 took_ready Down z m x y ms h = h
 took_ready Awaiting z m x y ms h = absurd (cc (h.0))
 took_ready Met z m x y ms h = h
 
-took_shutdown : (ly : Line) (z : ShutdownMessage) (x y : Side) (ms : List Notice) → Carries ly y x (Shutdown z ∷ ms)
-    → Carries ly y (record x { peer_shut = true }) ms
+took_shutdown : (ly : LineState) (z : ShutdownMessage) (x y : Side) (ms : List Notice)
+    → Carries ly y x (Shutdown z ∷ ms) → Carries ly y (record x { peer_shut = true }) ms
 took_shutdown Down z x y ms h = h
 took_shutdown Awaiting z x y ms h = absurd (cc (h.0))
 took_shutdown Met z x y ms h = h
 
 -- m is what x would now send again as its last signature
-pub kept_ready : (ly : Line) (z : ChannelReady) (m : CommitmentSigned) (x y : Side) (ms to_y : List Notice)
+pub kept_ready : (ly : LineState) (z : ChannelReady) (m : CommitmentSigned) (x y : Side) (ms to_y : List Notice)
     → ((ns : List Notice) → Carries Met x y ns → Carries Met (record x { peer_ready = true; signature = m }) y ns)
     → BothFlow (record { x_link = Met; y_link = ly; x = x; y = y; to_x = Ready z ∷ ms; to_y = to_y })
     → BothFlow (record {
@@ -699,7 +699,7 @@ carries_first m x y ms le h = reads-learned (sender x) (sender (record x { peer_
     (holds y) y.signed.own (LacksNothing x.own x.current.peer x.signatures x.number) y.got y.acked.own y.number
     y.revocations ms refl refl le refl refl refl refl h
 
-pub kept_shutdown : (ly : Line) (z : ShutdownMessage) (x y : Side) (ms to_y : List Notice)
+pub kept_shutdown : (ly : LineState) (z : ShutdownMessage) (x y : Side) (ms to_y : List Notice)
     → BothFlow (record { x_link = Met; y_link = ly; x = x; y = y; to_x = Shutdown z ∷ ms; to_y = to_y })
     → BothFlow (record { x_link = Met; y_link = ly; x = record x { peer_shut = true }; y = y; to_x = ms; to_y = to_y })
 kept_shutdown ly z x y ms to_y k =
@@ -757,7 +757,7 @@ body_quiet x n y m ns e h f = reads-push (sender x) y.own (holds y) y.signed.own
     y.got y.acked.own y.number y.revocations ns (m ∷ []) f h
 
 -- what the reader reads by is the same
-carries_own : (ly : Line) (y x n : Side) (ms : List Notice) → Carries ly y x ms
+carries_own : (ly : LineState) (y x n : Side) (ms : List Notice) → Carries ly y x ms
     → Carries ly y (record n {
       own = x.own;
       got = x.got;
@@ -771,7 +771,7 @@ carries_own Down y x n ms h = h
 carries_own Awaiting y x n ms h = h
 carries_own Met y x n ms h = h
 
-pub kept_confirmed : (ly : Line) (x y : Side) (to_x to_y : List Notice)
+pub kept_confirmed : (ly : LineState) (x y : Side) (to_x to_y : List Notice)
     → BothFlow (record { x_link = Met; y_link = ly; x = x; y = y; to_x = to_x; to_y = to_y })
     → BothFlow (confirms (record { x_link = Met; y_link = ly; x = x; y = y; to_x = to_x; to_y = to_y }))
 kept_confirmed ly x y to_x to_y k =
@@ -815,7 +815,7 @@ kept_confirmed ly x y to_x to_y k =
       };
     }
 
-pub kept_shut : (ly : Line) (z : ShutdownMessage) (x y : Side) (to_x to_y : List Notice)
+pub kept_shut : (ly : LineState) (z : ShutdownMessage) (x y : Side) (to_x to_y : List Notice)
     → BothFlow (record { x_link = Met; y_link = ly; x = x; y = y; to_x = to_x; to_y = to_y })
     → BothFlow (shuts z (record { x_link = Met; y_link = ly; x = x; y = y; to_x = to_x; to_y = to_y }))
 kept_shut ly z x y to_x to_y k =
@@ -860,13 +860,13 @@ kept_shut ly z x y to_x to_y k =
 
 -- ---- closing fees: they say nothing of updates and commitments
 
-took_close : (ly : Line) (z : ClosingSigned) (x y : Side) (ms : List Notice)
+took_close : (ly : LineState) (z : ClosingSigned) (x y : Side) (ms : List Notice)
     → Carries ly y x (Close z ∷ ms) → Carries ly y x ms
 took_close Down z x y ms h = h
 took_close Awaiting z x y ms h = absurd (cc (h.0))
 took_close Met z x y ms h = h
 
-pub kept_close : (ly : Line) (z : ClosingSigned) (x y : Side) (ms to_y : List Notice)
+pub kept_close : (ly : LineState) (z : ClosingSigned) (x y : Side) (ms to_y : List Notice)
     → BothFlow (record { x_link = Met; y_link = ly; x = x; y = y; to_x = Close z ∷ ms; to_y = to_y })
     → BothFlow (record { x_link = Met; y_link = ly; x = x; y = y; to_x = ms; to_y = to_y })
 kept_close ly z x y ms to_y k =
@@ -888,13 +888,13 @@ kept_close ly z x y ms to_y k =
       };
     }
 
-skipped_ready : (ly : Line) (z : ChannelReady) (x y : Side) (ms : List Notice)
+skipped_ready : (ly : LineState) (z : ChannelReady) (x y : Side) (ms : List Notice)
     → Carries ly y x (Ready z ∷ ms) → Carries ly y x ms
 skipped_ready Down z x y ms h = h
 skipped_ready Awaiting z x y ms h = absurd (cc (h.0))
 skipped_ready Met z x y ms h = h
 
-pub kept_skipped : (ly : Line) (z : ChannelReady) (x y : Side) (ms to_y : List Notice)
+pub kept_skipped : (ly : LineState) (z : ChannelReady) (x y : Side) (ms to_y : List Notice)
     → BothFlow (record { x_link = Met; y_link = ly; x = x; y = y; to_x = Ready z ∷ ms; to_y = to_y })
     → BothFlow (record { x_link = Met; y_link = ly; x = x; y = y; to_x = ms; to_y = to_y })
 kept_skipped ly z x y ms to_y k =
@@ -916,13 +916,13 @@ kept_skipped ly z x y ms to_y k =
       };
     }
 
-heard_dealt : (ly : Line) (m : Option ClosingSigned) (c : Bool) (y x : Side) (ms : List Notice) → Carries ly y x ms
+heard_dealt : (ly : LineState) (m : Option ClosingSigned) (c : Bool) (y x : Side) (ms : List Notice) → Carries ly y x ms
     → Carries ly y (dealt m c x) ms
 heard_dealt Down m c y x ms h = h
 heard_dealt Awaiting m c y x ms h = h
 heard_dealt Met m c y x ms h = h
 
-pub kept_dealt : (ly : Line) (m : Option ClosingSigned) (c : Bool) (sent : Option ClosingSigned) (x y : Side)
+pub kept_dealt : (ly : LineState) (m : Option ClosingSigned) (c : Bool) (sent : Option ClosingSigned) (x y : Side)
     (to_x to_y : List Notice) → BothFlow (record { x_link = Met; y_link = ly; x = x; y = y; to_x = to_x; to_y = to_y })
     → BothFlow (record {
       x_link = Met;

@@ -5,8 +5,8 @@ use Rattle.std.proofs.lemmas.List.{take-append-drop, take-take, length-take-le, 
 use Rattle.std.proofs.lemmas.Bool.{eq-eqb, ne_eqb}
 use Rattle.ln_log.specs.declared.update.Update.{Update as Change}
 use Rattle.ln_log.specs.Log.{Counts}
-use Rattle.ln_channel.specs.declared.unsaved.Line.{Line}
-use Rattle.ln_channel.specs.declared.unsaved.Line.TheVariants.{Down, Awaiting, Met}
+use Rattle.ln_channel.specs.declared.unsaved.LineState.{LineState}
+use Rattle.ln_channel.specs.declared.unsaved.LineState.TheVariants.{Down, Awaiting, Met}
 use Rattle.ln_msgs.specs.declared.messages.commitments.ChannelReestablish.{ChannelReestablish}
 use Rattle.std.specs.Prelude.{Option, Some, None}
 use Rattle.ln_msgs.specs.declared.messages.closing.ClosingSigned.{ClosingSigned}
@@ -183,7 +183,7 @@ sent_one s a c am sm current e (Idle e1 e2 e3 e4 e5 e6) = absurd (omega (arith, 
 sent_one s a c am sm current e (Sent e1 e2 e3 e4) = e1
 sent_one s a c am sm current e (Answered e1 e2 e3 e4) = absurd (omega (arith, e, e2))
 
-pub resumes : (lx ly : Line) (x y : Side) (ms ns : List Notice) → Flows lx ly x y ms → Flows ly lx y x ns
+pub resumes : (lx ly : LineState) (x y : Side) (ms ns : List Notice) → Flows lx ly x y ms → Flows ly lx y x ns
     → length x.own ≤ x.signed.own → length y.got ≤ y.current.peer
     → Reads (sender x) y.own (holds y) y.signed.own (All x) y.got y.acked.own y.number y.revocations
     (owed (y.number + 1) y.revocations x)
@@ -229,12 +229,13 @@ resumes_all x y h =
 
 -- ---- x takes the reestablish
 
-carries_owed : (ly : Line) (x y : Side) (to_y ms : List Notice) → Flows Awaiting ly x y to_y → Flows ly Awaiting y x ms
+carries_owed : (ly : LineState) (x y : Side) (to_y ms : List Notice) → Flows Awaiting ly x y to_y
+    → Flows ly Awaiting y x ms
     → (ns : List Notice) → Carries Awaiting x y ns → Carries Met x y (ns ++ all_owed (y.number + 1) y.revocations x)
 carries_owed ly x y to_y ms f g [] h = resumes_all x y (resumes Awaiting ly x y to_y ms f g f.cut.0 h.1)
 carries_owed ly x y to_y ms f g (m ∷ ns) h = absurd (cc (h.0))
 
-pub kept_again : (ly : Line) (x y : Side) (m : ChannelReestablish) (ms to_y : List Notice)
+pub kept_again : (ly : LineState) (x y : Side) (m : ChannelReestablish) (ms to_y : List Notice)
     → y.reestablish.next_commitment_number ≡ y.number + 1 → y.reestablish.next_revocation_number ≡ y.revocations
     → BothFlow (record { x_link = Awaiting; y_link = ly; x = x; y = y; to_x = Again m ∷ ms; to_y = to_y })
     → BothFlow (record {
@@ -302,7 +303,7 @@ same_covered x = ap (λ us. record {
 })
     (sym (take-take x.signed.own x.signed.own x.own (omega arith)))
 
-carries_down : (lx : Line) (x y : Side) (ms : List Notice) → Carries lx x y ms → Carries Down (dropped x) y ms
+carries_down : (lx : LineState) (x y : Side) (ms : List Notice) → Carries lx x y ms → Carries Down (dropped x) y ms
 carries_down Down x y ms h = reads-same (sender x) (sender (dropped x)) y.own (holds y) y.signed.own Anywhere y.got
     y.acked.own y.number y.revocations ms (same_covered x) h
 carries_down Awaiting x y [] h = tt

@@ -28,8 +28,8 @@ use Rattle.ln_channel.specs.declared.config.Config.{Config}
 use Rattle.ln_channel.specs.declared.config.OpenSpec.{OpenSpec}
 use Rattle.ln_channel.specs.declared.opening.Opened.{Opened}
 use Rattle.ln_channel.specs.declared.output.Output.TheVariants as output
-use Rattle.ln_channel.specs.declared.unsaved.Line.{Line}
-use Rattle.ln_channel.specs.declared.unsaved.Line.TheVariants.{Down, Awaiting, Met}
+use Rattle.ln_channel.specs.declared.unsaved.LineState.{LineState}
+use Rattle.ln_channel.specs.declared.unsaved.LineState.TheVariants.{Down, Awaiting, Met}
 use Rattle.ln_channel.specs.Meeting.{Opens}
 use Rattle.ln_channel.specs.Opening.{unless}
 use Rattle.ln_channel.specs.End.{End, Turn, is_ready, is_closed, all_acknowledged, sending, completed, shutdown_message}
@@ -114,7 +114,7 @@ some_so (Some n) = (
   (λ e. absurd (let no : Some n ≡ None = e in cc)),
 )
 
-met_so : (l : Line) → (line_fault l ≡ None) ↔ (l ≡ Met)
+met_so : (l : LineState) → (line_fault l ≡ None) ↔ (l ≡ Met)
 met_so Down = ((λ e. absurd (some_none refusal.Disconnected e)), (λ e. absurd (let no : Down ≡ Met = e in cc)))
 met_so Awaiting = ((λ e. absurd (some_none refusal.Disconnected e)), (λ e. absurd (let no : Awaiting ≡ Met = e in cc)))
 met_so Met = ((λ e. refl), (λ e. refl))
@@ -164,7 +164,7 @@ IsFresh e =
     → e.dance.log.acknowledged.peer ≡ e.dance.log.signed.peer → ⊥
 
 module _ (r : Role) (e : End) (m : Machine) (is : IsMachine r e m) (w : log.IsWithin e.dance.log) (fresh : IsFresh e)
-    (l : Line) where
+    (l : LineState) where
   ready_so : (is_ready e ≡ true) ↔ IsReady e
   ready_so = both_so e.marks.ready_sent e.marks.ready_received
 

@@ -24,8 +24,8 @@ use Rattle.ln_close.specs.declared.closing.FeeAnswer.{FeeAnswer}
 use Rattle.ln_close.specs.Closing.{answer_to}
 use Rattle.ln_channel.specs.declared.command.Command.{Command}
 use Rattle.ln_channel.specs.declared.command.Command.TheVariants as command
-use Rattle.ln_channel.specs.declared.unsaved.Line.{Line}
-use Rattle.ln_channel.specs.declared.unsaved.Line.TheVariants.{Down, Awaiting, Met}
+use Rattle.ln_channel.specs.declared.unsaved.LineState.{LineState}
+use Rattle.ln_channel.specs.declared.unsaved.LineState.TheVariants.{Down, Awaiting, Met}
 use Rattle.ln_channel.specs.declared.output.Output.TheVariants as output
 use Rattle.ln_channel.specs.declared.config.Config.{Config}
 use Rattle.ln_channel.specs.declared.config.OpenSpec.{OpenSpec}
@@ -235,7 +235,7 @@ module _ (a b : Signer) (keys : ArePartners a b) (r : Role) (o : Opening) where
   given (command.Decide event mark) p s h = rests p p refl refl s
   given (command.Forget id) p s h = rests p p refl refl s
 
-  commanded_by : (f : Option Refusal) (l : Line) (c : Command) (p : Ends) → Stands r o p.x → Sound a b p
+  commanded_by : (f : Option Refusal) (l : LineState) (c : Command) (p : Ends) → Stands r o p.x → Sound a b p
       → Moved r o (moves_of_command r c p.x (faulted f (faulted (line_fault l) (command_row a c p.x)))) p
       (answers (faulted f (faulted (line_fault l) (command_row a c p.x))) p)
   commanded_by (Some z) l c p s h = rests p p refl refl s
@@ -288,7 +288,7 @@ abbrev pub RunsTo : Opening → List Move → Ends → Ends → Type 0
 RunsTo o ms p q =
     IsRun ms (Some (seen_by Funder o (party p.x) (party p.y))) (Some (seen_by Funder o (party q.x) (party q.y)))
 
-connected_by : (a b : Signer) (lx ly : Line) (o : Opening) (p : Ends) → BothStand o p
+connected_by : (a b : Signer) (lx ly : LineState) (o : Opening) (p : Ends) → BothStand o p
     → RunsTo o [] p (connects a b lx ly p) × BothStand o (connects a b lx ly p)
 connected_by a b Down Down o p k = (refl, record { x = k.x; y = k.y })
 connected_by a b Down Awaiting o p k = (refl, k)

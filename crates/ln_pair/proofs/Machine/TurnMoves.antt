@@ -27,8 +27,8 @@ use Rattle.ln_dance.specs.Dance.{Dancer, with_next_point, sign_fault, owes}
 use Rattle.ln_close.specs.declared.closing.FeeAnswer.{FeeAnswer}
 use Rattle.ln_close.specs.declared.closing.FeeAnswer.TheVariants as answer
 use Rattle.ln_close.specs.Closing.{after_shut, may_start, answer_to, behind_close}
-use Rattle.ln_channel.specs.declared.unsaved.Line.{Line}
-use Rattle.ln_channel.specs.declared.unsaved.Line.TheVariants.{Met}
+use Rattle.ln_channel.specs.declared.unsaved.LineState.{LineState}
+use Rattle.ln_channel.specs.declared.unsaved.LineState.TheVariants.{Met}
 use Rattle.ln_channel.specs.End.{End, has_begun, is_ready, is_closed, owes_shutdown, all_acknowledged}
 use Rattle.ln_channel.specs.End.{answers_shutdown, begins, settled}
 use Rattle.ln_channel.specs.Taking.{takes, takes_ready, shuts_by_peer, answering, answered_end, range_in}
@@ -185,8 +185,8 @@ ready_by r o false x n k y is e l = record {
   opening = ap (λ (q : End). q.dance.log.opening) is ∙ ap (λ (q : Log). q.opening) l;
 }
 
-module _ (a b : Signer) (keys : ArePartners a b) (r : Role) (o : Opening) (channel : List ℕ) (ly : Line) (x y : End)
-    (said_x said_y : List Message) where
+module _ (a b : Signer) (keys : ArePartners a b) (r : Role) (o : Opening) (channel : List ℕ) (ly : LineState)
+    (x y : End) (said_x said_y : List Message) where
   pub tells : (n : Notice) (ns to_y : List Notice) → is_close n ≡ false
       → Hold a b channel Met ly x y (n ∷ ns) to_y said_x said_y
       → Taken r o (moves_taken r (message_of channel n)) x (turn_of a n x).end (party y)
@@ -298,7 +298,7 @@ all_in s a c n acked signed current ea es (Sent e1 e2 e3 e4) = e3 ∙ ea
 all_in s a c n acked signed current ea es (Answered e1 e2 e3 e4) = e3 ∙ es
 
 -- x has all of y's
-has_all : (k j : Signer) (lx ly : Line) (x y : End) (ms : List Notice) → Flows ly lx (side_of j y) (side_of k x) ms
+has_all : (k j : Signer) (lx ly : LineState) (x y : End) (ms : List Notice) → Flows ly lx (side_of j y) (side_of k x) ms
     → HasBegun (side_of k x) → HasBegun (side_of j y) → all_sent x.dance.log.received ≡ all_sent y.dance.log.own
 has_all k j lx ly x y ms g bx by =
     let l = x.dance.log in
@@ -334,7 +334,7 @@ covers_every k x peer w b same =
       acknowledged = covers l l.acknowledged peer b.own_acked b.peer_acked same;
     }
 
-pub may_close : (k j : Signer) (lx ly : Line) (x y : End) (ms ns : List Notice)
+pub may_close : (k j : Signer) (lx ly : LineState) (x y : End) (ms ns : List Notice)
     → Flows lx ly (side_of k x) (side_of j y) ms → Flows ly lx (side_of j y) (side_of k x) ns
     → HasBegun (side_of k x) → HasBegun (side_of j y) → x.closing.closed ≡ None → MayClose (party x) (party y)
 may_close k j lx ly x y ms ns f g bx by none =

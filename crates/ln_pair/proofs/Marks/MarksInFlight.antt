@@ -4,8 +4,8 @@ use Rattle.std.specs.Prelude.{◌≡◌, ◌≤◌, List, [], ◌∷◌, length,
 use Rattle.ln_log.specs.declared.update.Update.{Update as Change}
 use Rattle.ln_msgs.specs.declared.messages.opening.ChannelReady.{ChannelReady}
 use Rattle.ln_msgs.specs.declared.messages.closing.Shutdown.{Shutdown as ShutdownMessage}
-use Rattle.ln_channel.specs.declared.unsaved.Line.{Line}
-use Rattle.ln_channel.specs.declared.unsaved.Line.TheVariants.{Down, Awaiting, Met}
+use Rattle.ln_channel.specs.declared.unsaved.LineState.{LineState}
+use Rattle.ln_channel.specs.declared.unsaved.LineState.TheVariants.{Down, Awaiting, Met}
 use Rattle.ln_pair.proofs.Flight.Sides.{Both, has_bid, opens, Notice, Update, Sign, Revoke, Ready, Shutdown, Close}
 use Rattle.ln_pair.proofs.Flight.Sides.{Again}
 use Rattle.ln_pair.proofs.Flight.Sides.{Side}
@@ -56,12 +56,12 @@ marks_of x y = record {
   bid = has_bid x;
 }
 
-abbrev pub CarriesMarks : Line → Side → Side → List Notice → Type 0
+abbrev pub CarriesMarks : LineState → Side → Side → List Notice → Type 0
 CarriesMarks Down x y ms = ReadsMarks (marks_of x y) AnyMarks y.peer_ready y.peer_shut ms
 CarriesMarks Awaiting x y ms = ms ≡ []
 CarriesMarks Met x y ms = ReadsMarks (marks_of x y) (AllMarks x.ready x.shut y.closed) y.peer_ready y.peer_shut ms
 
-abbrev pub MarksAgain : Line → Side → Side → List Notice → Type 0
+abbrev pub MarksAgain : LineState → Side → Side → List Notice → Type 0
 MarksAgain l x y [] = ⊥
 MarksAgain l x y (Update u ∷ ms) = ⊥
 MarksAgain l x y (Sign k ∷ ms) = ⊥
@@ -71,7 +71,7 @@ MarksAgain l x y (Shutdown z ∷ ms) = ⊥
 MarksAgain l x y (Close z ∷ ms) = ⊥
 MarksAgain l x y (Again n ∷ ms) = CarriesMarks l x y ms
 
-abbrev pub MarksFlight : Line → Line → Side → Side → List Notice → Type 0
+abbrev pub MarksFlight : LineState → LineState → Side → Side → List Notice → Type 0
 MarksFlight l Down x y ms = ms ≡ []
 MarksFlight l Awaiting x y ms = MarksAgain l x y ms
 MarksFlight l Met x y ms = CarriesMarks l x y ms
@@ -80,7 +80,7 @@ pub record IsReady (x : Side) : Type 0 where
   pub sent : x.ready ≡ true
   pub taken : x.peer_ready ≡ true
 
-pub record MarksFlow (lx ly : Line) (x y : Side) (ms : List Notice) : Type 0 where
+pub record MarksFlow (lx ly : LineState) (x y : Side) (ms : List Notice) : Type 0 where
   pub ready_sent : y.peer_ready ≡ true → x.ready ≡ true
   pub shut_sent : y.peer_shut ≡ true → x.shut ≡ true
   pub used : 1 ≤ length x.own → IsReady x

@@ -8,8 +8,8 @@ use Rattle.ln_msgs.specs.declared.messages.commitments.ChannelReestablish.{Chann
 use Rattle.ln_msgs.specs.declared.messages.opening.ChannelReady.{ChannelReady}
 use Rattle.ln_msgs.specs.declared.messages.closing.ClosingSigned.{ClosingSigned}
 use Rattle.ln_msgs.specs.declared.messages.closing.Shutdown.{Shutdown as ShutdownMessage}
-use Rattle.ln_channel.specs.declared.unsaved.Line.{Line}
-use Rattle.ln_channel.specs.declared.unsaved.Line.TheVariants.{Down, Awaiting, Met}
+use Rattle.ln_channel.specs.declared.unsaved.LineState.{LineState}
+use Rattle.ln_channel.specs.declared.unsaved.LineState.TheVariants.{Down, Awaiting, Met}
 use Rattle.std.specs.Prelude.{Option, Some, None, is_some}
 use Rattle.ln_pair.proofs.Flight.Sides.{has_bid, dealt, closes_of}
 use Rattle.ln_pair.proofs.Flight.Sides.{opens, Notice, Update, Sign, Revoke, Ready, Shutdown, Close, Again}
@@ -75,7 +75,7 @@ marks-front t P r s (Again n ∷ ms) ns h = absurd h
 
 -- ---- where x or y changes
 
-pub spoken : (ly lx ln : Line) (x n y : Side) (sent ms : List Notice)
+pub spoken : (ly lx ln : LineState) (x n y : Side) (sent ms : List Notice)
     → ((ns : List Notice) → CarriesMarks lx x y ns → CarriesMarks ln n y (ns ++ sent)) → MarksFlight lx ly x y ms
     → MarksFlight ln ly n y (posts ly sent ms)
 spoken Down lx ln x n y sent ms h e = e
@@ -89,7 +89,7 @@ spoken Awaiting lx ln x n y sent (Close z ∷ ms) h e = absurd e
 spoken Awaiting lx ln x n y sent (Again k ∷ ms) h e = h ms e
 spoken Met lx ln x n y sent ms h e = h ms e
 
-pub silent : (ly lx ln : Line) (x n y : Side) (ms : List Notice)
+pub silent : (ly lx ln : LineState) (x n y : Side) (ms : List Notice)
     → ((ns : List Notice) → CarriesMarks lx x y ns → CarriesMarks ln n y ns) → MarksFlight lx ly x y ms
     → MarksFlight ln ly n y ms
 silent Down lx ln x n y ms h e = e
@@ -137,7 +137,7 @@ drop-past (suc k) [] le = refl
 drop-past (suc k) (u ∷ us) le = drop-past k us (omega (arith, le))
 
 -- nothing that the reader has said changes
-heard_same : (ly : Line) (y x n : Side) (ms : List Notice) → n.ready ≡ x.ready → n.peer_ready ≡ x.peer_ready
+heard_same : (ly : LineState) (y x n : Side) (ms : List Notice) → n.ready ≡ x.ready → n.peer_ready ≡ x.peer_ready
     → n.peer_shut ≡ x.peer_shut → n.closed ≡ x.closed → CarriesMarks ly y x ms → CarriesMarks ly y n ms
 heard_same Down y x n ms e f g c h =
     subst (λ b. ReadsMarks (record (marks_of y x) { peer_ready = b }) AnyMarks n.peer_ready n.peer_shut ms) (sym e)
@@ -153,7 +153,7 @@ heard_same Met y x n ms e f g c h =
 
 -- ---- x sends channel_ready
 
-heard_ready : (ly : Line) (y x : Side) (ms : List Notice) → CarriesMarks ly y x ms
+heard_ready : (ly : LineState) (y x : Side) (ms : List Notice) → CarriesMarks ly y x ms
     → CarriesMarks ly y (record x { ready = true }) ms
 heard_ready Down y x ms h = marks-more (marks_of y x) (marks_of y (record x { ready = true })) AnyMarks x.peer_ready
     x.peer_shut ms (λ e. e) (λ e. e) (λ e. refl) refl (λ e. refl) (λ e. e) h
@@ -162,7 +162,7 @@ heard_ready Met y x ms h = marks-more (marks_of y x) (marks_of y (record x { rea
     (AllMarks y.ready y.shut x.closed)
     x.peer_ready x.peer_shut ms (λ e. e) (λ e. e) (λ e. refl) refl (λ e. refl) (λ e. e) h
 
-pub marks_confirmed : (ly : Line) (x y : Side) (to_x to_y : List Notice)
+pub marks_confirmed : (ly : LineState) (x y : Side) (to_x to_y : List Notice)
     → BothMarks (record { x_link = Met; y_link = ly; x = x; y = y; to_x = to_x; to_y = to_y })
     → BothMarks (confirms (record { x_link = Met; y_link = ly; x = x; y = y; to_x = to_x; to_y = to_y }))
 marks_confirmed ly x y to_x to_y k =
@@ -200,7 +200,7 @@ marks_confirmed ly x y to_x to_y k =
 
 -- ---- x sends shutdown
 
-pub marks_shut : (ly : Line) (z : ShutdownMessage) (x y : Side) (to_x to_y : List Notice) → x.shut ≡ false
+pub marks_shut : (ly : LineState) (z : ShutdownMessage) (x y : Side) (to_x to_y : List Notice) → x.shut ≡ false
     → x.acked.own ≡ length x.own → BothMarks (record {
       x_link = Met;
       y_link = ly;
@@ -253,7 +253,7 @@ allowed_own false s h e = refl
 pub ready_same : (x n : Side) → n.ready ≡ x.ready → n.peer_ready ≡ x.peer_ready → IsReady x → IsReady n
 ready_same x n e f r = record { sent = e ∙ r.sent; taken = f ∙ r.taken }
 
-pub marks_proposed : (ly : Line) (x y : Side) (u : Change) (to_x to_y : List Notice) → y.closed ≡ false
+pub marks_proposed : (ly : LineState) (x y : Side) (u : Change) (to_x to_y : List Notice) → y.closed ≡ false
     → x.acked.own ≤ length x.own
     → IsReady x → IsAllowed (opens u) x.shut → BothMarks
     (record { x_link = Met; y_link = ly; x = x; y = y; to_x = to_x; to_y = to_y })
@@ -290,7 +290,7 @@ marks_proposed ly x y u to_x to_y on le ready may k =
       };
     }
 
-pub marks_signed : (ly : Line) (z : CommitmentSigned) (x y : Side) (to_x to_y : List Notice)
+pub marks_signed : (ly : LineState) (z : CommitmentSigned) (x y : Side) (to_x to_y : List Notice)
     → y.closed ≡ false → IsReady x
     → BothMarks (record { x_link = Met; y_link = ly; x = x; y = y; to_x = to_x; to_y = to_y })
     → BothMarks (signs z (record { x_link = Met; y_link = ly; x = x; y = y; to_x = to_x; to_y = to_y }))
@@ -327,13 +327,13 @@ marks_signed ly z x y to_x to_y on ready k =
 
 -- ---- x takes what is in front of it
 
-took_update : (ly : Line) (x y : Side) (u : Change) (ms : List Notice) → CarriesMarks ly y x (Update u ∷ ms)
+took_update : (ly : LineState) (x y : Side) (u : Change) (ms : List Notice) → CarriesMarks ly y x (Update u ∷ ms)
     → CarriesMarks ly y (received u x) ms
 took_update Down x y u ms h = h.3
 took_update Awaiting x y u ms h = absurd (cc h)
 took_update Met x y u ms h = h.3
 
-pub marks_update : (ly : Line) (x y : Side) (u : Change) (ms to_y : List Notice)
+pub marks_update : (ly : LineState) (x y : Side) (u : Change) (ms to_y : List Notice)
     → BothMarks (record { x_link = Met; y_link = ly; x = x; y = y; to_x = Update u ∷ ms; to_y = to_y })
     → BothMarks (record { x_link = Met; y_link = ly; x = received u x; y = y; to_x = ms; to_y = to_y })
 marks_update ly x y u ms to_y k =
@@ -365,7 +365,7 @@ marks_update ly x y u ms to_y k =
       };
     }
 
-took_sign : (ly : Line) (z : RevokeAndAck) (v : ChannelReestablish) (x y : Side)
+took_sign : (ly : LineState) (z : RevokeAndAck) (v : ChannelReestablish) (x y : Side)
     (k : CommitmentSigned) (ms : List Notice)
     → CarriesMarks ly y x (Sign k ∷ ms) → (x.peer_ready ≡ true) × (x.ready ≡ true)
     × CarriesMarks ly y (accepted_all z v x) ms
@@ -373,7 +373,7 @@ took_sign Down z v x y k ms h = h
 took_sign Awaiting z v x y k ms h = absurd (cc h)
 took_sign Met z v x y k ms h = h
 
-pub marks_sign : (ly : Line) (z : RevokeAndAck) (v : ChannelReestablish) (x y : Side)
+pub marks_sign : (ly : LineState) (z : RevokeAndAck) (v : ChannelReestablish) (x y : Side)
     (k : CommitmentSigned) (ms to_y : List Notice)
     → BothMarks (record { x_link = Met; y_link = ly; x = x; y = y; to_x = Sign k ∷ ms; to_y = to_y })
     → BothMarks (record {
@@ -415,14 +415,14 @@ marks_sign ly z v x y k ms to_y h =
       };
     }
 
-took_revoke : (ly : Line) (z : CommitmentSigned) (v : ChannelReestablish) (x y : Side)
+took_revoke : (ly : LineState) (z : CommitmentSigned) (v : ChannelReestablish) (x y : Side)
     (k : RevokeAndAck) (ms : List Notice)
     → CarriesMarks ly y x (Revoke k ∷ ms) → CarriesMarks ly y (acknowledged_all z v x) ms
 took_revoke Down z v x y k ms h = h
 took_revoke Awaiting z v x y k ms h = absurd (cc h)
 took_revoke Met z v x y k ms h = h
 
-pub marks_revoke : (ly : Line) (z : CommitmentSigned) (v : ChannelReestablish) (x y : Side)
+pub marks_revoke : (ly : LineState) (z : CommitmentSigned) (v : ChannelReestablish) (x y : Side)
     (k : RevokeAndAck) (ms to_y : List Notice)
     → x.acked.own ≤ x.signed.own → BothMarks (record {
       x_link = Met;
@@ -469,14 +469,14 @@ marks_revoke ly z v x y k ms to_y le h =
       };
     }
 
-took_ready : (ly : Line) (z : ChannelReady) (m : CommitmentSigned) (x y : Side) (ms : List Notice)
+took_ready : (ly : LineState) (z : ChannelReady) (m : CommitmentSigned) (x y : Side) (ms : List Notice)
     → CarriesMarks ly y x (Ready z ∷ ms) → (y.ready ≡ true) × (z ≡ y.ready_message)
     × CarriesMarks ly y (record x { peer_ready = true; signature = m }) ms
 took_ready Down z m x y ms h = h
 took_ready Awaiting z m x y ms h = absurd (cc h)
 took_ready Met z m x y ms h = h
 
-pub marks_ready : (ly : Line) (z : ChannelReady) (m : CommitmentSigned) (x y : Side) (ms to_y : List Notice)
+pub marks_ready : (ly : LineState) (z : ChannelReady) (m : CommitmentSigned) (x y : Side) (ms to_y : List Notice)
     → BothMarks (record { x_link = Met; y_link = ly; x = x; y = y; to_x = Ready z ∷ ms; to_y = to_y })
     → BothMarks (record {
       x_link = Met;
@@ -515,14 +515,14 @@ marks_ready ly z m x y ms to_y h =
       };
     }
 
-took_shutdown : (ly : Line) (z : ShutdownMessage) (x y : Side) (ms : List Notice)
+took_shutdown : (ly : LineState) (z : ShutdownMessage) (x y : Side) (ms : List Notice)
     → CarriesMarks ly y x (Shutdown z ∷ ms)
     → (y.shut ≡ true) × (z ≡ y.shut_message) × CarriesMarks ly y (record x { peer_shut = true }) ms
 took_shutdown Down z x y ms h = h
 took_shutdown Awaiting z x y ms h = absurd (cc h)
 took_shutdown Met z x y ms h = h
 
-pub marks_shutdown : (ly : Line) (z : ShutdownMessage) (x y : Side) (ms to_y : List Notice)
+pub marks_shutdown : (ly : LineState) (z : ShutdownMessage) (x y : Side) (ms to_y : List Notice)
     → BothMarks (record { x_link = Met; y_link = ly; x = x; y = y; to_x = Shutdown z ∷ ms; to_y = to_y })
     → BothMarks (record { x_link = Met; y_link = ly; x = record x { peer_shut = true }; y = y; to_x = ms; to_y = to_y })
 marks_shutdown ly z x y ms to_y h =
@@ -590,7 +590,7 @@ marks-to t P Q r s (Close z ∷ ms) f h = (h.0, marks-to t P Q r s ms f h.1)
 marks-to t P Q r s (Again n ∷ ms) f h = absurd h
 
 -- a closed end passes over channel_ready
-skipped_ready : (ly : Line) (z : ChannelReady) (x y : Side) (ms : List Notice) → x.closed ≡ true → IsStill ms
+skipped_ready : (ly : LineState) (z : ChannelReady) (x y : Side) (ms : List Notice) → x.closed ≡ true → IsStill ms
     → CarriesMarks ly y x (Ready z ∷ ms) → CarriesMarks ly y x ms
 skipped_ready Down z x y ms c i h = marks-unready (marks_of y x) AnyMarks AnyMarks true x.peer_ready x.peer_shut
     ms i (λ q r s p. tt) h.2
@@ -599,8 +599,8 @@ skipped_ready Met z x y ms c i h = marks-unready (marks_of y x) (AllMarks y.read
     (AllMarks y.ready y.shut x.closed) true x.peer_ready x.peer_shut ms i
     (λ q r s p. (λ e. absurd (let no : true ≡ false = sym c ∙ e in cc), p.1)) h.2
 
-pub marks_skipped : (ly : Line) (z : ChannelReady) (x y : Side) (ms to_y : List Notice) → x.closed ≡ true → IsStill ms
-    → BothMarks (record { x_link = Met; y_link = ly; x = x; y = y; to_x = Ready z ∷ ms; to_y = to_y })
+pub marks_skipped : (ly : LineState) (z : ChannelReady) (x y : Side) (ms to_y : List Notice) → x.closed ≡ true
+    → IsStill ms → BothMarks (record { x_link = Met; y_link = ly; x = x; y = y; to_x = Ready z ∷ ms; to_y = to_y })
     → BothMarks (record { x_link = Met; y_link = ly; x = x; y = y; to_x = ms; to_y = to_y })
 marks_skipped ly z x y ms to_y c i h =
     let f = h.there in
@@ -621,17 +621,17 @@ marks_skipped ly z x y ms to_y c i h =
 
 -- ---- closing fees
 
-took_close : (ly : Line) (z : ClosingSigned) (x y : Side) (ms : List Notice) → CarriesMarks ly y x (Close z ∷ ms)
+took_close : (ly : LineState) (z : ClosingSigned) (x y : Side) (ms : List Notice) → CarriesMarks ly y x (Close z ∷ ms)
     → (has_bid y ≡ true) × CarriesMarks ly y x ms
 took_close Down z x y ms h = h
 took_close Awaiting z x y ms h = absurd (cc)
 took_close Met z x y ms h = h
 
-pub closing_sent : (ly : Line) (z : ClosingSigned) (x y : Side) (ms : List Notice)
+pub closing_sent : (ly : LineState) (z : ClosingSigned) (x y : Side) (ms : List Notice)
     → CarriesMarks ly y x (Close z ∷ ms) → has_bid y ≡ true
 closing_sent ly z x y ms h = (took_close ly z x y ms h).0
 
-pub marks_close : (ly : Line) (z : ClosingSigned) (x y : Side) (ms to_y : List Notice)
+pub marks_close : (ly : LineState) (z : ClosingSigned) (x y : Side) (ms to_y : List Notice)
     → BothMarks (record { x_link = Met; y_link = ly; x = x; y = y; to_x = Close z ∷ ms; to_y = to_y })
     → BothMarks (record { x_link = Met; y_link = ly; x = x; y = y; to_x = ms; to_y = to_y })
 marks_close ly z x y ms to_y h =
@@ -650,7 +650,7 @@ marks_close ly z x y ms to_y h =
       };
     }
 
-heard_dealt : (ly : Line) (m : Option ClosingSigned) (c : Bool) (y x : Side) (ms : List Notice)
+heard_dealt : (ly : LineState) (m : Option ClosingSigned) (c : Bool) (y x : Side) (ms : List Notice)
     → (x.closed ≡ true → c ≡ true) → CarriesMarks ly y x ms → CarriesMarks ly y (dealt m c x) ms
 heard_dealt Down m c y x ms f h = h
 heard_dealt Awaiting m c y x ms f h = h
@@ -662,7 +662,7 @@ heard_dealt Met m c y x ms f h = marks-to (marks_of y x) (AllMarks y.ready y.shu
     unclosed false b g e = refl
 
 -- it sends this, or nothing
-pub marks_dealt : (ly : Line) (m : Option ClosingSigned) (c : Bool) (sent : Option ClosingSigned) (x y : Side)
+pub marks_dealt : (ly : LineState) (m : Option ClosingSigned) (c : Bool) (sent : Option ClosingSigned) (x y : Side)
     (to_x to_y : List Notice) → (x.closed ≡ true → c ≡ true) → (has_bid x ≡ true → is_some m ≡ true)
     → (is_some sent ≡ true → is_some m ≡ true)
     → BothMarks (record { x_link = Met; y_link = ly; x = x; y = y; to_x = to_x; to_y = to_y })

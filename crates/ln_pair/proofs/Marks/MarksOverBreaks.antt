@@ -6,8 +6,8 @@ use Rattle.std.proofs.lemmas.Bool.{ne_eqb}
 use Rattle.ln_log.specs.declared.update.Update.{Update as Change}
 use Rattle.ln_log.specs.Log.{Counts}
 use Rattle.ln_msgs.specs.declared.messages.commitments.ChannelReestablish.{ChannelReestablish}
-use Rattle.ln_channel.specs.declared.unsaved.Line.{Line}
-use Rattle.ln_channel.specs.declared.unsaved.Line.TheVariants.{Down, Awaiting, Met}
+use Rattle.ln_channel.specs.declared.unsaved.LineState.{LineState}
+use Rattle.ln_channel.specs.declared.unsaved.LineState.TheVariants.{Down, Awaiting, Met}
 use Rattle.std.specs.Prelude.{Option, Some, None, is_some}
 use Rattle.ln_msgs.specs.declared.messages.closing.ClosingSigned.{ClosingSigned}
 use Rattle.ln_pair.proofs.Flight.Sides.{closes_of}
@@ -24,7 +24,8 @@ use Rattle.ln_pair.proofs.Flight.WalkOverBreaks.{Lacks, Nothing, ASignature, ARe
 
 -- ---- x goes down, and both come up
 
-tells_down : (lx : Line) (x y : Side) (ms : List Notice) → CarriesMarks lx x y ms → CarriesMarks Down (dropped x) y ms
+tells_down : (lx : LineState) (x y : Side) (ms : List Notice) → CarriesMarks lx x y ms
+    → CarriesMarks Down (dropped x) y ms
 tells_down Down x y ms h = h
 tells_down Awaiting x y [] h = tt
 tells_down Awaiting x y (m ∷ ms) h = absurd (cc h)
@@ -195,7 +196,7 @@ says_tail x y r e sent = when x.shut refl
     )
 
 -- whether y has taken channel_ready, or neither side has a commitment behind the first
-ready_known : (x y : Side) (lx ly : Line) (ms ns : List Notice) → MarksFlow lx ly x y ms → MarksFlow ly lx y x ns
+ready_known : (x y : Side) (lx ly : LineState) (ms ns : List Notice) → MarksFlow lx ly x y ms → MarksFlow ly lx y x ns
     → x.number ≤ y.signatures → (n m : ℕ) → n ≡ y.number → m ≡ x.number
     → (y.peer_ready ≡ true) ⊎ ((y.number ≡ 0) × (x.number ≡ 0))
 ready_known x y lx ly ms ns f g le zero zero e d = inr (sym e, sym d)
@@ -217,7 +218,7 @@ owed_when_ready x y r e f g (SignatureAndRevocation s i v j) = let h = f (omega 
     inr (e ∙ h.sent, g h.taken)
 
 -- where y is closed no signature is owed
-says_again_by : (c : Bool) (lx ly : Line) (x y : Side) (ms ns os ps : List Notice) → y.closed ≡ c
+says_again_by : (c : Bool) (lx ly : LineState) (x y : Side) (ms ns os ps : List Notice) → y.closed ≡ c
     → (y.closed ≡ true → y.number ≡ x.signatures) → Flows lx ly x y os → Flows ly lx y x ps → MarksFlow lx ly x y ms
     → MarksFlow ly lx y x ns → ReadsMarks (marks_of x y) (AllMarks x.ready x.shut y.closed) y.peer_ready y.peer_shut
     (all_owed (y.number + 1) y.revocations x)
@@ -245,14 +246,14 @@ says_again_by false lx ly x y ms ns os ps is over p q f g =
     (harmless-revocation x (marks_of x y) Q r y.peer_shut y.revocations)
     tail (says_tail x y r (λ c. e) f.shut_sent))
 
-speaks_owed : (ly : Line) (x y : Side) (ms ns os ps : List Notice) → (y.closed ≡ true → y.number ≡ x.signatures)
+speaks_owed : (ly : LineState) (x y : Side) (ms ns os ps : List Notice) → (y.closed ≡ true → y.number ≡ x.signatures)
     → Flows Awaiting ly x y os → Flows ly Awaiting y x ps
     → MarksFlow Awaiting ly x y ms → MarksFlow ly Awaiting y x ns → (qs : List Notice) → CarriesMarks Awaiting x y qs
     → CarriesMarks Met x y (qs ++ all_owed (y.number + 1) y.revocations x)
 speaks_owed ly x y ms ns os ps over p q f g [] h = says_again_by y.closed Awaiting ly x y ms ns os ps refl over p q f g
 speaks_owed ly x y ms ns os ps over p q f g (m ∷ qs) h = absurd (cc h)
 
-pub marks_again : (ly : Line) (x y : Side) (m : ChannelReestablish) (ms to_y : List Notice)
+pub marks_again : (ly : LineState) (x y : Side) (m : ChannelReestablish) (ms to_y : List Notice)
     → (y.closed ≡ true → y.number ≡ x.signatures)
     → y.reestablish.next_commitment_number ≡ y.number + 1 → y.reestablish.next_revocation_number ≡ y.revocations
     → BothFlow (record { x_link = Awaiting; y_link = ly; x = x; y = y; to_x = Again m ∷ ms; to_y = to_y })

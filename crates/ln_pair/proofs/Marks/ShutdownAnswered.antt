@@ -18,8 +18,8 @@ use Rattle.ln_channel.specs.declared.command.Command.{Command}
 use Rattle.ln_channel.specs.declared.command.Command.TheVariants as command
 use Rattle.ln_channel.specs.declared.config.Config.{Config}
 use Rattle.ln_channel.specs.declared.config.OpenSpec.{OpenSpec}
-use Rattle.ln_channel.specs.declared.unsaved.Line.{Line}
-use Rattle.ln_channel.specs.declared.unsaved.Line.TheVariants.{Down, Awaiting, Met}
+use Rattle.ln_channel.specs.declared.unsaved.LineState.{LineState}
+use Rattle.ln_channel.specs.declared.unsaved.LineState.TheVariants.{Down, Awaiting, Met}
 use Rattle.ln_channel.specs.declared.opening.Opened.{Opened}
 use Rattle.ln_channel.specs.Opening.{unless}
 use Rattle.ln_channel.specs.Meeting.{Opens}
@@ -85,7 +85,7 @@ given = record {
 
 -- ---- over every list of steps
 
-not_yet : (l : Line) (e : End) → e.closing.peer_shut ≡ false → HasAnswered l e
+not_yet : (l : LineState) (e : End) → e.closing.peer_shut ≡ false → HasAnswered l e
 not_yet l e none = λ met x y. absurd (let no : true ≡ false = sym x ∙ none in cc)
 
 pub all_answered : (a b : Signer) (s : OpenSpec) (c : Config) (funder fundee : Opened) (steps : List Step)

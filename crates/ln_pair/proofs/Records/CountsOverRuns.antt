@@ -22,8 +22,8 @@ use Rattle.ln_channel.specs.declared.command.Command.{Command}
 use Rattle.ln_channel.specs.declared.command.Command.TheVariants as command
 use Rattle.ln_channel.specs.declared.config.Config.{Config}
 use Rattle.ln_channel.specs.declared.config.OpenSpec.{OpenSpec}
-use Rattle.ln_channel.specs.declared.unsaved.Line.{Line}
-use Rattle.ln_channel.specs.declared.unsaved.Line.TheVariants.{Down, Awaiting, Met}
+use Rattle.ln_channel.specs.declared.unsaved.LineState.{LineState}
+use Rattle.ln_channel.specs.declared.unsaved.LineState.TheVariants.{Down, Awaiting, Met}
 use Rattle.ln_channel.specs.declared.opening.Opened.{Opened}
 use Rattle.ln_channel.specs.declared.opening.Terms.{Terms}
 use Rattle.ln_channel.specs.Opening.{unless, opened_by, accept_fault, funder_end, created_message, created_fault}
@@ -129,7 +129,7 @@ module _ (a b : Signer) (keys : ArePartners a b) where
   given (command.Decide event mark) p s = record { x = s; y = refl }
   given (command.Forget id) p s = record { x = s; y = refl }
 
-  commanded_by : (f : Option Refusal) (l : Line) (c : Command) (p : Ends) → Steady p.x
+  commanded_by : (f : Option Refusal) (l : LineState) (c : Command) (p : Ends) → Steady p.x
       → Stays p (answers (faulted f (faulted (line_fault l) (command_row a c p.x))) p)
   commanded_by (Some z) l c p s = record { x = s; y = refl }
   commanded_by None Down c p s = record { x = s; y = refl }
@@ -181,7 +181,7 @@ both_steady a b keys (By Fundee act) p k h =
     (subst (λ (e : End). Steady e) (sym m.y) k.x, m.x)
 both_steady a b keys Connect p k h = by p.x_line p.y_line
   where
-    by : (lx ly : Line) → Steady (connects a b lx ly p).x × Steady (connects a b lx ly p).y
+    by : (lx ly : LineState) → Steady (connects a b lx ly p).x × Steady (connects a b lx ly p).y
     by Down Down = (k.x, k.y)
     by Down Awaiting = (k.x, k.y)
     by Down Met = (k.x, k.y)

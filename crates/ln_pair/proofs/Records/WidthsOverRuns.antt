@@ -13,8 +13,8 @@ use Rattle.ln_keys.specs.Signer.{Signer}
 use Rattle.ln_close.specs.declared.closing.Fees.{Fees}
 use Rattle.ln_channel.specs.declared.config.Config.{Config}
 use Rattle.ln_channel.specs.declared.config.OpenSpec.{OpenSpec}
-use Rattle.ln_channel.specs.declared.unsaved.Line.{Line}
-use Rattle.ln_channel.specs.declared.unsaved.Line.TheVariants.{Down, Awaiting, Met}
+use Rattle.ln_channel.specs.declared.unsaved.LineState.{LineState}
+use Rattle.ln_channel.specs.declared.unsaved.LineState.TheVariants.{Down, Awaiting, Met}
 use Rattle.ln_channel.specs.declared.opening.Opened.{Opened}
 use Rattle.ln_channel.specs.declared.opening.Terms.{Terms}
 use Rattle.ln_channel.specs.Opening.{Agreement, opened_by, open_message, open_fault, agreement, accept_message}
@@ -82,7 +82,7 @@ turned_fit o q p h = record { x = h.y; y = h.x; to_x = h.to_y; to_y = h.to_x }
 
 -- ---- an act of x
 
-arrive_wide : (l : Line) (sent ms : List Message) → All CarriesWide sent → All CarriesWide ms
+arrive_wide : (l : LineState) (sent ms : List Message) → All CarriesWide sent → All CarriesWide ms
     → All CarriesWide (arrive l sent ms)
 arrive_wide Down sent ms new old = old
 arrive_wide Awaiting sent ms new old = all-append CarriesWide ms sent old new
@@ -98,7 +98,8 @@ module _ (k : Signer) (o q : Origin) where
   }
   answers_fit (Err r) p h g = g
 
-  message_fits : (l : Line) (m : Message) (e : End) → CarriesWide m → Fits o e → AnswerFits k o (message_at k l m e)
+  message_fits : (l : LineState) (m : Message) (e : End) → CarriesWide m → Fits o e
+      → AnswerFits k o (message_at k l m e)
   message_fits Down m e wide h = tt
   message_fits Awaiting m e wide h = meets_fits k o m e h
   message_fits Met m e wide h = completes k o (message_row k m e) (row_fits k o m e wide h)
@@ -138,7 +139,7 @@ module _ (k : Signer) (o q : Origin) where
   loses_fit true p h = h
   loses_fit false p h = record { x = dropped_fits p.x h.x; y = h.y; to_x = tt; to_y = h.to_y }
 
-  left_wide : (n : ℕ) (l : Line) (ms : List Message) → All CarriesWide ms → All CarriesWide (still_come n l ms)
+  left_wide : (n : ℕ) (l : LineState) (ms : List Message) → All CarriesWide ms → All CarriesWide (still_come n l ms)
   left_wide n Down ms h = h
   left_wide n Awaiting [] h = tt
   left_wide n Awaiting (m ∷ ms) h = (h.0, all-take CarriesWide n ms h.1)
@@ -163,7 +164,7 @@ module _ (k : Signer) (o q : Origin) where
 
 -- ---- steps
 
-connects_fit : (a b : Signer) (o q : Origin) (lx ly : Line) (p : Ends) → BothFit o q p
+connects_fit : (a b : Signer) (o q : Origin) (lx ly : LineState) (p : Ends) → BothFit o q p
     → BothFit o q (connects a b lx ly p)
 connects_fit a b o q Down Down p h = record { x = h.x; y = h.y; to_x = (tt, tt); to_y = (tt, tt) }
 connects_fit a b o q Down Awaiting p h = h

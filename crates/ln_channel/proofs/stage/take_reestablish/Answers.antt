@@ -1,5 +1,5 @@
 use Rattle.std.proofs.Common.{refl}
-use Rattle.ln_channel.specs.declared.unsaved.Line.TheVariants as lines
+use Rattle.ln_channel.specs.declared.unsaved.LineState.TheVariants as lines
 use Rattle.ln_channel.specs.Resume.{resume_row}
 use Rattle.ln_channel.proofs.Turning.{turned_so, refused_so}
 use Rattle.ln_channel.proofs.stage.take_reestablish.Goals as goal

@@ -6,9 +6,9 @@ use Rattle.ln_desks.proofs.nodes.seat_at.Goals as goal
 
 pub returns-in-None-clause-seated : goal.returns-in-None-clause-seated
 returns-in-None-clause-seated c =
-    kept_stay c.args.end (registered c.args.hook) c.args.desks.now (sym c.place_of.ensures ∙ c.in-None.is)
+    kept_stay c.args.end (registered c.args.hook) c.args.desks.now (sym c.index_of.ensures ∙ c.in-None.is)
 
 pub returns-in-Some-clause-seated : goal.returns-in-Some-clause-seated
 returns-in-Some-clause-seated c =
     on_ok c.seat.result (λ e. kept_moves c.args.end (registered c.args.hook) c.args.desks.now c.in-Some.i
-    _ c.seat.new.self (sym c.in-Some.is ∙ c.place_of.ensures) e) c.seat.ensures.seated
+    _ c.seat.new.self (sym c.in-Some.is ∙ c.index_of.ensures) e) c.seat.ensures.seated

@@ -4,7 +4,7 @@ use Rattle.ln_close.specs.declared.closing.Closing.{Closing}
 use Rattle.ln_channel.specs.declared.opening.Terms.{Terms}
 use Rattle.ln_channel.specs.declared.channel.Marks.{Marks}
 use Rattle.ln_channel.specs.End.{End}
-use Rattle.ln_link.specs.Record.{payload_of, place_of}
+use Rattle.ln_link.specs.Record.{payload_of, chain_place_of}
 use Rattle.ln_link.specs.Loading.{IsSaid}
 use Rattle.ln_link.proofs.Written.{agreement_so}
 use Rattle.ln_link.proofs.record.agreement_of.Goals as goal
@@ -17,14 +17,14 @@ returns-clause-agreement c = λ e s.
     agreement_so (record {
       open_payload = c.in_ok-open_payload.field-0;
       accept_payload = c.in_ok-accept_payload.field-0;
-      place = c.place_of.result;
+      place = c.chain_place_of.result;
       fees = c.closing.result.fees;
       script = c.in_ok-copy_bytes.field-0;
       peer_script = c.in_ok-copy_script.field-0;
     }) e
     (c.in_ok-open_payload.ensures.payload ∙ ap (λ (t : Terms). payload_of (open_wire t.open_channel)) terms)
     (c.in_ok-accept_payload.ensures.payload ∙ ap (λ (t : Terms). payload_of (accept_wire t.accept_channel)) terms)
-    (c.place_of.ensures.place ∙ ap (λ (m : Marks). option_map place_of m.short_id) marks)
+    (c.chain_place_of.ensures.place ∙ ap (λ (m : Marks). option_map chain_place_of m.short_id) marks)
     (ap (λ (x : Closing). x.fees) closing) (c.in_ok-copy_bytes.ensures.copy ∙ ap (λ (t : Terms). t.script) terms)
     (c.in_ok-copy_script.ensures.copy ∙ ap (λ (t : Terms). t.peer_script) terms)
 

@@ -1,5 +1,5 @@
 use Rattle.ln_relay.proofs.Steps.{learns}
-use Rattle.ln_relay.proofs.Places.{second_in, receiver_in}
+use Rattle.ln_relay.proofs.Positions.{second_in, receiver_in}
 use Rattle.ln_relay.proofs.bounded.finish.Goals as goal
 
 pub absorb-requires-clause-rule : goal.absorb-requires-clause-rule

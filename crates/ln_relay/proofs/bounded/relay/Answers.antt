@@ -1,6 +1,6 @@
 use Rattle.std.proofs.Common.{rules}
 use Rattle.ln_relay.proofs.Steps.{begins}
-use Rattle.ln_relay.proofs.Places.{second_out, receiver_out}
+use Rattle.ln_relay.proofs.Positions.{second_out, receiver_out}
 use Rattle.ln_relay.proofs.bounded.relay.Goals as goal
 
 pub ruled-requires-clause-rule : goal.ruled-requires-clause-rule

@@ -1,6 +1,6 @@
 use Rattle.std.proofs.Common.{rules}
 use Rattle.ln_relay.proofs.Steps.{begins}
-use Rattle.ln_relay.proofs.Places.{second_out, receiver_out}
+use Rattle.ln_relay.proofs.Positions.{second_out, receiver_out}
 use Rattle.ln_relay.proofs.waiting.waiting_relay.Goals as goal
 
 pub bounded_with-requires-clause-rule : goal.bounded_with-requires-clause-rule

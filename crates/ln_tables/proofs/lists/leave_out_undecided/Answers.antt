@@ -6,8 +6,8 @@ use Rattle.ln_tables.proofs.lists.leave_out_undecided.Goals as goal
 
 pub returns-in-None-clause-told : goal.returns-in-None-clause-told
 returns-in-None-clause-told c = sym (none_of_both (is_htlc c.args.key.now) (λ h. h.decided) c.args.htlcs.now.items
-    (ap (position (is_htlc c.args.key.now)) (sym c.as_slice.ensures.value) ∙ sym c.place_of.ensures ∙ c.in-None.is))
+    (ap (position (is_htlc c.args.key.now)) (sym c.as_slice.ensures.value) ∙ sym c.index_of.ensures ∙ c.in-None.is))
 
 pub returns-in-None-clause-left : goal.returns-in-None-clause-left
 returns-in-None-clause-left c = none_left_out (is_htlc c.args.key.now) c.args.htlcs.now.items
-    (ap (position (is_htlc c.args.key.now)) (sym c.as_slice.ensures.value) ∙ sym c.place_of.ensures ∙ c.in-None.is)
+    (ap (position (is_htlc c.args.key.now)) (sym c.as_slice.ensures.value) ∙ sym c.index_of.ensures ∙ c.in-None.is)

@@ -7,7 +7,7 @@ use Rattle.ln_desks.proofs.nodes.Nodes.place.Goals as goal
 
 pub returns-clause-place : goal.returns-clause-place
 returns-clause-place g c =
-    c.place_of.ensures
+    c.index_of.ensures
     ∙ place_among (λ (k : KeptDesk). k.desk) (is_at c.args.end) c.self.inside.desks.items c.deref.result.now
     (search rules)
     ∙ ap (λ (w : World _). position (is_at c.args.end) w.desks) c.self.view_is

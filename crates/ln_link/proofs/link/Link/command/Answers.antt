@@ -4,30 +4,30 @@ use Rattle.ln_link.specs.Saving.{Shelf}
 use Rattle.ln_link.proofs.Saved.{handed_so, halted_so}
 use Rattle.ln_link.proofs.link.Link.command.Goals as goal
 
-pub returns-in-Ok-settle-clause-answers : goal.returns-in-Ok-settle-clause-answers
-returns-in-Ok-settle-clause-answers g c = λ l s.
+pub returns-in-Ok-finish-clause-answers : goal.returns-in-Ok-finish-clause-answers
+returns-in-Ok-finish-clause-answers g c = λ l s.
     let before : Shelf = record {
       records = g.S.RecordStore.records c.args.store.now;
       failed = g.S.RecordStore.failed c.args.store.now;
     } in
     let behind : Shelf = record {
-      records = g.S.RecordStore.records c.settle.new.store;
-      failed = g.S.RecordStore.failed c.settle.new.store;
+      records = g.S.RecordStore.records c.finish.new.store;
+      failed = g.S.RecordStore.failed c.finish.new.store;
     } in
     handed_so (λ v. v.items) (commanded (g.K.ChannelKeys.signer l.keys) l c.args.command) l c.command.new.self
-    c.settle.new.self c.in-Ok.outputs before behind (c.in-Ok.ensures.answers l (c.self.view_is ∙ s))
-    c.in-Ok-settle.ensures.settles
+    c.finish.new.self c.in-Ok.outputs before behind (c.in-Ok.ensures.answers l (c.self.view_is ∙ s))
+    c.in-Ok-finish.ensures.settles
 
-pub returns-in-Err-settle-clause-answers : goal.returns-in-Err-settle-clause-answers
-returns-in-Err-settle-clause-answers g c = λ l s.
+pub returns-in-Err-finish-clause-answers : goal.returns-in-Err-finish-clause-answers
+returns-in-Err-finish-clause-answers g c = λ l s.
     let before : Shelf = record {
       records = g.S.RecordStore.records c.args.store.now;
       failed = g.S.RecordStore.failed c.args.store.now;
     } in
     let behind : Shelf = record {
-      records = g.S.RecordStore.records c.settle.new.store;
-      failed = g.S.RecordStore.failed c.settle.new.store;
+      records = g.S.RecordStore.records c.finish.new.store;
+      failed = g.S.RecordStore.failed c.finish.new.store;
     } in
     inr (inl (halted_so (λ v. v.items) (commanded (g.K.ChannelKeys.signer l.keys) l c.args.command) l
-    c.command.new.self c.settle.new.self c.in-Ok.outputs c.in-Err-settle.refusal before behind
-    (c.in-Ok.ensures.answers l (c.self.view_is ∙ s)) c.in-Err-settle.ensures.settles))
+    c.command.new.self c.finish.new.self c.in-Ok.outputs c.in-Err-finish.refusal before behind
+    (c.in-Ok.ensures.answers l (c.self.view_is ∙ s)) c.in-Err-finish.ensures.settles))

@@ -1,4 +1,4 @@
-use Rattle.ln_relay.proofs.Places.{receiver_takes}
+use Rattle.ln_relay.proofs.Positions.{receiver_takes}
 use Rattle.ln_relay.proofs.Steps.{learns}
 use Rattle.ln_relay.proofs.seats.RecvSeatReceives.recv.Goals as goal
 

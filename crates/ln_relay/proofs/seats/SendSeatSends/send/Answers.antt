@@ -1,4 +1,4 @@
-use Rattle.ln_relay.proofs.Places.{sender_puts}
+use Rattle.ln_relay.proofs.Positions.{sender_puts}
 use Rattle.ln_relay.proofs.Steps.{learns}
 use Rattle.ln_relay.proofs.seats.SendSeatSends.send.Goals as goal
 

@@ -1,7 +1,7 @@
 use Rattle.std.proofs.Common.{◌∙◌}
 use Rattle.ln_channel.specs.Base.{based_link}
 use Rattle.ln_link.proofs.Saved.{settles_so}
-use Rattle.ln_link.proofs.link.Link.settle.Goals as goal
+use Rattle.ln_link.proofs.link.Link.finish.Goals as goal
 
 pub returns-in-Ok-clause-settles : goal.returns-in-Ok-clause-settles
 returns-in-Ok-clause-settles g c = λ l s.

@@ -6,7 +6,7 @@ use thiserror::Error;
 
 /// Why there is nothing to run, or why a run was refused. Its text is the line for standard error.
 #[derive(Clone, Copy, Debug, PartialEq, Eq, Error)]
-pub enum Failure {
+pub enum ProgramError {
     /// The words aren't a command. Exit status 2.
     #[error("usage")]
     Usage,
@@ -18,53 +18,53 @@ pub enum Failure {
     Refused(Refusal),
 }
 
-impl Failure {
+impl ProgramError {
     ghost use Rattle.std.specs.Prelude.{◌≡◌};
-    ghost use Rattle.ln_commands.specs.Failure.{status_of};
+    ghost use Rattle.ln_commands.specs.ProgramError.{status_of};
 
     /// The program's exit status.
     pub fn status(&self) -> u8
         ensures { result ≡ status_of self.now }
     {
         match self {
-            Failure::Usage => 2,
-            Failure::NotHex => 2,
-            Failure::Refused(_) => 1,
+            ProgramError::Usage => 2,
+            ProgramError::NotHex => 2,
+            ProgramError::Refused(_) => 1,
         }
     }
 }
 
-impl From<Refusal> for Failure {
+impl From<Refusal> for ProgramError {
     ghost use Rattle.std.specs.Prelude.{◌≡◌};
-    ghost use Rattle.ln_commands.specs.declared.failure.Failure.TheVariants.{Refused};
+    ghost use Rattle.ln_commands.specs.declared.program_error.ProgramError.TheVariants.{Refused};
 
     ghost from_gives = { λ refusal e. e ≡ Refused refusal };
 
-    fn from(refusal: Refusal) -> Failure {
-        Failure::Refused(refusal)
+    fn from(refusal: Refusal) -> ProgramError {
+        ProgramError::Refused(refusal)
     }
 }
 
-impl From<AllocError> for Failure {
+impl From<AllocError> for ProgramError {
     ghost use Rattle.std.specs.Prelude.{◌≡◌};
-    ghost use Rattle.ln_commands.specs.declared.failure.Failure.TheVariants.{Refused};
+    ghost use Rattle.ln_commands.specs.declared.program_error.ProgramError.TheVariants.{Refused};
     ghost use Rattle.ln_msgs.specs.declared.refusals.refusal.Refusal.TheVariants.{Memory};
 
     ghost from_gives = { λ _ e. e ≡ Refused Memory };
 
-    fn from(_error: AllocError) -> Failure {
-        Failure::Refused(Refusal::Memory)
+    fn from(_error: AllocError) -> ProgramError {
+        ProgramError::Refused(Refusal::Memory)
     }
 }
 
-impl<T: Drop> From<AllocFailed<T>> for Failure {
+impl<T: Drop> From<AllocFailed<T>> for ProgramError {
     ghost use Rattle.std.specs.Prelude.{◌≡◌};
-    ghost use Rattle.ln_commands.specs.declared.failure.Failure.TheVariants.{Refused};
+    ghost use Rattle.ln_commands.specs.declared.program_error.ProgramError.TheVariants.{Refused};
     ghost use Rattle.ln_msgs.specs.declared.refusals.refusal.Refusal.TheVariants.{Memory};
 
     ghost from_gives = { λ _ e. e ≡ Refused Memory };
 
-    fn from(_error: AllocFailed<T>) -> Failure {
-        Failure::Refused(Refusal::Memory)
+    fn from(_error: AllocFailed<T>) -> ProgramError {
+        ProgramError::Refused(Refusal::Memory)
     }
 }

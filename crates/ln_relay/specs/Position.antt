@@ -6,22 +6,22 @@ use Rattle.ln_relay.specs.History.{Seat, First, Second, Receiver, History, IsInO
 use Rattle.ln_relay.specs.History.{Step, RefusedAsFull, RefusedAsEmpty, CanHappen}
 
 -- a seat's relay, how many items that can hold, and which of its seats it is
-pub record Place (R : Type 0) : Type 0 where
+pub record Position (R : Type 0) : Type 0 where
   pub relay : R
   pub room : ℕ
   pub seat : Seat
 
 module _ {R T : Type 0} where
   -- at one moment the step could happen, in a history in which the seat's own list was this one
-  abbrev pub CouldHappen : Place R → List T → Step T → Type 0
+  abbrev pub CouldHappen : Position R → List T → Step T → Type 0
   CouldHappen p list step = (h : History T) × IsInOrder h × (own p.seat h ≡ list) × CanHappen p.room step h
 
   -- at one moment the relay was full
-  abbrev pub WasFull : Place R → List T → Type 0
+  abbrev pub WasFull : Position R → List T → Type 0
   WasFull p put = CouldHappen p put RefusedAsFull
 
   -- at one moment the relay was empty
-  abbrev pub WasEmpty : Place R → List T → Type 0
+  abbrev pub WasEmpty : Position R → List T → Type 0
   WasEmpty p taken = CouldHappen p taken RefusedAsEmpty
 
 -- what was taken, followed by what is left, is a merge of what each sender has put
@@ -29,7 +29,7 @@ abbrev pub IsMergeOfAll : {T : Type 0} → List T → List T → List T → Type
 IsMergeOfAll {T} first second taken = (left : List T) × IsMerge first second (taken ++ left)
 
 -- the three seats of one relay
-pub record AreSeatsOfOne {R : Type 0} (first second receiver : Place R) : Type 0 where
+pub record AreSeatsOfOne {R : Type 0} (first second receiver : Position R) : Type 0 where
   pub first_sends : first.seat ≡ First
   pub second_sends : second.seat ≡ Second
   pub third_receives : receiver.seat ≡ Receiver

@@ -7,9 +7,9 @@ use Rattle.ln_keys.specs.declared.view.View.{View}
 use Rattle.ln_log.specs.declared.log.Pair.TheVariants as pair
 use Rattle.ln_log.specs.declared.log.Side.TheVariants as side
 use Rattle.ln_dance.specs.Dance.{view_at}
-use Rattle.ln_channel.specs.declared.standing.Life.{Life}
-use Rattle.ln_channel.specs.declared.standing.Life.TheVariants as life
-use Rattle.ln_channel.specs.declared.standing.Standing.{Standing}
+use Rattle.ln_channel.specs.declared.summary.Life.{Life}
+use Rattle.ln_channel.specs.declared.summary.Life.TheVariants as life
+use Rattle.ln_channel.specs.declared.summary.Summary.{Summary}
 use Rattle.ln_channel.specs.declared.unsaved.Stage.{Stage}
 use Rattle.ln_channel.specs.declared.unsaved.Stage.TheVariants as stage
 use Rattle.ln_channel.specs.End.{End, is_ready}
@@ -38,8 +38,8 @@ life_of e =
     closed_or e.closing.closed
     (if e.closing.shut then life.Shut else (if is_ready e then life.Ready else life.Open))
 
-abbrev pub standing_of : Life → View → End → Standing
-standing_of l v e = record {
+abbrev pub summary_of : Life → View → End → Summary
+summary_of l v e = record {
   signed = e.dance.log.signed.own;
   own_held = e.dance.log.current.own;
   peer_held = e.dance.log.acknowledged.peer;
@@ -50,14 +50,14 @@ standing_of l v e = record {
 }
 
 -- where the opening isn't signed by both
-abbrev pub unsigned : Life → Standing
+abbrev pub unsigned : Life → Summary
 unsigned l = record { signed = 0; own_held = 0; peer_held = 0; own = 0; peer = 0; live = 0; life = l }
 
-abbrev pub stands_at : Option Refusal → Stage → Standing
+abbrev pub stands_at : Option Refusal → Stage → Summary
 stands_at failure (stage.Saved e) =
-    standing_of (failed_or failure (life_of e)) (view_at (pair.Current side.Own) e.dance) e
+    summary_of (failed_or failure (life_of e)) (view_at (pair.Current side.Own) e.dance) e
 stands_at failure s = unsigned (failed_or failure life.Open)
 
 -- where a link stands: what its last signature covers, what it holds, and what its own commitment is worth
-abbrev pub standing : {K : Type 0} → State K → Standing
-standing l = stands_at l.failure l.stage
+abbrev pub summary : {K : Type 0} → State K → Summary
+summary l = stands_at l.failure l.stage

@@ -24,7 +24,7 @@ pub enum Life {
 
 /// Where a link stands with its channel; all is 0 where its opening isn't signed by both.
 #[derive(Clone, Copy, Debug, PartialEq, Eq)]
-pub struct Standing {
+pub struct Summary {
     /// How many of its own updates its last signature covers.
     pub signed: usize,
     /// How many of its own updates it holds as irrevocably committed.
@@ -48,7 +48,7 @@ impl Channel {
     ghost use Rattle.ln_log.specs.declared.log.Side.TheVariants as side;
     ghost use Rattle.ln_channel.specs.End as end;
     ghost use Rattle.ln_channel.specs.End.{End};
-    ghost use Rattle.ln_channel.specs.Standing.{life_of, failed_or, standing_of};
+    ghost use Rattle.ln_channel.specs.Summary.{life_of, failed_or, summary_of};
 
     // How far it is: the last that fits.
     fn life(&self) -> Life
@@ -67,9 +67,9 @@ impl Channel {
     }
 
     // Where it stands. 60 where there is no memory for the HTLCs of its own commitment.
-    fn standing(&self, alloc: Global, failure: Option<Refusal>) -> Result<Standing, Refusal>
-        ensures standing { (e : End) → end.StandsFor self.now e
-            → IfOk result (λ s. s ≡ standing_of (failed_or failure (life_of e))
+    fn summary(&self, alloc: Global, failure: Option<Refusal>) -> Result<Summary, Refusal>
+        ensures summary { (e : End) → end.StandsFor self.now e
+            → IfOk result (λ s. s ≡ summary_of (failed_or failure (life_of e))
             (view_at (pair.Current side.Own) e.dance) e) }
         ensures fails_for_memory_alone { IfErr result (λ e. e ≡ Refusal.Memory) }
     {
@@ -83,7 +83,7 @@ impl Channel {
             Role::Funder => (view.funder, view.fundee),
             Role::Fundee => (view.fundee, view.funder),
         };
-        Ok(Standing {
+        Ok(Summary {
             signed: log.counts(Pair::Signed).own,
             own_held: log.counts(Pair::Current(Side::Own)).own,
             peer_held: log.counts(Pair::Current(Side::Peer)).peer,
@@ -98,21 +98,21 @@ impl Channel {
 impl<K: ChannelKeys + Drop> Unsaved<K> {
     ghost use Rattle.std.specs.Prelude.{◌≡◌, IfOk, IfErr};
     ghost use Rattle.ln_channel.specs.State.{State, StandsFor};
-    ghost use Rattle.ln_channel.specs.Standing.{standing};
+    ghost use Rattle.ln_channel.specs.Summary.{summary};
 
     /// Where it stands with its channel. 60 where there is no memory for the HTLCs of its own commitment.
-    pub fn standing(&self, alloc: Global) -> Result<Standing, Refusal>
-        ensures standing { (l : State K) → StandsFor self.now l → IfOk result (λ s. s ≡ standing l) }
+    pub fn summary(&self, alloc: Global) -> Result<Summary, Refusal>
+        ensures summary { (l : State K) → StandsFor self.now l → IfOk result (λ s. s ≡ summary l) }
         ensures fails_for_memory_alone { IfErr result (λ e. e ≡ Refusal.Memory) }
     {
         match &self.stage {
-            Stage::Saved(channel) => channel.standing(alloc, self.failure),
+            Stage::Saved(channel) => channel.summary(alloc, self.failure),
             _ => {
                 let life = match self.failure {
                     Some(refusal) => Life::Failed(refusal),
                     None => Life::Open,
                 };
-                Ok(Standing {
+                Ok(Summary {
                     signed: 0,
                     own_held: 0,
                     peer_held: 0,

@@ -2,7 +2,7 @@
 
 use crate::is_same;
 use ln_bytes::Bytes;
-use ln_channel::{Command, Life, Output, Standing};
+use ln_channel::{Command, Life, Output, Summary};
 use ln_keys::ToyKeys;
 use ln_link::Link;
 use ln_msgs::{Message, Refusal};
@@ -13,7 +13,7 @@ use std::collections::VecDeque;
 
 /// An end of a channel, and the messages in flight to it.
 #[derive(Drop)]
-pub struct Place<S: RecordStore + Drop> {
+pub struct Player<S: RecordStore + Drop> {
     name: &'static str,
     keys: ToyKeys,
     pub side: Side<S>,
@@ -24,9 +24,9 @@ pub struct Place<S: RecordStore + Drop> {
     record: Vec<u8>,
 }
 
-impl<S: RecordStore + Drop> Place<S> {
-    pub fn new(alloc: Global, name: &'static str, keys: ToyKeys, side: Side<S>) -> Place<S> {
-        Place {
+impl<S: RecordStore + Drop> Player<S> {
+    pub fn new(alloc: Global, name: &'static str, keys: ToyKeys, side: Side<S>) -> Player<S> {
+        Player {
             name,
             keys,
             side,
@@ -36,8 +36,8 @@ impl<S: RecordStore + Drop> Place<S> {
         }
     }
 
-    pub fn standing(&self, alloc: Global) -> Result<Standing, Refusal> {
-        self.side.link.unsaved().standing(alloc)
+    pub fn summary(&self, alloc: Global) -> Result<Summary, Refusal> {
+        self.side.link.unsaved().summary(alloc)
     }
 
     /// What it does next, and its record before that.
@@ -129,8 +129,8 @@ fn word_of(message: &Message) -> &'static str {
 fn pass<S: RecordStore + Drop>(
     alloc: Global,
     outputs: Vec<Output>,
-    x: &Place<S>,
-    y: &mut Place<S>,
+    x: &Player<S>,
+    y: &mut Player<S>,
     story: &mut String,
 ) -> Result<(), Refusal> {
     let messages = messages_of(alloc, outputs)?;
@@ -152,8 +152,8 @@ fn queue<T: Drop>(items: Vec<T>, others: &mut VecDeque<T>) -> Result<(), Refusal
 
 pub fn tells<S: RecordStore + Drop>(
     alloc: Global,
-    x: &mut Place<S>,
-    y: &mut Place<S>,
+    x: &mut Player<S>,
+    y: &mut Player<S>,
     word: &'static str,
     command: Command,
     story: &mut String,
@@ -164,8 +164,8 @@ pub fn tells<S: RecordStore + Drop>(
 
 fn takes<S: RecordStore + Drop>(
     alloc: Global,
-    x: &mut Place<S>,
-    y: &mut Place<S>,
+    x: &mut Player<S>,
+    y: &mut Player<S>,
     story: &mut String,
 ) -> Result<(), Refusal> {
     let outputs = x.take(alloc)?;
@@ -173,10 +173,10 @@ fn takes<S: RecordStore + Drop>(
 }
 
 /// Both take what is in flight, and what that brings.
-fn settle<S: RecordStore + Drop>(
+fn deliver<S: RecordStore + Drop>(
     alloc: Global,
-    x: &mut Place<S>,
-    y: &mut Place<S>,
+    x: &mut Player<S>,
+    y: &mut Player<S>,
     story: &mut String,
 ) -> Result<(), Refusal> {
     for _ in 0..10u8 {
@@ -189,12 +189,12 @@ fn settle<S: RecordStore + Drop>(
 /// An end signs, where there is something to sign, and both take what that brings.
 pub fn signs<S: RecordStore + Drop>(
     alloc: Global,
-    x: &mut Place<S>,
-    y: &mut Place<S>,
+    x: &mut Player<S>,
+    y: &mut Player<S>,
     story: &mut String,
 ) -> Result<(), Refusal> {
     match tells(alloc, x, y, "sign", Command::Sign, story) {
-        Ok(()) => settle(alloc, x, y, story),
+        Ok(()) => deliver(alloc, x, y, story),
         Err(Refusal::NothingToSign) => Ok(()),
         Err(refusal) => Err(refusal),
     }
@@ -203,16 +203,16 @@ pub fn signs<S: RecordStore + Drop>(
 /// What of a payment from a to b isn't done yet.
 pub fn pays<S: RecordStore + Drop>(
     alloc: Global,
-    a: &mut Place<S>,
-    b: &mut Place<S>,
+    a: &mut Player<S>,
+    b: &mut Player<S>,
     story: &mut String,
 ) -> Result<(), Refusal> {
-    if a.standing(alloc)?.signed == 0 {
+    if a.summary(alloc)?.signed == 0 {
         tells(alloc, a, b, "add", offer(), story)?;
     }
     signs(alloc, a, b, story)?;
     signs(alloc, b, a, story)?;
-    if b.standing(alloc)?.signed == 0 {
+    if b.summary(alloc)?.signed == 0 {
         let preimage = [0; 32];
         tells(
             alloc,
@@ -230,25 +230,25 @@ pub fn pays<S: RecordStore + Drop>(
 /// What of a close that a begins isn't done yet.
 pub fn closes<S: RecordStore + Drop>(
     alloc: Global,
-    a: &mut Place<S>,
-    b: &mut Place<S>,
+    a: &mut Player<S>,
+    b: &mut Player<S>,
     story: &mut String,
 ) -> Result<(), Refusal> {
-    match a.standing(alloc)?.life {
+    match a.summary(alloc)?.life {
         Life::Ready => {
             let script = Bytes::empty(alloc);
             tells(alloc, a, b, "shutdown", Command::Shutdown(script), story)?;
         }
         _ => {}
     }
-    settle(alloc, a, b, story)
+    deliver(alloc, a, b, story)
 }
 
 /// An end comes back from its record, the other has lost its connection, and there is a new one.
 pub fn meet<S: RecordStore + Drop>(
     alloc: Global,
-    x: &mut Place<S>,
-    y: &mut Place<S>,
+    x: &mut Player<S>,
+    y: &mut Player<S>,
     story: &mut String,
 ) -> Result<(), Refusal> {
     x.restart(alloc)?;
@@ -258,18 +258,18 @@ pub fn meet<S: RecordStore + Drop>(
     let from_y = y.side.link.connect(alloc)?;
     pass(alloc, from_x, x, y, story)?;
     pass(alloc, from_y, y, x, story)?;
-    settle(alloc, x, y, story)
+    deliver(alloc, x, y, story)
 }
 
 /// Whether each update of the payment is committed on both sides, once.
 pub fn is_paid<S: RecordStore + Drop>(
     alloc: Global,
-    a: &Place<S>,
-    b: &Place<S>,
+    a: &Player<S>,
+    b: &Player<S>,
 ) -> Result<bool, Refusal> {
     let mut paid = true;
-    for (place, own, peer) in [(a, 999_995_000, 5000), (b, 5000, 999_995_000)] {
-        let at = place.standing(alloc)?;
+    for (player, own, peer) in [(a, 999_995_000, 5000), (b, 5000, 999_995_000)] {
+        let at = player.summary(alloc)?;
         paid = paid && (at.signed, at.own_held, at.peer_held) == (1, 1, 1);
         paid = paid && (at.own, at.peer, at.live) == (own, peer, 0);
     }
@@ -279,11 +279,11 @@ pub fn is_paid<S: RecordStore + Drop>(
 /// Whether both sides have closed at this fee.
 pub fn are_closed<S: RecordStore + Drop>(
     alloc: Global,
-    a: &Place<S>,
-    b: &Place<S>,
+    a: &Player<S>,
+    b: &Player<S>,
     fee: u64,
 ) -> Result<bool, Refusal> {
-    let of_a = a.standing(alloc)?;
-    let of_b = b.standing(alloc)?;
+    let of_a = a.summary(alloc)?;
+    let of_b = b.summary(alloc)?;
     Ok(of_a.life == Life::Closed(fee) && of_b.life == Life::Closed(fee))
 }
