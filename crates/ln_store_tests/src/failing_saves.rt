@@ -2,7 +2,7 @@
 //! comes back from what its store has, and the payment is completed, with each update once, or the channel closed. Over
 //! records in memory, and over databases.
 
-use crate::players::{Player, are_closed, closes, is_paid, meet, pays};
+use crate::players::{Player, are_closed, both, closes, is_paid, meet, pays};
 use ln_keys::Role;
 use ln_msgs::Refusal;
 use ln_sqlite::SqliteStore;
@@ -134,9 +134,7 @@ fn database(alloc: Global) -> Result<SqliteStore<MemStore>, Refusal> {
 }
 
 fn in_databases(alloc: Global) -> Result<(SqliteStore<MemStore>, SqliteStore<MemStore>), Refusal> {
-    let store = database(alloc)?;
-    let other = database(alloc)?;
-    Ok((store, other))
+    both(database(alloc), database(alloc))
 }
 
 fn is_told_in_memory(alloc: Global, play: Play, row: &Told) -> Result<(bool, bool), Refusal> {

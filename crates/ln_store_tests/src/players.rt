@@ -111,6 +111,16 @@ impl<S: RecordStore + Drop> Player<S> {
     }
 }
 
+/// Both stores, or why there aren't two. What is generic pays nothing for the depth of what it drops.
+pub fn both<S: Drop>(
+    store: Result<S, Refusal>,
+    other: Result<S, Refusal>,
+) -> Result<(S, S), Refusal> {
+    let store = store?;
+    let other = other?;
+    Ok((store, other))
+}
+
 fn word_of(message: &Message) -> &'static str {
     match message {
         Message::ChannelReady(_) => "channel_ready",

@@ -1,6 +1,6 @@
 //! A channel whose ends keep their records in files: both processes end, the files are opened again, and it goes on.
 
-use crate::players::{Player, is_paid, meet, pays, signs, tells};
+use crate::players::{Player, both, is_paid, meet, pays, signs, tells};
 use ln_channel::Command;
 use ln_keys::ToyKeys;
 use ln_link::Link;
@@ -29,7 +29,12 @@ fn opened(rt: &HostRuntime, path: &str) -> Result<SqliteStore<FileStore<File>>, 
 }
 
 /// A channel is opened, and a payment made. Whether it is complete. Links and stores are gone then.
-fn paid<S: RecordStore + Drop>(alloc: Global, of_a: S, of_b: S) -> Result<bool, Refusal> {
+fn paid<S: RecordStore + Drop>(
+    alloc: Global,
+    of_a: Result<S, Refusal>,
+    of_b: Result<S, Refusal>,
+) -> Result<bool, Refusal> {
+    let (of_a, of_b) = both(of_a, of_b)?;
     let mut a = funder_side(alloc, of_a)?;
     let mut b = fundee_side(alloc, of_b)?;
     played(alloc, &mut a, &mut b)?;
@@ -75,9 +80,10 @@ fn again<S: RecordStore + Drop>(
 /// has signed once it has changed the fee.
 fn goes_on<S: RecordStore + Drop>(
     alloc: Global,
-    of_a: S,
-    of_b: S,
+    of_a: Result<S, Refusal>,
+    of_b: Result<S, Refusal>,
 ) -> Result<(bool, usize), Refusal> {
+    let (of_a, of_b) = both(of_a, of_b)?;
     let mut a = again(alloc, "A", FUNDER, of_a)?;
     let mut b = again(alloc, "B", FUNDEE, of_b)?;
     let mut story = String::new(alloc);
@@ -93,12 +99,9 @@ fn channel_over_files(rt: HostRuntime) -> Result<(), Fail> {
     let _ = fs::remove_dir_all(&rt, "ln_store_tests_files");
     fs::create_dir(&rt, "ln_store_tests_files")?;
     let (a, b) = ("ln_store_tests_files/a.db", "ln_store_tests_files/b.db");
+    assert_eq!(rt; paid(rt.alloc(), opened(&rt, a), opened(&rt, b)), Ok(true));
     assert_eq!(rt;
-        paid(rt.alloc(), opened(&rt, a)?, opened(&rt, b)?),
-        Ok(true)
-    );
-    assert_eq!(rt;
-        goes_on(rt.alloc(), opened(&rt, a)?, opened(&rt, b)?),
+        goes_on(rt.alloc(), opened(&rt, a), opened(&rt, b)),
         Ok((true, 2))
     );
     fs::remove_dir_all(&rt, "ln_store_tests_files")?;

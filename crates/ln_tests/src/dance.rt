@@ -1,11 +1,11 @@
 //! Two sides that dance over toy keys. What stands in hex was computed by a separate Python program over hashlib.
 
-use crate::ends::{FUNDEE, FUNDER, htlc};
+use crate::ends::{FUNDEE, FUNDER, boxed, htlc};
 use crate::testing::{bytes_of, message_of, point_of, side, signature_of};
 use ln_dance::{Dance, Later, Numbers, Peer, update_of};
 use ln_keys::{ChannelKeys, Role, ToyKeys};
 use ln_log::{Pair, Update};
-use ln_msgs::Refusal;
+use ln_msgs::{CommitmentSigned, Refusal, RevokeAndAck};
 use std::alloc::Global;
 
 /// What a turn tells: the signature, and the revocation's secret and point.
@@ -19,16 +19,25 @@ fn turn(
     taker: &mut Dance,
     taker_keys: &ToyKeys,
 ) -> Result<Told, Refusal> {
-    let signed = signer.sign(alloc, signer_keys)?;
+    let signed = boxed(alloc, signer.sign(alloc, signer_keys)?)?;
     let accepted = taker.accept(alloc, taker_keys, &signed);
-    let signature = signed.signature;
-    drop(signed);
-    let revocation = accepted?;
-    let learned = signer.learn(signer_keys, &revocation);
-    let told = (signature, revocation.secret, revocation.next_point);
-    drop(revocation);
-    learned?;
-    Ok(told)
+    let told = match &accepted {
+        Ok(revocation) => learned(signer, signer_keys, &signed, revocation),
+        Err(refusal) => Err(*refusal),
+    };
+    drop(accepted);
+    told
+}
+
+/// The one that has signed learns the revocation.
+fn learned(
+    signer: &mut Dance,
+    signer_keys: &ToyKeys,
+    signed: &CommitmentSigned,
+    revocation: &RevokeAndAck,
+) -> Result<Told, Refusal> {
+    signer.learn(signer_keys, revocation)?;
+    Ok((signed.signature, revocation.secret, revocation.next_point))
 }
 
 /// The funder offers an HTLC, and the fundee takes it.

@@ -2,8 +2,10 @@
 
 use crate::code_of;
 use crate::ends::{FUNDER, Side, boxed, fundee_side, messages_of, open_spec, played, stored};
+use crate::testing::put;
 use ln_bytes::{Bytes, Record};
-use ln_channel::{Command, FitSpec, Output};
+use ln_channel::{Command, FitSpec, OpenSpec, Output};
+use ln_keys::ToyKeys;
 use ln_link::Link;
 use ln_msgs::{Records, Refusal, encode, fits};
 use ln_store::MemoryStore;
@@ -24,21 +26,33 @@ fn records(alloc: Global, len: usize) -> Result<Records, Refusal> {
     Ok(Records::new(records))
 }
 
-/// A funder's side whose `open_channel` has such a record; nothing where it doesn't fit.
-fn funder_side(alloc: Global, len: usize) -> Result<Option<Side<MemoryStore>>, Refusal> {
+/// A funder's spec whose `open_channel` has such a record.
+fn spec_with(alloc: Global, len: usize) -> Result<Box<OpenSpec>, Refusal> {
+    let records = records(alloc, len)?;
     let mut spec = boxed(alloc, open_spec(alloc))?;
-    spec.records = records(alloc, len)?;
-    if !spec.fits() {
-        return Ok(None);
+    put(&mut spec.records, records);
+    Ok(spec)
+}
+
+/// A funder's link of a spec; nothing where that doesn't fit.
+fn link_of(alloc: Global, spec: Box<OpenSpec>) -> Result<Option<Box<Link<ToyKeys>>>, Refusal> {
+    if spec.fits() {
+        let spec = FitSpec::new(Box::into_inner(spec));
+        Ok(Some(boxed(alloc, Link::funder(FUNDER, spec))?))
+    } else {
+        drop(spec);
+        Ok(None)
     }
-    let link = boxed(
-        alloc,
-        Link::funder(FUNDER, FitSpec::new(Box::into_inner(spec))),
-    )?;
-    Ok(Some(Side {
-        link,
-        store: MemoryStore::new(alloc),
-    }))
+}
+
+/// A funder's side whose `open_channel` has such a record; nothing where it doesn't fit.
+fn funder_side(alloc: Global, len: usize) -> Result<Option<Box<Side<MemoryStore>>>, Refusal> {
+    let spec = spec_with(alloc, len)?;
+    let Some(link) = link_of(alloc, spec)? else {
+        return Ok(None);
+    };
+    let store = MemoryStore::new(alloc);
+    Ok(Some(boxed(alloc, Side { link, store })?))
 }
 
 /// How many bytes the longest of these messages has, where all can be written.
@@ -60,7 +74,7 @@ fn shut(
     a: &mut Side<MemoryStore>,
     len: usize,
 ) -> Result<(usize, usize, u32), Refusal> {
-    let mut b = fundee_side(alloc, MemoryStore::new(alloc))?;
+    let mut b = boxed(alloc, fundee_side(alloc, MemoryStore::new(alloc))?)?;
     played(alloc, a, &mut b)?;
     let script = zeros(alloc, len)?;
     let shutdown = a

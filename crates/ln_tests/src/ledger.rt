@@ -3,23 +3,23 @@
 use crate::code_of;
 use crate::ends::{FUNDER, Side, boxed, fundee_side, funder_side, htlc, played, stored, taken};
 use crate::link::error;
+use crate::testing::put;
 use ln_bytes::Bytes;
 use ln_channel::{Command, Output};
 use ln_hooks::ChannelEvent;
+use ln_keys::Role;
 use ln_link::Link;
-use ln_log::Mark;
+use ln_log::{Mark, Settlement};
 use ln_msgs::Refusal;
-use ln_store::{MemoryStore, decode_record};
+use ln_store::{MemoryStore, Progress, RecordStore, Updates, decode_record};
 use std::alloc::Global;
 
-type Saving = Side<MemoryStore>;
-
 /// Messages pass to the other side and back until none is left.
-fn passed(
+fn passed<S: RecordStore + Drop>(
     alloc: Global,
     outputs: Vec<Output>,
-    from: &mut Saving,
-    to: &mut Saving,
+    from: &mut Side<S>,
+    to: &mut Side<S>,
 ) -> Result<(), Refusal> {
     let first = taken(alloc, outputs, to)?;
     let second = taken(alloc, first, from)?;
@@ -28,10 +28,10 @@ fn passed(
     Ok(())
 }
 
-fn told(
+fn told<S: RecordStore + Drop>(
     alloc: Global,
-    from: &mut Saving,
-    to: &mut Saving,
+    from: &mut Side<S>,
+    to: &mut Side<S>,
     command: Command,
 ) -> Result<(), Refusal> {
     let outputs = from.link.command(alloc, &mut from.store, command)?;
@@ -39,52 +39,172 @@ fn told(
 }
 
 /// By what a side refuses a decision, 0 where it doesn't.
-fn decided(alloc: Global, side: &mut Saving, event: u64, mark: Mark) -> u32 {
+fn decided<S: RecordStore + Drop>(
+    alloc: Global,
+    side: &mut Side<S>,
+    event: u64,
+    mark: Mark,
+) -> u32 {
     let decide = Command::Decide { event, mark };
     code_of(side.link.command(alloc, &mut side.store, decide).err())
 }
 
-fn forgotten(alloc: Global, side: &mut Saving, id: u64) -> u32 {
+fn forgotten<S: RecordStore + Drop>(alloc: Global, side: &mut Side<S>, id: u64) -> u32 {
     let forget = Command::Forget(id);
     code_of(side.link.command(alloc, &mut side.store, forget).err())
 }
 
-/// Of a side's record: how many events are decided, how many undecided, how many decisions there are, and the results:
-/// own HTLC, and the incoming channel and HTLC.
-type Kept = (u64, usize, usize, usize, Option<(u64, [u8; 32], u64)>);
-
-fn kept(alloc: Global, side: &mut Saving) -> Result<Kept, Refusal> {
-    let bytes = stored(alloc, side)?;
-    let record = boxed(alloc, decode_record(alloc, bytes.as_slice())?)?;
-    let progress = &record.items().progress;
-    let results = progress.forwards.results.as_slice();
-    let first = match results.first() {
-        None => None,
-        Some(result) => Some((result.id, result.origin.0, result.origin.1)),
-    };
-    Ok((
-        progress.events.decided,
-        progress.events.undecided.as_slice().len(),
-        progress.forwards.decisions.as_slice().len(),
-        results.len(),
-        first,
-    ))
+/// What a side does, or what is asked of it, which is answered by numbers. A refusal is answered by its own.
+#[derive(Clone, Copy)]
+enum Deed {
+    /// It decides the event of this number: nothing is done about it, or its HTLC is malformed by code 5.
+    Decide(u64),
+    Garble(u64),
+    /// It forgets the result of this HTLC.
+    Forget(u64),
+    /// It loses its connection, comes back from its record, or takes an error for all channels.
+    Lose,
+    Load,
+    Hear,
+    /// Of its record: how many events are decided, how many undecided, how many decisions there are and how many
+    /// results, and whether the first result is that of the HTLC that is offered here.
+    Kept,
+    /// Of the events that it hasn't decided: how many they are, the first one's number, and where it is an add, 1 for
+    /// this side's own and 2 for the peer's.
+    Pending,
+    /// Of its record: how many updates of the funder and of the fundee are in the base, how many HTLCs are live there,
+    /// and how many updates of each it has one by one.
+    Shape,
 }
 
-/// Of the events that a side hasn't decided: how many they are, the first one's number, and where it is an add, whether
-/// of this side's own.
-fn pending(alloc: Global, side: &Saving) -> Result<(usize, u64, Option<bool>), Refusal> {
+use Deed::{Decide, Forget, Garble, Hear, Kept, Load, Lose, Pending, Shape};
+
+type Answer = [u64; 5];
+
+fn kept<S: RecordStore + Drop>(alloc: Global, side: &mut Side<S>) -> Result<Answer, Refusal> {
+    let bytes = stored(alloc, side)?;
+    let record = boxed(alloc, decode_record(alloc, bytes.as_slice())?)?;
+    Ok(kept_of(&record.items().progress))
+}
+
+fn kept_of(progress: &Progress) -> Answer {
+    let results = progress.forwards.results.as_slice();
+    [
+        progress.events.decided,
+        progress.events.undecided.as_slice().len() as u64,
+        progress.forwards.decisions.as_slice().len() as u64,
+        results.len() as u64,
+        u64::from(is_of_the_offer(results)),
+    ]
+}
+
+fn is_of_the_offer(results: &[Settlement]) -> bool {
+    match results.first() {
+        None => false,
+        Some(result) => result.id == 0 && result.origin == ([7; 32], 5),
+    }
+}
+
+fn pending<S: RecordStore + Drop>(alloc: Global, side: &Side<S>) -> Result<Answer, Refusal> {
     let events = side.link.pending_events(alloc)?;
-    let first = match events.first() {
-        None => (0, None),
-        Some((number, ChannelEvent::Added { own, .. })) => (*number, Some(*own)),
-        Some((number, _)) => (*number, None),
+    let (number, whose) = match events.first() {
+        None => (0, 0),
+        Some((number, ChannelEvent::Added { own, .. })) => (*number, if *own { 1 } else { 2 }),
+        Some((number, _)) => (*number, 0),
     };
-    Ok((events.len(), first.0, first.1))
+    Ok([events.len() as u64, number, whose, 0, 0])
+}
+
+fn shape<S: RecordStore + Drop>(alloc: Global, side: &mut Side<S>) -> Result<Answer, Refusal> {
+    let bytes = stored(alloc, side)?;
+    let record = boxed(alloc, decode_record(alloc, bytes.as_slice())?)?;
+    Ok(shape_of(&record.items().updates))
+}
+
+fn shape_of(updates: &Updates) -> Answer {
+    let base = &updates.base;
+    [
+        base.updates.funder,
+        base.updates.fundee,
+        base.live.as_slice().len() as u64,
+        updates.window.funder.as_slice().len() as u64,
+        updates.window.fundee.as_slice().len() as u64,
+    ]
+}
+
+/// It comes back from its record.
+fn load<S: RecordStore + Drop>(alloc: Global, side: &mut Side<S>) -> Result<Answer, Refusal> {
+    let bytes = stored(alloc, side)?;
+    let link = boxed(alloc, Link::from_record(alloc, FUNDER, bytes.as_slice())?)?;
+    put(&mut side.link, link);
+    Ok([0; 5])
+}
+
+/// By what a side refuses an error for all channels.
+fn heard<S: RecordStore + Drop>(alloc: Global, side: &mut Side<S>) -> u32 {
+    let error = error(alloc, [0; 32]);
+    code_of(side.link.handle(alloc, &mut side.store, error).err())
+}
+
+fn refused(code: u32) -> Result<Answer, Refusal> {
+    Ok([u64::from(code), 0, 0, 0, 0])
+}
+
+fn answer<S: RecordStore + Drop>(
+    alloc: Global,
+    side: &mut Side<S>,
+    deed: Deed,
+) -> Result<Answer, Refusal> {
+    match deed {
+        Decide(event) => refused(decided(alloc, side, event, Mark::None)),
+        Garble(event) => refused(decided(alloc, side, event, Mark::Malformed(5))),
+        Forget(id) => refused(forgotten(alloc, side, id)),
+        Hear => refused(heard(alloc, side)),
+        Lose => {
+            side.link.drop_connection();
+            refused(0)
+        }
+        Load => load(alloc, side),
+        Kept => kept(alloc, side),
+        Pending => pending(alloc, side),
+        Shape => shape(alloc, side),
+    }
+}
+
+/// Whose deed it is, the deed, and its answer.
+type Row = (Role, Deed, Answer);
+
+const A: Role = Role::Funder;
+
+const B: Role = Role::Fundee;
+
+/// How many rows are answered as they say, up to the first that isn't.
+fn right<S: RecordStore + Drop>(
+    alloc: Global,
+    a: &mut Side<S>,
+    b: &mut Side<S>,
+    rows: &[Row],
+) -> Result<usize, Refusal> {
+    let mut count = 0usize;
+    for (whose, deed, want) in rows {
+        let told = match whose {
+            Role::Funder => answer(alloc, a, *deed)?,
+            Role::Fundee => answer(alloc, b, *deed)?,
+        };
+        if told != *want {
+            break;
+        }
+        count = count.saturating_add(1);
+    }
+    Ok(count)
 }
 
 /// An HTLC that forwards another one is offered, and signed by both.
-fn offered(alloc: Global, a: &mut Saving, b: &mut Saving) -> Result<(), Refusal> {
+fn offered<S: RecordStore + Drop>(
+    alloc: Global,
+    a: &mut Side<S>,
+    b: &mut Side<S>,
+) -> Result<(), Refusal> {
     let add = htlc(0, 5000, 400);
     let hash = add.hash;
     let onion = add.onion;
@@ -101,7 +221,11 @@ fn offered(alloc: Global, a: &mut Saving, b: &mut Saving) -> Result<(), Refusal>
 }
 
 /// It is failed, and that is signed by both.
-fn failed(alloc: Global, a: &mut Saving, b: &mut Saving) -> Result<(), Refusal> {
+fn failed<S: RecordStore + Drop>(
+    alloc: Global,
+    a: &mut Side<S>,
+    b: &mut Side<S>,
+) -> Result<(), Refusal> {
     let fail = Command::Fail {
         id: 0,
         reason: Bytes::empty(alloc),
@@ -111,105 +235,108 @@ fn failed(alloc: Global, a: &mut Saving, b: &mut Saving) -> Result<(), Refusal> 
     told(alloc, a, b, Command::Sign)
 }
 
-fn both(alloc: Global) -> Result<(Saving, Saving), Refusal> {
-    let mut a = funder_side(alloc, MemoryStore::new(alloc))?;
-    let mut b = fundee_side(alloc, MemoryStore::new(alloc))?;
-    played(alloc, &mut a, &mut b)?;
-    offered(alloc, &mut a, &mut b)?;
-    Ok((a, b))
+/// How many rows are right once both hold the HTLC, and how many once both hold its failure too.
+fn both_right<S: RecordStore + Drop>(
+    alloc: Global,
+    a: &mut Side<S>,
+    b: &mut Side<S>,
+    held: &[Row],
+    behind: &[Row],
+) -> Result<(usize, usize), Refusal> {
+    played(alloc, a, b)?;
+    offered(alloc, a, b)?;
+    let first = right(alloc, a, b, held)?;
+    failed(alloc, a, b)?;
+    Ok((first, right(alloc, a, b, behind)?))
 }
 
-#[test]
-fn events_are_decided_in_turn(rt: HostRuntime) -> Result<(), Refusal> {
-    let alloc = rt.alloc();
-    let (mut a, mut b) = both(alloc)?;
-    assert_eq!(rt; kept(alloc, &mut a), Ok((0, 1, 0, 0, None)));
-    assert_eq!(rt; kept(alloc, &mut b), Ok((0, 1, 0, 0, None)));
-    assert_eq!(rt; pending(alloc, &a), Ok((1, 0, Some(true))));
-    assert_eq!(rt; pending(alloc, &b), Ok((1, 0, Some(false))));
+/// The same for new ends.
+fn new_right(alloc: Global, held: &[Row], behind: &[Row]) -> Result<(usize, usize), Refusal> {
+    let mut a = boxed(alloc, funder_side(alloc, MemoryStore::new(alloc))?)?;
+    let mut b = boxed(alloc, fundee_side(alloc, MemoryStore::new(alloc))?)?;
+    both_right(alloc, &mut a, &mut b, held, behind)
+}
+
+const IN_TURN: [Row; 14] = [
+    (A, Kept, [0, 1, 0, 0, 0]),
+    (B, Kept, [0, 1, 0, 0, 0]),
+    (A, Pending, [1, 0, 1, 0, 0]),
+    (B, Pending, [1, 0, 2, 0, 0]),
     // its own add can have no mark
-    assert_eq!(rt; decided(alloc, &mut a, 0, Mark::Malformed(5)), 40);
-    assert_eq!(rt; decided(alloc, &mut a, 1, Mark::None), 40);
-    assert_eq!(rt; decided(alloc, &mut a, 0, Mark::None), 0);
-    assert_eq!(rt; decided(alloc, &mut a, 1, Mark::None), 40);
-    assert_eq!(rt; kept(alloc, &mut a), Ok((1, 0, 0, 0, None)));
-    assert_eq!(rt; decided(alloc, &mut b, 1, Mark::None), 40);
-    assert_eq!(rt; decided(alloc, &mut b, 0, Mark::Malformed(5)), 0);
-    assert_eq!(rt; decided(alloc, &mut b, 0, Mark::Malformed(5)), 40);
-    assert_eq!(rt; kept(alloc, &mut b), Ok((1, 0, 1, 0, None)));
-    assert_eq!(rt; pending(alloc, &b), Ok((0, 0, None)));
-    Ok(())
-}
+    (A, Garble(0), [40, 0, 0, 0, 0]),
+    (A, Decide(1), [40, 0, 0, 0, 0]),
+    (A, Decide(0), [0; 5]),
+    (A, Decide(1), [40, 0, 0, 0, 0]),
+    (A, Kept, [1, 0, 0, 0, 0]),
+    (B, Decide(1), [40, 0, 0, 0, 0]),
+    (B, Garble(0), [0; 5]),
+    (B, Garble(0), [40, 0, 0, 0, 0]),
+    (B, Kept, [1, 0, 1, 0, 0]),
+    (B, Pending, [0; 5]),
+];
 
 #[test]
-fn results_stay_until_they_are_forgotten(rt: HostRuntime) -> Result<(), Refusal> {
-    let alloc = rt.alloc();
-    let (mut a, mut b) = both(alloc)?;
-    let result = Some((0, [7; 32], 5));
-    failed(alloc, &mut a, &mut b)?;
-    assert_eq!(rt; kept(alloc, &mut a), Ok((0, 2, 0, 1, result)));
-    assert_eq!(rt; kept(alloc, &mut b), Ok((0, 2, 0, 0, None)));
+fn events_are_decided_in_turn(rt: HostRuntime) {
+    assert_eq!(rt;
+        new_right(rt.alloc(), &IN_TURN, &[]),
+        Ok((IN_TURN.len(), 0))
+    );
+}
+
+const RESULTS: [Row; 19] = [
+    (A, Kept, [0, 2, 0, 1, 1]),
+    (B, Kept, [0, 2, 0, 0, 0]),
     // decisions are taken without a connection
-    a.link.drop_connection();
-    assert_eq!(rt; decided(alloc, &mut a, 0, Mark::None), 0);
-    assert_eq!(rt; forgotten(alloc, &mut a, 1), 0);
-    assert_eq!(rt; kept(alloc, &mut a), Ok((1, 1, 0, 1, result)));
+    (A, Lose, [0; 5]),
+    (A, Decide(0), [0; 5]),
+    (A, Forget(1), [0; 5]),
+    (A, Kept, [1, 1, 0, 1, 1]),
     // and by a link that has come back from its record
-    let bytes = stored(alloc, &mut a)?;
-    a.link = boxed(alloc, Link::from_record(alloc, FUNDER, bytes.as_slice())?)?;
-    assert_eq!(rt; pending(alloc, &a), Ok((1, 1, None)));
-    assert_eq!(rt; decided(alloc, &mut a, 1, Mark::Malformed(5)), 40);
-    assert_eq!(rt; decided(alloc, &mut a, 1, Mark::None), 0);
-    assert_eq!(rt; kept(alloc, &mut a), Ok((2, 0, 0, 1, result)));
-    assert_eq!(rt; forgotten(alloc, &mut a, 0), 0);
-    assert_eq!(rt; forgotten(alloc, &mut a, 0), 0);
-    assert_eq!(rt; kept(alloc, &mut a), Ok((2, 0, 0, 0, None)));
+    (A, Load, [0; 5]),
+    (A, Pending, [1, 1, 0, 0, 0]),
+    (A, Garble(1), [40, 0, 0, 0, 0]),
+    (A, Decide(1), [0; 5]),
+    (A, Kept, [2, 0, 0, 1, 1]),
+    (A, Forget(0), [0; 5]),
+    (A, Forget(0), [0; 5]),
+    (A, Kept, [2, 0, 0, 0, 0]),
     // and by a channel that has failed
-    let failure = b.link.handle(alloc, &mut b.store, error(alloc, [0; 32]));
-    assert_eq!(rt; code_of(failure.err()), 37);
-    assert_eq!(rt; decided(alloc, &mut b, 0, Mark::Malformed(5)), 0);
-    assert_eq!(rt; kept(alloc, &mut b), Ok((1, 1, 1, 0, None)));
+    (B, Hear, [37, 0, 0, 0, 0]),
+    (B, Garble(0), [0; 5]),
+    (B, Kept, [1, 1, 1, 0, 0]),
     // a decision leaves with its HTLC, once its removal is decided too
-    assert_eq!(rt; decided(alloc, &mut b, 1, Mark::None), 0);
-    assert_eq!(rt; kept(alloc, &mut b), Ok((2, 0, 0, 0, None)));
-    Ok(())
-}
-
-/// Of a side's record: how many updates of the funder and of the fundee are in the base, how many HTLCs are live there,
-/// and how many updates of each it has one by one.
-type Shape = ([u64; 2], usize, [usize; 2]);
-
-fn shape(alloc: Global, side: &mut Saving) -> Result<Shape, Refusal> {
-    let bytes = stored(alloc, side)?;
-    let record = boxed(alloc, decode_record(alloc, bytes.as_slice())?)?;
-    let updates = &record.items().updates;
-    let base = &updates.base;
-    Ok((
-        [base.updates.funder, base.updates.fundee],
-        base.live.as_slice().len(),
-        [
-            updates.window.funder.as_slice().len(),
-            updates.window.fundee.as_slice().len(),
-        ],
-    ))
-}
+    (B, Decide(1), [0; 5]),
+    (B, Kept, [2, 0, 0, 0, 0]),
+];
 
 #[test]
-fn decided_updates_leave_the_window(rt: HostRuntime) -> Result<(), Refusal> {
-    let alloc = rt.alloc();
-    let (mut a, mut b) = both(alloc)?;
-    assert_eq!(rt; shape(alloc, &mut a), Ok(([0, 0], 0, [1, 0])));
-    assert_eq!(rt; shape(alloc, &mut b), Ok(([0, 0], 0, [1, 0])));
-    assert_eq!(rt; decided(alloc, &mut a, 0, Mark::None), 0);
-    assert_eq!(rt; decided(alloc, &mut b, 0, Mark::None), 0);
-    assert_eq!(rt; shape(alloc, &mut a), Ok(([1, 0], 1, [0, 0])));
-    assert_eq!(rt; shape(alloc, &mut b), Ok(([1, 0], 1, [0, 0])));
-    // the removal of an HTLC of the base leaves with it
-    failed(alloc, &mut a, &mut b)?;
-    assert_eq!(rt; shape(alloc, &mut a), Ok(([1, 0], 1, [0, 1])));
-    assert_eq!(rt; decided(alloc, &mut a, 1, Mark::None), 0);
-    assert_eq!(rt; decided(alloc, &mut b, 1, Mark::None), 0);
-    assert_eq!(rt; shape(alloc, &mut a), Ok(([1, 1], 0, [0, 0])));
-    assert_eq!(rt; shape(alloc, &mut b), Ok(([1, 1], 0, [0, 0])));
-    Ok(())
+fn results_stay_until_they_are_forgotten(rt: HostRuntime) {
+    assert_eq!(rt;
+        new_right(rt.alloc(), &[], &RESULTS),
+        Ok((0, RESULTS.len()))
+    );
+}
+
+const BEFORE_REMOVAL: [Row; 6] = [
+    (A, Shape, [0, 0, 0, 1, 0]),
+    (B, Shape, [0, 0, 0, 1, 0]),
+    (A, Decide(0), [0; 5]),
+    (B, Decide(0), [0; 5]),
+    (A, Shape, [1, 0, 1, 0, 0]),
+    (B, Shape, [1, 0, 1, 0, 0]),
+];
+
+/// The removal of an HTLC of the base leaves with it.
+const BEHIND_REMOVAL: [Row; 5] = [
+    (A, Shape, [1, 0, 1, 0, 1]),
+    (A, Decide(1), [0; 5]),
+    (B, Decide(1), [0; 5]),
+    (A, Shape, [1, 1, 0, 0, 0]),
+    (B, Shape, [1, 1, 0, 0, 0]),
+];
+
+#[test]
+fn decided_updates_leave_the_window(rt: HostRuntime) {
+    let told = new_right(rt.alloc(), &BEFORE_REMOVAL, &BEHIND_REMOVAL);
+    assert_eq!(rt; told, Ok((BEFORE_REMOVAL.len(), BEHIND_REMOVAL.len())));
 }

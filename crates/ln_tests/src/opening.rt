@@ -2,7 +2,7 @@
 
 use crate::code_of;
 use crate::ends::{FUNDEE, FUNDER, boxed, messages_of};
-use crate::testing::bytes_of;
+use crate::testing::{bytes_of, put};
 use ln_bytes::{Bytes, Record};
 use ln_channel::{Config, FitConfig, FitSpec, OpenSpec, Output, Points, Unsaved};
 use ln_keys::{ToyKeys, sha256_32};
@@ -97,10 +97,6 @@ fn spec(alloc: Global, records: Records) -> OpenSpec {
         output: 1,
         records,
     }
-}
-
-fn put<T: Drop>(place: &mut T, value: T) {
-    *place = value;
 }
 
 /// A change to a message on its way.

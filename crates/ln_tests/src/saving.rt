@@ -57,8 +57,8 @@ fn told<S: RecordStore + Drop, T: RecordStore + Drop>(
 /// The same where the funder's store fails at its save of this number, counted from 0.
 fn told_where_a_save_fails(alloc: Global, saves: u64, leaves_new: bool) -> Result<Told, Refusal> {
     let store = FailingStore::new(MemoryStore::new(alloc), saves, leaves_new);
-    let mut a = funder_side(alloc, store)?;
-    let mut b = fundee_side(alloc, MemoryStore::new(alloc))?;
+    let mut a = boxed(alloc, funder_side(alloc, store)?)?;
+    let mut b = boxed(alloc, fundee_side(alloc, MemoryStore::new(alloc))?)?;
     told(alloc, &mut a, &mut b)
 }
 
@@ -135,8 +135,8 @@ fn loaded<S: RecordStore + Drop, T: RecordStore + Drop>(
 }
 
 fn loads_of(alloc: Global) -> Result<Loaded, Refusal> {
-    let mut a = funder_side(alloc, MemoryStore::new(alloc))?;
-    let mut b = fundee_side(alloc, MemoryStore::new(alloc))?;
+    let mut a = boxed(alloc, funder_side(alloc, MemoryStore::new(alloc))?)?;
+    let mut b = boxed(alloc, fundee_side(alloc, MemoryStore::new(alloc))?)?;
     loaded(alloc, &mut a, &mut b)
 }
 
