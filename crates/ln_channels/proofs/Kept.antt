@@ -28,16 +28,15 @@ use Rattle.ln_channel.specs.declared.opening.Opened.{Opened}
 use Rattle.ln_channel.specs.Meeting.{Opens}
 use Rattle.ln_channel.specs.End.{End}
 use Rattle.ln_channel.specs.State.{State, is_down}
-use Rattle.ln_channel.specs.Step.{Done, handled}
 use Rattle.ln_channel.specs.Step as step
 use Rattle.ln_channel.specs.declared.command.Command.{Command}
 use Rattle.ln_channel.specs.declared.command.Command.TheVariants as command
 use Rattle.ln_pair.specs.Ends.{Ends, Step}
 use Rattle.ln_pair.specs.Ends as pair
 use Rattle.ln_keys.specs.Partners.{ArePartners}
-use Rattle.ln_pair.specs.Promises.{AreSent, IsTaken, Overlap, CloseAtOneFee, TakesFront as Front}
+use Rattle.ln_pair.specs.Promises.{AreSent, Overlap, CloseAtOneFee, TakesFront as Front}
 use Rattle.ln_pair.specs.Promises.{AcceptsFront as Accepted, FollowEachOther, SameMarks}
-use Rattle.ln_pair.specs.Moves.{history, after_all}
+use Rattle.ln_pair.specs.Moves.{history}
 use Rattle.ln_pair.specs.Moves as pair_moves
 use Rattle.ln_pair.specs.Told.{events_in, as_told}
 use Rattle.ln_pair.specs.Told as pair_told
@@ -50,7 +49,6 @@ use Rattle.ln_pair.proofs.Offered.{greeted, cut_off}
 use Rattle.ln_pair.specs.Answers.{HasAnswered}
 use Rattle.ln_store.proofs.Formats.{both_true}
 use Rattle.ln_close.specs.Closing.{AreOrdered}
-use Rattle.ln_log.specs.Machine.{Machine}
 use Rattle.ln_log.specs.Machine as machine
 use Rattle.ln_log.specs.Events.{events}
 use Rattle.ln_channel.specs.declared.output.Output.{Output}

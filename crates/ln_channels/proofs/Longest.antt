@@ -1,5 +1,5 @@
 -- In every channel of a world the base of either end is the longest that its decided events allow.
-use Rattle.std.proofs.Common.{◌≡◌, ℕ, List, [], ◌∷◌, ◌++◌, refl, sym, ap, ◌∙◌, subst, Bool, true, false, cond, ◌&&◌}
+use Rattle.std.proofs.Common.{◌≡◌, ℕ, List, [], ◌∷◌, ◌++◌, refl, sym, ◌∙◌, subst, Bool, true, false, cond, ◌&&◌}
 use Rattle.std.proofs.Common.{Option, Some, None, Result, Ok, Err, not, is_none, ◌==◌}
 use Rattle.ln_msgs.specs.declared.messages.message.Message.{Message}
 use Rattle.ln_msgs.specs.declared.refusals.refusal.Refusal.{Refusal}
@@ -8,17 +8,16 @@ use Rattle.ln_keys.specs.declared.keys.ChannelKeys.{Ghosts}
 use Rattle.ln_keys.specs.declared.role.Role.{Role}
 use Rattle.ln_keys.specs.declared.role.Role.TheVariants.{Funder, Fundee}
 use Rattle.ln_keys.specs.Signer.{Signer}
-use Rattle.ln_log.specs.declared.log.Counts.{Counts}
 use Rattle.ln_log.specs.Window.{MayBeBase, may_be_base}
 use Rattle.ln_log.proofs.Bases.{base_tells}
 use Rattle.ln_channel.specs.declared.unsaved.LineState.TheVariants as line
 use Rattle.ln_channel.specs.declared.unsaved.Stage.{Stage}
 use Rattle.ln_channel.specs.declared.unsaved.Stage.TheVariants as stage
 use Rattle.ln_channel.specs.Base.{allowed, based, based_stage}
-use Rattle.ln_channel.specs.End.{End, end_of, end_dropped}
+use Rattle.ln_channel.specs.End.{End, end_of}
 use Rattle.ln_channel.specs.Failing.{fails}
 use Rattle.ln_channel.specs.Record.{saved_end}
-use Rattle.ln_channel.specs.State.{State, is_down, is_saved, lost, failed, fails_by, unless_failed, refused, cut, drops}
+use Rattle.ln_channel.specs.State.{State, is_down, lost, failed, fails_by, unless_failed, refused, cut, drops}
 use Rattle.ln_channel.specs.Step.{Done, handled, commanded, connects}
 use Rattle.ln_store.proofs.Formats.{both_true}
 use Rattle.ln_pair.specs.Ends as pair
@@ -33,7 +32,7 @@ use Rattle.ln_channels.specs.declared.step.Step.{Step}
 use Rattle.ln_channels.specs.declared.step.Step.TheVariants as step
 use Rattle.ln_channels.specs.Settings.{channel_id_of, may_bring}
 use Rattle.ln_channels.specs.Both.{Both, Place, By, Falls, Halts, Restarts, Stops, Meet, reaches, left, unchanged, acts}
-use Rattle.ln_channels.specs.Both.{delivers, greeting, greeted, back, restarted, swapped, moves, run as run_both}
+use Rattle.ln_channels.specs.Both.{delivers, greeted, back, restarted, swapped, moves, run as run_both}
 use Rattle.ln_channels.specs.Channel.{Channel, by, side_of, is_node, moved, may_meet, act_moves, fall_moves}
 use Rattle.ln_channels.specs.Channel.{halt_moves, restart_moves, stop_moves, up_moves, opened_by}
 use Rattle.ln_channels.specs.World.{World, settings_of, channel, may_open, may_be_done, happens, empty}

@@ -11,7 +11,6 @@ use Rattle.ln_keys.specs.Signer.{Signer}
 use Rattle.ln_log.specs.Machine as machine
 use Rattle.ln_dance.specs.Resume.{reestablish_message}
 use Rattle.ln_channel.specs.declared.command.Command.{Command}
-use Rattle.ln_channel.specs.declared.command.Command.TheVariants as command
 use Rattle.ln_channel.specs.declared.unsaved.LineState.{LineState}
 use Rattle.ln_channel.specs.declared.unsaved.LineState.TheVariants.{Down, Awaiting, Met}
 use Rattle.ln_channel.specs.declared.unsaved.Stage.TheVariants as stage
@@ -24,9 +23,9 @@ use Rattle.ln_channel.specs.Ledger.{Ledger}
 use Rattle.ln_channel.specs.Commands.{ledgered, with_ledger, command_row, unready_fault}
 use Rattle.ln_channel.specs.Record.{saved_end}
 use Rattle.ln_channel.specs.State.{State, is_down, refused, drops}
-use Rattle.ln_channel.specs.Step.{Done, handled, commanded, faulted, line_fault, is_passed_over, error_fault}
+use Rattle.ln_channel.specs.Step.{Done, handled, commanded, faulted, line_fault}
 use Rattle.ln_channel.specs.Step.{stray_fault}
-use Rattle.ln_channel.specs.Step.{message_fault, saved_at, at_hand, asked, obeyed}
+use Rattle.ln_channel.specs.Step.{message_fault, saved_at, asked, obeyed}
 use Rattle.ln_channel.specs.Step as step
 use Rattle.ln_log.specs.Limits.{first_fault}
 use Rattle.ln_pair.specs.Ends.{Ends, arrive, messages_in, message_at, command_at, becomes, ledger_behind, Act, Deliver}

@@ -6,8 +6,8 @@ use Rattle.std.proofs.Common.{sym}
 use Rattle.ln_channel.specs.Commands.{propose_row}
 use Rattle.ln_dance.specs.Resume.{updates_again}
 use Rattle.ln_dance.specs.Resume.{revocation_again}
-use Rattle.std.proofs.Common.{◌≡◌, ℕ, ◌+◌, List, [], ◌∷◌, ◌++◌, map, refl, ap, ◌∙◌, subst, Bool, true, false, cond, not}
-use Rattle.std.proofs.Common.{◌&&◌, Option, Some, None, Result, Ok, Err, append_assoc}
+use Rattle.std.proofs.Common.{◌≡◌, ℕ, ◌+◌, List, [], ◌∷◌, ◌++◌, map, refl, ap, subst, Bool, true, false, cond, not}
+use Rattle.std.proofs.Common.{◌&&◌, Option, Some, None, Result, Ok, Err}
 use Rattle.ln_msgs.specs.declared.messages.message.Message.{Message}
 use Rattle.ln_msgs.specs.declared.messages.message.Message.TheVariants as message
 use Rattle.ln_msgs.specs.declared.messages.closing.ClosingSigned.{ClosingSigned}
@@ -53,7 +53,7 @@ use Rattle.ln_channel.specs.Taking.{shuts_by_peer, answering, answered, answered
 use Rattle.ln_channel.specs.Taking.{completed_row}
 use Rattle.ln_channel.specs.Commands.{command_row, confirm_fault, ready_message, propose_fault, proposes}
 use Rattle.ln_channel.specs.Commands.{sign_command_fault, shut_fault, shuts_down, unready_fault}
-use Rattle.ln_channel.specs.Resume.{resume_row, resumed, ready_again, all_sent, one_again, owed_again, shutdown_again}
+use Rattle.ln_channel.specs.Resume.{resume_row, resumed, ready_again, all_sent, owed_again, shutdown_again}
 use Rattle.ln_channel.specs.Resume.{fee_again}
 use Rattle.ln_channel.specs.Step.{faulted, line_fault}
 use Rattle.ln_pair.specs.Ends.{message_at, command_at, messages_in}

@@ -18,19 +18,17 @@ use Rattle.ln_channel.specs.Meeting.{CanOpen}
 use Rattle.ln_channel.proofs.Meeting.{none_refused}
 use Rattle.ln_store.proofs.Formats.{both_true}
 use Rattle.ln_pair.specs.Promises.{AreSent}
-use Rattle.ln_channels.specs.declared.step.Node.{Node}
 use Rattle.ln_channels.specs.declared.step.Open.{Open}
 use Rattle.ln_channels.specs.declared.step.Step.{Step}
 use Rattle.ln_channels.specs.declared.step.Step.TheVariants as step
 use Rattle.ln_channels.specs.declared.settings.Settings.{Settings}
-use Rattle.ln_channels.specs.declared.settings.Setting.{Setting}
 use Rattle.ln_channels.specs.Settings.{config_of, spec_of, txid_of, channel_id_of, opening_by, are_ordered}
 use Rattle.ln_channels.specs.Settings.{may_bring, may_ask, can_be_told, CanBring, CanBeTold}
 use Rattle.ln_channels.specs.Both.{Both, Move}
 use Rattle.ln_channels.specs.Channel.{Channel, is_node, moved, opened_by, act_moves, fall_moves, restart_moves}
 use Rattle.ln_channels.specs.Channel.{up_moves}
 use Rattle.ln_channels.specs.Channel.{halt_moves, stop_moves}
-use Rattle.ln_channels.specs.World.{World, settings_of, with_settings, channel, moved_at, all_moved, may_open, happens}
+use Rattle.ln_channels.specs.World.{World, settings_of, channel, moved_at, all_moved, may_open, happens}
 use Rattle.ln_channels.specs.World.{at, everywhere, may_be_done, empty, run}
 use Rattle.ln_channels.specs.Promises.{Headline, NoneRefused, AllTaken, OneFee, Agrees, Each}
 use Rattle.ln_channels.specs.Promises.{OfEach}

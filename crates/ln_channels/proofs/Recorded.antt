@@ -1,6 +1,6 @@
 -- Each end of every channel has a record, so that no act fails by one that is missing (BOLT 2, "Message
 -- Retransmission").
-use Rattle.std.proofs.Common.{◌≡◌, ℕ, List, [], ◌∷◌, refl, subst, arith, inl, inr}
+use Rattle.std.proofs.Common.{◌≡◌, ℕ, List, [], ◌∷◌, refl, subst, inl, inr}
 use Rattle.std.proofs.Common.{Bool, true, false, cond, ◌&&◌, ◌==◌, not, is_none, Option, Some, None}
 use Rattle.ln_msgs.specs.declared.refusals.refusal.Refusal.TheVariants as refusal
 use Rattle.ln_keys.specs.declared.keys.ChannelKeys.{Ghosts}
@@ -23,8 +23,7 @@ use Rattle.ln_channels.specs.declared.step.Open.{Open}
 use Rattle.ln_channels.specs.declared.step.Step.{Step}
 use Rattle.ln_channels.specs.declared.step.Step.TheVariants as step
 use Rattle.ln_channels.specs.declared.settings.Settings.{Settings}
-use Rattle.ln_channels.specs.declared.settings.Setting.{Setting}
-use Rattle.ln_channels.specs.Settings.{defaults, channel_id_of, may_bring, CanBring}
+use Rattle.ln_channels.specs.Settings.{channel_id_of, may_bring, CanBring}
 use Rattle.ln_channels.specs.Both.{Both, Move, By, Falls, Halts, Restarts, Stops, Meet, moves, unheard}
 use Rattle.ln_channels.specs.Both.{run as run_both}
 use Rattle.ln_channels.specs.Channel.{Channel, is_node, by, side_of, moved, may_meet, opened_by, act_moves}

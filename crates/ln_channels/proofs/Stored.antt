@@ -33,7 +33,7 @@ use Rattle.ln_link.specs.Record.{items_of}
 use Rattle.ln_link.specs.Loading.{Loads, HasRecord, IsLoadedOf, ComesBackOf, CameBack, IsCameBack, end_of}
 use Rattle.ln_link.specs.Calls as call
 use Rattle.ln_link.specs.Calls.{Call, Handle, Connect, DropConnection, Leads, Has, HasLink}
-use Rattle.ln_link.specs.Saving.{Shelf, FailsBy, IsSaved, IsUnsaved, SavesIf, SavesFailure, HandsOut, HaltsBehind}
+use Rattle.ln_link.specs.Saving.{Shelf, FailsBy, SavesIf, SavesFailure, HandsOut, HaltsBehind}
 use Rattle.ln_link.specs.Saving.{HaltsRefused, AnswersMessage, AnswersCommand, AnswersOver, CannotBeStored, CannotTell}
 use Rattle.ln_link.specs.Saving.{stored_end, settled, fails_now, is_known, handled_beside}
 use Rattle.ln_link.proofs.Calls.{has_record}

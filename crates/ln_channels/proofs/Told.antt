@@ -31,7 +31,7 @@ use Rattle.ln_channels.specs.World.{at, everywhere, may_be_done, empty, run}
 use Rattle.ln_channels.specs.Course.{step_moves, in_channel, over}
 use Rattle.ln_channels.specs.Sending.{sends, sent_in, NoneAddsLate}
 use Rattle.ln_channels.specs.Machine.{machine_of, moves_of, moves_in, history, tells, told_in, all_told, AreInStep}
-use Rattle.ln_channels.proofs.Kept.{Tale, untold, then, then-untold, then_assoc, IsTold, tale_along, ArePossible}
+use Rattle.ln_channels.proofs.Kept.{Tale, untold, then, then-untold, then_assoc, tale_along, ArePossible}
 use Rattle.ln_channels.proofs.Kept as channels
 use Rattle.ln_channels.proofs.Promised.{brings_so, IsToldOf, opening_tale, opened_told}
 

@@ -1,8 +1,7 @@
 -- What the two links of each channel of a world promise, whatever has happened to them.
-use Rattle.std.specs.Prelude.{◌≡◌, ◌↔◌, ℕ, ◌≤◌, ◌^◌, length, List, [], ◌∷◌, false, Some, None}
+use Rattle.std.specs.Prelude.{◌≡◌, ◌↔◌, List, [], ◌∷◌, false, Some, None}
 use Rattle.ln_msgs.specs.declared.messages.message.Message.{Message}
 use Rattle.ln_msgs.specs.declared.refusals.refusal.Refusal.TheVariants as refusal
-use Rattle.ln_keys.specs.declared.keys.ChannelKeys.{Ghosts}
 use Rattle.ln_keys.specs.declared.role.Role.{Role}
 use Rattle.ln_keys.specs.declared.role.Role.TheVariants.{Funder, Fundee}
 use Rattle.ln_keys.specs.Signer.{Signer}
@@ -16,14 +15,12 @@ use Rattle.ln_channel.specs.declared.unsaved.Stage.TheVariants as stage
 use Rattle.ln_channel.specs.End.{End}
 use Rattle.ln_channel.specs.State.{State}
 use Rattle.ln_channel.specs.Step.{handled, commanded, is_of_records}
-use Rattle.ln_pair.specs.Promises.{AreSent, FollowEachOther, IsTaken, IsTakenButForItsFee, Overlap, CloseAtOneFee}
+use Rattle.ln_pair.specs.Promises.{FollowEachOther, IsTaken, IsTakenButForItsFee, Overlap, CloseAtOneFee}
 use Rattle.ln_pair.specs.Promises.{HoldTheSame, SameMarks}
 use Rattle.ln_pair.specs.Answers.{HasAnswered}
 use Rattle.ln_pair.specs.Closes.{CloseOnceDone}
 use Rattle.ln_pair.specs.Moves.{machine_by}
 use Rattle.ln_pair.specs.Doing.{MayDo}
-use Rattle.ln_channels.specs.declared.step.Step.{Step}
-use Rattle.ln_channels.specs.declared.step.Step.TheVariants as step
 use Rattle.ln_channels.specs.World.{World}
 use Rattle.ln_channels.specs.Both.{Both}
 

@@ -1,8 +1,7 @@
 -- That each end of a channel has a record, which it comes back from where its node restarts. What the steps' commands
 -- bring is as wide as it is in code.
-use Rattle.std.specs.Prelude.{◌≡◌, ◌<◌, ◌≤◌, ◌^◌, ℕ, List, length}
+use Rattle.std.specs.Prelude.{List}
 use Rattle.ln_keys.specs.declared.keys.ChannelKeys.{Ghosts}
-use Rattle.ln_keys.specs.Signer.{Signer}
 use Rattle.ln_log.specs.declared.opening.Limits.{Limits}
 use Rattle.ln_pair.specs.Widths.{IsCommand}
 use Rattle.ln_channels.specs.declared.step.Act.{Act}

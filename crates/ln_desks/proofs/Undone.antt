@@ -1,6 +1,6 @@
 -- No step of channels undoes a decision: each end has decided as many events behind it as before, or more.
-use Rattle.std.proofs.Common.{◌≡◌, ℕ, ◌≤◌, ◌==◌, List, [], ◌∷◌, ◌++◌, map, refl, sym, ap, subst, arith, max}
-use Rattle.std.proofs.Common.{Bool, true, false, cond, Option, Some, None, inr}
+use Rattle.std.proofs.Common.{◌≡◌, ℕ, ◌≤◌, ◌==◌, List, [], ◌∷◌, ◌++◌, map, refl, sym, subst, arith}
+use Rattle.std.proofs.Common.{Bool, true, false, cond, Option, Some, inr}
 use Rattle.ln_keys.specs.declared.keys.ChannelKeys.{Ghosts}
 use Rattle.ln_keys.specs.declared.role.Role.{Role}
 use Rattle.ln_keys.specs.declared.role.Role.TheVariants.{Funder, Fundee}

@@ -1,12 +1,11 @@
 -- What every list of steps of two ends promises.
-use Rattle.std.specs.Prelude.{◌≡◌, ◌⊎◌, ℕ, ◌<◌, ◌≤◌, ◌^◌, List, [], ◌∷◌, length, Bool, true, false, ◌||◌, Some}
+use Rattle.std.specs.Prelude.{◌≡◌, ◌⊎◌, ℕ, ◌<◌, ◌≤◌, ◌^◌, List, [], ◌∷◌, Bool, true, false, ◌||◌, Some}
 use Rattle.std.specs.Prelude.{None, Result, Ok, Err, min, max}
 use Rattle.ln_msgs.specs.declared.messages.message.Message.{Message}
 use Rattle.ln_msgs.specs.declared.messages.message.Message.TheVariants as message
 use Rattle.ln_msgs.specs.declared.refusals.refusal.Refusal.{Refusal}
 use Rattle.ln_msgs.specs.declared.refusals.refusal.Refusal.TheVariants as refusal
 use Rattle.ln_keys.specs.Signer.{Signer}
-use Rattle.ln_keys.specs.Partners.{ArePartners}
 use Rattle.ln_log.specs.Machine.{Party, Follows, held}
 use Rattle.ln_log.specs.Log.{party_of}
 use Rattle.ln_keys.specs.declared.view.View.{View}

@@ -1,5 +1,5 @@
 -- What every turn of an end keeps, and that what it sends can be written.
-use Rattle.std.proofs.Common.{◌≡◌, ℕ, ◌+◌, ◌-◌, ◌<◌, ◌≤◌, ◌^◌, List, [], ◌∷◌, ◌++◌, length, take, map}
+use Rattle.std.proofs.Common.{◌≡◌, ℕ, ◌+◌, ◌-◌, ◌<◌, ◌≤◌, List, [], ◌∷◌, ◌++◌, length, take, map}
 use Rattle.std.proofs.Common.{refl}
 use Rattle.std.proofs.Common.{sym, ap, ◌∙◌, subst, arith, length-append, Bool, true, false, cond, not, ◌==◌, ◌||◌, ◌&&◌}
 use Rattle.std.proofs.Common.{nat_lt, nat_le, min, max, is_none, Option, Some, None, option_map, if◌then◌else◌, Result}
@@ -28,12 +28,11 @@ use Rattle.ln_log.specs.declared.update.Update.{Update as Change}
 use Rattle.ln_log.specs.declared.update.Update.TheVariants as update
 use Rattle.ln_log.specs.Opening.{IsFit, limits_of}
 use Rattle.ln_log.specs.Limits.{first_fault, most_updates, is_at_update_limit, update_fault as rule_fault}
-use Rattle.ln_log.specs.Updates.{removed, next_id, is_add}
+use Rattle.ln_log.specs.Updates.{removed, next_id}
 use Rattle.std.proofs.Math.Nat.{min-le_left, min-le_right}
-use Rattle.std.proofs.lemmas.List.Sums.{count_by-le-length}
 use Rattle.ln_log.specs.Log as log
 use Rattle.ln_log.specs.Log.{Log, IsWithin, unacknowledged, taken_fault, peer_limit, removal_fault, length_fault}
-use Rattle.ln_log.specs.Log.{proposal_fault, same_counts}
+use Rattle.ln_log.specs.Log.{proposal_fault}
 use Rattle.ln_log.proofs.Grows.{may_propose, may_take}
 use Rattle.ln_dance.specs.declared.dance.Later.{Later}
 use Rattle.ln_dance.specs.declared.dance.Later.TheVariants.{Signature, Revocation}

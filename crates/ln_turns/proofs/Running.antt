@@ -1,5 +1,5 @@
 -- Turns one after the other.
-use Rattle.std.proofs.Common.{◌≡◌, ◌++◌, ◌∷◌, [], ℕ, List, Option, Some, None, Bool, true, false, Result, Ok, Err}
+use Rattle.std.proofs.Common.{◌≡◌, ◌++◌, ◌∷◌, [], ℕ, List, Option, Some, Bool, true, false, Result, Ok, Err}
 use Rattle.std.proofs.Common.{refl, sym, ap, ◌∙◌, subst}
 use Rattle.std.proofs.Common.{append-nil, cond}
 use Rattle.std.proofs.lemmas.List.{append_assoc}
@@ -12,7 +12,7 @@ use Rattle.ln_turns.specs.Act.{Act}
 use Rattle.ln_turns.specs.declared.task.Task.{Task}
 use Rattle.ln_turns.specs.declared.task.Task.TheVariants as task
 use Rattle.ln_turns.specs.Turns.{Turn, Serves, Passes, Obeys, Loads, StaysHalted, Stand, Step, Leads, Glance, Ran}
-use Rattle.ln_turns.specs.Turns.{Began, items_of, told, all_told, turn_of, events}
+use Rattle.ln_turns.specs.Turns.{items_of, told, all_told, turn_of, events}
 use Rattle.ln_turns.specs.Turns.{fresh, last_of, tasks, is_new, load_of, told_behind}
 
 -- ---- lists

@@ -1,5 +1,5 @@
 -- What a link answers, by its list of outputs.
-use Rattle.std.proofs.Common.{◌≡◌, ℕ, List, Option, Result, Ok, Err, refl, ap, ◌∙◌, inl, inr, subst, sym}
+use Rattle.std.proofs.Common.{◌≡◌, ℕ, List, Option, Result, Ok, Err, refl, ap, ◌∙◌, inl, inr, subst}
 use Rattle.ln_msgs.specs.declared.messages.message.Message.{Message}
 use Rattle.ln_msgs.specs.declared.refusals.refusal.Refusal.{Refusal}
 use Rattle.ln_keys.specs.Signer.{Signer}
@@ -9,7 +9,7 @@ use Rattle.ln_channel.specs.Step.{Done, Reaches, Answered}
 use Rattle.ln_link.specs.Saving.{Shelf, HandsOut, AnswersOver, AnswersCommand, CannotTell, handled_beside}
 use Rattle.ln_store.specs.Store.{Records}
 use Rattle.ln_turns.specs.Sent.{listed, loaded}
-use Rattle.ln_turns.specs.Saved.{Saved, record_in, ComesBack, IsUntold, LoadsRecord}
+use Rattle.ln_turns.specs.Saved.{Saved, record_in, ComesBack, LoadsRecord}
 
 handed : {K V : Type 0} (outs : V → List Output) (l new : State K) (before behind : Shelf) (said : Result Done Refusal)
     (v : V) → HandsOut outs said l v new before behind → HandsOut (λ os. os) said l (outs v) new before behind

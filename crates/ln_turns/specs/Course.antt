@@ -1,5 +1,5 @@
 -- The events that a worker tells of in its turns, beside the events of its channel.
-use Rattle.std.specs.Prelude.{◌≡◌, ◌≤◌, ◌+◌, ◌-◌, ℕ, suc, zero, List, [], ◌∷◌, ◌++◌, Option, Some, None}
+use Rattle.std.specs.Prelude.{◌≡◌, ◌≤◌, ◌+◌, ◌-◌, ℕ, suc, zero, List, [], ◌∷◌, Option, Some, None}
 use Rattle.ln_hooks.specs.declared.event.ChannelEvent.{ChannelEvent}
 
 -- so many events of a channel, from this number on

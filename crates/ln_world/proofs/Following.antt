@@ -1,5 +1,5 @@
 -- Channel by channel, and event by event.
-use Rattle.std.proofs.Common.{◌≡◌, ℕ, zero, suc, ◌+◌, ◌-◌, ◌<◌, List, [], refl, ap, ◌∙◌, subst, arith, sym}
+use Rattle.std.proofs.Common.{◌≡◌, ℕ, suc, ◌+◌, ◌-◌, ◌<◌, List, [], refl, ap, ◌∙◌, arith, sym}
 use Rattle.ln_forward.specs.declared.checks.Policy.{Policy}
 use Rattle.ln_channel.specs.End.{End as ChannelEnd}
 use Rattle.ln_channels.specs.declared.step.Node.{Node}

@@ -1,6 +1,6 @@
 -- The steps of a world, one after the other, with hooks that are called.
-use Rattle.std.proofs.Common.{◌≡◌, ℕ, ◌<◌, List, [], ◌∷◌, ◌++◌, length, refl, sym, ap, ◌∙◌, subst, arith}
-use Rattle.std.proofs.Common.{append_assoc, append-nil, Option, Some, None, map, inl, inr}
+use Rattle.std.proofs.Common.{◌≡◌, List, [], ◌∷◌, ◌++◌, length, refl, sym, ap, ◌∙◌, subst}
+use Rattle.std.proofs.Common.{Option, Some, None, map, inl, inr}
 use Rattle.ln_msgs.specs.declared.refusals.refusal.Refusal.{Refusal}
 use Rattle.ln_keys.specs.declared.keys.ChannelKeys.{Ghosts}
 use Rattle.ln_hooks.specs.declared.event.ChannelEvent.{ChannelEvent}
@@ -11,7 +11,7 @@ use Rattle.ln_channels.specs.declared.line.Line.TheVariants as line
 use Rattle.ln_desks.specs.declared.step.Step.{Step as DeskStep}
 use Rattle.ln_desks.specs.World.{World as Desks}
 use Rattle.ln_desks.specs.World as desks
-use Rattle.ln_desks.specs.Seated.{Answers, Tables, Stand, Agree, Moved}
+use Rattle.ln_desks.specs.Seated.{Answers, Tables, Stand, Agree}
 use Rattle.ln_desks.specs.Hooked as desks_hooked
 use Rattle.ln_world.specs.declared.step.Step.{Step}
 use Rattle.ln_world.specs.declared.errand.Errand.{Errand}
@@ -20,7 +20,7 @@ use Rattle.ln_desks.proofs.Desks.{calls_follow}
 use Rattle.ln_desks.proofs.Going as going
 use Rattle.ln_world.specs.World.{World, empty, plain, plains, moved_by, lines_by, prepared, errand_of, concluded, tells}
 use Rattle.ln_world.specs.World.{happens, run, step_lines, run_lines, MayFail, SomeMayFail}
-use Rattle.ln_world.specs.Hooked.{verdict_by, verdict_in, answered, Moves, Stepped, Steps, HasRun, RunMayFail}
+use Rattle.ln_world.specs.Hooked.{verdict_by, verdict_in, answered, Moves, Steps, HasRun, RunMayFail}
 
 pub same_world : {K : Type 0} (w : World K) (d : Desks K) (xs : List NodeBook) → w.desks ≡ d → w.nodes ≡ xs
     → w ≡ record { desks = d; nodes = xs }

@@ -1,29 +1,26 @@
 -- The ends of channels are as wide as in code over every list of steps that bring what is; so each step of channels
 -- that a world takes brings what is, the commands that books give as well.
-use Rattle.std.proofs.Common.{◌≡◌, ◌≤◌, ℕ, List, [], ◌∷◌, length, refl, sym, ap, ◌∙◌, subst, arith, Bool, None}
+use Rattle.std.proofs.Common.{◌≡◌, ℕ, List, [], ◌∷◌, length, refl, sym, ap, ◌∙◌, subst, Bool}
 use Rattle.ln_msgs.specs.Messages.Channel.{id_of_channel}
 use Rattle.ln_msgs.specs.declared.messages.opening.AcceptChannel.{AcceptChannel}
 use Rattle.ln_msgs.specs.declared.messages.opening.FundingCreated.{FundingCreated}
 use Rattle.ln_keys.specs.declared.keys.ChannelKeys.{Ghosts}
-use Rattle.ln_keys.specs.declared.role.Role.{Role}
 use Rattle.ln_keys.specs.declared.role.Role.TheVariants.{Funder, Fundee}
 use Rattle.ln_keys.specs.Signer.{Signer}
-use Rattle.ln_close.specs.declared.closing.Fees.{Fees}
 use Rattle.ln_hooks.specs.declared.verdict.Verdict.{Verdict}
 use Rattle.ln_channel.specs.declared.config.Config.{Config}
 use Rattle.ln_channel.specs.declared.config.OpenSpec.{OpenSpec}
 use Rattle.ln_channel.specs.declared.unsaved.LineState.{LineState}
 use Rattle.ln_channel.specs.declared.opening.Opened.{Opened}
-use Rattle.ln_channel.specs.declared.opening.Terms.{Terms}
 use Rattle.ln_channel.specs.Config.{fees_of}
-use Rattle.ln_channel.specs.Opening.{Agreement, opened_by, open_message, open_fault, agreement, accept_message}
+use Rattle.ln_channel.specs.Opening.{Agreement, open_message, open_fault, agreement, accept_message}
 use Rattle.ln_channel.specs.Opening.{accept_fault, funder_end, created_message, created_fault, fundee_end}
 use Rattle.ln_channel.specs.Opening.{funder_terms}
 use Rattle.ln_channel.specs.Meeting.{Opens}
 use Rattle.ln_channel.specs.End.{End, end_of}
 use Rattle.ln_channel.specs.State.{State}
 use Rattle.ln_pair.specs.Ends.{opened}
-use Rattle.ln_pair.proofs.Offered.{All, Where, longest_script, was_given, Origin, contents_of, Fits, BothFit, run_fit}
+use Rattle.ln_pair.proofs.Offered.{All, was_given, Origin, contents_of, Fits, BothFit, run_fit}
 use Rattle.ln_pair.proofs.Offered.{FitsFirst, first_fits}
 use Rattle.ln_channels.specs.Channel.{Channel}
 use Rattle.ln_channels.specs.Promises.{Each}

@@ -44,7 +44,7 @@ use Rattle.ln_desks.specs.declared.step.Step.{Step as DeskStep}
 use Rattle.ln_desks.specs.declared.step.Step.TheVariants as desk_step
 use Rattle.ln_desks.specs.Desk.{Life, Desk, next, serving, registered, desk_at, at_desk, is_at}
 use Rattle.ln_desks.specs.Desk.{restarted as desk_restarted}
-use Rattle.ln_desks.specs.World.{World as Desks, item, is_dispatched, may_act, where_dispatched, undecided, saved_in}
+use Rattle.ln_desks.specs.World.{World as Desks, item, is_dispatched, may_act, saved_in}
 use Rattle.ln_desks.specs.World.{undecided_of, event_for, numbered_for, next_event, both_of, served_in, waiting_of}
 use Rattle.ln_desks.specs.World.{waiting_for, waiting, new_desks, restarts, may_register, served_at, desks_by}
 use Rattle.ln_desks.specs.World as desks

@@ -1,5 +1,5 @@
 -- What a node has beside its channels: what it asks for forwarding, and its book of payments.
-use Rattle.std.specs.Prelude.{ℕ, List, [], ◌∷◌, if◌then◌else◌}
+use Rattle.std.specs.Prelude.{List, [], ◌∷◌, if◌then◌else◌}
 use Rattle.ln_keys.specs.ToyOnion.{toy_opened}
 use Rattle.ln_forward.specs.declared.checks.Policy.{Policy}
 use Rattle.ln_tables.specs.declared.entry.Entry.{Entry}

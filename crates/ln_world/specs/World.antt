@@ -1,8 +1,8 @@
 -- A world of nodes: their channels, the dispatchers of the channels' ends, and for each node its policy and its book of
 -- forwarded payments. A command that a book gives is one of its channel's end: what the channels and dispatchers make
 -- of it is said in ln_desks, by the steps of desks that each step is.
-use Rattle.std.specs.Prelude.{◌≡◌, ◌⊎◌, ℕ, List, [], ◌∷◌, ◌++◌, map, Bool, true, false, not, ◌&&◌, nat_le}
-use Rattle.std.specs.Prelude.{Option, Some, None, is_some, option_map, Result, Ok, Err, if◌then◌else◌}
+use Rattle.std.specs.Prelude.{◌≡◌, ◌⊎◌, ℕ, List, [], ◌∷◌, ◌++◌, Bool, true, false, not, ◌&&◌, nat_le}
+use Rattle.std.specs.Prelude.{Option, Some, None, is_some, option_map, Result, Err, if◌then◌else◌}
 use Rattle.std.specs.List.{cons_option}
 use Rattle.ln_msgs.specs.declared.refusals.refusal.Refusal.{Refusal}
 use Rattle.ln_msgs.specs.declared.refusals.refusal.Refusal.TheVariants as refusal
@@ -11,7 +11,6 @@ use Rattle.ln_keys.specs.declared.role.Role.{Role}
 use Rattle.ln_log.specs.declared.mark.Mark.TheVariants as mark
 use Rattle.ln_hooks.specs.declared.event.ChannelEvent.{ChannelEvent}
 use Rattle.ln_hooks.specs.declared.verdict.Verdict.{Verdict}
-use Rattle.ln_hooks.specs.declared.verdict.Verdict.TheVariants.{Continue}
 use Rattle.ln_channel.specs.declared.command.Command.{Command}
 use Rattle.ln_channel.specs.declared.command.Command.TheVariants as command
 use Rattle.ln_channel.specs.Step.{is_of_records}
@@ -35,7 +34,7 @@ use Rattle.ln_channels.specs.declared.step.Node.{Node}
 use Rattle.ln_channels.specs.declared.step.End.{End}
 use Rattle.ln_channels.specs.Settings.{channel_id_of}
 use Rattle.ln_channels.specs.Channel.{Channel, side_of, place_of}
-use Rattle.ln_channels.specs.World.{channel, may_open}
+use Rattle.ln_channels.specs.World.{channel}
 use Rattle.ln_desks.specs.declared.step.Step.{Step as DeskStep}
 use Rattle.ln_desks.specs.declared.step.Step.TheVariants as desk_step
 use Rattle.ln_desks.specs.World.{World as Desks, waiting, may_act}

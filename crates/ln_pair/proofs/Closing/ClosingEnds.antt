@@ -5,7 +5,6 @@ use Rattle.ln_keys.specs.declared.role.Role.TheVariants.{Funder, Fundee}
 use Rattle.ln_keys.specs.Signer.{Signer}
 use Rattle.ln_log.specs.Log.{IsWithin}
 use Rattle.ln_close.specs.declared.closing.Closing.{Closing}
-use Rattle.ln_close.specs.Closing.{is_funder}
 use Rattle.ln_close.specs.Closing as closing
 use Rattle.ln_channel.specs.declared.config.Config.{Config}
 use Rattle.ln_channel.specs.declared.config.OpenSpec.{OpenSpec}

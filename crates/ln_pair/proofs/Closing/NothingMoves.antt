@@ -22,7 +22,7 @@ use Rattle.ln_channel.specs.declared.unsaved.LineState.TheVariants.{Down, Awaiti
 use Rattle.ln_pair.proofs.Flight.Sides.{opens, has_bid, Notice, Update, Sign, Revoke, Ready, Shutdown, Close, Again}
 use Rattle.ln_pair.proofs.Flight.Sides.{Side}
 use Rattle.ln_pair.proofs.Flight.Sides.{dropped}
-use Rattle.ln_pair.proofs.Flight.Walk.{FitsBehind, Phase, Idle, Sent, Answered, Sender, sender, IsDue, IsNext, Reads}
+use Rattle.ln_pair.proofs.Flight.Walk.{FitsBehind, Sender, sender, IsDue, IsNext, Reads}
 use Rattle.ln_pair.proofs.Flight.Walk.{LacksNothing}
 use Rattle.ln_pair.proofs.Flight.Walk.{Anywhere, holds, IsWithin, Flows}
 use Rattle.ln_pair.proofs.Marks.MarksInFlight.{IsAllowed, MarksOf, ReadsMarks, AllMarks, AnyMarks, marks_of, MarksFlow}

@@ -1,7 +1,7 @@
 -- What every step of two ends keeps.
 use Rattle.std.proofs.Common.{take, is_some}
 use Rattle.std.proofs.Common.{◌≡◌, ℕ, zero, suc, ◌+◌, ◌<◌, ◌≤◌, ◌^◌, List, [], ◌∷◌, ◌++◌, length, refl, sym, ap, ◌∙◌}
-use Rattle.std.proofs.Common.{subst, arith, Bool, true, false, cond, not, ◌&&◌, ◌||◌, ◌==◌, Option, Some, None, inl}
+use Rattle.std.proofs.Common.{subst, arith, Bool, true, false, cond, not, ◌||◌, ◌==◌, Option, Some, None, inl}
 use Rattle.std.proofs.Common.{inr}
 use Rattle.std.proofs.lemmas.Bool.{eqb-true}
 use Rattle.std.proofs.lemmas.Bool.Decides.{eqb_tells}
@@ -11,13 +11,12 @@ use Rattle.ln_msgs.specs.declared.messages.opening.ChannelReady.{ChannelReady}
 use Rattle.ln_msgs.specs.declared.messages.closing.Shutdown.{Shutdown as ShutdownMessage}
 use Rattle.ln_msgs.specs.declared.messages.commitments.CommitmentSigned.{CommitmentSigned}
 use Rattle.ln_msgs.specs.declared.messages.commitments.RevokeAndAck.{RevokeAndAck}
-use Rattle.ln_msgs.specs.declared.refusals.refusal.Refusal.{Refusal}
 use Rattle.ln_msgs.specs.declared.refusals.refusal.Refusal.TheVariants as refusal
 use Rattle.ln_keys.specs.Signer.{Signer}
 use Rattle.ln_log.specs.declared.update.Update.{Update as Change}
 use Rattle.ln_log.specs.declared.update.Update.TheVariants as update
 use Rattle.ln_log.specs.Updates.{as_sent}
-use Rattle.ln_log.specs.Limits.{first_fault, id_fault, is_at_update_limit}
+use Rattle.ln_log.specs.Limits.{id_fault, is_at_update_limit}
 use Rattle.ln_log.specs.Log as log
 use Rattle.ln_log.specs.Log.{Counts, proposal_fault}
 use Rattle.ln_bytes.specs.declared.short_id.ShortId.{ShortId}

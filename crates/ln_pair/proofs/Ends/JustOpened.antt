@@ -1,9 +1,7 @@
 -- Two ends that were just opened.
-use Rattle.std.proofs.Common.{◌≡◌, ℕ, List, [], refl, sym, ap, ◌∙◌, subst, arith, true, false, Option, Some, None}
-use Rattle.std.proofs.Common.{Result, Ok, Err}
+use Rattle.std.proofs.Common.{◌≡◌, ℕ, List, [], refl, sym, ap, ◌∙◌, subst, arith, true, false, None}
 use Rattle.ln_msgs.specs.declared.messages.opening.AcceptChannel.{AcceptChannel}
 use Rattle.ln_msgs.specs.declared.messages.opening.FundingCreated.{FundingCreated}
-use Rattle.ln_msgs.specs.declared.refusals.refusal.Refusal.{Refusal}
 use Rattle.ln_keys.specs.declared.role.Role.{Role}
 use Rattle.ln_keys.specs.declared.role.Role.TheVariants.{Funder, Fundee}
 use Rattle.ln_keys.specs.Role.{other_role}
@@ -15,7 +13,7 @@ use Rattle.ln_channel.specs.declared.config.Config.{Config}
 use Rattle.ln_channel.specs.declared.config.OpenSpec.{OpenSpec}
 use Rattle.ln_channel.specs.declared.opening.Opened.{Opened}
 use Rattle.ln_channel.specs.declared.opening.Terms.{Terms}
-use Rattle.ln_channel.specs.Opening.{Agreement, unless, opening_of, opened_by, open_message, open_fault, agreement}
+use Rattle.ln_channel.specs.Opening.{Agreement, opening_of, opened_by, open_message, open_fault, agreement}
 use Rattle.ln_channel.specs.Opening.{accept_message, accept_fault, funder_end, created_message, created_fault}
 use Rattle.ln_channel.specs.Opening.{fundee_end}
 use Rattle.ln_channel.specs.Meeting.{Opens}

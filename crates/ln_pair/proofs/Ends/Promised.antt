@@ -9,7 +9,7 @@ use Rattle.ln_log.specs.declared.update.Update.{Update as Change}
 use Rattle.ln_log.specs.Updates.{all_sent}
 use Rattle.ln_log.specs.Lists.{Begins}
 use Rattle.ln_log.specs.Limits.{first_fault}
-use Rattle.ln_log.specs.Log.{Log, Counts, same_counts, after_sign}
+use Rattle.ln_log.specs.Log.{Log, same_counts, after_sign}
 use Rattle.ln_log.specs.Machine.{Follows}
 use Rattle.ln_dance.specs.Dance.{Dancer, owes, is_last, sign_fault}
 use Rattle.ln_channel.specs.declared.config.Config.{Config}
@@ -22,18 +22,17 @@ use Rattle.ln_keys.specs.Partners.{ArePartners}
 use Rattle.ln_pair.specs.Promises.{AreSent, party, Headline, TakesFront, NoneRefused, HoldsAll, Agrees}
 use Rattle.ln_pair.specs.Promises.{NoneAddsLate, HasTakenMarks, MarksAgree}
 use Rattle.ln_channel.specs.declared.unsaved.LineState.{LineState}
-use Rattle.ln_channel.specs.declared.unsaved.LineState.TheVariants.{Down, Awaiting, Met}
+use Rattle.ln_channel.specs.declared.unsaved.LineState.TheVariants.{Met}
 use Rattle.ln_channel.specs.Resume.{resumed}
 use Rattle.ln_pair.proofs.Tests.{parts}
-use Rattle.ln_pair.proofs.Flight.Sides.{Notice, Update, Sign, Revoke, Ready, Shutdown, Close, Again}
-use Rattle.ln_pair.proofs.Flight.Walk.{Phase, Idle, Sent, Answered, LacksNothing, Flows}
+use Rattle.ln_pair.proofs.Flight.Sides.{Notice}
+use Rattle.ln_pair.proofs.Flight.Walk.{LacksNothing, Flows}
 use Rattle.ln_pair.proofs.Marks.MarksInFlight.{MarksFlight, MarksFlow}
 use Rattle.ln_log.specs.Log.{covered, view_for}
 use Rattle.ln_log.proofs.Sent.{turned_views}
 use Rattle.ln_pair.specs.Promises.{worth}
 use Rattle.ln_pair.proofs.Flight.WalkOverActs.{current_own, current_peer, signed_is}
 use Rattle.ln_pair.proofs.Flight.Images.{messages_of, side_of, length-sent, take-sent}
-use Rattle.ln_pair.proofs.Ends.Acts.{Hold}
 use Rattle.ln_pair.proofs.Ends.Turns.{turn_of, by_front}
 use Rattle.ln_pair.proofs.Ends.Runs.{Sound, flipped, flipped_keys, met_row, meeting_row, ran}
 use Rattle.ln_pair.proofs.Ends.JustOpened.{opened_holds}

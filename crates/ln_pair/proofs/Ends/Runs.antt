@@ -53,7 +53,7 @@ use Rattle.ln_pair.proofs.Flight.Images.{side_of}
 use Rattle.ln_pair.proofs.Ends.Acts.{Said, said_more, dealt_so, passed_close}
 use Rattle.ln_pair.proofs.Ends.Turns.{is_close, begun_so, begins_by}
 use Rattle.ln_pair.proofs.Flight.Sides.{Close, closes_of, has_bid}
-use Rattle.ln_pair.proofs.Flight.Sides.{Notice, Update, Sign, Revoke, Ready, Shutdown, Again, posts}
+use Rattle.ln_pair.proofs.Flight.Sides.{Notice, Update, Sign, Ready, Shutdown, Again, posts}
 use Rattle.ln_pair.proofs.Flight.Images.{message_of, messages_of, messages-append}
 use Rattle.ln_pair.proofs.Ends.Acts.{sent_as, Hold, flip, numbered, rebased, confirms, proposed_so, signed_so, shuts}
 use Rattle.ln_pair.proofs.Flight.SentAgain.{messages_in-append}

@@ -13,8 +13,8 @@ use Rattle.ln_log.specs.declared.update.Update.{Update as Change}
 use Rattle.ln_log.specs.declared.update.Update.TheVariants as update
 use Rattle.ln_log.specs.Machine as machine
 use Rattle.ln_log.specs.Machine.{Covered, Party, Machine, Move, Open, Propose, Sign, Accept, Learn, Drop, Shut, Close}
-use Rattle.ln_log.specs.Machine.{party, with_party, to_sign, moved, after, after_accept, after_learn, after_drop}
-use Rattle.ln_log.specs.Machine.{after_propose, after_sign, after_shut, after_close, MayFollow, MayPropose, MaySign}
+use Rattle.ln_log.specs.Machine.{party, with_party, moved, after, after_accept, after_learn, after_drop}
+use Rattle.ln_log.specs.Machine.{after_propose, after_sign, after_shut, MayFollow, MayPropose, MaySign}
 use Rattle.ln_log.specs.Machine.{MayClose, MayMove, IsRun}
 use Rattle.ln_log.specs.Events.{Event, ClosedAt, held_events, grown, accept_events, learn_events, if_own, move_events}
 use Rattle.ln_log.specs.Events.{events}

@@ -1,35 +1,13 @@
 -- At every step, a funder that has met its peer, and at which closing has begun, has sent a fee.
-use Rattle.std.proofs.Common.{◌≡◌, ℕ, List, [], ◌∷◌, ◌++◌, length, refl, sym, ◌∙◌, arith}
-use Rattle.std.proofs.Common.{Bool, true, false, cond, ◌&&◌, ◌==◌, Option, Some, None, is_some, is_none, Result, Ok}
-use Rattle.std.proofs.Common.{Err, eqb-true}
+use Rattle.std.proofs.Common.{◌≡◌, ℕ, [], ◌∷◌, ◌++◌, length, refl, sym, ◌∙◌, arith}
+use Rattle.std.proofs.Common.{Bool, true, false, cond, ◌&&◌, ◌==◌, Option, Some, None, is_some, is_none}
+use Rattle.std.proofs.Common.{eqb-true}
 use Rattle.std.proofs.lemmas.List.{length_push}
-use Rattle.ln_msgs.specs.declared.messages.message.Message.{Message}
-use Rattle.ln_msgs.specs.declared.messages.message.Message.TheVariants as message
-use Rattle.ln_msgs.specs.declared.refusals.refusal.Refusal.{Refusal}
-use Rattle.ln_keys.specs.declared.role.Role.TheVariants.{Funder, Fundee}
-use Rattle.ln_keys.specs.Signer.{Signer}
-use Rattle.ln_log.specs.declared.update.Update.{Update}
-use Rattle.ln_log.specs.declared.update.Update.TheVariants as update
-use Rattle.ln_log.specs.Updates.{next_id}
-use Rattle.ln_log.specs.Log.{Log, IsWithin, covered, live_in}
+use Rattle.ln_log.specs.Log.{Log, covered, live_in}
 use Rattle.ln_close.specs.Closing.{is_funder, may_start}
-use Rattle.ln_dance.specs.Messages.{update_message}
-use Rattle.ln_channel.specs.declared.command.Command.{Command}
-use Rattle.ln_channel.specs.declared.command.Command.TheVariants as command
 use Rattle.ln_channel.specs.declared.unsaved.LineState.{LineState}
-use Rattle.ln_channel.specs.declared.unsaved.LineState.TheVariants.{Down, Awaiting, Met}
-use Rattle.ln_channel.specs.Opening.{unless}
-use Rattle.ln_channel.specs.End.{End, Turn, has_begun, is_settled, all_acknowledged, answers_shutdown, settled, sending}
-use Rattle.ln_channel.specs.End.{completed, end_dropped, shutdown_message}
-use Rattle.ln_channel.specs.Taking.{message_row, completed_row}
-use Rattle.ln_channel.specs.Commands.{command_row, confirm_fault, confirmed, ready_message, propose_fault, propose_row}
-use Rattle.ln_channel.specs.Commands.{proposes, sign_command_fault, shut_fault, shuts_down, unready_fault}
-use Rattle.ln_dance.specs.Resume.{resume_fault}
-use Rattle.ln_channel.specs.Resume.{resumed}
-use Rattle.ln_channel.specs.State.{is_down}
-use Rattle.ln_channel.specs.Step.{faulted, line_fault}
-use Rattle.ln_pair.specs.Ends.{Ends, turned, message_at, command_at, answers, delivers, connects, Act, Deliver}
-use Rattle.ln_pair.specs.Ends.{Give, Note, Lose, Cut, Save, still_come, acts, Step, By, Connect, happens}
+use Rattle.ln_channel.specs.End.{End, has_begun, is_settled, all_acknowledged, answers_shutdown, settled}
+use Rattle.ln_channel.specs.Commands.{proposes}
 use Rattle.ln_pair.proofs.Ends.OnceMet.{IsGiven, WhenMet}
 use Rattle.ln_pair.proofs.Tests.{and_left, and_right}
 

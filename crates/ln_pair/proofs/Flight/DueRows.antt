@@ -26,7 +26,6 @@ use Rattle.ln_dance.specs.Exchange.{IsSignedFor, IsRevokedFor}
 use Rattle.ln_dance.specs.Reconnect.{HasSigned, HasRevoked}
 use Rattle.ln_dance.proofs.Faces.{accepted, learned, told}
 use Rattle.ln_dance.proofs.Parted.{signed_again, revoked_again}
-use Rattle.ln_channel.specs.Opening.{unless}
 use Rattle.ln_channel.specs.End.{End, is_ready, is_settled, quiet}
 use Rattle.ln_channel.specs.Taking.{takes, late_fault, early_fault, update_fault, update_row, signature_fault}
 use Rattle.ln_channel.specs.Taking.{signature_row, accepting, accepts, learning, revokes, revocation_row, message_row}

@@ -56,7 +56,7 @@ use Rattle.ln_pair.specs.Setup.{setup_of, AreSetUp}
 use Rattle.ln_pair.specs.Moves.{machine_of, moves_asked, moves_of_command, moves_of_message, moves_delivered}
 use Rattle.ln_pair.specs.Moves.{moves_of_act, moves_of, all_moves, history, after_all}
 use Rattle.ln_pair.proofs.Tests.{parts, was_none, was_given}
-use Rattle.ln_pair.proofs.Flight.Sides.{Notice, Update, Sign, Revoke, Ready, Shutdown, Close, Again, has_bid}
+use Rattle.ln_pair.proofs.Flight.Sides.{Notice, Sign, Shutdown, Close, Again, has_bid}
 use Rattle.ln_pair.proofs.Marks.MarksOverActs.{closing_sent}
 use Rattle.ln_pair.proofs.Flight.Images.{message_of, messages_of, side_of}
 use Rattle.ln_pair.proofs.Ends.Acts.{Hold}

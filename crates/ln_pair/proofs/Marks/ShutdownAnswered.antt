@@ -1,46 +1,23 @@
 -- Over every list of steps, a shutdown that an end has taken is answered once its own updates are acknowledged.
-use Rattle.std.proofs.Common.{◌≡◌, ℕ, List, [], ◌∷◌, ◌++◌, length, refl, sym, ap, ◌∙◌, arith}
-use Rattle.std.proofs.Common.{Bool, true, false, cond, not, ◌&&◌, Option, Some, None, Result, Ok, Err, eqb-true}
+use Rattle.std.proofs.Common.{◌≡◌, List, [], ◌∷◌, ◌++◌, length, refl, sym, ap, ◌∙◌, arith}
+use Rattle.std.proofs.Common.{Bool, true, false, cond, not, ◌&&◌, Some, eqb-true}
 use Rattle.std.proofs.lemmas.List.{length_push}
-use Rattle.ln_msgs.specs.declared.messages.message.Message.{Message}
-use Rattle.ln_msgs.specs.declared.messages.message.Message.TheVariants as message
-use Rattle.ln_msgs.specs.declared.refusals.refusal.Refusal.{Refusal}
-use Rattle.ln_keys.specs.declared.role.Role.TheVariants.{Funder, Fundee}
 use Rattle.ln_keys.specs.Signer.{Signer}
-use Rattle.ln_log.specs.declared.update.Update.{Update}
-use Rattle.ln_log.specs.declared.update.Update.TheVariants as update
-use Rattle.ln_log.specs.Updates.{next_id}
-use Rattle.ln_log.specs.Log.{IsWithin}
 use Rattle.ln_close.specs.declared.closing.Closing.{Closing}
 use Rattle.ln_close.specs.Closing.{after_shut, may_start}
-use Rattle.ln_dance.specs.Messages.{update_message}
-use Rattle.ln_channel.specs.declared.command.Command.{Command}
-use Rattle.ln_channel.specs.declared.command.Command.TheVariants as command
 use Rattle.ln_channel.specs.declared.config.Config.{Config}
 use Rattle.ln_channel.specs.declared.config.OpenSpec.{OpenSpec}
 use Rattle.ln_channel.specs.declared.unsaved.LineState.{LineState}
-use Rattle.ln_channel.specs.declared.unsaved.LineState.TheVariants.{Down, Awaiting, Met}
+use Rattle.ln_channel.specs.declared.unsaved.LineState.TheVariants.{Met}
 use Rattle.ln_channel.specs.declared.opening.Opened.{Opened}
-use Rattle.ln_channel.specs.Opening.{unless}
 use Rattle.ln_channel.specs.Meeting.{Opens}
-use Rattle.ln_channel.specs.End.{End, Turn, has_begun, owes_shutdown, all_acknowledged, answers_shutdown, settled}
-use Rattle.ln_channel.specs.End.{sending}
-use Rattle.ln_channel.specs.End.{completed, end_dropped, shutdown_message}
-use Rattle.ln_channel.specs.Taking.{message_row, completed_row}
-use Rattle.ln_channel.specs.Commands.{command_row, confirm_fault, confirmed, ready_message, propose_fault, propose_row}
-use Rattle.ln_channel.specs.Commands.{proposes, sign_command_fault, shut_fault, shuts_down, unready_fault}
-use Rattle.ln_dance.specs.Resume.{resume_fault}
-use Rattle.ln_channel.specs.Resume.{resumed}
-use Rattle.ln_channel.specs.State.{is_down}
-use Rattle.ln_channel.specs.Step.{faulted, line_fault}
-use Rattle.ln_pair.specs.Ends.{Ends, opened, turned, message_at, command_at, answers, delivers, connects, Act, Deliver}
-use Rattle.ln_pair.specs.Ends.{Give, Note, Lose, Cut, Save, still_come, acts, Step, By, Connect, happens, run}
+use Rattle.ln_channel.specs.End.{End, has_begun, owes_shutdown, all_acknowledged, answers_shutdown, settled}
+use Rattle.ln_pair.specs.Ends.{opened}
+use Rattle.ln_pair.specs.Ends.{Step, run}
 use Rattle.ln_keys.specs.Partners.{ArePartners}
 use Rattle.ln_pair.specs.Answers.{HasAnswered, BothHaveAnswered}
 use Rattle.ln_pair.proofs.Ends.OnceMet.{IsGiven, once_met}
-use Rattle.ln_pair.proofs.Machine.TurnMoves.{log_within}
 use Rattle.ln_pair.proofs.Ends.JustOpened.{opened_holds, opened_fresh}
-use Rattle.ln_pair.proofs.Ends.Runs.{Sound, ran}
 
 abbrev Answered : End → Type 0
 Answered e = e.closing.peer_shut ≡ true → all_acknowledged e.dance.log ≡ true → e.closing.shut ≡ true

@@ -41,7 +41,7 @@ use Rattle.ln_pair.specs.Ends.{connects, Step, By, Connect, happens, run}
 use Rattle.ln_keys.specs.Partners.{ArePartners}
 use Rattle.ln_pair.specs.Promises.{AreSent}
 use Rattle.ln_pair.proofs.Tests.{both_true, was_given}
-use Rattle.ln_pair.proofs.Flight.Sides.{Notice, Update, Sign, Revoke, Ready, Shutdown, Close, Again}
+use Rattle.ln_pair.proofs.Flight.Sides.{Notice, Sign, Shutdown, Close, Again}
 use Rattle.ln_pair.proofs.Flight.Walk.{Phase, Idle, Sent, Answered}
 use Rattle.ln_pair.proofs.Closing.ClosingInFlight.{IsOffer, SignsAll}
 use Rattle.ln_pair.proofs.Fees.FeesInFlight.{Deal, Offer, Priced}

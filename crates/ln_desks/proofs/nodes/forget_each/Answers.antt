@@ -1,4 +1,4 @@
-use Rattle.std.proofs.Common.{ℕ, suc, ◌≡◌, ◌+◌, arith, subst, take, set, ◌∙◌}
+use Rattle.std.proofs.Common.{suc, ◌≡◌, ◌+◌, arith, subst, take, set, ◌∙◌}
 use Rattle.std.proofs.lemmas.List.{length-set}
 use Rattle.ln_channels.specs.Promises.{Each}
 use Rattle.ln_desks.specs.Kept.{Keeps}

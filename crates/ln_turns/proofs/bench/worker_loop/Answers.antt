@@ -1,4 +1,4 @@
-use Rattle.std.proofs.Common.{◌≡◌, ◌∙◌, refl, sym, ap, ◌++◌}
+use Rattle.std.proofs.Common.{◌∙◌, refl, ap, ◌++◌}
 use Rattle.ln_turns.specs.Turns.{fresh, last_of, tasks}
 use Rattle.ln_turns.proofs.Running.{ran-none, ran-on}
 use Rattle.ln_turns.proofs.bench.worker_loop.Goals as goal

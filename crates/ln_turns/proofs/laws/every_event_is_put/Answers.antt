@@ -1,4 +1,4 @@
-use Rattle.std.proofs.Common.{ap, refl, sym, ◌∙◌, ◌++◌, ◌∷◌}
+use Rattle.std.proofs.Common.{ap, refl, ◌∙◌, ◌++◌, ◌∷◌}
 use Rattle.std.specs.Prelude.{map}
 use Rattle.ln_turns.specs.Turns.{told, all_told, tasks, fresh}
 use Rattle.ln_turns.proofs.Running.{put-on}

@@ -1,4 +1,4 @@
-use Rattle.std.proofs.Common.{◌≡◌, ap, ◌∙◌}
+use Rattle.std.proofs.Common.{ap, ◌∙◌}
 use Rattle.ln_channels.proofs.Moving.{on_ok}
 use Rattle.ln_desks.proofs.Unhooked.{if_ok_so}
 use Rattle.ln_world.specs.declared.node.NodeBook.{NodeBook}

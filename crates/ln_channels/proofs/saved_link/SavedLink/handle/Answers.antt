@@ -1,7 +1,7 @@
 use Rattle.std.proofs.Common.{◌≡◌, ◌∙◌, refl, sym, ap, subst, Ok, Err, Vec, Global}
 use Rattle.ln_channel.specs.State.{State, refused}
-use Rattle.ln_channel.specs.Step.{handled, commanded}
-use Rattle.ln_channels.specs.Both.{left, unchanged, as_saved}
+use Rattle.ln_channel.specs.Step.{handled}
+use Rattle.ln_channels.specs.Both.{left, as_saved}
 use Rattle.ln_channels.specs.Failing.{ByRecord, LinkLacks}
 use Rattle.ln_channels.proofs.Answered.{said_so, left_so}
 use Rattle.ln_channel.specs.declared.output.Output.{Output}
