@@ -63,9 +63,9 @@ use Rattle.ln_channels.specs.Settings.{channel_id_of}
 use Rattle.ln_channels.specs.declared.step.End.{End as WorldEnd}
 use Rattle.ln_channels.specs.Both.{Both, By, Falls, Halts, Restarts, Stops, Meet, acts, swapped, moves, may_come_up}
 use Rattle.ln_channels.specs.Both.{run as run_both}
-use Rattle.ln_channels.specs.Channel.{Channel, by, side_of, moved, may_meet, act_moves, fall_moves}
-use Rattle.ln_channels.specs.Channel.{restart_moves}
-use Rattle.ln_channels.specs.Channel.{halt_moves, stop_moves, up_moves, place_of}
+use Rattle.ln_channels.specs.WorldChannel.{WorldChannel, by, side_of, moved, may_meet, act_moves, fall_moves}
+use Rattle.ln_channels.specs.WorldChannel.{restart_moves}
+use Rattle.ln_channels.specs.WorldChannel.{halt_moves, stop_moves, up_moves, place_of}
 use Rattle.ln_channels.specs.Promises.{AtEnd, AtEnds, Headline, TakesFront, NoneRefused, AgreeOnceSigned, Agrees}
 use Rattle.ln_channels.specs.Promises.{FeesOverlap, AcceptsFront, AllTaken, OneFee, HaveAnswered, AnswersShutdown}
 use Rattle.ln_channels.specs.Promises.{MarksAgree, BothClose}
@@ -929,25 +929,25 @@ module _ {K : Type 0} (signer : K → Signer) where
   up_by id true p e r = (came_up_went id p e r).run
   up_by id false p e r = r
 
-  abbrev pub IsOpen : Channel K → Type 0
+  abbrev pub IsOpen : WorldChannel K → Type 0
   IsOpen c = IsRun (channel_id_of c.number) c.both
 
-  pub act_kept : (n : Node) (a : Act) (c : Channel K) → IsOpen c → IsOpen (moved signer (act_moves n a) c)
+  pub act_kept : (n : Node) (a : Act) (c : WorldChannel K) → IsOpen c → IsOpen (moved signer (act_moves n a) c)
   act_kept n a c h = acted_by (channel_id_of c.number) (side_of n c) a c.both h
 
-  pub fall_kept : (n : Node) (c : Channel K) → IsOpen c → IsOpen (moved signer (fall_moves n) c)
+  pub fall_kept : (n : Node) (c : WorldChannel K) → IsOpen c → IsOpen (moved signer (fall_moves n) c)
   fall_kept n c h = fallen_by (channel_id_of c.number) (side_of n c) c.both h
 
-  pub halt_kept : (n : Node) (c : Channel K) → IsOpen c → IsOpen (moved signer (halt_moves n) c)
+  pub halt_kept : (n : Node) (c : WorldChannel K) → IsOpen c → IsOpen (moved signer (halt_moves n) c)
   halt_kept n c h = halted_by (channel_id_of c.number) (side_of n c) c.both h
 
-  pub restart_kept : (n : Node) (c : Channel K) → IsOpen c → IsOpen (moved signer (restart_moves n) c)
+  pub restart_kept : (n : Node) (c : WorldChannel K) → IsOpen c → IsOpen (moved signer (restart_moves n) c)
   restart_kept n c h = restarted_by (channel_id_of c.number) (side_of n c) c.both h
 
-  pub stop_kept : (e : WorldEnd) (a : Act) (c : Channel K) → IsOpen c → IsOpen (moved signer (stop_moves e a) c)
+  pub stop_kept : (e : WorldEnd) (a : Act) (c : WorldChannel K) → IsOpen c → IsOpen (moved signer (stop_moves e a) c)
   stop_kept e a c h = stopped_by (channel_id_of c.number) (c.number == e.channel) (side_of e.node c) a c.both h
 
-  pub up_kept : (c : Channel K) → IsOpen c → IsOpen (moved signer up_moves c)
+  pub up_kept : (c : WorldChannel K) → IsOpen c → IsOpen (moved signer up_moves c)
   up_kept c h = up_by (channel_id_of c.number) (may_meet c.both) c.both refl h
 
   -- ---- what the pair promises, told of the links

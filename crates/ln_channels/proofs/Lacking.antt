@@ -9,7 +9,7 @@ use Rattle.ln_channels.specs.declared.step.Act.{Act}
 use Rattle.ln_channels.specs.declared.step.End.{End}
 use Rattle.ln_channels.specs.declared.step.Node.{Node}
 use Rattle.ln_channels.specs.Both.{Both, Place, unheard, delivered_unheard}
-use Rattle.ln_channels.specs.Channel.{Channel, side_of, place_of, side_unheard}
+use Rattle.ln_channels.specs.WorldChannel.{WorldChannel, side_of, place_of, side_unheard}
 use Rattle.ln_channels.specs.Failing.{ByRecord, LinkLacks, SideLacks, ActLacks, ActLacksIn, ActLacksAt}
 use Rattle.ln_channels.proofs.Places.{found_where}
 
@@ -29,13 +29,13 @@ module _ {K : Type 0} (signer : K → Signer) where
   side_lacks a Funder p h = h
   side_lacks a Fundee p h = h
 
-  pub acts_lacks : (n : Node) (a : Act) (c : Channel K) (side : Role) → side_of n c ≡ Some side
+  pub acts_lacks : (n : Node) (a : Act) (c : WorldChannel K) (side : Role) → side_of n c ≡ Some side
       → LinkLacks (unheard signer a (place_of side c.both)).link → ActLacks signer n a c
   acts_lacks n a c side e h =
       subst (λ o. SideLacks o (side_unheard signer a o c.both)) (sym e) (side_lacks a side c.both h)
 
   -- the channel that is found
-  pub lacks_there : (e : End) (a : Act) (cs : List (Channel K)) (i : ℕ) (d : Channel K)
+  pub lacks_there : (e : End) (a : Act) (cs : List (WorldChannel K)) (i : ℕ) (d : WorldChannel K)
       → Some i ≡ position (λ c. c.number == e.channel) cs → ActLacks signer e.node a (get_or cs i d)
       → ActLacksAt signer e a cs
   lacks_there e a cs i d is h = subst (ActLacksIn signer e.node a) (sym (found_where e.channel cs i d is)) h

@@ -33,8 +33,8 @@ use Rattle.ln_channels.specs.declared.step.Step.TheVariants as step
 use Rattle.ln_channels.specs.Settings.{channel_id_of, may_bring}
 use Rattle.ln_channels.specs.Both.{Both, Place, By, Falls, Halts, Restarts, Stops, Meet, reaches, left, unchanged, acts}
 use Rattle.ln_channels.specs.Both.{delivers, greeted, back, restarted, swapped, moves, run as run_both}
-use Rattle.ln_channels.specs.Channel.{Channel, by, side_of, is_node, moved, may_meet, act_moves, fall_moves}
-use Rattle.ln_channels.specs.Channel.{halt_moves, restart_moves, stop_moves, up_moves, opened_by}
+use Rattle.ln_channels.specs.WorldChannel.{WorldChannel, by, side_of, is_node, moved, may_meet, act_moves, fall_moves}
+use Rattle.ln_channels.specs.WorldChannel.{halt_moves, restart_moves, stop_moves, up_moves, opened_by}
 use Rattle.ln_channels.specs.World.{World, settings_of, channel, may_open, may_be_done, happens, empty}
 use Rattle.ln_channels.specs.World.{run as run_world}
 use Rattle.ln_channels.specs.Promises.{AtEnd, Each, OfEach}
@@ -262,10 +262,10 @@ module _ {K : Type 0} (signer : K → Signer) where
 
   -- ---- by the table
 
-  abbrev IsLasting : Channel K → Type 0
+  abbrev IsLasting : WorldChannel K → Type 0
   IsLasting c = IsOpen signer c × BothExact c.both
 
-  act_lasts : (n : Node) (a : Act) (c : Channel K) → IsLasting c → IsLasting (moved signer (act_moves n a) c)
+  act_lasts : (n : Node) (a : Act) (c : WorldChannel K) → IsLasting c → IsLasting (moved signer (act_moves n a) c)
   act_lasts n a c h =
       let r = act_kept signer n a c h.0 in
       (r, by_side (side_of n c) r)
@@ -276,14 +276,14 @@ module _ {K : Type 0} (signer : K → Signer) where
       by_side None r = h.1
       by_side (Some side) r = by_exact (channel_id_of c.number) side a c.both r h.1
 
-  fall_lasts : (n : Node) (c : Channel K) → IsLasting c → IsLasting (moved signer (fall_moves n) c)
+  fall_lasts : (n : Node) (c : WorldChannel K) → IsLasting c → IsLasting (moved signer (fall_moves n) c)
   fall_lasts n c h = (fall_kept signer n c h.0, by_side (side_of n c))
     where
       by_side : (o : Option Role) → BothExact (run_both signer (channel_id_of c.number) (by o Falls) c.both)
       by_side None = h.1
       by_side (Some side) = falls_exact (channel_id_of c.number) side c.both h.1
 
-  halt_lasts : (n : Node) (c : Channel K) → IsLasting c → IsLasting (moved signer (halt_moves n) c)
+  halt_lasts : (n : Node) (c : WorldChannel K) → IsLasting c → IsLasting (moved signer (halt_moves n) c)
   halt_lasts n c h = (halt_kept signer n c h.0, by_side (side_of n c))
     where
       by_side : (o : Option Role) → BothExact (run_both signer (channel_id_of c.number) (by o Halts) c.both)
@@ -295,11 +295,11 @@ module _ {K : Type 0} (signer : K → Signer) where
   restart_by id None p h = h
   restart_by id (Some side) p h = restarts_exact id side p h
 
-  restart_lasts : (n : Node) (c : Channel K) → IsLasting c → IsLasting (moved signer (restart_moves n) c)
+  restart_lasts : (n : Node) (c : WorldChannel K) → IsLasting c → IsLasting (moved signer (restart_moves n) c)
   restart_lasts n c h =
       (restart_kept signer n c h.0, restart_by (channel_id_of c.number) (side_of n c) c.both h.1)
 
-  stop_lasts : (e : WorldEnd) (a : Act) (c : Channel K) → IsLasting c → IsLasting (moved signer (stop_moves e a) c)
+  stop_lasts : (e : WorldEnd) (a : Act) (c : WorldChannel K) → IsLasting c → IsLasting (moved signer (stop_moves e a) c)
   stop_lasts e a c h =
       (stop_kept signer e a c h.0, stopped (c.number == e.channel) (side_of e.node c) (act_kept signer e.node a c h.0))
     where
@@ -311,7 +311,7 @@ module _ {K : Type 0} (signer : K → Signer) where
       stopped true (Some side) r = stops_exact (channel_id_of c.number) side a c.both r h.1
       stopped false o r = restart_by (channel_id_of c.number) o c.both h.1
 
-  up_lasts : (c : Channel K) → IsLasting c → IsLasting (moved signer up_moves c)
+  up_lasts : (c : WorldChannel K) → IsLasting c → IsLasting (moved signer up_moves c)
   up_lasts c h = (up_kept signer c h.0, met (may_meet c.both))
     where
       met : (b : Bool) → BothExact (run_both signer (channel_id_of c.number) (cond b (Meet ∷ []) []) c.both)
@@ -369,8 +369,8 @@ module _ {K : Type 0} (k : Ghosts K) where
     subst (λ (l : State K). IsExact l.stage) r.mirrors.y_link h.1,
   )
 
-  all_told : (cs : List (Channel K)) → Each (IsLasting k.signer) cs
-      → Each (λ (c : Channel K). BasesAreLongest c.both) cs
+  all_told : (cs : List (WorldChannel K)) → Each (IsLasting k.signer) cs
+      → Each (λ (c : WorldChannel K). BasesAreLongest c.both) cs
   all_told [] h = tt
   all_told (c ∷ cs) h = (told (channel_id_of c.number) c.both h.0.0 h.0.1, all_told cs h.1)
 

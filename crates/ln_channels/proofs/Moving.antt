@@ -6,7 +6,7 @@ use Rattle.ln_channels.specs.declared.step.Act.{Act}
 use Rattle.ln_channels.specs.declared.step.Node.{Node}
 use Rattle.ln_channels.specs.Settings.{channel_id_of}
 use Rattle.ln_channels.specs.Both.{Both, Place, By, acts, swapped, moves}
-use Rattle.ln_channels.specs.Channel.{Channel, moved}
+use Rattle.ln_channels.specs.WorldChannel.{WorldChannel, moved}
 
 pub on_ok : {A E : Type 0} {P Q : Type 0} (r : Result A E) → (P → Q) → OnOk r P → OnOk r Q
 on_ok (Ok a) f p = f p
@@ -14,7 +14,7 @@ on_ok (Err e) f p = tt
 
 pub as_fundee : {K : Type 0} (signer : K → Signer) (n : ℕ) (a b : Node) (what : Act) (p : Both K) (y x : Place K)
     → record { x = y; y = x } ≡ acts signer (channel_id_of n) what (swapped p)
-    → ◌≡◌ {A = Channel K} (record { number = n; funder = a; fundee = b; both = record { x = x; y = y } })
+    → ◌≡◌ {A = WorldChannel K} (record { number = n; funder = a; fundee = b; both = record { x = x; y = y } })
     (moved signer (λ c. By Fundee what ∷ []) (record { number = n; funder = a; fundee = b; both = p }))
 unfolding moves
 as_fundee signer n a b what p y x e =

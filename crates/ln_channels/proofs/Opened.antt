@@ -35,7 +35,7 @@ use Rattle.ln_pair.proofs.Offered.{was_given, was_none}
 use Rattle.ln_channels.specs.declared.step.Act.TheVariants as act
 use Rattle.ln_channels.specs.Both.{Both, Move, By, Meet, answers, swapped, moves}
 use Rattle.ln_channels.specs.Both.{run as run_both}
-use Rattle.ln_channels.specs.Channel.{opening_moves}
+use Rattle.ln_channels.specs.WorldChannel.{opening_moves}
 use Rattle.ln_channels.proofs.Mirror.{Mirrors}
 
 -- a link with a connection, at this stage

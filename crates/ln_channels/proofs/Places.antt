@@ -8,7 +8,7 @@ use Rattle.std.proofs.lemmas.List.Quantifiers.{position-Some}
 use Rattle.std.proofs.lemmas.Option.{slice_get_past}
 use Rattle.ln_keys.specs.Signer.{Signer}
 use Rattle.ln_channels.specs.Both.{Move}
-use Rattle.ln_channels.specs.Channel.{Channel, moved}
+use Rattle.ln_channels.specs.WorldChannel.{WorldChannel, moved}
 use Rattle.ln_channels.specs.World.{channel, AreOnce, changed_if, moved_at, if_there}
 use Rattle.ln_channels.specs.declared.line.Line.{Line}
 use Rattle.ln_channels.specs.declared.line.Line.TheVariants as line
@@ -35,12 +35,12 @@ at_first p P here later xs i d e =
 
 -- ---- what is found
 
-found : {K : Type 0} (t : Bool) (c : Channel K) (o : Option (Channel K)) → cond t (Some c) o ≡ None
+found : {K : Type 0} (t : Bool) (c : WorldChannel K) (o : Option (WorldChannel K)) → cond t (Some c) o ≡ None
     → (t ≡ false) × (o ≡ None)
 found true c o e = absurd (cc)
 found false c o e = (refl, e)
 
-same_found : {K : Type 0} (n : ℕ) (cs : List (Channel K)) → find (λ c. c.number == n) cs ≡ channel n cs
+same_found : {K : Type 0} (n : ℕ) (cs : List (WorldChannel K)) → find (λ c. c.number == n) cs ≡ channel n cs
 same_found n [] = refl
 same_found n (c ∷ cs) = ap (λ o. cond (c.number == n) (Some c) o) (same_found n cs)
 
@@ -48,14 +48,14 @@ pub lacks : (t : Bool) (i : ℕ) → ◌≡◌ {A = Option ℕ} (cond t (Some i)
 lacks true i e = absurd (cc)
 lacks false i e = refl
 
-pub not_found : {K : Type 0} (n : ℕ) (cs : List (Channel K)) → position (λ c. c.number == n) cs ≡ None
+pub not_found : {K : Type 0} (n : ℕ) (cs : List (WorldChannel K)) → position (λ c. c.number == n) cs ≡ None
     → channel n cs ≡ None
 not_found n cs e =
-    let i = position_or_len (λ (c : Channel _). c.number == n) cs in
+    let i = position_or_len (λ (c : WorldChannel _). c.number == n) cs in
     let le : length cs ≤ i = ltb-false i (length cs) (lacks (nat_lt i (length cs)) i e) in
     sym (same_found n cs) ∙ find_at (λ c. c.number == n) cs ∙ slice_get_past cs i le
 
-pub found_where : {K : Type 0} (n : ℕ) (cs : List (Channel K)) (i : ℕ) (d : Channel K)
+pub found_where : {K : Type 0} (n : ℕ) (cs : List (WorldChannel K)) (i : ℕ) (d : WorldChannel K)
     → Some i ≡ position (λ c. c.number == n) cs → channel n cs ≡ Some (get_or cs i d)
 found_where n cs i d e = at_first (λ c. c.number == n) (λ l k. channel n l ≡ Some (get_or l k d))
     (λ c l h. ap (λ t. cond t (Some c) (channel n l)) h)
@@ -63,7 +63,7 @@ found_where n cs i d e = at_first (λ c. c.number == n) (λ l k. channel n l ≡
 
 -- ---- one channel moves
 
-changed_nowhere : {K : Type 0} (n : ℕ) (f : Channel K → Channel K) (cs : List (Channel K))
+changed_nowhere : {K : Type 0} (n : ℕ) (f : WorldChannel K → WorldChannel K) (cs : List (WorldChannel K))
     → channel n cs ≡ None → cs ≡ map (changed_if n f) cs
 changed_nowhere n f [] e = refl
 changed_nowhere n f (c ∷ cs) e =
@@ -71,8 +71,8 @@ changed_nowhere n f (c ∷ cs) e =
     ap (λ l. c ∷ l) (changed_nowhere n f cs h.1)
     ∙ ap (λ t. cond t (f c) c ∷ map (changed_if n f) cs) (sym h.0)
 
-changed_at : {K : Type 0} (n : ℕ) (f : Channel K → Channel K) (cs : List (Channel K)) (i : ℕ)
-    (d : Channel K) → Some i ≡ position (λ c. c.number == n) cs
+changed_at : {K : Type 0} (n : ℕ) (f : WorldChannel K → WorldChannel K) (cs : List (WorldChannel K)) (i : ℕ)
+    (d : WorldChannel K) → Some i ≡ position (λ c. c.number == n) cs
     → AreOnce cs → set cs i (f (get_or cs i d)) ≡ map (changed_if n f) cs
 changed_at n f cs i d e =
     at_first (λ c. c.number == n) (λ l k. AreOnce l → set l k (f (get_or l k d)) ≡ map (changed_if n f) l)
@@ -83,21 +83,21 @@ changed_at n f cs i d e =
     ∙ ap (λ t. cond t (f c) c ∷ map (changed_if n f) l) (sym h))
     cs i d e
 
-pub changed : {K : Type 0} (n : ℕ) (f : Channel K → Channel K) (cs : List (Channel K)) (i : ℕ)
-    (d e : Channel K) → AreOnce cs → Some i ≡ position (λ c. c.number == n) cs → e ≡ f (get_or cs i d)
+pub changed : {K : Type 0} (n : ℕ) (f : WorldChannel K → WorldChannel K) (cs : List (WorldChannel K)) (i : ℕ)
+    (d e : WorldChannel K) → AreOnce cs → Some i ≡ position (λ c. c.number == n) cs → e ≡ f (get_or cs i d)
     → set cs i e ≡ map (changed_if n f) cs
 changed n f cs i d e once p h = ap (λ x. set cs i x) h ∙ changed_at n f cs i d p once
 
-pub unchanged_there : {K : Type 0} (n : ℕ) (f : Channel K → Channel K) (cs : List (Channel K))
+pub unchanged_there : {K : Type 0} (n : ℕ) (f : WorldChannel K → WorldChannel K) (cs : List (WorldChannel K))
     → position (λ c. c.number == n) cs ≡ None → cs ≡ map (changed_if n f) cs
 unchanged_there n f cs e = changed_nowhere n f cs (not_found n cs e)
 
-pub nowhere : {K : Type 0} (s : K → Signer) (n : ℕ) (f : Channel K → List Move) (cs : List (Channel K))
+pub nowhere : {K : Type 0} (s : K → Signer) (n : ℕ) (f : WorldChannel K → List Move) (cs : List (WorldChannel K))
     → channel n cs ≡ None → cs ≡ moved_at s n f cs
 nowhere s n f cs e = changed_nowhere n (moved s f) cs e
 
-pub placed : {K : Type 0} (s : K → Signer) (n : ℕ) (f : Channel K → List Move) (cs : List (Channel K)) (i : ℕ)
-    (d e : Channel K) → AreOnce cs → Some i ≡ position (λ c. c.number == n) cs → e ≡ moved s f (get_or cs i d)
+pub placed : {K : Type 0} (s : K → Signer) (n : ℕ) (f : WorldChannel K → List Move) (cs : List (WorldChannel K)) (i : ℕ)
+    (d e : WorldChannel K) → AreOnce cs → Some i ≡ position (λ c. c.number == n) cs → e ≡ moved s f (get_or cs i d)
     → set cs i e ≡ moved_at s n f cs
 placed s n f cs i d e once p h = changed n (moved s f) cs i d e once p h
 
@@ -132,7 +132,7 @@ unmoved f cs now i d same = ap (λ l. get_or l i d) same ∙ still_at f cs i d
 
 -- ---- each number once
 
-set_alike : {K : Type 0} (n : ℕ) (cs : List (Channel K)) (i : ℕ) (d e : Channel K)
+set_alike : {K : Type 0} (n : ℕ) (cs : List (WorldChannel K)) (i : ℕ) (d e : WorldChannel K)
     → e.number ≡ (get_or cs i d).number → channel n cs ≡ None → channel n (set cs i e) ≡ None
 set_alike n [] i d e same h = refl
 set_alike n (c ∷ cs) zero d e same h =
@@ -142,24 +142,24 @@ set_alike n (c ∷ cs) (suc i) d e same h =
     let g : ((c.number == n) ≡ false) × (channel n cs ≡ None) = found (c.number == n) c (channel n cs) h in
     ap (λ t. cond t (Some c) (channel n (set cs i e))) g.0 ∙ set_alike n cs i d e same g.1
 
-pub once-set : {K : Type 0} (cs : List (Channel K)) (i : ℕ) (d e : Channel K)
+pub once-set : {K : Type 0} (cs : List (WorldChannel K)) (i : ℕ) (d e : WorldChannel K)
     → e.number ≡ (get_or cs i d).number → AreOnce cs → AreOnce (set cs i e)
 once-set [] i d e same h = tt
 once-set (c ∷ cs) zero d e same h = (subst (λ m. channel m cs ≡ None) (sym same) h.0, h.1)
 once-set (c ∷ cs) (suc i) d e same h = (set_alike c.number cs i d e same h.0, once-set cs i d e same h.1)
 
-pushed : {K : Type 0} (t : Bool) (c : Channel K) (o : Option (Channel K)) → o ≡ None → t ≡ false
+pushed : {K : Type 0} (t : Bool) (c : WorldChannel K) (o : Option (WorldChannel K)) → o ≡ None → t ≡ false
     → cond t (Some c) o ≡ None
 pushed t c o e f = ap (λ b. cond b (Some c) o) f ∙ e
 
-none-push : {K : Type 0} (n : ℕ) (d : Channel K) (cs : List (Channel K)) → channel n cs ≡ None
+none-push : {K : Type 0} (n : ℕ) (d : WorldChannel K) (cs : List (WorldChannel K)) → channel n cs ≡ None
     → (d.number == n) ≡ false → channel n (cs ++ d ∷ []) ≡ None
 none-push n d [] e f = pushed (d.number == n) d None refl f
 none-push n d (c ∷ cs) e f =
     let h : ((c.number == n) ≡ false) × (channel n cs ≡ None) = found (c.number == n) c (channel n cs) e in
     pushed (c.number == n) c (channel n (cs ++ d ∷ [])) (none-push n d cs h.1 f) h.0
 
-pub once-push : {K : Type 0} (d : Channel K) (cs : List (Channel K)) → channel d.number cs ≡ None → AreOnce cs
+pub once-push : {K : Type 0} (d : WorldChannel K) (cs : List (WorldChannel K)) → channel d.number cs ≡ None → AreOnce cs
     → AreOnce (cs ++ d ∷ [])
 once-push d [] e h = (refl, tt)
 once-push d (c ∷ cs) e h =
@@ -171,27 +171,27 @@ once-push d (c ∷ cs) e h =
 
 -- ---- what is told of a channel that is found
 
-pub there_is : {K : Type 0} (n : ℕ) (f : Channel K → List Line) (cs : List (Channel K)) (i : ℕ) (d : Channel K)
-    → Some i ≡ position (λ c. c.number == n) cs → f (get_or cs i d) ≡ if_there f (channel n cs)
+pub there_is : {K : Type 0} (n : ℕ) (f : WorldChannel K → List Line) (cs : List (WorldChannel K)) (i : ℕ)
+    (d : WorldChannel K) → Some i ≡ position (λ c. c.number == n) cs → f (get_or cs i d) ≡ if_there f (channel n cs)
 there_is n f cs i d e = sym (ap (if_there f) (found_where n cs i d e))
 
-pub there_is_none : {K : Type 0} (n : ℕ) (f : Channel K → List Line) (cs : List (Channel K))
+pub there_is_none : {K : Type 0} (n : ℕ) (f : WorldChannel K → List Line) (cs : List (WorldChannel K))
     → position (λ c. c.number == n) cs ≡ None → line.Idle ∷ [] ≡ if_there f (channel n cs)
 there_is_none n f cs e = sym (ap (if_there f) (not_found n cs e))
 
-some_found : {K : Type 0} (n : ℕ) (cs : List (Channel K)) (i : ℕ) → Some i ≡ position (λ c. c.number == n) cs
+some_found : {K : Type 0} (n : ℕ) (cs : List (WorldChannel K)) (i : ℕ) → Some i ≡ position (λ c. c.number == n) cs
     → is_none (channel n cs) ≡ false
 some_found n [] i e = absurd (cc)
 some_found n (c ∷ cs) i e = ap is_none (found_where n (c ∷ cs) i c e)
 
-pub same_test : {K : Type 0} (n : ℕ) (cs : List (Channel K)) (o : Option ℕ) (t : Bool)
+pub same_test : {K : Type 0} (n : ℕ) (cs : List (WorldChannel K)) (o : Option ℕ) (t : Bool)
     → o ≡ position (λ c. c.number == n) cs → is_some o ≡ not t → t ≡ is_none (channel n cs)
 same_test n cs None true e h = sym (ap is_none (not_found n cs (sym e)))
 same_test n cs None false e h = absurd (cc)
 same_test n cs (Some i) true e h = absurd (cc)
 same_test n cs (Some i) false e h = sym (some_found n cs i e)
 
-pub once-either : {K : Type 0} (t : Bool) (cs ds : List (Channel K)) → AreOnce cs → AreOnce ds
+pub once-either : {K : Type 0} (t : Bool) (cs ds : List (WorldChannel K)) → AreOnce cs → AreOnce ds
     → AreOnce (cond t cs ds)
 once-either true cs ds a b = a
 once-either false cs ds a b = b

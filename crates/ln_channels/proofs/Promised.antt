@@ -25,9 +25,8 @@ use Rattle.ln_channels.specs.declared.settings.Settings.{Settings}
 use Rattle.ln_channels.specs.Settings.{config_of, spec_of, txid_of, channel_id_of, opening_by, are_ordered}
 use Rattle.ln_channels.specs.Settings.{may_bring, may_ask, can_be_told, CanBring, CanBeTold}
 use Rattle.ln_channels.specs.Both.{Both, Move}
-use Rattle.ln_channels.specs.Channel.{Channel, is_node, moved, opened_by, act_moves, fall_moves, restart_moves}
-use Rattle.ln_channels.specs.Channel.{up_moves}
-use Rattle.ln_channels.specs.Channel.{halt_moves, stop_moves}
+use Rattle.ln_channels.specs.WorldChannel.{WorldChannel, is_node, moved, opened_by, act_moves, fall_moves}
+use Rattle.ln_channels.specs.WorldChannel.{restart_moves, up_moves, halt_moves, stop_moves}
 use Rattle.ln_channels.specs.World.{World, settings_of, channel, moved_at, all_moved, may_open, happens}
 use Rattle.ln_channels.specs.World.{at, everywhere, may_be_done, empty, run}
 use Rattle.ln_channels.specs.Promises.{Headline, NoneRefused, AllTaken, OneFee, Agrees, Each}
@@ -115,7 +114,7 @@ partners_so a b t = record {
 }
 
 module _ {K : Type 0} (k : Ghosts K) where
-  abbrev pub IsToldOf : Channel K → Tale → Type 0
+  abbrev pub IsToldOf : WorldChannel K → Tale → Type 0
   IsToldOf c t = IsTold k.signer (channel_id_of c.number) c.both t
 
   -- what comes of an opening
@@ -184,34 +183,35 @@ module _ {K : Type 0} (k : Ghosts K) where
   abbrev pub AreOpen : World K → Type 0
   AreOpen w = Each (IsOpen k.signer) w.channels
 
-  module _ (P : Channel K → Type 0) where
-    one_moved : (b : Bool) (f : Channel K → List Move) → ((c : Channel K) → P c → P (moved k.signer f c))
-        → (c : Channel K) → P c → P (cond b (moved k.signer f c) c)
+  module _ (P : WorldChannel K → Type 0) where
+    one_moved : (b : Bool) (f : WorldChannel K → List Move) → ((c : WorldChannel K) → P c → P (moved k.signer f c))
+        → (c : WorldChannel K) → P c → P (cond b (moved k.signer f c) c)
     one_moved true f keep c h = keep c h
     one_moved false f keep c h = h
 
-    pub moved_so : (n : ℕ) (f : Channel K → List Move) → ((c : Channel K) → P c → P (moved k.signer f c))
-        → (cs : List (Channel K)) → Each P cs → Each P (moved_at k.signer n f cs)
+    pub moved_so : (n : ℕ) (f : WorldChannel K → List Move) → ((c : WorldChannel K) → P c → P (moved k.signer f c))
+        → (cs : List (WorldChannel K)) → Each P cs → Each P (moved_at k.signer n f cs)
     moved_so n f keep [] h = tt
     moved_so n f keep (c ∷ cs) h = (one_moved (c.number == n) f keep c h.0, moved_so n f keep cs h.1)
 
-    pub all_so : (f : Channel K → List Move) → ((c : Channel K) → P c → P (moved k.signer f c))
-        → (cs : List (Channel K)) → Each P cs → Each P (all_moved k.signer f cs)
+    pub all_so : (f : WorldChannel K → List Move) → ((c : WorldChannel K) → P c → P (moved k.signer f c))
+        → (cs : List (WorldChannel K)) → Each P cs → Each P (all_moved k.signer f cs)
     all_so f keep [] h = tt
     all_so f keep (c ∷ cs) h = (keep c h.0, all_so f keep cs h.1)
 
-    pub joined_so : (cs : List (Channel K)) (c : Channel K) → Each P cs → P c → Each P (cs ++ c ∷ [])
+    pub joined_so : (cs : List (WorldChannel K)) (c : WorldChannel K) → Each P cs → P c → Each P (cs ++ c ∷ [])
     joined_so [] c h o = (o, tt)
     joined_so (d ∷ cs) c h o = (h.0, joined_so cs c h.1 o)
 
     -- every channel moves so, or none does
-    pub either_so : (b : Bool) (f : Channel K → List Move) → ((c : Channel K) → P c → P (moved k.signer f c))
+    pub either_so : (b : Bool) (f : WorldChannel K → List Move) → ((c : WorldChannel K) → P c → P (moved k.signer f c))
         → (w : World K) → Each P w.channels → Each P (cond b (everywhere k.signer f w) w).channels
     either_so true f keep w h = all_so f keep w.channels h
     either_so false f keep w h = h
 
     -- the channels with this number move so, or none does
-    pub there_so : (b : Bool) (n : ℕ) (f : Channel K → List Move) → ((c : Channel K) → P c → P (moved k.signer f c))
+    pub there_so : (b : Bool) (n : ℕ) (f : WorldChannel K → List Move)
+        → ((c : WorldChannel K) → P c → P (moved k.signer f c))
         → (w : World K) → Each P w.channels → Each P (cond b (at k.signer n f w) w).channels
     there_so true n f keep w h = moved_so n f keep w.channels h
     there_so false n f keep w h = h
@@ -260,7 +260,7 @@ module _ {K : Type 0} (k : Ghosts K) where
   -- ---- what is promised of each channel
 
   of_each : (P : Both K → Type 0) → ((id : List ℕ) (p : Both K) → IsRun k.signer id p → P p)
-      → (cs : List (Channel K)) → Each (IsOpen k.signer) cs → Each (λ (c : Channel K). P c.both) cs
+      → (cs : List (WorldChannel K)) → Each (IsOpen k.signer) cs → Each (λ (c : WorldChannel K). P c.both) cs
   of_each P f [] h = tt
   of_each P f (c ∷ cs) h = (f (channel_id_of c.number) c.both h.0, of_each P f cs h.1)
 

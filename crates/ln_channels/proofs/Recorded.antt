@@ -26,9 +26,9 @@ use Rattle.ln_channels.specs.declared.settings.Settings.{Settings}
 use Rattle.ln_channels.specs.Settings.{channel_id_of, may_bring, CanBring}
 use Rattle.ln_channels.specs.Both.{Both, Move, By, Falls, Halts, Restarts, Stops, Meet, moves, unheard}
 use Rattle.ln_channels.specs.Both.{run as run_both}
-use Rattle.ln_channels.specs.Channel.{Channel, is_node, by, side_of, moved, may_meet, opened_by, act_moves}
-use Rattle.ln_channels.specs.Channel.{fall_moves, halt_moves, restart_moves, stop_moves, up_moves}
-use Rattle.ln_channels.specs.Channel.{acted_unheard, side_unheard, place_of, opening_moves}
+use Rattle.ln_channels.specs.WorldChannel.{WorldChannel, is_node, by, side_of, moved, may_meet, opened_by, act_moves}
+use Rattle.ln_channels.specs.WorldChannel.{fall_moves, halt_moves, restart_moves, stop_moves, up_moves}
+use Rattle.ln_channels.specs.WorldChannel.{acted_unheard, side_unheard, place_of, opening_moves}
 use Rattle.ln_channels.specs.World.{World, settings_of, channel, may_open, joined, happens, may_be_done}
 use Rattle.ln_channels.specs.World.{empty, run}
 use Rattle.ln_channels.specs.Failing.{LinkLacks, SideLacks, ActLacks, ActLacksIn, MovesLack, OpenLacks, MayFail}
@@ -78,11 +78,11 @@ ups_bring true = (tt, tt)
 ups_bring false = tt
 
 module _ {K : Type 0} (k : Ghosts K) where
-  abbrev pub IsFitChannel : Channel K → Type 0
+  abbrev pub IsFitChannel : WorldChannel K → Type 0
   IsFitChannel c = IsFit k.signer (channel_id_of c.number) c.both
 
-  kept_by : (f : Channel K → List Move) → MayMake k f → ((c : Channel K) → Each IsMove (f c)) → (c : Channel K)
-      → IsFitChannel c → IsFitChannel (moved k.signer f c)
+  kept_by : (f : WorldChannel K → List Move) → MayMake k f → ((c : WorldChannel K) → Each IsMove (f c))
+      → (c : WorldChannel K) → IsFitChannel c → IsFitChannel (moved k.signer f c)
   kept_by f may is c h = moves_so k.signer (channel_id_of c.number) (f c) c.both (may c) (is c) h
 
   -- ---- a channel that is opened
@@ -179,7 +179,8 @@ have_records signer id p h =
     )
 
 module _ {K : Type 0} (k : Ghosts K) where
-  each_has : (cs : List (Channel K)) → Each (IsFitChannel k) cs → Each (λ (c : Channel K). HaveRecords c.both) cs
+  each_has : (cs : List (WorldChannel K)) → Each (IsFitChannel k) cs
+      → Each (λ (c : WorldChannel K). HaveRecords c.both) cs
   each_has [] h = tt
   each_has (c ∷ cs) h = (have_records k.signer (channel_id_of c.number) c.both h.0, each_has cs h.1)
 
@@ -204,17 +205,17 @@ module _ {K : Type 0} (k : Ghosts K) where
   side_has (Some Funder) p h lacks = h.0 lacks
   side_has (Some Fundee) p h lacks = h.1 lacks
 
-  one_behind : (n : Node) (a : Act) (c : Channel K) → IsAct a → IsFitChannel k c → ActLacks k.signer n a c → ⊥
+  one_behind : (n : Node) (a : Act) (c : WorldChannel K) → IsAct a → IsFitChannel k c → ActLacks k.signer n a c → ⊥
   one_behind n a c is h lacks =
       side_has (side_of n c) (acted_unheard k.signer n a c).both
       (behind_act (side_of n c) a (channel_id_of c.number) c.both is h) lacks
 
-  found_behind : (n : Node) (a : Act) (b : Bool) (c : Channel K) (o : Option (Channel K)) → IsAct a
+  found_behind : (n : Node) (a : Act) (b : Bool) (c : WorldChannel K) (o : Option (WorldChannel K)) → IsAct a
       → IsFitChannel k c → (ActLacksIn k.signer n a o → ⊥) → ActLacksIn k.signer n a (cond b (Some c) o) → ⊥
   found_behind n a true c o is h rest lacks = one_behind n a c is h lacks
   found_behind n a false c o is h rest lacks = rest lacks
 
-  none_behind : (m : ℕ) (n : Node) (a : Act) (cs : List (Channel K)) → IsAct a → Each (IsFitChannel k) cs
+  none_behind : (m : ℕ) (n : Node) (a : Act) (cs : List (WorldChannel K)) → IsAct a → Each (IsFitChannel k) cs
       → ActLacksIn k.signer n a (channel m cs) → ⊥
   none_behind m n a [] is h lacks = lacks
   none_behind m n a (c ∷ cs) is h lacks =

@@ -14,9 +14,8 @@ use Rattle.ln_channels.specs.declared.step.Step.TheVariants as step
 use Rattle.ln_channels.specs.Settings.{channel_id_of, may_bring, CanBring}
 use Rattle.ln_channels.specs.Both.{Both, Move}
 use Rattle.ln_channels.specs.Both.{run as run_both}
-use Rattle.ln_channels.specs.Channel.{Channel, is_node, moved, opened_by, act_moves, fall_moves, restart_moves}
-use Rattle.ln_channels.specs.Channel.{up_moves}
-use Rattle.ln_channels.specs.Channel.{halt_moves, stop_moves}
+use Rattle.ln_channels.specs.WorldChannel.{WorldChannel, is_node, moved, opened_by, act_moves, fall_moves}
+use Rattle.ln_channels.specs.WorldChannel.{restart_moves, up_moves, halt_moves, stop_moves}
 use Rattle.ln_channels.specs.World.{World, settings_of, channel, moved_if, moved_at, all_moved, may_open, joined}
 use Rattle.ln_channels.specs.World.{happens}
 use Rattle.ln_channels.specs.World.{at, everywhere, may_be_done, empty, run}
@@ -43,51 +42,51 @@ module _ {K : Type 0} (k : Ghosts K) where
       ran_set id ms _ ds may.1
       (record { run = w.run; set = h.set ∙ ap (λ s. s ∷ []) (sym w.setup) })
 
-  abbrev IsSet : Channel K → List Setup → Type 0
+  abbrev IsSet : WorldChannel K → List Setup → Type 0
   IsSet c ds = IsSetUp (channel_id_of c.number) c.both ds
 
   -- nothing was set up where there is no channel
-  abbrev Stands : Option (Channel K) → List Setup → Type 0
+  abbrev Stands : Option (WorldChannel K) → List Setup → Type 0
   Stands None ds = ds ≡ []
   Stands (Some c) ds = IsSet c ds
 
-  one_stands : (b : Bool) (f : Channel K → List Move) (c : Channel K) (ds : List Setup) → MayMake k f → IsSet c ds
-      → IsSet (moved_or_not k b f c) ds
+  one_stands : (b : Bool) (f : WorldChannel K → List Move) (c : WorldChannel K) (ds : List Setup) → MayMake k f
+      → IsSet c ds → IsSet (moved_or_not k b f c) ds
   one_stands true f c ds may h = ran_set (channel_id_of c.number) (f c) c.both ds (may c) h
   one_stands false f c ds may h = h
 
-  moved_stands : (m : ℕ) (f : Channel K → List Move) (o : Option (Channel K)) (ds : List Setup) → MayMake k f
+  moved_stands : (m : ℕ) (f : WorldChannel K → List Move) (o : Option (WorldChannel K)) (ds : List Setup) → MayMake k f
       → Stands o ds → Stands (option_map (moved_if k.signer m f) o) ds
   moved_stands m f None ds may h = h
   moved_stands m f (Some c) ds may h = one_stands (c.number == m) f c ds may h
 
-  all_stands : (f : Channel K → List Move) (o : Option (Channel K)) (ds : List Setup) → MayMake k f
+  all_stands : (f : WorldChannel K → List Move) (o : Option (WorldChannel K)) (ds : List Setup) → MayMake k f
       → Stands o ds → Stands (option_map (moved k.signer f) o) ds
   all_stands f None ds may h = h
   all_stands f (Some c) ds may h = one_stands true f c ds may h
 
   -- a step that opens none
-  behind_none : (o : Option (Channel K)) (ds : List Setup) → Stands o ds → Stands o (ds ++ [])
+  behind_none : (o : Option (WorldChannel K)) (ds : List Setup) → Stands o ds → Stands o (ds ++ [])
   behind_none o ds h = subst (Stands o) (sym (append-nil ds)) h
 
-  goes : (m : ℕ) (f : Channel K → List Move) (n : ℕ) (cs : List (Channel K)) (ds : List Setup) → MayMake k f
+  goes : (m : ℕ) (f : WorldChannel K → List Move) (n : ℕ) (cs : List (WorldChannel K)) (ds : List Setup) → MayMake k f
       → Stands (channel n cs) ds → Stands (channel n (moved_at k.signer m f cs)) (ds ++ [])
   goes m f n cs ds may h =
       subst (λ o. Stands o (ds ++ [])) (sym (found_moved k n m f cs))
       (behind_none (option_map (moved_if k.signer m f) (channel n cs)) ds (moved_stands m f (channel n cs) ds may h))
 
-  all_go : (f : Channel K → List Move) (n : ℕ) (cs : List (Channel K)) (ds : List Setup) → MayMake k f
+  all_go : (f : WorldChannel K → List Move) (n : ℕ) (cs : List (WorldChannel K)) (ds : List Setup) → MayMake k f
       → Stands (channel n cs) ds → Stands (channel n (all_moved k.signer f cs)) (ds ++ [])
   all_go f n cs ds may h =
       subst (λ o. Stands o (ds ++ [])) (sym (found_in_all k n f cs))
       (behind_none (option_map (moved k.signer f) (channel n cs)) ds (all_stands f (channel n cs) ds may h))
 
-  stops : (b : Bool) (f : Channel K → List Move) (n : ℕ) (w : World K) (ds : List Setup) → MayMake k f
+  stops : (b : Bool) (f : WorldChannel K → List Move) (n : ℕ) (w : World K) (ds : List Setup) → MayMake k f
       → Stands (channel n w.channels) ds → Stands (channel n (cond b (everywhere k.signer f w) w).channels) (ds ++ [])
   stops true f n w ds may h = all_go f n w.channels ds may h
   stops false f n w ds may h = behind_none (channel n w.channels) ds h
 
-  halts : (b : Bool) (m : ℕ) (f : Channel K → List Move) (n : ℕ) (w : World K) (ds : List Setup) → MayMake k f
+  halts : (b : Bool) (m : ℕ) (f : WorldChannel K → List Move) (n : ℕ) (w : World K) (ds : List Setup) → MayMake k f
       → Stands (channel n w.channels) ds → Stands (channel n (cond b (at k.signer m f w) w).channels) (ds ++ [])
   halts true m f n w ds may h = goes m f n w.channels ds may h
   halts false m f n w ds may h = behind_none (channel n w.channels) ds h
@@ -115,7 +114,7 @@ module _ {K : Type 0} (k : Ghosts K) where
             made.funder r.fundee.closing.fees made.fundee opening fees.0 fees.1));
       }
 
-  joined_stands : (d : Option (Channel K)) (new : Channel K) (b : Bool) (ds : List Setup) (s : Setup)
+  joined_stands : (d : Option (WorldChannel K)) (new : WorldChannel K) (b : Bool) (ds : List Setup) (s : Setup)
       → (b ≡ true → d ≡ None) → IsSet new (s ∷ []) → Stands d ds
       → Stands (or_else d (cond b (Some new) None)) (ds ++ cond b (s ∷ []) [])
   joined_stands None new true ds s only fresh h = subst (λ ls. IsSet new (ls ++ s ∷ [])) (sym h) fresh
@@ -127,7 +126,7 @@ module _ {K : Type 0} (k : Ghosts K) where
   new_setup o w =
       setup_by o.satoshis o.push (settings_of o.funder w.settings) (settings_of o.fundee w.settings)
 
-  abbrev new_channel : Open K k → World K → Channel K
+  abbrev new_channel : Open K k → World K → WorldChannel K
   new_channel o w = opened_by k o (settings_of o.funder w.settings) (settings_of o.fundee w.settings)
 
   opened_stands : (b : Bool) (n : ℕ) (o : Open K k) (w : World K) (ds : List Setup) → may_open o w ≡ b
@@ -181,7 +180,7 @@ module _ {K : Type 0} (k : Ghosts K) where
   none_there : OpensAsSet {K = K} [] None
   none_there = refl
 
-  opens_so : (o : Option (Channel K)) (ds : List Setup) → Stands o ds → OpensAsSet ds o
+  opens_so : (o : Option (WorldChannel K)) (ds : List Setup) → Stands o ds → OpensAsSet ds o
   opens_so None ds h = subst (λ ls. OpensAsSet {K = K} ls None) (sym h) none_there
   opens_so (Some c) ds h =
       subst (λ ls. OpensAsSet {K = K} ls (Some c)) (sym h.set)

@@ -12,8 +12,8 @@ use Rattle.ln_channels.specs.Settings.{channel_id_of}
 use Rattle.ln_channels.specs.Both.{Both, Place, By, Restarts, Stops, moves, swapped, delivers, acts, restarted}
 use Rattle.ln_channels.specs.Both.{delivered_unheard, unheard}
 use Rattle.ln_channels.specs.Both.{run as run_both}
-use Rattle.ln_channels.specs.Channel.{Channel, by, side_of, place_of, moved, restart_moves, stop_moves, side_unheard}
-use Rattle.ln_channels.specs.Channel.{acted_unheard}
+use Rattle.ln_channels.specs.WorldChannel.{WorldChannel, by, side_of, place_of, moved, restart_moves, stop_moves}
+use Rattle.ln_channels.specs.WorldChannel.{side_unheard, acted_unheard}
 use Rattle.ln_channels.specs.World.{all_moved, unheard_at}
 use Rattle.ln_channels.specs.Failing.{LinkLacks}
 
@@ -52,7 +52,7 @@ module _ {K : Type 0} (signer : K → Signer) where
   both_stopped id a (Some Fundee) p =
       ap (λ (y : Place K). as_both p.x (restarted y)) (sym (unheard_so id a (swapped p)))
 
-  one_stopped : (e : End) (a : Act) (b : Bool) (c : Channel K)
+  one_stopped : (e : End) (a : Act) (b : Bool) (c : WorldChannel K)
       → moved signer (restart_moves e.node) (cond b (acted_unheard signer e.node a c) c)
       ≡ record {
         number = c.number;
@@ -66,7 +66,7 @@ module _ {K : Type 0} (signer : K → Signer) where
       ap (λ p. record { number = c.number; funder = c.funder; fundee = c.fundee; both = p })
       (both_stopped (channel_id_of c.number) a (side_of e.node c) c.both)
 
-  pub all_stopped : (e : End) (a : Act) (cs : List (Channel K))
+  pub all_stopped : (e : End) (a : Act) (cs : List (WorldChannel K))
       → all_moved signer (restart_moves e.node) (unheard_at signer e a cs) ≡ all_moved signer (stop_moves e a) cs
   all_stopped e a [] = refl
   all_stopped e a (c ∷ cs) =

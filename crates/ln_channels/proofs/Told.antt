@@ -23,8 +23,8 @@ use Rattle.ln_channels.specs.declared.step.Step.TheVariants as step
 use Rattle.ln_channels.specs.Settings.{channel_id_of, opening_by, may_bring}
 use Rattle.ln_channels.specs.declared.step.End.{End}
 use Rattle.ln_channels.specs.Both.{Both, Move, By, Falls, Halts, Restarts, Stops, Meet}
-use Rattle.ln_channels.specs.Channel.{Channel, is_node, by, side_of, moved, may_meet, opened_by, act_moves}
-use Rattle.ln_channels.specs.Channel.{fall_moves, halt_moves, restart_moves, stop_moves, up_moves}
+use Rattle.ln_channels.specs.WorldChannel.{WorldChannel, is_node, by, side_of, moved, may_meet, opened_by, act_moves}
+use Rattle.ln_channels.specs.WorldChannel.{fall_moves, halt_moves, restart_moves, stop_moves, up_moves}
 use Rattle.ln_channels.specs.World.{World, settings_of, channel, moved_if, moved_at, all_moved, may_open, joined}
 use Rattle.ln_channels.specs.World.{happens}
 use Rattle.ln_channels.specs.World.{at, everywhere, may_be_done, empty, run}
@@ -42,19 +42,20 @@ or_else None o = o
 or_else (Some x) o = Some x
 
 module _ {K : Type 0} (k : Ghosts K) where
-  abbrev pub moved_or_not : Bool → (Channel K → List Move) → Channel K → Channel K
+  abbrev pub moved_or_not : Bool → (WorldChannel K → List Move) → WorldChannel K → WorldChannel K
   moved_or_not b f c = cond b (moved k.signer f c) c
 
-  same_number : (b : Bool) (f : Channel K → List Move) (c : Channel K) → (moved_or_not b f c).number ≡ c.number
+  same_number : (b : Bool) (f : WorldChannel K → List Move) (c : WorldChannel K)
+      → (moved_or_not b f c).number ≡ c.number
   same_number true f c = refl
   same_number false f c = refl
 
-  found_by : (b : Bool) (f : Channel K → Channel K) (c : Channel K) (o o' : Option (Channel K))
+  found_by : (b : Bool) (f : WorldChannel K → WorldChannel K) (c : WorldChannel K) (o o' : Option (WorldChannel K))
       → o' ≡ option_map f o → cond b (Some (f c)) o' ≡ option_map f (cond b (Some c) o)
   found_by true f c o o' e = refl
   found_by false f c o o' e = e
 
-  pub found_moved : (n m : ℕ) (f : Channel K → List Move) (cs : List (Channel K))
+  pub found_moved : (n m : ℕ) (f : WorldChannel K → List Move) (cs : List (WorldChannel K))
       → channel n (moved_at k.signer m f cs) ≡ option_map (moved_if k.signer m f) (channel n cs)
   found_moved n m f [] = refl
   found_moved n m f (c ∷ cs) =
@@ -63,19 +64,19 @@ module _ {K : Type 0} (k : Ghosts K) where
       ∙ found_by (c.number == n) (moved_if k.signer m f) c (channel n cs) (channel n (moved_at k.signer m f cs))
       (found_moved n m f cs)
 
-  pub found_in_all : (n : ℕ) (f : Channel K → List Move) (cs : List (Channel K))
+  pub found_in_all : (n : ℕ) (f : WorldChannel K → List Move) (cs : List (WorldChannel K))
       → channel n (all_moved k.signer f cs) ≡ option_map (moved k.signer f) (channel n cs)
   found_in_all n f [] = refl
   found_in_all n f (c ∷ cs) =
       found_by (c.number == n) (moved k.signer f) c (channel n cs) (channel n (all_moved k.signer f cs))
       (found_in_all n f cs)
 
-  found_behind : (b : Bool) (d : Channel K) (o extra o' : Option (Channel K)) → o' ≡ or_else o extra
+  found_behind : (b : Bool) (d : WorldChannel K) (o extra o' : Option (WorldChannel K)) → o' ≡ or_else o extra
       → cond b (Some d) o' ≡ or_else (cond b (Some d) o) extra
   found_behind true d o extra o' e = refl
   found_behind false d o extra o' e = e
 
-  pub found_joined : (n : ℕ) (c : Channel K) (cs : List (Channel K))
+  pub found_joined : (n : ℕ) (c : WorldChannel K) (cs : List (WorldChannel K))
       → channel n (cs ++ c ∷ []) ≡ or_else (channel n cs) (cond (c.number == n) (Some c) None)
   found_joined n c [] = refl
   found_joined n c (d ∷ cs) =
@@ -85,12 +86,12 @@ module _ {K : Type 0} (k : Ghosts K) where
   -- ---- in a step
 
   -- what has come of the channel with this number, where there is one
-  abbrev Recounts : Option (Channel K) → Tale → Type 0
+  abbrev Recounts : Option (WorldChannel K) → Tale → Type 0
   Recounts None t = t ≡ untold
   Recounts (Some c) t = IsToldOf k c t
 
   -- what comes of a step, beside its opening
-  abbrev tale_for : Step K k → World K → List machine.Move → Option (Channel K) → Tale
+  abbrev tale_for : Step K k → World K → List machine.Move → Option (WorldChannel K) → Tale
   tale_for s w ms o = record {
     sent_x = in_channel k (sends k.signer Funder) s w o;
     sent_y = in_channel k (sends k.signer Fundee) s w o;
@@ -99,8 +100,8 @@ module _ {K : Type 0} (k : Ghosts K) where
     told_y = in_channel k (λ id. tells k.signer Fundee) s w o;
   }
 
-  abbrev pub MayMake : (Channel K → List Move) → Type 0
-  MayMake f = (c : Channel K) → ArePossible k.signer (channel_id_of c.number) (f c) c.both
+  abbrev pub MayMake : (WorldChannel K → List Move) → Type 0
+  MayMake f = (c : WorldChannel K) → ArePossible k.signer (channel_id_of c.number) (f c) c.both
 
   by_possible : (id : List ℕ) (p : Both K) (o : Option Role) (f : Role → Move)
       → ((side : Role) → ArePossible k.signer id (f side ∷ []) p) → ArePossible k.signer id (by o f) p
@@ -141,14 +142,15 @@ module _ {K : Type 0} (k : Ghosts K) where
   pub ups_possible : MayMake up_moves
   ups_possible c = up_by (channel_id_of c.number) c.both (may_meet c.both) refl
 
-  one_told : (b : Bool) (f : Channel K → List Move) (c : Channel K) (t : Tale) → MayMake f → IsToldOf k c t
+  one_told : (b : Bool) (f : WorldChannel K → List Move) (c : WorldChannel K) (t : Tale) → MayMake f → IsToldOf k c t
       → IsToldOf k (moved_or_not b f c)
       (then t (tale_along k.signer (channel_id_of c.number) (cond b (f c) []) c.both))
   one_told true f c t may h = channels.all_told k.signer (channel_id_of c.number) (f c) c.both t (may c) h
   one_told false f c t may h = channels.all_told k.signer (channel_id_of c.number) [] c.both t tt h
 
-  moved_told : (s : Step K k) (w : World K) (m : ℕ) (f : Channel K → List Move) (o : Option (Channel K)) (t : Tale)
-      → MayMake f → ((c : Channel K) → step_moves k s w c ≡ cond (c.number == m) (f c) []) → Recounts o t
+  moved_told : (s : Step K k) (w : World K) (m : ℕ) (f : WorldChannel K → List Move) (o : Option (WorldChannel K))
+      (t : Tale)
+      → MayMake f → ((c : WorldChannel K) → step_moves k s w c ≡ cond (c.number == m) (f c) []) → Recounts o t
       → Recounts (option_map (moved_if k.signer m f) o) (then t (tale_for s w [] o))
   moved_told s w m f None t may is h = then-untold t ∙ h
   moved_told s w m f (Some c) t may is h =
@@ -156,18 +158,18 @@ module _ {K : Type 0} (k : Ghosts K) where
       (then t (tale_along k.signer (channel_id_of c.number) ms c.both))) (sym (is c))
       (one_told (c.number == m) f c t may h)
 
-  quiet_tale : (s : Step K k) (w : World K) (o : Option (Channel K)) → ((c : Channel K) → step_moves k s w c ≡ [])
-      → tale_for s w [] o ≡ untold
+  quiet_tale : (s : Step K k) (w : World K) (o : Option (WorldChannel K))
+      → ((c : WorldChannel K) → step_moves k s w c ≡ []) → tale_for s w [] o ≡ untold
   quiet_tale s w None is = refl
   quiet_tale s w (Some c) is =
       ap (λ ms. tale_along k.signer (channel_id_of c.number) ms c.both) (is c)
 
-  still_told : (s : Step K k) (w : World K) (o : Option (Channel K)) (t : Tale)
-      → ((c : Channel K) → step_moves k s w c ≡ []) → Recounts o t → Recounts o (then t (tale_for s w [] o))
+  still_told : (s : Step K k) (w : World K) (o : Option (WorldChannel K)) (t : Tale)
+      → ((c : WorldChannel K) → step_moves k s w c ≡ []) → Recounts o t → Recounts o (then t (tale_for s w [] o))
   still_told s w o t is h = subst (Recounts o) (sym (ap (then t) (quiet_tale s w o is) ∙ then-untold t)) h
 
-  joined_told : (s : Step K k) (w : World K) (d : Option (Channel K)) (new : Channel K) (b : Bool) (t : Tale)
-      (q : Opening) → ((c : Channel K) → step_moves k s w c ≡ []) → (b ≡ true → d ≡ None)
+  joined_told : (s : Step K k) (w : World K) (d : Option (WorldChannel K)) (new : WorldChannel K) (b : Bool) (t : Tale)
+      (q : Opening) → ((c : WorldChannel K) → step_moves k s w c ≡ []) → (b ≡ true → d ≡ None)
       → IsToldOf k new (opening_tale k q) → Recounts d t
       → Recounts (or_else d (cond b (Some new) None)) (then t (tale_for s w (cond b (machine.Open q ∷ []) []) d))
   joined_told s w None new true t q is only fresh h =
@@ -176,11 +178,11 @@ module _ {K : Type 0} (k : Ghosts K) where
   joined_told s w (Some c) new true t q is only fresh h = absurd (let no : Some c ≡ None = only refl in cc)
   joined_told s w (Some c) new false t q is only fresh h = still_told s w (Some c) t is h
 
-  pub none_so : (o : Option (Channel K)) → is_none o ≡ true → o ≡ None
+  pub none_so : (o : Option (WorldChannel K)) → is_none o ≡ true → o ≡ None
   none_so None e = refl
   none_so (Some c) e = absurd (cc)
 
-  abbrev new_channel : Open K k → World K → Channel K
+  abbrev new_channel : Open K k → World K → WorldChannel K
   new_channel o w = opened_by k o (settings_of o.funder w.settings) (settings_of o.fundee w.settings)
 
   abbrev new_opening : Open K k → World K → Opening
@@ -218,40 +220,40 @@ module _ {K : Type 0} (k : Ghosts K) where
     told_y = told_in k n Fundee s w;
   }
 
-  goes_so : (s : Step K k) (w : World K) (m : ℕ) (f : Channel K → List Move) (n : ℕ) (cs : List (Channel K))
-      (t : Tale) → MayMake f → ((c : Channel K) → step_moves k s w c ≡ cond (c.number == m) (f c) [])
+  goes_so : (s : Step K k) (w : World K) (m : ℕ) (f : WorldChannel K → List Move) (n : ℕ) (cs : List (WorldChannel K))
+      (t : Tale) → MayMake f → ((c : WorldChannel K) → step_moves k s w c ≡ cond (c.number == m) (f c) [])
       → Recounts (channel n cs) t
       → Recounts (channel n (moved_at k.signer m f cs)) (then t (tale_for s w [] (channel n cs)))
   goes_so s w m f n cs t may is h =
       subst (λ o. Recounts o (then t (tale_for s w [] (channel n cs)))) (sym (found_moved n m f cs))
       (moved_told s w m f (channel n cs) t may is h)
 
-  all_told_of : (s : Step K k) (w : World K) (f : Channel K → List Move) (o : Option (Channel K)) (t : Tale) → MayMake f
-      → ((c : Channel K) → step_moves k s w c ≡ f c) → Recounts o t
+  all_told_of : (s : Step K k) (w : World K) (f : WorldChannel K → List Move) (o : Option (WorldChannel K)) (t : Tale)
+      → MayMake f → ((c : WorldChannel K) → step_moves k s w c ≡ f c) → Recounts o t
       → Recounts (option_map (moved k.signer f) o) (then t (tale_for s w [] o))
   all_told_of s w f None t may is h = then-untold t ∙ h
   all_told_of s w f (Some c) t may is h =
       subst (λ ms. IsToldOf k (moved k.signer f c) (then t (tale_along k.signer (channel_id_of c.number) ms c.both)))
       (sym (is c)) (one_told true f c t may h)
 
-  all_go_so : (s : Step K k) (w : World K) (f : Channel K → List Move) (n : ℕ) (cs : List (Channel K)) (t : Tale)
-      → MayMake f → ((c : Channel K) → step_moves k s w c ≡ f c) → Recounts (channel n cs) t
+  all_go_so : (s : Step K k) (w : World K) (f : WorldChannel K → List Move) (n : ℕ) (cs : List (WorldChannel K))
+      (t : Tale) → MayMake f → ((c : WorldChannel K) → step_moves k s w c ≡ f c) → Recounts (channel n cs) t
       → Recounts (channel n (all_moved k.signer f cs)) (then t (tale_for s w [] (channel n cs)))
   all_go_so s w f n cs t may is h =
       subst (λ o. Recounts o (then t (tale_for s w [] (channel n cs)))) (sym (found_in_all n f cs))
       (all_told_of s w f (channel n cs) t may is h)
 
   -- an end that halts, where it can act
-  halts_so : (b : Bool) (s : Step K k) (w : World K) (m : ℕ) (f : Channel K → List Move) (n : ℕ) (t : Tale) → MayMake f
-      → ((c : Channel K) → step_moves k s w c ≡ cond b (cond (c.number == m) (f c) []) [])
+  halts_so : (b : Bool) (s : Step K k) (w : World K) (m : ℕ) (f : WorldChannel K → List Move) (n : ℕ) (t : Tale)
+      → MayMake f → ((c : WorldChannel K) → step_moves k s w c ≡ cond b (cond (c.number == m) (f c) []) [])
       → Recounts (channel n w.channels) t
       → Recounts (channel n (cond b (at k.signer m f w) w).channels) (then t (tale_for s w [] (channel n w.channels)))
   halts_so true s w m f n t may is h = goes_so s w m f n w.channels t may is h
   halts_so false s w m f n t may is h = still_told s w (channel n w.channels) t is h
 
   -- a node that stops, where its end can act
-  stops_so : (b : Bool) (s : Step K k) (w : World K) (f : Channel K → List Move) (n : ℕ) (t : Tale) → MayMake f
-      → ((c : Channel K) → step_moves k s w c ≡ cond b (f c) []) → Recounts (channel n w.channels) t
+  stops_so : (b : Bool) (s : Step K k) (w : World K) (f : WorldChannel K → List Move) (n : ℕ) (t : Tale) → MayMake f
+      → ((c : WorldChannel K) → step_moves k s w c ≡ cond b (f c) []) → Recounts (channel n w.channels) t
       → Recounts (channel n (cond b (everywhere k.signer f w) w).channels)
       (then t (tale_for s w [] (channel n w.channels)))
   stops_so true s w f n t may is h = all_go_so s w f n w.channels t may is h
@@ -307,14 +309,15 @@ module _ {K : Type 0} (k : Ghosts K) where
 
   -- ---- what is promised of it
 
-  adds_so : (o : Option (Channel K)) (t : Tale) → Recounts o t → AddsBefore false t.sent_x × AddsBefore false t.sent_y
+  adds_so : (o : Option (WorldChannel K)) (t : Tale) → Recounts o t
+      → AddsBefore false t.sent_x × AddsBefore false t.sent_y
   adds_so None t h = subst (λ (u : Tale). AddsBefore false u.sent_x × AddsBefore false u.sent_y) (sym h) (tt, tt)
   adds_so (Some c) t h = channels.none_adds_late k.signer (channel_id_of c.number) c.both t h
 
   pub none_adds_late : (ss : List (Step K k)) (n : ℕ) → NoneAddsLate k n ss empty
   none_adds_late ss n = adds_so (channel n (run k ss empty).channels) (tale_over n ss empty) (told_of n ss)
 
-  runs_so : (o : Option (Channel K)) (t : Tale) → Recounts o t → machine.IsRun t.moves None (machine_of o)
+  runs_so : (o : Option (WorldChannel K)) (t : Tale) → Recounts o t → machine.IsRun t.moves None (machine_of o)
   runs_so None t h = subst (λ (u : Tale). machine.IsRun u.moves None None) (sym h) refl
   runs_so (Some c) t h = channels.runs_so k.signer (channel_id_of c.number) c.both t h
 
@@ -327,13 +330,13 @@ module _ {K : Type 0} (k : Ghosts K) where
   lead_there ss n = run_after (history k n ss empty) None (machine_of (channel n (run k ss empty).channels))
       (may_be_made ss n)
 
-  funder_so : (o : Option (Channel K)) (t : Tale) → Recounts o t
+  funder_so : (o : Option (WorldChannel K)) (t : Tale) → Recounts o t
       → events_in t.told_x ≡ numbered 0 (as_told (events Funder t.moves None))
   funder_so None t h = subst (λ (u : Tale). events_in u.told_x ≡ numbered 0 (as_told (events Funder u.moves None)))
       (sym h) refl
   funder_so (Some c) t h = channels.funder_told k.signer (channel_id_of c.number) c.both t h
 
-  fundee_so : (o : Option (Channel K)) (t : Tale) → Recounts o t
+  fundee_so : (o : Option (WorldChannel K)) (t : Tale) → Recounts o t
       → events_in t.told_y ≡ numbered 0 (as_told (events Fundee t.moves None))
   fundee_so None t h = subst (λ (u : Tale). events_in u.told_y ≡ numbered 0 (as_told (events Fundee u.moves None)))
       (sym h) refl
@@ -344,7 +347,7 @@ module _ {K : Type 0} (k : Ghosts K) where
   events_so ss n Funder = funder_so (channel n (run k ss empty).channels) (tale_over n ss empty) (told_of n ss)
   events_so ss n Fundee = fundee_so (channel n (run k ss empty).channels) (tale_over n ss empty) (told_of n ss)
 
-  step_so : (side : Role) (o : Option (Channel K)) (t : Tale) → Recounts o t
+  step_so : (side : Role) (o : Option (WorldChannel K)) (t : Tale) → Recounts o t
       → AreInStep side (as_told (events side t.moves None)) o
   step_so side None t h = ap (λ (u : Tale). as_told (events side u.moves None)) h
   step_so side (Some c) t h = channels.in_step k.signer side (channel_id_of c.number) c.both t h

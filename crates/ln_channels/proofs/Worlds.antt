@@ -9,7 +9,7 @@ use Rattle.ln_channels.specs.declared.step.Node.{Node}
 use Rattle.ln_channels.specs.declared.step.Open.{Open}
 use Rattle.ln_channels.specs.declared.settings.Settings.{Settings}
 use Rattle.ln_channels.specs.declared.settings.Setting.{Setting}
-use Rattle.ln_channels.specs.Channel.{Channel, is_node, opened_by}
+use Rattle.ln_channels.specs.WorldChannel.{WorldChannel, is_node, opened_by}
 use Rattle.ln_channels.specs.World.{World, settings_of, with_settings, channel, may_open, joined, opens}
 use Rattle.ln_channels.specs.World.{end_lines_below, lines_of_ends}
 use Rattle.ln_channels.proofs.Places.{at_first, lacks}
@@ -48,7 +48,7 @@ appended n new ss e =
 
 -- ---- a channel that joins
 
-pub has_joined : {K : Type 0} (k : Ghosts K) (o : Open K k) (w before : World K) (cs : List (Channel K))
+pub has_joined : {K : Type 0} (k : Ghosts K) (o : Open K k) (w before : World K) (cs : List (WorldChannel K))
     (funder fundee : Settings) → before ≡ w → may_open o w ≡ true → funder ≡ settings_of o.funder w.settings
     → fundee ≡ settings_of o.fundee w.settings → cs ≡ before.channels ++ opened_by k o funder fundee ∷ []
     → ◌≡◌ {A = World K} (record { settings = before.settings; channels = cs }) (opens k o w)
@@ -63,11 +63,11 @@ has_joined k o w before cs funder fundee same may x y h =
 
 -- ---- where the ends stand
 
-pub none_below : {K : Type 0} (cs : List (Channel K)) → [] ≡ end_lines_below 0 cs
+pub none_below : {K : Type 0} (cs : List (WorldChannel K)) → [] ≡ end_lines_below 0 cs
 unfolding end_lines_below
 none_below cs = refl
 
-pub one_below : {K : Type 0} (n : ℕ) (cs : List (Channel K)) (ls ms : List EndLine) → ls ≡ end_lines_below n cs
+pub one_below : {K : Type 0} (n : ℕ) (cs : List (WorldChannel K)) (ls ms : List EndLine) → ls ≡ end_lines_below n cs
     → ms ≡ ls ++ lines_of_ends (channel n cs) → ms ≡ end_lines_below (suc n) cs
 unfolding end_lines_below
 one_below n cs ls ms e h = h ∙ ap (λ l. l ++ lines_of_ends (channel n cs)) e

@@ -6,11 +6,12 @@ use Rattle.ln_channels.specs.declared.step.Step.{Step}
 use Rattle.ln_channels.specs.declared.step.Step.TheVariants as step
 use Rattle.ln_channels.specs.Settings.{channel_id_of}
 use Rattle.ln_channels.specs.Both.{Both, Move, moves}
-use Rattle.ln_channels.specs.Channel.{Channel, act_moves, fall_moves, halt_moves, restart_moves, stop_moves, up_moves}
+use Rattle.ln_channels.specs.WorldChannel.{WorldChannel, act_moves, fall_moves, halt_moves, restart_moves, stop_moves}
+use Rattle.ln_channels.specs.WorldChannel.{up_moves}
 use Rattle.ln_channels.specs.World.{World, happens, may_be_done}
 
 -- those of a channel that is there, by the world before the step
-abbrev pub step_moves : {K : Type 0} → (k : Ghosts K) → Step K k → World K → Channel K → List Move
+abbrev pub step_moves : {K : Type 0} → (k : Ghosts K) → Step K k → World K → WorldChannel K → List Move
 step_moves k (step.Fees n fees) w c = []
 step_moves k (step.Limits n limits) w c = []
 step_moves k (step.Open o) w c = []
@@ -30,7 +31,7 @@ along signer id f (m ∷ ms) p = f m p ++ along signer id f ms (moves signer id 
 
 -- what comes of a step in the channel with this number, by its id
 abbrev pub in_channel : {K A : Type 0} → (k : Ghosts K) → (List ℕ → Move → Both K → List A) → Step K k → World K
-    → Option (Channel K) → List A
+    → Option (WorldChannel K) → List A
 in_channel k f s w None = []
 in_channel k f s w (Some c) =
     along k.signer (channel_id_of c.number) (f (channel_id_of c.number)) (step_moves k s w c) c.both

@@ -19,7 +19,7 @@ use Rattle.ln_channels.specs.declared.step.Step.TheVariants as step
 use Rattle.ln_channels.specs.declared.settings.Settings.{Settings}
 use Rattle.ln_channels.specs.Settings.{channel_id_of}
 use Rattle.ln_channels.specs.Both.{Both, Move, By, Stops, moves, unheard}
-use Rattle.ln_channels.specs.Channel.{Channel, side_of, place_of, acted_unheard, begun_by, opening_moves}
+use Rattle.ln_channels.specs.WorldChannel.{WorldChannel, side_of, place_of, acted_unheard, begun_by, opening_moves}
 use Rattle.ln_channels.specs.World.{World, settings_of, channel, may_open, happens}
 
 -- ---- what is to be saved has no record
@@ -52,15 +52,15 @@ SideLacks None p = ⊥
 SideLacks (Some side) p = LinkLacks (place_of side p).link
 
 -- the node's end, as the act leaves it
-abbrev pub ActLacks : {K : Type 0} → (K → Signer) → Node → Act → Channel K → Type 0
+abbrev pub ActLacks : {K : Type 0} → (K → Signer) → Node → Act → WorldChannel K → Type 0
 ActLacks signer n a c = SideLacks (side_of n c) (acted_unheard signer n a c).both
 
-abbrev pub ActLacksIn : {K : Type 0} → (K → Signer) → Node → Act → Option (Channel K) → Type 0
+abbrev pub ActLacksIn : {K : Type 0} → (K → Signer) → Node → Act → Option (WorldChannel K) → Type 0
 ActLacksIn signer n a None = ⊥
 ActLacksIn signer n a (Some c) = ActLacks signer n a c
 
 -- of the channel that the end is of
-abbrev pub ActLacksAt : {K : Type 0} → (K → Signer) → End → Act → List (Channel K) → Type 0
+abbrev pub ActLacksAt : {K : Type 0} → (K → Signer) → End → Act → List (WorldChannel K) → Type 0
 ActLacksAt signer e a cs = ActLacksIn signer e.node a (channel e.channel cs)
 
 -- ---- in a step, and in a list of steps

@@ -1,7 +1,7 @@
 pub mod Settings
 pub mod Lines
 pub mod Both
-pub mod Channel
+pub mod WorldChannel
 pub mod World
 pub mod Stored
 pub mod Failing

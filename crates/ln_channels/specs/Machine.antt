@@ -27,7 +27,7 @@ use Rattle.ln_channels.specs.declared.step.Step.{Step}
 use Rattle.ln_channels.specs.declared.step.Step.TheVariants as step
 use Rattle.ln_channels.specs.Settings.{opening_by}
 use Rattle.ln_channels.specs.Both.{Both, Place, Move, By, Falls, Halts, Restarts, Stops, Meet, greeting}
-use Rattle.ln_channels.specs.Channel.{Channel, place_of}
+use Rattle.ln_channels.specs.WorldChannel.{WorldChannel, place_of}
 use Rattle.ln_channels.specs.World.{World, channel, settings_of, may_open}
 use Rattle.ln_channels.specs.Promises.{AtEnd}
 use Rattle.ln_channels.specs.Course.{in_channel, over}
@@ -42,7 +42,7 @@ abbrev pub machine_of_stages : Stage → Stage → Option Machine
 machine_of_stages (stage.Saved x) s = machine_with x s
 machine_of_stages r s = None
 
-abbrev pub machine_of : {K : Type 0} → Option (Channel K) → Option Machine
+abbrev pub machine_of : {K : Type 0} → Option (WorldChannel K) → Option Machine
 machine_of None = None
 machine_of (Some c) = machine_of_stages c.both.x.link.stage c.both.y.link.stage
 
@@ -154,6 +154,6 @@ all_told k n side ss w = over k (told_in k n side) ss w
 
 -- ---- what the end of this side of a channel has yet to decide is in step with these events; no channel has any
 
-abbrev pub AreInStep : {K : Type 0} → Role → List ChannelEvent → Option (Channel K) → Type 0
+abbrev pub AreInStep : {K : Type 0} → Role → List ChannelEvent → Option (WorldChannel K) → Type 0
 AreInStep side events None = events ≡ []
 AreInStep side events (Some c) = AtEnd (IsInStep events) (place_of side c.both).link.stage

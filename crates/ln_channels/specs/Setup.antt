@@ -6,7 +6,7 @@ use Rattle.ln_channels.specs.declared.settings.Settings.{Settings}
 use Rattle.ln_channels.specs.declared.step.Step.{Step}
 use Rattle.ln_channels.specs.declared.step.Step.TheVariants as step
 use Rattle.ln_channels.specs.Settings.{opening_by}
-use Rattle.ln_channels.specs.Channel.{Channel}
+use Rattle.ln_channels.specs.WorldChannel.{WorldChannel}
 use Rattle.ln_channels.specs.World.{World, settings_of, may_open}
 use Rattle.ln_channels.specs.Promises.{AtEnds}
 use Rattle.ln_channels.specs.Course.{over}
@@ -31,7 +31,7 @@ abbrev pub all_setups : {K : Type 0} → (k : Ghosts K) → ℕ → List (Step K
 all_setups k n ss w = over k (setup_in k n) ss w
 
 -- the channel is there where it was opened, which was once, and its ends are set up so
-abbrev pub OpensAsSet : {K : Type 0} → List Setup → Option (Channel K) → Type 0
+abbrev pub OpensAsSet : {K : Type 0} → List Setup → Option (WorldChannel K) → Type 0
 OpensAsSet [] c = c ≡ None
 OpensAsSet (s ∷ []) (Some c) = AtEnds (AreSetUp s) c.both.x.link.stage c.both.y.link.stage
 OpensAsSet (s ∷ []) None = ⊥

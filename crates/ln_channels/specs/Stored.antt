@@ -14,7 +14,7 @@ use Rattle.ln_link.specs.Calls.{Has}
 use Rattle.ln_channels.specs.declared.step.End.{End}
 use Rattle.ln_channels.specs.declared.step.Node.{Node}
 use Rattle.ln_channels.specs.Both.{Both}
-use Rattle.ln_channels.specs.Channel.{Channel, side_of, place_of}
+use Rattle.ln_channels.specs.WorldChannel.{WorldChannel, side_of, place_of}
 use Rattle.ln_channels.specs.World.{World, channel}
 
 -- ---- what a store has of a link
@@ -42,7 +42,7 @@ abbrev pub side_record : {K : Type 0} → Option Role → Both K → Option (Lis
 side_record None p = None
 side_record (Some side) p = link_record (place_of side p).link
 
-abbrev pub record_there : {K : Type 0} → Node → Option (Channel K) → Option (List ℕ)
+abbrev pub record_there : {K : Type 0} → Node → Option (WorldChannel K) → Option (List ℕ)
 record_there n None = None
 record_there n (Some c) = side_record (side_of n c) c.both
 

@@ -19,14 +19,13 @@ use Rattle.ln_channels.specs.declared.line.Line.TheVariants as line
 use Rattle.ln_channels.specs.declared.line.EndLine.{EndLine}
 use Rattle.ln_channels.specs.Settings.{defaults, may_bring}
 use Rattle.ln_channels.specs.Both.{Move}
-use Rattle.ln_channels.specs.Channel.{Channel, is_node, moved, opened_by, act_moves, fall_moves, restart_moves}
-use Rattle.ln_channels.specs.Channel.{up_moves}
-use Rattle.ln_channels.specs.Channel.{end_of, side_of, acted_lines, fallen_lines, met_lines, stop_moves, may_act}
-use Rattle.ln_channels.specs.Channel.{acted_unheard, halt_moves}
+use Rattle.ln_channels.specs.WorldChannel.{WorldChannel, is_node, moved, opened_by, act_moves, fall_moves}
+use Rattle.ln_channels.specs.WorldChannel.{restart_moves, up_moves, end_of, side_of, acted_lines, fallen_lines}
+use Rattle.ln_channels.specs.WorldChannel.{met_lines, stop_moves, may_act, acted_unheard, halt_moves}
 
 pub record World (K : Type 0) : Type 0 where
   pub settings : List Setting  -- a node that isn't among them has the defaults
-  pub channels : List (Channel K)  -- in the order of opening
+  pub channels : List (WorldChannel K)  -- in the order of opening
 
 abbrev pub empty : {K : Type 0} → World K
 empty = record { settings = []; channels = [] }
@@ -48,33 +47,35 @@ set_for n new w = record { settings = with_settings n new w.settings; channels =
 
 -- ---- channels by their numbers
 
-abbrev pub channel : {K : Type 0} → ℕ → List (Channel K) → Option (Channel K)
+abbrev pub channel : {K : Type 0} → ℕ → List (WorldChannel K) → Option (WorldChannel K)
 channel n [] = None
 channel n (c ∷ cs) = if c.number == n then Some c else channel n cs
 
 -- each number stands once
-abbrev pub AreOnce : {K : Type 0} → List (Channel K) → Type 0
+abbrev pub AreOnce : {K : Type 0} → List (WorldChannel K) → Type 0
 AreOnce [] = ⊤
 AreOnce (c ∷ cs) = (channel c.number cs ≡ None) × AreOnce cs
 
-abbrev pub changed_if : {K : Type 0} → ℕ → (Channel K → Channel K) → Channel K → Channel K
+abbrev pub changed_if : {K : Type 0} → ℕ → (WorldChannel K → WorldChannel K) → WorldChannel K → WorldChannel K
 changed_if n f c = if c.number == n then f c else c
 
-abbrev pub moved_if : {K : Type 0} → (K → Signer) → ℕ → (Channel K → List Move) → Channel K → Channel K
+abbrev pub moved_if : {K : Type 0} → (K → Signer) → ℕ → (WorldChannel K → List Move) → WorldChannel K → WorldChannel K
 moved_if signer n f c = changed_if n (moved signer f) c
 
 -- each channel of this number moves so, and the others stay
-abbrev pub moved_at : {K : Type 0} → (K → Signer) → ℕ → (Channel K → List Move) → List (Channel K) → List (Channel K)
+abbrev pub moved_at : {K : Type 0} → (K → Signer) → ℕ → (WorldChannel K → List Move) → List (WorldChannel K)
+    → List (WorldChannel K)
 moved_at signer n f cs = map (moved_if signer n f) cs
 
-abbrev pub at : {K : Type 0} → (K → Signer) → ℕ → (Channel K → List Move) → World K → World K
+abbrev pub at : {K : Type 0} → (K → Signer) → ℕ → (WorldChannel K → List Move) → World K → World K
 at signer n f w = record { settings = w.settings; channels = moved_at signer n f w.channels }
 
 -- every channel moves so
-abbrev pub all_moved : {K : Type 0} → (K → Signer) → (Channel K → List Move) → List (Channel K) → List (Channel K)
+abbrev pub all_moved : {K : Type 0} → (K → Signer) → (WorldChannel K → List Move) → List (WorldChannel K)
+    → List (WorldChannel K)
 all_moved signer f cs = map (moved signer f) cs
 
-abbrev pub everywhere : {K : Type 0} → (K → Signer) → (Channel K → List Move) → World K → World K
+abbrev pub everywhere : {K : Type 0} → (K → Signer) → (WorldChannel K → List Move) → World K → World K
 everywhere signer f w = record { settings = w.settings; channels = all_moved signer f w.channels }
 
 -- ---- a channel that is opened
@@ -85,7 +86,7 @@ may_open o w =
     not (is_node o.funder o.fundee) && (is_none (channel o.channel w.channels)
     && may_bring o.satoshis o.push (settings_of o.funder w.settings) (settings_of o.fundee w.settings))
 
-abbrev pub joined : {K : Type 0} → Channel K → World K → World K
+abbrev pub joined : {K : Type 0} → WorldChannel K → World K → World K
 joined c w = record { settings = w.settings; channels = w.channels ++ c ∷ [] }
 
 abbrev pub opens : {K : Type 0} → (k : Ghosts K) → Open K k → World K → World K
@@ -97,11 +98,11 @@ opens k o w =
 -- ---- an act that may be done
 
 -- whether the end is there, and can act so
-abbrev pub may_act_there : {K : Type 0} → Node → Act → Option (Channel K) → Bool
+abbrev pub may_act_there : {K : Type 0} → Node → Act → Option (WorldChannel K) → Bool
 may_act_there n a None = false
 may_act_there n a (Some c) = may_act n a c
 
-abbrev pub may_be_done : {K : Type 0} → End → Act → List (Channel K) → Bool
+abbrev pub may_be_done : {K : Type 0} → End → Act → List (WorldChannel K) → Bool
 may_be_done e a cs = may_act_there e.node a (channel e.channel cs)
 
 -- ---- an end that has no memory for its act, and halts
@@ -118,7 +119,7 @@ memory_lines e a w =
 -- ---- a node that stops round an act of one of its ends
 
 -- as the act leaves its end, whoever gets what it hands out
-abbrev pub unheard_at : {K : Type 0} → (K → Signer) → End → Act → List (Channel K) → List (Channel K)
+abbrev pub unheard_at : {K : Type 0} → (K → Signer) → End → Act → List (WorldChannel K) → List (WorldChannel K)
 unheard_at signer e a cs = map (changed_if e.channel (acted_unheard signer e.node a)) cs
 
 -- the node stops before the act, and the act is never begun
@@ -154,7 +155,7 @@ run k (s ∷ ss) w = run k ss (happens k s w)
 -- ---- what is told of a step, in the world before it
 
 -- of a channel, where there is one
-abbrev pub if_there : {K : Type 0} → (Channel K → List Line) → Option (Channel K) → List Line
+abbrev pub if_there : {K : Type 0} → (WorldChannel K → List Line) → Option (WorldChannel K) → List Line
 if_there f None = line.Idle ∷ []
 if_there f (Some c) = f c
 
@@ -181,7 +182,7 @@ run_lines k (s ∷ ss) w = step_lines k s w ++ run_lines k ss (happens k s w)
 -- ---- where the ends stand
 
 -- the funder's end, and then the fundee's
-abbrev pub lines_of_ends : {K : Type 0} → Option (Channel K) → List EndLine
+abbrev pub lines_of_ends : {K : Type 0} → Option (WorldChannel K) → List EndLine
 lines_of_ends None = []
 lines_of_ends (Some c) =
     record { end = end_of Funder c; summary = summary c.both.x.link }
@@ -189,7 +190,7 @@ lines_of_ends (Some c) =
     ∷ []
 
 -- of the channels with a number below n, in the order of their numbers
-unfoldable pub end_lines_below : {K : Type 0} → ℕ → List (Channel K) → List EndLine
+unfoldable pub end_lines_below : {K : Type 0} → ℕ → List (WorldChannel K) → List EndLine
 end_lines_below zero cs = []
 end_lines_below (suc n) cs = end_lines_below n cs ++ lines_of_ends (channel n cs)
 

@@ -62,7 +62,7 @@ impl<K: ChannelKeys + Copy> Place<K> {
     ghost use Rattle.ln_pair.specs.Ends.{messages_in};
     ghost use Rattle.ln_channels.specs.Lines.{one_or_none};
     ghost use Rattle.ln_channels.specs.Both.{reaches, fallen, halted, restarted, may_come_up};
-    ghost use Rattle.ln_channels.specs.Channel.{may_do};
+    ghost use Rattle.ln_channels.specs.WorldChannel.{may_do};
     ghost use Rattle.ln_channels.specs.Stored.{link_record};
 
     /// An end without a connection, and nothing in flight to it. Takes no memory.

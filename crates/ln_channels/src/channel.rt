@@ -3,7 +3,7 @@
 ghost use Rattle.std.specs.Prelude.{◌≡◌, ◌++◌, IfOk, IfErr, OnOk};
 ghost use Rattle.ln_msgs.specs.declared.refusals.refusal.Refusal.TheVariants as refusal;
 ghost use Rattle.ln_channels.specs.Settings.{CanBring};
-ghost use Rattle.ln_channels.specs.Channel.{opened_by, begun_by};
+ghost use Rattle.ln_channels.specs.WorldChannel.{opened_by, begun_by};
 ghost use Rattle.ln_channels.specs.Failing.{ByRecord, OpeningLacks};
 
 use crate::both::{Place, act, act_unheard, meet};
@@ -19,7 +19,7 @@ use std::marker::Model;
 
 /// A channel between two nodes: its two ends, and what is in flight to each.
 #[derive(Drop)]
-pub struct Channel<K: ChannelKeys + Copy> {
+pub struct WorldChannel<K: ChannelKeys + Copy> {
     number: u8,
     funder_node: Node,
     fundee_node: Node,
@@ -27,8 +27,8 @@ pub struct Channel<K: ChannelKeys + Copy> {
     fundee: Place<K>,
 }
 
-impl<K: ChannelKeys + Copy> Model for Channel<K> {
-    ghost use Rattle.ln_channels.specs.Channel.{Channel as ChannelState};
+impl<K: ChannelKeys + Copy> Model for WorldChannel<K> {
+    ghost use Rattle.ln_channels.specs.WorldChannel.{WorldChannel as ChannelState};
 
     ghost Value = { ChannelState K };
 
@@ -40,15 +40,15 @@ impl<K: ChannelKeys + Copy> Model for Channel<K> {
     } };
 }
 
-impl<K: ChannelKeys + Copy> Channel<K> {
+impl<K: ChannelKeys + Copy> WorldChannel<K> {
     ghost use Rattle.std.specs.Prelude.{◌≡◌, ◌++◌, ◌∷◌, [], Some, OnOk, IfOk, IfErr, if◌then◌else◌};
     ghost use Rattle.ln_keys.specs.declared.role.Role.TheVariants.{Funder, Fundee};
     ghost use Rattle.ln_channels.specs.Settings.{channel_id_of};
     ghost use Rattle.ln_channels.specs.Both.{By, Falls, Restarts, Meet, act_lines, greet_lines, greeting};
-    ghost use Rattle.ln_channels.specs.Channel.{side_of, moved, act_moves, fall_moves, up_moves, acted_lines};
-    ghost use Rattle.ln_channels.specs.Channel.{restart_moves, fallen_lines, place_of, end_of, opening_moves};
-    ghost use Rattle.ln_channels.specs.Channel.{met_lines};
-    ghost use Rattle.ln_channels.specs.Channel.{may_act, acted_unheard, halt_moves};
+    ghost use Rattle.ln_channels.specs.WorldChannel.{side_of, moved, act_moves, fall_moves, up_moves, acted_lines};
+    ghost use Rattle.ln_channels.specs.WorldChannel.{restart_moves, fallen_lines, place_of, end_of, opening_moves};
+    ghost use Rattle.ln_channels.specs.WorldChannel.{met_lines};
+    ghost use Rattle.ln_channels.specs.WorldChannel.{may_act, acted_unheard, halt_moves};
     ghost use Rattle.ln_channel.specs.Summary.{summary};
     ghost use Rattle.ln_channels.specs.World.{lines_of_ends};
     ghost use Rattle.ln_channels.specs.Both.{unheard};
@@ -135,7 +135,7 @@ impl<K: ChannelKeys + Copy> Channel<K> {
 
     /// The node's end acts, where it has one. 60 where there is no memory, 70 where the end has no record as the act
     /// leaves it.
-    #[tactic(auto, unfolding(crate::specs::Channel::acted_lines))]
+    #[tactic(auto, unfolding(crate::specs::WorldChannel::acted_lines))]
     pub fn act(
         &mut self,
         alloc: Global,
@@ -278,7 +278,7 @@ impl<K: ChannelKeys + Copy> Channel<K> {
     }
 
     /// Both ends get a connection, where they may. 60 where there is no memory.
-    #[tactic(auto, unfolding(crate::specs::Channel::met_lines))]
+    #[tactic(auto, unfolding(crate::specs::WorldChannel::met_lines))]
     pub fn come_up(&mut self, alloc: Global, lines: &mut Vec<Line>) -> Result<(), Refusal>
         ensures moved { OnOk result (self.new
             ≡ moved K.signer up_moves self.old) }
@@ -324,7 +324,7 @@ fn begin<K: ChannelKeys + Copy>(
     wish: &Open<K>,
     funder: &Settings,
     fundee: &Settings,
-) -> Result<Channel<K>, Refusal>
+) -> Result<WorldChannel<K>, Refusal>
     requires { CanBring wish.now.satoshis wish.now.push funder.now fundee.now }
     ensures begun { IfOk result (λ c. c ≡ begun_by K.ChannelKeys wish.now funder.now fundee.now) }
     ensures fails_for_memory_alone { IfErr result (λ e. e ≡ refusal.Memory) }
@@ -344,7 +344,7 @@ fn begin<K: ChannelKeys + Copy>(
             return Err(refusal);
         }
     };
-    Ok(Channel {
+    Ok(WorldChannel {
         number: wish.channel,
         funder_node: wish.funder,
         fundee_node: wish.fundee,
@@ -368,7 +368,7 @@ pub fn open_channel<K: ChannelKeys + Copy>(
     wish: &Open<K>,
     funder: &Settings,
     fundee: &Settings,
-) -> Result<Channel<K>, Refusal>
+) -> Result<WorldChannel<K>, Refusal>
     requires { CanBring wish.now.satoshis wish.now.push funder.now fundee.now }
     ensures opened { IfOk result (λ c. c ≡ opened_by K.ChannelKeys wish.now funder.now fundee.now) }
     ensures fails { IfErr result (λ e. ByRecord e (OpeningLacks K.ChannelKeys wish.now funder.now fundee.now)) }

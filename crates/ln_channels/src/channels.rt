@@ -2,15 +2,15 @@
 
 ghost use Rattle.std.specs.Prelude.{◌≡◌, ◌++◌, ◌==◌, position, is_none, option_copied, IfOk, IfErr, OnOk};
 ghost use Rattle.ln_msgs.specs.declared.refusals.refusal.Refusal.TheVariants as refusal;
-ghost use Rattle.ln_channels.specs.Channel.{side_of, acted_lines, fallen_lines, met_lines};
-ghost use Rattle.ln_channels.specs.Channel.{act_moves, fall_moves, restart_moves, up_moves};
-ghost use Rattle.ln_channels.specs.Channel.{halt_moves, stop_moves};
+ghost use Rattle.ln_channels.specs.WorldChannel.{side_of, acted_lines, fallen_lines, met_lines};
+ghost use Rattle.ln_channels.specs.WorldChannel.{act_moves, fall_moves, restart_moves, up_moves};
+ghost use Rattle.ln_channels.specs.WorldChannel.{halt_moves, stop_moves};
 ghost use Rattle.ln_channels.specs.World.{channel, moved_at, all_moved, if_there, lines_of_ends, AreOnce};
 ghost use Rattle.ln_channels.specs.World.{may_be_done, unheard_at};
 ghost use Rattle.ln_channels.specs.Failing.{ByRecord, ActLacksAt};
 ghost use Rattle.ln_channels.specs.Stored.{record_there};
 
-use crate::channel::{Channel, open_channel};
+use crate::channel::{WorldChannel, open_channel};
 use crate::line::{EndLine, Line};
 use crate::settings::Settings;
 use crate::step::{Act, End, Node, Open};
@@ -21,7 +21,7 @@ use std::alloc::Global;
 use std::marker::Model;
 
 /// Where the channel of this number stands.
-fn place_of<K: ChannelKeys + Copy>(channels: &[Channel<K>], number: u8) -> Option<usize>
+fn place_of<K: ChannelKeys + Copy>(channels: &[WorldChannel<K>], number: u8) -> Option<usize>
     ensures { result ≡ position (λ c. c.number == number) channels.now }
 {
     channels
@@ -30,7 +30,10 @@ fn place_of<K: ChannelKeys + Copy>(channels: &[Channel<K>], number: u8) -> Optio
 }
 
 /// The channel of this number, where there is one.
-fn channel_at<K: ChannelKeys + Copy>(channels: &[Channel<K>], number: u8) -> Option<&Channel<K>>
+fn channel_at<K: ChannelKeys + Copy>(
+    channels: &[WorldChannel<K>],
+    number: u8,
+) -> Option<&WorldChannel<K>>
     ensures { option_copied result ≡ channel number channels.now }
 {
     match place_of(channels, number) {
@@ -40,7 +43,7 @@ fn channel_at<K: ChannelKeys + Copy>(channels: &[Channel<K>], number: u8) -> Opt
 }
 
 /// Whether no channel has this number.
-fn is_free<K: ChannelKeys + Copy>(channels: &[Channel<K>], number: u8) -> bool
+fn is_free<K: ChannelKeys + Copy>(channels: &[WorldChannel<K>], number: u8) -> bool
     ensures { result ≡ is_none (channel number channels.now) }
 {
     place_of(channels, number).is_none()
@@ -49,7 +52,7 @@ fn is_free<K: ChannelKeys + Copy>(channels: &[Channel<K>], number: u8) -> bool
 /// Where the two ends of a channel stand, where it is there. 60 where there is no memory.
 fn tell_ends_at<K: ChannelKeys + Copy>(
     alloc: Global,
-    channels: &[Channel<K>],
+    channels: &[WorldChannel<K>],
     number: u8,
     lines: &mut Vec<EndLine>,
 ) -> Result<(), Refusal>
@@ -65,7 +68,7 @@ fn tell_ends_at<K: ChannelKeys + Copy>(
 /// An end acts, where its channel is there. 60 where there is no memory, 70 where the end has no record behind that.
 fn act_at<K: ChannelKeys + Copy>(
     alloc: Global,
-    channels: &mut [Channel<K>],
+    channels: &mut [WorldChannel<K>],
     end: End,
     what: Act,
     lines: &mut Vec<Line>,
@@ -89,7 +92,7 @@ fn act_at<K: ChannelKeys + Copy>(
 
 /// An end loses its connection, where its channel is there. 60 where there is no memory.
 fn fall_at<K: ChannelKeys + Copy>(
-    channels: &mut [Channel<K>],
+    channels: &mut [WorldChannel<K>],
     end: End,
     lines: &mut Vec<Line>,
 ) -> Result<(), Refusal>
@@ -110,7 +113,7 @@ fn fall_at<K: ChannelKeys + Copy>(
 }
 
 /// An end halts, where its channel is there. Takes no memory.
-fn halt_at<K: ChannelKeys + Copy>(channels: &mut [Channel<K>], end: End)
+fn halt_at<K: ChannelKeys + Copy>(channels: &mut [WorldChannel<K>], end: End)
     requires { AreOnce channels.old }
     ensures moved { channels.new ≡ moved_at K.signer end.channel (halt_moves end.node) channels.old }
     ensures once { AreOnce channels.new }
@@ -124,7 +127,7 @@ fn halt_at<K: ChannelKeys + Copy>(channels: &mut [Channel<K>], end: End)
 /// Each end of a node comes back from its record. 60 where there is no memory.
 fn restart_each<K: ChannelKeys + Copy>(
     alloc: Global,
-    channels: &mut [Channel<K>],
+    channels: &mut [WorldChannel<K>],
     node: Node,
 ) -> Result<(), Refusal>
     requires { AreOnce channels.old }
@@ -139,7 +142,7 @@ fn restart_each<K: ChannelKeys + Copy>(
 }
 
 /// Whether an end can act so: its channel is there.
-fn may_act_at<K: ChannelKeys + Copy>(channels: &[Channel<K>], end: End, what: &Act) -> bool
+fn may_act_at<K: ChannelKeys + Copy>(channels: &[WorldChannel<K>], end: End, what: &Act) -> bool
     ensures { result ≡ may_be_done end what.now channels.now }
 {
     match place_of(channels, end.channel) {
@@ -152,7 +155,7 @@ fn may_act_at<K: ChannelKeys + Copy>(channels: &[Channel<K>], end: End, what: &A
 /// has no record behind that.
 fn act_unheard_at<K: ChannelKeys + Copy>(
     alloc: Global,
-    channels: &mut [Channel<K>],
+    channels: &mut [WorldChannel<K>],
     end: End,
     what: Act,
 ) -> Result<(), Refusal>
@@ -174,7 +177,7 @@ fn act_unheard_at<K: ChannelKeys + Copy>(
 /// has no record behind the act.
 fn stop_each<K: ChannelKeys + Copy>(
     alloc: Global,
-    channels: &mut [Channel<K>],
+    channels: &mut [WorldChannel<K>],
     end: End,
     what: Act,
 ) -> Result<(), Refusal>
@@ -191,7 +194,7 @@ fn stop_each<K: ChannelKeys + Copy>(
 /// is no memory.
 fn record_at<K: ChannelKeys + Copy>(
     alloc: Global,
-    channels: &mut [Channel<K>],
+    channels: &mut [WorldChannel<K>],
     end: End,
 ) -> Result<Option<Bytes>, Refusal>
     ensures record { IfOk result (λ found. found ≡ record_there end.node (channel end.channel channels.old)) }
@@ -207,7 +210,7 @@ fn record_at<K: ChannelKeys + Copy>(
 /// Both ends of a channel get a connection, where it is there and they may. 60 where there is no memory.
 fn come_up_at<K: ChannelKeys + Copy>(
     alloc: Global,
-    channels: &mut [Channel<K>],
+    channels: &mut [WorldChannel<K>],
     number: u8,
     lines: &mut Vec<Line>,
 ) -> Result<(), Refusal>
@@ -230,12 +233,12 @@ fn come_up_at<K: ChannelKeys + Copy>(
 /// The channels of a world, in the order of opening, each with a number of its own.
 #[derive(Drop)]
 pub(crate) struct Channels<K: ChannelKeys + Copy> {
-    items: Vec<Channel<K>>,
+    items: Vec<WorldChannel<K>>,
 }
 
 impl<K: ChannelKeys + Copy> Model for Channels<K> {
     ghost use Rattle.std.specs.Prelude.{List};
-    ghost use Rattle.ln_channels.specs.Channel.{Channel as ChannelState};
+    ghost use Rattle.ln_channels.specs.WorldChannel.{WorldChannel as ChannelState};
     ghost use Rattle.ln_channels.specs.World.{AreOnce};
 
     ghost Value = { List (ChannelState K) };
@@ -248,9 +251,9 @@ impl<K: ChannelKeys + Copy> Model for Channels<K> {
 impl<K: ChannelKeys + Copy> Channels<K> {
     ghost use Rattle.std.specs.Prelude.{◌≡◌, ◌++◌, ◌∷◌, [], is_none, None, OnOk, IfOk, IfErr, option_copied};
     ghost use Rattle.ln_channels.specs.Settings.{CanBring};
-    ghost use Rattle.ln_channels.specs.Channel.{side_of, acted_lines, fallen_lines, met_lines, opened_by};
-    ghost use Rattle.ln_channels.specs.Channel.{act_moves, fall_moves, restart_moves, up_moves};
-    ghost use Rattle.ln_channels.specs.Channel.{halt_moves, stop_moves};
+    ghost use Rattle.ln_channels.specs.WorldChannel.{side_of, acted_lines, fallen_lines, met_lines, opened_by};
+    ghost use Rattle.ln_channels.specs.WorldChannel.{act_moves, fall_moves, restart_moves, up_moves};
+    ghost use Rattle.ln_channels.specs.WorldChannel.{halt_moves, stop_moves};
     ghost use Rattle.ln_channels.specs.World.{channel, moved_at, all_moved, if_there, lines_of_ends};
     ghost use Rattle.ln_channels.specs.World.{may_be_done, unheard_at};
     ghost use Rattle.ln_channels.specs.Failing.{ByRecord, ActLacksAt, OpeningLacks};
@@ -266,7 +269,7 @@ impl<K: ChannelKeys + Copy> Channels<K> {
     }
 
     /// The channel of this number, where there is one.
-    pub(crate) fn channel(&self, number: u8) -> Option<&Channel<K>>
+    pub(crate) fn channel(&self, number: u8) -> Option<&WorldChannel<K>>
         ensures { option_copied result ≡ channel number self.now }
     {
         channel_at(&self.items, number)

@@ -16,7 +16,7 @@ mod tell;
 mod world;
 
 pub use both::Place;
-pub use channel::{Channel, open_channel};
+pub use channel::{WorldChannel, open_channel};
 pub use laws::{
     a_shutdown_is_answered, agreement, bases_are_the_longest, channels_open_as_set,
     closed_at_one_fee, closing_ends, commands_are_done_exactly, every_end_has_a_record, headline,

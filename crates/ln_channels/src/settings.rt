@@ -4,7 +4,7 @@ ghost use Rattle.std.specs.Prelude.{◌≡◌, position, OnOk, IfOk, IfErr, IsTr
 ghost use Rattle.ln_msgs.specs.declared.refusals.refusal.Refusal.TheVariants as refusal;
 ghost use Rattle.ln_channels.specs.Settings.{defaults, config_with, config_of, txid_of, channel_id_of, spec_of};
 ghost use Rattle.ln_channels.specs.Settings.{may_bring, CanBring};
-ghost use Rattle.ln_channels.specs.Channel.{is_node};
+ghost use Rattle.ln_channels.specs.WorldChannel.{is_node};
 ghost use Rattle.ln_channels.specs.World.{settings_of, with_settings};
 ghost use Rattle.ln_channel.specs.Config.{IsFitConfig, IsFitSpec};
 

@@ -2,7 +2,7 @@
 
 ghost use Rattle.std.specs.Prelude.{◌≡◌, IsTrue, IsFalse};
 
-use crate::channel::Channel;
+use crate::channel::WorldChannel;
 use crate::channels::Channels;
 use crate::line::{EndLine, Line};
 use crate::settings::{Setting, Settings, may_bring, set_for, settings_of};
@@ -104,7 +104,7 @@ impl<K: ChannelKeys + Copy> World<K> {
     }
 
     /// The channel of this number, where there is one. Takes no memory.
-    pub fn channel(&self, number: u8) -> Option<&Channel<K>>
+    pub fn channel(&self, number: u8) -> Option<&WorldChannel<K>>
         ensures { option_copied result ≡ channel number self.now.channels }
     {
         self.channels.channel(number)

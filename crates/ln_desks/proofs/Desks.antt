@@ -13,7 +13,7 @@ use Rattle.ln_hooks.specs.declared.verdict.Verdict.{Verdict}
 use Rattle.ln_channels.specs.declared.step.End.{End}
 use Rattle.ln_channels.specs.declared.step.Node.{Node}
 use Rattle.ln_channels.specs.declared.step.Step.{Step as ChannelStep}
-use Rattle.ln_channels.specs.Channel.{is_node, end_at}
+use Rattle.ln_channels.specs.WorldChannel.{is_node, end_at}
 use Rattle.ln_channels.specs.Promises.{Each}
 use Rattle.ln_channels.specs.Machine.{AreInStep}
 use Rattle.ln_channels.specs.World.{World as Channels, channel, may_open}

@@ -19,7 +19,7 @@ use Rattle.ln_pair.specs.Told.{as_told}
 use Rattle.ln_pair.specs.Moves.{after_all}
 use Rattle.ln_pair.proofs.Offered.{told_append, events_append}
 use Rattle.ln_channels.specs.declared.step.Step.{Step}
-use Rattle.ln_channels.specs.Channel.{Channel, place_of}
+use Rattle.ln_channels.specs.WorldChannel.{WorldChannel, place_of}
 use Rattle.ln_channels.specs.Promises.{AtEnd}
 use Rattle.ln_channels.specs.Machine.{history, moves_in, AreInStep}
 use Rattle.ln_channels.specs.World.{World, empty, happens, run}
@@ -113,7 +113,7 @@ stage_read n (stage.AwaitsSigned e) evs x h is = absurd h
 stage_read n stage.Gone evs x h is = absurd h
 
 module _ {K : Type 0} where
-  pub event_read : (n : ℕ) (side : Role) (o : Option (Channel K)) (evs : List ChannelEvent) (x : ChannelEvent)
+  pub event_read : (n : ℕ) (side : Role) (o : Option (WorldChannel K)) (evs : List ChannelEvent) (x : ChannelEvent)
       → AreInStep side evs o → undecided_of n (saved_in side o) ≡ Some x → item n evs ≡ Some x
   event_read n side None evs x h is = absurd (cc)
   event_read n side (Some c) evs x h is = stage_read n (place_of side c.both).link.stage evs x h is

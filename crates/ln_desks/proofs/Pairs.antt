@@ -25,8 +25,9 @@ use Rattle.ln_channels.specs.declared.step.Step.{Step as ChannelStep}
 use Rattle.ln_channels.specs.declared.step.Step.TheVariants as channel_step
 use Rattle.ln_channels.specs.Settings.{channel_id_of, may_bring}
 use Rattle.ln_channels.specs.Both.{Move, By, Falls, Halts, Restarts, Stops, Meet}
-use Rattle.ln_channels.specs.Channel.{Channel, is_node, by, side_of, end_at, moved, act_moves, fall_moves, halt_moves}
-use Rattle.ln_channels.specs.Channel.{restart_moves, stop_moves, up_moves, may_meet, opening_moves, begun_by, opened_by}
+use Rattle.ln_channels.specs.WorldChannel.{WorldChannel, is_node, by, side_of, end_at, moved, act_moves, fall_moves}
+use Rattle.ln_channels.specs.WorldChannel.{halt_moves, restart_moves, stop_moves, up_moves, may_meet, opening_moves}
+use Rattle.ln_channels.specs.WorldChannel.{begun_by, opened_by}
 use Rattle.ln_channels.specs.Promises.{Each}
 use Rattle.ln_channels.specs.World.{World as Channels, channel, AreOnce, moved_if, moved_at, all_moved, may_open}
 use Rattle.ln_channels.specs.World.{may_be_done, settings_of, joined, at, everywhere}
@@ -176,15 +177,15 @@ stops_by Fundee a x y h = h
 -- ---- channels, each with two dispatchers
 
 module _ {K : Type 0} where
-  abbrev pub EachPair : (Channel K → Desk → Desk → Type 0) → List (Channel K) → List Desk → Type 0
+  abbrev pub EachPair : (WorldChannel K → Desk → Desk → Type 0) → List (WorldChannel K) → List Desk → Type 0
   EachPair F [] [] = Unit {0}
   EachPair F (c ∷ cs) (x ∷ y ∷ ds) = F c x y × EachPair F cs ds
   EachPair F [] (d ∷ ds) = ⊥
   EachPair F (c ∷ cs) [] = ⊥
   EachPair F (c ∷ cs) (x ∷ []) = ⊥
 
-  pairs-to : (F G : Channel K → Desk → Desk → Type 0)
-      → ((c : Channel K) (x y : Desk) → F c x y → G c x y) → (cs : List (Channel K)) (ds : List Desk)
+  pairs-to : (F G : WorldChannel K → Desk → Desk → Type 0)
+      → ((c : WorldChannel K) (x y : Desk) → F c x y → G c x y) → (cs : List (WorldChannel K)) (ds : List Desk)
       → EachPair F cs ds → EachPair G cs ds
   pairs-to F G f [] [] h = tt
   pairs-to F G f (c ∷ cs) (x ∷ y ∷ ds) h = (f c x y h.0, pairs-to F G f cs ds h.1)
@@ -192,8 +193,8 @@ module _ {K : Type 0} where
   pairs-to F G f (c ∷ cs) [] h = elim h [ ]
   pairs-to F G f (c ∷ cs) (x ∷ []) h = elim h [ ]
 
-  pairs-map : (F G : Channel K → Desk → Desk → Type 0) (m : Channel K → Channel K)
-      → ((c : Channel K) (x y : Desk) → F c x y → G (m c) x y) → (cs : List (Channel K)) (ds : List Desk)
+  pairs-map : (F G : WorldChannel K → Desk → Desk → Type 0) (m : WorldChannel K → WorldChannel K)
+      → ((c : WorldChannel K) (x y : Desk) → F c x y → G (m c) x y) → (cs : List (WorldChannel K)) (ds : List Desk)
       → EachPair F cs ds → EachPair G (map m cs) ds
   pairs-map F G m f [] [] h = tt
   pairs-map F G m f (c ∷ cs) (x ∷ y ∷ ds) h = (f c x y h.0, pairs-map F G m f cs ds h.1)
@@ -202,8 +203,8 @@ module _ {K : Type 0} where
   pairs-map F G m f (c ∷ cs) (x ∷ []) h = elim h [ ]
 
   -- each dispatcher moves so
-  pairs-desks : (F G : Channel K → Desk → Desk → Type 0) (m : Desk → Desk)
-      → ((c : Channel K) (x y : Desk) → F c x y → G c (m x) (m y)) → (cs : List (Channel K)) (ds : List Desk)
+  pairs-desks : (F G : WorldChannel K → Desk → Desk → Type 0) (m : Desk → Desk)
+      → ((c : WorldChannel K) (x y : Desk) → F c x y → G c (m x) (m y)) → (cs : List (WorldChannel K)) (ds : List Desk)
       → EachPair F cs ds → EachPair G cs (map m ds)
   pairs-desks F G m f [] [] h = tt
   pairs-desks F G m f (c ∷ cs) (x ∷ y ∷ ds) h = (f c x y h.0, pairs-desks F G m f cs ds h.1)
@@ -211,7 +212,7 @@ module _ {K : Type 0} where
   pairs-desks F G m f (c ∷ cs) [] h = elim h [ ]
   pairs-desks F G m f (c ∷ cs) (x ∷ []) h = elim h [ ]
 
-  pairs-both : (F G : Channel K → Desk → Desk → Type 0) (cs : List (Channel K)) (ds : List Desk)
+  pairs-both : (F G : WorldChannel K → Desk → Desk → Type 0) (cs : List (WorldChannel K)) (ds : List Desk)
       → EachPair F cs ds → EachPair G cs ds → EachPair (λ c x y. F c x y × G c x y) cs ds
   pairs-both F G [] [] h g = tt
   pairs-both F G (c ∷ cs) (x ∷ y ∷ ds) h g = ((h.0, g.0), pairs-both F G cs ds h.1 g.1)
@@ -219,7 +220,7 @@ module _ {K : Type 0} where
   pairs-both F G (c ∷ cs) [] h g = elim h [ ]
   pairs-both F G (c ∷ cs) (x ∷ []) h g = elim h [ ]
 
-  pairs-with : (P : Channel K → Type 0) (F : Channel K → Desk → Desk → Type 0) (cs : List (Channel K))
+  pairs-with : (P : WorldChannel K → Type 0) (F : WorldChannel K → Desk → Desk → Type 0) (cs : List (WorldChannel K))
       (ds : List Desk) → Each P cs → EachPair F cs ds → EachPair (λ c x y. P c × F c x y) cs ds
   pairs-with P F [] [] h g = tt
   pairs-with P F (c ∷ cs) (x ∷ y ∷ ds) h g = ((h.0, g.0), pairs-with P F cs ds h.1 g.1)
@@ -227,7 +228,8 @@ module _ {K : Type 0} where
   pairs-with P F (c ∷ cs) [] h g = elim g [ ]
   pairs-with P F (c ∷ cs) (x ∷ []) h g = elim g [ ]
 
-  pairs-push : (F : Channel K → Desk → Desk → Type 0) (c : Channel K) (x y : Desk) (cs : List (Channel K))
+  pairs-push : (F : WorldChannel K → Desk → Desk → Type 0) (c : WorldChannel K) (x y : Desk)
+      (cs : List (WorldChannel K))
       (ds : List Desk) → EachPair F cs ds → F c x y → EachPair F (cs ++ c ∷ []) (ds ++ x ∷ y ∷ [])
   pairs-push F c x y [] [] h n = (n, tt)
   pairs-push F c x y (b ∷ cs) (u ∷ v ∷ ds) h n = (h.0, pairs-push F c x y cs ds h.1 n)
@@ -235,8 +237,8 @@ module _ {K : Type 0} where
   pairs-push F c x y (b ∷ cs) [] h n = elim h [ ]
   pairs-push F c x y (b ∷ cs) (u ∷ []) h n = elim h [ ]
 
-  pairs-each : (F : Channel K → Desk → Desk → Type 0) (P : Desk → Type 0)
-      → ((c : Channel K) (x y : Desk) → F c x y → P x × P y) → (cs : List (Channel K)) (ds : List Desk)
+  pairs-each : (F : WorldChannel K → Desk → Desk → Type 0) (P : Desk → Type 0)
+      → ((c : WorldChannel K) (x y : Desk) → F c x y → P x × P y) → (cs : List (WorldChannel K)) (ds : List Desk)
       → EachPair F cs ds → Each P ds
   pairs-each F P f [] [] h = tt
   pairs-each F P f (c ∷ cs) (x ∷ y ∷ ds) h =
@@ -245,30 +247,30 @@ module _ {K : Type 0} where
   pairs-each F P f (c ∷ cs) [] h = elim h [ ]
   pairs-each F P f (c ∷ cs) (x ∷ []) h = elim h [ ]
 
-  pub record Pair (c : Channel K) (x y : Desk) : Type 0 where
+  pub record Pair (c : WorldChannel K) (x y : Desk) : Type 0 where
     pub funder : x.end ≡ end_at c.number c.funder
     pub fundee : y.end ≡ end_at c.number c.fundee
     pub sides : (x.side ≡ Funder) × (y.side ≡ Fundee)
     pub decided : AtBoth (Between x) (Between y) c.both
 
-  pub record Aligned (cs : List (Channel K)) (ds : List Desk) : Type 0 where
+  pub record Aligned (cs : List (WorldChannel K)) (ds : List Desk) : Type 0 where
     pub once : AreOnce cs
     pub pairs : EachPair Pair cs ds
 
   -- ---- numbers
 
-  parted : (b : Bool) (c : Channel K) (o : Option (Channel K)) → cond b (Some c) o ≡ None
+  parted : (b : Bool) (c : WorldChannel K) (o : Option (WorldChannel K)) → cond b (Some c) o ≡ None
       → (b ≡ false) × (o ≡ None)
   parted true c o e = absurd (cc)
   parted false c o e = (refl, e)
 
-  others : (n : ℕ) (cs : List (Channel K)) → channel n cs ≡ None → Each (λ c. (c.number == n) ≡ false) cs
+  others : (n : ℕ) (cs : List (WorldChannel K)) → channel n cs ≡ None → Each (λ c. (c.number == n) ≡ false) cs
   others n [] h = tt
   others n (c ∷ cs) h =
       let p : ((c.number == n) ≡ false) × (channel n cs ≡ None) = parted (c.number == n) c (channel n cs) h in
       (p.0, others n cs p.1)
 
-  found_later : (c : Channel K) (cs ds : List (Channel K)) → Each (λ d. (d.number == c.number) ≡ false) ds
+  found_later : (c : WorldChannel K) (cs ds : List (WorldChannel K)) → Each (λ d. (d.number == c.number) ≡ false) ds
       → Each (λ d. channel d.number cs ≡ Some d) ds → Each (λ d. channel d.number (c ∷ cs) ≡ Some d) ds
   found_later c cs [] h g = tt
   found_later c cs (d ∷ ds) h g = (
@@ -276,27 +278,28 @@ module _ {K : Type 0} where
     found_later c cs ds h.1 g.1,
   )
 
-  all_found : (cs : List (Channel K)) → AreOnce cs → Each (λ c. channel c.number cs ≡ Some c) cs
+  all_found : (cs : List (WorldChannel K)) → AreOnce cs → Each (λ c. channel c.number cs ≡ Some c) cs
   all_found [] h = tt
   all_found (c ∷ cs) h = (
     ap (λ b. cond b (Some c) (channel c.number cs)) (eq-eqb c.number c.number refl),
     found_later c cs cs (others c.number cs h.0) (all_found cs h.1),
   )
 
-  none_by : (b : Bool) (c : Channel K) (o : Option (Channel K)) → b ≡ false → o ≡ None → cond b (Some c) o ≡ None
+  none_by : (b : Bool) (c : WorldChannel K) (o : Option (WorldChannel K)) → b ≡ false → o ≡ None
+      → cond b (Some c) o ≡ None
   none_by true c o h e = absurd (cc)
   none_by false c o h e = e
 
-  none_map : (m : Channel K → Channel K) → ((c : Channel K) → (m c).number ≡ c.number) → (n : ℕ)
-      (cs : List (Channel K)) → channel n cs ≡ None → channel n (map m cs) ≡ None
+  none_map : (m : WorldChannel K → WorldChannel K) → ((c : WorldChannel K) → (m c).number ≡ c.number) → (n : ℕ)
+      (cs : List (WorldChannel K)) → channel n cs ≡ None → channel n (map m cs) ≡ None
   none_map m same n [] h = refl
   none_map m same n (c ∷ cs) h =
       let p : ((c.number == n) ≡ false) × (channel n cs ≡ None) = parted (c.number == n) c (channel n cs) h in
       none_by ((m c).number == n) (m c) (channel n (map m cs)) (ap (λ i. i == n) (same c) ∙ p.0)
       (none_map m same n cs p.1)
 
-  once_map : (m : Channel K → Channel K) → ((c : Channel K) → (m c).number ≡ c.number) → (cs : List (Channel K))
-      → AreOnce cs → AreOnce (map m cs)
+  once_map : (m : WorldChannel K → WorldChannel K) → ((c : WorldChannel K) → (m c).number ≡ c.number)
+      → (cs : List (WorldChannel K)) → AreOnce cs → AreOnce (map m cs)
   once_map m same [] h = tt
   once_map m same (c ∷ cs) h = (
     subst (λ n. channel n (map m cs) ≡ None) (sym (same c)) (none_map m same c.number cs h.0),
@@ -305,7 +308,7 @@ module _ {K : Type 0} where
 
   -- ---- the dispatcher of a side
 
-  passed_over : (e : End) (c : Channel K) (x y : Desk) (ds : List Desk) → Pair c x y
+  passed_over : (e : End) (c : WorldChannel K) (x y : Desk) (ds : List Desk) → Pair c x y
       → (c.number == e.channel) ≡ false → desk_at e (x ∷ y ∷ ds) ≡ desk_at e ds
   passed_over e c x y ds h other =
       let not_x : is_at e x ≡ false =
@@ -316,7 +319,7 @@ module _ {K : Type 0} where
       ∙ and_false (is_node c.fundee e.node) in
       ap (λ b. cond b (Some x) (desk_at e (y ∷ ds))) not_x ∙ ap (λ b. cond b (Some y) (desk_at e ds)) not_y
 
-  found_here : (e : End) (c : Channel K) (x y : Desk) (ds : List Desk) (side : Role) → Pair c x y
+  found_here : (e : End) (c : WorldChannel K) (x y : Desk) (ds : List Desk) (side : Role) → Pair c x y
       → (c.number == e.channel) ≡ true → side_of e.node c ≡ Some side
       → desk_at e (x ∷ y ∷ ds) ≡ Some (desk_of side x y)
   found_here e c x y ds side h here is =
@@ -330,11 +333,11 @@ module _ {K : Type 0} where
       ∙ ap (λ b. cond (is_node c.funder e.node) (Some x) (cond b (Some y) (desk_at e ds))) at_y
       ∙ side_by (is_node c.funder e.node) (is_node c.fundee e.node) side x y (desk_at e ds) is
 
-  abbrev IsFound : End → List Desk → Channel K → Desk → Desk → Type 0
+  abbrev IsFound : End → List Desk → WorldChannel K → Desk → Desk → Type 0
   IsFound e all c x y =
       (side : Role) → c.number ≡ e.channel → side_of e.node c ≡ Some side → desk_at e all ≡ Some (desk_of side x y)
 
-  found_by : (b : Bool) (e : End) (c : Channel K) (x y : Desk) (cs : List (Channel K)) (ds : List Desk)
+  found_by : (b : Bool) (e : End) (c : WorldChannel K) (x y : Desk) (cs : List (WorldChannel K)) (ds : List Desk)
       → (c.number == e.channel) ≡ b → channel c.number cs ≡ None → Pair c x y → EachPair Pair cs ds
       → EachPair (IsFound e ds) cs ds → EachPair (IsFound e (x ∷ y ∷ ds)) (c ∷ cs) (x ∷ y ∷ ds)
   found_by true e c x y cs ds here alone h hs rest = (
@@ -351,7 +354,7 @@ module _ {K : Type 0} where
         (λ d u v f side n is. passed_over e c x y ds h other ∙ f side n is) cs ds rest,
   )
 
-  found : (e : End) (cs : List (Channel K)) (ds : List Desk) → AreOnce cs → EachPair Pair cs ds
+  found : (e : End) (cs : List (WorldChannel K)) (ds : List Desk) → AreOnce cs → EachPair Pair cs ds
       → EachPair (IsFound e ds) cs ds
   found e [] [] once h = tt
   found e (c ∷ cs) (x ∷ y ∷ ds) once h =
@@ -362,10 +365,10 @@ module _ {K : Type 0} where
 
   -- ---- channels that move
 
-  abbrev Fits : (Channel K → List Move) → Channel K → Desk → Desk → Type 0
+  abbrev Fits : (WorldChannel K → List Move) → WorldChannel K → Desk → Desk → Type 0
   Fits f c x y = Each (KeptByMove (Between x) (Between y)) (f c)
 
-  pair_moved : (signer : K → Signer) (f : Channel K → List Move) (c : Channel K) (x y : Desk) → Fits f c x y
+  pair_moved : (signer : K → Signer) (f : WorldChannel K → List Move) (c : WorldChannel K) (x y : Desk) → Fits f c x y
       → Pair c x y → Pair (moved signer f c) x y
   pair_moved signer f c x y i h = record {
     funder = h.funder;
@@ -374,21 +377,21 @@ module _ {K : Type 0} where
     decided = all_so (Between x) (Between y) signer (channel_id_of c.number) (f c) c.both i h.decided;
   }
 
-  pair_moved_if : (b : Bool) (signer : K → Signer) (f : Channel K → List Move) (c : Channel K) (x y : Desk)
+  pair_moved_if : (b : Bool) (signer : K → Signer) (f : WorldChannel K → List Move) (c : WorldChannel K) (x y : Desk)
       → (b ≡ true → Fits f c x y) → Pair c x y → Pair (cond b (moved signer f c) c) x y
   pair_moved_if true signer f c x y i h = pair_moved signer f c x y (i refl) h
   pair_moved_if false signer f c x y i h = h
 
-  same_number : (b : Bool) (signer : K → Signer) (f : Channel K → List Move) (c : Channel K)
+  same_number : (b : Bool) (signer : K → Signer) (f : WorldChannel K → List Move) (c : WorldChannel K)
       → (cond b (moved signer f c) c).number ≡ c.number
   same_number true signer f c = refl
   same_number false signer f c = refl
 
-  abbrev FitsAt : ℕ → (Channel K → List Move) → Channel K → Desk → Desk → Type 0
+  abbrev FitsAt : ℕ → (WorldChannel K → List Move) → WorldChannel K → Desk → Desk → Type 0
   FitsAt n f c x y = c.number ≡ n → Fits f c x y
 
-  moves_at : (signer : K → Signer) (n : ℕ) (f : Channel K → List Move) (cs : List (Channel K)) (ds : List Desk)
-      → EachPair (FitsAt n f) cs ds → Aligned cs ds → Aligned (moved_at signer n f cs) ds
+  moves_at : (signer : K → Signer) (n : ℕ) (f : WorldChannel K → List Move) (cs : List (WorldChannel K))
+      (ds : List Desk) → EachPair (FitsAt n f) cs ds → Aligned cs ds → Aligned (moved_at signer n f cs) ds
   moves_at signer n f cs ds i h = record {
     once = once_map (moved_if signer n f) (λ c. same_number (c.number == n) signer f c) cs h.once;
     pairs = pairs-map (λ c x y. FitsAt n f c x y × Pair c x y) Pair (moved_if signer n f)
@@ -396,7 +399,7 @@ module _ {K : Type 0} where
         (pairs-both (FitsAt n f) Pair cs ds i h.pairs);
   }
 
-  moves_all : (signer : K → Signer) (f : Channel K → List Move) (cs : List (Channel K)) (ds : List Desk)
+  moves_all : (signer : K → Signer) (f : WorldChannel K → List Move) (cs : List (WorldChannel K)) (ds : List Desk)
       → EachPair (Fits f) cs ds → Aligned cs ds → Aligned (all_moved signer f cs) ds
   moves_all signer f cs ds i h = record {
     once = once_map (moved signer f) (λ c. refl) cs h.once;
@@ -407,45 +410,45 @@ module _ {K : Type 0} where
   -- ---- which moves they are
 
   -- what decides nothing
-  falls : (n : Node) (c : Channel K) (x y : Desk) → Fits (fall_moves n) c x y
+  falls : (n : Node) (c : WorldChannel K) (x y : Desk) → Fits (fall_moves n) c x y
   falls n c x y = moves_by (Between x) (Between y) (side_of n c) Falls (λ side is. tt)
 
-  halts : (n : Node) (c : Channel K) (x y : Desk) → Fits (halt_moves n) c x y
+  halts : (n : Node) (c : WorldChannel K) (x y : Desk) → Fits (halt_moves n) c x y
   halts n c x y = moves_by (Between x) (Between y) (side_of n c) Halts (λ side is. tt)
 
-  comes_back : (n : Node) (c : Channel K) (x y : Desk) → Fits (restart_moves n) c x y
+  comes_back : (n : Node) (c : WorldChannel K) (x y : Desk) → Fits (restart_moves n) c x y
   comes_back n c x y = moves_by (Between x) (Between y) (side_of n c) Restarts (λ side is. tt)
 
-  meets : (c : Channel K) (x y : Desk) → Fits up_moves c x y
+  meets : (c : WorldChannel K) (x y : Desk) → Fits up_moves c x y
   meets c x y = either (Between x) (Between y) (may_meet c.both) (Meet ∷ []) [] (λ is. (tt, tt)) tt
 
-  each_at : (n : ℕ) (f : Channel K → List Move) → ((c : Channel K) (x y : Desk) → Fits f c x y)
-      → (cs : List (Channel K)) (ds : List Desk) → EachPair Pair cs ds → EachPair (FitsAt n f) cs ds
+  each_at : (n : ℕ) (f : WorldChannel K → List Move) → ((c : WorldChannel K) (x y : Desk) → Fits f c x y)
+      → (cs : List (WorldChannel K)) (ds : List Desk) → EachPair Pair cs ds → EachPair (FitsAt n f) cs ds
   each_at n f fits cs ds h = pairs-to Pair (FitsAt n f) (λ c x y p is. fits c x y) cs ds h
 
-  each_all : (f : Channel K → List Move) → ((c : Channel K) (x y : Desk) → Fits f c x y)
-      → (cs : List (Channel K)) (ds : List Desk) → EachPair Pair cs ds → EachPair (Fits f) cs ds
+  each_all : (f : WorldChannel K → List Move) → ((c : WorldChannel K) (x y : Desk) → Fits f c x y)
+      → (cs : List (WorldChannel K)) (ds : List Desk) → EachPair Pair cs ds → EachPair (Fits f) cs ds
   each_all f fits cs ds h = pairs-to Pair (Fits f) (λ c x y p. fits c x y) cs ds h
 
-  abbrev MayDecide : End → Act → Channel K → Desk → Desk → Type 0
+  abbrev MayDecide : End → Act → WorldChannel K → Desk → Desk → Type 0
   MayDecide e a c x y =
       c.number ≡ e.channel → (side : Role) → side_of e.node c ≡ Some side → KeptBy (Between (desk_of side x y)) a
 
-  may_decide : (e : End) (a : Act) (cs : List (Channel K)) (ds : List Desk) → Allowed a (desk_at e ds)
+  may_decide : (e : End) (a : Act) (cs : List (WorldChannel K)) (ds : List Desk) → Allowed a (desk_at e ds)
       → Aligned cs ds → EachPair (MayDecide e a) cs ds
   may_decide e a cs ds may h =
       pairs-to (IsFound e ds) (MayDecide e a)
       (λ c x y f n side is. kept_by a (desk_of side x y) (subst (Allowed a) (f side n is) may)) cs ds
       (found e cs ds h.once h.pairs)
 
-  acts : (e : End) (a : Act) (cs : List (Channel K)) (ds : List Desk) → Allowed a (desk_at e ds)
+  acts : (e : End) (a : Act) (cs : List (WorldChannel K)) (ds : List Desk) → Allowed a (desk_at e ds)
       → Aligned cs ds → EachPair (FitsAt e.channel (act_moves e.node a)) cs ds
   acts e a cs ds may h =
       pairs-to (MayDecide e a) (FitsAt e.channel (act_moves e.node a))
       (λ c x y f n. moves_by (Between x) (Between y) (side_of e.node c) (λ side. By side a)
       (λ side is. acts_by side a x y (f n side is))) cs ds (may_decide e a cs ds may h)
 
-  stops : (e : End) (a : Act) (cs : List (Channel K)) (ds : List Desk) → Allowed a (desk_at e ds)
+  stops : (e : End) (a : Act) (cs : List (WorldChannel K)) (ds : List Desk) → Allowed a (desk_at e ds)
       → Aligned cs ds → EachPair (Fits (stop_moves e a)) cs ds
   stops e a cs ds may h =
       pairs-to (MayDecide e a) (Fits (stop_moves e a))
@@ -457,7 +460,7 @@ module _ {K : Type 0} where
 
   -- ---- dispatchers that move
 
-  first_moves : (f : Desk → Desk) (c : Channel K) (x y : Desk) → Stays f x → Pair c x y → Pair c (f x) y
+  first_moves : (f : Desk → Desk) (c : WorldChannel K) (x y : Desk) → Stays f x → Pair c x y → Pair c (f x) y
   first_moves f c x y s h = record {
     funder = s.end ∙ h.funder;
     fundee = h.fundee;
@@ -465,7 +468,7 @@ module _ {K : Type 0} where
     decided = (at-to (Between x) (Between (f x)) s.within c.both.x.link.stage h.decided.0, h.decided.1);
   }
 
-  second_moves : (f : Desk → Desk) (c : Channel K) (x y : Desk) → Stays f y → Pair c x y → Pair c x (f y)
+  second_moves : (f : Desk → Desk) (c : WorldChannel K) (x y : Desk) → Stays f y → Pair c x y → Pair c x (f y)
   second_moves f c x y s h = record {
     funder = h.funder;
     fundee = s.end ∙ h.fundee;
@@ -473,7 +476,7 @@ module _ {K : Type 0} where
     decided = (h.decided.0, at-to (Between y) (Between (f y)) s.within c.both.y.link.stage h.decided.1);
   }
 
-  one_by : (a b : Bool) (e : End) (f : Desk → Desk) (c : Channel K) (x y : Desk) (cs : List (Channel K))
+  one_by : (a b : Bool) (e : End) (f : Desk → Desk) (c : WorldChannel K) (x y : Desk) (cs : List (WorldChannel K))
       (ds : List Desk) → ((d : Desk) → Stays f d) → Pair c x y → EachPair Pair cs ds
       → EachPair Pair cs (at_desk e f ds)
       → EachPair Pair (c ∷ cs) (cond a (f x ∷ y ∷ ds) (x ∷ cond b (f y ∷ ds) (y ∷ at_desk e f ds)))
@@ -481,7 +484,7 @@ module _ {K : Type 0} where
   one_by false true e f c x y cs ds s h hs rest = (second_moves f c x y (s y) h, hs)
   one_by false false e f c x y cs ds s h hs rest = (h, rest)
 
-  one_moves : (e : End) (f : Desk → Desk) → ((d : Desk) → Stays f d) → (cs : List (Channel K)) (ds : List Desk)
+  one_moves : (e : End) (f : Desk → Desk) → ((d : Desk) → Stays f d) → (cs : List (WorldChannel K)) (ds : List Desk)
       → EachPair Pair cs ds → EachPair Pair cs (at_desk e f ds)
   one_moves e f s [] [] h = tt
   one_moves e f s (c ∷ cs) (x ∷ y ∷ ds) h =
@@ -492,7 +495,7 @@ module _ {K : Type 0} where
 
   -- ---- dispatchers that begin anew
 
-  decided_at : (w : Channels K) (d : Desk) (side : Role) (n : ℕ) (node : Node) (c : Channel K) → d.side ≡ side
+  decided_at : (w : Channels K) (d : Desk) (side : Role) (n : ℕ) (node : Node) (c : WorldChannel K) → d.side ≡ side
       → d.end ≡ end_at n node → channel n w.channels ≡ Some c
       → decided_for d w ≡ decided_of (saved_in side (Some c))
   decided_at w d side n node c s e is =
@@ -500,7 +503,7 @@ module _ {K : Type 0} where
       ∙ ap (λ (x : End). decided_of (saved_in side (channel x.channel w.channels))) e
       ∙ ap (λ o. decided_of (saved_in side o)) is
 
-  first_anew : (b : Bool) (m : ℕ) (c : Channel K) (x y : Desk) → m ≡ decided_of (saved_end c.both.x.link.stage)
+  first_anew : (b : Bool) (m : ℕ) (c : WorldChannel K) (x y : Desk) → m ≡ decided_of (saved_end c.both.x.link.stage)
       → Pair c x y → Pair c (cond b (restarted m x) x) y
   first_anew true m c x y is h = record {
     funder = h.funder;
@@ -514,7 +517,7 @@ module _ {K : Type 0} where
   }
   first_anew false m c x y is h = h
 
-  second_anew : (b : Bool) (m : ℕ) (c : Channel K) (x y : Desk) → m ≡ decided_of (saved_end c.both.y.link.stage)
+  second_anew : (b : Bool) (m : ℕ) (c : WorldChannel K) (x y : Desk) → m ≡ decided_of (saved_end c.both.y.link.stage)
       → Pair c x y → Pair c x (cond b (restarted m y) y)
   second_anew true m c x y is h = record {
     funder = h.funder;
@@ -528,7 +531,7 @@ module _ {K : Type 0} where
   }
   second_anew false m c x y is h = h
 
-  pair_anew : (n : Node) (w : Channels K) (c : Channel K) (x y : Desk) → channel c.number w.channels ≡ Some c
+  pair_anew : (n : Node) (w : Channels K) (c : WorldChannel K) (x y : Desk) → channel c.number w.channels ≡ Some c
       → Pair c x y → Pair c (restarts n w x) (restarts n w y)
   pair_anew n w c x y is h =
       second_anew (is_node y.end.node n) (decided_for y w) c (restarts n w x) y
@@ -680,16 +683,16 @@ module _ {K : Type 0} (k : Ghosts K) where
   anew_by true n new ds h = all_anew n new ds h
   anew_by false n new ds h = h
 
-  one_by_one : (e : End) (f : Desk → Desk) (cs : List (Channel K)) (ds : List Desk) → ((d : Desk) → Stays f d)
+  one_by_one : (e : End) (f : Desk → Desk) (cs : List (WorldChannel K)) (ds : List Desk) → ((d : Desk) → Stays f d)
       → Aligned cs ds → Aligned cs (at_desk e f ds)
   one_by_one e f cs ds s h = record { once = h.once; pairs = one_moves e f s cs ds h.pairs }
 
-  served_by : (e : End) (v : Verdict) (o : Option (ℕ × ChannelEvent)) (cs : List (Channel K)) (ds : List Desk)
+  served_by : (e : End) (v : Verdict) (o : Option (ℕ × ChannelEvent)) (cs : List (WorldChannel K)) (ds : List Desk)
       → Aligned cs ds → Aligned cs (served_at e v o ds)
   served_by e v None cs ds h = h
   served_by e v (Some p) cs ds h = one_by_one e (serving p.1 v) cs ds (served_stays p.1 v) h
 
-  seated_by : (b : Bool) (e : End) (hook : ℕ) (cs : List (Channel K)) (ds : List Desk) → Aligned cs ds
+  seated_by : (b : Bool) (e : End) (hook : ℕ) (cs : List (WorldChannel K)) (ds : List Desk) → Aligned cs ds
       → Aligned cs (cond b (at_desk e (registered hook) ds) ds)
   seated_by true e hook cs ds h = one_by_one e (registered hook) cs ds (seated_stays hook) h
   seated_by false e hook cs ds h = h

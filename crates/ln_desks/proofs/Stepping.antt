@@ -15,7 +15,7 @@ use Rattle.ln_channels.specs.declared.step.Act.{Act}
 use Rattle.ln_channels.specs.declared.step.End.{End}
 use Rattle.ln_channels.specs.declared.step.Node.{Node}
 use Rattle.ln_channels.specs.declared.step.Open.{Open}
-use Rattle.ln_channels.specs.Channel.{is_node, end_at}
+use Rattle.ln_channels.specs.WorldChannel.{is_node, end_at}
 use Rattle.ln_channels.specs.World.{World as Channels, may_open}
 use Rattle.ln_desks.specs.declared.step.Step.{Step}
 use Rattle.ln_desks.specs.declared.step.Step.TheVariants as step

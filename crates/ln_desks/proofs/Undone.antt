@@ -17,8 +17,8 @@ use Rattle.ln_channels.specs.declared.step.Step.TheVariants as channel_step
 use Rattle.ln_channels.specs.Settings.{channel_id_of}
 use Rattle.ln_channels.specs.Both.{Both, Move, By, Falls, Halts, Restarts, Stops, Meet}
 use Rattle.ln_channels.specs.Both as both
-use Rattle.ln_channels.specs.Channel.{Channel, moved, act_moves, fall_moves, halt_moves, restart_moves, stop_moves}
-use Rattle.ln_channels.specs.Channel.{up_moves, opened_by}
+use Rattle.ln_channels.specs.WorldChannel.{WorldChannel, moved, act_moves, fall_moves, halt_moves, restart_moves}
+use Rattle.ln_channels.specs.WorldChannel.{stop_moves, up_moves, opened_by}
 use Rattle.ln_channels.specs.Promises.{Each}
 use Rattle.ln_channels.specs.World.{World as Channels, channel, moved_if, may_open, may_be_done, settings_of}
 use Rattle.ln_channels.specs.World.{joined, at, everywhere}
@@ -72,7 +72,7 @@ moves_so m n (x ∷ xs) = (move_so m n x, moves_so m n xs)
 
 module _ {K : Type 0} where
   -- of a channel's end of this side
-  abbrev GoesOn : Role → Channel K → Channel K → Type 0
+  abbrev GoesOn : Role → WorldChannel K → WorldChannel K → Type 0
   GoesOn side c d = decided_of (saved_in side (Some c)) ≤ decided_of (saved_in side (Some d))
 
   both_so : (signer : K → Signer) (id : List ℕ) (ms : List Move) (p : Both K)
@@ -82,7 +82,7 @@ module _ {K : Type 0} where
       (moves_so (decided_of (saved_end p.x.link.stage)) (decided_of (saved_end p.y.link.stage)) ms)
       (stands p.x.link.stage, stands p.y.link.stage)
 
-  moved_so : (signer : K → Signer) (f : Channel K → List Move) (side : Role) (c : Channel K)
+  moved_so : (signer : K → Signer) (f : WorldChannel K → List Move) (side : Role) (c : WorldChannel K)
       → GoesOn side c (moved signer f c)
   moved_so signer f Funder c =
       at_saved (AtLeast c.both.x.link.stage) (moved signer f c).both.x.link.stage
@@ -91,49 +91,50 @@ module _ {K : Type 0} where
       at_saved (AtLeast c.both.y.link.stage) (moved signer f c).both.y.link.stage
       (both_so signer (channel_id_of c.number) (f c) c.both).1
 
-  if_so : (b : Bool) (signer : K → Signer) (f : Channel K → List Move) (side : Role) (c : Channel K)
+  if_so : (b : Bool) (signer : K → Signer) (f : WorldChannel K → List Move) (side : Role) (c : WorldChannel K)
       → GoesOn side c (cond b (moved signer f c) c)
   if_so true signer f side c = moved_so signer f side c
   if_so false signer f side c = omega arith
 
-  if_number : (b : Bool) (signer : K → Signer) (f : Channel K → List Move) (c : Channel K)
+  if_number : (b : Bool) (signer : K → Signer) (f : WorldChannel K → List Move) (c : WorldChannel K)
       → (cond b (moved signer f c) c).number ≡ c.number
   if_number true signer f c = refl
   if_number false signer f c = refl
 
   -- ---- channels by their numbers
 
-  abbrev AllGoOn : Role → ℕ → List (Channel K) → List (Channel K) → Type 0
+  abbrev AllGoOn : Role → ℕ → List (WorldChannel K) → List (WorldChannel K) → Type 0
   AllGoOn side n cs ds = decided_of (saved_in side (channel n cs)) ≤ decided_of (saved_in side (channel n ds))
 
-  found_so : (b : Bool) (side : Role) (c d : Channel K) (o p : Option (Channel K)) → GoesOn side c d
+  found_so : (b : Bool) (side : Role) (c d : WorldChannel K) (o p : Option (WorldChannel K)) → GoesOn side c d
       → decided_of (saved_in side o) ≤ decided_of (saved_in side p)
       → decided_of (saved_in side (cond b (Some c) o)) ≤ decided_of (saved_in side (cond b (Some d) p))
   found_so true side c d o p h g = h
   found_so false side c d o p h g = g
 
-  each_so : (m : Channel K → Channel K) → ((c : Channel K) → (m c).number ≡ c.number) → (side : Role)
-      → ((c : Channel K) → GoesOn side c (m c)) → (n : ℕ) (cs : List (Channel K)) → AllGoOn side n cs (map m cs)
+  each_so : (m : WorldChannel K → WorldChannel K) → ((c : WorldChannel K) → (m c).number ≡ c.number) → (side : Role)
+      → ((c : WorldChannel K) → GoesOn side c (m c)) → (n : ℕ) (cs : List (WorldChannel K))
+      → AllGoOn side n cs (map m cs)
   each_so m same side h n [] = omega arith
   each_so m same side h n (c ∷ cs) =
       subst (λ i. decided_of (saved_in side (channel n (c ∷ cs)))
       ≤ decided_of (saved_in side (cond (i == n) (Some (m c)) (channel n (map m cs))))) (sym (same c))
       (found_so (c.number == n) side c (m c) (channel n cs) (channel n (map m cs)) (h c) (each_so m same side h n cs))
 
-  more_so : (side : Role) (n : ℕ) (d : Channel K) (cs : List (Channel K)) → AllGoOn side n cs (cs ++ d ∷ [])
+  more_so : (side : Role) (n : ℕ) (d : WorldChannel K) (cs : List (WorldChannel K)) → AllGoOn side n cs (cs ++ d ∷ [])
   more_so side n d [] = omega arith
   more_so side n d (c ∷ cs) =
       found_so (c.number == n) side c c (channel n cs) (channel n (cs ++ d ∷ [])) (omega arith) (more_so side n d cs)
 
   -- ---- all channels
 
-  at_so : (signer : K → Signer) (i : ℕ) (f : Channel K → List Move) (w : Channels K) (e : End) (side : Role)
+  at_so : (signer : K → Signer) (i : ℕ) (f : WorldChannel K → List Move) (w : Channels K) (e : End) (side : Role)
       → decided_at w e side ≤ decided_at (at signer i f w) e side
   at_so signer i f w e side =
       each_so (moved_if signer i f) (λ c. if_number (c.number == i) signer f c) side
       (λ c. if_so (c.number == i) signer f side c) e.channel w.channels
 
-  everywhere_so : (signer : K → Signer) (f : Channel K → List Move) (w : Channels K) (e : End) (side : Role)
+  everywhere_so : (signer : K → Signer) (f : WorldChannel K → List Move) (w : Channels K) (e : End) (side : Role)
       → decided_at w e side ≤ decided_at (everywhere signer f w) e side
   everywhere_so signer f w e side =
       each_so (moved signer f) (λ c. refl) side (moved_so signer f side) e.channel w.channels

@@ -12,7 +12,7 @@ use Rattle.ln_hooks.specs.Verdict.{verdict}
 use Rattle.ln_channels.specs.declared.line.Line.{Line}
 use Rattle.ln_channels.specs.declared.step.End.{End}
 use Rattle.ln_channels.specs.declared.step.Node.{Node}
-use Rattle.ln_channels.specs.Channel.{is_node}
+use Rattle.ln_channels.specs.WorldChannel.{is_node}
 use Rattle.ln_channels.specs.Promises.{Each}
 use Rattle.ln_channels.specs.World.{World as Channels, may_open}
 use Rattle.ln_desks.specs.declared.step.Step.{Step}

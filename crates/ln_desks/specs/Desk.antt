@@ -6,7 +6,7 @@ use Rattle.ln_keys.specs.declared.role.Role.{Role}
 use Rattle.ln_hooks.specs.declared.event.ChannelEvent.{ChannelEvent}
 use Rattle.ln_hooks.specs.declared.verdict.Verdict.{Verdict}
 use Rattle.ln_channels.specs.declared.step.End.{End}
-use Rattle.ln_channels.specs.Channel.{is_node}
+use Rattle.ln_channels.specs.WorldChannel.{is_node}
 use Rattle.ln_channels.specs.Promises.{Each}
 use Rattle.ln_desks.specs.declared.seat.Seat.{Seat}
 

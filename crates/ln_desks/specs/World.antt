@@ -24,7 +24,7 @@ use Rattle.ln_channels.specs.declared.step.Act.TheVariants as act
 use Rattle.ln_channels.specs.declared.step.End.{End}
 use Rattle.ln_channels.specs.declared.step.Step.{Step as ChannelStep}
 use Rattle.ln_channels.specs.declared.step.Step.TheVariants as channel_step
-use Rattle.ln_channels.specs.Channel.{Channel, is_node, place_of, end_at}
+use Rattle.ln_channels.specs.WorldChannel.{WorldChannel, is_node, place_of, end_at}
 use Rattle.ln_channels.specs.World.{World as Channels, channel, may_open, may_be_done}
 use Rattle.ln_channels.specs.World as channels
 use Rattle.ln_channels.specs.Failing as failing
@@ -103,7 +103,7 @@ abbrev pub undecided : ℕ → ChannelEnd → Option ChannelEvent
 undecided n e = if nat_le e.ledger.decided n then named_at (item (n - e.ledger.decided) e.ledger.undecided) e else None
 
 -- the end of this side of a channel, where both have signed its opening
-abbrev pub saved_in : {K : Type 0} → Role → Option (Channel K) → Option ChannelEnd
+abbrev pub saved_in : {K : Type 0} → Role → Option (WorldChannel K) → Option ChannelEnd
 saved_in side None = None
 saved_in side (Some c) = saved_end (place_of side c.both).link.stage
 

@@ -172,7 +172,7 @@ impl Desk {
     ghost use Rattle.std.specs.Prelude.{OnOk, IfOk, IfErr};
     ghost use Rattle.ln_keys.specs.declared.role.Role.{Role};
     ghost use Rattle.ln_channels.specs.declared.step.End.{End};
-    ghost use Rattle.ln_channels.specs.Channel.{is_node};
+    ghost use Rattle.ln_channels.specs.WorldChannel.{is_node};
     ghost use Rattle.ln_desks.specs.Desk.{fresh, next, serving, registered, restarted, is_at};
     ghost use Rattle.ln_desks.specs.World.{is_below_next, served_in};
     ghost use Rattle.ln_desks.specs.Kept.{Keeps};

@@ -2,7 +2,7 @@
 
 ghost use Rattle.std.specs.Prelude.{◌≡◌, map, OnOk, IfErr};
 ghost use Rattle.ln_msgs.specs.declared.refusals.refusal.Refusal.TheVariants as refusal;
-ghost use Rattle.ln_channels.specs.Channel.{is_node};
+ghost use Rattle.ln_channels.specs.WorldChannel.{is_node};
 ghost use Rattle.ln_hooks.specs.Table.{Says};
 ghost use Rattle.ln_hooks.specs.Verdict.{joined};
 ghost use Rattle.ln_desks.specs.Seated.{shown_to, IsAside};
@@ -128,7 +128,7 @@ impl<H: Serve> Hooks<H> {
     ghost use Rattle.std.specs.Prelude.{◌≡◌, ◌<◌, ◌++◌, ◌∷◌, [], length, map, OnOk, IfOk, IfErr, Some, None};
     ghost use Rattle.std.specs.Prelude.{get_or, set};
     ghost use Rattle.ln_msgs.specs.declared.refusals.refusal.Refusal.TheVariants as refusal;
-    ghost use Rattle.ln_channels.specs.Channel.{is_node};
+    ghost use Rattle.ln_channels.specs.WorldChannel.{is_node};
     ghost use Rattle.ln_desks.specs.Seated.{CallsAt, SeatsAt, Joins, AreAside};
     ghost use Rattle.ln_desks.specs.Kept.{desks_of};
 

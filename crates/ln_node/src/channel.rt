@@ -31,7 +31,7 @@ pub(crate) type EndBench<E, H> = Bench<E, Socket, RecvSeat<Item<Socket>>, WaitSe
 
 /// A channel of a node, whose end is an `E`.
 #[derive(Drop)]
-pub(crate) struct Channel<E: Drop, H: Drop, T: Drop> {
+pub(crate) struct ChannelThreads<E: Drop, H: Drop, T: Drop> {
     orders: Mutex<ItemSeat>,
     hooks: Mutex<WaitSend<Task<H>>>,
     bound: Option<SocketAddr>,
@@ -113,7 +113,7 @@ fn stop_worker<E: Drop, H: Drop, R: Threads + Wait>(
     worker.end
 }
 
-impl<E: Drop, H: Drop, T: Drop> Channel<E, H, T> {
+impl<E: Drop, H: Drop, T: Drop> ChannelThreads<E, H, T> {
     /// Hands a command to its worker; a full relay hands it back.
     pub(crate) fn order<R: Wait>(&self, rt: &R, command: Command) -> Result<(), Command> {
         let mut seat = self.orders.lock(rt);
@@ -156,7 +156,7 @@ impl<E: Drop, H: Drop, T: Drop> Channel<E, H, T> {
 
     /// Joins its threads, the reader first: it is shut. Gives its end back.
     pub(crate) fn end<R: Threads + Wait>(self, rt: &R) -> E {
-        let Channel {
+        let ChannelThreads {
             orders,
             hooks,
             bound: _,
@@ -203,7 +203,7 @@ pub(crate) fn start<E, B, H, T, R>(
     rt: R,
     alloc: Global,
     parts: Parts<E, B, T>,
-) -> Result<Channel<E, H, T>, AllocError>
+) -> Result<ChannelThreads<E, H, T>, AllocError>
 where
     E: End + Drop + Send + 'static,
     B: ReadsEnds<E> + Drop + Send + 'static,
@@ -267,7 +267,7 @@ where
         stop_dispatcher(&rt, hooks, dispatcher);
         return Err(AllocError);
     };
-    Ok(Channel {
+    Ok(ChannelThreads {
         orders: Mutex::new(orders),
         hooks: Mutex::new(hooks),
         bound,

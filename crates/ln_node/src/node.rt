@@ -2,7 +2,7 @@
 
 use crate::bell::Bell;
 use crate::book::{Common, SharedBook};
-use crate::channel::{Channel, Parts, start};
+use crate::channel::{ChannelThreads, Parts, start};
 use crate::notices::Notices;
 use crate::opening::NodeLink;
 use crate::reader::Connections;
@@ -28,7 +28,7 @@ use std::thread::Threads;
 pub struct Node<K: ChannelKeys + Copy, S: Drop, O: Drop, H: Drop, T: Drop> {
     stopping: Arc<AtomicU64>,
     common: Common<O>,
-    channels: Vec<Channel<NodeLink<K, S>, H, T>>,
+    channels: Vec<ChannelThreads<NodeLink<K, S>, H, T>>,
 }
 
 // What a new channel has of its node.
@@ -74,7 +74,7 @@ where
 fn add<E, B, H, T, R>(
     rt: R,
     alloc: Global,
-    channels: &mut Vec<Channel<E, H, T>>,
+    channels: &mut Vec<ChannelThreads<E, H, T>>,
     parts: Parts<E, B, T>,
 ) -> Result<(), Refusal>
 where

@@ -3,7 +3,7 @@ use Rattle.std.proofs.Common.{◌≡◌, ℕ, suc, ◌+◌, ◌-◌, ◌<◌, Li
 use Rattle.ln_forward.specs.declared.checks.Policy.{Policy}
 use Rattle.ln_channel.specs.End.{End as ChannelEnd}
 use Rattle.ln_channels.specs.declared.step.Node.{Node}
-use Rattle.ln_channels.specs.Channel.{Channel}
+use Rattle.ln_channels.specs.WorldChannel.{WorldChannel}
 use Rattle.ln_channels.specs.World.{channel}
 use Rattle.ln_desks.specs.World.{undecided}
 use Rattle.ln_readings.specs.Rebuild.{Reading}
@@ -11,21 +11,21 @@ use Rattle.ln_world.specs.Node.{Book}
 use Rattle.ln_world.specs.Told.{with_event, with_events}
 use Rattle.ln_world.specs.Follow.{followed_below, with_channel, readings_below, reading_in}
 
-pub none_followed : {K : Type 0} (n : Node) (p : Policy) (cs : List (Channel K)) (b : Book)
+pub none_followed : {K : Type 0} (n : Node) (p : Policy) (cs : List (WorldChannel K)) (b : Book)
     → b ≡ followed_below 0 n p cs b
 unfolding followed_below
 none_followed n p cs b = refl
 
-pub one_followed : {K : Type 0} (m : ℕ) (n : Node) (p : Policy) (cs : List (Channel K)) (b c d : Book)
+pub one_followed : {K : Type 0} (m : ℕ) (n : Node) (p : Policy) (cs : List (WorldChannel K)) (b c d : Book)
     → c ≡ followed_below m n p cs b → d ≡ with_channel n p (channel m cs) c → d ≡ followed_below (suc m) n p cs b
 unfolding followed_below
 one_followed m n p cs b c d h i = i ∙ ap (λ x. with_channel n p (channel m cs) x) h
 
-pub none_read : {K : Type 0} (n : Node) (cs : List (Channel K)) → [] ≡ readings_below 0 n cs
+pub none_read : {K : Type 0} (n : Node) (cs : List (WorldChannel K)) → [] ≡ readings_below 0 n cs
 unfolding readings_below
 none_read n cs = refl
 
-pub one_read : {K : Type 0} (m : ℕ) (n : Node) (cs : List (Channel K)) (rs ss : List Reading)
+pub one_read : {K : Type 0} (m : ℕ) (n : Node) (cs : List (WorldChannel K)) (rs ss : List Reading)
     → rs ≡ readings_below m n cs → ss ≡ reading_in n (channel m cs) rs → ss ≡ readings_below (suc m) n cs
 unfolding readings_below
 one_read m n cs rs ss h i = i ∙ ap (λ x. reading_in n (channel m cs) x) h

@@ -22,7 +22,7 @@ use Rattle.ln_channel.specs.State.{State}
 use Rattle.ln_pair.specs.Ends.{opened}
 use Rattle.ln_pair.proofs.Offered.{All, was_given, Origin, contents_of, Fits, BothFit, run_fit}
 use Rattle.ln_pair.proofs.Offered.{FitsFirst, first_fits}
-use Rattle.ln_channels.specs.Channel.{Channel}
+use Rattle.ln_channels.specs.WorldChannel.{WorldChannel}
 use Rattle.ln_channels.specs.Promises.{Each}
 use Rattle.ln_channels.specs.Settings.{channel_id_of}
 use Rattle.ln_channels.proofs.Mirror.{link_at}
@@ -78,7 +78,7 @@ module _ {K : Type 0} where
       → IsState l
   link_so b key l line e is h = subst IsState (sym is) h
 
-  ends_so : (signer : K → Signer) (c : Channel K) → IsFit signer (channel_id_of c.number) c.both → AreEnds c
+  ends_so : (signer : K → Signer) (c : WorldChannel K) → IsFit signer (channel_id_of c.number) c.both → AreEnds c
   ends_so signer c h =
       let id = channel_id_of c.number in
       let p = c.both in
@@ -103,7 +103,7 @@ module _ {K : Type 0} where
       }
 
 module _ {K : Type 0} (k : Ghosts K) where
-  all_ends : (cs : List (Channel K)) → Each (IsFitChannel k) cs → All AreEnds cs
+  all_ends : (cs : List (WorldChannel K)) → Each (IsFitChannel k) cs → All AreEnds cs
   all_ends [] h = tt
   all_ends (c ∷ cs) h = (ends_so k.signer c h.0, all_ends cs h.1)
 

@@ -48,7 +48,7 @@ use Rattle.ln_readings.specs.Rebuild.{or_leg, result_for, offer_for, way_along, 
 use Rattle.ln_readings.specs.Rebuild.{unfinished, all_unfinished, is_read, htlc_left, left, all_left, rebuilt}
 use Rattle.ln_book.specs.Settled.{with_settled}
 use Rattle.ln_channels.specs.declared.step.Node.{Node}
-use Rattle.ln_channels.specs.Channel.{Channel, place_of, side_of}
+use Rattle.ln_channels.specs.WorldChannel.{WorldChannel, place_of, side_of}
 use Rattle.ln_channels.specs.World.{channel}
 use Rattle.ln_desks.specs.World.{item, named_at, undecided}
 use Rattle.ln_world.specs.declared.node.NodeBook.{NodeBook}
@@ -361,15 +361,15 @@ module _ {K : Type 0} where
   abbrev pub IsState : State K → Type 0
   IsState l = Where IsEnd (saved_end l.stage)
 
-  pub record AreEnds (c : Channel K) : Type 0 where
+  pub record AreEnds (c : WorldChannel K) : Type 0 where
     pub funder : IsState c.both.x.link
     pub fundee : IsState c.both.y.link
 
-  pub at_side : (side : Role) (c : Channel K) → AreEnds c → IsState (place_of side c.both).link
+  pub at_side : (side : Role) (c : WorldChannel K) → AreEnds c → IsState (place_of side c.both).link
   at_side Funder c h = h.funder
   at_side Fundee c h = h.fundee
 
-  pub channel_so : (n : ℕ) (cs : List (Channel K)) → All AreEnds cs → Where AreEnds (channel n cs)
+  pub channel_so : (n : ℕ) (cs : List (WorldChannel K)) → All AreEnds cs → Where AreEnds (channel n cs)
   channel_so n [] h = tt
   channel_so n (c ∷ cs) h = where-either AreEnds (c.number == n) (Some c) (channel n cs) h.0 (channel_so n cs h.1)
 
@@ -382,48 +382,48 @@ module _ {K : Type 0} where
       entered_so (entry.Use e.dance.channel (takes_payments l e)) (with_route p e e.marks.short_id b) tt
       (route_so p e e.marks.short_id b is h)
 
-  side_so : (p : Policy) (c : Channel K) (o : Option Role) (b : Book) → AreEnds c → IsBook b
+  side_so : (p : Policy) (c : WorldChannel K) (o : Option Role) (b : Book) → AreEnds c → IsBook b
       → IsBook (with_side p c o b)
   side_so p c None b is h = h
   side_so p c (Some side) b is h =
       let l = (place_of side c.both).link in end_so p l (saved_end l.stage) b (at_side side c is) h
 
-  with_channel_so : (n : Node) (p : Policy) (o : Option (Channel K)) (b : Book) → Where AreEnds o → IsBook b
+  with_channel_so : (n : Node) (p : Policy) (o : Option (WorldChannel K)) (b : Book) → Where AreEnds o → IsBook b
       → IsBook (with_channel n p o b)
   with_channel_so n p None b is h = h
   with_channel_so n p (Some c) b is h = side_so p c (side_of n c) b is h
 
-  below_so : (m : ℕ) (n : Node) (p : Policy) (cs : List (Channel K)) (b : Book) → All AreEnds cs → IsBook b
+  below_so : (m : ℕ) (n : Node) (p : Policy) (cs : List (WorldChannel K)) (b : Book) → All AreEnds cs → IsBook b
       → IsBook (followed_below m n p cs b)
   unfolding followed_below
   below_so zero n p cs b is h = h
   below_so (suc m) n p cs b is h =
       with_channel_so n p (channel m cs) (followed_below m n p cs b) (channel_so m cs is) (below_so m n p cs b is h)
 
-  pub followed_so : (cs : List (Channel K)) (x : NodeBook) → All AreEnds cs → IsBook x.book
+  pub followed_so : (cs : List (WorldChannel K)) (x : NodeBook) → All AreEnds cs → IsBook x.book
       → IsBook (followed cs x).book
   followed_so cs x is h = below_so 256 x.node x.policy cs x.book is h
 
   -- ---- and begins anew with what they have
 
-  side_reading_so : (c : Channel K) (o : Option Role) (rs : List Reading) → AreEnds c → All IsReading rs
+  side_reading_so : (c : WorldChannel K) (o : Option Role) (rs : List Reading) → AreEnds c → All IsReading rs
       → All IsReading (side_reading c o rs)
   side_reading_so c None rs is h = h
   side_reading_so c (Some side) rs is h =
       reading_by_so (saved_end (place_of side c.both).link.stage) rs (at_side side c is) h
 
-  reading_in_so : (n : Node) (o : Option (Channel K)) (rs : List Reading) → Where AreEnds o → All IsReading rs
+  reading_in_so : (n : Node) (o : Option (WorldChannel K)) (rs : List Reading) → Where AreEnds o → All IsReading rs
       → All IsReading (reading_in n o rs)
   reading_in_so n None rs is h = h
   reading_in_so n (Some c) rs is h = side_reading_so c (side_of n c) rs is h
 
-  readings_so : (m : ℕ) (n : Node) (cs : List (Channel K)) → All AreEnds cs → All IsReading (readings_below m n cs)
+  readings_so : (m : ℕ) (n : Node) (cs : List (WorldChannel K)) → All AreEnds cs → All IsReading (readings_below m n cs)
   unfolding readings_below
   readings_so zero n cs is = tt
   readings_so (suc m) n cs is =
       reading_in_so n (channel m cs) (readings_below m n cs) (channel_so m cs is) (readings_so m n cs is)
 
-  pub begun_so : (cs : List (Channel K)) (x : NodeBook) → All AreEnds cs → IsBook x.book
+  pub begun_so : (cs : List (WorldChannel K)) (x : NodeBook) → All AreEnds cs → IsBook x.book
       → IsBook (begun_anew cs x).book
   begun_so cs x is h =
       rebuilt_so (table_of x.book) (readings_below 256 x.node cs) h (readings_so 256 x.node cs is)

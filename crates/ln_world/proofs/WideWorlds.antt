@@ -35,7 +35,7 @@ use Rattle.ln_channels.specs.declared.step.End.{End}
 use Rattle.ln_channels.specs.declared.step.Step.{Step as ChannelStep}
 use Rattle.ln_channels.specs.declared.step.Step.TheVariants as channel_step
 use Rattle.ln_channels.specs.Settings.{channel_id_of, txid_of}
-use Rattle.ln_channels.specs.Channel.{Channel, is_node, side_of}
+use Rattle.ln_channels.specs.WorldChannel.{WorldChannel, is_node, side_of}
 use Rattle.ln_channels.specs.World.{World as Channels, channel, may_open}
 use Rattle.ln_channels.specs.World as channels
 use Rattle.ln_channels.specs.Promises.{Each}
@@ -237,7 +237,7 @@ sent_so (Some c) own h g = h
 module _ {K : Type 0} where
   -- ---- the ends of channels
 
-  saved_in_so : (side : Role) (o : Option (Channel K)) → Where AreEnds o → Where IsEnd (saved_in side o)
+  saved_in_so : (side : Role) (o : Option (WorldChannel K)) → Where AreEnds o → Where IsEnd (saved_in side o)
   saved_in_so side None h = tt
   saved_in_so side (Some c) h = at_side side c h
 
@@ -252,15 +252,15 @@ module _ {K : Type 0} where
   waits_for None w h = tt
   waits_for (Some d) w h = waiting_of_so d.life (saved_in d.side (channel d.end.channel w.channels)) h
 
-  link_by_so : (c : Channel K) (o : Option Role) → AreEnds c → Where IsState (link_by c o)
+  link_by_so : (c : WorldChannel K) (o : Option Role) → AreEnds c → Where IsState (link_by c o)
   link_by_so c None h = tt
   link_by_so c (Some side) h = at_side side c h
 
-  link_there_so : (n : Node) (o : Option (Channel K)) → Where AreEnds o → Where IsState (link_there n o)
+  link_there_so : (n : Node) (o : Option (WorldChannel K)) → Where AreEnds o → Where IsState (link_there n o)
   link_there_so n None h = tt
   link_there_so n (Some c) h = link_by_so c (side_of n c) h
 
-  link_so : (e : End) (cs : List (Channel K)) → All AreEnds cs → Where IsState (link_at e cs)
+  link_so : (e : End) (cs : List (WorldChannel K)) → All AreEnds cs → Where IsState (link_at e cs)
   link_so e cs h = link_there_so e.node (channel e.channel cs) (channel_so e.channel cs h)
 
   saved_so : (o : Option (State K)) → Where IsState o → Where IsEnd (saved_of o)
@@ -471,7 +471,7 @@ module _ {K : Type 0} (k : Ghosts K) where
   set_so n new xs c h =
       changed_so n (followed new.channels.channels) (λ x g. followed_so new.channels.channels x c g) xs h
 
-  met_so : (new : Desks K) (o : Option (Channel K)) (xs : List NodeBook) → All AreEnds new.channels.channels
+  met_so : (new : Desks K) (o : Option (WorldChannel K)) (xs : List NodeBook) → All AreEnds new.channels.channels
       → All IsNode xs → All IsNode (met new o xs)
   met_so new None xs c h = h
   met_so new (Some x) xs c h =

@@ -15,7 +15,7 @@ use Rattle.ln_history.specs.History.{begun_with, with_entry}
 use Rattle.ln_tables.specs.Replay.{table_of}
 use Rattle.ln_readings.specs.Rebuild.{Reading, reading_of, rebuilt}
 use Rattle.ln_channels.specs.declared.step.Node.{Node}
-use Rattle.ln_channels.specs.Channel.{Channel, side_of, place_of}
+use Rattle.ln_channels.specs.WorldChannel.{WorldChannel, side_of, place_of}
 use Rattle.ln_channels.specs.World.{channel}
 use Rattle.ln_world.specs.declared.node.NodeBook.{NodeBook}
 use Rattle.ln_world.specs.Node.{Book, with_book}
@@ -47,23 +47,23 @@ with_end p l None b = b
 with_end p l (Some e) b =
     with_entry (entry.Use e.dance.channel (takes_payments l e)) (with_route p e e.marks.short_id b)
 
-abbrev pub with_side : {K : Type 0} → Policy → Channel K → Option Role → Book → Book
+abbrev pub with_side : {K : Type 0} → Policy → WorldChannel K → Option Role → Book → Book
 with_side p c None b = b
 with_side p c (Some side) b =
     with_end p (place_of side c.both).link (saved_end (place_of side c.both).link.stage) b
 
 -- the node's end in a channel, where it has one
-abbrev pub with_channel : {K : Type 0} → Node → Policy → Option (Channel K) → Book → Book
+abbrev pub with_channel : {K : Type 0} → Node → Policy → Option (WorldChannel K) → Book → Book
 with_channel n p None b = b
 with_channel n p (Some c) b = with_side p c (side_of n c) b
 
 -- ---- all ends of a node, by rising number: of two channels with one short id the greater number has it
 
-unfoldable pub followed_below : {K : Type 0} → ℕ → Node → Policy → List (Channel K) → Book → Book
+unfoldable pub followed_below : {K : Type 0} → ℕ → Node → Policy → List (WorldChannel K) → Book → Book
 followed_below zero n p cs b = b
 followed_below (suc m) n p cs b = with_channel n p (channel m cs) (followed_below m n p cs b)
 
-abbrev pub followed : {K : Type 0} → List (Channel K) → NodeBook → NodeBook
+abbrev pub followed : {K : Type 0} → List (WorldChannel K) → NodeBook → NodeBook
 followed cs x = with_book (followed_below 256 x.node x.policy cs x.book) x
 
 -- ---- what the book begins with, as the node starts
@@ -72,19 +72,19 @@ abbrev pub reading_by : Option ChannelEnd → List Reading → List Reading
 reading_by None rs = rs
 reading_by (Some e) rs = rs ++ reading_of e ∷ []
 
-abbrev pub side_reading : {K : Type 0} → Channel K → Option Role → List Reading → List Reading
+abbrev pub side_reading : {K : Type 0} → WorldChannel K → Option Role → List Reading → List Reading
 side_reading c None rs = rs
 side_reading c (Some side) rs = reading_by (saved_end (place_of side c.both).link.stage) rs
 
-abbrev pub reading_in : {K : Type 0} → Node → Option (Channel K) → List Reading → List Reading
+abbrev pub reading_in : {K : Type 0} → Node → Option (WorldChannel K) → List Reading → List Reading
 reading_in n None rs = rs
 reading_in n (Some c) rs = side_reading c (side_of n c) rs
 
 -- of the node's ends, in the order of the channels' numbers
-unfoldable pub readings_below : {K : Type 0} → ℕ → Node → List (Channel K) → List Reading
+unfoldable pub readings_below : {K : Type 0} → ℕ → Node → List (WorldChannel K) → List Reading
 readings_below zero n cs = []
 readings_below (suc m) n cs = reading_in n (channel m cs) (readings_below m n cs)
 
 -- settings stay
-abbrev pub begun_anew : {K : Type 0} → List (Channel K) → NodeBook → NodeBook
+abbrev pub begun_anew : {K : Type 0} → List (WorldChannel K) → NodeBook → NodeBook
 begun_anew cs x = with_book (begun_with (rebuilt (table_of x.book) (readings_below 256 x.node cs))) x

@@ -8,7 +8,7 @@ use Rattle.ln_history.specs.History.{History, begun_with, with_entry}
 use Rattle.ln_tables.specs.Replay.{Table, no_table}
 use Rattle.ln_book.specs.Commands.{Services}
 use Rattle.ln_channels.specs.declared.step.Node.{Node}
-use Rattle.ln_channels.specs.Channel.{is_node}
+use Rattle.ln_channels.specs.WorldChannel.{is_node}
 use Rattle.ln_world.specs.declared.node.NodeBook.{NodeBook}
 
 -- what was entered in a book of forwarded payments

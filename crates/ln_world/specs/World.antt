@@ -33,7 +33,7 @@ use Rattle.ln_channels.specs.declared.step.Act.TheVariants as channel_act
 use Rattle.ln_channels.specs.declared.step.Node.{Node}
 use Rattle.ln_channels.specs.declared.step.End.{End}
 use Rattle.ln_channels.specs.Settings.{channel_id_of}
-use Rattle.ln_channels.specs.Channel.{Channel, side_of, place_of}
+use Rattle.ln_channels.specs.WorldChannel.{WorldChannel, side_of, place_of}
 use Rattle.ln_channels.specs.World.{channel}
 use Rattle.ln_desks.specs.declared.step.Step.{Step as DeskStep}
 use Rattle.ln_desks.specs.declared.step.Step.TheVariants as desk_step
@@ -64,16 +64,16 @@ empty n = record { desks = desks.empty n; nodes = [] }
 abbrev pub id_of : End → List ℕ
 id_of e = channel_id_of e.channel
 
-abbrev pub link_by : {K : Type 0} → Channel K → Option Role → Option (State K)
+abbrev pub link_by : {K : Type 0} → WorldChannel K → Option Role → Option (State K)
 link_by c None = None
 link_by c (Some side) = Some (place_of side c.both).link
 
-abbrev pub link_there : {K : Type 0} → Node → Option (Channel K) → Option (State K)
+abbrev pub link_there : {K : Type 0} → Node → Option (WorldChannel K) → Option (State K)
 link_there n None = None
 link_there n (Some c) = link_by c (side_of n c)
 
 -- its link, where the channel is there and the node has an end of it
-abbrev pub link_at : {K : Type 0} → End → List (Channel K) → Option (State K)
+abbrev pub link_at : {K : Type 0} → End → List (WorldChannel K) → Option (State K)
 link_at e cs = link_there e.node (channel e.channel cs)
 
 abbrev pub saved_of : {K : Type 0} → Option (State K) → Option ChannelEnd
@@ -288,7 +288,7 @@ abbrev pub restarted : {K : Type 0} → Node → Desks K → List NodeBook → L
 restarted n new xs = changed n (λ x. followed new.channels.channels (begun_anew new.channels.channels x)) xs
 
 -- both nodes' books follow
-abbrev pub met : {K : Type 0} → Desks K → Option (Channel K) → List NodeBook → List NodeBook
+abbrev pub met : {K : Type 0} → Desks K → Option (WorldChannel K) → List NodeBook → List NodeBook
 met new None xs = xs
 met new (Some c) xs =
     changed c.fundee (followed new.channels.channels) (changed c.funder (followed new.channels.channels) xs)

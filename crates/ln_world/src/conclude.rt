@@ -14,8 +14,8 @@ use crate::follow::{begin_anew, follow};
 use crate::node::{NodeBook, place_for};
 use crate::told::{answer_by, hear, tell_decided};
 use ln_book::Book;
-use ln_channel::{Channel as ChannelEnd, Unsaved};
-use ln_channels::{Channel, channel_id_of};
+use ln_channel::{Unsaved, WorldChannel as ChannelEnd};
+use ln_channels::{WorldChannel, channel_id_of};
 use ln_desks::{End, Line, Node, Nodes};
 use ln_keys::{ChannelKeys, Role};
 use ln_msgs::Refusal;
@@ -230,7 +230,7 @@ fn conclude_meet<K: ChannelKeys + Copy>(
     alloc: Global,
     desks: &Nodes<K>,
     nodes: &mut Vec<NodeBook>,
-    channel: Option<&Channel<K>>,
+    channel: Option<&WorldChannel<K>>,
 ) -> Result<(), Refusal>
     ensures concluded { OnOk result (nodes.new.items ≡ met desks.now (option_copied channel.entry) nodes.old.items) }
     ensures fails_for_memory_alone { IfErr result (λ e. e ≡ refusal.Memory) }

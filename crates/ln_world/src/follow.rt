@@ -3,7 +3,7 @@
 ghost use Rattle.std.specs.Prelude.{◌≡◌, ◌++◌, OnOk, IfOk, IfErr, option_copied};
 ghost use Rattle.ln_msgs.specs.declared.refusals.refusal.Refusal.TheVariants as refusal;
 ghost use Rattle.ln_channel.specs.Record.{saved_end};
-ghost use Rattle.ln_channels.specs.Channel.{side_of};
+ghost use Rattle.ln_channels.specs.WorldChannel.{side_of};
 ghost use Rattle.ln_channels.specs.World.{channel};
 ghost use Rattle.ln_world.specs.Follow.{takes_payments, minimum_told, with_route, with_end, with_side, with_channel};
 ghost use Rattle.ln_world.specs.Follow.{followed_below, followed, reading_by, side_reading, reading_in, readings_below};
@@ -12,8 +12,8 @@ ghost use Rattle.ln_world.specs.Follow.{begun_anew};
 use crate::node::NodeBook;
 use ln_book::Book;
 use ln_bytes::ShortId;
-use ln_channel::{Channel as ChannelEnd, Unsaved};
-use ln_channels::{Channel, World as Channels};
+use ln_channel::{Unsaved, WorldChannel as ChannelEnd};
+use ln_channels::{World as Channels, WorldChannel};
 use ln_desks::Node;
 use ln_forward::Policy;
 use ln_keys::{ChannelKeys, Role};
@@ -80,7 +80,7 @@ fn follow_end<K: ChannelKeys + Copy>(
 fn follow_side<K: ChannelKeys + Copy>(
     book: &mut Book,
     policy: Policy,
-    channel: &Channel<K>,
+    channel: &WorldChannel<K>,
     side: Option<Role>,
 ) -> Result<(), Refusal>
     ensures followed { OnOk result (book.new ≡ with_side policy channel.now side book.old) }
@@ -97,7 +97,7 @@ fn follow_channel<K: ChannelKeys + Copy>(
     book: &mut Book,
     node: Node,
     policy: Policy,
-    channel: Option<&Channel<K>>,
+    channel: Option<&WorldChannel<K>>,
 ) -> Result<(), Refusal>
     ensures followed { OnOk result (book.new ≡ with_channel node policy (option_copied channel.entry) book.old) }
     ensures fails_for_memory_alone { IfErr result (λ e. e ≡ refusal.Memory) }
@@ -155,7 +155,7 @@ fn read_end(
 
 fn read_side<K: ChannelKeys + Copy>(
     alloc: Global,
-    channel: &Channel<K>,
+    channel: &WorldChannel<K>,
     side: Option<Role>,
     readings: &mut Vec<Reading>,
 ) -> Result<(), Refusal>
@@ -172,7 +172,7 @@ fn read_side<K: ChannelKeys + Copy>(
 fn read_channel<K: ChannelKeys + Copy>(
     alloc: Global,
     node: Node,
-    channel: Option<&Channel<K>>,
+    channel: Option<&WorldChannel<K>>,
     readings: &mut Vec<Reading>,
 ) -> Result<(), Refusal>
     ensures read { OnOk result (readings.new.items ≡ reading_in node (option_copied channel.entry) readings.old.items) }

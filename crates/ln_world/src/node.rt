@@ -2,7 +2,7 @@
 
 ghost use Rattle.std.specs.Prelude.{◌≡◌, position, OnOk, IfOk, IfErr, Some};
 ghost use Rattle.ln_msgs.specs.declared.refusals.refusal.Refusal.TheVariants as refusal;
-ghost use Rattle.ln_channels.specs.Channel.{is_node};
+ghost use Rattle.ln_channels.specs.WorldChannel.{is_node};
 ghost use Rattle.ln_world.specs.Node.{new_node, new_policy, changed};
 
 use ln_book::Book;

@@ -1,6 +1,6 @@
 use Rattle.std.proofs.Common.{ap, subst, ◌∙◌}
 use Rattle.ln_channels.specs.Settings.{channel_id_of}
-use Rattle.ln_channels.specs.Channel.{Channel, moved, opening_moves}
+use Rattle.ln_channels.specs.WorldChannel.{WorldChannel, moved, opening_moves}
 use Rattle.ln_channels.specs.Failing.{ByRecord, MovesLack}
 use Rattle.ln_channels.proofs.channel.open_channel.Goals as goal
 
@@ -10,6 +10,6 @@ returns-in-Ok-clause-opened g c = c.in-Ok.ensures.moved
 
 pub returns-in-Err-clause-fails : goal.returns-in-Err-clause-fails
 returns-in-Err-clause-fails g c =
-    subst (λ (d : Channel _). ByRecord c.in-Err.refusal
+    subst (λ (d : WorldChannel _). ByRecord c.in-Err.refusal
     (MovesLack g.K.ChannelKeys.signer (channel_id_of d.number) opening_moves d.both)) c.in_ok-channel.ensures.begun
     c.in-Err.ensures.fails

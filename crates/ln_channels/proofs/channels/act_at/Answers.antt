@@ -1,5 +1,5 @@
 use Rattle.std.proofs.Common.{◌++◌, sym, ap, ◌∙◌}
-use Rattle.ln_channels.specs.Channel.{side_of, act_moves, acted_lines}
+use Rattle.ln_channels.specs.WorldChannel.{side_of, act_moves, acted_lines}
 use Rattle.std.proofs.lemmas.Result.{IfErr-weaker}
 use Rattle.ln_channels.proofs.Lacking.{by_record, lacks_there}
 use Rattle.ln_channels.proofs.Moving.{on_ok}

@@ -1,5 +1,5 @@
 use Rattle.std.proofs.Common.{sym, ◌∙◌}
-use Rattle.ln_channels.specs.Channel.{acted_unheard}
+use Rattle.ln_channels.specs.WorldChannel.{acted_unheard}
 use Rattle.std.proofs.lemmas.Result.{IfErr-weaker}
 use Rattle.ln_channels.proofs.Lacking.{by_record, lacks_there}
 use Rattle.ln_channels.proofs.Moving.{on_ok}

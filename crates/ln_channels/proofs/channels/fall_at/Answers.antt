@@ -1,5 +1,5 @@
 use Rattle.std.proofs.Common.{◌++◌, sym, ap, ◌∙◌}
-use Rattle.ln_channels.specs.Channel.{side_of, fall_moves, fallen_lines}
+use Rattle.ln_channels.specs.WorldChannel.{side_of, fall_moves, fallen_lines}
 use Rattle.ln_channels.proofs.Moving.{on_ok}
 use Rattle.ln_channels.proofs.Places.{placed, nowhere, not_found, once-set, there_is, there_is_none}
 use Rattle.ln_channels.proofs.channels.fall_at.Goals as goal

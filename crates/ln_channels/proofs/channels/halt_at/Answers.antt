@@ -1,5 +1,5 @@
 use Rattle.std.proofs.Common.{sym, ◌∙◌}
-use Rattle.ln_channels.specs.Channel.{halt_moves}
+use Rattle.ln_channels.specs.WorldChannel.{halt_moves}
 use Rattle.ln_channels.proofs.Places.{placed, nowhere, not_found, once-set}
 use Rattle.ln_channels.proofs.channels.halt_at.Goals as goal
 

@@ -1,5 +1,5 @@
 use Rattle.std.proofs.Common.{arith}
-use Rattle.ln_channels.specs.Channel.{moved, restart_moves}
+use Rattle.ln_channels.specs.WorldChannel.{moved, restart_moves}
 use Rattle.ln_channels.proofs.Places.{all_more, once-set}
 use Rattle.ln_channels.proofs.channels.restart_each.Goals as goal
 

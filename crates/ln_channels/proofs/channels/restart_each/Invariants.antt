@@ -1,5 +1,5 @@
 use Rattle.std.proofs.Common.{◌≡◌, ◌++◌, map, take, drop}
-use Rattle.ln_channels.specs.Channel.{moved, restart_moves}
+use Rattle.ln_channels.specs.WorldChannel.{moved, restart_moves}
 use Rattle.ln_channels.specs.World.{AreOnce}
 use Rattle.ln_channels.proofs.channels.restart_each.Given as goal
 

@@ -1,5 +1,5 @@
 use Rattle.std.proofs.Common.{ap, ◌∙◌}
-use Rattle.ln_channels.specs.Channel.{restart_moves}
+use Rattle.ln_channels.specs.WorldChannel.{restart_moves}
 use Rattle.ln_channels.specs.World.{all_moved}
 use Rattle.ln_channels.proofs.Moving.{on_ok}
 use Rattle.ln_channels.proofs.Stopping.{all_stopped}

@@ -1,5 +1,5 @@
 use Rattle.std.proofs.Common.{position, sym, ap, ◌∙◌}
-use Rattle.ln_channels.specs.Channel.{is_node}
+use Rattle.ln_channels.specs.WorldChannel.{is_node}
 use Rattle.ln_channels.proofs.Worlds.{replaced, appended}
 use Rattle.ln_channels.proofs.settings.set_for.Goals as goal
 

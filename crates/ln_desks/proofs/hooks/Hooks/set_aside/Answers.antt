@@ -1,6 +1,6 @@
 use Rattle.std.proofs.Common.{rules, map, ap, sym, ◌∙◌, arith}
 use Rattle.std.proofs.Math.ListN.{get_or-map, length-map}
-use Rattle.ln_channels.specs.Channel.{is_node}
+use Rattle.ln_channels.specs.WorldChannel.{is_node}
 use Rattle.ln_desks.specs.Kept.{KeptDesk, desks_of}
 use Rattle.ln_desks.proofs.Calling.{aside_more}
 use Rattle.ln_desks.proofs.hooks.Hooks.set_aside.Goals as goal

@@ -1,5 +1,5 @@
 use Rattle.std.proofs.Common.{◌≡◌, length, map, take}
-use Rattle.ln_channels.specs.Channel.{is_node}
+use Rattle.ln_channels.specs.WorldChannel.{is_node}
 use Rattle.ln_desks.specs.Seated.{AreAside}
 use Rattle.ln_desks.specs.Kept.{desks_of}
 use Rattle.ln_desks.proofs.hooks.Hooks.set_aside.Given as goal

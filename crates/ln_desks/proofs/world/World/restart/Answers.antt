@@ -1,5 +1,5 @@
 use Rattle.std.proofs.Common.{map, subst}
-use Rattle.ln_channels.specs.Channel.{is_node}
+use Rattle.ln_channels.specs.WorldChannel.{is_node}
 use Rattle.ln_desks.specs.Seated.{AreAside}
 use Rattle.ln_desks.proofs.Stepping.{restarted_so}
 use Rattle.ln_desks.proofs.world.World.restart.Goals as goal

@@ -1,5 +1,5 @@
 use Rattle.std.proofs.Common.{map, refl, sym, subst, ◌∙◌}
-use Rattle.ln_channels.specs.Channel.{is_node}
+use Rattle.ln_channels.specs.WorldChannel.{is_node}
 use Rattle.ln_desks.specs.Seated.{AreAside}
 use Rattle.ln_desks.proofs.Stepping.{stopped_after, unstopped_after}
 use Rattle.ln_desks.proofs.world.World.stop_after.Goals as goal

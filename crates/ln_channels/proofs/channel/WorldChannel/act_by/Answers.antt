@@ -1,5 +1,5 @@
 use Rattle.ln_channels.proofs.Moving.{on_ok, as_fundee}
-use Rattle.ln_channels.proofs.channel.Channel.act_by.Goals as goal
+use Rattle.ln_channels.proofs.channel.WorldChannel.act_by.Goals as goal
 
 pub returns-in-Funder-clause-told : goal.returns-in-Funder-clause-told
 returns-in-Funder-clause-told g c = rw c.in-Funder.is (rw (← c.self.view_is) c.act.ensures.told)

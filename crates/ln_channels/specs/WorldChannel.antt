@@ -22,7 +22,7 @@ use Rattle.ln_channels.specs.Both.{Both, Place, Move, By, Falls, Halts, Restarts
 use Rattle.ln_channels.specs.Both.{may_come_up, greet_lines, greeting, unheard}
 use Rattle.ln_channels.specs.Both.{run as run_both}
 
-pub record Channel (K : Type 0) : Type 0 where
+pub record WorldChannel (K : Type 0) : Type 0 where
   pub number : ℕ
   pub funder : Node
   pub fundee : Node
@@ -37,7 +37,7 @@ place_of Fundee p = p.y
 
 -- ---- which moves of a channel a step is
 
-abbrev pub side_of : {K : Type 0} → Node → Channel K → Option Role
+abbrev pub side_of : {K : Type 0} → Node → WorldChannel K → Option Role
 side_of n c = if is_node c.funder n then Some Funder else (if is_node c.fundee n then Some Fundee else None)
 
 abbrev pub by : Option Role → (Role → Move) → List Move
@@ -47,7 +47,7 @@ by (Some side) f = f side ∷ []
 abbrev pub end_at : ℕ → Node → End
 end_at n node = record { node = node; channel = n }
 
-abbrev pub end_of : {K : Type 0} → Role → Channel K → End
+abbrev pub end_of : {K : Type 0} → Role → WorldChannel K → End
 end_of Funder c = end_at c.number c.funder
 end_of Fundee c = end_at c.number c.fundee
 
@@ -55,7 +55,7 @@ end_of Fundee c = end_at c.number c.fundee
 abbrev pub may_meet : {K : Type 0} → Both K → Bool
 may_meet p = may_come_up p.x.link && may_come_up p.y.link
 
-abbrev pub moved : {K : Type 0} → (K → Signer) → (Channel K → List Move) → Channel K → Channel K
+abbrev pub moved : {K : Type 0} → (K → Signer) → (WorldChannel K → List Move) → WorldChannel K → WorldChannel K
 moved signer f c = record {
   number = c.number;
   funder = c.funder;
@@ -64,25 +64,25 @@ moved signer f c = record {
 }
 
 -- the table: which moves of a channel an act, the loss of a connection, a node's restart and a new connection are
-abbrev pub act_moves : {K : Type 0} → Node → Act → Channel K → List Move
+abbrev pub act_moves : {K : Type 0} → Node → Act → WorldChannel K → List Move
 act_moves n a c = by (side_of n c) (λ side. By side a)
 
-abbrev pub fall_moves : {K : Type 0} → Node → Channel K → List Move
+abbrev pub fall_moves : {K : Type 0} → Node → WorldChannel K → List Move
 fall_moves n c = by (side_of n c) Falls
 
 -- it has no memory for an act
-abbrev pub halt_moves : {K : Type 0} → Node → Channel K → List Move
+abbrev pub halt_moves : {K : Type 0} → Node → WorldChannel K → List Move
 halt_moves n c = by (side_of n c) Halts
 
-abbrev pub restart_moves : {K : Type 0} → Node → Channel K → List Move
+abbrev pub restart_moves : {K : Type 0} → Node → WorldChannel K → List Move
 restart_moves n c = by (side_of n c) Restarts
 
 -- a node stops behind an act of its end in the channel with this number; its other ends come back as they were saved
-abbrev pub stop_moves : {K : Type 0} → End → Act → Channel K → List Move
+abbrev pub stop_moves : {K : Type 0} → End → Act → WorldChannel K → List Move
 stop_moves e a c =
     if c.number == e.channel then by (side_of e.node c) (λ side. Stops side a) else restart_moves e.node c
 
-abbrev pub up_moves : {K : Type 0} → Channel K → List Move
+abbrev pub up_moves : {K : Type 0} → WorldChannel K → List Move
 up_moves c = if may_meet c.both then Meet ∷ [] else []
 
 -- ---- an act that a node may stop round, or have no memory for
@@ -101,7 +101,7 @@ side_may_do a None p = false
 side_may_do a (Some side) p = may_do a (place_of side p)
 
 -- the node's end
-abbrev pub may_act : {K : Type 0} → Node → Act → Channel K → Bool
+abbrev pub may_act : {K : Type 0} → Node → Act → WorldChannel K → Bool
 may_act n a c = side_may_do a (side_of n c) c.both
 
 -- as the act leaves the node's end, whoever gets what it hands out
@@ -110,7 +110,7 @@ side_unheard signer a None p = p
 side_unheard signer a (Some Funder) p = record { x = unheard signer a p.x; y = p.y }
 side_unheard signer a (Some Fundee) p = record { x = p.x; y = unheard signer a p.y }
 
-abbrev pub acted_unheard : {K : Type 0} → (K → Signer) → Node → Act → Channel K → Channel K
+abbrev pub acted_unheard : {K : Type 0} → (K → Signer) → Node → Act → WorldChannel K → WorldChannel K
 acted_unheard signer n a c = record {
   number = c.number;
   funder = c.funder;
@@ -121,7 +121,7 @@ acted_unheard signer n a c = record {
 -- ---- a channel that is opened (BOLT 2, "Channel Establishment v1")
 
 -- a channel of two new links, by what was set for the funder and for the fundee
-abbrev pub begun_by : {K : Type 0} → (k : Ghosts K) → Open K k → Settings → Settings → Channel K
+abbrev pub begun_by : {K : Type 0} → (k : Ghosts K) → Open K k → Settings → Settings → WorldChannel K
 begun_by k o funder fundee = record {
   number = o.channel;
   funder = o.funder;
@@ -146,12 +146,12 @@ abbrev pub opening_moves : List Move
 opening_moves =
     Meet ∷ By Fundee act.Deliver ∷ By Funder act.Deliver ∷ By Fundee act.Deliver ∷ By Funder act.Deliver ∷ []
 
-abbrev pub opened_by : {K : Type 0} → (k : Ghosts K) → Open K k → Settings → Settings → Channel K
+abbrev pub opened_by : {K : Type 0} → (k : Ghosts K) → Open K k → Settings → Settings → WorldChannel K
 opened_by k o funder fundee = moved k.signer (λ c. opening_moves) (begun_by k o funder fundee)
 
 -- ---- what is told of it
 
-unfoldable pub acted_lines : {K : Type 0} → (K → Signer) → Act → Channel K → Option Role → List Line
+unfoldable pub acted_lines : {K : Type 0} → (K → Signer) → Act → WorldChannel K → Option Role → List Line
 acted_lines signer a c None = line.Idle ∷ []
 acted_lines signer a c (Some side) =
     act_lines signer (end_of side c) (channel_id_of c.number) a (place_of side c.both)
@@ -160,7 +160,7 @@ abbrev pub fallen_lines : Option Role → List Line
 fallen_lines None = line.Idle ∷ []
 fallen_lines (Some side) = []
 
-unfoldable pub met_lines : {K : Type 0} → (K → Signer) → Channel K → List Line
+unfoldable pub met_lines : {K : Type 0} → (K → Signer) → WorldChannel K → List Line
 met_lines signer c =
     if may_meet c.both
     then greet_lines (end_at c.number c.funder) (greeting signer c.both.x.link)
