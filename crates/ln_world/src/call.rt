@@ -3,7 +3,7 @@
 ghost use Rattle.std.specs.Prelude.{◌≡◌, option_copied, option_map};
 ghost use Rattle.ln_world.specs.World.{link_at, saved_of, id_of};
 
-use ln_channel::{Unsaved, WorldChannel as ChannelEnd};
+use ln_channel::{Channel as ChannelEnd, Unsaved};
 use ln_channels::World as Channels;
 use ln_desks::End;
 use ln_keys::ChannelKeys;

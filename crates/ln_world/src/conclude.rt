@@ -14,7 +14,7 @@ use crate::follow::{begin_anew, follow};
 use crate::node::{NodeBook, place_for};
 use crate::told::{answer_by, hear, tell_decided};
 use ln_book::Book;
-use ln_channel::{Unsaved, WorldChannel as ChannelEnd};
+use ln_channel::{Channel as ChannelEnd, Unsaved};
 use ln_channels::{WorldChannel, channel_id_of};
 use ln_desks::{End, Line, Node, Nodes};
 use ln_keys::{ChannelKeys, Role};

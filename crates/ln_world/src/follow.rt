@@ -12,7 +12,7 @@ ghost use Rattle.ln_world.specs.Follow.{begun_anew};
 use crate::node::NodeBook;
 use ln_book::Book;
 use ln_bytes::ShortId;
-use ln_channel::{Unsaved, WorldChannel as ChannelEnd};
+use ln_channel::{Channel as ChannelEnd, Unsaved};
 use ln_channels::{World as Channels, WorldChannel};
 use ln_desks::Node;
 use ln_forward::Policy;

@@ -7,7 +7,7 @@ ghost use Rattle.ln_world.specs.Told.{about, answer_by, byte_at, choice_of, note
 ghost use Rattle.ln_world.specs.Told.{next_id, with_event, with_events, with_held};
 
 use ln_book::Book;
-use ln_channel::{Command, WorldChannel as ChannelEnd};
+use ln_channel::{Channel as ChannelEnd, Command};
 use ln_desks::{Choice, End, Line, undecided};
 use ln_log::{ChannelId, Mark};
 use ln_msgs::Refusal;
