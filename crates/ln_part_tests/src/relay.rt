@@ -17,21 +17,21 @@ const TURNS: u64 = 100_000_000;
 
 /// Sends 1, 2 and 3.
 fn put_three<S: Sends<u32>, R: Wait>(rt: &R, seat: &mut S) -> [Result<(), u32>; 3]
-    ensures place_stays { S.place seat.new ≡ S.place seat.old }
+    ensures position_stays { S.position seat.new ≡ S.position seat.old }
 {
     [seat.send(rt, 1), seat.send(rt, 2), seat.send(rt, 3)]
 }
 
 /// Receives three times.
 fn take_three<S: Receives<u32>, R: Wait>(rt: &R, seat: &mut S) -> [Option<u32>; 3]
-    ensures place_stays { S.place seat.new ≡ S.place seat.old }
+    ensures position_stays { S.position seat.new ≡ S.position seat.old }
 {
     [seat.recv(rt), seat.recv(rt), seat.recv(rt)]
 }
 
 /// Sends an item, and tries again where the relay is full.
 fn put_one<S: Sends<u32>, R: Wait>(rt: &R, seat: &mut S, item: u32)
-    ensures place_stays { S.place seat.new ≡ S.place seat.old }
+    ensures position_stays { S.position seat.new ≡ S.position seat.old }
 {
     for _ in 0..TURNS {
         if seat.send(rt, item).is_ok() {
@@ -44,7 +44,7 @@ fn put_one<S: Sends<u32>, R: Wait>(rt: &R, seat: &mut S, item: u32)
 /// Sends 10,000 numbers from `from` on.
 fn put_all<S: Sends<u32>, R: Wait>(rt: &R, mut seat: S, from: u32) -> S
     requires within { from ≤ 100000 }
-    ensures place_stays { S.place result ≡ S.place seat }
+    ensures position_stays { S.position result ≡ S.position seat }
 {
     for i in 0..10_000u32 {
         put_one(rt, &mut seat, from + i);
@@ -54,7 +54,7 @@ fn put_all<S: Sends<u32>, R: Wait>(rt: &R, mut seat: S, from: u32) -> S
 
 /// Receives an item, and tries again where the relay is empty.
 fn take_one<S: Receives<u32>, R: Wait>(rt: &R, seat: &mut S) -> Option<u32>
-    ensures place_stays { S.place seat.new ≡ S.place seat.old }
+    ensures position_stays { S.position seat.new ≡ S.position seat.old }
 {
     for _ in 0..TURNS {
         if let Some(item) = seat.recv(rt) {
@@ -87,7 +87,7 @@ impl Order {
 
 /// Receives 20,000 items.
 fn take_all<S: Receives<u32>, R: Wait>(rt: &R, mut seat: S) -> (S, Order)
-    ensures place_stays { S.place result.0 ≡ S.place seat }
+    ensures position_stays { S.position result.0 ≡ S.position seat }
 {
     let mut order = Order {
         first: 0,
@@ -157,26 +157,26 @@ fn hand_over<S: Sends<u32> + Send + Drop, D: Receives<u32> + Send + Drop, R: Thr
     second: S,
     receiver: D,
 ) -> ((S, S, D), Order)
-    ensures first_stays { S.place result.0.0 ≡ S.place first }
-    ensures second_stays { S.place result.0.1 ≡ S.place second }
-    ensures receiver_stays { D.place result.0.2 ≡ D.place receiver }
+    ensures first_stays { S.position result.0.0 ≡ S.position first }
+    ensures second_stays { S.position result.0.1 ≡ S.position second }
+    ensures receiver_stays { D.position result.0.2 ≡ D.position receiver }
 {
     let (first, (second, (receiver, order))) = thread::join(
         rt,
         move ||
-            ensures { S.place result ≡ S.place first }
+            ensures { S.position result ≡ S.position first }
         { put_all(rt, first, 0) },
         move ||
-            ensures second_stays { S.place result.0 ≡ S.place second }
-            ensures receiver_stays { D.place result.1.0 ≡ D.place receiver }
+            ensures second_stays { S.position result.0 ≡ S.position second }
+            ensures receiver_stays { D.position result.1.0 ≡ D.position receiver }
         {
             thread::join(
                 rt,
                 move ||
-                    ensures { S.place result ≡ S.place second }
+                    ensures { S.position result ≡ S.position second }
                 { put_all(rt, second, 100_000) },
                 move ||
-                    ensures { D.place result.0 ≡ D.place receiver }
+                    ensures { D.position result.0 ≡ D.position receiver }
                 { take_all(rt, receiver) },
             )
         },

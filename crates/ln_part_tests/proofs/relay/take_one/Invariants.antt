@@ -2,4 +2,4 @@ use Rattle.std.proofs.Common.{◌≡◌}
 use Rattle.ln_part_tests.proofs.relay.take_one.Given as goal
 
 abbrev pub invariant-loop : goal.invariant-loop
-invariant-loop g l = g.S.Receives.place l.seat ≡ g.S.Receives.place l.initial.seat
+invariant-loop g l = g.S.Receives.position l.seat ≡ g.S.Receives.position l.initial.seat
