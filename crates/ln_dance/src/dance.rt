@@ -300,7 +300,7 @@ impl Dance {
         let number = self.numbers.signed + 1;
         let point = self.peer.next_point;
         let Signed { sig, htlcs } = keys.sign(alloc, number, &point, &view)?;
-        self.log.signed();
+        self.log.sign();
         self.numbers.signed = number;
         self.later = Later::Signature;
         Ok(CommitmentSigned {
@@ -347,7 +347,7 @@ impl Dance {
         if !keys.verify(last + 1, &point, &view, &message.signature, signatures) {
             return Err(Refusal::SignatureWrong);
         }
-        self.log.accepted();
+        self.log.accept();
         self.numbers.commitment = last + 1;
         self.later = Later::Revocation;
         Ok(RevokeAndAck {
@@ -380,7 +380,7 @@ impl Dance {
         if !keys.secret_fits(&message.secret, &self.peer.point) {
             return Err(Refusal::SecretWrong);
         }
-        self.log.acknowledged();
+        self.log.learn();
         self.numbers.revoked += 1;
         self.peer = Peer {
             point: self.peer.next_point,

@@ -157,34 +157,34 @@ impl UpdateLog {
 
     /// This side has signed: all own updates, and those of the peer that stand in its own commitment.
     /// Takes no memory.
-    pub fn signed(&mut self)
+    pub fn sign(&mut self)
         ensures moves_as_stated { (l : Log) → StandsFor self.old l → StandsFor self.new (after_sign l) }
         ensures counts { all_counts self.new
             ≡ record (all_counts self.old) { signed = counts_of Pair.ToSign self.old } }
         ensures same_opening { at_opening self.new ≡ at_opening self.old }
     {
-        self.window.signed();
+        self.window.sign();
     }
 
     /// The peer's signature was taken: this side's commitment covers what was taken of the peer's, and
     /// the own updates that the peer has acknowledged. Takes no memory.
-    pub fn accepted(&mut self)
+    pub fn accept(&mut self)
         ensures moves_as_stated { (l : Log) → StandsFor self.old l → StandsFor self.new (after_accept l) }
         ensures counts { all_counts self.new
             ≡ record (all_counts self.old) { current = counts_of Pair.ToAccept self.old } }
         ensures same_opening { at_opening self.new ≡ at_opening self.old }
     {
-        self.window.accepted();
+        self.window.accept();
     }
 
     /// The peer's revocation was taken: the peer's commitment is the one that was signed last. Takes no
     /// memory.
-    pub fn acknowledged(&mut self)
+    pub fn learn(&mut self)
         ensures moves_as_stated { (l : Log) → StandsFor self.old l → StandsFor self.new (after_learn l) }
         ensures counts { all_counts self.new ≡ record (all_counts self.old) { acknowledged = self.old.signed } }
         ensures same_opening { at_opening self.new ≡ at_opening self.old }
     {
-        self.window.acknowledged();
+        self.window.learn();
     }
 
     /// The connection is lost: received updates that no signature taken covers are gone, and own ones that

@@ -319,7 +319,7 @@ impl Window {
     }
 
     // This side has signed.
-    pub(crate) fn signed(&mut self)
+    pub(crate) fn sign(&mut self)
         ensures moves_as_stated { (l : Log) → IsWindowOf self.old l → IsWindowOf self.new (after_sign l) }
         ensures counts { kept_counts self.new
             ≡ record (kept_counts self.old) { signed = pair_counts Pair.ToSign self.old } }
@@ -331,7 +331,7 @@ impl Window {
     }
 
     // The peer's signature was taken.
-    pub(crate) fn accepted(&mut self)
+    pub(crate) fn accept(&mut self)
         ensures moves_as_stated { (l : Log) → IsWindowOf self.old l → IsWindowOf self.new (after_accept l) }
         ensures counts { kept_counts self.new
             ≡ record (kept_counts self.old) { current = pair_counts Pair.ToAccept self.old } }
@@ -349,7 +349,7 @@ impl Window {
     }
 
     // The peer's revocation was taken.
-    pub(crate) fn acknowledged(&mut self)
+    pub(crate) fn learn(&mut self)
         ensures moves_as_stated { (l : Log) → IsWindowOf self.old l → IsWindowOf self.new (after_learn l) }
         ensures counts { kept_counts self.new ≡ record (kept_counts self.old) { acknowledged = self.old.signed } }
         ensures same_opening { kept_opening self.new ≡ kept_opening self.old }

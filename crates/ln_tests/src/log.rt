@@ -89,7 +89,7 @@ fn sign(log: &mut UpdateLog) -> Result<(), Refusal> {
     match log.sign_refusal() {
         Some(refusal) => Err(refusal),
         None => {
-            log.signed();
+            log.sign();
             Ok(())
         }
     }
@@ -101,8 +101,8 @@ fn take(log: &mut UpdateLog, step: Step) -> Result<(), Refusal> {
         Paid(id) => log.receive(fulfilment(id, 0))?,
         Rate(feerate) => log.propose(Update::Fee(ln_log::Fee { feerate }))?,
         Sign => sign(log)?,
-        Learn => log.acknowledged(),
-        Accept => log.accepted(),
+        Learn => log.learn(),
+        Accept => log.accept(),
         Lose => log.drop_unsigned(),
     }
     Ok(())

@@ -5,4 +5,4 @@ use Rattle.ln_dance.proofs.dance.Dance.learn.Goals as goal
 
 pub invariant_of-self : goal.invariant_of-self
 invariant_of-self g c = kept_learned _ _ _ c.self.invariant
-    (ap owes c.self.view_is ∙ sym c.if-not-owes.ensures.by_numbers) c.acknowledged.ensures.counts
+    (ap owes c.self.view_is ∙ sym c.if-not-owes.ensures.by_numbers) c.learn.ensures.counts

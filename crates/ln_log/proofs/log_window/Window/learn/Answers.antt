@@ -1,5 +1,5 @@
 use Rattle.ln_log.proofs.Calls.{learned_call}
-use Rattle.ln_log.proofs.log_window.Window.acknowledged.Goals as goal
+use Rattle.ln_log.proofs.log_window.Window.learn.Goals as goal
 
 pub returns-clause-moves_as_stated : goal.returns-clause-moves_as_stated
 returns-clause-moves_as_stated c = λ l s. learned_call _ _ l _ _ _ _ c.self.view_is s
