@@ -10,7 +10,7 @@ use Rattle.ln_msgs.specs.Messages.Message.{Heard, message_at}
 use Rattle.ln_msgs.specs.Refusals.Refusal.{refusal_of}
 use Rattle.ln_commands.specs.declared.program_error.ProgramError.{ProgramError}
 use Rattle.ln_commands.specs.declared.program_error.ProgramError.TheVariants.{NotHex, Refused}
-use Rattle.ln_script.specs.MessageText.{heard_text}
+use Rattle.ln_text.specs.MessageText.{heard_text}
 use Rattle.ln_commands.specs.Text.{read_text, spelled_text, decoded}
 
 pub is_memory : (f : Fault) → (f ≢ faults.Memory) ⊎ (f ≡ faults.Memory)

@@ -7,10 +7,10 @@ ghost use Rattle.ln_commands.specs.Text.{decoded};
 use crate::program_error::ProgramError;
 use hex::FromHexError;
 use ln_msgs::{Refusal, decode};
-use ln_script::message_text;
+use ln_text::message_text;
 use std::alloc::Global;
 
-/// What a message in hexadecimal says (`ln_script::message_text`). Takes memory for the bytes and the text.
+/// What a message in hexadecimal says (`ln_text::message_text`). Takes memory for the bytes and the text.
 ///
 /// A text that isn't hexadecimal, or has an odd count of digits, is `NotHex`. A message that can't be read is
 /// refused by its first fault (`ln_msgs::decode`), 60 where there is no memory.

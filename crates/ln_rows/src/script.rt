@@ -3,7 +3,8 @@
 use crate::told::is_told;
 use ln_msgs::{Counted, Refusal, decode};
 use ln_part_tests::Narrow;
-use ln_script::{first_bad_line, message_text, print_all, read_script};
+use ln_script::{first_bad_line, print_all, read_script};
+use ln_text::message_text;
 use std::alloc::Global;
 
 #[test]

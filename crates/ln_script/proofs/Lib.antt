@@ -13,4 +13,3 @@ pub mod Unhooked
 pub mod Reports
 pub mod Recorded
 pub mod Telling
-pub mod Shown

@@ -9,5 +9,3 @@ pub mod Script
 pub mod LineText
 pub mod Report
 pub mod Telling
-pub mod MessageText
-pub mod Shown

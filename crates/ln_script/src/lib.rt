@@ -1,4 +1,4 @@
-//! Texts: scripts, each line one step of nodes and channels or a few; a report of what they did; messages as text.
+//! Texts: scripts, each line one step of nodes and channels or a few; a report of what they did.
 #![tactic(auto)]
 
 mod command;
@@ -7,7 +7,6 @@ mod hop;
 mod keys;
 mod laws;
 mod line;
-mod message;
 mod onion;
 mod print;
 mod reading;
@@ -20,7 +19,6 @@ pub use hook::HookLine;
 pub use laws::{
     each_hook_is_registered, first_bad_line, scripts_keep_the_promises, steps_are_wide,
 };
-pub use message::message_text;
 pub use print::print_all;
 pub use reading::{hook_lines, read_script};
 pub use report::print_report;

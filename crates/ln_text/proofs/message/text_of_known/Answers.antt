@@ -3,10 +3,10 @@ use Rattle.std.specs.List.{flat_map}
 use Rattle.ln_msgs.specs.declared.messages.item.Field.{Field}
 use Rattle.ln_bytes.specs.declared.record.Record.{Record}
 use Rattle.ln_msgs.specs.Messages.Typed.{wire}
-use Rattle.ln_script.specs.MessageText.{record_text}
-use Rattle.ln_script.specs.Shown.{shown_field}
-use Rattle.ln_script.proofs.Shown.{put_together}
-use Rattle.ln_script.proofs.message.text_of_known.Goals as goal
+use Rattle.ln_text.specs.MessageText.{record_text}
+use Rattle.ln_text.specs.Shown.{shown_field}
+use Rattle.ln_text.proofs.Shown.{put_together}
+use Rattle.ln_text.proofs.message.text_of_known.Goals as goal
 
 pub returns : goal.returns
 returns c =

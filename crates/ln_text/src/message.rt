@@ -4,9 +4,9 @@ ghost use Rattle.std.specs.Prelude.{◌≡◌, ◌++◌, OnOk, IfOk, string_byte
 ghost use Rattle.std.specs.List.{flat_map};
 ghost use Rattle.std.specs.Fmt.{decimal};
 ghost use Rattle.ln_msgs.specs.Messages.Typed.{wire, heard};
-ghost use Rattle.ln_script.specs.MessageText.{line, bytes_text, signature_line, record_text, type_line, known_text};
-ghost use Rattle.ln_script.specs.MessageText.{heard_text};
-ghost use Rattle.ln_script.specs.Shown.{shown_field};
+ghost use Rattle.ln_text.specs.MessageText.{line, bytes_text, signature_line, record_text, type_line, known_text};
+ghost use Rattle.ln_text.specs.MessageText.{heard_text};
+ghost use Rattle.ln_text.specs.Shown.{shown_field};
 
 use ln_bytes::Record;
 use ln_msgs::{Field, Incoming, Item, Message};

@@ -1,5 +1,5 @@
-use Rattle.ln_script.proofs.Shown.{signatures_more}
-use Rattle.ln_script.proofs.message.put_signatures.Goals as goal
+use Rattle.ln_text.proofs.Shown.{signatures_more}
+use Rattle.ln_text.proofs.message.put_signatures.Goals as goal
 
 pub loop-signature-preserved : goal.loop-signature-preserved
 loop-signature-preserved c =

@@ -9,8 +9,8 @@ use Rattle.ln_msgs.specs.Messages.Table.{Form, form_of, names_of}
 use Rattle.ln_msgs.specs.Messages.Message.{Wire}
 use Rattle.ln_msgs.specs.Messages.Items.{value_of, IsShownByForm, IsShownAs}
 use Rattle.ln_bytes.specs.declared.record.Record.{Record}
-use Rattle.ln_script.specs.MessageText.{fields_text, names_by, record_text, type_line, known_text, signature_line}
-use Rattle.ln_script.specs.Shown.{shown_field}
+use Rattle.ln_text.specs.MessageText.{fields_text, names_by, record_text, type_line, known_text, signature_line}
+use Rattle.ln_text.specs.Shown.{shown_field}
 
 zipped : (fs : List Field) → flat_map shown_field fs
     ≡ fields_text (map (λ f. f.name.now) fs) (map (λ f. value_of f.value) fs)

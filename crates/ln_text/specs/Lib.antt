@@ -1,0 +1,2 @@
+pub mod MessageText
+pub mod Shown
