@@ -22,9 +22,9 @@ use Rattle.ln_store.specs.Format.{fixed, optional}
 use Rattle.ln_store.specs.Items as it
 use Rattle.ln_store.specs.Readable.{names_an_update, is_sound, is_readable, funding_in}
 use Rattle.ln_store.specs.Window.{updates_fit}
-use Rattle.ln_link.specs.Record.{flags_of, payload_of, place_of, agreement_of, pairs_of, updates_by, updates_of}
-use Rattle.ln_link.specs.Record.{events_of, forwards_of, fees_of, progress_of, header_of, items_of, IsUnwritable}
-use Rattle.ln_link.specs.Record.{HasNoAgreement, NoRecord}
+use Rattle.ln_link.specs.Record.{flags_of, payload_of, chain_place_of, agreement_of, pairs_of, updates_by}
+use Rattle.ln_link.specs.Record.{updates_of, events_of, forwards_of, fees_of, progress_of, header_of, items_of}
+use Rattle.ln_link.specs.Record.{IsUnwritable, HasNoAgreement, NoRecord}
 use Rattle.ln_link.proofs.Window.{told_as, fit_so}
 use Rattle.ln_pair.specs.Widths.{IsUpdate}
 use Rattle.ln_pair.proofs.Offered.{All, all-take, all-drop, raised, IsHeld, IsCounted, IsWide, IsOf}
@@ -93,7 +93,7 @@ payload_short : (w : Wire) → length (wire_bytes w) ≤ 65535 → length (paylo
 unfolding payload_of
 payload_short w short = let l = length-drop 2 (wire_bytes w) in omega (arith, short, l)
 
-place_fits : (s : Option ShortId) → (optional (fixed 8)).fits (option_map place_of s) ≡ true
+place_fits : (s : Option ShortId) → (optional (fixed 8)).fits (option_map chain_place_of s) ≡ true
 place_fits None = refl
 place_fits (Some id) = refl
 
