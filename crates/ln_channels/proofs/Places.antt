@@ -61,6 +61,12 @@ found_where n cs i d e = at_first (λ c. c.number == n) (λ l k. channel n l ≡
     (λ c l h. ap (λ t. cond t (Some c) (channel n l)) h)
     (λ c l k h same. ap (λ t. cond t (Some c) (channel n l)) h ∙ same) cs i d e
 
+-- where a slice of them was searched
+pub searched : {K : Type 0} (n : ℕ) (cs slice : List (WorldChannel K)) (place o : Option ℕ) → place ≡ o
+    → place ≡ position (λ c. c.number == n) slice → slice ≡ cs → o ≡ position (λ c. c.number == n) cs
+searched n cs slice place o is e same =
+    sym is ∙ e ∙ ap (position (λ (c : WorldChannel _). c.number == n)) same
+
 -- ---- one channel moves
 
 changed_nowhere : {K : Type 0} (n : ℕ) (f : WorldChannel K → WorldChannel K) (cs : List (WorldChannel K))
@@ -147,6 +153,11 @@ pub once-set : {K : Type 0} (cs : List (WorldChannel K)) (i : ℕ) (d e : WorldC
 once-set [] i d e same h = tt
 once-set (c ∷ cs) zero d e same h = (subst (λ m. channel m cs ≡ None) (sym same) h.0, h.1)
 once-set (c ∷ cs) (suc i) d e same h = (set_alike c.number cs i d e same h.0, once-set cs i d e same h.1)
+
+-- the channel there is changed, and keeps its number
+pub still_once : {K : Type 0} (cs : List (WorldChannel K)) (i : ℕ) (d e : WorldChannel K) → d ≡ get_or cs i d
+    → e.number ≡ d.number → AreOnce cs → AreOnce (set cs i e)
+still_once cs i d e at same h = once-set cs i d e (same ∙ ap (λ (c : WorldChannel _). c.number) at) h
 
 pushed : {K : Type 0} (t : Bool) (c : WorldChannel K) (o : Option (WorldChannel K)) → o ≡ None → t ≡ false
     → cond t (Some c) o ≡ None

@@ -115,21 +115,10 @@ impl<K: ChannelKeys + Copy> WorldChannel<K> {
         ensures fails { IfErr result (λ e. ByRecord e
             (LinkLacks (unheard K.signer what (place_of side self.old.both)).link)) }
     {
+        let end = self.end(side);
         match side {
-            Role::Funder => {
-                let end = End {
-                    node: self.funder_node,
-                    channel: self.number,
-                };
-                act(alloc, end, &mut self.funder, &mut self.fundee, what, lines)
-            }
-            Role::Fundee => {
-                let end = End {
-                    node: self.fundee_node,
-                    channel: self.number,
-                };
-                act(alloc, end, &mut self.fundee, &mut self.funder, what, lines)
-            }
+            Role::Funder => act(alloc, end, &mut self.funder, &mut self.fundee, what, lines),
+            Role::Fundee => act(alloc, end, &mut self.fundee, &mut self.funder, what, lines),
         }
     }
 

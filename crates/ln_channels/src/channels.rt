@@ -1,14 +1,6 @@
 //! The channels of a world, each with a number of its own.
 
-ghost use Rattle.std.specs.Prelude.{◌≡◌, ◌++◌, ◌==◌, position, is_none, option_copied, IfOk, IfErr, OnOk};
-ghost use Rattle.ln_msgs.specs.declared.refusals.refusal.Refusal.TheVariants as refusal;
-ghost use Rattle.ln_channels.specs.WorldChannel.{side_of, acted_lines, fallen_lines, met_lines};
-ghost use Rattle.ln_channels.specs.WorldChannel.{act_moves, fall_moves, restart_moves, up_moves};
-ghost use Rattle.ln_channels.specs.WorldChannel.{halt_moves, stop_moves};
-ghost use Rattle.ln_channels.specs.World.{channel, moved_at, all_moved, if_there, lines_of_ends, AreOnce};
-ghost use Rattle.ln_channels.specs.World.{may_be_done, unheard_at};
-ghost use Rattle.ln_channels.specs.Failing.{ByRecord, ActLacksAt};
-ghost use Rattle.ln_channels.specs.Stored.{record_there};
+ghost use Rattle.std.specs.Prelude.{◌≡◌, ◌==◌, position};
 
 use crate::channel::{WorldChannel, open_channel};
 use crate::line::{EndLine, Line};
@@ -20,214 +12,13 @@ use ln_msgs::Refusal;
 use std::alloc::Global;
 use std::marker::Model;
 
-/// Where the channel of this number stands.
+/// Where the channel of this number stands. The methods of `Channels` that look for a channel share it.
 fn place_of<K: ChannelKeys + Copy>(channels: &[WorldChannel<K>], number: u8) -> Option<usize>
     ensures { result ≡ position (λ c. c.number == number) channels.now }
 {
     channels
         .iter()
         .position(|channel| channel.number() == number)
-}
-
-/// The channel of this number, where there is one.
-fn channel_at<K: ChannelKeys + Copy>(
-    channels: &[WorldChannel<K>],
-    number: u8,
-) -> Option<&WorldChannel<K>>
-    ensures { option_copied result ≡ channel number channels.now }
-{
-    match place_of(channels, number) {
-        None => None,
-        Some(i) => Some(&channels[i]),
-    }
-}
-
-/// Whether no channel has this number.
-fn is_free<K: ChannelKeys + Copy>(channels: &[WorldChannel<K>], number: u8) -> bool
-    ensures { result ≡ is_none (channel number channels.now) }
-{
-    place_of(channels, number).is_none()
-}
-
-/// Where the two ends of a channel stand, where it is there. 60 where there is no memory.
-fn tell_ends_at<K: ChannelKeys + Copy>(
-    alloc: Global,
-    channels: &[WorldChannel<K>],
-    number: u8,
-    lines: &mut Vec<EndLine>,
-) -> Result<(), Refusal>
-    ensures told { OnOk result (lines.new.items ≡ lines.old.items ++ lines_of_ends (channel number channels.now)) }
-    ensures fails_for_memory_alone { IfErr result (λ e. e ≡ refusal.Memory) }
-{
-    match place_of(channels, number) {
-        None => Ok(()),
-        Some(i) => channels[i].tell_ends(alloc, lines),
-    }
-}
-
-/// An end acts, where its channel is there. 60 where there is no memory, 70 where the end has no record behind that.
-fn act_at<K: ChannelKeys + Copy>(
-    alloc: Global,
-    channels: &mut [WorldChannel<K>],
-    end: End,
-    what: Act,
-    lines: &mut Vec<Line>,
-) -> Result<(), Refusal>
-    requires { AreOnce channels.old }
-    ensures moved { OnOk result (channels.new ≡ moved_at K.signer end.channel (act_moves end.node what) channels.old) }
-    ensures told { OnOk result (lines.new.items ≡ lines.old.items
-        ++ if_there (λ c. acted_lines K.signer what c (side_of end.node c)) (channel end.channel channels.old)) }
-    ensures once { AreOnce channels.new }
-    ensures fails { IfErr result (λ e. ByRecord e (ActLacksAt K.signer end what channels.old)) }
-{
-    match place_of(channels, end.channel) {
-        None => {
-            drop(what);
-            lines.push(Line::Idle)?;
-            Ok(())
-        }
-        Some(i) => channels[i].act(alloc, end.node, what, lines),
-    }
-}
-
-/// An end loses its connection, where its channel is there. 60 where there is no memory.
-fn fall_at<K: ChannelKeys + Copy>(
-    channels: &mut [WorldChannel<K>],
-    end: End,
-    lines: &mut Vec<Line>,
-) -> Result<(), Refusal>
-    requires { AreOnce channels.old }
-    ensures moved { OnOk result (channels.new ≡ moved_at K.signer end.channel (fall_moves end.node) channels.old) }
-    ensures told { OnOk result (lines.new.items ≡ lines.old.items
-        ++ if_there (λ c. fallen_lines (side_of end.node c)) (channel end.channel channels.old)) }
-    ensures once { AreOnce channels.new }
-    ensures fails_for_memory_alone { IfErr result (λ e. e ≡ refusal.Memory) }
-{
-    match place_of(channels, end.channel) {
-        None => {
-            lines.push(Line::Idle)?;
-            Ok(())
-        }
-        Some(i) => channels[i].fall(end.node, lines),
-    }
-}
-
-/// An end halts, where its channel is there. Takes no memory.
-fn halt_at<K: ChannelKeys + Copy>(channels: &mut [WorldChannel<K>], end: End)
-    requires { AreOnce channels.old }
-    ensures moved { channels.new ≡ moved_at K.signer end.channel (halt_moves end.node) channels.old }
-    ensures once { AreOnce channels.new }
-{
-    match place_of(channels, end.channel) {
-        None => {}
-        Some(i) => channels[i].halt(end.node),
-    }
-}
-
-/// Each end of a node comes back from its record. 60 where there is no memory.
-fn restart_each<K: ChannelKeys + Copy>(
-    alloc: Global,
-    channels: &mut [WorldChannel<K>],
-    node: Node,
-) -> Result<(), Refusal>
-    requires { AreOnce channels.old }
-    ensures moved { OnOk result (channels.new ≡ all_moved K.signer (restart_moves node) channels.old) }
-    ensures once { AreOnce channels.new }
-    ensures fails_for_memory_alone { IfErr result (λ e. e ≡ refusal.Memory) }
-{
-    for i in 0..channels.len() {
-        channels[i].restart(alloc, node)?;
-    }
-    Ok(())
-}
-
-/// Whether an end can act so: its channel is there.
-fn may_act_at<K: ChannelKeys + Copy>(channels: &[WorldChannel<K>], end: End, what: &Act) -> bool
-    ensures { result ≡ may_be_done end what.now channels.now }
-{
-    match place_of(channels, end.channel) {
-        None => false,
-        Some(i) => channels[i].may_act(end.node, what),
-    }
-}
-
-/// An end acts, where its channel is there; what it hands out is lost. 60 where there is no memory, 70 where the end
-/// has no record behind that.
-fn act_unheard_at<K: ChannelKeys + Copy>(
-    alloc: Global,
-    channels: &mut [WorldChannel<K>],
-    end: End,
-    what: Act,
-) -> Result<(), Refusal>
-    requires { AreOnce channels.old }
-    ensures acted { OnOk result (channels.new ≡ unheard_at K.signer end what channels.old) }
-    ensures once { AreOnce channels.new }
-    ensures fails { IfErr result (λ e. ByRecord e (ActLacksAt K.signer end what channels.old)) }
-{
-    match place_of(channels, end.channel) {
-        None => {
-            drop(what);
-            Ok(())
-        }
-        Some(i) => channels[i].act_unheard(alloc, end.node, what),
-    }
-}
-
-/// An end acts, and then its node stops, and comes back as it was saved. 60 where there is no memory, 70 where the end
-/// has no record behind the act.
-fn stop_each<K: ChannelKeys + Copy>(
-    alloc: Global,
-    channels: &mut [WorldChannel<K>],
-    end: End,
-    what: Act,
-) -> Result<(), Refusal>
-    requires { AreOnce channels.old }
-    ensures moved { OnOk result (channels.new ≡ all_moved K.signer (stop_moves end what) channels.old) }
-    ensures once { AreOnce channels.new }
-    ensures fails { IfErr result (λ e. ByRecord e (ActLacksAt K.signer end what channels.old)) }
-{
-    act_unheard_at(alloc, channels, end, what)?;
-    restart_each(alloc, channels, end.node)
-}
-
-/// The bytes of an end's record, where its channel is there; none before both have signed the opening. 60 where there
-/// is no memory.
-fn record_at<K: ChannelKeys + Copy>(
-    alloc: Global,
-    channels: &mut [WorldChannel<K>],
-    end: End,
-) -> Result<Option<Bytes>, Refusal>
-    ensures record { IfOk result (λ found. found ≡ record_there end.node (channel end.channel channels.old)) }
-    ensures changes_nothing { channels.new ≡ channels.old }
-    ensures fails_for_memory_alone { IfErr result (λ e. e ≡ refusal.Memory) }
-{
-    match place_of(channels, end.channel) {
-        None => Ok(None),
-        Some(i) => channels[i].record(alloc, end.node),
-    }
-}
-
-/// Both ends of a channel get a connection, where it is there and they may. 60 where there is no memory.
-fn come_up_at<K: ChannelKeys + Copy>(
-    alloc: Global,
-    channels: &mut [WorldChannel<K>],
-    number: u8,
-    lines: &mut Vec<Line>,
-) -> Result<(), Refusal>
-    requires { AreOnce channels.old }
-    ensures moved { OnOk result (channels.new ≡ moved_at K.signer number up_moves channels.old) }
-    ensures told { OnOk result (lines.new.items
-        ≡ lines.old.items ++ if_there (met_lines K.signer) (channel number channels.old)) }
-    ensures once { AreOnce channels.new }
-    ensures fails_for_memory_alone { IfErr result (λ e. e ≡ refusal.Memory) }
-{
-    match place_of(channels, number) {
-        None => {
-            lines.push(Line::Idle)?;
-            Ok(())
-        }
-        Some(i) => channels[i].come_up(alloc, lines),
-    }
 }
 
 /// The channels of a world, in the order of opening, each with a number of its own.
@@ -272,14 +63,17 @@ impl<K: ChannelKeys + Copy> Channels<K> {
     pub(crate) fn channel(&self, number: u8) -> Option<&WorldChannel<K>>
         ensures { option_copied result ≡ channel number self.now }
     {
-        channel_at(&self.items, number)
+        match place_of(&self.items, number) {
+            None => None,
+            Some(i) => Some(&self.items[i]),
+        }
     }
 
     /// Whether no channel has this number.
     pub(crate) fn is_free(&self, number: u8) -> bool
         ensures { result ≡ is_none (channel number self.now) }
     {
-        is_free(&self.items, number)
+        place_of(&self.items, number).is_none()
     }
 
     /// A channel is opened and joins. 60 where there is no memory, 70 where an end has no record as an act of the
@@ -317,7 +111,14 @@ impl<K: ChannelKeys + Copy> Channels<K> {
             ++ if_there (λ c. acted_lines K.signer what c (side_of end.node c)) (channel end.channel self.old)) }
         ensures fails { IfErr result (λ e. ByRecord e (ActLacksAt K.signer end what self.old)) }
     {
-        act_at(alloc, &mut self.items, end, what, lines)
+        match place_of(&self.items, end.channel) {
+            None => {
+                drop(what);
+                lines.push(Line::Idle)?;
+                Ok(())
+            }
+            Some(i) => self.items[i].act(alloc, end.node, what, lines),
+        }
     }
 
     /// An end loses its connection, where its channel is there. 60 where there is no memory.
@@ -327,14 +128,23 @@ impl<K: ChannelKeys + Copy> Channels<K> {
             ++ if_there (λ c. fallen_lines (side_of end.node c)) (channel end.channel self.old)) }
         ensures fails_for_memory_alone { IfErr result (λ e. e ≡ Refusal.Memory) }
     {
-        fall_at(&mut self.items, end, lines)
+        match place_of(&self.items, end.channel) {
+            None => {
+                lines.push(Line::Idle)?;
+                Ok(())
+            }
+            Some(i) => self.items[i].fall(end.node, lines),
+        }
     }
 
     /// An end halts, where its channel is there. Takes no memory.
     pub(crate) fn halt(&mut self, end: End)
         ensures { self.new ≡ moved_at K.signer end.channel (halt_moves end.node) self.old }
     {
-        halt_at(&mut self.items, end)
+        match place_of(&self.items, end.channel) {
+            None => {}
+            Some(i) => self.items[i].halt(end.node),
+        }
     }
 
     /// Each end of a node comes back from its record. 60 where there is no memory.
@@ -342,14 +152,35 @@ impl<K: ChannelKeys + Copy> Channels<K> {
         ensures moved { OnOk result (self.new ≡ all_moved K.signer (restart_moves node) self.old) }
         ensures fails_for_memory_alone { IfErr result (λ e. e ≡ Refusal.Memory) }
     {
-        restart_each(alloc, &mut self.items, node)
+        for i in 0..self.items.len() {
+            self.items[i].restart(alloc, node)?;
+        }
+        Ok(())
     }
 
     /// Whether an end can act so.
     pub(crate) fn may_act(&self, end: End, what: &Act) -> bool
         ensures { result ≡ may_be_done end what.now self.now }
     {
-        may_act_at(&self.items, end, what)
+        match place_of(&self.items, end.channel) {
+            None => false,
+            Some(i) => self.items[i].may_act(end.node, what),
+        }
+    }
+
+    /// An end acts, where its channel is there; what it hands out is lost. 60 where there is no memory, 70 where the
+    /// end has no record behind that.
+    fn act_unheard(&mut self, alloc: Global, end: End, what: Act) -> Result<(), Refusal>
+        ensures acted { OnOk result (self.new ≡ unheard_at K.signer end what self.old) }
+        ensures fails { IfErr result (λ e. ByRecord e (ActLacksAt K.signer end what self.old)) }
+    {
+        match place_of(&self.items, end.channel) {
+            None => {
+                drop(what);
+                Ok(())
+            }
+            Some(i) => self.items[i].act_unheard(alloc, end.node, what),
+        }
     }
 
     /// An end acts, and then its node stops: what the act hands out is lost, and each end of the node comes back from
@@ -358,7 +189,8 @@ impl<K: ChannelKeys + Copy> Channels<K> {
         ensures moved { OnOk result (self.new ≡ all_moved K.signer (stop_moves end what) self.old) }
         ensures fails { IfErr result (λ e. ByRecord e (ActLacksAt K.signer end what self.old)) }
     {
-        stop_each(alloc, &mut self.items, end, what)
+        self.act_unheard(alloc, end, what)?;
+        self.restart(alloc, end.node)
     }
 
     /// The bytes of an end's record, where its channel is there. 60 where there is no memory.
@@ -367,7 +199,10 @@ impl<K: ChannelKeys + Copy> Channels<K> {
         ensures changes_nothing { self.new ≡ self.old }
         ensures fails_for_memory_alone { IfErr result (λ e. e ≡ Refusal.Memory) }
     {
-        record_at(alloc, &mut self.items, end)
+        match place_of(&self.items, end.channel) {
+            None => Ok(None),
+            Some(i) => self.items[i].record(alloc, end.node),
+        }
     }
 
     /// Both ends of a channel get a connection, where it is there and they may. 60 where there is no memory.
@@ -382,7 +217,13 @@ impl<K: ChannelKeys + Copy> Channels<K> {
             ≡ lines.old.items ++ if_there (met_lines K.signer) (channel number self.old)) }
         ensures fails_for_memory_alone { IfErr result (λ e. e ≡ Refusal.Memory) }
     {
-        come_up_at(alloc, &mut self.items, number, lines)
+        match place_of(&self.items, number) {
+            None => {
+                lines.push(Line::Idle)?;
+                Ok(())
+            }
+            Some(i) => self.items[i].come_up(alloc, lines),
+        }
     }
 
     /// Where the two ends of a channel stand, where it is there. 60 where there is no memory.
@@ -395,6 +236,9 @@ impl<K: ChannelKeys + Copy> Channels<K> {
         ensures told { OnOk result (lines.new.items ≡ lines.old.items ++ lines_of_ends (channel number self.now)) }
         ensures fails_for_memory_alone { IfErr result (λ e. e ≡ Refusal.Memory) }
     {
-        tell_ends_at(alloc, &self.items, number, lines)
+        match place_of(&self.items, number) {
+            None => Ok(()),
+            Some(i) => self.items[i].tell_ends(alloc, lines),
+        }
     }
 }
