@@ -32,16 +32,16 @@ use Rattle.ln_forward.specs.Checks.{fee, final_fault}
 use Rattle.ln_forward.specs.Failure.{failure_bytes}
 use Rattle.ln_forward.specs.Payload.{Hop, payload_at}
 use Rattle.ln_tables.specs.declared.htlc.Offer.{Offer}
-use Rattle.ln_tables.specs.declared.entry.Line.{Line}
+use Rattle.ln_tables.specs.declared.entry.OutgoingChannel.{OutgoingChannel}
 use Rattle.ln_tables.specs.declared.entry.Invoice.{Invoice}
 use Rattle.ln_tables.specs.Replay.{Table, same, is_usable}
 use Rattle.ln_pair.specs.Widths.{IsMark, IsUpdate, IsAdd}
 use Rattle.ln_pair.proofs.Offered.{Where}
 use Rattle.ln_book.specs.Commands.{Services, next_of}
-use Rattle.ln_book.specs.Marks.{offer_of, incoming_of, failure_by, unopened, line_by, forward_mark, forwarded}
+use Rattle.ln_book.specs.Marks.{offer_of, incoming_of, failure_by, unopened, outgoing_by, forward_mark, forwarded}
 use Rattle.ln_book.specs.Marks.{final_mark, final_payload, expected_by, read_hop, read, opened_mark, mark_of}
 use Rattle.ln_book.specs.Marks.{decision}
-use Rattle.ln_world.proofs.WideTables.{IsHow, IsOffer, IsTable, IsDecided, IsLine, IsInvoice}
+use Rattle.ln_world.proofs.WideTables.{IsHow, IsOffer, IsTable, IsDecided, IsOutgoing, IsInvoice}
 use Rattle.ln_world.proofs.WideTables.{either, where-either, all-lookup}
 
 -- ---- onions for tests
@@ -171,14 +171,14 @@ event_so own (update.Fee f) h = tt
 -- ---- marks
 
 module _ (s : Services) (short : (f : Failure) → length (s.wrapped (failure_bytes f)) < 2 ^ 64) where
-  chosen : (hop : Hop) (l : Option Line) (b : Bool) (x : Failure) (f : Option Failure)
+  chosen : (hop : Hop) (l : Option OutgoingChannel) (b : Bool) (x : Failure) (f : Option Failure)
       → (b ≡ false → IsMark (forward_mark s hop l f)) → IsMark (forward_mark s hop l (cond b (Some x) f))
   chosen hop l true x f h = short x
   chosen hop l false x f h = h refl
 
   -- what is forwarded is no more than what comes in, and expires no later
-  paid_so : (o : Offer) (a e : ℕ) (next : Option (List ℕ)) (payment : Option Payment) (t : Table) (l : Line) → IsOffer o
-      → IsLine l
+  paid_so : (o : Offer) (a e : ℕ) (next : Option (List ℕ)) (payment : Option Payment) (t : Table) (l : OutgoingChannel)
+      → IsOffer o → IsOutgoing l
       → IsMark (forwarded s o (record { amount = Some a; expiry = Some e; next = next; payment = payment }) t (Some l))
   paid_so o a e next payment t l is line =
       let hop : Hop = record { amount = Some a; expiry = Some e; next = next; payment = payment } in
@@ -198,7 +198,7 @@ module _ (s : Services) (short : (f : Failure) → length (s.wrapped (failure_by
       record { channel_fits = line; amount_fits = omega arith; expiry_fits = omega arith })))))))
 
   forwarded_so : (o : Offer) (amount expiry : Option ℕ) (next : Option (List ℕ)) (payment : Option Payment) (t : Table)
-      (l : Option Line) → IsOffer o → Where IsLine l
+      (l : Option OutgoingChannel) → IsOffer o → Where IsOutgoing l
       → IsMark (forwarded s o (record { amount = amount; expiry = expiry; next = next; payment = payment }) t l)
   forwarded_so o None expiry next payment t l is line = short (failure.InvalidOnionPayload 2)
   forwarded_so o (Some a) None next payment t l is line = short (failure.InvalidOnionPayload 4)
@@ -207,9 +207,9 @@ module _ (s : Services) (short : (f : Failure) → length (s.wrapped (failure_by
       (failure.InvalidOnionPayload 6) (Some failure.UnknownNextPeer) (λ _. short failure.UnknownNextPeer)
   forwarded_so o (Some a) (Some e) next payment t (Some l) is line = paid_so o a e next payment t l is line
 
-  line_so : (t : Table) (id : Option (List ℕ)) → IsTable t → Where IsLine (line_by t id)
-  line_so t None g = tt
-  line_so t (Some id) g = all-lookup IsLine (same id) t.routes g.routes
+  outgoing_so : (t : Table) (id : Option (List ℕ)) → IsTable t → Where IsOutgoing (outgoing_by t id)
+  outgoing_so t None g = tt
+  outgoing_so t (Some id) g = all-lookup IsOutgoing (same id) t.routes g.routes
 
   final_so : (i : Option Invoice) (f : Option Failure) → Where IsInvoice i → IsMark (final_mark s i f)
   final_so i (Some f) h = short f
@@ -222,7 +222,7 @@ module _ (s : Services) (short : (f : Failure) → length (s.wrapped (failure_by
       final_so i (final_fault (incoming_of o) (final_payload hop) (expected_by i) t.height)
       (all-lookup IsInvoice (same o.hash) t.expected g.expected)
   hop_read o t false hop is g =
-      forwarded_so o hop.amount hop.expiry hop.next hop.payment t (line_by t hop.next) is (line_so t hop.next g)
+      forwarded_so o hop.amount hop.expiry hop.next hop.payment t (outgoing_by t hop.next) is (outgoing_so t hop.next g)
 
   read_so : (o : Offer) (t : Table) (b : Bool) (r : Result Hop Fault) → IsOffer o → IsTable t → IsMark (read s o t b r)
   read_so o t b (Err f) is g = short (failure.InvalidOnionPayload 0)

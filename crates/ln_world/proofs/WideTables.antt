@@ -17,7 +17,7 @@ use Rattle.ln_tables.specs.declared.htlc.Way.TheVariants as way
 use Rattle.ln_tables.specs.declared.htlc.Back.{Back}
 use Rattle.ln_tables.specs.declared.htlc.Back.TheVariants as back
 use Rattle.ln_tables.specs.declared.htlc.Htlc.{Htlc}
-use Rattle.ln_tables.specs.declared.entry.Line.{Line}
+use Rattle.ln_tables.specs.declared.entry.OutgoingChannel.{OutgoingChannel}
 use Rattle.ln_tables.specs.declared.entry.Invoice.{Invoice}
 use Rattle.ln_tables.specs.declared.entry.Queued.{Queued}
 use Rattle.ln_tables.specs.declared.entry.Decided.{Decided}
@@ -73,7 +73,7 @@ pub record IsKept (k : Key) (h : List ℕ) (m : Mark) (w : Way) : Type 0 where
 abbrev pub IsHtlc : Htlc → Type 0
 IsHtlc h = IsKept h.key h.offer.hash h.mark h.way
 
-abbrev pub IsRoute : List ℕ × Line → Type 0
+abbrev pub IsRoute : List ℕ × OutgoingChannel → Type 0
 IsRoute p = length p.1.channel ≡ 32
 
 abbrev pub IsExpected : List ℕ × Invoice → Type 0
@@ -82,8 +82,8 @@ IsExpected p = length p.1.preimage ≡ 32
 abbrev pub IsQueued : Queued → Type 0
 IsQueued q = IsMark q.mark
 
-pub record AreWide (rs : List (List ℕ × Line)) (is : List (List ℕ × Invoice)) (qs : List Queued) (hs : List Htlc)
-    : Type 0 where
+pub record AreWide (rs : List (List ℕ × OutgoingChannel)) (is : List (List ℕ × Invoice)) (qs : List Queued)
+    (hs : List Htlc) : Type 0 where
   pub routes : All IsRoute rs
   pub expected : All IsExpected is
   pub queue : All IsQueued qs
@@ -147,13 +147,13 @@ module _ {V : Type 0} (P : V → Type 0) where
 
 -- ---- settings
 
-abbrev pub IsLine : Line → Type 0
-IsLine l = length l.channel ≡ 32
+abbrev pub IsOutgoing : OutgoingChannel → Type 0
+IsOutgoing l = length l.channel ≡ 32
 
 abbrev pub IsInvoice : Invoice → Type 0
 IsInvoice i = length i.preimage ≡ 32
 
-route_so : (id : List ℕ) (l : Line) (es : List (List ℕ × Line)) → IsLine l → All IsRoute es
+route_so : (id : List ℕ) (l : OutgoingChannel) (es : List (List ℕ × OutgoingChannel)) → IsOutgoing l → All IsRoute es
     → All IsRoute (with_route id l (record no_table { routes = es })).routes
 route_so id l [] n h = (n, tt)
 route_so id l (e ∷ es) n h =
