@@ -5,6 +5,7 @@ use Rattle.std.proofs.lemmas.List.{take_all}
 use Rattle.std.proofs.lemmas.Bool.Decides.{nat_tests}
 use Rattle.std.specs.Borrow.{Bor}
 use Rattle.ln_script.specs.declared.hop.Hop.{Hop}
+use Rattle.ln_script.specs.Word.{◌>>=◌}
 use Rattle.ln_script.specs.Onion.{hop_payload, last_payload, payloads_at, in_front, front_hop}
 use Rattle.ln_script.specs.Step.{texts}
 

@@ -14,7 +14,7 @@ use Rattle.ln_bytes.specs.ShortId.{IsPlain}
 use Rattle.std.specs.List.{position_or_len}
 use Rattle.std.proofs.lemmas.List.{drop_all}
 use Rattle.ln_bytes.specs.declared.short_id.ShortId.{ShortId}
-use Rattle.ln_script.specs.Word.{is_decimal, decimal_at, number_at, cut_below, id_of, before_x}
+use Rattle.ln_script.specs.Word.{◌>>=◌, is_decimal, decimal_at, number_at, cut_below, id_of, before_x}
 use Rattle.ln_script.specs.Word.{after_x, short_id_at}
 
 own : IsNumeralModel (λ ds. all_ascii_digits ds ≡ true) (digits_value 10)

@@ -12,7 +12,7 @@ use Rattle.ln_hooks.specs.Verdict.{code_number}
 use Rattle.ln_script.specs.declared.hook.HookLine.{HookLine}
 use Rattle.ln_script.specs.declared.hook.HookLine.TheVariants as hook
 use Rattle.ln_script.specs.declared.hook.Hooked.{Hooked}
-use Rattle.ln_script.specs.Word.{decimal_at, end_at, code_at}
+use Rattle.ln_script.specs.Word.{◌>>=◌, decimal_at, end_at, code_at}
 
 -- ---- what a hook says
 

@@ -5,7 +5,7 @@ use Rattle.ln_bytes.specs.ShortId.{short_id_bytes}
 use Rattle.ln_bytes.specs.Tlv.{as_record, stream_bytes}
 use Rattle.ln_bytes.specs.Truncated.{truncated}
 use Rattle.ln_script.specs.declared.hop.Hop.{Hop}
-use Rattle.ln_script.specs.Word.{decimal_at, number_at, short_id_at}
+use Rattle.ln_script.specs.Word.{◌>>=◌, decimal_at, number_at, short_id_at}
 
 -- BxTxO AMT CLTV
 unfoldable pub hop_at : List ℕ → List ℕ → List ℕ → Option Hop

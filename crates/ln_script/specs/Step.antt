@@ -14,7 +14,7 @@ use Rattle.ln_world.specs.declared.step.Step.{Step}
 use Rattle.ln_world.specs.declared.step.Step.TheVariants as step
 use Rattle.ln_script.specs.declared.step.Doing.{Doing}
 use Rattle.ln_script.specs.Hook.{hooked_at}
-use Rattle.ln_script.specs.Word.{decimal_at, number_at, node_at, end_at, short_id_at}
+use Rattle.ln_script.specs.Word.{◌>>=◌, decimal_at, number_at, node_at, end_at, short_id_at}
 use Rattle.ln_script.specs.Keys.{toy, partners_of}
 use Rattle.ln_script.specs.Command.{preimage_of, command_at}
 
