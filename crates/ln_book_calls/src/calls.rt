@@ -79,7 +79,7 @@ fn verdict_of(number: u64) -> Verdict {
     }
 }
 
-// The channel, the event's number, and the HTLC with the verdict at its sixth seat.
+// The channel, the event's number, and the HTLC with the verdict at its sixth place.
 fn decide(alloc: Global, book: &mut Book, words: &[u64]) -> Result<String, AllocError> {
     let rest = words.get(3..).unwrap_or(&[]);
     let event = added(alloc, rest)?;

@@ -11,9 +11,9 @@ pub fn numbers(alloc: Global, line: &str) -> Result<Vec<u64>, AllocError> {
     Ok(all)
 }
 
-/// The number at a seat; 0 behind the end.
-pub fn at(words: &[u64], seat: usize) -> u64 {
-    match words.get(seat) {
+/// The number of this index; 0 behind the end.
+pub fn at(words: &[u64], index: usize) -> u64 {
+    match words.get(index) {
         None => 0,
         Some(number) => *number,
     }

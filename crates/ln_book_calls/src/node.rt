@@ -15,7 +15,7 @@ use std::alloc::{AllocError, Global};
 
 /// A channel of the node's.
 #[derive(Drop)]
-struct Seat {
+struct NodeChannel {
     channel: ChannelId,
     ends: Box<Ends>,
 }
@@ -24,7 +24,7 @@ struct Seat {
 #[derive(Drop)]
 pub struct Node {
     pub book: Box<Book>,
-    seats: Vec<Seat>,
+    channels: Vec<NodeChannel>,
 }
 
 /// Decides each event, and hears what became of HTLCs. Says how many there were.
@@ -70,10 +70,10 @@ fn signing_of(number: u64) -> Signing {
 }
 
 /// Reads off the ends of all channels.
-fn readings_of(alloc: Global, seats: &[Seat]) -> Result<Vec<Reading>, Refusal> {
+fn readings_of(alloc: Global, channels: &[NodeChannel]) -> Result<Vec<Reading>, Refusal> {
     let mut all = Vec::new(alloc);
-    for seat in seats {
-        match seat.ends.channel() {
+    for one in channels {
+        match one.ends.channel() {
             None => {}
             Some(channel) => all.push(Reading::of(alloc, channel)?)?,
         }
@@ -81,7 +81,7 @@ fn readings_of(alloc: Global, seats: &[Seat]) -> Result<Vec<Reading>, Refusal> {
     Ok(all)
 }
 
-impl Seat {
+impl NodeChannel {
     /// What the channel's ends do by a line, and which events the node's end tells of.
     fn play(
         &mut self,
@@ -149,7 +149,7 @@ impl Node {
         let book = Box::new(alloc, Book::new(alloc))?;
         Ok(Node {
             book,
-            seats: Vec::new(alloc),
+            channels: Vec::new(alloc),
         })
     }
 
@@ -157,15 +157,15 @@ impl Node {
     fn open(&mut self, alloc: Global, channel: ChannelId) -> Result<usize, Refusal> {
         let mut told = Vec::new(alloc);
         let ends = Ends::open(alloc, channel, &mut told)?;
-        self.seats.push(Seat { channel, ends })?;
+        self.channels.push(NodeChannel { channel, ends })?;
         note(alloc, &mut self.book, channel, told.as_slice())
     }
 
     /// The index of a channel.
     fn index_of(&self, channel: &ChannelId) -> Result<usize, Refusal> {
-        match self.seats.iter().position(|seat| channel == &seat.channel) {
+        match self.channels.iter().position(|one| channel == &one.channel) {
             None => Err(Refusal::NotReady),
-            Some(seat) => Ok(seat),
+            Some(index) => Ok(index),
         }
     }
 
@@ -175,19 +175,19 @@ impl Node {
         if word == "open" {
             return self.open(alloc, channel);
         }
-        let seat = self.index_of(&channel)?;
-        let Some(seat) = self.seats.get_mut(seat) else {
+        let index = self.index_of(&channel)?;
+        let Some(one) = self.channels.get_mut(index) else {
             return Err(Refusal::NotReady);
         };
         let mut told = Vec::new(alloc);
-        seat.play(alloc, word, words, &mut told)?;
+        one.play(alloc, word, words, &mut told)?;
         note(alloc, &mut self.book, channel, told.as_slice())
     }
 
     /// The node's end of a channel does what the book commands, and the book hears the answer.
     fn obey(&mut self, alloc: Global, channel: ChannelId) -> Result<String, Refusal> {
-        let seat = self.index_of(&channel)?;
-        let Some(seat) = self.seats.get_mut(seat) else {
+        let index = self.index_of(&channel)?;
+        let Some(one) = self.channels.get_mut(index) else {
             return Err(Refusal::NotReady);
         };
         let Some(command) = self.book.take_commands(alloc, &ToyOnion, channel)? else {
@@ -195,7 +195,7 @@ impl Node {
         };
         let mut told = Vec::new(alloc);
         let shown = show_command(alloc, &command);
-        let answer = seat.obeyed(alloc, command, &mut told);
+        let answer = one.obeyed(alloc, command, &mut told);
         self.book.answered(channel, answer);
         let shown = shown?;
         note(alloc, &mut self.book, channel, told.as_slice())?;
@@ -204,12 +204,12 @@ impl Node {
 
     /// A channel loses its connection, and the book asks the node's end what was kept.
     fn down(&mut self, alloc: Global, channel: ChannelId) -> Result<usize, Refusal> {
-        let seat = self.index_of(&channel)?;
-        let Some(seat) = self.seats.get_mut(seat) else {
+        let index = self.index_of(&channel)?;
+        let Some(one) = self.channels.get_mut(index) else {
             return Err(Refusal::NotReady);
         };
-        seat.ends.cut();
-        let Some(end) = seat.ends.channel() else {
+        one.ends.cut();
+        let Some(end) = one.ends.channel() else {
             return Err(Refusal::NotReady);
         };
         self.book.dropped(alloc, channel, end)?;
@@ -218,12 +218,12 @@ impl Node {
 
     /// The node restarts: all connections are lost, and the book is read off the ends of all channels.
     fn restart(&mut self, alloc: Global) -> Result<usize, Refusal> {
-        for seat in self.seats.iter_mut() {
-            seat.ends.cut();
+        for one in self.channels.iter_mut() {
+            one.ends.cut();
         }
-        let readings = readings_of(alloc, self.seats.as_slice())?;
+        let readings = readings_of(alloc, self.channels.as_slice())?;
         self.book.rebuild(alloc, readings.as_slice())?;
-        Ok(self.seats.len())
+        Ok(self.channels.len())
     }
 
     /// A line of channels.
