@@ -5,12 +5,13 @@ HERE = os.path.dirname(os.path.abspath(__file__))
 TOP = os.path.dirname(os.path.dirname(HERE))
 LIBRARIES = (
     "ln_demo ln_node ln_book ln_sqlite ln_store ln_link ln_channel ln_hooks ln_keys ln_msgs ln_bytes sqlite"
-    " sqlite_std_file"
+    " sqlite_std_file sqlite_store sqlite_disk sqlite_trees"
 )
 
 
 def program(room):
-    """The program of soak_node/, which is proved first over the libraries that earlier checks left in out/."""
+    """The program of soak_node/, which is proved first over the libraries that earlier checks left in out/. Its files
+    have endings of their own, as the gate reads no code and no proof beside its crates."""
     shutil.copy(f"{TOP}/HANDLES", room)
     os.mkdir(f"{room}/.git")
     for crate in os.listdir(f"{TOP}/crates"):
@@ -19,9 +20,12 @@ def program(room):
         if os.path.isdir(f"{there}/out/rlib"):
             shutil.copytree(f"{there}/out/rlib", f"{here}/out/rlib")
     folder = f"{room}/crates/soak_node"
-    os.makedirs(f"{folder}/src")
-    for name in os.listdir(f"{HERE}/soak_node"):
-        shutil.copy(f"{HERE}/soak_node/{name}", f"{folder}/src/{name.replace('.rattle', '.rt')}")
+    for at, _, names in os.walk(f"{HERE}/soak_node"):
+        below = os.path.relpath(at, f"{HERE}/soak_node")
+        to = f"{folder}/src" if below == "." else f"{folder}/{below}"
+        os.makedirs(to)
+        for name in names:
+            shutil.copy(f"{at}/{name}", f"{to}/{name.replace('.rattle', '.rt').replace('.proof', '.antt')}")
     with open(f"{TOP}/crates.txt") as it:
         lines = it.read()
     with open(f"{room}/crates.txt", "w") as it:
