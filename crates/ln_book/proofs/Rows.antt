@@ -9,6 +9,8 @@ use Rattle.ln_log.specs.declared.update.Update.{Update}
 use Rattle.ln_log.specs.declared.update.Update.TheVariants as update
 use Rattle.ln_log.specs.Log.{Log, none}
 use Rattle.ln_hooks.specs.declared.event.How.TheVariants as how
+use Rattle.ln_hooks.specs.declared.verdict.FailureCode.TheVariants as code
+use Rattle.ln_hooks.specs.declared.verdict.Verdict.TheVariants as verdict
 use Rattle.ln_channel.specs.declared.command.Command.TheVariants as command
 use Rattle.ln_forward.specs.declared.failure.Failure.TheVariants as failure
 use Rattle.ln_forward.specs.Failure.{failure_bytes}
@@ -21,16 +23,19 @@ use Rattle.ln_tables.specs.declared.htlc.Back.TheVariants as back
 use Rattle.ln_tables.specs.declared.htlc.Htlc.{Htlc}
 use Rattle.ln_tables.specs.declared.entry.Queued.{Queued}
 use Rattle.ln_tables.specs.declared.entry.Decided.{Decided}
+use Rattle.ln_tables.specs.declared.entry.Resumed.{Resumed}
 use Rattle.ln_tables.specs.declared.entry.Out.TheVariants as out
 use Rattle.ln_tables.specs.declared.entry.Desk.{Desk}
 use Rattle.ln_tables.specs.declared.entry.Desk.TheVariants as desk
 use Rattle.ln_tables.specs.declared.entry.Entry.TheVariants as entry
 use Rattle.ln_readings.specs.declared.leg.Leg.{Leg}
-use Rattle.ln_tables.specs.Replay.{Table, no_table, queued_of, after}
+use Rattle.ln_tables.specs.Replay.{Table, no_table, queued_of, resumed_of, after}
+use Rattle.ln_tables.specs.Held.{all_held}
 use Rattle.ln_readings.specs.Kept.{own_updates, has_own_removal}
 use Rattle.ln_readings.specs.Rebuild.{Reading, no_event, legs_offered, legs_over, decided_in, htlc_left, rebuilt}
 use Rattle.ln_readings.specs.Rebuild.{rebuilt_htlcs}
 use Rattle.ln_book.specs.Commands.{Services, first_command}
+use Rattle.ln_book.specs.Marks.{resumption}
 
 abbrev a : List ℕ
 a = 10 ∷ []
@@ -224,6 +229,102 @@ removal_is_kept = refl
 decided_again : after (idle [] (htlc true (way.Offered went) back.Open ∷ [])) (entry.Decided decided)
     ≡ idle (queued_of decided ∷ []) (htlc true (way.Offered went) back.Open ∷ [])
 decided_again = refl
+
+-- ---- one that a hook holds, and that is resumed
+
+abbrev as_held : Bool → Back → Htlc
+as_held d k = record {
+  key = came;
+  event = 3;
+  offer = offer;
+  mark = mark.Held 3;
+  decided = d;
+  way = way.Nowhere;
+  back = k;
+}
+
+abbrev holding : Decided
+holding = record { channel = a; event = 3; offer = Some offer; mark = mark.Held 3 }
+
+held_first : first_command service a (idle (queued_of holding ∷ []) (as_held false back.Open ∷ []))
+    ≡ Some (out.Deciding 3, command.Decide 3 (mark.Held 3))
+held_first = refl
+
+-- then nothing is commanded of it
+waits_held : first_command service a (idle [] (as_held true back.Open ∷ [])) ≡ None
+waits_held = refl
+
+held_is_not_offered : first_command service b (idle [] (as_held true back.Open ∷ [])) ≡ None
+held_is_not_offered = refl
+
+is_listed : all_held (idle [] (as_held true back.Open ∷ []))
+    ≡ record { channel = a; number = 3; id = 5; amount = 1000; hash = 7 ∷ []; expiry = 400 } ∷ []
+is_listed = refl
+
+is_not_listed_yet : all_held (idle (queued_of holding ∷ []) (as_held false back.Open ∷ [])) ≡ []
+is_not_listed_yet = refl
+
+-- it is resumed once
+abbrev resumed : Resumed
+resumed = record { channel = a; event = 3; mark = mark.Forward b 900 350 }
+
+abbrev resuming : Back → Desk → Table
+resuming k x = table (resumed_of resumed ∷ []) (as_held true k ∷ []) x desk.Idle
+
+is_being_resumed : after (idle [] (as_held true back.Open ∷ [])) (entry.Resumed resumed)
+    ≡ resuming back.Open desk.Idle
+is_being_resumed = refl
+
+resumed_next : first_command service a (resuming back.Open desk.Idle)
+    ≡ Some (out.Resuming 3, command.Resume 3 (mark.Forward b 900 350))
+resumed_next = refl
+
+no_second_time : resumption service (resuming back.Open desk.Idle) a 3 verdict.Continue ≡ None
+no_second_time = refl
+
+is_listed_no_more : all_held (resuming back.Open desk.Idle) ≡ []
+is_listed_no_more = refl
+
+held_no_more : after (resuming back.Open (desk.Out (out.Resuming 3))) (entry.Answered a (Ok 3))
+    ≡ idle [] (htlc true way.Nowhere back.Open ∷ [])
+held_no_more = refl
+
+resume_refused : after (resuming back.Open (desk.Out (out.Resuming 3))) (entry.Answered a (Err 40))
+    ≡ idle [] (as_held true back.Open ∷ [])
+resume_refused = refl
+
+-- by the record behind a lost connection
+resume_lost : after (resuming back.Open (desk.Unsure (out.Resuming 3)))
+    (entry.Dropped a (record { next = 0; removes = []; decides = false })) ≡ resuming back.Open desk.Idle
+resume_lost = refl
+
+resume_kept : after (resuming back.Open (desk.Unsure (out.Resuming 3)))
+    (entry.Dropped a (record { next = 0; removes = []; decides = true }))
+    ≡ idle [] (htlc true way.Nowhere back.Open ∷ [])
+resume_kept = refl
+
+-- one that was removed by hand meanwhile stays until it is resumed
+stays_held : after (idle [] (as_held true back.Sent ∷ [])) (entry.Removed came)
+    ≡ idle [] (as_held true back.Settled ∷ [])
+stays_held = refl
+
+goes_when_resumed : after (resuming back.Settled (desk.Out (out.Resuming 3))) (entry.Answered a (Ok 3)) ≡ idle [] []
+goes_when_resumed = refl
+
+-- nothing is to be resumed by another number, in another channel, or by holding it again
+no_other_number : resumption service (idle [] (as_held true back.Open ∷ [])) a 4 verdict.Continue ≡ None
+no_other_number = refl
+
+no_other_channel : resumption service (idle [] (as_held true back.Open ∷ [])) b 3 verdict.Continue ≡ None
+no_other_channel = refl
+
+no_hold_again : resumption service (idle [] (as_held true back.Open ∷ [])) a 3 verdict.Hold ≡ None
+no_hold_again = refl
+
+fails_by_a_code : resumption service (idle [] (as_held true back.Open ∷ [])) a 3
+    (verdict.Fail code.TemporaryChannelFailure)
+    ≡ Some (mark.Fail (failure_bytes failure.TemporaryChannelFailure))
+fails_by_a_code = refl
 
 -- ---- a restart: what channel a has decided, and what channel b has of the HTLC that went out
 

@@ -51,6 +51,7 @@ forwards_in c (mark.Forward d amount expiry) = same c d
 forwards_in c (mark.Fail reason) = false
 forwards_in c (mark.Malformed code) = false
 forwards_in c (mark.Fulfil preimage) = false
+forwards_in c (mark.Held event) = false
 
 -- the outgoing channel has told what becomes of it
 abbrev pub is_told_by : Way → Bool
@@ -66,6 +67,7 @@ has_removal (mark.Forward d amount expiry) w = is_told_by w
 has_removal (mark.Fail reason) w = true
 has_removal (mark.Malformed code) w = true
 has_removal (mark.Fulfil preimage) w = true
+has_removal (mark.Held event) w = false
 
 -- what it is due in this channel, once it is decided: what became of the outgoing HTLC is forgotten when the incoming
 -- one is settled, and not before
@@ -92,6 +94,7 @@ add_with h (mark.Forward d amount expiry) (Some onion) =
 add_with h (mark.Fail reason) (Some onion) = None
 add_with h (mark.Malformed code) (Some onion) = None
 add_with h (mark.Fulfil preimage) (Some onion) = None
+add_with h (mark.Held event) (Some onion) = None
 
 abbrev pub add_of : Services → Htlc → Option Command
 add_of s h = add_with h h.mark (next_of (s.opened h.offer.onion h.offer.hash))
@@ -119,6 +122,7 @@ removal_by s h (mark.Forward d amount expiry) = removal_by_way s h.key.id h.way
 removal_by s h (mark.Fail reason) = Some (command.Fail h.key.id reason)
 removal_by s h (mark.Malformed code) = Some (command.Malformed h.key.id (sha256 h.offer.onion) code)
 removal_by s h (mark.Fulfil preimage) = Some (command.Fulfil h.key.id preimage)
+removal_by s h (mark.Held event) = None
 
 abbrev pub forget_by : Way → Option Command
 forget_by way.Nowhere = None
@@ -131,6 +135,7 @@ command_of s h (out.Deciding n) = None
 command_of s h (out.Adding k) = add_of s h
 command_of s h (out.Removing k) = removal_by s h h.mark
 command_of s h (out.Forgetting k) = forget_by h.way
+command_of s h (out.Resuming n) = None
 
 abbrev pub with_out : Out → Option Command → Option (Out × Command)
 with_out o None = None
@@ -158,9 +163,15 @@ first_due s c (h ∷ hs) = or_next (command_by s h (due c h)) (first_due s c hs)
 abbrev pub is_queued_in : List ℕ → Queued → Bool
 is_queued_in c q = same c q.channel
 
+-- a decision that is to be taken
+abbrev pub queued_command : Queued → Out × Command
+queued_command q =
+    if q.resumes then (out.Resuming q.event, command.Resume q.event q.mark)
+    else (out.Deciding q.event, command.Decide q.event q.mark)
+
 -- a decision goes before all others
 abbrev pub first_of : Services → List ℕ → Option Queued → List Htlc → Option (Out × Command)
-first_of s c (Some q) hs = Some (out.Deciding q.event, command.Decide q.event q.mark)
+first_of s c (Some q) hs = Some (queued_command q)
 first_of s c None hs = first_due s c hs
 
 -- none while one is out

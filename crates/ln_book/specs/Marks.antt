@@ -29,7 +29,8 @@ use Rattle.ln_tables.specs.declared.htlc.Offer.{Offer}
 use Rattle.ln_tables.specs.declared.entry.OutgoingChannel.{OutgoingChannel}
 use Rattle.ln_tables.specs.declared.entry.Invoice.{Invoice}
 use Rattle.ln_tables.specs.declared.entry.Decided.{Decided}
-use Rattle.ln_tables.specs.Replay.{Table, same, is_usable}
+use Rattle.ln_tables.specs.declared.htlc.Htlc.{Htlc}
+use Rattle.ln_tables.specs.Replay.{Table, same, is_usable, held_by}
 use Rattle.ln_book.specs.Commands.{Services}
 
 -- what a peer offers, where an event tells of that
@@ -140,15 +141,31 @@ abbrev pub opened_mark : Services → Offer → Table → Result Opened OpenFaul
 opened_mark s o t (Err f) = unopened s f
 opened_mark s o t (Ok p) = read s o t (is_none p.next) (payload_at p.payload)
 
--- a hook's failure goes before all else
-abbrev pub mark_by : Services → Table → Offer → Verdict → Mark
-mark_by s t o verdict.Continue = opened_mark s o t (s.opened o.onion o.hash)
-mark_by s t o (verdict.Fail c) = failed s (failure_by c o t.height)
+-- a hook's failure goes before all else; what is held waits by the number of its event
+abbrev pub mark_by : Services → Table → ℕ → Offer → Verdict → Mark
+mark_by s t n o verdict.Continue = opened_mark s o t (s.opened o.onion o.hash)
+mark_by s t n o (verdict.Fail c) = failed s (failure_by c o t.height)
+mark_by s t n o verdict.Hold = mark.Held n
 
 -- nothing is done about any other event
-abbrev pub mark_of : Services → Table → Option Offer → Verdict → Mark
-mark_of s t None v = mark.None
-mark_of s t (Some o) v = mark_by s t o v
+abbrev pub mark_of : Services → Table → ℕ → Option Offer → Verdict → Mark
+mark_of s t n None v = mark.None
+mark_of s t n (Some o) v = mark_by s t n o v
 
 abbrev pub decision : Services → Table → List ℕ → ℕ → Option Offer → Verdict → Decided
-decision s t c n o v = record { channel = c; event = n; offer = o; mark = mark_of s t o v }
+decision s t c n o v = record { channel = c; event = n; offer = o; mark = mark_of s t n o v }
+
+-- ---- what is held
+
+abbrev pub is_hold : Verdict → Bool
+is_hold verdict.Hold = true
+is_hold v = false
+
+-- what is done about an HTLC that is held by this number: nothing where there is none, it is being resumed, or it is to
+-- be held again
+abbrev pub resumed_mark : Services → Table → ℕ → Option Htlc → Verdict → Option Mark
+resumed_mark s t n None v = None
+resumed_mark s t n (Some h) v = if is_hold v then None else Some (mark_by s t n h.offer v)
+
+abbrev pub resumption : Services → Table → List ℕ → ℕ → Verdict → Option Mark
+resumption s t c n v = resumed_mark s t n (held_by c n t) v

@@ -1,7 +1,7 @@
 //! The book of a node's forwarded payments.
 
 use crate::commands::first_command;
-use crate::marks::{mark_of, offer_of};
+use crate::marks::{mark_by, mark_of, offer_of};
 use ln_bytes::ShortId;
 use ln_channel::Command;
 use ln_forward::{Expected, Policy};
@@ -12,7 +12,8 @@ use ln_log::{ChannelId, Mark};
 use ln_msgs::Refusal;
 use ln_readings::{Kept, Reading, rebuilt_htlcs, told_by};
 use ln_tables::{
-    Decided, Desk, Entry, Invoice, Key, Out, OutgoingChannel, Tables, Told, copy_how, copy_mark,
+    Decided, Desk, Entry, HeldHtlc, Invoice, Key, Offer, Out, OutgoingChannel, Resumed, Tables,
+    Told, copy_how, copy_mark,
 };
 use std::alloc::Global;
 use std::marker::Model;
@@ -135,19 +136,22 @@ impl Book {
     ghost use Rattle.std.specs.Prelude.{◌≡◌, OnOk, OnErr, IfOk, IfErr, option_map};
     ghost use Rattle.ln_tables.specs.declared.entry.Entry.TheVariants as entry;
     ghost use Rattle.ln_history.specs.History.{with_entry};
-    ghost use Rattle.ln_tables.specs.Replay.{table_of, desk_at};
+    ghost use Rattle.ln_tables.specs.Replay.{table_of, desk_at, held_by};
+    ghost use Rattle.ln_tables.specs.Held.{all_held};
     ghost use Rattle.ln_book.specs.Commands.{services_of, first_command, with_taken, with_answered};
-    ghost use Rattle.ln_book.specs.Marks.{offer_of, mark_of, decision};
+    ghost use Rattle.std.specs.Prelude.{◌⊎◌, ◌↔◌, IsErrOf, None, Some};
+    ghost use Rattle.ln_book.specs.Marks.{offer_of, mark_of, decision, resumption};
     ghost use Rattle.ln_book.specs.Settled.{with_settled};
 
     /// Decides the event of this number by what the hooks say of it, and queues the decision for its channel: answers
     /// what is done about the event.
     ///
-    /// Of an HTLC of the peer's: a hook's failure comes first; then the onion is opened, by which it is forwarded or
-    /// taken (BOLT 4, "Accepting and Forwarding a Payment"), or failed by the first of the failures of
-    /// `check_forward` or `check_final`; by 0x4016 where its payload can't be read; as malformed, by 0xc004, 0xc005 or
-    /// 0xc006, where the onion can't be. Of any other event: nothing. An HTLC that its channel has decided stays as it
-    /// is in the book. Takes memory. Error: 60 alone, which changes nothing.
+    /// Of an HTLC of the peer's: a hook's failure comes first; one that a hook holds is held by the event's number
+    /// until `resume`; of any other one the onion is opened, by which it is forwarded or taken (BOLT 4, "Accepting and
+    /// Forwarding a Payment"), or failed by the first of the failures of `check_forward` or `check_final`; by 0x4016
+    /// where its payload can't be read; as malformed, by 0xc004, 0xc005 or 0xc006, where the onion can't be. Of any
+    /// other event: nothing. An HTLC that its channel has decided stays as it is in the book. Takes memory. Error: 60
+    /// alone, which changes nothing.
     pub fn decide<O: Onion>(
         &mut self,
         alloc: Global,
@@ -158,14 +162,14 @@ impl Book {
         verdict: Verdict,
     ) -> Result<Mark, Refusal>
         ensures answers_the_mark { IfOk result (λ m. m ≡ mark_of (services_of O.opened O.wrapped onion.now)
-            (table_of self.old) (offer_of told.now) verdict) }
+            (table_of self.old) event (offer_of told.now) verdict) }
         ensures enters_the_decision { OnOk result (self.new ≡ with_entry (entry.Decided (decision (services_of
             O.opened O.wrapped onion.now) (table_of self.old) channel event (offer_of told.now) verdict)) self.old) }
         ensures changes_nothing_if_refused { OnErr result (self.new ≡ self.old) }
         ensures fails_for_memory_alone { IfErr result (λ r. r ≡ Refusal.Memory) }
     {
         let offer = offer_of(told);
-        let mark = mark_of(alloc, onion, &self.tables, offer.as_ref(), verdict)?;
+        let mark = mark_of(alloc, onion, &self.tables, event, offer.as_ref(), verdict)?;
         let queued = copy_mark(alloc, &mark)?;
         let noted = copy_mark(alloc, &mark)?;
         let answer = copy_mark(alloc, &mark)?;
@@ -194,6 +198,87 @@ impl Book {
             channel,
             event,
             offer,
+            mark: noted,
+        });
+        self.history = self.history.and(&entry);
+        Ok(())
+    }
+
+    /// The HTLCs of all channels that are held and not being resumed, in order of deciding; behind a rebuild one
+    /// channel after the other. A program asks for them behind a restart, as its hooks are gone and see no event again.
+    /// Takes memory.
+    ///
+    /// Error: 60 where there is none.
+    pub fn held(&self, alloc: Global) -> Result<Vec<HeldHtlc>, Refusal>
+        ensures lists_what_is_held { IfOk result (λ v. v.items ≡ all_held (table_of self.now)) }
+        ensures fails_for_memory_alone { IfErr result (λ r. r ≡ Refusal.Memory) }
+    {
+        self.tables.all_held(alloc)
+    }
+
+    // What is offered by the HTLC that is held by the number of this event, unless it is being resumed.
+    fn held_offer(&self, channel: &ChannelId, event: u64) -> Option<Offer>
+        ensures { result ≡ option_map (λ h. h.offer) (held_by channel.now event (table_of self.now)) }
+    {
+        Some(self.tables.held(channel, event)?.offer)
+    }
+
+    /// Decides the HTLC that is held by the number of this event by what is said of it now, as `decide` would with the
+    /// settings of now, and queues the decision for its channel: answers what is done about it. Takes memory.
+    ///
+    /// Errors: 40 where no HTLC of the channel is held by this number and isn't being resumed, or where it is to be
+    /// held again; 60. Either changes nothing.
+    pub fn resume<O: Onion>(
+        &mut self,
+        alloc: Global,
+        onion: &O,
+        channel: ChannelId,
+        event: u64,
+        verdict: Verdict,
+    ) -> Result<Mark, Refusal>
+        ensures answers_the_mark { IfOk result (λ m. resumption (services_of O.opened O.wrapped onion.now)
+            (table_of self.old) channel event verdict ≡ Some m) }
+        ensures enters_what_is_resumed { IfOk result (λ m. self.new ≡ with_entry (entry.Resumed (record {
+          channel = channel;
+          event = event;
+          mark = m;
+        })) self.old) }
+        ensures refuses_what_is_not_held { IsErrOf result Refusal.NotReady
+            ↔ (resumption (services_of O.opened O.wrapped onion.now) (table_of self.old) channel event verdict ≡ None) }
+        ensures fails_by_these_alone { IfErr result (λ r. (r ≡ Refusal.NotReady) ⊎ (r ≡ Refusal.Memory)) }
+        ensures changes_nothing_if_refused { OnErr result (self.new ≡ self.old) }
+    {
+        if verdict == Verdict::Hold {
+            return Err(Refusal::NotReady);
+        }
+        let Some(offer) = self.held_offer(&channel, event) else {
+            return Err(Refusal::NotReady);
+        };
+        let mark = mark_by(alloc, onion, &self.tables, event, &offer, verdict)?;
+        let noted = copy_mark(alloc, &mark)?;
+        let answer = copy_mark(alloc, &mark)?;
+        let resumed = Resumed {
+            channel,
+            event,
+            mark,
+        };
+        self.note_resumed(resumed, noted)?;
+        Ok(answer)
+    }
+
+    // What is held was decided; the other mark is a copy of its mark.
+    fn note_resumed(&mut self, resumed: Resumed, noted: Mark) -> Result<(), Refusal>
+        requires same { noted ≡ resumed.mark }
+        ensures done { OnOk result (self.new ≡ with_entry (entry.Resumed resumed) self.old) }
+        ensures changes_nothing_if_refused { OnErr result (self.new ≡ self.old) }
+        ensures fails_for_memory_alone { IfErr result (λ r. r ≡ Refusal.Memory) }
+    {
+        let channel = resumed.channel;
+        let event = resumed.event;
+        self.tables.resume(resumed)?;
+        let entry = Entry::Resumed(Resumed {
+            channel,
+            event,
             mark: noted,
         });
         self.history = self.history.and(&entry);

@@ -5,6 +5,7 @@ ghost use Rattle.std.specs.List.{find};
 ghost use Rattle.ln_forward.specs.Failure.{failure_bytes};
 ghost use Rattle.ln_book.specs.Commands.{services_of, next_of, add_of, malformed_bytes, removal_over, removal_by_way};
 ghost use Rattle.ln_book.specs.Commands.{removal_by, forget_by, command_of, command_by, due, first_due, is_queued_in};
+ghost use Rattle.ln_book.specs.Commands.{queued_command};
 ghost use Rattle.ln_book.specs.Errand.{out_by};
 ghost use Rattle.ln_book.specs.Commands.{is_over_in, is_told_by, forwards_in, has_removal, first_of, first_command};
 ghost use Rattle.ln_book.specs.Commands.{unboxed};
@@ -80,7 +81,7 @@ fn forwards_in(channel: &ChannelId, mark: &Mark) -> bool
 {
     match mark {
         Mark::Forward { channel: to, .. } => channel == to,
-        Mark::None | Mark::Fail(_) | Mark::Malformed(_) | Mark::Fulfil(_) => false,
+        Mark::None | Mark::Fail(_) | Mark::Malformed(_) | Mark::Fulfil(_) | Mark::Held(_) => false,
     }
 }
 
@@ -88,7 +89,7 @@ fn has_removal(mark: &Mark, way: &Way) -> bool
     ensures { result ≡ has_removal mark.now way.now }
 {
     match mark {
-        Mark::None => false,
+        Mark::None | Mark::Held(_) => false,
         Mark::Forward { .. } => is_told(way),
         Mark::Fail(_) | Mark::Malformed(_) | Mark::Fulfil(_) => true,
     }
@@ -211,7 +212,8 @@ fn add_of<O: Onion>(alloc: Global, onion: &O, htlc: &Htlc) -> Result<Option<Box<
                 origin: Some((htlc.key.channel, htlc.key.id)),
             },
         ),
-        Mark::None | Mark::Fail(_) | Mark::Malformed(_) | Mark::Fulfil(_) => Ok(None),
+        Mark::None | Mark::Held(_) => Ok(None),
+        Mark::Fail(_) | Mark::Malformed(_) | Mark::Fulfil(_) => Ok(None),
     }
 }
 
@@ -288,7 +290,7 @@ fn removal_of<O: Onion>(
 {
     let id = htlc.key.id;
     match &htlc.mark {
-        Mark::None => Ok(None),
+        Mark::None | Mark::Held(_) => Ok(None),
         Mark::Forward { .. } => removal_by_way(alloc, onion, id, &htlc.way),
         Mark::Fail(reason) => {
             let reason = copied(alloc, reason)?;
@@ -329,7 +331,7 @@ fn command_of<O: Onion>(
     ensures fails_for_memory_alone { IfErr result (λ r. r ≡ Refusal.Memory) }
 {
     match out {
-        Out::Deciding(_) => Ok(None),
+        Out::Deciding(_) | Out::Resuming(_) => Ok(None),
         Out::Adding(_) => add_of(alloc, onion, htlc),
         Out::Removing(_) => removal_of(alloc, onion, htlc),
         Out::Forgetting(_) => forget_of(alloc, &htlc.way),
@@ -382,6 +384,22 @@ fn first_queued<'a>(channel: &ChannelId, queue: &'a [Queued]) -> Option<&'a Queu
     queue.iter().find(|queued| channel == &queued.channel)
 }
 
+// The command by which a channel takes a decision. Error: 60 alone.
+fn queued_command(alloc: Global, queued: &Queued) -> Result<(Out, Box<Command>), Refusal>
+    ensures command { IfOk result (λ x. unboxed x ≡ queued_command queued.now) }
+    ensures fails_for_memory_alone { IfErr result (λ r. r ≡ Refusal.Memory) }
+{
+    let event = queued.event;
+    let mark = copy_mark(alloc, &queued.mark)?;
+    if queued.resumes {
+        let command = Box::new(alloc, Command::Resume { event, mark })?;
+        Ok((Out::Resuming(event), command))
+    } else {
+        let command = Box::new(alloc, Command::Decide { event, mark })?;
+        Ok((Out::Deciding(event), command))
+    }
+}
+
 // A decision, or else the command of the first HTLC that has one. Error: 60 alone.
 fn first_of<O: Onion>(
     alloc: Global,
@@ -397,10 +415,7 @@ fn first_of<O: Onion>(
     let Some(queued) = queued else {
         return first_due(alloc, onion, channel, htlcs);
     };
-    let event = queued.event;
-    let mark = copy_mark(alloc, &queued.mark)?;
-    let command = Box::new(alloc, Command::Decide { event, mark })?;
-    Ok(Some((Out::Deciding(event), command)))
+    Ok(Some(queued_command(alloc, queued)?))
 }
 
 /// The first command of a channel that can be taken. Error: 60 alone.

@@ -253,15 +253,16 @@ fn opened_mark<O: Onion>(
     }
 }
 
-// What is done about an HTLC. Error: 60 alone.
-fn mark_by<O: Onion>(
+/// What is done about an HTLC that the event of this number tells of. Error: 60 alone.
+pub(crate) fn mark_by<O: Onion>(
     alloc: Global,
     onion: &O,
     tables: &Tables,
+    event: u64,
     offer: &Offer,
     verdict: Verdict,
 ) -> Result<Mark, Refusal>
-    ensures mark { IfOk result (λ m. m ≡ mark_by (services_of O.opened O.wrapped onion.now) tables.now offer.now
+    ensures mark { IfOk result (λ m. m ≡ mark_by (services_of O.opened O.wrapped onion.now) tables.now event offer.now
         verdict) }
     ensures fails_for_memory_alone { IfErr result (λ r. r ≡ Refusal.Memory) }
 {
@@ -275,6 +276,7 @@ fn mark_by<O: Onion>(
             let failure = failure_by(code, offer, tables.height());
             failed(alloc, onion, failure)
         }
+        Verdict::Hold => Ok(Mark::Held(event)),
     }
 }
 
@@ -283,15 +285,16 @@ pub(crate) fn mark_of<O: Onion>(
     alloc: Global,
     onion: &O,
     tables: &Tables,
+    event: u64,
     offer: Option<&Offer>,
     verdict: Verdict,
 ) -> Result<Mark, Refusal>
-    ensures mark { IfOk result (λ m. m ≡ mark_of (services_of O.opened O.wrapped onion.now) tables.now
+    ensures mark { IfOk result (λ m. m ≡ mark_of (services_of O.opened O.wrapped onion.now) tables.now event
         (option_copied offer.entry) verdict) }
     ensures fails_for_memory_alone { IfErr result (λ r. r ≡ Refusal.Memory) }
 {
     match offer {
         None => Ok(Mark::None),
-        Some(offer) => mark_by(alloc, onion, tables, offer, verdict),
+        Some(offer) => mark_by(alloc, onion, tables, event, offer, verdict),
     }
 }

@@ -5,3 +5,4 @@ pub mod Meeting
 pub mod Taken
 pub mod Turning
 pub mod Based
+pub mod Held

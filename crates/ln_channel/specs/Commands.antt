@@ -21,7 +21,7 @@ use Rattle.ln_channel.specs.declared.command.Command.TheVariants as command
 use Rattle.ln_channel.specs.declared.output.Output.TheVariants as output
 use Rattle.ln_channel.specs.Config.{longest_script}
 use Rattle.ln_channel.specs.Opening.{unless}
-use Rattle.ln_channel.specs.Ledger.{Ledger, first_htlc, decide_row, forgotten}
+use Rattle.ln_channel.specs.Ledger.{Ledger, first_htlc, decide_row, resume_held_row, forgotten}
 use Rattle.ln_channel.specs.End.{End, with_dance, is_ready, is_closed, all_acknowledged, Turn, quiet, sending}
 use Rattle.ln_channel.specs.End.{completed}
 use Rattle.ln_channel.specs.End.{shutdown_message}
@@ -113,11 +113,12 @@ shut_row keys script e =
     unless (shut_fault script e)
     (completed keys (sending (message.Shutdown (shutdown_message (shuts_down script e))) (shuts_down script e)))
 
--- ---- Decide and Forget
+-- ---- Decide, Resume and Forget
 
 abbrev pub ledgered : Command → End → Result Ledger Refusal
 ledgered (command.Decide event m) e = decide_row event m (first_htlc e.dance.log e.ledger.undecided) e.ledger
 ledgered (command.Forget id) e = Ok (forgotten id e.ledger)
+ledgered (command.Resume event m) e = resume_held_row event m e.ledger
 ledgered c e = Err refusal.NotReady
 
 abbrev pub with_ledger : Result Ledger Refusal → End → Result Turn Refusal
@@ -151,6 +152,7 @@ command_row keys command.Sign e = sign_row keys e
 command_row keys (command.Shutdown script) e = shut_row keys script e
 command_row keys (command.Decide event mark) e = Err refusal.NotReady
 command_row keys (command.Forget id) e = Err refusal.NotReady
+command_row keys (command.Resume event mark) e = Err refusal.NotReady
 
 -- what isn't ready for it, which is told before that the peer isn't there
 abbrev pub unready_fault : Command → End → Option Refusal

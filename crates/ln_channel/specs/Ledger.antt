@@ -1,8 +1,8 @@
 -- The events of a channel end by number: those that were decided, and behind them the undecided ones in their order;
 -- what was decided about HTLCs, and what became of those that were forwarded.
 use Rattle.std.specs.Prelude.{ℕ, ◌+◌, ◌^◌, List, [], ◌∷◌, ◌++◌, length, drop, filter, Bool, true, false, not}
-use Rattle.std.specs.Prelude.{◌&&◌, ◌==◌, nat_lt, Option, Some, None, option_map, Result, Ok, Err, if◌then◌else◌}
-use Rattle.std.specs.List.{cons_option}
+use Rattle.std.specs.Prelude.{◌&&◌, ◌||◌, ◌==◌, nat_lt, Option, Some, None, option_map, Result, Ok, Err, if◌then◌else◌}
+use Rattle.std.specs.List.{cons_option, list_any}
 use Rattle.ln_msgs.specs.declared.refusals.refusal.Refusal.{Refusal}
 use Rattle.ln_msgs.specs.declared.refusals.refusal.Refusal.TheVariants as refusal
 use Rattle.ln_log.specs.declared.update.Add.{Add}
@@ -15,6 +15,7 @@ use Rattle.ln_log.specs.declared.mark.Mark.{Mark}
 use Rattle.ln_log.specs.declared.mark.Mark.TheVariants as mark
 use Rattle.ln_log.specs.declared.mark.Settlement.{Settlement}
 use Rattle.ln_log.specs.Updates.{offered, removed, add_with}
+use Rattle.ln_log.specs.Mark.{is_held, is_held_by}
 use Rattle.ln_log.specs.Log.{Log, update_at}
 use Rattle.ln_hooks.specs.Event.{event_of}
 
@@ -114,10 +115,39 @@ decided_first (Err r) = Err r
 abbrev pub is_in_turn : ℕ → Ledger → Bool
 is_in_turn event l = (event == l.decided) && (nat_lt event most_decided && nat_lt 0 (length l.undecided))
 
+-- an HTLC is held by the number of its own event
+abbrev pub is_of_event : ℕ → Mark → Bool
+is_of_event event m = not (is_held m) || is_held_by event m
+
 -- the event of this number, which tells of this HTLC of the peer's if of one, is decided so
 abbrev pub decide_row : ℕ → Mark → Option ℕ → Ledger → Result Ledger Refusal
 decide_row event m htlc l =
-    if is_in_turn event l then decided_first (marked m htlc l) else Err refusal.NotReady
+    if is_in_turn event l && is_of_event event m then decided_first (marked m htlc l) else Err refusal.NotReady
+
+-- ---- a held HTLC is resumed
+
+abbrev pub is_held_at : ℕ → Decision → Bool
+is_held_at event d = is_held_by event d.mark
+
+-- the first of these decisions that is held so gets the mark in its place
+abbrev pub with_mark : ℕ → Mark → List Decision → List Decision
+with_mark event m [] = []
+with_mark event m (d ∷ ds) =
+    if is_held_at event d then record { id = d.id; mark = m } ∷ ds else d ∷ with_mark event m ds
+
+-- a mark that says what becomes of an HTLC: it is neither to be held again, nor to be left with nothing done
+abbrev pub is_answer : Mark → Bool
+is_answer mark.None = false
+is_answer (mark.Held n) = false
+is_answer m = true
+
+-- one is held so, and it is answered
+abbrev pub may_resume : ℕ → Mark → Ledger → Bool
+may_resume event m l = is_answer m && list_any (is_held_at event) l.decisions
+
+abbrev pub resume_held_row : ℕ → Mark → Ledger → Result Ledger Refusal
+resume_held_row event m l =
+    if may_resume event m l then Ok (record l { decisions = with_mark event m l.decisions }) else Err refusal.NotReady
 
 -- ---- a result that has been passed on
 

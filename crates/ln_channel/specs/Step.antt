@@ -141,6 +141,7 @@ opened l m = if l.halted || not (is_none l.failure) then None else opens l.stage
 abbrev pub is_of_records : Command → Bool
 is_of_records (command.Decide event mark) = true
 is_of_records (command.Forget id) = true
+is_of_records (command.Resume event mark) = true
 is_of_records c = false
 
 -- what sends needs a connection on which the peer was met (47)

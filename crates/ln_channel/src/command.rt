@@ -59,6 +59,13 @@ pub enum Command {
     },
     /// What became of the own HTLC of this id has been passed on.
     Forget(u64),
+    /// What is done about an HTLC that is held: in the place of that it is held.
+    Resume {
+        /// The number of the event that told of it.
+        event: u64,
+        /// What is done.
+        mark: Mark,
+    },
 }
 
 impl Command {
@@ -72,6 +79,7 @@ impl Command {
         match self {
             Command::Decide { .. } => true,
             Command::Forget(_) => true,
+            Command::Resume { .. } => true,
             _ => false,
         }
     }

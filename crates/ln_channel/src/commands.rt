@@ -319,11 +319,12 @@ impl Channel {
         }
     }
 
-    /// What a command about decisions makes of the end: the first undecided event is decided, or a result goes that
-    /// has been passed on. Nothing is sent.
+    /// What a command about decisions makes of the end: the first undecided event is decided, another mark takes the
+    /// place of that an HTLC is held, or a result goes that has been passed on. Nothing is sent.
     ///
-    /// Errors: 40 where another event is decided than the first undecided one, or a mark other than `None` is for none
-    /// of the peer's adds; 60.
+    /// Errors: 40 where another event is decided than the first undecided one, a mark other than `None` is for none of
+    /// the peer's adds, or an HTLC is held by the number of another event; where no decision is held by the number that
+    /// is resumed, or it is to be held again; 60.
     pub(crate) fn note(&mut self, alloc: Global, command: Command) -> Result<Outbox, Refusal>
         ensures makes { (e : End) → StandsFor self.old e → Makes (note_row command e) result self.old self.new }
         ensures same_channel { self.new.dance.channel ≡ self.old.dance.channel }
@@ -333,6 +334,7 @@ impl Channel {
                 let htlc = self.first_htlc();
                 self.ledger.decide(event, mark, htlc)?;
             }
+            Command::Resume { event, mark } => self.ledger.resume(event, mark)?,
             Command::Forget(id) => self.ledger.forget(id),
             other => {
                 drop(other);
@@ -388,6 +390,7 @@ impl Channel {
             Command::Shutdown(script) => self.shut(alloc, keys, script),
             Command::Decide { .. } => Err(Refusal::NotReady),
             Command::Forget(_) => Err(Refusal::NotReady),
+            Command::Resume { .. } => Err(Refusal::NotReady),
         }
     }
 }

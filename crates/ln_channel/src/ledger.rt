@@ -39,7 +39,8 @@ impl Model for EventLedger {
     ghost invariant = { λ l. l.decided ≤ most_decided };
 }
 
-ghost use Rattle.std.specs.Prelude.{◌≡◌, List, IfOk, IfErr, filter};
+ghost use Rattle.std.specs.Prelude.{◌≡◌, List, IfOk, IfErr, IsTrue, filter, position, false};
+ghost use Rattle.std.specs.List.{list_any};
 ghost use Rattle.ln_log.specs.declared.update.Update.{Update};
 ghost use Rattle.ln_log.specs.Outcomes.{AreRemoved};
 ghost use Rattle.ln_channel.specs.Base.{is_open};
@@ -47,7 +48,8 @@ ghost use Rattle.ln_log.specs.declared.log.Side.TheVariants as side;
 ghost use Rattle.ln_log.specs.Updates.{removed};
 ghost use Rattle.ln_log.specs.Limits.{removable};
 ghost use Rattle.ln_log.specs.Log.{before_first, IsNotGone};
-ghost use Rattle.ln_channel.specs.Ledger.{ref_of, origin_of, settlement_by, is_not_of};
+ghost use Rattle.ln_channel.specs.Ledger.{ref_of, origin_of, settlement_by, is_not_of, is_of_event, is_held_at};
+ghost use Rattle.ln_channel.specs.Ledger.{with_mark, is_answer};
 
 // The update of this number, of this side's own or of the peer's.
 fn ref_of(own: bool, number: u64) -> EventRef
@@ -210,7 +212,7 @@ impl EventLedger {
     ghost use Rattle.ln_bytes.specs.Answers.{Leaves};
     ghost use Rattle.ln_channel.specs.Opening.{Lacks};
     ghost use Rattle.ln_channel.specs.Ledger.{most_decided, resulted, marked, decided_first, is_in_turn, decide_row};
-    ghost use Rattle.ln_channel.specs.Ledger.{forgotten};
+    ghost use Rattle.ln_channel.specs.Ledger.{forgotten, resume_held_row};
 
     // Keeps what became of the own HTLC that this update removes, where none that has left the window does.
     fn keep_result(
@@ -295,13 +297,30 @@ impl EventLedger {
         ensures { Leaves Lacks (λ x. self.new) (λ r. self.new ≡ self.old) (decide_row event mark htlc self.old)
             result }
     {
-        if !self.is_in_turn(event) {
+        if !self.is_in_turn(event) || !is_of_event(event, &mark) {
             drop(mark);
             return Err(Refusal::NotReady);
         }
         self.keep_mark(mark, htlc)?;
         self.decide_first();
         Ok(())
+    }
+
+    /// What is done about an HTLC that is held by the number of this event takes the place of that. Takes no memory.
+    /// Error: 40 where none is held so, or it is to be held again, or nothing is to be done; then nothing has changed.
+    pub(crate) fn resume(&mut self, event: u64, mark: Mark) -> Result<(), Refusal>
+        ensures { Leaves Lacks (λ x. self.new) (λ r. self.new ≡ self.old) (resume_held_row event mark self.old)
+            result }
+    {
+        if !is_answer(&mark) {
+            drop(mark);
+            return Err(Refusal::NotReady);
+        }
+        if put_mark(&mut self.decisions, event, mark) {
+            Ok(())
+        } else {
+            Err(Refusal::NotReady)
+        }
     }
 
     /// The decisions on HTLCs of the peer's with these ids are left out. Takes no memory, and time that grows linearly
@@ -375,6 +394,48 @@ impl EventLedger {
     {
         self.results.as_slice()
     }
+}
+
+// Whether a mark that holds an HTLC does so by the number of this event.
+fn is_of_event(event: u64, mark: &Mark) -> bool
+    ensures { result ≡ is_of_event event mark.now }
+{
+    !mark.is_held() || mark.is_held_by(event)
+}
+
+// Where the first decision stands that is held by the number of this event.
+fn held_at(decisions: &[Decision], event: u64) -> Option<usize>
+    ensures { result ≡ position (is_held_at event) decisions.now }
+{
+    decisions
+        .iter()
+        .position(|decision| decision.mark.is_held_by(event))
+}
+
+// Whether a mark says what becomes of an HTLC.
+fn is_answer(mark: &Mark) -> bool
+    ensures { result ≡ is_answer mark.now }
+{
+    match mark {
+        Mark::None | Mark::Held(_) => false,
+        Mark::Forward { .. } | Mark::Fail(_) | Mark::Malformed(_) | Mark::Fulfil(_) => true,
+    }
+}
+
+// The first decision that is held by the number of this event gets the mark. Says whether there is one. Takes no
+// memory.
+fn put_mark(decisions: &mut Vec<Decision>, event: u64, mark: Mark) -> bool
+    ensures tells_it { result ≡ list_any (is_held_at event) decisions.old.items }
+    ensures put { IsTrue result → decisions.new.items ≡ with_mark event mark decisions.old.items }
+    ensures changes_nothing { result ≡ false → decisions.new.items ≡ decisions.old.items }
+{
+    let Some(place) = held_at(decisions.as_slice(), event) else {
+        drop(mark);
+        return false;
+    };
+    let decision = &mut decisions[place];
+    decision.mark = mark;
+    true
 }
 
 // All decisions but those on HTLCs of these ids. Takes no memory.

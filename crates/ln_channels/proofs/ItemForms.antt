@@ -195,6 +195,7 @@ mark_fits (mark.Forward channel amount expiry) h =
 mark_fits (mark.Fail reason) h = lt-ltb (length reason) (2 ^ 64) h
 mark_fits (mark.Malformed code) h = lt-ltb code (2 ^ 16) h
 mark_fits (mark.Fulfil preimage) h = eq-eqb (length preimage) 32 h
+mark_fits (mark.Held event) h = lt-ltb event (2 ^ 64) h
 
 decision_fits : (d : Decision) → IsDecision d → it.decision.fits d ≡ true
 unfolding it.decision

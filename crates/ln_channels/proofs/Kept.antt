@@ -197,6 +197,7 @@ abbrev of_pair : Act → pair.Act
 of_pair act.Deliver = pair.Deliver
 of_pair (act.Send (command.Decide event mark)) = pair.Note (command.Decide event mark)
 of_pair (act.Send (command.Forget i)) = pair.Note (command.Forget i)
+of_pair (act.Send (command.Resume event mark)) = pair.Note (command.Resume event mark)
 of_pair (act.Send c) = pair.Give c
 
 as_wide : (side : Role) (a : Act) → IsAct a → StepIsWide (pair.By side (of_pair a))
@@ -211,6 +212,7 @@ as_wide side (act.Send command.Sign) h = h
 as_wide side (act.Send (command.Shutdown script)) h = h
 as_wide side (act.Send (command.Decide event mark)) h = h
 as_wide side (act.Send (command.Forget i)) h = h
+as_wide side (act.Send (command.Resume event mark)) h = h
 
 abbrev pub IsMove : Move → Type 0
 IsMove (By side a) = IsAct a
@@ -307,6 +309,8 @@ module _ {K : Type 0} (signer : K → Signer) where
       inr (noted signer id kx ky side (command.Decide event mark) p q refl refl works h)
   works_so id side (command.Forget i) kx ky p q works h =
       inr (noted signer id kx ky side (command.Forget i) p q refl refl works h)
+  works_so id side (command.Resume event mark) kx ky p q works h =
+      inr (noted signer id kx ky side (command.Resume event mark) p q refl refl works h)
 
   given_so : (halted : Bool) (id : List ℕ) (side : Role) (c : Command) (kx ky : K) (p : Both K) (q : Ends)
       → p.x.link.halted ≡ halted → Mirrors id kx ky p q → AsGiven id side c kx ky p q
@@ -433,6 +437,7 @@ module _ {K : Type 0} (signer : K → Signer) where
   is_done (act.Send (command.Shutdown script)) = refl
   is_done (act.Send (command.Decide event mark)) = refl
   is_done (act.Send (command.Forget i)) = refl
+  is_done (act.Send (command.Resume event mark)) = refl
 
   -- a save leaves the other end alone
   left_saved : (q r : Ends) → IsLeft q r → IsLeft q (pair.saves r)

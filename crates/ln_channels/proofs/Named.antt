@@ -313,6 +313,7 @@ module _ (keys : Signer) (id : List ℕ) where
       (record { channel = h; sent = (ap Some h, tt); told = refl }))
   fine_row (command.Decide event mark) e h = tt
   fine_row (command.Forget i) e h = tt
+  fine_row (command.Resume event mark) e h = tt
 
   fine_faulted : (f g : Option Refusal) (r : Result Turn Refusal) → IsFineRow id r
       → IsFineRow id (faulted f (faulted g r))

@@ -138,6 +138,7 @@ module _ (id : List ℕ) where
   silent_row keys (command.Shutdown script) e = silent_unless (shut_fault script e) _ (silent_shutdown script e)
   silent_row keys (command.Decide event mark) e = refl
   silent_row keys (command.Forget i) e = refl
+  silent_row keys (command.Resume event mark) e = refl
 
   not_ready : (e : End) → IsSilent (cond (is_ready e) None (Some refusal.NotReady))
   not_ready e = either (is_ready e) None (Some refusal.NotReady) tt refl
@@ -153,6 +154,7 @@ module _ (id : List ℕ) where
   silent_unready command.Sign e = not_ready e
   silent_unready (command.Decide event mark) e = not_ready e
   silent_unready (command.Forget i) e = not_ready e
+  silent_unready (command.Resume event mark) e = not_ready e
 
   silent_line : (l : LineState) → IsSilent (line_fault l)
   silent_line Down = refl

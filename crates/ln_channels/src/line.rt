@@ -60,6 +60,8 @@ pub enum Choice {
     Malformed(u16),
     /// It is fulfilled.
     Fulfil,
+    /// It is held.
+    Held,
 }
 
 /// A line of a report: what a step did.
@@ -111,6 +113,9 @@ pub enum Line {
     Dispatched(End, u64, Verdict),
     /// An end has taken the decision of its event of this number. No step of channels alone tells of it.
     Decided(End, u64, Choice),
+    /// An end has taken what was decided about the HTLC that it held by its event of this number. No step of channels
+    /// alone tells of it.
+    Resumed(End, u64, Choice),
     /// The step couldn't be taken.
     Idle,
 }

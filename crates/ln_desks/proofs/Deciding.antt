@@ -41,7 +41,8 @@ use Rattle.ln_close.specs.Closing.{answer_to}
 use Rattle.ln_channel.specs.End.{End, Turn, owes_shutdown, answers_shutdown, has_begun, settled, is_closed, end_of}
 use Rattle.ln_channel.specs.End.{quiet, sending, completed, shutdown_message}
 use Rattle.ln_channel.specs.Base.{based_stage}
-use Rattle.ln_channel.specs.Ledger.{Ledger, most_decided, first_htlc, marked, decided_first, is_in_turn, decide_row}
+use Rattle.ln_channel.specs.Ledger.{Ledger, most_decided, first_htlc, marked, decided_first, is_in_turn, is_of_event}
+use Rattle.ln_channel.specs.Ledger.{decide_row, resume_held_row, may_resume, with_mark}
 use Rattle.ln_channel.specs.Record.{saved_end}
 use Rattle.ln_channel.specs.declared.output.Output.TheVariants as output
 use Rattle.ln_channel.specs.Taking.{message_row, completed_row, taken, shutdown_at, answered, answering, answered_end}
@@ -371,6 +372,7 @@ module _ (P : ℕ → Type 0) where
       (settled_so (shuts_down script e) h)
   command_so keys (command.Decide event mark) e h = tt
   command_so keys (command.Forget i) e h = tt
+  command_so keys (command.Resume event mark) e h = tt
 
   obeyed_so : (keys : Signer) (l : LineState) (c : Command) (s : Stage) → AtStage P s → InDone P (obeyed keys l c s)
   obeyed_so keys l c (stage.Saved e) h =
@@ -394,17 +396,20 @@ module _ (P : ℕ → Type 0) where
   marked_so R (mark.Malformed code) (Some id) l h = h
   marked_so R (mark.Fulfil preimage) None l h = tt
   marked_so R (mark.Fulfil preimage) (Some id) l h = h
+  marked_so R (mark.Held event) None l h = tt
+  marked_so R (mark.Held event) (Some id) l h = h
 
   -- the first undecided event is decided, and no other
   first_so : (res : Result Ledger Refusal) → InLedger (λ n. P (n + 1)) res → InLedger P (decided_first res)
   first_so (Ok l) h = h
   first_so (Err r) h = tt
 
-  decided_by : (b : Bool) (event : ℕ) (m : Mark) (htlc : Option ℕ) (l : Ledger) → is_in_turn event l ≡ b
+  decided_by : (b own : Bool) (event : ℕ) (m : Mark) (htlc : Option ℕ) (l : Ledger) → is_in_turn event l ≡ b
       → (P event → P (event + 1)) → P l.decided
-      → InLedger P (cond b (decided_first (marked m htlc l)) (Err refusal.NotReady))
-  decided_by false event m htlc l is more h = tt
-  decided_by true event m htlc l is more h =
+      → InLedger P (cond (b && own) (decided_first (marked m htlc l)) (Err refusal.NotReady))
+  decided_by false own event m htlc l is more h = tt
+  decided_by true false event m htlc l is more h = tt
+  decided_by true true event m htlc l is more h =
       let same : event ≡ l.decided =
       eqb-true event l.decided
       (front (event == l.decided) (nat_lt event most_decided && nat_lt 0 (length l.undecided)) is) in
@@ -425,7 +430,7 @@ module _ (P : ℕ → Type 0) where
   decided_so l event m (stage.Saved e) more h =
       let htlc = first_htlc e.dance.log e.ledger.undecided in
       noted_by l (decide_row event m htlc e.ledger) e
-      (decided_by (is_in_turn event e.ledger) event m htlc e.ledger refl more h)
+      (decided_by (is_in_turn event e.ledger) (is_of_event event m) event m htlc e.ledger refl more h)
   decided_so l event m stage.Gone more h = tt
 
   forgotten_so : (l : LineState) (i : ℕ) (s : Stage) → AtStage P s → InDone P (noted l (command.Forget i) s)
@@ -435,6 +440,22 @@ module _ (P : ℕ → Type 0) where
   forgotten_so l i (stage.AwaitsSigned e) h = tt
   forgotten_so l i (stage.Saved e) h = h
   forgotten_so l i stage.Gone h = tt
+
+  -- what is held was decided before
+  held_by : (b : Bool) (event : ℕ) (m : Mark) (l : Ledger) → P l.decided
+      → InLedger P (cond b (Ok (record l { decisions = with_mark event m l.decisions })) (Err refusal.NotReady))
+  held_by true event m l h = h
+  held_by false event m l h = tt
+
+  held_so : (l : LineState) (event : ℕ) (m : Mark) (s : Stage) → AtStage P s
+      → InDone P (noted l (command.Resume event m) s)
+  held_so l event m (stage.AwaitsOpen c) h = tt
+  held_so l event m (stage.AwaitsAccept s) h = tt
+  held_so l event m (stage.AwaitsCreated a) h = tt
+  held_so l event m (stage.AwaitsSigned e) h = tt
+  held_so l event m (stage.Saved e) h =
+      noted_by l (resume_held_row event m e.ledger) e (held_by (may_resume event m e.ledger) event m e.ledger h)
+  held_so l event m stage.Gone h = tt
 
   connects_so : (keys : Signer) (s : Stage) → AtStage P s → InDone P (connects keys s)
   connects_so keys (stage.AwaitsOpen c) h = h
@@ -506,6 +527,7 @@ module _ (P : ℕ → Type 0) where
         (obeyed_so keys l.line (command.Shutdown script) l.stage h)
     asked_so keys l (command.Decide event mark) p h = decided_so l.line event mark l.stage p h
     asked_so keys l (command.Forget i) p h = forgotten_so l.line i l.stage h
+    asked_so keys l (command.Resume event mark) p h = held_so l.line event mark l.stage h
 
     commanded_so : (keys : Signer) (l : State K) (c : Command) → KeptByCommand P c → AtStage P l.stage
         → InDone P (commanded keys l c)

@@ -97,6 +97,7 @@ allowed_so e (act.Send command.Sign) w h = tt
 allowed_so e (act.Send (command.Shutdown script)) w h = tt
 allowed_so e (act.Send (command.Decide n mark)) w h = h
 allowed_so e (act.Send (command.Forget i)) w h = tt
+allowed_so e (act.Send (command.Resume event mark)) w h = tt
 
 kept_by : (a : Act) (d : Desk) → Allowed a (Some d) → KeptBy (Between d) a
 kept_by act.Deliver d h = tt
@@ -111,6 +112,7 @@ kept_by (act.Send (command.Shutdown script)) d h = tt
 kept_by (act.Send (command.Decide n mark)) d h =
     λ b. let below = ltb-true n (next d.life) h in let from = b.0 in (omega (arith, from), omega (arith, below))
 kept_by (act.Send (command.Forget i)) d h = tt
+kept_by (act.Send (command.Resume event mark)) d h = tt
 
 -- ---- tests
 

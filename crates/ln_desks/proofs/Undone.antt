@@ -53,6 +53,7 @@ act_so m (act.Send command.Sign) = tt
 act_so m (act.Send (command.Shutdown script)) = tt
 act_so m (act.Send (command.Decide n mark)) = λ h. omega (arith, h)
 act_so m (act.Send (command.Forget i)) = tt
+act_so m (act.Send (command.Resume event mark)) = tt
 
 move_so : (m n : ℕ) (x : Move) → KeptByMove (λ i. m ≤ i) (λ i. n ≤ i) x
 move_so m n (By Funder a) = act_so m a

@@ -4,7 +4,6 @@ ghost use Rattle.std.specs.Prelude.{◌≡◌, map, OnOk, IfErr};
 ghost use Rattle.ln_msgs.specs.declared.refusals.refusal.Refusal.TheVariants as refusal;
 ghost use Rattle.ln_channels.specs.WorldChannel.{is_node};
 ghost use Rattle.ln_hooks.specs.Table.{Says};
-ghost use Rattle.ln_hooks.specs.Verdict.{joined};
 ghost use Rattle.ln_desks.specs.Seated.{shown_to, IsAside};
 
 use crate::desk::Desk;
@@ -15,16 +14,6 @@ use ln_msgs::Refusal;
 use std::alloc::Global;
 use std::mem;
 
-// What a further hook's answer makes of what is said so far.
-fn joined(said: Verdict, answer: Verdict) -> Verdict
-    ensures { result ≡ joined said answer }
-{
-    match said {
-        Verdict::Continue => answer,
-        Verdict::Fail(code) => Verdict::Fail(code),
-    }
-}
-
 // Calls each hook on an event, once and in order, and says what is to become of it.
 fn call_each<H: Serve>(hooks: &mut Vec<H>, event: &ChannelEvent) -> Verdict
     ensures calls_each_hook { Says (λ h. h) (shown_to H.calls) hooks.old.items event.now result hooks.new.items }
@@ -32,7 +21,7 @@ fn call_each<H: Serve>(hooks: &mut Vec<H>, event: &ChannelEvent) -> Verdict
     let mut verdict = Verdict::Continue;
     for i in 0..hooks.len() {
         let hook = &mut hooks[i];
-        verdict = joined(verdict, hook.serve(event));
+        verdict = verdict.joined(hook.serve(event));
     }
     verdict
 }

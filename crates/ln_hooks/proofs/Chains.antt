@@ -1,24 +1,36 @@
 -- One more hook, one more event.
 use Rattle.std.proofs.Common.{◌≡◌, ◌++◌, ◌∷◌, [], List, refl, sym, ap, ◌∙◌, subst, ℕ, ◌+◌, ◌-◌, ◌<◌, ◌≤◌, length}
-use Rattle.std.proofs.Common.{take, drop, map, arith}
+use Rattle.std.proofs.Common.{take, drop, map, arith, true}
 use Rattle.std.proofs.Math.ListN.{get_or, set, drop_of_length-le}
 use Rattle.std.proofs.lemmas.List.{append-nil, append_assoc, take_all, take_more, take_more_set, length-drop}
 use Rattle.std.proofs.lemmas.List.{drop_more, drop-set-lt}
 use Rattle.std.specs.Borrow.{Bor}
 use Rattle.ln_hooks.specs.declared.event.ChannelEvent.{ChannelEvent}
 use Rattle.ln_hooks.specs.declared.verdict.Verdict.{Verdict}
-use Rattle.ln_hooks.specs.declared.verdict.Verdict.TheVariants.{Continue, Fail}
-use Rattle.ln_hooks.specs.Verdict.{verdict, joined}
+use Rattle.ln_hooks.specs.declared.verdict.Verdict.TheVariants.{Continue, Fail, Hold}
+use Rattle.ln_hooks.specs.Verdict.{first_code, verdict_by, verdict, joined}
 use Rattle.ln_hooks.specs.Chain.{IsCalledOn}
 use Rattle.ln_hooks.specs.Table.{AreCalledOn, AreChains, first_answer, later_answers, verdicts, Says, SaysOfEach}
+
+-- the verdict of one more answer, where one of those before was Hold
+held-more : (answers : List Verdict) (answer : Verdict)
+    → joined (verdict_by (first_code answers) true) answer ≡ verdict_by (first_code (answers ++ answer ∷ [])) true
+held-more [] Continue = refl
+held-more [] (Fail c) = refl
+held-more [] Hold = refl
+held-more (Continue ∷ answers) answer = held-more answers answer
+held-more (Fail c ∷ answers) answer = refl
+held-more (Hold ∷ answers) answer = held-more answers answer
 
 -- the verdict of one more answer
 verdict-more : (answers : List Verdict) (answer : Verdict)
     → joined (verdict answers) answer ≡ verdict (answers ++ answer ∷ [])
 verdict-more [] Continue = refl
 verdict-more [] (Fail c) = refl
+verdict-more [] Hold = refl
 verdict-more (Continue ∷ answers) answer = verdict-more answers answer
 verdict-more (Fail c ∷ answers) answer = refl
+verdict-more (Hold ∷ answers) answer = held-more answers answer
 
 -- the answers to one event in front of those to later ones
 abbrev in_front : List Verdict → List (List Verdict) → List (List Verdict)

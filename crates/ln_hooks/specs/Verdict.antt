@@ -1,10 +1,10 @@
 -- What hooks answer to an event, and what a table of them says of it.
-use Rattle.std.specs.Prelude.{ℕ, List, [], ◌∷◌, Bool, ◌==◌, Option, Some, None}
+use Rattle.std.specs.Prelude.{ℕ, List, [], ◌∷◌, Bool, true, false, ◌==◌, Option, Some, None}
 use Rattle.std.specs.List.{list_any}
 use Rattle.ln_hooks.specs.declared.verdict.FailureCode.{FailureCode}
 use Rattle.ln_hooks.specs.declared.verdict.FailureCode.TheVariants as code
 use Rattle.ln_hooks.specs.declared.verdict.Verdict.{Verdict}
-use Rattle.ln_hooks.specs.declared.verdict.Verdict.TheVariants.{Continue, Fail}
+use Rattle.ln_hooks.specs.declared.verdict.Verdict.TheVariants.{Continue, Fail, Hold}
 
 -- BOLT 4, "Failure Messages": PERM is 0x4000 = 16384, UPDATE is 0x1000 = 4096
 abbrev pub code_number : FailureCode → ℕ
@@ -32,16 +32,32 @@ abbrev pub first_code : List Verdict → Option FailureCode
 first_code [] = None
 first_code (Continue ∷ answers) = first_code answers
 first_code (Fail c ∷ answers) = Some c
+first_code (Hold ∷ answers) = first_code answers
 
-abbrev pub verdict_by : Option FailureCode → Verdict
-verdict_by None = Continue
-verdict_by (Some c) = Fail c
+-- one of them is Hold
+abbrev pub has_hold : List Verdict → Bool
+has_hold [] = false
+has_hold (Continue ∷ answers) = has_hold answers
+has_hold (Fail c ∷ answers) = has_hold answers
+has_hold (Hold ∷ answers) = true
 
--- the first Fail of the answers, in order of registration, else Continue
+abbrev pub verdict_by : Option FailureCode → Bool → Verdict
+verdict_by (Some c) held = Fail c
+verdict_by None true = Hold
+verdict_by None false = Continue
+
+-- the first Fail of the answers, in order of registration, else Hold where one of them is, else Continue
 abbrev pub verdict : List Verdict → Verdict
-verdict answers = verdict_by (first_code answers)
+verdict answers = verdict_by (first_code answers) (has_hold answers)
+
+-- an answer where another hook holds the payment
+abbrev pub or_hold : Verdict → Verdict
+or_hold Continue = Hold
+or_hold (Fail c) = Fail c
+or_hold Hold = Hold
 
 -- what is said so far, and what a further hook's answer makes of it
 abbrev pub joined : Verdict → Verdict → Verdict
 joined Continue answer = answer
 joined (Fail c) answer = Fail c
+joined Hold answer = or_hold answer

@@ -7,7 +7,8 @@ use ln_msgs::Refusal;
 use std::alloc::Global;
 
 /// The hooks of a channel end. Every hook is called on every event, once and in order of registration, whatever those
-/// before it answered; what the table says of the event is the first Fail, else Continue.
+/// before it answered; what the table says of the event is the first Fail, else Hold where any hook holds it, else
+/// Continue.
 #[derive(Drop)]
 pub struct HookTable {
     /// In order of registration.

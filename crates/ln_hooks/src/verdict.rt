@@ -81,19 +81,32 @@ pub enum Verdict {
     Continue,
     /// The payment is to fail, for this reason.
     Fail(FailureCode),
+    /// The payment is to wait, until it is resumed.
+    Hold,
 }
 
 impl Verdict {
     ghost use Rattle.std.specs.Prelude.{◌≡◌};
-    ghost use Rattle.ln_hooks.specs.Verdict.{joined};
+    ghost use Rattle.ln_hooks.specs.Verdict.{joined, or_hold};
 
-    // What a further hook's answer makes of what is said so far. A further kind of verdict joins here.
-    pub(crate) fn joined(self, answer: Verdict) -> Verdict
+    // What it says where another hook holds the payment.
+    fn or_hold(self) -> Verdict
+        ensures { result ≡ or_hold self }
+    {
+        match self {
+            Verdict::Fail(code) => Verdict::Fail(code),
+            Verdict::Continue | Verdict::Hold => Verdict::Hold,
+        }
+    }
+
+    /// What a further hook's answer makes of what is said so far: the first Fail stands, else a Hold. Takes no memory.
+    pub fn joined(self, answer: Verdict) -> Verdict
         ensures { result ≡ joined self answer }
     {
         match self {
             Verdict::Continue => answer,
             Verdict::Fail(code) => Verdict::Fail(code),
+            Verdict::Hold => answer.or_hold(),
         }
     }
 }

@@ -46,6 +46,7 @@ fn copy_mark(alloc: Global, mark: &Mark) -> Result<Mark, Refusal>
         Mark::Fail(reason) => Ok(Mark::Fail(copy_bytes(alloc, reason)?)),
         Mark::Malformed(code) => Ok(Mark::Malformed(*code)),
         Mark::Fulfil(preimage) => Ok(Mark::Fulfil(*preimage)),
+        Mark::Held(event) => Ok(Mark::Held(*event)),
     }
 }
 

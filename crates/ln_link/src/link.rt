@@ -1,6 +1,6 @@
 //! One link: one end of a channel that saves before it hands out.
 
-ghost use Rattle.std.specs.Prelude.{◌≡◌, Some, is_none, option_copied, IfOk, IfErr, OnOk};
+ghost use Rattle.std.specs.Prelude.{◌≡◌, Some, is_none, IfOk, IfErr, OnOk};
 ghost use Rattle.ln_channel.specs.End as end;
 ghost use Rattle.ln_channel.specs.End.{End};
 ghost use Rattle.ln_channel.specs.Record.{saved_end};
@@ -112,7 +112,7 @@ impl<K: ChannelKeys + Drop> Link<K> {
     ghost use Rattle.ln_channel.specs.State.{State, StandsFor, KeepsChannel, begun, drops, halts};
     ghost use Rattle.ln_channel.specs.Step.{Answered, connected, handled, commanded};
     ghost use Rattle.ln_store.specs.Readable.{is_readable};
-    ghost use Rattle.ln_store.specs.Record.{record_at, record_bytes, is_sealed, version_of};
+    ghost use Rattle.ln_store.specs.Record.{record_at, IsSpelledBy, is_sealed, version_of, is_known_version};
     ghost use Rattle.ln_store.specs.declared.record.Items.{Items};
     ghost use Rattle.ln_link.specs.Loading.{Loads, ComesBackOf, IsCameBack};
     ghost use Rattle.ln_link.specs.Saving.{Keeps, Settles, Refuses, is_failing, AnswersMessage, AnswersOver};
@@ -149,13 +149,13 @@ impl<K: ChannelKeys + Drop> Link<K> {
         // The link, or the first fault.
         ensures loads_as_defined { Loads keys (record_at bytes.now) result }
 
-        // What is written of readable items is loaded as they tell.
-        ensures loads_each_record { (i : Items) → is_readable i ≡ true → bytes.now ≡ record_bytes i
+        // What spells readable items is loaded as they tell.
+        ensures loads_each_record { (i : Items) → is_readable i ≡ true → IsSpelledBy bytes.now i
             → Loads keys (Ok i) result }
 
         // What is told before a body of this version is looked at takes no memory.
         ensures takes_memory_for_the_body { IsErrOf result Refusal.Memory
-            → (is_sealed bytes.now ≡ true) × (version_of bytes.now ≡ 1) }
+            → (is_sealed bytes.now ≡ true) × (is_known_version (version_of bytes.now) ≡ true) }
     {
         let unsaved = loaded(alloc, keys, bytes)?;
         Ok(Link { unsaved })

@@ -16,12 +16,12 @@ ghost use Rattle.ln_close.specs.Closing.{AreOrdered};
 ghost use Rattle.ln_channel.specs.Opening.{opening_of};
 ghost use Rattle.ln_channel.specs.Ledger.{most_decided};
 ghost use Rattle.ln_store.specs.Readable.{is_readable, is_open_payload, is_accept_payload};
-ghost use Rattle.ln_store.specs.Record.{record_at, record_bytes, is_sealed, version_of};
+ghost use Rattle.ln_store.specs.Record.{record_at, IsSpelledBy, is_sealed, version_of, is_known_version};
 ghost use Rattle.ln_store.specs.Removals.{are_one_side};
 ghost use Rattle.ln_store.specs.Sides.{count_of, window_of};
 ghost use Rattle.ln_store.specs.declared.record.Items.{Items};
 ghost use Rattle.ln_link.specs.Loading.{open_in, accept_in, terms_of, marks_of, closing_of, counts_by, worth_in};
-ghost use Rattle.ln_link.specs.Loading.{place_in, lives_from, lives_in, counts_in, coverage_in, log_of, dance_of};
+ghost use Rattle.ln_link.specs.Loading.{place_in, lives_in, counts_in, coverage_in, log_of, dance_of};
 ghost use Rattle.ln_link.specs.Loading.{ledger_of, end_of, short_id_of, TellsLog, IsLoadable, Loads};
 
 use crate::record::opening_of;
@@ -403,13 +403,13 @@ pub(crate) fn loaded<K: ChannelKeys + Drop>(
     // The link, or the first fault.
     ensures loads_as_defined { Loads keys (record_at bytes.now) result }
 
-    // What is written of readable items is loaded as they tell.
-    ensures loads_each_record { (i : Items) → is_readable i ≡ true → bytes.now ≡ record_bytes i
+    // What spells readable items is loaded as they tell.
+    ensures loads_each_record { (i : Items) → is_readable i ≡ true → IsSpelledBy bytes.now i
         → Loads keys (Ok i) result }
 
     // What is told before a body of this version is looked at takes no memory.
     ensures takes_memory_for_the_body { IsErrOf result refusal.Memory
-        → (is_sealed bytes.now ≡ true) × (version_of bytes.now ≡ 1) }
+        → (is_sealed bytes.now ≡ true) × (is_known_version (version_of bytes.now) ≡ true) }
 {
     let record = decode_record(alloc, bytes)?;
     let items = record.into_items();

@@ -1,6 +1,7 @@
 pub mod Lists
 pub mod Opening
 pub mod Updates
+pub mod Mark
 pub mod Outcomes
 pub mod View
 pub mod Limits

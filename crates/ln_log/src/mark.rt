@@ -23,6 +23,33 @@ pub enum Mark {
     Malformed(u16),
     /// The HTLC that was added is fulfilled by this preimage.
     Fulfil([u8; 32]),
+    /// The HTLC that was added is held until it is resumed, by this number: that of the event that told of it.
+    Held(u64),
+}
+
+impl Mark {
+    ghost use Rattle.std.specs.Prelude.{◌≡◌};
+    ghost use Rattle.ln_log.specs.Mark.{is_held, is_held_by};
+
+    /// Whether it holds an HTLC.
+    pub fn is_held(&self) -> bool
+        ensures { result ≡ is_held self.now }
+    {
+        match self {
+            Mark::Held(_) => true,
+            _ => false,
+        }
+    }
+
+    /// Whether it holds an HTLC that the event of this number told of.
+    pub fn is_held_by(&self, event: u64) -> bool
+        ensures { result ≡ is_held_by event self.now }
+    {
+        match self {
+            Mark::Held(number) => event == *number,
+            _ => false,
+        }
+    }
 }
 
 /// What an event tells of. Updates of a side count from 0.

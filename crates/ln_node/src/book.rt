@@ -11,7 +11,7 @@ use ln_channel::{Channel, Command, Unsaved};
 use ln_forward::Policy;
 use ln_hooks::{ChannelEvent, Verdict};
 use ln_keys::{ChannelKeys, Onion, Role};
-use ln_log::ChannelId;
+use ln_log::{ChannelId, Mark};
 use ln_msgs::Refusal;
 use ln_store::RecordStore;
 use ln_turns::{Books, Notice, ReadsEnds};
@@ -86,6 +86,11 @@ impl<O: Onion + Copy + Drop> SharedBook<O> {
             notices: Arc::try_clone(&self.notices)?,
             number: self.number,
         })
+    }
+
+    /// The channel, once both have signed its opening.
+    pub(crate) fn id(&self) -> Result<Arc<OnceLock<ChannelId>>, AllocError> {
+        Ok(Arc::try_clone(&self.id)?)
     }
 
     // The channel.
@@ -183,7 +188,9 @@ impl<O: Onion + Copy + Drop> Books for SharedBook<O> {
             .decide(alloc, &self.onion, channel, number, event, verdict)
         {
             Ok(mark) => {
-                drop(mark);
+                if let Mark::Held(held) = mark {
+                    self.notices.add(rt, self.number, Notice::Held(held));
+                }
                 self.bell.ring();
                 Ok(())
             }

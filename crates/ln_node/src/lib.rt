@@ -14,6 +14,7 @@ mod start;
 mod stored;
 
 pub use book::SharedBook;
+pub use ln_tables::HeldHtlc;
 pub use ln_turns::{
     Bench, Books, Closes, End, Item, Notice, ReadsEnds, SavedLink, Table, Task, Wire, Worker,
     dispatch_loop, hooks_follow, reader_loop, worker_loop, worker_turn,

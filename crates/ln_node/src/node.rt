@@ -11,14 +11,17 @@ use ln_book::Book;
 use ln_bytes::Bytes;
 use ln_channel::{Command, FitConfig, FitSpec};
 use ln_forward::Policy;
+use ln_hooks::Verdict;
 use ln_keys::{ChannelKeys, Onion};
+use ln_log::{ChannelId, Mark};
 use ln_msgs::{Init, Message, Records, Refusal};
 use ln_store::RecordStore;
+use ln_tables::HeldHtlc;
 use ln_turns::{End, Notice, ReadsEnds, Table};
 use std::alloc::{AllocError, Global};
 use std::net::{Net, OpenListener, SocketAddr, TcpListener, TcpStream};
 use std::sync::atomic::{AtomicU64, Ordering};
-use std::sync::{Arc, Mutex, Wait};
+use std::sync::{Arc, Mutex, OnceLock, Wait};
 use std::thread::Threads;
 
 /// A node of a payment channel network: channels by number, from 0, each with a reader of its connections, a worker
@@ -29,6 +32,8 @@ pub struct Node<K: ChannelKeys + Copy, S: Drop, O: Drop, H: Drop, T: Drop> {
     stopping: Arc<AtomicU64>,
     common: Common<O>,
     channels: Vec<ChannelThreads<NodeLink<K, S>, H, T>>,
+    // Which channels they are, once both have signed the opening.
+    ids: Vec<Arc<OnceLock<ChannelId>>>,
 }
 
 // What a new channel has of its node.
@@ -113,6 +118,7 @@ where
             stopping: Arc::new(alloc, AtomicU64::new(0))?,
             common,
             channels: Vec::new(alloc),
+            ids: Vec::new(alloc),
         })
     }
 
@@ -171,6 +177,8 @@ where
             bell,
             connections,
         } = shares;
+        self.ids.reserve(1)?;
+        let id = book.id()?;
         let parts = Parts {
             end,
             greeting,
@@ -182,7 +190,9 @@ where
             listener,
             bound,
         };
-        add(rt, alloc, &mut self.channels, parts)
+        add(rt, alloc, &mut self.channels, parts)?;
+        self.ids.push_reserved(id);
+        Ok(())
     }
 
     /// Listens for the connections of a new channel, one after the other, as the fundee with this config, and answers
@@ -273,7 +283,7 @@ where
     }
 
     // Starts a channel whose end was loaded.
-    fn resume<R>(
+    fn start_loaded<R>(
         &mut self,
         rt: R,
         alloc: Global,
@@ -285,6 +295,9 @@ where
         R: Net<Listener = TcpListener, Stream = TcpStream> + Threads + Wait + Copy + Send + 'static,
     {
         let shares = self.shares(alloc)?;
+        if let Some(channel) = end.saved.link.unsaved().saved() {
+            let _ = shares.book.id()?.set(&rt, channel.id());
+        }
         let Some(address) = address else {
             return self.start(rt, alloc, shares, end, table, None, None);
         };
@@ -293,7 +306,7 @@ where
     }
 
     // Starts channels whose ends were loaded.
-    fn resume_all<R>(
+    fn start_all<R>(
         &mut self,
         rt: R,
         alloc: Global,
@@ -308,7 +321,7 @@ where
                 table,
                 address,
             } = one;
-            self.resume(rt, alloc, end, table, address)?;
+            self.start_loaded(rt, alloc, end, table, address)?;
         }
         Ok(())
     }
@@ -333,7 +346,7 @@ where
         let loaded = load_all(alloc, stored)?;
         let mut node: Node<K, S, O, H, T> = Node::new(alloc, onion, policy)?;
         rebuild(&rt, alloc, node.book(), loaded.as_slice())?;
-        match node.resume_all(rt, alloc, loaded) {
+        match node.start_all(rt, alloc, loaded) {
             Ok(()) => Ok(node),
             Err(refusal) => {
                 node.stop(rt);
@@ -343,12 +356,68 @@ where
     }
 
     /// Orders a channel's link to do this. A full relay, or a channel that there isn't, hands the command back. Whether
-    /// the link takes it isn't told; `Decide` and `Forget` are the book's alone and come to nothing. Takes no memory.
+    /// the link takes it isn't told; `Decide`, `Resume` and `Forget` are the book's alone and come to nothing. Takes no
+    /// memory.
     pub fn order<R: Wait>(&self, rt: &R, channel: usize, command: Command) -> Result<(), Command> {
         match self.channels.get(channel) {
             None => Err(command),
             Some(channel) => channel.order(rt, command),
         }
+    }
+
+    /// Decides the HTLC that a hook of this channel has held by its event of this number, by what is said of it now: as
+    /// the book would decide it now, had the hooks said so. The channel's link takes that like any decision of the
+    /// book. Takes memory.
+    ///
+    /// Errors: 40 where there is no such channel, or its opening isn't signed; where the book knows of no HTLC that is
+    /// held so, or of one that is being resumed, or where it is to be held again; 60. Either changes nothing.
+    pub fn resume<R: Wait>(
+        &self,
+        rt: &R,
+        alloc: Global,
+        channel: usize,
+        number: u64,
+        verdict: Verdict,
+    ) -> Result<Mark, Refusal> {
+        let Some(id) = self.id(channel) else {
+            return Err(Refusal::NotReady);
+        };
+        let answer = self
+            .common
+            .book
+            .lock(rt)
+            .resume(alloc, &self.common.onion, id, number, verdict);
+        self.common.bell.ring();
+        answer
+    }
+
+    /// What the node's channels hold, in the order of `Book::held`, each with its channel's number. A program looks at
+    /// it behind `restore`, and resumes each, at the latest before it times out: the node itself lets it wait. Takes
+    /// memory.
+    ///
+    /// Error: 60 where there is none.
+    pub fn held<R: Wait>(&self, rt: &R, alloc: Global) -> Result<Vec<(usize, HeldHtlc)>, Refusal> {
+        let held = self.common.book.lock(rt).held(alloc)?;
+        let mut all = Vec::new(alloc);
+        for htlc in held {
+            if let Some(channel) = self.number_of(&htlc.channel) {
+                all.push((channel, htlc))?;
+            }
+        }
+        Ok(all)
+    }
+
+    // The number of a channel.
+    fn number_of(&self, id: &ChannelId) -> Option<usize> {
+        self.ids.iter().position(|channel| match channel.get() {
+            None => false,
+            Some(known) => known == id,
+        })
+    }
+
+    // Which channel it is, once both have signed its opening.
+    fn id(&self, channel: usize) -> Option<ChannelId> {
+        self.ids.get(channel)?.get().copied()
     }
 
     /// Registers a hook, which is called on each of a channel's events from then on. A full relay, or a channel that

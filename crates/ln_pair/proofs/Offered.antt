@@ -38,4 +38,7 @@ pub use Rattle.ln_pair.proofs.Marks.ShutdownAnswered.{all_answered}
 pub use Rattle.ln_pair.proofs.Fees.Deals.{run_fees}
 pub use Rattle.ln_pair.proofs.Fees.OneFee.{one_fee, all_taken}
 pub use Rattle.ln_pair.proofs.Closing.ClosingEnds.{both_close}
-pub use Rattle.ln_pair.proofs.Bases.LongestBase.{both_longest}
+pub use Rattle.ln_pair.proofs.Bases.LongestBase.{both_longest, Stands, both_stand}
+pub use Rattle.ln_pair.proofs.Events.Undecided.{IsNamed, NamedIn, first_event, named_by, pending, own_pend, peer_pend}
+-- as it is opened
+pub use Rattle.ln_pair.proofs.Ends.JustOpened.{AreFresh, opened_fresh}

@@ -37,6 +37,7 @@ IsReadyFor command.Sign e = IsReady e × (e.dance.numbers.signed ≢ 2 ^ 48 - 1)
 IsReadyFor (command.Shutdown script) e = (e.closing.shut ≡ false) × (length script ≤ 65499)
 IsReadyFor (command.Decide event mark) e = ⊥
 IsReadyFor (command.Forget id) e = ⊥
+IsReadyFor (command.Resume event mark) e = ⊥
 
 -- ---- and of the machine
 

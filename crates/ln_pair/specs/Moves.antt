@@ -53,6 +53,7 @@ moves_asked side command.Sign e = Sign side ∷ []
 moves_asked side (command.Shutdown script) e = Shut side ∷ []
 moves_asked side (command.Decide event mark) e = []
 moves_asked side (command.Forget id) e = []
+moves_asked side (command.Resume event mark) e = []
 
 abbrev pub moves_of_command : Role → Command → End → Result Turn Refusal → List Move
 moves_of_command side c e (Ok t) = moves_asked side c e

@@ -54,13 +54,14 @@ pub record IsForward (channel : List ℕ) (amount expiry : ℕ) : Type 0 where
   pub amount_fits : amount < 2 ^ 64
   pub expiry_fits : expiry < 2 ^ 32
 
--- a reason's length has 64 bits
+-- a reason's length has 64 bits; an HTLC is held by the number of its own event, which an end knows
 abbrev pub IsMark : Mark → Type 0
 IsMark mark.None = Unit {0}
 IsMark (mark.Forward channel amount expiry) = IsForward channel amount expiry
 IsMark (mark.Fail reason) = length reason < 2 ^ 64
 IsMark (mark.Malformed failure_code) = failure_code < 2 ^ 16
 IsMark (mark.Fulfil preimage) = length preimage ≡ 32
+IsMark (mark.Held event) = Unit {0}
 
 -- ---- commands
 
@@ -84,3 +85,4 @@ IsCommand command.Sign = Unit {0}
 IsCommand (command.Shutdown script) = Unit {0}
 IsCommand (command.Decide event m) = IsMark m
 IsCommand (command.Forget id) = Unit {0}
+IsCommand (command.Resume event m) = IsMark m

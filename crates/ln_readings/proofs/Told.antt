@@ -16,6 +16,11 @@ use Rattle.ln_log.specs.Window.{first_lives}
 use Rattle.ln_log.proofs.Behind.{next-append}
 use Rattle.ln_channel.specs.End.{End}
 use Rattle.ln_channel.specs.Ledger.{Ledger}
+use Rattle.std.specs.List.{list_any}
+use Rattle.std.specs.Prelude.{if◌then◌else◌}
+use Rattle.ln_log.specs.declared.mark.Mark.{Mark}
+use Rattle.ln_log.specs.Mark.{is_held}
+use Rattle.ln_channel.specs.Ledger.{is_held_at}
 use Rattle.ln_readings.specs.Kept.{own_updates, next_own_id, is_gone, has_own_removal, has_decided}
 use Rattle.ln_readings.specs.Rebuild.{Reading, peer_updates, held_updates, back_by, back_in, decided_by, decided_in}
 use Rattle.ln_readings.specs.Rebuild.{legs_offered, legs_over, reading_of}
@@ -120,5 +125,7 @@ pub removals_same : (e x : End) → AreToldAlike e x
     → (id : ℕ) → has_own_removal id e.dance.log ≡ has_own_removal id x.dance.log
 removals_same e x a = removal_same e.dance.log x.dance.log a.updates
 
-pub decisions_same : (e x : End) → AreToldAlike e x → (n : ℕ) → has_decided n e ≡ has_decided n x
-decisions_same e x a n = ap (λ (g : Ledger). nat_lt n g.decided) a.ledger
+pub decisions_same : (e x : End) → AreToldAlike e x → (n : ℕ) (m : Mark) → has_decided n m e ≡ has_decided n m x
+decisions_same e x h n m =
+    ap (λ (l : Ledger). nat_lt n l.decided && (if is_held m then list_any (is_held_at n) l.decisions
+    else not (list_any (is_held_at n) l.decisions))) h.ledger

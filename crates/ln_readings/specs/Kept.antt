@@ -1,13 +1,15 @@
 -- What a book asks of a channel, once its connection was lost or it was loaded.
 use Rattle.std.specs.Prelude.{ℕ, List, [], ◌∷◌, ◌++◌, length, Bool, false, not, ◌&&◌, ◌||◌, nat_lt, Option, Some}
 use Rattle.std.specs.Prelude.{None, if◌then◌else◌}
-use Rattle.std.specs.List.{find}
+use Rattle.std.specs.List.{find, list_any}
 use Rattle.ln_log.specs.declared.log.Side.TheVariants as side
 use Rattle.ln_log.specs.declared.mark.Mark.{Mark}
 use Rattle.ln_log.specs.declared.update.Update.{Update}
+use Rattle.ln_log.specs.Mark.{is_held}
 use Rattle.ln_log.specs.Updates.{next_id, add_with, outcome, is_live, is_some}
 use Rattle.ln_log.specs.Log.{Log, between}
 use Rattle.ln_log.specs.Window.{first_worth, first_lives}
+use Rattle.ln_channel.specs.Ledger.{is_held_at}
 use Rattle.ln_channel.specs.End.{End}
 use Rattle.ln_tables.specs.declared.htlc.Htlc.{Htlc}
 use Rattle.ln_tables.specs.declared.entry.Queued.{Queued}
@@ -16,7 +18,7 @@ use Rattle.ln_tables.specs.declared.entry.Out.TheVariants as out
 use Rattle.ln_tables.specs.declared.entry.Desk.{Desk}
 use Rattle.ln_tables.specs.declared.entry.Desk.TheVariants as desk
 use Rattle.ln_tables.specs.declared.entry.Told.{Told}
-use Rattle.ln_tables.specs.Replay.{Table, same, is_queued, desk_at}
+use Rattle.ln_tables.specs.Replay.{Table, same, is_queued, is_resumed, desk_at}
 
 -- of the channel's HTLCs in the book those of which a removal was kept
 abbrev pub kept_ids : (ℕ → Bool) → List ℕ → List Htlc → List ℕ
@@ -34,6 +36,7 @@ is_out_kept decides c (out.Deciding n) qs = is_decision_kept decides (find (is_q
 is_out_kept decides c (out.Adding k) qs = false
 is_out_kept decides c (out.Removing k) qs = false
 is_out_kept decides c (out.Forgetting k) qs = false
+is_out_kept decides c (out.Resuming n) qs = is_decision_kept decides (find (is_resumed c n) qs)
 
 abbrev pub is_desk_kept : (ℕ → Mark → Bool) → List ℕ → Desk → List Queued → Bool
 is_desk_kept decides c desk.Idle qs = false
@@ -70,6 +73,10 @@ is_gone id l = nat_lt id (first_worth l).next_peer && not (is_some (add_with id 
 abbrev pub has_own_removal : ℕ → Log → Bool
 has_own_removal id l = not (is_live (outcome id (own_window l))) || is_gone id l
 
--- events are decided in turn: those below the count are
-abbrev pub has_decided : ℕ → End → Bool
-has_decided n e = nat_lt n e.ledger.decided
+-- a decision is held by the number of this event
+abbrev pub holds_at : ℕ → End → Bool
+holds_at n e = list_any (is_held_at n) e.ledger.decisions
+
+-- events are decided in turn: those below the count are, and an HTLC is held exactly where it is decided so
+abbrev pub has_decided : ℕ → Mark → End → Bool
+has_decided n m e = nat_lt n e.ledger.decided && (if is_held m then holds_at n e else not (holds_at n e))

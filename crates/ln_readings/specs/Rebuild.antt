@@ -24,7 +24,7 @@ use Rattle.ln_tables.specs.declared.htlc.Back.{Back}
 use Rattle.ln_tables.specs.declared.htlc.Back.TheVariants as back
 use Rattle.ln_tables.specs.declared.htlc.Htlc.{Htlc}
 use Rattle.ln_readings.specs.declared.leg.Leg.{Leg}
-use Rattle.ln_tables.specs.Replay.{Table, same_key, is_htlc, put_way, has_no_way, is_open, is_nowhere, is_settled}
+use Rattle.ln_tables.specs.Replay.{Table, same_key, is_htlc, put_way, is_open, is_nowhere, is_over}
 use Rattle.ln_readings.specs.Kept.{own_updates, has_own_removal}
 
 -- what a book takes from one channel
@@ -162,6 +162,7 @@ is_forward (mark.Forward c amount expiry) = true
 is_forward (mark.Fail reason) = false
 is_forward (mark.Malformed code) = false
 is_forward (mark.Fulfil preimage) = false
+is_forward (mark.Held event) = false
 
 -- one to be forwarded that has a removal and goes nowhere was refused: it isn't offered again
 abbrev pub way_read : Mark → Back → Way → Way
@@ -171,9 +172,6 @@ abbrev pub led : List Reading → Htlc → Htlc
 led rs h = put_way (way_read h.mark h.back (way_for h.key rs)) h
 
 -- ---- what the book begins with
-
-abbrev pub is_over : Htlc → Bool
-is_over h = is_settled h.back && has_no_way h.way
 
 -- what is finished is left out
 abbrev pub unfinished : List Reading → List Htlc → List Htlc

@@ -1,11 +1,13 @@
 //! A channel end answers what a book asks behind a lost connection or a load.
 
 ghost use Rattle.std.specs.Prelude.{◌≡◌};
+ghost use Rattle.std.specs.List.{list_any};
+ghost use Rattle.ln_channel.specs.Ledger.{is_held_at};
 ghost use Rattle.ln_readings.specs.Kept.{own_window, is_gone, has_own_removal};
 
 use crate::kept::Kept;
 use ln_channel::Channel;
-use ln_log::{Mark, Outcome, Pair, Side, Update, UpdateLog, find_add, outcome_of};
+use ln_log::{Decision, Mark, Outcome, Pair, Side, Update, UpdateLog, find_add, outcome_of};
 
 // The own updates behind the base.
 pub(crate) fn own_window(log: &UpdateLog) -> &[Update]
@@ -29,6 +31,15 @@ pub(crate) fn has_own_removal(id: u64, log: &UpdateLog) -> bool
     outcome_of(id, own_window(log)) != Outcome::Live || is_gone(id, log)
 }
 
+// Whether a decision is held by the number of this event.
+fn holds_at(decisions: &[Decision], event: u64) -> bool
+    ensures { result ≡ list_any (is_held_at event) decisions.now }
+{
+    decisions
+        .iter()
+        .any(|decision| decision.mark.is_held_by(event))
+}
+
 /// The end of a channel that both sides have signed, once it has dropped what no signature covers.
 impl Kept for Channel {
     ghost use Rattle.ln_readings.specs.Kept.{next_own_id, has_own_removal, has_decided};
@@ -37,7 +48,7 @@ impl Kept for Channel {
 
     ghost removes = { λ c id. has_own_removal id c.dance.log };
 
-    ghost decides = { λ c event mark. has_decided event c };
+    ghost decides = { λ c event mark. has_decided event mark c };
 
     fn next_own_id(&self) -> u64 {
         self.dance().log().next_id()
@@ -47,7 +58,8 @@ impl Kept for Channel {
         has_own_removal(id, self.dance().log())
     }
 
-    fn decision_kept(&self, event: u64, _: &Mark) -> bool {
+    fn decision_kept(&self, event: u64, mark: &Mark) -> bool {
         event < self.ledger().decided()
+            && mark.is_held() == holds_at(self.ledger().decisions(), event)
     }
 }

@@ -2,7 +2,7 @@
 
 ghost use Rattle.std.specs.Prelude.{◌≡◌, ◌&&◌, IfOk, IfErr, option_copied};
 ghost use Rattle.std.specs.List.{find};
-ghost use Rattle.ln_tables.specs.Replay.{same, is_queued};
+ghost use Rattle.ln_tables.specs.Replay.{same, is_queued, is_resumed};
 ghost use Rattle.ln_readings.specs.Kept.{kept_ids, is_decision_kept, is_desk_kept, told_by};
 
 use ln_log::{ChannelId, Mark};
@@ -32,7 +32,8 @@ pub trait Kept {
     fn removal_kept(&self, id: u64) -> bool
         ensures { result ≡ removes self.now id };
 
-    /// Whether the decision of the event of this number by this mark was kept.
+    /// Whether the decision of the event of this number by this mark was kept, or the one that resumes what is held by
+    /// it.
     fn decision_kept(&self, event: u64, mark: &Mark) -> bool
         ensures { result ≡ decides self.now event mark.now };
 }
@@ -67,7 +68,16 @@ fn kept_ids<T: Kept>(
 fn queued_at<'a>(channel: &ChannelId, event: u64, queue: &'a [Queued]) -> Option<&'a Queued>
     ensures { option_copied result ≡ find (is_queued channel.now event) queue.now }
 {
-    queue.iter().find(|queued| event == queued.event && channel == &queued.channel)
+    queue.iter().find(|queued| queued.decides(channel, event))
+}
+
+// That by which what is held is resumed.
+fn resumed_at<'a>(channel: &ChannelId, event: u64, queue: &'a [Queued]) -> Option<&'a Queued>
+    ensures { option_copied result ≡ find (is_resumed channel.now event) queue.now }
+{
+    queue
+        .iter()
+        .find(|queued| queued.is_resumed(channel, event))
 }
 
 // Whether that was kept.
@@ -88,6 +98,9 @@ fn is_desk_kept<T: Kept>(kept: &T, channel: &ChannelId, desk: Desk, queue: &[Que
         Desk::Idle => false,
         Desk::Out(Out::Deciding(event)) | Desk::Unsure(Out::Deciding(event)) => {
             is_decision_kept(kept, queued_at(channel, event, queue))
+        }
+        Desk::Out(Out::Resuming(event)) | Desk::Unsure(Out::Resuming(event)) => {
+            is_decision_kept(kept, resumed_at(channel, event, queue))
         }
         Desk::Out(_) | Desk::Unsure(_) => false,
     }

@@ -2,6 +2,7 @@
 
 ghost use Rattle.std.specs.Prelude.{◌≡◌, ℕ};
 ghost use Rattle.ln_channel.specs.End.{End};
+ghost use Rattle.ln_log.specs.declared.mark.Mark.{Mark};
 ghost use Rattle.ln_readings.specs.Kept.{next_own_id, has_own_removal, has_decided};
 ghost use Rattle.ln_readings.specs.Rebuild.{reading_of};
 ghost use Rattle.ln_readings.specs.Told.{AreToldAlike};
@@ -13,5 +14,5 @@ pub fn a_record_tells_what_is_read()
     ensures next_ids { (e x : End) → AreToldAlike e x → next_own_id e ≡ next_own_id x }
     ensures removals { (e x : End) → AreToldAlike e x
         → (id : ℕ) → has_own_removal id e.dance.log ≡ has_own_removal id x.dance.log }
-    ensures decisions { (e x : End) → AreToldAlike e x → (n : ℕ) → has_decided n e ≡ has_decided n x }
+    ensures decisions { (e x : End) → AreToldAlike e x → (n : ℕ) (m : Mark) → has_decided n m e ≡ has_decided n m x }
 {}

@@ -2,9 +2,9 @@
 
 ghost use Rattle.std.specs.Prelude.{◌≡◌, ◌++◌, OnOk, IfOk, IfErr, option_copied};
 ghost use Rattle.std.specs.List.{find, list_any};
-ghost use Rattle.ln_tables.specs.Replay.{is_htlc};
+ghost use Rattle.ln_tables.specs.Replay.{is_htlc, is_over};
 ghost use Rattle.ln_readings.specs.Rebuild.{is_for, or_leg, result_for, offer_for, way_for, is_forward, way_read, led};
-ghost use Rattle.ln_readings.specs.Rebuild.{is_over, unfinished, all_unfinished, is_read, htlc_left, left, all_left};
+ghost use Rattle.ln_readings.specs.Rebuild.{unfinished, all_unfinished, is_read, htlc_left, left, all_left};
 ghost use Rattle.ln_readings.specs.Rebuild.{rebuilt_htlcs};
 
 use crate::leg::{Leg, NO_EVENT, Reading};
@@ -85,7 +85,7 @@ fn is_forward(mark: &Mark) -> bool
 {
     match mark {
         Mark::Forward { .. } => true,
-        Mark::None | Mark::Fail(_) | Mark::Malformed(_) | Mark::Fulfil(_) => false,
+        Mark::None | Mark::Fail(_) | Mark::Malformed(_) | Mark::Fulfil(_) | Mark::Held(_) => false,
     }
 }
 
@@ -122,7 +122,7 @@ fn led(alloc: Global, htlc: &Htlc, readings: &[Reading]) -> Result<Htlc, Refusal
 fn is_over(htlc: &Htlc) -> bool
     ensures { result ≡ is_over htlc.now }
 {
-    htlc.back.is_settled() && htlc.way.is_none()
+    htlc.back.is_settled() && htlc.way.is_none() && !htlc.mark.is_held()
 }
 
 // Adds those of these HTLCs that aren't finished. Error: 60 alone.

@@ -84,6 +84,7 @@ all_none = record {
   delivers = λ end. round_none end act.Deliver;
   takes = λ end. round_none end act.Take;
   decides = λ end. round_none end act.Decide;
+  resumes = λ end number said. round_none end (act.Resume number said);
   confirms = λ end id. refl;
   commands = λ end w ws. any_command end (command_at end.node w ws);
 }

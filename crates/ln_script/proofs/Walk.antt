@@ -12,7 +12,8 @@ use Rattle.ln_world.specs.declared.step.Act.{Act}
 use Rattle.ln_world.specs.declared.step.Act.TheVariants as act
 use Rattle.ln_world.specs.declared.step.Step.TheVariants as step
 use Rattle.ln_channels.specs.Promises.{Each}
-use Rattle.ln_script.specs.Word.{◌>>=◌, number_at, node_at, end_at, short_id_at}
+use Rattle.ln_hooks.specs.declared.verdict.Verdict.{Verdict}
+use Rattle.ln_script.specs.Word.{◌>>=◌, decimal_at, number_at, node_at, end_at, short_id_at}
 use Rattle.ln_script.specs.Keys.{toy}
 use Rattle.ln_script.specs.Command.{command_at}
 use Rattle.ln_script.specs.Step.{ToyStep, fees_if, fees_at, limits_at, fees_line, limits_line, setting_at, set_line}
@@ -20,6 +21,7 @@ use Rattle.ln_script.specs.Step.{opening_at, open_line, up_line, down_line, rest
 use Rattle.ln_script.specs.declared.step.Doing.{Doing}
 use Rattle.ln_script.specs.Step.{policy_at, policy_line, height_line, expect_at, expect_line}
 use Rattle.ln_script.specs.Step.{dispatch_line, register_line, take_line, decide_line, other_step_at}
+use Rattle.ln_script.specs.Step.{said_at, resume_at, resume_line}
 use Rattle.ln_script.specs.Step.{act_line, do_line, stop_before_line, stop_after_line, no_memory_line}
 use Rattle.ln_script.specs.Step.{step_at, ready_steps, ready_line, one_step, word_line, steps_at}
 use Rattle.ln_script.specs.Step.{numbered}
@@ -84,6 +86,7 @@ pub record IsOfEachKind (P : ToyStep → Type 0) : Type 0 where
   pub delivers : (end : End) → RoundAct P end act.Deliver
   pub takes : (end : End) → RoundAct P end act.Take
   pub decides : (end : End) → RoundAct P end act.Decide
+  pub resumes : (end : End) (number : ℕ) (said : Verdict) → RoundAct P end (act.Resume number said)
   pub confirms : (end : End) (id : ShortId) → P (step.Do end (act.Send (command.Confirm id)))
   pub commands : (end : End) (w : List ℕ) (ws : List (List ℕ))
       → Has (λ c. RoundAct P end (act.Send c)) (command_at end.node w ws)
@@ -192,6 +195,19 @@ module _ (P : ToyStep → Type 0) (kinds : IsOfEachKind P) where
   decide_lines (e ∷ []) = then IsDoing (end_at e) _ (λ end. kinds.decides end)
   decide_lines (e ∷ w ∷ ws) = tt
 
+  resume_words : (e k w : List ℕ) (ws : List (List ℕ)) → Has IsDoing (resume_at e k w ws)
+  unfolding resume_at
+  resume_words e k w ws =
+      then IsDoing (end_at e) _ (λ end.
+      then IsDoing (decimal_at k) _ (λ number.
+      then IsDoing (said_at w ws) _ (λ said. kinds.resumes end number said)))
+
+  resume_lines : (ws : List (List ℕ)) → Has IsDoing (resume_line ws)
+  resume_lines [] = tt
+  resume_lines (e ∷ []) = tt
+  resume_lines (e ∷ k ∷ []) = tt
+  resume_lines (e ∷ k ∷ w ∷ ws) = resume_words e k w ws
+
   command_lines : (w : List ℕ) (ws : List (List ℕ)) → Has IsDoing (command_line w ws)
   unfolding command_line
   command_lines w [] = tt
@@ -205,7 +221,8 @@ module _ (P : ToyStep → Type 0) (kinds : IsOfEachKind P) where
   act_lines w ws =
       either IsDoing (bytes_eq w (codes "deliver")) _ _ (deliver_lines ws)
       (either IsDoing (bytes_eq w (codes "take")) _ _ (take_lines ws)
-      (either IsDoing (bytes_eq w (codes "decide")) _ _ (decide_lines ws) (command_lines w ws)))
+      (either IsDoing (bytes_eq w (codes "decide")) _ _ (decide_lines ws)
+      (either IsDoing (bytes_eq w (codes "resume")) _ _ (resume_lines ws) (command_lines w ws))))
 
   do_lines : (w : List ℕ) (ws : List (List ℕ)) → Has P (do_line w ws)
   do_lines w ws = then_of IsDoing P (act_line w ws) _ (act_lines w ws) (λ doing h. h.0)

@@ -302,6 +302,7 @@ all_wide = record {
   delivers = λ end. (tt, (tt, (tt, tt)));
   takes = λ end. (tt, (tt, (tt, tt)));
   decides = λ end. (tt, (tt, (tt, tt)));
+  resumes = λ end number said. (tt, (tt, (tt, tt)));
   confirms = λ end id. tt;
   commands = λ end w ws. round_each end (command_at end.node w ws) (commands_are_wide end.node w ws);
 }

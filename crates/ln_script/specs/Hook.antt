@@ -7,7 +7,7 @@ use Rattle.ln_hooks.specs.declared.event.ChannelEvent.TheVariants as event
 use Rattle.ln_hooks.specs.declared.verdict.FailureCode.{FailureCode}
 use Rattle.ln_hooks.specs.declared.verdict.FailureCode.TheVariants as code
 use Rattle.ln_hooks.specs.declared.verdict.Verdict.{Verdict}
-use Rattle.ln_hooks.specs.declared.verdict.Verdict.TheVariants.{Continue, Fail}
+use Rattle.ln_hooks.specs.declared.verdict.Verdict.TheVariants.{Continue, Fail, Hold}
 use Rattle.ln_hooks.specs.Verdict.{code_number}
 use Rattle.ln_script.specs.declared.hook.HookLine.{HookLine}
 use Rattle.ln_script.specs.declared.hook.HookLine.TheVariants as hook
@@ -22,9 +22,16 @@ above most why (event.Added own id amount hash expiry onion) =
     if not own && nat_lt most amount then Fail why else Continue
 above most why e = Continue
 
+-- or waits
+abbrev pub hold : ℕ → ChannelEvent → Verdict
+hold most (event.Added own id amount hash expiry onion) =
+    if not own && nat_lt most amount then Hold else Continue
+hold most e = Continue
+
 abbrev pub says : HookLine → ChannelEvent → Verdict
 says hook.Count e = Continue
 says (hook.Above most why) e = above most why e
+says (hook.Hold most) e = hold most e
 
 -- it is called on an event, says so, and stays as it is
 abbrev pub SaysOf : HookLine → ChannelEvent → Verdict → HookLine → Type 0
@@ -64,6 +71,13 @@ abbrev pub above_hook : List (List ℕ) → Option HookLine
 above_hook (a ∷ c ∷ []) = above_at a c
 above_hook _ = None
 
+-- AMOUNT
+abbrev pub hold_hook : List (List ℕ) → Option HookLine
+hold_hook (a ∷ []) = do
+  amount ← decimal_at a
+  Some (hook.Hold amount)
+hold_hook _ = None
+
 abbrev pub count_hook : List (List ℕ) → Option HookLine
 count_hook [] = Some hook.Count
 count_hook _ = None
@@ -71,9 +85,10 @@ count_hook _ = None
 abbrev pub hook_at : List ℕ → List (List ℕ) → Option HookLine
 hook_at w ws =
     if bytes_eq w (codes "count") then count_hook ws
-    else (if bytes_eq w (codes "above") then above_hook ws else None)
+    else (if bytes_eq w (codes "above") then above_hook ws
+    else (if bytes_eq w (codes "hold") then hold_hook ws else None))
 
--- E count, or E above AMOUNT CODE
+-- E count, E above AMOUNT CODE, or E hold AMOUNT
 unfoldable pub hook_of : List ℕ → List ℕ → List (List ℕ) → Option Hooked
 hook_of e w ws = do
   end ← end_at e

@@ -87,6 +87,7 @@ restarts_text n = encode_utf8 n.letter ++ codes " restarts"
 -- what a dispatcher's hooks say of an event: a failure's code in four hexadecimal digits
 abbrev pub verdict_text : Verdict → List ℕ
 verdict_text verdict.Continue = codes "continue"
+verdict_text verdict.Hold = codes "hold"
 verdict_text (verdict.Fail failure.TemporaryChannelFailure) = codes "fail 1007"
 verdict_text (verdict.Fail failure.UnknownNextPeer) = codes "fail 400a"
 verdict_text (verdict.Fail failure.AmountBelowMinimum) = codes "fail 100b"
@@ -117,9 +118,13 @@ choice_text (choice.Forward channel) = with_number (codes "forward") channel
 choice_text (choice.Fail code) = codes "fail " ++ code_text code
 choice_text (choice.Malformed code) = codes "malformed " ++ code_text code
 choice_text choice.Fulfil = codes "fulfil"
+choice_text choice.Held = codes "held"
 
 unfoldable pub decided_text : End → ℕ → Choice → List ℕ
 decided_text e number c = end_text e ++ (codes " decided " ++ (decimal number ++ (codes " " ++ choice_text c)))
+
+unfoldable pub resumed_text : End → ℕ → Choice → List ℕ
+resumed_text e number c = end_text e ++ (codes " resumed " ++ (decimal number ++ (codes " " ++ choice_text c)))
 
 abbrev pub line_text : Line → List ℕ
 line_text (line.Open channel) = decimal channel ++ codes " open"
@@ -131,6 +136,7 @@ line_text (line.Refused e why) = refused_text e why
 line_text (line.Restarts n) = restarts_text n
 line_text (line.Dispatched e number v) = dispatched_text e number v
 line_text (line.Decided e number c) = decided_text e number c
+line_text (line.Resumed e number c) = resumed_text e number c
 line_text line.Idle = codes "idle"
 
 -- ---- how an end stands

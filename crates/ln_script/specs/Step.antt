@@ -13,7 +13,9 @@ use Rattle.ln_world.specs.declared.step.Act.TheVariants as act
 use Rattle.ln_world.specs.declared.step.Step.{Step}
 use Rattle.ln_world.specs.declared.step.Step.TheVariants as step
 use Rattle.ln_script.specs.declared.step.Doing.{Doing}
-use Rattle.ln_script.specs.Hook.{hooked_at}
+use Rattle.ln_hooks.specs.declared.verdict.Verdict.{Verdict}
+use Rattle.ln_hooks.specs.declared.verdict.Verdict.TheVariants as verdict
+use Rattle.ln_script.specs.Hook.{lawful_at, hooked_at}
 use Rattle.ln_script.specs.Word.{◌>>=◌, decimal_at, number_at, node_at, end_at, short_id_at}
 use Rattle.ln_script.specs.Keys.{toy, partners_of}
 use Rattle.ln_script.specs.Command.{preimage_of, command_at}
@@ -197,6 +199,34 @@ decide_line (e ∷ []) = do
   Some (record { end = end; what = act.Decide })
 decide_line _ = None
 
+-- what is said of what is held: continue, or fail CODE
+abbrev pub goes_on_at : List (List ℕ) → Option Verdict
+goes_on_at [] = Some verdict.Continue
+goes_on_at _ = None
+
+abbrev pub fails_at : List (List ℕ) → Option Verdict
+fails_at (c ∷ []) = do
+  why ← lawful_at c
+  Some (verdict.Fail why)
+fails_at _ = None
+
+abbrev pub said_at : List ℕ → List (List ℕ) → Option Verdict
+said_at w ws =
+    if bytes_eq w (codes "continue") then goes_on_at ws
+    else (if bytes_eq w (codes "fail") then fails_at ws else None)
+
+-- resume E K, and what is said of it
+unfoldable pub resume_at : List ℕ → List ℕ → List ℕ → List (List ℕ) → Option Doing
+resume_at e k w ws = do
+  end ← end_at e
+  number ← decimal_at k
+  said ← said_at w ws
+  Some (record { end = end; what = act.Resume number said })
+
+abbrev pub resume_line : List (List ℕ) → Option Doing
+resume_line (e ∷ k ∷ w ∷ ws) = resume_at e k w ws
+resume_line _ = None
+
 -- a command's word, E, and what the command asks for
 unfoldable pub command_line : List ℕ → List (List ℕ) → Option Doing
 command_line w (e ∷ ws) = do
@@ -209,7 +239,8 @@ unfoldable pub act_line : List ℕ → List (List ℕ) → Option Doing
 act_line w ws =
     if bytes_eq w (codes "deliver") then deliver_line ws
     else (if bytes_eq w (codes "take") then take_line ws
-    else (if bytes_eq w (codes "decide") then decide_line ws else command_line w ws))
+    else (if bytes_eq w (codes "decide") then decide_line ws
+    else (if bytes_eq w (codes "resume") then resume_line ws else command_line w ws)))
 
 abbrev pub do_line : List ℕ → List (List ℕ) → Option ToyStep
 do_line w ws = do

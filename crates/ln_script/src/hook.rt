@@ -1,7 +1,8 @@
 //! The hooks of a script.
 
 ghost use Rattle.std.specs.Prelude.{◌≡◌};
-ghost use Rattle.ln_script.specs.Hook.{lawful, lawful_at, above_at, above_hook, count_hook, hook_at, hook_of};
+ghost use Rattle.ln_script.specs.Hook.{lawful, lawful_at, above_at, above_hook, hold_hook, count_hook, hook_at};
+ghost use Rattle.ln_script.specs.Hook.{hook_of};
 ghost use Rattle.ln_script.specs.Hook.{hooked_at};
 ghost use Rattle.ln_script.specs.Step.{texts};
 
@@ -21,6 +22,11 @@ pub enum HookLine {
         /// For this reason.
         code: FailureCode,
     },
+    /// It holds an HTLC of the peer's.
+    Hold {
+        /// Where that is of more millisatoshi than these.
+        amount: u64,
+    },
 }
 
 impl HookLine {
@@ -39,6 +45,14 @@ impl HookLine {
                     amount: offered,
                     ..
                 } if offered.value() > amount => Verdict::Fail(code),
+                _ => Verdict::Continue,
+            },
+            HookLine::Hold { amount } => match event {
+                ChannelEvent::Added {
+                    own: false,
+                    amount: offered,
+                    ..
+                } if offered.value() > amount => Verdict::Hold,
                 _ => Verdict::Continue,
             },
         }
@@ -69,7 +83,7 @@ fn lawful_code(number: u16) -> Option<FailureCode>
     FailureCode::new(number)
 }
 
-fn lawful_code_of(word: &str) -> Option<FailureCode>
+pub(crate) fn lawful_code_of(word: &str) -> Option<FailureCode>
     ensures { result ≡ lawful_at word.now }
 {
     lawful_code(code_of(word)?)
@@ -93,6 +107,17 @@ fn above_hook(words: &[&str]) -> Option<HookLine>
     }
 }
 
+fn hold_hook(words: &[&str]) -> Option<HookLine>
+    ensures { result ≡ hold_hook (texts words.now) }
+{
+    match words {
+        [amount] => Some(HookLine::Hold {
+            amount: decimal_of(amount)?,
+        }),
+        _ => None,
+    }
+}
+
 fn count_hook(words: &[&str]) -> Option<HookLine>
     ensures { result ≡ count_hook (texts words.now) }
 {
@@ -108,11 +133,12 @@ fn hook_by(word: &str, words: &[&str]) -> Option<HookLine>
     match word {
         "count" => count_hook(words),
         "above" => above_hook(words),
+        "hold" => hold_hook(words),
         _ => None,
     }
 }
 
-/// E count, or E above AMOUNT CODE
+/// E count, E above AMOUNT CODE, or E hold AMOUNT
 #[tactic(auto, unfolding(crate::specs::Hook::hook_of))]
 fn hook_at_end(end: &str, word: &str, words: &[&str]) -> Option<Hooked>
     ensures { result ≡ hook_of end.now word.now (texts words.now) }

@@ -5,6 +5,7 @@ ghost use Rattle.ln_script.specs.LineText.{end_text, word_text, owner_text, endi
 ghost use Rattle.ln_script.specs.LineText.{settled_text, closed_text, line_text, life_text, counts_text, worth_text};
 ghost use Rattle.ln_script.specs.LineText.{event_text, refused_text, restarts_text, end_line_text, with_number};
 ghost use Rattle.ln_script.specs.LineText.{verdict_text, dispatched_text, code_text, choice_text, decided_text};
+ghost use Rattle.ln_script.specs.LineText.{resumed_text};
 
 use ln_channel::{Life, Summary};
 use ln_hooks::{FailureCode, Verdict};
@@ -142,6 +143,7 @@ fn verdict_text(verdict: Verdict) -> &'static str
 {
     match verdict {
         Verdict::Continue => "continue",
+        Verdict::Hold => "hold",
         Verdict::Fail(FailureCode::TemporaryChannelFailure) => "fail 1007",
         Verdict::Fail(FailureCode::UnknownNextPeer) => "fail 400a",
         Verdict::Fail(FailureCode::AmountBelowMinimum) => "fail 100b",
@@ -198,6 +200,7 @@ fn put_choice(text: &mut String, choice: Choice) -> Result<(), AllocError>
             put_code(text, code)
         }
         Choice::Fulfil => text.push_str("fulfil"),
+        Choice::Held => text.push_str("held"),
     }
 }
 
@@ -207,6 +210,15 @@ fn put_decided(text: &mut String, end: End, number: u64, choice: Choice) -> Resu
 {
     put_end(text, end)?;
     write!(text, " decided {number} ")?;
+    put_choice(text, choice)
+}
+
+#[tactic(auto, unfolding(crate::specs::LineText::resumed_text))]
+fn put_resumed(text: &mut String, end: End, number: u64, choice: Choice) -> Result<(), AllocError>
+    ensures { OnOk result (string_bytes text.new ≡ string_bytes text.old ++ resumed_text end number choice) }
+{
+    put_end(text, end)?;
+    write!(text, " resumed {number} ")?;
     put_choice(text, choice)
 }
 
@@ -235,6 +247,7 @@ pub(crate) fn put_line(text: &mut String, line: &Line) -> Result<(), AllocError>
         Line::Restarts(node) => put_restarts(text, node),
         Line::Dispatched(end, number, verdict) => put_dispatched(text, end, number, verdict),
         Line::Decided(end, number, choice) => put_decided(text, end, number, choice),
+        Line::Resumed(end, number, choice) => put_resumed(text, end, number, choice),
         Line::Idle => text.push_str("idle"),
     }
 }

@@ -8,10 +8,11 @@ ghost use Rattle.ln_script.specs.Step.{dispatch_line, register_line, take_line, 
 ghost use Rattle.ln_script.specs.Step.{opening_at, open_line, up_line, down_line, restart_line, deliver_line};
 ghost use Rattle.ln_script.specs.Step.{command_line, act_line, do_line, stop_before_line, stop_after_line};
 ghost use Rattle.ln_script.specs.Step.{no_memory_line, step_at, confirms, delivers, ready_steps, ready_line, one_step};
-ghost use Rattle.ln_script.specs.Step.{word_line, steps_at, if_good, joined};
+ghost use Rattle.ln_script.specs.Step.{word_line, steps_at, if_good, joined, goes_on_at, fails_at, said_at, resume_at};
+ghost use Rattle.ln_script.specs.Step.{resume_line};
 
 use crate::command::{command_of, preimage_of};
-use crate::hook::hooked_by;
+use crate::hook::{hooked_by, lawful_code_of};
 use crate::keys::partners_of;
 use crate::word::{
     channel_of, decimal_of, end_of, node_of, number_of, number_of_32_bits, payment_of, short_id_of,
@@ -20,6 +21,7 @@ use ln_bytes::ShortId;
 use ln_channel::Command;
 use ln_close::Fees;
 use ln_forward::Expected;
+use ln_hooks::Verdict;
 use ln_keys::ToyKeys;
 use ln_log::Limits;
 use ln_msgs::Refusal;
@@ -320,6 +322,59 @@ fn decide_line(words: &[&str]) -> Option<Doing>
     }
 }
 
+fn goes_on(words: &[&str]) -> Option<Verdict>
+    ensures { result ≡ goes_on_at (texts words.now) }
+{
+    match words {
+        [] => Some(Verdict::Continue),
+        _ => None,
+    }
+}
+
+/// CODE
+fn fails(words: &[&str]) -> Option<Verdict>
+    ensures { result ≡ fails_at (texts words.now) }
+{
+    match words {
+        [code] => Some(Verdict::Fail(lawful_code_of(code)?)),
+        _ => None,
+    }
+}
+
+/// What is said of what is held: continue, or fail CODE.
+fn said_by(word: &str, words: &[&str]) -> Option<Verdict>
+    ensures { result ≡ said_at word.now (texts words.now) }
+{
+    match word {
+        "continue" => goes_on(words),
+        "fail" => fails(words),
+        _ => None,
+    }
+}
+
+/// resume E K, and what is said of it
+#[tactic(auto, unfolding(crate::specs::Step::resume_at))]
+fn resume_at(end: &str, number: &str, word: &str, words: &[&str]) -> Option<Doing>
+    ensures { result ≡ resume_at end.now number.now word.now (texts words.now) }
+{
+    let end = end_of(end)?;
+    let number = decimal_of(number)?;
+    let verdict = said_by(word, words)?;
+    Some(Doing {
+        end,
+        what: Act::Resume(number, verdict),
+    })
+}
+
+fn resume_line(words: &[&str]) -> Option<Doing>
+    ensures { result ≡ resume_line (texts words.now) }
+{
+    match words {
+        [end, number, word, rest @ ..] => resume_at(end, number, word, rest),
+        _ => None,
+    }
+}
+
 /// A command's word, E, and what the command asks for.
 #[tactic(auto, unfolding(crate::specs::Step::command_line))]
 fn command_line(alloc: Global, word: &str, words: &[&str]) -> Result<Option<Doing>, Refusal>
@@ -351,6 +406,7 @@ fn act_line(alloc: Global, word: &str, words: &[&str]) -> Result<Option<Doing>, 
         "deliver" => Ok(deliver_line(words)),
         "take" => Ok(take_line(words)),
         "decide" => Ok(decide_line(words)),
+        "resume" => Ok(resume_line(words)),
         _ => command_line(alloc, word, words),
     }
 }

@@ -276,6 +276,7 @@ unready_other (command.Fee feerate) e = unready_by e
 unready_other command.Sign e = unready_by e
 unready_other (command.Decide event mark) e = unready_by e
 unready_other (command.Forget id) e = unready_by e
+unready_other (command.Resume event mark) e = unready_by e
 
 pub line_other : (l : LineState) → OtherFault (line_fault l)
 line_other l = one_not (is_met l) refusal.Disconnected refl

@@ -752,3 +752,4 @@ module _ (k : Signer) (keys : AreKeys k) where
   command_keeps (command.Shutdown script) e wide t h = shuts_keeps script e t h
   command_keeps (command.Decide event mark) e wide t h = refl
   command_keeps (command.Forget id) e wide t h = refl
+  command_keeps (command.Resume event mark) e wide t h = refl

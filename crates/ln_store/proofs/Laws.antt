@@ -29,6 +29,7 @@ use Rattle.ln_store.specs.Items.{role_number, role_of, bit, later_bit, is_odd, f
 use Rattle.ln_store.specs.Items.{failure_number, failure_of, failures, update_tag, update_form, add_form, event_tag}
 use Rattle.ln_store.specs.Items.{event_form, mark_tag, mark_form, the_fulfil, the_fail, the_malformed, the_fee}
 use Rattle.ln_store.specs.Items.{own_number, peer_number, the_close, forward_of, reason_of, code_of, preimage_of}
+use Rattle.ln_store.specs.Items.{event_held}
 use Rattle.ln_store.proofs.Formats.{IsLawful, number_is_lawful, fixed_is_lawful, sized_is_lawful, both_are_lawful}
 use Rattle.ln_store.proofs.Formats.{list_is_lawful, optional_is_lawful, tagged_is_lawful, nothing_is_lawful}
 use Rattle.ln_store.proofs.Formats.{made_is_lawful, kind_is_lawful, code_is_lawful, only_is_lawful}
@@ -476,6 +477,7 @@ forward_forth (mark.Forward c a t) y e = ap (λ (p : List ℕ × (ℕ × ℕ)). 
 forward_forth (mark.Fail r) y e = absurd cc
 forward_forth (mark.Malformed r) y e = absurd cc
 forward_forth (mark.Fulfil r) y e = absurd cc
+forward_forth (mark.Held n) y e = absurd cc
 
 forward_own : (x : Mark)
     → (kind (λ (p : List ℕ × (ℕ × ℕ)). mark.Forward p.0 p.1.0 p.1.1) forward_of (fixed 32 & number 8 & number 4)).fits
@@ -485,6 +487,7 @@ forward_own (mark.Forward c a t) h = refl
 forward_own (mark.Fail r) h = absurd cc
 forward_own (mark.Malformed r) h = absurd cc
 forward_own (mark.Fulfil r) h = absurd cc
+forward_own (mark.Held n) h = absurd cc
 
 forward_kind : IsLawful (kind (λ (p : List ℕ × (ℕ × ℕ)). mark.Forward p.0 p.1.0 p.1.1) forward_of
     (fixed 32 & number 8 & number 4))
@@ -497,6 +500,7 @@ reason_forth (mark.Forward c a t) y e = absurd cc
 reason_forth (mark.Fail r) y e = ap (mark.Fail) (sym (some_is r y e))
 reason_forth (mark.Malformed r) y e = absurd cc
 reason_forth (mark.Fulfil r) y e = absurd cc
+reason_forth (mark.Held n) y e = absurd cc
 
 reason_own : (x : Mark) → (kind (mark.Fail) reason_of (sized 8)).fits x ≡ true → mark_tag x ≡ 2
 reason_own mark.None h = absurd cc
@@ -504,6 +508,7 @@ reason_own (mark.Forward c a t) h = absurd cc
 reason_own (mark.Fail r) h = refl
 reason_own (mark.Malformed r) h = absurd cc
 reason_own (mark.Fulfil r) h = absurd cc
+reason_own (mark.Held n) h = absurd cc
 
 reason_kind : IsLawful (kind (mark.Fail) reason_of (sized 8))
 reason_kind = kind_is_lawful (mark.Fail) reason_of _ (sized_is_lawful 8) (λ y. refl) reason_forth
@@ -514,6 +519,7 @@ code_forth (mark.Forward c a t) y e = absurd cc
 code_forth (mark.Fail r) y e = absurd cc
 code_forth (mark.Malformed r) y e = ap (mark.Malformed) (sym (some_is r y e))
 code_forth (mark.Fulfil r) y e = absurd cc
+code_forth (mark.Held n) y e = absurd cc
 
 code_own : (x : Mark) → (kind (mark.Malformed) code_of (number 2)).fits x ≡ true → mark_tag x ≡ 3
 code_own mark.None h = absurd cc
@@ -521,6 +527,7 @@ code_own (mark.Forward c a t) h = absurd cc
 code_own (mark.Fail r) h = absurd cc
 code_own (mark.Malformed r) h = refl
 code_own (mark.Fulfil r) h = absurd cc
+code_own (mark.Held n) h = absurd cc
 
 code_kind : IsLawful (kind (mark.Malformed) code_of (number 2))
 code_kind = kind_is_lawful (mark.Malformed) code_of _ (number_is_lawful 2) (λ y. refl) code_forth
@@ -531,6 +538,7 @@ preimage_forth (mark.Forward c a t) y e = absurd cc
 preimage_forth (mark.Fail r) y e = absurd cc
 preimage_forth (mark.Malformed r) y e = absurd cc
 preimage_forth (mark.Fulfil r) y e = ap (mark.Fulfil) (sym (some_is r y e))
+preimage_forth (mark.Held n) y e = absurd cc
 
 preimage_own : (x : Mark) → (kind (mark.Fulfil) preimage_of (fixed 32)).fits x ≡ true → mark_tag x ≡ 4
 preimage_own mark.None h = absurd cc
@@ -538,19 +546,40 @@ preimage_own (mark.Forward c a t) h = absurd cc
 preimage_own (mark.Fail r) h = absurd cc
 preimage_own (mark.Malformed r) h = absurd cc
 preimage_own (mark.Fulfil r) h = refl
+preimage_own (mark.Held n) h = absurd cc
 
 preimage_kind : IsLawful (kind (mark.Fulfil) preimage_of (fixed 32))
 preimage_kind = kind_is_lawful (mark.Fulfil) preimage_of _ (fixed_is_lawful 32) (λ y. refl) preimage_forth
 
+held_forth : (x : Mark) (y : ℕ) → event_held x ≡ Some y → (mark.Held) y ≡ x
+held_forth mark.None y e = absurd cc
+held_forth (mark.Forward c a t) y e = absurd cc
+held_forth (mark.Fail r) y e = absurd cc
+held_forth (mark.Malformed r) y e = absurd cc
+held_forth (mark.Fulfil r) y e = absurd cc
+held_forth (mark.Held n) y e = ap (mark.Held) (sym (some_is n y e))
+
+held_own : (x : Mark) → (kind (mark.Held) event_held (number 8)).fits x ≡ true → mark_tag x ≡ 5
+held_own mark.None h = absurd cc
+held_own (mark.Forward c a t) h = absurd cc
+held_own (mark.Fail r) h = absurd cc
+held_own (mark.Malformed r) h = absurd cc
+held_own (mark.Fulfil r) h = absurd cc
+held_own (mark.Held n) h = refl
+
+held_kind : IsLawful (kind (mark.Held) event_held (number 8))
+held_kind = kind_is_lawful (mark.Held) event_held _ n8 (λ y. refl) held_forth
+
 mark_forms : (n : ℕ) → IsLawful (mark_form n)
 mark_forms n = picked (n == 1) _ _ forward_kind
     (picked (n == 2) _ _ reason_kind (picked (n == 3) _ _ code_kind
-    (picked (n == 4) _ _ preimage_kind (nothing_is_lawful))))
+    (picked (n == 4) _ _ preimage_kind (picked (n == 5) _ _ held_kind (nothing_is_lawful)))))
 
 mark_own : (n : ℕ) (x : Mark) → (mark_form n).fits x ≡ true → mark_tag x ≡ n
 mark_own n x = own_picked mark_tag n 1 _ _ x (forward_own x)
     (own_picked mark_tag n 2 _ _ x (reason_own x)
-    (own_picked mark_tag n 3 _ _ x (code_own x) (own_picked mark_tag n 4 _ _ x (preimage_own x) (λ h. absurd cc))))
+    (own_picked mark_tag n 3 _ _ x (code_own x) (own_picked mark_tag n 4 _ _ x (preimage_own x)
+    (own_picked mark_tag n 5 _ _ x (held_own x) (λ h. absurd cc)))))
 
 stored_mark_is_lawful : IsLawful it.stored_mark
 unfolding it.stored_mark

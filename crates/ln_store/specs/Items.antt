@@ -297,6 +297,7 @@ forward_of (mark.Forward channel amount expiry) = Some (channel, (amount, expiry
 forward_of (mark.Fail reason) = None
 forward_of (mark.Malformed failure_code) = None
 forward_of (mark.Fulfil preimage) = None
+forward_of (mark.Held told) = None
 
 abbrev pub reason_of : Mark → Option (List ℕ)
 reason_of mark.None = None
@@ -304,6 +305,7 @@ reason_of (mark.Forward channel amount expiry) = None
 reason_of (mark.Fail reason) = Some reason
 reason_of (mark.Malformed failure_code) = None
 reason_of (mark.Fulfil preimage) = None
+reason_of (mark.Held told) = None
 
 abbrev pub code_of : Mark → Option ℕ
 code_of mark.None = None
@@ -311,6 +313,7 @@ code_of (mark.Forward channel amount expiry) = None
 code_of (mark.Fail reason) = None
 code_of (mark.Malformed failure_code) = Some failure_code
 code_of (mark.Fulfil preimage) = None
+code_of (mark.Held told) = None
 
 abbrev pub preimage_of : Mark → Option (List ℕ)
 preimage_of mark.None = None
@@ -318,6 +321,15 @@ preimage_of (mark.Forward channel amount expiry) = None
 preimage_of (mark.Fail reason) = None
 preimage_of (mark.Malformed failure_code) = None
 preimage_of (mark.Fulfil preimage) = Some preimage
+preimage_of (mark.Held told) = None
+
+abbrev pub event_held : Mark → Option ℕ
+event_held mark.None = None
+event_held (mark.Forward channel amount expiry) = None
+event_held (mark.Fail reason) = None
+event_held (mark.Malformed failure_code) = None
+event_held (mark.Fulfil preimage) = None
+event_held (mark.Held told) = Some told
 
 abbrev pub mark_tag : Mark → ℕ
 mark_tag mark.None = 0
@@ -325,6 +337,7 @@ mark_tag (mark.Forward channel amount expiry) = 1
 mark_tag (mark.Fail reason) = 2
 mark_tag (mark.Malformed failure_code) = 3
 mark_tag (mark.Fulfil preimage) = 4
+mark_tag (mark.Held told) = 5
 
 -- a decision does something, so None has no form
 abbrev pub mark_form : ℕ → Format Mark
@@ -332,7 +345,8 @@ mark_form tag =
     if tag == 1 then kind (λ p. mark.Forward p.0 p.1.0 p.1.1) forward_of (fixed 32 & number 8 & number 4)
     else (if tag == 2 then kind mark.Fail reason_of (sized 8)
     else (if tag == 3 then kind mark.Malformed code_of (number 2)
-    else (if tag == 4 then kind mark.Fulfil preimage_of (fixed 32) else nothing)))
+    else (if tag == 4 then kind mark.Fulfil preimage_of (fixed 32)
+    else (if tag == 5 then kind mark.Held event_held (number 8) else nothing))))
 
 unfoldable pub stored_mark : Format Mark
 stored_mark = tagged mark_tag mark_form

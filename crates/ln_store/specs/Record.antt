@@ -1,12 +1,14 @@
--- The bytes of a record, version 1, around its items.
+-- The bytes of a record around its items, in the versions 1 and 2.
 use Rattle.std.specs.Prelude.{ℕ, ◌+◌, ◌-◌, List, [], ◌∷◌, ◌++◌, length, take, drop, Bool, not, nat_lt, ◌==◌}
-use Rattle.std.specs.Prelude.{◌&&◌}
+use Rattle.std.specs.Prelude.{◌&&◌, ◌||◌, ◌⊎◌, false}
+use Rattle.std.specs.List.{list_any}
 use Rattle.std.specs.Prelude.{Option, Some, None, Result, Ok, Err, if◌then◌else◌, ◌≡◌}
 use Rattle.ln_bytes.specs.Answers as answers
 use Rattle.ln_bytes.specs.Endian.{big_bytes, big_number}
 use Rattle.ln_bytes.specs.Same.{are_same}
 use Rattle.ln_msgs.specs.declared.refusals.refusal.Refusal.{Refusal}
 use Rattle.ln_msgs.specs.declared.refusals.refusal.Refusal.TheVariants as refusal
+use Rattle.ln_log.specs.Mark.{is_held}
 use Rattle.ln_keys.specs.Hash.{payment_hash as digest}
 use Rattle.ln_store.specs.declared.record.Items.{Items}
 use Rattle.ln_store.specs.Items as it
@@ -24,9 +26,29 @@ unsealed version body = magic ++ (big_bytes 2 version ++ (big_bytes 8 (length bo
 abbrev pub sealed : ℕ → List ℕ → List ℕ
 sealed version body = unsealed version body ++ digest (unsealed version body)
 
--- the one spelling of a record
+-- the versions that are read
+abbrev pub is_known_version : ℕ → Bool
+is_known_version version = (version == 1) || (version == 2)
+
+-- an HTLC is held
+abbrev pub holds_any : Items → Bool
+holds_any i = list_any (λ d. is_held d.mark) i.progress.forwards.decisions
+
+-- no HTLC is held in a record of version 1
+abbrev pub is_told_in : ℕ → Items → Bool
+is_told_in version i = not (version == 1) || not (holds_any i)
+
+-- the one spelling of a record in a version
+abbrev pub spelled_in : ℕ → Items → List ℕ
+spelled_in version i = sealed version (it.items.bytes i)
+
+-- that of version 2, which is written
 abbrev pub record_bytes : Items → List ℕ
-record_bytes i = sealed 1 (it.items.bytes i)
+record_bytes i = spelled_in 2 i
+
+-- the bytes are a spelling of the record
+abbrev pub IsSpelledBy : List ℕ → Items → Type 0
+IsSpelledBy bytes i = (bytes ≡ record_bytes i) ⊎ ((bytes ≡ spelled_in 1 i) × (holds_any i ≡ false))
 
 -- what is before the digest, and the digest
 abbrev pub before_seal : List ℕ → List ℕ
@@ -51,16 +73,18 @@ version_of bytes = big_number 2 (drop 4 (before_seal bytes))
 unfoldable pub body_of : List ℕ → List ℕ
 body_of bytes = drop 14 (before_seal bytes)
 
--- nothing follows the items, and they may be had
-abbrev pub only_items : Option (Items × List ℕ) → Result Items Refusal
-only_items None = Err refusal.Damaged
-only_items (Some x) = if (length x.1 == 0) && is_readable x.0 then Ok x.0 else Err refusal.Damaged
+-- nothing follows the items, and they may be had in this version
+abbrev pub only_items : ℕ → Option (Items × List ℕ) → Result Items Refusal
+only_items version None = Err refusal.Damaged
+only_items version (Some x) =
+    if (length x.1 == 0) && (is_readable x.0 && is_told_in version x.0) then Ok x.0 else Err refusal.Damaged
 
 -- the items of a record, or the first thing that is wrong
 abbrev pub record_at : List ℕ → Result Items Refusal
 record_at bytes =
     if not (is_sealed bytes) then Err refusal.Damaged
-    else (if not (version_of bytes == 1) then Err refusal.Version else only_items (it.items.at (body_of bytes)))
+    else (if not (is_known_version (version_of bytes)) then Err refusal.Version
+    else only_items (version_of bytes) (it.items.at (body_of bytes)))
 
 -- what was answered, seen by view, is what reading gives, unless memory ran out
 abbrev pub Gives : {X Y : Type 0} → (X → Y) → Result X Refusal → Result Y Refusal → Type 0

@@ -2,12 +2,15 @@
 
 ghost use Rattle.std.specs.Prelude.{◌≡◌, IsTrue, ◌<◌, ◌≤◌, ◌++◌, ℕ, List, Ok, Err, true, false, IfOk, IfErr, OnOk};
 ghost use Rattle.std.specs.Prelude.{slice_index, length, ◌&&◌, ◌==◌, ◌^◌, IsErrOf};
+ghost use Rattle.std.specs.List.{list_any};
+ghost use Rattle.ln_log.specs.Mark.{is_held};
 ghost use Rattle.ln_keys.specs.Hash.{payment_hash as digest};
 ghost use Rattle.ln_store.specs.declared.record.Items.{Items};
 ghost use Rattle.ln_store.specs.Items as it;
 ghost use Rattle.ln_store.specs.Readable.{is_readable, is_sound};
 ghost use Rattle.ln_store.specs.Record.{is_sealed, version_of, body_of, record_at, record_bytes, only_items, Gives};
-ghost use Rattle.ln_store.specs.Record.{begins_well, unsealed, sealed};
+ghost use Rattle.ln_store.specs.Record.{begins_well, unsealed, sealed, is_known_version, holds_any, is_told_in};
+ghost use Rattle.ln_store.specs.Record.{spelled_in, IsSpelledBy};
 
 use crate::link_record::LinkRecord;
 use crate::readable::is_sound;
@@ -15,11 +18,33 @@ use crate::record::Items;
 use crate::stored::{Stored, put, put_u16, put_u64};
 use byteorder::{BigEndian, ByteOrder};
 use ln_keys::sha256_32;
+use ln_log::Decision;
 use ln_msgs::Refusal;
 use std::alloc::Global;
 
 /// "LNLR".
 const MAGIC: [u8; 4] = [76, 78, 76, 82];
+
+// Whether records of this version are read.
+fn is_known_version(version: u16) -> bool
+    ensures { result ≡ is_known_version version }
+{
+    version == 1 || version == 2
+}
+
+// Whether one of these holds an HTLC.
+fn is_any_held(decisions: &[Decision]) -> bool
+    ensures { result ≡ list_any (λ d. is_held d.mark) decisions.now }
+{
+    decisions.iter().any(|decision| decision.mark.is_held())
+}
+
+// Whether a record of this version may tell them: one of version 1 holds no HTLC.
+fn is_told_in(version: u16, items: &Items) -> bool
+    ensures { result ≡ is_told_in version items.now }
+{
+    version != 1 || !is_any_held(items.progress.forwards.decisions.as_slice())
+}
 
 // Whether what is before the digest of a record of so many bytes begins as it has to.
 fn begins_well(front: &[u8], len: usize) -> bool
@@ -61,21 +86,22 @@ fn body_of(bytes: &[u8]) -> &[u8]
     &front[14..]
 }
 
-// Whether nothing follows the items, and they fit together.
-fn are_whole(alloc: Global, items: &Items, rest: &[u8]) -> Result<bool, Refusal>
-    ensures tells_it { IfOk result (λ b. b ≡ ((length rest.now == 0) && is_sound items.now)) }
+// Whether nothing follows the items, they fit together, and may be told in this version.
+fn are_whole(alloc: Global, version: u16, items: &Items, rest: &[u8]) -> Result<bool, Refusal>
+    ensures tells_it { IfOk result (λ b. b ≡ ((length rest.now == 0) && (is_sound items.now
+        && is_told_in version items.now))) }
     ensures fails_for_memory_alone { IfErr result (λ e. e ≡ Refusal.Memory) }
 {
-    Ok(rest.is_empty() && is_sound(alloc, items)?)
+    Ok(rest.is_empty() && is_sound(alloc, items)? && is_told_in(version, items))
 }
 
-// The items that the body has, and nothing behind them.
-fn items_of(alloc: Global, body: &[u8]) -> Result<Items, Refusal>
-    ensures reads_as_defined { Gives (λ i. i) result (only_items (it.items.at body.now)) }
+// The items that the body has in this version, and nothing behind them.
+fn items_of(alloc: Global, version: u16, body: &[u8]) -> Result<Items, Refusal>
+    ensures reads_as_defined { Gives (λ i. i) result (only_items version (it.items.at body.now)) }
     ensures is_readable { IfOk result (λ i. is_readable i ≡ true) }
 {
     let (items, rest) = Items::read(alloc, body)?;
-    let whole = are_whole(alloc, &items, rest)?;
+    let whole = are_whole(alloc, version, &items, rest)?;
     if whole {
         Ok(items)
     } else {
@@ -83,7 +109,8 @@ fn items_of(alloc: Global, body: &[u8]) -> Result<Items, Refusal>
     }
 }
 
-/// Reads a record, version 1.
+/// Reads a record, version 1 or 2. One of version 1 tells the same as one of version 2 but for its version, and holds
+/// no HTLC.
 ///
 /// Its bytes are "LNLR", the version in two bytes, the length of the body in eight, the body, and the SHA-256 of all
 /// bytes before it; numbers are big-endian. The body has the items in their order, up to its last byte. Takes memory
@@ -94,10 +121,10 @@ fn items_of(alloc: Global, body: &[u8]) -> Result<Items, Refusal>
 /// there is no memory for a body of this version with its length and digest: what is told before takes none.
 pub fn decode_record(alloc: Global, bytes: &[u8]) -> Result<LinkRecord, Refusal>
     // What is read is spelled so, and readable by its type.
-    ensures is_spelled_so { IfOk result (λ r. bytes.now ≡ record_bytes r) }
+    ensures is_spelled_so { IfOk result (λ r. IsSpelledBy bytes.now r) }
 
     // What is spelled so is read.
-    ensures reads_each_record { (i : Items) → is_readable i ≡ true → bytes.now ≡ record_bytes i
+    ensures reads_each_record { (i : Items) → is_readable i ≡ true → IsSpelledBy bytes.now i
         → Gives (λ r. r) result (Ok i) }
 
     // Which answer it is, and which fault comes first.
@@ -105,7 +132,7 @@ pub fn decode_record(alloc: Global, bytes: &[u8]) -> Result<LinkRecord, Refusal>
 
     // Memory is taken for the body alone.
     ensures takes_memory_for_the_body { IsErrOf result Refusal.Memory
-        → (is_sealed bytes.now ≡ true) × (version_of bytes.now ≡ 1) }
+        → (is_sealed bytes.now ≡ true) × (is_known_version (version_of bytes.now) ≡ true) }
 {
     read_record(alloc, bytes)
 }
@@ -114,19 +141,20 @@ fn read_record(alloc: Global, bytes: &[u8]) -> Result<LinkRecord, Refusal>
     ensures reads_as_defined { Gives (λ r. r) result (record_at bytes.now) }
     ensures is_in_memory { length bytes.now < 2 ^ 63 }
     ensures takes_memory_for_the_body { IsErrOf result Refusal.Memory
-        → (is_sealed bytes.now ≡ true) × (version_of bytes.now ≡ 1) }
+        → (is_sealed bytes.now ≡ true) × (is_known_version (version_of bytes.now) ≡ true) }
 {
     if !is_sealed(bytes) {
         return Err(Refusal::Damaged);
     }
-    if version_of(bytes) != 1 {
+    let version = version_of(bytes);
+    if !is_known_version(version) {
         return Err(Refusal::Version);
     }
-    let items = items_of(alloc, body_of(bytes))?;
+    let items = items_of(alloc, version, body_of(bytes))?;
     Ok(LinkRecord::new(items))
 }
 
-/// The bytes of a record, version 1, which `decode_record` reads. Takes memory for them.
+/// The bytes of a record, version 2, which `decode_record` reads. Takes memory for them.
 ///
 /// Error: 60 alone, where there is no memory.
 pub fn encode_record(alloc: Global, record: &LinkRecord) -> Result<Vec<u8>, Refusal>
@@ -141,7 +169,7 @@ pub fn encode_record(alloc: Global, record: &LinkRecord) -> Result<Vec<u8>, Refu
 
 // The head, the body and the digest.
 fn seal(alloc: Global, body: &[u8]) -> Result<Vec<u8>, Refusal>
-    ensures seals_it { IfOk result (λ v. v.items ≡ sealed 1 body.now) }
+    ensures seals_it { IfOk result (λ v. v.items ≡ sealed 2 body.now) }
     ensures fails_for_memory_alone { IfErr result (λ e. e ≡ Refusal.Memory) }
 {
     let mut out = Vec::new(alloc);
@@ -160,21 +188,24 @@ fn put_digest(out: &mut Vec<u8>) -> Result<(), Refusal>
 }
 
 fn put_unsealed(out: &mut Vec<u8>, body: &[u8]) -> Result<(), Refusal>
-    ensures appends_it { OnOk result (out.new.items ≡ out.old.items ++ unsealed 1 body.now) }
+    ensures appends_it { OnOk result (out.new.items ≡ out.old.items ++ unsealed 2 body.now) }
     ensures fails_for_memory_alone { IfErr result (λ e. e ≡ Refusal.Memory) }
 {
     put(out, &MAGIC)?;
-    put_u16(out, 1)?;
+    put_u16(out, 2)?;
     put_u64(out, body.len() as u64)?;
     put(out, body)
 }
 
-/// A law: a record is one spelling of its items, and what reads as items is spelled so.
+/// A law: a record has one spelling in each version, but none in version 1 where it holds an HTLC; what is spelled is
+/// read, and what reads as items is spelled so.
 pub fn one_record()
     ensures reads_what_is_written { (i : Items) → is_readable i ≡ true → length (record_bytes i) < 2 ^ 64
         → record_at (record_bytes i) ≡ Ok i }
-    ensures spells_one_record { (i j : Items) → is_readable i ≡ true → is_readable j ≡ true
-        → length (record_bytes i) < 2 ^ 64 → record_bytes i ≡ record_bytes j → i ≡ j }
+    ensures reads_what_was_written { (i : Items) → is_readable i ≡ true → holds_any i ≡ false
+        → length (spelled_in 1 i) < 2 ^ 64 → record_at (spelled_in 1 i) ≡ Ok i }
+    ensures spells_one_record { (i j : Items) (bytes : List ℕ) → is_readable i ≡ true → is_readable j ≡ true
+        → length bytes < 2 ^ 64 → IsSpelledBy bytes i → IsSpelledBy bytes j → i ≡ j }
     ensures spells_what_is_read { (i : Items) (bytes : List ℕ) → ((n : ℕ) → slice_index bytes n < 256)
-        → record_at bytes ≡ Ok i → (bytes ≡ record_bytes i) × (is_readable i ≡ true) }
+        → record_at bytes ≡ Ok i → IsSpelledBy bytes i × (is_readable i ≡ true) }
 {}

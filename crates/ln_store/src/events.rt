@@ -129,6 +129,10 @@ impl Stored for Mark {
                 let (preimage, rest) = array_at(rest)?;
                 Ok((Mark::Fulfil(preimage), rest))
             }
+            5 => {
+                let (event, rest) = u64_at(rest)?;
+                Ok((Mark::Held(event), rest))
+            }
             _ => Err(Refusal::Damaged),
         }
     }
@@ -145,6 +149,7 @@ impl Stored for Mark {
             Mark::Fail(reason) => (reason.len() as u128) < 1 << 64,
             Mark::Malformed(code) => u16_fits(*code),
             Mark::Fulfil(preimage) => array_fits(preimage),
+            Mark::Held(event) => u64_fits(*event),
         }
     }
 
@@ -171,6 +176,10 @@ impl Stored for Mark {
             Mark::Fulfil(preimage) => {
                 put_u8(out, 4)?;
                 put(out, preimage)
+            }
+            Mark::Held(event) => {
+                put_u8(out, 5)?;
+                put_u64(out, *event)
             }
         }
     }

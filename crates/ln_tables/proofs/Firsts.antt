@@ -4,9 +4,9 @@ use Rattle.std.proofs.Common.{arith, Bool, true, false, cond, Some, None, inl, i
 use Rattle.std.proofs.lemmas.Bool.Decides.{leb_tells}
 use Rattle.std.proofs.lemmas.List.Sums.{fails_before_first}
 use Rattle.std.proofs.lemmas.List.Quantifiers.{position-Some}
-use Rattle.std.specs.List.{list_any, position, position_or_len}
-use Rattle.std.specs.Prelude.{not, ◌&&◌, ◌||◌}
-use Rattle.ln_tables.specs.Replay.{changed_first, left_out}
+use Rattle.std.specs.List.{list_any, position, position_or_len, find}
+use Rattle.std.specs.Prelude.{not, ◌&&◌, ◌||◌, remove}
+use Rattle.ln_tables.specs.Replay.{changed_first, left_out, without_first}
 
 abbrev Fails : {A : Type 0} → (A → Bool) → List A → Type 0
 Fails {A} p xs = (k : ℕ) (d : A) → k < length xs → p (get_or xs k d) ≡ false
@@ -60,3 +60,45 @@ at_place p f (x ∷ xs) (suc i) d lt is out =
 pub changed_at : {A : Type 0} (p : A → Bool) (f : A → A) (xs : List A) (i : ℕ) (d : A) → position p xs ≡ Some i
     → set xs i (f (get_or xs i d)) ≡ changed_first p f xs
 changed_at p f xs i d e = let h = position-Some p xs i d e in at_place p f xs i d h.0 h.1 h.2
+
+none_there : {A : Type 0} (p : A → Bool) (xs : List A) → Fails p xs → find p xs ≡ None
+none_there p [] out = refl
+none_there p (x ∷ xs) out = ap (λ b. cond b (Some x) (find p xs)) (out zero x (omega arith))
+    ∙ none_there p xs (λ k d lt. out (suc k) d (omega (arith, lt)))
+
+none_less : {A : Type 0} (p : A → Bool) (xs : List A) → Fails p xs → without_first p xs ≡ xs
+none_less p [] out = refl
+none_less p (x ∷ xs) out = ap (λ b. cond b xs (x ∷ without_first p xs)) (out zero x (omega arith))
+    ∙ ap (λ ys. x ∷ ys) (none_less p xs (λ k d lt. out (suc k) d (omega (arith, lt))))
+
+-- where none passes none is found, and none goes
+pub not_found : {A : Type 0} (p : A → Bool) (xs : List A) → position p xs ≡ None → find p xs ≡ None
+not_found p xs e = none_there p xs (all_fail p xs e)
+
+pub none_gone : {A : Type 0} (p : A → Bool) (xs : List A) → position p xs ≡ None → without_first p xs ≡ xs
+none_gone p xs e = none_less p xs (all_fail p xs e)
+
+there_at : {A : Type 0} (p : A → Bool) (xs : List A) (i : ℕ) (d : A) → i < length xs
+    → p (get_or xs i d) ≡ true → ((k : ℕ) → k < i → p (get_or xs k d) ≡ false) → find p xs ≡ Some (get_or xs i d)
+there_at p [] i d lt is out = absurd (omega (arith, lt))
+there_at p (x ∷ xs) zero d lt is out = ap (λ b. cond b (Some x) (find p xs)) is
+there_at p (x ∷ xs) (suc i) d lt is out =
+    ap (λ b. cond b (Some x) (find p xs)) (out zero (omega arith))
+    ∙ there_at p xs i d (omega (arith, lt)) is (λ k l. out (suc k) (omega (arith, l)))
+
+gone_at : {A : Type 0} (p : A → Bool) (xs : List A) (i : ℕ) (d : A) → i < length xs
+    → p (get_or xs i d) ≡ true → ((k : ℕ) → k < i → p (get_or xs k d) ≡ false) → remove xs i ≡ without_first p xs
+gone_at p [] i d lt is out = absurd (omega (arith, lt))
+gone_at p (x ∷ xs) zero d lt is out = sym (ap (λ b. cond b xs (x ∷ without_first p xs)) is)
+gone_at p (x ∷ xs) (suc i) d lt is out =
+    ap (λ ys. x ∷ ys) (gone_at p xs i d (omega (arith, lt)) is (λ k l. out (suc k) (omega (arith, l))))
+    ∙ sym (ap (λ b. cond b xs (x ∷ without_first p xs)) (out zero (omega arith)))
+
+-- where the one at this place is the first
+pub found_at : {A : Type 0} (p : A → Bool) (xs : List A) (i : ℕ) (d : A) → position p xs ≡ Some i
+    → find p xs ≡ Some (get_or xs i d)
+found_at p xs i d e = let h = position-Some p xs i d e in there_at p xs i d h.0 h.1 h.2
+
+pub removed_at : {A : Type 0} (p : A → Bool) (xs : List A) (i : ℕ) (d : A) → position p xs ≡ Some i
+    → remove xs i ≡ without_first p xs
+removed_at p xs i d e = let h = position-Some p xs i d e in gone_at p xs i d h.0 h.1 h.2

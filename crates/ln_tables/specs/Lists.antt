@@ -5,7 +5,8 @@ use Rattle.ln_tables.specs.declared.lists.Which.{Which}
 use Rattle.ln_tables.specs.declared.lists.Which.TheVariants as which
 use Rattle.ln_tables.specs.declared.lists.Change.{Change}
 use Rattle.ln_tables.specs.declared.lists.Change.TheVariants as change
-use Rattle.ln_tables.specs.Replay.{is_htlc, is_told, is_offered, is_undecided, is_finished, decide, put_way, put_back}
+use Rattle.ln_tables.specs.Replay.{is_htlc, is_told, is_offered, is_undecided, is_finished, is_held_in}
+use Rattle.ln_tables.specs.Replay.{decide, put_way, put_back, put_mark}
 
 abbrev pub picks : Which → Htlc → Bool
 picks (which.Htlc k) h = is_htlc k h
@@ -13,8 +14,10 @@ picks (which.Told c n) h = is_told c n h
 picks (which.Offered k) h = is_offered k h
 picks (which.Undecided c n) h = is_undecided c n h
 picks (which.Finished k) h = is_finished k h
+picks (which.Held c n) h = is_held_in c n h
 
 abbrev pub changed_by : Change → Htlc → Htlc
 changed_by change.Decide h = decide h
 changed_by (change.Way w) h = put_way w h
 changed_by (change.Back b) h = put_back b h
+changed_by (change.Mark m) h = put_mark m h

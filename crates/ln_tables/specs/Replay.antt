@@ -2,11 +2,13 @@
 use Rattle.std.specs.Prelude.{ℕ, List, [], ◌∷◌, ◌++◌, map, filter, fold, Bool, true, false, not, ◌&&◌, ◌||◌}
 use Rattle.std.specs.Prelude.{◌==◌, nat_eq, nat_lt, nat_le, Option, Some, None, Result, Ok, Err}
 use Rattle.std.specs.Prelude.{if◌then◌else◌}
-use Rattle.std.specs.List.{list_any}
+use Rattle.std.specs.List.{list_any, find}
 use Rattle.std.specs.Map.{lookup}
 use Rattle.std.specs.Cmp.Lexicographic.{pointwise}
 use Rattle.indexmap.specs.IndexMap.{insert_entry}
 use Rattle.ln_keys.specs.Hash.{payment_hash}
+use Rattle.ln_log.specs.declared.mark.Mark.{Mark}
+use Rattle.ln_log.specs.Mark.{is_held, is_held_by}
 use Rattle.ln_hooks.specs.declared.event.How.{How}
 use Rattle.ln_tables.specs.declared.htlc.Key.{Key}
 use Rattle.ln_tables.specs.declared.htlc.Offer.{Offer}
@@ -19,6 +21,7 @@ use Rattle.ln_tables.specs.declared.entry.OutgoingChannel.{OutgoingChannel}
 use Rattle.ln_tables.specs.declared.entry.Invoice.{Invoice}
 use Rattle.ln_tables.specs.declared.entry.Queued.{Queued}
 use Rattle.ln_tables.specs.declared.entry.Decided.{Decided}
+use Rattle.ln_tables.specs.declared.entry.Resumed.{Resumed}
 use Rattle.ln_tables.specs.declared.entry.Out.{Out}
 use Rattle.ln_tables.specs.declared.entry.Out.TheVariants as out
 use Rattle.ln_tables.specs.declared.entry.Desk.{Desk}
@@ -67,12 +70,21 @@ abbrev pub is_offered : Key → Htlc → Bool
 is_offered k h = goes_by k h.way
 
 abbrev pub is_queued : List ℕ → ℕ → Queued → Bool
-is_queued c n q = (n == q.event) && same c q.channel
+is_queued c n q = (n == q.event) && (same c q.channel && not q.resumes)
+
+-- it resumes what is held by the number of this event
+abbrev pub is_resumed : List ℕ → ℕ → Queued → Bool
+is_resumed c n q = (n == q.event) && (same c q.channel && q.resumes)
 
 -- the first one that passes is changed
 abbrev pub changed_first : {A : Type 0} → (A → Bool) → (A → A) → List A → List A
 changed_first p f [] = []
 changed_first p f (x ∷ xs) = if p x then f x ∷ xs else x ∷ changed_first p f xs
+
+-- without the first one that passes
+abbrev pub without_first : {A : Type 0} → (A → Bool) → List A → List A
+without_first p [] = []
+without_first p (x ∷ xs) = if p x then xs else x ∷ without_first p xs
 
 abbrev pub left_out : {A : Type 0} → (A → Bool) → List A → List A
 left_out p xs = filter (λ x. not (p x)) xs
@@ -124,7 +136,7 @@ with_offer d None hs = hs
 with_offer d (Some o) hs = joined (htlc_of d o) hs
 
 abbrev pub queued_of : Decided → Queued
-queued_of d = record { channel = d.channel; event = d.event; mark = d.mark }
+queued_of d = record { channel = d.channel; event = d.event; mark = d.mark; resumes = false }
 
 -- an earlier one of the same event goes
 abbrev pub with_queued : Decided → List Queued → List Queued
@@ -132,6 +144,22 @@ with_queued d qs = left_out (is_queued d.channel d.event) qs ++ queued_of d ∷ 
 
 abbrev pub with_decided : Decided → Table → Table
 with_decided d t = record t { queue = with_queued d t.queue; htlcs = with_offer d d.offer t.htlcs }
+
+-- ---- what is held is decided
+
+-- the HTLC is held by the number of this event of the channel, which has taken that
+abbrev pub is_held_in : List ℕ → ℕ → Htlc → Bool
+is_held_in c n h = h.decided && (is_held_by n h.mark && same c h.key.channel)
+
+-- unless it is being resumed
+abbrev pub held_by : List ℕ → ℕ → Table → Option Htlc
+held_by c n t = if list_any (is_resumed c n) t.queue then None else find (is_held_in c n) t.htlcs
+
+abbrev pub resumed_of : Resumed → Queued
+resumed_of r = record { channel = r.channel; event = r.event; mark = r.mark; resumes = true }
+
+abbrev pub with_resumed : Resumed → Table → Table
+with_resumed r t = record t { queue = t.queue ++ resumed_of r ∷ [] }
 
 -- ---- a command that was handed out, and its answer
 
@@ -166,16 +194,46 @@ with_way k w hs = changed_first (is_htlc k) (put_way w) hs
 abbrev pub with_back : Key → Back → List Htlc → List Htlc
 with_back k b hs = changed_first (is_htlc k) (put_back b) hs
 
+-- nothing of it is left in another channel
+abbrev pub has_no_way : Way → Bool
+has_no_way way.Nowhere = true
+has_no_way way.Refused = true
+has_no_way (way.Offered k) = false
+has_no_way (way.Over k how) = false
+
+abbrev pub is_settled : Back → Bool
+is_settled back.Open = false
+is_settled back.Sent = false
+is_settled back.Gone = false
+is_settled back.Settled = true
+
+-- nothing is left to be done about it: it isn't held, as it may be resumed
+abbrev pub is_over : Htlc → Bool
+is_over h = is_settled h.back && (has_no_way h.way && not (is_held h.mark))
+
+abbrev pub put_mark : Mark → Htlc → Htlc
+put_mark m h = record h { mark = m }
+
+-- what is held by this number gets the mark, and those about which nothing is left to be done go
+abbrev pub with_mark : List ℕ → ℕ → Mark → List Htlc → List Htlc
+with_mark c n m hs = left_out is_over (changed_first (is_held_in c n) (put_mark m) hs)
+
+-- what is held is resumed by the decision that is queued
+abbrev pub resumed_by : List ℕ → ℕ → Option Queued → List Htlc → List Htlc
+resumed_by c n None hs = hs
+resumed_by c n (Some q) hs = with_mark c n q.mark hs
+
 -- one that the channel hasn't decided
 abbrev pub is_undecided : List ℕ → ℕ → Htlc → Bool
 is_undecided c n h = is_told c n h && not h.decided
 
 -- the channel has taken a command: it has offered an HTLC of this id where it is told to offer one
-abbrev pub taken_by : List ℕ → ℕ → Out → List Htlc → List Htlc
-taken_by c i (out.Deciding n) hs = changed_first (is_told c n) decide hs
-taken_by c i (out.Adding k) hs = with_way k (way.Offered (record { channel = c; id = i })) hs
-taken_by c i (out.Removing k) hs = with_back k back.Sent hs
-taken_by c i (out.Forgetting k) hs = left_out (is_htlc k) hs
+abbrev pub taken_by : List ℕ → ℕ → Out → List Queued → List Htlc → List Htlc
+taken_by c i (out.Deciding n) qs hs = changed_first (is_told c n) decide hs
+taken_by c i (out.Adding k) qs hs = with_way k (way.Offered (record { channel = c; id = i })) hs
+taken_by c i (out.Removing k) qs hs = with_back k back.Sent hs
+taken_by c i (out.Forgetting k) qs hs = left_out (is_htlc k) hs
+taken_by c i (out.Resuming n) qs hs = resumed_by c n (find (is_resumed c n) qs) hs
 
 -- it has refused it by this number: an add that is refused below 47 is failed
 abbrev pub refused_by : List ℕ → ℕ → Out → List Htlc → List Htlc
@@ -183,6 +241,7 @@ refused_by c r (out.Deciding n) hs = left_out (is_undecided c n) hs
 refused_by c r (out.Adding k) hs = if nat_lt r 47 then with_way k way.Refused hs else left_out (is_htlc k) hs
 refused_by c r (out.Removing k) hs = with_back k back.Gone hs
 refused_by c r (out.Forgetting k) hs = left_out (is_htlc k) hs
+refused_by c r (out.Resuming n) hs = hs
 
 -- a decision that was taken or refused leaves the queue
 abbrev pub queue_behind : List ℕ → Out → List Queued → List Queued
@@ -190,9 +249,10 @@ queue_behind c (out.Deciding n) qs = left_out (is_queued c n) qs
 queue_behind c (out.Adding k) qs = qs
 queue_behind c (out.Removing k) qs = qs
 queue_behind c (out.Forgetting k) qs = qs
+queue_behind c (out.Resuming n) qs = without_first (is_resumed c n) qs
 
 abbrev pub done : List ℕ → ℕ → Out → Table → Table
-done c i o t = record t { queue = queue_behind c o t.queue; htlcs = taken_by c i o t.htlcs }
+done c i o t = record t { queue = queue_behind c o t.queue; htlcs = taken_by c i o t.queue t.htlcs }
 
 abbrev pub refused : List ℕ → ℕ → Out → Table → Table
 refused c r o t = record t { queue = queue_behind c o t.queue; htlcs = refused_by c r o t.htlcs }
@@ -231,27 +291,14 @@ is_nowhere way.Refused = false
 is_nowhere (way.Offered k) = false
 is_nowhere (way.Over k h) = false
 
--- nothing of it is left in another channel
-abbrev pub has_no_way : Way → Bool
-has_no_way way.Nowhere = true
-has_no_way way.Refused = true
-has_no_way (way.Offered k) = false
-has_no_way (way.Over k how) = false
-
 abbrev pub is_open : Back → Bool
 is_open back.Open = true
 is_open back.Sent = false
 is_open back.Gone = false
 is_open back.Settled = false
 
-abbrev pub is_settled : Back → Bool
-is_settled back.Open = false
-is_settled back.Sent = false
-is_settled back.Gone = false
-is_settled back.Settled = true
-
 abbrev pub is_finished : Key → Htlc → Bool
-is_finished k h = is_htlc k h && (is_settled h.back && has_no_way h.way)
+is_finished k h = is_htlc k h && is_over h
 
 abbrev pub with_removed : Key → Table → Table
 with_removed k t = with_htlcs (left_out (is_finished k) (with_back k back.Settled t.htlcs)) t
@@ -287,6 +334,7 @@ kept_out c decides (out.Deciding n) t = if decides then done c 0 (out.Deciding n
 kept_out c decides (out.Adding k) t = t
 kept_out c decides (out.Removing k) t = with_htlcs (with_back k back.Sent t.htlcs) t
 kept_out c decides (out.Forgetting k) t = t
+kept_out c decides (out.Resuming n) t = if decides then done c 0 (out.Resuming n) t else t
 
 abbrev pub kept_at : List ℕ → Bool → Desk → Table → Table
 kept_at c decides desk.Idle t = t
@@ -307,6 +355,7 @@ after t (entry.Use c u) = with_use c u t
 after t (entry.Height h) = with_height h t
 after t (entry.Expect i) = with_invoice i t
 after t (entry.Decided d) = with_decided d t
+after t (entry.Resumed r) = with_resumed r t
 after t (entry.Taken c o) = with_desk c (desk.Out o) t
 after t (entry.Answered c a) = with_answer c a t
 after t (entry.Over k how) = with_over k how t

@@ -35,6 +35,8 @@ pub struct Queued {
     pub event: u64,
     /// What is done about it.
     pub mark: Mark,
+    /// Whether it resumes what is held; else it decides what wasn't decided.
+    pub resumes: bool,
 }
 
 /// What was decided about an event.
@@ -50,6 +52,17 @@ pub struct Decided {
     pub mark: Mark,
 }
 
+/// What was decided about an HTLC that is held.
+#[derive(Drop)]
+pub struct Resumed {
+    /// The channel by which it came.
+    pub channel: ChannelId,
+    /// The number of the event that told of it.
+    pub event: u64,
+    /// What is done about it.
+    pub mark: Mark,
+}
+
 /// What a command does that was handed out.
 #[derive(Clone, Copy, PartialEq, Eq)]
 pub enum Out {
@@ -61,6 +74,8 @@ pub enum Out {
     Removing(Key),
     /// It forgets what became of the outgoing HTLC of this incoming one.
     Forgetting(Key),
+    /// It resumes what is held by the number of this event.
+    Resuming(u64),
 }
 
 /// A command of a channel.
@@ -130,6 +145,8 @@ pub enum Entry {
     Expect(Invoice),
     /// An event was decided.
     Decided(Decided),
+    /// What is held was decided.
+    Resumed(Resumed),
     /// A command was handed out.
     Taken(ChannelId, Out),
     /// The channel has answered the command that is out: by the HTLC's id or the event's number, or by its refusal.

@@ -4,12 +4,14 @@
 
 mod copy;
 mod entry;
+mod held;
 mod htlc;
 mod lists;
 mod lost;
 mod tables;
 
 pub use copy::{copied, copy_how, copy_mark};
-pub use entry::{Decided, Desk, Entry, Ids, Invoice, Out, OutgoingChannel, Queued, Told};
+pub use entry::{Decided, Desk, Entry, Ids, Invoice, Out, OutgoingChannel, Queued, Resumed, Told};
+pub use held::HeldHtlc;
 pub use htlc::{Back, Htlc, Key, Offer, Way};
 pub use tables::Tables;

@@ -1,14 +1,16 @@
 //! Searches and changes in the lists of a book, by scans.
 
 ghost use Rattle.std.specs.Prelude.{◌≡◌, ◌≤◌, if◌then◌else◌};
-ghost use Rattle.std.specs.List.{position, list_any};
+ghost use Rattle.std.specs.Prelude.{option_copied};
+ghost use Rattle.std.specs.List.{position, list_any, find};
 ghost use Rattle.std.specs.Vec.{vec_capacity, vec_len};
-ghost use Rattle.ln_tables.specs.Replay.{changed_first, left_out, is_htlc, is_queued, is_decided};
+ghost use Rattle.ln_tables.specs.Replay.{changed_first, left_out, without_first, is_htlc, is_queued, is_decided};
+ghost use Rattle.ln_tables.specs.Replay.{is_held_in, is_resumed, with_mark};
 ghost use Rattle.ln_tables.specs.Lists.{picks, changed_by};
 
 use crate::entry::Queued;
 use crate::htlc::{Back, Htlc, Key, Way};
-use ln_log::ChannelId;
+use ln_log::{ChannelId, Mark};
 
 /// Which HTLC is meant.
 #[derive(Clone, Copy)]
@@ -23,6 +25,8 @@ pub(crate) enum Which {
     Undecided(ChannelId, u64),
     /// The one of this key, where it is finished.
     Finished(Key),
+    /// The one that is held by the number of this event of the channel.
+    Held(ChannelId, u64),
 }
 
 /// What becomes of an HTLC.
@@ -34,6 +38,8 @@ pub(crate) enum Change {
     Way(Way),
     /// Its removal.
     Back(Back),
+    /// What is done about it.
+    Mark(Mark),
 }
 
 impl Key {
@@ -90,7 +96,7 @@ impl Back {
 
 impl Htlc {
     ghost use Rattle.std.specs.Prelude.{◌≡◌};
-    ghost use Rattle.ln_tables.specs.Replay.{is_told, is_finished};
+    ghost use Rattle.ln_tables.specs.Replay.{is_told, is_over, is_finished, is_held_in};
     ghost use Rattle.ln_tables.specs.Lists.{picks, changed_by};
 
     // Whether this event told of it.
@@ -104,7 +110,21 @@ impl Htlc {
     fn is_finished(&self, key: &Key) -> bool
         ensures { result ≡ is_finished key.now self.now }
     {
-        key.is(&self.key) && self.back.is_settled() && self.way.is_none()
+        key.is(&self.key) && self.is_over()
+    }
+
+    // Whether nothing is left to be done about it.
+    fn is_over(&self) -> bool
+        ensures { result ≡ is_over self.now }
+    {
+        self.back.is_settled() && self.way.is_none() && !self.mark.is_held()
+    }
+
+    /// Whether it is held by the number of this event.
+    pub(crate) fn is_held_in(&self, channel: &ChannelId, event: u64) -> bool
+        ensures { result ≡ is_held_in channel.now event self.now }
+    {
+        self.decided && self.mark.is_held_by(event) && channel == &self.key.channel
     }
 
     // Whether it is meant.
@@ -117,6 +137,7 @@ impl Htlc {
             Which::Offered(key) => self.way.goes_by(key),
             Which::Undecided(channel, event) => self.is_told(channel, *event) && !self.decided,
             Which::Finished(key) => self.is_finished(key),
+            Which::Held(channel, event) => self.is_held_in(channel, *event),
         }
     }
 
@@ -128,6 +149,7 @@ impl Htlc {
             Change::Decide => self.decided = true,
             Change::Way(way) => self.way = way,
             Change::Back(back) => self.back = back,
+            Change::Mark(mark) => self.mark = mark,
         }
     }
 }
@@ -146,6 +168,7 @@ fn index_of(htlcs: &[Htlc], which: &Which) -> Option<usize>
             all.position(|htlc| htlc.is_told(channel, *event) && !htlc.decided)
         }
         Which::Finished(key) => all.position(|htlc| htlc.is_finished(key)),
+        Which::Held(channel, event) => all.position(|htlc| htlc.is_held_in(channel, *event)),
     }
 }
 
@@ -190,7 +213,69 @@ pub(crate) fn unqueue(queue: &mut Vec<Queued>, channel: &ChannelId, event: u64)
     ensures left { queue.new.items ≡ left_out (is_queued channel.now event) queue.old.items }
     ensures room { (vec_capacity queue.new ≡ vec_capacity queue.old) × (vec_len queue.new ≤ vec_len queue.old) }
 {
-    queue.retain(|queued| !(event == queued.event && channel == &queued.channel));
+    queue.retain(|queued| !queued.decides(channel, event));
+}
+
+impl Queued {
+    ghost use Rattle.std.specs.Prelude.{◌≡◌};
+    ghost use Rattle.ln_tables.specs.Replay.{is_queued, is_resumed};
+
+    /// Whether it decides this event.
+    pub fn decides(&self, channel: &ChannelId, event: u64) -> bool
+        ensures { result ≡ is_queued channel.now event self.now }
+    {
+        event == self.event && channel == &self.channel && !self.resumes
+    }
+
+    /// Whether it resumes what is held by the number of this event.
+    pub fn is_resumed(&self, channel: &ChannelId, event: u64) -> bool
+        ensures { result ≡ is_resumed channel.now event self.now }
+    {
+        event == self.event && channel == &self.channel && self.resumes
+    }
+}
+
+/// The HTLC that is held by the number of this event of the channel.
+pub(crate) fn held_in<'a>(htlcs: &'a [Htlc], channel: &ChannelId, event: u64) -> Option<&'a Htlc>
+    ensures { option_copied result ≡ find (is_held_in channel.now event) htlcs.now }
+{
+    htlcs.iter().find(|htlc| htlc.is_held_in(channel, event))
+}
+
+/// Whether what is held by the number of this event is being resumed.
+pub(crate) fn is_any_resumed(queue: &[Queued], channel: &ChannelId, event: u64) -> bool
+    ensures { result ≡ list_any (is_resumed channel.now event) queue.now }
+{
+    queue.iter().any(|queued| queued.is_resumed(channel, event))
+}
+
+// Where the decision stands that resumes it.
+fn resumed_at(queue: &[Queued], channel: &ChannelId, event: u64) -> Option<usize>
+    ensures { result ≡ position (is_resumed channel.now event) queue.now }
+{
+    queue
+        .iter()
+        .position(|queued| queued.is_resumed(channel, event))
+}
+
+/// The decision that resumes what is held by the number of this event leaves the queue.
+pub(crate) fn unresume(queue: &mut Vec<Queued>, channel: &ChannelId, event: u64) -> Option<Queued>
+    ensures first { result ≡ find (is_resumed channel.now event) queue.old.items }
+    ensures left { queue.new.items ≡ without_first (is_resumed channel.now event) queue.old.items }
+{
+    match resumed_at(queue.as_slice(), channel, event) {
+        None => None,
+        Some(place) => Some(queue.remove(place)),
+    }
+}
+
+/// The HTLC that is held by the number of this event gets this mark, and those about which nothing is left to be done
+/// go.
+pub(crate) fn put_mark(htlcs: &mut Vec<Htlc>, channel: &ChannelId, event: u64, mark: Mark)
+    ensures { htlcs.new.items ≡ with_mark channel.now event mark htlcs.old.items }
+{
+    change_first(htlcs, &Which::Held(*channel, event), Change::Mark(mark));
+    htlcs.retain(|htlc| !htlc.is_over());
 }
 
 /// Leaves out the HTLC of this key, unless it is decided; says whether it is.

@@ -1,8 +1,12 @@
 //! What a book says, as it is kept.
 
-use crate::entry::{Decided, Desk, Invoice, Out, OutgoingChannel, Queued, Told};
+use crate::entry::{Decided, Desk, Invoice, Out, OutgoingChannel, Queued, Resumed, Told};
+use crate::held::{HeldHtlc, held_among};
 use crate::htlc::{Back, Htlc, Key, Way};
-use crate::lists::{Change, Which, change_first, leave_out, leave_out_undecided, unqueue};
+use crate::lists::{
+    Change, Which, change_first, held_in, is_any_resumed, leave_out, leave_out_undecided, put_mark,
+    unqueue, unresume,
+};
 use crate::lost::put_back_all;
 use indexmap::IndexMap;
 use ln_hooks::How;
@@ -44,7 +48,8 @@ impl Tables {
     ghost use Rattle.std.specs.Prelude.{◌≡◌, OnOk, OnErr, IfErr, IfOk, option_copied};
     ghost use Rattle.std.specs.Map.{lookup};
     ghost use Rattle.ln_tables.specs.Replay.{no_table, same, with_route, with_use, with_height, with_invoice};
-    ghost use Rattle.ln_tables.specs.Replay.{is_usable, desk_at};
+    ghost use Rattle.ln_tables.specs.Replay.{is_usable, desk_at, held_by};
+    ghost use Rattle.ln_tables.specs.Held.{all_held};
 
     /// Nothing is said. Takes no memory.
     pub fn new(alloc: Global) -> Tables
@@ -149,6 +154,24 @@ impl Tables {
         self.htlcs.as_slice()
     }
 
+    /// The HTLC that is held by the number of this event of the channel, unless it is being resumed.
+    pub fn held(&self, channel: &ChannelId, event: u64) -> Option<&Htlc>
+        ensures { option_copied result ≡ held_by channel.now event self.now }
+    {
+        if is_any_resumed(self.queue.as_slice(), channel, event) {
+            return None;
+        }
+        held_in(self.htlcs.as_slice(), channel, event)
+    }
+
+    /// What is held and not being resumed, in order of deciding. Error: 60 alone.
+    pub fn all_held(&self, alloc: Global) -> Result<Vec<HeldHtlc>, Refusal>
+        ensures held { IfOk result (λ v. v.items ≡ all_held self.now) }
+        ensures fails_for_memory_alone { IfErr result (λ r. r ≡ Refusal.Memory) }
+    {
+        held_among(alloc, self.queue.as_slice(), self.htlcs.as_slice())
+    }
+
     /// The command of a channel.
     pub fn desk(&self, channel: &ChannelId) -> Desk
         ensures { result ≡ desk_at channel.now self.now }
@@ -164,7 +187,8 @@ impl Tables {
     ghost use Rattle.std.specs.Prelude.{◌≡◌, OnOk, OnErr, IfErr, IsSome};
     ghost use Rattle.std.specs.Map.{lookup};
     ghost use Rattle.ln_tables.specs.declared.entry.Desk.TheVariants as desk;
-    ghost use Rattle.ln_tables.specs.Replay.{same, with_decided, with_desk, done, refused, with_answer, with_over};
+    ghost use Rattle.ln_tables.specs.Replay.{same, with_decided, with_resumed, with_desk, done, refused, with_answer};
+    ghost use Rattle.ln_tables.specs.Replay.{with_over};
     ghost use Rattle.ln_tables.specs.Replay.{desk_at, answered_out};
     ghost use Rattle.ln_tables.specs.Replay.{with_removed};
 
@@ -180,6 +204,23 @@ impl Tables {
         }
         enqueue(&mut self.queue, &decided, copy);
         join(&mut self.htlcs, decided);
+        Ok(())
+    }
+
+    /// What is held was decided. Error: 60, which changes nothing.
+    pub fn resume(&mut self, resumed: Resumed) -> Result<(), Refusal>
+        ensures done { OnOk result (self.new ≡ with_resumed resumed self.old) }
+        ensures changes_nothing_if_refused { OnErr result (self.new ≡ self.old) }
+        ensures fails_for_memory_alone { IfErr result (λ r. r ≡ Refusal.Memory) }
+    {
+        let channel = resumed.channel;
+        let queued = Queued {
+            channel,
+            event: resumed.event,
+            mark: resumed.mark,
+            resumes: true,
+        };
+        self.queue.push(queued)?;
         Ok(())
     }
 
@@ -225,6 +266,11 @@ impl Tables {
                 change_first(&mut self.htlcs, &Which::Htlc(key), Change::Back(Back::Sent));
             }
             Out::Forgetting(key) => leave_out(&mut self.htlcs, &Which::Htlc(key)),
+            Out::Resuming(event) => {
+                if let Some(queued) = unresume(&mut self.queue, channel, event) {
+                    put_mark(&mut self.htlcs, channel, event, queued.mark);
+                }
+            }
         }
     }
 
@@ -250,6 +296,7 @@ impl Tables {
             Out::Adding(key) | Out::Forgetting(key) => {
                 leave_out(&mut self.htlcs, &Which::Htlc(key));
             }
+            Out::Resuming(event) => drop(unresume(&mut self.queue, channel, event)),
         }
     }
 
@@ -315,7 +362,7 @@ impl Tables {
         ensures { self.new ≡ kept_out channel.now decides out self.old }
     {
         match out {
-            Out::Deciding(_) => {
+            Out::Deciding(_) | Out::Resuming(_) => {
                 if decides {
                     self.done(channel, 0, out);
                 }
@@ -386,6 +433,7 @@ fn enqueue(queue: &mut Vec<Queued>, decided: &Decided, mark: Mark)
         channel: decided.channel,
         event: decided.event,
         mark,
+        resumes: false,
     });
 }
 

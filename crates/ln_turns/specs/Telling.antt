@@ -21,6 +21,7 @@ named command.Sign = 0
 named (command.Shutdown s) = 0
 named (command.Decide event m) = event
 named (command.Forget id) = id
+named (command.Resume event m) = event
 
 -- the id of the HTLC that a message offers
 abbrev pub id_in : Message → Option ℕ

@@ -3,7 +3,6 @@
 ghost use Rattle.std.specs.Prelude.{◌≡◌};
 ghost use Rattle.ln_hooks.specs.Chain.{IsCalledOn};
 ghost use Rattle.ln_hooks.specs.Table.{Says};
-ghost use Rattle.ln_hooks.specs.Verdict.{joined};
 
 use crate::dispatch::Table;
 use ln_hooks::{ChannelEvent, Hook, HookTable, Verdict};
@@ -16,16 +15,6 @@ fn call_one(hook: &mut Hook, event: &ChannelEvent) -> Verdict
     (hook.call)(event)
 }
 
-// What a further hook's answer makes of what is said so far.
-fn joined(said: Verdict, answer: Verdict) -> Verdict
-    ensures { result ≡ joined said answer }
-{
-    match said {
-        Verdict::Continue => answer,
-        Verdict::Fail(code) => Verdict::Fail(code),
-    }
-}
-
 // Calls each hook on an event, once and in order, and says what is to become of it, as `HookTable::call` does.
 fn call_each(hooks: &mut Vec<Hook>, event: &ChannelEvent) -> Verdict
     ensures calls_each_hook { Says (λ h. h.call) (λ f x a f'. step (f.vtable, f.value) x a (f'.vtable, f'.value))
@@ -34,7 +23,7 @@ fn call_each(hooks: &mut Vec<Hook>, event: &ChannelEvent) -> Verdict
     let mut verdict = Verdict::Continue;
     for i in 0..hooks.len() {
         let hook = &mut hooks[i];
-        verdict = joined(verdict, call_one(hook, event));
+        verdict = verdict.joined(call_one(hook, event));
     }
     verdict
 }

@@ -17,4 +17,6 @@ pub enum Notice {
     Halted,
     /// It was loaded from its record.
     Loaded,
+    /// A hook has held a payment: it waits until it is resumed by this number, that of the event that told of it.
+    Held(u64),
 }

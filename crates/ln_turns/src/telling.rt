@@ -23,6 +23,7 @@ pub(crate) fn named(command: &Command) -> u64
         Command::Malformed { id, .. } => *id,
         Command::Decide { event, .. } => *event,
         Command::Forget(id) => *id,
+        Command::Resume { event, .. } => *event,
         _ => 0,
     }
 }

@@ -370,7 +370,10 @@ fn read_turn<E: End, W: Write>(
 fn is_of_records(command: &Command) -> bool
     ensures { result ≡ is_of_records command.now }
 {
-    matches!(command, Command::Decide { .. } | Command::Forget(_))
+    matches!(
+        command,
+        Command::Decide { .. } | Command::Forget(_) | Command::Resume { .. }
+    )
 }
 
 // What the book alone decides is passed over.

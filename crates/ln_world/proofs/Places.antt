@@ -70,7 +70,7 @@ twice n f (x ∷ xs) = twice_by n f (is_node x.node n) x xs refl (twice n f xs)
 
 -- ---- it changes in its place
 
-set_at : (n : Node) (f : NodeBook → NodeBook) (xs : List NodeBook) (i : ℕ) (d : NodeBook)
+pub set_at : (n : Node) (f : NodeBook → NodeBook) (xs : List NodeBook) (i : ℕ) (d : NodeBook)
     → Some i ≡ position (λ x. is_node x.node n) xs → set xs i (f (get_or xs i d)) ≡ changed n f xs
 set_at n f xs i d is =
     at_first (is_of n) (λ l k. set l k (f (get_or l k d)) ≡ changed n f l)

@@ -5,6 +5,7 @@ use Rattle.std.proofs.Common.{Bool, true, false, cond, not, ◌||◌, ◌==◌, 
 use Rattle.std.proofs.Common.{Option, Some, None, option_map, Result, Ok, Err}
 use Rattle.std.proofs.lemmas.Bool.{ltb-false}
 use Rattle.std.proofs.lemmas.List.{length-replicate}
+use Rattle.std.specs.List.{find, list_any}
 use Rattle.std.specs.Map.{lookup}
 use Rattle.sha2.proofs.Facts256.{length-sha256}
 use Rattle.ln_bytes.specs.declared.fault.Fault.{Fault}
@@ -34,15 +35,16 @@ use Rattle.ln_forward.specs.Payload.{Hop, payload_at}
 use Rattle.ln_tables.specs.declared.htlc.Offer.{Offer}
 use Rattle.ln_tables.specs.declared.entry.OutgoingChannel.{OutgoingChannel}
 use Rattle.ln_tables.specs.declared.entry.Invoice.{Invoice}
-use Rattle.ln_tables.specs.Replay.{Table, same, is_usable}
+use Rattle.ln_tables.specs.declared.htlc.Htlc.{Htlc}
+use Rattle.ln_tables.specs.Replay.{Table, same, is_usable, is_resumed, is_held_in, held_by}
 use Rattle.ln_pair.specs.Widths.{IsMark, IsUpdate, IsAdd}
 use Rattle.ln_pair.proofs.Offered.{Where}
 use Rattle.ln_book.specs.Commands.{Services, next_of}
 use Rattle.ln_book.specs.Marks.{offer_of, incoming_of, failure_by, unopened, outgoing_by, forward_mark, forwarded}
 use Rattle.ln_book.specs.Marks.{final_mark, final_payload, expected_by, read_hop, read, opened_mark, mark_of}
-use Rattle.ln_book.specs.Marks.{decision}
-use Rattle.ln_world.proofs.WideTables.{IsHow, IsOffer, IsTable, IsDecided, IsOutgoing, IsInvoice}
-use Rattle.ln_world.proofs.WideTables.{either, where-either, all-lookup}
+use Rattle.ln_book.specs.Marks.{mark_by, decision, is_hold, resumed_mark, resumption}
+use Rattle.ln_world.proofs.WideTables.{IsHow, IsOffer, IsHtlc, IsTable, IsDecided, IsOutgoing, IsInvoice}
+use Rattle.ln_world.proofs.WideTables.{either, where-either, all-find, all-lookup}
 
 -- ---- onions for tests
 
@@ -240,11 +242,33 @@ module _ (s : Services) (short : (f : Failure) → length (s.wrapped (failure_by
   opened_so o t (Err f) is g = unopened_so f
   opened_so o t (Ok p) is g = read_so o t (is_none p.next) (payload_at p.payload) is g
 
-  mark_so : (t : Table) (o : Option Offer) (v : Verdict) → Where IsOffer o → IsTable t → IsMark (mark_of s t o v)
-  mark_so t None v is g = tt
-  mark_so t (Some o) verdict.Continue is g = opened_so o t (s.opened o.onion o.hash) is g
-  mark_so t (Some o) (verdict.Fail c) is g = short (failure_by c o t.height)
+  by_so : (t : Table) (n : ℕ) (o : Offer) (v : Verdict) → IsOffer o → IsTable t → IsMark (mark_by s t n o v)
+  by_so t n o verdict.Continue is g = opened_so o t (s.opened o.onion o.hash) is g
+  by_so t n o (verdict.Fail c) is g = short (failure_by c o t.height)
+  by_so t n o verdict.Hold is g = tt
+
+  mark_so : (t : Table) (n : ℕ) (o : Option Offer) (v : Verdict) → Where IsOffer o → IsTable t
+      → IsMark (mark_of s t n o v)
+  mark_so t n None v is g = tt
+  mark_so t n (Some o) v is g = by_so t n o v is g
 
   pub decision_so : (t : Table) (c : List ℕ) (n : ℕ) (o : Option Offer) (v : Verdict) → length c ≡ 32 → IsTable t
       → Where IsOffer o → IsDecided (decision s t c n o v)
-  decision_so t c n o v channel g is = record { channel = channel; offer = is; mark = mark_so t o v is g }
+  decision_so t c n o v channel g is = record { channel = channel; offer = is; mark = mark_so t n o v is g }
+
+  -- ---- what is held is resumed
+
+  resumed_so : (t : Table) (n : ℕ) (o : Option Htlc) (v : Verdict) → Where IsHtlc o → IsTable t
+      → Where IsMark (resumed_mark s t n o v)
+  resumed_so t n None v is g = tt
+  resumed_so t n (Some h) v is g =
+      where-either IsMark (is_hold v) None (Some (mark_by s t n h.offer v)) tt (by_so t n h.offer v is.offer g)
+
+  held_so : (c : List ℕ) (n : ℕ) (t : Table) → IsTable t → Where IsHtlc (held_by c n t)
+  held_so c n t g =
+      where-either IsHtlc (list_any (is_resumed c n) t.queue) None (find (is_held_in c n) t.htlcs) tt
+      (all-find IsHtlc (is_held_in c n) t.htlcs g.htlcs)
+
+  pub resumption_so : (t : Table) (c : List ℕ) (n : ℕ) (v : Verdict) → IsTable t
+      → Where IsMark (resumption s t c n v)
+  resumption_so t c n v g = resumed_so t n (held_by c n t) v (held_so c n t g) g

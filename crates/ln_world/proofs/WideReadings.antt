@@ -1,6 +1,6 @@
 -- What a book reads off ends that are as wide as in code is so too, and so is the book as it follows them.
 use Rattle.std.proofs.Common.{◌≡◌, ◌+◌, ◌-◌, ℕ, zero, suc, List, [], ◌∷◌, length, map, take, drop}
-use Rattle.std.proofs.Common.{sym, subst, Bool, true, false, cond, ◌==◌, nat_lt, nat_le}
+use Rattle.std.proofs.Common.{sym, subst, arith, Bool, true, false, cond, ◌==◌, nat_lt, nat_le}
 use Rattle.std.proofs.Common.{Option, Some, None, option_map}
 use Rattle.std.proofs.lemmas.List.{length-replicate}
 use Rattle.std.specs.List.{cons_option, find, slice_get}
@@ -37,14 +37,14 @@ use Rattle.ln_tables.specs.declared.htlc.Htlc.{Htlc}
 use Rattle.ln_tables.specs.declared.entry.Entry.{Entry}
 use Rattle.ln_tables.specs.declared.entry.Entry.TheVariants as entry
 use Rattle.ln_history.specs.History.{with_entry}
-use Rattle.ln_tables.specs.Replay.{Table, replay, table_of}
+use Rattle.ln_tables.specs.Replay.{Table, replay, table_of, is_over}
 use Rattle.ln_pair.specs.Widths.{IsOrigin, IsMark, IsAdd, IsUpdate}
 use Rattle.ln_pair.proofs.Offered.{All, all-append, all-take, all-drop, all-when, Where, Does, IsDecision, IsSettlement}
 use Rattle.ln_readings.specs.declared.leg.Leg.{Leg}
 use Rattle.ln_readings.specs.Kept.{own_window, own_updates}
 use Rattle.ln_readings.specs.Rebuild.{Reading, leg_from, leg_of, legs_offered, how_of, leg_over, legs_over}
 use Rattle.ln_readings.specs.Rebuild.{peer_window, peer_updates, back_in, decided_by, decided_in, reading_of, is_for}
-use Rattle.ln_readings.specs.Rebuild.{or_leg, result_for, offer_for, way_along, way_for, way_read, led, is_over}
+use Rattle.ln_readings.specs.Rebuild.{or_leg, result_for, offer_for, way_along, way_for, way_read, led}
 use Rattle.ln_readings.specs.Rebuild.{unfinished, all_unfinished, is_read, htlc_left, left, all_left, rebuilt}
 use Rattle.ln_book.specs.Settled.{with_settled}
 use Rattle.ln_channels.specs.declared.step.Node.{Node}
@@ -214,12 +214,18 @@ does_so (mark.Forward channel amount expiry) h = h
 does_so (mark.Fail reason) h = h
 does_so (mark.Malformed code) h = h
 does_so (mark.Fulfil preimage) h = h
+does_so (mark.Held event) h = tt
 
 htlc_so : (c : List ℕ) (m : Mark) (b : Back) (o : Option Add) → length c ≡ 32 → Does m → Where IsAdd o
     → Where IsHtlc (decided_by c m b o)
 htlc_so c m b None channel does h = tt
 htlc_so c m b (Some a) channel does h =
-    record { key = record { channel = channel; id = h.id }; hash = h.hash; mark = does_so m does; way = tt }
+    record {
+      key = record { channel = channel; id = h.id };
+      offer = record { id = h.id; amount = h.amount; hash = h.hash; expiry = h.expiry };
+      mark = does_so m does;
+      way = tt;
+    }
 
 decided_so : (c : List ℕ) (l : Log) (ds : List Decision) → length c ≡ 32 → All IsUpdate (peer_updates l)
     → All IsDecision ds → All IsHtlc (decided_in c l ds)
@@ -316,7 +322,12 @@ all_unfinished_so all (r ∷ rs) g h =
 htlc_left_so : (l : Leg) → IsLeg l → IsHtlc (htlc_left l)
 htlc_left_so l h =
     let zeros = length-replicate {A = ℕ} 32 0 in
-    record { key = h.origin; hash = zeros; mark = zeros; way = h.way }
+    record {
+      key = h.origin;
+      offer = record { id = h.origin.id; amount = omega arith; hash = zeros; expiry = omega arith };
+      mark = zeros;
+      way = h.way;
+    }
 
 left_so : (all : List Reading) (ls : List Leg) → All IsLeg ls → All IsHtlc (left all ls)
 left_so all [] h = tt

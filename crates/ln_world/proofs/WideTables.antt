@@ -10,6 +10,7 @@ use Rattle.ln_log.specs.declared.mark.Mark.TheVariants as mark
 use Rattle.ln_hooks.specs.declared.event.How.{How}
 use Rattle.ln_hooks.specs.declared.event.How.TheVariants as how
 use Rattle.ln_channel.specs.declared.command.Command.{Command}
+use Rattle.ln_channel.specs.declared.command.Command.TheVariants as command
 use Rattle.ln_tables.specs.declared.htlc.Key.{Key}
 use Rattle.ln_tables.specs.declared.htlc.Offer.{Offer}
 use Rattle.ln_tables.specs.declared.htlc.Way.{Way}
@@ -34,6 +35,7 @@ use Rattle.ln_tables.specs.Replay.{is_finished, is_decided, joined, htlc_of, wit
 use Rattle.ln_tables.specs.Replay.{put_way, put_back, with_way, with_back, with_desk, taken_by, refused_by, done}
 use Rattle.ln_tables.specs.Replay.{queue_behind, answered_out, answered_at, is_unsure, is_later, is_way_lost, refused}
 use Rattle.ln_tables.specs.Replay.{htlc_kept, kept_out, kept_at}
+use Rattle.ln_tables.specs.Replay.{without_first, is_resumed, is_held_in, is_over, put_mark, resumed_by, resumed_of}
 use Rattle.ln_pair.specs.Widths.{IsMark, IsCommand}
 use Rattle.ln_pair.proofs.Offered.{All, all-append, all-filter, all-when, Where}
 use Rattle.ln_book.specs.Commands.{Services, due, next_of, add_with, removal_over, removal_by_way, removal_by}
@@ -64,14 +66,14 @@ pub record IsOffer (o : Offer) : Type 0 where
   pub expiry : o.expiry < 2 ^ 32
 
 -- what is kept of an HTLC
-pub record IsKept (k : Key) (h : List ℕ) (m : Mark) (w : Way) : Type 0 where
+pub record IsKept (k : Key) (o : Offer) (m : Mark) (w : Way) : Type 0 where
   pub key : IsKey k
-  pub hash : length h ≡ 32
+  pub offer : IsOffer o
   pub mark : IsMark m
   pub way : IsWay w
 
 abbrev pub IsHtlc : Htlc → Type 0
-IsHtlc h = IsKept h.key h.offer.hash h.mark h.way
+IsHtlc h = IsKept h.key h.offer h.mark h.way
 
 abbrev pub IsRoute : List ℕ × OutgoingChannel → Type 0
 IsRoute p = length p.1.channel ≡ 32
@@ -104,6 +106,7 @@ IsEntry (entry.Use c u) = Unit {0}
 IsEntry (entry.Height h) = Unit {0}
 IsEntry (entry.Expect i) = length i.preimage ≡ 32
 IsEntry (entry.Decided d) = IsDecided d
+IsEntry (entry.Resumed r) = IsMark r.mark
 IsEntry (entry.Taken c o) = Unit {0}
 IsEntry (entry.Answered c a) = Unit {0}
 IsEntry (entry.Over k h) = IsHow h
@@ -129,6 +132,10 @@ module _ {A : Type 0} (P : A → Type 0) where
 
   pub all-left : (p : A → Bool) (xs : List A) → All P xs → All P (left_out p xs)
   all-left p xs h = all-filter P (λ x. not (p x)) xs h
+
+  pub all-without : (p : A → Bool) (xs : List A) → All P xs → All P (without_first p xs)
+  all-without p [] h = tt
+  all-without p (x ∷ xs) h = all-when P (p x) xs (x ∷ without_first p xs) h.1 (h.0, all-without p xs h.1)
 
   pub where-either : (b : Bool) (x y : Option A) → Where P x → Where P y → Where P (cond b x y)
   where-either true x y h g = h
@@ -176,7 +183,10 @@ back_so : (b : Back) (h : Htlc) → IsHtlc h → IsHtlc (put_back b h)
 back_so b h g = g
 
 pub way_so : (w : Way) → IsWay w → (h : Htlc) → IsHtlc h → IsHtlc (put_way w h)
-way_so w is h g = record { key = g.key; hash = g.hash; mark = g.mark; way = is }
+way_so w is h g = record { key = g.key; offer = g.offer; mark = g.mark; way = is }
+
+mark_so : (m : Mark) → IsMark m → (h : Htlc) → IsHtlc h → IsHtlc (put_mark m h)
+mark_so m is h g = record { key = g.key; offer = g.offer; mark = is; way = g.way }
 
 joins_so : (h : Htlc) (hs : List Htlc) → IsHtlc h → All IsHtlc hs → All IsHtlc (joined h hs)
 joins_so h hs g gs =
@@ -190,7 +200,7 @@ offered_so d None hs channel mark offer gs = gs
 offered_so d (Some o) hs channel mark offer gs =
     joins_so (htlc_of d o) hs (record {
       key = record { channel = channel; id = offer.id };
-      hash = offer.hash;
+      offer = offer;
       mark = mark;
       way = tt;
     }) gs
@@ -201,11 +211,21 @@ with_way_so k w hs is h = all-changed IsHtlc (is_htlc k) (put_way w) (way_so w i
 with_back_so : (k : Key) (b : Back) (hs : List Htlc) → All IsHtlc hs → All IsHtlc (with_back k b hs)
 with_back_so k b hs h = all-changed IsHtlc (is_htlc k) (put_back b) (back_so b) hs h
 
-taken_so : (c : List ℕ) (i : ℕ) (o : Out) (hs : List Htlc) → All IsHtlc hs → All IsHtlc (taken_by c i o hs)
-taken_so c i (out.Deciding n) hs h = all-changed IsHtlc (is_told c n) decide decide_so hs h
-taken_so c i (out.Adding k) hs h = with_way_so k (way.Offered (record { channel = c; id = i })) hs tt h
-taken_so c i (out.Removing k) hs h = with_back_so k back.Sent hs h
-taken_so c i (out.Forgetting k) hs h = all-left IsHtlc (is_htlc k) hs h
+resumed_so : (c : List ℕ) (n : ℕ) (o : Option Queued) (hs : List Htlc) → Where IsQueued o → All IsHtlc hs
+    → All IsHtlc (resumed_by c n o hs)
+resumed_so c n None hs is h = h
+resumed_so c n (Some q) hs is h =
+    all-left IsHtlc is_over (changed_first (is_held_in c n) (put_mark q.mark) hs)
+    (all-changed IsHtlc (is_held_in c n) (put_mark q.mark) (mark_so q.mark is) hs h)
+
+taken_so : (c : List ℕ) (i : ℕ) (o : Out) (qs : List Queued) (hs : List Htlc) → All IsQueued qs → All IsHtlc hs
+    → All IsHtlc (taken_by c i o qs hs)
+taken_so c i (out.Deciding n) qs hs is h = all-changed IsHtlc (is_told c n) decide decide_so hs h
+taken_so c i (out.Adding k) qs hs is h = with_way_so k (way.Offered (record { channel = c; id = i })) hs tt h
+taken_so c i (out.Removing k) qs hs is h = with_back_so k back.Sent hs h
+taken_so c i (out.Forgetting k) qs hs is h = all-left IsHtlc (is_htlc k) hs h
+taken_so c i (out.Resuming n) qs hs is h =
+    resumed_so c n (find (is_resumed c n) qs) hs (all-find IsQueued (is_resumed c n) qs is) h
 
 refused_so : (c : List ℕ) (r : ℕ) (o : Out) (hs : List Htlc) → All IsHtlc hs → All IsHtlc (refused_by c r o hs)
 refused_so c r (out.Deciding n) hs h = all-left IsHtlc (is_undecided c n) hs h
@@ -214,12 +234,14 @@ refused_so c r (out.Adding k) hs h =
     (with_way_so k way.Refused hs tt h) (all-left IsHtlc (is_htlc k) hs h)
 refused_so c r (out.Removing k) hs h = with_back_so k back.Gone hs h
 refused_so c r (out.Forgetting k) hs h = all-left IsHtlc (is_htlc k) hs h
+refused_so c r (out.Resuming n) hs h = h
 
 queue_so : (c : List ℕ) (o : Out) (qs : List Queued) → All IsQueued qs → All IsQueued (queue_behind c o qs)
 queue_so c (out.Deciding n) qs h = all-left IsQueued (is_queued c n) qs h
 queue_so c (out.Adding k) qs h = h
 queue_so c (out.Removing k) qs h = h
 queue_so c (out.Forgetting k) qs h = h
+queue_so c (out.Resuming n) qs h = all-without IsQueued (is_resumed c n) qs h
 
 -- ---- tables
 
@@ -231,7 +253,7 @@ done_so c i o t g = record {
   routes = g.routes;
   expected = g.expected;
   queue = queue_so c o t.queue g.queue;
-  htlcs = taken_so c i o t.htlcs g.htlcs;
+  htlcs = taken_so c i o t.queue t.htlcs g.queue g.htlcs;
 }
 
 refuses_so : (c : List ℕ) (r : ℕ) (o : Out) (t : Table) → IsTable t → IsTable (refused c r o t)
@@ -261,6 +283,8 @@ kept_out_so c b (out.Adding k) t g = g
 kept_out_so c b (out.Removing k) t g =
     with_htlcs_so t (with_back k back.Sent t.htlcs) g (with_back_so k back.Sent t.htlcs g.htlcs)
 kept_out_so c b (out.Forgetting k) t g = g
+kept_out_so c true (out.Resuming n) t g = done_so c 0 (out.Resuming n) t g
+kept_out_so c false (out.Resuming n) t g = g
 
 kept_so : (c : List ℕ) (b : Bool) (d : Desk) (t : Table) → IsTable t → IsTable (kept_at c b d t)
 kept_so c b desk.Idle t g = g
@@ -270,7 +294,7 @@ kept_so c b (desk.Unsure o) t g = kept_out_so c b o (with_desk c desk.Idle t) g
 htlc_kept_so : (c : List ℕ) (told : Told) (h : Htlc) → IsHtlc h → IsHtlc (htlc_kept c told h)
 htlc_kept_so c told h g = record {
   key = g.key;
-  hash = g.hash;
+  offer = g.offer;
   mark = g.mark;
   way = either IsWay (is_way_lost c told.next h.way) way.Nowhere h.way tt g.way;
 }
@@ -305,6 +329,12 @@ after_so t (entry.Decided d) is g = record {
       (all-left IsQueued (is_queued d.channel d.event) t.queue g.queue) (is.mark, tt);
   htlcs = offered_so d d.offer t.htlcs is.channel is.mark is.offer g.htlcs;
 }
+after_so t (entry.Resumed r) is g = record {
+  routes = g.routes;
+  expected = g.expected;
+  queue = all-append IsQueued t.queue (resumed_of r ∷ []) g.queue (is, tt);
+  htlcs = g.htlcs;
+}
 after_so t (entry.Taken c o) is g = g
 after_so t (entry.Answered c a) is g = answers_so c a (desk_at c t) t g
 after_so t (entry.Over k h) is g =
@@ -330,7 +360,7 @@ module _ (s : Services) (nexts : (onion hash : List ℕ) → Where (λ n. length
     add_so h mark.None (Some onion) g is next = tt
     add_so h (mark.Forward d amount expiry) (Some onion) g is next = record {
       amount_fits = is.amount_fits;
-      hash_fits = g.hash;
+      hash_fits = g.offer.hash;
       expiry_fits = is.expiry_fits;
       onion_fits = next;
       origin_fits = (g.key.channel, g.key.id);
@@ -338,6 +368,7 @@ module _ (s : Services) (nexts : (onion hash : List ℕ) → Where (λ n. length
     add_so h (mark.Fail reason) (Some onion) g is next = tt
     add_so h (mark.Malformed code) (Some onion) g is next = tt
     add_so h (mark.Fulfil preimage) (Some onion) g is next = tt
+    add_so h (mark.Held event) (Some onion) g is next = tt
 
     over_so : (id : ℕ) (h : How) → id < 2 ^ 64 → IsHow h → IsCommand (removal_over s id h)
     over_so id (how.Fulfilled preimage) small is = record { id = small; preimage = is }
@@ -357,6 +388,7 @@ module _ (s : Services) (nexts : (onion hash : List ℕ) → Where (λ n. length
     removal_so h (mark.Malformed code) g is =
         record { id = g.key.id; sha256_of_onion = length-sha256 h.offer.onion; failure_code = is }
     removal_so h (mark.Fulfil preimage) g is = record { id = g.key.id; preimage = is }
+    removal_so h (mark.Held event) g is = tt
 
     forget_so : (w : Way) → Where IsCommand (forget_by w)
     forget_so way.Nowhere = tt
@@ -370,6 +402,7 @@ module _ (s : Services) (nexts : (onion hash : List ℕ) → Where (λ n. length
         add_so h h.mark (next_of (s.opened h.offer.onion h.offer.hash)) g g.mark (nexts h.offer.onion h.offer.hash)
     command_so h (out.Removing k) g = removal_so h h.mark g g.mark
     command_so h (out.Forgetting k) g = forget_so h.way
+    command_so h (out.Resuming n) g = tt
 
     abbrev pub Commands : Out × Command → Type 0
     Commands x = IsCommand x.1
@@ -393,7 +426,9 @@ module _ (s : Services) (nexts : (onion hash : List ℕ) → Where (λ n. length
 
     first_of_so : (c : List ℕ) (q : Option Queued) (hs : List Htlc) → Where IsQueued q → All IsHtlc hs
         → Where Commands (first_of s c q hs)
-    first_of_so c (Some q) hs is g = is
+    first_of_so c (Some q) hs is g =
+        either Commands q.resumes (out.Resuming q.event, command.Resume q.event q.mark)
+        (out.Deciding q.event, command.Decide q.event q.mark) is is
     first_of_so c None hs is g = first_due_so c hs g
 
     first_at_so : (c : List ℕ) (d : Desk) (t : Table) → IsTable t → Where Commands (first_at s c d t)

@@ -10,6 +10,7 @@ use Rattle.std.specs.List.{cons_option}
 use Rattle.ln_keys.specs.declared.keys.ChannelKeys.{Ghosts}
 use Rattle.ln_keys.specs.declared.role.Role.{Role}
 use Rattle.ln_hooks.specs.declared.event.ChannelEvent.{ChannelEvent}
+use Rattle.ln_log.specs.declared.mark.Mark.{Mark}
 use Rattle.ln_hooks.specs.declared.verdict.Verdict.{Verdict}
 use Rattle.ln_channel.specs.declared.command.Command.{Command}
 use Rattle.ln_channel.specs.End.{End as ChannelEnd}
@@ -23,10 +24,10 @@ use Rattle.ln_tables.specs.declared.entry.Entry.{Entry}
 use Rattle.ln_tables.specs.declared.entry.Entry.TheVariants as entry
 use Rattle.ln_history.specs.History.{with_entry}
 use Rattle.ln_tables.specs.Replay.{table_of, desk_at as out_desk_at}
-use Rattle.ln_pair.specs.Widths.{IsCommand}
+use Rattle.ln_pair.specs.Widths.{IsMark, IsCommand}
 use Rattle.ln_pair.proofs.Offered.{All, all-append, all-when, Where}
 use Rattle.ln_book.specs.Commands.{with_taken, with_answered}
-use Rattle.ln_book.specs.Marks.{offer_of}
+use Rattle.ln_book.specs.Marks.{offer_of, resumption}
 use Rattle.ln_channels.specs.declared.line.Line.{Line}
 use Rattle.ln_channels.specs.declared.step.Act.{Act as ChannelAct}
 use Rattle.ln_channels.specs.declared.step.Act.TheVariants as channel_act
@@ -65,9 +66,11 @@ use Rattle.ln_world.specs.World.{handed_out, own_act, sent_or, call_of, unbegun,
 use Rattle.ln_world.specs.World.{moved_by, lines_by, entered, with_height, is_height, prepared, errand_of, follows}
 use Rattle.ln_world.specs.World.{answered, heard, unanswered, told_of, saved_dropped, dropped, fallen, met}
 use Rattle.ln_world.specs.World.{concluded, happens, with_verdict, plains}
+use Rattle.ln_world.specs.World.{with_resumed, resuming, resumed_at, stops_behind}
 use Rattle.ln_world.specs.Records.{IsAct, IsStep, AreWorldSteps}
 use Rattle.ln_world.proofs.WideTables.{IsEntry, either, where-either, first_so}
 use Rattle.ln_world.proofs.WideMarks.{IsEvent, nexts_so, failure_short, offer_so, decision_so}
+use Rattle.ln_world.proofs.WideMarks.{resumption_so}
 use Rattle.ln_world.proofs.WideReadings.{IsEnd, all-item, undecided_so, IsBook, entered_so, held_so}
 use Rattle.ln_world.proofs.WideReadings.{IsState, AreEnds, at_side, channel_so, followed_so, begun_so}
 
@@ -144,6 +147,16 @@ deciding_so : (e : End) (o : Option (ℕ × ChannelEvent × Verdict)) (b : Book)
     → Where IsBook (deciding e o b)
 deciding_so e None b is h = tt
 deciding_so e (Some x) b is h = decided_so e x b is h
+
+resumed_so : (e : End) (n : ℕ) (o : Option Mark) (b : Book) → Where IsMark o → IsBook b
+    → Where IsBook (option_map (with_resumed e n b) o)
+resumed_so e n None b is h = tt
+resumed_so e n (Some m) b is h = entered_so (entry.Resumed _) b is h
+
+resuming_so : (e : End) (n : ℕ) (v : Verdict) (b : Book) → IsBook b → Where IsBook (resuming e n v b)
+resuming_so e n v b h =
+    resumed_so e n (resumption services (table_of b) (id_of e) n v) b
+    (resumption_so services failure_short (table_of b) (id_of e) n v h) h
 
 by_so : (e : End) (o : Option Book) → Where IsBook o → Where IsCommand (command_by e o)
 by_so e None h = tt
@@ -287,12 +300,16 @@ module _ {K : Type 0} where
       where-either IsBook (is_some (end_at e w.desks)) (Some (book_of e w.nodes)) None (book_so e w h) tt
   asked_so e act.Decide w h =
       deciding_so e (waiting e w.desks) (book_of e w.nodes) (waiting_so e w h) (book_so e w h)
+  asked_so e (act.Resume n v) w h =
+      where-either IsBook (is_some (end_at e w.desks)) (resuming e n v (book_of e w.nodes)) None
+      (resuming_so e n v (book_of e w.nodes) (book_so e w h)) tt
 
   unbegun_so : (e : End) (a : Act) (w : World K) → IsWide w → Where IsBook (asked_unbegun e a w)
   unbegun_so e act.Deliver w h = tt
   unbegun_so e (act.Send c) w h = tt
   unbegun_so e act.Take w h = asked_so e act.Take w h
   unbegun_so e act.Decide w h = tt
+  unbegun_so e (act.Resume n v) w h = tt
 
   -- ---- what an act is of its channel
 
@@ -304,6 +321,7 @@ module _ {K : Type 0} where
       (Some (channel_act.Send c)) None is tt
   own_so e act.Take d is = tt
   own_so e act.Decide d is = tt
+  own_so e (act.Resume n v) d is = tt
 
   call_so : (e : End) (a : Act) (w : World K) → IsAct a → IsWide w → Where record_of.IsAct (call_of e a w)
   call_so e a w is h =
@@ -325,10 +343,11 @@ module _ {K : Type 0} (k : Ghosts K) where
   done_so e None h = tt
   done_so e (Some x) h = h
 
-  stopped_so : (e : End) (o : Option ChannelAct) → Where record_of.IsAct o
-      → Where Brings (option_map (λ (x : ChannelAct). desk_step.StopAfter e x) o)
-  stopped_so e None h = tt
-  stopped_so e (Some x) h = h
+  stopped_so : (e : End) (o : Option ChannelAct) (n : Option ℕ) → Where record_of.IsAct o
+      → Where Brings (stops_behind e o n)
+  stopped_so e None None h = tt
+  stopped_so e None (Some n) h = tt
+  stopped_so e (Some x) n h = h
 
   unmade_so : (e : End) (o : Option ChannelAct)
       → Where Brings (option_map (λ (x : ChannelAct). desk_step.NoMemory e x) o)
@@ -352,7 +371,7 @@ module _ {K : Type 0} (k : Ghosts K) where
   plain_so (step.NoMemory e a) w is h = unmade_so e (unbegun e a w)
   plain_so (step.Restart n) w is h = tt
   plain_so (step.StopBefore e a) w is h = before_so e (unbegun e a w)
-  plain_so (step.StopAfter e a) w is h = stopped_so e (call_of e a w) (call_so e a w is h)
+  plain_so (step.StopAfter e a) w is h = stopped_so e (call_of e a w) (resumed_at e a w.desks) (call_so e a w is h)
   plain_so (step.Up n) w is h = tt
   plain_so (step.Dispatch e) w is h = tt
   plain_so (step.Register e hook) w is h = tt
@@ -486,6 +505,7 @@ module _ {K : Type 0} (k : Ghosts K) where
   concluded_so (errand.Fall e) told new xs c h = fallen_so e new (link_at e new.channels.channels) xs c h
   concluded_so (errand.Halt e out) told new xs c h =
       follows_so e.node (unanswered e out) new xs (λ b g. unanswered_so e out b g) c h
+  concluded_so (errand.Refuse e) told new xs c h = h
   concluded_so (errand.Restart n) told new xs c h =
       let cs = new.channels.channels in
       changed_so n (λ x. followed cs (begun_anew cs x))

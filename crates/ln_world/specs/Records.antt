@@ -14,6 +14,7 @@ IsAct act.Deliver = Unit {0}
 IsAct (act.Send c) = IsCommand c
 IsAct act.Take = Unit {0}
 IsAct act.Decide = Unit {0}
+IsAct (act.Resume n v) = Unit {0}
 
 abbrev pub IsStep : {K : Type 0} → (k : Ghosts K) → Step K k → Type 0
 IsStep k (step.Fees n fees) = Unit {0}

@@ -17,6 +17,8 @@ use Rattle.ln_channels.specs.declared.line.Line.{Line}
 use Rattle.ln_channels.specs.declared.line.Line.TheVariants as line
 use Rattle.ln_channels.specs.declared.step.End.{End}
 use Rattle.ln_desks.specs.World.{undecided}
+use Rattle.ln_world.specs.declared.errand.Noted.{Noted}
+use Rattle.ln_world.specs.declared.errand.Noted.TheVariants as noted
 use Rattle.ln_world.specs.Node.{Book}
 
 -- ---- what an end has answered to a command
@@ -33,6 +35,7 @@ about next command.Sign = 0
 about next (command.Shutdown script) = 0
 about next (command.Decide event mark) = event
 about next (command.Forget id) = id
+about next (command.Resume event mark) = event
 
 -- the number of the refusal that is told, else what it is about. Where nothing could be done it wasn't ready (40), as
 -- an end answers to a decision of an event that isn't its first undecided one
@@ -56,16 +59,22 @@ choice_of (mark.Forward channel amount expiry) = choice.Forward (byte_at 31 chan
 choice_of (mark.Fail reason) = choice.Fail (256 * byte_at 0 reason + byte_at 1 reason)
 choice_of (mark.Malformed code) = choice.Malformed code
 choice_of (mark.Fulfil preimage) = choice.Fulfil
+choice_of (mark.Held event) = choice.Held
 
 -- the event's number and what is done about it, where a command is a decision
-abbrev pub noted_of : Command → Option (ℕ × Choice)
-noted_of (command.Decide event m) = Some (event, choice_of m)
+abbrev pub noted_of : Command → Option Noted
+noted_of (command.Decide event m) = Some (noted.Decided event (choice_of m))
+noted_of (command.Resume event m) = Some (noted.Resumed event (choice_of m))
 noted_of c = None
 
+abbrev pub noted_line : End → Noted → Line
+noted_line e (noted.Decided event c) = line.Decided e event c
+noted_line e (noted.Resumed event c) = line.Resumed e event c
+
 -- it is told of where it was taken
-abbrev pub decided_line : End → Option (ℕ × Choice) → Result ℕ ℕ → List Line
-decided_line e (Some x) (Ok id) = line.Decided e x.0 x.1 ∷ []
-decided_line e noted answer = []
+abbrev pub decided_line : End → Option Noted → Result ℕ ℕ → List Line
+decided_line e (Some x) (Ok id) = noted_line e x ∷ []
+decided_line e o answer = []
 
 -- ---- what an end has come to hold
 

@@ -8,6 +8,7 @@ use Rattle.ln_msgs.specs.declared.refusals.refusal.Refusal.{Refusal}
 use Rattle.ln_msgs.specs.declared.refusals.refusal.Refusal.TheVariants as refusal
 use Rattle.ln_keys.specs.declared.keys.ChannelKeys.{Ghosts}
 use Rattle.ln_keys.specs.declared.role.Role.{Role}
+use Rattle.ln_log.specs.declared.mark.Mark.{Mark}
 use Rattle.ln_log.specs.declared.mark.Mark.TheVariants as mark
 use Rattle.ln_hooks.specs.declared.event.ChannelEvent.{ChannelEvent}
 use Rattle.ln_hooks.specs.declared.verdict.Verdict.{Verdict}
@@ -25,7 +26,7 @@ use Rattle.ln_history.specs.History.{with_entry}
 use Rattle.ln_tables.specs.Replay.{table_of, desk_at}
 use Rattle.ln_readings.specs.Kept.{told_by, next_own_id, has_own_removal, has_decided}
 use Rattle.ln_book.specs.Commands.{first_command, with_taken, with_answered}
-use Rattle.ln_book.specs.Marks.{offer_of, decision}
+use Rattle.ln_book.specs.Marks.{offer_of, decision, resumption}
 use Rattle.ln_channels.specs.declared.line.Line.{Line}
 use Rattle.ln_channels.specs.declared.line.Line.TheVariants as line
 use Rattle.ln_channels.specs.declared.step.Act.{Act as ChannelAct}
@@ -109,6 +110,17 @@ abbrev pub deciding : End → Option (ℕ × ChannelEvent × Verdict) → Book �
 deciding e None b = None
 deciding e (Some x) b = Some (with_decision e x b)
 
+-- what is held at the end is decided by what is said of it now: its mark is entered
+abbrev pub with_resumed : End → ℕ → Book → Mark → Book
+with_resumed e n b m = with_entry (entry.Resumed (record { channel = id_of e; event = n; mark = m })) b
+
+-- where the book knows of it
+abbrev pub resuming : End → ℕ → Verdict → Book → Option Book
+resuming e n v b = option_map (with_resumed e n b) (resumption services (table_of b) (id_of e) n v)
+
+abbrev pub if_there : Bool → Option Book → Option Book
+if_there may b = if may then b else None
+
 -- and where the end is there
 abbrev pub taking : Bool → Book → Option Book
 taking may b = if may then Some b else None
@@ -117,6 +129,7 @@ taking may b = if may then Some b else None
 abbrev pub asked : {K : Type 0} → End → Act → World K → Option Book
 asked e act.Take w = taking (is_some (end_at e w.desks)) (book_of e w.nodes)
 asked e act.Decide w = deciding e (waiting e w.desks) (book_of e w.nodes)
+asked e (act.Resume n v) w = if_there (is_some (end_at e w.desks)) (resuming e n v (book_of e w.nodes))
 asked e a w = None
 
 abbrev pub command_by : End → Option Book → Option Command
@@ -127,7 +140,12 @@ command_by e (Some b) = command_in e b
 abbrev pub command_of : {K : Type 0} → End → Act → World K → Option Command
 command_of e a w = command_by e (asked e a w)
 
--- the books as it is handed out
+-- a book as it is handed out, where it is asked
+abbrev pub handed_or : End → Option Book → Book → Book
+handed_or e None b = b
+handed_or e (Some c) b = handed e c
+
+-- the books then
 abbrev pub handed_out : End → Option Book → List NodeBook → List NodeBook
 handed_out e None xs = xs
 handed_out e (Some b) xs = changed e.node (with_book (handed e b)) xs
@@ -150,15 +168,31 @@ sent_or (Some c) own = Some (channel_act.Send c)
 abbrev pub call_of : {K : Type 0} → End → Act → World K → Option ChannelAct
 call_of e a w = sent_or (command_of e a w) (own_act e a w.desks)
 
+-- the number by which an act is to resume what is held, where the end is there
+abbrev pub resumed_at : {K : Type 0} → End → Act → Desks K → Option ℕ
+resumed_at e (act.Resume n v) d = option_map (λ x. n) (end_at e d)
+resumed_at e a d = None
+
+abbrev pub resumes : ℕ → ChannelAct
+resumes n = channel_act.Send (command.Resume n mark.None)
+
 -- and where it isn't begun: nothing is decided then, and any decision of that event serves
 abbrev pub unbegun : {K : Type 0} → End → Act → World K → Option ChannelAct
 unbegun e act.Decide w = option_map (λ x. channel_act.Send (command.Decide x.0 mark.None)) (waiting e w.desks)
+unbegun e (act.Resume n v) w = option_map resumes (resumed_at e (act.Resume n v) w.desks)
 unbegun e a w = call_of e a w
 
 -- the book that is asked then
 abbrev pub asked_unbegun : {K : Type 0} → End → Act → World K → Option Book
 asked_unbegun e act.Decide w = None
+asked_unbegun e (act.Resume n v) w = None
 asked_unbegun e a w = asked e a w
+
+-- A node stops behind an act. A book that knows of nothing that is held so refuses to resume it, and the node stops all
+-- the same: nothing is done then.
+abbrev pub stops_behind : {K : Type 0} {k : Ghosts K} → End → Option ChannelAct → Option ℕ → Option (DeskStep K k)
+stops_behind e (Some x) n = Some (desk_step.StopAfter e x)
+stops_behind e None n = option_map (λ i. desk_step.StopBefore e (resumes i)) n
 
 -- ---- the steps of desks that a step is: none where it is about books alone, or can't be taken
 
@@ -174,7 +208,7 @@ plain k (step.Down e) w = Some (desk_step.Down e)
 plain k (step.NoMemory e a) w = option_map (λ x. desk_step.NoMemory e x) (unbegun e a w)
 plain k (step.Restart n) w = Some (desk_step.Restart n)
 plain k (step.StopBefore e a) w = option_map (λ x. desk_step.StopBefore e x) (unbegun e a w)
-plain k (step.StopAfter e a) w = option_map (λ x. desk_step.StopAfter e x) (call_of e a w)
+plain k (step.StopAfter e a) w = stops_behind e (call_of e a w) (resumed_at e a w.desks)
 plain k (step.Up n) w = Some (desk_step.Up n)
 plain k (step.Dispatch e) w = Some (desk_step.Dispatch e)
 plain k (step.Register e hook) w = Some (desk_step.Register e hook)
@@ -217,14 +251,24 @@ abbrev pub asks_by : Option Command → ℕ → Option Asked
 asks_by None next = None
 asks_by (Some c) next = Some (record { about = about next c; noted = noted_of c })
 
+-- what can't be resumed is refused by the book
+abbrev pub refusing : End → Option ℕ → Errand
+refusing e None = errand.None
+refusing e (Some n) = errand.Refuse e
+
 -- an end that acts: how many events it has told, and what its book has asked of it
-abbrev pub acting : {K : Type 0} → End → Option Command → Option ChannelAct → Desks K → Errand
-acting e c None d = errand.None
-acting e c (Some x) d = errand.Act e (told_count (end_at e d)) (asks_by c (next_id (end_at e d)))
+abbrev pub acting : {K : Type 0} → End → Option Command → Option ChannelAct → Option ℕ → Desks K → Errand
+acting e c None n d = refusing e n
+acting e c (Some x) n d = errand.Act e (told_count (end_at e d)) (asks_by c (next_id (end_at e d)))
 
 abbrev pub if_begun : Option ChannelAct → Errand → Errand
 if_begun None x = errand.None
 if_begun (Some a) x = x
+
+abbrev pub if_stopped : Option ChannelAct → Option ℕ → Errand → Errand
+if_stopped (Some a) n x = x
+if_stopped None (Some n) x = x
+if_stopped None None x = errand.None
 
 abbrev pub if_height : ℕ → Node → Errand
 if_height height n = if is_height height then errand.Set n else errand.None
@@ -237,12 +281,12 @@ abbrev pub errand_of : {K : Type 0} {k : Ghosts K} → Step K k → World K → 
 errand_of (step.Policy n policy) w = errand.Set n
 errand_of (step.Height n height) w = if_height height n
 errand_of (step.Expect n invoice) w = errand.Set n
-errand_of (step.Do e a) w = acting e (command_of e a w) (call_of e a w) w.desks
+errand_of (step.Do e a) w = acting e (command_of e a w) (call_of e a w) (resumed_at e a w.desks) w.desks
 errand_of (step.Down e) w = errand.Fall e
 errand_of (step.NoMemory e a) w = if_begun (unbegun e a w) (errand.Halt e (is_take a))
 errand_of (step.Restart n) w = errand.Restart n
 errand_of (step.StopBefore e a) w = if_begun (unbegun e a w) (errand.Restart e.node)
-errand_of (step.StopAfter e a) w = if_begun (call_of e a w) (errand.Restart e.node)
+errand_of (step.StopAfter e a) w = if_stopped (call_of e a w) (resumed_at e a w.desks) (errand.Restart e.node)
 errand_of (step.Up n) w = errand.Meet n
 errand_of s w = errand.None
 
@@ -269,7 +313,7 @@ unanswered e out b = if out then with_reply e (Err 62) b else b
 -- what an end has kept, behind a lost connection
 abbrev pub told_of : End → ChannelEnd → Book → Told
 told_of e x b =
-    told_by (next_own_id x) (λ id. has_own_removal id x.dance.log) (λ n m. has_decided n x) (id_of e) (table_of b)
+    told_by (next_own_id x) (λ id. has_own_removal id x.dance.log) (λ n m. has_decided n m x) (id_of e) (table_of b)
 
 abbrev pub saved_dropped : End → Option ChannelEnd → Book → Book
 saved_dropped e None b = b
@@ -300,6 +344,7 @@ concluded (errand.Set n) told new xs = changed n (followed new.channels.channels
 concluded (errand.Act e before a) told new xs = follows e.node (heard e before a told new) new xs
 concluded (errand.Fall e) told new xs = fallen e new (link_at e new.channels.channels) xs
 concluded (errand.Halt e out) told new xs = follows e.node (unanswered e out) new xs
+concluded (errand.Refuse e) told new xs = xs
 concluded (errand.Restart n) told new xs = restarted n new xs
 concluded (errand.Meet n) told new xs = met new (channel n new.channels.channels) xs
 
@@ -336,6 +381,7 @@ decided_lines e (Some a) told = decided_line e a.noted (answer_by a.about told)
 -- where the step of desks told these lines; what is set for a node is told by none
 abbrev pub tells : Errand → List Line → List Line
 tells (errand.Set n) told = []
+tells (errand.Refuse e) told = line.Refused e refusal.NotReady ∷ []
 tells (errand.Act e before a) told = told ++ decided_lines e a told
 tells x told = told
 

@@ -1,8 +1,7 @@
 //! What the books of nodes do behind a step: they hear what their ends have answered and come to hold, and follow them.
 
-ghost use Rattle.std.specs.Prelude.{◌≡◌, ◌++◌, OnOk, IfOk, IfErr, option_copied};
+ghost use Rattle.std.specs.Prelude.{◌≡◌, ◌++◌, OnOk, IfErr, option_copied};
 ghost use Rattle.ln_msgs.specs.declared.refusals.refusal.Refusal.TheVariants as refusal;
-ghost use Rattle.ln_channel.specs.Record.{saved_end};
 ghost use Rattle.ln_world.specs.Node.{changed, with_book};
 ghost use Rattle.ln_world.specs.World.{follows, answered, heard, unanswered, saved_dropped, dropped, fallen};
 ghost use Rattle.ln_world.specs.World.{restarted, met, concluded, decided_lines, tells, link_at};
@@ -256,7 +255,7 @@ pub(crate) fn conclude<K: ChannelKeys + Copy>(
     ensures fails_for_memory_alone { IfErr result (λ e. e ≡ refusal.Memory) }
 {
     match errand {
-        Errand::None => Ok(()),
+        Errand::None | Errand::Refuse(_) => Ok(()),
         Errand::Set(node) => follow_node(alloc, desks, nodes, node),
         Errand::Act(end, before, asked) => {
             conclude_act(alloc, desks, nodes, end, before, asked, told)
@@ -291,12 +290,19 @@ pub(crate) fn tell(errand: Errand, told: &[Line], lines: &mut Vec<Line>) -> Resu
     ensures told { OnOk result (lines.new.items ≡ lines.old.items ++ tells errand told.now) }
     ensures fails_for_memory_alone { IfErr result (λ e. e ≡ refusal.Memory) }
 {
-    if let Errand::Set(_) = errand {
-        return Ok(());
-    }
-    lines.extend_from_slice(told)?;
     match errand {
-        Errand::Act(end, _, asked) => tell_asked(end, asked, told, lines),
-        _ => Ok(()),
+        Errand::Set(_) => Ok(()),
+        Errand::Refuse(end) => {
+            lines.push(Line::Refused(end, Refusal::NotReady))?;
+            Ok(())
+        }
+        Errand::Act(end, _, asked) => {
+            lines.extend_from_slice(told)?;
+            tell_asked(end, asked, told, lines)
+        }
+        _ => {
+            lines.extend_from_slice(told)?;
+            Ok(())
+        }
     }
 }

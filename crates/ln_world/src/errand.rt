@@ -7,8 +7,17 @@ use ln_desks::{Choice, End, Node};
 pub struct Asked {
     /// The HTLC or the event that its command is about.
     pub about: u64,
-    /// Of a decision the event's number, and what is done about it.
-    pub noted: Option<(u64, Choice)>,
+    /// Of a decision what a report tells of it, once it is taken.
+    pub noted: Option<Noted>,
+}
+
+/// A decision, by what a report tells of it: the event's number, and what is done about it.
+#[derive(Clone, Copy, PartialEq, Eq)]
+pub enum Noted {
+    /// The event was decided.
+    Decided(u64, Choice),
+    /// What was held by it was decided.
+    Resumed(u64, Choice),
 }
 
 /// What the books have to do behind a step.
@@ -25,6 +34,8 @@ pub enum Errand {
     Fall(End),
     /// An end halts; whether a command of its book was handed out, which stays there.
     Halt(End, bool),
+    /// The book has refused to decide what an end holds (40).
+    Refuse(End),
     /// A node restarts: its book begins anew.
     Restart(Node),
     /// The ends of the channel with this number get a connection.

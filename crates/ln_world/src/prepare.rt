@@ -1,13 +1,16 @@
 //! What the books of nodes do before a step: what is set is entered, and commands are handed out.
 
-ghost use Rattle.std.specs.Prelude.{◌≡◌, ◌≤◌, IsTrue, OnOk, IfOk, IfErr, Some, option_map};
+ghost use Rattle.std.specs.Prelude.{◌≡◌, ◌≤◌, OnOk, IfOk, IfErr, Some, None};
 ghost use Rattle.ln_msgs.specs.declared.refusals.refusal.Refusal.TheVariants as refusal;
 ghost use Rattle.ln_tables.specs.declared.entry.Entry.TheVariants as entry;
 ghost use Rattle.ln_world.specs.Node.{changed, with_policy};
 ghost use Rattle.ln_world.specs.Told.{told_count, next_id};
-ghost use Rattle.ln_world.specs.World.{World, entered, book_of, command_in, handed_out, with_decision, asked};
-ghost use Rattle.ln_world.specs.World.{command_of, call_of, unbegun, asked_unbegun, asks_by, acting, if_begun, end_at};
+ghost use Rattle.ln_world.specs.World.{entered, book_of, command_in, command_by, handed_or, handed_out};
+ghost use Rattle.ln_world.specs.World.{with_decision, resuming, resumed_at, resumes, refusing, asked};
+ghost use Rattle.ln_world.specs.World.{command_of, call_of, unbegun, asked_unbegun, asks_by, end_at};
 ghost use Rattle.ln_world.specs.World.{own_act, with_height, if_height, plain, prepared, errand_of};
+ghost use Rattle.ln_world.specs.World.{stops_behind, if_stopped};
+ghost use Rattle.ln_world.specs.declared.errand.Errand.TheVariants as errand;
 ghost use Rattle.ln_world.specs.declared.step.Step.TheVariants as step;
 
 use crate::call::end_at;
@@ -15,6 +18,7 @@ use crate::errand::{Asked, Errand};
 use crate::node::{NodeBook, index_of, place_for};
 use crate::step::{Act, Step};
 use crate::told::{about, next_id, noted_of, told_count};
+use ln_book::Book;
 use ln_channel::Command;
 use ln_channels::{Act as ChannelAct, channel_id_of};
 use ln_desks::{End, Node, Nodes, Step as DeskStep};
@@ -110,6 +114,50 @@ fn decide(
     book.take_commands(alloc, &ToyOnion, id)
 }
 
+// A book decides what is held by the number of this event, and hands out the first command for the end's channel;
+// nothing where it knows of nothing that is held so. 60 where there is no memory.
+fn resume_in(
+    alloc: Global,
+    book: &mut Book,
+    end: End,
+    number: u64,
+    verdict: Verdict,
+) -> Result<Option<Command>, Refusal>
+    ensures command { IfOk result (λ c. c ≡ command_by end (resuming end number verdict book.old)) }
+    ensures handed { OnOk result (book.new ≡ handed_or end (resuming end number verdict book.old) book.old) }
+    ensures fails_for_memory_alone { IfErr result (λ e. e ≡ refusal.Memory) }
+{
+    let id = channel_id_of(end.channel);
+    match book.resume(alloc, &ToyOnion, id, number, verdict) {
+        Ok(mark) => {
+            drop(mark);
+            book.take_commands(alloc, &ToyOnion, id)
+        }
+        Err(Refusal::NotReady) => Ok(None),
+        Err(refusal) => Err(refusal),
+    }
+}
+
+// The same of the book of an end's node, where anything was said of that. 60 where there is no memory.
+fn resume(
+    alloc: Global,
+    nodes: &mut Vec<NodeBook>,
+    end: End,
+    number: u64,
+    verdict: Verdict,
+) -> Result<Option<Command>, Refusal>
+    ensures command { IfOk result (λ c. c ≡ command_by end (resuming end number verdict
+        (book_of end nodes.old.items))) }
+    ensures handed { OnOk result (nodes.new.items ≡ handed_out end (resuming end number verdict
+        (book_of end nodes.old.items)) nodes.old.items) }
+    ensures fails_for_memory_alone { IfErr result (λ e. e ≡ refusal.Memory) }
+{
+    let Some(i) = index_of(nodes.as_slice(), end.node) else {
+        return Ok(None);
+    };
+    resume_in(alloc, &mut nodes[i].book, end, number, verdict)
+}
+
 // The command that the book hands out, for what an end is to do. 60 where there is no memory.
 fn ask<K: ChannelKeys + Copy>(
     alloc: Global,
@@ -134,6 +182,10 @@ fn ask<K: ChannelKeys + Copy>(
             None => Ok(None),
             Some((number, event, verdict)) => decide(alloc, nodes, end, number, event, verdict),
         },
+        Act::Resume(number, verdict) => match end_at(desks.channels(), end) {
+            None => Ok(None),
+            Some(_) => resume(alloc, nodes, end, *number, *verdict),
+        },
     }
 }
 
@@ -143,9 +195,11 @@ fn own_act<K: ChannelKeys + Copy>(desks: &Nodes<K>, end: End, what: Act) -> Opti
 {
     let act = match what {
         Act::Deliver => ChannelAct::Deliver,
-        Act::Send(Command::Decide { .. }) | Act::Send(Command::Forget(_)) => return None,
+        Act::Send(Command::Decide { .. })
+        | Act::Send(Command::Forget(_))
+        | Act::Send(Command::Resume { .. }) => return None,
         Act::Send(command) => ChannelAct::Send(command),
-        Act::Take | Act::Decide => return None,
+        Act::Take | Act::Decide | Act::Resume(..) => return None,
     };
     if desks.may_act(end, &act) {
         Some(act)
@@ -210,7 +264,44 @@ fn leave<K: ChannelKeys + Copy>(
                 mark: Mark::None,
             }))),
         },
+        Act::Resume(number, _) => match end_at(desks.channels(), end) {
+            None => Ok(None),
+            Some(_) => Ok(Some(resumes(number))),
+        },
         what => Ok(begin(alloc, desks, nodes, end, what)?.0),
+    }
+}
+
+// The number by which an act is to resume what is held, where the end is there.
+fn resumed_at<K: ChannelKeys + Copy>(desks: &Nodes<K>, end: End, what: &Act) -> Option<u64>
+    ensures { result ≡ resumed_at end what.now desks.now }
+{
+    match what {
+        Act::Resume(number, _) => match end_at(desks.channels(), end) {
+            None => None,
+            Some(_) => Some(*number),
+        },
+        Act::Deliver | Act::Send(_) | Act::Take | Act::Decide => None,
+    }
+}
+
+// What that is where it isn't begun: any mark serves.
+fn resumes(number: u64) -> ChannelAct
+    ensures { result ≡ resumes number }
+{
+    ChannelAct::Send(Command::Resume {
+        event: number,
+        mark: Mark::None,
+    })
+}
+
+// What the books have to do behind an act that isn't begun.
+fn refusing(end: End, resumed: Option<u64>) -> Errand
+    ensures { result ≡ refusing end resumed }
+{
+    match resumed {
+        None => Errand::None,
+        Some(_) => Errand::Refuse(end),
     }
 }
 
@@ -231,9 +322,10 @@ fn prepare_act<K: ChannelKeys + Copy>(
     ensures fails_for_memory_alone { IfErr result (λ e. e ≡ refusal.Memory) }
 {
     let before = told_count(end_at(desks.channels(), end))?;
+    let resumed = resumed_at(desks, end, &what);
     let (act, asked) = begin(alloc, desks, nodes, end, what)?;
     match act {
-        None => Ok((None, Errand::None)),
+        None => Ok((None, refusing(end, resumed))),
         Some(act) => Ok((
             Some(DeskStep::Do(end, act)),
             Errand::Act(end, before, asked),
@@ -292,6 +384,23 @@ fn prepare_stop_before<K: ChannelKeys + Copy>(
     }
 }
 
+// A node stops behind an act of its end that isn't begun: all the same where its book has refused that.
+fn stop_unbegun<K: ChannelKeys + Copy>(
+    end: End,
+    resumed: Option<u64>,
+) -> (Option<DeskStep<K>>, Errand)
+    ensures plain { result.0 ≡ stops_behind {k = K.ChannelKeys} end None resumed }
+    ensures errand { result.1 ≡ if_stopped None resumed (errand.Restart end.node) }
+{
+    match resumed {
+        None => (None, Errand::None),
+        Some(number) => (
+            Some(DeskStep::StopBefore(end, resumes(number))),
+            Errand::Restart(end.node),
+        ),
+    }
+}
+
 // A node stops behind an act of its end. 60 where there is no memory.
 fn prepare_stop_after<K: ChannelKeys + Copy>(
     alloc: Global,
@@ -308,8 +417,9 @@ fn prepare_stop_after<K: ChannelKeys + Copy>(
         (record { desks = desks.now; nodes = nodes.old.items })) }
     ensures fails_for_memory_alone { IfErr result (λ e. e ≡ refusal.Memory) }
 {
+    let resumed = resumed_at(desks, end, &what);
     match begin(alloc, desks, nodes, end, what)?.0 {
-        None => Ok((None, Errand::None)),
+        None => Ok(stop_unbegun(end, resumed)),
         Some(act) => Ok((
             Some(DeskStep::StopAfter(end, act)),
             Errand::Restart(end.node),

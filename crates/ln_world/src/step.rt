@@ -4,6 +4,7 @@ use ln_channel::Command;
 use ln_close::Fees;
 use ln_desks::{End, Node, Open};
 use ln_forward::Policy;
+use ln_hooks::Verdict;
 use ln_keys::ChannelKeys;
 use ln_log::Limits;
 use ln_tables::Invoice;
@@ -20,6 +21,9 @@ pub enum Act {
     /// Its first undecided event, where its dispatcher has served that, is decided by the node's book; then it is given
     /// the first command of the book, a decision before all others.
     Decide,
+    /// What it holds by the number of this event is decided by its node's book, by what is said of it now; then it is
+    /// given the first command of the book. Where the book knows of nothing that is held so, it is refused (40).
+    Resume(u64, Verdict),
 }
 
 /// What may happen in a world of nodes.

@@ -3,9 +3,11 @@
 ghost use Rattle.std.specs.Prelude.{◌≡◌, ◌++◌, ◌-◌, OnOk, IfOk, IfErr, option_copied};
 ghost use Rattle.ln_msgs.specs.declared.refusals.refusal.Refusal.TheVariants as refusal;
 ghost use Rattle.ln_desks.specs.World.{undecided};
-ghost use Rattle.ln_world.specs.Told.{about, answer_by, byte_at, choice_of, noted_of, decided_line, told_count};
+ghost use Rattle.ln_world.specs.Told.{about, answer_by, byte_at, choice_of, noted_of, noted_line, decided_line};
+ghost use Rattle.ln_world.specs.Told.{told_count};
 ghost use Rattle.ln_world.specs.Told.{next_id, with_event, with_events, with_held};
 
+use crate::errand::Noted;
 use ln_book::Book;
 use ln_channel::{Channel as ChannelEnd, Command};
 use ln_desks::{Choice, End, Line, undecided};
@@ -24,6 +26,7 @@ pub(crate) fn about(next: u64, command: &Command) -> u64
         Command::Malformed { id, .. } => *id,
         Command::Decide { event, .. } => *event,
         Command::Forget(id) => *id,
+        Command::Resume { event, .. } => *event,
         _ => 0,
     }
 }
@@ -59,31 +62,42 @@ fn choice_of(mark: &Mark) -> Choice
         }
         Mark::Malformed(code) => Choice::Malformed(*code),
         Mark::Fulfil(_) => Choice::Fulfil,
+        Mark::Held(_) => Choice::Held,
     }
 }
 
 /// What is told of a decision, if a command is one: the event's number, and what is done about it.
-pub(crate) fn noted_of(command: &Command) -> Option<(u64, Choice)>
+pub(crate) fn noted_of(command: &Command) -> Option<Noted>
     ensures { result ≡ noted_of command.now }
 {
     match command {
-        Command::Decide { event, mark } => Some((*event, choice_of(mark))),
+        Command::Decide { event, mark } => Some(Noted::Decided(*event, choice_of(mark))),
+        Command::Resume { event, mark } => Some(Noted::Resumed(*event, choice_of(mark))),
         _ => None,
+    }
+}
+
+fn noted_line(end: End, noted: Noted) -> Line
+    ensures { result ≡ noted_line end noted }
+{
+    match noted {
+        Noted::Decided(event, choice) => Line::Decided(end, event, choice),
+        Noted::Resumed(event, choice) => Line::Resumed(end, event, choice),
     }
 }
 
 /// Tells of a decision that an end has taken. 60 where there is no memory.
 pub(crate) fn tell_decided(
     end: End,
-    noted: Option<(u64, Choice)>,
+    noted: Option<Noted>,
     answer: Result<u64, u16>,
     lines: &mut Vec<Line>,
 ) -> Result<(), Refusal>
     ensures told { OnOk result (lines.new.items ≡ lines.old.items ++ decided_line end noted answer) }
     ensures fails_for_memory_alone { IfErr result (λ e. e ≡ refusal.Memory) }
 {
-    if let (Some((event, choice)), Ok(_)) = (noted, answer) {
-        lines.push(Line::Decided(end, event, choice))?;
+    if let (Some(noted), Ok(_)) = (noted, answer) {
+        lines.push(noted_line(end, noted))?;
     }
     Ok(())
 }

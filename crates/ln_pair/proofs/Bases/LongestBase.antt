@@ -378,6 +378,7 @@ module _ (a b : Signer) (keys : ArePartners a b) where
       given_by (shut_fault script p.x) _ p s (λ none. settled_settling (shuts_down script p.x) s)
   given (command.Decide event mark) p s h = record { x = s; other = refl }
   given (command.Forget id) p s h = record { x = s; other = refl }
+  given (command.Resume event mark) p s h = record { x = s; other = refl }
 
   commanded_by : (f : Option Refusal) (l : LineState) (c : Command) (p : Ends) → Settling p.x → Sound a b p
       → Stays p (answers (faulted f (faulted (line_fault l) (command_row a c p.x))) p)
@@ -551,3 +552,39 @@ both_longest a b s c funder fundee steps keys o =
     let k = all_stepped a b keys steps (opened funder fundee) (begun a b s c funder fundee o)
     (opened_holds a b s c funder fundee o) in
     (longest p.x k.x_named k.x, longest p.y k.y_named k.y)
+
+-- ---- what is known of each end otherwise
+
+-- its lists and counts, and that the undecided events tell of updates that are held, behind the base
+pub record Stands (e : End) : Type 0 where
+  pub within : log.IsWithin e.dance.log
+  pub own_ids : log.AreNumbered 0 e.dance.log.own
+  pub peer_ids : log.AreNumbered 0 e.dance.log.received
+  pub peer_removals : log.AreRemovals (take e.dance.log.current.own e.dance.log.own) [] e.dance.log.received
+  pub own_first : e.dance.log.first.own ≤ e.dance.log.current.own
+  pub peer_first : e.dance.log.first.peer ≤ e.dance.log.acknowledged.peer
+  pub held : NamedIn e e.ledger.undecided
+  pub there : All (IsAt e.dance.log.first) e.ledger.undecided
+
+stands : (e : End) → Named e → Settling e → Stands e
+stands e named s =
+    let k = s.paced.kept in
+    record {
+      within = k.within;
+      own_ids = k.own_ids;
+      peer_ids = k.peer_ids;
+      peer_removals = k.peer_removals;
+      own_first = named.own_first;
+      peer_first = named.peer_first;
+      held = named.held;
+      there = named.there;
+    }
+
+pub both_stand : (a b : Signer) (s : OpenSpec) (c : Config) (funder fundee : Opened) (steps : List Step)
+    → ArePartners a b → Opens a b s c funder fundee
+    → Stands (run a b steps (opened funder fundee)).x × Stands (run a b steps (opened funder fundee)).y
+both_stand a b s c funder fundee steps keys o =
+    let p = run a b steps (opened funder fundee) in
+    let k = all_stepped a b keys steps (opened funder fundee) (begun a b s c funder fundee o)
+    (opened_holds a b s c funder fundee o) in
+    (stands p.x k.x_named k.x, stands p.y k.y_named k.y)

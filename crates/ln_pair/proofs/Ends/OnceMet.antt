@@ -120,6 +120,7 @@ module _ (P : End → Type 0) (k : IsGiven P) where
       (k.by_turn n)
   row_so keys (command.Decide event mark) e w h = tt
   row_so keys (command.Forget id) e w h = tt
+  row_so keys (command.Resume event mark) e w h = tt
 
   faulted_so : (f : Option Refusal) (r : Result Turn Refusal) → IsGiving r → IsGiving (faulted f r)
   faulted_so None r h = h

@@ -424,6 +424,7 @@ module _ (a b : Signer) (keys : ArePartners a b) where
       (shuts a b keys h.channel p.y_line p.x p.y p.said_x p.said_y script h.to_x h.to_y none (hold_met p h met))) h
   given (command.Decide event mark) p met h = h
   given (command.Forget id) p met h = h
+  given (command.Resume event mark) p met h = h
 
   commanded_by : (f : Option Refusal) (l : LineState) (c : Command) (p : Ends) → p.x_line ≡ l → Sound a b p
       → Sound a b (answers (faulted f (faulted (line_fault l) (command_row a c p.x))) p)

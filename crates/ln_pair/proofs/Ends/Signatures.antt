@@ -445,6 +445,7 @@ module _ (a b : Signer) where
         (λ none. completed_none (SignsCovered a b (completed a t).end p.y) a t (tt, tt) tt)
     given (command.Decide event mark) p is h = tt
     given (command.Forget id) p is h = tt
+    given (command.Resume event mark) p is h = tt
 
     commanded_by : (f : Option Refusal) (l : LineState) (c : Command) (p : Ends) → p.x_line ≡ l → Sound a b p
         → SignsBehind (faulted f (faulted (line_fault l) (command_row a c p.x))) p

@@ -15,6 +15,7 @@ use Rattle.ln_log.specs.declared.mark.Settlement.{Settlement}
 use Rattle.ln_channel.specs.declared.command.Command.{Command}
 use Rattle.ln_channel.specs.declared.command.Command.TheVariants as command
 use Rattle.ln_channel.specs.Ledger.{Ledger, most_decided, first_htlc, marked, decided_first, is_not_of, next_event}
+use Rattle.ln_channel.specs.Ledger.{is_of_event, is_held_at, with_mark, may_resume}
 use Rattle.ln_channel.specs.Commands.{ledgered}
 use Rattle.ln_channel.specs.End.{End}
 use Rattle.ln_pair.specs.Ends.{ledger_behind}
@@ -68,13 +69,38 @@ marked_behind (mark.Malformed code) None l some = tt
 marked_behind (mark.Malformed code) (Some id) l some = one_kept l _ some
 marked_behind (mark.Fulfil preimage) None l some = tt
 marked_behind (mark.Fulfil preimage) (Some id) l some = one_kept l _ some
+marked_behind (mark.Held event) None l some = tt
+marked_behind (mark.Held event) (Some id) l some = one_kept l _ some
 
-decide_behind : (t u v : Bool) (m : Mark) (htlc : Option ℕ) (l : Ledger) → nat_lt 0 (length l.undecided) ≡ v
-    → IfBehind l (cond (t && (u && v)) (decided_first (marked m htlc l)) (Err refusal.NotReady))
-decide_behind true true true m htlc l e = marked_behind m htlc l (ltb-true 0 (length l.undecided) e)
-decide_behind true true false m htlc l e = tt
-decide_behind true false v m htlc l e = tt
-decide_behind false u v m htlc l e = tt
+decide_behind : (t u v w : Bool) (m : Mark) (htlc : Option ℕ) (l : Ledger) → nat_lt 0 (length l.undecided) ≡ v
+    → IfBehind l (cond ((t && (u && v)) && w) (decided_first (marked m htlc l)) (Err refusal.NotReady))
+decide_behind true true true true m htlc l e = marked_behind m htlc l (ltb-true 0 (length l.undecided) e)
+decide_behind true true true false m htlc l e = tt
+decide_behind true true false w m htlc l e = tt
+decide_behind true false v w m htlc l e = tt
+decide_behind false u v w m htlc l e = tt
+
+-- a decision is replaced in its place
+as_many : (event : ℕ) (m : Mark) (ds : List Decision) → length (with_mark event m ds) ≡ length ds
+as_many event m [] = refl
+as_many event m (d ∷ ds) = by (is_held_at event d) (as_many event m ds)
+  where
+    by : (b : Bool) → length (with_mark event m ds) ≡ length ds
+        → length (cond b (record { id = d.id; mark = m } ∷ ds) (d ∷ with_mark event m ds)) ≡ suc (length ds)
+    by true more = refl
+    by false more = ap suc more
+
+resume_behind : (b : Bool) (event : ℕ) (m : Mark) (l : Ledger)
+    → IfBehind l (cond b (Ok (record l { decisions = with_mark event m l.decisions })) (Err refusal.NotReady))
+resume_behind true event m l = let many = as_many event m l.decisions in record {
+  gone = 0;
+  within = omega arith;
+  undecided = refl;
+  decided = omega arith;
+  decisions = omega (arith, many);
+  results = omega arith;
+}
+resume_behind false event m l = tt
 
 no_more : (f : Settlement → Bool) (ss : List Settlement) → length (filter f ss) ≤ length ss
 no_more f [] = omega arith
@@ -107,7 +133,11 @@ noted (command.Decide event m) e =
     let l = e.ledger in
     let htlc = first_htlc e.dance.log l.undecided in
     ledger_so l (ledgered (command.Decide event m) e)
-    (decide_behind (event == l.decided) (nat_lt event most_decided) (nat_lt 0 (length l.undecided)) m htlc l refl)
+    (decide_behind (event == l.decided) (nat_lt event most_decided) (nat_lt 0 (length l.undecided))
+    (is_of_event event m) m htlc l refl)
+noted (command.Resume event m) e =
+    ledger_so e.ledger (ledgered (command.Resume event m) e)
+    (resume_behind (may_resume event m e.ledger) event m e.ledger)
 noted (command.Forget id) e =
     let rs = e.ledger.results in
     all_left e.ledger (filter (is_not_of id) rs) (no_more (is_not_of id) rs)
@@ -135,17 +165,25 @@ marked_not (mark.Malformed code) None l = refl
 marked_not (mark.Malformed code) (Some id) l = tt
 marked_not (mark.Fulfil preimage) None l = refl
 marked_not (mark.Fulfil preimage) (Some id) l = tt
+marked_not (mark.Held event) None l = refl
+marked_not (mark.Held event) (Some id) l = tt
 
 decide_not : (b : Bool) (m : Mark) (htlc : Option ℕ) (l : Ledger)
     → IsNotReady (cond b (decided_first (marked m htlc l)) (Err refusal.NotReady))
 decide_not true m htlc l = marked_not m htlc l
 decide_not false m htlc l = refl
 
+resume_not : (b : Bool) (event : ℕ) (m : Mark) (l : Ledger)
+    → IsNotReady (cond b (Ok (record l { decisions = with_mark event m l.decisions })) (Err refusal.NotReady))
+resume_not true event m l = tt
+resume_not false event m l = refl
+
 pub not_ready : (c : Command) (e : End) → IsNotReady (ledgered c e)
 not_ready (command.Decide event m) e =
     let l = e.ledger in
-    decide_not ((event == l.decided) && (nat_lt event most_decided && nat_lt 0 (length l.undecided))) m
-    (first_htlc e.dance.log l.undecided) l
+    decide_not (((event == l.decided) && (nat_lt event most_decided && nat_lt 0 (length l.undecided)))
+    && is_of_event event m) m (first_htlc e.dance.log l.undecided) l
+not_ready (command.Resume event m) e = resume_not (may_resume event m e.ledger) event m e.ledger
 not_ready (command.Forget id) e = tt
 not_ready (command.Confirm id) e = refl
 not_ready (command.Add amount hash expiry onion origin) e = refl

@@ -433,6 +433,7 @@ asked_none q r command.Sign e m = refl
 asked_none q r (command.Shutdown script) e m = refl
 asked_none q r (command.Decide event mark) e m = refl
 asked_none q r (command.Forget id) e m = refl
+asked_none q r (command.Resume event mark) e m = refl
 
 module _ (a b : Signer) (keys : ArePartners a b) (r : Role) (o : Opening) where
   rests : (p q : Ends) → q.x ≡ p.x → TellsEvents r o p.x q.x (party p.y) [] []
@@ -532,6 +533,7 @@ module _ (a b : Signer) (keys : ArePartners a b) (r : Role) (o : Opening) where
       (λ w. keep_settled r o (party p.y) p.x (shuts_down script p.x) (keep_same p.x))
   given (command.Decide event mark) p = rests p p refl
   given (command.Forget id) p = rests p p refl
+  given (command.Resume event mark) p = rests p p refl
 
   commanded_by : (f : Option Refusal) (l : LineState) (c : Command) (p : Ends)
       → TellsEvents r o p.x (answers (faulted f (faulted (line_fault l) (command_row a c p.x))) p).x (party p.y)

@@ -160,6 +160,7 @@ aside_command k command.Sign e h = aside_unless _ _ e (record { deal = refl; non
 aside_command k (command.Shutdown script) e h = absurd (let no : true ≡ false = h in cc)
 aside_command k (command.Decide event mark) e h = tt
 aside_command k (command.Forget id) e h = tt
+aside_command k (command.Resume event mark) e h = tt
 
 -- ---- the fees of an end stay
 
@@ -279,6 +280,7 @@ command_fees k (command.Fee feerate) e true h = absurd (cc)
 command_fees k command.Sign e true h = absurd (cc)
 command_fees k (command.Decide event mark) e true h = tt
 command_fees k (command.Forget id) e true h = tt
+command_fees k (command.Resume event mark) e true h = tt
 
 faulted_fees : (f : Option Refusal) (r : Result Turn Refusal) (e : End) → KeepsFees e r → KeepsFees e (faulted f r)
 faulted_fees None r e h = h

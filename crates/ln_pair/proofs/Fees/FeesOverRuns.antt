@@ -343,6 +343,7 @@ command_by k (command.Fee feerate) true p is h = absurd (cc)
 command_by k command.Sign true p is h = absurd (cc)
 command_by k (command.Decide event mark) true p is h = absurd (cc)
 command_by k (command.Forget id) true p is h = absurd (cc)
+command_by k (command.Resume event mark) true p is h = absurd (cc)
 
 faulted_at : (f : Option Refusal) (r : Result Turn Refusal) (p : Ends) → At (answers r p) → At p
     → At (answers (faulted f r) p)

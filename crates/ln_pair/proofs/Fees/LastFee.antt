@@ -444,6 +444,7 @@ command_by k (command.Fee feerate) true p is h i = absurd (cc)
 command_by k command.Sign true p is h i = absurd (cc)
 command_by k (command.Decide event mark) true p is h i = absurd (cc)
 command_by k (command.Forget id) true p is h i = absurd (cc)
+command_by k (command.Resume event mark) true p is h i = absurd (cc)
 
 given_by : (f : Option Refusal) (l : LineState) (k : Signer) (c : Command) (p : Ends) → p.x_line ≡ l → IsHeard p
     → IsHeard (answers (faulted f (faulted (line_fault l) (command_row k c p.x))) p)

@@ -408,6 +408,10 @@ module _ (r : Role) (e : End) (m : Machine) (is : IsMachine r e m) (w : log.IsWi
     (λ x. absurd (never (cond (is_ready e) None (Some refusal.NotReady)) (line_fault l) refusal.NotReady x)),
     (λ d. absurd d.ready),
   )
+  does keys (command.Resume event mark) = (
+    (λ x. absurd (never (cond (is_ready e) None (Some refusal.NotReady)) (line_fault l) refusal.NotReady x)),
+    (λ d. absurd d.ready),
+  )
 
 -- ---- the two ends are the machine's parties
 

@@ -234,6 +234,7 @@ module _ (a b : Signer) (keys : ArePartners a b) (r : Role) (o : Opening) where
       })
   given (command.Decide event mark) p s h = rests p p refl refl s
   given (command.Forget id) p s h = rests p p refl refl s
+  given (command.Resume event mark) p s h = rests p p refl refl s
 
   commanded_by : (f : Option Refusal) (l : LineState) (c : Command) (p : Ends) → Stands r o p.x → Sound a b p
       → Moved r o (moves_of_command r c p.x (faulted f (faulted (line_fault l) (command_row a c p.x)))) p

@@ -128,6 +128,7 @@ module _ (a b : Signer) (keys : ArePartners a b) where
       given_by (shut_fault script p.x) _ p s (settled_steady (shuts_down script p.x) s)
   given (command.Decide event mark) p s = record { x = s; y = refl }
   given (command.Forget id) p s = record { x = s; y = refl }
+  given (command.Resume event mark) p s = record { x = s; y = refl }
 
   commanded_by : (f : Option Refusal) (l : LineState) (c : Command) (p : Ends) → Steady p.x
       → Stays p (answers (faulted f (faulted (line_fault l) (command_row a c p.x))) p)

@@ -57,6 +57,7 @@ Does (mark.Forward channel amount expiry) = IsForward channel amount expiry
 Does (mark.Fail reason) = length reason < 2 ^ 64
 Does (mark.Malformed failure_code) = failure_code < 2 ^ 16
 Does (mark.Fulfil preimage) = length preimage ≡ 32
+Does (mark.Held event) = event < 2 ^ 64
 
 pub record IsDecision (d : Decision) : Type 0 where
   pub id : d.id < 2 ^ 64

@@ -1,7 +1,11 @@
 -- What a decision makes of what goes into an end's record: it stays as wide as in code, where the mark is.
 use Rattle.std.proofs.Common.{ℕ, zero, suc, ◌<◌, ◌^◌, List, [], ◌∷◌, length, Bool, true, false, cond, ◌&&◌}
 use Rattle.std.proofs.Common.{◌==◌, nat_lt, Option, Some, None, Result, Ok, Err}
-use Rattle.std.specs.List.{slice_get}
+use Rattle.std.proofs.Common.{◌≡◌, refl, arith}
+use Rattle.std.proofs.lemmas.Bool.{eqb-true, ltb-true}
+use Rattle.std.specs.List.{slice_get, list_any}
+use Rattle.ln_log.specs.declared.mark.Decision.{Decision}
+use Rattle.ln_channel.specs.Ledger.{is_of_event, is_held_at, with_mark, is_answer}
 use Rattle.ln_msgs.specs.declared.refusals.refusal.Refusal.{Refusal}
 use Rattle.ln_msgs.specs.declared.refusals.refusal.Refusal.TheVariants as refusal
 use Rattle.ln_log.specs.declared.mark.EventRef.{EventRef}
@@ -19,7 +23,7 @@ use Rattle.ln_channel.specs.End.{End}
 use Rattle.ln_pair.specs.Ends.{ledger_behind}
 use Rattle.ln_pair.specs.Widths.{IsUpdate, IsMark, IsCommand}
 use Rattle.ln_pair.proofs.All.{All, all-append, all-filter}
-use Rattle.ln_pair.proofs.Records.RecordFits.{Where, IsDecision, IsSettlement}
+use Rattle.ln_pair.proofs.Records.RecordFits.{Where, Does, IsDecision, IsSettlement}
 use Rattle.ln_pair.proofs.Records.RecordContents.{Origin, Fits}
 
 -- ---- the HTLC that the first undecided event tells of
@@ -60,34 +64,91 @@ abbrev IfWide : Result Ledger Refusal → Type 0
 IfWide (Ok l) = IsWideLedger l
 IfWide (Err r) = Unit {0}
 
-marked_wide : (m : Mark) (htlc : Option ℕ) (l : Ledger) → IsMark m → Where IsId htlc → IsWideLedger l
+-- what a mark does is as wide as it is, where an HTLC is held by a number that is
+abbrev Held : Mark → Type 0
+Held (mark.Held event) = event < 2 ^ 64
+Held m = Unit {0}
+
+marked_wide : (m : Mark) (htlc : Option ℕ) (l : Ledger) → IsMark m → Held m → Where IsId htlc → IsWideLedger l
     → IfWide (decided_first (marked m htlc l))
-marked_wide mark.None htlc l wide small h = record { decisions = h.decisions; results = h.results }
-marked_wide (mark.Forward channel amount expiry) None l wide small h = tt
-marked_wide (mark.Forward channel amount expiry) (Some id) l wide small h = record {
+marked_wide mark.None htlc l wide held small h = record { decisions = h.decisions; results = h.results }
+marked_wide (mark.Forward channel amount expiry) None l wide held small h = tt
+marked_wide (mark.Forward channel amount expiry) (Some id) l wide held small h = record {
   decisions = all-append IsDecision l.decisions _ h.decisions (record { id = small; mark = wide }, tt);
   results = h.results;
 }
-marked_wide (mark.Fail reason) None l wide small h = tt
-marked_wide (mark.Fail reason) (Some id) l wide small h = record {
+marked_wide (mark.Fail reason) None l wide held small h = tt
+marked_wide (mark.Fail reason) (Some id) l wide held small h = record {
   decisions = all-append IsDecision l.decisions _ h.decisions (record { id = small; mark = wide }, tt);
   results = h.results;
 }
-marked_wide (mark.Malformed code) None l wide small h = tt
-marked_wide (mark.Malformed code) (Some id) l wide small h = record {
+marked_wide (mark.Malformed code) None l wide held small h = tt
+marked_wide (mark.Malformed code) (Some id) l wide held small h = record {
   decisions = all-append IsDecision l.decisions _ h.decisions (record { id = small; mark = wide }, tt);
   results = h.results;
 }
-marked_wide (mark.Fulfil preimage) None l wide small h = tt
-marked_wide (mark.Fulfil preimage) (Some id) l wide small h = record {
+marked_wide (mark.Fulfil preimage) None l wide held small h = tt
+marked_wide (mark.Fulfil preimage) (Some id) l wide held small h = record {
   decisions = all-append IsDecision l.decisions _ h.decisions (record { id = small; mark = wide }, tt);
+  results = h.results;
+}
+marked_wide (mark.Held event) None l wide held small h = tt
+marked_wide (mark.Held event) (Some id) l wide held small h = record {
+  decisions = all-append IsDecision l.decisions _ h.decisions (record { id = small; mark = held }, tt);
   results = h.results;
 }
 
-decide_wide : (b : Bool) (m : Mark) (htlc : Option ℕ) (l : Ledger) → IsMark m → Where IsId htlc → IsWideLedger l
-    → IfWide (cond b (decided_first (marked m htlc l)) (Err refusal.NotReady))
-decide_wide true m htlc l wide small h = marked_wide m htlc l wide small h
-decide_wide false m htlc l wide small h = tt
+-- the number of an event that is in its turn
+held_so : (t u v : Bool) (event : ℕ) (m : Mark) → nat_lt event most_decided ≡ u
+    → ((t && (u && v)) && is_of_event event m) ≡ true → Held m
+held_so true true true event mark.None e h = tt
+held_so true true true event (mark.Forward channel amount expiry) e h = tt
+held_so true true true event (mark.Fail reason) e h = tt
+held_so true true true event (mark.Malformed code) e h = tt
+held_so true true true event (mark.Fulfil preimage) e h = tt
+held_so true true true event (mark.Held n) e h =
+    let same : event ≡ n = eqb-true event n h in
+    let below = ltb-true event most_decided e in
+    omega (arith, same, below)
+held_so true true false event m e h = absurd cc
+held_so true false v event m e h = absurd cc
+held_so false u v event m e h = absurd cc
+
+decide_wide : (b : Bool) (m : Mark) (htlc : Option ℕ) (l : Ledger) → IsMark m → (b ≡ true → Held m) → Where IsId htlc
+    → IsWideLedger l → IfWide (cond b (decided_first (marked m htlc l)) (Err refusal.NotReady))
+decide_wide true m htlc l wide held small h = marked_wide m htlc l wide (held refl) small h
+decide_wide false m htlc l wide held small h = tt
+
+-- ---- a decision in the place of that an HTLC is held
+
+-- an answer is as wide as its mark
+answer_wide : (m : Mark) → is_answer m ≡ true → IsMark m → Does m
+answer_wide mark.None is wide = absurd cc
+answer_wide (mark.Forward channel amount expiry) is wide = wide
+answer_wide (mark.Fail reason) is wide = wide
+answer_wide (mark.Malformed code) is wide = wide
+answer_wide (mark.Fulfil preimage) is wide = wide
+answer_wide (mark.Held event) is wide = absurd cc
+
+with_mark_wide : (event : ℕ) (m : Mark) (ds : List Decision) → Does m → All IsDecision ds
+    → All IsDecision (with_mark event m ds)
+with_mark_wide event m [] does h = tt
+with_mark_wide event m (d ∷ ds) does h = by (is_held_at event d) (with_mark_wide event m ds does h.1)
+  where
+    by : (b : Bool) → All IsDecision (with_mark event m ds)
+        → All IsDecision (cond b (record { id = d.id; mark = m } ∷ ds) (d ∷ with_mark event m ds))
+    by true x = (record { id = h.0.id; mark = does }, h.1)
+    by false x = (h.0, x)
+
+resume_wide : (answer any : Bool) (event : ℕ) (m : Mark) (l : Ledger) → is_answer m ≡ answer → IsMark m
+    → IsWideLedger l
+    → IfWide (cond (answer && any) (Ok (record l { decisions = with_mark event m l.decisions })) (Err refusal.NotReady))
+resume_wide true true event m l e wide h = record {
+  decisions = with_mark_wide event m l.decisions (answer_wide m e wide) h.decisions;
+  results = h.results;
+}
+resume_wide true false event m l e wide h = tt
+resume_wide false any event m l e wide h = tt
 
 behind_wide : (row : Result Ledger Refusal) (l : Ledger) → IfWide row → IsWideLedger l
     → IsWideLedger (ledger_behind row l)
@@ -100,8 +161,14 @@ ledger_wide (command.Decide event m) e wide received h =
     let l = e.ledger in
     let htlc = first_htlc e.dance.log l.undecided in
     behind_wide (ledgered (command.Decide event m) e) l
-    (decide_wide ((event == l.decided) && (nat_lt event most_decided && nat_lt 0 (length l.undecided))) m htlc l wide
+    (decide_wide (((event == l.decided) && (nat_lt event most_decided && nat_lt 0 (length l.undecided)))
+    && is_of_event event m) m htlc l wide
+    (held_so (event == l.decided) (nat_lt event most_decided) (nat_lt 0 (length l.undecided)) event m refl)
     (htlc_wide e.dance.log l.undecided received) h) h
+ledger_wide (command.Resume event m) e wide received h =
+    let l = e.ledger in
+    behind_wide (ledgered (command.Resume event m) e) l
+    (resume_wide (is_answer m) (list_any (is_held_at event) l.decisions) event m l refl wide h) h
 ledger_wide (command.Forget id) e wide received h = record {
   decisions = h.decisions;
   results = all-filter IsSettlement (is_not_of id) e.ledger.results h.results;

@@ -446,6 +446,7 @@ module _ (k : Signer) (o : Origin) where
   command_fits (command.Shutdown script) e wide h = shuts_fits script e h
   command_fits (command.Decide event mark) e wide h = tt
   command_fits (command.Forget id) e wide h = tt
+  command_fits (command.Resume event mark) e wide h = tt
 
   -- ---- by the connection
 

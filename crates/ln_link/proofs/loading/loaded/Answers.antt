@@ -1,13 +1,12 @@
-use Rattle.std.proofs.Common.{◌≡◌, ◌⊎◌, ◌∙◌, refl, sym, ap, subst, ℕ, ◌==◌, Bool, true, false, not, Result, Ok, Err}
+use Rattle.std.proofs.Common.{◌≡◌, ◌⊎◌, ◌∙◌, refl, sym, ap, subst, Bool, true, false, not, Result, Ok, Err}
 use Rattle.std.proofs.Common.{if◌then◌else◌}
-use Rattle.std.proofs.lemmas.Bool.{eqb-true}
 use Rattle.std.proofs.lemmas.Result.{err_from_is_err_and}
 use Rattle.ln_msgs.specs.declared.refusals.refusal.Refusal.{Refusal}
 use Rattle.ln_msgs.specs.declared.refusals.refusal.Refusal.TheVariants as refusal
 use Rattle.ln_channel.specs.End.{End}
 use Rattle.ln_channel.specs.Record.{came_back}
 use Rattle.ln_store.specs.declared.record.Items.{Items}
-use Rattle.ln_store.specs.Record.{is_sealed, version_of}
+use Rattle.ln_store.specs.Record.{is_sealed, version_of, is_known_version}
 use Rattle.ln_link.specs.Loading.{IsLoadable, Loads}
 use Rattle.ln_link.proofs.loading.loaded.Goals as goal
 
@@ -47,15 +46,15 @@ versioned : (b : Bool) (row : Result Items Refusal) (i : Items) → (if not b th
 versioned true row i e = refl
 versioned false row i e = absurd (cc)
 
--- what reads as items has its digest, and is of this version
-whole : (sealed : Bool) (version : ℕ) (row : Result Items Refusal) (i : Items)
-    → (if not sealed then Err refusal.Damaged else (if not (version == 1) then Err refusal.Version else row)) ≡ Ok i
-    → (sealed ≡ true) × (version ≡ 1)
-whole true version row i e = (refl, eqb-true version 1 (versioned (version == 1) row i e))
-whole false version row i e = absurd (cc)
+-- what reads as items has its digest, and is of a known version
+whole : (sealed known : Bool) (row : Result Items Refusal) (i : Items)
+    → (if not sealed then Err refusal.Damaged else (if not known then Err refusal.Version else row)) ≡ Ok i
+    → (sealed ≡ true) × (known ≡ true)
+whole true known row i e = (refl, versioned known row i e)
+whole false known row i e = absurd (cc)
 
 pub returns-in_err-channel-clause-takes_memory_for_the_body :
     goal.returns-in_err-channel-clause-takes_memory_for_the_body
 returns-in_err-channel-clause-takes_memory_for_the_body g c = λ lacks.
-    whole (is_sealed c.args.bytes.now) (version_of c.args.bytes.now) _ c.in_ok-record.record
+    whole (is_sealed c.args.bytes.now) (is_known_version (version_of c.args.bytes.now)) _ c.in_ok-record.record
     c.in_ok-record.ensures.reads_as_defined

@@ -10,7 +10,7 @@ unfolding unsealed
 returns-clause-appends_it c =
     let body = c.args.body.now in
     let len = big_bytes 8 (length body) in
-    let version = big_bytes 2 1 in
+    let version = big_bytes 2 2 in
     let end = c.put-2.new.out.items in
     on_ok_weaker c.put-2.result (λ e.
     follows c.args.out.now.items c.put.new.out.items end magic (version ++ (len ++ body))

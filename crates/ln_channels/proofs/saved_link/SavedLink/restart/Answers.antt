@@ -1,4 +1,4 @@
-use Rattle.std.proofs.Common.{◌≡◌, ◌∙◌, refl, sym, ap, subst, IfOk, IfErr}
+use Rattle.std.proofs.Common.{◌≡◌, ◌∙◌, refl, sym, ap, subst, IfOk, IfErr, inl}
 use Rattle.std.proofs.lemmas.Result.{err_from_is_err_and}
 use Rattle.ln_msgs.specs.declared.refusals.refusal.Refusal.TheVariants as refusal
 use Rattle.ln_channel.specs.Record.{saved_end}
@@ -23,7 +23,7 @@ returns-in_err-link-in-Some-clause-fails_for_memory_alone g c =
     c.from_record.result
     (sym c.in-Some.is ∙ c.in_ok-record.ensures.record
     ∙ ap link_record (sym (c.self.view_is ∙ c.in_ok-record.ensures.changes_nothing)))
-    c.self.invariant (λ i r e. c.from_record.ensures.loads_each_record i r (c.as_slice.ensures ∙ e)) in
+    c.self.invariant (λ i r e. c.from_record.ensures.loads_each_record i r (inl (c.as_slice.ensures ∙ e))) in
     let p = err_from_is_err_and c.from_residual-in_err-link-in-Some.result
     c.from_residual-in_err-link-in-Some.ensures.1 in
     rw (p.1, p.2) (subst (λ r. IfErr r (λ e. e ≡ refusal.Memory)) c.in_err-link-in-Some.was x.memory)
@@ -35,7 +35,7 @@ take_past_of-requires g c =
     c.from_record.result
     (sym c.in-Some.is ∙ c.in_ok-record.ensures.record
     ∙ ap link_record (sym (c.self.view_is ∙ c.in_ok-record.ensures.changes_nothing)))
-    c.self.invariant (λ i r e. c.from_record.ensures.loads_each_record i r (c.as_slice.ensures ∙ e)) in
+    c.self.invariant (λ i r e. c.from_record.ensures.loads_each_record i r (inl (c.as_slice.ensures ∙ e))) in
     (subst (λ r. IfOk r (λ (n : State _). ComesBackOf n c.self.inside.link × (n.keys ≡ c.args.keys)))
     c.in_ok-link-in-Some.was x.loaded).0
 
@@ -52,7 +52,7 @@ returns-in_ok-link-in-Some-clause-back g c =
     c.from_record.result
     (sym c.in-Some.is ∙ c.in_ok-record.ensures.record
     ∙ ap link_record (sym (c.self.view_is ∙ c.in_ok-record.ensures.changes_nothing)))
-    c.self.invariant (λ i r e. c.from_record.ensures.loads_each_record i r (c.as_slice.ensures ∙ e)) in
+    c.self.invariant (λ i r e. c.from_record.ensures.loads_each_record i r (inl (c.as_slice.ensures ∙ e))) in
     let keys = (subst (λ r. IfOk r (λ (n : State _). ComesBackOf n c.self.inside.link × (n.keys ≡ c.args.keys)))
     c.in_ok-link-in-Some.was x.loaded).1 in
     c.put.ensures
