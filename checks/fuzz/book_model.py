@@ -4,11 +4,13 @@ crates/ln_book_calls has to print for a line.
 
 A channel is any name. A mark, a command, a way and an outcome are tuples that begin with their kind:
 
-- marks: none; forward, the channel, amount, expiry; fail, the reason; malformed, the code; fulfil, the preimage
-- commands: decide, the event, the mark; add, the amount, payment hash, expiry, onion, origin; fulfil, the id, the
-  preimage; fail, the id, the reason; malformed, the id, the hash, the code; forget, the own id
+- marks: none; forward, the channel, amount, expiry; fail, the reason; malformed, the code; fulfil, the preimage; held,
+  the event
+- commands: decide and resume, the event, the mark; add, the amount, payment hash, expiry, onion, origin; fulfil, the
+  id, the preimage; fail, the id, the reason; malformed, the id, the hash, the code; forget, the own id
 - ways of the outgoing HTLC: nowhere; refused; offered, the channel, the own id; over, these and the outcome
-- outcomes: fulfilled, the preimage; failed, the reason; malformed, the hash, the code"""
+- outcomes: fulfilled, the preimage; failed, the reason; malformed, the hash, the code
+- verdicts of hooks: the code of a failure, HOLD, or anything else to go on"""
 from collections import namedtuple
 from hashlib import sha256
 
@@ -92,6 +94,8 @@ def failure(code, amount=0, expiry=0, height=0, typ=0):
 
 
 CODES = (0x1007, 0x400A, 0x100B, 0x100C, 0x100D, 0x100E, 0x400F, 0x12, 0x13, 0x15, 0x4016)
+HOLD = "hold"
+HOLDS = 5  # what stands for it in a line
 
 
 class Htlc:
@@ -104,8 +108,12 @@ class Htlc:
     def key(self):
         return self.channel, self.id
 
+    def is_held(self):
+        return self.mark[0] == "held"
+
     def is_finished(self):
-        return self.back == "settled" and self.way[0] in ("nowhere", "refused")
+        """Nothing is left to be done: it isn't held either, as it may be resumed."""
+        return self.back == "settled" and self.way[0] in ("nowhere", "refused") and not self.is_held()
 
 
 # what a book reads off a channel's record: the own adds that forward others and what became of such adds, each as the
@@ -128,11 +136,13 @@ class Book:
 
     # ---- what is done about an event
 
-    def mark(self, offer, verdict):
-        """By the hooks' verdict, a code or anything else for none; then by the onion."""
+    def mark(self, event, offer, verdict):
+        """By the hooks' verdict, else by the onion. What is held waits by the number of its event."""
         if offer is None:
             return ("none",)
         hop, height = offer["hop"], self.height
+        if verdict == HOLD:
+            return "held", event
         if verdict in CODES:
             return "fail", failure(verdict, offer["amount"], offer["expiry"], height)
         if hop.fault in FAULTS:
@@ -180,12 +190,38 @@ class Book:
 
     def decide(self, channel, event, offer, verdict):
         """What is done about an event of a channel, which is queued as a command; an offer where it is a peer's add."""
-        mark = self.mark(offer, verdict)
-        self.queue = [q for q in self.queue if q[:2] != (channel, event)] + [(channel, event, mark)]
+        mark = self.mark(event, offer, verdict)
+        self.unqueue(channel, "decide", event)
+        self.queue.append((channel, "decide", event, mark))
         if offer is not None:
             made = Htlc(channel, event, offer, mark)
             if not any(h.decided and h.key() == made.key() for h in self.htlcs):
                 self.htlcs = [h for h in self.htlcs if h.key() != made.key()] + [made]
+        return mark
+
+    def queued(self, channel, what, event):
+        """How a channel is to decide or resume its event; None where nothing of the kind is queued."""
+        return next((mark for *about, mark in self.queue if about == [channel, what, event]), None)
+
+    def unqueue(self, channel, what, event):
+        self.queue = [q for q in self.queue if q[:3] != (channel, what, event)]
+
+    def held(self):
+        """The HTLCs that are held and aren't being resumed, in order of deciding."""
+        return [h for h in self.htlcs if h.decided and h.is_held() and not self.queued(h.channel, "resume", h.mark[1])]
+
+    def held_by(self, channel, event):
+        """The one that a channel holds by this event."""
+        return next((h for h in self.held() if (h.channel, h.mark[1]) == (channel, event)), None)
+
+    def resume(self, channel, event, verdict):
+        """What a channel holds by this event is decided by the verdict and by what is set now, which is queued as a
+        command. None where nothing is held so, or where it is to be held again."""
+        h = self.held_by(channel, event)
+        if h is None or verdict == HOLD:
+            return None
+        mark = self.mark(event, h.offer, verdict)
+        self.queue.append((channel, "resume", event, mark))
         return mark
 
     # ---- commands
@@ -219,9 +255,9 @@ class Book:
         """The first command that a channel can take, with what it does and to which HTLC or event; None without one."""
         if channel in self.out:
             return None
-        for at, event, mark in self.queue:
+        for at, what, event, mark in self.queue:
             if at == channel:
-                return "decide", event, ("decide", event, mark)
+                return what, event, (what, event, mark)
         return next(filter(None, (self.due(h, channel) for h in self.htlcs)), None)
 
     def take(self, channel):
@@ -240,9 +276,14 @@ class Book:
 
     def taken(self, channel, what, about, own_id):
         if what == "decide":
-            self.queue = [q for q in self.queue if q[:2] != (channel, about)]
+            self.unqueue(channel, what, about)
             for h in [h for h in self.htlcs if (h.channel, h.event) == (channel, about)][:1]:
                 h.decided = True
+        elif what == "resume":
+            mark = self.queued(channel, what, about)
+            self.unqueue(channel, what, about)
+            self.held_by(channel, about).mark = mark
+            self.htlcs = [h for h in self.htlcs if not h.is_finished()]
         elif what == "add":
             for h in self.named(about):
                 h.way = "offered", channel, own_id
@@ -254,8 +295,10 @@ class Book:
 
     def refused(self, channel, what, about, number):
         if what == "decide":
-            self.queue = [q for q in self.queue if q[:2] != (channel, about)]
+            self.unqueue(channel, what, about)
             self.htlcs = [h for h in self.htlcs if h.decided or (h.channel, h.event) != (channel, about)]
+        elif what == "resume":
+            self.unqueue(channel, what, about)
         elif what == "add" and number < 47:
             for h in self.named(about):
                 h.way = ("refused",)
@@ -291,11 +334,12 @@ class Book:
             h.back = "settled"
         self.htlcs = [h for h in self.htlcs if h.key() != (channel, id) or not h.is_finished()]
 
-    def dropped(self, channel, next_id, decided, removals):
-        """A channel lost its connection: its next own id, how many events it has decided, and which of the peer's HTLCs
-        it still removes."""
+    def dropped(self, channel, next_id, is_decided, removals):
+        """A channel lost its connection: its next own id, whether it has decided an event by a mark, and which of the
+        peer's HTLCs it still removes."""
         what, about, _ = self.out.pop(channel, (None, None, None))
-        if what == "decide" and about < decided and any(q[:2] == (channel, about) for q in self.queue):
+        mark = self.queued(channel, what, about)
+        if mark and is_decided(about, mark):
             self.taken(channel, what, about, 0)
         elif what == "remove":
             self.taken(channel, what, about, 0)
@@ -312,7 +356,7 @@ class Book:
         decided = [h for reading in readings for h in reading.decided]
         for h in decided:
             h.way = ways.get(h.key(), ("nowhere",))
-            if h.mark[0] == "forward" and h.way[0] == "nowhere" and h.back != "open":
+            if h.mark[0] in ("forward", "held") and h.way[0] == "nowhere" and h.back != "open":
                 h.way = ("refused",)  # it is removed already, so it isn't offered again
         keys = {h.key() for h in decided}
         self.queue, self.out = [], {}
@@ -337,7 +381,12 @@ class Book:
         elif kind == "decide":
             digest = sha256(bytes_of(n[5])).digest()
             offer = {"id": n[3], "amount": n[4], "hash": digest, "expiry": n[6], "hop": Hop(n[8:], digest)}
-            return show(self.decide(n[0], n[1], None if n[2] == 1 else offer, n[7]))
+            return show(self.decide(n[0], n[1], None if n[2] == 1 else offer, verdict_of(n[7])))
+        elif kind == "resume":
+            mark = self.resume(n[0], n[1], verdict_of(n[2]))
+            return show(mark) if mark else "refused 40"
+        elif kind == "held":
+            return "held" + "".join(show_held(h) for h in self.held())
         elif kind == "settled":
             values = bytes_of(n[4]), n[4] % 2**16
             outcome = (("fulfilled", "failed", "malformed")[min(n[3], 2)], *values)
@@ -348,7 +397,7 @@ class Book:
         elif kind == "answered":
             self.answered(n[0], n[1] != 0, n[2])
         elif kind == "dropped":
-            self.dropped(n[0], n[1], n[2], n[3:])
+            self.dropped(n[0], n[1], lambda event, _: event < n[2], n[3:])
         else:
             self.rebuild([])
         return "done"
@@ -361,16 +410,24 @@ def left_over(key, way):
     return h
 
 
+def verdict_of(number):
+    return HOLD if number == HOLDS else number
+
+
 def show(mark):
     kind, rest = mark[0], mark[1:]
     values = [total(it) if kind == "fail" else front(it) if kind == "fulfil" else it for it in rest]
     return " ".join(map(str, [kind, *values]))
 
 
+def show_held(h):
+    return f" {h.channel} {h.mark[1]} {h.id} {h.offer['amount']} {front(h.offer['hash'])} {h.offer['expiry']},"
+
+
 def show_command(command):
     kind, first, *rest = command
-    if kind == "decide":
-        return f"decide {first} {show(*rest)}"
+    if kind in ("decide", "resume"):
+        return f"{kind} {first} {show(*rest)}"
     if kind == "add":
         digest, expiry, onion, (channel, id) = rest
         return f"add {first} {front(digest)} {expiry} {total(onion)} {channel} {id}"

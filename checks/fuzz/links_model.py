@@ -10,7 +10,10 @@ sys.path.insert(0, os.path.dirname(os.path.abspath(__file__)))
 from model import End, Refused
 
 ID = bytes([9]) * 30 + bytes([8, 11])  # of the output 258 of a transaction whose id is 32 bytes 9
-TEMPORARY, TXID, ZEROS = bytes([255]) * 32, bytes([9]) * 32, bytes(32)
+TEMPORARY, TXID, ZEROS, CHAIN = bytes([255]) * 32, bytes([9]) * 32, bytes(32), bytes([6]) * 32
+# what a line doesn't say of a side: its first point's byte, dust limit, delay and depth
+OWN = {"funder": (0x11, 546, 144, 3), "fundee": (0x21, 354, 6, 7)}
+USUAL = [1000000, 0, 1, 0, 1, 30, 10**12, 0, 300, 200, 400, 1, 30, 10**12, 0, 400, 350, 500]
 POINTS = "funding_pubkey revocation_basepoint payment_basepoint delayed_payment_basepoint htlc_basepoint".split()
 SIX = [(name, 33) for name in POINTS + ["first_per_commitment_point"]]
 
@@ -182,6 +185,8 @@ class Link(End):
         self.id, self.temporary = None, TEMPORARY if role == "funder" else None
         self.points, self.last_secret = None, None  # of the peer: the points of its acknowledged commitment and of the next
         self.pending, self.sent, self.told = [], [], []
+        self.line = "down"
+        self.on_hold = {}  # the id of each HTLC that is held, by the number of its event
 
     # ---- what it hands out
 
@@ -246,11 +251,11 @@ class Link(End):
 
     def take_open(self, m):
         limits = self.config["limits"]
-        if m["chain_hash"] != ZEROS:
+        if m["chain_hash"] != CHAIN:
             raise Refused(21)
         self.agree(m["funding_satoshis"], m["push_msat"], asked(m), limits, m["first_per_commitment_point"])
         self.rate, self.temporary, self.stage = m["feerate_per_kw"], m["temporary_id"], "created"
-        self.put(encode(33, channel_types(m), temporary_id=self.temporary, minimum_depth=3, **self.common()))
+        self.put(encode(33, channel_types(m), temporary_id=self.temporary, minimum_depth=OWN[self.role][3], **self.common()))
 
     def take_accept(self, m):
         wanted = channel_types(self.spec)
@@ -263,8 +268,9 @@ class Link(End):
     def common(self):
         """What both messages say of a side."""
         minimum, accepted, in_flight, reserve = self.config["limits"]
-        points = {name: bytes([3 + n]) * 33 for n, name in enumerate(POINTS)}
-        return dict(points, dust_limit_satoshis=546, in_flight=in_flight, reserve=reserve, minimum=minimum, to_self_delay=144,
+        first, dust, delay, _ = OWN[self.role]
+        points = {name: bytes([first + n]) * 33 for n, name in enumerate(POINTS)}
+        return dict(points, dust_limit_satoshis=dust, in_flight=in_flight, reserve=reserve, minimum=minimum, to_self_delay=delay,
                     accepted=accepted, first_per_commitment_point=self.keys.point(0))
 
     def first_signature(self):
@@ -394,11 +400,13 @@ class Link(End):
     def obey(self, kind, u):
         if self.halted:
             raise Refused(62)
-        if kind in ("decide", "forget"):
+        if kind in ("decide", "resume", "forget"):
             if self.stage != "saved":
                 raise Refused(40)
             if kind == "decide":
                 self.decide(u)
+            if kind == "resume":
+                self.resume(u)
             return
         if self.failure:
             raise Refused(self.failure)
@@ -415,9 +423,19 @@ class Link(End):
     def decide(self, u):
         if not self.pending or self.pending[0][0] != u["event"]:
             raise Refused(40)
-        if u["mark"] and not self.pending[0][1].startswith("added peer"):
+        event, (what, whose, *words) = self.pending[0][0], self.pending[0][1].split(" ")
+        if u["mark"] and (what, whose) != ("added", "peer") or u["mark"] == 6:
             raise Refused(40)
         self.pending.pop(0)
+        if u["mark"] == 5:
+            self.on_hold[event] = words[0]
+        if (what, whose) == ("settled", "peer"):
+            self.on_hold = {n: id for n, id in self.on_hold.items() if id != words[0]}
+
+    def resume(self, u):
+        if u["event"] not in self.on_hold or u["mark"] in (0, 5, 6):
+            raise Refused(40)
+        del self.on_hold[u["event"]]
 
     def test_removal(self, u):
         super().test_removal(u)
@@ -438,6 +456,9 @@ class Link(End):
     def connect(self):
         if self.halted:
             raise Refused(62)
+        if self.line == "down" and self.stage in ("accept", "open"):
+            self.line = "met"
+            return lambda: self.put(encode(32, **self.spec)) if self.role == "funder" else None
         if self.line != "down" or self.stage != "saved":
             raise Refused(40)
         return self.come_up()
@@ -494,12 +515,12 @@ def command_of(word, words):
         return dict(kind="fee", rate=words[0])
     if word == "shutdown":
         return dict(script=bytes([words[1]]) * words[0])
-    if word == "decide":
+    if word in ("decide", "resume"):
         return dict(event=words[0], mark=words[1])
     return {}
 
 
-COMMANDS = ("confirm", "add", "fulfil", "fail", "malformed", "fee", "sign", "shutdown", "decide", "forget")
+COMMANDS = ("confirm", "add", "fulfil", "fail", "malformed", "fee", "sign", "shutdown", "decide", "resume", "forget")
 
 
 class Links:
@@ -510,13 +531,15 @@ class Links:
 
     def call(self, line):
         word, *words = line.split(" ")
-        if word == "new":
-            return self.new(*map(int, words))
+        if word in ("new", "made", "ready"):
+            return self.new(word, *(map(int, words) if words else USUAL))
         it = self.ends[words[0]]
+        if word == "pass":
+            return self.passed(it)
         if word == "give":
             return self.give(it, b"".join(map(part, words[1:])))
         if word == "deliver":
-            return self.give(it, it.inbox.pop(0)) if it.inbox else "nothing"
+            return self.deliver(it)
         if word == "front":
             return it.inbox[0].hex() if it.inbox else "nothing"
         if word in COMMANDS:
@@ -541,7 +564,16 @@ class Links:
         except Refused as refused:
             return partial(refuse, refused)
 
-    def new(self, satoshis, push, seed, types, *sides):
+    def deliver(self, it):
+        return self.give(it, it.inbox.pop(0)) if it.inbox else "nothing"
+
+    def passed(self, first):
+        told = []
+        for it in [first, first.other] * 100:
+            told += [it.name, self.deliver(it)] if it.inbox else []
+        return " ".join(told + ["passed"])
+
+    def new(self, word, satoshis, push, seed, types, *sides):
         sides = [dict(limits=it[:4], fees=it[4:], script=script) for it, script in ((sides[:7], b"A"), (sides[7:], b"B"))]
         if (not 1 <= satoshis <= 2100000000000000 or push > 1000 * satoshis
                 or any(it["limits"][1] > 483 or not it["fees"][1] <= it["fees"][0] <= it["fees"][2] for it in sides)):
@@ -549,9 +581,18 @@ class Links:
         a, b = Link("A", "funder", Keys(seed, 1, 2), sides[0]), Link("B", "fundee", Keys(seed, 2, 1), sides[1])
         a.other, b.other, a.report, b.report = b, a, [], []
         self.ends = {"A": a, "B": b}
-        a.spec = dict(a.common(), chain_hash=ZEROS, temporary_id=TEMPORARY, funding_satoshis=satoshis, push_msat=push, feerate_per_kw=253,
-                      channel_flags=0, records=[(1, bytes([16]) * types)] if types else [])
-        return self.answer(a, lambda: a.put(encode(32, **a.spec)))
+        a.spec = dict(a.common(), chain_hash=CHAIN, temporary_id=TEMPORARY, funding_satoshis=satoshis, push_msat=push, feerate_per_kw=253,
+                      channel_flags=1, records=[(0, bytes([0, 20])), (1, bytes([16]) * types)] if types else [])
+        if word == "made":
+            return "made"
+        b.connect()
+        opened = self.answer(a, a.connect())
+        if word == "new":
+            return opened
+        self.passed(b)
+        for it in (a, b):
+            self.answer(it, lambda: it.obey("confirm", {}))
+        return self.passed(b)
 
     def give(self, it, data):
         try:

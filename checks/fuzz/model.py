@@ -2,16 +2,20 @@
 the rules of docs/PROTOCOL.md and docs/FORMATS.md alone: whole lists, no bytes, no keys. `report(script)` gives what
 `lnlink sim` has to print, or the line that is refused. checks/fuzz compares the two.
 
-The model asserts what has to hold of every script: no message of an honest peer is refused but by 36, what a side holds
-as irrevocably committed begins what the other side has signed, a payment that came in goes out once at most and comes
-back as the next node answered it, and a hook is called on each event once and in order."""
+The model asserts what has to hold of every script, over the lists of updates and the signatures of all ends of a node:
+no message of an honest peer is refused but by 36, what a side holds as irrevocably committed begins what the other side
+has signed, and a hook is called on each event once and in order. Of each HTLC that came in, at most one that goes out
+for it is ever covered by a signature, and stays covered; the one that came in waits while it is held, and is removed
+only as all that went out for it were, for good; and a fulfilment has its preimage. A script may break this by removing
+an HTLC itself: of those only the last is asserted."""
+from collections import defaultdict
 from hashlib import sha256
 import os
 import re
 import sys
 
 sys.path.insert(0, os.path.dirname(os.path.abspath(__file__)))
-from book_model import Book, CODES, Htlc, Reading
+from book_model import Book, CODES, HOLD, Htlc, Reading
 
 REMOVALS = {"fulfil": "fulfilled", "fail": "failed", "malformed": "malformed"}
 
@@ -55,6 +59,13 @@ def code(word):
     if not re.fullmatch(r"[0-9a-f]{4}", word):
         raise Bad()
     return int(word, 16)
+
+
+def lawful_code(word):
+    """The code of a failure that hooks may answer."""
+    if code(word) not in CODES:
+        raise Bad()
+    return code(word)
 
 
 def short_id(word):
@@ -103,16 +114,16 @@ def outcome(u):
 
 
 class Hook:
-    """Counts events from its place on, or fails the peer's adds above an amount by a code."""
+    """Counts events from its place on, or answers the peer's adds above an amount by a verdict: a code, or HOLD."""
 
-    def __init__(self, place, amount=None, code=None):
-        self.place, self.amount, self.code, self.calls = place, amount, code, []
+    def __init__(self, place, amount=None, verdict=None):
+        self.place, self.amount, self.verdict, self.calls = place, amount, verdict, []
 
     def answer(self, number, event):
         self.calls.append(number)
         what, own, u = event
-        fails = self.code is not None and what == "added" and not own and u["amount"] > self.amount
-        return self.code if fails else None
+        speaks = self.verdict is not None and what == "added" and not own and u["amount"] > self.amount
+        return self.verdict if speaks else None
 
 
 class Dispatcher:
@@ -124,13 +135,15 @@ class Dispatcher:
     def next(self):
         return self.start + len(self.said)
 
-    def register(self, *failing):
-        self.hooks.append(Hook(self.next(), *failing))
+    def register(self, *speaking):
+        self.hooks.append(Hook(self.next(), *speaking))
 
     def serve(self, event):
-        """What the hooks say of the next event: the first code, else None. Each is called."""
-        codes = [hook.answer(self.next(), event) for hook in self.hooks]
-        self.said.append(next((code for code in codes if code is not None), None))
+        """What the hooks say of the next event, each of which is called: the first code, else HOLD where one says so,
+        else None."""
+        answers = [hook.answer(self.next(), event) for hook in self.hooks]
+        codes = [it for it in answers if it not in (HOLD, None)]
+        self.said.append(codes[0] if codes else HOLD if HOLD in answers else None)
         for hook in self.hooks:
             assert hook.calls == list(range(hook.place, self.next())), "a hook was called on each event, in turn"
         return self.said[-1]
@@ -333,9 +346,31 @@ class End:
             raise Refused(62)
         what, own, u = self.ledger[event]
         assert event == self.decided and (mark[0] == "none" or what == "added" and not own)
+        assert mark[0] != "held" or mark == ("held", event), "what is held is held by its own event"
         self.decided += 1
         if mark[0] != "none":
             self.decisions.append((u["id"], mark))
+
+    def resumes(self, event, mark):
+        """What it holds by this event is decided by the mark, in the place of the decision that held it."""
+        if self.halted:
+            raise Refused(62)
+        if not self.holds(event):
+            raise Refused(40)
+        place = [it for _, it in self.decisions].index(("held", event))
+        self.decisions[place] = self.decisions[place][0], mark
+
+    def recorded_decisions(self):
+        """Its record has a decision until the removal of the HTLC is in its base."""
+        base, _ = self.base()
+        return [(id, mark) for id, mark in self.decisions if not self.removal_in(self.own[:base], id)]
+
+    def holds(self, event):
+        return any(mark == ("held", event) for _, mark in self.recorded_decisions())
+
+    def has_decided(self, event, mark):
+        """It has decided an event, and by a mark that holds where this one does."""
+        return event < self.decided and self.holds(event) == (mark[0] == "held")
 
     def forgets(self, id):
         if self.halted:
@@ -476,6 +511,10 @@ class End:
         return (self.is_ready() and not self.shut and not self.peer_shut and self.closed is None and not self.failure
                 and not self.halted and self.line != "down")
 
+    def covers_add(self, id):
+        """A signature of its own covers the HTLC of this id that it has offered."""
+        return any(u["kind"] == "add" and u["id"] == id for u in self.own[:self.signed[0]])
+
     def next_own_id(self):
         return sum(1 for u in self.own if u["kind"] == "add")
 
@@ -497,7 +536,7 @@ class End:
         there = self.live(self.own[:base], self.taken[:peer_base]) + self.own[base:]
         offered = [(u["origin"], ("offered", self.channel, u["id"])) for u in there if u.get("origin")]
         results = [(origin, ("over", self.channel, own_id, how)) for own_id, origin, how in self.results]
-        decided = [self.reading_of(id, mark) for id, mark in self.decisions if not self.removal_in(self.own[:base], id)]
+        decided = [self.reading_of(id, mark) for id, mark in self.recorded_decisions()]
         return Reading(offered, results, decided)
 
     def reading_of(self, id, mark):
@@ -535,6 +574,7 @@ class World:
     def __init__(self):
         self.fees, self.limits, self.policies, self.books = {}, {}, {}, {}
         self.channels, self.report = {}, []
+        self.touched, self.went_out = set(), defaultdict(lambda: defaultdict(set))
 
     def book(self, name):
         """The book of a node."""
@@ -565,6 +605,7 @@ class World:
     def at(self, place, what):
         """Does something at an end; where there is no such end the step is idle."""
         name, channel = place
+        self.touched.add(name)
         for it in self.channels.get(channel, []):
             if it.node == name:
                 return what(it)
@@ -582,7 +623,6 @@ class World:
             act.do(self, it)
         except Refused as refused:
             self.refused(it, refused.numbers)
-        self.check(it.node)
 
     def refused(self, it, numbers):
         self.report.append(" ".join([it.name, "refused", *map(str, numbers)]))
@@ -604,7 +644,7 @@ class World:
         it.go_down()
         if not it.halted:
             removals = [u["id"] for u in it.own if u["kind"] in REMOVALS]
-            self.book(it.node).dropped(it.channel, it.next_own_id(), it.decided, removals)
+            self.book(it.node).dropped(it.channel, it.next_own_id(), it.has_decided, removals)
 
     # ---- hooks and the book
 
@@ -613,8 +653,9 @@ class World:
         if number == len(it.ledger):
             self.report.append("idle")
             return
-        code = it.dispatcher.serve(it.ledger[number])
-        self.report.append(f"{it.name} dispatch {number} " + ("continue" if code is None else f"fail {code:04x}"))
+        verdict = it.dispatcher.serve(it.ledger[number])
+        words = {None: "continue", HOLD: HOLD}.get(verdict) or f"fail {verdict:04x}"
+        self.report.append(f"{it.name} dispatch {number} {words}")
 
     def follow(self, name):
         """What a node's book knows of its channels, as the last step has left them: where two of them have one short
@@ -635,6 +676,13 @@ class World:
         self.book(it.node).decide(it.channel, it.decided, add, it.dispatcher.verdict(it.decided))
         self.take(it)
 
+    def resume(self, it, event, verdict):
+        """What an end holds by this event is decided by its book, and then by the end."""
+        self.follow(it.node)
+        if self.book(it.node).resume(it.channel, event, verdict) is None:
+            raise Refused(40)
+        self.take(it)
+
     def take(self, it):
         """An end takes the first command that its book has for it, and answers it."""
         book = self.book(it.node)
@@ -648,10 +696,10 @@ class World:
 
     def obey(self, it, kind, *values):
         """An end does what its book commands; the number by which it answers."""
-        if kind == "decide":
+        if kind in ("decide", "resume"):
             event, mark = values
-            it.decides(event, mark)
-            self.report.append(f"{it.name} decided {event} {mark_words(mark)}")
+            {"decide": it.decides, "resume": it.resumes}[kind](event, mark)
+            self.report.append(f"{it.name} {kind}d {event} {mark_words(mark)}")
             return event
         if kind == "forget":
             it.forgets(*values)
@@ -674,6 +722,7 @@ class World:
 
     def restart(self, name):
         """Each end of a node comes back from its record, and the node's book is read off these."""
+        self.touched.add(name)
         ends = self.ends_of(name)
         for it in ends:
             it.go_down()
@@ -712,23 +761,44 @@ class World:
 
     # ---- what has to hold
 
-    def check(self, name):
-        """Of the payments that came in at a node each goes out once at most, over all of its channels, and comes back
-        only as the next node has answered. A script that removes one by hand may break this."""
-        ends = self.ends_of(name)
-        by_hand = {(it.channel, id) for it in ends for id in it.by_hand}
-        out = {}
-        for it in ends:
-            for u in it.own[:it.signed[0]]:
-                if u.get("origin") and u["origin"] not in by_hand:
-                    assert u["origin"] not in out, "one payment out for each payment in"
-                    out[u["origin"]] = it.removal_in(it.taken[:it.acknowledged[1]], u["id"])
-        for it in ends:
-            for u in it.own[:it.signed[0]]:
-                if u["kind"] in REMOVALS and (it.channel, u["id"]) in out:
-                    answer = out[it.channel, u["id"]]
-                    same = answer and (answer["kind"] == "fulfil") == (u["kind"] == "fulfil")
-                    assert same, "it comes back as answered"
+    def check(self):
+        """What has to hold of the nodes that the last steps have touched."""
+        for name in self.touched:
+            ends = self.ends_of(name)
+            out = defaultdict(list)  # of an HTLC that came in: the ends and ids of those that go out for it
+            for it in ends:
+                for u in it.own:
+                    if u.get("origin"):
+                        out[u["origin"]].append((it, u["id"]))
+            by_hand = {(it.channel, id) for it in ends for id in it.by_hand}
+            self.check_out({*out, *self.went_out[name]} - by_hand, out, self.went_out[name])
+            for it in ends:
+                self.check_in(it, out)
+        self.touched.clear()
+
+    @staticmethod
+    def check_out(origins, out, ever):
+        """One payment out for each payment in, at any time."""
+        for origin in origins:
+            covered = {(it.channel, id) for it, id in out[origin] if it.covers_add(id)}
+            ever[origin] |= covered
+            assert len(ever[origin]) <= 1, "one payment out for each payment in"
+            assert covered == ever[origin], "what is covered stays covered"
+
+    @staticmethod
+    def check_in(it, out):
+        """What came in waits while it is held, and is removed as what went out for it was, for good."""
+        for id, mark in it.decisions:
+            if mark[0] == "held" and id not in it.by_hand:
+                assert not out[it.channel, id] and not it.removal_in(it.own, id), "what is held waits"
+        for u in (u for u in it.own if u["kind"] in REMOVALS and u["id"] not in it.by_hand):
+            for other, id in out[it.channel, u["id"]]:
+                end = other.removal_in(other.taken[:other.acknowledged[1]], id)
+                assert end, "no removal while what went out may still be fulfilled"
+                assert (end["kind"] == "fulfil") == (u["kind"] == "fulfil"), "it comes back as it went"
+        hashes = {u["id"]: u["hash"] for u in it.taken if u["kind"] == "add"}
+        for u in (u for u in it.own if u["kind"] == "fulfil"):
+            assert digest(u["preimage"]) == hashes[u["id"]], "a fulfilment has its preimage"
 
     def check_channels(self):
         """What a side holds of the other side's updates begins what that side has signed; a close is the last event."""
@@ -800,9 +870,24 @@ class Decide:
         world.decide(it)
 
 
+class Resume:
+    """What is held by an event is decided by a verdict."""
+
+    def __init__(self, event, verdict):
+        self.event, self.verdict = event, verdict
+
+    @staticmethod
+    def can_be_taken(world, it):
+        return True
+
+    def do(self, world, it):
+        world.resume(it, self.event, self.verdict)
+
+
 # ---- lines
 
-ACTS = ("confirm", "add", "fulfil", "fail", "malformed", "fee", "sign", "shutdown", "deliver", "take", "decide")
+ACTS = ("confirm", "add", "fulfil", "fail", "malformed", "fee", "sign", "shutdown", "deliver", "take", "decide",
+        "resume")
 
 
 def act_of(word, words):
@@ -832,6 +917,10 @@ def act_of(word, words):
         return end(words[0]), Command(word, u)
     if word == "fee" and len(words) == 2:
         return end(words[0]), Command(word, dict(kind="fee", rate=number(words[1], 2**32 - 1)))
+    if word == "resume" and len(words) == 3 and words[2] == "continue":
+        return end(words[0]), Resume(number(words[1]), None)
+    if word == "resume" and len(words) == 4 and words[2] == "fail":
+        return end(words[0]), Resume(number(words[1]), lawful_code(words[3]))
     raise Bad()
 
 
@@ -858,6 +947,17 @@ def setting_of(word, words):
     raise Bad()
 
 
+def hook_of(kind, *words):
+    """Above which amount a hook answers, and by what verdict; nothing for one that only counts."""
+    if kind == "count" and not words:
+        return ()
+    if kind == "above" and len(words) == 2:
+        return number(words[0]), lawful_code(words[1])
+    if kind == "hold" and len(words) == 1:
+        return number(words[0]), HOLD
+    raise Bad()
+
+
 def step_of(line):
     """A line as a step: a function of the world."""
     word, *words = line.split(" ")
@@ -879,13 +979,9 @@ def step_of(line):
     if word in ("down", "dispatch") and len(words) == 1:
         e = end(words[0])
         return lambda w: w.at(e, getattr(w, word))
-    if word == "hook" and len(words) == (2 if words[1:2] == ["count"] else 4):
-        e, failing = end(words[0]), ()
-        if len(words) == 4:
-            failing = number(words[2]), code(words[3])
-            if words[1] != "above" or failing[1] not in CODES:
-                raise Bad()
-        return lambda w: w.at(e, lambda it: it.dispatcher.register(*failing))
+    if word == "hook" and len(words) >= 2:
+        e, speaking = end(words[0]), hook_of(*words[1:])
+        return lambda w: w.at(e, lambda it: it.dispatcher.register(*speaking))
     if word == "up" and len(words) == 1:
         c = number(words[0], 99)
         return lambda w: w.up(c)
@@ -908,6 +1004,7 @@ def report(script):
     world = World()
     for step in steps:
         step(world)
+        world.check()
     world.check_channels()
     for channel in sorted(world.channels):
         world.report += [it.line_at_end() for it in world.channels[channel]]

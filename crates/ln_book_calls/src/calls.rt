@@ -5,7 +5,7 @@ use crate::line::{at, bytes_of, code, numbers, wide};
 use crate::node::Node;
 use crate::onion::onion_of;
 use crate::payments::payments;
-use crate::show::{show_command, show_mark};
+use crate::show::{show_command, show_held, show_mark};
 use ln_book::Book;
 use ln_bytes::{Bytes, ShortId};
 use ln_forward::Policy;
@@ -71,8 +71,11 @@ fn added(alloc: Global, words: &[u64]) -> Result<Box<ChannelEvent>, AllocError> 
     Ok(event)
 }
 
-// The hooks' verdict: 0 to go on, else the failure's code.
+// The hooks' verdict: 5 to hold, the failure's code, else to go on.
 fn verdict_of(number: u64) -> Verdict {
+    if number == 5 {
+        return Verdict::Hold;
+    }
     match FailureCode::new(code(number)) {
         None => Verdict::Continue,
         Some(code) => Verdict::Fail(code),
@@ -88,6 +91,30 @@ fn decide(alloc: Global, book: &mut Book, words: &[u64]) -> Result<String, Alloc
     match book.decide(alloc, &ToyOnion, channel, at(words, 2), &event, verdict) {
         Err(_) => String::from_str(alloc, "refused"),
         Ok(mark) => show_mark(alloc, &mark),
+    }
+}
+
+// The channel, the number by which an HTLC is held, and a verdict.
+fn resume(alloc: Global, book: &mut Book, words: &[u64]) -> Result<String, AllocError> {
+    let verdict = verdict_of(at(words, 3));
+    match book.resume(
+        alloc,
+        &ToyOnion,
+        bytes_of(at(words, 1)),
+        at(words, 2),
+        verdict,
+    ) {
+        Err(Refusal::NotReady) => String::from_str(alloc, "refused 40"),
+        Err(_) => String::from_str(alloc, "refused"),
+        Ok(mark) => show_mark(alloc, &mark),
+    }
+}
+
+// What is held.
+fn held(alloc: Global, book: &Book) -> Result<String, AllocError> {
+    match book.held(alloc) {
+        Err(_) => String::from_str(alloc, "refused"),
+        Ok(all) => show_held(alloc, all.as_slice()),
     }
 }
 
@@ -186,6 +213,10 @@ pub fn call(alloc: Global, node: &mut Node, line: &str) -> Result<String, AllocE
         | "obey"
         | "settle"
         | "restart") => { node.call(alloc, word, words) }
+        "hooks" => {
+            node.verdict = verdict_of(at(words, 1));
+            String::from_str(alloc, "done")
+        }
         word => call_book(alloc, &mut node.book, word, words),
     }
 }
@@ -198,6 +229,8 @@ fn call_book(
 ) -> Result<String, AllocError> {
     match word {
         "decide" => decide(alloc, book, words),
+        "resume" => resume(alloc, book, words),
+        "held" => held(alloc, book),
         "settled" => settled(alloc, book, words),
         "take" => take(alloc, book, words),
         "answered" => {

@@ -20,29 +20,24 @@ struct NodeChannel {
     ends: Box<Ends>,
 }
 
-/// A node.
+/// A node, and what its hooks say of each event.
 #[derive(Drop)]
 pub struct Node {
     pub book: Box<Book>,
+    pub verdict: Verdict,
     channels: Vec<NodeChannel>,
 }
 
-/// Decides each event, and hears what became of HTLCs. Says how many there were.
+/// Decides each event by what the hooks say, and hears what became of HTLCs. Says how many there were.
 fn note(
     alloc: Global,
     book: &mut Book,
+    verdict: Verdict,
     channel: ChannelId,
     all: &[Told],
 ) -> Result<usize, Refusal> {
     for told in all {
-        drop(book.decide(
-            alloc,
-            &ToyOnion,
-            channel,
-            told.number,
-            &told.event,
-            Verdict::Continue,
-        )?);
+        drop(book.decide(alloc, &ToyOnion, channel, told.number, &told.event, verdict)?);
         book.settled(alloc, channel, &told.event)?;
     }
     Ok(all.len())
@@ -149,6 +144,7 @@ impl Node {
         let book = Box::new(alloc, Book::new(alloc))?;
         Ok(Node {
             book,
+            verdict: Verdict::Continue,
             channels: Vec::new(alloc),
         })
     }
@@ -158,7 +154,13 @@ impl Node {
         let mut told = Vec::new(alloc);
         let ends = Ends::open(alloc, channel, &mut told)?;
         self.channels.push(NodeChannel { channel, ends })?;
-        note(alloc, &mut self.book, channel, told.as_slice())
+        note(
+            alloc,
+            &mut self.book,
+            self.verdict,
+            channel,
+            told.as_slice(),
+        )
     }
 
     /// The index of a channel.
@@ -181,7 +183,13 @@ impl Node {
         };
         let mut told = Vec::new(alloc);
         one.play(alloc, word, words, &mut told)?;
-        note(alloc, &mut self.book, channel, told.as_slice())
+        note(
+            alloc,
+            &mut self.book,
+            self.verdict,
+            channel,
+            told.as_slice(),
+        )
     }
 
     /// The node's end of a channel does what the book commands, and the book hears the answer.
@@ -198,7 +206,13 @@ impl Node {
         let answer = one.obeyed(alloc, command, &mut told);
         self.book.answered(channel, answer);
         let shown = shown?;
-        note(alloc, &mut self.book, channel, told.as_slice())?;
+        note(
+            alloc,
+            &mut self.book,
+            self.verdict,
+            channel,
+            told.as_slice(),
+        )?;
         Ok(show_answer(alloc, shown.as_str(), answer)?)
     }
 

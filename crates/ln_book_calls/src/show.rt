@@ -3,8 +3,10 @@
 use ln_bytes::Bytes;
 use ln_channel::Command;
 use ln_log::Mark;
+use ln_tables::HeldHtlc;
 use sha2::{Digest, Sha256};
 use std::alloc::{AllocError, Global};
+use std::fmt::Write;
 
 /// The first eight bytes, as a number.
 fn front(bytes: &[u8; 32]) -> u64 {
@@ -43,7 +45,31 @@ pub fn show_mark(alloc: Global, mark: &Mark) -> Result<String, AllocError> {
             let preimage = front(preimage);
             format!(in alloc; "fulfil {preimage}")
         }
+        Mark::Held(event) => format!(in alloc; "held {event}"),
     }
+}
+
+fn put_held(text: &mut String, held: &HeldHtlc) -> Result<(), AllocError> {
+    let HeldHtlc {
+        channel,
+        number,
+        id,
+        amount,
+        hash,
+        expiry,
+    } = held;
+    let channel = channel[0];
+    let hash = front(hash);
+    write!(text, " {channel} {number} {id} {amount} {hash} {expiry},")
+}
+
+/// What is held, one behind the other: the channel's first byte, number, id, amount, hash and expiry.
+pub fn show_held(alloc: Global, all: &[HeldHtlc]) -> Result<String, AllocError> {
+    let mut text = String::from_str(alloc, "held")?;
+    for held in all {
+        put_held(&mut text, held)?;
+    }
+    Ok(text)
 }
 
 /// The incoming channel's first byte and HTLC that an add forwards.
@@ -69,6 +95,11 @@ fn show_add(
 fn show_decide(alloc: Global, event: u64, mark: &Mark) -> Result<String, AllocError> {
     let mark = show_mark(alloc, mark)?;
     format!(in alloc; "decide {event} {mark}")
+}
+
+fn show_resume(alloc: Global, event: u64, mark: &Mark) -> Result<String, AllocError> {
+    let mark = show_mark(alloc, mark)?;
+    format!(in alloc; "resume {event} {mark}")
 }
 
 /// A command.
@@ -98,6 +129,7 @@ pub fn show_command(alloc: Global, command: &Command) -> Result<String, AllocErr
         }
         Command::Decide { event, mark } => show_decide(alloc, *event, mark),
         Command::Forget(id) => format!(in alloc; "forget {id}"),
+        Command::Resume { event, mark } => show_resume(alloc, *event, mark),
         _ => String::from_str(alloc, "another"),
     }
 }

@@ -1,30 +1,14 @@
 //! The lines, one by one.
 
+use crate::channel::{again, renew};
 use crate::commands::{command, is_command};
 use crate::end::End;
-use crate::line::{bytes_of_parts, numbers};
-use crate::opening::{fundee, funder};
-use crate::show::{pending, refused, stand, told};
+use crate::line::{at, bytes_of_parts, numbers};
+use crate::show::{pending, record, refused, stand, told};
 use ln_msgs::{Incoming, Message, decode};
+use ln_store::RecordStore;
 use std::alloc::{AllocError, Global};
 use std::fmt::Write;
-
-/// Both ends of a new channel get a connection, and the funder's sends the first message of the opening.
-fn renew(alloc: Global, ends: &mut Vec<Box<End>>, words: &[u64]) -> Result<String, AllocError> {
-    let Some(mut a) = funder(alloc, words)? else {
-        return String::from_str(alloc, "unfit");
-    };
-    let Some(mut b) = fundee(alloc, words)? else {
-        return String::from_str(alloc, "unfit");
-    };
-    drop(b.link.connect(alloc));
-    let answer = a.link.connect(alloc);
-    let text = told(alloc, answer, &mut b, false)?;
-    ends.clear();
-    ends.push(a)?;
-    ends.push(b)?;
-    Ok(text)
-}
 
 fn is_error(message: &Message) -> bool {
     match message {
@@ -58,6 +42,27 @@ fn deliver(alloc: Global, x: &mut End, y: &mut End) -> Result<String, AllocError
     }
 }
 
+/// The same where there is one, behind the end's name.
+fn put_taken(alloc: Global, text: &mut String, x: &mut End, y: &mut End) -> Result<(), AllocError> {
+    if x.inbox.is_empty() {
+        return Ok(());
+    }
+    let answer = deliver(alloc, x, y)?;
+    let name = x.name;
+    write!(text, "{name} {answer} ")
+}
+
+/// The ends take what is in flight, one message each in turn, at most 100; x begins.
+pub fn pass(alloc: Global, x: &mut End, y: &mut End) -> Result<String, AllocError> {
+    let mut text = String::new(alloc);
+    for _ in 0..100 {
+        put_taken(alloc, &mut text, x, y)?;
+        put_taken(alloc, &mut text, y, x)?;
+    }
+    text.push_str("passed")?;
+    Ok(text)
+}
+
 /// The oldest message that is in flight to an end.
 fn front(alloc: Global, x: &End) -> Result<String, AllocError> {
     match x.inbox.front() {
@@ -81,6 +86,30 @@ fn load(alloc: Global, x: &mut End, y: &mut End) -> Result<String, AllocError> {
         Ok(true) => String::from_str(alloc, "loaded"),
         Err(refusal) => refused(alloc, refusal, y, false),
     }
+}
+
+/// Bytes that are given in parts, behind a channel's id, take the place of an end's record: how many.
+fn store(alloc: Global, x: &mut End, line: &str) -> Result<String, AllocError> {
+    let Some(bytes) = bytes_of_parts(alloc, line)? else {
+        return String::from_str(alloc, "not hex");
+    };
+    let Some((id, record)) = bytes.split_first_chunk::<32>() else {
+        return String::from_str(alloc, "no id");
+    };
+    match x.store.save(alloc, id, record) {
+        Ok(()) => {
+            let count = record.len();
+            format!(in alloc; "stored {count}")
+        }
+        Err(_) => String::from_str(alloc, "not stored"),
+    }
+}
+
+/// An end's save of this number fails, counted from 0, and leaves the old record or the new one.
+fn fail(alloc: Global, x: &mut End, line: &str, words: &[u64]) -> Result<String, AllocError> {
+    let leaves_new = line.split(' ').nth(3) == Some("new");
+    x.store.fail_at(at(words, 2), leaves_new);
+    String::from_str(alloc, "done")
 }
 
 /// Both ends get a connection, and then each is sent what the other one begins with.
@@ -130,7 +159,11 @@ fn act(
     match word {
         "front" => front(alloc, x),
         "deliver" => deliver(alloc, x, y),
+        "pass" => pass(alloc, x, y),
         "give" => give(alloc, x, y, line),
+        "record" => record(alloc, x),
+        "store" => store(alloc, x, line),
+        "fails" => fail(alloc, x, line, words),
         "stand" => stand(alloc, x),
         "pending" => pending(alloc, x),
         word => connection(alloc, x, y, word),
@@ -162,7 +195,8 @@ pub fn call(alloc: Global, ends: &mut Vec<Box<End>>, line: &str) -> Result<Strin
     let words = words.as_slice();
     match line.split(' ').next().unwrap_or("") {
         "#" => String::from_str(alloc, line),
-        "new" => renew(alloc, ends, words),
+        word @ ("new" | "made" | "ready") => renew(alloc, ends, word, line),
+        "again" => again(alloc, ends, line),
         _ => act_by(alloc, ends.as_mut_slice(), line, words),
     }
 }

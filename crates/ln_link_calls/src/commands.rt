@@ -9,8 +9,9 @@ use ln_keys::sha256_32;
 use ln_log::Mark;
 use std::alloc::{AllocError, Global};
 
-/// What is done about an event: nothing, a forward to channel 7, a failure, a malformed one, a fulfilment.
-fn mark_of(alloc: Global, number: u64) -> Result<Mark, AllocError> {
+/// What is done about an event: nothing, a forward to channel 7, a failure, a malformed one, a fulfilment; or its HTLC
+/// is held by its number, or by the next one.
+fn mark_of(alloc: Global, event: u64, number: u64) -> Result<Mark, AllocError> {
     let mark = match number {
         0 => Mark::None,
         1 => Mark::Forward {
@@ -20,6 +21,8 @@ fn mark_of(alloc: Global, number: u64) -> Result<Mark, AllocError> {
         },
         2 => Mark::Fail(Bytes::new(filled(alloc, 2, 2)?)),
         3 => Mark::Malformed(0xc004),
+        5 => Mark::Held(event),
+        6 => Mark::Held(event.wrapping_add(1)),
         _ => Mark::Fulfil([4; 32]),
     };
     Ok(mark)
@@ -79,9 +82,14 @@ fn command_of(alloc: Global, word: &str, words: &[u64]) -> Result<Box<Command>, 
             Ok(Box::new(alloc, Command::Shutdown(script))?)
         }
         "decide" => {
-            let mark = mark_of(alloc, at(words, 3))?;
             let event = at(words, 2);
+            let mark = mark_of(alloc, event, at(words, 3))?;
             Ok(Box::new(alloc, Command::Decide { event, mark })?)
+        }
+        "resume" => {
+            let event = at(words, 2);
+            let mark = mark_of(alloc, event, at(words, 3))?;
+            Ok(Box::new(alloc, Command::Resume { event, mark })?)
         }
         word => Ok(Box::new(alloc, light(word, words))?),
     }
@@ -106,7 +114,7 @@ pub fn command(
 pub fn is_command(word: &str) -> bool {
     match word {
         "confirm" | "add" | "fulfil" | "fail" | "malformed" | "fee" => true,
-        "sign" | "shutdown" | "decide" | "forget" => true,
+        "sign" | "shutdown" | "decide" | "resume" | "forget" => true,
         _ => false,
     }
 }

@@ -5,6 +5,7 @@ use ln_keys::ToyKeys;
 use ln_link::Link;
 use ln_msgs::{Message, Refusal, encode, fits};
 use ln_store::{MemoryStore, RecordStore};
+use ln_tests::FailingStore;
 use std::alloc::{AllocError, Global};
 use std::collections::VecDeque;
 
@@ -16,9 +17,10 @@ pub const CHANNEL: [u8; 32] = [
 /// One end. What is in flight to it stands as bytes, the oldest first.
 #[derive(Drop)]
 pub struct End {
+    pub name: char,
     pub keys: ToyKeys,
     pub link: Box<Link<ToyKeys>>,
-    pub store: Box<MemoryStore>,
+    pub store: Box<FailingStore<MemoryStore>>,
     pub inbox: VecDeque<Bytes>,
 }
 
@@ -31,17 +33,20 @@ pub fn written(alloc: Global, message: &Message) -> Option<Vec<u8>> {
 }
 
 impl End {
-    /// An end with nothing in flight to it.
+    /// An end with nothing in flight to it, and no record. No save of it fails.
     pub fn new(
         alloc: Global,
+        name: char,
         keys: ToyKeys,
         link: Box<Link<ToyKeys>>,
     ) -> Result<Box<End>, AllocError> {
-        let store = Box::new(alloc, MemoryStore::new(alloc))?;
+        let store = FailingStore::new(MemoryStore::new(alloc), u64::MAX, false);
+        let store = Box::new(alloc, store)?;
         let inbox = VecDeque::new(alloc);
         Ok(Box::new(
             alloc,
             End {
+                name,
                 keys,
                 link,
                 store,
@@ -70,13 +75,18 @@ impl End {
         self.inbox.clear();
     }
 
+    /// Its record; none where it has none.
+    pub fn record(&mut self, alloc: Global) -> Result<Option<Bytes>, Refusal> {
+        let ids = self.store.ids(alloc)?;
+        match ids.as_slice().first() {
+            None => Ok(None),
+            Some(id) => self.store.load(alloc, id),
+        }
+    }
+
     /// Its link comes back from its record; not where there is none.
     pub fn load(&mut self, alloc: Global) -> Result<bool, Refusal> {
-        let ids = self.store.ids(alloc)?;
-        let Some(id) = ids.as_slice().first() else {
-            return Ok(false);
-        };
-        let Some(bytes) = self.store.load(alloc, id)? else {
+        let Some(bytes) = self.record(alloc)? else {
             return Ok(false);
         };
         let link = Link::from_record(alloc, self.keys, bytes.as_slice())?;

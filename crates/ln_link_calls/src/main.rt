@@ -1,8 +1,24 @@
 //! Reads lines that drive the two links of one channel, each over a store in memory, and prints a line for each: what
-//! the link answers. checks/fuzz/links makes such lines at random; stdin and stdout have strangers' messages.
+//! the link answers. checks/fuzz/links makes such lines at random; stdin and stdout have openings, payments, closes,
+//! strangers' messages, saves that fail, records and held payments. E is an end: A, the funder's, or B.
+//!
+//! | Line | What happens |
+//! |---|---|
+//! | `made`, `new`, `ready`, with numbers or without | new ends; they are connected too; the channel is ready |
+//! | `again E` | as `new`, and E has the store of before |
+//! | `confirm E`, `add E AMOUNT EXPIRY N ORIGIN`, .. | E does what it is told: commands.rt has all of these |
+//! | `deliver E`, `pass E` | E takes the oldest message in flight to it; both take what there is, in turn |
+//! | `front E` | the oldest message in flight to E |
+//! | `give E PARTS` | E takes these bytes, in hexadecimal; `00x1366` is one part, so many times |
+//! | `connect E`, `up E`, `drop E` | E gets a connection; both do; E loses it |
+//! | `halt E`, `load E` | E halts; it comes back from its record |
+//! | `fails E K old`, `fails E K new` | the save of E that comes after K others fails, and leaves that record |
+//! | `record E`, `store E PARTS` | the SHA-256 of E's record; other bytes in its place, after the channel's id |
+//! | `stand E`, `pending E` | where E stands; the events that it hasn't decided |
 #![tactic(auto)]
 
 mod calls;
+mod channel;
 mod commands;
 mod end;
 mod line;

@@ -3,6 +3,7 @@
 use crate::end::{CHANNEL, End, written};
 use ln_channel::{Life, LineState, Output, Summary};
 use ln_hooks::{ChannelEvent, How};
+use ln_keys::sha256_32;
 use ln_msgs::{Message, Refusal};
 use std::alloc::{AllocError, Global};
 use std::fmt::Write;
@@ -193,6 +194,15 @@ pub fn stand(alloc: Global, x: &End) -> Result<String, AllocError> {
         Err(_) => return Err(AllocError),
     }
     Ok(text)
+}
+
+/// The SHA-256 of an end's record.
+pub fn record(alloc: Global, x: &mut End) -> Result<String, AllocError> {
+    match x.record(alloc) {
+        Ok(None) => String::from_str(alloc, "no record"),
+        Ok(Some(bytes)) => hex::encode(alloc, &sha256_32(bytes.as_slice())),
+        Err(_) => Err(AllocError),
+    }
 }
 
 fn put_events(text: &mut String, events: &[(u64, ChannelEvent)]) -> Result<(), AllocError> {

@@ -1,5 +1,7 @@
 //! A node in a program of yours: it opens a channel with another node, and pays it.
 
+mod holding;
+
 use ln_bytes::Bytes;
 use ln_channel::Command;
 use ln_demo::{KEYS, POLICY, SHORT_IDS, TXIDS, fit_config, fit_spec};

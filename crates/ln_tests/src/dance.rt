@@ -231,9 +231,7 @@ const MESSAGES: [Row; 6] = [
 #[test]
 fn updates_of_messages(rt: HostRuntime) {
     let alloc = rt.alloc();
-    assert!(rt;
-        MESSAGES
-            .iter()
-            .all(|row| told_update(alloc, row.0, row.1) == Ok(row.2))
-    );
+    for row in &MESSAGES {
+        assert_eq!(rt; told_update(alloc, row.0, row.1), Ok(row.2));
+    }
 }

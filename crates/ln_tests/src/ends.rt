@@ -39,9 +39,9 @@ pub fn htlc(id: u64, amount: u64, expiry: u32) -> Add
 }
 
 /// Least, first and greatest closing fee.
-pub type Range = (u64, u64, u64);
+type Range = (u64, u64, u64);
 
-pub const DEAR: Range = (350, 400, 500);
+const DEAR: Range = (350, 400, 500);
 
 const POINTS: Points = Points {
     funding_pubkey: [2; 33],
@@ -51,7 +51,7 @@ const POINTS: Points = Points {
     htlc_basepoint: [2; 33],
 };
 
-pub fn config(alloc: Global, fees: Range) -> Config {
+fn config(alloc: Global, fees: Range) -> Config {
     Config {
         limits: Limits {
             minimum: 1,
@@ -102,7 +102,7 @@ fn collect(output: Output, messages: &mut Vec<Message>) -> Result<(), Refusal> {
 }
 
 /// Puts an item behind others.
-pub fn push<T: Drop>(items: &mut Vec<T>, item: T) -> Result<(), Refusal> {
+fn push<T: Drop>(items: &mut Vec<T>, item: T) -> Result<(), Refusal> {
     Ok(items.push(item)?)
 }
 

@@ -28,6 +28,12 @@ impl<S: RecordStore + Drop> FailingStore<S> {
             failed: 0,
         }
     }
+
+    /// From now on it is the save of this number that fails, counted from 0, and leaves the old record or the new one.
+    pub fn fail_at(&mut self, saves_left: u64, leaves_new: bool) {
+        self.saves_left = saves_left;
+        self.leaves_new = leaves_new;
+    }
 }
 
 /// One failure more where the store itself has failed.

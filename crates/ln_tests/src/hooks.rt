@@ -86,6 +86,10 @@ const UNKNOWN: Verdict = Verdict::Fail(FailureCode::IncorrectOrUnknownPaymentDet
 
 const TEMPORARY: Verdict = Verdict::Fail(FailureCode::TemporaryChannelFailure);
 
+const HOLD: Verdict = Verdict::Hold;
+
+const GO: Verdict = Verdict::Continue;
+
 /// An added HTLC of so much, and a close where there can't be so much.
 fn add_of(amount: u64) -> ChannelEvent {
     match Msat::new(amount) {
@@ -142,15 +146,33 @@ fn put(table: &mut HookTable, hook: Hook) -> Result<(), Refusal> {
     table.register(hook).map_err(|(_hook, refusal)| refusal)
 }
 
+/// What three hooks answer, each to all or to what is large alone.
+type Three = [(bool, Verdict); 3];
+
 /// The first and the second hook fail what is large, the third one fails all.
-fn put_three(table: &mut HookTable, alloc: Global, digits: &Arc<AtomicU64>) -> Result<(), Refusal> {
-    put(table, hook(alloc, digits, 1, false, UNKNOWN)?)?;
-    put(table, hook(alloc, digits, 2, false, TEMPORARY)?)?;
-    put(table, hook(alloc, digits, 3, true, TEMPORARY)?)
+const FAILS: Three = [(false, UNKNOWN), (false, TEMPORARY), (true, TEMPORARY)];
+
+fn put_three(
+    table: &mut HookTable,
+    alloc: Global,
+    digits: &Arc<AtomicU64>,
+    three: &Three,
+) -> Result<(), Refusal> {
+    let mut digit = 1;
+    for (to_all, answer) in three {
+        put(table, hook(alloc, digits, digit, *to_all, *answer)?)?;
+        digit = digit.wrapping_add(1);
+    }
+    Ok(())
 }
 
-/// Whether the first fail is the answer, and all are called in order of registration.
-fn are_called(table: &mut HookTable, alloc: Global, digits: &AtomicU64) -> Result<bool, Refusal> {
+/// Whether a large HTLC and a small one are answered so, and all hooks are called in order of registration.
+fn are_called(
+    table: &mut HookTable,
+    alloc: Global,
+    digits: &AtomicU64,
+    wanted: &[Verdict; 2],
+) -> Result<bool, Refusal> {
     let events = two_adds(alloc)?;
     let answers = match events.as_slice() {
         [large, little] => [table.call(large), table.call(little)],
@@ -159,19 +181,47 @@ fn are_called(table: &mut HookTable, alloc: Global, digits: &AtomicU64) -> Resul
     let called = digits.load(Ordering::SeqCst);
     let verdicts = table.call_run(&events)?;
     Ok(
-        answers == [UNKNOWN, TEMPORARY]
+        answers == *wanted
             && called == 123_123
             && verdicts.as_slice() == answers.as_slice()
             && digits.load(Ordering::SeqCst) == 123_123_123_123,
     )
 }
 
+/// The first fail is the answer, whatever else is said; else one that holds; else all go on.
+const TABLES: [(Three, [Verdict; 2]); 8] = [
+    (FAILS, [UNKNOWN, TEMPORARY]),
+    (
+        [(true, HOLD), (true, UNKNOWN), (true, TEMPORARY)],
+        [UNKNOWN, UNKNOWN],
+    ),
+    (
+        [(true, UNKNOWN), (true, HOLD), (true, TEMPORARY)],
+        [UNKNOWN, UNKNOWN],
+    ),
+    (
+        [(true, HOLD), (true, GO), (false, TEMPORARY)],
+        [TEMPORARY, HOLD],
+    ),
+    ([(true, GO), (true, HOLD), (true, GO)], [HOLD, HOLD]),
+    ([(true, GO), (true, GO), (false, HOLD)], [HOLD, GO]),
+    ([(true, HOLD), (true, HOLD), (true, HOLD)], [HOLD, HOLD]),
+    ([(true, GO), (true, GO), (true, GO)], [GO, GO]),
+];
+
+/// Whether three hooks say so together.
+fn is_said(alloc: Global, three: &Three, wanted: &[Verdict; 2]) -> Result<bool, Refusal> {
+    let digits = Arc::new(alloc, AtomicU64::new(0))?;
+    let mut table = HookTable::new(alloc);
+    put_three(&mut table, alloc, &digits, three)?;
+    are_called(&mut table, alloc, &digits, wanted)
+}
+
 #[test]
 fn small_hooks(rt: HostRuntime) -> Result<(), Refusal> {
-    let digits = Arc::new(rt.alloc(), AtomicU64::new(0))?;
-    let mut table = HookTable::new(rt.alloc());
-    put_three(&mut table, rt.alloc(), &digits)?;
-    assert!(rt; are_called(&mut table, rt.alloc(), &digits)?);
+    for (three, wanted) in &TABLES {
+        assert!(rt; is_said(rt.alloc(), three, wanted)?);
+    }
     Ok(())
 }
 
@@ -179,7 +229,7 @@ fn small_hooks(rt: HostRuntime) -> Result<(), Refusal> {
 fn a_table_moves_into_a_thread(rt: HostRuntime) -> Result<(), Fail> {
     let digits = Arc::new(rt.alloc(), AtomicU64::new(0))?;
     let mut table = HookTable::new(rt.alloc());
-    put_three(&mut table, rt.alloc(), &digits)?;
+    put_three(&mut table, rt.alloc(), &digits, &FAILS)?;
     let thread = thread::spawn(&rt, move || table.call(&ChannelEvent::Closed(300)))?;
     assert!(rt; thread.join(&rt) == TEMPORARY);
     Ok(())
@@ -198,6 +248,10 @@ fn is_code(number: u16) -> bool {
 
 #[test]
 fn failure_codes(rt: HostRuntime) {
-    assert!(rt; CODES.iter().all(|number| is_code(*number)));
-    assert!(rt; !OTHERS.iter().any(|number| is_code(*number)));
+    for number in &CODES {
+        assert!(rt; is_code(*number));
+    }
+    for number in &OTHERS {
+        assert!(rt; !is_code(*number));
+    }
 }

@@ -40,7 +40,9 @@ fn is_secret(number: u64, secret: &str, point: &str) -> bool {
 #[test]
 fn secrets_and_points(rt: HostRuntime) {
     assert!(rt; sha256_32(&[0; 32]) == bytes_of(OF_ZEROS));
-    assert!(rt; SECRETS.iter().all(|row| is_secret(row.0, row.1, row.2)));
+    for row in &SECRETS {
+        assert!(rt; is_secret(row.0, row.1, row.2));
+    }
 }
 
 const POINT: [u8; 33] = [7; 33];
@@ -87,8 +89,12 @@ fn is_signed(
 ) -> Result<bool, Refusal> {
     let right = signature_of(half);
     let Signed { sig, htlcs } = FUNDER.sign(alloc, number, &POINT, view)?;
-    let all = htlcs.as_slice().iter().all(|one| *one == right);
-    Ok(sig == right && htlcs.len() == count && all)
+    for one in htlcs.as_slice() {
+        if *one != right {
+            return Ok(false);
+        }
+    }
+    Ok(sig == right && htlcs.len() == count)
 }
 
 #[test]

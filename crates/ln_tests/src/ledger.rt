@@ -2,7 +2,6 @@
 
 use crate::code_of;
 use crate::ends::{FUNDER, Side, boxed, fundee_side, funder_side, htlc, played, stored, taken};
-use crate::link::error;
 use crate::testing::put;
 use ln_bytes::Bytes;
 use ln_channel::{Command, Output};
@@ -10,7 +9,7 @@ use ln_hooks::ChannelEvent;
 use ln_keys::Role;
 use ln_link::Link;
 use ln_log::{Mark, Settlement};
-use ln_msgs::Refusal;
+use ln_msgs::{Error, Message, Records, Refusal};
 use ln_store::{MemoryStore, Progress, RecordStore, Updates, decode_record};
 use std::alloc::Global;
 
@@ -142,8 +141,15 @@ fn load<S: RecordStore + Drop>(alloc: Global, side: &mut Side<S>) -> Result<Answ
 
 /// By what a side refuses an error for all channels.
 fn heard<S: RecordStore + Drop>(alloc: Global, side: &mut Side<S>) -> u32 {
-    let error = error(alloc, [0; 32]);
-    code_of(side.link.handle(alloc, &mut side.store, error).err())
+    let error = Error {
+        channel_id: [0; 32],
+        bytes: Bytes::empty(alloc),
+        records: Records::empty(alloc),
+    };
+    let told = side
+        .link
+        .handle(alloc, &mut side.store, Message::Error(error));
+    code_of(told.err())
 }
 
 fn refused(code: u32) -> Result<Answer, Refusal> {

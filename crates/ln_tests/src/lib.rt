@@ -19,30 +19,18 @@ mod greatest;
 #[cfg(test)]
 mod hooks;
 #[cfg(test)]
-mod hostile;
-#[cfg(test)]
 mod keys;
 #[cfg(test)]
 mod ledger;
-#[cfg(test)]
-mod link;
 #[cfg(test)]
 mod loading;
 #[cfg(test)]
 mod log;
 #[cfg(test)]
-mod opening;
-#[cfg(test)]
 mod record;
 #[cfg(test)]
-mod reopening;
-#[cfg(test)]
 mod resume;
-#[cfg(test)]
-mod saving;
 #[cfg(test)]
 mod store;
 #[cfg(test)]
 mod testing;
-#[cfg(test)]
-mod written;

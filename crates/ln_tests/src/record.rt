@@ -183,6 +183,9 @@ const CHANGED: [[Change; 3]; 3] = [
     ],
 ];
 
+/// An HTLC that is held, in place of one that is failed as malformed.
+const HELD: Change = (79, "0000000000000006050000000000000004");
+
 const UNREADABLE: [Change; 55] = [
     (1, "02"), // role
     (2, "37"), // flags
@@ -251,7 +254,7 @@ fn digit(sign: u8) -> u8 {
 }
 
 /// Writes the bytes of these digits behind the others.
-pub fn put_hex(out: &mut Vec<u8>, digits: &[u8]) -> Result<(), Refusal> {
+fn put_hex(out: &mut Vec<u8>, digits: &[u8]) -> Result<(), Refusal> {
     let mut high = None;
     for sign in digits {
         match high {
@@ -304,15 +307,34 @@ fn is_written_as(alloc: Global, found: &LinkRecord, bytes: &[u8]) -> Result<bool
     Ok(again.as_slice() == bytes)
 }
 
-/// Whether these bytes are written again as they were.
-fn is_written_again(alloc: Global, bytes: &[u8]) -> Result<bool, Refusal> {
+/// Whether what these bytes are read as is written as those.
+fn is_read_and_written(alloc: Global, bytes: &[u8], again: &[u8]) -> Result<bool, Refusal> {
     let found = decode_record(alloc, bytes);
     let same = match &found {
-        Ok(found) => is_written_as(alloc, found, bytes),
+        Ok(found) => is_written_as(alloc, found, again),
         Err(refusal) => Err(*refusal),
     };
     drop(found);
     same
+}
+
+/// Whether these bytes are written again as they were.
+fn is_written_again(alloc: Global, bytes: &[u8]) -> Result<bool, Refusal> {
+    is_read_and_written(alloc, bytes, bytes)
+}
+
+/// What the record with these changes is refused by in version 1; 0 where it is read, and written in version 2.
+fn code_in_version_1(alloc: Global, changes: &[Change]) -> u32 {
+    let Ok(old) = record_with(alloc, 1, changes) else {
+        return 2;
+    };
+    let Ok(new) = record_with(alloc, 2, changes) else {
+        return 2;
+    };
+    match is_read_and_written(alloc, old.as_slice(), new.as_slice()) {
+        Err(refusal) => code_of(Some(refusal)),
+        Ok(same) => u32::from(!same),
+    }
 }
 
 /// What these bytes are refused by; 0 where they are a record, which is written again as it was; 1 where it isn't.
@@ -356,7 +378,7 @@ fn changes_taken(alloc: Global, bytes: &mut [u8]) -> u32 {
 
 #[test]
 fn small_record(rt: HostRuntime) -> Result<(), Refusal> {
-    let bytes = record_with(rt.alloc(), 1, &[])?;
+    let bytes = record_with(rt.alloc(), 2, &[])?;
     assert!(rt; is_written_again(rt.alloc(), bytes.as_slice())?);
     Ok(())
 }
@@ -365,28 +387,44 @@ fn small_record(rt: HostRuntime) -> Result<(), Refusal> {
 fn records_that_are_read(rt: HostRuntime) {
     let alloc = rt.alloc();
     one_record();
-    assert!(rt; code_with(alloc, 1, &[]) == 0);
+    assert!(rt; code_with(alloc, 2, &[]) == 0);
     assert!(rt; code_with(alloc, 9, &[]) == 71);
+    assert!(rt; code_with(alloc, 3, &[]) == 71);
     assert!(rt; code_with(alloc, 0, &[]) == 71);
-    assert!(rt; READABLE.iter().all(|row| code_with(alloc, 1, &[*row]) == 0));
-    assert!(rt; CHANGED.iter().all(|rows| code_with(alloc, 1, rows) == 0));
-    assert!(rt;
-        UNREADABLE
-            .iter()
-            .all(|row| code_with(alloc, 1, &[*row]) == 70)
-    );
-    assert!(rt;
-        UNREADABLE
-            .iter()
-            .all(|row| code_with(alloc, 2, &[*row]) == 71)
-    );
+    assert!(rt; code_with(alloc, 2, &[HELD]) == 0);
+    for row in &READABLE {
+        assert_eq!(rt; code_with(alloc, 2, &[*row]), 0);
+    }
+    for rows in &CHANGED {
+        assert_eq!(rt; code_with(alloc, 2, rows), 0);
+    }
+    for row in &UNREADABLE {
+        assert_eq!(rt; code_with(alloc, 2, &[*row]), 70);
+        assert_eq!(rt; code_with(alloc, 3, &[*row]), 71);
+    }
+}
+
+#[test]
+fn records_of_version_1(rt: HostRuntime) {
+    let alloc = rt.alloc();
+    assert!(rt; code_in_version_1(alloc, &[]) == 0);
+    assert!(rt; code_in_version_1(alloc, &[HELD]) == 70);
+    for row in &READABLE {
+        assert_eq!(rt; code_in_version_1(alloc, &[*row]), 0);
+    }
+    for rows in &CHANGED {
+        assert_eq!(rt; code_in_version_1(alloc, rows), 0);
+    }
+    for row in &UNREADABLE {
+        assert_eq!(rt; code_in_version_1(alloc, &[*row]), 70);
+    }
 }
 
 #[test]
 fn damaged_records(rt: HostRuntime) {
     let alloc = rt.alloc();
     assert!(rt; code_of_bytes(alloc, &[]) == 70);
-    let Ok(mut bytes) = record_with(alloc, 1, &[]) else {
+    let Ok(mut bytes) = record_with(alloc, 2, &[]) else {
         return;
     };
     assert!(rt; bytes.len() == 4199);

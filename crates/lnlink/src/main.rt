@@ -1,12 +1,13 @@
 //! `lnlink`: channel links of a payment channel node, on the command line.
 #![tactic(auto)]
 
-mod choice;
+ghost use Rattle.std.specs.Prelude.{◌≡◌, ◌⊎◌, IfErr};
+ghost use Rattle.ln_msgs.specs.declared.refusals.refusal.Refusal.TheVariants.{Memory};
 
-use choice::{Asked, choose};
-use ln_commands::{ProgramError, perform};
+use ln_commands::{Choice, ProgramError, perform};
 use ln_demo::demo;
 use ln_msgs::{Counted, Refusal};
+use ln_words::{Asked, Unasked, choose};
 use std::env::Env;
 use std::io::ErrorKind;
 use std::net::{Net, TcpListener, TcpStream};
@@ -31,21 +32,40 @@ where
     R: Env + Input + Print + AllocGlobal + Threads + Wait + Copy + Send + 'static,
     R: Net<Listener = TcpListener, Stream = TcpStream>,
 {
-    let mut writer = Counted::new(io::writer(rt));
-    match choose(rt.alloc(), words(rt)?.as_slice())? {
-        Asked::Demo => match demo(*rt, rt.alloc(), &mut writer) {
+    match asked(rt)? {
+        Asked::Answer => command(rt, Choice::Answer),
+        Asked::Decode(hex) => command(rt, Choice::Decode(hex)),
+        Asked::Simulate => command(rt, Choice::Simulate),
+        Asked::Demo => match demo(*rt, rt.alloc(), &mut Counted::new(io::writer(rt))) {
             Ok(()) => Ok(()),
             Err(refusal) => Err(ProgramError::Refused(refusal)),
         },
-        Asked::Command(choice) => {
-            let mut reader = Counted::new(rt.reader());
-            perform(rt.alloc(), choice, &mut reader, &mut writer)
-        }
     }
 }
 
-/// The words behind the program's name. Words that aren't text are no command.
-fn words<R: Env + AllocGlobal>(rt: &R) -> Result<Vec<String>, ProgramError> {
+/// Performs a command, with standard input and output.
+fn command<R: Input + Print + AllocGlobal>(rt: &R, choice: Choice) -> Result<(), ProgramError> {
+    let mut reader = Counted::new(rt.reader());
+    let mut writer = Counted::new(io::writer(rt));
+    perform(rt.alloc(), choice, &mut reader, &mut writer)
+}
+
+/// What the words after the program's name ask for. Usage where they are no command or aren't text, 60 where there is
+/// no memory to read them.
+fn asked<R: Env + AllocGlobal>(rt: &R) -> Result<Asked, ProgramError>
+    ensures { IfErr result (λ e. (e ≡ ProgramError.Usage) ⊎ (e ≡ ProgramError.Refused Memory)) }
+{
+    match choose(rt.alloc(), words(rt)?.as_slice()) {
+        Ok(asked) => Ok(asked),
+        Err(Unasked::Usage) => Err(ProgramError::Usage),
+        Err(Unasked::Memory) => Err(ProgramError::Refused(Refusal::Memory)),
+    }
+}
+
+/// The words after the program's name. Words that aren't text are usage.
+fn words<R: Env + AllocGlobal>(rt: &R) -> Result<Vec<String>, ProgramError>
+    ensures { IfErr result (λ e. (e ≡ ProgramError.Usage) ⊎ (e ≡ ProgramError.Refused Memory)) }
+{
     let all = match env::args(rt) {
         Ok(all) => all,
         Err(error) if error.kind() == ErrorKind::OutOfMemory => {
@@ -59,6 +79,3 @@ fn words<R: Env + AllocGlobal>(rt: &R) -> Result<Vec<String>, ProgramError> {
     }
     Ok(words)
 }
-
-#[cfg(test)]
-mod tests;

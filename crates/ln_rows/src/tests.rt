@@ -1,0 +1,5 @@
+//! What no line of a case can say.
+
+mod hooks;
+mod records;
+mod scripts;

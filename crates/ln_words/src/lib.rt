@@ -1,0 +1,11 @@
+//! The words of the command line: what they ask for.
+#![tactic(auto)]
+
+mod asked;
+mod choosing;
+
+pub use asked::{Asked, Unasked};
+pub use choosing::choose;
+
+#[cfg(test)]
+mod tests;
