@@ -1,0 +1,324 @@
+-- What a book commands a channel about an HTLC is what the machine of a payment asks for.
+use Rattle.std.proofs.Common.{◌≡◌, inl, inr, ℕ, List, [], ◌∷◌, refl, sym, ap, ◌∙◌, subst, Bool, true, false, cond, not}
+use Rattle.std.proofs.Common.{◌&&◌, Option, Some, None}
+use Rattle.ln_log.specs.declared.mark.Mark.{Mark as LogMark}
+use Rattle.ln_log.specs.declared.mark.Mark.TheVariants as mark
+use Rattle.ln_hooks.specs.declared.event.How.{How}
+use Rattle.ln_hooks.specs.declared.event.How.TheVariants as how
+use Rattle.ln_channel.specs.declared.command.Command.{Command}
+use Rattle.ln_channel.specs.declared.command.Command.TheVariants as command
+use Rattle.ln_tables.specs.declared.htlc.Key.{Key}
+use Rattle.ln_tables.specs.declared.htlc.Way.{Way as BookWay}
+use Rattle.ln_tables.specs.declared.htlc.Way.TheVariants as way
+use Rattle.ln_tables.specs.declared.htlc.Back.{Back as BookBack}
+use Rattle.ln_tables.specs.declared.htlc.Back.TheVariants as back
+use Rattle.ln_tables.specs.declared.htlc.Htlc.{Htlc}
+use Rattle.ln_tables.specs.declared.entry.Out.{Out}
+use Rattle.ln_tables.specs.declared.entry.Out.TheVariants as out
+use Rattle.ln_tables.specs.Replay.{same, is_settled, is_nowhere, is_open}
+use Rattle.ln_book.specs.Commands.{Services, due, command_of, command_by, first_due, or_next, with_out, is_over_in}
+use Rattle.ln_book.specs.Commands.{forwards_in}
+use Rattle.ln_book.specs.Commands.{has_removal, removal_by, removal_by_way, removal_over}
+use Rattle.ln_book.specs.Commands.{forget_by}
+use Rattle.ln_payment.specs.Parts.{Kind, Fulfils, Fails, Forward, Answer, Way, Nowhere, Refused, Offered, Over}
+use Rattle.ln_payment.specs.Parts.{Back, Open, Sent, Gone, Settled, Note}
+use Rattle.ln_payment.specs.Moves as move
+use Rattle.ln_circuits.specs.Snapshot.{IsIn}
+use Rattle.ln_circuits.proofs.Links.{mark_as}
+use Rattle.ln_circuits.proofs.Entries.{same_is, kind_of, back_as, IsWayOf, IsNoteOf}
+use Rattle.ln_circuits.proofs.Lists.{both}
+
+-- ---- the first that is due is of an HTLC of the book
+
+pub record IsDue (s : Services) (c : List ℕ) (xs : List Htlc) (o : Out) (x : Command) : Type 0 where
+  pub htlc : Htlc
+  pub among : IsIn htlc xs
+  pub due_is : due c htlc ≡ Some o
+  pub command : command_of s htlc o ≡ Some x
+
+out_is : (o p : Out) (a : Option Command) (x : Command) → with_out o a ≡ Some (p, x) → (o ≡ p) × (a ≡ Some x)
+out_is o p None x e = absurd (cc)
+out_is o p (Some y) x e =
+    let pair : ◌≡◌ {A = Out × Command} (o, y) (p, x) = cc in
+    (ap (λ (z : Out × Command). z.0) pair, ap (λ (z : Out × Command). Some z.1) pair)
+
+pub first_is : (s : Services) (c : List ℕ) (xs : List Htlc) (o : Out) (x : Command)
+    → first_due s c xs ≡ Some (o, x) → IsDue s c xs o x
+first_is s c [] o x e = absurd (cc)
+first_is s c (h ∷ hs) o x e = cases (command_by s h (due c h)) refl e (λ r. first_is s c hs o x r)
+  where
+    later : IsDue s c hs o x → IsDue s c (h ∷ hs) o x
+    later r = record { htlc = r.htlc; among = inr r.among; due_is = r.due_is; command = r.command }
+
+    here : (d : Option Out) → due c h ≡ d → command_by s h d ≡ Some (o, x) → IsDue s c (h ∷ hs) o x
+    here None is f = absurd (cc)
+    here (Some p) is f =
+        let q = out_is p o (command_of s h p) x f in
+        record {
+          htlc = h;
+          among = inl refl;
+          due_is = is ∙ ap Some q.0;
+          command = ap (command_of s h) (sym q.0) ∙ q.1;
+        }
+
+    cases : (a : Option (Out × Command)) → command_by s h (due c h) ≡ a → or_next a (first_due s c hs) ≡ Some (o, x)
+        → (first_due s c hs ≡ Some (o, x) → IsDue s c hs o x) → IsDue s c (h ∷ hs) o x
+    cases None is f rest = later (rest f)
+    cases (Some y) is f rest =
+        let same_pair : ◌≡◌ {A = Out × Command} y (o, x) = cc in
+        here (due c h) refl (is ∙ ap Some same_pair)
+
+-- ---- which it is
+
+-- the tests in their order
+pub data IsDueBy (c : List ℕ) (h : Htlc) (o : Out) : Type 0 where
+  Forgets : (decided : h.decided ≡ true) (settled : is_settled h.back ≡ true) (over : is_over_in c h.way ≡ true)
+      (is : o ≡ out.Forgetting h.key) → IsDueBy c h o
+  Offers : (decided : h.decided ≡ true) (unsettled : is_settled h.back ≡ false) (nowhere : is_nowhere h.way ≡ true)
+      (forwards : forwards_in c h.mark ≡ true) (is : o ≡ out.Adding h.key) → IsDueBy c h o
+  Removes : (decided : h.decided ≡ true) (told : has_removal h.mark h.way ≡ true) (open_still : is_open h.back ≡ true)
+      (here : same c h.key.channel ≡ true) (is : o ≡ out.Removing h.key) → IsDueBy c h o
+
+pub due_by : (c : List ℕ) (h : Htlc) (o : Out) → due c h ≡ Some o → IsDueBy c h o
+due_by c h o e = decided h.decided refl e
+  where
+    third : (d : h.decided ≡ true) (b : Bool) → (has_removal h.mark h.way &&
+        (is_open h.back && same c h.key.channel)) ≡ b
+        → cond b (Some (out.Removing h.key)) None ≡ Some o → IsDueBy c h o
+    third d true is f =
+        let p = both (has_removal h.mark h.way) (is_open h.back && same c h.key.channel) is in
+        let q = both (is_open h.back) (same c h.key.channel) p.1 in
+        let o_is : out.Removing h.key ≡ o = cc in
+        Removes d p.0 q.0 q.1 (sym o_is)
+    third d false is f = absurd (cc)
+
+    second : (d : h.decided ≡ true) → is_settled h.back ≡ false → (b : Bool)
+        → (is_nowhere h.way && forwards_in c h.mark) ≡ b
+        → cond b (Some (out.Adding h.key)) (cond (has_removal h.mark h.way && (is_open h.back && same c h.key.channel))
+        (Some (out.Removing h.key)) None) ≡ Some o → IsDueBy c h o
+    second d u true is f =
+        let p = both (is_nowhere h.way) (forwards_in c h.mark) is in
+        let o_is : out.Adding h.key ≡ o = cc in
+        Offers d u p.0 p.1 (sym o_is)
+    second d u false is f = third d (has_removal h.mark h.way && (is_open h.back && same c h.key.channel)) refl f
+
+    over : (d : h.decided ≡ true) → is_settled h.back ≡ true → (b : Bool) → is_over_in c h.way ≡ b
+        → cond b (Some (out.Forgetting h.key)) None ≡ Some o → IsDueBy c h o
+    over d u true is f = let o_is : out.Forgetting h.key ≡ o = cc in Forgets d u is (sym o_is)
+    over d u false is f = absurd (cc)
+
+    first : (d : h.decided ≡ true) → (b : Bool) → is_settled h.back ≡ b
+        → cond b (cond (is_over_in c h.way) (Some (out.Forgetting h.key)) None)
+        (cond (is_nowhere h.way && forwards_in c h.mark) (Some (out.Adding h.key))
+        (cond (has_removal h.mark h.way && (is_open h.back && same c h.key.channel))
+        (Some (out.Removing h.key)) None)) ≡ Some o
+        → IsDueBy c h o
+    first d true is f = over d is (is_over_in c h.way) refl f
+    first d false is f = second d is (is_nowhere h.way && forwards_in c h.mark) refl f
+
+    decided : (b : Bool) → h.decided ≡ b
+        → cond (not b) None (cond (is_settled h.back) (cond (is_over_in c h.way) (Some (out.Forgetting h.key)) None)
+        (cond (is_nowhere h.way && forwards_in c h.mark) (Some (out.Adding h.key))
+        (cond (has_removal h.mark h.way && (is_open h.back && same c h.key.channel))
+        (Some (out.Removing h.key)) None))) ≡ Some o
+        → IsDueBy c h o
+    decided true is f = first is (is_settled h.back) refl f
+    decided false is f = absurd (cc)
+
+-- ---- what the machine asks for
+
+module _ (id_of : ℕ → List ℕ) (x : Htlc) (n : Note) (is : IsNoteOf id_of x n) where
+  settled_so : is_settled x.back ≡ true → n.back ≡ Settled
+  settled_so e = cases x.back is.back e
+    where
+      cases : (b : BookBack) → back_as b ≡ n.back → is_settled b ≡ true → n.back ≡ Settled
+      cases back.Open f g = absurd (cc)
+      cases back.Sent f g = absurd (cc)
+      cases back.Gone f g = absurd (cc)
+      cases back.Settled f g = sym f
+
+  -- a result is forgotten where the incoming HTLC is settled
+  pub asks_to_forget : is_settled x.back ≡ true → move.IsSettled (Some n)
+  asks_to_forget e = settled_so e
+
+  nowhere_so : is_nowhere x.way ≡ true → n.way ≡ Nowhere
+  nowhere_so e = cases x.way n.way is.way e
+    where
+      cases : (v : BookWay) (w : Way) → IsWayOf id_of v w → is_nowhere v ≡ true → w ≡ Nowhere
+      cases way.Nowhere Nowhere i f = refl
+      cases way.Nowhere Refused i f = absurd i
+      cases way.Nowhere (Offered c j) i f = absurd i
+      cases way.Nowhere (Over c j k) i f = absurd i
+      cases way.Refused w i f = absurd (cc)
+      cases (way.Offered k) w i f = absurd (cc)
+      cases (way.Over k h) w i f = absurd (cc)
+
+  forward_so : (c : List ℕ) → forwards_in c x.mark ≡ true → n.mark ≡ Forward
+  forward_so c e = cases x.mark is.mark e
+    where
+      cases : (m : LogMark) → mark_as m ≡ Some n.mark → forwards_in c m ≡ true → n.mark ≡ Forward
+      cases mark.None f g = absurd (cc)
+      cases (mark.Forward channel amount expiry) f g = let e : Forward ≡ n.mark = cc in sym e
+      cases (mark.Fail reason) f g = absurd (cc)
+      cases (mark.Malformed code) f g = absurd (cc)
+      cases (mark.Fulfil preimage) f g = absurd (cc)
+      cases (mark.Held event) f g = absurd (cc)
+
+  unsettled : is_settled x.back ≡ false → n.back ≡ Settled → ⊥
+  unsettled e f = cases x.back is.back e
+    where
+      cases : (b : BookBack) → back_as b ≡ n.back → is_settled b ≡ false → ⊥
+      cases back.Open g h = absurd (let no : Open ≡ Settled = g ∙ f in cc)
+      cases back.Sent g h = absurd (let no : Sent ≡ Settled = g ∙ f in cc)
+      cases back.Gone g h = absurd (let no : Gone ≡ Settled = g ∙ f in cc)
+      cases back.Settled g h = absurd (cc)
+
+  -- an HTLC goes out
+  pub asks_to_offer : (c : List ℕ) → is_settled x.back ≡ false → is_nowhere x.way ≡ true → forwards_in c x.mark ≡ true
+      → move.Offers (Some n)
+  asks_to_offer c u v f =
+      subst (λ m. move.AsksToOffer m n.way n.back) (sym (forward_so c f))
+      (subst (λ w. move.AsksToOffer Forward w n.back) (sym (nowhere_so v)) (cases n.back (unsettled u)))
+    where
+      cases : (b : Back) → (b ≡ Settled → ⊥) → move.AsksToOffer Forward Nowhere b
+      cases Open g = tt
+      cases Sent g = tt
+      cases Gone g = tt
+      cases Settled g = absurd (g refl)
+
+-- a command that removes the peer's HTLC of this id so
+abbrev pub IsRemoval : ℕ → Kind → Command → Type 0
+IsRemoval id k (command.Fulfil i preimage) = (i ≡ id) × (Fulfils ≡ k)
+IsRemoval id k (command.Fail i reason) = (i ≡ id) × (Fails ≡ k)
+IsRemoval id k (command.Malformed i sha code) = (i ≡ id) × (Fails ≡ k)
+IsRemoval id k (command.Confirm i) = ⊥
+IsRemoval id k (command.Add amount hash expiry onion origin) = ⊥
+IsRemoval id k (command.Fee feerate) = ⊥
+IsRemoval id k command.Sign = ⊥
+IsRemoval id k (command.Shutdown script) = ⊥
+IsRemoval id k (command.Decide event mark) = ⊥
+IsRemoval id k (command.Forget i) = ⊥
+IsRemoval id k (command.Resume event mark) = ⊥
+
+module _ (id_of : ℕ → List ℕ) (s : Services) (x : Htlc) (n : Note) (is : IsNoteOf id_of x n) where
+  open_so : is_open x.back ≡ true → n.back ≡ Open
+  open_so e = cases x.back is.back e
+    where
+      cases : (b : BookBack) → back_as b ≡ n.back → is_open b ≡ true → n.back ≡ Open
+      cases back.Open f g = sym f
+      cases back.Sent f g = absurd (cc)
+      cases back.Gone f g = absurd (cc)
+      cases back.Settled f g = absurd (cc)
+
+  over_so : (h : How) (c : Command) → Some (removal_over s x.key.id h) ≡ Some c → IsRemoval x.key.id (kind_of h) c
+  over_so (how.Fulfilled preimage) c e = let c_is : command.Fulfil x.key.id preimage ≡ c = cc in
+      subst (IsRemoval x.key.id Fulfils) c_is (refl, refl)
+  over_so (how.Failed reason) c e = let c_is : command.Fail x.key.id reason ≡ c = cc in
+      subst (IsRemoval x.key.id Fails) c_is (refl, refl)
+  over_so (how.Malformed sha code) c e = cases c e
+    where
+      cases : (c : Command) → Some (removal_over s x.key.id (how.Malformed sha code)) ≡ Some c
+          → IsRemoval x.key.id Fails c
+      cases c e = let c_is : removal_over s x.key.id (how.Malformed sha code) ≡ c = cc in
+          subst (IsRemoval x.key.id Fails) c_is (refl, refl)
+
+  way_so : (v : BookWay) (w : Way) → IsWayOf id_of v w → (c : Command) → removal_by_way s x.key.id v ≡ Some c
+      → (k : Kind) × IsRemoval x.key.id k c × move.IsAnswer k Forward w
+  way_so way.Nowhere w i c e = absurd (cc)
+  way_so way.Refused Nowhere i c e = absurd i
+  way_so way.Refused Refused i c e = cases c e
+    where
+      cases : (c : Command) → removal_by_way s x.key.id way.Refused ≡ Some c
+          → (k : Kind) × IsRemoval x.key.id k c × move.IsAnswer k Forward Refused
+      cases c e = (Fails, some_fail c e, refl)
+        where
+          some_fail : (c : Command) → removal_by_way s x.key.id way.Refused ≡ Some c → IsRemoval x.key.id Fails c
+          some_fail (command.Fail i reason) e = (let same_fail : x.key.id ≡ i = cc in sym same_fail, refl)
+          some_fail (command.Confirm i) e = absurd (cc)
+          some_fail (command.Add amount hash expiry onion origin) e = absurd (cc)
+          some_fail (command.Fulfil i preimage) e = absurd (cc)
+          some_fail (command.Malformed i sha code) e = absurd (cc)
+          some_fail (command.Fee feerate) e = absurd (cc)
+          some_fail command.Sign e = absurd (cc)
+          some_fail (command.Shutdown script) e = absurd (cc)
+          some_fail (command.Decide event m) e = absurd (cc)
+          some_fail (command.Forget i) e = absurd (cc)
+          some_fail (command.Resume event m) e = absurd (cc)
+  way_so way.Refused (Offered d j) i c e = absurd i
+  way_so way.Refused (Over d j k) i c e = absurd i
+  way_so (way.Offered k) w i c e = absurd (cc)
+  way_so (way.Over k h) Nowhere i c e = absurd i
+  way_so (way.Over k h) Refused i c e = absurd i
+  way_so (way.Over k h) (Offered d j) i c e = absurd i
+  way_so (way.Over k h) (Over d j m) i c e = (kind_of h, over_so h c e, sym i.1)
+
+  mark_so : (m : LogMark) → mark_as m ≡ Some n.mark → (c : Command) → removal_by s x m ≡ Some c
+      → (k : Kind) × IsRemoval x.key.id k c × move.IsAnswer k n.mark n.way
+  mark_so mark.None f c e = absurd (cc)
+  mark_so (mark.Forward channel amount expiry) f c e =
+      let m_is : Forward ≡ n.mark = cc in
+      let r = way_so x.way n.way is.way c e in
+      (r.0, r.1, subst (λ z. move.IsAnswer r.0 z n.way) m_is r.2)
+  mark_so (mark.Fail reason) f c e =
+      let m_is : Answer Fails ≡ n.mark = cc in
+      let c_is : command.Fail x.key.id reason ≡ c = cc in
+      (Fails, subst (IsRemoval x.key.id Fails) c_is (refl, refl), subst (λ z. move.IsAnswer Fails z n.way) m_is refl)
+  mark_so (mark.Malformed code) f c e = cases c e
+    where
+      cases : (c : Command) → removal_by s x (mark.Malformed code) ≡ Some c
+          → (k : Kind) × IsRemoval x.key.id k c × move.IsAnswer k n.mark n.way
+      cases c e =
+          let m_is : Answer Fails ≡ n.mark = cc in
+          (Fails, some_bad c e, subst (λ z. move.IsAnswer Fails z n.way) m_is refl)
+        where
+          some_bad : (c : Command) → removal_by s x (mark.Malformed code) ≡ Some c → IsRemoval x.key.id Fails c
+          some_bad (command.Malformed i sha k) e = (let same_bad : x.key.id ≡ i = cc in sym same_bad, refl)
+          some_bad (command.Fail i reason) e = absurd (cc)
+          some_bad (command.Confirm i) e = absurd (cc)
+          some_bad (command.Add amount hash expiry onion origin) e = absurd (cc)
+          some_bad (command.Fulfil i preimage) e = absurd (cc)
+          some_bad (command.Fee feerate) e = absurd (cc)
+          some_bad command.Sign e = absurd (cc)
+          some_bad (command.Shutdown script) e = absurd (cc)
+          some_bad (command.Decide event m) e = absurd (cc)
+          some_bad (command.Forget i) e = absurd (cc)
+          some_bad (command.Resume event m) e = absurd (cc)
+  mark_so (mark.Fulfil preimage) f c e =
+      let m_is : Answer Fulfils ≡ n.mark = cc in
+      let c_is : command.Fulfil x.key.id preimage ≡ c = cc in (
+        Fulfils,
+        subst (IsRemoval x.key.id Fulfils) c_is (refl, refl),
+        subst
+            (λ z. move.IsAnswer Fulfils z n.way) m_is refl,
+      )
+  mark_so (mark.Held event) f c e = absurd (cc)
+
+  -- the HTLC that came in is removed as the machine asks
+  pub asks_to_remove : (c : Command) → is_open x.back ≡ true → removal_by s x x.mark ≡ Some c
+      → (k : Kind) × IsRemoval x.key.id k c × move.Removes k (Some n)
+  asks_to_remove c o e =
+      let r = mark_so x.mark is.mark c e in
+      (r.0, r.1, subst (λ b. move.AsksToRemove r.0 n.mark n.way b) (sym (open_so o)) r.2)
+
+  -- what is forgotten is of the outgoing HTLC
+  pub asks_of : (d : List ℕ) → is_over_in d x.way ≡ true → (c : Command) → forget_by x.way ≡ Some c
+      → (e : ℕ) × (j : ℕ) × (k : Kind) × (n.way ≡ Over e j k) × (d ≡ id_of e) × (c ≡ command.Forget j)
+  asks_of d o c f = cases x.way n.way is.way o f
+    where
+      cases : (v : BookWay) (w : Way) → IsWayOf id_of v w → is_over_in d v ≡ true → forget_by v ≡ Some c
+          → (e : ℕ) × (j : ℕ) × (k : Kind) × (w ≡ Over e j k) × (d ≡ id_of e) × (c ≡ command.Forget j)
+      cases way.Nowhere w i o f = absurd (cc)
+      cases way.Refused w i o f = absurd (cc)
+      cases (way.Offered k) w i o f = absurd (cc)
+      cases (way.Over k h) Nowhere i o f = absurd i
+      cases (way.Over k h) Refused i o f = absurd i
+      cases (way.Over k h) (Offered e j) i o f = absurd i
+      cases (way.Over k h) (Over e j m) i o f =
+          let c_is : command.Forget k.id ≡ c = cc in (
+            e,
+            j,
+            m,
+            refl,
+            same_is d k.channel o ∙ ap (λ (z : Key). z.channel) i.0,
+            sym c_is ∙ ap (λ (z : Key). command.Forget z.id) i.0,
+          )

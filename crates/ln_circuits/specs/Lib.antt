@@ -1,0 +1,4 @@
+pub mod Snapshot
+pub mod Shift
+pub mod Happens
+pub mod Circuit
