@@ -16,8 +16,12 @@ ghost use Rattle.ln_channels.specs.Sending.{NoneAddsLate};
 ghost use Rattle.ln_channels.specs.Setup.{all_setups, OpensAsSet};
 ghost use Rattle.ln_channels.specs.Signing.{SignCovered};
 ghost use Rattle.ln_channels.specs.World as channels;
+ghost use Rattle.ln_channels.specs.declared.step.Node.{Node};
 ghost use Rattle.ln_desks.specs.Seated.{Answers};
 ghost use Rattle.ln_world.specs.Promises.{OfEach, CallsFollow, DesksStand, events_of, channel_steps};
+ghost use Rattle.ln_circuits.specs.Snapshot.{Incoming};
+ghost use Rattle.ln_payments.specs.Circuit.{PaysOnce};
+ghost use Rattle.ln_payments.specs.Commands.{AreOfBook};
 ghost use Rattle.ln_script.specs.Keys.{toy};
 ghost use Rattle.ln_script.specs.Step.{ToyStep, is_hook};
 ghost use Rattle.ln_script.specs.Script.{lines, script_at, script_hooks, IsFirstBad};
@@ -25,6 +29,7 @@ ghost use Rattle.ln_script.specs.Report.{said_by, left_by, AfterEachScript};
 ghost use Rattle.ln_script.specs.Wide.{AreAsWide};
 
 use ln_keys::ToyKeys;
+use ln_payments::one_payment_out;
 use ln_world::{
     a_shutdown_is_answered, agreement, bases_are_the_longest, channels_open_as_set, close_is_last,
     closed_at_one_fee, closing_ends, commands_are_done_exactly, decisions_follow_dispatches,
@@ -70,8 +75,9 @@ pub fn steps_are_wide()
 /// (`ln_world::undecided_events_are_the_machines`), and the close is the last one, of the moves and of what is handed
 /// out (`ln_world::close_is_last`); what is decided was dispatched (`ln_world::decisions_follow_dispatches`). Each end
 /// has a record, from which it comes back where its node restarts (`ln_world::every_end_has_a_record`), as what the
-/// lines bring and what books command is as wide as it is in code. And the base of each end is the longest that its
-/// decided events allow (`ln_world::bases_are_the_longest`).
+/// lines bring and what books command is as wide as it is in code. The base of each end is the longest that its decided
+/// events allow (`ln_world::bases_are_the_longest`). And where a node's ends are asked by its book alone to remove
+/// HTLCs and to forward them, one goes out for each that comes in (`ln_payments::one_payment_out`).
 pub fn scripts_keep_the_promises()
     ensures headline { AfterEachScript (OfEach Headline) }
     ensures no_add_follows_a_shutdown { (text : List ℕ) (steps : List ToyStep) (a : Answers) (hooks number : ℕ)
@@ -118,6 +124,9 @@ pub fn scripts_keep_the_promises()
         → script_at text ≡ Ok steps → DesksStand toy hooks (said_by a hooks steps) }
     ensures every_end_has_a_record { AfterEachScript (OfEach HaveRecords) }
     ensures bases_are_the_longest { AfterEachScript (OfEach BasesAreLongest) }
+    ensures one_payment_out { (text : List ℕ) (steps : List ToyStep) (a : Answers) (hooks : ℕ) (node : Node)
+        → script_at text ≡ Ok steps → AreOfBook toy node (said_by a hooks steps)
+        → (h : Incoming) → PaysOnce node h (left_by a hooks steps) }
 {
     headline::<ToyKeys>();
     never_refused::<ToyKeys>();
@@ -138,4 +147,5 @@ pub fn scripts_keep_the_promises()
     decisions_follow_dispatches::<ToyKeys>();
     every_end_has_a_record::<ToyKeys>();
     bases_are_the_longest::<ToyKeys>();
+    one_payment_out::<ToyKeys>();
 }

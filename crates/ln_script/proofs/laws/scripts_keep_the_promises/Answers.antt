@@ -100,3 +100,7 @@ returns-clause-every_end_has_a_record c text steps a hooks read =
 
 pub returns-clause-bases_are_the_longest : goal.returns-clause-bases_are_the_longest
 returns-clause-bases_are_the_longest c = after_each (OfEach BasesAreLongest) c.bases_are_the_longest.ensures
+
+pub returns-clause-one_payment_out : goal.returns-clause-one_payment_out
+returns-clause-one_payment_out c text steps a hooks node read =
+    c.one_payment_out.ensures (said_by a hooks steps) hooks node

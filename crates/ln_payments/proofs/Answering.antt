@@ -1,0 +1,154 @@
+-- What a link answers to a message and to a command makes of its end: a shift, which is saved, or nothing.
+use Rattle.std.proofs.Common.{◌≡◌, [], refl, sym, ap, subst, Bool, true, false, cond}
+use Rattle.std.proofs.Common.{Option, Some, None, Result, Ok, Err}
+use Rattle.ln_msgs.specs.declared.messages.message.Message.{Message}
+use Rattle.ln_msgs.specs.declared.messages.message.Message.TheVariants as message
+use Rattle.ln_msgs.specs.declared.refusals.refusal.Refusal.{Refusal}
+use Rattle.ln_keys.specs.Signer.{Signer}
+use Rattle.ln_channel.specs.declared.command.Command.{Command}
+use Rattle.ln_channel.specs.declared.unsaved.LineState.{LineState}
+use Rattle.ln_channel.specs.declared.unsaved.LineState.TheVariants.{Met}
+use Rattle.ln_channel.specs.declared.unsaved.Stage.{Stage}
+use Rattle.ln_channel.specs.declared.unsaved.Stage.TheVariants as stage
+use Rattle.ln_channel.specs.Failing.{fails}
+use Rattle.ln_channel.specs.End.{End, Turn}
+use Rattle.ln_channel.specs.Base.{based, based_stage}
+use Rattle.ln_channel.specs.State.{State, is_met, refused}
+use Rattle.ln_channel.specs.Commands.{command_row, note_row, unready_fault}
+use Rattle.ln_channel.specs.Taking.{taken}
+use Rattle.ln_channel.specs.Step.{Done, faulted, turned, awaiting_at, saved_at, is_passed_over, message_fault}
+use Rattle.ln_channel.specs.Step.{line_fault}
+use Rattle.ln_channel.specs.Step.{handled, commanded, asked, obeyed_open, is_of_records, at_hand}
+use Rattle.ln_channels.specs.Both.{left, unchanged}
+use Rattle.ln_channels.proofs.Mirror.{link_at}
+use Rattle.ln_circuits.specs.Shift.{Shift, Stays}
+use Rattle.ln_circuits.proofs.Calls.{IfTurn, taken_shifts, resumed_shifts, command_shifts, note_shifts}
+
+abbrev pub AtSaved : (End → Type 0) → Stage → Type 0
+AtSaved P (stage.Saved e) = P e
+AtSaved P s = ⊥
+
+abbrev pub IfDone : (End → Type 0) → Result Done Refusal → Type 0
+IfDone P (Ok d) = AtSaved P d.stage
+IfDone P (Err r) = Unit {0}
+
+pub turned_so : (P : End → Type 0) (l : LineState) (r : Result Turn Refusal) → IfTurn P r → IfDone P (turned l r)
+turned_so P l (Ok t) h = h
+turned_so P l (Err r) h = tt
+
+pub faulted_so : (P : End → Type 0) (f : Option Refusal) (r : Result Done Refusal) → IfDone P r → IfDone P (faulted f r)
+faulted_so P None r h = h
+faulted_so P (Some x) r h = tt
+
+awaiting_so : (keys : Signer) (m : Message) (e : End) → IfDone (Shift e) (awaiting_at keys m e)
+awaiting_so keys (message.ChannelReestablish m) e = turned_so (Shift e) Met _ (resumed_shifts keys m e)
+awaiting_so keys (message.Warning m) e = tt
+awaiting_so keys (message.Init m) e = tt
+awaiting_so keys (message.Error m) e = tt
+awaiting_so keys (message.Ping m) e = tt
+awaiting_so keys (message.Pong m) e = tt
+awaiting_so keys (message.OpenChannel m) e = tt
+awaiting_so keys (message.AcceptChannel m) e = tt
+awaiting_so keys (message.FundingCreated m) e = tt
+awaiting_so keys (message.FundingSigned m) e = tt
+awaiting_so keys (message.ChannelReady m) e = tt
+awaiting_so keys (message.Shutdown m) e = tt
+awaiting_so keys (message.ClosingSigned m) e = tt
+awaiting_so keys (message.UpdateAddHtlc m) e = tt
+awaiting_so keys (message.UpdateFulfillHtlc m) e = tt
+awaiting_so keys (message.UpdateFailHtlc m) e = tt
+awaiting_so keys (message.UpdateFailMalformedHtlc m) e = tt
+awaiting_so keys (message.UpdateFee m) e = tt
+awaiting_so keys (message.CommitmentSigned m) e = tt
+awaiting_so keys (message.RevokeAndAck m) e = tt
+
+saved_so : (keys : Signer) (l : LineState) (m : Message) (e : End) (b : Bool) → is_met l ≡ b
+    → IfDone (Shift e) (cond b (turned l (taken keys m e)) (awaiting_at keys m e))
+saved_so keys l m e true is = turned_so (Shift e) l (taken keys m e) (taken_shifts keys m e)
+saved_so keys l m e false is = awaiting_so keys m e
+
+passed_so : (keys : Signer) (l : LineState) (m : Message) (e : End) (b : Bool)
+    → IfDone (Shift e) (cond b (Ok (record { line = l; stage = stage.Saved e; outputs = [] }))
+    (faulted (message_fault l (stage.Saved e) m) (saved_at keys l m e)))
+passed_so keys l m e true = Stays refl refl
+passed_so keys l m e false = faulted_so (Shift e) (message_fault l (stage.Saved e) m) (saved_at keys l m e)
+    (saved_so keys l m e (is_met l) refl)
+
+pub halted_so : (P : End → Type 0) (b : Bool) (r : Refusal) (row : Result Done Refusal) → IfDone P row
+    → IfDone P (cond b (Err r) row)
+halted_so P true r row h = tt
+halted_so P false r row h = h
+
+module _ {K : Type 0} (keys : Signer) (halted : Bool) (k : K) (l : LineState) (e : End) where
+  pub handled_shifts : (m : Message) → IfDone (Shift e) (handled keys (link_at halted k l e) m)
+  handled_shifts m = halted_so (Shift e) halted _ (at_hand keys l m (stage.Saved e))
+      (passed_so keys l m e (is_passed_over (stage.Saved e) m))
+
+  pub commanded_shifts : (c : Command) → IfDone (Shift e) (commanded keys (link_at halted k l e) c)
+  commanded_shifts c = halted_so (Shift e) halted _ (asked keys (link_at halted k l e) c) (cases (is_of_records c))
+    where
+      cases : (b : Bool) → IfDone (Shift e) (cond b (turned l (note_row c e)) (obeyed_open keys l c e))
+      cases true = turned_so (Shift e) l (note_row c e) (note_shifts c e)
+      cases false = faulted_so (Shift e) (unready_fault c e) (faulted (line_fault l) (turned l (command_row keys c e)))
+          (faulted_so (Shift e) (line_fault l) (turned l (command_row keys c e))
+          (turned_so (Shift e) l (command_row keys c e) (command_shifts keys c e)))
+
+-- ---- what is left of the link
+
+-- a link is open at this end, and has halted or not
+pub record LinkIs {K : Type 0} (s : State K) (e : End) (h : Bool) : Type 0 where
+  pub stage : s.stage ≡ stage.Saved e
+  pub halted : s.halted ≡ h
+
+-- the end stays where it is refused, or has gone on by a shift, and is saved
+abbrev pub RowSteps : End → End → Result Done Refusal → Type 0
+RowSteps e y (Err r) = y ≡ e
+RowSteps e y (Ok d) = (f : End) × (d.stage ≡ stage.Saved f) × Shift e f × (y ≡ based f)
+
+pub record Steps {K : Type 0} (row : Result Done Refusal) (e : End) (was : Bool) (new : State K) : Type 0 where
+  pub end : End
+  pub link : LinkIs new end was
+  pub steps : RowSteps e end row
+
+module _ {K : Type 0} (halted : Bool) (k : K) (l : LineState) (e : End) where
+  done_by : (after : Refusal → State K → State K) (d : Done) (s : Stage) → d.stage ≡ s → AtSaved (Shift e) s
+      → Steps (Ok d) e halted (left after (Ok d) (link_at halted k l e))
+  done_by after d (stage.Saved f) is h = record {
+    end = based f;
+    link = record { stage = ap based_stage is; halted = refl };
+    steps = (f, is, h, refl);
+  }
+  done_by after d (stage.AwaitsOpen c) is h = absurd h
+  done_by after d (stage.AwaitsAccept c) is h = absurd h
+  done_by after d (stage.AwaitsCreated c) is h = absurd h
+  done_by after d (stage.AwaitsSigned c) is h = absurd h
+  done_by after d stage.Gone is h = absurd h
+
+  refused_is : (r : Refusal) → LinkIs (refused r (link_at halted k l e)) e halted
+  refused_is r = cases halted refl
+    where
+      failed : (c : Bool)
+          → LinkIs (cond c (record { keys = k; line = l; halted = halted; failure = Some r; stage = stage.Saved e })
+          (link_at halted k l e)) e halted
+      failed true = record { stage = refl; halted = refl }
+      failed false = record { stage = refl; halted = refl }
+
+      cases : (b : Bool) → halted ≡ b → LinkIs (cond halted (link_at halted k l e)
+          (cond (fails r) (record { keys = k; line = l; halted = halted; failure = Some r; stage = stage.Saved e })
+          (link_at halted k l e))) e halted
+      cases true is = subst (λ b. LinkIs (cond b (link_at halted k l e)
+          (cond (fails r) (record { keys = k; line = l; halted = halted; failure = Some r; stage = stage.Saved e })
+          (link_at halted k l e))) e halted) (sym is) (record { stage = refl; halted = refl })
+      cases false is = subst (λ b. LinkIs (cond b (link_at halted k l e)
+          (cond (fails r) (record { keys = k; line = l; halted = halted; failure = Some r; stage = stage.Saved e })
+          (link_at halted k l e))) e halted) (sym is) (failed (fails r))
+
+  pub message_left : (row : Result Done Refusal) → IfDone (Shift e) row
+      → Steps row e halted (left refused row (link_at halted k l e))
+  message_left (Ok d) h = done_by refused d d.stage refl h
+  message_left (Err r) h = record { end = e; link = refused_is r; steps = refl }
+
+  pub command_left : (row : Result Done Refusal) → IfDone (Shift e) row
+      → Steps row e halted (left unchanged row (link_at halted k l e))
+  command_left (Ok d) h = done_by unchanged d d.stage refl h
+  command_left (Err r) h = record { end = e; link = record { stage = refl; halted = refl }; steps = refl }
