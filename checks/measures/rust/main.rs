@@ -1,4 +1,4 @@
-//! What `lnlink answer` and `lnlink decode` do, in plain Rust, to compare with (checks/benchmark).
+//! What `lnlink answer` and `lnlink decode` do, in plain Rust, to compare with (checks/measure program).
 use std::fmt::Write as _;
 use std::io::{self, Read, Write};
 use std::process::exit;

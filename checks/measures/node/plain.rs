@@ -1,5 +1,5 @@
 // Two nodes with one channel, which the first pays over, in plain Rust: what main.rattle does, with the same threads, the
-// same messages and the same records. `run` puts checks/benchmark_rust/links.rs in front, which has the links.
+// same messages and the same records. `run` puts checks/measures/rust/links.rs in front, which has the links.
 use std::io::Read;
 use std::net::{TcpListener, TcpStream};
 use std::sync::atomic::{AtomicBool, AtomicU64, Ordering};

@@ -1,4 +1,4 @@
-//! What `payments` of ln_book_calls does, in plain Rust with the same tables, to compare with (checks/benchmark).
+//! What `payments` of ln_book_calls does, in plain Rust with the same tables, to compare with (checks/measure program).
 use std::collections::HashMap;
 use std::io::{self, BufRead};
 
@@ -277,7 +277,7 @@ fn settle(book: &mut Book, onion: &KnownOnion, id: u64) -> u64 {
     passed + forgotten
 }
 
-/// The lines that checks/benchmark gives: a route, a use, a height, and `payments`.
+/// The lines that checks/measure program gives: a route, a use, a height, and `payments`.
 fn main() {
     let mut book = Book::default();
     for line in io::stdin().lock().lines() {
