@@ -1,1 +1,4 @@
 pub mod Renewing
+pub mod Readings
+pub mod Loading
+pub mod Sent

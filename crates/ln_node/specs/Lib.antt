@@ -1,2 +1,4 @@
-pub mod Route
 pub mod Opening
+pub mod Books
+pub mod Stored
+pub mod Node

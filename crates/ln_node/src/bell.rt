@@ -35,10 +35,16 @@ impl Bell {
         self.sounds.park_timeout(rt, low, Duration::from_millis(1));
     }
 
-    /// Waits, where it hasn't sounded since it had sounded so often: until it does, or a tenth of a second.
-    pub(crate) fn rest<R: Wait>(&self, rt: &R, sounds: u64) {
+    /// Waits, where it hasn't sounded since it had sounded so often: until it does, or a tenth of a second; after loads
+    /// in a row that were refused two thousandths of a second, and twice as long after each, up to a second.
+    pub(crate) fn rest<R: Wait>(&self, rt: &R, sounds: u64, refused: u64) {
         let low = (sounds & 0xffff_ffff) as u32;
+        let millis = match refused {
+            0 => 100,
+            1..=9 => 1u64 << refused,
+            _ => 1000,
+        };
         self.sounds
-            .park_timeout(rt, low, Duration::from_millis(100));
+            .park_timeout(rt, low, Duration::from_millis(millis));
     }
 }

@@ -1,34 +1,52 @@
 //! The book of a node, as the threads of its channels reach it.
 
-ghost use Rattle.std.specs.Prelude.{◌≡◌};
-ghost use Rattle.ln_node.specs.Route.{minimum_told};
+ghost use Rattle.std.specs.Prelude.{◌≡◌, [], IfOk};
+ghost use Rattle.ln_switch.specs.Seats.{policy_of};
 
 use crate::bell::Bell;
 use crate::notices::Notices;
 use crate::opening::NodeLink;
 use ln_book::Book;
-use ln_channel::{Channel, Command, Unsaved};
+use ln_channel::Command;
 use ln_forward::Policy;
 use ln_hooks::{ChannelEvent, Verdict};
-use ln_keys::{ChannelKeys, Onion, Role};
+use ln_keys::{ChannelKeys, Onion};
 use ln_log::{ChannelId, Mark};
 use ln_msgs::Refusal;
 use ln_store::RecordStore;
+use ln_switch::{Seat, Use, use_of};
 use ln_turns::{Books, Notice, ReadsEnds};
 use std::alloc::{AllocError, Global};
-use std::sync::atomic::{AtomicU64, Ordering};
+use std::snapshot::Snapshot;
 use std::sync::{Arc, Mutex, OnceLock, Wait};
 
-/// The book of a node, as the threads of one of its channels reach it: its lock is held for one call of the book.
+/// The book of a node, behind its lock.
+#[derive(Drop)]
+pub(crate) struct NodeBook {
+    /// The book.
+    pub(crate) kept: Mutex<Book>,
+    /// The book as it began, for proofs alone.
+    pub(crate) begun: Snapshot<Book>,
+}
+
+impl NodeBook {
+    /// A node's book, which begins so. Takes no memory.
+    pub(crate) fn new(book: Book) -> NodeBook
+        ensures begins_so { result.begun.value ≡ book }
+    {
+        let begun = Snapshot::of(&book);
+        let kept = Mutex::new(book);
+        NodeBook { kept, begun }
+    }
+}
+
+/// The book of a node, as one thread of a channel reaches it: its lock is held for one call of the book.
 #[derive(Drop)]
 pub struct SharedBook<O: Drop> {
-    book: Arc<Mutex<Book>>,
+    book: Arc<NodeBook>,
+    seat: Seat<O>,
     // The channel, once both have signed its opening.
     id: Arc<OnceLock<ChannelId>>,
-    onion: O,
-    policy: Policy,
-    // What the book was told of the channel's end last.
-    told: AtomicU64,
     // Sounds where a worker of the node may have something to do.
     bell: Arc<Bell>,
     notices: Arc<Notices>,
@@ -40,7 +58,7 @@ pub struct SharedBook<O: Drop> {
 #[derive(Drop)]
 pub(crate) struct Common<O: Drop> {
     /// The node's book.
-    pub(crate) book: Arc<Mutex<Book>>,
+    pub(crate) book: Arc<NodeBook>,
     /// How it opens onions.
     pub(crate) onion: O,
     /// What it asks for forwarding.
@@ -51,142 +69,102 @@ pub(crate) struct Common<O: Drop> {
     pub(crate) notices: Arc<Notices>,
 }
 
-/// Nothing was told yet.
-const NOTHING: u64 = 4;
-
 impl<O: Onion + Copy + Drop> SharedBook<O> {
-    /// The book, for this channel of the node, which has no id yet. Takes memory for the id.
-    pub(crate) fn new(
-        alloc: Global,
+    ghost use Rattle.ln_switch.specs.Seats.{said};
+    ghost use Rattle.ln_node.specs.Books.{begun_at, begun_in};
+
+    // The book, for a thread of this channel of the node, whose id will be told here.
+    fn beside(
         common: &Common<O>,
+        id: Arc<OnceLock<ChannelId>>,
         number: usize,
-    ) -> Result<SharedBook<O>, AllocError> {
-        let id = Arc::new(alloc, OnceLock::new())?;
+    ) -> Result<SharedBook<O>, AllocError>
+        ensures reaches_the_book { IfOk result (λ b. begun_at b ≡ begun_in common.now) }
+        ensures asks_by_the_policy { IfOk result (λ b. policy_of b.seat ≡ common.now.policy) }
+        ensures nothing_was_said { IfOk result (λ b. said b.seat ≡ []) }
+    {
         Ok(SharedBook {
             book: Arc::try_clone(&common.book)?,
+            seat: Seat::new(common.onion, common.policy),
             id,
-            onion: common.onion,
-            policy: common.policy,
-            told: AtomicU64::new(NOTHING),
             bell: Arc::try_clone(&common.bell)?,
             notices: Arc::try_clone(&common.notices)?,
             number,
         })
     }
 
-    /// The same, for another thread of the channel.
-    pub fn again(&self) -> Result<SharedBook<O>, AllocError> {
-        Ok(SharedBook {
-            book: Arc::try_clone(&self.book)?,
-            id: Arc::try_clone(&self.id)?,
-            onion: self.onion,
-            policy: self.policy,
-            told: AtomicU64::new(NOTHING),
-            bell: Arc::try_clone(&self.bell)?,
-            notices: Arc::try_clone(&self.notices)?,
-            number: self.number,
-        })
+    /// The book, for the worker and the dispatcher of this channel of the node, which has no id yet. Takes memory for
+    /// the id.
+    pub(crate) fn pair(
+        alloc: Global,
+        common: &Common<O>,
+        number: usize,
+    ) -> Result<(SharedBook<O>, SharedBook<O>), AllocError>
+        ensures reach_the_book { IfOk result (λ b. (begun_at b.0 ≡ begun_in common.now)
+            × (begun_at b.1 ≡ begun_in common.now)) }
+        ensures asks_by_the_policy { IfOk result (λ b. (policy_of b.0.seat ≡ common.now.policy)
+            × (policy_of b.1.seat ≡ common.now.policy)) }
+        ensures nothing_was_said { IfOk result (λ b. (said b.0.seat ≡ []) × (said b.1.seat ≡ [])) }
+    {
+        let id = Arc::new(alloc, OnceLock::new())?;
+        let again = Arc::try_clone(&id)?;
+        let first = SharedBook::beside(common, id, number)?;
+        let second = SharedBook::beside(common, again, number)?;
+        Ok((first, second))
     }
 
     /// The channel, once both have signed its opening.
     pub(crate) fn id(&self) -> Result<Arc<OnceLock<ChannelId>>, AllocError> {
         Ok(Arc::try_clone(&self.id)?)
     }
-
-    // The channel.
-    fn channel(&self) -> Option<ChannelId> {
-        self.id.get().copied()
-    }
-}
-
-// What a book is told of a channel's end: 0 where it has no short id, 1 where it takes no payments, else 2.
-fn told_of(channel: &Channel, works: bool) -> u64 {
-    if channel.marks().short_id.is_none() {
-        return 0;
-    }
-    let closing = channel.closing();
-    let takes = channel.is_ready() && !closing.shut && !closing.peer_shut && !channel.is_closed();
-    if works && takes { 2 } else { 1 }
-}
-
-// Whether an end is connected, and hasn't halted or failed.
-fn works<K: ChannelKeys + Drop>(unsaved: &Unsaved<K>) -> bool {
-    !unsaved.is_halted() && unsaved.failure().is_none() && !unsaved.line().is_down()
-}
-
-// The least that the other end takes, in millisatoshi.
-fn minimum_of(channel: &Channel) -> u64
-    ensures { result ≡ minimum_told channel.now.closing.role channel.now.terms }
-{
-    match channel.closing().role {
-        Role::Funder => channel.terms().accept_channel.htlc_minimum_msat,
-        Role::Fundee => channel.terms().open_channel.htlc_minimum_msat,
-    }
-}
-
-impl<O: Onion + Copy + Drop> SharedBook<O> {
-    // Tells the book of a channel's end. 60 where there is no memory.
-    fn tell<R: Wait>(&self, rt: &R, channel: &Channel, told: u64) -> Result<(), Refusal> {
-        if let Some(short_id) = channel.marks().short_id {
-            let minimum = minimum_of(channel);
-            self.book
-                .lock(rt)
-                .set_route(short_id, channel.id(), self.policy, minimum)?;
-        }
-        self.book.lock(rt).set_usable(channel.id(), told == 2)?;
-        self.told.store(told, Ordering::SeqCst);
-        self.bell.ring();
-        Ok(())
-    }
 }
 
 impl<O: Onion + Copy + Drop> Books for SharedBook<O> {
-    fn take<R: Wait>(&self, rt: &R, alloc: Global) -> Option<Command> {
-        let channel = self.channel()?;
-        match self
-            .book
-            .lock(rt)
-            .take_commands(alloc, &self.onion, channel)
-        {
+    ghost use Rattle.ln_switch.specs.Seats as seats;
+
+    ghost said = { λ b. seats.said b.seat };
+
+    fn take<R: Wait>(&mut self, rt: &R, alloc: Global, channel: ChannelId) -> Option<Command> {
+        let mut book = self.book.kept.lock(rt);
+        match self.seat.take(alloc, &mut book, channel) {
             Ok(command) => command,
             Err(_) => None,
         }
     }
 
-    fn answered<R: Wait>(&self, rt: &R, answer: Result<u64, u16>) {
-        if let Some(channel) = self.channel() {
-            self.book.lock(rt).answered(channel, answer);
-            self.bell.ring();
-        }
+    fn answered<R: Wait>(&mut self, rt: &R, channel: ChannelId, answer: Result<u64, u16>) {
+        let mut book = self.book.kept.lock(rt);
+        self.seat.answered(&mut book, channel, answer);
+        self.bell.ring();
     }
 
-    fn settled<R: Wait>(&self, rt: &R, alloc: Global, told: &ChannelEvent) -> Result<(), Refusal> {
-        match self.channel() {
-            None => Ok(()),
-            Some(channel) => {
-                let done = self.book.lock(rt).settled(alloc, channel, told);
-                self.bell.ring();
-                done
-            }
-        }
+    fn settled<R: Wait>(
+        &mut self,
+        rt: &R,
+        alloc: Global,
+        channel: ChannelId,
+        told: &ChannelEvent,
+    ) -> Result<(), Refusal> {
+        let mut book = self.book.kept.lock(rt);
+        let done = self.seat.settled(alloc, &mut book, channel, told);
+        self.bell.ring();
+        done
     }
 
     fn decide<R: Wait>(
-        &self,
+        &mut self,
         rt: &R,
         alloc: Global,
+        channel: ChannelId,
         number: u64,
         event: &ChannelEvent,
         verdict: Verdict,
     ) -> Result<(), Refusal> {
-        let Some(channel) = self.channel() else {
-            return Ok(());
-        };
-        match self
-            .book
-            .lock(rt)
-            .decide(alloc, &self.onion, channel, number, event, verdict)
-        {
+        let mut book = self.book.kept.lock(rt);
+        let decided = self
+            .seat
+            .decide(alloc, &mut book, channel, number, event, verdict);
+        match decided {
             Ok(mark) => {
                 if let Mark::Held(held) = mark {
                     self.notices.add(rt, self.number, Notice::Held(held));
@@ -199,43 +177,72 @@ impl<O: Onion + Copy + Drop> Books for SharedBook<O> {
     }
 }
 
+impl<O: Onion + Copy + Drop> SharedBook<O> {
+    ghost use Rattle.std.specs.Prelude.{◌++◌, ◌∷◌, OnOk, OnErr};
+    ghost use Rattle.ln_switch.specs.Seats.{said};
+    ghost use Rattle.ln_switch.specs.Saying.{uses};
+
+    // Tells the book which payments the channel's end takes, unless it was told last.
+    fn tell_use<R: Wait>(&mut self, rt: &R, used: Use) -> Result<(), Refusal>
+        ensures says_the_use { OnOk result (said self.new.seat ≡ said self.old.seat ++ uses used ∷ []) }
+        ensures says_nothing_if_refused { OnErr result (said self.new.seat ≡ said self.old.seat) }
+    {
+        if !self.seat.is_news(used) {
+            self.seat.still(used);
+            return Ok(());
+        }
+        let mut book = self.book.kept.lock(rt);
+        let done = self.seat.follow(&mut book, used);
+        self.bell.ring();
+        done
+    }
+
+    // The node knows the channel from now on.
+    fn publish<R: Wait>(&self, rt: &R, channel: ChannelId) {
+        if self.id.get().is_none() {
+            let _ = self.id.set(rt, channel);
+        }
+    }
+}
+
 impl<K, S, O> ReadsEnds<NodeLink<K, S>> for SharedBook<O>
 where
     K: ChannelKeys + Copy,
     S: RecordStore + Drop,
     O: Onion + Copy + Drop,
 {
-    fn dropped<R: Wait>(&self, rt: &R, alloc: Global, end: &NodeLink<K, S>) -> Result<(), Refusal> {
+    fn dropped<R: Wait>(
+        &mut self,
+        rt: &R,
+        alloc: Global,
+        end: &NodeLink<K, S>,
+    ) -> Result<(), Refusal> {
         match end.saved.link.unsaved().saved() {
             None => Ok(()),
             Some(channel) => {
-                let done = self.book.lock(rt).dropped(alloc, channel.id(), channel);
+                let mut book = self.book.kept.lock(rt);
+                let done = self.seat.dropped(alloc, &mut book, channel);
                 self.bell.ring();
                 done
             }
         }
     }
 
-    fn follow<R: Wait>(&self, rt: &R, end: &NodeLink<K, S>) -> Result<(), Refusal> {
+    fn follow<R: Wait>(&mut self, rt: &R, end: &NodeLink<K, S>) -> Result<(), Refusal> {
         let unsaved = end.saved.link.unsaved();
-        let Some(channel) = unsaved.saved() else {
-            return Ok(());
-        };
-        if self.id.get().is_none() {
-            // An opening whose first save failed may be lost yet.
-            if unsaved.is_halted() {
-                return Ok(());
+        match unsaved.saved() {
+            None => Ok(()),
+            Some(channel) => {
+                // An opening whose first save failed may be lost yet.
+                if !unsaved.is_halted() {
+                    self.publish(rt, channel.id());
+                }
+                self.tell_use(rt, use_of(unsaved, channel))
             }
-            let _ = self.id.set(rt, channel.id());
         }
-        let told = told_of(channel, works(unsaved));
-        if told == self.told.load(Ordering::SeqCst) {
-            return Ok(());
-        }
-        self.tell(rt, channel, told)
     }
 
-    fn notice<R: Wait>(&self, rt: &R, notice: Notice) {
+    fn notice<R: Wait>(&mut self, rt: &R, notice: Notice) {
         self.notices.add(rt, self.number, notice);
     }
 
@@ -243,7 +250,7 @@ where
         self.bell.sounds()
     }
 
-    fn rest<R: Wait>(&self, rt: &R, sounds: u64) {
-        self.bell.rest(rt, sounds);
+    fn rest<R: Wait>(&self, rt: &R, sounds: u64, refused: u64) {
+        self.bell.rest(rt, sounds, refused);
     }
 }

@@ -27,18 +27,18 @@ pub(crate) type ItemSeat = RingingSeat<SendSeat<Item<Socket>>>;
 pub(crate) type ReadSeat = PatientSeat<ItemSeat>;
 
 /// A worker with its seats.
-pub(crate) type EndBench<E, H> = Bench<E, Socket, RecvSeat<Item<Socket>>, WaitSend<Task<H>>>;
+pub(crate) type EndBench<E, H, B> = Bench<E, Socket, RecvSeat<Item<Socket>>, WaitSend<Task<H>>, B>;
 
 /// A channel of a node, whose end is an `E`.
 #[derive(Drop)]
-pub(crate) struct ChannelThreads<E: Drop, H: Drop, T: Drop> {
+pub(crate) struct ChannelThreads<E: Drop, H: Drop, T: Drop, B: Drop> {
     orders: Mutex<ItemSeat>,
     hooks: Mutex<WaitSend<Task<H>>>,
     bound: Option<SocketAddr>,
     connections: Arc<Connections>,
     reader: JoinHandle<ReadSeat>,
-    worker: JoinHandle<EndBench<E, H>>,
-    dispatcher: JoinHandle<(WaitRecv<Task<H>>, T)>,
+    worker: JoinHandle<EndBench<E, H, B>>,
+    dispatcher: JoinHandle<(WaitRecv<Task<H>>, T, B)>,
 }
 
 /// What a new channel is made of.
@@ -87,10 +87,10 @@ fn register<H: Drop, R: Wait>(rt: &R, seat: &mut WaitSend<Task<H>>, hook: H) -> 
 }
 
 // Stops a dispatcher, and joins it.
-fn stop_dispatcher<H: Drop, T: Drop, R: Threads + Wait>(
+fn stop_dispatcher<H: Drop, T: Drop, B: Drop, R: Threads + Wait>(
     rt: &R,
     seat: WaitSend<Task<H>>,
-    dispatcher: JoinHandle<(WaitRecv<Task<H>>, T)>,
+    dispatcher: JoinHandle<(WaitRecv<Task<H>>, T, B)>,
 ) {
     let mut seat = seat;
     put(rt, &mut seat, Task::Stop);
@@ -98,10 +98,10 @@ fn stop_dispatcher<H: Drop, T: Drop, R: Threads + Wait>(
 }
 
 // Stops a worker, and joins it. Gives its end back.
-fn stop_worker<E: Drop, H: Drop, R: Threads + Wait>(
+fn stop_worker<E: Drop, H: Drop, B: Drop, R: Threads + Wait>(
     rt: &R,
     seat: ItemSeat,
-    worker: JoinHandle<EndBench<E, H>>,
+    worker: JoinHandle<EndBench<E, H, B>>,
 ) -> E {
     let mut seat = seat;
     put(rt, &mut seat, Item::Stop);
@@ -109,11 +109,12 @@ fn stop_worker<E: Drop, H: Drop, R: Threads + Wait>(
         worker,
         items: _,
         tasks: _,
+        book: _,
     } = worker.join(rt);
     worker.end
 }
 
-impl<E: Drop, H: Drop, T: Drop> ChannelThreads<E, H, T> {
+impl<E: Drop, H: Drop, T: Drop, B: Drop> ChannelThreads<E, H, T, B> {
     /// Hands a command to its worker; a full relay hands it back.
     pub(crate) fn order<R: Wait>(&self, rt: &R, command: Command) -> Result<(), Command> {
         let mut seat = self.orders.lock(rt);
@@ -203,7 +204,7 @@ pub(crate) fn start<E, B, H, T, R>(
     rt: R,
     alloc: Global,
     parts: Parts<E, B, T>,
-) -> Result<ChannelThreads<E, H, T>, AllocError>
+) -> Result<ChannelThreads<E, H, T, B>, AllocError>
 where
     E: End + Drop + Send + 'static,
     B: ReadsEnds<E> + Drop + Send + 'static,
@@ -244,6 +245,7 @@ where
         worker: Worker::new(end),
         items,
         tasks: events,
+        book,
     };
     let Some(dispatcher) = start_dispatcher::<H, WaitRecv<Task<H>>, T, B, R>(
         rt, alloc, tasks, table, decisions,
@@ -258,7 +260,7 @@ where
         WaitSend<Task<H>>,
         B,
         R,
-    >(rt, alloc, greeting, bench, book) else {
+    >(rt, alloc, greeting, bench) else {
         stop_dispatcher(&rt, hooks, dispatcher);
         return Err(AllocError);
     };

@@ -1,12 +1,12 @@
 //! A node: its channels, each with its threads, and the book of its payments.
 
 use crate::bell::Bell;
-use crate::book::{Common, SharedBook};
+use crate::book::{Common, NodeBook, SharedBook};
 use crate::channel::{ChannelThreads, Parts, start};
 use crate::notices::Notices;
 use crate::opening::NodeLink;
 use crate::reader::Connections;
-use crate::stored::{Loaded, Stored, load_all, rebuild};
+use crate::stored::{Loaded, Stored, load_all, rebuilt_book};
 use ln_book::Book;
 use ln_bytes::Bytes;
 use ln_channel::{Command, FitConfig, FitSpec};
@@ -31,7 +31,7 @@ use std::thread::Threads;
 pub struct Node<K: ChannelKeys + Copy, S: Drop, O: Drop, H: Drop, T: Drop> {
     stopping: Arc<AtomicU64>,
     common: Common<O>,
-    channels: Vec<ChannelThreads<NodeLink<K, S>, H, T>>,
+    channels: Vec<ChannelThreads<NodeLink<K, S>, H, T, SharedBook<O>>>,
     // Which channels they are, once both have signed the opening.
     ids: Vec<Arc<OnceLock<ChannelId>>>,
 }
@@ -56,7 +56,7 @@ fn greeting(alloc: Global) -> Result<Box<Message>, AllocError> {
     Ok(Box::new(alloc, Message::Init(init))?)
 }
 
-// Puts a value behind others. False where there is no memory.
+// Appends a value. False where there is no memory.
 fn keep<T: Drop>(kept: &mut Vec<T>, value: T) -> bool {
     kept.push(value).is_ok()
 }
@@ -75,11 +75,11 @@ where
     }
 }
 
-// Starts a channel, behind those that there are.
+// Starts a channel, as the last one.
 fn add<E, B, H, T, R>(
     rt: R,
     alloc: Global,
-    channels: &mut Vec<ChannelThreads<E, H, T>>,
+    channels: &mut Vec<ChannelThreads<E, H, T, B>>,
     parts: Parts<E, B, T>,
 ) -> Result<(), Refusal>
 where
@@ -103,12 +103,33 @@ where
     H: Drop + Send + 'static,
     T: Table<H> + Drop + Send + 'static,
 {
+    ghost use Rattle.std.specs.Prelude.{◌≡◌, [], IfOk};
+    ghost use Rattle.ln_switch.specs.Seats as seats;
+    ghost use Rattle.ln_node.specs.Books.{begun_at};
+    ghost use Rattle.ln_node.specs.Node.{policy_of, begun_of};
+    ghost use Rattle.ln_node.specs.Stored.{BeginsWithAll};
+
     /// A node without channels: it opens onions by this service, and forwards by this policy. Takes memory.
     ///
     /// Error: 60 where there is no memory.
-    pub fn new(alloc: Global, onion: O, policy: Policy) -> Result<Node<K, S, O, H, T>, Refusal> {
+    pub fn new(alloc: Global, onion: O, policy: Policy) -> Result<Node<K, S, O, H, T>, Refusal>
+        ensures asks_by_the_policy { IfOk result (λ n. policy_of n ≡ policy) }
+    {
+        Node::with_book(alloc, onion, policy, Book::new(alloc))
+    }
+
+    // A node without channels, whose book is this one. 60 where there is no memory.
+    fn with_book(
+        alloc: Global,
+        onion: O,
+        policy: Policy,
+        book: Book,
+    ) -> Result<Node<K, S, O, H, T>, Refusal>
+        ensures asks_by_the_policy { IfOk result (λ n. policy_of n ≡ policy) }
+        ensures begins_with_the_book { IfOk result (λ n. begun_of n ≡ book) }
+    {
         let common = Common {
-            book: Arc::new(alloc, Mutex::new(Book::new(alloc)))?,
+            book: Arc::new(alloc, NodeBook::new(book))?,
             onion,
             policy,
             bell: Arc::new(alloc, Bell::new())?,
@@ -124,7 +145,7 @@ where
 
     /// The book of its payments. A lock on it holds up all channels.
     pub fn book(&self) -> &Mutex<Book> {
-        &self.common.book
+        &self.common.book.kept
     }
 
     /// What has become of its channels since this was called last, each notice with its channel's number: the latest
@@ -142,14 +163,21 @@ where
     }
 
     // What a new channel has of the node.
-    fn shares(&self, alloc: Global) -> Result<Shares<O>, Refusal> {
+    fn shares(&self, alloc: Global) -> Result<Shares<O>, Refusal>
+        ensures reach_the_book { IfOk result (λ s. (begun_at s.book ≡ begun_of self.now)
+            × (begun_at s.decisions ≡ begun_of self.now)) }
+        ensures asks_by_the_policy { IfOk result (λ s. (seats.policy_of s.book.seat ≡ policy_of self.now)
+            × (seats.policy_of s.decisions.seat ≡ policy_of self.now)) }
+        ensures nothing_was_said { IfOk result (λ s. (seats.said s.book.seat ≡ [])
+            × (seats.said s.decisions.seat ≡ [])) }
+    {
         let greeting = greeting(alloc)?;
         let bell = Arc::try_clone(&self.common.bell)?;
         let connections = self.connections(alloc)?;
-        let book = SharedBook::new(alloc, &self.common, self.channels.len())?;
+        let (book, decisions) = SharedBook::pair(alloc, &self.common, self.channels.len())?;
         Ok(Shares {
             greeting,
-            decisions: book.again()?,
+            decisions,
             book,
             bell,
             connections,
@@ -169,6 +197,7 @@ where
     ) -> Result<(), Refusal>
     where
         R: Threads + Wait + Copy + Send + 'static,
+        ensures settings_stay { self.new.common ≡ self.old.common }
     {
         let Shares {
             greeting,
@@ -196,9 +225,10 @@ where
     }
 
     /// Listens for the connections of a new channel, one after the other, as the fundee with this config, and answers
-    /// the address bound. Its records are saved in this store, its hooks go into this table, which is empty. An opening
-    /// that is lost or refused before a signature of it has left is forgotten, and the next connection begins a new
-    /// one; it is closed where there is no memory for that (60). Takes memory, and three threads.
+    /// the address bound. Its records are saved in this store, its hooks go into this table: a hook that may miss no
+    /// event stands in it already. An opening that is lost or refused before a signature of it has left is forgotten,
+    /// and the next connection begins a new one; it is closed where there is no memory for that (60). Takes memory, and
+    /// three threads.
     ///
     /// Errors: 63 where the address can't be bound; 60 where there is no memory or no thread.
     pub fn listen<R>(
@@ -222,9 +252,9 @@ where
     }
 
     /// Connects a new channel, as the funder by this spec. Its records are saved in this store, its hooks go into this
-    /// table, which is empty. An opening that is lost or refused before a signature of it has left is forgotten, and
-    /// `reconnect` begins a new one; behind its signature it is lost for good, and each later connection is closed
-    /// (40). Takes memory, and three threads.
+    /// table: a hook that may miss no event stands in it already. An opening that is lost or refused before a signature
+    /// of it has left is forgotten, and `reconnect` begins a new one; after its signature it is lost for good, and each
+    /// later connection is closed (40). Takes memory, and three threads.
     ///
     /// Errors: 63 where nobody listens at the address; 60 where there is no memory or no thread.
     pub fn connect<R>(
@@ -293,6 +323,7 @@ where
     ) -> Result<(), Refusal>
     where
         R: Net<Listener = TcpListener, Stream = TcpStream> + Threads + Wait + Copy + Send + 'static,
+        ensures settings_stay { self.new.common ≡ self.old.common }
     {
         let shares = self.shares(alloc)?;
         if let Some(channel) = end.saved.link.unsaved().saved() {
@@ -314,6 +345,7 @@ where
     ) -> Result<(), Refusal>
     where
         R: Net<Listener = TcpListener, Stream = TcpStream> + Threads + Wait + Copy + Send + 'static,
+        ensures settings_stay { self.new.common ≡ self.old.common }
     {
         for one in loaded {
             let Loaded {
@@ -332,7 +364,7 @@ where
     /// to the book again. Takes memory, and three threads a channel.
     ///
     /// Errors: 40 where a store has no record; those of the stores, and 70 or 71 where a record can't be loaded; 63
-    /// where an address can't be bound; 60 where there is no memory or no thread. Behind each no thread runs.
+    /// where an address can't be bound; 60 where there is no memory or no thread. After each no thread runs.
     pub fn restore<R>(
         rt: R,
         alloc: Global,
@@ -342,10 +374,12 @@ where
     ) -> Result<Node<K, S, O, H, T>, Refusal>
     where
         R: Net<Listener = TcpListener, Stream = TcpStream> + Threads + Wait + Copy + Send + 'static,
+        ensures asks_by_the_policy { IfOk result (λ n. policy_of n ≡ policy) }
+        ensures begins_with_all_channels { IfOk result (λ n. BeginsWithAll S.records stored.items (begun_of n)) }
     {
         let loaded = load_all(alloc, stored)?;
-        let mut node: Node<K, S, O, H, T> = Node::new(alloc, onion, policy)?;
-        rebuild(&rt, alloc, node.book(), loaded.as_slice())?;
+        let book = rebuilt_book(alloc, loaded.as_slice())?;
+        let mut node: Node<K, S, O, H, T> = Node::with_book(alloc, onion, policy, book)?;
         match node.start_all(rt, alloc, loaded) {
             Ok(()) => Ok(node),
             Err(refusal) => {
@@ -365,12 +399,13 @@ where
         }
     }
 
-    /// Decides the HTLC that a hook of this channel has held by its event of this number, by what is said of it now: as
-    /// the book would decide it now, had the hooks said so. The channel's link takes that like any decision of the
-    /// book. Takes memory.
+    /// Decides the HTLC that a hook of this channel has held by its event of this number, by what is said of it now,
+    /// and answers what is done about it: as the book would decide it now, had the hooks said so. The channel's link
+    /// takes that like any decision of the book. Takes memory.
     ///
-    /// Errors: 40 where there is no such channel, or its opening isn't signed; where the book knows of no HTLC that is
-    /// held so, or of one that is being resumed, or where it is to be held again; 60. Either changes nothing.
+    /// Errors: 40 where there is no such channel, or its opening isn't signed; where no HTLC is held by this number, or
+    /// the channel hasn't taken the hold yet; where it is being resumed, or is to be held again; 60. Either changes
+    /// nothing.
     pub fn resume<R: Wait>(
         &self,
         rt: &R,
@@ -385,6 +420,7 @@ where
         let answer = self
             .common
             .book
+            .kept
             .lock(rt)
             .resume(alloc, &self.common.onion, id, number, verdict);
         self.common.bell.ring();
@@ -392,12 +428,12 @@ where
     }
 
     /// What the node's channels hold, in the order of `Book::held`, each with its channel's number. A program looks at
-    /// it behind `restore`, and resumes each, at the latest before it times out: the node itself lets it wait. Takes
+    /// it after `restore`, and resumes each, at the latest before it times out: the node itself lets it wait. Takes
     /// memory.
     ///
     /// Error: 60 where there is none.
     pub fn held<R: Wait>(&self, rt: &R, alloc: Global) -> Result<Vec<(usize, HeldHtlc)>, Refusal> {
-        let held = self.common.book.lock(rt).held(alloc)?;
+        let held = self.common.book.kept.lock(rt).held(alloc)?;
         let mut all = Vec::new(alloc);
         for htlc in held {
             if let Some(channel) = self.number_of(&htlc.channel) {

@@ -295,6 +295,7 @@ impl<K: ChannelKeys + Copy, S: Drop> NodeLink<K, S> {
 
 impl<K: ChannelKeys + Copy, S: RecordStore + Drop> End for NodeLink<K, S> {
     ghost use Rattle.ln_channel.specs.Pending.{pending_at};
+    ghost use Rattle.ln_switch.specs.Seen.{seen_of};
     ghost use Rattle.ln_node.specs.Opening.{Held, acts};
 
     ghost State = { Held K };
@@ -313,6 +314,8 @@ impl<K: ChannelKeys + Copy, S: RecordStore + Drop> End for NodeLink<K, S> {
     ghost halted = { λ h. h.saved.link.halted };
 
     ghost pending = { λ h. pending_at h.saved.link.stage };
+
+    ghost seen = { λ h. seen_of h.saved.link };
 
     fn handle(&mut self, alloc: Global, message: Message) -> Result<Vec<Output>, Refusal> {
         let signs = asks_to_sign(&message);
@@ -373,5 +376,9 @@ impl<K: ChannelKeys + Copy, S: RecordStore + Drop> End for NodeLink<K, S> {
 
     fn channel(&self) -> Option<ChannelId> {
         self.saved.channel()
+    }
+
+    fn next_id(&self) -> u64 {
+        self.saved.next_id()
     }
 }

@@ -129,7 +129,7 @@ impl Connections {
         match listener.accept() {
             Ok((stream, _)) => self.read_one(rt, alloc, stream, seat),
             Err(_) => {
-                self.bell.rest(rt, sounds);
+                self.bell.rest(rt, sounds, 0);
                 seat
             }
         }
@@ -147,7 +147,7 @@ impl Connections {
             Some(stream) => self.read_one(rt, alloc, stream, seat),
             None => {
                 if !self.stops() {
-                    self.bell.rest(rt, sounds);
+                    self.bell.rest(rt, sounds, 0);
                 }
                 seat
             }

@@ -4,7 +4,7 @@ use crate::bell::Bell;
 use ln_relay::Sends;
 use std::sync::{Arc, Wait};
 
-/// A sender's seat that sounds a bell behind each item that it has put.
+/// A sender's seat that sounds a bell after each item that it has put.
 #[derive(Drop)]
 pub(crate) struct RingingSeat<S: Drop> {
     /// The seat.

@@ -37,9 +37,8 @@ pub(crate) fn start_worker<E, W, I, H, T, B, R>(
     rt: R,
     alloc: Global,
     greeting: Box<Message>,
-    bench: Bench<E, W, I, T>,
-    book: B,
-) -> Option<JoinHandle<Bench<E, W, I, T>>>
+    bench: Bench<E, W, I, T, B>,
+) -> Option<JoinHandle<Bench<E, W, I, T, B>>>
 where
     E: End + Drop + Send + 'static,
     W: Closes + Drop + Send + 'static,
@@ -51,7 +50,7 @@ where
 {
     thread::spawn(
         &rt,
-        move || worker_loop::<E, W, I, H, T, B, R>(&rt, alloc, &greeting, &[], bench, &book),
+        move || worker_loop::<E, W, I, H, T, B, R>(&rt, alloc, &greeting, &[], bench),
     )
     .ok()
 }
@@ -63,7 +62,7 @@ pub(crate) fn start_dispatcher<H, S, T, B, R>(
     seat: S,
     table: T,
     book: B,
-) -> Option<JoinHandle<(S, T)>>
+) -> Option<JoinHandle<(S, T, B)>>
 where
     H: Drop + Send + 'static,
     S: Waits<Task<H>> + Drop + Send + 'static,
@@ -73,7 +72,7 @@ where
 {
     thread::spawn(
         &rt,
-        move || dispatch_loop::<H, S, T, B, R>(&rt, alloc, seat, table, &book),
+        move || dispatch_loop::<H, S, T, B, R>(&rt, alloc, seat, table, book),
     )
     .ok()
 }

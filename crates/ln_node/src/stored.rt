@@ -1,16 +1,23 @@
 //! Channels that come back from their records.
 
+ghost use Rattle.std.specs.Prelude.{◌≡◌, IfOk};
+ghost use Rattle.ln_history.specs.History.{begun_with};
+ghost use Rattle.ln_tables.specs.Replay.{no_table};
+ghost use Rattle.ln_readings.specs.Rebuild.{rebuilt};
+ghost use Rattle.ln_node.specs.Stored.{first_record, ComesFrom, IsLoaded, AreLoaded, readings_of};
+
 use crate::opening::NodeLink;
 use ln_book::Book;
+use ln_bytes::Bytes;
 use ln_keys::ChannelKeys;
 use ln_link::Link;
 use ln_msgs::Refusal;
 use ln_readings::Reading;
 use ln_store::RecordStore;
+use ln_switch::read_end;
 use ln_turns::SavedLink;
 use std::alloc::Global;
 use std::net::SocketAddr;
-use std::sync::{Mutex, Wait};
 
 /// What a channel of a node that starts again is made of.
 #[derive(Drop)]
@@ -19,7 +26,7 @@ pub struct Stored<K: ChannelKeys + Copy, S: Drop, T: Drop> {
     pub keys: K,
     /// The store of its record, which has no other.
     pub store: S,
-    /// The table of its hooks, which is empty.
+    /// The table of its hooks. A hook that may miss no event stands in it already.
     pub table: T,
     /// Where it listens, where it does.
     pub address: Option<SocketAddr>,
@@ -33,20 +40,43 @@ pub(crate) struct Loaded<K: ChannelKeys + Copy, S: Drop, T: Drop> {
     pub(crate) address: Option<SocketAddr>,
 }
 
+// The first record in a store.
+fn first_record<S: RecordStore>(alloc: Global, store: &mut S) -> Result<Option<Bytes>, Refusal>
+    ensures finds { IfOk result (λ found. found ≡ first_record (S.records store.old)) }
+{
+    let ids = store.ids(alloc)?;
+    match ids.first() {
+        None => Ok(None),
+        Some(id) => store.load(alloc, id),
+    }
+}
+
+// The link that this record tells. 40 where there is none.
+fn come_back<K: ChannelKeys + Copy>(
+    alloc: Global,
+    keys: K,
+    found: Option<Bytes>,
+) -> Result<Link<K>, Refusal>
+    ensures comes_back { IfOk result (λ l. ComesFrom keys found l) }
+{
+    match found {
+        None => Err(Refusal::NotReady),
+        Some(bytes) => Link::from_record(alloc, keys, bytes.as_slice()),
+    }
+}
+
 // The link of the first record in a store.
 fn load<K: ChannelKeys + Copy, S: RecordStore>(
     alloc: Global,
     keys: K,
     store: &mut S,
-) -> Result<Link<K>, Refusal> {
-    let ids = store.ids(alloc)?;
-    let Some(id) = ids.first() else {
-        return Err(Refusal::NotReady);
-    };
-    let Some(bytes) = store.load(alloc, id)? else {
-        return Err(Refusal::NotReady);
-    };
-    Link::from_record(alloc, keys, bytes.as_slice())
+) -> Result<Link<K>, Refusal>
+    ensures comes_back { IfOk result (λ l. ComesFrom keys (first_record (S.records store.old)) l) }
+{
+    match first_record(alloc, store) {
+        Ok(found) => come_back(alloc, keys, found),
+        Err(refusal) => Err(refusal),
+    }
 }
 
 // The end of the first record in a store.
@@ -54,7 +84,9 @@ fn load_end<K: ChannelKeys + Copy, S: RecordStore + Drop>(
     alloc: Global,
     keys: K,
     store: S,
-) -> Result<NodeLink<K, S>, Refusal> {
+) -> Result<NodeLink<K, S>, Refusal>
+    ensures comes_back { IfOk result (λ n. ComesFrom keys (first_record (S.records store)) n.saved.value.link) }
+{
     let mut store = store;
     match load(alloc, keys, &mut store) {
         Ok(link) => NodeLink::loaded(alloc, SavedLink { keys, link, store }),
@@ -66,7 +98,9 @@ fn load_end<K: ChannelKeys + Copy, S: RecordStore + Drop>(
 fn load_one<K: ChannelKeys + Copy, S: RecordStore + Drop, T: Drop>(
     alloc: Global,
     stored: Stored<K, S, T>,
-) -> Result<Loaded<K, S, T>, Refusal> {
+) -> Result<Loaded<K, S, T>, Refusal>
+    ensures comes_back { IfOk result (λ l. IsLoaded S.records stored l) }
+{
     let Stored {
         keys,
         store,
@@ -85,7 +119,9 @@ fn load_one<K: ChannelKeys + Copy, S: RecordStore + Drop, T: Drop>(
 pub(crate) fn load_all<K: ChannelKeys + Copy, S: RecordStore + Drop, T: Drop>(
     alloc: Global,
     stored: Vec<Stored<K, S, T>>,
-) -> Result<Vec<Loaded<K, S, T>>, Refusal> {
+) -> Result<Vec<Loaded<K, S, T>>, Refusal>
+    ensures come_back { IfOk result (λ v. AreLoaded S.records stored.items v.items) }
+{
     let mut loaded = Vec::new(alloc);
     for one in stored {
         loaded.push(load_one(alloc, one)?)?;
@@ -97,23 +133,27 @@ pub(crate) fn load_all<K: ChannelKeys + Copy, S: RecordStore + Drop, T: Drop>(
 fn readings<K: ChannelKeys + Copy, S: Drop, T: Drop>(
     alloc: Global,
     loaded: &[Loaded<K, S, T>],
-) -> Result<Vec<Reading>, Refusal> {
+) -> Result<Vec<Reading>, Refusal>
+    ensures reads_all { IfOk result (λ rs. rs.items ≡ readings_of loaded.now) }
+{
     let mut readings = Vec::new(alloc);
     for one in loaded {
-        if let Some(channel) = one.end.saved.link.unsaved().saved() {
-            readings.push(Reading::of(alloc, channel)?)?;
-        }
+        read_end(alloc, one.end.saved.link.unsaved().saved(), &mut readings)?;
     }
     Ok(readings)
 }
 
-/// Begins a node's book with what its channels have of payments.
-pub(crate) fn rebuild<K: ChannelKeys + Copy, S: Drop, T: Drop, R: Wait>(
-    rt: &R,
+/// A book that begins with what its node's channels have of payments. Takes memory.
+pub(crate) fn rebuilt_book<K: ChannelKeys + Copy, S: Drop, T: Drop>(
     alloc: Global,
-    book: &Mutex<Book>,
     loaded: &[Loaded<K, S, T>],
-) -> Result<(), Refusal> {
+) -> Result<Book, Refusal>
+    ensures begins_with_all { IfOk result (λ b. b ≡ begun_with (rebuilt no_table (readings_of loaded.now))) }
+{
     let readings = readings(alloc, loaded)?;
-    book.lock(rt).rebuild(alloc, readings.as_slice())
+    let mut book = Book::new(alloc);
+    match book.rebuild(alloc, readings.as_slice()) {
+        Ok(()) => Ok(book),
+        Err(refusal) => Err(refusal),
+    }
 }

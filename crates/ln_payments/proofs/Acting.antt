@@ -33,7 +33,8 @@ use Rattle.ln_desks.specs.World.{is_dispatched, moved_by as desk_moved_by}
 use Rattle.ln_world.specs.declared.node.NodeBook.{NodeBook}
 use Rattle.ln_world.specs.Node.{Book, node_at, with_book}
 use Rattle.ln_world.specs.Follow.{followed}
-use Rattle.ln_world.specs.Told.{with_held, told_count, next_id}
+use Rattle.ln_switch.specs.Answers.{next_id}
+use Rattle.ln_world.specs.Told.{with_held, told_count}
 use Rattle.ln_world.specs.World.{World, moved_by, lines_by, concluded, acting, asks_by, heard, answered, id_of, end_at}
 use Rattle.ln_world.specs.World.{saved_of}
 use Rattle.ln_circuits.specs.Shift.{Shift, Stays, Takes, Proposes, Signs, Accepts, Learns, Closes, Notes, IsPlain}

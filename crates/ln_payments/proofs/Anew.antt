@@ -19,7 +19,8 @@ use Rattle.ln_channels.proofs.Mirror.{link_at}
 use Rattle.ln_channels.proofs.Kept.{IsOpen}
 use Rattle.ln_readings.specs.Rebuild.{Reading, reading_of}
 use Rattle.ln_world.specs.World.{link_by, link_there, saved_of}
-use Rattle.ln_world.specs.Follow.{reading_by, side_reading, reading_in, readings_below}
+use Rattle.ln_switch.specs.Readings.{reading_by}
+use Rattle.ln_world.specs.Follow.{side_reading, reading_in, readings_below}
 use Rattle.ln_payment.specs.Rebuild.{everywhere}
 use Rattle.ln_circuits.specs.Snapshot.{IsFit, All, IsIn, AreDistinct, readings}
 use Rattle.ln_circuits.proofs.Links.{Side}
@@ -54,8 +55,8 @@ module _ {K : Type 0} (n : Node) (cs : List (WorldChannel K)) where
   reading_so m None rs = sym (append-nil rs)
   reading_so m (Some c) rs = cases (side_of n c)
     where
-      ends : (o : Option ChannelEnd) → reading_by o rs ≡ rs ++ readings (one_end m o)
-      ends None = sym (append-nil rs)
+      ends : (o : Option ChannelEnd) → rs ++ reading_by o ≡ rs ++ readings (one_end m o)
+      ends None = refl
       ends (Some e) = refl
 
       cases : (q : Option Role) → side_reading c q rs ≡ rs ++ readings (one_end m (saved_of (link_by c q)))

@@ -3,6 +3,7 @@ use Rattle.std.proofs.Common.{◌≡◌, [], refl, sym, ap, subst, Bool, true, f
 use Rattle.std.proofs.Common.{Option, Some, None, Result, Ok, Err}
 use Rattle.ln_msgs.specs.declared.messages.message.Message.{Message}
 use Rattle.ln_msgs.specs.declared.messages.message.Message.TheVariants as message
+use Rattle.ln_msgs.specs.declared.messages.commitments.ChannelReestablish.{ChannelReestablish}
 use Rattle.ln_msgs.specs.declared.refusals.refusal.Refusal.{Refusal}
 use Rattle.ln_keys.specs.Signer.{Signer}
 use Rattle.ln_channel.specs.declared.command.Command.{Command}
@@ -16,6 +17,7 @@ use Rattle.ln_channel.specs.Base.{based, based_stage}
 use Rattle.ln_channel.specs.State.{State, is_met, refused}
 use Rattle.ln_channel.specs.Commands.{command_row, note_row, unready_fault}
 use Rattle.ln_channel.specs.Taking.{taken}
+use Rattle.ln_channel.specs.Resume.{resume_row}
 use Rattle.ln_channel.specs.Step.{Done, faulted, turned, awaiting_at, saved_at, is_passed_over, message_fault}
 use Rattle.ln_channel.specs.Step.{line_fault}
 use Rattle.ln_channel.specs.Step.{handled, commanded, asked, obeyed_open, is_of_records, at_hand}
@@ -40,58 +42,82 @@ pub faulted_so : (P : End → Type 0) (f : Option Refusal) (r : Result Done Refu
 faulted_so P None r h = h
 faulted_so P (Some x) r h = tt
 
-awaiting_so : (keys : Signer) (m : Message) (e : End) → IfDone (Shift e) (awaiting_at keys m e)
-awaiting_so keys (message.ChannelReestablish m) e = turned_so (Shift e) Met _ (resumed_shifts keys m e)
-awaiting_so keys (message.Warning m) e = tt
-awaiting_so keys (message.Init m) e = tt
-awaiting_so keys (message.Error m) e = tt
-awaiting_so keys (message.Ping m) e = tt
-awaiting_so keys (message.Pong m) e = tt
-awaiting_so keys (message.OpenChannel m) e = tt
-awaiting_so keys (message.AcceptChannel m) e = tt
-awaiting_so keys (message.FundingCreated m) e = tt
-awaiting_so keys (message.FundingSigned m) e = tt
-awaiting_so keys (message.ChannelReady m) e = tt
-awaiting_so keys (message.Shutdown m) e = tt
-awaiting_so keys (message.ClosingSigned m) e = tt
-awaiting_so keys (message.UpdateAddHtlc m) e = tt
-awaiting_so keys (message.UpdateFulfillHtlc m) e = tt
-awaiting_so keys (message.UpdateFailHtlc m) e = tt
-awaiting_so keys (message.UpdateFailMalformedHtlc m) e = tt
-awaiting_so keys (message.UpdateFee m) e = tt
-awaiting_so keys (message.CommitmentSigned m) e = tt
-awaiting_so keys (message.RevokeAndAck m) e = tt
-
-saved_so : (keys : Signer) (l : LineState) (m : Message) (e : End) (b : Bool) → is_met l ≡ b
-    → IfDone (Shift e) (cond b (turned l (taken keys m e)) (awaiting_at keys m e))
-saved_so keys l m e true is = turned_so (Shift e) l (taken keys m e) (taken_shifts keys m e)
-saved_so keys l m e false is = awaiting_so keys m e
-
-passed_so : (keys : Signer) (l : LineState) (m : Message) (e : End) (b : Bool)
-    → IfDone (Shift e) (cond b (Ok (record { line = l; stage = stage.Saved e; outputs = [] }))
-    (faulted (message_fault l (stage.Saved e) m) (saved_at keys l m e)))
-passed_so keys l m e true = Stays refl refl
-passed_so keys l m e false = faulted_so (Shift e) (message_fault l (stage.Saved e) m) (saved_at keys l m e)
-    (saved_so keys l m e (is_met l) refl)
-
 pub halted_so : (P : End → Type 0) (b : Bool) (r : Refusal) (row : Result Done Refusal) → IfDone P row
     → IfDone P (cond b (Err r) row)
 halted_so P true r row h = tt
 halted_so P false r row h = h
 
+-- by what messages and a resumption make of the end
+module _ (P : End → Type 0) (keys : Signer) (e : End) (still : P e) (takes : (m : Message) → IfTurn P (taken keys m e))
+    (resumes : (m : ChannelReestablish) → IfTurn P (resume_row keys m e)) where
+  awaiting_so : (m : Message) → IfDone P (awaiting_at keys m e)
+  awaiting_so (message.ChannelReestablish m) = turned_so P Met (resume_row keys m e) (resumes m)
+  awaiting_so (message.Warning m) = tt
+  awaiting_so (message.Init m) = tt
+  awaiting_so (message.Error m) = tt
+  awaiting_so (message.Ping m) = tt
+  awaiting_so (message.Pong m) = tt
+  awaiting_so (message.OpenChannel m) = tt
+  awaiting_so (message.AcceptChannel m) = tt
+  awaiting_so (message.FundingCreated m) = tt
+  awaiting_so (message.FundingSigned m) = tt
+  awaiting_so (message.ChannelReady m) = tt
+  awaiting_so (message.Shutdown m) = tt
+  awaiting_so (message.ClosingSigned m) = tt
+  awaiting_so (message.UpdateAddHtlc m) = tt
+  awaiting_so (message.UpdateFulfillHtlc m) = tt
+  awaiting_so (message.UpdateFailHtlc m) = tt
+  awaiting_so (message.UpdateFailMalformedHtlc m) = tt
+  awaiting_so (message.UpdateFee m) = tt
+  awaiting_so (message.CommitmentSigned m) = tt
+  awaiting_so (message.RevokeAndAck m) = tt
+
+  saved_so : (l : LineState) (m : Message) (b : Bool)
+      → IfDone P (cond b (turned l (taken keys m e)) (awaiting_at keys m e))
+  saved_so l m true = turned_so P l (taken keys m e) (takes m)
+  saved_so l m false = awaiting_so m
+
+  passed_so : (l : LineState) (m : Message) (b : Bool)
+      → IfDone P (cond b (Ok (record { line = l; stage = stage.Saved e; outputs = [] }))
+      (faulted (message_fault l (stage.Saved e) m) (saved_at keys l m e)))
+  passed_so l m true = still
+  passed_so l m false = faulted_so P (message_fault l (stage.Saved e) m) (saved_at keys l m e) (saved_so l m (is_met l))
+
+  pub handled_so : {K : Type 0} (halted : Bool) (k : K) (l : LineState) (m : Message)
+      → IfDone P (handled keys (link_at halted k l e) m)
+  handled_so halted k l m = halted_so P halted _ (at_hand keys l m (stage.Saved e))
+      (passed_so l m (is_passed_over (stage.Saved e) m))
+
+-- and by what a command makes of it
+module _ {K : Type 0} (P : End → Type 0) (keys : Signer) (halted : Bool) (k : K) (l : LineState) (e : End) where
+  pub noted_so : (c : Command) → is_of_records c ≡ true → IfTurn P (note_row c e)
+      → IfDone P (commanded keys (link_at halted k l e) c)
+  noted_so c is h = halted_so P halted _ (asked keys (link_at halted k l e) c) (cases (is_of_records c) is)
+    where
+      cases : (b : Bool) → b ≡ true → IfDone P (cond b (turned l (note_row c e)) (obeyed_open keys l c e))
+      cases true f = turned_so P l (note_row c e) h
+      cases false f = absurd (cc)
+
+  pub obeyed_so : (c : Command) → is_of_records c ≡ false → IfTurn P (command_row keys c e)
+      → IfDone P (commanded keys (link_at halted k l e) c)
+  obeyed_so c isnt h = halted_so P halted _ (asked keys (link_at halted k l e) c) (cases (is_of_records c) isnt)
+    where
+      cases : (b : Bool) → b ≡ false → IfDone P (cond b (turned l (note_row c e)) (obeyed_open keys l c e))
+      cases true f = absurd (cc)
+      cases false f = faulted_so P (unready_fault c e) (faulted (line_fault l) (turned l (command_row keys c e)))
+          (faulted_so P (line_fault l) (turned l (command_row keys c e)) (turned_so P l (command_row keys c e) h))
+
 module _ {K : Type 0} (keys : Signer) (halted : Bool) (k : K) (l : LineState) (e : End) where
   pub handled_shifts : (m : Message) → IfDone (Shift e) (handled keys (link_at halted k l e) m)
-  handled_shifts m = halted_so (Shift e) halted _ (at_hand keys l m (stage.Saved e))
-      (passed_so keys l m e (is_passed_over (stage.Saved e) m))
+  handled_shifts m = handled_so (Shift e) keys e (Stays refl refl) (λ n. taken_shifts keys n e)
+      (λ n. resumed_shifts keys n e) halted k l m
 
   pub commanded_shifts : (c : Command) → IfDone (Shift e) (commanded keys (link_at halted k l e) c)
-  commanded_shifts c = halted_so (Shift e) halted _ (asked keys (link_at halted k l e) c) (cases (is_of_records c))
+  commanded_shifts c = cases (is_of_records c) refl
     where
-      cases : (b : Bool) → IfDone (Shift e) (cond b (turned l (note_row c e)) (obeyed_open keys l c e))
-      cases true = turned_so (Shift e) l (note_row c e) (note_shifts c e)
-      cases false = faulted_so (Shift e) (unready_fault c e) (faulted (line_fault l) (turned l (command_row keys c e)))
-          (faulted_so (Shift e) (line_fault l) (turned l (command_row keys c e))
-          (turned_so (Shift e) l (command_row keys c e) (command_shifts keys c e)))
+      cases : (b : Bool) → is_of_records c ≡ b → IfDone (Shift e) (commanded keys (link_at halted k l e) c)
+      cases true is = noted_so (Shift e) keys halted k l e c is (note_shifts c e)
+      cases false is = obeyed_so (Shift e) keys halted k l e c is (command_shifts keys c e)
 
 -- ---- what is left of the link
 

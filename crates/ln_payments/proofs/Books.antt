@@ -3,7 +3,6 @@ use Rattle.std.proofs.Common.{◌≡◌, ℕ, zero, suc, List, [], ◌∷◌, re
 use Rattle.std.proofs.Common.{Option, Some, None}
 use Rattle.std.proofs.lemmas.Bool.{eqb-true, eq-eqb}
 use Rattle.std.proofs.lemmas.List.Sums.{fold-append}
-use Rattle.ln_bytes.specs.declared.short_id.ShortId.{ShortId}
 use Rattle.ln_keys.specs.declared.role.Role.{Role}
 use Rattle.ln_forward.specs.declared.checks.Policy.{Policy}
 use Rattle.ln_history.specs.History.{with_entry}
@@ -18,8 +17,9 @@ use Rattle.ln_tables.specs.declared.entry.Entry.TheVariants as entry
 use Rattle.ln_tables.specs.Replay.{Table, after, table_of}
 use Rattle.ln_world.specs.declared.node.NodeBook.{NodeBook}
 use Rattle.ln_world.specs.Node.{Book, new_node, node_at, changed}
-use Rattle.ln_world.specs.Follow.{with_route, with_end, with_side, with_channel, followed_below, followed}
-use Rattle.ln_world.specs.Follow.{takes_payments}
+use Rattle.ln_switch.specs.declared.uses.Use.{Use}
+use Rattle.ln_switch.specs.Uses.{use_of, with_route}
+use Rattle.ln_world.specs.Follow.{with_end, with_side, with_channel, followed_below, followed}
 
 -- ---- one entry more
 
@@ -83,27 +83,27 @@ alike_then a b c h k = record {
   desks = k.desks ∙ h.desks;
 }
 
-entered : (x : Entry) (b : Book) → (after (table_of b) x).htlcs ≡ (table_of b).htlcs
+pub entry_alike : (x : Entry) (b : Book) → (after (table_of b) x).htlcs ≡ (table_of b).htlcs
     → (after (table_of b) x).queue ≡ (table_of b).queue → (after (table_of b) x).desks ≡ (table_of b).desks
     → IsAlike b (with_entry x b)
-entered x b h q d = record {
+entry_alike x b h q d = record {
   htlcs = ap (λ (t : Table). t.htlcs) (one_more x b) ∙ h;
   queue = ap (λ (t : Table). t.queue) (one_more x b) ∙ q;
   desks = ap (λ (t : Table). t.desks) (one_more x b) ∙ d;
 }
 
-route_alike : (p : Policy) (e : ChannelEnd) (o : Option ShortId) (b : Book) → IsAlike b (with_route p e o b)
-route_alike p e None b = alike b
-route_alike p e (Some id) b = entered _ b refl refl refl
+route_alike : (p : Policy) (u : Use) (o : Option (List ℕ)) (b : Book) → IsAlike b (with_route p u o b)
+route_alike p u None b = alike b
+route_alike p u (Some id) b = entry_alike _ b refl refl refl
 
 module _ {K : Type 0} where
   end_alike : (p : Policy) (l : State K) (o : Option ChannelEnd) (b : Book) → IsAlike b (with_end p l o b)
   end_alike p l None b = alike b
   end_alike p l (Some e) b =
-      let c = with_route p e e.marks.short_id b in
-      alike_then b c (with_entry (entry.Use e.dance.channel (takes_payments l e)) c)
-      (route_alike p e e.marks.short_id b)
-      (entered (entry.Use e.dance.channel (takes_payments l e)) c refl refl refl)
+      let u = use_of l e in
+      let c = with_route p u u.short_id b in
+      alike_then b c (with_entry (entry.Use u.channel u.takes) c) (route_alike p u u.short_id b)
+      (entry_alike (entry.Use u.channel u.takes) c refl refl refl)
 
   side_alike : (p : Policy) (c : WorldChannel K) (o : Option Role) (b : Book) → IsAlike b (with_side p c o b)
   side_alike p c None b = alike b

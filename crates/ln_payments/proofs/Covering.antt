@@ -48,6 +48,7 @@ use Rattle.ln_payments.proofs.Moving.{IsOfSide, row_of, Acted, own_acts, own_fal
 use Rattle.ln_payments.proofs.Moving.{other_stays}
 use Rattle.ln_payments.proofs.Moving.{drops_is, halts_is, back_is, greeted_is, met_x, met_y}
 use Rattle.ln_payments.proofs.Scene.{link_in, linked, lookup_map, each_found, same_number}
+use Rattle.ln_payments.proofs.Moving.{acts_side, stops_side, falls_side, halts_side, restarts_side}
 
 -- ---- of an end
 
@@ -201,33 +202,13 @@ module _ {K : Type 0} (signer : K → Signer) (id : List ℕ) (p : Both K) (r : 
   each_side m of own Fundee Funder = same_covers (Some p.x.link) (Some (moves signer id (m Fundee) p).x.link)
       (ap Some (other_stays signer id m of Fundee p))
 
-  acts_of : (a : Act) (s : Role) → IsOfSide (By s a) s
-  acts_of a Funder = tt
-  acts_of a Fundee = tt
-
-  stops_of : (a : Act) (s : Role) → IsOfSide (Stops s a) s
-  stops_of a Funder = tt
-  stops_of a Fundee = tt
-
-  falls_of : (s : Role) → IsOfSide (Falls s) s
-  falls_of Funder = tt
-  falls_of Fundee = tt
-
-  halts_of : (s : Role) → IsOfSide (Halts s) s
-  halts_of Funder = tt
-  halts_of Fundee = tt
-
-  restarts_of : (s : Role) → IsOfSide (Restarts s) s
-  restarts_of Funder = tt
-  restarts_of Fundee = tt
-
   pub move_covers : (m : Move) (side : Role)
       → LinkCovers (Some (place_of side p).link) (Some (place_of side (moves signer id m p)).link)
-  move_covers (By s a) side = each_side (λ z. By z a) (acts_of a) (acts_cover a) s side
-  move_covers (Falls s) side = each_side Falls falls_of falls_cover s side
-  move_covers (Halts s) side = each_side Halts halts_of halts_cover s side
-  move_covers (Restarts s) side = each_side Restarts restarts_of restarts_cover s side
-  move_covers (Stops s a) side = each_side (λ z. Stops z a) (stops_of a) (stops_cover a) s side
+  move_covers (By s a) side = each_side (λ z. By z a) (acts_side a) (acts_cover a) s side
+  move_covers (Falls s) side = each_side Falls falls_side falls_cover s side
+  move_covers (Halts s) side = each_side Halts halts_side halts_cover s side
+  move_covers (Restarts s) side = each_side Restarts restarts_side restarts_cover s side
+  move_covers (Stops s a) side = each_side (λ z. Stops z a) (stops_side a) (stops_cover a) s side
   move_covers Meet side = meets_cover side
 
 -- ---- of a step of channels

@@ -4,7 +4,8 @@ use Rattle.std.proofs.Common.{subst, arith, Bool, true, false, cond, not, ◌==�
 use Rattle.std.proofs.Common.{Result, Ok, Err}
 use Rattle.std.specs.Prelude.{option_map}
 use Rattle.std.specs.List.{find, list_any}
-use Rattle.std.proofs.lemmas.Bool.{eqb-true, eq-eqb, lt-ltb}
+use Rattle.std.proofs.lemmas.Bool.{eqb-true, eq-eqb, lt-ltb, and_parts}
+use Rattle.std.proofs.Math.Bool.{or-true}
 use Rattle.ln_msgs.specs.declared.refusals.refusal.Refusal.{Refusal}
 use Rattle.ln_msgs.specs.declared.refusals.refusal.Refusal.TheVariants as refusal
 use Rattle.ln_msgs.specs.Refusals.Refusal.{refusal_number}
@@ -52,7 +53,7 @@ use Rattle.ln_world.specs.World.{sent_or, handed_out}
 use Rattle.ln_payment.specs.Parts.{Mark, Note, Undecided}
 use Rattle.ln_payment.specs.Moves.{is_of}
 use Rattle.ln_circuits.specs.Snapshot.{is_gone, Incoming, IsIn, origin, IsFit, key_of, key_at, NonePasses}
-use Rattle.ln_circuits.proofs.Links.{Side, Links, Changed, mark_as, decision_at, decision_by}
+use Rattle.ln_circuits.proofs.Links.{Side, Links, Changed, mark_as, decision_at, decision_by, has_mark}
 use Rattle.ln_circuits.proofs.Lists.{of_picked, passes, left_turn}
 use Rattle.ln_circuits.proofs.Held.{among_last}
 use Rattle.ln_circuits.proofs.Losses.{Drops, all_dropped}
@@ -63,8 +64,9 @@ use Rattle.ln_circuits.proofs.Entries.{joins_there}
 use Rattle.ln_circuits.proofs.Scenes.{HavePayments, by_moves}
 use Rattle.ln_circuits.proofs.Resumed.{HoldAlike}
 use Rattle.ln_circuits.proofs.Agrees.{agrees_decided}
-use Rattle.ln_circuits.proofs.Answers.{none_left, decided}
+use Rattle.ln_circuits.proofs.Answers.{none_left, decided, last_one}
 use Rattle.ln_circuits.proofs.Halts.{no_note, halts_undecided}
+use Rattle.ln_circuits.proofs.Moments.{first_kept}
 use Rattle.ln_payments.specs.Circuit.{has_halted}
 use Rattle.ln_payments.proofs.Answering.{RowSteps, IfDone, AtSaved}
 use Rattle.ln_payments.proofs.Scene.{link_in, links_of, scene_of, either}
@@ -78,15 +80,15 @@ use Rattle.ln_payments.proofs.Wells.{book_in}
 use Rattle.ln_payments.proofs.Orderly.{OneLater, dated_later, IsOrderly, IsKeyed, IsDated, view_at, AllName}
 use Rattle.ln_payments.proofs.Keeping.{Holds}
 use Rattle.ln_payments.proofs.Hearing.{itself}
-use Rattle.ln_payments.proofs.Sending.{idle_holds, shift_first}
-use Rattle.ln_payments.proofs.Refusing.{IsBooks, IfErr, IsHaltedOrReady, note_refused}
+use Rattle.ln_payments.proofs.Sending.{idle_holds}
+use Rattle.ln_payments.proofs.Refusing.{IfErr, IsHaltedOrReady, note_refused}
 use Rattle.ln_payments.proofs.Obeyed.{by_row, noted, IsNoted}
 use Rattle.ln_payments.proofs.Given.{new, y0, then, answer, answer_row, turn_now, of_link, given_holds, refused_paid}
 use Rattle.ln_payments.proofs.Given.{view_now, later_now, first_is}
 use Rattle.ln_payments.proofs.Acting.{done_by}
-use Rattle.ln_payments.proofs.Taking.{halted_takes, command_in, queued_books, queued_may, found_in}
+use Rattle.ln_payments.proofs.Taking.{halted_queued, queued_there, queued_dispatched}
 use Rattle.ln_payments.proofs.Dispatched.{Ran, IsWaiting, waiting_so, waiting_there}
-use Rattle.ln_payments.proofs.Marking.{mark_does, has_mark}
+use Rattle.ln_payments.proofs.Marking.{mark_does}
 use Rattle.ln_payments.proofs.Stopping.{May, may_be_given}
 
 -- ---- lists
@@ -107,13 +109,6 @@ last_found p [] x none e = ap (λ b. cond b (Some x) None) e
 last_found p (y ∷ xs) x none e = ap (λ b. cond b (Some y) (find p (xs ++ x ∷ []))) (none y (inl refl))
     ∙ last_found p xs x (λ z m. none z (inr m)) e
 
-last_changes : (p : Htlc → Bool) (f : Htlc → Htlc) (xs : List Htlc) (x : Htlc) → NonePasses p xs → p x ≡ true
-    → changed_first p f (xs ++ x ∷ []) ≡ xs ++ f x ∷ []
-last_changes p f [] x n is = ap (λ b. cond b (f x ∷ []) (x ∷ [])) is
-last_changes p f (y ∷ xs) x n is =
-    ap (λ b. cond b (f y ∷ xs ++ x ∷ []) (y ∷ changed_first p f (xs ++ x ∷ []))) n.0
-    ∙ ap (λ zs. y ∷ zs) (last_changes p f xs x n.1 is)
-
 none_change : (p : Htlc → Bool) (f : Htlc → Htlc) (xs : List Htlc) → NonePasses p xs → changed_first p f xs ≡ xs
 none_change p f [] n = refl
 none_change p f (y ∷ xs) n = ap (λ b. cond b (f y ∷ xs) (y ∷ changed_first p f xs)) n.0
@@ -126,11 +121,7 @@ none_of p (x ∷ xs) h = (h x (inl refl), none_of p xs (λ y m. h y (inr m)))
 any_true : {A : Type 0} (p : A → Bool) (xs : List A) (x : A) → IsIn x xs → p x ≡ true → list_any p xs ≡ true
 any_true p [] x m e = absurd m
 any_true p (y ∷ xs) x (inl is) e = ap (λ b. b || list_any p xs) (ap p is ∙ e)
-any_true p (y ∷ xs) x (inr m) e = ap (λ b. p y || b) (any_true p xs x m e) ∙ or_true (p y)
-  where
-    or_true : (b : Bool) → (b || true) ≡ true
-    or_true true = refl
-    or_true false = refl
+any_true p (y ∷ xs) x (inr m) e = ap (λ b. p y || b) (any_true p xs x m e) ∙ or-true (p y)
 
 not_found : (i : ℕ) (ds : List LogDecision) → find (λ z. z.id == i) ds ≡ None → (d : LogDecision) → IsIn d ds
     → d.id ≡ i → ⊥
@@ -143,10 +134,6 @@ not_found i (x ∷ xs) e d m is = cases (λ g k. not_found i xs g d k is) (x.id 
     cases go false f g (inl same_x) = absurd (let no : true ≡ false =
         sym (eq-eqb x.id i (ap (λ (z : LogDecision). z.id) same_x ∙ is)) ∙ f in cc)
     cases go false f g (inr k) = go g k
-
-both_true : (a b : Bool) → (a && b) ≡ true → (a ≡ true) × (b ≡ true)
-both_true true b f = (refl, f)
-both_true false b f = absurd (cc)
 
 -- ---- an HTLC that has joined the book
 
@@ -338,17 +325,12 @@ module _ {K : Type 0} (k : Ghosts K) (e : End) (v : Verdict) (w : World K) (h : 
   pub decide_dispatched : (z : Queued) → find (is_queued_in (id_of e)) (table_of b0).queue ≡ Some z
       → (o : Out) (c : Command) → first_in e b0 ≡ Some (o, c) → is_dispatched e (channel_act.Send c) w.desks ≡ true
   decide_dispatched z found o c first =
-      let there_in = found_in (is_queued_in (id_of e)) (table_of b0).queue z found in
-      let at : z.channel ≡ channel_id_of e.channel = sym (same_is (id_of e) z.channel there_in.1) in
-      let given : ◌≡◌ {A = Option (Out × Command)} (Some (queued_command z)) (Some (o, c)) =
-      sym (first_is e b0 calm0 ∙ ap (λ y. first_of services (id_of e) y (table_of b0).htlcs) found) ∙ first in
-      let pair : ◌≡◌ {A = Out × Command} (queued_command z) (o, c) = cc in
-      subst (λ y. is_dispatched e (channel_act.Send y) w.desks ≡ true) (ap (λ (y : Out × Command). y.1) pair)
-      (queued_may e w.desks z (elim (queued_among z there_in.0) [
-        | inl old ↦ (h.order.queued e.channel z old at).1
+      let in_queue = queued_there e b0 calm0 z found o c first in
+      queued_dispatched e b0 calm0 z found o c first w.desks (elim (queued_among z in_queue.0) [
+        | inl old ↦ (h.order.queued e.channel z old in_queue.1).1
         | inr is ↦ λ free. ap (λ i. is_below_next i (desk_at e w.desks.desks)) (sym (ap (λ (y : Queued). y.event) is))
             ∙ is_waiting.below
-      ]))
+      ])
 
   -- ---- where the end has halted, its book keeps the decision
 
@@ -425,17 +407,8 @@ module _ {K : Type 0} (k : Ghosts K) (e : End) (v : Verdict) (w : World K) (h : 
     pub halted_decides : (z : Queued) → find (is_queued_in (id_of e)) (table_of b0).queue ≡ Some z
         → (o : Out) (c : Command) → first_in e b0 ≡ Some (o, c) → (i : Option ℕ)
         → Holds k n (done_by k e v w (Some c) (Some (channel_act.Send c)) i (handed_out e (Some b0) w.nodes))
-    halted_decides z found o c first i =
-        let there_in = found_in (is_queued_in (id_of e)) (table_of b0).queue z found in
-        let at : z.channel ≡ channel_id_of e.channel = sym (same_is (id_of e) z.channel there_in.1) in
-        let held = order0.queued e.channel z there_in.0 at in
-        let given : ◌≡◌ {A = Option (Out × Command)} (Some (queued_command z)) (Some (o, c)) =
-        sym (first_is e b0 calm0 ∙ ap (λ y. first_of services (id_of e) y (table_of b0).htlcs) found) ∙ first in
-        let pair : ◌≡◌ {A = Out × Command} (queued_command z) (o, c) = cc in
-        let is : command_in z ≡ c = ap (λ (y : Out × Command). y.1) pair in
-        halted_takes k e v w h b0 calm0 paid0 agrees0 order0 o c (subst IsBooks is (queued_books z)) first
-        (subst (λ y. is_dispatched e (channel_act.Send y) w.desks ≡ true) is (queued_may e w.desks z held.1)) s there i
-        halted
+    halted_decides z found o c first =
+        halted_queued k e v w h b0 calm0 paid0 agrees0 order0 s there halted z found o c first
 
   -- ---- where it works, it is asked for this decision
 
@@ -574,7 +547,7 @@ module _ {K : Type 0} (k : Ghosts K) (e : End) (v : Verdict) (w : World K) (h : 
         hs = left_out u (table_of b0).htlcs
 
         undecided : (y : Htlc) → u y ≡ true → y.decided ≡ false
-        undecided y m = by_not y.decided (both_true (is_told (id_of e) q.0 y) (not y.decided) m).1
+        undecided y m = by_not y.decided (and_parts (is_told (id_of e) q.0 y) (not y.decided) m).1
           where
             by_not : (b : Bool) → not b ≡ true → b ≡ false
             by_not true z = absurd (cc)
@@ -604,7 +577,7 @@ module _ {K : Type 0} (k : Ghosts K) (e : End) (v : Verdict) (w : World K) (h : 
               → is_told (id_of e) q.0 y ≡ false
           cases y m false is = is
           cases y m true is =
-              let p = both_true (q.0 == y.event) (same (id_of e) y.key.channel) is in
+              let p = and_parts (q.0 == y.event) (same (id_of e) y.key.channel) is in
               let number : q.0 ≡ y.event = eqb-true q.0 y.event p.0 in
               absurd (which number (h.order.dated e.channel y m (sym (same_is (id_of e) y.key.channel p.1))))
             where
@@ -658,7 +631,7 @@ module _ {K : Type 0} (k : Ghosts K) (e : End) (v : Verdict) (w : World K) (h : 
       same_results = ap (λ (z : ChannelEnd). z.ledger.results) p.2 ∙ dec.results
 
       le : f.dance.log.first.own ≤ f.dance.log.current.own
-      le = shift_first X f fit st.2
+      le = first_kept X f fit st.2
 
       names : AllName X.dance.log.own → AllName (Y i).dance.log.own
       names a = subst (λ (z : ChannelEnd). AllName z.dance.log.own) (sym st.3)
@@ -745,7 +718,7 @@ module _ {K : Type 0} (k : Ghosts K) (e : End) (v : Verdict) (w : World K) (h : 
               shape : hs ≡ left_out (is_htlc (key_at channel_id_of e.channel o.id)) t.htlcs ++ decide x ∷ []
               shape = ap (changed_first u decide)
                   (joins_so channel_id_of one_id h0 x t.htlcs ((links_of n cs).halted e.channel) refl had)
-                  ∙ last_changes u decide (left_out (is_htlc (key_at channel_id_of e.channel o.id)) t.htlcs) x
+                  ∙ last_one u decide (left_out (is_htlc (key_at channel_id_of e.channel o.id)) t.htlcs) x
                   (none_left u (is_htlc (key_at channel_id_of e.channel o.id)) t.htlcs (none_told dec.few)) (hit o)
 
               agrees_mid : HoldAlike channel_id_of (record { links = mid; book = hs })

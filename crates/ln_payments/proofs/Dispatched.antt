@@ -4,8 +4,9 @@ use Rattle.std.proofs.Common.{sym, ap, ◌∙◌}
 use Rattle.std.proofs.Common.{subst, arith, Bool, true, false, cond, ◌==◌, ◌&&◌, nat_lt, nat_le, Option, Some, None}
 use Rattle.std.proofs.Common.{option_map}
 use Rattle.std.specs.List.{cons_option}
-use Rattle.std.proofs.lemmas.Bool.{eqb-true, lt-ltb, leb-true}
+use Rattle.std.proofs.lemmas.Bool.{eqb-true, lt-ltb, leb-true, and_parts}
 use Rattle.std.proofs.lemmas.List.{length-drop}
+use Rattle.std.proofs.Math.Bool.{and-true, and-false}
 use Rattle.ln_keys.specs.declared.keys.ChannelKeys.{Ghosts}
 use Rattle.ln_keys.specs.declared.role.Role.{Role}
 use Rattle.ln_keys.specs.declared.role.Role.TheVariants.{Funder, Fundee}
@@ -72,14 +73,6 @@ at_end : (e : End) (d : Desk) (n : ℕ) (node : Node) → d.end ≡ end_at n nod
     → is_at e d ≡ (is_node node e.node && (n == e.channel))
 at_end e d n node is = ap (λ (z : End). is_node z.node e.node && (z.channel == e.channel)) is
 
-and_true : (a : Bool) → (a && true) ≡ a
-and_true true = refl
-and_true false = refl
-
-and_false : (a : Bool) → (a && false) ≡ false
-and_false true = refl
-and_false false = refl
-
 module _ {K : Type 0} where
   pub desk_side : (e : End) (cs : List (WorldChannel K)) (ds : List Desk) → EachPair Pair cs ds → (c : WorldChannel K)
       → channel e.channel cs ≡ Some c → (side : Role) → side_of e.node c ≡ Some side → (d : Desk)
@@ -104,15 +97,15 @@ module _ {K : Type 0} where
           side_by (is_node c0.funder e.node) (is_node c0.fundee e.node) side x y d (desk_at e ds)
           (ap (side_of e.node) same ∙ of)
           (sym (ap (λ b. cond b (Some x) (cond (is_at e y) (Some y) (desk_at e ds)))
-          (at_x ∙ ap (λ z. is_node c0.funder e.node && z) here ∙ and_true (is_node c0.funder e.node))
+          (at_x ∙ ap (λ z. is_node c0.funder e.node && z) here ∙ and-true (is_node c0.funder e.node))
           ∙ ap (λ b. cond (is_node c0.funder e.node) (Some x) (cond b (Some y) (desk_at e ds)))
-          (at_y ∙ ap (λ z. is_node c0.fundee e.node && z) here ∙ and_true (is_node c0.fundee e.node))) ∙ at)
+          (at_y ∙ ap (λ z. is_node c0.fundee e.node && z) here ∙ and-true (is_node c0.fundee e.node))) ∙ at)
           h.0.sides.0 h.0.sides.1
       cases false there f rest = rest f
           (sym (ap (λ b. cond b (Some x) (cond (is_at e y) (Some y) (desk_at e ds)))
-          (at_x ∙ ap (λ z. is_node c0.funder e.node && z) there ∙ and_false (is_node c0.funder e.node))
+          (at_x ∙ ap (λ z. is_node c0.funder e.node && z) there ∙ and-false (is_node c0.funder e.node))
           ∙ ap (λ b. cond b (Some y) (desk_at e ds))
-          (at_y ∙ ap (λ z. is_node c0.fundee e.node && z) there ∙ and_false (is_node c0.fundee e.node))) ∙ at)
+          (at_y ∙ ap (λ z. is_node c0.fundee e.node && z) there ∙ and-false (is_node c0.fundee e.node))) ∙ at)
 
   -- each stands beside an end
   abbrev IsBeside : End → List (WorldChannel K) → Type 0
@@ -172,7 +165,7 @@ module _ {K : Type 0} where
             ∙ ap (λ z. cond z (Some Fundee) None) eg,
       )
       cases go true ea false eb false eg = later go (past true false false ea eb eg refl refl)
-      cases go false ea b eb g eg = later go (past false b g ea eb eg (and_false b) (and_false g))
+      cases go false ea b eb g eg = later go (past false b g ea eb eg (and-false b) (and-false g))
 
 -- what holds of each holds of the end's
 each_desk : (P : Desk → Type 0) (e : End) (ds : List Desk) (d : Desk) → Each P ds → desk_at e ds ≡ Some d
@@ -180,16 +173,12 @@ each_desk : (P : Desk → Type 0) (e : End) (ds : List Desk) (d : Desk) → Each
 each_desk P e [] d h at = absurd (cc)
 each_desk P e (x ∷ ds) d h at = cases (is_at e x) refl at (λ r. each_desk P e ds d h.1 r)
   where
-    back : (a b : Bool) → (a && b) ≡ true → b ≡ true
-    back true b f = f
-    back false b f = absurd (cc)
-
     cases : (b : Bool) → is_at e x ≡ b → cond b (Some x) (desk_at e ds) ≡ Some d
         → (desk_at e ds ≡ Some d → P d × (d.end.channel ≡ e.channel)) → P d × (d.end.channel ≡ e.channel)
     cases true is f rest = let same : x ≡ d = cc in (
       subst P same h.0,
       ap (λ (z : Desk). z.end.channel) (sym same)
-          ∙ eqb-true x.end.channel e.channel (back (is_node x.end.node e.node) (x.end.channel == e.channel) is),
+          ∙ eqb-true x.end.channel e.channel (and_parts (is_node x.end.node e.node) (x.end.channel == e.channel) is).1,
     )
     cases false is f rest = rest f
 

@@ -6,8 +6,6 @@ use Rattle.std.specs.Prelude.{option_map}
 use Rattle.std.proofs.lemmas.Bool.{eqb-true, eq-eqb}
 use Rattle.ln_msgs.specs.declared.refusals.refusal.Refusal.{Refusal}
 use Rattle.ln_keys.specs.Signer.{Signer}
-use Rattle.ln_keys.specs.declared.role.Role.{Role}
-use Rattle.ln_keys.specs.declared.role.Role.TheVariants.{Funder, Fundee}
 use Rattle.ln_channel.specs.End.{End as ChannelEnd}
 use Rattle.ln_channel.specs.Base.{based}
 use Rattle.ln_channel.specs.Record.{saved_end}
@@ -35,13 +33,10 @@ use Rattle.ln_payments.specs.Circuit.{has_halted}
 use Rattle.ln_payments.proofs.Hearing.{AreKin}
 use Rattle.ln_payments.proofs.Answering.{Steps, RowSteps}
 use Rattle.ln_payments.proofs.Ends.{is_link}
-use Rattle.ln_payments.proofs.Moving.{IsOfSide, row_of, Acted, own_acts}
+use Rattle.ln_payments.proofs.Moving.{row_of, Acted, own_acts}
 use Rattle.ln_payments.proofs.Scene.{link_in, links_of, linked, now, elsewhere, own_node, each_found, either}
 use Rattle.ln_payments.proofs.Lost.{place, link_is, side_is, halted_is}
-
-pub acts_side : (a : Act) (s : Role) → IsOfSide (By s a) s
-acts_side a Funder = tt
-acts_side a Fundee = tt
+use Rattle.ln_payments.proofs.Moving.{acts_side}
 
 module _ {K : Type 0} (signer : K → Signer) (n m : Node) (own : is_node m n ≡ true) (cs : List (WorldChannel K))
     (open_ : Each (IsOpen signer) cs) (at : ℕ) (a : Act) (s : State K) (there : link_in n at cs ≡ Some s) where

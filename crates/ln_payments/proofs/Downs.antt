@@ -16,7 +16,7 @@ use Rattle.ln_tables.specs.declared.entry.Told.{Told}
 use Rattle.ln_tables.specs.declared.entry.Desk.TheVariants as desk
 use Rattle.ln_tables.specs.declared.entry.Entry.TheVariants as entry
 use Rattle.ln_tables.specs.Replay.{Table, table_of, desk_at, htlc_kept, put_back_all, kept_at, is_among}
-use Rattle.ln_readings.specs.Kept.{has_own_removal}
+use Rattle.ln_readings.specs.Kept.{told_by, next_own_id, has_own_removal, has_decided}
 use Rattle.ln_channels.specs.declared.step.Node.{Node}
 use Rattle.ln_channels.specs.declared.step.End.{End}
 use Rattle.ln_channels.specs.Settings.{channel_id_of}
@@ -28,7 +28,7 @@ use Rattle.ln_world.specs.declared.node.NodeBook.{NodeBook}
 use Rattle.ln_world.specs.declared.step.Step.TheVariants as step
 use Rattle.ln_world.specs.Node.{Book, node_at, with_book}
 use Rattle.ln_world.specs.Follow.{followed}
-use Rattle.ln_world.specs.World.{World, happens, fallen, dropped, saved_dropped, told_of, saved_of}
+use Rattle.ln_world.specs.World.{World, happens, id_of, fallen, dropped, saved_dropped, saved_of}
 use Rattle.ln_payment.specs.Moves.{is_of}
 use Rattle.ln_circuits.specs.Snapshot.{IsIn, IsFit}
 use Rattle.ln_circuits.proofs.Links.{Side, HasAddAt, course_at, removal_at}
@@ -40,13 +40,19 @@ use Rattle.ln_circuits.proofs.Scenes.{Scene, HavePayments, falls}
 use Rattle.ln_circuits.proofs.Resumed.{HoldAlike}
 use Rattle.ln_circuits.proofs.Agrees.{agrees_fewer}
 use Rattle.ln_payments.proofs.Scene.{link_in, links_of, scene_of, linked, now, no_node, either}
-use Rattle.ln_payments.proofs.Lost.{link_is, side_is, halted_is, down_drops, down_halted, link_now, falls_of}
+use Rattle.ln_payments.proofs.Lost.{link_is, side_is, halted_is, down_drops, down_halted, link_now}
 use Rattle.ln_payments.proofs.Lost.{fall_leaves}
 use Rattle.ln_payments.proofs.Books.{own_book, follow_alike, one_more, itself}
 use Rattle.ln_payments.proofs.Same.{IsSame, same_paid, same_agrees, one_id}
-use Rattle.ln_payments.proofs.Told.{covered, gone, none_removed}
+use Rattle.ln_circuits.proofs.Told.{covered, gone, none_removed}
 use Rattle.ln_channels.specs.Both.{Falls}
 use Rattle.ln_payments.proofs.Answering.{LinkIs}
+use Rattle.ln_payments.proofs.Moving.{falls_side}
+
+-- what an end has kept, as its book is told
+abbrev pub told_of : End → ChannelEnd → Book → Told
+told_of e x b =
+    told_by (next_own_id x) (λ id. has_own_removal id x.dance.log) (λ n m. has_decided n m x) (id_of e) (table_of b)
 
 -- nothing is out for this channel
 abbrev pub IsIdle : ℕ → Book → Type 0
@@ -97,7 +103,7 @@ module _ {K : Type 0} (k : Ghosts K) (e : End) (w : World K)
 
   module _ (none : link_in n e.channel cs ≡ None) (v : Verdict) where
     none_now : link_in n e.channel new ≡ None
-    none_now = no_node k.signer n Falls (falls_of k.signer n cs open_) n e.channel cs (itself n) none
+    none_now = no_node k.signer n Falls falls_side n e.channel cs (itself n) none
 
     none_same : IsSame before (behind v)
     none_same = record {
@@ -203,7 +209,7 @@ module _ {K : Type 0} (k : Ghosts K) (e : End) (w : World K)
       )
       cases (Some s) there =
           let h = link_is k.signer n cs open_ e.channel s there in
-          let q = link_now k.signer n cs open_ n (itself n) e.channel Falls (falls_of k.signer n cs open_) (λ z. z)
+          let q = link_now k.signer n cs open_ n (itself n) e.channel Falls falls_side (λ z. z)
           (fall_leaves k.signer n cs open_) s there in
           let j = link_is k.signer n new new_open e.channel q.0 q.1 in
           let some : Some j.end ≡ Some (end_dropped h.end) =

@@ -3,8 +3,6 @@ use Rattle.std.proofs.Common.{◌≡◌, ℕ, List, map, refl, sym, ap, subst, B
 use Rattle.std.proofs.Common.{cond, Option, Some, None}
 use Rattle.std.specs.Prelude.{option_map}
 use Rattle.ln_keys.specs.declared.keys.ChannelKeys.{Ghosts}
-use Rattle.ln_keys.specs.declared.role.Role.{Role}
-use Rattle.ln_keys.specs.declared.role.Role.TheVariants.{Funder, Fundee}
 use Rattle.ln_hooks.specs.declared.verdict.Verdict.{Verdict}
 use Rattle.ln_channel.specs.End.{End as ChannelEnd}
 use Rattle.ln_channel.specs.Record.{saved_end}
@@ -24,26 +22,18 @@ use Rattle.ln_world.specs.declared.node.NodeBook.{NodeBook}
 use Rattle.ln_world.specs.declared.step.Step.TheVariants as step
 use Rattle.ln_world.specs.Node.{Book, node_at, with_book}
 use Rattle.ln_world.specs.Follow.{followed, begun_anew}
-use Rattle.ln_world.specs.World.{World, happens, id_of, link_at, fallen, dropped, saved_dropped, saved_of, told_of}
+use Rattle.ln_world.specs.World.{World, happens, id_of, link_at, fallen, dropped, saved_dropped, saved_of}
 use Rattle.ln_circuits.proofs.Shifts.{side_of as read_side}
 use Rattle.ln_payments.specs.Circuit.{has_halted}
-use Rattle.ln_payments.proofs.Moving.{IsOfSide}
 use Rattle.ln_payments.proofs.Scene.{scene_of, link_in, other_node, other_all, same_number}
 use Rattle.ln_payments.proofs.Books.{own_book, other_book, follow_alike}
 use Rattle.ln_payments.proofs.Same.{IsSame, same_paid, same_agrees}
 use Rattle.ln_payments.proofs.Anew.{AreSmall}
 use Rattle.ln_payments.proofs.Restarts.{small_all}
-use Rattle.ln_payments.proofs.Downs.{down}
+use Rattle.ln_payments.proofs.Downs.{down, told_of}
 use Rattle.ln_payments.proofs.Desks.{IsCalm, calm_alike, calm_dropped}
 use Rattle.ln_payments.proofs.Wells.{IsWell}
-
-pub falls_side : (s : Role) → IsOfSide (Falls s) s
-falls_side Funder = tt
-falls_side Fundee = tt
-
-pub restarts_side : (s : Role) → IsOfSide (Restarts s) s
-restarts_side Funder = tt
-restarts_side Fundee = tt
+use Rattle.ln_payments.proofs.Moving.{falls_side, restarts_side}
 
 module _ {K : Type 0} (k : Ghosts K) where
   -- ---- of the node itself

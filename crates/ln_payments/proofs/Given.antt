@@ -3,7 +3,7 @@ use Rattle.std.proofs.Common.{◌≡◌, ℕ, ◌+◌, ◌<◌, List, drop, leng
 use Rattle.std.proofs.Common.{subst, arith, Bool, true, false, cond, ◌==◌, ◌&&◌, nat_lt, Option, Some, None, Result, Ok}
 use Rattle.std.proofs.Common.{Err}
 use Rattle.std.specs.List.{find}
-use Rattle.std.proofs.lemmas.Bool.{ltb-true}
+use Rattle.std.proofs.lemmas.Bool.{ltb-true, and_parts}
 use Rattle.std.proofs.lemmas.List.{length-drop}
 use Rattle.ln_msgs.specs.declared.refusals.refusal.Refusal.{Refusal}
 use Rattle.ln_msgs.specs.declared.refusals.refusal.Refusal.TheVariants as refusal
@@ -27,8 +27,8 @@ use Rattle.ln_channel.specs.Step.{Done, commanded, is_of_records}
 use Rattle.ln_tables.specs.declared.entry.Out.{Out}
 use Rattle.ln_tables.specs.declared.entry.Queued.{Queued}
 use Rattle.ln_tables.specs.declared.entry.Entry.TheVariants as entry
-use Rattle.ln_tables.specs.Replay.{table_of, desk_at}
-use Rattle.ln_book.specs.Commands.{first_at, first_of, is_queued_in, with_answered, with_taken}
+use Rattle.ln_tables.specs.Replay.{table_of}
+use Rattle.ln_book.specs.Commands.{first_at, first_of, is_queued_in, with_taken}
 use Rattle.ln_channels.specs.declared.step.Act.TheVariants as channel_act
 use Rattle.ln_channels.specs.declared.step.Node.{Node}
 use Rattle.ln_channels.specs.declared.step.End.{End}
@@ -40,7 +40,8 @@ use Rattle.ln_desks.specs.World.{is_dispatched}
 use Rattle.ln_desks.specs.World as desks
 use Rattle.ln_world.specs.declared.node.NodeBook.{NodeBook}
 use Rattle.ln_world.specs.Node.{Book, services, node_at, with_book}
-use Rattle.ln_world.specs.Told.{about, answer_by, told_count, next_id}
+use Rattle.ln_switch.specs.Answers.{about, next_id, replied}
+use Rattle.ln_world.specs.Told.{answer_by, told_count}
 use Rattle.ln_world.specs.World.{World, id_of, first_in, handed, handed_out}
 use Rattle.ln_circuits.specs.Snapshot.{IsIn}
 use Rattle.ln_circuits.proofs.Tidy.{decides_so, resumes_so}
@@ -77,10 +78,6 @@ use Rattle.ln_payments.proofs.Orderly.{dated_later}
 
 -- ---- such a command tells no new event
 
-both : (a b : Bool) → (a && b) ≡ true → (a ≡ true) × (b ≡ true)
-both true b f = (refl, f)
-both false b f = absurd (cc)
-
 -- an event is decided where there is one
 pub some_undecided : (event : ℕ) (m : Mark) (htlc : Option ℕ) (g n : Ledger) → decide_row event m htlc g ≡ Ok n
     → 0 < length g.undecided
@@ -89,9 +86,9 @@ some_undecided event m htlc g n = cases (is_in_turn event g && is_of_event event
     cases : (b : Bool) → (is_in_turn event g && is_of_event event m) ≡ b
         → cond b (decided_first (marked m htlc g)) (Err refusal.NotReady) ≡ Ok n → 0 < length g.undecided
     cases true is f =
-        let p = both (is_in_turn event g) (is_of_event event m) is in
-        let q = both (event == g.decided) (nat_lt event most_decided && nat_lt 0 (length g.undecided)) p.0 in
-        let r = both (nat_lt event most_decided) (nat_lt 0 (length g.undecided)) q.1 in
+        let p = and_parts (is_in_turn event g) (is_of_event event m) is in
+        let q = and_parts (event == g.decided) (nat_lt event most_decided && nat_lt 0 (length g.undecided)) p.0 in
+        let r = and_parts (nat_lt event most_decided) (nat_lt 0 (length g.undecided)) q.1 in
         ltb-true 0 (length g.undecided) r.1
     cases false is f = absurd (cc)
 
@@ -242,7 +239,7 @@ module _ {K : Type 0} (k : Ghosts K) (e : End) (v : Verdict) (w : World K) (h : 
 
   -- the book then
   abbrev pub book_now : Book
-  book_now = with_answered (id_of e) answer (desk_at (id_of e) (table_of taken)) taken
+  book_now = replied (id_of e) answer taken
 
   pub turned : Turned (id_of e) answer o (table_of b0) (table_of book_now)
   turned = book_turned (id_of e) answer o b0
@@ -269,13 +266,12 @@ module _ {K : Type 0} (k : Ghosts K) (e : End) (v : Verdict) (w : World K) (h : 
       let hand : (node_at n xs).book ≡ taken =
       ap (λ (z : NodeBook). z.book) (own_book (with_book (handed e b0)) (λ z. refl) n w.nodes)
       ∙ ap (λ f. with_taken (id_of e) f b0) first in
-      let reply : Result ℕ ℕ → Book → Book =
-      λ a z. with_answered (id_of e) a (desk_at (id_of e) (table_of z)) z in
       subst (λ z. IsAlike z (book_in n then))
       (hears_none (id_of e) x0 y0
-      (reply (answer_by (about (next_id (Some x0)) c) (lines_of k e v w (channel_act.Send c))) (node_at n xs).book)
+      (replied (id_of e) (answer_by (about (next_id (Some x0)) c) (lines_of k e v w (channel_act.Send c)))
+      (node_at n xs).book)
       counts
-      ∙ ap (λ a. reply a (node_at n xs).book) told_now ∙ ap (reply answer) hand)
+      ∙ ap (λ a. replied (id_of e) a (node_at n xs).book) told_now ∙ ap (replied (id_of e) answer) hand)
       (act_book k e v w h.well.open_ (channel_act.Send c) may s there answer_row row_is (Some c) r xs)
 
   -- ---- what is kept

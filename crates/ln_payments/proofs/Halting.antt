@@ -46,11 +46,11 @@ use Rattle.ln_circuits.proofs.Losses.{Drops, all_dropped, dropped}
 use Rattle.ln_payments.proofs.Scene.{links_of, scene_of, link_in, now, same_number, either}
 use Rattle.ln_payments.proofs.Lost.{halt_drops, halt_halted}
 use Rattle.ln_payments.proofs.Books.{own_book, follow_alike, itself, IsAlike}
-use Rattle.ln_payments.proofs.Same.{IsSame, same_paid, same_agrees, one_id}
+use Rattle.ln_payments.proofs.Same.{one_id}
 use Rattle.ln_payments.proofs.Anew.{AreSmall}
 use Rattle.ln_payments.proofs.Restarts.{small_all}
 use Rattle.ln_payments.proofs.Desks.{IsCalm, calm_alike, book_turned}
-use Rattle.ln_payments.proofs.Wells.{IsWell, book_in}
+use Rattle.ln_payments.proofs.Wells.{IsWell, book_in, well_as}
 
 -- a book of which a payment reads the same
 pub record ReadsSame (a b : Book) : Type 0 where
@@ -122,19 +122,7 @@ module _ {K : Type 0} (k : Ghosts K) (e : End) (w : World K) (h : IsWell k e.nod
 
   pub halted_well : (u : World K) → Halted u.desks.channels.channels → ReadsSame (book_in n w) (book_in n u)
       → IsWell k n u
-  halted_well u (inl same_channels) b =
-      let same : IsSame (scene_of n w) (scene_of n u) = record {
-        sides = λ d. ap (λ xs. (links_of n xs).sides d) same_channels;
-        halted = λ d. ap (λ xs. (links_of n xs).halted d) same_channels;
-        book = b.htlcs;
-      } in
-      record {
-        open_ = subst (Each (IsOpen k.signer)) (sym same_channels) h.open_;
-        small = subst AreSmall (sym same_channels) h.small;
-        calm = b.calm h.calm;
-        paid = same_paid channel_id_of (scene_of n w) (scene_of n u) same h.paid;
-        agrees = same_agrees channel_id_of (scene_of n w) (scene_of n u) same h.agrees;
-      }
+  halted_well u (inl same_channels) b = well_as k n w u same_channels b.htlcs (b.calm h.calm) h
   halted_well u (inr x) b =
       let drops : Drops (is_of e.channel) (links_of n cs) (links_of n u.desks.channels.channels) =
       subst (λ xs. Drops (is_of e.channel) (links_of n cs) (links_of n xs)) (sym x.0)

@@ -30,6 +30,7 @@ use Rattle.ln_circuits.proofs.Links.{Links, course_at, removal_at}
 use Rattle.ln_circuits.proofs.Entries.{kind_of}
 use Rattle.ln_circuits.proofs.Lists.{among_changed, of_picked}
 use Rattle.ln_circuits.proofs.Scenes.{HasPayment, scene, settles, tells}
+use Rattle.ln_circuits.proofs.Waiting.{drop_next}
 use Rattle.ln_payments.proofs.Books.{one_more}
 use Rattle.ln_payments.proofs.Same.{one_id}
 
@@ -236,12 +237,6 @@ got_at zero [] u zs e = absurd (cc)
 got_at zero (v ∷ us) u zs e = let same : v ≡ u = cc in ap Some same
 got_at (suc n) [] u zs e = absurd (cc)
 got_at (suc n) (v ∷ us) u zs e = got_at n us u zs e
-
-drop_next : (n : ℕ) (us : List Update) (u : Update) (zs : List Update) → drop n us ≡ u ∷ zs → drop (suc n) us ≡ zs
-drop_next zero [] u zs e = absurd (cc)
-drop_next zero (v ∷ us) u zs e = ap (drop 1) e
-drop_next (suc n) [] u zs e = absurd (cc)
-drop_next (suc n) (v ∷ us) u zs e = drop_next n us u zs e
 
 abbrev pub EachSo : Links → ℕ → Bool → List Update → Type 0
 EachSo l c own [] = Unit {0}

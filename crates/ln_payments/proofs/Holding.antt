@@ -30,7 +30,7 @@ use Rattle.ln_payments.specs.Commands.{OfBook, IsOfBook, AreOfBook}
 use Rattle.ln_payments.proofs.Scene.{link_in, other_node, other_all}
 use Rattle.ln_payments.proofs.Books.{letters, itself, alike, other_book}
 use Rattle.ln_payments.proofs.Wells.{IsWell, book_in, nothing_yet}
-use Rattle.ln_payments.proofs.Falling.{falls_side, restarts_side, fallen_else, other_falls, other_restarts}
+use Rattle.ln_payments.proofs.Falling.{fallen_else, other_falls, other_restarts}
 use Rattle.ln_payments.proofs.Others.{do_apart, memory_apart, stop_apart, stopped_apart, acts_else, halts_else}
 use Rattle.ln_payments.proofs.Others.{stops_else}
 use Rattle.ln_payments.proofs.Others.{stopped_so, other_acts, other_halts, other_stops, other_stopped}
@@ -47,6 +47,7 @@ use Rattle.ln_payments.proofs.Stopping.{May, restart_holds, stopped_holds, behin
 use Rattle.ln_payments.proofs.Stopping.{take_may, resume_may}
 use Rattle.ln_payments.proofs.Stopping.{untaken}
 use Rattle.ln_payments.proofs.Opening.{open_holds}
+use Rattle.ln_payments.proofs.Moving.{falls_side, restarts_side}
 
 module _ {K : Type 0} (k : Ghosts K) where
   -- ---- a step of another node's end

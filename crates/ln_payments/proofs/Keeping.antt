@@ -39,7 +39,7 @@ use Rattle.ln_world.specs.declared.step.Act.{Act}
 use Rattle.ln_world.specs.declared.step.Step.TheVariants as step
 use Rattle.ln_world.specs.Node.{Book, node_at, with_policy, with_book}
 use Rattle.ln_world.specs.Follow.{followed}
-use Rattle.ln_world.specs.World.{World, happens, is_height, moved_by, unbegun, fallen, dropped, saved_dropped, told_of}
+use Rattle.ln_world.specs.World.{World, happens, is_height, moved_by, unbegun, fallen, dropped, saved_dropped}
 use Rattle.ln_world.specs.World.{id_of, link_at}
 use Rattle.ln_world.specs.World.{saved_of}
 use Rattle.ln_circuits.specs.Snapshot.{IsIn}
@@ -48,12 +48,12 @@ use Rattle.ln_payments.proofs.Answering.{LinkIs}
 use Rattle.ln_payments.proofs.Ends.{IsLink}
 use Rattle.ln_payments.proofs.Moving.{IsOfSide}
 use Rattle.ln_payments.proofs.Scene.{link_in, linked, now, of_node, no_node, elsewhere, either}
-use Rattle.ln_payments.proofs.Lost.{link_is, link_now, falls_of, halts_of, fall_leaves, halt_leaves}
+use Rattle.ln_payments.proofs.Lost.{link_is, link_now, fall_leaves, halt_leaves}
 use Rattle.ln_payments.proofs.Books.{own_book, follow_alike, itself, alike, IsAlike}
 use Rattle.ln_payments.proofs.Books as books
 use Rattle.ln_payments.proofs.Desks.{IsCalm}
-use Rattle.ln_payments.proofs.Downs.{dropped_htlcs}
-use Rattle.ln_payments.proofs.Wells.{IsWell, book_in, set_alike, height_by, entry_alike}
+use Rattle.ln_payments.proofs.Downs.{dropped_htlcs, told_of}
+use Rattle.ln_payments.proofs.Wells.{IsWell, book_in, set_alike, height_by}
 use Rattle.ln_payments.proofs.Wells as wells
 use Rattle.ln_payments.proofs.Halting.{Halted, halt_or, halts_read, act_halts}
 use Rattle.ln_payments.proofs.Meeting.{all_same, met_alike, up_well, new as met_new}
@@ -61,6 +61,8 @@ use Rattle.ln_payments.proofs.Falling.{down_well}
 use Rattle.ln_payments.proofs.Orderly.{IsOrderly, view_of, OneLater, Fewer, DesksLater, orderly, orderly_alike}
 use Rattle.ln_payments.proofs.Orderly.{stays_later}
 use Rattle.ln_payments.proofs.Orderly.{below_in, alike_later, ends_later, names_dropped, one_moves}
+use Rattle.ln_payments.proofs.Moving.{falls_side, halts_side}
+use Rattle.ln_payments.proofs.Books.{entry_alike}
 
 -- all that is kept of a node in a world
 pub record Holds {K : Type 0} (k : Ghosts K) (n : Node) (w : World K) : Type 0 where
@@ -174,7 +176,7 @@ module _ {K : Type 0} (k : Ghosts K) where
         well = down_well k e v w h.well;
         order = orderly e.node w u
             (lost_later k.signer e.node cs h.well.open_ e.node (itself e.node) e.channel Falls
-            (falls_of k.signer e.node cs h.well.open_) (λ z. z) (λ z is. is)
+            falls_side (λ z. z) (λ z is. is)
             (fall_leaves k.signer e.node cs h.well.open_)) b.queue b.htlcs (λ c i is. is) h.order;
       }
 
@@ -204,7 +206,7 @@ module _ {K : Type 0} (k : Ghosts K) where
       links ds (inr x) c =
           subst (λ xs. OneLater (link_in e.node c w.desks.channels.channels) (link_in e.node c xs)) (sym x.0)
           (lost_later k.signer e.node w.desks.channels.channels h.well.open_ e.node (itself e.node) e.channel Halts
-          (halts_of k.signer e.node w.desks.channels.channels h.well.open_) (λ z. true) (λ z is. refl)
+          halts_side (λ z. true) (λ z is. refl)
           (halt_leaves k.signer e.node w.desks.channels.channels h.well.open_) c)
 
   -- ---- what is set, and what dispatchers do
@@ -225,7 +227,7 @@ module _ {K : Type 0} (k : Ghosts K) where
     pub expect_holds : (m : Node) (i : Invoice) → Holds k n w → Holds k n (happens k v (step.Expect m i) w)
     expect_holds m i h = set_holds (happens k v (step.Expect m i) w) (wells.expect_well k n v w m i h.well) refl
         (set_alike k n v w m (λ b. with_book (with_entry (entry.Expect i) b.book) b) (λ x. refl)
-        (λ x. entry_alike k n (entry.Expect i) x.book refl refl refl)) (λ c j is. is) h
+        (λ x. entry_alike (entry.Expect i) x.book refl refl refl)) (λ c j is. is) h
 
     pub height_holds : (m : Node) (height : ℕ) → Holds k n w → Holds k n (happens k v (step.Height m height) w)
     height_holds m height h =

@@ -9,7 +9,6 @@ pub mod Books
 pub mod Anew
 pub mod Same
 pub mod Restarts
-pub mod Told
 pub mod Downs
 pub mod Desks
 pub mod Wells

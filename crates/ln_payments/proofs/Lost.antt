@@ -5,7 +5,6 @@ use Rattle.std.specs.Prelude.{option_map}
 use Rattle.std.proofs.lemmas.Bool.{eqb-true}
 use Rattle.ln_keys.specs.Signer.{Signer}
 use Rattle.ln_keys.specs.declared.role.Role.{Role}
-use Rattle.ln_keys.specs.declared.role.Role.TheVariants.{Funder, Fundee}
 use Rattle.ln_channel.specs.End.{End as ChannelEnd, end_dropped}
 use Rattle.ln_channel.specs.Record.{saved_end}
 use Rattle.ln_channel.specs.State.{State}
@@ -27,6 +26,7 @@ use Rattle.ln_payments.proofs.Ends.{IsLink, is_link}
 use Rattle.ln_payments.proofs.Moving.{IsOfSide, drops_is, halts_is, own_falls, own_halts}
 use Rattle.ln_payments.proofs.Scene.{link_in, links_of, linked, either, found_number, each_found}
 use Rattle.ln_payments.proofs.Scene.{now, elsewhere, of_node, own_node, no_node}
+use Rattle.ln_payments.proofs.Moving.{falls_side, halts_side}
 
 -- the place of a link among the channels
 pub record Place {K : Type 0} (n : Node) (c : ℕ) (cs : List (WorldChannel K)) (s : State K) : Type 0 where
@@ -159,14 +159,6 @@ module _ {K : Type 0} (signer : K → Signer) (n : Node) (cs : List (WorldChanne
 
     -- ---- Down
 
-    pub falls_of : (s : Role) → IsOfSide (Falls s) s
-    falls_of Funder = tt
-    falls_of Fundee = tt
-
-    pub halts_of : (s : Role) → IsOfSide (Halts s) s
-    halts_of Funder = tt
-    halts_of Fundee = tt
-
     pub fall_leaves : (id : List ℕ) (r : Role) (p : Both K) (h : IsLink id (place_of r p).link)
         → LinkIs (place_of r (moves signer id (Falls r) p)).link (end_dropped h.end) h.halted
     fall_leaves id r p h = subst (λ l. LinkIs l (end_dropped h.end) h.halted) (sym (own_falls signer id r p))
@@ -180,30 +172,30 @@ module _ {K : Type 0} (signer : K → Signer) (n : Node) (cs : List (WorldChanne
     module _ (m : Node) (own : is_node m n ≡ true) (at : ℕ) where
       -- the connection is lost
       pub down_drops : Drops (is_of at) (links_of n cs) (links_of n (now signer n at (fall_moves m) cs))
-      down_drops = all_drop m own at Falls falls_of (λ b. b) fall_leaves
+      down_drops = all_drop m own at Falls falls_side (λ b. b) fall_leaves
 
       pub down_halted : (d : ℕ) → (links_of n (now signer n at (fall_moves m) cs)).halted d ≡ (links_of n cs).halted d
       down_halted d = elim (either (d == at)) [
-        | inr isnt ↦ halted_else m own at Falls falls_of (λ b. b) fall_leaves d isnt
+        | inr isnt ↦ halted_else m own at Falls falls_side (λ b. b) fall_leaves d isnt
         | inl is ↦ subst (λ k. (links_of n (now signer n at (fall_moves m) cs)).halted k ≡ (links_of n cs).halted k)
             (sym (eqb-true d at is)) (cases (link_in n at cs) refl)
       ]
         where
           cases : (o : Option (State K)) → link_in n at cs ≡ o
               → (links_of n (now signer n at (fall_moves m) cs)).halted at ≡ (links_of n cs).halted at
-          cases None e = ap has_halted (no_node signer m Falls falls_of n at cs own e) ∙ ap has_halted (sym e)
-          cases (Some s) e = halted_at m own at Falls falls_of (λ b. b) fall_leaves s e
+          cases None e = ap has_halted (no_node signer m Falls falls_side n at cs own e) ∙ ap has_halted (sym e)
+          cases (Some s) e = halted_at m own at Falls falls_side (λ b. b) fall_leaves s e
 
       -- there is no memory
       pub halt_drops : Drops (is_of at) (links_of n cs) (links_of n (now signer n at (halt_moves m) cs))
-      halt_drops = all_drop m own at Halts halts_of (λ b. true) halt_leaves
+      halt_drops = all_drop m own at Halts halts_side (λ b. true) halt_leaves
 
       pub halt_halted : (s : State K) → link_in n at cs ≡ Some s → (d : ℕ)
           → (links_of n (now signer n at (halt_moves m) cs)).halted d ≡ ((d == at) || (links_of n cs).halted d)
       halt_halted s e d = elim (either (d == at)) [
-        | inr isnt ↦ halted_else m own at Halts halts_of (λ b. true) halt_leaves d isnt
+        | inr isnt ↦ halted_else m own at Halts halts_side (λ b. true) halt_leaves d isnt
             ∙ sym (ap (λ b. b || (links_of n cs).halted d) isnt)
         | inl is ↦ ap (links_of n (now signer n at (halt_moves m) cs)).halted (eqb-true d at is)
-            ∙ halted_at m own at Halts halts_of (λ b. true) halt_leaves s e
+            ∙ halted_at m own at Halts halts_side (λ b. true) halt_leaves s e
             ∙ sym (ap (λ b. b || (links_of n cs).halted d) is)
       ]

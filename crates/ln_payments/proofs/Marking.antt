@@ -22,19 +22,9 @@ use Rattle.ln_tables.specs.Replay.{Table}
 use Rattle.ln_book.specs.Commands.{Services}
 use Rattle.ln_book.specs.Marks.{incoming_of, unopened, forward_fault_at, forward_mark, outgoing_by, expected_by}
 use Rattle.ln_book.specs.Marks.{final_payload, final_mark, read, opened_mark, mark_by}
-use Rattle.ln_payment.specs.Parts.{Mark}
-use Rattle.ln_circuits.proofs.Links.{mark_as}
 
 abbrev Does : LogMark → Type 0
 Does m = m ≡ mark.None → ⊥
-
-pub has_mark : (m : LogMark) → Does m → (n : Mark) × (mark_as m ≡ Some n)
-has_mark mark.None h = absurd (h refl)
-has_mark (mark.Forward channel amount expiry) h = (_, refl)
-has_mark (mark.Fail reason) h = (_, refl)
-has_mark (mark.Malformed code) h = (_, refl)
-has_mark (mark.Fulfil preimage) h = (_, refl)
-has_mark (mark.Held event) h = (_, refl)
 
 unopened_does : (s : Services) (f : OpenFault) → Does (unopened s f)
 unopened_does s open_fault.Version e = absurd (cc)

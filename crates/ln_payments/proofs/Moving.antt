@@ -83,6 +83,26 @@ IsOfSide (Restarts r) s = IsSide r s
 IsOfSide (Stops r a) s = IsSide r s
 IsOfSide Meet s = ⊥
 
+pub acts_side : (a : Act) (s : Role) → IsOfSide (By s a) s
+acts_side a Funder = tt
+acts_side a Fundee = tt
+
+pub stops_side : (a : Act) (s : Role) → IsOfSide (Stops s a) s
+stops_side a Funder = tt
+stops_side a Fundee = tt
+
+pub falls_side : (s : Role) → IsOfSide (Falls s) s
+falls_side Funder = tt
+falls_side Fundee = tt
+
+pub halts_side : (s : Role) → IsOfSide (Halts s) s
+halts_side Funder = tt
+halts_side Fundee = tt
+
+pub restarts_side : (s : Role) → IsOfSide (Restarts s) s
+restarts_side Funder = tt
+restarts_side Fundee = tt
+
 -- ---- an act
 
 abbrev pub row_front : {K : Type 0} → (K → Signer) → List Message → State K → Option (Result Done Refusal)

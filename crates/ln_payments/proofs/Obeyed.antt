@@ -1,5 +1,5 @@
 -- What a command that a link takes makes of its end, and what is told of that.
-use Rattle.std.proofs.Common.{◌≡◌, ℕ, List, [], ◌∷◌, ◌++◌, refl, sym, ap, ◌∙◌, subst, Bool, true, false, cond}
+use Rattle.std.proofs.Common.{◌≡◌, ℕ, List, [], ◌∷◌, ◌++◌, refl, sym, ap, ◌∙◌, subst, Bool, true, false}
 use Rattle.std.proofs.Common.{Option, Some, None, Result, Ok, Err}
 use Rattle.ln_msgs.specs.declared.refusals.refusal.Refusal.{Refusal}
 use Rattle.ln_msgs.specs.Refusals.Refusal.{refusal_number}
@@ -17,10 +17,9 @@ use Rattle.ln_channel.specs.Opening.{unless}
 use Rattle.ln_channel.specs.Ledger.{Ledger}
 use Rattle.ln_channel.specs.End.{End, sending}
 use Rattle.ln_channel.specs.State.{State, numbers_of}
-use Rattle.ln_channel.specs.Commands.{command_row, propose_row, propose_fault, proposes, note_row, with_ledger}
+use Rattle.ln_channel.specs.Commands.{command_row, propose_row, propose_fault, proposes, with_ledger}
 use Rattle.ln_channel.specs.Commands.{ledgered}
-use Rattle.ln_channel.specs.Commands.{unready_fault}
-use Rattle.ln_channel.specs.Step.{Done, faulted, turned, line_fault, asked, commanded, obeyed_open, is_of_records}
+use Rattle.ln_channel.specs.Step.{Done, commanded, is_of_records}
 use Rattle.ln_channels.specs.declared.line.Word.{Word}
 use Rattle.ln_channels.specs.declared.step.Act.TheVariants as act
 use Rattle.ln_channels.specs.declared.step.End.{End as WorldEnd}
@@ -34,7 +33,7 @@ use Rattle.ln_channels.specs.World as channels
 use Rattle.ln_channels.proofs.Mirror.{link_at}
 use Rattle.ln_world.specs.Told.{answer_by}
 use Rattle.ln_circuits.proofs.Calls.{IfTurn}
-use Rattle.ln_payments.proofs.Answering.{IfDone, turned_so, faulted_so, halted_so}
+use Rattle.ln_payments.proofs.Answering.{IfDone, noted_so, obeyed_so}
 use Rattle.ln_payments.proofs.Lost.{Place}
 
 -- an end as it has proposed an update
@@ -54,17 +53,8 @@ module _ {K : Type 0} (keys : Signer) (halted : Bool) (k : K) (l : LineState) (e
 
   pub proposed : (c : Command) (u : Update) → is_of_records c ≡ false → command_row keys c e ≡ propose_row u e
       → IfDone (IsProposed e u) (commanded keys (link_at halted k l e) c)
-  proposed c u isnt is =
-      halted_so (IsProposed e u) halted _ (asked keys (link_at halted k l e) c) (cases (is_of_records c) isnt)
-    where
-      cases : (r : Bool) → r ≡ false → IfDone (IsProposed e u)
-          (cond r (turned l (note_row c e)) (obeyed_open keys l c e))
-      cases true f = absurd (cc)
-      cases false f =
-          faulted_so (IsProposed e u) (unready_fault c e) (faulted (line_fault l) (turned l (command_row keys c e)))
-          (faulted_so (IsProposed e u) (line_fault l) (turned l (command_row keys c e))
-          (turned_so (IsProposed e u) l (command_row keys c e)
-          (subst (IfTurn (IsProposed e u)) (sym is) (row_by u (propose_fault e u) refl))))
+  proposed c u isnt is = obeyed_so (IsProposed e u) keys halted k l e c isnt
+      (subst (IfTurn (IsProposed e u)) (sym is) (row_by u (propose_fault e u) refl))
 
   -- what is about decisions
   note_by : (c : Command) (o : Result Ledger Refusal) → ledgered c e ≡ o → IfTurn (IsNoted e c) (with_ledger o e)
@@ -72,11 +62,7 @@ module _ {K : Type 0} (keys : Signer) (halted : Bool) (k : K) (l : LineState) (e
   note_by c (Err r) is = tt
 
   pub noted : (c : Command) → is_of_records c ≡ true → IfDone (IsNoted e c) (commanded keys (link_at halted k l e) c)
-  noted c is = halted_so (IsNoted e c) halted _ (asked keys (link_at halted k l e) c) (cases (is_of_records c) is)
-    where
-      cases : (r : Bool) → r ≡ true → IfDone (IsNoted e c) (cond r (turned l (note_row c e)) (obeyed_open keys l c e))
-      cases true f = turned_so (IsNoted e c) l (note_row c e) (note_by c (ledgered c e) refl)
-      cases false f = absurd (cc)
+  noted c is = noted_so (IsNoted e c) keys halted k l e c is (note_by c (ledgered c e) refl)
 
 -- ---- what is told of it
 

@@ -4,7 +4,6 @@ use Rattle.std.proofs.Common.{cond, ◌==◌, Option, Some, None}
 use Rattle.std.specs.Prelude.{option_map}
 use Rattle.ln_keys.specs.declared.keys.ChannelKeys.{Ghosts}
 use Rattle.ln_keys.specs.declared.role.Role.{Role}
-use Rattle.ln_keys.specs.declared.role.Role.TheVariants.{Funder, Fundee}
 use Rattle.ln_hooks.specs.declared.verdict.Verdict.{Verdict}
 use Rattle.ln_channel.specs.declared.command.Command.{Command}
 use Rattle.ln_channel.specs.State.{State}
@@ -36,7 +35,8 @@ use Rattle.ln_world.specs.World.{World, happens, handed, handed_out, asked, aske
 use Rattle.ln_world.specs.World.{resumed_at}
 use Rattle.ln_world.specs.World.{moved_by, acting, asks_by, if_begun, if_stopped, is_take, concluded, follows}
 use Rattle.ln_world.specs.World.{stops_behind}
-use Rattle.ln_world.specs.Told.{told_count, next_id}
+use Rattle.ln_switch.specs.Answers.{next_id}
+use Rattle.ln_world.specs.Told.{told_count}
 use Rattle.ln_world.specs.World.{end_at, resumes, link_by, link_there, heard, unanswered}
 use Rattle.ln_payments.proofs.Moving.{IsOfSide, other_stays}
 use Rattle.ln_payments.proofs.Scene.{link_in, other_node, other_all, same_number, lookup_map, side_apart}
@@ -45,22 +45,7 @@ use Rattle.ln_payments.proofs.Anew.{AreSmall}
 use Rattle.ln_payments.proofs.Restarts.{small_all}
 use Rattle.ln_payments.proofs.Falling.{others_well}
 use Rattle.ln_payments.proofs.Wells.{IsWell}
-
-acts_side : (a : ChannelAct) (s : Role) → IsOfSide (By s a) s
-acts_side a Funder = tt
-acts_side a Fundee = tt
-
-halts_side : (s : Role) → IsOfSide (Halts s) s
-halts_side Funder = tt
-halts_side Fundee = tt
-
-restarts_side : (s : Role) → IsOfSide (Restarts s) s
-restarts_side Funder = tt
-restarts_side Fundee = tt
-
-stops_side : (a : ChannelAct) (s : Role) → IsOfSide (Stops s a) s
-stops_side a Funder = tt
-stops_side a Fundee = tt
+use Rattle.ln_payments.proofs.Moving.{acts_side, stops_side, halts_side, restarts_side}
 
 module _ {K : Type 0} (k : Ghosts K) (e : End) (n : Node) (isnt : is_node e.node n ≡ false) where
   -- ---- channels

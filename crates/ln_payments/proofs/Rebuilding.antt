@@ -1,5 +1,5 @@
 -- A node begins anew: what its book is read off its ends is orderly, and all that is kept of it is kept.
-use Rattle.std.proofs.Common.{◌≡◌, inl, inr, ℕ, List, [], ◌∷◌, ◌++◌, take, refl, sym, ap, ◌∙◌, subst}
+use Rattle.std.proofs.Common.{◌≡◌, inl, ℕ, List, [], ◌∷◌, take, refl, sym, ap, ◌∙◌, subst}
 use Rattle.std.proofs.Common.{Bool, true, false, cond, Option, Some, None}
 use Rattle.std.specs.Prelude.{option_map}
 use Rattle.std.specs.List.{cons_option}
@@ -35,10 +35,11 @@ use Rattle.ln_circuits.specs.Snapshot.{IsIn, All, readings}
 use Rattle.ln_circuits.proofs.Links.{Side}
 use Rattle.ln_circuits.proofs.Results.{IsTrue}
 use Rattle.ln_circuits.proofs.Losses.{Drops, all_dropped}
-use Rattle.ln_circuits.proofs.Ways.{IsBack, AreBack}
+use Rattle.ln_circuits.proofs.Ways.{IsBack, AreBack, of_member}
 use Rattle.ln_circuits.proofs.Shifts.{side_of as read_side}
 use Rattle.ln_circuits.proofs.Scenes.{restart}
 use Rattle.ln_circuits.proofs.Agrees.{agrees_rebuilt}
+use Rattle.ln_circuits.proofs.Tidy.{all_append}
 use Rattle.ln_payments.specs.Circuit.{has_halted}
 use Rattle.ln_payments.proofs.Scene.{link_in, links_of, scene_of}
 use Rattle.ln_payments.proofs.Books.{follow_alike, itself}
@@ -53,15 +54,6 @@ use Rattle.ln_payments.proofs.Keeping.{Holds}
 
 abbrev IsReadSo : Htlc → Type 0
 IsReadSo y = (y.event ≡ no_event) × IsKeyed y.key
-
-all_append : {A : Type 0} (P : A → Type 0) (xs ys : List A) → All P xs → All P ys → All P (xs ++ ys)
-all_append P [] ys h k = k
-all_append P (x ∷ xs) ys h k = (h.0, all_append P xs ys h.1 k)
-
-all_among : {A : Type 0} (P : A → Type 0) (xs : List A) (x : A) → All P xs → IsIn x xs → P x
-all_among P [] x h m = absurd m
-all_among P (y ∷ ys) x h (inl e) = subst P e h.0
-all_among P (y ∷ ys) x h (inr m) = all_among P ys x h.1 m
 
 decided_all : (ch : List ℕ) (l : Log) (c : ℕ) → ch ≡ channel_id_of c → (ds : List Decision)
     → All IsReadSo (decided_in ch l ds)
@@ -126,7 +118,7 @@ all_left_so all (x ∷ es) h =
 
 read_so : (es : List (ℕ × ChannelEnd)) → All IsEndSo es → (y : Htlc) → IsIn y (rebuilt_htlcs (readings es))
     → IsReadSo y
-read_so es h y m = all_among IsReadSo (rebuilt_htlcs (readings es)) y
+read_so es h y m = of_member IsReadSo (rebuilt_htlcs (readings es)) y
     (all_append IsReadSo (all_unfinished (readings es) (readings es)) (all_left (readings es) (readings es))
     (all_unfinished_so (readings es) es h) (all_left_so (readings es) es h)) m
 

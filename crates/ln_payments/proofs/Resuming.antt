@@ -51,6 +51,7 @@ use Rattle.ln_circuits.proofs.Tidy.{resumes_so}
 use Rattle.ln_circuits.proofs.Entries.{same_is, is_same}
 use Rattle.ln_circuits.proofs.Scenes.{HavePayments}
 use Rattle.ln_circuits.proofs.Resumed.{HoldAlike, resumed, agrees_resumed}
+use Rattle.ln_circuits.proofs.Moments.{first_kept}
 use Rattle.ln_payments.specs.Circuit.{has_halted}
 use Rattle.ln_payments.proofs.Answering.{RowSteps, IfDone, AtSaved}
 use Rattle.ln_payments.proofs.Scene.{link_in, links_of, scene_of, either}
@@ -64,13 +65,13 @@ use Rattle.ln_payments.proofs.Wells.{book_in}
 use Rattle.ln_payments.proofs.Orderly.{IsOrderly, view_at, AllName, Fewer, fewer_same}
 use Rattle.ln_payments.proofs.Keeping.{Holds}
 use Rattle.ln_payments.proofs.Hearing.{itself}
-use Rattle.ln_payments.proofs.Sending.{idle_holds, shift_first}
-use Rattle.ln_payments.proofs.Refusing.{IsBooks, IfErr, IsHaltedOrReady, note_refused}
+use Rattle.ln_payments.proofs.Sending.{idle_holds}
+use Rattle.ln_payments.proofs.Refusing.{IfErr, IsHaltedOrReady, note_refused}
 use Rattle.ln_payments.proofs.Obeyed.{by_row, noted, IsNoted}
 use Rattle.ln_payments.proofs.Given.{new, y0, then, answer, answer_row, turn_now, of_link, given_holds, refused_paid}
 use Rattle.ln_payments.proofs.Given.{order_now, first_is}
 use Rattle.ln_payments.proofs.Acting.{done_by}
-use Rattle.ln_payments.proofs.Taking.{halted_takes, command_in, queued_books, queued_may, found_in}
+use Rattle.ln_payments.proofs.Taking.{halted_queued, queued_there, queued_dispatched}
 use Rattle.ln_payments.proofs.Deciding.{last_found, some_found}
 use Rattle.ln_payments.proofs.Stopping.{May, may_be_given, saved_there}
 
@@ -133,16 +134,12 @@ module _ {K : Type 0} (k : Ghosts K) (e : End) (v : Verdict) (w : World K) (h : 
   pub resume_dispatched : (y : Queued) → find (is_queued_in (id_of e)) (table_of b0).queue ≡ Some y
       → (o : Out) (c : Command) → first_in e b0 ≡ Some (o, c) → is_dispatched e (channel_act.Send c) w.desks ≡ true
   resume_dispatched y found o c first =
-      let there_in = found_in (is_queued_in (id_of e)) (table_of b0).queue y found in
-      let at : y.channel ≡ channel_id_of e.channel = sym (same_is (id_of e) y.channel there_in.1) in
-      let given : ◌≡◌ {A = Option (Out × Command)} (Some (queued_command y)) (Some (o, c)) =
-      sym (first_is e b0 calm0 ∙ ap (λ g. first_of services (id_of e) g (table_of b0).htlcs) found) ∙ first in
-      let pair : ◌≡◌ {A = Out × Command} (queued_command y) (o, c) = cc in
-      subst (λ g. is_dispatched e (channel_act.Send g) w.desks ≡ true) (ap (λ (g : Out × Command). g.1) pair)
-      (queued_may e w.desks y (elim (among_last y (resumed_of z) t.queue (subst (IsIn y) queue0 there_in.0)) [
-        | inl old ↦ (h.order.queued e.channel y old at).1
+      let in_queue = queued_there e b0 calm0 y found o c first in
+      queued_dispatched e b0 calm0 y found o c first w.desks
+      (elim (among_last y (resumed_of z) t.queue (subst (IsIn y) queue0 in_queue.0)) [
+        | inl old ↦ (h.order.queued e.channel y old in_queue.1).1
         | inr is ↦ λ free. absurd (let no : true ≡ false = ap (λ (g : Queued). g.resumes) is ∙ free in cc)
-      ]))
+      ])
 
   -- ---- where the end has halted
 
@@ -164,17 +161,8 @@ module _ {K : Type 0} (k : Ghosts K) (e : End) (v : Verdict) (w : World K) (h : 
     pub halted_resumes : (y : Queued) → find (is_queued_in (id_of e)) (table_of b0).queue ≡ Some y
         → (o : Out) (c : Command) → first_in e b0 ≡ Some (o, c) → (j : Option ℕ)
         → Holds k n (done_by k e v w (Some c) (Some (channel_act.Send c)) j (handed_out e (Some b0) w.nodes))
-    halted_resumes y found o c first j =
-        let there_in = found_in (is_queued_in (id_of e)) (table_of b0).queue y found in
-        let at : y.channel ≡ channel_id_of e.channel = sym (same_is (id_of e) y.channel there_in.1) in
-        let held = order0.queued e.channel y there_in.0 at in
-        let given : ◌≡◌ {A = Option (Out × Command)} (Some (queued_command y)) (Some (o, c)) =
-        sym (first_is e b0 calm0 ∙ ap (λ g. first_of services (id_of e) g (table_of b0).htlcs) found) ∙ first in
-        let pair : ◌≡◌ {A = Out × Command} (queued_command y) (o, c) = cc in
-        let is : command_in y ≡ c = ap (λ (g : Out × Command). g.1) pair in
-        halted_takes k e v w h b0 calm0 paid0 agrees0 order0 o c (subst IsBooks is (queued_books y)) first
-        (subst (λ g. is_dispatched e (channel_act.Send g) w.desks ≡ true) is (queued_may e w.desks y held.1)) s there j
-        halted
+    halted_resumes y found o c first =
+        halted_queued k e v w h b0 calm0 paid0 agrees0 order0 s there halted y found o c first
 
   -- ---- where it works
 
@@ -298,7 +286,7 @@ module _ {K : Type 0} (k : Ghosts K) (e : End) (v : Verdict) (w : World K) (h : 
         (ap (λ y. resumed_by (id_of e) i y (table_of b0).htlcs) (ap (find (is_resumed (id_of e) i)) queue0
         ∙ last_found (is_resumed (id_of e) i) t.queue (resumed_of z) none_resumed hit) ∙ ap (with_mark (id_of e) i m)
         htlcs0)
-        (saved_paid e.channel X f (links_of n cs) (links_of n (N j)) g (shift_first X f it.is.fit st.2) hs paid)
+        (saved_paid e.channel X f (links_of n cs) (links_of n (N j)) g (first_kept X f it.is.fit st.2) hs paid)
         (kin_agrees e.channel f (based f) mid (links_of n (N j)) hs hs
         (is_saved e.channel X f (links_of n cs) (links_of n (N j)) g)
         (λ d a. of_picked (is_open_decision (entering f)) d f.ledger.decisions a) (λ y a. (y, a, itself y)) agrees)

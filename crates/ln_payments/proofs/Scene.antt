@@ -154,26 +154,27 @@ module _ {K : Type 0} (signer : K → Signer) (m : Node) (act : Role → Move) (
   abbrev pub of_node : WorldChannel K → List Move
   of_node c = by (side_of m c) act
 
+  other_there : (n : Node) → is_node m n ≡ false → (o : Option (WorldChannel K))
+      → link_there n (option_map (moved signer of_node) o) ≡ link_there n o
+  other_there n isnt None = refl
+  other_there n isnt (Some c) = sides (side_of m c) (side_of n c) refl refl
+    where
+      sides : (r q : Option Role) → side_of m c ≡ r → side_of n c ≡ q
+          → link_by (record c { both = run_both signer (channel_id_of c.number) (by r act) c.both }) q ≡ link_by c q
+      sides r None e f = refl
+      sides None (Some q) e f = refl
+      sides (Some r) (Some q) e f = subst (λ z. ◌≡◌ {A = Option (State K)}
+          (Some (place_of z (moves signer (channel_id_of c.number) (act r) c.both)).link)
+          (Some (place_of z c.both).link))
+          (sym (side_apart m n c r q isnt e f)) (ap Some (other_stays signer (channel_id_of c.number) act of r c.both))
+
   pub other_node : (n : Node) (at : ℕ) (cs : List (WorldChannel K)) → is_node m n ≡ false → (d : ℕ)
       → link_in n d (now signer n at of_node cs) ≡ link_in n d cs
   other_node n at cs isnt d = elim (either (d == at)) [
     | inr apart ↦ elsewhere signer n at of_node d apart cs
     | inl is ↦ subst (λ k. link_in n k (now signer n at of_node cs) ≡ link_in n k cs) (sym (eqb-true d at is))
-        (there signer n at of_node cs ∙ cases (channel at cs))
+        (there signer n at of_node cs ∙ other_there n isnt (channel at cs))
   ]
-    where
-      sides : (c : WorldChannel K) (r q : Option Role) → side_of m c ≡ r → side_of n c ≡ q
-          → link_by (record c { both = run_both signer (channel_id_of c.number) (by r act) c.both }) q ≡ link_by c q
-      sides c r None e f = refl
-      sides c None (Some q) e f = refl
-      sides c (Some r) (Some q) e f = subst (λ z. ◌≡◌ {A = Option (State K)}
-          (Some (place_of z (moves signer (channel_id_of c.number) (act r) c.both)).link)
-          (Some (place_of z c.both).link))
-          (sym (side_apart m n c r q isnt e f)) (ap Some (other_stays signer (channel_id_of c.number) act of r c.both))
-
-      cases : (o : Option (WorldChannel K)) → link_there n (option_map (moved signer of_node) o) ≡ link_there n o
-      cases None = refl
-      cases (Some c) = sides c (side_of m c) (side_of n c) refl refl
 
   -- and of the node itself
   pub own_node : (n : Node) (at : ℕ) (cs : List (WorldChannel K)) → is_node m n ≡ true → (c : WorldChannel K) (r : Role)
@@ -202,17 +203,5 @@ module _ {K : Type 0} (signer : K → Signer) (m : Node) (act : Role → Move) (
   -- where every channel moves so
   pub other_all : (n : Node) (cs : List (WorldChannel K)) → is_node m n ≡ false → (d : ℕ)
       → link_in n d (map (moved signer of_node) cs) ≡ link_in n d cs
-  other_all n cs isnt d = ap (link_there n) (lookup_map (moved signer of_node) (λ c. refl) d cs) ∙ cases (channel d cs)
-    where
-      sides : (c : WorldChannel K) (r q : Option Role) → side_of m c ≡ r → side_of n c ≡ q
-          → link_by (record c { both = run_both signer (channel_id_of c.number) (by r act) c.both }) q ≡ link_by c q
-      sides c r None e f = refl
-      sides c None (Some q) e f = refl
-      sides c (Some r) (Some q) e f = subst (λ z. ◌≡◌ {A = Option (State K)}
-          (Some (place_of z (moves signer (channel_id_of c.number) (act r) c.both)).link)
-          (Some (place_of z c.both).link))
-          (sym (side_apart m n c r q isnt e f)) (ap Some (other_stays signer (channel_id_of c.number) act of r c.both))
-
-      cases : (o : Option (WorldChannel K)) → link_there n (option_map (moved signer of_node) o) ≡ link_there n o
-      cases None = refl
-      cases (Some c) = sides c (side_of m c) (side_of n c) refl refl
+  other_all n cs isnt d = ap (link_there n) (lookup_map (moved signer of_node) (λ c. refl) d cs)
+      ∙ other_there n isnt (channel d cs)

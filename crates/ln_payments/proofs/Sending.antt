@@ -1,16 +1,15 @@
 -- An end of the node takes a message, or does what is none of its book's to command.
-use Rattle.std.proofs.Common.{◌≡◌, ℕ, ◌≤◌, List, [], ◌∷◌, refl, sym, ap, ◌∙◌, subst, arith}
+use Rattle.std.proofs.Common.{◌≡◌, ℕ, List, [], ◌∷◌, refl, sym, ap, ◌∙◌, subst}
 use Rattle.std.proofs.Common.{Bool, true, false, not, ◌&&◌, Option, Some, None, Result, Ok, Err}
+use Rattle.std.proofs.lemmas.Bool.{and_parts}
 use Rattle.ln_msgs.specs.declared.messages.message.Message.{Message}
 use Rattle.ln_msgs.specs.declared.refusals.refusal.Refusal.{Refusal}
 use Rattle.ln_keys.specs.declared.keys.ChannelKeys.{Ghosts}
 use Rattle.ln_keys.specs.Signer.{Signer}
 use Rattle.ln_hooks.specs.declared.verdict.Verdict.{Verdict}
-use Rattle.ln_log.specs.Log.{Log}
 use Rattle.ln_channel.specs.declared.command.Command.{Command}
 use Rattle.ln_channel.specs.End.{End as ChannelEnd}
 use Rattle.ln_channel.specs.Base.{based, is_open, entering}
-use Rattle.ln_channel.specs.Ledger.{Ledger}
 use Rattle.ln_channel.specs.State.{State}
 use Rattle.ln_channel.specs.Step.{Done, handled, commanded, is_of_records}
 use Rattle.ln_tables.specs.declared.htlc.Htlc.{Htlc}
@@ -29,8 +28,7 @@ use Rattle.ln_world.specs.declared.step.Step.TheVariants as step
 use Rattle.ln_world.specs.Node.{Book}
 use Rattle.ln_world.specs.Told.{with_held, told_count}
 use Rattle.ln_world.specs.World.{World, happens, id_of, act_where}
-use Rattle.ln_circuits.specs.Shift.{Shift, Stays, Takes, Proposes, Signs, Accepts, Learns, Closes, Notes, IsPlain}
-use Rattle.ln_circuits.specs.Snapshot.{IsIn, origin, IsFit}
+use Rattle.ln_circuits.specs.Snapshot.{IsIn, origin}
 use Rattle.ln_circuits.proofs.Links.{Changed}
 use Rattle.ln_circuits.proofs.Lists.{of_picked}
 use Rattle.ln_circuits.proofs.Shifts.{side_of as read_side}
@@ -50,32 +48,11 @@ use Rattle.ln_payments.proofs.Orderly.{order_at, fewer_same, AllName}
 use Rattle.ln_payments.proofs.Keeping.{Holds}
 use Rattle.ln_payments.proofs.Hearing.{hears, hears_none, all_paid, after_all, kin_all}
 use Rattle.ln_payments.proofs.Newly.{news, undecided_so, decided_so, news_so}
-use Rattle.ln_payments.proofs.Plainly.{Plain, handled_plain, commanded_plain, awake_handled, awake_commanded}
+use Rattle.ln_circuits.proofs.Calls.{Plain}
+use Rattle.ln_circuits.proofs.Moments.{plain_decisions, first_kept}
+use Rattle.ln_payments.proofs.Plainly.{handled_plain, commanded_plain, awake_handled, awake_commanded}
 use Rattle.ln_payments.proofs.Acting.{done_by, turn, ds, x, y, act_channels, act_book, act_later, concludes}
 use Rattle.ln_payments.proofs.Acting.{shift_names, plain_names, awake_now, refused_sides, refused_later}
-
--- ---- what a plain shift leaves as it was
-
-pub plain_decisions : (x f : ChannelEnd) (s : Shift x f) → IsPlain s → f.ledger.decisions ≡ x.ledger.decisions
-plain_decisions x f (Stays l g) n = ap (λ (z : Ledger). z.decisions) g
-plain_decisions x f (Takes u l g) n = ap (λ (z : Ledger). z.decisions) g
-plain_decisions x f (Proposes u may l g) n = ap (λ (z : Ledger). z.decisions) g
-plain_decisions x f (Signs l g) n = ap (λ (z : Ledger). z.decisions) g
-plain_decisions x f (Accepts l g) n = ap (λ (z : Ledger). z.decisions) g
-plain_decisions x f (Learns l g) n = ap (λ (z : Ledger). z.decisions) g
-plain_decisions x f (Closes l g) n = ap (λ (z : Ledger). z.decisions) g
-plain_decisions x f (Notes c l g) n = absurd n
-
-pub shift_first : (x f : ChannelEnd) → IsFit x → Shift x f → f.dance.log.first.own ≤ f.dance.log.current.own
-shift_first x f fit (Stays l g) = subst (λ (m : Log). m.first.own ≤ m.current.own) (sym l) fit.sound.own_first
-shift_first x f fit (Takes u l g) = subst (λ (m : Log). m.first.own ≤ m.current.own) (sym l) fit.sound.own_first
-shift_first x f fit (Proposes u may l g) = subst (λ (m : Log). m.first.own ≤ m.current.own) (sym l) fit.sound.own_first
-shift_first x f fit (Signs l g) = subst (λ (m : Log). m.first.own ≤ m.current.own) (sym l) fit.sound.own_first
-shift_first x f fit (Accepts l g) = subst (λ (m : Log). m.first.own ≤ m.current.own) (sym l)
-    (let a = fit.sound.own_first in let b = fit.sound.within.own_current in omega (arith, a, b))
-shift_first x f fit (Learns l g) = subst (λ (m : Log). m.first.own ≤ m.current.own) (sym l) fit.sound.own_first
-shift_first x f fit (Closes l g) = subst (λ (m : Log). m.first.own ≤ m.current.own) (sym l) fit.sound.own_first
-shift_first x f fit (Notes c l g) = subst (λ (m : Log). m.first.own ≤ m.current.own) (sym l) fit.sound.own_first
 
 module _ {K : Type 0} (k : Ghosts K) (e : End) (v : Verdict) (w : World K) (h : Holds k e.node w) where
   -- ---- nothing is done
@@ -150,7 +127,7 @@ module _ {K : Type 0} (k : Ghosts K) (e : End) (v : Verdict) (w : World K) (h : 
         (turn k e v w h.well.open_ a may s there row is).changed in
         let mid =
         plain_paid e.channel x0 f (scene_of n w) (scene_with (table_of b).htlcs) g refl fit
-        (shift_first x0 f fit z) z
+        (first_kept x0 f fit z) z
         p.1 h.well.paid in
         let bt = with_held (id_of e) (told_count (Some x0)) (Some (based f)) b in
         let heard = hears (id_of e) x0 (based f) (news z) b (undecided_so x0 f z p.1) (decided_so x0 f z p.1) in
@@ -216,10 +193,6 @@ module _ {K : Type 0} (k : Ghosts K) (e : End) (v : Verdict) (w : World K) (h : 
 
   -- ---- a command that isn't the book's
 
-  both : (a b : Bool) → (a && b) ≡ true → (a ≡ true) × (b ≡ true)
-  both true b f = (refl, f)
-  both false b f = absurd (cc)
-
   isnt_so : (b : Bool) → not b ≡ true → b ≡ false
   isnt_so true f = absurd (cc)
   isnt_so false f = refl
@@ -232,8 +205,9 @@ module _ {K : Type 0} (k : Ghosts K) (e : End) (v : Verdict) (w : World K) (h : 
       cases false f = idle_holds (done_by k e v w None None None w.nodes) refl refl
       cases true f =
           let cs = w.desks.channels.channels in
-          let a = both (not (is_of_records c)) (may_act e (channel_act.Send c) w.desks) f in
-          let d = both (is_dispatched e (channel_act.Send c) w.desks) (may_be_done e (channel_act.Send c) cs) a.1 in
+          let a = and_parts (not (is_of_records c)) (may_act e (channel_act.Send c) w.desks) f in
+          let d = and_parts (is_dispatched e (channel_act.Send c) w.desks)
+          (may_be_done e (channel_act.Send c) cs) a.1 in
           let l = link_exists e.node (channel_act.Send c) (channel e.channel cs) d.1 in
           let p = place e.node e.channel cs l.0 l.1 in
           let here = place_of p.side p.found.both in

@@ -3,6 +3,7 @@ use Rattle.std.proofs.Common.{◌≡◌, ℕ, List, map, refl, sym, ap, ◌∙�
 use Rattle.std.proofs.Common.{Bool, true, false, cond, not, ◌==◌, ◌&&◌, Option, Some, None}
 use Rattle.std.specs.Prelude.{option_map, is_some}
 use Rattle.std.specs.List.{find}
+use Rattle.std.proofs.lemmas.Bool.{and_parts}
 use Rattle.ln_keys.specs.declared.keys.ChannelKeys.{Ghosts}
 use Rattle.ln_keys.specs.declared.role.Role.{Role}
 use Rattle.ln_keys.specs.declared.role.Role.TheVariants.{Funder, Fundee}
@@ -31,7 +32,7 @@ use Rattle.ln_desks.specs.World.{World as Desks, is_dispatched, moved_by as desk
 use Rattle.ln_tables.specs.declared.entry.Out.{Out}
 use Rattle.ln_tables.specs.declared.entry.Queued.{Queued}
 use Rattle.ln_tables.specs.Replay.{table_of}
-use Rattle.ln_book.specs.Commands.{first_of, is_queued_in, queued_command, with_taken}
+use Rattle.ln_book.specs.Commands.{first_of, is_queued_in, with_taken}
 use Rattle.ln_world.specs.declared.errand.Errand.TheVariants as errand
 use Rattle.ln_world.specs.declared.node.NodeBook.{NodeBook}
 use Rattle.ln_world.specs.declared.step.Act.TheVariants as act
@@ -42,7 +43,6 @@ use Rattle.ln_world.specs.World.{World, happens, moved_by, lines_by, concluded, 
 use Rattle.ln_world.specs.World.{resumes, call_of}
 use Rattle.ln_world.specs.World.{restarted, link_by, link_there, act_where, resumed_at, handed_out, handed, first_in}
 use Rattle.ln_world.specs.World.{id_of, end_at, saved_of, command_by, sent_or, taking}
-use Rattle.ln_circuits.proofs.Entries.{same_is}
 use Rattle.ln_circuits.proofs.Due.{due_by, first_is as due_first}
 use Rattle.ln_payments.proofs.Scene.{link_in, lookup_map, now, same_number as number_stays}
 use Rattle.ln_payments.proofs.Lost.{place}
@@ -55,7 +55,7 @@ use Rattle.ln_payments.proofs.Refusing.{free_is}
 use Rattle.ln_payments.proofs.Removing.{due_books}
 use Rattle.ln_payments.proofs.Given.{first_is}
 use Rattle.ln_payments.proofs.Acting.{done_by}
-use Rattle.ln_payments.proofs.Taking.{quiet_holds, found_in, queued_may}
+use Rattle.ln_payments.proofs.Taking.{quiet_holds, queued_there, queued_dispatched}
 use Rattle.ln_payments.proofs.Rebuilding.{anew_holds}
 
 module _ {K : Type 0} (k : Ghosts K) where
@@ -239,11 +239,7 @@ module _ {K : Type 0} (k : Ghosts K) where
         by false f g = absurd (cc)
         by true f g =
             let same : a ≡ x = cc in
-            subst May same (both (is_dispatched e a w.desks) (may_be_done e a cs) f)
-          where
-            both : (a b : Bool) → (a && b) ≡ true → (a ≡ true) × (b ≡ true)
-            both true b f = (refl, f)
-            both false b f = absurd (cc)
+            subst May same (and_parts (is_dispatched e a w.desks) (may_be_done e a cs) f)
 
     send_may : (c : Command) (x : ChannelAct)
         → act_where (not (is_of_records c) && may_act e (channel_act.Send c) w.desks) (channel_act.Send c) ≡ Some x
@@ -277,14 +273,9 @@ module _ {K : Type 0} (k : Ghosts K) where
             free_is e c w.desks
             (due_books services (id_of e) due.htlc o c (due_by (id_of e) due.htlc o due.due_is) due.command).1
         by (Some q) found =
-            let there_in = found_in (is_queued_in (id_of e)) (table_of (book_in n w)).queue q found in
-            let held = h.order.queued e.channel q there_in.0 (sym (same_is (id_of e) q.channel there_in.1)) in
-            let given : ◌≡◌ {A = Option (Out × Command)} (Some (queued_command q)) (Some (o, c)) =
-            sym (first_is e (book_in n w) h.well.calm
-            ∙ ap (λ z. first_of services (id_of e) z (table_of (book_in n w)).htlcs) found) ∙ first in
-            let pair : ◌≡◌ {A = Out × Command} (queued_command q) (o, c) = cc in
-            subst (λ z. is_dispatched e (channel_act.Send z) w.desks ≡ true) (ap (λ (z : Out × Command). z.1) pair)
-            (queued_may e w.desks q held.1)
+            let in_queue = queued_there e (book_in n w) h.well.calm q found o c first in
+            queued_dispatched e (book_in n w) h.well.calm q found o c first w.desks
+            (h.order.queued e.channel q in_queue.0 in_queue.1).1
 
     take_by : (t : Bool) → is_some (end_at e w.desks) ≡ t → (f : Option (Out × Command)) → first_in e (book_in n w) ≡ f
         → (x : ChannelAct) → sent_or (command_by e (taking t (book_in n w))) None ≡ Some x → May x

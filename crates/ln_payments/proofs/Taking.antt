@@ -11,8 +11,7 @@ use Rattle.ln_hooks.specs.declared.verdict.Verdict.{Verdict}
 use Rattle.ln_log.specs.declared.mark.Decision.{Decision}
 use Rattle.ln_log.specs.declared.update.Add.{Add}
 use Rattle.ln_log.specs.declared.update.Update.TheVariants as update
-use Rattle.ln_log.specs.declared.outcome.Outcome.TheVariants.{Live}
-use Rattle.ln_log.specs.Updates.{outcome, next_id as next_add}
+use Rattle.ln_log.specs.Updates.{next_id as next_add}
 use Rattle.ln_channel.specs.declared.command.Command.{Command}
 use Rattle.ln_channel.specs.declared.command.Command.TheVariants as command
 use Rattle.ln_channel.specs.Base.{based, is_open as is_open_decision, entering}
@@ -42,7 +41,7 @@ use Rattle.ln_channels.specs.WorldChannel.{WorldChannel}
 use Rattle.ln_desks.specs.Desk.{desk_at}
 use Rattle.ln_desks.specs.World.{World as Desks, is_dispatched, is_below_next}
 use Rattle.ln_world.specs.Node.{Book, services, with_book}
-use Rattle.ln_world.specs.Told.{about, next_id}
+use Rattle.ln_switch.specs.Answers.{about, next_id}
 use Rattle.ln_world.specs.declared.node.NodeBook.{NodeBook}
 use Rattle.ln_world.specs.declared.step.Act.TheVariants as act
 use Rattle.ln_world.specs.declared.step.Step.TheVariants as step
@@ -53,10 +52,13 @@ use Rattle.ln_circuits.proofs.Links.{Links, Changed}
 use Rattle.ln_circuits.proofs.Lists.{of_picked}
 use Rattle.ln_circuits.proofs.Shifts.{side_of as read_side}
 use Rattle.ln_circuits.proofs.Entries.{same_is}
-use Rattle.ln_circuits.proofs.Due.{first_is as due_first, IsDue, IsDueBy, Forgets, Offers, Removes, due_by}
+use Rattle.ln_circuits.proofs.Due.{first_is as due_first, IsDue, IsDueBy, Forgets, Offers, Removes, due_by, forgets_so}
 use Rattle.ln_circuits.proofs.Scenes.{Scene, HavePayments, offered, removed}
 use Rattle.ln_circuits.proofs.Resumed.{HoldAlike}
 use Rattle.ln_circuits.proofs.Answers.{forgotten, add_refused, add_left, removal_refused, forget_refused}
+use Rattle.ln_circuits.proofs.Moments.{first_kept}
+use Rattle.ln_circuits.proofs.Held.{found_among}
+use Rattle.ln_circuits.proofs.Removing.{IsRemoving, removes_so, live_so, told_so, others_so, none_forwards}
 use Rattle.ln_payments.specs.Circuit.{has_halted}
 use Rattle.ln_payments.proofs.Answering.{RowSteps, IfDone, AtSaved}
 use Rattle.ln_payments.proofs.Scene.{link_in, links_of}
@@ -68,13 +70,11 @@ use Rattle.ln_payments.proofs.Wells.{book_in}
 use Rattle.ln_payments.proofs.Orderly.{IsOrderly, view_at, AllName, Names, names_more}
 use Rattle.ln_payments.proofs.Keeping.{Holds}
 use Rattle.ln_payments.proofs.Hearing.{AreKin, kin_changed, kin_left, itself}
-use Rattle.ln_payments.proofs.Sending.{shift_first}
 use Rattle.ln_payments.proofs.Refusing.{IsBooks}
 use Rattle.ln_payments.proofs.Obeyed.{by_row, proposed, noted, IsProposed, IsNoted}
 use Rattle.ln_payments.proofs.Refusing.{free_is}
 use Rattle.ln_payments.proofs.Removing.{due_books}
-use Rattle.ln_payments.proofs.Removing.{IsRemoving, removes_so, live_so, told_so, others_so, IsAdding, adds_so}
-use Rattle.ln_payments.proofs.Removing.{forgets_so}
+use Rattle.ln_payments.proofs.Removing.{IsAdding, adds_so}
 use Rattle.ln_payments.proofs.Given.{new, x0, y0, then, answer, answer_row, mine, turn_now, of_link, given_holds}
 use Rattle.ln_payments.proofs.Given.{refused_paid}
 use Rattle.ln_payments.proofs.Given.{agrees_now, order_now, first_is}
@@ -246,7 +246,7 @@ module _ {K : Type 0} (k : Ghosts K) (e : End) (v : Verdict) (w : World K) (h : 
         → AreKin t.htlcs hs → (AllName X.dance.log.own → AllName f.dance.log.own) → Holds k n U
     taken hs turned paid decisions kin names = kept (Ok d) is
         (subst (IsPaidAt N) (sym turned) (saved_paid e.channel X f (links_of n cs) (links_of n N) g
-        (shift_first X f fit st.2) hs paid))
+        (first_kept X f fit st.2) hs paid))
         (λ q m. subst (IsIn q) decisions (of_picked (is_open_decision (entering f)) q f.ledger.decisions
         (subst (λ (z : ChannelEnd). IsIn q z.ledger.decisions) st.3 m)))
         (subst (AreKin t.htlcs) (sym turned) kin)
@@ -412,19 +412,19 @@ module _ {K : Type 0} (k : Ghosts K) (e : End) (v : Verdict) (w : World K) (h : 
             let st = steps_now (Ok d) is in
             let p = at_end (IsProposed X j.change) proposed_so d is in
             let now = with_back z.key back.Sent t.htlcs in
-            let live =
-            subst (λ i. outcome i X.dance.log.own ≡ Live) j.is (live_so X j.change j.removal j.removes p.1) in
+            let live = live_so z.key.id c j X p.1 in
             taken d is st now (ap (λ q. taken_by (id_of e) about_it q t.queue t.htlcs) out_is)
             (removed channel_id_of S (record { links = mid d is st; book = now }) e.channel (read_side X)
             (read_side st.0) (to_mid d is st) fit.sound services z m dec unsent chan c cmd j.change
-            (told_so z.key.id c j X.dance.log.own live) live (others_so z.key.id c j X.dance.log.own) j.none
+            (told_so z.key.id c j X.dance.log.own live) live (others_so z.key.id c j X.dance.log.own)
+            (none_forwards z.key.id c j)
             (ap (λ (q : ChannelEnd). q.dance.log) p.0) (ap (λ (q : ChannelEnd). q.ledger.results) p.0)
             (ap (λ (q : ChannelEnd). q.ledger.decisions) p.0) one_id refl paid0)
             (ap (λ (q : ChannelEnd). q.ledger.decisions) p.0)
             (kin_changed (is_htlc z.key) (put_back back.Sent)
             (λ y. record { key = refl; event = refl; mark = refl; decided = refl }) t.htlcs)
             (λ q. subst (λ (y : ChannelEnd). AllName y.dance.log.own) (sym p.0)
-            (names_more X.dance.log.own j.change q j.names))
+            (names_more X.dance.log.own j.change q (λ i. subst Names (sym (j.no_add i)) tt)))
 
   -- ---- whichever it is
 
@@ -466,15 +466,50 @@ queued_may e d q h = cases q.resumes refl
     cases true is = refl
     cases false is = h is
 
-pub found_in : {A : Type 0} (p : A → Bool) (xs : List A) (x : A) → find p xs ≡ Some x → IsIn x xs × (p x ≡ true)
-found_in p [] x e = absurd (cc)
-found_in p (y ∷ xs) x e = cases (p y) refl e (λ r. found_in p xs x r)
-  where
-    cases : (b : Bool) → p y ≡ b → cond b (Some y) (find p xs) ≡ Some x
-        → (find p xs ≡ Some x → IsIn x xs × (p x ≡ true))
-        → IsIn x (y ∷ xs) × (p x ≡ true)
-    cases true is f rest = let same_y : y ≡ x = cc in (inl same_y, ap p (sym same_y) ∙ is)
-    cases false is f rest = let r = rest f in (inr r.0, r.1)
+-- what is queued first is given first
+module _ (e : End) (b : Book) (calm : IsCalm b) (q : Queued)
+    (found : find (is_queued_in (id_of e)) (table_of b).queue ≡ Some q) (o : Out) (c : Command)
+    (first : first_in e b ≡ Some (o, c)) where
+  pub queued_given : command_in q ≡ c
+  queued_given =
+      let given : ◌≡◌ {A = Option (Out × Command)} (Some (queued_command q)) (Some (o, c)) =
+      sym (first_is e b calm ∙ ap (λ z. first_of services (id_of e) z (table_of b).htlcs) found) ∙ first in
+      let pair : ◌≡◌ {A = Out × Command} (queued_command q) (o, c) = cc in
+      ap (λ (z : Out × Command). z.1) pair
+
+  pub queued_there : IsIn q (table_of b).queue × (q.channel ≡ channel_id_of e.channel)
+  queued_there =
+      let r = found_among (is_queued_in (id_of e)) (table_of b).queue q found in
+      (r.0, sym (same_is (id_of e) q.channel r.1))
+
+  pub queued_dispatched : {K : Type 0} (d : Desks K)
+      → (q.resumes ≡ false → is_below_next q.event (desk_at e d.desks) ≡ true)
+      → is_dispatched e (channel_act.Send c) d ≡ true
+  queued_dispatched d below = subst (λ z. is_dispatched e (channel_act.Send z) d ≡ true) queued_given
+      (queued_may e d q below)
+
+-- and a link that has halted refuses it
+pub halted_queued : {K : Type 0} (k : Ghosts K) (e : End) (v : Verdict) (w : World K) (h : Holds k e.node w) (b : Book)
+    → IsCalm b
+    → HavePayments channel_id_of (record {
+      links = links_of e.node w.desks.channels.channels;
+      book = (table_of b).htlcs;
+    })
+    → HoldAlike channel_id_of (record {
+      links = links_of e.node w.desks.channels.channels;
+      book = (table_of b).htlcs;
+    })
+    → IsOrderly (view_at e.node w.desks.channels.channels w.desks.desks b) → (s : State K)
+    → link_in e.node e.channel w.desks.channels.channels ≡ Some s → s.halted ≡ true → (q : Queued)
+    → find (is_queued_in (id_of e)) (table_of b).queue ≡ Some q → (o : Out) (c : Command) → first_in e b ≡ Some (o, c)
+    → (r : Option ℕ)
+    → Holds k e.node (done_by k e v w (Some c) (Some (channel_act.Send c)) r (handed_out e (Some b) w.nodes))
+halted_queued k e v w h b calm paid agrees order s there halted q found o c first r =
+    let in_queue = queued_there e b calm q found o c first in
+    let held = order.queued e.channel q in_queue.0 in_queue.1 in
+    halted_takes k e v w h b calm paid agrees order o c
+    (subst IsBooks (queued_given e b calm q found o c first) (queued_books q)) first
+    (queued_dispatched e b calm q found o c first w.desks held.1) s there r halted
 
 -- ---- the step
 
@@ -518,19 +553,9 @@ module _ {K : Type 0} (k : Ghosts K) (e : End) (v : Verdict) (w : World K) (h : 
           due_takes k e v w h own h.well.calm h.well.paid h.well.agrees h.order o c books.0 first
           (free_is e c w.desks books.1) s there None due
       commands s there (Some q) found o c first =
-          let there_in = found_in (is_queued_in (id_of e)) (table_of own).queue q found in
-          let at : q.channel ≡ channel_id_of e.channel = sym (same_is (id_of e) q.channel there_in.1) in
-          let held = h.order.queued e.channel q there_in.0 at in
-          let given : ◌≡◌ {A = Option (Out × Command)} (Some (queued_command q)) (Some (o, c)) =
-          sym (first_is e own h.well.calm ∙ ap (λ z. first_of services (id_of e) z (table_of own).htlcs) found)
-          ∙ first in
-          let pair : ◌≡◌ {A = Out × Command} (queued_command q) (o, c) = cc in
-          let is : command_in q ≡ c = ap (λ (z : Out × Command). z.1) pair in
-          halted_takes k e v w h own h.well.calm h.well.paid h.well.agrees h.order o c
-          (subst IsBooks is (queued_books q)) first
-          (subst (λ z. is_dispatched e (channel_act.Send z) w.desks ≡ true) is (queued_may e w.desks q held.1)) s there
-          None
-          (sym (ap has_halted there) ∙ held.0)
+          let in_queue = queued_there e own h.well.calm q found o c first in
+          halted_queued k e v w h own h.well.calm h.well.paid h.well.agrees h.order s there
+          (sym (ap has_halted there) ∙ (h.order.queued e.channel q in_queue.0 in_queue.1).0) q found o c first None
 
       by_first : is_some (end_at e w.desks) ≡ true → (f : Option (Out × Command)) → first_in e own ≡ f
           → Holds k e.node (done_by k e v w (option_map (λ x. x.1) f) (sent_or (option_map (λ x. x.1) f) None) None

@@ -1,5 +1,5 @@
 -- What is kept of a node in a world, and the steps in which its payments have no part.
-use Rattle.std.proofs.Common.{◌≡◌, ℕ, List, [], map, refl, sym, ap, ◌∙◌, subst, Bool, true, false}
+use Rattle.std.proofs.Common.{◌≡◌, ℕ, List, [], map, refl, sym, ap, subst, Bool, true, false}
 use Rattle.std.proofs.Common.{cond, None}
 use Rattle.ln_keys.specs.declared.keys.ChannelKeys.{Ghosts}
 use Rattle.ln_hooks.specs.declared.verdict.Verdict.{Verdict}
@@ -8,9 +8,8 @@ use Rattle.ln_history.specs.History.{with_entry}
 use Rattle.ln_tables.specs.declared.entry.Invoice.{Invoice}
 use Rattle.ln_close.specs.declared.closing.Fees.{Fees}
 use Rattle.ln_log.specs.declared.opening.Limits.{Limits}
-use Rattle.ln_tables.specs.declared.entry.Entry.{Entry}
 use Rattle.ln_tables.specs.declared.entry.Entry.TheVariants as entry
-use Rattle.ln_tables.specs.Replay.{Table, table_of, after}
+use Rattle.ln_tables.specs.Replay.{table_of}
 use Rattle.ln_channels.specs.declared.step.Node.{Node}
 use Rattle.ln_channels.specs.declared.step.End.{End}
 use Rattle.ln_channels.specs.Settings.{channel_id_of}
@@ -28,11 +27,12 @@ use Rattle.ln_circuits.proofs.Scenes.{HavePayments}
 use Rattle.ln_circuits.proofs.Promise.{begun}
 use Rattle.ln_circuits.proofs.Resumed.{HoldAlike}
 use Rattle.ln_payments.proofs.Scene.{links_of, scene_of}
-use Rattle.ln_payments.proofs.Books.{own_book, other_book, follow_alike, alike, alike_then, IsAlike, one_more, letters}
+use Rattle.ln_payments.proofs.Books.{own_book, other_book, follow_alike, alike, alike_then, IsAlike, letters}
 use Rattle.ln_payments.proofs.Same.{IsSame, same_paid, same_agrees}
 use Rattle.ln_payments.proofs.Anew.{AreSmall}
 use Rattle.ln_payments.proofs.Restarts.{restarts, small_all}
 use Rattle.ln_payments.proofs.Desks.{IsCalm, calm_alike}
+use Rattle.ln_payments.proofs.Books.{entry_alike}
 
 abbrev pub book_in : {K : Type 0} → Node → World K → Book
 book_in n w = (node_at n w.nodes).book
@@ -60,21 +60,26 @@ module _ {K : Type 0} (k : Ghosts K) (n : Node) where
 
   -- ---- where neither the channels nor what a payment is read off change
 
-  pub same_well : (w v : World K) → v.desks.channels.channels ≡ w.desks.channels.channels
-      → IsAlike (book_in n w) (book_in n v) → IsWell k n w → IsWell k n v
-  same_well w v cs b h =
+  pub well_as : (w v : World K) → v.desks.channels.channels ≡ w.desks.channels.channels
+      → (table_of (book_in n v)).htlcs ≡ (table_of (book_in n w)).htlcs → IsCalm (book_in n v) → IsWell k n w
+      → IsWell k n v
+  well_as w v cs htlcs calm h =
       let same : IsSame (scene_of n w) (scene_of n v) = record {
         sides = λ d. ap (λ xs. (links_of n xs).sides d) cs;
         halted = λ d. ap (λ xs. (links_of n xs).halted d) cs;
-        book = b.htlcs;
+        book = htlcs;
       } in
       record {
         open_ = subst (Each (IsOpen k.signer)) (sym cs) h.open_;
         small = subst AreSmall (sym cs) h.small;
-        calm = calm_alike (book_in n w) (book_in n v) b h.calm;
+        calm = calm;
         paid = same_paid channel_id_of (scene_of n w) (scene_of n v) same h.paid;
         agrees = same_agrees channel_id_of (scene_of n w) (scene_of n v) same h.agrees;
       }
+
+  pub same_well : (w v : World K) → v.desks.channels.channels ≡ w.desks.channels.channels
+      → IsAlike (book_in n w) (book_in n v) → IsWell k n w → IsWell k n v
+  same_well w v cs b h = well_as w v cs b.htlcs (calm_alike (book_in n w) (book_in n v) b h.calm) h
 
   -- a node's book that changes so stays alike
   pub changed_alike : (m : Node) (f : NodeBook → NodeBook) → ((x : NodeBook) → (f x).node ≡ x.node)
@@ -88,15 +93,6 @@ module _ {K : Type 0} (k : Ghosts K) (n : Node) where
       cases true e = subst (λ z. IsAlike (node_at n xs).book (node_at n (changed z f xs)).book) (sym (letters m n e))
           (subst (λ (x : NodeBook). IsAlike (node_at n xs).book x.book) (sym (own_book f same n xs))
           (to (node_at n xs)))
-
-  pub entry_alike : (x : Entry) (b : Book) → (after (table_of b) x).htlcs ≡ (table_of b).htlcs
-      → (after (table_of b) x).queue ≡ (table_of b).queue → (after (table_of b) x).desks ≡ (table_of b).desks
-      → IsAlike b (with_entry x b)
-  entry_alike x b h q d = record {
-    htlcs = ap (λ (t : Table). t.htlcs) (one_more x b) ∙ h;
-    queue = ap (λ (t : Table). t.queue) (one_more x b) ∙ q;
-    desks = ap (λ (t : Table). t.desks) (one_more x b) ∙ d;
-  }
 
   -- ---- what is set for nodes, and what dispatchers do
 

@@ -1,8 +1,17 @@
 -- Every event that is told is put, once.
 use Rattle.std.proofs.Common.{◌≡◌, ◌++◌, ◌∷◌, [], ℕ, suc, zero, map, List, Option, Some, None, Bool, true, false}
 use Rattle.std.proofs.Common.{refl, sym, ap, ◌∙◌, subst, arith, cond, ◌≤◌, ◌<◌, ◌+◌, ◌-◌, nat_lt, ltb-true, ltb-false}
+use Rattle.std.proofs.Common.{Result}
 use Rattle.ln_hooks.specs.declared.event.ChannelEvent.{ChannelEvent}
-use Rattle.ln_turns.specs.Turns.{fresh, last_of, Turn, told, all_told}
+use Rattle.ln_msgs.specs.declared.messages.message.Message.{Message}
+use Rattle.ln_msgs.specs.declared.refusals.refusal.Refusal.{Refusal}
+use Rattle.ln_channel.specs.declared.output.Output.{Output}
+use Rattle.ln_switch.specs.declared.saying.Saying.{Saying}
+use Rattle.ln_switch.specs.Seen.{Seen}
+use Rattle.ln_turns.specs.declared.task.Task.{Task}
+use Rattle.ln_turns.specs.declared.task.Task.TheVariants as task
+use Rattle.ln_turns.specs.Act.{Act}
+use Rattle.ln_turns.specs.Turns.{fresh, last_of, Turn, Stand, told, News, told_in, tasks, tasks_of, AreEvents, Leads}
 use Rattle.ln_turns.specs.Course.{segment, next_of, reached, Tells}
 use Rattle.ln_turns.proofs.Running.{fresh-append}
 
@@ -145,6 +154,35 @@ all-put event first last next (t ∷ ts) end at tells =
     ∙ ap (λ l. segment event (behind - next) next ++ l) (on ∙ ap (λ n. segment event (end - behind) n) at')
     ∙ segments-join event (behind - next) (end - behind) next ∙ ap (λ k. segment event k next) many
 
-pub told-joined : {W : Type 0} (turns : List (Turn W)) → all_told turns ≡ joined (map told turns)
-told-joined [] = refl
-told-joined (t ∷ ts) = ap (λ l. told t ++ l) (told-joined ts)
+-- what turns tell of is that of one after the other
+pub told-joined : {S W : Type 0} (acts : S → Act → Result (List Output) Refusal → S → Type 0) (halted : S → Bool)
+    (pending : S → List (ℕ × ChannelEvent)) (seen : S → Option Seen) (contents : W → Option (List ℕ))
+    (greeting : Message) (known : List ℕ) (b : Bool) (s : Stand S) (ts : List (Turn W)) (ws : List Saying)
+    (ns : List News) (s' : Stand S) → Leads acts halted pending seen contents greeting known b s ts ws ns s'
+    → told_in ns ≡ joined (map told ts)
+told-joined acts halted pending seen contents greeting known b s [] ws ns s' l = ap told_in l.2
+told-joined acts halted pending seen contents greeting known b s (t ∷ ts) ws ns s' l =
+    ap told_in l.6
+    ∙ ap (λ es. told t ++ es) (told-joined acts halted pending seen contents greeting known _ l.0 ts l.1 l.2 s' l.7)
+
+-- ---- the tasks of events
+
+tasks-are : (H : Type 0) (c : Option (List ℕ)) (es : List (ℕ × ChannelEvent)) → AreEvents (tasks {H = H} c es) es
+tasks-are H c [] = refl
+tasks-are H c ((n, e) ∷ es) = (es, refl, tasks-are H c es)
+
+are-append : {H : Type 0} (ts us : List (Task H)) (es fs : List (ℕ × ChannelEvent)) → AreEvents ts es → AreEvents us fs
+    → AreEvents (ts ++ us) (es ++ fs)
+are-append [] us es fs one two = subst (λ l. AreEvents us (l ++ fs)) (sym one) two
+are-append (task.Event c n e ∷ ts) us es fs one two =
+    (one.0 ++ fs, ap (λ l. l ++ fs) one.1, are-append ts us one.0 fs one.2 two)
+are-append (task.Register h ∷ ts) us es fs one two = elim one [ ]
+are-append (task.Stop ∷ ts) us es fs one two = elim one [ ]
+
+pub news-are : (H : Type 0) (last : Option ℕ) (ns : List News)
+    → AreEvents (tasks_of {H = H} last ns) (fresh last (told_in ns))
+news-are H last [] = refl
+news-are H last ((c, es) ∷ ns) =
+    subst (AreEvents (tasks_of {H = H} last ((c, es) ∷ ns))) (sym (fresh-append last es (told_in ns)))
+    (are-append (tasks c (fresh last es)) (tasks_of (last_of last es) ns) (fresh last es)
+    (fresh (last_of last es) (told_in ns)) (tasks-are H c (fresh last es)) (news-are H (last_of last es) ns))

@@ -7,7 +7,7 @@ use Rattle.ln_turns.specs.Served.{events_in, Begins}
 
 events-append : {H : Type 0} (xs ys : List (Task H)) → events_in (xs ++ ys) ≡ events_in xs ++ events_in ys
 events-append [] ys = refl
-events-append (task.Event n e ∷ xs) ys = ap (λ l. (n, e) ∷ l) (events-append xs ys)
+events-append (task.Event c n e ∷ xs) ys = ap (λ l. (c, n, e) ∷ l) (events-append xs ys)
 events-append (task.Register h ∷ xs) ys = events-append xs ys
 events-append (task.Stop ∷ xs) ys = events-append xs ys
 
@@ -18,10 +18,11 @@ merged : {H : Type 0} (xs ys zs : List (Task H)) → IsMerge xs ys zs → events
 merged [] [] [] neither none = refl
 merged [] (_ ∷ ys) [] m none = elim m [ ]
 merged (_ ∷ xs) ys [] m none = elim m [ ]
-merged (task.Event n e ∷ xs) ys (_ ∷ zs) (from_first _ _ _ _ m) none = ap (λ l. (n, e) ∷ l) (merged xs ys zs m none)
+merged (task.Event c n e ∷ xs) ys (_ ∷ zs) (from_first _ _ _ _ m) none =
+    ap (λ l. (c, n, e) ∷ l) (merged xs ys zs m none)
 merged (task.Register h ∷ xs) ys (_ ∷ zs) (from_first _ _ _ _ m) none = merged xs ys zs m none
 merged (task.Stop ∷ xs) ys (_ ∷ zs) (from_first _ _ _ _ m) none = merged xs ys zs m none
-merged xs (task.Event n e ∷ ys) (_ ∷ zs) (from_second _ _ _ _ m) none = not_nil (n, e) (events_in ys) none
+merged xs (task.Event c n e ∷ ys) (_ ∷ zs) (from_second _ _ _ _ m) none = not_nil (c, n, e) (events_in ys) none
 merged xs (task.Register h ∷ ys) (_ ∷ zs) (from_second _ _ _ _ m) none = merged xs ys zs m none
 merged xs (task.Stop ∷ ys) (_ ∷ zs) (from_second _ _ _ _ m) none = merged xs ys zs m none
 

@@ -1,5 +1,5 @@
 -- Turns, by what was written.
-use Rattle.std.proofs.Common.{append-nil, ◌++◌, ◌∷◌, ◌≡◌, [], ℕ, List, Option, Result, Ok, Err}
+use Rattle.std.proofs.Common.{append-nil, ◌++◌, ◌∷◌, ◌≡◌, [], ℕ, List, Option, Some, None, Result, Ok, Err}
 use Rattle.std.proofs.Common.{IfErr, OnOk, refl, sym, ap, ◌∙◌, inl, inr, true, false, subst}
 use Rattle.std.proofs.KnownBytes.{Appends-nil}
 use Rattle.ln_msgs.specs.declared.messages.message.Message.{Message}
@@ -14,50 +14,55 @@ use Rattle.ln_turns.specs.declared.kind.Kind.TheVariants.{OfConnection, Ping, Of
 use Rattle.ln_turns.specs.Act.{Act, Handles, Connects}
 use Rattle.ln_turns.specs.Kind.{kind_of}
 use Rattle.ln_msgs.specs.Messages.Typed.{wire}
-use Rattle.ln_turns.specs.Sent.{frame_of, frames_of, outputs_of, answer_of, sent, sent_for, pongs}
+use Rattle.ln_turns.specs.Line.{Line, Wrote}
+use Rattle.ln_turns.specs.Sent.{outputs_of, answer_of, sent, sent_for, pongs}
 use Rattle.ln_turns.specs.Turn.{IsTurn, IsObeyed, Serves, HearsOf, ObeysOrder, Writes, Goes, due, due_for}
 
 -- what goes out is what is written, and a failed write comes before what was answered
-pub goes-over : (ws : List Wire) (said written answer : Result (Unit {0}) Refusal) (line line' : Option (List ℕ))
-    → Goes (frames_of ws) written line line' → IfErr written (λ e. answer ≡ Err e) → OnOk written (answer ≡ said)
+pub goes-over : (ws : List Wire) (said written answer : Result (Unit {0}) Refusal) (line line' : Option Line)
+    → Goes ws written line line' → IfErr written (λ e. answer ≡ Err e) → OnOk written (answer ≡ said)
     → Writes ws said answer line line'
 goes-over ws said (Ok u) answer line line' all failed same = inl (same, all)
-goes-over ws said (Err e) answer line line' (lost, some) failed same = inr (e, failed, lost, some)
+goes-over ws said (Err e) answer line line' lost failed same = inr (e, failed, lost)
 
 -- the same, by the outputs and the answer that were taken apart
 pub goes-apart : (said : Result (List Output) Refusal) (outputs : List Output)
-    (answered written answer : Result (Unit {0}) Refusal) (line line' : Option (List ℕ)) → outputs ≡ outputs_of said
-    → answered ≡ answer_of said → Goes (frames_of (sent outputs)) written line line'
+    (answered written answer : Result (Unit {0}) Refusal) (line line' : Option Line) → outputs ≡ outputs_of said
+    → answered ≡ answer_of said → Goes (sent outputs) written line line'
     → IfErr written (λ e. answer ≡ Err e) → OnOk written (answer ≡ answered)
     → Writes (sent (outputs_of said)) (answer_of said) answer line line'
 goes-apart said outputs answered written answer line line' out is goes_out failed same =
     goes-over (sent (outputs_of said)) (answer_of said) written answer line line'
-    (subst (λ os. Goes (frames_of (sent os)) written line line') out goes_out)
+    (subst (λ os. Goes (sent os) written line line') out goes_out)
     failed (subst (λ a. OnOk written (answer ≡ a)) is same)
 
 -- where nothing was refused before
-pub goes : (ws : List Wire) (written : Result (Unit {0}) Refusal) (line line' : Option (List ℕ))
-    → Goes (frames_of ws) written line line' → Writes ws (Ok tt) written line line'
+pub goes : (ws : List Wire) (written : Result (Unit {0}) Refusal) (line line' : Option Line)
+    → Goes ws written line line' → Writes ws (Ok tt) written line line'
 goes ws (Ok u) line line' all = inl (refl, all)
-goes ws (Err e) line line' (lost, some) = inr (e, refl, lost, some)
+goes ws (Err e) line line' lost = inr (e, refl, lost)
+
+wrote-none : (line : Option Line) → Wrote line line []
+wrote-none None = refl
+wrote-none (Some l) = Appends-nil l.bytes
 
 module _ {S : Type 0} (acts : S → Act → Result (List Output) Refusal → S → Type 0) where
   -- a turn that hands out and writes nothing
   pub idles : (s : S) (i : Item Message) (outputs : List Output) (answer : Result (Unit {0}) Refusal) (s' : S)
-      (line : Option (List ℕ)) → (outputs ≡ []) × (answer ≡ Ok tt) → Serves acts s i (Ok []) s' → due i (Ok []) ≡ []
+      (line : Option Line) → (outputs ≡ []) × (answer ≡ Ok tt) → Serves acts s i (Ok []) s' → due i (Ok []) ≡ []
       → IsTurn acts s i outputs answer s' line line
   idles s i outputs answer s' line nothing serves quiet = record {
     said = Ok [];
     serves = serves;
     hands_out = nothing.0;
-    writes = rw quiet (inl (nothing.1, Appends-nil line));
+    writes = rw quiet (inl (nothing.1, wrote-none line));
   }
 
   -- a connection
   pub joins : (s : S) (greeting : Message) (said : Result (List Output) Refusal) (outputs : List Output)
-      (answered written answer : Result (Unit {0}) Refusal) (s' : S) (line line' : Option (List ℕ))
+      (answered written answer : Result (Unit {0}) Refusal) (s' : S) (line line' : Option Line)
       → acts s Connects said s' → outputs ≡ outputs_of said → answered ≡ answer_of said
-      → Goes (frames_of (wire greeting ∷ []) ++ frames_of (sent outputs)) written line line'
+      → Goes (wire greeting ∷ sent outputs) written line line'
       → IfErr written (λ e. answer ≡ Err e) → OnOk written (answer ≡ answered)
       → IsTurn acts s (item.Joined greeting) outputs answer s' line line'
   joins s greeting said outputs answered written answer s' line line' act out is goes_out failed same = record {
@@ -65,15 +70,13 @@ module _ {S : Type 0} (acts : S → Act → Result (List Output) Refusal → S �
     serves = act;
     hands_out = out;
     writes = goes-over (wire greeting ∷ sent (outputs_of said)) (answer_of said) written answer line line'
-        (subst (λ l. Goes l written line line')
-        (ap (λ l. l ++ frames_of (sent outputs)) (append-nil (frame_of (wire greeting)))
-        ∙ ap (λ os. frame_of (wire greeting) ++ frames_of (sent os)) out) goes_out)
+        (subst (λ os. Goes (wire greeting ∷ sent os) written line line') out goes_out)
         failed (subst (λ a. OnOk written (answer ≡ a)) is same);
   }
 
   -- a message of a connection
   pub passes : (s : S) (m : Message) (outputs : List Output) (answer : Result (Unit {0}) Refusal)
-      (line : Option (List ℕ)) → kind_of m ≡ OfConnection → (outputs ≡ []) × (answer ≡ Ok tt)
+      (line : Option Line) → kind_of m ≡ OfConnection → (outputs ≡ []) × (answer ≡ Ok tt)
       → IsTurn acts s (item.Read m) outputs answer s line line
   passes s m outputs answer line of nothing =
       idles s (item.Read m) outputs answer s line nothing
@@ -81,7 +84,7 @@ module _ {S : Type 0} (acts : S → Act → Result (List Output) Refusal → S �
 
   -- a ping
   pub answers : (s : S) (m : Message) (n : ℕ) (outputs : List Output) (answer : Result (Unit {0}) Refusal)
-      (line line' : Option (List ℕ)) → kind_of m ≡ Ping n → outputs ≡ [] → Goes (frames_of (pongs n)) answer line line'
+      (line line' : Option Line) → kind_of m ≡ Ping n → outputs ≡ [] → Goes (pongs n) answer line line'
       → IsTurn acts s (item.Read m) outputs answer s line line'
   answers s m n outputs answer line line' of none out = record {
     said = Ok [];
@@ -93,7 +96,7 @@ module _ {S : Type 0} (acts : S → Act → Result (List Output) Refusal → S �
 
   -- a message of a channel
   pub hands : (s : S) (m : Message) (id : List ℕ) (said : Result (List Output) Refusal) (outputs : List Output)
-      (answer : Result (Unit {0}) Refusal) (s' : S) (line line' : Option (List ℕ)) → kind_of m ≡ OfChannel id
+      (answer : Result (Unit {0}) Refusal) (s' : S) (line line' : Option Line) → kind_of m ≡ OfChannel id
       → acts s (Handles m) said s' → outputs ≡ outputs_of said
       → Writes (sent_for id said) (answer_of said) answer line line'
       → IsTurn acts s (item.Read m) outputs answer s' line line'
@@ -106,7 +109,7 @@ module _ {S : Type 0} (acts : S → Act → Result (List Output) Refusal → S �
 
   -- what the peer tells of a failure
   pub learns : (s : S) (m : Message) (said : Result (List Output) Refusal) (outputs : List Output)
-      (answer : Result (Unit {0}) Refusal) (s' : S) (line line' : Option (List ℕ)) → kind_of m ≡ OfFailure
+      (answer : Result (Unit {0}) Refusal) (s' : S) (line line' : Option Line) → kind_of m ≡ OfFailure
       → acts s (Handles m) said s' → outputs ≡ outputs_of said
       → Writes (sent (outputs_of said)) (answer_of said) answer line line'
       → IsTurn acts s (item.Read m) outputs answer s' line line'
@@ -119,7 +122,7 @@ module _ {S : Type 0} (acts : S → Act → Result (List Output) Refusal → S �
 
   -- an order that is passed over
   pub declines : (s : S) (c : Command) (outputs : List Output) (answer : Result (Unit {0}) Refusal)
-      (line : Option (List ℕ)) → is_of_records c ≡ true → (outputs ≡ []) × (answer ≡ Ok tt)
+      (line : Option Line) → is_of_records c ≡ true → (outputs ≡ []) × (answer ≡ Ok tt)
       → IsTurn acts s (item.Order c) outputs answer s line line
   declines s c outputs answer line of nothing =
       idles s (item.Order c) outputs answer s line nothing
@@ -127,7 +130,7 @@ module _ {S : Type 0} (acts : S → Act → Result (List Output) Refusal → S �
 
   -- and one that is obeyed
   pub obeys : (s : S) (c : Command) (outputs : List Output) (said written answer : Result (Unit {0}) Refusal) (s' : S)
-      (line line' : Option (List ℕ)) → is_of_records c ≡ false → IsObeyed acts s c outputs said written s' line line'
+      (line line' : Option Line) → is_of_records c ≡ false → IsObeyed acts s c outputs said written s' line line'
       → IfErr written (λ e. answer ≡ Err e) → OnOk written (answer ≡ said)
       → IsTurn acts s (item.Order c) outputs answer s' line line'
   obeys s c outputs said written answer s' line line' of o failed same = record {
@@ -139,7 +142,7 @@ module _ {S : Type 0} (acts : S → Act → Result (List Output) Refusal → S �
   }
 
 -- a message alone
-pub sends_only : (us ws : List Wire) (written : Result (Unit {0}) Refusal) (line line' : Option (List ℕ)) → us ≡ ws
-    → Goes (frames_of us ++ frames_of []) written line line' → Goes (frames_of ws) written line line'
+pub sends_only : (us ws : List Wire) (written : Result (Unit {0}) Refusal) (line line' : Option Line) → us ≡ ws
+    → Goes (us ++ []) written line line' → Goes ws written line line'
 sends_only us ws written line line' same out =
-    subst (λ l. Goes l written line line') (append-nil (frames_of us) ∙ ap frames_of same) out
+    subst (λ l. Goes l written line line') (append-nil us ∙ same) out

@@ -3,8 +3,10 @@ pub mod Serving
 pub mod Following
 pub mod Sending
 pub mod Idle
-pub mod Resting
 pub mod Running
 pub mod Course
 pub mod Saving
 pub mod Loaded
+pub mod Settling
+pub mod Owing
+pub mod Losing

@@ -7,16 +7,16 @@ abbrev pub segment : (ℕ → ChannelEvent) → ℕ → ℕ → List (ℕ × Cha
 segment event zero n = []
 segment event (suc count) n = (n, event n) ∷ segment event count (n + 1)
 
--- the number behind the last one that was put; that of the first event where none was
+-- the number after the last one that was put; that of the first event where none was
 abbrev pub next_of : ℕ → Option ℕ → ℕ
 next_of first None = first
 next_of first (Some last) = last + 1
 
--- the number behind all that was told
+-- the number after all that was told
 abbrev pub reached : ℕ → ℕ → ℕ
 reached next behind = next + (behind - next)
 
--- Each of these lists tells of events one behind the other, of none before the first, and leaves none out behind those
+-- Each of these lists tells of events one after the other, of none before the first, and leaves none out after those
 -- that were told: from the next number on they reach the end.
 abbrev pub Tells : (ℕ → ChannelEvent) → ℕ → ℕ → List (List (ℕ × ChannelEvent)) → ℕ → Type 0
 Tells event first next [] end = end ≡ next

@@ -3,6 +3,7 @@ pub mod Served
 pub mod Kind
 pub mod Act
 pub mod Sent
+pub mod Line
 pub mod Turn
 pub mod Phase
 pub mod Turns
@@ -11,4 +12,4 @@ pub mod Wire
 pub mod Worker
 pub mod Bench
 pub mod Saved
-pub mod Telling
+pub mod Owed

@@ -7,6 +7,7 @@ use Rattle.ln_msgs.specs.declared.messages.setup.Init.{Init}
 use Rattle.ln_msgs.specs.Messages.Features.{IsAllKnown, HasUnknown}
 use Rattle.ln_msgs.specs.declared.refusals.refusal.Refusal.{Refusal}
 use Rattle.ln_msgs.specs.Refusals.Refusal.{refusal_number}
+use Rattle.ln_turns.specs.Line.{Line}
 use Rattle.ln_turns.specs.declared.item.Item.{Item}
 use Rattle.ln_turns.specs.declared.item.Item.TheVariants as item
 use Rattle.ln_turns.specs.declared.worker.Phase.{Phase}
@@ -83,8 +84,8 @@ is_over item.Stop answer = is_lost answer
 abbrev pub unless_over : Bool → Phase → Phase
 unless_over over p = if over then Cut else p
 
--- what the writer holds; nothing is known of one that is cut off
-abbrev pub kept_line : Phase → Option (List ℕ) → Option (List ℕ)
+-- the connection that is left; there is none where it is cut off
+abbrev pub kept_line : Phase → Option Line → Option Line
 kept_line Cut line = None
 kept_line Greeting line = line
 kept_line On line = line

@@ -1,12 +1,11 @@
 -- One turn of a worker: what an item makes of an end of a channel, and what is written for it.
-use Rattle.std.specs.Prelude.{◌≡◌, ◌⊎◌, ℕ, List, [], ◌∷◌, Option, Result, Ok, Err, Bool, true, false}
-use Rattle.std.specs.Io.KnownBytes.{Appends}
+use Rattle.std.specs.Prelude.{◌≡◌, ◌⊎◌, ◌<◌, List, [], ◌∷◌, length, Option, Result, Ok, Err, Bool, true, false}
 use Rattle.ln_msgs.specs.declared.messages.message.Message.{Message}
 use Rattle.ln_msgs.specs.declared.refusals.refusal.Refusal.{Refusal}
 use Rattle.ln_msgs.specs.declared.refusals.refusal.Refusal.TheVariants as refusal
-use Rattle.ln_msgs.specs.Messages.Message.{Wire}
+use Rattle.ln_msgs.specs.Codec.Writing.{CanBeWritten}
+use Rattle.ln_msgs.specs.Messages.Message.{Wire, wire_bytes}
 use Rattle.ln_msgs.specs.Messages.Typed.{wire}
-use Rattle.ln_msgs.specs.Pings.Written.{IsPartlyWritten}
 use Rattle.ln_channel.specs.declared.command.Command.{Command}
 use Rattle.ln_channel.specs.declared.output.Output.{Output}
 use Rattle.ln_channel.specs.Step.{is_of_records}
@@ -15,26 +14,42 @@ use Rattle.ln_turns.specs.declared.item.Item.TheVariants as item
 use Rattle.ln_turns.specs.declared.kind.Kind.{Kind}
 use Rattle.ln_turns.specs.declared.kind.Kind.TheVariants.{OfConnection, Ping, OfFailure, OfChannel}
 use Rattle.ln_turns.specs.Kind.{kind_of}
+use Rattle.ln_turns.specs.Line.{Line, Wrote, Broke}
 use Rattle.ln_turns.specs.Act.{Act, Handles, Obeys, Connects, Drops}
 use Rattle.ln_turns.specs.Sent.{frames_of, outputs_of, answer_of, sent, sent_for, pongs}
 
 -- ---- what is written
 
--- no memory, a message that can't be written, or a write that failed
-abbrev pub IsLost : Refusal → Type 0
-IsLost r = (r ≡ refusal.Memory) ⊎ ((r ≡ refusal.TooLong) ⊎ (r ≡ refusal.Io))
+-- a message that can't be sent: it is of more than 65,535 bytes, or its records may not follow its fields
+abbrev pub IsUnsendable : Wire → Type 0
+IsUnsendable w = (65535 < length (wire_bytes w)) ⊎ (CanBeWritten w → ⊥)
 
--- all of the bytes were written; or a beginning was
-abbrev pub Goes : List ℕ → Result (Unit {0}) Refusal → Option (List ℕ) → Option (List ℕ) → Type 0
-Goes bytes (Ok u) before after = Appends before after bytes
-Goes bytes (Err r) before after = IsLost r × IsPartlyWritten before after bytes
+-- one of these messages is such
+abbrev pub HasUnsendable : List Wire → Type 0
+HasUnsendable [] = ⊥
+HasUnsendable (w ∷ ws) = IsUnsendable w ⊎ HasUnsendable ws
 
--- all of the messages were written, and the turn answers so; or a beginning was, and it answers why
-abbrev pub Writes : List Wire → Result (Unit {0}) Refusal → Result (Unit {0}) Refusal → Option (List ℕ)
-    → Option (List ℕ) → Type 0
+-- why none of these messages is written: there is no memory for all of them, or one can't be sent
+abbrev pub SendsNone : List Wire → Refusal → Type 0
+SendsNone ws r = (r ≡ refusal.Memory) ⊎ ((r ≡ refusal.TooLong) × HasUnsendable ws)
+
+-- Why not all of these messages were written, and what was: by 60 or 7 nothing, as they are gathered first; by 63 a
+-- prefix, as a call of the writer failed.
+abbrev pub Lost : List Wire → Refusal → Option Line → Option Line → Type 0
+Lost ws r before after =
+    (SendsNone ws r × (after ≡ before)) ⊎ ((r ≡ refusal.Io) × Broke before after (frames_of ws))
+
+-- all of these messages were written, or not
+abbrev pub Goes : List Wire → Result (Unit {0}) Refusal → Option Line → Option Line → Type 0
+Goes ws (Ok u) before after = Wrote before after (frames_of ws)
+Goes ws (Err r) before after = Lost ws r before after
+
+-- all of the messages were written, and the turn answers so; or not, and it answers why
+abbrev pub Writes : List Wire → Result (Unit {0}) Refusal → Result (Unit {0}) Refusal → Option Line → Option Line
+    → Type 0
 Writes ws said answer before after =
-    ((answer ≡ said) × Appends before after (frames_of ws))
-    ⊎ ((r : Refusal) × (answer ≡ Err r) × IsLost r × IsPartlyWritten before after (frames_of ws))
+    ((answer ≡ said) × Wrote before after (frames_of ws))
+    ⊎ ((r : Refusal) × (answer ≡ Err r) × Lost ws r before after)
 
 -- ---- what becomes of an end
 
@@ -84,7 +99,7 @@ due item.Stop said = []
 module _ {S : Type 0} (acts : S → Act → Result (List Output) Refusal → S → Type 0) where
   -- an item makes this of an end, these outputs are handed out, all of them, and their messages are written
   pub record IsTurn (s : S) (i : Item Message) (outputs : List Output) (answer : Result (Unit {0}) Refusal) (s' : S)
-      (before after : Option (List ℕ)) : Type 0 where
+      (before after : Option Line) : Type 0 where
     pub said : Result (List Output) Refusal
     pub serves : Serves acts s i said s'
     pub hands_out : outputs ≡ outputs_of said
@@ -92,9 +107,9 @@ module _ {S : Type 0} (acts : S → Act → Result (List Output) Refusal → S �
 
   -- A command of the book: the end obeys it and answers so, these outputs are handed out, and their messages go out so.
   pub record IsObeyed (s : S) (c : Command) (outputs : List Output) (answer written : Result (Unit {0}) Refusal)
-      (s' : S) (before after : Option (List ℕ)) : Type 0 where
+      (s' : S) (before after : Option Line) : Type 0 where
     pub said : Result (List Output) Refusal
     pub obeys : acts s (Obeys c) said s'
     pub hands_out : outputs ≡ outputs_of said
     pub answers : answer ≡ answer_of said
-    pub goes : Goes (frames_of (sent (outputs_of said))) written before after
+    pub goes : Goes (sent (outputs_of said)) written before after

@@ -1,9 +1,9 @@
--- What the wire of a connection holds.
-use Rattle.std.specs.Prelude.{ℕ, List, Option, None}
+-- What is known of the connection that a worker has, or that it has none.
+use Rattle.std.specs.Prelude.{ℕ, List, Option, Some, None}
 use Rattle.ln_turns.specs.declared.wire.Wire.{Wire}
 use Rattle.ln_turns.specs.declared.wire.Wire.TheVariants as wire
+use Rattle.ln_turns.specs.Line.{Line, line_of}
 
--- what its writer holds; nothing is known where there is none
-abbrev pub contents_in : {W : Type 0} → (W → Option (List ℕ)) → Wire W → Option (List ℕ)
-contents_in contents wire.Cut = None
-contents_in contents (wire.Open w) = contents w
+abbrev pub line_at : {W : Type 0} → (W → Option (List ℕ)) → Wire W → Option Line
+line_at contents wire.Cut = None
+line_at contents (wire.Open writer) = Some (line_of contents writer)

@@ -1,7 +1,10 @@
 //! The loop of a worker.
 
-ghost use Rattle.std.specs.Prelude.{◌≡◌, ◌++◌, ◌∷◌, []};
-ghost use Rattle.ln_turns.specs.Turns.{Ran, Began, is_new, fresh, last_of, events, tasks};
+ghost use Rattle.std.specs.Prelude.{◌≡◌, ◌++◌, ◌∷◌, [], true, false, not, ◌&&◌};
+ghost use Rattle.ln_turns.specs.Turns.{Ran, Mends, Began, HasStopped, is_new, fresh, last_of, events, tasks, drops};
+ghost use Rattle.ln_switch.specs.Seen.{channel_of};
+ghost use Rattle.ln_turns.specs.Owed.{kept_if, settled_at, owed, load_words};
+ghost use Rattle.ln_turns.specs.declared.item.Item.TheVariants as item;
 ghost use Rattle.ln_turns.specs.Bench.{glance};
 
 use crate::books::ReadsEnds;
@@ -9,27 +12,31 @@ use crate::end::End;
 use crate::item::Item;
 use crate::notice::Notice;
 use crate::reader::put;
+use crate::reports;
 use crate::task::Task;
-use crate::telling;
 use crate::wire::Closes;
 use crate::worker::{Phase, Worker};
 use ln_channel::Output;
 use ln_hooks::ChannelEvent;
+use ln_log::ChannelId;
 use ln_msgs::{Message, Refusal};
 use ln_relay::{Receives, Sends};
+use ln_switch::{about, answer_to};
 use std::alloc::Global;
 use std::sync::Wait;
 use std::thread;
 
-/// A worker with its seats: it takes from the one, and puts events to the other.
+/// A worker with its seats: it takes from the one, puts events to the other, and talks to the book by the third.
 #[derive(Drop)]
-pub struct Bench<E: Drop, W: Drop, I: Drop, T: Drop> {
+pub struct Bench<E: Drop, W: Drop, I: Drop, T: Drop, B: Drop> {
     /// The worker.
     pub worker: Worker<E, W>,
     /// The receiver's seat of its relay.
     pub items: I,
     /// A sender's seat of its dispatcher's relay.
     pub tasks: T,
+    /// A seat at the book.
+    pub book: B,
 }
 
 // Whether an event with this number is new.
@@ -42,151 +49,267 @@ fn is_new(last: Option<u64>, number: u64) -> bool
     }
 }
 
-// Puts an event, where it is new. Gives the last number that was put.
-fn tell_one<H: Drop, T: Sends<Task<H>>, R: Wait>(
+// Puts an event of a channel, where it is new. Gives the last number that was put.
+fn put_event<H: Drop, T: Sends<Task<H>>, R: Wait>(
     rt: &R,
     seat: &mut T,
+    channel: Option<ChannelId>,
     last: Option<u64>,
     number: u64,
     event: ChannelEvent,
 ) -> Option<u64>
-    ensures put { T.put seat.new ≡ T.put seat.old ++ tasks (fresh last ((number, event) ∷ [])) }
+    ensures put { T.put seat.new ≡ T.put seat.old ++ tasks channel (fresh last ((number, event) ∷ [])) }
     ensures last { result ≡ last_of last ((number, event) ∷ []) }
 {
     if !is_new(last, number) {
         drop(event);
         return last;
     }
-    put(rt, seat, Task::Event(number, event));
+    put(rt, seat, Task::Event(channel, number, event));
     Some(number)
 }
 
-// Puts the events among outputs that are new.
-fn tell_outputs<H: Drop, T: Sends<Task<H>>, R: Wait>(
+// Puts the events among an end's outputs that are new.
+fn put_outputs<E: End, H: Drop, T: Sends<Task<H>>, R: Wait>(
     rt: &R,
     seat: &mut T,
+    end: &E,
     last: Option<u64>,
     outputs: Vec<Output>,
 ) -> Option<u64>
-    ensures put { T.put seat.new ≡ T.put seat.old ++ tasks (fresh last (events outputs.items)) }
+    ensures put { T.put seat.new
+        ≡ T.put seat.old ++ tasks (channel_of (E.seen (E.state end.now))) (fresh last (events outputs.items)) }
     ensures last { result ≡ last_of last (events outputs.items) }
 {
+    let channel = end.channel();
     let mut last = last;
     for output in outputs {
         match output {
-            Output::Event(number, event) => last = tell_one(rt, seat, last, number, event),
+            Output::Event(number, event) => {
+                last = put_event(rt, seat, channel, last, number, event)
+            }
             other => drop(other),
         }
     }
     last
 }
 
-// Puts the events that are new.
-fn tell_events<H: Drop, T: Sends<Task<H>>, R: Wait>(
+// Puts an end's events that are new.
+fn put_events<E: End, H: Drop, T: Sends<Task<H>>, R: Wait>(
     rt: &R,
     seat: &mut T,
+    end: &E,
     last: Option<u64>,
     told: Vec<(u64, ChannelEvent)>,
 ) -> Option<u64>
-    ensures put { T.put seat.new ≡ T.put seat.old ++ tasks (fresh last told.items) }
+    ensures put { T.put seat.new
+        ≡ T.put seat.old ++ tasks (channel_of (E.seen (E.state end.now))) (fresh last told.items) }
     ensures last { result ≡ last_of last told.items }
 {
+    let channel = end.channel();
     let mut last = last;
     for (number, event) in told {
-        last = tell_one(rt, seat, last, number, event);
+        last = put_event(rt, seat, channel, last, number, event);
     }
     last
 }
 
-fn is_stop<J: Drop>(item: &Item<J>) -> bool {
-    matches!(item, Item::Stop)
+fn is_stop<J: Drop>(taken: &Item<J>) -> bool
+    ensures { result ≡ true → taken.now ≡ item.Stop }
+{
+    matches!(taken, Item::Stop)
 }
 
-fn is_broken<J: Drop>(item: &Item<J>) -> bool {
+fn is_broken<J: Drop>(item: &Item<J>) -> bool
+    ensures { result ≡ drops item.now false }
+{
     matches!(item, Item::Broken)
 }
 
-impl<E: End + Drop, W: Closes + Drop, I: Receives<Item<W>> + Drop, T: Drop> Bench<E, W, I, T> {
-    // Tells the book what has become of HTLCs by these outputs, and what the end can take now; behind a lost connection
-    // what it has kept, first.
-    fn tell<B: ReadsEnds<E>, R: Wait>(
-        &self,
-        rt: &R,
-        alloc: Global,
-        book: &B,
-        broken: bool,
-        outputs: &[Output],
-    ) {
-        // What an end has kept that has halted, is known once it is loaded.
-        if broken && !self.worker.end.is_halted() {
-            telling::tell_dropped(rt, alloc, book, &self.worker.end);
+// Whether what an end has kept is told, as its connection breaks: of one that has halted it is known once it is loaded.
+fn reports_kept(breaks: bool, halted: bool) -> bool
+    ensures { result ≡ (breaks && not halted) }
+{
+    breaks && !halted
+}
+
+// Tells the book what an end has kept, where it is to be told.
+fn report_kept_if<E: End, B: ReadsEnds<E>, R: Wait>(
+    rt: &R,
+    alloc: Global,
+    book: &mut B,
+    end: &E,
+    drops: bool,
+)
+    ensures { B.said book.new ≡ B.said book.old ++ kept_if drops (E.seen (E.state end.now)) }
+{
+    if drops {
+        reports::report_kept(rt, alloc, book, end);
+    }
+}
+
+// Tells the book what has become of HTLCs by these outputs.
+fn settle_outputs<E: End, B: ReadsEnds<E>, R: Wait>(
+    rt: &R,
+    alloc: Global,
+    book: &mut B,
+    end: &E,
+    outputs: &[Output],
+)
+    ensures { B.said book.new ≡ B.said book.old ++ settled_at (E.seen (E.state end.now)) (events outputs.now) }
+{
+    match end.channel() {
+        None => {}
+        Some(channel) => reports::report_outputs(rt, alloc, book, channel, outputs),
+    }
+}
+
+// Tells the book what has become of HTLCs by these events.
+fn settle_events<E: End, B: ReadsEnds<E>, R: Wait>(
+    rt: &R,
+    alloc: Global,
+    book: &mut B,
+    end: &E,
+    told: &[(u64, ChannelEvent)],
+)
+    ensures { B.said book.new ≡ B.said book.old ++ settled_at (E.seen (E.state end.now)) told.now }
+{
+    match end.channel() {
+        None => {}
+        Some(channel) => reports::report_events(rt, alloc, book, channel, told),
+    }
+}
+
+// Tells the book what has become of HTLCs by these outputs, and what the end can take now; what it has kept, first,
+// where that is to be told.
+fn report<E: End, B: ReadsEnds<E>, R: Wait>(
+    rt: &R,
+    alloc: Global,
+    book: &mut B,
+    end: &E,
+    drops: bool,
+    outputs: &[Output],
+)
+    ensures { B.said book.new ≡ B.said book.old ++ owed (E.seen (E.state end.now)) drops (events outputs.now) }
+{
+    report_kept_if(rt, alloc, book, end, drops);
+    settle_outputs(rt, alloc, book, end, outputs);
+    reports::report_use(rt, book, end);
+}
+
+// The same by these events.
+fn report_pending<E: End, B: ReadsEnds<E>, R: Wait>(
+    rt: &R,
+    alloc: Global,
+    book: &mut B,
+    end: &E,
+    drops: bool,
+    told: &[(u64, ChannelEvent)],
+)
+    ensures { B.said book.new ≡ B.said book.old ++ owed (E.seen (E.state end.now)) drops told.now }
+{
+    report_kept_if(rt, alloc, book, end, drops);
+    settle_events(rt, alloc, book, end, told);
+    reports::report_use(rt, book, end);
+}
+
+// Tells the book what an end has kept after a load, what has become of HTLCs by the events that are pending, and what
+// the end can take now; nothing where the load was refused.
+fn report_load<E: End, B: ReadsEnds<E>, R: Wait>(
+    rt: &R,
+    alloc: Global,
+    book: &mut B,
+    end: &E,
+    answer: Result<(), Refusal>,
+    pending: &[(u64, ChannelEvent)],
+)
+    ensures { B.said book.new ≡ B.said book.old ++ load_words answer (E.seen (E.state end.now)) pending.now }
+{
+    match answer {
+        Ok(()) => {
+            book.notice(rt, Notice::Loaded);
+            report_pending(rt, alloc, book, end, true, pending);
         }
-        telling::tell_outputs(rt, alloc, book, outputs);
-        telling::tell_use(rt, book, &self.worker.end);
+        Err(_) => {}
+    }
+}
+
+// A notice, where there is one.
+fn note_one<E: End, B: ReadsEnds<E>, R: Wait>(rt: &R, book: &mut B, notice: Option<Notice>)
+    ensures { B.said book.new ≡ B.said book.old }
+{
+    match notice {
+        None => {}
+        Some(notice) => book.notice(rt, notice),
+    }
+}
+
+fn refused(answer: Result<(), Refusal>) -> Option<Notice> {
+    match answer {
+        Ok(()) => None,
+        Err(refusal) => Some(Notice::Refused(refusal)),
+    }
+}
+
+// Tells what has become of the end and its connection, where it hadn't halted before or awaited the peer's init.
+fn note<E: End + Drop, W: Drop, B: ReadsEnds<E>, R: Wait>(
+    rt: &R,
+    book: &mut B,
+    worker: &Worker<E, W>,
+    halted: bool,
+    awaited: bool,
+    answer: Result<(), Refusal>,
+)
+    ensures { B.said book.new ≡ B.said book.old }
+{
+    note_one::<E, B, R>(rt, book, refused(answer));
+    let not_greeted = awaited && worker.phase == Phase::Cut;
+    note_one::<E, B, R>(rt, book, not_greeted.then_some(Notice::NotGreeted));
+    let has_halted = !halted && worker.end.is_halted();
+    note_one::<E, B, R>(rt, book, has_halted.then_some(Notice::Halted));
+}
+
+impl<E, W, I, T, B> Bench<E, W, I, T, B>
+where
+    E: End + Drop,
+    W: Closes + Drop,
+    I: Receives<Item<W>> + Drop,
+    T: Drop,
+    B: ReadsEnds<E> + Drop,
+{
+    // How many loads in a row were refused, where so many were before.
+    fn refused(&self, before: u64) -> u64 {
+        if self.worker.end.is_halted() {
+            before.saturating_add(1)
+        } else {
+            0
+        }
     }
 
-    // Tells the book what an end has kept behind a load, what has become of HTLCs by the events that are pending, and
-    // what the end can take now.
-    fn tell_load<B: ReadsEnds<E>, R: Wait>(
-        &self,
-        rt: &R,
-        alloc: Global,
-        book: &B,
-        answer: Result<(), Refusal>,
-        pending: &[(u64, ChannelEvent)],
-    ) {
-        if answer.is_err() {
-            return;
-        }
-        book.notice(rt, Notice::Loaded);
-        telling::tell_dropped(rt, alloc, book, &self.worker.end);
-        telling::tell_events(rt, alloc, book, pending);
-        telling::tell_use(rt, book, &self.worker.end);
-    }
-
-    // Tells what has become of the end and its connection, where it hadn't halted before or awaited the peer's init.
-    fn note<B: ReadsEnds<E>, R: Wait>(
-        &self,
-        rt: &R,
-        book: &B,
-        halted: bool,
-        awaited: bool,
-        answer: Result<(), Refusal>,
-    ) {
-        if let Err(refusal) = answer {
-            book.notice(rt, Notice::Refused(refusal));
-        }
-        if awaited && self.worker.phase == Phase::Cut {
-            book.notice(rt, Notice::NotGreeted);
-        }
-        if !halted && self.worker.end.is_halted() {
-            book.notice(rt, Notice::Halted);
-        }
-    }
-
-    // Waits where there was nothing to do, unless a load is to be tried again.
-    fn rest<B: ReadsEnds<E>, R: Wait>(&self, rt: &R, book: &B, sounds: u64, busy: bool) {
-        if busy || self.worker.end.is_halted() {
+    // Waits where there was nothing to do.
+    fn rest<R: Wait>(&self, rt: &R, sounds: u64, refused: u64, busy: bool) {
+        if busy {
             thread::yield_now();
         } else {
-            book.rest(rt, sounds);
+            self.book.rest(rt, sounds, refused);
         }
     }
 
     // Takes an item, and serves it or passes it over. True where it is the last one.
-    fn take_one<H: Drop, B: ReadsEnds<E>, R: Wait>(
+    fn take_one<H: Drop, R: Wait>(
         &mut self,
         rt: &R,
         alloc: Global,
         greeting: &Message,
         known: &[u16],
-        book: &B,
         busy: &mut bool,
     ) -> bool
     where
         T: Sends<Task<H>>,
-        ensures { Ran E.acts E.halted E.pending W.contents greeting.now known.now
-            (glance E.state W.contents I.taken T.put self.old) (glance E.state W.contents I.taken T.put self.new) }
+        ensures ran { Ran E.acts E.halted E.pending E.seen W.contents greeting.now known.now true
+            (glance E.state W.contents I.taken T.put B.said self.old)
+            (glance E.state W.contents I.taken T.put B.said self.new) }
+        ensures stops { result ≡ true → HasStopped (I.taken self.new.items) }
     {
         let Some(item) = self.items.recv(rt) else {
             return false;
@@ -197,105 +320,167 @@ impl<E: End + Drop, W: Closes + Drop, I: Receives<Item<W>> + Drop, T: Drop> Benc
         let awaited = self.worker.phase == Phase::Greeting;
         *busy = true;
         let turned = self.worker.serve(alloc, greeting, known, item);
-        self.note(rt, book, halted, awaited, turned.answer);
-        self.tell(rt, alloc, book, breaks, turned.outputs.as_slice());
-        self.worker.last = tell_outputs(rt, &mut self.tasks, self.worker.last, turned.outputs);
+        note(
+            rt,
+            &mut self.book,
+            &self.worker,
+            halted,
+            awaited,
+            turned.answer,
+        );
+        let drops = reports_kept(breaks, self.worker.end.is_halted());
+        report(
+            rt,
+            alloc,
+            &mut self.book,
+            &self.worker.end,
+            drops,
+            turned.outputs.as_slice(),
+        );
+        self.worker.last = put_outputs(
+            rt,
+            &mut self.tasks,
+            &self.worker.end,
+            self.worker.last,
+            turned.outputs,
+        );
         stops
     }
 
     // Takes a command of the book.
-    fn obey_one<H: Drop, B: ReadsEnds<E>, R: Wait>(
+    fn obey_one<H: Drop, R: Wait>(
         &mut self,
         rt: &R,
         alloc: Global,
         greeting: &Message,
         known: &[u16],
-        book: &B,
         busy: &mut bool,
     )
     where
         T: Sends<Task<H>>,
-        ensures { Ran E.acts E.halted E.pending W.contents greeting.now known.now
-            (glance E.state W.contents I.taken T.put self.old) (glance E.state W.contents I.taken T.put self.new) }
+        ensures { Ran E.acts E.halted E.pending E.seen W.contents greeting.now known.now false
+            (glance E.state W.contents I.taken T.put B.said self.old)
+            (glance E.state W.contents I.taken T.put B.said self.new) }
     {
-        let Some(command) = book.take(rt, alloc) else {
+        let Some(channel) = self.worker.end.channel() else {
             return;
         };
-        let named = telling::named(&command);
+        let Some(command) = self.book.take(rt, alloc, channel) else {
+            return;
+        };
+        let next = self.worker.end.next_id();
+        let about = about(next, &command);
         let halted = self.worker.end.is_halted();
         *busy = true;
         let obeyed = self.worker.obey(alloc, command);
-        let answer = telling::told_answer(named, obeyed.outputs.as_slice(), obeyed.answer);
-        book.answered(rt, answer);
-        self.note(rt, book, halted, false, obeyed.answer);
-        self.tell(rt, alloc, book, false, obeyed.outputs.as_slice());
-        self.worker.last = tell_outputs(rt, &mut self.tasks, self.worker.last, obeyed.outputs);
+        let answer = answer_to(about, obeyed.answer);
+        self.book.answered(rt, channel, answer);
+        note(
+            rt,
+            &mut self.book,
+            &self.worker,
+            halted,
+            false,
+            obeyed.answer,
+        );
+        report(
+            rt,
+            alloc,
+            &mut self.book,
+            &self.worker.end,
+            false,
+            obeyed.outputs.as_slice(),
+        );
+        self.worker.last = put_outputs(
+            rt,
+            &mut self.tasks,
+            &self.worker.end,
+            self.worker.last,
+            obeyed.outputs,
+        );
     }
 
     // Loads a halted end, and puts those of its pending events that weren't put yet.
-    fn mend<H: Drop, B: ReadsEnds<E>, R: Wait>(
-        &mut self,
-        rt: &R,
-        alloc: Global,
-        greeting: &Message,
-        known: &[u16],
-        book: &B,
-    )
+    fn mend<H: Drop, R: Wait>(&mut self, rt: &R, alloc: Global, greeting: &Message, known: &[u16])
     where
         T: Sends<Task<H>>,
-        ensures { Ran E.acts E.halted E.pending W.contents greeting.now known.now
-            (glance E.state W.contents I.taken T.put self.old) (glance E.state W.contents I.taken T.put self.new) }
+        ensures { Mends E.acts E.halted E.pending E.seen W.contents greeting.now known.now
+            (glance E.state W.contents I.taken T.put B.said self.old)
+            (glance E.state W.contents I.taken T.put B.said self.new) }
     {
         if !self.worker.end.is_halted() {
             return;
         }
         let answer = self.worker.load(alloc);
         let told = self.worker.pending_behind(rt, alloc, answer);
-        self.tell_load(rt, alloc, book, answer, told.as_slice());
-        self.worker.last = tell_events(rt, &mut self.tasks, self.worker.last, told);
+        report_load(
+            rt,
+            alloc,
+            &mut self.book,
+            &self.worker.end,
+            answer,
+            told.as_slice(),
+        );
+        self.worker.last = put_events(
+            rt,
+            &mut self.tasks,
+            &self.worker.end,
+            self.worker.last,
+            told,
+        );
     }
 }
 
 /// Serves the items of a worker's relay and the commands of the book in turn, until `Stop`, and gives all of it back:
-/// an end that has halted is loaded from its record first. The events that are pending at the start or behind a load,
-/// and those that the end hands out, are put for the dispatcher, each number once and in rising order; before that the
-/// book is told what has become of HTLCs by them, and what the end has kept behind a lost connection or a load. The
-/// peer is greeted by `greeting`, an init, and its init may ask for no even feature but the known ones. Where
-/// there is nothing to do it waits for the bell; it tries again where there is no memory or the dispatcher's relay is
-/// full.
+/// an end that has halted is loaded from its record before each item that is taken. The events that are pending at the
+/// start or after a load, and those that the end hands out, are put for the dispatcher as those of the end's channel,
+/// each number once and in rising order; before that the book is told what has become of HTLCs by them, and what the
+/// end has kept after a lost connection or a load. A command of the book is answered by what the end has answered. The
+/// peer is greeted by `greeting`, an init, and its init may ask for no even feature but the known ones. Where there is
+/// nothing to do it waits for the bell, and between loads that are refused the longer, the more they are; it tries
+/// again where there is no memory or the dispatcher's relay is full.
 pub fn worker_loop<E, W, I, H, T, B, R>(
     rt: &R,
     alloc: Global,
     greeting: &Message,
     known: &[u16],
-    bench: Bench<E, W, I, T>,
-    book: &B,
-) -> Bench<E, W, I, T>
+    bench: Bench<E, W, I, T, B>,
+) -> Bench<E, W, I, T, B>
 where
     E: End + Drop,
     W: Closes + Drop,
     I: Receives<Item<W>> + Drop,
     H: Drop,
     T: Sends<Task<H>> + Drop,
-    B: ReadsEnds<E>,
+    B: ReadsEnds<E> + Drop,
     R: Wait,
-    ensures serves_all_and_tells_all { Began E.acts E.halted E.pending W.contents greeting.now known.now
-        (glance E.state W.contents I.taken T.put bench) (glance E.state W.contents I.taken T.put result) }
+    ensures serves_all_and_tells_all { Began E.acts E.halted E.pending E.seen W.contents greeting.now known.now
+        (glance E.state W.contents I.taken T.put B.said bench)
+        (glance E.state W.contents I.taken T.put B.said result) }
 {
     let mut bench = bench;
     let told = bench.worker.pending(rt, alloc);
-    telling::tell_events(rt, alloc, book, told.as_slice());
-    telling::tell_use(rt, book, &bench.worker.end);
-    bench.worker.last = tell_events(rt, &mut bench.tasks, bench.worker.last, told);
+    report_pending(
+        rt,
+        alloc,
+        &mut bench.book,
+        &bench.worker.end,
+        false,
+        told.as_slice(),
+    );
+    let last = bench.worker.last;
+    bench.worker.last = put_events(rt, &mut bench.tasks, &bench.worker.end, last, told);
+    let mut refused = 0u64;
     for _ in rt.forever() {
-        let sounds = book.sounds();
+        let sounds = bench.book.sounds();
         let mut busy = false;
-        bench.mend(rt, alloc, greeting, known, book);
-        if bench.take_one(rt, alloc, greeting, known, book, &mut busy) {
+        bench.mend(rt, alloc, greeting, known);
+        refused = bench.refused(refused);
+        if bench.take_one(rt, alloc, greeting, known, &mut busy) {
             return bench;
         }
-        bench.obey_one(rt, alloc, greeting, known, book, &mut busy);
-        bench.rest(rt, book, sounds, busy);
+        bench.obey_one(rt, alloc, greeting, known, &mut busy);
+        bench.rest(rt, sounds, refused, busy);
     }
     unreachable!()
 }

@@ -9,10 +9,11 @@ use std::alloc::Global;
 /// One end of a channel, with the store that it saves in. `State` is what it stands for, with that
 /// store; the loops look into neither.
 pub trait End {
-    ghost use Rattle.std.specs.Prelude.{◌≡◌, ℕ, List, [], Bool, Result, Ok, IfOk, OnErr};
+    ghost use Rattle.std.specs.Prelude.{◌≡◌, ℕ, List, [], Bool, Option, Result, Ok, IfOk, OnErr};
     ghost use Rattle.ln_channel.specs.declared.output.Output.{Output};
     ghost use Rattle.ln_hooks.specs.declared.event.ChannelEvent.{ChannelEvent};
     ghost use Rattle.ln_msgs.specs.declared.refusals.refusal.Refusal.{Refusal};
+    ghost use Rattle.ln_switch.specs.Seen.{Seen, channel_of, next_htlc};
     ghost use Rattle.ln_turns.specs.Act.{Act, Handles, Obeys, Connects, Drops, Loads};
     ghost use Rattle.ln_turns.specs.Sent.{listed, loaded};
 
@@ -29,6 +30,9 @@ pub trait End {
 
     /// The events that aren't decided yet, each with its number.
     ghost pending: { State → List (ℕ × ChannelEvent) };
+
+    /// What a book is told of it, once both have signed the opening.
+    ghost seen: { State → Option Seen };
 
     /// Takes a message.
     fn handle(&mut self, alloc: Global, message: Message) -> Result<Vec<Output>, Refusal>
@@ -59,5 +63,10 @@ pub trait End {
         ensures { result ≡ halted (state self.now) };
 
     /// Which channel's end it is, once both have signed the opening.
-    fn channel(&self) -> Option<ChannelId>;
+    fn channel(&self) -> Option<ChannelId>
+        ensures { result ≡ channel_of (seen (state self.now)) };
+
+    /// The id of the next HTLC that it offers; 0 before both have signed the opening.
+    fn next_id(&self) -> u64
+        ensures { result ≡ next_htlc (seen (state self.now)) };
 }

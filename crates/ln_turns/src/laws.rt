@@ -1,6 +1,6 @@
 //! Laws of what workers and dispatchers do.
 
-ghost use Rattle.std.specs.Prelude.{◌≡◌, ◌++◌, ◌∷◌, ◌-◌, ℕ, map, List, [], Option};
+ghost use Rattle.std.specs.Prelude.{◌≡◌, ◌++◌, ◌∷◌, ◌-◌, ℕ, map, List, [], Option, Bool, true};
 ghost use Rattle.ln_hooks.specs.declared.event.ChannelEvent.{ChannelEvent};
 ghost use Rattle.ln_msgs.specs.declared.messages.message.Message.{Message};
 ghost use Rattle.ln_msgs.specs.declared.refusals.refusal.Refusal.{Refusal};
@@ -11,7 +11,9 @@ ghost use Rattle.ln_link.specs.Loading.{HasRecord, end_of};
 ghost use Rattle.ln_relay.specs.Position.{IsMergeOfAll};
 ghost use Rattle.ln_turns.specs.declared.task.Task.{Task};
 ghost use Rattle.ln_turns.specs.Served.{events_in, Begins};
-ghost use Rattle.ln_turns.specs.Turns.{Glance, Began, told, tasks};
+ghost use Rattle.ln_switch.specs.declared.saying.Saying.{Saying};
+ghost use Rattle.ln_turns.specs.Turns.{Glance, Began, told, AreEvents, Stand, Turn, Leads, News};
+ghost use Rattle.ln_turns.specs.Turns.{cuts_off, JoinNone, IsCutOff, items_of as items_in};
 ghost use Rattle.ln_turns.specs.Course.{segment, next_of, Tells};
 
 use crate::end::End;
@@ -25,18 +27,28 @@ pub fn hooks_follow<H: Drop>()
 {}
 
 /// Where the events that are pending at the start of a worker's loop, those of each turn's outputs and those that are
-/// pending behind each load are events of one channel, one behind the other by their numbers, and each list begins no
-/// later than behind those that were told before, then exactly these events are put for its dispatcher: each once, in
+/// pending after each load are events of one channel, one after the other by their numbers, and each list begins no
+/// later than after those that were told before, then exactly these events are put for its dispatcher: each once, in
 /// order, none left out and none else.
 pub fn every_event_is_put<E: End + Drop, W: Closes + Drop, H: Drop>()
     ensures { (greeting : Message) (known : List ℕ) (a b : Glance E.State W H)
-        (began : Began E.acts E.halted E.pending W.contents greeting known a b)
+        (began : Began E.acts E.halted E.pending E.seen W.contents greeting known a b)
         (event : ℕ → ChannelEvent) (first end : ℕ)
         → Tells event first (next_of first a.last) (E.pending a.stand.end ∷ map told began.ran.turns) end
-        → b.put ≡ a.put ++ tasks (segment event (end - next_of first a.last) (next_of first a.last)) }
+        → (new : List (Task H)) × (b.put ≡ a.put ++ new)
+        × AreEvents new (segment event (end - next_of first a.last) (next_of first a.last)) }
 {}
 
-/// The events that are pending behind a load of an end's record are those of what a lost connection leaves of the end:
+/// After a turn that couldn't write all, or that cut the connection off by another reason, nothing is written until the
+/// next connection joins: there is none to write to.
+pub fn nothing_is_written_after_a_loss<E: End + Drop, W: Closes + Drop>()
+    ensures { (greeting : Message) (known : List ℕ) (tried : Bool) (s s' : Stand E.State) (t : Turn W)
+        (ts : List (Turn W)) (words : List Saying) (news : List News) → cuts_off t ≡ true → JoinNone (items_in ts)
+        → Leads E.acts E.halted E.pending E.seen W.contents greeting known tried s (t ∷ ts) words news s'
+        → IsCutOff s' }
+{}
+
+/// The events that are pending after a load of an end's record are those of what a lost connection leaves of the end:
 /// they tell of updates that the record has one by one.
 pub fn a_load_keeps_pending_events()
     ensures { (failure : Option Refusal) (e : channel.End) → HasRecord failure e

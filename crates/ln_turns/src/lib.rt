@@ -12,9 +12,9 @@ mod kind;
 mod laws;
 mod notice;
 mod reader;
+mod reports;
 mod saved;
 mod task;
-mod telling;
 mod turn;
 mod wire;
 mod worker;
@@ -25,11 +25,13 @@ pub use dispatch::{Table, dispatch_loop};
 pub use end::End;
 pub use item::Item;
 pub use kind::Kind;
-pub use laws::{a_load_keeps_pending_events, every_event_is_put, hooks_follow};
+pub use laws::{
+    a_load_keeps_pending_events, every_event_is_put, hooks_follow, nothing_is_written_after_a_loss,
+};
 pub use notice::Notice;
 pub use reader::{put, reader_loop};
 pub use saved::SavedLink;
 pub use task::Task;
-pub use turn::{Obeyed, obey_turn, worker_turn};
+pub use turn::{Obeyed, worker_turn};
 pub use wire::{Closes, Wire};
 pub use worker::{Phase, Turned, Worker};

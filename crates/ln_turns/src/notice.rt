@@ -17,6 +17,7 @@ pub enum Notice {
     Halted,
     /// It was loaded from its record.
     Loaded,
-    /// A hook has held a payment: it waits until it is resumed by this number, that of the event that told of it.
+    /// A hook has held a payment: it waits until it is resumed by this number, that of the event that told of it. It
+    /// can be resumed as soon as its channel has taken that, which may be a moment later.
     Held(u64),
 }

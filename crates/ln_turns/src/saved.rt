@@ -15,6 +15,7 @@ use ln_link::Link;
 use ln_log::ChannelId;
 use ln_msgs::{Message, Refusal};
 use ln_store::RecordStore;
+use ln_switch::next_id;
 use std::alloc::Global;
 
 /// A link with the store that it saves in, and the keys with which it comes back from its record.
@@ -87,6 +88,7 @@ impl<K: ChannelKeys + Copy, S: RecordStore + Drop> SavedLink<K, S> {
 
 impl<K: ChannelKeys + Copy, S: RecordStore + Drop> End for SavedLink<K, S> {
     ghost use Rattle.ln_channel.specs.Pending.{pending_at};
+    ghost use Rattle.ln_switch.specs.Seen.{seen_of};
     ghost use Rattle.ln_turns.specs.Saved.{Saved, acts};
 
     ghost State = { Saved K };
@@ -102,6 +104,8 @@ impl<K: ChannelKeys + Copy, S: RecordStore + Drop> End for SavedLink<K, S> {
     ghost halted = { λ s. s.link.halted };
 
     ghost pending = { λ s. pending_at s.link.stage };
+
+    ghost seen = { λ s. seen_of s.link };
 
     fn handle(&mut self, alloc: Global, message: Message) -> Result<Vec<Output>, Refusal> {
         self.link.handle(alloc, &mut self.store, message)
@@ -137,5 +141,9 @@ impl<K: ChannelKeys + Copy, S: RecordStore + Drop> End for SavedLink<K, S> {
 
     fn channel(&self) -> Option<ChannelId> {
         self.id()
+    }
+
+    fn next_id(&self) -> u64 {
+        next_id(self.link.unsaved().saved())
     }
 }

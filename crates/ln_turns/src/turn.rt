@@ -1,24 +1,25 @@
 //! One turn of a worker.
 
 ghost use Rattle.std.specs.Prelude.{◌≡◌, ◌++◌, ◌∷◌, [], OnOk, IfOk, IfErr, option_to_list};
-ghost use Rattle.std.specs.Prelude.{option_copied, List, option_map, Err, ◌≤◌, length};
+ghost use Rattle.std.specs.Prelude.{option_copied, List, option_map, Some, Err, ◌≤◌, length};
 ghost use Rattle.ln_msgs.specs.Messages.Message.{Wire, wire_bytes};
 ghost use Rattle.ln_msgs.specs.Messages.Typed.{wire};
-ghost use Rattle.ln_msgs.specs.Pings.CountedView.{inner_of};
 ghost use Rattle.ln_msgs.specs.Refusals.Reply.{reply_to};
 ghost use Rattle.ln_channel.specs.Step.{is_of_records};
 ghost use Rattle.ln_turns.specs.declared.item.Item.TheVariants as item;
 ghost use Rattle.ln_turns.specs.declared.kind.Kind.TheVariants as kind;
 ghost use Rattle.ln_turns.specs.Kind.{kind_of};
 ghost use Rattle.ln_turns.specs.Sent.{frame_of, frames_of, sent, listed, outputs_of, answer_of, pongs, sent_for, shown};
-ghost use Rattle.ln_turns.specs.Turn.{IsLost, Goes, Writes, IsTurn, IsObeyed};
+ghost use Rattle.ln_turns.specs.Line.{line_of};
+ghost use Rattle.ln_turns.specs.Turn.{SendsNone, Goes, Writes, IsTurn, IsObeyed};
 
 use crate::end::End;
 use crate::item::Item;
 use crate::kind::{Kind, kind_of};
+use crate::wire::Carries;
 use ln_bytes::Bytes;
 use ln_channel::{Command, Output};
-use ln_msgs::{Counted, Message, Pong, Records, Refusal, encode, fits, write_out};
+use ln_msgs::{Counted, Message, Pong, Records, Refusal, encode, fits};
 use std::alloc::Global;
 use std::io::Write;
 
@@ -27,7 +28,7 @@ use std::io::Write;
 // The bytes of a message.
 fn bytes_of(alloc: Global, message: &Message) -> Result<Vec<u8>, Refusal>
     ensures spells { IfOk result (λ v. (v.items ≡ wire_bytes (wire message.now)) × (length v.items ≤ 65535)) }
-    ensures lost { IfErr result IsLost }
+    ensures lost { IfErr result (SendsNone (wire message.now ∷ [])) }
 {
     if !fits(message) {
         return Err(Refusal::TooLong);
@@ -42,7 +43,7 @@ fn bytes_of(alloc: Global, message: &Message) -> Result<Vec<u8>, Refusal>
 #[tactic(auto, unfolding(crate::specs::Sent::frame_of))]
 fn append_frame(alloc: Global, out: &mut Vec<u8>, message: &Message) -> Result<(), Refusal>
     ensures appends { OnOk result (out.new.items ≡ out.old.items ++ frame_of (wire message.now)) }
-    ensures lost { IfErr result IsLost }
+    ensures lost { IfErr result (SendsNone (wire message.now ∷ [])) }
 {
     let bytes = bytes_of(alloc, message)?;
     out.extend_from_slice(&(bytes.len() as u16).to_be_bytes())?;
@@ -54,7 +55,7 @@ fn append_frame(alloc: Global, out: &mut Vec<u8>, message: &Message) -> Result<(
 fn append_first(alloc: Global, out: &mut Vec<u8>, first: Option<&Message>) -> Result<(), Refusal>
     ensures appends { OnOk result (out.new.items
         ≡ out.old.items ++ frames_of (option_to_list (option_map wire (option_copied first.entry)))) }
-    ensures lost { IfErr result IsLost }
+    ensures lost { IfErr result (SendsNone (option_to_list (option_map wire (option_copied first.entry)))) }
 {
     match first {
         None => Ok(()),
@@ -65,7 +66,7 @@ fn append_first(alloc: Global, out: &mut Vec<u8>, first: Option<&Message>) -> Re
 // The frame of an output's message, where it is one, behind the bytes.
 fn append_output(alloc: Global, out: &mut Vec<u8>, output: &Output) -> Result<(), Refusal>
     ensures appends { OnOk result (out.new.items ≡ out.old.items ++ frames_of (sent (output.now ∷ []))) }
-    ensures lost { IfErr result IsLost }
+    ensures lost { IfErr result (SendsNone (sent (output.now ∷ []))) }
 {
     match output {
         Output::Send(message) => append_frame(alloc, out, message),
@@ -76,10 +77,13 @@ fn append_output(alloc: Global, out: &mut Vec<u8>, output: &Output) -> Result<()
 // The frames of the messages among outputs, behind the bytes.
 fn append_sent(alloc: Global, out: &mut Vec<u8>, outputs: &[Output]) -> Result<(), Refusal>
     ensures appends { OnOk result (out.new.items ≡ out.old.items ++ frames_of (sent outputs.now)) }
-    ensures lost { IfErr result IsLost }
+    ensures lost { IfErr result (SendsNone (sent outputs.now)) }
 {
     for output in outputs {
-        append_output(alloc, out, output)?;
+        match append_output(alloc, out, output) {
+            Ok(()) => {}
+            Err(refusal) => return Err(refusal),
+        }
     }
     Ok(())
 }
@@ -87,45 +91,33 @@ fn append_sent(alloc: Global, out: &mut Vec<u8>, outputs: &[Output]) -> Result<(
 // The frames of a message, where there is one, and of those among outputs.
 fn frames(alloc: Global, first: Option<&Message>, outputs: &[Output]) -> Result<Vec<u8>, Refusal>
     ensures frames { IfOk result (λ v. v.items
-        ≡ frames_of (option_to_list (option_map wire (option_copied first.entry))) ++ frames_of (sent outputs.now)) }
-    ensures lost { IfErr result IsLost }
+        ≡ frames_of (option_to_list (option_map wire (option_copied first.entry)) ++ sent outputs.now)) }
+    ensures lost { IfErr result (SendsNone
+        (option_to_list (option_map wire (option_copied first.entry)) ++ sent outputs.now)) }
 {
     let mut out = Vec::new(alloc);
-    append_first(alloc, &mut out, first)?;
-    append_sent(alloc, &mut out, outputs)?;
-    Ok(out)
-}
-
-// Writes the bytes and flushes, where there are some.
-fn deliver<W: Write>(bytes: &[u8], writer: &mut Counted<W>) -> Result<(), Refusal>
-    ensures { Goes bytes.now result (W.contents (inner_of writer.old)) (W.contents (inner_of writer.new)) }
-{
-    if bytes.is_empty() {
-        return Ok(());
-    }
-    match write_out(bytes, writer) {
+    match append_first(alloc, &mut out, first) {
         Ok(()) => {}
-        Err(_) => return Err(Refusal::Io),
+        Err(refusal) => return Err(refusal),
     }
-    match writer.flush() {
-        Ok(()) => Ok(()),
-        Err(_) => Err(Refusal::Io),
+    match append_sent(alloc, &mut out, outputs) {
+        Ok(()) => Ok(out),
+        Err(refusal) => Err(refusal),
     }
 }
 
-// Sends a message, where there is one, and those among outputs.
-fn send<W: Write>(
+// Sends a message, where there is one, and those among outputs: all are gathered before a byte is written.
+fn send<L: Carries>(
     alloc: Global,
     first: Option<&Message>,
     outputs: &[Output],
-    writer: &mut Counted<W>,
+    line: &mut L,
 ) -> Result<(), Refusal>
-    ensures { Goes (frames_of (option_to_list (option_map wire (option_copied first.entry)))
-        ++ frames_of (sent outputs.now)) result
-        (W.contents (inner_of writer.old)) (W.contents (inner_of writer.new)) }
+    ensures { Goes (option_to_list (option_map wire (option_copied first.entry)) ++ sent outputs.now) result
+        (L.line line.old) (L.line line.new) }
 {
     match frames(alloc, first, outputs) {
-        Ok(bytes) => deliver(bytes.as_slice(), writer),
+        Ok(bytes) => line.deliver(bytes.as_slice()),
         Err(refusal) => Err(refusal),
     }
 }
@@ -156,7 +148,7 @@ fn over(answer: Result<(), Refusal>, written: Result<(), Refusal>) -> Result<(),
 
 fn pong_to(alloc: Global, count: u16) -> Result<Option<Message>, Refusal>
     ensures pong { IfOk result (λ m. option_to_list (option_map wire m) ≡ pongs count) }
-    ensures lost { IfErr result IsLost }
+    ensures fails_for_memory_alone { IfErr result (λ e. e ≡ Refusal.Memory) }
 {
     if count < 65_532 {
         let zeros = vec![in alloc; 0u8; usize::from(count)]?;
@@ -177,24 +169,24 @@ pub struct Obeyed {
     pub outputs: Vec<Output>,
     /// What the end answered, which the book is told.
     pub answer: Result<(), Refusal>,
-    /// Whether all that it sends was written: 7, 60 or 63 where a beginning was.
+    /// Whether all that it sends was written: 60 or 7 where nothing was, 63 where a prefix was.
     pub written: Result<(), Refusal>,
 }
 
 /// A command of the book: the end obeys it, and what it sends is written. What the end answered stands apart from
 /// what became of the write, as a command that was done is done also where its messages are lost.
-pub fn obey_turn<E: End, W: Write>(
+pub(crate) fn obey_turn<E: End, L: Carries>(
     alloc: Global,
     end: &mut E,
     command: Command,
-    writer: &mut Counted<W>,
+    line: &mut L,
 ) -> Obeyed
     ensures obeys { IsObeyed E.acts (E.state end.old) command result.outputs.items result.answer result.written
-        (E.state end.new) (W.contents (inner_of writer.old)) (W.contents (inner_of writer.new)) }
+        (E.state end.new) (L.line line.old) (L.line line.new) }
 {
     let said = end.command(alloc, command);
     let (outputs, answer) = apart(alloc, said);
-    let written = send(alloc, None, outputs.as_slice(), writer);
+    let written = send(alloc, None, outputs.as_slice(), line);
     Obeyed {
         outputs,
         answer,
@@ -203,35 +195,34 @@ pub fn obey_turn<E: End, W: Write>(
 }
 
 // A connection: the peer is greeted first.
-fn join_turn<E: End, W: Write>(
+fn join_turn<E: End, L: Carries>(
     alloc: Global,
     end: &mut E,
     greeting: &Message,
-    writer: &mut Counted<W>,
+    line: &mut L,
 ) -> (Vec<Output>, Result<(), Refusal>)
     ensures { IsTurn E.acts (E.state end.old) (item.Joined greeting.now)
-        result.0.items result.1 (E.state end.new) (W.contents (inner_of writer.old))
-        (W.contents (inner_of writer.new)) }
+        result.0.items result.1 (E.state end.new) (L.line line.old) (L.line line.new) }
 {
     let said = end.connect(alloc);
     let (outputs, answer) = apart(alloc, said);
-    let written = send(alloc, Some(greeting), outputs.as_slice(), writer);
+    let written = send(alloc, Some(greeting), outputs.as_slice(), line);
     (outputs, over(answer, written))
 }
 
 // Sends a message that may have lacked memory.
-fn send_one<W: Write>(
+fn send_one<L: Carries>(
     alloc: Global,
     made: Result<Option<Message>, Refusal>,
-    writer: &mut Counted<W>,
+    line: &mut L,
 ) -> Result<(), Refusal>
-    requires lost { IfErr made IsLost }
+    requires fails_for_memory_alone { IfErr made (λ e. e ≡ Refusal.Memory) }
     ensures { (ws : List Wire) → IfOk made (λ m. option_to_list (option_map wire m) ≡ ws)
-        → Goes (frames_of ws) result (W.contents (inner_of writer.old)) (W.contents (inner_of writer.new)) }
+        → Goes ws result (L.line line.old) (L.line line.new) }
 {
     match made {
         Ok(first) => {
-            let written = send(alloc, first.as_ref(), &[], writer);
+            let written = send(alloc, first.as_ref(), &[], line);
             drop(first);
             written
         }
@@ -242,96 +233,93 @@ fn send_one<W: Write>(
 // How a peer is told that its message is refused.
 fn reply_to(alloc: Global, id: &[u8; 32], why: Refusal) -> Result<Option<Message>, Refusal>
     ensures reply { IfOk result (λ m. option_to_list (option_map wire m) ≡ option_to_list (reply_to why id.now)) }
-    ensures lost { IfErr result IsLost }
+    ensures fails_for_memory_alone { IfErr result (λ e. e ≡ Refusal.Memory) }
 {
     why.reply(alloc, id)
 }
 
 // Sends what is due for an answer to a message: what the end sends, or the reply to the peer.
-fn send_back<W: Write>(
+fn send_back<L: Carries>(
     alloc: Global,
     id: &[u8; 32],
     said: Result<Vec<Output>, Refusal>,
-    writer: &mut Counted<W>,
+    line: &mut L,
 ) -> (Vec<Output>, Result<(), Refusal>)
     ensures outputs { result.0.items ≡ outputs_of (listed (λ v. v.items) said) }
     ensures writes { Writes (sent_for id.now (listed (λ v. v.items) said)) (answer_of (listed (λ v. v.items) said))
-        result.1 (W.contents (inner_of writer.old)) (W.contents (inner_of writer.new)) }
+        result.1 (L.line line.old) (L.line line.new) }
 {
     match said {
         Ok(outputs) => {
-            let written = send(alloc, None, outputs.as_slice(), writer);
+            let written = send(alloc, None, outputs.as_slice(), line);
             (outputs, written)
         }
         Err(refusal) => {
             let made = reply_to(alloc, id, refusal);
-            let written = send_one(alloc, made, writer);
+            let written = send_one(alloc, made, line);
             (Vec::new(alloc), over(Err(refusal), written))
         }
     }
 }
 
 // Sends what the end sends, and no reply to a refusal.
-fn send_only<W: Write>(
+fn send_only<L: Carries>(
     alloc: Global,
     said: Result<Vec<Output>, Refusal>,
-    writer: &mut Counted<W>,
+    line: &mut L,
 ) -> (Vec<Output>, Result<(), Refusal>)
     ensures outputs { result.0.items ≡ outputs_of (listed (λ v. v.items) said) }
     ensures writes { Writes (sent (outputs_of (listed (λ v. v.items) said))) (answer_of (listed (λ v. v.items) said))
-        result.1 (W.contents (inner_of writer.old)) (W.contents (inner_of writer.new)) }
+        result.1 (L.line line.old) (L.line line.new) }
 {
     let (outputs, answer) = apart(alloc, said);
-    let written = send(alloc, None, outputs.as_slice(), writer);
+    let written = send(alloc, None, outputs.as_slice(), line);
     (outputs, over(answer, written))
 }
 
 // A message of a channel: the end takes it, and a refusal is told to the peer.
-fn handle_turn<E: End, W: Write>(
+fn handle_turn<E: End, L: Carries>(
     alloc: Global,
     end: &mut E,
     id: [u8; 32],
     message: Message,
-    writer: &mut Counted<W>,
+    line: &mut L,
 ) -> (Vec<Output>, Result<(), Refusal>)
     requires { kind_of message ≡ kind.OfChannel id }
     ensures { IsTurn E.acts (E.state end.old) (item.Read message)
-        result.0.items result.1 (E.state end.new) (W.contents (inner_of writer.old))
-        (W.contents (inner_of writer.new)) }
+        result.0.items result.1 (E.state end.new) (L.line line.old) (L.line line.new) }
 {
     let said = end.handle(alloc, message);
-    send_back(alloc, &id, said, writer)
+    send_back(alloc, &id, said, line)
 }
 
 // What the peer tells of a failure: the end takes it, and a refusal isn't told to the peer (BOLT 1, "The `error` and
 // `warning` Messages"). Otherwise two failed ends would answer each other without end.
-fn failure_turn<E: End, W: Write>(
+fn failure_turn<E: End, L: Carries>(
     alloc: Global,
     end: &mut E,
     message: Message,
-    writer: &mut Counted<W>,
+    line: &mut L,
 ) -> (Vec<Output>, Result<(), Refusal>)
     requires { kind_of message ≡ kind.OfFailure }
     ensures { IsTurn E.acts (E.state end.old) (item.Read message)
-        result.0.items result.1 (E.state end.new) (W.contents (inner_of writer.old))
-        (W.contents (inner_of writer.new)) }
+        result.0.items result.1 (E.state end.new) (L.line line.old) (L.line line.new) }
 {
     let said = end.handle(alloc, message);
-    send_only(alloc, said, writer)
+    send_only(alloc, said, line)
 }
 
 // A ping is answered at once.
-fn ping_turn<W: Write>(
+fn ping_turn<L: Carries>(
     alloc: Global,
     count: u16,
-    writer: &mut Counted<W>,
+    line: &mut L,
 ) -> (Vec<Output>, Result<(), Refusal>)
     ensures outputs { result.0.items ≡ [] }
-    ensures goes { Goes (frames_of (pongs count)) result.1 (W.contents (inner_of writer.old))
-        (W.contents (inner_of writer.new)) }
+    ensures goes { Goes (pongs count) result.1 (L.line line.old) (L.line line.new) }
 {
     let made = pong_to(alloc, count);
-    let written = send_one(alloc, made, writer);
+    let written = send_one(alloc, made, line);
     (Vec::new(alloc), written)
 }
 
@@ -342,15 +330,14 @@ fn idle_turn(alloc: Global) -> (Vec<Output>, Result<(), Refusal>)
     (Vec::new(alloc), Ok(()))
 }
 
-fn read_turn<E: End, W: Write>(
+fn read_turn<E: End, L: Carries>(
     alloc: Global,
     end: &mut E,
     message: Message,
-    writer: &mut Counted<W>,
+    line: &mut L,
 ) -> (Vec<Output>, Result<(), Refusal>)
     ensures { IsTurn E.acts (E.state end.old) (item.Read message)
-        result.0.items result.1 (E.state end.new) (W.contents (inner_of writer.old))
-        (W.contents (inner_of writer.new)) }
+        result.0.items result.1 (E.state end.new) (L.line line.old) (L.line line.new) }
 {
     match kind_of(&message) {
         Kind::OfConnection => {
@@ -359,10 +346,10 @@ fn read_turn<E: End, W: Write>(
         }
         Kind::Ping(count) => {
             drop(message);
-            ping_turn(alloc, count, writer)
+            ping_turn(alloc, count, line)
         }
-        Kind::OfFailure => failure_turn(alloc, end, message, writer),
-        Kind::OfChannel(id) => handle_turn(alloc, end, id, message, writer),
+        Kind::OfFailure => failure_turn(alloc, end, message, line),
+        Kind::OfChannel(id) => handle_turn(alloc, end, id, message, line),
     }
 }
 
@@ -377,22 +364,43 @@ fn is_of_records(command: &Command) -> bool
 }
 
 // What the book alone decides is passed over.
-fn order_turn<E: End, W: Write>(
+fn order_turn<E: End, L: Carries>(
     alloc: Global,
     end: &mut E,
     command: Command,
-    writer: &mut Counted<W>,
+    line: &mut L,
 ) -> (Vec<Output>, Result<(), Refusal>)
     ensures { IsTurn E.acts (E.state end.old) (item.Order command)
-        result.0.items result.1 (E.state end.new) (W.contents (inner_of writer.old))
-        (W.contents (inner_of writer.new)) }
+        result.0.items result.1 (E.state end.new) (L.line line.old) (L.line line.new) }
 {
     if is_of_records(&command) {
         drop(command);
         return idle_turn(alloc);
     }
-    let obeyed = obey_turn(alloc, end, command, writer);
+    let obeyed = obey_turn(alloc, end, command, line);
     (obeyed.outputs, over(obeyed.answer, obeyed.written))
+}
+
+/// Serves one item, as `worker_turn` says, on any connection, or without one.
+pub(crate) fn take_turn<E: End, L: Carries>(
+    alloc: Global,
+    end: &mut E,
+    item: Item<&Message>,
+    line: &mut L,
+) -> (Vec<Output>, Result<(), Refusal>)
+    ensures serves { IsTurn E.acts (E.state end.old) (shown item.entry)
+        result.0.items result.1 (E.state end.new) (L.line line.old) (L.line line.new) }
+{
+    match item {
+        Item::Joined(greeting) => join_turn(alloc, end, greeting, line),
+        Item::Read(message) => read_turn(alloc, end, message, line),
+        Item::Broken => {
+            end.drop_connection();
+            idle_turn(alloc)
+        }
+        Item::Order(command) => order_turn(alloc, end, command, line),
+        Item::Stop => idle_turn(alloc),
+    }
 }
 
 /// Serves one item of a worker's relay: what it makes of the end, and the frames of the messages that are sent for it,
@@ -400,26 +408,17 @@ fn order_turn<E: End, W: Write>(
 /// its refusal told to the peer, unless the message is an error or a warning; init and pong ask for nothing. The
 /// outputs are all that the end handed out, also where a write failed. Takes memory for the bytes that are written.
 ///
-/// Errors: what the end refuses it by; 60, 63 or 7 (a message that can't be written) where not all was written, and
-/// then a beginning was.
+/// Errors: what the end refuses it by, and then all was written; or why not all was. 60 where there is no memory for
+/// all of the bytes, 7 where a message has more than 65,535 or has records that may not follow its fields: then nothing
+/// was written. 63 where a call of the writer failed: then a prefix was.
 pub fn worker_turn<E: End, W: Write>(
     alloc: Global,
     end: &mut E,
     item: Item<&Message>,
     writer: &mut Counted<W>,
 ) -> (Vec<Output>, Result<(), Refusal>)
-    ensures serves { IsTurn E.acts (E.state end.old) (shown item.entry)
-        result.0.items result.1 (E.state end.new) (W.contents (inner_of writer.old))
-        (W.contents (inner_of writer.new)) }
+    ensures serves { IsTurn E.acts (E.state end.old) (shown item.entry) result.0.items result.1 (E.state end.new)
+        (Some (line_of W.contents writer.old)) (Some (line_of W.contents writer.new)) }
 {
-    match item {
-        Item::Joined(greeting) => join_turn(alloc, end, greeting, writer),
-        Item::Read(message) => read_turn(alloc, end, message, writer),
-        Item::Broken => {
-            end.drop_connection();
-            idle_turn(alloc)
-        }
-        Item::Order(command) => order_turn(alloc, end, command, writer),
-        Item::Stop => idle_turn(alloc),
-    }
+    take_turn(alloc, end, item, writer)
 }

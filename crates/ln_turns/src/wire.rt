@@ -1,6 +1,6 @@
-//! A writer that may be cut off.
+//! The connection of a worker, or none.
 
-use std::io;
+use ln_msgs::{Counted, Refusal, write_out};
 use std::io::Write;
 
 /// A writer of a connection that can be closed.
@@ -12,31 +12,58 @@ pub trait Closes: Write {
         ensures keeps_what_was_written { Keeps (Self.contents self.old) (Self.contents self.new) };
 }
 
-/// The writer of a connection, or none: then what is written is lost.
+/// What bytes are handed to.
+pub(crate) trait Carries {
+    ghost use Rattle.std.specs.Prelude.{Option};
+    ghost use Rattle.ln_turns.specs.Line.{Line, Delivers};
+
+    /// What is known of the connection, where there is one.
+    ghost line: { Self → Option Line };
+
+    /// Writes the bytes and flushes, where there are some. Without a connection nothing is written.
+    fn deliver(&mut self, bytes: &[u8]) -> Result<(), Refusal>
+        ensures { Delivers bytes.now result (line self.old) (line self.new) };
+}
+
+impl<W: Write> Carries for Counted<W> {
+    ghost use Rattle.std.specs.Prelude.{Some};
+    ghost use Rattle.ln_turns.specs.Line.{line_of};
+
+    ghost line = { λ w. Some (line_of W.contents w) };
+
+    fn deliver(&mut self, bytes: &[u8]) -> Result<(), Refusal> {
+        if bytes.is_empty() {
+            return Ok(());
+        }
+        match write_out(bytes, self) {
+            Ok(()) => {}
+            Err(_) => return Err(Refusal::Io),
+        }
+        match self.flush() {
+            Ok(()) => Ok(()),
+            Err(_) => Err(Refusal::Io),
+        }
+    }
+}
+
+/// The writer of a connection, or none: then nothing is written.
 #[derive(Drop)]
 pub enum Wire<W: Drop> {
     /// There is none.
     Cut,
     /// There is one.
-    Open(W),
+    Open(Counted<W>),
 }
 
-impl<W: Closes + Drop> Write for Wire<W> {
-    ghost use Rattle.ln_turns.specs.Wire.{contents_in};
+impl<W: Write + Drop> Carries for Wire<W> {
+    ghost use Rattle.ln_turns.specs.Wire.{line_at};
 
-    ghost contents = { λ w. contents_in W.contents w };
+    ghost line = { λ w. line_at W.contents w };
 
-    fn write(&mut self, bytes: &[u8]) -> io::Result<usize> {
-        match self {
-            Wire::Cut => Ok(bytes.len()),
-            Wire::Open(writer) => writer.write(bytes),
-        }
-    }
-
-    fn flush(&mut self) -> io::Result<()> {
+    fn deliver(&mut self, bytes: &[u8]) -> Result<(), Refusal> {
         match self {
             Wire::Cut => Ok(()),
-            Wire::Open(writer) => writer.flush(),
+            Wire::Open(writer) => writer.deliver(bytes),
         }
     }
 }
@@ -46,7 +73,7 @@ impl<W: Closes + Drop> Wire<W> {
     pub fn close(self) {
         match self {
             Wire::Cut => {}
-            Wire::Open(mut writer) => writer.close(),
+            Wire::Open(writer) => writer.into_inner().close(),
         }
     }
 }

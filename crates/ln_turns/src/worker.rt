@@ -1,17 +1,17 @@
 //! A worker: an end of a channel, and the connection that it has.
 
 ghost use Rattle.std.specs.Prelude.{◌≡◌, None, [], true, false, option_copied};
-ghost use Rattle.ln_msgs.specs.Pings.CountedView.{inner_of};
 ghost use Rattle.ln_turns.specs.Sent.{shown};
 ghost use Rattle.ln_turns.specs.Turn.{IsTurn};
 ghost use Rattle.ln_turns.specs.declared.item.Item.TheVariants as item;
 ghost use Rattle.ln_turns.specs.declared.worker.Phase.TheVariants as phase;
 ghost use Rattle.ln_turns.specs.Phase.{is_lost, is_refused, init_in, Greets};
-ghost use Rattle.ln_turns.specs.Wire.{contents_in};
+ghost use Rattle.ln_turns.specs.declared.wire.Wire.TheVariants as wire;
+ghost use Rattle.ln_turns.specs.Wire.{line_at};
 
 use crate::end::End;
 use crate::item::Item;
-use crate::turn::{Obeyed, obey_turn, worker_turn};
+use crate::turn::{Obeyed, obey_turn, take_turn};
 use crate::wire::{Closes, Wire};
 use ln_channel::{Command, Output};
 use ln_hooks::ChannelEvent;
@@ -36,8 +36,8 @@ pub enum Phase {
 pub struct Worker<E: Drop, W: Drop> {
     /// The end.
     pub end: E,
-    /// The writer.
-    pub line: Counted<Wire<W>>,
+    /// The writer of its connection, or none.
+    pub line: Wire<W>,
     /// How far its connection is.
     pub phase: Phase,
     /// The number of the last event that was put.
@@ -136,7 +136,7 @@ impl<E: End + Drop, W: Closes + Drop> Worker<E, W> {
     {
         Worker {
             end,
-            line: Counted::new(Wire::Cut),
+            line: Wire::Cut,
             phase: Phase::Cut,
             last: None,
         }
@@ -146,20 +146,18 @@ impl<E: End + Drop, W: Closes + Drop> Worker<E, W> {
     fn cut(&mut self)
         ensures end { self.new.end ≡ self.old.end }
         ensures phase { self.new.phase ≡ phase.Cut }
-        ensures line { contents_in W.contents (inner_of self.new.line) ≡ None }
+        ensures line { self.new.line ≡ wire.Cut }
         ensures last { self.new.last ≡ self.old.last }
     {
-        let line = mem::replace(&mut self.line, Counted::new(Wire::Cut));
-        line.into_inner().close();
+        mem::replace(&mut self.line, Wire::Cut).close();
         self.phase = Phase::Cut;
     }
 
-    // Without a connection what is written is lost.
+    // Without a connection nothing is written.
     fn mind(&mut self)
         ensures end { self.new.end ≡ self.old.end }
         ensures phase { self.new.phase ≡ self.old.phase }
-        ensures line { contents_in W.contents (inner_of self.new.line)
-            ≡ (stand E.state W.contents self.old).line }
+        ensures line { line_at W.contents self.new.line ≡ kept_line self.old.phase (line_at W.contents self.old.line) }
         ensures last { self.new.last ≡ self.old.last }
     {
         if self.phase == Phase::Cut {
@@ -170,11 +168,11 @@ impl<E: End + Drop, W: Closes + Drop> Worker<E, W> {
     // Behind a turn.
     fn end_turn(&mut self, over: bool)
         ensures end { self.new.end ≡ self.old.end }
-        ensures left { Leaves E.halted self.old.phase over (contents_in W.contents (inner_of self.old.line))
+        ensures left { Leaves E.halted self.old.phase over (line_at W.contents self.old.line)
             (stand E.state W.contents self.new) }
         ensures last { self.new.last ≡ self.old.last }
     {
-        if over || self.end.is_halted() {
+        if over || self.end.is_halted() || self.phase == Phase::Cut {
             self.cut();
         }
     }
@@ -182,13 +180,13 @@ impl<E: End + Drop, W: Closes + Drop> Worker<E, W> {
     // An item that is served.
     fn turn(&mut self, alloc: Global, item: Item<&Message>) -> (Vec<Output>, Result<(), Refusal>)
         ensures turn { IsTurn E.acts (E.state self.old.end) (shown item.entry) result.0.items result.1
-            (E.state self.new.end) (stand E.state W.contents self.old).line
-            (contents_in W.contents (inner_of self.new.line)) }
+            (E.state self.new.end) (kept_line self.old.phase (line_at W.contents self.old.line))
+            (line_at W.contents self.new.line) }
         ensures phase { self.new.phase ≡ self.old.phase }
         ensures last { self.new.last ≡ self.old.last }
     {
         self.mind();
-        worker_turn(alloc, &mut self.end, item, &mut self.line)
+        take_turn(alloc, &mut self.end, item, &mut self.line)
     }
 
     // A connection.
@@ -200,7 +198,7 @@ impl<E: End + Drop, W: Closes + Drop> Worker<E, W> {
         ensures passed { result.served ≡ false → result.outputs.items ≡ [] }
         ensures last { self.new.last ≡ self.old.last }
     {
-        self.line = Counted::new(Wire::Open(writer));
+        self.line = Wire::Open(Counted::new(writer));
         self.phase = Phase::Greeting;
         let (outputs, answer) = self.turn(alloc, Item::Joined(greeting));
         self.end_turn(is_refused(answer));
@@ -215,6 +213,7 @@ impl<E: End + Drop, W: Closes + Drop> Worker<E, W> {
             ≡ kept_line self.new.phase (stand E.state W.contents self.old).line }
         ensures last { self.new.last ≡ self.old.last }
     {
+        self.mind();
         if self.phase == Phase::Greeting {
             match greeted(message, known) {
                 Phase::On => self.phase = Phase::On,
@@ -292,7 +291,10 @@ impl<E: End + Drop, W: Closes + Drop> Worker<E, W> {
             Item::Read(message) => self.read(alloc, message, known),
             Item::Broken => self.lose(alloc),
             Item::Order(command) => self.order(alloc, command),
-            Item::Stop => passed(alloc),
+            Item::Stop => {
+                self.mind();
+                passed(alloc)
+            }
         }
     }
 

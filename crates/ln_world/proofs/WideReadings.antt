@@ -4,8 +4,6 @@ use Rattle.std.proofs.Common.{sym, subst, arith, Bool, true, false, cond, ◌==�
 use Rattle.std.proofs.Common.{Option, Some, None, option_map}
 use Rattle.std.proofs.lemmas.List.{length-replicate}
 use Rattle.std.specs.List.{cons_option, find, slice_get}
-use Rattle.ln_bytes.specs.declared.short_id.ShortId.{ShortId}
-use Rattle.ln_bytes.specs.ShortId.{short_id_bytes}
 use Rattle.ln_keys.specs.declared.role.Role.{Role}
 use Rattle.ln_keys.specs.declared.role.Role.TheVariants.{Funder, Fundee}
 use Rattle.ln_log.specs.declared.mark.Decision.{Decision}
@@ -54,9 +52,11 @@ use Rattle.ln_desks.specs.World.{item, named_at, undecided}
 use Rattle.ln_world.specs.declared.node.NodeBook.{NodeBook}
 use Rattle.ln_world.specs.Node.{Book}
 use Rattle.ln_world.specs.Told.{with_event, with_events, with_held, told_count}
-use Rattle.ln_world.specs.Follow.{takes_payments, with_route, with_end, with_side, with_channel, followed_below}
-use Rattle.ln_world.specs.Follow.{followed, reading_by, side_reading, reading_in, readings_below, begun_anew}
-use Rattle.ln_world.specs.Follow.{minimum_told}
+use Rattle.ln_switch.specs.declared.uses.Use.{Use}
+use Rattle.ln_switch.specs.Uses.{use_of, with_route}
+use Rattle.ln_switch.specs.Readings.{reading_by}
+use Rattle.ln_world.specs.Follow.{with_end, with_side, with_channel, followed_below}
+use Rattle.ln_world.specs.Follow.{followed, side_reading, reading_in, readings_below, begun_anew}
 use Rattle.ln_world.proofs.WideTables.{IsHow, IsWay, IsKey, IsHtlc, IsTable, IsEntry, either, where-either}
 use Rattle.ln_world.proofs.WideTables.{all-find, way_so, after_so, replayed}
 use Rattle.ln_world.proofs.WideMarks.{IsEvent, event_so}
@@ -351,20 +351,15 @@ rebuilt_so t rs g h = record {
 
 -- ---- what an end brings to a book
 
-route_so : (p : Policy) (e : ChannelEnd) (o : Option ShortId) (b : Book) → IsEnd e → IsBook b
-    → IsBook (with_route p e o b)
-route_so p e None b is h = h
-route_so p e (Some id) b is h =
-    entered_so (entry.Route (short_id_bytes id.block id.tx id.output) (record {
-      channel = e.dance.channel;
-      policy = p;
-      minimum = minimum_told e.closing.role e.terms;
-    })) b is.channel h
+route_so : (p : Policy) (u : Use) (o : Option (List ℕ)) (b : Book) → length u.channel ≡ 32 → IsBook b
+    → IsBook (with_route p u o b)
+route_so p u None b is h = h
+route_so p u (Some id) b is h =
+    entered_so (entry.Route id (record { channel = u.channel; policy = p; minimum = u.minimum })) b is h
 
-reading_by_so : (o : Option ChannelEnd) (rs : List Reading) → Where IsEnd o → All IsReading rs
-    → All IsReading (reading_by o rs)
-reading_by_so None rs is h = h
-reading_by_so (Some e) rs is h = all-append IsReading rs (reading_of e ∷ []) h (reading_so e is, tt)
+reading_by_so : (o : Option ChannelEnd) → Where IsEnd o → All IsReading (reading_by o)
+reading_by_so None is = tt
+reading_by_so (Some e) is = (reading_so e is, tt)
 
 -- ---- the ends of a channel
 
@@ -390,8 +385,8 @@ module _ {K : Type 0} where
       → IsBook (with_end p l o b)
   end_so p l None b is h = h
   end_so p l (Some e) b is h =
-      entered_so (entry.Use e.dance.channel (takes_payments l e)) (with_route p e e.marks.short_id b) tt
-      (route_so p e e.marks.short_id b is h)
+      let u = use_of l e in
+      entered_so (entry.Use u.channel u.takes) (with_route p u u.short_id b) tt (route_so p u u.short_id b is.channel h)
 
   side_so : (p : Policy) (c : WorldChannel K) (o : Option Role) (b : Book) → AreEnds c → IsBook b
       → IsBook (with_side p c o b)
@@ -421,7 +416,8 @@ module _ {K : Type 0} where
       → All IsReading (side_reading c o rs)
   side_reading_so c None rs is h = h
   side_reading_so c (Some side) rs is h =
-      reading_by_so (saved_end (place_of side c.both).link.stage) rs (at_side side c is) h
+      let o = saved_end (place_of side c.both).link.stage in
+      all-append IsReading rs (reading_by o) h (reading_by_so o (at_side side c is))
 
   reading_in_so : (n : Node) (o : Option (WorldChannel K)) (rs : List Reading) → Where AreEnds o → All IsReading rs
       → All IsReading (reading_in n o rs)

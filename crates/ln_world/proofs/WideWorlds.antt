@@ -64,7 +64,7 @@ use Rattle.ln_world.specs.World.{World, id_of, link_by, link_there, link_at, sav
 use Rattle.ln_world.specs.World.{command_in, handed, with_decision, deciding, asked, command_by, command_of}
 use Rattle.ln_world.specs.World.{handed_out, own_act, sent_or, call_of, unbegun, asked_unbegun, plain}
 use Rattle.ln_world.specs.World.{moved_by, lines_by, entered, with_height, is_height, prepared, errand_of, follows}
-use Rattle.ln_world.specs.World.{answered, heard, unanswered, told_of, saved_dropped, dropped, fallen, met}
+use Rattle.ln_world.specs.World.{answered, heard, unanswered, saved_dropped, dropped, fallen, met}
 use Rattle.ln_world.specs.World.{concluded, happens, with_verdict, plains}
 use Rattle.ln_world.specs.World.{with_resumed, resuming, resumed_at, stops_behind}
 use Rattle.ln_world.specs.Records.{IsAct, IsStep, AreWorldSteps}
@@ -181,7 +181,7 @@ unanswered_so e out b h =
 
 saved_dropped_so : (e : End) (o : Option ChannelEnd) (b : Book) → IsBook b → IsBook (saved_dropped e o b)
 saved_dropped_so e None b h = h
-saved_dropped_so e (Some x) b h = entered_so (entry.Dropped (id_of e) (told_of e x b)) b tt h
+saved_dropped_so e (Some x) b h = entered_so (entry.Dropped (id_of e) _) b tt h
 
 -- ---- dispatchers
 

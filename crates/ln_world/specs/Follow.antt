@@ -1,19 +1,16 @@
 -- A node's book follows its ends: which short channel ids name its channels, and which of these take payments; and what
 -- it reads off them as the node starts.
-use Rattle.std.specs.Prelude.{ℕ, zero, suc, List, [], ◌∷◌, ◌++◌, Bool, not, ◌&&◌, Option, Some, None, is_none}
-use Rattle.ln_bytes.specs.declared.short_id.ShortId.{ShortId}
-use Rattle.ln_bytes.specs.ShortId.{short_id_bytes}
+use Rattle.std.specs.Prelude.{ℕ, zero, suc, List, [], ◌++◌, Option, Some, None}
 use Rattle.ln_keys.specs.declared.role.Role.{Role}
-use Rattle.ln_keys.specs.declared.role.Role.TheVariants.{Funder, Fundee}
 use Rattle.ln_forward.specs.declared.checks.Policy.{Policy}
-use Rattle.ln_channel.specs.declared.opening.Terms.{Terms}
-use Rattle.ln_channel.specs.End.{End as ChannelEnd, is_ready}
+use Rattle.ln_channel.specs.End.{End as ChannelEnd}
 use Rattle.ln_channel.specs.Record.{saved_end}
-use Rattle.ln_channel.specs.State.{State, is_down}
-use Rattle.ln_tables.specs.declared.entry.Entry.TheVariants as entry
-use Rattle.ln_history.specs.History.{begun_with, with_entry}
+use Rattle.ln_channel.specs.State.{State}
+use Rattle.ln_history.specs.History.{begun_with}
 use Rattle.ln_tables.specs.Replay.{table_of}
-use Rattle.ln_readings.specs.Rebuild.{Reading, reading_of, rebuilt}
+use Rattle.ln_readings.specs.Rebuild.{Reading, rebuilt}
+use Rattle.ln_switch.specs.Uses.{use_of, with_use}
+use Rattle.ln_switch.specs.Readings.{reading_by}
 use Rattle.ln_channels.specs.declared.step.Node.{Node}
 use Rattle.ln_channels.specs.WorldChannel.{WorldChannel, side_of, place_of}
 use Rattle.ln_channels.specs.World.{channel}
@@ -22,30 +19,10 @@ use Rattle.ln_world.specs.Node.{Book, with_book}
 
 -- ---- one end
 
--- it is ready and connected, has neither failed nor halted, nor closed, and neither side has shut down
-abbrev pub takes_payments : {K : Type 0} → State K → ChannelEnd → Bool
-takes_payments l e =
-    not l.halted && (is_none l.failure && (not (is_down l.line) && (is_ready e
-    && (not e.closing.shut && (not e.closing.peer_shut && is_none e.closing.closed)))))
-
--- the least that the other end takes, in msat
-abbrev pub minimum_told : Role → Terms → ℕ
-minimum_told Funder t = t.accept_channel.htlc_minimum_msat
-minimum_told Fundee t = t.open_channel.htlc_minimum_msat
-
--- its short id is known once it has confirmed the channel
-abbrev pub with_route : Policy → ChannelEnd → Option ShortId → Book → Book
-with_route p e None b = b
-with_route p e (Some id) b = with_entry (entry.Route (short_id_bytes id.block id.tx id.output) (record {
-  channel = e.dance.channel;
-  policy = p;
-  minimum = minimum_told e.closing.role e.terms;
-})) b
-
+-- what is said of it, where both have signed its opening
 abbrev pub with_end : {K : Type 0} → Policy → State K → Option ChannelEnd → Book → Book
 with_end p l None b = b
-with_end p l (Some e) b =
-    with_entry (entry.Use e.dance.channel (takes_payments l e)) (with_route p e e.marks.short_id b)
+with_end p l (Some e) b = with_use p (use_of l e) b
 
 abbrev pub with_side : {K : Type 0} → Policy → WorldChannel K → Option Role → Book → Book
 with_side p c None b = b
@@ -68,13 +45,9 @@ followed cs x = with_book (followed_below 256 x.node x.policy cs x.book) x
 
 -- ---- what the book begins with, as the node starts
 
-abbrev pub reading_by : Option ChannelEnd → List Reading → List Reading
-reading_by None rs = rs
-reading_by (Some e) rs = rs ++ reading_of e ∷ []
-
 abbrev pub side_reading : {K : Type 0} → WorldChannel K → Option Role → List Reading → List Reading
 side_reading c None rs = rs
-side_reading c (Some side) rs = reading_by (saved_end (place_of side c.both).link.stage) rs
+side_reading c (Some side) rs = rs ++ reading_by (saved_end (place_of side c.both).link.stage)
 
 abbrev pub reading_in : {K : Type 0} → Node → Option (WorldChannel K) → List Reading → List Reading
 reading_in n None rs = rs

@@ -2,15 +2,16 @@
 -- hold as irrevocably committed.
 use Rattle.std.specs.Prelude.{ℕ, zero, suc, ◌+◌, ◌-◌, ◌*◌, List, [], ◌∷◌, length, Option, Some, None}
 use Rattle.std.specs.Prelude.{Result, Ok, Err}
-use Rattle.ln_msgs.specs.Refusals.Refusal.{refusal_number}
+use Rattle.ln_msgs.specs.declared.refusals.refusal.Refusal.{Refusal}
+use Rattle.ln_msgs.specs.declared.refusals.refusal.Refusal.TheVariants as refusal
 use Rattle.ln_log.specs.declared.mark.Mark.{Mark}
 use Rattle.ln_log.specs.declared.mark.Mark.TheVariants as mark
 use Rattle.ln_hooks.specs.declared.event.ChannelEvent.{ChannelEvent}
 use Rattle.ln_channel.specs.declared.command.Command.{Command}
 use Rattle.ln_channel.specs.declared.command.Command.TheVariants as command
 use Rattle.ln_channel.specs.End.{End as ChannelEnd}
-use Rattle.ln_readings.specs.Kept.{next_own_id}
 use Rattle.ln_book.specs.Settled.{with_settled}
+use Rattle.ln_switch.specs.Answers.{answer_to}
 use Rattle.ln_channels.specs.declared.line.Choice.{Choice}
 use Rattle.ln_channels.specs.declared.line.Choice.TheVariants as choice
 use Rattle.ln_channels.specs.declared.line.Line.{Line}
@@ -23,26 +24,16 @@ use Rattle.ln_world.specs.Node.{Book}
 
 -- ---- what an end has answered to a command
 
--- the HTLC that it is about, or the event: one that is offered gets the end's next id
-abbrev pub about : ℕ → Command → ℕ
-about next (command.Confirm id) = 0
-about next (command.Add amount hash expiry onion origin) = next
-about next (command.Fulfil id preimage) = id
-about next (command.Fail id reason) = id
-about next (command.Malformed id sha code) = id
-about next (command.Fee feerate) = 0
-about next command.Sign = 0
-about next (command.Shutdown script) = 0
-about next (command.Decide event mark) = event
-about next (command.Forget id) = id
-about next (command.Resume event mark) = event
+-- Whether it has done it, by what is told of that. Where nothing could be done it wasn't ready (40), as an end answers
+-- to a decision of an event that isn't its first undecided one.
+abbrev pub done_by : List Line → Result (Unit {0}) Refusal
+done_by (line.Refused e r ∷ ls) = Err r
+done_by (line.Idle ∷ ls) = Err refusal.NotReady
+done_by ls = Ok tt
 
--- the number of the refusal that is told, else what it is about. Where nothing could be done it wasn't ready (40), as
--- an end answers to a decision of an event that isn't its first undecided one
+-- what its book is told of a command that was about this
 abbrev pub answer_by : ℕ → List Line → Result ℕ ℕ
-answer_by id (line.Refused e r ∷ ls) = Err (refusal_number r)
-answer_by id (line.Idle ∷ ls) = Err 40
-answer_by id ls = Ok id
+answer_by id ls = answer_to id (done_by ls)
 
 -- ---- a decision, by what a report tells of it
 
@@ -82,10 +73,6 @@ decided_line e o answer = []
 abbrev pub told_count : Option ChannelEnd → ℕ
 told_count None = 0
 told_count (Some e) = e.ledger.decided + length e.ledger.undecided
-
-abbrev pub next_id : Option ChannelEnd → ℕ
-next_id None = 0
-next_id (Some e) = next_own_id e
 
 -- the book is told of an event of the channel with this id
 abbrev pub with_event : List ℕ → Option ChannelEvent → Book → Book

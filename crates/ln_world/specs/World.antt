@@ -2,7 +2,7 @@
 -- forwarded payments. A command that a book gives is one of its channel's end: what the channels and dispatchers make
 -- of it is said in ln_desks, by the steps of desks that each step is.
 use Rattle.std.specs.Prelude.{◌≡◌, ◌⊎◌, ℕ, List, [], ◌∷◌, ◌++◌, Bool, true, false, not, ◌&&◌, nat_le}
-use Rattle.std.specs.Prelude.{Option, Some, None, is_some, option_map, Result, Err, if◌then◌else◌}
+use Rattle.std.specs.Prelude.{Option, Some, None, is_some, option_map, Err, if◌then◌else◌}
 use Rattle.std.specs.List.{cons_option}
 use Rattle.ln_msgs.specs.declared.refusals.refusal.Refusal.{Refusal}
 use Rattle.ln_msgs.specs.declared.refusals.refusal.Refusal.TheVariants as refusal
@@ -19,13 +19,11 @@ use Rattle.ln_channel.specs.End.{End as ChannelEnd}
 use Rattle.ln_channel.specs.Record.{saved_end}
 use Rattle.ln_channel.specs.State.{State}
 use Rattle.ln_tables.specs.declared.entry.Out.{Out}
-use Rattle.ln_tables.specs.declared.entry.Told.{Told}
 use Rattle.ln_tables.specs.declared.entry.Entry.{Entry}
 use Rattle.ln_tables.specs.declared.entry.Entry.TheVariants as entry
 use Rattle.ln_history.specs.History.{with_entry}
-use Rattle.ln_tables.specs.Replay.{table_of, desk_at}
-use Rattle.ln_readings.specs.Kept.{told_by, next_own_id, has_own_removal, has_decided}
-use Rattle.ln_book.specs.Commands.{first_command, with_taken, with_answered}
+use Rattle.ln_tables.specs.Replay.{table_of}
+use Rattle.ln_book.specs.Commands.{first_command, with_taken}
 use Rattle.ln_book.specs.Marks.{offer_of, decision, resumption}
 use Rattle.ln_channels.specs.declared.line.Line.{Line}
 use Rattle.ln_channels.specs.declared.line.Line.TheVariants as line
@@ -49,7 +47,9 @@ use Rattle.ln_world.specs.declared.errand.Errand.{Errand}
 use Rattle.ln_world.specs.declared.errand.Errand.TheVariants as errand
 use Rattle.ln_world.specs.declared.node.NodeBook.{NodeBook}
 use Rattle.ln_world.specs.Node.{Book, services, node_at, changed, with_policy, with_book}
-use Rattle.ln_world.specs.Told.{about, answer_by, noted_of, decided_line, told_count, with_held, next_id}
+use Rattle.ln_switch.specs.Answers.{next_id, about, replied}
+use Rattle.ln_switch.specs.Uses.{with_dropped}
+use Rattle.ln_world.specs.Told.{answer_by, noted_of, decided_line, told_count, with_held}
 use Rattle.ln_world.specs.Follow.{followed, begun_anew}
 
 pub record World (K : Type 0) : Type 0 where
@@ -294,13 +294,10 @@ errand_of s w = errand.None
 abbrev pub follows : {K : Type 0} → Node → (Book → Book) → Desks K → List NodeBook → List NodeBook
 follows n f new xs = changed n (λ x. followed new.channels.channels (with_book (f x.book) x)) xs
 
--- the book hears an answer to the command that it has handed out for the end
-abbrev pub with_reply : End → Result ℕ ℕ → Book → Book
-with_reply e answer b = with_answered (id_of e) answer (desk_at (id_of e) (table_of b)) b
-
+-- the book is told the answer to the command that it has handed out for the end
 abbrev pub answered : End → Option Asked → List Line → Book → Book
 answered e None told b = b
-answered e (Some a) told b = with_reply e (answer_by a.about told) b
+answered e (Some a) told b = replied (id_of e) (answer_by a.about told) b
 
 -- and what the end has come to hold
 abbrev pub heard : {K : Type 0} → End → ℕ → Option Asked → List Line → Desks K → Book → Book
@@ -308,16 +305,12 @@ heard e before a told new b = with_held (id_of e) before (end_at e new) (answere
 
 -- one that has halted leaves its command in the book: it answers 62
 abbrev pub unanswered : End → Bool → Book → Book
-unanswered e out b = if out then with_reply e (Err 62) b else b
+unanswered e out b = if out then replied (id_of e) (Err 62) b else b
 
 -- what an end has kept, behind a lost connection
-abbrev pub told_of : End → ChannelEnd → Book → Told
-told_of e x b =
-    told_by (next_own_id x) (λ id. has_own_removal id x.dance.log) (λ n m. has_decided n m x) (id_of e) (table_of b)
-
 abbrev pub saved_dropped : End → Option ChannelEnd → Book → Book
 saved_dropped e None b = b
-saved_dropped e (Some x) b = with_entry (entry.Dropped (id_of e) (told_of e x b)) b
+saved_dropped e (Some x) b = with_dropped (id_of e) x b
 
 -- of one that has halted nothing is known before its node restarts
 abbrev pub dropped : {K : Type 0} → End → State K → Book → Book

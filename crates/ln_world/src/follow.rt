@@ -1,65 +1,24 @@
 //! A node's book follows the node's ends.
 
-ghost use Rattle.std.specs.Prelude.{◌≡◌, ◌++◌, OnOk, IfOk, IfErr, option_copied};
+ghost use Rattle.std.specs.Prelude.{◌≡◌, OnOk, IfOk, IfErr, option_copied};
 ghost use Rattle.ln_msgs.specs.declared.refusals.refusal.Refusal.TheVariants as refusal;
 ghost use Rattle.ln_channel.specs.Record.{saved_end};
 ghost use Rattle.ln_channels.specs.WorldChannel.{side_of};
 ghost use Rattle.ln_channels.specs.World.{channel};
-ghost use Rattle.ln_world.specs.Follow.{takes_payments, minimum_told, with_route, with_end, with_side, with_channel};
-ghost use Rattle.ln_world.specs.Follow.{followed_below, followed, reading_by, side_reading, reading_in, readings_below};
-ghost use Rattle.ln_world.specs.Follow.{begun_anew};
+ghost use Rattle.ln_world.specs.Follow.{with_end, with_side, with_channel, followed_below, followed};
+ghost use Rattle.ln_world.specs.Follow.{side_reading, reading_in, readings_below, begun_anew};
 
 use crate::node::NodeBook;
 use ln_book::Book;
-use ln_bytes::ShortId;
-use ln_channel::{Channel as ChannelEnd, Unsaved};
+use ln_channel::Unsaved;
 use ln_channels::{World as Channels, WorldChannel};
 use ln_desks::Node;
 use ln_forward::Policy;
 use ln_keys::{ChannelKeys, Role};
 use ln_msgs::Refusal;
 use ln_readings::Reading;
+use ln_switch::{read_end, use_of};
 use std::alloc::Global;
-
-// Whether a link takes payments: it works and is connected, its end is ready, and neither side has shut down.
-fn takes_payments<K: ChannelKeys + Copy>(link: &Unsaved<K>, end: &ChannelEnd) -> bool
-    ensures { result ≡ takes_payments link.now end.now }
-{
-    let closing = end.closing();
-    !link.is_halted()
-        && link.failure().is_none()
-        && !link.line().is_down()
-        && end.is_ready()
-        && !closing.shut
-        && !closing.peer_shut
-        && closing.closed.is_none()
-}
-
-// The least that the other end takes, in msat.
-fn minimum_told(end: &ChannelEnd) -> u64
-    ensures { result ≡ minimum_told end.now.closing.role end.now.terms }
-{
-    match end.closing().role {
-        Role::Funder => end.terms().accept_channel.htlc_minimum_msat,
-        Role::Fundee => end.terms().open_channel.htlc_minimum_msat,
-    }
-}
-
-// The book knows the channel by its short id, where that is known. 60 where there is no memory.
-fn set_route(
-    book: &mut Book,
-    policy: Policy,
-    end: &ChannelEnd,
-    id: Option<ShortId>,
-) -> Result<(), Refusal>
-    ensures set { OnOk result (book.new ≡ with_route policy end.now id book.old) }
-    ensures fails_for_memory_alone { IfErr result (λ e. e ≡ refusal.Memory) }
-{
-    match id {
-        None => Ok(()),
-        Some(id) => book.set_route(id, end.id(), policy, minimum_told(end)),
-    }
-}
 
 // The book follows a link's end, where both have signed its opening. 60 where there is no memory.
 fn follow_end<K: ChannelKeys + Copy>(
@@ -70,11 +29,10 @@ fn follow_end<K: ChannelKeys + Copy>(
     ensures followed { OnOk result (book.new ≡ with_end policy link.now (saved_end link.now.stage) book.old) }
     ensures fails_for_memory_alone { IfErr result (λ e. e ≡ refusal.Memory) }
 {
-    let Some(end) = link.saved() else {
-        return Ok(());
-    };
-    set_route(book, policy, end, end.marks().short_id)?;
-    book.set_usable(end.id(), takes_payments(link, end))
+    match link.saved() {
+        None => Ok(()),
+        Some(end) => ln_switch::follow(book, policy, use_of(link, end)),
+    }
 }
 
 fn follow_side<K: ChannelKeys + Copy>(
@@ -133,24 +91,6 @@ pub(crate) fn follow<K: ChannelKeys + Copy>(
     ensures fails_for_memory_alone { IfErr result (λ e. e ≡ refusal.Memory) }
 {
     follow_all(&mut node.book, node.node, node.policy, channels)
-}
-
-// Reads an end, where both have signed its opening. 60 where there is no memory.
-fn read_end(
-    alloc: Global,
-    end: Option<&ChannelEnd>,
-    readings: &mut Vec<Reading>,
-) -> Result<(), Refusal>
-    ensures read { OnOk result (readings.new.items ≡ reading_by (option_copied end.entry) readings.old.items) }
-    ensures fails_for_memory_alone { IfErr result (λ e. e ≡ refusal.Memory) }
-{
-    match end {
-        None => Ok(()),
-        Some(end) => {
-            readings.push(Reading::of(alloc, end)?)?;
-            Ok(())
-        }
-    }
 }
 
 fn read_side<K: ChannelKeys + Copy>(

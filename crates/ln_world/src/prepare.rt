@@ -4,7 +4,8 @@ ghost use Rattle.std.specs.Prelude.{◌≡◌, ◌≤◌, OnOk, IfOk, IfErr, Som
 ghost use Rattle.ln_msgs.specs.declared.refusals.refusal.Refusal.TheVariants as refusal;
 ghost use Rattle.ln_tables.specs.declared.entry.Entry.TheVariants as entry;
 ghost use Rattle.ln_world.specs.Node.{changed, with_policy};
-ghost use Rattle.ln_world.specs.Told.{told_count, next_id};
+ghost use Rattle.ln_switch.specs.Answers.{next_id};
+ghost use Rattle.ln_world.specs.Told.{told_count};
 ghost use Rattle.ln_world.specs.World.{entered, book_of, command_in, command_by, handed_or, handed_out};
 ghost use Rattle.ln_world.specs.World.{with_decision, resuming, resumed_at, resumes, refusing, asked};
 ghost use Rattle.ln_world.specs.World.{command_of, call_of, unbegun, asked_unbegun, asks_by, end_at};
@@ -17,7 +18,7 @@ use crate::call::end_at;
 use crate::errand::{Asked, Errand};
 use crate::node::{NodeBook, index_of, place_for};
 use crate::step::{Act, Step};
-use crate::told::{about, next_id, noted_of, told_count};
+use crate::told::{noted_of, told_count};
 use ln_book::Book;
 use ln_channel::Command;
 use ln_channels::{Act as ChannelAct, channel_id_of};
@@ -27,6 +28,7 @@ use ln_hooks::{ChannelEvent, Verdict};
 use ln_keys::{ChannelKeys, ToyOnion};
 use ln_log::Mark;
 use ln_msgs::Refusal;
+use ln_switch::{about, next_id};
 use ln_tables::Invoice;
 use std::alloc::Global;
 

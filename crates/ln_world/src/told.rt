@@ -3,9 +3,8 @@
 ghost use Rattle.std.specs.Prelude.{◌≡◌, ◌++◌, ◌-◌, OnOk, IfOk, IfErr, option_copied};
 ghost use Rattle.ln_msgs.specs.declared.refusals.refusal.Refusal.TheVariants as refusal;
 ghost use Rattle.ln_desks.specs.World.{undecided};
-ghost use Rattle.ln_world.specs.Told.{about, answer_by, byte_at, choice_of, noted_of, noted_line, decided_line};
-ghost use Rattle.ln_world.specs.Told.{told_count};
-ghost use Rattle.ln_world.specs.Told.{next_id, with_event, with_events, with_held};
+ghost use Rattle.ln_world.specs.Told.{done_by, answer_by, byte_at, choice_of, noted_of, noted_line, decided_line};
+ghost use Rattle.ln_world.specs.Told.{told_count, with_event, with_events, with_held};
 
 use crate::errand::Noted;
 use ln_book::Book;
@@ -13,33 +12,25 @@ use ln_channel::{Channel as ChannelEnd, Command};
 use ln_desks::{Choice, End, Line, undecided};
 use ln_log::{ChannelId, Mark};
 use ln_msgs::Refusal;
+use ln_switch::answer_to;
 use std::alloc::Global;
 
-/// What a command is about: an HTLC, or an event. One that is offered gets the end's next id.
-pub(crate) fn about(next: u64, command: &Command) -> u64
-    ensures { result ≡ about next command.now }
+// Whether an end has done what it was commanded, by what is told of that.
+fn done_by(told: &[Line]) -> Result<(), Refusal>
+    ensures { result ≡ done_by told.now }
 {
-    match command {
-        Command::Add { .. } => next,
-        Command::Fulfil { id, .. } => *id,
-        Command::Fail { id, .. } => *id,
-        Command::Malformed { id, .. } => *id,
-        Command::Decide { event, .. } => *event,
-        Command::Forget(id) => *id,
-        Command::Resume { event, .. } => *event,
-        _ => 0,
+    match told {
+        [Line::Refused(_, refusal), ..] => Err(*refusal),
+        [Line::Idle, ..] => Err(Refusal::NotReady),
+        _ => Ok(()),
     }
 }
 
-/// What an end has answered, by what is told of that: the number of its refusal, or what the command was about.
+/// What the book of an end is told of a command that was about this, by what is told of it.
 pub(crate) fn answer_by(id: u64, told: &[Line]) -> Result<u64, u16>
     ensures { result ≡ answer_by id told.now }
 {
-    match told {
-        [Line::Refused(_, refusal), ..] => Err(refusal.number()),
-        [Line::Idle, ..] => Err(40),
-        _ => Ok(id),
-    }
+    answer_to(id, done_by(told))
 }
 
 fn byte_at(place: usize, bytes: &[u8]) -> u8
@@ -119,16 +110,6 @@ pub(crate) fn told_count(end: Option<&ChannelEnd>) -> Result<u64, Refusal>
                 None => Err(Refusal::Memory),
             }
         }
-    }
-}
-
-/// The id of an end's next own HTLC.
-pub(crate) fn next_id(end: Option<&ChannelEnd>) -> u64
-    ensures { result ≡ next_id (option_copied end.entry) }
-{
-    match end {
-        None => 0,
-        Some(end) => end.dance().log().next_id(),
     }
 }
 

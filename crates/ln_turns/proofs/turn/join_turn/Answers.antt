@@ -1,7 +1,6 @@
-use Rattle.std.proofs.Common.{◌++◌, ◌∷◌, [], subst}
+use Rattle.std.proofs.Common.{◌∷◌, subst}
 use Rattle.ln_msgs.specs.Messages.Typed.{wire}
-use Rattle.ln_msgs.specs.Pings.CountedView.{inner_of}
-use Rattle.ln_turns.specs.Sent.{frames_of, sent}
+use Rattle.ln_turns.specs.Sent.{sent}
 use Rattle.ln_turns.specs.Turn.{Goes}
 use Rattle.ln_turns.proofs.Idle.{joins}
 use Rattle.ln_turns.proofs.turn.join_turn.Goals as goal
@@ -10,7 +9,7 @@ pub returns : goal.returns
 returns g c =
     joins g.E.End.acts _ _ _ _ _ _ _ _ _ _ c.connect-said.ensures c.apart-outputs.ensures.outputs
     c.apart-outputs.ensures.answer
-    (subst (λ os. Goes (frames_of (wire c.args.greeting.now ∷ []) ++ frames_of (sent os)) c.send-written.result
-    (g.W.Write.contents (inner_of c.args.writer.now)) (g.W.Write.contents (inner_of c.send-written.new.writer)))
+    (subst (λ os. Goes (wire c.args.greeting.now ∷ sent os) c.send-written.result
+    (g.L.Carries.line c.args.line.now) (g.L.Carries.line c.send-written.new.line))
     c.as_slice.ensures.value c.send-written.ensures)
     c.over.ensures.written c.over.ensures.answered

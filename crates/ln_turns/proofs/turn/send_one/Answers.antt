@@ -1,7 +1,6 @@
-use Rattle.std.proofs.Common.{◌≡◌, ◌++◌, [], subst, IfOk, option_to_list, option_map}
+use Rattle.std.proofs.Common.{◌≡◌, ◌++◌, [], subst, IfOk, IfErr, inl, refl, option_to_list, option_map}
 use Rattle.ln_msgs.specs.Messages.Typed.{wire}
-use Rattle.ln_msgs.specs.Pings.CountedView.{inner_of}
-use Rattle.ln_turns.specs.Sent.{frames_of}
+use Rattle.ln_msgs.specs.declared.refusals.refusal.Refusal.TheVariants as refusal
 use Rattle.ln_turns.specs.Turn.{Goes}
 use Rattle.ln_turns.proofs.Idle.{sends_only}
 use Rattle.ln_turns.proofs.turn.send_one.Goals as goal
@@ -10,6 +9,10 @@ pub returns-in-Ok : goal.returns-in-Ok
 returns-in-Ok g c ws is =
     sends_only (option_to_list (option_map wire c.in-Ok.first)) ws c.send-written.result _ _
     (subst (λ r. IfOk r (λ m. option_to_list (option_map wire m) ≡ ws)) c.in-Ok.is is)
-    (subst (λ o. Goes (frames_of (option_to_list (option_map wire o)) ++ frames_of []) c.send-written.result
-    (g.W.Write.contents (inner_of c.args.writer.now)) (g.W.Write.contents (inner_of c.send-written.new.writer)))
+    (subst (λ o. Goes (option_to_list (option_map wire o) ++ []) c.send-written.result
+    (g.L.Carries.line c.args.line.now) (g.L.Carries.line c.send-written.new.line))
     c.as_ref.ensures.value c.send-written.ensures)
+
+pub returns-in-Err : goal.returns-in-Err
+returns-in-Err g c ws is =
+    inl (inl (subst (λ r. IfErr r (λ e. e ≡ refusal.Memory)) c.in-Err.is c.requires.fails_for_memory_alone), refl)

@@ -1,6 +1,5 @@
 use Rattle.std.proofs.Common.{subst}
-use Rattle.ln_msgs.specs.Pings.CountedView.{inner_of}
-use Rattle.ln_turns.specs.Sent.{frames_of, sent}
+use Rattle.ln_turns.specs.Sent.{sent}
 use Rattle.ln_turns.specs.Turn.{Goes}
 use Rattle.ln_turns.proofs.Idle.{goes-apart}
 use Rattle.ln_turns.proofs.turn.send_only.Goals as goal
@@ -8,7 +7,7 @@ use Rattle.ln_turns.proofs.turn.send_only.Goals as goal
 pub returns-clause-writes : goal.returns-clause-writes
 returns-clause-writes g c =
     goes-apart _ _ _ _ _ _ _ c.apart-outputs.ensures.outputs c.apart-outputs.ensures.answer
-    (subst (λ os. Goes (frames_of (sent os)) c.send-written.result
-    (g.W.Write.contents (inner_of c.args.writer.now)) (g.W.Write.contents (inner_of c.send-written.new.writer)))
+    (subst (λ os. Goes (sent os) c.send-written.result
+    (g.L.Carries.line c.args.line.now) (g.L.Carries.line c.send-written.new.line))
     c.as_slice.ensures.value c.send-written.ensures)
     c.over.ensures.written c.over.ensures.answered

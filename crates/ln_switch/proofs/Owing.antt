@@ -1,0 +1,615 @@
+-- What a book owes a channel, before a command is handed out and after it was answered or lost.
+use Rattle.std.proofs.Common.{◌≡◌, ◌⊎◌, ◌++◌, ◌∷◌, [], ℕ, ◌<◌, ◌≤◌, List, map, Bool, true, false, Option, Some, None}
+use Rattle.std.proofs.Common.{Result, Ok, Err, refl, sym, ap, ◌∙◌, subst, arith, cond, inl, inr, ◌==◌, nat_lt, nat_le}
+use Rattle.std.proofs.Common.{ltb-false, leb-true}
+use Rattle.std.proofs.lemmas.Bool.{eqb-true}
+use Rattle.std.specs.Prelude.{not, ◌&&◌, ◌||◌, nat_eq, is_some}
+use Rattle.std.specs.List.{find}
+use Rattle.std.specs.Map.{lookup}
+use Rattle.indexmap.specs.IndexMap.{insert_entry}
+use lib.Pointwise.{bytes_decides}
+use Rattle.ln_log.specs.declared.mark.Mark.{Mark}
+use Rattle.ln_log.specs.declared.mark.Mark.TheVariants as mark
+use Rattle.ln_forward.specs.declared.failure.Failure.TheVariants as failure
+use Rattle.ln_forward.specs.Failure.{failure_bytes}
+use Rattle.ln_channel.specs.declared.command.Command.{Command}
+use Rattle.ln_channel.specs.declared.command.Command.TheVariants as command
+use Rattle.ln_tables.specs.declared.htlc.Key.{Key}
+use Rattle.ln_tables.specs.declared.htlc.Way.{Way}
+use Rattle.ln_tables.specs.declared.htlc.Way.TheVariants as way
+use Rattle.ln_tables.specs.declared.htlc.Back.{Back}
+use Rattle.ln_tables.specs.declared.htlc.Back.TheVariants as back
+use Rattle.ln_tables.specs.declared.htlc.Htlc.{Htlc}
+use Rattle.ln_tables.specs.declared.entry.Queued.{Queued}
+use Rattle.ln_tables.specs.declared.entry.Out.{Out}
+use Rattle.ln_tables.specs.declared.entry.Out.TheVariants as out
+use Rattle.ln_tables.specs.declared.entry.Desk.{Desk}
+use Rattle.ln_tables.specs.declared.entry.Desk.TheVariants as desk
+use Rattle.ln_tables.specs.declared.entry.Told.{Told}
+use Rattle.ln_tables.specs.declared.entry.Entry.{Entry}
+use Rattle.ln_tables.specs.declared.entry.Entry.TheVariants as entry
+use Rattle.ln_history.specs.History.{History, with_entry}
+use Rattle.ln_tables.specs.Replay.{Table, table_of, replay, after, same, same_key, desk_of, desk_at, with_desk, is_htlc}
+use Rattle.ln_tables.specs.Replay.{changed_first, put_way, put_back, answered_out, answered_at, is_settled, is_nowhere}
+use Rattle.ln_tables.specs.Replay.{is_open, is_way_lost, is_among, back_kept, htlc_kept, kept_out, kept_at}
+use Rattle.ln_tables.specs.Replay.{put_back_all}
+use Rattle.ln_tables.specs.Replay.{is_later, refused, left_out}
+use Rattle.ln_book.specs.Commands.{Services, is_over_in, forwards_in, is_told_by, has_removal, due, removal_by, add_of}
+use Rattle.ln_book.specs.Commands.{with_out, command_by, command_of, or_next, first_due, is_queued_in, queued_command}
+use Rattle.ln_book.specs.Commands.{first_of, first_at, first_command, with_taken, with_answered}
+use Rattle.ln_switch.specs.Answers.{replied}
+use Rattle.ln_switch.specs.Owing.{IsIn, Owes, is_lost}
+
+-- ---- a channel's desk
+
+same-refl : (c : List ℕ) → same c c ≡ true
+same-refl c = (bytes_decides c c).1 refl
+
+put-by : (b : Bool) (c k : List ℕ) (d v : Desk) (es : List (List ℕ × Desk)) → same c k ≡ b
+    → lookup (same c) (insert_entry same es c d) ≡ Some d
+    → lookup (same c) (cond b ((k, d) ∷ es) ((k, v) ∷ insert_entry same es c d)) ≡ Some d
+put-by true c k d v es is rest = ap (λ q. cond q (Some d) (lookup (same c) es)) is
+put-by false c k d v es is rest =
+    ap (λ q. cond q (Some v) (lookup (same c) (insert_entry same es c d))) is ∙ rest
+
+put-there : (c : List ℕ) (d : Desk) (es : List (List ℕ × Desk)) → lookup (same c) (insert_entry same es c d) ≡ Some d
+put-there c d [] = ap (λ q. cond q (Some d) None) (same-refl c)
+put-there c d ((k, v) ∷ es) = put-by (same c k) c k d v es refl (put-there c d es)
+
+desk-here : (c : List ℕ) (d : Desk) (t : Table) → desk_at c (with_desk c d t) ≡ d
+desk-here c d t = ap desk_of (put-there c d t.desks)
+
+-- ---- what one entry more makes of a table
+
+replayed : (t : Table) (es : List Entry) (e : Entry) → replay t (es ++ e ∷ []) ≡ after (replay t es) e
+replayed t [] e = refl
+replayed t (x ∷ es) e = replayed (after t x) es e
+
+entered : (b : History Table Entry) (e : Entry) → table_of (with_entry e b) ≡ after (table_of b) e
+entered b e = replayed b.start b.entries e
+
+replied-out : (c : List ℕ) (a : Result ℕ ℕ) (b : History Table Entry) (o : Out) → desk_at c (table_of b) ≡ desk.Out o
+    → table_of (replied c a b) ≡ answered_out c a o (table_of b)
+replied-out c a b o is =
+    ap (λ d. table_of (with_answered c a d b)) is ∙ entered b (entry.Answered c a)
+    ∙ ap (λ d. answered_at c a d (table_of b)) is
+
+out-then : (c : List ℕ) (b : History Table Entry) (x : Out × Command)
+    → desk_at c (table_of (with_taken c (Some x) b)) ≡ desk.Out (x.0)
+out-then c b x =
+    ap (desk_at c) (entered b (entry.Taken c (x.0))) ∙ desk-here c (desk.Out (x.0)) (table_of b)
+
+-- ---- the first command
+
+first-by : (s : Services) (c : List ℕ) (d : Desk) (t : Table) (x : Out × Command) → first_at s c d t ≡ Some x
+    → first_of s c (find (is_queued_in c) t.queue) t.htlcs ≡ Some x
+first-by s c desk.Idle t x e = e
+first-by s c (desk.Out o) t x e = cc
+first-by s c (desk.Unsure o) t x e = cc
+
+later : (c : List ℕ) (o : Out) (t : Table) (r : ℕ) → (r ≡ 47) ⊎ (r ≡ 62)
+    → answered_out c (Err r) o t ≡ with_desk c desk.Idle t
+later c o t r (inl e) = ap (λ n. answered_out c (Err n) o t) e
+later c o t r (inr e) = ap (λ n. answered_out c (Err n) o t) e
+
+pub again : (s : Services) (c : List ℕ) (b : History Table Entry) (x : Out × Command) (r : ℕ)
+    → first_command s c (table_of b) ≡ Some x → (r ≡ 47) ⊎ (r ≡ 62)
+    → first_command s c (table_of (replied c (Err r) (with_taken c (Some x) b))) ≡ Some x
+again s c b x r first when =
+    let t = table_of b in
+    let taken = with_taken c (Some x) b in
+    let idle = with_desk c desk.Idle (with_desk c (desk.Out (x.0)) t) in
+    let made : table_of (replied c (Err r) taken) ≡ idle =
+    replied-out c (Err r) taken (x.0) (out-then c b x) ∙ later c (x.0) (table_of taken) r when
+    ∙ ap (with_desk c desk.Idle) (entered b (entry.Taken c (x.0))) in
+    ap (first_command s c) made
+    ∙ ap (λ d. first_at s c d idle) (desk-here c desk.Idle (with_desk c (desk.Out (x.0)) t))
+    ∙ first-by s c (desk_at c t) t x first
+
+-- ---- lists
+
+module _ {A : Type 0} (p : A → Bool) where
+  found-by : (b : Bool) (x : A) (xs : List A) (q : A) → p x ≡ b → cond b (Some x) (find p xs) ≡ Some q
+      → (find p xs ≡ Some q → IsIn q xs × (p q ≡ true)) → IsIn q (x ∷ xs) × (p q ≡ true)
+  found-by true x xs q is e rest = let at : x ≡ q = cc in (inl (sym at), ap p (sym at) ∙ is)
+  found-by false x xs q is e rest = let r = rest e in (inr r.0, r.1)
+
+  found-in : (xs : List A) (q : A) → find p xs ≡ Some q → IsIn q xs × (p q ≡ true)
+  found-in [] q e = cc
+  found-in (x ∷ xs) q e = found-by (p x) x xs q refl e (λ r. found-in xs q r)
+
+  there-by : (b : Bool) (x : A) (xs : List A) (q : A) → p x ≡ b → (x ≡ q) ⊎ (is_some (find p xs) ≡ true) → p q ≡ true
+      → is_some (cond b (Some x) (find p xs)) ≡ true
+  there-by true x xs q is here passes = refl
+  there-by false x xs q is (inl at) passes = let both-ways : true ≡ false = sym passes ∙ ap p (sym at) ∙ is in cc
+  there-by false x xs q is (inr r) passes = r
+
+  -- where one that passes is among them, one is found
+  pub some-found : (xs : List A) (q : A) → IsIn q xs → p q ≡ true → is_some (find p xs) ≡ true
+  some-found [] q i passes = absurd i
+  some-found (x ∷ xs) q (inl e) passes = there-by (p x) x xs q refl (inl (sym e)) passes
+  some-found (x ∷ xs) q (inr i) passes = there-by (p x) x xs q refl (inr (some-found xs q i passes)) passes
+
+  changed-by : (f : A → A) (b : Bool) (x : A) (xs : List A) (q : A) → p x ≡ b → p (f x) ≡ p x
+      → cond b (Some x) (find p xs) ≡ Some q
+      → (find p xs ≡ Some q → find p (changed_first p f xs) ≡ Some (f q))
+      → find p (cond b (f x ∷ xs) (x ∷ changed_first p f xs)) ≡ Some (f q)
+  changed-by f true x xs q is alike e rest =
+      let at : x ≡ q = cc in ap (λ b. cond b (Some (f x)) (find p xs)) (alike ∙ is) ∙ ap (λ y. Some (f y)) at
+  changed-by f false x xs q is alike e rest =
+      ap (λ b. cond b (Some x) (find p (changed_first p f xs))) is ∙ rest e
+
+  -- the first one that passes is changed, and still passes
+  pub changed-found : (f : A → A) → ((x : A) → p (f x) ≡ p x) → (xs : List A) (q : A) → find p xs ≡ Some q
+      → find p (changed_first p f xs) ≡ Some (f q)
+  changed-found f alike [] q e = cc
+  changed-found f alike (x ∷ xs) q e =
+      changed-by f (p x) x xs q refl (alike x) e (λ r. changed-found f alike xs q r)
+
+  in-changed-by : (f : A → A) (b : Bool) (x : A) (xs : List A) (q : A)
+      → (q ≡ x) ⊎ (IsIn q xs × (IsIn q (changed_first p f xs) ⊎ IsIn (f q) (changed_first p f xs)))
+      → IsIn q (cond b (f x ∷ xs) (x ∷ changed_first p f xs))
+      ⊎ IsIn (f q) (cond b (f x ∷ xs) (x ∷ changed_first p f xs))
+  in-changed-by f true x xs q (inl e) = inr (inl (ap f e))
+  in-changed-by f false x xs q (inl e) = inl (inl e)
+  in-changed-by f true x xs q (inr r) = inl (inr r.0)
+  in-changed-by f false x xs q (inr (i, inl r)) = inl (inr r)
+  in-changed-by f false x xs q (inr (i, inr r)) = inr (inr r)
+
+  in-changed : (f : A → A) (xs : List A) (q : A) → IsIn q xs
+      → IsIn q (changed_first p f xs) ⊎ IsIn (f q) (changed_first p f xs)
+  in-changed f [] q i = absurd i
+  in-changed f (x ∷ xs) q (inl e) = in-changed-by f (p x) x xs q (inl e)
+  in-changed f (x ∷ xs) q (inr i) = in-changed-by f (p x) x xs q (inr (i, in-changed f xs q i))
+
+in-map : {A B : Type 0} (f : A → B) (xs : List A) (q : A) → IsIn q xs → IsIn (f q) (map f xs)
+in-map f [] q i = absurd i
+in-map f (x ∷ xs) q (inl e) = inl (ap f e)
+in-map f (x ∷ xs) q (inr i) = inr (in-map f xs q i)
+
+-- ---- what an HTLC is due
+
+abbrev due-by : Bool → Bool → Bool → Bool → Bool → Key → Option Out
+due-by decided settled over offers removes k =
+    cond (not decided) None
+    (cond settled (cond over (Some (out.Forgetting k)) None)
+    (cond offers (Some (out.Adding k)) (cond removes (Some (out.Removing k)) None)))
+
+-- which it is
+data DueAs (decided settled over offers removes : Bool) (k : Key) (o : Out) : Type 0 where
+  forgets : decided ≡ true → settled ≡ true → over ≡ true → o ≡ out.Forgetting k
+      → DueAs decided settled over offers removes k o
+  adds : decided ≡ true → settled ≡ false → offers ≡ true → o ≡ out.Adding k
+      → DueAs decided settled over offers removes k o
+  takes : decided ≡ true → settled ≡ false → offers ≡ false → removes ≡ true → o ≡ out.Removing k
+      → DueAs decided settled over offers removes k o
+
+due-as : (d s v f r : Bool) (k : Key) (o : Out) → due-by d s v f r k ≡ Some o → DueAs d s v f r k o
+due-as false s v f r k o e = cc
+due-as true true true f r k o e = forgets refl refl refl cc
+due-as true true false f r k o e = cc
+due-as true false v true r k o e = adds refl refl refl cc
+due-as true false v false true k o e = takes refl refl refl refl cc
+due-as true false v false false k o e = cc
+
+abbrev offers : List ℕ → Htlc → Bool
+offers c h = is_nowhere h.way && forwards_in c h.mark
+
+abbrev removes : List ℕ → Htlc → Bool
+removes c h = has_removal h.mark h.way && (is_open h.back && same c h.key.channel)
+
+due-of : (c : List ℕ) (h : Htlc) (o : Out) → due c h ≡ Some o
+    → DueAs h.decided (is_settled h.back) (is_over_in c h.way) (offers c h) (removes c h) h.key o
+due-of c h o e = due-as h.decided (is_settled h.back) (is_over_in c h.way) (offers c h) (removes c h) h.key o e
+
+due-so : (d s v f r : Bool) (k : Key) (o : Option Out) (d' s' v' f' r' : Bool) → d' ≡ d → s' ≡ s → v' ≡ v → f' ≡ f
+    → r' ≡ r → due-by d s v f r k ≡ o → due-by d' s' v' f' r' k ≡ o
+due-so d s v f r k o d' s' v' f' r' ed es ev ef er e =
+    ap (λ b. due-by b s' v' f' r' k) ed ∙ ap (λ b. due-by d b v' f' r' k) es ∙ ap (λ b. due-by d s b f' r' k) ev
+    ∙ ap (λ b. due-by d s v b r' k) ef ∙ ap (λ b. due-by d s v f b k) er ∙ e
+
+-- the HTLC of an offer that was answered isn't due one
+not-nowhere : (c : List ℕ) (h : Htlc) (k : Key) → is_nowhere h.way ≡ false → due c h ≡ Some (out.Adding k) → ⊥
+not-nowhere c h k here e =
+    elim (due-of c h (out.Adding k) e) [
+      | forgets d s v o ↦ cc
+      | adds d s f o ↦ (let yes : true ≡ false = sym f ∙ ap (λ b. b && forwards_in c h.mark) here in cc)
+      | takes d s f r o ↦ cc
+    ]
+
+-- ---- a channel that has lost a command
+
+module _ (c : List ℕ) (told : Told) where
+  abbrev kept : Way → Way
+  kept w = cond (is_way_lost c told.next w) way.Nowhere w
+
+  offers-on : (w : Way) (f : Bool) → (is_nowhere w && f) ≡ true → (is_nowhere (kept w) && f) ≡ true
+  offers-on way.Nowhere f e = e
+  offers-on way.Refused f e = cc
+  offers-on (way.Offered k) f e = cc
+  offers-on (way.Over k h) f e = cc
+
+  over-on : (w : Way) → is_over_in c w ≡ true → is_over_in c (kept w) ≡ true
+  over-on way.Nowhere e = cc
+  over-on way.Refused e = cc
+  over-on (way.Offered k) e = cc
+  over-on (way.Over k h) e = e
+
+  open-on : (b : Bool) (k : Back) → is_settled k ≡ false → is_settled (back_kept b k) ≡ false
+  open-on b back.Open e = refl
+  open-on true back.Sent e = refl
+  open-on false back.Sent e = refl
+  open-on b back.Gone e = refl
+  open-on b back.Settled e = cc
+
+  settled-on : (b : Bool) (k : Back) → is_settled k ≡ true → is_settled (back_kept b k) ≡ true
+  settled-on b back.Open e = cc
+  settled-on b back.Sent e = cc
+  settled-on b back.Gone e = cc
+  settled-on b back.Settled e = refl
+
+  and-false : (b : Bool) → (b && false) ≡ false
+  and-false true = refl
+  and-false false = refl
+
+  both : (a b : Bool) → (a && b) ≡ true → (a ≡ true) × (b ≡ true)
+  both true b e = (refl, e)
+  both false b e = (cc, cc)
+
+  still-none : (m : Mark) (w : Way) → has_removal m w ≡ true → (is_nowhere (kept w) && forwards_in c m) ≡ false
+  still-none mark.None w e = cc
+  still-none (mark.Forward d a x) way.Nowhere e = cc
+  still-none (mark.Forward d a x) way.Refused e = refl
+  still-none (mark.Forward d a x) (way.Offered k) e = cc
+  still-none (mark.Forward d a x) (way.Over k h) e = refl
+  still-none (mark.Fail r) w e = and-false (is_nowhere (kept w))
+  still-none (mark.Malformed n) w e = and-false (is_nowhere (kept w))
+  still-none (mark.Fulfil p) w e = and-false (is_nowhere (kept w))
+  still-none (mark.Held n) w e = cc
+
+  removal-on : (m : Mark) (w : Way) → has_removal m w ≡ true → has_removal m (kept w) ≡ true
+  removal-on mark.None w e = cc
+  removal-on (mark.Forward d a x) way.Nowhere e = cc
+  removal-on (mark.Forward d a x) way.Refused e = refl
+  removal-on (mark.Forward d a x) (way.Offered k) e = cc
+  removal-on (mark.Forward d a x) (way.Over k h) e = refl
+  removal-on (mark.Fail r) w e = refl
+  removal-on (mark.Malformed n) w e = refl
+  removal-on (mark.Fulfil p) w e = refl
+  removal-on (mark.Held n) w e = cc
+
+  removal-same : (s : Services) (h : Htlc) (b : Back) (m : Mark) (w : Way) → has_removal m w ≡ true
+      → removal_by s (record h { way = kept w; back = b }) m ≡ removal_by s (record h { way = w; back = h.back }) m
+  removal-same s h b mark.None w e = cc
+  removal-same s h b (mark.Forward d a x) way.Nowhere e = cc
+  removal-same s h b (mark.Forward d a x) way.Refused e = refl
+  removal-same s h b (mark.Forward d a x) (way.Offered k) e = cc
+  removal-same s h b (mark.Forward d a x) (way.Over k g) e = refl
+  removal-same s h b (mark.Fail r) w e = refl
+  removal-same s h b (mark.Malformed n) w e = refl
+  removal-same s h b (mark.Fulfil p) w e = refl
+  removal-same s h b (mark.Held n) w e = cc
+
+  -- an HTLC whose removal was lost is due it again
+  back-open : (b : Bool) (k : Back) → is_open k ≡ true → is_open (back_kept b k) ≡ true
+  back-open b back.Open e = refl
+  back-open b back.Sent e = cc
+  back-open b back.Gone e = cc
+  back-open b back.Settled e = cc
+
+  lost-again : (b : Bool) → b ≡ false → is_open (back_kept b back.Sent) ≡ true
+  lost-again b e = ap (λ q. is_open (back_kept q back.Sent)) e
+
+  not-settled : (k : Back) → is_open k ≡ true → is_settled k ≡ false
+  not-settled back.Open e = refl
+  not-settled back.Sent e = cc
+  not-settled back.Gone e = cc
+  not-settled back.Settled e = cc
+
+  due-removal : (s : Services) (h : Htlc) (b : Back) (x : Out × Command) → h.decided ≡ true
+      → removes c h ≡ true → is_open b ≡ true → with_out (out.Removing h.key) (removal_by s h h.mark) ≡ Some x
+      → command_by s (record h { way = kept h.way; back = b }) (due c (record h { way = kept h.way; back = b }))
+      ≡ Some x
+  due-removal s h b x decided removing opened e =
+      let r = both (has_removal h.mark h.way) (is_open h.back && same c h.key.channel) removing in
+      let q = both (is_open h.back) (same c h.key.channel) r.1 in
+      let g = record h { way = kept h.way; back = b } in
+      ap (command_by s g) (due-so true false (is_over_in c g.way) false true h.key (Some (out.Removing h.key))
+      h.decided (is_settled b) (is_over_in c g.way) (offers c g) (removes c g) decided (not-settled b opened) refl
+      (still-none h.mark h.way r.0)
+      (ap (λ z. z && (is_open b && same c h.key.channel)) (removal-on h.mark h.way r.0)
+      ∙ ap (λ z. z && same c h.key.channel) opened ∙ q.1) refl)
+      ∙ ap (with_out (out.Removing h.key)) (removal-same s h b h.mark h.way r.0) ∙ e
+
+  -- ---- what is lost
+
+  abbrev lost-table : Out → Table → Table
+  lost-table o t = put_back_all c told (kept_out c false o t)
+
+  queue-on : (o : Out) (t : Table) → (lost-table o t).queue ≡ t.queue
+  queue-on (out.Deciding n) t = refl
+  queue-on (out.Adding k) t = refl
+  queue-on (out.Removing k) t = refl
+  queue-on (out.Forgetting k) t = refl
+  queue-on (out.Resuming n) t = refl
+
+  out-is : (o : Out) (m : Option Command) (x : Out × Command) → with_out o m ≡ Some x → x.0 ≡ o
+  out-is o None x e = cc
+  out-is o (Some m) x e = let at : (o, m) ≡ x = cc in ap (λ (p : Out × Command). p.0) (sym at)
+
+  forget-same : (s : Services) (h : Htlc) (b : Back) (w : Way) → is_over_in c w ≡ true
+      → command_by s (record h { way = kept w; back = b }) (Some (out.Forgetting h.key))
+      ≡ command_by s (record h { way = w; back = h.back }) (Some (out.Forgetting h.key))
+  forget-same s h b way.Nowhere e = cc
+  forget-same s h b way.Refused e = cc
+  forget-same s h b (way.Offered k) e = cc
+  forget-same s h b (way.Over k g) e = refl
+
+  not-not : (b : Bool) → not b ≡ true → b ≡ false
+  not-not true e = cc
+  not-not false e = refl
+
+  -- it is in the list as it was, or with its removal sent
+  lost-removal : (s : Services) (t : Table) (h : Htlc) (o : Out) (x : Out × Command) → IsIn h t.htlcs
+      → o ≡ out.Removing h.key → h.decided ≡ true → removes c h ≡ true → command_by s h (Some o) ≡ Some x
+      → is_lost o told ≡ true
+      → (g : Htlc) × IsIn g (lost-table o t).htlcs × (command_by s g (due c g) ≡ Some x)
+  lost-removal s t h o x i is d r e lost =
+      let parts = both (has_removal h.mark h.way) (is_open h.back && same c h.key.channel) r in
+      let ends = both (is_open h.back) (same c h.key.channel) parts.1 in
+      let gone : is_among h.key.id told.removes ≡ false =
+      not-not (is_among h.key.id told.removes) (ap (λ y. is_lost y told) (sym is) ∙ lost) in
+      let out-then : with_out (out.Removing h.key) (removal_by s h h.mark) ≡ Some x =
+      ap (λ y. command_by s h (Some y)) (sym is) ∙ e in
+      let b = not (same c h.key.channel) || is_among h.key.id told.removes in
+      let none : b ≡ false =
+      ap (λ y. not y || is_among h.key.id told.removes) ends.1 ∙ gone in
+      elim (in-changed (is_htlc h.key) (put_back back.Sent) t.htlcs h i) [
+        | inl j ↦ (
+          htlc_kept c told h,
+          subst (λ y. IsIn (htlc_kept c told h) (lost-table y t).htlcs) (sym is)
+              (in-map (htlc_kept c told) (changed_first (is_htlc h.key) (put_back back.Sent) t.htlcs) h j),
+          due-removal s h (back_kept b h.back) x d r (back-open b h.back ends.0) out-then,
+        )
+        | inr j ↦ (
+          htlc_kept c told (put_back back.Sent h),
+          subst (λ y. IsIn (htlc_kept c told (put_back back.Sent h)) (lost-table y t).htlcs) (sym is)
+              (in-map (htlc_kept c told) (changed_first (is_htlc h.key) (put_back back.Sent) t.htlcs)
+              (put_back back.Sent h) j),
+          due-removal s h (back_kept b back.Sent) x d r (lost-again b none) out-then,
+        )
+      ]
+
+  lost-htlc : (s : Services) (t : Table) (h : Htlc) (o : Out) (x : Out × Command) → IsIn h t.htlcs
+      → due c h ≡ Some o → command_by s h (Some o) ≡ Some x → is_lost o told ≡ true
+      → (g : Htlc) × IsIn g (lost-table o t).htlcs × (command_by s g (due c g) ≡ Some x)
+  lost-htlc s t h o x i due-is e lost =
+      let b = not (same c h.key.channel) || is_among h.key.id told.removes in
+      elim (due-of c h o due-is) [
+        | forgets d st v is ↦ (
+          htlc_kept c told h,
+          subst (λ y. IsIn (htlc_kept c told h) (lost-table y t).htlcs) (sym is)
+              (in-map (htlc_kept c told) t.htlcs h i),
+          ap (command_by s (htlc_kept c told h))
+              (due-so true true true (offers c (htlc_kept c told h)) (removes c (htlc_kept c told h)) h.key
+              (Some (out.Forgetting h.key)) h.decided (is_settled (back_kept b h.back)) (is_over_in c (kept h.way))
+              (offers c (htlc_kept c told h)) (removes c (htlc_kept c told h)) d (settled-on b h.back st)
+              (over-on h.way v) refl refl refl)
+              ∙ forget-same s h (back_kept b h.back) h.way v ∙ ap (λ y. command_by s h (Some y)) (sym is) ∙ e,
+        )
+        | adds d st f is ↦ (
+          htlc_kept c told h,
+          subst (λ y. IsIn (htlc_kept c told h) (lost-table y t).htlcs) (sym is)
+              (in-map (htlc_kept c told) t.htlcs h i),
+          ap (command_by s (htlc_kept c told h))
+              (due-so true false (is_over_in c (kept h.way)) true (removes c (htlc_kept c told h)) h.key
+              (Some (out.Adding h.key)) h.decided (is_settled (back_kept b h.back)) (is_over_in c (kept h.way))
+              (offers c (htlc_kept c told h)) (removes c (htlc_kept c told h)) d (open-on b h.back st) refl
+              (offers-on h.way (forwards_in c h.mark) f) refl refl)
+              ∙ ap (λ y. command_by s h (Some y)) (sym is) ∙ e,
+        )
+        | takes d st f r is ↦ lost-removal s t h o x i is d r e lost
+      ]
+
+  -- a first command is a decision that is queued, or what an HTLC is due
+  due-in-by : (s : Services) (h : Htlc) (hs : List Htlc) (x : Out × Command) (o : Option (Out × Command))
+      → command_by s h (due c h) ≡ o → or_next o (first_due s c hs) ≡ Some x
+      → (first_due s c hs ≡ Some x → (g : Htlc) × IsIn g hs × (command_by s g (due c g) ≡ Some x))
+      → (g : Htlc) × IsIn g (h ∷ hs) × (command_by s g (due c g) ≡ Some x)
+  due-in-by s h hs x None is e rest = let r = rest e in (r.0, inr r.1, r.2)
+  due-in-by s h hs x (Some y) is e rest = (h, inl refl, is ∙ e)
+
+  due-in : (s : Services) (hs : List Htlc) (x : Out × Command) → first_due s c hs ≡ Some x
+      → (g : Htlc) × IsIn g hs × (command_by s g (due c g) ≡ Some x)
+  due-in s [] x e = cc
+  due-in s (h ∷ hs) x e =
+      due-in-by s h hs x (command_by s h (due c h)) refl e (λ r. due-in s hs x r)
+
+  lost-due : (s : Services) (t : Table) (h : Htlc) (o : Option Out) (x : Out × Command) → IsIn h t.htlcs
+      → due c h ≡ o → command_by s h o ≡ Some x → is_lost (x.0) told ≡ true
+      → (g : Htlc) × IsIn g (lost-table (x.0) t).htlcs × (command_by s g (due c g) ≡ Some x)
+  lost-due s t h None x i is e lost = cc
+  lost-due s t h (Some o) x i is e lost =
+      let at : x.0 ≡ o = out-is o (command_of s h o) x e in
+      subst (λ y. (g : Htlc) × IsIn g (lost-table y t).htlcs × (command_by s g (due c g) ≡ Some x)) (sym at)
+      (lost-htlc s t h o x i is e (subst (λ y. is_lost y told ≡ true) at lost))
+
+  lost-first : (s : Services) (t : Table) (f : Option Queued) (x : Out × Command)
+      → find (is_queued_in c) t.queue ≡ f → first_of s c f t.htlcs ≡ Some x → is_lost (x.0) told ≡ true
+      → Owes s c x (lost-table (x.0) t)
+  lost-first s t (Some q) x is e lost =
+      let found = found-in (is_queued_in c) t.queue q is in
+      inl (
+        q,
+        subst (λ qs. IsIn q qs) (sym (queue-on (x.0) t)) found.0,
+        found.1,
+        (let at : queued_command q ≡ x = cc in sym at),
+      )
+  lost-first s t None x is e lost =
+      let d = due-in s t.htlcs x e in inr (lost-due s t d.0 (due c d.0) x d.1 refl d.2 lost)
+
+pub owed-again : (s : Services) (c : List ℕ) (b : History Table Entry) (x : Out × Command) (told : Told)
+    → first_command s c (table_of b) ≡ Some x → told.decides ≡ false → is_lost (x.0) told ≡ true
+    → Owes s c x (table_of (with_entry (entry.Dropped c told) (with_taken c (Some x) b)))
+owed-again s c b x told first decides lost =
+    let t = table_of b in
+    let taken = with_taken c (Some x) b in
+    let idle = with_desk c desk.Idle (with_desk c (desk.Out (x.0)) t) in
+    let made : table_of (with_entry (entry.Dropped c told) taken) ≡ lost-table c told (x.0) idle =
+    entered taken (entry.Dropped c told)
+    ∙ ap (λ d. put_back_all c told (kept_at c told.decides d (table_of taken))) (out-then c b x)
+    ∙ ap (λ k. put_back_all c told (kept_out c k (x.0) (with_desk c desk.Idle (table_of taken)))) decides
+    ∙ ap (λ u. put_back_all c told (kept_out c false (x.0) (with_desk c desk.Idle u)))
+    (entered b (entry.Taken c (x.0))) in
+    subst (λ u. Owes s c x u) (sym made)
+    (lost-first c told s idle (find (is_queued_in c) t.queue) x refl (first-by s c (desk_at c t) t x first) lost)
+
+-- ---- a refused offer
+
+differs : (r n : ℕ) → r < n → (b : Bool) → (r == n) ≡ b → b ≡ false
+differs r n lt true e = let is : r ≡ n = eqb-true r n e in absurd (omega (arith, lt, is))
+differs r n lt false e = refl
+
+below : (r n : ℕ) → r < n → (b : Bool) → nat_lt r n ≡ b → b ≡ true
+below r n lt true e = refl
+below r n lt false e = let far : n ≤ r = ltb-false r n e in absurd (omega (arith, lt, far))
+
+refused-then : (c : List ℕ) (k : Key) (t : Table) (r : ℕ) → r < 47
+    → (answered_out c (Err r) (out.Adding k) t).htlcs ≡ changed_first (is_htlc k) (put_way way.Refused) t.htlcs
+refused-then c k t r lt =
+    let a = differs r 60 (omega (arith, lt)) (r == 60) refl in
+    let b = differs r 61 (omega (arith, lt)) (r == 61) refl in
+    let d = differs r 47 lt (r == 47) refl in
+    let e = differs r 62 (omega (arith, lt)) (r == 62) refl in
+    let f = below r 47 lt (nat_lt r 47) refl in
+    ap (λ (z : Bool). (cond (z || (r == 61)) (with_desk c (desk.Unsure (out.Adding k)) t)
+    (cond (is_later r) (with_desk c desk.Idle t) (refused c r (out.Adding k) (with_desk c desk.Idle t)))).htlcs) a
+    ∙ ap (λ (z : Bool). (cond z (with_desk c (desk.Unsure (out.Adding k)) t)
+    (cond (is_later r) (with_desk c desk.Idle t) (refused c r (out.Adding k) (with_desk c desk.Idle t)))).htlcs) b
+    ∙ ap (λ (z : Bool). (cond (z || (r == 62)) (with_desk c desk.Idle t)
+    (refused c r (out.Adding k) (with_desk c desk.Idle t))).htlcs) d
+    ∙ ap (λ (z : Bool). (cond z (with_desk c desk.Idle t)
+    (refused c r (out.Adding k) (with_desk c desk.Idle t))).htlcs) e
+    ∙ ap (λ (z : Bool). cond z (changed_first (is_htlc k) (put_way way.Refused) t.htlcs)
+    (left_out (is_htlc k) t.htlcs)) f
+
+fails-back : (s : Services) (c : List ℕ) (h : Htlc) (m : Mark) → forwards_in c m ≡ true
+    → (has_removal m way.Refused ≡ true) × (removal_by s (put_way way.Refused h) m
+    ≡ Some (command.Fail h.key.id (s.wrapped (failure_bytes failure.TemporaryChannelFailure))))
+fails-back s c h mark.None e = (cc, cc)
+fails-back s c h (mark.Forward d a x) e = (refl, refl)
+fails-back s c h (mark.Fail r) e = (cc, cc)
+fails-back s c h (mark.Malformed n) e = (cc, cc)
+fails-back s c h (mark.Fulfil p) e = (cc, cc)
+fails-back s c h (mark.Held n) e = (cc, cc)
+
+and-right : (a b : Bool) → (a && b) ≡ true → b ≡ true
+and-right true b e = e
+and-right false b e = cc
+
+refused-due : (s : Services) (c : List ℕ) (h : Htlc) (k : Key) → due c h ≡ Some (out.Adding k) → is_open h.back ≡ true
+    → command_by s (put_way way.Refused h) (due k.channel (put_way way.Refused h))
+    ≡ Some (out.Removing k, command.Fail k.id (s.wrapped (failure_bytes failure.TemporaryChannelFailure)))
+refused-due s c h k e opened =
+    let g = put_way way.Refused h in
+    elim (due-of c h (out.Adding k) e) [
+      | forgets d st v is ↦ cc
+      | takes d st f r is ↦ cc
+      | adds d st f is ↦ (
+          let key : k ≡ h.key = cc in
+          let fb = fails-back s c h h.mark (and-right (is_nowhere h.way) (forwards_in c h.mark) f) in
+          ap (command_by s g) (due-so true false (is_over_in k.channel way.Refused) false true h.key
+          (Some (out.Removing h.key)) h.decided (is_settled h.back) (is_over_in k.channel way.Refused)
+          (offers k.channel g) (removes k.channel g) d st refl refl
+          (ap (λ z. z && (is_open h.back && same k.channel h.key.channel)) fb.0
+          ∙ ap (λ z. z && same k.channel h.key.channel) opened
+          ∙ ap (λ (z : Key). same z.channel h.key.channel) key ∙ same-refl h.key.channel) refl)
+          ∙ ap (with_out (out.Removing h.key)) fb.1
+          ∙ ap (λ (z : Key). Some (
+            out.Removing z,
+            command.Fail z.id (s.wrapped (failure_bytes failure.TemporaryChannelFailure)),
+          )) (sym key)
+          )
+    ]
+
+pub fails-back-then : (s : Services) (c : List ℕ) (b : History Table Entry) (k : Key) (h : Htlc) (r : ℕ)
+    → find (is_htlc k) (table_of b).htlcs ≡ Some h → due c h ≡ Some (out.Adding k) → is_open h.back ≡ true
+    → desk_at c (table_of b) ≡ desk.Out (out.Adding k) → r < 47
+    → (g : Htlc) × (find (is_htlc k) (table_of (replied c (Err r) b)).htlcs ≡ Some g)
+    × (command_by s g (due k.channel g) ≡ Some (
+      out.Removing k,
+      command.Fail k.id (s.wrapped (failure_bytes failure.TemporaryChannelFailure)),
+    ))
+fails-back-then s c b k h r first is-due opened is-out lt = (
+  put_way way.Refused h,
+  ap (λ (u : Table). find (is_htlc k) u.htlcs) (replied-out c (Err r) b (out.Adding k) is-out)
+      ∙ ap (find (is_htlc k)) (refused-then c k (table_of b) r lt)
+      ∙ changed-found (is_htlc k) (put_way way.Refused) (λ x. refl) (table_of b).htlcs h first,
+  refused-due s c h k is-due opened,
+)
+
+-- ---- an offer that was taken
+
+above : (n r : ℕ) → r < n → (b : Bool) → nat_le n r ≡ b → b ≡ false
+above n r lt true e = let le : n ≤ r = leb-true n r e in absurd (omega (arith, lt, le))
+above n r lt false e = refl
+
+and-none : (b : Bool) → (b && false) ≡ false
+and-none true = refl
+and-none false = refl
+
+kept-offered : (e c : List ℕ) (id next : ℕ) → id < next
+    → is_way_lost e next (way.Offered (record { channel = c; id = id })) ≡ false
+kept-offered e c id next lt =
+    let far : nat_le next id ≡ false = above next id lt (nat_le next id) refl in
+    ap (λ z. same e c && z) far ∙ and-none (same e c)
+
+pub offered-then : (c : List ℕ) (b : History Table Entry) (k : Key) (h : Htlc) (id : ℕ)
+    → find (is_htlc k) (table_of b).htlcs ≡ Some h → desk_at c (table_of b) ≡ desk.Out (out.Adding k)
+    → (g : Htlc) × (find (is_htlc k) (table_of (replied c (Ok id) b)).htlcs ≡ Some g)
+    × ((d : List ℕ) (j : Key) → due d g ≡ Some (out.Adding j) → ⊥)
+    × ((e d : List ℕ) (j : Key) (told : Told) → id < told.next → due d (htlc_kept e told g) ≡ Some (out.Adding j) → ⊥)
+offered-then c b k h id first is-out =
+    let w = way.Offered (record { channel = c; id = id }) in
+    let g = put_way w h in (
+      g,
+      ap (λ (u : Table). find (is_htlc k) u.htlcs) (replied-out c (Ok id) b (out.Adding k) is-out)
+          ∙ changed-found (is_htlc k) (put_way w) (λ x. refl) (table_of b).htlcs h first,
+      λ d j e. not-nowhere d g j refl e,
+      λ e d j told lt is. not-nowhere d (htlc_kept e told g) j
+          (ap (λ z. is_nowhere (cond z way.Nowhere w)) (kept-offered e c id told.next lt)) is,
+    )
+
+-- ---- what is owed can be taken
+
+some-next : (y z : Option (Out × Command)) → (is_some y ≡ true) ⊎ (is_some z ≡ true) → is_some (or_next y z) ≡ true
+some-next None z (inl e) = cc
+some-next None z (inr e) = e
+some-next (Some y) z either = refl
+
+some-due : (s : Services) (c : List ℕ) (hs : List Htlc) (h : Htlc) (x : Out × Command) → IsIn h hs
+    → command_by s h (due c h) ≡ Some x → is_some (first_due s c hs) ≡ true
+some-due s c [] h x i e = absurd i
+some-due s c (g ∷ hs) h x (inl at) e =
+    some-next (command_by s g (due c g)) (first_due s c hs)
+    (inl (ap is_some (ap (λ y. command_by s y (due c y)) (sym at) ∙ e)))
+some-due s c (g ∷ hs) h x (inr i) e =
+    some-next (command_by s g (due c g)) (first_due s c hs) (inr (some-due s c hs h x i e))
+
+some-first : (s : Services) (c : List ℕ) (t : Table) (f : Option Queued) (x : Out × Command)
+    → ((is_some f ≡ true) ⊎ ((h : Htlc) × IsIn h t.htlcs × (command_by s h (due c h) ≡ Some x)))
+    → is_some (first_of s c f t.htlcs) ≡ true
+some-first s c t (Some q) x either = refl
+some-first s c t None x (inl e) = cc
+some-first s c t None x (inr d) = some-due s c t.htlcs d.0 x d.1 d.2
+
+pub can-be-taken : (s : Services) (c : List ℕ) (b : History Table Entry) (x : Out × Command) → Owes s c x (table_of b)
+    → desk_at c (table_of b) ≡ desk.Idle → is_some (first_command s c (table_of b)) ≡ true
+can-be-taken s c b x (inl q) idle =
+    let t = table_of b in
+    ap (λ d. is_some (first_at s c d t)) idle
+    ∙ some-first s c t (find (is_queued_in c) t.queue) x (inl (some-found (is_queued_in c) t.queue q.0 q.1 q.2))
+can-be-taken s c b x (inr h) idle =
+    let t = table_of b in
+    ap (λ d. is_some (first_at s c d t)) idle
+    ∙ some-first s c t (find (is_queued_in c) t.queue) x (inr h)

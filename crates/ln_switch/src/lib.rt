@@ -1,0 +1,21 @@
+//! Between the channels of a node and its book of payments: what the book is told of a channel's end and of what it has
+//! commanded, and a seat that knows all that was said through it (BOLT 2, "Forwarding HTLCs").
+#![tactic(auto)]
+
+mod answers;
+mod laws;
+mod readings;
+mod saying;
+mod seat;
+mod uses;
+
+pub use answers::{about, answer_to, next_id};
+pub use laws::{
+    a_refused_offer_fails_back, an_end_takes_payments_where_it_may_offer,
+    what_is_lost_is_owed_again, what_is_owed_can_be_taken,
+    what_is_refused_for_now_is_handed_out_again, what_was_offered_is_not_offered_again,
+};
+pub use readings::read_end;
+pub use saying::Saying;
+pub use seat::Seat;
+pub use uses::{Use, follow, use_of};
