@@ -15,14 +15,14 @@ use Rattle.ln_readings.specs.declared.leg.Leg.{Leg}
 use Rattle.ln_readings.specs.Rebuild.{Reading, reading_of, led, unfinished, all_unfinished, htlc_left, left, all_left}
 use Rattle.ln_readings.specs.Rebuild.{is_read}
 use Rattle.ln_readings.specs.Rebuild.{rebuilt_htlcs, decided_in, decided_by, back_in, peer_updates}
-use Rattle.ln_circuits.specs.Snapshot.{IsIn, All, key_at, readings}
+use Rattle.ln_circuits.specs.Snapshot.{IsIn, key_at, readings}
 use Rattle.ln_circuits.proofs.Links.{Side}
 use Rattle.ln_circuits.proofs.Lists.{of_picked, passes}
 use Rattle.ln_circuits.proofs.Held.{among_last, found_of}
 use Rattle.ln_circuits.proofs.Shifts.{side_of}
 use Rattle.ln_circuits.proofs.Waiting.{waiting_ids}
 use Rattle.ln_circuits.proofs.Entries.{is_key}
-use Rattle.ln_circuits.proofs.Ways.{IsBack, AreBack}
+use Rattle.ln_circuits.proofs.Ways.{IsBack, AreBack, of_member}
 use Rattle.ln_circuits.proofs.Backs.{add_id}
 use Rattle.ln_circuits.proofs.Scenes.{Scene}
 use Rattle.ln_circuits.proofs.Resumed.{HoldAlike}
@@ -170,11 +170,6 @@ module _ (id_of : ℕ → List ℕ) where
       cases (inl k) rest = left_unheld all r.results y n k
       cases (inr k) rest = rest k
 
-  all_among : {A : Type 0} (P : A → Type 0) (xs : List A) (x : A) → All P xs → IsIn x xs → P x
-  all_among P [] x h m = absurd m
-  all_among P (y ∷ ys) x h (inl e) = subst P e h.0
-  all_among P (y ∷ ys) x h (inr m) = all_among P ys x h.1 m
-
   pub agrees_rebuilt : ((c d : ℕ) → id_of c ≡ id_of d → c ≡ d) → (t : Scene) (es : List (ℕ × End))
       → AreBack id_of t.links es
       → t.book ≡ rebuilt_htlcs (readings es) → HoldAlike id_of t
@@ -187,7 +182,7 @@ module _ (id_of : ℕ → List ℕ) where
     where
       cases : IsOf es x → is_held_by n d.mark ≡ true
       cases o =
-          let back = all_among (IsBack id_of t.links) es o.0 b.each o.1 in
+          let back = of_member (IsBack id_of t.links) es o.0 b.each o.1 in
           let keys : key_at id_of c d.id ≡ record { channel = o.0.1.dance.channel; id = o.2.id } = sym key ∙ o.5 in
           let chan : c ≡ o.0.0 = one c o.0.0 (ap (λ (w : Key). w.channel) keys ∙ back.channel) in
           let same_side : Some X ≡ Some (side_of o.0.1) = sym is ∙ ap t.links.sides chan ∙ back.side in

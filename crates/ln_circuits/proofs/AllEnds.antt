@@ -5,8 +5,8 @@ use Rattle.std.proofs.Common.{append-nil}
 use Rattle.std.specs.List.{cons_option, find, list_any}
 use Rattle.std.proofs.lemmas.Bool.{eqb-true, eq-eqb}
 use Rattle.std.proofs.lemmas.List.Elements.{filter-append}
+use Rattle.std.proofs.Math.Bool.{or-true}
 use Rattle.ln_log.specs.declared.mark.Decision.{Decision as LogDecision}
-use Rattle.ln_log.specs.declared.mark.Mark.{Mark as LogMark}
 use Rattle.ln_log.specs.declared.mark.Mark.TheVariants as mark
 use Rattle.ln_log.specs.declared.update.Add.{Add}
 use Rattle.ln_log.specs.Updates.{add_with, is_some, next_id}
@@ -24,7 +24,7 @@ use Rattle.ln_readings.specs.Rebuild.{way_read, led, unfinished, all_unfinished,
 use Rattle.ln_readings.specs.Rebuild.{rebuilt_htlcs, decided_in, decided_by, htlc_by, back_in, back_by, peer_updates}
 use Rattle.ln_readings.specs.Rebuild.{holds_removal}
 use Rattle.ln_readings.specs.Kept.{has_own_removal}
-use Rattle.ln_payment.specs.Parts.{Mark, Undecided, Decided, Past, Way, Nowhere}
+use Rattle.ln_payment.specs.Parts.{Undecided, Decided, Past, Way, Nowhere}
 use Rattle.ln_payment.specs.Parts.{Refused, Offered, Over, Out, Payment}
 use Rattle.ln_payment.specs.Rebuild.{back_of, way_of, note_by, note_of_result, note_read}
 use Rattle.ln_payment.proofs.Invariant.{IsKept, IsEarly}
@@ -33,8 +33,9 @@ use Rattle.ln_log.specs.Updates.{outcome}
 use Rattle.ln_circuits.specs.Snapshot.{is_gone, Incoming, All, key_of, IsIn, readings, origin, AreDistinct}
 use Rattle.ln_circuits.specs.Circuit.{Forwards}
 use Rattle.ln_circuits.proofs.Parts.{removal_of}
-use Rattle.ln_circuits.proofs.Links.{Side, Links, HasOut, AreOuts, IsOfLinks, mark_as, decided_as, decision_by}
+use Rattle.ln_circuits.proofs.Links.{Side, Links, HasOut, AreOuts, IsOfLinks, decided_as, decision_by}
 use Rattle.ln_circuits.proofs.Links.{decision_at, removal_at}
+use Rattle.ln_circuits.proofs.Links.{has_mark}
 use Rattle.ln_circuits.proofs.Rising.{one_of_id}
 use Rattle.ln_circuits.proofs.Waiting.{waiting_ids}
 use Rattle.ln_circuits.proofs.Shifts.{side_of}
@@ -199,13 +200,9 @@ one_read k (x ∷ es) y ys e = cases (filter (is_htlc k) (reading_of x.1).decide
     any : Bool
     any = list_any (is_htlc k) (reading_of x.1).decided
 
-    or_true : (b : Bool) → (b || true) ≡ true
-    or_true true = refl
-    or_true false = refl
-
     cases : (zs : List Htlc) → filter (is_htlc k) (reading_of x.1).decided ≡ zs → zs ++ decided_of k es ≡ y ∷ ys
         → (decided_of k es ≡ y ∷ ys → is_read k (readings es) ≡ true) → (any || is_read k (readings es)) ≡ true
-    cases [] is f rest = ap (λ b. any || b) (rest f) ∙ or_true any
+    cases [] is f rest = ap (λ b. any || b) (rest f) ∙ or-true any
     cases (z ∷ zs) is f rest = ap (λ b. b || is_read k (readings es))
         (some_any (is_htlc k) (reading_of x.1).decided z zs is)
 
@@ -272,21 +269,12 @@ module _ (id_of : ℕ → List ℕ) (one : (c d : ℕ) → id_of c ≡ id_of d �
     first_leg [] e = refl
     first_leg (x ∷ es) e = cases (find (is_for q) (reading_of x.1).results) refl e (λ r. first_leg es r)
       where
-        none_found : (ls : List Leg) → find (is_for q) ls ≡ None → filter (is_for q) ls ≡ []
-        none_found [] f = refl
-        none_found (l ∷ ls) f = either (is_for q l) f (λ r. none_found ls r)
-          where
-            either : (b : Bool) → cond b (Some l) (find (is_for q) ls) ≡ None
-                → (find (is_for q) ls ≡ None → filter (is_for q) ls ≡ [])
-                → cond b (l ∷ filter (is_for q) ls) (filter (is_for q) ls) ≡ []
-            either true g rest = absurd (cc)
-            either false g rest = rest g
-
         cases : (o : Option Leg) → find (is_for q) (reading_of x.1).results ≡ o
             → or_leg o (result_for q (readings es)) ≡ None
             → (result_for q (readings es) ≡ None → legs_of q es ≡ [])
             → filter (is_for q) (reading_of x.1).results ++ legs_of q es ≡ []
-        cases None is f rest = ap (λ z. z ++ legs_of q es) (none_found (reading_of x.1).results is) ∙ rest f
+        cases None is f rest =
+            ap (λ z. z ++ legs_of q es) (ways.none_found (is_for q) (reading_of x.1).results is) ∙ rest f
         cases (Some g) is f rest = absurd (cc)
 
     -- each leg is of a result
@@ -448,22 +436,12 @@ module _ (id_of : ℕ → List ℕ) (one : (c d : ℕ) → id_of c ≡ id_of d �
         first_some [] g e = absurd (cc)
         first_some (x ∷ ys) g e = cases (find (is_for q) (reading_of x.1).results) refl e (λ r. first_some ys g r)
           where
-            none_found : (ls : List Leg) → find (is_for q) ls ≡ None → filter (is_for q) ls ≡ []
-            none_found [] f = refl
-            none_found (l ∷ ls) f = either (is_for q l) f (λ r. none_found ls r)
-              where
-                either : (c : Bool) → cond c (Some l) (find (is_for q) ls) ≡ None
-                    → (find (is_for q) ls ≡ None → filter (is_for q) ls ≡ [])
-                    → cond c (l ∷ filter (is_for q) ls) (filter (is_for q) ls) ≡ []
-                either true k rest = absurd (cc)
-                either false k rest = rest k
-
             cases : (o : Option Leg) → find (is_for q) (reading_of x.1).results ≡ o
                 → or_leg o (result_for q (readings ys)) ≡ Some g
                 → (result_for q (readings ys) ≡ Some g → (gs : List Leg) × (legs_of q ys ≡ g ∷ gs))
                 → (gs : List Leg) × (filter (is_for q) (reading_of x.1).results ++ legs_of q ys ≡ g ∷ gs)
             cases None is f rest = let r = rest f in
-                (r.0, ap (λ z. z ++ legs_of q ys) (none_found (reading_of x.1).results is) ∙ r.1)
+                (r.0, ap (λ z. z ++ legs_of q ys) (ways.none_found (is_for q) (reading_of x.1).results is) ∙ r.1)
             cases (Some z) is f rest =
                 let same_leg : z ≡ g = cc in
                 let r = ways.find_first (is_for q) (reading_of x.1).results z is in
@@ -494,14 +472,6 @@ module _ (id_of : ℕ → List ℕ) (one : (c d : ℕ) → id_of c ≡ id_of d �
                 (subst (λ z. IsWayOf id_of (way_along (or_leg z (offer_for q all))) (way_of still p.outs)) e ways_so))
 
         -- one is
-        has_mark : (m : LogMark) → (m ≡ mark.None → ⊥) → (n : Mark) × (mark_as m ≡ Some n)
-        has_mark mark.None f = absurd (f refl)
-        has_mark (mark.Forward channel amount expiry) f = (_, refl)
-        has_mark (mark.Fail reason) f = (_, refl)
-        has_mark (mark.Malformed code) f = (_, refl)
-        has_mark (mark.Fulfil preimage) f = (_, refl)
-        has_mark (mark.Held event) f = (_, refl)
-
         never_gone : (x y : Bool) → back_by x y ≡ back.Gone → ⊥
         never_gone true y e = absurd (cc)
         never_gone false true e = absurd (cc)

@@ -40,7 +40,7 @@ none_left p q (x ∷ xs) n = cases (q x) (none_left p q xs n.1)
     cases false m = (n.0, m)
 
 -- the last one is the first that passes
-last_one : (p : Htlc → Bool) (f : Htlc → Htlc) (xs : List Htlc) (x : Htlc) → NonePasses p xs → p x ≡ true
+pub last_one : (p : Htlc → Bool) (f : Htlc → Htlc) (xs : List Htlc) (x : Htlc) → NonePasses p xs → p x ≡ true
     → changed_first p f (xs ++ x ∷ []) ≡ xs ++ f x ∷ []
 last_one p f [] x n is = ap (λ b. cond b (f x ∷ []) (x ∷ [])) is
 last_one p f (y ∷ xs) x n is =
@@ -236,42 +236,47 @@ module _ (id_of : ℕ → List ℕ) (one : (c d : ℕ) → id_of c ≡ id_of d �
     book_so h xs o is k = subst (λ n. HasEntry id_of h t.book (n.halted h.channel) o) (sym same_links)
         (subst (λ ys. HasEntry id_of h ys (s.links.halted h.channel) o) (sym is) k)
 
+    -- the payment goes on, and what the book has of others stays
+    goes_on : (f : Key → List Htlc → List Htlc) → t.book ≡ f x.key s.book
+        → ((h : Incoming) (b : Bool) (o : Option Note) → same_key x.key (key_of id_of h) ≡ false
+        → HasEntry id_of h s.book b o → HasEntry id_of h (f x.key s.book) b o)
+        → ((h : Incoming) → HasPayment id_of h s → x.key ≡ key_of id_of h → HasPayment id_of h t)
+        → HavePayments id_of s → HavePayments id_of t
+    goes_on f book others here k h = elim (either (same_key x.key (key_of id_of h))) [
+      | inl is ↦ here h (k h) (key_is x.key (key_of id_of h) is)
+      | inr isnt ↦ by_moves id_of h t (k h).0 ((k h).1.kept, (k h).1.holds) [] tt (links_so h (k h).0 (k h).1.of_links)
+          (book_so h (f x.key s.book) (k h).0.note book
+          (others h (s.links.halted h.channel) (k h).0.note isnt (k h).1.note))
+    ]
+
     -- an add: the HTLC that came in is to be failed
     pub add_refused : is_settled x.back ≡ false → is_nowhere x.way ≡ true → (d : List ℕ) → forwards_in d x.mark ≡ true
         → t.book ≡ with_way x.key way.Refused s.book → HavePayments id_of s → HavePayments id_of t
-    add_refused uns now d fwd book k h = elim (either (same_key x.key (key_of id_of h))) [
-      | inl is ↦ here (key_is x.key (key_of id_of h) is)
-      | inr isnt ↦ by_moves id_of h t (k h).0 ((k h).1.kept, (k h).1.holds) [] tt (links_so h (k h).0 (k h).1.of_links)
-          (book_so h (with_way x.key way.Refused s.book) (k h).0.note book
-          (way_there id_of h x.key isnt s.book (s.links.halted h.channel) (k h).0.note way.Refused (k h).1.note))
-    ]
+    add_refused uns now d fwd book = goes_on (λ key. with_way key way.Refused) book
+        (λ h b o isnt. way_there id_of h x.key isnt s.book b o way.Refused) here
       where
-        here : x.key ≡ key_of id_of h → HasPayment id_of h t
-        here key =
-            let n = note_of id_of h s (k h) x m dec key in
-            let f = links_so h (k h).0 (k h).1.of_links in
-            by_moves id_of h t (k h).0 ((k h).1.kept, (k h).1.holds) (move.Refuse ∷ [])
+        here : (h : Incoming) → HasPayment id_of h s → x.key ≡ key_of id_of h → HasPayment id_of h t
+        here h k key =
+            let n = note_of id_of h s k x m dec key in
+            let f = links_so h k.0 k.1.of_links in
+            by_moves id_of h t k.0 (k.1.kept, k.1.holds) (move.Refuse ∷ [])
             (subst Offers (sym n.1) (asks_to_offer id_of x n.0 n.2 d uns now fwd), tt)
             (record { decision = f.decision; removal = f.removal; outs = f.outs; halted = f.halted })
-            (book_so h (with_way (key_of id_of h) way.Refused s.book) (move.with_way Refused (k h).0.note)
+            (book_so h (with_way (key_of id_of h) way.Refused s.book) (move.with_way Refused k.0.note)
             (book ∙ ap (λ z. with_way z way.Refused s.book) key)
-            (way_here id_of h s.book (s.links.halted h.channel) (k h).0.note way.Refused Refused tt (k h).1.note))
+            (way_here id_of h s.book (s.links.halted h.channel) k.0.note way.Refused Refused tt k.1.note))
 
     -- an add, where the book lets go of it
     pub add_left : is_settled x.back ≡ false → is_nowhere x.way ≡ true → (d : List ℕ) → forwards_in d x.mark ≡ true
         → t.book ≡ left_out (is_htlc x.key) s.book → HavePayments id_of s → HavePayments id_of t
-    add_left uns now d fwd book k h = elim (either (same_key x.key (key_of id_of h))) [
-      | inl is ↦ here (key_is x.key (key_of id_of h) is)
-      | inr isnt ↦ by_moves id_of h t (k h).0 ((k h).1.kept, (k h).1.holds) [] tt (links_so h (k h).0 (k h).1.of_links)
-          (book_so h (left_out (is_htlc x.key) s.book) (k h).0.note book
-          (left_there id_of h x.key isnt s.book (s.links.halted h.channel) (k h).0.note (k h).1.note))
-    ]
+    add_left uns now d fwd book = goes_on (λ key. left_out (is_htlc key)) book
+        (λ h b o isnt. left_there id_of h x.key isnt s.book b o) here
       where
-        here : x.key ≡ key_of id_of h → HasPayment id_of h t
-        here key =
-            let n = note_of id_of h s (k h) x m dec key in
-            let f = links_so h (k h).0 (k h).1.of_links in
-            by_moves id_of h t (k h).0 ((k h).1.kept, (k h).1.holds) (move.Leave ∷ [])
+        here : (h : Incoming) → HasPayment id_of h s → x.key ≡ key_of id_of h → HasPayment id_of h t
+        here h k key =
+            let n = note_of id_of h s k x m dec key in
+            let f = links_so h k.0 k.1.of_links in
+            by_moves id_of h t k.0 (k.1.kept, k.1.holds) (move.Leave ∷ [])
             (subst Offers (sym n.1) (asks_to_offer id_of x n.0 n.2 d uns now fwd), tt)
             (record { decision = f.decision; removal = f.removal; outs = f.outs; halted = f.halted })
             (book_so h (left_out (is_htlc (key_of id_of h)) s.book) None
@@ -281,40 +286,32 @@ module _ (id_of : ℕ → List ℕ) (one : (c d : ℕ) → id_of c ≡ id_of d �
     -- a removal: another one is not asked for
     pub removal_refused : (v : Services) (y : Command) → is_open x.back ≡ true → removal_by v x x.mark ≡ Some y
         → t.book ≡ with_back x.key back.Gone s.book → HavePayments id_of s → HavePayments id_of t
-    removal_refused v y unsent asked book k h = elim (either (same_key x.key (key_of id_of h))) [
-      | inl is ↦ here (key_is x.key (key_of id_of h) is)
-      | inr isnt ↦ by_moves id_of h t (k h).0 ((k h).1.kept, (k h).1.holds) [] tt (links_so h (k h).0 (k h).1.of_links)
-          (book_so h (with_back x.key back.Gone s.book) (k h).0.note book
-          (back_there id_of h x.key isnt s.book (s.links.halted h.channel) (k h).0.note back.Gone (k h).1.note))
-    ]
+    removal_refused v y unsent asked book = goes_on (λ key. with_back key back.Gone) book
+        (λ h b o isnt. back_there id_of h x.key isnt s.book b o back.Gone) here
       where
-        here : x.key ≡ key_of id_of h → HasPayment id_of h t
-        here key =
-            let n = note_of id_of h s (k h) x m dec key in
+        here : (h : Incoming) → HasPayment id_of h s → x.key ≡ key_of id_of h → HasPayment id_of h t
+        here h k key =
+            let n = note_of id_of h s k x m dec key in
             let asks = asks_to_remove id_of v x n.0 n.2 y unsent asked in
-            let f = links_so h (k h).0 (k h).1.of_links in
-            by_moves id_of h t (k h).0 ((k h).1.kept, (k h).1.holds) (move.GiveUp asks.0 ∷ [])
+            let f = links_so h k.0 k.1.of_links in
+            by_moves id_of h t k.0 (k.1.kept, k.1.holds) (move.GiveUp asks.0 ∷ [])
             (subst (Removes asks.0) (sym n.1) asks.2, tt)
             (record { decision = f.decision; removal = f.removal; outs = f.outs; halted = f.halted })
-            (book_so h (with_back (key_of id_of h) back.Gone s.book) (move.with_back Gone (k h).0.note)
+            (book_so h (with_back (key_of id_of h) back.Gone s.book) (move.with_back Gone k.0.note)
             (book ∙ ap (λ z. with_back z back.Gone s.book) key)
-            (back_here id_of h s.book (s.links.halted h.channel) (k h).0.note back.Gone (k h).1.note))
+            (back_here id_of h s.book (s.links.halted h.channel) k.0.note back.Gone k.1.note))
 
     -- a result that isn't there: the book lets go
     pub forget_refused : is_settled x.back ≡ true → t.book ≡ left_out (is_htlc x.key) s.book → HavePayments id_of s
         → HavePayments id_of t
-    forget_refused settled book k h = elim (either (same_key x.key (key_of id_of h))) [
-      | inl is ↦ here (key_is x.key (key_of id_of h) is)
-      | inr isnt ↦ by_moves id_of h t (k h).0 ((k h).1.kept, (k h).1.holds) [] tt (links_so h (k h).0 (k h).1.of_links)
-          (book_so h (left_out (is_htlc x.key) s.book) (k h).0.note book
-          (left_there id_of h x.key isnt s.book (s.links.halted h.channel) (k h).0.note (k h).1.note))
-    ]
+    forget_refused settled book = goes_on (λ key. left_out (is_htlc key)) book
+        (λ h b o isnt. left_there id_of h x.key isnt s.book b o) here
       where
-        here : x.key ≡ key_of id_of h → HasPayment id_of h t
-        here key =
-            let n = note_of id_of h s (k h) x m dec key in
-            let f = links_so h (k h).0 (k h).1.of_links in
-            by_moves id_of h t (k h).0 ((k h).1.kept, (k h).1.holds) (move.Close ∷ [])
+        here : (h : Incoming) → HasPayment id_of h s → x.key ≡ key_of id_of h → HasPayment id_of h t
+        here h k key =
+            let n = note_of id_of h s k x m dec key in
+            let f = links_so h k.0 k.1.of_links in
+            by_moves id_of h t k.0 (k.1.kept, k.1.holds) (move.Close ∷ [])
             (subst IsSettled (sym n.1) (asks_to_forget id_of x n.0 n.2 settled), tt)
             (record { decision = f.decision; removal = f.removal; outs = f.outs; halted = f.halted })
             (book_so h (left_out (is_htlc (key_of id_of h)) s.book) None

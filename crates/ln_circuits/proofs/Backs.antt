@@ -7,6 +7,7 @@ use Rattle.std.specs.List.{cons_option, find}
 use Rattle.std.proofs.lemmas.Bool.{eqb-true, eq-eqb, ltb-true}
 use Rattle.std.proofs.lemmas.Bool.Decides.{eqb_tells}
 use Rattle.std.proofs.lemmas.List.{take-append-drop, take_rest}
+use Rattle.std.proofs.Math.Bool.{and-false, and-true, or-false}
 use Rattle.ln_log.specs.declared.log.Side.TheVariants as side
 use Rattle.ln_log.specs.declared.mark.Decision.{Decision}
 use Rattle.ln_log.specs.declared.outcome.Outcome.{Outcome}
@@ -68,20 +69,12 @@ module _ (l : Log) (id : ℕ) (live : outcome id (take l.first.own l.own) ≡ Li
           let seen : is_some (add_with id (first_lives side.Peer l)) ≡ true =
           ap is_some (found id (take l.first.peer l.received) (take l.first.own l.own)
           ∙ ap (λ o. cond (is_live o) (add_with id (take l.first.peer l.received)) None) live) ∙ there in
-          ap (λ b. nat_lt id (first_worth l).next_peer && not b) seen ∙ and_false (nat_lt id (first_worth l).next_peer)
-        where
-          and_false : (a : Bool) → (a && false) ≡ false
-          and_false true = refl
-          and_false false = refl
+          ap (λ b. nat_lt id (first_worth l).next_peer && not b) seen ∙ and-false (nat_lt id (first_worth l).next_peer)
 
   pub has_so : has_own_removal id l ≡ is_gone id l.own
   has_so =
       ap (λ b. not (is_live (outcome id (own_window l))) || b) not_gone
-      ∙ or_false (not (is_live (outcome id (own_window l)))) ∙ ap (λ o. not (is_live o)) (sym own_so)
-    where
-      or_false : (b : Bool) → (b || false) ≡ b
-      or_false true = refl
-      or_false false = refl
+      ∙ or-false (not (is_live (outcome id (own_window l)))) ∙ ap (λ o. not (is_live o)) (sym own_so)
 
   back_so : (o : Outcome) (held signed : Bool) → (o ≡ Live → held ≡ false)
       → back_as (back_by held (not (is_live o))) ≡ back_of (removal_by o (stage_by held signed))
@@ -128,12 +121,8 @@ of_id ch l id (d ∷ ds) = cases (add_with d.id (peer_updates l)) refl (d.id == 
     key_so a is t e =
         let same_id = add_id d.id (peer_updates l) a is in
         ap (λ n. (id == n) && same ch ch) same_id
-        ∙ ap (λ b. (id == d.id) && b) (is_same ch ch refl) ∙ and_true (id == d.id) ∙ turned d.id id ∙ e
+        ∙ ap (λ b. (id == d.id) && b) (is_same ch ch refl) ∙ and-true (id == d.id) ∙ turned d.id id ∙ e
       where
-        and_true : (b : Bool) → (b && true) ≡ b
-        and_true true = refl
-        and_true false = refl
-
         turned : (m n : ℕ) → (n == m) ≡ (m == n)
         turned m n = elim (eqb_tells n m) [
           | inl g ↦ g.0 ∙ sym (eq-eqb m n (sym g.1))
@@ -174,17 +163,13 @@ of_none ch at l id other (d ∷ ds) = cases (add_with d.id (peer_updates l)) (of
     q : Htlc → Bool
     q = is_htlc (key_at at id)
 
-    and_false : (a : Bool) → (a && false) ≡ false
-    and_false true = refl
-    and_false false = refl
-
     cases : (o : Option Add) → filter q (decided_in ch l ds) ≡ []
         → filter q (cons_option (decided_by ch d.mark (back_in d.id l) o) (decided_in ch l ds)) ≡ []
     cases None rest = rest
     cases (Some a) rest =
         ap (λ b. cond b (htlc_by ch d.mark (back_in d.id l) a ∷ filter q (decided_in ch l ds))
         (filter q (decided_in ch l ds)))
-        (ap (λ b. (id == a.id) && b) other ∙ and_false (id == a.id)) ∙ rest
+        (ap (λ b. (id == a.id) && b) other ∙ and-false (id == a.id)) ∙ rest
 
 -- a decision's HTLC was offered
 pub below_all : (lo : ℕ) (ds : List Decision) (ys : List ℕ) (hi : ℕ) (i : ℕ) (d : Decision)

@@ -1,14 +1,13 @@
 -- What a signature covers of what goes out stays covered, whatever happens.
-use Rattle.std.proofs.Common.{◌≡◌, inl, inr, ℕ, ◌-◌, List, [], ◌∷◌, ◌++◌, take, drop, refl, sym, ap, ◌∙◌}
+use Rattle.std.proofs.Common.{◌≡◌, inl, inr, ℕ, ◌-◌, List, [], ◌∷◌, ◌++◌, take, drop, sym, ap, ◌∙◌}
 use Rattle.std.proofs.Common.{subst, arith, Bool, true, false, cond, ◌==◌, Option, Some, None, Result, Ok, Err}
 use Rattle.std.specs.Prelude.{option_map}
 use Rattle.std.proofs.lemmas.Bool.{eqb-true}
 use Rattle.std.proofs.lemmas.List.{take-take, take-append-le}
 use Rattle.ln_msgs.specs.declared.refusals.refusal.Refusal.{Refusal}
 use Rattle.ln_keys.specs.Signer.{Signer}
-use Rattle.ln_log.specs.declared.update.Add.{Add}
 use Rattle.ln_log.specs.declared.update.Update.{Update}
-use Rattle.ln_log.specs.Updates.{add_with, is_some}
+use Rattle.ln_log.specs.Updates.{add_with}
 use Rattle.ln_log.specs.Log.{Log, IsWithin}
 use Rattle.ln_log.specs.Log as log
 use Rattle.ln_log.proofs.Removing.{add_with-more}
@@ -24,6 +23,7 @@ use Rattle.ln_circuits.specs.Shift.{Shift, Stays, Takes, Proposes, Signs, Accept
 use Rattle.ln_circuits.specs.Happens.{Happens, Goes, AreSame, Loses, obeyed, AreMoments, last_of}
 use Rattle.ln_circuits.specs.Happens as may
 use Rattle.ln_circuits.proofs.Lists.{either}
+use Rattle.ln_circuits.proofs.Parts.{some_of}
 use Rattle.ln_circuits.proofs.Calls.{IfTurn, command_shifts, note_shifts}
 use Rattle.ln_circuits.proofs.Removals.{split_front}
 
@@ -34,11 +34,7 @@ module _ (o : List ℕ × ℕ) (i : ℕ) where
   Covers l = Forwards o (add_with i (take l.signed.own l.own))
 
   covers_more : (us vs : List Update) → Forwards o (add_with i us) → Forwards o (add_with i (us ++ vs))
-  covers_more us vs h = subst (Forwards o) (sym (add_with-more i us vs (there (add_with i us) h))) h
-    where
-      there : (a : Option Add) → Forwards o a → is_some a ≡ true
-      there None f = absurd f
-      there (Some a) f = refl
+  covers_more us vs h = subst (Forwards o) (sym (add_with-more i us vs (some_of o (add_with i us) h))) h
 
   covers_proposed : (l : Log) (u : Update) → IsWithin l → Covers l → Covers (log.after_propose u l)
   covers_proposed l u w h =

@@ -1,10 +1,9 @@
 -- What a book commands a channel about an HTLC is what the machine of a payment asks for.
 use Rattle.std.proofs.Common.{◌≡◌, inl, inr, ℕ, List, [], ◌∷◌, refl, sym, ap, ◌∙◌, subst, Bool, true, false, cond, not}
 use Rattle.std.proofs.Common.{◌&&◌, Option, Some, None}
+use Rattle.std.proofs.lemmas.Bool.{and_parts}
 use Rattle.ln_log.specs.declared.mark.Mark.{Mark as LogMark}
 use Rattle.ln_log.specs.declared.mark.Mark.TheVariants as mark
-use Rattle.ln_hooks.specs.declared.event.How.{How}
-use Rattle.ln_hooks.specs.declared.event.How.TheVariants as how
 use Rattle.ln_channel.specs.declared.command.Command.{Command}
 use Rattle.ln_channel.specs.declared.command.Command.TheVariants as command
 use Rattle.ln_tables.specs.declared.htlc.Key.{Key}
@@ -25,8 +24,8 @@ use Rattle.ln_payment.specs.Parts.{Back, Open, Sent, Gone, Settled, Note}
 use Rattle.ln_payment.specs.Moves as move
 use Rattle.ln_circuits.specs.Snapshot.{IsIn}
 use Rattle.ln_circuits.proofs.Links.{mark_as}
+use Rattle.ln_circuits.proofs.Removing.{IsRemoval, given, over_removes}
 use Rattle.ln_circuits.proofs.Entries.{same_is, kind_of, back_as, IsWayOf, IsNoteOf}
-use Rattle.ln_circuits.proofs.Lists.{both}
 
 -- ---- the first that is due is of an HTLC of the book
 
@@ -86,8 +85,8 @@ due_by c h o e = decided h.decided refl e
         (is_open h.back && same c h.key.channel)) ≡ b
         → cond b (Some (out.Removing h.key)) None ≡ Some o → IsDueBy c h o
     third d true is f =
-        let p = both (has_removal h.mark h.way) (is_open h.back && same c h.key.channel) is in
-        let q = both (is_open h.back) (same c h.key.channel) p.1 in
+        let p = and_parts (has_removal h.mark h.way) (is_open h.back && same c h.key.channel) is in
+        let q = and_parts (is_open h.back) (same c h.key.channel) p.1 in
         let o_is : out.Removing h.key ≡ o = cc in
         Removes d p.0 q.0 q.1 (sym o_is)
     third d false is f = absurd (cc)
@@ -97,7 +96,7 @@ due_by c h o e = decided h.decided refl e
         → cond b (Some (out.Adding h.key)) (cond (has_removal h.mark h.way && (is_open h.back && same c h.key.channel))
         (Some (out.Removing h.key)) None) ≡ Some o → IsDueBy c h o
     second d u true is f =
-        let p = both (is_nowhere h.way) (forwards_in c h.mark) is in
+        let p = and_parts (is_nowhere h.way) (forwards_in c h.mark) is in
         let o_is : out.Adding h.key ≡ o = cc in
         Offers d u p.0 p.1 (sym o_is)
     second d u false is f = third d (has_removal h.mark h.way && (is_open h.back && same c h.key.channel)) refl f
@@ -125,7 +124,22 @@ due_by c h o e = decided h.decided refl e
     decided true is f = first is (is_settled h.back) refl f
     decided false is f = absurd (cc)
 
+pub forgets_so : (w : BookWay) (y : Command) → forget_by w ≡ Some y → (j : ℕ) × (y ≡ command.Forget j)
+forgets_so way.Nowhere y e = absurd (cc)
+forgets_so way.Refused y e = absurd (cc)
+forgets_so (way.Offered k) y e = absurd (cc)
+forgets_so (way.Over k h) y e = let same_command : command.Forget k.id ≡ y = cc in (k.id, sym same_command)
+
 -- ---- what the machine asks for
+
+pub nowhere_so : (id_of : ℕ → List ℕ) (v : BookWay) (w : Way) → IsWayOf id_of v w → is_nowhere v ≡ true → w ≡ Nowhere
+nowhere_so id_of way.Nowhere Nowhere i f = refl
+nowhere_so id_of way.Nowhere Refused i f = absurd i
+nowhere_so id_of way.Nowhere (Offered c j) i f = absurd i
+nowhere_so id_of way.Nowhere (Over c j k) i f = absurd i
+nowhere_so id_of way.Refused w i f = absurd (cc)
+nowhere_so id_of (way.Offered k) w i f = absurd (cc)
+nowhere_so id_of (way.Over k h) w i f = absurd (cc)
 
 module _ (id_of : ℕ → List ℕ) (x : Htlc) (n : Note) (is : IsNoteOf id_of x n) where
   settled_so : is_settled x.back ≡ true → n.back ≡ Settled
@@ -140,18 +154,6 @@ module _ (id_of : ℕ → List ℕ) (x : Htlc) (n : Note) (is : IsNoteOf id_of x
   -- a result is forgotten where the incoming HTLC is settled
   pub asks_to_forget : is_settled x.back ≡ true → move.IsSettled (Some n)
   asks_to_forget e = settled_so e
-
-  nowhere_so : is_nowhere x.way ≡ true → n.way ≡ Nowhere
-  nowhere_so e = cases x.way n.way is.way e
-    where
-      cases : (v : BookWay) (w : Way) → IsWayOf id_of v w → is_nowhere v ≡ true → w ≡ Nowhere
-      cases way.Nowhere Nowhere i f = refl
-      cases way.Nowhere Refused i f = absurd i
-      cases way.Nowhere (Offered c j) i f = absurd i
-      cases way.Nowhere (Over c j k) i f = absurd i
-      cases way.Refused w i f = absurd (cc)
-      cases (way.Offered k) w i f = absurd (cc)
-      cases (way.Over k h) w i f = absurd (cc)
 
   forward_so : (c : List ℕ) → forwards_in c x.mark ≡ true → n.mark ≡ Forward
   forward_so c e = cases x.mark is.mark e
@@ -178,27 +180,14 @@ module _ (id_of : ℕ → List ℕ) (x : Htlc) (n : Note) (is : IsNoteOf id_of x
       → move.Offers (Some n)
   asks_to_offer c u v f =
       subst (λ m. move.AsksToOffer m n.way n.back) (sym (forward_so c f))
-      (subst (λ w. move.AsksToOffer Forward w n.back) (sym (nowhere_so v)) (cases n.back (unsettled u)))
+      (subst (λ w. move.AsksToOffer Forward w n.back) (sym (nowhere_so id_of x.way n.way is.way v))
+      (cases n.back (unsettled u)))
     where
       cases : (b : Back) → (b ≡ Settled → ⊥) → move.AsksToOffer Forward Nowhere b
       cases Open g = tt
       cases Sent g = tt
       cases Gone g = tt
       cases Settled g = absurd (g refl)
-
--- a command that removes the peer's HTLC of this id so
-abbrev pub IsRemoval : ℕ → Kind → Command → Type 0
-IsRemoval id k (command.Fulfil i preimage) = (i ≡ id) × (Fulfils ≡ k)
-IsRemoval id k (command.Fail i reason) = (i ≡ id) × (Fails ≡ k)
-IsRemoval id k (command.Malformed i sha code) = (i ≡ id) × (Fails ≡ k)
-IsRemoval id k (command.Confirm i) = ⊥
-IsRemoval id k (command.Add amount hash expiry onion origin) = ⊥
-IsRemoval id k (command.Fee feerate) = ⊥
-IsRemoval id k command.Sign = ⊥
-IsRemoval id k (command.Shutdown script) = ⊥
-IsRemoval id k (command.Decide event mark) = ⊥
-IsRemoval id k (command.Forget i) = ⊥
-IsRemoval id k (command.Resume event mark) = ⊥
 
 module _ (id_of : ℕ → List ℕ) (s : Services) (x : Htlc) (n : Note) (is : IsNoteOf id_of x n) where
   open_so : is_open x.back ≡ true → n.back ≡ Open
@@ -210,47 +199,22 @@ module _ (id_of : ℕ → List ℕ) (s : Services) (x : Htlc) (n : Note) (is : I
       cases back.Gone f g = absurd (cc)
       cases back.Settled f g = absurd (cc)
 
-  over_so : (h : How) (c : Command) → Some (removal_over s x.key.id h) ≡ Some c → IsRemoval x.key.id (kind_of h) c
-  over_so (how.Fulfilled preimage) c e = let c_is : command.Fulfil x.key.id preimage ≡ c = cc in
-      subst (IsRemoval x.key.id Fulfils) c_is (refl, refl)
-  over_so (how.Failed reason) c e = let c_is : command.Fail x.key.id reason ≡ c = cc in
-      subst (IsRemoval x.key.id Fails) c_is (refl, refl)
-  over_so (how.Malformed sha code) c e = cases c e
-    where
-      cases : (c : Command) → Some (removal_over s x.key.id (how.Malformed sha code)) ≡ Some c
-          → IsRemoval x.key.id Fails c
-      cases c e = let c_is : removal_over s x.key.id (how.Malformed sha code) ≡ c = cc in
-          subst (IsRemoval x.key.id Fails) c_is (refl, refl)
-
   way_so : (v : BookWay) (w : Way) → IsWayOf id_of v w → (c : Command) → removal_by_way s x.key.id v ≡ Some c
       → (k : Kind) × IsRemoval x.key.id k c × move.IsAnswer k Forward w
   way_so way.Nowhere w i c e = absurd (cc)
   way_so way.Refused Nowhere i c e = absurd i
-  way_so way.Refused Refused i c e = cases c e
-    where
-      cases : (c : Command) → removal_by_way s x.key.id way.Refused ≡ Some c
-          → (k : Kind) × IsRemoval x.key.id k c × move.IsAnswer k Forward Refused
-      cases c e = (Fails, some_fail c e, refl)
-        where
-          some_fail : (c : Command) → removal_by_way s x.key.id way.Refused ≡ Some c → IsRemoval x.key.id Fails c
-          some_fail (command.Fail i reason) e = (let same_fail : x.key.id ≡ i = cc in sym same_fail, refl)
-          some_fail (command.Confirm i) e = absurd (cc)
-          some_fail (command.Add amount hash expiry onion origin) e = absurd (cc)
-          some_fail (command.Fulfil i preimage) e = absurd (cc)
-          some_fail (command.Malformed i sha code) e = absurd (cc)
-          some_fail (command.Fee feerate) e = absurd (cc)
-          some_fail command.Sign e = absurd (cc)
-          some_fail (command.Shutdown script) e = absurd (cc)
-          some_fail (command.Decide event m) e = absurd (cc)
-          some_fail (command.Forget i) e = absurd (cc)
-          some_fail (command.Resume event m) e = absurd (cc)
+  way_so way.Refused Refused i c e = (Fails, given x.key.id Fails _ c e (refl, refl), refl)
   way_so way.Refused (Offered d j) i c e = absurd i
   way_so way.Refused (Over d j k) i c e = absurd i
   way_so (way.Offered k) w i c e = absurd (cc)
   way_so (way.Over k h) Nowhere i c e = absurd i
   way_so (way.Over k h) Refused i c e = absurd i
   way_so (way.Over k h) (Offered d j) i c e = absurd i
-  way_so (way.Over k h) (Over d j m) i c e = (kind_of h, over_so h c e, sym i.1)
+  way_so (way.Over k h) (Over d j m) i c e = (
+    kind_of h,
+    given x.key.id (kind_of h) (removal_over s x.key.id h) c e (over_removes s x.key.id h),
+    sym i.1,
+  )
 
   mark_so : (m : LogMark) → mark_as m ≡ Some n.mark → (c : Command) → removal_by s x m ≡ Some c
       → (k : Kind) × IsRemoval x.key.id k c × move.IsAnswer k n.mark n.way
@@ -261,36 +225,13 @@ module _ (id_of : ℕ → List ℕ) (s : Services) (x : Htlc) (n : Note) (is : I
       (r.0, r.1, subst (λ z. move.IsAnswer r.0 z n.way) m_is r.2)
   mark_so (mark.Fail reason) f c e =
       let m_is : Answer Fails ≡ n.mark = cc in
-      let c_is : command.Fail x.key.id reason ≡ c = cc in
-      (Fails, subst (IsRemoval x.key.id Fails) c_is (refl, refl), subst (λ z. move.IsAnswer Fails z n.way) m_is refl)
-  mark_so (mark.Malformed code) f c e = cases c e
-    where
-      cases : (c : Command) → removal_by s x (mark.Malformed code) ≡ Some c
-          → (k : Kind) × IsRemoval x.key.id k c × move.IsAnswer k n.mark n.way
-      cases c e =
-          let m_is : Answer Fails ≡ n.mark = cc in
-          (Fails, some_bad c e, subst (λ z. move.IsAnswer Fails z n.way) m_is refl)
-        where
-          some_bad : (c : Command) → removal_by s x (mark.Malformed code) ≡ Some c → IsRemoval x.key.id Fails c
-          some_bad (command.Malformed i sha k) e = (let same_bad : x.key.id ≡ i = cc in sym same_bad, refl)
-          some_bad (command.Fail i reason) e = absurd (cc)
-          some_bad (command.Confirm i) e = absurd (cc)
-          some_bad (command.Add amount hash expiry onion origin) e = absurd (cc)
-          some_bad (command.Fulfil i preimage) e = absurd (cc)
-          some_bad (command.Fee feerate) e = absurd (cc)
-          some_bad command.Sign e = absurd (cc)
-          some_bad (command.Shutdown script) e = absurd (cc)
-          some_bad (command.Decide event m) e = absurd (cc)
-          some_bad (command.Forget i) e = absurd (cc)
-          some_bad (command.Resume event m) e = absurd (cc)
+      (Fails, given x.key.id Fails _ c e (refl, refl), subst (λ z. move.IsAnswer Fails z n.way) m_is refl)
+  mark_so (mark.Malformed code) f c e =
+      let m_is : Answer Fails ≡ n.mark = cc in
+      (Fails, given x.key.id Fails _ c e (refl, refl), subst (λ z. move.IsAnswer Fails z n.way) m_is refl)
   mark_so (mark.Fulfil preimage) f c e =
       let m_is : Answer Fulfils ≡ n.mark = cc in
-      let c_is : command.Fulfil x.key.id preimage ≡ c = cc in (
-        Fulfils,
-        subst (IsRemoval x.key.id Fulfils) c_is (refl, refl),
-        subst
-            (λ z. move.IsAnswer Fulfils z n.way) m_is refl,
-      )
+      (Fulfils, given x.key.id Fulfils _ c e (refl, refl), subst (λ z. move.IsAnswer Fulfils z n.way) m_is refl)
   mark_so (mark.Held event) f c e = absurd (cc)
 
   -- the HTLC that came in is removed as the machine asks

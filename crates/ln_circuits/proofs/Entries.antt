@@ -4,7 +4,7 @@ use Rattle.std.proofs.Common.{Bool, true, false, cond, not, ◌==◌, ◌&&◌, 
 use Rattle.std.specs.List.{list_any}
 use Rattle.std.specs.Cmp.Lexicographic.{bytes_decides}
 use Rattle.std.proofs.Common.{append-nil}
-use Rattle.std.proofs.lemmas.Bool.{eqb-true, eq-eqb}
+use Rattle.std.proofs.lemmas.Bool.{eqb-true, eq-eqb, and_parts}
 use Rattle.std.proofs.lemmas.List.Elements.{filter-append}
 use Rattle.ln_hooks.specs.declared.event.How.{How}
 use Rattle.ln_hooks.specs.declared.event.How.TheVariants as how
@@ -28,7 +28,7 @@ use Rattle.ln_circuits.specs.Snapshot.{Incoming, IsIn}
 use Rattle.ln_circuits.proofs.Links.{mark_as, is_hold, held_as}
 use Rattle.ln_circuits.proofs.Lists.{filter_map, left_turn, changes_so, changed_turn, others_stay, none_changes}
 use Rattle.ln_circuits.proofs.Lists.{one_changes, Changes, first_passes}
-use Rattle.ln_circuits.proofs.Lists.{either, both}
+use Rattle.ln_circuits.proofs.Lists.{either}
 use Rattle.ln_circuits.specs.Snapshot.{key_at, key_of}
 
 -- ---- keys
@@ -41,7 +41,7 @@ is_same a b e = (bytes_decides a b).1 e
 
 pub key_is : (k j : Key) → same_key k j ≡ true → k ≡ j
 key_is k j e =
-    let p = both (k.id == j.id) (same k.channel j.channel) e in
+    let p = and_parts (k.id == j.id) (same k.channel j.channel) e in
     ap (λ n. record { channel = k.channel; id = n }) (eqb-true k.id j.id p.0)
     ∙ ap (λ c. record { channel = c; id = j.id }) (same_is k.channel j.channel p.1)
 
@@ -429,7 +429,8 @@ module _ (id_of : ℕ → List ℕ) where
         → (is_sent x.back && not (not (same (id_of c) x.key.channel) || is_among x.key.id told.removes)) ≡ true
         → (h.channel ≡ c) × (is_among h.id told.removes ≡ false)
     open_so h c told x key e =
-        let p = both (is_sent x.back) (not (not (same (id_of c) x.key.channel) || is_among x.key.id told.removes)) e in
+        let p = and_parts (is_sent x.back)
+        (not (not (same (id_of c) x.key.channel) || is_among x.key.id told.removes)) e in
         let q = neither (same (id_of c) x.key.channel) (is_among x.key.id told.removes) p.1 in (
           sym (one c h.channel (same_is (id_of c) x.key.channel q.0 ∙ ap (λ (k : Key). k.channel) key)),
           ap (λ n. is_among n told.removes) (sym (ap (λ (k : Key). k.id) key)) ∙ q.1,
@@ -447,7 +448,7 @@ module _ (id_of : ℕ → List ℕ) where
     lost_at c next (way.Offered k) Nowhere is e = absurd is
     lost_at c next (way.Offered k) Refused is e = absurd is
     lost_at c next (way.Offered k) (Offered d j) is e =
-        let p = both (same (id_of c) k.channel) (nat_le next k.id) e in (
+        let p = and_parts (same (id_of c) k.channel) (nat_le next k.id) e in (
           j,
           (
             (sym (one c d (same_is (id_of c) k.channel p.0 ∙ ap (λ (z : Key). z.channel) is)), refl),

@@ -1,7 +1,8 @@
 -- What an end that halts leaves of a payment; and a decision that it doesn't take.
-use Rattle.std.proofs.Common.{◌≡◌, inl, inr, ℕ, List, [], ◌∷◌, ◌++◌, filter, refl, sym, ap, ◌∙◌, subst}
+use Rattle.std.proofs.Common.{◌≡◌, inl, inr, ℕ, List, [], ◌∷◌, ◌++◌, filter, sym, ap, ◌∙◌, subst}
 use Rattle.std.proofs.Common.{Bool, true, false, cond, not, ◌==◌, ◌||◌, Option, Some, None}
 use Rattle.std.proofs.lemmas.Bool.{eq-eqb}
+use Rattle.std.proofs.Math.Bool.{or-true}
 use Rattle.ln_tables.specs.declared.htlc.Key.{Key}
 use Rattle.ln_tables.specs.declared.htlc.Htlc.{Htlc}
 use Rattle.ln_tables.specs.Replay.{same_key, is_htlc, left_out, joined}
@@ -42,11 +43,7 @@ module _ (id_of : ℕ → List ℕ) (one : (c d : ℕ) → id_of c ≡ id_of d �
       (now : (d : ℕ) → t.links.halted d ≡ ((d == c) || s.links.halted d)) where
     -- more of them have
     more : (h : Incoming) → s.links.halted h.channel ≡ true → t.links.halted h.channel ≡ true
-    more h e = now h.channel ∙ ap (λ b. (h.channel == c) || b) e ∙ or_true (h.channel == c)
-      where
-        or_true : (b : Bool) → (b || true) ≡ true
-        or_true true = refl
-        or_true false = refl
+    more h e = now h.channel ∙ ap (λ b. (h.channel == c) || b) e ∙ or-true (h.channel == c)
 
     goes : (h : Incoming) (k : HasPayment id_of h s) → HasEntry id_of h t.book (t.links.halted h.channel) k.0.note
         → HasPayment id_of h t

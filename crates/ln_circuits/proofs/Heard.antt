@@ -17,10 +17,7 @@ use Rattle.ln_circuits.specs.Snapshot.{is_gone, IsSoundLog, IsIn}
 use Rattle.ln_circuits.proofs.Updates.{front_tells}
 use Rattle.ln_circuits.proofs.Parts.{ended_by, course_by, has_result, course_of, removal_of, removal_by, stage_by}
 use Rattle.ln_circuits.proofs.Removals.{gone_by, fate_told, split_front, newly}
-
-among_more : (u : Update) (us vs : List Update) → IsIn u vs → IsIn u (us ++ vs)
-among_more u [] vs k = k
-among_more u (v ∷ us) vs k = inr (among_more u us vs k)
+use Rattle.ln_circuits.proofs.Lists.{among_more}
 
 -- what is removed is gone
 pub gone_among : (us : List Update) (u : Update) (r : Removing) → IsIn u us → removed u ≡ Some r

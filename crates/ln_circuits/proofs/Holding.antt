@@ -45,18 +45,18 @@ all_settled : (d : Decision) (o : Option Note) → ForNote (IsHoldOf d) o → Fo
 all_settled d None h = tt
 all_settled d (Some f) h = settled_waits d f.mark f.way h
 
+pub held_waits : (d : Decision) (r : Removal) → d ≡ Decided Hold → Waits d r → IsHeld r → ⊥
+held_waits Undecided r e w a = absurd (cc)
+held_waits Past r e w a = absurd (cc)
+held_waits (Decided Forward) r e w a = absurd (cc)
+held_waits (Decided (Answer j)) r e w a = absurd (cc)
+held_waits (Decided Hold) r e w a = subst IsHeld w a
+
 -- what is held has no removal, so its decision stays
 none_cleared : (p : Payment) → IsKept p → IsHeld p.removal → (o : Option Note) → ForNote (IsHoldOf p.decision) o
     → ForNote (IsHoldOf Past) o
 none_cleared p k held None h = tt
-none_cleared p k held (Some f) h = λ e. absurd (cases p.decision p.removal (h e) k.waits held)
-  where
-    cases : (d : Decision) (r : Removal) → d ≡ Decided Hold → Waits d r → IsHeld r → ⊥
-    cases Undecided r e w a = absurd (cc)
-    cases Past r e w a = absurd (cc)
-    cases (Decided Forward) r e w a = absurd (cc)
-    cases (Decided (Answer j)) r e w a = absurd (cc)
-    cases (Decided Hold) r e w a = subst IsHeld w a
+none_cleared p k held (Some f) h = λ e. absurd (held_waits p.decision p.removal (h e) k.waits held)
 
 by_waits : (m : Mark) (w : Way) (b : Back) → ForNote (IsHoldOf (Decided m)) (note_by m w b)
 by_waits m w Open = λ e. ap Decided e

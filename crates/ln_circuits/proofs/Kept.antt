@@ -2,6 +2,7 @@
 use Rattle.std.proofs.Common.{◌≡◌, inl, inr, ℕ, List, [], ◌∷◌, refl, sym, ap, ◌∙◌, Bool, true, false, cond, ◌==◌}
 use Rattle.std.proofs.Common.{◌&&◌, ◌||◌}
 use Rattle.std.proofs.lemmas.Bool.{eq-eqb}
+use Rattle.std.proofs.Math.Bool.{or-true}
 use Rattle.ln_tables.specs.declared.htlc.Htlc.{Htlc}
 use Rattle.ln_tables.specs.Replay.{same, is_among}
 use Rattle.ln_readings.specs.Kept.{kept_ids}
@@ -20,11 +21,7 @@ kept_among f c (h ∷ hs) x (inr m) at kept = cases (same c h.key.channel && f h
   where
     cases : (b : Bool) → is_among x.key.id (kept_ids f c hs) ≡ true
         → is_among x.key.id (cond b (h.key.id ∷ kept_ids f c hs) (kept_ids f c hs)) ≡ true
-    cases true k = ap (λ b. (x.key.id == h.key.id) || b) k ∙ or_true (x.key.id == h.key.id)
-      where
-        or_true : (b : Bool) → (b || true) ≡ true
-        or_true true = refl
-        or_true false = refl
+    cases true k = ap (λ b. (x.key.id == h.key.id) || b) k ∙ or-true (x.key.id == h.key.id)
     cases false k = k
 
 -- so of one that isn't among them none was kept

@@ -11,7 +11,6 @@ use Rattle.ln_msgs.specs.declared.refusals.refusal.Refusal.{Refusal}
 use Rattle.ln_keys.specs.Signer.{Signer}
 use Rattle.ln_log.specs.declared.mark.Decision.{Decision as LogDecision}
 use Rattle.ln_log.specs.declared.mark.Mark.{Mark as LogMark}
-use Rattle.ln_log.specs.declared.mark.Mark.TheVariants as mark
 use Rattle.ln_log.specs.declared.outcome.Outcome.TheVariants.{Live}
 use Rattle.ln_log.specs.declared.update.Update.{Update}
 use Rattle.ln_log.specs.Updates.{outcome, is_live, is_some, add_with, next_id}
@@ -56,7 +55,7 @@ use Rattle.ln_circuits.specs.Happens as may
 use Rattle.ln_circuits.proofs.Lists.{either, of_picked, among_changed}
 use Rattle.ln_circuits.proofs.Parts.{course_by, ended_by, has_result}
 use Rattle.ln_circuits.proofs.Logs.{uncovered_lives}
-use Rattle.ln_circuits.proofs.Links.{Side, Links, HasAddAt, course_at, decision_at, decision_by, mark_as}
+use Rattle.ln_circuits.proofs.Links.{Side, Links, HasAddAt, course_at, decision_at, decision_by, has_mark}
 use Rattle.ln_circuits.proofs.Links.{removal_at}
 use Rattle.ln_circuits.proofs.Heard.{removal_is_held}
 use Rattle.ln_circuits.proofs.Held.{some_held, found_of, among_last}
@@ -66,7 +65,7 @@ use Rattle.ln_circuits.proofs.Preimages.{ArePaid, paid_shift, paid_dropped, paid
 use Rattle.ln_circuits.proofs.Waiting.{waiting_ids}
 use Rattle.ln_circuits.proofs.Entries.{is_same, kind_of}
 use Rattle.ln_circuits.proofs.Ways.{AreBack, IsBack}
-use Rattle.ln_circuits.proofs.Due.{IsDueBy, Forgets, Offers, Removes, due_by}
+use Rattle.ln_circuits.proofs.Due.{IsDueBy, Forgets, Offers, Removes, due_by, forgets_so}
 use Rattle.ln_circuits.proofs.Scenes.{Scene, HavePayments, links_go, offered, removed, falls, settles, tells, restart}
 use Rattle.ln_circuits.proofs.Scenes as scenes
 use Rattle.ln_circuits.proofs.Answers.{decided, decided_book, add_refused, add_left, removal_refused, forget_refused}
@@ -77,7 +76,8 @@ use Rattle.ln_circuits.proofs.Halts.{halts, halts_undecided, decision_refused}
 use Rattle.ln_circuits.proofs.Kept.{none_kept}
 use Rattle.ln_circuits.specs.Circuit.{PaysOnce}
 use Rattle.ln_circuits.proofs.Promise.{begun, pays_once}
-use Rattle.ln_circuits.proofs.Proposed.{IsProposed, IsAdd, add_is, IsRemoving, removing_is, outcome_new, outcome_old}
+use Rattle.ln_circuits.proofs.Proposed.{IsProposed, IsAdd, add_is, IsRemoved, removing_is}
+use Rattle.ln_circuits.proofs.Removing.{live_so, told_so, others_so, none_forwards}
 use Rattle.ln_circuits.proofs.Told.{covered, gone, none_removed}
 use Rattle.ln_circuits.proofs.Moments.{scene_of, links_of, EachEnd, each_goes, each_same, each_loses, drops}
 use Rattle.ln_circuits.proofs.Moments.{mid}
@@ -141,12 +141,6 @@ back_still b x = record { key = refl; mark = refl; decided = λ d. d }
 
 proposes_shift : (e f : End) (u : Update) → IsProposed e f u → Shift e f
 proposes_shift e f u p = Proposes u p.may (ap (λ (z : End). z.dance.log) p.end) (ap (λ (z : End). z.ledger) p.end)
-
-forget_is : (w : BookWay) (y : Command) → forget_by w ≡ Some y → (j : ℕ) × (y ≡ command.Forget j)
-forget_is way.Nowhere y e = absurd (cc)
-forget_is way.Refused y e = absurd (cc)
-forget_is (way.Offered k) y e = absurd (cc)
-forget_is (way.Over k h) y e = let same_command : command.Forget k.id ≡ y = cc in (k.id, sym same_command)
 
 forgotten_is : (keys : Signer) (y : Command) (e : End) (turn : Turn) (j : ℕ) → y ≡ command.Forget j
     → obeyed keys y e ≡ Ok turn → turn.end ≡ record e { ledger = forgotten j e.ledger }
@@ -275,18 +269,20 @@ module _ (id_of : ℕ → List ℕ) (one : HasOwnIds id_of) where
           (old_changed (is_htlc x.key) (put_way (way.Offered (key_at id_of c (next_id e.dance.log.own))))
           (way_still (way.Offered (key_at id_of c (next_id e.dance.log.own)))) s.book)))
 
-      removes : (v : Services) (x : Htlc) (y : Command) (u : IsRemoving x.key.id y e f) → IsIn x s.book
+      removes : (v : Services) (x : Htlc) (y : Command) (u : IsRemoved x.key.id y e f) → IsIn x s.book
           → x.decided ≡ true → is_open x.back ≡ true → same (id_of c) x.key.channel ≡ true
           → removal_by v x x.mark ≡ Some y
           → t.book ≡ with_back x.key back.Sent s.book → IsKept id_of t
       removes v x y u m dec unsent chan asked book =
           let same_results = ap (λ (z : End). z.ledger.results) u.proposed.end in
           let same_decisions = ap (λ (z : End). z.ledger.decisions) u.proposed.end in
+          let r = u.removing in
+          let live = live_so x.key.id y r e u.proposed.may in
           goes_on
           (removed id_of (scene_of s) (mid_scene id_of c e f s t g) c (side_of e) (side_of f) (to_mid id_of c e f s t g)
-          (fit.fit c e g.before).sound v x m dec unsent chan y asked u.update (outcome_new x.key.id y e f u) u.live
-          (outcome_old x.key.id y e f u) u.no_add (ap (λ (z : End). z.dance.log) u.proposed.end) same_results
-          same_decisions
+          (fit.fit c e g.before).sound v x m dec unsent chan y asked r.change
+          (told_so x.key.id y r e.dance.log.own live) live (others_so x.key.id y r e.dance.log.own)
+          (none_forwards x.key.id y r) (ap (λ (z : End). z.dance.log) u.proposed.end) same_results same_decisions
           one book k.payments)
           (alike_mid same_decisions (old_as s.book _ t.book book
           (old_changed (is_htlc x.key) (put_back back.Sent) (back_still back.Sent) s.book)))
@@ -336,20 +332,12 @@ module _ (id_of : ℕ → List ℕ) (one : HasOwnIds id_of) where
           key : new_one.key ≡ key_at id_of c o.id
           key = ap (λ z. record { channel = z; id = o.id }) on.channel_is
 
-          some_mark : (m : LogMark) → (m ≡ mark.None → ⊥) → (n : _) × (mark_as m ≡ Some n)
-          some_mark mark.None h = absurd (h refl)
-          some_mark (mark.Forward channel amount expiry) h = (_, refl)
-          some_mark (mark.Fail reason) h = (_, refl)
-          some_mark (mark.Malformed code) h = (_, refl)
-          some_mark (mark.Fulfil preimage) h = (_, refl)
-          some_mark (mark.Held event) h = (_, refl)
-
           with_decision : (id : ℕ) → o.id ≡ id
               → f.ledger.decisions ≡ e.ledger.decisions ++ record { id = id; mark = d.mark } ∷ [] → IsKept id_of t
           with_decision id same_id ds =
               let now : f.ledger.decisions ≡ e.ledger.decisions ++ one_decision ∷ [] =
               ds ∙ ap (λ i. e.ledger.decisions ++ record { id = i; mark = d.mark } ∷ []) (sym same_id) in
-              let is_mark = some_mark d.mark on.does_something in
+              let is_mark = has_mark d.mark on.does_something in
               goes_on
               (answers.decided id_of one (scene_of s) (mid_scene id_of c e f s t g) c (side_of e) (side_of f)
               (to_mid id_of c e f s t g) log one_decision is_mark.0 new_one
@@ -719,7 +707,7 @@ module _ (id_of : ℕ → List ℕ) (one : HasOwnIds id_of) where
         (book ∙ ap (λ z. taken_by (id_of c) (next_id e.dance.log.own) z queue s.book) is)
     asked v keys c e x o y turn queue a done g book (Forgets dec settled over is) =
         let asks = sym (ap (command_of v x) is) ∙ a.command in
-        let j = forget_is x.way y asks in
+        let j = forgets_so x.way y asks in
         let now = forgotten_is keys y e turn j.0 j.1 done in
         forgets c e turn.end g (Notes (command.Forget j.0) (ap (λ (z : End). z.dance.log) now)
         (sym (ap (λ (z : End). Ok z.ledger) now))) v x a.incoming y j.0 a.has dec a.key settled over asks j.1 now

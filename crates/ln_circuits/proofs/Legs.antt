@@ -36,6 +36,7 @@ use Rattle.ln_circuits.specs.Snapshot.{IsIn, All}
 use Rattle.ln_circuits.proofs.Parts.{HasAdd, has_result, removal_by}
 use Rattle.ln_circuits.proofs.Results.{IsTrue, AreOnce}
 use Rattle.ln_circuits.proofs.Entries.{key_is, is_key, kind_of}
+use Rattle.ln_circuits.proofs.Lists.{among_more}
 
 -- ---- an add that stands in a list is found by its id
 
@@ -91,10 +92,6 @@ among_left u [] vs k = absurd k
 among_left u (w ∷ us) vs (inl e) = inl e
 among_left u (w ∷ us) vs (inr k) = inr (among_left u us vs k)
 
-among_right : (u : Update) (us vs : List Update) → IsIn u vs → IsIn u (us ++ vs)
-among_right u [] vs k = k
-among_right u (w ∷ us) vs k = inr (among_right u us vs k)
-
 -- ---- the own adds that an end has
 
 window_is : (l : Log) → own_window l ≡ drop l.first.own l.own
@@ -111,7 +108,7 @@ own_stands l u a ids k e = elim (among_append u (first_lives side.Own l) (own_wi
       v.2
   | inr r ↦ among_found 0 l.own u a ids
       (subst (IsIn u) (take-append-drop l.first.own l.own)
-      (among_right u (take l.first.own l.own) (drop l.first.own l.own) (subst (IsIn u) (window_is l) r))) e
+      (among_more u (take l.first.own l.own) (drop l.first.own l.own) (subst (IsIn u) (window_is l) r))) e
 ]
 
 -- one that isn't removed in the base is there

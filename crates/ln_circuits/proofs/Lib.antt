@@ -21,6 +21,7 @@ pub mod Shifts  -- what a shift makes of it
 pub mod Examples
 -- ---- the book
 pub mod Entries  -- what it has of a payment, and what each entry makes of that
+pub mod Removing  -- which command of it removes an HTLC, and which update that is
 pub mod Due  -- what it asks for is what the machine asks for
 pub mod Kept  -- what an end answers of the removals that it has kept
 pub mod Told  -- what it tells the book once its connection is lost

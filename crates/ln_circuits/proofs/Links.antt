@@ -28,7 +28,7 @@ use Rattle.ln_payment.specs.Moves.{Move, AreMade, after, moved, going_on, with_c
 use Rattle.ln_payment.specs.Moves as move
 use Rattle.ln_circuits.specs.Snapshot.{is_gone, IsSoundLog}
 use Rattle.ln_circuits.specs.Circuit.{Forwards}
-use Rattle.ln_circuits.proofs.Parts.{HasAdd, course_of, removal_of, removal_by, has_result}
+use Rattle.ln_circuits.proofs.Parts.{HasAdd, some_of, course_of, removal_of, removal_by, has_result}
 use Rattle.ln_circuits.proofs.Logs.{course_signed, removal_is_signed, removal_accepted, course_proposed, add_stays}
 use Rattle.ln_circuits.proofs.Logs.{add_was, course_new, add_new, removal_other, removal_new}
 use Rattle.ln_circuits.proofs.Removals.{course_learned, newly}
@@ -49,6 +49,15 @@ mark_as (mark.Fail reason) = Some (Answer Fails)
 mark_as (mark.Malformed code) = Some (Answer Fails)
 mark_as (mark.Fulfil preimage) = Some (Answer Fulfils)
 mark_as (mark.Held event) = Some Hold
+
+-- one that does something
+pub has_mark : (m : LogMark) → (m ≡ mark.None → ⊥) → (n : Mark) × (mark_as m ≡ Some n)
+has_mark mark.None h = absurd (h refl)
+has_mark (mark.Forward channel amount expiry) h = (_, refl)
+has_mark (mark.Fail reason) h = (_, refl)
+has_mark (mark.Malformed code) h = (_, refl)
+has_mark (mark.Fulfil preimage) h = (_, refl)
+has_mark (mark.Held event) h = (_, refl)
 
 abbrev pub is_hold : Mark → Bool
 is_hold Forward = false
@@ -222,6 +231,14 @@ module _ (origin : Incoming → List ℕ × ℕ) where
       halted = λ n. k.halted n ∙ sym (g.halted n);
     }
 
+    -- the base is the same
+    base_stays : (m : Log) → y.log ≡ m → y.decisions ≡ x.decisions
+        → take m.first.own m.own ≡ take x.log.first.own x.log.own → decision_of h.id y ≡ decision_of h.id x
+    base_stays m l d same =
+        ap (λ (n : Log). decision_by (find (λ e. e.id == h.id) y.decisions) (is_gone h.id (take n.first.own n.own))) l
+        ∙ ap (λ ds. decision_by (find (λ e. e.id == h.id) ds) (is_gone h.id (take m.first.own m.own))) d
+        ∙ ap (λ us. decision_by (find (λ e. e.id == h.id) x.decisions) (is_gone h.id us)) same
+
     nowhere_else : (h.channel == c) ≡ false → t.sides h.channel ≡ s.sides h.channel
     nowhere_else e = g.others h.channel e
 
@@ -265,19 +282,13 @@ module _ (origin : Incoming → List ℕ × ℕ) where
         signed = log.after_sign x.log
 
         decision : decision_of h.id y ≡ decision_of h.id x
-        decision = ap (λ (m : Log). decision_by (find (λ e. e.id == h.id) y.decisions)
-            (is_gone h.id (take m.first.own m.own))) l
-            ∙ ap (λ ds. decision_by (find (λ e. e.id == h.id) ds) (is_gone h.id (take x.log.first.own x.log.own))) d
+        decision = base_stays (log.after_sign x.log) l d refl
 
         removal : removal_of h.id y.log ≡ move.removal_signed (removal_of h.id x.log)
         removal = ap (removal_of h.id) l ∙ removal_is_signed x.log h.id sound.within
 
         there : (i : ℕ) → Here i x → is_some (add_with i x.log.own) ≡ true
-        there i a = some_of (add_with i x.log.own) a
-          where
-            some_of : (o : Option _) → Forwards (origin h) o → is_some o ≡ true
-            some_of None e = absurd e
-            some_of (Some z) e = refl
+        there i a = some_of (origin h) (add_with i x.log.own) a
 
         outs : AreOuts h t (going_on (λ q. q.channel == c) after_sign p.outs)
         outs = outs_going after_sign (λ i a. subst (λ (m : Log). HasAdd (origin h) i m) l a)
@@ -320,9 +331,7 @@ module _ (origin : Incoming → List ℕ × ℕ) where
     ]
       where
         decision : decision_of h.id y ≡ decision_of h.id x
-        decision = ap (λ (m : Log). decision_by (find (λ e. e.id == h.id) y.decisions)
-            (is_gone h.id (take m.first.own m.own))) l
-            ∙ ap (λ ds. decision_by (find (λ e. e.id == h.id) ds) (is_gone h.id (take x.log.first.own x.log.own))) d
+        decision = base_stays (log.after_accept x.log) l d refl
 
         back : (i : ℕ) → Here i y → Here i x
         back i a = subst (λ (m : Log). HasAdd (origin h) i m) l a
@@ -355,9 +364,7 @@ module _ (origin : Incoming → List ℕ × ℕ) where
     learns ts l r d sound new p k = cases p.outs refl
       where
         decision : decision_of h.id y ≡ decision_of h.id x
-        decision = ap (λ (m : Log). decision_by (find (λ e. e.id == h.id) y.decisions)
-            (is_gone h.id (take m.first.own m.own))) l
-            ∙ ap (λ ds. decision_by (find (λ e. e.id == h.id) ds) (is_gone h.id (take x.log.first.own x.log.own))) d
+        decision = base_stays (log.after_learn x.log) l d refl
 
         removal : removal_of h.id y.log ≡ removal_of h.id x.log
         removal = ap (removal_of h.id) l
@@ -443,10 +450,7 @@ module _ (origin : Incoming → List ℕ × ℕ) where
           let b = sound.within.own_current in
           let e = sound.within.own_acknowledged in
           let f = sound.within.own_signed in
-          ap (λ (m : Log). decision_by (find (λ e. e.id == h.id) y.decisions) (is_gone h.id (take m.first.own m.own))) l
-          ∙ ap (λ ds. decision_by (find (λ e. e.id == h.id) ds)
-          (is_gone h.id (take x.log.first.own (x.log.own ++ u ∷ [])))) d
-          ∙ ap (λ us. decision_by (find (λ e. e.id == h.id) x.decisions) (is_gone h.id us))
+          base_stays (log.after_propose u x.log) l d
           (take-append-le x.log.first.own x.log.own (u ∷ []) (omega (arith, a, b, e, f)))
 
       proposed_on : (i : ℕ) → Here i x → Here i y

@@ -1,6 +1,6 @@
 -- What is left of the part of a list that a test picks, where the list changes.
-use Rattle.std.proofs.Common.{◌≡◌, ◌⊎◌, inl, inr, List, [], ◌∷◌, Bool, true, false, cond, not, ◌&&◌, refl}
-use Rattle.std.proofs.Common.{sym, ap, ◌∙◌, subst, map}
+use Rattle.std.proofs.Common.{◌≡◌, ◌⊎◌, inl, inr, List, [], ◌∷◌, Bool, true, false, cond, not, refl}
+use Rattle.std.proofs.Common.{◌++◌, sym, ap, ◌∙◌, subst, map}
 use Rattle.std.specs.Prelude.{filter}
 use Rattle.ln_tables.specs.Replay.{changed_first, left_out}
 use Rattle.ln_circuits.specs.Snapshot.{IsIn}
@@ -9,11 +9,11 @@ pub either : (b : Bool) → (b ≡ true) ⊎ (b ≡ false)
 either true = inl refl
 either false = inr refl
 
-pub both : (a b : Bool) → (a && b) ≡ true → (a ≡ true) × (b ≡ true)
-both true b e = (refl, e)
-both false b e = absurd (cc)
-
 module _ {A : Type 0} where
+  pub among_more : (x : A) (xs ys : List A) → IsIn x ys → IsIn x (xs ++ ys)
+  among_more x [] ys k = k
+  among_more x (y ∷ xs) ys k = inr (among_more x xs ys k)
+
   -- ---- by the first one
 
   pub picks_first : (q : A → Bool) (x : A) (xs : List A) → q x ≡ true → filter q (x ∷ xs) ≡ x ∷ filter q xs

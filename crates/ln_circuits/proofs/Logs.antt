@@ -19,7 +19,7 @@ use Rattle.ln_payment.specs.Rebuild.{kept_removal, is_uncovered}
 use Rattle.ln_payment.specs.Moves.{after_sign, removal_signed, removal_held}
 use Rattle.ln_circuits.specs.Snapshot.{is_gone, IsSoundLog}
 use Rattle.ln_circuits.specs.Circuit.{Forwards}
-use Rattle.ln_circuits.proofs.Updates.{front_tells, front_live, front_gone, front_offers, offers_next}
+use Rattle.ln_circuits.proofs.Updates.{not_gone, front_tells, front_live, front_gone, front_offers, offers_next}
 use Rattle.ln_circuits.proofs.Parts.{HasAdd, ended_by, course_by, has_result, course_of, stage_by, removal_by}
 use Rattle.ln_circuits.proofs.Parts.{removal_of}
 
@@ -301,9 +301,4 @@ removal_dropped l id w =
     (take-take l.signed.own l.signed.own l.own (omega arith))
     ∙ dropped_by (outcome id l.own) p (is_gone id (take l.current.own l.own)) (is_gone id (take l.signed.own l.own))
     (front_gone id l.current.own l.signed.own l.own (current_le l w))
-    (λ e. sym (front_tells id l.signed.own l.own e)) (λ e. lives p e)
-  where
-    lives : (o : Outcome) → not (is_live o) ≡ false → o ≡ Live
-    lives Live e = refl
-    lives Fulfilled e = absurd (cc)
-    lives Failed e = absurd (cc)
+    (λ e. sym (front_tells id l.signed.own l.own e)) (not_gone p)

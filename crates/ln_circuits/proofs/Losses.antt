@@ -3,6 +3,7 @@ use Rattle.std.proofs.Common.{◌≡◌, inl, inr, ℕ, List, [], ◌∷◌, tak
 use Rattle.std.proofs.Common.{Bool, true, false, cond, not, ◌==◌, ◌&&◌, ◌||◌, Option, Some, None}
 use Rattle.std.specs.List.{find}
 use Rattle.std.proofs.lemmas.List.{take-take}
+use Rattle.std.proofs.Math.Bool.{and-false}
 use Rattle.ln_log.specs.Updates.{add_with, is_some}
 use Rattle.ln_log.specs.Log.{Log}
 use Rattle.ln_log.specs.Log as log
@@ -103,12 +104,8 @@ module _ (origin : Incoming → List ℕ × ℕ) (h : Incoming) (f : ℕ → Boo
     | inl is ↦ ap (λ b. b && f d) (left_covered (origin h) i (s.sides d)
         (subst (HasAddAt (origin h) i) (g.lost d is) k))
     | inr isnt ↦ ap (λ b. is_uncovered (course_at i (s.sides d)) && b) isnt
-        ∙ and_false (is_uncovered (course_at i (s.sides d)))
+        ∙ and-false (is_uncovered (course_at i (s.sides d)))
   ]
-    where
-      and_false : (a : Bool) → (a && false) ≡ false
-      and_false true = refl
-      and_false false = refl
 
   pub outs_kept : (qs : List Out) → AreOuts origin h s qs → AreOuts origin h t (kept_outs f qs)
   outs_kept [] k = λ d i a. k d i (has_back d i a)

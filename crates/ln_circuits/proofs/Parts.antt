@@ -1,9 +1,10 @@
 -- What one end of a channel has of a payment: the course of an own add, and the own removal of an HTLC that came in.
-use Rattle.std.specs.Prelude.{ℕ, ◌==◌, List, take, Bool, true, false}
+use Rattle.std.proofs.Common.{◌≡◌, ℕ, ◌==◌, List, take, Bool, true, false, Option, Some, None, refl}
 use Rattle.std.specs.List.{list_any}
 use Rattle.ln_log.specs.declared.mark.Settlement.{Settlement}
 use Rattle.ln_log.specs.declared.outcome.Outcome.{Outcome}
 use Rattle.ln_log.specs.declared.outcome.Outcome.TheVariants.{Live, Fulfilled, Failed}
+use Rattle.ln_log.specs.declared.update.Add.{Add}
 use Rattle.ln_log.specs.Updates.{add_with, outcome, is_some}
 use Rattle.ln_log.specs.Log.{Log}
 use Rattle.ln_payment.specs.Parts.{Fulfils, Fails, Stage, Proposed, Signed, Held, Removal, NoRemoval, By}
@@ -16,6 +17,10 @@ use Rattle.ln_circuits.specs.Circuit.{Forwards}
 -- an own add of this id forwards what has this origin
 abbrev pub HasAdd : List ℕ × ℕ → ℕ → Log → Type 0
 HasAdd o i l = Forwards o (add_with i l.own)
+
+pub some_of : (o : List ℕ × ℕ) (a : Option Add) → Forwards o a → is_some a ≡ true
+some_of o None h = absurd h
+some_of o (Some a) h = refl
 
 abbrev pub ended_by : Outcome → Bool → Course
 ended_by Live r = Covered

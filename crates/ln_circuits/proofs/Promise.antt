@@ -1,12 +1,11 @@
 -- One payment out for each payment in, of a node whose payments are those of the machine; and so at the beginning.
-use Rattle.std.proofs.Common.{◌≡◌, ℕ, List, [], ◌∷◌, take, drop, refl, sym, ap, ◌∙◌, subst, Bool, true, false}
+use Rattle.std.proofs.Common.{◌≡◌, ℕ, List, [], ◌∷◌, take, drop, refl, sym, ap, ◌∙◌, subst, Bool, false}
 use Rattle.std.proofs.Common.{Option, Some, None}
 use Rattle.std.specs.Prelude.{option_map}
 use Rattle.std.proofs.lemmas.List.{take-append-drop}
-use Rattle.ln_log.specs.declared.update.Add.{Add}
 use Rattle.ln_log.specs.declared.outcome.Outcome.{Outcome}
 use Rattle.ln_log.specs.declared.outcome.Outcome.TheVariants.{Live, Fulfilled, Failed}
-use Rattle.ln_log.specs.Updates.{add_with, outcome, is_live, is_some}
+use Rattle.ln_log.specs.Updates.{add_with, outcome, is_live}
 use Rattle.ln_channel.specs.End.{End}
 use Rattle.ln_payment.specs.Parts.{Kind, Fulfils, Fails, Stage, By}
 use Rattle.ln_payment.specs.Parts.{Out, Each, IsEnd, HasEnded}
@@ -14,8 +13,8 @@ use Rattle.ln_payment.specs.Promises.{Follows}
 use Rattle.ln_payment.specs.Parts.{begun as begun_payment}
 use Rattle.ln_payment.proofs.Law.{kept_begun}
 use Rattle.ln_circuits.specs.Snapshot.{Snapshot, Incoming, is_gone, origin}
-use Rattle.ln_circuits.specs.Circuit.{Forwards, IsCoveredAt, removed_at, fate_at, ArePaidFor, ArePaidAt, PaysOnce}
-use Rattle.ln_circuits.proofs.Parts.{course_by, ended_by, has_result, removal_by, stage_by}
+use Rattle.ln_circuits.specs.Circuit.{IsCoveredAt, removed_at, fate_at, ArePaidFor, ArePaidAt, PaysOnce}
+use Rattle.ln_circuits.proofs.Parts.{some_of, course_by, ended_by, has_result, removal_by, stage_by}
 use Rattle.ln_circuits.proofs.Logs.{add_covered}
 use Rattle.ln_circuits.proofs.Links.{HasAddAt, AreOuts, course_at, removal_at}
 use Rattle.ln_circuits.proofs.Shifts.{side_of}
@@ -60,11 +59,7 @@ fate_is o i (Some x) k c e =
     let held = outcome i (take l.acknowledged.peer l.received) in
     let results = has_result i x.ledger.results in
     ends_as held results k
-    (subst (λ b. IsEnd k (course_by b (ended_by held results))) (there (add_with i (take l.signed.own l.own)) c) e)
-  where
-    there : (a : Option Add) → Forwards o a → is_some a ≡ true
-    there None f = absurd f
-    there (Some a) f = refl
+    (subst (λ b. IsEnd k (course_by b (ended_by held results))) (some_of o (add_with i (take l.signed.own l.own)) c) e)
 
 -- by all that was received
 paid_at : (x : Option End) → ((e : End) → x ≡ Some e → ArePaid e.dance.log) → ArePaidAt x

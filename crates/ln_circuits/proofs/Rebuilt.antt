@@ -1,6 +1,8 @@
 -- A book that is read off the ends of a node has of each HTLC what the machine of a payment reads.
 use Rattle.std.proofs.Common.{◌≡◌, ◌⊎◌, inl, inr, ℕ, List, [], ◌∷◌, refl}
 use Rattle.std.proofs.Common.{sym, ap, ◌∙◌, subst, Bool, true, false, cond, not, ◌&&◌, Some, None}
+use Rattle.std.proofs.Math.Bool.{and-false, and-true}
+use Rattle.std.proofs.lemmas.Bool.{and_parts}
 use Rattle.ln_log.specs.declared.mark.Mark.{Mark as LogMark}
 use Rattle.ln_log.specs.declared.mark.Mark.TheVariants as mark
 use Rattle.ln_tables.specs.declared.htlc.Way.{Way as BookWay}
@@ -18,6 +20,7 @@ use Rattle.ln_payment.specs.Rebuild as payment
 use Rattle.ln_log.specs.Mark.{is_held}
 use Rattle.ln_circuits.proofs.Links.{mark_as, is_hold, held_as}
 use Rattle.ln_circuits.proofs.Entries.{back_as, IsWayOf, AreEntries}
+use Rattle.ln_circuits.proofs.Due.{nowhere_so}
 
 -- ---- one HTLC that is decided, and read
 
@@ -70,11 +73,7 @@ module _ (id_of : ℕ → List ℕ) where
   way_read_is : (m : LogMark) (n : Mark) (b : Bool) (v : BookWay) (w : Way) → mark_as m ≡ Some n → IsWayOf id_of v w
       → IsWayOf id_of (cond (is_forward m && (b && is_nowhere v)) way.Refused v) (cond b (payment.way_read n w Sent) w)
   way_read_is m n false v w e is = subst (λ t. IsWayOf id_of (cond t way.Refused v) w)
-      (sym (and_false (is_forward m))) is
-    where
-      and_false : (a : Bool) → (a && false) ≡ false
-      and_false true = refl
-      and_false false = refl
+      (sym (and-false (is_forward m))) is
   way_read_is m Hold true v w e is =
       subst (λ t. IsWayOf id_of (cond (t && is_nowhere v) way.Refused v) w) (sym (hold_stays m e)) is
   way_read_is m (Answer k) true v w e is =
@@ -157,19 +156,6 @@ module _ (id_of : ℕ → List ℕ) where
       → AreEntries id_of (cond (has_no_way x.way && not (is_held m)) [] (x ∷ [])) false (settled_note n w)
   settled_read m n v w e is x mk d b at = held (is_held m) refl
     where
-      nowhere : (z : BookWay) (y : Way) → IsWayOf id_of z y → is_nowhere z ≡ true → y ≡ Nowhere
-      nowhere way.Nowhere Nowhere i f = refl
-      nowhere way.Nowhere Refused i f = absurd i
-      nowhere way.Nowhere (Offered c j) i f = absurd i
-      nowhere way.Nowhere (Over c j k) i f = absurd i
-      nowhere way.Refused y i f = absurd (cc)
-      nowhere (way.Offered k) y i f = absurd (cc)
-      nowhere (way.Over k how) y i f = absurd (cc)
-
-      second : (a c : Bool) → (a && c) ≡ true → c ≡ true
-      second true c f = f
-      second false c f = absurd (cc)
-
       same_way : (t : Bool) → has_no_way v ≡ t → (n ≡ Hold → ⊥) → x.way ≡ v
           → AreEntries id_of (cond t [] (x ∷ [])) false (settled_note n w)
       same_way true f hold z = none_left n w hold ((left_by v w is true f).0 refl)
@@ -182,15 +168,11 @@ module _ (id_of : ℕ → List ℕ) where
       cases true f hold =
           subst (λ y. AreEntries id_of (cond (has_no_way y) [] (x ∷ [])) false (settled_note n w))
           (sym (at ∙ ap (λ t. cond t way.Refused v) f))
-          (none_left n w hold (inl (nowhere v w is (second (is_forward m) (is_nowhere v) f))))
+          (none_left n w hold (inl (nowhere_so id_of v w is (and_parts (is_forward m) (is_nowhere v) f).1)))
       cases false f hold =
           let z = at ∙ ap (λ t. cond t way.Refused v) f in
           subst (λ y. AreEntries id_of (cond (has_no_way y) [] (x ∷ [])) false (settled_note n w)) (sym z)
           (same_way (has_no_way v) refl hold z)
-
-      and_true : (t : Bool) → (t && true) ≡ t
-      and_true true = refl
-      and_true false = refl
 
       waits : (t : Bool) (n : Mark) → n ≡ Hold → mark_as m ≡ Some n → x.way ≡ v
           → AreEntries id_of (cond (t && false) [] (x ∷ [])) false (settled_note n w)
@@ -222,7 +204,7 @@ module _ (id_of : ℕ → List ℕ) where
       held false f =
           subst (λ c. AreEntries id_of (cond (has_no_way x.way && not c) [] (x ∷ [])) false (settled_note n w)) (sym f)
           (subst (λ c. AreEntries id_of (cond c [] (x ∷ [])) false (settled_note n w))
-          (sym (and_true (has_no_way x.way)))
+          (sym (and-true (has_no_way x.way)))
           (cases (is_forward m && is_nowhere v) refl (never_hold m n f e)))
 
   -- all of it

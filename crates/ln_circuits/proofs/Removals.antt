@@ -4,6 +4,7 @@ use Rattle.std.proofs.Common.{sym, ap, ◌∙◌, subst, arith, Bool, true, fals
 use Rattle.std.proofs.Common.{append_assoc, zero, suc}
 use Rattle.std.proofs.lemmas.Bool.{eqb-true, eq-eqb}
 use Rattle.std.proofs.lemmas.List.Folds.{list_any-append}
+use Rattle.std.proofs.Math.Bool.{or-false, or-true}
 use Rattle.ln_log.specs.declared.update.Removal.{Removal as Removing}
 use Rattle.ln_log.specs.declared.update.Update.{Update}
 use Rattle.ln_log.specs.declared.mark.Settlement.{Settlement}
@@ -72,14 +73,6 @@ fate_told adds before (v ∷ us) u r h (inr k) e =
 
 -- ---- as the peer's revocation is taken
 
-or_false : (b : Bool) → (b || false) ≡ b
-or_false true = refl
-or_false false = refl
-
-or_true : (b : Bool) → (b || true) ≡ true
-or_true true = refl
-or_true false = refl
-
 abbrev no_updates : List Update
 no_updates = []
 
@@ -107,20 +100,20 @@ learned_by : (b : Bool) (o p q : Outcome) (ss ts : Bool) → (not (is_live o) �
 learned_by false o p q ss ts h g i j = inl refl
 learned_by true Fulfilled p q ss ts h g i j =
     inl (ap (λ x. ended_by x (ss || ts)) (h refl) ∙ ap (λ t. Ended Fulfils (ss || t)) (i refl)
-    ∙ ap (Ended Fulfils) (or_false ss))
+    ∙ ap (Ended Fulfils) (or-false ss))
 learned_by true Failed p q ss ts h g i j =
     inl (ap (λ x. ended_by x (ss || ts)) (h refl) ∙ ap (λ t. Ended Fails (ss || t)) (i refl)
-    ∙ ap (Ended Fails) (or_false ss))
+    ∙ ap (Ended Fails) (or-false ss))
 learned_by true Live p Live ss ts h g i j = inl (ap (λ x. ended_by x (ss || ts)) (g refl))
 learned_by true Live p Fulfilled ss ts h g i j = inr (
   Fulfils,
   ap (λ x. ended_by x (ss || ts)) (g refl) ∙ ap (λ t. Ended Fulfils (ss || t)) (j refl)
-      ∙ ap (Ended Fulfils) (or_true ss),
+      ∙ ap (Ended Fulfils) (or-true ss),
   refl,
 )
 learned_by true Live p Failed ss ts h g i j = inr (
   Fails,
-  ap (λ x. ended_by x (ss || ts)) (g refl) ∙ ap (λ t. Ended Fails (ss || t)) (j refl) ∙ ap (Ended Fails) (or_true ss),
+  ap (λ x. ended_by x (ss || ts)) (g refl) ∙ ap (λ t. Ended Fails (ss || t)) (j refl) ∙ ap (Ended Fails) (or-true ss),
   refl,
 )
 

@@ -2,7 +2,7 @@
 use Rattle.std.proofs.Common.{◌≡◌, ◌⊎◌, inl, inr, ℕ, List, [], ◌∷◌, ◌++◌, take, filter, refl, sym, ap, ◌∙◌, subst}
 use Rattle.std.proofs.Common.{Bool, true, false, cond, not, ◌==◌, ◌&&◌, Option, Some, None}
 use Rattle.std.specs.List.{find}
-use Rattle.std.proofs.lemmas.Bool.{eqb-true, eq-eqb}
+use Rattle.std.proofs.lemmas.Bool.{eqb-true, eq-eqb, and_parts}
 use Rattle.ln_log.specs.declared.mark.Decision.{Decision as LogDecision}
 use Rattle.ln_log.specs.declared.mark.Mark.{Mark as LogMark}
 use Rattle.ln_log.specs.declared.mark.Mark.TheVariants as mark
@@ -16,11 +16,11 @@ use Rattle.ln_tables.specs.declared.htlc.Back.TheVariants as back
 use Rattle.ln_tables.specs.Replay.{same, same_key, is_htlc, is_over, is_settled, is_held_in, has_no_way, put_mark}
 use Rattle.ln_tables.specs.Replay.{with_mark}
 use Rattle.ln_tables.specs.Replay.{changed_first, left_out}
-use Rattle.ln_payment.specs.Parts.{Mark, Forward, Hold, Answer, Decision, Undecided, Decided, Past, Removal}
+use Rattle.ln_payment.specs.Parts.{Mark, Hold, Decision, Undecided, Decided, Past}
 use Rattle.ln_payment.specs.Parts.{Settled, Note, Payment, IsHeld}
 use Rattle.ln_payment.specs.Moves.{Move, AreMade, after, moved, IsSettled, IsDecided}
 use Rattle.ln_payment.specs.Moves as move
-use Rattle.ln_payment.proofs.Invariant.{ForNote, Waits, MarkIs}
+use Rattle.ln_payment.proofs.Invariant.{ForNote, MarkIs}
 use Rattle.ln_circuits.specs.Snapshot.{is_gone, Incoming, IsIn, key_at, key_of, origin}
 use Rattle.ln_circuits.proofs.Links.{Side, IsOfLinks, Changed, mark_as, decided_as, decision_at, decision_by}
 use Rattle.ln_circuits.proofs.Ledgers.{resumes, resumes_other}
@@ -28,9 +28,9 @@ use Rattle.ln_circuits.proofs.Lists.{left_turn, only_picked, none_of_them, picke
 use Rattle.ln_circuits.proofs.Held.{marked_find, marked_as, marked_of, found_among, answer_unheld}
 use Rattle.ln_circuits.proofs.Entries.{key_is, is_key, same_is, is_same, back_as, IsEntry, AreEntries, HasEntry}
 use Rattle.ln_circuits.proofs.Shifts.{made_both, after_both}
-use Rattle.ln_circuits.proofs.Holding.{IsHoldOf}
+use Rattle.ln_circuits.proofs.Holding.{IsHoldOf, held_waits}
 use Rattle.ln_circuits.proofs.Scenes.{Scene, HasPayment, HavePayments, by_moves, note_of}
-use Rattle.ln_circuits.proofs.Lists.{either, both}
+use Rattle.ln_circuits.proofs.Lists.{either}
 
 held_hold : (n : ℕ) (m : LogMark) → is_held_by n m ≡ true → mark_as m ≡ Some Hold
 held_hold n mark.None e = absurd (cc)
@@ -73,7 +73,7 @@ module _ (id_of : ℕ → List ℕ) where
   closes_by x b o k false e = inl k
   closes_by x b None k true e = inl refl
   closes_by x b (Some n) k true e = inr (
-    sym k.1.back ∙ settled_as x (both (is_settled x.back) (has_no_way x.way && not (is_held x.mark)) e).0,
+    sym k.1.back ∙ settled_as x (and_parts (is_settled x.back) (has_no_way x.way && not (is_held x.mark)) e).0,
     refl,
   )
     where
@@ -144,8 +144,8 @@ module _ (id_of : ℕ → List ℕ) where
     -- what the book holds by this number
     hits : HavePayments id_of s → (y : Htlc) → IsIn y s.book → p y ≡ true → y.key ≡ key_of id_of h0
     hits k y in_book e =
-        let a = both y.decided (is_held_by n y.mark && same (id_of c) y.key.channel) e in
-        let b = both (is_held_by n y.mark) (same (id_of c) y.key.channel) a.1 in
+        let a = and_parts y.decided (is_held_by n y.mark && same (id_of c) y.key.channel) e in
+        let b = and_parts (is_held_by n y.mark) (same (id_of c) y.key.channel) a.1 in
         let hy : Incoming = record { channel = c; id = y.key.id } in
         let key : y.key ≡ key_of id_of hy =
         ap (λ z. record { channel = z; id = y.key.id }) (sym (same_is (id_of c) y.key.channel b.1)) in
@@ -189,14 +189,7 @@ module _ (id_of : ℕ → List ℕ) where
           ∙ ap decided_as (held_hold n d0.mark held)
 
       none_removed : IsHeld k.0.removal → ⊥
-      none_removed e = cases k.0.decision k.0.removal was k.1.kept.waits e
-        where
-          cases : (d : Decision) (q : Removal) → d ≡ Decided Hold → Waits d q → IsHeld q → ⊥
-          cases Undecided q e w a = absurd (cc)
-          cases Past q e w a = absurd (cc)
-          cases (Decided Forward) q e w a = absurd (cc)
-          cases (Decided (Answer j)) q e w a = absurd (cc)
-          cases (Decided Hold) q e w a = subst IsHeld w a
+      none_removed e = held_waits k.0.decision k.0.removal was k.1.kept.waits e
 
       note_holds : (nt : Note) → k.0.note ≡ Some nt → nt.mark ≡ Hold
       note_holds nt e = elim k.1.kept.marks [
@@ -334,8 +327,8 @@ module _ (id_of : ℕ → List ℕ) where
 
         marked_not : (y : Htlc) → put_mark m y ≡ x → ⊥
         marked_not y e =
-            let a = both x.decided (is_held_by n x.mark && same (id_of c) x.key.channel) is in
-            let b = both (is_held_by n x.mark) (same (id_of c) x.key.channel) a.1 in
+            let a = and_parts x.decided (is_held_by n x.mark && same (id_of c) x.key.channel) is in
+            let b = and_parts (is_held_by n x.mark) (same (id_of c) x.key.channel) a.1 in
             absurd (let twice : true ≡ false = sym b.0 ∙ ap (λ (z : Htlc). is_held_by n z.mark) (sym e)
             ∙ answer_unheld n m answers in cc)
 

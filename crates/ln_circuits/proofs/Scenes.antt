@@ -46,7 +46,8 @@ use Rattle.ln_circuits.proofs.Entries.{way_here, way_there, back_here, back_ther
 use Rattle.ln_circuits.proofs.Entries.{over_so_far, loses, kept_turn, Loses, lost_way, lost_back}
 use Rattle.ln_circuits.proofs.Ways.{AreBack}
 use Rattle.ln_circuits.proofs.AllEnds.{read_so}
-use Rattle.ln_circuits.proofs.Due.{asks_to_offer, asks_to_remove, IsRemoval}
+use Rattle.ln_circuits.proofs.Removing.{IsRemoval}
+use Rattle.ln_circuits.proofs.Due.{asks_to_offer, asks_to_remove}
 use Rattle.ln_circuits.proofs.Lists.{either}
 
 -- a node's links, and the HTLCs of its book

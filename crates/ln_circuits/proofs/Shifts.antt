@@ -1,17 +1,15 @@
 -- What the shifts of an end make of what links have of an HTLC that came in, where the book has no part in it.
 use Rattle.std.proofs.Common.{◌≡◌, ℕ, ◌≤◌, List, [], ◌∷◌, ◌++◌, take, refl, sym, ap, ◌∙◌, subst, arith}
-use Rattle.std.proofs.Common.{Bool, true, false, cond, not, ◌==◌, ◌&&◌, Some, None}
+use Rattle.std.proofs.Common.{Bool, true, false, cond, ◌==◌, Some, None}
 use Rattle.ln_log.specs.declared.update.Update.{Update}
 use Rattle.ln_log.specs.declared.update.Update.TheVariants as update
-use Rattle.ln_log.specs.declared.outcome.Outcome.{Outcome}
-use Rattle.ln_log.specs.declared.outcome.Outcome.TheVariants.{Live, Fulfilled, Failed}
 use Rattle.ln_log.specs.declared.mark.EventRef.TheVariants as ref
-use Rattle.ln_log.specs.Updates.{removed, add_with, outcome, is_live}
+use Rattle.ln_log.specs.Updates.{removed, add_with, outcome}
 use Rattle.ln_log.specs.Log.{Log, Counts, between}
 use Rattle.ln_log.specs.Log as log
 use Rattle.ln_log.specs.Window.{may_be_base}
 use Rattle.ln_log.proofs.Removing.{outcome-none}
-use Rattle.std.proofs.lemmas.Bool.{leb-true}
+use Rattle.std.proofs.lemmas.Bool.{leb-true, and_parts}
 use Rattle.std.proofs.Common.{nat_le}
 use Rattle.ln_channel.specs.declared.command.Command.TheVariants as command
 use Rattle.ln_channel.specs.Ledger.{Ledger, refs_of, entered, resulted, settlements, first_htlc, forgotten}
@@ -26,6 +24,7 @@ use Rattle.ln_log.specs.Updates.{is_some}
 use Rattle.ln_circuits.specs.Snapshot.{is_gone, IsSoundLog, Incoming}
 use Rattle.ln_circuits.specs.Circuit.{Forwards}
 use Rattle.ln_circuits.specs.Shift.{Shift, Stays, Takes, Proposes, Signs, Accepts, Learns, Closes, Notes}
+use Rattle.ln_circuits.proofs.Updates.{not_gone}
 use Rattle.ln_circuits.proofs.Parts.{course_of, course_by, ended_by, removal_of, HasAdd, has_result}
 use Rattle.ln_circuits.proofs.Links.{decision_by, stays, Side, Links, IsOfLinks, HasMoves, Changed, signs, accepts}
 use Rattle.ln_circuits.proofs.Links.{learns, proposes}
@@ -96,16 +95,12 @@ pub base_moves : (f : End) → f.dance.log.first.own ≤ f.dance.log.current.own
     → (f.dance.log.first.own ≤ (next_base f).own) × ((next_base f).own ≤ f.dance.log.current.own)
 base_moves f le = cases (may_be_base f.dance.log (allowed f)) refl
   where
-    parts : (a b : Bool) → (a && b) ≡ true → (a ≡ true) × (b ≡ true)
-    parts true b e = (refl, e)
-    parts false b e = absurd (cc)
-
     cases : (b : Bool) → may_be_base f.dance.log (allowed f) ≡ b
         → (f.dance.log.first.own ≤ (cond b (allowed f) f.dance.log.first).own)
         × ((cond b (allowed f) f.dance.log.first).own ≤ f.dance.log.current.own)
     cases true e =
-        let p = parts (nat_le f.dance.log.first.own (allowed f).own) _ e in
-        let q = parts (nat_le (allowed f).own f.dance.log.current.own) _ p.1 in
+        let p = and_parts (nat_le f.dance.log.first.own (allowed f).own) _ e in
+        let q = and_parts (nat_le (allowed f).own f.dance.log.current.own) _ p.1 in
         (leb-true f.dance.log.first.own (allowed f).own p.0, leb-true (allowed f).own f.dance.log.current.own q.0)
     cases false e = (omega arith, le)
 
@@ -209,13 +204,8 @@ module _ (origin : Incoming → List ℕ × ℕ) (h : Incoming) where
       (ap (λ (z : Ledger). z.decisions) r) fit.sound
       (λ i a. (
         some_new (origin h) i e.dance.log.own us a,
-        λ live. none_new i e.dance.log.own us (live_is (outcome i us) live),
+        λ live. none_new i e.dance.log.own us (not_gone (outcome i us) live),
       )) p k
-    where
-      live_is : (o : Outcome) → not (is_live o) ≡ false → o ≡ Live
-      live_is Live x = refl
-      live_is Fulfilled x = absurd (cc)
-      live_is Failed x = absurd (cc)
   plain_shift c e f s t g fit (Closes l r) none p k =
       stay s t p (nothing origin h c (side_of e) (side_of f) s t g l (ap (λ (z : Ledger). z.results) r)
       (ap (λ (z : Ledger). z.decisions) r) p k)

@@ -3,18 +3,17 @@
 use Rattle.std.proofs.Common.{◌≡◌, ◌⊎◌, inl, inr, ℕ, ◌+◌, ◌-◌, ◌≤◌, ◌<◌, List, [], ◌∷◌, ◌++◌, length, take, drop}
 use Rattle.std.proofs.Common.{filter, refl, sym, ap, ◌∙◌, subst, arith, append_assoc, append-nil, Bool, true, false}
 use Rattle.std.proofs.Common.{cond}
-use Rattle.std.proofs.Common.{not, ◌==◌, ◌&&◌, nat_lt, Option, Some, None, Ok, Err}
+use Rattle.std.proofs.Common.{not, ◌==◌, ◌&&◌, nat_lt, Option, Some, None, Result, Ok, Err}
 use Rattle.std.specs.List.{cons_option}
 use Rattle.std.proofs.lemmas.List.{take-take, take-append-le, take-append-drop}
+use Rattle.ln_msgs.specs.declared.refusals.refusal.Refusal.{Refusal}
 use Rattle.ln_msgs.specs.declared.refusals.refusal.Refusal.TheVariants as refusal
 use Rattle.ln_log.specs.declared.mark.Decision.{Decision}
 use Rattle.ln_log.specs.declared.mark.EventRef.TheVariants as ref
 use Rattle.ln_log.specs.declared.mark.Mark.{Mark}
 use Rattle.ln_log.specs.declared.mark.Mark.TheVariants as mark
 use Rattle.ln_log.specs.declared.mark.Settlement.{Settlement}
-use Rattle.ln_log.specs.declared.outcome.Outcome.{Outcome}
-use Rattle.ln_log.specs.declared.outcome.Outcome.TheVariants.{Live, Fulfilled, Failed}
-use Rattle.ln_log.specs.declared.update.Add.{Add}
+use Rattle.ln_log.specs.declared.outcome.Outcome.TheVariants.{Live}
 use Rattle.ln_log.specs.declared.update.Update.{Update}
 use Rattle.ln_log.specs.Updates.{add_with, outcome, is_live, is_some, next_id}
 use Rattle.ln_log.specs.Log.{Log, Counts, AreNumbered, AreRemovals, between}
@@ -29,8 +28,8 @@ use Rattle.ln_channel.specs.Since.{peer_since}
 use Rattle.ln_channel.specs.Base.{is_open, without_removed}
 use Rattle.ln_circuits.specs.Snapshot.{is_gone, IsSoundLog, All, IsBelow}
 use Rattle.ln_circuits.specs.Circuit.{Forwards}
-use Rattle.ln_circuits.proofs.Updates.{part_tells, front_offers}
-use Rattle.ln_circuits.proofs.Parts.{has_result}
+use Rattle.ln_circuits.proofs.Updates.{live_is, part_tells, front_offers}
+use Rattle.ln_circuits.proofs.Parts.{some_of, has_result}
 use Rattle.ln_circuits.proofs.Logs.{uncovered_lives}
 use Rattle.ln_circuits.proofs.Removals.{split_front, removed_once, gone_by}
 use Rattle.ln_circuits.proofs.Rising.{IsRising, rising-append, rising-filter, not_found}
@@ -40,7 +39,7 @@ use Rattle.ln_circuits.proofs.Waiting.{waiting_same, first_is, map-more, fewer, 
 use Rattle.ln_circuits.proofs.Results.{IsTrue, AreOnce, new_true, new_once, none_new, once-append, once-filter}
 use Rattle.ln_channel.specs.Ledger.{most_decided}
 use Rattle.std.specs.List.{find, list_any}
-use Rattle.std.proofs.lemmas.Bool.{eqb-true, ltb-true}
+use Rattle.std.proofs.lemmas.Bool.{eqb-true, ltb-true, and_parts}
 use Rattle.ln_circuits.specs.Snapshot.{IsFitLog}
 
 abbrev pub IsOpenIn : Log → Decision → Type 0
@@ -70,7 +69,7 @@ all_filter P f (x ∷ xs) h = cases (f x) (all_filter P f xs h.1)
     cases true k = (h.0, k)
     cases false k = k
 
-all_append : {A : Type 0} (P : A → Type 0) (xs ys : List A) → All P xs → All P ys → All P (xs ++ ys)
+pub all_append : {A : Type 0} (P : A → Type 0) (xs ys : List A) → All P xs → All P ys → All P (xs ++ ys)
 all_append P [] ys h k = k
 all_append P (x ∷ xs) ys h k = (h.0, all_append P xs ys h.1 k)
 
@@ -118,11 +117,7 @@ tidy_takes l g u f t =
 
 more_forwards : (o : List ℕ × ℕ) (i : ℕ) (own : List Update) (u : Update) → Forwards o (add_with i own)
     → Forwards o (add_with i (own ++ u ∷ []))
-more_forwards o i own u h = subst (Forwards o) (sym (add_with-more i own (u ∷ []) (some_of (add_with i own) h))) h
-  where
-    some_of : (x : Option Add) → Forwards o x → is_some x ≡ true
-    some_of None k = absurd k
-    some_of (Some a) k = refl
+more_forwards o i own u h = subst (Forwards o) (sym (add_with-more i own (u ∷ []) (some_of o (add_with i own) h))) h
 
 pub tidy_proposes : (l : Log) (g : Ledger) (u : Update) → IsFitLog l g.undecided → IsTidyLedger l g
     → IsTidyLedger (log.after_propose u l) g
@@ -195,9 +190,9 @@ in_turn : (event : ℕ) (m : Mark) (htlc : Option ℕ) (g n : Ledger) (ds : List
     × (m ≡ mark.None → ⊥))
     → Decides g n event m htlc
 in_turn event m htlc g n ds turn is which =
-    let all = parts (is_in_turn event g) (is_of_event event m) turn in
-    let p = parts (event == g.decided) (nat_lt event most_decided && nat_lt 0 (length g.undecided)) all.0 in
-    let q = parts (nat_lt event most_decided) (nat_lt 0 (length g.undecided)) p.1 in
+    let all = and_parts (is_in_turn event g) (is_of_event event m) turn in
+    let p = and_parts (event == g.decided) (nat_lt event most_decided && nat_lt 0 (length g.undecided)) all.0 in
+    let q = and_parts (nat_lt event most_decided) (nat_lt 0 (length g.undecided)) p.1 in
     record {
       turn = eqb-true event g.decided p.0;
       few = ltb-true event most_decided q.0;
@@ -210,10 +205,14 @@ in_turn event m htlc g n ds turn is which =
         | inr some ↦ inr (some.0, some.1, ap (λ (z : Ledger). z.decisions) (sym is) ∙ some.2, some.3)
       ];
     }
-  where
-    parts : (a b : Bool) → (a && b) ≡ true → (a ≡ true) × (b ≡ true)
-    parts true b e = (refl, e)
-    parts false b e = absurd (cc)
+
+by_mark : (event : ℕ) (m : Mark) (id : ℕ) (g n : Ledger) → (is_in_turn event g && is_of_event event m) ≡ true
+    → (m ≡ mark.None → ⊥)
+    → ◌≡◌ {A = Result Ledger Refusal} (Ok (with_one g (g.decisions ++ record { id = id; mark = m } ∷ []))) (Ok n)
+    → Decides g n event m (Some id)
+by_mark event m id g n turn some is =
+    let ds = g.decisions ++ record { id = id; mark = m } ∷ [] in
+    in_turn event m (Some id) g n ds turn (let e : with_one g ds ≡ n = cc in e) (inr (id, refl, refl, some))
 
 decides_by : (b : Bool) (event : ℕ) (m : Mark) (htlc : Option ℕ) (g n : Ledger)
     → (is_in_turn event g && is_of_event event m) ≡ b
@@ -223,29 +222,19 @@ decides_by true event mark.None htlc g n turn is =
     in_turn event mark.None htlc g n g.decisions turn (let e : with_one g g.decisions ≡ n = cc in e) (inl (refl, refl))
 decides_by true event (mark.Forward channel amount expiry) None g n turn is = absurd (cc)
 decides_by true event (mark.Forward channel amount expiry) (Some id) g n turn is =
-    let ds = g.decisions ++ record { id = id; mark = mark.Forward channel amount expiry } ∷ [] in
-    in_turn event (mark.Forward channel amount expiry) (Some id) g n ds turn (let e : with_one g ds ≡ n = cc in e)
-    (inr (id, refl, refl, λ x. absurd (cc)))
+    by_mark event (mark.Forward channel amount expiry) id g n turn (λ x. absurd (cc)) is
 decides_by true event (mark.Fail reason) None g n turn is = absurd (cc)
 decides_by true event (mark.Fail reason) (Some id) g n turn is =
-    let ds = g.decisions ++ record { id = id; mark = mark.Fail reason } ∷ [] in
-    in_turn event (mark.Fail reason) (Some id) g n ds turn (let e : with_one g ds ≡ n = cc in e)
-    (inr (id, refl, refl, λ x. absurd (cc)))
+    by_mark event (mark.Fail reason) id g n turn (λ x. absurd (cc)) is
 decides_by true event (mark.Malformed code) None g n turn is = absurd (cc)
 decides_by true event (mark.Malformed code) (Some id) g n turn is =
-    let ds = g.decisions ++ record { id = id; mark = mark.Malformed code } ∷ [] in
-    in_turn event (mark.Malformed code) (Some id) g n ds turn (let e : with_one g ds ≡ n = cc in e)
-    (inr (id, refl, refl, λ x. absurd (cc)))
+    by_mark event (mark.Malformed code) id g n turn (λ x. absurd (cc)) is
 decides_by true event (mark.Fulfil preimage) None g n turn is = absurd (cc)
 decides_by true event (mark.Fulfil preimage) (Some id) g n turn is =
-    let ds = g.decisions ++ record { id = id; mark = mark.Fulfil preimage } ∷ [] in
-    in_turn event (mark.Fulfil preimage) (Some id) g n ds turn (let e : with_one g ds ≡ n = cc in e)
-    (inr (id, refl, refl, λ x. absurd (cc)))
+    by_mark event (mark.Fulfil preimage) id g n turn (λ x. absurd (cc)) is
 decides_by true event (mark.Held k) None g n turn is = absurd (cc)
 decides_by true event (mark.Held k) (Some id) g n turn is =
-    let ds = g.decisions ++ record { id = id; mark = mark.Held k } ∷ [] in
-    in_turn event (mark.Held k) (Some id) g n ds turn (let e : with_one g ds ≡ n = cc in e)
-    (inr (id, refl, refl, λ x. absurd (cc)))
+    by_mark event (mark.Held k) id g n turn (λ x. absurd (cc)) is
 
 pub decides_so : (event : ℕ) (m : Mark) (htlc : Option ℕ) (g n : Ledger) → decide_row event m htlc g ≡ Ok n
     → Decides g n event m htlc
@@ -317,11 +306,6 @@ tidy_based l g w before t = record {
 
     whole : take w.own l.own ≡ take l.first.own l.own ++ new_base
     whole = split_front l.first.own w.own l.own before
-
-    live_is : (o : Outcome) → is_live o ≡ true → o ≡ Live
-    live_is Live e = refl
-    live_is Fulfilled e = absurd (cc)
-    live_is Failed e = absurd (cc)
 
     one : (d : Decision) → IsOpenIn l d → is_open new_base d ≡ true → IsOpenIn (record l { first = w }) d
     one d k e = ap (outcome d.id) whole ∙ outcome-append d.id (take l.first.own l.own) new_base

@@ -1,12 +1,11 @@
 -- What an end tells a book of what it has kept, once it has lost its connection.
 use Rattle.std.proofs.Common.{◌≡◌, ℕ, ◌<◌, List, take, drop, refl, sym, ap, ◌∙◌}
-use Rattle.std.proofs.Common.{arith, Bool, true, false, cond, not, ◌&&◌, ◌||◌, nat_lt, nat_le, Option, Some, None}
+use Rattle.std.proofs.Common.{arith, Bool, true, false, cond, not, ◌&&◌, ◌||◌, nat_lt, nat_le, None}
 use Rattle.std.proofs.lemmas.Bool.{ltb-true, ltb-false, leb-true, le-leb}
 use Rattle.std.proofs.lemmas.List.{take-append-drop, take_rest}
 use Rattle.ln_log.specs.declared.log.Side.TheVariants as side
 use Rattle.ln_log.specs.declared.outcome.Outcome.{Outcome}
 use Rattle.ln_log.specs.declared.outcome.Outcome.TheVariants.{Live, Fulfilled, Failed}
-use Rattle.ln_log.specs.declared.update.Add.{Add}
 use Rattle.ln_log.specs.Updates.{add_with, outcome, is_live, is_some}
 use Rattle.ln_log.specs.Log.{Log}
 use Rattle.ln_log.specs.Log as log
@@ -18,9 +17,9 @@ use Rattle.ln_readings.specs.Kept.{next_own_id, has_own_removal, own_window}
 use Rattle.ln_readings.specs.Kept as kept
 use Rattle.ln_payment.specs.Parts.{NoRemoval}
 use Rattle.ln_payment.specs.Rebuild.{is_uncovered}
-use Rattle.ln_circuits.specs.Circuit.{Forwards}
 use Rattle.ln_circuits.specs.Snapshot.{IsFit}
-use Rattle.ln_circuits.proofs.Parts.{HasAdd, course_of, course_by, ended_by, has_result, removal_of}
+use Rattle.ln_circuits.proofs.Updates.{live_is}
+use Rattle.ln_circuits.proofs.Parts.{HasAdd, course_of, course_by, some_of, ended_by, has_result, removal_of}
 use Rattle.ln_circuits.proofs.Logs.{no_removal}
 
 module _ (e : End) (fit : IsFit e) where
@@ -51,10 +50,6 @@ module _ (e : End) (fit : IsFit e) where
       (has_result i e.ledger.results)))) there ∙ ended (outcome i (take l.acknowledged.peer l.received))
       (has_result i e.ledger.results)
 
-  some_of : (o : List ℕ × ℕ) (a : Option Add) → Forwards o a → is_some a ≡ true
-  some_of o None h = absurd h
-  some_of o (Some a) h = refl
-
   pub gone : (o : List ℕ × ℕ) (i : ℕ) → nat_le (next_own_id (end_dropped e)) i ≡ true
       → HasAdd o i (log.after_drop l) → ⊥
   gone o i h a =
@@ -64,11 +59,6 @@ module _ (e : End) (fit : IsFit e) where
       absurd (omega (arith, below, le))
 
   -- ---- a removal that isn't kept
-
-  live_is : (o : Outcome) → is_live o ≡ true → o ≡ Live
-  live_is Live k = refl
-  live_is Fulfilled k = absurd (cc)
-  live_is Failed k = absurd (cc)
 
   base_live : (id : ℕ) → kept.is_gone id l ≡ false → outcome id (take l.first.own l.own) ≡ Live
   base_live id h = cases (nat_lt id (first_worth l).next_peer) refl h

@@ -1,6 +1,6 @@
 -- What becomes of one HTLC, by the beginnings of two lists of updates.
 use Rattle.std.proofs.Common.{◌≡◌, ℕ, ◌≤◌, List, [], ◌∷◌, ◌++◌, take, drop, refl, sym}
-use Rattle.std.proofs.Common.{ap, ◌∙◌, arith, true, cond, not, Option, Some, None}
+use Rattle.std.proofs.Common.{ap, ◌∙◌, arith, true, false, cond, not, Option, Some, None}
 use Rattle.std.proofs.lemmas.Bool.{eq-eqb}
 use Rattle.std.proofs.lemmas.List.{take-append-drop, take-take}
 use Rattle.ln_log.specs.declared.update.Add.{Add}
@@ -20,6 +20,11 @@ pub live_is : (o : Outcome) → is_live o ≡ true → o ≡ Live
 live_is Live e = refl
 live_is Fulfilled e = absurd (cc)
 live_is Failed e = absurd (cc)
+
+pub not_gone : (o : Outcome) → not (is_live o) ≡ false → o ≡ Live
+not_gone Live e = refl
+not_gone Fulfilled e = absurd (cc)
+not_gone Failed e = absurd (cc)
 
 -- what a first part has removed stays removed so
 pub part_tells : (id : ℕ) (us vs : List Update) → is_gone id us ≡ true → outcome id (us ++ vs) ≡ outcome id us

@@ -63,7 +63,7 @@ none_own us (v ∷ vs) n = one_own us n (event_of true v) (refs_of true (n + 1) 
 
 -- ---- what is newly held of the peer's
 
-drop_next : (c : ℕ) (us : List Update) (u : Update) (zs : List Update) → drop c us ≡ u ∷ zs → drop (suc c) us ≡ zs
+pub drop_next : (c : ℕ) (us : List Update) (u : Update) (zs : List Update) → drop c us ≡ u ∷ zs → drop (suc c) us ≡ zs
 drop_next zero [] u zs e = absurd (cc)
 drop_next zero (v ∷ us) u zs e = ap (drop 1) e
 drop_next (suc c) [] u zs e = absurd (cc)

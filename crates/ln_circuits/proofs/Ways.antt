@@ -5,7 +5,6 @@ use Rattle.std.specs.List.{find}
 use Rattle.std.proofs.lemmas.List.{take-take}
 use Rattle.ln_log.specs.declared.outcome.Outcome.{Outcome}
 use Rattle.ln_log.specs.declared.outcome.Outcome.TheVariants.{Live, Fulfilled, Failed}
-use Rattle.ln_log.specs.declared.update.Add.{Add}
 use Rattle.ln_log.specs.Updates.{add_with, outcome, is_some}
 use Rattle.ln_log.specs.Log.{Log}
 use Rattle.ln_hooks.specs.declared.event.How.{How}
@@ -13,7 +12,7 @@ use Rattle.ln_channel.specs.End.{End}
 use Rattle.ln_tables.specs.declared.htlc.Key.{Key}
 use Rattle.ln_tables.specs.declared.htlc.Way.TheVariants as way
 use Rattle.ln_readings.specs.declared.leg.Leg.{Leg}
-use Rattle.ln_readings.specs.Rebuild.{reading_of, is_for, or_leg, result_for, offer_for, way_along, way_for}
+use Rattle.ln_readings.specs.Rebuild.{Reading, reading_of, is_for, or_leg, result_for, offer_for, way_along, way_for}
 use Rattle.ln_readings.specs.Rebuild.{legs_over}
 use Rattle.ln_payment.specs.Parts.{Kind, Fulfils, Fails, Proposed, By, Course, Uncovered, Covered, Ended, Out}
 use Rattle.ln_payment.specs.Parts.{Nowhere, Offered, Over}
@@ -21,7 +20,7 @@ use Rattle.ln_payment.specs.Rebuild.{way_by, way_of}
 use Rattle.ln_circuits.specs.Circuit.{Forwards}
 use Rattle.ln_circuits.specs.Snapshot.{Incoming, All, IsFit, key_at, key_of}
 use Rattle.ln_circuits.proofs.Updates.{front_live}
-use Rattle.ln_circuits.proofs.Parts.{HasAdd, has_result, course_of, course_by, ended_by, removal_by}
+use Rattle.ln_circuits.proofs.Parts.{HasAdd, some_of, has_result, course_of, course_by, ended_by, removal_by}
 use Rattle.ln_circuits.proofs.Links.{Side, Links, HasOut, HasAddAt, AreOuts, course_at}
 use Rattle.ln_circuits.proofs.Shifts.{side_of, IsTidy}
 use Rattle.ln_circuits.proofs.Entries.{kind_of, IsWayOf}
@@ -39,6 +38,15 @@ find_first p (y ∷ xs) x e = cases (p y) e (λ r. find_first p xs x r)
     cases true is rest = let same : y ≡ x = cc in (filter p xs, ap (λ z. z ∷ filter p xs) same)
     cases false is rest = rest is
 
+pub none_found : {A : Type 0} (p : A → Bool) (xs : List A) → find p xs ≡ None → filter p xs ≡ []
+none_found p [] e = refl
+none_found p (y ∷ xs) e = cases (p y) e (λ r. none_found p xs r)
+  where
+    cases : (b : Bool) → cond b (Some y) (find p xs) ≡ None → (find p xs ≡ None → filter p xs ≡ [])
+        → cond b (y ∷ filter p xs) (filter p xs) ≡ []
+    cases true is rest = absurd (cc)
+    cases false is rest = rest is
+
 pub first_all : {A : Type 0} (P : A → Type 0) (xs : List A) (x : A) (ys : List A) → xs ≡ x ∷ ys → All P xs → P x
 first_all P [] x ys e h = absurd (cc)
 first_all P (z ∷ xs) x ys e h = let same : z ≡ x = cc in subst P same h.0
@@ -51,63 +59,57 @@ of_member P (y ∷ ys) x h (inr k) = of_member P ys x h.1 k
 -- ---- the first over all ends
 
 module _ (k : Key) where
+  -- of legs of one kind, as a book finds them
+  module _ (legs : Reading → List Leg) (over : List Reading → Option Leg)
+      (next : (r : Reading) (rs : List Reading) → over (r ∷ rs) ≡ or_leg (find (is_for k) (legs r)) (over rs))
+    where
+      leg_where : over [] ≡ None → (es : List (ℕ × End)) (g : Leg) → over (readings es) ≡ Some g
+          → (x : ℕ × End) × IsIn x es × (find (is_for k) (legs (reading_of x.1)) ≡ Some g)
+      leg_where none [] g e = absurd (let no : None ≡ Some g = sym none ∙ e in cc)
+      leg_where none (x ∷ es) g e = cases (find (is_for k) (legs (reading_of x.1))) refl
+          (sym (next (reading_of x.1) (readings es)) ∙ e) (λ r. leg_where none es g r)
+        where
+          cases : (o : Option Leg) → find (is_for k) (legs (reading_of x.1)) ≡ o
+              → or_leg o (over (readings es)) ≡ Some g
+              → (over (readings es) ≡ Some g
+              → (y : ℕ × End) × IsIn y es × (find (is_for k) (legs (reading_of y.1)) ≡ Some g))
+              → (y : ℕ × End) × IsIn y (x ∷ es) × (find (is_for k) (legs (reading_of y.1)) ≡ Some g)
+          cases None is r rest = let q = rest r in (q.0, inr q.1, q.2)
+          cases (Some z) is r rest = (x, inl refl, is ∙ r)
+
+      leg_some : (es : List (ℕ × End)) (x : ℕ × End) → IsIn x es
+          → is_some (find (is_for k) (legs (reading_of x.1))) ≡ true → is_some (over (readings es)) ≡ true
+      leg_some [] x m e = absurd m
+      leg_some (y ∷ es) x (inl same) e = ap is_some (next (reading_of y.1) (readings es))
+          ∙ first (find (is_for k) (legs (reading_of y.1)))
+          (ap (λ (z : ℕ × End). is_some (find (is_for k) (legs (reading_of z.1)))) same ∙ e)
+        where
+          first : (o : Option Leg) → is_some o ≡ true → is_some (or_leg o (over (readings es))) ≡ true
+          first None f = absurd (cc)
+          first (Some z) f = refl
+      leg_some (y ∷ es) x (inr m) e = ap is_some (next (reading_of y.1) (readings es))
+          ∙ later (find (is_for k) (legs (reading_of y.1))) (leg_some es x m e)
+        where
+          later : (o : Option Leg) → is_some (over (readings es)) ≡ true
+              → is_some (or_leg o (over (readings es))) ≡ true
+          later None f = f
+          later (Some z) f = refl
+
   pub result_where : (es : List (ℕ × End)) (g : Leg) → result_for k (readings es) ≡ Some g
       → (x : ℕ × End) × IsIn x es × (find (is_for k) (reading_of x.1).results ≡ Some g)
-  result_where [] g e = absurd (cc)
-  result_where (x ∷ es) g e = cases (find (is_for k) (reading_of x.1).results) refl e (λ r. result_where es g r)
-    where
-      cases : (o : Option Leg) → find (is_for k) (reading_of x.1).results ≡ o
-          → or_leg o (result_for k (readings es)) ≡ Some g
-          → (result_for k (readings es) ≡ Some g
-          → (y : ℕ × End) × IsIn y es × (find (is_for k) (reading_of y.1).results ≡ Some g))
-          → (y : ℕ × End) × IsIn y (x ∷ es) × (find (is_for k) (reading_of y.1).results ≡ Some g)
-      cases None is r rest = let q = rest r in (q.0, inr q.1, q.2)
-      cases (Some z) is r rest = (x, inl refl, is ∙ r)
+  result_where = leg_where (λ (r : Reading). r.results) (result_for k) (λ r rs. refl) refl
 
   pub result_some : (es : List (ℕ × End)) (x : ℕ × End) → IsIn x es
       → is_some (find (is_for k) (reading_of x.1).results) ≡ true → is_some (result_for k (readings es)) ≡ true
-  result_some [] x m e = absurd m
-  result_some (y ∷ es) x (inl same) e = first (find (is_for k) (reading_of y.1).results)
-      (ap (λ (z : ℕ × End). is_some (find (is_for k) (reading_of z.1).results)) same ∙ e)
-    where
-      first : (o : Option Leg) → is_some o ≡ true → is_some (or_leg o (result_for k (readings es))) ≡ true
-      first None f = absurd (cc)
-      first (Some z) f = refl
-  result_some (y ∷ es) x (inr m) e = later (find (is_for k) (reading_of y.1).results) (result_some es x m e)
-    where
-      later : (o : Option Leg) → is_some (result_for k (readings es)) ≡ true
-          → is_some (or_leg o (result_for k (readings es))) ≡ true
-      later None f = f
-      later (Some z) f = refl
+  result_some = leg_some (λ (r : Reading). r.results) (result_for k) (λ r rs. refl)
 
   pub offer_where : (es : List (ℕ × End)) (g : Leg) → offer_for k (readings es) ≡ Some g
       → (x : ℕ × End) × IsIn x es × (find (is_for k) (reading_of x.1).offered ≡ Some g)
-  offer_where [] g e = absurd (cc)
-  offer_where (x ∷ es) g e = cases (find (is_for k) (reading_of x.1).offered) refl e (λ r. offer_where es g r)
-    where
-      cases : (o : Option Leg) → find (is_for k) (reading_of x.1).offered ≡ o
-          → or_leg o (offer_for k (readings es)) ≡ Some g
-          → (offer_for k (readings es) ≡ Some g
-          → (y : ℕ × End) × IsIn y es × (find (is_for k) (reading_of y.1).offered ≡ Some g))
-          → (y : ℕ × End) × IsIn y (x ∷ es) × (find (is_for k) (reading_of y.1).offered ≡ Some g)
-      cases None is r rest = let q = rest r in (q.0, inr q.1, q.2)
-      cases (Some z) is r rest = (x, inl refl, is ∙ r)
+  offer_where = leg_where (λ (r : Reading). r.offered) (offer_for k) (λ r rs. refl) refl
 
   pub offer_some : (es : List (ℕ × End)) (x : ℕ × End) → IsIn x es
       → is_some (find (is_for k) (reading_of x.1).offered) ≡ true → is_some (offer_for k (readings es)) ≡ true
-  offer_some [] x m e = absurd m
-  offer_some (y ∷ es) x (inl same) e = first (find (is_for k) (reading_of y.1).offered)
-      (ap (λ (z : ℕ × End). is_some (find (is_for k) (reading_of z.1).offered)) same ∙ e)
-    where
-      first : (o : Option Leg) → is_some o ≡ true → is_some (or_leg o (offer_for k (readings es))) ≡ true
-      first None f = absurd (cc)
-      first (Some z) f = refl
-  offer_some (y ∷ es) x (inr m) e = later (find (is_for k) (reading_of y.1).offered) (offer_some es x m e)
-    where
-      later : (o : Option Leg) → is_some (offer_for k (readings es)) ≡ true
-          → is_some (or_leg o (offer_for k (readings es))) ≡ true
-      later None f = f
-      later (Some z) f = refl
+  offer_some = leg_some (λ (r : Reading). r.offered) (offer_for k) (λ r rs. refl)
 
 -- ---- the ends of a node, as they come back
 
@@ -149,10 +151,6 @@ module _ (id_of : ℕ → List ℕ) where
     ended_so Live w r e = absurd (cc)
     ended_so Fulfilled w r e = let is : Fulfils ≡ w = cc in ap (λ z. Ended z r) is
     ended_so Failed w r e = let is : Fails ≡ w = cc in ap (λ z. Ended z r) is
-
-    some_of : (o : List ℕ × ℕ) (x : Option Add) → Forwards o x → is_some x ≡ true
-    some_of o None f = absurd f
-    some_of o (Some a) f = refl
 
     -- all adds are covered
     covered_so : (x : ℕ × End) (m : IsIn x es) (i : ℕ) → HasAdd (origin id_of h) i x.1.dance.log
