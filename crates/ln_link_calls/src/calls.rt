@@ -5,6 +5,7 @@ use crate::commands::{command, is_command};
 use crate::end::End;
 use crate::line::{at, bytes_of_parts, numbers};
 use crate::show::{pending, record, refused, stand, told};
+use ln_bytes::Fault;
 use ln_msgs::{Incoming, Message, decode};
 use ln_store::RecordStore;
 use std::alloc::{AllocError, Global};
@@ -27,6 +28,7 @@ fn take(alloc: Global, x: &mut End, y: &mut End, bytes: &[u8]) -> Result<String,
             told(alloc, answer, y, replies)
         }
         Ok(Incoming::Ignored(_)) => String::from_str(alloc, "ignored"),
+        Err(Fault::Memory) => Err(AllocError),
         Err(fault) => {
             let number = fault.number();
             format!(in alloc; "fault {number}")
@@ -89,7 +91,7 @@ fn load(alloc: Global, x: &mut End, y: &mut End) -> Result<String, AllocError> {
 }
 
 /// Bytes that are given in parts, behind a channel's id, take the place of an end's record: how many.
-fn store(alloc: Global, x: &mut End, line: &str) -> Result<String, AllocError> {
+fn store(alloc: Global, x: &mut End, y: &mut End, line: &str) -> Result<String, AllocError> {
     let Some(bytes) = bytes_of_parts(alloc, line)? else {
         return String::from_str(alloc, "not hex");
     };
@@ -101,7 +103,7 @@ fn store(alloc: Global, x: &mut End, line: &str) -> Result<String, AllocError> {
             let count = record.len();
             format!(in alloc; "stored {count}")
         }
-        Err(_) => String::from_str(alloc, "not stored"),
+        Err(refusal) => refused(alloc, refusal, y, false),
     }
 }
 
@@ -162,7 +164,7 @@ fn act(
         "pass" => pass(alloc, x, y),
         "give" => give(alloc, x, y, line),
         "record" => record(alloc, x),
-        "store" => store(alloc, x, line),
+        "store" => store(alloc, x, y, line),
         "fails" => fail(alloc, x, line, words),
         "stand" => stand(alloc, x),
         "pending" => pending(alloc, x),

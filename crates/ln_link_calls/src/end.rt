@@ -1,6 +1,6 @@
 //! One end of a channel: its link, its store, and the messages in flight to it.
 
-use ln_bytes::Bytes;
+use ln_bytes::{Bytes, Fault};
 use ln_keys::ToyKeys;
 use ln_link::Link;
 use ln_msgs::{Message, Refusal, encode, fits};
@@ -25,11 +25,15 @@ pub struct End {
 }
 
 /// The bytes of a message; none of one that can't be written.
-pub fn written(alloc: Global, message: &Message) -> Option<Vec<u8>> {
+pub fn written(alloc: Global, message: &Message) -> Result<Option<Vec<u8>>, AllocError> {
     if !fits(message) {
-        return None;
+        return Ok(None);
     }
-    encode(alloc, message).ok()
+    match encode(alloc, message) {
+        Ok(bytes) => Ok(Some(bytes)),
+        Err(Fault::Memory) => Err(AllocError),
+        Err(_) => Ok(None),
+    }
 }
 
 impl End {

@@ -45,7 +45,7 @@ fn put_sent(
     message: &Message,
     y: &mut End,
 ) -> Result<(), AllocError> {
-    match written(alloc, message) {
+    match written(alloc, message)? {
         None => text.push_str(" sends what can't be written"),
         Some(bytes) => {
             let digits = hex::encode(alloc, bytes.as_slice())?;
