@@ -3,10 +3,7 @@ import os, shutil, signal, subprocess, sys, threading
 
 HERE = os.path.dirname(os.path.abspath(__file__))
 TOP = os.path.dirname(os.path.dirname(HERE))
-LIBRARIES = (
-    "ln_demo ln_node ln_book ln_sqlite ln_store ln_link ln_channel ln_hooks ln_keys ln_msgs ln_bytes sqlite"
-    " sqlite_std_file sqlite_store sqlite_disk sqlite_trees"
-)
+LIBRARIES = "ln_demo ln_node ln_book ln_files ln_store ln_link ln_channel ln_hooks ln_keys ln_msgs ln_bytes"
 
 
 def program(room):

@@ -16,7 +16,7 @@ use Rattle.sqlite_disk.specs.contracts.start.Unknown as Unknown
 use Rattle.sqlite_disk.specs.contracts.start.UnknownStart.TheImpl as start
 use Rattle.sqlite_std_file.specs.contracts.host.Host as Host
 use Rattle.sqlite_std_file.specs.contracts.host.HostCalls.TheImpl as calls
-use Rattle.soak_node.specs.contracts.records.FileRecords.{the_row, the_type}
+use Rattle.ln_files.specs.contracts.file_records.FileRecords.{the_row, the_type}
 
 host-send : IsSend Host.the_row
 host-send = search sendable depth 10
@@ -45,5 +45,5 @@ F-store = file_store.ghosts M M-disk file_store.no_dict
 store-send : IsSend (SqliteStore.the_field F F-store).row
 store-send = store.the_field_send F F-store files-send
 
-pub records-send : IsSend the_row
-records-send = declared_send the_type (as_row_send (SqliteStore.the_field F F-store) store-send, tt)
+pub records_send : IsSend the_row
+records_send = declared_send the_type (as_row_send (SqliteStore.the_field F F-store) store-send, tt)

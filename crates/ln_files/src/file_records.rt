@@ -1,6 +1,4 @@
-//! Records in files.
-
-ghost use Rattle.std.specs.Prelude.{◌≡◌};
+//! A store over a file.
 
 use ln_bytes::Bytes;
 use ln_msgs::Refusal;
@@ -10,10 +8,12 @@ use sqlite::{Connection, FileStore};
 use sqlite_std_file::File;
 use std::alloc::Global;
 
-/// The records in a file. A type without parameters: what is generic in stores is made for it at little cost.
+/// The records in a file. A type without parameters: what is generic in stores, as a node, is proved for it at little
+/// cost.
 #[derive(Drop)]
 pub struct FileRecords {
-    inner: SqliteStore<FileStore<File>>,
+    /// The store over the file's database. `into_connection` gives what has to be closed.
+    pub store: SqliteStore<FileStore<File>>,
 }
 
 // What is left of a failure that gives something back.
@@ -25,34 +25,37 @@ fn refusal_of<T, B: Drop>(done: Result<T, (Refusal, B)>) -> Result<T, Refusal> {
 }
 
 impl FileRecords {
-    /// The records in the file at this path, which is made where there is none.
+    /// The records in the file at this path, which is made where there is none: it reads all of them once.
+    ///
+    /// Errors: 61 where the file can't be opened or is open elsewhere, or its database is refused by
+    /// `SqliteStore::over`; 60 where there is no memory, and each row is a record.
     pub fn open(rt: &HostRuntime, path: &str) -> Result<FileRecords, Refusal> {
         let Ok(connection) = Connection::open(rt, path) else {
             return Err(Refusal::Store);
         };
-        let inner = refusal_of(SqliteStore::over(rt.alloc(), connection))?;
-        Ok(FileRecords { inner })
+        let store = refusal_of(SqliteStore::over(rt.alloc(), connection))?;
+        Ok(FileRecords { store })
     }
 }
 
 impl RecordStore for FileRecords {
-    ghost records = { λ s. s.inner.copies };
+    ghost records = { λ s. s.store.copies };
 
-    ghost failed = { λ s. s.inner.failures };
+    ghost failed = { λ s. s.store.failures };
 
     fn save(&mut self, alloc: Global, id: &[u8; 32], bytes: &[u8]) -> Result<(), Refusal> {
-        self.inner.save(alloc, id, bytes)
+        self.store.save(alloc, id, bytes)
     }
 
     fn load(&mut self, alloc: Global, id: &[u8; 32]) -> Result<Option<Bytes>, Refusal> {
-        self.inner.load(alloc, id)
+        self.store.load(alloc, id)
     }
 
     fn ids(&mut self, alloc: Global) -> Result<Vec<[u8; 32]>, Refusal> {
-        self.inner.ids(alloc)
+        self.store.ids(alloc)
     }
 
     fn failures(&self) -> u64 {
-        self.inner.failures()
+        self.store.failures()
     }
 }

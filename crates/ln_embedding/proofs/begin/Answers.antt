@@ -1,0 +1,6 @@
+use denote.Param.Send.{sendable}
+use Rattle.ln_embedding.proofs.begin.Goals as goal
+use Rattle.ln_files.proofs.Sent.{records_send}
+
+pub run-requires-send-S : goal.run-requires-send-S
+run-requires-send-S g c κs within = search (sendable, records_send)

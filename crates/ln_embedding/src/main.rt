@@ -1,0 +1,300 @@
+//! Nodes in a program of yours: two open a channel over loopback, and one pays the other.
+#![tactic(auto)]
+
+use ln_bytes::{Bytes, ShortId};
+use ln_channel::{Command, Config, FitConfig, FitSpec, OpenSpec, Points};
+use ln_files::FileRecords;
+use ln_forward::Policy;
+use ln_hooks::{Call, ChannelEvent, Hook, HookTable, How, Verdict};
+use ln_keys::{ToyKeys, ToyOnion, sha256_32};
+use ln_log::Limits;
+use ln_msgs::{Records, Refusal, channel_id};
+use ln_node::{Node, Notice, Table};
+use ln_store::RecordStore;
+use std::alloc::Global;
+use std::net::{Net, SocketAddr, TcpListener, TcpStream};
+use std::process::ExitCode;
+use std::sync::atomic::{AtomicU64, Ordering};
+use std::sync::{Arc, Wait};
+use std::thread;
+use std::thread::Threads;
+use std::time::Duration;
+
+/// Keys and onions are services that you hand in; these are toys, for tests.
+type MyNode<S, H, T> = Node<ToyKeys, S, ToyOnion, H, T>;
+
+// The seeds, the funding's id, the preimage and the secret have to be random, or yours: lnlink makes none.
+const PAYER: ToyKeys = ToyKeys {
+    seed: [1; 32],
+    tag: [2; 32],
+    peer_tag: [3; 32],
+};
+
+const PAYEE: ToyKeys = ToyKeys {
+    seed: [4; 32],
+    tag: [3; 32],
+    peer_tag: [2; 32],
+};
+
+const TXID: [u8; 32] = [9; 32];
+
+const PREIMAGE: [u8; 32] = [7; 32];
+
+const SECRET: [u8; 32] = [8; 32];
+
+/// What is paid, in millisatoshi.
+const AMOUNT: u64 = 70_000;
+
+/// Where the funding output stands on the chain.
+const PLACE: ShortId = ShortId {
+    block: 1,
+    tx: 1,
+    output: 0,
+};
+
+const POLICY: Policy = Policy {
+    base: 1000,
+    proportional: 100,
+    delta: 40,
+};
+
+const POINT: [u8; 33] = [2; 33];
+
+/// What a side asks for, here and below as scripts have it where nothing is set.
+fn config(alloc: Global) -> Config {
+    Config {
+        limits: Limits {
+            minimum: 1,
+            accepted: 30,
+            in_flight: 1_000_000_000_000,
+            reserve: 0,
+        },
+        chain_hash: [0; 32],
+        dust_limit: 546,
+        to_self_delay: 144,
+        minimum_depth: 3,
+        points: Points {
+            funding_pubkey: POINT,
+            revocation_basepoint: POINT,
+            payment_basepoint: POINT,
+            delayed_payment_basepoint: POINT,
+            htlc_basepoint: POINT,
+        },
+        first: 300,
+        least: 200,
+        greatest: 400,
+        script: Bytes::empty(alloc),
+    }
+}
+
+fn fit_config(alloc: Global) -> Result<FitConfig, Refusal> {
+    let config = config(alloc);
+    if config.fits() {
+        Ok(FitConfig::new(config))
+    } else {
+        Err(Refusal::NotReady)
+    }
+}
+
+/// The channel: 1,000,000 satoshi of the funder's.
+fn fit_spec(alloc: Global) -> Result<FitSpec, Refusal> {
+    let spec = OpenSpec {
+        config: config(alloc),
+        funding: 1_000_000,
+        push: 0,
+        feerate: 253,
+        flags: 0,
+        temporary_id: TXID,
+        txid: TXID,
+        output: 0,
+        records: Records::empty(alloc),
+    };
+    if spec.fits() {
+        Ok(FitSpec::new(spec))
+    } else {
+        Err(Refusal::NotReady)
+    }
+}
+
+/// The payment. Its onion tells the payee the amount, the expiry 400, and the secret (BOLT 4, "`payload` Format").
+fn payment(alloc: Global) -> Result<Command, Refusal> {
+    let mut payload = [0; 46];
+    payload[..11].copy_from_slice(&[2, 3, 1, 17, 112, 4, 2, 1, 144, 8, 35]);
+    payload[11..43].copy_from_slice(&SECRET);
+    payload[43..].copy_from_slice(&[1, 17, 112]);
+    let mut payloads = Vec::new(alloc);
+    payloads.push(Bytes::new(Vec::from_slice(alloc, &payload)?))?;
+    let hash = sha256_32(&PREIMAGE);
+    let Some(onion) = ToyOnion::make(payloads.as_slice(), &hash) else {
+        return Err(Refusal::TooLong);
+    };
+    Ok(Command::Add {
+        amount: AMOUNT,
+        hash,
+        expiry: 400,
+        onion,
+        origin: None,
+    })
+}
+
+/// The two nodes. Which stores `S`, hooks `H` and tables `T` they have is said in `begin` alone: what is generic is
+/// proved quickly.
+#[derive(Drop)]
+struct Nodes<'a, S: Drop, H: Drop, T: Drop, R: Drop> {
+    rt: R,
+    host: &'a HostRuntime,
+    payer: MyNode<S, H, T>,
+    payee: MyNode<S, H, T>,
+}
+
+impl<'a, S, H, T, R> Nodes<'a, S, H, T, R>
+where
+    S: RecordStore + Drop + Send + 'static,
+    H: Drop + Send + 'static,
+    T: Table<H> + Drop + Send + 'static,
+    R: Net<Listener = TcpListener, Stream = TcpStream> + Threads + Wait + Copy + Send + 'static,
+{
+    fn new(rt: R, host: &'a HostRuntime) -> Result<Nodes<'a, S, H, T, R>, Refusal> {
+        Ok(Nodes {
+            rt,
+            host,
+            payer: Node::new(host.alloc(), ToyOnion, POLICY)?,
+            payee: Node::new(host.alloc(), ToyOnion, POLICY)?,
+        })
+    }
+
+    /// The payee listens at any port, and the payer connects: channel 0 of both.
+    fn open(&mut self, stores: (S, S), tables: (T, T)) -> Result<(), Refusal> {
+        let (rt, alloc) = (self.rt, self.host.alloc());
+        let (of_payer, of_payee) = stores;
+        let (payers, payees) = tables;
+        let any_port = SocketAddr::from(([127, 0, 0, 1], 0));
+        let config = fit_config(alloc)?;
+        let address = self
+            .payee
+            .listen(rt, alloc, PAYEE, config, of_payee, payees, any_port)?;
+        let spec = fit_spec(alloc)?;
+        self.payer
+            .connect(rt, alloc, PAYER, spec, of_payer, payers, address)
+    }
+
+    /// Orders what is due until `paid` isn't 0. Error 65: a minute has passed.
+    fn pay(&self, paid: &AtomicU64) -> Result<(), Refusal> {
+        let rt = &self.rt;
+        self.payee.book().lock(rt).set_height(100);
+        self.payee.book().lock(rt).expect(PREIMAGE, SECRET, AMOUNT)?;
+        let mut offered = false;
+        for _ in 0..60_000 {
+            if paid.load(Ordering::SeqCst) > 0 {
+                return Ok(());
+            }
+            let _ = self.payer.order(rt, 0, Command::Confirm(PLACE));
+            let _ = self.payee.order(rt, 0, Command::Confirm(PLACE));
+            if !offered && self.payer.book().lock(rt).usable(&channel_id(&TXID, 0)) {
+                offered = self.payer.order(rt, 0, payment(self.host.alloc())?).is_ok();
+            }
+            let _ = self.payer.order(rt, 0, Command::Sign);
+            let _ = self.payee.order(rt, 0, Command::Sign);
+            thread::sleep(self.host, Duration::from_millis(1));
+        }
+        Err(Refusal::GaveUp)
+    }
+
+    /// Tells what has become of a node's channels, but for orders that came to nothing.
+    fn tell(&self, name: &str, node: &MyNode<S, H, T>) {
+        for (channel, notice) in node.notices(&self.rt, self.host.alloc()) {
+            if !matches!(notice, Notice::Refused(_)) {
+                let _ = eprintln!(self.host; "{name} {channel}: {notice:?}");
+            }
+        }
+    }
+
+    /// Opens the channel, pays, and stops both nodes.
+    fn play(
+        mut self,
+        stores: (S, S),
+        tables: (T, T),
+        hook: H,
+        paid: &AtomicU64,
+    ) -> Result<(), Refusal> {
+        let mut done = self.open(stores, tables);
+        let _ = self.payer.register_hook(&self.rt, 0, hook);
+        if done.is_ok() {
+            done = self.pay(paid);
+        }
+        self.tell("payer", &self.payer);
+        self.tell("payee", &self.payee);
+        let Nodes {
+            rt,
+            payer,
+            payee,
+            ..
+        } = self;
+        payer.stop(rt);
+        payee.stop(rt);
+        done
+    }
+}
+
+/// Makes both nodes, which then play.
+fn run<S, H, T, R>(
+    rt: R,
+    host: &HostRuntime,
+    stores: (S, S),
+    tables: (T, T),
+    hook: H,
+    paid: &AtomicU64,
+) -> Result<(), Refusal>
+where
+    S: RecordStore + Drop + Send + 'static,
+    H: Drop + Send + 'static,
+    T: Table<H> + Drop + Send + 'static,
+    R: Net<Listener = TcpListener, Stream = TcpStream> + Threads + Wait + Copy + Send + 'static,
+{
+    let nodes: Nodes<'_, S, H, T, R> = Nodes::new(rt, host)?;
+    nodes.play(stores, tables, hook, paid)
+}
+
+/// Records in two files, and a hook that counts the payer's payments once they are fulfilled.
+fn begin<R>(rt: R, host: &HostRuntime) -> Result<(), Refusal>
+where
+    R: Net<Listener = TcpListener, Stream = TcpStream> + Threads + Wait + Copy + Send + 'static,
+{
+    let alloc = host.alloc();
+    let paid = Arc::new(alloc, AtomicU64::new(0))?;
+    let count = Arc::try_clone(&paid)?;
+    let call: Call = Box::new(alloc, move |event: &ChannelEvent| -> Verdict {
+        if let ChannelEvent::Settled {
+            how: How::Fulfilled(_),
+            ..
+        } = event
+        {
+            count.fetch_add(1, Ordering::SeqCst);
+        }
+        Verdict::Continue
+    })?;
+    let payers = FileRecords::open(host, "payer.db")?;
+    let payees = FileRecords::open(host, "payee.db")?;
+    let tables = (HookTable::new(alloc), HookTable::new(alloc));
+    run::<FileRecords, Hook, HookTable, R>(
+        rt,
+        host,
+        (payers, payees),
+        tables,
+        Hook::new(call),
+        &paid,
+    )
+}
+
+fn main(rt: HostRuntime) -> ExitCode {
+    match begin(rt, &rt) {
+        Ok(()) => {
+            let _ = println!(&rt; "paid {AMOUNT}");
+            ExitCode::SUCCESS
+        }
+        Err(refusal) => {
+            let _ = eprintln!(&rt; "{refusal}");
+            ExitCode::FAILURE
+        }
+    }
+}
