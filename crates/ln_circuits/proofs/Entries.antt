@@ -227,7 +227,7 @@ module _ (id_of : ℕ → List ℕ) where
   over_so (way.Offered k) c i m is = refl
   over_so (way.Over k how) c i m is = refl
 
-  settled_some : (x : Htlc) (m : Mark) (w : Way) (b : Bool) → x.decided ≡ true → mark_as x.mark ≡ Some m
+  pub settled_some : (x : Htlc) (m : Mark) (w : Way) (b : Bool) → x.decided ≡ true → mark_as x.mark ≡ Some m
       → IsWayOf x.way w
       → AreEntries (cond (not (has_no_way x.way && not (is_held x.mark))) (put_back back.Settled x ∷ []) []) b
       (settled_note m w)

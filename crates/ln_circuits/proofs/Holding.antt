@@ -5,7 +5,7 @@ use Rattle.ln_payment.specs.Parts.{Mark, Forward, Hold, Answer, Decision, Undeci
 use Rattle.ln_payment.specs.Parts.{Way, Nowhere, Refused, Offered, Over, Back, Open, Sent, Gone, Settled, Note, Payment}
 use Rattle.ln_payment.specs.Parts.{IsHeld}
 use Rattle.ln_payment.specs.Rebuild.{settled_note, note_by, note_of_result, note_read, way_of, back_of, kept_outs}
-use Rattle.ln_payment.specs.Rebuild.{kept_removal, everywhere}
+use Rattle.ln_payment.specs.Rebuild.{kept_removal, everywhere, way_read}
 use Rattle.ln_payment.specs.Moves.{Move, MayMove, AreMade, after, moved, with_way, with_back, with_mark, settled}
 use Rattle.ln_payment.specs.Moves as move
 use Rattle.ln_payment.proofs.Invariant.{IsKept, ForNote, Waits}
@@ -62,7 +62,7 @@ by_waits : (m : Mark) (w : Way) (b : Back) → ForNote (IsHoldOf (Decided m)) (n
 by_waits m w Open = λ e. ap Decided e
 by_waits m w Sent = λ e. ap Decided e
 by_waits m w Gone = λ e. ap Decided e
-by_waits m w Settled = settled_waits (Decided m) m w (λ e. ap Decided e)
+by_waits m w Settled = settled_waits (Decided m) m (way_read m w) (λ e. ap Decided e)
 
 result_waits : (d : Decision) (w : Way) → ForNote (IsHoldOf d) (note_of_result w)
 result_waits d Nowhere = tt

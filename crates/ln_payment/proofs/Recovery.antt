@@ -101,7 +101,7 @@ not_offered Settled n s f a b = f a
 
 sent_none : (m : Mark) (w : Way) (l : Back) (n : Kind) (h : ℕ → Bool)
     → Kept (Decided m) (By n Signed) [] (Some (noted m w l)) h
-    → way_read m Nowhere Sent ≡ way_left w m (By n Signed) []
+    → way_read m Nowhere ≡ way_left w m (By n Signed) []
 sent_none Hold w l n h k = absurd (cc (k.waits))
 sent_none Forward Nowhere l n h k =
     absurd (not_offered l n Signed (λ x. x) (k.settled) (k.not_again))
@@ -117,7 +117,7 @@ sent_none (Answer q) (Over d j g) l n h k = absurd (k.over)
 
 sent_at : (t : Bool) (m : Mark) (w : Way) (l : Back) (n : Kind) (c i : ℕ) (s : Course) (h : ℕ → Bool)
     → Kept (Decided m) (By n Signed) (made c i s) (Some (noted m w l)) h
-    → way_read m (way_of t (left (made c i s))) Sent ≡ way_left w m (By n Signed) (left (made c i s))
+    → way_read m (way_of t (left (made c i s))) ≡ way_left w m (By n Signed) (left (made c i s))
 sent_at t m w l n c i Uncovered h k = absurd (k.follows.0)
 sent_at t m w l n c i Covered h k = absurd (k.follows.0)
 sent_at t m w l n c i (Ended q false) h k = absurd (cc ((second_of (λ x. x) (k.results)).0))
@@ -135,7 +135,7 @@ sent_at t Forward (Over d j g) l n c i (Ended q true) h k = over_there c i d j g
 
 sent_of : (t : Bool) (m : Mark) (w : Way) (l : Back) (n : Kind) (os : List Out) (h : ℕ → Bool)
     → Kept (Decided m) (By n Signed) os (Some (noted m w l)) h
-    → way_read m (way_of t (left os)) Sent ≡ way_left w m (By n Signed) (left os)
+    → way_read m (way_of t (left os)) ≡ way_left w m (By n Signed) (left os)
 sent_of t m w l n [] h k = sent_none m w l n h k
 sent_of t m w l n (o ∷ []) h k = sent_at t m w l n o.channel o.id o.course h k
 sent_of t m w l n (o ∷ o2 ∷ os) h k = absurd (k.one)
@@ -195,7 +195,7 @@ held d w NoRemoval a = absurd a
 held d w (By k Proposed) a = absurd a
 held d w (By k Signed) a = absurd a
 held Undecided w (By k Held) a = refl
-held (Decided m) w (By k Held) a = settled_by m w
+held (Decided m) w (By k Held) a = settled_by m (way_read m w)
 held Past w (By k Held) a = settled_result w
 
 -- ---- all of it

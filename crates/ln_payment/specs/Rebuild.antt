@@ -45,11 +45,11 @@ back_of (By k Proposed) = Sent
 back_of (By k Signed) = Sent
 back_of (By k Held) = Settled
 
--- what has a removal and goes nowhere was refused: it is not offered again
-abbrev pub way_read : Mark → Way → Back → Way
-way_read Forward Nowhere Sent = Refused
-way_read Forward Nowhere Settled = Refused
-way_read m w b = w
+-- of what has a removal: one to be forwarded that goes nowhere was refused, and one that is held is not offered either
+abbrev pub way_read : Mark → Way → Way
+way_read Forward Nowhere = Refused
+way_read Hold Nowhere = Refused
+way_read m w = w
 
 -- of what is settled nothing is left to be done, unless it is held, or went out and may have a result to be forgotten
 abbrev pub settled_note : Mark → Way → Option Note
@@ -59,9 +59,9 @@ settled_note m Refused = None
 settled_note m w = Some (record { mark = m; way = w; back = Settled })
 
 abbrev pub note_by : Mark → Way → Back → Option Note
-note_by m w Settled = settled_note m w
+note_by m w Settled = settled_note m (way_read m w)
 note_by m w Open = Some (record { mark = m; way = w; back = Open })
-note_by m w Sent = Some (record { mark = m; way = way_read m w Sent; back = Sent })
+note_by m w Sent = Some (record { mark = m; way = way_read m w; back = Sent })
 note_by m w Gone = Some (record { mark = m; way = w; back = Gone })
 
 -- where the decision has left the record, a result alone is left to be forgotten

@@ -156,17 +156,18 @@ way_along (Some l) = l.way
 abbrev pub way_for : Key → List Reading → Way
 way_for k rs = way_along (or_leg (result_for k rs) (offer_for k rs))
 
-abbrev pub is_forward : Mark → Bool
-is_forward mark.None = false
-is_forward (mark.Forward c amount expiry) = true
-is_forward (mark.Fail reason) = false
-is_forward (mark.Malformed code) = false
-is_forward (mark.Fulfil preimage) = false
-is_forward (mark.Held event) = false
+-- it is to be forwarded, or may be, once it is resumed
+abbrev pub may_go_out : Mark → Bool
+may_go_out mark.None = false
+may_go_out (mark.Forward c amount expiry) = true
+may_go_out (mark.Fail reason) = false
+may_go_out (mark.Malformed code) = false
+may_go_out (mark.Fulfil preimage) = false
+may_go_out (mark.Held event) = true
 
--- one to be forwarded that has a removal and goes nowhere was refused: it isn't offered again
+-- such a one that has a removal and goes nowhere was refused, or removed while it was held: it isn't offered any more
 abbrev pub way_read : Mark → Back → Way → Way
-way_read m b w = if is_forward m && (not (is_open b) && is_nowhere w) then way.Refused else w
+way_read m b w = if may_go_out m && (not (is_open b) && is_nowhere w) then way.Refused else w
 
 abbrev pub led : List Reading → Htlc → Htlc
 led rs h = put_way (way_read h.mark h.back (way_for h.key rs)) h

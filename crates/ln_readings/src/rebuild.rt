@@ -3,7 +3,7 @@
 ghost use Rattle.std.specs.Prelude.{◌≡◌, ◌++◌, OnOk, IfOk, IfErr, option_copied};
 ghost use Rattle.std.specs.List.{find, list_any};
 ghost use Rattle.ln_tables.specs.Replay.{is_htlc, is_over};
-ghost use Rattle.ln_readings.specs.Rebuild.{is_for, or_leg, result_for, offer_for, way_for, is_forward, way_read, led};
+ghost use Rattle.ln_readings.specs.Rebuild.{is_for, or_leg, result_for, offer_for, way_for, may_go_out, way_read, led};
 ghost use Rattle.ln_readings.specs.Rebuild.{unfinished, all_unfinished, is_read, htlc_left, left, all_left};
 ghost use Rattle.ln_readings.specs.Rebuild.{rebuilt_htlcs};
 
@@ -80,21 +80,22 @@ fn way_for(alloc: Global, key: &Key, readings: &[Reading]) -> Result<Way, Refusa
     }
 }
 
-fn is_forward(mark: &Mark) -> bool
-    ensures { result ≡ is_forward mark.now }
+// Whether it is to be forwarded, or may be, once it is resumed.
+fn may_go_out(mark: &Mark) -> bool
+    ensures { result ≡ may_go_out mark.now }
 {
     match mark {
-        Mark::Forward { .. } => true,
-        Mark::None | Mark::Fail(_) | Mark::Malformed(_) | Mark::Fulfil(_) | Mark::Held(_) => false,
+        Mark::Forward { .. } | Mark::Held(_) => true,
+        Mark::None | Mark::Fail(_) | Mark::Malformed(_) | Mark::Fulfil(_) => false,
     }
 }
 
-// One to be forwarded that has a removal and goes nowhere was refused.
+// Such a one that has a removal and goes nowhere was refused, or removed while it was held.
 fn way_read(mark: &Mark, back: Back, way: Way) -> Way
     ensures { result ≡ way_read mark.now back way }
 {
     match way {
-        Way::Nowhere if is_forward(mark) && back != Back::Open => Way::Refused,
+        Way::Nowhere if may_go_out(mark) && back != Back::Open => Way::Refused,
         way => way,
     }
 }
