@@ -16,7 +16,8 @@ use Rattle.ln_tables.specs.declared.entry.Told.{Told}
 use Rattle.ln_tables.specs.declared.entry.Desk.TheVariants as desk
 use Rattle.ln_tables.specs.declared.entry.Entry.TheVariants as entry
 use Rattle.ln_tables.specs.Replay.{Table, table_of, desk_at, htlc_kept, put_back_all, kept_at, is_among}
-use Rattle.ln_readings.specs.Kept.{told_by, next_own_id, has_own_removal, has_decided}
+use Rattle.ln_readings.specs.Kept.{has_own_removal}
+use Rattle.ln_switch.specs.Uses.{told_of}
 use Rattle.ln_channels.specs.declared.step.Node.{Node}
 use Rattle.ln_channels.specs.declared.step.End.{End}
 use Rattle.ln_channels.specs.Settings.{channel_id_of}
@@ -48,11 +49,6 @@ use Rattle.ln_circuits.proofs.Told.{covered, gone, none_removed}
 use Rattle.ln_channels.specs.Both.{Falls}
 use Rattle.ln_payments.proofs.Answering.{LinkIs}
 use Rattle.ln_payments.proofs.Moving.{falls_side}
-
--- what an end has kept, as its book is told
-abbrev pub told_of : End → ChannelEnd → Book → Told
-told_of e x b =
-    told_by (next_own_id x) (λ id. has_own_removal id x.dance.log) (λ n m. has_decided n m x) (id_of e) (table_of b)
 
 -- nothing is out for this channel
 abbrev pub IsIdle : ℕ → Book → Type 0
@@ -151,7 +147,7 @@ module _ {K : Type 0} (k : Ghosts K) (e : End) (w : World K)
     -- one that works
     module _ (awake : h ≡ false) (idle : IsIdle e.channel b) where
       abbrev told : Told
-      told = told_of e (end_dropped x) b
+      told = told_of (id_of e) (end_dropped x) b
 
       book_dropped : (behind v).book ≡ map (htlc_kept (channel_id_of e.channel) told) before.book
       book_dropped = book_now

@@ -18,6 +18,7 @@ use Rattle.ln_channels.proofs.Kept.{IsOpen, fall_kept, restart_kept}
 use Rattle.ln_channels.proofs.Promised.{moved_so, all_so}
 use Rattle.ln_tables.specs.Replay.{table_of}
 use Rattle.ln_desks.specs.World.{World as Desks}
+use Rattle.ln_switch.specs.Uses.{told_of}
 use Rattle.ln_world.specs.declared.node.NodeBook.{NodeBook}
 use Rattle.ln_world.specs.declared.step.Step.TheVariants as step
 use Rattle.ln_world.specs.Node.{Book, node_at, with_book}
@@ -30,7 +31,7 @@ use Rattle.ln_payments.proofs.Books.{own_book, other_book, follow_alike}
 use Rattle.ln_payments.proofs.Same.{IsSame, same_paid, same_agrees}
 use Rattle.ln_payments.proofs.Anew.{AreSmall}
 use Rattle.ln_payments.proofs.Restarts.{small_all}
-use Rattle.ln_payments.proofs.Downs.{down, told_of}
+use Rattle.ln_payments.proofs.Downs.{down}
 use Rattle.ln_payments.proofs.Desks.{IsCalm, calm_alike, calm_dropped}
 use Rattle.ln_payments.proofs.Wells.{IsWell}
 use Rattle.ln_payments.proofs.Moving.{falls_side, restarts_side}
@@ -40,7 +41,7 @@ module _ {K : Type 0} (k : Ghosts K) where
 
   calm_kept : (e : End) (o : Option ChannelEnd) (b : Book) → IsCalm b → IsCalm (saved_dropped e o b)
   calm_kept e None b h = h
-  calm_kept e (Some x) b h = calm_dropped (id_of e) (told_of e x b) b h
+  calm_kept e (Some x) b h = calm_dropped (id_of e) (told_of (id_of e) x b) b h
 
   calm_fallen : (e : End) (d : Desks K) (o : Option (State K)) (xs : List NodeBook) → IsCalm (node_at e.node xs).book
       → IsCalm (node_at e.node (fallen e d o xs)).book

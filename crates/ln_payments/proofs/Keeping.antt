@@ -34,6 +34,7 @@ use Rattle.ln_channels.proofs.Kept.{IsOpen}
 use Rattle.ln_desks.specs.declared.step.Step.TheVariants as desk_step
 use Rattle.ln_desks.specs.Desk.{Desk, serving, registered, at_desk}
 use Rattle.ln_desks.specs.World.{World as Desks, next_event, served_at, may_register}
+use Rattle.ln_switch.specs.Uses.{told_of}
 use Rattle.ln_world.specs.declared.node.NodeBook.{NodeBook}
 use Rattle.ln_world.specs.declared.step.Act.{Act}
 use Rattle.ln_world.specs.declared.step.Step.TheVariants as step
@@ -52,7 +53,7 @@ use Rattle.ln_payments.proofs.Lost.{link_is, link_now, fall_leaves, halt_leaves}
 use Rattle.ln_payments.proofs.Books.{own_book, follow_alike, itself, alike, IsAlike}
 use Rattle.ln_payments.proofs.Books as books
 use Rattle.ln_payments.proofs.Desks.{IsCalm}
-use Rattle.ln_payments.proofs.Downs.{dropped_htlcs, told_of}
+use Rattle.ln_payments.proofs.Downs.{dropped_htlcs}
 use Rattle.ln_payments.proofs.Wells.{IsWell, book_in, set_alike, height_by}
 use Rattle.ln_payments.proofs.Wells as wells
 use Rattle.ln_payments.proofs.Halting.{Halted, halt_or, halts_read, act_halts}
@@ -139,7 +140,7 @@ dropped_later c told b idle = record {
 
 saved_later : (e : End) (o : Option ChannelEnd) (b : Book) → IsCalm b → BookLater b (saved_dropped e o b)
 saved_later e None b h = book_alike b b (alike b)
-saved_later e (Some x) b h = dropped_later (id_of e) (told_of e x b) b (h (id_of e))
+saved_later e (Some x) b h = dropped_later (id_of e) (told_of (id_of e) x b) b (h (id_of e))
 
 module _ {K : Type 0} where
   fallen_later : (e : End) (d : Desks K) (o : Option (State K)) (xs : List NodeBook) → IsCalm (node_at e.node xs).book

@@ -3,7 +3,7 @@ use Rattle.std.proofs.Common.{◌≡◌, ◌⊎◌, ◌++◌, ◌∷◌, [], ℕ
 use Rattle.std.proofs.Common.{Result, Ok, Err, refl, sym, ap, ◌∙◌, subst, arith, cond, inl, inr, ◌==◌, nat_lt, nat_le}
 use Rattle.std.proofs.Common.{ltb-false, leb-true}
 use Rattle.std.proofs.lemmas.Bool.{eqb-true}
-use Rattle.std.specs.Prelude.{not, ◌&&◌, ◌||◌, nat_eq, is_some}
+use Rattle.std.specs.Prelude.{not, ◌&&◌, ◌||◌, is_some}
 use Rattle.std.specs.List.{find}
 use Rattle.std.specs.Map.{lookup}
 use Rattle.indexmap.specs.IndexMap.{insert_entry}
@@ -29,12 +29,12 @@ use Rattle.ln_tables.specs.declared.entry.Told.{Told}
 use Rattle.ln_tables.specs.declared.entry.Entry.{Entry}
 use Rattle.ln_tables.specs.declared.entry.Entry.TheVariants as entry
 use Rattle.ln_history.specs.History.{History, with_entry}
-use Rattle.ln_tables.specs.Replay.{Table, table_of, replay, after, same, same_key, desk_of, desk_at, with_desk, is_htlc}
+use Rattle.ln_tables.specs.Replay.{Table, table_of, replay, after, same, desk_of, desk_at, with_desk, is_htlc}
 use Rattle.ln_tables.specs.Replay.{changed_first, put_way, put_back, answered_out, answered_at, is_settled, is_nowhere}
 use Rattle.ln_tables.specs.Replay.{is_open, is_way_lost, is_among, back_kept, htlc_kept, kept_out, kept_at}
 use Rattle.ln_tables.specs.Replay.{put_back_all}
 use Rattle.ln_tables.specs.Replay.{is_later, refused, left_out}
-use Rattle.ln_book.specs.Commands.{Services, is_over_in, forwards_in, is_told_by, has_removal, due, removal_by, add_of}
+use Rattle.ln_book.specs.Commands.{Services, is_over_in, forwards_in, has_removal, due, removal_by}
 use Rattle.ln_book.specs.Commands.{with_out, command_by, command_of, or_next, first_due, is_queued_in, queued_command}
 use Rattle.ln_book.specs.Commands.{first_of, first_at, first_command, with_taken, with_answered}
 use Rattle.ln_switch.specs.Answers.{replied}

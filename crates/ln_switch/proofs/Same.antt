@@ -1,10 +1,10 @@
--- What compares as equal is equal.
-use Rattle.std.proofs.Common.{◌≡◌, ◌∷◌, [], ℕ, List, Bool, true, false, Option, Some, None, refl, sym, ap, ◌∙◌}
+-- What compares as equal is equal, and is what compares so.
+use Rattle.std.proofs.Common.{◌≡◌, ℕ, List, Bool, true, false, Option, Some, None, refl, ap, ◌∙◌}
 use Rattle.std.specs.Prelude.{◌&&◌}
 use Rattle.std.specs.Option.{option_eq}
 use Rattle.std.proofs.Math.Dec.{eqb}
-use Rattle.std.proofs.lemmas.Bool.{eqb-true}
-use lib.Pointwise.{pointwise}
+use Rattle.std.proofs.lemmas.Bool.{eqb-true, eq-eqb}
+use lib.Pointwise.{pointwise, bytes_decides}
 use mathlib.Core.Bool.{beq}
 use Rattle.ln_switch.specs.declared.uses.Use.{Use}
 
@@ -12,19 +12,15 @@ both : (a b : Bool) → (a && b) ≡ true → (a ≡ true) × (b ≡ true)
 both true b e = (refl, e)
 both false b e = (e, cc)
 
-same-bytes : (xs ys : List ℕ) → pointwise eqb xs ys ≡ true → xs ≡ ys
-same-bytes [] [] e = refl
-same-bytes [] (y ∷ ys) e = cc
-same-bytes (x ∷ xs) [] e = cc
-same-bytes (x ∷ xs) (y ∷ ys) e =
-    let p = both (eqb x y) (pointwise eqb xs ys) e in
-    ap (λ l. l ∷ xs) (eqb-true x y p.0) ∙ ap (λ l. y ∷ l) (same-bytes xs ys p.1)
-
 same-id : (x y : Option (List ℕ)) → option_eq (pointwise eqb) x y ≡ true → x ≡ y
 same-id None None e = refl
 same-id None (Some y) e = cc
 same-id (Some x) None e = cc
-same-id (Some x) (Some y) e = ap Some (same-bytes x y e)
+same-id (Some x) (Some y) e = ap Some ((bytes_decides x y).0 e)
+
+id-again : (x : Option (List ℕ)) → option_eq (pointwise eqb) x x ≡ true
+id-again None = refl
+id-again (Some x) = (bytes_decides x x).1 refl
 
 same-takes : (x y : Bool) → beq x y ≡ true → x ≡ y
 same-takes true true e = refl
@@ -32,15 +28,23 @@ same-takes false false e = refl
 same-takes true false e = cc
 same-takes false true e = cc
 
-pub same-use : (a b : Use) → (pointwise eqb a.channel b.channel && (option_eq (pointwise eqb) a.short_id b.short_id
-    && (eqb a.minimum b.minimum && beq a.takes b.takes))) ≡ true → a ≡ b
+takes-again : (x : Bool) → beq x x ≡ true
+takes-again true = refl
+takes-again false = refl
+
+-- what two of them are compared by
+abbrev pub alike : Use → Use → Bool
+alike a b = pointwise eqb a.channel b.channel && (option_eq (pointwise eqb) a.short_id b.short_id
+    && (eqb a.minimum b.minimum && beq a.takes b.takes))
+
+pub same-use : (a b : Use) → alike a b ≡ true → a ≡ b
 same-use a b e =
     let p = both (pointwise eqb a.channel b.channel) (option_eq (pointwise eqb) a.short_id b.short_id
     && (eqb a.minimum b.minimum && beq a.takes b.takes)) e in
     let q = both (option_eq (pointwise eqb) a.short_id b.short_id) (eqb a.minimum b.minimum && beq a.takes b.takes)
     p.1 in
     let r = both (eqb a.minimum b.minimum) (beq a.takes b.takes) q.1 in
-    let c = same-bytes a.channel b.channel p.0 in
+    let c = (bytes_decides a.channel b.channel).0 p.0 in
     let i = same-id a.short_id b.short_id q.0 in
     let m = eqb-true a.minimum b.minimum r.0 in
     let t = same-takes a.takes b.takes r.1 in
@@ -48,3 +52,10 @@ same-use a b e =
     ∙ ap (λ (x : Option (List ℕ)). record { channel = b.channel; short_id = x; minimum = a.minimum; takes = a.takes }) i
     ∙ ap (λ (x : ℕ). record { channel = b.channel; short_id = b.short_id; minimum = x; takes = a.takes }) m
     ∙ ap (λ (x : Bool). record { channel = b.channel; short_id = b.short_id; minimum = b.minimum; takes = x }) t
+
+pub alike-again : (a : Use) → alike a a ≡ true
+alike-again a =
+    ap (λ z. z && (option_eq (pointwise eqb) a.short_id a.short_id
+    && (eqb a.minimum a.minimum && beq a.takes a.takes))) ((bytes_decides a.channel a.channel).1 refl)
+    ∙ ap (λ z. z && (eqb a.minimum a.minimum && beq a.takes a.takes)) (id-again a.short_id)
+    ∙ ap (λ z. z && beq a.takes a.takes) (eq-eqb a.minimum a.minimum refl) ∙ takes-again a.takes

@@ -1,5 +1,5 @@
 -- What a book of payments has to command a channel, whether it was handed out before or not.
-use Rattle.std.specs.Prelude.{◌≡◌, ◌⊎◌, ℕ, List, [], ◌∷◌, Bool, true, false, not, Option, Some}
+use Rattle.std.specs.Prelude.{◌≡◌, ◌⊎◌, ℕ, List, [], ◌∷◌, Bool, true, not, Some}
 use Rattle.ln_channel.specs.declared.command.Command.{Command}
 use Rattle.ln_tables.specs.declared.htlc.Htlc.{Htlc}
 use Rattle.ln_tables.specs.declared.entry.Queued.{Queued}

@@ -9,6 +9,7 @@ use Rattle.ln_channel.specs.End.{End, is_ready}
 use Rattle.ln_channel.specs.State.{State, is_down}
 use Rattle.ln_tables.specs.declared.entry.Entry.{Entry}
 use Rattle.ln_tables.specs.declared.entry.Entry.TheVariants as entry
+use Rattle.ln_tables.specs.declared.entry.Told.{Told}
 use Rattle.ln_history.specs.History.{History, with_entry}
 use Rattle.ln_tables.specs.Replay.{Table, table_of}
 use Rattle.ln_readings.specs.Kept.{told_by, next_own_id, has_own_removal, has_decided}
@@ -46,7 +47,11 @@ with_route p u (Some id) b = with_entry (entry.Route id (record {
 abbrev pub with_use : Policy → Use → History Table Entry → History Table Entry
 with_use p u b = with_entry (entry.Use u.channel u.takes) (with_route p u u.short_id b)
 
--- the book is told what this channel's end has kept, as its connection was lost or it was loaded
+-- what this channel's end has kept, as a book is told
+abbrev pub told_of : List ℕ → End → History Table Entry → Told
+told_of c e b =
+    told_by (next_own_id e) (λ id. has_own_removal id e.dance.log) (λ n mark. has_decided n mark e) c (table_of b)
+
+-- the book is told so, as its connection was lost or it was loaded
 abbrev pub with_dropped : List ℕ → End → History Table Entry → History Table Entry
-with_dropped c e b = with_entry (entry.Dropped c (told_by (next_own_id e) (λ id. has_own_removal id e.dance.log)
-    (λ event mark. has_decided event mark e) c (table_of b))) b
+with_dropped c e b = with_entry (entry.Dropped c (told_of c e b)) b

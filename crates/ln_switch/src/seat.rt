@@ -28,7 +28,8 @@ pub struct Seat<O: Drop> {
 }
 
 impl<O: Onion + Copy + Drop> Seat<O> {
-    ghost use Rattle.std.specs.Prelude.{◌≡◌, ◌⊎◌, ◌++◌, ◌∷◌, [], OnOk, OnErr, IfOk, IfErr, Some, false, option_map};
+    ghost use Rattle.std.specs.Prelude.{◌≡◌, ◌⊎◌, ◌↔◌, ◌++◌, ◌∷◌, [], OnOk, OnErr, IfOk, IfErr};
+    ghost use Rattle.std.specs.Prelude.{Some, false, option_map};
     ghost use Rattle.ln_tables.specs.declared.entry.Entry.TheVariants as entry;
     ghost use Rattle.ln_history.specs.History.{with_entry};
     ghost use Rattle.ln_tables.specs.Replay.{table_of};
@@ -170,9 +171,10 @@ impl<O: Onion + Copy + Drop> Seat<O> {
         }
     }
 
-    /// Whether the book is to be told which payments an end takes: false where the same was said last. Takes no memory.
+    /// Whether the book is to be told which payments an end takes: false exactly where the same was said last. Takes no
+    /// memory.
     pub fn is_news(&self, used: Use) -> bool
-        ensures { result ≡ false → last_use (said self.now) ≡ Some used }
+        ensures { result ≡ false ↔ last_use (said self.now) ≡ Some used }
     {
         !is_again(self.used, used)
     }

@@ -1,6 +1,6 @@
 //! Which payments a channel's end takes.
 
-ghost use Rattle.std.specs.Prelude.{◌≡◌, ◌⊎◌, OnOk, OnErr, IfErr, option_map, true, Some};
+ghost use Rattle.std.specs.Prelude.{◌≡◌, ◌⊎◌, ◌↔◌, OnOk, OnErr, IfErr, option_map, true, Some};
 ghost use Rattle.ln_msgs.specs.declared.refusals.refusal.Refusal.TheVariants as refusal;
 ghost use Rattle.ln_forward.specs.Payload.{id_bytes};
 ghost use Rattle.ln_switch.specs.Uses.{takes_payments, minimum_told, use_of, with_route, with_use};
@@ -98,7 +98,7 @@ pub fn follow(book: &mut Book, policy: Policy, used: Use) -> Result<(), Refusal>
 
 /// Whether this was said last. Takes no memory.
 pub(crate) fn is_again(last: Option<Use>, used: Use) -> bool
-    ensures { result ≡ true → last ≡ Some used }
+    ensures { result ≡ true ↔ last ≡ Some used }
 {
     match last {
         None => false,

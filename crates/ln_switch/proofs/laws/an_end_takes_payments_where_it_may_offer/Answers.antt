@@ -1,4 +1,4 @@
-use Rattle.std.proofs.Common.{ap, ◌∙◌, sym, cond, Some, None}
+use Rattle.std.proofs.Common.{ap, ◌∙◌, sym, cond, Some}
 use Rattle.std.specs.Prelude.{not, ◌&&◌, is_none}
 use Rattle.ln_msgs.specs.declared.refusals.refusal.Refusal.TheVariants as refusal
 use Rattle.ln_channel.specs.Commands.{shut_by_either}
