@@ -13,6 +13,3 @@ pub use commands::perform;
 pub use program_error::ProgramError;
 pub use simulation::{script_text, simulate};
 pub use text::decode_text;
-
-#[cfg(test)]
-mod tests;

@@ -37,6 +37,3 @@ fn main(rt: HostRuntime) -> ExitCode {
         _ => ExitCode::FAILURE,
     }
 }
-
-#[cfg(test)]
-mod tests;

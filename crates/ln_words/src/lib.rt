@@ -6,6 +6,3 @@ mod choosing;
 
 pub use asked::{Asked, Unasked};
 pub use choosing::choose;
-
-#[cfg(test)]
-mod tests;

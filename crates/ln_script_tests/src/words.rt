@@ -1,5 +1,6 @@
-use crate::asked::{Asked, Unasked};
-use crate::choosing::choose;
+//! What the words of the command line ask for.
+
+use ln_words::{Asked, Unasked, choose};
 use std::alloc::Global;
 use std::test::*;
 

@@ -1,6 +1,7 @@
-use crate::choice::Choice;
-use crate::commands::perform;
-use crate::program_error::ProgramError;
+//! What each command of the program writes, and what it says where it fails.
+
+use crate::frames::ping_frame;
+use ln_commands::{Choice, ProgramError, perform};
 use ln_msgs::Counted;
 use std::alloc::Global;
 use std::test::*;
@@ -43,13 +44,10 @@ fn told(alloc: Global, line: &str, input: &[u8]) -> Result<String, Fail> {
 // What the lines of ln_rows can't say: bytes that are no text.
 #[test]
 fn commands(rt: HostRuntime) -> Result<(), Fail> {
+    let ping = ping_frame();
     for (line, input, text) in [
         ("answer", b"".as_slice(), ""),
-        (
-            "answer",
-            b"\0\x06\0\x12\0\x02\0\0",
-            "\0\x06\0\x13\0\x02\0\0",
-        ),
+        ("answer", ping.as_slice(), "\0\x06\0\x13\0\x02\0\0"),
         ("answer", b"\0\x06\0\x12", "refused 1, 1"),
         ("sim", b"\xff", "refused 64 line 0, 1"),
     ] {
@@ -63,7 +61,7 @@ fn commands(rt: HostRuntime) -> Result<(), Fail> {
 
 #[test]
 fn small_answer(rt: HostRuntime) -> Result<(), ProgramError> {
-    let got = answered(rt.alloc(), "answer", b"\0\x06\0\x12\0\x02\0\0")?;
+    let got = answered(rt.alloc(), "answer", &ping_frame())?;
     assert_eq!(rt; got.as_str(), "\0\x06\0\x13\0\x02\0\0");
     Ok(())
 }

@@ -1,5 +1,0 @@
-//! What no line of a case can say.
-
-mod hooks;
-mod records;
-mod scripts;
