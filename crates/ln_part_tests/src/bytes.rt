@@ -52,12 +52,12 @@ fn is_spelled(number: u64, bytes: &[u8]) -> bool {
 
 #[test]
 fn numbers(rt: HostRuntime) {
-    assert!(rt; NUMBERS.iter().all(|row| is_spelled(row.0, row.1)));
-    assert!(rt;
-        BAD_NUMBERS
-            .iter()
-            .all(|row| read_bigsize(row.0) == Err(row.1))
-    );
+    for row in &NUMBERS {
+        assert!(rt; is_spelled(row.0, row.1));
+    }
+    for row in &BAD_NUMBERS {
+        assert!(rt; read_bigsize(row.0) == Err(row.1));
+    }
 }
 
 /// BOLT 1, Appendix B: the values of the first namespace's `tu64`.
@@ -128,12 +128,12 @@ fn is_refused(bytes: &[u8], fault: Fault, fault32: Fault) -> bool {
 
 #[test]
 fn truncated_numbers(rt: HostRuntime) {
-    assert!(rt; TRUNCATED.iter().all(|row| is_truncated(row.0, row.1)));
-    assert!(rt;
-        BAD_TRUNCATED
-            .iter()
-            .all(|row| is_refused(row.0, row.1, row.2))
-    );
+    for row in &TRUNCATED {
+        assert!(rt; is_truncated(row.0, row.1));
+    }
+    for row in &BAD_TRUNCATED {
+        assert!(rt; is_refused(row.0, row.1, row.2));
+    }
     assert!(rt; read_tu32(&[0x01, 0x00, 0x00, 0x00]) == Ok(16_777_216));
 }
 
@@ -163,11 +163,9 @@ fn is_told_so(alloc: Global, fault: Fault, number: u16, text: &str) -> bool {
 #[test]
 fn fault_texts(rt: HostRuntime) {
     let alloc = rt.alloc();
-    assert!(rt;
-        FAULTS
-            .iter()
-            .all(|row| is_told_so(alloc, row.0, row.1, row.2))
-    );
+    for row in &FAULTS {
+        assert!(rt; is_told_so(alloc, row.0, row.1, row.2));
+    }
 }
 
 /// A stream of records, and how it is told.
@@ -361,11 +359,9 @@ fn is_short_id(alloc: Global, text: &str, bytes: &[u8; 8]) -> bool {
 #[test]
 fn short_ids(rt: HostRuntime) {
     let alloc = rt.alloc();
-    assert!(rt;
-        SHORT_IDS
-            .iter()
-            .all(|row| is_short_id(alloc, row.0, &row.1))
-    );
+    for row in &SHORT_IDS {
+        assert!(rt; is_short_id(alloc, row.0, &row.1));
+    }
     let id = ShortId {
         block: 1,
         tx: 2,

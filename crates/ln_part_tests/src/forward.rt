@@ -73,11 +73,9 @@ const FAULTY: [(&[u8], Fault); 7] = [
 fn payloads(rt: HostRuntime) {
     let payload = asks(None, None, Some(PAYMENT));
     assert!(rt; is_read(rt.alloc(), &payment_data(), &payload) == Ok(true));
-    assert!(rt;
-        FAULTY
-            .iter()
-            .all(|row| read_payload(rt.alloc(), row.0).err() == Some(row.1))
-    );
+    for row in &FAULTY {
+        assert!(rt; read_payload(rt.alloc(), row.0).err() == Some(row.1));
+    }
 }
 
 const POLICY: Policy = Policy {
@@ -177,11 +175,9 @@ const FAILURES: [(Failure, &[u8]); 12] = [
 #[test]
 fn failures(rt: HostRuntime) {
     let alloc = rt.alloc();
-    assert!(rt;
-        FAILURES
-            .iter()
-            .all(|row| is_written(alloc, row.0, row.1) == Ok(true))
-    );
+    for row in &FAILURES {
+        assert!(rt; is_written(alloc, row.0, row.1) == Ok(true));
+    }
 }
 
 #[test]

@@ -143,12 +143,12 @@ fn has_tail(alloc: Global, row: &(u16, usize, &[u8], &str)) -> bool {
 #[test]
 fn messages_both_ways(rt: HostRuntime) {
     let alloc = rt.alloc();
-    assert!(rt;
-        FIELDS
-            .iter()
-            .all(|row| is_message(alloc, row.0, row.1, row.2))
-    );
-    assert!(rt; TAILS.iter().all(|row| has_tail(alloc, row)));
+    for row in &FIELDS {
+        assert!(rt; is_message(alloc, row.0, row.1, row.2));
+    }
+    for row in &TAILS {
+        assert!(rt; has_tail(alloc, row));
+    }
 }
 
 /// How many bytes are written for a pong that carries so many of its own.
@@ -269,7 +269,9 @@ fn is_heard(alloc: Global, row: &(&[u8], usize, usize, [u32; 3])) -> bool {
 #[test]
 fn pieces(rt: HostRuntime) {
     let alloc = rt.alloc();
-    assert!(rt; PIECES.iter().all(|row| is_heard(alloc, row)));
+    for row in &PIECES {
+        assert!(rt; is_heard(alloc, row));
+    }
 }
 
 /// How many messages two pieces give.

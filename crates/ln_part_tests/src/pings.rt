@@ -168,7 +168,9 @@ fn is_answered_always(alloc: Global, row: &Row) -> bool {
 #[test]
 fn pongs_for_pings(rt: HostRuntime) {
     let alloc = rt.alloc();
-    assert!(rt; ROWS.iter().all(|row| is_answered_always(alloc, row)));
+    for row in &ROWS {
+        assert!(rt; is_answered_always(alloc, row));
+    }
 }
 
 /// A long pong and ten thousand short ones are asked for, and a message as long as one can be comes: `ffff0013fffb` and

@@ -282,7 +282,9 @@ fn has_text(alloc: Global, refusal: &Refusal, text: &str) -> bool {
 #[test]
 fn refusals_by_their_texts(rt: HostRuntime) {
     let alloc = rt.alloc();
-    assert!(rt; TEXTS.iter().all(|row| has_text(alloc, &row.0, row.1)));
+    for row in &TEXTS {
+        assert!(rt; has_text(alloc, &row.0, row.1));
+    }
 }
 
 // A writer that takes no byte.
