@@ -4,11 +4,8 @@ ghost use Rattle.std.specs.Prelude.{◌≡◌, IsTrue, IfOk};
 ghost use Rattle.sqlite_disk.specs.Memory.{memory_is_usable};
 ghost use Rattle.sqlite_disk.specs.Fuse.{inner_of, IsFresh};
 
-use ln_bytes::Bytes;
 use ln_msgs::Refusal;
-use ln_sqlite::SqliteStore;
-use ln_store::RecordStore;
-use sqlite::{Alter, Connection, FileStore, Files, Options};
+use sqlite::{Connection, FileStore, Files, Options};
 use sqlite_disk::{Disk, Fuse, Memory};
 use std::alloc::Global;
 
@@ -85,26 +82,15 @@ impl Image {
     }
 }
 
-/// A store of records in a database over such files. It is a type without parameters: what is generic in stores is
-/// proved and made for it at little cost.
-#[derive(Drop)]
-pub struct Database {
-    inner: SqliteStore<FileStore<Fuse<Memory>>>,
-}
-
-/// The files behind a connection, as they are.
-fn files_of(connection: Connection<FileStore<Fuse<Memory>>>) -> Disks {
-    connection.into_store().close()
-}
-
-/// A connection to the files, or these as they are then.
-fn connected(
+/// A connection to the files, whose log is copied into the database file once it has so many pages; or the files as
+/// they are then.
+pub fn connected<D: Disk + Drop>(
     alloc: Global,
-    disks: Disks,
+    disks: Files<D>,
     frames: usize,
-) -> Result<Connection<FileStore<Fuse<Memory>>>, Disks>
-    requires log { IsFresh disks.log × IsTrue (memory_is_usable (inner_of disks.log)) }
-    requires db { IsFresh disks.db × IsTrue (memory_is_usable (inner_of disks.db)) }
+) -> Result<Connection<FileStore<D>>, Files<D>>
+    requires log { IsTrue (D.Disk.is_usable disks.log) }
+    requires db { IsTrue (D.Disk.is_usable disks.db) }
 {
     let options = Options {
         checkpoint_frames: frames,
@@ -116,55 +102,19 @@ fn connected(
     }
 }
 
-impl Database {
-    /// The one over these files, whose log is copied into the database file once it has so many pages; or the files as
-    /// they are then.
-    pub fn over(alloc: Global, disks: Disks, frames: usize) -> Result<Database, Disks>
-        requires log { IsFresh disks.log × IsTrue (memory_is_usable (inner_of disks.log)) }
-        requires db { IsFresh disks.db × IsTrue (memory_is_usable (inner_of disks.db)) }
-    {
-        match SqliteStore::over(alloc, connected(alloc, disks, frames)?) {
-            Ok(inner) => Ok(Database { inner }),
-            Err((_, connection)) => Err(files_of(connection)),
-        }
-    }
-
-    /// A new one.
-    pub fn new(alloc: Global) -> Result<Database, Refusal> {
-        let disks = Image::empty(alloc).disks(alloc, NEVER)?;
-        match Database::over(alloc, disks, 1000) {
-            Ok(database) => Ok(database),
-            Err(disks) => {
-                drop(disks);
-                Err(Refusal::Store)
-            }
-        }
-    }
-
-    /// The files behind it, as they are.
-    pub fn into_disks(self) -> Disks {
-        files_of(self.inner.into_connection())
-    }
+/// A connection to new files.
+pub fn connected_anew(alloc: Global) -> Result<Connection<FileStore<Fuse<Memory>>>, Refusal> {
+    let disks = Image::empty(alloc).disks(alloc, NEVER)?;
+    no_files(connected(alloc, disks, 1000))
 }
 
-impl RecordStore for Database {
-    ghost records = { λ s. s.inner.copies };
-
-    ghost failed = { λ s. s.inner.failures };
-
-    fn save(&mut self, alloc: Global, id: &[u8; 32], bytes: &[u8]) -> Result<(), Refusal> {
-        self.inner.save(alloc, id, bytes)
-    }
-
-    fn load(&mut self, alloc: Global, id: &[u8; 32]) -> Result<Option<Bytes>, Refusal> {
-        self.inner.load(alloc, id)
-    }
-
-    fn ids(&mut self, alloc: Global) -> Result<Vec<[u8; 32]>, Refusal> {
-        self.inner.ids(alloc)
-    }
-
-    fn failures(&self) -> u64 {
-        self.inner.failures()
+/// What was opened, or why it wasn't. What is generic pays nothing for the depth of what it drops.
+fn no_files<C, D: Drop>(opened: Result<C, D>) -> Result<C, Refusal> {
+    match opened {
+        Ok(connection) => Ok(connection),
+        Err(files) => {
+            drop(files);
+            Err(Refusal::Store)
+        }
     }
 }

@@ -2,12 +2,14 @@
 //! comes back from what its store has, and the payment is completed, with each update once, or the channel closed. Over
 //! records in memory, and over databases.
 
-use crate::database::Database;
+use crate::database::connected_anew;
 use crate::players::{Player, are_closed, both, closes, is_paid, meet, pays};
 use ln_keys::Role;
 use ln_msgs::Refusal;
+use ln_sqlite::SqliteStore;
 use ln_store::{MemoryStore, RecordStore};
 use ln_tests::{FUNDEE, FUNDER, FailingStore, boxed, code_of, fundee_side, funder_side, played};
+use sqlite::{Alter, Connection};
 use std::alloc::Global;
 
 /// What an end x did as its save failed, by which refusal, how many saves have failed, what a command is refused by
@@ -118,23 +120,63 @@ fn told_over<S: RecordStore + Drop>(
     }
 }
 
-fn in_memory(alloc: Global) -> (MemoryStore, MemoryStore) {
-    (MemoryStore::new(alloc), MemoryStore::new(alloc))
+/// A store over a database.
+fn store_over<S: Alter + Drop>(
+    alloc: Global,
+    opened: Result<Connection<S>, Refusal>,
+) -> Result<SqliteStore<S>, Refusal> {
+    match SqliteStore::over(alloc, opened?) {
+        Ok(store) => Ok(store),
+        Err((refusal, connection)) => {
+            drop(connection);
+            Err(refusal)
+        }
+    }
 }
 
-fn in_databases(alloc: Global) -> Result<(Database, Database), Refusal> {
-    both(Database::new(alloc), Database::new(alloc))
+/// What is told over these databases. It is generic, as the type of a database over files is dear to name.
+fn told_of_two<S: Alter + Drop>(
+    alloc: Global,
+    play: Play,
+    row: &Told,
+    leaves_new: bool,
+    of_a: Result<Connection<S>, Refusal>,
+    of_b: Result<Connection<S>, Refusal>,
+) -> Result<String, Refusal> {
+    let stores = both(store_over(alloc, of_a), store_over(alloc, of_b))?;
+    told_over(alloc, play, row, leaves_new, stores)
 }
 
-fn is_told_in_memory(alloc: Global, play: Play, row: &Told) -> Result<(bool, bool), Refusal> {
-    let with_old = told_over(alloc, play, row, false, in_memory(alloc))?;
-    let with_new = told_over(alloc, play, row, true, in_memory(alloc))?;
-    Ok((with_old.as_str() == row.2, with_new.as_str() == row.3))
+/// Over which stores both ends keep their records.
+#[derive(Clone, Copy)]
+enum Over {
+    Memory,
+    Databases,
 }
 
-fn is_told_in_databases(alloc: Global, play: Play, row: &Told) -> Result<(bool, bool), Refusal> {
-    let with_old = told_over(alloc, play, row, false, in_databases(alloc)?)?;
-    let with_new = told_over(alloc, play, row, true, in_databases(alloc)?)?;
+fn told_by(
+    alloc: Global,
+    over: Over,
+    play: Play,
+    row: &Told,
+    leaves_new: bool,
+) -> Result<String, Refusal> {
+    match over {
+        Over::Memory => {
+            let stores = (MemoryStore::new(alloc), MemoryStore::new(alloc));
+            told_over(alloc, play, row, leaves_new, stores)
+        }
+        Over::Databases => {
+            let of_a = connected_anew(alloc);
+            let of_b = connected_anew(alloc);
+            told_of_two(alloc, play, row, leaves_new, of_a, of_b)
+        }
+    }
+}
+
+fn is_told(alloc: Global, over: Over, play: Play, row: &Told) -> Result<(bool, bool), Refusal> {
+    let with_old = told_by(alloc, over, play, row, false)?;
+    let with_new = told_by(alloc, over, play, row, true)?;
     Ok((with_old.as_str() == row.2, with_new.as_str() == row.3))
 }
 
@@ -308,11 +350,11 @@ const CLOSES: [Told; 6] = [
 #[test]
 fn over_a_save_that_fails_in_memory(rt: HostRuntime) {
     for row in &PAYMENTS {
-        let told = is_told_in_memory(rt.alloc(), Play::Payment, row);
+        let told = is_told(rt.alloc(), Over::Memory, Play::Payment, row);
         assert_eq!(rt; told, Ok((true, true)), "payment, {}", row.1);
     }
     for row in &CLOSES {
-        let told = is_told_in_memory(rt.alloc(), Play::Close, row);
+        let told = is_told(rt.alloc(), Over::Memory, Play::Close, row);
         assert_eq!(rt; told, Ok((true, true)), "close, {}", row.1);
     }
 }
@@ -320,11 +362,11 @@ fn over_a_save_that_fails_in_memory(rt: HostRuntime) {
 #[test]
 fn over_a_save_that_fails_in_databases(rt: HostRuntime) {
     for row in &PAYMENTS {
-        let told = is_told_in_databases(rt.alloc(), Play::Payment, row);
+        let told = is_told(rt.alloc(), Over::Databases, Play::Payment, row);
         assert_eq!(rt; told, Ok((true, true)), "payment, {}", row.1);
     }
     for row in &CLOSES {
-        let told = is_told_in_databases(rt.alloc(), Play::Close, row);
+        let told = is_told(rt.alloc(), Over::Databases, Play::Close, row);
         assert_eq!(rt; told, Ok((true, true)), "close, {}", row.1);
     }
 }

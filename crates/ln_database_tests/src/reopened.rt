@@ -2,31 +2,15 @@
 
 use crate::players::{Player, both, is_paid, meet, pays, signs, tells};
 use ln_channel::Command;
+use ln_files::FileRecords;
 use ln_keys::ToyKeys;
 use ln_link::Link;
 use ln_msgs::Refusal;
-use ln_sqlite::SqliteStore;
 use ln_store::RecordStore;
 use ln_tests::{FUNDEE, FUNDER, Side, boxed, fundee_side, funder_side, played};
-use sqlite::{Connection, FileStore};
-use sqlite_std_file::File;
 use std::alloc::Global;
 use std::fs;
 use std::test::Fail;
-
-/// A store over the database at a path, which is made where there is none.
-fn opened(rt: &HostRuntime, path: &str) -> Result<SqliteStore<FileStore<File>>, Refusal> {
-    let Ok(connection) = Connection::open(rt, path) else {
-        return Err(Refusal::Store);
-    };
-    match SqliteStore::over(rt.alloc(), connection) {
-        Ok(store) => Ok(store),
-        Err((refusal, connection)) => {
-            drop(connection);
-            Err(refusal)
-        }
-    }
-}
 
 /// A channel is opened, and a payment made. Whether it is complete. Links and stores are gone then.
 fn paid<S: RecordStore + Drop>(
@@ -102,9 +86,20 @@ fn channel_over_files(rt: HostRuntime) -> Result<(), Fail> {
         "ln_database_tests_files/a.db",
         "ln_database_tests_files/b.db",
     );
-    assert_eq!(rt; paid(rt.alloc(), opened(&rt, a), opened(&rt, b)), Ok(true));
     assert_eq!(rt;
-        goes_on(rt.alloc(), opened(&rt, a), opened(&rt, b)),
+        paid(
+            rt.alloc(),
+            FileRecords::open(&rt, a),
+            FileRecords::open(&rt, b)
+        ),
+        Ok(true)
+    );
+    assert_eq!(rt;
+        goes_on(
+            rt.alloc(),
+            FileRecords::open(&rt, a),
+            FileRecords::open(&rt, b)
+        ),
         Ok((true, 2))
     );
     fs::remove_dir_all(&rt, "ln_database_tests_files")?;

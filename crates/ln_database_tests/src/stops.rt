@@ -5,9 +5,12 @@ ghost use Rattle.std.specs.Prelude.{IsTrue};
 ghost use Rattle.sqlite_disk.specs.Memory.{memory_is_usable};
 ghost use Rattle.sqlite_disk.specs.Fuse.{inner_of, IsFresh};
 
-use crate::database::{Database, Disks, Image, NEVER, Stop};
+use crate::database::{Disks, Image, NEVER, Stop, connected};
 use crate::samples::{Sample, has_all, save_all};
 use ln_msgs::Refusal;
+use ln_sqlite::SqliteStore;
+use ln_store::RecordStore;
+use sqlite::{Alter, Connection};
 use sqlite_disk::Crash;
 use std::alloc::Global;
 
@@ -29,27 +32,28 @@ enum Found {
     Other,
 }
 
-/// What a save answers where a file fails from some call on.
+/// What is done with a store.
+#[derive(Clone, Copy)]
+enum Work {
+    /// It is opened.
+    Opens,
+    /// It is given the records of before.
+    Begins,
+    /// It is given the record of the save.
+    Saves,
+    /// Its records are compared with those of before and those behind the save.
+    Looks,
+}
+
+/// What is told of that where a file fails from some call on.
 #[derive(Clone, Copy, Debug, PartialEq, Eq)]
 enum Said {
     NotOpened,
+    Opened,
     Saved,
     Refused,
     OtherwiseRefused,
-}
-
-/// What a store has that is opened over files with these bytes.
-fn found_in(alloc: Global, image: &Image, case: &Case) -> Result<Found, Refusal> {
-    let Ok(mut database) = Database::over(alloc, image.disks(alloc, NEVER)?, case.frames) else {
-        return Ok(Found::Other);
-    };
-    if has_all(alloc, &mut database, case.before)? {
-        return Ok(Found::Old);
-    }
-    if has_all(alloc, &mut database, case.behind)? {
-        return Ok(Found::New);
-    }
-    Ok(Found::Other)
+    Has(Found),
 }
 
 fn answered(refusal: Option<Refusal>) -> Said {
@@ -60,17 +64,65 @@ fn answered(refusal: Option<Refusal>) -> Said {
     }
 }
 
-/// What the save answers, and the files behind it.
-fn tried(alloc: Global, disks: Disks, case: &Case) -> (Said, Disks)
+fn found_in<S: RecordStore>(alloc: Global, store: &mut S, case: &Case) -> Result<Found, Refusal> {
+    if has_all(alloc, store, case.before)? {
+        return Ok(Found::Old);
+    }
+    if has_all(alloc, store, case.behind)? {
+        return Ok(Found::New);
+    }
+    Ok(Found::Other)
+}
+
+fn told_of<S: RecordStore>(alloc: Global, store: &mut S, case: &Case, work: Work) -> Said {
+    match work {
+        Work::Opens => Said::Opened,
+        Work::Begins => answered(save_all(alloc, store, case.before).err()),
+        Work::Saves => answered(case.save.save(alloc, store).err()),
+        Work::Looks => match found_in(alloc, store, case) {
+            Ok(found) => Said::Has(found),
+            Err(refusal) => answered(Some(refusal)),
+        },
+    }
+}
+
+/// What is told of work with a store over a database, and what is behind its connection. It is generic, as the type of
+/// a database over files is dear to name.
+fn told_over<S: Alter + Drop>(
+    alloc: Global,
+    connection: Connection<S>,
+    case: &Case,
+    work: Work,
+) -> (Said, S) {
+    match SqliteStore::over(alloc, connection) {
+        Ok(mut store) => {
+            let said = told_of(alloc, &mut store, case, work);
+            (said, store.into_connection().into_store())
+        }
+        Err((_, connection)) => (Said::NotOpened, connection.into_store()),
+    }
+}
+
+/// What is told of work with a store over files, and the files behind it.
+fn told_with(alloc: Global, disks: Disks, case: &Case, work: Work) -> (Said, Disks)
     requires log { IsFresh disks.log × IsTrue (memory_is_usable (inner_of disks.log)) }
     requires db { IsFresh disks.db × IsTrue (memory_is_usable (inner_of disks.db)) }
 {
-    match Database::over(alloc, disks, case.frames) {
-        Ok(mut database) => {
-            let refusal = case.save.save(alloc, &mut database).err();
-            (answered(refusal), database.into_disks())
+    match connected(alloc, disks, case.frames) {
+        Ok(connection) => {
+            let (said, behind) = told_over(alloc, connection, case, work);
+            (said, behind.close())
         }
         Err(disks) => (Said::NotOpened, disks),
+    }
+}
+
+/// What a store has that is opened over files with these bytes.
+fn found_with(alloc: Global, image: &Image, case: &Case) -> Result<Found, Refusal> {
+    match told_with(alloc, image.disks(alloc, NEVER)?, case, Work::Looks) {
+        (Said::Has(found), _) => Ok(found),
+        (Said::NotOpened, _) => Ok(Found::Other),
+        _ => Err(Refusal::Store),
     }
 }
 
@@ -82,16 +134,16 @@ fn stopped(
     stop: Stop,
     case: &Case,
 ) -> Result<(Said, Found, Found), Refusal> {
-    let (answer, mut disks) = tried(alloc, image.disks(alloc, stop)?, case);
+    let (answer, mut disks) = told_with(alloc, image.disks(alloc, stop)?, case, Work::Saves);
     let written = Image::of(alloc, &disks)?;
     disks.log.crash();
     disks.db.crash();
     let synced = Image::of(alloc, &disks)?;
-    let found = found_in(alloc, &synced, case)?;
+    let found = found_with(alloc, &synced, case)?;
     if written.is_as(&synced) {
         return Ok((answer, found, found));
     }
-    Ok((answer, found, found_in(alloc, &written, case)?))
+    Ok((answer, found, found_with(alloc, &written, case)?))
 }
 
 /// Whether a stop has left what it may: a store whose open was stopped or whose save has failed has the old records or
@@ -101,14 +153,15 @@ fn is_lawful(told: (Said, Found, Found)) -> bool {
         (Said::NotOpened, synced, kept) => synced == Found::Old && kept == Found::Old,
         (Said::Refused, synced, kept) => synced != Found::Other && kept != Found::Other,
         (Said::Saved, synced, kept) => synced == Found::New && kept == Found::New,
-        (Said::OtherwiseRefused, _, _) => false,
+        _ => false,
     }
 }
 
 /// Whether a store is opened where a file fails from some call on.
-fn is_opened(alloc: Global, image: &Image, stop: Stop, frames: usize) -> Result<bool, Refusal> {
-    let opened = Database::over(alloc, image.disks(alloc, stop)?, frames);
-    Ok(opened.is_ok())
+fn is_opened(alloc: Global, image: &Image, stop: Stop, case: &Case) -> Result<bool, Refusal> {
+    let (said, disks) = told_with(alloc, image.disks(alloc, stop)?, case, Work::Opens);
+    drop(disks);
+    Ok(said == Said::Opened)
 }
 
 /// The least number of calls of a file by which a store is opened, or 127 where they are more.
@@ -116,7 +169,7 @@ fn calls_of_an_open(
     alloc: Global,
     image: &Image,
     in_log: bool,
-    frames: usize,
+    case: &Case,
 ) -> Result<u64, Refusal> {
     let mut calls = 0u64;
     for step in [64, 32, 16, 8, 4, 2, 1] {
@@ -128,7 +181,7 @@ fn calls_of_an_open(
                 in_log,
                 calls: tried,
             },
-            frames,
+            case,
         )? {
             calls |= step;
         }
@@ -161,15 +214,9 @@ fn stops(
 /// The files of a store with the records of before.
 fn begun(alloc: Global, case: &Case) -> Result<Image, Refusal> {
     let disks = Image::empty(alloc).disks(alloc, NEVER)?;
-    match Database::over(alloc, disks, case.frames) {
-        Ok(mut database) => {
-            save_all(alloc, &mut database, case.before)?;
-            Image::of(alloc, &database.into_disks())
-        }
-        Err(disks) => {
-            drop(disks);
-            Err(Refusal::Store)
-        }
+    match told_with(alloc, disks, case, Work::Begins) {
+        (Said::Saved, disks) => Image::of(alloc, &disks),
+        _ => Err(Refusal::Store),
     }
 }
 
@@ -261,7 +308,7 @@ fn stops_of(alloc: Global, case: &Case) -> Result<[(u64, Option<u64>); 2], Refus
     let image = begun(alloc, case)?;
     let mut told = [(0, None); 2];
     for (place, in_log) in [(0, true), (1, false)] {
-        let calls = calls_of_an_open(alloc, &image, in_log, case.frames)?;
+        let calls = calls_of_an_open(alloc, &image, in_log, case)?;
         told[place] = stops(alloc, &image, Stop { in_log, calls }, case)?;
     }
     Ok(told)

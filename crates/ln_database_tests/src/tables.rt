@@ -4,39 +4,25 @@ use crate::samples::{Sample, has_all};
 use ln_msgs::Refusal;
 use ln_sqlite::SqliteStore;
 use sqlite::types::ValueRef;
-use sqlite::{Alter, Connection, Error, MemStore};
+use sqlite::{Alter, Connection, Error};
 use std::alloc::Global;
 use std::test::Fail;
 
 const TABLE: &str = "CREATE TABLE records(id BLOB PRIMARY KEY, body BLOB NOT NULL);";
 
-/// Adds what a text has.
-fn add<S: Alter>(connection: &mut Connection<S>, text: &str) -> Result<(), Error> {
-    connection.execute_batch(text)
-}
-
-/// A database in memory, made by these texts.
-fn made(alloc: Global, texts: &[&str]) -> Result<Connection<MemStore>, Error> {
-    let mut connection = Connection::open_in_memory(alloc)?;
-    for text in texts {
-        add(&mut connection, text)?;
-    }
-    Ok(connection)
-}
-
-fn number<S: Alter>(connection: &mut Connection<S>, text: &str) -> Result<i64, Error> {
+fn number<S: Alter + Drop>(connection: &mut Connection<S>, text: &str) -> Result<i64, Error> {
     connection.query_row(text, &[])?.get(0)
 }
 
 /// How many tables, indexes and views a database has, and how many rows its table of records.
-fn counts<S: Alter>(connection: &mut Connection<S>) -> Result<(i64, i64), Error> {
+fn counts<S: Alter + Drop>(connection: &mut Connection<S>) -> Result<(i64, i64), Error> {
     let names = number(connection, "SELECT count(*) FROM sqlite_master")?;
     let rows = number(connection, "SELECT count(*) FROM records")?;
     Ok((names, rows))
 }
 
 /// The connection that a store isn't made over.
-fn refused(alloc: Global, connection: Connection<MemStore>) -> Option<Connection<MemStore>> {
+fn refused<S: Alter + Drop>(alloc: Global, connection: Connection<S>) -> Option<Connection<S>> {
     match SqliteStore::over(alloc, connection) {
         Err((Refusal::Store, connection)) => Some(connection),
         other => {
@@ -47,7 +33,7 @@ fn refused(alloc: Global, connection: Connection<MemStore>) -> Option<Connection
 }
 
 /// Whether a database is refused and is as it was then.
-fn is_left(alloc: Global, mut connection: Connection<MemStore>) -> Result<bool, Error> {
+fn is_left<S: Alter + Drop>(alloc: Global, mut connection: Connection<S>) -> Result<bool, Error> {
     let before = counts(&mut connection)?;
     match refused(alloc, connection) {
         Some(mut connection) => Ok(counts(&mut connection)? == before),
@@ -56,29 +42,73 @@ fn is_left(alloc: Global, mut connection: Connection<MemStore>) -> Result<bool, 
 }
 
 /// Whether a store over it has the two records of one byte.
-fn has_both(alloc: Global, connection: Connection<MemStore>) -> Result<bool, Refusal> {
+fn has_both<S: Alter + Drop>(alloc: Global, connection: Connection<S>) -> Result<bool, Error> {
     match SqliteStore::over(alloc, connection) {
-        Ok(mut store) => has_all(
-            alloc,
-            &mut store,
-            &[
-                Sample {
-                    id: 7,
-                    len: 1,
-                    byte: 1,
-                },
-                Sample {
-                    id: 8,
-                    len: 1,
-                    byte: 1,
-                },
-            ],
-        ),
-        Err((refusal, connection)) => {
+        Ok(mut store) => Ok(has_all(alloc, &mut store, &BOTH) == Ok(true)),
+        Err((_, connection)) => {
             drop(connection);
-            Err(refusal)
+            Ok(false)
         }
     }
+}
+
+const BOTH: [Sample; 2] = [
+    Sample {
+        id: 7,
+        len: 1,
+        byte: 1,
+    },
+    Sample {
+        id: 8,
+        len: 1,
+        byte: 1,
+    },
+];
+
+/// A row's id and body.
+type Row = (ValueRef<'static>, ValueRef<'static>);
+
+/// Adds what texts and rows have.
+fn fill<S: Alter + Drop>(
+    connection: &mut Connection<S>,
+    texts: &[&str],
+    rows: &[Row],
+) -> Result<(), Error> {
+    for text in texts {
+        connection.execute_batch(text)?;
+    }
+    for (id, body) in rows {
+        connection.execute("INSERT INTO records VALUES (?1, ?2)", &[*id, *body])?;
+    }
+    Ok(())
+}
+
+/// What a database is that has this alone: one that is refused and left as it was, or one whose store has the two
+/// records.
+fn is_so<S: Alter + Drop>(
+    alloc: Global,
+    mut connection: Connection<S>,
+    texts: &[&str],
+    rows: &[Row],
+    refused: bool,
+) -> Result<bool, Error> {
+    fill(&mut connection, texts, rows)?;
+    if refused {
+        is_left(alloc, connection)
+    } else {
+        has_both(alloc, connection)
+    }
+}
+
+/// The same of one in memory: the one function that names its type.
+fn is_so_in_memory(
+    alloc: Global,
+    texts: &[&str],
+    rows: &[Row],
+    refused: bool,
+) -> Result<bool, Error> {
+    let connection = Connection::open_in_memory(alloc)?;
+    is_so(alloc, connection, texts, rows, refused)
 }
 
 #[test]
@@ -111,9 +141,8 @@ fn other_tables(rt: HostRuntime) -> Result<(), Fail> {
         [TABLE, "CREATE VIEW bodies AS SELECT body FROM records"],
         [TABLE, "BEGIN"],
     ] {
-        let connection = made(rt.alloc(), &texts)?;
         assert!(rt;
-            is_left(rt.alloc(), connection)?,
+            is_so_in_memory(rt.alloc(), &texts, &[], true)?,
             "{} {}",
             texts[0],
             texts[1]
@@ -124,34 +153,12 @@ fn other_tables(rt: HostRuntime) -> Result<(), Fail> {
 
 const ID: [u8; 32] = [7; 32];
 
-/// Adds a row.
-fn put<S: Alter>(
-    connection: &mut Connection<S>,
-    id: ValueRef<'_>,
-    body: ValueRef<'_>,
-) -> Result<usize, Error> {
-    connection.execute("INSERT INTO records VALUES (?1, ?2)", &[id, body])
-}
-
-/// A table with a record, and a row with these.
-fn with_row(
-    alloc: Global,
-    id: ValueRef<'_>,
-    body: ValueRef<'_>,
-) -> Result<Connection<MemStore>, Error> {
-    let mut connection = made(alloc, &[TABLE])?;
-    put(
-        &mut connection,
-        ValueRef::Blob(&[8; 32]),
-        ValueRef::Blob(&[1]),
-    )?;
-    put(&mut connection, id, body)?;
-    Ok(connection)
-}
+/// The row that stands beside each.
+const BESIDE: Row = (ValueRef::Blob(&[8; 32]), ValueRef::Blob(&[1]));
 
 #[test]
 fn other_rows(rt: HostRuntime) -> Result<(), Fail> {
-    for (id, body) in [
+    for row in [
         (ValueRef::Blob(&ID[1..]), ValueRef::Blob(&[1])),
         (ValueRef::Text(b"seven"), ValueRef::Blob(&[1])),
         (ValueRef::Null, ValueRef::Blob(&[1])),
@@ -159,15 +166,14 @@ fn other_rows(rt: HostRuntime) -> Result<(), Fail> {
         (ValueRef::Blob(&ID), ValueRef::Text(b"one")),
         (ValueRef::Blob(&ID), ValueRef::Int(1)),
     ] {
-        let connection = with_row(rt.alloc(), id, body)?;
-        assert!(rt; is_left(rt.alloc(), connection)?);
+        assert!(rt; is_so_in_memory(rt.alloc(), &[TABLE], &[BESIDE, row], true)?);
     }
     Ok(())
 }
 
 #[test]
 fn own_table(rt: HostRuntime) -> Result<(), Fail> {
-    let connection = with_row(rt.alloc(), ValueRef::Blob(&ID), ValueRef::Blob(&[1]))?;
-    assert!(rt; has_both(rt.alloc(), connection)?);
+    let row = (ValueRef::Blob(&ID), ValueRef::Blob(&[1]));
+    assert!(rt; is_so_in_memory(rt.alloc(), &[TABLE], &[BESIDE, row], false)?);
     Ok(())
 }
