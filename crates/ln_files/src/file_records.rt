@@ -8,12 +8,18 @@ use sqlite::{Connection, FileStore};
 use sqlite_std_file::File;
 use std::alloc::Global;
 
-/// The records in a file. A type without parameters: what is generic in stores, as a node, is proved for it at little
-/// cost.
-#[derive(Drop)]
+/// The records in a file. A type without parameters, whose drop is one call: what is generic in stores, as a node, is
+/// proved for it at little cost.
 pub struct FileRecords {
-    /// The store over the file's database. `into_connection` gives what has to be closed.
+    /// The store over the file's database.
     pub store: SqliteStore<FileStore<File>>,
+}
+
+impl Drop for FileRecords {
+    fn drop(self) {
+        let FileRecords { store } = self;
+        drop(store);
+    }
 }
 
 // What is left of a failure that gives something back.
@@ -25,6 +31,8 @@ fn refusal_of<T, B: Drop>(done: Result<T, (Refusal, B)>) -> Result<T, Refusal> {
 }
 
 impl FileRecords {
+    ghost use Rattle.std.specs.Prelude.{◌≡◌};
+
     /// The records in the file at this path, which is made where there is none: it reads all of them once.
     ///
     /// Errors: 61 where the file can't be opened or is open elsewhere, or its database is refused by
@@ -35,6 +43,14 @@ impl FileRecords {
         };
         let store = refusal_of(SqliteStore::over(rt.alloc(), connection))?;
         Ok(FileRecords { store })
+    }
+
+    /// The store, whose `into_connection` gives what has to be closed. Takes no memory.
+    pub fn into_store(self) -> SqliteStore<FileStore<File>>
+        ensures { result ≡ self.store }
+    {
+        let FileRecords { store } = self;
+        store
     }
 }
 
