@@ -13,7 +13,7 @@ use ln_msgs::Refusal;
 use ln_readings::{Kept, Reading, rebuilt_htlcs, told_by};
 use ln_tables::{
     Decided, Desk, Entry, HeldHtlc, Invoice, Key, Offer, Out, OutgoingChannel, Resumed, Tables,
-    Told, copy_how, copy_mark,
+    Told,
 };
 use std::alloc::Global;
 use std::marker::Model;
@@ -170,9 +170,9 @@ impl Book {
     {
         let offer = offer_of(told);
         let mark = mark_of(alloc, onion, &self.tables, event, offer.as_ref(), verdict)?;
-        let queued = copy_mark(alloc, &mark)?;
-        let noted = copy_mark(alloc, &mark)?;
-        let answer = copy_mark(alloc, &mark)?;
+        let queued = mark.clone()?;
+        let noted = mark.clone()?;
+        let answer = mark.clone()?;
         let decided = Decided {
             channel,
             event,
@@ -255,8 +255,8 @@ impl Book {
             return Err(Refusal::NotReady);
         };
         let mark = mark_by(alloc, onion, &self.tables, event, &offer, verdict)?;
-        let noted = copy_mark(alloc, &mark)?;
-        let answer = copy_mark(alloc, &mark)?;
+        let noted = mark.clone()?;
+        let answer = mark.clone()?;
         let resumed = Resumed {
             channel,
             event,
@@ -303,8 +303,8 @@ impl Book {
                 let id = *id;
                 let key = Key { channel, id };
                 if *own {
-                    let noted = copy_how(alloc, how)?;
-                    let how = copy_how(alloc, how)?;
+                    let noted = how.clone()?;
+                    let how = how.clone()?;
                     self.note_over(key, how, noted);
                 } else {
                     self.note_removed(key);

@@ -19,7 +19,7 @@ use ln_hooks::How;
 use ln_keys::{Onion, OpenFault, Opened, sha256_32};
 use ln_log::{ChannelId, Mark};
 use ln_msgs::Refusal;
-use ln_tables::{Back, Desk, Htlc, Key, Out, Queued, Tables, Way, copied, copy_mark};
+use ln_tables::{Back, Desk, Htlc, Key, Out, Queued, Tables, Way};
 use std::alloc::Global;
 
 /// A failure as it goes back (BOLT 4, "Returning Errors"). Error: 60 alone.
@@ -246,7 +246,7 @@ fn removal_over<O: Onion>(
             boxed(alloc, Command::Fulfil { id, preimage })
         }
         How::Failed(reason) => {
-            let reason = copied(alloc, reason)?;
+            let reason = reason.clone()?;
             boxed(alloc, Command::Fail { id, reason })
         }
         How::Malformed(sha, code) => {
@@ -293,7 +293,7 @@ fn removal_of<O: Onion>(
         Mark::None | Mark::Held(_) => Ok(None),
         Mark::Forward { .. } => removal_by_way(alloc, onion, id, &htlc.way),
         Mark::Fail(reason) => {
-            let reason = copied(alloc, reason)?;
+            let reason = reason.clone()?;
             boxed(alloc, Command::Fail { id, reason })
         }
         Mark::Malformed(code) => {
@@ -390,7 +390,7 @@ fn queued_command(alloc: Global, queued: &Queued) -> Result<(Out, Box<Command>),
     ensures fails_for_memory_alone { IfErr result (λ r. r ≡ Refusal.Memory) }
 {
     let event = queued.event;
-    let mark = copy_mark(alloc, &queued.mark)?;
+    let mark = queued.mark.clone()?;
     if queued.resumes {
         let command = Box::new(alloc, Command::Resume { event, mark })?;
         Ok((Out::Resuming(event), command))

@@ -76,7 +76,7 @@ fn payloads_of(alloc: Global, words: &[u64]) -> Result<Vec<Bytes>, AllocError> {
     let mut all = Vec::new(alloc);
     all.push(Bytes::new(payload_of(alloc, words)?))?;
     if at(words, 1) == 0 {
-        all.push(Bytes::new(Vec::from_slice(alloc, &[2, 1, 5])?))?;
+        all.push(Bytes::from_slice(alloc, &[2, 1, 5])?)?;
     }
     Ok(all)
 }

@@ -27,8 +27,8 @@ impl Onion for KnownOnion {
         onion: &[u8; 1366],
         _hash: &[u8; 32],
     ) -> Result<Opened, OpenFault> {
-        let payload = Bytes::new(Vec::from_slice(alloc, self.payload.as_slice())?);
-        let next = Bytes::new(Vec::from_slice(alloc, onion)?);
+        let payload = Bytes::from_slice(alloc, self.payload.as_slice())?;
+        let next = Bytes::from_slice(alloc, onion)?;
         Ok(Opened {
             payload,
             next: Some(next),
@@ -36,7 +36,7 @@ impl Onion for KnownOnion {
     }
 
     fn wrap_failure(&self, alloc: Global, reason: &[u8]) -> Result<Bytes, Refusal> {
-        Ok(Bytes::new(Vec::from_slice(alloc, reason)?))
+        Ok(Bytes::from_slice(alloc, reason)?)
     }
 }
 

@@ -1,12 +1,12 @@
 //! A byte string.
 
-use std::alloc::Global;
+use std::alloc::{AllocError, Global};
 use std::marker::Model;
 
 /// A byte string of any length, which contracts see as the list of its bytes.
 ///
 /// It is made from a `Vec` and gives it back without taking memory.
-#[derive(Drop)]
+#[derive(Clone, Drop)]
 pub struct Bytes {
     items: Vec<u8>,
 }
@@ -20,7 +20,7 @@ impl Model for Bytes {
 }
 
 impl Bytes {
-    ghost use Rattle.std.specs.Prelude.{◌≡◌, ◌↔◌, ◌<◌, ◌^◌, [], length, IsTrue};
+    ghost use Rattle.std.specs.Prelude.{◌≡◌, ◌↔◌, ◌<◌, ◌^◌, [], length, IfOk, IsTrue};
 
     /// No bytes. Takes no memory.
     pub fn empty(alloc: Global) -> Bytes
@@ -29,6 +29,15 @@ impl Bytes {
         Bytes {
             items: Vec::new(alloc),
         }
+    }
+
+    /// A copy of these bytes. Takes memory.
+    pub fn from_slice(alloc: Global, bytes: &[u8]) -> Result<Bytes, AllocError>
+        ensures { IfOk result (λ b. b ≡ bytes.now) }
+    {
+        Ok(Bytes {
+            items: Vec::from_slice(alloc, bytes)?,
+        })
     }
 
     /// The bytes of a vector. Takes no memory.

@@ -3,7 +3,7 @@
 use crate::bytes::Bytes;
 
 /// One record of a TLV stream (BOLT 1, "Type-Length-Value Format"): a type and a value.
-#[derive(Drop)]
+#[derive(Clone, Drop)]
 pub struct Record {
     /// The type, which tells what the value means.
     pub typ: u64,

@@ -56,7 +56,7 @@ fn all_records(alloc: Global, known_even: &[u64], bytes: &[u8]) -> Result<Vec<Re
     while !rest.is_empty() {
         let (typ, value, after) = front_record(known_even, before, rest)?;
         before = Some(typ);
-        let value = Bytes::new(Vec::from_slice(alloc, value)?);
+        let value = Bytes::from_slice(alloc, value)?;
         records.push(Record { typ, value })?;
         rest = after;
     }

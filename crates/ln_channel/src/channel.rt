@@ -284,7 +284,7 @@ impl Channel {
         let mut records = Vec::new(alloc);
         records.push(Record {
             typ: 1,
-            value: Bytes::new(Vec::from_slice(alloc, &range)?),
+            value: Bytes::from_slice(alloc, &range)?,
         })?;
         Ok(records)
     }

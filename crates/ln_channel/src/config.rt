@@ -28,7 +28,7 @@ pub struct Points {
 }
 
 /// What a side opens channels with, as funder or as fundee (BOLT 2, "Channel Establishment v1").
-#[derive(Drop)]
+#[derive(Clone, Drop)]
 pub struct Config {
     /// What it asks of the HTLCs that it is offered.
     pub limits: Limits,
@@ -53,7 +53,7 @@ pub struct Config {
 }
 
 /// What a funder opens one channel with.
-#[derive(Drop)]
+#[derive(Clone, Drop)]
 pub struct OpenSpec {
     /// What it opens channels with.
     pub config: Config,
@@ -142,7 +142,7 @@ impl OpenSpec {
 }
 
 /// A `Config` that fits, by its type.
-#[derive(Drop)]
+#[derive(Clone, Drop)]
 pub struct FitConfig {
     config: Config,
 }
@@ -188,7 +188,7 @@ impl FitConfig {
 }
 
 /// An `OpenSpec` that fits, by its type.
-#[derive(Drop)]
+#[derive(Clone, Drop)]
 pub struct FitSpec {
     spec: OpenSpec,
 }

@@ -3,7 +3,7 @@
 use crate::output::{Outbox, Output};
 use ln_hooks::{ChannelEvent, event_of};
 use ln_log::{
-    ChannelId, Decision, EventRef, Mark, Settlement, Update, UpdateLog, copy_update, removal_of,
+    ChannelId, Decision, EventRef, Mark, Settlement, Update, UpdateLog, removal_of,
 };
 use ln_msgs::Refusal;
 use std::alloc::Global;
@@ -93,7 +93,7 @@ fn settlement_by(
     Ok(Some(Settlement {
         id: removal.id,
         origin,
-        removal: copy_update(alloc, update)?,
+        removal: update.clone()?,
     }))
 }
 

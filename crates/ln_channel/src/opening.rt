@@ -226,28 +226,6 @@ impl OpenSpec {
     }
 }
 
-fn copy_of(alloc: Global, original: &Record) -> Result<Record, Refusal>
-    ensures copy { IfOk result (λ r. r ≡ original.now) }
-    ensures fails_for_memory_alone { IfErr result (λ r. r ≡ refusal.Memory) }
-{
-    let value = Vec::from_slice(alloc, original.value.as_slice())?;
-    Ok(Record {
-        typ: original.typ,
-        value: Bytes::new(value),
-    })
-}
-
-fn copies_of(alloc: Global, records: &[Record]) -> Result<Records, Refusal>
-    ensures copies { IfOk result (λ rs. rs ≡ records.now) }
-    ensures fails_for_memory_alone { IfErr result (λ r. r ≡ refusal.Memory) }
-{
-    let mut copies = Vec::new(alloc);
-    for original in records {
-        copies.push(copy_of(alloc, original)?)?;
-    }
-    Ok(Records::new(copies))
-}
-
 /// The `open_channel` by which a funder asks for a channel (BOLT 2, "The `open_channel` Message").
 ///
 /// Takes memory for its records; 60 where there is none.
@@ -260,7 +238,7 @@ pub fn open_channel<K: ChannelKeys>(
     ensures fails_for_memory_alone { IfErr result (λ r. r ≡ refusal.Memory) }
 {
     let spec = spec.get();
-    let records = copies_of(alloc, spec.records.as_slice())?;
+    let records = spec.records.clone()?;
     Ok(spec.open_with(keys, records))
 }
 
@@ -311,7 +289,7 @@ fn channel_type(alloc: Global, records: &Records) -> Result<Records, Refusal>
     match value_of(records.as_slice(), 1) {
         None => {}
         Some(value) => {
-            let value = Bytes::new(Vec::from_slice(alloc, value)?);
+            let value = Bytes::from_slice(alloc, value)?;
             repeated.push(Record { typ: 1, value })?;
         }
     }

@@ -53,7 +53,7 @@ pub fn fail_message(
     Ok(UpdateFailHtlc {
         channel_id: channel,
         id: fail.id,
-        reason: Bytes::new(Vec::from_slice(alloc, fail.reason.as_slice())?),
+        reason: Bytes::from_slice(alloc, fail.reason.as_slice())?,
         records: Records::empty(alloc),
     })
 }

@@ -157,8 +157,8 @@ pub fn fit_spec(alloc: Global, txid: [u8; 32]) -> Result<FitSpec, Refusal> {
 /// The onion of the payment.
 pub(crate) fn onion(alloc: Global, hash: &[u8; 32]) -> Result<[u8; 1366], Refusal> {
     let mut payloads = Vec::new(alloc);
-    payloads.push(Bytes::new(Vec::from_slice(alloc, &MIDDLE)?))?;
-    payloads.push(Bytes::new(Vec::from_slice(alloc, &LAST)?))?;
+    payloads.push(Bytes::from_slice(alloc, &MIDDLE)?)?;
+    payloads.push(Bytes::from_slice(alloc, &LAST)?)?;
     match ToyOnion::make(payloads.as_slice(), hash) {
         Some(onion) => Ok(onion),
         None => Err(Refusal::TooLong),

@@ -123,7 +123,7 @@ fn payment(alloc: Global) -> Result<Command, Refusal> {
     payload[11..43].copy_from_slice(&SECRET);
     payload[43..].copy_from_slice(&[1, 17, 112]);
     let mut payloads = Vec::new(alloc);
-    payloads.push(Bytes::new(Vec::from_slice(alloc, &payload)?))?;
+    payloads.push(Bytes::from_slice(alloc, &payload)?)?;
     let hash = sha256_32(&PREIMAGE);
     let Some(onion) = ToyOnion::make(payloads.as_slice(), &hash) else {
         return Err(Refusal::TooLong);

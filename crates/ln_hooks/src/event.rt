@@ -11,7 +11,7 @@ use ln_msgs::Refusal;
 use std::alloc::Global;
 
 /// How an HTLC was removed (BOLT 2, "Removing an HTLC").
-#[derive(Drop)]
+#[derive(Clone, Drop)]
 pub enum How {
     /// It was fulfilled, by this preimage.
     Fulfilled([u8; 32]),

@@ -101,14 +101,6 @@ fn place(room: &mut [u8; 1300], at: usize, payload: &[u8]) -> Option<usize>
     Some(at + head_len + payload.len())
 }
 
-fn copied(alloc: Global, bytes: &[u8]) -> Result<Bytes, AllocError>
-    ensures { IfOk result (λ b. b ≡ bytes.now) }
-{
-    let mut items = Vec::with_capacity(alloc, bytes.len())?;
-    items.extend_from_slice(bytes)?;
-    Ok(Bytes::new(items))
-}
-
 fn has_key(onion: &[u8; 1366]) -> bool
     ensures { result ≡ are_same (onion_key onion.now) toy_key }
 {
@@ -147,7 +139,7 @@ fn next_onion(alloc: Global, rest: &[u8], hash: &[u8; 32]) -> Result<Option<Byte
         [] | [0, ..] => Ok(None),
         _ => {
             let packet = packed(&room_of(rest), hash);
-            Ok(Some(copied(alloc, &packet)?))
+            Ok(Some(Bytes::from_slice(alloc, &packet)?))
         }
     }
 }
@@ -163,7 +155,7 @@ fn hop(alloc: Global, len: u64, bytes: &[u8], hash: &[u8; 32]) -> Result<Opened,
         return Err(OpenFault::Payload);
     }
     let end = len as usize;
-    let payload = copied(alloc, &bytes[..end])?;
+    let payload = Bytes::from_slice(alloc, &bytes[..end])?;
     let next = next_onion(alloc, &bytes[end..], hash)?;
     Ok(Opened { payload, next })
 }
@@ -200,7 +192,7 @@ impl Onion for ToyOnion {
     }
 
     fn wrap_failure(&self, alloc: Global, reason: &[u8]) -> Result<Bytes, Refusal> {
-        Ok(copied(alloc, reason)?)
+        Ok(Bytes::from_slice(alloc, reason)?)
     }
 }
 

@@ -1,7 +1,6 @@
 //! One link: one end of a channel that saves before it hands out, and comes back from its record.
 #![tactic(auto)]
 
-mod copy;
 mod laws;
 mod link;
 mod loading;

@@ -19,7 +19,7 @@ fn behind_type(alloc: Global, bytes: &[u8]) -> Result<Bytes, Refusal>
     if bytes.len() < 2 {
         return Ok(Bytes::new(Vec::new(alloc)));
     }
-    Ok(Bytes::new(Vec::from_slice(alloc, &bytes[2..])?))
+    Ok(Bytes::from_slice(alloc, &bytes[2..])?)
 }
 
 // The message's bytes, which say it; 70 where it can't be written.

@@ -20,7 +20,6 @@ ghost use Rattle.ln_link.specs.Record.{fees_of, progress_of, commitments_of, ite
 ghost use Rattle.ln_link.specs.Record.{HasNoAgreement, NoRecord};
 ghost use Rattle.ln_link.specs.Loading.{IsSaid, HasRecord};
 
-use crate::copy::{copy_bytes, copy_decisions, copy_results, copy_updates};
 use crate::payload::{accept_payload, open_payload};
 use ln_bytes::{Bytes, ShortId};
 use ln_channel::{Channel, EventLedger, Terms};
@@ -72,16 +71,6 @@ fn chain_place_of(id: Option<ShortId>) -> Option<ChainPlace>
     }
 }
 
-fn copy_script(alloc: Global, script: &Option<Bytes>) -> Result<Option<Bytes>, Refusal>
-    ensures copy { IfOk result (λ s. s ≡ script.now) }
-    ensures fails_for_memory_alone { IfErr result (λ r. r ≡ refusal.Memory) }
-{
-    match script {
-        None => Ok(None),
-        Some(script) => Ok(Some(copy_bytes(alloc, script)?)),
-    }
-}
-
 #[tactic(auto, unfolding(crate::specs::Record::agreement_of, crate::specs::Record::HasNoAgreement))]
 fn agreement_of(alloc: Global, channel: &Channel) -> Result<Agreement, Refusal>
     ensures agreement { (e : End) → end.StandsFor channel.now e → IfOk result (λ a. a ≡ agreement_of e) }
@@ -100,8 +89,8 @@ fn agreement_of(alloc: Global, channel: &Channel) -> Result<Agreement, Refusal>
         accept_payload: accept_payload(alloc, &terms.accept_channel)?,
         place: chain_place_of(channel.marks().short_id),
         fees: channel.closing().fees,
-        script: copy_bytes(alloc, &terms.script)?,
-        peer_script: copy_script(alloc, &terms.peer_script)?,
+        script: terms.script.clone()?,
+        peer_script: terms.peer_script.clone()?,
     })
 }
 
@@ -250,7 +239,9 @@ fn own_updates(alloc: Global, log: &UpdateLog) -> Result<Vec<Update>, Refusal>
     ensures fails_for_memory_alone { IfErr result (λ r. r ≡ refusal.Memory) }
 {
     let count = log.counts(Pair::Signed).own;
-    copy_updates(alloc, log.between(Side::Own, log.first(Side::Own), count))
+    let mut updates = Vec::new(alloc);
+    updates.extend_with_clones(log.between(Side::Own, log.first(Side::Own), count))?;
+    Ok(updates)
 }
 
 fn peer_updates(alloc: Global, log: &UpdateLog) -> Result<Vec<Update>, Refusal>
@@ -259,7 +250,9 @@ fn peer_updates(alloc: Global, log: &UpdateLog) -> Result<Vec<Update>, Refusal>
     ensures fails_for_memory_alone { IfErr result (λ r. r ≡ refusal.Memory) }
 {
     let count = log.counts(Pair::Current(Side::Own)).peer;
-    copy_updates(alloc, log.between(Side::Peer, log.first(Side::Peer), count))
+    let mut updates = Vec::new(alloc);
+    updates.extend_with_clones(log.between(Side::Peer, log.first(Side::Peer), count))?;
+    Ok(updates)
 }
 
 // The updates that signatures cover: a base, and those behind it.
@@ -305,9 +298,13 @@ fn forwards_of(alloc: Global, ledger: &EventLedger) -> Result<Forwards, Refusal>
     ensures forwards { IfOk result (λ f. f ≡ forwards_of ledger.now) }
     ensures fails_for_memory_alone { IfErr result (λ r. r ≡ refusal.Memory) }
 {
+    let mut decisions = Vec::new(alloc);
+    decisions.extend_with_clones(ledger.decisions())?;
+    let mut results = Vec::new(alloc);
+    results.extend_with_clones(ledger.results())?;
     Ok(Forwards {
-        decisions: Listed::new(copy_decisions(alloc, ledger.decisions())?),
-        results: Listed::new(copy_results(alloc, ledger.results())?),
+        decisions: Listed::new(decisions),
+        results: Listed::new(results),
     })
 }
 

@@ -91,7 +91,7 @@ fn keys(seed: u64, own: u64, other: u64) -> ToyKeys {
 fn records(alloc: Global, count: u64) -> Result<Records, AllocError> {
     let mut all = Vec::new(alloc);
     if count > 0 {
-        let script = Bytes::new(Vec::from_slice(alloc, &[0, 20])?);
+        let script = Bytes::from_slice(alloc, &[0, 20])?;
         all.push(Record {
             typ: 0,
             value: script,

@@ -11,7 +11,7 @@ use crate::log_window::Window;
 use crate::plain::{count_adds, last_feerate, live_add, sums_of};
 use crate::removals::Outcomes;
 use crate::told::Origin;
-use crate::update::{Update, copy_update, removal_of};
+use crate::update::{Update, removal_of};
 use crate::worth::Worth;
 use ln_history::Past;
 use ln_keys::Role;
@@ -161,17 +161,6 @@ fn live_part(alloc: Global, updates: &[Update], removals: &[Update]) -> Result<V
     Ok(live)
 }
 
-// Puts copies of these behind a list.
-pub(crate) fn append(alloc: Global, list: &mut Vec<Update>, rest: &[Update]) -> Result<(), Refusal>
-    ensures appends_them { OnOk result (list.new.items ≡ list.old.items ++ rest.now) }
-    ensures fails_for_memory_alone { IsOkUnless result Refusal.Memory }
-{
-    for update in rest {
-        list.push(copy_update(alloc, update)?)?;
-    }
-    Ok(())
-}
-
 impl Window {
     ghost use Rattle.std.specs.Prelude.{◌≡◌, ◌≤◌, ◌↔◌, IsTrue, IfOk, OnErr, false};
     ghost use Rattle.std.specs.Result.{IsOkUnless};
@@ -212,9 +201,9 @@ impl Window {
             peer: peer_list.len(),
         };
         let own_rest = self.between(Side::Own, to.own, self.len(Side::Own));
-        append(alloc, &mut own_list, own_rest)?;
+        own_list.extend_with_clones(own_rest)?;
         let peer_rest = self.between(Side::Peer, to.peer, self.len(Side::Peer));
-        append(alloc, &mut peer_list, peer_rest)?;
+        peer_list.extend_with_clones(peer_rest)?;
         self.first = to;
         self.live = live;
         self.worth = worth;

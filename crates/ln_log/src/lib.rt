@@ -45,7 +45,7 @@ pub use removed::removed_ids;
 pub use standing::{Standing, add_refusal, update_refusal};
 pub use told::Base;
 pub use update::{
-    Add, ChannelId, Fail, Fee, Fulfil, Malformed, Removal, Update, copy_update, removal_of,
+    Add, ChannelId, Fail, Fee, Fulfil, Malformed, Removal, Update, removal_of,
 };
 pub use window::{base_and_window_tell_all, removals_look_at_live_htlcs};
 pub use worth::Worth;

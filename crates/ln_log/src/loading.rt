@@ -10,7 +10,6 @@ ghost use Rattle.ln_log.specs.Window.{PaysBehind};
 ghost use Rattle.ln_log.specs.Told.{told, as_offered, standing_after, StandingFits, AreCounted, AreInPlace};
 ghost use Rattle.ln_log.specs.Told.{AreLawfulBehind, IsLawfulUpTo};
 
-use crate::base::append;
 use crate::fates::are_removals;
 use crate::lead::may_be_led_to;
 use crate::log::{Counts, MOST_UPDATES, Pair, UpdateLog};
@@ -342,7 +341,7 @@ fn standing_behind(
 }
 
 // The live HTLCs of a base, and the updates behind it.
-fn joined(alloc: Global, lives: Vec<Update>, updates: Vec<Update>) -> Result<Vec<Update>, Refusal>
+fn joined(lives: Vec<Update>, updates: Vec<Update>) -> Result<Vec<Update>, Refusal>
     ensures joins_them { IfOk result (λ v. v.items ≡ lives.items ++ updates.items) }
     ensures fails_for_memory_alone { IsOkUnless result Refusal.Memory }
 {
@@ -350,7 +349,7 @@ fn joined(alloc: Global, lives: Vec<Update>, updates: Vec<Update>) -> Result<Vec
         return Ok(updates);
     }
     let mut all = lives;
-    append(alloc, &mut all, updates.as_slice())?;
+    all.extend_with_clones(updates.as_slice())?;
     Ok(all)
 }
 
@@ -424,8 +423,8 @@ impl Window {
             own: base.own.len(),
             peer: base.peer.len(),
         };
-        let own = joined(alloc, own_lives, own)?;
-        let received = joined(alloc, peer_lives, received)?;
+        let own = joined(own_lives, own)?;
+        let received = joined(peer_lives, received)?;
         Ok(Window {
             opening,
             role,

@@ -4,7 +4,7 @@ use crate::update::{ChannelId, Update};
 use ln_bytes::Bytes;
 
 /// What is done about an event.
-#[derive(Drop)]
+#[derive(Clone, Drop)]
 pub enum Mark {
     /// Nothing.
     None,
@@ -64,7 +64,7 @@ pub enum EventRef {
 }
 
 /// What was decided about an HTLC of the peer's.
-#[derive(Drop)]
+#[derive(Clone, Drop)]
 pub struct Decision {
     /// The HTLC.
     pub id: u64,
@@ -73,7 +73,7 @@ pub struct Decision {
 }
 
 /// What became of an own HTLC that forwards another one.
-#[derive(Drop)]
+#[derive(Clone, Drop)]
 pub struct Settlement {
     /// The own HTLC.
     pub id: u64,

@@ -39,7 +39,7 @@ pub struct Fulfil {
 }
 
 /// An HTLC has failed: the fields of `update_fail_htlc` (BOLT 2, "Removing an HTLC").
-#[derive(Drop)]
+#[derive(Clone, Drop)]
 pub struct Fail {
     /// The HTLC, by the id that its offerer gave it.
     pub id: u64,
@@ -67,7 +67,7 @@ pub struct Fee {
 }
 
 /// A change that a side proposes to both commitments (BOLT 2, "Normal Operation").
-#[derive(Drop)]
+#[derive(Clone, Drop)]
 pub enum Update {
     /// An HTLC is offered.
     Add(Add),
@@ -109,25 +109,5 @@ pub fn removal_of(update: &Update) -> Option<Removal>
             outcome: Outcome::Failed,
         }),
         Update::Fee(_) => None,
-    }
-}
-
-/// The same update. Error: 60 alone, where there is no memory for a reason.
-pub fn copy_update(alloc: Global, update: &Update) -> Result<Update, Refusal>
-    ensures copy { IfOk result (λ u. u ≡ update.now) }
-    ensures fails_for_memory_alone { IfErr result (λ r. r ≡ Refusal.Memory) }
-{
-    match update {
-        Update::Add(add) => Ok(Update::Add(*add)),
-        Update::Fulfil(fulfil) => Ok(Update::Fulfil(*fulfil)),
-        Update::Fail(fail) => {
-            let reason = Bytes::new(Vec::from_slice(alloc, fail.reason.as_slice())?);
-            Ok(Update::Fail(Fail {
-                id: fail.id,
-                reason,
-            }))
-        }
-        Update::Malformed(malformed) => Ok(Update::Malformed(*malformed)),
-        Update::Fee(fee) => Ok(Update::Fee(*fee)),
     }
 }

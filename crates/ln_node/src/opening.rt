@@ -39,87 +39,6 @@ pub(crate) struct NodeLink<K: ChannelKeys + Copy, S: Drop> {
     pub(crate) beginning: Box<Beginning>,
 }
 
-// ---- copies of what a link is opened with
-
-fn bytes_again(alloc: Global, bytes: &Bytes) -> Result<Bytes, Refusal>
-    ensures copy { IfOk result (λ bs. bs ≡ bytes.now) }
-    ensures fails_for_memory_alone { IfErr result (λ r. r ≡ refusal.Memory) }
-{
-    Ok(Bytes::new(Vec::from_slice(alloc, bytes.as_slice())?))
-}
-
-fn record_again(alloc: Global, original: &Record) -> Result<Record, Refusal>
-    ensures copy { IfOk result (λ r. r ≡ original.now) }
-    ensures fails_for_memory_alone { IfErr result (λ r. r ≡ refusal.Memory) }
-{
-    Ok(Record {
-        typ: original.typ,
-        value: bytes_again(alloc, &original.value)?,
-    })
-}
-
-fn records_again(alloc: Global, records: &[Record]) -> Result<Records, Refusal>
-    ensures copies { IfOk result (λ rs. rs ≡ records.now) }
-    ensures fails_for_memory_alone { IfErr result (λ r. r ≡ refusal.Memory) }
-{
-    let mut copies = Vec::new(alloc);
-    for original in records {
-        copies.push(record_again(alloc, original)?)?;
-    }
-    Ok(Records::new(copies))
-}
-
-fn config_again(alloc: Global, config: &Config) -> Result<Config, Refusal>
-    ensures copy { IfOk result (λ c. c ≡ config.now) }
-    ensures fails_for_memory_alone { IfErr result (λ r. r ≡ refusal.Memory) }
-{
-    let script = bytes_again(alloc, &config.script)?;
-    Ok(Config {
-        limits: config.limits,
-        chain_hash: config.chain_hash,
-        dust_limit: config.dust_limit,
-        to_self_delay: config.to_self_delay,
-        minimum_depth: config.minimum_depth,
-        points: config.points,
-        first: config.first,
-        least: config.least,
-        greatest: config.greatest,
-        script,
-    })
-}
-
-fn spec_again(alloc: Global, spec: &OpenSpec) -> Result<OpenSpec, Refusal>
-    ensures copy { IfOk result (λ s. s ≡ spec.now) }
-    ensures fails_for_memory_alone { IfErr result (λ r. r ≡ refusal.Memory) }
-{
-    let records = records_again(alloc, spec.records.as_slice())?;
-    Ok(OpenSpec {
-        config: config_again(alloc, &spec.config)?,
-        funding: spec.funding,
-        push: spec.push,
-        feerate: spec.feerate,
-        flags: spec.flags,
-        temporary_id: spec.temporary_id,
-        txid: spec.txid,
-        output: spec.output,
-        records,
-    })
-}
-
-fn fit_config_again(alloc: Global, config: &FitConfig) -> Result<FitConfig, Refusal>
-    ensures copy { IfOk result (λ c. c ≡ config.now) }
-    ensures fails_for_memory_alone { IfErr result (λ r. r ≡ refusal.Memory) }
-{
-    Ok(FitConfig::new(config_again(alloc, config.get())?))
-}
-
-fn fit_spec_again(alloc: Global, spec: &FitSpec) -> Result<FitSpec, Refusal>
-    ensures copy { IfOk result (λ s. s ≡ spec.now) }
-    ensures fails_for_memory_alone { IfErr result (λ r. r ≡ refusal.Memory) }
-{
-    Ok(FitSpec::new(spec_again(alloc, spec.get())?))
-}
-
 // ---- a new link
 
 // The link that begins so. 40 where there is none; 60 where there is no memory.
@@ -131,13 +50,13 @@ fn new_link<K: ChannelKeys + Copy>(
     ensures { Begins keys beginning.now result }
 {
     match beginning {
-        Beginning::Fundee(config) => match fit_config_again(alloc, config) {
+        Beginning::Fundee(config) => match config.clone() {
             Ok(config) => Ok(Link::fundee(keys, config)),
-            Err(refusal) => Err(refusal),
+            Err(_) => Err(Refusal::Memory),
         },
-        Beginning::Funder(spec) => match fit_spec_again(alloc, spec) {
+        Beginning::Funder(spec) => match spec.clone() {
             Ok(spec) => Ok(Link::funder(keys, spec)),
-            Err(refusal) => Err(refusal),
+            Err(_) => Err(Refusal::Memory),
         },
         Beginning::Over => Err(Refusal::NotReady),
     }

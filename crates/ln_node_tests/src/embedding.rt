@@ -45,7 +45,7 @@ fn payment(alloc: Global, preimage: &[u8; 32]) -> Result<Command, Refusal> {
     payload[..11].copy_from_slice(&[2, 3, 1, 17, 112, 4, 2, 1, 144, 8, 35]);
     payload[43..].copy_from_slice(&[1, 17, 112]);
     let mut payloads = Vec::new(alloc);
-    payloads.push(Bytes::new(Vec::from_slice(alloc, &payload)?))?;
+    payloads.push(Bytes::from_slice(alloc, &payload)?)?;
     let hash = sha256_32(preimage);
     match ToyOnion::make(payloads.as_slice(), &hash) {
         Some(onion) => Ok(Command::Add {

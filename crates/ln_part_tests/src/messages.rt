@@ -304,7 +304,7 @@ fn channel_ids(rt: HostRuntime) {
 fn checked(alloc: Global, features: &[u8], known: &[u16]) -> Result<(), Fault> {
     let init = Init {
         global_features: Bytes::empty(alloc),
-        features: Bytes::new(Vec::from_slice(alloc, features)?),
+        features: Bytes::from_slice(alloc, features)?,
         records: Records::empty(alloc),
     };
     check_init(&init, known)

@@ -15,7 +15,7 @@ use ln_log::{
     find_add, outcome_of,
 };
 use ln_msgs::Refusal;
-use ln_tables::{Back, Htlc, Key, Offer, Way, copied, copy_mark};
+use ln_tables::{Back, Htlc, Key, Offer, Way};
 use std::alloc::Global;
 
 // The peer's updates behind the base.
@@ -93,7 +93,7 @@ fn how_of(alloc: Global, update: &Update) -> Result<Option<How>, Refusal>
     match update {
         Update::Add(_) => Ok(None),
         Update::Fulfil(fulfil) => Ok(Some(How::Fulfilled(fulfil.preimage))),
-        Update::Fail(fail) => Ok(Some(How::Failed(copied(alloc, &fail.reason)?))),
+        Update::Fail(fail) => Ok(Some(How::Failed(fail.reason.clone()?))),
         Update::Malformed(malformed) => Ok(Some(How::Malformed(
             malformed.sha256_of_onion,
             malformed.failure_code,
@@ -189,7 +189,7 @@ fn decided_by(
     let Some(add) = peer_add(decision.id, log) else {
         return Ok(None);
     };
-    let mark = copy_mark(alloc, &decision.mark)?;
+    let mark = decision.mark.clone()?;
     let back = back_in(decision.id, log);
     Ok(Some(htlc_by(channel, mark, back, add)))
 }

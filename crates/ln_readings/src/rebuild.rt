@@ -10,21 +10,8 @@ ghost use Rattle.ln_readings.specs.Rebuild.{rebuilt_htlcs};
 use crate::leg::{Leg, NO_EVENT, Reading};
 use ln_log::Mark;
 use ln_msgs::Refusal;
-use ln_tables::{Back, Htlc, Key, Offer, Way, copy_how, copy_mark};
+use ln_tables::{Back, Htlc, Key, Offer, Way};
 use std::alloc::Global;
-
-// The same way. Error: 60 alone.
-fn copy_way(alloc: Global, way: &Way) -> Result<Way, Refusal>
-    ensures copy { IfOk result (λ w. w ≡ way.now) }
-    ensures fails_for_memory_alone { IfErr result (λ r. r ≡ Refusal.Memory) }
-{
-    match way {
-        Way::Nowhere => Ok(Way::Nowhere),
-        Way::Refused => Ok(Way::Refused),
-        Way::Offered(key) => Ok(Way::Offered(*key)),
-        Way::Over(key, how) => Ok(Way::Over(*key, copy_how(alloc, how)?)),
-    }
-}
 
 // The first that forwards this HTLC.
 fn leg_among<'a>(key: &Key, legs: &'a [Leg]) -> Option<&'a Leg>
@@ -76,7 +63,7 @@ fn way_for(alloc: Global, key: &Key, readings: &[Reading]) -> Result<Way, Refusa
 {
     match leg_for(key, readings) {
         None => Ok(Way::Nowhere),
-        Some(leg) => copy_way(alloc, &leg.way),
+        Some(leg) => Ok(leg.way.clone()?),
     }
 }
 
@@ -105,7 +92,7 @@ fn led(alloc: Global, htlc: &Htlc, readings: &[Reading]) -> Result<Htlc, Refusal
     ensures htlc { IfOk result (λ h. h ≡ led readings.now htlc.now) }
     ensures fails_for_memory_alone { IfErr result (λ r. r ≡ Refusal.Memory) }
 {
-    let mark = copy_mark(alloc, &htlc.mark)?;
+    let mark = htlc.mark.clone()?;
     let way = way_for(alloc, &htlc.key, readings)?;
     let way = way_read(&htlc.mark, htlc.back, way);
     Ok(Htlc {
@@ -180,7 +167,7 @@ fn htlc_left(alloc: Global, leg: &Leg) -> Result<Htlc, Refusal>
     ensures htlc { IfOk result (λ h. h ≡ htlc_left leg.now) }
     ensures fails_for_memory_alone { IfErr result (λ r. r ≡ Refusal.Memory) }
 {
-    let way = copy_way(alloc, &leg.way)?;
+    let way = leg.way.clone()?;
     let offer = Offer {
         id: leg.origin.id,
         amount: 0,

@@ -25,13 +25,6 @@ impl Model for Copies {
     ghost view = { λ s. map.from_entries s.records.entries };
 }
 
-pub(crate) fn copied(alloc: Global, bytes: &[u8]) -> Result<Bytes, Refusal>
-    ensures has_the_bytes { IfOk result (λ b. b ≡ bytes.now) }
-    ensures fails_for_memory_alone { IfErr result (λ e. e ≡ Refusal.Memory) }
-{
-    Ok(Bytes::new(bytes.to_vec(alloc)?))
-}
-
 impl Copies {
     ghost use Rattle.std.specs.Prelude.{◌≡◌, IsSome, None, IfOk, IfErr, OnOk, OnErr};
     ghost use Rattle.std.specs.Option.{option_copied};
@@ -91,7 +84,7 @@ impl Copies {
         let Some(kept) = self.find(id) else {
             return Ok(None);
         };
-        Ok(Some(copied(alloc, kept.as_slice())?))
+        Ok(Some(kept.clone()?))
     }
 
     pub(crate) fn ids(&self, alloc: Global) -> Result<Vec<[u8; 32]>, Refusal>

@@ -11,8 +11,9 @@ ghost use Rattle.ln_sqlite.specs.Holds.{HasRecords};
 ghost use Rattle.ln_sqlite.specs.Reading.{Takes, TakesAll, ShowsRecord, ShowRecords};
 ghost use Rattle.ln_sqlite.specs.Begins.{AreRecords, Stays};
 
-use crate::copies::{Copies, copied};
+use crate::copies::Copies;
 use crate::statements::all_rows;
+use ln_bytes::Bytes;
 use ln_msgs::Refusal;
 use sqlite::types::ValueRef;
 use sqlite::{Alter, Connection, Row};
@@ -45,7 +46,7 @@ fn take_row(alloc: Global, copies: &mut Copies, row: &Row) -> Result<(), Refusal
     let Some(bytes) = bytes_in(row, 1) else {
         return Err(Refusal::Store);
     };
-    match copies.put(id, copied(alloc, bytes)?)? {
+    match copies.put(id, Bytes::from_slice(alloc, bytes)?)? {
         None => Ok(()),
         Some(earlier) => {
             drop(earlier);

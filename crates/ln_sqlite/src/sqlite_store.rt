@@ -10,7 +10,7 @@ ghost use Rattle.ln_sqlite.specs.Holds.{IsTableOf};
 ghost use Rattle.ln_sqlite.specs.Begins.{BeginsWith, MayMakeTable, HasRecordsAlone, IsOther, IsReady, IsAsBefore};
 
 use crate::compared::is_copy;
-use crate::copies::{Copies, copied};
+use crate::copies::Copies;
 use crate::rows::read_copies;
 use crate::statements::{has_ids, load_rows, make_table, save_row};
 use crate::table::{is_empty, is_table_of_records};
@@ -166,7 +166,7 @@ impl<S: Alter> RecordStore for SqliteStore<S> {
             → StopLeaves (state S.Store self.old.connection) (state S.Store self.new.connection)
             (map.insert self.old.copies id.now bytes.now) }
     {
-        let kept = copied(alloc, bytes)?;
+        let kept = Bytes::from_slice(alloc, bytes)?;
         let before = self.copies.put(*id, kept)?;
         match save_row(&mut self.connection, id, bytes) {
             Ok(_) => Ok(()),

@@ -24,15 +24,6 @@ impl Model for MemoryStore {
     ghost view = { λ s. map.from_entries s.records.entries };
 }
 
-ghost use Rattle.std.specs.Prelude.{◌≡◌, IfOk, IfErr};
-
-fn copied(alloc: Global, bytes: &[u8]) -> Result<Bytes, Refusal>
-    ensures has_the_bytes { IfOk result (λ b. b ≡ bytes.now) }
-    ensures fails_for_memory_alone { IfErr result (λ e. e ≡ Refusal.Memory) }
-{
-    Ok(Bytes::new(bytes.to_vec(alloc)?))
-}
-
 impl MemoryStore {
     ghost use Rattle.std.specs.Prelude.{◌≡◌, IfErr, OnOk, OnErr};
     ghost use Rattle.std.specs.Option.{option_copied};
@@ -77,7 +68,7 @@ impl RecordStore for MemoryStore {
         ensures leaves_the_old { OnErr result (self.new ≡ self.old) }
         ensures fails_for_memory_alone { IfErr result (λ e. e ≡ Refusal.Memory) }
     {
-        let kept = copied(alloc, bytes)?;
+        let kept = Bytes::from_slice(alloc, bytes)?;
         self.put(*id, kept)
     }
 
@@ -90,7 +81,7 @@ impl RecordStore for MemoryStore {
         let Some(kept) = self.find(id) else {
             return Ok(None);
         };
-        Ok(Some(copied(alloc, kept.as_slice())?))
+        Ok(Some(kept.clone()?))
     }
 
     /// Error: 60 alone, where there is no memory.

@@ -89,7 +89,7 @@ fn front_at(alloc: Global, len: u64, bytes: &[u8]) -> Result<(Bytes, &[u8]), Ref
         return Err(Refusal::Damaged);
     }
     let (front, rest) = bytes.split_at(len as usize);
-    Ok((Bytes::new(Vec::from_slice(alloc, front)?), rest))
+    Ok((Bytes::from_slice(alloc, front)?, rest))
 }
 
 // Bytes behind their length in two bytes.

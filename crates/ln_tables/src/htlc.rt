@@ -28,7 +28,7 @@ pub struct Offer {
 }
 
 /// The outgoing HTLC of one that is forwarded.
-#[derive(Drop)]
+#[derive(Clone, Drop)]
 pub enum Way {
     /// There is none.
     Nowhere,

@@ -2,7 +2,6 @@
 //! "Forwarding HTLCs").
 #![tactic(auto)]
 
-mod copy;
 mod entry;
 mod held;
 mod htlc;
@@ -10,7 +9,6 @@ mod lists;
 mod lost;
 mod tables;
 
-pub use copy::{copied, copy_how, copy_mark};
 pub use entry::{Decided, Desk, Entry, Ids, Invoice, Out, OutgoingChannel, Queued, Resumed, Told};
 pub use held::HeldHtlc;
 pub use htlc::{Back, Htlc, Key, Offer, Way};

@@ -77,7 +77,7 @@ pub(crate) fn bytes_at(alloc: Global, bytes: &[u8]) -> Result<(Bytes, &[u8]), Fa
     ensures { Gives (λ x. (x.0, x.1.now)) result (string_at bytes.now) }
 {
     let (front, rest) = sized_at(bytes)?;
-    Ok((Bytes::new(Vec::from_slice(alloc, front)?), rest))
+    Ok((Bytes::from_slice(alloc, front)?, rest))
 }
 
 /// Signatures behind their count in two bytes. Takes memory for them.

@@ -13,7 +13,7 @@ use std::marker::Model;
 /// Records in their order, which contracts see as a list.
 ///
 /// They are made from a `Vec` and give it back without taking memory.
-#[derive(Drop)]
+#[derive(Clone, Drop)]
 pub struct Records {
     items: Vec<Record>,
 }

@@ -1,6 +1,0 @@
-use Rattle.std.proofs.Common.{◌≡◌, take}
-use Rattle.ln_channel.proofs.opening.copies_of.Given as goal
-
--- as far as the loop has come, the copies are the records
-abbrev pub invariant-loop-original : goal.invariant-loop-original
-invariant-loop-original l = l.copies.items ≡ take l.original-index l.records
