@@ -1,42 +1,22 @@
-//! A node in a program of yours: it opens a channel with another node, and pays it.
+//! Two nodes in a program of yours, of which one opens a channel with the other, and what it pays.
 
 mod holding;
 
 use ln_bytes::Bytes;
 use ln_channel::Command;
-use ln_demo::{KEYS, POLICY, SHORT_IDS, TXIDS, fit_config, fit_spec};
-use ln_hooks::{Call, ChannelEvent, Hook, HookTable, Verdict};
+use ln_demo::{KEYS, POLICY, TXIDS, fit_config, fit_spec};
+use ln_hooks::{Hook, HookTable};
 use ln_keys::{ToyKeys, ToyOnion, sha256_32};
-use ln_msgs::{Refusal, channel_id};
+use ln_msgs::Refusal;
 use ln_node::Node;
 use ln_store::MemoryStore;
 use std::alloc::Global;
 use std::net::{Net, SocketAddr, TcpListener, TcpStream};
-use std::sync::atomic::{AtomicU64, Ordering};
-use std::sync::{Arc, Wait};
-use std::test::Fail;
-use std::thread;
+use std::sync::Wait;
 use std::thread::Threads;
 
 /// Keys and onions are services that you hand in, and so are stores; these are toys, for tests.
 type ToyNode = Node<ToyKeys, MemoryStore, ToyOnion, Hook, HookTable>;
-
-/// A hook that keeps what came in, in millisatoshi.
-fn hook(alloc: Global, came: &Arc<AtomicU64>) -> Result<Hook, Refusal> {
-    let came = Arc::try_clone(came)?;
-    let call: Call = Box::new(alloc, move |event: &ChannelEvent| -> Verdict {
-        if let ChannelEvent::Added {
-            own: false,
-            amount,
-            ..
-        } = event
-        {
-            came.fetch_add(amount.value(), Ordering::SeqCst);
-        }
-        Verdict::Continue
-    })?;
-    Ok(Hook::new(call))
-}
 
 /// A payment of 70,000 millisatoshi by this preimage. Its onion tells the payee amt_to_forward, outgoing_cltv_value
 /// 400 and payment_data with the secret, 32 bytes of 8 (BOLT 4, "`payload` Format").
@@ -81,60 +61,4 @@ where
     );
     payer.connect(rt, alloc, payer_keys, spec, store, table, address)?;
     Ok((payer, payee))
-}
-
-/// Once the funding transaction is confirmed at both, the payer offers the payment, and both sign what isn't signed,
-/// until it has come.
-fn pay<R: Wait>(
-    rt: &R,
-    alloc: Global,
-    payer: &ToyNode,
-    payee: &ToyNode,
-    came: &Arc<AtomicU64>,
-) -> Result<(), Refusal> {
-    let preimage = [7; 32];
-    payee.book().lock(rt).set_height(100);
-    payee.book().lock(rt).expect(preimage, [8; 32], 70_000)?;
-    let _ = payee.register_hook(rt, 0, hook(alloc, came)?);
-    let channel = channel_id(&TXIDS[0], 0);
-    let mut offered = false;
-    for _ in 0..1_000_000 {
-        if came.load(Ordering::SeqCst) > 0 {
-            break;
-        }
-        let _ = payer.order(rt, 0, Command::Confirm(SHORT_IDS[0]));
-        let _ = payee.order(rt, 0, Command::Confirm(SHORT_IDS[0]));
-        if !offered && payer.book().lock(rt).usable(&channel) {
-            offered = payer.order(rt, 0, payment(alloc, &preimage)?).is_ok();
-        }
-        let _ = payer.order(rt, 0, Command::Sign);
-        let _ = payee.order(rt, 0, Command::Sign);
-        thread::yield_now();
-    }
-    Ok(())
-}
-
-/// How much has come to the payee.
-fn paid<R>(rt: R, alloc: Global) -> Result<u64, Refusal>
-where
-    R: Net<Listener = TcpListener, Stream = TcpStream> + Threads + Wait + Copy + Send + 'static,
-{
-    let came = Arc::new(alloc, AtomicU64::new(0))?;
-    let (payer, payee) = nodes(rt, alloc)?;
-    let done = pay(&rt, alloc, &payer, &payee, &came);
-    payer.stop(rt);
-    payee.stop(rt);
-    done?;
-    Ok(came.load(Ordering::SeqCst))
-}
-
-#[test]
-fn pays(rt: HostRuntime) -> Result<(), Fail> {
-    match paid(rt, rt.alloc()) {
-        Ok(came) => {
-            assert_eq!(rt; came, 70_000);
-            Ok(())
-        }
-        Err(_) => Err("refused".into()),
-    }
 }

@@ -1,4 +1,5 @@
-//! Tests of running nodes over loopback, by their public calls alone: hooks and workers beside each other, the demo.
+//! Tests of running nodes over loopback, by their public calls alone: hooks and workers beside each other, strangers,
+//! payments that wait. What lines can say stands in ln_node_run.
 #![tactic(auto)]
 
 mod frames;
@@ -6,11 +7,7 @@ mod frames;
 pub use frames::ping_frame;
 
 #[cfg(test)]
-mod again;
-#[cfg(test)]
 mod client;
-#[cfg(test)]
-mod closes;
 #[cfg(test)]
 mod embedding;
 #[cfg(test)]

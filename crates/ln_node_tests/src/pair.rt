@@ -5,7 +5,7 @@ use ln_demo::{KEYS, POLICY, SHORT_IDS, TXIDS, fit_config, fit_spec};
 use ln_hooks::{Hook, HookTable};
 use ln_keys::{ToyKeys, ToyOnion};
 use ln_msgs::{Refusal, channel_id};
-use ln_node::{Node, Stored};
+use ln_node::Node;
 use ln_store::MemoryStore;
 use std::alloc::Global;
 use std::net::{Net, SocketAddr, TcpListener, TcpStream};
@@ -63,27 +63,6 @@ where
         address,
     )?;
     Ok(node)
-}
-
-/// A node that starts again with what this store has.
-pub(crate) fn again<R>(
-    rt: R,
-    alloc: Global,
-    keys: ToyKeys,
-    store: MemoryStore,
-    address: Option<SocketAddr>,
-) -> Result<ToyNode, Refusal>
-where
-    R: Net<Listener = TcpListener, Stream = TcpStream> + Threads + Wait + Copy + Send + 'static,
-{
-    let mut stored = Vec::new(alloc);
-    stored.push(Stored {
-        keys,
-        store,
-        table: HookTable::new(alloc),
-        address,
-    })?;
-    Node::restore(rt, alloc, ToyOnion, POLICY, stored)
 }
 
 // Whether a node's channel takes payments.

@@ -3,10 +3,10 @@
 use crate::client::Client;
 use crate::frames::ping_frame;
 use ln_channel::Command;
-use ln_demo::{KEYS, POLICY, SHORT_IDS, TXIDS, demo, fit_config};
+use ln_demo::{KEYS, POLICY, SHORT_IDS, TXIDS, fit_config};
 use ln_hooks::{Call, ChannelEvent, Hook, HookTable, Verdict};
 use ln_keys::{ChannelKeys, Signed, ToyKeys, ToyOnion, View};
-use ln_msgs::{Counted, Refusal};
+use ln_msgs::Refusal;
 use ln_node::Node;
 use ln_store::MemoryStore;
 use std::alloc::Global;
@@ -327,18 +327,5 @@ fn workers_run_beside(rt: HostRuntime) -> io::Result<()> {
     second.take(alloc, 1)?;
     assert_eq!(rt; seen.load(Ordering::SeqCst), 2);
     node.stop(rt);
-    Ok(())
-}
-
-#[test]
-fn demo_pays(rt: HostRuntime) -> io::Result<()> {
-    let alloc = rt.alloc();
-    let mut writer = Counted::new(Vec::new(alloc));
-    assert!(rt; demo(rt, alloc, &mut writer).is_ok());
-    let printed = writer.into_inner();
-    assert_eq!(rt;
-        printed.as_slice(),
-        b"paid 5000000\nfee 1500\nclosed 2\n".as_slice()
-    );
     Ok(())
 }

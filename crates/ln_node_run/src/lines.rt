@@ -1,0 +1,208 @@
+//! The lines, one by one.
+
+use crate::end::{A0, B0, B1, C0, End};
+use crate::gauge::{CONTINUE, Gauged, HOLD, NoHook};
+use crate::payment::FEE;
+use crate::row::Row;
+use ln_channel::Command;
+use ln_hooks::FailureCode;
+use ln_msgs::Refusal;
+use ln_node::Table;
+use ln_store::RecordStore;
+use std::alloc::Global;
+use std::net::{Net, TcpListener, TcpStream};
+use std::sync::Wait;
+use std::sync::atomic::Ordering;
+use std::thread::Threads;
+
+const BAD: Refusal = Refusal::BadScript { line: 0 };
+
+// The word at a place; the empty one after the last.
+fn at<'a>(words: &[&'a str], place: usize) -> &'a str {
+    match words.get(place) {
+        Some(word) => word,
+        None => "",
+    }
+}
+
+// The number of a word.
+fn number(word: &str) -> Result<u64, Refusal> {
+    match word.parse::<u64>() {
+        Ok(number) => Ok(number),
+        Err(_) => Err(BAD),
+    }
+}
+
+// The same of at most 65,535.
+fn small(word: &str) -> Result<u16, Refusal> {
+    match word.parse::<u16>() {
+        Ok(number) => Ok(number),
+        Err(_) => Err(BAD),
+    }
+}
+
+// The end of a word.
+fn end(word: &str) -> Result<End, Refusal> {
+    match word {
+        "A0" => Ok(A0),
+        "B0" => Ok(B0),
+        "B1" => Ok(B1),
+        "C0" => Ok(C0),
+        _ => Err(BAD),
+    }
+}
+
+// The end of a payer or a payee, and the block of the channel that leads to the other one.
+fn side(word: &str) -> Result<(End, u8), Refusal> {
+    match word {
+        "A" => Ok((A0, 2)),
+        "C" => Ok((C0, 1)),
+        _ => Err(BAD),
+    }
+}
+
+// The number of a node.
+fn node(word: &str) -> Result<usize, Refusal> {
+    match word {
+        "A" => Ok(0),
+        "B" => Ok(1),
+        "C" => Ok(2),
+        _ => Err(BAD),
+    }
+}
+
+// What a hook is to say.
+fn saying(word: &str) -> Result<u64, Refusal> {
+    match word {
+        "continue" => Ok(CONTINUE),
+        "hold" => Ok(HOLD),
+        code => {
+            let number = small(code)?;
+            if FailureCode::new(number).is_some() {
+                Ok(u64::from(number))
+            } else {
+                Err(BAD)
+            }
+        }
+    }
+}
+
+impl<S, T, R> Row<S, T, R>
+where
+    S: RecordStore + Gauged + Drop + Send + 'static,
+    T: Table<NoHook> + Gauged + Drop + Send + 'static,
+    R: Net<Listener = TcpListener, Stream = TcpStream> + Threads + Wait + Copy + Send + 'static,
+{
+    fn pays(&self, words: &[&str]) -> Result<(), Refusal> {
+        let (payer, block) = side(at(words, 1))?;
+        let payment = number(at(words, 2))?;
+        match at(words, 3) {
+            "" => {
+                self.expect(if block == 2 { C0 } else { A0 }, payment)?;
+                self.pay(payer, payment, block, FEE)
+            }
+            "unasked" => self.pay(payer, payment, block, FEE),
+            "short" => self.pay(payer, payment, block, FEE - 1),
+            _ => Err(BAD),
+        }
+    }
+
+    fn loses(&self, words: &[&str]) -> Result<(), Refusal> {
+        let end = end(at(words, 1))?;
+        let number = number(at(words, 3))?;
+        let comes = match at(words, 2) {
+            "in" => true,
+            "out" => false,
+            _ => return Err(BAD),
+        };
+        let left = self.way(end)?.way.left(comes != end.connects);
+        left.store(number, Ordering::SeqCst);
+        Ok(())
+    }
+
+    fn burns(&self, words: &[&str]) -> Result<(), Refusal> {
+        let gauge = self.gauge(end(at(words, 1))?)?;
+        let number = number(at(words, 2))?;
+        let leaves_new = match at(words, 3) {
+            "old" => 0,
+            "new" => 1,
+            _ => return Err(BAD),
+        };
+        gauge.leaves_new.store(leaves_new, Ordering::SeqCst);
+        gauge.next_save.store(number, Ordering::SeqCst);
+        Ok(())
+    }
+
+    // What a line of two or three words has an end do.
+    fn does(&self, words: &[&str]) -> Result<(), Refusal> {
+        let end = end(at(words, 1))?;
+        match (at(words, 0), words.len()) {
+            ("cut", 2) => self.cut(end),
+            ("part", 2) => {
+                self.way(end)?.way.parted.store(1, Ordering::SeqCst);
+                self.cut(end)
+            }
+            ("join", 2) => {
+                self.way(end)?.way.parted.store(0, Ordering::SeqCst);
+                Ok(())
+            }
+            ("shut", 2) => {
+                self.gauge(end)?.shuts.store(1, Ordering::SeqCst);
+                Ok(())
+            }
+            ("says", 3) => {
+                let says = saying(at(words, 2))?;
+                self.gauge(end)?.says.store(says, Ordering::SeqCst);
+                Ok(())
+            }
+            ("resume", 3) => self.resume(end, number(at(words, 2))?),
+            ("fee", 3) => {
+                let rate = small(at(words, 2))?;
+                self.insist(end, Command::Fee(u32::from(rate)))
+            }
+            _ => Err(BAD),
+        }
+    }
+
+    // What a line has several ends do, or whole nodes.
+    fn act(&mut self, words: &[&str]) -> Result<(), Refusal> {
+        match (at(words, 0), words.len()) {
+            ("#", _) => Ok(()),
+            ("listen", 2) => self.listen(small(at(words, 1))?),
+            ("open", 1) => self.open(),
+            ("restart", 2) => self.restart(node(at(words, 1))?),
+            ("stop", 1) => {
+                self.stop();
+                Ok(())
+            }
+            ("looks", 2) => {
+                for _ in 0..number(at(words, 1))? {
+                    self.look();
+                }
+                Ok(())
+            }
+            ("expect", 3) => self.expect(side(at(words, 1))?.0, number(at(words, 2))?),
+            ("reconnect", 4) => {
+                let channel = usize::from(small(at(words, 2))?);
+                self.reconnect(node(at(words, 1))?, channel, small(at(words, 3))?)
+            }
+            ("pay", 3 | 4) => self.pays(words),
+            ("lose", 4) => self.loses(words),
+            ("burn", 4) => self.burns(words),
+            ("wait", 4) => {
+                let wanted = number(at(words, 3))?;
+                self.wait(end(at(words, 1))?, at(words, 2), wanted)
+            }
+            _ => self.does(words),
+        }
+    }
+
+    /// Has come about what a line says.
+    pub fn serve(&mut self, alloc: Global, line: &str) -> Result<(), Refusal> {
+        let mut words = Vec::new(alloc);
+        for word in line.split(' ') {
+            words.push(word)?;
+        }
+        self.act(words.as_slice())
+    }
+}

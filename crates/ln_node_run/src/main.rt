@@ -1,0 +1,106 @@
+//! Three nodes of one process in a row over loopback, A and B and C, driven by lines. A line is printed once it has
+//! come about; one that doesn't, or is none, is the last one, and its number and a refusal's are printed. So the same
+//! is printed in every schedule. stdin has payments that fail and come, lost connections, failing stores, restarts,
+//! payments that wait, and closes.
+//!
+//! | Line | What comes about |
+//! |---|---|
+//! | `listen N` | new nodes, of which B and C listen: C takes N HTLCs at once |
+//! | `open` | A opens a channel with B, and B one with C, up to all ends taking payments |
+//! | `pay A N`, `pay C N` | A offers C, or C offers A, payment N, for which the payee waits |
+//! | .. `short`, .. `unasked` | a msat less for B than it asks; the payee doesn't wait for it |
+//! | `expect A N`, `expect C N` | A or C waits for payment N |
+//! | `says E WORD` | E's hook says so of each payment that comes in: `continue`, `hold`, or a failure's code |
+//! | `resume E N` | the N that E holds go on, or fail where its hook has payments fail now |
+//! | `lose E in K`, `lose E out K` | the K-th message from now on to E, or from it, is lost with the connection |
+//! | `cut E` | E shuts its connection |
+//! | `part E`, `join E` | the same, and none is made again; one is |
+//! | `reconnect NODE K R` | the node connects its channel K, which is refused by R |
+//! | `burn E K old`, .. `new` | the K-th save of E from the next `pay` or `resume` on fails, and leaves that record |
+//! | `restart A`, .. | the node starts again from its stores |
+//! | `fee E RATE`, `shut E` | E changes the feerate; it is to shut down |
+//! | `looks N`, `stop` | so much time passes; the nodes stop |
+//! | `wait E WORD COUNT` | E's count is so: see gauge.rt, and `usable`, `held`, and `lost` connections |
+//! | `demo` | what ln_demo plays, which prints three lines |
+//! | `# ..` | nothing |
+//!
+//! E is an end: A0, B0, B1 or C0, by its node and the number of its channel there. While a line waits, lost connections
+//! are made again, and all ends sign what isn't signed. A fault is due before what the lines after it wait for: both
+//! who offered a payment and B, who offered it on, have seen it removed, so that nothing of it is in flight.
+#![tactic(auto)]
+
+mod end;
+mod gauge;
+mod lines;
+mod payment;
+mod row;
+mod store;
+mod way;
+
+use crate::gauge::{Gauged, NoHook, Watch};
+use crate::row::Row;
+use crate::store::FailingRecords;
+use ln_demo::demo;
+use ln_msgs::Counted;
+use ln_node::Table;
+use ln_store::RecordStore;
+use std::io;
+use std::io::{BufRead, BufReader};
+use std::net::{Net, TcpListener, TcpStream};
+use std::process::ExitCode;
+use std::sync::Wait;
+use std::thread::Threads;
+
+// Drives nodes line by line, and prints each. False where one is refused, or can't be read.
+fn drive<S, T, R, L>(rt: R, host: &HostRuntime, row: &mut Row<S, T, R>, lines: L) -> bool
+where
+    S: RecordStore + Gauged + Drop + Send + 'static,
+    T: Table<NoHook> + Gauged + Drop + Send + 'static,
+    R: Net<Listener = TcpListener, Stream = TcpStream> + Threads + Wait + Copy + Send + 'static,
+    L: BufRead + Drop,
+{
+    let mut number = 0u64;
+    for line in lines.lines(host.alloc()) {
+        number = number.wrapping_add(1);
+        let Ok(line) = line else {
+            return false;
+        };
+        let done = match line.as_str() {
+            "demo" => demo(rt, host.alloc(), &mut Counted::new(io::writer(host))),
+            line => row.serve(host.alloc(), line),
+        };
+        if let Err(refusal) = done {
+            let _ = println!(host; "line {number} refused {}", refusal.number());
+            return false;
+        }
+        let _ = println!(host; "{line}");
+    }
+    true
+}
+
+// The same from the input, and stops the nodes.
+fn run<S, T, R>(rt: R, host: &HostRuntime) -> bool
+where
+    S: RecordStore + Gauged + Drop + Send + 'static,
+    T: Table<NoHook> + Gauged + Drop + Send + 'static,
+    R: Net<Listener = TcpListener, Stream = TcpStream> + Threads + Wait + Copy + Send + 'static,
+{
+    let Ok(lines) = BufReader::new(host.alloc(), host.reader()) else {
+        return false;
+    };
+    let Ok(row) = Row::new(rt, host.alloc()) else {
+        return false;
+    };
+    let mut row: Row<S, T, R> = row;
+    let done = drive(rt, host, &mut row, lines);
+    row.stop();
+    done
+}
+
+fn main(rt: HostRuntime) -> ExitCode {
+    if run::<FailingRecords, Watch, HostRuntime>(rt, &rt) {
+        ExitCode::SUCCESS
+    } else {
+        ExitCode::FAILURE
+    }
+}

@@ -1,0 +1,184 @@
+//! The way between two nodes: a thread that hands on what each sends, message by message, and may lose one.
+
+use crate::gauge::is_due;
+use ln_msgs::Refusal;
+use std::alloc::Global;
+use std::io::{Read, Write};
+use std::net::{Net, OpenListener, OpenStream, Shutdown, SocketAddr, TcpListener, TcpStream};
+use std::sync::atomic::{AtomicU64, Ordering};
+use std::sync::{Arc, Mutex, Wait};
+use std::thread::{JoinHandle, Threads};
+use std::{io, thread};
+
+/// A way between two nodes, as its thread and others share it.
+#[derive(Drop)]
+pub struct Way {
+    /// Where its connections go.
+    pub target: Mutex<SocketAddr>,
+    // The message of this number from now on is lost with its connection, to the side that listens, and to the one
+    // that connects; 0 where none is.
+    forth: AtomicU64,
+    back: AtomicU64,
+    /// How many of its connections were made.
+    pub made: AtomicU64,
+    /// How many are over.
+    pub over: AtomicU64,
+    /// 1 where none is to be made.
+    pub parted: AtomicU64,
+    stopping: AtomicU64,
+    // Held by who does what no loss may come between.
+    gate: Arc<Mutex<()>>,
+}
+
+/// A way with its thread, and where it begins.
+#[derive(Drop)]
+pub struct OpenWay {
+    pub way: Arc<Way>,
+    pub begin: SocketAddr,
+    thread: JoinHandle<()>,
+}
+
+/// An address of this machine whose port the system chooses.
+pub fn loopback() -> SocketAddr {
+    SocketAddr::from(([127, 0, 0, 1], 0))
+}
+
+// The next message with its length (BOLT 8 has it encrypted, these nodes don't).
+fn read_frame(alloc: Global, from: &mut TcpStream) -> io::Result<Vec<u8>> {
+    let mut length = [0u8; 2];
+    from.read_exact(&mut length)?;
+    let mut frame = vec![in alloc; 0u8; usize::from(u16::from_be_bytes(length)) + 2]?;
+    frame[..2].copy_from_slice(&length);
+    from.read_exact(&mut frame[2..])?;
+    Ok(frame)
+}
+
+impl Way {
+    /// The messages of one direction that are left until one is lost.
+    pub fn left(&self, forth: bool) -> &AtomicU64 {
+        if forth { &self.forth } else { &self.back }
+    }
+
+    // Whether a message is lost now.
+    fn loses<R: Wait>(&self, rt: &R, forth: bool) -> bool {
+        let _held = self.gate.lock(rt);
+        is_due(self.left(forth))
+    }
+
+    // Hands on messages, until one can't be read or written, or is lost.
+    fn hand_on<R: Wait>(
+        &self,
+        rt: &R,
+        alloc: Global,
+        from: &mut TcpStream,
+        to: &mut TcpStream,
+        forth: bool,
+    ) {
+        for _ in rt.forever() {
+            let Ok(frame) = read_frame(alloc, from) else {
+                return;
+            };
+            if self.loses(rt, forth) || to.write_all(frame.as_slice()).is_err() {
+                return;
+            }
+        }
+        unreachable!()
+    }
+
+    // The same, and then nothing is handed on in either direction.
+    fn serve<R: Wait>(&self, rt: &R, alloc: Global, from: TcpStream, to: TcpStream, forth: bool) {
+        let (mut from, mut to) = (from, to);
+        self.hand_on(rt, alloc, &mut from, &mut to, forth);
+        let _ = from.shutdown(Shutdown::Both);
+        let _ = to.shutdown(Shutdown::Both);
+    }
+
+    /// Whether a connection is to be made: all that were made are over.
+    pub fn is_cut(&self) -> bool {
+        self.parted.load(Ordering::SeqCst) == 0
+            && self.over.load(Ordering::SeqCst) == self.made.load(Ordering::SeqCst)
+    }
+}
+
+// Hands on what comes and goes by a connection, to its end.
+fn carry<R>(rt: R, alloc: Global, way: &Arc<Way>, near: TcpStream) -> io::Result<()>
+where
+    R: Net<Listener = TcpListener, Stream = TcpStream> + Threads + Wait + Copy + Send + 'static,
+{
+    let target = *way.target.lock(&rt);
+    let far = TcpStream::connect(&rt, target)?;
+    near.set_nodelay(true)?;
+    far.set_nodelay(true)?;
+    let (from, to) = (far.try_clone()?, near.try_clone()?);
+    let theirs = Arc::try_clone(way)?;
+    let back = thread::spawn(&rt, move || theirs.serve(&rt, alloc, from, to, false))?;
+    way.serve(&rt, alloc, near, far, true);
+    back.join(&rt);
+    Ok(())
+}
+
+// Carries one connection after the other, until it stops.
+fn carry_all<R>(rt: R, alloc: Global, way: &Arc<Way>, listener: &TcpListener)
+where
+    R: Net<Listener = TcpListener, Stream = TcpStream> + Threads + Wait + Copy + Send + 'static,
+{
+    for _ in rt.forever() {
+        let accepted = listener.accept();
+        if way.stopping.load(Ordering::SeqCst) != 0 {
+            return;
+        }
+        if let Ok((near, _)) = accepted {
+            let _ = carry(rt, alloc, way, near);
+            way.over.fetch_add(1, Ordering::SeqCst);
+        }
+    }
+    unreachable!()
+}
+
+impl OpenWay {
+    /// A way that leads there, and loses nothing as long as this gate is held. 63 where it can't listen, 60 where there
+    /// is no memory or no thread.
+    pub fn new<R>(
+        rt: R,
+        alloc: Global,
+        target: SocketAddr,
+        gate: &Arc<Mutex<()>>,
+    ) -> Result<OpenWay, Refusal>
+    where
+        R: Net<Listener = TcpListener, Stream = TcpStream> + Threads + Wait + Copy + Send + 'static,
+    {
+        let Ok(listener) = TcpListener::bind(&rt, loopback()) else {
+            return Err(Refusal::Io);
+        };
+        let Ok(begin) = listener.local_addr() else {
+            return Err(Refusal::Io);
+        };
+        let way = Way {
+            target: Mutex::new(target),
+            forth: AtomicU64::new(0),
+            back: AtomicU64::new(0),
+            made: AtomicU64::new(0),
+            over: AtomicU64::new(0),
+            parted: AtomicU64::new(0),
+            stopping: AtomicU64::new(0),
+            gate: Arc::try_clone(gate)?,
+        };
+        let way = Arc::new(alloc, way)?;
+        let theirs = Arc::try_clone(&way)?;
+        match thread::spawn(&rt, move || carry_all(rt, alloc, &theirs, &listener)) {
+            Ok(thread) => Ok(OpenWay { way, begin, thread }),
+            Err(_) => Err(Refusal::Memory),
+        }
+    }
+
+    /// Ends its thread, once the nodes that it connects have stopped.
+    pub fn stop<R>(self, rt: &R)
+    where
+        R: Net<Listener = TcpListener, Stream = TcpStream> + Threads + Wait,
+    {
+        let OpenWay { way, begin, thread } = self;
+        way.stopping.store(1, Ordering::SeqCst);
+        let _ = TcpStream::connect(rt, begin);
+        thread.join(rt);
+    }
+}
