@@ -2,9 +2,7 @@
 
 use crate::output::{Outbox, Output};
 use ln_hooks::{ChannelEvent, event_of};
-use ln_log::{
-    ChannelId, Decision, EventRef, Mark, Settlement, Update, UpdateLog, removal_of,
-};
+use ln_log::{ChannelId, Decision, EventRef, Mark, Settlement, Update, UpdateLog, removal_of};
 use ln_msgs::Refusal;
 use std::alloc::Global;
 use std::collections::BTreeSet;
@@ -309,8 +307,9 @@ impl EventLedger {
     /// What is done about an HTLC that is held by the number of this event takes the place of that. Takes no memory.
     /// Error: 40 where none is held so, or it is to be held again, or nothing is to be done; then nothing has changed.
     pub(crate) fn resume(&mut self, event: u64, mark: Mark) -> Result<(), Refusal>
-        ensures { Leaves Lacks (λ x. self.new) (λ r. self.new ≡ self.old) (resume_held_row event mark self.old)
+        ensures resumed { Leaves Lacks (λ x. self.new) (λ r. self.new ≡ self.old) (resume_held_row event mark self.old)
             result }
+        ensures refused_by_40_alone { IfErr result (λ r. r ≡ Refusal.NotReady) }
     {
         if !is_answer(&mark) {
             drop(mark);

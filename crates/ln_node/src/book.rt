@@ -14,7 +14,7 @@ use ln_keys::{ChannelKeys, Onion};
 use ln_log::{ChannelId, Mark};
 use ln_msgs::Refusal;
 use ln_store::RecordStore;
-use ln_switch::{Seat, Use, use_of};
+use ln_switch::{Seat, Use, use_of, waits};
 use ln_turns::{Books, Notice, ReadsEnds};
 use std::alloc::{AllocError, Global};
 use std::snapshot::Snapshot;
@@ -135,7 +135,9 @@ impl<O: Onion + Copy + Drop> Books for SharedBook<O> {
     fn answered<R: Wait>(&mut self, rt: &R, channel: ChannelId, answer: Result<u64, u16>) {
         let mut book = self.book.kept.lock(rt);
         self.seat.answered(&mut book, channel, answer);
-        self.bell.ring();
+        if !waits(answer) {
+            self.bell.ring();
+        }
     }
 
     fn settled<R: Wait>(

@@ -1,5 +1,6 @@
 //! A peer of a node, driven step by step by a test.
 
+use crate::frames::init_frame;
 use ln_bytes::Bytes;
 use ln_channel::{Command, FitSpec};
 use ln_demo::fit_spec;
@@ -11,7 +12,7 @@ use ln_store::MemoryStore;
 use std::alloc::Global;
 use std::io;
 use std::io::{Read, Write};
-use std::net::{Net, SocketAddr, TcpListener, TcpStream};
+use std::net::{Net, Shutdown, SocketAddr, TcpListener, TcpStream};
 use std::time::Duration;
 
 /// A funder's end on a connection.
@@ -146,6 +147,18 @@ impl Client {
         );
         drop(outputs);
         answer.map_err(|_| failed())
+    }
+
+    /// Leaves the connection, makes another, and greets there. The end isn't told.
+    pub(crate) fn greet_again<R>(&mut self, rt: &R, address: SocketAddr) -> io::Result<()>
+    where
+        R: Net<Listener = TcpListener, Stream = TcpStream>,
+    {
+        self.stream.shutdown(Shutdown::Both)?;
+        let stream = TcpStream::connect(rt, address)?;
+        stream.set_read_timeout(Some(Duration::from_secs(20)))?;
+        self.stream = stream;
+        self.send(&init_frame())
     }
 
     /// Sends these bytes.

@@ -9,3 +9,10 @@ pub fn ping_frame() -> [u8; 8]
 {
     [0, 6, 0, 18, 0, 0, 0, 0]
 }
+
+/// The frame of an init without features (BOLT 1, "The `init` Message").
+pub fn init_frame() -> [u8; 8]
+    ensures { result ≡ 0 ∷ 6 ∷ 0 ∷ 16 ∷ 0 ∷ 0 ∷ 0 ∷ 0 ∷ [] }
+{
+    [0, 6, 0, 16, 0, 0, 0, 0]
+}

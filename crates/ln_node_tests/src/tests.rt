@@ -7,12 +7,13 @@ use ln_demo::{KEYS, POLICY, SHORT_IDS, TXIDS, fit_config};
 use ln_hooks::{Call, ChannelEvent, Hook, HookTable, Verdict};
 use ln_keys::{ChannelKeys, Signed, ToyKeys, ToyOnion, View};
 use ln_msgs::Refusal;
-use ln_node::Node;
+use ln_node::{Node, Notice};
 use ln_store::MemoryStore;
 use std::alloc::Global;
 use std::net::{SocketAddr, TcpListener, TcpStream};
 use std::sync::atomic::{AtomicU64, Ordering};
 use std::sync::{Arc, Wait};
+use std::time::Duration;
 use std::{io, thread};
 
 /// How often a thread tries again, until it gives up.
@@ -326,6 +327,39 @@ fn workers_run_beside(rt: HostRuntime) -> io::Result<()> {
     first.take(alloc, 1)?;
     second.take(alloc, 1)?;
     assert_eq!(rt; seen.load(Ordering::SeqCst), 2);
+    node.stop(rt);
+    Ok(())
+}
+
+// Whether a command was refused as there is no connection.
+fn is_any_disconnected(notices: &[(usize, Notice)]) -> bool {
+    for (_, notice) in notices {
+        if let Notice::Refused(Refusal::Disconnected) = notice {
+            return true;
+        }
+    }
+    false
+}
+
+// The book's failure of an HTLC waits for a peer that has greeted and says no more: nobody is told of it.
+#[test]
+fn waits_for_a_silent_peer(rt: HostRuntime) -> io::Result<()> {
+    let alloc = rt.alloc();
+    let [client_keys, node_keys, _, _] = KEYS;
+    let (node, [address, _]) = listens(rt, alloc, [node_keys, node_keys])?;
+    let mut client = Client::connect(&rt, alloc, client_keys, TXIDS[0], address)?;
+    offer(&rt, alloc, &node, 0, &mut client)?;
+    order(&rt, &node, 0, Command::Sign)?;
+    client.take(alloc, 1)?;
+    // update_fail_malformed_htlc, which isn't signed: it is lost with the connection
+    assert_eq!(rt; client.hear(alloc)?, 135);
+    client.greet_again(&rt, address)?;
+    // init and channel_reestablish
+    assert_eq!(rt; client.hear(alloc)?, 16);
+    assert_eq!(rt; client.hear(alloc)?, 136);
+    AtomicU64::new(0).park_timeout(&rt, 0, Duration::from_millis(200));
+    let notices = node.notices(&rt, alloc);
+    assert!(rt; !is_any_disconnected(notices.as_slice()));
     node.stop(rt);
     Ok(())
 }

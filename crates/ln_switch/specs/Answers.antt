@@ -1,5 +1,5 @@
 -- What a book is told of a command that a channel's end was given.
-use Rattle.std.specs.Prelude.{ℕ, List, Option, Some, None, Result, Ok, Err}
+use Rattle.std.specs.Prelude.{ℕ, Bool, false, List, Option, Some, None, Result, Ok, Err}
 use Rattle.ln_msgs.specs.declared.refusals.refusal.Refusal.{Refusal}
 use Rattle.ln_msgs.specs.Refusals.Refusal.{refusal_number}
 use Rattle.ln_channel.specs.declared.command.Command.{Command}
@@ -7,7 +7,7 @@ use Rattle.ln_channel.specs.declared.command.Command.TheVariants as command
 use Rattle.ln_channel.specs.End.{End}
 use Rattle.ln_tables.specs.declared.entry.Entry.{Entry}
 use Rattle.ln_history.specs.History.{History}
-use Rattle.ln_tables.specs.Replay.{Table, table_of, desk_at}
+use Rattle.ln_tables.specs.Replay.{Table, table_of, desk_at, is_later}
 use Rattle.ln_readings.specs.Kept.{next_own_id}
 use Rattle.ln_book.specs.Commands.{with_answered}
 
@@ -39,3 +39,8 @@ answer_to id (Err r) = Err (refusal_number r)
 -- the book is told this of the command that is out in this channel
 abbrev pub replied : List ℕ → Result ℕ ℕ → History Table Entry → History Table Entry
 replied c a b = with_answered c a (desk_at c (table_of b)) b
+
+-- a command that was answered so is handed out again: its channel can't take it now
+abbrev pub waits : Result ℕ ℕ → Bool
+waits (Ok id) = false
+waits (Err r) = is_later r

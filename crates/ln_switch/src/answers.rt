@@ -1,10 +1,11 @@
 //! What a book is told of a command that a channel's end was given.
 
 ghost use Rattle.std.specs.Prelude.{◌≡◌, option_copied};
-ghost use Rattle.ln_switch.specs.Answers.{next_id, about, answer_to};
+ghost use Rattle.ln_switch.specs.Answers.{next_id, about, answer_to, waits};
 
 use ln_channel::{Channel, Command};
 use ln_msgs::Refusal;
+use ln_tables::is_later;
 
 /// The id of the next HTLC that an end offers; 0 before both have signed its opening. Takes no memory.
 pub fn next_id(end: Option<&Channel>) -> u64
@@ -41,5 +42,16 @@ pub fn answer_to(about: u64, done: Result<(), Refusal>) -> Result<u64, u16>
     match done {
         Ok(()) => Ok(about),
         Err(refusal) => Err(refusal.number()),
+    }
+}
+
+/// Whether a command that was answered so waits: its channel can't take it now, and the book hands it out again. Takes
+/// no memory.
+pub fn waits(answer: Result<u64, u16>) -> bool
+    ensures { result ≡ waits answer }
+{
+    match answer {
+        Ok(_) => false,
+        Err(number) => is_later(number),
     }
 }

@@ -9,7 +9,7 @@ mod saying;
 mod seat;
 mod uses;
 
-pub use answers::{about, answer_to, next_id};
+pub use answers::{about, answer_to, next_id, waits};
 pub use laws::{
     a_refused_offer_fails_back, an_end_takes_payments_where_it_may_offer,
     what_is_lost_is_owed_again, what_is_owed_can_be_taken,

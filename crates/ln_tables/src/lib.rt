@@ -12,4 +12,4 @@ mod tables;
 pub use entry::{Decided, Desk, Entry, Ids, Invoice, Out, OutgoingChannel, Queued, Resumed, Told};
 pub use held::HeldHtlc;
 pub use htlc::{Back, Htlc, Key, Offer, Way};
-pub use tables::Tables;
+pub use tables::{Tables, is_later};

@@ -321,7 +321,7 @@ impl Tables {
             Err(60 | 61) => self.set_desk(channel, Desk::Unsure(out)),
             Err(number) => {
                 self.set_desk(channel, Desk::Idle);
-                if number != 47 && number != 62 {
+                if !is_later(number) {
                     self.refuse(channel, number, out);
                 }
             }
@@ -411,7 +411,7 @@ impl Tables {
 
 ghost use Rattle.std.specs.Prelude.{◌≡◌, ◌<◌, IsTrue};
 ghost use Rattle.std.specs.Vec.{vec_capacity, vec_len};
-ghost use Rattle.ln_tables.specs.Replay.{with_queued, with_offer};
+ghost use Rattle.ln_tables.specs.Replay.{is_later, with_queued, with_offer};
 
 // Makes room for one more of each, and says whether there is.
 fn has_room(queue: &mut Vec<Queued>, htlcs: &mut Vec<Htlc>) -> bool
@@ -460,4 +460,12 @@ fn join(htlcs: &mut Vec<Htlc>, decided: Decided)
         way: Way::Nowhere,
         back: Back::Open,
     });
+}
+
+/// Whether a channel takes a command another time that it has refused by this number: 47, it isn't connected, and 62,
+/// it has halted.
+pub fn is_later(number: u16) -> bool
+    ensures { result ≡ is_later number }
+{
+    number == 47 || number == 62
 }

@@ -21,7 +21,7 @@ use ln_hooks::ChannelEvent;
 use ln_log::ChannelId;
 use ln_msgs::{Message, Refusal};
 use ln_relay::{Receives, Sends};
-use ln_switch::{about, answer_to};
+use ln_switch::{about, answer_to, waits};
 use std::alloc::Global;
 use std::sync::Wait;
 use std::thread;
@@ -347,7 +347,7 @@ where
         stops
     }
 
-    // Takes a command of the book.
+    // Takes a command of the book. One that waits gives nothing to do, and nobody is told.
     fn obey_one<H: Drop, R: Wait>(
         &mut self,
         rt: &R,
@@ -371,18 +371,20 @@ where
         let next = self.worker.end.next_id();
         let about = about(next, &command);
         let halted = self.worker.end.is_halted();
-        *busy = true;
         let obeyed = self.worker.obey(alloc, command);
         let answer = answer_to(about, obeyed.answer);
         self.book.answered(rt, channel, answer);
-        note(
-            rt,
-            &mut self.book,
-            &self.worker,
-            halted,
-            false,
-            obeyed.answer,
-        );
+        if !waits(answer) {
+            *busy = true;
+            note(
+                rt,
+                &mut self.book,
+                &self.worker,
+                halted,
+                false,
+                obeyed.answer,
+            );
+        }
         report(
             rt,
             alloc,
