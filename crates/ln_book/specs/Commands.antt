@@ -14,18 +14,18 @@ use Rattle.ln_forward.specs.declared.failure.Failure.TheVariants as failure
 use Rattle.ln_forward.specs.Failure.{failure_bytes}
 use Rattle.ln_channel.specs.declared.command.Command.{Command}
 use Rattle.ln_channel.specs.declared.command.Command.TheVariants as command
-use Rattle.ln_tables.specs.declared.htlc.Way.{Way}
-use Rattle.ln_tables.specs.declared.htlc.Way.TheVariants as way
-use Rattle.ln_tables.specs.declared.htlc.Htlc.{Htlc}
-use Rattle.ln_tables.specs.declared.entry.Queued.{Queued}
-use Rattle.ln_tables.specs.declared.entry.Out.{Out}
-use Rattle.ln_tables.specs.declared.entry.Out.TheVariants as out
-use Rattle.ln_tables.specs.declared.entry.Desk.{Desk}
-use Rattle.ln_tables.specs.declared.entry.Desk.TheVariants as desk
-use Rattle.ln_tables.specs.declared.entry.Entry.{Entry}
-use Rattle.ln_tables.specs.declared.entry.Entry.TheVariants as entry
+use Rattle.ln_book_tables.specs.declared.htlc.OutgoingLeg.{OutgoingLeg}
+use Rattle.ln_book_tables.specs.declared.htlc.OutgoingLeg.TheVariants as outgoing
+use Rattle.ln_book_tables.specs.declared.htlc.Htlc.{Htlc}
+use Rattle.ln_book_tables.specs.declared.entry.Queued.{Queued}
+use Rattle.ln_book_tables.specs.declared.entry.Out.{Out}
+use Rattle.ln_book_tables.specs.declared.entry.Out.TheVariants as out
+use Rattle.ln_book_tables.specs.declared.entry.PendingCommand.{PendingCommand}
+use Rattle.ln_book_tables.specs.declared.entry.PendingCommand.TheVariants as pending_command
+use Rattle.ln_book_tables.specs.declared.entry.Entry.{Entry}
+use Rattle.ln_book_tables.specs.declared.entry.Entry.TheVariants as entry
 use Rattle.ln_history.specs.History.{History, with_entry}
-use Rattle.ln_tables.specs.Replay.{Table, same, desk_at, is_open, is_settled, is_nowhere}
+use Rattle.ln_book_tables.specs.Replay.{Table, same, pending_command_at, is_open, is_settled, has_nothing_offered}
 
 -- a node's service that opens onions and wraps failures (BOLT 4)
 pub record Services : Type 0 where
@@ -39,11 +39,11 @@ services_of opened wrapped o = record { opened = opened o; wrapped = wrapped o }
 -- ---- what an HTLC is due
 
 -- what has become of it in this channel is known
-abbrev pub is_over_in : List ℕ → Way → Bool
-is_over_in c way.Nowhere = false
-is_over_in c way.Refused = false
-is_over_in c (way.Offered k) = false
-is_over_in c (way.Over k h) = same c k.channel
+abbrev pub is_resolved_in : List ℕ → OutgoingLeg → Bool
+is_resolved_in c outgoing.Absent = false
+is_resolved_in c outgoing.Refused = false
+is_resolved_in c (outgoing.Offered k) = false
+is_resolved_in c (outgoing.Resolved k h) = same c k.channel
 
 abbrev pub forwards_in : List ℕ → Mark → Bool
 forwards_in c mark.None = false
@@ -54,14 +54,14 @@ forwards_in c (mark.Fulfil preimage) = false
 forwards_in c (mark.Held event) = false
 
 -- the outgoing channel has told what becomes of it
-abbrev pub is_told_by : Way → Bool
-is_told_by way.Nowhere = false
-is_told_by way.Refused = true
-is_told_by (way.Offered k) = false
-is_told_by (way.Over k h) = true
+abbrev pub is_told_by : OutgoingLeg → Bool
+is_told_by outgoing.Absent = false
+is_told_by outgoing.Refused = true
+is_told_by (outgoing.Offered k) = false
+is_told_by (outgoing.Resolved k h) = true
 
 -- it is known how it is to be removed
-abbrev pub has_removal : Mark → Way → Bool
+abbrev pub has_removal : Mark → OutgoingLeg → Bool
 has_removal mark.None w = false
 has_removal (mark.Forward d amount expiry) w = is_told_by w
 has_removal (mark.Fail reason) w = true
@@ -74,9 +74,10 @@ has_removal (mark.Held event) w = false
 abbrev pub due : List ℕ → Htlc → Option Out
 due c h =
     if not h.decided then None
-    else (if is_settled h.back then (if is_over_in c h.way then Some (out.Forgetting h.key) else None)
-    else (if is_nowhere h.way && forwards_in c h.mark then Some (out.Adding h.key)
-    else (if has_removal h.mark h.way && (is_open h.back && same c h.key.channel) then Some (out.Removing h.key)
+    else (if is_settled h.incoming then (if is_resolved_in c h.outgoing then Some (out.Forgetting h.key) else None)
+    else (if has_nothing_offered h.outgoing && forwards_in c h.mark then Some (out.Adding h.key)
+    else (if has_removal h.mark h.outgoing && (is_open h.incoming && same c h.key.channel) then Some
+    (out.Removing h.key)
     else None)))
 
 -- ---- its command
@@ -104,37 +105,38 @@ abbrev pub malformed_bytes : List ℕ → ℕ → List ℕ
 malformed_bytes sha code = big_bytes 2 code ++ sha
 
 -- what has become of the outgoing HTLC is passed back
-abbrev pub removal_over : Services → ℕ → How → Command
-removal_over s id (how.Fulfilled preimage) = command.Fulfil id preimage
-removal_over s id (how.Failed reason) = command.Fail id reason
-removal_over s id (how.Malformed sha code) = command.Fail id (s.wrapped (malformed_bytes sha code))
+abbrev pub removal_resolved : Services → ℕ → How → Command
+removal_resolved s id (how.Fulfilled preimage) = command.Fulfil id preimage
+removal_resolved s id (how.Failed reason) = command.Fail id reason
+removal_resolved s id (how.Malformed sha code) = command.Fail id (s.wrapped (malformed_bytes sha code))
 
 -- one that its channel has refused fails by temporary_channel_failure, 0x1007
-abbrev pub removal_by_way : Services → ℕ → Way → Option Command
-removal_by_way s id way.Nowhere = None
-removal_by_way s id way.Refused = Some (command.Fail id (s.wrapped (failure_bytes failure.TemporaryChannelFailure)))
-removal_by_way s id (way.Offered k) = None
-removal_by_way s id (way.Over k h) = Some (removal_over s id h)
+abbrev pub removal_by_outgoing : Services → ℕ → OutgoingLeg → Option Command
+removal_by_outgoing s id outgoing.Absent = None
+removal_by_outgoing s id outgoing.Refused = Some (command.Fail id (s.wrapped
+    (failure_bytes failure.TemporaryChannelFailure)))
+removal_by_outgoing s id (outgoing.Offered k) = None
+removal_by_outgoing s id (outgoing.Resolved k h) = Some (removal_resolved s id h)
 
 abbrev pub removal_by : Services → Htlc → Mark → Option Command
 removal_by s h mark.None = None
-removal_by s h (mark.Forward d amount expiry) = removal_by_way s h.key.id h.way
+removal_by s h (mark.Forward d amount expiry) = removal_by_outgoing s h.key.id h.outgoing
 removal_by s h (mark.Fail reason) = Some (command.Fail h.key.id reason)
 removal_by s h (mark.Malformed code) = Some (command.Malformed h.key.id (sha256 h.offer.onion) code)
 removal_by s h (mark.Fulfil preimage) = Some (command.Fulfil h.key.id preimage)
 removal_by s h (mark.Held event) = None
 
-abbrev pub forget_by : Way → Option Command
-forget_by way.Nowhere = None
-forget_by way.Refused = None
-forget_by (way.Offered k) = None
-forget_by (way.Over k h) = Some (command.Forget k.id)
+abbrev pub forget_by : OutgoingLeg → Option Command
+forget_by outgoing.Absent = None
+forget_by outgoing.Refused = None
+forget_by (outgoing.Offered k) = None
+forget_by (outgoing.Resolved k h) = Some (command.Forget k.id)
 
 abbrev pub command_of : Services → Htlc → Out → Option Command
 command_of s h (out.Deciding n) = None
 command_of s h (out.Adding k) = add_of s h
 command_of s h (out.Removing k) = removal_by s h h.mark
-command_of s h (out.Forgetting k) = forget_by h.way
+command_of s h (out.Forgetting k) = forget_by h.outgoing
 command_of s h (out.Resuming n) = None
 
 abbrev pub with_out : Out → Option Command → Option (Out × Command)
@@ -175,13 +177,13 @@ first_of s c (Some q) hs = Some (queued_command q)
 first_of s c None hs = first_due s c hs
 
 -- none while one is out
-abbrev pub first_at : Services → List ℕ → Desk → Table → Option (Out × Command)
-first_at s c desk.Idle t = first_of s c (find (is_queued_in c) t.queue) t.htlcs
-first_at s c (desk.Out o) t = None
-first_at s c (desk.Unsure o) t = None
+abbrev pub first_at : Services → List ℕ → PendingCommand → Table → Option (Out × Command)
+first_at s c pending_command.Idle t = first_of s c (find (is_queued_in c) t.queue) t.htlcs
+first_at s c (pending_command.InFlight o) t = None
+first_at s c (pending_command.Unknown o) t = None
 
 abbrev pub first_command : Services → List ℕ → Table → Option (Out × Command)
-first_command s c t = first_at s c (desk_at c t) t
+first_command s c t = first_at s c (pending_command_at c t) t
 
 -- ---- what is entered
 
@@ -191,7 +193,7 @@ with_taken c None h = h
 with_taken c (Some x) h = with_entry (entry.Taken c (x.0)) h
 
 -- the answer of a command that is out; nothing where none is
-abbrev pub with_answered : List ℕ → Result ℕ ℕ → Desk → History Table Entry → History Table Entry
-with_answered c a desk.Idle h = h
-with_answered c a (desk.Out o) h = with_entry (entry.Answered c a) h
-with_answered c a (desk.Unsure o) h = h
+abbrev pub with_answered : List ℕ → Result ℕ ℕ → PendingCommand → History Table Entry → History Table Entry
+with_answered c a pending_command.Idle h = h
+with_answered c a (pending_command.InFlight o) h = with_entry (entry.Answered c a) h
+with_answered c a (pending_command.Unknown o) h = h

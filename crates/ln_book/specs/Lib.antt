@@ -1,4 +1,4 @@
 pub mod Commands
-pub mod Errand
+pub mod DueCommand
 pub mod Marks
 pub mod Settled

@@ -25,12 +25,12 @@ use Rattle.ln_forward.specs.declared.checks.Expected.{Expected}
 use Rattle.ln_forward.specs.Checks.{forward_by, missing, final_fault}
 use Rattle.ln_forward.specs.Failure.{failure_bytes}
 use Rattle.ln_forward.specs.Payload.{Hop, payload_at}
-use Rattle.ln_tables.specs.declared.htlc.Offer.{Offer}
-use Rattle.ln_tables.specs.declared.entry.OutgoingChannel.{OutgoingChannel}
-use Rattle.ln_tables.specs.declared.entry.Invoice.{Invoice}
-use Rattle.ln_tables.specs.declared.entry.Decided.{Decided}
-use Rattle.ln_tables.specs.declared.htlc.Htlc.{Htlc}
-use Rattle.ln_tables.specs.Replay.{Table, same, is_usable, held_by}
+use Rattle.ln_book_tables.specs.declared.htlc.Offer.{Offer}
+use Rattle.ln_book_tables.specs.declared.entry.OutgoingChannel.{OutgoingChannel}
+use Rattle.ln_book_tables.specs.declared.entry.Invoice.{Invoice}
+use Rattle.ln_book_tables.specs.declared.entry.Decided.{Decided}
+use Rattle.ln_book_tables.specs.declared.htlc.Htlc.{Htlc}
+use Rattle.ln_book_tables.specs.Replay.{Table, same, is_usable, held_by}
 use Rattle.ln_book.specs.Commands.{Services}
 
 -- what a peer offers, where an event tells of that

@@ -3,15 +3,15 @@ use Rattle.std.specs.Prelude.{ℕ, List, Bool, true, false}
 use Rattle.ln_hooks.specs.declared.event.ChannelEvent.{ChannelEvent}
 use Rattle.ln_hooks.specs.declared.event.ChannelEvent.TheVariants as event
 use Rattle.ln_hooks.specs.declared.event.How.{How}
-use Rattle.ln_tables.specs.declared.htlc.Key.{Key}
-use Rattle.ln_tables.specs.declared.entry.Entry.{Entry}
-use Rattle.ln_tables.specs.declared.entry.Entry.TheVariants as entry
+use Rattle.ln_book_tables.specs.declared.htlc.Key.{Key}
+use Rattle.ln_book_tables.specs.declared.entry.Entry.{Entry}
+use Rattle.ln_book_tables.specs.declared.entry.Entry.TheVariants as entry
 use Rattle.ln_history.specs.History.{History, with_entry}
-use Rattle.ln_tables.specs.Replay.{Table}
+use Rattle.ln_book_tables.specs.Replay.{Table}
 
 -- of an own HTLC what has become of it; of a peer's that it is removed
 abbrev pub settled_entry : Bool → Key → How → Entry
-settled_entry true k how = entry.Over k how
+settled_entry true k how = entry.Resolved k how
 settled_entry false k how = entry.Removed k
 
 -- any other event is none of an HTLC's removal

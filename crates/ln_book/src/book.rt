@@ -1,7 +1,14 @@
 //! The book of a node's forwarded payments.
 
+ghost use Rattle.std.specs.Prelude.{◌≡◌, IfOk, IfErr};
+
 use crate::commands::first_command;
 use crate::marks::{mark_by, mark_of, offer_of};
+use ln_book_recovery::{ChannelSnapshot, Kept, kept_state_of, rebuilt_htlcs};
+use ln_book_tables::{
+    Decided, Entry, HeldHtlc, Invoice, KeptState, Key, Offer, Out, OutgoingChannel, PendingCommand,
+    Resumed, Tables,
+};
 use ln_bytes::ShortId;
 use ln_channel::Command;
 use ln_forward::{Expected, Policy};
@@ -10,13 +17,16 @@ use ln_hooks::{ChannelEvent, How, Verdict};
 use ln_keys::Onion;
 use ln_log::{ChannelId, Mark};
 use ln_msgs::Refusal;
-use ln_readings::{Kept, Reading, rebuilt_htlcs, told_by};
-use ln_tables::{
-    Decided, Desk, Entry, HeldHtlc, Invoice, Key, Offer, Out, OutgoingChannel, Resumed, Tables,
-    Told,
-};
 use std::alloc::Global;
 use std::marker::Model;
+
+// The same mark. Error: 60 alone.
+fn copy_mark(mark: &Mark) -> Result<Mark, Refusal>
+    ensures copy { IfOk result (λ m. m ≡ mark.now) }
+    ensures fails_for_memory_alone { IfErr result (λ r. r ≡ Refusal.Memory) }
+{
+    Ok(mark.clone()?)
+}
 
 /// The book of a node's forwarded payments. Contracts see it as what it began with and what was entered since, of
 /// which its tables are the replay. The history takes no memory: only proofs read it.
@@ -28,9 +38,9 @@ pub struct Book {
 
 impl Model for Book {
     ghost use Rattle.std.specs.Prelude.{◌≡◌};
-    ghost use Rattle.ln_tables.specs.declared.entry.Entry.{Entry};
+    ghost use Rattle.ln_book_tables.specs.declared.entry.Entry.{Entry};
     ghost use Rattle.ln_history.specs.History.{History};
-    ghost use Rattle.ln_tables.specs.Replay.{Table, table_of};
+    ghost use Rattle.ln_book_tables.specs.Replay.{Table, table_of};
 
     ghost Value = { History Table Entry };
 
@@ -42,9 +52,9 @@ impl Model for Book {
 impl Book {
     ghost use Rattle.std.specs.Prelude.{◌≡◌, ◌≤◌, OnOk, OnErr, IfErr};
     ghost use Rattle.ln_bytes.specs.ShortId.{short_id_bytes};
-    ghost use Rattle.ln_tables.specs.declared.entry.Entry.TheVariants as entry;
+    ghost use Rattle.ln_book_tables.specs.declared.entry.Entry.TheVariants as entry;
     ghost use Rattle.ln_history.specs.History.{begun_with, with_entry};
-    ghost use Rattle.ln_tables.specs.Replay.{no_table, table_of, is_usable};
+    ghost use Rattle.ln_book_tables.specs.Replay.{no_table, table_of, is_usable};
 
     /// A book in which nothing stands. Takes no memory.
     pub fn new(alloc: Global) -> Book
@@ -134,10 +144,10 @@ impl Book {
 
 impl Book {
     ghost use Rattle.std.specs.Prelude.{◌≡◌, OnOk, OnErr, IfOk, IfErr, option_map};
-    ghost use Rattle.ln_tables.specs.declared.entry.Entry.TheVariants as entry;
+    ghost use Rattle.ln_book_tables.specs.declared.entry.Entry.TheVariants as entry;
     ghost use Rattle.ln_history.specs.History.{with_entry};
-    ghost use Rattle.ln_tables.specs.Replay.{table_of, desk_at, held_by};
-    ghost use Rattle.ln_tables.specs.Held.{all_held};
+    ghost use Rattle.ln_book_tables.specs.Replay.{table_of, pending_command_at, held_by};
+    ghost use Rattle.ln_book_tables.specs.Held.{all_held};
     ghost use Rattle.ln_book.specs.Commands.{services_of, first_command, with_taken, with_answered};
     ghost use Rattle.std.specs.Prelude.{◌⊎◌, ◌↔◌, IsErrOf, None, Some};
     ghost use Rattle.ln_book.specs.Marks.{offer_of, mark_of, decision, resumption};
@@ -170,9 +180,9 @@ impl Book {
     {
         let offer = offer_of(told);
         let mark = mark_of(alloc, onion, &self.tables, event, offer.as_ref(), verdict)?;
-        let queued = mark.clone()?;
-        let noted = mark.clone()?;
-        let answer = mark.clone()?;
+        let queued = copy_mark(&mark)?;
+        let noted = copy_mark(&mark)?;
+        let answer = copy_mark(&mark)?;
         let decided = Decided {
             channel,
             event,
@@ -255,8 +265,8 @@ impl Book {
             return Err(Refusal::NotReady);
         };
         let mark = mark_by(alloc, onion, &self.tables, event, &offer, verdict)?;
-        let noted = mark.clone()?;
-        let answer = mark.clone()?;
+        let noted = copy_mark(&mark)?;
+        let answer = copy_mark(&mark)?;
         let resumed = Resumed {
             channel,
             event,
@@ -305,7 +315,7 @@ impl Book {
                 if *own {
                     let noted = how.clone()?;
                     let how = how.clone()?;
-                    self.note_over(key, how, noted);
+                    self.note_resolved(key, how, noted);
                 } else {
                     self.note_removed(key);
                 }
@@ -315,12 +325,12 @@ impl Book {
     }
 
     // What has become of an outgoing HTLC; the second one is a copy of the first.
-    fn note_over(&mut self, key: Key, how: How, noted: How)
+    fn note_resolved(&mut self, key: Key, how: How, noted: How)
         requires { noted ≡ how }
-        ensures { self.new ≡ with_entry (entry.Over key how) self.old }
+        ensures { self.new ≡ with_entry (entry.Resolved key how) self.old }
     {
         self.tables.over(key, how);
-        let entry = Entry::Over(key, noted);
+        let entry = Entry::Resolved(key, noted);
         self.history = self.history.and(&entry);
     }
 
@@ -373,9 +383,9 @@ impl Book {
     /// until the channel was dropped; by any other number the command goes, and an HTLC whose offer was refused below
     /// 47 is failed by 0x1007. Where nothing is out nothing changes. Takes no memory.
     pub fn answered(&mut self, channel: ChannelId, answer: Result<u64, u16>)
-        ensures { self.new ≡ with_answered channel answer (desk_at channel (table_of self.old)) self.old }
+        ensures { self.new ≡ with_answered channel answer (pending_command_at channel (table_of self.old)) self.old }
     {
-        if let Desk::Out(_) = self.tables.answered(&channel, answer) {
+        if let PendingCommand::InFlight(_) = self.tables.answered(&channel, answer) {
             self.history = self.history.and(&Entry::Answered(channel, answer));
         }
     }
@@ -383,10 +393,10 @@ impl Book {
 
 impl Book {
     ghost use Rattle.std.specs.Prelude.{◌≡◌, OnOk, OnErr, IfErr};
-    ghost use Rattle.ln_tables.specs.declared.entry.Entry.TheVariants as entry;
+    ghost use Rattle.ln_book_tables.specs.declared.entry.Entry.TheVariants as entry;
     ghost use Rattle.ln_history.specs.History.{with_entry};
-    ghost use Rattle.ln_tables.specs.Replay.{table_of};
-    ghost use Rattle.ln_readings.specs.Kept.{told_by};
+    ghost use Rattle.ln_book_tables.specs.Replay.{table_of};
+    ghost use Rattle.ln_book_recovery.specs.Kept.{kept_state_of};
 
     /// A channel's connection was lost, or the channel was loaded from its record; of one that has halted this is
     /// called behind the load alone. Nothing is out in it any more. A command that the channel has kept was taken; what
@@ -398,18 +408,18 @@ impl Book {
         channel: ChannelId,
         kept: &T,
     ) -> Result<(), Refusal>
-        ensures enters_what_is_kept { OnOk result (self.new ≡ with_entry (entry.Dropped channel (told_by (T.next
+        ensures enters_what_is_kept { OnOk result (self.new ≡ with_entry (entry.Dropped channel (kept_state_of (T.next
             kept.now) (T.removes kept.now) (T.decides kept.now) channel (table_of self.old))) self.old) }
         ensures changes_nothing_if_refused { OnErr result (self.new ≡ self.old) }
         ensures fails_for_memory_alone { IfErr result (λ r. r ≡ Refusal.Memory) }
     {
-        let told = told_by(alloc, kept, &channel, &self.tables)?;
+        let told = kept_state_of(alloc, kept, &channel, &self.tables)?;
         self.note_dropped(channel, told);
         Ok(())
     }
 
     // A channel has told what it has kept.
-    fn note_dropped(&mut self, channel: ChannelId, told: Told)
+    fn note_dropped(&mut self, channel: ChannelId, told: KeptState)
         ensures { self.new ≡ with_entry (entry.Dropped channel told) self.old }
     {
         self.tables.dropped(&channel, &told);
@@ -421,8 +431,8 @@ impl Book {
 impl Book {
     ghost use Rattle.std.specs.Prelude.{◌≡◌, OnOk, OnErr, IfErr};
     ghost use Rattle.ln_history.specs.History.{begun_with};
-    ghost use Rattle.ln_tables.specs.Replay.{table_of};
-    ghost use Rattle.ln_readings.specs.Rebuild.{rebuilt};
+    ghost use Rattle.ln_book_tables.specs.Replay.{table_of};
+    ghost use Rattle.ln_book_recovery.specs.Rebuild.{rebuilt};
 
     /// Begins anew with what these channels have, those of the node in the order of their numbers: each is there as it
     /// was loaded, without what no signature covered. Settings stay; nothing is queued, and nothing is out. An HTLC of
@@ -430,12 +440,12 @@ impl Book {
     /// that has a removal and goes nowhere was refused, and isn't offered again; one that is finished is left out. A
     /// result whose decision is gone is left to be forgotten (BOLT 2, "Forwarding HTLCs"). Takes memory. Error: 60
     /// alone, which changes nothing.
-    pub fn rebuild(&mut self, alloc: Global, readings: &[Reading]) -> Result<(), Refusal>
-        ensures begins_anew { OnOk result (self.new ≡ begun_with (rebuilt (table_of self.old) readings.now)) }
+    pub fn rebuild(&mut self, alloc: Global, snapshots: &[ChannelSnapshot]) -> Result<(), Refusal>
+        ensures begins_anew { OnOk result (self.new ≡ begun_with (rebuilt (table_of self.old) snapshots.now)) }
         ensures changes_nothing_if_refused { OnErr result (self.new ≡ self.old) }
         ensures fails_for_memory_alone { IfErr result (λ r. r ≡ Refusal.Memory) }
     {
-        let htlcs = rebuilt_htlcs(alloc, readings)?;
+        let htlcs = rebuilt_htlcs(alloc, snapshots)?;
         self.tables.begin(alloc, htlcs);
         self.history = Past::begun(&self.tables);
         Ok(())

@@ -3,15 +3,17 @@
 ghost use Rattle.std.specs.Prelude.{◌≡◌, IfOk, IfErr, IfSome, Some, length, option_copied, option_map};
 ghost use Rattle.std.specs.List.{find};
 ghost use Rattle.ln_forward.specs.Failure.{failure_bytes};
-ghost use Rattle.ln_book.specs.Commands.{services_of, next_of, add_of, malformed_bytes, removal_over, removal_by_way};
+ghost use Rattle.ln_book.specs.Commands.{services_of, next_of, add_of, malformed_bytes, removal_resolved};
+ghost use Rattle.ln_book.specs.Commands.{removal_by_outgoing};
 ghost use Rattle.ln_book.specs.Commands.{removal_by, forget_by, command_of, command_by, due, first_due, is_queued_in};
 ghost use Rattle.ln_book.specs.Commands.{queued_command};
-ghost use Rattle.ln_book.specs.Errand.{out_by};
-ghost use Rattle.ln_book.specs.Commands.{is_over_in, is_told_by, forwards_in, has_removal, first_of, first_command};
+ghost use Rattle.ln_book.specs.DueCommand.{out_by};
+ghost use Rattle.ln_book.specs.Commands.{is_resolved_in, is_told_by, forwards_in, has_removal, first_of, first_command};
 ghost use Rattle.ln_book.specs.Commands.{unboxed};
-ghost use Rattle.ln_tables.specs.Replay.{is_open, is_nowhere};
+ghost use Rattle.ln_book_tables.specs.Replay.{is_open, has_nothing_offered};
 
 use byteorder::{BigEndian, ByteOrder};
+use ln_book_tables::{Htlc, IncomingLeg, Key, Out, OutgoingLeg, PendingCommand, Queued, Tables};
 use ln_bytes::Bytes;
 use ln_channel::Command;
 use ln_forward::Failure;
@@ -19,7 +21,6 @@ use ln_hooks::How;
 use ln_keys::{Onion, OpenFault, Opened, sha256_32};
 use ln_log::{ChannelId, Mark};
 use ln_msgs::Refusal;
-use ln_tables::{Back, Desk, Htlc, Key, Out, Queued, Tables, Way};
 use std::alloc::Global;
 
 /// A failure as it goes back (BOLT 4, "Returning Errors"). Error: 60 alone.
@@ -38,41 +39,41 @@ pub(crate) fn wrapped<O: Onion>(
 }
 
 // Whether nothing was offered, and nothing was refused.
-fn is_nowhere(way: &Way) -> bool
-    ensures { result ≡ is_nowhere way.now }
+fn has_nothing_offered(outgoing: &OutgoingLeg) -> bool
+    ensures { result ≡ has_nothing_offered outgoing.now }
 {
-    match way {
-        Way::Nowhere => true,
-        Way::Refused | Way::Offered(_) | Way::Over(_, _) => false,
+    match outgoing {
+        OutgoingLeg::Absent => true,
+        OutgoingLeg::Refused | OutgoingLeg::Offered(_) | OutgoingLeg::Resolved(_, _) => false,
     }
 }
 
 // Whether it is known what has become of it in this channel.
-fn is_over_in(channel: &ChannelId, way: &Way) -> bool
-    ensures { result ≡ is_over_in channel.now way.now }
+fn is_resolved_in(channel: &ChannelId, outgoing: &OutgoingLeg) -> bool
+    ensures { result ≡ is_resolved_in channel.now outgoing.now }
 {
-    match way {
-        Way::Nowhere | Way::Refused | Way::Offered(_) => false,
-        Way::Over(key, _) => channel == &key.channel,
+    match outgoing {
+        OutgoingLeg::Absent | OutgoingLeg::Refused | OutgoingLeg::Offered(_) => false,
+        OutgoingLeg::Resolved(key, _) => channel == &key.channel,
     }
 }
 
 // Whether the outgoing channel has told what becomes of it.
-fn is_told(way: &Way) -> bool
-    ensures { result ≡ is_told_by way.now }
+fn is_told(outgoing: &OutgoingLeg) -> bool
+    ensures { result ≡ is_told_by outgoing.now }
 {
-    match way {
-        Way::Nowhere | Way::Offered(_) => false,
-        Way::Refused | Way::Over(_, _) => true,
+    match outgoing {
+        OutgoingLeg::Absent | OutgoingLeg::Offered(_) => false,
+        OutgoingLeg::Refused | OutgoingLeg::Resolved(_, _) => true,
     }
 }
 
-fn is_open(back: Back) -> bool
-    ensures { result ≡ is_open back }
+fn is_open(incoming: IncomingLeg) -> bool
+    ensures { result ≡ is_open incoming }
 {
-    match back {
-        Back::Open => true,
-        Back::Sent | Back::Gone | Back::Settled => false,
+    match incoming {
+        IncomingLeg::Open => true,
+        IncomingLeg::RemovalSent | IncomingLeg::RemovalRefused | IncomingLeg::Settled => false,
     }
 }
 
@@ -85,36 +86,36 @@ fn forwards_in(channel: &ChannelId, mark: &Mark) -> bool
     }
 }
 
-fn has_removal(mark: &Mark, way: &Way) -> bool
-    ensures { result ≡ has_removal mark.now way.now }
+fn has_removal(mark: &Mark, outgoing: &OutgoingLeg) -> bool
+    ensures { result ≡ has_removal mark.now outgoing.now }
 {
     match mark {
         Mark::None | Mark::Held(_) => false,
-        Mark::Forward { .. } => is_told(way),
+        Mark::Forward { .. } => is_told(outgoing),
         Mark::Fail(_) | Mark::Malformed(_) | Mark::Fulfil(_) => true,
     }
 }
 
 // What an HTLC is due.
 #[derive(Clone, Copy)]
-enum Errand {
+enum DueCommand {
     Add,
     Remove,
     Forget,
 }
 
-impl Errand {
+impl DueCommand {
     ghost use Rattle.std.specs.Prelude.{◌≡◌};
-    ghost use Rattle.ln_book.specs.Errand.{out_by};
+    ghost use Rattle.ln_book.specs.DueCommand.{out_by};
 
     // What its command does.
     fn out(self, key: Key) -> Out
         ensures { result ≡ out_by key self }
     {
         match self {
-            Errand::Add => Out::Adding(key),
-            Errand::Remove => Out::Removing(key),
-            Errand::Forget => Out::Forgetting(key),
+            DueCommand::Add => Out::Adding(key),
+            DueCommand::Remove => Out::Removing(key),
+            DueCommand::Forget => Out::Forgetting(key),
         }
     }
 }
@@ -122,10 +123,13 @@ impl Errand {
 // What an HTLC is due in this channel. It is asked of each HTLC: mostly one that waits for its outgoing one, to which
 // nothing is due in any channel.
 #[inline(always)]
-fn due(channel: &ChannelId, htlc: &Htlc) -> Option<Errand>
+fn due(channel: &ChannelId, htlc: &Htlc) -> Option<DueCommand>
     ensures { option_map (out_by htlc.now.key) result ≡ due channel.now htlc.now }
 {
-    if has_removal(&htlc.mark, &htlc.way) || is_nowhere(&htlc.way) || htlc.back.is_settled() {
+    if has_removal(&htlc.mark, &htlc.outgoing)
+        || has_nothing_offered(&htlc.outgoing)
+        || htlc.incoming.is_settled()
+    {
         due_in(channel, htlc)
     } else {
         None
@@ -134,20 +138,20 @@ fn due(channel: &ChannelId, htlc: &Htlc) -> Option<Errand>
 
 // What an HTLC is due in this channel, by what its mark, its way and its removal say.
 #[inline(never)]
-fn due_in(channel: &ChannelId, htlc: &Htlc) -> Option<Errand>
+fn due_in(channel: &ChannelId, htlc: &Htlc) -> Option<DueCommand>
     ensures { option_map (out_by htlc.now.key) result ≡ due channel.now htlc.now }
 {
     if !htlc.decided {
         None
-    } else if htlc.back.is_settled() {
-        is_over_in(channel, &htlc.way).then_some(Errand::Forget)
-    } else if is_nowhere(&htlc.way) && forwards_in(channel, &htlc.mark) {
-        Some(Errand::Add)
-    } else if has_removal(&htlc.mark, &htlc.way)
-        && is_open(htlc.back)
+    } else if htlc.incoming.is_settled() {
+        is_resolved_in(channel, &htlc.outgoing).then_some(DueCommand::Forget)
+    } else if has_nothing_offered(&htlc.outgoing) && forwards_in(channel, &htlc.mark) {
+        Some(DueCommand::Add)
+    } else if has_removal(&htlc.mark, &htlc.outgoing)
+        && is_open(htlc.incoming)
         && channel == &htlc.key.channel
     {
-        Some(Errand::Remove)
+        Some(DueCommand::Remove)
     } else {
         None
     }
@@ -230,13 +234,14 @@ fn malformed_bytes(alloc: Global, sha: &[u8; 32], code: u16) -> Result<Vec<u8>, 
 }
 
 // The command that passes back what has become of it. Error: 60 alone.
-fn removal_over<O: Onion>(
+fn removal_resolved<O: Onion>(
     alloc: Global,
     onion: &O,
     id: u64,
     how: &How,
 ) -> Result<Option<Box<Command>>, Refusal>
-    ensures command { IfOk result (λ c. option_map (λ b. b.value) c ≡ Some (removal_over (services_of O.opened O.wrapped
+    ensures command { IfOk result (λ c. option_map (λ b. b.value) c
+        ≡ Some (removal_resolved (services_of O.opened O.wrapped
         onion.now) id how.now)) }
     ensures fails_for_memory_alone { IfErr result (λ r. r ≡ Refusal.Memory) }
 {
@@ -258,23 +263,24 @@ fn removal_over<O: Onion>(
 }
 
 // The command that removes it, by its way. Error: 60 alone.
-fn removal_by_way<O: Onion>(
+fn removal_by_outgoing<O: Onion>(
     alloc: Global,
     onion: &O,
     id: u64,
-    way: &Way,
+    outgoing: &OutgoingLeg,
 ) -> Result<Option<Box<Command>>, Refusal>
-    ensures command { IfOk result (λ c. option_map (λ b. b.value) c ≡ removal_by_way (services_of O.opened O.wrapped
-        onion.now) id way.now) }
+    ensures command { IfOk result (λ c. option_map (λ b. b.value) c
+        ≡ removal_by_outgoing (services_of O.opened O.wrapped
+        onion.now) id outgoing.now) }
     ensures fails_for_memory_alone { IfErr result (λ r. r ≡ Refusal.Memory) }
 {
-    match way {
-        Way::Nowhere | Way::Offered(_) => Ok(None),
-        Way::Refused => {
+    match outgoing {
+        OutgoingLeg::Absent | OutgoingLeg::Offered(_) => Ok(None),
+        OutgoingLeg::Refused => {
             let reason = wrapped(alloc, onion, &Failure::TemporaryChannelFailure)?;
             boxed(alloc, Command::Fail { id, reason })
         }
-        Way::Over(_, how) => removal_over(alloc, onion, id, how),
+        OutgoingLeg::Resolved(_, how) => removal_resolved(alloc, onion, id, how),
     }
 }
 
@@ -291,7 +297,7 @@ fn removal_of<O: Onion>(
     let id = htlc.key.id;
     match &htlc.mark {
         Mark::None | Mark::Held(_) => Ok(None),
-        Mark::Forward { .. } => removal_by_way(alloc, onion, id, &htlc.way),
+        Mark::Forward { .. } => removal_by_outgoing(alloc, onion, id, &htlc.outgoing),
         Mark::Fail(reason) => {
             let reason = reason.clone()?;
             boxed(alloc, Command::Fail { id, reason })
@@ -309,13 +315,13 @@ fn removal_of<O: Onion>(
 }
 
 // The command that forgets what has become of it. Error: 60 alone.
-fn forget_of(alloc: Global, way: &Way) -> Result<Option<Box<Command>>, Refusal>
-    ensures command { IfOk result (λ c. option_map (λ b. b.value) c ≡ forget_by way.now) }
+fn forget_of(alloc: Global, outgoing: &OutgoingLeg) -> Result<Option<Box<Command>>, Refusal>
+    ensures command { IfOk result (λ c. option_map (λ b. b.value) c ≡ forget_by outgoing.now) }
     ensures fails_for_memory_alone { IfErr result (λ r. r ≡ Refusal.Memory) }
 {
-    match way {
-        Way::Nowhere | Way::Refused | Way::Offered(_) => Ok(None),
-        Way::Over(key, _) => boxed(alloc, Command::Forget(key.id)),
+    match outgoing {
+        OutgoingLeg::Absent | OutgoingLeg::Refused | OutgoingLeg::Offered(_) => Ok(None),
+        OutgoingLeg::Resolved(key, _) => boxed(alloc, Command::Forget(key.id)),
     }
 }
 
@@ -334,7 +340,7 @@ fn command_of<O: Onion>(
         Out::Deciding(_) | Out::Resuming(_) => Ok(None),
         Out::Adding(_) => add_of(alloc, onion, htlc),
         Out::Removing(_) => removal_of(alloc, onion, htlc),
-        Out::Forgetting(_) => forget_of(alloc, &htlc.way),
+        Out::Forgetting(_) => forget_of(alloc, &htlc.outgoing),
     }
 }
 
@@ -367,10 +373,10 @@ fn first_due<O: Onion>(
     ensures fails_for_memory_alone { IfErr result (λ r. r ≡ Refusal.Memory) }
 {
     for htlc in htlcs {
-        let Some(errand) = due(channel, htlc) else {
+        let Some(due_command) = due(channel, htlc) else {
             continue;
         };
-        if let Some(found) = command_by(alloc, onion, htlc, errand.out(htlc.key))? {
+        if let Some(found) = command_by(alloc, onion, htlc, due_command.out(htlc.key))? {
             return Ok(Some(found));
         }
     }
@@ -429,9 +435,9 @@ pub(crate) fn first_command<O: Onion>(
         channel.now tables.now) }
     ensures fails_for_memory_alone { IfErr result (λ r. r ≡ Refusal.Memory) }
 {
-    match tables.desk(channel) {
-        Desk::Out(_) | Desk::Unsure(_) => Ok(None),
-        Desk::Idle => {
+    match tables.pending_command(channel) {
+        PendingCommand::InFlight(_) | PendingCommand::Unknown(_) => Ok(None),
+        PendingCommand::Idle => {
             let queued = first_queued(channel, tables.queue());
             first_of(alloc, onion, channel, queued, tables.htlcs())
         }

@@ -10,6 +10,7 @@ ghost use Rattle.ln_book.specs.Marks.{read_hop};
 ghost use Rattle.ln_book.specs.Marks.{opened_mark, mark_by, mark_of};
 
 use crate::commands::wrapped;
+use ln_book_tables::{Invoice, Offer, OutgoingChannel, Tables};
 use ln_bytes::{Fault, ShortId};
 use ln_forward::{
     Failure, Incoming, Payload, Policy, Route, check_final, check_forward, read_payload,
@@ -18,7 +19,6 @@ use ln_hooks::{ChannelEvent, FailureCode, Verdict};
 use ln_keys::{Onion, OpenFault, Opened};
 use ln_log::Mark;
 use ln_msgs::Refusal;
-use ln_tables::{Invoice, Offer, OutgoingChannel, Tables};
 use std::alloc::Global;
 
 /// What a peer offers, where an event tells of that.

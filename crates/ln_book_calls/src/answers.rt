@@ -1,7 +1,7 @@
 //! What a channel answers behind a lost connection.
 
+use ln_book_recovery::Kept;
 use ln_log::Mark;
-use ln_readings::Kept;
 
 /// The next own id, the HTLCs of which a removal was kept, and how many events are decided.
 #[derive(Drop)]
@@ -13,7 +13,7 @@ pub struct Answers {
 
 impl Kept for Answers {
     ghost use Rattle.std.specs.Prelude.{nat_lt};
-    ghost use Rattle.ln_tables.specs.Replay.{is_among};
+    ghost use Rattle.ln_book_tables.specs.Replay.{is_among};
 
     ghost next = { λ a. a.next };
 

@@ -1,14 +1,16 @@
 //! The two ends of a channel: the node's own, which funds it, and its peer's.
 
 use ln_bytes::{Bytes, ShortId};
-use ln_channel::{Channel, Command, Config, FitConfig, FitSpec, OpenSpec, Output, Points, Unsaved};
+use ln_channel::{
+    Channel, ChannelMachine, Command, Config, FitConfig, FitSpec, OpenSpec, Output, Points,
+};
 use ln_hooks::ChannelEvent;
 use ln_keys::ToyKeys;
 use ln_log::Limits;
 use ln_msgs::{Message, Records, Refusal};
 use std::alloc::Global;
 
-type End = Unsaved<ToyKeys>;
+type End = ChannelMachine<ToyKeys>;
 
 /// An event of the node's end, with its number.
 #[derive(Drop)]
@@ -93,7 +95,10 @@ fn funder(alloc: Global, channel: [u8; 32]) -> Result<Box<End>, Refusal> {
         records: Records::empty(alloc),
     };
     if spec.fits() {
-        boxed(alloc, Unsaved::funder(keys(1, 2), FitSpec::new(spec)))
+        boxed(
+            alloc,
+            ChannelMachine::funder(keys(1, 2), FitSpec::new(spec)),
+        )
     } else {
         drop(spec);
         Err(Refusal::NotReady)
@@ -104,7 +109,10 @@ fn funder(alloc: Global, channel: [u8; 32]) -> Result<Box<End>, Refusal> {
 fn fundee(alloc: Global) -> Result<Box<End>, Refusal> {
     let config = config(alloc);
     if config.fits() {
-        boxed(alloc, Unsaved::fundee(keys(2, 1), FitConfig::new(config)))
+        boxed(
+            alloc,
+            ChannelMachine::fundee(keys(2, 1), FitConfig::new(config)),
+        )
     } else {
         drop(config);
         Err(Refusal::NotReady)
@@ -207,7 +215,7 @@ impl Ends {
 
     /// What the node's end needn't keep one by one any more is left out.
     pub fn settle(&mut self, alloc: Global) -> Result<(), Refusal> {
-        self.own.settle_base(alloc)
+        self.own.compact(alloc)
     }
 
     /// The node's end, as a book asks it.

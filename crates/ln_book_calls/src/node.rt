@@ -5,12 +5,12 @@ use crate::line::{at, bytes_of, wide};
 use crate::onion::onion_of;
 use crate::show::show_command;
 use ln_book::Book;
+use ln_book_recovery::{ChannelSnapshot, Kept};
 use ln_channel::Command;
 use ln_hooks::Verdict;
 use ln_keys::{ToyOnion, sha256_32};
 use ln_log::ChannelId;
 use ln_msgs::Refusal;
-use ln_readings::{Kept, Reading};
 use std::alloc::{AllocError, Global};
 
 /// A channel of the node's.
@@ -65,12 +65,15 @@ fn signing_of(number: u64) -> Signing {
 }
 
 /// Reads off the ends of all channels.
-fn readings_of(alloc: Global, channels: &[NodeChannel]) -> Result<Vec<Reading>, Refusal> {
+fn channel_snapshots_of(
+    alloc: Global,
+    channels: &[NodeChannel],
+) -> Result<Vec<ChannelSnapshot>, Refusal> {
     let mut all = Vec::new(alloc);
     for one in channels {
         match one.ends.channel() {
             None => {}
-            Some(channel) => all.push(Reading::of(alloc, channel)?)?,
+            Some(channel) => all.push(ChannelSnapshot::of(alloc, channel)?)?,
         }
     }
     Ok(all)
@@ -235,8 +238,8 @@ impl Node {
         for one in self.channels.iter_mut() {
             one.ends.cut();
         }
-        let readings = readings_of(alloc, self.channels.as_slice())?;
-        self.book.rebuild(alloc, readings.as_slice())?;
+        let snapshots = channel_snapshots_of(alloc, self.channels.as_slice())?;
+        self.book.rebuild(alloc, snapshots.as_slice())?;
         Ok(self.channels.len())
     }
 

@@ -1,9 +1,9 @@
 //! Commands and marks as texts.
 
+use ln_book_tables::HeldHtlc;
 use ln_bytes::Bytes;
 use ln_channel::Command;
 use ln_log::Mark;
-use ln_tables::HeldHtlc;
 use sha2::{Digest, Sha256};
 use std::alloc::{AllocError, Global};
 use std::fmt::Write;

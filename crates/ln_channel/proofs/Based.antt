@@ -10,7 +10,7 @@ use Rattle.ln_log.specs.Window.{may_be_base, after_advance}
 use Rattle.ln_dance.specs.Dance.{Dancer, with_log}
 use Rattle.ln_channel.specs.Ledger.{Ledger}
 use Rattle.ln_channel.specs.End.{End}
-use Rattle.ln_channel.specs.declared.unsaved.Stage.{Stage}
+use Rattle.ln_channel.specs.declared.machine.Stage.{Stage}
 use Rattle.ln_channel.specs.State.{State}
 use Rattle.ln_channel.specs.Base.{allowed, is_open, without_removed, based, based_stage}
 use Rattle.ln_channel.specs.Base.{based_link}

@@ -25,7 +25,7 @@ pub handed_out : {K V : Type 0} (views : Bool) (outs : V → List Output) (said 
     → AnsweredBy views outs said l after r n
 handed_out views outs (Ok d) l m n after h (Ok v) reached same o e halted fails = (
   o ∙ reached.0,
-  subst (λ (x : State _). StandsFor x (record l { line = d.line; stage = d.stage })) (sym e) reached.1,
+  subst (λ (x : State _). StandsFor x (record l { connection = d.connection; stage = d.stage })) (sym e) reached.1,
 )
 handed_out views outs (Ok d) l m n after h (Err x) reached same o e halted fails =
     inl ((fails, inl refl), halted l same)
@@ -47,18 +47,18 @@ viewed_by l m f = ap (λ (o : Option Refusal). is_none o && is_viewed m) f
 -- ---- what is said of a link that hasn't halted
 
 pub handled_by : {K : Type 0} (keys : Signer) (l : State K) (m : Message) → l.halted ≡ false → l.failure ≡ None
-    → handled keys l m ≡ at_hand keys l.line m l.stage
+    → handled keys l m ≡ at_hand keys l.connection m l.stage
 handled_by keys l m h f =
-    ap (λ (b : Bool). if b then Err refusal.Halted else faulted l.failure (at_hand keys l.line m l.stage)) h
-    ∙ ap (λ (o : Option Refusal). faulted o (at_hand keys l.line m l.stage)) f
+    ap (λ (b : Bool). if b then Err refusal.Halted else faulted l.failure (at_hand keys l.connection m l.stage)) h
+    ∙ ap (λ (o : Option Refusal). faulted o (at_hand keys l.connection m l.stage)) f
 
 pub commanded_by : {K : Type 0} (keys : Signer) (l : State K) (c : Command) → l.halted ≡ false
     → commanded keys l c ≡ asked keys l c
 commanded_by keys l c h = ap (λ (b : Bool). if b then Err refusal.Halted else asked keys l c) h
 
-pub connected_by : {K : Type 0} (keys : Signer) (l : State K) → l.halted ≡ false → is_down l.line ≡ true
+pub connected_by : {K : Type 0} (keys : Signer) (l : State K) → l.halted ≡ false → is_down l.connection ≡ true
     → connected keys l ≡ connects keys l.stage
 connected_by keys l h d =
     ap (λ (b : Bool). if b then Err refusal.Halted
-    else (if is_down l.line then connects keys l.stage else Err refusal.NotReady)) h
+    else (if is_down l.connection then connects keys l.stage else Err refusal.NotReady)) h
     ∙ ap (λ (b : Bool). if b then connects keys l.stage else Err refusal.NotReady) d

@@ -9,9 +9,9 @@ use Rattle.ln_msgs.specs.declared.messages.opening.FundingSigned.{FundingSigned}
 use Rattle.ln_keys.specs.Signer.{Signer}
 use Rattle.ln_close.specs.declared.closing.FeeAnswer.{FeeAnswer}
 use Rattle.ln_close.specs.Closing.{answer_to}
-use Rattle.ln_channel.specs.declared.unsaved.LineState.{LineState}
-use Rattle.ln_channel.specs.declared.unsaved.Stage.{Stage}
-use Rattle.ln_channel.specs.declared.unsaved.Stage.TheVariants as stage
+use Rattle.ln_channel.specs.declared.machine.ConnectionState.{ConnectionState}
+use Rattle.ln_channel.specs.declared.machine.Stage.{Stage}
+use Rattle.ln_channel.specs.declared.machine.Stage.TheVariants as stage
 use Rattle.ln_channel.specs.Opening.{first_fault, unless}
 use Rattle.ln_channel.specs.Outputs.{Handed, nothing, all_of}
 use Rattle.ln_channel.specs.End.{End, Turn, StandsFor, IsTurn, MakesBy, has_begun}
@@ -19,12 +19,12 @@ use Rattle.ln_channel.specs.Taking.{fee_row, range_in, answered, answering, answ
 use Rattle.ln_channel.specs.State.{StageStands, is_saved, KeepsChannel}
 use Rattle.ln_channel.specs.Step.{Done, turned, signed_at, IsDone, MovesEnd}
 
-saved_stands : (kept e : End) → StandsFor kept e → StageStands (stage.Saved kept) (stage.Saved e)
-saved_stands kept e s = ap stage.Saved s
+saved_stands : (kept e : End) → StandsFor kept e → StageStands (stage.Funded kept) (stage.Funded e)
+saved_stands kept e s = ap stage.Funded s
 
 -- what it hands out, with the line that is left
-pub turned_so : (l : LineState) (row : Result Turn Refusal) (h : Handed) (new : End) → IsTurn row h new
-    → IsDone (turned l row) h l (stage.Saved new)
+pub turned_so : (l : ConnectionState) (row : Result Turn Refusal) (h : Handed) (new : End) → IsTurn row h new
+    → IsDone (turned l row) h l (stage.Funded new)
 turned_so l (Ok t) h new x = (refl, saved_stands new t.end x.0, ap all_of x.1)
 turned_so l (Err r) h new x = absurd x
 
@@ -35,15 +35,15 @@ same_refusal : (f r : Refusal) → refusing f ≡ refusing r → f ≡ r
 same_refusal f r e = cc
 
 -- it is refused
-pub refused_so : (views : Bool) (m l l' : LineState) (row : Result Turn Refusal) (r : Refusal) (old new : End)
+pub refused_so : (views : Bool) (m l l' : ConnectionState) (row : Result Turn Refusal) (r : Refusal) (old new : End)
     → MakesBy views row (Err r) old new → l' ≡ l → MovesEnd views (turned m row) (Err r) l l' old new
-refused_so views m l l' (Ok t) r old new (inl x) line = inl x
-refused_so views m l l' (Ok t) r old new (inr x) line = absurd (let p = x.0 in cc)
-refused_so views m l l' (Err f) r old new (inl x) line = inl x
-refused_so views m l l' (Err f) r old new (inr x) line = inr (ap Err (same_refusal f r x.0), line, x.1)
+refused_so views m l l' (Ok t) r old new (inl x) connection = inl x
+refused_so views m l l' (Ok t) r old new (inr x) connection = absurd (let p = x.0 in cc)
+refused_so views m l l' (Err f) r old new (inl x) connection = inl x
+refused_so views m l l' (Err f) r old new (inr x) connection = inr (ap Err (same_refusal f r x.0), connection, x.1)
 
 -- with the line as it is
-pub moves_so : (views : Bool) (l : LineState) (row : Result Turn Refusal) (answer : Result Handed Refusal)
+pub moves_so : (views : Bool) (l : ConnectionState) (row : Result Turn Refusal) (answer : Result Handed Refusal)
     (old new : End) → MakesBy views row answer old new → MovesEnd views (turned l row) answer l l old new
 moves_so views l row (Ok h) old new x = turned_so l row h new x
 moves_so views l row (Err r) old new x = refused_so views l l l row r old new x refl
@@ -52,12 +52,12 @@ moves_so views l row (Err r) old new x = refused_so views l l l row r old new x 
 
 -- it has no channel yet
 pub none_kept : (s s' : Stage) → is_saved s ≡ false → KeepsChannel s s'
-none_kept (stage.Saved e) s' unsaved = λ channel is. absurd (cc)
-none_kept (stage.AwaitsSigned e) s' unsaved = λ channel is. absurd (cc)
-none_kept (stage.AwaitsOpen c) s' unsaved = λ channel is. absurd (cc)
-none_kept (stage.AwaitsAccept x) s' unsaved = λ channel is. absurd (cc)
-none_kept (stage.AwaitsCreated a) s' unsaved = λ channel is. absurd (cc)
-none_kept stage.Gone s' unsaved = λ channel is. absurd (cc)
+none_kept (stage.Funded e) s' channel_machine = λ channel is. absurd (cc)
+none_kept (stage.AwaitsSigned e) s' channel_machine = λ channel is. absurd (cc)
+none_kept (stage.AwaitsOpen c) s' channel_machine = λ channel is. absurd (cc)
+none_kept (stage.AwaitsAccept x) s' channel_machine = λ channel is. absurd (cc)
+none_kept (stage.AwaitsCreated a) s' channel_machine = λ channel is. absurd (cc)
+none_kept stage.Gone s' channel_machine = λ channel is. absurd (cc)
 
 -- ---- a turn, by its parts
 
@@ -80,11 +80,11 @@ fee_answered keys m e a begun right told =
     ∙ ap looked right ∙ ap (answered keys m e) told
 
 -- the funder's end, once the fundee has signed
-pub signed_so : (keys : Signer) (l : LineState) (m : FundingSigned) (kept : End) (now new s : Stage) (h : Handed)
+pub signed_so : (keys : Signer) (l : ConnectionState) (m : FundingSigned) (kept : End) (now new s : Stage) (h : Handed)
     → now ≡ stage.AwaitsSigned kept → StageStands now s → first_fault keys kept.dance m.signature ≡ None
-    → StageStands new (stage.Saved kept) → h ≡ nothing → IsDone (signed_at keys l m s) h l new
+    → StageStands new (stage.Funded kept) → h ≡ nothing → IsDone (signed_at keys l m s) h l new
 signed_so keys l m kept now new s h is stands right saves none =
     let done : Option Refusal → Result Done Refusal = λ f.
-    unless f (record { line = l; stage = stage.Saved kept; outputs = [] }) in
+    unless f (record { connection = l; stage = stage.Funded kept; outputs = [] }) in
     subst (λ (x : Stage). IsDone (signed_at keys l m x) h l new) (sym is ∙ stands)
     (subst (λ (f : Option Refusal). IsDone (done f) h l new) (sym right) (refl, saves, ap all_of none))

@@ -9,8 +9,8 @@ use Rattle.ln_log.specs.Updates.{outcome, is_live}
 use Rattle.ln_log.specs.Log.{Counts, between}
 use Rattle.ln_log.specs.Window.{moved_base}
 use Rattle.ln_dance.specs.Dance.{with_log}
-use Rattle.ln_channel.specs.declared.unsaved.Stage.{Stage}
-use Rattle.ln_channel.specs.declared.unsaved.Stage.TheVariants as stage
+use Rattle.ln_channel.specs.declared.machine.Stage.{Stage}
+use Rattle.ln_channel.specs.declared.machine.Stage.TheVariants as stage
 use Rattle.ln_channel.specs.Ledger.{Ledger}
 use Rattle.ln_channel.specs.End.{End}
 use Rattle.ln_channel.specs.State.{State}
@@ -79,7 +79,7 @@ based e = record e {
 
 -- once both have signed the opening
 abbrev pub based_stage : Stage → Stage
-based_stage (stage.Saved e) = stage.Saved (based e)
+based_stage (stage.Funded e) = stage.Funded (based e)
 based_stage s = s
 
 abbrev pub based_link : {K : Type 0} → State K → State K

@@ -29,17 +29,17 @@ use Rattle.ln_channel.specs.End.{shutdown_message}
 -- ---- Confirm: the funding is deep enough (BOLT 2, "The channel_ready Message")
 
 abbrev pub confirm_fault : End → Option Refusal
-confirm_fault e = if e.marks.ready_sent || is_closed e then Some refusal.NotReady else None
+confirm_fault e = if e.readiness.ready_sent || is_closed e then Some refusal.NotReady else None
 
 abbrev pub ready_message : Signer → End → ChannelReady
 ready_message keys e = record { channel_id = e.dance.channel; second_point = keys.point_of 1; records = [] }
 
 abbrev pub confirmed : ShortId → End → End
 confirmed id e = record e {
-  marks = record {
+  readiness = record {
     short_id = Some id;
     ready_sent = true;
-    ready_received = e.marks.ready_received;
+    ready_received = e.readiness.ready_received;
   };
 }
 

@@ -17,7 +17,7 @@ use Rattle.ln_close.specs.declared.closing.Closing.{Closing}
 use Rattle.ln_close.specs.Closing.{AreOrdered, first_fee, started, after_shut}
 use Rattle.ln_channel.specs.declared.opening.Terms.{Terms}
 use Rattle.ln_channel.specs.declared.opening.Opened.{Opened}
-use Rattle.ln_channel.specs.declared.channel.Marks.{Marks}
+use Rattle.ln_channel.specs.declared.channel.Readiness.{Readiness}
 use Rattle.ln_channel.specs.declared.output.Output.{Output}
 use Rattle.ln_channel.specs.declared.output.Output.TheVariants as output
 use Rattle.ln_channel.specs.Ledger.{Ledger, no_events, next_event, refs_of, entered, resulted}
@@ -28,7 +28,7 @@ pub record End : Type 0 where
   pub dance : Dancer
   pub closing : Closing
   pub terms : Terms
-  pub marks : Marks
+  pub readiness : Readiness
   pub ledger : Ledger
 
 -- what is kept stands for this end: today it has all of it whole
@@ -36,11 +36,11 @@ abbrev pub StandsFor : End → End → Type 0
 StandsFor kept e = kept ≡ e
 
 -- behind the opening
-abbrev pub no_marks : Marks
-no_marks = record { short_id = None; ready_sent = false; ready_received = false }
+abbrev pub no_readiness : Readiness
+no_readiness = record { short_id = None; ready_sent = false; ready_received = false }
 
 abbrev pub opened_end : Dancer → Closing → Terms → End
-opened_end d c t = record { dance = d; closing = c; terms = t; marks = no_marks; ledger = no_events }
+opened_end d c t = record { dance = d; closing = c; terms = t; readiness = no_readiness; ledger = no_events }
 
 abbrev pub end_of : Opened → End
 end_of o = opened_end o.dance o.closing o.terms
@@ -63,7 +63,7 @@ end_dropped e = with_dance (with_log (after_drop e.dance.log) e.dance) e
 
 -- it has sent channel_ready, and taken the peer's
 abbrev pub is_ready : End → Bool
-is_ready e = e.marks.ready_sent && e.marks.ready_received
+is_ready e = e.readiness.ready_sent && e.readiness.ready_received
 
 abbrev pub is_closed : End → Bool
 is_closed e = is_some e.closing.closed

@@ -5,8 +5,8 @@ use Rattle.ln_msgs.specs.Messages.Channel.{id_of_channel}
 use Rattle.ln_msgs.specs.declared.messages.message.Message.{Message}
 use Rattle.ln_msgs.specs.declared.messages.message.Message.TheVariants as message
 use Rattle.ln_channel.specs.declared.config.OpenSpec.{OpenSpec}
-use Rattle.ln_channel.specs.declared.unsaved.Stage.{Stage}
-use Rattle.ln_channel.specs.declared.unsaved.Stage.TheVariants as stage
+use Rattle.ln_channel.specs.declared.machine.Stage.{Stage}
+use Rattle.ln_channel.specs.declared.machine.Stage.TheVariants as stage
 
 -- the channel that a message is about; those of the opening name none before it is funded
 abbrev pub named : Message → Option (List ℕ)
@@ -27,7 +27,7 @@ named m = None
 -- the link's channel, once its funding is known to both
 abbrev pub channel_of : Stage → Option (List ℕ)
 channel_of (stage.AwaitsSigned e) = Some e.dance.channel
-channel_of (stage.Saved e) = Some e.dance.channel
+channel_of (stage.Funded e) = Some e.dance.channel
 channel_of s = None
 
 -- its temporary id, while it is being opened

@@ -8,8 +8,8 @@ use Rattle.ln_log.specs.Log.{update_at}
 use Rattle.ln_hooks.specs.declared.event.ChannelEvent.{ChannelEvent}
 use Rattle.ln_hooks.specs.declared.event.ChannelEvent.TheVariants as event
 use Rattle.ln_hooks.specs.Event.{event_of}
-use Rattle.ln_channel.specs.declared.unsaved.Stage.{Stage}
-use Rattle.ln_channel.specs.declared.unsaved.Stage.TheVariants as stage
+use Rattle.ln_channel.specs.declared.machine.Stage.{Stage}
+use Rattle.ln_channel.specs.declared.machine.Stage.TheVariants as stage
 use Rattle.ln_channel.specs.End.{End}
 
 -- the event of an update, where there is one
@@ -35,5 +35,5 @@ pending_events e = pending_from e.ledger.decided e.ledger.undecided e
 
 -- a link has none before both have signed the opening
 abbrev pub pending_at : Stage → List (ℕ × ChannelEvent)
-pending_at (stage.Saved e) = pending_events e
+pending_at (stage.Funded e) = pending_events e
 pending_at s = []

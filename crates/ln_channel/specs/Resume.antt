@@ -17,7 +17,7 @@ use Rattle.ln_channel.specs.Commands.{ready_message}
 -- channel_ready, where no side has a commitment but the opening
 abbrev pub ready_again : Signer → ChannelReestablish → End → List Output
 ready_again keys m e =
-    if is_before_the_first m e.dance && e.marks.ready_sent
+    if is_before_the_first m e.dance && e.readiness.ready_sent
     then output.Send (message.ChannelReady (ready_message keys e)) ∷ [] else []
 
 -- what the peer lacks

@@ -3,16 +3,16 @@
 use Rattle.std.specs.Prelude.{◌≡◌, ℕ, List, Bool, true, false, Option, Some, None, if◌then◌else◌}
 use Rattle.ln_msgs.specs.declared.refusals.refusal.Refusal.{Refusal}
 use Rattle.ln_dance.specs.declared.dance.Numbers.{Numbers}
-use Rattle.ln_channel.specs.declared.unsaved.LineState.{LineState}
-use Rattle.ln_channel.specs.declared.unsaved.LineState.TheVariants as line
-use Rattle.ln_channel.specs.declared.unsaved.Stage.{Stage}
-use Rattle.ln_channel.specs.declared.unsaved.Stage.TheVariants as stage
+use Rattle.ln_channel.specs.declared.machine.ConnectionState.{ConnectionState}
+use Rattle.ln_channel.specs.declared.machine.ConnectionState.TheVariants as connection
+use Rattle.ln_channel.specs.declared.machine.Stage.{Stage}
+use Rattle.ln_channel.specs.declared.machine.Stage.TheVariants as stage
 use Rattle.ln_channel.specs.Failing.{fails}
 use Rattle.ln_channel.specs.End.{end_dropped}
 
 pub record State (K : Type 0) : Type 0 where
   pub keys : K
-  pub line : LineState
+  pub connection : ConnectionState
   pub halted : Bool
   pub failure : Option Refusal
   pub stage : Stage
@@ -28,28 +28,28 @@ StandsFor kept l = kept ≡ l
 -- ---- how a link begins: it has no connection yet
 
 abbrev pub begun : {K : Type 0} → K → Stage → State K
-begun keys s = record { keys = keys; line = line.Down; halted = false; failure = None; stage = s }
+begun keys s = record { keys = keys; connection = connection.Down; halted = false; failure = None; stage = s }
 
 -- ---- where it stands
 
-abbrev pub is_down : LineState → Bool
-is_down line.Down = true
-is_down line.Awaiting = false
-is_down line.Met = false
+abbrev pub is_down : ConnectionState → Bool
+is_down connection.Down = true
+is_down connection.AwaitingReestablish = false
+is_down connection.Connected = false
 
-abbrev pub is_met : LineState → Bool
-is_met line.Down = false
-is_met line.Awaiting = false
-is_met line.Met = true
+abbrev pub is_connected : ConnectionState → Bool
+is_connected connection.Down = false
+is_connected connection.AwaitingReestablish = false
+is_connected connection.Connected = true
 
 -- the opening is signed by both, and kept
 abbrev pub is_saved : Stage → Bool
-is_saved (stage.Saved e) = true
+is_saved (stage.Funded e) = true
 is_saved s = false
 
 -- the channel of an end that is kept
 abbrev pub kept_channel : Stage → Option (List ℕ)
-kept_channel (stage.Saved e) = Some e.dance.channel
+kept_channel (stage.Funded e) = Some e.dance.channel
 kept_channel s = None
 
 -- where there was such an end, there still is one, of the same channel
@@ -81,25 +81,25 @@ refused r l = if l.halted then l else unless_failed l.failure l (fails_by r l)
 
 -- updates that no signature covers are gone, and so is an opening that isn't signed by both
 abbrev pub cut : Stage → Stage
-cut (stage.Saved e) = stage.Saved (end_dropped e)
+cut (stage.Funded e) = stage.Funded (end_dropped e)
 cut s = stage.Gone
 
 abbrev pub drops : {K : Type 0} → State K → State K
-drops l = if is_down l.line then l else record l { line = line.Down; stage = cut l.stage }
+drops l = if is_down l.connection then l else record l { connection = connection.Down; stage = cut l.stage }
 
 -- it answers nothing any more
 abbrev pub halts : {K : Type 0} → State K → State K
 halts l = record (drops l) { halted = true }
 
 -- a connection that was there still is
-abbrev pub StaysUp : LineState → LineState → Type 0
+abbrev pub StaysUp : ConnectionState → ConnectionState → Type 0
 StaysUp l new = is_down l ≡ false → is_down new ≡ false
 
 -- what of a link stays until its connection is lost, whatever becomes of its end
 pub record IsSameLink {K : Type 0} (l new : State K) : Type 0 where
   pub keys : new.keys ≡ l.keys
   pub failure : new.failure ≡ l.failure
-  pub line : StaysUp l.line new.line
+  pub connection : StaysUp l.connection new.connection
 
 -- what want of memory leaves: the link halts, wherever it was with what it was to do
 pub record IsHalted {K : Type 0} (l new : State K) : Type 0 where
@@ -116,5 +116,5 @@ no_numbers = record { commitment = 0; signed = 0; revoked = 0 }
 
 abbrev pub numbers_of : Stage → Numbers
 numbers_of (stage.AwaitsSigned e) = e.dance.numbers
-numbers_of (stage.Saved e) = e.dance.numbers
+numbers_of (stage.Funded e) = e.dance.numbers
 numbers_of s = no_numbers

@@ -7,11 +7,11 @@ use Rattle.ln_keys.specs.declared.view.View.{View}
 use Rattle.ln_log.specs.declared.log.Pair.TheVariants as pair
 use Rattle.ln_log.specs.declared.log.Side.TheVariants as side
 use Rattle.ln_dance.specs.Dance.{view_at}
-use Rattle.ln_channel.specs.declared.summary.Life.{Life}
-use Rattle.ln_channel.specs.declared.summary.Life.TheVariants as life
+use Rattle.ln_channel.specs.declared.summary.ChannelStatus.{ChannelStatus}
+use Rattle.ln_channel.specs.declared.summary.ChannelStatus.TheVariants as status
 use Rattle.ln_channel.specs.declared.summary.Summary.{Summary}
-use Rattle.ln_channel.specs.declared.unsaved.Stage.{Stage}
-use Rattle.ln_channel.specs.declared.unsaved.Stage.TheVariants as stage
+use Rattle.ln_channel.specs.declared.machine.Stage.{Stage}
+use Rattle.ln_channel.specs.declared.machine.Stage.TheVariants as stage
 use Rattle.ln_channel.specs.End.{End, is_ready}
 use Rattle.ln_channel.specs.State.{State}
 
@@ -24,21 +24,21 @@ abbrev pub other_balance : Role → View → ℕ
 other_balance Funder v = v.fundee
 other_balance Fundee v = v.funder
 
-abbrev pub closed_or : Option ℕ → Life → Life
+abbrev pub closed_or : Option ℕ → ChannelStatus → ChannelStatus
 closed_or None l = l
-closed_or (Some fee) l = life.Closed fee
+closed_or (Some fee) l = status.Closed fee
 
-abbrev pub failed_or : Option Refusal → Life → Life
+abbrev pub failed_or : Option Refusal → ChannelStatus → ChannelStatus
 failed_or None l = l
-failed_or (Some r) l = life.Failed r
+failed_or (Some r) l = status.Failed r
 
 -- the last that fits: open, ready, its own shutdown sent, closed
-abbrev pub life_of : End → Life
-life_of e =
+abbrev pub status_of : End → ChannelStatus
+status_of e =
     closed_or e.closing.closed
-    (if e.closing.shut then life.Shut else (if is_ready e then life.Ready else life.Open))
+    (if e.closing.shut then status.Shut else (if is_ready e then status.Ready else status.Open))
 
-abbrev pub summary_of : Life → View → End → Summary
+abbrev pub summary_of : ChannelStatus → View → End → Summary
 summary_of l v e = record {
   signed = e.dance.log.signed.own;
   own_held = e.dance.log.current.own;
@@ -46,17 +46,17 @@ summary_of l v e = record {
   own = balance_of e.closing.role v;
   peer = other_balance e.closing.role v;
   live = length v.htlcs;
-  life = l;
+  status = l;
 }
 
 -- where the opening isn't signed by both
-abbrev pub unsigned : Life → Summary
-unsigned l = record { signed = 0; own_held = 0; peer_held = 0; own = 0; peer = 0; live = 0; life = l }
+abbrev pub unsigned : ChannelStatus → Summary
+unsigned l = record { signed = 0; own_held = 0; peer_held = 0; own = 0; peer = 0; live = 0; status = l }
 
 abbrev pub stands_at : Option Refusal → Stage → Summary
-stands_at failure (stage.Saved e) =
-    summary_of (failed_or failure (life_of e)) (view_at (pair.Current side.Own) e.dance) e
-stands_at failure s = unsigned (failed_or failure life.Open)
+stands_at failure (stage.Funded e) =
+    summary_of (failed_or failure (status_of e)) (view_at (pair.Current side.Own) e.dance) e
+stands_at failure s = unsigned (failed_or failure status.Open)
 
 -- where a link stands: what its last signature covers, what it holds, and what its own commitment is worth
 abbrev pub summary : {K : Type 0} → State K → Summary

@@ -41,11 +41,11 @@ use Rattle.ln_channel.specs.End.{settling, fee_sent}
 -- the first one tells the point of commitment 1; a second one, or one behind the close, does nothing
 abbrev pub takes_ready : ChannelReady → End → End
 takes_ready m e =
-    if e.marks.ready_received || is_closed e then e
+    if e.readiness.ready_received || is_closed e then e
     else record e {
-      marks = record {
-        short_id = e.marks.short_id;
-        ready_sent = e.marks.ready_sent;
+      readiness = record {
+        short_id = e.readiness.short_id;
+        ready_sent = e.readiness.ready_sent;
         ready_received = true;
       };
       dance = with_next_point m.second_point e.dance;

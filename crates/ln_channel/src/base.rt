@@ -6,7 +6,7 @@ ghost use Rattle.ln_log.specs.Log.{between, count_of};
 ghost use Rattle.ln_channel.specs.Base.{least_own, least_peer};
 
 use crate::channel::{Channel, own_held, peer_held};
-use crate::unsaved::{Stage, Unsaved};
+use crate::machine::{ChannelMachine, Stage};
 use ln_keys::ChannelKeys;
 use ln_log::{Counts, EventRef, Pair, Side, Update, UpdateLog, removed_ids};
 use ln_msgs::Refusal;
@@ -88,7 +88,7 @@ impl Channel {
     /// (BOLT 2, "Normal Operation"). Nothing changes where they remove an HTLC that they don't offer, or a side has
     /// spent more by them than it had. Takes time that grows linearly with what is kept, but for finding HTLCs by their
     /// ids in a map. 60 where there was no memory; then nothing has changed.
-    pub fn settle_base(&mut self, alloc: Global) -> Result<(), Refusal>
+    pub fn compact(&mut self, alloc: Global) -> Result<(), Refusal>
         ensures state { (e : End) → StandsFor self.old e → OnOk result (StandsFor self.new (based e)) }
         ensures changes_nothing_if_refused { OnErr result (self.new ≡ self.old) }
         ensures fails_for_memory_alone { IfErr result (λ r. r ≡ Refusal.Memory) }
@@ -110,32 +110,32 @@ impl Stage {
     ghost use Rattle.ln_channel.specs.Base.{based_stage};
 
     // The base of its end moves on, where both have signed the opening.
-    fn settle_base(&mut self, alloc: Global) -> Result<(), Refusal>
+    fn compact(&mut self, alloc: Global) -> Result<(), Refusal>
         ensures state { (s : Stage) → StageStands self.old s → OnOk result (StageStands self.new (based_stage s)) }
         ensures changes_nothing_if_refused { OnErr result (self.new ≡ self.old) }
         ensures fails_for_memory_alone { IfErr result (λ r. r ≡ Refusal.Memory) }
         ensures same_channel { KeepsChannel self.old self.new }
     {
         match self {
-            Stage::Saved(channel) => channel.settle_base(alloc),
+            Stage::Funded(channel) => channel.compact(alloc),
             _ => Ok(()),
         }
     }
 }
 
-impl<K: ChannelKeys + Drop> Unsaved<K> {
+impl<K: ChannelKeys + Drop> ChannelMachine<K> {
     ghost use Rattle.std.specs.Prelude.{◌≡◌, OnOk, OnErr, IfErr};
     ghost use Rattle.ln_channel.specs.State.{State, StandsFor, KeepsChannel};
     ghost use Rattle.ln_channel.specs.Base.{based_link};
 
-    /// Before it is saved, what its end needn't keep one by one any more is left out: `Channel::settle_base`. Nothing
+    /// Before it is saved, what its end needn't keep one by one any more is left out: `Channel::compact`. Nothing
     /// changes before both have signed the opening. 60 where there was no memory; then nothing has changed.
-    pub fn settle_base(&mut self, alloc: Global) -> Result<(), Refusal>
+    pub fn compact(&mut self, alloc: Global) -> Result<(), Refusal>
         ensures state { (l : State K) → StandsFor self.old l → OnOk result (StandsFor self.new (based_link l)) }
         ensures changes_nothing_if_refused { OnErr result (self.new ≡ self.old) }
         ensures fails_for_memory_alone { IfErr result (λ r. r ≡ Refusal.Memory) }
         ensures same_channel { KeepsChannel self.old.stage self.new.stage }
     {
-        self.stage.settle_base(alloc)
+        self.stage.compact(alloc)
     }
 }

@@ -22,7 +22,7 @@ use std::marker::Model;
 
 /// How far a channel end is with being ready.
 #[derive(Clone, Copy, PartialEq, Eq)]
-pub struct Marks {
+pub struct Readiness {
     /// The channel's short id, once it was confirmed.
     pub short_id: Option<ShortId>,
     /// Whether `channel_ready` was sent.
@@ -37,7 +37,7 @@ pub struct Channel {
     pub(crate) dance: Dance,
     pub(crate) closing: Closing,
     pub(crate) terms: Terms,
-    pub(crate) marks: Marks,
+    pub(crate) readiness: Readiness,
     pub(crate) ledger: EventLedger,
 }
 
@@ -50,7 +50,7 @@ impl Model for Channel {
       dance = c.dance;
       closing = c.closing;
       terms = c.terms;
-      marks = c.marks;
+      readiness = c.readiness;
       ledger = c.ledger;
     } };
 
@@ -58,7 +58,7 @@ impl Model for Channel {
       dance = c.dance;
       closing = c.closing;
       terms = c.terms;
-      marks = c.marks;
+      readiness = c.readiness;
       ledger = c.ledger;
     }) };
 }
@@ -85,7 +85,7 @@ impl Channel {
             closing,
             terms,
         } = opened;
-        let marks = Marks {
+        let readiness = Readiness {
             short_id: None,
             ready_sent: false,
             ready_received: false,
@@ -94,7 +94,7 @@ impl Channel {
             dance,
             closing,
             terms,
-            marks,
+            readiness,
             ledger: EventLedger::new(alloc),
         }
     }
@@ -125,7 +125,7 @@ impl Channel {
     pub fn is_ready(&self) -> bool
         ensures { (e : End) → StandsFor self.now e → result ≡ is_ready e }
     {
-        self.marks.ready_sent && self.marks.ready_received
+        self.readiness.ready_sent && self.readiness.ready_received
     }
 
     /// Whether it is closed.
@@ -154,7 +154,7 @@ impl Channel {
             && own.own == own_len
             && own.peer == peer_len
             && peer.peer == peer_len
-            && log.live_htlcs(Side::Own) == 0
+            && log.live_htlc_count(Side::Own) == 0
     }
 
     // Whether the peer has acknowledged every own update.
@@ -178,7 +178,7 @@ impl Channel {
     }
 
     // Tells of the own updates that are held from this one on.
-    pub(crate) fn tell_own(
+    pub(crate) fn report_own(
         &mut self,
         alloc: Global,
         before: usize,
@@ -203,7 +203,7 @@ impl Channel {
     }
 
     // Tells of the peer's updates that are held from this one on.
-    pub(crate) fn tell_peer(
+    pub(crate) fn report_peer(
         &mut self,
         alloc: Global,
         before: usize,

@@ -38,12 +38,12 @@ impl Channel {
             → Makes (confirm_row (K.signer keys.now) short_id e) result self.old self.new }
         ensures same_channel { self.new.dance.channel ≡ self.old.dance.channel }
     {
-        if self.marks.ready_sent || self.is_closed() {
+        if self.readiness.ready_sent || self.is_closed() {
             return Err(Refusal::NotReady);
         }
         let ready = self.ready_message(alloc, keys);
-        self.marks.short_id = Some(short_id);
-        self.marks.ready_sent = true;
+        self.readiness.short_id = Some(short_id);
+        self.readiness.ready_sent = true;
         one(alloc, Message::ChannelReady(ready))
     }
 
@@ -284,7 +284,7 @@ impl Channel {
     {
         match command {
             Command::Confirm(_) => {
-                if self.marks.ready_sent || self.is_closed() {
+                if self.readiness.ready_sent || self.is_closed() {
                     Some(Refusal::NotReady)
                 } else {
                     None

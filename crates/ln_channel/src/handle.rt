@@ -1,14 +1,14 @@
 //! What a message and a command make of a link.
 
 use crate::command::Command;
+use crate::machine::{ChannelMachine, Stage};
 use crate::output::{Outbox, Output};
 use crate::stage::{fails, note_open, obey_open};
-use crate::unsaved::{Stage, Unsaved};
 use ln_keys::ChannelKeys;
 use ln_msgs::{Message, Refusal};
 use std::alloc::Global;
 
-impl<K: ChannelKeys + Drop> Unsaved<K> {
+impl<K: ChannelKeys + Drop> ChannelMachine<K> {
     ghost use Rattle.std.specs.Prelude.{◌≡◌};
     ghost use Rattle.ln_channel.specs.State.{State, StandsFor, KeepsChannel, IsSameLink, fails_by};
     ghost use Rattle.ln_channel.specs.Step.{AnsweredMessage, Answered, handled, commanded, asked, noted, at_hand};
@@ -63,7 +63,7 @@ impl<K: ChannelKeys + Drop> Unsaved<K> {
     // Takes a message, unless it is passed over.
     fn take(&mut self, alloc: Global, message: Message) -> Result<Outbox, Refusal>
         ensures takes { (l : State K) → StandsFor self.old l
-            → Takes (is_viewed message) (at_hand (K.signer l.keys) l.line message l.stage) result l self.new }
+            → Takes (is_viewed message) (at_hand (K.signer l.keys) l.connection message l.stage) result l self.new }
         ensures same_link { (l : State K) → StandsFor self.old l → IsSameLink l self.new }
         ensures same_channel { KeepsChannel self.old.stage self.new.stage }
     {
@@ -71,14 +71,15 @@ impl<K: ChannelKeys + Drop> Unsaved<K> {
             drop(message);
             return Ok(Outbox::new(alloc));
         }
-        match self.stage.message_refusal(self.line, &message) {
+        match self.stage.message_refusal(self.connection, &message) {
             Some(refusal) => {
                 drop(message);
                 return Err(refusal);
             }
             None => {}
         }
-        self.stage.take(alloc, &self.keys, &mut self.line, message)
+        self.stage
+            .take(alloc, &self.keys, &mut self.connection, message)
     }
 
     /// Does what it is told: what it makes of the link, and what is handed out. Where it refuses nothing has changed,
@@ -128,28 +129,28 @@ impl<K: ChannelKeys + Drop> Unsaved<K> {
     // What it makes of a command about decisions at its stage.
     fn note(&mut self, alloc: Global, command: Command) -> Result<Outbox, Refusal>
         ensures moves { (l : State K) → StandsFor self.old l
-            → MovesBy (noted l.line command l.stage) result l self.new }
+            → MovesBy (noted l.connection command l.stage) result l self.new }
         ensures same_link { (l : State K) → StandsFor self.old l → IsSameLink l self.new }
         ensures same_channel { KeepsChannel self.old.stage self.new.stage }
     {
-        let Stage::Saved(channel) = &mut self.stage else {
+        let Stage::Funded(channel) = &mut self.stage else {
             drop(command);
             return Err(Refusal::NotReady);
         };
-        note_open(alloc, self.line, channel, command)
+        note_open(alloc, self.connection, channel, command)
     }
 
     // What it does at its stage.
     fn obey(&mut self, alloc: Global, command: Command) -> Result<Outbox, Refusal>
         ensures moves { (l : State K) → StandsFor self.old l
-            → MovesBy (obeyed (K.signer l.keys) l.line command l.stage) result l self.new }
+            → MovesBy (obeyed (K.signer l.keys) l.connection command l.stage) result l self.new }
         ensures same_link { (l : State K) → StandsFor self.old l → IsSameLink l self.new }
         ensures same_channel { KeepsChannel self.old.stage self.new.stage }
     {
-        let Stage::Saved(channel) = &mut self.stage else {
+        let Stage::Funded(channel) = &mut self.stage else {
             drop(command);
             return Err(Refusal::NotReady);
         };
-        obey_open(alloc, &self.keys, self.line, channel, command)
+        obey_open(alloc, &self.keys, self.connection, channel, command)
     }
 }

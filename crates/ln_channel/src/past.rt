@@ -1,7 +1,7 @@
 //! A link that comes back from its record takes over what the link before had.
 
 use crate::channel::Channel;
-use crate::unsaved::{Stage, Unsaved};
+use crate::machine::{ChannelMachine, Stage};
 use ln_keys::ChannelKeys;
 
 impl Channel {
@@ -28,8 +28,8 @@ impl Stage {
         ensures state { self.new ≡ stage_after other.now self.old }
     {
         match self {
-            Stage::Saved(channel) => match other {
-                Stage::Saved(other) => channel.take_past_of(other),
+            Stage::Funded(channel) => match other {
+                Stage::Funded(other) => channel.take_past_of(other),
                 _ => {}
             },
             _ => {}
@@ -37,13 +37,13 @@ impl Stage {
     }
 }
 
-impl<K: ChannelKeys + Drop> Unsaved<K> {
+impl<K: ChannelKeys + Drop> ChannelMachine<K> {
     ghost use Rattle.std.specs.Prelude.{◌≡◌};
     ghost use Rattle.ln_channel.specs.Past.{link_after, IsStageOf};
 
     /// A link that was loaded of another one's record takes over the updates that aren't had one by one any more:
     /// `Dance::take_past_of`. It does nothing at run time.
-    pub fn take_past_of(&mut self, other: &Unsaved<K>)
+    pub fn take_past_of(&mut self, other: &ChannelMachine<K>)
         requires { IsStageOf other.now.stage self.old.stage }
         ensures state { self.new ≡ link_after other.now self.old }
     {

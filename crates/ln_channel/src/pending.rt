@@ -6,7 +6,7 @@ ghost use Rattle.ln_log.specs.Log.{Log, first_of, updates_of, update_at};
 ghost use Rattle.ln_channel.specs.Pending.{event_in};
 
 use crate::channel::Channel;
-use crate::unsaved::{Stage, Unsaved};
+use crate::machine::{ChannelMachine, Stage};
 use ln_hooks::{ChannelEvent, event_of};
 use ln_keys::ChannelKeys;
 use ln_log::{EventRef, Side, UpdateLog};
@@ -74,7 +74,7 @@ impl Channel {
     }
 }
 
-impl<K: ChannelKeys + Drop> Unsaved<K> {
+impl<K: ChannelKeys + Drop> ChannelMachine<K> {
     ghost use Rattle.std.specs.Prelude.{◌≡◌, IfOk, IfErr};
     ghost use Rattle.ln_channel.specs.State.{State, StandsFor};
     ghost use Rattle.ln_channel.specs.Pending.{pending_at};
@@ -87,7 +87,7 @@ impl<K: ChannelKeys + Drop> Unsaved<K> {
         ensures fails_for_memory_alone { IfErr result (λ r. r ≡ Refusal.Memory) }
     {
         match &self.stage {
-            Stage::Saved(channel) => channel.pending_events(alloc),
+            Stage::Funded(channel) => channel.pending_events(alloc),
             _ => Ok(Vec::new(alloc)),
         }
     }

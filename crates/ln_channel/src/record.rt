@@ -1,15 +1,15 @@
 //! What of a link outlives a restart: the end of its channel, and by what the channel has failed.
 
-use crate::channel::{Channel, Marks};
+use crate::channel::{Channel, Readiness};
 use crate::ledger::EventLedger;
+use crate::machine::{ChannelMachine, ConnectionState, Stage};
 use crate::opening::Terms;
-use crate::unsaved::{LineState, Stage, Unsaved};
 use ln_close::Closing;
 use ln_dance::Dance;
 use ln_keys::ChannelKeys;
 use ln_msgs::Refusal;
 
-impl<K: ChannelKeys + Drop> Unsaved<K> {
+impl<K: ChannelKeys + Drop> ChannelMachine<K> {
     ghost use Rattle.std.specs.Prelude.{◌≡◌, option_copied};
     ghost use Rattle.ln_channel.specs.State.{State, StandsFor};
     ghost use Rattle.ln_channel.specs.Record.{saved_end, came_back};
@@ -20,21 +20,21 @@ impl<K: ChannelKeys + Drop> Unsaved<K> {
         ensures as_kept { option_copied result ≡ saved_end self.now.stage }
     {
         match &self.stage {
-            Stage::Saved(channel) => Some(channel),
+            Stage::Funded(channel) => Some(channel),
             _ => None,
         }
     }
 
     /// A link without a connection, as it comes back from what was kept of it. Takes no memory.
-    pub fn come_back(keys: K, failure: Option<Refusal>, channel: Channel) -> Unsaved<K>
+    pub fn come_back(keys: K, failure: Option<Refusal>, channel: Channel) -> ChannelMachine<K>
         ensures { StandsFor result (came_back keys failure channel) }
     {
-        Unsaved {
+        ChannelMachine {
             keys,
-            line: LineState::Down,
+            connection: ConnectionState::Down,
             halted: false,
             failure,
-            stage: Stage::Saved(channel),
+            stage: Stage::Funded(channel),
         }
     }
 }
@@ -50,17 +50,17 @@ impl Channel {
         dance: Dance,
         closing: Closing,
         terms: Terms,
-        marks: Marks,
+        readiness: Readiness,
         ledger: EventLedger,
     ) -> Channel
-        requires { IsSound (end_with dance closing terms marks ledger) }
-        ensures { result ≡ end_with dance closing terms marks ledger }
+        requires { IsSound (end_with dance closing terms readiness ledger) }
+        ensures { result ≡ end_with dance closing terms readiness ledger }
     {
         Channel {
             dance,
             closing,
             terms,
-            marks,
+            readiness,
             ledger,
         }
     }
@@ -88,10 +88,10 @@ impl Channel {
     }
 
     /// How far it is with being ready.
-    pub fn marks(&self) -> Marks
-        ensures { result ≡ self.now.marks }
+    pub fn readiness(&self) -> Readiness
+        ensures { result ≡ self.now.readiness }
     {
-        self.marks
+        self.readiness
     }
 
     /// Its events by number.

@@ -50,7 +50,7 @@ impl Channel {
         }) }
         ensures fails_for_memory_alone { IfErr result (λ r. r ≡ Refusal.Memory) }
     {
-        if self.dance.is_before_the_first(message) && self.marks.ready_sent {
+        if self.dance.is_before_the_first(message) && self.readiness.ready_sent {
             outbox.send(Message::ChannelReady(self.ready_message(alloc, keys)))?;
         }
         Ok(())

@@ -7,8 +7,8 @@ ghost use Rattle.ln_channel.specs.Step.{opening_at, open_at, accept_at, created_
 ghost use Rattle.ln_channel.specs.State.{is_saved, StaysUp, StageStands};
 ghost use Rattle.ln_channel.specs.End.{End, StandsFor};
 ghost use Rattle.ln_channel.specs.Taking.{is_viewed};
-ghost use Rattle.ln_channel.specs.declared.unsaved.LineState.TheVariants as lines;
-ghost use Rattle.ln_channel.specs.declared.unsaved.Stage.TheVariants as stages;
+ghost use Rattle.ln_channel.specs.declared.machine.ConnectionState.TheVariants as lines;
+ghost use Rattle.ln_channel.specs.declared.machine.Stage.TheVariants as stages;
 ghost use Rattle.ln_channel.specs.Resume.{resume_row};
 ghost use Rattle.ln_channel.specs.Commands.{note_row};
 ghost use Rattle.ln_channel.specs.Step.{error_fault, turned, obeyed_open, awaiting_at, saved, Becomes, Moves, MovesEnd};
@@ -17,9 +17,9 @@ use crate::channel::Channel;
 use crate::command::Command;
 use crate::config::{FitConfig, FitSpec, OpenSpec};
 use crate::deep::put;
+use crate::machine::{ConnectionState, Stage};
 use crate::opening::{Agreed, take_accept, take_created, take_open};
 use crate::output::{Outbox, one};
-use crate::unsaved::{LineState, Stage};
 use ln_dance::Numbers;
 use ln_keys::ChannelKeys;
 use ln_msgs::{
@@ -108,7 +108,7 @@ impl Stage {
     {
         match self {
             Stage::AwaitsSigned(channel) => channel.dance.numbers(),
-            Stage::Saved(channel) => channel.dance.numbers(),
+            Stage::Funded(channel) => channel.dance.numbers(),
             _ => NO_NUMBERS,
         }
     }
@@ -118,7 +118,7 @@ impl Stage {
         ensures { (s : Stage) → StageStands self.now s → result ≡ is_saved s }
     {
         match self {
-            Stage::Saved(_) => true,
+            Stage::Funded(_) => true,
             _ => false,
         }
     }
@@ -139,7 +139,7 @@ impl Stage {
         ensures same_channel { KeepsChannel self.old self.new }
     {
         match self {
-            Stage::Saved(channel) => channel.drop_unsigned(),
+            Stage::Funded(channel) => channel.drop_unsigned(),
             _ => put(self, Stage::Gone),
         }
     }
@@ -150,7 +150,7 @@ impl Stage {
     {
         match self {
             Stage::AwaitsSigned(channel) => Some(channel.id()),
-            Stage::Saved(channel) => Some(channel.id()),
+            Stage::Funded(channel) => Some(channel.id()),
             _ => None,
         }
     }
@@ -210,12 +210,12 @@ impl Stage {
     }
 
     // Another channel's message, or one that comes without a connection.
-    fn stray_refusal(&self, line: LineState, message: &Message) -> Option<Refusal>
-        ensures { (s : Stage) → StageStands self.now s → result ≡ stray_fault line s message.now }
+    fn stray_refusal(&self, connection: ConnectionState, message: &Message) -> Option<Refusal>
+        ensures { (s : Stage) → StageStands self.now s → result ≡ stray_fault connection s message.now }
     {
         if self.is_other(named(message)) {
             Some(Refusal::UnknownChannel)
-        } else if line.is_down() {
+        } else if connection.is_down() {
             Some(Refusal::OutOfPlace)
         } else {
             None
@@ -224,12 +224,16 @@ impl Stage {
 
     /// What is wrong with a message before the channel is asked: an error, another channel's message, or one that comes
     /// without a connection.
-    pub(crate) fn message_refusal(&self, line: LineState, message: &Message) -> Option<Refusal>
-        ensures { (s : Stage) → StageStands self.now s → result ≡ message_fault line s message.now }
+    pub(crate) fn message_refusal(
+        &self,
+        connection: ConnectionState,
+        message: &Message,
+    ) -> Option<Refusal>
+        ensures { (s : Stage) → StageStands self.now s → result ≡ message_fault connection s message.now }
     {
         match error_refusal(message) {
             Some(refusal) => Some(refusal),
-            None => self.stray_refusal(line, message),
+            None => self.stray_refusal(connection, message),
         }
     }
 
@@ -238,18 +242,18 @@ impl Stage {
         &mut self,
         alloc: Global,
         keys: &K,
-        line: &mut LineState,
+        connection: &mut ConnectionState,
         message: Message,
     ) -> Result<Outbox, Refusal>
         ensures moves { (s : Stage) → StageStands self.old s
-            → Moves (is_viewed message) (stage_row (K.signer keys.now) line.old message s)
-            result line.old line.new s self.new }
-        ensures stays_up { StaysUp line.old line.new }
+            → Moves (is_viewed message) (stage_row (K.signer keys.now) connection.old message s)
+            result connection.old connection.new s self.new }
+        ensures stays_up { StaysUp connection.old connection.new }
         ensures same_channel { KeepsChannel self.old self.new }
     {
         match self {
-            Stage::Saved(channel) => take_saved(alloc, keys, line, channel, message),
-            _ => opened_by(alloc, keys, *line, self, message),
+            Stage::Funded(channel) => take_saved(alloc, keys, connection, channel, message),
+            _ => opened_by(alloc, keys, *connection, self, message),
         }
     }
 }
@@ -260,19 +264,22 @@ impl Stage {
 fn opened_by<K: ChannelKeys>(
     alloc: Global,
     keys: &K,
-    line: LineState,
+    connection: ConnectionState,
     stage: &mut Stage,
     message: Message,
 ) -> Result<Outbox, Refusal>
     requires { is_saved stage.old ≡ false }
     ensures { (s : Stage) → StageStands stage.old s
-        → Moves (is_viewed message) (opening_at (K.signer keys.now) line message s) result line line s stage.new }
+        → Moves (is_viewed message) (opening_at
+        (K.signer keys.now) connection message s) result connection connection s stage.new }
 {
     match message {
-        Message::OpenChannel(open) => opened_by_open(alloc, keys, line, stage, open),
-        Message::AcceptChannel(accept) => opened_by_accept(alloc, keys, line, stage, accept),
-        Message::FundingCreated(created) => opened_by_created(alloc, keys, line, stage, created),
-        Message::FundingSigned(signed) => opened_by_signed(alloc, keys, line, stage, &signed),
+        Message::OpenChannel(open) => opened_by_open(alloc, keys, connection, stage, open),
+        Message::AcceptChannel(accept) => opened_by_accept(alloc, keys, connection, stage, accept),
+        Message::FundingCreated(created) => opened_by_created(
+            alloc, keys, connection, stage, created,
+        ),
+        Message::FundingSigned(signed) => opened_by_signed(alloc, keys, connection, stage, &signed),
         other => {
             drop(other);
             Err(Refusal::OutOfPlace)
@@ -283,16 +290,16 @@ fn opened_by<K: ChannelKeys>(
 fn opened_by_open<K: ChannelKeys>(
     alloc: Global,
     keys: &K,
-    line: LineState,
+    connection: ConnectionState,
     stage: &mut Stage,
     message: OpenChannel,
 ) -> Result<Outbox, Refusal>
     requires { is_saved stage.old ≡ false }
     ensures { (s : Stage) → StageStands stage.old s
-        → Moves false (open_at (K.signer keys.now) line message s) result line line s stage.new }
+        → Moves false (open_at (K.signer keys.now) connection message s) result connection connection s stage.new }
 {
     match mem::replace(stage, Stage::Gone) {
-        Stage::AwaitsOpen(config) => agree(alloc, keys, line, stage, config, message),
+        Stage::AwaitsOpen(config) => agree(alloc, keys, connection, stage, config, message),
         other => {
             drop(other);
             Err(Refusal::OutOfPlace)
@@ -303,13 +310,14 @@ fn opened_by_open<K: ChannelKeys>(
 fn agree<K: ChannelKeys>(
     alloc: Global,
     keys: &K,
-    line: LineState,
+    connection: ConnectionState,
     stage: &mut Stage,
     config: FitConfig,
     message: OpenChannel,
 ) -> Result<Outbox, Refusal>
     requires { stage.old ≡ stages.Gone }
-    ensures { Becomes false line (open_at (K.signer keys.now) line message (stages.AwaitsOpen config)) result
+    ensures { Becomes false connection (open_at (K.signer keys.now) connection message
+        (stages.AwaitsOpen config)) result
         stage.new }
 {
     let (agreed, accept) = take_open(alloc, keys, config, message)?;
@@ -320,16 +328,16 @@ fn agree<K: ChannelKeys>(
 fn opened_by_accept<K: ChannelKeys>(
     alloc: Global,
     keys: &K,
-    line: LineState,
+    connection: ConnectionState,
     stage: &mut Stage,
     message: AcceptChannel,
 ) -> Result<Outbox, Refusal>
     requires { is_saved stage.old ≡ false }
     ensures { (s : Stage) → StageStands stage.old s
-        → Moves false (accept_at (K.signer keys.now) line message s) result line line s stage.new }
+        → Moves false (accept_at (K.signer keys.now) connection message s) result connection connection s stage.new }
 {
     match mem::replace(stage, Stage::Gone) {
-        Stage::AwaitsAccept(spec) => fund(alloc, keys, line, stage, spec, message),
+        Stage::AwaitsAccept(spec) => fund(alloc, keys, connection, stage, spec, message),
         other => {
             drop(other);
             Err(Refusal::OutOfPlace)
@@ -340,13 +348,14 @@ fn opened_by_accept<K: ChannelKeys>(
 fn fund<K: ChannelKeys>(
     alloc: Global,
     keys: &K,
-    line: LineState,
+    connection: ConnectionState,
     stage: &mut Stage,
     spec: FitSpec,
     message: AcceptChannel,
 ) -> Result<Outbox, Refusal>
     requires { stage.old ≡ stages.Gone }
-    ensures { Becomes false line (accept_at (K.signer keys.now) line message (stages.AwaitsAccept spec)) result
+    ensures { Becomes false connection (accept_at (K.signer keys.now) connection message
+        (stages.AwaitsAccept spec)) result
         stage.new }
 {
     let (opened, created) = take_accept(alloc, keys, spec, message)?;
@@ -357,16 +366,16 @@ fn fund<K: ChannelKeys>(
 fn opened_by_created<K: ChannelKeys>(
     alloc: Global,
     keys: &K,
-    line: LineState,
+    connection: ConnectionState,
     stage: &mut Stage,
     message: FundingCreated,
 ) -> Result<Outbox, Refusal>
     requires { is_saved stage.old ≡ false }
     ensures { (s : Stage) → StageStands stage.old s
-        → Moves true (created_at (K.signer keys.now) line message s) result line line s stage.new }
+        → Moves true (created_at (K.signer keys.now) connection message s) result connection connection s stage.new }
 {
     match mem::replace(stage, Stage::Gone) {
-        Stage::AwaitsCreated(agreed) => sign(alloc, keys, line, stage, agreed, message),
+        Stage::AwaitsCreated(agreed) => sign(alloc, keys, connection, stage, agreed, message),
         other => {
             drop(other);
             Err(Refusal::OutOfPlace)
@@ -377,29 +386,30 @@ fn opened_by_created<K: ChannelKeys>(
 fn sign<K: ChannelKeys>(
     alloc: Global,
     keys: &K,
-    line: LineState,
+    connection: ConnectionState,
     stage: &mut Stage,
     agreed: Agreed,
     message: FundingCreated,
 ) -> Result<Outbox, Refusal>
     requires { stage.old ≡ stages.Gone }
-    ensures { Becomes true line (created_at (K.signer keys.now) line message (stages.AwaitsCreated agreed)) result
+    ensures { Becomes true connection (created_at (K.signer keys.now) connection message
+        (stages.AwaitsCreated agreed)) result
         stage.new }
 {
     let (opened, signed) = take_created(alloc, keys, agreed, message)?;
-    put(stage, Stage::Saved(Channel::new(alloc, opened)));
+    put(stage, Stage::Funded(Channel::new(alloc, opened)));
     one(alloc, Message::FundingSigned(signed))
 }
 
 fn opened_by_signed<K: ChannelKeys>(
     alloc: Global,
     keys: &K,
-    line: LineState,
+    connection: ConnectionState,
     stage: &mut Stage,
     message: &FundingSigned,
 ) -> Result<Outbox, Refusal>
     ensures { (s : Stage) → StageStands stage.old s
-        → Moves true (signed_at (K.signer keys.now) line message.now s) result line line s stage.new }
+        → Moves true (signed_at (K.signer keys.now) connection message.now s) result connection connection s stage.new }
 {
     match stage {
         Stage::AwaitsSigned(channel) => channel.check_funding(alloc, keys, message)?,
@@ -421,7 +431,7 @@ fn saved(stage: Stage) -> Stage
     ensures { (s : Stage) → StageStands stage s → StageStands result (saved s) }
 {
     match stage {
-        Stage::AwaitsSigned(channel) => Stage::Saved(channel),
+        Stage::AwaitsSigned(channel) => Stage::Funded(channel),
         other => other,
     }
 }
@@ -432,39 +442,39 @@ fn saved(stage: Stage) -> Stage
 fn take_saved<K: ChannelKeys>(
     alloc: Global,
     keys: &K,
-    line: &mut LineState,
+    connection: &mut ConnectionState,
     channel: &mut Channel,
     message: Message,
 ) -> Result<Outbox, Refusal>
     ensures moves { (e : End) → StandsFor channel.old e
-        → MovesEnd (is_viewed message) (saved_at (K.signer keys.now) line.old message e)
-        result line.old line.new channel.old channel.new }
-    ensures stays_up { StaysUp line.old line.new }
+        → MovesEnd (is_viewed message) (saved_at (K.signer keys.now) connection.old message e)
+        result connection.old connection.new channel.old channel.new }
+    ensures stays_up { StaysUp connection.old connection.new }
     ensures same_channel { channel.new.dance.channel ≡ channel.old.dance.channel }
 {
-    if line.is_met() {
+    if connection.is_connected() {
         channel.take(alloc, keys, message)
     } else {
-        take_awaited(alloc, keys, line, channel, message)
+        take_awaited(alloc, keys, connection, channel, message)
     }
 }
 
 fn take_awaited<K: ChannelKeys>(
     alloc: Global,
     keys: &K,
-    line: &mut LineState,
+    connection: &mut ConnectionState,
     channel: &mut Channel,
     message: Message,
 ) -> Result<Outbox, Refusal>
     ensures moves { (e : End) → StandsFor channel.old e
         → MovesEnd (is_viewed message) (awaiting_at (K.signer keys.now) message e)
-        result line.old line.new channel.old channel.new }
-    ensures stays_up { StaysUp line.old line.new }
+        result connection.old connection.new channel.old channel.new }
+    ensures stays_up { StaysUp connection.old connection.new }
     ensures same_channel { channel.new.dance.channel ≡ channel.old.dance.channel }
 {
     match message {
         Message::ChannelReestablish(reestablish) => {
-            take_reestablish(alloc, keys, line, channel, &reestablish)
+            take_reestablish(alloc, keys, connection, channel, &reestablish)
         }
         other => {
             drop(other);
@@ -477,19 +487,19 @@ fn take_awaited<K: ChannelKeys>(
 fn take_reestablish<K: ChannelKeys>(
     alloc: Global,
     keys: &K,
-    line: &mut LineState,
+    connection: &mut ConnectionState,
     channel: &mut Channel,
     message: &ChannelReestablish,
 ) -> Result<Outbox, Refusal>
     ensures moves { (e : End) → StandsFor channel.old e
-        → MovesEnd false (turned lines.Met (resume_row (K.signer keys.now) message.now e))
-        result line.old line.new channel.old channel.new }
-    ensures stays_up { StaysUp line.old line.new }
+        → MovesEnd false (turned lines.Connected (resume_row (K.signer keys.now) message.now e))
+        result connection.old connection.new channel.old channel.new }
+    ensures stays_up { StaysUp connection.old connection.new }
     ensures same_channel { channel.new.dance.channel ≡ channel.old.dance.channel }
 {
     match channel.resume(alloc, keys, message) {
         Ok(outbox) => {
-            *line = LineState::Met;
+            *connection = ConnectionState::Connected;
             Ok(outbox)
         }
         Err(refusal) => Err(refusal),
@@ -502,13 +512,13 @@ fn take_reestablish<K: ChannelKeys>(
 pub(crate) fn obey_open<K: ChannelKeys>(
     alloc: Global,
     keys: &K,
-    line: LineState,
+    connection: ConnectionState,
     channel: &mut Channel,
     command: Command,
 ) -> Result<Outbox, Refusal>
     ensures moves { (e : End) → StandsFor channel.old e
-        → MovesEnd false (obeyed_open (K.signer keys.now) line command e)
-        result line line channel.old channel.new }
+        → MovesEnd false (obeyed_open (K.signer keys.now) connection command e)
+        result connection connection channel.old channel.new }
     ensures same_channel { channel.new.dance.channel ≡ channel.old.dance.channel }
 {
     match channel.unready_refusal(&command) {
@@ -518,7 +528,7 @@ pub(crate) fn obey_open<K: ChannelKeys>(
         }
         None => {}
     }
-    if !line.is_met() {
+    if !connection.is_connected() {
         drop(command);
         return Err(Refusal::Disconnected);
     }
@@ -528,13 +538,13 @@ pub(crate) fn obey_open<K: ChannelKeys>(
 // What an open channel makes of a command about decisions.
 pub(crate) fn note_open(
     alloc: Global,
-    line: LineState,
+    connection: ConnectionState,
     channel: &mut Channel,
     command: Command,
 ) -> Result<Outbox, Refusal>
     ensures moves { (e : End) → StandsFor channel.old e
-        → MovesEnd false (turned line (note_row command e))
-        result line line channel.old channel.new }
+        → MovesEnd false (turned connection (note_row command e))
+        result connection connection channel.old channel.new }
     ensures same_channel { channel.new.dance.channel ≡ channel.old.dance.channel }
 {
     channel.note(alloc, command)

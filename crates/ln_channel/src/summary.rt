@@ -1,7 +1,7 @@
 //! Where a link stands with its channel.
 
 use crate::channel::Channel;
-use crate::unsaved::{Stage, Unsaved};
+use crate::machine::{ChannelMachine, Stage};
 use ln_keys::{ChannelKeys, Role};
 use ln_log::{Pair, Side};
 use ln_msgs::Refusal;
@@ -9,7 +9,7 @@ use std::alloc::Global;
 
 /// How far a channel is, for one of its ends.
 #[derive(Clone, Copy, Debug, PartialEq, Eq)]
-pub enum Life {
+pub enum ChannelStatus {
     /// None of those below.
     Open,
     /// This end has sent `channel_ready`, and taken the peer's.
@@ -38,7 +38,7 @@ pub struct Summary {
     /// How many HTLCs are live in that commitment.
     pub live: usize,
     /// The last that fits.
-    pub life: Life,
+    pub status: ChannelStatus,
 }
 
 impl Channel {
@@ -48,34 +48,34 @@ impl Channel {
     ghost use Rattle.ln_log.specs.declared.log.Side.TheVariants as side;
     ghost use Rattle.ln_channel.specs.End as end;
     ghost use Rattle.ln_channel.specs.End.{End};
-    ghost use Rattle.ln_channel.specs.Summary.{life_of, failed_or, summary_of};
+    ghost use Rattle.ln_channel.specs.Summary.{status_of, failed_or, summary_of};
 
     // How far it is: the last that fits.
-    fn life(&self) -> Life
-        ensures { (e : End) → end.StandsFor self.now e → result ≡ life_of e }
+    fn status(&self) -> ChannelStatus
+        ensures { (e : End) → end.StandsFor self.now e → result ≡ status_of e }
     {
         if let Some(fee) = self.closing.closed {
-            return Life::Closed(fee);
+            return ChannelStatus::Closed(fee);
         }
         if self.closing.shut {
-            Life::Shut
+            ChannelStatus::Shut
         } else if self.is_ready() {
-            Life::Ready
+            ChannelStatus::Ready
         } else {
-            Life::Open
+            ChannelStatus::Open
         }
     }
 
     // Where it stands. 60 where there is no memory for the HTLCs of its own commitment.
     fn summary(&self, alloc: Global, failure: Option<Refusal>) -> Result<Summary, Refusal>
         ensures summary { (e : End) → end.StandsFor self.now e
-            → IfOk result (λ s. s ≡ summary_of (failed_or failure (life_of e))
+            → IfOk result (λ s. s ≡ summary_of (failed_or failure (status_of e))
             (view_at (pair.Current side.Own) e.dance) e) }
         ensures fails_for_memory_alone { IfErr result (λ e. e ≡ Refusal.Memory) }
     {
-        let life = match failure {
-            Some(refusal) => Life::Failed(refusal),
-            None => self.life(),
+        let status = match failure {
+            Some(refusal) => ChannelStatus::Failed(refusal),
+            None => self.status(),
         };
         let log = self.dance.log();
         let view = log.view(alloc, Pair::Current(Side::Own))?;
@@ -90,12 +90,12 @@ impl Channel {
             own,
             peer,
             live: view.htlcs.len(),
-            life,
+            status,
         })
     }
 }
 
-impl<K: ChannelKeys + Drop> Unsaved<K> {
+impl<K: ChannelKeys + Drop> ChannelMachine<K> {
     ghost use Rattle.std.specs.Prelude.{◌≡◌, IfOk, IfErr};
     ghost use Rattle.ln_channel.specs.State.{State, StandsFor};
     ghost use Rattle.ln_channel.specs.Summary.{summary};
@@ -106,11 +106,11 @@ impl<K: ChannelKeys + Drop> Unsaved<K> {
         ensures fails_for_memory_alone { IfErr result (λ e. e ≡ Refusal.Memory) }
     {
         match &self.stage {
-            Stage::Saved(channel) => channel.summary(alloc, self.failure),
+            Stage::Funded(channel) => channel.summary(alloc, self.failure),
             _ => {
-                let life = match self.failure {
-                    Some(refusal) => Life::Failed(refusal),
-                    None => Life::Open,
+                let status = match self.failure {
+                    Some(refusal) => ChannelStatus::Failed(refusal),
+                    None => ChannelStatus::Open,
                 };
                 Ok(Summary {
                     signed: 0,
@@ -119,7 +119,7 @@ impl<K: ChannelKeys + Drop> Unsaved<K> {
                     own: 0,
                     peer: 0,
                     live: 0,
-                    life,
+                    status,
                 })
             }
         }

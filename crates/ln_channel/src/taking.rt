@@ -34,10 +34,10 @@ impl Channel {
         ensures ready { (e : End) → StandsFor self.old e → StandsFor self.new (takes_ready message.now e) }
         ensures same_channel { self.new.dance.channel ≡ self.old.dance.channel }
     {
-        if self.marks.ready_received || self.is_closed() {
+        if self.readiness.ready_received || self.is_closed() {
             return;
         }
-        self.marks.ready_received = true;
+        self.readiness.ready_received = true;
         self.dance.take_point(message.second_point);
     }
 
@@ -145,7 +145,7 @@ impl Channel {
         let revocation = self.accept(alloc, keys, message)?;
         let mut outbox = Outbox::new(alloc);
         outbox.send(Message::RevokeAndAck(revocation))?;
-        self.tell_own(alloc, before, &mut outbox)?;
+        self.report_own(alloc, before, &mut outbox)?;
         Ok(outbox)
     }
 
@@ -181,7 +181,7 @@ impl Channel {
         let before = peer_held(&self.dance);
         self.learn(keys, message)?;
         let mut outbox = Outbox::new(alloc);
-        self.tell_peer(alloc, before, &mut outbox)?;
+        self.report_peer(alloc, before, &mut outbox)?;
         self.keep_results(alloc, before)?;
         Ok(outbox)
     }

@@ -201,7 +201,7 @@ where
     }
 
     /// Tells what has become of a node's channels, but for orders that came to nothing.
-    fn tell(&self, name: &str, node: &MyNode<S, H, T>) {
+    fn notify(&self, name: &str, node: &MyNode<S, H, T>) {
         for (channel, notice) in node.notices(&self.rt, self.host.alloc()) {
             if !matches!(notice, Notice::Refused(_)) {
                 let _ = eprintln!(self.host; "{name} {channel}: {notice:?}");
@@ -222,8 +222,8 @@ where
         if done.is_ok() {
             done = self.pay(paid);
         }
-        self.tell("payer", &self.payer);
-        self.tell("payee", &self.payee);
+        self.notify("payer", &self.payer);
+        self.notify("payee", &self.payee);
         let Nodes {
             rt,
             payer,

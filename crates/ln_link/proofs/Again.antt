@@ -22,7 +22,7 @@ use Rattle.ln_dance.specs.Dance.{Dancer}
 use Rattle.ln_close.specs.declared.closing.Closing.{Closing}
 use Rattle.ln_close.specs.Closing.{AreOrdered}
 use Rattle.ln_channel.specs.declared.opening.Terms.{Terms}
-use Rattle.ln_channel.specs.declared.channel.Marks.{Marks}
+use Rattle.ln_channel.specs.declared.channel.Readiness.{Readiness}
 use Rattle.ln_channel.specs.Ledger.{Ledger}
 use Rattle.ln_channel.specs.Opening.{opening_of}
 use Rattle.ln_channel.specs.Parts.{end_with}
@@ -112,19 +112,19 @@ id_again b t o bf tf of =
 -- ---- the end that items tell
 
 -- of the parts that they tell
-pub told_end : (i : Items) (d : Dancer) (c : Closing) (t : Terms) (m : Marks) (g : Ledger)
+pub told_end : (i : Items) (d : Dancer) (c : Closing) (t : Terms) (m : Readiness) (g : Ledger)
     → d ≡ dance_of i.header i.commitments (log_in i) → c ≡ closing_of i.header i.agreement i.progress.fees
     → t ≡ terms_of i.agreement → m ≡ marks_of i.header.flags i.agreement.place → g ≡ ledger_of i.progress
     → end_with d c t m g ≡ end_of i
 unfolding end_of
-told_end i d c t m g dance closing terms marks ledger =
+told_end i d c t m g dance closing terms readiness ledger =
     let told_dance = dance_of i.header i.commitments (log_in i) in
     let told_closing = closing_of i.header i.agreement i.progress.fees in
     let told_marks = marks_of i.header.flags i.agreement.place in
     ap (λ (x : Dancer). end_with x c t m g) dance
     ∙ ap (λ (x : Closing). end_with told_dance x t m g) closing
     ∙ ap (λ (x : Terms). end_with told_dance told_closing x m g) terms
-    ∙ ap (λ (x : Marks). end_with told_dance told_closing (terms_of i.agreement) x g) marks
+    ∙ ap (λ (x : Readiness). end_with told_dance told_closing (terms_of i.agreement) x g) readiness
     ∙ ap (λ (x : Ledger). end_with told_dance told_closing (terms_of i.agreement) told_marks x) ledger
 
 -- their updates tell a log in the channel that they tell

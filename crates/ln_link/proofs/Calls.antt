@@ -9,12 +9,12 @@ use Rattle.ln_msgs.specs.declared.refusals.refusal.Refusal.{Refusal}
 use Rattle.ln_msgs.specs.declared.refusals.refusal.Refusal.TheVariants as refusal
 use Rattle.ln_keys.specs.Signer.{Signer}
 use Rattle.ln_log.specs.Log.{Log}
-use Rattle.ln_log.specs.Told.{told_of, IsRestorable}
+use Rattle.ln_log.specs.RecordForm.{record_form_of, IsRestorable}
 use Rattle.ln_channel.specs.declared.output.Output.{Output}
-use Rattle.ln_channel.specs.declared.unsaved.LineState.{LineState}
-use Rattle.ln_channel.specs.declared.unsaved.LineState.TheVariants.{Down}
-use Rattle.ln_channel.specs.declared.unsaved.Stage.{Stage}
-use Rattle.ln_channel.specs.declared.unsaved.Stage.TheVariants as stage
+use Rattle.ln_channel.specs.declared.machine.ConnectionState.{ConnectionState}
+use Rattle.ln_channel.specs.declared.machine.ConnectionState.TheVariants.{Down}
+use Rattle.ln_channel.specs.declared.machine.Stage.{Stage}
+use Rattle.ln_channel.specs.declared.machine.Stage.TheVariants as stage
 use Rattle.ln_channel.specs.Naming.{opens}
 use Rattle.ln_channel.specs.Failing.{fails}
 use Rattle.ln_channel.specs.End.{End, end_dropped}
@@ -28,7 +28,7 @@ use Rattle.ln_store.specs.Store.{Records, IsOneOf}
 use Rattle.ln_link.proofs.Refusing.{has_halted}
 use Rattle.ln_link.specs.Record.{items_of}
 use Rattle.ln_link.specs.Loading.{HasRecord}
-use Rattle.ln_link.specs.Saving.{Shelf, HasSaved, IsSaved, IsUnsaved, HandsOut, HaltsUnsaved, SavesFailure}
+use Rattle.ln_link.specs.Saving.{StoreView, HasSaved, IsSaved, IsUnsaved, HandsOut, HaltsUnsaved, SavesFailure}
 use Rattle.ln_link.specs.Saving.{SavesIf, fails_now, is_known, handled_beside, CannotTell, AnswersOver}
 use Rattle.ln_link.specs.Saving.{HaltsBehind, HaltsRefused, FailsBy}
 use Rattle.ln_link.specs.Saving.{stored_end, settled, AnswersMessage, AnswersCommand}
@@ -48,9 +48,9 @@ has_stored : (f : Option Refusal) (o : Option End) (rs : Records) → HasSaved f
 has_stored f None rs h = tt
 has_stored f (Some e) rs h = (found rs e.dance.channel (record_bytes (items_of f e)), h)
 
-pub has_saved : (f : Option Refusal) (o : Option End) (s t : Shelf) → IsSaved f o s t → Has f o t.records
+pub has_saved : (f : Option Refusal) (o : Option End) (s t : StoreView) → IsSaved f o s t → Has f o t.records
 has_saved f o s t h =
-    subst (Has f o) (sym (ap (λ (x : Shelf). x.records) h.1)) (has_stored f o s.records h.0)
+    subst (Has f o) (sym (ap (λ (x : StoreView). x.records) h.1)) (has_stored f o s.records h.0)
 
 -- ---- a lost connection changes nothing of it
 
@@ -65,7 +65,7 @@ dropped_has f e h = record {
   open_channel = h.open_channel;
   accept_channel = h.accept_channel;
   output = h.output;
-  log = subst (λ (l : Log). IsRestorable (told_of e.dance.log.first l)) (sym (lost_twice e.dance.log)) h.log;
+  log = subst (λ (l : Log). IsRestorable (record_form_of e.dance.log.first l)) (sym (lost_twice e.dance.log)) h.log;
   items = ap is_readable (recorded f e) ∙ h.items;
 }
 
@@ -76,70 +76,71 @@ drop_end f e rs h = (
 )
 
 cut_has : (f : Option Refusal) (s : Stage) (rs : Records) → Has f (saved_end s) rs → Has f (saved_end (cut s)) rs
-cut_has f (stage.Saved e) rs h = drop_end f e rs h
+cut_has f (stage.Funded e) rs h = drop_end f e rs h
 cut_has f (stage.AwaitsOpen c) rs h = tt
 cut_has f (stage.AwaitsAccept c) rs h = tt
 cut_has f (stage.AwaitsCreated c) rs h = tt
 cut_has f (stage.AwaitsSigned c) rs h = tt
 cut_has f stage.Gone rs h = tt
 
-drops_by : {K : Type 0} (keys : K) (b : Bool) (l : LineState) (halted : Bool) (f : Option Refusal) (s : Stage)
-    (t : Shelf) → Has f (saved_end s) t.records
-    → HasLink (if b then record { keys = keys; line = l; halted = halted; failure = f; stage = s }
-    else record { keys = keys; line = Down; halted = halted; failure = f; stage = cut s }) t
+drops_by : {K : Type 0} (keys : K) (b : Bool) (l : ConnectionState) (halted : Bool) (f : Option Refusal) (s : Stage)
+    (t : StoreView) → Has f (saved_end s) t.records
+    → HasLink (if b then record { keys = keys; connection = l; halted = halted; failure = f; stage = s }
+    else record { keys = keys; connection = Down; halted = halted; failure = f; stage = cut s }) t
 drops_by keys true l halted f s t h = h
 drops_by keys false l halted f s t h = cut_has f s t.records h
 
-drops_has : {K : Type 0} (l : State K) (t : Shelf) → HasLink l t → HasLink (drops l) t
-drops_has l t h = drops_by l.keys (is_down l.line) l.line l.halted l.failure l.stage t h
+drops_has : {K : Type 0} (l : State K) (t : StoreView) → HasLink l t → HasLink (drops l) t
+drops_has l t h = drops_by l.keys (is_down l.connection) l.connection l.halted l.failure l.stage t h
 
 -- ---- refusals
 
-unchanged : {K : Type 0} (e : Refusal) (keys : K) (line : LineState) (halted : Bool) (f : Option Refusal) (s : Stage)
-    → let l : State K = record { keys = keys; line = line; halted = halted; failure = f; stage = s } in
+unchanged : {K : Type 0} (e : Refusal) (keys : K) (connection : ConnectionState) (halted : Bool)
+    (f : Option Refusal) (s : Stage)
+    → let l : State K = record { keys = keys; connection = connection; halted = halted; failure = f; stage = s } in
     fails_now e l ≡ false → refused e l ≡ l
-unchanged e keys line true f s h = refl
-unchanged e keys line false (Some r) s h = refl
-unchanged e keys line false None s h =
+unchanged e keys connection true f s h = refl
+unchanged e keys connection false (Some r) s h = refl
+unchanged e keys connection false None s h =
     ap (λ (b : Bool). if b then failed e (record
-    { keys = keys; line = line; halted = false; failure = None; stage = s })
-    else record { keys = keys; line = line; halted = false; failure = None; stage = s }) h
+    { keys = keys; connection = connection; halted = false; failure = None; stage = s })
+    else record { keys = keys; connection = connection; halted = false; failure = None; stage = s }) h
 
-pub refused_by : {K : Type 0} (e : Refusal) (l : State K) (s t : Shelf) (b : Bool) → fails_now e l ≡ b
+pub refused_by : {K : Type 0} (e : Refusal) (l : State K) (s t : StoreView) (b : Bool) → fails_now e l ≡ b
     → SavesIf b (refused e l).failure (saved_end (refused e l).stage) s t → HasLink l s
     → HasLink (refused e l) t
 refused_by e l s t true is saved h = has_saved (refused e l).failure (saved_end (refused e l).stage) s t saved
 refused_by e l s t false is same h =
-    subst (λ (x : State _). HasLink x t) (sym (unchanged e l.keys l.line l.halted l.failure l.stage is))
+    subst (λ (x : State _). HasLink x t) (sym (unchanged e l.keys l.connection l.halted l.failure l.stage is))
     (subst (HasLink l) (sym same) h)
 
 -- ---- one call
 
-abbrev pub Stays : {K : Type 0} → State K → Shelf → Type 0
+abbrev pub Stays : {K : Type 0} → State K → StoreView → Type 0
 Stays l s = (l.halted ≡ true) ⊎ HasLink l s
 
-moved : {K : Type 0} (n m : State K) (s : Shelf) → n ≡ m → Stays m s → Stays n s
+moved : {K : Type 0} (n m : State K) (s : StoreView) → n ≡ m → Stays m s → Stays n s
 moved n m s e = subst (λ (x : State _). Stays x s) (sym e)
 
-handed : {K : Type 0} (said : Result Done Refusal) (l n : State K) (os : List Output) (s t : Shelf)
+handed : {K : Type 0} (said : Result Done Refusal) (l n : State K) (os : List Output) (s t : StoreView)
     → HandsOut (λ x. x) said l os n s t → HasLink n t
 handed (Ok d) l n os s t h =
     subst (λ (x : State _). HasLink x t) (sym h.1) (has_saved l.failure (saved_end (settled d l).stage) s t h.2)
 handed (Err r) l n os s t h = absurd h
 
-behind : {K : Type 0} (e : Refusal) (said : Result Done Refusal) (l n : State K) (s t : Shelf)
+behind : {K : Type 0} (e : Refusal) (said : Result Done Refusal) (l n : State K) (s t : StoreView)
     → HaltsBehind e said l n s t → n.halted ≡ true
 behind e (Ok d) l n s t (inl h) = ap (λ (x : State _). x.halted) h.1
 behind e (Ok d) l n s t (inr h) = ap (λ (x : State _). x.halted) h.0
 behind e (Err r) l n s t h = absurd h
 
-refusing : {K : Type 0} (e : Refusal) (said : Result Done Refusal) (l n : State K) (s t : Shelf)
+refusing : {K : Type 0} (e : Refusal) (said : Result Done Refusal) (l n : State K) (s t : StoreView)
     → HaltsRefused e said l n s t → n.halted ≡ true
 refusing e (Ok d) l n s t h = absurd h
 refusing e (Err r) l n s t h = ap (λ (x : State _). x.halted) h.1.0
 
 message_stays : {K : Type 0} (said : Result Done Refusal) (l n : State K) (m : Message)
-    (answer : Result (List Output) Refusal) (s t : Shelf)
+    (answer : Result (List Output) Refusal) (s t : StoreView)
     → AnswersMessage (λ x. x) said l m answer n s t → HasLink l s → Stays n t
 message_stays said l n m (Ok os) s t h has = inr (handed said l n os s t h)
 message_stays said l n m (Err e) s t (inl h) has = inl (has_halted l n h.1)
@@ -149,7 +150,7 @@ message_stays said l n m (Err e) s t (inr (inr (inr h))) has =
     moved n (refused e l) t h.1 (inr (refused_by e l s t (fails_now e l) refl h.2 has))
 
 command_stays : {K : Type 0} (said : Result Done Refusal) (l n : State K) (answer : Result (List Output) Refusal)
-    (s t : Shelf) → AnswersCommand (λ x. x) said l answer n s t → HasLink l s → Stays n t
+    (s t : StoreView) → AnswersCommand (λ x. x) said l answer n s t → HasLink l s → Stays n t
 command_stays said l n (Ok os) s t h has = inr (handed said l n os s t h)
 command_stays said l n (Err e) s t (inl h) has = inl (has_halted l n h.1)
 command_stays said l n (Err e) s t (inr (inl h)) has = inl (behind e said l n s t h)
@@ -161,7 +162,7 @@ end_in (Ok d) = saved_end d.stage
 end_in (Err r) = None
 
 connects_end : (keys : Signer) (st : Stage) (d : Done) → connects keys st ≡ Ok d → saved_end d.stage ≡ saved_end st
-connects_end keys (stage.Saved e) d is = sym (ap end_in is)
+connects_end keys (stage.Funded e) d is = sym (ap end_in is)
 connects_end keys (stage.AwaitsOpen c) d is = sym (ap end_in is)
 connects_end keys (stage.AwaitsAccept c) d is = sym (ap end_in is)
 connects_end keys (stage.AwaitsCreated c) d is = sym (ap end_in is)
@@ -175,7 +176,7 @@ connected_end keys true down st d is = absurd (cc)
 connected_end keys false true st d is = connects_end keys st d is
 connected_end keys false false st d is = absurd (cc)
 
-reached_stays : {K : Type 0} (said : Result Done Refusal) (l n : State K) (os : List Output) (s : Shelf)
+reached_stays : {K : Type 0} (said : Result Done Refusal) (l n : State K) (os : List Output) (s : StoreView)
     → ((d : Done) → said ≡ Ok d → saved_end d.stage ≡ saved_end l.stage) → Reaches (λ x. x) said l os n → HasLink l s
     → HasLink n s
 reached_stays (Ok d) l n os s same h has =
@@ -183,23 +184,23 @@ reached_stays (Ok d) l n os s same h has =
     (subst (λ o. Has l.failure o s.records) (sym (same d refl)) has)
 reached_stays (Err r) l n os s same h has = absurd h
 
-connect_stays : {K : Type 0} (keys : Signer) (l n : State K) (answer : Result (List Output) Refusal) (s : Shelf)
+connect_stays : {K : Type 0} (keys : Signer) (l n : State K) (answer : Result (List Output) Refusal) (s : StoreView)
     → Answered (λ x. x) (connected keys l) l answer n → HasLink l s → Stays n s
 connect_stays keys l n (Ok os) s h has =
     inr (reached_stays (connected keys l) l n os s
-    (λ d is. connected_end keys l.halted (is_down l.line) l.stage d is) h has)
+    (λ d is. connected_end keys l.halted (is_down l.connection) l.stage d is) h has)
 connect_stays keys l n (Err e) s (inl h) has = inl (has_halted l n h.1)
 connect_stays keys l n (Err e) s (inr h) has = moved n l s h.1 (inr has)
 
 -- a message over a store
 over_stays : {K : Type 0} (keys : Signer) (l n : State K) (m : Message) (answer : Result (List Output) Refusal)
-    (s t : Shelf) → AnswersOver (λ x. x) keys l m answer n s t → HasLink l s → Stays n t
+    (s t : StoreView) → AnswersOver (λ x. x) keys l m answer n s t → HasLink l s → Stays n t
 over_stays keys l n m (Ok os) s t h has = message_stays (handled_beside s.records keys l m) l n m (Ok os) s t h has
 over_stays keys l n m (Err e) s t (inl h) has = inl (ap (λ (x : State _). x.halted) h.halts)
 over_stays keys l n m (Err e) s t (inr h) has =
     message_stays (handled_beside s.records keys l m) l n m (Err e) s t h has
 
-pub call_stays : {K : Type 0} (keys : Signer) (c : Call) (l k : State K) (s t : Shelf) → Leads keys c l s k t
+pub call_stays : {K : Type 0} (keys : Signer) (c : Call) (l k : State K) (s t : StoreView) → Leads keys c l s k t
     → HasLink l s → Stays k t
 call_stays keys (Handle m) l k s t h has = over_stays keys l k m h.0 s t h.1 has
 call_stays keys (Command c) l k s t h has = command_stays (commanded keys l c) l k h.0 s t h.1 has
@@ -213,22 +214,22 @@ call_stays keys Halt l k s t h has = inl (ap (λ (x : State _). x.halted) h.0)
 
 refused_halted : {K : Type 0} (e : Refusal) (l : State K) → l.halted ≡ true → refused e l ≡ l
 refused_halted e l h =
-    unchanged e l.keys l.line l.halted l.failure l.stage
+    unchanged e l.keys l.connection l.halted l.failure l.stage
     (ap (λ (b : Bool). not b && (is_none l.failure && fails e)) h)
 
-no_failure : {K : Type 0} (e : Refusal) (l : State K) (s t : Shelf) → l.halted ≡ true → SavesFailure e l s t → t ≡ s
+no_failure : {K : Type 0} (e : Refusal) (l : State K) (s t : StoreView) → l.halted ≡ true → SavesFailure e l s t → t ≡ s
 no_failure e l s t h saves =
     subst (λ b. SavesIf b (refused e l).failure (saved_end (refused e l).stage) s t)
     (ap (λ (b : Bool). not b && (is_none l.failure && fails e)) h) saves
 
-abbrev pub IsStill : {K : Type 0} → State K → Shelf → Shelf → Type 0
+abbrev pub IsStill : {K : Type 0} → State K → StoreView → StoreView → Type 0
 IsStill k s t = (k.halted ≡ true) × (t ≡ s)
 
-still : {K : Type 0} (k l : State K) (s t : Shelf) → k ≡ l → l.halted ≡ true → t ≡ s → IsStill k s t
+still : {K : Type 0} (k l : State K) (s t : StoreView) → k ≡ l → l.halted ≡ true → t ≡ s → IsStill k s t
 still k l s t e h same = (ap (λ (x : State _). x.halted) e ∙ h, same)
 
 message_still : {K : Type 0} (said : Result Done Refusal) (l n : State K) (m : Message)
-    (answer : Result (List Output) Refusal) (s t : Shelf) → said ≡ Err refusal.Halted → l.halted ≡ true
+    (answer : Result (List Output) Refusal) (s t : StoreView) → said ≡ Err refusal.Halted → l.halted ≡ true
     → AnswersMessage (λ x. x) said l m answer n s t → IsStill n s t
 message_still said l n m (Ok os) s t is h a =
     absurd (subst (λ r. HandsOut (λ x. x) r l os n s t) is a)
@@ -245,7 +246,7 @@ message_still said l n m (Err e) s t is h (inr (inr (inr a))) =
     still n l s t (a.1 ∙ refused_halted e l h) h (no_failure e l s t h a.2)
 
 command_still : {K : Type 0} (said : Result Done Refusal) (l n : State K) (answer : Result (List Output) Refusal)
-    (s t : Shelf) → said ≡ Err refusal.Halted → l.halted ≡ true → AnswersCommand (λ x. x) said l answer n s t
+    (s t : StoreView) → said ≡ Err refusal.Halted → l.halted ≡ true → AnswersCommand (λ x. x) said l answer n s t
     → IsStill n s t
 command_still said l n (Ok os) s t is h a = absurd (subst (λ r. HandsOut (λ x. x) r l os n s t) is a)
 command_still said l n (Err e) s t is h (inl a) = (has_halted l n a.1, a.2)
@@ -258,7 +259,7 @@ said_halted : {A : Type 0} (b : Bool) (row : Result A Refusal) → b ≡ true
 said_halted true row h = refl
 said_halted false row h = absurd (cc)
 
-connect_still : {K : Type 0} (keys : Signer) (l n : State K) (answer : Result (List Output) Refusal) (s : Shelf)
+connect_still : {K : Type 0} (keys : Signer) (l n : State K) (answer : Result (List Output) Refusal) (s : StoreView)
     → l.halted ≡ true → Answered (λ x. x) (connected keys l) l answer n → n.halted ≡ true
 connect_still keys l n (Ok os) s h a =
     absurd (subst (λ r. Reaches (λ x. x) r l os n) (said_halted l.halted _ h) a)
@@ -266,10 +267,10 @@ connect_still keys l n (Err e) s h (inl a) = has_halted l n a.1
 connect_still keys l n (Err e) s h (inr a) = ap (λ (x : State _). x.halted) a.1 ∙ h
 
 drops_still : {K : Type 0} (l : State K) → l.halted ≡ true → (drops l).halted ≡ true
-drops_still l h = by (is_down l.line) l h
+drops_still l h = by (is_down l.connection) l h
   where
     by : {K : Type 0} (b : Bool) (l : State K) → l.halted ≡ true
-        → (if b then l else record l { line = Down; stage = cut l.stage }).halted ≡ true
+        → (if b then l else record l { connection = Down; stage = cut l.stage }).halted ≡ true
     by true l h = h
     by false l h = h
 
@@ -278,7 +279,7 @@ opens_none : {K : Type 0} (l : State K) (m : Message) → l.halted ≡ true → 
 opens_none l m h = ap (λ (b : Bool). if b || not (is_none l.failure) then None else opens l.stage m) h
 
 over_still : {K : Type 0} (keys : Signer) (l n : State K) (m : Message) (answer : Result (List Output) Refusal)
-    (s t : Shelf) → l.halted ≡ true → AnswersOver (λ x. x) keys l m answer n s t → IsStill n s t
+    (s t : StoreView) → l.halted ≡ true → AnswersOver (λ x. x) keys l m answer n s t → IsStill n s t
 over_still keys l n m answer s t halted h = by answer h
   where
     says : handled_beside s.records keys l m ≡ Err refusal.Halted
@@ -293,7 +294,7 @@ over_still keys l n m answer s t halted h = by answer h
         absurd (subst (λ o. CannotTell e o s.failed t.failed) (opens_none l m halted) a.cause)
     by (Err e) (inr a) = message_still (handled_beside s.records keys l m) l n m (Err e) s t says halted a
 
-pub call_still : {K : Type 0} (keys : Signer) (c : Call) (l k : State K) (s t : Shelf) → Leads keys c l s k t
+pub call_still : {K : Type 0} (keys : Signer) (c : Call) (l k : State K) (s t : StoreView) → Leads keys c l s k t
     → l.halted ≡ true → IsStill k s t
 call_still keys (Handle m) l k s t h halted =
     over_still keys l k m h.0 s t halted h.1
@@ -306,7 +307,7 @@ call_still keys Halt l k s t h halted = (ap (λ (x : State _). x.halted) h.0, h.
 
 -- ---- all calls
 
-stays : {K : Type 0} (keys : Signer) (cs : List Call) (l n : State K) (s t : Shelf) → Lead keys cs l s n t
+stays : {K : Type 0} (keys : Signer) (cs : List Call) (l n : State K) (s t : StoreView) → Lead keys cs l s n t
     → Stays l s → Stays n t
 stays keys [] l n s t h has = moved n l t h.0 (subst (Stays l) (sym h.1) has)
 stays keys (c ∷ cs) l n s t h (inl halted) =
@@ -315,7 +316,7 @@ stays keys (c ∷ cs) l n s t h (inr has) =
     stays keys cs h.0 n h.1 t h.4 (call_stays keys c l h.0 s h.1 h.2 has)
 
 -- the store has the record of a link that hasn't halted
-pub has_record : {K : Type 0} (keys : Signer) (cs : List Call) (l n : State K) (s t : Shelf) → HasLink l s
+pub has_record : {K : Type 0} (keys : Signer) (cs : List Call) (l n : State K) (s t : StoreView) → HasLink l s
     → Lead keys cs l s n t → n.halted ≡ false → HasLink n t
 has_record keys cs l n s t has h up = by (stays keys cs l n s t h (inr has))
   where
@@ -325,9 +326,9 @@ has_record keys cs l n s t has h up = by (stays keys cs l n s t h (inr has))
 
 -- ---- there always is a record of the channel
 
-of_stage : (c : List ℕ) (f : Option Refusal) (st : Stage) (s : Shelf) → kept_channel st ≡ Some c
+of_stage : (c : List ℕ) (f : Option Refusal) (st : Stage) (s : StoreView) → kept_channel st ≡ Some c
     → Has f (saved_end st) s.records → HasChannel c s
-of_stage c f (stage.Saved e) s is has = (f, e, (let p : Some e.dance.channel ≡ Some c = is in cc), has)
+of_stage c f (stage.Funded e) s is has = (f, e, (let p : Some e.dance.channel ≡ Some c = is in cc), has)
 of_stage c f (stage.AwaitsOpen x) s is has = absurd (cc)
 of_stage c f (stage.AwaitsAccept x) s is has = absurd (cc)
 of_stage c f (stage.AwaitsCreated x) s is has = absurd (cc)
@@ -336,7 +337,7 @@ of_stage c f stage.Gone s is has = absurd (cc)
 
 -- a lost connection leaves an end of the same channel
 cut_channel : (st : Stage) → kept_channel (cut st) ≡ kept_channel st
-cut_channel (stage.Saved e) = refl
+cut_channel (stage.Funded e) = refl
 cut_channel (stage.AwaitsOpen x) = refl
 cut_channel (stage.AwaitsAccept x) = refl
 cut_channel (stage.AwaitsCreated x) = refl
@@ -344,14 +345,15 @@ cut_channel (stage.AwaitsSigned x) = refl
 cut_channel stage.Gone = refl
 
 halts_channel : {K : Type 0} (l : State K) → kept_channel (halts l).stage ≡ kept_channel l.stage
-halts_channel l = by (is_down l.line) l
+halts_channel l = by (is_down l.connection) l
   where
     by : {K : Type 0} (b : Bool) (l : State K)
-        → kept_channel (if b then l else record l { line = Down; stage = cut l.stage }).stage ≡ kept_channel l.stage
+        → kept_channel (if b then l else record l { connection = Down; stage = cut l.stage }).stage
+        ≡ kept_channel l.stage
     by true l = refl
     by false l = cut_channel l.stage
 
-pub new_records : (e : Refusal) (f : Option Refusal) (o : Option End) (s t : Shelf) → IsUnsaved e f o s t
+pub new_records : (e : Refusal) (f : Option Refusal) (o : Option End) (s t : StoreView) → IsUnsaved e f o s t
     → (t.records ≡ s.records) ⊎ Has f o t.records
 new_records e f o s t u = by u.cause u.one_of_both
   where
@@ -367,10 +369,10 @@ new_records e f o s t u = by u.cause u.one_of_both
         absurd (let a = m.0 in let b = n.0 in let no : refusal.Damaged ≡ refusal.Store = sym a ∙ b in cc)
     by (inr (inr m)) (inr n) = inr (put m.1 n.1)
 
-same_records : (c : List ℕ) (s t : Shelf) → t.records ≡ s.records → HasChannel c s → HasChannel c t
+same_records : (c : List ℕ) (s t : StoreView) → t.records ≡ s.records → HasChannel c s → HasChannel c t
 same_records c s t is h = (h.0, h.1, h.2, subst (Has h.0 (Some h.1)) (sym is) h.3)
 
-unsaved_channel : {K : Type 0} (c : List ℕ) (e : Refusal) (m n : State K) (s t : Shelf) → HaltsUnsaved e m n s t
+unsaved_channel : {K : Type 0} (c : List ℕ) (e : Refusal) (m n : State K) (s t : StoreView) → HaltsUnsaved e m n s t
     → kept_channel n.stage ≡ Some c → HasChannel c s → HasChannel c t
 unsaved_channel c e m n s t h kept has = by (new_records e m.failure (saved_end m.stage) s t h.1)
   where
@@ -379,28 +381,30 @@ unsaved_channel c e m n s t h kept has = by (new_records e m.failure (saved_end 
     by (inr new) = of_stage c m.failure m.stage t
         (sym (halts_channel m) ∙ ap (λ (x : State _). kept_channel x.stage) (sym h.0) ∙ kept) new
 
--- a shelf that a call left as it was
-as_it_was : (c : List ℕ) (s t : Shelf) → t ≡ s → HasChannel c s → HasChannel c t
+-- a store view that a call left as it was
+as_it_was : (c : List ℕ) (s t : StoreView) → t ≡ s → HasChannel c s → HasChannel c t
 as_it_was c s t is h = subst (HasChannel c) (sym is) h
 
-behind_channel : {K : Type 0} (c : List ℕ) (e : Refusal) (said : Result Done Refusal) (l n : State K) (s t : Shelf)
+behind_channel : {K : Type 0} (c : List ℕ) (e : Refusal) (said : Result Done Refusal) (l n : State K) (s t : StoreView)
     → HaltsBehind e said l n s t → kept_channel n.stage ≡ Some c → HasChannel c s → HasChannel c t
 behind_channel c e (Ok d) l n s t (inl h) kept has = as_it_was c s t h.2 has
 behind_channel c e (Ok d) l n s t (inr h) kept has = unsaved_channel c e (settled d l) n s t h kept has
 behind_channel c e (Err r) l n s t h kept has = absurd h
 
-refusing_channel : {K : Type 0} (c : List ℕ) (e : Refusal) (said : Result Done Refusal) (l n : State K) (s t : Shelf)
+refusing_channel : {K : Type 0} (c : List ℕ) (e : Refusal) (said : Result Done Refusal) (l n : State K)
+    (s t : StoreView)
     → HaltsRefused e said l n s t → kept_channel n.stage ≡ Some c → HasChannel c s → HasChannel c t
 refusing_channel c e (Ok d) l n s t h kept has = absurd h
 refusing_channel c e (Err r) l n s t h kept has = unsaved_channel c e (refused r l) n s t h.1 kept has
 
 -- what a call leaves of a link whose store has its record
-of_link : {K : Type 0} (c : List ℕ) (n : State K) (t : Shelf) → kept_channel n.stage ≡ Some c → HasLink n t
+of_link : {K : Type 0} (c : List ℕ) (n : State K) (t : StoreView) → kept_channel n.stage ≡ Some c → HasLink n t
     → HasChannel c t
 of_link c n t kept has = of_stage c n.failure n.stage t kept has
 
 message_channel : {K : Type 0} (c : List ℕ) (said : Result Done Refusal) (l n : State K) (m : Message)
-    (answer : Result (List Output) Refusal) (s t : Shelf) → AnswersMessage (λ x. x) said l m answer n s t → HasLink l s
+    (answer : Result (List Output) Refusal) (s t : StoreView)
+    → AnswersMessage (λ x. x) said l m answer n s t → HasLink l s
     → kept_channel n.stage ≡ Some c → HasChannel c s → HasChannel c t
 message_channel c said l n m (Ok os) s t h has kept old = of_link c n t kept (handed said l n os s t h)
 message_channel c said l n m (Err e) s t (inl h) has kept old = as_it_was c s t h.2 old
@@ -412,7 +416,7 @@ message_channel c said l n m (Err e) s t (inr (inr (inr h))) has kept old =
     (refused_by e l s t (fails_now e l) refl h.2 has))
 
 command_channel : {K : Type 0} (c : List ℕ) (said : Result Done Refusal) (l n : State K)
-    (answer : Result (List Output) Refusal) (s t : Shelf) → AnswersCommand (λ x. x) said l answer n s t
+    (answer : Result (List Output) Refusal) (s t : StoreView) → AnswersCommand (λ x. x) said l answer n s t
     → kept_channel n.stage ≡ Some c → HasChannel c s → HasChannel c t
 command_channel c said l n (Ok os) s t h kept old = of_link c n t kept (handed said l n os s t h)
 command_channel c said l n (Err e) s t (inl h) kept old = as_it_was c s t h.2 old
@@ -420,7 +424,7 @@ command_channel c said l n (Err e) s t (inr (inl h)) kept old = behind_channel c
 command_channel c said l n (Err e) s t (inr (inr h)) kept old = as_it_was c s t h.2 old
 
 over_channel : {K : Type 0} (c : List ℕ) (keys : Signer) (l n : State K) (m : Message)
-    (answer : Result (List Output) Refusal) (s t : Shelf) → AnswersOver (λ x. x) keys l m answer n s t → HasLink l s
+    (answer : Result (List Output) Refusal) (s t : StoreView) → AnswersOver (λ x. x) keys l m answer n s t → HasLink l s
     → kept_channel n.stage ≡ Some c → HasChannel c s → HasChannel c t
 over_channel c keys l n m (Ok os) s t h has kept old =
     message_channel c (handled_beside s.records keys l m) l n m (Ok os) s t h has kept old
@@ -428,7 +432,7 @@ over_channel c keys l n m (Err e) s t (inl h) has kept old = same_records c s t 
 over_channel c keys l n m (Err e) s t (inr h) has kept old =
     message_channel c (handled_beside s.records keys l m) l n m (Err e) s t h has kept old
 
-call_channel : {K : Type 0} (keys : Signer) (c : List ℕ) (x : Call) (l k : State K) (s t : Shelf)
+call_channel : {K : Type 0} (keys : Signer) (c : List ℕ) (x : Call) (l k : State K) (s t : StoreView)
     → Leads keys x l s k t → HasLink l s → kept_channel k.stage ≡ Some c → HasChannel c s → HasChannel c t
 call_channel keys c (Handle m) l k s t h has kept old =
     over_channel c keys l k m h.0 s t h.1 has kept old
@@ -438,7 +442,7 @@ call_channel keys c Connect l k s t h has kept old = as_it_was c s t h.2 old
 call_channel keys c DropConnection l k s t h has kept old = as_it_was c s t h.1 old
 call_channel keys c Halt l k s t h has kept old = as_it_was c s t h.1 old
 
-channel_stays : {K : Type 0} (keys : Signer) (c : List ℕ) (xs : List Call) (l n : State K) (s t : Shelf)
+channel_stays : {K : Type 0} (keys : Signer) (c : List ℕ) (xs : List Call) (l n : State K) (s t : StoreView)
     → Lead keys xs l s n t → Stays l s → kept_channel l.stage ≡ Some c → HasChannel c s → HasChannel c t
 channel_stays keys c [] l n s t h has kept old = as_it_was c s t h.1 old
 channel_stays keys c (x ∷ xs) l n s t h (inl halted) kept old =
@@ -449,7 +453,7 @@ channel_stays keys c (x ∷ xs) l n s t h (inr has) kept old =
     (call_channel keys c x l h.0 s h.1 h.2 has (h.3 c kept) old)
 
 -- the store always has one of the channel, whatever failed
-pub has_channel : {K : Type 0} (keys : Signer) (c : List ℕ) (xs : List Call) (l n : State K) (s t : Shelf)
+pub has_channel : {K : Type 0} (keys : Signer) (c : List ℕ) (xs : List Call) (l n : State K) (s t : StoreView)
     → HasLink l s → kept_channel l.stage ≡ Some c → Lead keys xs l s n t → HasChannel c t
 has_channel keys c xs l n s t has kept h =
     channel_stays keys c xs l n s t h (inr has) kept (of_link c l s kept has)

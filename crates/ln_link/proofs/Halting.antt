@@ -9,7 +9,7 @@ use Rattle.ln_channel.specs.declared.output.Output.{Output}
 use Rattle.ln_channel.specs.Record.{saved_end}
 use Rattle.ln_channel.specs.State.{State, refused}
 use Rattle.ln_channel.specs.Step.{Done, commanded}
-use Rattle.ln_link.specs.Saving.{Shelf, HandsOut, HaltsUnsaved, HaltsBehind, HaltsRefused, SavesFailure, fails_now}
+use Rattle.ln_link.specs.Saving.{StoreView, HandsOut, HaltsUnsaved, HaltsBehind, HaltsRefused, SavesFailure, fails_now}
 use Rattle.ln_link.specs.Saving.{AnswersMessage, AnswersCommand, AnswersOver, handled_beside, settled}
 use Rattle.ln_link.specs.Calls.{Call, Handle, Command, Connect, DropConnection, Halt, Leads, Lead}
 use Rattle.ln_link.specs.Calls.{Has, HasLink, left_by, made_by, HaltsWithRecord}
@@ -18,18 +18,18 @@ use Rattle.ln_link.proofs.Calls.{Stays, has_saved, refused_by, call_stays, call_
 -- ---- one call
 
 -- the record of before, or that of what the call made
-abbrev HasOne : {K : Type 0} → State K → State K → Shelf → Type 0
+abbrev HasOne : {K : Type 0} → State K → State K → StoreView → Type 0
 HasOne l made t = HasLink l t ⊎ HasLink made t
 
-as_before : {K : Type 0} (l made : State K) (s t : Shelf) → t ≡ s → HasLink l s → HasOne l made t
+as_before : {K : Type 0} (l made : State K) (s t : StoreView) → t ≡ s → HasLink l s → HasOne l made t
 as_before l made s t is has = inl (subst (HasLink l) (sym is) has)
 
 handed_one : {K : Type 0} (said : Result Done Refusal) (refusing : Refusal → State K) (l n : State K) (os : List Output)
-    (s t : Shelf) → HandsOut (λ x. x) said l os n s t → HasOne l (left_by said refusing l) t
+    (s t : StoreView) → HandsOut (λ x. x) said l os n s t → HasOne l (left_by said refusing l) t
 handed_one (Ok d) refusing l n os s t h = inr (has_saved l.failure (saved_end (settled d l).stage) s t h.2)
 handed_one (Err r) refusing l n os s t h = absurd h
 
-unsaved_one : {K : Type 0} (e : Refusal) (l m n : State K) (s t : Shelf) → HaltsUnsaved e m n s t → HasLink l s
+unsaved_one : {K : Type 0} (e : Refusal) (l m n : State K) (s t : StoreView) → HaltsUnsaved e m n s t → HasLink l s
     → HasOne l m t
 unsaved_one e l m n s t h has = by (new_records e m.failure (saved_end m.stage) s t h.1)
   where
@@ -38,24 +38,24 @@ unsaved_one e l m n s t h has = by (new_records e m.failure (saved_end m.stage) 
     by (inr new) = inr new
 
 behind_one : {K : Type 0} (e : Refusal) (said : Result Done Refusal) (refusing : Refusal → State K) (l n : State K)
-    (s t : Shelf) → HaltsBehind e said l n s t → HasLink l s → HasOne l (left_by said refusing l) t
+    (s t : StoreView) → HaltsBehind e said l n s t → HasLink l s → HasOne l (left_by said refusing l) t
 behind_one e (Ok d) refusing l n s t (inl h) has = as_before l (settled d l) s t h.2 has
 behind_one e (Ok d) refusing l n s t (inr h) has = unsaved_one e l (settled d l) n s t h has
 behind_one e (Err r) refusing l n s t h has = absurd h
 
-refused_one : {K : Type 0} (e : Refusal) (said : Result Done Refusal) (l n : State K) (s t : Shelf)
+refused_one : {K : Type 0} (e : Refusal) (said : Result Done Refusal) (l n : State K) (s t : StoreView)
     → HaltsRefused e said l n s t → HasLink l s → HasOne l (left_by said (λ r. refused r l) l) t
 refused_one e (Ok d) l n s t h has = absurd h
 refused_one e (Err r) l n s t h has = unsaved_one e l (refused r l) n s t h.1 has
 
-kept_one : {K : Type 0} (e : Refusal) (said : Result Done Refusal) (l : State K) (s t : Shelf) → said ≡ Err e
+kept_one : {K : Type 0} (e : Refusal) (said : Result Done Refusal) (l : State K) (s t : StoreView) → said ≡ Err e
     → SavesFailure e l s t → HasLink l s → HasOne l (left_by said (λ r. refused r l) l) t
 kept_one e said l s t is saves has =
     subst (λ (r : Result Done Refusal). HasOne l (left_by r (λ x. refused x l) l) t) (sym is)
     (inr (refused_by e l s t (fails_now e l) refl saves has))
 
 message_one : {K : Type 0} (said : Result Done Refusal) (l n : State K) (m : Message)
-    (answer : Result (List Output) Refusal) (s t : Shelf) → AnswersMessage (λ x. x) said l m answer n s t
+    (answer : Result (List Output) Refusal) (s t : StoreView) → AnswersMessage (λ x. x) said l m answer n s t
     → HasLink l s → HasOne l (left_by said (λ r. refused r l) l) t
 message_one said l n m (Ok os) s t h has = handed_one said (λ r. refused r l) l n os s t h
 message_one said l n m (Err e) s t (inl h) has = as_before l (left_by said (λ r. refused r l) l) s t h.2 has
@@ -64,7 +64,7 @@ message_one said l n m (Err e) s t (inr (inr (inl h))) has = refused_one e said 
 message_one said l n m (Err e) s t (inr (inr (inr h))) has = kept_one e said l s t h.0 h.2 has
 
 command_one : {K : Type 0} (said : Result Done Refusal) (l n : State K) (answer : Result (List Output) Refusal)
-    (s t : Shelf) → AnswersCommand (λ x. x) said l answer n s t → HasLink l s
+    (s t : StoreView) → AnswersCommand (λ x. x) said l answer n s t → HasLink l s
     → HasOne l (left_by said (λ r. l) l) t
 command_one said l n (Ok os) s t h has = handed_one said (λ r. l) l n os s t h
 command_one said l n (Err e) s t (inl h) has = as_before l (left_by said (λ r. l) l) s t h.2 has
@@ -72,7 +72,7 @@ command_one said l n (Err e) s t (inr (inl h)) has = behind_one e said (λ r. l)
 command_one said l n (Err e) s t (inr (inr h)) has = as_before l (left_by said (λ r. l) l) s t h.2 has
 
 over_one : {K : Type 0} (keys : Signer) (l n : State K) (m : Message) (answer : Result (List Output) Refusal)
-    (s t : Shelf) → AnswersOver (λ x. x) keys l m answer n s t → HasLink l s
+    (s t : StoreView) → AnswersOver (λ x. x) keys l m answer n s t → HasLink l s
     → HasOne l (made_by keys (Handle m) l s) t
 over_one keys l n m (Ok os) s t h has = message_one (handled_beside s.records keys l m) l n m (Ok os) s t h has
 over_one keys l n m (Err e) s t (inl h) has =
@@ -80,7 +80,8 @@ over_one keys l n m (Err e) s t (inl h) has =
 over_one keys l n m (Err e) s t (inr h) has =
     message_one (handled_beside s.records keys l m) l n m (Err e) s t h has
 
-call_one : {K : Type 0} (keys : Signer) (c : Call) (l k : State K) (s t : Shelf) → Leads keys c l s k t → HasLink l s
+call_one : {K : Type 0} (keys : Signer) (c : Call) (l k : State K) (s t : StoreView)
+    → Leads keys c l s k t → HasLink l s
     → HasOne l (made_by keys c l s) t
 call_one keys (Handle m) l k s t h has = over_one keys l k m h.0 s t h.1 has
 call_one keys (Command c) l k s t h has = command_one (commanded keys l c) l k h.0 s t h.1 has
@@ -91,19 +92,19 @@ call_one keys Halt l k s t h has = as_before l l s t h.1 has
 -- ---- all calls
 
 -- behind a halt nothing is saved
-all_still : {K : Type 0} (keys : Signer) (cs : List Call) (l n : State K) (s t : Shelf) → Lead keys cs l s n t
+all_still : {K : Type 0} (keys : Signer) (cs : List Call) (l n : State K) (s t : StoreView) → Lead keys cs l s n t
     → l.halted ≡ true → t ≡ s
 all_still keys [] l n s t h halted = h.1
 all_still keys (c ∷ cs) l n s t h halted =
     let k = call_still keys c l h.0 s h.1 h.2 halted in
     all_still keys cs h.0 n h.1 t h.4 k.0 ∙ k.1
 
-up_has : {K : Type 0} (k : State K) (s : Shelf) → Stays k s → k.halted ≡ false → HasLink k s
+up_has : {K : Type 0} (k : State K) (s : StoreView) → Stays k s → k.halted ≡ false → HasLink k s
 up_has k s (inl halted) up = absurd (cc)
 up_has k s (inr has) up = has
 
 -- one call more in front
-behind_call : {K : Type 0} (keys : Signer) (c : Call) (cs : List Call) (l n : State K) (s t : Shelf)
+behind_call : {K : Type 0} (keys : Signer) (c : Call) (cs : List Call) (l n : State K) (s t : StoreView)
     (h : Lead keys (c ∷ cs) l s n t) → HaltsWithRecord keys cs h.0 h.1 t → HaltsWithRecord keys (c ∷ cs) l s t
 behind_call keys c cs l n s t h r = record {
   before = c ∷ r.before;
@@ -122,7 +123,7 @@ behind_call keys c cs l n s t h r = record {
 }
 
 -- this call halts it
-at_call : {K : Type 0} (keys : Signer) (c : Call) (cs : List Call) (l n : State K) (s t : Shelf)
+at_call : {K : Type 0} (keys : Signer) (c : Call) (cs : List Call) (l n : State K) (s t : StoreView)
     (h : Lead keys (c ∷ cs) l s n t) → HasLink l s → l.halted ≡ false → h.0.halted ≡ true
     → HaltsWithRecord keys (c ∷ cs) l s t
 at_call keys c cs l n s t h has up halted = record {
@@ -142,7 +143,7 @@ at_call keys c cs l n s t h has up halted = record {
       (call_one keys c l h.0 s h.1 h.2 has);
 }
 
-pub halts_with_record : {K : Type 0} (keys : Signer) (cs : List Call) (l n : State K) (s t : Shelf) → HasLink l s
+pub halts_with_record : {K : Type 0} (keys : Signer) (cs : List Call) (l n : State K) (s t : StoreView) → HasLink l s
     → l.halted ≡ false → Lead keys cs l s n t → n.halted ≡ true → HaltsWithRecord keys cs l s t
 halts_with_record keys [] l n s t has up h down =
     absurd (let p : l.halted ≡ true = sym (ap (λ (x : State _). x.halted) h.0) ∙ down in cc)

@@ -10,7 +10,7 @@ use Rattle.ln_msgs.specs.declared.messages.opening.AcceptChannel.{AcceptChannel}
 use Rattle.ln_msgs.specs.declared.refusals.refusal.Refusal.{Refusal}
 use Rattle.ln_msgs.proofs.Grammar.{message_again}
 use Rattle.ln_log.specs.Log.{Log, none, after_drop}
-use Rattle.ln_log.specs.Told.{told_of, IsRestorable}
+use Rattle.ln_log.specs.RecordForm.{record_form_of, IsRestorable}
 use Rattle.ln_dance.specs.Dance.{with_log}
 use Rattle.ln_channel.specs.declared.opening.Terms.{Terms}
 use Rattle.ln_channel.specs.Opening.{opening_of}
@@ -65,7 +65,7 @@ place_again (Some id) f = ap Some (id_again id.block id.tx id.output id.block_fi
 loaded_told : (failure : Option Refusal) (e : End) → HasRecord failure e
     → told_in (opening_of (terms_of (agreement_of e))) e.closing.role
     (updates_of (opening_of e.terms) e.closing.role (after_drop e.dance.log))
-    ≡ told_of e.dance.log.first (after_drop e.dance.log)
+    ≡ record_form_of e.dance.log.first (after_drop e.dance.log)
 loaded_told failure e h =
     read_again (opening_of (terms_of (agreement_of e))) (opening_of e.terms) e.closing.role (after_drop e.dance.log)
     (h.sound.opening ∙ ap opening_of (sym (terms_again failure e h))) h.sound.opening h.sound.one_role h.log
@@ -74,7 +74,7 @@ loaded_told failure e h =
 
 -- the log that is read
 abbrev pub read_log : End → Log
-read_log e = restored (told_of e.dance.log.first (after_drop e.dance.log))
+read_log e = restored (record_form_of e.dance.log.first (after_drop e.dance.log))
 
 loaded_log : (failure : Option Refusal) (e : End) → HasRecord failure e
     → log_in (items_of failure e) ≡ read_log e
@@ -88,13 +88,13 @@ loaded_end failure e h =
     let d = read_log e in
     let made : Log → Terms → Option ShortId → End = λ l t s.
     end_with (dance_of (header_of failure e) (commitments_of e.dance) l) e.closing t
-    (record { short_id = s; ready_sent = e.marks.ready_sent; ready_received = e.marks.ready_received })
+    (record { short_id = s; ready_sent = e.readiness.ready_sent; ready_received = e.readiness.ready_received })
     e.ledger in
     let t = terms_of (agreement_of e) in
-    let s = option_map short_id_of (option_map chain_place_of e.marks.short_id) in
+    let s = option_map short_id_of (option_map chain_place_of e.readiness.short_id) in
     ap (λ (l : Log). made l t s) (loaded_log failure e h)
     ∙ ap (λ (u : Terms). made d u s) (terms_again failure e h)
-    ∙ ap (λ (u : Option ShortId). made d e.terms u) (place_again e.marks.short_id h.output)
+    ∙ ap (λ (u : Option ShortId). made d e.terms u) (place_again e.readiness.short_id h.output)
 
 pub loaded : (failure : Option Refusal) (e : End) → HasRecord failure e
     → IsReadAgain (end_of (items_of failure e)) e

@@ -6,45 +6,53 @@ use Rattle.ln_msgs.specs.declared.messages.message.Message.{Message}
 use Rattle.ln_msgs.specs.declared.refusals.refusal.Refusal.{Refusal}
 use Rattle.ln_msgs.specs.declared.refusals.refusal.Refusal.TheVariants as refusal
 use Rattle.ln_keys.specs.Signer.{Signer}
-use Rattle.ln_channel.specs.declared.unsaved.LineState.{LineState}
-use Rattle.ln_channel.specs.declared.unsaved.Stage.{Stage}
+use Rattle.ln_channel.specs.declared.machine.ConnectionState.{ConnectionState}
+use Rattle.ln_channel.specs.declared.machine.Stage.{Stage}
 use Rattle.ln_channel.specs.declared.output.Output.{Output}
 use Rattle.ln_channel.specs.Failing.{fails}
 use Rattle.ln_channel.specs.State.{State, failed, refused, IsHalted}
 use Rattle.ln_channel.specs.Step.{Done, AnsweredMessage, handled, opened}
 use Rattle.ln_channel.specs.State.{halts}
 use Rattle.ln_channel.specs.Record.{saved_end}
-use Rattle.ln_link.specs.Saving.{Shelf, Refuses, IsSaved, IsUnsaved, HaltsRefused, SavesIf}
+use Rattle.ln_link.specs.Saving.{StoreView, Refuses, IsSaved, IsUnsaved, HaltsRefused, SavesIf}
 use Rattle.ln_link.specs.Saving.{is_failing, fails_now, AnswersMessage, AnswersOver, is_known}
 use Rattle.ln_link.specs.Saving.{handled_beside}
 use Rattle.ln_store.specs.Store.{Records}
 
 -- a link without a failure, by whether the refusal is one
-by_refusal : {K : Type 0} (r : Refusal) (keys : K) (line : LineState) (s : Stage) (b : Bool)
-    → let l : State K = record { keys = keys; line = line; halted = false; failure = None; stage = s } in
+by_refusal : {K : Type 0} (r : Refusal) (keys : K) (connection : ConnectionState) (s : Stage) (b : Bool)
+    → let l : State K = record { keys = keys; connection = connection; halted = false; failure = None; stage = s } in
     (is_failing (if b then failed r l else l) && true) ≡ b
-by_refusal r keys line s true = refl
-by_refusal r keys line s false = refl
+by_refusal r keys connection s true = refl
+by_refusal r keys connection s false = refl
 
-by_parts : {K : Type 0} (r : Refusal) (keys : K) (line : LineState) (halted : Bool) (failure : Option Refusal)
+by_parts : {K : Type 0} (r : Refusal) (keys : K) (connection : ConnectionState) (halted : Bool)
+    (failure : Option Refusal)
     (s : Stage)
-    → let l : State K = record { keys = keys; line = line; halted = halted; failure = failure; stage = s } in
+    → let l : State K = record {
+      keys = keys;
+      connection = connection;
+      halted = halted;
+      failure =
+          failure;
+      stage = s;
+    } in
     (is_failing (refused r l) && is_none failure) ≡ fails_now r l
-by_parts r keys line true failure s = refl
-by_parts r keys line false (Some x) s = refl
-by_parts r keys line false None s = by_refusal r keys line s (fails r)
+by_parts r keys connection true failure s = refl
+by_parts r keys connection false (Some x) s = refl
+by_parts r keys connection false None s = by_refusal r keys connection s (fails r)
 
 -- a link fails now where it has failed behind the refusal, and had not before
 pub failing : {K : Type 0} (r : Refusal) (l : State K)
     → (is_failing (refused r l) && is_none l.failure) ≡ fails_now r l
-failing r l = by_parts r l.keys l.line l.halted l.failure l.stage
+failing r l = by_parts r l.keys l.connection l.halted l.failure l.stage
 
 -- a link that has halted saves nothing
 pub halted : {K : Type 0} (m : State K) (b : Bool) → m.halted ≡ true → (is_failing m && b) ≡ false
 halted m b h = ap (λ (x : Bool). (not x && not (is_none m.failure)) && b) h
 
 settled : {K V : Type 0} (outs : V → List Output) (said : Result Done Refusal) (l m n : State K) (msg : Message)
-    (e e' : Refusal) (before behind : Shelf) (b : Bool) → fails_now e l ≡ b → said ≡ Err e → m ≡ refused e l
+    (e e' : Refusal) (before behind : StoreView) (b : Bool) → fails_now e l ≡ b → said ≡ Err e → m ≡ refused e l
     → Refuses b e e' m n before behind → AnswersMessage outs said l msg (Err e') n before behind
 settled outs said l m n msg e e' before behind false w s p x =
     let k : fails_now e' l ≡ false = ap (λ (r : Refusal). fails_now r l) x.0 ∙ w in
@@ -76,7 +84,7 @@ has_halted l n h = h.halted
 
 -- what is answered to a message that is refused
 pub after_refusal : {K V : Type 0} (outs : V → List Output) (said : Result Done Refusal) (l m n : State K)
-    (msg : Message) (e e' : Refusal) (before behind : Shelf) → AnsweredMessage outs said l msg (Err e) m
+    (msg : Message) (e e' : Refusal) (before behind : StoreView) → AnsweredMessage outs said l msg (Err e) m
     → Refuses (is_failing m && is_none l.failure) e e' m n before behind
     → AnswersMessage outs said l msg (Err e') n before behind
 after_refusal outs said l m n msg e e' before behind (inl h) r =
@@ -91,7 +99,7 @@ after_refusal outs said l m n msg e e' before behind (inr h) r =
 
 -- the same, where the link is told to have had no failure
 pub after_refusal_of : {K V : Type 0} (outs : V → List Output) (said : Result Done Refusal) (l m n : State K)
-    (msg : Message) (e e' : Refusal) (before behind : Shelf) (healthy : Bool) → healthy ≡ is_none l.failure
+    (msg : Message) (e e' : Refusal) (before behind : StoreView) (healthy : Bool) → healthy ≡ is_none l.failure
     → AnsweredMessage outs said l msg (Err e) m → Refuses (is_failing m && healthy) e e' m n before behind
     → AnswersMessage outs said l msg (Err e') n before behind
 after_refusal_of outs said l m n msg e e' before behind healthy h a r =
@@ -102,7 +110,7 @@ after_refusal_of outs said l m n msg e e' before behind healthy h a r =
 
 -- a store that was asked
 asked : (rs rs' : Records) (f f' : ℕ) → rs' ≡ rs → f' ≡ f
-    → let behind : Shelf = record { records = rs'; failed = f' } in
+    → let behind : StoreView = record { records = rs'; failed = f' } in
     behind ≡ record { records = rs; failed = f }
 asked rs rs' f f' p q =
     ap (λ (x : Records). record { records = x; failed = f' }) p ∙ ap (λ (x : ℕ). record { records = rs; failed = x }) q
@@ -114,7 +122,7 @@ unknown rs known channel l m isnt told is = sym isnt ∙ told ∙ ap (λ (o : Op
 
 -- the message opens none that it knows
 pub taken_over : {K V : Type 0} (outs : V → List Output) (keys : Signer) (l n : State K) (m : Message)
-    (answer : Result V Refusal) (rs rs' : Records) (f f' : ℕ) (behind : Shelf) → false ≡ is_known (opened l m) rs
+    (answer : Result V Refusal) (rs rs' : Records) (f f' : ℕ) (behind : StoreView) → false ≡ is_known (opened l m) rs
     → rs' ≡ rs → f' ≡ f
     → AnswersMessage outs (handled keys l m) l m answer n (record { records = rs'; failed = f' }) behind
     → AnswersOver outs keys l m answer n (record { records = rs; failed = f }) behind

@@ -12,13 +12,13 @@ use Rattle.ln_log.specs.declared.log.Counts.{Counts}
 use Rattle.ln_log.specs.declared.update.Add.{Add}
 use Rattle.ln_log.specs.Log.{Log, none, after_drop}
 use Rattle.ln_log.specs.Explained.{AreBetween}
-use Rattle.ln_log.specs.Told.{Told, told_of, written, IsRestorable}
+use Rattle.ln_log.specs.RecordForm.{RecordForm, record_form_of, written, IsRestorable}
 use Rattle.ln_log.proofs.Retold.{tells_written}
 use Rattle.ln_dance.specs.Past.{IsReadOf}
 use Rattle.ln_store.specs.declared.record.LiveHtlc.{LiveHtlc}
 use Rattle.ln_store.specs.Removals.{are_one_side}
 use Rattle.ln_link.specs.Record.{live_of, updates_by, updates_of}
-use Rattle.ln_link.specs.Loading.{place_in, lives_from, lives_in, told_in}
+use Rattle.ln_link.specs.Loading.{place_in, live_htlcs_from, live_htlcs_in, told_in}
 use Rattle.ln_link.proofs.Window.{in_role, told_as}
 
 -- ---- live HTLCs
@@ -51,60 +51,64 @@ inserted_last adds n a e =
 -- those of a side by rising ids are read as they stand
 mine_in : (side x : Role) → are_one_side side x ≡ true → (from to : ℕ) (adds acc : List Add) (rest : List LiveHtlc)
     → AreBetween from to adds → AreBelow from acc
-    → lives_from side acc (map (live_of x) adds ++ rest) ≡ lives_from side (acc ++ adds) rest
+    → live_htlcs_from side acc (map (live_of x) adds ++ rest) ≡ live_htlcs_from side (acc ++ adds) rest
 unfolding AreBelow
-mine_in side x e from to [] acc rest b h = ap (λ xs. lives_from side xs rest) (sym (append-nil acc))
+mine_in side x e from to [] acc rest b h = ap (λ xs. live_htlcs_from side xs rest) (sym (append-nil acc))
 mine_in side x e from to (a ∷ adds) acc rest b h =
     let more = map (live_of x) adds ++ rest in
-    ap (λ c. lives_from side (if c then insert acc (place_in a.id acc) a else acc) more) e
-    ∙ ap (λ xs. lives_from side xs more) (inserted_last acc (place_in a.id acc) a (last_place from a.id acc h b.0))
+    ap (λ c. live_htlcs_from side (if c then insert acc (place_in a.id acc) a else acc) more) e
+    ∙ ap (λ xs. live_htlcs_from side xs more) (inserted_last acc (place_in a.id acc) a (last_place from a.id acc h b.0))
     ∙ mine_in side x e (a.id + 1) to adds (acc ++ a ∷ []) rest b.2
     (below_more from (a.id + 1) acc a h (let p = b.0 in omega (arith, p)) (omega arith))
-    ∙ ap (λ xs. lives_from side xs rest) (append_assoc acc (a ∷ []) adds)
+    ∙ ap (λ xs. live_htlcs_from side xs rest) (append_assoc acc (a ∷ []) adds)
 
 -- those of the other side are passed over
 others_in : (side x : Role) → are_one_side side x ≡ false → (adds acc : List Add) (rest : List LiveHtlc)
-    → lives_from side acc (map (live_of x) adds ++ rest) ≡ lives_from side acc rest
+    → live_htlcs_from side acc (map (live_of x) adds ++ rest) ≡ live_htlcs_from side acc rest
 others_in side x e [] acc rest = refl
 others_in side x e (a ∷ adds) acc rest =
-    ap (λ c. lives_from side (if c then insert acc (place_in a.id acc) a else acc) (map (live_of x) adds ++ rest)) e
+    ap (λ c. live_htlcs_from side (if c then insert acc (place_in a.id acc) a else acc) (map
+    (live_of x) adds ++ rest)) e
     ∙ others_in side x e adds acc rest
 
 funders_in : (n : ℕ) (a b : List Add) → AreBetween 0 n a
-    → lives_in Funder (map (live_of Funder) a ++ map (live_of Fundee) b) ≡ a
+    → live_htlcs_in Funder (map (live_of Funder) a ++ map (live_of Fundee) b) ≡ a
 unfolding AreBelow
 funders_in n a b h =
     mine_in Funder Funder refl 0 n a [] (map (live_of Fundee) b) h tt
-    ∙ ap (λ l. lives_from Funder a l) (sym (append-nil (map (live_of Fundee) b)))
+    ∙ ap (λ l. live_htlcs_from Funder a l) (sym (append-nil (map (live_of Fundee) b)))
     ∙ others_in Funder Fundee refl b a []
 
 fundees_in : (n : ℕ) (a b : List Add) → AreBetween 0 n b
-    → lives_in Fundee (map (live_of Funder) a ++ map (live_of Fundee) b) ≡ b
+    → live_htlcs_in Fundee (map (live_of Funder) a ++ map (live_of Fundee) b) ≡ b
 unfolding AreBelow
 fundees_in n a b h =
     others_in Fundee Funder refl a [] (map (live_of Fundee) b)
-    ∙ ap (λ l. lives_from Fundee [] l) (sym (append-nil (map (live_of Fundee) b)))
+    ∙ ap (λ l. live_htlcs_from Fundee [] l) (sym (append-nil (map (live_of Fundee) b)))
     ∙ mine_in Fundee Fundee refl 0 n b [] [] h tt
 
 -- ---- all that is told
 
-abbrev with_lives : Told → List Add → List Add → Told
-with_lives t own peer = record t { own_lives = own; peer_lives = peer }
+abbrev with_live_htlcs : RecordForm → List Add → List Add → RecordForm
+with_live_htlcs t own peer = record t { own_live_htlcs = own; peer_live_htlcs = peer }
 
-same_lives : (t : Told) (own own' peer peer' : List Add) → own ≡ own' → peer ≡ peer'
-    → with_lives t own peer ≡ with_lives t own' peer'
-same_lives t own own' peer peer' e f = ap (λ xs. with_lives t xs peer) e ∙ ap (λ xs. with_lives t own' xs) f
+same_live_htlcs : (t : RecordForm) (own own' peer peer' : List Add) → own ≡ own' → peer ≡ peer'
+    → with_live_htlcs t own peer ≡ with_live_htlcs t own' peer'
+same_live_htlcs t own own' peer peer' e f = ap (λ xs. with_live_htlcs t xs peer) e
+    ∙ ap (λ xs. with_live_htlcs t own' xs) f
 
-again_in : (x : Role) (t : Told) → IsRestorable t → told_in t.opening x (updates_by (in_role x t)) ≡ in_role x t
+again_in : (x : Role) (t : RecordForm) → IsRestorable t → told_in t.opening x (updates_by (in_role x t)) ≡ in_role x t
 unfolding updates_by
 again_in Funder t h =
-    same_lives (in_role Funder t) _ _ _ _ (funders_in t.worth.next_own t.own_lives t.peer_lives h.base.own_live)
-    (fundees_in t.worth.next_peer t.own_lives t.peer_lives h.base.peer_live)
+    same_live_htlcs (in_role Funder t) _ _ _ _
+    (funders_in t.balances.next_own t.own_live_htlcs t.peer_live_htlcs h.base.own_live)
+    (fundees_in t.balances.next_peer t.own_live_htlcs t.peer_live_htlcs h.base.peer_live)
 again_in Fundee t h =
-    same_lives (in_role Fundee t) _ _ _ _ (fundees_in t.worth.next_own t.peer_lives t.own_lives h.base.own_live)
-    (funders_in t.worth.next_peer t.peer_lives t.own_lives h.base.peer_live)
+    same_live_htlcs (in_role Fundee t) _ _ _ _
+    (fundees_in t.balances.next_own t.peer_live_htlcs t.own_live_htlcs h.base.own_live)
+    (funders_in t.balances.next_peer t.peer_live_htlcs t.own_live_htlcs h.base.peer_live)
 
-again : (o : Opening) (x : Role) (t : Told) → t.opening ≡ o → t.role ≡ x → IsRestorable t
+again : (o : Opening) (x : Role) (t : RecordForm) → t.opening ≡ o → t.role ≡ x → IsRestorable t
     → told_in o x (updates_by t) ≡ t
 again o x t e f h =
     subst (λ (y : Opening). told_in y x (updates_by t) ≡ t) e
@@ -112,26 +116,26 @@ again o x t e f h =
 
 -- what is read of the record of a log's updates
 pub read_again : (o p : Opening) (x : Role) (l : Log) → l.opening ≡ o → l.opening ≡ p → l.role ≡ x
-    → IsRestorable (told_of l.first l) → told_in o x (updates_of p x l) ≡ told_of l.first l
+    → IsRestorable (record_form_of l.first l) → told_in o x (updates_of p x l) ≡ record_form_of l.first l
 read_again o p x l e f g h =
-    ap (λ (t : Told). told_in o x (updates_by t)) (told_as p x l f g)
-    ∙ again o x (told_of l.first l) e g h
+    ap (λ (t : RecordForm). told_in o x (updates_by t)) (told_as p x l f g)
+    ∙ again o x (record_form_of l.first l) e g h
 
 -- ---- the log that is read of it
 
-abbrev pub restored : Told → Log
+abbrev pub restored : RecordForm → Log
 restored t = record (written t) { first = t.first }
 
-pub is_read : (l : Log) → IsRestorable (told_of l.first (after_drop l))
-    → IsReadOf (restored (told_of l.first (after_drop l))) l
+pub is_read : (l : Log) → IsRestorable (record_form_of l.first (after_drop l))
+    → IsReadOf (restored (record_form_of l.first (after_drop l))) l
 is_read l h = record {
   first = refl;
-  same_record = sym (tells_written (told_of l.first (after_drop l)) h).1;
+  same_record = sym (tells_written (record_form_of l.first (after_drop l)) h).1;
 }
 
 -- where all updates are had one by one, it tells them all
 
-abbrev all_told : Counts → Told → Log
+abbrev all_told : Counts → RecordForm → Log
 all_told n t = record {
   opening = t.opening;
   role = t.role;
@@ -147,5 +151,5 @@ pub all_read : (l m : Log) → IsReadOf l m → m.first ≡ none → l ≡ after
 all_read l m h e =
     let f = h.first ∙ e in
     ap (λ (n : Counts). record l { first = n }) f
-    ∙ ap (all_told none) (subst (λ (n : Counts). told_of n l ≡ told_of n (after_drop m)) f h.same_record)
+    ∙ ap (all_told none) (subst (λ (n : Counts). record_form_of n l ≡ record_form_of n (after_drop m)) f h.same_record)
     ∙ ap (λ (n : Counts). record (after_drop m) { first = n }) (sym e)

@@ -9,10 +9,10 @@ use Rattle.ln_log.specs.declared.opening.Opening.{Opening}
 use Rattle.ln_log.specs.declared.update.Add.{Add}
 use Rattle.ln_log.specs.declared.update.Update.{Update}
 use Rattle.ln_log.specs.Log.{none, between, after_drop}
-use Rattle.ln_log.specs.Told.{Told, told_of, as_offered, IsRestorable}
+use Rattle.ln_log.specs.RecordForm.{RecordForm, record_form_of, as_offered, IsRestorable}
 use Rattle.ln_log.specs.Updates.{offered}
 use Rattle.ln_log.specs.View.{live_adds}
-use Rattle.ln_log.specs.Window.{Worth, worth_of}
+use Rattle.ln_log.specs.Window.{Balances, balances_of}
 use Rattle.ln_channel.specs.Opening.{opening_of}
 use Rattle.ln_channel.specs.End.{End, IsSound}
 use Rattle.ln_store.specs.declared.record.Agreement.{Agreement}
@@ -22,7 +22,7 @@ use Rattle.ln_store.specs.declared.record.Sides.{Sides}
 use Rattle.ln_store.specs.declared.record.Header.{Header}
 use Rattle.ln_store.specs.declared.record.Updates.{Updates}
 use Rattle.ln_link.specs.Record.{flags_of, header_of, payload_of, chain_place_of, agreement_of}
-use Rattle.ln_link.specs.Record.{by_roles, lives_of, base_of, window_of, pairs_of, updates_by, updates_of}
+use Rattle.ln_link.specs.Record.{by_roles, live_htlcs_of, base_of, window_of, pairs_of, updates_by, updates_of}
 
 pub header_so : (h : Header) (e : End) → h.channel ≡ e.dance.channel → h.role ≡ e.closing.role → h.flags ≡ flags_of e
     → h ≡ header_of h.failure e
@@ -34,13 +34,13 @@ header_so h e channel role flags =
 
 pub agreement_so : (a : Agreement) (e : End) → a.open_payload ≡ payload_of (open_wire e.terms.open_channel)
     → a.accept_payload ≡ payload_of (accept_wire e.terms.accept_channel)
-    → a.place ≡ option_map chain_place_of e.marks.short_id → a.fees ≡ e.closing.fees → a.script ≡ e.terms.script
+    → a.place ≡ option_map chain_place_of e.readiness.short_id → a.fees ≡ e.closing.fees → a.script ≡ e.terms.script
     → a.peer_script ≡ e.terms.peer_script → a ≡ agreement_of e
 unfolding agreement_of
 agreement_so a e opens accepts place fees script peer =
     let open' = payload_of (open_wire e.terms.open_channel) in
     let accept' = payload_of (accept_wire e.terms.accept_channel) in
-    let place' = option_map chain_place_of e.marks.short_id in
+    let place' = option_map chain_place_of e.readiness.short_id in
     ap (λ x. record a { open_payload = x }) opens
     ∙ ap (λ x. record a { open_payload = open'; accept_payload = x }) accepts
     ∙ ap (λ x. record a { open_payload = open'; accept_payload = accept'; place = x }) place
@@ -69,10 +69,10 @@ pub offered_again : (adds : List Add) → filter_map offered (as_offered adds) �
 offered_again [] = refl
 offered_again (a ∷ adds) = ap (λ (xs : List Add). a ∷ xs) (offered_again adds)
 
-pub base_so : (x : Role) (t : Told) (w : Worth) (own peer : List Update) (n m : ℕ) (u i c : Sides)
-    (live : List LiveHtlc) → w ≡ t.worth → own ≡ as_offered t.own_lives → peer ≡ as_offered t.peer_lives
+pub base_so : (x : Role) (t : RecordForm) (w : Balances) (own peer : List Update) (n m : ℕ) (u i c : Sides)
+    (live : List LiveHtlc) → w ≡ t.balances → own ≡ as_offered t.own_live_htlcs → peer ≡ as_offered t.peer_live_htlcs
     → n ≡ t.first.own → m ≡ t.first.peer → u ≡ by_roles x n m → i ≡ by_roles x w.next_own w.next_peer
-    → c ≡ by_roles x w.own w.peer → live ≡ lives_of x (filter_map offered own) (filter_map offered peer)
+    → c ≡ by_roles x w.own w.peer → live ≡ live_htlcs_of x (filter_map offered own) (filter_map offered peer)
     → let made : Base = record { updates = u; next_ids = i; balances = c; feerate = w.feerate; live = live } in
     made ≡ base_of (record t { role = x })
 base_so x t w own peer n m u i c live ew eo ep en em eu ei ec el =
@@ -83,18 +83,19 @@ base_so x t w own peer n m u i c live ew eo ep en em eu ei ec el =
       feerate = rate;
       live = ls;
     } in
-    let os = t.own_lives in
+    let os = t.own_live_htlcs in
     let u' = eu ∙ ap (λ (k : ℕ). by_roles x k m) en ∙ ap (λ (k : ℕ). by_roles x t.first.own k) em in
-    let i' = ei ∙ ap (λ (v : Worth). by_roles x v.next_own v.next_peer) ew in
-    let c' = ec ∙ ap (λ (v : Worth). by_roles x v.own v.peer) ew in
+    let i' = ei ∙ ap (λ (v : Balances). by_roles x v.next_own v.next_peer) ew in
+    let c' = ec ∙ ap (λ (v : Balances). by_roles x v.own v.peer) ew in
     let l' = el
-    ∙ ap (λ (us : List Add). lives_of x us (filter_map offered peer)) (ap (filter_map offered) eo ∙ offered_again os)
-    ∙ ap (λ (us : List Add). lives_of x os us) (ap (filter_map offered) ep ∙ offered_again t.peer_lives) in
+    ∙ ap (λ (us : List Add). live_htlcs_of x us (filter_map offered peer)) (ap (filter_map offered) eo
+    ∙ offered_again os)
+    ∙ ap (λ (us : List Add). live_htlcs_of x os us) (ap (filter_map offered) ep ∙ offered_again t.peer_live_htlcs) in
     let told = base_of (record t { role = x }) in
     ap (λ (z : Sides). made z i c w.feerate live) u'
     ∙ ap (λ (z : Sides). made told.updates z c w.feerate live) i'
     ∙ ap (λ (z : Sides). made told.updates told.next_ids z w.feerate live) c'
-    ∙ ap (λ (v : Worth). made told.updates told.next_ids told.balances v.feerate live) ew
+    ∙ ap (λ (v : Balances). made told.updates told.next_ids told.balances v.feerate live) ew
     ∙ ap (λ (z : List LiveHtlc). made told.updates told.next_ids told.balances told.feerate z) l'
 
 -- what is worth so much, as a base of a side with this role
@@ -103,9 +104,9 @@ base_by o y x n own peer = base_of (record {
   opening = o;
   role = x;
   first = n;
-  worth = worth_of o y own peer;
-  own_lives = live_adds own peer;
-  peer_lives = live_adds peer own;
+  balances = balances_of o y own peer;
+  own_live_htlcs = live_adds own peer;
+  peer_live_htlcs = live_adds peer own;
   own = [];
   received = [];
   signed = none;
@@ -132,12 +133,12 @@ rest_covered n m us le =
     ∙ drop-take n (m - n) us)
 
 pub updates_so : (u : Updates) (e : End) (own received : List Update) → IsSound e
-    → IsRestorable (told_of e.dance.log.first (after_drop e.dance.log))
-    → u.base ≡ base_of (record (told_of e.dance.log.first e.dance.log) { role = e.closing.role })
+    → IsRestorable (record_form_of e.dance.log.first (after_drop e.dance.log))
+    → u.base ≡ base_of (record (record_form_of e.dance.log.first e.dance.log) { role = e.closing.role })
     → u.window ≡ window_of e.closing.role own received
     → own ≡ between e.dance.log.first.own e.dance.log.signed.own e.dance.log.own
     → received ≡ between e.dance.log.first.peer e.dance.log.current.peer e.dance.log.received
-    → u.pairs ≡ pairs_of (told_of e.dance.log.first e.dance.log)
+    → u.pairs ≡ pairs_of (record_form_of e.dance.log.first e.dance.log)
     → u ≡ updates_of (opening_of e.terms) e.closing.role (after_drop e.dance.log)
 unfolding updates_by
 updates_so u e own received sound h base window owns receiveds pairs =

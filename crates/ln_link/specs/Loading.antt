@@ -22,13 +22,13 @@ use Rattle.ln_log.specs.declared.opening.Opening.{Opening}
 use Rattle.ln_keys.specs.Role.{other_role}
 use Rattle.ln_log.specs.declared.update.Add.{Add}
 use Rattle.ln_log.specs.Log.{Log, after_drop}
-use Rattle.ln_log.specs.Told.{Told, told_of, written, IsRestorable}
-use Rattle.ln_log.specs.Window.{Worth}
+use Rattle.ln_log.specs.RecordForm.{RecordForm, record_form_of, written, IsRestorable}
+use Rattle.ln_log.specs.Window.{Balances}
 use Rattle.ln_dance.specs.Dance.{Dancer, with_log}
 use Rattle.ln_dance.specs.Past.{IsReadOf}
 use Rattle.ln_close.specs.declared.closing.Closing.{Closing}
 use Rattle.ln_close.specs.Closing.{AreOrdered}
-use Rattle.ln_channel.specs.declared.channel.Marks.{Marks}
+use Rattle.ln_channel.specs.declared.channel.Readiness.{Readiness}
 use Rattle.ln_channel.specs.declared.opening.Terms.{Terms}
 use Rattle.ln_channel.specs.Opening.{opening_of}
 use Rattle.ln_channel.specs.Ledger.{Ledger}
@@ -154,7 +154,7 @@ short_id_of bytes = record {
   tx_fits = cut_below (big_number 3 (drop 3 bytes));
 }
 
-abbrev pub marks_of : Flags → Option (List ℕ) → Marks
+abbrev pub marks_of : Flags → Option (List ℕ) → Readiness
 marks_of f place = record {
   short_id = option_map short_id_of place;
   ready_sent = f.ready_sent;
@@ -178,8 +178,8 @@ closing_of h a f = record {
 abbrev pub counts_by : Role → Sides → Counts
 counts_by x s = record { own = count_of x s; peer = count_of (other_role x) s }
 
-abbrev pub worth_in : Role → Base → Worth
-worth_in x b = record {
+abbrev pub balances_in : Role → Base → Balances
+balances_in x b = record {
   next_own = count_of x b.next_ids;
   next_peer = count_of (other_role x) b.next_ids;
   own = count_of x b.balances;
@@ -193,13 +193,13 @@ place_in id [] = 0
 place_in id (a ∷ adds) = if nat_le a.id id then place_in id adds + 1 else place_in id adds
 
 -- the live HTLCs of a side, behind these and by their ids: a record may have them in any order
-abbrev pub lives_from : Role → List Add → List LiveHtlc → List Add
-lives_from side adds [] = adds
-lives_from side adds (h ∷ hs) = lives_from side
+abbrev pub live_htlcs_from : Role → List Add → List LiveHtlc → List Add
+live_htlcs_from side adds [] = adds
+live_htlcs_from side adds (h ∷ hs) = live_htlcs_from side
     (if are_one_side side h.offerer then insert adds (place_in h.add.id adds) h.add else adds) hs
 
-abbrev pub lives_in : Role → List LiveHtlc → List Add
-lives_in side live = lives_from side [] live
+abbrev pub live_htlcs_in : Role → List LiveHtlc → List Add
+live_htlcs_in side live = live_htlcs_from side [] live
 
 abbrev pub counts_in : Covered → Counts
 counts_in c = record { own = c.own; peer = c.peer }
@@ -211,14 +211,14 @@ coverage_in p = record {
   current = counts_in p.current;
 }
 
-abbrev pub told_in : Opening → Role → Updates → Told
+abbrev pub told_in : Opening → Role → Updates → RecordForm
 told_in o x u = record {
   opening = o;
   role = x;
   first = counts_by x u.base.updates;
-  worth = worth_in x u.base;
-  own_lives = lives_in x u.base.live;
-  peer_lives = lives_in (other_role x) u.base.live;
+  balances = balances_in x u.base;
+  own_live_htlcs = live_htlcs_in x u.base.live;
+  peer_live_htlcs = live_htlcs_in (other_role x) u.base.live;
   own = window_of x u.window;
   received = window_of (other_role x) u.window;
   signed = counts_in u.pairs.signed;
@@ -296,8 +296,8 @@ pub record HasRecord (failure : Option Refusal) (e : End) : Type 0 where
   pub sound : IsSound e
   pub open_channel : IsSaid (open_wire e.terms.open_channel)
   pub accept_channel : IsSaid (accept_wire e.terms.accept_channel)
-  pub output : IfSome e.marks.short_id (λ id. id.output < 2 ^ 16)
-  pub log : IsRestorable (told_of e.dance.log.first (after_drop e.dance.log))
+  pub output : IfSome e.readiness.short_id (λ id. id.output < 2 ^ 16)
+  pub log : IsRestorable (record_form_of e.dance.log.first (after_drop e.dance.log))
   pub items : is_readable (items_of failure e) ≡ true
 
 -- The end that is read of another one's record: the same, but for the updates that the other hasn't one by one any

@@ -14,7 +14,7 @@ use Rattle.ln_log.specs.declared.opening.Opening.{Opening}
 use Rattle.ln_log.specs.declared.update.Add.{Add}
 use Rattle.ln_log.specs.declared.update.Update.{Update}
 use Rattle.ln_log.specs.Log.{Log, after_drop}
-use Rattle.ln_log.specs.Told.{Told, told_of, IsRestorable}
+use Rattle.ln_log.specs.RecordForm.{RecordForm, record_form_of, IsRestorable}
 use Rattle.ln_dance.specs.Dance.{Dancer}
 use Rattle.ln_close.specs.declared.closing.Closing.{Closing}
 use Rattle.ln_channel.specs.Opening.{opening_of}
@@ -42,8 +42,8 @@ use Rattle.ln_store.specs.Readable.{is_readable}
 
 abbrev pub flags_of : End → Flags
 flags_of e = record {
-  ready_sent = e.marks.ready_sent;
-  ready_received = e.marks.ready_received;
+  ready_sent = e.readiness.ready_sent;
+  ready_received = e.readiness.ready_received;
   shut_sent = e.closing.shut;
   shut_received = e.closing.peer_shut;
   later = e.dance.later;
@@ -66,7 +66,7 @@ unfoldable pub agreement_of : End → Agreement
 agreement_of e = record {
   open_payload = payload_of (open_wire e.terms.open_channel);
   accept_payload = payload_of (accept_wire e.terms.accept_channel);
-  place = option_map chain_place_of e.marks.short_id;
+  place = option_map chain_place_of e.readiness.short_id;
   fees = e.closing.fees;
   script = e.terms.script;
   peer_script = e.terms.peer_script;
@@ -83,18 +83,18 @@ abbrev pub live_of : Role → Add → LiveHtlc
 live_of side a = record { offerer = side; add = a }
 
 -- live HTLCs of this side and of the peer: the funder's, then the fundee's
-abbrev pub lives_of : Role → List Add → List Add → List LiveHtlc
-lives_of Funder own peer = map (live_of Funder) own ++ map (live_of Fundee) peer
-lives_of Fundee own peer = map (live_of Funder) peer ++ map (live_of Fundee) own
+abbrev pub live_htlcs_of : Role → List Add → List Add → List LiveHtlc
+live_htlcs_of Funder own peer = map (live_of Funder) own ++ map (live_of Fundee) peer
+live_htlcs_of Fundee own peer = map (live_of Funder) peer ++ map (live_of Fundee) own
 
 -- what the first updates are worth, those that aren't had one by one, and their live HTLCs
-abbrev pub base_of : Told → Base
+abbrev pub base_of : RecordForm → Base
 base_of t = record {
   updates = by_roles t.role t.first.own t.first.peer;
-  next_ids = by_roles t.role t.worth.next_own t.worth.next_peer;
-  balances = by_roles t.role t.worth.own t.worth.peer;
-  feerate = t.worth.feerate;
-  live = lives_of t.role t.own_lives t.peer_lives;
+  next_ids = by_roles t.role t.balances.next_own t.balances.next_peer;
+  balances = by_roles t.role t.balances.own t.balances.peer;
+  feerate = t.balances.feerate;
+  live = live_htlcs_of t.role t.own_live_htlcs t.peer_live_htlcs;
 }
 
 -- those behind them, one by one
@@ -105,7 +105,7 @@ window_of Fundee own received = record { funder = received; fundee = own }
 abbrev pub covered_of : Counts → Covered
 covered_of c = record { own = c.own; peer = c.peer }
 
-abbrev pub pairs_of : Told → Pairs
+abbrev pub pairs_of : RecordForm → Pairs
 pairs_of t = record {
   signed = covered_of t.signed;
   acknowledged = covered_of t.acknowledged;
@@ -113,12 +113,12 @@ pairs_of t = record {
 }
 
 -- in the form in which they are stored, what is told of the updates
-unfoldable pub updates_by : Told → Updates
+unfoldable pub updates_by : RecordForm → Updates
 updates_by t = record { base = base_of t; window = window_of t.role t.own t.received; pairs = pairs_of t }
 
 -- of a log of which a base is left out
 abbrev pub updates_of : Opening → Role → Log → Updates
-updates_of o x l = updates_by (told_of l.first (record l { opening = o; role = x }))
+updates_of o x l = updates_by (record_form_of l.first (record l { opening = o; role = x }))
 
 -- ---- what became of them
 
@@ -162,7 +162,8 @@ HasNoAgreement e = IsUnwritable (open_wire e.terms.open_channel) ⊎ IsUnwritabl
 -- its items aren't readable, though a log can be restored from what they tell of its updates
 abbrev pub IsUnreadable : Option Refusal → End → Type 0
 IsUnreadable failure e =
-    IsRestorable (told_of e.dance.log.first (after_drop e.dance.log)) × (is_readable (items_of failure e) ≡ false)
+    IsRestorable (record_form_of e.dance.log.first (after_drop e.dance.log))
+    × (is_readable (items_of failure e) ≡ false)
 
 -- an end without a record: a message of its opening can't be written, or its items aren't readable
 unfoldable pub NoRecord : Option Refusal → End → Type 0

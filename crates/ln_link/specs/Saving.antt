@@ -22,7 +22,7 @@ use Rattle.ln_link.specs.Record.{items_of, NoRecord}
 use Rattle.ln_link.specs.Loading.{HasRecord}
 
 -- a store as a call finds it or leaves it: its records, and how many of its calls have failed
-pub record Shelf : Type 0 where
+pub record StoreView : Type 0 where
   pub records : Records
   pub failed : ℕ
 
@@ -31,7 +31,7 @@ abbrev pub stored_end : Option Refusal → Option End → Records → Records
 stored_end failure (Some e) rs = map.insert rs e.dance.channel (record_bytes (items_of failure e))
 stored_end failure None rs = rs
 
-abbrev pub with_records : Records → Shelf → Shelf
+abbrev pub with_records : Records → StoreView → StoreView
 with_records rs s = record { records = rs; failed = s.failed }
 
 -- the end that is saved has a record
@@ -52,39 +52,40 @@ FailsBy r failure o before behind =
     ⊎ ((r ≡ refusal.Store) × HasSaved failure o × HasRisen before behind))
 
 -- the store has the record that it had, or, where it failed itself, perhaps the one that was to be saved
-pub record IsUnsaved (e : Refusal) (failure : Option Refusal) (o : Option End) (before behind : Shelf) : Type 0 where
+pub record IsUnsaved (e : Refusal) (failure : Option Refusal) (o : Option End)
+    (before behind : StoreView) : Type 0 where
   pub cause : FailsBy e failure o before.failed behind.failed
   pub one_of_both : IsOneOf e before.records (stored_end failure o before.records) behind.records
 
 -- the end has a record, and the store has it
-abbrev pub IsSaved : Option Refusal → Option End → Shelf → Shelf → Type 0
+abbrev pub IsSaved : Option Refusal → Option End → StoreView → StoreView → Type 0
 IsSaved failure o before behind =
     HasSaved failure o × (behind ≡ with_records (stored_end failure o before.records) before)
 
-abbrev pub Saves : Option Refusal → Option End → Result (Unit {0}) Refusal → Shelf → Shelf → Type 0
+abbrev pub Saves : Option Refusal → Option End → Result (Unit {0}) Refusal → StoreView → StoreView → Type 0
 Saves failure o (Ok u) before behind = IsSaved failure o before behind
 Saves failure o (Err e) before behind = IsUnsaved e failure o before behind
 
 -- the link halts, as what was done, or the failure of its channel, couldn't be saved
-abbrev pub HaltsUnsaved : {K : Type 0} → Refusal → State K → State K → Shelf → Shelf → Type 0
+abbrev pub HaltsUnsaved : {K : Type 0} → Refusal → State K → State K → StoreView → StoreView → Type 0
 HaltsUnsaved e l new before behind = StandsFor new (halts l) × IsUnsaved e l.failure (saved_end l.stage) before behind
 
 -- a link as it is, or else it halts
-abbrev pub Keeps : {K : Type 0} → Result (Unit {0}) Refusal → State K → State K → Shelf → Shelf → Type 0
+abbrev pub Keeps : {K : Type 0} → Result (Unit {0}) Refusal → State K → State K → StoreView → StoreView → Type 0
 Keeps (Ok u) l new before behind = StandsFor new l × IsSaved l.failure (saved_end l.stage) before behind
 Keeps (Err e) l new before behind = HaltsUnsaved e l new before behind
 
 -- it halts as its base can't move on for want of memory, and nothing was to be saved yet
-abbrev pub HaltsUnsettled : {K : Type 0} → Refusal → State K → State K → Shelf → Shelf → Type 0
+abbrev pub HaltsUnsettled : {K : Type 0} → Refusal → State K → State K → StoreView → StoreView → Type 0
 HaltsUnsettled e l new before behind = (e ≡ refusal.Memory) × StandsFor new (halts l) × (behind ≡ before)
 
 -- what a call made of it couldn't be saved: its base couldn't move on, or the link whose base has
-abbrev pub HaltsAnswered : {K : Type 0} → Refusal → State K → State K → Shelf → Shelf → Type 0
+abbrev pub HaltsAnswered : {K : Type 0} → Refusal → State K → State K → StoreView → StoreView → Type 0
 HaltsAnswered e l new before behind =
     HaltsUnsettled e l new before behind ⊎ HaltsUnsaved e (based_link l) new before behind
 
 -- behind a call that is answered its base moves on, and what it is then is saved; or else it halts
-abbrev pub Settles : {K : Type 0} → Result (Unit {0}) Refusal → State K → State K → Shelf → Shelf → Type 0
+abbrev pub Settles : {K : Type 0} → Result (Unit {0}) Refusal → State K → State K → StoreView → StoreView → Type 0
 Settles (Ok u) l new before behind =
     StandsFor new (based_link l) × IsSaved l.failure (saved_end (based_link l).stage) before behind
 Settles (Err e) l new before behind = HaltsAnswered e l new before behind
@@ -94,7 +95,7 @@ abbrev pub is_failing : {K : Type 0} → State K → Bool
 is_failing l = not l.halted && not (is_none l.failure)
 
 -- a refusal is answered, and saved where it has to be, or else the link halts and answers why it couldn't be
-abbrev pub Refuses : {K : Type 0} → Bool → Refusal → Refusal → State K → State K → Shelf → Shelf → Type 0
+abbrev pub Refuses : {K : Type 0} → Bool → Refusal → Refusal → State K → State K → StoreView → StoreView → Type 0
 Refuses false r e l new before behind = (e ≡ r) × StandsFor new l × (behind ≡ before)
 Refuses true r e l new before behind =
     ((e ≡ r) × StandsFor new l × IsSaved l.failure (saved_end l.stage) before behind)
@@ -104,33 +105,35 @@ Refuses true r e l new before behind =
 
 -- the link that a call comes to
 abbrev pub reached : {K : Type 0} → Done → State K → State K
-reached d l = record l { line = d.line; stage = d.stage }
+reached d l = record l { connection = d.connection; stage = d.stage }
 
 -- as it is saved: its base has moved on
 abbrev pub settled : {K : Type 0} → Done → State K → State K
 settled d l = based_link (reached d l)
 
 -- outputs are handed out where the link that they come from is saved
-abbrev pub HandsOut : {K V : Type 0} → (V → List Output) → Result Done Refusal → State K → V → State K → Shelf → Shelf
+abbrev pub HandsOut : {K V : Type 0} → (V → List Output) → Result Done Refusal → State K → V → State K
+    → StoreView → StoreView
     → Type 0
 HandsOut outs (Ok d) l v new before behind =
     (outs v ≡ d.outputs) × StandsFor new (settled d l) × IsSaved l.failure (saved_end (settled d l).stage) before behind
 HandsOut outs (Err r) l v new before behind = ⊥
 
 -- it halts for want of memory before anything was to be saved
-abbrev pub HaltsEarly : {K : Type 0} → Bool → Refusal → Result Done Refusal → State K → State K → Shelf → Shelf
+abbrev pub HaltsEarly : {K : Type 0} → Bool → Refusal → Result Done Refusal → State K → State K → StoreView → StoreView
     → Type 0
 HaltsEarly views e said l new before behind =
     LacksBy views e (fault_of said) × IsHalted l new × (behind ≡ before)
 
 -- by want of memory, or of a save, it halts behind what was done
-abbrev pub HaltsBehind : {K : Type 0} → Refusal → Result Done Refusal → State K → State K → Shelf → Shelf → Type 0
+abbrev pub HaltsBehind : {K : Type 0} → Refusal → Result Done Refusal → State K → State K → StoreView
+    → StoreView → Type 0
 HaltsBehind e (Ok d) l new before behind = HaltsAnswered e (reached d l) new before behind
 HaltsBehind e (Err r) l new before behind = ⊥
 
 -- a command: refused, nothing has changed, and nothing is saved
 abbrev pub AnswersCommand : {K V : Type 0} → (V → List Output) → Result Done Refusal → State K → Result V Refusal
-    → State K → Shelf → Shelf → Type 0
+    → State K → StoreView → StoreView → Type 0
 AnswersCommand outs said l (Ok v) new before behind = HandsOut outs said l v new before behind
 AnswersCommand outs said l (Err e) new before behind =
     HaltsEarly false e said l new before behind
@@ -142,24 +145,25 @@ abbrev pub fails_now : {K : Type 0} → Refusal → State K → Bool
 fails_now r l = not l.halted && (is_none l.failure && fails r)
 
 -- saved where it has to be
-abbrev pub SavesIf : Bool → Option Refusal → Option End → Shelf → Shelf → Type 0
+abbrev pub SavesIf : Bool → Option Refusal → Option End → StoreView → StoreView → Type 0
 SavesIf true failure o before behind = IsSaved failure o before behind
 SavesIf false failure o before behind = behind ≡ before
 
 -- a failure of the channel is saved
-abbrev pub SavesFailure : {K : Type 0} → Refusal → State K → Shelf → Shelf → Type 0
+abbrev pub SavesFailure : {K : Type 0} → Refusal → State K → StoreView → StoreView → Type 0
 SavesFailure r l before behind =
     SavesIf (fails_now r l) (refused r l).failure (saved_end (refused r l).stage) before behind
 
 -- or else the link halts
-abbrev pub HaltsRefused : {K : Type 0} → Refusal → Result Done Refusal → State K → State K → Shelf → Shelf → Type 0
+abbrev pub HaltsRefused : {K : Type 0} → Refusal → Result Done Refusal → State K → State K → StoreView
+    → StoreView → Type 0
 HaltsRefused e (Ok d) l new before behind = ⊥
 HaltsRefused e (Err r) l new before behind =
     (fails_now r l ≡ true) × HaltsUnsaved e (refused r l) new before behind
 
 -- a message, by what is said of it: a refusal by which the channel fails is kept and saved
 abbrev pub AnswersMessage : {K V : Type 0} → (V → List Output) → Result Done Refusal → State K → Message
-    → Result V Refusal → State K → Shelf → Shelf → Type 0
+    → Result V Refusal → State K → StoreView → StoreView → Type 0
 AnswersMessage outs said l m (Ok v) new before behind = HandsOut outs said l v new before behind
 AnswersMessage outs said l m (Err e) new before behind =
     HaltsEarly (makes_view l m) e said l new before behind
@@ -185,7 +189,7 @@ CannotTell e (Some channel) before behind =
     ((e ≡ refusal.Memory) × (behind ≡ before)) ⊎ ((e ≡ refusal.Store) × HasRisen before behind)
 
 -- the link halts then
-pub record IsUntold {K : Type 0} (e : Refusal) (channel : Option (List ℕ)) (l new : State K) (before behind : Shelf)
+pub record IsUntold {K : Type 0} (e : Refusal) (channel : Option (List ℕ)) (l new : State K) (before behind : StoreView)
     : Type 0 where
   pub cause : CannotTell e channel before.failed behind.failed
   pub halts : StandsFor new (halts l)
@@ -193,7 +197,7 @@ pub record IsUntold {K : Type 0} (e : Refusal) (channel : Option (List ℕ)) (l 
 
 -- a message, over a store
 abbrev pub AnswersOver : {K V : Type 0} → (V → List Output) → Signer → State K → Message → Result V Refusal → State K
-    → Shelf → Shelf → Type 0
+    → StoreView → StoreView → Type 0
 AnswersOver outs keys l m (Ok v) new before behind =
     AnswersMessage outs (handled_beside before.records keys l m) l m (Ok v) new before behind
 AnswersOver outs keys l m (Err e) new before behind =

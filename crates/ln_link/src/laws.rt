@@ -8,7 +8,7 @@ ghost use Rattle.ln_channel.specs.End.{End, end_dropped};
 ghost use Rattle.ln_channel.specs.State.{State, kept_channel};
 ghost use Rattle.ln_link.specs.Record.{items_of};
 ghost use Rattle.ln_link.specs.Loading.{IsLoadable, HasRecord, IsReadAgain, end_of};
-ghost use Rattle.ln_link.specs.Saving.{Shelf};
+ghost use Rattle.ln_link.specs.Saving.{StoreView};
 ghost use Rattle.ln_link.specs.Calls.{Call, Lead, HasLink, HasChannel, HaltsWithRecord};
 
 use ln_keys::ChannelKeys;
@@ -36,11 +36,11 @@ pub fn saved_is_loaded()
 /// what it was before the call by which it halted, or of what that call made of it; and whatever was answered, from the
 /// saved opening on the store has a record of the channel that can be loaded.
 pub fn store_has_the_record<K: ChannelKeys>()
-    ensures of_the_link { (keys : Signer) (calls : List Call) (l l' : State K) (s s' : Shelf) → HasLink l s
+    ensures of_the_link { (keys : Signer) (calls : List Call) (l l' : State K) (s s' : StoreView) → HasLink l s
         → Lead keys calls l s l' s' → l'.halted ≡ false → HasLink l' s' }
-    ensures of_before_or_behind_the_halt { (keys : Signer) (calls : List Call) (l l' : State K) (s s' : Shelf)
+    ensures of_before_or_behind_the_halt { (keys : Signer) (calls : List Call) (l l' : State K) (s s' : StoreView)
         → HasLink l s → l.halted ≡ false → Lead keys calls l s l' s' → l'.halted ≡ true
         → HaltsWithRecord keys calls l s s' }
-    ensures of_the_channel { (keys : Signer) (channel : List ℕ) (calls : List Call) (l l' : State K) (s s' : Shelf)
+    ensures of_the_channel { (keys : Signer) (channel : List ℕ) (calls : List Call) (l l' : State K) (s s' : StoreView)
         → HasLink l s → kept_channel l.stage ≡ Some channel → Lead keys calls l s l' s' → HasChannel channel s' }
 {}

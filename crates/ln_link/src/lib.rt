@@ -9,4 +9,5 @@ mod record;
 
 pub use laws::{lost_connection_is_recorded, saved_is_loaded, store_has_the_record};
 pub use link::Link;
+pub use ln_channel::{Command, Config, FitConfig, FitSpec, OpenSpec, Output, Points};
 pub use record::to_record;

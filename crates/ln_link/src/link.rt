@@ -9,7 +9,7 @@ ghost use Rattle.ln_link.specs.Saving.{Saves, is_known, CannotTell};
 
 use crate::loading::loaded;
 use crate::record::to_record;
-use ln_channel::{Channel, Command, FitConfig, FitSpec, Output, Unsaved};
+use ln_channel::{Channel, ChannelMachine, Command, FitConfig, FitSpec, Output};
 use ln_hooks::ChannelEvent;
 use ln_keys::ChannelKeys;
 use ln_msgs::{Message, Refusal};
@@ -22,12 +22,12 @@ use std::marker::Model;
 ///
 /// What a call made of the channel is in the store before any message that tells it leaves this side: a restart finds
 /// what the peer may know of. As it is saved, what it needn't keep one by one any more is left out
-/// (`Unsaved::settle_base`). Where a save fails, by 60 for want of memory, by 61 where the store failed, by 70 where
+/// (`ChannelMachine::compact`). Where a save fails, by 60 for want of memory, by 61 where the store failed, by 70 where
 /// no record has these items, the link halts and answers 62 from then on; the store then has the record that it had,
 /// or, by 61, perhaps the one that was to be saved.
 #[derive(Drop)]
 pub struct Link<K: ChannelKeys + Drop> {
-    unsaved: Unsaved<K>,
+    channel_machine: ChannelMachine<K>,
 }
 
 impl<K: ChannelKeys + Drop> Model for Link<K> {
@@ -35,7 +35,7 @@ impl<K: ChannelKeys + Drop> Model for Link<K> {
 
     ghost Value = { State K };
 
-    ghost view = { λ l. l.unsaved };
+    ghost view = { λ l. l.channel_machine };
 }
 
 // Saves the record of an end.
@@ -62,7 +62,7 @@ fn save_end<S: RecordStore>(
 }
 
 // Whether its channel hasn't failed.
-fn is_healthy<K: ChannelKeys + Drop>(link: &Unsaved<K>) -> bool
+fn is_healthy<K: ChannelKeys + Drop>(link: &ChannelMachine<K>) -> bool
     ensures { (l : State K) → StandsFor link.now l → result ≡ is_none l.failure }
 {
     link.failure().is_none()
@@ -72,7 +72,7 @@ fn is_healthy<K: ChannelKeys + Drop>(link: &Unsaved<K>) -> bool
 fn save_link<K: ChannelKeys + Drop, S: RecordStore>(
     alloc: Global,
     store: &mut S,
-    link: &Unsaved<K>,
+    link: &ChannelMachine<K>,
 ) -> Result<(), Refusal>
     ensures { (l : State K) → StandsFor link.now l → Saves l.failure (saved_end l.stage) result
         (record { records = S.records store.old; failed = S.failed store.old })
@@ -108,7 +108,7 @@ fn is_known<S: RecordStore>(
 impl<K: ChannelKeys + Drop> Link<K> {
     ghost use Rattle.std.specs.Prelude.{◌&&◌, IsErrOf, Ok, true};
     ghost use Rattle.ln_channel.specs.Pending.{pending_at};
-    ghost use Rattle.ln_channel.specs.declared.unsaved.Stage.TheVariants as stage;
+    ghost use Rattle.ln_channel.specs.declared.machine.Stage.TheVariants as stage;
     ghost use Rattle.ln_channel.specs.State.{State, StandsFor, KeepsChannel, begun, drops, halts};
     ghost use Rattle.ln_channel.specs.Step.{Answered, connected, handled, commanded};
     ghost use Rattle.ln_store.specs.Readable.{is_readable};
@@ -123,7 +123,7 @@ impl<K: ChannelKeys + Drop> Link<K> {
         ensures { StandsFor result (begun keys (stage.AwaitsAccept spec)) }
     {
         Link {
-            unsaved: Unsaved::funder(keys, spec),
+            channel_machine: ChannelMachine::funder(keys, spec),
         }
     }
 
@@ -132,7 +132,7 @@ impl<K: ChannelKeys + Drop> Link<K> {
         ensures { StandsFor result (begun keys (stage.AwaitsOpen config)) }
     {
         Link {
-            unsaved: Unsaved::fundee(keys, config),
+            channel_machine: ChannelMachine::fundee(keys, config),
         }
     }
 
@@ -157,8 +157,8 @@ impl<K: ChannelKeys + Drop> Link<K> {
         ensures takes_memory_for_the_body { IsErrOf result Refusal.Memory
             → (is_sealed bytes.now ≡ true) × (is_known_version (version_of bytes.now) ≡ true) }
     {
-        let unsaved = loaded(alloc, keys, bytes)?;
-        Ok(Link { unsaved })
+        let channel_machine = loaded(alloc, keys, bytes)?;
+        Ok(Link { channel_machine })
     }
 
     /// A link that was loaded of another one's record takes over the updates that aren't had one by one any more, which
@@ -167,24 +167,24 @@ impl<K: ChannelKeys + Drop> Link<K> {
         requires { ComesBackOf self.old other.now }
         ensures { IsCameBack self.old.keys other.now self.new }
     {
-        self.unsaved.take_past_of(&other.unsaved);
+        self.channel_machine.take_past_of(&other.channel_machine);
     }
 
     /// What the link is; it saves nothing, so only to be looked at. Takes no memory.
-    pub fn unsaved(&self) -> &Unsaved<K>
+    pub fn channel_machine(&self) -> &ChannelMachine<K>
         ensures { result.now ≡ self.now }
     {
-        &self.unsaved
+        &self.channel_machine
     }
 
-    /// The events that its end hasn't decided, each with its number, in their order: `Unsaved::pending_events`. They
-    /// are what a dispatcher begins with, also behind a restart. Takes memory for them; 60 where there is none, and
-    /// nothing has changed.
+    /// The events that its end hasn't decided, each with its number, in their order: `ChannelMachine::pending_events`.
+    /// They are what a dispatcher begins with, also behind a restart. Takes memory for them; 60 where there is none,
+    /// and nothing has changed.
     pub fn pending_events(&self, alloc: Global) -> Result<Vec<(u64, ChannelEvent)>, Refusal>
         ensures events { (l : State K) → StandsFor self.now l → IfOk result (λ v. v.items ≡ pending_at l.stage) }
         ensures fails_for_memory_alone { IfErr result (λ r. r ≡ Refusal.Memory) }
     {
-        self.unsaved.pending_events(alloc)
+        self.channel_machine.pending_events(alloc)
     }
 
     // Saves the link, or halts it.
@@ -194,7 +194,7 @@ impl<K: ChannelKeys + Drop> Link<K> {
             (record { records = S.records store.new; failed = S.failed store.new }) }
         ensures same_channel { KeepsChannel self.old.stage self.new.stage }
     {
-        match save_link(alloc, store, &self.unsaved) {
+        match save_link(alloc, store, &self.channel_machine) {
             Ok(()) => Ok(()),
             Err(refusal) => {
                 self.halt();
@@ -210,7 +210,7 @@ impl<K: ChannelKeys + Drop> Link<K> {
             (record { records = S.records store.new; failed = S.failed store.new }) }
         ensures same_channel { KeepsChannel self.old.stage self.new.stage }
     {
-        match self.unsaved.settle_base(alloc) {
+        match self.channel_machine.compact(alloc) {
             Ok(()) => self.save(alloc, store),
             Err(refusal) => {
                 self.halt();
@@ -222,8 +222,8 @@ impl<K: ChannelKeys + Drop> Link<K> {
     /// Takes a message, and saves what it made of the channel before anything is handed out. A refusal by which the
     /// channel fails is saved too. Where the message opens a channel that the store has a record of, it is refused.
     ///
-    /// Errors: those of `Unsaved::handle`, and 21 for a channel that the store has a record of; 60, 61 and 70 where it
-    /// can't be saved, or the store can't tell whether it has that channel, by which the link halts.
+    /// Errors: those of `ChannelMachine::handle`, and 21 for a channel that the store has a record of; 60, 61 and 70
+    /// where it can't be saved, or the store can't tell whether it has that channel, by which the link halts.
     pub fn handle<S: RecordStore>(
         &mut self,
         alloc: Global,
@@ -236,11 +236,11 @@ impl<K: ChannelKeys + Drop> Link<K> {
             (record { records = S.records store.new; failed = S.failed store.new }) }
         ensures same_channel { KeepsChannel self.old.stage self.new.stage }
     {
-        match is_known(alloc, store, self.unsaved.opens(&message)) {
+        match is_known(alloc, store, self.channel_machine.opens(&message)) {
             Ok(false) => self.take(alloc, store, message),
             Ok(true) => {
                 drop(message);
-                Err(self.unsaved.fail_by(Refusal::OutOfPlace))
+                Err(self.channel_machine.fail_by(Refusal::OutOfPlace))
             }
             Err(refusal) => {
                 drop(message);
@@ -263,8 +263,8 @@ impl<K: ChannelKeys + Drop> Link<K> {
             (record { records = S.records store.new; failed = S.failed store.new }) }
         ensures same_channel { KeepsChannel self.old.stage self.new.stage }
     {
-        let healthy = is_healthy(&self.unsaved);
-        match self.unsaved.handle(alloc, message) {
+        let healthy = is_healthy(&self.channel_machine);
+        match self.channel_machine.handle(alloc, message) {
             Ok(outputs) => match self.finish(alloc, store) {
                 Ok(()) => Ok(outputs),
                 Err(refusal) => {
@@ -290,19 +290,22 @@ impl<K: ChannelKeys + Drop> Link<K> {
             (record { records = S.records store.new; failed = S.failed store.new }) }
         ensures same_channel { KeepsChannel self.old.stage self.new.stage }
     {
-        if !healthy || self.unsaved.is_halted() || self.unsaved.failure().is_none() {
+        if !healthy
+            || self.channel_machine.is_halted()
+            || self.channel_machine.failure().is_none()
+        {
             return refusal;
         }
         match self.save(alloc, store) {
             Ok(()) => refusal,
-            Err(unsaved) => unsaved,
+            Err(channel_machine) => channel_machine,
         }
     }
 
-    /// Does what it is told, as `Unsaved::command` does, and saves what that made of the channel before anything is
-    /// handed out. Where the command is refused nothing is saved.
+    /// Does what it is told, as `ChannelMachine::command` does, and saves what that made of the channel before anything
+    /// is handed out. Where the command is refused nothing is saved.
     ///
-    /// Errors: those of `Unsaved::command`; 60, 61 and 70 where it can't be saved, by which the link halts.
+    /// Errors: those of `ChannelMachine::command`; 60, 61 and 70 where it can't be saved, by which the link halts.
     pub fn command<S: RecordStore>(
         &mut self,
         alloc: Global,
@@ -315,7 +318,7 @@ impl<K: ChannelKeys + Drop> Link<K> {
             (record { records = S.records store.new; failed = S.failed store.new }) }
         ensures same_channel { KeepsChannel self.old.stage self.new.stage }
     {
-        match self.unsaved.command(alloc, command) {
+        match self.channel_machine.command(alloc, command) {
             Ok(outputs) => match self.finish(alloc, store) {
                 Ok(()) => Ok(outputs),
                 Err(refusal) => {
@@ -327,29 +330,29 @@ impl<K: ChannelKeys + Drop> Link<K> {
         }
     }
 
-    /// There is a connection to the peer: `Unsaved::connect`. Nothing is saved.
+    /// There is a connection to the peer: `ChannelMachine::connect`. Nothing is saved.
     pub fn connect(&mut self, alloc: Global) -> Result<Vec<Output>, Refusal>
         ensures answers { (l : State K) → StandsFor self.old l
             → Answered (λ v. v.items) (connected (K.signer l.keys) l) l result self.new }
         ensures same_channel { KeepsChannel self.old.stage self.new.stage }
     {
-        self.unsaved.connect(alloc)
+        self.channel_machine.connect(alloc)
     }
 
-    /// The connection is lost: `Unsaved::drop_connection`. Nothing is saved, as a record has what a lost connection
-    /// leaves.
+    /// The connection is lost: `ChannelMachine::drop_connection`. Nothing is saved, as a record has what a lost
+    /// connection leaves.
     pub fn drop_connection(&mut self)
         ensures state { (l : State K) → StandsFor self.old l → StandsFor self.new (drops l) }
         ensures same_channel { KeepsChannel self.old.stage self.new.stage }
     {
-        self.unsaved.drop_connection();
+        self.channel_machine.drop_connection();
     }
 
-    /// The connection is lost, and the link answers 62 from now on: `Unsaved::halt`. Nothing is saved.
+    /// The connection is lost, and the link answers 62 from now on: `ChannelMachine::halt`. Nothing is saved.
     pub fn halt(&mut self)
         ensures state { (l : State K) → StandsFor self.old l → StandsFor self.new (halts l) }
         ensures same_channel { KeepsChannel self.old.stage self.new.stage }
     {
-        self.unsaved.halt();
+        self.channel_machine.halt();
     }
 }

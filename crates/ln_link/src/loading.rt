@@ -20,17 +20,17 @@ ghost use Rattle.ln_store.specs.Record.{record_at, IsSpelledBy, is_sealed, versi
 ghost use Rattle.ln_store.specs.Removals.{are_one_side};
 ghost use Rattle.ln_store.specs.Sides.{count_of, window_of};
 ghost use Rattle.ln_store.specs.declared.record.Items.{Items};
-ghost use Rattle.ln_link.specs.Loading.{open_in, accept_in, terms_of, marks_of, closing_of, counts_by, worth_in};
-ghost use Rattle.ln_link.specs.Loading.{place_in, lives_in, counts_in, coverage_in, log_of, dance_of};
+ghost use Rattle.ln_link.specs.Loading.{open_in, accept_in, terms_of, marks_of, closing_of, counts_by, balances_in};
+ghost use Rattle.ln_link.specs.Loading.{place_in, live_htlcs_in, counts_in, coverage_in, log_of, dance_of};
 ghost use Rattle.ln_link.specs.Loading.{ledger_of, end_of, short_id_of, TellsLog, IsLoadable, Loads};
 
 use crate::record::opening_of;
 use ln_bytes::{Bytes, Fault, ShortId};
-use ln_channel::{Channel, EventLedger, Marks, Terms, Unsaved};
+use ln_channel::{Channel, ChannelMachine, EventLedger, Readiness, Terms};
 use ln_close::{Closing, Fees};
 use ln_dance::Dance;
 use ln_keys::{ChannelKeys, Role};
-use ln_log::{Add, Counts, Coverage, Opening, Update, UpdateLog, Worth};
+use ln_log::{Add, Balances, Counts, Coverage, Opening, Update, UpdateLog};
 use ln_msgs::{AcceptChannel, Incoming, Message, OpenChannel, Refusal, decode};
 use ln_store::{
     Agreement, Base, ChainPlace, ClosingFees, Commitments, Covered, Events, Flags, Forwards,
@@ -108,14 +108,14 @@ fn short_id_of(place: &ChainPlace) -> ShortId
     place.id()
 }
 
-fn marks_of(flags: Flags, place: &Option<ChainPlace>) -> Marks
+fn marks_of(flags: Flags, place: &Option<ChainPlace>) -> Readiness
     ensures { result ≡ marks_of flags place.now }
 {
     let short_id = match place {
         None => None,
         Some(place) => Some(short_id_of(place)),
     };
-    Marks {
+    Readiness {
         short_id,
         ready_sent: flags.ready_sent,
         ready_received: flags.ready_received,
@@ -195,10 +195,10 @@ fn counts_by(role: Role, sides: Sides) -> Counts
     }
 }
 
-fn worth_in(role: Role, base: &Base) -> Worth
-    ensures { result ≡ worth_in role base.now }
+fn balances_in(role: Role, base: &Base) -> Balances
+    ensures { result ≡ balances_in role base.now }
 {
-    Worth {
+    Balances {
         next_own: count_of(role, base.next_ids),
         next_peer: count_of(role.other(), base.next_ids),
         own: count_of(role, base.balances),
@@ -237,8 +237,8 @@ fn is_of(side: Role, htlc: &LiveHtlc) -> bool
 }
 
 // The live HTLCs of a side, by their ids.
-fn lives_in(alloc: Global, side: Role, live: &[LiveHtlc]) -> Result<Vec<Add>, Refusal>
-    ensures lives { IfOk result (λ v. v.items ≡ lives_in side live.now) }
+fn live_htlcs_in(alloc: Global, side: Role, live: &[LiveHtlc]) -> Result<Vec<Add>, Refusal>
+    ensures live_htlcs { IfOk result (λ v. v.items ≡ live_htlcs_in side live.now) }
     ensures fails_for_memory_alone { IfErr result (λ r. r ≡ refusal.Memory) }
 {
     let mut adds = Vec::new(alloc);
@@ -252,19 +252,19 @@ fn lives_in(alloc: Global, side: Role, live: &[LiveHtlc]) -> Result<Vec<Add>, Re
 }
 
 // What is told of the first updates.
-fn base_in(alloc: Global, role: Role, base: &Base) -> Result<ln_log::Base, Refusal>
+fn base_in(alloc: Global, role: Role, base: &Base) -> Result<ln_log::BaseState, Refusal>
     ensures updates { IfOk result (λ b. b.updates ≡ counts_by role base.now.updates) }
-    ensures worth { IfOk result (λ b. b.worth ≡ worth_in role base.now) }
-    ensures own { IfOk result (λ b. b.own.items ≡ lives_in role base.now.live) }
-    ensures peer { IfOk result (λ b. b.peer.items ≡ lives_in (other_role role) base.now.live) }
+    ensures balances { IfOk result (λ b. b.balances ≡ balances_in role base.now) }
+    ensures own { IfOk result (λ b. b.own.items ≡ live_htlcs_in role base.now.live) }
+    ensures peer { IfOk result (λ b. b.peer.items ≡ live_htlcs_in (other_role role) base.now.live) }
     ensures fails_for_memory_alone { IfErr result (λ r. r ≡ refusal.Memory) }
 {
     let live = base.live.as_slice();
-    Ok(ln_log::Base {
+    Ok(ln_log::BaseState {
         updates: counts_by(role, base.updates),
-        worth: worth_in(role, base),
-        own: lives_in(alloc, role, live)?,
-        peer: lives_in(alloc, role.other(), live)?,
+        balances: balances_in(role, base),
+        own: live_htlcs_in(alloc, role, live)?,
+        peer: live_htlcs_in(alloc, role.other(), live)?,
     })
 }
 
@@ -369,7 +369,7 @@ fn channel_of(alloc: Global, items: Items) -> Result<Channel, Refusal>
         updates,
         progress,
     } = items;
-    let marks = marks_of(header.flags, &agreement.place);
+    let readiness = marks_of(header.flags, &agreement.place);
     let closing = closing_of(header, agreement.fees, progress.fees);
     let ledger = ledger_of(progress);
     let terms = match terms_of(alloc, agreement) {
@@ -389,7 +389,7 @@ fn channel_of(alloc: Global, items: Items) -> Result<Channel, Refusal>
         }
     };
     let dance = dance_of(header, commitments, log);
-    Ok(Channel::from_parts(dance, closing, terms, marks, ledger))
+    Ok(Channel::from_parts(dance, closing, terms, readiness, ledger))
 }
 
 /// What comes back from the bytes of a record, without a connection.
@@ -399,7 +399,7 @@ pub(crate) fn loaded<K: ChannelKeys + Drop>(
     alloc: Global,
     keys: K,
     bytes: &[u8],
-) -> Result<Unsaved<K>, Refusal>
+) -> Result<ChannelMachine<K>, Refusal>
     // The link, or the first fault.
     ensures loads_as_defined { Loads keys (record_at bytes.now) result }
 
@@ -415,5 +415,5 @@ pub(crate) fn loaded<K: ChannelKeys + Drop>(
     let items = record.into_items();
     let failure = items.header.failure;
     let channel = channel_of(alloc, items)?;
-    Ok(Unsaved::come_back(keys, failure, channel))
+    Ok(ChannelMachine::come_back(keys, failure, channel))
 }

@@ -6,7 +6,7 @@ ghost use Rattle.ln_msgs.specs.Messages.Typed.{open_wire, accept_wire};
 ghost use Rattle.std.specs.List.{filter_map};
 ghost use Rattle.ln_log.specs.Log as logs;
 ghost use Rattle.ln_log.specs.Log.{Log, after_drop, between};
-ghost use Rattle.ln_log.specs.Told.{told_of, IsRestorable};
+ghost use Rattle.ln_log.specs.RecordForm.{record_form_of, IsRestorable};
 ghost use Rattle.ln_log.specs.Updates.{offered};
 ghost use Rattle.ln_channel.specs.Opening.{opening_of};
 ghost use Rattle.ln_channel.specs.End as end;
@@ -14,7 +14,8 @@ ghost use Rattle.ln_channel.specs.End.{End, IsSound};
 ghost use Rattle.ln_dance.specs.Dance as dancing;
 ghost use Rattle.ln_dance.specs.Dance.{Dancer};
 ghost use Rattle.ln_store.specs.Readable.{is_readable};
-ghost use Rattle.ln_link.specs.Record.{flags_of, header_of, chain_place_of, agreement_of, by_roles, live_of, lives_of};
+ghost use Rattle.ln_link.specs.Record.{flags_of, header_of, chain_place_of, agreement_of, by_roles, live_of};
+ghost use Rattle.ln_link.specs.Record.{live_htlcs_of};
 ghost use Rattle.ln_link.specs.Record.{base_of, window_of, covered_of, pairs_of, updates_of, events_of, forwards_of};
 ghost use Rattle.ln_link.specs.Record.{fees_of, progress_of, commitments_of, items_of};
 ghost use Rattle.ln_link.specs.Record.{HasNoAgreement, NoRecord};
@@ -26,7 +27,7 @@ use ln_channel::{Channel, EventLedger, Terms};
 use ln_close::Closing;
 use ln_dance::Dance;
 use ln_keys::Role;
-use ln_log::{Counts, Limits, Opening, Pair, Side, Update, UpdateLog};
+use ln_log::{Counts, Decision, Limits, Opening, Pair, Settlement, Side, Update, UpdateLog};
 use ln_msgs::Refusal;
 use ln_store::{
     Agreement, Base, ChainPlace, ClosingFees, Commitments, Covered, Events, Flags, Forwards,
@@ -38,11 +39,11 @@ use std::alloc::Global;
 fn flags_of(channel: &Channel) -> Flags
     ensures { (e : End) → end.StandsFor channel.now e → result ≡ flags_of e }
 {
-    let marks = channel.marks();
+    let readiness = channel.readiness();
     let closing = channel.closing();
     Flags {
-        ready_sent: marks.ready_sent,
-        ready_received: marks.ready_received,
+        ready_sent: readiness.ready_sent,
+        ready_received: readiness.ready_received,
         shut_sent: closing.shut,
         shut_received: closing.peer_shut,
         later: channel.dance().later(),
@@ -71,6 +72,14 @@ fn chain_place_of(id: Option<ShortId>) -> Option<ChainPlace>
     }
 }
 
+// Both scripts of a channel's terms, copied.
+fn scripts_of(terms: &Terms) -> Result<(Bytes, Option<Bytes>), Refusal>
+    ensures copies { IfOk result (λ s. (s.0 ≡ terms.now.script) × (s.1 ≡ terms.now.peer_script)) }
+    ensures fails_for_memory_alone { IfErr result (λ r. r ≡ refusal.Memory) }
+{
+    Ok((terms.script.clone()?, terms.peer_script.clone()?))
+}
+
 #[tactic(auto, unfolding(crate::specs::Record::agreement_of, crate::specs::Record::HasNoAgreement))]
 fn agreement_of(alloc: Global, channel: &Channel) -> Result<Agreement, Refusal>
     ensures agreement { (e : End) → end.StandsFor channel.now e → IfOk result (λ a. a ≡ agreement_of e) }
@@ -79,18 +88,19 @@ fn agreement_of(alloc: Global, channel: &Channel) -> Result<Agreement, Refusal>
     ensures accept_can_be_read { (e : End) → end.StandsFor channel.now e
         → OnOk result (IsSaid (accept_wire e.terms.accept_channel)) }
     ensures output_fits_16_bits { (e : End) → end.StandsFor channel.now e
-        → OnOk result (IfSome e.marks.short_id (λ id. id.output < 2 ^ 16)) }
+        → OnOk result (IfSome e.readiness.short_id (λ id. id.output < 2 ^ 16)) }
     ensures fails { (e : End) → end.StandsFor channel.now e
         → IfErr result (λ r. (r ≡ refusal.Memory) ⊎ ((r ≡ refusal.Damaged) × HasNoAgreement e)) }
 {
     let terms = channel.terms();
+    let (script, peer_script) = scripts_of(terms)?;
     Ok(Agreement {
         open_payload: open_payload(alloc, &terms.open_channel)?,
         accept_payload: accept_payload(alloc, &terms.accept_channel)?,
-        place: chain_place_of(channel.marks().short_id),
+        place: chain_place_of(channel.readiness().short_id),
         fees: channel.closing().fees,
-        script: terms.script.clone()?,
-        peer_script: terms.peer_script.clone()?,
+        script,
+        peer_script,
     })
 }
 
@@ -134,7 +144,7 @@ fn by_roles(role: Role, own: u64, peer: u64) -> Sides
 }
 
 // The HTLCs that these updates offer are a side's live ones.
-fn put_lives(live: &mut Vec<LiveHtlc>, side: Role, updates: &[Update]) -> Result<(), Refusal>
+fn put_live_htlcs(live: &mut Vec<LiveHtlc>, side: Role, updates: &[Update]) -> Result<(), Refusal>
     ensures puts { OnOk result (live.new.items
         ≡ live.old.items ++ map (live_of side) (filter_map offered updates.now)) }
     ensures fails_for_memory_alone { IfErr result (λ r. r ≡ refusal.Memory) }
@@ -151,14 +161,14 @@ fn put_lives(live: &mut Vec<LiveHtlc>, side: Role, updates: &[Update]) -> Result
 }
 
 // Those of both sides, whose updates these are.
-fn lives_of(
+fn live_htlcs_of(
     alloc: Global,
     role: Role,
     own: &[Update],
     peer: &[Update],
 ) -> Result<Listed<LiveHtlc>, Refusal>
-    ensures lives { IfOk result (λ l. l
-        ≡ lives_of role (filter_map offered own.now) (filter_map offered peer.now)) }
+    ensures live_htlcs { IfOk result (λ l. l
+        ≡ live_htlcs_of role (filter_map offered own.now) (filter_map offered peer.now)) }
     ensures fails_for_memory_alone { IfErr result (λ r. r ≡ refusal.Memory) }
 {
     let (funder, fundee) = match role {
@@ -166,26 +176,26 @@ fn lives_of(
         Role::Fundee => (peer, own),
     };
     let mut live = Vec::new(alloc);
-    put_lives(&mut live, Role::Funder, funder)?;
-    put_lives(&mut live, Role::Fundee, fundee)?;
+    put_live_htlcs(&mut live, Role::Funder, funder)?;
+    put_live_htlcs(&mut live, Role::Fundee, fundee)?;
     Ok(Listed::new(live))
 }
 
 // What the updates before `first` are worth, and their live HTLCs.
 fn base_of(alloc: Global, role: Role, log: &UpdateLog) -> Result<Base, Refusal>
     ensures base { (l : Log) → logs.StandsFor log.now l
-        → IfOk result (λ b. b ≡ base_of (record (told_of l.first l) { role = role })) }
+        → IfOk result (λ b. b ≡ base_of (record (record_form_of l.first l) { role = role })) }
     ensures fails_for_memory_alone { IfErr result (λ r. r ≡ refusal.Memory) }
 {
-    let worth = log.worth();
-    let live = lives_of(alloc, role, log.live(Side::Own), log.live(Side::Peer))?;
+    let balances = log.balances();
+    let live = live_htlcs_of(alloc, role, log.live(Side::Own), log.live(Side::Peer))?;
     let own = log.first(Side::Own) as u64;
     let peer = log.first(Side::Peer) as u64;
     Ok(Base {
         updates: by_roles(role, own, peer),
-        next_ids: by_roles(role, worth.next_own, worth.next_peer),
-        balances: by_roles(role, worth.own, worth.peer),
-        feerate: worth.feerate,
+        next_ids: by_roles(role, balances.next_own, balances.next_peer),
+        balances: by_roles(role, balances.own, balances.peer),
+        feerate: balances.feerate,
         live,
     })
 }
@@ -215,8 +225,9 @@ fn covered_of(counts: Counts) -> Covered
 }
 
 fn pairs_of(log: &UpdateLog) -> Pairs
-    ensures pairs { (l : Log) → logs.StandsFor log.now l → result ≡ pairs_of (told_of l.first l) }
-    ensures can_be_restored { (l : Log) → logs.StandsFor log.now l → IsRestorable (told_of l.first (after_drop l)) }
+    ensures pairs { (l : Log) → logs.StandsFor log.now l → result ≡ pairs_of (record_form_of l.first l) }
+    ensures can_be_restored { (l : Log) → logs.StandsFor log.now l
+        → IsRestorable (record_form_of l.first (after_drop l)) }
 {
     let coverage = log.coverage();
     Pairs {
@@ -233,15 +244,23 @@ fn log_of(channel: &Channel) -> &UpdateLog
     channel.dance().log()
 }
 
+// The same updates.
+fn copy_updates(alloc: Global, updates: &[Update]) -> Result<Vec<Update>, Refusal>
+    ensures copies { IfOk result (λ v. v.items ≡ updates.now) }
+    ensures fails_for_memory_alone { IfErr result (λ r. r ≡ refusal.Memory) }
+{
+    let mut copies = Vec::new(alloc);
+    copies.extend_with_clones(updates)?;
+    Ok(copies)
+}
+
 fn own_updates(alloc: Global, log: &UpdateLog) -> Result<Vec<Update>, Refusal>
     ensures updates { (l : Log) → logs.StandsFor log.now l
         → IfOk result (λ us. us.items ≡ between l.first.own l.signed.own l.own) }
     ensures fails_for_memory_alone { IfErr result (λ r. r ≡ refusal.Memory) }
 {
     let count = log.counts(Pair::Signed).own;
-    let mut updates = Vec::new(alloc);
-    updates.extend_with_clones(log.between(Side::Own, log.first(Side::Own), count))?;
-    Ok(updates)
+    copy_updates(alloc, log.between(Side::Own, log.first(Side::Own), count))
 }
 
 fn peer_updates(alloc: Global, log: &UpdateLog) -> Result<Vec<Update>, Refusal>
@@ -250,9 +269,7 @@ fn peer_updates(alloc: Global, log: &UpdateLog) -> Result<Vec<Update>, Refusal>
     ensures fails_for_memory_alone { IfErr result (λ r. r ≡ refusal.Memory) }
 {
     let count = log.counts(Pair::Current(Side::Own)).peer;
-    let mut updates = Vec::new(alloc);
-    updates.extend_with_clones(log.between(Side::Peer, log.first(Side::Peer), count))?;
-    Ok(updates)
+    copy_updates(alloc, log.between(Side::Peer, log.first(Side::Peer), count))
 }
 
 // The updates that signatures cover: a base, and those behind it.
@@ -261,7 +278,7 @@ fn updates_of(alloc: Global, channel: &Channel) -> Result<Updates, Refusal>
         → IfOk result (λ u. u ≡ updates_of (opening_of e.terms) e.closing.role
         (after_drop e.dance.log)) }
     ensures can_be_restored { (e : End) → end.StandsFor channel.now e
-        → OnOk result (IsRestorable (told_of e.dance.log.first (after_drop e.dance.log))) }
+        → OnOk result (IsRestorable (record_form_of e.dance.log.first (after_drop e.dance.log))) }
     ensures fails_for_memory_alone { IfErr result (λ r. r ≡ refusal.Memory) }
 {
     let log = log_of(channel);
@@ -294,17 +311,46 @@ fn events_of(alloc: Global, ledger: &EventLedger) -> Result<Events, Refusal>
     })
 }
 
+// The same decisions.
+fn copy_decisions(alloc: Global, decisions: &[Decision]) -> Result<Vec<Decision>, Refusal>
+    ensures copies { IfOk result (λ v. v.items ≡ decisions.now) }
+    ensures fails_for_memory_alone { IfErr result (λ r. r ≡ refusal.Memory) }
+{
+    let mut copies = Vec::new(alloc);
+    copies.extend_with_clones(decisions)?;
+    Ok(copies)
+}
+
+fn copy_result(settlement: &Settlement) -> Result<Settlement, Refusal>
+    ensures copy { IfOk result (λ s. s ≡ settlement.now) }
+    ensures fails_for_memory_alone { IfErr result (λ r. r ≡ refusal.Memory) }
+{
+    Ok(Settlement {
+        id: settlement.id,
+        origin: settlement.origin,
+        removal: settlement.removal.clone()?,
+    })
+}
+
+// The same results.
+fn copy_results(alloc: Global, results: &[Settlement]) -> Result<Vec<Settlement>, Refusal>
+    ensures copies { IfOk result (λ v. v.items ≡ results.now) }
+    ensures fails_for_memory_alone { IfErr result (λ r. r ≡ refusal.Memory) }
+{
+    let mut copies = Vec::new(alloc);
+    for settlement in results {
+        copies.push(copy_result(settlement)?)?;
+    }
+    Ok(copies)
+}
+
 fn forwards_of(alloc: Global, ledger: &EventLedger) -> Result<Forwards, Refusal>
     ensures forwards { IfOk result (λ f. f ≡ forwards_of ledger.now) }
     ensures fails_for_memory_alone { IfErr result (λ r. r ≡ refusal.Memory) }
 {
-    let mut decisions = Vec::new(alloc);
-    decisions.extend_with_clones(ledger.decisions())?;
-    let mut results = Vec::new(alloc);
-    results.extend_with_clones(ledger.results())?;
     Ok(Forwards {
-        decisions: Listed::new(decisions),
-        results: Listed::new(results),
+        decisions: Listed::new(copy_decisions(alloc, ledger.decisions())?),
+        results: Listed::new(copy_results(alloc, ledger.results())?),
     })
 }
 
@@ -337,7 +383,7 @@ fn items_of(alloc: Global, failure: Option<Refusal>, channel: &Channel) -> Resul
         → OnOk result (is_readable (items_of failure e) ≡ true
         → HasRecord failure e) }
     ensures log_can_be_restored { (e : End) → end.StandsFor channel.now e
-        → OnOk result (IsRestorable (told_of e.dance.log.first (after_drop e.dance.log))) }
+        → OnOk result (IsRestorable (record_form_of e.dance.log.first (after_drop e.dance.log))) }
     ensures fails { (e : End) → end.StandsFor channel.now e
         → IfErr result (λ r. (r ≡ refusal.Memory) ⊎ ((r ≡ refusal.Damaged) × HasNoAgreement e)) }
 {

@@ -5,7 +5,7 @@ use ln_keys::ToyKeys;
 use ln_link::Link;
 use ln_msgs::{Message, Refusal, encode, fits};
 use ln_store::{MemoryStore, RecordStore};
-use ln_tests::FailingStore;
+use ln_tests_links::FailingStore;
 use std::alloc::{AllocError, Global};
 use std::collections::VecDeque;
 
@@ -61,7 +61,7 @@ impl End {
 
     /// A message is in flight to it, or lost where it has no connection.
     pub fn reach(&mut self, bytes: Vec<u8>) -> Result<(), AllocError> {
-        if self.link.unsaved().line().is_down() {
+        if self.link.channel_machine().connection().is_down() {
             return Ok(());
         }
         Ok(self.inbox.push_back(Bytes::new(bytes))?)

@@ -1,7 +1,7 @@
 //! What a link answers, as text.
 
 use crate::end::{CHANNEL, End, written};
-use ln_channel::{Life, LineState, Output, Summary};
+use ln_channel::{ChannelStatus, ConnectionState, Output, Summary};
 use ln_hooks::{ChannelEvent, How};
 use ln_keys::sha256_32;
 use ln_msgs::{Message, Refusal};
@@ -147,13 +147,13 @@ pub fn told(
     text
 }
 
-fn put_life(text: &mut String, life: Life) -> Result<(), AllocError> {
-    match life {
-        Life::Open => text.push_str(" open"),
-        Life::Ready => text.push_str(" ready"),
-        Life::Shut => text.push_str(" shut"),
-        Life::Closed(fee) => write!(text, " closed {fee}"),
-        Life::Failed(refusal) => {
+fn put_status(text: &mut String, status: ChannelStatus) -> Result<(), AllocError> {
+    match status {
+        ChannelStatus::Open => text.push_str(" open"),
+        ChannelStatus::Ready => text.push_str(" ready"),
+        ChannelStatus::Shut => text.push_str(" shut"),
+        ChannelStatus::Closed(fee) => write!(text, " closed {fee}"),
+        ChannelStatus::Failed(refusal) => {
             text.push_str(" ")?;
             put_refusal(text, refusal)
         }
@@ -168,28 +168,28 @@ fn put_summary(text: &mut String, summary: &Summary) -> Result<(), AllocError> {
         own,
         peer,
         live,
-        life,
+        status,
     } = *summary;
     write!(
         text,
         " signed {signed} committed {own_held} peer {peer_held} balance {own}/{peer} live {live}"
     )?;
-    put_life(text, life)
+    put_status(text, status)
 }
 
 /// Where an end stands with its connection and its channel.
 pub fn stand(alloc: Global, x: &End) -> Result<String, AllocError> {
-    let unsaved = x.link.unsaved();
-    let line = match unsaved.line() {
-        LineState::Down => "down",
-        LineState::Awaiting => "waiting",
-        LineState::Met => "met",
+    let channel_machine = x.link.channel_machine();
+    let line = match channel_machine.connection() {
+        ConnectionState::Down => "down",
+        ConnectionState::AwaitingReestablish => "waiting",
+        ConnectionState::Connected => "met",
     };
     let mut text = String::from_str(alloc, line)?;
-    if unsaved.is_halted() {
+    if channel_machine.is_halted() {
         text.push_str(" halted")?;
     }
-    match unsaved.summary(alloc) {
+    match channel_machine.summary(alloc) {
         Ok(summary) => put_summary(&mut text, &summary)?,
         Err(_) => return Err(AllocError),
     }

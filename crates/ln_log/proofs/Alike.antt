@@ -24,7 +24,7 @@ use Rattle.ln_log.specs.Standing.{with_own, with_all}
 use Rattle.ln_log.specs.Log.{Log, Counts, between, counts_of, covered, view_for, same_counts, sign_fault, removal_fault}
 use Rattle.ln_log.specs.Log.{peer_limit, length_fault, proposal_fault, taken_fault, unacknowledged, after_propose}
 use Rattle.ln_log.specs.Log.{after_receive, after_sign, after_accept, after_learn, after_drop, AreNumbered}
-use Rattle.ln_log.specs.Window.{balances_of}
+use Rattle.ln_log.specs.Window.{role_balances_of}
 use Rattle.ln_log.specs.Kept.{Kept, IsWindowOf, pair_counts, front_of}
 use Rattle.ln_log.specs.Alike.{AreAlike}
 use Rattle.ln_log.proofs.Removing.{numbered-take}
@@ -65,7 +65,7 @@ pub same_own_next : (k : Kept) (l m : Log) → IsWindowOf k l → IsWindowOf k m
 same_own_next k l m s t = ap (λ (y : Standing). y.next_id) (sym s.is_kept.own_stands ∙ t.is_kept.own_stands)
 
 next_held : (k : Kept) (l : Log) → IsWindowOf k l
-    → k.worth.next_peer + next_id (peer_rest k k.first.peer k.acknowledged.peer)
+    → k.balances.next_peer + next_id (peer_rest k k.first.peer k.acknowledged.peer)
     ≡ next_id (take l.acknowledged.peer l.received)
 unfolding peer_rest
 next_held k l s =
@@ -190,7 +190,7 @@ pair_is pair.ToAccept k l s = same_counts_by (pair_counts pair.ToAccept k) (afte
     (ap (λ (c : Counts). c.own) s.acknowledged) (peer_length k l s)
 
 viewing : (p : Pair) (k : Kept) (l : Log) → IsWindowOf k l
-    → Viewing k k l p (balances_of k.worth k.role) (own_part k (pair_counts p k).own)
+    → Viewing k k l p (role_balances_of k.balances k.role) (own_part k (pair_counts p k).own)
     (own_rest k k.first.own (pair_counts p k).own) (peer_part k (pair_counts p k).peer)
     (peer_rest k k.first.peer (pair_counts p k).peer) (pair_counts p k).own (pair_counts p k).peer
 unfolding own_part own_rest peer_part peer_rest

@@ -18,7 +18,8 @@ use Rattle.ln_log.specs.Updates.{offered, is_some, next_id, found_or, add_with, 
 use Rattle.ln_log.specs.Updates.{is_failed, is_any, total, last_feerate, rate_after, is_add}
 use Rattle.ln_log.specs.View.{balance, live_of, live_adds, Pays}
 use Rattle.ln_log.specs.Log.{number_after, HasId, AreNumbered, BothPay}
-use Rattle.ln_log.specs.Window.{lives, feerate_of, Worth, worth_of, worth_behind, balance_behind, PaysBehind}
+use Rattle.ln_log.specs.Window.{live_htlcs, feerate_of, Balances, balances_of, balances_behind, balance_behind}
+use Rattle.ln_log.specs.Window.{PaysBehind}
 use Rattle.ln_log.specs.Window.{BothPayBehind, GoesOn}
 use Rattle.ln_log.proofs.Removing.{outcome-append, next-cons, number_is, above}
 use Rattle.ln_log.proofs.Tallies.{amount, weight, tally, total_is, tally-append}
@@ -65,12 +66,12 @@ tally_new test (u ∷ us) q v h = omega (arith, weight_new test q v (offered u) 
 abbrev pub as_updates : List Add → List Update
 as_updates adds = map (λ a. update.Add a) adds
 
-lives_one : (test : Outcome → Bool) (v : List Update) (a : Add) (o : Outcome) (rest : List Add)
+live_htlcs_one : (test : Outcome → Bool) (v : List Update) (a : Add) (o : Outcome) (rest : List Add)
     → tally amount test (as_updates (cons_option (cond (is_live o) (Some a) None) rest)) v
     ≡ cond (is_live o) (cond (test (outcome a.id v)) a.amount 0) 0 + tally amount test (as_updates rest) v
-lives_one test v a Live rest = refl
-lives_one test v a Fulfilled rest = omega arith
-lives_one test v a Failed rest = omega arith
+live_htlcs_one test v a Live rest = refl
+live_htlcs_one test v a Fulfilled rest = omega arith
+live_htlcs_one test v a Failed rest = omega arith
 
 split_by : (test : Outcome → Bool) (o n : Outcome) (k : ℕ) → test Live ≡ false
     → cond (test (cond (is_live o) n o)) k 0 ≡ cond (test o) k 0 + cond (is_live o) (cond (test n) k 0) 0
@@ -79,7 +80,7 @@ split_by test Fulfilled n k e = omega arith
 split_by test Failed n k e = omega arith
 
 split_one : (test : Outcome → Bool) (o : Option Add) (us q v : List Update) → test Live ≡ false
-    → tally amount test us (q ++ v) ≡ tally amount test us q + tally amount test (lives us q) v
+    → tally amount test us (q ++ v) ≡ tally amount test us q + tally amount test (live_htlcs us q) v
     → weight amount test (q ++ v) o + tally amount test us (q ++ v)
     ≡ (weight amount test q o + tally amount test us q)
     + tally amount test (as_updates (cons_option (live_of o q) (live_adds us q))) v
@@ -89,26 +90,26 @@ split_one test (Some a) us q v e h = omega (
   h,
   ap (λ o. cond (test o) a.amount 0) (outcome-append a.id q v),
   split_by test (outcome a.id q) (outcome a.id v) a.amount e,
-  lives_one test v a (outcome a.id q) (live_adds us q),
+  live_htlcs_one test v a (outcome a.id q) (live_adds us q),
 )
 
 -- what is removed by then stays so, and the rest is live
 pub split : (test : Outcome → Bool) (p q v : List Update) → test Live ≡ false
-    → tally amount test p (q ++ v) ≡ tally amount test p q + tally amount test (lives p q) v
+    → tally amount test p (q ++ v) ≡ tally amount test p q + tally amount test (live_htlcs p q) v
 split test [] q v e = refl
 split test (u ∷ us) q v e = split_one test (offered u) us q v e (split test us q v e)
 
 -- ---- balances
 
 pub got_behind : (test : Outcome → Bool) (p w q v : List Update) → test Live ≡ false → AreLiveIn w q
-    → total test (p ++ w) (q ++ v) ≡ total test p q + total test (lives p q ++ w) v
+    → total test (p ++ w) (q ++ v) ≡ total test p q + total test (live_htlcs p q ++ w) v
 got_behind test p w q v e new = omega (
   arith,
   total_is test (p ++ w) (q ++ v),
   total_is test p q,
-  total_is test (lives p q ++ w) v,
+  total_is test (live_htlcs p q ++ w) v,
   tally-append amount test p w (q ++ v),
-  tally-append amount test (lives p q) w v,
+  tally-append amount test (live_htlcs p q) w v,
   split test p q v e,
   tally_new test w q v new,
 )
@@ -127,7 +128,7 @@ spent_behind p w q v = omega (
 -- what a side has behind its balance by then, beside the HTLCs that were live
 pub balance_is : (first : ℕ) (p w q v : List Update) → AreLiveIn w q → AreLiveIn v p → Pays first p q
     → balance first (p ++ w) (q ++ v)
-    ≡ balance_behind (balance first p q) (lives p q) w (lives q p) v
+    ≡ balance_behind (balance first p q) (live_htlcs p q) w (live_htlcs q p) v
 balance_is first p w q v new back pays = omega (
   arith,
   pays,
@@ -137,7 +138,7 @@ balance_is first p w q v new back pays = omega (
 )
 
 pub pays_so : (first : ℕ) (p w q v : List Update) → AreLiveIn w q → AreLiveIn v p → Pays first p q
-    → PaysBehind (balance first p q) (lives p q) w (lives q p) v
+    → PaysBehind (balance first p q) (live_htlcs p q) w (live_htlcs q p) v
     → Pays first (p ++ w) (q ++ v)
 pays_so first p w q v new back pays le = omega (
   arith,
@@ -149,7 +150,7 @@ pays_so first p w q v new back pays le = omega (
 )
 
 pub pays_back : (first : ℕ) (p w q v : List Update) → AreLiveIn w q → AreLiveIn v p → Pays first p q
-    → Pays first (p ++ w) (q ++ v) → PaysBehind (balance first p q) (lives p q) w (lives q p) v
+    → Pays first (p ++ w) (q ++ v) → PaysBehind (balance first p q) (live_htlcs p q) w (live_htlcs q p) v
 pays_back first p w q v new back pays le = omega (
   arith,
   pays,
@@ -186,7 +187,7 @@ live_old_by v a Live rest = refl
 live_old_by v a Fulfilled rest = refl
 live_old_by v a Failed rest = refl
 
-live_old_one : (o : Option Add) (us q v : List Update) → live_adds us (q ++ v) ≡ live_adds (lives us q) v
+live_old_one : (o : Option Add) (us q v : List Update) → live_adds us (q ++ v) ≡ live_adds (live_htlcs us q) v
     → cons_option (live_of o (q ++ v)) (live_adds us (q ++ v))
     ≡ live_adds (as_updates (cons_option (live_of o q) (live_adds us q))) v
 live_old_one None us q v h = h
@@ -196,20 +197,22 @@ live_old_one (Some a) us q v h =
     None)) h
     ∙ sym (live_old_by v a (outcome a.id q) (live_adds us q))
 
-live_old : (p q v : List Update) → live_adds p (q ++ v) ≡ live_adds (lives p q) v
+live_old : (p q v : List Update) → live_adds p (q ++ v) ≡ live_adds (live_htlcs p q) v
 live_old [] q v = refl
 live_old (u ∷ us) q v = live_old_one (offered u) us q v (live_old us q v)
 
 -- those of both lists are those of the live ones by then, and of the rest
-pub live_behind : (p w q v : List Update) → AreLiveIn w q → live_adds (p ++ w) (q ++ v) ≡ live_adds (lives p q ++ w) v
+pub live_behind : (p w q v : List Update) → AreLiveIn w q
+    → live_adds (p ++ w) (q ++ v) ≡ live_adds (live_htlcs p q ++ w) v
 live_behind p w q v new =
     live-append p w (q ++ v)
     ∙ ap (λ xs. xs ++ live_adds w (q ++ v)) (live_old p q v)
-    ∙ ap (λ xs. live_adds (lives p q) v ++ xs) (live_new w q v new)
-    ∙ sym (live-append (lives p q) w v)
+    ∙ ap (λ xs. live_adds (live_htlcs p q) v ++ xs) (live_new w q v new)
+    ∙ sym (live-append (live_htlcs p q) w v)
 
-pub lives_behind : (p w q v : List Update) → AreLiveIn w q → lives (p ++ w) (q ++ v) ≡ lives (lives p q ++ w) v
-lives_behind p w q v new = ap as_updates (live_behind p w q v new)
+pub live_htlcs_behind : (p w q v : List Update) → AreLiveIn w q
+    → live_htlcs (p ++ w) (q ++ v) ≡ live_htlcs (live_htlcs p q ++ w) v
+live_htlcs_behind p w q v new = ap as_updates (live_behind p w q v new)
 
 -- ---- single HTLCs
 
@@ -218,8 +221,8 @@ none_removed id [] = refl
 none_removed id (a ∷ adds) = none_removed id adds
 
 -- live HTLCs remove nothing
-pub outcome_kept : (id : ℕ) (p q w : List Update) → outcome id (lives p q ++ w) ≡ outcome id w
-outcome_kept id p q w = outcome_behind id (lives p q) w (none_removed id (live_adds p q))
+pub outcome_kept : (id : ℕ) (p q w : List Update) → outcome id (live_htlcs p q ++ w) ≡ outcome id w
+outcome_kept id p q w = outcome_behind id (live_htlcs p q) w (none_removed id (live_adds p q))
 
 found_by : (id : ℕ) (a : Add) (o : Outcome) (rest : List Add)
     → add_with id (as_updates (cons_option (cond (is_live o) (Some a) None) rest))
@@ -239,28 +242,28 @@ both_ways true x = refl
 both_ways false x = refl
 
 found_one : (id : ℕ) (o : Option Add) (us p : List Update)
-    → add_with id (lives us p) ≡ cond (is_live (outcome id p)) (add_with id us) None
+    → add_with id (live_htlcs us p) ≡ cond (is_live (outcome id p)) (add_with id us) None
     → add_with id (as_updates (cons_option (live_of o p) (live_adds us p)))
     ≡ cond (is_live (outcome id p)) (found_or id o (add_with id us)) None
 found_one id None us p h = h
 found_one id (Some a) us p h = found_by id a (outcome a.id p) (live_adds us p) ∙ (elim (eqb_tells a.id id) [
   | inl g ↦ (
-      ap (λ t. cond (is_live (outcome a.id p)) (cond t (Some a) (add_with id (lives us p)))
-      (add_with id (lives us p))) g.0
-      ∙ found_hit (outcome a.id p) a (add_with id (lives us p)) (add_with id us)
-      (subst (λ i. add_with id (lives us p) ≡ cond (is_live (outcome i p)) (add_with id us) None) (sym g.1) h)
+      ap (λ t. cond (is_live (outcome a.id p)) (cond t (Some a) (add_with id (live_htlcs us p)))
+      (add_with id (live_htlcs us p))) g.0
+      ∙ found_hit (outcome a.id p) a (add_with id (live_htlcs us p)) (add_with id us)
+      (subst (λ i. add_with id (live_htlcs us p) ≡ cond (is_live (outcome i p)) (add_with id us) None) (sym g.1) h)
       ∙ ap (λ i. cond (is_live (outcome i p)) (Some a) None) g.1
       ∙ ap (λ t. cond (is_live (outcome id p)) (cond t (Some a) (add_with id us)) None) (sym g.0))
   | inr g ↦ (
-      ap (λ t. cond (is_live (outcome a.id p)) (cond t (Some a) (add_with id (lives us p)))
-      (add_with id (lives us p))) g.0
-      ∙ both_ways (is_live (outcome a.id p)) (add_with id (lives us p)) ∙ h
+      ap (λ t. cond (is_live (outcome a.id p)) (cond t (Some a) (add_with id (live_htlcs us p)))
+      (add_with id (live_htlcs us p))) g.0
+      ∙ both_ways (is_live (outcome a.id p)) (add_with id (live_htlcs us p)) ∙ h
       ∙ ap (λ t. cond (is_live (outcome id p)) (cond t (Some a) (add_with id us)) None) (sym g.0))
 ])
 
 -- a live HTLC is found among the live ones, and no other
 pub found : (id : ℕ) (us p : List Update)
-    → add_with id (lives us p) ≡ cond (is_live (outcome id p)) (add_with id us) None
+    → add_with id (live_htlcs us p) ≡ cond (is_live (outcome id p)) (add_with id us) None
 found id [] p = sym (both_ways (is_live (outcome id p)) None)
 found id (u ∷ us) p = found_one id (offered u) us p (found id us p)
 
@@ -307,10 +310,11 @@ own_live o x p w q v h = live_in (next_id p) w q h.own_ids h.base.own_new
 pub peer_live : (o : Opening) (x : Role) (p w q v : List Update) → GoesOn o x p w q v → AreLiveIn v p
 peer_live o x p w q v h = live_in (next_id q) v p h.peer_ids h.base.peer_new
 
-pub both_lives : (o : Opening) (x : Role) (p w q v : List Update) → GoesOn o x p w q v
-    → (lives (p ++ w) (q ++ v) ≡ lives (lives p q ++ w) v) × (lives (q ++ v) (p ++ w) ≡ lives (lives q p ++ v) w)
-both_lives o x p w q v h =
-    (lives_behind p w q v (own_live o x p w q v h), lives_behind q v p w (peer_live o x p w q v h))
+pub both_live_htlcs : (o : Opening) (x : Role) (p w q v : List Update) → GoesOn o x p w q v
+    → (live_htlcs (p ++ w) (q ++ v) ≡ live_htlcs (live_htlcs p q ++ w) v)
+    × (live_htlcs (q ++ v) (p ++ w) ≡ live_htlcs (live_htlcs q p ++ v) w)
+both_live_htlcs o x p w q v h =
+    (live_htlcs_behind p w q v (own_live o x p w q v h), live_htlcs_behind q v p w (peer_live o x p w q v h))
 
 pub rate_behind : (rate : ℕ) (p w : List Update) → last_feerate rate (p ++ w) ≡ last_feerate (last_feerate rate p) w
 rate_behind rate [] w = refl
@@ -321,25 +325,25 @@ feerate_behind : (rate : ℕ) (x : Role) (p w q v : List Update)
 feerate_behind rate Funder p w q v = rate_behind rate p w
 feerate_behind rate Fundee p w q v = rate_behind rate q v
 
-abbrev worth_at : ℕ → ℕ → ℕ → ℕ → ℕ → Worth
-worth_at m n a b r = record { next_own = m; next_peer = n; own = a; peer = b; feerate = r }
+abbrev balances_at : ℕ → ℕ → ℕ → ℕ → ℕ → Balances
+balances_at m n a b r = record { next_own = m; next_peer = n; own = a; peer = b; feerate = r }
 
-same_worth : (m n a b r m' n' a' b' r' : ℕ) → m ≡ m' → n ≡ n' → a ≡ a' → b ≡ b' → r ≡ r'
-    → worth_at m n a b r ≡ worth_at m' n' a' b' r'
-same_worth m n a b r m' n' a' b' r' em en ea eb er =
-    ap (λ i. worth_at i n a b r) em ∙ ap (λ i. worth_at m' i a b r) en ∙ ap (λ i. worth_at m' n' i b r) ea
-    ∙ ap (λ i. worth_at m' n' a' i r) eb ∙ ap (worth_at m' n' a' b') er
+same_balances : (m n a b r m' n' a' b' r' : ℕ) → m ≡ m' → n ≡ n' → a ≡ a' → b ≡ b' → r ≡ r'
+    → balances_at m n a b r ≡ balances_at m' n' a' b' r'
+same_balances m n a b r m' n' a' b' r' em en ea eb er =
+    ap (λ i. balances_at i n a b r) em ∙ ap (λ i. balances_at m' i a b r) en ∙ ap (λ i. balances_at m' n' i b r) ea
+    ∙ ap (λ i. balances_at m' n' a' i r) eb ∙ ap (balances_at m' n' a' b') er
 
-pub worth_is : (o : Opening) (x : Role) (p w q v : List Update) → GoesOn o x p w q v
-    → worth_of o x (p ++ w) (q ++ v) ≡ worth_behind x (worth_of o x p q) (lives p q) w (lives q p) v
-worth_is o x p w q v h = same_worth _ _ _ _ _ _ _ _ _ _ (next-append p w) (next-append q v)
+pub balances_is : (o : Opening) (x : Role) (p w q v : List Update) → GoesOn o x p w q v
+    → balances_of o x (p ++ w) (q ++ v) ≡ balances_behind x (balances_of o x p q) (live_htlcs p q) w (live_htlcs q p) v
+balances_is o x p w q v h = same_balances _ _ _ _ _ _ _ _ _ _ (next-append p w) (next-append q v)
     (balance_is (first_balance o x) p w q v (own_live o x p w q v h) (peer_live o x p w q v h) h.base.paid.0)
     (balance_is (first_balance o (other_role x)) q v p w (peer_live o x p w q v h) (own_live o x p w q v h)
     h.base.paid.1)
     (feerate_behind o.feerate x p w q v)
 
 pub both_pay : (o : Opening) (x : Role) (p w q v : List Update) → GoesOn o x p w q v
-    → BothPayBehind (worth_of o x p q) (lives p q) w (lives q p) v
+    → BothPayBehind (balances_of o x p q) (live_htlcs p q) w (live_htlcs q p) v
     → BothPay o x (record { own = p ++ w; peer = q ++ v })
 both_pay o x p w q v h b = (
   pays_so (first_balance o x) p w q v (own_live o x p w q v h) (peer_live o x p w q v h) h.base.paid.0 b.0,

@@ -18,7 +18,7 @@ use Rattle.ln_log.specs.Log.{Log, Counts, none, between, after_propose, after_re
 use Rattle.ln_log.specs.Log.{after_learn, after_drop, proposal_fault, taken_fault, HasAmount}
 use Rattle.ln_log.specs.Log.{AreWithin, AreNumbered}
 use Rattle.ln_log.specs.Loading.{IsReadable}
-use Rattle.ln_log.specs.Window.{lives}
+use Rattle.ln_log.specs.Window.{live_htlcs}
 use Rattle.ln_log.specs.Kept.{Kept, IsWindowOf, IsKeptInOrder, kept_count, own_base, peer_base, front_of}
 use Rattle.ln_log.proofs.Removing.{numbered-drop, numbered-take}
 use Rattle.ln_log.proofs.Totals.{longer}
@@ -240,7 +240,7 @@ own_fault k l u lim os hs r s eo eh er =
     let ids : next_id (take k.first.peer (take n l.received)) ≡ next_id q =
     ap next_id (take-take k.first.peer n l.received s.first_peer) in
     er ∙ ap (λ y. fault_at lim x y os hs u) s.role ∙ ap (λ y. fault_at lim x l.role y hs u) (eo ∙ s.own)
-    ∙ ap (λ y. fault_at lim x l.role (lives p q ++ rest) y u) eh
+    ∙ ap (λ y. fault_at lim x l.role (live_htlcs p q ++ rest) y u) eh
     ∙ fault_behind lim x l.role p rest q part u
     (subst (λ i. AreNumbered i part) (omega (arith, ids))
     (numbered-drop 0 k.first.peer (take n l.received) (numbered-take 0 n l.received s.is_kept.peer_ids)))
@@ -263,7 +263,7 @@ got_fault k l u lim x os hs r s eo eh er =
     let ids : next_id (take k.first.own (take n l.own)) ≡ next_id p =
     ap next_id (take-take k.first.own n l.own s.first_own) in
     er ∙ ap (λ z. fault_at lim y x z hs u) (eo ∙ s.received)
-    ∙ ap (λ z. fault_at lim y x (lives q p ++ rest) z u) eh
+    ∙ ap (λ z. fault_at lim y x (live_htlcs q p ++ rest) z u) eh
     ∙ fault_behind lim y x q rest p part u
     (subst (λ i. AreNumbered i part) (omega (arith, ids))
     (numbered-drop 0 k.first.own (take n l.own) (numbered-take 0 n l.own s.is_kept.own_ids)))

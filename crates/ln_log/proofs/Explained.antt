@@ -20,7 +20,7 @@ use Rattle.ln_log.specs.Updates.{offered, next_id, outcome, is_live, is_fulfille
 use Rattle.ln_log.specs.Outcomes.{is_removal, removals_in}
 use Rattle.ln_log.specs.View.{balance, live_of, live_adds, Pays}
 use Rattle.ln_log.specs.Log.{Log, Counts, number_after, HasId, AreNumbered, AreRemovals, BothPay, IsKept}
-use Rattle.ln_log.specs.Window.{feerate_of, worth_of, IsClosed}
+use Rattle.ln_log.specs.Window.{feerate_of, balances_of, IsClosed}
 use Rattle.ln_log.specs.Explained.{AreBetween, add_amount, in_flight, gone, lost, fee_changes, MayBeLedTo}
 use Rattle.ln_log.proofs.Removing.{next-cons, number_is, numbered-take, removals-take}
 use Rattle.ln_log.proofs.Tallies.{amount, one, weight, tally, total_is, live_is}
@@ -160,14 +160,14 @@ lost_by first p q pays h =
 
 rate_so : (o : Opening) (x : Role) (p q : List Update) (c : Counts) → c.own ≡ length p → c.peer ≡ length q
     → length (live_adds q p) + removals_in p ≡ next_id q → length (live_adds p q) + removals_in q ≡ next_id p
-    → fee_changes x c (worth_of o x p q) (live_adds p q) (live_adds q p) ≡ 0 → feerate_of o.feerate x p q ≡ o.feerate
+    → fee_changes x c (balances_of o x p q) (live_adds p q) (live_adds q p) ≡ 0 → feerate_of o.feerate x p q ≡ o.feerate
 rate_so o Funder p q c eo ep own peer e = rate_kept o.feerate p (omega (arith, e, eo, own, at_most p))
 rate_so o Fundee p q c eo ep own peer e = rate_kept o.feerate q (omega (arith, e, ep, peer, at_most q))
 
 -- lists whose ids rise by one, of which each removes HTLCs of the other, each once, and in which both sides can pay
 pub lists_lead : (o : Opening) (x : Role) (p q : List Update) (c : Counts) → HasFunds o → AreNumbered 0 p
     → AreNumbered 0 q → AreRemovals q [] p → AreRemovals p [] q → BothPay o x (record { own = p; peer = q })
-    → c.own ≡ length p → c.peer ≡ length q → MayBeLedTo o x c (worth_of o x p q) (live_adds p q) (live_adds q p)
+    → c.own ≡ length p → c.peer ≡ length q → MayBeLedTo o x c (balances_of o x p q) (live_adds p q) (live_adds q p)
 lists_lead o x p q c funds ids got removals back paid eo ep =
     let own = counted q p got removals in
     let peer = counted p q ids back in
@@ -191,7 +191,7 @@ lists_lead o x p q c funds ids got removals back paid eo ep =
 -- of the lists of a log any base
 pub is_led : (l : Log) (s t u v : Standing) (c : Counts) → IsKept l s t u v → c.own ≤ l.current.own
     → c.peer ≤ l.acknowledged.peer → IsClosed l.opening l.role (take c.own l.own) (take c.peer l.received)
-    → MayBeLedTo l.opening l.role c (worth_of l.opening l.role (take c.own l.own) (take c.peer l.received))
+    → MayBeLedTo l.opening l.role c (balances_of l.opening l.role (take c.own l.own) (take c.peer l.received))
     (live_adds (take c.own l.own) (take c.peer l.received)) (live_adds (take c.peer l.received) (take c.own l.own))
 is_led l s t u v c k own peer closed =
     let w = k.within in

@@ -19,7 +19,7 @@ use Rattle.ln_log.specs.Limits.{removable, fulfil_fault, fail_fault, malformed_f
 use Rattle.ln_log.specs.Standing.{with_own, with_peer, with_removal, with_all, without, paid_by, PaidFits, OwnFits}
 use Rattle.ln_log.specs.Standing.{FoundFits, RemovalFits, AllFit}
 use Rattle.ln_log.specs.Log.{AreNumbered, RemovesLive, AreRemovals, IsNotGone, AreNotGone}
-use Rattle.ln_log.specs.Window.{lives}
+use Rattle.ln_log.specs.Window.{live_htlcs}
 use Rattle.ln_log.proofs.Removing.{or_else, outcome-append, add_with-append, below, numbered-take, numbered-drop}
 use Rattle.ln_log.proofs.Behind.{AreLiveIn, live_in, found, outcome_kept}
 
@@ -83,11 +83,11 @@ gone_before id p q v ids new e = elim (leb_tells (next_id q) id) [
 -- found by what is kept, as by whole lists
 pub removable_behind : (id : ℕ) (p w q v : List Update) → AreNumbered (next_id q) v
     → ((i : ℕ) → next_id q ≤ i → outcome i p ≡ Live)
-    → removable id (lives p q ++ w) (lives q p ++ v) ≡ removable id (p ++ w) (q ++ v)
+    → removable id (live_htlcs p q ++ w) (live_htlcs q p ++ v) ≡ removable id (p ++ w) (q ++ v)
 removable_behind id p w q v ids new =
-    ap (λ o. cond (is_live o) (add_with id (lives q p ++ v)) None) (outcome_kept id p q w)
+    ap (λ o. cond (is_live o) (add_with id (live_htlcs q p ++ v)) None) (outcome_kept id p q w)
     ∙ ap (λ x. cond (is_live (outcome id w)) x None)
-    (add_with-append id (lives q p) v ∙ ap (λ x. or_else x (add_with id v)) (found id q p))
+    (add_with-append id (live_htlcs q p) v ∙ ap (λ x. or_else x (add_with id v)) (found id q p))
     ∙ removable_one (outcome id p) (outcome id w) (add_with id q) (add_with id v) (gone_before id p q v ids new)
     ∙ ap (λ o. cond (is_live o) (or_else (add_with id q) (add_with id v)) None) (sym (outcome-append id p w))
     ∙ ap (λ x. cond (is_live (outcome id (p ++ w))) x None) (sym (add_with-append id q v))
@@ -95,7 +95,7 @@ removable_behind id p w q v ids new =
 -- and so is what is wrong with a further update
 pub fault_behind : (lim : Limits) (s : Standing) (side : Role) (p w q v : List Update) (u : Update)
     → AreNumbered (next_id q) v → ((i : ℕ) → next_id q ≤ i → outcome i p ≡ Live)
-    → fault_at lim s side (lives p q ++ w) (lives q p ++ v) u ≡ fault_at lim s side (p ++ w) (q ++ v) u
+    → fault_at lim s side (live_htlcs p q ++ w) (live_htlcs q p ++ v) u ≡ fault_at lim s side (p ++ w) (q ++ v) u
 fault_behind lim s side p w q v (update.Add a) ids new = refl
 fault_behind lim s side p w q v (update.Fulfil f) ids new =
     ap (fulfil_fault f.preimage) (removable_behind f.id p w q v ids new)
@@ -129,43 +129,43 @@ not_gone adds before q m (u ∷ us) e h = (
 
 -- is found by what is kept, as by whole lists
 pub add_behind : (id : ℕ) (p w q : List Update) → outcome id q ≡ Live
-    → add_with id (lives p q ++ w) ≡ add_with id (p ++ w)
-add_behind id p w q e = add_with-append id (lives p q) w
+    → add_with id (live_htlcs p q ++ w) ≡ add_with id (p ++ w)
+add_behind id p w q e = add_with-append id (live_htlcs p q) w
     ∙ ap (λ x. or_else x (add_with id w)) (found id p q ∙ ap (λ o. cond (is_live o) (add_with id p) None) e)
     ∙ sym (add_with-append id p w)
 
 -- ---- standings
 
 removal_same : (s : Standing) (p w q : List Update) (r : Option Removal) → IsNotGone q r
-    → with_removal s (lives p q ++ w) r ≡ with_removal s (p ++ w) r
+    → with_removal s (live_htlcs p q ++ w) r ≡ with_removal s (p ++ w) r
 removal_same s p w q None h = refl
 removal_same s p w q (Some r) h = ap (without s r.outcome) (add_behind r.id p w q h)
 
 removal_fits : (s : Standing) (p w q : List Update) (r : Option Removal) → IsNotGone q r
-    → RemovalFits s (p ++ w) r → RemovalFits s (lives p q ++ w) r
+    → RemovalFits s (p ++ w) r → RemovalFits s (live_htlcs p q ++ w) r
 removal_fits s p w q None h f = tt
 removal_fits s p w q (Some r) h f = subst (FoundFits s r.outcome) (sym (add_behind r.id p w q h)) f
 
 -- moved by what the other side removes
 pub all_same : (s : Standing) (p w q us : List Update) → AreNotGone q us
-    → with_all s (lives p q ++ w) us ≡ with_all s (p ++ w) us
+    → with_all s (live_htlcs p q ++ w) us ≡ with_all s (p ++ w) us
 all_same s p w q [] h = refl
 all_same s p w q (u ∷ us) h =
-    ap (λ x. with_all x (lives p q ++ w) us) (removal_same s p w q (removed u) h.0)
+    ap (λ x. with_all x (live_htlcs p q ++ w) us) (removal_same s p w q (removed u) h.0)
     ∙ all_same (with_peer s (p ++ w) u) p w q us h.1
 
 pub all_fit : (s : Standing) (p w q us : List Update) → AreNotGone q us → AllFit s (p ++ w) us
-    → AllFit s (lives p q ++ w) us
+    → AllFit s (live_htlcs p q ++ w) us
 all_fit s p w q [] h f = tt
 all_fit s p w q (u ∷ us) h f = (
   removal_fits s p w q (removed u) h.0 f.0,
-  subst (λ x. AllFit x (lives p q ++ w) us) (sym (removal_same s p w q (removed u) h.0))
+  subst (λ x. AllFit x (live_htlcs p q ++ w) us) (sym (removal_same s p w q (removed u) h.0))
       (all_fit (with_peer s (p ++ w) u) p w q us h.1 f.1),
 )
 
 -- moved by an own update
 pub own_same : (s : Standing) (p w q : List Update) (u : Update) → IsNotGone q (removed u)
-    → with_own s (lives p q ++ w) u ≡ with_own s (p ++ w) u
+    → with_own s (live_htlcs p q ++ w) u ≡ with_own s (p ++ w) u
 own_same s p w q (update.Add a) h = refl
 own_same s p w q (update.Fulfil f) h = ap (paid_by s) (add_behind f.id p w q h)
 own_same s p w q (update.Fail f) h = refl
@@ -173,7 +173,7 @@ own_same s p w q (update.Malformed m) h = refl
 own_same s p w q (update.Fee f) h = refl
 
 pub own_fit : (s : Standing) (p w q : List Update) (u : Update) → IsNotGone q (removed u) → OwnFits s (p ++ w) u
-    → OwnFits s (lives p q ++ w) u
+    → OwnFits s (live_htlcs p q ++ w) u
 own_fit s p w q (update.Add a) h f = f
 own_fit s p w q (update.Fulfil x) h f = subst (PaidFits s) (sym (add_behind x.id p w q h)) f
 own_fit s p w q (update.Fail x) h f = tt

@@ -21,7 +21,7 @@ use Rattle.ln_log.specs.Updates.{offered, is_some, next_id, add_with, outcome, i
 use Rattle.ln_log.specs.Limits.{removable}
 use Rattle.ln_log.specs.Log.{Log, Counts, AreNumbered, between, removal_fault, update_at, updates_of, HasAmount}
 use Rattle.ln_log.specs.Log.{AreWithin, AreRemovals}
-use Rattle.ln_log.specs.Window.{Worth, lives}
+use Rattle.ln_log.specs.Window.{Balances, live_htlcs}
 use Rattle.ln_log.specs.Log.{AreNotGone}
 use Rattle.ln_log.specs.Kept.{Kept, IsWindowOf, kept_first, own_base, peer_base, base_of, live_base, front_of}
 use Rattle.ln_log.proofs.Removing.{removals-drop, or_else, outcome-append, add_with-append, below, above}
@@ -57,7 +57,8 @@ pub own_between : (kept : Kept) (l : Log) (m n : ℕ) (ks : List Update) → IsW
     → between (kept.live.own + (m - kept.first.own)) (kept.live.own + (n - kept.first.own)) ks ≡ between m n l.own
 own_between kept l m n ks s lm ln e =
     ap (between (kept.live.own + (m - kept.first.own)) (kept.live.own + (n - kept.first.own))) (e ∙ s.own)
-    ∙ part_behind kept.live.own kept.first.own m n (lives (own_base kept l) (peer_base kept l)) l.own s.live_own lm ln
+    ∙ part_behind kept.live.own kept.first.own m n (live_htlcs (own_base kept l)
+    (peer_base kept l)) l.own s.live_own lm ln
 
 pub peer_between : (kept : Kept) (l : Log) (m n : ℕ) (ks : List Update) → IsWindowOf kept l → kept.first.peer ≤ m
     → m ≤ n → ks ≡ kept.received
@@ -65,7 +66,8 @@ pub peer_between : (kept : Kept) (l : Log) (m n : ℕ) (ks : List Update) → Is
     ≡ between m n l.received
 peer_between kept l m n ks s lm ln e =
     ap (between (kept.live.peer + (m - kept.first.peer)) (kept.live.peer + (n - kept.first.peer))) (e ∙ s.received)
-    ∙ part_behind kept.live.peer kept.first.peer m n (lives (peer_base kept l) (own_base kept l)) l.received s.live_peer
+    ∙ part_behind kept.live.peer kept.first.peer m n (live_htlcs (peer_base kept l)
+    (own_base kept l)) l.received s.live_peer
     lm ln
 
 -- up to a count
@@ -73,13 +75,14 @@ pub own_front : (kept : Kept) (l : Log) (n : ℕ) (ks : List Update) → IsWindo
     → ks ≡ kept.own → take (kept.live.own + (n - kept.first.own)) ks ≡ front_of side.Own kept l n
 own_front kept l n ks s le e =
     ap (take (kept.live.own + (n - kept.first.own))) (e ∙ s.own)
-    ∙ cut_at kept.live.own kept.first.own n (lives (own_base kept l) (peer_base kept l)) l.own s.live_own le
+    ∙ cut_at kept.live.own kept.first.own n (live_htlcs (own_base kept l) (peer_base kept l)) l.own s.live_own le
 
 pub peer_front : (kept : Kept) (l : Log) (n : ℕ) (ks : List Update) → IsWindowOf kept l → kept.first.peer ≤ n
     → ks ≡ kept.received → take (kept.live.peer + (n - kept.first.peer)) ks ≡ front_of side.Peer kept l n
 peer_front kept l n ks s le e =
     ap (take (kept.live.peer + (n - kept.first.peer))) (e ∙ s.received)
-    ∙ cut_at kept.live.peer kept.first.peer n (lives (peer_base kept l) (own_base kept l)) l.received s.live_peer le
+    ∙ cut_at kept.live.peer kept.first.peer n (live_htlcs (peer_base kept l)
+    (own_base kept l)) l.received s.live_peer le
 
 -- ---- one update by its number
 
@@ -106,7 +109,7 @@ pub own_update : (kept : Kept) (l : Log) (n : ℕ) (ks : List Update) → IsWind
 own_update kept l n ks s e =
     ap (λ x. cond (nat_lt n kept.first.own) None (slice_get x (n - kept.first.own)))
     (ap (drop kept.live.own) (e ∙ s.own)
-    ∙ behind_all kept.live.own kept.first.own (lives (own_base kept l) (peer_base kept l)) l.own s.live_own)
+    ∙ behind_all kept.live.own kept.first.own (live_htlcs (own_base kept l) (peer_base kept l)) l.own s.live_own)
     ∙ got_at kept.first.own n l.own
 
 pub peer_update : (kept : Kept) (l : Log) (n : ℕ) (ks : List Update) → IsWindowOf kept l → ks ≡ kept.received
@@ -115,7 +118,8 @@ pub peer_update : (kept : Kept) (l : Log) (n : ℕ) (ks : List Update) → IsWin
 peer_update kept l n ks s e =
     ap (λ x. cond (nat_lt n kept.first.peer) None (slice_get x (n - kept.first.peer)))
     (ap (drop kept.live.peer) (e ∙ s.received)
-    ∙ behind_all kept.live.peer kept.first.peer (lives (peer_base kept l) (own_base kept l)) l.received s.live_peer)
+    ∙ behind_all kept.live.peer kept.first.peer (live_htlcs (peer_base kept l)
+    (own_base kept l)) l.received s.live_peer)
     ∙ got_at kept.first.peer n l.received
 
 -- ---- the peer's HTLCs
@@ -123,12 +127,12 @@ peer_update kept l n ks s e =
 -- the id of its next one, by so many of its updates
 pub next_is : (kept : Kept) (l : Log) (n : ℕ) (us : List Update) → IsWindowOf kept l → kept.first.peer ≤ n
     → us ≡ between kept.first.peer n l.received
-    → kept.worth.next_peer + next_id us ≡ next_id (take n l.received)
+    → kept.balances.next_peer + next_id us ≡ next_id (take n l.received)
 next_is kept l n us s le e =
     omega (
       arith,
       ap next_id (e ∙ between_is kept.first.peer n l.received le),
-      ap (λ (x : Worth). x.next_peer) s.worth,
+      ap (λ (x : Balances). x.next_peer) s.balances,
       next-append (peer_base kept l) (drop kept.first.peer (take n l.received)),
       ap next_id (longer kept.first.peer n l.received le),
     )
@@ -165,7 +169,7 @@ live_is kept l id s lt =
     (λ le. s.closed.peer_new id le)
     (λ less. below (0 + next_id q) id v (numbered-drop 0 kept.first.peer l.received k.peer_ids) (omega (arith, less)))
     ∙ ap (λ x. is_live (outcome id w) && is_some (or_else x (add_with id v))) (sym (found id q p))
-    ∙ ap (λ x. is_live (outcome id w) && is_some x) (sym (add_with-append id (lives q p) v))
+    ∙ ap (λ x. is_live (outcome id w) && is_some x) (sym (add_with-append id (live_htlcs q p) v))
     ∙ ap (λ x. is_live (outcome id w) && is_some (add_with id x)) (sym s.received)
     ∙ ap (λ o. is_live o && is_some (add_with id kept.received)) (sym (outcome_kept id p q w))
     ∙ ap (λ x. is_live (outcome id x) && is_some (add_with id kept.received)) (sym s.own)
@@ -221,7 +225,7 @@ own_found kept l id s =
     let q = peer_base kept l in
     let ids : AreNumbered (next_id p) w =
     subst (λ i. AreNumbered i w) (omega arith) (numbered-drop 0 kept.first.own l.own s.is_kept.own_ids) in
-    ap (add_with id) s.own ∙ add_with-append id (lives p q) w ∙ ap (λ x. or_else x (add_with id w)) (found id p q)
+    ap (add_with id) s.own ∙ add_with-append id (live_htlcs p q) w ∙ ap (λ x. or_else x (add_with id w)) (found id p q)
     ∙ found_in (outcome id q) (add_with id p) (add_with id w) (gone_before id q p w ids s.closed.own_new)
     ∙ ap (λ x. cond (is_live (outcome id q)) x None)
     (sym (add_with-append id p w) ∙ ap (add_with id) (take-append-drop kept.first.own l.own))
@@ -380,18 +384,18 @@ removal_held l r o b ids e lt eb true_ held =
 
 -- ---- the live HTLCs of the base
 
-pub own_lives : (k m : Kept) (l : Log) (ks r : List Update) → k ≡ m → IsWindowOf m l → ks ≡ k.own
+pub own_live_htlcs : (k m : Kept) (l : Log) (ks r : List Update) → k ≡ m → IsWindowOf m l → ks ≡ k.own
     → r ≡ between 0 k.live.own ks → r ≡ live_base side.Own m l
-own_lives k m l ks r v s ek er =
+own_live_htlcs k m l ks r v s ek er =
     let t : IsWindowOf k l = subst (λ y. IsWindowOf y l) (sym v) s in
     let all : k.live.own - 0 ≡ k.live.own = omega arith in
     er ∙ ap (λ n. take n ks) all ∙ ap (take k.live.own) (ek ∙ t.own)
     ∙ ap (λ n. take n (live_base side.Own k l ++ drop k.first.own l.own)) t.live_own
     ∙ take-append_seam (live_base side.Own k l) (drop k.first.own l.own) ∙ ap (λ y. live_base side.Own y l) v
 
-pub peer_lives : (k m : Kept) (l : Log) (ks r : List Update) → k ≡ m → IsWindowOf m l → ks ≡ k.received
+pub peer_live_htlcs : (k m : Kept) (l : Log) (ks r : List Update) → k ≡ m → IsWindowOf m l → ks ≡ k.received
     → r ≡ between 0 k.live.peer ks → r ≡ live_base side.Peer m l
-peer_lives k m l ks r v s ek er =
+peer_live_htlcs k m l ks r v s ek er =
     let t : IsWindowOf k l = subst (λ y. IsWindowOf y l) (sym v) s in
     let all : k.live.peer - 0 ≡ k.live.peer = omega arith in
     er ∙ ap (λ n. take n ks) all ∙ ap (take k.live.peer) (ek ∙ t.received)

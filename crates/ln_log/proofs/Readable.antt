@@ -23,7 +23,7 @@ use Rattle.ln_log.specs.Limits.{standing_of, most_updates}
 use Rattle.ln_log.specs.Log.{Log, covered, number_after, HasId, AreNumbered, RemovesLive, AreRemovals, IsKept}
 use Rattle.ln_log.specs.Log.{after_drop, none}
 use Rattle.ln_log.specs.declared.loading.Coverage.{Coverage}
-use Rattle.ln_log.specs.Window.{worth_of}
+use Rattle.ln_log.specs.Window.{balances_of}
 use Rattle.ln_log.specs.Kept.{IsWindowOf}
 use Rattle.ln_log.specs.Loading.{stored, IsLawful, CoverAll, AreLawful, IsReadable}
 use Rattle.ln_log.proofs.Removing.{next-cons, number_is, removals-take}
@@ -298,15 +298,15 @@ loads_again l s t p q k own peer =
 no_base : (f : ℕ) → balance f [] [] ≡ f
 no_base f = omega arith
 
-no_worth : (o : Opening) (x : Role) → record {
+no_balances : (o : Opening) (x : Role) → record {
   next_own = 0;
   next_peer = 0;
   own = balance (first_balance o x) [] [];
   peer = balance (first_balance o (other_role x)) [] [];
   feerate = o.feerate;
-} ≡ worth_of o x [] []
-no_worth o Funder = refl
-no_worth o Fundee = refl
+} ≡ balances_of o x [] []
+no_balances o Funder = refl
+no_balances o Fundee = refl
 
 pub stands_loaded : (o : Opening) (x : Role) (own received : List Update) (c : Coverage) (s p : Standing) (a b : ℕ)
     → IsReadable (stored o x own received c)
@@ -318,7 +318,7 @@ pub stands_loaded : (o : Opening) (x : Role) (own received : List Update) (c : C
       role = x;
       first = none;
       live = none;
-      worth = record { next_own = 0; next_peer = 0; own = a; peer = b; feerate = o.feerate };
+      balances = record { next_own = 0; next_peer = 0; own = a; peer = b; feerate = o.feerate };
       own = own;
       received = received;
       signed = c.signed;
@@ -336,7 +336,7 @@ stands_loaded o x own received c s p a b r es ep ea eb = record {
   received = refl;
   live_own = refl;
   live_peer = refl;
-  worth = ap (λ n. record { next_own = 0; next_peer = 0; own = n; peer = b; feerate = o.feerate })
+  balances = ap (λ n. record { next_own = 0; next_peer = 0; own = n; peer = b; feerate = o.feerate })
       (ea ∙ sym (no_base (first_balance o x)))
       ∙ ap (λ n. record {
         next_own = 0;
@@ -345,7 +345,7 @@ stands_loaded o x own received c s p a b r es ep ea eb = record {
         peer = n;
         feerate = o.feerate;
       }) (eb ∙ sym (no_base (first_balance o (other_role x))))
-      ∙ no_worth o x;
+      ∙ no_balances o x;
   closed = record {
     own_new = λ id le. refl;
     peer_new = λ id le. refl;

@@ -11,8 +11,8 @@ use Rattle.ln_log.specs.declared.opening.Opening.{Opening}
 use Rattle.ln_log.specs.declared.loading.Coverage.{Coverage}
 use Rattle.ln_log.specs.declared.log.Pair.TheVariants as pair
 use Rattle.ln_log.specs.declared.standing.Standing.{Standing}
-use Rattle.ln_log.specs.declared.told.Base.{Base}
-use Rattle.ln_log.specs.declared.told.Origin.{Origin}
+use Rattle.ln_log.specs.declared.record_form.BaseState.{BaseState}
+use Rattle.ln_log.specs.declared.record_form.Origin.{Origin}
 use Rattle.ln_log.specs.declared.update.Add.{Add}
 use Rattle.ln_log.specs.declared.update.Update.{Update}
 use Rattle.ln_log.specs.declared.update.Update.TheVariants as update
@@ -22,12 +22,13 @@ use Rattle.ln_log.specs.Updates.{next_id, share, total}
 use Rattle.ln_log.specs.View.{live_adds}
 use Rattle.ln_log.specs.Limits.{standing_of, most_updates}
 use Rattle.ln_log.specs.Log.{Log, Counts, none, opened, covered, counts_of, after_drop, IsWithin}
-use Rattle.ln_log.specs.Window.{Worth, lives, worth_of, PaysBehind, IsClosed}
+use Rattle.ln_log.specs.Window.{Balances, live_htlcs, balances_of, PaysBehind, IsClosed}
 use Rattle.ln_log.specs.Kept.{Kept, IsWindowOf, IsKeptInOrder, whole, IsWhole, own_before, peer_before}
 use Rattle.ln_log.specs.Loading.{stored, IsLawful, CoverAll, IsReadable}
 use Rattle.ln_log.specs.Explained.{MayBeLedTo, led_own, led_peer}
-use Rattle.ln_log.specs.Told.{Told, told, told_of, as_offered, standing_after, StandingFits, kept_of}
-use Rattle.ln_log.specs.Told.{written, AreInPlace, AreLawfulBehind, IsLawfulBehind, IsRestorable, IsAtOpening}
+use Rattle.ln_log.specs.RecordForm.{RecordForm, record_form, record_form_of, as_offered, standing_after, StandingFits}
+use Rattle.ln_log.specs.RecordForm.{kept_of}
+use Rattle.ln_log.specs.RecordForm.{written, AreInPlace, AreLawfulBehind, IsLawfulBehind, IsRestorable, IsAtOpening}
 use Rattle.ln_log.proofs.Advancing.{few_ids}
 use Rattle.ln_log.proofs.Behind.{live-append}
 use Rattle.ln_log.proofs.Leading.{leads}
@@ -46,7 +47,7 @@ total_both test us vs r = sum_by-append (share test r) us vs
 
 -- ---- what is told
 
-pub in_place : (t : Told) → IsRestorable t → AreInPlace t
+pub in_place : (t : RecordForm) → IsRestorable t → AreInPlace t
 in_place t h = record {
   funds = h.funds;
   base = h.base;
@@ -57,7 +58,7 @@ in_place t h = record {
   peer_amounts = h.peer_amounts;
 }
 
-pub restorable_by : (t : Told) → AreInPlace t
+pub restorable_by : (t : RecordForm) → AreInPlace t
     → IsLawfulBehind t t.signed × IsLawfulBehind t t.acknowledged × IsLawfulBehind t t.current → IsRestorable t
 restorable_by t h v = record {
   funds = h.funds;
@@ -72,23 +73,23 @@ restorable_by t h v = record {
   current = v.2;
 }
 
-pub led_so : (o : Opening) (x : Role) (c : Counts) (w : Worth) (a b e f : List Add) → a ≡ e → b ≡ f
+pub led_so : (o : Opening) (x : Role) (c : Counts) (w : Balances) (a b e f : List Add) → a ≡ e → b ≡ f
     → MayBeLedTo o x c w a b → MayBeLedTo o x c w e f
 led_so o x c w a b e f ea eb h =
     subst (λ y. MayBeLedTo o x c w y f) ea (subst (MayBeLedTo o x c w a) eb h)
 
-pub lawful_so : (w : Worth) (lo os lp ps los lps : List Update) → lo ≡ los → lp ≡ lps
+pub lawful_so : (w : Balances) (lo os lp ps los lps : List Update) → lo ≡ los → lp ≡ lps
     → AreLawfulBehind w lo os lp ps → AreLawfulBehind w los os lps ps
 lawful_so w lo os lp ps los lps eo ep h =
     subst (λ x. AreLawfulBehind w x os lps ps) eo (subst (λ x. AreLawfulBehind w lo os x ps) ep h)
 
 -- ---- how each side stands
 
-pub live_both : (lives own peer r : List Update) → r ≡ peer
-    → length (live_adds lives r) + length (live_adds own r) ≡ length (live_adds (lives ++ own) peer)
-live_both lives own peer r e =
-    sym (length-append (live_adds lives r) (live_adds own r)) ∙ sym (ap length (live-append lives own r))
-    ∙ ap (λ x. length (live_adds (lives ++ own) x)) e
+pub live_both : (live_htlcs own peer r : List Update) → r ≡ peer
+    → length (live_adds live_htlcs r) + length (live_adds own r) ≡ length (live_adds (live_htlcs ++ own) peer)
+live_both live_htlcs own peer r e =
+    sym (length-append (live_adds live_htlcs r) (live_adds own r)) ∙ sym (ap length (live-append live_htlcs own r))
+    ∙ ap (λ x. length (live_adds (live_htlcs ++ own) x)) e
 
 few_all : (us : List Update) → next_id us ≤ length us
 few_all us = subst (λ x. next_id x ≤ length us) (take_all (length us) us (omega arith)) (few_ids (length us) us)
@@ -106,7 +107,7 @@ fits_of o x own peer next b lo os lp ps funds v few e paid =
       balance = omega (arith, ap (λ s. s.balance) e, sum);
     }
 
-lawful_at : (t : Told) (c : Counts) → IsRestorable t → t.first.own ≤ c.own → t.first.peer ≤ c.peer
+lawful_at : (t : RecordForm) (c : Counts) → IsRestorable t → t.first.own ≤ c.own → t.first.peer ≤ c.peer
     → IsLawful t.opening t.role (covered (written t) c) → IsLawfulBehind t c
 lawful_at t c h own peer v =
     let b = tells_written t h in
@@ -117,45 +118,48 @@ lawful_at t c h own peer v =
 rest_of : (n m : ℕ) (us : List Update) → n ≡ m + length us → take (n - m) us ≡ us
 rest_of n m us e = take_all (n - m) us (omega (arith, e))
 
-pub own_fits : (t : Told) → IsRestorable t → StandingFits t.worth.next_own t.worth.own (as_offered t.own_lives) t.own
-    (as_offered t.peer_lives) t.received
+pub own_fits : (t : RecordForm) → IsRestorable t
+    → StandingFits t.balances.next_own t.balances.own (as_offered t.own_live_htlcs) t.own
+    (as_offered t.peer_live_htlcs) t.received
 own_fits t h =
     let l = written t in
     let s = stands_written t h in
     let all = s.1.lists.covered_all in
     let c = h.counts in
     let f = first_balance t.opening t.role in
-    let lo = as_offered t.own_lives in
-    let lp = as_offered t.peer_lives in
+    let lo = as_offered t.own_live_htlcs in
+    let lp = as_offered t.peer_live_htlcs in
     let length_is : length l.own ≡ t.first.own + length t.own = sym all.own ∙ c.own_signed in
     let v = lawful_at t (counts_of pair.ToSign l) h (omega (arith, length_is))
     (omega (arith, c.peer_current)) (s.1.views pair.ToSign) in
-    fits_of t.opening t.role l.own l.received t.worth.next_own t.worth.own lo t.own lp t.received h.funds
+    fits_of t.opening t.role l.own l.received t.balances.next_own t.balances.own lo t.own lp t.received h.funds
     (signs_all l s.1) s.1.lists.own_offered.few
     (s.0.is_kept.own_stands ∙ ap (standing_of f l.own) (whole_peer l all))
-    (subst (λ x. PaysBehind t.worth.own lo x lp t.received) (rest_of (length l.own) t.first.own t.own length_is)
-    (subst (PaysBehind t.worth.own lo (take (length l.own - t.first.own) t.own) lp)
+    (subst (λ x. PaysBehind t.balances.own lo x lp t.received) (rest_of (length l.own) t.first.own t.own length_is)
+    (subst (PaysBehind t.balances.own lo (take (length l.own - t.first.own) t.own) lp)
     (rest_of t.current.peer t.first.peer t.received c.peer_current) v.paid.0))
 
-pub peer_fits : (t : Told) → IsRestorable t → StandingFits t.worth.next_peer t.worth.peer (as_offered t.peer_lives)
-    t.received (as_offered t.own_lives) (take (t.acknowledged.own - t.first.own) t.own)
+pub peer_fits : (t : RecordForm) → IsRestorable t
+    → StandingFits t.balances.next_peer t.balances.peer (as_offered t.peer_live_htlcs)
+    t.received (as_offered t.own_live_htlcs) (take (t.acknowledged.own - t.first.own) t.own)
 peer_fits t h =
     let l = written t in
     let s = stands_written t h in
     let all = s.1.lists.covered_all in
     let c = h.counts in
-    let lo = as_offered t.own_lives in
-    let lp = as_offered t.peer_lives in
+    let lo = as_offered t.own_live_htlcs in
+    let lp = as_offered t.peer_live_htlcs in
     let cut = take (t.acknowledged.own - t.first.own) t.own in
     let length_is : length l.received ≡ t.first.peer + length t.received = sym all.peer ∙ c.peer_current in
     let v = lawful_at t (counts_of pair.ToAccept l) h (omega (arith, c.own_first, c.own_current))
     (omega (arith, length_is)) (s.1.views pair.ToAccept) in
-    fits_of t.opening (other_role t.role) l.received (take l.acknowledged.own l.own) t.worth.next_peer t.worth.peer lp
+    fits_of t.opening (other_role t.role) l.received
+    (take l.acknowledged.own l.own) t.balances.next_peer t.balances.peer lp
     t.received lo cut h.funds
     (turned_lawful t.opening t.role (other_role t.role) (take l.acknowledged.own l.own) l.received
     (take l.acknowledged.own l.own) l.received refl refl refl (accepts_all l s.1))
     s.1.lists.peer_offered.few s.0.is_kept.peer_stands
-    (subst (λ x. PaysBehind t.worth.peer lp x lo cut) (rest_of (length l.received) t.first.peer t.received length_is)
+    (subst (λ x. PaysBehind t.balances.peer lp x lo cut) (rest_of (length l.received) t.first.peer t.received length_is)
     v.paid.1)
 
 -- from lists and their values
@@ -177,7 +181,7 @@ stands_so s lo os lp ps los oss lps pss next b e e1 e2 e3 e4 =
 -- ---- what is kept
 
 pub same_kept : (k j : Kept) → k.opening ≡ j.opening → k.role ≡ j.role → k.first ≡ j.first → k.live ≡ j.live
-    → k.worth ≡ j.worth → k.own ≡ j.own → k.received ≡ j.received → k.signed ≡ j.signed
+    → k.balances ≡ j.balances → k.own ≡ j.own → k.received ≡ j.received → k.signed ≡ j.signed
     → k.acknowledged ≡ j.acknowledged → k.current ≡ j.current → k.own_standing ≡ j.own_standing
     → k.own_signed ≡ j.own_signed → k.peer_standing ≡ j.peer_standing → k.peer_current ≡ j.peer_current → k ≡ j
 same_kept k j e1 e2 e3 e4 e5 e6 e7 e8 e9 e10 e11 e12 e13 e14 = λ i. record {
@@ -185,7 +189,7 @@ same_kept k j e1 e2 e3 e4 e5 e6 e7 e8 e9 e10 e11 e12 e13 e14 = λ i. record {
   role = e2 i;
   first = e3 i;
   live = e4 i;
-  worth = e5 i;
+  balances = e5 i;
   own = e6 i;
   received = e7 i;
   signed = e8 i;
@@ -200,10 +204,10 @@ same_kept k j e1 e2 e3 e4 e5 e6 e7 e8 e9 e10 e11 e12 e13 e14 = λ i. record {
 -- ---- the log
 
 -- without its live HTLCs what is kept is the updates behind the base
-behind_lives : (adds : List Add) (us : List Update) → drop (length adds) (as_offered adds ++ us) ≡ us
-behind_lives adds us = rest_is (length adds) (as_offered adds) us (length-map adds (λ a. update.Add a))
+behind_live_htlcs : (adds : List Add) (us : List Update) → drop (length adds) (as_offered adds ++ us) ≡ us
+behind_live_htlcs adds us = rest_is (length adds) (as_offered adds) us (length-map adds (λ a. update.Add a))
 
-log_with : Told → List Update → List Update → Log
+log_with : RecordForm → List Update → List Update → Log
 log_with t own received = record {
   opening = t.opening;
   role = t.role;
@@ -215,80 +219,85 @@ log_with t own received = record {
   current = t.current;
 }
 
-whole_told : (t : Told) (k : Kept) (p q : List Update) → k ≡ kept_of t
-    → p ≡ led_own t.opening t.role t.first t.worth t.own_lives t.peer_lives ++ []
-    → q ≡ led_peer t.opening t.role t.first t.worth t.own_lives t.peer_lives ++ []
+whole_told : (t : RecordForm) (k : Kept) (p q : List Update) → k ≡ kept_of t
+    → p ≡ led_own t.opening t.role t.first t.balances t.own_live_htlcs t.peer_live_htlcs ++ []
+    → q ≡ led_peer t.opening t.role t.first t.balances t.own_live_htlcs t.peer_live_htlcs ++ []
     → whole k p q ≡ record (written t) { first = t.first }
 unfolding log_with
 whole_told t k p q ek ep eq =
-    let os = led_own t.opening t.role t.first t.worth t.own_lives t.peer_lives in
-    let rs = led_peer t.opening t.role t.first t.worth t.own_lives t.peer_lives in
+    let os = led_own t.opening t.role t.first t.balances t.own_live_htlcs t.peer_live_htlcs in
+    let rs = led_peer t.opening t.role t.first t.balances t.own_live_htlcs t.peer_live_htlcs in
     ap (λ y. whole y p q) ek
-    ∙ ap (λ x. log_with t (x ++ drop (length t.own_lives) (as_offered t.own_lives ++ t.own))
-    (q ++ drop (length t.peer_lives) (as_offered t.peer_lives ++ t.received))) (ep ∙ append-nil os)
-    ∙ ap (λ x. log_with t (os ++ x) (q ++ drop (length t.peer_lives) (as_offered t.peer_lives ++ t.received)))
-    (behind_lives t.own_lives t.own)
-    ∙ ap (λ x. log_with t (os ++ t.own) (x ++ drop (length t.peer_lives) (as_offered t.peer_lives ++ t.received)))
+    ∙ ap (λ x. log_with t (x ++ drop (length t.own_live_htlcs) (as_offered t.own_live_htlcs ++ t.own))
+    (q ++ drop (length t.peer_live_htlcs) (as_offered t.peer_live_htlcs ++ t.received))) (ep ∙ append-nil os)
+    ∙ ap (λ x. log_with t (os ++ x) (q ++ drop (length t.peer_live_htlcs) (as_offered t.peer_live_htlcs ++ t.received)))
+    (behind_live_htlcs t.own_live_htlcs t.own)
+    ∙ ap (λ x. log_with t (os ++ t.own) (x ++ drop (length t.peer_live_htlcs) (as_offered t.peer_live_htlcs
+    ++ t.received)))
     (eq ∙ append-nil rs)
-    ∙ ap (λ x. log_with t (os ++ t.own) (rs ++ x)) (behind_lives t.peer_lives t.received)
+    ∙ ap (λ x. log_with t (os ++ t.own) (rs ++ x)) (behind_live_htlcs t.peer_live_htlcs t.received)
 
 -- the updates that aren't had one by one, where none has left the window
 own_begun : (h : History Origin Update) (o : Origin) → h ≡ begun_with o
-    → own_before h ≡ led_own o.opening o.role o.base.updates o.base.worth o.base.own.items o.base.peer.items ++ []
+    → own_before h ≡ led_own o.opening o.role o.base.updates o.base.balances o.base.own.items o.base.peer.items ++ []
 own_begun h o e = ap own_before e
 
 peer_begun : (h : History Origin Update) (o : Origin) → h ≡ begun_with o
-    → peer_before h ≡ led_peer o.opening o.role o.base.updates o.base.worth o.base.own.items o.base.peer.items ++ []
+    → peer_before h ≡ led_peer o.opening o.role o.base.updates o.base.balances o.base.own.items o.base.peer.items ++ []
 peer_begun h o e = ap peer_before e
 
 pub loaded_is : (o : Origin) (own received : List Update) (c : Coverage) (k : Kept) (h g : History Origin Update)
-    → k ≡ kept_of (told o.opening o.role o.base own received c) → h ≡ begun_with o → g ≡ begun_with o
+    → k ≡ kept_of (record_form o.opening o.role o.base own received c) → h ≡ begun_with o → g ≡ begun_with o
     → whole k (own_before h) (peer_before g)
-    ≡ record (written (told o.opening o.role o.base own received c)) { first = o.base.updates }
+    ≡ record (written (record_form o.opening o.role o.base own received c)) { first = o.base.updates }
 loaded_is o own received c k h g ek eh eg =
-    whole_told (told o.opening o.role o.base own received c) k (own_before h) (peer_before g) ek (own_begun h o eh)
+    whole_told (record_form o.opening o.role o.base own received c) k (own_before h) (peer_before g) ek
+    (own_begun h o eh)
     (peer_begun g o eg)
 
 pub loaded_whole : (o : Origin) (own received : List Update) (c : Coverage) (k : Kept) (h g : History Origin Update)
-    → k ≡ kept_of (told o.opening o.role o.base own received c) → h ≡ begun_with o → g ≡ begun_with o
-    → IsRestorable (told o.opening o.role o.base own received c) → IsWhole k (own_before h) (peer_before g)
+    → k ≡ kept_of (record_form o.opening o.role o.base own received c) → h ≡ begun_with o → g ≡ begun_with o
+    → IsRestorable (record_form o.opening o.role o.base own received c) → IsWhole k (own_before h) (peer_before g)
 loaded_whole o own received c k h g ek eh eg r =
-    let t = told o.opening o.role o.base own received c in
-    let b = leads t.opening t.role t.first t.worth t.own_lives t.peer_lives r.funds r.base in
+    let t = record_form o.opening o.role o.base own received c in
+    let b = leads t.opening t.role t.first t.balances t.own_live_htlcs t.peer_live_htlcs r.funds r.base in
     is_whole k (own_before h) (peer_before g) (record (written t) { first = t.first })
     (subst (λ y. IsWindowOf y (written t)) (sym ek) (stands_written t r).0)
     (loaded_is o own received c k h g ek eh eg)
-    (ap length (own_begun h o eh ∙ append-nil (led_own t.opening t.role t.first t.worth t.own_lives t.peer_lives))
+    (ap length (own_begun h o eh ∙ append-nil
+    (led_own t.opening t.role t.first t.balances t.own_live_htlcs t.peer_live_htlcs))
     ∙ b.own_count ∙ ap (λ (y : Kept). y.first.own) (sym ek))
-    (ap length (peer_begun g o eg ∙ append-nil (led_peer t.opening t.role t.first t.worth t.own_lives t.peer_lives))
+    (ap length (peer_begun g o eg ∙ append-nil
+    (led_peer t.opening t.role t.first t.balances t.own_live_htlcs t.peer_live_htlcs))
     ∙ b.peer_count ∙ ap (λ (y : Kept). y.first.peer) (sym ek))
 
 -- ---- before any update
 
-first_own : (o : Opening) (x : Role) (b : Base) → IsAtOpening o x b
-    → led_own o x b.updates b.worth b.own.items b.peer.items ≡ []
+first_own : (o : Opening) (x : Role) (b : BaseState) → IsAtOpening o x b
+    → led_own o x b.updates b.balances b.own.items b.peer.items ≡ []
 first_own o x b f =
-    ap (λ n. led_own o x n b.worth b.own.items b.peer.items) f.updates
-    ∙ ap (λ w. led_own o x none w b.own.items b.peer.items) f.worth
-    ∙ ap (λ a. led_own o x none (worth_of o x [] []) a b.peer.items) f.own
-    ∙ ap (led_own o x none (worth_of o x [] []) []) f.peer
+    ap (λ n. led_own o x n b.balances b.own.items b.peer.items) f.updates
+    ∙ ap (λ w. led_own o x none w b.own.items b.peer.items) f.balances
+    ∙ ap (λ a. led_own o x none (balances_of o x [] []) a b.peer.items) f.own
+    ∙ ap (led_own o x none (balances_of o x [] []) []) f.peer
 
-first_peer : (o : Opening) (x : Role) (b : Base) → IsAtOpening o x b
-    → led_peer o x b.updates b.worth b.own.items b.peer.items ≡ []
+first_peer : (o : Opening) (x : Role) (b : BaseState) → IsAtOpening o x b
+    → led_peer o x b.updates b.balances b.own.items b.peer.items ≡ []
 first_peer o x b f =
-    ap (λ n. led_peer o x n b.worth b.own.items b.peer.items) f.updates
-    ∙ ap (λ w. led_peer o x none w b.own.items b.peer.items) f.worth
-    ∙ ap (λ a. led_peer o x none (worth_of o x [] []) a b.peer.items) f.own
-    ∙ ap (led_peer o x none (worth_of o x [] []) []) f.peer
+    ap (λ n. led_peer o x n b.balances b.own.items b.peer.items) f.updates
+    ∙ ap (λ w. led_peer o x none w b.own.items b.peer.items) f.balances
+    ∙ ap (λ a. led_peer o x none (balances_of o x [] []) a b.peer.items) f.own
+    ∙ ap (led_peer o x none (balances_of o x [] []) []) f.peer
 
 own_none : (o : Origin) (h : History Origin Update) → IsAtOpening o.opening o.role o.base → h ≡ begun_with o
     → own_before h ≡ []
-own_none o h f e = own_begun h o e ∙ append-nil (led_own o.opening o.role o.base.updates o.base.worth o.base.own.items
+own_none o h f e = own_begun h o e
+    ∙ append-nil (led_own o.opening o.role o.base.updates o.base.balances o.base.own.items
     o.base.peer.items) ∙ first_own o.opening o.role o.base f
 
 peer_none : (o : Origin) (h : History Origin Update) → IsAtOpening o.opening o.role o.base → h ≡ begun_with o
     → peer_before h ≡ []
-peer_none o h f e = peer_begun h o e ∙ append-nil (led_peer o.opening o.role o.base.updates o.base.worth
+peer_none o h f e = peer_begun h o e ∙ append-nil (led_peer o.opening o.role o.base.updates o.base.balances
     o.base.own.items o.base.peer.items) ∙ first_peer o.opening o.role o.base f
 
 pub new_is : (o : Origin) (k : Kept) (h g : History Origin Update) → IsAtOpening o.opening o.role o.base
@@ -312,14 +321,15 @@ new_whole o k h g f s ef eh eg =
 pub own_grown : (h g : History Origin Update) (us : List Update) → h.start ≡ g.start → h.entries ≡ g.entries ++ us
     → own_before h ≡ own_before g ++ us
 own_grown h g us es ee =
-    let led = λ (o : Origin). led_own o.opening o.role o.base.updates o.base.worth o.base.own.items o.base.peer.items in
+    let led = λ (o : Origin). led_own o.opening o.role o.base.updates o.base.balances o.base.own.items
+    o.base.peer.items in
     ap (λ o. led o ++ h.entries) es ∙ ap (λ x. led g.start ++ x) ee ∙ sym (append_assoc (led g.start) g.entries us)
 
 pub peer_grown : (h g : History Origin Update) (us : List Update) → h.start ≡ g.start → h.entries ≡ g.entries ++ us
     → peer_before h ≡ peer_before g ++ us
 peer_grown h g us es ee =
     let led = λ (o : Origin).
-    led_peer o.opening o.role o.base.updates o.base.worth o.base.own.items o.base.peer.items in
+    led_peer o.opening o.role o.base.updates o.base.balances o.base.own.items o.base.peer.items in
     ap (λ o. led o ++ h.entries) es ∙ ap (λ x. led g.start ++ x) ee ∙ sym (append_assoc (led g.start) g.entries us)
 
 -- ---- a record with all updates
@@ -327,23 +337,26 @@ peer_grown h g us es ee =
 log_of : Opening → Role → List Update → List Update → Coverage → Log
 log_of o x own received c = stored o x own received c
 
-pub written_whole : (o : Opening) (x : Role) (b : Base) (own received : List Update) (c : Coverage) → IsAtOpening o x b
-    → written (told o x b own received c) ≡ stored o x own received c
+pub written_whole : (o : Opening) (x : Role) (b : BaseState) (own received : List Update) (c : Coverage)
+    → IsAtOpening o x b
+    → written (record_form o x b own received c) ≡ stored o x own received c
 unfolding log_of
 written_whole o x b own received c f =
-    ap (λ us. log_of o x (us ++ own) (led_peer o x b.updates b.worth b.own.items b.peer.items ++ received) c)
+    ap (λ us. log_of o x (us ++ own) (led_peer o x b.updates b.balances b.own.items b.peer.items ++ received) c)
     (first_own o x b f)
     ∙ ap (λ us. log_of o x own (us ++ received) c) (first_peer o x b f)
 
-told_whole : (o : Opening) (x : Role) (b : Base) (own received : List Update) (c : Coverage) → IsAtOpening o x b
-    → told o x b own received c ≡ told_of none (stored o x own received c)
-told_whole o x b own received c f = same_told (told o x b own received c) (told_of none (stored o x own received c))
-    refl refl f.updates f.worth f.own f.peer refl refl refl refl refl
+told_whole : (o : Opening) (x : Role) (b : BaseState) (own received : List Update) (c : Coverage) → IsAtOpening o x b
+    → record_form o x b own received c ≡ record_form_of none (stored o x own received c)
+told_whole o x b own received c f = same_told (record_form o x b own received c) (record_form_of none
+    (stored o x own received c))
+    refl refl f.updates f.balances f.own f.peer refl refl refl refl refl
 
-pub restorable_whole : (o : Opening) (x : Role) (b : Base) (own received : List Update) (c : Coverage)
-    → IsAtOpening o x b → (IsRestorable (told o x b own received c) ↔ IsReadable (stored o x own received c))
+pub restorable_whole : (o : Opening) (x : Role) (b : BaseState) (own received : List Update) (c : Coverage)
+    → IsAtOpening o x b → (IsRestorable (record_form o x b own received c) ↔ IsReadable (stored o x own received c))
 restorable_whole o x b own received c f = (
-  (λ h. subst IsReadable (written_whole o x b own received c f) (stands_written (told o x b own received c) h).1),
+  (λ h. subst IsReadable (written_whole o x b own received c f) (stands_written
+      (record_form o x b own received c) h).1),
   (λ r. subst IsRestorable (sym (told_whole o x b own received c f))
       (restorable (stored o x own received c) none r (omega arith) (omega arith) (record {
         own_new = λ id le. refl;
@@ -361,11 +374,11 @@ window_is k j l s t e =
     let q : Counts → List Update = λ c. take c.peer l.received in
     same_kept k j (s.opening ∙ sym t.opening) (s.role ∙ sym t.role) e
     (same_counts_by k.live j.live
-    (s.live_own ∙ ap (λ c. length (lives (p c) (q c))) e ∙ sym t.live_own)
-    (s.live_peer ∙ ap (λ c. length (lives (q c) (p c))) e ∙ sym t.live_peer))
-    (s.worth ∙ ap (λ c. worth_of l.opening l.role (p c) (q c)) e ∙ sym t.worth)
-    (s.own ∙ ap (λ (c : Counts). lives (p c) (q c) ++ drop c.own l.own) e ∙ sym t.own)
-    (s.received ∙ ap (λ (c : Counts). lives (q c) (p c) ++ drop c.peer l.received) e ∙ sym t.received)
+    (s.live_own ∙ ap (λ c. length (live_htlcs (p c) (q c))) e ∙ sym t.live_own)
+    (s.live_peer ∙ ap (λ c. length (live_htlcs (q c) (p c))) e ∙ sym t.live_peer))
+    (s.balances ∙ ap (λ c. balances_of l.opening l.role (p c) (q c)) e ∙ sym t.balances)
+    (s.own ∙ ap (λ (c : Counts). live_htlcs (p c) (q c) ++ drop c.own l.own) e ∙ sym t.own)
+    (s.received ∙ ap (λ (c : Counts). live_htlcs (q c) (p c) ++ drop c.peer l.received) e ∙ sym t.received)
     (s.signed ∙ sym t.signed) (s.acknowledged ∙ sym t.acknowledged) (s.current ∙ sym t.current)
     (s.is_kept.own_stands ∙ sym t.is_kept.own_stands)
     (s.is_kept.own_signed_stands ∙ sym t.is_kept.own_signed_stands)
@@ -392,19 +405,19 @@ whole_covers m h = record {
   peer = h.peer;
 }
 
-covers_all : (m n : Log) → told_of m.first m ≡ told_of m.first (after_drop n) → IsWithin m → IsWithin n
+covers_all : (m n : Log) → record_form_of m.first m ≡ record_form_of m.first (after_drop n) → IsWithin m → IsWithin n
     → m.first.own ≤ m.current.own → m.first.peer ≤ m.acknowledged.peer → CoverAll m
 covers_all m n e w v own peer =
-    let signed : m.signed.own ≡ n.signed.own = ap (λ (t : Told). t.signed.own) e in
-    let current : m.current.peer ≡ n.current.peer = ap (λ (t : Told). t.current.peer) e in
+    let signed : m.signed.own ≡ n.signed.own = ap (λ (t : RecordForm). t.signed.own) e in
+    let current : m.current.peer ≡ n.current.peer = ap (λ (t : RecordForm). t.current.peer) e in
     record {
       within = w;
       own = signed
-          ∙ same_end m.first.own n.signed.own m.own n.own (ap (λ (t : Told). length t.own) e)
+          ∙ same_end m.first.own n.signed.own m.own n.own (ap (λ (t : RecordForm). length t.own) e)
           (omega (arith, signed, own, w.own_current, w.own_acknowledged)) (omega (arith, signed, w.own_signed))
           v.own_signed;
       peer = current
-          ∙ same_end m.first.peer n.current.peer m.received n.received (ap (λ (t : Told). length t.received) e)
+          ∙ same_end m.first.peer n.current.peer m.received n.received (ap (λ (t : RecordForm). length t.received) e)
           (omega (arith, current, peer, w.peer_acknowledged, w.peer_signed)) (omega (arith, current, w.peer_current))
           v.peer_current;
     }
@@ -417,7 +430,7 @@ pub record TakesPast (k j : Kept) (ps qs us vs : List Update) (m n : Log) : Type
   pub other_window : IsWhole j us vs
   pub other_order : IsKeptInOrder j
   pub first : m.first ≡ n.first
-  pub record_is : told_of m.first m ≡ told_of m.first (after_drop n)
+  pub record_is : record_form_of m.first m ≡ record_form_of m.first (after_drop n)
 
 taken_window : (k j : Kept) (ps qs us vs : List Update) (m n : Log) → TakesPast k j ps qs us vs m n
     → IsWindowOf k (record (after_drop n) { first = none })
@@ -437,7 +450,8 @@ taken_window k j ps qs us vs m n h =
     let closed = subst (λ (c : Counts). IsClosed m.opening m.role (take c.own m.own) (take c.peer m.received)) fk
     s.closed in
     let told_here = stands_told m0 m.first r refl own peer closed in
-    let e : k ≡ kept_of (told_of m.first m0) = window_is k (kept_of (told_of m.first m0)) m0 s told_here fk in
+    let e : k ≡ kept_of (record_form_of m.first m0) = window_is k (kept_of
+    (record_form_of m.first m0)) m0 s told_here fk in
     let there = told_again n0 _ _ _ _ m.first t.is_kept refl
     (omega (arith, own_length j n0 t, h.other_order.own_last))
     (omega (arith, peer_length j n0 t, h.other_order.peer_last))
@@ -489,9 +503,9 @@ taken_as k j ps qs us vs xs ys m n h ex ey =
 -- ---- what a log tells
 
 pub told_call : (k m : Kept) (l : Log) → k ≡ m → IsWindowOf m l → IsKeptInOrder k
-    → IsRestorable (told_of m.first (after_drop l))
+    → IsRestorable (record_form_of m.first (after_drop l))
 told_call k m l v s h =
     let t : IsWindowOf k l = subst (λ y. IsWindowOf y l) (sym v) s in
-    subst (λ (y : Kept). IsRestorable (told_of y.first (after_drop l))) v
+    subst (λ (y : Kept). IsRestorable (record_form_of y.first (after_drop l))) v
     (told_again l _ _ _ _ k.first t.is_kept t.whole (omega (arith, own_length k l t, h.own_last))
     (omega (arith, peer_length k l t, h.peer_last)) t.first_own t.first_peer t.closed).0

@@ -23,12 +23,13 @@ use Rattle.ln_log.specs.View.{live_adds, balance, Pays}
 use Rattle.ln_log.specs.Limits.{standing_of, most_updates}
 use Rattle.ln_log.specs.Log.{Log, Counts, none, covered, AreNumbered, RemovesLive, AreRemovals, AreWithin, IsKept}
 use Rattle.ln_log.specs.Log.{after_drop}
-use Rattle.ln_log.specs.Window.{Worth, lives, worth_of, IsClosed, GoesOn}
+use Rattle.ln_log.specs.Window.{Balances, live_htlcs, balances_of, IsClosed, GoesOn}
 use Rattle.ln_log.specs.Kept.{IsWindowOf, IsKeptInOrder}
 use Rattle.ln_log.specs.Loading.{IsLawful, CoverAll, IsReadable}
 use Rattle.ln_log.specs.Explained.{LeadTo, led_own, led_peer, in_flight, add_amount}
-use Rattle.ln_log.specs.Told.{Told, as_offered, standing_behind, own_told, peer_told, kept_of, told_of, written}
-use Rattle.ln_log.specs.Told.{IsLawfulBehind, IsRestorable, HasWorthAt}
+use Rattle.ln_log.specs.RecordForm.{RecordForm, as_offered, standing_behind, own_told, peer_told, kept_of}
+use Rattle.ln_log.specs.RecordForm.{record_form_of, written}
+use Rattle.ln_log.specs.RecordForm.{IsLawfulBehind, IsRestorable, HasBalancesAt}
 use Rattle.ln_log.proofs.Removing.{or_else, above, untouched, add_with-append, removals-more, removals-drop}
 use Rattle.ln_log.proofs.Removing.{numbered-take, numbered-drop}
 use Rattle.ln_log.proofs.Kept.{within-drop}
@@ -50,8 +51,8 @@ use Rattle.ln_log.proofs.Leading.{leads}
 -- what p removes of q is found neither among its live HTLCs nor behind it
 dead_none : (id : ℕ) (p q v : List Update) → AreNumbered (next_id q) v
     → ((i : ℕ) → next_id q ≤ i → outcome i p ≡ Live) → is_live (outcome id p) ≡ false
-    → is_some (add_with id (lives q p ++ v)) ≡ false
-dead_none id p q v ids new e = ap is_some (add_with-append id (lives q p) v
+    → is_some (add_with id (live_htlcs q p ++ v)) ≡ false
+dead_none id p q v ids new e = ap is_some (add_with-append id (live_htlcs q p) v
     ∙ ap (λ x. or_else x (add_with id v)) (found id q p ∙ ap (λ b. cond b (add_with id q) None) e)
     ∙ gone_before id p q v ids new e)
 
@@ -62,18 +63,18 @@ still_live Failed f h e = absurd (let no : false ≡ true = sym (h refl) ∙ e i
 
 -- a removal of a live HTLC, or of one offered since, is one by whole lists
 whole_one : (p q v before : List Update) (r : Option Removal) → AreNumbered (next_id q) v
-    → ((i : ℕ) → next_id q ≤ i → outcome i p ≡ Live) → RemovesLive (lives q p ++ v) before r
+    → ((i : ℕ) → next_id q ≤ i → outcome i p ≡ Live) → RemovesLive (live_htlcs q p ++ v) before r
     → RemovesLive (q ++ v) (p ++ before) r
 whole_one p q v before None ids new h = tt
 whole_one p q v before (Some r) ids new h =
-    let live : outcome r.id p ≡ Live = still_live (outcome r.id p) (is_some (add_with r.id (lives q p ++ v)))
+    let live : outcome r.id p ≡ Live = still_live (outcome r.id p) (is_some (add_with r.id (live_htlcs q p ++ v)))
     (dead_none r.id p q v ids new) h.0 in (
       ap is_some (sym (add_behind r.id q v p live)) ∙ h.0,
       outcome_behind r.id p before live ∙ h.1,
     )
 
 whole_removals : (p q v before us : List Update) → AreNumbered (next_id q) v
-    → ((i : ℕ) → next_id q ≤ i → outcome i p ≡ Live) → AreRemovals (lives q p ++ v) before us
+    → ((i : ℕ) → next_id q ≤ i → outcome i p ≡ Live) → AreRemovals (live_htlcs q p ++ v) before us
     → AreRemovals (q ++ v) (p ++ before) us
 whole_removals p q v before [] ids new h = tt
 whole_removals p q v before (u ∷ us) ids new h = (
@@ -84,7 +85,7 @@ whole_removals p q v before (u ∷ us) ids new h = (
 
 -- and the other way round
 back_one : (p q v before : List Update) (r : Option Removal) → RemovesLive (q ++ v) (p ++ before) r
-    → RemovesLive (lives q p ++ v) before r
+    → RemovesLive (live_htlcs q p ++ v) before r
 back_one p q v before None h = tt
 back_one p q v before (Some r) h =
     let live : outcome r.id p ≡ Live = live_before r.id p before h.1 in (
@@ -93,7 +94,7 @@ back_one p q v before (Some r) h =
     )
 
 back_removals : (p q v before us : List Update) → AreRemovals (q ++ v) (p ++ before) us
-    → AreRemovals (lives q p ++ v) before us
+    → AreRemovals (live_htlcs q p ++ v) before us
 back_removals p q v before [] h = tt
 back_removals p q v before (u ∷ us) h = (
   back_one p q v before (removed u) h.0,
@@ -102,14 +103,14 @@ back_removals p q v before (u ∷ us) h = (
 )
 
 -- of all updates those behind a base
-removals_behind : (p w q v : List Update) → AreRemovals (q ++ v) [] (p ++ w) → AreRemovals (lives q p ++ v) [] w
+removals_behind : (p w q v : List Update) → AreRemovals (q ++ v) [] (p ++ w) → AreRemovals (live_htlcs q p ++ v) [] w
 removals_behind p w q v h = back_removals p q v [] w
     (subst (λ b. AreRemovals (q ++ v) b w) (take-append_seam p w ∙ sym (append-nil p))
     (subst (AreRemovals (q ++ v) (take (length p) (p ++ w))) (drop-append_seam p w)
     (removals-drop (q ++ v) [] (p ++ w) (length p) h)))
 
 all_removals : (p w q v : List Update) → AreNumbered (next_id q) v → ((i : ℕ) → next_id q ≤ i → outcome i p ≡ Live)
-    → AreRemovals q [] p → AreRemovals (lives q p ++ v) [] w → AreRemovals (q ++ v) [] (p ++ w)
+    → AreRemovals q [] p → AreRemovals (live_htlcs q p ++ v) [] w → AreRemovals (q ++ v) [] (p ++ w)
 all_removals p w q v ids new h k = removals-append (q ++ v) [] p w (removals-more q v [] p h)
     (subst (λ b. AreRemovals (q ++ v) b w) (append-nil p) (whole_removals p q v [] w ids new k))
 
@@ -121,7 +122,7 @@ stands_behind f p w q v new back pays =
     let live = live_behind p w q v new in
     standing_is (standing_behind (next_id p) (balance f p q) (live_adds p q) w (live_adds q p) v)
     (standing_of f (p ++ w) (q ++ v)) (sym (next-append p w)) (ap length (sym live))
-    (sym (flies_all (lives p q ++ w) v) ∙ ap in_flight (sym live) ∙ flies_all (p ++ w) (q ++ v))
+    (sym (flies_all (live_htlcs p q ++ w) v) ∙ ap in_flight (sym live) ∙ flies_all (p ++ w) (q ++ v))
     (sym (balance_is f p w q v new back pays))
 
 -- ---- what a record tells of whole lists
@@ -146,7 +147,8 @@ within_all most n us h g = subst (AreWithin most) (take-append-drop n us)
     (within-append most (take n us) (drop n us) h g)
 
 abbrev pub LeadsTo : Counts → Log → Type 0
-LeadsTo n l = LeadTo l.opening l.role n (told_of n l).worth (told_of n l).own_lives (told_of n l).peer_lives
+LeadsTo n l = LeadTo l.opening l.role n (record_form_of n l).balances (record_form_of n l).own_live_htlcs
+    (record_form_of n l).peer_live_htlcs
     (take n.own l.own) (take n.peer l.received)
 
 same_covered : (l : Log) (n c : Counts) → n.own ≤ c.own → n.peer ≤ c.peer → record {
@@ -170,8 +172,9 @@ goes_behind l n c closed own peer = record {
 }
 
 -- a view behind the base is lawful, and so it is by whole lists
-lawful_whole : (l : Log) (n c : Counts) → IsRestorable (told_of n l) → LeadsTo n l → n.own ≤ c.own → n.peer ≤ c.peer
-    → IsLawfulBehind (told_of n l) c → IsLawful l.opening l.role (covered l c)
+lawful_whole : (l : Log) (n c : Counts) → IsRestorable (record_form_of n l) → LeadsTo n l → n.own ≤ c.own
+    → n.peer ≤ c.peer
+    → IsLawfulBehind (record_form_of n l) c → IsLawful l.opening l.role (covered l c)
 lawful_whole l n c h b own peer v =
     let p = take n.own l.own in
     let q = take n.peer l.received in
@@ -186,7 +189,7 @@ lawful_whole l n c h b own peer v =
 
 pub lawful_behind : (l : Log) (n c : Counts) → IsClosed l.opening l.role (take n.own l.own) (take n.peer l.received)
     → AreNumbered 0 l.own → AreNumbered 0 l.received → n.own ≤ c.own → n.peer ≤ c.peer
-    → IsLawful l.opening l.role (covered l c) → IsLawfulBehind (told_of n l) c
+    → IsLawful l.opening l.role (covered l c) → IsLawfulBehind (record_form_of n l) c
 lawful_behind l n c closed own_ids peer_ids own peer v =
     let p = take n.own l.own in
     let q = take n.peer l.received in
@@ -206,7 +209,7 @@ lawful_behind l n c closed own_ids peer_ids own peer v =
     }
 
 -- what a log can be restored from tells of readable lists
-readable : (l : Log) (n : Counts) → IsRestorable (told_of n l) → LeadsTo n l → IsReadable l
+readable : (l : Log) (n : Counts) → IsRestorable (record_form_of n l) → LeadsTo n l → IsReadable l
 readable l n h b =
     let c = h.counts in
     let most = 1000 * l.opening.satoshis in
@@ -257,7 +260,7 @@ kept_so l r = kept_loaded l (standing_of (first_balance l.opening l.role) l.own 
 
 -- from what a record tells of readable lists with a base a log can be restored
 pub restorable : (l : Log) (n : Counts) → IsReadable l → n.own ≤ l.current.own → n.peer ≤ l.acknowledged.peer
-    → IsClosed l.opening l.role (take n.own l.own) (take n.peer l.received) → IsRestorable (told_of n l)
+    → IsClosed l.opening l.role (take n.own l.own) (take n.peer l.received) → IsRestorable (record_form_of n l)
 restorable l n r own peer closed =
     let w = r.lists.covered_all.within in
     let cover = r.lists.covered_all in
@@ -309,7 +312,7 @@ restorable l n r own peer closed =
 -- and a log that is loaded stands for them
 pub stands_told : (l : Log) (n : Counts) → IsReadable l → l.first ≡ none → n.own ≤ l.current.own
     → n.peer ≤ l.acknowledged.peer → IsClosed l.opening l.role (take n.own l.own) (take n.peer l.received)
-    → IsWindowOf (kept_of (told_of n l)) l
+    → IsWindowOf (kept_of (record_form_of n l)) l
 stands_told l n r whole own peer closed =
     let f = first_balance l.opening l.role in
     let g = first_balance l.opening (other_role l.role) in
@@ -330,7 +333,7 @@ stands_told l n r whole own peer closed =
       received = refl;
       live_own = sym (length-map (live_adds p q) (λ a. update.Add a));
       live_peer = sym (length-map (live_adds q p) (λ a. update.Add a));
-      worth = refl;
+      balances = refl;
       closed = closed;
       signed = refl;
       acknowledged = refl;
@@ -338,7 +341,7 @@ stands_told l n r whole own peer closed =
       first_own = own;
       first_peer = peer;
       whole = whole;
-      is_kept = kept_loaded l (own_told (told_of n l)) (peer_told (told_of n l)) r
+      is_kept = kept_loaded l (own_told (record_form_of n l)) (peer_told (record_form_of n l)) r
           (stands_behind f p w q z new back closed.paid.0
           ∙ ap (λ x. standing_of f x (q ++ z)) (take-append-drop n.own l.own)
           ∙ ap (standing_of f l.own) (take-append-drop n.peer l.received))
@@ -351,16 +354,18 @@ stands_told l n r whole own peer closed =
 -- ---- what a record tells, whatever it stands for
 
 -- by parts
-pub same_told : (t u : Told) → t.opening ≡ u.opening → t.role ≡ u.role → t.first ≡ u.first → t.worth ≡ u.worth
-    → t.own_lives ≡ u.own_lives → t.peer_lives ≡ u.peer_lives → t.own ≡ u.own → t.received ≡ u.received
+pub same_told : (t u : RecordForm) → t.opening ≡ u.opening → t.role ≡ u.role → t.first ≡ u.first
+    → t.balances ≡ u.balances
+    → t.own_live_htlcs ≡ u.own_live_htlcs → t.peer_live_htlcs ≡ u.peer_live_htlcs → t.own ≡ u.own
+    → t.received ≡ u.received
     → t.signed ≡ u.signed → t.acknowledged ≡ u.acknowledged → t.current ≡ u.current → t ≡ u
 same_told t u e1 e2 e3 e4 e5 e6 e7 e8 e9 e10 e11 = λ i. record {
   opening = e1 i;
   role = e2 i;
   first = e3 i;
-  worth = e4 i;
-  own_lives = e5 i;
-  peer_lives = e6 i;
+  balances = e4 i;
+  own_live_htlcs = e5 i;
+  peer_live_htlcs = e6 i;
   own = e7 i;
   received = e8 i;
   signed = e9 i;
@@ -376,15 +381,15 @@ front_is n p w e = ap (λ k. take k (p ++ w)) (sym e) ∙ take-append_seam p w
 pub rest_is : (n : ℕ) (p w : List Update) → length p ≡ n → drop n (p ++ w) ≡ w
 rest_is n p w e = ap (λ k. drop k (p ++ w)) (sym e) ∙ drop-append_seam p w
 
-leads_so : (o : Opening) (x : Role) (n : Counts) (w : Worth) (lo lp : List Add) (p q os ps : List Update)
+leads_so : (o : Opening) (x : Role) (n : Counts) (w : Balances) (lo lp : List Add) (p q os ps : List Update)
     → LeadTo o x n w lo lp p q → p ≡ os → q ≡ ps
-    → LeadTo o x n (worth_of o x os ps) (live_adds os ps) (live_adds ps os) os ps
+    → LeadTo o x n (balances_of o x os ps) (live_adds os ps) (live_adds ps os) os ps
 leads_so o x n w lo lp p q os ps h ep eq =
-    subst (λ y. LeadTo o x n (worth_of o x os y) (live_adds os y) (live_adds y os) os y) eq
-    (subst (λ y. LeadTo o x n (worth_of o x y q) (live_adds y q) (live_adds q y) y q) ep (record {
+    subst (λ y. LeadTo o x n (balances_of o x os y) (live_adds os y) (live_adds y os) os y) eq
+    (subst (λ y. LeadTo o x n (balances_of o x y q) (live_adds y q) (live_adds q y) y q) ep (record {
       own_count = h.own_count;
       peer_count = h.peer_count;
-      worth = refl;
+      balances = refl;
       own_live = refl;
       peer_live = refl;
       own_ids = h.own_ids;
@@ -396,26 +401,27 @@ leads_so o x n w lo lp p q os ps h ep eq =
       closed = h.closed;
     }))
 
-pub tells_written : (t : Told) → IsRestorable t → LeadsTo t.first (written t) × (t ≡ told_of t.first (written t))
+pub tells_written : (t : RecordForm) → IsRestorable t
+    → LeadsTo t.first (written t) × (t ≡ record_form_of t.first (written t))
 tells_written t h =
     let o = t.opening in
     let x = t.role in
-    let p = led_own o x t.first t.worth t.own_lives t.peer_lives in
-    let q = led_peer o x t.first t.worth t.own_lives t.peer_lives in
-    let b = leads o x t.first t.worth t.own_lives t.peer_lives h.funds h.base in
+    let p = led_own o x t.first t.balances t.own_live_htlcs t.peer_live_htlcs in
+    let q = led_peer o x t.first t.balances t.own_live_htlcs t.peer_live_htlcs in
+    let b = leads o x t.first t.balances t.own_live_htlcs t.peer_live_htlcs h.funds h.base in
     let os = sym (front_is t.first.own p t.own b.own_count) in
     let ps = sym (front_is t.first.peer q t.received b.peer_count) in (
-      leads_so o x t.first t.worth t.own_lives t.peer_lives p q (take t.first.own (p ++ t.own))
+      leads_so o x t.first t.balances t.own_live_htlcs t.peer_live_htlcs p q (take t.first.own (p ++ t.own))
           (take t.first.peer (q ++ t.received)) b os ps,
-      same_told t (told_of t.first (written t)) refl refl refl
-          (sym b.worth ∙ ap (λ y. worth_of o x y q) os ∙ ap (worth_of o x (take t.first.own (p ++ t.own))) ps)
+      same_told t (record_form_of t.first (written t)) refl refl refl
+          (sym b.balances ∙ ap (λ y. balances_of o x y q) os ∙ ap (balances_of o x (take t.first.own (p ++ t.own))) ps)
           (sym b.own_live ∙ ap (λ y. live_adds y q) os ∙ ap (live_adds (take t.first.own (p ++ t.own))) ps)
           (sym b.peer_live ∙ ap (λ y. live_adds y p) ps ∙ ap (live_adds (take t.first.peer (q ++ t.received))) os)
           (sym (rest_is t.first.own p t.own b.own_count)) (sym (rest_is t.first.peer q t.received b.peer_count)) refl
           refl refl,
     )
 
-pub stands_written : (t : Told) → IsRestorable t → IsWindowOf (kept_of t) (written t) × IsReadable (written t)
+pub stands_written : (t : RecordForm) → IsRestorable t → IsWindowOf (kept_of t) (written t) × IsReadable (written t)
 stands_written t h =
     let b = tells_written t h in
     let r = readable (written t) t.first (subst IsRestorable b.1 h) b.0 in (
@@ -439,18 +445,19 @@ all_live (a ∷ adds) = ap (λ x. a ∷ x) (all_live adds)
 same_adds : (xs ys : List Add) → as_offered xs ≡ as_offered ys → xs ≡ ys
 same_adds xs ys e = sym (all_live xs) ∙ ap (λ us. live_adds us []) e ∙ all_live ys
 
-pub tells_them : (t : Told) (l : Log) → IsWindowOf (kept_of t) l → t ≡ told_of t.first l
+pub tells_them : (t : RecordForm) (l : Log) → IsWindowOf (kept_of t) l → t ≡ record_form_of t.first l
 tells_them t l s =
     let p = take t.first.own l.own in
     let q = take t.first.peer l.received in
-    let own = parts (as_offered t.own_lives) (lives p q) t.own (drop t.first.own l.own)
-    (length-map t.own_lives (λ a. update.Add a) ∙ s.live_own) s.own in
-    let peer = parts (as_offered t.peer_lives) (lives q p) t.received (drop t.first.peer l.received)
-    (length-map t.peer_lives (λ a. update.Add a) ∙ s.live_peer) s.received in
-    same_told t (told_of t.first l) s.opening s.role refl s.worth (same_adds t.own_lives (live_adds p q) own.0)
-    (same_adds t.peer_lives (live_adds q p) peer.0) own.1 peer.1 s.signed s.acknowledged s.current
+    let own = parts (as_offered t.own_live_htlcs) (live_htlcs p q) t.own (drop t.first.own l.own)
+    (length-map t.own_live_htlcs (λ a. update.Add a) ∙ s.live_own) s.own in
+    let peer = parts (as_offered t.peer_live_htlcs) (live_htlcs q p) t.received (drop t.first.peer l.received)
+    (length-map t.peer_live_htlcs (λ a. update.Add a) ∙ s.live_peer) s.received in
+    same_told t (record_form_of t.first l) s.opening s.role refl s.balances (same_adds t.own_live_htlcs
+    (live_adds p q) own.0)
+    (same_adds t.peer_live_htlcs (live_adds q p) peer.0) own.1 peer.1 s.signed s.acknowledged s.current
 
-pub told_restorable : (t : Told) (l : Log) → IsWindowOf (kept_of t) l → IsReadable l → IsRestorable t
+pub told_restorable : (t : RecordForm) (l : Log) → IsWindowOf (kept_of t) l → IsReadable l → IsRestorable t
 told_restorable t l s r =
     subst IsRestorable (sym (tells_them t l s)) (restorable l t.first r s.first_own s.first_peer s.closed)
 
@@ -462,7 +469,8 @@ closed_so o x p q os ps ep eq h = subst (λ y. IsClosed o x y q) (sym ep) (subst
 pub told_again : (l : Log) (s t u v : Standing) (n : Counts) → IsKept l s t u v → l.first ≡ none
     → length l.own ≤ most_updates → length l.received ≤ most_updates → n.own ≤ l.current.own
     → n.peer ≤ l.acknowledged.peer → IsClosed l.opening l.role (take n.own l.own) (take n.peer l.received)
-    → IsRestorable (told_of n (after_drop l)) × IsWindowOf (kept_of (told_of n (after_drop l))) (after_drop l)
+    → IsRestorable (record_form_of n (after_drop l))
+    × IsWindowOf (kept_of (record_form_of n (after_drop l))) (after_drop l)
 told_again l s t u v n k whole few few_peer own peer closed =
     let w = k.within in
     let r = loads_again l s t u v k few few_peer in
@@ -482,10 +490,10 @@ none_new : (adds us p w : List Update) → AreNumbered 0 adds → AreRemovals ad
 none_new adds us p w ids h e id le = live_rest id p w
     (ap (outcome id) (sym e) ∙ untouched id adds [] us h (above 0 id adds ids (omega (arith, le))))
 
-worth_at : (l : Log) (n c : Counts) → IsReadable l
+balances_at : (l : Log) (n c : Counts) → IsReadable l
     → IsClosed l.opening l.role (take n.own l.own) (take n.peer l.received)
-    → n.own ≤ c.own → n.peer ≤ c.peer → IsLawful l.opening l.role (covered l c) → HasWorthAt (told_of n l) c
-worth_at l n c r closed own peer v =
+    → n.own ≤ c.own → n.peer ≤ c.peer → IsLawful l.opening l.role (covered l c) → HasBalancesAt (record_form_of n l) c
+balances_at l n c r closed own peer v =
     let p = take n.own l.own in
     let q = take n.peer l.received in
     let w = take (c.own - n.own) (drop n.own l.own) in
@@ -512,19 +520,19 @@ worth_at l n c r closed own peer v =
       peer_left = left.1;
     }
 
-pub has_worth_told : (t : Told) → IsRestorable t
-    → HasWorthAt t t.signed × HasWorthAt t t.acknowledged × HasWorthAt t t.current
-has_worth_told t h =
+pub has_balances_told : (t : RecordForm) → IsRestorable t
+    → HasBalancesAt t t.signed × HasBalancesAt t t.acknowledged × HasBalancesAt t t.current
+has_balances_told t h =
     let b = tells_written t h in
     let l = written t in
     let r = (stands_written t h).1 in
     let c = h.counts in (
-      subst (λ y. HasWorthAt y t.signed) (sym b.1) (worth_at l t.first t.signed r b.0.closed
+      subst (λ y. HasBalancesAt y t.signed) (sym b.1) (balances_at l t.first t.signed r b.0.closed
           (omega (arith, c.own_first, c.own_current, c.own_acknowledged))
           (omega (arith, c.peer_first, c.peer_acknowledged)) (r.views pair.Signed)),
-      subst (λ y. HasWorthAt y t.acknowledged) (sym b.1) (worth_at l t.first t.acknowledged r b.0.closed
+      subst (λ y. HasBalancesAt y t.acknowledged) (sym b.1) (balances_at l t.first t.acknowledged r b.0.closed
           (omega (arith, c.own_first, c.own_current)) c.peer_first (r.views (pair.Current side.Peer))),
-      subst (λ y. HasWorthAt y t.current) (sym b.1) (worth_at l t.first t.current r b.0.closed c.own_first
+      subst (λ y. HasBalancesAt y t.current) (sym b.1) (balances_at l t.first t.current r b.0.closed c.own_first
           (omega (arith, c.peer_first, c.peer_acknowledged, c.peer_signed)) (r.views (pair.Current side.Own))),
     )
 
@@ -543,12 +551,12 @@ count_told : (n : ℕ) (adds : List Add) (us : List Update)
 count_told n adds us =
     omega (arith, length-append (as_offered adds) us, length-map adds (λ a. update.Add a))
 
-pub in_order : (t : Told) → IsRestorable t → IsKeptInOrder (kept_of t)
+pub in_order : (t : RecordForm) → IsRestorable t → IsKeptInOrder (kept_of t)
 in_order t h =
     let c = h.counts in
     let most = 1000 * t.opening.satoshis in
-    let own = count_told t.first.own t.own_lives t.own in
-    let peer = count_told t.first.peer t.peer_lives t.received in
+    let own = count_told t.first.own t.own_live_htlcs t.own in
+    let peer = count_told t.first.peer t.peer_live_htlcs t.received in
     record {
       funds = h.funds;
       own_first = c.own_first;
@@ -558,8 +566,8 @@ in_order t h =
       own_last = omega (arith, own, c.own_signed, c.own_last);
       own_live = omega (
         arith,
-        length-append (as_offered t.own_lives) t.own,
-        length-map t.own_lives (λ a. update.Add a),
+        length-append (as_offered t.own_live_htlcs) t.own,
+        length-map t.own_live_htlcs (λ a. update.Add a),
       );
       peer_first = c.peer_first;
       peer_acknowledged = c.peer_acknowledged;
@@ -568,11 +576,11 @@ in_order t h =
       peer_last = omega (arith, peer, c.peer_current, c.peer_last);
       peer_live = omega (
         arith,
-        length-append (as_offered t.peer_lives) t.received,
-        length-map t.peer_lives (λ a. update.Add a),
+        length-append (as_offered t.peer_live_htlcs) t.received,
+        length-map t.peer_live_htlcs (λ a. update.Add a),
       );
-      own_amounts = within-append most (as_offered t.own_lives) t.own
-          (offered_within most t.own_lives (omega (arith, h.base.all_funds))) h.own_amounts;
-      peer_amounts = within-append most (as_offered t.peer_lives) t.received
-          (offered_within most t.peer_lives (omega (arith, h.base.all_funds))) h.peer_amounts;
+      own_amounts = within-append most (as_offered t.own_live_htlcs) t.own
+          (offered_within most t.own_live_htlcs (omega (arith, h.base.all_funds))) h.own_amounts;
+      peer_amounts = within-append most (as_offered t.peer_live_htlcs) t.received
+          (offered_within most t.peer_live_htlcs (omega (arith, h.base.all_funds))) h.peer_amounts;
     }

@@ -25,17 +25,17 @@ record IsRule (o : Option Refusal) : Type 0 where
 none : IsRule None
 none = record { is = λ r e. absurd cc }
 
-told : (q : Refusal) → refusal_by (rule_of q) ≡ q → IsRule (Some q)
-told q h = record { is = λ r e. let same : q ≡ r = cc in subst (λ x. refusal_by (rule_of x) ≡ x) same h }
+record_form : (q : Refusal) → refusal_by (rule_of q) ≡ q → IsRule (Some q)
+record_form q h = record { is = λ r e. let same : q ≡ r = cc in subst (λ x. refusal_by (rule_of x) ≡ x) same h }
 
 if_so : (b : Bool) (q : Refusal) {next : Option Refusal} → refusal_by (rule_of q) ≡ q → IsRule next
     → IsRule (cond b (Some q) next)
-if_so true q h p = told q h
+if_so true q h p = record_form q h
 if_so false q h p = p
 
 if_not : (b : Bool) (q : Refusal) → refusal_by (rule_of q) ≡ q → IsRule (cond b None (Some q))
 if_not true q h = none
-if_not false q h = told q h
+if_not false q h = record_form q h
 
 add_rules : (l : Limits) (s : Standing) (a : Add) → IsRule (add_fault l s a)
 add_rules l s a =
@@ -46,20 +46,20 @@ add_rules l s a =
     (if_so (nat_lt s.balance (a.amount + 1000 * l.reserve)) refusal.CannotAfford refl none))))
 
 fulfil_rules : (preimage : List ℕ) (found : Option Add) → IsRule (fulfil_fault preimage found)
-fulfil_rules preimage None = told refusal.NoSuchHtlc refl
+fulfil_rules preimage None = record_form refusal.NoSuchHtlc refl
 fulfil_rules preimage (Some a) = if_not (pointwise nat_eq (payment_hash preimage) a.hash) refusal.PreimageWrong refl
 
 fail_rules : (found : Option Add) → IsRule (fail_fault found)
-fail_rules None = told refusal.NoSuchHtlc refl
+fail_rules None = record_form refusal.NoSuchHtlc refl
 fail_rules (Some a) = none
 
 malformed_rules : (code : ℕ) (found : Option Add) → IsRule (malformed_fault code found)
-malformed_rules code None = told refusal.NoSuchHtlc refl
+malformed_rules code None = record_form refusal.NoSuchHtlc refl
 malformed_rules code (Some a) = if_not (nat_le 32768 code) refusal.OutOfPlace refl
 
 fee_rules : (side : Role) → IsRule (fee_fault side)
 fee_rules Funder = none
-fee_rules Fundee = told refusal.NotFunder refl
+fee_rules Fundee = record_form refusal.NotFunder refl
 
 fault_rules : (l : Limits) (s : Standing) (side : Role) (own held : List Update) (u : Update)
     → IsRule (fault_at l s side own held u)

@@ -11,7 +11,7 @@ use Rattle.ln_log.specs.Limits.{HasNextId}
 use Rattle.ln_log.specs.Standing.{with_own, with_all, OwnFits, AllFit}
 use Rattle.ln_log.specs.Log.{Log, Counts, IsKept, between, updates_of, after_propose, after_receive, after_sign}
 use Rattle.ln_log.specs.Log.{after_accept, after_learn, after_drop, proposal_fault, taken_fault}
-use Rattle.ln_log.specs.Window.{lives, worth_of, IsClosed}
+use Rattle.ln_log.specs.Window.{live_htlcs, balances_of, IsClosed}
 use Rattle.ln_log.specs.Log.{IsNotGone, AreNotGone}
 use Rattle.ln_log.specs.Kept.{Kept, IsWindowOf, kept_count, own_base, peer_base, front_of}
 use Rattle.ln_log.proofs.Removing.{removals-take, removals-drop}
@@ -31,7 +31,7 @@ own_length kept l s =
     omega (
       arith,
       ap length s.own,
-      length-append (lives (own_base kept l) (peer_base kept l)) (drop kept.first.own l.own),
+      length-append (live_htlcs (own_base kept l) (peer_base kept l)) (drop kept.first.own l.own),
       s.live_own,
       length-drop kept.first.own l.own,
       s.first_own,
@@ -46,7 +46,7 @@ peer_length kept l s =
     omega (
       arith,
       ap length s.received,
-      length-append (lives (peer_base kept l) (own_base kept l)) (drop kept.first.peer l.received),
+      length-append (live_htlcs (peer_base kept l) (own_base kept l)) (drop kept.first.peer l.received),
       s.live_peer,
       length-drop kept.first.peer l.received,
       s.first_peer,
@@ -84,7 +84,7 @@ stands_by kept l ks ka kc ls la lc t u v w s es ea ec first_own first_peer k = r
   received = s.received;
   live_own = s.live_own;
   live_peer = s.live_peer;
-  worth = s.worth;
+  balances = s.balances;
   closed = s.closed;
   signed = es;
   acknowledged = ea;
@@ -110,14 +110,14 @@ stands_signed kept l c s eo ep =
 pub between_is : (m n : ℕ) (us : List Update) → m ≤ n → between m n us ≡ drop m (take n us)
 between_is m n us le = sym (drop-take m (n - m) us) ∙ ap (λ k. drop m (take k us)) (omega (arith, le))
 
-pub own_through : (s : Standing) (p q v whole vs : List Update) (u : Update) → vs ≡ lives q p ++ v → whole ≡ q ++ v
+pub own_through : (s : Standing) (p q v whole vs : List Update) (u : Update) → vs ≡ live_htlcs q p ++ v → whole ≡ q ++ v
     → IsNotGone p (removed u) → OwnFits s whole u → OwnFits s vs u × (with_own s vs u ≡ with_own s whole u)
 own_through s p q v whole vs u ev ew h fits = (
   subst (λ x. OwnFits s x u) (sym ev) (own_fit s q v p u h (subst (λ x. OwnFits s x u) ew fits)),
   ap (λ x. with_own s x u) ev ∙ own_same s q v p u h ∙ ap (λ x. with_own s x u) (sym ew),
 )
 
-pub all_through : (s : Standing) (p q v whole vs us : List Update) → vs ≡ lives q p ++ v → whole ≡ q ++ v
+pub all_through : (s : Standing) (p q v whole vs us : List Update) → vs ≡ live_htlcs q p ++ v → whole ≡ q ++ v
     → AreNotGone p us → AllFit s whole us → AllFit s vs us × (with_all s vs us ≡ with_all s whole us)
 all_through s p q v whole vs us ev ew h fits = (
   subst (λ x. AllFit s x us) (sym ev) (all_fit s q v p us h (subst (λ x. AllFit s x us) ew fits)),
@@ -125,7 +125,7 @@ all_through s p q v whole vs us ev ew h fits = (
 )
 
 -- moved as the code says, where it fits
-pub moved_by : (s a : Standing) (p q v whole vs us ts : List Update) → vs ≡ lives q p ++ v → whole ≡ q ++ v
+pub moved_by : (s a : Standing) (p q v whole vs us ts : List Update) → vs ≡ live_htlcs q p ++ v → whole ≡ q ++ v
     → AreNotGone p us → ts ≡ us → AllFit s whole us → (AllFit s vs ts → a ≡ with_all s vs ts) → a ≡ with_all s whole us
 moved_by s a p q v whole vs us ts ev ew h et fits exact =
     let both = all_through s p q v whole vs us ev ew h fits in
@@ -204,8 +204,8 @@ stands_learned kept l a b ts vs s et ev peer current =
 pub record HasLists (kept : Kept) (l : Log) (ko kg os gs : List Update) : Type 0 where
   pub own_front : take kept.first.own os ≡ own_base kept l
   pub peer_front : take kept.first.peer gs ≡ peer_base kept l
-  pub own : ko ≡ lives (own_base kept l) (peer_base kept l) ++ drop kept.first.own os
-  pub received : kg ≡ lives (peer_base kept l) (own_base kept l) ++ drop kept.first.peer gs
+  pub own : ko ≡ live_htlcs (own_base kept l) (peer_base kept l) ++ drop kept.first.own os
+  pub received : kg ≡ live_htlcs (peer_base kept l) (own_base kept l) ++ drop kept.first.peer gs
 
 pub stands_lists : (kept : Kept) (l : Log) (ko kg os gs : List Update) (t u v w : Standing) → IsWindowOf kept l
     → HasLists kept l ko kg os gs → IsKept (record l { own = os; received = gs }) t u v w
@@ -223,16 +223,16 @@ stands_lists kept l ko kg os gs t u v w s h k =
     record {
       opening = s.opening;
       role = s.role;
-      own = h.own ∙ ap (λ x. lives x (peer_base kept l) ++ drop o os) (sym h.own_front)
-          ∙ ap (λ x. lives (take o os) x ++ drop o os) (sym h.peer_front);
-      received = h.received ∙ ap (λ x. lives x (own_base kept l) ++ drop p gs) (sym h.peer_front)
-          ∙ ap (λ x. lives (take p gs) x ++ drop p gs) (sym h.own_front);
-      live_own = s.live_own ∙ ap (λ x. length (lives x (peer_base kept l))) (sym h.own_front)
-          ∙ ap (λ x. length (lives (take o os) x)) (sym h.peer_front);
-      live_peer = s.live_peer ∙ ap (λ x. length (lives x (own_base kept l))) (sym h.peer_front)
-          ∙ ap (λ x. length (lives (take p gs) x)) (sym h.own_front);
-      worth = s.worth ∙ ap (λ x. worth_of l.opening l.role x (peer_base kept l)) (sym h.own_front)
-          ∙ ap (λ x. worth_of l.opening l.role (take o os) x) (sym h.peer_front);
+      own = h.own ∙ ap (λ x. live_htlcs x (peer_base kept l) ++ drop o os) (sym h.own_front)
+          ∙ ap (λ x. live_htlcs (take o os) x ++ drop o os) (sym h.peer_front);
+      received = h.received ∙ ap (λ x. live_htlcs x (own_base kept l) ++ drop p gs) (sym h.peer_front)
+          ∙ ap (λ x. live_htlcs (take p gs) x ++ drop p gs) (sym h.own_front);
+      live_own = s.live_own ∙ ap (λ x. length (live_htlcs x (peer_base kept l))) (sym h.own_front)
+          ∙ ap (λ x. length (live_htlcs (take o os) x)) (sym h.peer_front);
+      live_peer = s.live_peer ∙ ap (λ x. length (live_htlcs x (own_base kept l))) (sym h.peer_front)
+          ∙ ap (λ x. length (live_htlcs (take p gs) x)) (sym h.own_front);
+      balances = s.balances ∙ ap (λ x. balances_of l.opening l.role x (peer_base kept l)) (sym h.own_front)
+          ∙ ap (λ x. balances_of l.opening l.role (take o os) x) (sym h.peer_front);
       closed = subst (λ x. IsClosed l.opening l.role (take o os) x) (sym h.peer_front)
           (subst (λ x. IsClosed l.opening l.role x (peer_base kept l)) (sym h.own_front) s.closed);
       signed = s.signed;
@@ -277,7 +277,7 @@ stands_proposed kept l u a ko vs s none next ev exact eo =
     kept.peer_current s (record {
       own_front = take-append-le kept.first.own l.own (u ∷ []) (own_first kept l s);
       peer_front = refl;
-      own = eo ∙ pushed (lives (own_base kept l) (peer_base kept l)) l.own kept.own kept.first.own u
+      own = eo ∙ pushed (live_htlcs (own_base kept l) (peer_base kept l)) l.own kept.own kept.first.own u
           (own_first kept l s) s.own;
       received = s.received;
     }) (kept_proposed l _ _ _ _ a u (take n l.received) k none next refl (exact both.0 ∙ both.1))
@@ -302,7 +302,8 @@ stands_received kept l u a kg vs s none ev exact eg =
       own_front = refl;
       peer_front = take-append-le kept.first.peer l.received (u ∷ []) (peer_first kept l s);
       own = s.own;
-      received = eg ∙ pushed (lives (peer_base kept l) (own_base kept l)) l.received kept.received kept.first.peer u
+      received = eg ∙ pushed (live_htlcs (peer_base kept l)
+          (own_base kept l)) l.received kept.received kept.first.peer u
           (peer_first kept l s) s.received;
     }) (kept_received l _ _ _ _ a u (take n l.own) k none refl (exact both.0 ∙ both.1))
 
@@ -327,9 +328,11 @@ stands_dropped kept l ko kg s eo eg =
       peer_front = take-take p l.current.peer l.received peer_le;
       own = eo ∙ ap (λ (c : Counts). take (kept.live.own + (c.own - o)) kept.own) s.signed
           ∙ ap (take (kept.live.own + (l.signed.own - o))) s.own
-          ∙ cut_at kept.live.own o l.signed.own (lives (own_base kept l) (peer_base kept l)) l.own s.live_own own_le;
+          ∙ cut_at kept.live.own o l.signed.own (live_htlcs (own_base kept l)
+          (peer_base kept l)) l.own s.live_own own_le;
       received = eg ∙ ap (λ (c : Counts). take (kept.live.peer + (c.peer - p)) kept.received) s.current
           ∙ ap (take (kept.live.peer + (l.current.peer - p))) s.received
-          ∙ cut_at kept.live.peer p l.current.peer (lives (peer_base kept l) (own_base kept l)) l.received s.live_peer
+          ∙ cut_at kept.live.peer p l.current.peer (live_htlcs (peer_base kept l)
+          (own_base kept l)) l.received s.live_peer
           peer_le;
     }) (kept_dropped l _ _ _ _ s.is_kept)

@@ -23,7 +23,7 @@ use Rattle.ln_log.specs.declared.update.Update.{Update}
 use Rattle.ln_log.specs.declared.update.Update.TheVariants as update
 use Rattle.ln_log.specs.declared.outcome.Outcome.{Outcome}
 use Rattle.ln_log.specs.declared.outcome.Outcome.TheVariants.{Live}
-use Rattle.ln_log.specs.declared.worth.Balances.{Balances}
+use Rattle.ln_log.specs.declared.balances.RoleBalances.{RoleBalances}
 use Rattle.ln_log.specs.Opening.{HasFunds, first_balance}
 use Rattle.ln_log.specs.Updates.{removed, is_add, next_id, outcome, outcome_by, is_live}
 use Rattle.ln_log.specs.Outcomes.{is_removal, removals_in}
@@ -31,13 +31,13 @@ use Rattle.ln_log.specs.View.{live_adds, htlc_of, view_of, AddsUp}
 use Rattle.ln_log.specs.Machine.{Covered}
 use Rattle.ln_log.specs.Log.{Log, covered, counts_of, live_in, view_for, between, AreNumbered, RemovesLive}
 use Rattle.ln_log.specs.Log.{AreRemovals, BothPay, IsWithin, IsKept}
-use Rattle.ln_log.specs.Window.{lives, Worth, worth_of, GoesOn, view_behind, balances_of, IsLeft}
+use Rattle.ln_log.specs.Window.{live_htlcs, Balances, balances_of, GoesOn, view_behind, role_balances_of, IsLeft}
 use Rattle.ln_log.specs.Window.{FitsBehind}
 use Rattle.ln_log.specs.Kept.{Kept, IsWindowOf, own_base, peer_base, front_of}
 use Rattle.ln_log.proofs.Removing.{IsDone, done, outcome-append, numbered-take, numbered-drop, removals-take}
 use Rattle.ln_log.proofs.Totals.{longer, sums, first_sum, adds_up}
 use Rattle.ln_log.proofs.Live.{counted, live_now}
-use Rattle.ln_log.proofs.Behind.{there, own_live, peer_live, live_behind, worth_is, pays_back, as_updates}
+use Rattle.ln_log.proofs.Behind.{there, own_live, peer_live, live_behind, balances_is, pays_back, as_updates}
 use Rattle.ln_log.proofs.Behind.{next-append, balance_is}
 use Rattle.ln_log.proofs.Signs.{view_is, pair_pays, as_funder, as_fundee}
 use Rattle.ln_log.proofs.Stands.{between_is}
@@ -80,8 +80,8 @@ base_goes_on k l n m s ln lm = record {
 -- each side can pay, and what it has left is of 64 bits
 pub both_left : (o : Opening) (x : Role) (p w q v : List Update) → GoesOn o x p w q v → HasFunds o
     → BothPay o x (record { own = p ++ w; peer = q ++ v })
-    → IsLeft (worth_of o x p q).own (lives p q ++ w) w (lives q p ++ v) v
-    × IsLeft (worth_of o x p q).peer (lives q p ++ v) v (lives p q ++ w) w
+    → IsLeft (balances_of o x p q).own (live_htlcs p q ++ w) w (live_htlcs q p ++ v) v
+    × IsLeft (balances_of o x p q).peer (live_htlcs q p ++ v) v (live_htlcs p q ++ w) w
 both_left o x p w q v h funds paid =
     let f = first_balance o x in
     let g = first_balance o (other_role x) in
@@ -99,42 +99,44 @@ both_left o x p w q v h funds paid =
       },
     )
 
-same_htlcs : (r t : Role) (p w q v : List Update) → live_adds (p ++ w) (q ++ v) ≡ live_adds (lives p q ++ w) v
-    → live_adds (q ++ v) (p ++ w) ≡ live_adds (lives q p ++ v) w
-    → map (htlc_of r) (live_adds (lives p q ++ w) v) ++ map (htlc_of t) (live_adds (lives q p ++ v) w)
+same_htlcs : (r t : Role) (p w q v : List Update) → live_adds (p ++ w) (q ++ v) ≡ live_adds (live_htlcs p q ++ w) v
+    → live_adds (q ++ v) (p ++ w) ≡ live_adds (live_htlcs q p ++ v) w
+    → map (htlc_of r) (live_adds (live_htlcs p q ++ w) v) ++ map (htlc_of t) (live_adds (live_htlcs q p ++ v) w)
     ≡ map (htlc_of r) (live_adds (p ++ w) (q ++ v)) ++ map (htlc_of t) (live_adds (q ++ v) (p ++ w))
 same_htlcs r t p w q v e f =
-    ap (λ xs. map (htlc_of r) xs ++ map (htlc_of t) (live_adds (lives q p ++ v) w)) (sym e)
+    ap (λ xs. map (htlc_of r) xs ++ map (htlc_of t) (live_adds (live_htlcs q p ++ v) w)) (sym e)
     ∙ ap (λ xs. map (htlc_of r) (live_adds (p ++ w) (q ++ v)) ++ map (htlc_of t) xs) (sym f)
 
 -- by the funder
 funder_same : (o : Opening) (p w q v : List Update) → GoesOn o Funder p w q v
-    → view_behind (balances_of (worth_of o Funder p q) Funder) (lives p q ++ w) w (lives q p ++ v) v
+    → view_behind (role_balances_of (balances_of o Funder p q) Funder) (live_htlcs p q ++ w) w (live_htlcs q p ++ v) v
     ≡ view_of o (p ++ w) (q ++ v)
 funder_same o p w q v h =
-    let e = worth_is o Funder p w q v h in
+    let e = balances_is o Funder p w q v h in
     let new = own_live o Funder p w q v h in
     let back = peer_live o Funder p w q v h in
     view_is o (p ++ w) (q ++ v)
-    (view_behind (balances_of (worth_of o Funder p q) Funder) (lives p q ++ w) w (lives q p ++ v) v)
-    (sym (ap (λ (y : Worth). y.own) e)) (sym (ap (λ (y : Worth). y.peer) e)) (sym (ap (λ (y : Worth). y.feerate) e))
+    (view_behind (role_balances_of (balances_of o Funder p q) Funder) (live_htlcs p q ++ w) w (live_htlcs q p ++ v) v)
+    (sym (ap (λ (y : Balances). y.own) e)) (sym (ap (λ (y : Balances). y.peer) e)) (sym (ap (λ
+    (y : Balances). y.feerate) e))
     (same_htlcs Funder Fundee p w q v (live_behind p w q v new) (live_behind q v p w back))
 
 -- and by the fundee
 fundee_same : (o : Opening) (p w q v : List Update) → GoesOn o Fundee p w q v
-    → view_behind (balances_of (worth_of o Fundee p q) Fundee) (lives q p ++ v) v (lives p q ++ w) w
+    → view_behind (role_balances_of (balances_of o Fundee p q) Fundee) (live_htlcs q p ++ v) v (live_htlcs p q ++ w) w
     ≡ view_of o (q ++ v) (p ++ w)
 fundee_same o p w q v h =
-    let e = worth_is o Fundee p w q v h in
+    let e = balances_is o Fundee p w q v h in
     let new = own_live o Fundee p w q v h in
     let back = peer_live o Fundee p w q v h in
     view_is o (q ++ v) (p ++ w)
-    (view_behind (balances_of (worth_of o Fundee p q) Fundee) (lives q p ++ v) v (lives p q ++ w) w)
-    (sym (ap (λ (y : Worth). y.peer) e)) (sym (ap (λ (y : Worth). y.own) e)) (sym (ap (λ (y : Worth). y.feerate) e))
+    (view_behind (role_balances_of (balances_of o Fundee p q) Fundee) (live_htlcs q p ++ v) v (live_htlcs p q ++ w) w)
+    (sym (ap (λ (y : Balances). y.peer) e)) (sym (ap (λ (y : Balances). y.own) e)) (sym (ap (λ
+    (y : Balances). y.feerate) e))
     (same_htlcs Funder Fundee q v p w (live_behind q v p w back) (live_behind p w q v new))
 
 -- what a call that gives a view is handed, and what it is asked for
-pub record Viewing (k m : Kept) (l : Log) (p : Pair) (b : Balances) (own own_new peer peer_new : List Update)
+pub record Viewing (k m : Kept) (l : Log) (p : Pair) (b : RoleBalances) (own own_new peer peer_new : List Update)
     (i j : ℕ) : Type 0 where
   pub kept : k ≡ m
   pub stands : IsWindowOf m l
@@ -144,18 +146,18 @@ pub record Viewing (k m : Kept) (l : Log) (p : Pair) (b : Balances) (own own_new
   pub peer_list : peer ≡ front_of side.Peer m l j
   pub own_rest : own_new ≡ between k.first.own i l.own
   pub peer_rest : peer_new ≡ between k.first.peer j l.received
-  pub base : b ≡ balances_of k.worth k.role
+  pub base : b ≡ role_balances_of k.balances k.role
 
 -- the lists, by whole ones
 record Lists (k : Kept) (l : Log) (own own_new peer peer_new : List Update) (i j : ℕ) : Type 0 where
-  own_list : own ≡ lives (own_base k l) (peer_base k l) ++ drop k.first.own (take i l.own)
-  peer_list : peer ≡ lives (peer_base k l) (own_base k l) ++ drop k.first.peer (take j l.received)
+  own_list : own ≡ live_htlcs (own_base k l) (peer_base k l) ++ drop k.first.own (take i l.own)
+  peer_list : peer ≡ live_htlcs (peer_base k l) (own_base k l) ++ drop k.first.peer (take j l.received)
   own_rest : own_new ≡ drop k.first.own (take i l.own)
   peer_rest : peer_new ≡ drop k.first.peer (take j l.received)
   own_behind : k.first.own ≤ i
   peer_behind : k.first.peer ≤ j
 
-lists_of : (k m : Kept) (l : Log) (p : Pair) (b : Balances) (own own_new peer peer_new : List Update) (i j : ℕ)
+lists_of : (k m : Kept) (l : Log) (p : Pair) (b : RoleBalances) (own own_new peer peer_new : List Update) (i j : ℕ)
     → Viewing k m l p b own own_new peer peer_new i j
     → Lists k l own own_new peer peer_new (counts_of p l).own (counts_of p l).peer
 lists_of k m l p b own own_new peer peer_new i j h =
@@ -175,11 +177,11 @@ lists_of k m l p b own own_new peer peer_new i j h =
     }
 
 -- what the answer needs, and what it is
-abbrev pub Says : Balances → List Update → List Update → List Update → List Update → View → Type 0
+abbrev pub Says : RoleBalances → List Update → List Update → List Update → List Update → View → Type 0
 Says b funder funder_new fundee fundee_new v =
     FitsBehind b funder funder_new fundee fundee_new × (view_behind b funder funder_new fundee fundee_new ≡ v)
 
-says_at : (b b' : Balances) (f f' g g' h h' j j' : List Update) (v : View) → b ≡ b' → f ≡ f' → g ≡ g' → h ≡ h'
+says_at : (b b' : RoleBalances) (f f' g g' h h' j j' : List Update) (v : View) → b ≡ b' → f ≡ f' → g ≡ g' → h ≡ h'
     → j ≡ j' → Says b' f' g' h' j' v → Says b f g h j v
 says_at b b' f f' g g' h h' j j' v eb ef eg eh ej s =
     subst (λ x. Says x f g h j v) (sym eb) (subst (λ x. Says b' x g h j v) (sym ef)
@@ -197,69 +199,71 @@ covered_by k l i j li lj =
     (sym (longer k.first.own i l.own li))
     ∙ ap (λ x. record { own = take i l.own; peer = x }) (sym (longer k.first.peer j l.received lj))
 
-funder_says : (o : Opening) (x : Role) (wo : Worth) (p w q v : List Update) → x ≡ Funder → wo ≡ worth_of o x p q
+funder_says : (o : Opening) (x : Role) (wo : Balances) (p w q v : List Update) → x ≡ Funder → wo ≡ balances_of o x p q
     → GoesOn o x p w q v → HasFunds o → BothPay o x (record { own = p ++ w; peer = q ++ v })
-    → Says (balances_of wo x) (lives p q ++ w) w (lives q p ++ v) v
+    → Says (role_balances_of wo x) (live_htlcs p q ++ w) w (live_htlcs q p ++ v) v
     (view_for o x (record { own = p ++ w; peer = q ++ v }))
 funder_says o Funder wo p w q v e ew h funds paid =
     let left = both_left o Funder p w q v h funds paid in
-    subst (λ (y : Worth). Says (balances_of y Funder) (lives p q ++ w) w (lives q p ++ v) v
+    subst (λ (y : Balances). Says (role_balances_of y Funder) (live_htlcs p q ++ w) w (live_htlcs q p ++ v) v
     (view_of o (p ++ w) (q ++ v))) (sym ew)
     (record { funder_left = left.0; fundee_left = left.1 }, funder_same o p w q v h)
 funder_says o Fundee wo p w q v e ew h funds paid = absurd (cc)
 
-fundee_says : (o : Opening) (x : Role) (wo : Worth) (p w q v : List Update) → x ≡ Fundee → wo ≡ worth_of o x p q
+fundee_says : (o : Opening) (x : Role) (wo : Balances) (p w q v : List Update) → x ≡ Fundee → wo ≡ balances_of o x p q
     → GoesOn o x p w q v → HasFunds o → BothPay o x (record { own = p ++ w; peer = q ++ v })
-    → Says (balances_of wo x) (lives q p ++ v) v (lives p q ++ w) w
+    → Says (role_balances_of wo x) (live_htlcs q p ++ v) v (live_htlcs p q ++ w) w
     (view_for o x (record { own = p ++ w; peer = q ++ v }))
 fundee_says o Funder wo p w q v e ew h funds paid = absurd (cc)
 fundee_says o Fundee wo p w q v e ew h funds paid =
     let left = both_left o Fundee p w q v h funds paid in
-    subst (λ (y : Worth). Says (balances_of y Fundee) (lives q p ++ v) v (lives p q ++ w) w
+    subst (λ (y : Balances). Says (role_balances_of y Fundee) (live_htlcs q p ++ v) v (live_htlcs p q ++ w) w
     (view_of o (q ++ v) (p ++ w))) (sym ew)
     (record { funder_left = left.1; fundee_left = left.0 }, fundee_same o p w q v h)
 
-pub funder_call : (k m : Kept) (l : Log) (p : Pair) (b : Balances) (own own_new peer peer_new : List Update) (i j : ℕ)
+pub funder_call : (k m : Kept) (l : Log) (p : Pair) (b : RoleBalances)
+    (own own_new peer peer_new : List Update) (i j : ℕ)
     → k.role ≡ Funder → Viewing k m l p b own own_new peer peer_new i j
     → Says b own own_new peer peer_new (view_for l.opening l.role (covered l (counts_of p l)))
 funder_call k m l p b own own_new peer peer_new i j e h =
     let t = subst (λ y. IsWindowOf y l) (sym h.kept) h.stands in
     let ls = lists_of k m l p b own own_new peer peer_new i j h in
     let whole = covered_by k l (counts_of p l).own (counts_of p l).peer ls.own_behind ls.peer_behind in
-    says_at b (balances_of k.worth l.role) own _ own_new _ peer _ peer_new _ _ (h.base
-    ∙ ap (balances_of k.worth) t.role)
+    says_at b (role_balances_of k.balances l.role) own _ own_new _ peer _ peer_new _ _ (h.base
+    ∙ ap (role_balances_of k.balances) t.role)
     ls.own_list ls.own_rest ls.peer_list ls.peer_rest
-    (subst (λ c. Says (balances_of k.worth l.role)
-    (lives (own_base k l) (peer_base k l) ++ drop k.first.own (take (counts_of p l).own l.own))
+    (subst (λ c. Says (role_balances_of k.balances l.role)
+    (live_htlcs (own_base k l) (peer_base k l) ++ drop k.first.own (take (counts_of p l).own l.own))
     (drop k.first.own (take (counts_of p l).own l.own))
-    (lives (peer_base k l) (own_base k l) ++ drop k.first.peer (take (counts_of p l).peer l.received))
+    (live_htlcs (peer_base k l) (own_base k l) ++ drop k.first.peer (take (counts_of p l).peer l.received))
     (drop k.first.peer (take (counts_of p l).peer l.received)) (view_for l.opening l.role c)) whole
-    (funder_says l.opening l.role k.worth (own_base k l) (drop k.first.own (take (counts_of p l).own l.own))
-    (peer_base k l) (drop k.first.peer (take (counts_of p l).peer l.received)) (sym t.role ∙ e) t.worth
+    (funder_says l.opening l.role k.balances (own_base k l) (drop k.first.own (take (counts_of p l).own l.own))
+    (peer_base k l) (drop k.first.peer (take (counts_of p l).peer l.received)) (sym t.role ∙ e) t.balances
     (base_goes_on k l (counts_of p l).own (counts_of p l).peer t ls.own_behind ls.peer_behind) t.is_kept.funds
     (subst (BothPay l.opening l.role) (sym whole) (pair_pays l _ _ _ _ t.is_kept p))))
 
-pub fundee_call : (k m : Kept) (l : Log) (p : Pair) (b : Balances) (own own_new peer peer_new : List Update) (i j : ℕ)
+pub fundee_call : (k m : Kept) (l : Log) (p : Pair) (b : RoleBalances)
+    (own own_new peer peer_new : List Update) (i j : ℕ)
     → k.role ≡ Fundee → Viewing k m l p b own own_new peer peer_new i j
     → Says b peer peer_new own own_new (view_for l.opening l.role (covered l (counts_of p l)))
 fundee_call k m l p b own own_new peer peer_new i j e h =
     let t = subst (λ y. IsWindowOf y l) (sym h.kept) h.stands in
     let ls = lists_of k m l p b own own_new peer peer_new i j h in
     let whole = covered_by k l (counts_of p l).own (counts_of p l).peer ls.own_behind ls.peer_behind in
-    says_at b (balances_of k.worth l.role) peer _ peer_new _ own _ own_new _ _ (h.base
-    ∙ ap (balances_of k.worth) t.role)
+    says_at b (role_balances_of k.balances l.role) peer _ peer_new _ own _ own_new _ _ (h.base
+    ∙ ap (role_balances_of k.balances) t.role)
     ls.peer_list ls.peer_rest ls.own_list ls.own_rest
-    (subst (λ c. Says (balances_of k.worth l.role)
-    (lives (peer_base k l) (own_base k l) ++ drop k.first.peer (take (counts_of p l).peer l.received))
+    (subst (λ c. Says (role_balances_of k.balances l.role)
+    (live_htlcs (peer_base k l) (own_base k l) ++ drop k.first.peer (take (counts_of p l).peer l.received))
     (drop k.first.peer (take (counts_of p l).peer l.received))
-    (lives (own_base k l) (peer_base k l) ++ drop k.first.own (take (counts_of p l).own l.own))
+    (live_htlcs (own_base k l) (peer_base k l) ++ drop k.first.own (take (counts_of p l).own l.own))
     (drop k.first.own (take (counts_of p l).own l.own)) (view_for l.opening l.role c)) whole
-    (fundee_says l.opening l.role k.worth (own_base k l) (drop k.first.own (take (counts_of p l).own l.own))
-    (peer_base k l) (drop k.first.peer (take (counts_of p l).peer l.received)) (sym t.role ∙ e) t.worth
+    (fundee_says l.opening l.role k.balances (own_base k l) (drop k.first.own (take (counts_of p l).own l.own))
+    (peer_base k l) (drop k.first.peer (take (counts_of p l).peer l.received)) (sym t.role ∙ e) t.balances
     (base_goes_on k l (counts_of p l).own (counts_of p l).peer t ls.own_behind ls.peer_behind) t.is_kept.funds
     (subst (BothPay l.opening l.role) (sym whole) (pair_pays l _ _ _ _ t.is_kept p))))
 
-pub answered : (r : Result View Refusal) (b : Balances) (f g h j : List Update) (w : View) → Says b f g h j w
+pub answered : (r : Result View Refusal) (b : RoleBalances) (f g h j : List Update) (w : View) → Says b f g h j w
     → (FitsBehind b f g h j → IfOk r (λ v. v ≡ view_behind b f g h j)) → IfOk r (λ v. v ≡ w)
 answered r b f g h j w says exact = subst (λ x. IfOk r (λ v. v ≡ x)) says.1 (exact says.0)
 
@@ -337,11 +341,11 @@ narrow p adds before (u ∷ us) all ids e new h = (
   narrow p adds (before ++ u ∷ []) us all ids (e ∙ sym (append_assoc before (u ∷ []) us)) new h.1,
 )
 
-front_counts : (p q w : List Update) → (next_id (lives p q ++ w) ≡ length (live_adds p q) + next_id w)
-    × (removals_in (lives p q ++ w) ≡ removals_in w)
+front_counts : (p q w : List Update) → (next_id (live_htlcs p q ++ w) ≡ length (live_adds p q) + next_id w)
+    × (removals_in (live_htlcs p q ++ w) ≡ removals_in w)
 front_counts p q w = (
-  omega (arith, next-append (lives p q) w, adds_in (live_adds p q)),
-  omega (arith, rem-append (lives p q) w, no_removals (live_adds p q)),
+  omega (arith, next-append (live_htlcs p q) w, adds_in (live_adds p q)),
+  omega (arith, rem-append (live_htlcs p q) w, no_removals (live_adds p q)),
 )
 
 pub live_call : (m : Kept) (l : Log) (x : Side) (i j : ℕ) (own peer : List Update) → IsWindowOf m l
@@ -358,8 +362,8 @@ live_call m l x i j own peer t ei ej eo ep =
     let q = peer_base m l in
     let w = drop m.first.own (take n l.own) in
     let z = drop m.first.peer (take b l.received) in
-    let own_is : own ≡ lives p q ++ w = eo ∙ ap (front_of side.Own m l) ei in
-    let peer_is : peer ≡ lives q p ++ z = ep ∙ ap (front_of side.Peer m l) ej in
+    let own_is : own ≡ live_htlcs p q ++ w = eo ∙ ap (front_of side.Own m l) ei in
+    let peer_is : peer ≡ live_htlcs q p ++ z = ep ∙ ap (front_of side.Peer m l) ej in
     let whole_own : take n l.own ≡ p ++ w = longer m.first.own n l.own le.0 in
     let whole_peer : take b l.received ≡ q ++ z = longer m.first.peer b l.received le.1 in
     let own_ids = numbered-take 0 m.first.own l.own kept.own_ids in

@@ -15,7 +15,7 @@ use Rattle.ln_log.specs.Log.{Log, Counts, none, IsInOrder, after_propose, after_
 use Rattle.ln_log.specs.Log.{after_drop, count_of, counts_of, updates_of}
 use Rattle.ln_log.specs.Log.{first_of}
 use Rattle.ln_log.specs.Log.{before_first, between, IsWithin}
-use Rattle.ln_log.specs.Window.{lives, worth_of, first_worth, first_lives, MayBeBase}
+use Rattle.ln_log.specs.Window.{live_htlcs, balances_of, first_balances, first_live_htlcs, MayBeBase}
 use Rattle.ln_log.specs.Kept.{Kept, IsWindowOf, kept_count, own_base, peer_base, whole}
 use Rattle.ln_log.specs.Kept.{IsWhole, kept_first, base_of, live_base}
 use Rattle.ln_log.proofs.Fronts.{behind_all}
@@ -47,12 +47,12 @@ pub whole_is : (k : Kept) (ps qs : List Update) (l : Log) → IsWindowOf k (reco
 whole_is k ps qs l s ef ep eq =
     let own : ps ++ drop k.live.own k.own ≡ l.own =
     ap (λ x. ps ++ drop k.live.own x) s.own
-    ∙ ap (λ x. ps ++ x) (behind_all k.live.own k.first.own (lives (own_base k (record l { first = none }))
+    ∙ ap (λ x. ps ++ x) (behind_all k.live.own k.first.own (live_htlcs (own_base k (record l { first = none }))
     (peer_base k (record l { first = none }))) l.own s.live_own)
     ∙ ap (λ x. x ++ drop k.first.own l.own) ep ∙ take-append-drop k.first.own l.own in
     let received : qs ++ drop k.live.peer k.received ≡ l.received =
     ap (λ x. qs ++ drop k.live.peer x) s.received
-    ∙ ap (λ x. qs ++ x) (behind_all k.live.peer k.first.peer (lives (peer_base k (record l { first = none }))
+    ∙ ap (λ x. qs ++ x) (behind_all k.live.peer k.first.peer (live_htlcs (peer_base k (record l { first = none }))
     (own_base k (record l { first = none }))) l.received s.live_peer)
     ∙ ap (λ x. x ++ drop k.first.peer l.received) eq ∙ take-append-drop k.first.peer l.received in
     ap (λ o. made o k.role (ps ++ drop k.live.own k.own) (qs ++ drop k.live.peer k.received) k.first k.signed
@@ -232,18 +232,18 @@ pub base_is : (x : Side) (k : Kept) (ps qs : List Update) (m : Log) → whole k 
 base_is side.Own k ps qs m v h = ap (λ (y : Log). take y.first.own m.own) v
 base_is side.Peer k ps qs m v h = ap (λ (y : Log). take y.first.peer m.received) v
 
-pub worth_whole : (k : Kept) (ps qs : List Update) (m : Log) → whole k ps qs ≡ m → IsWhole k ps qs
-    → k.worth ≡ first_worth m
-worth_whole k ps qs m v h =
-    (kept_of k ps qs m m v h refl).worth
-    ∙ ap (λ (y : Log). worth_of m.opening m.role (take y.first.own m.own) (take y.first.peer m.received)) v
+pub balances_whole : (k : Kept) (ps qs : List Update) (m : Log) → whole k ps qs ≡ m → IsWhole k ps qs
+    → k.balances ≡ first_balances m
+balances_whole k ps qs m v h =
+    (kept_of k ps qs m m v h refl).balances
+    ∙ ap (λ (y : Log). balances_of m.opening m.role (take y.first.own m.own) (take y.first.peer m.received)) v
 
-pub lives_whole : (x : Side) (k : Kept) (ps qs : List Update) (m : Log) → whole k ps qs ≡ m → IsWhole k ps qs
-    → live_base x k (record m { first = none }) ≡ first_lives x m
-lives_whole side.Own k ps qs m v h =
-    ap (λ (y : Log). lives (take y.first.own m.own) (take y.first.peer m.received)) v
-lives_whole side.Peer k ps qs m v h =
-    ap (λ (y : Log). lives (take y.first.peer m.received) (take y.first.own m.own)) v
+pub live_htlcs_whole : (x : Side) (k : Kept) (ps qs : List Update) (m : Log) → whole k ps qs ≡ m → IsWhole k ps qs
+    → live_base x k (record m { first = none }) ≡ first_live_htlcs x m
+live_htlcs_whole side.Own k ps qs m v h =
+    ap (λ (y : Log). live_htlcs (take y.first.own m.own) (take y.first.peer m.received)) v
+live_htlcs_whole side.Peer k ps qs m v h =
+    ap (λ (y : Log). live_htlcs (take y.first.peer m.received) (take y.first.own m.own)) v
 
 -- ---- the first update moves on
 

@@ -45,9 +45,9 @@ KeepsRate u = (rate : ℕ) → rate_after rate u ≡ rate
 
 -- of these none offers an HTLC
 
-no_lives : (us r : List Update) → Each OffersNone us → live_adds us r ≡ []
-no_lives [] r h = refl
-no_lives (u ∷ us) r h = ap (λ o. cons_option (live_of o r) (live_adds us r)) h.0 ∙ no_lives us r h.1
+no_live_htlcs : (us r : List Update) → Each OffersNone us → live_adds us r ≡ []
+no_live_htlcs [] r h = refl
+no_live_htlcs (u ∷ us) r h = ap (λ o. cons_option (live_of o r) (live_adds us r)) h.0 ∙ no_live_htlcs us r h.1
 
 no_tally : (test : Outcome → Bool) (us r : List Update) → Each OffersNone us → tally amount test us r ≡ 0
 no_tally test [] r h = refl
@@ -91,24 +91,24 @@ gone_each : (P : Update → Type 0) (from n g : ℕ) → ((a : Add) → P (updat
 gone_each P from zero g h = tt
 gone_each P from (suc n) g h = (h (gone_add from g), gone_each P (from + 1) n 0 h)
 
-adds_each : (P : Update → Type 0) (from to g : ℕ) (lives : List Add) → ((a : Add) → P (update.Add a))
-    → Each P (all_adds from to g lives)
+adds_each : (P : Update → Type 0) (from to g : ℕ) (live_htlcs : List Add) → ((a : Add) → P (update.Add a))
+    → Each P (all_adds from to g live_htlcs)
 adds_each P from to g [] h = gone_each P from (to - from) g h
-adds_each P from to g (a ∷ lives) h =
+adds_each P from to g (a ∷ live_htlcs) h =
     each-append P (gone_adds from (a.id - from) g)
-    (update.Add a ∷ all_adds (a.id + 1) to (left_by (a.id - from) g) lives) (gone_each P from (a.id - from) g h)
-    (h a, adds_each P (a.id + 1) to (left_by (a.id - from) g) lives h)
+    (update.Add a ∷ all_adds (a.id + 1) to (left_by (a.id - from) g) live_htlcs) (gone_each P from (a.id - from) g h)
+    (h a, adds_each P (a.id + 1) to (left_by (a.id - from) g) live_htlcs h)
 
 from_each : (P : Update → Type 0) (from n : ℕ) → ((f : Fulfil) → P (update.Fulfil f)) → Each P (removals_from from n)
 from_each P from zero h = tt
 from_each P from (suc n) h = (h _, from_each P (from + 1) n h)
 
-removals_each : (P : Update → Type 0) (from to : ℕ) (lives : List Add) → ((f : Fulfil) → P (update.Fulfil f))
-    → Each P (all_removals from to lives)
+removals_each : (P : Update → Type 0) (from to : ℕ) (live_htlcs : List Add) → ((f : Fulfil) → P (update.Fulfil f))
+    → Each P (all_removals from to live_htlcs)
 removals_each P from to [] h = from_each P from (to - from) h
-removals_each P from to (a ∷ lives) h =
-    each-append P (removals_from from (a.id - from)) (all_removals (a.id + 1) to lives)
-    (from_each P from (a.id - from) h) (removals_each P (a.id + 1) to lives h)
+removals_each P from to (a ∷ live_htlcs) h =
+    each-append P (removals_from from (a.id - from)) (all_removals (a.id + 1) to live_htlcs)
+    (from_each P from (a.id - from) h) (removals_each P (a.id + 1) to live_htlcs h)
 
 fees_each : (P : Update → Type 0) (rate n : ℕ) → ((f : Fee) → P (update.Fee f)) → Each P (fees_to rate n)
 fees_each P rate zero h = tt
@@ -136,19 +136,19 @@ high : (from n id : ℕ) → from + n ≤ id → outcome id (removals_from from 
 high from zero id le = refl
 high from (suc n) id le = missed from n id (λ e. omega (arith, e, le)) (high (from + 1) n id (omega (arith, le)))
 
-low_all : (from to : ℕ) (lives : List Add) (id : ℕ) → AreBetween from to lives → id < from
-    → outcome id (all_removals from to lives) ≡ Live
+low_all : (from to : ℕ) (live_htlcs : List Add) (id : ℕ) → AreBetween from to live_htlcs → id < from
+    → outcome id (all_removals from to live_htlcs) ≡ Live
 low_all from to [] id b lt = low from (to - from) id lt
-low_all from to (a ∷ lives) id b lt =
-    outcome_behind id (removals_from from (a.id - from)) (all_removals (a.id + 1) to lives)
-    (low from (a.id - from) id lt) ∙ low_all (a.id + 1) to lives id b.2 (omega (arith, lt, b.0))
+low_all from to (a ∷ live_htlcs) id b lt =
+    outcome_behind id (removals_from from (a.id - from)) (all_removals (a.id + 1) to live_htlcs)
+    (low from (a.id - from) id lt) ∙ low_all (a.id + 1) to live_htlcs id b.2 (omega (arith, lt, b.0))
 
-pub high_all : (from to : ℕ) (lives : List Add) (id : ℕ) → AreBetween from to lives → to ≤ id
-    → outcome id (all_removals from to lives) ≡ Live
+pub high_all : (from to : ℕ) (live_htlcs : List Add) (id : ℕ) → AreBetween from to live_htlcs → to ≤ id
+    → outcome id (all_removals from to live_htlcs) ≡ Live
 high_all from to [] id b le = high from (to - from) id (omega (arith, le, b))
-high_all from to (a ∷ lives) id b le =
-    outcome_behind id (removals_from from (a.id - from)) (all_removals (a.id + 1) to lives)
-    (high from (a.id - from) id (omega (arith, le, b.0, b.1))) ∙ high_all (a.id + 1) to lives id b.2 le
+high_all from to (a ∷ live_htlcs) id b le =
+    outcome_behind id (removals_from from (a.id - from)) (all_removals (a.id + 1) to live_htlcs)
+    (high from (a.id - from) id (omega (arith, le, b.0, b.1))) ∙ high_all (a.id + 1) to live_htlcs id b.2 le
 
 pub removals-append : (adds before us vs : List Update) → AreRemovals adds before us
     → AreRemovals adds (before ++ us) vs → AreRemovals adds before (us ++ vs)
@@ -175,14 +175,14 @@ from_removes adds before from (suc n) found live = (
       ∙ live id (omega (arith, le))),
 )
 
-all_remove : (adds before : List Update) (from to : ℕ) (lives : List Add) → AreBetween from to lives
-    → AreFound adds from to → AreLiveFrom from before → AreRemovals adds before (all_removals from to lives)
+all_remove : (adds before : List Update) (from to : ℕ) (live_htlcs : List Add) → AreBetween from to live_htlcs
+    → AreFound adds from to → AreLiveFrom from before → AreRemovals adds before (all_removals from to live_htlcs)
 all_remove adds before from to [] b found live =
     from_removes adds before from (to - from) (λ id le lt. found id le (omega (arith, le, lt))) live
-all_remove adds before from to (a ∷ lives) b found live =
-    removals-append adds before (removals_from from (a.id - from)) (all_removals (a.id + 1) to lives)
+all_remove adds before from to (a ∷ live_htlcs) b found live =
+    removals-append adds before (removals_from from (a.id - from)) (all_removals (a.id + 1) to live_htlcs)
     (from_removes adds before from (a.id - from) (λ id le lt. found id le (omega (arith, lt, b.0, b.1))) live)
-    (all_remove adds (before ++ removals_from from (a.id - from)) (a.id + 1) to lives b.2
+    (all_remove adds (before ++ removals_from from (a.id - from)) (a.id + 1) to live_htlcs b.2
     (λ id le lt. found id (omega (arith, le, b.0)) lt)
     (λ id le. outcome_behind id before (removals_from from (a.id - from)) (live id (omega (arith, le, b.0)))
     ∙ high from (a.id - from) id (omega (arith, le, b.0))))
@@ -195,20 +195,20 @@ AllGone r from to = (id : ℕ) → from ≤ id → id < to → outcome id r ≡ 
 -- these updates remove all HTLCs of ids from one up to another but the live ones
 abbrev pub AreTold : List Update → ℕ → ℕ → List Add → Type 0
 AreTold r from to [] = AllGone r from to
-AreTold r from to (a ∷ lives) = AllGone r from a.id × (outcome a.id r ≡ Live) × AreTold r (a.id + 1) to lives
+AreTold r from to (a ∷ live_htlcs) = AllGone r from a.id × (outcome a.id r ≡ Live) × AreTold r (a.id + 1) to live_htlcs
 
-pub told : (r : List Update) (from to : ℕ) (lives : List Add) → AreBetween from to lives
-    → ((id : ℕ) → from ≤ id → id < to → outcome id r ≡ outcome id (all_removals from to lives))
-    → AreTold r from to lives
-told r from to [] b h = λ id le lt. h id le lt ∙ hit from (to - from) id le (omega (arith, le, lt))
-told r from to (a ∷ lives) b h =
+pub record_form : (r : List Update) (from to : ℕ) (live_htlcs : List Add) → AreBetween from to live_htlcs
+    → ((id : ℕ) → from ≤ id → id < to → outcome id r ≡ outcome id (all_removals from to live_htlcs))
+    → AreTold r from to live_htlcs
+record_form r from to [] b h = λ id le lt. h id le lt ∙ hit from (to - from) id le (omega (arith, le, lt))
+record_form r from to (a ∷ live_htlcs) b h =
     let k = a.id - from in
-    let rest = all_removals (a.id + 1) to lives in (
+    let rest = all_removals (a.id + 1) to live_htlcs in (
       (λ id le lt. h id le (omega (arith, lt, b.1)) ∙ outcome-append id (removals_from from k) rest
           ∙ ap (λ o. cond (is_live o) (outcome id rest) o) (hit from k id le (omega (arith, lt)))),
       h a.id b.0 b.1 ∙ outcome_behind a.id (removals_from from k) rest (high from k a.id (omega (arith, b.0)))
-          ∙ low_all (a.id + 1) to lives a.id b.2 (omega arith),
-      told r (a.id + 1) to lives b.2 (λ id le lt. h id (omega (arith, le, b.0)) lt
+          ∙ low_all (a.id + 1) to live_htlcs a.id b.2 (omega arith),
+      record_form r (a.id + 1) to live_htlcs b.2 (λ id le lt. h id (omega (arith, le, b.0)) lt
           ∙ outcome_behind id (removals_from from k) rest (high from k id (omega (arith, le, b.0)))),
     )
 
@@ -245,29 +245,29 @@ gone_paid from (suc n) g r h = omega (
   gone_paid (from + 1) n 0 r (next_gone r from n h),
 )
 
-adds_live : (from to g : ℕ) (lives : List Add) (r : List Update) → AreTold r from to lives
-    → live_adds (all_adds from to g lives) r ≡ lives
+adds_live : (from to g : ℕ) (live_htlcs : List Add) (r : List Update) → AreTold r from to live_htlcs
+    → live_adds (all_adds from to g live_htlcs) r ≡ live_htlcs
 adds_live from to g [] r h = gone_live from (to - from) g r (span r from to h)
-adds_live from to g (a ∷ lives) r h =
+adds_live from to g (a ∷ live_htlcs) r h =
     let k = a.id - from in
-    let rest = all_adds (a.id + 1) to (left_by k g) lives in
+    let rest = all_adds (a.id + 1) to (left_by k g) live_htlcs in
     live-append (gone_adds from k g) (update.Add a ∷ rest) r
     ∙ ap (λ x. x ++ live_adds (update.Add a ∷ rest) r) (gone_live from k g r (span r from a.id h.0))
     ∙ ap (λ o. cons_option (cond (is_live o) (Some a) None) (live_adds rest r)) h.1
-    ∙ ap (λ x. a ∷ x) (adds_live (a.id + 1) to (left_by k g) lives r h.2)
+    ∙ ap (λ x. a ∷ x) (adds_live (a.id + 1) to (left_by k g) live_htlcs r h.2)
 
-adds_failed : (from to g : ℕ) (lives : List Add) (r : List Update) → AreTold r from to lives
-    → tally amount is_failed (all_adds from to g lives) r ≡ 0
+adds_failed : (from to g : ℕ) (live_htlcs : List Add) (r : List Update) → AreTold r from to live_htlcs
+    → tally amount is_failed (all_adds from to g live_htlcs) r ≡ 0
 adds_failed from to g [] r h = gone_failed from (to - from) g r (span r from to h)
-adds_failed from to g (a ∷ lives) r h =
+adds_failed from to g (a ∷ live_htlcs) r h =
     let k = a.id - from in
-    let rest = all_adds (a.id + 1) to (left_by k g) lives in
+    let rest = all_adds (a.id + 1) to (left_by k g) live_htlcs in
     omega (
       arith,
       tally-append amount is_failed (gone_adds from k g) (update.Add a ∷ rest) r,
       gone_failed from k g r (span r from a.id h.0),
       ap (λ o. cond (is_failed o) a.amount 0) h.1,
-      adds_failed (a.id + 1) to (left_by k g) lives r h.2,
+      adds_failed (a.id + 1) to (left_by k g) live_htlcs r h.2,
     )
 
 left_none : (n : ℕ) → left_by n 0 ≡ 0
@@ -290,29 +290,30 @@ carried zero g h = elim (leb_tells 1 g) [
 ]
 carried (suc n) g h = refl
 
-fits : (from to : ℕ) (lives : List Add) → AreBetween from to lives → from + length lives ≤ to
+fits : (from to : ℕ) (live_htlcs : List Add) → AreBetween from to live_htlcs → from + length live_htlcs ≤ to
 fits from to [] b = omega (arith, b)
-fits from to (a ∷ lives) b = omega (arith, b.0, b.1, fits (a.id + 1) to lives b.2)
+fits from to (a ∷ live_htlcs) b = omega (arith, b.0, b.1, fits (a.id + 1) to live_htlcs b.2)
 
-adds_paid : (from to g : ℕ) (lives : List Add) (r : List Update) → AreBetween from to lives → AreTold r from to lives
-    → tally amount is_fulfilled (all_adds from to g lives) r + left_by (to - from - length lives) g ≡ g
+adds_paid : (from to g : ℕ) (live_htlcs : List Add) (r : List Update) → AreBetween from to live_htlcs
+    → AreTold r from to live_htlcs
+    → tally amount is_fulfilled (all_adds from to g live_htlcs) r + left_by (to - from - length live_htlcs) g ≡ g
 adds_paid from to g [] r b h = omega (
   arith,
   gone_paid from (to - from) g r (span r from to h),
   left_at (to - from - length {A = Add} []) (to - from) g (omega arith),
 )
-adds_paid from to g (a ∷ lives) r b h =
+adds_paid from to g (a ∷ live_htlcs) r b h =
     let k = a.id - from in
-    let rest = all_adds (a.id + 1) to (left_by k g) lives in
+    let rest = all_adds (a.id + 1) to (left_by k g) live_htlcs in
     omega (
       arith,
       tally-append amount is_fulfilled (gone_adds from k g) (update.Add a ∷ rest) r,
       gone_paid from k g r (span r from a.id h.0),
       ap (λ o. cond (is_fulfilled o) a.amount 0) h.1,
-      adds_paid (a.id + 1) to (left_by k g) lives r b.2 h.2,
-      left_twice k (to - (a.id + 1) - length lives) g,
-      left_at (k + (to - (a.id + 1) - length lives)) (to - from - length (a ∷ lives)) g
-          (omega (arith, b.0, b.1, fits (a.id + 1) to lives b.2)),
+      adds_paid (a.id + 1) to (left_by k g) live_htlcs r b.2 h.2,
+      left_twice k (to - (a.id + 1) - length live_htlcs) g,
+      left_at (k + (to - (a.id + 1) - length live_htlcs)) (to - from - length (a ∷ live_htlcs)) g
+          (omega (arith, b.0, b.1, fits (a.id + 1) to live_htlcs b.2)),
     )
 
 -- ---- ids, amounts and counts
@@ -334,32 +335,32 @@ gone_within : (most from n g : ℕ) → g ≤ most → AreWithin most (gone_adds
 gone_within most from zero g le = tt
 gone_within most from (suc n) g le = (le, gone_within most (from + 1) n 0 (omega arith))
 
-adds_ids : (from to g : ℕ) (lives : List Add) → AreBetween from to lives
-    → next_id (all_adds from to g lives) + from ≡ to
+adds_ids : (from to g : ℕ) (live_htlcs : List Add) → AreBetween from to live_htlcs
+    → next_id (all_adds from to g live_htlcs) + from ≡ to
 adds_ids from to g [] b = omega (arith, gone_ids from (to - from) g, b)
-adds_ids from to g (a ∷ lives) b =
+adds_ids from to g (a ∷ live_htlcs) b =
     let k = a.id - from in
-    let rest = all_adds (a.id + 1) to (left_by k g) lives in
+    let rest = all_adds (a.id + 1) to (left_by k g) live_htlcs in
     omega (
       arith,
       next-append (gone_adds from k g) (update.Add a ∷ rest),
       gone_ids from k g,
       next-cons (update.Add a) rest,
-      adds_ids (a.id + 1) to (left_by k g) lives b.2,
+      adds_ids (a.id + 1) to (left_by k g) live_htlcs b.2,
       b.0,
     )
 
-adds_length : (from to g : ℕ) (lives : List Add) → AreBetween from to lives
-    → length (all_adds from to g lives) + from ≡ to
+adds_length : (from to g : ℕ) (live_htlcs : List Add) → AreBetween from to live_htlcs
+    → length (all_adds from to g live_htlcs) + from ≡ to
 adds_length from to g [] b = omega (arith, gone_length from (to - from) g, b)
-adds_length from to g (a ∷ lives) b =
+adds_length from to g (a ∷ live_htlcs) b =
     let k = a.id - from in
-    let rest = all_adds (a.id + 1) to (left_by k g) lives in
+    let rest = all_adds (a.id + 1) to (left_by k g) live_htlcs in
     omega (
       arith,
       length-append (gone_adds from k g) (update.Add a ∷ rest),
       gone_length from k g,
-      adds_length (a.id + 1) to (left_by k g) lives b.2,
+      adds_length (a.id + 1) to (left_by k g) live_htlcs b.2,
       b.0,
     )
 
@@ -372,44 +373,44 @@ numbered-append n (u ∷ us) vs h g = (
       (subst (λ k. AreNumbered k vs) (omega (arith, next-cons u us, number_is n (offered u))) g),
 )
 
-adds_numbered : (from to g : ℕ) (lives : List Add) → AreBetween from to lives
-    → AreNumbered from (all_adds from to g lives)
+adds_numbered : (from to g : ℕ) (live_htlcs : List Add) → AreBetween from to live_htlcs
+    → AreNumbered from (all_adds from to g live_htlcs)
 adds_numbered from to g [] b = gone_numbered from (to - from) g
-adds_numbered from to g (a ∷ lives) b =
+adds_numbered from to g (a ∷ live_htlcs) b =
     let k = a.id - from in
-    let rest = all_adds (a.id + 1) to (left_by k g) lives in
+    let rest = all_adds (a.id + 1) to (left_by k g) live_htlcs in
     let next : a.id ≡ from + next_id (gone_adds from k g) = omega (arith, gone_ids from k g, b.0) in
     numbered-append from (gone_adds from k g) (update.Add a ∷ rest) (gone_numbered from k g)
-    (next, subst (λ i. AreNumbered (i + 1) rest) next (adds_numbered (a.id + 1) to (left_by k g) lives b.2))
+    (next, subst (λ i. AreNumbered (i + 1) rest) next (adds_numbered (a.id + 1) to (left_by k g) live_htlcs b.2))
 
 left_le : (n g : ℕ) → left_by n g ≤ g
 left_le zero g = omega arith
 left_le (suc n) g = omega arith
 
-adds_within : (most from to g : ℕ) (lives : List Add) → g ≤ most → in_flight lives ≤ most
-    → AreWithin most (all_adds from to g lives)
+adds_within : (most from to g : ℕ) (live_htlcs : List Add) → g ≤ most → in_flight live_htlcs ≤ most
+    → AreWithin most (all_adds from to g live_htlcs)
 adds_within most from to g [] le h = gone_within most from (to - from) g le
-adds_within most from to g (a ∷ lives) le h =
+adds_within most from to g (a ∷ live_htlcs) le h =
     let k = a.id - from in
-    within-append most (gone_adds from k g) (update.Add a ∷ all_adds (a.id + 1) to (left_by k g) lives)
+    within-append most (gone_adds from k g) (update.Add a ∷ all_adds (a.id + 1) to (left_by k g) live_htlcs)
     (gone_within most from k g le) (
-      omega (arith, h, sum_by-cons add_amount a lives),
-      adds_within most (a.id + 1) to (left_by k g) lives
-          (omega (arith, le, left_le k g)) (omega (arith, h, sum_by-cons add_amount a lives)),
+      omega (arith, h, sum_by-cons add_amount a live_htlcs),
+      adds_within most (a.id + 1) to (left_by k g) live_htlcs
+          (omega (arith, le, left_le k g)) (omega (arith, h, sum_by-cons add_amount a live_htlcs)),
     )
 
 from_length : (from n : ℕ) → length (removals_from from n) ≡ n
 from_length from zero = refl
 from_length from (suc n) = omega (arith, from_length (from + 1) n)
 
-removals_length : (from to : ℕ) (lives : List Add) → AreBetween from to lives
-    → length (all_removals from to lives) + length lives + from ≡ to
+removals_length : (from to : ℕ) (live_htlcs : List Add) → AreBetween from to live_htlcs
+    → length (all_removals from to live_htlcs) + length live_htlcs + from ≡ to
 removals_length from to [] b = omega (arith, from_length from (to - from), b)
-removals_length from to (a ∷ lives) b = omega (
+removals_length from to (a ∷ live_htlcs) b = omega (
   arith,
-  length-append (removals_from from (a.id - from)) (all_removals (a.id + 1) to lives),
+  length-append (removals_from from (a.id - from)) (all_removals (a.id + 1) to live_htlcs),
   from_length from (a.id - from),
-  removals_length (a.id + 1) to lives b.2,
+  removals_length (a.id + 1) to live_htlcs b.2,
   b.0,
 )
 
@@ -425,100 +426,102 @@ fees_rate rate first (suc n) h = fees_rate rate rate n (λ e. refl)
 
 -- the id of the next HTLC, what a removed one amounts to, live HTLCs, changes of the fee, the other side's next id and
 -- its live HTLCs
-module _ (n g : ℕ) (lives : List Add) (rate fees m : ℕ) (others : List Add) where
+module _ (n g : ℕ) (live_htlcs : List Add) (rate fees m : ℕ) (others : List Add) where
   rest_offers : Each OffersNone (fees_to rate fees ++ all_removals 0 m others)
   rest_offers = each-append OffersNone (fees_to rate fees) (all_removals 0 m others)
       (fees_each OffersNone rate fees (λ f. refl)) (removals_each OffersNone 0 m others (λ f. refl))
 
-  pub ids_are : AreBetween 0 n lives → next_id (updates_to n g lives rate fees m others) ≡ n
+  pub ids_are : AreBetween 0 n live_htlcs → next_id (updates_to n g live_htlcs rate fees m others) ≡ n
   ids_are b = omega (
     arith,
-    next-append (all_adds 0 n g lives) (fees_to rate fees ++ all_removals 0 m others),
-    adds_ids 0 n g lives b,
+    next-append (all_adds 0 n g live_htlcs) (fees_to rate fees ++ all_removals 0 m others),
+    adds_ids 0 n g live_htlcs b,
     no_ids (fees_to rate fees ++ all_removals 0 m others) rest_offers,
   )
 
-  pub are_numbered : AreBetween 0 n lives → AreNumbered 0 (updates_to n g lives rate fees m others)
+  pub are_numbered : AreBetween 0 n live_htlcs → AreNumbered 0 (updates_to n g live_htlcs rate fees m others)
   are_numbered b =
-      numbered-append 0 (all_adds 0 n g lives) (fees_to rate fees ++ all_removals 0 m others)
-      (adds_numbered 0 n g lives b)
-      (none_numbered (0 + next_id (all_adds 0 n g lives)) (fees_to rate fees ++ all_removals 0 m others) rest_offers)
+      numbered-append 0 (all_adds 0 n g live_htlcs) (fees_to rate fees ++ all_removals 0 m others)
+      (adds_numbered 0 n g live_htlcs b)
+      (none_numbered (0 + next_id (all_adds 0 n g live_htlcs)) (fees_to rate fees
+      ++ all_removals 0 m others) rest_offers)
 
-  pub are_within : (most : ℕ) → g ≤ most → in_flight lives ≤ most
-      → AreWithin most (updates_to n g lives rate fees m others)
+  pub are_within : (most : ℕ) → g ≤ most → in_flight live_htlcs ≤ most
+      → AreWithin most (updates_to n g live_htlcs rate fees m others)
   are_within most le h =
-      within-append most (all_adds 0 n g lives) (fees_to rate fees ++ all_removals 0 m others)
-      (adds_within most 0 n g lives le h)
+      within-append most (all_adds 0 n g live_htlcs) (fees_to rate fees ++ all_removals 0 m others)
+      (adds_within most 0 n g live_htlcs le h)
       (none_within most (fees_to rate fees ++ all_removals 0 m others) rest_offers)
 
-  pub length_is : AreBetween 0 n lives → AreBetween 0 m others
-      → length (updates_to n g lives rate fees m others) ≡ n + gone m others + fees
+  pub length_is : AreBetween 0 n live_htlcs → AreBetween 0 m others
+      → length (updates_to n g live_htlcs rate fees m others) ≡ n + gone m others + fees
   length_is b c = omega (
     arith,
-    length-append (all_adds 0 n g lives) (fees_to rate fees ++ all_removals 0 m others),
+    length-append (all_adds 0 n g live_htlcs) (fees_to rate fees ++ all_removals 0 m others),
     length-append (fees_to rate fees) (all_removals 0 m others),
-    adds_length 0 n g lives b,
+    adds_length 0 n g live_htlcs b,
     fees_length rate fees,
     removals_length 0 m others c,
   )
 
   pub rate_is : (first : ℕ) → (fees ≡ 0 → rate ≡ first)
-      → last_feerate first (updates_to n g lives rate fees m others) ≡ rate
-  rate_is first h = rate_behind first (all_adds 0 n g lives) (fees_to rate fees ++ all_removals 0 m others)
+      → last_feerate first (updates_to n g live_htlcs rate fees m others) ≡ rate
+  rate_is first h = rate_behind first (all_adds 0 n g live_htlcs) (fees_to rate fees ++ all_removals 0 m others)
       ∙ ap (λ r. last_feerate r (fees_to rate fees ++ all_removals 0 m others))
-      (same_rate first (all_adds 0 n g lives) (adds_each KeepsRate 0 n g lives (λ a r. refl)))
+      (same_rate first (all_adds 0 n g live_htlcs) (adds_each KeepsRate 0 n g live_htlcs (λ a r. refl)))
       ∙ rate_behind first (fees_to rate fees) (all_removals 0 m others)
       ∙ same_rate (last_feerate first (fees_to rate fees)) (all_removals 0 m others)
       (removals_each KeepsRate 0 m others (λ f r. refl)) ∙ fees_rate rate first fees h
 
-  adds_remove : Each RemovesNone (all_adds 0 n g lives)
-  adds_remove = adds_each RemovesNone 0 n g lives (λ a. refl)
+  adds_remove : Each RemovesNone (all_adds 0 n g live_htlcs)
+  adds_remove = adds_each RemovesNone 0 n g live_htlcs (λ a. refl)
 
   fees_remove : Each RemovesNone (fees_to rate fees)
   fees_remove = fees_each RemovesNone rate fees (λ f. refl)
 
   pub outcome_is : (id : ℕ)
-      → outcome id (updates_to n g lives rate fees m others) ≡ outcome id (all_removals 0 m others)
+      → outcome id (updates_to n g live_htlcs rate fees m others) ≡ outcome id (all_removals 0 m others)
   outcome_is id =
-      outcome_behind id (all_adds 0 n g lives) (fees_to rate fees ++ all_removals 0 m others)
-      (no_outcome id (all_adds 0 n g lives) adds_remove)
+      outcome_behind id (all_adds 0 n g live_htlcs) (fees_to rate fees ++ all_removals 0 m others)
+      (no_outcome id (all_adds 0 n g live_htlcs) adds_remove)
       ∙ outcome_behind id (fees_to rate fees) (all_removals 0 m others) (no_outcome id (fees_to rate fees) fees_remove)
 
   pub are_removals : (adds : List Update) → AreBetween 0 m others → AreFound adds 0 m
-      → AreRemovals adds [] (updates_to n g lives rate fees m others)
+      → AreRemovals adds [] (updates_to n g live_htlcs rate fees m others)
   are_removals adds b found =
-      removals-append adds [] (all_adds 0 n g lives) (fees_to rate fees ++ all_removals 0 m others)
-      (none_removed adds [] (all_adds 0 n g lives) adds_remove)
-      (removals-append adds (all_adds 0 n g lives) (fees_to rate fees) (all_removals 0 m others)
-      (none_removed adds (all_adds 0 n g lives) (fees_to rate fees) fees_remove)
-      (all_remove adds (all_adds 0 n g lives ++ fees_to rate fees) 0 m others b found
-      (λ id le. outcome_behind id (all_adds 0 n g lives) (fees_to rate fees)
-      (no_outcome id (all_adds 0 n g lives) adds_remove) ∙ no_outcome id (fees_to rate fees) fees_remove)))
+      removals-append adds [] (all_adds 0 n g live_htlcs) (fees_to rate fees ++ all_removals 0 m others)
+      (none_removed adds [] (all_adds 0 n g live_htlcs) adds_remove)
+      (removals-append adds (all_adds 0 n g live_htlcs) (fees_to rate fees) (all_removals 0 m others)
+      (none_removed adds (all_adds 0 n g live_htlcs) (fees_to rate fees) fees_remove)
+      (all_remove adds (all_adds 0 n g live_htlcs ++ fees_to rate fees) 0 m others b found
+      (λ id le. outcome_behind id (all_adds 0 n g live_htlcs) (fees_to rate fees)
+      (no_outcome id (all_adds 0 n g live_htlcs) adds_remove) ∙ no_outcome id (fees_to rate fees) fees_remove)))
 
-  pub lives_are : (r : List Update) → AreTold r 0 n lives
-      → live_adds (updates_to n g lives rate fees m others) r ≡ lives
-  lives_are r h =
-      live-append (all_adds 0 n g lives) (fees_to rate fees ++ all_removals 0 m others) r
-      ∙ ap (λ x. live_adds (all_adds 0 n g lives) r ++ x)
-      (no_lives (fees_to rate fees ++ all_removals 0 m others) r rest_offers)
-      ∙ append-nil (live_adds (all_adds 0 n g lives) r) ∙ adds_live 0 n g lives r h
+  pub live_htlcs_are : (r : List Update) → AreTold r 0 n live_htlcs
+      → live_adds (updates_to n g live_htlcs rate fees m others) r ≡ live_htlcs
+  live_htlcs_are r h =
+      live-append (all_adds 0 n g live_htlcs) (fees_to rate fees ++ all_removals 0 m others) r
+      ∙ ap (λ x. live_adds (all_adds 0 n g live_htlcs) r ++ x)
+      (no_live_htlcs (fees_to rate fees ++ all_removals 0 m others) r rest_offers)
+      ∙ append-nil (live_adds (all_adds 0 n g live_htlcs) r) ∙ adds_live 0 n g live_htlcs r h
 
-  pub none_failed : (r : List Update) → AreTold r 0 n lives
-      → tally amount is_failed (updates_to n g lives rate fees m others) r ≡ 0
+  pub none_failed : (r : List Update) → AreTold r 0 n live_htlcs
+      → tally amount is_failed (updates_to n g live_htlcs rate fees m others) r ≡ 0
   none_failed r h = omega (
     arith,
-    tally-append amount is_failed (all_adds 0 n g lives) (fees_to rate fees ++ all_removals 0 m others) r,
+    tally-append amount is_failed (all_adds 0 n g live_htlcs) (fees_to rate fees ++ all_removals 0 m others) r,
     no_tally is_failed (fees_to rate fees ++ all_removals 0 m others) r rest_offers,
-    adds_failed 0 n g lives r h,
+    adds_failed 0 n g live_htlcs r h,
   )
 
-  pub paid_is : (r : List Update) → AreBetween 0 n lives → AreTold r 0 n lives → (1 ≤ g → 1 ≤ gone n lives)
-      → tally amount is_fulfilled (updates_to n g lives rate fees m others) r ≡ g
+  pub paid_is : (r : List Update) → AreBetween 0 n live_htlcs → AreTold r 0 n live_htlcs → (1 ≤ g
+      → 1 ≤ gone n live_htlcs)
+      → tally amount is_fulfilled (updates_to n g live_htlcs rate fees m others) r ≡ g
   paid_is r b h some = omega (
     arith,
-    tally-append amount is_fulfilled (all_adds 0 n g lives) (fees_to rate fees ++ all_removals 0 m others) r,
+    tally-append amount is_fulfilled (all_adds 0 n g live_htlcs) (fees_to rate fees ++ all_removals 0 m others) r,
     no_tally is_fulfilled (fees_to rate fees ++ all_removals 0 m others) r rest_offers,
-    adds_paid 0 n g lives r b h,
-    left_at (n - 0 - length lives) (gone n lives) g (omega arith),
-    carried (gone n lives) g some,
+    adds_paid 0 n g live_htlcs r b h,
+    left_at (n - 0 - length live_htlcs) (gone n live_htlcs) g (omega arith),
+    carried (gone n live_htlcs) g some,
   )

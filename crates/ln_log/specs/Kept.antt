@@ -10,12 +10,12 @@ use Rattle.ln_log.specs.declared.log.Pair.TheVariants as pair
 use Rattle.ln_log.specs.declared.log.Side.{Side}
 use Rattle.ln_log.specs.declared.log.Side.TheVariants as side
 use Rattle.ln_log.specs.declared.standing.Standing.{Standing}
-use Rattle.ln_log.specs.declared.told.Origin.{Origin}
+use Rattle.ln_log.specs.declared.record_form.Origin.{Origin}
 use Rattle.ln_log.specs.declared.update.Update.{Update}
 use Rattle.ln_log.specs.Opening.{HasFunds}
 use Rattle.ln_log.specs.Limits.{most_updates}
 use Rattle.ln_log.specs.Log.{Log, Counts, none, opened, AllCounts, AreWithin, IsKept}
-use Rattle.ln_log.specs.Window.{Worth, lives, worth_of, IsClosed}
+use Rattle.ln_log.specs.Window.{Balances, live_htlcs, balances_of, IsClosed}
 use Rattle.ln_log.specs.Explained.{led_own, led_peer}
 
 pub record Kept : Type 0 where
@@ -23,7 +23,7 @@ pub record Kept : Type 0 where
   pub role : Role
   pub first : Counts  -- how many updates of either side are in the base
   pub live : Counts  -- how many HTLCs are live there: they stand first in the lists, as the updates that offered them
-  pub worth : Worth  -- what the base is worth beside them
+  pub balances : Balances  -- what the base is worth beside them
   pub own : List Update
   pub received : List Update
   pub signed : Counts
@@ -104,13 +104,13 @@ base_of side.Peer k l = peer_base k l
 
 -- the HTLCs of a side that are live in the base
 abbrev pub live_base : Side → Kept → Log → List Update
-live_base side.Own k l = lives (own_base k l) (peer_base k l)
-live_base side.Peer k l = lives (peer_base k l) (own_base k l)
+live_base side.Own k l = live_htlcs (own_base k l) (peer_base k l)
+live_base side.Peer k l = live_htlcs (peer_base k l) (own_base k l)
 
 -- the live HTLCs of the base, and the updates behind it up to so many
 abbrev pub front_of : Side → Kept → Log → ℕ → List Update
-front_of side.Own k l n = lives (own_base k l) (peer_base k l) ++ drop k.first.own (take n l.own)
-front_of side.Peer k l n = lives (peer_base k l) (own_base k l) ++ drop k.first.peer (take n l.received)
+front_of side.Own k l n = live_htlcs (own_base k l) (peer_base k l) ++ drop k.first.own (take n l.own)
+front_of side.Peer k l n = live_htlcs (peer_base k l) (own_base k l) ++ drop k.first.peer (take n l.received)
 
 -- What is kept is a window of these lists and counts: the base is what beginnings of the lists are worth, that can be
 -- one and are held as irrevocably committed; the rest of the lists is there one by one; and each side stands as the
@@ -118,11 +118,11 @@ front_of side.Peer k l n = lives (peer_base k l) (own_base k l) ++ drop k.first.
 pub record IsWindowOf (kept : Kept) (l : Log) : Type 0 where
   pub opening : kept.opening ≡ l.opening
   pub role : kept.role ≡ l.role
-  pub own : kept.own ≡ lives (own_base kept l) (peer_base kept l) ++ drop kept.first.own l.own
-  pub received : kept.received ≡ lives (peer_base kept l) (own_base kept l) ++ drop kept.first.peer l.received
-  pub live_own : kept.live.own ≡ length (lives (own_base kept l) (peer_base kept l))
-  pub live_peer : kept.live.peer ≡ length (lives (peer_base kept l) (own_base kept l))
-  pub worth : kept.worth ≡ worth_of l.opening l.role (own_base kept l) (peer_base kept l)
+  pub own : kept.own ≡ live_htlcs (own_base kept l) (peer_base kept l) ++ drop kept.first.own l.own
+  pub received : kept.received ≡ live_htlcs (peer_base kept l) (own_base kept l) ++ drop kept.first.peer l.received
+  pub live_own : kept.live.own ≡ length (live_htlcs (own_base kept l) (peer_base kept l))
+  pub live_peer : kept.live.peer ≡ length (live_htlcs (peer_base kept l) (own_base kept l))
+  pub balances : kept.balances ≡ balances_of l.opening l.role (own_base kept l) (peer_base kept l)
   pub closed : IsClosed l.opening l.role (own_base kept l) (peer_base kept l)
   pub signed : kept.signed ≡ l.signed
   pub acknowledged : kept.acknowledged ≡ l.acknowledged
@@ -137,11 +137,11 @@ pub record IsWindowOf (kept : Kept) (l : Log) : Type 0 where
 -- all updates of a side that aren't had one by one any more: those that a base leaves out with which the lists began,
 -- and those that have left the window since
 abbrev pub own_before : History Origin Update → List Update
-own_before h = led_own h.start.opening h.start.role h.start.base.updates h.start.base.worth h.start.base.own.items
+own_before h = led_own h.start.opening h.start.role h.start.base.updates h.start.base.balances h.start.base.own.items
     h.start.base.peer.items ++ h.entries
 
 abbrev pub peer_before : History Origin Update → List Update
-peer_before h = led_peer h.start.opening h.start.role h.start.base.updates h.start.base.worth h.start.base.own.items
+peer_before h = led_peer h.start.opening h.start.role h.start.base.updates h.start.base.balances h.start.base.own.items
     h.start.base.peer.items ++ h.entries
 
 -- the log of which this is kept, where these were the updates that aren't had one by one any more

@@ -13,6 +13,6 @@ pub mod Loading
 pub mod Window
 pub mod Kept
 pub mod Explained
-pub mod Told
+pub mod RecordForm
 pub mod Alike
 pub use Rattle.ln_msgs.specs.Refusals.Refusal

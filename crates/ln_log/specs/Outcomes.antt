@@ -3,7 +3,7 @@ use Rattle.std.specs.Prelude.{◌≡◌, ℕ, Bool, not, List, count_by, Option,
 use Rattle.std.specs.Ordering.{nat_cmp}
 use Rattle.std.specs.BTreeMap.{BTreeMap, get}
 use Rattle.std.specs.BTreeSet.{BTreeSet, contains}
-use Rattle.ln_log.specs.declared.fates.Fates.{Fates}
+use Rattle.ln_log.specs.declared.removal_check.OfferedHtlcs.{OfferedHtlcs}
 use Rattle.ln_log.specs.declared.update.Update.{Update}
 use Rattle.ln_log.specs.declared.outcome.Outcome.{Outcome}
 use Rattle.ln_log.specs.Updates.{removed, is_some, is_live, add_with, outcome}
@@ -28,7 +28,7 @@ abbrev pub AreRemoved : BTreeSet ℕ → List Update → Type 0
 AreRemoved ids us = (id : ℕ) → contains nat_cmp ids id ≡ not (is_live (outcome id us))
 
 -- what is told of the HTLC of an id, if one was offered
-abbrev pub fate : Fates → ℕ → Option Outcome
+abbrev pub fate : OfferedHtlcs → ℕ → Option Outcome
 fate f id = get nat_cmp f.by_id id
 
 -- of the HTLCs that a list offers, what these updates make of each
@@ -36,5 +36,5 @@ abbrev pub fate_of : ℕ → List Update → List Update → Option Outcome
 fate_of id adds us = if is_some (add_with id adds) then Some (outcome id us) else None
 
 -- that is told of all of them, and nothing of others
-abbrev pub TellsAll : Fates → List Update → List Update → Type 0
+abbrev pub TellsAll : OfferedHtlcs → List Update → List Update → Type 0
 TellsAll f adds us = (id : ℕ) → fate f id ≡ fate_of id adds us

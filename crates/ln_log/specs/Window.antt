@@ -12,8 +12,8 @@ use Rattle.ln_log.specs.declared.log.Side.TheVariants as side
 use Rattle.ln_log.specs.declared.outcome.Outcome.TheVariants.{Live}
 use Rattle.ln_log.specs.declared.update.Removal.{Removal}
 use Rattle.ln_log.specs.declared.update.Update.{Update}
-use Rattle.ln_log.specs.declared.worth.Worth as declared
-use Rattle.ln_log.specs.declared.worth.Balances.{Balances}
+use Rattle.ln_log.specs.declared.balances.Balances as declared
+use Rattle.ln_log.specs.declared.balances.RoleBalances.{RoleBalances}
 use Rattle.ln_log.specs.declared.update.Update.TheVariants as update
 use Rattle.ln_log.specs.Opening.{first_balance}
 use Rattle.ln_log.specs.Updates.{next_id, removed, outcome, total, is_any, is_failed, is_fulfilled, last_feerate}
@@ -22,8 +22,8 @@ use Rattle.ln_keys.specs.declared.view.View.{View}
 use Rattle.ln_log.specs.Log.{Log, Counts, before_first, AreNumbered, BothPay}
 
 -- the HTLCs of one side that the other hasn't removed, as the updates that offered them
-abbrev pub lives : List Update → List Update → List Update
-lives own peer = map (λ a. update.Add a) (live_adds own peer)
+abbrev pub live_htlcs : List Update → List Update → List Update
+live_htlcs own peer = map (λ a. update.Add a) (live_adds own peer)
 
 -- the feerate, which the funder's updates tell
 abbrev pub feerate_of : ℕ → Role → List Update → List Update → ℕ
@@ -31,11 +31,11 @@ feerate_of rate Funder own peer = last_feerate rate own
 feerate_of rate Fundee own peer = last_feerate rate peer
 
 -- what two lists are worth beside their live HTLCs
-abbrev pub Worth : Type 0
-Worth = declared.Worth
+abbrev pub Balances : Type 0
+Balances = declared.Balances
 
-abbrev pub worth_of : Opening → Role → List Update → List Update → Worth
-worth_of o x own peer = record {
+abbrev pub balances_of : Opening → Role → List Update → List Update → Balances
+balances_of o x own peer = record {
   next_own = next_id own;
   next_peer = next_id peer;
   own = balance (first_balance o x) own peer;
@@ -46,27 +46,27 @@ worth_of o x own peer = record {
 -- a balance behind one: HTLCs that were live then and those that were offered since come back or are paid out by what
 -- was proposed since, and what was offered since is gone
 abbrev pub balance_behind : ℕ → List Update → List Update → List Update → List Update → ℕ
-balance_behind b lives_own own lives_peer peer = b + total is_failed (lives_own ++ own) peer
-    + total is_fulfilled (lives_peer ++ peer) own - total is_any own peer
+balance_behind b live_htlcs_own own live_htlcs_peer peer = b + total is_failed (live_htlcs_own ++ own) peer
+    + total is_fulfilled (live_htlcs_peer ++ peer) own - total is_any own peer
 
 -- what a base is worth with the updates behind it, where these HTLCs are live in it
-abbrev pub worth_behind : Role → Worth → List Update → List Update → List Update → List Update → Worth
-worth_behind x b lives_own own lives_peer peer = record {
+abbrev pub balances_behind : Role → Balances → List Update → List Update → List Update → List Update → Balances
+balances_behind x b live_htlcs_own own live_htlcs_peer peer = record {
   next_own = b.next_own + next_id own;
   next_peer = b.next_peer + next_id peer;
-  own = balance_behind b.own lives_own own lives_peer peer;
-  peer = balance_behind b.peer lives_peer peer lives_own own;
+  own = balance_behind b.own live_htlcs_own own live_htlcs_peer peer;
+  peer = balance_behind b.peer live_htlcs_peer peer live_htlcs_own own;
   feerate = feerate_of b.feerate x own peer;
 }
 
 -- a side can pay out of a balance what was offered since
 abbrev pub PaysBehind : ℕ → List Update → List Update → List Update → List Update → Type 0
-PaysBehind b lives_own own lives_peer peer = total is_any own peer
-    ≤ b + total is_failed (lives_own ++ own) peer + total is_fulfilled (lives_peer ++ peer) own
+PaysBehind b live_htlcs_own own live_htlcs_peer peer = total is_any own peer
+    ≤ b + total is_failed (live_htlcs_own ++ own) peer + total is_fulfilled (live_htlcs_peer ++ peer) own
 
-abbrev pub BothPayBehind : Worth → List Update → List Update → List Update → List Update → Type 0
-BothPayBehind b lives_own own lives_peer peer = PaysBehind b.own lives_own own lives_peer peer
-    × PaysBehind b.peer lives_peer peer lives_own own
+abbrev pub BothPayBehind : Balances → List Update → List Update → List Update → List Update → Type 0
+BothPayBehind b live_htlcs_own own live_htlcs_peer peer = PaysBehind b.own live_htlcs_own own live_htlcs_peer peer
+    × PaysBehind b.peer live_htlcs_peer peer live_htlcs_own own
 
 -- beginnings of both lists that can be a base: neither removes an HTLC that the other doesn't offer, and neither side
 -- has spent more than it had
@@ -123,12 +123,12 @@ after_advance to l = record l { first = moved_base to l }
 -- ---- behind a base
 -- of the updates of a log that aren't had one by one any more, what they are worth, and the HTLCs of a side that are
 -- live behind them
-abbrev pub first_worth : Log → Worth
-first_worth l = worth_of l.opening l.role (before_first side.Own l) (before_first side.Peer l)
+abbrev pub first_balances : Log → Balances
+first_balances l = balances_of l.opening l.role (before_first side.Own l) (before_first side.Peer l)
 
-abbrev pub first_lives : Side → Log → List Update
-first_lives side.Own l = lives (before_first side.Own l) (before_first side.Peer l)
-first_lives side.Peer l = lives (before_first side.Peer l) (before_first side.Own l)
+abbrev pub first_live_htlcs : Side → Log → List Update
+first_live_htlcs side.Own l = live_htlcs (before_first side.Own l) (before_first side.Peer l)
+first_live_htlcs side.Peer l = live_htlcs (before_first side.Peer l) (before_first side.Own l)
 
 -- the rest of two lists behind such beginnings: its ids go on where theirs end
 pub record GoesOn (o : Opening) (x : Role) (own_base own peer_base peer : List Update) : Type 0 where
@@ -145,7 +145,7 @@ got_behind b all new peer_all peer_new = b + total is_failed all peer_new + tota
 abbrev pub left_behind : ℕ → List Update → List Update → List Update → List Update → ℕ
 left_behind b all new peer_all peer_new = got_behind b all new peer_all peer_new - total is_any new peer_new
 
-abbrev pub view_behind : Balances → List Update → List Update → List Update → List Update → View
+abbrev pub view_behind : RoleBalances → List Update → List Update → List Update → List Update → View
 view_behind b funder funder_new fundee fundee_new = record {
   funder = left_behind b.funder funder funder_new fundee fundee_new;
   fundee = left_behind b.fundee fundee fundee_new funder funder_new;
@@ -154,22 +154,23 @@ view_behind b funder funder_new fundee fundee_new = record {
 }
 
 -- what a base is worth, by roles
-abbrev pub balances_of : Worth → Role → Balances
-balances_of w Funder = record { funder = w.own; fundee = w.peer; feerate = w.feerate }
-balances_of w Fundee = record { funder = w.peer; fundee = w.own; feerate = w.feerate }
+abbrev pub role_balances_of : Balances → Role → RoleBalances
+role_balances_of w Funder = record { funder = w.own; fundee = w.peer; feerate = w.feerate }
+role_balances_of w Fundee = record { funder = w.peer; fundee = w.own; feerate = w.feerate }
 
 -- a side can pay, and what it has left is of 64 bits
 pub record IsLeft (b : ℕ) (all new peer_all peer_new : List Update) : Type 0 where
   pub paid : total is_any new peer_new ≤ got_behind b all new peer_all peer_new
   pub fits : left_behind b all new peer_all peer_new < 2 ^ 64
 
-pub record FitsBehind (b : Balances) (funder funder_new fundee fundee_new : List Update) : Type 0 where
+pub record FitsBehind (b : RoleBalances) (funder funder_new fundee fundee_new : List Update) : Type 0 where
   pub funder_left : IsLeft b.funder funder funder_new fundee fundee_new
   pub fundee_left : IsLeft b.fundee fundee fundee_new funder funder_new
 
 -- ---- what code finds two lists to be worth behind a base
 
-pub record IsWorthBehind (x : Role) (b : Worth) (own_all own peer_all peer : List Update) (w : Worth) : Type 0 where
+pub record AreBalancesBehind (x : Role) (b : Balances) (own_all own peer_all peer : List Update)
+    (w : Balances) : Type 0 where
   pub next_own : w.next_own ≡ b.next_own + next_id own
   pub next_peer : w.next_peer ≡ b.next_peer + next_id peer
   pub own_left : w.own ≡ left_behind b.own own_all own peer_all peer
@@ -181,7 +182,7 @@ pub record IsWorthBehind (x : Role) (b : Worth) (own_all own peer_all peer : Lis
   pub peer_new : (id : ℕ) → w.next_peer ≤ id → outcome id own ≡ Live
 
 -- where it finds it: ids and balances are of 64 bits, and neither list removes an HTLC that the other doesn't offer
-pub record HasWorth (b : Worth) (own_all own peer_all peer : List Update) : Type 0 where
+pub record HasBalances (b : Balances) (own_all own peer_all peer : List Update) : Type 0 where
   pub next_own : b.next_own + next_id own < 2 ^ 64
   pub next_peer : b.next_peer + next_id peer < 2 ^ 64
   pub own_new : (id : ℕ) → b.next_own + next_id own ≤ id → outcome id peer ≡ Live

@@ -7,20 +7,21 @@ ghost use Rattle.ln_log.specs.Updates.{is_any, is_live, is_failed, is_fulfilled,
 ghost use Rattle.ln_log.specs.View.{live_adds};
 ghost use Rattle.ln_log.specs.Log.{AreNumbered, AreWithin};
 ghost use Rattle.ln_log.specs.Window.{PaysBehind};
-ghost use Rattle.ln_log.specs.Told.{told, as_offered, standing_after, StandingFits, AreCounted, AreInPlace};
-ghost use Rattle.ln_log.specs.Told.{AreLawfulBehind, IsLawfulUpTo};
+ghost use Rattle.ln_log.specs.RecordForm.{record_form, as_offered, standing_after, StandingFits, AreCounted};
+ghost use Rattle.ln_log.specs.RecordForm.{AreInPlace};
+ghost use Rattle.ln_log.specs.RecordForm.{AreLawfulBehind, IsLawfulUpTo};
 
-use crate::fates::are_removals;
-use crate::lead::may_be_led_to;
+use crate::balances::Balances;
+use crate::base_check::may_be_led_to;
 use crate::log::{Counts, MOST_UPDATES, Pair, UpdateLog};
-use crate::log_window::Window;
 use crate::opening::Opening;
+use crate::outcomes::Outcomes;
 use crate::plain::{add_of, count_adds, live_add, sums_of};
-use crate::removals::Outcomes;
+use crate::record_form::{BaseState, Origin};
+use crate::removal_check::are_removals;
 use crate::standing::Standing;
-use crate::told::{Base, Origin};
 use crate::update::{Add, Update};
-use crate::worth::Worth;
+use crate::window::Window;
 use ln_history::Past;
 use ln_keys::Role;
 use ln_msgs::Refusal;
@@ -108,12 +109,12 @@ fn counts_fit(updates: &Counts, coverage: &Coverage, own: usize, received: usize
 fn are_in_place(
     opening: &Opening,
     role: Role,
-    base: &Base,
+    base: &BaseState,
     own: &[Update],
     received: &[Update],
     coverage: &Coverage,
 ) -> bool
-    ensures { IsTrue result ↔ AreInPlace (told opening.now role base.now own.now received.now coverage.now) }
+    ensures { IsTrue result ↔ AreInPlace (record_form opening.now role base.now own.now received.now coverage.now) }
 {
     if !opening.has_funds() {
         return false;
@@ -121,27 +122,27 @@ fn are_in_place(
     if !counts_fit(&base.updates, coverage, own.len(), received.len()) {
         return false;
     }
-    let own_lives = base.own.as_slice();
-    let peer_lives = base.peer.as_slice();
+    let own_live_htlcs = base.own.as_slice();
+    let peer_live_htlcs = base.peer.as_slice();
     if !may_be_led_to(
         opening,
         role,
         &base.updates,
-        &base.worth,
-        own_lives,
-        peer_lives,
+        &base.balances,
+        own_live_htlcs,
+        peer_live_htlcs,
     ) {
         return false;
     }
-    are_offered(opening, base.worth.next_own, own)
-        && are_offered(opening, base.worth.next_peer, received)
+    are_offered(opening, base.balances.next_own, own)
+        && are_offered(opening, base.balances.next_peer, received)
 }
 
 // ---- views
 
 // The HTLCs that are live in a base, as the updates that offered them.
 #[derive(Drop)]
-struct Lives {
+struct LiveHtlcs {
     own: Vec<Update>,
     peer: Vec<Update>,
 }
@@ -157,14 +158,14 @@ fn as_offered(alloc: Global, adds: &[Add]) -> Result<Vec<Update>, Refusal>
     Ok(updates)
 }
 
-fn lives_of(alloc: Global, base: &Base) -> Result<Lives, Refusal>
+fn live_htlcs_of(alloc: Global, base: &BaseState) -> Result<LiveHtlcs, Refusal>
     ensures own { IfOk result (λ l. l.own.items ≡ as_offered base.now.own.items) }
     ensures peer { IfOk result (λ l. l.peer.items ≡ as_offered base.now.peer.items) }
     ensures fails_for_memory_alone { IsOkUnless result Refusal.Memory }
 {
     let own = as_offered(alloc, base.own.as_slice())?;
     let peer = as_offered(alloc, base.peer.as_slice())?;
-    Ok(Lives { own, peer })
+    Ok(LiveHtlcs { own, peer })
 }
 
 // What a side had and got, what it offered, and what of that is in flight, all in millisatoshi.
@@ -181,23 +182,23 @@ struct Account {
 fn account_of(
     alloc: Global,
     had: u64,
-    lives: &[Update],
+    live_htlcs: &[Update],
     own: &[Update],
-    lives_peer: &[Update],
+    live_htlcs_peer: &[Update],
     peer: &[Update],
 ) -> Result<Account, Refusal>
-    ensures got { IfOk result (λ a. a.got ≡ had + total is_failed (lives.now ++ own.now) peer.now
-        + total is_fulfilled (lives_peer.now ++ peer.now) own.now) }
+    ensures got { IfOk result (λ a. a.got ≡ had + total is_failed (live_htlcs.now ++ own.now) peer.now
+        + total is_fulfilled (live_htlcs_peer.now ++ peer.now) own.now) }
     ensures spent { IfOk result (λ a. a.spent ≡ total is_any own.now peer.now) }
-    ensures in_flight { IfOk result (λ a. a.in_flight ≡ total is_live (lives.now ++ own.now) peer.now) }
+    ensures in_flight { IfOk result (λ a. a.in_flight ≡ total is_live (live_htlcs.now ++ own.now) peer.now) }
     ensures fails_for_memory_alone { IsOkUnless result Refusal.Memory }
 {
     let of_own = Outcomes::new(alloc, peer)?;
     let of_peer = Outcomes::new(alloc, own)?;
     let out = sums_of(own, &of_own);
     let back = sums_of(peer, &of_peer);
-    let base_out = sums_of(lives, &of_own);
-    let base_back = sums_of(lives_peer, &of_peer);
+    let base_out = sums_of(live_htlcs, &of_own);
+    let base_back = sums_of(live_htlcs_peer, &of_peer);
     let flying = out.offered - out.failed - out.fulfilled;
     let base_flying = base_out.offered - base_out.failed - base_out.fulfilled;
     Ok(Account {
@@ -211,46 +212,63 @@ fn account_of(
 fn pays(
     alloc: Global,
     had: u64,
-    lives: &[Update],
+    live_htlcs: &[Update],
     own: &[Update],
-    lives_peer: &[Update],
+    live_htlcs_peer: &[Update],
     peer: &[Update],
 ) -> Result<bool, Refusal>
-    ensures tells_it { IfOk result (λ b. IsTrue b ↔ PaysBehind had lives.now own.now lives_peer.now peer.now) }
+    ensures tells_it { IfOk result (λ b. IsTrue b
+        ↔ PaysBehind had live_htlcs.now own.now live_htlcs_peer.now peer.now) }
     ensures fails_for_memory_alone { IsOkUnless result Refusal.Memory }
 {
-    let account = account_of(alloc, had, lives, own, lives_peer, peer)?;
+    let account = account_of(alloc, had, live_htlcs, own, live_htlcs_peer, peer)?;
     Ok(account.spent <= account.got)
 }
 
 // Whether the view of these lists behind a base is lawful.
 fn is_lawful(
     alloc: Global,
-    worth: &Worth,
-    lives: &Lives,
+    balances: &Balances,
+    live_htlcs: &LiveHtlcs,
     own: &[Update],
     peer: &[Update],
 ) -> Result<bool, Refusal>
-    ensures tells_it { IfOk result (λ b. IsTrue b ↔ AreLawfulBehind worth.now lives.now.own.items own.now
-        lives.now.peer.items peer.now) }
+    ensures tells_it { IfOk result (λ b. IsTrue b ↔ AreLawfulBehind balances.now live_htlcs.now.own.items own.now
+        live_htlcs.now.peer.items peer.now) }
     ensures fails_for_memory_alone { IsOkUnless result Refusal.Memory }
 {
-    let own_lives = lives.own.as_slice();
-    let peer_lives = lives.peer.as_slice();
-    if !are_removals(alloc, peer_lives, peer, own)? || !are_removals(alloc, own_lives, own, peer)? {
+    let own_live_htlcs = live_htlcs.own.as_slice();
+    let peer_live_htlcs = live_htlcs.peer.as_slice();
+    if !are_removals(alloc, peer_live_htlcs, peer, own)?
+        || !are_removals(alloc, own_live_htlcs, own, peer)?
+    {
         return Ok(false);
     }
-    if !pays(alloc, worth.own, own_lives, own, peer_lives, peer)? {
+    if !pays(
+        alloc,
+        balances.own,
+        own_live_htlcs,
+        own,
+        peer_live_htlcs,
+        peer,
+    )? {
         return Ok(false);
     }
-    pays(alloc, worth.peer, peer_lives, peer, own_lives, own)
+    pays(
+        alloc,
+        balances.peer,
+        peer_live_htlcs,
+        peer,
+        own_live_htlcs,
+        own,
+    )
 }
 
 // Whether the view of what so many updates of both sides cover is lawful.
 fn covers_lawfully(
     alloc: Global,
-    base: &Base,
-    lives: &Lives,
+    base: &BaseState,
+    live_htlcs: &LiveHtlcs,
     own: &[Update],
     received: &[Update],
     counts: Counts,
@@ -259,15 +277,15 @@ fn covers_lawfully(
     requires own_within { counts.own ≤ base.now.updates.own + length own.now }
     requires peer_behind { base.now.updates.peer ≤ counts.peer }
     requires peer_within { counts.peer ≤ base.now.updates.peer + length received.now }
-    ensures tells_it { IfOk result (λ b. IsTrue b ↔ AreLawfulBehind base.now.worth lives.now.own.items
-        (take (counts.own - base.now.updates.own) own.now) lives.now.peer.items
+    ensures tells_it { IfOk result (λ b. IsTrue b ↔ AreLawfulBehind base.now.balances live_htlcs.now.own.items
+        (take (counts.own - base.now.updates.own) own.now) live_htlcs.now.peer.items
         (take (counts.peer - base.now.updates.peer) received.now)) }
     ensures fails_for_memory_alone { IsOkUnless result Refusal.Memory }
 {
     is_lawful(
         alloc,
-        &base.worth,
-        lives,
+        &base.balances,
+        live_htlcs,
         &own[..counts.own - base.updates.own],
         &received[..counts.peer - base.updates.peer],
     )
@@ -276,7 +294,7 @@ fn covers_lawfully(
 // Whether the views of all three are lawful. Those of the next signature and of the next one taken are so with them.
 fn views_are_lawful(
     alloc: Global,
-    base: &Base,
+    base: &BaseState,
     own: &[Update],
     received: &[Update],
     coverage: &Coverage,
@@ -288,14 +306,21 @@ fn views_are_lawful(
         × IsLawfulUpTo base.now own.now received.now coverage.now.current)) }
     ensures fails_for_memory_alone { IsOkUnless result Refusal.Memory }
 {
-    let lives = lives_of(alloc, base)?;
-    if !covers_lawfully(alloc, base, &lives, own, received, coverage.signed)? {
+    let live_htlcs = live_htlcs_of(alloc, base)?;
+    if !covers_lawfully(alloc, base, &live_htlcs, own, received, coverage.signed)? {
         return Ok(false);
     }
-    if !covers_lawfully(alloc, base, &lives, own, received, coverage.acknowledged)? {
+    if !covers_lawfully(
+        alloc,
+        base,
+        &live_htlcs,
+        own,
+        received,
+        coverage.acknowledged,
+    )? {
         return Ok(false);
     }
-    covers_lawfully(alloc, base, &lives, own, received, coverage.current)
+    covers_lawfully(alloc, base, &live_htlcs, own, received, coverage.current)
 }
 
 // ---- a log
@@ -319,19 +344,19 @@ fn standing_behind(
     alloc: Global,
     next: u64,
     had: u64,
-    lives: &[Update],
+    live_htlcs: &[Update],
     own: &[Update],
-    lives_peer: &[Update],
+    live_htlcs_peer: &[Update],
     peer: &[Update],
 ) -> Result<Standing, Refusal>
-    requires { StandingFits next had lives.now own.now lives_peer.now peer.now }
+    requires { StandingFits next had live_htlcs.now own.now live_htlcs_peer.now peer.now }
     ensures gives_the_standing { IfOk result (λ s. s
-        ≡ standing_after next had lives.now own.now lives_peer.now peer.now) }
+        ≡ standing_after next had live_htlcs.now own.now live_htlcs_peer.now peer.now) }
     ensures fails_for_memory_alone { IsOkUnless result Refusal.Memory }
 {
-    let account = account_of(alloc, had, lives, own, lives_peer, peer)?;
+    let account = account_of(alloc, had, live_htlcs, own, live_htlcs_peer, peer)?;
     let outcomes = Outcomes::new(alloc, peer)?;
-    let live = count_live(lives, &outcomes) as u64 + count_live(own, &outcomes) as u64;
+    let live = count_live(live_htlcs, &outcomes) as u64 + count_live(own, &outcomes) as u64;
     Ok(Standing {
         next_id: next + count_adds(own) as u64,
         live,
@@ -341,14 +366,14 @@ fn standing_behind(
 }
 
 // The live HTLCs of a base, and the updates behind it.
-fn joined(lives: Vec<Update>, updates: Vec<Update>) -> Result<Vec<Update>, Refusal>
-    ensures joins_them { IfOk result (λ v. v.items ≡ lives.items ++ updates.items) }
+fn joined(live_htlcs: Vec<Update>, updates: Vec<Update>) -> Result<Vec<Update>, Refusal>
+    ensures joins_them { IfOk result (λ v. v.items ≡ live_htlcs.items ++ updates.items) }
     ensures fails_for_memory_alone { IsOkUnless result Refusal.Memory }
 {
-    if lives.is_empty() {
+    if live_htlcs.is_empty() {
         return Ok(updates);
     }
-    let mut all = lives;
+    let mut all = live_htlcs;
     all.extend_with_clones(updates.as_slice())?;
     Ok(all)
 }
@@ -359,7 +384,7 @@ impl Window {
     ghost use Rattle.ln_log.specs.Log.{Log, none, after_drop};
     ghost use Rattle.ln_log.specs.Kept.{IsWindowOf};
     ghost use Rattle.ln_log.specs.Loading.{stored, IsReadable};
-    ghost use Rattle.ln_log.specs.Told.{told, told_of, kept_of, IsRestorable};
+    ghost use Rattle.ln_log.specs.RecordForm.{record_form, record_form_of, kept_of, IsRestorable};
 
     // What the three commitments cover.
     pub(crate) fn coverage(&self) -> Coverage
@@ -368,7 +393,7 @@ impl Window {
         ensures can_be_loaded { (l : Log) → IsWindowOf self.now l → IsReadable
             (stored l.opening l.role (take l.signed.own l.own) (take l.current.peer l.received) result) }
         ensures can_be_restored { (l : Log) → IsWindowOf self.now l
-            → IsRestorable (told_of self.now.first (after_drop l)) }
+            → IsRestorable (record_form_of self.now.first (after_drop l)) }
     {
         // (a list that lies in memory has no more than 2^62 updates)
         let _ = self.own.as_slice().len();
@@ -385,52 +410,52 @@ impl Window {
         alloc: Global,
         opening: Opening,
         role: Role,
-        base: &Base,
+        base: &BaseState,
         own: Vec<Update>,
         received: Vec<Update>,
         coverage: Coverage,
     ) -> Result<Window, Refusal>
-        requires { IsRestorable (told opening role base.now own.items received.items coverage) }
+        requires { IsRestorable (record_form opening role base.now own.items received.items coverage) }
         ensures keeps_what_is_told { IfOk result (λ k. k
-            ≡ kept_of (told opening role base.now own.items received.items coverage)) }
+            ≡ kept_of (record_form opening role base.now own.items received.items coverage)) }
         ensures fails_for_memory_alone { IsOkUnless result Refusal.Memory }
     {
-        let Lives {
-            own: own_lives,
-            peer: peer_lives,
-        } = lives_of(alloc, base)?;
+        let LiveHtlcs {
+            own: own_live_htlcs,
+            peer: peer_live_htlcs,
+        } = live_htlcs_of(alloc, base)?;
         let acknowledged = &own[..coverage.acknowledged.own - base.updates.own];
-        let worth = base.worth;
+        let balances = base.balances;
         let own_standing = standing_behind(
             alloc,
-            worth.next_own,
-            worth.own,
-            &own_lives,
+            balances.next_own,
+            balances.own,
+            &own_live_htlcs,
             &own,
-            &peer_lives,
+            &peer_live_htlcs,
             &received,
         )?;
         let peer_standing = standing_behind(
             alloc,
-            worth.next_peer,
-            worth.peer,
-            &peer_lives,
+            balances.next_peer,
+            balances.peer,
+            &peer_live_htlcs,
             &received,
-            &own_lives,
+            &own_live_htlcs,
             acknowledged,
         )?;
         let live = Counts {
             own: base.own.len(),
             peer: base.peer.len(),
         };
-        let own = joined(own_lives, own)?;
-        let received = joined(peer_lives, received)?;
+        let own = joined(own_live_htlcs, own)?;
+        let received = joined(peer_live_htlcs, received)?;
         Ok(Window {
             opening,
             role,
             first: base.updates,
             live,
-            worth,
+            balances,
             own,
             received,
             signed: coverage.signed,
@@ -449,7 +474,7 @@ impl UpdateLog {
     ghost use Rattle.std.specs.Result.{IsOkUnless};
     ghost use Rattle.ln_log.specs.Log.{Log, StandsFor, none, after_drop};
     ghost use Rattle.ln_log.specs.Loading.{stored, IsReadable};
-    ghost use Rattle.ln_log.specs.Told.{told, told_of, written, IsRestorable};
+    ghost use Rattle.ln_log.specs.RecordForm.{record_form, record_form_of, written, IsRestorable};
 
     /// Whether a log can be made of what the record of a channel tells of its updates: what both sides agreed on, this
     /// side's role, a base, the updates behind it that this side has signed and those of the peer's that it has
@@ -464,13 +489,13 @@ impl UpdateLog {
         alloc: Global,
         opening: &Opening,
         role: Role,
-        base: &Base,
+        base: &BaseState,
         own: &[Update],
         received: &[Update],
         coverage: &Coverage,
     ) -> Result<bool, Refusal>
         ensures tells_it { IfOk result (λ b. IsTrue b ↔ IsRestorable
-            (told opening.now role base.now own.now received.now coverage.now)) }
+            (record_form opening.now role base.now own.now received.now coverage.now)) }
         ensures fails_for_memory_alone { IsOkUnless result Refusal.Memory }
     {
         if !are_in_place(opening, role, base, own, received, coverage) {
@@ -480,14 +505,15 @@ impl UpdateLog {
     }
 
     /// What the three commitments cover: with the updates of both sides that signatures cover, from `first` on, what
-    /// those before are worth (`worth`) and their live HTLCs (`live`), all that a record has to tell of them. Of what
-    /// it tells a log can be made again, and so of whole lists.
+    /// those before are worth (`balances`) and their live HTLCs (`live`), all that a record has to tell of them. Of
+    /// what it tells a log can be made again, and so of whole lists.
     pub fn coverage(&self) -> Coverage
         ensures counts { (l : Log) → StandsFor self.now l
             → stored l.opening l.role l.own l.received result ≡ record l { first = none } }
         ensures can_be_loaded { (l : Log) → StandsFor self.now l → IsReadable
             (stored l.opening l.role (take l.signed.own l.own) (take l.current.peer l.received) result) }
-        ensures can_be_restored { (l : Log) → StandsFor self.now l → IsRestorable (told_of l.first (after_drop l)) }
+        ensures can_be_restored { (l : Log) → StandsFor self.now l
+            → IsRestorable (record_form_of l.first (after_drop l)) }
     {
         self.window.coverage()
     }
@@ -500,14 +526,17 @@ impl UpdateLog {
         alloc: Global,
         opening: Opening,
         role: Role,
-        base: Base,
+        base: BaseState,
         own: Vec<Update>,
         received: Vec<Update>,
         coverage: Coverage,
     ) -> Result<UpdateLog, Refusal>
-        requires { IsRestorable (told opening role base own.items received.items coverage) }
+        requires { IsRestorable (record_form opening role base own.items received.items coverage) }
         ensures has_what_is_told { IfOk result (λ l. l
-            ≡ record (written (told opening role base own.items received.items coverage)) { first = base.updates }) }
+            ≡ record (written (record_form opening role base own.items received.items coverage)) {
+              first =
+                  base.updates;
+            }) }
         ensures fails_for_memory_alone { IsOkUnless result Refusal.Memory }
     {
         let window = Window::load(alloc, opening, role, &base, own, received, coverage)?;
@@ -528,7 +557,8 @@ impl UpdateLog {
     /// at run time.
     pub fn take_past_of(&mut self, other: &UpdateLog)
         requires same_first { self.old.first ≡ other.now.first }
-        requires same_record { told_of self.old.first self.old ≡ told_of self.old.first (after_drop other.now) }
+        requires same_record { record_form_of self.old.first self.old
+            ≡ record_form_of self.old.first (after_drop other.now) }
         ensures { self.new ≡ after_drop other.now }
     {
         // (what a window keeps is in order)

@@ -1,10 +1,10 @@
 //! The updates of a channel as one side has them.
 
-use crate::log_window::Window;
+use crate::balances::Balances;
 use crate::opening::Opening;
-use crate::told::{Base, Origin};
+use crate::record_form::{BaseState, Origin};
 use crate::update::{Add, Update};
-use crate::worth::Worth;
+use crate::window::Window;
 use ln_history::Past;
 use ln_keys::{Role, View};
 use ln_msgs::Refusal;
@@ -74,7 +74,7 @@ impl UpdateLog {
     ghost use Rattle.ln_log.specs.Opening.{IsFit, most_satoshis};
     ghost use Rattle.ln_log.specs.Updates.{next_id, offered};
     ghost use Rattle.ln_log.specs.View.{AddsUp};
-    ghost use Rattle.ln_log.specs.Window.{first_worth, first_lives};
+    ghost use Rattle.ln_log.specs.Window.{first_balances, first_live_htlcs};
     ghost use Rattle.ln_log.specs.Limits.{HasNextId, Answers, is_at_update_limit, removable};
     ghost use Rattle.ln_log.specs.Log.{Log, StandsFor, IsWithin, IsInOrder, updates_of, count_of, first_of, update_at};
     ghost use Rattle.ln_log.specs.Log.{between, unacknowledged, all_counts, at_opening, IsInRange, before_first};
@@ -93,7 +93,7 @@ impl UpdateLog {
         let origin = Origin {
             opening,
             role,
-            base: Base::at_opening(alloc, &opening, role),
+            base: BaseState::at_opening(alloc, &opening, role),
         };
         UpdateLog {
             window: Window::new(alloc, role, opening),
@@ -238,16 +238,16 @@ impl UpdateLog {
     }
 
     /// What the updates of both sides before `first` are worth beside their live HTLCs.
-    pub fn worth(&self) -> Worth
-        ensures { (l : Log) → StandsFor self.now l → result ≡ first_worth l }
+    pub fn balances(&self) -> Balances
+        ensures { (l : Log) → StandsFor self.now l → result ≡ first_balances l }
     {
-        self.window.worth()
+        self.window.balances()
     }
 
     /// The HTLCs of a side that the updates before `first` offer and don't remove, by rising id, as the updates that
     /// offered them.
     pub fn live(&self, side: Side) -> &[Update]
-        ensures { (l : Log) → StandsFor self.now l → result.now ≡ first_lives side l }
+        ensures { (l : Log) → StandsFor self.now l → result.now ≡ first_live_htlcs side l }
     {
         self.window.live(side)
     }
@@ -310,9 +310,9 @@ impl UpdateLog {
     }
 
     /// How many HTLCs, of both sides together, are live in a side's commitment.
-    pub fn live_htlcs(&self, side: Side) -> usize
+    pub fn live_htlc_count(&self, side: Side) -> usize
         ensures { (l : Log) → StandsFor self.now l → result ≡ live_in (covered l (counts_of (Pair.Current side) l)) }
     {
-        self.window.live_htlcs(side)
+        self.window.live_htlc_count(side)
     }
 }

@@ -13,7 +13,7 @@ ghost use Rattle.ln_log.specs.View.{live_of, live_adds, htlc_of, view_of, IsFund
 
 use crate::opening::Opening;
 use crate::outcome::Outcome;
-use crate::removals::{Outcomes, outcome_of};
+use crate::outcomes::{Outcomes, outcome_of};
 use crate::update::{Add, Update};
 use ln_keys::{Htlc, Htlcs, Role, View};
 use ln_msgs::Refusal;

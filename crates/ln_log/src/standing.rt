@@ -5,8 +5,8 @@ ghost use Rattle.ln_log.specs.Limits.{add_fault, fulfil_fault, fail_fault, malfo
 
 use crate::opening::Limits;
 use crate::outcome::Outcome;
+use crate::outcomes::outcome_of;
 use crate::plain::find_add;
-use crate::removals::outcome_of;
 use crate::update::{Add, Fulfil, Malformed, Update, removal_of};
 use ln_keys::{Role, sha256_32};
 use ln_msgs::Refusal;

@@ -4,44 +4,46 @@ use Rattle.ln_msgs.specs.declared.refusals.refusal.Refusal.{Refusal}
 use Rattle.ln_keys.specs.Signer.{Signer}
 use Rattle.ln_channel.specs.declared.output.Output.{Output}
 use Rattle.ln_channel.specs.State.{State}
-use Rattle.ln_link.specs.Saving.{Shelf}
-use Rattle.ln_turns.specs.Act.{Connects, Loads}
-use Rattle.ln_turns.specs.Sent.{loaded}
+use Rattle.ln_link.specs.Saving.{StoreView}
+use Rattle.ln_node_loops.specs.Act.{Connects, Loads}
+use Rattle.ln_node_loops.specs.Sent.{loaded}
 use Rattle.ln_node.specs.declared.opening.Beginning.{Beginning}
 use Rattle.ln_node.specs.Opening.{Held, BeginsAnew, Renews, Keeps, ConnectsBy, LoadsNew, LoadsOrRenews}
 use Rattle.ln_node.specs.Opening.{is_unopened, lacks_record}
 
-abbrev pub held : {K : Type 0} → K → State K → Shelf → Beginning → Held K
-held keys l shelf b = record { saved = record { keys = keys; link = l; shelf = shelf }; beginning = b }
+abbrev pub held : {K : Type 0} → K → State K → StoreView → Beginning → Held K
+held keys l store_view b = record { saved = record { keys = keys; link = l; store_view = store_view }; beginning = b }
 
-pub renewed : {K : Type 0} (keys : K) (l l' : State K) (shelf : Shelf) (b : Beginning)
+pub renewed : {K : Type 0} (keys : K) (l l' : State K) (store_view : StoreView) (b : Beginning)
     (said : Result (List Output) Refusal) → BeginsAnew keys b said l l'
-    → Renews (held keys l shelf b) said (held keys l' shelf b)
-renewed keys l l' shelf b said begins = record { link = begins; keys = refl; shelf = refl; beginning = refl }
+    → Renews (held keys l store_view b) said (held keys l' store_view b)
+renewed keys l l' store_view b said begins = record { link = begins; keys = refl; store_view = refl; beginning = refl }
 
 module _ {K : Type 0} (signer : K → Signer) where
   -- there is no new link
-  pub refused : (keys : K) (l l' : State K) (shelf : Shelf) (b : Beginning) (e : Refusal) → is_unopened l ≡ true
+  pub refused : (keys : K) (l l' : State K) (store_view : StoreView) (b : Beginning) (e : Refusal)
+      → is_unopened l ≡ true
       → BeginsAnew keys b (Err e) l l'
-      → ConnectsBy signer (is_unopened l) (held keys l shelf b) (Err e) (held keys l' shelf b)
-  refused keys l l' shelf b e is begins =
-      subst (λ t. ConnectsBy signer t (held keys l shelf b) (Err e) (held keys l' shelf b)) (sym is) (record {
+      → ConnectsBy signer (is_unopened l) (held keys l store_view b) (Err e) (held keys l' store_view b)
+  refused keys l l' store_view b e is begins =
+      subst (λ t. ConnectsBy signer t (held keys l store_view b) (Err e) (held keys l' store_view b)) (sym is) (record {
         anew = Err e;
-        between = held keys l' shelf b;
-        renews = renewed keys l l' shelf b (Err e) begins;
+        between = held keys l' store_view b;
+        renews = renewed keys l l' store_view b (Err e) begins;
         connects = (refl, refl);
       })
 
   -- a new link has the connection
-  pub connected : (keys : K) (l l' : State K) (shelf : Shelf) (b : Beginning) (said : Result (List Output) Refusal)
+  pub connected : (keys : K) (l l' : State K) (store_view : StoreView) (b : Beginning) (said : Result
+      (List Output) Refusal)
       (h' : Held K) → is_unopened l ≡ true → BeginsAnew keys b (Ok []) l l'
-      → Keeps signer (held keys l' shelf b) Connects said h'
-      → ConnectsBy signer (is_unopened l) (held keys l shelf b) said h'
-  connected keys l l' shelf b said h' is begins keeps =
-      subst (λ t. ConnectsBy signer t (held keys l shelf b) said h') (sym is) (record {
+      → Keeps signer (held keys l' store_view b) Connects said h'
+      → ConnectsBy signer (is_unopened l) (held keys l store_view b) said h'
+  connected keys l l' store_view b said h' is begins keeps =
+      subst (λ t. ConnectsBy signer t (held keys l store_view b) said h') (sym is) (record {
         anew = Ok [];
-        between = held keys l' shelf b;
-        renews = renewed keys l l' shelf b (Ok []) begins;
+        between = held keys l' store_view b;
+        renews = renewed keys l l' store_view b (Ok []) begins;
         connects = keeps;
       })
 

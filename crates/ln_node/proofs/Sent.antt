@@ -9,7 +9,7 @@ use Rattle.ln_forward.specs.contracts.checks.Policy as Policy
 use Rattle.ln_book.proofs.book.Book.TheSendSync as book
 use Rattle.ln_switch.specs.contracts.uses.Use as Use
 use Rattle.ln_switch.specs.contracts.seat.Seat as Seat
-use Rattle.ln_node.proofs.bell.Bell.TheSendSync as bell
+use Rattle.ln_node.proofs.wakeup.Wakeup.TheSendSync as wakeup
 use Rattle.ln_node.proofs.notices.Notices.TheSendSync as notices
 use Rattle.ln_node.specs.contracts.book.NodeBook as NodeBook
 use Rattle.ln_node.specs.contracts.book.SharedBook as SharedBook
@@ -52,7 +52,7 @@ shared_send O o =
         (
           search (sendable, crosses, once.the_send, once.the_sync) depth 9,
           (
-            search (sendable, crosses, bell.the_send, bell.the_sync) depth 9,
+            search (sendable, crosses, wakeup.the_send, wakeup.the_sync) depth 9,
             (
               search (sendable, crosses, notices.the_send, notices.the_sync) depth 9,
               (search sendable depth 9, tt),

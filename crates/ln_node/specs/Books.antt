@@ -1,8 +1,8 @@
 -- Which book the threads of a node's channels reach.
 use Rattle.std.specs.Arc.{arc_value}
-use Rattle.ln_tables.specs.declared.entry.Entry.{Entry}
+use Rattle.ln_book_tables.specs.declared.entry.Entry.{Entry}
 use Rattle.ln_history.specs.History.{History}
-use Rattle.ln_tables.specs.Replay.{Table}
+use Rattle.ln_book_tables.specs.Replay.{Table}
 use Rattle.ln_node.specs.declared.book.SharedBook.{SharedBook}
 use Rattle.ln_node.specs.declared.book.Common.{Common}
 

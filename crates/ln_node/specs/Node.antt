@@ -1,8 +1,8 @@
 -- What a contract sees of a node.
 use Rattle.ln_forward.specs.declared.checks.Policy.{Policy}
-use Rattle.ln_tables.specs.declared.entry.Entry.{Entry}
+use Rattle.ln_book_tables.specs.declared.entry.Entry.{Entry}
 use Rattle.ln_history.specs.History.{History}
-use Rattle.ln_tables.specs.Replay.{Table}
+use Rattle.ln_book_tables.specs.Replay.{Table}
 use Rattle.ln_node.specs.Books.{begun_in}
 use Rattle.ln_node.specs.declared.node.Node.{Node}
 

@@ -8,13 +8,13 @@ use Rattle.ln_msgs.specs.declared.refusals.refusal.Refusal.{Refusal}
 use Rattle.ln_msgs.specs.declared.refusals.refusal.Refusal.TheVariants as refusal
 use Rattle.ln_keys.specs.Signer.{Signer}
 use Rattle.ln_channel.specs.declared.output.Output.{Output}
-use Rattle.ln_channel.specs.declared.unsaved.Stage.TheVariants as stage
+use Rattle.ln_channel.specs.declared.machine.Stage.TheVariants as stage
 use Rattle.ln_channel.specs.Record.{saved_end}
 use Rattle.ln_channel.specs.State.{State, StandsFor, begun, is_down}
-use Rattle.ln_turns.specs.Act.{Act, Handles, Obeys, Connects, Drops, Loads}
-use Rattle.ln_turns.specs.Sent.{loaded}
-use Rattle.ln_turns.specs.Saved.{Saved}
-use Rattle.ln_turns.specs.Saved as saved
+use Rattle.ln_node_loops.specs.Act.{Act, Handles, Obeys, Connects, Drops, Loads}
+use Rattle.ln_node_loops.specs.Sent.{loaded}
+use Rattle.ln_node_loops.specs.Saved.{Saved}
+use Rattle.ln_node_loops.specs.Saved as saved
 use Rattle.ln_node.specs.declared.opening.Beginning.{Beginning}
 use Rattle.ln_node.specs.declared.opening.Beginning.TheVariants.{Fundee, Funder, Over}
 
@@ -44,14 +44,14 @@ BeginsAnew keys b (Err e) l l' = Begins keys b (Err e) × (l' ≡ l)
 pub record Renews {K : Type 0} (h : Held K) (said : Result (List Output) Refusal) (h' : Held K) : Type 0 where
   pub link : BeginsAnew h.saved.keys h.beginning said h.saved.link h'.saved.link
   pub keys : h'.saved.keys ≡ h.saved.keys
-  pub shelf : h'.saved.shelf ≡ h.saved.shelf
+  pub store_view : h'.saved.store_view ≡ h.saved.store_view
   pub beginning : h'.beginning ≡ h.beginning
 
 -- ---- what becomes of it
 
 -- it has no connection, and no opening that both have signed
 abbrev pub is_unopened : {K : Type 0} → State K → Bool
-is_unopened l = is_down l.line && (not l.halted && is_none (saved_end l.stage))
+is_unopened l = is_down l.connection && (not l.halted && is_none (saved_end l.stage))
 
 -- what answers it has a signature of the opening
 abbrev pub asks_to_sign : Message → Bool

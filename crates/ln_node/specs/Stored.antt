@@ -7,12 +7,12 @@ use Rattle.ln_channel.specs.State.{State}
 use Rattle.ln_store.specs.Store.{Records}
 use Rattle.ln_store.specs.Record.{record_at}
 use Rattle.ln_link.specs.Loading.{Loads}
-use Rattle.ln_readings.specs.Rebuild.{Reading, rebuilt}
-use Rattle.ln_switch.specs.Readings.{reading_by}
-use Rattle.ln_tables.specs.declared.entry.Entry.{Entry}
+use Rattle.ln_book_recovery.specs.Rebuild.{ChannelSnapshot, rebuilt}
+use Rattle.ln_switch.specs.Snapshots.{snapshot_by}
+use Rattle.ln_book_tables.specs.declared.entry.Entry.{Entry}
 use Rattle.ln_history.specs.History.{History, begun_with}
-use Rattle.ln_tables.specs.Replay.{Table, no_table}
-use Rattle.ln_turns.specs.Saved.{record_in}
+use Rattle.ln_book_tables.specs.Replay.{Table, no_table}
+use Rattle.ln_node_loops.specs.Saved.{record_in}
 use Rattle.ln_node.specs.declared.stored.Loaded.{Loaded}
 use Rattle.ln_node.specs.declared.stored.Stored.{Stored}
 
@@ -45,11 +45,12 @@ abbrev pub loaded_end : {K S T : Type 0} → Loaded K S T → Option End
 loaded_end l = saved_end l.end.saved.value.link.stage
 
 -- of all of them, in their order
-abbrev pub readings_of : {K S T : Type 0} → List (Loaded K S T) → List Reading
-readings_of [] = []
-readings_of (l ∷ ls) = reading_by (loaded_end l) ++ readings_of ls
+abbrev pub channel_snapshots_of : {K S T : Type 0} → List (Loaded K S T) → List ChannelSnapshot
+channel_snapshots_of [] = []
+channel_snapshots_of (l ∷ ls) = snapshot_by (loaded_end l) ++ channel_snapshots_of ls
 
 -- a book that begins with what the links have that come back from these stores
 abbrev pub BeginsWithAll : {K S T : Type 0} → (S → Records) → List (Stored K S T) → History Table Entry → Type 0
 BeginsWithAll {K} {S} {T} records stored b =
-    (ls : List (Loaded K S T)) × AreLoaded records stored ls × (b ≡ begun_with (rebuilt no_table (readings_of ls)))
+    (ls : List (Loaded K S T)) × AreLoaded records stored ls
+    × (b ≡ begun_with (rebuilt no_table (channel_snapshots_of ls)))

@@ -3,9 +3,9 @@
 ghost use Rattle.std.specs.Prelude.{◌≡◌, [], IfOk};
 ghost use Rattle.ln_switch.specs.Seats.{policy_of};
 
-use crate::bell::Bell;
 use crate::notices::Notices;
 use crate::opening::NodeLink;
+use crate::wakeup::Wakeup;
 use ln_book::Book;
 use ln_channel::Command;
 use ln_forward::Policy;
@@ -13,9 +13,9 @@ use ln_hooks::{ChannelEvent, Verdict};
 use ln_keys::{ChannelKeys, Onion};
 use ln_log::{ChannelId, Mark};
 use ln_msgs::Refusal;
+use ln_node_loops::{Books, Notice, ReadsEnds};
 use ln_store::RecordStore;
 use ln_switch::{Seat, Use, use_of, waits};
-use ln_turns::{Books, Notice, ReadsEnds};
 use std::alloc::{AllocError, Global};
 use std::snapshot::Snapshot;
 use std::sync::{Arc, Mutex, OnceLock, Wait};
@@ -48,7 +48,7 @@ pub struct SharedBook<O: Drop> {
     // The channel, once both have signed its opening.
     id: Arc<OnceLock<ChannelId>>,
     // Sounds where a worker of the node may have something to do.
-    bell: Arc<Bell>,
+    wakeup: Arc<Wakeup>,
     notices: Arc<Notices>,
     // The channel's number.
     number: usize,
@@ -64,7 +64,7 @@ pub(crate) struct Common<O: Drop> {
     /// What it asks for forwarding.
     pub(crate) policy: Policy,
     /// Sounds where a worker may have something to do.
-    pub(crate) bell: Arc<Bell>,
+    pub(crate) wakeup: Arc<Wakeup>,
     /// What has become of its channels.
     pub(crate) notices: Arc<Notices>,
 }
@@ -87,7 +87,7 @@ impl<O: Onion + Copy + Drop> SharedBook<O> {
             book: Arc::try_clone(&common.book)?,
             seat: Seat::new(common.onion, common.policy),
             id,
-            bell: Arc::try_clone(&common.bell)?,
+            wakeup: Arc::try_clone(&common.wakeup)?,
             notices: Arc::try_clone(&common.notices)?,
             number,
         })
@@ -136,7 +136,7 @@ impl<O: Onion + Copy + Drop> Books for SharedBook<O> {
         let mut book = self.book.kept.lock(rt);
         self.seat.answered(&mut book, channel, answer);
         if !waits(answer) {
-            self.bell.ring();
+            self.wakeup.ring();
         }
     }
 
@@ -149,7 +149,7 @@ impl<O: Onion + Copy + Drop> Books for SharedBook<O> {
     ) -> Result<(), Refusal> {
         let mut book = self.book.kept.lock(rt);
         let done = self.seat.settled(alloc, &mut book, channel, told);
-        self.bell.ring();
+        self.wakeup.ring();
         done
     }
 
@@ -171,7 +171,7 @@ impl<O: Onion + Copy + Drop> Books for SharedBook<O> {
                 if let Mark::Held(held) = mark {
                     self.notices.add(rt, self.number, Notice::Held(held));
                 }
-                self.bell.ring();
+                self.wakeup.ring();
                 Ok(())
             }
             Err(refusal) => Err(refusal),
@@ -185,7 +185,7 @@ impl<O: Onion + Copy + Drop> SharedBook<O> {
     ghost use Rattle.ln_switch.specs.Saying.{uses};
 
     // Tells the book which payments the channel's end takes, unless it was told last.
-    fn tell_use<R: Wait>(&mut self, rt: &R, used: Use) -> Result<(), Refusal>
+    fn notify_use<R: Wait>(&mut self, rt: &R, used: Use) -> Result<(), Refusal>
         ensures says_the_use { OnOk result (said self.new.seat ≡ said self.old.seat ++ uses used ∷ []) }
         ensures says_nothing_if_refused { OnErr result (said self.new.seat ≡ said self.old.seat) }
     {
@@ -195,7 +195,7 @@ impl<O: Onion + Copy + Drop> SharedBook<O> {
         }
         let mut book = self.book.kept.lock(rt);
         let done = self.seat.follow(&mut book, used);
-        self.bell.ring();
+        self.wakeup.ring();
         done
     }
 
@@ -219,27 +219,27 @@ where
         alloc: Global,
         end: &NodeLink<K, S>,
     ) -> Result<(), Refusal> {
-        match end.saved.link.unsaved().saved() {
+        match end.saved.link.channel_machine().saved() {
             None => Ok(()),
             Some(channel) => {
                 let mut book = self.book.kept.lock(rt);
                 let done = self.seat.dropped(alloc, &mut book, channel);
-                self.bell.ring();
+                self.wakeup.ring();
                 done
             }
         }
     }
 
     fn follow<R: Wait>(&mut self, rt: &R, end: &NodeLink<K, S>) -> Result<(), Refusal> {
-        let unsaved = end.saved.link.unsaved();
-        match unsaved.saved() {
+        let channel_machine = end.saved.link.channel_machine();
+        match channel_machine.saved() {
             None => Ok(()),
             Some(channel) => {
                 // An opening whose first save failed may be lost yet.
-                if !unsaved.is_halted() {
+                if !channel_machine.is_halted() {
                     self.publish(rt, channel.id());
                 }
-                self.tell_use(rt, use_of(unsaved, channel))
+                self.notify_use(rt, use_of(channel_machine, channel))
             }
         }
     }
@@ -249,10 +249,10 @@ where
     }
 
     fn sounds(&self) -> u64 {
-        self.bell.sounds()
+        self.wakeup.sounds()
     }
 
-    fn rest<R: Wait>(&self, rt: &R, sounds: u64, refused: u64) {
-        self.bell.rest(rt, sounds, refused);
+    fn wait<R: Wait>(&self, rt: &R, sounds: u64, refused: u64) {
+        self.wakeup.wait(rt, sounds, refused);
     }
 }

@@ -1,14 +1,14 @@
 //! What a node has of a channel: its threads, and the seats that callers use.
 
-use crate::bell::Bell;
 use crate::reader::Connections;
-use crate::seat::{PatientSeat, RingingSeat};
+use crate::seat::{PatientSeat, WakingSeat};
 use crate::socket::Socket;
 use crate::start::{start_dispatcher, start_reader, start_worker};
+use crate::wakeup::Wakeup;
 use ln_channel::Command;
 use ln_msgs::Message;
+use ln_node_loops::{End, Item, ReadsEnds, Table, Task, Worker, WorkerLoop, put};
 use ln_relay::{RecvSeat, SendSeat, Sends, WaitRecv, WaitSend, relay, waiting_relay};
-use ln_turns::{Bench, End, Item, ReadsEnds, Table, Task, Worker, put};
 use std::alloc::{AllocError, Global};
 use std::net::{Net, SocketAddr, TcpListener, TcpStream};
 use std::sync::{Arc, Mutex, Wait};
@@ -21,13 +21,19 @@ const ITEMS: usize = 256;
 const TASKS: usize = 1024;
 
 /// A sender's seat of a worker's relay.
-pub(crate) type ItemSeat = RingingSeat<SendSeat<Item<Socket>>>;
+pub(crate) type ItemSeat = WakingSeat<SendSeat<Item<Socket>>>;
 
 /// That of a reader.
 pub(crate) type ReadSeat = PatientSeat<ItemSeat>;
 
 /// A worker with its seats.
-pub(crate) type EndBench<E, H, B> = Bench<E, Socket, RecvSeat<Item<Socket>>, WaitSend<Task<H>>, B>;
+pub(crate) type EndBench<E, H, B> = WorkerLoop<
+    E,
+    Socket,
+    RecvSeat<Item<Socket>>,
+    WaitSend<Task<H>>,
+    B,
+>;
 
 /// A channel of a node, whose end is an `E`.
 #[derive(Drop)]
@@ -47,13 +53,13 @@ pub(crate) struct Parts<E: Drop, B: Drop, T: Drop> {
     /// The end that its worker has.
     pub(crate) end: E,
     /// The init that greets its peer.
-    pub(crate) greeting: Box<Message>,
+    pub(crate) own_init: Box<Message>,
     /// The node's book, as its worker reaches it.
     pub(crate) book: B,
     /// And as its dispatcher does.
     pub(crate) decisions: B,
     /// Sounds where its worker may have something to do.
-    pub(crate) bell: Arc<Bell>,
+    pub(crate) wakeup: Arc<Wakeup>,
     /// The table of its hooks.
     pub(crate) table: T,
     pub(crate) connections: Arc<Connections>,
@@ -105,7 +111,7 @@ fn stop_worker<E: Drop, H: Drop, B: Drop, R: Threads + Wait>(
 ) -> E {
     let mut seat = seat;
     put(rt, &mut seat, Item::Stop);
-    let Bench {
+    let WorkerLoop {
         worker,
         items: _,
         tasks: _,
@@ -213,7 +219,7 @@ where
     R: Threads + Wait + Copy + Send + 'static,
 {
     let theirs = Arc::try_clone(&parts.connections)?;
-    let again = Arc::try_clone(&parts.bell)?;
+    let again = Arc::try_clone(&parts.wakeup)?;
     let Seats {
         first,
         orders,
@@ -224,24 +230,27 @@ where
     } = new_seats::<H>(alloc)?;
     let Parts {
         end,
-        greeting,
+        own_init,
         book,
         decisions,
-        bell,
+        wakeup,
         table,
         connections,
         listener,
         bound,
     } = parts;
     let first = PatientSeat {
-        seat: RingingSeat { seat: first, bell },
-        bell: Bell::new(),
+        seat: WakingSeat {
+            seat: first,
+            wakeup,
+        },
+        wakeup: Wakeup::new(),
     };
-    let orders = RingingSeat {
+    let orders = WakingSeat {
         seat: orders,
-        bell: again,
+        wakeup: again,
     };
-    let bench = Bench {
+    let work = WorkerLoop {
         worker: Worker::new(end),
         items,
         tasks: events,
@@ -260,7 +269,7 @@ where
         WaitSend<Task<H>>,
         B,
         R,
-    >(rt, alloc, greeting, bench) else {
+    >(rt, alloc, own_init, work) else {
         stop_dispatcher(&rt, hooks, dispatcher);
         return Err(AllocError);
     };

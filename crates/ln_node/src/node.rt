@@ -1,13 +1,14 @@
 //! A node: its channels, each with its threads, and the book of its payments.
 
-use crate::bell::Bell;
 use crate::book::{Common, NodeBook, SharedBook};
 use crate::channel::{ChannelThreads, Parts, start};
 use crate::notices::Notices;
 use crate::opening::NodeLink;
 use crate::reader::Connections;
 use crate::stored::{Loaded, Stored, load_all, rebuilt_book};
+use crate::wakeup::Wakeup;
 use ln_book::Book;
+use ln_book_tables::HeldHtlc;
 use ln_bytes::Bytes;
 use ln_channel::{Command, FitConfig, FitSpec};
 use ln_forward::Policy;
@@ -15,9 +16,8 @@ use ln_hooks::Verdict;
 use ln_keys::{ChannelKeys, Onion};
 use ln_log::{ChannelId, Mark};
 use ln_msgs::{Init, Message, Records, Refusal};
+use ln_node_loops::{End, Notice, ReadsEnds, Table};
 use ln_store::RecordStore;
-use ln_tables::HeldHtlc;
-use ln_turns::{End, Notice, ReadsEnds, Table};
 use std::alloc::{AllocError, Global};
 use std::net::{Net, OpenListener, SocketAddr, TcpListener, TcpStream};
 use std::sync::atomic::{AtomicU64, Ordering};
@@ -39,15 +39,15 @@ pub struct Node<K: ChannelKeys + Copy, S: Drop, O: Drop, H: Drop, T: Drop> {
 // What a new channel has of its node.
 #[derive(Drop)]
 struct Shares<O: Drop> {
-    greeting: Box<Message>,
+    own_init: Box<Message>,
     book: SharedBook<O>,
     decisions: SharedBook<O>,
-    bell: Arc<Bell>,
+    wakeup: Arc<Wakeup>,
     connections: Arc<Connections>,
 }
 
 // The init that greets peers (BOLT 1, "The `init` Message"): no features.
-fn greeting(alloc: Global) -> Result<Box<Message>, AllocError> {
+fn own_init(alloc: Global) -> Result<Box<Message>, AllocError> {
     let init = Init {
         global_features: Bytes::new(Vec::new(alloc)),
         features: Bytes::new(Vec::new(alloc)),
@@ -132,7 +132,7 @@ where
             book: Arc::new(alloc, NodeBook::new(book))?,
             onion,
             policy,
-            bell: Arc::new(alloc, Bell::new())?,
+            wakeup: Arc::new(alloc, Wakeup::new())?,
             notices: Arc::new(alloc, Notices::new(alloc))?,
         };
         Ok(Node {
@@ -171,15 +171,15 @@ where
         ensures nothing_was_said { IfOk result (λ s. (seats.said s.book.seat ≡ [])
             × (seats.said s.decisions.seat ≡ [])) }
     {
-        let greeting = greeting(alloc)?;
-        let bell = Arc::try_clone(&self.common.bell)?;
+        let own_init = own_init(alloc)?;
+        let wakeup = Arc::try_clone(&self.common.wakeup)?;
         let connections = self.connections(alloc)?;
         let (book, decisions) = SharedBook::pair(alloc, &self.common, self.channels.len())?;
         Ok(Shares {
-            greeting,
+            own_init,
             decisions,
             book,
-            bell,
+            wakeup,
             connections,
         })
     }
@@ -200,20 +200,20 @@ where
         ensures settings_stay { self.new.common ≡ self.old.common }
     {
         let Shares {
-            greeting,
+            own_init,
             book,
             decisions,
-            bell,
+            wakeup,
             connections,
         } = shares;
         self.ids.reserve(1)?;
         let id = book.id()?;
         let parts = Parts {
             end,
-            greeting,
+            own_init,
             book,
             decisions,
-            bell,
+            wakeup,
             table,
             connections,
             listener,
@@ -326,7 +326,7 @@ where
         ensures settings_stay { self.new.common ≡ self.old.common }
     {
         let shares = self.shares(alloc)?;
-        if let Some(channel) = end.saved.link.unsaved().saved() {
+        if let Some(channel) = end.saved.link.channel_machine().saved() {
             let _ = shares.book.id()?.set(&rt, channel.id());
         }
         let Some(address) = address else {
@@ -423,7 +423,7 @@ where
             .kept
             .lock(rt)
             .resume(alloc, &self.common.onion, id, number, verdict);
-        self.common.bell.ring();
+        self.common.wakeup.ring();
         answer
     }
 

@@ -1,6 +1,6 @@
 //! What has become of the channels of a node, for its user to look at.
 
-use ln_turns::Notice;
+use ln_node_loops::Notice;
 use std::alloc::Global;
 use std::mem;
 use std::sync::{Mutex, Wait};

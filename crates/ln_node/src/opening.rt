@@ -3,19 +3,19 @@
 ghost use Rattle.std.specs.Prelude.{◌≡◌, Ok, IfOk, IfErr};
 ghost use Rattle.ln_msgs.specs.declared.refusals.refusal.Refusal.TheVariants as refusal;
 ghost use Rattle.ln_channel.specs.State.{State, StandsFor};
-ghost use Rattle.ln_turns.specs.Sent.{loaded};
+ghost use Rattle.ln_node_loops.specs.Sent.{loaded};
 ghost use Rattle.ln_node.specs.declared.opening.Beginning.TheVariants.{Fundee, Funder, Over};
 ghost use Rattle.ln_node.specs.Opening.{Begins, BeginsAnew, is_unopened, asks_to_sign, lacks_record};
 
 use ln_bytes::{Bytes, Record};
-use ln_channel::{Command, Config, FitConfig, FitSpec, OpenSpec, Output, Unsaved};
+use ln_channel::{ChannelMachine, Command, Config, FitConfig, FitSpec, OpenSpec, Output};
 use ln_hooks::ChannelEvent;
 use ln_keys::ChannelKeys;
 use ln_link::Link;
 use ln_log::ChannelId;
 use ln_msgs::{Message, Records, Refusal};
+use ln_node_loops::{End, SavedLink};
 use ln_store::RecordStore;
-use ln_turns::{End, SavedLink};
 use std::alloc::Global;
 
 /// What a new link in the place of an end's begins with.
@@ -41,12 +41,43 @@ pub(crate) struct NodeLink<K: ChannelKeys + Copy, S: Drop> {
 
 // ---- a new link
 
+// The same settings. Error: 60 alone.
+fn copy_config(config: &Config) -> Result<Config, Refusal>
+    ensures copy { IfOk result (λ c. c ≡ config.now) }
+    ensures fails_for_memory_alone { IfErr result (λ r. r ≡ refusal.Memory) }
+{
+    Ok(config.clone()?)
+}
+
+// The same records. Error: 60 alone.
+fn copy_records(records: &Records) -> Result<Records, Refusal>
+    ensures copy { IfOk result (λ r. r ≡ records.now) }
+    ensures fails_for_memory_alone { IfErr result (λ r. r ≡ refusal.Memory) }
+{
+    Ok(records.clone()?)
+}
+
+// The same of what a funder opens a channel with. Error: 60 alone.
+fn copy_spec(spec: &FitSpec) -> Result<FitSpec, Refusal>
+    ensures copy { IfOk result (λ s. s ≡ spec.now) }
+    ensures fails_for_memory_alone { IfErr result (λ r. r ≡ refusal.Memory) }
+{
+    let spec = spec.get();
+    Ok(FitSpec::new(OpenSpec {
+        config: copy_config(&spec.config)?,
+        funding: spec.funding,
+        push: spec.push,
+        feerate: spec.feerate,
+        flags: spec.flags,
+        temporary_id: spec.temporary_id,
+        txid: spec.txid,
+        output: spec.output,
+        records: copy_records(&spec.records)?,
+    }))
+}
+
 // The link that begins so. 40 where there is none; 60 where there is no memory.
-fn new_link<K: ChannelKeys + Copy>(
-    alloc: Global,
-    keys: K,
-    beginning: &Beginning,
-) -> Result<Link<K>, Refusal>
+fn new_link<K: ChannelKeys + Copy>(keys: K, beginning: &Beginning) -> Result<Link<K>, Refusal>
     ensures { Begins keys beginning.now result }
 {
     match beginning {
@@ -54,7 +85,7 @@ fn new_link<K: ChannelKeys + Copy>(
             Ok(config) => Ok(Link::fundee(keys, config)),
             Err(_) => Err(Refusal::Memory),
         },
-        Beginning::Funder(spec) => match spec.clone() {
+        Beginning::Funder(spec) => match copy_spec(spec) {
             Ok(spec) => Ok(Link::funder(keys, spec)),
             Err(_) => Err(Refusal::Memory),
         },
@@ -71,14 +102,13 @@ fn replace<T: Drop>(place: &mut T, value: T)
 
 // A new link in the place of one. 40 where there is none; 60 where there is no memory.
 fn begin_anew<K: ChannelKeys + Copy>(
-    alloc: Global,
     keys: K,
     beginning: &Beginning,
     link: &mut Link<K>,
 ) -> Result<(), Refusal>
     ensures { BeginsAnew keys beginning.now (loaded result) link.old link.new }
 {
-    match new_link(alloc, keys, beginning) {
+    match new_link(keys, beginning) {
         Ok(new) => {
             replace(link, new);
             Ok(())
@@ -88,10 +118,10 @@ fn begin_anew<K: ChannelKeys + Copy>(
 }
 
 // Whether a link has no connection, and no opening that both have signed.
-fn is_unopened<K: ChannelKeys + Drop>(link: &Unsaved<K>) -> bool
+fn is_unopened<K: ChannelKeys + Drop>(link: &ChannelMachine<K>) -> bool
     ensures { (l : State K) → StandsFor link.now l → result ≡ is_unopened l }
 {
-    link.line().is_down() && !link.is_halted() && link.saved().is_none()
+    link.connection().is_down() && !link.is_halted() && link.saved().is_none()
 }
 
 // Whether what answers a message has a signature of the opening.
@@ -133,7 +163,7 @@ fn new_saved<K: ChannelKeys + Copy, S: Drop>(
     ensures keeps_keys { IfOk result (λ s. s.value.keys ≡ keys) }
     ensures keeps_store { IfOk result (λ s. s.value.store ≡ store) }
 {
-    match new_link(alloc, keys, beginning) {
+    match new_link(keys, beginning) {
         Ok(link) => boxed(alloc, SavedLink { keys, link, store }),
         Err(refusal) => Err(refusal),
     }
@@ -223,7 +253,7 @@ impl<K: ChannelKeys + Copy, S: RecordStore + Drop> End for NodeLink<K, S> {
       saved = record {
         keys = e.saved.value.keys;
         link = e.saved.value.link;
-        shelf = record { records = S.records e.saved.value.store; failed = S.failed e.saved.value.store };
+        store_view = record { records = S.records e.saved.value.store; failed = S.failed e.saved.value.store };
       };
       beginning = e.beginning.value;
     } };
@@ -254,13 +284,8 @@ impl<K: ChannelKeys + Copy, S: RecordStore + Drop> End for NodeLink<K, S> {
     }
 
     fn connect(&mut self, alloc: Global) -> Result<Vec<Output>, Refusal> {
-        if is_unopened(self.saved.link.unsaved()) {
-            match begin_anew(
-                alloc,
-                self.saved.keys,
-                &self.beginning,
-                &mut self.saved.link,
-            ) {
+        if is_unopened(self.saved.link.channel_machine()) {
+            match begin_anew(self.saved.keys, &self.beginning, &mut self.saved.link) {
                 Ok(()) => return self.saved.connect(alloc),
                 Err(refusal) => return Err(refusal),
             }
@@ -275,12 +300,7 @@ impl<K: ChannelKeys + Copy, S: RecordStore + Drop> End for NodeLink<K, S> {
     fn load(&mut self, alloc: Global) -> Result<(), Refusal> {
         let answer = self.saved.load(alloc);
         if lacks_record(answer) {
-            return begin_anew(
-                alloc,
-                self.saved.keys,
-                &self.beginning,
-                &mut self.saved.link,
-            );
+            return begin_anew(self.saved.keys, &self.beginning, &mut self.saved.link);
         }
         answer
     }

@@ -1,11 +1,11 @@
 //! The thread of a channel's connections.
 
-use crate::bell::Bell;
 use crate::notices::Notices;
 use crate::socket::Socket;
+use crate::wakeup::Wakeup;
 use ln_msgs::Counted;
+use ln_node_loops::{Item, Notice, reader_loop};
 use ln_relay::Sends;
-use ln_turns::{Item, Notice, reader_loop};
 use std::alloc::Global;
 use std::io;
 use std::net::{OpenStream, Shutdown, TcpListener, TcpStream};
@@ -20,7 +20,7 @@ pub(crate) struct Connections {
     // The one that is read next.
     next: Mutex<Option<TcpStream>>,
     // Sounds where there is a next one, or the node stops.
-    bell: Bell,
+    wakeup: Wakeup,
     // 1 once the node stops.
     stopping: Arc<AtomicU64>,
     notices: Arc<Notices>,
@@ -37,7 +37,7 @@ impl Connections {
         Connections {
             open: Mutex::new(None),
             next: Mutex::new(None),
-            bell: Bell::new(),
+            wakeup: Wakeup::new(),
             stopping,
             notices,
             channel,
@@ -58,13 +58,13 @@ impl Connections {
 
     /// Wakes a reader that waits for the next one.
     pub(crate) fn wake(&self) {
-        self.bell.ring();
+        self.wakeup.ring();
     }
 
     /// Has this one read next, once the one that is open is over.
     pub(crate) fn follow<R: Wait>(&self, rt: &R, stream: TcpStream) {
         *self.next.lock(rt) = Some(stream);
-        self.bell.ring();
+        self.wakeup.ring();
     }
 
     // The next one.
@@ -125,11 +125,11 @@ impl Connections {
         listener: &TcpListener,
         seat: S,
     ) -> S {
-        let sounds = self.bell.sounds();
+        let sounds = self.wakeup.sounds();
         match listener.accept() {
             Ok((stream, _)) => self.read_one(rt, alloc, stream, seat),
             Err(_) => {
-                self.bell.rest(rt, sounds, 0);
+                self.wakeup.wait(rt, sounds, 0);
                 seat
             }
         }
@@ -142,12 +142,12 @@ impl Connections {
         alloc: Global,
         seat: S,
     ) -> S {
-        let sounds = self.bell.sounds();
+        let sounds = self.wakeup.sounds();
         match self.next(rt) {
             Some(stream) => self.read_one(rt, alloc, stream, seat),
             None => {
                 if !self.stops() {
-                    self.bell.rest(rt, sounds, 0);
+                    self.wakeup.wait(rt, sounds, 0);
                 }
                 seat
             }

@@ -1,19 +1,19 @@
 //! Senders' seats that wake the receiver, or wait for it.
 
-use crate::bell::Bell;
+use crate::wakeup::Wakeup;
 use ln_relay::Sends;
 use std::sync::{Arc, Wait};
 
-/// A sender's seat that sounds a bell after each item that it has put.
+/// A sender's seat that sounds a wake-up after each item that it has put.
 #[derive(Drop)]
-pub(crate) struct RingingSeat<S: Drop> {
+pub(crate) struct WakingSeat<S: Drop> {
     /// The seat.
     pub(crate) seat: S,
-    /// The bell.
-    pub(crate) bell: Arc<Bell>,
+    /// The wake-up.
+    pub(crate) wakeup: Arc<Wakeup>,
 }
 
-impl<T: Drop, S: Sends<T> + Drop> Sends<T> for RingingSeat<S> {
+impl<T: Drop, S: Sends<T> + Drop> Sends<T> for WakingSeat<S> {
     ghost Relay = { S.Relay };
 
     ghost position = { λ s. S.position s.seat };
@@ -23,7 +23,7 @@ impl<T: Drop, S: Sends<T> + Drop> Sends<T> for RingingSeat<S> {
     fn send<R: Wait>(&mut self, rt: &R, item: T) -> Result<(), T> {
         let sent = self.seat.send(rt, item);
         if sent.is_ok() {
-            self.bell.ring();
+            self.wakeup.ring();
         }
         sent
     }
@@ -35,7 +35,7 @@ pub(crate) struct PatientSeat<S: Drop> {
     /// The seat.
     pub(crate) seat: S,
     /// It doesn't sound.
-    pub(crate) bell: Bell,
+    pub(crate) wakeup: Wakeup,
 }
 
 impl<T: Drop, S: Sends<T> + Drop> Sends<T> for PatientSeat<S> {
@@ -48,7 +48,7 @@ impl<T: Drop, S: Sends<T> + Drop> Sends<T> for PatientSeat<S> {
     fn send<R: Wait>(&mut self, rt: &R, item: T) -> Result<(), T> {
         let sent = self.seat.send(rt, item);
         if sent.is_err() {
-            self.bell.pause(rt);
+            self.wakeup.pause(rt);
         }
         sent
     }

@@ -1,6 +1,6 @@
 //! Connections.
 
-use ln_turns::Closes;
+use ln_node_loops::Closes;
 use std::io;
 use std::io::{Read, Write};
 use std::net::{Shutdown, TcpStream};

@@ -3,10 +3,10 @@
 use crate::reader::Connections;
 use crate::socket::Socket;
 use ln_msgs::Message;
-use ln_relay::{Receives, Sends, Waits};
-use ln_turns::{
-    Bench, Books, Closes, End, Item, ReadsEnds, Table, Task, dispatch_loop, worker_loop,
+use ln_node_loops::{
+    Books, Closes, End, Item, ReadsEnds, Table, Task, WorkerLoop, dispatch_loop, worker_loop,
 };
+use ln_relay::{Receives, Sends, Waits};
 use std::alloc::Global;
 use std::net::TcpListener;
 use std::sync::{Arc, Wait};
@@ -36,9 +36,9 @@ where
 pub(crate) fn start_worker<E, W, I, H, T, B, R>(
     rt: R,
     alloc: Global,
-    greeting: Box<Message>,
-    bench: Bench<E, W, I, T, B>,
-) -> Option<JoinHandle<Bench<E, W, I, T, B>>>
+    own_init: Box<Message>,
+    work: WorkerLoop<E, W, I, T, B>,
+) -> Option<JoinHandle<WorkerLoop<E, W, I, T, B>>>
 where
     E: End + Drop + Send + 'static,
     W: Closes + Drop + Send + 'static,
@@ -50,7 +50,7 @@ where
 {
     thread::spawn(
         &rt,
-        move || worker_loop::<E, W, I, H, T, B, R>(&rt, alloc, &greeting, &[], bench),
+        move || worker_loop::<E, W, I, H, T, B, R>(&rt, alloc, &own_init, &[], work),
     )
     .ok()
 }

@@ -2,20 +2,20 @@
 
 ghost use Rattle.std.specs.Prelude.{◌≡◌, IfOk};
 ghost use Rattle.ln_history.specs.History.{begun_with};
-ghost use Rattle.ln_tables.specs.Replay.{no_table};
-ghost use Rattle.ln_readings.specs.Rebuild.{rebuilt};
-ghost use Rattle.ln_node.specs.Stored.{first_record, ComesFrom, IsLoaded, AreLoaded, readings_of};
+ghost use Rattle.ln_book_tables.specs.Replay.{no_table};
+ghost use Rattle.ln_book_recovery.specs.Rebuild.{rebuilt};
+ghost use Rattle.ln_node.specs.Stored.{first_record, ComesFrom, IsLoaded, AreLoaded, channel_snapshots_of};
 
 use crate::opening::NodeLink;
 use ln_book::Book;
+use ln_book_recovery::ChannelSnapshot;
 use ln_bytes::Bytes;
 use ln_keys::ChannelKeys;
 use ln_link::Link;
 use ln_msgs::Refusal;
-use ln_readings::Reading;
+use ln_node_loops::SavedLink;
 use ln_store::RecordStore;
 use ln_switch::read_end;
-use ln_turns::SavedLink;
 use std::alloc::Global;
 use std::net::SocketAddr;
 
@@ -130,17 +130,21 @@ pub(crate) fn load_all<K: ChannelKeys + Copy, S: RecordStore + Drop, T: Drop>(
 }
 
 // What channels have of payments.
-fn readings<K: ChannelKeys + Copy, S: Drop, T: Drop>(
+fn snapshots<K: ChannelKeys + Copy, S: Drop, T: Drop>(
     alloc: Global,
     loaded: &[Loaded<K, S, T>],
-) -> Result<Vec<Reading>, Refusal>
-    ensures reads_all { IfOk result (λ rs. rs.items ≡ readings_of loaded.now) }
+) -> Result<Vec<ChannelSnapshot>, Refusal>
+    ensures reads_all { IfOk result (λ rs. rs.items ≡ channel_snapshots_of loaded.now) }
 {
-    let mut readings = Vec::new(alloc);
+    let mut snapshots = Vec::new(alloc);
     for one in loaded {
-        read_end(alloc, one.end.saved.link.unsaved().saved(), &mut readings)?;
+        read_end(
+            alloc,
+            one.end.saved.link.channel_machine().saved(),
+            &mut snapshots,
+        )?;
     }
-    Ok(readings)
+    Ok(snapshots)
 }
 
 /// A book that begins with what its node's channels have of payments. Takes memory.
@@ -148,11 +152,11 @@ pub(crate) fn rebuilt_book<K: ChannelKeys + Copy, S: Drop, T: Drop>(
     alloc: Global,
     loaded: &[Loaded<K, S, T>],
 ) -> Result<Book, Refusal>
-    ensures begins_with_all { IfOk result (λ b. b ≡ begun_with (rebuilt no_table (readings_of loaded.now))) }
+    ensures begins_with_all { IfOk result (λ b. b ≡ begun_with (rebuilt no_table (channel_snapshots_of loaded.now))) }
 {
-    let readings = readings(alloc, loaded)?;
+    let snapshots = snapshots(alloc, loaded)?;
     let mut book = Book::new(alloc);
-    match book.rebuild(alloc, readings.as_slice()) {
+    match book.rebuild(alloc, snapshots.as_slice()) {
         Ok(()) => Ok(book),
         Err(refusal) => Err(refusal),
     }

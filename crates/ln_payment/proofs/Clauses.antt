@@ -1,26 +1,27 @@
 -- What the clauses of what is kept give of a payment, one by one.
 use Rattle.std.proofs.Common.{◌≡◌, ◌⊎◌, inl, inr, ℕ, List, [], ◌∷◌, refl, sym}
 use Rattle.std.proofs.Common.{subst, Option, Some}
-use Rattle.ln_payment.specs.Parts.{Among, Answer, Back, By, Decided, Decision, Each, Forward, Gone, Hold, IsHeld}
-use Rattle.ln_payment.specs.Parts.{Kind, Mark, NoRemoval, Note, Nowhere, Offered, Open, Out, Over, Past, Refused}
-use Rattle.ln_payment.specs.Parts.{Removal, Sent, Settled, Stage, Undecided, Way}
+use Rattle.ln_payment.specs.Parts.{Among, Answer, IncomingLeg, By, Decided, Decision, Each, Forward, RemovalRefused}
+use Rattle.ln_payment.specs.Parts.{Hold, IsHeld}
+use Rattle.ln_payment.specs.Parts.{Kind, Mark, NoRemoval, Note, Absent, Offered, Open, Out, Resolved, Past, Refused}
+use Rattle.ln_payment.specs.Parts.{Removal, RemovalSent, Settled, Stage, Undecided, OutgoingLeg}
 use Rattle.ln_payment.specs.Moves.{IsAnswer}
 use Rattle.ln_payment.proofs.Invariant.{IsEarly, IsForwarded, IsSettledOnly, MarkIs, NotAgain, Waits}
 
-abbrev pub noted : Mark → Way → Back → Note
-noted m w l = record { mark = m; way = w; back = l }
+abbrev pub noted : Mark → OutgoingLeg → IncomingLeg → Note
+noted m w l = record { mark = m; outgoing = w; incoming = l }
 
-pub again_none : (m : Mark) (w : Way) (l : Back) → NotAgain m w l NoRemoval
-again_none Forward Nowhere Open = refl
-again_none Forward Nowhere Sent = refl
-again_none Forward Nowhere Gone = refl
-again_none Forward Nowhere Settled = tt
+pub again_none : (m : Mark) (w : OutgoingLeg) (l : IncomingLeg) → NotAgain m w l NoRemoval
+again_none Forward Absent Open = refl
+again_none Forward Absent RemovalSent = refl
+again_none Forward Absent RemovalRefused = refl
+again_none Forward Absent Settled = tt
 again_none Forward Refused l = tt
 again_none Forward (Offered c i) Open = refl
-again_none Forward (Offered c i) Sent = refl
-again_none Forward (Offered c i) Gone = refl
+again_none Forward (Offered c i) RemovalSent = refl
+again_none Forward (Offered c i) RemovalRefused = refl
 again_none Forward (Offered c i) Settled = tt
-again_none Forward (Over c i k) l = tt
+again_none Forward (Resolved c i k) l = tt
 again_none Hold w l = tt
 again_none (Answer k) w l = tt
 
@@ -84,69 +85,72 @@ waits_forward (Decided Hold) r a = absurd (cc a)
 waits_forward (Decided (Answer j)) r a = tt
 waits_forward Past r a = absurd a
 
-pub again_by : (m : Mark) (w : Way) (l : Back) (j : Kind) (s : Stage) (r : Removal) → NotAgain m w l (By j s)
+pub again_by : (m : Mark) (w : OutgoingLeg) (l : IncomingLeg) (j : Kind) (s : Stage) (r : Removal)
+    → NotAgain m w l (By j s)
     → NotAgain m w l r
-again_by Forward Nowhere Open j s r a = absurd (cc a)
-again_by Forward Nowhere Sent j s r a = absurd (cc a)
-again_by Forward Nowhere Gone j s r a = absurd (cc a)
-again_by Forward Nowhere Settled j s r a = tt
+again_by Forward Absent Open j s r a = absurd (cc a)
+again_by Forward Absent RemovalSent j s r a = absurd (cc a)
+again_by Forward Absent RemovalRefused j s r a = absurd (cc a)
+again_by Forward Absent Settled j s r a = tt
 again_by Forward Refused l j s r a = tt
 again_by Forward (Offered c i) Open j s r a = absurd (cc a)
-again_by Forward (Offered c i) Sent j s r a = absurd (cc a)
-again_by Forward (Offered c i) Gone j s r a = absurd (cc a)
+again_by Forward (Offered c i) RemovalSent j s r a = absurd (cc a)
+again_by Forward (Offered c i) RemovalRefused j s r a = absurd (cc a)
 again_by Forward (Offered c i) Settled j s r a = tt
-again_by Forward (Over c i k) l j s r a = tt
+again_by Forward (Resolved c i k) l j s r a = tt
 again_by Hold w l j s r a = tt
 again_by (Answer k) w l j s r a = tt
 
-pub again_settled : (m : Mark) (w : Way) (r : Removal) → NotAgain m w Settled r
-again_settled Forward Nowhere r = tt
+pub again_settled : (m : Mark) (w : OutgoingLeg) (r : Removal) → NotAgain m w Settled r
+again_settled Forward Absent r = tt
 again_settled Forward Refused r = tt
 again_settled Forward (Offered c i) r = tt
-again_settled Forward (Over c i k) r = tt
+again_settled Forward (Resolved c i k) r = tt
 again_settled Hold w r = tt
 again_settled (Answer k) w r = tt
 
-pub again_over : (m : Mark) (c i : ℕ) (k : Kind) (l : Back) (r : Removal) → NotAgain m (Over c i k) l r
+pub again_over : (m : Mark) (c i : ℕ) (k : Kind) (l : IncomingLeg) (r : Removal) → NotAgain m (Resolved c i k) l r
 again_over Forward c i k l r = tt
 again_over Hold c i k l r = tt
 again_over (Answer j) c i k l r = tt
 
-pub again_given : (k : Kind) (m : Mark) (w : Way) (l : Back) (r : Removal) → IsAnswer k m w → NotAgain m w l r
-again_given k Forward Nowhere l r a = absurd a
+pub again_given : (k : Kind) (m : Mark) (w : OutgoingLeg) (l : IncomingLeg) (r : Removal) → IsAnswer k m w
+    → NotAgain m w l r
+again_given k Forward Absent l r a = absurd a
 again_given k Forward Refused l r a = tt
 again_given k Forward (Offered c i) l r a = absurd a
-again_given k Forward (Over c i j) l r a = tt
+again_given k Forward (Resolved c i j) l r a = tt
 again_given k Hold w l r a = tt
 again_given k (Answer j) w l r a = tt
 
-pub again_back : (m : Mark) (c i : ℕ) (l : Back) (r : Removal) → NotAgain m (Offered c i) l r → NotAgain m Nowhere l r
+pub again_back : (m : Mark) (c i : ℕ) (l : IncomingLeg) (r : Removal) → NotAgain m (Offered c i) l r
+    → NotAgain m Absent l r
 again_back Forward c i Open r a = a
-again_back Forward c i Sent r a = a
-again_back Forward c i Gone r a = a
+again_back Forward c i RemovalSent r a = a
+again_back Forward c i RemovalRefused r a = a
 again_back Forward c i Settled r a = tt
 again_back Hold c i l r a = tt
 again_back (Answer k) c i l r a = tt
 
-pub again_offered : (m : Mark) (c i : ℕ) (l : Back) (r : Removal) → NotAgain m Nowhere l r
+pub again_offered : (m : Mark) (c i : ℕ) (l : IncomingLeg) (r : Removal) → NotAgain m Absent l r
     → NotAgain m (Offered c i) l r
 again_offered Forward c i Open r a = a
-again_offered Forward c i Sent r a = a
-again_offered Forward c i Gone r a = a
+again_offered Forward c i RemovalSent r a = a
+again_offered Forward c i RemovalRefused r a = a
 again_offered Forward c i Settled r a = tt
 again_offered Hold c i l r a = tt
 again_offered (Answer k) c i l r a = tt
 
-pub settled_later : (l : Back) (r s : Removal) → (IsHeld r → IsHeld s) → IsSettledOnly l r → IsSettledOnly l s
+pub settled_later : (l : IncomingLeg) (r s : Removal) → (IsHeld r → IsHeld s) → IsSettledOnly l r → IsSettledOnly l s
 settled_later Open r s f a = tt
-settled_later Sent r s f a = tt
-settled_later Gone r s f a = tt
+settled_later RemovalSent r s f a = tt
+settled_later RemovalRefused r s f a = tt
 settled_later Settled r s f a = f a
 
-pub held_settled : (l : Back) (r : Removal) → IsHeld r → IsSettledOnly l r
+pub held_settled : (l : IncomingLeg) (r : Removal) → IsHeld r → IsSettledOnly l r
 held_settled Open r a = tt
-held_settled Sent r a = tt
-held_settled Gone r a = tt
+held_settled RemovalSent r a = tt
+held_settled RemovalRefused r a = tt
 held_settled Settled r a = a
 
 pub or_else : {A B C : Type 0} → (B → C) → A ⊎ B → A ⊎ C

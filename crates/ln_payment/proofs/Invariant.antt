@@ -1,9 +1,10 @@
 -- What every move of a payment keeps.
 use Rattle.std.specs.Prelude.{◌≡◌, ◌⊎◌, ℕ, List, [], ◌∷◌, Bool, true, Option, Some, None}
-use Rattle.ln_payment.specs.Parts.{Among, Answer, Back, Course, Covered, Decided, Decision, Each, Ended, Forward}
-use Rattle.ln_payment.specs.Parts.{Gone, HasEnded, Hold, IsAt, IsHeld, Mark, NoRemoval, Note, Nowhere, Offered}
-use Rattle.ln_payment.specs.Parts.{Open, Out, Over, Past, Payment, Refused, Removal, Sent, Settled, Uncovered}
-use Rattle.ln_payment.specs.Parts.{Undecided, Way}
+use Rattle.ln_payment.specs.Parts.{Among, Answer, IncomingLeg, Course, Covered, Decided, Decision, Each, Ended, Forward}
+use Rattle.ln_payment.specs.Parts.{RemovalRefused, HasEnded, Hold, IsAt, IsHeld, Mark, NoRemoval, Note, Absent, Offered}
+use Rattle.ln_payment.specs.Parts.{Open, Out, Resolved, Past, Payment, Refused, Removal, RemovalSent, Settled}
+use Rattle.ln_payment.specs.Parts.{Uncovered}
+use Rattle.ln_payment.specs.Parts.{Undecided, OutgoingLeg}
 use Rattle.ln_payment.specs.Promises.{Follows}
 
 -- ---- records
@@ -46,46 +47,46 @@ ForNote P None = Unit {0}
 ForNote P (Some e) = P e
 
 -- it knows of the add
-abbrev pub Names : Way → Out → Type 0
-Names Nowhere o = ⊥
+abbrev pub Names : OutgoingLeg → Out → Type 0
+Names Absent o = ⊥
 Names Refused o = ⊥
 Names (Offered c i) o = IsAt c i o
-Names (Over c i k) o = IsAt c i o
+Names (Resolved c i k) o = IsAt c i o
 
 abbrev pub IsKnown : Option Note → List Out → Type 0
 IsKnown None os = os ≡ []
-IsKnown (Some e) os = Each (Names e.way) os
+IsKnown (Some e) os = Each (Names e.outgoing) os
 
 -- what it says is offered is, unless that link has halted
-abbrev pub IsOffered : Way → List Out → (ℕ → Bool) → Type 0
-IsOffered Nowhere os h = Unit {0}
+abbrev pub IsOffered : OutgoingLeg → List Out → (ℕ → Bool) → Type 0
+IsOffered Absent os h = Unit {0}
 IsOffered Refused os h = Unit {0}
 IsOffered (Offered c i) os h = (h c ≡ true) ⊎ Among (IsAt c i) os
-IsOffered (Over c i k) os h = Unit {0}
+IsOffered (Resolved c i k) os h = Unit {0}
 
 -- what it says is over is
-abbrev pub IsOver : Way → List Out → Type 0
-IsOver Nowhere os = Unit {0}
+abbrev pub IsOver : OutgoingLeg → List Out → Type 0
+IsOver Absent os = Unit {0}
 IsOver Refused os = Unit {0}
 IsOver (Offered c i) os = Unit {0}
-IsOver (Over c i k) os = Among (λ o. IsAt c i o × HasEnded k o) os
+IsOver (Resolved c i k) os = Among (λ o. IsAt c i o × HasEnded k o) os
 
 -- what may be offered has no removal
-abbrev pub NotAgain : Mark → Way → Back → Removal → Type 0
-NotAgain Forward Nowhere Settled r = Unit {0}
-NotAgain Forward Nowhere Open r = r ≡ NoRemoval
-NotAgain Forward Nowhere Sent r = r ≡ NoRemoval
-NotAgain Forward Nowhere Gone r = r ≡ NoRemoval
+abbrev pub NotAgain : Mark → OutgoingLeg → IncomingLeg → Removal → Type 0
+NotAgain Forward Absent Settled r = Unit {0}
+NotAgain Forward Absent Open r = r ≡ NoRemoval
+NotAgain Forward Absent RemovalSent r = r ≡ NoRemoval
+NotAgain Forward Absent RemovalRefused r = r ≡ NoRemoval
 NotAgain Forward (Offered c i) Settled r = Unit {0}
 NotAgain Forward (Offered c i) Open r = r ≡ NoRemoval
-NotAgain Forward (Offered c i) Sent r = r ≡ NoRemoval
-NotAgain Forward (Offered c i) Gone r = r ≡ NoRemoval
+NotAgain Forward (Offered c i) RemovalSent r = r ≡ NoRemoval
+NotAgain Forward (Offered c i) RemovalRefused r = r ≡ NoRemoval
 NotAgain m w l r = Unit {0}
 
-abbrev pub IsSettledOnly : Back → Removal → Type 0
+abbrev pub IsSettledOnly : IncomingLeg → Removal → Type 0
 IsSettledOnly Open r = Unit {0}
-IsSettledOnly Sent r = Unit {0}
-IsSettledOnly Gone r = Unit {0}
+IsSettledOnly RemovalSent r = Unit {0}
+IsSettledOnly RemovalRefused r = Unit {0}
 IsSettledOnly Settled r = IsHeld r
 
 abbrev pub MarkIs : Decision → Mark → Type 0
@@ -103,10 +104,10 @@ pub record Kept (d : Decision) (r : Removal) (os : List Out) (e : Option Note) (
   pub follows : Follows r os
   pub results : IsHeld r ⊎ Each (λ o. HasResult o.course) os
   pub knows : IsHeld r ⊎ IsKnown e os
-  pub offered : ForNote (λ f. IsOffered f.way os h) e
-  pub over : ForNote (λ f. IsOver f.way os) e
-  pub not_again : ForNote (λ f. NotAgain f.mark f.way f.back r) e
-  pub settled : ForNote (λ f. IsSettledOnly f.back r) e
+  pub offered : ForNote (λ f. IsOffered f.outgoing os h) e
+  pub over : ForNote (λ f. IsOver f.outgoing os) e
+  pub not_again : ForNote (λ f. NotAgain f.mark f.outgoing f.incoming r) e
+  pub settled : ForNote (λ f. IsSettledOnly f.incoming r) e
   pub marks : IsHeld r ⊎ ForNote (λ f. MarkIs d f.mark) e
 
 abbrev pub IsKept : Payment → Type 0

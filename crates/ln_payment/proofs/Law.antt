@@ -2,9 +2,9 @@
 use Rattle.std.proofs.Common.{◌≡◌, inr, ℕ, List, [], ◌∷◌, Bool, true, false, refl, Option, Some}
 use Rattle.std.proofs.Common.{None, arith}
 use Rattle.std.specs.Prelude.{not, cond, length, ◌≤◌, if◌then◌else◌}
-use Rattle.ln_payment.specs.Parts.{Answer, By, Decided, Decision, Each, Forward, Gone, HasEnded, Hold, IsAt}
-use Rattle.ln_payment.specs.Parts.{IsHeld, Kind, Mark, NoRemoval, Note, Nowhere, Offered, Open, Out, Over, Past}
-use Rattle.ln_payment.specs.Parts.{Payment, Proposed, Refused, Removal, Sent, Undecided, begun}
+use Rattle.ln_payment.specs.Parts.{Answer, By, Decided, Decision, Each, Forward, RemovalRefused, HasEnded, Hold, IsAt}
+use Rattle.ln_payment.specs.Parts.{IsHeld, Kind, Mark, NoRemoval, Note, Absent, Offered, Open, Out, Resolved, Past}
+use Rattle.ln_payment.specs.Parts.{Payment, Proposed, Refused, Removal, RemovalSent, Undecided, begun}
 use Rattle.ln_payment.specs.Rebuild.{is_uncovered, kept_outs}
 use Rattle.ln_payment.specs.Moves as machine
 use Rattle.ln_payment.specs.Moves.{AreMade, IsDecided, MayMove, Move, after, moved}
@@ -17,42 +17,42 @@ use Rattle.ln_payment.proofs.Rebuild.{kept_restart}
 -- ---- each move, by whether the book has a note
 
 offer : (c i : ℕ) (d : Decision) (r : Removal) (os : List Out) (e : Option Note) (h : ℕ → Bool) → machine.Offers e
-    → Kept d r os e h → Kept d r (moves.out_at c i ∷ os) (machine.with_way (Offered c i) e) h
+    → Kept d r os e h → Kept d r (moves.out_at c i ∷ os) (machine.with_outgoing (Offered c i) e) h
 offer c i d r os None h a k = absurd a
-offer c i d r os (Some f) h a k = moves.kept_offer c i d r os f.mark f.way f.back h a k
+offer c i d r os (Some f) h a k = moves.kept_offer c i d r os f.mark f.outgoing f.incoming h a k
 
 refuse : (d : Decision) (r : Removal) (os : List Out) (e : Option Note) (h : ℕ → Bool) → machine.Offers e
     → Kept d r os e h
-    → Kept d r os (machine.with_way Refused e) h
+    → Kept d r os (machine.with_outgoing Refused e) h
 refuse d r os None h a k = absurd a
-refuse d r os (Some f) h a k = moves.kept_refuse d r os f.mark f.way f.back h a k
+refuse d r os (Some f) h a k = moves.kept_refuse d r os f.mark f.outgoing f.incoming h a k
 
 leave : (d : Decision) (r : Removal) (os : List Out) (e : Option Note) (h : ℕ → Bool) → machine.Offers e
     → Kept d r os e h
     → Kept d r os None h
 leave d r os None h a k = absurd a
-leave d r os (Some f) h a k = moves.kept_leave d r os f.mark f.way f.back h a k
+leave d r os (Some f) h a k = moves.kept_leave d r os f.mark f.outgoing f.incoming h a k
 
 remove : (n : Kind) (d : Decision) (r : Removal) (os : List Out) (e : Option Note) (h : ℕ → Bool) → machine.Removes n e
-    → r ≡ NoRemoval → Kept d r os e h → Kept d (By n Proposed) os (machine.with_back Sent e) h
+    → r ≡ NoRemoval → Kept d r os e h → Kept d (By n Proposed) os (machine.with_incoming RemovalSent e) h
 remove n d r os None h a z k = absurd a
-remove n d r os (Some f) h a z k = moves.kept_remove n d r os f.mark f.way f.back h a z k
+remove n d r os (Some f) h a z k = moves.kept_remove n d r os f.mark f.outgoing f.incoming h a z k
 
 give_up : (n : Kind) (d : Decision) (r : Removal) (os : List Out) (e : Option Note) (h : ℕ → Bool) → machine.Removes n e
-    → Kept d r os e h → Kept d r os (machine.with_back Gone e) h
+    → Kept d r os e h → Kept d r os (machine.with_incoming RemovalRefused e) h
 give_up n d r os None h a k = absurd a
-give_up n d r os (Some f) h a k = moves.kept_give_up n d r os f.mark f.way f.back h a k
+give_up n d r os (Some f) h a k = moves.kept_give_up n d r os f.mark f.outgoing f.incoming h a k
 
 settle : (d : Decision) (r : Removal) (os : List Out) (e : Option Note) (h : ℕ → Bool) → IsHeld r → Kept d r os e h
     → Kept d r os (machine.settled e) h
 settle d r os None h a k = k
-settle d r os (Some f) h a k = moves.kept_settle d r os f.mark f.way f.back h a k
+settle d r os (Some f) h a k = moves.kept_settle d r os f.mark f.outgoing f.incoming h a k
 
 tell : (c i : ℕ) (n : Kind) (d : Decision) (r : Removal) (os : List Out) (e : Option Note) (h : ℕ → Bool)
     → machine.NoteIsAt c i e → h c ≡ false → Each (λ o. IsAt c i o → HasEnded n o) os → Kept d r os e h
-    → Kept d r os (machine.with_way (Over c i n) e) h
+    → Kept d r os (machine.with_outgoing (Resolved c i n) e) h
 tell c i n d r os None h a z t k = absurd a
-tell c i n d r os (Some f) h a z t k = moves.kept_tell c i n d r os f.mark f.way f.back h a z t k
+tell c i n d r os (Some f) h a z t k = moves.kept_tell c i n d r os f.mark f.outgoing f.incoming h a z t k
 
 forget : (c i : ℕ) (d : Decision) (r : Removal) (os : List Out) (e : Option Note) (h : ℕ → Bool) → machine.IsSettled e
     → Kept d r os e h
@@ -72,16 +72,16 @@ drop : (c : ℕ) (d : Decision) (r : Removal) (os : List Out) (e : Option Note) 
 drop c d r os None h a k = moves.kept_drop_none c d r os h k
 drop c d r os (Some f) h a k = moves.kept_drop c d r os f h a k
 
-put_back : (c i : ℕ) (d : Decision) (r : Removal) (os : List Out) (e : Option Note) (h : ℕ → Bool)
+put_incoming : (c i : ℕ) (d : Decision) (r : Removal) (os : List Out) (e : Option Note) (h : ℕ → Bool)
     → machine.NoteIsAt c i e
     → Each (λ o. IsAt c i o → ⊥) (kept_outs (machine.is_of c) os) → Kept d r os e h
-    → Kept d r (kept_outs (machine.is_of c) os) (machine.with_way Nowhere e) h
-put_back c i d r os None h a n k = absurd a
-put_back c i d r os (Some f) h a n k = moves.kept_put_back c i d r os f.mark f.way f.back h a n k
+    → Kept d r (kept_outs (machine.is_of c) os) (machine.with_outgoing Absent e) h
+put_incoming c i d r os None h a n k = absurd a
+put_incoming c i d r os (Some f) h a n k = moves.kept_put_back c i d r os f.mark f.outgoing f.incoming h a n k
 
 reopen : (d : Decision) (r : Removal) (os : List Out) (e : Option Note) (h : ℕ → Bool) → r ≡ NoRemoval
     → Kept d r os e h
-    → Kept d r os (machine.with_back Open e) h
+    → Kept d r os (machine.with_incoming Open e) h
 reopen d r os None h a k = k
 reopen d r os (Some f) h a k = moves.kept_reopen d r os f h a k
 
@@ -119,7 +119,7 @@ kept (machine.Forget c i) p a k = forget c i p.decision p.removal p.outs p.note 
 kept machine.Close p a k = close p.decision p.removal p.outs p.note p.halted a k
 kept machine.Clear p a k = moves.kept_clear p.decision p.removal p.outs p.note p.halted a k
 kept (machine.Drop c) p a k = drop c p.decision p.removal p.outs p.note p.halted a k
-kept (machine.PutBack c i) p a k = put_back c i p.decision p.removal p.outs p.note p.halted (a.0) (a.1) k
+kept (machine.PutBack c i) p a k = put_incoming c i p.decision p.removal p.outs p.note p.halted (a.0) (a.1) k
 kept machine.DropRemoval p a k = moves.kept_drop_removal p.decision p.removal p.outs p.note p.halted k
 kept machine.Reopen p a k = reopen p.decision p.removal p.outs p.note p.halted a k
 kept (machine.Halt c) p a k = moves.kept_halt c p.decision p.removal p.outs p.note p.halted k

@@ -3,8 +3,8 @@ use Rattle.std.proofs.Common.{◌≡◌, inl, inr, ℕ, List, [], ◌∷◌, Boo
 use Rattle.std.proofs.Common.{map, Option, Some, None}
 use Rattle.std.specs.Prelude.{not, cond}
 use Rattle.ln_payment.specs.Parts.{Among, Answer, By, Course, Covered, Decided, Decision, Each, Ended, Forward}
-use Rattle.ln_payment.specs.Parts.{HasEnded, Hold, IsAt, IsEnd, Kind, NoRemoval, Note, Nowhere, Offered, Out}
-use Rattle.ln_payment.specs.Parts.{Over, Past, Refused, Removal, Uncovered, Undecided, Way}
+use Rattle.ln_payment.specs.Parts.{HasEnded, Hold, IsAt, IsEnd, Kind, NoRemoval, Note, Absent, Offered, Out}
+use Rattle.ln_payment.specs.Parts.{Resolved, Past, Refused, Removal, Uncovered, Undecided, OutgoingLeg}
 use Rattle.ln_payment.specs.Rebuild.{is_uncovered, kept_outs}
 use Rattle.ln_payment.specs.Moves.{with_course}
 use Rattle.ln_payment.specs.Promises.{Follows}
@@ -48,30 +48,30 @@ forwarded_course g (Decided Hold) (o ∷ os) a = a
 forwarded_course g (Decided (Answer k)) (o ∷ os) a = a
 forwarded_course g Past (o ∷ os) a = a
 
-names_course : (g : Out → Course) (w : Way) (o : Out) → Names w o → Names w (with_course (g o) o)
-names_course g Nowhere o n = n
+names_course : (g : Out → Course) (w : OutgoingLeg) (o : Out) → Names w o → Names w (with_course (g o) o)
+names_course g Absent o n = n
 names_course g Refused o n = n
 names_course g (Offered c i) o n = n
-names_course g (Over c i k) o n = n
+names_course g (Resolved c i k) o n = n
 
 pub known_course : (g : Out → Course) (e : Option Note) (os : List Out) → IsKnown e os → IsKnown e (recourse g os)
 known_course g None os a = ap (recourse g) a
-known_course g (Some e) os a = each_course g (Names e.way) (Names e.way) (names_course g e.way) os a
+known_course g (Some e) os a = each_course g (Names e.outgoing) (Names e.outgoing) (names_course g e.outgoing) os a
 
-pub offered_course : (g : Out → Course) (w : Way) (os : List Out) (h : ℕ → Bool) → IsOffered w os h
+pub offered_course : (g : Out → Course) (w : OutgoingLeg) (os : List Out) (h : ℕ → Bool) → IsOffered w os h
     → IsOffered w (recourse g os) h
-offered_course g Nowhere os h a = tt
+offered_course g Absent os h a = tt
 offered_course g Refused os h a = tt
 offered_course g (Offered c i) os h (inl b) = inl b
 offered_course g (Offered c i) os h (inr b) = inr (among_course g (IsAt c i) (IsAt c i) (λ o p. p) os b)
-offered_course g (Over c i k) os h a = tt
+offered_course g (Resolved c i k) os h a = tt
 
-pub over_course : (g : Out → Course) → ((k : Kind) (o : Out) → HasEnded k o → IsEnd k (g o)) → (w : Way)
+pub over_course : (g : Out → Course) → ((k : Kind) (o : Out) → HasEnded k o → IsEnd k (g o)) → (w : OutgoingLeg)
     (os : List Out) → IsOver w os → IsOver w (recourse g os)
-over_course g f Nowhere os a = tt
+over_course g f Absent os a = tt
 over_course g f Refused os a = tt
 over_course g f (Offered c i) os a = tt
-over_course g f (Over c i k) os a =
+over_course g f (Resolved c i k) os a =
     among_course g (λ o. IsAt c i o × HasEnded k o) (λ o. IsAt c i o × HasEnded k o)
     (λ o p. (p.0, f k o (p.1))) os a
 
@@ -121,7 +121,7 @@ forwarded_kept f Past (o ∷ os) a = absurd a
 
 pub known_kept : (f : ℕ → Bool) (e : Option Note) (os : List Out) → IsKnown e os → IsKnown e (kept_outs f os)
 known_kept f None os a = ap (kept_outs f) a
-known_kept f (Some e) os a = each_kept f (Names e.way) os a
+known_kept f (Some e) os a = each_kept f (Names e.outgoing) os a
 
 pub follows_kept : (f : ℕ → Bool) (r : Removal) (os : List Out) → Follows r os → Follows r (kept_outs f os)
 follows_kept f NoRemoval os a = tt
@@ -153,11 +153,11 @@ ended_kept f c i k (o ∷ os) (inl p) =
 ended_kept f c i k (o ∷ os) (inr a) =
     among_if (HasEndedAt c i k) (is_uncovered o.course && f o.channel) o (kept_outs f os) (ended_kept f c i k os a)
 
-pub over_kept : (f : ℕ → Bool) (w : Way) (os : List Out) → IsOver w os → IsOver w (kept_outs f os)
-over_kept f Nowhere os a = tt
+pub over_kept : (f : ℕ → Bool) (w : OutgoingLeg) (os : List Out) → IsOver w os → IsOver w (kept_outs f os)
+over_kept f Absent os a = tt
 over_kept f Refused os a = tt
 over_kept f (Offered c i) os a = tt
-over_kept f (Over c i k) os a = ended_kept f c i k os a
+over_kept f (Resolved c i k) os a = ended_kept f c i k os a
 
 -- an add of another channel isn't lost
 pub elsewhere_kept : (f : ℕ → Bool) (c i : ℕ) (os : List Out) → f c ≡ false → Among (IsAt c i) os

@@ -3,12 +3,12 @@ use Rattle.std.proofs.Common.{◌≡◌, ◌⊎◌, inl, inr, ℕ, List, [], ◌
 use Rattle.std.proofs.Common.{subst, ◌∙◌, Option, Some, None}
 use Rattle.std.specs.Prelude.{if◌then◌else◌}
 use Rattle.std.proofs.lemmas.Bool.{eqb-true}
-use Rattle.ln_payment.specs.Parts.{Among, Answer, Back, By, Course, Covered, Decided, Decision, Each, Ended}
-use Rattle.ln_payment.specs.Parts.{Forward, Gone, HasEnded, Held, Hold, IsAt, IsEnd, IsHeld, Kind, Mark}
-use Rattle.ln_payment.specs.Parts.{NoRemoval, Note, Nowhere, Offered, Open, Out, Over, Past, Proposed, Refused}
-use Rattle.ln_payment.specs.Parts.{Removal, Sent, Settled, Signed, Stage, Uncovered, Undecided, Way}
+use Rattle.ln_payment.specs.Parts.{Among, Answer, IncomingLeg, By, Course, Covered, Decided, Decision, Each, Ended}
+use Rattle.ln_payment.specs.Parts.{Forward, RemovalRefused, HasEnded, Held, Hold, IsAt, IsEnd, IsHeld, Kind, Mark}
+use Rattle.ln_payment.specs.Parts.{NoRemoval, Note, Absent, Offered, Open, Out, Resolved, Past, Proposed, Refused}
+use Rattle.ln_payment.specs.Parts.{Removal, RemovalSent, Settled, Signed, Stage, Uncovered, Undecided, OutgoingLeg}
 use Rattle.ln_payment.specs.Rebuild.{kept_outs, kept_removal, settled_note}
-use Rattle.ln_payment.specs.Moves.{AsksToOffer, AsksToRemove, IsAnswer, WayIsAt, WayStays, after_end}
+use Rattle.ln_payment.specs.Moves.{AsksToOffer, AsksToRemove, IsAnswer, OutgoingIsAt, OutgoingStays, after_end}
 use Rattle.ln_payment.specs.Moves.{after_forget, after_sign, is_at, is_of, removal_held, removal_signed}
 use Rattle.ln_payment.specs.Moves.{with_mark}
 use Rattle.ln_payment.proofs.Invariant.{AtMostOne, ForNote, HasResult, IsOffered, IsOver, IsSettledOnly, Kept}
@@ -23,7 +23,7 @@ use Rattle.ln_payment.proofs.Lists as lists
 -- ---- Decide, Resume
 
 pub kept_decide : (m : Mark) (r : Removal) (os : List Out) (e : Option Note) (h : ℕ → Bool) → Kept Undecided r os e h
-    → Kept (Decided m) r os (Some (noted m Nowhere Open)) h
+    → Kept (Decided m) r os (Some (noted m Absent Open)) h
 kept_decide m NoRemoval [] e h k = record {
   one = tt;
   early = tt;
@@ -34,7 +34,7 @@ kept_decide m NoRemoval [] e h k = record {
   knows = inr tt;
   offered = tt;
   over = tt;
-  not_again = again_none m Nowhere Open;
+  not_again = again_none m Absent Open;
   settled = tt;
   marks = inr refl;
 }
@@ -69,7 +69,7 @@ kept_resume m NoRemoval [] (Some f) h k = record {
   knows = inr tt;
   offered = k.offered;
   over = k.over;
-  not_again = again_none m f.way f.back;
+  not_again = again_none m f.outgoing f.incoming;
   settled = k.settled;
   marks = inr refl;
 }
@@ -79,12 +79,12 @@ kept_resume m NoRemoval [] (Some f) h k = record {
 abbrev pub out_at : ℕ → ℕ → Out
 out_at c i = record { channel = c; id = i; course = Uncovered }
 
-offered_with : (c i : ℕ) (d : Decision) (l : Back) (h : ℕ → Bool)
-    → Kept d NoRemoval [] (Some (noted Forward Nowhere l)) h
+offered_with : (c i : ℕ) (d : Decision) (l : IncomingLeg) (h : ℕ → Bool)
+    → Kept d NoRemoval [] (Some (noted Forward Absent l)) h
     → Kept d NoRemoval (out_at c i ∷ []) (Some (noted Forward (Offered c i) l)) h
 offered_with c i d l h k = record {
   one = tt;
-  early = early_note d NoRemoval NoRemoval [] (out_at c i ∷ []) (noted Forward Nowhere l)
+  early = early_note d NoRemoval NoRemoval [] (out_at c i ∷ []) (noted Forward Absent l)
       (Some (noted Forward (Offered c i) l)) (k.early);
   forwards = inr (forwards_by_mark d (out_at c i ∷ []) (second_of (λ x. x) (k.marks)));
   waits = waits_none d;
@@ -98,37 +98,39 @@ offered_with c i d l h k = record {
   marks = k.marks;
 }
 
-offers_nothing : (d : Decision) (l : Back) (o : Out) (os : List Out) (h : ℕ → Bool)
-    → Kept d NoRemoval (o ∷ os) (Some (noted Forward Nowhere l)) h → ⊥
+offers_nothing : (d : Decision) (l : IncomingLeg) (o : Out) (os : List Out) (h : ℕ → Bool)
+    → Kept d NoRemoval (o ∷ os) (Some (noted Forward Absent l)) h → ⊥
 offers_nothing d l o os h k = (second_of (λ x. x) (k.knows)).0
 
-pub kept_offer : (c i : ℕ) (d : Decision) (r : Removal) (os : List Out) (m : Mark) (w : Way) (l : Back) (h : ℕ → Bool)
+pub kept_offer : (c i : ℕ) (d : Decision) (r : Removal) (os : List Out) (m : Mark) (w : OutgoingLeg)
+    (l : IncomingLeg) (h : ℕ → Bool)
     → AsksToOffer m w l → Kept d r os (Some (noted m w l)) h
     → Kept d r (out_at c i ∷ os) (Some (noted m (Offered c i) l)) h
-kept_offer c i d NoRemoval [] Forward Nowhere Open h a k = offered_with c i d Open h k
-kept_offer c i d NoRemoval [] Forward Nowhere Sent h a k = offered_with c i d Sent h k
-kept_offer c i d NoRemoval [] Forward Nowhere Gone h a k = offered_with c i d Gone h k
-kept_offer c i d NoRemoval (o ∷ os) Forward Nowhere l h a k = absurd (offers_nothing d l o os h k)
-kept_offer c i d (By j s) os Forward Nowhere Open h a k = absurd (cc (k.not_again))
-kept_offer c i d (By j s) os Forward Nowhere Sent h a k = absurd (cc (k.not_again))
-kept_offer c i d (By j s) os Forward Nowhere Gone h a k = absurd (cc (k.not_again))
-kept_offer c i d r os Forward Nowhere Settled h a k = absurd a
+kept_offer c i d NoRemoval [] Forward Absent Open h a k = offered_with c i d Open h k
+kept_offer c i d NoRemoval [] Forward Absent RemovalSent h a k = offered_with c i d RemovalSent h k
+kept_offer c i d NoRemoval [] Forward Absent RemovalRefused h a k = offered_with c i d RemovalRefused h k
+kept_offer c i d NoRemoval (o ∷ os) Forward Absent l h a k = absurd (offers_nothing d l o os h k)
+kept_offer c i d (By j s) os Forward Absent Open h a k = absurd (cc (k.not_again))
+kept_offer c i d (By j s) os Forward Absent RemovalSent h a k = absurd (cc (k.not_again))
+kept_offer c i d (By j s) os Forward Absent RemovalRefused h a k = absurd (cc (k.not_again))
+kept_offer c i d r os Forward Absent Settled h a k = absurd a
 kept_offer c i d r os Forward Refused l h a k = absurd a
 kept_offer c i d r os Forward (Offered b j) l h a k = absurd a
-kept_offer c i d r os Forward (Over b j n) l h a k = absurd a
+kept_offer c i d r os Forward (Resolved b j n) l h a k = absurd a
 kept_offer c i d r os Hold w l h a k = absurd a
 kept_offer c i d r os (Answer n) w l h a k = absurd a
 
-pub kept_refuse : (d : Decision) (r : Removal) (os : List Out) (m : Mark) (w : Way) (l : Back) (h : ℕ → Bool)
+pub kept_refuse : (d : Decision) (r : Removal) (os : List Out) (m : Mark) (w : OutgoingLeg)
+    (l : IncomingLeg) (h : ℕ → Bool)
     → AsksToOffer m w l → Kept d r os (Some (noted m w l)) h → Kept d r os (Some (noted m Refused l)) h
-kept_refuse d r os Forward Nowhere l h a k = record {
+kept_refuse d r os Forward Absent l h a k = record {
   one = k.one;
-  early = early_note d r r os os (noted Forward Nowhere l) (Some (noted Forward Refused l)) (k.early);
+  early = early_note d r r os os (noted Forward Absent l) (Some (noted Forward Refused l)) (k.early);
   forwards = k.forwards;
   waits = k.waits;
   follows = k.follows;
   results = k.results;
-  knows = or_else (each_map (Names Nowhere) (Names Refused) (λ o n. n) os) (k.knows);
+  knows = or_else (each_map (Names Absent) (Names Refused) (λ o n. n) os) (k.knows);
   offered = tt;
   over = tt;
   not_again = tt;
@@ -137,18 +139,18 @@ kept_refuse d r os Forward Nowhere l h a k = record {
 }
 kept_refuse d r os Forward Refused l h a k = k
 kept_refuse d r os Forward (Offered b j) Open h a k = absurd a
-kept_refuse d r os Forward (Offered b j) Sent h a k = absurd a
-kept_refuse d r os Forward (Offered b j) Gone h a k = absurd a
+kept_refuse d r os Forward (Offered b j) RemovalSent h a k = absurd a
+kept_refuse d r os Forward (Offered b j) RemovalRefused h a k = absurd a
 kept_refuse d r os Forward (Offered b j) Settled h a k = absurd a
-kept_refuse d r os Forward (Over b j n) Open h a k = absurd a
-kept_refuse d r os Forward (Over b j n) Sent h a k = absurd a
-kept_refuse d r os Forward (Over b j n) Gone h a k = absurd a
-kept_refuse d r os Forward (Over b j n) Settled h a k = absurd a
+kept_refuse d r os Forward (Resolved b j n) Open h a k = absurd a
+kept_refuse d r os Forward (Resolved b j n) RemovalSent h a k = absurd a
+kept_refuse d r os Forward (Resolved b j n) RemovalRefused h a k = absurd a
+kept_refuse d r os Forward (Resolved b j n) Settled h a k = absurd a
 kept_refuse d r os Hold w l h a k = absurd a
 kept_refuse d r os (Answer n) w l h a k = absurd a
 
 -- the book lets go of it
-none_known : (os : List Out) → Each (Names Nowhere) os → os ≡ []
+none_known : (os : List Out) → Each (Names Absent) os → os ≡ []
 none_known [] a = refl
 none_known (o ∷ os) a = absurd (a.0)
 
@@ -169,25 +171,26 @@ let_go d r os f h n k = record {
   marks = inr tt;
 }
 
-pub kept_leave : (d : Decision) (r : Removal) (os : List Out) (m : Mark) (w : Way) (l : Back) (h : ℕ → Bool)
+pub kept_leave : (d : Decision) (r : Removal) (os : List Out) (m : Mark) (w : OutgoingLeg)
+    (l : IncomingLeg) (h : ℕ → Bool)
     → AsksToOffer m w l → Kept d r os (Some (noted m w l)) h → Kept d r os None h
-kept_leave d r os Forward Nowhere l h a k =
-    let_go d r os (noted Forward Nowhere l) h (or_else (none_known os) (k.knows)) k
+kept_leave d r os Forward Absent l h a k =
+    let_go d r os (noted Forward Absent l) h (or_else (none_known os) (k.knows)) k
 kept_leave d r os Forward Refused l h a k = absurd a
 kept_leave d r os Forward (Offered b j) l h a k = absurd a
-kept_leave d r os Forward (Over b j n) l h a k = absurd a
+kept_leave d r os Forward (Resolved b j n) l h a k = absurd a
 kept_leave d r os Hold w l h a k = absurd a
 kept_leave d r os (Answer n) w l h a k = absurd a
 
 -- ---- a removal is proposed, or can't be
 
-removing : (k : Kind) (d : Decision) (os : List Out) (m : Mark) (w : Way) (h : ℕ → Bool)
+removing : (k : Kind) (d : Decision) (os : List Out) (m : Mark) (w : OutgoingLeg) (h : ℕ → Bool)
     → Each (HasEnded k) os
     → Waits d (By k Proposed) → IsAnswer k m w → Kept d NoRemoval os (Some (noted m w Open)) h
-    → Kept d (By k Proposed) os (Some (noted m w Sent)) h
+    → Kept d (By k Proposed) os (Some (noted m w RemovalSent)) h
 removing k d os m w h e v g p = record {
   one = p.one;
-  early = early_note d NoRemoval (By k Proposed) os os (noted m w Open) (Some (noted m w Sent)) (p.early);
+  early = early_note d NoRemoval (By k Proposed) os os (noted m w Open) (Some (noted m w RemovalSent)) (p.early);
   forwards = first_as absurd (p.forwards);
   waits = v;
   follows = e;
@@ -195,7 +198,7 @@ removing k d os m w h e v g p = record {
   knows = first_as absurd (p.knows);
   offered = p.offered;
   over = p.over;
-  not_again = again_given k m w Sent (By k Proposed) g;
+  not_again = again_given k m w RemovalSent (By k Proposed) g;
   settled = tt;
   marks = first_as absurd (p.marks);
 }
@@ -207,13 +210,14 @@ ended_over c i k (o ∷ []) a (inl p) = (p.1, tt)
 ended_over c i k (o ∷ []) a (inr p) = absurd p
 ended_over c i k (o ∷ o2 ∷ os) a b = absurd a
 
-pub kept_remove : (k : Kind) (d : Decision) (r : Removal) (os : List Out) (m : Mark) (w : Way) (l : Back) (h : ℕ
+pub kept_remove : (k : Kind) (d : Decision) (r : Removal) (os : List Out) (m : Mark) (w : OutgoingLeg)
+    (l : IncomingLeg) (h : ℕ
     → Bool)
     → AsksToRemove k m w l → r ≡ NoRemoval → Kept d r os (Some (noted m w l)) h
-    → Kept d (By k Proposed) os (Some (noted m w Sent)) h
+    → Kept d (By k Proposed) os (Some (noted m w RemovalSent)) h
 kept_remove k d (By j s) os m w l h g n p = absurd (cc n)
-kept_remove k d NoRemoval os m w Sent h g n p = absurd g
-kept_remove k d NoRemoval os m w Gone h g n p = absurd g
+kept_remove k d NoRemoval os m w RemovalSent h g n p = absurd g
+kept_remove k d NoRemoval os m w RemovalRefused h g n p = absurd g
 kept_remove k d NoRemoval os m w Settled h g n p = absurd g
 kept_remove k d NoRemoval os (Answer j) w Open h g n p =
     removing k d os (Answer j) w h
@@ -224,15 +228,15 @@ kept_remove k d NoRemoval os Forward Refused Open h g n p =
     removing k d os Forward Refused h
     (each_map (Names Refused) (HasEnded k) (λ o x. absurd x) os (second_of (λ x. x) (p.knows)))
     (waits_forward d (By k Proposed) (second_of (λ x. x) (p.marks))) g p
-kept_remove k d NoRemoval os Forward (Over c i j) Open h g n p =
-    removing k d os Forward (Over c i j) h
+kept_remove k d NoRemoval os Forward (Resolved c i j) Open h g n p =
+    removing k d os Forward (Resolved c i j) h
     (subst (λ x. Each (HasEnded x) os) g (ended_over c i j os (p.one) (p.over)))
     (waits_forward d (By k Proposed) (second_of (λ x. x) (p.marks))) g p
-kept_remove k d NoRemoval os Forward Nowhere Open h g n p = absurd g
+kept_remove k d NoRemoval os Forward Absent Open h g n p = absurd g
 kept_remove k d NoRemoval os Forward (Offered c i) Open h g n p = absurd g
 kept_remove k d NoRemoval os Hold w Open h g n p = absurd g
 
-replying : (d : Decision) (r : Removal) (os : List Out) (m : Mark) (w : Way) (l n : Back) (h : ℕ → Bool)
+replying : (d : Decision) (r : Removal) (os : List Out) (m : Mark) (w : OutgoingLeg) (l n : IncomingLeg) (h : ℕ → Bool)
     → NotAgain m w n r → IsSettledOnly n r → Kept d r os (Some (noted m w l)) h → Kept d r os (Some (noted m w n)) h
 replying d r os m w l n h a s k = record {
   one = k.one;
@@ -249,18 +253,20 @@ replying d r os m w l n h a s k = record {
   marks = k.marks;
 }
 
-pub kept_give_up : (k : Kind) (d : Decision) (r : Removal) (os : List Out) (m : Mark) (w : Way) (l : Back) (h : ℕ
+pub kept_give_up : (k : Kind) (d : Decision) (r : Removal) (os : List Out) (m : Mark) (w : OutgoingLeg)
+    (l : IncomingLeg) (h : ℕ
     → Bool)
-    → AsksToRemove k m w l → Kept d r os (Some (noted m w l)) h → Kept d r os (Some (noted m w Gone)) h
-kept_give_up k d r os m w Open h g p = replying d r os m w Open Gone h (again_given k m w Gone r g) tt p
-kept_give_up k d r os m w Sent h g p = absurd g
-kept_give_up k d r os m w Gone h g p = absurd g
+    → AsksToRemove k m w l → Kept d r os (Some (noted m w l)) h → Kept d r os (Some (noted m w RemovalRefused)) h
+kept_give_up k d r os m w Open h g p = replying d r os m w Open RemovalRefused h
+    (again_given k m w RemovalRefused r g) tt p
+kept_give_up k d r os m w RemovalSent h g p = absurd g
+kept_give_up k d r os m w RemovalRefused h g p = absurd g
 kept_give_up k d r os m w Settled h g p = absurd g
 
 pub kept_reopen : (d : Decision) (r : Removal) (os : List Out) (f : Note) (h : ℕ → Bool) → r ≡ NoRemoval
-    → Kept d r os (Some f) h → Kept d r os (Some (noted f.mark f.way Open)) h
+    → Kept d r os (Some f) h → Kept d r os (Some (noted f.mark f.outgoing Open)) h
 kept_reopen d NoRemoval os f h n k =
-    replying d NoRemoval os f.mark f.way f.back Open h (again_none f.mark f.way Open) tt k
+    replying d NoRemoval os f.mark f.outgoing f.incoming Open h (again_none f.mark f.outgoing Open) tt k
 kept_reopen d (By j s) os f h n k = absurd (cc n)
 
 -- ---- courses of the outgoing adds
@@ -291,8 +297,8 @@ kept_course g f d r os (Some e) h n k = record {
   follows = lists.follows_course g f r os (k.follows);
   results = n;
   knows = or_else (lists.known_course g (Some e) os) (k.knows);
-  offered = lists.offered_course g e.way os h (k.offered);
-  over = lists.over_course g f e.way os (k.over);
+  offered = lists.offered_course g e.outgoing os h (k.offered);
+  over = lists.over_course g f e.outgoing os (k.over);
   not_again = k.not_again;
   settled = k.settled;
   marks = k.marks;
@@ -352,10 +358,11 @@ ended_forgotten k Uncovered a = absurd a
 ended_forgotten k Covered a = absurd a
 ended_forgotten k (Ended l b) a = a
 
-settled_held : (r : Removal) (f : Note) → f.back ≡ Settled → IsSettledOnly f.back r → IsHeld r
+settled_held : (r : Removal) (f : Note) → f.incoming ≡ Settled → IsSettledOnly f.incoming r → IsHeld r
 settled_held r f e a = subst (λ l. IsSettledOnly l r) e a
 
-pub kept_forget : (c i : ℕ) (d : Decision) (r : Removal) (os : List Out) (f : Note) (h : ℕ → Bool) → f.back ≡ Settled
+pub kept_forget : (c i : ℕ) (d : Decision) (r : Removal) (os : List Out) (f : Note) (h : ℕ → Bool)
+    → f.incoming ≡ Settled
     → Kept d r os (Some f) h
     → Kept d r (lists.recourse (λ o. if is_at c i o then after_forget o.course else o.course) os) (Some f) h
 kept_forget c i d r os f h s k =
@@ -363,15 +370,15 @@ kept_forget c i d r os f h s k =
     (λ j o a. ended_if j (is_at c i o) o.course (after_forget o.course) (ended_forgotten j o.course a) a) d r os
     (Some f) h (inl (settled_held r f s (k.settled))) k
 
-pub kept_close : (d : Decision) (r : Removal) (os : List Out) (f : Note) (h : ℕ → Bool) → f.back ≡ Settled
+pub kept_close : (d : Decision) (r : Removal) (os : List Out) (f : Note) (h : ℕ → Bool) → f.incoming ≡ Settled
     → Kept d r os (Some f) h → Kept d r os None h
 kept_close d r os f h s k = let_go d r os f h (inl (settled_held r f s (k.settled))) k
 
 -- ---- the removal
 
 stage_moved : (d : Decision) (j : Kind) (s t : Stage) (os : List Out) (e : Option Note) (h : ℕ → Bool)
-    → (IsHeld (By j s) → IsHeld (By j t)) → ForNote (λ f. NotAgain f.mark f.way f.back (By j t)) e
-    → ForNote (λ f. IsSettledOnly f.back (By j t)) e → Kept d (By j s) os e h → Kept d (By j t) os e h
+    → (IsHeld (By j s) → IsHeld (By j t)) → ForNote (λ f. NotAgain f.mark f.outgoing f.incoming (By j t)) e
+    → ForNote (λ f. IsSettledOnly f.incoming (By j t)) e → Kept d (By j s) os e h → Kept d (By j t) os e h
 stage_moved d j s t os e h f a b k = record {
   one = k.one;
   early = early_removal d j s (By j t) os os e e (k.early);
@@ -388,14 +395,15 @@ stage_moved d j s t os e h f a b k = record {
 }
 
 again_of : (j : Kind) (s : Stage) (r : Removal) (e : Option Note)
-    → ForNote (λ f. NotAgain f.mark f.way f.back (By j s)) e → ForNote (λ f. NotAgain f.mark f.way f.back r) e
+    → ForNote (λ f. NotAgain f.mark f.outgoing f.incoming (By j s)) e
+    → ForNote (λ f. NotAgain f.mark f.outgoing f.incoming r) e
 again_of j s r None a = tt
-again_of j s r (Some f) a = again_by f.mark f.way f.back j s r a
+again_of j s r (Some f) a = again_by f.mark f.outgoing f.incoming j s r a
 
-settled_of : (r s : Removal) (e : Option Note) → (IsHeld r → IsHeld s) → ForNote (λ f. IsSettledOnly f.back r) e
-    → ForNote (λ f. IsSettledOnly f.back s) e
+settled_of : (r s : Removal) (e : Option Note) → (IsHeld r → IsHeld s) → ForNote (λ f. IsSettledOnly f.incoming r) e
+    → ForNote (λ f. IsSettledOnly f.incoming s) e
 settled_of r s None g a = tt
-settled_of r s (Some f) g a = settled_later f.back r s g a
+settled_of r s (Some f) g a = settled_later f.incoming r s g a
 
 pub kept_sign_removal : (d : Decision) (r : Removal) (os : List Out) (e : Option Note) (h : ℕ → Bool) → Kept d r os e h
     → Kept d (removal_signed r) os e h
@@ -435,22 +443,24 @@ kept_drop_removal d (By j Signed) os e h k = k
 kept_drop_removal d (By j Held) os e h k = k
 
 -- the book hears that it is held
-settling : (d : Decision) (r : Removal) (os : List Out) (m : Mark) (w : Way) (l : Back) (h : ℕ → Bool) → IsHeld r
+settling : (d : Decision) (r : Removal) (os : List Out) (m : Mark) (w : OutgoingLeg) (l : IncomingLeg) (h : ℕ
+    → Bool) → IsHeld r
     → Kept d r os (Some (noted m w l)) h → Kept d r os (Some (noted m w Settled)) h
 settling d r os m w l h a k = replying d r os m w l Settled h (again_settled m w r) a k
 
-pub kept_settle : (d : Decision) (r : Removal) (os : List Out) (m : Mark) (w : Way) (l : Back) (h : ℕ → Bool)
+pub kept_settle : (d : Decision) (r : Removal) (os : List Out) (m : Mark) (w : OutgoingLeg)
+    (l : IncomingLeg) (h : ℕ → Bool)
     → IsHeld r
     → Kept d r os (Some (noted m w l)) h → Kept d r os (settled_note m w) h
 kept_settle d r os Hold w l h a k = settling d r os Hold w l h a k
-kept_settle d r os Forward Nowhere l h a k = let_go d r os (noted Forward Nowhere l) h (inl a) k
+kept_settle d r os Forward Absent l h a k = let_go d r os (noted Forward Absent l) h (inl a) k
 kept_settle d r os Forward Refused l h a k = let_go d r os (noted Forward Refused l) h (inl a) k
 kept_settle d r os Forward (Offered c i) l h a k = settling d r os Forward (Offered c i) l h a k
-kept_settle d r os Forward (Over c i j) l h a k = settling d r os Forward (Over c i j) l h a k
-kept_settle d r os (Answer n) Nowhere l h a k = let_go d r os (noted (Answer n) Nowhere l) h (inl a) k
+kept_settle d r os Forward (Resolved c i j) l h a k = settling d r os Forward (Resolved c i j) l h a k
+kept_settle d r os (Answer n) Absent l h a k = let_go d r os (noted (Answer n) Absent l) h (inl a) k
 kept_settle d r os (Answer n) Refused l h a k = let_go d r os (noted (Answer n) Refused l) h (inl a) k
 kept_settle d r os (Answer n) (Offered c i) l h a k = settling d r os (Answer n) (Offered c i) l h a k
-kept_settle d r os (Answer n) (Over c i j) l h a k = settling d r os (Answer n) (Over c i j) l h a k
+kept_settle d r os (Answer n) (Resolved c i j) l h a k = settling d r os (Answer n) (Resolved c i j) l h a k
 
 pub kept_clear : (d : Decision) (r : Removal) (os : List Out) (e : Option Note) (h : ℕ → Bool) → IsHeld r
     → Kept d r os e h → Kept Past r os e h
@@ -471,13 +481,14 @@ kept_clear d r os e h a k = record {
 
 -- ---- the book hears that an add has ended
 
-telling : (c i : ℕ) (k : Kind) (d : Decision) (r : Removal) (os : List Out) (m : Mark) (w : Way) (l : Back) (h : ℕ →
+telling : (c i : ℕ) (k : Kind) (d : Decision) (r : Removal) (os : List Out) (m : Mark) (w : OutgoingLeg)
+    (l : IncomingLeg) (h : ℕ →
     Bool)
     → IsHeld r ⊎ Each (IsAt c i) os → Among (λ o. IsAt c i o × HasEnded k o) os
-    → Kept d r os (Some (noted m w l)) h → Kept d r os (Some (noted m (Over c i k) l)) h
+    → Kept d r os (Some (noted m w l)) h → Kept d r os (Some (noted m (Resolved c i k) l)) h
 telling c i k d r os m w l h n a p = record {
   one = p.one;
-  early = early_note d r r os os (noted m w l) (Some (noted m (Over c i k) l)) (p.early);
+  early = early_note d r r os os (noted m w l) (Some (noted m (Resolved c i k) l)) (p.early);
   forwards = p.forwards;
   waits = p.waits;
   follows = p.follows;
@@ -501,10 +512,11 @@ still_there : (c b j : ℕ) (os : List Out) (h : ℕ → Bool) → b ≡ c → h
 still_there c b j os h x n (inl t) = absurd (not_both_values h b c x t n)
 still_there c b j os h x n (inr a) = a
 
-pub kept_tell : (c i : ℕ) (k : Kind) (d : Decision) (r : Removal) (os : List Out) (m : Mark) (w : Way) (l : Back)
-    (h : ℕ → Bool) → WayIsAt c i w → h c ≡ false → Each (λ o. IsAt c i o → HasEnded k o) os
-    → Kept d r os (Some (noted m w l)) h → Kept d r os (Some (noted m (Over c i k) l)) h
-kept_tell c i k d r os m Nowhere l h a n t p = absurd a
+pub kept_tell : (c i : ℕ) (k : Kind) (d : Decision) (r : Removal) (os : List Out) (m : Mark) (w : OutgoingLeg)
+    (l : IncomingLeg)
+    (h : ℕ → Bool) → OutgoingIsAt c i w → h c ≡ false → Each (λ o. IsAt c i o → HasEnded k o) os
+    → Kept d r os (Some (noted m w l)) h → Kept d r os (Some (noted m (Resolved c i k) l)) h
+kept_tell c i k d r os m Absent l h a n t p = absurd a
 kept_tell c i k d r os m Refused l h a n t p = absurd a
 kept_tell c i k d r os m (Offered b j) l h a n t p =
     telling c i k d r os m (Offered b j) l h
@@ -512,8 +524,8 @@ kept_tell c i k d r os m (Offered b j) l h a n t p =
     (among_map (IsAt b j) (λ o. IsAt c i o × HasEnded k o) (λ o. IsAt c i o → HasEnded k o)
     (λ o q f. (moved_at c i b j (a.0) (a.1) o q, f (moved_at c i b j (a.0) (a.1) o q))) os
     (still_there c b j os h (a.0) n (p.offered)) t) p
-kept_tell c i k d r os m (Over b j g) l h a n t p =
-    telling c i k d r os m (Over b j g) l h
+kept_tell c i k d r os m (Resolved b j g) l h a n t p =
+    telling c i k d r os m (Resolved b j g) l h
     (or_else (each_map (IsAt b j) (IsAt c i) (moved_at c i b j (a.0) (a.1)) os) (p.knows))
     (among_map (λ o. IsAt b j o × HasEnded g o) (λ o. IsAt c i o × HasEnded k o)
     (λ o. IsAt c i o → HasEnded k o)
@@ -522,7 +534,7 @@ kept_tell c i k d r os m (Over b j g) l h a n t p =
 -- ---- unsigned adds are lost
 
 losing : (f : ℕ → Bool) (d : Decision) (r : Removal) (os : List Out) (e : Option Note) (h g : ℕ → Bool)
-    → ForNote (λ x. IsOffered x.way (kept_outs f os) g) e → ForNote (λ x. IsOver x.way (kept_outs f os)) e
+    → ForNote (λ x. IsOffered x.outgoing (kept_outs f os) g) e → ForNote (λ x. IsOver x.outgoing (kept_outs f os)) e
     → Kept d r os e h → Kept d r (kept_outs f os) e g
 losing f d r os e h g a b k = record {
   one = lists.one_kept f os (k.one);
@@ -549,36 +561,37 @@ dropped_here : (c b j : ℕ) (os : List Out) (h : ℕ → Bool) → (b ≡ c →
 dropped_here c b j os h a n (inl t) = inr (a (eqb-true b c t))
 dropped_here c b j os h a n (inr f) = inr (lists.elsewhere_kept (is_of c) b j os f n)
 
-dropped_way : (c : ℕ) (w : Way) (os : List Out) (h : ℕ → Bool) → WayStays c w (kept_outs (is_of c) os)
+dropped_outgoing : (c : ℕ) (w : OutgoingLeg) (os : List Out) (h : ℕ → Bool) → OutgoingStays c w (kept_outs (is_of c) os)
     → IsOffered w os h
     → IsOffered w (kept_outs (is_of c) os) h
-dropped_way c Nowhere os h a k = tt
-dropped_way c Refused os h a k = tt
-dropped_way c (Offered b j) os h a (inl t) = inl t
-dropped_way c (Offered b j) os h a (inr n) = dropped_here c b j os h a n (either (b == c))
-dropped_way c (Over b j g) os h a k = tt
+dropped_outgoing c Absent os h a k = tt
+dropped_outgoing c Refused os h a k = tt
+dropped_outgoing c (Offered b j) os h a (inl t) = inl t
+dropped_outgoing c (Offered b j) os h a (inr n) = dropped_here c b j os h a n (either (b == c))
+dropped_outgoing c (Resolved b j g) os h a k = tt
 
 pub kept_drop : (c : ℕ) (d : Decision) (r : Removal) (os : List Out) (f : Note) (h : ℕ → Bool)
-    → WayStays c f.way (kept_outs (is_of c) os) → Kept d r os (Some f) h → Kept d r (kept_outs (is_of c) os) (Some f) h
+    → OutgoingStays c f.outgoing (kept_outs (is_of c) os) → Kept d r os (Some f) h
+    → Kept d r (kept_outs (is_of c) os) (Some f) h
 kept_drop c d r os f h a k =
-    losing (is_of c) d r os (Some f) h h (dropped_way c f.way os h a (k.offered))
-    (lists.over_kept (is_of c) f.way os (k.over)) k
+    losing (is_of c) d r os (Some f) h h (dropped_outgoing c f.outgoing os h a (k.offered))
+    (lists.over_kept (is_of c) f.outgoing os (k.over)) k
 
 pub kept_drop_none : (c : ℕ) (d : Decision) (r : Removal) (os : List Out) (h : ℕ → Bool) → Kept d r os None h
     → Kept d r (kept_outs (is_of c) os) None h
 kept_drop_none c d r os h k = losing (is_of c) d r os None h h tt tt k
 
-putting_back : (c b j : ℕ) (d : Decision) (r : Removal) (os : List Out) (m : Mark) (l : Back) (h : ℕ → Bool)
+putting_back : (c b j : ℕ) (d : Decision) (r : Removal) (os : List Out) (m : Mark) (l : IncomingLeg) (h : ℕ → Bool)
     → Each (λ o. IsAt b j o → ⊥) (kept_outs (is_of c) os) → Kept d r os (Some (noted m (Offered b j) l)) h
-    → Kept d r (kept_outs (is_of c) os) (Some (noted m Nowhere l)) h
+    → Kept d r (kept_outs (is_of c) os) (Some (noted m Absent l)) h
 putting_back c b j d r os m l h n k = record {
   one = lists.one_kept (is_of c) os (k.one);
-  early = early_note d r r os (kept_outs (is_of c) os) (noted m (Offered b j) l) (Some (noted m Nowhere l)) (k.early);
+  early = early_note d r r os (kept_outs (is_of c) os) (noted m (Offered b j) l) (Some (noted m Absent l)) (k.early);
   forwards = or_else (lists.forwarded_kept (is_of c) d os) (k.forwards);
   waits = k.waits;
   follows = lists.follows_kept (is_of c) r os (k.follows);
   results = or_else (lists.each_kept (is_of c) (λ o. HasResult o.course) os) (k.results);
-  knows = or_else (λ x. each_absurd (IsAt b j) (Names Nowhere) (kept_outs (is_of c) os)
+  knows = or_else (λ x. each_absurd (IsAt b j) (Names Absent) (kept_outs (is_of c) os)
       (lists.each_kept (is_of c) (IsAt b j) os x) n) (k.knows);
   offered = tt;
   over = tt;
@@ -587,19 +600,20 @@ putting_back c b j d r os m l h n k = record {
   marks = k.marks;
 }
 
-pub kept_put_back : (c i : ℕ) (d : Decision) (r : Removal) (os : List Out) (m : Mark) (w : Way) (l : Back) (h : ℕ
+pub kept_put_back : (c i : ℕ) (d : Decision) (r : Removal) (os : List Out) (m : Mark) (w : OutgoingLeg)
+    (l : IncomingLeg) (h : ℕ
     → Bool)
-    → WayIsAt c i w → Each (λ o. IsAt c i o → ⊥) (kept_outs (is_of c) os) → Kept d r os (Some (noted m w l)) h
-    → Kept d r (kept_outs (is_of c) os) (Some (noted m Nowhere l)) h
-kept_put_back c i d r os m Nowhere l h a n k = absurd a
+    → OutgoingIsAt c i w → Each (λ o. IsAt c i o → ⊥) (kept_outs (is_of c) os) → Kept d r os (Some (noted m w l)) h
+    → Kept d r (kept_outs (is_of c) os) (Some (noted m Absent l)) h
+kept_put_back c i d r os m Absent l h a n k = absurd a
 kept_put_back c i d r os m Refused l h a n k = absurd a
 kept_put_back c i d r os m (Offered b j) l h a n k =
     putting_back c b j d r os m l h
     (each_map (λ o. IsAt c i o → ⊥) (λ o. IsAt b j o → ⊥) (λ o f p. f (moved_at c i b j (a.0) (a.1) o p))
     (kept_outs (is_of c) os) n) k
-kept_put_back c i d r os m (Over b j g) l h a n k =
+kept_put_back c i d r os m (Resolved b j g) l h a n k =
     absurd (among_absurd (λ o. IsAt b j o × HasEnded g o) (kept_outs (is_of c) os)
-    (lists.over_kept (is_of c) (Over b j g) os (k.over))
+    (lists.over_kept (is_of c) (Resolved b j g) os (k.over))
     (each_map (λ o. IsAt c i o → ⊥) (λ o. IsAt b j o × HasEnded g o → ⊥)
     (λ o f p. f (moved_at c i b j (a.0) (a.1) o (p.0))) (kept_outs (is_of c) os) n))
 
@@ -614,17 +628,17 @@ halted_here : (c b j : ℕ) (os : List Out) (h : ℕ → Bool) → Among (IsAt b
 halted_here c b j os h n (inl t) = inl (ap (λ x. x || h b) t)
 halted_here c b j os h n (inr f) = inr (lists.elsewhere_kept (is_of c) b j os f n)
 
-halted_way : (c : ℕ) (w : Way) (os : List Out) (h : ℕ → Bool) → IsOffered w os h
+halted_outgoing : (c : ℕ) (w : OutgoingLeg) (os : List Out) (h : ℕ → Bool) → IsOffered w os h
     → IsOffered w (kept_outs (is_of c) os) (λ d. (d == c) || h d)
-halted_way c Nowhere os h k = tt
-halted_way c Refused os h k = tt
-halted_way c (Offered b j) os h (inl t) = inl (or_right (b == c) t)
-halted_way c (Offered b j) os h (inr n) = halted_here c b j os h n (either (b == c))
-halted_way c (Over b j g) os h k = tt
+halted_outgoing c Absent os h k = tt
+halted_outgoing c Refused os h k = tt
+halted_outgoing c (Offered b j) os h (inl t) = inl (or_right (b == c) t)
+halted_outgoing c (Offered b j) os h (inr n) = halted_here c b j os h n (either (b == c))
+halted_outgoing c (Resolved b j g) os h k = tt
 
 pub kept_halt : (c : ℕ) (d : Decision) (r : Removal) (os : List Out) (e : Option Note) (h : ℕ → Bool) → Kept d r os e h
     → Kept d r (kept_outs (is_of c) os) e (λ b. (b == c) || h b)
 kept_halt c d r os None h k = losing (is_of c) d r os None h (λ b. (b == c) || h b) tt tt k
 kept_halt c d r os (Some f) h k =
-    losing (is_of c) d r os (Some f) h (λ b. (b == c) || h b) (halted_way c f.way os h (k.offered))
-    (lists.over_kept (is_of c) f.way os (k.over)) k
+    losing (is_of c) d r os (Some f) h (λ b. (b == c) || h b) (halted_outgoing c f.outgoing os h (k.offered))
+    (lists.over_kept (is_of c) f.outgoing os (k.over)) k

@@ -3,11 +3,11 @@ use Rattle.std.proofs.Common.{◌≡◌, ◌⊎◌, inl, inr, ℕ, List, [], ◌
 use Rattle.std.proofs.Common.{None}
 use Rattle.std.specs.Prelude.{not, cond}
 use Rattle.ln_payment.specs.Parts.{Answer, By, Course, Covered, Decided, Decision, Each, Ended, Forward, Fulfils}
-use Rattle.ln_payment.specs.Parts.{Held, Hold, IsHeld, Kind, Mark, NoRemoval, Note, Nowhere, Offered, Open, Out}
-use Rattle.ln_payment.specs.Parts.{Over, Past, Proposed, Refused, Removal, Sent, Settled, Signed, Uncovered}
+use Rattle.ln_payment.specs.Parts.{Held, Hold, IsHeld, Kind, Mark, NoRemoval, Note, Absent, Offered, Open, Out}
+use Rattle.ln_payment.specs.Parts.{Resolved, Past, Proposed, Refused, Removal, RemovalSent, Settled, Signed, Uncovered}
 use Rattle.ln_payment.specs.Parts.{Undecided}
 use Rattle.ln_payment.specs.Rebuild.{everywhere, is_uncovered, kept_outs, kept_removal, note_read, nowhere}
-use Rattle.ln_payment.specs.Rebuild.{way_of}
+use Rattle.ln_payment.specs.Rebuild.{outgoing_of}
 use Rattle.ln_payment.specs.Promises.{Follows}
 use Rattle.ln_payment.proofs.Invariant.{AtMostOne, ForNote, HasResult, IsEarly, IsForwarded, IsKnown, IsOffered}
 use Rattle.ln_payment.proofs.Invariant.{IsOver, IsSettledOnly, Kept, MarkIs, NotAgain, Waits}
@@ -51,8 +51,8 @@ all_covered (o ∷ os) =
 
 -- with a note
 reads : (d : Decision) (r : Removal) (os : List Out) (e : Option Note) → IsEarly d r os e → IsHeld r ⊎ IsKnown e os
-    → ForNote (λ f. IsOffered f.way os nowhere) e → ForNote (λ f. IsOver f.way os) e
-    → ForNote (λ f. NotAgain f.mark f.way f.back r) e → ForNote (λ f. IsSettledOnly f.back r) e
+    → ForNote (λ f. IsOffered f.outgoing os nowhere) e → ForNote (λ f. IsOver f.outgoing os) e
+    → ForNote (λ f. NotAgain f.mark f.outgoing f.incoming r) e → ForNote (λ f. IsSettledOnly f.incoming r) e
     → IsHeld r ⊎ ForNote (λ f. MarkIs d f.mark) e → Records d r os → Kept d r os e nowhere
 reads d r os e y k f v n s m p = record {
   one = p.one;
@@ -81,57 +81,61 @@ no_hold r c i s f p = second_of f (p.forwards)
 
 -- nothing was offered
 read_none : (t : Bool) (m : Mark) (r : Removal) → Records (Decided m) r []
-    → Kept (Decided m) r [] (note_read (Decided m) Nowhere r) nowhere
+    → Kept (Decided m) r [] (note_read (Decided m) Absent r) nowhere
 read_none t m NoRemoval p =
-    reads (Decided m) NoRemoval [] (Some (noted m Nowhere Open)) tt (inr tt) tt tt (again_none m Nowhere Open) tt
+    reads (Decided m) NoRemoval [] (Some (noted m Absent Open)) tt (inr tt) tt tt (again_none m Absent Open) tt
     (inr refl) p
 read_none t Forward (By j Proposed) p = reads (Decided Forward) (By j Proposed) [] (Some (noted Forward Refused
-    Sent)) tt (inr tt) tt tt tt tt (inr refl) p
-read_none t Forward (By j Signed) p = reads (Decided Forward) (By j Signed) [] (Some (noted Forward Refused Sent)) tt
+    RemovalSent)) tt (inr tt) tt tt tt tt (inr refl) p
+read_none t Forward (By j Signed) p = reads (Decided Forward) (By j Signed) [] (Some
+    (noted Forward Refused RemovalSent)) tt
     (inr tt) tt tt tt tt (inr refl) p
 read_none t Hold (By j s) p = absurd (cc (p.waits))
 read_none t (Answer n) (By j Proposed) p = reads (Decided (Answer n)) (By j Proposed) [] (Some (noted (Answer n)
-    Nowhere Sent)) tt (inr tt) tt tt tt tt (inr refl) p
-read_none t (Answer n) (By j Signed) p = reads (Decided (Answer n)) (By j Signed) [] (Some (noted (Answer n) Nowhere
-    Sent)) tt (inr tt) tt tt tt tt (inr refl) p
+    Absent RemovalSent)) tt (inr tt) tt tt tt tt (inr refl) p
+read_none t (Answer n) (By j Signed) p = reads (Decided (Answer n)) (By j Signed) [] (Some (noted (Answer n) Absent
+    RemovalSent)) tt (inr tt) tt tt tt tt (inr refl) p
 read_none t Forward (By j Held) p = reads (Decided Forward) (By j Held) [] None tt (inl tt) tt tt tt tt (inl tt) p
 read_none t (Answer n) (By j Held) p = reads (Decided (Answer n)) (By j Held) [] None tt (inl tt) tt tt tt tt (inl tt) p
 
 -- an add is there
 read_open : (t : Bool) (c i : ℕ) (s : Course) → Records (Decided Forward) NoRemoval (made c i s)
     → Kept (Decided Forward) NoRemoval (made c i s)
-    (note_read (Decided Forward) (way_of t (made c i s)) NoRemoval) nowhere
+    (note_read (Decided Forward) (outgoing_of t (made c i s)) NoRemoval) nowhere
 read_open t c i Uncovered p = absurd (cc (p.covered.0))
 read_open t c i Covered p =
     reads (Decided Forward) NoRemoval (made c i Covered) (Some (noted Forward (Offered c i) Open)) tt
     (inr ((refl, refl), tt)) (inr (inl (refl, refl))) tt refl tt (inr refl) p
 read_open t c i (Ended k true) p =
-    reads (Decided Forward) NoRemoval (made c i (Ended k true)) (Some (noted Forward (Over c i k) Open)) tt
+    reads (Decided Forward) NoRemoval (made c i (Ended k true)) (Some (noted Forward (Resolved c i k) Open)) tt
     (inr ((refl, refl), tt)) tt (inl ((refl, refl), refl)) tt tt (inr refl) p
 read_open t c i (Ended k false) p = absurd (cc ((second_of (λ x. x) (p.results)).0))
 
 read_sent : (t : Bool) (j : Kind) (c i : ℕ) (s : Course) → Records (Decided Forward) (By j Signed) (made c i s)
-    → Kept (Decided Forward) (By j Signed) (made c i s) (note_read (Decided Forward) (way_of t (made c i s)) (By j
+    → Kept (Decided Forward) (By j Signed) (made c i s) (note_read (Decided Forward) (outgoing_of t (made c i s)) (By j
     Signed)) nowhere
 read_sent t j c i Uncovered p = absurd (cc (p.covered.0))
 read_sent t j c i Covered p = absurd (p.follows.0)
 read_sent t j c i (Ended k true) p =
-    reads (Decided Forward) (By j Signed) (made c i (Ended k true)) (Some (noted Forward (Over c i k) Sent)) tt
+    reads (Decided Forward) (By j Signed) (made c i (Ended k true)) (Some (noted Forward
+    (Resolved c i k) RemovalSent)) tt
     (inr ((refl, refl), tt)) tt (inl ((refl, refl), refl)) tt tt (inr refl) p
 read_sent t j c i (Ended k false) p = absurd (cc ((second_of (λ x. x) (p.results)).0))
 
 -- its removal is held
 read_held : (t : Bool) (m : Mark) (j : Kind) (c i : ℕ) (s : Course) → Records (Decided m) (By j Held) (made c i s)
-    → Kept (Decided m) (By j Held) (made c i s) (note_read (Decided m) (way_of t (made c i s)) (By j Held)) nowhere
+    → Kept (Decided m) (By j Held) (made c i s) (note_read (Decided m) (outgoing_of t (made c i s)) (By j Held)) nowhere
 read_held t Hold j c i s p = absurd (cc (p.waits))
 read_held t m j c i Uncovered p = absurd (cc (p.covered.0))
 read_held t m j c i Covered p = absurd (p.follows.0)
 read_held t Forward j c i (Ended k true) p =
-    reads (Decided Forward) (By j Held) (made c i (Ended k true)) (Some (noted Forward (Over c i k) Settled)) tt (inl
+    reads (Decided Forward) (By j Held) (made c i (Ended k true)) (Some (noted Forward
+    (Resolved c i k) Settled)) tt (inl
     tt) tt
     (inl ((refl, refl), refl)) tt tt (inl tt) p
 read_held t (Answer n) j c i (Ended k true) p =
-    reads (Decided (Answer n)) (By j Held) (made c i (Ended k true)) (Some (noted (Answer n) (Over c i k) Settled)) tt
+    reads (Decided (Answer n)) (By j Held) (made c i (Ended k true)) (Some (noted (Answer n)
+    (Resolved c i k) Settled)) tt
     (inl tt) tt (inl ((refl, refl), refl)) tt tt (inl tt) p
 read_held true Forward j c i (Ended k false) p =
     reads (Decided Forward) (By j Held) (made c i (Ended k false)) (Some (noted Forward (Offered c i) Settled)) tt
@@ -147,11 +151,12 @@ read_held false (Answer n) j c i (Ended k false) p =
 
 -- the decision has left the record
 read_past : (t : Bool) (j : Kind) (c i : ℕ) (s : Course) → Records Past (By j Held) (made c i s)
-    → Kept Past (By j Held) (made c i s) (note_read Past (way_of t (made c i s)) (By j Held)) nowhere
+    → Kept Past (By j Held) (made c i s) (note_read Past (outgoing_of t (made c i s)) (By j Held)) nowhere
 read_past t j c i Uncovered p = absurd (cc (p.covered.0))
 read_past t j c i Covered p = absurd (p.follows.0)
 read_past t j c i (Ended k true) p =
-    reads Past (By j Held) (made c i (Ended k true)) (Some (noted (Answer Fulfils) (Over c i k) Settled)) tt (inl tt) tt
+    reads Past (By j Held) (made c i (Ended k true)) (Some (noted (Answer Fulfils)
+    (Resolved c i k) Settled)) tt (inl tt) tt
     (inl ((refl, refl), refl)) tt tt (inl tt) p
 read_past true j c i (Ended k false) p =
     reads Past (By j Held) (made c i (Ended k false)) None tt (inl tt) tt tt tt tt (inl tt) p
@@ -159,7 +164,7 @@ read_past false j c i (Ended k false) p =
     reads Past (By j Held) (made c i (Ended k false)) None tt (inl tt) tt tt tt tt (inl tt) p
 
 read_one : (t : Bool) (d : Decision) (r : Removal) (c i : ℕ) (s : Course) → ((j : Kind) → r ≡ By j Proposed → ⊥)
-    → Records d r (made c i s) → Kept d r (made c i s) (note_read d (way_of t (made c i s)) r) nowhere
+    → Records d r (made c i s) → Kept d r (made c i s) (note_read d (outgoing_of t (made c i s)) r) nowhere
 read_one t Undecided r c i s n p = absurd (cc (p.early.1))
 read_one t (Decided Forward) NoRemoval c i s n p = read_open t c i s p
 read_one t (Decided Hold) NoRemoval c i s n p = absurd (no_hold NoRemoval c i s (λ x. x) p)
@@ -175,7 +180,7 @@ read_one t (Decided m) (By j Held) c i s n p = read_held t m j c i s p
 read_one t Past (By j Held) c i s n p = read_past t j c i s p
 
 read_all : (t : Bool) (d : Decision) (r : Removal) (os : List Out) → ((j : Kind) → r ≡ By j Proposed → ⊥)
-    → Records d r os → Kept d r os (note_read d (way_of t os) r) nowhere
+    → Records d r os → Kept d r os (note_read d (outgoing_of t os) r) nowhere
 read_all t Undecided r [] n p = reads Undecided r [] None (p.early) (inr refl) tt tt tt tt (inr tt) p
 read_all t (Decided m) r [] n p = read_none t m r p
 read_all t Past r [] n p = reads Past r [] None tt (inr refl) tt tt tt tt (inr tt) p
@@ -191,7 +196,7 @@ not_proposed (By k Held) j e = absurd (cc e)
 pub kept_restart : (t : Bool) (d : Decision) (r : Removal) (os : List Out) (e : Option Note) (h : ℕ → Bool)
     → Kept d r os e h
     → Kept d (kept_removal r) (kept_outs everywhere os)
-    (note_read d (way_of t (kept_outs everywhere os)) (kept_removal r)) nowhere
+    (note_read d (outgoing_of t (kept_outs everywhere os)) (kept_removal r)) nowhere
 kept_restart t d r os e h k =
     let p = moves.kept_drop_removal d r os e h k in
     read_all t d (kept_removal r) (kept_outs everywhere os) (not_proposed r) (record {

@@ -1,6 +1,6 @@
 -- Runs that show that the moves can be made, and what a rebuild reads of them.
 use Rattle.std.proofs.Common.{◌≡◌, List, [], ◌∷◌, true, false, refl, Some, None, take}
-use Rattle.ln_payment.specs.Parts.{Covered, Fails, Forward, Hold, Offered, Open, Refused, Sent, begun}
+use Rattle.ln_payment.specs.Parts.{Covered, Fails, Forward, Hold, Offered, Open, Refused, RemovalSent, begun}
 use Rattle.ln_payment.specs.Moves.{AreMade, Clear, Close, Decide, End, Forget, Halt, HoldRemoval, Move, Offer}
 use Rattle.ln_payment.specs.Moves.{Refuse, Remove, Restart, Resume, Settle, SignOuts, SignRemoval, Tell, after}
 use Rattle.ln_payment.specs.Moves.{IsTold}
@@ -22,7 +22,7 @@ signed = Decide Forward ∷ Offer 1 0 ∷ SignOuts 1 ∷ Restart true ∷ []
 signed_made : AreMade signed begun
 signed_made = (refl, (tt, (tt, (tt, tt))))
 
-signed_entry : (after signed begun).note ≡ Some (record { mark = Forward; way = Offered 1 0; back = Open })
+signed_entry : (after signed begun).note ≡ Some (record { mark = Forward; outgoing = Offered 1 0; incoming = Open })
 signed_entry = refl
 
 -- what is failed and signed isn't offered any more
@@ -32,7 +32,7 @@ failed = Decide Forward ∷ Refuse ∷ Remove Fails ∷ SignRemoval ∷ Restart 
 failed_made : AreMade failed begun
 failed_made = (refl, (tt, ((refl, refl), (tt, (tt, tt)))))
 
-failed_entry : (after failed begun).note ≡ Some (record { mark = Forward; way = Refused; back = Sent })
+failed_entry : (after failed begun).note ≡ Some (record { mark = Forward; outgoing = Refused; incoming = RemovalSent })
 failed_entry = refl
 
 -- but what is failed and lost is

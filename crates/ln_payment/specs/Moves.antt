@@ -4,7 +4,8 @@ use Rattle.std.specs.Prelude.{Option, Some, None}
 use Rattle.ln_payment.specs.Parts.{Kind, Fails, Mark, Forward, Hold, Answer, Decision, Undecided, Decided, Past}
 use Rattle.ln_payment.specs.Parts.{Proposed, Signed, Held, Removal, NoRemoval, By}
 use Rattle.ln_payment.specs.Parts.{Course, Uncovered, Covered, Ended, Out}
-use Rattle.ln_payment.specs.Parts.{Way, Nowhere, Refused, Offered, Over, Back, Open, Sent, Gone, Settled, Note}
+use Rattle.ln_payment.specs.Parts.{OutgoingLeg, Absent, Refused, Offered, Resolved, IncomingLeg, Open, RemovalSent}
+use Rattle.ln_payment.specs.Parts.{RemovalRefused, Settled, Note}
 use Rattle.ln_payment.specs.Parts.{Payment, Each, Among, IsAt, HasEnded, IsHeld}
 use Rattle.ln_payment.specs.Rebuild.{kept_outs, kept_removal, settled_note, restarted}
 
@@ -40,32 +41,32 @@ pub data Move : Type 0 where
 -- ---- what the book asks for
 
 -- the HTLC goes out
-abbrev pub AsksToOffer : Mark → Way → Back → Type 0
-AsksToOffer Forward Nowhere Open = Unit {0}
-AsksToOffer Forward Nowhere Sent = Unit {0}
-AsksToOffer Forward Nowhere Gone = Unit {0}
+abbrev pub AsksToOffer : Mark → OutgoingLeg → IncomingLeg → Type 0
+AsksToOffer Forward Absent Open = Unit {0}
+AsksToOffer Forward Absent RemovalSent = Unit {0}
+AsksToOffer Forward Absent RemovalRefused = Unit {0}
 AsksToOffer m w b = ⊥
 
 abbrev pub Offers : Option Note → Type 0
 Offers None = ⊥
-Offers (Some n) = AsksToOffer n.mark n.way n.back
+Offers (Some n) = AsksToOffer n.mark n.outgoing n.incoming
 
 -- the one that came in is removed so
-abbrev pub IsAnswer : Kind → Mark → Way → Type 0
+abbrev pub IsAnswer : Kind → Mark → OutgoingLeg → Type 0
 IsAnswer k (Answer j) w = j ≡ k
 IsAnswer k Forward Refused = Fails ≡ k
-IsAnswer k Forward (Over c i j) = j ≡ k
+IsAnswer k Forward (Resolved c i j) = j ≡ k
 IsAnswer k m w = ⊥
 
-abbrev pub AsksToRemove : Kind → Mark → Way → Back → Type 0
+abbrev pub AsksToRemove : Kind → Mark → OutgoingLeg → IncomingLeg → Type 0
 AsksToRemove k m w Open = IsAnswer k m w
-AsksToRemove k m w Sent = ⊥
-AsksToRemove k m w Gone = ⊥
+AsksToRemove k m w RemovalSent = ⊥
+AsksToRemove k m w RemovalRefused = ⊥
 AsksToRemove k m w Settled = ⊥
 
 abbrev pub Removes : Kind → Option Note → Type 0
 Removes k None = ⊥
-Removes k (Some n) = AsksToRemove k n.mark n.way n.back
+Removes k (Some n) = AsksToRemove k n.mark n.outgoing n.incoming
 
 -- ---- when a move may be made
 
@@ -76,18 +77,18 @@ IsDecided m Past = ⊥
 
 abbrev pub IsSettled : Option Note → Type 0
 IsSettled None = ⊥
-IsSettled (Some n) = n.back ≡ Settled
+IsSettled (Some n) = n.incoming ≡ Settled
 
 -- the book has the HTLC there
-abbrev pub WayIsAt : ℕ → ℕ → Way → Type 0
-WayIsAt c i Nowhere = ⊥
-WayIsAt c i Refused = ⊥
-WayIsAt c i (Offered d j) = (d ≡ c) × (j ≡ i)
-WayIsAt c i (Over d j k) = (d ≡ c) × (j ≡ i)
+abbrev pub OutgoingIsAt : ℕ → ℕ → OutgoingLeg → Type 0
+OutgoingIsAt c i Absent = ⊥
+OutgoingIsAt c i Refused = ⊥
+OutgoingIsAt c i (Offered d j) = (d ≡ c) × (j ≡ i)
+OutgoingIsAt c i (Resolved d j k) = (d ≡ c) × (j ≡ i)
 
 abbrev pub NoteIsAt : ℕ → ℕ → Option Note → Type 0
 NoteIsAt c i None = ⊥
-NoteIsAt c i (Some n) = WayIsAt c i n.way
+NoteIsAt c i (Some n) = OutgoingIsAt c i n.outgoing
 
 -- a link that hasn't halted hands out what became of the add that it has there
 abbrev pub IsTold : ℕ → ℕ → Kind → Payment → Type 0
@@ -97,15 +98,15 @@ abbrev pub is_of : ℕ → ℕ → Bool
 is_of c d = d == c
 
 -- what the book has offered in this channel is among these
-abbrev pub WayStays : ℕ → Way → List Out → Type 0
-WayStays c Nowhere os = Unit {0}
-WayStays c Refused os = Unit {0}
-WayStays c (Offered d j) os = d ≡ c → Among (IsAt d j) os
-WayStays c (Over d j k) os = Unit {0}
+abbrev pub OutgoingStays : ℕ → OutgoingLeg → List Out → Type 0
+OutgoingStays c Absent os = Unit {0}
+OutgoingStays c Refused os = Unit {0}
+OutgoingStays c (Offered d j) os = d ≡ c → Among (IsAt d j) os
+OutgoingStays c (Resolved d j k) os = Unit {0}
 
 abbrev pub Stays : ℕ → Option Note → List Out → Type 0
 Stays c None os = Unit {0}
-Stays c (Some n) os = WayStays c n.way os
+Stays c (Some n) os = OutgoingStays c n.outgoing os
 
 -- the book is at this add, which is not among these
 abbrev pub IsLost : ℕ → ℕ → Option Note → List Out → Type 0
@@ -176,23 +177,23 @@ removal_held (By k s) = By k Held
 
 -- of what the book has noted
 abbrev pub begun_note : Mark → Note
-begun_note m = record { mark = m; way = Nowhere; back = Open }
+begun_note m = record { mark = m; outgoing = Absent; incoming = Open }
 
 abbrev pub with_mark : Mark → Option Note → Option Note
 with_mark m None = None
 with_mark m (Some n) = Some (record n { mark = m })
 
-abbrev pub with_way : Way → Option Note → Option Note
-with_way w None = None
-with_way w (Some n) = Some (record n { way = w })
+abbrev pub with_outgoing : OutgoingLeg → Option Note → Option Note
+with_outgoing w None = None
+with_outgoing w (Some n) = Some (record n { outgoing = w })
 
-abbrev pub with_back : Back → Option Note → Option Note
-with_back b None = None
-with_back b (Some n) = Some (record n { back = b })
+abbrev pub with_incoming : IncomingLeg → Option Note → Option Note
+with_incoming b None = None
+with_incoming b (Some n) = Some (record n { incoming = b })
 
 abbrev pub settled : Option Note → Option Note
 settled None = None
-settled (Some n) = settled_note n.mark n.way
+settled (Some n) = settled_note n.mark n.outgoing
 
 abbrev pub moved : Move → Payment → Payment
 moved (Decide m) p = record p { decision = Decided m; note = Some (begun_note m) }
@@ -200,24 +201,24 @@ moved (Resume m) p = record p { decision = Decided m; note = with_mark m p.note 
 moved Clear p = record p { decision = Past }
 moved (Offer c i) p = record p {
   outs = record { channel = c; id = i; course = Uncovered } ∷ p.outs;
-  note = with_way (Offered c i) p.note;
+  note = with_outgoing (Offered c i) p.note;
 }
-moved Refuse p = record p { note = with_way Refused p.note }
+moved Refuse p = record p { note = with_outgoing Refused p.note }
 moved Leave p = record p { note = None }
 moved (SignOuts c) p = record p { outs = going_on (λ o. o.channel == c) after_sign p.outs }
 moved (End c i k) p = record p { outs = going_on (is_at c i) (after_end k) p.outs }
-moved (Tell c i k) p = record p { note = with_way (Over c i k) p.note }
+moved (Tell c i k) p = record p { note = with_outgoing (Resolved c i k) p.note }
 moved (Forget c i) p = record p { outs = going_on (is_at c i) after_forget p.outs }
-moved (Remove k) p = record p { removal = By k Proposed; note = with_back Sent p.note }
-moved (GiveUp k) p = record p { note = with_back Gone p.note }
+moved (Remove k) p = record p { removal = By k Proposed; note = with_incoming RemovalSent p.note }
+moved (GiveUp k) p = record p { note = with_incoming RemovalRefused p.note }
 moved SignRemoval p = record p { removal = removal_signed p.removal }
 moved HoldRemoval p = record p { removal = removal_held p.removal }
 moved Settle p = record p { note = settled p.note }
 moved Close p = record p { note = None }
 moved (Drop c) p = record p { outs = kept_outs (is_of c) p.outs }
-moved (PutBack c i) p = record p { outs = kept_outs (is_of c) p.outs; note = with_way Nowhere p.note }
+moved (PutBack c i) p = record p { outs = kept_outs (is_of c) p.outs; note = with_outgoing Absent p.note }
 moved DropRemoval p = record p { removal = kept_removal p.removal }
-moved Reopen p = record p { note = with_back Open p.note }
+moved Reopen p = record p { note = with_incoming Open p.note }
 moved (Halt c) p = record p { outs = kept_outs (is_of c) p.outs; halted = λ d. (d == c) || p.halted d }
 moved (Restart still) p = restarted still p
 

@@ -45,23 +45,23 @@ pub record Out : Type 0 where
 -- ---- what the book keeps
 
 -- the HTLC that goes out
-pub data Way : Type 0 where
-  Nowhere : Way
-  Refused : Way
-  Offered : (c i : ℕ) → Way
-  Over : (c i : ℕ) (k : Kind) → Way  -- it ended so
+pub data OutgoingLeg : Type 0 where
+  Absent : OutgoingLeg
+  Refused : OutgoingLeg
+  Offered : (c i : ℕ) → OutgoingLeg
+  Resolved : (c i : ℕ) (k : Kind) → OutgoingLeg  -- it ended so
 
 -- the removal of the HTLC that came in
-pub data Back : Type 0 where
-  Open : Back  -- there is none
-  Sent : Back
-  Gone : Back  -- it was refused
-  Settled : Back  -- it is held
+pub data IncomingLeg : Type 0 where
+  Open : IncomingLeg  -- there is none
+  RemovalSent : IncomingLeg
+  RemovalRefused : IncomingLeg  -- it was refused
+  Settled : IncomingLeg  -- it is held
 
 pub record Note : Type 0 where
   pub mark : Mark
-  pub way : Way
-  pub back : Back
+  pub outgoing : OutgoingLeg
+  pub incoming : IncomingLeg
 
 -- ---- all of it
 

@@ -3,13 +3,13 @@ use Rattle.std.proofs.Common.{◌≡◌, Option, Some, None, refl, inl, inr, ◌
 use Rattle.ln_msgs.specs.declared.refusals.refusal.Refusal.{Refusal}
 use Rattle.ln_msgs.specs.declared.refusals.refusal.Refusal.TheVariants as refusal
 use Rattle.ln_keys.specs.declared.toy_keys.ToyKeys.{ToyKeys}
-use Rattle.ln_channels.specs.declared.step.Step.{Step as ChannelStep}
-use Rattle.ln_channels.specs.declared.step.Step.TheVariants as step
-use Rattle.ln_channels.specs.Failing.{ByRecord, MayFail as ChannelMayFail}
-use Rattle.ln_channels.specs.World.{World as Channels}
-use Rattle.ln_desks.specs.declared.step.Step.{Step as DeskStep}
-use Rattle.ln_desks.specs.World.{World as Desks, MayFailBy as DeskMayFailBy}
-use Rattle.ln_desks.specs.World as desks
+use Rattle.ln_world_channels.specs.declared.step.Step.{Step as ChannelStep}
+use Rattle.ln_world_channels.specs.declared.step.Step.TheVariants as step
+use Rattle.ln_world_channels.specs.Failing.{ByRecord, MayFail as ChannelMayFail}
+use Rattle.ln_world_channels.specs.World.{World as Channels}
+use Rattle.ln_world_dispatch.specs.declared.step.Step.{Step as DispatchStep}
+use Rattle.ln_world_dispatch.specs.World.{World as Dispatchers, MayFailBy as DispatcherMayFailBy}
+use Rattle.ln_world_dispatch.specs.World as dispatchers
 use Rattle.ln_world.specs.World.{World, plain, MayFailBy, MayFail}
 use Rattle.ln_script.specs.Keys.{toy}
 use Rattle.ln_script.specs.Report.{StepFails}
@@ -36,21 +36,22 @@ channels_fail (step.StopBefore e a) r w h = inl h
 channels_fail (step.StopAfter e a) r w h = by_record r h
 channels_fail (step.Up n) r w h = inl h
 
-desks_fail : (o : Option (ChannelStep ToyKeys toy)) (r : Refusal) (w : Channels ToyKeys) → DeskMayFailBy toy o r w
-    → IsBy r (DeskMayFailBy toy o refusal.Damaged w)
-desks_fail None r w h = inl h
-desks_fail (Some s) r w h = channels_fail s r w h
+dispatchers_fail : (o : Option (ChannelStep ToyKeys toy)) (r : Refusal) (w : Channels ToyKeys)
+    → DispatcherMayFailBy toy o r w
+    → IsBy r (DispatcherMayFailBy toy o refusal.Damaged w)
+dispatchers_fail None r w h = inl h
+dispatchers_fail (Some s) r w h = channels_fail s r w h
 
-world_fails : (o : Option (DeskStep ToyKeys toy)) (r : Refusal) (d : Desks ToyKeys) → MayFailBy toy o r d
+world_fails : (o : Option (DispatchStep ToyKeys toy)) (r : Refusal) (d : Dispatchers ToyKeys) → MayFailBy toy o r d
     → IsBy r (MayFailBy toy o refusal.Damaged d)
 world_fails None r d h = inl h
 world_fails (Some s) r d (inl h) = inl h
-world_fails (Some s) r d (inr h) = either (desks_fail (desks.plain toy s d) r d.channels h)
+world_fails (Some s) r d (inr h) = either (dispatchers_fail (dispatchers.plain toy s d) r d.channels h)
   where
-    either : IsBy r (DeskMayFailBy toy (desks.plain toy s d) refusal.Damaged d.channels)
+    either : IsBy r (DispatcherMayFailBy toy (dispatchers.plain toy s d) refusal.Damaged d.channels)
         → IsBy r (MayFailBy toy (Some s) refusal.Damaged d)
     either (inl e) = inl e
     either (inr p) = inr (p.0, inr p.1)
 
 pub fails_so : (s : ToyStep) (r : Refusal) (w : World ToyKeys) → MayFail toy s r w → StepFails s r w
-fails_so s r w h = world_fails (plain toy s w) r w.desks h
+fails_so s r w h = world_fails (plain toy s w) r w.dispatchers h

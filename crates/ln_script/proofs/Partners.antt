@@ -4,7 +4,7 @@ use Rattle.std.proofs.Math.Logic.{∥∥₁_prop}
 use Rattle.ln_keys.specs.declared.toy_keys.ToyKeys.{ToyKeys}
 use Rattle.ln_keys.specs.Partners.{ArePartners}
 use Rattle.ln_keys.specs.Toy.{toy_signer}
-use Rattle.ln_channels.specs.declared.step.Partners.{Partners}
+use Rattle.ln_world_channels.specs.declared.step.Partners.{Partners}
 use Rattle.ln_script.specs.Keys.{toy, keys_of, partners_of}
 
 abbrev Are : ToyKeys → ToyKeys → Type 0

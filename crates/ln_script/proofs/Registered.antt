@@ -4,13 +4,13 @@ use Rattle.std.proofs.Common.{None, Result, Ok, Err, refl, sym, ap, ◌∙◌, s
 use Rattle.std.specs.List.{count_by, flat_map}
 use Rattle.std.specs.Str.{bytes_eq}
 use Rattle.std.proofs.lemmas.Slice.Eq.{bytes_eq-Decides}
-use Rattle.ln_channels.specs.declared.step.End.{End}
-use Rattle.ln_channels.specs.declared.step.Node.{Node}
+use Rattle.ln_world_channels.specs.declared.step.End.{End}
+use Rattle.ln_world_channels.specs.declared.step.Node.{Node}
 use Rattle.ln_channel.specs.declared.command.Command.{Command}
 use Rattle.ln_world.specs.declared.step.Act.{Act}
 use Rattle.ln_world.specs.declared.step.Act.TheVariants as act
 use Rattle.ln_world.specs.declared.step.Step.TheVariants as step
-use Rattle.ln_channels.specs.Promises.{Each}
+use Rattle.ln_world_channels.specs.Promises.{Each}
 use Rattle.ln_script.specs.declared.hook.HookLine.{HookLine}
 use Rattle.ln_script.specs.declared.hook.Hooked.{Hooked}
 use Rattle.ln_script.specs.Word.{◌>>=◌, decimal_at, number_at, node_at}

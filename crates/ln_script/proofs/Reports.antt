@@ -12,10 +12,10 @@ use Rattle.ln_msgs.specs.declared.refusals.refusal.Refusal.{Refusal}
 use Rattle.ln_msgs.specs.declared.refusals.refusal.Refusal.TheVariants as refusal
 use Rattle.ln_hooks.specs.declared.event.ChannelEvent.{ChannelEvent}
 use Rattle.ln_hooks.specs.declared.verdict.Verdict.{Verdict}
-use Rattle.ln_channels.specs.declared.line.Line.{Line}
-use Rattle.ln_desks.specs.Seated.{Answers, Tables, Stand}
-use Rattle.ln_desks.specs.World.{World as Desks}
-use Rattle.ln_desks.specs.World as desks
+use Rattle.ln_world_channels.specs.declared.line.Line.{Line}
+use Rattle.ln_world_dispatch.specs.Seated.{Answers, Tables, Stand}
+use Rattle.ln_world_dispatch.specs.World.{World as Dispatchers}
+use Rattle.ln_world_dispatch.specs.World as dispatchers
 use Rattle.ln_world.specs.declared.node.NodeBook.{NodeBook}
 use Rattle.ln_world.specs.World.{World, empty, happens, step_lines, run_lines}
 use Rattle.ln_world.specs.Hooked.{answered, verdict_in, Steps, HasRun, RunMayFail}
@@ -74,7 +74,7 @@ begins : (n : ℕ) (a : Answers) (done rest : List ToyStep) (lines : List Line) 
     → (more : List ℕ) × (lines_text lines ++ more ≡ report_text n (said_by a n (done ++ rest)))
 begins n a done rest lines is =
     let so = further a done rest (empty n) in
-    let ends = ends_text (left_by a n (done ++ rest)).desks.channels in (
+    let ends = ends_text (left_by a n (done ++ rest)).dispatchers.channels in (
       lines_text so.0 ++ ends,
       sym (append_assoc (lines_text lines) (lines_text so.0) ends)
           ∙ ap (λ (l : List ℕ). l ++ ends) (sym (flat_map-append shown_line lines so.0)
@@ -90,10 +90,14 @@ pub on_err_so : {T E : Type 0} (r : Result T E) (Q : Type 0) → Q → OnErr r Q
 on_err_so (Ok x) Q h = tt
 on_err_so (Err e) Q h = h
 
-pub empty_so : (n : ℕ) (w : World ToyKeys) → w.desks ≡ desks.empty n → w.nodes ≡ [] → w ≡ empty n
+pub empty_so : (n : ℕ) (w : World ToyKeys) → w.dispatchers ≡ dispatchers.empty n → w.nodes ≡ [] → w ≡ empty n
 empty_so n w d none =
-    ap (λ (x : Desks ToyKeys). let it : World ToyKeys = record { desks = x; nodes = w.nodes } in it) d
-    ∙ ap (λ (x : List NodeBook). let it : World ToyKeys = record { desks = desks.empty n; nodes = x } in it) none
+    ap (λ (x : Dispatchers ToyKeys). let it : World ToyKeys = record { dispatchers = x; nodes = w.nodes } in it) d
+    ∙ ap (λ (x : List NodeBook). let it : World ToyKeys = record {
+      dispatchers = dispatchers.empty n;
+      nodes =
+          x;
+    } in it) none
 
 -- ---- a step
 
@@ -166,7 +170,7 @@ module _ {H : Type 0} (calls : H → ChannelEvent → Verdict → H → Type 0) 
   }
 
   pub told_many : (done : List ToyStep) (w : World ToyKeys) (ts : List (Tables calls)) (left : List (Option H))
-      (a b : Option (List ℕ)) → IsTold done w ts left a b → length ts ≡ length w.desks.desks
+      (a b : Option (List ℕ)) → IsTold done w ts left a b → length ts ≡ length w.dispatchers.dispatchers
   told_many done w ts left a b t = ran_many toy calls handed done w ts left [] t.lines t.ran
 
   pub told_all : (done ss : List ToyStep) (w : World ToyKeys) (ts : List (Tables calls)) (left : List (Option H))
@@ -191,7 +195,8 @@ module _ {H : Type 0} (calls : H → ChannelEvent → Verdict → H → Type 0) 
         all_are = sym is;
         tables = ts;
         left = left;
-        stand = subst (λ (x : World ToyKeys). Stand calls handed h.answers x.desks.used x.desks.desks ts left) h.world
+        stand = subst (λ (x : World ToyKeys). Stand calls handed h.answers x.dispatchers.used x.dispatchers.dispatchers
+            ts left) h.world
             h.stand;
         written = subst (IsPartlyWritten a c)
             (so.1 ∙ ap (λ (ss : List ToyStep). report_text (length handed) (said_by h.answers (length handed) ss)) is)
@@ -238,31 +243,33 @@ module _ {H : Type 0} (calls : H → ChannelEvent → Verdict → H → Type 0) 
 
   text_is : (ss : List ToyStep) (w : World ToyKeys) (ts : List (Tables calls)) (left : List (Option H))
       (lines : List Line) (h : HasRun toy calls handed ss w ts left [] lines)
-      → lines_text lines ++ ends_text w.desks.channels
+      → lines_text lines ++ ends_text w.dispatchers.channels
       ≡ report_text (length handed) (said_by h.answers (length handed) ss)
   text_is ss w ts left lines h =
-      ap (λ (l : List Line). lines_text l ++ ends_text w.desks.channels) h.told
-      ∙ ap (λ (x : World ToyKeys). lines_text (from h.answers ss (empty (length handed))) ++ ends_text x.desks.channels)
+      ap (λ (l : List Line). lines_text l ++ ends_text w.dispatchers.channels) h.told
+      ∙ ap (λ (x : World ToyKeys). lines_text (from h.answers ss (empty (length handed)))
+      ++ ends_text x.dispatchers.channels)
       h.world
 
   pub reports : (ss : List ToyStep) (w : World ToyKeys) (ts : List (Tables calls)) (left : List (Option H))
       (a b c : Option (List ℕ)) → StepsTold calls handed ss w ts left a b
-      → Appends b c (ends_text w.desks.channels) → Reports calls handed ss a c
+      → Appends b c (ends_text w.dispatchers.channels) → Reports calls handed ss a c
   reports ss w ts left a b c t more =
       let h = t.has_run in
       record {
         answers = h.answers;
         tables = ts;
         left = left;
-        stand = subst (λ (x : World ToyKeys). Stand calls handed h.answers x.desks.used x.desks.desks ts left) h.world
+        stand = subst (λ (x : World ToyKeys). Stand calls handed h.answers x.dispatchers.used x.dispatchers.dispatchers
+            ts left) h.world
             h.stand;
         written = subst (Appends a c) (text_is ss w ts left t.lines h)
-            (Appends-trans a b c (lines_text t.lines) (ends_text w.desks.channels) t.written more);
+            (Appends-trans a b c (lines_text t.lines) (ends_text w.dispatchers.channels) t.written more);
       }
 
   pub reports_partly : (ss : List ToyStep) (w : World ToyKeys) (ts : List (Tables calls)) (left : List (Option H))
       (a b c : Option (List ℕ)) → StepsTold calls handed ss w ts left a b
-      → IsPartlyWritten b c (ends_text w.desks.channels) → ReportsPartly calls handed ss a c
+      → IsPartlyWritten b c (ends_text w.dispatchers.channels) → ReportsPartly calls handed ss a c
   reports_partly ss w ts left a b c t p =
       let h = t.has_run in
       record {
@@ -272,10 +279,11 @@ module _ {H : Type 0} (calls : H → ChannelEvent → Verdict → H → Type 0) 
         all_are = sym (append-nil ss);
         tables = ts;
         left = left;
-        stand = subst (λ (x : World ToyKeys). Stand calls handed h.answers x.desks.used x.desks.desks ts left) h.world
+        stand = subst (λ (x : World ToyKeys). Stand calls handed h.answers x.dispatchers.used x.dispatchers.dispatchers
+            ts left) h.world
             h.stand;
         written = subst (IsPartlyWritten a c) (text_is ss w ts left t.lines h)
-            (partly_behind a b c (lines_text t.lines) (ends_text w.desks.channels) t.written p);
+            (partly_behind a b c (lines_text t.lines) (ends_text w.dispatchers.channels) t.written p);
       }
 
   pub nothing_done : (ss : List ToyStep) (a : Option (List ℕ)) → ReportsPartly calls handed ss a a

@@ -9,11 +9,11 @@ use Rattle.ln_msgs.specs.declared.refusals.refusal.Refusal.TheVariants as refusa
 use Rattle.ln_keys.specs.declared.toy_keys.ToyKeys.{ToyKeys}
 use Rattle.ln_hooks.specs.declared.event.ChannelEvent.{ChannelEvent}
 use Rattle.ln_hooks.specs.declared.verdict.Verdict.{Verdict}
-use Rattle.ln_desks.specs.declared.step.Step.{Step as DeskStep}
-use Rattle.ln_desks.specs.Seated.{Tables}
-use Rattle.ln_desks.specs.World.{World as Desks}
-use Rattle.ln_desks.specs.World as desks
-use Rattle.ln_desks.proofs.Restarting.{as_many_tables}
+use Rattle.ln_world_dispatch.specs.declared.step.Step.{Step as DispatchStep}
+use Rattle.ln_world_dispatch.specs.Seated.{Tables}
+use Rattle.ln_world_dispatch.specs.World.{World as Dispatchers}
+use Rattle.ln_world_dispatch.specs.World as dispatchers
+use Rattle.ln_world_dispatch.proofs.Restarting.{as_many_tables}
 use Rattle.ln_world.specs.declared.node.NodeBook.{NodeBook}
 use Rattle.ln_world.specs.World.{World, moved_by, plain}
 use Rattle.ln_script.specs.Keys.{toy}
@@ -33,14 +33,14 @@ use Rattle.ln_script.proofs.Reports.{caused}
 use Rattle.ln_script.proofs.Reports.{reports, reports_partly, script_reports, script_partly}
 use Rattle.ln_script.proofs.Script.{first_lines, after_line, at_bad, at_end, left_to_read}
 
-same_hooks : (v : Verdict) (o : Option (DeskStep ToyKeys toy)) (d : Desks ToyKeys)
+same_hooks : (v : Verdict) (o : Option (DispatchStep ToyKeys toy)) (d : Dispatchers ToyKeys)
     → (moved_by toy v o d).hooks ≡ d.hooks
 same_hooks v None d = refl
 same_hooks v (Some s) d = refl
 
 module _ {H : Type 0} (calls : H → ChannelEvent → Verdict → H → Type 0) where
-  pub as_many_stand : (m : Moment calls) → AllStand calls m → length m.tables ≡ length m.world.desks.desks
-  as_many_stand m a = as_many_tables calls a.handed a.answers m.world.desks.desks m.tables a.stand.seated
+  pub as_many_stand : (m : Moment calls) → AllStand calls m → length m.tables ≡ length m.world.dispatchers.dispatchers
+  as_many_stand m a = as_many_tables calls a.handed a.answers m.world.dispatchers.dispatchers m.tables a.stand.seated
 
   stands_on : (s : ToyStep) (m n : Moment calls) → AllStand calls m → OneTold calls s m n → AllStand calls n
   stands_on s m n a t =
@@ -48,8 +48,8 @@ module _ {H : Type 0} (calls : H → ChannelEvent → Verdict → H → Type 0) 
       record {
         handed = a.handed;
         answers = st.moved.more;
-        count = a.count ∙ sym (ap (λ (x : World ToyKeys). x.desks.hooks) st.world
-            ∙ same_hooks st.said (plain toy s m.world) m.world.desks);
+        count = a.count ∙ sym (ap (λ (x : World ToyKeys). x.dispatchers.hooks) st.world
+            ∙ same_hooks st.said (plain toy s m.world) m.world.dispatchers);
         stand = st.moved.stand;
       }
 
@@ -113,17 +113,18 @@ module _ {H : Type 0} (calls : H → ChannelEvent → Verdict → H → Type 0) 
   }
 
   -- nothing is set, and no channel is open
-  pub begun : {T : Type 0} (tables_of : T → Tables calls) (d : Desks ToyKeys) (nodes : List NodeBook) (kept : List T)
-      (left : List (Option H)) (a : Option (List ℕ)) → d ≡ desks.empty (length handed) → nodes ≡ [] → kept ≡ []
+  pub begun : {T : Type 0} (tables_of : T
+      → Tables calls) (d : Dispatchers ToyKeys) (nodes : List NodeBook) (kept : List T)
+      (left : List (Option H)) (a : Option (List ℕ)) → d ≡ dispatchers.empty (length handed) → nodes ≡ [] → kept ≡ []
       → left ≡ map Some handed → ToldTo [] a (record {
-        world = record { desks = d; nodes = nodes };
+        world = record { dispatchers = d; nodes = nodes };
         tables = map tables_of kept;
         left = left;
         written = a;
       })
-  begun tables_of d nodes kept left a desks_are none no_tables all =
-      let w : World ToyKeys = record { desks = d; nodes = nodes } in
-      told_none calls handed w (map tables_of kept) left a (empty_so (length handed) w desks_are none)
+  begun tables_of d nodes kept left a dispatchers_are none no_tables all =
+      let w : World ToyKeys = record { dispatchers = d; nodes = nodes } in
+      told_none calls handed w (map tables_of kept) left a (empty_so (length handed) w dispatchers_are none)
       (ap (map tables_of) no_tables) all
 
   pub told_each : (done ss : List ToyStep) (m n : Moment calls) (a : Option (List ℕ)) → ToldTo done a m
@@ -296,7 +297,7 @@ module _ {H : Type 0} (calls : H → ChannelEvent → Verdict → H → Type 0) 
   pub script_told : (text : List ℕ) (ls : List (List ℕ)) (steps : List ToyStep) (w : World ToyKeys)
       (ts : List (Tables calls)) (left : List (Option H)) (a b c : Option (List ℕ)) → ls ≡ lines text
       → steps_from 1 ls ≡ Ok steps → StepsTold calls handed (numbered 0 steps) w ts left a b
-      → Appends b c (ends_text w.desks.channels) → ReportsScript calls handed (script_at text) a c
+      → Appends b c (ends_text w.dispatchers.channels) → ReportsScript calls handed (script_at text) a c
   script_told text ls steps w ts left a b c is ok told more =
       script_reports calls handed (script_at text) (numbered 0 steps) a c (script_read text ls steps is ok)
       (reports calls handed (numbered 0 steps) w ts left a b c told more)
@@ -304,7 +305,7 @@ module _ {H : Type 0} (calls : H → ChannelEvent → Verdict → H → Type 0) 
   pub script_ends : (text : List ℕ) (ls : List (List ℕ)) (steps : List ToyStep) (w : World ToyKeys)
       (ts : List (Tables calls)) (left : List (Option H)) (a b c : Option (List ℕ)) → ls ≡ lines text
       → steps_from 1 ls ≡ Ok steps → StepsTold calls handed (numbered 0 steps) w ts left a b
-      → IsPartlyWritten b c (ends_text w.desks.channels) → ReportsScriptPartly calls handed (script_at text) a c
+      → IsPartlyWritten b c (ends_text w.dispatchers.channels) → ReportsScriptPartly calls handed (script_at text) a c
   script_ends text ls steps w ts left a b c is ok told part =
       script_partly calls handed (script_at text) (numbered 0 steps) a c (script_read text ls steps is ok)
       (reports_partly calls handed (numbered 0 steps) w ts left a b c told part)

@@ -5,13 +5,13 @@ use Rattle.std.specs.Str.{bytes_eq}
 use Rattle.ln_keys.specs.declared.toy_keys.ToyKeys.{ToyKeys}
 use Rattle.ln_bytes.specs.declared.short_id.ShortId.{ShortId}
 use Rattle.ln_channel.specs.declared.command.Command.TheVariants as command
-use Rattle.ln_channels.specs.declared.step.End.{End}
-use Rattle.ln_channels.specs.declared.step.Node.{Node}
-use Rattle.ln_channels.specs.declared.step.Open.{Open}
+use Rattle.ln_world_channels.specs.declared.step.End.{End}
+use Rattle.ln_world_channels.specs.declared.step.Node.{Node}
+use Rattle.ln_world_channels.specs.declared.step.Open.{Open}
 use Rattle.ln_world.specs.declared.step.Act.{Act}
 use Rattle.ln_world.specs.declared.step.Act.TheVariants as act
 use Rattle.ln_world.specs.declared.step.Step.TheVariants as step
-use Rattle.ln_channels.specs.Promises.{Each}
+use Rattle.ln_world_channels.specs.Promises.{Each}
 use Rattle.ln_hooks.specs.declared.verdict.Verdict.{Verdict}
 use Rattle.ln_script.specs.Word.{◌>>=◌, decimal_at, number_at, node_at, end_at, short_id_at}
 use Rattle.ln_script.specs.Keys.{toy}

@@ -10,9 +10,9 @@ use Rattle.std.proofs.lemmas.List.{length-replicate}
 use Rattle.sha2.proofs.Facts256.{length-sha256}
 use Rattle.ln_keys.specs.ToyOnion.{toy_key, toy_hmac, filled, toy_packet, payload_bytes, toy_made}
 use Rattle.ln_channel.specs.declared.command.Command.{Command}
-use Rattle.ln_channels.specs.declared.step.End.{End}
-use Rattle.ln_channels.specs.declared.step.Node.{Node}
-use Rattle.ln_pair.specs.Widths.{IsCommand}
+use Rattle.ln_world_channels.specs.declared.step.End.{End}
+use Rattle.ln_world_channels.specs.declared.step.Node.{Node}
+use Rattle.ln_channel_laws.specs.Widths.{IsCommand}
 use Rattle.ln_world.specs.declared.step.Act.TheVariants as act
 use Rattle.ln_world.specs.declared.step.Step.TheVariants as step
 use Rattle.ln_script.specs.Word.{◌>>=◌, is_decimal, decimal_at, number_at, node_at, short_id_at, digit_at, code_at}

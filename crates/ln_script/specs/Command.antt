@@ -6,7 +6,7 @@ use Rattle.ln_keys.specs.Hash.{payment_hash}
 use Rattle.ln_keys.specs.ToyOnion.{toy_made}
 use Rattle.ln_channel.specs.declared.command.Command.{Command}
 use Rattle.ln_channel.specs.declared.command.Command.TheVariants as command
-use Rattle.ln_channels.specs.declared.step.Node.{Node}
+use Rattle.ln_world_channels.specs.declared.step.Node.{Node}
 use Rattle.ln_script.specs.Word.{◌>>=◌, decimal_at, number_at, short_id_at, code_at}
 use Rattle.ln_script.specs.Onion.{payloads_at}
 

@@ -5,7 +5,7 @@ use Rattle.ln_keys.specs.declared.keys.ChannelKeys.{Ghosts}
 use Rattle.ln_keys.specs.declared.toy_keys.ToyKeys.{ToyKeys}
 use Rattle.ln_keys.specs.Toy.{toy_signer}
 use Rattle.ln_keys.proofs.ToyPartners.{are_partners}
-use Rattle.ln_channels.specs.declared.step.Partners.{Partners}
+use Rattle.ln_world_channels.specs.declared.step.Partners.{Partners}
 
 -- what toy keys answer
 abbrev pub toy : Ghosts ToyKeys

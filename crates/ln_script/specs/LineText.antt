@@ -8,20 +8,20 @@ use Rattle.ln_msgs.specs.Refusals.RefusalText.{refusal_text}
 use Rattle.ln_hooks.specs.declared.verdict.FailureCode.TheVariants as failure
 use Rattle.ln_hooks.specs.declared.verdict.Verdict.{Verdict}
 use Rattle.ln_hooks.specs.declared.verdict.Verdict.TheVariants as verdict
-use Rattle.ln_channel.specs.declared.summary.Life.{Life}
-use Rattle.ln_channel.specs.declared.summary.Life.TheVariants as life
+use Rattle.ln_channel.specs.declared.summary.ChannelStatus.{ChannelStatus}
+use Rattle.ln_channel.specs.declared.summary.ChannelStatus.TheVariants as status
 use Rattle.ln_channel.specs.declared.summary.Summary.{Summary}
-use Rattle.ln_channels.specs.declared.step.End.{End}
-use Rattle.ln_channels.specs.declared.step.Node.{Node}
-use Rattle.ln_channels.specs.declared.line.Word.{Word}
-use Rattle.ln_channels.specs.declared.line.Word.TheVariants as word
-use Rattle.ln_channels.specs.declared.line.Ending.{Ending}
-use Rattle.ln_channels.specs.declared.line.Ending.TheVariants as ending
-use Rattle.ln_channels.specs.declared.line.Choice.{Choice}
-use Rattle.ln_channels.specs.declared.line.Choice.TheVariants as choice
-use Rattle.ln_channels.specs.declared.line.EndLine.{EndLine}
-use Rattle.ln_channels.specs.declared.line.Line.{Line}
-use Rattle.ln_channels.specs.declared.line.Line.TheVariants as line
+use Rattle.ln_world_channels.specs.declared.step.End.{End}
+use Rattle.ln_world_channels.specs.declared.step.Node.{Node}
+use Rattle.ln_world_channels.specs.declared.line.Word.{Word}
+use Rattle.ln_world_channels.specs.declared.line.Word.TheVariants as word
+use Rattle.ln_world_channels.specs.declared.line.Ending.{Ending}
+use Rattle.ln_world_channels.specs.declared.line.Ending.TheVariants as ending
+use Rattle.ln_world_channels.specs.declared.line.Choice.{Choice}
+use Rattle.ln_world_channels.specs.declared.line.Choice.TheVariants as choice
+use Rattle.ln_world_channels.specs.declared.line.EndLine.{EndLine}
+use Rattle.ln_world_channels.specs.declared.line.Line.{Line}
+use Rattle.ln_world_channels.specs.declared.line.Line.TheVariants as line
 
 -- a node's letter and the channel's number
 unfoldable pub end_text : End → List ℕ
@@ -141,12 +141,12 @@ line_text line.Idle = codes "idle"
 
 -- ---- how an end stands
 
-abbrev pub life_text : Life → List ℕ
-life_text life.Open = codes "open"
-life_text life.Ready = codes "ready"
-life_text life.Shut = codes "shut"
-life_text (life.Closed fee) = with_number (codes "closed") fee
-life_text (life.Failed why) = with_number (codes "failed") (refusal_number why)
+abbrev pub status_text : ChannelStatus → List ℕ
+status_text status.Open = codes "open"
+status_text status.Ready = codes "ready"
+status_text status.Shut = codes "shut"
+status_text (status.Closed fee) = with_number (codes "closed") fee
+status_text (status.Failed why) = with_number (codes "failed") (refusal_number why)
 
 -- the own updates that its last signature covers, and the own ones and the peer's that it holds as committed
 abbrev pub counts_text : Summary → List ℕ
@@ -158,7 +158,7 @@ counts_text s =
 abbrev pub worth_text : Summary → List ℕ
 worth_text s =
     codes " balance " ++ (decimal s.own ++ (codes "/" ++ (decimal s.peer ++ (codes " live " ++ (decimal s.live
-    ++ (codes " " ++ life_text s.life))))))
+    ++ (codes " " ++ status_text s.status))))))
 
 abbrev pub end_line_text : EndLine → List ℕ
 end_line_text l = end_text l.end ++ (counts_text l.summary ++ worth_text l.summary)

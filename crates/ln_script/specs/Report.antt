@@ -9,10 +9,10 @@ use Rattle.ln_keys.specs.declared.toy_keys.ToyKeys.{ToyKeys}
 use Rattle.ln_hooks.specs.declared.event.ChannelEvent.{ChannelEvent}
 use Rattle.ln_hooks.specs.declared.verdict.Verdict.{Verdict}
 use Rattle.ln_hooks.specs.declared.verdict.Verdict.TheVariants.{Continue}
-use Rattle.ln_channels.specs.declared.line.EndLine.{EndLine}
-use Rattle.ln_channels.specs.declared.line.Line.{Line}
-use Rattle.ln_channels.specs.World.{World as Channels, end_lines}
-use Rattle.ln_desks.specs.Seated.{Answers, Tables, Stand}
+use Rattle.ln_world_channels.specs.declared.line.EndLine.{EndLine}
+use Rattle.ln_world_channels.specs.declared.line.Line.{Line}
+use Rattle.ln_world_channels.specs.World.{World as Channels, end_lines}
+use Rattle.ln_world_dispatch.specs.Seated.{Answers, Tables, Stand}
 use Rattle.ln_world.specs.World.{World, empty, run, run_lines, MayFail, SomeMayFail}
 use Rattle.ln_world.specs.Hooked.{answered, Steps, HasRun}
 use Rattle.ln_script.specs.Keys.{toy}
@@ -40,7 +40,7 @@ Said = List (ToyStep × Verdict)
 
 -- what is told of steps, from this world on, and how the ends stand behind them
 abbrev pub report_from : Said → World ToyKeys → List ℕ
-report_from ss w = lines_text (run_lines toy ss w) ++ ends_text (run toy ss w).desks.channels
+report_from ss w = lines_text (run_lines toy ss w) ++ ends_text (run toy ss w).dispatchers.channels
 
 -- from nothing on, so many hooks being handed in
 abbrev pub report_text : ℕ → Said → List ℕ
@@ -97,8 +97,8 @@ module _ {H : Type 0} (calls : H → ChannelEvent → Verdict → H → Type 0) 
     pub answers : Answers
     pub tables : List (Tables calls)
     pub left : List (Option H)
-    pub stand : Stand calls handed answers (left_by answers (length handed) ss).desks.used
-        (left_by answers (length handed) ss).desks.desks tables left
+    pub stand : Stand calls handed answers (left_by answers (length handed) ss).dispatchers.used
+        (left_by answers (length handed) ss).dispatchers.dispatchers tables left
     pub written : Appends old new (report_text (length handed) (said_by answers (length handed) ss))
 
   -- a beginning of it, where each hook stands so behind the first of the steps
@@ -109,8 +109,8 @@ module _ {H : Type 0} (calls : H → ChannelEvent → Verdict → H → Type 0) 
     pub all_are : ss ≡ done ++ rest
     pub tables : List (Tables calls)
     pub left : List (Option H)
-    pub stand : Stand calls handed answers (left_by answers (length handed) done).desks.used
-        (left_by answers (length handed) done).desks.desks tables left
+    pub stand : Stand calls handed answers (left_by answers (length handed) done).dispatchers.used
+        (left_by answers (length handed) done).dispatchers.dispatchers tables left
     pub written : IsPartlyWritten old new (report_text (length handed) (said_by answers (length handed) ss))
 
   -- ---- of a script

@@ -6,9 +6,9 @@ use Rattle.std.specs.Str.{bytes_eq}
 use Rattle.ln_bytes.specs.declared.short_id.ShortId.{ShortId}
 use Rattle.ln_keys.specs.declared.toy_keys.ToyKeys.{ToyKeys}
 use Rattle.ln_channel.specs.declared.command.Command.TheVariants as command
-use Rattle.ln_tables.specs.declared.entry.Invoice.{Invoice}
-use Rattle.ln_channels.specs.declared.step.Node.{Node}
-use Rattle.ln_channels.specs.declared.step.Open.{Open}
+use Rattle.ln_book_tables.specs.declared.entry.Invoice.{Invoice}
+use Rattle.ln_world_channels.specs.declared.step.Node.{Node}
+use Rattle.ln_world_channels.specs.declared.step.Open.{Open}
 use Rattle.ln_world.specs.declared.step.Act.TheVariants as act
 use Rattle.ln_world.specs.declared.step.Step.{Step}
 use Rattle.ln_world.specs.declared.step.Step.TheVariants as step

@@ -5,7 +5,7 @@ use Rattle.ln_msgs.specs.declared.refusals.refusal.Refusal.TheVariants as refusa
 use Rattle.ln_keys.specs.declared.toy_keys.ToyKeys.{ToyKeys}
 use Rattle.ln_hooks.specs.declared.event.ChannelEvent.{ChannelEvent}
 use Rattle.ln_hooks.specs.declared.verdict.Verdict.{Verdict}
-use Rattle.ln_desks.specs.Seated.{Answers, Tables, Stand}
+use Rattle.ln_world_dispatch.specs.Seated.{Answers, Tables, Stand}
 use Rattle.ln_world.specs.World.{World}
 use Rattle.ln_script.specs.Step.{ToyStep}
 use Rattle.ln_script.specs.Report.{StepTold, StepPartlyTold, StepFails}
@@ -22,8 +22,8 @@ module _ {H : Type 0} (calls : H → ChannelEvent → Verdict → H → Type 0) 
   pub record AllStand (m : Moment) : Type 0 where
     pub handed : List H
     pub answers : Answers
-    pub count : length handed ≡ m.world.desks.hooks
-    pub stand : Stand calls handed answers m.world.desks.used m.world.desks.desks m.tables m.left
+    pub count : length handed ≡ m.world.dispatchers.hooks
+    pub stand : Stand calls handed answers m.world.dispatchers.used m.world.dispatchers.dispatchers m.tables m.left
 
   abbrev pub OneTold : ToyStep → Moment → Moment → Type 0
   OneTold s m n = StepTold calls s m.world m.tables m.left n.world n.tables n.left m.written n.written

@@ -2,8 +2,8 @@
 -- preimages of 32 bytes, onions of 1,366.
 use Rattle.std.specs.Prelude.{◌≡◌, ◌<◌, ◌≤◌, ◌^◌, List, length}
 use Rattle.ln_forward.specs.declared.checks.Policy.{Policy}
-use Rattle.ln_tables.specs.declared.entry.Invoice.{Invoice}
-use Rattle.ln_channels.specs.Promises.{Each}
+use Rattle.ln_book_tables.specs.declared.entry.Invoice.{Invoice}
+use Rattle.ln_world_channels.specs.Promises.{Each}
 use Rattle.ln_close.specs.declared.closing.Fees.{Fees}
 use Rattle.ln_log.specs.declared.opening.Limits.{Limits}
 use Rattle.ln_world.specs.declared.step.Step.TheVariants as step

@@ -7,8 +7,8 @@ use Rattle.std.specs.List.{before_first, after_first}
 use Rattle.std.specs.Str.{all_ascii_digits}
 use Rattle.std.specs.Str.Parse.{digits_value}
 use Rattle.ln_bytes.specs.declared.short_id.ShortId.{ShortId}
-use Rattle.ln_channels.specs.declared.step.Node.{Node}
-use Rattle.ln_channels.specs.declared.step.End.{End}
+use Rattle.ln_world_channels.specs.declared.step.Node.{Node}
+use Rattle.ln_world_channels.specs.declared.step.End.{End}
 
 infixl 10 ◌>>=◌
 abbrev pub ◌>>=◌ : {A B : Type 0} → Option A → (A → Option B) → Option B

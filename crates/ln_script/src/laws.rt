@@ -5,23 +5,23 @@ ghost use Rattle.ln_keys.specs.declared.role.Role.{Role};
 ghost use Rattle.ln_keys.specs.Toy.{toy_signer};
 ghost use Rattle.ln_log.specs.Machine.{IsRun};
 ghost use Rattle.ln_channel.specs.Outputs.{numbered};
-ghost use Rattle.ln_pair.specs.Moves.{after_all};
-ghost use Rattle.ln_pair.specs.Told.{events_in, unnumbered, ClosesLast};
-ghost use Rattle.ln_channels.specs.Promises.{Headline, NoneRefused, AllTaken, OneFee, Agrees};
-ghost use Rattle.ln_channels.specs.Promises.{AnswersShutdown, MarksAgree, BothClose, DoExactly};
-ghost use Rattle.ln_channels.specs.Longest.{BasesAreLongest};
-ghost use Rattle.ln_channels.specs.Records.{HaveRecords};
-ghost use Rattle.ln_channels.specs.Machine.{machine_of, history, all_told, AreInStep};
-ghost use Rattle.ln_channels.specs.Sending.{NoneAddsLate};
-ghost use Rattle.ln_channels.specs.Setup.{all_setups, OpensAsSet};
-ghost use Rattle.ln_channels.specs.Signing.{SignCovered};
-ghost use Rattle.ln_channels.specs.World as channels;
-ghost use Rattle.ln_channels.specs.declared.step.Node.{Node};
-ghost use Rattle.ln_desks.specs.Seated.{Answers};
-ghost use Rattle.ln_world.specs.Promises.{OfEach, CallsFollow, DesksStand, events_of, channel_steps};
-ghost use Rattle.ln_circuits.specs.Snapshot.{Incoming};
-ghost use Rattle.ln_payments.specs.Circuit.{PaysOnce};
-ghost use Rattle.ln_payments.specs.Commands.{AreOfBook};
+ghost use Rattle.ln_channel_laws.specs.Moves.{after_all};
+ghost use Rattle.ln_channel_laws.specs.Told.{events_in, unnumbered, ClosesLast};
+ghost use Rattle.ln_world_channels.specs.Promises.{Headline, NoneRefused, AllTaken, OneFee, Agrees};
+ghost use Rattle.ln_world_channels.specs.Promises.{AnswersShutdown, MarksAgree, BothClose, DoExactly};
+ghost use Rattle.ln_world_channels.specs.Longest.{BasesAreLongest};
+ghost use Rattle.ln_world_channels.specs.Records.{HaveRecords};
+ghost use Rattle.ln_world_channels.specs.Machine.{machine_of, history, all_told, AreInStep};
+ghost use Rattle.ln_world_channels.specs.Sending.{NoneAddsLate};
+ghost use Rattle.ln_world_channels.specs.Setup.{all_setups, OpensAsSet};
+ghost use Rattle.ln_world_channels.specs.Signing.{SignCovered};
+ghost use Rattle.ln_world_channels.specs.World as channels;
+ghost use Rattle.ln_world_channels.specs.declared.step.Node.{Node};
+ghost use Rattle.ln_world_dispatch.specs.Seated.{Answers};
+ghost use Rattle.ln_world.specs.Promises.{OfEach, CallsFollow, DispatchersStand, events_of, channel_steps};
+ghost use Rattle.ln_payment_circuits.specs.Snapshot.{Incoming};
+ghost use Rattle.ln_world_payments.specs.Circuit.{PaysOnce};
+ghost use Rattle.ln_world_payments.specs.Commands.{AreOfBook};
 ghost use Rattle.ln_script.specs.Keys.{toy};
 ghost use Rattle.ln_script.specs.Step.{ToyStep, is_hook};
 ghost use Rattle.ln_script.specs.Script.{lines, script_at, script_hooks, IsFirstBad};
@@ -29,7 +29,6 @@ ghost use Rattle.ln_script.specs.Report.{said_by, left_by, AfterEachScript};
 ghost use Rattle.ln_script.specs.Wide.{AreAsWide};
 
 use ln_keys::ToyKeys;
-use ln_payments::one_payment_out;
 use ln_world::{
     a_shutdown_is_answered, agreement, bases_are_the_longest, channels_open_as_set, close_is_last,
     closed_at_one_fee, closing_ends, commands_are_done_exactly, decisions_follow_dispatches,
@@ -37,6 +36,7 @@ use ln_world::{
     moves_are_the_machines, never_refused, never_refused_where_fees_overlap,
     signatures_are_over_what_is_covered, undecided_events_are_the_machines,
 };
+use ln_world_payments::one_payment_out;
 
 /// A script is refused by the number of its first bad line, and only where there is one.
 pub fn first_bad_line()
@@ -77,7 +77,7 @@ pub fn steps_are_wide()
 /// has a record, from which it comes back where its node restarts (`ln_world::every_end_has_a_record`), as what the
 /// lines bring and what books command is as wide as it is in code. The base of each end is the longest that its decided
 /// events allow (`ln_world::bases_are_the_longest`). And where a node's ends are asked by its book alone to remove
-/// HTLCs and to forward them, one goes out for each that comes in (`ln_payments::one_payment_out`).
+/// HTLCs and to forward them, one goes out for each that comes in (`ln_world_payments::one_payment_out`).
 pub fn scripts_keep_the_promises()
     ensures headline { AfterEachScript (OfEach Headline) }
     ensures no_add_follows_a_shutdown { (text : List ℕ) (steps : List ToyStep) (a : Answers) (hooks number : ℕ)
@@ -97,15 +97,15 @@ pub fn scripts_keep_the_promises()
     ensures channels_open_as_set { (text : List ℕ) (steps : List ToyStep) (a : Answers) (hooks number : ℕ)
         → script_at text ≡ Ok steps
         → OpensAsSet (all_setups toy number (channel_steps toy hooks (said_by a hooks steps)) channels.empty)
-        (channels.channel number (left_by a hooks steps).desks.channels.channels) }
+        (channels.channel number (left_by a hooks steps).dispatchers.channels.channels) }
     ensures moves_are_the_machines { (text : List ℕ) (steps : List ToyStep) (a : Answers) (hooks number : ℕ)
         → script_at text ≡ Ok steps
         → after_all (history toy number (channel_steps toy hooks (said_by a hooks steps)) channels.empty) None
-        ≡ machine_of (channels.channel number (left_by a hooks steps).desks.channels.channels) }
+        ≡ machine_of (channels.channel number (left_by a hooks steps).dispatchers.channels.channels) }
     ensures each_move_may_be_made { (text : List ℕ) (steps : List ToyStep) (a : Answers) (hooks number : ℕ)
         → script_at text ≡ Ok steps
         → IsRun (history toy number (channel_steps toy hooks (said_by a hooks steps)) channels.empty) None
-        (machine_of (channels.channel number (left_by a hooks steps).desks.channels.channels)) }
+        (machine_of (channels.channel number (left_by a hooks steps).dispatchers.channels.channels)) }
     ensures events_are_told { (text : List ℕ) (steps : List ToyStep) (a : Answers) (hooks number : ℕ) (side : Role)
         → script_at text ≡ Ok steps
         → events_in (all_told toy number side (channel_steps toy hooks (said_by a hooks steps)) channels.empty)
@@ -113,7 +113,7 @@ pub fn scripts_keep_the_promises()
     ensures undecided_events_are_the_machines { (text : List ℕ) (steps : List ToyStep) (a : Answers) (hooks number : ℕ)
         (side : Role) → script_at text ≡ Ok steps
         → AreInStep side (events_of toy hooks number side (said_by a hooks steps))
-        (channels.channel number (left_by a hooks steps).desks.channels.channels) }
+        (channels.channel number (left_by a hooks steps).dispatchers.channels.channels) }
     ensures close_is_the_last_move_told { (text : List ℕ) (steps : List ToyStep) (a : Answers) (hooks number : ℕ)
         (side : Role) → script_at text ≡ Ok steps
         → ClosesLast (events_of toy hooks number side (said_by a hooks steps)) }
@@ -121,7 +121,7 @@ pub fn scripts_keep_the_promises()
         → script_at text ≡ Ok steps → ClosesLast (unnumbered
         (all_told toy number side (channel_steps toy hooks (said_by a hooks steps)) channels.empty)) }
     ensures decisions_follow_dispatches { (text : List ℕ) (steps : List ToyStep) (a : Answers) (hooks : ℕ)
-        → script_at text ≡ Ok steps → DesksStand toy hooks (said_by a hooks steps) }
+        → script_at text ≡ Ok steps → DispatchersStand toy hooks (said_by a hooks steps) }
     ensures every_end_has_a_record { AfterEachScript (OfEach HaveRecords) }
     ensures bases_are_the_longest { AfterEachScript (OfEach BasesAreLongest) }
     ensures one_payment_out { (text : List ℕ) (steps : List ToyStep) (a : Answers) (hooks : ℕ) (node : Node)

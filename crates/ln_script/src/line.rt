@@ -2,12 +2,12 @@
 
 ghost use Rattle.std.specs.Prelude.{◌≡◌, ◌++◌, OnOk, string_bytes};
 ghost use Rattle.ln_script.specs.LineText.{end_text, word_text, owner_text, ending_text, sends_text, added_text};
-ghost use Rattle.ln_script.specs.LineText.{settled_text, closed_text, line_text, life_text, counts_text, worth_text};
+ghost use Rattle.ln_script.specs.LineText.{settled_text, closed_text, line_text, status_text, counts_text, worth_text};
 ghost use Rattle.ln_script.specs.LineText.{event_text, refused_text, restarts_text, end_line_text, with_number};
 ghost use Rattle.ln_script.specs.LineText.{verdict_text, dispatched_text, code_text, choice_text, decided_text};
 ghost use Rattle.ln_script.specs.LineText.{resumed_text};
 
-use ln_channel::{Life, Summary};
+use ln_channel::{ChannelStatus, Summary};
 use ln_hooks::{FailureCode, Verdict};
 use ln_msgs::Refusal;
 use ln_world::{Choice, End, EndLine, Ending, Line, Node, Word};
@@ -253,15 +253,15 @@ pub(crate) fn put_line(text: &mut String, line: &Line) -> Result<(), AllocError>
 }
 
 /// How far a channel is.
-fn put_life(text: &mut String, life: Life) -> Result<(), AllocError>
-    ensures { OnOk result (string_bytes text.new ≡ string_bytes text.old ++ life_text life) }
+fn put_status(text: &mut String, status: ChannelStatus) -> Result<(), AllocError>
+    ensures { OnOk result (string_bytes text.new ≡ string_bytes text.old ++ status_text status) }
 {
-    match life {
-        Life::Open => text.push_str("open"),
-        Life::Ready => text.push_str("ready"),
-        Life::Shut => text.push_str("shut"),
-        Life::Closed(fee) => put_number(text, "closed", fee),
-        Life::Failed(why) => put_number(text, "failed", u64::from(why.number())),
+    match status {
+        ChannelStatus::Open => text.push_str("open"),
+        ChannelStatus::Ready => text.push_str("ready"),
+        ChannelStatus::Shut => text.push_str("shut"),
+        ChannelStatus::Closed(fee) => put_number(text, "closed", fee),
+        ChannelStatus::Failed(why) => put_number(text, "failed", u64::from(why.number())),
     }
 }
 
@@ -283,7 +283,7 @@ fn put_worth(text: &mut String, summary: &Summary) -> Result<(), AllocError>
     let peer = summary.peer;
     let live = summary.live;
     write!(text, " balance {own}/{peer} live {live} ")?;
-    put_life(text, summary.life)
+    put_status(text, summary.status)
 }
 
 /// How an end stands. Takes memory for the text.

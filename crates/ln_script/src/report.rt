@@ -7,7 +7,7 @@ ghost use Rattle.ln_msgs.specs.declared.refusals.refusal.Refusal.TheVariants.{Me
 ghost use Rattle.ln_msgs.specs.Pings.Counted.{HasRisen};
 ghost use Rattle.ln_msgs.specs.Pings.CountedView.{inner_of, failures_of};
 ghost use Rattle.ln_msgs.specs.Pings.Written.{IsPartlyWritten};
-ghost use Rattle.ln_channels.specs.World as channels;
+ghost use Rattle.ln_world_channels.specs.World as channels;
 ghost use Rattle.ln_world.specs.Hooked.{Steps};
 ghost use Rattle.ln_script.specs.Keys.{toy};
 ghost use Rattle.ln_script.specs.Report.{shown_line, shown_end, lines_text, ends_text, StepFails, StepsFail};
@@ -62,16 +62,16 @@ fn lines_of_step<H: Serve>(
     world: &mut World<ToyKeys, H>,
     step: Step<ToyKeys>,
 ) -> Result<Vec<Line>, Refusal>
-    requires { length world.old.desks.hooks.tables.items ≡ length world.old.desks.state.desks }
+    requires { length world.old.dispatchers.hooks.tables.items ≡ length world.old.dispatchers.state.dispatchers }
     ensures stepped { IfOk result (λ v. Steps toy H.calls step
-        (record { desks = world.old.desks.state; nodes = world.old.nodes.items })
-        (map (λ t. (t.now.items, map (λ p. p.items) t.past.items)) world.old.desks.hooks.tables.items)
-        world.old.desks.hooks.offered.items
-        (record { desks = world.new.desks.state; nodes = world.new.nodes.items })
-        (map (λ t. (t.now.items, map (λ p. p.items) t.past.items)) world.new.desks.hooks.tables.items)
-        world.new.desks.hooks.offered.items [] v.items) }
+        (record { dispatchers = world.old.dispatchers.state; nodes = world.old.nodes.items })
+        (map (λ t. (t.now.items, map (λ p. p.items) t.past.items)) world.old.dispatchers.hooks.tables.items)
+        world.old.dispatchers.hooks.offered.items
+        (record { dispatchers = world.new.dispatchers.state; nodes = world.new.nodes.items })
+        (map (λ t. (t.now.items, map (λ p. p.items) t.past.items)) world.new.dispatchers.hooks.tables.items)
+        world.new.dispatchers.hooks.offered.items [] v.items) }
     ensures fails { IfErr result (λ e. StepFails step e
-        (record { desks = world.old.desks.state; nodes = world.old.nodes.items })) }
+        (record { dispatchers = world.old.dispatchers.state; nodes = world.old.nodes.items })) }
 {
     let mut lines = Vec::new(alloc);
     world.step(alloc, step, &mut lines)?;
@@ -90,7 +90,7 @@ fn text_of_lines(alloc: Global, lines: &[Line]) -> Result<String, Refusal>
 
 /// How the ends of a world's channels stand.
 fn text_of_ends<H: Serve>(alloc: Global, world: &World<ToyKeys, H>) -> Result<String, Refusal>
-    ensures text { IfOk result (λ s. string_bytes s ≡ ends_text world.now.desks.state.channels) }
+    ensures text { IfOk result (λ s. string_bytes s ≡ ends_text world.now.dispatchers.state.channels) }
     ensures fails_for_memory_alone { IfErr result (λ e. e ≡ Memory) }
 {
     let lines = world.end_lines(alloc)?;
@@ -136,22 +136,22 @@ fn print_step<W: Write, H: Serve>(
     step: Step<ToyKeys>,
     writer: &mut Counted<W>,
 ) -> Result<(), Refusal>
-    requires { length world.old.desks.hooks.tables.items ≡ length world.old.desks.state.desks }
+    requires { length world.old.dispatchers.hooks.tables.items ≡ length world.old.dispatchers.state.dispatchers }
     ensures prints_it { OnOk result (StepTold H.calls step
-        (record { desks = world.old.desks.state; nodes = world.old.nodes.items })
-        (map (λ t. (t.now.items, map (λ p. p.items) t.past.items)) world.old.desks.hooks.tables.items)
-        world.old.desks.hooks.offered.items
-        (record { desks = world.new.desks.state; nodes = world.new.nodes.items })
-        (map (λ t. (t.now.items, map (λ p. p.items) t.past.items)) world.new.desks.hooks.tables.items)
-        world.new.desks.hooks.offered.items
+        (record { dispatchers = world.old.dispatchers.state; nodes = world.old.nodes.items })
+        (map (λ t. (t.now.items, map (λ p. p.items) t.past.items)) world.old.dispatchers.hooks.tables.items)
+        world.old.dispatchers.hooks.offered.items
+        (record { dispatchers = world.new.dispatchers.state; nodes = world.new.nodes.items })
+        (map (λ t. (t.now.items, map (λ p. p.items) t.past.items)) world.new.dispatchers.hooks.tables.items)
+        world.new.dispatchers.hooks.offered.items
         (W.contents (inner_of writer.old)) (W.contents (inner_of writer.new))) }
     ensures front { OnErr result (StepPartlyTold H.calls step
-        (record { desks = world.old.desks.state; nodes = world.old.nodes.items })
-        (map (λ t. (t.now.items, map (λ p. p.items) t.past.items)) world.old.desks.hooks.tables.items)
-        world.old.desks.hooks.offered.items
+        (record { dispatchers = world.old.dispatchers.state; nodes = world.old.nodes.items })
+        (map (λ t. (t.now.items, map (λ p. p.items) t.past.items)) world.old.dispatchers.hooks.tables.items)
+        world.old.dispatchers.hooks.offered.items
         (W.contents (inner_of writer.old)) (W.contents (inner_of writer.new))) }
     ensures cause { IfErr result (λ e. StepFails step e
-        (record { desks = world.old.desks.state; nodes = world.old.nodes.items })
+        (record { dispatchers = world.old.dispatchers.state; nodes = world.old.nodes.items })
         ⊎ ((e ≡ Io) × HasRisen (failures_of writer.old) (failures_of writer.new))) }
     ensures no_fewer_failures { failures_of writer.old ≤ failures_of writer.new }
 {
@@ -167,27 +167,27 @@ pub fn print_each<W: Write, H: Serve>(
     writer: &mut Counted<W>,
 ) -> Result<(), Refusal>
     requires { AllStand H.calls (record {
-      world = record { desks = world.old.desks.state; nodes = world.old.nodes.items };
-      tables = map (λ t. (t.now.items, map (λ p. p.items) t.past.items)) world.old.desks.hooks.tables.items;
-      left = world.old.desks.hooks.offered.items;
+      world = record { dispatchers = world.old.dispatchers.state; nodes = world.old.nodes.items };
+      tables = map (λ t. (t.now.items, map (λ p. p.items) t.past.items)) world.old.dispatchers.hooks.tables.items;
+      left = world.old.dispatchers.hooks.offered.items;
       written = W.contents (inner_of writer.old);
     }) }
     ensures prints_it { OnOk result (EachTold H.calls steps.items (record {
-      world = record { desks = world.old.desks.state; nodes = world.old.nodes.items };
-      tables = map (λ t. (t.now.items, map (λ p. p.items) t.past.items)) world.old.desks.hooks.tables.items;
-      left = world.old.desks.hooks.offered.items;
+      world = record { dispatchers = world.old.dispatchers.state; nodes = world.old.nodes.items };
+      tables = map (λ t. (t.now.items, map (λ p. p.items) t.past.items)) world.old.dispatchers.hooks.tables.items;
+      left = world.old.dispatchers.hooks.offered.items;
       written = W.contents (inner_of writer.old);
     }) (record {
-      world = record { desks = world.new.desks.state; nodes = world.new.nodes.items };
-      tables = map (λ t. (t.now.items, map (λ p. p.items) t.past.items)) world.new.desks.hooks.tables.items;
-      left = world.new.desks.hooks.offered.items;
+      world = record { dispatchers = world.new.dispatchers.state; nodes = world.new.nodes.items };
+      tables = map (λ t. (t.now.items, map (λ p. p.items) t.past.items)) world.new.dispatchers.hooks.tables.items;
+      left = world.new.dispatchers.hooks.offered.items;
       written = W.contents (inner_of writer.new);
     })) }
     ensures stops { IfErr result (λ e. StopsBy H.calls (HasRisen (failures_of writer.old) (failures_of writer.new)) e
         steps.items (record {
-          world = record { desks = world.old.desks.state; nodes = world.old.nodes.items };
-          tables = map (λ t. (t.now.items, map (λ p. p.items) t.past.items)) world.old.desks.hooks.tables.items;
-          left = world.old.desks.hooks.offered.items;
+          world = record { dispatchers = world.old.dispatchers.state; nodes = world.old.nodes.items };
+          tables = map (λ t. (t.now.items, map (λ p. p.items) t.past.items)) world.old.dispatchers.hooks.tables.items;
+          left = world.old.dispatchers.hooks.offered.items;
           written = W.contents (inner_of writer.old);
         })
         (W.contents (inner_of writer.new))) }
@@ -208,9 +208,9 @@ fn print_steps<W: Write, H: Serve>(
     writer: &mut Counted<W>,
 ) -> Result<World<ToyKeys, H>, Refusal>
     ensures prints_it { IfOk result (λ w. StepsTold H.calls hooks.items steps.items
-        (record { desks = w.desks.state; nodes = w.nodes.items })
-        (map (λ t. (t.now.items, map (λ p. p.items) t.past.items)) w.desks.hooks.tables.items)
-        w.desks.hooks.offered.items
+        (record { dispatchers = w.dispatchers.state; nodes = w.nodes.items })
+        (map (λ t. (t.now.items, map (λ p. p.items) t.past.items)) w.dispatchers.hooks.tables.items)
+        w.dispatchers.hooks.offered.items
         (W.contents (inner_of writer.old)) (W.contents (inner_of writer.new))) }
     ensures front { OnErr result (ReportsPartly H.calls hooks.items steps.items
         (W.contents (inner_of writer.old)) (W.contents (inner_of writer.new))) }
@@ -230,9 +230,9 @@ pub fn print_ends<W: Write, H: Serve>(
     writer: &mut Counted<W>,
 ) -> Result<(), Refusal>
     ensures prints_it { OnOk result (Appends (W.contents (inner_of writer.old)) (W.contents (inner_of writer.new))
-        (ends_text world.now.desks.state.channels)) }
+        (ends_text world.now.dispatchers.state.channels)) }
     ensures front { IsPartlyWritten (W.contents (inner_of writer.old)) (W.contents (inner_of writer.new))
-        (ends_text world.now.desks.state.channels) }
+        (ends_text world.now.dispatchers.state.channels) }
     ensures cause { IfErr result (λ e. (e ≡ Memory)
         ⊎ ((e ≡ Io) × HasRisen (failures_of writer.old) (failures_of writer.new))) }
 {

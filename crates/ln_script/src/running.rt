@@ -51,9 +51,9 @@ fn print_lines<W: Write, H: Serve>(
 ) -> Result<World<ToyKeys, H>, Refusal>
     ensures prints_it { (steps : List ToyStep) → steps_from 1 (texts lines.now) ≡ Ok steps
         → IfOk result (λ w. StepsTold H.calls hooks.items (numbered 0 steps)
-        (record { desks = w.desks.state; nodes = w.nodes.items })
-        (map (λ t. (t.now.items, map (λ p. p.items) t.past.items)) w.desks.hooks.tables.items)
-        w.desks.hooks.offered.items
+        (record { dispatchers = w.dispatchers.state; nodes = w.nodes.items })
+        (map (λ t. (t.now.items, map (λ p. p.items) t.past.items)) w.dispatchers.hooks.tables.items)
+        w.dispatchers.hooks.offered.items
         (W.contents (inner_of writer.old)) (W.contents (inner_of writer.new))) }
     ensures front { (steps : List ToyStep) → steps_from 1 (texts lines.now) ≡ Ok steps
         → OnErr result (ReportsPartly H.calls hooks.items (numbered 0 steps)

@@ -19,10 +19,10 @@ use Rattle.ln_store.specs.Removals.{are_one_side, is_there}
 -- ---- one view
 
 -- the live HTLCs of a side, as the updates that offered them
-abbrev pub lives_of : Role → List LiveHtlc → List Update
-lives_of side [] = []
-lives_of side (h ∷ hs) =
-    if are_one_side side h.offerer then update.Add h.add ∷ lives_of side hs else lives_of side hs
+abbrev pub live_htlcs_of : Role → List LiveHtlc → List Update
+live_htlcs_of side [] = []
+live_htlcs_of side (h ∷ hs) =
+    if are_one_side side h.offerer then update.Add h.add ∷ live_htlcs_of side hs else live_htlcs_of side hs
 
 abbrev pub names_one : (ℕ → Bool) → Option Removal → Bool
 names_one there None = true
@@ -34,13 +34,13 @@ stand there us = list_all (λ u. names_one there (removed u)) us
 
 -- a side can pay what it offers in a view by what it had in the base, what came back to it and what it was paid since
 abbrev pub pays : ℕ → List Update → List Update → List Update → List Update → Bool
-pays had lives_own own lives_peer peer = nat_le (total is_any own peer)
-    (had + total is_failed (lives_own ++ own) peer + total is_fulfilled (lives_peer ++ peer) own)
+pays had live_htlcs_own own live_htlcs_peer peer = nat_le (total is_any own peer)
+    (had + total is_failed (live_htlcs_own ++ own) peer + total is_fulfilled (live_htlcs_peer ++ peer) own)
 
 -- what a side's updates of a view are, beside the other side's
 abbrev pub is_side_lawful : Role → Base → List Update → List Update → Bool
 is_side_lawful side b own peer = stand (is_there (other_role side) b.live peer) own
-    && pays (count_of side b.balances) (lives_of side b.live) own (lives_of (other_role side) b.live) peer
+    && pays (count_of side b.balances) (live_htlcs_of side b.live) own (live_htlcs_of (other_role side) b.live) peer
 
 -- ---- the views of a record
 

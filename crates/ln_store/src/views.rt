@@ -7,7 +7,7 @@ ghost use Rattle.ln_log.specs.Updates.{next_id, removed, total, is_failed, is_fu
 ghost use Rattle.ln_store.specs.Sides.{count_of};
 ghost use Rattle.ln_store.specs.Removals.{is_there};
 ghost use Rattle.ln_store.specs.Window.{are_numbered, ids_fit};
-ghost use Rattle.ln_store.specs.Views.{lives_of, names_one, stand, pays, is_side_lawful};
+ghost use Rattle.ln_store.specs.Views.{live_htlcs_of, names_one, stand, pays, is_side_lawful};
 ghost use Rattle.ln_store.specs.Views.{covered_of, is_lawful, views_fit};
 
 use crate::record::{Base, Covered, LiveHtlc, Updates};
@@ -53,8 +53,8 @@ struct Settled {
 }
 
 fn settled_of(side: Role, live: &[LiveHtlc], outcomes: &Outcomes) -> Settled
-    ensures failed { result.failed ≡ total is_failed (lives_of side live.now) outcomes.now }
-    ensures fulfilled { result.fulfilled ≡ total is_fulfilled (lives_of side live.now) outcomes.now }
+    ensures failed { result.failed ≡ total is_failed (live_htlcs_of side live.now) outcomes.now }
+    ensures fulfilled { result.fulfilled ≡ total is_fulfilled (live_htlcs_of side live.now) outcomes.now }
     ensures failed_fits { result.failed ≤ 2 ^ 64 * length live.now }
     ensures fulfilled_fits { result.fulfilled ≤ 2 ^ 64 * length live.now }
 {
@@ -83,8 +83,8 @@ fn pays(
     own: &[Update],
     peer: &[Update],
 ) -> Result<bool, Refusal>
-    ensures tells_it { IfOk result (λ b. b ≡ pays (count_of side base.now.balances) (lives_of side base.now.live)
-        own.now (lives_of (other_role side) base.now.live) peer.now) }
+    ensures tells_it { IfOk result (λ b. b ≡ pays (count_of side base.now.balances) (live_htlcs_of side base.now.live)
+        own.now (live_htlcs_of (other_role side) base.now.live) peer.now) }
     ensures fails_for_memory_alone { IfErr result (λ e. e ≡ Refusal.Memory) }
 {
     let live = base.live.as_slice();

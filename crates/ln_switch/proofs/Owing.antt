@@ -14,50 +14,55 @@ use Rattle.ln_forward.specs.declared.failure.Failure.TheVariants as failure
 use Rattle.ln_forward.specs.Failure.{failure_bytes}
 use Rattle.ln_channel.specs.declared.command.Command.{Command}
 use Rattle.ln_channel.specs.declared.command.Command.TheVariants as command
-use Rattle.ln_tables.specs.declared.htlc.Key.{Key}
-use Rattle.ln_tables.specs.declared.htlc.Way.{Way}
-use Rattle.ln_tables.specs.declared.htlc.Way.TheVariants as way
-use Rattle.ln_tables.specs.declared.htlc.Back.{Back}
-use Rattle.ln_tables.specs.declared.htlc.Back.TheVariants as back
-use Rattle.ln_tables.specs.declared.htlc.Htlc.{Htlc}
-use Rattle.ln_tables.specs.declared.entry.Queued.{Queued}
-use Rattle.ln_tables.specs.declared.entry.Out.{Out}
-use Rattle.ln_tables.specs.declared.entry.Out.TheVariants as out
-use Rattle.ln_tables.specs.declared.entry.Desk.{Desk}
-use Rattle.ln_tables.specs.declared.entry.Desk.TheVariants as desk
-use Rattle.ln_tables.specs.declared.entry.Told.{Told}
-use Rattle.ln_tables.specs.declared.entry.Entry.{Entry}
-use Rattle.ln_tables.specs.declared.entry.Entry.TheVariants as entry
+use Rattle.ln_book_tables.specs.declared.htlc.Key.{Key}
+use Rattle.ln_book_tables.specs.declared.htlc.OutgoingLeg.{OutgoingLeg}
+use Rattle.ln_book_tables.specs.declared.htlc.OutgoingLeg.TheVariants as outgoing
+use Rattle.ln_book_tables.specs.declared.htlc.IncomingLeg.{IncomingLeg}
+use Rattle.ln_book_tables.specs.declared.htlc.IncomingLeg.TheVariants as incoming
+use Rattle.ln_book_tables.specs.declared.htlc.Htlc.{Htlc}
+use Rattle.ln_book_tables.specs.declared.entry.Queued.{Queued}
+use Rattle.ln_book_tables.specs.declared.entry.Out.{Out}
+use Rattle.ln_book_tables.specs.declared.entry.Out.TheVariants as out
+use Rattle.ln_book_tables.specs.declared.entry.PendingCommand.{PendingCommand}
+use Rattle.ln_book_tables.specs.declared.entry.PendingCommand.TheVariants as pending_command
+use Rattle.ln_book_tables.specs.declared.entry.KeptState.{KeptState}
+use Rattle.ln_book_tables.specs.declared.entry.Entry.{Entry}
+use Rattle.ln_book_tables.specs.declared.entry.Entry.TheVariants as entry
 use Rattle.ln_history.specs.History.{History, with_entry}
-use Rattle.ln_tables.specs.Replay.{Table, table_of, replay, after, same, desk_of, desk_at, with_desk, is_htlc}
-use Rattle.ln_tables.specs.Replay.{changed_first, put_way, put_back, answered_out, answered_at, is_settled, is_nowhere}
-use Rattle.ln_tables.specs.Replay.{is_open, is_way_lost, is_among, back_kept, htlc_kept, kept_out, kept_at}
-use Rattle.ln_tables.specs.Replay.{put_back_all}
-use Rattle.ln_tables.specs.Replay.{is_later, refused, left_out}
-use Rattle.ln_book.specs.Commands.{Services, is_over_in, forwards_in, has_removal, due, removal_by}
+use Rattle.ln_book_tables.specs.Replay.{Table, table_of, replay, after, same, pending_command_of, pending_command_at}
+use Rattle.ln_book_tables.specs.Replay.{with_pending_command, is_htlc}
+use Rattle.ln_book_tables.specs.Replay.{changed_first, put_outgoing, put_incoming, answered_out, answered_at}
+use Rattle.ln_book_tables.specs.Replay.{is_settled, has_nothing_offered}
+use Rattle.ln_book_tables.specs.Replay.{is_open, is_outgoing_lost, is_among, incoming_kept, htlc_kept, kept_out}
+use Rattle.ln_book_tables.specs.Replay.{kept_at}
+use Rattle.ln_book_tables.specs.Replay.{put_back_all}
+use Rattle.ln_book_tables.specs.Replay.{is_later, refused, left_out}
+use Rattle.ln_book.specs.Commands.{Services, is_resolved_in, forwards_in, has_removal, due, removal_by}
 use Rattle.ln_book.specs.Commands.{with_out, command_by, command_of, or_next, first_due, is_queued_in, queued_command}
 use Rattle.ln_book.specs.Commands.{first_of, first_at, first_command, with_taken, with_answered}
 use Rattle.ln_switch.specs.Answers.{replied}
 use Rattle.ln_switch.specs.Owing.{IsIn, Owes, is_lost}
 
--- ---- a channel's desk
+-- ---- a channel's pending command
 
 same-refl : (c : List ℕ) → same c c ≡ true
 same-refl c = (bytes_decides c c).1 refl
 
-put-by : (b : Bool) (c k : List ℕ) (d v : Desk) (es : List (List ℕ × Desk)) → same c k ≡ b
+put-by : (b : Bool) (c k : List ℕ) (d v : PendingCommand) (es : List (List ℕ × PendingCommand)) → same c k ≡ b
     → lookup (same c) (insert_entry same es c d) ≡ Some d
     → lookup (same c) (cond b ((k, d) ∷ es) ((k, v) ∷ insert_entry same es c d)) ≡ Some d
 put-by true c k d v es is rest = ap (λ q. cond q (Some d) (lookup (same c) es)) is
 put-by false c k d v es is rest =
     ap (λ q. cond q (Some v) (lookup (same c) (insert_entry same es c d))) is ∙ rest
 
-put-there : (c : List ℕ) (d : Desk) (es : List (List ℕ × Desk)) → lookup (same c) (insert_entry same es c d) ≡ Some d
+put-there : (c : List ℕ) (d : PendingCommand) (es : List (List ℕ × PendingCommand))
+    → lookup (same c) (insert_entry same es c d) ≡ Some d
 put-there c d [] = ap (λ q. cond q (Some d) None) (same-refl c)
 put-there c d ((k, v) ∷ es) = put-by (same c k) c k d v es refl (put-there c d es)
 
-desk-here : (c : List ℕ) (d : Desk) (t : Table) → desk_at c (with_desk c d t) ≡ d
-desk-here c d t = ap desk_of (put-there c d t.desks)
+pending_command-here : (c : List ℕ) (d : PendingCommand) (t : Table)
+    → pending_command_at c (with_pending_command c d t) ≡ d
+pending_command-here c d t = ap pending_command_of (put-there c d t.pending_commands)
 
 -- ---- what one entry more makes of a table
 
@@ -68,27 +73,29 @@ replayed t (x ∷ es) e = replayed (after t x) es e
 entered : (b : History Table Entry) (e : Entry) → table_of (with_entry e b) ≡ after (table_of b) e
 entered b e = replayed b.start b.entries e
 
-replied-out : (c : List ℕ) (a : Result ℕ ℕ) (b : History Table Entry) (o : Out) → desk_at c (table_of b) ≡ desk.Out o
+replied-out : (c : List ℕ) (a : Result ℕ ℕ) (b : History Table Entry) (o : Out)
+    → pending_command_at c (table_of b) ≡ pending_command.InFlight o
     → table_of (replied c a b) ≡ answered_out c a o (table_of b)
 replied-out c a b o is =
     ap (λ d. table_of (with_answered c a d b)) is ∙ entered b (entry.Answered c a)
     ∙ ap (λ d. answered_at c a d (table_of b)) is
 
 out-then : (c : List ℕ) (b : History Table Entry) (x : Out × Command)
-    → desk_at c (table_of (with_taken c (Some x) b)) ≡ desk.Out (x.0)
+    → pending_command_at c (table_of (with_taken c (Some x) b)) ≡ pending_command.InFlight (x.0)
 out-then c b x =
-    ap (desk_at c) (entered b (entry.Taken c (x.0))) ∙ desk-here c (desk.Out (x.0)) (table_of b)
+    ap (pending_command_at c) (entered b (entry.Taken c (x.0)))
+    ∙ pending_command-here c (pending_command.InFlight (x.0)) (table_of b)
 
 -- ---- the first command
 
-first-by : (s : Services) (c : List ℕ) (d : Desk) (t : Table) (x : Out × Command) → first_at s c d t ≡ Some x
+first-by : (s : Services) (c : List ℕ) (d : PendingCommand) (t : Table) (x : Out × Command) → first_at s c d t ≡ Some x
     → first_of s c (find (is_queued_in c) t.queue) t.htlcs ≡ Some x
-first-by s c desk.Idle t x e = e
-first-by s c (desk.Out o) t x e = cc
-first-by s c (desk.Unsure o) t x e = cc
+first-by s c pending_command.Idle t x e = e
+first-by s c (pending_command.InFlight o) t x e = cc
+first-by s c (pending_command.Unknown o) t x e = cc
 
 later : (c : List ℕ) (o : Out) (t : Table) (r : ℕ) → (r ≡ 47) ⊎ (r ≡ 62)
-    → answered_out c (Err r) o t ≡ with_desk c desk.Idle t
+    → answered_out c (Err r) o t ≡ with_pending_command c pending_command.Idle t
 later c o t r (inl e) = ap (λ n. answered_out c (Err n) o t) e
 later c o t r (inr e) = ap (λ n. answered_out c (Err n) o t) e
 
@@ -98,13 +105,15 @@ pub again : (s : Services) (c : List ℕ) (b : History Table Entry) (x : Out × 
 again s c b x r first when =
     let t = table_of b in
     let taken = with_taken c (Some x) b in
-    let idle = with_desk c desk.Idle (with_desk c (desk.Out (x.0)) t) in
+    let idle = with_pending_command c pending_command.Idle (with_pending_command c
+    (pending_command.InFlight (x.0)) t) in
     let made : table_of (replied c (Err r) taken) ≡ idle =
     replied-out c (Err r) taken (x.0) (out-then c b x) ∙ later c (x.0) (table_of taken) r when
-    ∙ ap (with_desk c desk.Idle) (entered b (entry.Taken c (x.0))) in
+    ∙ ap (with_pending_command c pending_command.Idle) (entered b (entry.Taken c (x.0))) in
     ap (first_command s c) made
-    ∙ ap (λ d. first_at s c d idle) (desk-here c desk.Idle (with_desk c (desk.Out (x.0)) t))
-    ∙ first-by s c (desk_at c t) t x first
+    ∙ ap (λ d. first_at s c d idle) (pending_command-here c pending_command.Idle (with_pending_command c
+    (pending_command.InFlight (x.0)) t))
+    ∙ first-by s c (pending_command_at c t) t x first
 
 -- ---- lists
 
@@ -121,7 +130,7 @@ module _ {A : Type 0} (p : A → Bool) where
   there-by : (b : Bool) (x : A) (xs : List A) (q : A) → p x ≡ b → (x ≡ q) ⊎ (is_some (find p xs) ≡ true) → p q ≡ true
       → is_some (cond b (Some x) (find p xs)) ≡ true
   there-by true x xs q is here passes = refl
-  there-by false x xs q is (inl at) passes = let both-ways : true ≡ false = sym passes ∙ ap p (sym at) ∙ is in cc
+  there-by false x xs q is (inl at) passes = let both-outgoings : true ≡ false = sym passes ∙ ap p (sym at) ∙ is in cc
   there-by false x xs q is (inr r) passes = r
 
   -- where one that passes is among them, one is found
@@ -193,14 +202,15 @@ due-as true false v false true k o e = takes refl refl refl refl cc
 due-as true false v false false k o e = cc
 
 abbrev offers : List ℕ → Htlc → Bool
-offers c h = is_nowhere h.way && forwards_in c h.mark
+offers c h = has_nothing_offered h.outgoing && forwards_in c h.mark
 
 abbrev removes : List ℕ → Htlc → Bool
-removes c h = has_removal h.mark h.way && (is_open h.back && same c h.key.channel)
+removes c h = has_removal h.mark h.outgoing && (is_open h.incoming && same c h.key.channel)
 
 due-of : (c : List ℕ) (h : Htlc) (o : Out) → due c h ≡ Some o
-    → DueAs h.decided (is_settled h.back) (is_over_in c h.way) (offers c h) (removes c h) h.key o
-due-of c h o e = due-as h.decided (is_settled h.back) (is_over_in c h.way) (offers c h) (removes c h) h.key o e
+    → DueAs h.decided (is_settled h.incoming) (is_resolved_in c h.outgoing) (offers c h) (removes c h) h.key o
+due-of c h o e = due-as h.decided (is_settled h.incoming) (is_resolved_in c h.outgoing) (offers c h)
+    (removes c h) h.key o e
 
 due-so : (d s v f r : Bool) (k : Key) (o : Option Out) (d' s' v' f' r' : Bool) → d' ≡ d → s' ≡ s → v' ≡ v → f' ≡ f
     → r' ≡ r → due-by d s v f r k ≡ o → due-by d' s' v' f' r' k ≡ o
@@ -209,7 +219,8 @@ due-so d s v f r k o d' s' v' f' r' ed es ev ef er e =
     ∙ ap (λ b. due-by d s v b r' k) ef ∙ ap (λ b. due-by d s v f b k) er ∙ e
 
 -- the HTLC of an offer that was answered isn't due one
-not-nowhere : (c : List ℕ) (h : Htlc) (k : Key) → is_nowhere h.way ≡ false → due c h ≡ Some (out.Adding k) → ⊥
+not-nowhere : (c : List ℕ) (h : Htlc) (k : Key) → has_nothing_offered h.outgoing ≡ false
+    → due c h ≡ Some (out.Adding k) → ⊥
 not-nowhere c h k here e =
     elim (due-of c h (out.Adding k) e) [
       | forgets d s v o ↦ cc
@@ -219,34 +230,35 @@ not-nowhere c h k here e =
 
 -- ---- a channel that has lost a command
 
-module _ (c : List ℕ) (told : Told) where
-  abbrev kept : Way → Way
-  kept w = cond (is_way_lost c told.next w) way.Nowhere w
+module _ (c : List ℕ) (told : KeptState) where
+  abbrev kept : OutgoingLeg → OutgoingLeg
+  kept w = cond (is_outgoing_lost c told.next w) outgoing.Absent w
 
-  offers-on : (w : Way) (f : Bool) → (is_nowhere w && f) ≡ true → (is_nowhere (kept w) && f) ≡ true
-  offers-on way.Nowhere f e = e
-  offers-on way.Refused f e = cc
-  offers-on (way.Offered k) f e = cc
-  offers-on (way.Over k h) f e = cc
+  offers-on : (w : OutgoingLeg) (f : Bool) → (has_nothing_offered w && f) ≡ true
+      → (has_nothing_offered (kept w) && f) ≡ true
+  offers-on outgoing.Absent f e = e
+  offers-on outgoing.Refused f e = cc
+  offers-on (outgoing.Offered k) f e = cc
+  offers-on (outgoing.Resolved k h) f e = cc
 
-  over-on : (w : Way) → is_over_in c w ≡ true → is_over_in c (kept w) ≡ true
-  over-on way.Nowhere e = cc
-  over-on way.Refused e = cc
-  over-on (way.Offered k) e = cc
-  over-on (way.Over k h) e = e
+  over-on : (w : OutgoingLeg) → is_resolved_in c w ≡ true → is_resolved_in c (kept w) ≡ true
+  over-on outgoing.Absent e = cc
+  over-on outgoing.Refused e = cc
+  over-on (outgoing.Offered k) e = cc
+  over-on (outgoing.Resolved k h) e = e
 
-  open-on : (b : Bool) (k : Back) → is_settled k ≡ false → is_settled (back_kept b k) ≡ false
-  open-on b back.Open e = refl
-  open-on true back.Sent e = refl
-  open-on false back.Sent e = refl
-  open-on b back.Gone e = refl
-  open-on b back.Settled e = cc
+  open-on : (b : Bool) (k : IncomingLeg) → is_settled k ≡ false → is_settled (incoming_kept b k) ≡ false
+  open-on b incoming.Open e = refl
+  open-on true incoming.RemovalSent e = refl
+  open-on false incoming.RemovalSent e = refl
+  open-on b incoming.RemovalRefused e = refl
+  open-on b incoming.Settled e = cc
 
-  settled-on : (b : Bool) (k : Back) → is_settled k ≡ true → is_settled (back_kept b k) ≡ true
-  settled-on b back.Open e = cc
-  settled-on b back.Sent e = cc
-  settled-on b back.Gone e = cc
-  settled-on b back.Settled e = refl
+  settled-on : (b : Bool) (k : IncomingLeg) → is_settled k ≡ true → is_settled (incoming_kept b k) ≡ true
+  settled-on b incoming.Open e = cc
+  settled-on b incoming.RemovalSent e = cc
+  settled-on b incoming.RemovalRefused e = cc
+  settled-on b incoming.Settled e = refl
 
   and-false : (b : Bool) → (b && false) ≡ false
   and-false true = refl
@@ -256,70 +268,74 @@ module _ (c : List ℕ) (told : Told) where
   both true b e = (refl, e)
   both false b e = (cc, cc)
 
-  still-none : (m : Mark) (w : Way) → has_removal m w ≡ true → (is_nowhere (kept w) && forwards_in c m) ≡ false
+  still-none : (m : Mark) (w : OutgoingLeg) → has_removal m w ≡ true
+      → (has_nothing_offered (kept w) && forwards_in c m) ≡ false
   still-none mark.None w e = cc
-  still-none (mark.Forward d a x) way.Nowhere e = cc
-  still-none (mark.Forward d a x) way.Refused e = refl
-  still-none (mark.Forward d a x) (way.Offered k) e = cc
-  still-none (mark.Forward d a x) (way.Over k h) e = refl
-  still-none (mark.Fail r) w e = and-false (is_nowhere (kept w))
-  still-none (mark.Malformed n) w e = and-false (is_nowhere (kept w))
-  still-none (mark.Fulfil p) w e = and-false (is_nowhere (kept w))
+  still-none (mark.Forward d a x) outgoing.Absent e = cc
+  still-none (mark.Forward d a x) outgoing.Refused e = refl
+  still-none (mark.Forward d a x) (outgoing.Offered k) e = cc
+  still-none (mark.Forward d a x) (outgoing.Resolved k h) e = refl
+  still-none (mark.Fail r) w e = and-false (has_nothing_offered (kept w))
+  still-none (mark.Malformed n) w e = and-false (has_nothing_offered (kept w))
+  still-none (mark.Fulfil p) w e = and-false (has_nothing_offered (kept w))
   still-none (mark.Held n) w e = cc
 
-  removal-on : (m : Mark) (w : Way) → has_removal m w ≡ true → has_removal m (kept w) ≡ true
+  removal-on : (m : Mark) (w : OutgoingLeg) → has_removal m w ≡ true → has_removal m (kept w) ≡ true
   removal-on mark.None w e = cc
-  removal-on (mark.Forward d a x) way.Nowhere e = cc
-  removal-on (mark.Forward d a x) way.Refused e = refl
-  removal-on (mark.Forward d a x) (way.Offered k) e = cc
-  removal-on (mark.Forward d a x) (way.Over k h) e = refl
+  removal-on (mark.Forward d a x) outgoing.Absent e = cc
+  removal-on (mark.Forward d a x) outgoing.Refused e = refl
+  removal-on (mark.Forward d a x) (outgoing.Offered k) e = cc
+  removal-on (mark.Forward d a x) (outgoing.Resolved k h) e = refl
   removal-on (mark.Fail r) w e = refl
   removal-on (mark.Malformed n) w e = refl
   removal-on (mark.Fulfil p) w e = refl
   removal-on (mark.Held n) w e = cc
 
-  removal-same : (s : Services) (h : Htlc) (b : Back) (m : Mark) (w : Way) → has_removal m w ≡ true
-      → removal_by s (record h { way = kept w; back = b }) m ≡ removal_by s (record h { way = w; back = h.back }) m
+  removal-same : (s : Services) (h : Htlc) (b : IncomingLeg) (m : Mark) (w : OutgoingLeg) → has_removal m w ≡ true
+      → removal_by s (record h { outgoing = kept w; incoming = b }) m
+      ≡ removal_by s (record h { outgoing = w; incoming = h.incoming }) m
   removal-same s h b mark.None w e = cc
-  removal-same s h b (mark.Forward d a x) way.Nowhere e = cc
-  removal-same s h b (mark.Forward d a x) way.Refused e = refl
-  removal-same s h b (mark.Forward d a x) (way.Offered k) e = cc
-  removal-same s h b (mark.Forward d a x) (way.Over k g) e = refl
+  removal-same s h b (mark.Forward d a x) outgoing.Absent e = cc
+  removal-same s h b (mark.Forward d a x) outgoing.Refused e = refl
+  removal-same s h b (mark.Forward d a x) (outgoing.Offered k) e = cc
+  removal-same s h b (mark.Forward d a x) (outgoing.Resolved k g) e = refl
   removal-same s h b (mark.Fail r) w e = refl
   removal-same s h b (mark.Malformed n) w e = refl
   removal-same s h b (mark.Fulfil p) w e = refl
   removal-same s h b (mark.Held n) w e = cc
 
   -- an HTLC whose removal was lost is due it again
-  back-open : (b : Bool) (k : Back) → is_open k ≡ true → is_open (back_kept b k) ≡ true
-  back-open b back.Open e = refl
-  back-open b back.Sent e = cc
-  back-open b back.Gone e = cc
-  back-open b back.Settled e = cc
+  incoming-open : (b : Bool) (k : IncomingLeg) → is_open k ≡ true → is_open (incoming_kept b k) ≡ true
+  incoming-open b incoming.Open e = refl
+  incoming-open b incoming.RemovalSent e = cc
+  incoming-open b incoming.RemovalRefused e = cc
+  incoming-open b incoming.Settled e = cc
 
-  lost-again : (b : Bool) → b ≡ false → is_open (back_kept b back.Sent) ≡ true
-  lost-again b e = ap (λ q. is_open (back_kept q back.Sent)) e
+  lost-again : (b : Bool) → b ≡ false → is_open (incoming_kept b incoming.RemovalSent) ≡ true
+  lost-again b e = ap (λ q. is_open (incoming_kept q incoming.RemovalSent)) e
 
-  not-settled : (k : Back) → is_open k ≡ true → is_settled k ≡ false
-  not-settled back.Open e = refl
-  not-settled back.Sent e = cc
-  not-settled back.Gone e = cc
-  not-settled back.Settled e = cc
+  not-settled : (k : IncomingLeg) → is_open k ≡ true → is_settled k ≡ false
+  not-settled incoming.Open e = refl
+  not-settled incoming.RemovalSent e = cc
+  not-settled incoming.RemovalRefused e = cc
+  not-settled incoming.Settled e = cc
 
-  due-removal : (s : Services) (h : Htlc) (b : Back) (x : Out × Command) → h.decided ≡ true
+  due-removal : (s : Services) (h : Htlc) (b : IncomingLeg) (x : Out × Command) → h.decided ≡ true
       → removes c h ≡ true → is_open b ≡ true → with_out (out.Removing h.key) (removal_by s h h.mark) ≡ Some x
-      → command_by s (record h { way = kept h.way; back = b }) (due c (record h { way = kept h.way; back = b }))
+      → command_by s (record h { outgoing = kept h.outgoing; incoming = b }) (due c
+      (record h { outgoing = kept h.outgoing; incoming = b }))
       ≡ Some x
   due-removal s h b x decided removing opened e =
-      let r = both (has_removal h.mark h.way) (is_open h.back && same c h.key.channel) removing in
-      let q = both (is_open h.back) (same c h.key.channel) r.1 in
-      let g = record h { way = kept h.way; back = b } in
-      ap (command_by s g) (due-so true false (is_over_in c g.way) false true h.key (Some (out.Removing h.key))
-      h.decided (is_settled b) (is_over_in c g.way) (offers c g) (removes c g) decided (not-settled b opened) refl
-      (still-none h.mark h.way r.0)
-      (ap (λ z. z && (is_open b && same c h.key.channel)) (removal-on h.mark h.way r.0)
+      let r = both (has_removal h.mark h.outgoing) (is_open h.incoming && same c h.key.channel) removing in
+      let q = both (is_open h.incoming) (same c h.key.channel) r.1 in
+      let g = record h { outgoing = kept h.outgoing; incoming = b } in
+      ap (command_by s g) (due-so true false (is_resolved_in c g.outgoing) false true h.key (Some (out.Removing h.key))
+      h.decided (is_settled b) (is_resolved_in c g.outgoing) (offers c g) (removes c g) decided
+      (not-settled b opened) refl
+      (still-none h.mark h.outgoing r.0)
+      (ap (λ z. z && (is_open b && same c h.key.channel)) (removal-on h.mark h.outgoing r.0)
       ∙ ap (λ z. z && same c h.key.channel) opened ∙ q.1) refl)
-      ∙ ap (with_out (out.Removing h.key)) (removal-same s h b h.mark h.way r.0) ∙ e
+      ∙ ap (with_out (out.Removing h.key)) (removal-same s h b h.mark h.outgoing r.0) ∙ e
 
   -- ---- what is lost
 
@@ -337,13 +353,13 @@ module _ (c : List ℕ) (told : Told) where
   out-is o None x e = cc
   out-is o (Some m) x e = let at : (o, m) ≡ x = cc in ap (λ (p : Out × Command). p.0) (sym at)
 
-  forget-same : (s : Services) (h : Htlc) (b : Back) (w : Way) → is_over_in c w ≡ true
-      → command_by s (record h { way = kept w; back = b }) (Some (out.Forgetting h.key))
-      ≡ command_by s (record h { way = w; back = h.back }) (Some (out.Forgetting h.key))
-  forget-same s h b way.Nowhere e = cc
-  forget-same s h b way.Refused e = cc
-  forget-same s h b (way.Offered k) e = cc
-  forget-same s h b (way.Over k g) e = refl
+  forget-same : (s : Services) (h : Htlc) (b : IncomingLeg) (w : OutgoingLeg) → is_resolved_in c w ≡ true
+      → command_by s (record h { outgoing = kept w; incoming = b }) (Some (out.Forgetting h.key))
+      ≡ command_by s (record h { outgoing = w; incoming = h.incoming }) (Some (out.Forgetting h.key))
+  forget-same s h b outgoing.Absent e = cc
+  forget-same s h b outgoing.Refused e = cc
+  forget-same s h b (outgoing.Offered k) e = cc
+  forget-same s h b (outgoing.Resolved k g) e = refl
 
   not-not : (b : Bool) → not b ≡ true → b ≡ false
   not-not true e = cc
@@ -355,8 +371,8 @@ module _ (c : List ℕ) (told : Told) where
       → is_lost o told ≡ true
       → (g : Htlc) × IsIn g (lost-table o t).htlcs × (command_by s g (due c g) ≡ Some x)
   lost-removal s t h o x i is d r e lost =
-      let parts = both (has_removal h.mark h.way) (is_open h.back && same c h.key.channel) r in
-      let ends = both (is_open h.back) (same c h.key.channel) parts.1 in
+      let parts = both (has_removal h.mark h.outgoing) (is_open h.incoming && same c h.key.channel) r in
+      let ends = both (is_open h.incoming) (same c h.key.channel) parts.1 in
       let gone : is_among h.key.id told.removes ≡ false =
       not-not (is_among h.key.id told.removes) (ap (λ y. is_lost y told) (sym is) ∙ lost) in
       let out-then : with_out (out.Removing h.key) (removal_by s h h.mark) ≡ Some x =
@@ -364,19 +380,20 @@ module _ (c : List ℕ) (told : Told) where
       let b = not (same c h.key.channel) || is_among h.key.id told.removes in
       let none : b ≡ false =
       ap (λ y. not y || is_among h.key.id told.removes) ends.1 ∙ gone in
-      elim (in-changed (is_htlc h.key) (put_back back.Sent) t.htlcs h i) [
+      elim (in-changed (is_htlc h.key) (put_incoming incoming.RemovalSent) t.htlcs h i) [
         | inl j ↦ (
           htlc_kept c told h,
           subst (λ y. IsIn (htlc_kept c told h) (lost-table y t).htlcs) (sym is)
-              (in-map (htlc_kept c told) (changed_first (is_htlc h.key) (put_back back.Sent) t.htlcs) h j),
-          due-removal s h (back_kept b h.back) x d r (back-open b h.back ends.0) out-then,
+              (in-map (htlc_kept c told) (changed_first (is_htlc h.key)
+              (put_incoming incoming.RemovalSent) t.htlcs) h j),
+          due-removal s h (incoming_kept b h.incoming) x d r (incoming-open b h.incoming ends.0) out-then,
         )
         | inr j ↦ (
-          htlc_kept c told (put_back back.Sent h),
-          subst (λ y. IsIn (htlc_kept c told (put_back back.Sent h)) (lost-table y t).htlcs) (sym is)
-              (in-map (htlc_kept c told) (changed_first (is_htlc h.key) (put_back back.Sent) t.htlcs)
-              (put_back back.Sent h) j),
-          due-removal s h (back_kept b back.Sent) x d r (lost-again b none) out-then,
+          htlc_kept c told (put_incoming incoming.RemovalSent h),
+          subst (λ y. IsIn (htlc_kept c told (put_incoming incoming.RemovalSent h)) (lost-table y t).htlcs) (sym is)
+              (in-map (htlc_kept c told) (changed_first (is_htlc h.key) (put_incoming incoming.RemovalSent) t.htlcs)
+              (put_incoming incoming.RemovalSent h) j),
+          due-removal s h (incoming_kept b incoming.RemovalSent) x d r (lost-again b none) out-then,
         )
       ]
 
@@ -392,20 +409,23 @@ module _ (c : List ℕ) (told : Told) where
               (in-map (htlc_kept c told) t.htlcs h i),
           ap (command_by s (htlc_kept c told h))
               (due-so true true true (offers c (htlc_kept c told h)) (removes c (htlc_kept c told h)) h.key
-              (Some (out.Forgetting h.key)) h.decided (is_settled (back_kept b h.back)) (is_over_in c (kept h.way))
-              (offers c (htlc_kept c told h)) (removes c (htlc_kept c told h)) d (settled-on b h.back st)
-              (over-on h.way v) refl refl refl)
-              ∙ forget-same s h (back_kept b h.back) h.way v ∙ ap (λ y. command_by s h (Some y)) (sym is) ∙ e,
+              (Some (out.Forgetting h.key)) h.decided (is_settled (incoming_kept b h.incoming)) (is_resolved_in c
+              (kept h.outgoing))
+              (offers c (htlc_kept c told h)) (removes c (htlc_kept c told h)) d (settled-on b h.incoming st)
+              (over-on h.outgoing v) refl refl refl)
+              ∙ forget-same s h (incoming_kept b h.incoming) h.outgoing v
+              ∙ ap (λ y. command_by s h (Some y)) (sym is) ∙ e,
         )
         | adds d st f is ↦ (
           htlc_kept c told h,
           subst (λ y. IsIn (htlc_kept c told h) (lost-table y t).htlcs) (sym is)
               (in-map (htlc_kept c told) t.htlcs h i),
           ap (command_by s (htlc_kept c told h))
-              (due-so true false (is_over_in c (kept h.way)) true (removes c (htlc_kept c told h)) h.key
-              (Some (out.Adding h.key)) h.decided (is_settled (back_kept b h.back)) (is_over_in c (kept h.way))
-              (offers c (htlc_kept c told h)) (removes c (htlc_kept c told h)) d (open-on b h.back st) refl
-              (offers-on h.way (forwards_in c h.mark) f) refl refl)
+              (due-so true false (is_resolved_in c (kept h.outgoing)) true (removes c (htlc_kept c told h)) h.key
+              (Some (out.Adding h.key)) h.decided (is_settled (incoming_kept b h.incoming)) (is_resolved_in c
+              (kept h.outgoing))
+              (offers c (htlc_kept c told h)) (removes c (htlc_kept c told h)) d (open-on b h.incoming st) refl
+              (offers-on h.outgoing (forwards_in c h.mark) f) refl refl)
               ∙ ap (λ y. command_by s h (Some y)) (sym is) ∙ e,
         )
         | takes d st f r is ↦ lost-removal s t h o x i is d r e lost
@@ -448,21 +468,24 @@ module _ (c : List ℕ) (told : Told) where
   lost-first s t None x is e lost =
       let d = due-in s t.htlcs x e in inr (lost-due s t d.0 (due c d.0) x d.1 refl d.2 lost)
 
-pub owed-again : (s : Services) (c : List ℕ) (b : History Table Entry) (x : Out × Command) (told : Told)
+pub owed-again : (s : Services) (c : List ℕ) (b : History Table Entry) (x : Out × Command) (told : KeptState)
     → first_command s c (table_of b) ≡ Some x → told.decides ≡ false → is_lost (x.0) told ≡ true
     → Owes s c x (table_of (with_entry (entry.Dropped c told) (with_taken c (Some x) b)))
 owed-again s c b x told first decides lost =
     let t = table_of b in
     let taken = with_taken c (Some x) b in
-    let idle = with_desk c desk.Idle (with_desk c (desk.Out (x.0)) t) in
+    let idle = with_pending_command c pending_command.Idle (with_pending_command c
+    (pending_command.InFlight (x.0)) t) in
     let made : table_of (with_entry (entry.Dropped c told) taken) ≡ lost-table c told (x.0) idle =
     entered taken (entry.Dropped c told)
     ∙ ap (λ d. put_back_all c told (kept_at c told.decides d (table_of taken))) (out-then c b x)
-    ∙ ap (λ k. put_back_all c told (kept_out c k (x.0) (with_desk c desk.Idle (table_of taken)))) decides
-    ∙ ap (λ u. put_back_all c told (kept_out c false (x.0) (with_desk c desk.Idle u)))
+    ∙ ap (λ k. put_back_all c told (kept_out c k (x.0) (with_pending_command c pending_command.Idle
+    (table_of taken)))) decides
+    ∙ ap (λ u. put_back_all c told (kept_out c false (x.0) (with_pending_command c pending_command.Idle u)))
     (entered b (entry.Taken c (x.0))) in
     subst (λ u. Owes s c x u) (sym made)
-    (lost-first c told s idle (find (is_queued_in c) t.queue) x refl (first-by s c (desk_at c t) t x first) lost)
+    (lost-first c told s idle (find (is_queued_in c) t.queue) x refl (first-by s c
+    (pending_command_at c t) t x first) lost)
 
 -- ---- a refused offer
 
@@ -475,53 +498,57 @@ below r n lt true e = refl
 below r n lt false e = let far : n ≤ r = ltb-false r n e in absurd (omega (arith, lt, far))
 
 refused-then : (c : List ℕ) (k : Key) (t : Table) (r : ℕ) → r < 47
-    → (answered_out c (Err r) (out.Adding k) t).htlcs ≡ changed_first (is_htlc k) (put_way way.Refused) t.htlcs
+    → (answered_out c (Err r) (out.Adding k) t).htlcs
+    ≡ changed_first (is_htlc k) (put_outgoing outgoing.Refused) t.htlcs
 refused-then c k t r lt =
     let a = differs r 60 (omega (arith, lt)) (r == 60) refl in
     let b = differs r 61 (omega (arith, lt)) (r == 61) refl in
     let d = differs r 47 lt (r == 47) refl in
     let e = differs r 62 (omega (arith, lt)) (r == 62) refl in
     let f = below r 47 lt (nat_lt r 47) refl in
-    ap (λ (z : Bool). (cond (z || (r == 61)) (with_desk c (desk.Unsure (out.Adding k)) t)
-    (cond (is_later r) (with_desk c desk.Idle t) (refused c r (out.Adding k) (with_desk c desk.Idle t)))).htlcs) a
-    ∙ ap (λ (z : Bool). (cond z (with_desk c (desk.Unsure (out.Adding k)) t)
-    (cond (is_later r) (with_desk c desk.Idle t) (refused c r (out.Adding k) (with_desk c desk.Idle t)))).htlcs) b
-    ∙ ap (λ (z : Bool). (cond (z || (r == 62)) (with_desk c desk.Idle t)
-    (refused c r (out.Adding k) (with_desk c desk.Idle t))).htlcs) d
-    ∙ ap (λ (z : Bool). (cond z (with_desk c desk.Idle t)
-    (refused c r (out.Adding k) (with_desk c desk.Idle t))).htlcs) e
-    ∙ ap (λ (z : Bool). cond z (changed_first (is_htlc k) (put_way way.Refused) t.htlcs)
+    ap (λ (z : Bool). (cond (z || (r == 61)) (with_pending_command c (pending_command.Unknown (out.Adding k)) t)
+    (cond (is_later r) (with_pending_command c pending_command.Idle t) (refused c r (out.Adding k)
+    (with_pending_command c pending_command.Idle t)))).htlcs) a
+    ∙ ap (λ (z : Bool). (cond z (with_pending_command c (pending_command.Unknown (out.Adding k)) t)
+    (cond (is_later r) (with_pending_command c pending_command.Idle t) (refused c r (out.Adding k)
+    (with_pending_command c pending_command.Idle t)))).htlcs) b
+    ∙ ap (λ (z : Bool). (cond (z || (r == 62)) (with_pending_command c pending_command.Idle t)
+    (refused c r (out.Adding k) (with_pending_command c pending_command.Idle t))).htlcs) d
+    ∙ ap (λ (z : Bool). (cond z (with_pending_command c pending_command.Idle t)
+    (refused c r (out.Adding k) (with_pending_command c pending_command.Idle t))).htlcs) e
+    ∙ ap (λ (z : Bool). cond z (changed_first (is_htlc k) (put_outgoing outgoing.Refused) t.htlcs)
     (left_out (is_htlc k) t.htlcs)) f
 
-fails-back : (s : Services) (c : List ℕ) (h : Htlc) (m : Mark) → forwards_in c m ≡ true
-    → (has_removal m way.Refused ≡ true) × (removal_by s (put_way way.Refused h) m
+fails-incoming : (s : Services) (c : List ℕ) (h : Htlc) (m : Mark) → forwards_in c m ≡ true
+    → (has_removal m outgoing.Refused ≡ true) × (removal_by s (put_outgoing outgoing.Refused h) m
     ≡ Some (command.Fail h.key.id (s.wrapped (failure_bytes failure.TemporaryChannelFailure))))
-fails-back s c h mark.None e = (cc, cc)
-fails-back s c h (mark.Forward d a x) e = (refl, refl)
-fails-back s c h (mark.Fail r) e = (cc, cc)
-fails-back s c h (mark.Malformed n) e = (cc, cc)
-fails-back s c h (mark.Fulfil p) e = (cc, cc)
-fails-back s c h (mark.Held n) e = (cc, cc)
+fails-incoming s c h mark.None e = (cc, cc)
+fails-incoming s c h (mark.Forward d a x) e = (refl, refl)
+fails-incoming s c h (mark.Fail r) e = (cc, cc)
+fails-incoming s c h (mark.Malformed n) e = (cc, cc)
+fails-incoming s c h (mark.Fulfil p) e = (cc, cc)
+fails-incoming s c h (mark.Held n) e = (cc, cc)
 
 and-right : (a b : Bool) → (a && b) ≡ true → b ≡ true
 and-right true b e = e
 and-right false b e = cc
 
-refused-due : (s : Services) (c : List ℕ) (h : Htlc) (k : Key) → due c h ≡ Some (out.Adding k) → is_open h.back ≡ true
-    → command_by s (put_way way.Refused h) (due k.channel (put_way way.Refused h))
+refused-due : (s : Services) (c : List ℕ) (h : Htlc) (k : Key) → due c h ≡ Some (out.Adding k)
+    → is_open h.incoming ≡ true
+    → command_by s (put_outgoing outgoing.Refused h) (due k.channel (put_outgoing outgoing.Refused h))
     ≡ Some (out.Removing k, command.Fail k.id (s.wrapped (failure_bytes failure.TemporaryChannelFailure)))
 refused-due s c h k e opened =
-    let g = put_way way.Refused h in
+    let g = put_outgoing outgoing.Refused h in
     elim (due-of c h (out.Adding k) e) [
       | forgets d st v is ↦ cc
       | takes d st f r is ↦ cc
       | adds d st f is ↦ (
           let key : k ≡ h.key = cc in
-          let fb = fails-back s c h h.mark (and-right (is_nowhere h.way) (forwards_in c h.mark) f) in
-          ap (command_by s g) (due-so true false (is_over_in k.channel way.Refused) false true h.key
-          (Some (out.Removing h.key)) h.decided (is_settled h.back) (is_over_in k.channel way.Refused)
+          let fb = fails-incoming s c h h.mark (and-right (has_nothing_offered h.outgoing) (forwards_in c h.mark) f) in
+          ap (command_by s g) (due-so true false (is_resolved_in k.channel outgoing.Refused) false true h.key
+          (Some (out.Removing h.key)) h.decided (is_settled h.incoming) (is_resolved_in k.channel outgoing.Refused)
           (offers k.channel g) (removes k.channel g) d st refl refl
-          (ap (λ z. z && (is_open h.back && same k.channel h.key.channel)) fb.0
+          (ap (λ z. z && (is_open h.incoming && same k.channel h.key.channel)) fb.0
           ∙ ap (λ z. z && same k.channel h.key.channel) opened
           ∙ ap (λ (z : Key). same z.channel h.key.channel) key ∙ same-refl h.key.channel) refl)
           ∙ ap (with_out (out.Removing h.key)) fb.1
@@ -532,19 +559,19 @@ refused-due s c h k e opened =
           )
     ]
 
-pub fails-back-then : (s : Services) (c : List ℕ) (b : History Table Entry) (k : Key) (h : Htlc) (r : ℕ)
-    → find (is_htlc k) (table_of b).htlcs ≡ Some h → due c h ≡ Some (out.Adding k) → is_open h.back ≡ true
-    → desk_at c (table_of b) ≡ desk.Out (out.Adding k) → r < 47
+pub fails-incoming-then : (s : Services) (c : List ℕ) (b : History Table Entry) (k : Key) (h : Htlc) (r : ℕ)
+    → find (is_htlc k) (table_of b).htlcs ≡ Some h → due c h ≡ Some (out.Adding k) → is_open h.incoming ≡ true
+    → pending_command_at c (table_of b) ≡ pending_command.InFlight (out.Adding k) → r < 47
     → (g : Htlc) × (find (is_htlc k) (table_of (replied c (Err r) b)).htlcs ≡ Some g)
     × (command_by s g (due k.channel g) ≡ Some (
       out.Removing k,
       command.Fail k.id (s.wrapped (failure_bytes failure.TemporaryChannelFailure)),
     ))
-fails-back-then s c b k h r first is-due opened is-out lt = (
-  put_way way.Refused h,
+fails-incoming-then s c b k h r first is-due opened is-out lt = (
+  put_outgoing outgoing.Refused h,
   ap (λ (u : Table). find (is_htlc k) u.htlcs) (replied-out c (Err r) b (out.Adding k) is-out)
       ∙ ap (find (is_htlc k)) (refused-then c k (table_of b) r lt)
-      ∙ changed-found (is_htlc k) (put_way way.Refused) (λ x. refl) (table_of b).htlcs h first,
+      ∙ changed-found (is_htlc k) (put_outgoing outgoing.Refused) (λ x. refl) (table_of b).htlcs h first,
   refused-due s c h k is-due opened,
 )
 
@@ -559,25 +586,27 @@ and-none true = refl
 and-none false = refl
 
 kept-offered : (e c : List ℕ) (id next : ℕ) → id < next
-    → is_way_lost e next (way.Offered (record { channel = c; id = id })) ≡ false
+    → is_outgoing_lost e next (outgoing.Offered (record { channel = c; id = id })) ≡ false
 kept-offered e c id next lt =
     let far : nat_le next id ≡ false = above next id lt (nat_le next id) refl in
     ap (λ z. same e c && z) far ∙ and-none (same e c)
 
 pub offered-then : (c : List ℕ) (b : History Table Entry) (k : Key) (h : Htlc) (id : ℕ)
-    → find (is_htlc k) (table_of b).htlcs ≡ Some h → desk_at c (table_of b) ≡ desk.Out (out.Adding k)
+    → find (is_htlc k) (table_of b).htlcs ≡ Some h
+    → pending_command_at c (table_of b) ≡ pending_command.InFlight (out.Adding k)
     → (g : Htlc) × (find (is_htlc k) (table_of (replied c (Ok id) b)).htlcs ≡ Some g)
     × ((d : List ℕ) (j : Key) → due d g ≡ Some (out.Adding j) → ⊥)
-    × ((e d : List ℕ) (j : Key) (told : Told) → id < told.next → due d (htlc_kept e told g) ≡ Some (out.Adding j) → ⊥)
+    × ((e d : List ℕ) (j : Key) (told : KeptState) → id < told.next
+    → due d (htlc_kept e told g) ≡ Some (out.Adding j) → ⊥)
 offered-then c b k h id first is-out =
-    let w = way.Offered (record { channel = c; id = id }) in
-    let g = put_way w h in (
+    let w = outgoing.Offered (record { channel = c; id = id }) in
+    let g = put_outgoing w h in (
       g,
       ap (λ (u : Table). find (is_htlc k) u.htlcs) (replied-out c (Ok id) b (out.Adding k) is-out)
-          ∙ changed-found (is_htlc k) (put_way w) (λ x. refl) (table_of b).htlcs h first,
+          ∙ changed-found (is_htlc k) (put_outgoing w) (λ x. refl) (table_of b).htlcs h first,
       λ d j e. not-nowhere d g j refl e,
       λ e d j told lt is. not-nowhere d (htlc_kept e told g) j
-          (ap (λ z. is_nowhere (cond z way.Nowhere w)) (kept-offered e c id told.next lt)) is,
+          (ap (λ z. has_nothing_offered (cond z outgoing.Absent w)) (kept-offered e c id told.next lt)) is,
     )
 
 -- ---- what is owed can be taken
@@ -604,7 +633,7 @@ some-first s c t None x (inl e) = cc
 some-first s c t None x (inr d) = some-due s c t.htlcs d.0 x d.1 d.2
 
 pub can-be-taken : (s : Services) (c : List ℕ) (b : History Table Entry) (x : Out × Command) → Owes s c x (table_of b)
-    → desk_at c (table_of b) ≡ desk.Idle → is_some (first_command s c (table_of b)) ≡ true
+    → pending_command_at c (table_of b) ≡ pending_command.Idle → is_some (first_command s c (table_of b)) ≡ true
 can-be-taken s c b x (inl q) idle =
     let t = table_of b in
     ap (λ d. is_some (first_at s c d t)) idle

@@ -3,6 +3,6 @@ pub mod Saying
 pub mod Uses
 pub mod Answers
 pub mod Owing
-pub mod Readings
+pub mod Snapshots
 pub mod Seen
 pub mod Seats

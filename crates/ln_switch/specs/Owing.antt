@@ -1,12 +1,12 @@
 -- What a book of payments has to command a channel, whether it was handed out before or not.
 use Rattle.std.specs.Prelude.{◌≡◌, ◌⊎◌, ℕ, List, [], ◌∷◌, Bool, true, not, Some}
 use Rattle.ln_channel.specs.declared.command.Command.{Command}
-use Rattle.ln_tables.specs.declared.htlc.Htlc.{Htlc}
-use Rattle.ln_tables.specs.declared.entry.Queued.{Queued}
-use Rattle.ln_tables.specs.declared.entry.Out.{Out}
-use Rattle.ln_tables.specs.declared.entry.Out.TheVariants as out
-use Rattle.ln_tables.specs.declared.entry.Told.{Told}
-use Rattle.ln_tables.specs.Replay.{Table, is_among}
+use Rattle.ln_book_tables.specs.declared.htlc.Htlc.{Htlc}
+use Rattle.ln_book_tables.specs.declared.entry.Queued.{Queued}
+use Rattle.ln_book_tables.specs.declared.entry.Out.{Out}
+use Rattle.ln_book_tables.specs.declared.entry.Out.TheVariants as out
+use Rattle.ln_book_tables.specs.declared.entry.KeptState.{KeptState}
+use Rattle.ln_book_tables.specs.Replay.{Table, is_among}
 use Rattle.ln_book.specs.Commands.{Services, due, command_by, is_queued_in, queued_command}
 
 abbrev pub IsIn : {A : Type 0} → A → List A → Type 0
@@ -20,7 +20,7 @@ Owes s c x t =
     ⊎ ((h : Htlc) × IsIn h t.htlcs × (command_by s h (due c h) ≡ Some x))
 
 -- the channel has kept nothing of this command
-abbrev pub is_lost : Out → Told → Bool
+abbrev pub is_lost : Out → KeptState → Bool
 is_lost (out.Deciding n) told = true
 is_lost (out.Adding k) told = true
 is_lost (out.Removing k) told = not (is_among k.id told.removes)

@@ -3,7 +3,7 @@ use Rattle.std.specs.Prelude.{List, ℕ, Option, Some, None}
 use Rattle.ln_channel.specs.End.{End}
 use Rattle.ln_channel.specs.Record.{saved_end}
 use Rattle.ln_channel.specs.State.{State}
-use Rattle.ln_readings.specs.Kept.{next_own_id}
+use Rattle.ln_book_recovery.specs.Kept.{next_own_id}
 use Rattle.ln_switch.specs.declared.uses.Use.{Use}
 use Rattle.ln_switch.specs.Uses.{use_of}
 

@@ -7,18 +7,18 @@ use Rattle.ln_forward.specs.Payload.{id_bytes}
 use Rattle.ln_channel.specs.declared.opening.Terms.{Terms}
 use Rattle.ln_channel.specs.End.{End, is_ready}
 use Rattle.ln_channel.specs.State.{State, is_down}
-use Rattle.ln_tables.specs.declared.entry.Entry.{Entry}
-use Rattle.ln_tables.specs.declared.entry.Entry.TheVariants as entry
-use Rattle.ln_tables.specs.declared.entry.Told.{Told}
+use Rattle.ln_book_tables.specs.declared.entry.Entry.{Entry}
+use Rattle.ln_book_tables.specs.declared.entry.Entry.TheVariants as entry
+use Rattle.ln_book_tables.specs.declared.entry.KeptState.{KeptState}
 use Rattle.ln_history.specs.History.{History, with_entry}
-use Rattle.ln_tables.specs.Replay.{Table, table_of}
-use Rattle.ln_readings.specs.Kept.{told_by, next_own_id, has_own_removal, has_decided}
+use Rattle.ln_book_tables.specs.Replay.{Table, table_of}
+use Rattle.ln_book_recovery.specs.Kept.{kept_state_of, next_own_id, has_own_removal, has_decided}
 use Rattle.ln_switch.specs.declared.uses.Use.{Use}
 
 -- it is ready and connected, has neither failed nor halted, nor closed, and neither side has shut down
 abbrev pub takes_payments : {K : Type 0} → State K → End → Bool
 takes_payments l e =
-    not l.halted && (is_none l.failure && (not (is_down l.line) && (is_ready e
+    not l.halted && (is_none l.failure && (not (is_down l.connection) && (is_ready e
     && (not e.closing.shut && (not e.closing.peer_shut && is_none e.closing.closed)))))
 
 -- the least that the other end takes, in msat: what it told as the channel was opened
@@ -30,7 +30,7 @@ minimum_told Fundee t = t.open_channel.htlc_minimum_msat
 abbrev pub use_of : {K : Type 0} → State K → End → Use
 use_of l e = record {
   channel = e.dance.channel;
-  short_id = option_map id_bytes e.marks.short_id;
+  short_id = option_map id_bytes e.readiness.short_id;
   minimum = minimum_told e.closing.role e.terms;
   takes = takes_payments l e;
 }
@@ -48,9 +48,9 @@ abbrev pub with_use : Policy → Use → History Table Entry → History Table E
 with_use p u b = with_entry (entry.Use u.channel u.takes) (with_route p u u.short_id b)
 
 -- what this channel's end has kept, as a book is told
-abbrev pub told_of : List ℕ → End → History Table Entry → Told
+abbrev pub told_of : List ℕ → End → History Table Entry → KeptState
 told_of c e b =
-    told_by (next_own_id e) (λ id. has_own_removal id e.dance.log) (λ n mark. has_decided n mark e) c (table_of b)
+    kept_state_of (next_own_id e) (λ id. has_own_removal id e.dance.log) (λ n mark. has_decided n mark e) c (table_of b)
 
 -- the book is told so, as its connection was lost or it was loaded
 abbrev pub with_dropped : List ℕ → End → History Table Entry → History Table Entry

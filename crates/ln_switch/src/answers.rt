@@ -1,11 +1,11 @@
 //! What a book is told of a command that a channel's end was given.
 
 ghost use Rattle.std.specs.Prelude.{◌≡◌, option_copied};
-ghost use Rattle.ln_switch.specs.Answers.{next_id, about, answer_to, waits};
+ghost use Rattle.ln_switch.specs.Answers.{next_id, command_subject, answer_to, waits};
 
+use ln_book_tables::is_later;
 use ln_channel::{Channel, Command};
 use ln_msgs::Refusal;
-use ln_tables::is_later;
 
 /// The id of the next HTLC that an end offers; 0 before both have signed its opening. Takes no memory.
 pub fn next_id(end: Option<&Channel>) -> u64
@@ -19,8 +19,8 @@ pub fn next_id(end: Option<&Channel>) -> u64
 
 /// The id of the HTLC that a command is about, or the number of the event: an HTLC that is offered gets the end's next
 /// id. 0 where it is about none. Takes no memory.
-pub fn about(next: u64, command: &Command) -> u64
-    ensures { result ≡ about next command.now }
+pub fn command_subject(next: u64, command: &Command) -> u64
+    ensures { result ≡ command_subject next command.now }
 {
     match command {
         Command::Add { .. } => next,
@@ -36,11 +36,11 @@ pub fn about(next: u64, command: &Command) -> u64
 
 /// What a book is told of a command: what it was about, where the end has done it; else the number of the refusal.
 /// Takes no memory.
-pub fn answer_to(about: u64, done: Result<(), Refusal>) -> Result<u64, u16>
-    ensures { result ≡ answer_to about done }
+pub fn answer_to(command_subject: u64, done: Result<(), Refusal>) -> Result<u64, u16>
+    ensures { result ≡ answer_to command_subject done }
 {
     match done {
-        Ok(()) => Ok(about),
+        Ok(()) => Ok(command_subject),
         Err(refusal) => Err(refusal.number()),
     }
 }

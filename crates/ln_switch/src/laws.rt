@@ -12,16 +12,16 @@ ghost use Rattle.ln_channel.specs.declared.command.Command.TheVariants as comman
 ghost use Rattle.ln_channel.specs.Commands.{own_fault};
 ghost use Rattle.ln_channel.specs.End.{End};
 ghost use Rattle.ln_channel.specs.State.{State, is_down};
-ghost use Rattle.ln_tables.specs.declared.htlc.Key.{Key};
-ghost use Rattle.ln_tables.specs.declared.htlc.Htlc.{Htlc};
-ghost use Rattle.ln_tables.specs.declared.entry.Out.{Out};
-ghost use Rattle.ln_tables.specs.declared.entry.Out.TheVariants as out;
-ghost use Rattle.ln_tables.specs.declared.entry.Desk.TheVariants as desk;
-ghost use Rattle.ln_tables.specs.declared.entry.Told.{Told};
-ghost use Rattle.ln_tables.specs.declared.entry.Entry.{Entry};
-ghost use Rattle.ln_tables.specs.declared.entry.Entry.TheVariants as entry;
+ghost use Rattle.ln_book_tables.specs.declared.htlc.Key.{Key};
+ghost use Rattle.ln_book_tables.specs.declared.htlc.Htlc.{Htlc};
+ghost use Rattle.ln_book_tables.specs.declared.entry.Out.{Out};
+ghost use Rattle.ln_book_tables.specs.declared.entry.Out.TheVariants as out;
+ghost use Rattle.ln_book_tables.specs.declared.entry.PendingCommand.TheVariants as pending_command;
+ghost use Rattle.ln_book_tables.specs.declared.entry.KeptState.{KeptState};
+ghost use Rattle.ln_book_tables.specs.declared.entry.Entry.{Entry};
+ghost use Rattle.ln_book_tables.specs.declared.entry.Entry.TheVariants as entry;
 ghost use Rattle.ln_history.specs.History.{History, with_entry};
-ghost use Rattle.ln_tables.specs.Replay.{Table, table_of, desk_at, is_htlc, is_open, htlc_kept};
+ghost use Rattle.ln_book_tables.specs.Replay.{Table, table_of, pending_command_at, is_htlc, is_open, htlc_kept};
 ghost use Rattle.ln_book.specs.Commands.{Services, first_command, with_taken, due, command_by};
 ghost use Rattle.ln_switch.specs.Answers.{replied};
 ghost use Rattle.ln_switch.specs.Owing.{Owes, is_lost};
@@ -38,7 +38,7 @@ pub fn what_is_refused_for_now_is_handed_out_again()
 /// A command that was handed out, and of which its channel has kept nothing as its connection was lost or it was
 /// loaded, is owed as before.
 pub fn what_is_lost_is_owed_again()
-    ensures { (s : Services) (c : List ℕ) (b : History Table Entry) (x : Out × Command) (told : Told)
+    ensures { (s : Services) (c : List ℕ) (b : History Table Entry) (x : Out × Command) (told : KeptState)
         → first_command s c (table_of b) ≡ Some x → told.decides ≡ false → is_lost (x.0) told ≡ true
         → Owes s c x (table_of (with_entry (entry.Dropped c told) (with_taken c (Some x) b))) }
 {}
@@ -46,15 +46,15 @@ pub fn what_is_lost_is_owed_again()
 /// Where a channel is owed something and no command is out in it, one can be taken.
 pub fn what_is_owed_can_be_taken()
     ensures { (s : Services) (c : List ℕ) (b : History Table Entry) (x : Out × Command) → Owes s c x (table_of b)
-        → desk_at c (table_of b) ≡ desk.Idle → is_some (first_command s c (table_of b)) ≡ true }
+        → pending_command_at c (table_of b) ≡ pending_command.Idle → is_some (first_command s c (table_of b)) ≡ true }
 {}
 
 /// An HTLC whose offer the next channel refuses by any number below 47 is failed in the channel by which it came, by
 /// temporary_channel_failure (BOLT 2, "Forwarding HTLCs"; BOLT 4, "Failure Messages").
 pub fn a_refused_offer_fails_back()
     ensures { (s : Services) (c : List ℕ) (b : History Table Entry) (k : Key) (h : Htlc) (r : ℕ)
-        → find (is_htlc k) (table_of b).htlcs ≡ Some h → due c h ≡ Some (out.Adding k) → is_open h.back ≡ true
-        → desk_at c (table_of b) ≡ desk.Out (out.Adding k) → r < 47
+        → find (is_htlc k) (table_of b).htlcs ≡ Some h → due c h ≡ Some (out.Adding k) → is_open h.incoming ≡ true
+        → pending_command_at c (table_of b) ≡ pending_command.InFlight (out.Adding k) → r < 47
         → (g : Htlc) × (find (is_htlc k) (table_of (replied c (Err r) b)).htlcs ≡ Some g)
         × (command_by s g (due k.channel g) ≡ Some (
           out.Removing k,
@@ -66,10 +66,11 @@ pub fn a_refused_offer_fails_back()
 /// lost while the channel has kept an HTLC of this id.
 pub fn what_was_offered_is_not_offered_again()
     ensures { (c : List ℕ) (b : History Table Entry) (k : Key) (h : Htlc) (id : ℕ)
-        → find (is_htlc k) (table_of b).htlcs ≡ Some h → desk_at c (table_of b) ≡ desk.Out (out.Adding k)
+        → find (is_htlc k) (table_of b).htlcs ≡ Some h
+        → pending_command_at c (table_of b) ≡ pending_command.InFlight (out.Adding k)
         → (g : Htlc) × (find (is_htlc k) (table_of (replied c (Ok id) b)).htlcs ≡ Some g)
         × ((d : List ℕ) (j : Key) → due d g ≡ Some (out.Adding j) → ⊥)
-        × ((e d : List ℕ) (j : Key) (told : Told) → id < told.next
+        × ((e d : List ℕ) (j : Key) (told : KeptState) → id < told.next
         → due d (htlc_kept e told g) ≡ Some (out.Adding j) → ⊥) }
 {}
 
@@ -79,6 +80,6 @@ pub fn what_was_offered_is_not_offered_again()
 /// `shutdown`").
 pub fn an_end_takes_payments_where_it_may_offer<K>()
     ensures { (l : State K) (e : End) (a : Add) → is_at_update_limit e.dance.log.own ≡ false
-        → takes_payments l e ≡ (not l.halted && (is_none l.failure && (not (is_down l.line)
+        → takes_payments l e ≡ (not l.halted && (is_none l.failure && (not (is_down l.connection)
         && (is_none (own_fault e (update.Add a)) && is_none e.closing.closed)))) }
 {}

@@ -4,18 +4,18 @@
 
 mod answers;
 mod laws;
-mod readings;
 mod saying;
 mod seat;
+mod snapshots;
 mod uses;
 
-pub use answers::{about, answer_to, next_id, waits};
+pub use answers::{answer_to, command_subject, next_id, waits};
 pub use laws::{
     a_refused_offer_fails_back, an_end_takes_payments_where_it_may_offer,
     what_is_lost_is_owed_again, what_is_owed_can_be_taken,
     what_is_refused_for_now_is_handed_out_again, what_was_offered_is_not_offered_again,
 };
-pub use readings::read_end;
 pub use saying::Saying;
 pub use seat::Seat;
+pub use snapshots::read_end;
 pub use uses::{Use, follow, use_of};

@@ -30,9 +30,9 @@ pub struct Seat<O: Drop> {
 impl<O: Onion + Copy + Drop> Seat<O> {
     ghost use Rattle.std.specs.Prelude.{◌≡◌, ◌⊎◌, ◌↔◌, ◌++◌, ◌∷◌, [], OnOk, OnErr, IfOk, IfErr};
     ghost use Rattle.std.specs.Prelude.{Some, false, option_map};
-    ghost use Rattle.ln_tables.specs.declared.entry.Entry.TheVariants as entry;
+    ghost use Rattle.ln_book_tables.specs.declared.entry.Entry.TheVariants as entry;
     ghost use Rattle.ln_history.specs.History.{with_entry};
-    ghost use Rattle.ln_tables.specs.Replay.{table_of};
+    ghost use Rattle.ln_book_tables.specs.Replay.{table_of};
     ghost use Rattle.ln_book.specs.Commands.{services_of, first_command, with_taken};
     ghost use Rattle.ln_book.specs.Marks.{offer_of, mark_of, decision};
     ghost use Rattle.ln_book.specs.Settled.{with_settled};

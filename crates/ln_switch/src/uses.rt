@@ -7,7 +7,7 @@ ghost use Rattle.ln_switch.specs.Uses.{takes_payments, minimum_told, use_of, wit
 
 use ln_book::Book;
 use ln_bytes::ShortId;
-use ln_channel::{Channel, Unsaved};
+use ln_channel::{Channel, ChannelMachine};
 use ln_forward::Policy;
 use ln_keys::{ChannelKeys, Role};
 use ln_log::ChannelId;
@@ -27,13 +27,13 @@ pub struct Use {
 }
 
 // Whether a link takes payments: it works and is connected, its end is ready, and neither side has shut down.
-fn takes_payments<K: ChannelKeys + Drop>(link: &Unsaved<K>, end: &Channel) -> bool
+fn takes_payments<K: ChannelKeys + Drop>(link: &ChannelMachine<K>, end: &Channel) -> bool
     ensures { result ≡ takes_payments link.now end.now }
 {
     let closing = end.closing();
     !link.is_halted()
         && link.failure().is_none()
-        && !link.line().is_down()
+        && !link.connection().is_down()
         && end.is_ready()
         && !closing.shut
         && !closing.peer_shut
@@ -61,12 +61,12 @@ fn bytes_of(id: Option<ShortId>) -> Option<[u8; 8]>
 }
 
 /// What a book is told of an end. Takes no memory.
-pub fn use_of<K: ChannelKeys + Drop>(link: &Unsaved<K>, end: &Channel) -> Use
+pub fn use_of<K: ChannelKeys + Drop>(link: &ChannelMachine<K>, end: &Channel) -> Use
     ensures { result ≡ use_of link.now end.now }
 {
     Use {
         channel: end.id(),
-        short_id: bytes_of(end.marks().short_id),
+        short_id: bytes_of(end.readiness().short_id),
         minimum: minimum_told(end),
         takes: takes_payments(link, end),
     }

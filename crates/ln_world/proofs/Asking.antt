@@ -3,14 +3,14 @@ use Rattle.std.proofs.Common.{◌≡◌, ℕ, List, Option, Some, None, cond, se
 use Rattle.std.proofs.Common.{option_map}
 use Rattle.ln_hooks.specs.declared.event.ChannelEvent.{ChannelEvent}
 use Rattle.ln_hooks.specs.declared.verdict.Verdict.{Verdict}
-use Rattle.ln_channels.specs.declared.step.End.{End}
-use Rattle.ln_tables.specs.declared.entry.Entry.TheVariants as entry
+use Rattle.ln_world_channels.specs.declared.step.End.{End}
+use Rattle.ln_book_tables.specs.declared.entry.Entry.TheVariants as entry
 use Rattle.ln_history.specs.History.{with_entry}
-use Rattle.ln_tables.specs.Replay.{table_of}
+use Rattle.ln_book_tables.specs.Replay.{table_of}
 use Rattle.ln_book.specs.Commands.{first_command, with_taken}
 use Rattle.ln_log.specs.declared.mark.Mark.{Mark}
-use Rattle.ln_channels.specs.WorldChannel.{is_node}
-use Rattle.ln_desks.proofs.Found.{nowhere}
+use Rattle.ln_world_channels.specs.WorldChannel.{is_node}
+use Rattle.ln_world_dispatch.proofs.Found.{nowhere}
 use Rattle.ln_book.specs.Marks.{offer_of, decision, resumption}
 use Rattle.ln_world.specs.declared.node.NodeBook.{NodeBook}
 use Rattle.ln_world.specs.Node.{Book, services, new_node, node_at}

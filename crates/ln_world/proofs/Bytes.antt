@@ -1,6 +1,6 @@
 -- A byte of a list, 0 behind its end.
 use Rattle.std.proofs.Common.{◌≡◌, ℕ, zero, suc, ◌≤◌, List, [], ◌∷◌, length, refl, arith, get_or}
-use Rattle.ln_world.specs.Told.{byte_at}
+use Rattle.ln_world.specs.BookReports.{byte_at}
 
 pub byte_there : (n : ℕ) (bs : List ℕ) → get_or bs n 0 ≡ byte_at n bs
 byte_there zero [] = refl

@@ -2,14 +2,14 @@
 use Rattle.std.proofs.Common.{◌≡◌, ℕ, suc, ◌+◌, ◌-◌, ◌<◌, List, [], refl, ap, ◌∙◌, arith, sym}
 use Rattle.ln_forward.specs.declared.checks.Policy.{Policy}
 use Rattle.ln_channel.specs.End.{End as ChannelEnd}
-use Rattle.ln_channels.specs.declared.step.Node.{Node}
-use Rattle.ln_channels.specs.WorldChannel.{WorldChannel}
-use Rattle.ln_channels.specs.World.{channel}
-use Rattle.ln_desks.specs.World.{undecided}
-use Rattle.ln_readings.specs.Rebuild.{Reading}
+use Rattle.ln_world_channels.specs.declared.step.Node.{Node}
+use Rattle.ln_world_channels.specs.WorldChannel.{WorldChannel}
+use Rattle.ln_world_channels.specs.World.{channel}
+use Rattle.ln_world_dispatch.specs.World.{undecided}
+use Rattle.ln_book_recovery.specs.Rebuild.{ChannelSnapshot}
 use Rattle.ln_world.specs.Node.{Book}
-use Rattle.ln_world.specs.Told.{with_event, with_events}
-use Rattle.ln_world.specs.Follow.{followed_below, with_channel, readings_below, reading_in}
+use Rattle.ln_world.specs.BookReports.{with_event, with_events}
+use Rattle.ln_world.specs.Follow.{followed_below, with_channel, snapshots_below, snapshot_in}
 
 pub none_followed : {K : Type 0} (n : Node) (p : Policy) (cs : List (WorldChannel K)) (b : Book)
     → b ≡ followed_below 0 n p cs b
@@ -21,14 +21,14 @@ pub one_followed : {K : Type 0} (m : ℕ) (n : Node) (p : Policy) (cs : List (Wo
 unfolding followed_below
 one_followed m n p cs b c d h i = i ∙ ap (λ x. with_channel n p (channel m cs) x) h
 
-pub none_read : {K : Type 0} (n : Node) (cs : List (WorldChannel K)) → [] ≡ readings_below 0 n cs
-unfolding readings_below
+pub none_read : {K : Type 0} (n : Node) (cs : List (WorldChannel K)) → [] ≡ snapshots_below 0 n cs
+unfolding snapshots_below
 none_read n cs = refl
 
-pub one_read : {K : Type 0} (m : ℕ) (n : Node) (cs : List (WorldChannel K)) (rs ss : List Reading)
-    → rs ≡ readings_below m n cs → ss ≡ reading_in n (channel m cs) rs → ss ≡ readings_below (suc m) n cs
-unfolding readings_below
-one_read m n cs rs ss h i = i ∙ ap (λ x. reading_in n (channel m cs) x) h
+pub one_read : {K : Type 0} (m : ℕ) (n : Node) (cs : List (WorldChannel K)) (rs ss : List ChannelSnapshot)
+    → rs ≡ snapshots_below m n cs → ss ≡ snapshot_in n (channel m cs) rs → ss ≡ snapshots_below (suc m) n cs
+unfolding snapshots_below
+one_read m n cs rs ss h i = i ∙ ap (λ x. snapshot_in n (channel m cs) x) h
 
 -- the events from this number on, one of them heard
 pub one_heard : (id : List ℕ) (n count : ℕ) (e : ChannelEnd) (b c : Book) → n < count

@@ -3,10 +3,10 @@ use Rattle.std.proofs.Common.{◌≡◌, ℕ, suc, ◌+◌, List, [], ◌∷◌,
 use Rattle.std.proofs.Common.{Bool, true, false, cond, not, Some, None, position, arith, ◌<◌, nat_lt, eq-eqb}
 use Rattle.std.proofs.Common.{length-append, lt-ltb}
 use Rattle.std.specs.List.{position_or_len}
-use Rattle.ln_channels.specs.declared.step.Node.{Node}
-use Rattle.ln_channels.specs.WorldChannel.{is_node}
-use Rattle.ln_channels.proofs.Places.{at_first}
-use Rattle.ln_desks.proofs.Found.{nowhere}
+use Rattle.ln_world_channels.specs.declared.step.Node.{Node}
+use Rattle.ln_world_channels.specs.WorldChannel.{is_node}
+use Rattle.ln_world_channels.proofs.Places.{at_first}
+use Rattle.ln_world_dispatch.proofs.Found.{nowhere}
 use Rattle.ln_world.specs.declared.node.NodeBook.{NodeBook}
 use Rattle.ln_world.specs.Node.{Book, new_node, node_at, changed, with_book}
 

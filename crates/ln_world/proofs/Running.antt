@@ -6,47 +6,49 @@ use Rattle.ln_keys.specs.declared.keys.ChannelKeys.{Ghosts}
 use Rattle.ln_hooks.specs.declared.event.ChannelEvent.{ChannelEvent}
 use Rattle.ln_hooks.specs.declared.verdict.Verdict.{Verdict}
 use Rattle.ln_hooks.specs.declared.verdict.Verdict.TheVariants.{Continue}
-use Rattle.ln_channels.specs.declared.line.Line.{Line}
-use Rattle.ln_channels.specs.declared.line.Line.TheVariants as line
-use Rattle.ln_desks.specs.declared.step.Step.{Step as DeskStep}
-use Rattle.ln_desks.specs.World.{World as Desks}
-use Rattle.ln_desks.specs.World as desks
-use Rattle.ln_desks.specs.Seated.{Answers, Tables, Stand, Agree}
-use Rattle.ln_desks.specs.Hooked as desks_hooked
+use Rattle.ln_world_channels.specs.declared.line.Line.{Line}
+use Rattle.ln_world_channels.specs.declared.line.Line.TheVariants as line
+use Rattle.ln_world_dispatch.specs.declared.step.Step.{Step as DispatchStep}
+use Rattle.ln_world_dispatch.specs.World.{World as Dispatchers}
+use Rattle.ln_world_dispatch.specs.World as dispatchers
+use Rattle.ln_world_dispatch.specs.Seated.{Answers, Tables, Stand, Agree}
+use Rattle.ln_world_dispatch.specs.Hooked as dispatchers_hooked
 use Rattle.ln_world.specs.declared.step.Step.{Step}
-use Rattle.ln_world.specs.declared.errand.Errand.{Errand}
+use Rattle.ln_world.specs.declared.follow_up.FollowUp.{FollowUp}
 use Rattle.ln_world.specs.declared.node.NodeBook.{NodeBook}
-use Rattle.ln_desks.proofs.Desks.{calls_follow}
-use Rattle.ln_desks.proofs.Going as going
-use Rattle.ln_world.specs.World.{World, empty, plain, plains, moved_by, lines_by, prepared, errand_of, concluded, tells}
+use Rattle.ln_world_dispatch.proofs.Dispatchers.{calls_follow}
+use Rattle.ln_world_dispatch.proofs.Going as going
+use Rattle.ln_world.specs.World.{World, empty, plain, plains, moved_by, lines_by, prepared, follow_up_of, concluded}
+use Rattle.ln_world.specs.World.{tells}
 use Rattle.ln_world.specs.World.{happens, run, step_lines, run_lines, MayFail, SomeMayFail}
 use Rattle.ln_world.specs.Hooked.{verdict_by, verdict_in, answered, Moves, Steps, HasRun, RunMayFail}
 
-pub same_world : {K : Type 0} (w : World K) (d : Desks K) (xs : List NodeBook) → w.desks ≡ d → w.nodes ≡ xs
-    → w ≡ record { desks = d; nodes = xs }
+pub same_world : {K : Type 0} (w : World K) (d : Dispatchers K) (xs : List NodeBook) → w.dispatchers ≡ d → w.nodes ≡ xs
+    → w ≡ record { dispatchers = d; nodes = xs }
 same_world w d xs h i =
-    ap (λ x. record { desks = x; nodes = w.nodes }) h ∙ ap (λ x. record { desks = d; nodes = x }) i
+    ap (λ x. record { dispatchers = x; nodes = w.nodes }) h ∙ ap (λ x. record { dispatchers = d; nodes = x }) i
 
 module _ {K : Type 0} (k : Ghosts K) {H : Type 0} (calls : H → ChannelEvent → Verdict → H → Type 0) where
-  pub move_told : (m : DeskStep K k) (d d' : Desks K) (ts ts' : List (Tables calls)) (left left' : List (Option H))
-      (told told' : List Line) → told ≡ [] → desks_hooked.Steps k calls m d ts left d' ts' left' told told'
+  pub move_told : (m : DispatchStep K k) (d d' : Dispatchers K) (ts ts' : List (Tables calls))
+      (left left' : List (Option H))
+      (told told' : List Line) → told ≡ [] → dispatchers_hooked.Steps k calls m d ts left d' ts' left' told told'
       → Moves k calls (Some m) d ts left d' ts' left' told'
   move_told m d d' ts ts' left left' told told' is steps =
-      subst (λ l. desks_hooked.Steps k calls m d ts left d' ts' left' l told') is steps
+      subst (λ l. dispatchers_hooked.Steps k calls m d ts left d' ts' left' l told') is steps
 
-  -- a step that desks take
-  pub taken : (s : Step K k) (m : DeskStep K k) (w w' : World K) (ts ts' : List (Tables calls))
+  -- a step that dispatchers take
+  pub taken : (s : Step K k) (m : DispatchStep K k) (w w' : World K) (ts ts' : List (Tables calls))
       (left left' : List (Option H)) (told lines lines' : List Line) → plain k s w ≡ Some m
-      → desks_hooked.Steps k calls m w.desks ts left w'.desks ts' left' [] told
-      → w'.nodes ≡ concluded (errand_of s w) told w'.desks (prepared s w)
-      → lines' ≡ lines ++ tells (errand_of s w) told
+      → dispatchers_hooked.Steps k calls m w.dispatchers ts left w'.dispatchers ts' left' [] told
+      → w'.nodes ≡ concluded (follow_up_of s w) told w'.dispatchers (prepared s w)
+      → lines' ≡ lines ++ tells (follow_up_of s w) told
       → Steps k calls s w ts left w' ts' left' lines lines'
   taken s m w w' ts ts' left left' told lines lines' is steps nodes tells_so handed a count stand =
       let st = steps handed a count stand in
-      let by : moved_by k st.said (plain k s w) w.desks ≡ w'.desks =
-      ap (λ o. moved_by k st.said o w.desks) is ∙ sym st.world in
-      let lines_so : lines_by k st.said (plain k s w) w.desks ≡ told =
-      ap (λ o. lines_by k st.said o w.desks) is ∙ sym st.told in
+      let by : moved_by k st.said (plain k s w) w.dispatchers ≡ w'.dispatchers =
+      ap (λ o. moved_by k st.said o w.dispatchers) is ∙ sym st.world in
+      let lines_so : lines_by k st.said (plain k s w) w.dispatchers ≡ told =
+      ap (λ o. lines_by k st.said o w.dispatchers) is ∙ sym st.told in
       record {
         said = st.said;
         moved = record {
@@ -54,88 +56,92 @@ module _ {K : Type 0} (k : Ghosts K) {H : Type 0} (calls : H → ChannelEvent �
           stand = st.moved.stand;
           told = λ b agree.
               let old = st.moved.told b agree in
-              (old.0, ap (λ (o : Option (DeskStep K k)). verdict_by b o w.desks) is ∙ old.1);
+              (old.0, ap (λ (o : Option (DispatchStep K k)). verdict_by b o w.dispatchers) is ∙ old.1);
         };
-        world = same_world w' (moved_by k st.said (plain k s w) w.desks)
-            (concluded (errand_of s w) (lines_by k st.said (plain k s w) w.desks)
-            (moved_by k st.said (plain k s w) w.desks) (prepared s w)) (sym by)
-            (nodes ∙ sym (ap (λ d. concluded (errand_of s w) told d (prepared s w)) by)
-            ∙ sym (ap (λ l. concluded (errand_of s w) l (moved_by k st.said (plain k s w) w.desks) (prepared s w))
+        world = same_world w' (moved_by k st.said (plain k s w) w.dispatchers)
+            (concluded (follow_up_of s w) (lines_by k st.said (plain k s w) w.dispatchers)
+            (moved_by k st.said (plain k s w) w.dispatchers) (prepared s w)) (sym by)
+            (nodes ∙ sym (ap (λ d. concluded (follow_up_of s w) told d (prepared s w)) by)
+            ∙ sym (ap (λ l. concluded (follow_up_of s w) l (moved_by k st.said (plain k s w) w.dispatchers)
+            (prepared s w))
             lines_so));
-        told = tells_so ∙ ap (λ l. lines ++ tells (errand_of s w) l) (sym lines_so);
+        told = tells_so ∙ ap (λ l. lines ++ tells (follow_up_of s w) l) (sym lines_so);
       }
 
-  -- a step that is no matter of desks, or can't be taken
+  -- a step that is no matter of dispatchers, or can't be taken
   pub passed_over : (s : Step K k) (w w' : World K) (ts : List (Tables calls)) (left : List (Option H))
-      (lines lines' : List Line) → plain k s w ≡ None → w'.desks ≡ w.desks
-      → w'.nodes ≡ concluded (errand_of s w) (line.Idle ∷ []) w'.desks (prepared s w)
-      → lines' ≡ lines ++ tells (errand_of s w) (line.Idle ∷ [])
+      (lines lines' : List Line) → plain k s w ≡ None → w'.dispatchers ≡ w.dispatchers
+      → w'.nodes ≡ concluded (follow_up_of s w) (line.Idle ∷ []) w'.dispatchers (prepared s w)
+      → lines' ≡ lines ++ tells (follow_up_of s w) (line.Idle ∷ [])
       → Steps k calls s w ts left w' ts left lines lines'
   passed_over s w w' ts left lines lines' is same nodes tells_so handed a count stand =
-      let by : moved_by k Continue (plain k s w) w.desks ≡ w'.desks =
-      ap (λ o. moved_by k Continue o w.desks) is ∙ sym same in
-      let lines_so : lines_by k Continue (plain k s w) w.desks ≡ line.Idle ∷ [] =
-      ap (λ o. lines_by k Continue o w.desks) is in
+      let by : moved_by k Continue (plain k s w) w.dispatchers ≡ w'.dispatchers =
+      ap (λ o. moved_by k Continue o w.dispatchers) is ∙ sym same in
+      let lines_so : lines_by k Continue (plain k s w) w.dispatchers ≡ line.Idle ∷ [] =
+      ap (λ o. lines_by k Continue o w.dispatchers) is in
       record {
         said = Continue;
         moved = record {
           more = a;
-          stand = subst (λ (d : Desks K). Stand calls handed a d.used d.desks ts left) (sym same) stand;
+          stand = subst (λ (d : Dispatchers K). Stand calls handed a d.used d.dispatchers ts left) (sym same) stand;
           told = λ b agree. (
-            subst (λ (d : Desks K). Agree a b d.desks) same agree,
-            ap (λ (o : Option (DeskStep K k)). verdict_by b o w.desks) is,
+            subst (λ (d : Dispatchers K). Agree a b d.dispatchers) same agree,
+            ap (λ (o : Option (DispatchStep K k)). verdict_by b o w.dispatchers) is,
           );
         };
-        world = same_world w' (moved_by k Continue (plain k s w) w.desks)
-            (concluded (errand_of s w) (lines_by k Continue (plain k s w) w.desks)
-            (moved_by k Continue (plain k s w) w.desks) (prepared s w)) (sym by)
-            (nodes ∙ sym (ap (λ d. concluded (errand_of s w) (line.Idle ∷ []) d (prepared s w)) by)
-            ∙ sym (ap (λ l. concluded (errand_of s w) l (moved_by k Continue (plain k s w) w.desks) (prepared s w))
+        world = same_world w' (moved_by k Continue (plain k s w) w.dispatchers)
+            (concluded (follow_up_of s w) (lines_by k Continue (plain k s w) w.dispatchers)
+            (moved_by k Continue (plain k s w) w.dispatchers) (prepared s w)) (sym by)
+            (nodes ∙ sym (ap (λ d. concluded (follow_up_of s w) (line.Idle ∷ []) d (prepared s w)) by)
+            ∙ sym (ap (λ l. concluded (follow_up_of s w) l (moved_by k Continue (plain k s w) w.dispatchers)
+            (prepared s w))
             lines_so));
-        told = tells_so ∙ ap (λ l. lines ++ tells (errand_of s w) l) (sym lines_so);
+        told = tells_so ∙ ap (λ l. lines ++ tells (follow_up_of s w) l) (sym lines_so);
       }
 
   -- either
-  pub stepped : (s : Step K k) (o : Option (DeskStep K k)) (w w' : World K) (ts ts' : List (Tables calls))
+  pub stepped : (s : Step K k) (o : Option (DispatchStep K k)) (w w' : World K) (ts ts' : List (Tables calls))
       (left left' : List (Option H)) (told lines lines' : List Line) → plain k s w ≡ o
-      → Moves k calls o w.desks ts left w'.desks ts' left' told
-      → w'.nodes ≡ concluded (errand_of s w) told w'.desks (prepared s w)
-      → lines' ≡ lines ++ tells (errand_of s w) told
+      → Moves k calls o w.dispatchers ts left w'.dispatchers ts' left' told
+      → w'.nodes ≡ concluded (follow_up_of s w) told w'.dispatchers (prepared s w)
+      → lines' ≡ lines ++ tells (follow_up_of s w) told
       → Steps k calls s w ts left w' ts' left' lines lines'
   stepped s (Some m) w w' ts ts' left left' told lines lines' is moves nodes tells_so =
       taken s m w w' ts ts' left left' told lines lines' is moves nodes tells_so
   stepped s None w w' ts ts' left left' told lines lines' is moves nodes tells_so =
       let idle : Steps k calls s w ts left w' ts left lines lines' =
       passed_over s w w' ts left lines lines' is moves.0
-      (nodes ∙ ap (λ l. concluded (errand_of s w) l w'.desks (prepared s w)) moves.3)
-      (tells_so ∙ ap (λ l. lines ++ tells (errand_of s w) l) moves.3) in
+      (nodes ∙ ap (λ l. concluded (follow_up_of s w) l w'.dispatchers (prepared s w)) moves.3)
+      (tells_so ∙ ap (λ l. lines ++ tells (follow_up_of s w) l) moves.3) in
       subst (λ us. Steps k calls s w ts left w' us left' lines lines') (sym moves.1)
       (subst (λ l. Steps k calls s w ts left w' ts l lines lines') (sym moves.2) idle)
 
   -- either, where the parts of the code tell of it
-  pub stepped_by : (s : Step K k) (o : Option (DeskStep K k)) (w w' : World K) (ts ts' : List (Tables calls))
-      (left left' : List (Option H)) (what : Errand) (xs : List NodeBook) (told heard tells_of lines lines' : List Line)
-      → plain k s w ≡ o → what ≡ errand_of s w → xs ≡ prepared s w
-      → Moves k calls o w.desks ts left w'.desks ts' left' told
-      → w'.nodes ≡ concluded what heard w'.desks xs → heard ≡ told
+  pub stepped_by : (s : Step K k) (o : Option (DispatchStep K k)) (w w' : World K) (ts ts' : List (Tables calls))
+      (left left' : List (Option H)) (what : FollowUp) (xs : List NodeBook)
+      (told heard tells_of lines lines' : List Line)
+      → plain k s w ≡ o → what ≡ follow_up_of s w → xs ≡ prepared s w
+      → Moves k calls o w.dispatchers ts left w'.dispatchers ts' left' told
+      → w'.nodes ≡ concluded what heard w'.dispatchers xs → heard ≡ told
       → lines' ≡ lines ++ tells what tells_of → tells_of ≡ told
       → Steps k calls s w ts left w' ts' left' lines lines'
-  stepped_by s o w w' ts ts' left left' what xs told heard tells_of lines lines' is errand first moves nodes hears so
+  stepped_by s o w w' ts ts' left left' what xs told heard tells_of lines lines' is follow_up first moves nodes hears so
       says =
       stepped s o w w' ts ts' left left' told lines lines' is moves
-      (nodes ∙ ap (λ l. concluded what l w'.desks xs) hears ∙ ap (λ e. concluded e told w'.desks xs) errand
-      ∙ ap (λ ys. concluded (errand_of s w) told w'.desks ys) first)
-      (so ∙ ap (λ l. lines ++ tells what l) says ∙ ap (λ e. lines ++ tells e told) errand)
+      (nodes ∙ ap (λ l. concluded what l w'.dispatchers xs) hears
+      ∙ ap (λ e. concluded e told w'.dispatchers xs) follow_up
+      ∙ ap (λ ys. concluded (follow_up_of s w) told w'.dispatchers ys) first)
+      (so ∙ ap (λ l. lines ++ tells what l) says ∙ ap (λ e. lines ++ tells e told) follow_up)
 
   -- ---- one after the other
 
-  abbrev held : World K → Desks K
-  held w = w.desks
+  abbrev held : World K → Dispatchers K
+  held w = w.dispatchers
 
   abbrev says : Answers → Step K k → World K → Verdict
   says a s w = verdict_in k a s w
 
-  same_hooks : (v : Verdict) (o : Option (DeskStep K k)) (d : Desks K) → (moved_by k v o d).hooks ≡ d.hooks
+  same_hooks : (v : Verdict) (o : Option (DispatchStep K k)) (d : Dispatchers K) → (moved_by k v o d).hooks ≡ d.hooks
   same_hooks v None d = refl
   same_hooks v (Some s) d = refl
 
@@ -171,7 +177,7 @@ module _ {K : Type 0} (k : Ghosts K) {H : Type 0} (calls : H → ChannelEvent �
         → Steps k calls s w ts left w' ts' left' lines' lines'' → Ran (ss ++ s ∷ []) w' ts' left' lines lines''
     ran_one ss s w w' ts ts' left left' lines lines' lines'' ran steps =
         going.ran_one held (happens k) (step_lines k) says calls handed
-        (λ v x y. same_hooks v (plain k x y) y.desks) start ss s w w' ts ts' left left' lines lines' lines'' ran
+        (λ v x y. same_hooks v (plain k x y) y.dispatchers) start ss s w w' ts ts' left left' lines lines' lines'' ran
         (λ a count stand. let m = steps handed a count stand in record {
           said = m.said;
           moved = m.moved;
@@ -217,6 +223,6 @@ module _ {K : Type 0} (k : Ghosts K) {H : Type 0} (calls : H → ChannelEvent �
 
     -- each dispatcher has its tables
     pub ran_many : (ss : List (Step K k)) (w : World K) (ts : List (Tables calls)) (left : List (Option H))
-        (lines lines' : List Line) → Ran ss w ts left lines lines' → length ts ≡ length w.desks.desks
+        (lines lines' : List Line) → Ran ss w ts left lines lines' → length ts ≡ length w.dispatchers.dispatchers
     ran_many ss w ts left lines lines' ran =
         going.ran_many held (happens k) (step_lines k) says calls handed start ss w ts left lines lines' ran

@@ -10,7 +10,7 @@ use Rattle.ln_keys.specs.Signer.{Signer}
 use Rattle.ln_hooks.specs.declared.verdict.Verdict.{Verdict}
 use Rattle.ln_channel.specs.declared.config.Config.{Config}
 use Rattle.ln_channel.specs.declared.config.OpenSpec.{OpenSpec}
-use Rattle.ln_channel.specs.declared.unsaved.LineState.{LineState}
+use Rattle.ln_channel.specs.declared.machine.ConnectionState.{ConnectionState}
 use Rattle.ln_channel.specs.declared.opening.Opened.{Opened}
 use Rattle.ln_channel.specs.Config.{fees_of}
 use Rattle.ln_channel.specs.Opening.{Agreement, open_message, open_fault, agreement, accept_message}
@@ -19,15 +19,15 @@ use Rattle.ln_channel.specs.Opening.{funder_terms}
 use Rattle.ln_channel.specs.Meeting.{Opens}
 use Rattle.ln_channel.specs.End.{End, end_of}
 use Rattle.ln_channel.specs.State.{State}
-use Rattle.ln_pair.specs.Ends.{opened}
-use Rattle.ln_pair.proofs.Offered.{All, was_given, Origin, contents_of, Fits, BothFit, run_fit}
-use Rattle.ln_pair.proofs.Offered.{FitsFirst, first_fits}
-use Rattle.ln_channels.specs.WorldChannel.{WorldChannel}
-use Rattle.ln_channels.specs.Promises.{Each}
-use Rattle.ln_channels.specs.Settings.{channel_id_of}
-use Rattle.ln_channels.proofs.Mirror.{link_at}
-use Rattle.ln_channels.proofs.Kept.{ends_of}
-use Rattle.ln_channels.proofs.Recorded.{IsFit, IsFitChannel, AreFit, stays_fit}
+use Rattle.ln_channel_laws.specs.Ends.{opened}
+use Rattle.ln_channel_laws.proofs.Offered.{All, was_given, Origin, contents_of, Fits, BothFit, run_fit}
+use Rattle.ln_channel_laws.proofs.Offered.{FitsFirst, first_fits}
+use Rattle.ln_world_channels.specs.WorldChannel.{WorldChannel}
+use Rattle.ln_world_channels.specs.Promises.{Each}
+use Rattle.ln_world_channels.specs.Settings.{channel_id_of}
+use Rattle.ln_world_channels.proofs.Mirror.{link_at}
+use Rattle.ln_world_channels.proofs.Kept.{ends_of}
+use Rattle.ln_world_channels.proofs.Recorded.{IsFit, IsFitChannel, AreFit, stays_fit}
 use Rattle.ln_world.specs.declared.step.Step.{Step}
 use Rattle.ln_world.specs.World.{empty}
 use Rattle.ln_world.specs.Promises.{AreSteps}
@@ -74,7 +74,7 @@ end_so id o e len is h = record {
 }
 
 module _ {K : Type 0} where
-  link_so : (b : Bool) (key : K) (l : State K) (line : LineState) (e : End) → l ≡ link_at b key line e → IsEnd e
+  link_so : (b : Bool) (key : K) (l : State K) (line : ConnectionState) (e : End) → l ≡ link_at b key line e → IsEnd e
       → IsState l
   link_so b key l line e is h = subst IsState (sym is) h
 

@@ -32,13 +32,13 @@ use Rattle.ln_forward.specs.declared.payload.Payment.{Payment}
 use Rattle.ln_forward.specs.Checks.{fee, final_fault}
 use Rattle.ln_forward.specs.Failure.{failure_bytes}
 use Rattle.ln_forward.specs.Payload.{Hop, payload_at}
-use Rattle.ln_tables.specs.declared.htlc.Offer.{Offer}
-use Rattle.ln_tables.specs.declared.entry.OutgoingChannel.{OutgoingChannel}
-use Rattle.ln_tables.specs.declared.entry.Invoice.{Invoice}
-use Rattle.ln_tables.specs.declared.htlc.Htlc.{Htlc}
-use Rattle.ln_tables.specs.Replay.{Table, same, is_usable, is_resumed, is_held_in, held_by}
-use Rattle.ln_pair.specs.Widths.{IsMark, IsUpdate, IsAdd}
-use Rattle.ln_pair.proofs.Offered.{Where}
+use Rattle.ln_book_tables.specs.declared.htlc.Offer.{Offer}
+use Rattle.ln_book_tables.specs.declared.entry.OutgoingChannel.{OutgoingChannel}
+use Rattle.ln_book_tables.specs.declared.entry.Invoice.{Invoice}
+use Rattle.ln_book_tables.specs.declared.htlc.Htlc.{Htlc}
+use Rattle.ln_book_tables.specs.Replay.{Table, same, is_usable, is_resumed, is_held_in, held_by}
+use Rattle.ln_channel_laws.specs.Widths.{IsMark, IsUpdate, IsAdd}
+use Rattle.ln_channel_laws.proofs.Offered.{Where}
 use Rattle.ln_book.specs.Commands.{Services, next_of}
 use Rattle.ln_book.specs.Marks.{offer_of, incoming_of, failure_by, unopened, outgoing_by, forward_mark, forwarded}
 use Rattle.ln_book.specs.Marks.{final_mark, final_payload, expected_by, read_hop, read, opened_mark, mark_of}

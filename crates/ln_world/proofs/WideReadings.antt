@@ -19,7 +19,7 @@ use Rattle.ln_log.specs.declared.log.Side.TheVariants as side
 use Rattle.ln_log.specs.Updates.{offered, outcome, is_live, add_with, found_or}
 use Rattle.ln_log.specs.View.{live_of, live_adds}
 use Rattle.ln_log.specs.Log.{Log, between, update_at}
-use Rattle.ln_log.specs.Window.{lives, first_lives}
+use Rattle.ln_log.specs.Window.{live_htlcs, first_live_htlcs}
 use Rattle.ln_hooks.specs.declared.event.ChannelEvent.{ChannelEvent}
 use Rattle.ln_hooks.specs.declared.event.ChannelEvent.TheVariants as event
 use Rattle.ln_hooks.specs.declared.event.How.{How}
@@ -28,37 +28,41 @@ use Rattle.ln_channel.specs.End.{End as ChannelEnd}
 use Rattle.ln_channel.specs.Pending.{event_in, named_by}
 use Rattle.ln_channel.specs.Record.{saved_end}
 use Rattle.ln_channel.specs.State.{State}
-use Rattle.ln_tables.specs.declared.htlc.Key.{Key}
-use Rattle.ln_tables.specs.declared.htlc.Way.TheVariants as way
-use Rattle.ln_tables.specs.declared.htlc.Back.{Back}
-use Rattle.ln_tables.specs.declared.htlc.Htlc.{Htlc}
-use Rattle.ln_tables.specs.declared.entry.Entry.{Entry}
-use Rattle.ln_tables.specs.declared.entry.Entry.TheVariants as entry
+use Rattle.ln_book_tables.specs.declared.htlc.Key.{Key}
+use Rattle.ln_book_tables.specs.declared.htlc.OutgoingLeg.TheVariants as outgoing
+use Rattle.ln_book_tables.specs.declared.htlc.IncomingLeg.{IncomingLeg}
+use Rattle.ln_book_tables.specs.declared.htlc.Htlc.{Htlc}
+use Rattle.ln_book_tables.specs.declared.entry.Entry.{Entry}
+use Rattle.ln_book_tables.specs.declared.entry.Entry.TheVariants as entry
 use Rattle.ln_history.specs.History.{with_entry}
-use Rattle.ln_tables.specs.Replay.{Table, replay, table_of, is_over}
-use Rattle.ln_pair.specs.Widths.{IsOrigin, IsMark, IsAdd, IsUpdate}
-use Rattle.ln_pair.proofs.Offered.{All, all-append, all-take, all-drop, all-when, Where, Does, IsDecision, IsSettlement}
-use Rattle.ln_readings.specs.declared.leg.Leg.{Leg}
-use Rattle.ln_readings.specs.Kept.{own_window, own_updates}
-use Rattle.ln_readings.specs.Rebuild.{Reading, leg_from, leg_of, legs_offered, how_of, leg_over, legs_over}
-use Rattle.ln_readings.specs.Rebuild.{peer_window, peer_updates, back_in, decided_by, decided_in, reading_of, is_for}
-use Rattle.ln_readings.specs.Rebuild.{or_leg, result_for, offer_for, way_along, way_for, way_read, led}
-use Rattle.ln_readings.specs.Rebuild.{unfinished, all_unfinished, is_read, htlc_left, left, all_left, rebuilt}
+use Rattle.ln_book_tables.specs.Replay.{Table, replay, table_of, is_over}
+use Rattle.ln_channel_laws.specs.Widths.{IsOrigin, IsMark, IsAdd, IsUpdate}
+use Rattle.ln_channel_laws.proofs.Offered.{All, all-append, all-take, all-drop, all-when, Where, Does, IsDecision}
+use Rattle.ln_channel_laws.proofs.Offered.{IsSettlement}
+use Rattle.ln_book_recovery.specs.declared.leg.Leg.{Leg}
+use Rattle.ln_book_recovery.specs.Kept.{own_window, own_updates}
+use Rattle.ln_book_recovery.specs.Rebuild.{ChannelSnapshot, leg_from, leg_of, legs_offered, how_of, leg_resolved}
+use Rattle.ln_book_recovery.specs.Rebuild.{legs_resolved}
+use Rattle.ln_book_recovery.specs.Rebuild.{peer_window, peer_updates, incoming_in, decided_by, decided_in}
+use Rattle.ln_book_recovery.specs.Rebuild.{channel_snapshot_of, is_for}
+use Rattle.ln_book_recovery.specs.Rebuild.{or_leg, result_for, offer_for, outgoing_along, outgoing_for, outgoing_read}
+use Rattle.ln_book_recovery.specs.Rebuild.{led}
+use Rattle.ln_book_recovery.specs.Rebuild.{unfinished, all_unfinished, is_read, htlc_left, left, all_left, rebuilt}
 use Rattle.ln_book.specs.Settled.{with_settled}
-use Rattle.ln_channels.specs.declared.step.Node.{Node}
-use Rattle.ln_channels.specs.WorldChannel.{WorldChannel, place_of, side_of}
-use Rattle.ln_channels.specs.World.{channel}
-use Rattle.ln_desks.specs.World.{item, named_at, undecided}
+use Rattle.ln_world_channels.specs.declared.step.Node.{Node}
+use Rattle.ln_world_channels.specs.WorldChannel.{WorldChannel, place_of, side_of}
+use Rattle.ln_world_channels.specs.World.{channel}
+use Rattle.ln_world_dispatch.specs.World.{item, named_at, undecided}
 use Rattle.ln_world.specs.declared.node.NodeBook.{NodeBook}
 use Rattle.ln_world.specs.Node.{Book}
-use Rattle.ln_world.specs.Told.{with_event, with_events, with_held, told_count}
+use Rattle.ln_world.specs.BookReports.{with_event, with_events, with_held, told_count}
 use Rattle.ln_switch.specs.declared.uses.Use.{Use}
 use Rattle.ln_switch.specs.Uses.{use_of, with_route}
-use Rattle.ln_switch.specs.Readings.{reading_by}
+use Rattle.ln_switch.specs.Snapshots.{snapshot_by}
 use Rattle.ln_world.specs.Follow.{with_end, with_side, with_channel, followed_below}
-use Rattle.ln_world.specs.Follow.{followed, side_reading, reading_in, readings_below, begun_anew}
-use Rattle.ln_world.proofs.WideTables.{IsHow, IsWay, IsKey, IsHtlc, IsTable, IsEntry, either, where-either}
-use Rattle.ln_world.proofs.WideTables.{all-find, way_so, after_so, replayed}
+use Rattle.ln_world.specs.Follow.{followed, side_snapshot, snapshot_in, snapshots_below, begun_anew}
+use Rattle.ln_world.proofs.WideTables.{IsHow, IsOutgoingLeg, IsKey, IsHtlc, IsTable, IsEntry, either, where-either}
+use Rattle.ln_world.proofs.WideTables.{all-find, outgoing_so, after_so, replayed}
 use Rattle.ln_world.proofs.WideMarks.{IsEvent, event_so}
 
 -- ---- ends
@@ -127,7 +131,7 @@ entered_so x b is h =
 
 settled_so : (own : Bool) (c : List ℕ) (id : ℕ) (h : How) (b : Book) → IsHow h → IsBook b
     → IsBook (with_settled c (event.Settled own id h) b)
-settled_so true c id h b is g = entered_so (entry.Over (record { channel = c; id = id }) h) b is g
+settled_so true c id h b is g = entered_so (entry.Resolved (record { channel = c; id = id }) h) b is g
 settled_so false c id h b is g = entered_so (entry.Removed (record { channel = c; id = id })) b tt g
 
 with_event_so : (c : List ℕ) (o : Option ChannelEvent) (b : Book) → Where IsEvent o → IsBook b
@@ -153,16 +157,16 @@ held_so c before (Some e) b is h = with_events_so c before (told_count (Some e) 
 
 pub record IsLeg (l : Leg) : Type 0 where
   pub origin : IsKey l.origin
-  pub way : IsWay l.way
+  pub outgoing : IsOutgoingLeg l.outgoing
 
-pub record IsReading (r : Reading) : Type 0 where
+pub record IsSnapshot (r : ChannelSnapshot) : Type 0 where
   pub offered : All IsLeg r.offered
   pub results : All IsLeg r.results
   pub decided : All IsHtlc r.decided
 
 leg_so : (c : List ℕ) (id : ℕ) (o : Option (List ℕ × ℕ)) → IsOrigin o → Where IsLeg (leg_from c id o)
 leg_so c id None h = tt
-leg_so c id (Some o) h = record { origin = record { channel = h.0; id = h.1 }; way = tt }
+leg_so c id (Some o) h = record { origin = record { channel = h.0; id = h.1 }; outgoing = tt }
 
 leg_of_so : (c : List ℕ) (u : Update) → IsUpdate u → Where IsLeg (leg_of c (offered u))
 leg_of_so c (update.Add a) h = leg_so c a.id a.origin h.origin
@@ -183,14 +187,14 @@ how_so (update.Malformed m) h = tt
 how_so (update.Fee f) h = tt
 
 over_so : (c : List ℕ) (s : Settlement) (o : Option How) → IsSettlement s → Where IsHow o
-    → Where IsLeg (leg_over c s o)
+    → Where IsLeg (leg_resolved c s o)
 over_so c s None is h = tt
-over_so c s (Some x) is h = record { origin = record { channel = is.origin.0; id = is.origin.1 }; way = h }
+over_so c s (Some x) is h = record { origin = record { channel = is.origin.0; id = is.origin.1 }; outgoing = h }
 
-results_so : (c : List ℕ) (ss : List Settlement) → All IsSettlement ss → All IsLeg (legs_over c ss)
+results_so : (c : List ℕ) (ss : List Settlement) → All IsSettlement ss → All IsLeg (legs_resolved c ss)
 results_so c [] h = tt
 results_so c (s ∷ ss) h =
-    cons_so IsLeg (leg_over c s (how_of s.removal)) (legs_over c ss)
+    cons_so IsLeg (leg_resolved c s (how_of s.removal)) (legs_resolved c ss)
     (over_so c s (how_of s.removal) h.0 (how_so s.removal h.0.update)) (results_so c ss h.1)
 
 found_so : (id : ℕ) (o rest : Option Add) → Where IsAdd o → Where IsAdd rest → Where IsAdd (found_or id o rest)
@@ -216,7 +220,7 @@ does_so (mark.Malformed code) h = h
 does_so (mark.Fulfil preimage) h = h
 does_so (mark.Held event) h = tt
 
-htlc_so : (c : List ℕ) (m : Mark) (b : Back) (o : Option Add) → length c ≡ 32 → Does m → Where IsAdd o
+htlc_so : (c : List ℕ) (m : Mark) (b : IncomingLeg) (o : Option Add) → length c ≡ 32 → Does m → Where IsAdd o
     → Where IsHtlc (decided_by c m b o)
 htlc_so c m b None channel does h = tt
 htlc_so c m b (Some a) channel does h =
@@ -224,15 +228,15 @@ htlc_so c m b (Some a) channel does h =
       key = record { channel = channel; id = h.id };
       offer = record { id = h.id; amount = h.amount; hash = h.hash; expiry = h.expiry };
       mark = does_so m does;
-      way = tt;
+      outgoing = tt;
     }
 
 decided_so : (c : List ℕ) (l : Log) (ds : List Decision) → length c ≡ 32 → All IsUpdate (peer_updates l)
     → All IsDecision ds → All IsHtlc (decided_in c l ds)
 decided_so c l [] channel us h = tt
 decided_so c l (d ∷ ds) channel us h =
-    cons_so IsHtlc (decided_by c d.mark (back_in d.id l) (add_with d.id (peer_updates l))) (decided_in c l ds)
-    (htlc_so c d.mark (back_in d.id l) (add_with d.id (peer_updates l)) channel h.0.mark
+    cons_so IsHtlc (decided_by c d.mark (incoming_in d.id l) (add_with d.id (peer_updates l))) (decided_in c l ds)
+    (htlc_so c d.mark (incoming_in d.id l) (add_with d.id (peer_updates l)) channel h.0.mark
     (add_so d.id (peer_updates l) us)) (decided_so c l ds channel us h.1)
 
 between_so : (from to : ℕ) (us : List Update) → All IsUpdate us → All IsUpdate (between from to us)
@@ -250,27 +254,27 @@ live_so : (o : Option Add) (r : List Update) (rest : List Add) → Where IsAdd o
 live_so None r rest h g = g
 live_so (Some a) r rest h g = still_so (is_live (outcome a.id r)) a rest h g
 
-lives_so : (us r : List Update) → All IsUpdate us → All IsUpdate (lives us r)
-lives_so [] r h = tt
-lives_so (u ∷ us) r h = live_so (offered u) r (live_adds us r) (offered_so u h.0) (lives_so us r h.1)
+live_htlcs_so : (us r : List Update) → All IsUpdate us → All IsUpdate (live_htlcs us r)
+live_htlcs_so [] r h = tt
+live_htlcs_so (u ∷ us) r h = live_so (offered u) r (live_adds us r) (offered_so u h.0) (live_htlcs_so us r h.1)
 
 own_so : (e : ChannelEnd) → IsEnd e → All IsUpdate (own_updates e.dance.log)
 own_so e h =
     let l = e.dance.log in
-    all-append IsUpdate (first_lives side.Own l) (own_window l)
-    (lives_so (take l.first.own l.own) (take l.first.peer l.received) (all-take IsUpdate l.first.own l.own h.own))
+    all-append IsUpdate (first_live_htlcs side.Own l) (own_window l)
+    (live_htlcs_so (take l.first.own l.own) (take l.first.peer l.received) (all-take IsUpdate l.first.own l.own h.own))
     (between_so l.first.own (length l.own) l.own h.own)
 
 peer_so : (e : ChannelEnd) → IsEnd e → All IsUpdate (peer_updates e.dance.log)
 peer_so e h =
     let l = e.dance.log in
-    all-append IsUpdate (first_lives side.Peer l) (peer_window l)
-    (lives_so (take l.first.peer l.received) (take l.first.own l.own)
+    all-append IsUpdate (first_live_htlcs side.Peer l) (peer_window l)
+    (live_htlcs_so (take l.first.peer l.received) (take l.first.own l.own)
     (all-take IsUpdate l.first.peer l.received h.received))
     (between_so l.first.peer (length l.received) l.received h.received)
 
-pub reading_so : (e : ChannelEnd) → IsEnd e → IsReading (reading_of e)
-reading_so e h = record {
+pub snapshot_so : (e : ChannelEnd) → IsEnd e → IsSnapshot (channel_snapshot_of e)
+snapshot_so e h = record {
   offered = legs_so e.dance.channel (own_updates e.dance.log) (own_so e h);
   results = results_so e.dance.channel e.ledger.results h.results;
   decided = decided_so e.dance.channel e.dance.log e.ledger.decisions h.channel (peer_so e h) h.decisions;
@@ -282,30 +286,30 @@ or_leg_so : (x y : Option Leg) → Where IsLeg x → Where IsLeg y → Where IsL
 or_leg_so None y h g = g
 or_leg_so (Some x) y h g = h
 
-result_so : (k : Key) (rs : List Reading) → All IsReading rs → Where IsLeg (result_for k rs)
+result_so : (k : Key) (rs : List ChannelSnapshot) → All IsSnapshot rs → Where IsLeg (result_for k rs)
 result_so k [] h = tt
 result_so k (r ∷ rs) h =
     or_leg_so (find (is_for k) r.results) (result_for k rs) (all-find IsLeg (is_for k) r.results h.0.results)
     (result_so k rs h.1)
 
-offer_for_so : (k : Key) (rs : List Reading) → All IsReading rs → Where IsLeg (offer_for k rs)
+offer_for_so : (k : Key) (rs : List ChannelSnapshot) → All IsSnapshot rs → Where IsLeg (offer_for k rs)
 offer_for_so k [] h = tt
 offer_for_so k (r ∷ rs) h =
     or_leg_so (find (is_for k) r.offered) (offer_for k rs) (all-find IsLeg (is_for k) r.offered h.0.offered)
     (offer_for_so k rs h.1)
 
-along_so : (o : Option Leg) → Where IsLeg o → IsWay (way_along o)
+along_so : (o : Option Leg) → Where IsLeg o → IsOutgoingLeg (outgoing_along o)
 along_so None h = tt
-along_so (Some l) h = h.way
+along_so (Some l) h = h.outgoing
 
-led_so : (rs : List Reading) (h : Htlc) → All IsReading rs → IsHtlc h → IsHtlc (led rs h)
+led_so : (rs : List ChannelSnapshot) (h : Htlc) → All IsSnapshot rs → IsHtlc h → IsHtlc (led rs h)
 led_so rs h g is =
-    let w = way_for h.key rs in
-    let goes : IsWay w = along_so (or_leg (result_for h.key rs) (offer_for h.key rs))
+    let w = outgoing_for h.key rs in
+    let goes : IsOutgoingLeg w = along_so (or_leg (result_for h.key rs) (offer_for h.key rs))
     (or_leg_so (result_for h.key rs) (offer_for h.key rs) (result_so h.key rs g) (offer_for_so h.key rs g)) in
-    way_so (way_read h.mark h.back w) (either IsWay _ way.Refused w tt goes) h is
+    outgoing_so (outgoing_read h.mark h.incoming w) (either IsOutgoingLeg _ outgoing.Refused w tt goes) h is
 
-unfinished_so : (all : List Reading) (hs : List Htlc) → All IsReading all → All IsHtlc hs
+unfinished_so : (all : List ChannelSnapshot) (hs : List Htlc) → All IsSnapshot all → All IsHtlc hs
     → All IsHtlc (unfinished all hs)
 unfinished_so all [] g h = tt
 unfinished_so all (x ∷ xs) g h =
@@ -313,7 +317,8 @@ unfinished_so all (x ∷ xs) g h =
     all-when IsHtlc (is_over (led all x)) (unfinished all xs) (led all x ∷ unfinished all xs) rest
     (led_so all x g h.0, rest)
 
-all_unfinished_so : (all rs : List Reading) → All IsReading all → All IsReading rs → All IsHtlc (all_unfinished all rs)
+all_unfinished_so : (all rs : List ChannelSnapshot) → All IsSnapshot all → All IsSnapshot rs
+    → All IsHtlc (all_unfinished all rs)
 all_unfinished_so all [] g h = tt
 all_unfinished_so all (r ∷ rs) g h =
     all-append IsHtlc (unfinished all r.decided) (all_unfinished all rs) (unfinished_so all r.decided g h.0.decided)
@@ -326,22 +331,22 @@ htlc_left_so l h =
       key = h.origin;
       offer = record { id = h.origin.id; amount = omega arith; hash = zeros; expiry = omega arith };
       mark = zeros;
-      way = h.way;
+      outgoing = h.outgoing;
     }
 
-left_so : (all : List Reading) (ls : List Leg) → All IsLeg ls → All IsHtlc (left all ls)
+left_so : (all : List ChannelSnapshot) (ls : List Leg) → All IsLeg ls → All IsHtlc (left all ls)
 left_so all [] h = tt
 left_so all (l ∷ ls) h =
     let rest = left_so all ls h.1 in
     all-when IsHtlc (is_read l.origin all) (left all ls) (htlc_left l ∷ left all ls) rest (htlc_left_so l h.0, rest)
 
-all_left_so : (all rs : List Reading) → All IsReading rs → All IsHtlc (all_left all rs)
+all_left_so : (all rs : List ChannelSnapshot) → All IsSnapshot rs → All IsHtlc (all_left all rs)
 all_left_so all [] h = tt
 all_left_so all (r ∷ rs) h =
     all-append IsHtlc (left all r.results) (all_left all rs) (left_so all r.results h.0.results)
     (all_left_so all rs h.1)
 
-pub rebuilt_so : (t : Table) (rs : List Reading) → IsTable t → All IsReading rs → IsTable (rebuilt t rs)
+pub rebuilt_so : (t : Table) (rs : List ChannelSnapshot) → IsTable t → All IsSnapshot rs → IsTable (rebuilt t rs)
 rebuilt_so t rs g h = record {
   routes = g.routes;
   expected = g.expected;
@@ -357,9 +362,9 @@ route_so p u None b is h = h
 route_so p u (Some id) b is h =
     entered_so (entry.Route id (record { channel = u.channel; policy = p; minimum = u.minimum })) b is h
 
-reading_by_so : (o : Option ChannelEnd) → Where IsEnd o → All IsReading (reading_by o)
-reading_by_so None is = tt
-reading_by_so (Some e) is = (reading_so e is, tt)
+snapshot_by_so : (o : Option ChannelEnd) → Where IsEnd o → All IsSnapshot (snapshot_by o)
+snapshot_by_so None is = tt
+snapshot_by_so (Some e) is = (snapshot_so e is, tt)
 
 -- ---- the ends of a channel
 
@@ -412,25 +417,27 @@ module _ {K : Type 0} where
 
   -- ---- and begins anew with what they have
 
-  side_reading_so : (c : WorldChannel K) (o : Option Role) (rs : List Reading) → AreEnds c → All IsReading rs
-      → All IsReading (side_reading c o rs)
-  side_reading_so c None rs is h = h
-  side_reading_so c (Some side) rs is h =
+  side_snapshot_so : (c : WorldChannel K) (o : Option Role) (rs : List ChannelSnapshot) → AreEnds c → All IsSnapshot rs
+      → All IsSnapshot (side_snapshot c o rs)
+  side_snapshot_so c None rs is h = h
+  side_snapshot_so c (Some side) rs is h =
       let o = saved_end (place_of side c.both).link.stage in
-      all-append IsReading rs (reading_by o) h (reading_by_so o (at_side side c is))
+      all-append IsSnapshot rs (snapshot_by o) h (snapshot_by_so o (at_side side c is))
 
-  reading_in_so : (n : Node) (o : Option (WorldChannel K)) (rs : List Reading) → Where AreEnds o → All IsReading rs
-      → All IsReading (reading_in n o rs)
-  reading_in_so n None rs is h = h
-  reading_in_so n (Some c) rs is h = side_reading_so c (side_of n c) rs is h
+  snapshot_in_so : (n : Node) (o : Option (WorldChannel K)) (rs : List ChannelSnapshot) → Where AreEnds o
+      → All IsSnapshot rs
+      → All IsSnapshot (snapshot_in n o rs)
+  snapshot_in_so n None rs is h = h
+  snapshot_in_so n (Some c) rs is h = side_snapshot_so c (side_of n c) rs is h
 
-  readings_so : (m : ℕ) (n : Node) (cs : List (WorldChannel K)) → All AreEnds cs → All IsReading (readings_below m n cs)
-  unfolding readings_below
-  readings_so zero n cs is = tt
-  readings_so (suc m) n cs is =
-      reading_in_so n (channel m cs) (readings_below m n cs) (channel_so m cs is) (readings_so m n cs is)
+  snapshots_so : (m : ℕ) (n : Node) (cs : List (WorldChannel K)) → All AreEnds cs
+      → All IsSnapshot (snapshots_below m n cs)
+  unfolding snapshots_below
+  snapshots_so zero n cs is = tt
+  snapshots_so (suc m) n cs is =
+      snapshot_in_so n (channel m cs) (snapshots_below m n cs) (channel_so m cs is) (snapshots_so m n cs is)
 
   pub begun_so : (cs : List (WorldChannel K)) (x : NodeBook) → All AreEnds cs → IsBook x.book
       → IsBook (begun_anew cs x).book
   begun_so cs x is h =
-      rebuilt_so (table_of x.book) (readings_below 256 x.node cs) h (readings_so 256 x.node cs is)
+      rebuilt_so (table_of x.book) (snapshots_below 256 x.node cs) h (snapshots_so 256 x.node cs is)

@@ -11,34 +11,38 @@ use Rattle.ln_hooks.specs.declared.event.How.{How}
 use Rattle.ln_hooks.specs.declared.event.How.TheVariants as how
 use Rattle.ln_channel.specs.declared.command.Command.{Command}
 use Rattle.ln_channel.specs.declared.command.Command.TheVariants as command
-use Rattle.ln_tables.specs.declared.htlc.Key.{Key}
-use Rattle.ln_tables.specs.declared.htlc.Offer.{Offer}
-use Rattle.ln_tables.specs.declared.htlc.Way.{Way}
-use Rattle.ln_tables.specs.declared.htlc.Way.TheVariants as way
-use Rattle.ln_tables.specs.declared.htlc.Back.{Back}
-use Rattle.ln_tables.specs.declared.htlc.Back.TheVariants as back
-use Rattle.ln_tables.specs.declared.htlc.Htlc.{Htlc}
-use Rattle.ln_tables.specs.declared.entry.OutgoingChannel.{OutgoingChannel}
-use Rattle.ln_tables.specs.declared.entry.Invoice.{Invoice}
-use Rattle.ln_tables.specs.declared.entry.Queued.{Queued}
-use Rattle.ln_tables.specs.declared.entry.Decided.{Decided}
-use Rattle.ln_tables.specs.declared.entry.Out.{Out}
-use Rattle.ln_tables.specs.declared.entry.Out.TheVariants as out
-use Rattle.ln_tables.specs.declared.entry.Desk.{Desk}
-use Rattle.ln_tables.specs.declared.entry.Desk.TheVariants as desk
-use Rattle.ln_tables.specs.declared.entry.Told.{Told}
-use Rattle.ln_tables.specs.declared.entry.Entry.{Entry}
-use Rattle.ln_tables.specs.declared.entry.Entry.TheVariants as entry
-use Rattle.ln_tables.specs.Replay.{Table, no_table, same, with_route, with_invoice, after, replay, desk_at}
-use Rattle.ln_tables.specs.Replay.{changed_first, left_out, is_htlc, is_told, is_offered, is_queued, is_undecided}
-use Rattle.ln_tables.specs.Replay.{is_finished, is_decided, joined, htlc_of, with_offer, queued_of, decide}
-use Rattle.ln_tables.specs.Replay.{put_way, put_back, with_way, with_back, with_desk, taken_by, refused_by, done}
-use Rattle.ln_tables.specs.Replay.{queue_behind, answered_out, answered_at, is_unsure, is_later, is_way_lost, refused}
-use Rattle.ln_tables.specs.Replay.{htlc_kept, kept_out, kept_at}
-use Rattle.ln_tables.specs.Replay.{without_first, is_resumed, is_held_in, is_over, put_mark, resumed_by, resumed_of}
-use Rattle.ln_pair.specs.Widths.{IsMark, IsCommand}
-use Rattle.ln_pair.proofs.Offered.{All, all-append, all-filter, all-when, Where}
-use Rattle.ln_book.specs.Commands.{Services, due, next_of, add_with, removal_over, removal_by_way, removal_by}
+use Rattle.ln_book_tables.specs.declared.htlc.Key.{Key}
+use Rattle.ln_book_tables.specs.declared.htlc.Offer.{Offer}
+use Rattle.ln_book_tables.specs.declared.htlc.OutgoingLeg.{OutgoingLeg}
+use Rattle.ln_book_tables.specs.declared.htlc.OutgoingLeg.TheVariants as outgoing
+use Rattle.ln_book_tables.specs.declared.htlc.IncomingLeg.{IncomingLeg}
+use Rattle.ln_book_tables.specs.declared.htlc.IncomingLeg.TheVariants as incoming
+use Rattle.ln_book_tables.specs.declared.htlc.Htlc.{Htlc}
+use Rattle.ln_book_tables.specs.declared.entry.OutgoingChannel.{OutgoingChannel}
+use Rattle.ln_book_tables.specs.declared.entry.Invoice.{Invoice}
+use Rattle.ln_book_tables.specs.declared.entry.Queued.{Queued}
+use Rattle.ln_book_tables.specs.declared.entry.Decided.{Decided}
+use Rattle.ln_book_tables.specs.declared.entry.Out.{Out}
+use Rattle.ln_book_tables.specs.declared.entry.Out.TheVariants as out
+use Rattle.ln_book_tables.specs.declared.entry.PendingCommand.{PendingCommand}
+use Rattle.ln_book_tables.specs.declared.entry.PendingCommand.TheVariants as pending_command
+use Rattle.ln_book_tables.specs.declared.entry.KeptState.{KeptState}
+use Rattle.ln_book_tables.specs.declared.entry.Entry.{Entry}
+use Rattle.ln_book_tables.specs.declared.entry.Entry.TheVariants as entry
+use Rattle.ln_book_tables.specs.Replay.{Table, no_table, same, with_route, with_invoice, after, replay}
+use Rattle.ln_book_tables.specs.Replay.{pending_command_at}
+use Rattle.ln_book_tables.specs.Replay.{changed_first, left_out, is_htlc, is_told, is_offered, is_queued, is_undecided}
+use Rattle.ln_book_tables.specs.Replay.{is_finished, is_decided, joined, htlc_of, with_offer, queued_of, decide}
+use Rattle.ln_book_tables.specs.Replay.{put_outgoing, put_incoming, with_outgoing, with_incoming, with_pending_command}
+use Rattle.ln_book_tables.specs.Replay.{taken_by, refused_by, done}
+use Rattle.ln_book_tables.specs.Replay.{queue_behind, answered_out, answered_at, is_unsure, is_later, is_outgoing_lost}
+use Rattle.ln_book_tables.specs.Replay.{refused}
+use Rattle.ln_book_tables.specs.Replay.{htlc_kept, kept_out, kept_at}
+use Rattle.ln_book_tables.specs.Replay.{without_first, is_resumed, is_held_in, is_over, put_mark, resumed_by}
+use Rattle.ln_book_tables.specs.Replay.{resumed_of}
+use Rattle.ln_channel_laws.specs.Widths.{IsMark, IsCommand}
+use Rattle.ln_channel_laws.proofs.Offered.{All, all-append, all-filter, all-when, Where}
+use Rattle.ln_book.specs.Commands.{Services, due, next_of, add_with, removal_resolved, removal_by_outgoing, removal_by}
 use Rattle.ln_book.specs.Commands.{forget_by, command_of, with_out, command_by, or_next, first_due, is_queued_in}
 use Rattle.ln_book.specs.Commands.{first_of, first_at, first_command}
 
@@ -49,11 +53,11 @@ IsHow (how.Fulfilled preimage) = length preimage ≡ 32
 IsHow (how.Failed reason) = Unit {0}
 IsHow (how.Malformed sha code) = Unit {0}
 
-abbrev pub IsWay : Way → Type 0
-IsWay way.Nowhere = Unit {0}
-IsWay way.Refused = Unit {0}
-IsWay (way.Offered k) = Unit {0}
-IsWay (way.Over k h) = IsHow h
+abbrev pub IsOutgoingLeg : OutgoingLeg → Type 0
+IsOutgoingLeg outgoing.Absent = Unit {0}
+IsOutgoingLeg outgoing.Refused = Unit {0}
+IsOutgoingLeg (outgoing.Offered k) = Unit {0}
+IsOutgoingLeg (outgoing.Resolved k h) = IsHow h
 
 pub record IsKey (k : Key) : Type 0 where
   pub channel : length k.channel ≡ 32
@@ -66,14 +70,14 @@ pub record IsOffer (o : Offer) : Type 0 where
   pub expiry : o.expiry < 2 ^ 32
 
 -- what is kept of an HTLC
-pub record IsKept (k : Key) (o : Offer) (m : Mark) (w : Way) : Type 0 where
+pub record IsKept (k : Key) (o : Offer) (m : Mark) (w : OutgoingLeg) : Type 0 where
   pub key : IsKey k
   pub offer : IsOffer o
   pub mark : IsMark m
-  pub way : IsWay w
+  pub outgoing : IsOutgoingLeg w
 
 abbrev pub IsHtlc : Htlc → Type 0
-IsHtlc h = IsKept h.key h.offer h.mark h.way
+IsHtlc h = IsKept h.key h.offer h.mark h.outgoing
 
 abbrev pub IsRoute : List ℕ × OutgoingChannel → Type 0
 IsRoute p = length p.1.channel ≡ 32
@@ -109,7 +113,7 @@ IsEntry (entry.Decided d) = IsDecided d
 IsEntry (entry.Resumed r) = IsMark r.mark
 IsEntry (entry.Taken c o) = Unit {0}
 IsEntry (entry.Answered c a) = Unit {0}
-IsEntry (entry.Over k h) = IsHow h
+IsEntry (entry.Resolved k h) = IsHow h
 IsEntry (entry.Removed k) = Unit {0}
 IsEntry (entry.Dropped c told) = Unit {0}
 
@@ -179,14 +183,14 @@ invoice_so i (e ∷ es) n h =
 decide_so : (h : Htlc) → IsHtlc h → IsHtlc (decide h)
 decide_so h g = g
 
-back_so : (b : Back) (h : Htlc) → IsHtlc h → IsHtlc (put_back b h)
+back_so : (b : IncomingLeg) (h : Htlc) → IsHtlc h → IsHtlc (put_incoming b h)
 back_so b h g = g
 
-pub way_so : (w : Way) → IsWay w → (h : Htlc) → IsHtlc h → IsHtlc (put_way w h)
-way_so w is h g = record { key = g.key; offer = g.offer; mark = g.mark; way = is }
+pub outgoing_so : (w : OutgoingLeg) → IsOutgoingLeg w → (h : Htlc) → IsHtlc h → IsHtlc (put_outgoing w h)
+outgoing_so w is h g = record { key = g.key; offer = g.offer; mark = g.mark; outgoing = is }
 
 mark_so : (m : Mark) → IsMark m → (h : Htlc) → IsHtlc h → IsHtlc (put_mark m h)
-mark_so m is h g = record { key = g.key; offer = g.offer; mark = is; way = g.way }
+mark_so m is h g = record { key = g.key; offer = g.offer; mark = is; outgoing = g.outgoing }
 
 joins_so : (h : Htlc) (hs : List Htlc) → IsHtlc h → All IsHtlc hs → All IsHtlc (joined h hs)
 joins_so h hs g gs =
@@ -202,14 +206,15 @@ offered_so d (Some o) hs channel mark offer gs =
       key = record { channel = channel; id = offer.id };
       offer = offer;
       mark = mark;
-      way = tt;
+      outgoing = tt;
     }) gs
 
-with_way_so : (k : Key) (w : Way) (hs : List Htlc) → IsWay w → All IsHtlc hs → All IsHtlc (with_way k w hs)
-with_way_so k w hs is h = all-changed IsHtlc (is_htlc k) (put_way w) (way_so w is) hs h
+with_outgoing_so : (k : Key) (w : OutgoingLeg) (hs : List Htlc) → IsOutgoingLeg w → All IsHtlc hs
+    → All IsHtlc (with_outgoing k w hs)
+with_outgoing_so k w hs is h = all-changed IsHtlc (is_htlc k) (put_outgoing w) (outgoing_so w is) hs h
 
-with_back_so : (k : Key) (b : Back) (hs : List Htlc) → All IsHtlc hs → All IsHtlc (with_back k b hs)
-with_back_so k b hs h = all-changed IsHtlc (is_htlc k) (put_back b) (back_so b) hs h
+with_incoming_so : (k : Key) (b : IncomingLeg) (hs : List Htlc) → All IsHtlc hs → All IsHtlc (with_incoming k b hs)
+with_incoming_so k b hs h = all-changed IsHtlc (is_htlc k) (put_incoming b) (back_so b) hs h
 
 resumed_so : (c : List ℕ) (n : ℕ) (o : Option Queued) (hs : List Htlc) → Where IsQueued o → All IsHtlc hs
     → All IsHtlc (resumed_by c n o hs)
@@ -221,8 +226,8 @@ resumed_so c n (Some q) hs is h =
 taken_so : (c : List ℕ) (i : ℕ) (o : Out) (qs : List Queued) (hs : List Htlc) → All IsQueued qs → All IsHtlc hs
     → All IsHtlc (taken_by c i o qs hs)
 taken_so c i (out.Deciding n) qs hs is h = all-changed IsHtlc (is_told c n) decide decide_so hs h
-taken_so c i (out.Adding k) qs hs is h = with_way_so k (way.Offered (record { channel = c; id = i })) hs tt h
-taken_so c i (out.Removing k) qs hs is h = with_back_so k back.Sent hs h
+taken_so c i (out.Adding k) qs hs is h = with_outgoing_so k (outgoing.Offered (record { channel = c; id = i })) hs tt h
+taken_so c i (out.Removing k) qs hs is h = with_incoming_so k incoming.RemovalSent hs h
 taken_so c i (out.Forgetting k) qs hs is h = all-left IsHtlc (is_htlc k) hs h
 taken_so c i (out.Resuming n) qs hs is h =
     resumed_so c n (find (is_resumed c n) qs) hs (all-find IsQueued (is_resumed c n) qs is) h
@@ -230,9 +235,9 @@ taken_so c i (out.Resuming n) qs hs is h =
 refused_so : (c : List ℕ) (r : ℕ) (o : Out) (hs : List Htlc) → All IsHtlc hs → All IsHtlc (refused_by c r o hs)
 refused_so c r (out.Deciding n) hs h = all-left IsHtlc (is_undecided c n) hs h
 refused_so c r (out.Adding k) hs h =
-    all-when IsHtlc (nat_lt r 47) (with_way k way.Refused hs) (left_out (is_htlc k) hs)
-    (with_way_so k way.Refused hs tt h) (all-left IsHtlc (is_htlc k) hs h)
-refused_so c r (out.Removing k) hs h = with_back_so k back.Gone hs h
+    all-when IsHtlc (nat_lt r 47) (with_outgoing k outgoing.Refused hs) (left_out (is_htlc k) hs)
+    (with_outgoing_so k outgoing.Refused hs tt h) (all-left IsHtlc (is_htlc k) hs h)
+refused_so c r (out.Removing k) hs h = with_incoming_so k incoming.RemovalRefused hs h
 refused_so c r (out.Forgetting k) hs h = all-left IsHtlc (is_htlc k) hs h
 refused_so c r (out.Resuming n) hs h = h
 
@@ -265,41 +270,43 @@ refuses_so c r o t g = record {
 }
 
 answered_so : (c : List ℕ) (a : Result ℕ ℕ) (o : Out) (t : Table) → IsTable t → IsTable (answered_out c a o t)
-answered_so c (Ok i) o t g = done_so c i o (with_desk c desk.Idle t) g
+answered_so c (Ok i) o t g = done_so c i o (with_pending_command c pending_command.Idle t) g
 answered_so c (Err r) o t g =
-    either IsTable (is_unsure r) (with_desk c (desk.Unsure o) t) _ g
-    (either IsTable (is_later r) (with_desk c desk.Idle t) (refused c r o (with_desk c desk.Idle t)) g
-    (refuses_so c r o (with_desk c desk.Idle t) g))
+    either IsTable (is_unsure r) (with_pending_command c (pending_command.Unknown o) t) _ g
+    (either IsTable (is_later r) (with_pending_command c pending_command.Idle t) (refused c r o
+    (with_pending_command c pending_command.Idle t)) g
+    (refuses_so c r o (with_pending_command c pending_command.Idle t) g))
 
-answers_so : (c : List ℕ) (a : Result ℕ ℕ) (d : Desk) (t : Table) → IsTable t → IsTable (answered_at c a d t)
-answers_so c a desk.Idle t g = g
-answers_so c a (desk.Out o) t g = answered_so c a o t g
-answers_so c a (desk.Unsure o) t g = g
+answers_so : (c : List ℕ) (a : Result ℕ ℕ) (d : PendingCommand) (t : Table) → IsTable t → IsTable (answered_at c a d t)
+answers_so c a pending_command.Idle t g = g
+answers_so c a (pending_command.InFlight o) t g = answered_so c a o t g
+answers_so c a (pending_command.Unknown o) t g = g
 
 kept_out_so : (c : List ℕ) (b : Bool) (o : Out) (t : Table) → IsTable t → IsTable (kept_out c b o t)
 kept_out_so c true (out.Deciding n) t g = done_so c 0 (out.Deciding n) t g
 kept_out_so c false (out.Deciding n) t g = g
 kept_out_so c b (out.Adding k) t g = g
 kept_out_so c b (out.Removing k) t g =
-    with_htlcs_so t (with_back k back.Sent t.htlcs) g (with_back_so k back.Sent t.htlcs g.htlcs)
+    with_htlcs_so t (with_incoming k incoming.RemovalSent t.htlcs) g
+    (with_incoming_so k incoming.RemovalSent t.htlcs g.htlcs)
 kept_out_so c b (out.Forgetting k) t g = g
 kept_out_so c true (out.Resuming n) t g = done_so c 0 (out.Resuming n) t g
 kept_out_so c false (out.Resuming n) t g = g
 
-kept_so : (c : List ℕ) (b : Bool) (d : Desk) (t : Table) → IsTable t → IsTable (kept_at c b d t)
-kept_so c b desk.Idle t g = g
-kept_so c b (desk.Out o) t g = kept_out_so c b o (with_desk c desk.Idle t) g
-kept_so c b (desk.Unsure o) t g = kept_out_so c b o (with_desk c desk.Idle t) g
+kept_so : (c : List ℕ) (b : Bool) (d : PendingCommand) (t : Table) → IsTable t → IsTable (kept_at c b d t)
+kept_so c b pending_command.Idle t g = g
+kept_so c b (pending_command.InFlight o) t g = kept_out_so c b o (with_pending_command c pending_command.Idle t) g
+kept_so c b (pending_command.Unknown o) t g = kept_out_so c b o (with_pending_command c pending_command.Idle t) g
 
-htlc_kept_so : (c : List ℕ) (told : Told) (h : Htlc) → IsHtlc h → IsHtlc (htlc_kept c told h)
+htlc_kept_so : (c : List ℕ) (told : KeptState) (h : Htlc) → IsHtlc h → IsHtlc (htlc_kept c told h)
 htlc_kept_so c told h g = record {
   key = g.key;
   offer = g.offer;
   mark = g.mark;
-  way = either IsWay (is_way_lost c told.next h.way) way.Nowhere h.way tt g.way;
+  outgoing = either IsOutgoingLeg (is_outgoing_lost c told.next h.outgoing) outgoing.Absent h.outgoing tt g.outgoing;
 }
 
-dropped_so : (c : List ℕ) (told : Told) (t : Table) → IsTable t
+dropped_so : (c : List ℕ) (told : KeptState) (t : Table) → IsTable t
     → AreWide t.routes t.expected t.queue (map (htlc_kept c told) t.htlcs)
 dropped_so c told t g =
     with_htlcs_so t (map (htlc_kept c told) t.htlcs) g
@@ -336,15 +343,18 @@ after_so t (entry.Resumed r) is g = record {
   htlcs = g.htlcs;
 }
 after_so t (entry.Taken c o) is g = g
-after_so t (entry.Answered c a) is g = answers_so c a (desk_at c t) t g
-after_so t (entry.Over k h) is g =
-    with_htlcs_so t (changed_first (is_offered k) (put_way (way.Over k h)) t.htlcs) g
-    (all-changed IsHtlc (is_offered k) (put_way (way.Over k h)) (way_so (way.Over k h) is) t.htlcs g.htlcs)
+after_so t (entry.Answered c a) is g = answers_so c a (pending_command_at c t) t g
+after_so t (entry.Resolved k h) is g =
+    with_htlcs_so t (changed_first (is_offered k) (put_outgoing (outgoing.Resolved k h)) t.htlcs) g
+    (all-changed IsHtlc (is_offered k) (put_outgoing (outgoing.Resolved k h)) (outgoing_so
+    (outgoing.Resolved k h) is) t.htlcs g.htlcs)
 after_so t (entry.Removed k) is g =
-    with_htlcs_so t (left_out (is_finished k) (with_back k back.Settled t.htlcs)) g
-    (all-left IsHtlc (is_finished k) (with_back k back.Settled t.htlcs) (with_back_so k back.Settled t.htlcs g.htlcs))
+    with_htlcs_so t (left_out (is_finished k) (with_incoming k incoming.Settled t.htlcs)) g
+    (all-left IsHtlc (is_finished k) (with_incoming k incoming.Settled t.htlcs)
+    (with_incoming_so k incoming.Settled t.htlcs g.htlcs))
 after_so t (entry.Dropped c told) is g =
-    dropped_so c told (kept_at c told.decides (desk_at c t) t) (kept_so c told.decides (desk_at c t) t g)
+    dropped_so c told (kept_at c told.decides (pending_command_at c t) t) (kept_so c told.decides
+    (pending_command_at c t) t g)
 
 pub replayed : (t : Table) (es : List Entry) (e : Entry) → replay t (es ++ e ∷ []) ≡ after (replay t es) e
 replayed t [] e = refl
@@ -370,38 +380,39 @@ module _ (s : Services) (nexts : (onion hash : List ℕ) → Where (λ n. length
     add_so h (mark.Fulfil preimage) (Some onion) g is next = tt
     add_so h (mark.Held event) (Some onion) g is next = tt
 
-    over_so : (id : ℕ) (h : How) → id < 2 ^ 64 → IsHow h → IsCommand (removal_over s id h)
+    over_so : (id : ℕ) (h : How) → id < 2 ^ 64 → IsHow h → IsCommand (removal_resolved s id h)
     over_so id (how.Fulfilled preimage) small is = record { id = small; preimage = is }
     over_so id (how.Failed reason) small is = small
     over_so id (how.Malformed sha code) small is = small
 
-    by_way : (id : ℕ) (w : Way) → id < 2 ^ 64 → IsWay w → Where IsCommand (removal_by_way s id w)
-    by_way id way.Nowhere small is = tt
-    by_way id way.Refused small is = small
-    by_way id (way.Offered k) small is = tt
-    by_way id (way.Over k h) small is = over_so id h small is
+    by_outgoing : (id : ℕ) (w : OutgoingLeg) → id < 2 ^ 64 → IsOutgoingLeg w
+        → Where IsCommand (removal_by_outgoing s id w)
+    by_outgoing id outgoing.Absent small is = tt
+    by_outgoing id outgoing.Refused small is = small
+    by_outgoing id (outgoing.Offered k) small is = tt
+    by_outgoing id (outgoing.Resolved k h) small is = over_so id h small is
 
     removal_so : (h : Htlc) (m : Mark) → IsHtlc h → IsMark m → Where IsCommand (removal_by s h m)
     removal_so h mark.None g is = tt
-    removal_so h (mark.Forward d amount expiry) g is = by_way h.key.id h.way g.key.id g.way
+    removal_so h (mark.Forward d amount expiry) g is = by_outgoing h.key.id h.outgoing g.key.id g.outgoing
     removal_so h (mark.Fail reason) g is = g.key.id
     removal_so h (mark.Malformed code) g is =
         record { id = g.key.id; sha256_of_onion = length-sha256 h.offer.onion; failure_code = is }
     removal_so h (mark.Fulfil preimage) g is = record { id = g.key.id; preimage = is }
     removal_so h (mark.Held event) g is = tt
 
-    forget_so : (w : Way) → Where IsCommand (forget_by w)
-    forget_so way.Nowhere = tt
-    forget_so way.Refused = tt
-    forget_so (way.Offered k) = tt
-    forget_so (way.Over k h) = tt
+    forget_so : (w : OutgoingLeg) → Where IsCommand (forget_by w)
+    forget_so outgoing.Absent = tt
+    forget_so outgoing.Refused = tt
+    forget_so (outgoing.Offered k) = tt
+    forget_so (outgoing.Resolved k h) = tt
 
     command_so : (h : Htlc) (o : Out) → IsHtlc h → Where IsCommand (command_of s h o)
     command_so h (out.Deciding n) g = tt
     command_so h (out.Adding k) g =
         add_so h h.mark (next_of (s.opened h.offer.onion h.offer.hash)) g g.mark (nexts h.offer.onion h.offer.hash)
     command_so h (out.Removing k) g = removal_so h h.mark g g.mark
-    command_so h (out.Forgetting k) g = forget_so h.way
+    command_so h (out.Forgetting k) g = forget_so h.outgoing
     command_so h (out.Resuming n) g = tt
 
     abbrev pub Commands : Out × Command → Type 0
@@ -431,12 +442,12 @@ module _ (s : Services) (nexts : (onion hash : List ℕ) → Where (λ n. length
         (out.Deciding q.event, command.Decide q.event q.mark) is is
     first_of_so c None hs is g = first_due_so c hs g
 
-    first_at_so : (c : List ℕ) (d : Desk) (t : Table) → IsTable t → Where Commands (first_at s c d t)
-    first_at_so c desk.Idle t g =
+    first_at_so : (c : List ℕ) (d : PendingCommand) (t : Table) → IsTable t → Where Commands (first_at s c d t)
+    first_at_so c pending_command.Idle t g =
         first_of_so c (find (is_queued_in c) t.queue) t.htlcs (all-find IsQueued (is_queued_in c) t.queue g.queue)
         g.htlcs
-    first_at_so c (desk.Out o) t g = tt
-    first_at_so c (desk.Unsure o) t g = tt
+    first_at_so c (pending_command.InFlight o) t g = tt
+    first_at_so c (pending_command.Unknown o) t g = tt
 
     pub first_so : (c : List ℕ) (t : Table) → IsTable t → Where Commands (first_command s c t)
-    first_so c t g = first_at_so c (desk_at c t) t g
+    first_so c t g = first_at_so c (pending_command_at c t) t g

@@ -7,13 +7,13 @@ use Rattle.ln_channel.specs.End.{End as ChannelEnd}
 use Rattle.ln_channel.specs.Record.{saved_end}
 use Rattle.ln_channel.specs.State.{State}
 use Rattle.ln_history.specs.History.{begun_with}
-use Rattle.ln_tables.specs.Replay.{table_of}
-use Rattle.ln_readings.specs.Rebuild.{Reading, rebuilt}
+use Rattle.ln_book_tables.specs.Replay.{table_of}
+use Rattle.ln_book_recovery.specs.Rebuild.{ChannelSnapshot, rebuilt}
 use Rattle.ln_switch.specs.Uses.{use_of, with_use}
-use Rattle.ln_switch.specs.Readings.{reading_by}
-use Rattle.ln_channels.specs.declared.step.Node.{Node}
-use Rattle.ln_channels.specs.WorldChannel.{WorldChannel, side_of, place_of}
-use Rattle.ln_channels.specs.World.{channel}
+use Rattle.ln_switch.specs.Snapshots.{snapshot_by}
+use Rattle.ln_world_channels.specs.declared.step.Node.{Node}
+use Rattle.ln_world_channels.specs.WorldChannel.{WorldChannel, side_of, place_of}
+use Rattle.ln_world_channels.specs.World.{channel}
 use Rattle.ln_world.specs.declared.node.NodeBook.{NodeBook}
 use Rattle.ln_world.specs.Node.{Book, with_book}
 
@@ -45,19 +45,19 @@ followed cs x = with_book (followed_below 256 x.node x.policy cs x.book) x
 
 -- ---- what the book begins with, as the node starts
 
-abbrev pub side_reading : {K : Type 0} → WorldChannel K → Option Role → List Reading → List Reading
-side_reading c None rs = rs
-side_reading c (Some side) rs = rs ++ reading_by (saved_end (place_of side c.both).link.stage)
+abbrev pub side_snapshot : {K : Type 0} → WorldChannel K → Option Role → List ChannelSnapshot → List ChannelSnapshot
+side_snapshot c None rs = rs
+side_snapshot c (Some side) rs = rs ++ snapshot_by (saved_end (place_of side c.both).link.stage)
 
-abbrev pub reading_in : {K : Type 0} → Node → Option (WorldChannel K) → List Reading → List Reading
-reading_in n None rs = rs
-reading_in n (Some c) rs = side_reading c (side_of n c) rs
+abbrev pub snapshot_in : {K : Type 0} → Node → Option (WorldChannel K) → List ChannelSnapshot → List ChannelSnapshot
+snapshot_in n None rs = rs
+snapshot_in n (Some c) rs = side_snapshot c (side_of n c) rs
 
 -- of the node's ends, in the order of the channels' numbers
-unfoldable pub readings_below : {K : Type 0} → ℕ → Node → List (WorldChannel K) → List Reading
-readings_below zero n cs = []
-readings_below (suc m) n cs = reading_in n (channel m cs) (readings_below m n cs)
+unfoldable pub snapshots_below : {K : Type 0} → ℕ → Node → List (WorldChannel K) → List ChannelSnapshot
+snapshots_below zero n cs = []
+snapshots_below (suc m) n cs = snapshot_in n (channel m cs) (snapshots_below m n cs)
 
 -- settings stay
 abbrev pub begun_anew : {K : Type 0} → List (WorldChannel K) → NodeBook → NodeBook
-begun_anew cs x = with_book (begun_with (rebuilt (table_of x.book) (readings_below 256 x.node cs))) x
+begun_anew cs x = with_book (begun_with (rebuilt (table_of x.book) (snapshots_below 256 x.node cs))) x

@@ -1,5 +1,5 @@
 pub mod Node
-pub mod Told
+pub mod BookReports
 pub mod Follow
 pub mod World
 pub mod Promises

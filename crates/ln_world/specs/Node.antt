@@ -2,13 +2,13 @@
 use Rattle.std.specs.Prelude.{List, [], ◌∷◌, if◌then◌else◌}
 use Rattle.ln_keys.specs.ToyOnion.{toy_opened}
 use Rattle.ln_forward.specs.declared.checks.Policy.{Policy}
-use Rattle.ln_tables.specs.declared.entry.Entry.{Entry}
-use Rattle.ln_tables.specs.declared.entry.Entry.TheVariants as entry
+use Rattle.ln_book_tables.specs.declared.entry.Entry.{Entry}
+use Rattle.ln_book_tables.specs.declared.entry.Entry.TheVariants as entry
 use Rattle.ln_history.specs.History.{History, begun_with, with_entry}
-use Rattle.ln_tables.specs.Replay.{Table, no_table}
+use Rattle.ln_book_tables.specs.Replay.{Table, no_table}
 use Rattle.ln_book.specs.Commands.{Services}
-use Rattle.ln_channels.specs.declared.step.Node.{Node}
-use Rattle.ln_channels.specs.WorldChannel.{is_node}
+use Rattle.ln_world_channels.specs.declared.step.Node.{Node}
+use Rattle.ln_world_channels.specs.WorldChannel.{is_node}
 use Rattle.ln_world.specs.declared.node.NodeBook.{NodeBook}
 
 -- what was entered in a book of forwarded payments

@@ -2,8 +2,8 @@
 use Rattle.std.specs.Prelude.{◌≡◌, List, length}
 use Rattle.ln_keys.specs.declared.keys.ChannelKeys.{Ghosts}
 use Rattle.ln_hooks.specs.declared.verdict.Verdict.{Verdict}
-use Rattle.ln_pair.specs.Widths.{IsCommand}
-use Rattle.ln_channels.specs.Promises.{Each}
+use Rattle.ln_channel_laws.specs.Widths.{IsCommand}
+use Rattle.ln_world_channels.specs.Promises.{Each}
 use Rattle.ln_world.specs.declared.step.Act.{Act}
 use Rattle.ln_world.specs.declared.step.Act.TheVariants as act
 use Rattle.ln_world.specs.declared.step.Step.{Step}

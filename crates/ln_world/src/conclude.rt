@@ -7,90 +7,93 @@ ghost use Rattle.ln_world.specs.World.{follows, answered, heard, unanswered, sav
 ghost use Rattle.ln_world.specs.World.{restarted, met, concluded, decided_lines, tells, link_at};
 ghost use Rattle.ln_world.specs.Follow.{followed, begun_anew};
 
+use crate::book_reports::{answer_by, hear, report_decided};
 use crate::call::{end_at, link_at};
-use crate::errand::{Asked, Errand};
 use crate::follow::{begin_anew, follow};
+use crate::follow_up::{FollowUp, PendingAnswer};
 use crate::node::{NodeBook, place_for};
-use crate::told::{answer_by, hear, tell_decided};
 use ln_book::Book;
-use ln_channel::{Channel as ChannelEnd, Unsaved};
-use ln_channels::{WorldChannel, channel_id_of};
-use ln_desks::{End, Line, Node, Nodes};
+use ln_channel::{Channel as ChannelEnd, ChannelMachine};
 use ln_keys::{ChannelKeys, Role};
 use ln_msgs::Refusal;
+use ln_world_channels::{WorldChannel, channel_id_of};
+use ln_world_dispatch::{End, Line, Node, Nodes};
 use std::alloc::Global;
 
 // A node's book follows its ends. 60 where there is no memory.
 fn follow_node<K: ChannelKeys + Copy>(
     alloc: Global,
-    desks: &Nodes<K>,
+    dispatchers: &Nodes<K>,
     nodes: &mut Vec<NodeBook>,
     node: Node,
 ) -> Result<(), Refusal>
     ensures followed { OnOk result (nodes.new.items
-        ≡ changed node (followed desks.now.channels.channels) nodes.old.items) }
+        ≡ changed node (followed dispatchers.now.channels.channels) nodes.old.items) }
     ensures fails_for_memory_alone { IfErr result (λ e. e ≡ refusal.Memory) }
 {
     let i = place_for(alloc, nodes, node)?;
-    follow(&mut nodes[i], desks.channels())
+    follow(&mut nodes[i], dispatchers.channels())
 }
 
 // The book hears what an end has answered to its command.
-fn hear_answer(book: &mut Book, end: End, asked: Option<Asked>, told: &[Line])
+fn on_answer(book: &mut Book, end: End, asked: Option<PendingAnswer>, told: &[Line])
     ensures { book.new ≡ answered end asked told.now book.old }
 {
     match asked {
         None => {}
-        Some(asked) => book.answered(channel_id_of(end.channel), answer_by(asked.about, told)),
+        Some(asked) => book.answered(
+            channel_id_of(end.channel),
+            answer_by(asked.command_subject, told),
+        ),
     }
 }
 
 // The node of an end that has acted. 60 where there is no memory.
-fn hear_end<K: ChannelKeys + Copy>(
+fn on_end<K: ChannelKeys + Copy>(
     alloc: Global,
-    desks: &Nodes<K>,
+    dispatchers: &Nodes<K>,
     node: &mut NodeBook,
     end: End,
     before: u64,
-    asked: Option<Asked>,
+    asked: Option<PendingAnswer>,
     told: &[Line],
 ) -> Result<(), Refusal>
-    ensures heard { OnOk result (node.new ≡ followed desks.now.channels.channels
-        (with_book (heard end before asked told.now desks.now node.old.book) node.old)) }
+    ensures heard { OnOk result (node.new ≡ followed dispatchers.now.channels.channels
+        (with_book (heard end before asked told.now dispatchers.now node.old.book) node.old)) }
     ensures fails_for_memory_alone { IfErr result (λ e. e ≡ refusal.Memory) }
 {
     let id = channel_id_of(end.channel);
-    hear_answer(&mut node.book, end, asked, told);
+    on_answer(&mut node.book, end, asked, told);
     hear(
         alloc,
         &mut node.book,
         id,
-        end_at(desks.channels(), end),
+        end_at(dispatchers.channels(), end),
         before,
     )?;
-    follow(node, desks.channels())
+    follow(node, dispatchers.channels())
 }
 
 // An end has acted. 60 where there is no memory.
 fn conclude_act<K: ChannelKeys + Copy>(
     alloc: Global,
-    desks: &Nodes<K>,
+    dispatchers: &Nodes<K>,
     nodes: &mut Vec<NodeBook>,
     end: End,
     before: u64,
-    asked: Option<Asked>,
+    asked: Option<PendingAnswer>,
     told: &[Line],
 ) -> Result<(), Refusal>
     ensures concluded { OnOk result (nodes.new.items
-        ≡ follows end.node (heard end before asked told.now desks.now) desks.now nodes.old.items) }
+        ≡ follows end.node (heard end before asked told.now dispatchers.now) dispatchers.now nodes.old.items) }
     ensures fails_for_memory_alone { IfErr result (λ e. e ≡ refusal.Memory) }
 {
     let i = place_for(alloc, nodes, end.node)?;
-    hear_end(alloc, desks, &mut nodes[i], end, before, asked, told)
+    on_end(alloc, dispatchers, &mut nodes[i], end, before, asked, told)
 }
 
 // The book of an end that has halted, with or without a command of it.
-fn hear_halt(book: &mut Book, end: End, is_out: bool)
+fn on_halt(book: &mut Book, end: End, is_out: bool)
     ensures { book.new ≡ unanswered end is_out book.old }
 {
     if is_out {
@@ -100,33 +103,33 @@ fn hear_halt(book: &mut Book, end: End, is_out: bool)
 
 // The node of an end that has halted. 60 where there is no memory.
 fn halt_end<K: ChannelKeys + Copy>(
-    desks: &Nodes<K>,
+    dispatchers: &Nodes<K>,
     node: &mut NodeBook,
     end: End,
     is_out: bool,
 ) -> Result<(), Refusal>
-    ensures halted { OnOk result (node.new ≡ followed desks.now.channels.channels
+    ensures halted { OnOk result (node.new ≡ followed dispatchers.now.channels.channels
         (with_book (unanswered end is_out node.old.book) node.old)) }
     ensures fails_for_memory_alone { IfErr result (λ e. e ≡ refusal.Memory) }
 {
-    hear_halt(&mut node.book, end, is_out);
-    follow(node, desks.channels())
+    on_halt(&mut node.book, end, is_out);
+    follow(node, dispatchers.channels())
 }
 
 // An end has halted, with or without a command of its book. 60 where there is no memory.
 fn conclude_halt<K: ChannelKeys + Copy>(
     alloc: Global,
-    desks: &Nodes<K>,
+    dispatchers: &Nodes<K>,
     nodes: &mut Vec<NodeBook>,
     end: End,
     is_out: bool,
 ) -> Result<(), Refusal>
     ensures concluded { OnOk result (nodes.new.items
-        ≡ follows end.node (unanswered end is_out) desks.now nodes.old.items) }
+        ≡ follows end.node (unanswered end is_out) dispatchers.now nodes.old.items) }
     ensures fails_for_memory_alone { IfErr result (λ e. e ≡ refusal.Memory) }
 {
     let i = place_for(alloc, nodes, end.node)?;
-    halt_end(desks, &mut nodes[i], end, is_out)
+    halt_end(dispatchers, &mut nodes[i], end, is_out)
 }
 
 // A book is told what an end has kept. 60 where there is no memory.
@@ -151,7 +154,7 @@ fn drop_link<K: ChannelKeys + Copy>(
     alloc: Global,
     book: &mut Book,
     end: End,
-    link: &Unsaved<K>,
+    link: &ChannelMachine<K>,
 ) -> Result<(), Refusal>
     ensures dropped { OnOk result (book.new ≡ dropped end link.now book.old) }
     ensures fails_for_memory_alone { IfErr result (λ e. e ≡ refusal.Memory) }
@@ -165,73 +168,74 @@ fn drop_link<K: ChannelKeys + Copy>(
 // The node of an end that has lost its connection. 60 where there is no memory.
 fn drop_at<K: ChannelKeys + Copy>(
     alloc: Global,
-    desks: &Nodes<K>,
+    dispatchers: &Nodes<K>,
     node: &mut NodeBook,
     end: End,
-    link: &Unsaved<K>,
+    link: &ChannelMachine<K>,
 ) -> Result<(), Refusal>
-    ensures dropped { OnOk result (node.new ≡ followed desks.now.channels.channels
+    ensures dropped { OnOk result (node.new ≡ followed dispatchers.now.channels.channels
         (with_book (dropped end link.now node.old.book) node.old)) }
     ensures fails_for_memory_alone { IfErr result (λ e. e ≡ refusal.Memory) }
 {
     drop_link(alloc, &mut node.book, end, link)?;
-    follow(node, desks.channels())
+    follow(node, dispatchers.channels())
 }
 
 // An end has lost its connection, where it is there. 60 where there is no memory.
 fn conclude_fall<K: ChannelKeys + Copy>(
     alloc: Global,
-    desks: &Nodes<K>,
+    dispatchers: &Nodes<K>,
     nodes: &mut Vec<NodeBook>,
     end: End,
 ) -> Result<(), Refusal>
     ensures concluded { OnOk result (nodes.new.items
-        ≡ fallen end desks.now (link_at end desks.now.channels.channels) nodes.old.items) }
+        ≡ fallen end dispatchers.now (link_at end dispatchers.now.channels.channels) nodes.old.items) }
     ensures fails_for_memory_alone { IfErr result (λ e. e ≡ refusal.Memory) }
 {
-    let Some(link) = link_at(desks.channels(), end) else {
+    let Some(link) = link_at(dispatchers.channels(), end) else {
         return Ok(());
     };
     let i = place_for(alloc, nodes, end.node)?;
-    drop_at(alloc, desks, &mut nodes[i], end, link)
+    drop_at(alloc, dispatchers, &mut nodes[i], end, link)
 }
 
 // A node that has restarted. 60 where there is no memory.
 fn restart_at<K: ChannelKeys + Copy>(
     alloc: Global,
-    desks: &Nodes<K>,
+    dispatchers: &Nodes<K>,
     node: &mut NodeBook,
 ) -> Result<(), Refusal>
-    ensures restarted { OnOk result (node.new ≡ followed desks.now.channels.channels
-        (begun_anew desks.now.channels.channels node.old)) }
+    ensures restarted { OnOk result (node.new ≡ followed dispatchers.now.channels.channels
+        (begun_anew dispatchers.now.channels.channels node.old)) }
     ensures fails_for_memory_alone { IfErr result (λ e. e ≡ refusal.Memory) }
 {
-    begin_anew(alloc, node, desks.channels())?;
-    follow(node, desks.channels())
+    begin_anew(alloc, node, dispatchers.channels())?;
+    follow(node, dispatchers.channels())
 }
 
 // A node has restarted. 60 where there is no memory.
 fn conclude_restart<K: ChannelKeys + Copy>(
     alloc: Global,
-    desks: &Nodes<K>,
+    dispatchers: &Nodes<K>,
     nodes: &mut Vec<NodeBook>,
     node: Node,
 ) -> Result<(), Refusal>
-    ensures concluded { OnOk result (nodes.new.items ≡ restarted node desks.now nodes.old.items) }
+    ensures concluded { OnOk result (nodes.new.items ≡ restarted node dispatchers.now nodes.old.items) }
     ensures fails_for_memory_alone { IfErr result (λ e. e ≡ refusal.Memory) }
 {
     let i = place_for(alloc, nodes, node)?;
-    restart_at(alloc, desks, &mut nodes[i])
+    restart_at(alloc, dispatchers, &mut nodes[i])
 }
 
 // The ends of a channel have a connection, where it is there. 60 where there is no memory.
 fn conclude_meet<K: ChannelKeys + Copy>(
     alloc: Global,
-    desks: &Nodes<K>,
+    dispatchers: &Nodes<K>,
     nodes: &mut Vec<NodeBook>,
     channel: Option<&WorldChannel<K>>,
 ) -> Result<(), Refusal>
-    ensures concluded { OnOk result (nodes.new.items ≡ met desks.now (option_copied channel.entry) nodes.old.items) }
+    ensures concluded { OnOk result (nodes.new.items
+        ≡ met dispatchers.now (option_copied channel.entry) nodes.old.items) }
     ensures fails_for_memory_alone { IfErr result (λ e. e ≡ refusal.Memory) }
 {
     let Some(channel) = channel else {
@@ -239,40 +243,45 @@ fn conclude_meet<K: ChannelKeys + Copy>(
     };
     let funder = channel.end(Role::Funder).node;
     let fundee = channel.end(Role::Fundee).node;
-    follow_node(alloc, desks, nodes, funder)?;
-    follow_node(alloc, desks, nodes, fundee)
+    follow_node(alloc, dispatchers, nodes, funder)?;
+    follow_node(alloc, dispatchers, nodes, fundee)
 }
 
 /// What the books do behind a step, of which these lines were told. 60 where there is no memory.
 pub(crate) fn conclude<K: ChannelKeys + Copy>(
     alloc: Global,
-    desks: &Nodes<K>,
+    dispatchers: &Nodes<K>,
     nodes: &mut Vec<NodeBook>,
-    errand: Errand,
+    follow_up: FollowUp,
     told: &[Line],
 ) -> Result<(), Refusal>
-    ensures concluded { OnOk result (nodes.new.items ≡ concluded errand told.now desks.now nodes.old.items) }
+    ensures concluded { OnOk result (nodes.new.items ≡ concluded follow_up told.now dispatchers.now nodes.old.items) }
     ensures fails_for_memory_alone { IfErr result (λ e. e ≡ refusal.Memory) }
 {
-    match errand {
-        Errand::None | Errand::Refuse(_) => Ok(()),
-        Errand::Set(node) => follow_node(alloc, desks, nodes, node),
-        Errand::Act(end, before, asked) => {
-            conclude_act(alloc, desks, nodes, end, before, asked, told)
+    match follow_up {
+        FollowUp::None | FollowUp::Refuse(_) => Ok(()),
+        FollowUp::Set(node) => follow_node(alloc, dispatchers, nodes, node),
+        FollowUp::Act(end, before, asked) => {
+            conclude_act(alloc, dispatchers, nodes, end, before, asked, told)
         }
-        Errand::Fall(end) => conclude_fall(alloc, desks, nodes, end),
-        Errand::Halt(end, is_out) => conclude_halt(alloc, desks, nodes, end, is_out),
-        Errand::Restart(node) => conclude_restart(alloc, desks, nodes, node),
-        Errand::Meet(number) => {
-            conclude_meet(alloc, desks, nodes, desks.channels().channel(number))
+        FollowUp::Fall(end) => conclude_fall(alloc, dispatchers, nodes, end),
+        FollowUp::Halt(end, is_out) => conclude_halt(alloc, dispatchers, nodes, end, is_out),
+        FollowUp::Restart(node) => conclude_restart(alloc, dispatchers, nodes, node),
+        FollowUp::Meet(number) => {
+            conclude_meet(
+                alloc,
+                dispatchers,
+                nodes,
+                dispatchers.channels().channel(number),
+            )
         }
     }
 }
 
 // An end that takes a decision tells of that alone. 60 where there is no memory.
-fn tell_asked(
+fn report_asked(
     end: End,
-    asked: Option<Asked>,
+    asked: Option<PendingAnswer>,
     told: &[Line],
     lines: &mut Vec<Line>,
 ) -> Result<(), Refusal>
@@ -281,24 +290,29 @@ fn tell_asked(
 {
     match asked {
         None => Ok(()),
-        Some(asked) => tell_decided(end, asked.noted, answer_by(asked.about, told), lines),
+        Some(asked) => report_decided(
+            end,
+            asked.noted,
+            answer_by(asked.command_subject, told),
+            lines,
+        ),
     }
 }
 
 /// What is told of a step joins the lines. 60 where there is no memory.
-pub(crate) fn tell(errand: Errand, told: &[Line], lines: &mut Vec<Line>) -> Result<(), Refusal>
-    ensures told { OnOk result (lines.new.items ≡ lines.old.items ++ tells errand told.now) }
+pub(crate) fn tell(follow_up: FollowUp, told: &[Line], lines: &mut Vec<Line>) -> Result<(), Refusal>
+    ensures told { OnOk result (lines.new.items ≡ lines.old.items ++ tells follow_up told.now) }
     ensures fails_for_memory_alone { IfErr result (λ e. e ≡ refusal.Memory) }
 {
-    match errand {
-        Errand::Set(_) => Ok(()),
-        Errand::Refuse(end) => {
+    match follow_up {
+        FollowUp::Set(_) => Ok(()),
+        FollowUp::Refuse(end) => {
             lines.push(Line::Refused(end, Refusal::NotReady))?;
             Ok(())
         }
-        Errand::Act(end, _, asked) => {
+        FollowUp::Act(end, _, asked) => {
             lines.extend_from_slice(told)?;
-            tell_asked(end, asked, told, lines)
+            report_asked(end, asked, told, lines)
         }
         _ => {
             lines.extend_from_slice(told)?;

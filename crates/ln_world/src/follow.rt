@@ -3,28 +3,28 @@
 ghost use Rattle.std.specs.Prelude.{◌≡◌, OnOk, IfOk, IfErr, option_copied};
 ghost use Rattle.ln_msgs.specs.declared.refusals.refusal.Refusal.TheVariants as refusal;
 ghost use Rattle.ln_channel.specs.Record.{saved_end};
-ghost use Rattle.ln_channels.specs.WorldChannel.{side_of};
-ghost use Rattle.ln_channels.specs.World.{channel};
+ghost use Rattle.ln_world_channels.specs.WorldChannel.{side_of};
+ghost use Rattle.ln_world_channels.specs.World.{channel};
 ghost use Rattle.ln_world.specs.Follow.{with_end, with_side, with_channel, followed_below, followed};
-ghost use Rattle.ln_world.specs.Follow.{side_reading, reading_in, readings_below, begun_anew};
+ghost use Rattle.ln_world.specs.Follow.{side_snapshot, snapshot_in, snapshots_below, begun_anew};
 
 use crate::node::NodeBook;
 use ln_book::Book;
-use ln_channel::Unsaved;
-use ln_channels::{World as Channels, WorldChannel};
-use ln_desks::Node;
+use ln_book_recovery::ChannelSnapshot;
+use ln_channel::ChannelMachine;
 use ln_forward::Policy;
 use ln_keys::{ChannelKeys, Role};
 use ln_msgs::Refusal;
-use ln_readings::Reading;
 use ln_switch::{read_end, use_of};
+use ln_world_channels::{World as Channels, WorldChannel};
+use ln_world_dispatch::Node;
 use std::alloc::Global;
 
 // The book follows a link's end, where both have signed its opening. 60 where there is no memory.
 fn follow_end<K: ChannelKeys + Copy>(
     book: &mut Book,
     policy: Policy,
-    link: &Unsaved<K>,
+    link: &ChannelMachine<K>,
 ) -> Result<(), Refusal>
     ensures followed { OnOk result (book.new ≡ with_end policy link.now (saved_end link.now.stage) book.old) }
     ensures fails_for_memory_alone { IfErr result (λ e. e ≡ refusal.Memory) }
@@ -97,14 +97,14 @@ fn read_side<K: ChannelKeys + Copy>(
     alloc: Global,
     channel: &WorldChannel<K>,
     side: Option<Role>,
-    readings: &mut Vec<Reading>,
+    snapshots: &mut Vec<ChannelSnapshot>,
 ) -> Result<(), Refusal>
-    ensures read { OnOk result (readings.new.items ≡ side_reading channel.now side readings.old.items) }
+    ensures read { OnOk result (snapshots.new.items ≡ side_snapshot channel.now side snapshots.old.items) }
     ensures fails_for_memory_alone { IfErr result (λ e. e ≡ refusal.Memory) }
 {
     match side {
         None => Ok(()),
-        Some(side) => read_end(alloc, channel.place(side).link().saved(), readings),
+        Some(side) => read_end(alloc, channel.place(side).link().saved(), snapshots),
     }
 }
 
@@ -113,14 +113,15 @@ fn read_channel<K: ChannelKeys + Copy>(
     alloc: Global,
     node: Node,
     channel: Option<&WorldChannel<K>>,
-    readings: &mut Vec<Reading>,
+    snapshots: &mut Vec<ChannelSnapshot>,
 ) -> Result<(), Refusal>
-    ensures read { OnOk result (readings.new.items ≡ reading_in node (option_copied channel.entry) readings.old.items) }
+    ensures read { OnOk result (snapshots.new.items
+        ≡ snapshot_in node (option_copied channel.entry) snapshots.old.items) }
     ensures fails_for_memory_alone { IfErr result (λ e. e ≡ refusal.Memory) }
 {
     match channel {
         None => Ok(()),
-        Some(channel) => read_side(alloc, channel, channel.side_of(node), readings),
+        Some(channel) => read_side(alloc, channel, channel.side_of(node), snapshots),
     }
 }
 
@@ -129,15 +130,15 @@ fn read_all<K: ChannelKeys + Copy>(
     alloc: Global,
     node: Node,
     channels: &Channels<K>,
-) -> Result<Vec<Reading>, Refusal>
-    ensures readings { IfOk result (λ rs. rs.items ≡ readings_below 256 node channels.now.channels) }
+) -> Result<Vec<ChannelSnapshot>, Refusal>
+    ensures snapshots { IfOk result (λ rs. rs.items ≡ snapshots_below 256 node channels.now.channels) }
     ensures fails_for_memory_alone { IfErr result (λ e. e ≡ refusal.Memory) }
 {
-    let mut readings = Vec::new(alloc);
+    let mut snapshots = Vec::new(alloc);
     for number in 0..256u16 {
-        read_channel(alloc, node, channels.channel(number as u8), &mut readings)?;
+        read_channel(alloc, node, channels.channel(number as u8), &mut snapshots)?;
     }
-    Ok(readings)
+    Ok(snapshots)
 }
 
 /// A node's book begins anew with what its ends have; settings stay. 60 where there is no memory.
@@ -149,6 +150,6 @@ pub(crate) fn begin_anew<K: ChannelKeys + Copy>(
     ensures begun { OnOk result (node.new ≡ begun_anew channels.now.channels node.old) }
     ensures fails_for_memory_alone { IfErr result (λ e. e ≡ refusal.Memory) }
 {
-    let readings = read_all(alloc, node.node, channels)?;
-    node.book.rebuild(alloc, readings.as_slice())
+    let snapshots = read_all(alloc, node.node, channels)?;
+    node.book.rebuild(alloc, snapshots.as_slice())
 }

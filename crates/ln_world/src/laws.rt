@@ -5,17 +5,17 @@
 ghost use Rattle.std.specs.Prelude.{ℕ, List};
 ghost use Rattle.ln_msgs.specs.declared.refusals.refusal.Refusal.TheVariants as refusal;
 ghost use Rattle.ln_hooks.specs.declared.verdict.Verdict.{Verdict};
-ghost use Rattle.ln_channels.specs.Promises.{Headline, NoneRefused, AllTaken, OneFee, Agrees};
-ghost use Rattle.ln_channels.specs.Promises.{AnswersShutdown, MarksAgree, BothClose, DoExactly};
-ghost use Rattle.ln_channels.specs.Longest.{BasesAreLongest};
-ghost use Rattle.ln_channels.specs.Records.{HaveRecords};
-ghost use Rattle.ln_channels.specs.Sending.{NoneAddsLate};
-ghost use Rattle.ln_channels.specs.Setup.{all_setups, OpensAsSet};
-ghost use Rattle.ln_channels.specs.Signing.{SignCovered};
-ghost use Rattle.ln_channels.specs.World as channels;
+ghost use Rattle.ln_world_channels.specs.Promises.{Headline, NoneRefused, AllTaken, OneFee, Agrees};
+ghost use Rattle.ln_world_channels.specs.Promises.{AnswersShutdown, MarksAgree, BothClose, DoExactly};
+ghost use Rattle.ln_world_channels.specs.Longest.{BasesAreLongest};
+ghost use Rattle.ln_world_channels.specs.Records.{HaveRecords};
+ghost use Rattle.ln_world_channels.specs.Sending.{NoneAddsLate};
+ghost use Rattle.ln_world_channels.specs.Setup.{all_setups, OpensAsSet};
+ghost use Rattle.ln_world_channels.specs.Signing.{SignCovered};
+ghost use Rattle.ln_world_channels.specs.World as channels;
 ghost use Rattle.ln_world.specs.declared.step.Step.{Step};
 ghost use Rattle.ln_world.specs.World.{empty, run, SomeMayFail};
-ghost use Rattle.ln_world.specs.Promises.{AreSteps, OfEach, CallsFollow, DesksStand, channel_steps};
+ghost use Rattle.ln_world.specs.Promises.{AreSteps, OfEach, CallsFollow, DispatchersStand, channel_steps};
 ghost use Rattle.ln_world.specs.Records.{AreWorldSteps};
 
 use ln_keys::ChannelKeys;
@@ -24,7 +24,7 @@ use ln_keys::ChannelKeys;
 /// and in the order in which it was sent, a beginning of what the other end has covered by a signature. Of all that an
 /// end sends, no `update_add_htlc` stands behind its `shutdown`. Each dispatcher's calls to a hook are, each once and
 /// in order, a beginning of its end's committed events from the one that was next as the hook was registered; none
-/// comes behind the close; and each event below the one that a life of the dispatcher starts at was dispatched.
+/// comes behind the close; and each event below the one that an epoch of the dispatcher starts at was dispatched.
 pub fn headline<K: ChannelKeys + Copy>()
     ensures holds_what_is_covered { (steps : List (Step K K.ChannelKeys × Verdict)) (hooks : ℕ)
         → OfEach Headline (run K.ChannelKeys steps (empty hooks)) }
@@ -107,7 +107,7 @@ pub fn commands_are_done_exactly<K: ChannelKeys + Copy>()
 pub fn channels_open_as_set<K: ChannelKeys + Copy>()
     ensures { (steps : List (Step K K.ChannelKeys × Verdict)) (hooks number : ℕ)
         → OpensAsSet (all_setups K.ChannelKeys number (channel_steps K.ChannelKeys hooks steps) channels.empty)
-        (channels.channel number (run K.ChannelKeys steps (empty hooks)).desks.channels.channels) }
+        (channels.channel number (run K.ChannelKeys steps (empty hooks)).dispatchers.channels.channels) }
 {}
 
 /// A law: each end of a channel has a record, so that each act and each opening can be saved, and no step fails by 70
@@ -130,11 +130,11 @@ pub fn commands_are_wide<K: ChannelKeys + Copy>()
 {}
 
 /// A law: of each dispatcher, over all that was decided and over restarts of its node. Its end has decided what was
-/// decided as the dispatcher's life began, and no event that the life hasn't dispatched, so that each decision is of an
-/// event that the hooks have seen. The events that were served in a life are, each once and in order, the end's
-/// committed events from the life's start on, and each hook has its seat from one of these, or the next, on.
+/// decided as the dispatcher's epoch began, and no event that the epoch hasn't dispatched, so that each decision is of
+/// an event that the hooks have seen. The events that were served in an epoch are, each once and in order, the end's
+/// committed events from the epoch's start on, and each hook has its seat from one of these, or the next, on.
 pub fn decisions_follow_dispatches<K: ChannelKeys + Copy>()
-    ensures { (steps : List (Step K K.ChannelKeys × Verdict)) (hooks : ℕ) → DesksStand K.ChannelKeys hooks steps }
+    ensures { (steps : List (Step K K.ChannelKeys × Verdict)) (hooks : ℕ) → DispatchersStand K.ChannelKeys hooks steps }
 {}
 
 /// A law: in each channel, the base of either end is the longest that its decided events allow: all that the end holds

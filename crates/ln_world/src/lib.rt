@@ -2,16 +2,16 @@
 //! book of forwarded payments, whose commands its channels take; moved step by step.
 #![tactic(auto)]
 
+mod book_reports;
 mod call;
 mod conclude;
-mod errand;
 mod follow;
+mod follow_up;
 mod laws;
 mod machine;
 mod node;
 mod prepare;
 mod step;
-mod told;
 mod world;
 
 pub use laws::{
@@ -20,12 +20,12 @@ pub use laws::{
     decisions_follow_dispatches, every_end_has_a_record, headline, marks_agree_at_rest,
     never_refused, never_refused_where_fees_overlap, signatures_are_over_what_is_covered,
 };
-pub use ln_desks::{
-    Choice, Desk, End, EndLine, Ending, Hooks, Life, Line, Node, Nodes, Open, Partners, Seat,
-    Serve, Tables, Word,
-};
+pub use ln_book_tables::Invoice;
 pub use ln_forward::Policy;
-pub use ln_tables::Invoice;
+pub use ln_world_dispatch::{
+    Choice, Dispatcher, End, EndLine, Ending, Epoch, HookSlot, Hooks, Line, Node, Nodes, Open,
+    Partners, Serve, Tables, Word,
+};
 pub use machine::{
     close_is_last, each_move_may_be_made, events_are_told, moves_are_the_machines,
     undecided_events_are_the_machines,

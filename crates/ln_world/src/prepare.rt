@@ -2,34 +2,34 @@
 
 ghost use Rattle.std.specs.Prelude.{◌≡◌, ◌≤◌, OnOk, IfOk, IfErr, Some, None};
 ghost use Rattle.ln_msgs.specs.declared.refusals.refusal.Refusal.TheVariants as refusal;
-ghost use Rattle.ln_tables.specs.declared.entry.Entry.TheVariants as entry;
+ghost use Rattle.ln_book_tables.specs.declared.entry.Entry.TheVariants as entry;
 ghost use Rattle.ln_world.specs.Node.{changed, with_policy};
 ghost use Rattle.ln_switch.specs.Answers.{next_id};
-ghost use Rattle.ln_world.specs.Told.{told_count};
+ghost use Rattle.ln_world.specs.BookReports.{told_count};
 ghost use Rattle.ln_world.specs.World.{entered, book_of, command_in, command_by, handed_or, handed_out};
 ghost use Rattle.ln_world.specs.World.{with_decision, resuming, resumed_at, resumes, refusing, asked};
 ghost use Rattle.ln_world.specs.World.{command_of, call_of, unbegun, asked_unbegun, asks_by, end_at};
-ghost use Rattle.ln_world.specs.World.{own_act, with_height, if_height, plain, prepared, errand_of};
+ghost use Rattle.ln_world.specs.World.{own_act, with_height, if_height, plain, prepared, follow_up_of};
 ghost use Rattle.ln_world.specs.World.{stops_behind, if_stopped};
-ghost use Rattle.ln_world.specs.declared.errand.Errand.TheVariants as errand;
+ghost use Rattle.ln_world.specs.declared.follow_up.FollowUp.TheVariants as follow_up;
 ghost use Rattle.ln_world.specs.declared.step.Step.TheVariants as step;
 
+use crate::book_reports::{noted_of, told_count};
 use crate::call::end_at;
-use crate::errand::{Asked, Errand};
+use crate::follow_up::{FollowUp, PendingAnswer};
 use crate::node::{NodeBook, index_of, place_for};
 use crate::step::{Act, Step};
-use crate::told::{noted_of, told_count};
 use ln_book::Book;
+use ln_book_tables::Invoice;
 use ln_channel::Command;
-use ln_channels::{Act as ChannelAct, channel_id_of};
-use ln_desks::{End, Node, Nodes, Step as DeskStep};
 use ln_forward::Policy;
 use ln_hooks::{ChannelEvent, Verdict};
 use ln_keys::{ChannelKeys, ToyOnion};
 use ln_log::Mark;
 use ln_msgs::Refusal;
-use ln_switch::{about, next_id};
-use ln_tables::Invoice;
+use ln_switch::{command_subject, next_id};
+use ln_world_channels::{Act as ChannelAct, channel_id_of};
+use ln_world_dispatch::{End, Node, Nodes, Step as DispatchStep};
 use std::alloc::Global;
 
 // The policy of a node. 60 where there is no memory.
@@ -163,28 +163,28 @@ fn resume(
 // The command that the book hands out, for what an end is to do. 60 where there is no memory.
 fn ask<K: ChannelKeys + Copy>(
     alloc: Global,
-    desks: &Nodes<K>,
+    dispatchers: &Nodes<K>,
     nodes: &mut Vec<NodeBook>,
     end: End,
     what: &Act,
 ) -> Result<Option<Command>, Refusal>
     ensures command { IfOk result (λ c. c ≡ command_of end what.now
-        (record { desks = desks.now; nodes = nodes.old.items })) }
+        (record { dispatchers = dispatchers.now; nodes = nodes.old.items })) }
     ensures handed { OnOk result (nodes.new.items ≡ handed_out end (asked end what.now
-        (record { desks = desks.now; nodes = nodes.old.items })) nodes.old.items) }
+        (record { dispatchers = dispatchers.now; nodes = nodes.old.items })) nodes.old.items) }
     ensures fails_for_memory_alone { IfErr result (λ e. e ≡ refusal.Memory) }
 {
     match what {
         Act::Deliver | Act::Send(_) => Ok(None),
-        Act::Take => match end_at(desks.channels(), end) {
+        Act::Take => match end_at(dispatchers.channels(), end) {
             None => Ok(None),
             Some(_) => hand_out(alloc, nodes, end),
         },
-        Act::Decide => match desks.waiting(end) {
+        Act::Decide => match dispatchers.waiting(end) {
             None => Ok(None),
             Some((number, event, verdict)) => decide(alloc, nodes, end, number, event, verdict),
         },
-        Act::Resume(number, verdict) => match end_at(desks.channels(), end) {
+        Act::Resume(number, verdict) => match end_at(dispatchers.channels(), end) {
             None => Ok(None),
             Some(_) => resume(alloc, nodes, end, *number, *verdict),
         },
@@ -192,8 +192,8 @@ fn ask<K: ChannelKeys + Copy>(
 }
 
 // What an end does of its own, where it can: nobody sends what is the book's to command.
-fn own_act<K: ChannelKeys + Copy>(desks: &Nodes<K>, end: End, what: Act) -> Option<ChannelAct>
-    ensures { result ≡ own_act end what desks.now }
+fn own_act<K: ChannelKeys + Copy>(dispatchers: &Nodes<K>, end: End, what: Act) -> Option<ChannelAct>
+    ensures { result ≡ own_act end what dispatchers.now }
 {
     let act = match what {
         Act::Deliver => ChannelAct::Deliver,
@@ -203,18 +203,18 @@ fn own_act<K: ChannelKeys + Copy>(desks: &Nodes<K>, end: End, what: Act) -> Opti
         Act::Send(command) => ChannelAct::Send(command),
         Act::Take | Act::Decide | Act::Resume(..) => return None,
     };
-    if desks.may_act(end, &act) {
+    if dispatchers.may_act(end, &act) {
         Some(act)
     } else {
         None
     }
 }
 
-fn asked_by(command: &Command, next: u64) -> Asked
+fn asked_by(command: &Command, next: u64) -> PendingAnswer
     ensures { Some result ≡ asks_by (Some command.now) next }
 {
-    Asked {
-        about: about(next, command),
+    PendingAnswer {
+        command_subject: command_subject(next, command),
         noted: noted_of(command),
     }
 }
@@ -222,64 +222,66 @@ fn asked_by(command: &Command, next: u64) -> Asked
 // What an act is of its channel, where it can be taken, and what the book asks by it. 60 where there is no memory.
 fn begin<K: ChannelKeys + Copy>(
     alloc: Global,
-    desks: &Nodes<K>,
+    dispatchers: &Nodes<K>,
     nodes: &mut Vec<NodeBook>,
     end: End,
     what: Act,
-) -> Result<(Option<ChannelAct>, Option<Asked>), Refusal>
-    ensures act { IfOk result (λ r. r.0 ≡ call_of end what (record { desks = desks.now; nodes = nodes.old.items })) }
+) -> Result<(Option<ChannelAct>, Option<PendingAnswer>), Refusal>
+    ensures act { IfOk result (λ r. r.0
+        ≡ call_of end what (record { dispatchers = dispatchers.now; nodes = nodes.old.items })) }
     ensures asked { IfOk result (λ r. r.1 ≡ asks_by (command_of end what
-        (record { desks = desks.now; nodes = nodes.old.items })) (next_id (end_at end desks.now))) }
+        (record { dispatchers = dispatchers.now; nodes = nodes.old.items })) (next_id (end_at end dispatchers.now))) }
     ensures handed { OnOk result (nodes.new.items ≡ handed_out end (asked end what
-        (record { desks = desks.now; nodes = nodes.old.items })) nodes.old.items) }
+        (record { dispatchers = dispatchers.now; nodes = nodes.old.items })) nodes.old.items) }
     ensures fails_for_memory_alone { IfErr result (λ e. e ≡ refusal.Memory) }
 {
-    match ask(alloc, desks, nodes, end, &what)? {
+    match ask(alloc, dispatchers, nodes, end, &what)? {
         Some(command) => {
             drop(what);
-            let next = next_id(end_at(desks.channels(), end));
+            let next = next_id(end_at(dispatchers.channels(), end));
             let asked = asked_by(&command, next);
             Ok((Some(ChannelAct::Send(command)), Some(asked)))
         }
-        None => Ok((own_act(desks, end, what), None)),
+        None => Ok((own_act(dispatchers, end, what), None)),
     }
 }
 
 // What an act is of its channel that isn't begun. 60 where there is no memory.
 fn leave<K: ChannelKeys + Copy>(
     alloc: Global,
-    desks: &Nodes<K>,
+    dispatchers: &Nodes<K>,
     nodes: &mut Vec<NodeBook>,
     end: End,
     what: Act,
 ) -> Result<Option<ChannelAct>, Refusal>
-    ensures act { IfOk result (λ r. r ≡ unbegun end what (record { desks = desks.now; nodes = nodes.old.items })) }
+    ensures act { IfOk result (λ r. r
+        ≡ unbegun end what (record { dispatchers = dispatchers.now; nodes = nodes.old.items })) }
     ensures handed { OnOk result (nodes.new.items ≡ handed_out end (asked_unbegun end what
-        (record { desks = desks.now; nodes = nodes.old.items })) nodes.old.items) }
+        (record { dispatchers = dispatchers.now; nodes = nodes.old.items })) nodes.old.items) }
     ensures fails_for_memory_alone { IfErr result (λ e. e ≡ refusal.Memory) }
 {
     match what {
-        Act::Decide => match desks.waiting(end) {
+        Act::Decide => match dispatchers.waiting(end) {
             None => Ok(None),
             Some((event, _, _)) => Ok(Some(ChannelAct::Send(Command::Decide {
                 event,
                 mark: Mark::None,
             }))),
         },
-        Act::Resume(number, _) => match end_at(desks.channels(), end) {
+        Act::Resume(number, _) => match end_at(dispatchers.channels(), end) {
             None => Ok(None),
             Some(_) => Ok(Some(resumes(number))),
         },
-        what => Ok(begin(alloc, desks, nodes, end, what)?.0),
+        what => Ok(begin(alloc, dispatchers, nodes, end, what)?.0),
     }
 }
 
 // The number by which an act is to resume what is held, where the end is there.
-fn resumed_at<K: ChannelKeys + Copy>(desks: &Nodes<K>, end: End, what: &Act) -> Option<u64>
-    ensures { result ≡ resumed_at end what.now desks.now }
+fn resumed_at<K: ChannelKeys + Copy>(dispatchers: &Nodes<K>, end: End, what: &Act) -> Option<u64>
+    ensures { result ≡ resumed_at end what.now dispatchers.now }
 {
     match what {
-        Act::Resume(number, _) => match end_at(desks.channels(), end) {
+        Act::Resume(number, _) => match end_at(dispatchers.channels(), end) {
             None => None,
             Some(_) => Some(*number),
         },
@@ -298,39 +300,39 @@ fn resumes(number: u64) -> ChannelAct
 }
 
 // What the books have to do behind an act that isn't begun.
-fn refusing(end: End, resumed: Option<u64>) -> Errand
+fn refusing(end: End, resumed: Option<u64>) -> FollowUp
     ensures { result ≡ refusing end resumed }
 {
     match resumed {
-        None => Errand::None,
-        Some(_) => Errand::Refuse(end),
+        None => FollowUp::None,
+        Some(_) => FollowUp::Refuse(end),
     }
 }
 
 // An end acts. 60 where there is no memory.
 fn prepare_act<K: ChannelKeys + Copy>(
     alloc: Global,
-    desks: &Nodes<K>,
+    dispatchers: &Nodes<K>,
     nodes: &mut Vec<NodeBook>,
     end: End,
     what: Act,
-) -> Result<(Option<DeskStep<K>>, Errand), Refusal>
+) -> Result<(Option<DispatchStep<K>>, FollowUp), Refusal>
     ensures plain { IfOk result (λ r. r.0 ≡ plain K.ChannelKeys (step.Do end what)
-        (record { desks = desks.now; nodes = nodes.old.items })) }
-    ensures errand { IfOk result (λ r. r.1 ≡ errand_of {k = K.ChannelKeys} (step.Do end what)
-        (record { desks = desks.now; nodes = nodes.old.items })) }
+        (record { dispatchers = dispatchers.now; nodes = nodes.old.items })) }
+    ensures follow_up { IfOk result (λ r. r.1 ≡ follow_up_of {k = K.ChannelKeys} (step.Do end what)
+        (record { dispatchers = dispatchers.now; nodes = nodes.old.items })) }
     ensures prepared { OnOk result (nodes.new.items ≡ prepared {k = K.ChannelKeys} (step.Do end what)
-        (record { desks = desks.now; nodes = nodes.old.items })) }
+        (record { dispatchers = dispatchers.now; nodes = nodes.old.items })) }
     ensures fails_for_memory_alone { IfErr result (λ e. e ≡ refusal.Memory) }
 {
-    let before = told_count(end_at(desks.channels(), end))?;
-    let resumed = resumed_at(desks, end, &what);
-    let (act, asked) = begin(alloc, desks, nodes, end, what)?;
+    let before = told_count(end_at(dispatchers.channels(), end))?;
+    let resumed = resumed_at(dispatchers, end, &what);
+    let (act, asked) = begin(alloc, dispatchers, nodes, end, what)?;
     match act {
         None => Ok((None, refusing(end, resumed))),
         Some(act) => Ok((
-            Some(DeskStep::Do(end, act)),
-            Errand::Act(end, before, asked),
+            Some(DispatchStep::Do(end, act)),
+            FollowUp::Act(end, before, asked),
         )),
     }
 }
@@ -338,25 +340,25 @@ fn prepare_act<K: ChannelKeys + Copy>(
 // An end has no memory for an act. 60 where there is none for that.
 fn prepare_halt<K: ChannelKeys + Copy>(
     alloc: Global,
-    desks: &Nodes<K>,
+    dispatchers: &Nodes<K>,
     nodes: &mut Vec<NodeBook>,
     end: End,
     what: Act,
-) -> Result<(Option<DeskStep<K>>, Errand), Refusal>
+) -> Result<(Option<DispatchStep<K>>, FollowUp), Refusal>
     ensures plain { IfOk result (λ r. r.0 ≡ plain K.ChannelKeys (step.NoMemory end what)
-        (record { desks = desks.now; nodes = nodes.old.items })) }
-    ensures errand { IfOk result (λ r. r.1 ≡ errand_of {k = K.ChannelKeys} (step.NoMemory end what)
-        (record { desks = desks.now; nodes = nodes.old.items })) }
+        (record { dispatchers = dispatchers.now; nodes = nodes.old.items })) }
+    ensures follow_up { IfOk result (λ r. r.1 ≡ follow_up_of {k = K.ChannelKeys} (step.NoMemory end what)
+        (record { dispatchers = dispatchers.now; nodes = nodes.old.items })) }
     ensures prepared { OnOk result (nodes.new.items ≡ prepared {k = K.ChannelKeys} (step.NoMemory end what)
-        (record { desks = desks.now; nodes = nodes.old.items })) }
+        (record { dispatchers = dispatchers.now; nodes = nodes.old.items })) }
     ensures fails_for_memory_alone { IfErr result (λ e. e ≡ refusal.Memory) }
 {
     let is_take = matches!(&what, Act::Take);
-    match leave(alloc, desks, nodes, end, what)? {
-        None => Ok((None, Errand::None)),
+    match leave(alloc, dispatchers, nodes, end, what)? {
+        None => Ok((None, FollowUp::None)),
         Some(act) => Ok((
-            Some(DeskStep::NoMemory(end, act)),
-            Errand::Halt(end, is_take),
+            Some(DispatchStep::NoMemory(end, act)),
+            FollowUp::Halt(end, is_take),
         )),
     }
 }
@@ -364,24 +366,24 @@ fn prepare_halt<K: ChannelKeys + Copy>(
 // A node stops before an act of its end. 60 where there is no memory.
 fn prepare_stop_before<K: ChannelKeys + Copy>(
     alloc: Global,
-    desks: &Nodes<K>,
+    dispatchers: &Nodes<K>,
     nodes: &mut Vec<NodeBook>,
     end: End,
     what: Act,
-) -> Result<(Option<DeskStep<K>>, Errand), Refusal>
+) -> Result<(Option<DispatchStep<K>>, FollowUp), Refusal>
     ensures plain { IfOk result (λ r. r.0 ≡ plain K.ChannelKeys (step.StopBefore end what)
-        (record { desks = desks.now; nodes = nodes.old.items })) }
-    ensures errand { IfOk result (λ r. r.1 ≡ errand_of {k = K.ChannelKeys} (step.StopBefore end what)
-        (record { desks = desks.now; nodes = nodes.old.items })) }
+        (record { dispatchers = dispatchers.now; nodes = nodes.old.items })) }
+    ensures follow_up { IfOk result (λ r. r.1 ≡ follow_up_of {k = K.ChannelKeys} (step.StopBefore end what)
+        (record { dispatchers = dispatchers.now; nodes = nodes.old.items })) }
     ensures prepared { OnOk result (nodes.new.items ≡ prepared {k = K.ChannelKeys} (step.StopBefore end what)
-        (record { desks = desks.now; nodes = nodes.old.items })) }
+        (record { dispatchers = dispatchers.now; nodes = nodes.old.items })) }
     ensures fails_for_memory_alone { IfErr result (λ e. e ≡ refusal.Memory) }
 {
-    match leave(alloc, desks, nodes, end, what)? {
-        None => Ok((None, Errand::None)),
+    match leave(alloc, dispatchers, nodes, end, what)? {
+        None => Ok((None, FollowUp::None)),
         Some(act) => Ok((
-            Some(DeskStep::StopBefore(end, act)),
-            Errand::Restart(end.node),
+            Some(DispatchStep::StopBefore(end, act)),
+            FollowUp::Restart(end.node),
         )),
     }
 }
@@ -390,15 +392,15 @@ fn prepare_stop_before<K: ChannelKeys + Copy>(
 fn stop_unbegun<K: ChannelKeys + Copy>(
     end: End,
     resumed: Option<u64>,
-) -> (Option<DeskStep<K>>, Errand)
+) -> (Option<DispatchStep<K>>, FollowUp)
     ensures plain { result.0 ≡ stops_behind {k = K.ChannelKeys} end None resumed }
-    ensures errand { result.1 ≡ if_stopped None resumed (errand.Restart end.node) }
+    ensures follow_up { result.1 ≡ if_stopped None resumed (follow_up.Restart end.node) }
 {
     match resumed {
-        None => (None, Errand::None),
+        None => (None, FollowUp::None),
         Some(number) => (
-            Some(DeskStep::StopBefore(end, resumes(number))),
-            Errand::Restart(end.node),
+            Some(DispatchStep::StopBefore(end, resumes(number))),
+            FollowUp::Restart(end.node),
         ),
     }
 }
@@ -406,25 +408,25 @@ fn stop_unbegun<K: ChannelKeys + Copy>(
 // A node stops behind an act of its end. 60 where there is no memory.
 fn prepare_stop_after<K: ChannelKeys + Copy>(
     alloc: Global,
-    desks: &Nodes<K>,
+    dispatchers: &Nodes<K>,
     nodes: &mut Vec<NodeBook>,
     end: End,
     what: Act,
-) -> Result<(Option<DeskStep<K>>, Errand), Refusal>
+) -> Result<(Option<DispatchStep<K>>, FollowUp), Refusal>
     ensures plain { IfOk result (λ r. r.0 ≡ plain K.ChannelKeys (step.StopAfter end what)
-        (record { desks = desks.now; nodes = nodes.old.items })) }
-    ensures errand { IfOk result (λ r. r.1 ≡ errand_of {k = K.ChannelKeys} (step.StopAfter end what)
-        (record { desks = desks.now; nodes = nodes.old.items })) }
+        (record { dispatchers = dispatchers.now; nodes = nodes.old.items })) }
+    ensures follow_up { IfOk result (λ r. r.1 ≡ follow_up_of {k = K.ChannelKeys} (step.StopAfter end what)
+        (record { dispatchers = dispatchers.now; nodes = nodes.old.items })) }
     ensures prepared { OnOk result (nodes.new.items ≡ prepared {k = K.ChannelKeys} (step.StopAfter end what)
-        (record { desks = desks.now; nodes = nodes.old.items })) }
+        (record { dispatchers = dispatchers.now; nodes = nodes.old.items })) }
     ensures fails_for_memory_alone { IfErr result (λ e. e ≡ refusal.Memory) }
 {
-    let resumed = resumed_at(desks, end, &what);
-    match begin(alloc, desks, nodes, end, what)?.0 {
+    let resumed = resumed_at(dispatchers, end, &what);
+    match begin(alloc, dispatchers, nodes, end, what)?.0 {
         None => Ok(stop_unbegun(end, resumed)),
         Some(act) => Ok((
-            Some(DeskStep::StopAfter(end, act)),
-            Errand::Restart(end.node),
+            Some(DispatchStep::StopAfter(end, act)),
+            FollowUp::Restart(end.node),
         )),
     }
 }
@@ -435,54 +437,58 @@ fn prepare_height(
     nodes: &mut Vec<NodeBook>,
     node: Node,
     height: u32,
-) -> Result<Errand, Refusal>
-    ensures errand { IfOk result (λ r. r ≡ if_height height node) }
+) -> Result<FollowUp, Refusal>
+    ensures follow_up { IfOk result (λ r. r ≡ if_height height node) }
     ensures prepared { OnOk result (nodes.new.items ≡ with_height node height nodes.old.items) }
     ensures fails_for_memory_alone { IfErr result (λ e. e ≡ refusal.Memory) }
 {
     if height > 400_000_000 {
-        return Ok(Errand::None);
+        return Ok(FollowUp::None);
     }
     set_height(alloc, nodes, node, height)?;
-    Ok(Errand::Set(node))
+    Ok(FollowUp::Set(node))
 }
 
-/// What the books do before a step: the step of desks that it is, if any, and what they have to do behind it. 60 where
-/// there is no memory.
+/// What the books do before a step: the step of dispatchers that it is, if any, and what they have to do behind it. 60
+/// where there is no memory.
 pub(crate) fn prepare<K: ChannelKeys + Copy>(
     alloc: Global,
-    desks: &Nodes<K>,
+    dispatchers: &Nodes<K>,
     nodes: &mut Vec<NodeBook>,
     step: Step<K>,
-) -> Result<(Option<DeskStep<K>>, Errand), Refusal>
+) -> Result<(Option<DispatchStep<K>>, FollowUp), Refusal>
     ensures plain { IfOk result (λ r. r.0 ≡ plain K.ChannelKeys step
-        (record { desks = desks.now; nodes = nodes.old.items })) }
-    ensures errand { IfOk result (λ r. r.1 ≡ errand_of step (record { desks = desks.now; nodes = nodes.old.items })) }
+        (record { dispatchers = dispatchers.now; nodes = nodes.old.items })) }
+    ensures follow_up { IfOk result (λ r. r.1
+        ≡ follow_up_of step (record { dispatchers = dispatchers.now; nodes = nodes.old.items })) }
     ensures prepared { OnOk result (nodes.new.items ≡ prepared step
-        (record { desks = desks.now; nodes = nodes.old.items })) }
+        (record { dispatchers = dispatchers.now; nodes = nodes.old.items })) }
     ensures fails_for_memory_alone { IfErr result (λ e. e ≡ refusal.Memory) }
 {
     match step {
-        Step::Fees(node, fees) => Ok((Some(DeskStep::Fees(node, fees)), Errand::None)),
-        Step::Limits(node, limits) => Ok((Some(DeskStep::Limits(node, limits)), Errand::None)),
+        Step::Fees(node, fees) => Ok((Some(DispatchStep::Fees(node, fees)), FollowUp::None)),
+        Step::Limits(node, limits) => Ok((
+            Some(DispatchStep::Limits(node, limits)),
+            FollowUp::None,
+        )),
         Step::Policy(node, policy) => {
             set_policy(alloc, nodes, node, policy)?;
-            Ok((None, Errand::Set(node)))
+            Ok((None, FollowUp::Set(node)))
         }
         Step::Height(node, height) => Ok((None, prepare_height(alloc, nodes, node, height)?)),
         Step::Expect(node, invoice) => {
             expect(alloc, nodes, node, invoice)?;
-            Ok((None, Errand::Set(node)))
+            Ok((None, FollowUp::Set(node)))
         }
-        Step::Open(wish) => Ok((Some(DeskStep::Open(wish)), Errand::None)),
-        Step::Do(end, what) => prepare_act(alloc, desks, nodes, end, what),
-        Step::Down(end) => Ok((Some(DeskStep::Down(end)), Errand::Fall(end))),
-        Step::NoMemory(end, what) => prepare_halt(alloc, desks, nodes, end, what),
-        Step::Restart(node) => Ok((Some(DeskStep::Restart(node)), Errand::Restart(node))),
-        Step::StopBefore(end, what) => prepare_stop_before(alloc, desks, nodes, end, what),
-        Step::StopAfter(end, what) => prepare_stop_after(alloc, desks, nodes, end, what),
-        Step::Up(number) => Ok((Some(DeskStep::Up(number)), Errand::Meet(number))),
-        Step::Dispatch(end) => Ok((Some(DeskStep::Dispatch(end)), Errand::None)),
-        Step::Register(end, hook) => Ok((Some(DeskStep::Register(end, hook)), Errand::None)),
+        Step::Open(wish) => Ok((Some(DispatchStep::Open(wish)), FollowUp::None)),
+        Step::Do(end, what) => prepare_act(alloc, dispatchers, nodes, end, what),
+        Step::Down(end) => Ok((Some(DispatchStep::Down(end)), FollowUp::Fall(end))),
+        Step::NoMemory(end, what) => prepare_halt(alloc, dispatchers, nodes, end, what),
+        Step::Restart(node) => Ok((Some(DispatchStep::Restart(node)), FollowUp::Restart(node))),
+        Step::StopBefore(end, what) => prepare_stop_before(alloc, dispatchers, nodes, end, what),
+        Step::StopAfter(end, what) => prepare_stop_after(alloc, dispatchers, nodes, end, what),
+        Step::Up(number) => Ok((Some(DispatchStep::Up(number)), FollowUp::Meet(number))),
+        Step::Dispatch(end) => Ok((Some(DispatchStep::Dispatch(end)), FollowUp::None)),
+        Step::Register(end, hook) => Ok((Some(DispatchStep::Register(end, hook)), FollowUp::None)),
     }
 }

@@ -1,13 +1,13 @@
 //! What may happen to nodes.
 
+use ln_book_tables::Invoice;
 use ln_channel::Command;
 use ln_close::Fees;
-use ln_desks::{End, Node, Open};
 use ln_forward::Policy;
 use ln_hooks::Verdict;
 use ln_keys::ChannelKeys;
 use ln_log::Limits;
-use ln_tables::Invoice;
+use ln_world_dispatch::{End, Node, Open};
 
 /// What a channel end does.
 #[derive(Drop)]

@@ -9,25 +9,25 @@ use crate::conclude::{conclude, tell};
 use crate::node::NodeBook;
 use crate::prepare::prepare;
 use crate::step::Step;
-use ln_desks::{EndLine, Line, Serve, Step as DeskStep, World as Desks};
 use ln_keys::ChannelKeys;
 use ln_msgs::Refusal;
+use ln_world_dispatch::{EndLine, Line, Serve, Step as DispatchStep, World as Dispatchers};
 use std::alloc::Global;
 
-// Desks take the step that is theirs, if any, and tell of it. 60 where there is no memory, 70 where an end has no
+// Dispatchers take the step that is theirs, if any, and tell of it. 60 where there is no memory, 70 where an end has no
 // record as an act or the opening leaves it.
-fn move_desks<K: ChannelKeys + Copy, H: Serve>(
+fn move_dispatchers<K: ChannelKeys + Copy, H: Serve>(
     alloc: Global,
-    desks: &mut Desks<K, H>,
-    step: Option<DeskStep<K>>,
+    dispatchers: &mut Dispatchers<K, H>,
+    step: Option<DispatchStep<K>>,
 ) -> Result<Vec<Line>, Refusal>
-    requires { length desks.old.hooks.tables.items ≡ length desks.old.state.desks }
-    ensures moved { IfOk result (λ told. Moves K.ChannelKeys H.calls step desks.old.state
-        (map (λ t. (t.now.items, map (λ p. p.items) t.past.items)) desks.old.hooks.tables.items)
-        desks.old.hooks.offered.items desks.new.state
-        (map (λ t. (t.now.items, map (λ p. p.items) t.past.items)) desks.new.hooks.tables.items)
-        desks.new.hooks.offered.items told.items) }
-    ensures fails { IfErr result (λ e. MayFailBy K.ChannelKeys step e desks.old.state) }
+    requires { length dispatchers.old.hooks.tables.items ≡ length dispatchers.old.state.dispatchers }
+    ensures moved { IfOk result (λ told. Moves K.ChannelKeys H.calls step dispatchers.old.state
+        (map (λ t. (t.now.items, map (λ p. p.items) t.past.items)) dispatchers.old.hooks.tables.items)
+        dispatchers.old.hooks.offered.items dispatchers.new.state
+        (map (λ t. (t.now.items, map (λ p. p.items) t.past.items)) dispatchers.new.hooks.tables.items)
+        dispatchers.new.hooks.offered.items told.items) }
+    ensures fails { IfErr result (λ e. MayFailBy K.ChannelKeys step e dispatchers.old.state) }
 {
     let mut told = Vec::new(alloc);
     match step {
@@ -36,7 +36,7 @@ fn move_desks<K: ChannelKeys + Copy, H: Serve>(
             Ok(told)
         }
         Some(step) => {
-            desks.step(alloc, step, &mut told)?;
+            dispatchers.step(alloc, step, &mut told)?;
             Ok(told)
         }
     }
@@ -47,43 +47,43 @@ fn move_desks<K: ChannelKeys + Copy, H: Serve>(
 #[derive(Drop)]
 pub struct World<K: ChannelKeys + Copy, H: Serve> {
     /// Channels, and the dispatchers of their ends.
-    pub desks: Desks<K, H>,
+    pub dispatchers: Dispatchers<K, H>,
     /// The nodes of which something was said.
     pub nodes: Vec<NodeBook>,
 }
 
 impl<K: ChannelKeys + Copy, H: Serve> World<K, H> {
     ghost use Rattle.std.specs.Prelude.{◌≡◌, ◌<◌, ◌++◌, ◌∷◌, [], length, map, Some, true, OnOk, IfOk, IfErr};
-    ghost use Rattle.ln_channels.specs.World as channels;
-    ghost use Rattle.ln_desks.specs.World as desks;
+    ghost use Rattle.ln_world_channels.specs.World as channels;
+    ghost use Rattle.ln_world_dispatch.specs.World as dispatchers;
     ghost use Rattle.ln_world.specs.World.{empty, MayFail};
     ghost use Rattle.ln_world.specs.Hooked.{Steps, HasRun, RunMayFail};
 
     /// Nothing was set, no channel is open, and these hooks were handed in. 60 where there is no memory.
     pub fn new(alloc: Global, hooks: Vec<H>) -> Result<World<K, H>, Refusal>
-        ensures desks { IfOk result (λ w. w.desks.state ≡ desks.empty (length hooks.items)) }
+        ensures dispatchers { IfOk result (λ w. w.dispatchers.state ≡ dispatchers.empty (length hooks.items)) }
         ensures nodes { IfOk result (λ w. w.nodes.items ≡ []) }
-        ensures no_tables { IfOk result (λ w. w.desks.hooks.tables.items ≡ []) }
-        ensures offered { IfOk result (λ w. w.desks.hooks.offered.items ≡ map Some hooks.items) }
+        ensures no_tables { IfOk result (λ w. w.dispatchers.hooks.tables.items ≡ []) }
+        ensures offered { IfOk result (λ w. w.dispatchers.hooks.offered.items ≡ map Some hooks.items) }
         ensures fails_for_memory_alone { IfErr result (λ e. e ≡ refusal.Memory) }
     {
         Ok(World {
-            desks: Desks::new(alloc, hooks)?,
+            dispatchers: Dispatchers::new(alloc, hooks)?,
             nodes: Vec::new(alloc),
         })
     }
 
     /// What happens in a step, and what is told of it, which joins the lines.
     ///
-    /// Of channels it is as in `ln_channels::World::step`, of dispatchers and hooks as in `ln_desks::World::step`.
-    /// Beside that each node has a policy and a book of forwarded payments. Where an end is to decide, the book decides
-    /// the end's first undecided event, which its dispatcher has served, by what the hooks said of it; then, as where
-    /// an end is to take, the book hands out the first command for the end, a decision before all others, and hears
-    /// what the end answers. The book of an end that acts hears which removals of HTLCs the end has come to hold; that
-    /// of an end that loses its connection, what the end has kept; and where a node restarts or stops its book begins
-    /// anew with what the node's ends have. At last the book follows the node's ends: their short ids, and which of
-    /// them take payments. What can't be done changes nothing, and `Line::Idle` is told: so where the book has no
-    /// command, nothing waits to be decided, or somebody sends what is the book's to command.
+    /// Of channels it is as in `ln_world_channels::World::step`, of dispatchers and hooks as in
+    /// `ln_world_dispatch::World::step`. Beside that each node has a policy and a book of forwarded payments. Where an
+    /// end is to decide, the book decides the end's first undecided event, which its dispatcher has served, by what the
+    /// hooks said of it; then, as where an end is to take, the book hands out the first command for the end, a decision
+    /// before all others, and hears what the end answers. The book of an end that acts hears which removals of HTLCs
+    /// the end has come to hold; that of an end that loses its connection, what the end has kept; and where a node
+    /// restarts or stops its book begins anew with what the node's ends have. At last the book follows the node's ends:
+    /// their short ids, and which of them take payments. What can't be done changes nothing, and `Line::Idle` is told:
+    /// so where the book has no command, nothing waits to be decided, or somebody sends what is the book's to command.
     ///
     /// Errors: 60 where there is no memory; 70 where an end has no record as an act or the opening leaves it.
     pub fn step(
@@ -92,27 +92,27 @@ impl<K: ChannelKeys + Copy, H: Serve> World<K, H> {
         step: Step<K>,
         lines: &mut Vec<Line>,
     ) -> Result<(), Refusal>
-        requires { length self.old.desks.hooks.tables.items ≡ length self.old.desks.state.desks }
+        requires { length self.old.dispatchers.hooks.tables.items ≡ length self.old.dispatchers.state.dispatchers }
         ensures stepped { OnOk result (Steps K.ChannelKeys H.calls step
-            (record { desks = self.old.desks.state; nodes = self.old.nodes.items })
-            (map (λ t. (t.now.items, map (λ p. p.items) t.past.items)) self.old.desks.hooks.tables.items)
-            self.old.desks.hooks.offered.items
-            (record { desks = self.new.desks.state; nodes = self.new.nodes.items })
-            (map (λ t. (t.now.items, map (λ p. p.items) t.past.items)) self.new.desks.hooks.tables.items)
-            self.new.desks.hooks.offered.items lines.old.items lines.new.items) }
+            (record { dispatchers = self.old.dispatchers.state; nodes = self.old.nodes.items })
+            (map (λ t. (t.now.items, map (λ p. p.items) t.past.items)) self.old.dispatchers.hooks.tables.items)
+            self.old.dispatchers.hooks.offered.items
+            (record { dispatchers = self.new.dispatchers.state; nodes = self.new.nodes.items })
+            (map (λ t. (t.now.items, map (λ p. p.items) t.past.items)) self.new.dispatchers.hooks.tables.items)
+            self.new.dispatchers.hooks.offered.items lines.old.items lines.new.items) }
         ensures fails { IfErr result (λ e. MayFail K.ChannelKeys step e
-            (record { desks = self.old.desks.state; nodes = self.old.nodes.items })) }
+            (record { dispatchers = self.old.dispatchers.state; nodes = self.old.nodes.items })) }
     {
-        let (plain, errand) = prepare(alloc, &self.desks.state, &mut self.nodes, step)?;
-        let told = move_desks(alloc, &mut self.desks, plain)?;
+        let (plain, follow_up) = prepare(alloc, &self.dispatchers.state, &mut self.nodes, step)?;
+        let told = move_dispatchers(alloc, &mut self.dispatchers, plain)?;
         conclude(
             alloc,
-            &self.desks.state,
+            &self.dispatchers.state,
             &mut self.nodes,
-            errand,
+            follow_up,
             told.as_slice(),
         )?;
-        tell(errand, told.as_slice(), lines)
+        tell(follow_up, told.as_slice(), lines)
     }
 
     /// A world behind these steps, one after the other, with these hooks, which steps name by their places in the list;
@@ -128,9 +128,9 @@ impl<K: ChannelKeys + Copy, H: Serve> World<K, H> {
         lines: &mut Vec<Line>,
     ) -> Result<World<K, H>, Refusal>
         ensures has_run { IfOk result (λ w. HasRun K.ChannelKeys H.calls hooks.items steps.items
-            (record { desks = w.desks.state; nodes = w.nodes.items })
-            (map (λ t. (t.now.items, map (λ p. p.items) t.past.items)) w.desks.hooks.tables.items)
-            w.desks.hooks.offered.items lines.old.items lines.new.items) }
+            (record { dispatchers = w.dispatchers.state; nodes = w.nodes.items })
+            (map (λ t. (t.now.items, map (λ p. p.items) t.past.items)) w.dispatchers.hooks.tables.items)
+            w.dispatchers.hooks.offered.items lines.old.items lines.new.items) }
         ensures fails { IfErr result (λ e. RunMayFail K.ChannelKeys (length hooks.items) steps.items e) }
     {
         let mut world: World<K, H> = World::new(alloc, hooks)?;
@@ -147,19 +147,20 @@ impl<K: ChannelKeys + Copy, H: Serve> World<K, H> {
         lines: &mut Vec<Line>,
     ) -> Result<World<K, H>, Refusal>
         ensures has_run { IfOk result (λ w. HasRun K.ChannelKeys H.calls [] steps.items
-            (record { desks = w.desks.state; nodes = w.nodes.items })
-            (map (λ t. (t.now.items, map (λ p. p.items) t.past.items)) w.desks.hooks.tables.items)
-            w.desks.hooks.offered.items lines.old.items lines.new.items) }
+            (record { dispatchers = w.dispatchers.state; nodes = w.nodes.items })
+            (map (λ t. (t.now.items, map (λ p. p.items) t.past.items)) w.dispatchers.hooks.tables.items)
+            w.dispatchers.hooks.offered.items lines.old.items lines.new.items) }
         ensures fails { IfErr result (λ e. RunMayFail K.ChannelKeys 0 steps.items e) }
     {
         World::run_with(alloc, steps, Vec::new(alloc), lines)
     }
 
-    /// Where the ends of all channels stand, as `ln_channels::World::end_lines` tells it. 60 where there is no memory.
+    /// Where the ends of all channels stand, as `ln_world_channels::World::end_lines` tells it. 60 where there is no
+    /// memory.
     pub fn end_lines(&self, alloc: Global) -> Result<Vec<EndLine>, Refusal>
-        ensures lines { IfOk result (λ ls. ls.items ≡ channels.end_lines self.now.desks.state.channels) }
+        ensures lines { IfOk result (λ ls. ls.items ≡ channels.end_lines self.now.dispatchers.state.channels) }
         ensures fails_for_memory_alone { IfErr result (λ e. e ≡ refusal.Memory) }
     {
-        self.desks.end_lines(alloc)
+        self.dispatchers.end_lines(alloc)
     }
 }

@@ -1,7 +1,7 @@
 use Rattle.std.proofs.Common.{◌≡◌, ◌∙◌, sym, subst, Option, Some, None, Err, IfOk}
 use Rattle.ln_forward.specs.declared.failure.Failure.{Failure}
 use Rattle.ln_forward.specs.Checks.{answer_of}
-use Rattle.ln_tables.specs.declared.entry.Invoice.{Invoice}
+use Rattle.ln_book_tables.specs.declared.entry.Invoice.{Invoice}
 use Rattle.ln_book.specs.Commands.{Services, services_of}
 use Rattle.ln_book.specs.Marks.{failed, final_mark}
 use Rattle.ln_book.proofs.marks.taken.Goals as goal

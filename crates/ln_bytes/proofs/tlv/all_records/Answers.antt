@@ -9,7 +9,7 @@ loop-rest-smaller c =
 
 pub loop-rest-preserved : goal.loop-rest-preserved
 loop-rest-preserved c =
-    rw (c.in_ok-push.ensures.items, c.new-value.ensures, c.in_ok-from_slice.ensures.items)
+    rw (c.in_ok-push.ensures.items, c.in_ok-value.ensures)
     (goes_on c.args.known_even.now c.args.bytes.now c.loop-rest.records.items c.loop-rest.before c.loop-rest.rest.now
     (record { typ = c.in_ok-typ.typ; value = c.in_ok-typ.value.now })
     c.in_ok-typ.after.now c.loop-rest.invariant c.in_ok-typ.ensures)

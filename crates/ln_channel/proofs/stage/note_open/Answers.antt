@@ -4,5 +4,5 @@ use Rattle.ln_channel.proofs.stage.note_open.Goals as goal
 
 pub returns-clause-moves : goal.returns-clause-moves
 returns-clause-moves c = λ e s.
-    moves_so _ c.args.line (note_row c.args.command e) c.note.result c.args.channel.now c.note.new.self
+    moves_so _ c.args.connection (note_row c.args.command e) c.note.result c.args.channel.now c.note.new.self
     (c.note.ensures.makes e s)

@@ -1,5 +1,5 @@
 use Rattle.std.proofs.Common.{◌∙◌, ap, subst}
-use Rattle.ln_log.specs.Told.{told_of}
+use Rattle.ln_log.specs.RecordForm.{record_form_of}
 use Rattle.ln_close.specs.declared.closing.Closing.{Closing}
 use Rattle.ln_channel.specs.End.{End, IsSound}
 use Rattle.ln_link.specs.Record.{base_of, window_of}
@@ -18,7 +18,7 @@ returns-clause-updates c = λ e s.
     }) e c.in_ok-own.own.items c.in_ok-received.received.items (subst IsSound s c.log_of-log.ensures.fits_together)
     (c.pairs_of.ensures.can_be_restored l log)
     (c.in_ok-base_of.ensures.base l log
-    ∙ ap (λ (x : Closing). base_of (record (told_of l.first l) { role = x.role })) closing)
+    ∙ ap (λ (x : Closing). base_of (record (record_form_of l.first l) { role = x.role })) closing)
     (c.window_of.ensures
     ∙ ap (λ (x : Closing). window_of x.role c.in_ok-own.own.items c.in_ok-received.received.items) closing)
     (c.in_ok-own.ensures.updates l log) (c.in_ok-received.ensures.updates l log) (c.pairs_of.ensures.pairs l log)

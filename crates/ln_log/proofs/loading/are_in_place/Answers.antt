@@ -1,5 +1,5 @@
 use Rattle.std.proofs.Common.{arith}
-use Rattle.ln_log.specs.Told.{AreInPlace}
+use Rattle.ln_log.specs.RecordForm.{AreInPlace}
 use Rattle.ln_log.proofs.Readable.{refuted, no}
 use Rattle.ln_log.proofs.Restored.{led_so}
 use Rattle.ln_log.proofs.loading.are_in_place.Goals as goal
@@ -24,7 +24,7 @@ pub returns-then-are_offered : goal.returns-then-are_offered
 returns-then-are_offered c = (
   (λ e. record {
     funds = c.has_funds.ensures.0 c.if-not-has_funds.false;
-    base = led_so _ _ _ _ _ _ _ _ c.as_slice-own_lives.ensures.value c.as_slice-peer_lives.ensures.value
+    base = led_so _ _ _ _ _ _ _ _ c.as_slice-own_live_htlcs.ensures.value c.as_slice-peer_live_htlcs.ensures.value
         (c.may_be_led_to.ensures.0 c.if-not-may_be_led_to.false);
     counts = c.counts_fit.ensures.0 c.if-not-counts_fit.false;
     own_ids = (c.are_offered.ensures.0 c.if-are_offered.true).0;

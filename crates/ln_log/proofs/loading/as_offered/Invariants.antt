@@ -1,5 +1,5 @@
 use Rattle.std.proofs.Common.{◌≡◌, ◌++◌, drop}
-use Rattle.ln_log.specs.Told.{as_offered}
+use Rattle.ln_log.specs.RecordForm.{as_offered}
 use Rattle.ln_log.proofs.loading.as_offered.Given as goal
 
 -- what is there and what is still to come

@@ -2,10 +2,10 @@ use Rattle.std.proofs.Common.{ℕ, List}
 use Rattle.ln_keys.specs.declared.toy_keys.ToyKeys.{ToyKeys}
 use Rattle.ln_keys.specs.Toy.{toy_signer}
 use Rattle.ln_hooks.specs.declared.verdict.Verdict.{Verdict}
-use Rattle.ln_channels.specs.Promises.{Headline, NoneRefused, AllTaken, OneFee, Agrees}
-use Rattle.ln_channels.specs.Promises.{AnswersShutdown, MarksAgree, BothClose, DoExactly}
-use Rattle.ln_channels.specs.Longest.{BasesAreLongest}
-use Rattle.ln_channels.specs.Signing.{SignCovered}
+use Rattle.ln_world_channels.specs.Promises.{Headline, NoneRefused, AllTaken, OneFee, Agrees}
+use Rattle.ln_world_channels.specs.Promises.{AnswersShutdown, MarksAgree, BothClose, DoExactly}
+use Rattle.ln_world_channels.specs.Longest.{BasesAreLongest}
+use Rattle.ln_world_channels.specs.Signing.{SignCovered}
 use Rattle.ln_world.specs.World.{World, empty, run}
 use Rattle.ln_world.specs.Promises.{OfEach}
 use Rattle.ln_script.specs.Keys.{toy}

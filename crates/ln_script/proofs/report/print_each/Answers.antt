@@ -1,6 +1,6 @@
 use Rattle.std.proofs.lemmas.Result.{err_from_is_err_and}
 use Rattle.std.proofs.Common.{rules, map, length, sym, ap, ◌∙◌, arith}
-use Rattle.ln_desks.proofs.Running.{as_many, none_left}
+use Rattle.ln_world_dispatch.proofs.Running.{as_many, none_left}
 use Rattle.ln_script.proofs.Telling.{ahead_first, ahead_one, ahead_end, ahead_stops, as_many_stand}
 use Rattle.ln_script.proofs.report.print_each.Goals as goal
 
@@ -13,7 +13,7 @@ loop-step-init g c = record {
 
 pub print_step-requires : goal.print_step-requires
 print_step-requires g c =
-    as_many (λ t. (t.now.items, map (λ p. p.items) t.past.items)) c.loop-step.world.desks.hooks.tables.items _
+    as_many (λ t. (t.now.items, map (λ p. p.items) t.past.items)) c.loop-step.world.dispatchers.hooks.tables.items _
     (as_many_stand g.H.Serve.calls _ c.loop-step.invariant.ahead.stand)
 
 pub loop-step-preserved : goal.loop-step-preserved

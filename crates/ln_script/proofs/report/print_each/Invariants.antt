@@ -9,14 +9,14 @@ abbrev pub invariant-loop-step : goal.invariant-loop-step
 invariant-loop-step g l = record {
   ahead : Ahead g.H.Serve.calls (failures_of l.fn.writer) (into_iter_items l.step-iterator)
       (into_iter_items l.initial.step-iterator) (record {
-        world = record { desks = l.world.desks.state; nodes = l.world.nodes.items };
-        tables = map (λ t. (t.now.items, map (λ p. p.items) t.past.items)) l.world.desks.hooks.tables.items;
-        left = l.world.desks.hooks.offered.items;
+        world = record { dispatchers = l.world.dispatchers.state; nodes = l.world.nodes.items };
+        tables = map (λ t. (t.now.items, map (λ p. p.items) t.past.items)) l.world.dispatchers.hooks.tables.items;
+        left = l.world.dispatchers.hooks.offered.items;
         written = g.W.Write.contents (inner_of l.writer);
       }) (record {
-        world = record { desks = l.fn.world.desks.state; nodes = l.fn.world.nodes.items };
-        tables = map (λ t. (t.now.items, map (λ p. p.items) t.past.items)) l.fn.world.desks.hooks.tables.items;
-        left = l.fn.world.desks.hooks.offered.items;
+        world = record { dispatchers = l.fn.world.dispatchers.state; nodes = l.fn.world.nodes.items };
+        tables = map (λ t. (t.now.items, map (λ p. p.items) t.past.items)) l.fn.world.dispatchers.hooks.tables.items;
+        left = l.fn.world.dispatchers.hooks.offered.items;
         written = g.W.Write.contents (inner_of l.fn.writer);
       });
   failures : failures_of l.fn.writer ≤ failures_of l.writer;

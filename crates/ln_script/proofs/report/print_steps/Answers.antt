@@ -7,21 +7,21 @@ use Rattle.ln_script.proofs.report.print_steps.Goals as goal
 pub print_each-requires : goal.print_each-requires
 print_each-requires g c =
     all_stand g.H.Serve.calls c.args.hooks.items [] _ _
-    (begun g.H.Serve.calls c.args.hooks.items _ _ _ _ _ _ c.in_ok-world.ensures.desks c.in_ok-world.ensures.nodes
+    (begun g.H.Serve.calls c.args.hooks.items _ _ _ _ _ _ c.in_ok-world.ensures.dispatchers c.in_ok-world.ensures.nodes
     c.in_ok-world.ensures.no_tables c.in_ok-world.ensures.offered)
 
 pub returns-clause-prints_it : goal.returns-clause-prints_it
 returns-clause-prints_it g c =
     told_all g.H.Serve.calls c.args.hooks.items c.args.steps.items c.args.steps.items _ _ _ _ _ refl
     (told_each g.H.Serve.calls c.args.hooks.items [] c.args.steps.items _ _ _
-    (begun g.H.Serve.calls c.args.hooks.items _ _ _ _ _ _ c.in_ok-world.ensures.desks c.in_ok-world.ensures.nodes
+    (begun g.H.Serve.calls c.args.hooks.items _ _ _ _ _ _ c.in_ok-world.ensures.dispatchers c.in_ok-world.ensures.nodes
     c.in_ok-world.ensures.no_tables c.in_ok-world.ensures.offered)
     c.in_ok-print_each.ensures.prints_it)
 
 pub returns-in_err-print_each-clause-front : goal.returns-in_err-print_each-clause-front
 returns-in_err-print_each-clause-front g c =
     on_err_so _ _ (all_stop g.H.Serve.calls c.args.hooks.items c.args.steps.items _ _ _ _ _ _
-    (begun g.H.Serve.calls c.args.hooks.items _ _ _ _ _ _ c.in_ok-world.ensures.desks c.in_ok-world.ensures.nodes
+    (begun g.H.Serve.calls c.args.hooks.items _ _ _ _ _ _ c.in_ok-world.ensures.dispatchers c.in_ok-world.ensures.nodes
     c.in_ok-world.ensures.no_tables c.in_ok-world.ensures.offered)
     c.in_err-print_each.ensures.stops).0
 
@@ -29,7 +29,7 @@ pub returns-in_err-print_each-clause-cause : goal.returns-in_err-print_each-clau
 returns-in_err-print_each-clause-cause g c =
     let p = err_from_is_err_and c.from_residual-in_err-print_each.result c.from_residual-in_err-print_each.ensures.1 in
     rw (p.1, p.2) (all_stop g.H.Serve.calls c.args.hooks.items c.args.steps.items _ _ _ _ _ _
-    (begun g.H.Serve.calls c.args.hooks.items _ _ _ _ _ _ c.in_ok-world.ensures.desks c.in_ok-world.ensures.nodes
+    (begun g.H.Serve.calls c.args.hooks.items _ _ _ _ _ _ c.in_ok-world.ensures.dispatchers c.in_ok-world.ensures.nodes
     c.in_ok-world.ensures.no_tables c.in_ok-world.ensures.offered)
     c.in_err-print_each.ensures.stops).1
 

@@ -11,7 +11,8 @@ use Rattle.ln_script.proofs.running.print_lines.Goals as goal
 pub loop-number-init : goal.loop-number-init
 loop-number-init g c = record {
   so_far = no_lines g.H.Serve.calls c.args.hooks.items (texts c.args.lines.now) _ _
-      (begun g.H.Serve.calls c.args.hooks.items _ _ _ _ _ _ c.in_ok-world.ensures.desks c.in_ok-world.ensures.nodes
+      (begun g.H.Serve.calls c.args.hooks.items _ _ _ _ _ _ c.in_ok-world.ensures.dispatchers
+      c.in_ok-world.ensures.nodes
       c.in_ok-world.ensures.no_tables c.in_ok-world.ensures.offered);
   failures = omega arith;
 }

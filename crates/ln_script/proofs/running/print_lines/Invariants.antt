@@ -9,9 +9,9 @@ abbrev pub invariant-loop-number : goal.invariant-loop-number
 invariant-loop-number g l = record {
   so_far : LinesTold g.H.Serve.calls l.fn.hooks.items (texts l.fn.lines) l.number l.place
       (g.W.Write.contents (inner_of l.fn.writer)) (record {
-        world = record { desks = l.world.desks.state; nodes = l.world.nodes.items };
-        tables = map (λ t. (t.now.items, map (λ p. p.items) t.past.items)) l.world.desks.hooks.tables.items;
-        left = l.world.desks.hooks.offered.items;
+        world = record { dispatchers = l.world.dispatchers.state; nodes = l.world.nodes.items };
+        tables = map (λ t. (t.now.items, map (λ p. p.items) t.past.items)) l.world.dispatchers.hooks.tables.items;
+        left = l.world.dispatchers.hooks.offered.items;
         written = g.W.Write.contents (inner_of l.writer);
       });
   failures : failures_of l.fn.writer ≤ failures_of l.writer;

@@ -9,7 +9,8 @@ use Rattle.ln_switch.proofs.laws.an_end_takes_payments_where_it_may_offer.Goals 
 
 pub returns : goal.returns
 returns g c l e a free =
-    ap (λ b. not l.halted && (is_none l.failure && (not (is_down l.line) && b)))
-    (no-fault e.marks.ready_sent e.marks.ready_received e.closing.shut e.closing.peer_shut (is_none e.closing.closed)
+    ap (λ b. not l.halted && (is_none l.failure && (not (is_down l.connection) && b)))
+    (no-fault e.readiness.ready_sent e.readiness.ready_received e.closing.shut e.closing.peer_shut
+    (is_none e.closing.closed)
     ∙ sym (ap (λ z. is_none (cond (not (is_ready e)) (Some refusal.NotReady)
     (cond z (Some refusal.NumbersSpent) (shut_by_either e))) && is_none e.closing.closed) free))

@@ -1,7 +1,7 @@
 use Rattle.std.proofs.Common.{sym, ap, ◌∙◌}
 use Rattle.std.specs.Option.{option_copied}
-use Rattle.ln_channels.proofs.Moving.{on_ok}
-use Rattle.ln_channels.specs.World.{World as Channels}
+use Rattle.ln_world_channels.proofs.Moving.{on_ok}
+use Rattle.ln_world_channels.specs.World.{World as Channels}
 use Rattle.ln_world.specs.Node.{with_book}
 use Rattle.ln_world.specs.Follow.{followed}
 use Rattle.ln_world.specs.World.{dropped, fallen, link_at}
@@ -13,8 +13,9 @@ returns-clause-concluded g c =
     let there = sym (ap (λ (v : Channels _). link_at c.args.end v.channels) c.channels.ensures)
     ∙ sym c.link_at.ensures ∙ ap option_copied c.in-Some.is in
     on_ok c.drop_at.result (λ e. changes c.args.end.node
-    (λ x. followed c.args.desks.now.channels.channels (with_book (dropped c.args.end c.in-Some.link.now x.book) x))
+    (λ x. followed c.args.dispatchers.now.channels.channels (with_book
+    (dropped c.args.end c.in-Some.link.now x.book) x))
     c.args.nodes.now.items _ c.in_ok-i.i _ _ c.in_ok-i.ensures.same c.in_ok-i.ensures.place
-    (e ∙ ap (λ x. followed c.args.desks.now.channels.channels
+    (e ∙ ap (λ x. followed c.args.dispatchers.now.channels.channels
     (with_book (dropped c.args.end c.in-Some.link.now x.book) x)) c.index_mut.ensures.value)
-    ∙ sym (ap (λ o. fallen c.args.end c.args.desks.now o c.args.nodes.now.items) there)) c.drop_at.ensures.dropped
+    ∙ sym (ap (λ o. fallen c.args.end c.args.dispatchers.now o c.args.nodes.now.items) there)) c.drop_at.ensures.dropped

@@ -1,5 +1,5 @@
 use Rattle.std.proofs.Common.{ap, ◌∙◌}
-use Rattle.ln_channels.proofs.Moving.{on_ok}
+use Rattle.ln_world_channels.proofs.Moving.{on_ok}
 use Rattle.ln_world.specs.Node.{with_book}
 use Rattle.ln_world.specs.Follow.{followed}
 use Rattle.ln_world.specs.World.{unanswered}
@@ -9,8 +9,8 @@ use Rattle.ln_world.proofs.conclude.conclude_halt.Goals as goal
 pub returns-clause-concluded : goal.returns-clause-concluded
 returns-clause-concluded g c =
     on_ok c.halt_end.result (λ e. changes c.args.end.node
-    (λ x. followed c.args.desks.now.channels.channels (with_book (unanswered c.args.end c.args.is_out x.book) x))
+    (λ x. followed c.args.dispatchers.now.channels.channels (with_book (unanswered c.args.end c.args.is_out x.book) x))
     c.args.nodes.now.items _ c.in_ok-i.i _ _ c.in_ok-i.ensures.same c.in_ok-i.ensures.place
-    (e ∙ ap (λ x. followed c.args.desks.now.channels.channels
+    (e ∙ ap (λ x. followed c.args.dispatchers.now.channels.channels
     (with_book (unanswered c.args.end c.args.is_out x.book) x))
     c.index_mut.ensures.value)) c.halt_end.ensures.halted

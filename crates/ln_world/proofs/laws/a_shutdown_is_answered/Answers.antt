@@ -1,4 +1,4 @@
-use Rattle.ln_channels.proofs.Promised.{answered}
+use Rattle.ln_world_channels.proofs.Promised.{answered}
 use Rattle.ln_world.proofs.Plains.{of_each}
 use Rattle.ln_world.proofs.laws.a_shutdown_is_answered.Goals as goal
 

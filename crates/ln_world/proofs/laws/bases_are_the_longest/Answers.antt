@@ -1,4 +1,4 @@
-use Rattle.ln_channels.proofs.Longest.{bases_are_longest}
+use Rattle.ln_world_channels.proofs.Longest.{bases_are_longest}
 use Rattle.ln_world.proofs.Plains.{of_each}
 use Rattle.ln_world.proofs.laws.bases_are_the_longest.Goals as goal
 

@@ -1,7 +1,7 @@
 use Rattle.std.proofs.Common.{sym, subst}
-use Rattle.ln_channels.specs.World as channels
-use Rattle.ln_channels.specs.Setup.{all_setups, OpensAsSet}
-use Rattle.ln_channels.proofs.SetUp.{open_as_set}
+use Rattle.ln_world_channels.specs.World as channels
+use Rattle.ln_world_channels.specs.Setup.{all_setups, OpensAsSet}
+use Rattle.ln_world_channels.proofs.SetUp.{open_as_set}
 use Rattle.ln_world.specs.Promises.{channel_steps}
 use Rattle.ln_world.proofs.Plains.{ran_channels}
 use Rattle.ln_world.proofs.laws.channels_open_as_set.Goals as goal

@@ -1,4 +1,4 @@
-use Rattle.ln_channels.proofs.Promised.{one_fee}
+use Rattle.ln_world_channels.proofs.Promised.{one_fee}
 use Rattle.ln_world.proofs.Plains.{of_each}
 use Rattle.ln_world.proofs.laws.closed_at_one_fee.Goals as goal
 

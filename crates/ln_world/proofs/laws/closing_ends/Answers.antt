@@ -1,4 +1,4 @@
-use Rattle.ln_channels.proofs.Promised.{both_close}
+use Rattle.ln_world_channels.proofs.Promised.{both_close}
 use Rattle.ln_world.proofs.Plains.{of_each}
 use Rattle.ln_world.proofs.laws.closing_ends.Goals as goal
 

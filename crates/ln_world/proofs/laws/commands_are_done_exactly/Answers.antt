@@ -1,4 +1,4 @@
-use Rattle.ln_channels.proofs.Promised.{do_exactly}
+use Rattle.ln_world_channels.proofs.Promised.{do_exactly}
 use Rattle.ln_world.proofs.Plains.{of_each}
 use Rattle.ln_world.proofs.laws.commands_are_done_exactly.Goals as goal
 

@@ -1,8 +1,8 @@
 use Rattle.std.proofs.Common.{sym, subst}
-use Rattle.ln_channels.specs.Promises as promise
-use Rattle.ln_channels.specs.Records as record_of
-use Rattle.ln_channels.specs.World as channels
-use Rattle.ln_channels.proofs.Recorded.{all_have}
+use Rattle.ln_world_channels.specs.Promises as promise
+use Rattle.ln_world_channels.specs.Records as record_of
+use Rattle.ln_world_channels.specs.World as channels
+use Rattle.ln_world_channels.proofs.Recorded.{all_have}
 use Rattle.ln_world.specs.Promises.{channel_steps}
 use Rattle.ln_world.proofs.Plains.{ran_channels, none_damaged}
 use Rattle.ln_world.proofs.WideEnds.{are_wide}

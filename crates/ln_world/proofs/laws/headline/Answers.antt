@@ -1,6 +1,6 @@
-use Rattle.ln_channels.proofs.Promised.{headline}
-use Rattle.ln_channels.proofs.Told.{none_adds_late}
-use Rattle.ln_desks.proofs.Desks.{calls_follow}
+use Rattle.ln_world_channels.proofs.Promised.{headline}
+use Rattle.ln_world_channels.proofs.Told.{none_adds_late}
+use Rattle.ln_world_dispatch.proofs.Dispatchers.{calls_follow}
 use Rattle.ln_world.specs.World.{empty, plains}
 use Rattle.ln_world.specs.Promises.{channel_steps}
 use Rattle.ln_world.proofs.Plains.{of_each}

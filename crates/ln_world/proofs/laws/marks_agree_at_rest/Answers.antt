@@ -1,4 +1,4 @@
-use Rattle.ln_channels.proofs.Promised.{marks_agree}
+use Rattle.ln_world_channels.proofs.Promised.{marks_agree}
 use Rattle.ln_world.proofs.Plains.{of_each}
 use Rattle.ln_world.proofs.laws.marks_agree_at_rest.Goals as goal
 

@@ -1,4 +1,4 @@
-use Rattle.ln_channels.proofs.Promised.{none_is_refused}
+use Rattle.ln_world_channels.proofs.Promised.{none_is_refused}
 use Rattle.ln_world.proofs.Plains.{of_each}
 use Rattle.ln_world.proofs.laws.never_refused.Goals as goal
 

@@ -1,4 +1,4 @@
-use Rattle.ln_channels.proofs.Promised.{all_taken}
+use Rattle.ln_world_channels.proofs.Promised.{all_taken}
 use Rattle.ln_world.proofs.Plains.{of_each}
 use Rattle.ln_world.proofs.laws.never_refused_where_fees_overlap.Goals as goal
 

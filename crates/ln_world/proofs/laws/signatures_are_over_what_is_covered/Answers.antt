@@ -1,4 +1,4 @@
-use Rattle.ln_channels.proofs.Promised.{sign_covered}
+use Rattle.ln_world_channels.proofs.Promised.{sign_covered}
 use Rattle.ln_world.proofs.Plains.{of_each}
 use Rattle.ln_world.proofs.laws.signatures_are_over_what_is_covered.Goals as goal
 

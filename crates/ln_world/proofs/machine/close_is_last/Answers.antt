@@ -1,4 +1,4 @@
-use Rattle.ln_channels.proofs.Told.{moves_last, told_last}
+use Rattle.ln_world_channels.proofs.Told.{moves_last, told_last}
 use Rattle.ln_world.specs.Promises.{channel_steps}
 use Rattle.ln_world.proofs.machine.close_is_last.Goals as goal
 

@@ -1,8 +1,8 @@
 use Rattle.std.proofs.Common.{sym, subst, None}
 use Rattle.ln_log.specs.Machine.{IsRun}
-use Rattle.ln_channels.specs.World as channels
-use Rattle.ln_channels.specs.Machine.{machine_of, history}
-use Rattle.ln_channels.proofs.Told.{may_be_made}
+use Rattle.ln_world_channels.specs.World as channels
+use Rattle.ln_world_channels.specs.Machine.{machine_of, history}
+use Rattle.ln_world_channels.proofs.Told.{may_be_made}
 use Rattle.ln_world.specs.Promises.{channel_steps}
 use Rattle.ln_world.proofs.Plains.{ran_channels}
 use Rattle.ln_world.proofs.machine.each_move_may_be_made.Goals as goal

@@ -1,4 +1,4 @@
-use Rattle.ln_channels.proofs.Told.{events_so}
+use Rattle.ln_world_channels.proofs.Told.{events_so}
 use Rattle.ln_world.specs.Promises.{channel_steps}
 use Rattle.ln_world.proofs.machine.events_are_told.Goals as goal
 

@@ -1,7 +1,7 @@
 use Rattle.std.proofs.Common.{sym, subst}
-use Rattle.ln_channels.specs.World as channels
-use Rattle.ln_channels.specs.Machine.{AreInStep}
-use Rattle.ln_channels.proofs.Told.{in_step_so}
+use Rattle.ln_world_channels.specs.World as channels
+use Rattle.ln_world_channels.specs.Machine.{AreInStep}
+use Rattle.ln_world_channels.proofs.Told.{in_step_so}
 use Rattle.ln_world.specs.Promises.{channel_steps}
 use Rattle.ln_world.specs.Promises.{events_of}
 use Rattle.ln_world.proofs.Plains.{ran_channels}

@@ -1,5 +1,5 @@
 use Rattle.std.proofs.Common.{◌++◌, length, List, [], ◌∷◌, Some, position, sym, ap, ◌∙◌}
-use Rattle.ln_channels.specs.WorldChannel.{is_node}
+use Rattle.ln_world_channels.specs.WorldChannel.{is_node}
 use Rattle.ln_world.specs.declared.node.NodeBook.{NodeBook}
 use Rattle.ln_world.proofs.Places.{there, joins, last_place}
 use Rattle.ln_world.proofs.node.place_for.Goals as goal

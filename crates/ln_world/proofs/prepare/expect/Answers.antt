@@ -1,5 +1,5 @@
-use Rattle.ln_channels.proofs.Moving.{on_ok}
-use Rattle.ln_tables.specs.declared.entry.Entry.TheVariants as entry
+use Rattle.ln_world_channels.proofs.Moving.{on_ok}
+use Rattle.ln_book_tables.specs.declared.entry.Entry.TheVariants as entry
 use Rattle.ln_history.specs.History.{with_entry}
 use Rattle.ln_world.proofs.Places.{books}
 use Rattle.ln_world.proofs.prepare.expect.Goals as goal

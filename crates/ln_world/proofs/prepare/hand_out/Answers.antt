@@ -1,6 +1,6 @@
 use Rattle.std.proofs.Common.{ap, ◌∙◌}
-use Rattle.ln_channels.proofs.Moving.{on_ok}
-use Rattle.ln_desks.proofs.Unhooked.{if_ok_so}
+use Rattle.ln_world_channels.proofs.Moving.{on_ok}
+use Rattle.ln_world_dispatch.proofs.Unhooked.{if_ok_so}
 use Rattle.ln_world.specs.declared.node.NodeBook.{NodeBook}
 use Rattle.ln_world.specs.World.{book_of, handed}
 use Rattle.ln_world.proofs.Places.{puts, reads}

@@ -1,7 +1,7 @@
 use Rattle.std.proofs.Common.{ap, sym, position, ◌∙◌}
-use Rattle.ln_channels.specs.WorldChannel.{is_node}
-use Rattle.ln_channels.proofs.Moving.{on_ok}
-use Rattle.ln_desks.proofs.Unhooked.{if_ok_so}
+use Rattle.ln_world_channels.specs.WorldChannel.{is_node}
+use Rattle.ln_world_channels.proofs.Moving.{on_ok}
+use Rattle.ln_world_dispatch.proofs.Unhooked.{if_ok_so}
 use Rattle.ln_world.specs.declared.node.NodeBook.{NodeBook}
 use Rattle.ln_world.specs.Node.{Book}
 use Rattle.ln_world.specs.World.{book_of, resuming, command_by, handed_or, handed_out}

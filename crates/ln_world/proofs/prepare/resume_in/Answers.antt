@@ -1,6 +1,6 @@
 use Rattle.std.proofs.Common.{ap, sym, refl, ◌∙◌}
-use Rattle.ln_channels.proofs.Moving.{on_ok}
-use Rattle.ln_desks.proofs.Unhooked.{if_ok_so}
+use Rattle.ln_world_channels.proofs.Moving.{on_ok}
+use Rattle.ln_world_dispatch.proofs.Unhooked.{if_ok_so}
 use Rattle.ln_world.specs.World.{command_by, handed_or}
 use Rattle.ln_world.proofs.Asking.{asks, hands, resumes}
 use Rattle.ln_world.proofs.prepare.resume_in.Goals as goal

@@ -1,4 +1,4 @@
-use Rattle.ln_tables.specs.declared.entry.Entry.TheVariants as entry
+use Rattle.ln_book_tables.specs.declared.entry.Entry.TheVariants as entry
 use Rattle.ln_history.specs.History.{with_entry}
 use Rattle.ln_world.proofs.Places.{books}
 use Rattle.ln_world.proofs.prepare.set_height.Goals as goal

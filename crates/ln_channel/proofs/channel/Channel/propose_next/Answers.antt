@@ -11,7 +11,7 @@ propose-requires c = λ d s.
       dance = c.self.inside.dance;
       closing = c.self.inside.closing;
       terms = c.self.inside.terms;
-      marks = c.self.inside.marks;
+      readiness = c.self.inside.readiness;
       ledger = c.self.inside.ledger;
     } in
     c.requires (with_dance d kept) (subst (λ (x : End). StandsFor x (with_dance d kept)) c.self.view_is
@@ -23,7 +23,7 @@ invariant_of-self c =
       dance = c.self.inside.dance;
       closing = c.self.inside.closing;
       terms = c.self.inside.terms;
-      marks = c.self.inside.marks;
+      readiness = c.self.inside.readiness;
       ledger = c.self.inside.ledger;
     } in
     sound kept c.propose.new.self c.propose.ensures.same_opening c.self.invariant

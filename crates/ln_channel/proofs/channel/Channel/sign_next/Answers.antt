@@ -11,7 +11,7 @@ invariant_of-self g c =
       dance = c.self.inside.dance;
       closing = c.self.inside.closing;
       terms = c.self.inside.terms;
-      marks = c.self.inside.marks;
+      readiness = c.self.inside.readiness;
       ledger = c.self.inside.ledger;
     } in
     sound kept c.sign.new.self c.sign.ensures.same_opening c.self.invariant

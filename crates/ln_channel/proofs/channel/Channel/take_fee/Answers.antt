@@ -16,7 +16,7 @@ returns-clause-makes g c = λ e s.
       dance = c.self.inside.dance;
       closing = x;
       terms = c.self.inside.terms;
-      marks = c.self.inside.marks;
+      readiness = c.self.inside.readiness;
       ledger = c.self.inside.ledger;
     } in
     let stands = ap k c.in_ok-answer.ensures.moves_as_stated

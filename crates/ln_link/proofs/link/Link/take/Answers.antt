@@ -1,7 +1,7 @@
 use Rattle.std.proofs.Common.{◌∙◌, refl, inl, inr, List}
 use Rattle.ln_channel.specs.declared.output.Output.{Output}
 use Rattle.ln_channel.specs.Step.{handled}
-use Rattle.ln_link.specs.Saving.{Shelf}
+use Rattle.ln_link.specs.Saving.{StoreView}
 use Rattle.ln_link.proofs.Saved.{handed_so, halted_so}
 use Rattle.ln_link.proofs.Refusing.{after_refusal_of}
 use Rattle.ln_link.proofs.link.Link.take.Goals as goal
@@ -24,11 +24,11 @@ returns-in-Err-clause-answers g c = λ l s.
 
 pub returns-in-Ok-finish-clause-answers : goal.returns-in-Ok-finish-clause-answers
 returns-in-Ok-finish-clause-answers g c = λ l s.
-    let before : Shelf = record {
+    let before : StoreView = record {
       records = g.S.RecordStore.records c.args.store.now;
       failed = g.S.RecordStore.failed c.args.store.now;
     } in
-    let behind : Shelf = record {
+    let behind : StoreView = record {
       records = g.S.RecordStore.records c.finish.new.store;
       failed = g.S.RecordStore.failed c.finish.new.store;
     } in
@@ -38,11 +38,11 @@ returns-in-Ok-finish-clause-answers g c = λ l s.
 
 pub returns-in-Err-finish-clause-answers : goal.returns-in-Err-finish-clause-answers
 returns-in-Err-finish-clause-answers g c = λ l s.
-    let before : Shelf = record {
+    let before : StoreView = record {
       records = g.S.RecordStore.records c.args.store.now;
       failed = g.S.RecordStore.failed c.args.store.now;
     } in
-    let behind : Shelf = record {
+    let behind : StoreView = record {
       records = g.S.RecordStore.records c.finish.new.store;
       failed = g.S.RecordStore.failed c.finish.new.store;
     } in

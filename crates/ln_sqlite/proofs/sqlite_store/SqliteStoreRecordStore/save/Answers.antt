@@ -19,7 +19,7 @@ pub returns-in-Ok-clause-keeps_the_table : goal.returns-in-Ok-clause-keeps_the_t
 returns-in-Ok-clause-keeps_the_table g c clean live was =
     subst (IsTableOf (state g.S.Store c.save_row.new.connection))
     (sym (c.in_ok-before.ensures.replaces_the_record
-    ∙ ap (λ b. map.insert c.args.self.now.copies c.args.id.now b) c.in_ok-kept.ensures.has_the_bytes))
+    ∙ ap (λ b. map.insert c.args.self.now.copies c.args.id.now b) c.in_ok-kept.ensures))
     (c.in-Ok.ensures.replaces_the_row clean c.args.self.now.copies was)
 
 pub returns-in-Ok-clause-leaves_one_at_a_stop : goal.returns-in-Ok-clause-leaves_one_at_a_stop

@@ -1,7 +1,7 @@
 use Rattle.std.proofs.Common.{rules, ◌++◌, ◌∷◌, [], map, refl, sym, ap, ◌∙◌}
 use Rattle.std.proofs.lemmas.Result.{err_from_is_err_and}
 use Rattle.ln_world.proofs.Running.{ran_none, ran_one, ran_many, has_run_all, may_fail_all, same_world}
-use Rattle.ln_desks.proofs.Running.{one_done, all_done, as_many, none_left}
+use Rattle.ln_world_dispatch.proofs.Running.{one_done, all_done, as_many, none_left}
 use Rattle.ln_world.proofs.world.World.run_with.Goals as goal
 
 pub loop-step-init : goal.loop-step-init
@@ -11,7 +11,7 @@ loop-step-init g c = (
     (
       refl,
       ran_none g.K.ChannelKeys g.H.Serve.calls c.args.hooks.items _ _ _ c.args.lines.now.items
-          (same_world _ _ _ c.in_ok-world.ensures.desks c.in_ok-world.ensures.nodes)
+          (same_world _ _ _ c.in_ok-world.ensures.dispatchers c.in_ok-world.ensures.nodes)
           (ap (λ l. map (λ t. (t.now.items, map (λ p. p.items) t.past.items)) l)
           c.in_ok-world.ensures.no_tables)
           c.in_ok-world.ensures.offered,
@@ -22,7 +22,7 @@ loop-step-init g c = (
 
 pub step-requires : goal.step-requires
 step-requires g c =
-    as_many (λ t. (t.now.items, map (λ p. p.items) t.past.items)) c.loop-step.world.desks.hooks.tables.items _
+    as_many (λ t. (t.now.items, map (λ p. p.items) t.past.items)) c.loop-step.world.dispatchers.hooks.tables.items _
     (ran_many g.K.ChannelKeys g.H.Serve.calls c.args.hooks.items _ _ _ _ _ _ c.loop-step.invariant.0.1.1)
 
 pub loop-step-preserved : goal.loop-step-preserved

@@ -10,7 +10,7 @@ invariant-loop-step g l =
     ((done : List (Step g.row.K.Denot g.K.ChannelKeys))
     × ((done ++ into_iter_items l.step-iterator ≡ into_iter_items l.initial.step-iterator)
     × Ran g.K.ChannelKeys g.H.Serve.calls l.fn.hooks.items done
-    (record { desks = l.world.desks.state; nodes = l.world.nodes.items })
-    (map (λ t. (t.now.items, map (λ p. p.items) t.past.items)) l.world.desks.hooks.tables.items)
-    l.world.desks.hooks.offered.items l.fn.lines.items l.lines.items))
+    (record { dispatchers = l.world.dispatchers.state; nodes = l.world.nodes.items })
+    (map (λ t. (t.now.items, map (λ p. p.items) t.past.items)) l.world.dispatchers.hooks.tables.items)
+    l.world.dispatchers.hooks.offered.items l.fn.lines.items l.lines.items))
     × (into_iter_len l.step-iterator ≡ length (into_iter_items l.step-iterator))

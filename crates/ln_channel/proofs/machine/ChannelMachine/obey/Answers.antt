@@ -1,0 +1,10 @@
+use Rattle.std.proofs.Common.{◌∙◌}
+use Rattle.ln_channel.specs.Step.{obeyed}
+use Rattle.ln_channel.proofs.Kept.{link_moves}
+use Rattle.ln_channel.proofs.machine.ChannelMachine.obey.Goals as goal
+
+pub returns-clause-moves : goal.returns-clause-moves
+returns-clause-moves g c = λ l stands.
+    let call = c.obey_open in
+    link_moves (λ k connection s. obeyed (g.K.ChannelKeys.signer k) connection c.args.command s) _ l c.in-Funded.channel
+    call.new.channel call.result (c.self.view_is ∙ stands) c.in-Funded.is call.ensures.moves

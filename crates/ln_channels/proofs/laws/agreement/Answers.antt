@@ -1,5 +1,0 @@
-use Rattle.ln_channels.proofs.Promised.{agrees}
-use Rattle.ln_channels.proofs.laws.agreement.Goals as goal
-
-pub returns : goal.returns
-returns g c = agrees g.K.ChannelKeys

@@ -1,5 +1,0 @@
-use Rattle.ln_channels.proofs.Promised.{one_fee}
-use Rattle.ln_channels.proofs.laws.closed_at_one_fee.Goals as goal
-
-pub returns : goal.returns
-returns g c = one_fee g.K.ChannelKeys

@@ -1,5 +1,0 @@
-use Rattle.ln_channels.proofs.Promised.{headline}
-use Rattle.ln_channels.proofs.laws.headline.Goals as goal
-
-pub returns : goal.returns
-returns g c = headline g.K.ChannelKeys

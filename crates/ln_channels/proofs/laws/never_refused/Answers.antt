@@ -1,5 +1,0 @@
-use Rattle.ln_channels.proofs.Promised.{none_is_refused}
-use Rattle.ln_channels.proofs.laws.never_refused.Goals as goal
-
-pub returns : goal.returns
-returns g c = none_is_refused g.K.ChannelKeys

@@ -1,5 +1,0 @@
-use Rattle.ln_channels.proofs.Promised.{all_taken}
-use Rattle.ln_channels.proofs.laws.never_refused_where_fees_overlap.Goals as goal
-
-pub returns : goal.returns
-returns g c = all_taken g.K.ChannelKeys

@@ -1,6 +1,0 @@
-use Rattle.ln_channels.proofs.Promised.{answered}
-use Rattle.ln_desks.proofs.Plains.{of_each}
-use Rattle.ln_desks.proofs.laws.a_shutdown_is_answered.Goals as goal
-
-pub returns : goal.returns
-returns g c = of_each g.K.ChannelKeys _ (answered g.K.ChannelKeys)

@@ -1,6 +1,0 @@
-use Rattle.ln_channels.proofs.Promised.{agrees}
-use Rattle.ln_desks.proofs.Plains.{of_each}
-use Rattle.ln_desks.proofs.laws.agreement.Goals as goal
-
-pub returns : goal.returns
-returns g c = of_each g.K.ChannelKeys _ (agrees g.K.ChannelKeys)

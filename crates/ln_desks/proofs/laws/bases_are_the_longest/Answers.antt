@@ -1,6 +1,0 @@
-use Rattle.ln_channels.proofs.Longest.{bases_are_longest}
-use Rattle.ln_desks.proofs.Plains.{of_each}
-use Rattle.ln_desks.proofs.laws.bases_are_the_longest.Goals as goal
-
-pub returns : goal.returns
-returns g c = of_each g.K.ChannelKeys _ (bases_are_longest g.K.ChannelKeys)

@@ -1,6 +1,0 @@
-use Rattle.ln_channels.proofs.Promised.{one_fee}
-use Rattle.ln_desks.proofs.Plains.{of_each}
-use Rattle.ln_desks.proofs.laws.closed_at_one_fee.Goals as goal
-
-pub returns : goal.returns
-returns g c = of_each g.K.ChannelKeys _ (one_fee g.K.ChannelKeys)

@@ -1,6 +1,0 @@
-use Rattle.ln_channels.proofs.Promised.{both_close}
-use Rattle.ln_desks.proofs.Plains.{of_each}
-use Rattle.ln_desks.proofs.laws.closing_ends.Goals as goal
-
-pub returns : goal.returns
-returns g c = of_each g.K.ChannelKeys _ (both_close g.K.ChannelKeys)

@@ -1,6 +1,0 @@
-use Rattle.ln_channels.proofs.Promised.{all_taken}
-use Rattle.ln_desks.proofs.Plains.{of_each}
-use Rattle.ln_desks.proofs.laws.never_refused_where_fees_overlap.Goals as goal
-
-pub returns : goal.returns
-returns g c = of_each g.K.ChannelKeys _ (all_taken g.K.ChannelKeys)

@@ -1,6 +1,0 @@
-use Rattle.ln_channels.proofs.Promised.{sign_covered}
-use Rattle.ln_desks.proofs.Plains.{of_each}
-use Rattle.ln_desks.proofs.laws.signatures_are_over_what_is_covered.Goals as goal
-
-pub returns : goal.returns
-returns g c = of_each g.K.ChannelKeys _ (sign_covered g.K.ChannelKeys)

@@ -1,4 +1,0 @@
-use Rattle.ln_desks.proofs.nodes.Nodes.join.Goals as goal
-
-pub invariant_of-self : goal.invariant_of-self
-invariant_of-self g c = c.open_desks.ensures.keep _ c.self.invariant

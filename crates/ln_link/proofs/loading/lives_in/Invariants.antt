@@ -1,8 +1,0 @@
-use Rattle.std.proofs.Common.{◌≡◌, [], drop}
-use Rattle.ln_link.specs.Loading.{lives_from}
-use Rattle.ln_link.proofs.loading.lives_in.Given as goal
-
--- behind those so far come those of the rest
-abbrev pub invariant-loop-htlc : goal.invariant-loop-htlc
-invariant-loop-htlc l =
-    lives_from l.side l.adds.items (drop l.htlc-index l.live) ≡ lives_from l.side [] l.live

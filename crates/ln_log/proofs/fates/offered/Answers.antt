@@ -1,6 +1,0 @@
-use Rattle.std.proofs.Common.{[]}
-use Rattle.ln_log.proofs.fates.offered.Goals as goal
-
-pub returns-clause-offers : goal.returns-clause-offers
-returns-clause-offers c =
-    c.in_ok-offer_all-2.ensures.offers c.args.lives.now (c.in_ok-offer_all.ensures.offers [] c.none-fates.ensures)

@@ -1,0 +1,72 @@
+-- What turns owe the book.
+use Rattle.std.proofs.Common.{◌≡◌, ◌++◌, ◌∷◌, [], ℕ, List, Bool, true, false, Option, Some, None, Result}
+use Rattle.std.proofs.Common.{refl, sym, ap, ◌∙◌}
+use Rattle.std.proofs.lemmas.List.{append_assoc}
+use Rattle.std.specs.Prelude.{not, ◌&&◌}
+use Rattle.ln_msgs.specs.declared.refusals.refusal.Refusal.{Refusal}
+use Rattle.ln_hooks.specs.declared.event.ChannelEvent.{ChannelEvent}
+use Rattle.ln_channel.specs.declared.command.Command.{Command}
+use Rattle.ln_channel.specs.declared.output.Output.{Output}
+use Rattle.ln_switch.specs.declared.saying.Saying.{Saying}
+use Rattle.ln_switch.specs.Saying.{took_one, answered}
+use Rattle.ln_switch.specs.Seen.{Seen, channel_of, next_htlc}
+use Rattle.ln_node_loops.specs.declared.item.Item.{Item}
+use Rattle.ln_node_loops.specs.declared.item.Item.TheVariants as item
+use Rattle.ln_node_loops.specs.declared.worker.Phase.{Phase}
+use Rattle.ln_node_loops.specs.Phase.{is_served}
+use Rattle.ln_switch.specs.Answers.{command_subject, answer_to}
+use Rattle.ln_node_loops.specs.Owed.{owed, asked, kept_if, settled_at, use_word}
+use Rattle.ln_node_loops.specs.Turns.{turn_of, says, drops, events, may_come}
+
+-- the three parts, one after the other
+pub in-parts : (x : Option Seen) (b : Bool) (es : List (ℕ × ChannelEvent)) (s one two end : List Saying)
+    → one ≡ s ++ kept_if b x → two ≡ one ++ settled_at x es → end ≡ two ++ use_word x → end ≡ s ++ owed x b es
+in-parts x b es s one two end first second third =
+    third ∙ ap (λ l. l ++ use_word x) (second ∙ ap (λ l. l ++ settled_at x es) first)
+    ∙ append_assoc (s ++ kept_if b x) (settled_at x es) (use_word x)
+    ∙ append_assoc s (kept_if b x) (settled_at x es ++ use_word x)
+
+-- whether what the end has kept is to be told
+drops-so : {W : Type 0} (i : Item W) (h : Bool) → drops i h ≡ (drops i false && not h)
+drops-so (item.Joined w) h = refl
+drops-so (item.Read m) h = refl
+drops-so item.Broken h = refl
+drops-so (item.Order c) h = refl
+drops-so item.Stop h = refl
+
+not-passed : {W : Type 0} (p : Phase) (i : Item W) (h : Bool) → is_served p i ≡ false → drops i h ≡ false
+not-passed p (item.Joined w) h e = refl
+not-passed p (item.Read m) h e = refl
+not-passed p item.Broken h e = cc
+not-passed p (item.Order c) h e = refl
+not-passed p item.Stop h e = refl
+
+module _ {S : Type 0} (halted : S → Bool) (seen : S → Option Seen) where
+  -- an item's turn
+  pub item-owes : {W : Type 0} (s s' : S) (p : Phase) (served : Bool) (i : Item W) (os : List Output)
+      (answer : Result (Unit {0}) Refusal) → is_served p i ≡ served → (served ≡ false → os ≡ [])
+      → owed (seen s') (drops i false && not (halted s')) (events os)
+      ≡ says halted seen s (turn_of served i os answer) s'
+  item-owes s s' p true i os answer at none = ap (λ b. owed (seen s') b (events os)) (sym (drops-so i (halted s')))
+  item-owes s s' p false i os answer at none =
+      ap (λ b. owed (seen s') b (events os)) (sym (drops-so i (halted s')) ∙ not-passed p i (halted s') at)
+      ∙ ap (λ l. owed (seen s') false (events l)) (none refl)
+
+pub item-comes : {W : Type 0} (served h : Bool) (i : Item W) (os : List Output) (answer : Result (Unit {0}) Refusal)
+    → may_come true h (turn_of served i os answer) ≡ true
+item-comes true h i os answer = refl
+item-comes false h i os answer = refl
+
+-- a command's, whose channel is that of the end before
+got : Option (List ℕ) → List ℕ
+got None = []
+got (Some c) = c
+
+pub asked-at : (x : Option Seen) (channel : List ℕ) (next : ℕ) (c : Command) (a : Result (Unit {0}) Refusal)
+    → Some channel ≡ channel_of x → next ≡ next_htlc x
+    → took_one channel c ∷ answered channel (answer_to (command_subject next c) a) ∷ [] ≡ asked x c a
+unfolding got
+asked-at None channel next c a e n = cc
+asked-at (Some x) channel next c a e n =
+    ap (λ d. took_one d c ∷ answered d (answer_to (command_subject next c) a) ∷ []) (ap got e)
+    ∙ ap (λ m. took_one x.end.dance.channel c ∷ answered x.end.dance.channel (answer_to (command_subject m c) a) ∷ []) n

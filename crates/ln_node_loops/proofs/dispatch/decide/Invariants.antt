@@ -1,0 +1,5 @@
+use Rattle.std.proofs.Common.{◌≡◌}
+use Rattle.ln_node_loops.proofs.dispatch.decide.Given as goal
+
+abbrev pub invariant-loop : goal.invariant-loop
+invariant-loop g l = g.B.Books.said l.book ≡ g.B.Books.said l.initial.book

@@ -1,0 +1,36 @@
+use Rattle.std.proofs.Common.{◌∙◌, refl, ap, ◌++◌, false}
+use Rattle.ln_switch.specs.Seen.{channel_of}
+use Rattle.ln_node_loops.specs.Turns.{fresh, last_of, tasks}
+use Rattle.ln_node_loops.specs.Owed.{owed}
+use Rattle.ln_node_loops.proofs.Running.{ran-none, ran-on, ran-mended}
+use Rattle.ln_node_loops.proofs.rounds.worker_loop.Goals as goal
+
+pub loop-init : goal.loop-init
+loop-init g c = ran-none _ _ _ _ _ _ _ _ _
+
+pub returns-then-take_one : goal.returns-then-take_one
+returns-then-take_one g c =
+    let told = c.pending-told.ensures in
+    record {
+      serves_all_and_tells_all = record {
+        mid = _;
+        same_stand = refl;
+        took_nothing = refl;
+        put_pending = c.put_events-work.ensures.put
+            ∙ ap (λ l. g.T.Sends.put c.args.work.tasks
+            ++ tasks (channel_of (g.E.End.seen (g.E.End.state c.args.work.worker.end)))
+            (fresh c.args.work.worker.last l)) told;
+        last_pending = c.put_events-work.ensures.last ∙ ap (λ l. last_of c.args.work.worker.last l) told;
+        told_pending = c.report_pending.ensures
+            ∙ ap (λ l. g.B.Books.said c.args.work.book
+            ++ owed (g.E.End.seen (g.E.End.state c.args.work.worker.end)) false l) (c.as_slice.ensures.value ∙ told);
+        ran = ran-on _ _ _ _ _ _ _ _ _ _ _ c.loop.invariant (ran-mended _ _ _ _ _ _ _ _ _ _ c.reload_if_halted.ensures
+            c.take_one.ensures.ran);
+        stopped = c.take_one.ensures.stops c.if-take_one.true;
+      };
+    }
+
+pub loop-preserved : goal.loop-preserved
+loop-preserved g c =
+    ran-on _ _ _ _ _ _ _ _ _ _ _ (ran-on _ _ _ _ _ _ _ _ _ _ _ c.loop.invariant
+    (ran-mended _ _ _ _ _ _ _ _ _ _ c.reload_if_halted.ensures c.take_one.ensures.ran)) c.obey_one.ensures

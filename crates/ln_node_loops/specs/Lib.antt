@@ -1,0 +1,15 @@
+pub mod Reads
+pub mod Served
+pub mod Kind
+pub mod Act
+pub mod Sent
+pub mod Connection
+pub mod Turn
+pub mod Phase
+pub mod Turns
+pub mod Course
+pub mod Wire
+pub mod Worker
+pub mod WorkerLoop
+pub mod Saved
+pub mod Owed

@@ -1,0 +1,91 @@
+-- How far the connection of a worker is (BOLT 1, "The init Message").
+use Rattle.std.specs.Prelude.{◌≡◌, ◌⊎◌, ◌==◌, ◌||◌, ℕ, List, Option, Some, None, Result, Ok, Err, Bool, true, false}
+use Rattle.std.specs.Prelude.{if◌then◌else◌}
+use Rattle.ln_msgs.specs.declared.messages.message.Message.{Message}
+use Rattle.ln_msgs.specs.declared.messages.message.Message.TheVariants as message
+use Rattle.ln_msgs.specs.declared.messages.setup.Init.{Init}
+use Rattle.ln_msgs.specs.Messages.Features.{IsAllKnown, HasUnknown}
+use Rattle.ln_msgs.specs.declared.refusals.refusal.Refusal.{Refusal}
+use Rattle.ln_msgs.specs.Refusals.Refusal.{refusal_number}
+use Rattle.ln_node_loops.specs.Connection.{Connection}
+use Rattle.ln_node_loops.specs.declared.item.Item.{Item}
+use Rattle.ln_node_loops.specs.declared.item.Item.TheVariants as item
+use Rattle.ln_node_loops.specs.declared.worker.Phase.{Phase}
+use Rattle.ln_node_loops.specs.declared.worker.Phase.TheVariants.{Unconnected, AwaitsInit, Open}
+
+-- ---- which items are served
+
+-- messages are, once the peer's init came
+abbrev pub is_on : Phase → Bool
+is_on Unconnected = false
+is_on AwaitsInit = false
+is_on Open = true
+
+abbrev pub is_served : {J : Type 0} → Phase → Item J → Bool
+is_served p (item.Joined j) = true
+is_served p (item.Read m) = is_on p
+is_served p item.Broken = true
+is_served p (item.Order c) = true
+is_served p item.Stop = false
+
+-- ---- how far a connection is behind an item that isn't served
+
+abbrev pub init_in : Message → Option Init
+init_in (message.Init m) = Some m
+init_in m = None
+
+-- the first message of a connection: init, that asks for no even feature but these, or else the connection is over
+abbrev pub Greets : List ℕ → Option Init → Phase → Type 0
+Greets known None p = p ≡ Unconnected
+Greets known (Some init) p = ((p ≡ Open) × IsAllKnown init known) ⊎ ((p ≡ Unconnected) × HasUnknown init known)
+
+-- without a connection messages are passed over
+abbrev pub Hears : List ℕ → Phase → Message → Phase → Type 0
+Hears known Unconnected m p = p ≡ Unconnected
+Hears known AwaitsInit m p = Greets known (init_in m) p
+Hears known Open m p = p ≡ Open
+
+abbrev pub PassesOver : {J : Type 0} → List ℕ → Phase → Item J → Phase → Type 0
+PassesOver known p (item.Joined j) p' = p' ≡ p
+PassesOver known p (item.Read m) p' = Hears known p m p'
+PassesOver known p item.Broken p' = p' ≡ p
+PassesOver known p (item.Order c) p' = p' ≡ p
+PassesOver known p item.Stop p' = p' ≡ p
+
+-- ---- how far it is behind one that is served
+
+abbrev pub begun : {J : Type 0} → Phase → Item J → Phase
+begun p (item.Joined j) = AwaitsInit
+begun p (item.Read m) = p
+begun p item.Broken = Unconnected
+begun p (item.Order c) = p
+begun p item.Stop = p
+
+-- 7, 60 and 63: not all was written
+abbrev pub is_loss : ℕ → Bool
+is_loss n = (n == 7 || n == 60) || n == 63
+
+abbrev pub is_lost : Result (Unit {0}) Refusal → Bool
+is_lost (Ok u) = false
+is_lost (Err r) = is_loss (refusal_number r)
+
+abbrev pub is_refused : Result (Unit {0}) Refusal → Bool
+is_refused (Ok u) = false
+is_refused (Err r) = true
+
+-- A turn behind which nothing more is written: not all was, or the end takes no connection.
+abbrev pub is_over : {J : Type 0} → Item J → Result (Unit {0}) Refusal → Bool
+is_over (item.Joined j) answer = is_refused answer
+is_over (item.Read m) answer = is_lost answer
+is_over item.Broken answer = is_lost answer
+is_over (item.Order c) answer = is_lost answer
+is_over item.Stop answer = is_lost answer
+
+abbrev pub unless_over : Bool → Phase → Phase
+unless_over over p = if over then Unconnected else p
+
+-- the connection that is left; there is none where it is cut off
+abbrev pub kept_connection : Phase → Option Connection → Option Connection
+kept_connection Unconnected connection = None
+kept_connection AwaitsInit connection = connection
+kept_connection Open connection = connection

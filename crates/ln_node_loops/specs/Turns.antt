@@ -1,0 +1,303 @@
+-- The turns of a worker, one after the other, and the events that are put for its dispatcher.
+use Rattle.std.specs.Prelude.{◌≡◌, ◌⊎◌, ℕ, List, [], ◌∷◌, ◌++◌, Option, Some, None, Result, Ok, Err, Bool, true, false}
+use Rattle.std.specs.Prelude.{if◌then◌else◌, nat_lt, ◌||◌, not, ⊤}
+use Rattle.ln_msgs.specs.declared.messages.message.Message.{Message}
+use Rattle.ln_msgs.specs.declared.refusals.refusal.Refusal.{Refusal}
+use Rattle.ln_hooks.specs.declared.event.ChannelEvent.{ChannelEvent}
+use Rattle.ln_channel.specs.declared.command.Command.{Command}
+use Rattle.ln_channel.specs.declared.output.Output.{Output}
+use Rattle.ln_channel.specs.declared.output.Output.TheVariants as output
+use Rattle.ln_switch.specs.declared.saying.Saying.{Saying}
+use Rattle.ln_switch.specs.Seen.{Seen, channel_of}
+use Rattle.ln_node_loops.specs.Owed.{owed, asked}
+use Rattle.ln_node_loops.specs.declared.item.Item.{Item}
+use Rattle.ln_node_loops.specs.declared.item.Item.TheVariants as item
+use Rattle.ln_node_loops.specs.declared.task.Task.{Task}
+use Rattle.ln_node_loops.specs.declared.task.Task.TheVariants as task
+use Rattle.ln_node_loops.specs.declared.worker.Phase.{Phase}
+use Rattle.ln_node_loops.specs.declared.worker.Phase.TheVariants.{Unconnected}
+use Rattle.ln_node_loops.specs.Act.{Act}
+use Rattle.ln_node_loops.specs.Act as act
+use Rattle.ln_node_loops.specs.Connection.{Connection}
+use Rattle.ln_node_loops.specs.Turn.{IsTurn, IsObeyed}
+use Rattle.ln_node_loops.specs.Phase.{is_served, PassesOver, begun, is_over, is_lost, unless_over, kept_connection}
+
+-- ---- turns
+
+-- one turn of a worker, whose relay has items with writers W
+pub data Turn (W : Type 0) : Type 0 where
+  Serves : (i : Item W) (outputs : List Output) (answer : Result (Unit {0}) Refusal) → Turn W
+  Passes : (i : Item W) → Turn W
+  Obeys : (c : Command) (outputs : List Output) (answer written : Result (Unit {0}) Refusal) → Turn W
+  Loads : (pending : List (ℕ × ChannelEvent)) → Turn W
+  StaysHalted : (r : Refusal) → Turn W
+
+abbrev pub turn_of : {W : Type 0} → Bool → Item W → List Output → Result (Unit {0}) Refusal → Turn W
+turn_of true i os a = Serves i os a
+turn_of false i os a = Passes i
+
+abbrev pub load_of : {W : Type 0} → Result (Unit {0}) Refusal → List (ℕ × ChannelEvent) → Turn W
+load_of (Ok u) es = Loads es
+load_of (Err r) es = StaysHalted r
+
+-- the events that are pending after a load; none after one that is refused
+abbrev pub told_behind : Result (Unit {0}) Refusal → List (ℕ × ChannelEvent) → List (ℕ × ChannelEvent)
+told_behind (Ok u) es = es
+told_behind (Err r) es = []
+
+-- the item of a turn, with what greets the peer in the place of its writer
+abbrev pub greets : {W : Type 0} → Message → Item W → Item Message
+greets g (item.Joined w) = item.Joined g
+greets g (item.Read m) = item.Read m
+greets g item.Broken = item.Broken
+greets g (item.Order c) = item.Order c
+greets g item.Stop = item.Stop
+
+-- what a worker stands for: its end, how far its connection is, and what was written to that, where there is one
+pub record Stand (S : Type 0) : Type 0 where
+  pub end : S
+  pub phase : Phase
+  pub connection : Option Connection
+
+-- what was written as an item comes
+abbrev pub joined_connection : {W : Type 0} → (W → Option (List ℕ)) → Option Connection → Item W → Option Connection
+joined_connection contents connection (item.Joined w) = Some (record { bytes = contents w; failed = 0 })
+joined_connection contents connection (item.Read m) = connection
+joined_connection contents connection item.Broken = connection
+joined_connection contents connection (item.Order c) = connection
+joined_connection contents connection item.Stop = connection
+
+module _ {S : Type 0} (halted : S → Bool) where
+  -- what is left of a connection after a turn
+  abbrev pub Leaves : Phase → Bool → Option Connection → Stand S → Type 0
+  Leaves p over connection s' =
+      (s'.phase ≡ unless_over (over || halted s'.end) p) × (s'.connection ≡ kept_connection s'.phase connection)
+
+module _ {S W : Type 0} (acts : S → Act → Result (List Output) Refusal → S → Type 0) (halted : S → Bool)
+    (pending : S → List (ℕ × ChannelEvent)) (contents : W → Option (List ℕ)) (own_init : Message) (known : List ℕ) where
+  -- An item is served or passed over, a command of the book is obeyed, or a halted end comes back from its record, or
+  -- can't.
+  -- Each turn appends to what the one before has left on the connection. A turn that couldn't write all cuts it off,
+  -- and then there is none, and nothing is written, until the next one joins.
+  abbrev pub Step : Stand S → Turn W → Stand S → Type 0
+  Step s (Serves i os a) s' =
+      (is_served s.phase i ≡ true) × (connection : Option Connection)
+      × IsTurn acts s.end (greets own_init i) os a s'.end (joined_connection contents
+      (kept_connection s.phase s.connection) i) connection
+      × Leaves halted (begun s.phase i) (is_over i a) connection s'
+  Step s (Passes i) s' =
+      (is_served s.phase i ≡ false) × (s'.end ≡ s.end) × PassesOver known s.phase i s'.phase
+      × (s'.connection ≡ kept_connection s'.phase s.connection)
+  Step s (Obeys c os a w) s' =
+      (connection : Option Connection)
+      × IsObeyed acts s.end c os a w s'.end (kept_connection s.phase s.connection) connection
+      × Leaves halted s.phase (is_lost w) connection s'
+  Step s (Loads es) s' =
+      (halted s.end ≡ true) × acts s.end act.Loads (Ok []) s'.end × (es ≡ pending s'.end) × (s'.phase ≡ Unconnected)
+      × (s'.connection ≡ None)
+  Step s (StaysHalted r) s' =
+      (halted s.end ≡ true) × acts s.end act.Loads (Err r) s'.end × (s'.phase ≡ s.phase)
+      × (s'.connection ≡ s.connection)
+
+-- ---- events
+
+-- the events among outputs, each with its number
+abbrev pub events : List Output → List (ℕ × ChannelEvent)
+events [] = []
+events (output.Send m ∷ os) = events os
+events (output.Signed n ∷ os) = events os
+events (output.Committed own peer ∷ os) = events os
+events (output.Event n e ∷ os) = (n, e) ∷ events os
+events (output.Closed fee ∷ os) = events os
+
+-- ---- what is told
+
+-- the events that a turn tells of: those of its outputs, or those that are pending after a load
+abbrev pub told : {W : Type 0} → Turn W → List (ℕ × ChannelEvent)
+told (Serves i os a) = events os
+told (Passes i) = []
+told (Obeys c os a w) = events os
+told (Loads es) = es
+told (StaysHalted r) = []
+
+-- what one turn tells of: the channel, once both have signed its opening, and the events
+abbrev pub News : Type 0
+News = Option (List ℕ) × List (ℕ × ChannelEvent)
+
+-- the events of all turns
+abbrev pub told_in : List News → List (ℕ × ChannelEvent)
+told_in [] = []
+told_in ((c, es) ∷ ns) = es ++ told_in ns
+
+-- ---- what is owed to the book
+
+-- where an end has lost its connection and hasn't halted, what it has kept is told; of one that has halted it is known
+-- once it is loaded
+abbrev pub drops : {W : Type 0} → Item W → Bool → Bool
+drops (item.Joined w) halted = false
+drops (item.Read m) halted = false
+drops item.Broken halted = not halted
+drops (item.Order c) halted = false
+drops item.Stop halted = false
+
+module _ {S W : Type 0} (halted : S → Bool) (seen : S → Option Seen) where
+  -- what is said to the book for a turn
+  abbrev pub says : S → Turn W → S → List Saying
+  says s (Serves i os a) s' = owed (seen s') (drops i (halted s')) (events os)
+  says s (Passes i) s' = owed (seen s') false []
+  says s (Obeys c os a w) s' = asked (seen s) c a ++ owed (seen s') false (events os)
+  says s (Loads es) s' = owed (seen s') true es
+  says s (StaysHalted r) s' = []
+
+-- whether a load was tried
+abbrev pub is_load : {W : Type 0} → Turn W → Bool
+is_load (Serves i os a) = false
+is_load (Passes i) = false
+is_load (Obeys c os a w) = false
+is_load (Loads es) = true
+is_load (StaysHalted r) = true
+
+-- Nothing is taken from the relay for an end that has halted, unless its load was tried directly before.
+abbrev pub may_come : {W : Type 0} → Bool → Bool → Turn W → Bool
+may_come tried halted (Serves i os a) = tried || not halted
+may_come tried halted (Passes i) = tried || not halted
+may_come tried halted (Obeys c os a w) = true
+may_come tried halted (Loads es) = true
+may_come tried halted (StaysHalted r) = true
+
+module _ {S W : Type 0} (acts : S → Act → Result (List Output) Refusal → S → Type 0) (halted : S → Bool)
+    (pending : S → List (ℕ × ChannelEvent)) (seen : S → Option Seen) (contents : W → Option (List ℕ))
+    (own_init : Message) (known : List ℕ) where
+  -- The turns lead from one stand to the other, these things are said to the book for them, in order, and they tell of
+  -- these events, each turn of those of the channel that its end has then. Whether a load was tried directly before
+  -- stands first.
+  abbrev pub Leads : Bool → Stand S → List (Turn W) → List Saying → List News → Stand S → Type 0
+  Leads tried s [] words news s' = (s' ≡ s) × (words ≡ []) × (news ≡ [])
+  Leads tried s (t ∷ ts) words news s' =
+      (mid : Stand S) × (rest : List Saying) × (later : List News)
+      × Step acts halted pending contents own_init known s t mid × (may_come tried (halted s.end) t ≡ true)
+      × (words ≡ says halted seen s.end t mid.end ++ rest)
+      × (news ≡ (channel_of (seen mid.end), told t) ∷ later) × Leads (is_load t) mid ts rest later s'
+
+-- the items of turns
+abbrev pub items_of : {W : Type 0} → List (Turn W) → List (Item W)
+items_of [] = []
+items_of (Serves i os a ∷ ts) = i ∷ items_of ts
+items_of (Passes i ∷ ts) = i ∷ items_of ts
+items_of (Obeys c os a w ∷ ts) = items_of ts
+items_of (Loads es ∷ ts) = items_of ts
+items_of (StaysHalted r ∷ ts) = items_of ts
+
+-- ---- connections
+
+-- there is none, and so nothing is written
+abbrev pub IsCutOff : {S : Type 0} → Stand S → Type 0
+IsCutOff s = (s.phase ≡ Unconnected) × (s.connection ≡ None)
+
+-- whether it cuts the connection off, as it couldn't write all or as the end takes none or comes back
+abbrev pub cuts_off : {W : Type 0} → Turn W → Bool
+cuts_off (Serves i os a) = is_over i a
+cuts_off (Passes i) = false
+cuts_off (Obeys c os a w) = is_lost w
+cuts_off (Loads es) = true
+cuts_off (StaysHalted r) = false
+
+abbrev pub is_joined : {W : Type 0} → Item W → Bool
+is_joined (item.Joined w) = true
+is_joined (item.Read m) = false
+is_joined item.Broken = false
+is_joined (item.Order c) = false
+is_joined item.Stop = false
+
+-- no connection is among them
+abbrev pub JoinNone : {W : Type 0} → List (Item W) → Type 0
+JoinNone [] = ⊤
+JoinNone (i ∷ is) = (is_joined i ≡ false) × JoinNone is
+
+-- this number is above the last
+abbrev pub is_new : Option ℕ → ℕ → Bool
+is_new None n = true
+is_new (Some last) n = nat_lt last n
+
+-- of these events those that weren't put yet: whose numbers are above all that were put, one by one
+abbrev pub fresh : Option ℕ → List (ℕ × ChannelEvent) → List (ℕ × ChannelEvent)
+fresh last [] = []
+fresh last ((n, e) ∷ es) = if is_new last n then (n, e) ∷ fresh (Some n) es else fresh last es
+
+-- the last number that was put
+abbrev pub last_of : Option ℕ → List (ℕ × ChannelEvent) → Option ℕ
+last_of last [] = last
+last_of last ((n, e) ∷ es) = if is_new last n then last_of (Some n) es else last_of last es
+
+-- the tasks of a channel's events
+abbrev pub tasks : {H : Type 0} → Option (List ℕ) → List (ℕ × ChannelEvent) → List (Task H)
+tasks c [] = []
+tasks c ((n, e) ∷ es) = task.Event c n e ∷ tasks c es
+
+-- those of what turns tell of and wasn't put yet
+abbrev pub tasks_of : {H : Type 0} → Option ℕ → List News → List (Task H)
+tasks_of last [] = []
+tasks_of last ((c, es) ∷ ns) = tasks c (fresh last es) ++ tasks_of (last_of last es) ns
+
+-- these tasks are these events, in order, each with some channel
+abbrev pub AreEvents : {H : Type 0} → List (Task H) → List (ℕ × ChannelEvent) → Type 0
+AreEvents [] es = es ≡ []
+AreEvents (task.Event c n e ∷ ts) es = (rest : List (ℕ × ChannelEvent)) × (es ≡ (n, e) ∷ rest) × AreEvents ts rest
+AreEvents (task.Register h ∷ ts) es = ⊥
+AreEvents (task.Stop ∷ ts) es = ⊥
+
+-- ---- a worker between its relay, its dispatcher and the book
+
+-- what it stands for, the last number that it has put, what its seats have taken and put, and what it has said to the
+-- book
+pub record Glance (S W H : Type 0) : Type 0 where
+  pub stand : Stand S
+  pub last : Option ℕ
+  pub taken : List (Item W)
+  pub put : List (Task H)
+  pub said : List Saying
+
+-- the last item that was taken is Stop
+abbrev pub HasStopped : {W : Type 0} → List (Item W) → Type 0
+HasStopped {W} taken = (before : List (Item W)) × (taken ≡ before ++ item.Stop ∷ [])
+
+module _ {S W H : Type 0} (acts : S → Act → Result (List Output) Refusal → S → Type 0) (halted : S → Bool)
+    (pending : S → List (ℕ × ChannelEvent)) (seen : S → Option Seen) (contents : W → Option (List ℕ))
+    (own_init : Message) (known : List ℕ) where
+  -- Turns led from one glance to the other: their items are those that were taken, in order; put were, once each, by
+  -- channel and number, the events that they told of; and said was to the book what they owe it.
+  pub record Ran (tried : Bool) (a b : Glance S W H) : Type 0 where
+    pub turns : List (Turn W)
+    pub words : List Saying
+    pub news : List News
+    pub leads : Leads acts halted pending seen contents own_init known tried a.stand turns words news b.stand
+    pub took : b.taken ≡ a.taken ++ items_of turns
+    pub put : b.put ≡ a.put ++ tasks_of a.last news
+    pub last : b.last ≡ last_of a.last (told_in news)
+    pub spoke : b.said ≡ a.said ++ words
+
+  -- A halted end was to be loaded: it hadn't halted, and nothing was done; or its load was tried.
+  pub record OneTurn (a : Glance S W H) (t : Turn W) (b : Glance S W H) : Type 0 where
+    pub step : Step acts halted pending contents own_init known a.stand t b.stand
+    pub took : b.taken ≡ a.taken ++ items_of (t ∷ [])
+    pub put : b.put ≡ a.put ++ tasks (channel_of (seen b.stand.end)) (fresh a.last (told t))
+    pub last : b.last ≡ last_of a.last (told t)
+    pub spoke : b.said ≡ a.said ++ says halted seen a.stand.end t b.stand.end
+
+  abbrev pub ReloadsIfHalted : Glance S W H → Glance S W H → Type 0
+  ReloadsIfHalted a b =
+      ((halted a.stand.end ≡ false) × (b ≡ a))
+      ⊎ ((t : Turn W) × (is_load t ≡ true) × OneTurn a t b)
+
+  -- The book was told what has become of HTLCs by the events that were pending at first, and which payments the end
+  -- takes; the events were put; and then turns led on, until Stop was taken.
+  pub record Began (a b : Glance S W H) : Type 0 where
+    pub mid : Glance S W H
+    pub same_stand : mid.stand ≡ a.stand
+    pub took_nothing : mid.taken ≡ a.taken
+    pub put_pending : mid.put
+        ≡ a.put ++ tasks (channel_of (seen a.stand.end)) (fresh a.last (pending a.stand.end))
+    pub last_pending : mid.last ≡ last_of a.last (pending a.stand.end)
+    pub told_pending : mid.said ≡ a.said ++ owed (seen a.stand.end) false (pending a.stand.end)
+    pub ran : Ran false mid b
+    pub stopped : HasStopped b.taken

@@ -1,0 +1,23 @@
+-- What a contract sees of a worker with its seats.
+use Rattle.std.specs.Prelude.{ℕ, Bool, if◌then◌else◌, nat_lt, ◌+◌, List, Option}
+use Rattle.ln_node_loops.specs.declared.item.Item.{Item}
+use Rattle.ln_node_loops.specs.declared.task.Task.{Task}
+use Rattle.ln_node_loops.specs.declared.rounds.WorkerLoop.{WorkerLoop}
+use Rattle.ln_switch.specs.declared.saying.Saying.{Saying}
+use Rattle.ln_node_loops.specs.Turns.{Glance}
+use Rattle.ln_node_loops.specs.Worker.{stand}
+
+-- how many loads in a row were refused, up to ten, behind one more that was tried where the end had halted
+abbrev pub refused_behind : Bool → ℕ → ℕ
+refused_behind halted before = if halted then (if nat_lt before 10 then before + 1 else before) else 0
+
+module _ {E W I T B S H : Type 0} (state : E → S) (contents : W → Option (List ℕ)) (taken : I → List (Item W))
+    (put : T → List (Task H)) (said : B → List Saying) where
+  abbrev pub glance : WorkerLoop E W I T B → Glance S W H
+  glance b = record {
+    stand = stand state contents b.worker;
+    last = b.worker.last;
+    taken = taken b.items;
+    put = put b.tasks;
+    said = said b.book;
+  }

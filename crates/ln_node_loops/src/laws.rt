@@ -1,0 +1,56 @@
+//! Laws of what workers and dispatchers do.
+
+ghost use Rattle.std.specs.Prelude.{◌≡◌, ◌++◌, ◌∷◌, ◌-◌, ℕ, map, List, [], Option, Bool, true};
+ghost use Rattle.ln_hooks.specs.declared.event.ChannelEvent.{ChannelEvent};
+ghost use Rattle.ln_msgs.specs.declared.messages.message.Message.{Message};
+ghost use Rattle.ln_msgs.specs.declared.refusals.refusal.Refusal.{Refusal};
+ghost use Rattle.ln_channel.specs.End as channel;
+ghost use Rattle.ln_channel.specs.Pending.{pending_events};
+ghost use Rattle.ln_link.specs.Record.{items_of};
+ghost use Rattle.ln_link.specs.Loading.{HasRecord, end_of};
+ghost use Rattle.ln_relay.specs.Position.{IsMergeOfAll};
+ghost use Rattle.ln_node_loops.specs.declared.task.Task.{Task};
+ghost use Rattle.ln_node_loops.specs.Served.{events_in, Begins};
+ghost use Rattle.ln_switch.specs.declared.saying.Saying.{Saying};
+ghost use Rattle.ln_node_loops.specs.Turns.{Glance, Began, told, AreEvents, Stand, Turn, Leads, News};
+ghost use Rattle.ln_node_loops.specs.Turns.{cuts_off, JoinNone, IsCutOff, items_of as items_in};
+ghost use Rattle.ln_node_loops.specs.Course.{segment, next_of, Tells};
+
+use crate::end::End;
+use crate::wire::Closes;
+
+/// Where one sender of a dispatcher's relay puts events and the other none, the events that are taken begin those
+/// that were put: each once, in order, and none else.
+pub fn hooks_follow<H: Drop>()
+    ensures { (first second taken : List (Task H)) → IsMergeOfAll first second taken → events_in second ≡ []
+        → Begins (events_in taken) (events_in first) }
+{}
+
+/// Where the events that are pending at the start of a worker's loop, those of each turn's outputs and those that are
+/// pending after each load are events of one channel, one after the other by their numbers, and each list begins no
+/// later than after those that were told before, then exactly these events are put for its dispatcher: each once, in
+/// order, none left out and none else.
+pub fn every_event_is_put<E: End + Drop, W: Closes + Drop, H: Drop>()
+    ensures { (own_init : Message) (known : List ℕ) (a b : Glance E.State W H)
+        (began : Began E.acts E.halted E.pending E.seen W.contents own_init known a b)
+        (event : ℕ → ChannelEvent) (first end : ℕ)
+        → Tells event first (next_of first a.last) (E.pending a.stand.end ∷ map told began.ran.turns) end
+        → (new : List (Task H)) × (b.put ≡ a.put ++ new)
+        × AreEvents new (segment event (end - next_of first a.last) (next_of first a.last)) }
+{}
+
+/// After a turn that couldn't write all, or that cut the connection off by another reason, nothing is written until the
+/// next connection joins: there is none to write to.
+pub fn nothing_is_written_after_a_loss<E: End + Drop, W: Closes + Drop>()
+    ensures { (own_init : Message) (known : List ℕ) (tried : Bool) (s s' : Stand E.State) (t : Turn W)
+        (ts : List (Turn W)) (words : List Saying) (news : List News) → cuts_off t ≡ true → JoinNone (items_in ts)
+        → Leads E.acts E.halted E.pending E.seen W.contents own_init known tried s (t ∷ ts) words news s'
+        → IsCutOff s' }
+{}
+
+/// The events that are pending after a load of an end's record are those of what a lost connection leaves of the end:
+/// they tell of updates that the record has one by one.
+pub fn a_load_keeps_pending_events()
+    ensures { (failure : Option Refusal) (e : channel.End) → HasRecord failure e
+        → pending_events (end_of (items_of failure e)) ≡ pending_events (channel.end_dropped e) }
+{}

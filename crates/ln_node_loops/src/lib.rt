@@ -1,0 +1,37 @@
+//! The loops of a running node: what a connection's reader, a channel's worker and its dispatcher do with what they
+//! take, turn by turn (BOLT 1 and 2). Threads and sockets are the caller's.
+#![tactic(auto)]
+
+mod books;
+mod dispatch;
+mod end;
+mod hooks;
+mod item;
+mod kind;
+mod laws;
+mod notice;
+mod reader;
+mod reports;
+mod rounds;
+mod saved;
+mod task;
+mod turn;
+mod wire;
+mod worker;
+
+pub use books::{Books, ReadsEnds};
+pub use dispatch::{Table, dispatch_loop};
+pub use end::End;
+pub use item::Item;
+pub use kind::Kind;
+pub use laws::{
+    a_load_keeps_pending_events, every_event_is_put, hooks_follow, nothing_is_written_after_a_loss,
+};
+pub use notice::Notice;
+pub use reader::{put, reader_loop};
+pub use rounds::{WorkerLoop, worker_loop};
+pub use saved::SavedLink;
+pub use task::Task;
+pub use turn::{Obeyed, worker_turn};
+pub use wire::{Closes, Wire};
+pub use worker::{Phase, Turned, Worker};

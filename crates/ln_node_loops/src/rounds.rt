@@ -1,0 +1,515 @@
+//! The loop of a worker.
+
+ghost use Rattle.std.specs.Prelude.{◌≡◌, ◌++◌, ◌∷◌, [], true, false, not, ◌&&◌};
+ghost use Rattle.ln_node_loops.specs.Turns.{Ran, ReloadsIfHalted, Began, HasStopped, is_new, fresh, last_of, events};
+ghost use Rattle.ln_node_loops.specs.Turns.{tasks, drops};
+ghost use Rattle.ln_switch.specs.Seen.{channel_of};
+ghost use Rattle.ln_node_loops.specs.Owed.{kept_if, settled_at, owed, load_words};
+ghost use Rattle.ln_node_loops.specs.declared.item.Item.TheVariants as item;
+ghost use Rattle.ln_node_loops.specs.WorkerLoop.{glance, refused_behind};
+
+use crate::books::ReadsEnds;
+use crate::end::End;
+use crate::item::Item;
+use crate::notice::Notice;
+use crate::reader::put;
+use crate::reports;
+use crate::task::Task;
+use crate::wire::Closes;
+use crate::worker::{Phase, Worker};
+use ln_channel::Output;
+use ln_hooks::ChannelEvent;
+use ln_log::ChannelId;
+use ln_msgs::{Message, Refusal};
+use ln_relay::{Receives, Sends};
+use ln_switch::{answer_to, command_subject, waits};
+use std::alloc::Global;
+use std::sync::Wait;
+use std::thread;
+
+/// A worker with its seats: it takes from the one, puts events to the other, and talks to the book by the third.
+#[derive(Drop)]
+pub struct WorkerLoop<E: Drop, W: Drop, I: Drop, T: Drop, B: Drop> {
+    /// The worker.
+    pub worker: Worker<E, W>,
+    /// The receiver's seat of its relay.
+    pub items: I,
+    /// A sender's seat of its dispatcher's relay.
+    pub tasks: T,
+    /// A seat at the book.
+    pub book: B,
+}
+
+// Whether an event with this number is new.
+fn is_new(last: Option<u64>, number: u64) -> bool
+    ensures { result ≡ is_new last number }
+{
+    match last {
+        None => true,
+        Some(last) => last < number,
+    }
+}
+
+// Puts an event of a channel, where it is new. Gives the last number that was put.
+fn put_event<H: Drop, T: Sends<Task<H>>, R: Wait>(
+    rt: &R,
+    seat: &mut T,
+    channel: Option<ChannelId>,
+    last: Option<u64>,
+    number: u64,
+    event: ChannelEvent,
+) -> Option<u64>
+    ensures put { T.put seat.new ≡ T.put seat.old ++ tasks channel (fresh last ((number, event) ∷ [])) }
+    ensures last { result ≡ last_of last ((number, event) ∷ []) }
+{
+    if !is_new(last, number) {
+        drop(event);
+        return last;
+    }
+    put(rt, seat, Task::Event(channel, number, event));
+    Some(number)
+}
+
+// Puts the events among an end's outputs that are new.
+fn put_outputs<E: End, H: Drop, T: Sends<Task<H>>, R: Wait>(
+    rt: &R,
+    seat: &mut T,
+    end: &E,
+    last: Option<u64>,
+    outputs: Vec<Output>,
+) -> Option<u64>
+    ensures put { T.put seat.new
+        ≡ T.put seat.old ++ tasks (channel_of (E.seen (E.state end.now))) (fresh last (events outputs.items)) }
+    ensures last { result ≡ last_of last (events outputs.items) }
+{
+    let channel = end.channel();
+    let mut last = last;
+    for output in outputs {
+        match output {
+            Output::Event(number, event) => {
+                last = put_event(rt, seat, channel, last, number, event)
+            }
+            other => drop(other),
+        }
+    }
+    last
+}
+
+// Puts an end's events that are new.
+fn put_events<E: End, H: Drop, T: Sends<Task<H>>, R: Wait>(
+    rt: &R,
+    seat: &mut T,
+    end: &E,
+    last: Option<u64>,
+    told: Vec<(u64, ChannelEvent)>,
+) -> Option<u64>
+    ensures put { T.put seat.new
+        ≡ T.put seat.old ++ tasks (channel_of (E.seen (E.state end.now))) (fresh last told.items) }
+    ensures last { result ≡ last_of last told.items }
+{
+    let channel = end.channel();
+    let mut last = last;
+    for (number, event) in told {
+        last = put_event(rt, seat, channel, last, number, event);
+    }
+    last
+}
+
+fn is_stop<J: Drop>(taken: &Item<J>) -> bool
+    ensures { result ≡ true → taken.now ≡ item.Stop }
+{
+    matches!(taken, Item::Stop)
+}
+
+fn is_broken<J: Drop>(item: &Item<J>) -> bool
+    ensures { result ≡ drops item.now false }
+{
+    matches!(item, Item::Broken)
+}
+
+// Whether what an end has kept is told, as its connection breaks: of one that has halted it is known once it is loaded.
+fn reports_kept(breaks: bool, halted: bool) -> bool
+    ensures { result ≡ (breaks && not halted) }
+{
+    breaks && !halted
+}
+
+// Tells the book what an end has kept, where it is to be told.
+fn report_kept_if<E: End, B: ReadsEnds<E>, R: Wait>(
+    rt: &R,
+    alloc: Global,
+    book: &mut B,
+    end: &E,
+    drops: bool,
+)
+    ensures { B.said book.new ≡ B.said book.old ++ kept_if drops (E.seen (E.state end.now)) }
+{
+    if drops {
+        reports::report_kept(rt, alloc, book, end);
+    }
+}
+
+// Tells the book what has become of HTLCs by these outputs.
+fn settle_outputs<E: End, B: ReadsEnds<E>, R: Wait>(
+    rt: &R,
+    alloc: Global,
+    book: &mut B,
+    end: &E,
+    outputs: &[Output],
+)
+    ensures { B.said book.new ≡ B.said book.old ++ settled_at (E.seen (E.state end.now)) (events outputs.now) }
+{
+    match end.channel() {
+        None => {}
+        Some(channel) => reports::report_outputs(rt, alloc, book, channel, outputs),
+    }
+}
+
+// Tells the book what has become of HTLCs by these events.
+fn settle_events<E: End, B: ReadsEnds<E>, R: Wait>(
+    rt: &R,
+    alloc: Global,
+    book: &mut B,
+    end: &E,
+    told: &[(u64, ChannelEvent)],
+)
+    ensures { B.said book.new ≡ B.said book.old ++ settled_at (E.seen (E.state end.now)) told.now }
+{
+    match end.channel() {
+        None => {}
+        Some(channel) => reports::report_events(rt, alloc, book, channel, told),
+    }
+}
+
+// Tells the book what has become of HTLCs by these outputs, and what the end can take now; what it has kept, first,
+// where that is to be told.
+fn report<E: End, B: ReadsEnds<E>, R: Wait>(
+    rt: &R,
+    alloc: Global,
+    book: &mut B,
+    end: &E,
+    drops: bool,
+    outputs: &[Output],
+)
+    ensures { B.said book.new ≡ B.said book.old ++ owed (E.seen (E.state end.now)) drops (events outputs.now) }
+{
+    report_kept_if(rt, alloc, book, end, drops);
+    settle_outputs(rt, alloc, book, end, outputs);
+    reports::report_use(rt, book, end);
+}
+
+// The same by these events.
+fn report_pending<E: End, B: ReadsEnds<E>, R: Wait>(
+    rt: &R,
+    alloc: Global,
+    book: &mut B,
+    end: &E,
+    drops: bool,
+    told: &[(u64, ChannelEvent)],
+)
+    ensures { B.said book.new ≡ B.said book.old ++ owed (E.seen (E.state end.now)) drops told.now }
+{
+    report_kept_if(rt, alloc, book, end, drops);
+    settle_events(rt, alloc, book, end, told);
+    reports::report_use(rt, book, end);
+}
+
+// Tells the book what an end has kept after a load, what has become of HTLCs by the events that are pending, and what
+// the end can take now; nothing where the load was refused.
+fn report_load<E: End, B: ReadsEnds<E>, R: Wait>(
+    rt: &R,
+    alloc: Global,
+    book: &mut B,
+    end: &E,
+    answer: Result<(), Refusal>,
+    pending: &[(u64, ChannelEvent)],
+)
+    ensures { B.said book.new ≡ B.said book.old ++ load_words answer (E.seen (E.state end.now)) pending.now }
+{
+    match answer {
+        Ok(()) => {
+            book.notice(rt, Notice::Loaded);
+            report_pending(rt, alloc, book, end, true, pending);
+        }
+        Err(_) => {}
+    }
+}
+
+// A notice, where there is one.
+fn note_one<E: End, B: ReadsEnds<E>, R: Wait>(rt: &R, book: &mut B, notice: Option<Notice>)
+    ensures { B.said book.new ≡ B.said book.old }
+{
+    match notice {
+        None => {}
+        Some(notice) => book.notice(rt, notice),
+    }
+}
+
+fn refused(answer: Result<(), Refusal>) -> Option<Notice> {
+    match answer {
+        Ok(()) => None,
+        Err(refusal) => Some(Notice::Refused(refusal)),
+    }
+}
+
+// Tells what has become of the end and its connection, where it hadn't halted before or awaited the peer's init.
+fn note<E: End + Drop, W: Drop, B: ReadsEnds<E>, R: Wait>(
+    rt: &R,
+    book: &mut B,
+    worker: &Worker<E, W>,
+    halted: bool,
+    awaited: bool,
+    answer: Result<(), Refusal>,
+)
+    ensures { B.said book.new ≡ B.said book.old }
+{
+    note_one::<E, B, R>(rt, book, refused(answer));
+    let not_greeted = awaited && worker.phase == Phase::Unconnected;
+    note_one::<E, B, R>(rt, book, not_greeted.then_some(Notice::NoInit));
+    let has_halted = !halted && worker.end.is_halted();
+    note_one::<E, B, R>(rt, book, has_halted.then_some(Notice::Halted));
+}
+
+// Tells what has become of the end by a command of the book; nothing where the command waits.
+fn note_command<E: End + Drop, W: Drop, B: ReadsEnds<E>, R: Wait>(
+    rt: &R,
+    book: &mut B,
+    worker: &Worker<E, W>,
+    halted: bool,
+    waits: bool,
+    answer: Result<(), Refusal>,
+)
+    ensures { B.said book.new ≡ B.said book.old }
+{
+    if !waits {
+        note(rt, book, worker, halted, false, answer);
+    }
+}
+
+impl<E, W, I, T, B> WorkerLoop<E, W, I, T, B>
+where
+    E: End + Drop,
+    W: Closes + Drop,
+    I: Receives<Item<W>> + Drop,
+    T: Drop,
+    B: ReadsEnds<E> + Drop,
+{
+    // How many loads in a row were refused, up to ten, where so many were before.
+    fn refused(&self, before: u64) -> u64
+        ensures { result ≡ refused_behind (E.halted (E.state self.now.worker.end)) before }
+    {
+        let halted = self.worker.end.is_halted();
+        if halted && before < 10 {
+            before + 1
+        } else if halted {
+            before
+        } else {
+            0
+        }
+    }
+
+    // Waits where there was nothing to do.
+    fn wait<R: Wait>(&self, rt: &R, sounds: u64, refused: u64, busy: bool) {
+        if busy {
+            thread::yield_now();
+        } else {
+            self.book.wait(rt, sounds, refused);
+        }
+    }
+
+    // Takes an item, and serves it or passes it over. True where it is the last one.
+    fn take_one<H: Drop, R: Wait>(
+        &mut self,
+        rt: &R,
+        alloc: Global,
+        own_init: &Message,
+        known: &[u16],
+        busy: &mut bool,
+    ) -> bool
+    where
+        T: Sends<Task<H>>,
+        ensures ran { Ran E.acts E.halted E.pending E.seen W.contents own_init.now known.now true
+            (glance E.state W.contents I.taken T.put B.said self.old)
+            (glance E.state W.contents I.taken T.put B.said self.new) }
+        ensures stops { result ≡ true → HasStopped (I.taken self.new.items) }
+    {
+        let Some(item) = self.items.recv(rt) else {
+            return false;
+        };
+        let stops = is_stop(&item);
+        let breaks = is_broken(&item);
+        let halted = self.worker.end.is_halted();
+        let awaited = self.worker.phase == Phase::AwaitsInit;
+        *busy = true;
+        let turned = self.worker.serve(alloc, own_init, known, item);
+        note(
+            rt,
+            &mut self.book,
+            &self.worker,
+            halted,
+            awaited,
+            turned.answer,
+        );
+        let drops = reports_kept(breaks, self.worker.end.is_halted());
+        report(
+            rt,
+            alloc,
+            &mut self.book,
+            &self.worker.end,
+            drops,
+            turned.outputs.as_slice(),
+        );
+        self.worker.last = put_outputs(
+            rt,
+            &mut self.tasks,
+            &self.worker.end,
+            self.worker.last,
+            turned.outputs,
+        );
+        stops
+    }
+
+    // Takes a command of the book. One that waits gives nothing to do, and nobody is told.
+    fn obey_one<H: Drop, R: Wait>(
+        &mut self,
+        rt: &R,
+        alloc: Global,
+        own_init: &Message,
+        known: &[u16],
+        busy: &mut bool,
+    )
+    where
+        T: Sends<Task<H>>,
+        ensures { Ran E.acts E.halted E.pending E.seen W.contents own_init.now known.now false
+            (glance E.state W.contents I.taken T.put B.said self.old)
+            (glance E.state W.contents I.taken T.put B.said self.new) }
+    {
+        let Some(channel) = self.worker.end.channel() else {
+            return;
+        };
+        let Some(command) = self.book.take(rt, alloc, channel) else {
+            return;
+        };
+        let next = self.worker.end.next_id();
+        let command_subject = command_subject(next, &command);
+        let halted = self.worker.end.is_halted();
+        let obeyed = self.worker.obey(alloc, command);
+        let answer = answer_to(command_subject, obeyed.answer);
+        self.book.answered(rt, channel, answer);
+        let waits = waits(answer);
+        *busy = *busy || !waits;
+        note_command(
+            rt,
+            &mut self.book,
+            &self.worker,
+            halted,
+            waits,
+            obeyed.answer,
+        );
+        report(
+            rt,
+            alloc,
+            &mut self.book,
+            &self.worker.end,
+            false,
+            obeyed.outputs.as_slice(),
+        );
+        self.worker.last = put_outputs(
+            rt,
+            &mut self.tasks,
+            &self.worker.end,
+            self.worker.last,
+            obeyed.outputs,
+        );
+    }
+
+    // Loads a halted end, and puts those of its pending events that weren't put yet.
+    fn reload_if_halted<H: Drop, R: Wait>(
+        &mut self,
+        rt: &R,
+        alloc: Global,
+        own_init: &Message,
+        known: &[u16],
+    )
+    where
+        T: Sends<Task<H>>,
+        ensures { ReloadsIfHalted E.acts E.halted E.pending E.seen W.contents own_init.now known.now
+            (glance E.state W.contents I.taken T.put B.said self.old)
+            (glance E.state W.contents I.taken T.put B.said self.new) }
+    {
+        if !self.worker.end.is_halted() {
+            return;
+        }
+        let answer = self.worker.load(alloc);
+        let told = self.worker.pending_behind(rt, alloc, answer);
+        report_load(
+            rt,
+            alloc,
+            &mut self.book,
+            &self.worker.end,
+            answer,
+            told.as_slice(),
+        );
+        self.worker.last = put_events(
+            rt,
+            &mut self.tasks,
+            &self.worker.end,
+            self.worker.last,
+            told,
+        );
+    }
+}
+
+/// Serves the items of a worker's relay and the commands of the book in turn, until `Stop`, and gives all of it back:
+/// an end that has halted is loaded from its record before each item that is taken. The events that are pending at the
+/// start or after a load, and those that the end hands out, are put for the dispatcher as those of the end's channel,
+/// each number once and in rising order; before that the book is told what has become of HTLCs by them, and what the
+/// end has kept after a lost connection or a load. A command of the book is answered by what the end has answered. The
+/// peer is greeted by `own_init`, an init, and its init may ask for no even feature but the known ones. Where there is
+/// nothing to do it waits for the wake-up, and between loads that are refused the longer, the more they are; it tries
+/// again where there is no memory or the dispatcher's relay is full.
+pub fn worker_loop<E, W, I, H, T, B, R>(
+    rt: &R,
+    alloc: Global,
+    own_init: &Message,
+    known: &[u16],
+    work: WorkerLoop<E, W, I, T, B>,
+) -> WorkerLoop<E, W, I, T, B>
+where
+    E: End + Drop,
+    W: Closes + Drop,
+    I: Receives<Item<W>> + Drop,
+    H: Drop,
+    T: Sends<Task<H>> + Drop,
+    B: ReadsEnds<E> + Drop,
+    R: Wait,
+    ensures serves_all_and_tells_all { Began E.acts E.halted E.pending E.seen W.contents own_init.now known.now
+        (glance E.state W.contents I.taken T.put B.said work)
+        (glance E.state W.contents I.taken T.put B.said result) }
+{
+    let mut work = work;
+    let told = work.worker.pending(rt, alloc);
+    report_pending(
+        rt,
+        alloc,
+        &mut work.book,
+        &work.worker.end,
+        false,
+        told.as_slice(),
+    );
+    let last = work.worker.last;
+    work.worker.last = put_events(rt, &mut work.tasks, &work.worker.end, last, told);
+    let mut refused = 0u64;
+    for _ in rt.forever() {
+        let sounds = work.book.sounds();
+        let mut busy = false;
+        work.reload_if_halted(rt, alloc, own_init, known);
+        refused = work.refused(refused);
+        if work.take_one(rt, alloc, own_init, known, &mut busy) {
+            return work;
+        }
+        work.obey_one(rt, alloc, own_init, known, &mut busy);
+        work.wait(rt, sounds, refused, busy);
+    }
+    unreachable!()
+}

@@ -1,5 +1,0 @@
-use Rattle.ln_pair.proofs.Marks.ShutdownAnswered.{all_answered}
-use Rattle.ln_pair.proofs.laws.a_shutdown_is_answered.Goals as goal
-
-pub returns : goal.returns
-returns c = all_answered

@@ -1,5 +1,0 @@
-use Rattle.ln_pair.proofs.Bases.LongestBase.{both_longest}
-use Rattle.ln_pair.proofs.laws.bases_are_the_longest.Goals as goal
-
-pub returns : goal.returns
-returns c = both_longest

@@ -1,5 +1,0 @@
-use Rattle.ln_pair.proofs.Machine.RunMoves.{set_up_so}
-use Rattle.ln_pair.proofs.laws.ends_stay_as_set_up.Goals as goal
-
-pub returns : goal.returns
-returns c = set_up_so

@@ -1,5 +1,0 @@
-use Rattle.ln_pair.proofs.Ends.Promised.{none_adds_late}
-use Rattle.ln_pair.proofs.laws.no_add_follows_a_shutdown.Goals as goal
-
-pub returns : goal.returns
-returns c = none_adds_late

@@ -1,5 +1,0 @@
-use Rattle.ln_pair.proofs.Fees.OneFee.{all_taken}
-use Rattle.ln_pair.proofs.laws.no_message_is_refused_where_fees_overlap.Goals as goal
-
-pub returns : goal.returns
-returns c = all_taken

@@ -1,8 +1,0 @@
-use Rattle.std.proofs.Common.{◌≡◌, ◌++◌, drop}
-use Rattle.ln_readings.specs.Rebuild.{all_unfinished}
-use Rattle.ln_readings.proofs.rebuild.add_all_unfinished.Given as goal
-
--- those that are left complete those that were added
-abbrev pub invariant-loop-reading : goal.invariant-loop-reading
-invariant-loop-reading l =
-    l.htlcs.items ++ all_unfinished l.all (drop l.reading-index l.all) ≡ l.fn.htlcs.items ++ all_unfinished l.all l.all

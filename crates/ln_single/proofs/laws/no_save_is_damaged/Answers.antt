@@ -1,5 +1,0 @@
-use Rattle.ln_single.proofs.Led.{no_damage}
-use Rattle.ln_single.proofs.laws.no_save_is_damaged.Goals as goal
-
-pub returns : goal.returns
-returns d c = no_damage

@@ -1,5 +1,0 @@
-use Rattle.ln_single.proofs.Toy.{toy_keys}
-use Rattle.ln_single.proofs.laws.toy_keys_are_wide.Goals as goal
-
-pub returns : goal.returns
-returns c = toy_keys

@@ -1,6 +1,0 @@
-pub mod Handed
-pub mod Course
-pub mod Records
-pub use Rattle.ln_pair.specs.Widths
-pub use Rattle.ln_link.specs.Calls
-pub use Rattle.ln_link.specs.Saving

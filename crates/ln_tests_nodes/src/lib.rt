@@ -1,0 +1,18 @@
+//! Tests of running nodes over loopback, by their public calls alone: hooks and workers beside each other, strangers,
+//! payments that wait. What lines can say stands in ln_node_calls.
+#![tactic(auto)]
+
+mod frames;
+
+pub use frames::ping_frame;
+
+#[cfg(test)]
+mod client;
+#[cfg(test)]
+mod embedding;
+#[cfg(test)]
+mod openings;
+#[cfg(test)]
+mod pair;
+#[cfg(test)]
+mod tests;

@@ -1,5 +1,0 @@
-use Rattle.ln_turns.proofs.Owing.{in-parts}
-use Rattle.ln_turns.proofs.bench.report_pending.Goals as goal
-
-pub returns : goal.returns
-returns g c = in-parts _ _ _ _ _ _ _ c.report_kept_if.ensures c.settle_events.ensures c.report_use.ensures

@@ -1,5 +1,0 @@
-use Rattle.std.proofs.Common.{◌≡◌}
-use Rattle.ln_turns.proofs.dispatch.decide.Given as goal
-
-abbrev pub invariant-loop : goal.invariant-loop
-invariant-loop g l = g.B.Books.said l.book ≡ g.B.Books.said l.initial.book

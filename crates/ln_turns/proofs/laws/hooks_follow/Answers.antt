@@ -1,5 +1,0 @@
-use Rattle.ln_turns.proofs.Following.{follows}
-use Rattle.ln_turns.proofs.laws.hooks_follow.Goals as goal
-
-pub returns : goal.returns
-returns g c first second taken merged none = follows first second taken merged.0 merged.1 none

@@ -1,5 +1,0 @@
-use Rattle.std.proofs.Common.{◌≡◌}
-use Rattle.ln_turns.proofs.reader.put.Given as goal
-
-abbrev pub invariant-loop : goal.invariant-loop
-invariant-loop g l = (g.S.Sends.put l.seat ≡ g.S.Sends.put l.initial.seat) × (l.item ≡ l.initial.item)

@@ -1,8 +1,0 @@
-use Rattle.std.proofs.Common.{refl}
-use Rattle.ln_turns.specs.Saved.{acts}
-use Rattle.ln_turns.proofs.Saving.{command-listed}
-use Rattle.ln_turns.proofs.saved.SavedLinkEnd.command.Goals as goal
-
-pub returns : goal.returns
-unfolding acts
-returns g c = (refl, command-listed (λ v. v.items) _ _ _ _ _ _ (c.command.ensures.answers _ refl))

@@ -1,7 +1,0 @@
-use Rattle.std.proofs.Common.{refl}
-use Rattle.ln_turns.specs.Saved.{acts}
-use Rattle.ln_turns.proofs.saved.SavedLinkEnd.drop_connection.Goals as goal
-
-pub returns : goal.returns
-unfolding acts
-returns g c = (refl, (c.drop_connection.ensures.state _ refl, refl))

@@ -1,0 +1,52 @@
+-- A node that stops behind an act of its end, told from that end: the links are at the ends of a pair behind the act,
+-- the loss of the connection, and the loss of all that the act has sent.
+use Rattle.std.proofs.Common.{◌≡◌, ℕ, List, [], refl, sym, ap, ◌∙◌, subst, true}
+use Rattle.ln_keys.specs.Signer.{Signer}
+use Rattle.ln_channel.specs.declared.machine.ConnectionState.TheVariants.{Down}
+use Rattle.ln_channel.specs.End.{end_dropped}
+use Rattle.ln_channel.specs.State.{is_down}
+use Rattle.ln_channel_laws.specs.Ends.{Ends, Lose, Cut}
+use Rattle.ln_channel_laws.specs.Ends as pair
+use Rattle.ln_channel_laws.proofs.Offered.{IsCutOff}
+use Rattle.ln_world_channels.specs.Both.{Both, restarted}
+use Rattle.ln_world_channels.proofs.Mirror.{link_at, IsInbox, Mirrors}
+use Rattle.ln_world_channels.proofs.Dropped.{IsDropped}
+use Rattle.ln_world_channels.proofs.Moves.{restarted_so, lost_says}
+
+-- x is cut off, with what this many messages leave of what it has sent
+abbrev pub ends_stopped : Signer → ℕ → Ends → Ends
+ends_stopped keys n r = pair.acts keys (Cut n) (pair.acts keys Lose r)
+
+module _ {K : Type 0} (signer : K → Signer) (id : List ℕ) (kx ky : K) where
+  -- p at the ends q, and p' at the ends r, which are x's act behind these
+  pub stopped_so : (p p' : Both K) (q r : Ends) (cut : IsCutOff q (pair.acts (signer kx) Lose r))
+      → IsDropped r.x_line r.x → Mirrors id kx ky p q → Mirrors id kx ky p' r
+      → Mirrors id kx ky (record { x = restarted p'.x; y = p.y }) (ends_stopped (signer kx) cut.left r)
+  stopped_so p p' q r cut dropped h h' =
+      let s : Ends = pair.acts (signer kx) Lose r in
+      let g = restarted_so signer id kx ky p' r dropped h' in
+      subst (λ w. Mirrors id kx ky (record { x = restarted p'.x; y = p.y }) w) (sym cut.cut) (record {
+        x_halted = g.x_halted;
+        y_halted = h.y_halted;
+        x_link = g.x_link;
+        y_link = h.y_link ∙ ap (λ l. link_at h.y_halted ky l q.y) (sym cut.y_line)
+            ∙ ap (link_at h.y_halted ky s.y_line) (sym cut.y);
+        x_down = g.x_down;
+        y_down = subst (λ l. h.y_halted ≡ true → is_down l ≡ true) (sym cut.y_line) h.y_down;
+        x_in = g.x_in;
+        y_in = subst (λ l. IsInbox id l p.y.inbox q.to_y) (sym cut.y_line) h.y_in;
+        x_channel = g.x_channel;
+        y_channel = g.y_channel;
+        x_keys = g.x_keys;
+        y_keys = h.y_keys;
+      })
+
+-- nothing more is said
+pub stopped_says : (keys : Signer) (q r : Ends) (cut : IsCutOff q (pair.acts keys Lose r))
+    → ((ends_stopped keys cut.left r).said_x ≡ r.said_x) × ((ends_stopped keys cut.left r).said_y ≡ r.said_y)
+stopped_says keys q r cut =
+    let down : Ends = record r { x_line = Down; x = end_dropped r.x; to_x = [] } in
+    let lost = lost_says (is_down r.x_line) r down refl refl in (
+      ap (λ (w : Ends). w.said_x) cut.cut ∙ lost.0,
+      ap (λ (w : Ends). w.said_y) cut.cut ∙ lost.1,
+    )

@@ -1,0 +1,5 @@
+use Rattle.ln_world_channels.proofs.Promised.{all_taken}
+use Rattle.ln_world_channels.proofs.laws.never_refused_where_fees_overlap.Goals as goal
+
+pub returns : goal.returns
+returns g c = all_taken g.K.ChannelKeys

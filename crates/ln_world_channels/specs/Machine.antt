@@ -1,0 +1,159 @@
+-- Which moves of the channel's abstract machine the steps of a world are, and what the ends of a channel tell (BOLT 2,
+-- "Normal Operation").
+use Rattle.std.specs.Prelude.{◌≡◌, ℕ, List, [], ◌∷◌, ◌++◌, Option, Some, None, Result, Ok, Err, ◌==◌, ◌&&◌}
+use Rattle.std.specs.Prelude.{if◌then◌else◌}
+use Rattle.ln_msgs.specs.declared.messages.message.Message.{Message}
+use Rattle.ln_msgs.specs.declared.refusals.refusal.Refusal.{Refusal}
+use Rattle.ln_keys.specs.declared.keys.ChannelKeys.{Ghosts}
+use Rattle.ln_keys.specs.declared.role.Role.{Role}
+use Rattle.ln_keys.specs.declared.role.Role.TheVariants.{Funder, Fundee}
+use Rattle.ln_keys.specs.Signer.{Signer}
+use Rattle.ln_log.specs.Machine.{Machine, Drop, Open}
+use Rattle.ln_log.specs.Machine as machine
+use Rattle.ln_hooks.specs.declared.event.ChannelEvent.{ChannelEvent}
+use Rattle.ln_channel.specs.declared.command.Command.{Command}
+use Rattle.ln_channel.specs.declared.machine.ConnectionState.{ConnectionState}
+use Rattle.ln_channel.specs.declared.machine.Stage.{Stage}
+use Rattle.ln_channel.specs.declared.machine.Stage.TheVariants as stage
+use Rattle.ln_channel.specs.declared.output.Output.{Output}
+use Rattle.ln_channel.specs.End.{End}
+use Rattle.ln_channel.specs.State.{State, is_down}
+use Rattle.ln_channel.specs.Step.{Done, handled, commanded}
+use Rattle.ln_channel_laws.specs.Moves.{machine_by, moves_asked, moves_between}
+use Rattle.ln_channel_laws.specs.Pending.{IsInStep}
+use Rattle.ln_world_channels.specs.declared.step.Act.{Act}
+use Rattle.ln_world_channels.specs.declared.step.Act.TheVariants as act
+use Rattle.ln_world_channels.specs.declared.step.Step.{Step}
+use Rattle.ln_world_channels.specs.declared.step.Step.TheVariants as step
+use Rattle.ln_world_channels.specs.Settings.{opening_by}
+use Rattle.ln_world_channels.specs.Both.{Both, SimEnd, Move, By, Falls, Halts, Restarts, Stops, Meet, first_message}
+use Rattle.ln_world_channels.specs.WorldChannel.{WorldChannel, place_of}
+use Rattle.ln_world_channels.specs.World.{World, channel, settings_of, may_open}
+use Rattle.ln_world_channels.specs.Promises.{AtEnd}
+use Rattle.ln_world_channels.specs.Course.{in_channel, over}
+
+-- ---- the machine that a channel stands for: none where there is no channel, or where an end of it isn't open
+
+abbrev pub machine_with : End → Stage → Option Machine
+machine_with x (stage.Funded y) = Some (machine_by x y)
+machine_with x s = None
+
+abbrev pub machine_of_stages : Stage → Stage → Option Machine
+machine_of_stages (stage.Funded x) s = machine_with x s
+machine_of_stages r s = None
+
+abbrev pub machine_of : {K : Type 0} → Option (WorldChannel K) → Option Machine
+machine_of None = None
+machine_of (Some c) = machine_of_stages c.both.x.link.stage c.both.y.link.stage
+
+-- ---- a message, by what the link was before and is behind it
+
+abbrev pub moves_to : Role → Message → End → Stage → List machine.Move
+moves_to side m e (stage.Funded f) = moves_between side m e f
+moves_to side m e s = []
+
+abbrev pub moves_from : Role → Message → Stage → Stage → List machine.Move
+moves_from side m (stage.Funded e) s = moves_to side m e s
+moves_from side m r s = []
+
+abbrev pub moves_of_message : Role → Message → Stage → Result Done Refusal → List machine.Move
+moves_of_message side m s (Ok d) = moves_from side m s d.stage
+moves_of_message side m s (Err r) = []
+
+abbrev pub moves_delivered : {K : Type 0} → (K → Signer) → Role → List Message → State K → List machine.Move
+moves_delivered signer side [] l = []
+moves_delivered signer side (m ∷ ms) l = moves_of_message side m l.stage (handled (signer l.keys) l m)
+
+-- ---- a command, where it isn't refused
+
+abbrev pub moves_asked_of : Role → Command → Stage → List machine.Move
+moves_asked_of side c (stage.Funded e) = moves_asked side c e
+moves_asked_of side c s = []
+
+abbrev pub moves_of_command : Role → Command → Stage → Result Done Refusal → List machine.Move
+moves_of_command side c s (Ok d) = moves_asked_of side c s
+moves_of_command side c s (Err r) = []
+
+-- ---- a move of a channel
+
+abbrev pub moves_of_act : {K : Type 0} → (K → Signer) → Role → Act → SimEnd K → List machine.Move
+moves_of_act signer side act.Deliver p = moves_delivered signer side p.inbox p.link
+moves_of_act signer side (act.Send c) p =
+    moves_of_command side c p.link.stage (commanded (signer p.link.keys) p.link c)
+
+-- a lost connection drops what no signature covers; an end that has no memory loses it, and a restart is one
+abbrev pub moves_of_fall : Role → ConnectionState → List machine.Move
+moves_of_fall side l = if is_down l then [] else Drop side ∷ []
+
+-- behind an act a stop is one too: no act makes a connection, or ends one
+abbrev pub moves_of_stop : {K : Type 0} → (K → Signer) → Role → Act → SimEnd K → List machine.Move
+moves_of_stop signer side a p = moves_of_act signer side a p ++ moves_of_fall side p.link.connection
+
+abbrev pub moves_of : {K : Type 0} → (K → Signer) → Move → Both K → List machine.Move
+moves_of signer (By side a) p = moves_of_act signer side a (place_of side p)
+moves_of signer (Falls side) p = moves_of_fall side (place_of side p).link.connection
+moves_of signer (Halts side) p = moves_of_fall side (place_of side p).link.connection
+moves_of signer (Restarts side) p = moves_of_fall side (place_of side p).link.connection
+moves_of signer (Stops side a) p = moves_of_stop signer side a (place_of side p)
+moves_of signer Meet p = []
+
+-- ---- all moves of the channel with this number, its opening first
+
+abbrev pub moves_of_opening : {K : Type 0} → (k : Ghosts K) → ℕ → Step K k → World K → List machine.Move
+moves_of_opening k n (step.Open o) w =
+    if may_open o w && o.channel == n
+    then Open (opening_by o.satoshis o.push (settings_of o.funder w.settings) (settings_of o.fundee w.settings)) ∷ []
+    else []
+moves_of_opening k n s w = []
+
+abbrev pub moves_in : {K : Type 0} → (k : Ghosts K) → ℕ → Step K k → World K → List machine.Move
+moves_in k n s w = moves_of_opening k n s w ++ in_channel k (λ id. moves_of k.signer) s w (channel n w.channels)
+
+abbrev pub history : {K : Type 0} → (k : Ghosts K) → ℕ → List (Step K k) → World K → List machine.Move
+history k n ss w = over k (moves_in k n) ss w
+
+-- ---- what an end hands out: messages to the peer, and what is told beside them
+
+abbrev pub outputs_of : Result Done Refusal → List Output
+outputs_of (Ok d) = d.outputs
+outputs_of (Err r) = []
+
+abbrev pub delivery_tells : {K : Type 0} → (K → Signer) → List Message → State K → List Output
+delivery_tells signer [] l = []
+delivery_tells signer (m ∷ ms) l = outputs_of (handled (signer l.keys) l m)
+
+abbrev pub act_tells : {K : Type 0} → (K → Signer) → Act → SimEnd K → List Output
+act_tells signer act.Deliver p = delivery_tells signer p.inbox p.link
+act_tells signer (act.Send c) p = outputs_of (commanded (signer p.link.keys) p.link c)
+
+-- the end of this side, in a move; what it handed out before its node stopped it has told, though nobody heard it
+abbrev pub tells : {K : Type 0} → (K → Signer) → Role → Move → Both K → List Output
+tells signer Funder (By Funder a) p = act_tells signer a p.x
+tells signer Funder (By Fundee a) p = []
+tells signer Funder (Falls side) p = []
+tells signer Funder (Halts side) p = []
+tells signer Funder (Restarts side) p = []
+tells signer Funder (Stops Funder a) p = act_tells signer a p.x
+tells signer Funder (Stops Fundee a) p = []
+tells signer Funder Meet p = outputs_of (first_message signer p.x.link)
+tells signer Fundee (By Funder a) p = []
+tells signer Fundee (By Fundee a) p = act_tells signer a p.y
+tells signer Fundee (Falls side) p = []
+tells signer Fundee (Halts side) p = []
+tells signer Fundee (Restarts side) p = []
+tells signer Fundee (Stops Funder a) p = []
+tells signer Fundee (Stops Fundee a) p = act_tells signer a p.y
+tells signer Fundee Meet p = outputs_of (first_message signer p.y.link)
+
+-- the end of this side of the channel with this number, since it was opened
+abbrev pub told_in : {K : Type 0} → (k : Ghosts K) → ℕ → Role → Step K k → World K → List Output
+told_in k n side s w = in_channel k (λ id. tells k.signer side) s w (channel n w.channels)
+
+abbrev pub all_told : {K : Type 0} → (k : Ghosts K) → ℕ → Role → List (Step K k) → World K → List Output
+all_told k n side ss w = over k (told_in k n side) ss w
+
+-- ---- what the end of this side of a channel has yet to decide is in step with these events; no channel has any
+
+abbrev pub AreInStep : {K : Type 0} → Role → List ChannelEvent → Option (WorldChannel K) → Type 0
+AreInStep side events None = events ≡ []
+AreInStep side events (Some c) = AtEnd (IsInStep events) (place_of side c.both).link.stage
