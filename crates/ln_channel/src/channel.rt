@@ -228,7 +228,7 @@ impl Channel {
     }
 
     // Keeps what became of the own HTLCs that the peer's updates remove which are held from this one on.
-    pub(crate) fn keep_results(&mut self, alloc: Global, before: usize) -> Result<(), Refusal>
+    pub(crate) fn keep_results(&mut self, before: usize) -> Result<(), Refusal>
         requires start { before ≤ self.old.dance.log.acknowledged.peer }
         requires kept { self.old.dance.log.first.peer ≤ before }
         ensures state { (e : End) → StandsFor self.old e
@@ -237,7 +237,7 @@ impl Channel {
         ensures same_channel { self.new.dance.channel ≡ self.old.dance.channel }
     {
         let updates = peer_since(&self.dance, before);
-        self.ledger.keep_results(alloc, self.dance.log(), updates)
+        self.ledger.keep_results(self.dance.log(), updates)
     }
 
     // ---- what it owes the peer

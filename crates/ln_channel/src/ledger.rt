@@ -73,11 +73,7 @@ fn origin_of(log: &UpdateLog, id: u64) -> Option<(ChannelId, u64)>
 
 // What became of the own HTLC that this update of the peer's removes, where it forwards another one, and no update
 // that has left the window removes it.
-fn settlement_by(
-    alloc: Global,
-    log: &UpdateLog,
-    update: &Update,
-) -> Result<Option<Settlement>, Refusal>
+fn settlement_by(log: &UpdateLog, update: &Update) -> Result<Option<Settlement>, Refusal>
     ensures settlement { IsNotGone (before_first side.Peer log.now) (removed update.now)
         → IfOk result (λ s. s ≡ settlement_by log.now.own update.now) }
     ensures fails_for_memory_alone { IfErr result (λ r. r ≡ Refusal.Memory) }
@@ -213,17 +209,12 @@ impl EventLedger {
     ghost use Rattle.ln_channel.specs.Ledger.{forgotten, resume_held_row};
 
     // Keeps what became of the own HTLC that this update removes, where none that has left the window does.
-    fn keep_result(
-        &mut self,
-        alloc: Global,
-        log: &UpdateLog,
-        update: &Update,
-    ) -> Result<(), Refusal>
+    fn keep_result(&mut self, log: &UpdateLog, update: &Update) -> Result<(), Refusal>
         ensures kept { IsNotGone (before_first side.Peer log.now) (removed update.now)
             → OnOk result (self.new ≡ resulted log.now.own (update.now ∷ []) self.old) }
         ensures fails_for_memory_alone { IfErr result (λ r. r ≡ Refusal.Memory) }
     {
-        match settlement_by(alloc, log, update)? {
+        match settlement_by(log, update)? {
             None => {}
             Some(settlement) => self.results.push(settlement)?,
         }
@@ -234,7 +225,6 @@ impl EventLedger {
     /// does.
     pub(crate) fn keep_results(
         &mut self,
-        alloc: Global,
         log: &UpdateLog,
         updates: &[Update],
     ) -> Result<(), Refusal>
@@ -243,7 +233,7 @@ impl EventLedger {
         ensures fails_for_memory_alone { IfErr result (λ r. r ≡ Refusal.Memory) }
     {
         for update in updates {
-            self.keep_result(alloc, log, update)?;
+            self.keep_result(log, update)?;
         }
         Ok(())
     }

@@ -252,7 +252,7 @@ impl<K: ChannelKeys + Drop> ChannelMachine<K> {
                 Ok(Outbox::new(alloc))
             }
             Stage::AwaitsAccept(spec) => {
-                let message = open_channel(alloc, &self.keys, spec)?;
+                let message = open_channel(&self.keys, spec)?;
                 self.connection = ConnectionState::Connected;
                 one(alloc, Message::OpenChannel(message))
             }

@@ -229,11 +229,7 @@ impl OpenSpec {
 /// The `open_channel` by which a funder asks for a channel (BOLT 2, "The `open_channel` Message").
 ///
 /// Takes memory for its records; 60 where there is none.
-pub fn open_channel<K: ChannelKeys>(
-    alloc: Global,
-    keys: &K,
-    spec: &FitSpec,
-) -> Result<OpenChannel, Refusal>
+pub fn open_channel<K: ChannelKeys>(keys: &K, spec: &FitSpec) -> Result<OpenChannel, Refusal>
     ensures message { IfOk result (λ m. m ≡ open_message (K.signer keys.now) spec.now) }
     ensures fails_for_memory_alone { IfErr result (λ r. r ≡ refusal.Memory) }
 {

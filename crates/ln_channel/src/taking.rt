@@ -182,7 +182,7 @@ impl Channel {
         self.learn(keys, message)?;
         let mut outbox = Outbox::new(alloc);
         self.report_peer(alloc, before, &mut outbox)?;
-        self.keep_results(alloc, before)?;
+        self.keep_results(before)?;
         Ok(outbox)
     }
 

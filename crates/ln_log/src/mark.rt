@@ -73,7 +73,7 @@ pub struct Decision {
 }
 
 /// What became of an own HTLC that forwards another one.
-#[derive(Clone, Drop)]
+#[derive(Drop)]
 pub struct Settlement {
     /// The own HTLC.
     pub id: u64,

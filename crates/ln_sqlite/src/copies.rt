@@ -77,7 +77,7 @@ impl Copies {
     }
 
     /// A copy of what the id has.
-    pub(crate) fn copy_of(&self, alloc: Global, id: &[u8; 32]) -> Result<Option<Bytes>, Refusal>
+    pub(crate) fn copy_of(&self, id: &[u8; 32]) -> Result<Option<Bytes>, Refusal>
         ensures gives_the_record { IfOk result (λ found. found ≡ map.get self.now id.now) }
         ensures fails_for_memory_alone { IfErr result (λ e. e ≡ Refusal.Memory) }
     {

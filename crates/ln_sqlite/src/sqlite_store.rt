@@ -190,7 +190,7 @@ impl<S: Alter> RecordStore for SqliteStore<S> {
         ensures keeps_the_table { KeepsTable S.Store self.old.connection self.old.copies
             self.new.connection self.new.copies }
     {
-        let kept = self.copies.copy_of(alloc, id)?;
+        let kept = self.copies.copy_of(id)?;
         let Ok(rows) = load_rows(&mut self.connection, id) else {
             return Err(counted(&mut self.failures));
         };
