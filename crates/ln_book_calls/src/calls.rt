@@ -1,7 +1,6 @@
 //! The calls of a book, by numbers.
 
 use crate::answers::Answers;
-use crate::line::{at, bytes_of, code, numbers, wide};
 use crate::node::Node;
 use crate::onion::onion_of;
 use crate::payments::payments;
@@ -12,6 +11,7 @@ use ln_forward::Policy;
 use ln_hooks::{ChannelEvent, FailureCode, How, Msat, Verdict};
 use ln_keys::{ToyOnion, sha256_32};
 use ln_msgs::Refusal;
+use ln_tests_links::{at, bytes_of, code, numbers, wide};
 use std::alloc::{AllocError, Global};
 
 fn told(alloc: Global, outcome: Result<(), Refusal>) -> Result<String, AllocError> {

@@ -1,13 +1,11 @@
 //! The two ends of a channel: the node's own, which funds it, and its peer's.
 
-use ln_bytes::{Bytes, ShortId};
-use ln_channel::{
-    Channel, ChannelMachine, Command, Config, FitConfig, FitSpec, OpenSpec, Output, Points,
-};
+use ln_bytes::ShortId;
+use ln_channel::{Channel, ChannelMachine, Command, FitConfig, FitSpec, OpenSpec, Output};
 use ln_hooks::ChannelEvent;
 use ln_keys::ToyKeys;
-use ln_log::Limits;
 use ln_msgs::{Message, Records, Refusal};
+use ln_tests_links::{CHEAP, boxed, config, push};
 use std::alloc::Global;
 
 type End = ChannelMachine<ToyKeys>;
@@ -36,14 +34,6 @@ pub enum Signing {
     Lost,
 }
 
-const POINTS: Points = Points {
-    funding_pubkey: [2; 33],
-    revocation_basepoint: [2; 33],
-    payment_basepoint: [2; 33],
-    delayed_payment_basepoint: [2; 33],
-    htlc_basepoint: [2; 33],
-};
-
 /// Keys whose tag is that of the peer's peer.
 fn keys(own: u8, peer: u8) -> ToyKeys {
     ToyKeys {
@@ -53,38 +43,10 @@ fn keys(own: u8, peer: u8) -> ToyKeys {
     }
 }
 
-fn config(alloc: Global) -> Config {
-    Config {
-        limits: Limits {
-            minimum: 1,
-            accepted: 30,
-            in_flight: 1_000_000_000_000,
-            reserve: 0,
-        },
-        chain_hash: [0; 32],
-        dust_limit: 546,
-        to_self_delay: 144,
-        minimum_depth: 3,
-        points: POINTS,
-        first: 300,
-        least: 200,
-        greatest: 400,
-        script: Bytes::empty(alloc),
-    }
-}
-
-fn boxed<T: Drop>(alloc: Global, value: T) -> Result<Box<T>, Refusal> {
-    Ok(Box::new(alloc, value)?)
-}
-
-fn push<T: Drop>(items: &mut Vec<T>, item: T) -> Result<(), Refusal> {
-    Ok(items.push(item)?)
-}
-
 /// A new end of the funder, of a channel whose id are these bytes. Half of its 1,000,000 satoshis are the fundee's.
 fn funder(alloc: Global, channel: [u8; 32]) -> Result<Box<End>, Refusal> {
     let spec = OpenSpec {
-        config: config(alloc),
+        config: config(alloc, CHEAP),
         funding: 1_000_000,
         push: 500_000_000,
         feerate: 253,
@@ -107,7 +69,7 @@ fn funder(alloc: Global, channel: [u8; 32]) -> Result<Box<End>, Refusal> {
 
 /// A new end of the fundee.
 fn fundee(alloc: Global) -> Result<Box<End>, Refusal> {
-    let config = config(alloc);
+    let config = config(alloc, CHEAP);
     if config.fits() {
         boxed(
             alloc,

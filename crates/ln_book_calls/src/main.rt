@@ -5,7 +5,6 @@
 mod answers;
 mod calls;
 mod ends;
-mod line;
 mod node;
 mod onion;
 mod payments;

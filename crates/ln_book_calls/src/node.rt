@@ -1,7 +1,6 @@
 //! A node: its book, and the channels whose ends it asks.
 
 use crate::ends::{Ends, Signing, Told};
-use crate::line::{at, bytes_of, wide};
 use crate::onion::onion_of;
 use crate::show::show_command;
 use ln_book::Book;
@@ -11,6 +10,7 @@ use ln_hooks::Verdict;
 use ln_keys::{ToyOnion, sha256_32};
 use ln_log::ChannelId;
 use ln_msgs::Refusal;
+use ln_tests_links::{at, bytes_of, wide};
 use std::alloc::{AllocError, Global};
 
 /// A channel of the node's.

@@ -2,9 +2,9 @@
 
 ghost use Rattle.std.specs.Prelude.{◌≤◌};
 
-use crate::line::at;
 use ln_bytes::Bytes;
 use ln_keys::ToyOnion;
+use ln_tests_links::at;
 use std::alloc::{AllocError, Global};
 
 /// Appends a number without leading zeros.

@@ -1,11 +1,11 @@
 //! Payments there and back, to measure what the book's calls take.
 
-use crate::line::{at, bytes_of};
 use ln_book::Book;
 use ln_bytes::Bytes;
 use ln_hooks::{ChannelEvent, How, Msat, Verdict};
 use ln_keys::{Onion, OpenFault, Opened};
 use ln_msgs::Refusal;
+use ln_tests_links::{at, bytes_of};
 use std::alloc::Global;
 
 /// An onion whose payload is known, and which goes on as it is.

@@ -21,9 +21,9 @@ pub use Rattle.ln_channel_laws.proofs.Records.WidthsOverTurns.{AnswerFits, compl
 pub use Rattle.ln_channel_laws.proofs.Records.WidthsOverTurns.{meets_fits}
 pub use Rattle.ln_channel_laws.proofs.Records.WidthsOverTurns.{next_small}
 -- and every list of steps
-pub use Rattle.ln_channel_laws.proofs.Records.CountsOverRuns.{are_counted}
-pub use Rattle.ln_channel_laws.proofs.Records.WidthsOverRuns.{StepIsWide, based_fits, BothFit, run_fit, are_wide}
-pub use Rattle.ln_channel_laws.proofs.Records.WidthsOverRuns.{FitsFirst}
+pub use Rattle.ln_channel_laws.proofs.Records.CountsOverRuns.{first_steady, are_counted}
+pub use Rattle.ln_channel_laws.proofs.Records.WidthsOverRuns.{StepIsWide, based_fits, dropped_fits, BothFit, run_fit}
+pub use Rattle.ln_channel_laws.proofs.Records.WidthsOverRuns.{are_wide, FitsFirst}
 pub use Rattle.ln_channel_laws.proofs.Records.WidthsOverRuns.{first_fits}
 -- an act whose messages are lost
 pub use Rattle.ln_channel_laws.proofs.Ends.StoppedActs.{greeted, IsLeft, is_deed, left_alone, deeds_leave, deeds_line}

@@ -9,7 +9,7 @@ use Rattle.ln_hooks.specs.declared.event.ChannelEvent.{ChannelEvent}
 use Rattle.ln_hooks.specs.declared.verdict.Verdict.{Verdict}
 use Rattle.ln_hooks.specs.declared.verdict.Verdict.TheVariants.{Continue, Fail, Hold}
 use Rattle.ln_hooks.specs.Verdict.{first_code, verdict_by, verdict, joined}
-use Rattle.ln_hooks.specs.Chain.{IsCalledOn}
+use Rattle.ln_hooks.specs.Chain.{IsCalledOn, shown_to}
 use Rattle.ln_hooks.specs.Table.{AreCalledOn, AreChains, first_answer, later_answers, verdicts, Says, SaysOfEach}
 
 -- the verdict of one more answer, where one of those before was Hold
@@ -189,3 +189,32 @@ module _ {H F : Type 0} (call : H → F) (step : F → Bor ChannelEvent → Verd
             subst (λ w. SaysOfEach call step old events w after) same all;
       } in
       subst (λ w. Leaves old events w next left) (sym pushed) one_more
+
+-- hooks that are called by contracts of their own are called by those of what they keep, where these follow
+module _ {H F : Type 0} (calls : H → ChannelEvent → Verdict → H → Type 0) (call : H → F)
+    (step : F → Bor ChannelEvent → Verdict → F → Type 0) where
+  -- so is each by its own contract
+  abbrev Follows : Type 0
+  Follows = (h : H) (event : ChannelEvent) (answer : Verdict) (h' : H) → calls h event answer h'
+      → IsCalledOn step (call h) event answer (call h')
+
+  called-same : (hs : List H) (event : ChannelEvent) (answers : List Verdict) (hs' : List H)
+      → AreCalledOn (λ (h : H). h) (shown_to calls) hs event answers hs' → Follows
+      → AreCalledOn call step hs event answers hs'
+  called-same [] event [] [] k same = tt
+  called-same (h ∷ hs) event (answer ∷ answers) (h' ∷ hs') k same = (
+    same h event answer h' (subst (λ e. calls h e answer h') k.0.shows k.0.met),
+    called-same hs event answers hs' k.1 same,
+  )
+  called-same [] event [] (h' ∷ hs') k same = elim k [ ]
+  called-same [] event (answer ∷ answers) _ k same = elim k [ ]
+  called-same (h ∷ hs) event [] _ k same = elim k [ ]
+  called-same (h ∷ hs) event (answer ∷ answers) [] k same = elim k [ ]
+
+  pub says-same : (hs : List H) (event : ChannelEvent) (said : Verdict) (hs' : List H)
+      → Says (λ (h : H). h) (shown_to calls) hs event said hs' → Follows → Says call step hs event said hs'
+  says-same hs event said hs' k same = record {
+    answers = k.answers;
+    called = called-same hs event k.answers hs' k.called same;
+    joins = k.joins;
+  }

@@ -19,3 +19,9 @@ module _ {F : Type 0} (step : F → Bor ChannelEvent → Verdict → F → Type 
       (next : F) × IsCalledOn f event answer next × IsChain next events answers f'
   IsChain f [] (answer ∷ answers) f' = ⊥
   IsChain f (event ∷ events) [] f' = ⊥
+
+-- what is called by a contract of its own, as one who shows it the event calls it: calls h event answer h' says that h
+-- may be called on the event, answer so, and be h' from then on
+abbrev pub shown_to : {H : Type 0} → (H → ChannelEvent → Verdict → H → Type 0) → H → Bor ChannelEvent → Verdict → H
+    → Type 0
+shown_to calls h x answer h' = calls h x.now answer h'

@@ -1,10 +1,27 @@
 //! The hooks of a channel end.
 
+ghost use Rattle.ln_hooks.specs.Chain.{shown_to};
+ghost use Rattle.ln_hooks.specs.Table.{Says};
+
 use crate::event::ChannelEvent;
 use crate::hook::Hook;
+use crate::serve::{Serve, Table};
 use crate::verdict::Verdict;
 use ln_msgs::Refusal;
 use std::alloc::Global;
+
+/// Calls each hook on the event, once and in order, whatever those before it answered, and says what is to become of
+/// it. Takes no memory, but for what the hooks take.
+pub fn call_each<H: Serve>(hooks: &mut Vec<H>, event: &ChannelEvent) -> Verdict
+    ensures calls_each_hook { Says (λ h. h) (shown_to H.calls) hooks.old.items event.now result hooks.new.items }
+{
+    let mut verdict = Verdict::Continue;
+    for i in 0..hooks.len() {
+        let hook = &mut hooks[i];
+        verdict = verdict.joined(hook.serve(event));
+    }
+    verdict
+}
 
 /// The hooks of a channel end. Every hook is called on every event, once and in order of registration, whatever those
 /// before it answered; what the table says of the event is the first Fail, else Hold where any hook holds it, else
@@ -46,12 +63,7 @@ impl HookTable {
     pub fn call(&mut self, event: &ChannelEvent) -> Verdict
         ensures calls_each_hook { Says (λ h. h.call) step self.old.hooks.items event.now result self.new.hooks.items }
     {
-        let mut verdict = Verdict::Continue;
-        for i in 0..self.hooks.len() {
-            let hook = &mut self.hooks[i];
-            verdict = verdict.joined(hook.call(event));
-        }
-        verdict
+        call_each(&mut self.hooks, event)
     }
 
     /// Calls each hook on each of the events in turn, and says what is to become of each. All the memory that it takes
@@ -67,5 +79,25 @@ impl HookTable {
             verdicts.push_reserved(self.call(event));
         }
         Ok(verdicts)
+    }
+}
+
+impl Table<Hook> for HookTable {
+    ghost use Rattle.std.specs.Prelude.{◌≡◌, ◌++◌, ◌∷◌, []};
+    ghost use Rattle.ln_hooks.specs.Table.{Says};
+
+    ghost registers = { λ t h t'. t'.hooks.items ≡ t.hooks.items ++ h ∷ [] };
+
+    ghost says = { λ t event verdict t'. Says (λ h. h.call) step t.hooks.items event verdict t'.hooks.items };
+
+    fn register(&mut self, hook: Hook) -> Result<(), Hook> {
+        match HookTable::register(self, hook) {
+            Ok(()) => Ok(()),
+            Err((hook, _)) => Err(hook),
+        }
+    }
+
+    fn call(&mut self, event: &ChannelEvent) -> Verdict {
+        HookTable::call(self, event)
     }
 }

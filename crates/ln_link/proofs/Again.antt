@@ -26,7 +26,7 @@ use Rattle.ln_channel.specs.declared.channel.Readiness.{Readiness}
 use Rattle.ln_channel.specs.Ledger.{Ledger}
 use Rattle.ln_channel.specs.Opening.{opening_of}
 use Rattle.ln_channel.specs.Parts.{end_with}
-use Rattle.ln_link.specs.Loading.{log_of, log_in, short_id_of, dance_of, closing_of, terms_of, marks_of, ledger_of}
+use Rattle.ln_link.specs.Loading.{log_of, log_in, short_id_of, dance_of, closing_of, terms_of, readiness_of, ledger_of}
 use Rattle.ln_link.specs.Loading.{end_of, TellsLog, IsLoadable}
 
 -- what is used of readable items
@@ -114,13 +114,13 @@ id_again b t o bf tf of =
 -- of the parts that they tell
 pub told_end : (i : Items) (d : Dancer) (c : Closing) (t : Terms) (m : Readiness) (g : Ledger)
     → d ≡ dance_of i.header i.commitments (log_in i) → c ≡ closing_of i.header i.agreement i.progress.fees
-    → t ≡ terms_of i.agreement → m ≡ marks_of i.header.flags i.agreement.place → g ≡ ledger_of i.progress
+    → t ≡ terms_of i.agreement → m ≡ readiness_of i.header.flags i.agreement.place → g ≡ ledger_of i.progress
     → end_with d c t m g ≡ end_of i
 unfolding end_of
 told_end i d c t m g dance closing terms readiness ledger =
     let told_dance = dance_of i.header i.commitments (log_in i) in
     let told_closing = closing_of i.header i.agreement i.progress.fees in
-    let told_marks = marks_of i.header.flags i.agreement.place in
+    let told_marks = readiness_of i.header.flags i.agreement.place in
     ap (λ (x : Dancer). end_with x c t m g) dance
     ∙ ap (λ (x : Closing). end_with told_dance x t m g) closing
     ∙ ap (λ (x : Terms). end_with told_dance told_closing x m g) terms

@@ -154,8 +154,8 @@ short_id_of bytes = record {
   tx_fits = cut_below (big_number 3 (drop 3 bytes));
 }
 
-abbrev pub marks_of : Flags → Option (List ℕ) → Readiness
-marks_of f place = record {
+abbrev pub readiness_of : Flags → Option (List ℕ) → Readiness
+readiness_of f place = record {
   short_id = option_map short_id_of place;
   ready_sent = f.ready_sent;
   ready_received = f.ready_received;
@@ -257,7 +257,7 @@ log_in i = log_of (opening_of (terms_of i.agreement)) i.header.role i.updates
 unfoldable pub end_of : Items → End
 end_of i =
     end_with (dance_of i.header i.commitments (log_in i)) (closing_of i.header i.agreement i.progress.fees)
-    (terms_of i.agreement) (marks_of i.header.flags i.agreement.place) (ledger_of i.progress)
+    (terms_of i.agreement) (readiness_of i.header.flags i.agreement.place) (ledger_of i.progress)
 
 -- ---- which items can be loaded
 

@@ -20,7 +20,7 @@ ghost use Rattle.ln_store.specs.Record.{record_at, IsSpelledBy, is_sealed, versi
 ghost use Rattle.ln_store.specs.Removals.{are_one_side};
 ghost use Rattle.ln_store.specs.Sides.{count_of, window_of};
 ghost use Rattle.ln_store.specs.declared.record.Items.{Items};
-ghost use Rattle.ln_link.specs.Loading.{open_in, accept_in, terms_of, marks_of, closing_of, counts_by, balances_in};
+ghost use Rattle.ln_link.specs.Loading.{open_in, accept_in, terms_of, readiness_of, closing_of, counts_by, balances_in};
 ghost use Rattle.ln_link.specs.Loading.{place_in, live_htlcs_in, counts_in, coverage_in, log_of, dance_of};
 ghost use Rattle.ln_link.specs.Loading.{ledger_of, end_of, short_id_of, TellsLog, IsLoadable, Loads};
 
@@ -108,8 +108,8 @@ fn short_id_of(place: &ChainPlace) -> ShortId
     place.id()
 }
 
-fn marks_of(flags: Flags, place: &Option<ChainPlace>) -> Readiness
-    ensures { result ≡ marks_of flags place.now }
+fn readiness_of(flags: Flags, place: &Option<ChainPlace>) -> Readiness
+    ensures { result ≡ readiness_of flags place.now }
 {
     let short_id = match place {
         None => None,
@@ -369,7 +369,7 @@ fn channel_of(alloc: Global, items: Items) -> Result<Channel, Refusal>
         updates,
         progress,
     } = items;
-    let readiness = marks_of(header.flags, &agreement.place);
+    let readiness = readiness_of(header.flags, &agreement.place);
     let closing = closing_of(header, agreement.fees, progress.fees);
     let ledger = ledger_of(progress);
     let terms = match terms_of(alloc, agreement) {

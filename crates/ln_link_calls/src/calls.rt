@@ -3,11 +3,12 @@
 use crate::channel::{again, renew};
 use crate::commands::{command, is_command};
 use crate::end::End;
-use crate::line::{at, bytes_of_parts, numbers};
+use crate::line::bytes_of_parts;
 use crate::show::{pending, record, refused, stand, told};
 use ln_bytes::Fault;
 use ln_msgs::{Incoming, Message, decode};
 use ln_store::RecordStore;
+use ln_tests_links::{at, numbers};
 use std::alloc::{AllocError, Global};
 use std::fmt::Write;
 

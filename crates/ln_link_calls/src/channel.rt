@@ -3,9 +3,9 @@
 use crate::calls::pass;
 use crate::commands::command;
 use crate::end::End;
-use crate::line::numbers;
 use crate::opening::{USUAL, fundee, funder};
 use crate::show::told;
+use ln_tests_links::numbers;
 use std::alloc::{AllocError, Global};
 use std::mem;
 

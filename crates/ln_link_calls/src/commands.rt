@@ -1,12 +1,13 @@
 //! Commands of an end, by numbers.
 
 use crate::end::End;
-use crate::line::{at, bytes_of, code, filled, wide};
+use crate::line::filled;
 use crate::show::told;
 use ln_bytes::{Bytes, ShortId};
 use ln_channel::Command;
 use ln_keys::sha256_32;
 use ln_log::Mark;
+use ln_tests_links::{at, bytes_of, code, wide};
 use std::alloc::{AllocError, Global};
 
 /// What is done about an event: nothing, a forward to channel 7, a failure, a malformed one, a fulfilment; or its HTLC

@@ -1,13 +1,14 @@
 //! The two ends of a new channel, by numbers.
 
 use crate::end::End;
-use crate::line::{at, bytes_of, code, filled};
+use crate::line::filled;
 use ln_bytes::{Bytes, Record};
 use ln_channel::{Config, FitConfig, FitSpec, OpenSpec, Points};
 use ln_keys::ToyKeys;
 use ln_link::Link;
 use ln_log::Limits;
 use ln_msgs::Records;
+use ln_tests_links::{at, bytes_of, code};
 use std::alloc::{AllocError, Global};
 
 /// What a line doesn't say of a side: its points are bytes from one on, its script is one byte.

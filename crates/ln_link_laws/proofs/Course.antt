@@ -54,10 +54,10 @@ use Rattle.ln_channel.specs.Step.{awaiting_at, stage_row, is_passed_over, messag
 use Rattle.ln_channel.specs.Step.{handled, is_of_records, line_fault, obeyed_open, obeyed, noted, commanded}
 use Rattle.ln_channel.specs.Step.{connects, connected}
 use Rattle.ln_channel_laws.specs.Ends.{ledger_behind}
-use Rattle.ln_channel_laws.specs.Widths.{IsUpdate, IsCommand}
+use Rattle.ln_channel_laws.specs.Widths.{IsCommand}
 use Rattle.ln_channel_laws.proofs.Offered.{All, all-append, all-take, Where, noted as noted_behind, IsNotReady}
-use Rattle.ln_channel_laws.proofs.Offered.{not_ready}
-use Rattle.ln_channel_laws.proofs.Offered.{Steady, noted_steady, based_steady, Origin, Fits, length-front, based_fits}
+use Rattle.ln_channel_laws.proofs.Offered.{not_ready, Steady, first_steady, noted_steady, based_steady, Origin, Fits}
+use Rattle.ln_channel_laws.proofs.Offered.{based_fits, dropped_fits}
 use Rattle.ln_channel_laws.proofs.Offered.{noted_fits, AnswerFits, row_fits, completes, meets_fits, command_fits}
 use Rattle.ln_channel_laws.proofs.Offered.{where_true}
 use Rattle.ln_msgs.specs.Refusals.Refusal.{refusal_number}
@@ -112,18 +112,7 @@ peer_point Fundee f t h = open_point t.open_channel h.open_channel
 
 first_more : (r : Role) (c : List ℕ) (f : Fees) (t : Terms) → AreTerms f t → HasMore (end_of (opened_by r c f t))
 first_more r c f t h = record {
-  steady = record {
-    first_own = omega arith;
-    first_peer = omega arith;
-    undecided = tt;
-    there = tt;
-    events = omega arith;
-    decisions = omega arith;
-    results = omega arith;
-    secret = λ e. refl;
-    next_point = λ e g. refl;
-    heard = tt;
-  };
+  steady = first_steady r c f t;
   ordered = record {
     commitment = omega arith;
     signed = omega arith;
@@ -187,25 +176,6 @@ first_lasts r c f t id h = record {
 }
 
 -- ---- without what no signature covers
-
-dropped_fits : (o : Origin) (e : End) → Fits o e → Fits o (end_dropped e)
-dropped_fits o e h =
-    let l = e.dance.log in
-    let own_front = length-front l.signed.own l.own in
-    let own_most = h.own_room in
-    let front = length-front l.current.peer l.received in
-    let most = h.received_room in
-    record {
-      origin = h.origin;
-      own = all-take IsUpdate l.signed.own l.own h.own;
-      own_room = omega (arith, own_front, own_most);
-      received = all-take IsUpdate l.current.peer l.received h.received;
-      received_room = omega (arith, front, most);
-      script = h.script;
-      peer_script = h.peer_script;
-      decisions = h.decisions;
-      results = h.results;
-    }
 
 dropped_more : (e : End) → HasMore e → HasMore (end_dropped e)
 dropped_more e h =

@@ -47,14 +47,14 @@ use Rattle.ln_link_laws.proofs.SoundForms.{open_sounds, funding_told, accept_sou
 
 -- ---- what an end keeps of its opening
 
-record Opens (e : End) : Type 0 where
-  channel : length e.dance.channel ≡ 32
-  fees : AreFees e.closing.fees
-  funds : HasFunds (opening_of e.terms)
-  open_channel : IsMessage (message.OpenChannel e.terms.open_channel)
-  accept_channel : IsMessage (message.AcceptChannel e.terms.accept_channel)
-  opening : e.dance.log.opening ≡ opening_of e.terms
-  role : e.dance.log.role ≡ e.closing.role
+pub record Opens (e : End) : Type 0 where
+  pub channel : length e.dance.channel ≡ 32
+  pub fees : AreFees e.closing.fees
+  pub funds : HasFunds (opening_of e.terms)
+  pub open_channel : IsMessage (message.OpenChannel e.terms.open_channel)
+  pub accept_channel : IsMessage (message.AcceptChannel e.terms.accept_channel)
+  pub opening : e.dance.log.opening ≡ opening_of e.terms
+  pub role : e.dance.log.role ≡ e.closing.role
 
 has_funds : (o : Opening) → IsFit o → HasFunds o
 has_funds o h = record { some_funds = h.some_funds; funds = h.funds; push = h.push }
@@ -294,7 +294,7 @@ unreadable : (b : Bool) → b ≡ true → b ≡ false → ⊥
 unreadable true p q = cc
 unreadable false p q = cc
 
-record_so : (f : Option Refusal) (e : End) → it.failure.fits f ≡ true → Opens e → IsCounted e → IsWide e
+pub record_so : (f : Option Refusal) (e : End) → it.failure.fits f ≡ true → Opens e → IsCounted e → IsWide e
     → NoRecord f e → ⊥
 unfolding NoRecord
 record_so f e fits o k w (inl lack) = both_written e o lack

@@ -25,7 +25,7 @@ use Rattle.ln_link.proofs.Refusing.{has_halted}
 use Rattle.ln_channel_laws.specs.Widths.{IsCommand}
 use Rattle.ln_channel_laws.proofs.Offered.{All}
 use Rattle.ln_link_laws.specs.Handed.{IsMessage, AreKeys}
-use Rattle.ln_link_laws.specs.Course.{IsCall, AreCalls, Gives, BeginsAt, Begins, IsTold, ComesBack, Returns, LiveHtlcs}
+use Rattle.ln_link_laws.specs.Course.{IsCall, AreCalls, Gives, BeginsAt, Begins, IsTold, ComesBack, Returns, Epochs}
 use Rattle.ln_link_laws.specs.Course.{IsLink, IsSendable, AreSendable}
 use Rattle.ln_link_laws.proofs.Failures.{IsFailure, fits_of}
 use Rattle.ln_link_laws.proofs.Forms.{has_record}
@@ -261,11 +261,11 @@ module _ (k : Signer) (keys : AreKeys k) where
   returns_stand l back h r =
       inr (comes_good r.told back (told_good l r.told (not_halted l r.stands h) r.is_told) r.returns)
 
-  live_htlcs_stand : {K : Type 0} (live_htlcs : List (List Call)) (l n : State K) → Stands l
-      → LiveHtlcs k live_htlcs l n → Stands n
-  live_htlcs_stand [] l n h x = moved n l x h
-  live_htlcs_stand (cs ∷ live_htlcs) l n h x =
-      live_htlcs_stand live_htlcs x.1 n (returns_stand x.0 x.1 (lead_stands cs l x.0 x.2 x.3 x.4 h x.5) x.6) x.7
+  epochs_stand : {K : Type 0} (epochs : List (List Call)) (l n : State K) → Stands l
+      → Epochs k epochs l n → Stands n
+  epochs_stand [] l n h x = moved n l x h
+  epochs_stand (cs ∷ epochs) l n h x =
+      epochs_stand epochs x.1 n (returns_stand x.0 x.1 (lead_stands cs l x.0 x.2 x.3 x.4 h x.5) x.6) x.7
 
   begins_stage : (s : Stage) → BeginsAt k s → StageLasts k s
   begins_stage (stage.AwaitsAccept s) h = h
@@ -284,7 +284,7 @@ module _ (k : Signer) (keys : AreKeys k) where
   link_stands : {K : Type 0} (l : State K) → IsLink k l → Stands l
   link_stands l h =
       lead_stands h.calls h.back l h.store h.behind h.are_calls
-      (live_htlcs_stand h.live_htlcs h.first h.back (begins_stand h.first h.begins) h.comes) h.leads
+      (epochs_stand h.epochs h.first h.back (begins_stand h.first h.begins) h.comes) h.leads
 
   -- ---- no save is damaged
 

@@ -68,19 +68,19 @@ pub record Returns {K : Type 0} (keys : Signer) (l back : State K) : Type 0 wher
   pub returns : ComesBack told back
 
 -- calls, and behind them a restart, one after the other
-abbrev pub LiveHtlcs : {K : Type 0} → Signer → List (List Call) → State K → State K → Type 0
-LiveHtlcs keys [] l l' = l' ≡ l
-LiveHtlcs keys (cs ∷ live_htlcs) l l' =
+abbrev pub Epochs : {K : Type 0} → Signer → List (List Call) → State K → State K → Type 0
+Epochs keys [] l l' = l' ≡ l
+Epochs keys (cs ∷ epochs) l l' =
     (k : State _) × (back : State _) × (s : StoreView) × (t : StoreView) × AreCalls cs × Lead keys cs l s k t
-    × Returns keys k back × LiveHtlcs keys live_htlcs back l'
+    × Returns keys k back × Epochs keys epochs back l'
 
 -- a link as it stands behind its beginning, any epochs, and further calls
 pub record IsLink {K : Type 0} (keys : Signer) (l : State K) : Type 0 where
   pub first : State K
   pub begins : Begins keys first
-  pub live_htlcs : List (List Call)
+  pub epochs : List (List Call)
   pub back : State K
-  pub comes : LiveHtlcs keys live_htlcs first back
+  pub comes : Epochs keys epochs first back
   pub calls : List Call
   pub are_calls : AreCalls calls
   pub store : StoreView

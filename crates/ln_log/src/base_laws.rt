@@ -82,7 +82,7 @@ pub fn a_record_without_a_base_has_all_updates()
 {}
 
 /// A law: whether both sides can pay behind a base may be told by whether the updates are worth something there.
-pub fn what_is_told_has_worth()
+pub fn what_is_told_has_balances()
     ensures has_balances { (t : RecordForm) → IsRestorable t
         → HasBalancesAt t t.signed × HasBalancesAt t t.acknowledged × HasBalancesAt t t.current }
     ensures can_pay { (t : RecordForm) (c : Counts) → HasBalancesAt t c

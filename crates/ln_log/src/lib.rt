@@ -26,7 +26,7 @@ pub use balances::Balances;
 pub use base_check::may_be_led_to;
 pub use base_laws::{
     a_base_is_led_to, a_record_tells_of_lists, a_record_without_a_base_has_all_updates,
-    alike_lists_are_not_told_apart, updates_lead_to_what_may_be_led_to, what_is_told_has_worth,
+    alike_lists_are_not_told_apart, updates_lead_to_what_may_be_led_to, what_is_told_has_balances,
     what_is_told_of_a_log_restores_it,
 };
 pub use laws::{

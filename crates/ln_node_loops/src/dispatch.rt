@@ -6,37 +6,12 @@ ghost use Rattle.ln_node_loops.specs.Served.{Served, verdict_word};
 
 use crate::books::Books;
 use crate::task::Task;
-use ln_hooks::{ChannelEvent, Verdict};
+use ln_hooks::{ChannelEvent, Table, Verdict};
 use ln_log::ChannelId;
 use ln_relay::Waits;
 use std::alloc::Global;
 use std::sync::Wait;
 use std::thread;
-
-/// A table of hooks, where hooks are an `H`. `HookTable` is one for `Hook`.
-pub trait Table<H> {
-    ghost use Rattle.std.specs.Prelude.{◌≡◌, OnOk, OnErr, IfErr};
-    ghost use Rattle.ln_hooks.specs.declared.event.ChannelEvent.{ChannelEvent};
-    ghost use Rattle.ln_hooks.specs.declared.verdict.Verdict.{Verdict};
-
-    /// With one hook more the table may be so.
-    ghost registers: { Self → H → Self → Type 0 };
-
-    /// The hooks may say so of an event, and leave the table so.
-    ghost says: { Self → ChannelEvent → Verdict → Self → Type 0 };
-
-    /// Registers a hook. Takes memory: where there is none the hook is handed back, and a hook that is registered then
-    /// is registered in the table as it was.
-    fn register(&mut self, hook: H) -> Result<(), H>
-        ensures registers { OnOk result (registers self.old hook self.new) }
-        ensures hands_back { IfErr result (λ h. h ≡ hook) }
-        ensures changes_nothing_if_refused { OnErr result
-            ((h : H) (t : Self) → registers self.new h t → registers self.old h t) };
-
-    /// Calls the hooks on an event, each once.
-    fn call(&mut self, event: &ChannelEvent) -> Verdict
-        ensures { says self.old event.now result self.new };
-}
 
 // Registers a hook. Where there is no memory it yields and tries again.
 fn register<H: Drop, T: Table<H>, R: Wait>(rt: &R, table: &mut T, hook: H)

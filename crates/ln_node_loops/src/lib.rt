@@ -5,7 +5,6 @@
 mod books;
 mod dispatch;
 mod end;
-mod hooks;
 mod item;
 mod kind;
 mod laws;
@@ -20,13 +19,14 @@ mod wire;
 mod worker;
 
 pub use books::{Books, ReadsEnds};
-pub use dispatch::{Table, dispatch_loop};
+pub use dispatch::dispatch_loop;
 pub use end::End;
 pub use item::Item;
 pub use kind::Kind;
 pub use laws::{
     a_load_keeps_pending_events, every_event_is_put, hooks_follow, nothing_is_written_after_a_loss,
 };
+pub use ln_hooks::Table;
 pub use notice::Notice;
 pub use reader::{put, reader_loop};
 pub use rounds::{WorkerLoop, worker_loop};

@@ -155,10 +155,10 @@ counts_text s =
     ++ (codes " peer " ++ decimal s.peer_held))))
 
 -- both balances in msat, how many HTLCs are live, and how far the channel is
-abbrev pub worth_text : Summary → List ℕ
-worth_text s =
+abbrev pub balances_text : Summary → List ℕ
+balances_text s =
     codes " balance " ++ (decimal s.own ++ (codes "/" ++ (decimal s.peer ++ (codes " live " ++ (decimal s.live
     ++ (codes " " ++ status_text s.status))))))
 
 abbrev pub end_line_text : EndLine → List ℕ
-end_line_text l = end_text l.end ++ (counts_text l.summary ++ worth_text l.summary)
+end_line_text l = end_text l.end ++ (counts_text l.summary ++ balances_text l.summary)

@@ -2,7 +2,8 @@
 
 ghost use Rattle.std.specs.Prelude.{◌≡◌, ◌++◌, OnOk, string_bytes};
 ghost use Rattle.ln_script.specs.LineText.{end_text, word_text, owner_text, ending_text, sends_text, added_text};
-ghost use Rattle.ln_script.specs.LineText.{settled_text, closed_text, line_text, status_text, counts_text, worth_text};
+ghost use Rattle.ln_script.specs.LineText.{settled_text, closed_text, line_text, status_text, counts_text};
+ghost use Rattle.ln_script.specs.LineText.{balances_text};
 ghost use Rattle.ln_script.specs.LineText.{event_text, refused_text, restarts_text, end_line_text, with_number};
 ghost use Rattle.ln_script.specs.LineText.{verdict_text, dispatched_text, code_text, choice_text, decided_text};
 ghost use Rattle.ln_script.specs.LineText.{resumed_text};
@@ -276,8 +277,8 @@ fn put_counts(text: &mut String, summary: &Summary) -> Result<(), AllocError>
 }
 
 /// Both balances in msat, how many HTLCs are live, and how far the channel is.
-fn put_worth(text: &mut String, summary: &Summary) -> Result<(), AllocError>
-    ensures { OnOk result (string_bytes text.new ≡ string_bytes text.old ++ worth_text summary.now) }
+fn put_balances(text: &mut String, summary: &Summary) -> Result<(), AllocError>
+    ensures { OnOk result (string_bytes text.new ≡ string_bytes text.old ++ balances_text summary.now) }
 {
     let own = summary.own;
     let peer = summary.peer;
@@ -292,5 +293,5 @@ pub(crate) fn put_end_line(text: &mut String, line: &EndLine) -> Result<(), Allo
 {
     put_end(text, line.end)?;
     put_counts(text, &line.summary)?;
-    put_worth(text, &line.summary)
+    put_balances(text, &line.summary)
 }

@@ -4,7 +4,7 @@ use Rattle.std.proofs.Common.{Result, Ok, Err, refl, sym, ap, ◌∙◌, subst, 
 use Rattle.std.proofs.Common.{ltb-false, leb-true}
 use Rattle.std.proofs.lemmas.Bool.{eqb-true}
 use Rattle.std.specs.Prelude.{not, ◌&&◌, ◌||◌, is_some}
-use Rattle.std.specs.List.{find}
+use Rattle.std.specs.List.{find, list_any}
 use Rattle.std.specs.Map.{lookup}
 use Rattle.indexmap.specs.IndexMap.{insert_entry}
 use lib.Pointwise.{bytes_decides}
@@ -36,7 +36,7 @@ use Rattle.ln_book_tables.specs.Replay.{is_settled, has_nothing_offered}
 use Rattle.ln_book_tables.specs.Replay.{is_open, is_outgoing_lost, is_among, incoming_kept, htlc_kept, kept_out}
 use Rattle.ln_book_tables.specs.Replay.{kept_at}
 use Rattle.ln_book_tables.specs.Replay.{put_back_all}
-use Rattle.ln_book_tables.specs.Replay.{is_later, refused, left_out}
+use Rattle.ln_book_tables.specs.Replay.{is_later, refused, left_out, is_queued}
 use Rattle.ln_book.specs.Commands.{Services, is_resolved_in, forwards_in, has_removal, due, removal_by}
 use Rattle.ln_book.specs.Commands.{with_out, command_by, command_of, or_next, first_due, is_queued_in, queued_command}
 use Rattle.ln_book.specs.Commands.{first_of, first_at, first_command, with_taken, with_answered}
@@ -608,6 +608,66 @@ offered-then c b k h id first is-out =
       λ e d j told lt is. not-nowhere d (htlc_kept e told g) j
           (ap (λ z. has_nothing_offered (cond z outgoing.Absent w)) (kept-offered e c id told.next lt)) is,
     )
+
+-- ---- a removal that was taken
+
+and-left : (a b : Bool) → (a && b) ≡ true → a ≡ true
+and-left true b e = refl
+and-left false b e = cc
+
+-- an HTLC whose removal was taken isn't due one
+not-open : (c : List ℕ) (h : Htlc) (k : Key) → is_open h.incoming ≡ false → due c h ≡ Some (out.Removing k) → ⊥
+not-open c h k here e =
+    elim (due-of c h (out.Removing k) e) [
+      | forgets d s v o ↦ cc
+      | adds d s f o ↦ cc
+      | takes d s f r o ↦ (
+          let ends = and-right (has_removal h.mark h.outgoing) (is_open h.incoming && same c h.key.channel) r in
+          let yes : true ≡ false = sym (and-left (is_open h.incoming) (same c h.key.channel) ends) ∙ here in cc
+          )
+    ]
+
+kept-removal : (here kept : Bool) → (here ≡ true → kept ≡ true)
+    → is_open (incoming_kept (not here || kept) incoming.RemovalSent) ≡ false
+kept-removal false kept so = refl
+kept-removal true kept so = ap (λ z. is_open (incoming_kept z incoming.RemovalSent)) (so refl)
+
+pub removed-then : (c : List ℕ) (b : History Table Entry) (k : Key) (h : Htlc) (id : ℕ)
+    → find (is_htlc k) (table_of b).htlcs ≡ Some h
+    → pending_command_at c (table_of b) ≡ pending_command.InFlight (out.Removing k)
+    → (g : Htlc) × (find (is_htlc k) (table_of (replied c (Ok id) b)).htlcs ≡ Some g)
+    × ((d : List ℕ) (j : Key) → due d g ≡ Some (out.Removing j) → ⊥)
+    × ((e d : List ℕ) (j : Key) (told : KeptState)
+    → (same e h.key.channel ≡ true → is_among h.key.id told.removes ≡ true)
+    → due d (htlc_kept e told g) ≡ Some (out.Removing j) → ⊥)
+removed-then c b k h id first is-out =
+    let g = put_incoming incoming.RemovalSent h in (
+      g,
+      ap (λ (u : Table). find (is_htlc k) u.htlcs) (replied-out c (Ok id) b (out.Removing k) is-out)
+          ∙ changed-found (is_htlc k) (put_incoming incoming.RemovalSent) (λ x. refl) (table_of b).htlcs h first,
+      λ d j e. not-open d g j refl e,
+      λ e d j told so is. not-open d (htlc_kept e told g) j
+          (kept-removal (same e h.key.channel) (is_among h.key.id told.removes) so) is,
+    )
+
+-- ---- a decision that was taken
+
+module _ {A : Type 0} (p : A → Bool) where
+  left-by : (b : Bool) (x : A) (xs : List A) → p x ≡ b → list_any p xs ≡ false
+      → list_any p (cond (not b) (x ∷ xs) xs) ≡ false
+  left-by true x xs is rest = rest
+  left-by false x xs is rest = ap (λ z. z || list_any p xs) is ∙ rest
+
+  none-left : (xs : List A) → list_any p (left_out p xs) ≡ false
+  none-left [] = refl
+  none-left (x ∷ xs) = left-by (p x) x (left_out p xs) refl (none-left xs)
+
+pub decided-then : (c : List ℕ) (b : History Table Entry) (n id : ℕ)
+    → pending_command_at c (table_of b) ≡ pending_command.InFlight (out.Deciding n)
+    → list_any (is_queued c n) (table_of (replied c (Ok id) b)).queue ≡ false
+decided-then c b n id is-out =
+    ap (λ (u : Table). list_any (is_queued c n) u.queue) (replied-out c (Ok id) b (out.Deciding n) is-out)
+    ∙ none-left (is_queued c n) (table_of b).queue
 
 -- ---- what is owed can be taken
 

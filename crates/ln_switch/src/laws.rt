@@ -1,7 +1,7 @@
 //! Laws of what a book of payments commands the channels of its node, over every list of what was entered in it.
 
 ghost use Rattle.std.specs.Prelude.{◌≡◌, ◌⊎◌, ◌<◌, ℕ, List, true, false, not, ◌&&◌, Some, Ok, Err, is_some, is_none};
-ghost use Rattle.std.specs.List.{find};
+ghost use Rattle.std.specs.List.{find, list_any};
 ghost use Rattle.ln_log.specs.declared.update.Add.{Add};
 ghost use Rattle.ln_log.specs.declared.update.Update.TheVariants as update;
 ghost use Rattle.ln_log.specs.Limits.{is_at_update_limit};
@@ -22,6 +22,7 @@ ghost use Rattle.ln_book_tables.specs.declared.entry.Entry.{Entry};
 ghost use Rattle.ln_book_tables.specs.declared.entry.Entry.TheVariants as entry;
 ghost use Rattle.ln_history.specs.History.{History, with_entry};
 ghost use Rattle.ln_book_tables.specs.Replay.{Table, table_of, pending_command_at, is_htlc, is_open, htlc_kept};
+ghost use Rattle.ln_book_tables.specs.Replay.{same, is_among, is_queued};
 ghost use Rattle.ln_book.specs.Commands.{Services, first_command, with_taken, due, command_by};
 ghost use Rattle.ln_switch.specs.Answers.{replied};
 ghost use Rattle.ln_switch.specs.Owing.{Owes, is_lost};
@@ -72,6 +73,26 @@ pub fn what_was_offered_is_not_offered_again()
         × ((d : List ℕ) (j : Key) → due d g ≡ Some (out.Adding j) → ⊥)
         × ((e d : List ℕ) (j : Key) (told : KeptState) → id < told.next
         → due d (htlc_kept e told g) ≡ Some (out.Adding j) → ⊥) }
+{}
+
+/// An HTLC whose removal was taken isn't removed again, in whatever channel, nor after a connection was lost while the
+/// channel by which it came has kept the removal.
+pub fn what_was_removed_is_not_removed_again()
+    ensures { (c : List ℕ) (b : History Table Entry) (k : Key) (h : Htlc) (id : ℕ)
+        → find (is_htlc k) (table_of b).htlcs ≡ Some h
+        → pending_command_at c (table_of b) ≡ pending_command.InFlight (out.Removing k)
+        → (g : Htlc) × (find (is_htlc k) (table_of (replied c (Ok id) b)).htlcs ≡ Some g)
+        × ((d : List ℕ) (j : Key) → due d g ≡ Some (out.Removing j) → ⊥)
+        × ((e d : List ℕ) (j : Key) (told : KeptState)
+        → (same e h.key.channel ≡ true → is_among h.key.id told.removes ≡ true)
+        → due d (htlc_kept e told g) ≡ Some (out.Removing j) → ⊥) }
+{}
+
+/// A decision that was taken isn't queued again.
+pub fn what_was_decided_is_not_decided_again()
+    ensures { (c : List ℕ) (b : History Table Entry) (n id : ℕ)
+        → pending_command_at c (table_of b) ≡ pending_command.InFlight (out.Deciding n)
+        → list_any (is_queued c n) (table_of (replied c (Ok id) b)).queue ≡ false }
 {}
 
 /// An end takes payments exactly where its link is connected and has neither halted nor failed, the channel isn't

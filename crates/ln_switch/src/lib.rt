@@ -13,7 +13,8 @@ pub use answers::{answer_to, command_subject, next_id, waits};
 pub use laws::{
     a_refused_offer_fails_back, an_end_takes_payments_where_it_may_offer,
     what_is_lost_is_owed_again, what_is_owed_can_be_taken,
-    what_is_refused_for_now_is_handed_out_again, what_was_offered_is_not_offered_again,
+    what_is_refused_for_now_is_handed_out_again, what_was_decided_is_not_decided_again,
+    what_was_offered_is_not_offered_again, what_was_removed_is_not_removed_again,
 };
 pub use saying::Saying;
 pub use seat::Seat;

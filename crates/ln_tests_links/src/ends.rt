@@ -39,7 +39,9 @@ pub fn htlc(id: u64, amount: u64, expiry: u32) -> Add
 }
 
 /// Least, first and greatest closing fee.
-type Range = (u64, u64, u64);
+pub type Range = (u64, u64, u64);
+
+pub const CHEAP: Range = (200, 300, 400);
 
 const DEAR: Range = (350, 400, 500);
 
@@ -51,7 +53,8 @@ const POINTS: Points = Points {
     htlc_basepoint: [2; 33],
 };
 
-fn config(alloc: Global, fees: Range) -> Config {
+/// What an end opens or takes channels with.
+pub fn config(alloc: Global, fees: Range) -> Config {
     Config {
         limits: Limits {
             minimum: 1,
@@ -78,7 +81,7 @@ pub fn boxed<T: Drop>(alloc: Global, value: T) -> Result<Box<T>, Refusal> {
 
 pub fn open_spec(alloc: Global) -> OpenSpec {
     OpenSpec {
-        config: config(alloc, (200, 300, 400)),
+        config: config(alloc, CHEAP),
         funding: 1_000_000,
         push: 0,
         feerate: 253,
@@ -102,7 +105,7 @@ fn collect(output: Output, messages: &mut Vec<Message>) -> Result<(), Refusal> {
 }
 
 /// Puts an item behind others.
-fn push<T: Drop>(items: &mut Vec<T>, item: T) -> Result<(), Refusal> {
+pub fn push<T: Drop>(items: &mut Vec<T>, item: T) -> Result<(), Refusal> {
     Ok(items.push(item)?)
 }
 

@@ -4,12 +4,15 @@
 
 mod ends;
 mod failing_store;
+mod line;
 mod refusal;
 
 pub use ends::{
-    FUNDEE, FUNDER, Side, boxed, fundee_side, funder_side, messages_of, offer, played, stored,
+    CHEAP, FUNDEE, FUNDER, Range, Side, boxed, config, fundee_side, funder_side, messages_of,
+    offer, played, push, stored,
 };
 pub use failing_store::FailingStore;
+pub use line::{at, bytes_of, code, numbers, wide};
 pub use refusal::code_of;
 
 #[cfg(test)]

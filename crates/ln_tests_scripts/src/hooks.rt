@@ -120,7 +120,7 @@ const TWO_ADDS: &str =
                         deliver A0\nsign B0\ndeliver A0\ndeliver B0\n";
 
 // Each hook is called on each event from the one on that is next as it is registered, also where one before it fails
-// the event; it has one seat at most, and is called no more once its node has restarted.
+// the event; it has one slot at most, and is called no more once its node has restarted.
 #[test]
 fn hooks_are_called(rt: HostRuntime) {
     let parts = [
@@ -148,7 +148,7 @@ fn hooks_are_called(rt: HostRuntime) {
     let told = [
         // nothing is there yet
         Line::Idle,
-        // the second hook has a seat, and there is no fifth one
+        // the second hook has a slot, and there is no fifth one
         Line::Idle,
         Line::Idle,
         // no event yet

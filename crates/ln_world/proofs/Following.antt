@@ -30,7 +30,7 @@ pub one_read : {K : Type 0} (m : ℕ) (n : Node) (cs : List (WorldChannel K)) (r
 unfolding snapshots_below
 one_read m n cs rs ss h i = i ∙ ap (λ x. snapshot_in n (channel m cs) x) h
 
--- the events from this number on, one of them heard
+-- the events from this number on, one of them reported
 pub one_heard : (id : List ℕ) (n count : ℕ) (e : ChannelEnd) (b c : Book) → n < count
     → c ≡ with_event id (undecided n e) b
     → with_events id (n + 1) (count - (n + 1)) e c ≡ with_events id n (count - n) e b

@@ -119,14 +119,14 @@ module _ {K : Type 0} (k : Ghosts K) {H : Type 0} (calls : H → ChannelEvent �
   -- either, where the parts of the code tell of it
   pub stepped_by : (s : Step K k) (o : Option (DispatchStep K k)) (w w' : World K) (ts ts' : List (Tables calls))
       (left left' : List (Option H)) (what : FollowUp) (xs : List NodeBook)
-      (told heard tells_of lines lines' : List Line)
+      (told reported tells_of lines lines' : List Line)
       → plain k s w ≡ o → what ≡ follow_up_of s w → xs ≡ prepared s w
       → Moves k calls o w.dispatchers ts left w'.dispatchers ts' left' told
-      → w'.nodes ≡ concluded what heard w'.dispatchers xs → heard ≡ told
+      → w'.nodes ≡ concluded what reported w'.dispatchers xs → reported ≡ told
       → lines' ≡ lines ++ tells what tells_of → tells_of ≡ told
       → Steps k calls s w ts left w' ts' left' lines lines'
-  stepped_by s o w w' ts ts' left left' what xs told heard tells_of lines lines' is follow_up first moves nodes hears so
-      says =
+  stepped_by s o w w' ts ts' left left' what xs told reported tells_of lines lines' is follow_up first moves nodes
+      hears so says =
       stepped s o w w' ts ts' left left' told lines lines' is moves
       (nodes ∙ ap (λ l. concluded what l w'.dispatchers xs) hears
       ∙ ap (λ e. concluded e told w'.dispatchers xs) follow_up

@@ -55,7 +55,7 @@ use Rattle.ln_world_channels.specs.World.{channel}
 use Rattle.ln_world_dispatch.specs.World.{item, named_at, undecided}
 use Rattle.ln_world.specs.declared.node.NodeBook.{NodeBook}
 use Rattle.ln_world.specs.Node.{Book}
-use Rattle.ln_world.specs.BookReports.{with_event, with_events, with_held, told_count}
+use Rattle.ln_world.specs.BookReports.{with_event, with_events, with_held, event_count}
 use Rattle.ln_switch.specs.declared.uses.Use.{Use}
 use Rattle.ln_switch.specs.Uses.{use_of, with_route}
 use Rattle.ln_switch.specs.Snapshots.{snapshot_by}
@@ -151,7 +151,7 @@ with_events_so c n (suc k) e b is h =
 pub held_so : (c : List ℕ) (before : ℕ) (o : Option ChannelEnd) (b : Book) → Where IsEnd o → IsBook b
     → IsBook (with_held c before o b)
 held_so c before None b is h = h
-held_so c before (Some e) b is h = with_events_so c before (told_count (Some e) - before) e b is h
+held_so c before (Some e) b is h = with_events_so c before (event_count (Some e) - before) e b is h
 
 -- ---- readings
 

@@ -67,7 +67,7 @@ use Rattle.ln_world.specs.World.{World, id_of, link_by, link_there, link_at, sav
 use Rattle.ln_world.specs.World.{command_in, handed, with_decision, deciding, asked, command_by, command_of}
 use Rattle.ln_world.specs.World.{handed_out, own_act, sent_or, call_of, unbegun, asked_unbegun, plain}
 use Rattle.ln_world.specs.World.{moved_by, lines_by, entered, with_height, is_height, prepared, follow_up_of, follows}
-use Rattle.ln_world.specs.World.{answered, heard, unanswered, saved_dropped, dropped, fallen, met}
+use Rattle.ln_world.specs.World.{answered, reported, unanswered, saved_dropped, dropped, fallen, met}
 use Rattle.ln_world.specs.World.{concluded, happens, with_verdict, plains}
 use Rattle.ln_world.specs.World.{with_resumed, resuming, resumed_at, stops_behind}
 use Rattle.ln_world.specs.Records.{IsAct, IsStep, AreWorldSteps}
@@ -477,7 +477,7 @@ module _ {K : Type 0} (k : Ghosts K) where
       with_answered_so (id_of e) (answer_by a.command_subject told) (out_command_at (id_of e) (table_of b)) b h
 
   heard_so : (e : End) (before : ℕ) (a : Option PendingAnswer) (told : List Line) (new : Dispatchers K) (b : Book)
-      → All AreEnds new.channels.channels → IsBook b → IsBook (heard e before a told new b)
+      → All AreEnds new.channels.channels → IsBook b → IsBook (reported e before a told new b)
   heard_so e before a told new b c h =
       held_so (id_of e) before (end_at e new) (answered e a told b)
       (saved_so (link_at e new.channels.channels) (link_so e new.channels.channels c)) (answered_so e a told b h)
@@ -514,7 +514,7 @@ module _ {K : Type 0} (k : Ghosts K) where
   concluded_so follow_up.None told new xs c h = h
   concluded_so (follow_up.Set n) told new xs c h = set_so n new xs c h
   concluded_so (follow_up.Act e before a) told new xs c h =
-      follows_so e.node (heard e before a told new) new xs (λ b g. heard_so e before a told new b c g) c h
+      follows_so e.node (reported e before a told new) new xs (λ b g. heard_so e before a told new b c g) c h
   concluded_so (follow_up.Fall e) told new xs c h = fallen_so e new (link_at e new.channels.channels) xs c h
   concluded_so (follow_up.Halt e out) told new xs c h =
       follows_so e.node (unanswered e out) new xs (λ b g. unanswered_so e out b g) c h

@@ -70,9 +70,9 @@ decided_line e o answer = []
 -- ---- what an end has come to hold
 
 -- how many events it has told
-abbrev pub told_count : Option ChannelEnd → ℕ
-told_count None = 0
-told_count (Some e) = e.ledger.decided + length e.ledger.undecided
+abbrev pub event_count : Option ChannelEnd → ℕ
+event_count None = 0
+event_count (Some e) = e.ledger.decided + length e.ledger.undecided
 
 -- the book is told of an event of the channel with this id
 abbrev pub with_event : List ℕ → Option ChannelEvent → Book → Book
@@ -87,4 +87,4 @@ with_events id n (suc k) e b = with_events id (n + 1) k e (with_event id (undeci
 -- of those behind the count that it had told before
 abbrev pub with_held : List ℕ → ℕ → Option ChannelEnd → Book → Book
 with_held id before None b = b
-with_held id before (Some e) b = with_events id before (told_count (Some e) - before) e b
+with_held id before (Some e) b = with_events id before (event_count (Some e) - before) e b

@@ -10,11 +10,15 @@ use Rattle.ln_world_channels.specs.declared.step.Step.{Step as ChannelStep}
 use Rattle.ln_world_dispatch.specs.Promises as promise
 use Rattle.ln_world_dispatch.specs.World as dispatchers
 use Rattle.ln_world.specs.declared.step.Step.{Step}
-use Rattle.ln_world.specs.World.{World, empty, plains}
+use Rattle.ln_world.specs.World.{World, empty, run, plains}
 
 -- from the empty world, so many hooks being handed in
 abbrev pub AreSteps : {K : Type 0} → (k : Ghosts K) → ℕ → List (Step K k × Verdict) → Type 0
 AreSteps k hooks ss = promise.AreSteps k hooks (plains k ss (empty hooks))
+
+-- it holds of the world that each list of steps makes of the empty one
+abbrev pub AfterEachRun : {K : Type 0} → (k : Ghosts K) → (World K → Type 0) → Type 0
+AfterEachRun {K} k P = (steps : List (Step K k × Verdict)) (hooks : ℕ) → P (run k steps (empty hooks))
 
 -- the steps of channels that they are
 abbrev pub channel_steps : {K : Type 0} → (k : Ghosts K) → ℕ → List (Step K k × Verdict) → List (ChannelStep K k)

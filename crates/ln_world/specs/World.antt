@@ -49,7 +49,7 @@ use Rattle.ln_world.specs.declared.node.NodeBook.{NodeBook}
 use Rattle.ln_world.specs.Node.{Book, services, node_at, changed, with_policy, with_book}
 use Rattle.ln_switch.specs.Answers.{next_id, command_subject, replied}
 use Rattle.ln_switch.specs.Uses.{with_dropped}
-use Rattle.ln_world.specs.BookReports.{answer_by, noted_of, decided_line, told_count, with_held}
+use Rattle.ln_world.specs.BookReports.{answer_by, noted_of, decided_line, event_count, with_held}
 use Rattle.ln_world.specs.Follow.{followed, begun_anew}
 
 pub record World (K : Type 0) : Type 0 where
@@ -260,7 +260,7 @@ refusing e (Some n) = follow_up.Refuse e
 -- an end that acts: how many events it has told, and what its book has asked of it
 abbrev pub acting : {K : Type 0} → End → Option Command → Option ChannelAct → Option ℕ → Dispatchers K → FollowUp
 acting e c None n d = refusing e n
-acting e c (Some x) n d = follow_up.Act e (told_count (end_at e d)) (asks_by c (next_id (end_at e d)))
+acting e c (Some x) n d = follow_up.Act e (event_count (end_at e d)) (asks_by c (next_id (end_at e d)))
 
 abbrev pub if_begun : Option ChannelAct → FollowUp → FollowUp
 if_begun None x = follow_up.None
@@ -302,8 +302,8 @@ answered e None told b = b
 answered e (Some a) told b = replied (id_of e) (answer_by a.command_subject told) b
 
 -- and what the end has come to hold
-abbrev pub heard : {K : Type 0} → End → ℕ → Option PendingAnswer → List Line → Dispatchers K → Book → Book
-heard e before a told new b = with_held (id_of e) before (end_at e new) (answered e a told b)
+abbrev pub reported : {K : Type 0} → End → ℕ → Option PendingAnswer → List Line → Dispatchers K → Book → Book
+reported e before a told new b = with_held (id_of e) before (end_at e new) (answered e a told b)
 
 -- one that has halted leaves its command in the book: it answers 62
 abbrev pub unanswered : End → Bool → Book → Book
@@ -336,7 +336,7 @@ met new (Some c) xs =
 abbrev pub concluded : {K : Type 0} → FollowUp → List Line → Dispatchers K → List NodeBook → List NodeBook
 concluded follow_up.None told new xs = xs
 concluded (follow_up.Set n) told new xs = changed n (followed new.channels.channels) xs
-concluded (follow_up.Act e before a) told new xs = follows e.node (heard e before a told new) new xs
+concluded (follow_up.Act e before a) told new xs = follows e.node (reported e before a told new) new xs
 concluded (follow_up.Fall e) told new xs = fallen e new (link_at e new.channels.channels) xs
 concluded (follow_up.Halt e out) told new xs = follows e.node (unanswered e out) new xs
 concluded (follow_up.Refuse e) told new xs = xs

@@ -5,7 +5,7 @@ ghost use Rattle.ln_msgs.specs.declared.refusals.refusal.Refusal.TheVariants as 
 ghost use Rattle.ln_world_dispatch.specs.World.{undecided};
 ghost use Rattle.ln_world.specs.BookReports.{done_by, answer_by, byte_at, choice_of, noted_of, noted_line};
 ghost use Rattle.ln_world.specs.BookReports.{decided_line};
-ghost use Rattle.ln_world.specs.BookReports.{told_count, with_event, with_events, with_held};
+ghost use Rattle.ln_world.specs.BookReports.{event_count, with_event, with_events, with_held};
 
 use crate::follow_up::DecisionNote;
 use ln_book::Book;
@@ -95,8 +95,8 @@ pub(crate) fn report_decided(
 }
 
 /// How many events an end has told. 60 where there are 2^64 of them.
-pub(crate) fn told_count(end: Option<&ChannelEnd>) -> Result<u64, Refusal>
-    ensures count { IfOk result (λ n. n ≡ told_count (option_copied end.entry)) }
+pub(crate) fn event_count(end: Option<&ChannelEnd>) -> Result<u64, Refusal>
+    ensures count { IfOk result (λ n. n ≡ event_count (option_copied end.entry)) }
     ensures fails_for_memory_alone { IfErr result (λ e. e ≡ refusal.Memory) }
 {
     match end {
@@ -122,7 +122,7 @@ fn on_event(
     end: &ChannelEnd,
     number: u64,
 ) -> Result<(), Refusal>
-    ensures heard { OnOk result (book.new ≡ with_event id (undecided number end.now) book.old) }
+    ensures reported { OnOk result (book.new ≡ with_event id (undecided number end.now) book.old) }
     ensures fails_for_memory_alone { IfErr result (λ e. e ≡ refusal.Memory) }
 {
     match undecided(alloc, end, number)? {
@@ -140,7 +140,7 @@ fn on_events(
     before: u64,
     count: u64,
 ) -> Result<(), Refusal>
-    ensures heard { OnOk result (book.new ≡ with_events id before (count - before) end.now book.old) }
+    ensures reported { OnOk result (book.new ≡ with_events id before (count - before) end.now book.old) }
     ensures fails_for_memory_alone { IfErr result (λ e. e ≡ refusal.Memory) }
 {
     for number in before..count {
@@ -151,20 +151,20 @@ fn on_events(
 
 /// The book of a channel's node is told what the end has come to hold, which had told so many events before. 60 where
 /// there is no memory.
-pub(crate) fn hear(
+pub(crate) fn report_held(
     alloc: Global,
     book: &mut Book,
     id: ChannelId,
     end: Option<&ChannelEnd>,
     before: u64,
 ) -> Result<(), Refusal>
-    ensures heard { OnOk result (book.new ≡ with_held id before (option_copied end.entry) book.old) }
+    ensures reported { OnOk result (book.new ≡ with_held id before (option_copied end.entry) book.old) }
     ensures fails_for_memory_alone { IfErr result (λ e. e ≡ refusal.Memory) }
 {
     match end {
         None => Ok(()),
         Some(end) => {
-            let count = told_count(Some(end))?;
+            let count = event_count(Some(end))?;
             on_events(alloc, book, id, end, before, count)
         }
     }

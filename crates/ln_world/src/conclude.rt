@@ -1,13 +1,14 @@
-//! What the books of nodes do behind a step: they hear what their ends have answered and come to hold, and follow them.
+//! What the books of nodes do behind a step: they are told what their ends have answered and come to hold, and follow
+//! them.
 
 ghost use Rattle.std.specs.Prelude.{◌≡◌, ◌++◌, OnOk, IfErr, option_copied};
 ghost use Rattle.ln_msgs.specs.declared.refusals.refusal.Refusal.TheVariants as refusal;
 ghost use Rattle.ln_world.specs.Node.{changed, with_book};
-ghost use Rattle.ln_world.specs.World.{follows, answered, heard, unanswered, saved_dropped, dropped, fallen};
+ghost use Rattle.ln_world.specs.World.{follows, answered, reported, unanswered, saved_dropped, dropped, fallen};
 ghost use Rattle.ln_world.specs.World.{restarted, met, concluded, decided_lines, tells, link_at};
 ghost use Rattle.ln_world.specs.Follow.{followed, begun_anew};
 
-use crate::book_reports::{answer_by, hear, report_decided};
+use crate::book_reports::{answer_by, report_decided, report_held};
 use crate::call::{end_at, link_at};
 use crate::follow::{begin_anew, follow};
 use crate::follow_up::{FollowUp, PendingAnswer};
@@ -58,13 +59,13 @@ fn on_end<K: ChannelKeys + Copy>(
     asked: Option<PendingAnswer>,
     told: &[Line],
 ) -> Result<(), Refusal>
-    ensures heard { OnOk result (node.new ≡ followed dispatchers.now.channels.channels
-        (with_book (heard end before asked told.now dispatchers.now node.old.book) node.old)) }
+    ensures reported { OnOk result (node.new ≡ followed dispatchers.now.channels.channels
+        (with_book (reported end before asked told.now dispatchers.now node.old.book) node.old)) }
     ensures fails_for_memory_alone { IfErr result (λ e. e ≡ refusal.Memory) }
 {
     let id = channel_id_of(end.channel);
     on_answer(&mut node.book, end, asked, told);
-    hear(
+    report_held(
         alloc,
         &mut node.book,
         id,
@@ -85,7 +86,7 @@ fn conclude_act<K: ChannelKeys + Copy>(
     told: &[Line],
 ) -> Result<(), Refusal>
     ensures concluded { OnOk result (nodes.new.items
-        ≡ follows end.node (heard end before asked told.now dispatchers.now) dispatchers.now nodes.old.items) }
+        ≡ follows end.node (reported end before asked told.now dispatchers.now) dispatchers.now nodes.old.items) }
     ensures fails_for_memory_alone { IfErr result (λ e. e ≡ refusal.Memory) }
 {
     let i = place_for(alloc, nodes, end.node)?;
@@ -300,7 +301,11 @@ fn report_asked(
 }
 
 /// What is told of a step joins the lines. 60 where there is no memory.
-pub(crate) fn tell(follow_up: FollowUp, told: &[Line], lines: &mut Vec<Line>) -> Result<(), Refusal>
+pub(crate) fn report_follow_up(
+    follow_up: FollowUp,
+    told: &[Line],
+    lines: &mut Vec<Line>,
+) -> Result<(), Refusal>
     ensures told { OnOk result (lines.new.items ≡ lines.old.items ++ tells follow_up told.now) }
     ensures fails_for_memory_alone { IfErr result (λ e. e ≡ refusal.Memory) }
 {

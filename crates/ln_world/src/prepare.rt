@@ -5,7 +5,7 @@ ghost use Rattle.ln_msgs.specs.declared.refusals.refusal.Refusal.TheVariants as 
 ghost use Rattle.ln_book_tables.specs.declared.entry.Entry.TheVariants as entry;
 ghost use Rattle.ln_world.specs.Node.{changed, with_policy};
 ghost use Rattle.ln_switch.specs.Answers.{next_id};
-ghost use Rattle.ln_world.specs.BookReports.{told_count};
+ghost use Rattle.ln_world.specs.BookReports.{event_count};
 ghost use Rattle.ln_world.specs.World.{entered, book_of, command_in, command_by, handed_or, handed_out};
 ghost use Rattle.ln_world.specs.World.{with_decision, resuming, resumed_at, resumes, refusing, asked};
 ghost use Rattle.ln_world.specs.World.{command_of, call_of, unbegun, asked_unbegun, asks_by, end_at};
@@ -14,7 +14,7 @@ ghost use Rattle.ln_world.specs.World.{stops_behind, if_stopped};
 ghost use Rattle.ln_world.specs.declared.follow_up.FollowUp.TheVariants as follow_up;
 ghost use Rattle.ln_world.specs.declared.step.Step.TheVariants as step;
 
-use crate::book_reports::{noted_of, told_count};
+use crate::book_reports::{event_count, noted_of};
 use crate::call::end_at;
 use crate::follow_up::{FollowUp, PendingAnswer};
 use crate::node::{NodeBook, index_of, place_for};
@@ -325,7 +325,7 @@ fn prepare_act<K: ChannelKeys + Copy>(
         (record { dispatchers = dispatchers.now; nodes = nodes.old.items })) }
     ensures fails_for_memory_alone { IfErr result (λ e. e ≡ refusal.Memory) }
 {
-    let before = told_count(end_at(dispatchers.channels(), end))?;
+    let before = event_count(end_at(dispatchers.channels(), end))?;
     let resumed = resumed_at(dispatchers, end, &what);
     let (act, asked) = begin(alloc, dispatchers, nodes, end, what)?;
     match act {

@@ -5,7 +5,7 @@ ghost use Rattle.ln_msgs.specs.declared.refusals.refusal.Refusal.TheVariants as 
 ghost use Rattle.ln_world.specs.World.{MayFailBy};
 ghost use Rattle.ln_world.specs.Hooked.{Moves};
 
-use crate::conclude::{conclude, tell};
+use crate::conclude::{conclude, report_follow_up};
 use crate::node::NodeBook;
 use crate::prepare::prepare;
 use crate::step::Step;
@@ -112,11 +112,11 @@ impl<K: ChannelKeys + Copy, H: Serve> World<K, H> {
             follow_up,
             told.as_slice(),
         )?;
-        tell(follow_up, told.as_slice(), lines)
+        report_follow_up(follow_up, told.as_slice(), lines)
     }
 
     /// A world behind these steps, one after the other, with these hooks, which steps name by their places in the list;
-    /// what is told of each step joins the lines. What a step makes of it is as in `step`. A hook has one seat at most;
+    /// what is told of each step joins the lines. What a step makes of it is as in `step`. A hook has one slot at most;
     /// where a node restarts or stops, the hooks of its dispatchers are set aside, as they stood, and are called no
     /// more.
     ///

@@ -20,11 +20,6 @@ pub mod Longest
 pub mod Told
 pub mod SetUp
 pub mod Opening
-pub mod OpeningForms
-pub mod UpdateForms
-pub mod ItemForms
-pub mod SoundForms
-pub mod BaseForms
 pub mod Forms
 pub mod Openings
 pub mod Stopping

@@ -4,6 +4,9 @@ use Rattle.ln_msgs.specs.declared.messages.opening.OpenChannel.{OpenChannel}
 use Rattle.ln_msgs.specs.declared.messages.opening.AcceptChannel.{AcceptChannel}
 use Rattle.ln_msgs.specs.declared.messages.opening.FundingCreated.{FundingCreated}
 use Rattle.ln_msgs.specs.declared.messages.opening.FundingSigned.{FundingSigned}
+use Rattle.ln_msgs.specs.declared.messages.message.Message.TheVariants as message
+use Rattle.ln_msgs.specs.Messages.Table.{open_form, accept_form}
+use Rattle.ln_msgs.specs.Messages.Typed.{open_wire, accept_wire}
 use Rattle.ln_keys.specs.Signer.{Signer}
 use Rattle.ln_keys.specs.Partners.{ArePartners}
 use Rattle.ln_log.specs.Opening.{HasFunds}
@@ -15,11 +18,14 @@ use Rattle.ln_channel.specs.Opening.{Agreement, open_message, open_fault, agreem
 use Rattle.ln_channel.specs.Opening.{funder_end, created_message, created_fault, fundee_end, funding_message}
 use Rattle.ln_channel.specs.Meeting.{Opens}
 use Rattle.ln_channel_laws.proofs.Offered.{longest_script, was_given}
+use Rattle.ln_link_laws.specs.Handed.{IsMessage}
+use Rattle.ln_link_laws.proofs.Kept.{AreFees}
+use Rattle.ln_link_laws.proofs.Said.{said_plain}
 use Rattle.ln_world_channels.specs.declared.settings.Settings.{Settings}
 use Rattle.ln_world_channels.specs.declared.step.Node.{Node}
 use Rattle.ln_world_channels.specs.Settings.{config_of, spec_of, opening_by, CanBring, CanBeTold}
 use Rattle.ln_world_channels.proofs.Fitting.{one_letter}
-use Rattle.ln_world_channels.proofs.Opening.{IsOpenChannel, IsAcceptChannel, AreFees, IsOpening}
+use Rattle.ln_world_channels.proofs.Opening.{IsOpening}
 
 -- ---- an opening whose messages these are
 
@@ -83,32 +89,28 @@ module _ (a b : Signer) (number satoshis push : ℕ) (n m : Node) (s t : Setting
   abbrev config_so : Config
   config_so = config_of m t
 
-  open_so : IsOpenChannel (opened_with a b spec_so config_so)
+  open_so : IsMessage (message.OpenChannel (opened_with a b spec_so config_so))
   open_so =
       let funds = brings.opening.funds in
       let put_in : satoshis < 2 ^ 64 = omega (arith, funds) in
       let pushed : push < 2 ^ 64 = omega (arith, funds, brings.opening.push) in
       let accepted : s.limits.accepted < 2 ^ 16 = omega (arith, brings.opening.funder_accepts) in
-      let told = brings.funder_told in record {
-        known = refl;
-        values =
-            refl and refl and put_in and pushed and omega arith and told.in_flight and told.reserve and
-            told.minimum and omega arith and omega arith and accepted and refl and refl and refl and
-            refl and refl and keys.there.sized_points 0 (omega arith) and omega arith and tt;
-        no_records = refl;
-      }
+      let told = brings.funder_told in
+      said_plain open_form (open_wire (opened_with a b spec_so config_so)) refl (omega arith)
+      (refl and refl and put_in and pushed and omega arith and told.in_flight and told.reserve and
+      told.minimum and omega arith and omega arith and accepted and refl and refl and refl and
+      refl and refl and keys.there.sized_points 0 (omega arith) and omega arith and tt)
+      refl refl (omega arith)
 
-  accept_so : IsAcceptChannel (accepted_with a b spec_so config_so)
+  accept_so : IsMessage (message.AcceptChannel (accepted_with a b spec_so config_so))
   accept_so =
       let accepted : t.limits.accepted < 2 ^ 16 = omega (arith, brings.opening.fundee_accepts) in
-      let told = brings.fundee_told in record {
-        known = refl;
-        values =
-            refl and omega arith and told.in_flight and told.reserve and told.minimum and omega arith and
-            omega arith and accepted and refl and refl and refl and refl and refl and
-            keys.back.sized_points 0 (omega arith) and tt;
-        no_records = refl;
-      }
+      let told = brings.fundee_told in
+      said_plain accept_form (accept_wire (accepted_with a b spec_so config_so)) refl (omega arith)
+      (refl and omega arith and told.in_flight and told.reserve and told.minimum and omega arith and
+      omega arith and accepted and refl and refl and refl and refl and refl and
+      keys.back.sized_points 0 (omega arith) and tt)
+      refl refl (omega arith)
 
   funds_so : HasFunds (opening_by satoshis push s t)
   funds_so = record {

@@ -8,18 +8,21 @@ use Rattle.ln_keys.specs.declared.keys.ChannelKeys.{Ghosts}
 use Rattle.ln_keys.specs.declared.role.Role.{Role}
 use Rattle.ln_keys.specs.declared.role.Role.TheVariants.{Funder, Fundee}
 use Rattle.ln_keys.specs.Signer.{Signer}
-use Rattle.ln_log.specs.Machine.{Machine, Drop, Open}
+use Rattle.ln_log.specs.Machine.{Machine, IsRun, Drop, Open}
 use Rattle.ln_log.specs.Machine as machine
+use Rattle.ln_log.specs.Events.{events}
 use Rattle.ln_hooks.specs.declared.event.ChannelEvent.{ChannelEvent}
 use Rattle.ln_channel.specs.declared.command.Command.{Command}
 use Rattle.ln_channel.specs.declared.machine.ConnectionState.{ConnectionState}
 use Rattle.ln_channel.specs.declared.machine.Stage.{Stage}
 use Rattle.ln_channel.specs.declared.machine.Stage.TheVariants as stage
 use Rattle.ln_channel.specs.declared.output.Output.{Output}
+use Rattle.ln_channel.specs.Outputs.{numbered}
 use Rattle.ln_channel.specs.End.{End}
 use Rattle.ln_channel.specs.State.{State, is_down}
 use Rattle.ln_channel.specs.Step.{Done, handled, commanded}
-use Rattle.ln_channel_laws.specs.Moves.{machine_by, moves_asked, moves_between}
+use Rattle.ln_channel_laws.specs.Moves.{machine_by, moves_asked, moves_between, after_all}
+use Rattle.ln_channel_laws.specs.Told.{as_told, events_in, unnumbered, ClosesLast}
 use Rattle.ln_channel_laws.specs.Pending.{IsInStep}
 use Rattle.ln_world_channels.specs.declared.step.Act.{Act}
 use Rattle.ln_world_channels.specs.declared.step.Act.TheVariants as act
@@ -28,7 +31,7 @@ use Rattle.ln_world_channels.specs.declared.step.Step.TheVariants as step
 use Rattle.ln_world_channels.specs.Settings.{opening_by}
 use Rattle.ln_world_channels.specs.Both.{Both, SimEnd, Move, By, Falls, Halts, Restarts, Stops, Meet, first_message}
 use Rattle.ln_world_channels.specs.WorldChannel.{WorldChannel, place_of}
-use Rattle.ln_world_channels.specs.World.{World, channel, settings_of, may_open}
+use Rattle.ln_world_channels.specs.World.{World, empty, channel, settings_of, may_open}
 use Rattle.ln_world_channels.specs.Promises.{AtEnd}
 use Rattle.ln_world_channels.specs.Course.{in_channel, over}
 
@@ -157,3 +160,30 @@ all_told k n side ss w = over k (told_in k n side) ss w
 abbrev pub AreInStep : {K : Type 0} → Role → List ChannelEvent → Option (WorldChannel K) → Type 0
 AreInStep side events None = events ≡ []
 AreInStep side events (Some c) = AtEnd (IsInStep events) (place_of side c.both).link.stage
+
+-- ---- what is promised of the channel with this number, by all steps so far and the world that they lead to
+
+-- its opening and its moves lead the machine to the opening and the two parties that its links stand for; where no
+-- channel has the number there is no machine, and no step is a move
+abbrev pub MovesLead : {K : Type 0} → (k : Ghosts K) → ℕ → List (Step K k) → World K → Type 0
+MovesLead k n ss w = after_all (history k n ss empty) None ≡ machine_of (channel n w.channels)
+
+-- each of these is one that the machine may make where it is made
+abbrev pub MovesMayBeMade : {K : Type 0} → (k : Ghosts K) → ℕ → List (Step K k) → World K → Type 0
+MovesMayBeMade k n ss w = IsRun (history k n ss empty) None (machine_of (channel n w.channels))
+
+-- the events of these moves for this side
+abbrev pub events_by : {K : Type 0} → (k : Ghosts K) → ℕ → Role → List (Step K k) → List ChannelEvent
+events_by k n side ss = as_told (events side (history k n ss empty) None)
+
+-- the events among all that the side's end hands out are these: each once, in their order, numbered from 0
+abbrev pub EventsAreTold : {K : Type 0} → (k : Ghosts K) → ℕ → Role → List (Step K k) → Type 0
+EventsAreTold k n side ss = events_in (all_told k n side ss empty) ≡ numbered 0 (events_by k n side ss)
+
+-- what the side's end has yet to decide is these from a count on, and none is missing
+abbrev pub UndecidedFollow : {K : Type 0} → (k : Ghosts K) → ℕ → Role → List (Step K k) → World K → Type 0
+UndecidedFollow k n side ss w = AreInStep side (events_by k n side ss) (channel n w.channels)
+
+-- behind the close comes no event among those that the side's end hands out
+abbrev pub HandsCloseLast : {K : Type 0} → (k : Ghosts K) → ℕ → Role → List (Step K k) → Type 0
+HandsCloseLast k n side ss = ClosesLast (unnumbered (all_told k n side ss empty))

@@ -1,16 +1,13 @@
 //! Each channel of a world is the channel's abstract machine, over every list of steps: its moves are what the steps do
 //! (BOLT 2, "Normal Operation").
 
-ghost use Rattle.std.specs.Prelude.{◌≡◌, ℕ, List, None};
+ghost use Rattle.std.specs.Prelude.{ℕ, List};
 ghost use Rattle.ln_keys.specs.declared.role.Role.{Role};
-ghost use Rattle.ln_log.specs.Machine.{IsRun};
-ghost use Rattle.ln_log.specs.Events.{events};
-ghost use Rattle.ln_channel.specs.Outputs.{numbered};
-ghost use Rattle.ln_channel_laws.specs.Moves.{after_all};
-ghost use Rattle.ln_channel_laws.specs.Told.{as_told, events_in, unnumbered, ClosesLast};
+ghost use Rattle.ln_channel_laws.specs.Told.{ClosesLast};
 ghost use Rattle.ln_world_channels.specs.declared.step.Step.{Step};
-ghost use Rattle.ln_world_channels.specs.World.{empty, run, channel};
-ghost use Rattle.ln_world_channels.specs.Machine.{machine_of, history, all_told, AreInStep};
+ghost use Rattle.ln_world_channels.specs.World.{empty, run};
+ghost use Rattle.ln_world_channels.specs.Machine.{MovesLead, MovesMayBeMade, EventsAreTold, UndecidedFollow};
+ghost use Rattle.ln_world_channels.specs.Machine.{events_by, HandsCloseLast};
 
 use ln_keys::ChannelKeys;
 
@@ -22,22 +19,20 @@ use ln_keys::ChannelKeys;
 /// what no signature covers, and so does a restart of an end that has a connection. All else is no move.
 pub fn moves_are_the_machines<K: ChannelKeys + Copy>()
     ensures { (steps : List (Step K K.ChannelKeys)) (number : ℕ)
-        → after_all (history K.ChannelKeys number steps empty) None
-        ≡ machine_of (channel number (run K.ChannelKeys steps empty).channels) }
+        → MovesLead K.ChannelKeys number steps (run K.ChannelKeys steps empty) }
 {}
 
 /// A law: each of these moves is one that the machine may make where it is made.
 pub fn each_move_may_be_made<K: ChannelKeys + Copy>()
-    ensures { (steps : List (Step K K.ChannelKeys)) (number : ℕ) → IsRun (history K.ChannelKeys number steps empty) None
-        (machine_of (channel number (run K.ChannelKeys steps empty).channels)) }
+    ensures { (steps : List (Step K K.ChannelKeys)) (number : ℕ)
+        → MovesMayBeMade K.ChannelKeys number steps (run K.ChannelKeys steps empty) }
 {}
 
 /// A law: the events among all that an end of the channel with this number hands out in these steps, with their
 /// numbers, are those of the moves for its side: each once, in their order, numbered from 0.
 pub fn events_are_told<K: ChannelKeys + Copy>()
     ensures { (steps : List (Step K K.ChannelKeys)) (number : ℕ) (side : Role)
-        → events_in (all_told K.ChannelKeys number side steps empty)
-        ≡ numbered 0 (as_told (events side (history K.ChannelKeys number steps empty) None)) }
+        → EventsAreTold K.ChannelKeys number side steps }
 {}
 
 /// A law: the events that an end of the channel with this number has yet to decide are those of the moves for its side,
@@ -46,15 +41,14 @@ pub fn events_are_told<K: ChannelKeys + Copy>()
 /// end has it now, or from the fee at which it closed.
 pub fn undecided_events_are_the_machines<K: ChannelKeys + Copy>()
     ensures { (steps : List (Step K K.ChannelKeys)) (number : ℕ) (side : Role)
-        → AreInStep side (as_told (events side (history K.ChannelKeys number steps empty) None))
-        (channel number (run K.ChannelKeys steps empty).channels) }
+        → UndecidedFollow K.ChannelKeys number side steps (run K.ChannelKeys steps empty) }
 {}
 
 /// A law: behind the event that the channel with this number is closed comes no event: for either end it is the last of
 /// those of the moves for its side, and of those that the end hands out in these steps.
 pub fn close_is_last<K: ChannelKeys + Copy>()
     ensures of_the_moves { (steps : List (Step K K.ChannelKeys)) (number : ℕ) (side : Role)
-        → ClosesLast (as_told (events side (history K.ChannelKeys number steps empty) None)) }
+        → ClosesLast (events_by K.ChannelKeys number side steps) }
     ensures of_what_is_handed_out { (steps : List (Step K K.ChannelKeys)) (number : ℕ) (side : Role)
-        → ClosesLast (unnumbered (all_told K.ChannelKeys number side steps empty)) }
+        → HandsCloseLast K.ChannelKeys number side steps }
 {}

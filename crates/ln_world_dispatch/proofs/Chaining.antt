@@ -5,12 +5,12 @@ use Rattle.std.proofs.lemmas.List.{drop-append-le, length-append}
 use Rattle.std.proofs.lemmas.Bool.{eq-eqb}
 use Rattle.ln_hooks.specs.declared.event.ChannelEvent.{ChannelEvent}
 use Rattle.ln_hooks.specs.declared.verdict.Verdict.{Verdict}
-use Rattle.ln_hooks.specs.Chain.{IsCalledOn, IsChain}
+use Rattle.ln_hooks.specs.Chain.{IsCalledOn, IsChain, shown_to}
 use Rattle.ln_hooks.specs.Table.{AreCalledOn}
 use Rattle.ln_world_dispatch.specs.declared.hook_slot.HookSlot.{HookSlot}
 use Rattle.ln_world_dispatch.specs.Dispatcher.{Epoch, Dispatcher, next, called, with_one}
 use Rattle.ln_world_dispatch.specs.Seated.{Answers, replies, next_answer, sum_slots, sum_epochs, one_at, calls_at}
-use Rattle.ln_world_dispatch.specs.Seated.{calls_of, shown_to, IsSeated, AreSeated, EpochsSeated, Tables, AllSeated}
+use Rattle.ln_world_dispatch.specs.Seated.{calls_of, IsSeated, AreSeated, EpochsSeated, Tables, AllSeated}
 use Rattle.ln_world_dispatch.proofs.Counting.{Heard, AsMany}
 
 pub called_push : (e : ChannelEvent) (v : Verdict) (l : Epoch) (s : HookSlot) → l.start ≤ s.place → s.place ≤ next l

@@ -4,6 +4,7 @@ use Rattle.std.proofs.Common.{refl, sym, ap, ◌∙◌}
 use Rattle.std.proofs.Common.{subst, arith, Bool, true, false, cond, position, Some}
 use Rattle.std.proofs.Math.ListN.{drop_of_length-le}
 use Rattle.ln_hooks.specs.declared.event.ChannelEvent.{ChannelEvent}
+use Rattle.ln_hooks.specs.Chain.{shown_to}
 use Rattle.ln_hooks.specs.declared.verdict.Verdict.{Verdict}
 use Rattle.ln_hooks.specs.Chain.{IsChain}
 use Rattle.ln_world_channels.specs.declared.step.End.{End}
@@ -12,7 +13,7 @@ use Rattle.ln_world_dispatch.specs.declared.hook_slot.HookSlot.{HookSlot}
 use Rattle.ln_world_dispatch.specs.Dispatcher.{Epoch, Dispatcher, next, called, with_slot, registered, is_at}
 use Rattle.ln_world_dispatch.specs.Dispatcher.{at_dispatcher}
 use Rattle.ln_world_dispatch.specs.Seated.{Answers, replies, sum_slots, one_at, calls_at, slots_of, calls_of}
-use Rattle.ln_world_dispatch.specs.Seated.{shown_to, IsSeated, AreSeated, EpochsSeated, Tables, AllSeated, SlotsAt}
+use Rattle.ln_world_dispatch.specs.Seated.{IsSeated, AreSeated, EpochsSeated, Tables, AllSeated, SlotsAt}
 use Rattle.ln_world_dispatch.specs.World.{item}
 use Rattle.ln_world_dispatch.proofs.Serving.{here_at, past_at}
 

@@ -6,12 +6,13 @@ use Rattle.std.proofs.lemmas.Bool.{lt-ltb, ltb-true}
 use Rattle.ln_hooks.specs.declared.event.ChannelEvent.{ChannelEvent}
 use Rattle.ln_hooks.specs.declared.verdict.Verdict.{Verdict}
 use Rattle.ln_hooks.specs.Verdict.{verdict}
+use Rattle.ln_hooks.specs.Chain.{shown_to}
 use Rattle.ln_hooks.specs.Table.{AreCalledOn}
 use Rattle.ln_world_channels.specs.declared.step.End.{End}
 use Rattle.ln_world_channels.proofs.Places.{at_first}
 use Rattle.ln_world_dispatch.specs.Dispatcher.{Dispatcher, with_one, serving, is_at, dispatcher_at, at_dispatcher}
 use Rattle.ln_world_dispatch.specs.Seated.{Answers, says_at, sum_slots, sum_epochs, one_at, calls_at, slots_of}
-use Rattle.ln_world_dispatch.specs.Seated.{calls_of, shown_to, AreSeated, EpochsSeated, Tables, AllSeated, CallsAt}
+use Rattle.ln_world_dispatch.specs.Seated.{calls_of, AreSeated, EpochsSeated, Tables, AllSeated, CallsAt}
 use Rattle.ln_world_dispatch.specs.Seated.{Agree}
 use Rattle.ln_world_dispatch.proofs.Counting.{TellsOf, answer_in, all_heard, none_epochs, none_at}
 use Rattle.ln_world_dispatch.proofs.Chaining.{all_on, further, as_many, calls_more, heard_too}

@@ -24,6 +24,12 @@ use Rattle.ln_world_dispatch.specs.World.{World, empty, run, plains, decided_for
 abbrev pub AreSteps : {K : Type 0} → (k : Ghosts K) → ℕ → List (Step K k × Verdict) → Type 0
 AreSteps k hooks ss = record_of.AreSteps k (plains k ss (empty hooks))
 
+-- ---- what any steps lead to
+
+-- it holds of the world that each list of steps makes of the empty one, so many hooks being handed in
+abbrev pub AfterEachRun : {K : Type 0} → (k : Ghosts K) → (World K → Type 0) → Type 0
+AfterEachRun {K} k P = (steps : List (Step K k × Verdict)) (hooks : ℕ) → P (run k steps (empty hooks))
+
 -- ---- each channel
 
 abbrev pub OfEach : {K : Type 0} → (Both K → Type 0) → World K → Type 0

@@ -3,10 +3,9 @@
 use Rattle.std.specs.Prelude.{◌≡◌, ◌≤◌, ◌<◌, ◌+◌, ℕ, zero, suc, List, [], ◌∷◌, ◌++◌, length, map, Option, Some, None}
 use Rattle.std.specs.Prelude.{Bool, false, ◌==◌, if◌then◌else◌}
 use Rattle.std.specs.List.{list_any}
-use Rattle.std.specs.Borrow.{Bor}
 use Rattle.ln_hooks.specs.declared.event.ChannelEvent.{ChannelEvent}
 use Rattle.ln_hooks.specs.declared.verdict.Verdict.{Verdict}
-use Rattle.ln_hooks.specs.Chain.{IsChain}
+use Rattle.ln_hooks.specs.Chain.{IsChain, shown_to}
 use Rattle.ln_hooks.specs.Table.{Says}
 use Rattle.ln_hooks.specs.Verdict.{verdict}
 use Rattle.ln_world_dispatch.specs.declared.hook_slot.HookSlot.{HookSlot}
@@ -73,11 +72,6 @@ abbrev pub Once : List ℕ → List Dispatcher → Type 0
 Once used ds = (i : ℕ) → slots_of i ds ≤ (if list_any (λ h. h == i) used then 1 else 0)
 
 -- ---- the hooks
-
--- the same, where it is shown the event
-abbrev pub shown_to : {H : Type 0} → (H → ChannelEvent → Verdict → H → Type 0) → H → Bor ChannelEvent → Verdict → H
-    → Type 0
-shown_to calls h x answer h' = calls h x.now answer h'
 
 module _ {H : Type 0} (calls : H → ChannelEvent → Verdict → H → Type 0) where
   -- the hook with this slot came along a chain over all that it was called on, from the hook that was handed in, to the

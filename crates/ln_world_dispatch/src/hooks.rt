@@ -3,28 +3,14 @@
 ghost use Rattle.std.specs.Prelude.{◌≡◌, map, OnOk, IfErr};
 ghost use Rattle.ln_msgs.specs.declared.refusals.refusal.Refusal.TheVariants as refusal;
 ghost use Rattle.ln_world_channels.specs.WorldChannel.{is_node};
-ghost use Rattle.ln_hooks.specs.Table.{Says};
-ghost use Rattle.ln_world_dispatch.specs.Seated.{shown_to, IsAside};
+ghost use Rattle.ln_world_dispatch.specs.Seated.{IsAside};
 
 use crate::dispatcher::Dispatcher;
-use crate::hook::Serve;
-use ln_hooks::{ChannelEvent, Verdict};
+use ln_hooks::{ChannelEvent, Serve, Verdict, call_each};
 use ln_msgs::Refusal;
 use ln_world_channels::Node;
 use std::alloc::Global;
 use std::mem;
-
-// Calls each hook on an event, once and in order, and says what is to become of it.
-fn call_each<H: Serve>(hooks: &mut Vec<H>, event: &ChannelEvent) -> Verdict
-    ensures calls_each_hook { Says (λ h. h) (shown_to H.calls) hooks.old.items event.now result hooks.new.items }
-{
-    let mut verdict = Verdict::Continue;
-    for i in 0..hooks.len() {
-        let hook = &mut hooks[i];
-        verdict = verdict.joined(hook.serve(event));
-    }
-    verdict
-}
 
 /// The hooks of a dispatcher: those of its epoch, and those of each epoch that was set aside.
 #[derive(Drop)]
@@ -39,7 +25,7 @@ impl<H: Serve> Tables<H> {
     ghost use Rattle.std.specs.Prelude.{◌≡◌, ◌++◌, ◌∷◌, [], map, OnOk, IfErr};
     ghost use Rattle.ln_msgs.specs.declared.refusals.refusal.Refusal.TheVariants as refusal;
     ghost use Rattle.ln_hooks.specs.Table.{Says};
-    ghost use Rattle.ln_world_dispatch.specs.Seated.{shown_to};
+    ghost use Rattle.ln_hooks.specs.Chain.{shown_to};
 
     /// No hooks. Takes no memory.
     pub(crate) fn new(alloc: Global) -> Tables<H>

@@ -4,7 +4,6 @@
 
 mod dispatcher;
 mod event;
-mod hook;
 mod hook_slot;
 mod hooks;
 mod laws;
@@ -16,7 +15,6 @@ mod world;
 
 pub use dispatcher::{Dispatcher, Epoch};
 pub use event::undecided;
-pub use hook::Serve;
 pub use hook_slot::HookSlot;
 pub use hooks::{Hooks, Tables};
 pub use laws::{
@@ -25,6 +23,7 @@ pub use laws::{
     every_end_has_a_record, headline, marks_agree_at_rest, never_refused,
     never_refused_where_fees_overlap, signatures_are_over_what_is_covered,
 };
+pub use ln_hooks::Serve;
 pub use ln_world_channels::{Act, Choice, End, EndLine, Ending, Line, Node, Open, Partners, Word};
 pub use machine::{
     close_is_last, each_move_may_be_made, events_are_told, moves_are_the_machines,

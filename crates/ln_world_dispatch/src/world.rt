@@ -4,11 +4,10 @@ ghost use Rattle.std.specs.Prelude.{◌≡◌, ◌++◌, ◌∷◌, [], OnOk, If
 ghost use Rattle.ln_msgs.specs.declared.refusals.refusal.Refusal.TheVariants as refusal;
 ghost use Rattle.ln_world_channels.specs.declared.line.Line.TheVariants as line;
 
-use crate::hook::Serve;
 use crate::hooks::Hooks;
 use crate::nodes::Nodes;
 use crate::step::Step;
-use ln_hooks::ChannelEvent;
+use ln_hooks::{ChannelEvent, Serve};
 use ln_keys::ChannelKeys;
 use ln_msgs::Refusal;
 use ln_world_channels::{Act, End, EndLine, Line, Node, Open};

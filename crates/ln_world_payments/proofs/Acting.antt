@@ -34,8 +34,9 @@ use Rattle.ln_world.specs.declared.node.NodeBook.{NodeBook}
 use Rattle.ln_world.specs.Node.{Book, node_at, with_book}
 use Rattle.ln_world.specs.Follow.{followed}
 use Rattle.ln_switch.specs.Answers.{next_id}
-use Rattle.ln_world.specs.BookReports.{with_held, told_count}
-use Rattle.ln_world.specs.World.{World, moved_by, lines_by, concluded, acting, asks_by, heard, answered, id_of, end_at}
+use Rattle.ln_world.specs.BookReports.{with_held, event_count}
+use Rattle.ln_world.specs.World.{World, moved_by, lines_by, concluded, acting, asks_by, reported, answered, id_of}
+use Rattle.ln_world.specs.World.{end_at}
 use Rattle.ln_world.specs.World.{saved_of}
 use Rattle.ln_payment_circuits.specs.Shift.{Shift, Stays, Takes, Proposes, Signs, Accepts, Learns, Closes, Notes}
 use Rattle.ln_payment_circuits.specs.Shift.{IsPlain}
@@ -193,7 +194,7 @@ module _ {K : Type 0} (k : Ghosts K) (e : End) (v : Verdict) (w : World K) where
 
     -- what the book hears
     abbrev pub book_then : Option Command → List NodeBook → Book
-    book_then c xs = with_held (id_of e) (told_count (Some x)) (Some y)
+    book_then c xs = with_held (id_of e) (event_count (Some x)) (Some y)
         (answered e (asks_by c (next_id (Some x))) (lines_of a) (node_at n xs).book)
 
     pub act_book : (c : Option Command) (r : Option ℕ) (xs : List NodeBook)
@@ -201,14 +202,14 @@ module _ {K : Type 0} (k : Ghosts K) (e : End) (v : Verdict) (w : World K) where
     act_book c r xs =
         let new_dispatchers = moved_by k v (Some (dispatcher_step.Do e a)) w.dispatchers in
         let f =
-        heard e (told_count (end_at e w.dispatchers)) (asks_by c (next_id (end_at e w.dispatchers)))
+        reported e (event_count (end_at e w.dispatchers)) (asks_by c (next_id (end_at e w.dispatchers)))
         (lines_of a) new_dispatchers in
         let y_saved : end_at e new_dispatchers ≡ Some y =
         ap (λ zs. saved_of (link_in n e.channel zs)) act_channels ∙ turn.saved in
         let same : f (node_at n xs).book ≡ book_then c xs =
-        ap (λ o. heard e (told_count o) (asks_by c (next_id o)) (lines_of a) new_dispatchers
+        ap (λ o. reported e (event_count o) (asks_by c (next_id o)) (lines_of a) new_dispatchers
         (node_at n xs).book) x_saved
-        ∙ ap (λ o. with_held (id_of e) (told_count (Some x)) o
+        ∙ ap (λ o. with_held (id_of e) (event_count (Some x)) o
         (answered e (asks_by c (next_id (Some x))) (lines_of a) (node_at n xs).book)) y_saved in
         subst (λ b. IsAlike b (book_in n (done_by c (Some a) r xs))) same
         (subst (λ (z : NodeBook). IsAlike (f (node_at n xs).book) z.book)

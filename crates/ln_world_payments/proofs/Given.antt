@@ -41,7 +41,7 @@ use Rattle.ln_world_dispatch.specs.World as dispatchers
 use Rattle.ln_world.specs.declared.node.NodeBook.{NodeBook}
 use Rattle.ln_world.specs.Node.{Book, services, node_at, with_book}
 use Rattle.ln_switch.specs.Answers.{command_subject, next_id, replied}
-use Rattle.ln_world.specs.BookReports.{answer_by, told_count}
+use Rattle.ln_world.specs.BookReports.{answer_by, event_count}
 use Rattle.ln_world.specs.World.{World, id_of, first_in, handed, handed_out}
 use Rattle.ln_payment_circuits.specs.Snapshot.{IsIn}
 use Rattle.ln_payment_circuits.proofs.Tidy.{decides_so, resumes_so}
@@ -117,7 +117,7 @@ note_counts command.Sign e g is = absurd (cc)
 note_counts (command.Shutdown script) e g is = absurd (cc)
 
 abbrev pub Counts : ChannelEnd → ChannelEnd → Type 0
-Counts x f = told_count (Some f) ≡ told_count (Some x)
+Counts x f = event_count (Some f) ≡ event_count (Some x)
 
 if_done : (P Q : ChannelEnd → Type 0) → ((f : ChannelEnd) → P f → Q f) → (r : Result Done Refusal) → IfDone P r
     → IfDone Q r
@@ -146,14 +146,14 @@ module _ {K : Type 0} (k : Ghosts K) (id : List ℕ) (s : State K) (mine : IsLin
       ≡ propose_row u mine.end → IfDone (Counts mine.end) (row c)
   update_counts c u isnt is = of_link (IfDone (Counts mine.end)) c
       (if_done (IsProposed mine.end u) (Counts mine.end)
-      (λ f p. ap (λ z. told_count (Some z)) p.0)
+      (λ f p. ap (λ z. event_count (Some z)) p.0)
       (commanded (k.signer mine.keys) (link_at mine.halted mine.keys mine.connection mine.end) c)
       (proposed (k.signer mine.keys) mine.halted mine.keys mine.connection mine.end c u isnt is))
 
   note_counts_so : (c : Command) → is_of_records c ≡ true → IfDone (Counts mine.end) (row c)
   note_counts_so c is = of_link (IfDone (Counts mine.end)) c
       (if_done (IsNoted mine.end c) (Counts mine.end)
-      (λ f p. ap (λ z. told_count (Some z)) p.2 ∙ note_counts c mine.end p.0 p.1)
+      (λ f p. ap (λ z. event_count (Some z)) p.2 ∙ note_counts c mine.end p.0 p.1)
       (commanded (k.signer mine.keys) (link_at mine.halted mine.keys mine.connection mine.end) c)
       (noted (k.signer mine.keys) mine.halted mine.keys mine.connection mine.end c is))
 
@@ -246,14 +246,14 @@ module _ {K : Type 0} (k : Ghosts K) (e : End) (v : Verdict) (w : World K) (h : 
   turned = book_turned (id_of e) answer o b0
       (sure_so k (channel_id_of e.channel) s mine c books (command_subject (next_id (Some x0)) c)) calm0
 
-  counts : told_count (Some y0) ≡ told_count (Some x0)
+  counts : event_count (Some y0) ≡ event_count (Some x0)
   counts = cases answer_row (turn k e v w h.well.open_ (channel_act.Send c) may s there answer_row row_is).steps
       (counts_so k (channel_id_of e.channel) s mine c books)
     where
       cases : (q : Result Done Refusal) → RowSteps x0 y0 q → IfDone (Counts x0) q
-          → told_count (Some y0) ≡ told_count (Some x0)
-      cases (Err q) same d = ap (λ z. told_count (Some z)) same
-      cases (Ok d) t p = ap (λ z. told_count (Some z)) t.3 ∙ subst (AtSaved (Counts x0)) t.1 p
+          → event_count (Some y0) ≡ event_count (Some x0)
+      cases (Err q) same d = ap (λ z. event_count (Some z)) same
+      cases (Ok d) t p = ap (λ z. event_count (Some z)) t.3 ∙ subst (AtSaved (Counts x0)) t.1 p
 
   told_now : answer_by (command_subject (next_id (Some x0)) c) (lines_of k e v w (channel_act.Send c)) ≡ answer
   told_now =

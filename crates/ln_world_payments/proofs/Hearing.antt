@@ -24,7 +24,7 @@ use Rattle.ln_book_tables.specs.Replay.{put_incoming, with_incoming}
 use Rattle.ln_world_dispatch.specs.World.{undecided, item, named_at}
 use Rattle.ln_world_channels.specs.Settings.{channel_id_of}
 use Rattle.ln_world.specs.Node.{Book}
-use Rattle.ln_world.specs.BookReports.{with_event, with_events, with_held, told_count}
+use Rattle.ln_world.specs.BookReports.{with_event, with_events, with_held, event_count}
 use Rattle.ln_payment.specs.Parts.{IsHeld, IsEnd}
 use Rattle.ln_payment_circuits.specs.Snapshot.{Incoming, IsIn}
 use Rattle.ln_payment_circuits.proofs.Links.{Links, course_at, removal_at}
@@ -115,7 +115,7 @@ hears_from c y n us (r ∷ rs) a is count =
 -- of an end that has told so many before
 pub hears : (c : List ℕ) (x y : End) (rs : List EventRef) (a : Book) → y.ledger.undecided ≡ x.ledger.undecided ++ rs
     → y.ledger.decided ≡ x.ledger.decided
-    → Hears (after_all c rs y (table_of a).htlcs) a (with_held c (told_count (Some x)) (Some y) a)
+    → Hears (after_all c rs y (table_of a).htlcs) a (with_held c (event_count (Some x)) (Some y) a)
 hears c x y rs a is same =
     let n = x.ledger.decided + length x.ledger.undecided in
     let long : length y.ledger.undecided ≡ length x.ledger.undecided + length rs =
@@ -124,11 +124,11 @@ hears c x y rs a is same =
     subst (λ m. Hears (after_all c rs y (table_of a).htlcs) a (with_events c n m y a)) (sym more)
     (hears_from c y n x.ledger.undecided rs a is (let s = same in omega (arith, s)))
 
-pub hears_none : (c : List ℕ) (x y : End) (a : Book) → told_count (Some y) ≡ told_count (Some x)
-    → with_held c (told_count (Some x)) (Some y) a ≡ a
+pub hears_none : (c : List ℕ) (x y : End) (a : Book) → event_count (Some y) ≡ event_count (Some x)
+    → with_held c (event_count (Some x)) (Some y) a ≡ a
 hears_none c x y a same =
-    let n = told_count (Some x) in
-    let none : told_count (Some y) - n ≡ 0 = omega (arith, same) in
+    let n = event_count (Some x) in
+    let none : event_count (Some y) - n ≡ 0 = omega (arith, same) in
     ap (λ m. with_events c n m y a) none
 
 -- ---- each HTLC is one that was there

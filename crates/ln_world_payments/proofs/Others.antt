@@ -37,8 +37,8 @@ use Rattle.ln_world.specs.World.{resumed_at}
 use Rattle.ln_world.specs.World.{moved_by, acting, asks_by, if_begun, if_stopped, is_take, concluded, follows}
 use Rattle.ln_world.specs.World.{stops_behind}
 use Rattle.ln_switch.specs.Answers.{next_id}
-use Rattle.ln_world.specs.BookReports.{told_count}
-use Rattle.ln_world.specs.World.{end_at, resumes, link_by, link_there, heard, unanswered}
+use Rattle.ln_world.specs.BookReports.{event_count}
+use Rattle.ln_world.specs.World.{end_at, resumes, link_by, link_there, reported, unanswered}
 use Rattle.ln_world_payments.proofs.Moving.{IsOfSide, other_stays}
 use Rattle.ln_world_payments.proofs.Scene.{link_in, other_node, other_all, same_number, lookup_map, side_apart}
 use Rattle.ln_world_payments.proofs.Books.{other_book}
@@ -209,7 +209,7 @@ module _ {K : Type 0} (k : Ghosts K) (e : End) (n : Node) (isnt : is_node e.node
       (d : Dispatchers K)
       (xs : List NodeBook) → node_at n (concluded (acting e c o r old) told d xs) ≡ node_at n xs
   acting_else c (Some x) r old told d xs = follows_else
-      (heard e (told_count (end_at e old))
+      (reported e (event_count (end_at e old))
       (asks_by c (next_id (end_at e old))) told d) d xs
   acting_else c None None old told d xs = refl
   acting_else c None (Some i) old told d xs = refl

@@ -26,7 +26,7 @@ use Rattle.ln_world_dispatch.specs.World.{is_dispatched, may_act}
 use Rattle.ln_world.specs.declared.step.Act.TheVariants as act
 use Rattle.ln_world.specs.declared.step.Step.TheVariants as step
 use Rattle.ln_world.specs.Node.{Book}
-use Rattle.ln_world.specs.BookReports.{with_held, told_count}
+use Rattle.ln_world.specs.BookReports.{with_held, event_count}
 use Rattle.ln_world.specs.World.{World, happens, id_of, act_where}
 use Rattle.ln_payment_circuits.specs.Snapshot.{IsIn, origin}
 use Rattle.ln_payment_circuits.proofs.Links.{Changed}
@@ -94,7 +94,7 @@ module _ {K : Type 0} (k : Ghosts K) (e : End) (v : Verdict) (w : World K) (h : 
     scene_with hs = record { links = links_of n new; book = hs }
 
     heard_alike : (r : Option ℕ)
-        → IsAlike (with_held (id_of e) (told_count (Some x0)) (Some y0) b) (book_in n (then r))
+        → IsAlike (with_held (id_of e) (event_count (Some x0)) (Some y0) b) (book_in n (then r))
     heard_alike r = act_book k e v w h.well.open_ a may s there row is None r w.nodes
 
     refused : y0 ≡ x0 → (r : Option ℕ) → Holds k n (then r)
@@ -106,7 +106,8 @@ module _ {K : Type 0} (k : Ghosts K) (e : End) (v : Verdict) (w : World K) (h : 
         } in
         concludes k e v w h.well.open_ a may s there row is (then r)
         (act_channels k e v w h.well.open_ a may s there row is) refl b
-        (subst (λ q. IsAlike q (book_in n (then r))) (hears_none (id_of e) x0 y0 b (ap (λ z. told_count (Some z)) same))
+        (subst (λ q. IsAlike q (book_in n (then r)))
+        (hears_none (id_of e) x0 y0 b (ap (λ z. event_count (Some z)) same))
         (heard_alike r)) h.well.small h.well.calm
         (same_paid channel_id_of (scene_of n w) (scene_with (table_of b).htlcs) same_scene h.well.paid)
         (same_agrees channel_id_of (scene_of n w) (scene_with (table_of b).htlcs) same_scene h.well.agrees)
@@ -129,8 +130,8 @@ module _ {K : Type 0} (k : Ghosts K) (e : End) (v : Verdict) (w : World K) (h : 
         plain_paid e.channel x0 f (scene_of n w) (scene_with (table_of b).htlcs) g refl fit
         (first_kept x0 f fit z) z
         p.1 h.well.paid in
-        let bt = with_held (id_of e) (told_count (Some x0)) (Some (based f)) b in
-        let heard = hears (id_of e) x0 (based f) (news z) b (undecided_so x0 f z p.1) (decided_so x0 f z p.1) in
+        let bt = with_held (id_of e) (event_count (Some x0)) (Some (based f)) b in
+        let reported = hears (id_of e) x0 (based f) (news z) b (undecided_so x0 f z p.1) (decided_so x0 f z p.1) in
         let kin = kin_all (id_of e) (news z) (based f) (table_of b).htlcs in
         let paid : HavePayments channel_id_of (scene_with (after_all (id_of e) (news z) (based f) (table_of b).htlcs)) =
         λ q. all_paid q (links_of n new) e.channel (news z) (based f) (table_of b).htlcs
@@ -138,19 +139,19 @@ module _ {K : Type 0} (k : Ghosts K) (e : End) (v : Verdict) (w : World K) (h : 
         (news_so (links_of n new) e.channel x0 f fit g.behind z) (mid q) in
         concludes k e v w h.well.open_ a may s there row is (then r)
         (act_channels k e v w h.well.open_ a may s there row is) refl bt
-        (subst (λ q. IsAlike (with_held (id_of e) (told_count (Some x0)) (Some q) b) (book_in n (then r))) t.3
+        (subst (λ q. IsAlike (with_held (id_of e) (event_count (Some x0)) (Some q) b) (book_in n (then r))) t.3
         (heard_alike r))
-        h.well.small (calm_as (table_of b) (table_of bt) heard.pending_commands h.well.calm)
-        (subst (λ hs. HavePayments channel_id_of (scene_with hs)) (sym heard.htlcs) paid)
+        h.well.small (calm_as (table_of b) (table_of bt) reported.pending_commands h.well.calm)
+        (subst (λ hs. HavePayments channel_id_of (scene_with hs)) (sym reported.htlcs) paid)
         (kin_agrees e.channel x0 (based f) (links_of n cs) (links_of n new) (table_of b).htlcs (table_of bt).htlcs g
         (λ q m. subst (IsIn q) (plain_decisions x0 f z p.1) (of_picked (is_open (entering f)) q f.ledger.decisions m))
-        (λ q m. kin q (subst (IsIn q) heard.htlcs m)) h.well.agrees)
+        (λ q m. kin q (subst (IsIn q) reported.htlcs m)) h.well.agrees)
         (order_at n cs new w.dispatchers.dispatchers w.dispatchers.dispatchers b bt
         (act_later k e v w h.well.open_ a may s there row is
         (λ q. subst (λ (y : ChannelEnd). AllName y.dance.log.own) (sym t.3)
         (shift_names x0 f z (plain_names x0 f z p.1) q)))
-        (λ q m. subst (IsIn q) heard.queue m)
-        (λ q m. let was = kin q (subst (IsIn q) heard.htlcs m) in (was.0, was.1, was.2.key, was.2.event))
+        (λ q m. subst (IsIn q) reported.queue m)
+        (λ q m. let was = kin q (subst (IsIn q) reported.htlcs m) in (was.0, was.1, was.2.key, was.2.event))
         (λ c i z. z) h.order)
 
     pub plain_holds : IfDone (Plain x0) row → ((d : Done) → row ≡ Ok d → s.halted ≡ false) → (r : Option ℕ)

@@ -205,7 +205,7 @@ lasts a b keys (s ∷ ss) p k h =
 
 -- ---- as they begin
 
-first_steady : (r : Role) (c : List ℕ) (f : Fees) (t : Terms) → Steady (end_of (opened_by r c f t))
+pub first_steady : (r : Role) (c : List ℕ) (f : Fees) (t : Terms) → Steady (end_of (opened_by r c f t))
 first_steady r c f t = record {
   first_own = omega arith;
   first_peer = omega arith;

@@ -71,6 +71,26 @@ based_fits o e h = record {
   results = h.results;
 }
 
+-- a lost connection leaves a beginning of either list
+pub dropped_fits : (o : Origin) (e : End) → Fits o e → Fits o (end_dropped e)
+dropped_fits o e h =
+    let l = e.dance.log in
+    let own_front = length-front l.signed.own l.own in
+    let own_most = h.own_room in
+    let front = length-front l.current.peer l.received in
+    let most = h.received_room in
+    record {
+      origin = h.origin;
+      own = all-take IsUpdate l.signed.own l.own h.own;
+      own_room = omega (arith, own_front, own_most);
+      received = all-take IsUpdate l.current.peer l.received h.received;
+      received_room = omega (arith, front, most);
+      script = h.script;
+      peer_script = h.peer_script;
+      decisions = h.decisions;
+      results = h.results;
+    }
+
 -- both ends, and what is in flight
 pub record BothFit (o q : Origin) (p : Ends) : Type 0 where
   pub x : Fits o p.x
@@ -115,30 +135,10 @@ module _ (k : Signer) (o q : Origin) where
   faulted_fits None r h = h
   faulted_fits (Some z) r h = tt
 
-  -- a lost connection leaves a beginning of either list
-  dropped_fits : (e : End) → Fits o e → Fits o (end_dropped e)
-  dropped_fits e h =
-      let l = e.dance.log in
-      let own_front = length-front l.signed.own l.own in
-      let own_most = h.own_room in
-      let front = length-front l.current.peer l.received in
-      let most = h.received_room in
-      record {
-        origin = h.origin;
-        own = all-take IsUpdate l.signed.own l.own h.own;
-        own_room = omega (arith, own_front, own_most);
-        received = all-take IsUpdate l.current.peer l.received h.received;
-        received_room = omega (arith, front, most);
-        script = h.script;
-        peer_script = h.peer_script;
-        decisions = h.decisions;
-        results = h.results;
-      }
-
   loses_fit : (down : Bool) (p : Ends) → BothFit o q p
       → BothFit o q (cond down p (record p { x_line = Down; x = end_dropped p.x; to_x = [] }))
   loses_fit true p h = h
-  loses_fit false p h = record { x = dropped_fits p.x h.x; y = h.y; to_x = tt; to_y = h.to_y }
+  loses_fit false p h = record { x = dropped_fits o p.x h.x; y = h.y; to_x = tt; to_y = h.to_y }
 
   left_wide : (n : ℕ) (l : ConnectionState) (ms : List Message) → All CarriesWide ms
       → All CarriesWide (still_come n l ms)

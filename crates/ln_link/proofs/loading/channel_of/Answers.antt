@@ -32,5 +32,5 @@ returns-clause-channel c =
     let rest = c.if-not-are_loadable.ensures.0 refl in (
       loadable i c.opening_of.result opening told.0 rest.0 rest.1,
       c.from_parts.ensures ∙ told_end i _ _ _ _ _ dance c.closing_of-closing.ensures c.in-Ok.ensures.terms
-          c.marks_of-readiness.ensures c.ledger_of-ledger.ensures,
+          c.readiness_of-readiness.ensures c.ledger_of-ledger.ensures,
     )

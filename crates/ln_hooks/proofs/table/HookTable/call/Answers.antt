@@ -1,19 +1,15 @@
-use Rattle.std.proofs.Common.{rules}
-use Rattle.ln_hooks.proofs.Chains.{called-none, called-turn, called-all}
+use Rattle.std.specs.Fn.{Called}
+use denote.Param.Callables.{along_mut, held_mut}
+use Rattle.ln_hooks.specs.Chain.{IsCalledOn}
+use Rattle.ln_hooks.proofs.Chains.{says-same}
 use Rattle.ln_hooks.proofs.table.HookTable.call.Goals as goal
 
-pub loop-i-init : goal.loop-i-init
-loop-i-init g c = called-none (λ h. h.call) _ c.args.self.now.hooks.items c.args.event.now
-
-pub loop-i-preserved : goal.loop-i-preserved
-loop-i-preserved g c =
-    called-turn (λ h. h.call) _ c.loop-i.i c.args.self.now.hooks.items c.loop-i.self.hooks.items c.args.event.now
-    c.loop-i.verdict c.index_mut-hook.result.now c.call.result c.call.new.self c.joined-verdict.result
-    c.loop-i.invariant (search rules) c.index_mut-hook.ensures.value c.call.ensures.called_once
-    c.joined-verdict.ensures
-
+-- a hook is called as its closure is
 pub returns : goal.returns
 returns g c = record {
-  calls_each_hook = called-all (λ h. h.call) _ c.loop-i.i c.args.self.now.hooks.items c.loop-i.self.hooks.items
-      c.args.event.now c.loop-i.verdict c.loop-i.invariant (search rules);
+  calls_each_hook =
+      says-same (λ h event answer h'. IsCalledOn
+      (λ f x a f'. Called (along_mut (λ b. (b.vtable, b.value)) (held_mut g.dyn-1.0)) f (x, tt) a f')
+      h.call event answer h'.call) (λ h. h.call) _ c.args.self.now.hooks.items c.args.event.now
+      c.call_each.result c.call_each.new.hooks.items c.call_each.ensures.calls_each_hook (λ h event answer h' k. k);
 }

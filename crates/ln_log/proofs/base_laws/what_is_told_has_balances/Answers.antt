@@ -1,5 +1,5 @@
 use Rattle.ln_log.proofs.Retold.{has_balances_told}
-use Rattle.ln_log.proofs.base_laws.what_is_told_has_worth.Goals as goal
+use Rattle.ln_log.proofs.base_laws.what_is_told_has_balances.Goals as goal
 
 pub returns-clause-has_balances : goal.returns-clause-has_balances
 returns-clause-has_balances c = has_balances_told

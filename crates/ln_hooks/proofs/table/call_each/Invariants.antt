@@ -1,6 +1,6 @@
 use Rattle.ln_hooks.proofs.Chains.{AreCalledUpTo}
-use Rattle.ln_world_dispatch.specs.Seated.{shown_to}
-use Rattle.ln_world_dispatch.proofs.hooks.call_each.Given as goal
+use Rattle.ln_hooks.specs.Chain.{shown_to}
+use Rattle.ln_hooks.proofs.table.call_each.Given as goal
 
 -- the first hooks were called
 abbrev pub invariant-loop-i : goal.invariant-loop-i

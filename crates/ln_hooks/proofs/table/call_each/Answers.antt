@@ -1,7 +1,7 @@
 use Rattle.std.proofs.Common.{rules, refl}
 use Rattle.ln_hooks.proofs.Chains.{called-none, called-turn, called-all}
-use Rattle.ln_world_dispatch.specs.Seated.{shown_to}
-use Rattle.ln_world_dispatch.proofs.hooks.call_each.Goals as goal
+use Rattle.ln_hooks.specs.Chain.{shown_to}
+use Rattle.ln_hooks.proofs.table.call_each.Goals as goal
 
 pub loop-i-init : goal.loop-i-init
 loop-i-init g c = called-none (λ h. h) _ c.args.hooks.now.items c.args.event.now

@@ -1,8 +1,8 @@
-//! The numbers of a line.
+//! The numbers of a line by which a program is driven.
 
 use std::alloc::{AllocError, Global};
 
-/// The numbers of a line; 0 for a word that is none.
+/// The words of a line as numbers; 0 for a word that is none.
 pub fn numbers(alloc: Global, line: &str) -> Result<Vec<u64>, AllocError> {
     let mut all = Vec::new(alloc);
     for word in line.split(' ') {
@@ -11,9 +11,9 @@ pub fn numbers(alloc: Global, line: &str) -> Result<Vec<u64>, AllocError> {
     Ok(all)
 }
 
-/// The number of this index; 0 behind the end.
-pub fn at(words: &[u64], index: usize) -> u64 {
-    match words.get(index) {
+/// The number at a place; 0 after the end.
+pub fn at(words: &[u64], place: usize) -> u64 {
+    match words.get(place) {
         None => 0,
         Some(number) => *number,
     }
