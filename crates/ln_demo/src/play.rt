@@ -6,8 +6,8 @@ use ln_hooks::{Call, ChannelEvent, Hook, HookTable, Verdict};
 use ln_msgs::{Counted, Refusal, write_out};
 use ln_node::Table;
 use std::alloc::Global;
-use std::io::Write;
-use std::net::{Net, TcpListener, TcpStream};
+use std::io::{Read, Write};
+use std::net::{Net, OpenStream};
 use std::sync::{Arc, Wait};
 use std::thread;
 use std::thread::Threads;
@@ -27,16 +27,17 @@ enum Stage {
 }
 
 // One look: what is to be ordered now.
-fn look<H, T, R: Wait>(
+fn look<H, T, C, R: Wait>(
     rt: &R,
     alloc: Global,
-    three: &Three<H, T>,
+    three: &Three<H, T, C>,
     seen: &Seen,
     stage: Stage,
 ) -> Result<Stage, Refusal>
 where
     H: Drop + Send + 'static,
     T: Table<H> + Drop + Send + 'static,
+    C: Read + Write + OpenStream + Drop + Send + 'static,
 {
     match stage {
         Stage::Opening => {
@@ -63,15 +64,16 @@ where
 }
 
 // Has the nodes pay, and close their channels. 65 where that doesn't come about.
-fn pay<H, T, R: Wait>(
+fn pay<H, T, C, R: Wait>(
     rt: &R,
     alloc: Global,
-    three: &Three<H, T>,
+    three: &Three<H, T, C>,
     seen: &Seen,
 ) -> Result<(), Refusal>
 where
     H: Drop + Send + 'static,
     T: Table<H> + Drop + Send + 'static,
+    C: Read + Write + OpenStream + Drop + Send + 'static,
 {
     let mut stage = Stage::Opening;
     for turn in 0..TURNS {
@@ -87,10 +89,10 @@ where
 }
 
 // Opens the channels, and pays.
-fn play<H, T, R>(
+fn play<H, T, C, R>(
     rt: R,
     alloc: Global,
-    three: &mut Three<H, T>,
+    three: &mut Three<H, T, C>,
     tables: Tables<T>,
     hooks: (H, H),
     seen: &Seen,
@@ -98,7 +100,9 @@ fn play<H, T, R>(
 where
     H: Drop + Send + 'static,
     T: Table<H> + Drop + Send + 'static,
-    R: Net<Listener = TcpListener, Stream = TcpStream> + Threads + Wait + Copy + Send + 'static,
+    C: Read + Write + OpenStream + Drop + Send + 'static,
+    R: Net<Stream = C> + Threads + Wait + Copy + Send + 'static,
+    R::Listener: Send + 'static,
 {
     three.open(rt, alloc, tables)?;
     three.prepare(&rt, hooks)?;
@@ -106,7 +110,7 @@ where
 }
 
 // Has three nodes pay, and stops them.
-fn run<H, T, R>(
+fn run<H, T, C, R>(
     rt: R,
     alloc: Global,
     tables: Tables<T>,
@@ -116,9 +120,11 @@ fn run<H, T, R>(
 where
     H: Drop + Send + 'static,
     T: Table<H> + Drop + Send + 'static,
-    R: Net<Listener = TcpListener, Stream = TcpStream> + Threads + Wait + Copy + Send + 'static,
+    C: Read + Write + OpenStream + Drop + Send + 'static,
+    R: Net<Stream = C> + Threads + Wait + Copy + Send + 'static,
+    R::Listener: Send + 'static,
 {
-    let mut three = Three::new(alloc)?;
+    let mut three: Three<H, T, C> = Three::new(alloc)?;
     let done = play(rt, alloc, &mut three, tables, hooks, seen);
     three.stop(rt);
     done
@@ -146,9 +152,11 @@ fn print<W: Write>(alloc: Global, seen: &Seen, writer: &mut Counted<W>) -> Resul
 ///
 /// Errors: 65 where the payment hasn't come about, or a channel hasn't closed, after 100,000,000 looks; 63 where a
 /// socket can't be had or the writer fails; 60 where there is no memory or no thread.
-pub fn demo<W: Write, R>(rt: R, alloc: Global, writer: &mut Counted<W>) -> Result<(), Refusal>
+pub fn demo<W: Write, C, R>(rt: R, alloc: Global, writer: &mut Counted<W>) -> Result<(), Refusal>
 where
-    R: Net<Listener = TcpListener, Stream = TcpStream> + Threads + Wait + Copy + Send + 'static,
+    C: Read + Write + OpenStream + Drop + Send + 'static,
+    R: Net<Stream = C> + Threads + Wait + Copy + Send + 'static,
+    R::Listener: Send + 'static,
 {
     let seen = Seen::new(alloc)?;
     let theirs = Arc::try_clone(&seen)?;
@@ -168,6 +176,6 @@ where
         HookTable::new(alloc),
     );
     let hooks = (Hook::new(payer), Hook::new(payee));
-    run::<Hook, HookTable, R>(rt, alloc, tables, hooks, &seen)?;
+    run::<Hook, HookTable, C, R>(rt, alloc, tables, hooks, &seen)?;
     print(alloc, &seen, writer)
 }

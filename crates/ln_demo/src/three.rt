@@ -11,19 +11,20 @@ use ln_msgs::{Refusal, channel_id};
 use ln_node::{Node, Table};
 use ln_store::MemoryStore;
 use std::alloc::Global;
-use std::net::{Net, SocketAddr, TcpListener, TcpStream};
+use std::io::{Read, Write};
+use std::net::{Net, OpenStream, SocketAddr};
 use std::sync::Wait;
 use std::thread::Threads;
 
 /// A node with toy keys and a toy onion, whose records are in memory.
-type ToyNode<H, T> = Node<ToyKeys, MemoryStore, ToyOnion, H, T>;
+type ToyNode<H, T, C> = Node<ToyKeys, MemoryStore, ToyOnion, H, T, C>;
 
 /// Three nodes: the payer, the one in the middle, the payee.
 #[derive(Drop)]
-pub(crate) struct Three<H: Drop, T: Drop> {
-    a: ToyNode<H, T>,
-    b: ToyNode<H, T>,
-    c: ToyNode<H, T>,
+pub(crate) struct Three<H: Drop, T: Drop, C: Drop> {
+    a: ToyNode<H, T, C>,
+    b: ToyNode<H, T, C>,
+    c: ToyNode<H, T, C>,
 }
 
 /// The empty tables of hooks of four ends: the payer's, the middle node's two, the payee's.
@@ -31,13 +32,14 @@ pub(crate) type Tables<T> = (T, T, T, T);
 
 fn let_go<T: Drop>(_value: T) {}
 
-impl<H, T> Three<H, T>
+impl<H, T, C> Three<H, T, C>
 where
     H: Drop + Send + 'static,
     T: Table<H> + Drop + Send + 'static,
+    C: Read + Write + OpenStream + Drop + Send + 'static,
 {
     /// Three nodes without channels.
-    pub(crate) fn new(alloc: Global) -> Result<Three<H, T>, Refusal> {
+    pub(crate) fn new(alloc: Global) -> Result<Three<H, T, C>, Refusal> {
         Ok(Three {
             a: Node::new(alloc, ToyOnion, POLICY)?,
             b: Node::new(alloc, ToyOnion, POLICY)?,
@@ -49,12 +51,13 @@ where
     fn listen<R>(
         rt: R,
         alloc: Global,
-        node: &mut ToyNode<H, T>,
+        node: &mut ToyNode<H, T, C>,
         keys: ToyKeys,
         table: T,
     ) -> Result<SocketAddr, Refusal>
     where
-        R: Net<Listener = TcpListener, Stream = TcpStream> + Threads + Wait + Copy + Send + 'static,
+        R: Net<Stream = C> + Threads + Wait + Copy + Send + 'static,
+        R::Listener: Send + 'static,
     {
         let loopback = SocketAddr::from(([127, 0, 0, 1], 0));
         let config = fit_config(alloc)?;
@@ -73,14 +76,15 @@ where
     fn connect<R>(
         rt: R,
         alloc: Global,
-        node: &mut ToyNode<H, T>,
+        node: &mut ToyNode<H, T, C>,
         keys: ToyKeys,
         txid: [u8; 32],
         table: T,
         address: SocketAddr,
     ) -> Result<(), Refusal>
     where
-        R: Net<Listener = TcpListener, Stream = TcpStream> + Threads + Wait + Copy + Send + 'static,
+        R: Net<Stream = C> + Threads + Wait + Copy + Send + 'static,
+        R::Listener: Send + 'static,
     {
         let spec = fit_spec(alloc, txid)?;
         node.connect(
@@ -97,7 +101,8 @@ where
     /// Opens both channels: the middle node listens for the payer, the payee for the middle node.
     pub(crate) fn open<R>(&mut self, rt: R, alloc: Global, tables: Tables<T>) -> Result<(), Refusal>
     where
-        R: Net<Listener = TcpListener, Stream = TcpStream> + Threads + Wait + Copy + Send + 'static,
+        R: Net<Stream = C> + Threads + Wait + Copy + Send + 'static,
+        R::Listener: Send + 'static,
     {
         let [payer, left, right, payee] = KEYS;
         let [first, second] = TXIDS;
@@ -170,7 +175,7 @@ where
     /// Stops the nodes, and joins their threads.
     pub(crate) fn stop<R>(self, rt: R)
     where
-        R: Net<Listener = TcpListener, Stream = TcpStream> + Threads + Wait + Copy + Send + 'static,
+        R: Net<Stream = C> + Threads + Wait + Copy + Send + 'static,
     {
         let Three { a, b, c } = self;
         a.stop(rt);

@@ -8,8 +8,8 @@ use ln_forward::Policy;
 use ln_hooks::{Call, ChannelEvent, Hook, HookTable, How, Verdict};
 use ln_keys::{ToyKeys, ToyOnion, sha256_32};
 use ln_log::Limits;
-use ln_msgs::{Records, Refusal, channel_id};
-use ln_node::{Node, Notice, Table};
+use ln_msgs::{Records, Refusal};
+use ln_node::{Answer, ChannelState, Node, Notice, Signing, Table};
 use ln_store::RecordStore;
 use std::alloc::Global;
 use std::net::{Net, SocketAddr, TcpListener, TcpStream};
@@ -163,8 +163,10 @@ where
         })
     }
 
-    /// The payee listens at any port, and the payer connects: channel 0 of both.
+    /// The payee listens at any port, and the payer connects: channel 0 of both, which sign by themselves.
     fn open(&mut self, stores: (S, S), tables: (T, T)) -> Result<(), Refusal> {
+        self.payer.set_signing(Signing::WhenIdle);
+        self.payee.set_signing(Signing::WhenIdle);
         let (rt, alloc) = (self.rt, self.host.alloc());
         let (of_payer, of_payee) = stores;
         let (payers, payees) = tables;
@@ -178,23 +180,52 @@ where
             .connect(rt, alloc, PAYER, spec, of_payer, payers, address)
     }
 
-    /// Orders what is due until `paid` isn't 0. Error 65: a minute has passed.
-    fn pay(&self, paid: &AtomicU64) -> Result<(), Refusal> {
+    /// Whether the payer's channel is ready.
+    fn is_ready(&self) -> bool {
+        match self.payer.summary(&self.rt, 0) {
+            Ok(summary) => summary.state == ChannelState::Ready,
+            Err(_) => false,
+        }
+    }
+
+    /// Confirms the channel, as its chain would, until the payer can pay. Error 65: a minute has passed.
+    fn confirm(&self) -> Result<(), Refusal> {
         let rt = &self.rt;
-        self.payee.book().lock(rt).set_height(100);
-        self.payee.book().lock(rt).expect(PREIMAGE, SECRET, AMOUNT)?;
-        let mut offered = false;
         for _ in 0..60_000 {
-            if paid.load(Ordering::SeqCst) > 0 {
+            if self.is_ready() {
                 return Ok(());
             }
             let _ = self.payer.order(rt, 0, Command::Confirm(PLACE));
             let _ = self.payee.order(rt, 0, Command::Confirm(PLACE));
-            if !offered && self.payer.book().lock(rt).usable(&channel_id(&TXID, 0)) {
-                offered = self.payer.order(rt, 0, payment(self.host.alloc())?).is_ok();
+            thread::sleep(self.host, Duration::from_millis(1));
+        }
+        Err(Refusal::GaveUp)
+    }
+
+    /// Offers the payment. Errors: by what the payer's link refuses it; 65: a minute has passed.
+    fn offer(&self) -> Result<(), Refusal> {
+        let rt = &self.rt;
+        let Ok(ticket) = self.payer.ask(rt, 0, payment(self.host.alloc())?) else {
+            return Err(Refusal::GaveUp);
+        };
+        match self.payer.wait_for_answer(rt, ticket, 60_000) {
+            Answer::Done(_) => Ok(()),
+            Answer::Refused(refusal) => Err(refusal),
+            _ => Err(Refusal::GaveUp),
+        }
+    }
+
+    /// Pays, until `paid` isn't 0. Error 65: a minute has passed.
+    fn pay(&self, paid: &AtomicU64) -> Result<(), Refusal> {
+        let rt = &self.rt;
+        self.payee.book().lock(rt).set_height(100);
+        self.payee.book().lock(rt).expect(PREIMAGE, SECRET, AMOUNT)?;
+        self.confirm()?;
+        self.offer()?;
+        for _ in 0..60_000 {
+            if paid.load(Ordering::SeqCst) > 0 {
+                return Ok(());
             }
-            let _ = self.payer.order(rt, 0, Command::Sign);
-            let _ = self.payee.order(rt, 0, Command::Sign);
             thread::sleep(self.host, Duration::from_millis(1));
         }
         Err(Refusal::GaveUp)
@@ -203,7 +234,7 @@ where
     /// Tells what has become of a node's channels, but for orders that came to nothing.
     fn notify(&self, name: &str, node: &MyNode<S, H, T>) {
         for (channel, notice) in node.notices(&self.rt, self.host.alloc()) {
-            if !matches!(notice, Notice::Refused(_)) {
+            if !matches!(notice, Notice::OrderRefused(..)) {
                 let _ = eprintln!(self.host; "{name} {channel}: {notice:?}");
             }
         }

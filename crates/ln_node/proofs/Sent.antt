@@ -11,6 +11,8 @@ use Rattle.ln_switch.specs.contracts.uses.Use as Use
 use Rattle.ln_switch.specs.contracts.seat.Seat as Seat
 use Rattle.ln_node.proofs.wakeup.Wakeup.TheSendSync as wakeup
 use Rattle.ln_node.proofs.notices.Notices.TheSendSync as notices
+use Rattle.ln_node.proofs.observer.Observer.TheSendSync as observer
+use Rattle.ln_watch.proofs.watch.Watch.TheSendSync as watch
 use Rattle.ln_node.specs.contracts.book.NodeBook as NodeBook
 use Rattle.ln_node.specs.contracts.book.SharedBook as SharedBook
 
@@ -55,7 +57,13 @@ shared_send O o =
             search (sendable, crosses, wakeup.the_send, wakeup.the_sync) depth 9,
             (
               search (sendable, crosses, notices.the_send, notices.the_sync) depth 9,
-              (search sendable depth 9, tt),
+              (
+                search (sendable, crosses, observer.the_send, observer.the_sync) depth 9,
+                (
+                  search (sendable, crosses, watch.the_send, watch.the_sync) depth 9,
+                  (search sendable depth 9, (search sendable depth 9, tt)),
+                ),
+              ),
             ),
           ),
         ),

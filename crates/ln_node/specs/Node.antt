@@ -7,9 +7,9 @@ use Rattle.ln_node.specs.Books.{begun_in}
 use Rattle.ln_node.specs.declared.node.Node.{Node}
 
 -- what it asks for a payment that it forwards
-abbrev pub policy_of : {K S O H T : Type 0} → Node K S O H T → Policy
+abbrev pub policy_of : {K S O H T W : Type 0} → Node K S O H T W → Policy
 policy_of n = n.common.policy
 
 -- its book, as it began
-abbrev pub begun_of : {K S O H T : Type 0} → Node K S O H T → History Table Entry
+abbrev pub begun_of : {K S O H T W : Type 0} → Node K S O H T W → History Table Entry
 begun_of n = begun_in n.common

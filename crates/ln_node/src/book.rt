@@ -4,6 +4,7 @@ ghost use Rattle.std.specs.Prelude.{◌≡◌, [], IfOk};
 ghost use Rattle.ln_switch.specs.Seats.{policy_of};
 
 use crate::notices::Notices;
+use crate::observer::{Monitor, Observer};
 use crate::opening::NodeLink;
 use crate::wakeup::Wakeup;
 use ln_book::Book;
@@ -16,6 +17,7 @@ use ln_msgs::Refusal;
 use ln_node_loops::{Books, Notice, ReadsEnds};
 use ln_store::RecordStore;
 use ln_switch::{Seat, Use, use_of, waits};
+use ln_watch::Watch;
 use std::alloc::{AllocError, Global};
 use std::snapshot::Snapshot;
 use std::sync::{Arc, Mutex, OnceLock, Wait};
@@ -50,8 +52,14 @@ pub struct SharedBook<O: Drop> {
     // Sounds where a worker of the node may have something to do.
     wakeup: Arc<Wakeup>,
     notices: Arc<Notices>,
+    // What watches the channel.
+    observer: Arc<Observer>,
+    // The channel's summary, for who watches the node.
+    watch: Arc<Watch>,
     // The channel's number.
     number: usize,
+    // For summaries.
+    alloc: Global,
 }
 
 /// What all channels of a node share.
@@ -67,16 +75,22 @@ pub(crate) struct Common<O: Drop> {
     pub(crate) wakeup: Arc<Wakeup>,
     /// What has become of its channels.
     pub(crate) notices: Arc<Notices>,
+    /// What it has done.
+    pub(crate) monitor: Arc<Monitor>,
 }
 
 impl<O: Onion + Copy + Drop> SharedBook<O> {
     ghost use Rattle.ln_switch.specs.Seats.{said};
     ghost use Rattle.ln_node.specs.Books.{begun_at, begun_in};
 
-    // The book, for a thread of this channel of the node, whose id will be told here.
+    // The book, for a thread of this channel of the node, whose id will be told here; its summary is this, and this
+    // watches it.
     fn beside(
+        alloc: Global,
         common: &Common<O>,
         id: Arc<OnceLock<ChannelId>>,
+        watch: Arc<Watch>,
+        observer: Arc<Observer>,
         number: usize,
     ) -> Result<SharedBook<O>, AllocError>
         ensures reaches_the_book { IfOk result (λ b. begun_at b ≡ begun_in common.now) }
@@ -89,15 +103,20 @@ impl<O: Onion + Copy + Drop> SharedBook<O> {
             id,
             wakeup: Arc::try_clone(&common.wakeup)?,
             notices: Arc::try_clone(&common.notices)?,
+            observer,
+            watch,
             number,
+            alloc,
         })
     }
 
-    /// The book, for the worker and the dispatcher of this channel of the node, which has no id yet. Takes memory for
-    /// the id.
+    /// The book, for the worker and the dispatcher of this channel of the node, which has no id yet; its summary is
+    /// this, and this watches it. Takes memory for the id.
     pub(crate) fn pair(
         alloc: Global,
         common: &Common<O>,
+        watch: Arc<Watch>,
+        observer: &Arc<Observer>,
         number: usize,
     ) -> Result<(SharedBook<O>, SharedBook<O>), AllocError>
         ensures reach_the_book { IfOk result (λ b. (begun_at b.0 ≡ begun_in common.now)
@@ -108,14 +127,21 @@ impl<O: Onion + Copy + Drop> SharedBook<O> {
     {
         let id = Arc::new(alloc, OnceLock::new())?;
         let again = Arc::try_clone(&id)?;
-        let first = SharedBook::beside(common, id, number)?;
-        let second = SharedBook::beside(common, again, number)?;
+        let same = Arc::try_clone(&watch)?;
+        let (one, other) = (Arc::try_clone(observer)?, Arc::try_clone(observer)?);
+        let first = SharedBook::beside(alloc, common, id, watch, one, number)?;
+        let second = SharedBook::beside(alloc, common, again, same, other, number)?;
         Ok((first, second))
     }
 
     /// The channel, once both have signed its opening.
     pub(crate) fn id(&self) -> Result<Arc<OnceLock<ChannelId>>, AllocError> {
         Ok(Arc::try_clone(&self.id)?)
+    }
+
+    /// The channel's summary.
+    pub(crate) fn watch(&self) -> Result<Arc<Watch>, AllocError> {
+        Ok(Arc::try_clone(&self.watch)?)
     }
 }
 
@@ -168,6 +194,7 @@ impl<O: Onion + Copy + Drop> Books for SharedBook<O> {
             .decide(alloc, &mut book, channel, number, event, verdict);
         match decided {
             Ok(mark) => {
+                self.observer.decide(&mark);
                 if let Mark::Held(held) = mark {
                     self.notices.add(rt, self.number, Notice::Held(held));
                 }
@@ -232,6 +259,8 @@ where
 
     fn follow<R: Wait>(&mut self, rt: &R, end: &NodeLink<K, S>) -> Result<(), Refusal> {
         let channel_machine = end.saved.link.channel_machine();
+        self.watch.put(rt, self.alloc, channel_machine);
+        self.observer.flush(rt, self.alloc);
         match channel_machine.saved() {
             None => Ok(()),
             Some(channel) => {
@@ -245,6 +274,7 @@ where
     }
 
     fn notice<R: Wait>(&mut self, rt: &R, notice: Notice) {
+        self.observer.flush(rt, self.alloc);
         self.notices.add(rt, self.number, notice);
     }
 

@@ -1,5 +1,6 @@
 //! What a node has of a channel: its threads, and the seats that callers use.
 
+use crate::asking::{Desk, DeskSeat};
 use crate::reader::Connections;
 use crate::seat::{PatientSeat, WakingSeat};
 use crate::socket::Socket;
@@ -10,7 +11,8 @@ use ln_msgs::Message;
 use ln_node_loops::{End, Item, ReadsEnds, Table, Task, Worker, WorkerLoop, put};
 use ln_relay::{RecvSeat, SendSeat, Sends, WaitRecv, WaitSend, relay, waiting_relay};
 use std::alloc::{AllocError, Global};
-use std::net::{Net, SocketAddr, TcpListener, TcpStream};
+use std::io::{Read, Write};
+use std::net::{Net, OpenListener, OpenStream, SocketAddr, TcpStream};
 use std::sync::{Arc, Mutex, Wait};
 use std::thread::{JoinHandle, Threads};
 
@@ -21,35 +23,37 @@ const ITEMS: usize = 256;
 const TASKS: usize = 1024;
 
 /// A sender's seat of a worker's relay.
-pub(crate) type ItemSeat = WakingSeat<SendSeat<Item<Socket>>>;
+pub(crate) type ItemSeat<W> = WakingSeat<SendSeat<Item<Socket<W>>>>;
 
 /// That of a reader.
-pub(crate) type ReadSeat = PatientSeat<ItemSeat>;
+pub(crate) type ReadSeat<W> = PatientSeat<ItemSeat<W>>;
 
 /// A worker with its seats.
-pub(crate) type EndBench<E, H, B> = WorkerLoop<
+pub(crate) type EndBench<E, H, B, W> = WorkerLoop<
     E,
-    Socket,
-    RecvSeat<Item<Socket>>,
+    Socket<W>,
+    RecvSeat<Item<Socket<W>>>,
     WaitSend<Task<H>>,
     B,
+    DeskSeat,
 >;
 
 /// A channel of a node, whose end is an `E`.
 #[derive(Drop)]
-pub(crate) struct ChannelThreads<E: Drop, H: Drop, T: Drop, B: Drop> {
-    orders: Mutex<ItemSeat>,
+pub(crate) struct ChannelThreads<E: Drop, H: Drop, T: Drop, B: Drop, W: Drop> {
+    orders: Mutex<ItemSeat<W>>,
+    desk: Arc<Desk>,
     hooks: Mutex<WaitSend<Task<H>>>,
     bound: Option<SocketAddr>,
-    connections: Arc<Connections>,
-    reader: JoinHandle<ReadSeat>,
-    worker: JoinHandle<EndBench<E, H, B>>,
+    connections: Arc<Connections<W>>,
+    reader: JoinHandle<ReadSeat<W>>,
+    worker: JoinHandle<EndBench<E, H, B, W>>,
     dispatcher: JoinHandle<(WaitRecv<Task<H>>, T, B)>,
 }
 
 /// What a new channel is made of.
 #[derive(Drop)]
-pub(crate) struct Parts<E: Drop, B: Drop, T: Drop> {
+pub(crate) struct Parts<E: Drop, B: Drop, T: Drop, W: Drop, L: Drop> {
     /// The end that its worker has.
     pub(crate) end: E,
     /// The init that greets its peer.
@@ -58,18 +62,26 @@ pub(crate) struct Parts<E: Drop, B: Drop, T: Drop> {
     pub(crate) book: B,
     /// And as its dispatcher does.
     pub(crate) decisions: B,
+    /// Where its orders are answered.
+    pub(crate) desk: Arc<Desk>,
+    /// And as its worker has that.
+    pub(crate) desk_seat: DeskSeat,
     /// Sounds where its worker may have something to do.
     pub(crate) wakeup: Arc<Wakeup>,
     /// The table of its hooks.
     pub(crate) table: T,
-    pub(crate) connections: Arc<Connections>,
+    pub(crate) connections: Arc<Connections<W>>,
     /// Where its connections come to, where they don't go out.
-    pub(crate) listener: Option<TcpListener>,
+    pub(crate) listener: Option<L>,
     pub(crate) bound: Option<SocketAddr>,
 }
 
 // Hands a command on, unless the relay is full.
-fn order<R: Wait>(rt: &R, seat: &mut ItemSeat, command: Command) -> Result<(), Command> {
+fn order<W: Drop, R: Wait>(
+    rt: &R,
+    seat: &mut ItemSeat<W>,
+    command: Command,
+) -> Result<(), Command> {
     match seat.send(rt, Item::Order(command)) {
         Ok(()) => Ok(()),
         Err(Item::Order(back)) => Err(back),
@@ -104,10 +116,10 @@ fn stop_dispatcher<H: Drop, T: Drop, B: Drop, R: Threads + Wait>(
 }
 
 // Stops a worker, and joins it. Gives its end back.
-fn stop_worker<E: Drop, H: Drop, B: Drop, R: Threads + Wait>(
+fn stop_worker<E: Drop, H: Drop, B: Drop, W: Drop, R: Threads + Wait>(
     rt: &R,
-    seat: ItemSeat,
-    worker: JoinHandle<EndBench<E, H, B>>,
+    seat: ItemSeat<W>,
+    worker: JoinHandle<EndBench<E, H, B, W>>,
 ) -> E {
     let mut seat = seat;
     put(rt, &mut seat, Item::Stop);
@@ -116,15 +128,32 @@ fn stop_worker<E: Drop, H: Drop, B: Drop, R: Threads + Wait>(
         items: _,
         tasks: _,
         book: _,
+        orders: _,
     } = worker.join(rt);
     worker.end
 }
 
-impl<E: Drop, H: Drop, T: Drop, B: Drop> ChannelThreads<E, H, T, B> {
-    /// Hands a command to its worker; a full relay hands it back.
-    pub(crate) fn order<R: Wait>(&self, rt: &R, command: Command) -> Result<(), Command> {
+impl<E, H, T, B, W> ChannelThreads<E, H, T, B, W>
+where
+    E: Drop,
+    H: Drop,
+    T: Drop,
+    B: Drop,
+    W: Read + Write + OpenStream + Drop,
+{
+    /// Hands a command to its worker, and gives the order's number; a full relay hands it back.
+    pub(crate) fn order<R: Wait>(&self, rt: &R, command: Command) -> Result<u64, Command> {
         let mut seat = self.orders.lock(rt);
-        order(rt, &mut seat, command)
+        match order(rt, &mut seat, command) {
+            // The seat is held until the order is counted, so orders have their numbers in the relay's order.
+            Ok(()) => Ok(self.desk.put(rt)),
+            Err(back) => Err(back),
+        }
+    }
+
+    /// Where its orders are answered.
+    pub(crate) fn desk(&self) -> &Desk {
+        &self.desk
     }
 
     /// Hands a hook to its dispatcher; a full relay hands it back.
@@ -142,7 +171,7 @@ impl<E: Drop, H: Drop, T: Drop, B: Drop> ChannelThreads<E, H, T, B> {
     /// Shuts its connection, and ends an accept that waits by a connection of the node's own.
     pub(crate) fn stop<R>(&self, rt: &R)
     where
-        R: Net<Listener = TcpListener, Stream = TcpStream> + Wait,
+        R: Net<Stream = W> + Wait,
     {
         self.shut(rt);
         if let Some(bound) = self.bound {
@@ -156,7 +185,7 @@ impl<E: Drop, H: Drop, T: Drop, B: Drop> ChannelThreads<E, H, T, B> {
     }
 
     /// Shuts its connection, and has this one read next.
-    pub(crate) fn reconnect<R: Wait>(&self, rt: &R, stream: TcpStream) {
+    pub(crate) fn reconnect<R: Wait>(&self, rt: &R, stream: W) {
         self.connections.shut(rt);
         self.connections.follow(rt, stream);
     }
@@ -165,6 +194,7 @@ impl<E: Drop, H: Drop, T: Drop, B: Drop> ChannelThreads<E, H, T, B> {
     pub(crate) fn end<R: Threads + Wait>(self, rt: &R) -> E {
         let ChannelThreads {
             orders,
+            desk: _,
             hooks,
             bound: _,
             connections: _,
@@ -181,18 +211,18 @@ impl<E: Drop, H: Drop, T: Drop, B: Drop> ChannelThreads<E, H, T, B> {
 
 // The seats of a new channel's relays.
 #[derive(Drop)]
-struct Seats<H: Drop> {
-    first: SendSeat<Item<Socket>>,
-    orders: SendSeat<Item<Socket>>,
-    items: RecvSeat<Item<Socket>>,
+struct Seats<H: Drop, W: Drop> {
+    first: SendSeat<Item<Socket<W>>>,
+    orders: SendSeat<Item<Socket<W>>>,
+    items: RecvSeat<Item<Socket<W>>>,
     events: WaitSend<Task<H>>,
     hooks: WaitSend<Task<H>>,
     tasks: WaitRecv<Task<H>>,
 }
 
 // New relays. Nothing where there is no memory.
-fn new_seats<H: Drop>(alloc: Global) -> Result<Seats<H>, AllocError> {
-    let (first, orders, items) = relay::<Item<Socket>>(alloc, ITEMS)?;
+fn new_seats<H: Drop, W: Drop>(alloc: Global) -> Result<Seats<H, W>, AllocError> {
+    let (first, orders, items) = relay::<Item<Socket<W>>>(alloc, ITEMS)?;
     let (events, hooks, tasks) = waiting_relay::<Task<H>>(alloc, TASKS)?;
     Ok(Seats {
         first,
@@ -206,16 +236,18 @@ fn new_seats<H: Drop>(alloc: Global) -> Result<Seats<H>, AllocError> {
 
 /// Starts the threads of a channel: its dispatcher, its worker, its reader. Takes memory for its relays. Nothing where
 /// there is no memory, or no thread can be made.
-pub(crate) fn start<E, B, H, T, R>(
+pub(crate) fn start<E, B, H, T, W, L, R>(
     rt: R,
     alloc: Global,
-    parts: Parts<E, B, T>,
-) -> Result<ChannelThreads<E, H, T, B>, AllocError>
+    parts: Parts<E, B, T, W, L>,
+) -> Result<ChannelThreads<E, H, T, B, W>, AllocError>
 where
     E: End + Drop + Send + 'static,
     B: ReadsEnds<E> + Drop + Send + 'static,
     H: Drop + Send + 'static,
     T: Table<H> + Drop + Send + 'static,
+    W: Read + Write + OpenStream + Drop + Send + 'static,
+    L: OpenListener<Stream = W> + Drop + Send + 'static,
     R: Threads + Wait + Copy + Send + 'static,
 {
     let theirs = Arc::try_clone(&parts.connections)?;
@@ -227,12 +259,14 @@ where
         events,
         hooks,
         tasks,
-    } = new_seats::<H>(alloc)?;
+    } = new_seats::<H, W>(alloc)?;
     let Parts {
         end,
         own_init,
         book,
         decisions,
+        desk,
+        desk_seat,
         wakeup,
         table,
         connections,
@@ -255,6 +289,7 @@ where
         items,
         tasks: events,
         book,
+        orders: desk_seat,
     };
     let Some(dispatcher) = start_dispatcher::<H, WaitRecv<Task<H>>, T, B, R>(
         rt, alloc, tasks, table, decisions,
@@ -263,23 +298,26 @@ where
     };
     let Some(worker) = start_worker::<
         E,
-        Socket,
-        RecvSeat<Item<Socket>>,
+        Socket<W>,
+        RecvSeat<Item<Socket<W>>>,
         H,
         WaitSend<Task<H>>,
         B,
+        DeskSeat,
         R,
     >(rt, alloc, own_init, work) else {
         stop_dispatcher(&rt, hooks, dispatcher);
         return Err(AllocError);
     };
-    let Some(reader) = start_reader::<ReadSeat, R>(rt, alloc, listener, first, theirs) else {
+    let Some(reader) = start_reader::<ReadSeat<W>, L, W, R>(rt, alloc, listener, first, theirs)
+    else {
         drop(stop_worker(&rt, orders, worker));
         stop_dispatcher(&rt, hooks, dispatcher);
         return Err(AllocError);
     };
     Ok(ChannelThreads {
         orders: Mutex::new(orders),
+        desk,
         hooks: Mutex::new(hooks),
         bound,
         connections,

@@ -1,24 +1,36 @@
 //! A node of a payment channel network, in threads over sockets.
 #![tactic(auto)]
 
+mod asking;
 mod book;
 mod channel;
 mod node;
 mod notices;
+mod observed;
+mod observer;
 mod opening;
 mod reader;
 mod seat;
+mod signing;
 mod socket;
 mod start;
 mod stored;
+mod trace;
 mod wakeup;
+mod watch;
 
+pub use asking::{Answer, Ticket};
 pub use book::SharedBook;
 pub use ln_book_tables::HeldHtlc;
 pub use ln_node_loops::{
-    Books, Closes, End, Item, Notice, ReadsEnds, SavedLink, Table, Task, Wire, Worker, WorkerLoop,
-    dispatch_loop, hooks_follow, reader_loop, worker_loop, worker_turn,
+    Books, Closes, End, Item, Notice, Orders, ReadsEnds, SavedLink, Table, Task, Wire, Worker,
+    WorkerLoop, dispatch_loop, hooks_follow, reader_loop, worker_loop, worker_turn,
+};
+pub use ln_watch::{
+    ChannelState, ChannelSummary, Counters, Decided, HtlcStage, LiveHtlc, LiveHtlcs,
 };
 pub use node::Node;
+pub use signing::Signing;
 pub use socket::Socket;
 pub use stored::Stored;
+pub use trace::{Step, Trace};

@@ -1,10 +1,14 @@
 //! A node: its channels, each with its threads, and the book of its payments.
 
+use crate::asking::{Desk, DeskSeat};
 use crate::book::{Common, NodeBook, SharedBook};
 use crate::channel::{ChannelThreads, Parts, start};
 use crate::notices::Notices;
+use crate::observed::ObservedStore;
+use crate::observer::{Monitor, Observer};
 use crate::opening::NodeLink;
 use crate::reader::Connections;
+use crate::signing::Signing;
 use crate::stored::{Loaded, Stored, load_all, rebuilt_book};
 use crate::wakeup::Wakeup;
 use ln_book::Book;
@@ -18,8 +22,10 @@ use ln_log::{ChannelId, Mark};
 use ln_msgs::{Init, Message, Records, Refusal};
 use ln_node_loops::{End, Notice, ReadsEnds, Table};
 use ln_store::RecordStore;
+use ln_watch::Watch;
 use std::alloc::{AllocError, Global};
-use std::net::{Net, OpenListener, SocketAddr, TcpListener, TcpStream};
+use std::io::{Read, Write};
+use std::net::{Net, OpenListener, OpenStream, SocketAddr, TcpListener, TcpStream};
 use std::sync::atomic::{AtomicU64, Ordering};
 use std::sync::{Arc, Mutex, OnceLock, Wait};
 use std::thread::Threads;
@@ -28,22 +34,28 @@ use std::thread::Threads;
 /// that has its link and its store, and a dispatcher of its hooks, in threads of their own; and the book of the
 /// payments that it forwards. It runs until `stop`.
 #[derive(Drop)]
-pub struct Node<K: ChannelKeys + Copy, S: Drop, O: Drop, H: Drop, T: Drop> {
+pub struct Node<K: ChannelKeys + Copy, S: Drop, O: Drop, H: Drop, T: Drop, W: Drop = TcpStream> {
     stopping: Arc<AtomicU64>,
-    common: Common<O>,
-    channels: Vec<ChannelThreads<NodeLink<K, S>, H, T, SharedBook<O>>>,
+    pub(crate) common: Common<O>,
+    pub(crate) channels: Vec<ChannelThreads<NodeLink<K, S>, H, T, SharedBook<O>, W>>,
     // Which channels they are, once both have signed the opening.
     ids: Vec<Arc<OnceLock<ChannelId>>>,
+    /// Their summaries.
+    pub(crate) watches: Vec<Arc<Watch>>,
+    // When new channels sign.
+    pub(crate) signing: Signing,
 }
 
 // What a new channel has of its node.
 #[derive(Drop)]
-struct Shares<O: Drop> {
+struct Shares<O: Drop, W: Drop> {
     own_init: Box<Message>,
     book: SharedBook<O>,
     decisions: SharedBook<O>,
+    desk: Arc<Desk>,
+    desk_seat: DeskSeat,
     wakeup: Arc<Wakeup>,
-    connections: Arc<Connections>,
+    connections: Arc<Connections<W>>,
 }
 
 // The init that greets peers (BOLT 1, "The `init` Message"): no features.
@@ -62,9 +74,10 @@ fn keep<T: Drop>(kept: &mut Vec<T>, value: T) -> bool {
 }
 
 // Listens at an address, and answers the one that is bound. 63 where it can't be.
-fn bind<R>(rt: &R, address: SocketAddr) -> Result<(TcpListener, SocketAddr), Refusal>
+fn bind<L, R>(rt: &R, address: SocketAddr) -> Result<(L, SocketAddr), Refusal>
 where
-    R: Net<Listener = TcpListener, Stream = TcpStream>,
+    L: OpenListener + Drop,
+    R: Net<Listener = L>,
 {
     let Ok(listener) = TcpListener::bind(rt, address) else {
         return Err(Refusal::Io);
@@ -76,17 +89,19 @@ where
 }
 
 // Starts a channel, as the last one.
-fn add<E, B, H, T, R>(
+fn add<E, B, H, T, W, L, R>(
     rt: R,
     alloc: Global,
-    channels: &mut Vec<ChannelThreads<E, H, T, B>>,
-    parts: Parts<E, B, T>,
+    channels: &mut Vec<ChannelThreads<E, H, T, B, W>>,
+    parts: Parts<E, B, T, W, L>,
 ) -> Result<(), Refusal>
 where
     E: End + Drop + Send + 'static,
     B: ReadsEnds<E> + Drop + Send + 'static,
     H: Drop + Send + 'static,
     T: Table<H> + Drop + Send + 'static,
+    W: Read + Write + OpenStream + Drop + Send + 'static,
+    L: OpenListener<Stream = W> + Drop + Send + 'static,
     R: Threads + Wait + Copy + Send + 'static,
 {
     channels.reserve(1)?;
@@ -95,13 +110,14 @@ where
     Ok(())
 }
 
-impl<K, S, O, H, T> Node<K, S, O, H, T>
+impl<K, S, O, H, T, W> Node<K, S, O, H, T, W>
 where
     K: ChannelKeys + Copy + Send + 'static,
     S: RecordStore + Drop + Send + 'static,
     O: Onion + Copy + Drop + Send + 'static,
     H: Drop + Send + 'static,
     T: Table<H> + Drop + Send + 'static,
+    W: Read + Write + OpenStream + Drop + Send + 'static,
 {
     ghost use Rattle.std.specs.Prelude.{◌≡◌, [], IfOk};
     ghost use Rattle.ln_switch.specs.Seats as seats;
@@ -112,34 +128,40 @@ where
     /// A node without channels: it opens onions by this service, and forwards by this policy. Takes memory.
     ///
     /// Error: 60 where there is no memory.
-    pub fn new(alloc: Global, onion: O, policy: Policy) -> Result<Node<K, S, O, H, T>, Refusal>
+    pub fn new(alloc: Global, onion: O, policy: Policy) -> Result<Node<K, S, O, H, T, W>, Refusal>
         ensures asks_by_the_policy { IfOk result (λ n. policy_of n ≡ policy) }
     {
-        Node::with_book(alloc, onion, policy, Book::new(alloc))
+        let monitor = Monitor::new(alloc)?;
+        Node::with_book(alloc, onion, policy, Book::new(alloc), monitor)
     }
 
-    // A node without channels, whose book is this one. 60 where there is no memory.
+    // A node without channels, whose book is this one, and which is watched here. 60 where there is no memory.
     fn with_book(
         alloc: Global,
         onion: O,
         policy: Policy,
         book: Book,
-    ) -> Result<Node<K, S, O, H, T>, Refusal>
+        monitor: Arc<Monitor>,
+    ) -> Result<Node<K, S, O, H, T, W>, Refusal>
         ensures asks_by_the_policy { IfOk result (λ n. policy_of n ≡ policy) }
         ensures begins_with_the_book { IfOk result (λ n. begun_of n ≡ book) }
     {
+        let notices = Notices::new(alloc, Arc::try_clone(&monitor)?);
         let common = Common {
             book: Arc::new(alloc, NodeBook::new(book))?,
             onion,
             policy,
             wakeup: Arc::new(alloc, Wakeup::new())?,
-            notices: Arc::new(alloc, Notices::new(alloc))?,
+            notices: Arc::new(alloc, notices)?,
+            monitor,
         };
         Ok(Node {
             stopping: Arc::new(alloc, AtomicU64::new(0))?,
             common,
             channels: Vec::new(alloc),
             ids: Vec::new(alloc),
+            watches: Vec::new(alloc),
+            signing: Signing::WhenOrdered,
         })
     }
 
@@ -155,15 +177,32 @@ where
     }
 
     // The connections of a new channel.
-    fn connections(&self, alloc: Global) -> Result<Arc<Connections>, Refusal> {
+    fn connections(&self, alloc: Global) -> Result<Arc<Connections<W>>, Refusal> {
         let stopping = Arc::try_clone(&self.stopping)?;
         let notices = Arc::try_clone(&self.common.notices)?;
         let connections = Connections::new(stopping, notices, self.channels.len());
         Ok(Arc::new(alloc, connections)?)
     }
 
-    // What a new channel has of the node.
-    fn shares(&self, alloc: Global) -> Result<Shares<O>, Refusal>
+    // The desk of a new channel, as its worker has it.
+    fn desk_seat(&self, desk: Arc<Desk>) -> Result<DeskSeat, AllocError> {
+        let notices = Arc::try_clone(&self.common.notices)?;
+        Ok(DeskSeat::new(desk, notices, self.channels.len()))
+    }
+
+    // The store of a new channel, which is watched.
+    fn observed(&self, alloc: Global, store: S) -> Result<ObservedStore<S>, AllocError>
+        ensures keeps_it { IfOk result (λ s. s.inner ≡ store) }
+    {
+        let observer = Observer::new(alloc, &self.common.monitor, self.channels.len())?;
+        Ok(ObservedStore {
+            inner: store,
+            observer,
+        })
+    }
+
+    // What a new channel with this end has of the node.
+    fn shares(&self, alloc: Global, end: &NodeLink<K, S>) -> Result<Shares<O, W>, Refusal>
         ensures reach_the_book { IfOk result (λ s. (begun_at s.book ≡ begun_of self.now)
             × (begun_at s.decisions ≡ begun_of self.now)) }
         ensures asks_by_the_policy { IfOk result (λ s. (seats.policy_of s.book.seat ≡ policy_of self.now)
@@ -174,28 +213,41 @@ where
         let own_init = own_init(alloc)?;
         let wakeup = Arc::try_clone(&self.common.wakeup)?;
         let connections = self.connections(alloc)?;
-        let (book, decisions) = SharedBook::pair(alloc, &self.common, self.channels.len())?;
+        let watch = Arc::new(alloc, Watch::new(alloc, end.saved.link.channel_machine()))?;
+        let number = self.channels.len();
+        let (book, decisions) = SharedBook::pair(
+            alloc,
+            &self.common,
+            watch,
+            &end.saved.store.observer,
+            number,
+        )?;
+        let desk = Arc::new(alloc, Desk::new(self.signing))?;
+        let desk_seat = self.desk_seat(Arc::try_clone(&desk)?)?;
         Ok(Shares {
             own_init,
             decisions,
             book,
+            desk,
+            desk_seat,
             wakeup,
             connections,
         })
     }
 
     // Starts a channel.
-    fn start<R>(
+    fn start<L, R>(
         &mut self,
         rt: R,
         alloc: Global,
-        shares: Shares<O>,
+        shares: Shares<O, W>,
         end: NodeLink<K, S>,
         table: T,
-        listener: Option<TcpListener>,
+        listener: Option<L>,
         bound: Option<SocketAddr>,
     ) -> Result<(), Refusal>
     where
+        L: OpenListener<Stream = W> + Drop + Send + 'static,
         R: Threads + Wait + Copy + Send + 'static,
         ensures settings_stay { self.new.common ≡ self.old.common }
     {
@@ -203,16 +255,22 @@ where
             own_init,
             book,
             decisions,
+            desk,
+            desk_seat,
             wakeup,
             connections,
         } = shares;
         self.ids.reserve(1)?;
+        self.watches.reserve(1)?;
         let id = book.id()?;
+        let watch = book.watch()?;
         let parts = Parts {
             end,
             own_init,
             book,
             decisions,
+            desk,
+            desk_seat,
             wakeup,
             table,
             connections,
@@ -221,6 +279,7 @@ where
         };
         add(rt, alloc, &mut self.channels, parts)?;
         self.ids.push_reserved(id);
+        self.watches.push_reserved(watch);
         Ok(())
     }
 
@@ -242,11 +301,12 @@ where
         address: SocketAddr,
     ) -> Result<SocketAddr, Refusal>
     where
-        R: Net<Listener = TcpListener, Stream = TcpStream> + Threads + Wait + Copy + Send + 'static,
+        R: Net<Stream = W> + Threads + Wait + Copy + Send + 'static,
+        R::Listener: Send + 'static,
     {
-        let end = NodeLink::fundee(alloc, keys, config, store)?;
+        let end = NodeLink::fundee(alloc, keys, config, self.observed(alloc, store)?)?;
         let (listener, bound) = bind(&rt, address)?;
-        let shares = self.shares(alloc)?;
+        let shares = self.shares(alloc, &end)?;
         self.start(rt, alloc, shares, end, table, Some(listener), Some(bound))?;
         Ok(bound)
     }
@@ -268,15 +328,16 @@ where
         address: SocketAddr,
     ) -> Result<(), Refusal>
     where
-        R: Net<Listener = TcpListener, Stream = TcpStream> + Threads + Wait + Copy + Send + 'static,
+        R: Net<Stream = W> + Threads + Wait + Copy + Send + 'static,
+        R::Listener: Send + 'static,
     {
-        let end = NodeLink::funder(alloc, keys, spec, store)?;
+        let end = NodeLink::funder(alloc, keys, spec, self.observed(alloc, store)?)?;
         let Ok(stream) = TcpStream::connect(&rt, address) else {
             return Err(Refusal::Io);
         };
-        let shares = self.shares(alloc)?;
+        let shares = self.shares(alloc, &end)?;
         shares.connections.follow(&rt, stream);
-        self.start(rt, alloc, shares, end, table, None, None)
+        self.start::<R::Listener, R>(rt, alloc, shares, end, table, None, None)
     }
 
     /// Connects a channel with its peer again, which is listening at the address: a channel that `connect` has made, or
@@ -285,7 +346,7 @@ where
     /// Errors: 40 where there is no such channel; 63 where nobody listens at the address.
     pub fn reconnect<R>(&self, rt: &R, channel: usize, address: SocketAddr) -> Result<(), Refusal>
     where
-        R: Net<Listener = TcpListener, Stream = TcpStream> + Wait,
+        R: Net<Stream = W> + Wait,
     {
         let Some(channel) = self.channels.get(channel) else {
             return Err(Refusal::NotReady);
@@ -322,15 +383,16 @@ where
         address: Option<SocketAddr>,
     ) -> Result<(), Refusal>
     where
-        R: Net<Listener = TcpListener, Stream = TcpStream> + Threads + Wait + Copy + Send + 'static,
+        R: Net<Stream = W> + Threads + Wait + Copy + Send + 'static,
+        R::Listener: Send + 'static,
         ensures settings_stay { self.new.common ≡ self.old.common }
     {
-        let shares = self.shares(alloc)?;
+        let shares = self.shares(alloc, &end)?;
         if let Some(channel) = end.saved.link.channel_machine().saved() {
             let _ = shares.book.id()?.set(&rt, channel.id());
         }
         let Some(address) = address else {
-            return self.start(rt, alloc, shares, end, table, None, None);
+            return self.start::<R::Listener, R>(rt, alloc, shares, end, table, None, None);
         };
         let (listener, bound) = bind(&rt, address)?;
         self.start(rt, alloc, shares, end, table, Some(listener), Some(bound))
@@ -344,7 +406,8 @@ where
         loaded: Vec<Loaded<K, S, T>>,
     ) -> Result<(), Refusal>
     where
-        R: Net<Listener = TcpListener, Stream = TcpStream> + Threads + Wait + Copy + Send + 'static,
+        R: Net<Stream = W> + Threads + Wait + Copy + Send + 'static,
+        R::Listener: Send + 'static,
         ensures settings_stay { self.new.common ≡ self.old.common }
     {
         for one in loaded {
@@ -371,15 +434,19 @@ where
         onion: O,
         policy: Policy,
         stored: Vec<Stored<K, S, T>>,
-    ) -> Result<Node<K, S, O, H, T>, Refusal>
+    ) -> Result<Node<K, S, O, H, T, W>, Refusal>
     where
-        R: Net<Listener = TcpListener, Stream = TcpStream> + Threads + Wait + Copy + Send + 'static,
+        R: Net<Stream = W> + Threads + Wait + Copy + Send + 'static,
+        R::Listener: Send + 'static,
         ensures asks_by_the_policy { IfOk result (λ n. policy_of n ≡ policy) }
         ensures begins_with_all_channels { IfOk result (λ n. BeginsWithAll S.records stored.items (begun_of n)) }
     {
-        let loaded = load_all(alloc, stored)?;
+        let monitor = Monitor::new(alloc)?;
+        let loaded = load_all(alloc, &monitor, stored)?;
         let book = rebuilt_book(alloc, loaded.as_slice())?;
-        let mut node: Node<K, S, O, H, T> = Node::with_book(alloc, onion, policy, book)?;
+        let mut node: Node<K, S, O, H, T, W> = Node::with_book(
+            alloc, onion, policy, book, monitor,
+        )?;
         match node.start_all(rt, alloc, loaded) {
             Ok(()) => Ok(node),
             Err(refusal) => {
@@ -389,13 +456,12 @@ where
         }
     }
 
-    /// Orders a channel's link to do this. A full relay, or a channel that there isn't, hands the command back. Whether
-    /// the link takes it isn't told; `Decide`, `Resume` and `Forget` are the book's alone and come to nothing. Takes no
-    /// memory.
+    /// Orders a channel's link to do this, as `ask` does, without a ticket. A notice tells where the link refuses it.
+    /// Takes no memory.
     pub fn order<R: Wait>(&self, rt: &R, channel: usize, command: Command) -> Result<(), Command> {
-        match self.channels.get(channel) {
-            None => Err(command),
-            Some(channel) => channel.order(rt, command),
+        match self.ask(rt, channel, command) {
+            Ok(_) => Ok(()),
+            Err(back) => Err(back),
         }
     }
 
@@ -423,6 +489,9 @@ where
             .kept
             .lock(rt)
             .resume(alloc, &self.common.onion, id, number, verdict);
+        if let Ok(mark) = &answer {
+            self.common.monitor.tally.decide(mark);
+        }
         self.common.wakeup.ring();
         answer
     }
@@ -479,7 +548,7 @@ where
     // Says that the node stops, and shuts its connections.
     fn halt<R>(&self, rt: &R)
     where
-        R: Net<Listener = TcpListener, Stream = TcpStream> + Wait,
+        R: Net<Stream = W> + Wait,
     {
         self.stopping.store(1, Ordering::SeqCst);
         for channel in &self.channels {
@@ -491,7 +560,7 @@ where
     /// once these have served what was put before.
     pub fn stop<R>(self, rt: R)
     where
-        R: Net<Listener = TcpListener, Stream = TcpStream> + Threads + Wait + Copy + Send + 'static,
+        R: Net<Stream = W> + Threads + Wait + Copy + Send + 'static,
     {
         self.halt(&rt);
         for channel in self.channels {
@@ -503,7 +572,7 @@ where
     /// is none; the node has stopped then, too.
     pub fn into_stores<R>(self, rt: R, alloc: Global) -> Result<Vec<S>, Refusal>
     where
-        R: Net<Listener = TcpListener, Stream = TcpStream> + Threads + Wait + Copy + Send + 'static,
+        R: Net<Stream = W> + Threads + Wait + Copy + Send + 'static,
     {
         self.halt(&rt);
         let mut stores = Vec::new(alloc);

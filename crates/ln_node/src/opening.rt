@@ -7,6 +7,8 @@ ghost use Rattle.ln_node_loops.specs.Sent.{loaded};
 ghost use Rattle.ln_node.specs.declared.opening.Beginning.TheVariants.{Fundee, Funder, Over};
 ghost use Rattle.ln_node.specs.Opening.{Begins, BeginsAnew, is_unopened, asks_to_sign, lacks_record};
 
+use crate::observed::ObservedStore;
+use crate::observer::Observer;
 use ln_bytes::{Bytes, Record};
 use ln_channel::{ChannelMachine, Command, Config, FitConfig, FitSpec, OpenSpec, Output};
 use ln_hooks::ChannelEvent;
@@ -34,7 +36,7 @@ pub(crate) enum Beginning {
 #[derive(Drop)]
 pub(crate) struct NodeLink<K: ChannelKeys + Copy, S: Drop> {
     /// The link with its store.
-    pub(crate) saved: Box<SavedLink<K, S>>,
+    pub(crate) saved: Box<SavedLink<K, ObservedStore<S>>>,
     /// What a new one begins with.
     pub(crate) beginning: Box<Beginning>,
 }
@@ -175,7 +177,7 @@ impl<K: ChannelKeys + Copy, S: Drop> NodeLink<K, S> {
         alloc: Global,
         keys: K,
         beginning: Box<Beginning>,
-        store: S,
+        store: ObservedStore<S>,
     ) -> Result<NodeLink<K, S>, Refusal>
         ensures begins { IfOk result (λ n. Begins keys beginning.value (Ok n.saved.value.link)) }
         ensures begins_anew_alike { IfOk result (λ n. n.beginning.value ≡ beginning.value) }
@@ -191,7 +193,7 @@ impl<K: ChannelKeys + Copy, S: Drop> NodeLink<K, S> {
         alloc: Global,
         keys: K,
         config: FitConfig,
-        store: S,
+        store: ObservedStore<S>,
     ) -> Result<NodeLink<K, S>, Refusal>
         ensures begins { IfOk result (λ n. Begins keys (Fundee config) (Ok n.saved.value.link)) }
         ensures begins_anew_alike { IfOk result (λ n. n.beginning.value ≡ Fundee config) }
@@ -207,7 +209,7 @@ impl<K: ChannelKeys + Copy, S: Drop> NodeLink<K, S> {
         alloc: Global,
         keys: K,
         spec: FitSpec,
-        store: S,
+        store: ObservedStore<S>,
     ) -> Result<NodeLink<K, S>, Refusal>
         ensures begins { IfOk result (λ n. Begins keys (Funder spec) (Ok n.saved.value.link)) }
         ensures begins_anew_alike { IfOk result (λ n. n.beginning.value ≡ Funder spec) }
@@ -219,7 +221,10 @@ impl<K: ChannelKeys + Copy, S: Drop> NodeLink<K, S> {
     }
 
     /// One that came from its record. 60 where there is no memory.
-    pub(crate) fn loaded(alloc: Global, saved: SavedLink<K, S>) -> Result<NodeLink<K, S>, Refusal>
+    pub(crate) fn loaded(
+        alloc: Global,
+        saved: SavedLink<K, ObservedStore<S>>,
+    ) -> Result<NodeLink<K, S>, Refusal>
         ensures keeps { IfOk result (λ n. n.saved.value ≡ saved) }
         ensures begins_nothing_anew { IfOk result (λ n. n.beginning.value ≡ Over) }
     {
@@ -230,7 +235,7 @@ impl<K: ChannelKeys + Copy, S: Drop> NodeLink<K, S> {
 
     /// Its store.
     pub(crate) fn into_store(self) -> S
-        ensures { result ≡ self.saved.value.store }
+        ensures { result ≡ self.saved.value.store.inner }
     {
         let SavedLink {
             keys: _,
@@ -238,13 +243,31 @@ impl<K: ChannelKeys + Copy, S: Drop> NodeLink<K, S> {
             store,
         } = Box::into_inner(self.saved);
         drop(link);
-        store
+        store.inner
+    }
+}
+
+// The outputs of an end are watched, where there are some.
+fn observed(
+    alloc: Global,
+    observer: &Observer,
+    said: Result<Vec<Output>, Refusal>,
+) -> Result<Vec<Output>, Refusal>
+    ensures { result ≡ said }
+{
+    match said {
+        Ok(outputs) => {
+            observer.send(alloc, outputs.as_slice());
+            Ok(outputs)
+        }
+        Err(refusal) => Err(refusal),
     }
 }
 
 impl<K: ChannelKeys + Copy, S: RecordStore + Drop> End for NodeLink<K, S> {
     ghost use Rattle.ln_channel.specs.Pending.{pending_at};
     ghost use Rattle.ln_switch.specs.Seen.{seen_of};
+    ghost use Rattle.ln_node_loops.specs.Signing as signing;
     ghost use Rattle.ln_node.specs.Opening.{Held, acts};
 
     ghost State = { Held K };
@@ -253,7 +276,10 @@ impl<K: ChannelKeys + Copy, S: RecordStore + Drop> End for NodeLink<K, S> {
       saved = record {
         keys = e.saved.value.keys;
         link = e.saved.value.link;
-        store_view = record { records = S.records e.saved.value.store; failed = S.failed e.saved.value.store };
+        store_view = record {
+          records = S.records e.saved.value.store.inner;
+          failed = S.failed e.saved.value.store.inner;
+        };
       };
       beginning = e.beginning.value;
     } };
@@ -266,10 +292,14 @@ impl<K: ChannelKeys + Copy, S: RecordStore + Drop> End for NodeLink<K, S> {
 
     ghost seen = { λ h. seen_of h.saved.link };
 
+    ghost owes = { λ h. signing.owes_signature h.saved.link };
+
     fn handle(&mut self, alloc: Global, message: Message) -> Result<Vec<Output>, Refusal> {
         let signs = asks_to_sign(&message);
+        self.saved.store.observer.take(alloc, &message);
         match self.saved.handle(alloc, message) {
             Ok(outputs) => {
+                self.saved.store.observer.send(alloc, outputs.as_slice());
                 if signs {
                     replace(&mut *self.beginning, Beginning::Over);
                 }
@@ -280,17 +310,22 @@ impl<K: ChannelKeys + Copy, S: RecordStore + Drop> End for NodeLink<K, S> {
     }
 
     fn command(&mut self, alloc: Global, command: Command) -> Result<Vec<Output>, Refusal> {
-        self.saved.command(alloc, command)
+        let said = self.saved.command(alloc, command);
+        observed(alloc, &self.saved.store.observer, said)
     }
 
     fn connect(&mut self, alloc: Global) -> Result<Vec<Output>, Refusal> {
         if is_unopened(self.saved.link.channel_machine()) {
             match begin_anew(self.saved.keys, &self.beginning, &mut self.saved.link) {
-                Ok(()) => return self.saved.connect(alloc),
+                Ok(()) => {
+                    let said = self.saved.connect(alloc);
+                    return observed(alloc, &self.saved.store.observer, said);
+                }
                 Err(refusal) => return Err(refusal),
             }
         }
-        self.saved.connect(alloc)
+        let said = self.saved.connect(alloc);
+        observed(alloc, &self.saved.store.observer, said)
     }
 
     fn drop_connection(&mut self) {
@@ -311,6 +346,10 @@ impl<K: ChannelKeys + Copy, S: RecordStore + Drop> End for NodeLink<K, S> {
 
     fn is_halted(&self) -> bool {
         self.saved.is_halted()
+    }
+
+    fn owes_signature(&self) -> bool {
+        self.saved.owes_signature()
     }
 
     fn channel(&self) -> Option<ChannelId> {

@@ -8,17 +8,18 @@ use ln_node_loops::{Item, Notice, reader_loop};
 use ln_relay::Sends;
 use std::alloc::Global;
 use std::io;
-use std::net::{OpenStream, Shutdown, TcpListener, TcpStream};
+use std::io::{Read, Write};
+use std::net::{OpenListener, OpenStream, Shutdown};
 use std::sync::atomic::{AtomicU64, Ordering};
 use std::sync::{Arc, Mutex, Wait};
 
 /// A channel's connections, as its reader and the node share them.
 #[derive(Drop)]
-pub(crate) struct Connections {
+pub(crate) struct Connections<W: Drop> {
     // The one that is open, so that it can be shut from outside.
-    open: Mutex<Option<TcpStream>>,
+    open: Mutex<Option<W>>,
     // The one that is read next.
-    next: Mutex<Option<TcpStream>>,
+    next: Mutex<Option<W>>,
     // Sounds where there is a next one, or the node stops.
     wakeup: Wakeup,
     // 1 once the node stops.
@@ -27,13 +28,13 @@ pub(crate) struct Connections {
     channel: usize,
 }
 
-impl Connections {
+impl<W: Read + Write + OpenStream + Drop> Connections<W> {
     /// None, of this channel of a node.
     pub(crate) fn new(
         stopping: Arc<AtomicU64>,
         notices: Arc<Notices>,
         channel: usize,
-    ) -> Connections {
+    ) -> Connections<W> {
         Connections {
             open: Mutex::new(None),
             next: Mutex::new(None),
@@ -62,20 +63,20 @@ impl Connections {
     }
 
     /// Has this one read next, once the one that is open is over.
-    pub(crate) fn follow<R: Wait>(&self, rt: &R, stream: TcpStream) {
+    pub(crate) fn follow<R: Wait>(&self, rt: &R, stream: W) {
         *self.next.lock(rt) = Some(stream);
         self.wakeup.ring();
     }
 
     // The next one.
-    fn next<R: Wait>(&self, rt: &R) -> Option<TcpStream> {
+    fn next<R: Wait>(&self, rt: &R) -> Option<W> {
         self.next.lock(rt).take()
     }
 
     // Keeps a connection where a stop finds it. False where the node stops already.
     //
     // A stop says first that the node stops, and then looks for the connection: so one of the two shuts it.
-    fn keep<R: Wait>(&self, rt: &R, stream: &TcpStream) -> io::Result<bool> {
+    fn keep<R: Wait>(&self, rt: &R, stream: &W) -> io::Result<bool> {
         let kept = stream.try_clone()?;
         *self.open.lock(rt) = Some(kept);
         if self.stops() {
@@ -86,11 +87,11 @@ impl Connections {
     }
 
     // Reads a connection to its end.
-    fn read<S: Sends<Item<Socket>> + Drop, R: Wait>(
+    fn read<S: Sends<Item<Socket<W>>> + Drop, R: Wait>(
         &self,
         rt: &R,
         alloc: Global,
-        stream: TcpStream,
+        stream: W,
         seat: S,
     ) -> S {
         let _ = stream.set_nodelay(true);
@@ -104,11 +105,11 @@ impl Connections {
     }
 
     // Reads a connection, where the node goes on.
-    fn read_one<S: Sends<Item<Socket>> + Drop, R: Wait>(
+    fn read_one<S: Sends<Item<Socket<W>>> + Drop, R: Wait>(
         &self,
         rt: &R,
         alloc: Global,
-        stream: TcpStream,
+        stream: W,
         seat: S,
     ) -> S {
         match self.keep(rt, &stream) {
@@ -118,13 +119,12 @@ impl Connections {
     }
 
     // Accepts a connection and reads it, or waits a while where none can be accepted.
-    fn accept_one<S: Sends<Item<Socket>> + Drop, R: Wait>(
-        &self,
-        rt: &R,
-        alloc: Global,
-        listener: &TcpListener,
-        seat: S,
-    ) -> S {
+    fn accept_one<S, L, R>(&self, rt: &R, alloc: Global, listener: &L, seat: S) -> S
+    where
+        S: Sends<Item<Socket<W>>> + Drop,
+        L: OpenListener<Stream = W>,
+        R: Wait,
+    {
         let sounds = self.wakeup.sounds();
         match listener.accept() {
             Ok((stream, _)) => self.read_one(rt, alloc, stream, seat),
@@ -136,7 +136,7 @@ impl Connections {
     }
 
     // Reads the next connection, or waits a while where there is none.
-    fn take_one<S: Sends<Item<Socket>> + Drop, R: Wait>(
+    fn take_one<S: Sends<Item<Socket<W>>> + Drop, R: Wait>(
         &self,
         rt: &R,
         alloc: Global,
@@ -156,13 +156,12 @@ impl Connections {
 
     /// Reads one connection after the other, until the node stops: those that come to the listener, where there is
     /// one, else those that the node has made. Gives the seat back.
-    pub(crate) fn read_all<S: Sends<Item<Socket>> + Drop, R: Wait>(
-        &self,
-        rt: &R,
-        alloc: Global,
-        listener: Option<TcpListener>,
-        seat: S,
-    ) -> S {
+    pub(crate) fn read_all<S, L, R>(&self, rt: &R, alloc: Global, listener: Option<L>, seat: S) -> S
+    where
+        S: Sends<Item<Socket<W>>> + Drop,
+        L: OpenListener<Stream = W> + Drop,
+        R: Wait,
+    {
         let mut seat = seat;
         for _ in rt.forever() {
             if self.stops() {

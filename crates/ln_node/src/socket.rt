@@ -3,28 +3,28 @@
 use ln_node_loops::Closes;
 use std::io;
 use std::io::{Read, Write};
-use std::net::{Shutdown, TcpStream};
+use std::net::{OpenStream, Shutdown, TcpStream};
 
-/// One direction of a connection.
+/// One direction of a connection. Its `W` is what the node's handle connects by (`Net::Stream`).
 #[derive(Drop)]
-pub struct Socket {
-    stream: TcpStream,
+pub struct Socket<W: Drop = TcpStream> {
+    stream: W,
 }
 
-impl Socket {
+impl<W: Drop> Socket<W> {
     /// A direction of this connection. Takes no memory.
-    pub fn new(stream: TcpStream) -> Socket {
+    pub fn new(stream: W) -> Socket<W> {
         Socket { stream }
     }
 }
 
-impl Read for Socket {
+impl<W: Read + Drop> Read for Socket<W> {
     fn read(&mut self, bytes: &mut [u8]) -> io::Result<usize> {
         self.stream.read(bytes)
     }
 }
 
-impl Write for Socket {
+impl<W: Write + Drop> Write for Socket<W> {
     fn write(&mut self, bytes: &[u8]) -> io::Result<usize> {
         self.stream.write(bytes)
     }
@@ -34,7 +34,7 @@ impl Write for Socket {
     }
 }
 
-impl Closes for Socket {
+impl<W: Write + OpenStream + Drop> Closes for Socket<W> {
     fn close(&mut self) {
         let _ = self.stream.shutdown(Shutdown::Both);
     }

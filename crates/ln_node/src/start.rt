@@ -4,25 +4,29 @@ use crate::reader::Connections;
 use crate::socket::Socket;
 use ln_msgs::Message;
 use ln_node_loops::{
-    Books, Closes, End, Item, ReadsEnds, Table, Task, WorkerLoop, dispatch_loop, worker_loop,
+    Books, Closes, End, Item, Orders, ReadsEnds, Table, Task, WorkerLoop, dispatch_loop,
+    worker_loop,
 };
 use ln_relay::{Receives, Sends, Waits};
 use std::alloc::Global;
-use std::net::TcpListener;
+use std::io::{Read, Write};
+use std::net::{OpenListener, OpenStream};
 use std::sync::{Arc, Wait};
 use std::thread;
 use std::thread::{JoinHandle, Threads};
 
 /// Starts the thread of a channel's connections.
-pub(crate) fn start_reader<S, R>(
+pub(crate) fn start_reader<S, L, W, R>(
     rt: R,
     alloc: Global,
-    listener: Option<TcpListener>,
+    listener: Option<L>,
     seat: S,
-    connections: Arc<Connections>,
+    connections: Arc<Connections<W>>,
 ) -> Option<JoinHandle<S>>
 where
-    S: Sends<Item<Socket>> + Drop + Send + 'static,
+    S: Sends<Item<Socket<W>>> + Drop + Send + 'static,
+    L: OpenListener<Stream = W> + Drop + Send + 'static,
+    W: Read + Write + OpenStream + Drop + Send + 'static,
     R: Threads + Wait + Copy + Send + 'static,
 {
     thread::spawn(
@@ -33,12 +37,12 @@ where
 }
 
 /// Starts the thread of a channel's end.
-pub(crate) fn start_worker<E, W, I, H, T, B, R>(
+pub(crate) fn start_worker<E, W, I, H, T, B, A, R>(
     rt: R,
     alloc: Global,
     own_init: Box<Message>,
-    work: WorkerLoop<E, W, I, T, B>,
-) -> Option<JoinHandle<WorkerLoop<E, W, I, T, B>>>
+    work: WorkerLoop<E, W, I, T, B, A>,
+) -> Option<JoinHandle<WorkerLoop<E, W, I, T, B, A>>>
 where
     E: End + Drop + Send + 'static,
     W: Closes + Drop + Send + 'static,
@@ -46,11 +50,12 @@ where
     H: Drop + Send + 'static,
     T: Sends<Task<H>> + Drop + Send + 'static,
     B: ReadsEnds<E> + Drop + Send + 'static,
+    A: Orders + Drop + Send + 'static,
     R: Threads + Wait + Copy + Send + 'static,
 {
     thread::spawn(
         &rt,
-        move || worker_loop::<E, W, I, H, T, B, R>(&rt, alloc, &own_init, &[], work),
+        move || worker_loop::<E, W, I, H, T, B, A, R>(&rt, alloc, &own_init, &[], work),
     )
     .ok()
 }

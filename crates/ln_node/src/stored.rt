@@ -6,6 +6,8 @@ ghost use Rattle.ln_book_tables.specs.Replay.{no_table};
 ghost use Rattle.ln_book_recovery.specs.Rebuild.{rebuilt};
 ghost use Rattle.ln_node.specs.Stored.{first_record, ComesFrom, IsLoaded, AreLoaded, channel_snapshots_of};
 
+use crate::observed::ObservedStore;
+use crate::observer::{Monitor, Observer};
 use crate::opening::NodeLink;
 use ln_book::Book;
 use ln_book_recovery::ChannelSnapshot;
@@ -18,6 +20,7 @@ use ln_store::RecordStore;
 use ln_switch::read_end;
 use std::alloc::Global;
 use std::net::SocketAddr;
+use std::sync::Arc;
 
 /// What a channel of a node that starts again is made of.
 #[derive(Drop)]
@@ -83,9 +86,9 @@ fn load<K: ChannelKeys + Copy, S: RecordStore>(
 fn load_end<K: ChannelKeys + Copy, S: RecordStore + Drop>(
     alloc: Global,
     keys: K,
-    store: S,
+    store: ObservedStore<S>,
 ) -> Result<NodeLink<K, S>, Refusal>
-    ensures comes_back { IfOk result (λ n. ComesFrom keys (first_record (S.records store)) n.saved.value.link) }
+    ensures comes_back { IfOk result (λ n. ComesFrom keys (first_record (S.records store.inner)) n.saved.value.link) }
 {
     let mut store = store;
     match load(alloc, keys, &mut store) {
@@ -94,9 +97,11 @@ fn load_end<K: ChannelKeys + Copy, S: RecordStore + Drop>(
     }
 }
 
-// A channel with its link.
+// The channel of this number with its link.
 fn load_one<K: ChannelKeys + Copy, S: RecordStore + Drop, T: Drop>(
     alloc: Global,
+    monitor: &Arc<Monitor>,
+    channel: usize,
     stored: Stored<K, S, T>,
 ) -> Result<Loaded<K, S, T>, Refusal>
     ensures comes_back { IfOk result (λ l. IsLoaded S.records stored l) }
@@ -107,6 +112,11 @@ fn load_one<K: ChannelKeys + Copy, S: RecordStore + Drop, T: Drop>(
         table,
         address,
     } = stored;
+    let observer = Observer::new(alloc, monitor, channel)?;
+    let store = ObservedStore {
+        inner: store,
+        observer,
+    };
     let end = load_end(alloc, keys, store)?;
     Ok(Loaded {
         end,
@@ -115,16 +125,17 @@ fn load_one<K: ChannelKeys + Copy, S: RecordStore + Drop, T: Drop>(
     })
 }
 
-/// The channels with their links.
+/// The channels with their links, which are watched here.
 pub(crate) fn load_all<K: ChannelKeys + Copy, S: RecordStore + Drop, T: Drop>(
     alloc: Global,
+    monitor: &Arc<Monitor>,
     stored: Vec<Stored<K, S, T>>,
 ) -> Result<Vec<Loaded<K, S, T>>, Refusal>
     ensures come_back { IfOk result (λ v. AreLoaded S.records stored.items v.items) }
 {
     let mut loaded = Vec::new(alloc);
     for one in stored {
-        loaded.push(load_one(alloc, one)?)?;
+        loaded.push(load_one(alloc, monitor, loaded.len(), one)?)?;
     }
     Ok(loaded)
 }

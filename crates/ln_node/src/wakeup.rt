@@ -47,7 +47,12 @@ impl Wakeup {
 
     /// Waits until it sounds, or a thousandth of a second.
     pub(crate) fn pause<R: Wait>(&self, rt: &R) {
-        let low = (self.sounds() & 0xffff_ffff) as u32;
+        self.pause_since(rt, self.sounds());
+    }
+
+    /// The same, where it hasn't sounded since it had sounded so often.
+    pub(crate) fn pause_since<R: Wait>(&self, rt: &R, sounds: u64) {
+        let low = (sounds & 0xffff_ffff) as u32;
         self.sounds.park_timeout(rt, low, Duration::from_millis(1));
     }
 

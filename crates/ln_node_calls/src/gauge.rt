@@ -1,7 +1,7 @@
 //! What is counted of an end of a channel, what its hooks say, and what its store is to fail.
 
 use ln_hooks::{ChannelEvent, FailureCode, How, Verdict};
-use ln_node::{Notice, Table};
+use ln_node::{Notice, Step, Table};
 use std::alloc::{AllocError, Global};
 use std::sync::Arc;
 use std::sync::atomic::{AtomicU64, Ordering};
@@ -32,6 +32,13 @@ pub struct Gauge {
     // How often it was loaded after it had halted, and has refused a command by its peer's limits.
     loaded: AtomicU64,
     limited: AtomicU64,
+    // Of its traced steps: how many adds it was handed, and has handed out; 1 where there were saves, and notices; 1
+    // where steps of its node were lost.
+    took: AtomicU64,
+    sent: AtomicU64,
+    saved: AtomicU64,
+    noticed: AtomicU64,
+    missed: AtomicU64,
     // In how many looks it is asked again.
     idle: AtomicU64,
     /// What its hook says.
@@ -73,6 +80,11 @@ fn code_of(how: &How) -> u64 {
     }
 }
 
+// Whether a message's text is that of `update_add_htlc`.
+fn is_add(text: &str) -> bool {
+    text.starts_with("type 128 ")
+}
+
 impl Gauge {
     /// Nothing yet.
     pub fn new(alloc: Global) -> Result<Arc<Gauge>, AllocError> {
@@ -87,6 +99,11 @@ impl Gauge {
             behind: zero(),
             loaded: zero(),
             limited: zero(),
+            took: zero(),
+            sent: zero(),
+            saved: zero(),
+            noticed: zero(),
+            missed: zero(),
             idle: zero(),
             says: zero(),
             shuts: zero(),
@@ -176,6 +193,22 @@ impl Gauge {
         }
     }
 
+    /// A step of it was traced.
+    pub fn at_step(&self, step: &Step) {
+        match step {
+            Step::Took(text) if is_add(text) => rises(&self.took),
+            Step::Sent(text) if is_add(text) => rises(&self.sent),
+            Step::Saved(bytes, Ok(())) if *bytes > 0 => self.saved.store(1, Ordering::SeqCst),
+            Step::Noticed(_) => self.noticed.store(1, Ordering::SeqCst),
+            _ => {}
+        }
+    }
+
+    /// Steps of its node were lost.
+    pub fn at_loss(&self) {
+        self.missed.store(1, Ordering::SeqCst);
+    }
+
     /// The count of this name; none where there is no such count.
     pub fn count(&self, name: &str) -> Option<u64> {
         let count = match name {
@@ -189,6 +222,11 @@ impl Gauge {
             "behind" => &self.behind,
             "loaded" => &self.loaded,
             "limited" => &self.limited,
+            "took-adds" => &self.took,
+            "sent-adds" => &self.sent,
+            "saved-some" => &self.saved,
+            "noticed-some" => &self.noticed,
+            "lost-some" => &self.missed,
             _ => return None,
         };
         Some(count.load(Ordering::SeqCst))

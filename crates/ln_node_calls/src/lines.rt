@@ -1,13 +1,15 @@
 //! The lines, one by one.
 
+use crate::asking::Wanted;
 use crate::end::{A0, B0, B1, C0, End};
 use crate::gauge::{CONTINUE, Gauged, HOLD, NoHook};
 use crate::payment::FEE;
 use crate::row::Row;
+use ln_bytes::Bytes;
 use ln_channel::Command;
 use ln_hooks::FailureCode;
 use ln_msgs::Refusal;
-use ln_node::Table;
+use ln_node::{Signing, Table};
 use ln_store::RecordStore;
 use std::alloc::Global;
 use std::net::{Net, TcpListener, TcpStream};
@@ -87,6 +89,35 @@ fn saying(word: &str) -> Result<u64, Refusal> {
     }
 }
 
+// A command by its word.
+fn command(alloc: Global, word: &str) -> Result<Command, Refusal> {
+    match word {
+        "sign" => Ok(Command::Sign),
+        "fee" => Ok(Command::Fee(300)),
+        "shut" => Ok(Command::Shutdown(Bytes::empty(alloc))),
+        "forget" => Ok(Command::Forget(0)),
+        _ => Err(BAD),
+    }
+}
+
+// When nodes sign.
+fn signing(word: &str) -> Result<Signing, Refusal> {
+    match word {
+        "ordered" => Ok(Signing::WhenOrdered),
+        "idle" => Ok(Signing::WhenIdle),
+        _ => Err(BAD),
+    }
+}
+
+// What is to become of an order.
+fn wanted(word: &str, number: u64) -> Result<Wanted, Refusal> {
+    match word {
+        "done" => Ok(Wanted::Done(number)),
+        "refused" => Ok(Wanted::Refused(number)),
+        _ => Err(BAD),
+    }
+}
+
 impl<S, T, R> Row<S, T, R>
 where
     S: RecordStore + Gauged + Drop + Send + 'static,
@@ -104,6 +135,38 @@ where
             "unasked" => self.pay(payer, payment, block, FEE),
             "short" => self.pay(payer, payment, block, FEE - 1),
             _ => Err(BAD),
+        }
+    }
+
+    fn asks_by(&self, words: &[&str]) -> Result<(), Refusal> {
+        let end = end(at(words, 1))?;
+        let wanted = wanted(at(words, 3), number(at(words, 4))?)?;
+        self.asks(end, command(self.alloc, at(words, 2))?, wanted)
+    }
+
+    fn asks_to_pay_by(&self, words: &[&str]) -> Result<(), Refusal> {
+        let (payer, block) = side(at(words, 1))?;
+        let payment = number(at(words, 2))?;
+        let wanted = wanted(at(words, 3), number(at(words, 4))?)?;
+        self.expect(if block == 2 { C0 } else { A0 }, payment)?;
+        self.asks_to_pay(payer, payment, block, wanted)
+    }
+
+    fn asks_to_pay_all_by(&self, words: &[&str]) -> Result<(), Refusal> {
+        let (payer, block) = side(at(words, 1))?;
+        let payee = if block == 2 { C0 } else { A0 };
+        let (first, count) = (number(at(words, 2))?, number(at(words, 3))?);
+        self.asks_to_pay_all(payer, payee, first, count, block)
+    }
+
+    // A channel that is there signs alone; of another the line says so.
+    fn signs_alone_by(&self, words: &[&str]) -> Result<(), Refusal> {
+        let channel = usize::from(small(at(words, 2))?);
+        let is_there = self.signs_alone(node(at(words, 1))?, channel).is_ok();
+        match at(words, 3) {
+            "" if is_there => Ok(()),
+            "none" if !is_there => Ok(()),
+            _ => Err(Refusal::GaveUp),
         }
     }
 
@@ -169,7 +232,12 @@ where
         match (at(words, 0), words.len()) {
             ("#", _) => Ok(()),
             ("listen", 2) => self.listen(small(at(words, 1))?),
-            ("open", 1) => self.open(),
+            ("meet", 1) => self.meet(),
+            ("confirm", 1) => self.confirm(),
+            ("open", 1) => {
+                self.meet()?;
+                self.confirm()
+            }
             ("restart", 2) => self.restart(node(at(words, 1))?),
             ("stop", 1) => {
                 self.stop();
@@ -182,11 +250,34 @@ where
                 Ok(())
             }
             ("expect", 3) => self.expect(side(at(words, 1))?.0, number(at(words, 2))?),
+            ("trace", 3) => self.trace(node(at(words, 1))?, number(at(words, 2))?),
+            ("shows", 3) => self.wait_for(end(at(words, 1))?, at(words, 2)),
+            ("summary", 4) => {
+                let channel = usize::from(small(at(words, 2))?);
+                self.refuses(node(at(words, 1))?, channel, small(at(words, 3))?)
+            }
             ("reconnect", 4) => {
                 let channel = usize::from(small(at(words, 2))?);
                 self.reconnect(node(at(words, 1))?, channel, small(at(words, 3))?)
             }
             ("pay", 3 | 4) => self.pays(words),
+            ("ask", 5) => self.asks_to_pay_by(words),
+            ("order", 5) => self.asks_by(words),
+            ("lacks", 4) => {
+                let channel = usize::from(small(at(words, 2))?);
+                self.lacks(node(at(words, 1))?, channel, number(at(words, 3))?)
+            }
+            ("payments", 4) => self.asks_to_pay_all_by(words),
+            ("alone", 3 | 4) => self.signs_alone_by(words),
+            ("signing", 2) => {
+                self.set_signing(signing(at(words, 1))?);
+                Ok(())
+            }
+            ("most", 4) => {
+                let most = number(at(words, 3))?;
+                self.has_at_most(end(at(words, 1))?, at(words, 2), most)
+            }
+            ("bury", 2) => self.buries(end(at(words, 1))?),
             ("lose", 4) => self.loses(words),
             ("burn", 4) => self.burns(words),
             ("wait", 4) => {

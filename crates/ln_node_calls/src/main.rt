@@ -6,9 +6,18 @@
 //! | Line | What comes about |
 //! |---|---|
 //! | `listen N` | new nodes, of which B and C listen: C takes N HTLCs at once |
-//! | `open` | A opens a channel with B, and B one with C, up to all ends taking payments |
+//! | `meet`, `confirm` | A opens a channel with B, and B one with C; both are confirmed, and all ends take payments |
+//! | `open` | both of these |
 //! | `pay A N`, `pay C N` | A offers C, or C offers A, payment N, for which the payee waits |
 //! | .. `short`, .. `unasked` | a msat less for B than it asks; the payee doesn't wait for it |
+//! | `ask A N done ID`, .. `refused R` | the same as `pay`, and A is answered by the HTLC's id, or a refusal's number |
+//! | `order E WORD done ID`, .. `refused R` | E is ordered to `sign`, `shut`, `fee` or `forget`, and answers so |
+//! | `payments A N COUNT` | A offers that many payments from N on at once |
+//! | `signing idle`, `ordered` | all nodes sign by themselves, and nobody orders it; or they don't |
+//! | `alone NODE K`, .. `none` | channel K of the node signs by itself; there is none |
+//! | `most E WORD COUNT` | E's count is at most so: as with `wait` |
+//! | `bury E` | E gives 257 answers: the first is forgotten |
+//! | `lacks NODE K N` | the node has no answer to order N of its channel K |
 //! | `expect A N`, `expect C N` | A or C waits for payment N |
 //! | `says E WORD` | E's hook says so of each payment that comes in: `continue`, `hold`, or a failure's code |
 //! | `resume E N` | the N that E holds go on, or fail where its hook has payments fail now |
@@ -20,8 +29,13 @@
 //! | `restart A`, .. | the node starts again from its stores |
 //! | `fee E RATE`, `shut E` | E changes the feerate; it is to shut down |
 //! | `looks N`, `stop` | so much time passes; the nodes stop |
-//! | `wait E WORD COUNT` | E's count is so: see gauge.rt, and `usable`, `held`, and `lost` connections |
+//! | `wait E WORD COUNT` | E's count is so: see gauge.rt, and `usable`, `held`, `lost` connections, `signed` |
+//! | | .. what E's summary or its node's counters tell is so: see watch.rt |
+//! | `shows E WORD` | by its summary E is so far: see watch.rt |
+//! | `trace NODE N` | from now on N steps of the node are kept at once |
+//! | `summary NODE K R` | a summary of channel K of the node is refused by R |
 //! | `demo` | what ln_demo plays, which prints three lines |
+//! | `demo veiled` | the same over connections that turn each bit |
 //! | `# ..` | nothing |
 //!
 //! E is an end: A0, B0, B1 or C0, by its node and the number of its channel there. While a line waits, lost connections
@@ -29,17 +43,21 @@
 //! who offered a payment and B, who offered it on, have seen it removed, so that nothing of it is in flight.
 #![tactic(auto)]
 
+mod asking;
 mod end;
 mod gauge;
 mod lines;
 mod payment;
 mod row;
 mod store;
+mod veil;
+mod watch;
 mod way;
 
 use crate::gauge::{Gauged, NoHook, Watch};
 use crate::row::Row;
 use crate::store::FailingRecords;
+use crate::veil::Veil;
 use ln_demo::demo;
 use ln_msgs::Counted;
 use ln_node::Table;
@@ -67,6 +85,10 @@ where
         };
         let done = match line.as_str() {
             "demo" => demo(rt, host.alloc(), &mut Counted::new(io::writer(host))),
+            "demo veiled" => {
+                let veil = Veil { rt };
+                demo(veil, host.alloc(), &mut Counted::new(io::writer(host)))
+            }
             line => row.serve(host.alloc(), line),
         };
         if let Err(refusal) = done {

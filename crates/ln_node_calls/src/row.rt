@@ -3,6 +3,7 @@
 use crate::end::{A0, B0, B1, C0, ENDS, End, config};
 use crate::gauge::{Gauge, Gauged, NoHook};
 use crate::payment::{AMOUNT, SECRET, order, preimage};
+use crate::watch::{counted, is_refused, state_word, told};
 use crate::way::{OpenWay, loopback};
 use ln_bytes::Bytes;
 use ln_channel::Command;
@@ -10,7 +11,7 @@ use ln_demo::{POLICY, fit_spec};
 use ln_hooks::Verdict;
 use ln_keys::{ToyKeys, ToyOnion};
 use ln_msgs::{Refusal, channel_id};
-use ln_node::{Node, Stored, Table};
+use ln_node::{Node, Signing, Stored, Table, Ticket};
 use ln_store::RecordStore;
 use std::alloc::{AllocError, Global};
 use std::mem;
@@ -24,17 +25,20 @@ use std::time::Duration;
 const LOOKS: u64 = 40_000;
 
 /// A node with toy keys and a toy onion. Its stores and its tables of hooks are of these kinds.
-type ToyNode<S, T> = Node<ToyKeys, S, ToyOnion, NoHook, T>;
+pub type ToyNode<S, T> = Node<ToyKeys, S, ToyOnion, NoHook, T>;
 
 /// Three nodes, the ways between them, and the gauges of all ends. Nothing of each before `open`.
 #[derive(Drop)]
 pub struct Row<S: Drop, T: Drop, R: Drop> {
-    rt: R,
-    alloc: Global,
-    nodes: Vec<ToyNode<S, T>>,
+    pub rt: R,
+    pub alloc: Global,
+    pub nodes: Vec<ToyNode<S, T>>,
     ways: Vec<OpenWay>,
     gauges: Vec<Arc<Gauge>>,
-    gate: Arc<Mutex<()>>,
+    /// No connection is lost as long as it is held.
+    pub gate: Arc<Mutex<()>>,
+    // When all nodes sign.
+    signing: Signing,
 }
 
 fn let_go<T: Drop>(_value: T) {}
@@ -72,6 +76,7 @@ where
             ways: Vec::new(alloc),
             gauges: Vec::new(alloc),
             gate: Arc::new(alloc, Mutex::new(()))?,
+            signing: Signing::WhenOrdered,
         })
     }
 
@@ -89,7 +94,8 @@ where
         }
     }
 
-    fn node(&self, end: End) -> Result<&ToyNode<S, T>, Refusal> {
+    /// The node of an end. 40 where none runs.
+    pub fn node(&self, end: End) -> Result<&ToyNode<S, T>, Refusal> {
         match self.nodes.get(end.node) {
             Some(node) => Ok(node),
             None => Err(Refusal::NotReady),
@@ -100,7 +106,8 @@ where
 
     // A new node.
     fn begin(&mut self) -> Result<(), Refusal> {
-        let node: ToyNode<S, T> = Node::new(self.alloc, ToyOnion, POLICY)?;
+        let mut node: ToyNode<S, T> = Node::new(self.alloc, ToyOnion, POLICY)?;
+        node.set_signing(self.signing);
         node.book().lock(&self.rt).set_height(100);
         self.nodes.push(node)?;
         Ok(())
@@ -159,10 +166,14 @@ where
         }
     }
 
-    /// A opens a channel with B, and B one with C, up to all ends taking payments. 65 where that doesn't come about.
-    pub fn open(&mut self) -> Result<(), Refusal> {
+    /// A opens a channel with B, and B one with C.
+    pub fn meet(&mut self) -> Result<(), Refusal> {
         self.connect(A0)?;
-        self.connect(B1)?;
+        self.connect(B1)
+    }
+
+    /// Both channels are confirmed, up to all ends taking payments. 65 where that doesn't come about.
+    pub fn confirm(&self) -> Result<(), Refusal> {
         for look in 0..LOOKS {
             if self.are_all_usable() {
                 return Ok(());
@@ -212,8 +223,41 @@ where
         }
     }
 
-    // Has an end sign what isn't signed, and shut down where it is to: after each save, so that orders don't keep its
-    // messages waiting.
+    // Counts what was traced of a node's channels.
+    fn follow(&self, node: usize) {
+        let Some(it) = self.nodes.get(node) else {
+            return;
+        };
+        let trace = it.traced(&self.rt, self.alloc);
+        for (channel, step) in trace.steps.as_slice() {
+            if let Some(end) = end_of(node, *channel) {
+                if let Ok(gauge) = self.gauge(end) {
+                    gauge.at_step(step);
+                }
+            }
+        }
+        if trace.lost > 0 {
+            if let Some(end) = end_of(node, 0) {
+                if let Ok(gauge) = self.gauge(end) {
+                    gauge.at_loss();
+                }
+            }
+        }
+    }
+
+    /// So many steps of a node are kept from now on.
+    pub fn trace(&self, node: usize, most: u64) -> Result<(), Refusal> {
+        match self.nodes.get(node) {
+            Some(node) => {
+                node.trace(most);
+                Ok(())
+            }
+            None => Err(Refusal::NotReady),
+        }
+    }
+
+    // Has an end sign what isn't signed, unless it does so by itself, and shut down where it is to: after each save, so
+    // that orders don't keep its messages waiting.
     fn urge(&self, end: End) {
         let Ok(gauge) = self.gauge(end) else {
             return;
@@ -224,7 +268,9 @@ where
         if gauge.shuts.load(Ordering::SeqCst) != 0 {
             self.tell(end, Command::Shutdown(Bytes::empty(self.alloc)));
         }
-        self.tell(end, Command::Sign);
+        if self.signing == Signing::WhenOrdered {
+            self.tell(end, Command::Sign);
+        }
     }
 
     /// What is done at each look: lost connections are made again, all sign, and some time passes.
@@ -233,6 +279,7 @@ where
         self.mend(B1);
         for node in 0..3 {
             self.hear(node);
+            self.follow(node);
         }
         for end in ENDS {
             self.urge(end);
@@ -274,15 +321,63 @@ where
         Ok(count)
     }
 
-    // What is counted of an end under this name; 64 where nothing is.
-    fn count(&self, end: End, name: &str) -> Result<u64, Refusal> {
+    // What an end's summary tells under this word, or its node's counters; 64 where nothing is told.
+    fn told(&self, end: End, word: &str) -> Result<u64, Refusal> {
+        let node = self.node(end)?;
+        let summary = node.summary(&self.rt, end.channel)?;
+        match told(&summary, word) {
+            Some(told) => Ok(told),
+            None => match counted(node.counters(), word) {
+                Some(counted) => Ok(counted),
+                None => Err(Refusal::BadScript { line: 0 }),
+            },
+        }
+    }
+
+    // The word for how far an end is.
+    fn state(&self, end: End) -> Result<&'static str, Refusal> {
+        let summary = self.node(end)?.summary(&self.rt, end.channel)?;
+        Ok(state_word(summary.state))
+    }
+
+    /// Waits until an end is so far. 65 where that doesn't come about.
+    pub fn wait_for(&self, end: End, word: &str) -> Result<(), Refusal> {
+        for _ in 0..LOOKS {
+            if self.state(end)? == word {
+                return Ok(());
+            }
+            self.look();
+        }
+        Err(Refusal::GaveUp)
+    }
+
+    /// A summary of a channel of a node is refused by this number; of all of them none is.
+    pub fn refuses(&self, node: usize, channel: usize, wanted: u16) -> Result<(), Refusal> {
+        let Some(node) = self.nodes.get(node) else {
+            return Err(Refusal::NotReady);
+        };
+        let all = node.channels(&self.rt, self.alloc)?;
+        if channel >= all.len() && is_refused(&node.summary(&self.rt, channel), wanted) {
+            return Ok(());
+        }
+        Err(Refusal::GaveUp)
+    }
+
+    /// What is counted of an end under this name; 64 where nothing is.
+    pub fn count(&self, end: End, name: &str) -> Result<u64, Refusal> {
         match name {
             "usable" => Ok(u64::from(self.is_usable(end))),
             "held" => self.held(end),
             "lost" => Ok(self.way(end)?.way.over.load(Ordering::SeqCst)),
+            "signed" => Ok(
+                self.way(end)?
+                    .way
+                    .signed(end.connects)
+                    .load(Ordering::SeqCst),
+            ),
             name => match self.gauge(end)?.count(name) {
                 Some(count) => Ok(count),
-                None => Err(Refusal::BadScript { line: 0 }),
+                None => self.told(end, name),
             },
         }
     }
@@ -310,11 +405,17 @@ where
 
     /// Orders an end this, as soon as its relay has room.
     pub fn insist(&self, end: End, command: Command) -> Result<(), Refusal> {
+        self.ask(end, command)?;
+        Ok(())
+    }
+
+    /// The same, and gives the order's ticket.
+    pub fn ask(&self, end: End, command: Command) -> Result<Ticket, Refusal> {
         let node = self.node(end)?;
         let mut command = command;
         for _ in 0..LOOKS {
-            match node.order(&self.rt, end.channel, command) {
-                Ok(()) => return Ok(()),
+            match node.ask(&self.rt, end.channel, command) {
+                Ok(ticket) => return Ok(ticket),
                 Err(back) => command = back,
             }
             self.pause();
@@ -330,9 +431,25 @@ where
         let offer = order(self.alloc, number, block, fee)?;
         let _held = self.gate.lock(&self.rt);
         self.insist(payer, offer)?;
-        self.insist(payer, Command::Sign)?;
+        self.sign(payer)?;
         self.begin_saves();
         Ok(())
+    }
+
+    /// An end is ordered to sign, where it doesn't by itself.
+    pub fn sign(&self, end: End) -> Result<(), Refusal> {
+        match self.signing {
+            Signing::WhenOrdered => self.insist(end, Command::Sign),
+            Signing::WhenIdle => Ok(()),
+        }
+    }
+
+    /// All nodes sign so from now on.
+    pub fn set_signing(&mut self, signing: Signing) {
+        self.signing = signing;
+        for node in &mut self.nodes {
+            node.set_signing(signing);
+        }
     }
 
     // The saves that are to fail are counted from now on.
@@ -430,7 +547,8 @@ where
         let old = self.nodes.remove(node);
         let stores = old.into_stores(self.rt, self.alloc)?;
         let stored = self.all_stored(node, stores)?;
-        let new: ToyNode<S, T> = Node::restore(self.rt, self.alloc, ToyOnion, POLICY, stored)?;
+        let mut new: ToyNode<S, T> = Node::restore(self.rt, self.alloc, ToyOnion, POLICY, stored)?;
+        new.set_signing(self.signing);
         new.book().lock(&self.rt).set_height(100);
         self.put(node, new)?;
         self.lead(node);

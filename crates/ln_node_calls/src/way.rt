@@ -19,6 +19,9 @@ pub struct Way {
     // that connects; 0 where none is.
     forth: AtomicU64,
     back: AtomicU64,
+    // How many signatures were handed on to the side that listens, and to the one that connects.
+    signed_forth: AtomicU64,
+    signed_back: AtomicU64,
     /// How many of its connections were made.
     pub made: AtomicU64,
     /// How many are over.
@@ -53,10 +56,24 @@ fn read_frame(alloc: Global, from: &mut TcpStream) -> io::Result<Vec<u8>> {
     Ok(frame)
 }
 
+// Whether a message with its length is `commitment_signed`.
+fn is_signature(frame: &[u8]) -> bool {
+    matches!(frame, [_, _, 0, 132, ..])
+}
+
 impl Way {
     /// The messages of one direction that are left until one is lost.
     pub fn left(&self, forth: bool) -> &AtomicU64 {
         if forth { &self.forth } else { &self.back }
+    }
+
+    /// How many signatures of one direction were handed on.
+    pub fn signed(&self, forth: bool) -> &AtomicU64 {
+        if forth {
+            &self.signed_forth
+        } else {
+            &self.signed_back
+        }
     }
 
     // Whether a message is lost now.
@@ -80,6 +97,9 @@ impl Way {
             };
             if self.loses(rt, forth) || to.write_all(frame.as_slice()).is_err() {
                 return;
+            }
+            if is_signature(frame.as_slice()) {
+                self.signed(forth).fetch_add(1, Ordering::SeqCst);
             }
         }
         unreachable!()
@@ -157,6 +177,8 @@ impl OpenWay {
             target: Mutex::new(target),
             forth: AtomicU64::new(0),
             back: AtomicU64::new(0),
+            signed_forth: AtomicU64::new(0),
+            signed_back: AtomicU64::new(0),
             made: AtomicU64::new(0),
             over: AtomicU64::new(0),
             parted: AtomicU64::new(0),

@@ -10,3 +10,5 @@ pub mod Loaded
 pub mod Settling
 pub mod Owing
 pub mod Losing
+pub mod Replying
+pub mod Unsigned

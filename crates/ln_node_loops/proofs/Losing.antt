@@ -14,8 +14,9 @@ use Rattle.ln_node_loops.specs.declared.worker.Phase.TheVariants.{Unconnected}
 use Rattle.ln_node_loops.specs.Act.{Act}
 use Rattle.ln_node_loops.specs.Connection.{Connection}
 use Rattle.ln_node_loops.specs.Phase.{PassesOver, Hears, begun, unless_over, kept_connection, is_over, is_lost}
-use Rattle.ln_node_loops.specs.Turns.{Turn, Serves, Passes, Obeys, Loads, StaysHalted, Stand, Step, Leads, items_of}
-use Rattle.ln_node_loops.specs.Turns.{News, IsCutOff, cuts_off, is_joined, JoinNone, is_load}
+use Rattle.ln_node_loops.specs.Turns.{Turn, Serves, Passes, Obeys, Loads, StaysHalted, Rests, Stand, Step, Leads}
+use Rattle.ln_node_loops.specs.Turns.{OfBook, OfUser, OfWorker, News, IsCutOff, cuts_off, is_joined, JoinNone, is_load}
+use Rattle.ln_node_loops.specs.Turns.{items_of}
 
 stays_over : (over : Bool) (p : Phase) → p ≡ Unconnected → unless_over over p ≡ Unconnected
 stays_over true p is = refl
@@ -33,7 +34,7 @@ passed_cut : {W : Type 0} (known : List ℕ) (i : Item W) (p p' : Phase) → p �
 passed_cut known (item.Joined w) p p' is over = over ∙ is
 passed_cut known (item.Read m) p p' is over = subst (λ q. Hears known q m p') is over
 passed_cut known item.Broken p p' is over = over ∙ is
-passed_cut known (item.Order c) p p' is over = over ∙ is
+passed_cut known (item.Order c) p p' is over = over.1 ∙ is
 passed_cut known item.Stop p p' is over = over ∙ is
 
 cut_off : {S : Type 0} (s : Stand S) (p : Phase) (connection : Option Connection) → p ≡ Unconnected → s.phase ≡ p
@@ -44,54 +45,63 @@ joins_first : {W : Type 0} (t : Turn W) (ts : List (Turn W)) → JoinNone (items
     → JoinNone (items_of (t ∷ []))
 joins_first (Serves i os a) ts none = (none.0, tt)
 joins_first (Passes i) ts none = (none.0, tt)
-joins_first (Obeys c os a w) ts none = tt
+joins_first (Obeys OfBook c os a w) ts none = tt
+joins_first (Obeys OfUser c os a w) ts none = (none.0, tt)
+joins_first (Obeys OfWorker c os a w) ts none = tt
 joins_first (Loads es) ts none = tt
 joins_first (StaysHalted r) ts none = tt
+joins_first (Rests allowed) ts none = tt
 
 joins_rest : {W : Type 0} (t : Turn W) (ts : List (Turn W)) → JoinNone (items_of (t ∷ ts)) → JoinNone (items_of ts)
 joins_rest (Serves i os a) ts none = none.1
 joins_rest (Passes i) ts none = none.1
-joins_rest (Obeys c os a w) ts none = none
+joins_rest (Obeys OfBook c os a w) ts none = none
+joins_rest (Obeys OfUser c os a w) ts none = none.1
+joins_rest (Obeys OfWorker c os a w) ts none = none
 joins_rest (Loads es) ts none = none
 joins_rest (StaysHalted r) ts none = none
+joins_rest (Rests allowed) ts none = none
 
 module _ {S W : Type 0} (acts : S → Act → Result (List Output) Refusal → S → Type 0) (halted : S → Bool)
-    (pending : S → List (ℕ × ChannelEvent)) (contents : W → Option (List ℕ)) (own_init : Message)
+    (pending : S → List (ℕ × ChannelEvent)) (owes : S → Bool) (contents : W → Option (List ℕ)) (own_init : Message)
     (known : List ℕ) where
   -- a turn that cuts it off
   pub is_cut : (s : Stand S) (t : Turn W) (s' : Stand S) → cuts_off t ≡ true
-      → Step acts halted pending contents own_init known s t s' → IsCutOff s'
+      → Step acts halted pending owes contents own_init known s t s' → IsCutOff s'
   is_cut s (Serves i os a) s' cuts step =
       cut_off s' (unless_over (is_over i a || halted s'.end) (begun s.phase i)) step.1
       (ap (λ b. unless_over (b || halted s'.end) (begun s.phase i)) cuts) step.3.0 step.3.1
   is_cut s (Passes i) s' cuts step = absurd cc
-  is_cut s (Obeys c os a w) s' cuts step =
-      cut_off s' (unless_over (is_lost w || halted s'.end) s.phase) step.0
-      (ap (λ b. unless_over (b || halted s'.end) s.phase) cuts) step.2.0 step.2.1
+  is_cut s (Obeys by c os a w) s' cuts step =
+      cut_off s' (unless_over (is_lost w || halted s'.end) s.phase) step.1
+      (ap (λ b. unless_over (b || halted s'.end) s.phase) cuts) step.3.0 step.3.1
   is_cut s (Loads es) s' cuts step = (step.3, step.4)
   is_cut s (StaysHalted r) s' cuts step = absurd cc
+  is_cut s (Rests allowed) s' cuts step = absurd cc
 
   -- a turn after it was
   still_cut : (s : Stand S) (t : Turn W) (s' : Stand S) → JoinNone (items_of (t ∷ [])) → IsCutOff s
-      → Step acts halted pending contents own_init known s t s' → IsCutOff s'
+      → Step acts halted pending owes contents own_init known s t s' → IsCutOff s'
   still_cut s (Serves i os a) s' none is step =
       cut_off s' (unless_over (is_over i a || halted s'.end) (begun s.phase i)) step.1
       (stays_over (is_over i a || halted s'.end) (begun s.phase i) (begun_cut i s.phase none.0 is.0)) step.3.0 step.3.1
   still_cut s (Passes i) s' none is step =
       cut_off s' s'.phase s.connection (passed_cut known i s.phase s'.phase is.0 step.2) refl step.3
-  still_cut s (Obeys c os a w) s' none is step =
-      cut_off s' (unless_over (is_lost w || halted s'.end) s.phase) step.0
-      (stays_over (is_lost w || halted s'.end) s.phase is.0) step.2.0 step.2.1
+  still_cut s (Obeys by c os a w) s' none is step =
+      cut_off s' (unless_over (is_lost w || halted s'.end) s.phase) step.1
+      (stays_over (is_lost w || halted s'.end) s.phase is.0) step.3.0 step.3.1
   still_cut s (Loads es) s' none is step = (step.3, step.4)
   still_cut s (StaysHalted r) s' none is step = (step.2 ∙ is.0, step.3 ∙ is.1)
+  still_cut s (Rests allowed) s' none is step = subst IsCutOff (sym step.1) is
 
 module _ {S W : Type 0} (acts : S → Act → Result (List Output) Refusal → S → Type 0) (halted : S → Bool)
-    (pending : S → List (ℕ × ChannelEvent)) (seen : S → Option Seen) (contents : W → Option (List ℕ))
+    (pending : S → List (ℕ × ChannelEvent)) (owes : S → Bool) (seen : S → Option Seen) (contents : W → Option (List ℕ))
     (own_init : Message) (known : List ℕ) where
   pub stays_cut : (tried : Bool) (s : Stand S) (ts : List (Turn W)) (words : List Saying) (news : List News)
       (s' : Stand S) → JoinNone (items_of ts) → IsCutOff s
-      → Leads acts halted pending seen contents own_init known tried s ts words news s' → IsCutOff s'
+      → Leads acts halted pending owes seen contents own_init known tried s ts words news s' → IsCutOff s'
   stays_cut tried s [] words news s' none is same = subst IsCutOff (sym same.0) is
   stays_cut tried s (t ∷ ts) words news s' none is leads =
       stays_cut (is_load t) leads.0 ts leads.1 leads.2 s' (joins_rest t ts none)
-      (still_cut acts halted pending contents own_init known s t leads.0 (joins_first t ts none) is leads.3) leads.7
+      (still_cut acts halted pending owes contents own_init known s t leads.0 (joins_first t ts none) is leads.3)
+      leads.7

@@ -16,7 +16,8 @@ use Rattle.ln_node_loops.specs.declared.worker.Phase.{Phase}
 use Rattle.ln_node_loops.specs.Phase.{is_served}
 use Rattle.ln_switch.specs.Answers.{command_subject, answer_to}
 use Rattle.ln_node_loops.specs.Owed.{owed, asked, kept_if, settled_at, use_word}
-use Rattle.ln_node_loops.specs.Turns.{turn_of, says, drops, events, may_come}
+use Rattle.ln_node_loops.specs.Orders.{subject_in, reply_of, replies_to}
+use Rattle.ln_node_loops.specs.Turns.{turn_of, says, drops, events, may_come, replies, Declines}
 
 -- the three parts, one after the other
 pub in-parts : (x : Option Seen) (b : Bool) (es : List (ℕ × ChannelEvent)) (s one two end : List Saying)
@@ -44,18 +45,46 @@ not-passed p item.Stop h e = refl
 module _ {S : Type 0} (halted : S → Bool) (seen : S → Option Seen) where
   -- an item's turn
   pub item-owes : {W : Type 0} (s s' : S) (p : Phase) (served : Bool) (i : Item W) (os : List Output)
-      (answer : Result (Unit {0}) Refusal) → is_served p i ≡ served → (served ≡ false → os ≡ [])
+      (answer written : Result (Unit {0}) Refusal) → (served ≡ false → is_served p i ≡ false)
+      → (served ≡ false → os ≡ [])
       → owed (seen s') (drops i false && not (halted s')) (events os)
-      ≡ says halted seen s (turn_of served i os answer) s'
-  item-owes s s' p true i os answer at none = ap (λ b. owed (seen s') b (events os)) (sym (drops-so i (halted s')))
-  item-owes s s' p false i os answer at none =
-      ap (λ b. owed (seen s') b (events os)) (sym (drops-so i (halted s')) ∙ not-passed p i (halted s') at)
+      ≡ says halted seen s (turn_of served i os answer written) s'
+  item-owes s s' p true (item.Joined w) os answer written at none = refl
+  item-owes s s' p true (item.Read m) os answer written at none = refl
+  item-owes s s' p true item.Broken os answer written at none = refl
+  item-owes s s' p true (item.Order c) os answer written at none = refl
+  item-owes s s' p true item.Stop os answer written at none = refl
+  item-owes s s' p false i os answer written at none =
+      ap (λ b. owed (seen s') b (events os)) (sym (drops-so i (halted s')) ∙ not-passed p i (halted s') (at refl))
       ∙ ap (λ l. owed (seen s') false (events l)) (none refl)
 
-pub item-comes : {W : Type 0} (served h : Bool) (i : Item W) (os : List Output) (answer : Result (Unit {0}) Refusal)
-    → may_come true h (turn_of served i os answer) ≡ true
-item-comes true h i os answer = refl
-item-comes false h i os answer = refl
+  -- and its reply, where it is an order
+  pub item-replies : {W : Type 0} (s : S) (served : Bool) (i : Item W) (os : List Output)
+      (answer written : Result (Unit {0}) Refusal) (next : ℕ) → next ≡ next_htlc (seen s)
+      → (served ≡ false → Declines i answer)
+      → replies_to (subject_in next i) answer ≡ replies seen s (turn_of served i os answer written)
+  item-replies s true (item.Joined w) os answer written next is declined = refl
+  item-replies s true (item.Read m) os answer written next is declined = refl
+  item-replies s true item.Broken os answer written next is declined = refl
+  item-replies s true (item.Order c) os answer written next is declined =
+      ap (λ n. reply_of (command_subject n c) answer ∷ []) is
+  item-replies s true item.Stop os answer written next is declined = refl
+  item-replies s false (item.Joined w) os answer written next is declined = refl
+  item-replies s false (item.Read m) os answer written next is declined = refl
+  item-replies s false item.Broken os answer written next is declined = refl
+  item-replies s false (item.Order c) os answer written next is declined =
+      ap (λ a. reply_of (command_subject next c) a ∷ []) (declined refl)
+  item-replies s false item.Stop os answer written next is declined = refl
+
+pub item-comes : {W : Type 0} (served h : Bool) (i : Item W) (os : List Output)
+    (answer written : Result (Unit {0}) Refusal)
+    → may_come true h (turn_of served i os answer written) ≡ true
+item-comes true h (item.Joined w) os answer written = refl
+item-comes true h (item.Read m) os answer written = refl
+item-comes true h item.Broken os answer written = refl
+item-comes true h (item.Order c) os answer written = refl
+item-comes true h item.Stop os answer written = refl
+item-comes false h i os answer written = refl
 
 -- a command's, whose channel is that of the end before
 got : Option (List ℕ) → List ℕ

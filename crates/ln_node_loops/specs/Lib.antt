@@ -13,3 +13,5 @@ pub mod Worker
 pub mod WorkerLoop
 pub mod Saved
 pub mod Owed
+pub mod Orders
+pub mod Signing

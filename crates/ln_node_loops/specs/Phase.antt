@@ -7,6 +7,7 @@ use Rattle.ln_msgs.specs.declared.messages.setup.Init.{Init}
 use Rattle.ln_msgs.specs.Messages.Features.{IsAllKnown, HasUnknown}
 use Rattle.ln_msgs.specs.declared.refusals.refusal.Refusal.{Refusal}
 use Rattle.ln_msgs.specs.Refusals.Refusal.{refusal_number}
+use Rattle.ln_channel.specs.Step.{is_of_records}
 use Rattle.ln_node_loops.specs.Connection.{Connection}
 use Rattle.ln_node_loops.specs.declared.item.Item.{Item}
 use Rattle.ln_node_loops.specs.declared.item.Item.TheVariants as item
@@ -15,7 +16,7 @@ use Rattle.ln_node_loops.specs.declared.worker.Phase.TheVariants.{Unconnected, A
 
 -- ---- which items are served
 
--- messages are, once the peer's init came
+-- messages are, once the peer's init came; an order is obeyed or passed over
 abbrev pub is_on : Phase → Bool
 is_on Unconnected = false
 is_on AwaitsInit = false
@@ -25,7 +26,7 @@ abbrev pub is_served : {J : Type 0} → Phase → Item J → Bool
 is_served p (item.Joined j) = true
 is_served p (item.Read m) = is_on p
 is_served p item.Broken = true
-is_served p (item.Order c) = true
+is_served p (item.Order c) = false
 is_served p item.Stop = false
 
 -- ---- how far a connection is behind an item that isn't served
@@ -45,11 +46,12 @@ Hears known Unconnected m p = p ≡ Unconnected
 Hears known AwaitsInit m p = Greets known (init_in m) p
 Hears known Open m p = p ≡ Open
 
+-- what the book alone decides isn't ordered
 abbrev pub PassesOver : {J : Type 0} → List ℕ → Phase → Item J → Phase → Type 0
 PassesOver known p (item.Joined j) p' = p' ≡ p
 PassesOver known p (item.Read m) p' = Hears known p m p'
 PassesOver known p item.Broken p' = p' ≡ p
-PassesOver known p (item.Order c) p' = p' ≡ p
+PassesOver known p (item.Order c) p' = (is_of_records c ≡ true) × (p' ≡ p)
 PassesOver known p item.Stop p' = p' ≡ p
 
 -- ---- how far it is behind one that is served

@@ -1,15 +1,20 @@
 -- The turns of a worker, one after the other, and the events that are put for its dispatcher.
 use Rattle.std.specs.Prelude.{◌≡◌, ◌⊎◌, ℕ, List, [], ◌∷◌, ◌++◌, Option, Some, None, Result, Ok, Err, Bool, true, false}
-use Rattle.std.specs.Prelude.{if◌then◌else◌, nat_lt, ◌||◌, not, ⊤}
+use Rattle.std.specs.Prelude.{if◌then◌else◌, nat_lt, ◌||◌, ◌&&◌, not, ⊤}
 use Rattle.ln_msgs.specs.declared.messages.message.Message.{Message}
 use Rattle.ln_msgs.specs.declared.refusals.refusal.Refusal.{Refusal}
+use Rattle.ln_msgs.specs.declared.refusals.refusal.Refusal.TheVariants as refusal
 use Rattle.ln_hooks.specs.declared.event.ChannelEvent.{ChannelEvent}
 use Rattle.ln_channel.specs.declared.command.Command.{Command}
+use Rattle.ln_channel.specs.declared.command.Command.TheVariants as command
 use Rattle.ln_channel.specs.declared.output.Output.{Output}
 use Rattle.ln_channel.specs.declared.output.Output.TheVariants as output
+use Rattle.ln_channel.specs.Step.{is_of_records}
 use Rattle.ln_switch.specs.declared.saying.Saying.{Saying}
-use Rattle.ln_switch.specs.Seen.{Seen, channel_of}
+use Rattle.ln_switch.specs.Answers.{command_subject}
+use Rattle.ln_switch.specs.Seen.{Seen, channel_of, next_htlc}
 use Rattle.ln_node_loops.specs.Owed.{owed, asked}
+use Rattle.ln_node_loops.specs.Orders.{Reply, subject_in, reply_of, replies_to}
 use Rattle.ln_node_loops.specs.declared.item.Item.{Item}
 use Rattle.ln_node_loops.specs.declared.item.Item.TheVariants as item
 use Rattle.ln_node_loops.specs.declared.task.Task.{Task}
@@ -24,17 +29,47 @@ use Rattle.ln_node_loops.specs.Phase.{is_served, PassesOver, begun, is_over, is_
 
 -- ---- turns
 
+-- who gives a command: the book, a user by an order, or the worker itself
+pub data Giver : Type 0 where
+  OfBook : Giver
+  OfUser : Giver
+  OfWorker : Giver
+
+module _ {S : Type 0} (owes : S → Bool) where
+  -- what the book alone decides isn't ordered; by itself a worker only signs, where its end owes a signature
+  abbrev pub MayGive : S → Giver → Command → Type 0
+  MayGive s OfBook c = ⊤
+  MayGive s OfUser c = is_of_records c ≡ false
+  MayGive s OfWorker c = (c ≡ command.Sign) × (owes s ≡ true)
+
 -- one turn of a worker, whose relay has items with writers W
 pub data Turn (W : Type 0) : Type 0 where
   Serves : (i : Item W) (outputs : List Output) (answer : Result (Unit {0}) Refusal) → Turn W
   Passes : (i : Item W) → Turn W
-  Obeys : (c : Command) (outputs : List Output) (answer written : Result (Unit {0}) Refusal) → Turn W
+  Obeys : (by : Giver) (c : Command) (outputs : List Output) (answer written : Result (Unit {0}) Refusal) → Turn W
   Loads : (pending : List (ℕ × ChannelEvent)) → Turn W
   StaysHalted : (r : Refusal) → Turn W
+  Rests : (allowed : Bool) → Turn W
 
-abbrev pub turn_of : {W : Type 0} → Bool → Item W → List Output → Result (Unit {0}) Refusal → Turn W
-turn_of true i os a = Serves i os a
-turn_of false i os a = Passes i
+-- an item that is served; an order is obeyed
+abbrev pub served_turn : {W : Type 0} → Item W → List Output → (answer written : Result (Unit {0}) Refusal) → Turn W
+served_turn (item.Joined w) os a b = Serves (item.Joined w) os a
+served_turn (item.Read m) os a b = Serves (item.Read m) os a
+served_turn item.Broken os a b = Serves item.Broken os a
+served_turn (item.Order c) os a b = Obeys OfUser c os a b
+served_turn item.Stop os a b = Serves item.Stop os a
+
+abbrev pub turn_of : {W : Type 0} → Bool → Item W → List Output → (answer written : Result (Unit {0}) Refusal) → Turn W
+turn_of true i os a b = served_turn i os a b
+turn_of false i os a b = Passes i
+
+-- an order that is passed over is refused (40)
+abbrev pub Declines : {W : Type 0} → Item W → Result (Unit {0}) Refusal → Type 0
+Declines (item.Joined w) a = ⊤
+Declines (item.Read m) a = ⊤
+Declines item.Broken a = ⊤
+Declines (item.Order c) a = a ≡ Err refusal.NotReady
+Declines item.Stop a = ⊤
 
 abbrev pub load_of : {W : Type 0} → Result (Unit {0}) Refusal → List (ℕ × ChannelEvent) → Turn W
 load_of (Ok u) es = Loads es
@@ -74,9 +109,11 @@ module _ {S : Type 0} (halted : S → Bool) where
       (s'.phase ≡ unless_over (over || halted s'.end) p) × (s'.connection ≡ kept_connection s'.phase connection)
 
 module _ {S W : Type 0} (acts : S → Act → Result (List Output) Refusal → S → Type 0) (halted : S → Bool)
-    (pending : S → List (ℕ × ChannelEvent)) (contents : W → Option (List ℕ)) (own_init : Message) (known : List ℕ) where
-  -- An item is served or passed over, a command of the book is obeyed, or a halted end comes back from its record, or
-  -- can't.
+    (pending : S → List (ℕ × ChannelEvent)) (owes : S → Bool) (contents : W → Option (List ℕ)) (own_init : Message)
+    (known : List ℕ) where
+  -- An item is served or passed over, a command of the book, an order or the worker's own is obeyed, or a halted end
+  -- comes back from its record, or can't. Or there was nothing to do: it rests where it isn't to sign by itself, or
+  -- where no signature is owed.
   -- Each turn appends to what the one before has left on the connection. A turn that couldn't write all cuts it off,
   -- and then there is none, and nothing is written, until the next one joins.
   abbrev pub Step : Stand S → Turn W → Stand S → Type 0
@@ -88,8 +125,8 @@ module _ {S W : Type 0} (acts : S → Act → Result (List Output) Refusal → S
   Step s (Passes i) s' =
       (is_served s.phase i ≡ false) × (s'.end ≡ s.end) × PassesOver known s.phase i s'.phase
       × (s'.connection ≡ kept_connection s'.phase s.connection)
-  Step s (Obeys c os a w) s' =
-      (connection : Option Connection)
+  Step s (Obeys by c os a w) s' =
+      MayGive owes s.end by c × (connection : Option Connection)
       × IsObeyed acts s.end c os a w s'.end (kept_connection s.phase s.connection) connection
       × Leaves halted s.phase (is_lost w) connection s'
   Step s (Loads es) s' =
@@ -98,6 +135,7 @@ module _ {S W : Type 0} (acts : S → Act → Result (List Output) Refusal → S
   Step s (StaysHalted r) s' =
       (halted s.end ≡ true) × acts s.end act.Loads (Err r) s'.end × (s'.phase ≡ s.phase)
       × (s'.connection ≡ s.connection)
+  Step s (Rests allowed) s' = ((allowed && owes s.end) ≡ false) × (s' ≡ s)
 
 -- ---- events
 
@@ -116,18 +154,36 @@ events (output.Closed fee ∷ os) = events os
 abbrev pub told : {W : Type 0} → Turn W → List (ℕ × ChannelEvent)
 told (Serves i os a) = events os
 told (Passes i) = []
-told (Obeys c os a w) = events os
+told (Obeys by c os a w) = events os
 told (Loads es) = es
 told (StaysHalted r) = []
+told (Rests allowed) = []
 
--- what one turn tells of: the channel, once both have signed its opening, and the events
+-- what one turn tells of: the channel, once both have signed its opening, the events, and the reply to an order
 abbrev pub News : Type 0
-News = Option (List ℕ) × List (ℕ × ChannelEvent)
+News = Option (List ℕ) × List (ℕ × ChannelEvent) × List Reply
 
 -- the events of all turns
 abbrev pub told_in : List News → List (ℕ × ChannelEvent)
 told_in [] = []
-told_in ((c, es) ∷ ns) = es ++ told_in ns
+told_in ((c, es, rs) ∷ ns) = es ++ told_in ns
+
+-- the replies of all turns
+abbrev pub replies_in : List News → List Reply
+replies_in [] = []
+replies_in ((c, es, rs) ∷ ns) = rs ++ replies_in ns
+
+module _ {S W : Type 0} (seen : S → Option Seen) where
+  -- what is replied for a turn, by the end before it: one that the book alone decides is no order (40)
+  abbrev pub replies : S → Turn W → List Reply
+  replies s (Serves i os a) = []
+  replies s (Passes i) = replies_to (subject_in 0 i) (Err refusal.NotReady)
+  replies s (Obeys OfBook c os a w) = []
+  replies s (Obeys OfUser c os a w) = reply_of (command_subject (next_htlc (seen s)) c) a ∷ []
+  replies s (Obeys OfWorker c os a w) = []
+  replies s (Loads es) = []
+  replies s (StaysHalted r) = []
+  replies s (Rests allowed) = []
 
 -- ---- what is owed to the book
 
@@ -145,48 +201,92 @@ module _ {S W : Type 0} (halted : S → Bool) (seen : S → Option Seen) where
   abbrev pub says : S → Turn W → S → List Saying
   says s (Serves i os a) s' = owed (seen s') (drops i (halted s')) (events os)
   says s (Passes i) s' = owed (seen s') false []
-  says s (Obeys c os a w) s' = asked (seen s) c a ++ owed (seen s') false (events os)
+  says s (Obeys OfBook c os a w) s' = asked (seen s) c a ++ owed (seen s') false (events os)
+  says s (Obeys OfUser c os a w) s' = owed (seen s') false (events os)
+  says s (Obeys OfWorker c os a w) s' = owed (seen s') false (events os)
   says s (Loads es) s' = owed (seen s') true es
   says s (StaysHalted r) s' = []
+  says s (Rests allowed) s' = []
 
 -- whether a load was tried
 abbrev pub is_load : {W : Type 0} → Turn W → Bool
 is_load (Serves i os a) = false
 is_load (Passes i) = false
-is_load (Obeys c os a w) = false
+is_load (Obeys by c os a w) = false
 is_load (Loads es) = true
 is_load (StaysHalted r) = true
+is_load (Rests allowed) = false
 
 -- Nothing is taken from the relay for an end that has halted, unless its load was tried directly before.
 abbrev pub may_come : {W : Type 0} → Bool → Bool → Turn W → Bool
 may_come tried halted (Serves i os a) = tried || not halted
 may_come tried halted (Passes i) = tried || not halted
-may_come tried halted (Obeys c os a w) = true
+may_come tried halted (Obeys OfBook c os a w) = true
+may_come tried halted (Obeys OfUser c os a w) = tried || not halted
+may_come tried halted (Obeys OfWorker c os a w) = true
 may_come tried halted (Loads es) = true
 may_come tried halted (StaysHalted r) = true
+may_come tried halted (Rests allowed) = true
 
 module _ {S W : Type 0} (acts : S → Act → Result (List Output) Refusal → S → Type 0) (halted : S → Bool)
-    (pending : S → List (ℕ × ChannelEvent)) (seen : S → Option Seen) (contents : W → Option (List ℕ))
+    (pending : S → List (ℕ × ChannelEvent)) (owes : S → Bool) (seen : S → Option Seen) (contents : W → Option (List ℕ))
     (own_init : Message) (known : List ℕ) where
   -- The turns lead from one stand to the other, these things are said to the book for them, in order, and they tell of
-  -- these events, each turn of those of the channel that its end has then. Whether a load was tried directly before
-  -- stands first.
+  -- these events, each turn of those of the channel that its end has then, and of these replies. Whether a load was
+  -- tried directly before stands first.
   abbrev pub Leads : Bool → Stand S → List (Turn W) → List Saying → List News → Stand S → Type 0
   Leads tried s [] words news s' = (s' ≡ s) × (words ≡ []) × (news ≡ [])
   Leads tried s (t ∷ ts) words news s' =
       (mid : Stand S) × (rest : List Saying) × (later : List News)
-      × Step acts halted pending contents own_init known s t mid × (may_come tried (halted s.end) t ≡ true)
+      × Step acts halted pending owes contents own_init known s t mid × (may_come tried (halted s.end) t ≡ true)
       × (words ≡ says halted seen s.end t mid.end ++ rest)
-      × (news ≡ (channel_of (seen mid.end), told t) ∷ later) × Leads (is_load t) mid ts rest later s'
+      × (news ≡ (channel_of (seen mid.end), told t, replies seen s.end t) ∷ later)
+      × Leads (is_load t) mid ts rest later s'
 
 -- the items of turns
 abbrev pub items_of : {W : Type 0} → List (Turn W) → List (Item W)
 items_of [] = []
 items_of (Serves i os a ∷ ts) = i ∷ items_of ts
 items_of (Passes i ∷ ts) = i ∷ items_of ts
-items_of (Obeys c os a w ∷ ts) = items_of ts
+items_of (Obeys OfBook c os a w ∷ ts) = items_of ts
+items_of (Obeys OfUser c os a w ∷ ts) = item.Order c ∷ items_of ts
+items_of (Obeys OfWorker c os a w ∷ ts) = items_of ts
 items_of (Loads es ∷ ts) = items_of ts
 items_of (StaysHalted r ∷ ts) = items_of ts
+items_of (Rests allowed ∷ ts) = items_of ts
+
+-- ---- what a worker does by itself
+
+-- what it was told as it asked whether it is to sign by itself: it has signed, or it rests
+abbrev pub asks : {W : Type 0} → Turn W → List Bool
+asks (Serves i os a) = []
+asks (Passes i) = []
+asks (Obeys OfBook c os a w) = []
+asks (Obeys OfUser c os a w) = []
+asks (Obeys OfWorker c os a w) = true ∷ []
+asks (Loads es) = []
+asks (StaysHalted r) = []
+asks (Rests allowed) = allowed ∷ []
+
+abbrev pub asked_in : {W : Type 0} → List (Turn W) → List Bool
+asked_in [] = []
+asked_in (t ∷ ts) = asks t ++ asked_in ts
+
+abbrev pub is_idle : {W : Type 0} → Turn W → Bool
+is_idle (Serves i os a) = false
+is_idle (Passes i) = false
+is_idle (Obeys OfBook c os a w) = false
+is_idle (Obeys OfUser c os a w) = false
+is_idle (Obeys OfWorker c os a w) = true
+is_idle (Loads es) = false
+is_idle (StaysHalted r) = false
+is_idle (Rests allowed) = true
+
+-- it signs by itself or rests only where its relay was empty, after these items and those of the turns before
+abbrev pub FindsNone : {W : Type 0} → (List (Item W) → Type 0) → List (Item W) → List (Turn W) → Type 0
+FindsNone empty taken [] = ⊤
+FindsNone empty taken (t ∷ ts) =
+    (is_idle t ≡ true → empty taken) × FindsNone empty (taken ++ items_of (t ∷ [])) ts
 
 -- ---- connections
 
@@ -198,9 +298,10 @@ IsCutOff s = (s.phase ≡ Unconnected) × (s.connection ≡ None)
 abbrev pub cuts_off : {W : Type 0} → Turn W → Bool
 cuts_off (Serves i os a) = is_over i a
 cuts_off (Passes i) = false
-cuts_off (Obeys c os a w) = is_lost w
+cuts_off (Obeys by c os a w) = is_lost w
 cuts_off (Loads es) = true
 cuts_off (StaysHalted r) = false
+cuts_off (Rests allowed) = false
 
 abbrev pub is_joined : {W : Type 0} → Item W → Bool
 is_joined (item.Joined w) = true
@@ -237,7 +338,7 @@ tasks c ((n, e) ∷ es) = task.Event c n e ∷ tasks c es
 -- those of what turns tell of and wasn't put yet
 abbrev pub tasks_of : {H : Type 0} → Option ℕ → List News → List (Task H)
 tasks_of last [] = []
-tasks_of last ((c, es) ∷ ns) = tasks c (fresh last es) ++ tasks_of (last_of last es) ns
+tasks_of last ((c, es, rs) ∷ ns) = tasks c (fresh last es) ++ tasks_of (last_of last es) ns
 
 -- these tasks are these events, in order, each with some channel
 abbrev pub AreEvents : {H : Type 0} → List (Task H) → List (ℕ × ChannelEvent) → Type 0
@@ -248,46 +349,57 @@ AreEvents (task.Stop ∷ ts) es = ⊥
 
 -- ---- a worker between its relay, its dispatcher and the book
 
--- what it stands for, the last number that it has put, what its seats have taken and put, and what it has said to the
--- book
+-- what it stands for, the last number that it has put, what its seats have taken and put, what it has said to the book,
+-- what it has replied to orders, and what it was told as it asked whether it is to sign by itself
 pub record Glance (S W H : Type 0) : Type 0 where
   pub stand : Stand S
   pub last : Option ℕ
   pub taken : List (Item W)
   pub put : List (Task H)
   pub said : List Saying
+  pub replied : List Reply
+  pub allowed : List Bool
 
 -- the last item that was taken is Stop
 abbrev pub HasStopped : {W : Type 0} → List (Item W) → Type 0
 HasStopped {W} taken = (before : List (Item W)) × (taken ≡ before ++ item.Stop ∷ [])
 
 module _ {S W H : Type 0} (acts : S → Act → Result (List Output) Refusal → S → Type 0) (halted : S → Bool)
-    (pending : S → List (ℕ × ChannelEvent)) (seen : S → Option Seen) (contents : W → Option (List ℕ))
+    (pending : S → List (ℕ × ChannelEvent)) (owes : S → Bool) (seen : S → Option Seen) (contents : W → Option (List ℕ))
     (own_init : Message) (known : List ℕ) where
-  -- Turns led from one glance to the other: their items are those that were taken, in order; put were, once each, by
-  -- channel and number, the events that they told of; and said was to the book what they owe it.
-  pub record Ran (tried : Bool) (a b : Glance S W H) : Type 0 where
-    pub turns : List (Turn W)
-    pub words : List Saying
-    pub news : List News
-    pub leads : Leads acts halted pending seen contents own_init known tried a.stand turns words news b.stand
-    pub took : b.taken ≡ a.taken ++ items_of turns
-    pub put : b.put ≡ a.put ++ tasks_of a.last news
-    pub last : b.last ≡ last_of a.last (told_in news)
-    pub spoke : b.said ≡ a.said ++ words
-
-  -- A halted end was to be loaded: it hadn't halted, and nothing was done; or its load was tried.
   pub record OneTurn (a : Glance S W H) (t : Turn W) (b : Glance S W H) : Type 0 where
-    pub step : Step acts halted pending contents own_init known a.stand t b.stand
+    pub step : Step acts halted pending owes contents own_init known a.stand t b.stand
     pub took : b.taken ≡ a.taken ++ items_of (t ∷ [])
     pub put : b.put ≡ a.put ++ tasks (channel_of (seen b.stand.end)) (fresh a.last (told t))
     pub last : b.last ≡ last_of a.last (told t)
     pub spoke : b.said ≡ a.said ++ says halted seen a.stand.end t b.stand.end
+    pub replied : b.replied ≡ a.replied ++ replies seen a.stand.end t
+    pub allowed : b.allowed ≡ a.allowed ++ asks t
 
+  -- A halted end was to be loaded: it hadn't halted, and nothing was done; or its load was tried.
   abbrev pub ReloadsIfHalted : Glance S W H → Glance S W H → Type 0
   ReloadsIfHalted a b =
       ((halted a.stand.end ≡ false) × (b ≡ a))
       ⊎ ((t : Turn W) × (is_load t ≡ true) × OneTurn a t b)
+
+module _ {S W H : Type 0} (acts : S → Act → Result (List Output) Refusal → S → Type 0) (halted : S → Bool)
+    (pending : S → List (ℕ × ChannelEvent)) (owes : S → Bool) (seen : S → Option Seen) (contents : W → Option (List ℕ))
+    (own_init : Message) (known : List ℕ) (empty : List (Item W) → Type 0) where
+  -- Turns led from one glance to the other: their items are those that were taken, in order; put were, once each, by
+  -- channel and number, the events that they told of; said was to the book what they owe it; replied was to each
+  -- order, in their order; and it signed by itself where it was told that it is to, with nothing in its relay.
+  pub record Ran (tried : Bool) (a b : Glance S W H) : Type 0 where
+    pub turns : List (Turn W)
+    pub words : List Saying
+    pub news : List News
+    pub leads : Leads acts halted pending owes seen contents own_init known tried a.stand turns words news b.stand
+    pub took : b.taken ≡ a.taken ++ items_of turns
+    pub put : b.put ≡ a.put ++ tasks_of a.last news
+    pub last : b.last ≡ last_of a.last (told_in news)
+    pub spoke : b.said ≡ a.said ++ words
+    pub replied : b.replied ≡ a.replied ++ replies_in news
+    pub allowed : b.allowed ≡ a.allowed ++ asked_in turns
+    pub idle : FindsNone empty a.taken turns
 
   -- The book was told what has become of HTLCs by the events that were pending at first, and which payments the end
   -- takes; the events were put; and then turns led on, until Stop was taken.
@@ -295,6 +407,8 @@ module _ {S W H : Type 0} (acts : S → Act → Result (List Output) Refusal →
     pub mid : Glance S W H
     pub same_stand : mid.stand ≡ a.stand
     pub took_nothing : mid.taken ≡ a.taken
+    pub replied_nothing : mid.replied ≡ a.replied
+    pub asked_nothing : mid.allowed ≡ a.allowed
     pub put_pending : mid.put
         ≡ a.put ++ tasks (channel_of (seen a.stand.end)) (fresh a.last (pending a.stand.end))
     pub last_pending : mid.last ≡ last_of a.last (pending a.stand.end)

@@ -4,6 +4,7 @@ use Rattle.ln_node_loops.specs.declared.item.Item.{Item}
 use Rattle.ln_node_loops.specs.declared.task.Task.{Task}
 use Rattle.ln_node_loops.specs.declared.rounds.WorkerLoop.{WorkerLoop}
 use Rattle.ln_switch.specs.declared.saying.Saying.{Saying}
+use Rattle.ln_node_loops.specs.Orders.{Reply}
 use Rattle.ln_node_loops.specs.Turns.{Glance}
 use Rattle.ln_node_loops.specs.Worker.{stand}
 
@@ -11,13 +12,15 @@ use Rattle.ln_node_loops.specs.Worker.{stand}
 abbrev pub refused_behind : Bool → ℕ → ℕ
 refused_behind halted before = if halted then (if nat_lt before 10 then before + 1 else before) else 0
 
-module _ {E W I T B S H : Type 0} (state : E → S) (contents : W → Option (List ℕ)) (taken : I → List (Item W))
-    (put : T → List (Task H)) (said : B → List Saying) where
-  abbrev pub glance : WorkerLoop E W I T B → Glance S W H
+module _ {E W I T B A S H : Type 0} (state : E → S) (contents : W → Option (List ℕ)) (taken : I → List (Item W))
+    (put : T → List (Task H)) (said : B → List Saying) (replied : A → List Reply) (allowed : A → List Bool) where
+  abbrev pub glance : WorkerLoop E W I T B A → Glance S W H
   glance b = record {
     stand = stand state contents b.worker;
     last = b.worker.last;
     taken = taken b.items;
     put = put b.tasks;
     said = said b.book;
+    replied = replied b.orders;
+    allowed = allowed b.orders;
   }

@@ -34,6 +34,9 @@ pub trait End {
     /// What a book is told of it, once both have signed the opening.
     ghost seen: { State → Option Seen };
 
+    /// Whether a signature is owed: there is something to sign, and nothing keeps it from that.
+    ghost owes: { State → Bool };
+
     /// Takes a message.
     fn handle(&mut self, alloc: Global, message: Message) -> Result<Vec<Output>, Refusal>
         ensures { acts (state self.old) (Handles message) (listed (λ v. v.items) result) (state self.new) };
@@ -61,6 +64,10 @@ pub trait End {
     /// Whether it answers nothing any more.
     fn is_halted(&self) -> bool
         ensures { result ≡ halted (state self.now) };
+
+    /// Whether a signature is owed: `Sign` would be done, but for want of memory or a failing store.
+    fn owes_signature(&self) -> bool
+        ensures { result ≡ owes (state self.now) };
 
     /// Which channel's end it is, once both have signed the opening.
     fn channel(&self) -> Option<ChannelId>

@@ -9,10 +9,12 @@ mod item;
 mod kind;
 mod laws;
 mod notice;
+mod orders;
 mod reader;
 mod reports;
 mod rounds;
 mod saved;
+mod signing;
 mod task;
 mod turn;
 mod wire;
@@ -24,10 +26,12 @@ pub use end::End;
 pub use item::Item;
 pub use kind::Kind;
 pub use laws::{
-    a_load_keeps_pending_events, every_event_is_put, hooks_follow, nothing_is_written_after_a_loss,
+    a_load_keeps_pending_events, a_signature_is_owed_where_sign_is_done, every_event_is_put,
+    every_order_is_replied_to, hooks_follow, nothing_is_written_after_a_loss,
 };
 pub use ln_hooks::Table;
 pub use notice::Notice;
+pub use orders::Orders;
 pub use reader::{put, reader_loop};
 pub use rounds::{WorkerLoop, worker_loop};
 pub use saved::SavedLink;

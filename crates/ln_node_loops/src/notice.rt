@@ -11,8 +11,11 @@ pub enum Notice {
     Ended(Result<(), Fault>),
     /// A connection was over before the peer's init had come, or that asked for features that aren't known (9).
     NoInit,
-    /// The end refused a message or an order by this, or not all was written for it: 7, 60 or 63.
+    /// The end refused a message, a command of the book or the worker's own `Sign` by this, or not all was written for
+    /// a message or an order: 7, 60 or 63.
     Refused(Refusal),
+    /// The end refused the channel's order of this number by this: the first order has the number 0.
+    OrderRefused(u64, Refusal),
     /// The end has halted: it answers nothing until it was loaded.
     Halted,
     /// It was loaded from its record.

@@ -1,23 +1,26 @@
 //! The loop of a worker.
 
-ghost use Rattle.std.specs.Prelude.{◌≡◌, ◌++◌, ◌∷◌, [], true, false, not, ◌&&◌};
+ghost use Rattle.std.specs.Prelude.{◌≡◌, ◌++◌, ◌∷◌, [], true, false, not, ◌&&◌, ◌||◌};
+ghost use Rattle.ln_relay.specs.Position.{WasEmpty};
 ghost use Rattle.ln_node_loops.specs.Turns.{Ran, ReloadsIfHalted, Began, HasStopped, is_new, fresh, last_of, events};
 ghost use Rattle.ln_node_loops.specs.Turns.{tasks, drops};
 ghost use Rattle.ln_switch.specs.Seen.{channel_of};
 ghost use Rattle.ln_node_loops.specs.Owed.{kept_if, settled_at, owed, load_words};
 ghost use Rattle.ln_node_loops.specs.declared.item.Item.TheVariants as item;
 ghost use Rattle.ln_node_loops.specs.WorkerLoop.{glance, refused_behind};
+ghost use Rattle.ln_node_loops.specs.Orders.{subject_in, reply_of, replies_to};
 
 use crate::books::ReadsEnds;
 use crate::end::End;
 use crate::item::Item;
 use crate::notice::Notice;
+use crate::orders::Orders;
 use crate::reader::put;
 use crate::reports;
 use crate::task::Task;
 use crate::wire::Closes;
-use crate::worker::{Phase, Worker};
-use ln_channel::Output;
+use crate::worker::{Phase, Turned, Worker};
+use ln_channel::{Command, Output};
 use ln_hooks::ChannelEvent;
 use ln_log::ChannelId;
 use ln_msgs::{Message, Refusal};
@@ -27,9 +30,10 @@ use std::alloc::Global;
 use std::sync::Wait;
 use std::thread;
 
-/// A worker with its seats: it takes from the one, puts events to the other, and talks to the book by the third.
+/// A worker with its seats: it takes from the first, puts events to the second, talks to the book by the third, and by
+/// the fourth replies to orders and learns whether it is to sign by itself.
 #[derive(Drop)]
-pub struct WorkerLoop<E: Drop, W: Drop, I: Drop, T: Drop, B: Drop> {
+pub struct WorkerLoop<E: Drop, W: Drop, I: Drop, T: Drop, B: Drop, A: Drop> {
     /// The worker.
     pub worker: Worker<E, W>,
     /// The receiver's seat of its relay.
@@ -38,6 +42,8 @@ pub struct WorkerLoop<E: Drop, W: Drop, I: Drop, T: Drop, B: Drop> {
     pub tasks: T,
     /// A seat at the book.
     pub book: B,
+    /// Where it replies to orders, and learns whether it is to sign by itself.
+    pub orders: A,
 }
 
 // Whether an event with this number is new.
@@ -286,13 +292,65 @@ fn note_command<E: End + Drop, W: Drop, B: ReadsEnds<E>, R: Wait>(
     }
 }
 
-impl<E, W, I, T, B> WorkerLoop<E, W, I, T, B>
+// What an order is about; other items are none.
+fn subject_in<J: Drop>(next: u64, item: &Item<J>) -> Option<u64>
+    ensures { result ≡ subject_in next item.now }
+{
+    match item {
+        Item::Order(command) => Some(command_subject(next, command)),
+        _ => None,
+    }
+}
+
+// Whether there was something to do, as a command of the book was answered.
+fn is_busy(before: bool, waits: bool) -> bool
+    ensures is { result ≡ (before || not waits) }
+    ensures stays_busy { result ≡ false → before ≡ false }
+{
+    before || !waits
+}
+
+fn reply_of(id: u64, answer: Result<(), Refusal>) -> Result<u64, Refusal>
+    ensures { result ≡ reply_of id answer }
+{
+    match answer {
+        Ok(()) => Ok(id),
+        Err(refusal) => Err(refusal),
+    }
+}
+
+// Replies to an order that is about this; not to another item.
+fn reply<A: Orders, R: Wait>(
+    rt: &R,
+    orders: &mut A,
+    subject: Option<u64>,
+    answer: Result<(), Refusal>,
+)
+    ensures replies { A.replied orders.new ≡ A.replied orders.old ++ replies_to subject answer }
+    ensures tells_nothing { A.allowed orders.new ≡ A.allowed orders.old }
+{
+    match subject {
+        None => {}
+        Some(id) => orders.reply(rt, reply_of(id, answer)),
+    }
+}
+
+// What is told of a turn beside the reply to an order.
+fn unreplied(subject: Option<u64>, turned: &Turned) -> Result<(), Refusal> {
+    match subject {
+        None => turned.answer,
+        Some(_) => turned.written,
+    }
+}
+
+impl<E, W, I, T, B, A> WorkerLoop<E, W, I, T, B, A>
 where
     E: End + Drop,
     W: Closes + Drop,
     I: Receives<Item<W>> + Drop,
     T: Drop,
     B: ReadsEnds<E> + Drop,
+    A: Orders + Drop,
 {
     // How many loads in a row were refused, up to ten, where so many were before.
     fn refused(&self, before: u64) -> u64
@@ -317,7 +375,7 @@ where
         }
     }
 
-    // Takes an item, and serves it or passes it over. True where it is the last one.
+    // Takes an item, and serves it or passes it over; then it is busy. True where it is the last one.
     fn take_one<H: Drop, R: Wait>(
         &mut self,
         rt: &R,
@@ -328,27 +386,32 @@ where
     ) -> bool
     where
         T: Sends<Task<H>>,
-        ensures ran { Ran E.acts E.halted E.pending E.seen W.contents own_init.now known.now true
-            (glance E.state W.contents I.taken T.put B.said self.old)
-            (glance E.state W.contents I.taken T.put B.said self.new) }
+        ensures ran { Ran E.acts E.halted E.pending E.owes E.seen W.contents own_init.now known.now
+            (WasEmpty (I.position self.old.items)) true
+            (glance E.state W.contents I.taken T.put B.said A.replied A.allowed self.old)
+            (glance E.state W.contents I.taken T.put B.said A.replied A.allowed self.new) }
         ensures stops { result ≡ true → HasStopped (I.taken self.new.items) }
+        ensures position_stays { I.position self.new.items ≡ I.position self.old.items }
+        ensures was_empty { busy.new ≡ false → WasEmpty (I.position self.old.items) (I.taken self.new.items) }
     {
         let Some(item) = self.items.recv(rt) else {
             return false;
         };
         let stops = is_stop(&item);
         let breaks = is_broken(&item);
+        let subject = subject_in(self.worker.end.next_id(), &item);
         let halted = self.worker.end.is_halted();
         let awaited = self.worker.phase == Phase::AwaitsInit;
         *busy = true;
         let turned = self.worker.serve(alloc, own_init, known, item);
+        reply(rt, &mut self.orders, subject, turned.answer);
         note(
             rt,
             &mut self.book,
             &self.worker,
             halted,
             awaited,
-            turned.answer,
+            unreplied(subject, &turned),
         );
         let drops = reports_kept(breaks, self.worker.end.is_halted());
         report(
@@ -369,7 +432,7 @@ where
         stops
     }
 
-    // Takes a command of the book. One that waits gives nothing to do, and nobody is told.
+    // Takes a command of the book; then it is busy, unless the command waits.
     fn obey_one<H: Drop, R: Wait>(
         &mut self,
         rt: &R,
@@ -380,9 +443,12 @@ where
     )
     where
         T: Sends<Task<H>>,
-        ensures { Ran E.acts E.halted E.pending E.seen W.contents own_init.now known.now false
-            (glance E.state W.contents I.taken T.put B.said self.old)
-            (glance E.state W.contents I.taken T.put B.said self.new) }
+        ensures ran { Ran E.acts E.halted E.pending E.owes E.seen W.contents own_init.now known.now
+            (WasEmpty (I.position self.old.items)) false
+            (glance E.state W.contents I.taken T.put B.said A.replied A.allowed self.old)
+            (glance E.state W.contents I.taken T.put B.said A.replied A.allowed self.new) }
+        ensures takes_no_item { self.new.items ≡ self.old.items }
+        ensures stays_busy { busy.new ≡ false → busy.old ≡ false }
     {
         let Some(channel) = self.worker.end.channel() else {
             return;
@@ -397,13 +463,73 @@ where
         let answer = answer_to(command_subject, obeyed.answer);
         self.book.answered(rt, channel, answer);
         let waits = waits(answer);
-        *busy = *busy || !waits;
+        *busy = is_busy(*busy, waits);
         note_command(
             rt,
             &mut self.book,
             &self.worker,
             halted,
             waits,
+            obeyed.answer,
+        );
+        report(
+            rt,
+            alloc,
+            &mut self.book,
+            &self.worker.end,
+            false,
+            obeyed.outputs.as_slice(),
+        );
+        self.worker.last = put_outputs(
+            rt,
+            &mut self.tasks,
+            &self.worker.end,
+            self.worker.last,
+            obeyed.outputs,
+        );
+    }
+
+    // Whether a signature is due: it is to sign by itself, and its end owes one.
+    fn is_due(&self, allowed: bool) -> bool
+        ensures { result ≡ (allowed && E.owes (E.state self.now.worker.end)) }
+    {
+        allowed && self.worker.end.owes_signature()
+    }
+
+    // Where there was nothing else to do it asks whether it is to sign by itself, and signs where that is due.
+    fn sign_if_idle<H: Drop, R: Wait>(
+        &mut self,
+        rt: &R,
+        alloc: Global,
+        own_init: &Message,
+        known: &[u16],
+        busy: &mut bool,
+    )
+    where
+        T: Sends<Task<H>>,
+        requires was_empty { busy.old ≡ false → WasEmpty (I.position self.old.items) (I.taken self.old.items) }
+        ensures ran { Ran E.acts E.halted E.pending E.owes E.seen W.contents own_init.now known.now
+            (WasEmpty (I.position self.old.items)) false
+            (glance E.state W.contents I.taken T.put B.said A.replied A.allowed self.old)
+            (glance E.state W.contents I.taken T.put B.said A.replied A.allowed self.new) }
+        ensures takes_no_item { self.new.items ≡ self.old.items }
+    {
+        if *busy {
+            return;
+        }
+        let allowed = self.orders.signs();
+        if !self.is_due(allowed) {
+            return;
+        }
+        *busy = true;
+        let halted = self.worker.end.is_halted();
+        let obeyed = self.worker.obey(alloc, Command::Sign);
+        note(
+            rt,
+            &mut self.book,
+            &self.worker,
+            halted,
+            false,
             obeyed.answer,
         );
         report(
@@ -433,9 +559,10 @@ where
     )
     where
         T: Sends<Task<H>>,
-        ensures { ReloadsIfHalted E.acts E.halted E.pending E.seen W.contents own_init.now known.now
-            (glance E.state W.contents I.taken T.put B.said self.old)
-            (glance E.state W.contents I.taken T.put B.said self.new) }
+        ensures reloads { ReloadsIfHalted E.acts E.halted E.pending E.owes E.seen W.contents own_init.now known.now
+            (glance E.state W.contents I.taken T.put B.said A.replied A.allowed self.old)
+            (glance E.state W.contents I.taken T.put B.said A.replied A.allowed self.new) }
+        ensures takes_no_item { self.new.items ≡ self.old.items }
     {
         if !self.worker.end.is_halted() {
             return;
@@ -464,17 +591,19 @@ where
 /// an end that has halted is loaded from its record before each item that is taken. The events that are pending at the
 /// start or after a load, and those that the end hands out, are put for the dispatcher as those of the end's channel,
 /// each number once and in rising order; before that the book is told what has become of HTLCs by them, and what the
-/// end has kept after a lost connection or a load. A command of the book is answered by what the end has answered. The
-/// peer is greeted by `own_init`, an init, and its init may ask for no even feature but the known ones. Where there is
-/// nothing to do it waits for the wake-up, and between loads that are refused the longer, the more they are; it tries
-/// again where there is no memory or the dispatcher's relay is full.
-pub fn worker_loop<E, W, I, H, T, B, R>(
+/// end has kept after a lost connection or a load. A command of the book is answered by what the end has answered, and
+/// each order is replied to, in their order. Where its relay was empty and it obeyed nothing it asks whether it is to
+/// sign by itself; if so it signs what is owed, so that what came together shares a signature. By itself it signs in no
+/// other case. Where it had nothing to do it waits for the wake-up, and between loads that are refused the longer, the
+/// more they are. The peer is greeted by `own_init`, an init, and its init may ask for no even feature but the known
+/// ones. It tries again where there is no memory or the dispatcher's relay is full.
+pub fn worker_loop<E, W, I, H, T, B, A, R>(
     rt: &R,
     alloc: Global,
     own_init: &Message,
     known: &[u16],
-    work: WorkerLoop<E, W, I, T, B>,
-) -> WorkerLoop<E, W, I, T, B>
+    work: WorkerLoop<E, W, I, T, B, A>,
+) -> WorkerLoop<E, W, I, T, B, A>
 where
     E: End + Drop,
     W: Closes + Drop,
@@ -482,10 +611,12 @@ where
     H: Drop,
     T: Sends<Task<H>> + Drop,
     B: ReadsEnds<E> + Drop,
+    A: Orders + Drop,
     R: Wait,
-    ensures serves_all_and_tells_all { Began E.acts E.halted E.pending E.seen W.contents own_init.now known.now
-        (glance E.state W.contents I.taken T.put B.said work)
-        (glance E.state W.contents I.taken T.put B.said result) }
+    ensures serves_all_and_tells_all { Began E.acts E.halted E.pending E.owes E.seen W.contents own_init.now known.now
+        (WasEmpty (I.position work.items))
+        (glance E.state W.contents I.taken T.put B.said A.replied A.allowed work)
+        (glance E.state W.contents I.taken T.put B.said A.replied A.allowed result) }
 {
     let mut work = work;
     let told = work.worker.pending(rt, alloc);
@@ -509,6 +640,7 @@ where
             return work;
         }
         work.obey_one(rt, alloc, own_init, known, &mut busy);
+        work.sign_if_idle(rt, alloc, own_init, known, &mut busy);
         work.wait(rt, sounds, refused, busy);
     }
     unreachable!()

@@ -7,6 +7,7 @@ ghost use Rattle.ln_node_loops.specs.Saved.{record_in, ComesBack};
 ghost use Rattle.ln_node_loops.specs.Sent.{loaded};
 
 use crate::end::End;
+use crate::signing::owes_signature;
 use ln_bytes::Bytes;
 use ln_channel::{Command, Output};
 use ln_hooks::ChannelEvent;
@@ -90,6 +91,7 @@ impl<K: ChannelKeys + Copy, S: RecordStore + Drop> End for SavedLink<K, S> {
     ghost use Rattle.ln_channel.specs.Pending.{pending_at};
     ghost use Rattle.ln_switch.specs.Seen.{seen_of};
     ghost use Rattle.ln_node_loops.specs.Saved.{Saved, acts};
+    ghost use Rattle.ln_node_loops.specs.Signing as signing;
 
     ghost State = { Saved K };
 
@@ -106,6 +108,8 @@ impl<K: ChannelKeys + Copy, S: RecordStore + Drop> End for SavedLink<K, S> {
     ghost pending = { λ s. pending_at s.link.stage };
 
     ghost seen = { λ s. seen_of s.link };
+
+    ghost owes = { λ s. signing.owes_signature s.link };
 
     fn handle(&mut self, alloc: Global, message: Message) -> Result<Vec<Output>, Refusal> {
         self.link.handle(alloc, &mut self.store, message)
@@ -137,6 +141,10 @@ impl<K: ChannelKeys + Copy, S: RecordStore + Drop> End for SavedLink<K, S> {
 
     fn is_halted(&self) -> bool {
         self.link.channel_machine().is_halted()
+    }
+
+    fn owes_signature(&self) -> bool {
+        owes_signature(self.link.channel_machine())
     }
 
     fn channel(&self) -> Option<ChannelId> {

@@ -163,18 +163,18 @@ fn pong_to(alloc: Global, count: u16) -> Result<Option<Message>, Refusal>
 
 // ---- turns
 
-/// What became of a command of the book.
+/// What became of a command.
 #[derive(Drop)]
 pub struct Obeyed {
     /// What the end handed out.
     pub outputs: Vec<Output>,
-    /// What the end answered, which the book is told.
+    /// What the end answered, which who gave the command is told.
     pub answer: Result<(), Refusal>,
     /// Whether all that it sends was written: 60 or 7 where nothing was, 63 where a prefix was.
     pub written: Result<(), Refusal>,
 }
 
-/// A command of the book: the end obeys it, and what it sends is written. What the end answered stands apart from
+/// A command: the end obeys it, and what it sends is written. What the end answered stands apart from
 /// what became of the write, as a command that was done is done also where its messages are lost.
 pub(crate) fn obey_turn<E: End, L: Carries>(
     alloc: Global,
@@ -354,8 +354,8 @@ fn read_turn<E: End, L: Carries>(
     }
 }
 
-// Whether it is about what a record keeps of decisions, which the book alone commands.
-fn is_of_records(command: &Command) -> bool
+/// Whether it is about what a record keeps of decisions, which the book alone commands.
+pub(crate) fn is_of_records(command: &Command) -> bool
     ensures { result ≡ is_of_records command.now }
 {
     matches!(

@@ -1,17 +1,19 @@
 //! A worker: an end of a channel, and the connection that it has.
 
-ghost use Rattle.std.specs.Prelude.{◌≡◌, None, [], true, false, option_copied};
+ghost use Rattle.std.specs.Prelude.{◌≡◌, None, Ok, [], true, false, option_copied};
 ghost use Rattle.ln_node_loops.specs.Sent.{shown};
 ghost use Rattle.ln_node_loops.specs.Turn.{IsTurn};
 ghost use Rattle.ln_node_loops.specs.declared.item.Item.TheVariants as item;
 ghost use Rattle.ln_node_loops.specs.declared.worker.Phase.TheVariants as phase;
 ghost use Rattle.ln_node_loops.specs.Phase.{is_lost, is_refused, init_in, Greets};
+ghost use Rattle.ln_channel.specs.Step.{is_of_records};
 ghost use Rattle.ln_node_loops.specs.declared.wire.Wire.TheVariants as wire;
+ghost use Rattle.ln_msgs.specs.declared.refusals.refusal.Refusal.TheVariants as refusal;
 ghost use Rattle.ln_node_loops.specs.Wire.{connection_at};
 
 use crate::end::End;
 use crate::item::Item;
-use crate::turn::{Obeyed, obey_turn, take_turn};
+use crate::turn::{Obeyed, is_of_records, obey_turn, take_turn};
 use crate::wire::{Closes, Wire};
 use ln_channel::{Command, Output};
 use ln_hooks::ChannelEvent;
@@ -49,8 +51,11 @@ pub struct Worker<E: Drop, W: Drop> {
 pub struct Turned {
     /// What the end handed out.
     pub outputs: Vec<Output>,
-    /// What was answered.
+    /// What was answered: to an order what the end answered, to another item by what not all was written, where it
+    /// wasn't.
     pub answer: Result<(), Refusal>,
+    /// Whether all that is sent for an order was written: 60 or 7 where nothing was, 63 where a prefix was.
+    pub written: Result<(), Refusal>,
     /// Whether the item was served.
     pub served: bool,
 }
@@ -101,32 +106,36 @@ fn greeted(message: &Message, known: &[u16]) -> Phase
 
 // An item that was served.
 fn served(outputs: Vec<Output>, answer: Result<(), Refusal>) -> Turned
-    ensures { result ≡ record { outputs = outputs; answer = answer; served = true } }
+    ensures { result ≡ record { outputs = outputs; answer = answer; written = Ok tt; served = true } }
 {
     Turned {
         outputs,
         answer,
+        written: Ok(()),
         served: true,
     }
 }
 
 // An item that was passed over.
-fn passed(alloc: Global) -> Turned
+fn passed(alloc: Global, answer: Result<(), Refusal>) -> Turned
     ensures outputs { result.outputs.items ≡ [] }
+    ensures answer { result.answer ≡ answer }
     ensures passed { result.served ≡ false }
 {
     Turned {
         outputs: Vec::new(alloc),
-        answer: Ok(()),
+        answer,
+        written: Ok(()),
         served: false,
     }
 }
 
 impl<E: End + Drop, W: Closes + Drop> Worker<E, W> {
-    ghost use Rattle.std.specs.Prelude.{◌≡◌, None, Option, List, ℕ, Bool, Ok, [], true, false};
+    ghost use Rattle.std.specs.Prelude.{◌≡◌, None, Option, List, ℕ, Bool, Ok, Err, [], true, false};
     ghost use Rattle.ln_node_loops.specs.Worker.{stand};
     ghost use Rattle.ln_node_loops.specs.Phase.{Hears, kept_connection};
-    ghost use Rattle.ln_node_loops.specs.Turns.{Leaves, Step, turn_of, load_of, told_behind, Obeys};
+    ghost use Rattle.ln_node_loops.specs.Turns.{Leaves, Step, turn_of, load_of, told_behind, Obeys, Giver, MayGive};
+    ghost use Rattle.ln_node_loops.specs.Turns.{Declines};
 
     /// An end without a connection, none of whose events was put. Takes no memory.
     pub fn new(end: E) -> Worker<E, W>
@@ -192,9 +201,9 @@ impl<E: End + Drop, W: Closes + Drop> Worker<E, W> {
 
     // A connection.
     fn on_connect(&mut self, alloc: Global, own_init: &Message, writer: W) -> Turned
-        ensures turn { (known : List ℕ) → Step E.acts E.halted E.pending W.contents own_init.now known
+        ensures turn { (known : List ℕ) → Step E.acts E.halted E.pending E.owes W.contents own_init.now known
             (stand E.state W.contents self.old)
-            (turn_of result.served (item.Joined writer) result.outputs.items result.answer)
+            (turn_of result.served (item.Joined writer) result.outputs.items result.answer result.written)
             (stand E.state W.contents self.new) }
         ensures passed { result.served ≡ false → result.outputs.items ≡ [] }
         ensures last { self.new.last ≡ self.old.last }
@@ -225,9 +234,9 @@ impl<E: End + Drop, W: Closes + Drop> Worker<E, W> {
 
     // A message.
     fn read(&mut self, alloc: Global, message: Message, known: &[u16]) -> Turned
-        ensures turn { (own_init : Message) → Step E.acts E.halted E.pending W.contents own_init known.now
+        ensures turn { (own_init : Message) → Step E.acts E.halted E.pending E.owes W.contents own_init known.now
             (stand E.state W.contents self.old)
-            (turn_of result.served (item.Read message) result.outputs.items result.answer)
+            (turn_of result.served (item.Read message) result.outputs.items result.answer result.written)
             (stand E.state W.contents self.new) }
         ensures passed { result.served ≡ false → result.outputs.items ≡ [] }
         ensures last { self.new.last ≡ self.old.last }
@@ -235,7 +244,7 @@ impl<E: End + Drop, W: Closes + Drop> Worker<E, W> {
         if self.phase != Phase::Open {
             self.on_first_message(&message, known);
             drop(message);
-            return passed(alloc);
+            return passed(alloc, Ok(()));
         }
         let (outputs, answer) = self.turn(alloc, Item::Read(message));
         self.end_turn(is_lost(answer));
@@ -245,8 +254,8 @@ impl<E: End + Drop, W: Closes + Drop> Worker<E, W> {
     // The connection is lost.
     fn on_disconnect(&mut self, alloc: Global) -> Turned
         ensures turn { (own_init : Message) (known : List ℕ)
-            → Step E.acts E.halted E.pending W.contents own_init known (stand E.state W.contents self.old)
-            (turn_of result.served item.Broken result.outputs.items result.answer)
+            → Step E.acts E.halted E.pending E.owes W.contents own_init known (stand E.state W.contents self.old)
+            (turn_of result.served item.Broken result.outputs.items result.answer result.written)
             (stand E.state W.contents self.new) }
         ensures passed { result.served ≡ false → result.outputs.items ≡ [] }
         ensures last { self.new.last ≡ self.old.last }
@@ -256,24 +265,38 @@ impl<E: End + Drop, W: Closes + Drop> Worker<E, W> {
         served(outputs, answer)
     }
 
-    // An order.
+    // An order. What the book alone decides is passed over (40).
     fn order(&mut self, alloc: Global, command: Command) -> Turned
         ensures turn { (own_init : Message) (known : List ℕ)
-            → Step E.acts E.halted E.pending W.contents own_init known (stand E.state W.contents self.old)
-            (turn_of result.served (item.Order command) result.outputs.items result.answer)
+            → Step E.acts E.halted E.pending E.owes W.contents own_init known (stand E.state W.contents self.old)
+            (turn_of result.served (item.Order command) result.outputs.items result.answer result.written)
             (stand E.state W.contents self.new) }
         ensures passed { result.served ≡ false → result.outputs.items ≡ [] }
+        ensures declined { result.served ≡ false → result.answer ≡ Err refusal.NotReady }
         ensures last { self.new.last ≡ self.old.last }
     {
-        let (outputs, answer) = self.turn(alloc, Item::Order(command));
-        self.end_turn(is_lost(answer));
-        served(outputs, answer)
+        if is_of_records(&command) {
+            drop(command);
+            self.drop_writer_if_closed();
+            return passed(alloc, Err(Refusal::NotReady));
+        }
+        let Obeyed {
+            outputs,
+            answer,
+            written,
+        } = self.obey(alloc, command);
+        Turned {
+            outputs,
+            answer,
+            written,
+            served: true,
+        }
     }
 
     /// Serves an item of its relay, or passes it over: messages are passed over until the peer's init came, which may
-    /// ask for no even feature but the known ones. The writer is closed where the connection is lost, where a turn
-    /// couldn't write all, where the end takes no connection or has halted, and where the peer's first message isn't
-    /// such an init.
+    /// ask for no even feature but the known ones, and orders are where the book alone decides such (40). The writer is
+    /// closed where the connection is lost, where a turn couldn't write all, where the end takes no connection or has
+    /// halted, and where the peer's first message isn't such an init.
     pub fn serve(
         &mut self,
         alloc: Global,
@@ -281,10 +304,12 @@ impl<E: End + Drop, W: Closes + Drop> Worker<E, W> {
         known: &[u16],
         item: Item<W>,
     ) -> Turned
-        ensures turn { Step E.acts E.halted E.pending W.contents own_init.now known.now
-            (stand E.state W.contents self.old) (turn_of result.served item result.outputs.items result.answer)
+        ensures turn { Step E.acts E.halted E.pending E.owes W.contents own_init.now known.now
+            (stand E.state W.contents self.old)
+            (turn_of result.served item result.outputs.items result.answer result.written)
             (stand E.state W.contents self.new) }
         ensures passed { result.served ≡ false → result.outputs.items ≡ [] }
+        ensures declined { result.served ≡ false → Declines item result.answer }
         ensures last { self.new.last ≡ self.old.last }
     {
         match item {
@@ -294,16 +319,17 @@ impl<E: End + Drop, W: Closes + Drop> Worker<E, W> {
             Item::Order(command) => self.order(alloc, command),
             Item::Stop => {
                 self.drop_writer_if_closed();
-                passed(alloc)
+                passed(alloc, Ok(()))
             }
         }
     }
 
-    /// A command of the book.
+    /// A command: of the book, of an order that isn't of what the book alone decides, or to sign what is owed.
     pub fn obey(&mut self, alloc: Global, command: Command) -> Obeyed
-        ensures turn { (own_init : Message) (known : List ℕ)
-            → Step E.acts E.halted E.pending W.contents own_init known (stand E.state W.contents self.old)
-            (Obeys command result.outputs.items result.answer result.written) (stand E.state W.contents self.new) }
+        ensures turn { (by : Giver) (own_init : Message) (known : List ℕ)
+            → MayGive E.owes (E.state self.old.end) by command
+            → Step E.acts E.halted E.pending E.owes W.contents own_init known (stand E.state W.contents self.old)
+            (Obeys by command result.outputs.items result.answer result.written) (stand E.state W.contents self.new) }
         ensures last { self.new.last ≡ self.old.last }
     {
         self.drop_writer_if_closed();
@@ -329,7 +355,7 @@ impl<E: End + Drop, W: Closes + Drop> Worker<E, W> {
     pub fn load(&mut self, alloc: Global) -> Result<(), Refusal>
         requires { E.halted (E.state self.old.end) ≡ true }
         ensures turn { (own_init : Message) (known : List ℕ)
-            → Step E.acts E.halted E.pending W.contents own_init known (stand E.state W.contents self.old)
+            → Step E.acts E.halted E.pending E.owes W.contents own_init known (stand E.state W.contents self.old)
             (load_of result (E.pending (E.state self.new.end))) (stand E.state W.contents self.new) }
         ensures last { self.new.last ≡ self.old.last }
     {

@@ -3,4 +3,4 @@
 
 mod message;
 
-pub use message::message_text;
+pub use message::{message_text, text_of_known};

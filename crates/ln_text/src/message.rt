@@ -30,7 +30,8 @@ pub fn message_text(alloc: Global, incoming: &Incoming) -> Result<String, AllocE
     }
 }
 
-fn text_of_known(alloc: Global, message: &Message) -> Result<String, AllocError>
+/// The same of a message of a known type. Takes memory for the text.
+pub fn text_of_known(alloc: Global, message: &Message) -> Result<String, AllocError>
     ensures { IfOk result (λ s. string_bytes s ≡ known_text (wire message.now)) }
 {
     let mut out = type_text(alloc, message)?;

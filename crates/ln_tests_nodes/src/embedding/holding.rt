@@ -179,7 +179,7 @@ fn hear<R: Wait>(
     for (channel, notice) in node.notices(rt, alloc) {
         match notice {
             Notice::Held(number) => told.push((channel, number))?,
-            Notice::Refused(_) => refused = true,
+            Notice::OrderRefused(..) => refused = true,
             _ => {}
         }
     }

@@ -7,8 +7,11 @@ returns-in-Ok g c =
     connected g.K.ChannelKeys.signer _ _ _ _ _ _ _
     (sym (rw c.deref.ensures at (c.is_unopened.ensures _ c.channel_machine.ensures)) ∙ c.if-is_unopened.true)
     (rw (c.deref-then-is_unopened.ensures, c.deref-then-is_unopened-2.ensures, c.deref_mut.ensures.value, c.in-Ok.is)
-    at c.begin_anew.ensures)
-    (rw (c.deref_mut-in-Ok.ensures.value, c.deref_mut.ensures.value) at c.connect.ensures, refl)
+    at c.begin_anew.ensures) (
+      rw (c.deref_mut-in-Ok.ensures.value, c.deref_mut.ensures.value, ← c.observed.ensures)
+          at c.connect-said.ensures,
+      refl,
+    )
 
 pub returns-in-Err : goal.returns-in-Err
 returns-in-Err g c =
@@ -22,4 +25,4 @@ pub returns : goal.returns
 returns g c =
     goes-on g.K.ChannelKeys.signer _ _ _
     (sym (rw c.deref.ensures at (c.is_unopened.ensures _ c.channel_machine.ensures)) ∙ c.if-is_unopened.false)
-    (rw c.deref_mut-2.ensures.value at c.connect-2.ensures, refl)
+    (rw (c.deref_mut-2.ensures.value, ← c.observed-2.ensures) at c.connect-said-2.ensures, refl)

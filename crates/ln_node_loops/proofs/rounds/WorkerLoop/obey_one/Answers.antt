@@ -2,28 +2,36 @@ use Rattle.std.proofs.Common.{sym, refl, ap, ◌∙◌, ◌++◌, ◌∷◌, [],
 use Rattle.ln_switch.specs.Saying.{answered, took}
 use Rattle.ln_node_loops.specs.Owed.{owed}
 use Rattle.ln_switch.specs.Answers.{answer_to}
-use Rattle.ln_node_loops.specs.Turns.{events}
+use Rattle.ln_node_loops.specs.Turns.{events, OfBook}
 use Rattle.ln_node_loops.proofs.Running.{ran-none, ran-still, ran-asked}
 use Rattle.ln_node_loops.proofs.rounds.WorkerLoop.obey_one.Goals as goal
 
 pub returns-in_default : goal.returns-in_default
-returns-in_default g c = ran-none _ _ _ _ _ _ _ _ _
+returns-in_default g c = record {
+  ran = ran-none _ _ _ _ _ _ _ _ _ _ _;
+  takes_no_item = refl;
+  stays_busy = λ e. e;
+}
 
 pub returns-in_default-take : goal.returns-in_default-take
-returns-in_default-take g c =
-    ran-still _ _ _ _ _ _ _ _ _ _ refl refl refl refl
-    (c.take.ensures.says_what_is_taken
-    ∙ ap (λ r. g.B.Books.said c.args.self.now.book ++ took c.in-Some.channel r) c.in_default-take.is ∙ append-nil _)
+returns-in_default-take g c = record {
+  ran = ran-still _ _ _ _ _ _ _ _ _ _ _ _ refl refl refl refl
+      (c.take.ensures.says_what_is_taken
+      ∙ ap (λ r. g.B.Books.said c.args.self.now.book ++ took c.in-Some.channel r) c.in_default-take.is ∙ append-nil _)
+      refl refl;
+  takes_no_item = refl;
+  stays_busy = λ e. e;
+}
 
 pub returns : goal.returns
 returns g c =
     let seen = g.E.End.seen (g.E.End.state c.obey-obeyed.new.self.end) in
     let os = c.obey-obeyed.result.outputs.items in
     let a = c.obey-obeyed.result.answer in
-    ran-asked _ _ _ _ _ _ _ _ _ c.in-Some.channel c.next_id-next.result
+    let ran = ran-asked _ _ _ _ _ _ _ _ _ _ _ c.in-Some.channel c.next_id-next.result
     c.in-Some-take.command os a c.obey-obeyed.result.written _
     (g.B.Books.said c.take.new.self) (g.B.Books.said c.answered.new.self)
-    (c.obey-obeyed.ensures.turn c.args.own_init.now c.args.known.now) refl c.obey-obeyed.ensures.last
+    (c.obey-obeyed.ensures.turn OfBook c.args.own_init.now c.args.known.now tt) refl c.obey-obeyed.ensures.last
     c.put_outputs-self.ensures.put c.put_outputs-self.ensures.last
     (sym c.in-Some.is ∙ c.channel.ensures) c.next_id-next.ensures
     c.in-Some-take.ensures.says_what_is_taken
@@ -32,4 +40,5 @@ returns g c =
     (c.answer_to-answer.ensures ∙ ap (λ n. answer_to n a) c.command_subject-command_subject.ensures))
     (c.report.ensures
     ∙ ap (λ l. g.B.Books.said c.note_command.new.book ++ owed seen false (events l)) c.as_slice.ensures.value
-    ∙ ap (λ s. s ++ owed seen false (events os)) c.note_command.ensures)
+    ∙ ap (λ s. s ++ owed seen false (events os)) c.note_command.ensures) refl refl in
+    record { ran = ran; takes_no_item = refl; stays_busy = c.is_busy.ensures.stays_busy }

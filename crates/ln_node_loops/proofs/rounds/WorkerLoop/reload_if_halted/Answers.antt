@@ -4,13 +4,19 @@ use Rattle.ln_node_loops.proofs.Running.{turned-load}
 use Rattle.ln_node_loops.proofs.rounds.WorkerLoop.reload_if_halted.Goals as goal
 
 pub returns : goal.returns
-returns g c =
-    turned-load _ _ _ _ _ _ _ _ _ c.load-answer.result (g.E.End.pending (g.E.End.state c.load-answer.new.self.end)) _ _
-    (c.load-answer.ensures.turn c.args.own_init.now c.args.known.now) refl c.load-answer.ensures.last
-    c.pending_behind-told.ensures c.put_events-self.ensures.put c.put_events-self.ensures.last
-    (c.report_load.ensures ∙ ap (λ l. g.B.Books.said c.args.self.now.book
-    ++ load_words c.load-answer.result (g.E.End.seen (g.E.End.state c.load-answer.new.self.end)) l)
-    c.as_slice.ensures.value)
+returns g c = record {
+  reloads = turned-load _ _ _ _ _ _ _ _ _ _ c.load-answer.result
+      (g.E.End.pending (g.E.End.state c.load-answer.new.self.end)) _ _
+      (c.load-answer.ensures.turn c.args.own_init.now c.args.known.now) refl c.load-answer.ensures.last
+      c.pending_behind-told.ensures c.put_events-self.ensures.put c.put_events-self.ensures.last
+      (c.report_load.ensures ∙ ap (λ l. g.B.Books.said c.args.self.now.book
+      ++ load_words c.load-answer.result (g.E.End.seen (g.E.End.state c.load-answer.new.self.end)) l)
+      c.as_slice.ensures.value) refl refl;
+  takes_no_item = refl;
+}
 
 pub returns-then-not-is_halted : goal.returns-then-not-is_halted
-returns-then-not-is_halted g c = inl (sym c.is_halted.ensures ∙ c.if-not-is_halted.true, refl)
+returns-then-not-is_halted g c = record {
+  reloads = inl (sym c.is_halted.ensures ∙ c.if-not-is_halted.true, refl);
+  takes_no_item = refl;
+}

@@ -1,6 +1,8 @@
-use Rattle.std.proofs.Common.{refl, ap, ◌∙◌, ◌++◌, ◌∷◌, [], false, rules}
+use Rattle.std.proofs.Common.{refl, ap, ◌∙◌, ◌++◌, ◌∷◌, [], false, rules, sym, subst}
+use Rattle.ln_relay.specs.Position.{WasEmpty}
 use Rattle.std.specs.Prelude.{not, ◌&&◌}
 use Rattle.ln_node_loops.specs.Owed.{owed}
+use Rattle.ln_node_loops.specs.Orders.{replies_to}
 use Rattle.ln_node_loops.specs.Turns.{events, drops}
 use Rattle.ln_node_loops.proofs.Running.{ran-item, ran-still}
 use Rattle.ln_node_loops.proofs.rounds.WorkerLoop.take_one.Goals as goal
@@ -9,8 +11,10 @@ pub returns : goal.returns
 returns g c =
     let seen = g.E.End.seen (g.E.End.state c.serve-turned.new.self.end) in
     record {
-      ran = ran-item _ _ _ _ _ _ _ _ _ c.serve-turned.result.served c.in-Some.item c.serve-turned.result.outputs.items
-          c.serve-turned.result.answer _ c.serve-turned.ensures.turn c.serve-turned.ensures.passed
+      ran = ran-item _ _ _ _ _ _ _ _ _ _ _ c.serve-turned.result.served c.in-Some.item
+          c.serve-turned.result.outputs.items
+          c.serve-turned.result.answer c.serve-turned.result.written _ c.next_id.result c.serve-turned.ensures.turn
+          c.serve-turned.ensures.passed c.serve-turned.ensures.declined
           c.in-Some.ensures.appends c.serve-turned.ensures.last c.put_outputs-self.ensures.put
           c.put_outputs-self.ensures.last
           (c.report.ensures
@@ -20,16 +24,26 @@ returns g c =
           c.note.ensures
           ∙ ap (λ b. g.B.Books.said c.args.self.now.book ++ owed seen b (events c.serve-turned.result.outputs.items))
           (c.reports_kept-drops.ensures ∙ ap (λ b. b && not c.is_halted.result) c.is_broken-breaks.ensures
-          ∙ ap (λ b. drops c.in-Some.item false && not b) c.is_halted.ensures));
+          ∙ ap (λ b. drops c.in-Some.item false && not b) c.is_halted.ensures))
+          c.next_id.ensures
+          (c.reply.ensures.replies
+          ∙ ap (λ n. g.A.Orders.replied c.args.self.now.orders ++ replies_to n c.serve-turned.result.answer)
+          c.subject_in-subject.ensures)
+          c.reply.ensures.tells_nothing;
       stops = λ is. (
         g.I.Receives.taken c.args.self.now.items,
         c.in-Some.ensures.appends
             ∙ ap (λ t. g.I.Receives.taken c.args.self.now.items ++ t ∷ []) (c.is_stop-stops.ensures is),
       );
+      position_stays = c.in-Some.ensures.position_stays;
+      was_empty = λ e. absurd cc;
     }
 
 pub returns-in_default : goal.returns-in_default
 returns-in_default g c = record {
-  ran = ran-still _ _ _ _ _ _ _ _ _ _ refl refl (search rules) refl refl;
+  ran = ran-still _ _ _ _ _ _ _ _ _ _ _ _ refl refl (search rules) refl refl refl refl;
   stops = λ e. ([], cc);
+  position_stays = c.recv.ensures.position_stays;
+  was_empty = λ e. subst (λ t. WasEmpty (g.I.Receives.position c.args.self.now.items) t)
+      (sym (c.recv.ensures.changes_nothing_if_none c.in_default.is)) (c.recv.ensures.was_empty_if_none c.in_default.is);
 }

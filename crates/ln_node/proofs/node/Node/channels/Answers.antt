@@ -1,0 +1,11 @@
+use Rattle.std.proofs.Common.{[], sym, subst}
+use Rattle.std.proofs.lemmas.List.Elements.{All-nil, All-cons, All-append}
+use Rattle.std.specs.List.{All}
+use Rattle.ln_watch.specs.Summary.{IsSummary}
+use Rattle.ln_node.proofs.node.Node.channels.Goals as goal
+
+pub loop-watch-preserved : goal.loop-watch-preserved
+loop-watch-preserved g c =
+    subst (All IsSummary) (sym c.in_ok-push.ensures.items)
+    (All-append IsSummary _ _ c.loop-watch.invariant
+    (All-cons IsSummary _ [] c.in_ok-summary.ensures.is_of_a_link (All-nil IsSummary)))

@@ -1,0 +1,7 @@
+use Rattle.std.specs.List.{All}
+use Rattle.ln_watch.specs.Summary.{IsSummary}
+use Rattle.ln_node.proofs.node.Node.channels.Given as goal
+
+-- those so far are of links
+abbrev pub invariant-loop-watch : goal.invariant-loop-watch
+invariant-loop-watch g l = All IsSummary l.all.items

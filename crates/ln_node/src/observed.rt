@@ -1,0 +1,44 @@
+//! A store that is watched.
+
+ghost use Rattle.std.specs.Prelude.{◌≡◌};
+
+use crate::observer::Observer;
+use ln_bytes::Bytes;
+use ln_msgs::Refusal;
+use ln_store::RecordStore;
+use std::alloc::Global;
+use std::sync::Arc;
+
+/// A channel's store, and what watches the channel.
+#[derive(Drop)]
+pub(crate) struct ObservedStore<S: Drop> {
+    /// The store.
+    pub(crate) inner: S,
+    /// What watches its channel.
+    pub(crate) observer: Arc<Observer>,
+}
+
+impl<S: RecordStore + Drop> RecordStore for ObservedStore<S> {
+    ghost records = { λ s. S.records s.inner };
+
+    ghost failed = { λ s. S.failed s.inner };
+
+    fn save(&mut self, alloc: Global, id: &[u8; 32], bytes: &[u8]) -> Result<(), Refusal> {
+        let answer = self.inner.save(alloc, id, bytes);
+        self.observer.save(bytes.len(), answer);
+        answer
+    }
+
+    fn load(&mut self, alloc: Global, id: &[u8; 32]) -> Result<Option<Bytes>, Refusal> {
+        self.observer.load();
+        self.inner.load(alloc, id)
+    }
+
+    fn ids(&mut self, alloc: Global) -> Result<Vec<[u8; 32]>, Refusal> {
+        self.inner.ids(alloc)
+    }
+
+    fn failures(&self) -> u64 {
+        self.inner.failures()
+    }
+}

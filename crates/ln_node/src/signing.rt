@@ -1,0 +1,50 @@
+//! When the channels of a node sign.
+
+use crate::node::Node;
+use ln_keys::{ChannelKeys, Onion};
+use ln_msgs::Refusal;
+use ln_node_loops::Table;
+use ln_store::RecordStore;
+use std::io::{Read, Write};
+use std::net::OpenStream;
+
+/// When a channel signs what no signature covers: own updates, and the peer's newly committed ones (BOLT 2, "Committing
+/// Updates So Far: `commitment_signed`").
+#[derive(Clone, Copy, PartialEq, Eq, Debug)]
+pub enum Signing {
+    /// As it is ordered `Sign`. So it begins.
+    WhenOrdered,
+    /// Also where its worker has nothing else to do, so that what came together shares a signature.
+    WhenIdle,
+}
+
+impl<K, S, O, H, T, W> Node<K, S, O, H, T, W>
+where
+    K: ChannelKeys + Copy + Send + 'static,
+    S: RecordStore + Drop + Send + 'static,
+    O: Onion + Copy + Drop + Send + 'static,
+    H: Drop + Send + 'static,
+    T: Table<H> + Drop + Send + 'static,
+    W: Read + Write + OpenStream + Drop + Send + 'static,
+{
+    /// Each channel signs so from now on, those that it will have too.
+    pub fn set_signing(&mut self, signing: Signing) {
+        self.signing = signing;
+        for channel in &self.channels {
+            channel.desk().set_signing(signing);
+        }
+        self.common.wakeup.ring();
+    }
+
+    /// A channel signs so from now on, whatever the others do. Takes no memory.
+    ///
+    /// Error: 40 where there is no such channel.
+    pub fn set_signing_of(&self, channel: usize, signing: Signing) -> Result<(), Refusal> {
+        let Some(channel) = self.channels.get(channel) else {
+            return Err(Refusal::NotReady);
+        };
+        channel.desk().set_signing(signing);
+        self.common.wakeup.ring();
+        Ok(())
+    }
+}

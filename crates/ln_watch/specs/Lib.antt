@@ -1,0 +1,2 @@
+pub mod Htlc
+pub mod Summary
